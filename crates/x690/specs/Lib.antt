@@ -1,0 +1,9 @@
+pub mod Octets
+pub mod Digits
+pub mod Identifiers
+pub mod Lengths
+pub mod Elements
+pub mod Faults
+pub mod Nested
+pub mod Strict
+pub mod Laws
