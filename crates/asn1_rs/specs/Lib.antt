@@ -1,0 +1,4 @@
+pub mod Error
+pub mod Class
+pub mod Tag
+pub mod Length

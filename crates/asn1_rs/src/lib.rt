@@ -1,0 +1,15 @@
+//! BER reader, DER reader and writer of ITU-T X.690.
+#![tactic(auto)]
+
+mod class;
+pub mod error;
+mod length;
+mod tag;
+
+pub use class::{BerClassFromIntError, Class};
+pub use error::{
+    DerConstraint, Err, Error, IResult, Needed, ParseResult, SerializeError, SerializeResult,
+    from_nom_error,
+};
+pub use length::Length;
+pub use tag::Tag;

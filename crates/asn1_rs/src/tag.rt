@@ -1,0 +1,154 @@
+//! Tag numbers (X.690 8.1.2, X.680 8.6).
+ghost use Rattle.std.specs.Prelude.{◌≡◌, ◌≢◌, Some, IfSome, IfNone, MatchResult, []};
+ghost use Rattle.asn1_rs.specs.Tag.{name_of, tag_text};
+ghost use Rattle.asn1_rs.specs.declared.error.Error.TheVariants as faults;
+ghost use Rattle.std.specs.declared.borrow.CowStr.TheVariants.{Borrowed};
+
+use crate::error::Error;
+use std::borrow::CowStr;
+use std::fmt;
+
+/// A tag number.
+#[derive(Debug, Clone, Copy, PartialEq, Eq)]
+pub struct Tag(pub u32);
+
+impl Tag {
+    pub const EndOfContent: Tag = Tag(0);
+
+    pub const Boolean: Tag = Tag(1);
+
+    pub const Integer: Tag = Tag(2);
+
+    pub const BitString: Tag = Tag(3);
+
+    pub const OctetString: Tag = Tag(4);
+
+    pub const Null: Tag = Tag(5);
+
+    pub const Oid: Tag = Tag(6);
+
+    pub const ObjectDescriptor: Tag = Tag(7);
+
+    pub const External: Tag = Tag(8);
+
+    pub const RealType: Tag = Tag(9);
+
+    pub const Enumerated: Tag = Tag(10);
+
+    pub const EmbeddedPdv: Tag = Tag(11);
+
+    pub const Utf8String: Tag = Tag(12);
+
+    pub const RelativeOid: Tag = Tag(13);
+
+    pub const Sequence: Tag = Tag(16);
+
+    pub const Set: Tag = Tag(17);
+
+    pub const NumericString: Tag = Tag(18);
+
+    pub const PrintableString: Tag = Tag(19);
+
+    pub const TeletexString: Tag = Tag(20);
+    /// The same as `TeletexString`.
+    pub const T61String: Tag = Tag(20);
+
+    pub const VideotexString: Tag = Tag(21);
+
+    pub const Ia5String: Tag = Tag(22);
+
+    pub const UtcTime: Tag = Tag(23);
+
+    pub const GeneralizedTime: Tag = Tag(24);
+
+    pub const GraphicString: Tag = Tag(25);
+
+    pub const VisibleString: Tag = Tag(26);
+
+    pub const GeneralString: Tag = Tag(27);
+
+    pub const UniversalString: Tag = Tag(28);
+
+    pub const CharacterString: Tag = Tag(29);
+
+    pub const BmpString: Tag = Tag(30);
+
+    /// Refuses another tag with `UnexpectedTag`: the one given is expected, and this one is the actual one.
+    pub fn assert_eq(&self, tag: Tag) -> Result<(), Error>
+        ensures { MatchResult result (λ _. self.now ≡ tag) (λ e. (self.now ≢ tag) × (e ≡ faults.UnexpectedTag (Some tag) self.now)) }
+    {
+        if self.0 == tag.0 {
+            Ok(())
+        } else {
+            Err(Error::unexpected_tag(Some(tag), *self))
+        }
+    }
+
+    /// The refusal `InvalidValue` of this tag, with a text that is lent for good.
+    pub fn invalid_value(&self, msg: &'static str) -> Error
+        ensures { result ≡ faults.InvalidValue self.now (Borrowed msg.entry) }
+    {
+        Error::invalid_value(*self, CowStr::Borrowed(msg))
+    }
+
+    /// The name of the universal type with this number.
+    fn name(self) -> Option<&'static str>
+        ensures some { IfSome result (λ name. name.now ≡ tag_text self.0) }
+        ensures none { IfNone result (name_of self.0 ≡ []) }
+    {
+        let name = match self.0 {
+            0 => "EndOfContent",
+            1 => "Boolean",
+            2 => "Integer",
+            3 => "BitString",
+            4 => "OctetString",
+            5 => "Null",
+            6 => "Oid",
+            7 => "ObjectDescriptor",
+            8 => "External",
+            9 => "RealType",
+            10 => "Enumerated",
+            11 => "EmbeddedPdv",
+            12 => "Utf8String",
+            13 => "RelativeOid",
+            16 => "Sequence",
+            17 => "Set",
+            18 => "NumericString",
+            19 => "PrintableString",
+            20 => "TeletexString",
+            21 => "VideotexString",
+            22 => "Ia5String",
+            23 => "UtcTime",
+            24 => "GeneralizedTime",
+            25 => "GraphicString",
+            26 => "VisibleString",
+            27 => "GeneralString",
+            28 => "UniversalString",
+            29 => "CharacterString",
+            30 => "BmpString",
+            14 | 15 => return None,
+            31.. => return None,
+        };
+        Some(name)
+    }
+}
+
+impl From<u32> for Tag {
+    ghost from_gives = { λ number tag. tag.0 ≡ number };
+
+    fn from(number: u32) -> Tag {
+        Tag(number)
+    }
+}
+
+impl fmt::Display for Tag {
+    ghost output = { λ tag. Some (tag_text tag.0) };
+
+    fn fmt<W: fmt::Write>(&self, f: &mut fmt::Formatter<W>) -> fmt::Result {
+        let number = self.0;
+        match self.name() {
+            Some(name) => write!(f, "{name}"),
+            None => write!(f, "Tag({number} / 0x{number:x})"),
+        }
+    }
+}
