@@ -1,1 +1,6 @@
 pub mod Octets
+pub mod Digits
+pub mod Identifiers
+pub mod Lengths
+pub mod Headers
+pub mod Elements
