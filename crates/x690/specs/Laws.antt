@@ -4,3 +4,4 @@ pub mod Identifiers
 pub mod Lengths
 pub mod Headers
 pub mod Elements
+pub mod Faults
