@@ -1,1 +1,7 @@
 pub mod Octets
+pub mod Digits
+pub mod Identifiers
+pub mod Lengths
+pub mod Headers
+pub mod Elements
+pub mod Faults
