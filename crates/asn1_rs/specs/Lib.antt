@@ -2,3 +2,4 @@ pub mod Error
 pub mod Class
 pub mod Tag
 pub mod Length
+pub mod Header

@@ -1,6 +1,7 @@
 -- Tag numbers and their names (X.680 8.6).
-use Rattle.std.specs.Prelude.{ℕ, List, [], ◌∷◌, ◌++◌, false, get_or, codes, decimal}
+use Rattle.std.specs.Prelude.{ℕ, List, [], ◌∷◌, ◌++◌, false, get_or, codes, decimal, ◌||◌, nat_eq, Bool}
 use Rattle.std.specs.Fmt.{radix_digits}
+use Rattle.asn1_rs.specs.declared.tag.Tag.{Tag}
 
 -- the names of the universal types by their numbers, empty where there is none
 abbrev pub universal_names : List (List ℕ)
@@ -20,3 +21,7 @@ number_text number = codes "Tag(" ++ decimal number ++ codes " / 0x" ++ radix_di
 
 abbrev pub tag_text : ℕ → List ℕ
 tag_text number = text_or (name_of number) (number_text number)
+
+-- The tag of sequence or of set, whose elements are constructed.
+abbrev pub is_container : Tag → Bool
+is_container tag = nat_eq tag.0 16 || nat_eq tag.0 17

@@ -3,6 +3,7 @@
 
 mod class;
 pub mod error;
+mod header;
 mod length;
 mod tag;
 
@@ -11,5 +12,6 @@ pub use error::{
     DerConstraint, Err, Error, IResult, Needed, ParseResult, SerializeError, SerializeResult,
     from_nom_error,
 };
+pub use header::Header;
 pub use length::Length;
 pub use tag::Tag;

@@ -1,6 +1,6 @@
 //! Tag numbers (X.690 8.1.2, X.680 8.6).
 ghost use Rattle.std.specs.Prelude.{◌≡◌, ◌≢◌, Some, IfSome, IfNone, MatchResult, []};
-ghost use Rattle.asn1_rs.specs.Tag.{name_of, tag_text};
+ghost use Rattle.asn1_rs.specs.Tag.{name_of, tag_text, is_container};
 ghost use Rattle.asn1_rs.specs.declared.error.Error.TheVariants as faults;
 ghost use Rattle.std.specs.declared.borrow.CowStr.TheVariants.{Borrowed};
 
@@ -89,6 +89,13 @@ impl Tag {
         ensures { result ≡ faults.InvalidValue self.now (Borrowed msg.entry) }
     {
         Error::invalid_value(*self, CowStr::Borrowed(msg))
+    }
+
+    /// Whether it is the tag of sequence or of set.
+    pub(crate) fn is_container(self) -> bool
+        ensures { result ≡ is_container self }
+    {
+        self.0 == 16 || self.0 == 17
     }
 
     /// The name of the universal type with this number.

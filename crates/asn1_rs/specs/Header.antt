@@ -1,0 +1,80 @@
+-- Headers.
+use Rattle.std.specs.Prelude.{◌≡◌, ◌&&◌, ℕ, Bool, nat_eq, Option, Some, None, List, [], ◌++◌, Result, Ok, Err}
+use Rattle.std.specs.Option.{option_map}
+use Rattle.std.specs.Ordering.{on}
+use Rattle.std.specs.Bool.{beq}
+use Rattle.std.specs.Cow.{cow_slice_items}
+use Rattle.x690.specs.Identifiers.{Identifier, IsIdentifier, IsCutIdentifier}
+use Rattle.x690.specs.Lengths.{LengthForm}
+use Rattle.x690.specs.Elements.{IsHeader}
+use Rattle.x690.specs.Faults.{Fault, missing, tag_fault, length_fault, form_fault, depth_fault, HeaderFault}
+use Rattle.asn1_rs.specs.declared.class.Class.{Class}
+use Rattle.asn1_rs.specs.declared.tag.Tag.{Tag}
+use Rattle.asn1_rs.specs.declared.length.Length.{Length}
+use Rattle.asn1_rs.specs.declared.header.Header.{Header}
+use Rattle.asn1_rs.specs.declared.error.Error.{Error}
+use Rattle.asn1_rs.specs.declared.error.Error.TheVariants.{InvalidTag, InvalidLength, BerMaxDepth, DerConstraintFailed, ConstructExpected}
+use Rattle.asn1_rs.specs.declared.error.DerConstraint.TheVariants.{IndefiniteLength}
+use Rattle.asn1_rs.specs.declared.error.Err.{Err as Refusal}
+use Rattle.asn1_rs.specs.declared.error.Err.TheVariants.{Incomplete as cut, Error as refused}
+use Rattle.asn1_rs.specs.declared.error.Needed.TheVariants.{Size}
+use Rattle.asn1_rs.specs.Class.{class_number}
+use Rattle.asn1_rs.specs.Length.{form_of}
+
+abbrev pub class_of : Header → Class
+class_of h = h.class
+
+abbrev pub is_constructed_of : Header → Bool
+is_constructed_of h = h.constructed
+
+abbrev pub tag_of : Header → Tag
+tag_of h = h.tag
+
+abbrev pub length_of : Header → Length
+length_of h = h.length
+
+-- the identifier octets that were read, where the header keeps them
+abbrev pub raw_tag_of : Header → Option (List ℕ)
+raw_tag_of h = option_map cow_slice_items h.raw_tag
+
+-- what the header's identifier octets say
+abbrev pub identifier_of : Header → Identifier
+identifier_of h = record { class = class_number h.class; constructed = h.constructed; number = h.tag.0 }
+
+abbrev pub is_same_identifier : Header → Header → Bool
+is_same_identifier g h = on (λ h. class_number h.class) nat_eq g h && (on (λ h. h.constructed) beq g h && on (λ h. h.tag.0) nat_eq g h)
+
+-- the header has these parts
+pub record HasParts (h : Header) (class : Class) (constructed : Bool) (tag : Tag) (length : Length) (raw_tag : Option (List ℕ)) : Type 0 where
+  pub class_is : h.class ≡ class
+  pub constructed_is : h.constructed ≡ constructed
+  pub tag_is : h.tag ≡ tag
+  pub length_is : h.length ≡ length
+  pub raw_tag_is : option_map cow_slice_items h.raw_tag ≡ raw_tag
+
+-- The header, with its identifier octets kept, begins the input, and the rest follows.
+pub record BeginsInput (rule : Identifier → Bool) (input rest : List ℕ) (h : Header) : Type 0 where
+  pub octets : List ℕ
+  pub header : IsHeader rule octets (identifier_of h) (form_of h.length)
+  pub is : input ≡ octets ++ rest
+  pub raw_tag : raw_tag_of h ≡ Some header.identifier
+
+-- the refusal that tells of a fault, where the one of an indefinite length is given
+abbrev pub refusal_of : Error → Fault → Refusal Error
+refusal_of at_indefinite (missing n) = cut (Size n)
+refusal_of at_indefinite tag_fault = refused InvalidTag
+refusal_of at_indefinite length_fault = refused InvalidLength
+refusal_of at_indefinite form_fault = refused at_indefinite
+refusal_of at_indefinite depth_fault = refused BerMaxDepth
+
+-- 80 is refused by DER always, and by BER at a primitive element
+abbrev pub der_refusal : Fault → Refusal Error
+der_refusal = refusal_of (DerConstraintFailed IndefiniteLength)
+
+abbrev pub ber_refusal : Fault → Refusal Error
+ber_refusal = refusal_of ConstructExpected
+
+-- what a reader of headers may answer: the header and the rest, or the refusal of the first fault
+abbrev pub HeaderGives : (Identifier → Bool) → (Fault → Refusal Error) → List ℕ → Result (List ℕ × Header) (Refusal Error) → Type 0
+HeaderGives rule refusal input (Ok x) = BeginsInput rule input x.0 x.1
+HeaderGives rule refusal input (Err r) = (fault : Fault) × HeaderFault rule input fault × (r ≡ refusal fault)
