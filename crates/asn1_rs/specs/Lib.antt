@@ -3,3 +3,4 @@ pub mod Class
 pub mod Tag
 pub mod Length
 pub mod Header
+pub mod Wrote

@@ -6,6 +6,7 @@ pub mod error;
 mod header;
 mod length;
 mod tag;
+mod writer;
 
 pub use class::{BerClassFromIntError, Class};
 pub use error::{
@@ -15,3 +16,4 @@ pub use error::{
 pub use header::Header;
 pub use length::Length;
 pub use tag::Tag;
+pub use writer::{DerWrite, Told};
