@@ -5,3 +5,6 @@ pub mod Lengths
 pub mod Headers
 pub mod Elements
 pub mod Faults
+pub mod Rows
+pub mod Nested
+pub mod NestedFaults
