@@ -1,4 +1,5 @@
 pub mod Octets
+pub mod Order
 pub mod Digits
 pub mod Identifiers
 pub mod Lengths
