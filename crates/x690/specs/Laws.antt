@@ -1,7 +1,11 @@
 pub mod Octets
+pub mod Order
 pub mod Digits
 pub mod Identifiers
 pub mod Lengths
 pub mod Headers
 pub mod Elements
 pub mod Faults
+pub mod Rows
+pub mod Nested
+pub mod NestedFaults
