@@ -16,4 +16,4 @@ pub use error::{
 pub use header::Header;
 pub use length::Length;
 pub use tag::Tag;
-pub use writer::{DerWrite, Told};
+pub use writer::{DerWrite, Told, put_all};

@@ -113,8 +113,10 @@ fn put_some<W: DerWrite>(w: &mut W, piece: &[u8]) -> SerializeResult<usize>
     }
 }
 
-/// Appends the piece, by as many calls as it takes.
-pub(crate) fn put_all<W: DerWrite>(w: &mut W, piece: &[u8]) -> SerializeResult<usize>
+/// Appends the piece, by as many calls of `put` as it takes, and answers its length.
+///
+/// Refused with `IOError` alone: with what `put` failed with, or of kind `WriteZero` where it took none.
+pub fn put_all<W: DerWrite>(w: &mut W, piece: &[u8]) -> SerializeResult<usize>
     ensures wrote { Wrote piece.now (W.told w.old) (W.told w.new) (W.failed w.old) (W.failed w.new) result }
     ensures failed { IfErr result (MayRefuse false 0) }
 {
