@@ -1,0 +1,5 @@
+pub mod Appended
+pub mod Hexadecimal
+pub mod LineLaws
+pub mod Moved
+pub mod Split

@@ -1,0 +1,4 @@
+pub mod Request
+pub mod Lines
+pub mod Answer
+pub mod Engine

@@ -1,0 +1,8 @@
+//! The engine of the program `asn1vec`: it answers each line of its input with one line.
+#![tactic(auto)]
+
+mod answer;
+mod engine;
+mod request;
+
+pub use engine::{RunError, run};
