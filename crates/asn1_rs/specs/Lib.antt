@@ -4,3 +4,7 @@ pub mod Tag
 pub mod Length
 pub mod Header
 pub mod Wrote
+pub mod Any
+pub mod Answers
+pub mod Form
+pub mod Grammar
