@@ -1,1 +1,3 @@
 pub mod Octets
+pub mod Sums
+pub mod StrictLengths
