@@ -1,3 +1,4 @@
 pub mod Octets
 pub mod Sums
 pub mod StrictLengths
+pub mod StrictIdentifiers
