@@ -8,7 +8,7 @@ use Rattle.std.proofs.lemmas.Bool.{cases_lt}
 use Rattle.std.proofs.lemmas.Bool.Decides.{nat_tests}
 use Rattle.x690.specs.Octets.{IsOctets}
 use Rattle.x690.specs.Digits.{weighted_sum, base_128_value, low_seven_bits}
-use Rattle.x690.specs.Identifiers.{Identifier, bit, AreTagDigits, IsLowForm, IsHighForm, IsIdentifier, NeedsItsDigits, HasNoSpareDigits, IsStrictIdentifier}
+use Rattle.x690.specs.Identifiers.{Identifier, bit, AreTagDigits, IsLowForm, IsHighForm, IsIdentifier, NeedsItsDigits, IsStrictIdentifier}
 use Rattle.x690.specs.Strict.{with_bit_8, tag_digits, identifier_octets}
 use Rattle.x690.specs.Laws.Octets.{below_octets}
 use Rattle.x690.specs.Laws.Sums.{weighted_push, weighted_lt, weighted_digits, same_digits}
