@@ -95,6 +95,10 @@ only_strict_length n o s = elim (cases_lt n 128) [
   | inr h ↦ only_high n o (length_fits n o s.lenient) s s.lenient h ∙ sym (length_octets_high n h)
 ]
 
+-- no length octets of n are fewer
+pub fewest_length : (n : ℕ) (q : List ℕ) → IsLength q n → length (length_octets n) ≤ length q
+fewest_length n q l = (strict_length n (length_fits n q l)).fewest q l
+
 -- one octet below 128, and else one more than the digits in base 256
 pub length_octets_count_low : (n : ℕ) → n < 128 → length (length_octets n) ≡ 1
 length_octets_count_low n h = ap length (length_octets_low n h)
