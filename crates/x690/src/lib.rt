@@ -1,6 +1,7 @@
 //! The encoding rules of ITU-T X.690 on lists of octets, and their laws.
 #![tactic(auto)]
 
+pub mod digits;
 pub mod strict;
 
 ghost use Rattle.std.specs.Prelude.{ℕ, List, ◌≡◌, ◌++◌};

@@ -1,0 +1,2 @@
+pub mod TagDigits
+pub mod Writes
