@@ -1,2 +1,1 @@
-pub mod TagDigits
 pub mod Writes

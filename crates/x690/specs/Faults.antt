@@ -1,8 +1,7 @@
 -- Why no header and no element begins octets: the first fault from the left.
 use Rattle.std.specs.Prelude.{◌≡◌, ◌≢◌, ℕ, ◌+◌, ◌^◌, ◌<◌, ◌≤◌, Bool, false, List, [], ◌∷◌, ◌++◌, length, ◌⊎◌}
-use Rattle.x690.specs.Octets.{IsOctets}
 use Rattle.x690.specs.Digits.{base_256_value}
-use Rattle.x690.specs.Identifiers.{Identifier, IsIdentifier, IsCutIdentifier}
+use Rattle.x690.specs.Identifiers.{Identifier, IsIdentifier}
 use Rattle.x690.specs.Lengths.{definite}
 use Rattle.x690.specs.Elements.{IsHeader, der_rule}
 

@@ -1,9 +1,9 @@
 -- Elements by BER, nested to a depth (X.690 8.1.3.6, 8.1.5).
-use Rattle.std.specs.Prelude.{◌≡◌, ◌≢◌, ℕ, zero, suc, ◌+◌, ◌≤◌, List, [], ◌∷◌, ◌++◌, length, ◌⊎◌}
+use Rattle.std.specs.Prelude.{◌≡◌, ◌≢◌, ℕ, zero, suc, ◌+◌, ◌≤◌, List, [], ◌∷◌, ◌++◌, ◌⊎◌}
 use Rattle.std.specs.List.{concat}
 use Rattle.x690.specs.Identifiers.{Identifier, IsCutIdentifier}
-use Rattle.x690.specs.Lengths.{LengthForm, definite, indefinite}
-use Rattle.x690.specs.Elements.{Parts, IsHeader, IsDefiniteElement, der_rule, ber_rule}
+use Rattle.x690.specs.Lengths.{LengthForm, indefinite}
+use Rattle.x690.specs.Elements.{Parts, IsHeader, IsDefiniteElement, ber_rule}
 use Rattle.x690.specs.Faults.{Fault, depth_fault, HeaderFault, IsCutContent}
 
 -- 00 00 ends an indefinite content

@@ -2,11 +2,29 @@
 #![tactic(auto)]
 
 pub mod digits;
+pub mod elements;
+pub mod identifiers;
+pub mod lengths;
+pub mod nested;
+pub mod octets;
 pub mod strict;
 
 ghost use Rattle.std.specs.Prelude.{ℕ, List, ◌≡◌, ◌++◌};
 ghost use Rattle.x690.specs.Octets.{IsOctets};
 ghost use Rattle.x690.specs.Laws.Octets.{octets_append};
+
+pub use elements::{
+    definite_elements_unique, der_headers_are_ber_headers, faults_are_final, headers_unique,
+    one_fault, some_octets_are_missing, words_have_no_fault,
+};
+pub use identifiers::identifiers_unique;
+pub use lengths::lengths_unique;
+pub use nested::{
+    contents_split_in_one_way, definite_elements_are_nested, depths_include_lesser_ones,
+    headers_are_few, nested_elements_have_no_fault, nested_elements_last, nested_elements_unique,
+    nested_faults_are_final, one_nested_fault,
+};
+pub use octets::{dictionary_order_is_total, first_difference_decides};
 
 /// Octet strings, one after the other, are an octet string.
 pub fn octets_join()

@@ -1,5 +1,5 @@
 -- Laws of octet strings.
-use Rattle.std.proofs.Common.{◌≡◌, ℕ, zero, suc, ◌<◌, List, [], ◌∷◌, ◌++◌, length, take, drop, get_or, sym, ap, ◌∙◌, arith}
+use Rattle.std.proofs.Common.{ℕ, zero, suc, ◌<◌, List, [], ◌∷◌, ◌++◌, arith}
 use Rattle.std.specs.Int.Digits.{AllBelowBase}
 use Rattle.x690.specs.Octets.{IsOctets}
 

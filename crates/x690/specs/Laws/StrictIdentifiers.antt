@@ -10,8 +10,9 @@ use Rattle.x690.specs.Octets.{IsOctets}
 use Rattle.x690.specs.Digits.{weighted_sum, base_128_value, low_seven_bits}
 use Rattle.x690.specs.Identifiers.{Identifier, bit, AreTagDigits, IsLowForm, IsHighForm, IsIdentifier, NeedsItsDigits, IsStrictIdentifier}
 use Rattle.x690.specs.Strict.{with_bit_8, tag_digits, identifier_octets}
-use Rattle.x690.specs.Laws.Octets.{below_octets}
-use Rattle.x690.specs.Laws.Sums.{weighted_push, weighted_lt, weighted_digits, same_digits}
+use Rattle.x690.specs.Laws.Digits.{weighted_sum_push}
+use Rattle.x690.specs.Laws.Sums.{weighted_sum_lt, weighted_sum_digits, same_digits}
+use Rattle.x690.specs.Laws.Identifiers.{identifier_some, identifier_is_octets}
 
 -- the digits with bit 8
 abbrev marked : ℕ → List ℕ
@@ -35,7 +36,7 @@ tag_digits_are number = are_digits (marked number) (number % 128) (below number)
 pub tag_digits_value : (number : ℕ) → base_128_value (tag_digits number) ≡ number
 tag_digits_value number =
     let e = ap (weighted_sum 128) (low_digits (marked number) (number % 128) (below number) (omega arith)) in
-    omega (arith, e, weighted_push 128 (marked number) (number % 128), weighted_digits 128 (number / 128) (omega arith))
+    omega (arith, e, weighted_sum_push 128 (marked number) (number % 128), weighted_sum_digits 128 (number / 128) (omega arith))
 
 pub tag_digits_count : (number : ℕ) → length (tag_digits number) ≡ length (digits_of 128 (number / 128)) + 1
 tag_digits_count number = omega (arith, length-append (map with_bit_8 (marked number)) (number % 128 ∷ []), length-map (marked number) with_bit_8)
@@ -52,7 +53,7 @@ low_below (d ∷ ds) = (omega arith, low_below ds)
 
 value_lt : (ds : List ℕ) → base_128_value ds < 128 ^ length ds
 value_lt ds =
-    let w = weighted_lt 128 (map low_seven_bits ds) (low_below ds) in
+    let w = weighted_sum_lt 128 (map low_seven_bits ds) (low_below ds) in
     subst (λ (k : ℕ). base_128_value ds < 128 ^ k) (length-map ds low_seven_bits) w
 
 -- no digits of the number are fewer
@@ -140,11 +141,6 @@ pub bit_le : (b : Bool) → bit b ≤ 1
 bit_le true = omega arith
 bit_le false = omega arith
 
--- identifier octets are at least one octet
-pub identifier_some : (id : Identifier) (q : List ℕ) → IsIdentifier q id → 1 ≤ length q
-identifier_some id [] i = absurd i
-identifier_some id (k ∷ ds) i = omega arith
-
 -- from 31 on the high form alone is there
 high_alone : (low number : ℕ) (ds : List ℕ) → 31 ≤ number → IsLowForm low ds number ⊎ IsHighForm low ds number → (low ≡ 31) × AreTagDigits ds × (base_128_value ds ≡ number)
 high_alone low number ds h (inl f) = absurd (omega arith)
@@ -193,7 +189,7 @@ only_strict_identifier id (k ∷ ds) s = only_forms id k s.0.0 ds s.0.3 s.0.4 s.
 -- no identifier octets of id are fewer
 pub fewest_identifier : (id : Identifier) (q : List ℕ) → IsIdentifier q id → length (identifier_octets id) ≤ length q
 fewest_identifier id q i = elim (cases_lt id.number 31) [
-  | inl h ↦ let e = ap length (identifier_octets_low id h) in omega (arith, identifier_some id q i)
+  | inl h ↦ let e = ap length (identifier_octets_low id h) in omega (arith, identifier_some q id i)
   | inr h ↦ let e = ap length (identifier_octets_high id h) in omega (arith, fewest_high id h q i)
 ]
 
@@ -216,19 +212,6 @@ identifier_octets_few id n = elim (cases_lt id.number 31) [
   | inr h ↦ let e = ap length (identifier_octets_high id h) in omega (arith, tag_digits_few id.number 4 (omega arith))
 ]
 
-digits_octets : (ds : List ℕ) → AreTagDigits ds → AllBelowBase 256 ds
-digits_octets [] h = absurd h
-digits_octets (d ∷ []) h = (omega arith, tt)
-digits_octets (d ∷ e ∷ ds) h = (h.1, digits_octets (e ∷ ds) h.2)
-
-form_octets : (low number : ℕ) (ds : List ℕ) → IsLowForm low ds number ⊎ IsHighForm low ds number → AllBelowBase 256 ds
-form_octets low number ds (inl f) = subst (AllBelowBase 256) (sym f.2) tt
-form_octets low number ds (inr f) = digits_octets ds f.1
-
--- identifier octets are octets
-pub identifier_is_octets : (id : Identifier) (o : List ℕ) → IsIdentifier o id → IsOctets o
-identifier_is_octets id [] i = absurd i
-identifier_is_octets id (k ∷ ds) i = below_octets (k ∷ ds) (omega (arith, bit_le id.constructed, i.1, i.2, i.3), form_octets i.0 id.number ds i.4)
-
+-- they are octets
 pub identifier_octets_octets : (id : Identifier) → id.class < 4 → id.number < 2 ^ 32 → IsOctets (identifier_octets id)
-identifier_octets_octets id c n = identifier_is_octets id (identifier_octets id) (strict_identifier id c n).0
+identifier_octets_octets id c n = identifier_is_octets (identifier_octets id) id (strict_identifier id c n).0

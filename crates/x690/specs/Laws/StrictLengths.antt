@@ -5,10 +5,11 @@ use Rattle.std.proofs.lemmas.Int.Digits.{length-digits_of-le, all_below_base_dig
 use Rattle.std.proofs.lemmas.Bool.{cases_lt}
 use Rattle.std.proofs.lemmas.Bool.Decides.{nat_tests}
 use Rattle.x690.specs.Octets.{IsOctets}
-use Rattle.x690.specs.Lengths.{IsLength, IsLongLength, IsStrictLength}
+use Rattle.x690.specs.Lengths.{IsLength, IsLongLength, IsStrictLength, definite}
 use Rattle.x690.specs.Strict.{length_octets}
 use Rattle.x690.specs.Laws.Octets.{octets_below, below_octets}
-use Rattle.x690.specs.Laws.Sums.{weighted_lt, weighted_digits, same_digits}
+use Rattle.x690.specs.Laws.Lengths.{length_form_some, length_is_octets}
+use Rattle.x690.specs.Laws.Sums.{weighted_sum_lt, weighted_sum_digits, same_digits}
 
 -- the octets after the first one
 abbrev others_of : ℕ → List ℕ
@@ -26,7 +27,7 @@ zero_long k e = ap (λ n. 256 ^ n) e
 digits_some : (n : ℕ) → 0 < n → 1 ≤ length (others_of n)
 digits_some n h = elim (cases_lt 0 (length (others_of n))) [
   | inl p ↦ p
-  | inr p ↦ absurd (omega (arith, weighted_digits 256 n (omega arith), weighted_lt 256 (others_of n) (below n), zero_long (length (others_of n)) (omega arith)))
+  | inr p ↦ absurd (omega (arith, weighted_sum_digits 256 n (omega arith), weighted_sum_lt 256 (others_of n) (below n), zero_long (length (others_of n)) (omega arith)))
 ]
 
 pub length_octets_low : (n : ℕ) → n < 128 → length_octets n ≡ n ∷ []
@@ -40,15 +41,9 @@ length_octets_high n h = grind (arith, nat_tests)
 long_strict : (n : ℕ) → 128 ≤ n → n < 2 ^ 64 → IsLongLength ((128 + length (others_of n)) ∷ others_of n) n
 long_strict n h f =
     let few = digits_few n 8 f in
-    (digits_some n (omega arith), omega arith, refl, below_octets (others_of n) (below n), weighted_digits 256 n (omega arith), f)
+    (digits_some n (omega arith), omega arith, refl, below_octets (others_of n) (below n), weighted_sum_digits 256 n (omega arith), f)
 
--- a length is at least one octet
-pub length_some : (n : ℕ) (q : List ℕ) → IsLength q n → 1 ≤ length q
-length_some n q (inl l) = let e = ap length l.1 in omega arith
-length_some n [] (inr l) = absurd l
-length_some n (k ∷ os) (inr l) = omega arith
-
--- and fits 64 bits
+-- a length fits 64 bits
 pub length_fits : (n : ℕ) (q : List ℕ) → IsLength q n → n < 2 ^ 64
 length_fits n q (inl l) = omega arith
 length_fits n [] (inr l) = absurd l
@@ -58,14 +53,14 @@ fewest_long : (n : ℕ) → 128 ≤ n → (q : List ℕ) → IsLength q n → le
 fewest_long n h q (inl l) = absurd (omega arith)
 fewest_long n h [] (inr l) = absurd l
 fewest_long n h (k ∷ os) (inr l) =
-    let w : n < 256 ^ length os = subst (λ (m : ℕ). m < 256 ^ length os) l.4 (weighted_lt 256 os (octets_below os l.3)) in
+    let w : n < 256 ^ length os = subst (λ (m : ℕ). m < 256 ^ length os) l.4 (weighted_sum_lt 256 os (octets_below os l.3)) in
     let f = digits_few n (length os) w in
     omega arith
 
 -- the strict length octets of n
 pub strict_length : (n : ℕ) → n < 2 ^ 64 → IsStrictLength (length_octets n) n
 strict_length n f = elim (cases_lt n 128) [
-  | inl h ↦ subst (λ (o : List ℕ). IsStrictLength o n) (sym (length_octets_low n h)) (record { lenient = inl (h, refl); fewest = λ q l. length_some n q l })
+  | inl h ↦ subst (λ (o : List ℕ). IsStrictLength o n) (sym (length_octets_low n h)) (record { lenient = inl (h, refl); fewest = λ q l. length_form_some q (definite n) l })
   | inr h ↦ subst (λ (o : List ℕ). IsStrictLength o n) (sym (length_octets_high n h)) (record {
     lenient = inr (long_strict n h f);
     fewest = λ q l. omega (arith, fewest_long n h q l);
@@ -84,7 +79,7 @@ only_high n (k ∷ os) f s (inr l) h =
     let u = s.fewest ((128 + length (others_of n)) ∷ others_of n) (inr (long_strict n h f)) in
     let v = fewest_long n h (k ∷ os) (inr l) in
     let m : length os ≡ length (others_of n) = omega arith in
-    let d = same_digits 256 os (others_of n) (octets_below os l.3) (below n) m (l.4 ∙ sym (weighted_digits 256 n (omega arith))) in
+    let d = same_digits 256 os (others_of n) (octets_below os l.3) (below n) m (l.4 ∙ sym (weighted_sum_digits 256 n (omega arith))) in
     let e : k ≡ 128 + length (others_of n) = omega arith in
     cc
 
@@ -118,11 +113,6 @@ length_octets_few n f = elim (cases_lt n 128) [
   | inr h ↦ omega (arith, length_octets_count_high n h, digits_few n 8 f)
 ]
 
--- the octets of a length are octets
-pub length_is_octets : (n : ℕ) (o : List ℕ) → IsLength o n → IsOctets o
-length_is_octets n o (inl l) = subst IsOctets (sym l.1) (below_octets (n ∷ []) (omega arith, tt))
-length_is_octets n [] (inr l) = absurd l
-length_is_octets n (k ∷ os) (inr l) = below_octets (k ∷ os) (omega (arith, l.1, l.2), octets_below os l.3)
-
+-- they are octets
 pub length_octets_octets : (n : ℕ) → n < 2 ^ 64 → IsOctets (length_octets n)
-length_octets_octets n f = length_is_octets n (length_octets n) (strict_length n f).lenient
+length_octets_octets n f = length_is_octets (length_octets n) n (strict_length n f).lenient

@@ -1,0 +1,255 @@
+-- Where there is a fault there is no header and no element, and there is one fault alone.
+use Rattle.std.proofs.Common.{◌≡◌, ◌≢◌, ℕ, ◌+◌, ◌^◌, ◌<◌, ◌≤◌, Bool, true, false, List, [], ◌∷◌, ◌++◌, length, drop, take, refl, sym, ap, ◌∙◌, arith, subst, inl, inr, ◌⊎◌, append_assoc, append-nil, length-drop, length-append, take-append-drop}
+use Rattle.std.proofs.lemmas.Bool.{cases_lt}
+use Rattle.std.proofs.lemmas.List.{take_at, take-append-le}
+use Rattle.x690.specs.Digits.{base_256_value}
+use Rattle.x690.specs.Identifiers.{Identifier, IsIdentifier, IsCutIdentifier}
+use Rattle.x690.specs.Lengths.{LengthForm, definite, indefinite, IsLengthForm, IsLongLength}
+use Rattle.x690.specs.Elements.{IsHeader, AllowsForm, Parts, IsDefiniteElement, der_rule}
+use Rattle.x690.specs.Faults.{Fault, missing, tag_fault, length_fault, form_fault, depth_fault, IdentifierFault, IsCutLength, LengthFault, FormFault, HeaderFault, IsCutContent, DefiniteElementFault, SpeaksOf}
+use Rattle.x690.specs.Laws.Identifiers.{identifier_unique}
+use Rattle.x690.specs.Laws.Lengths.{same_front, same_octet, length_form_unique}
+use Rattle.x690.specs.Laws.Headers.{header_unique, header_peel, definite_same}
+
+-- no length is shorter than the octets that it announces
+no_long : (rest x o y : List ℕ) (n m : ℕ) → IsCutLength rest n → length x < n → IsLongLength o m → rest ++ x ≡ o ++ y → ⊥
+no_long rest x [] y n m c s l h = l
+no_long [] x (k ∷ os) y n m c s l h = let e = ap length h in omega (arith, length-append x y, l.0, length-append os y)
+no_long (j ∷ is) x (k ∷ os) y n m c s l h =
+    let a : j ≡ k = cc in
+    let t : is ++ x ≡ os ++ y = cc in
+    let e = ap length t in
+    omega (arith, length-append is x, length-append os y, l.2)
+
+no_cut : (rest x o y : List ℕ) (n : ℕ) (form : LengthForm) → IsCutLength rest n → length x < n → IsLengthForm o form → rest ++ x ≡ o ++ y → ⊥
+no_cut rest x o y n (definite m) c s (inr l) h = no_long rest x o y n m c s l h
+no_cut [] x o y n (definite m) c s (inl l) h = let e = ap length (h ∙ ap (λ (ys : List ℕ). ys ++ y) l.1) in omega arith
+no_cut (j ∷ is) x o y n (definite m) c s (inl l) h = let a = same_octet j m (is ++ x) y (h ∙ ap (λ (ys : List ℕ). ys ++ y) l.1) in omega arith
+no_cut [] x o y n indefinite c s l h = let e = ap length (h ∙ ap (λ (ys : List ℕ). ys ++ y) l) in omega arith
+no_cut (j ∷ is) x o y n indefinite c s l h = let a = same_octet j 128 (is ++ x) y (h ∙ ap (λ (ys : List ℕ). ys ++ y) l) in omega arith
+
+no_first : (k : ℕ) (x o y : List ℕ) (form : LengthForm) → 129 ≤ k → IsLengthForm o form → (k ∷ []) ++ x ≡ o ++ y → (n : ℕ) × IsLongLength o n
+no_first k x o y (definite m) p (inl l) h = let a = same_octet k m x y (h ∙ ap (λ (ys : List ℕ). ys ++ y) l.1) in absurd (omega (arith, l.0))
+no_first k x o y (definite m) p (inr l) h = (m, l)
+no_first k x o y indefinite p l h = let a = same_octet k 128 x y (h ∙ ap (λ (ys : List ℕ). ys ++ y) l) in absurd (omega arith)
+
+no_255 : (x o y : List ℕ) (n : ℕ) → IsLongLength o n → (255 ∷ []) ++ x ≡ o ++ y → ⊥
+no_255 x [] y n l h = l
+no_255 x (k ∷ os) y n l h = let a : 255 ≡ k = cc in omega (arith, l.1, l.2)
+
+no_huge : (os x o y : List ℕ) (n : ℕ) → 2 ^ 64 ≤ base_256_value os → IsLongLength o n → ((128 + length os) ∷ []) ++ (os ++ x) ≡ o ++ y → ⊥
+no_huge os x [] y n b l h = l
+no_huge os x (k ∷ ps) y n b l h =
+    let a : 128 + length os ≡ k = cc in
+    let t : os ++ x ≡ ps ++ y = cc in
+    let e = ap base_256_value (same_front os ps x y (omega (arith, l.2)) t) in
+    omega (arith, l.4, l.5)
+
+-- Where there is a fault no length begins the octets, with more behind them of which the fault speaks.
+pub no_length : (cut : Type 0) (rest x o y : List ℕ) (form : LengthForm) (fault : Fault) → LengthFault rest fault → SpeaksOf cut fault x → IsLengthForm o form → rest ++ x ≡ o ++ y → ⊥
+no_length cut rest x o y form (missing n) why s l h = no_cut rest x o y n form why s l h
+no_length cut rest x o y form length_fault (inl why) s l h =
+    let t = ap (λ (ys : List ℕ). ys ++ x) (sym why.1) ∙ h in
+    let f = no_first 255 (why.0 ++ x) o y form (omega arith) l t in
+    no_255 (why.0 ++ x) o y f.0 f.1 t
+no_length cut rest x o y form length_fault (inr why) s l h =
+    let t = ap (λ (ys : List ℕ). (128 + length why.0) ∷ ys) (sym (append_assoc why.0 why.1 x)) ∙ ap (λ (ys : List ℕ). ys ++ x) (sym why.4) ∙ h in
+    let f = no_first (128 + length why.0) (why.0 ++ (why.1 ++ x)) o y form (omega arith) l t in
+    no_huge why.0 (why.1 ++ x) o y f.0 why.5 f.1 t
+no_length cut rest x o y form tag_fault why s l h = why
+no_length cut rest x o y form form_fault why s l h = why
+no_length cut rest x o y form depth_fault why s l h = why
+
+-- of two fronts of one list the shorter begins the longer
+pub shorter_front : (a b x y : List ℕ) → a ++ x ≡ b ++ y → length b ≤ length a → a ≡ b ++ drop (length b) a
+shorter_front a b x y h l = sym (take-append-drop (length b) a) ∙ ap (λ (ys : List ℕ). ys ++ drop (length b) a) (sym (take-append-le (length b) a x l) ∙ ap (take (length b)) h ∙ take_at b y (length b) refl)
+
+not_nil : (l : List ℕ) → 1 ≤ length l → l ≢ []
+not_nil l h e = let s = ap length e in omega arith
+
+-- The same of an identifier, where the octets may end within one.
+pub no_cut_identifier : (octets x o y : List ℕ) (id : Identifier) (fault : Fault) → IdentifierFault octets fault → SpeaksOf (IsCutIdentifier octets) fault x → IsIdentifier o id → octets ++ x ≡ o ++ y → ⊥
+no_cut_identifier octets x [] y id fault why s i h = i
+no_cut_identifier octets x (l ∷ ds) y id (missing n) why s i h = let e = ap length (ap (λ (ys : List ℕ). ys ++ x) (sym why.0) ∙ h) in omega arith
+no_cut_identifier octets x (l ∷ ds) y id tag_fault why (inl s) i h = why.1 (l ∷ ds) y id (sym (append-nil octets) ∙ ap (λ (ys : List ℕ). octets ++ ys) (sym s) ∙ h) i
+no_cut_identifier octets x (l ∷ ds) y id tag_fault why (inr s) i h =
+    elim (cases_lt (length octets) (length (l ∷ ds))) [
+      | inr p ↦ why.1 (l ∷ ds) (drop (length (l ∷ ds)) octets) id (shorter_front octets (l ∷ ds) x y h p) i
+      | inl p ↦
+          let o : List ℕ = l ∷ ds in
+          let t : o ≡ octets ++ drop (length octets) o = shorter_front o octets y x (sym h) (omega arith) in
+          let k : 1 ≤ length (drop (length octets) o) = omega (arith, length-drop (length octets) o) in
+          s (record { more = drop (length octets) o; id = id; some = why.0; missing = not_nil (drop (length octets) o) k; whole = subst (λ (ys : List ℕ). IsIdentifier ys id) t i })
+    ]
+no_cut_identifier octets x (l ∷ ds) y id length_fault why s i h = why
+no_cut_identifier octets x (l ∷ ds) y id form_fault why s i h = why
+no_cut_identifier octets x (l ∷ ds) y id depth_fault why s i h = why
+
+form_clash : (allowed : Bool) → allowed ≡ false → AllowsForm allowed indefinite → ⊥
+form_clash allowed e a = let t : true ≡ false = sym a ∙ e in cc
+
+-- The same of a header by one rule.
+pub no_header : (rule : Identifier → Bool) (octets x o y : List ℕ) (id : Identifier) (form : LengthForm) (fault : Fault) → HeaderFault rule octets fault → SpeaksOf (IsCutIdentifier octets) fault x → IsHeader rule o id form → octets ++ x ≡ o ++ y → ⊥
+no_header rule octets x o y id form fault (inl why) s h i =
+    no_cut_identifier octets x h.identifier (h.count ++ y) id fault why s h.identifier_is (i ∙ ap (λ (ys : List ℕ). ys ++ y) h.is ∙ append_assoc h.identifier h.count y)
+no_header rule octets x o y id form fault (inr why) s h i =
+    let a : why.0 ++ (why.1 ++ x) ≡ h.identifier ++ (h.count ++ y) = sym (append_assoc why.0 why.1 x) ∙ ap (λ (ys : List ℕ). ys ++ x) (sym why.4) ∙ i ∙ ap (λ (ys : List ℕ). ys ++ y) h.is ∙ append_assoc h.identifier h.count y in
+    let u = identifier_unique why.0 h.identifier (why.1 ++ x) (h.count ++ y) why.2 id why.3 h.identifier_is a in
+    elim why.5 [
+      | inl p ↦ no_length (IsCutIdentifier octets) why.1 x h.count y form fault p s h.count_is u.2
+      | inr p ↦
+          let v = length_form_unique (128 ∷ []) h.count (p.2.0 ++ x) y indefinite form refl h.count_is (ap (λ (ys : List ℕ). ys ++ x) (sym p.2.1) ∙ u.2) in
+          form_clash (rule id) (ap rule (sym u.1) ∙ p.1) (subst (λ (f : LengthForm). AllowsForm (rule id) f) (sym v.1) h.allowed)
+    ]
+
+speaks_cut : (cut : Type 0) (fault : Fault) (n : ℕ) (x : List ℕ) → fault ≡ missing n → SpeaksOf cut fault x → length x < n
+speaks_cut cut fault n x h s = subst (λ (f : Fault). SpeaksOf cut f x) h s
+
+-- some octets of the contents are missing, and more of them leave some missing
+pub no_content : (cut : Type 0) (octets x o y : List ℕ) (p : Parts) (fault : Fault) → IsCutContent octets fault → SpeaksOf cut fault x → IsDefiniteElement o p → octets ++ x ≡ o ++ y → ⊥
+no_content cut octets x o y p fault why s b h =
+    let u = header_peel der_rule der_rule why.header b.header why.rest p.content x y why.id p.id (definite why.counted) p.form why.header_is b.header_is (ap (λ (ys : List ℕ). ys ++ x) (sym why.is) ∙ h ∙ ap (λ (ys : List ℕ). ys ++ y) b.is) in
+    let l = definite_same why.counted (length p.content) (u.2 ∙ b.counted) in
+    let t = ap length u.3 in
+    let short = speaks_cut cut fault why.lacking x why.fault_is s in
+    omega (arith, length-append why.rest x, length-append p.content y, why.sum)
+
+-- The same of an element of definite length.
+pub no_definite_element : (octets x o y : List ℕ) (p : Parts) (fault : Fault) → DefiniteElementFault octets fault → SpeaksOf (IsCutIdentifier octets) fault x → IsDefiniteElement o p → octets ++ x ≡ o ++ y → ⊥
+no_definite_element octets x o y p fault (inl why) s b h =
+    no_header der_rule octets x b.header (p.content ++ y) p.id p.form fault why s b.header_is (h ∙ ap (λ (ys : List ℕ). ys ++ y) b.is ∙ append_assoc b.header p.content y)
+no_definite_element octets x o y p fault (inr why) s b h = no_content (IsCutIdentifier octets) octets x o y p fault why s b h
+
+-- a fault that says how many octets are missing counts one at least
+abbrev pub CountsSome : Fault → Type 0
+CountsSome (missing n) = 1 ≤ n
+CountsSome _ = Unit {0}
+
+identifier_fault_counts : (octets : List ℕ) (fault : Fault) → IdentifierFault octets fault → CountsSome fault
+identifier_fault_counts octets (missing n) why = omega (arith, why.1)
+identifier_fault_counts octets tag_fault why = tt
+identifier_fault_counts octets length_fault why = tt
+identifier_fault_counts octets form_fault why = tt
+identifier_fault_counts octets depth_fault why = tt
+
+cut_length_counts : (octets : List ℕ) (n : ℕ) → IsCutLength octets n → 1 ≤ n
+cut_length_counts [] n why = omega (arith, why)
+cut_length_counts (first ∷ others) n why = why.3
+
+length_fault_counts : (octets : List ℕ) (fault : Fault) → LengthFault octets fault → CountsSome fault
+length_fault_counts octets (missing n) why = cut_length_counts octets n why
+length_fault_counts octets tag_fault why = tt
+length_fault_counts octets length_fault why = tt
+length_fault_counts octets form_fault why = tt
+length_fault_counts octets depth_fault why = tt
+
+pub header_fault_counts : (rule : Identifier → Bool) (octets : List ℕ) (fault : Fault) → HeaderFault rule octets fault → CountsSome fault
+header_fault_counts rule octets fault (inl why) = identifier_fault_counts octets fault why
+header_fault_counts rule octets fault (inr why) = elim why.5 [
+  | inl p ↦ length_fault_counts why.1 fault p
+  | inr p ↦ subst CountsSome (sym p.0) tt
+]
+
+pub cut_content_counts : (octets : List ℕ) (fault : Fault) → IsCutContent octets fault → CountsSome fault
+cut_content_counts octets fault why = subst CountsSome (sym why.fault_is) why.some
+
+pub definite_fault_counts : (octets : List ℕ) (fault : Fault) → DefiniteElementFault octets fault → CountsSome fault
+definite_fault_counts octets fault (inl why) = header_fault_counts der_rule octets fault why
+definite_fault_counts octets fault (inr why) = cut_content_counts octets fault why
+
+-- a fault speaks of the octets as they are
+pub speaks_now : (cut : Type 0) (fault : Fault) → CountsSome fault → SpeaksOf cut fault []
+speaks_now cut (missing n) some = omega arith
+speaks_now cut tag_fault some = inl refl
+speaks_now cut length_fault some = tt
+speaks_now cut form_fault some = tt
+speaks_now cut depth_fault some = tt
+
+-- where a header begins the octets there is no fault
+pub header_or_fault : (rule : Identifier → Bool) (octets o y : List ℕ) (id : Identifier) (form : LengthForm) (fault : Fault) → HeaderFault rule octets fault → IsHeader rule o id form → octets ≡ o ++ y → ⊥
+header_or_fault rule octets o y id form fault why h e =
+    no_header rule octets [] o y id form fault why (speaks_now (IsCutIdentifier octets) fault (header_fault_counts rule octets fault why)) h (append-nil octets ∙ e)
+
+-- where an element of definite length begins the octets there is no fault
+pub definite_element_or_fault : (octets o y : List ℕ) (p : Parts) (fault : Fault) → DefiniteElementFault octets fault → IsDefiniteElement o p → octets ≡ o ++ y → ⊥
+definite_element_or_fault octets o y p fault why b e =
+    no_definite_element octets [] o y p fault why (speaks_now (IsCutIdentifier octets) fault (definite_fault_counts octets fault why)) b (append-nil octets ∙ e)
+
+one_identifier_fault : (octets : List ℕ) (f g : Fault) → IdentifierFault octets f → IdentifierFault octets g → f ≡ g
+one_identifier_fault octets (missing n) (missing m) p q = ap missing (p.1 ∙ sym q.1)
+one_identifier_fault octets (missing n) tag_fault p q = absurd (q.0 p.0)
+one_identifier_fault octets tag_fault (missing m) p q = absurd (p.0 q.0)
+one_identifier_fault octets tag_fault tag_fault p q = refl
+one_identifier_fault octets length_fault g p q = absurd p
+one_identifier_fault octets form_fault g p q = absurd p
+one_identifier_fault octets depth_fault g p q = absurd p
+one_identifier_fault octets f length_fault p q = absurd q
+one_identifier_fault octets f form_fault p q = absurd q
+one_identifier_fault octets f depth_fault p q = absurd q
+
+one_cut_length : (octets : List ℕ) (n m : ℕ) → IsCutLength octets n → IsCutLength octets m → n ≡ m
+one_cut_length [] n m p q = p ∙ sym q
+one_cut_length (first ∷ others) n m p q = omega (arith, p.1, q.1, p.4, q.4)
+
+-- octets that are missing are not those of a length past 64 bits
+cut_not_huge : (octets : List ℕ) (n : ℕ) → IsCutLength octets n → LengthFault octets length_fault → ⊥
+cut_not_huge [] n p (inl q) = cc
+cut_not_huge [] n p (inr q) = let e = q.4 in cc
+cut_not_huge (first ∷ others) n p (inl q) = let e : first ≡ 255 = cc in omega (arith, p.1, p.2)
+cut_not_huge (first ∷ others) n p (inr q) =
+    let s = q.4 in
+    let e : first ≡ 128 + length q.0 = cc in
+    let t : others ≡ q.0 ++ q.1 = cc in
+    omega (arith, p.1, p.3, p.4, ap length t, length-append q.0 q.1)
+
+one_length_fault : (octets : List ℕ) (f g : Fault) → LengthFault octets f → LengthFault octets g → f ≡ g
+one_length_fault octets (missing n) (missing m) p q = ap missing (one_cut_length octets n m p q)
+one_length_fault octets (missing n) length_fault p q = absurd (cut_not_huge octets n p q)
+one_length_fault octets length_fault (missing m) p q = absurd (cut_not_huge octets m q p)
+one_length_fault octets length_fault length_fault p q = refl
+one_length_fault octets tag_fault g p q = absurd p
+one_length_fault octets form_fault g p q = absurd p
+one_length_fault octets depth_fault g p q = absurd p
+one_length_fault octets f tag_fault p q = absurd q
+one_length_fault octets f form_fault p q = absurd q
+one_length_fault octets f depth_fault p q = absurd q
+
+-- 80 is no fault of a length
+no_length_fault_at_80 : (octets others : List ℕ) (f : Fault) → LengthFault octets f → octets ≡ 128 ∷ others → ⊥
+no_length_fault_at_80 octets others f why e =
+    no_length ⊥ octets [] (128 ∷ []) others indefinite f why (speaks_now ⊥ f (length_fault_counts octets f why)) refl (append-nil octets ∙ e)
+
+-- a front of the octets is an identifier, so that there is no fault before its end
+identifier_or_fault : (octets o y : List ℕ) (id : Identifier) (f : Fault) → IdentifierFault octets f → IsIdentifier o id → octets ≡ o ++ y → ⊥
+identifier_or_fault octets o y id f why i e =
+    no_cut_identifier octets [] o y id f why (speaks_now (IsCutIdentifier octets) f (identifier_fault_counts octets f why)) i (append-nil octets ∙ e)
+
+one_fault_behind : (rest : List ℕ) (allowed : Bool) (f g : Fault) → LengthFault rest f ⊎ FormFault allowed rest f → LengthFault rest g ⊎ FormFault allowed rest g → f ≡ g
+one_fault_behind rest allowed f g (inl p) (inl q) = one_length_fault rest f g p q
+one_fault_behind rest allowed f g (inl p) (inr q) = absurd (no_length_fault_at_80 rest q.2.0 f p q.2.1)
+one_fault_behind rest allowed f g (inr p) (inl q) = absurd (no_length_fault_at_80 rest p.2.0 g q p.2.1)
+one_fault_behind rest allowed f g (inr p) (inr q) = p.0 ∙ sym q.0
+
+-- Octets with no header have one fault.
+pub one_header_fault : (rule : Identifier → Bool) (octets : List ℕ) (f g : Fault) → HeaderFault rule octets f → HeaderFault rule octets g → f ≡ g
+one_header_fault rule octets f g (inl p) (inl q) = one_identifier_fault octets f g p q
+one_header_fault rule octets f g (inl p) (inr q) = absurd (identifier_or_fault octets q.0 q.1 q.2 f p q.3 q.4)
+one_header_fault rule octets f g (inr p) (inl q) = absurd (identifier_or_fault octets p.0 p.1 p.2 g q p.3 p.4)
+one_header_fault rule octets f g (inr p) (inr q) =
+    let u = identifier_unique p.0 q.0 p.1 q.1 p.2 q.2 p.3 q.3 (sym p.4 ∙ q.4) in
+    let a : LengthFault p.1 g ⊎ FormFault (rule p.2) p.1 g = subst (λ (r : List ℕ). LengthFault r g ⊎ FormFault (rule p.2) r g) (sym u.2) (subst (λ (i : Identifier). LengthFault q.1 g ⊎ FormFault (rule i) q.1 g) (sym u.1) q.5) in
+    one_fault_behind p.1 (rule p.2) f g p.5 a
+
+pub one_cut_content : (octets : List ℕ) (f g : Fault) → IsCutContent octets f → IsCutContent octets g → f ≡ g
+one_cut_content octets f g p q =
+    let u = header_unique der_rule der_rule p.header q.header p.rest q.rest p.id q.id (definite p.counted) (definite q.counted) p.header_is q.header_is (sym p.is ∙ q.is) in
+    let l = definite_same p.counted q.counted u.2 in
+    let t = ap length u.3 in
+    p.fault_is ∙ ap missing (omega (arith, l, t, p.sum, q.sum)) ∙ sym q.fault_is
+
+-- Octets with no element of definite length have one fault.
+pub one_definite_fault : (octets : List ℕ) (f g : Fault) → DefiniteElementFault octets f → DefiniteElementFault octets g → f ≡ g
+one_definite_fault octets f g (inl p) (inl q) = one_header_fault der_rule octets f g p q
+one_definite_fault octets f g (inl p) (inr q) = absurd (header_or_fault der_rule octets q.header q.rest q.id (definite q.counted) f p q.header_is q.is)
+one_definite_fault octets f g (inr p) (inl q) = absurd (header_or_fault der_rule octets p.header p.rest p.id (definite p.counted) g q p.header_is p.is)
+one_definite_fault octets f g (inr p) (inr q) = one_cut_content octets f g p q

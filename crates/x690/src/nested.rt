@@ -1,0 +1,89 @@
+//! The laws of elements by BER, nested to a depth, and of their faults.
+
+ghost use Rattle.std.specs.Prelude.{ℕ, List, ◌++◌, ◌≡◌, ◌+◌, ◌*◌, ◌≤◌, length};
+ghost use Rattle.std.specs.List.{concat};
+ghost use Rattle.x690.specs.Octets.{IsOctets, BeginsWith};
+ghost use Rattle.x690.specs.Lengths.{definite};
+ghost use Rattle.x690.specs.Elements.{Parts, IsDefiniteElement};
+ghost use Rattle.x690.specs.Faults.{Fault, missing, SpeaksOf};
+ghost use Rattle.x690.specs.Nested.{IsNestedElement, IsWord, IsRow, ElementFault, EndsInIdentifier, end_of_contents};
+
+/// Where two elements begin one input they are the same, of whatever depths: they have the same parts and as many
+/// headers, and the same octets follow (X.690 8.1.1).
+pub fn nested_elements_unique()
+    ensures unique { (depth other_depth : ℕ) (input front other rest tail : List ℕ)
+        (front_parts other_parts : Parts) (front_headers other_headers : ℕ)
+        → IsNestedElement depth front front_parts front_headers → BeginsWith input front rest
+        → IsNestedElement other_depth other other_parts other_headers → BeginsWith input other tail
+        → (front ≡ other) × (front_parts ≡ other_parts) × (front_headers ≡ other_headers) × (rest ≡ tail) }
+    ensures octets { (depth : ℕ) (octets : List ℕ) (parts : Parts) (headers : ℕ)
+        → IsNestedElement depth octets parts headers → IsOctets octets }
+{}
+
+/// The element that begins an input begins each extension of it too, and no other does.
+pub fn nested_elements_last()
+    ensures { (depth : ℕ) (input more front other rest tail : List ℕ)
+        (front_parts other_parts : Parts) (front_headers other_headers : ℕ)
+        → IsNestedElement depth front front_parts front_headers → BeginsWith input front rest
+        → IsNestedElement depth other other_parts other_headers → BeginsWith (input ++ more) other tail
+        → (other ≡ front) × (other_parts ≡ front_parts) × (other_headers ≡ front_headers) × (tail ≡ rest ++ more) }
+{}
+
+/// Octets split in one way into elements of one depth and the two zero octets that end them (X.690 8.1.5).
+pub fn contents_split_in_one_way()
+    ensures { (depth : ℕ) (input : List ℕ) (words others : List (List ℕ)) (rest tail : List ℕ) (headers other_headers : ℕ)
+        → IsRow (IsWord depth) words headers
+        → BeginsWith input (concat words) (end_of_contents ++ rest)
+        → IsRow (IsWord depth) others other_headers
+        → BeginsWith input (concat others) (end_of_contents ++ tail)
+        → (words ≡ others) × (headers ≡ other_headers) × (rest ≡ tail) }
+{}
+
+/// An element of definite length is an element of every depth from 1 on, with one header. It is the only kind that
+/// counts its contents octets (X.690 8.1.3.6).
+pub fn definite_elements_are_nested()
+    ensures nested { (depth : ℕ) (octets : List ℕ) (parts : Parts)
+        → 1 ≤ depth → IsDefiniteElement octets parts → IsNestedElement depth octets parts 1 }
+    ensures definite { (depth : ℕ) (octets : List ℕ) (parts : Parts) (headers n : ℕ)
+        → parts.form ≡ definite n → IsNestedElement depth octets parts headers
+        → IsDefiniteElement octets parts × (headers ≡ 1) }
+{}
+
+/// An element of one depth is an element of each greater depth.
+pub fn depths_include_lesser_ones()
+    ensures { (depth deeper : ℕ) (octets : List ℕ) (parts : Parts) (headers : ℕ)
+        → depth ≤ deeper
+        → IsNestedElement depth octets parts headers → IsNestedElement deeper octets parts headers }
+{}
+
+/// An element has two octets at least, and two for each of its headers that a reader passes.
+pub fn headers_are_few()
+    ensures two { (depth : ℕ) (octets : List ℕ) (parts : Parts) (headers : ℕ)
+        → IsNestedElement depth octets parts headers → 2 ≤ length octets }
+    ensures half { (depth : ℕ) (octets : List ℕ) (parts : Parts) (headers : ℕ)
+        → IsNestedElement depth octets parts headers → 2 * headers ≤ length octets }
+{}
+
+/// A fault is final: where octets have one, no element of the depth begins them, nor any extension of them of which
+/// the fault speaks.
+pub fn nested_faults_are_final()
+    ensures { (depth : ℕ) (input more : List ℕ) (fault : Fault)
+        → ElementFault depth input fault → SpeaksOf (EndsInIdentifier depth input) fault more
+        → (front rest : List ℕ) (parts : Parts) (headers : ℕ)
+        → IsNestedElement depth front parts headers → BeginsWith (input ++ more) front rest → ⊥ }
+{}
+
+/// Octets that an element of the depth begins have no fault.
+pub fn nested_elements_have_no_fault()
+    ensures { (depth : ℕ) (input front rest : List ℕ) (parts : Parts) (headers : ℕ)
+        → IsNestedElement depth front parts headers → BeginsWith input front rest
+        → (fault : Fault) → ElementFault depth input fault → ⊥ }
+{}
+
+/// Octets have one fault of an element at most, and where octets are missing one is missing at least. So which fault
+/// is the first, and how many octets are missing, are determined.
+pub fn one_nested_fault()
+    ensures one { (depth : ℕ) (input : List ℕ) (fault other : Fault)
+        → ElementFault depth input fault → ElementFault depth input other → fault ≡ other }
+    ensures some { (depth : ℕ) (input : List ℕ) (n : ℕ) → ElementFault depth input (missing n) → 1 ≤ n }
+{}

@@ -1,0 +1,23 @@
+//! The laws of octet strings in dictionary order.
+
+ghost use Rattle.std.specs.Prelude.{ℕ, List, [], ◌∷◌, ◌++◌, ◌≡◌, ◌<◌, ◌⊎◌};
+ghost use Rattle.x690.specs.Octets.{IsBeforeOrSame};
+
+/// Any two octet strings have one order in the dictionary (X.690 11.6): one of them comes before the other or they
+/// are the same, and not both but where they are the same.
+pub fn dictionary_order_is_total()
+    ensures total { (one other : List ℕ) → IsBeforeOrSame one other ⊎ IsBeforeOrSame other one }
+    ensures antisymmetric { (one other : List ℕ) → IsBeforeOrSame one other → IsBeforeOrSame other one → one ≡ other }
+    ensures transitive { (one other third : List ℕ) → IsBeforeOrSame one other → IsBeforeOrSame other third
+        → IsBeforeOrSame one third }
+{}
+
+/// At the first difference of two octet strings the lesser octet decides which one comes before the other, and a
+/// beginning comes before the whole or is the same (X.690 11.6).
+pub fn first_difference_decides()
+    ensures before { (front one other : List ℕ) (lesser greater : ℕ) → lesser < greater
+        → IsBeforeOrSame (front ++ lesser ∷ one) (front ++ greater ∷ other) }
+    ensures not_after { (front one other : List ℕ) (lesser greater : ℕ) → lesser < greater
+        → IsBeforeOrSame (front ++ greater ∷ other) (front ++ lesser ∷ one) → ⊥ }
+    ensures beginning { (front rest : List ℕ) → IsBeforeOrSame front (front ++ rest) }
+{}
