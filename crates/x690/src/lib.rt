@@ -1,11 +1,13 @@
 //! The encoding rules of ITU-T X.690 on lists of octets, and their laws.
 #![tactic(auto)]
 
+pub mod digits;
 pub mod elements;
 pub mod identifiers;
 pub mod lengths;
 pub mod nested;
 pub mod octets;
+pub mod strict;
 
 ghost use Rattle.std.specs.Prelude.{ℕ, List, ◌≡◌, ◌++◌};
 ghost use Rattle.x690.specs.Octets.{IsOctets};
