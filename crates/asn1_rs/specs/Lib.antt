@@ -8,3 +8,4 @@ pub mod Any
 pub mod Answers
 pub mod Form
 pub mod Grammar
+pub mod Laws

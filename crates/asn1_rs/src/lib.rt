@@ -5,6 +5,7 @@ mod asn1_types;
 mod class;
 pub mod error;
 mod header;
+mod laws;
 mod length;
 mod tag;
 mod to_der;
@@ -18,6 +19,10 @@ pub use error::{
     from_nom_error,
 };
 pub use header::Header;
+pub use laws::{
+    Grammar, LawfulAuto, LawfulBer, LawfulBody, LawfulCheck, LawfulDer, LawfulItem, LawfulMember,
+    LawfulWrite, TakesClass, read_der, write_strict,
+};
 pub use length::Length;
 pub use tag::Tag;
 pub use to_der::ToDer;

@@ -13,3 +13,4 @@ pub mod NestedFaults
 pub mod StrictLengths
 pub mod StrictIdentifiers
 pub mod StrictHeaders
+pub mod StrictElements
