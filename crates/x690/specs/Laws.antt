@@ -13,3 +13,5 @@ pub mod NestedFaults
 pub mod StrictLengths
 pub mod StrictIdentifiers
 pub mod StrictHeaders
+pub mod Integers
+pub mod UnsignedOctets
