@@ -32,3 +32,8 @@ with_sign_octet (first ∷ others) = if nat_lt first 128 then first ∷ others e
 -- the strict contents octets of a natural number
 unfoldable pub unsigned_octets : ℕ → List ℕ
 unsigned_octets n = with_sign_octet (digits_of 256 n)
+
+-- nothing, or a first octet that is not 0
+abbrev pub HasNoLeadingZero : List ℕ → Type 0
+HasNoLeadingZero [] = Unit {0}
+HasNoLeadingZero (first ∷ others) = first ≢ 0

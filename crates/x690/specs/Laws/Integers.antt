@@ -1,12 +1,12 @@
 -- Laws of the contents octets of integers (X.690 8.3).
-use Rattle.std.proofs.Common.{◌≡◌, ◌≢◌, ℕ, suc, ◌+◌, ◌*◌, ◌^◌, ◌<◌, ◌≤◌, List, [], ◌∷◌, length, get_or, ℤ, pos, ◌+ℤ◌, ◌-ℤ◌, refl, sym, ap, ◌∙◌, arith, inl, inr, ◌⊎◌, lit≤}
+use Rattle.std.proofs.Common.{◌≡◌, ℕ, suc, ◌+◌, ◌*◌, ◌^◌, ◌<◌, ◌≤◌, List, [], ◌∷◌, length, get_or, ℤ, pos, ◌+ℤ◌, ◌-ℤ◌, refl, sym, ap, ◌∙◌, arith, inl, inr, ◌⊎◌, lit≤}
 use Rattle.std.proofs.Math.Nat.{pow-suc, pow-le-pow_right, mul-le-mul_right}
 use Rattle.std.proofs.lemmas.Int.{ints}
 use Rattle.std.proofs.lemmas.Bool.{cases_lt, cases_order}
 use Rattle.std.proofs.lemmas.Bool.Decides.{nat_tests}
 use Rattle.x690.specs.Octets.{IsOctets}
 use Rattle.x690.specs.Digits.{base_256_value, twos_complement_value}
-use Rattle.x690.specs.Integers.{HasSpareZeros, HasSpareOnes, IsIntegerContent}
+use Rattle.x690.specs.Integers.{HasSpareZeros, HasSpareOnes, HasNoLeadingZero, IsIntegerContent}
 use Rattle.x690.specs.Laws.Octets.{octets_below}
 use Rattle.x690.specs.Laws.Sums.{weighted_sum_lt, same_digits}
 
@@ -133,10 +133,24 @@ pub unsigned_value : (octets : List ℕ) → get_or octets 0 0 < 128 → twos_co
 unsigned_value [] h = refl
 unsigned_value (first ∷ others) h = value_low first others h
 
+-- where the first bit is set it is no natural number
+pub negative_value : (octets : List ℕ) (n : ℕ) → IsOctets octets → 128 ≤ get_or octets 0 0 → twos_complement_value octets ≡ pos n → ⊥
+negative_value [] n o h e = omega arith
+negative_value (first ∷ others) n o h e = omega (arith, ints, value_high first others h, octets_value_below (first ∷ others) o, e)
+
 -- zeros in front say nothing
 pub leading_zero : (octets : List ℕ) → base_256_value (0 ∷ octets) ≡ base_256_value octets
 leading_zero octets = omega arith
 
 -- a first octet that is not 0 has its weight
-pub leading_digit : (first : ℕ) (others : List ℕ) → first ≢ 0 → 256 ^ length others ≤ base_256_value (first ∷ others)
-leading_digit first others h = let m = first_above 1 first others (omega arith) in omega arith
+pub no_leading_zero_value : (octets : List ℕ) (k : ℕ) → HasNoLeadingZero octets → k < length octets → 256 ^ k ≤ base_256_value octets
+no_leading_zero_value [] k h l = absurd (omega arith)
+no_leading_zero_value (first ∷ others) k h l =
+    let p : 256 ^ k ≤ 256 ^ length others = pow-le-pow_right {n = 256} (lit≤ tt) (omega arith) in
+    omega (arith, first_above 1 first others (omega arith), p)
+
+-- and no more octets than these say less than this
+pub few_octets_value : (octets : List ℕ) (k : ℕ) → IsOctets octets → length octets ≤ k → base_256_value octets < 256 ^ k
+few_octets_value octets k o l =
+    let p : 256 ^ length octets ≤ 256 ^ k = pow-le-pow_right {n = 256} (lit≤ tt) l in
+    omega (arith, octets_value_below octets o, p)

@@ -5,15 +5,10 @@ use Rattle.std.proofs.lemmas.Int.Digits.{digits_of_step, length-digits_of-le, al
 use Rattle.std.proofs.lemmas.Bool.{cases_lt}
 use Rattle.std.proofs.lemmas.Bool.Decides.{nat_tests}
 use Rattle.x690.specs.Digits.{base_256_value}
-use Rattle.x690.specs.Integers.{IsIntegerContent, HasSpareZeros, HasSpareOnes, with_sign_octet, unsigned_octets}
+use Rattle.x690.specs.Integers.{IsIntegerContent, HasNoLeadingZero, HasSpareZeros, HasSpareOnes, with_sign_octet, unsigned_octets}
 use Rattle.x690.specs.Laws.Octets.{below_octets}
 use Rattle.x690.specs.Laws.Sums.{weighted_sum_digits}
 use Rattle.x690.specs.Laws.Integers.{value_low, unsigned_value, integer_content_unique}
-
--- no digit at all, or a first one that is not 0
-abbrev StartsWell : List ℕ → Type 0
-StartsWell [] = Unit {0}
-StartsWell (first ∷ others) = first ≢ 0
 
 with_sign_low : (first : ℕ) (others : List ℕ) → first < 128 → with_sign_octet (first ∷ others) ≡ first ∷ others
 with_sign_low first others h = grind (arith, nat_tests)
@@ -50,18 +45,18 @@ zero_is_content = record {
   value = value_low 0 [] (omega arith) ∙ ap pos (omega arith);
 }
 
-signed_is_content : (digits : List ℕ) → AllBelowBase 256 digits → StartsWell digits → IsIntegerContent (pos (base_256_value digits)) (with_sign_octet digits)
+signed_is_content : (digits : List ℕ) → AllBelowBase 256 digits → HasNoLeadingZero digits → IsIntegerContent (pos (base_256_value digits)) (with_sign_octet digits)
 signed_is_content [] below well = zero_is_content
 signed_is_content (first ∷ others) below well = elim (cases_lt first 128) [
   | inl h ↦ subst (IsIntegerContent (pos (base_256_value (first ∷ others)))) (sym (with_sign_low first others h)) (low_is_content first others below well h)
   | inr h ↦ subst (IsIntegerContent (pos (base_256_value (first ∷ others)))) (sym (with_sign_high first others h)) (high_is_content first others below h)
 ]
 
-starts_well : (digits : List ℕ) → 0 < get_or digits 0 0 → StartsWell digits
+starts_well : (digits : List ℕ) → 0 < get_or digits 0 0 → HasNoLeadingZero digits
 starts_well [] h = tt
 starts_well (first ∷ others) h = omega arith
 
-digits_start_well : (n : ℕ) → StartsWell (digits_of 256 n)
+digits_start_well : (n : ℕ) → HasNoLeadingZero (digits_of 256 n)
 digits_start_well zero = tt
 digits_start_well (suc n) = starts_well (digits_of 256 (suc n)) (first_digits_of 256 (suc n) (omega arith) (omega arith))
 
