@@ -14,7 +14,7 @@ front_below octets i k o l =
 
 pub returns-then-digits-most-clause-none : goal.returns-then-digits-most-clause-none
 returns-then-digits-most-clause-none c =
-    omega (arith, c.without_leading_zeros-digits.ensures.value, no_leading_zero_value c.without_leading_zeros-digits.result.now c.args.most c.without_leading_zeros-digits.ensures.first c.if-digits-most.true)
+    omega (arith, c.without_leading_zeros-digits.ensures.value, no_leading_zero_value c.without_leading_zeros-digits.result.now c.args.most c.without_leading_zeros-digits.ensures.first (omega arith))
 
 pub overflow_mul-number : goal.overflow_mul-number
 overflow_mul-number c =
