@@ -1,5 +1,5 @@
 -- Laws of the contents octets of integers (X.690 8.3).
-use Rattle.std.proofs.Common.{◌≡◌, ℕ, suc, ◌+◌, ◌*◌, ◌^◌, ◌<◌, ◌≤◌, List, [], ◌∷◌, length, get_or, ℤ, pos, ◌+ℤ◌, ◌-ℤ◌, refl, sym, ap, ◌∙◌, arith, inl, inr, ◌⊎◌, lit≤}
+use Rattle.std.proofs.Common.{◌≡◌, ℕ, zero, suc, ◌+◌, ◌*◌, ◌^◌, ◌<◌, ◌≤◌, List, [], ◌∷◌, ◌++◌, length, replicate, get_or, ℤ, pos, ◌+ℤ◌, ◌-ℤ◌, refl, sym, ap, ◌∙◌, arith, inl, inr, ◌⊎◌, lit≤}
 use Rattle.std.proofs.Math.Nat.{pow-suc, pow-le-pow_right, mul-le-mul_right}
 use Rattle.std.proofs.lemmas.Int.{ints}
 use Rattle.std.proofs.lemmas.Bool.{cases_lt, cases_order}
@@ -139,8 +139,9 @@ negative_value [] n o h e = omega arith
 negative_value (first ∷ others) n o h e = omega (arith, ints, value_high first others h, octets_value_below (first ∷ others) o, e)
 
 -- zeros in front say nothing
-pub leading_zero : (octets : List ℕ) → base_256_value (0 ∷ octets) ≡ base_256_value octets
-leading_zero octets = omega arith
+pub leading_zeros : (k : ℕ) (octets : List ℕ) → base_256_value (replicate k 0 ++ octets) ≡ base_256_value octets
+leading_zeros zero octets = refl
+leading_zeros (suc k) octets = omega (arith, leading_zeros k octets)
 
 -- a first octet that is not 0 has its weight
 pub no_leading_zero_value : (octets : List ℕ) (k : ℕ) → HasNoLeadingZero octets → k < length octets → 256 ^ k ≤ base_256_value octets
