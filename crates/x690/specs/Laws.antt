@@ -14,3 +14,5 @@ pub mod StrictLengths
 pub mod StrictIdentifiers
 pub mod StrictHeaders
 pub mod StrictElements
+pub mod Integers
+pub mod UnsignedOctets

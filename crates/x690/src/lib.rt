@@ -4,6 +4,7 @@
 pub mod digits;
 pub mod elements;
 pub mod identifiers;
+pub mod integers;
 pub mod lengths;
 pub mod nested;
 pub mod octets;
@@ -18,6 +19,7 @@ pub use elements::{
     one_fault, some_octets_are_missing, words_have_no_fault,
 };
 pub use identifiers::identifiers_unique;
+pub use integers::integers_have_one_content;
 pub use lengths::lengths_unique;
 pub use nested::{
     contents_split_in_one_way, definite_elements_are_nested, depths_include_lesser_ones,
