@@ -1,5 +1,5 @@
 -- One writing after another.
-use Rattle.std.proofs.Common.{◌≡◌, ℕ, ◌+◌, Bool, true, false, ◌||◌, ◌&&◌, ◌==◌, nat_lt, List, [], ◌∷◌, ◌++◌, length, take, drop, ◌-◌, ◌≤◌, length-append, Option, None, Some, IfErr, IfOk, zero, suc, Result, Ok, Err, refl, sym, ap, ◌∙◌, append_assoc, arith, subst}
+use Rattle.std.proofs.Common.{◌≡◌, ℕ, ◌+◌, Bool, true, false, ◌||◌, ◌&&◌, ◌==◌, nat_lt, List, [], ◌∷◌, ◌++◌, length, take, drop, ◌-◌, ◌≤◌, length-append, Option, None, Some, IfErr, IsTrue, MatchResult, ◌^◌, ◌<◌, IfOk, zero, suc, Result, Ok, Err, refl, sym, ap, ◌∙◌, append_assoc, arith, subst}
 use Rattle.std.proofs.lemmas.Bool.Decides.{nat_tests}
 use Rattle.std.proofs.lemmas.List.{append-nil}
 use Rattle.std.proofs.lemmas.Grind.{common_steps}
@@ -126,3 +126,13 @@ Wrote_nothing {e} xs a was h = record {
   err = record { front = []; rest = xs; parts = refl; grown = Appends_none a };
   mark = ap (λ m. m || was) (sym h);
 }
+
+-- A writing whose length fits and whose writer is not marked is done, but for want of memory.
+pub writing_done : (r : Result ℕ SerializeError) (takes : Bool) (o : List ℕ) (old new : Option (List ℕ)) (was is : Bool) → Wrote o old new was is r → IfErr r (MayRefuse takes (length o)) → length o < 2 ^ 64 → is ≡ false
+    → MatchResult r (λ n. Appends old new o × (n ≡ length o)) (λ e. (e ≡ refusals.OutOfMemory) × IsTrue takes)
+writing_done (Ok n) takes o old new was is w m fits free = w.ok
+writing_done (Err (refusals.ASN1Error e)) takes o old new was is w m fits free = absurd m
+writing_done (Err (refusals.InvalidClass c)) takes o old new was is w m fits free = absurd m
+writing_done (Err refusals.InvalidLength) takes o old new was is w m fits free = absurd (omega arith)
+writing_done (Err (refusals.IOError e)) takes o old new was is w m fits free = let k : is ≡ true = w.mark in cc
+writing_done (Err refusals.OutOfMemory) takes o old new was is w m fits free = (refl, m)

@@ -4,3 +4,8 @@ pub mod Tag
 pub mod Length
 pub mod Header
 pub mod Wrote
+pub mod Any
+pub mod Answers
+pub mod Form
+pub mod Grammar
+pub mod Laws

@@ -1,19 +1,33 @@
 //! BER reader, DER reader and writer of ITU-T X.690.
 #![tactic(auto)]
 
+mod asn1_types;
 mod class;
 pub mod error;
 mod header;
+mod laws;
 mod length;
 mod tag;
+mod to_der;
+mod traits;
 mod writer;
 
+pub use asn1_types::any::Any;
 pub use class::{BerClassFromIntError, Class};
 pub use error::{
     DerConstraint, Err, Error, IResult, Needed, ParseResult, SerializeError, SerializeResult,
     from_nom_error,
 };
 pub use header::Header;
+pub use laws::{
+    Grammar, LawfulAuto, LawfulBer, LawfulBody, LawfulCheck, LawfulDer, LawfulItem, LawfulMember,
+    LawfulWrite, TakesClass, read_der, write_strict,
+};
 pub use length::Length;
 pub use tag::Tag;
+pub use to_der::ToDer;
+pub use traits::{
+    ASN1Parser, BerParser, CheckDerConstraints, DerAutoDerive, DerParser, DynTagged, FromAny,
+    FromBer, FromDer, Tagged,
+};
 pub use writer::{DerWrite, Told, put_all};

@@ -1,8 +1,8 @@
 -- Headers and elements of definite length (X.690 8.1.1, 10.1).
 use Rattle.std.specs.Prelude.{◌≡◌, ℕ, Bool, true, false, List, ◌++◌, length}
 use Rattle.x690.specs.Octets.{IsOctets}
-use Rattle.x690.specs.Identifiers.{Identifier, IsIdentifier}
-use Rattle.x690.specs.Lengths.{LengthForm, definite, indefinite, IsLengthForm}
+use Rattle.x690.specs.Identifiers.{Identifier, IsIdentifier, IsStrictIdentifier}
+use Rattle.x690.specs.Lengths.{LengthForm, definite, indefinite, IsLengthForm, IsStrictLength}
 
 -- whether an element with this identifier may have the indefinite form: by DER none, by BER a constructed one
 abbrev pub der_rule : Identifier → Bool
@@ -37,3 +37,12 @@ pub record IsDefiniteElement (octets : List ℕ) (parts : Parts) : Type 0 where
   pub counted : parts.form ≡ definite (length parts.content)
   pub content_octets : IsOctets parts.content
   pub is : octets ≡ header ++ parts.content
+
+-- the strict identifier, the strict length of the contents octets, and these
+pub record IsStrictElement (octets : List ℕ) (id : Identifier) (content : List ℕ) : Type 0 where
+  pub identifier : List ℕ
+  pub count : List ℕ
+  pub identifier_is : IsStrictIdentifier identifier id
+  pub count_is : IsStrictLength count (length content)
+  pub content_octets : IsOctets content
+  pub is : octets ≡ identifier ++ (count ++ content)

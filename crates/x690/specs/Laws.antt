@@ -1,6 +1,7 @@
 pub mod Octets
 pub mod Order
 pub mod Digits
+pub mod Sums
 pub mod Identifiers
 pub mod Lengths
 pub mod Headers
@@ -9,3 +10,9 @@ pub mod Faults
 pub mod Rows
 pub mod Nested
 pub mod NestedFaults
+pub mod StrictLengths
+pub mod StrictIdentifiers
+pub mod StrictHeaders
+pub mod StrictElements
+pub mod Integers
+pub mod UnsignedOctets

@@ -6,4 +6,5 @@ pub mod Elements
 pub mod Faults
 pub mod Nested
 pub mod Strict
+pub mod Integers
 pub mod Laws

@@ -1,11 +1,14 @@
 //! The encoding rules of ITU-T X.690 on lists of octets, and their laws.
 #![tactic(auto)]
 
+pub mod digits;
 pub mod elements;
 pub mod identifiers;
+pub mod integers;
 pub mod lengths;
 pub mod nested;
 pub mod octets;
+pub mod strict;
 
 ghost use Rattle.std.specs.Prelude.{ℕ, List, ◌≡◌, ◌++◌};
 ghost use Rattle.x690.specs.Octets.{IsOctets};
@@ -16,6 +19,7 @@ pub use elements::{
     one_fault, some_octets_are_missing, words_have_no_fault,
 };
 pub use identifiers::identifiers_unique;
+pub use integers::integers_have_one_content;
 pub use lengths::lengths_unique;
 pub use nested::{
     contents_split_in_one_way, definite_elements_are_nested, depths_include_lesser_ones,

@@ -7,7 +7,7 @@ use Rattle.x690.specs.Identifiers.{Identifier}
 use Rattle.x690.specs.Lengths.{definite, indefinite}
 use Rattle.x690.specs.Elements.{Parts, IsHeader, IsDefiniteElement, der_rule, ber_rule}
 use Rattle.x690.specs.Nested.{IsRow, IsIndefiniteElement, IsNestedElement, IsWord, end_of_contents}
-use Rattle.x690.specs.Laws.Octets.{octets_append, below_octets}
+use Rattle.x690.specs.Laws.Octets.{octets_append, octets_front, octets_back, below_octets}
 use Rattle.x690.specs.Laws.Headers.{header_unique, header_peel, header_ber, header_two, header_is_octets, not_both_forms}
 use Rattle.x690.specs.Laws.Elements.{same_parts, definite_element_unique, definite_element_two, definite_element_is_octets}
 use Rattle.x690.specs.Laws.Rows.{AreWordsUnique, IsEndWhole, rows_unique, row_half, row_map, row_is_octets}
@@ -159,3 +159,11 @@ nested_element_is_octets (suc depth) o p h (inr b) =
     let c : IsOctets p.content = subst IsOctets (sym a.content) (row_is_octets (IsWord depth) (λ w g k. nested_element_is_octets depth w k.0 g k.1) a.words a.inner a.row) in
     let t : IsOctets end_of_contents = header_is_octets der_rule end_of_contents end_identifier (definite 0) end_header in
     subst IsOctets (sym a.is) (octets_append a.header (p.content ++ end_of_contents) (header_is_octets ber_rule a.header p.id p.form a.header_is) (octets_append p.content end_of_contents c t))
+
+pub nested_content_is_octets : (depth : ℕ) (o : List ℕ) (p : Parts) (h : ℕ) → IsNestedElement depth o p h → IsOctets p.content
+unfolding IsNestedElement
+nested_content_is_octets zero o p h n = absurd n
+nested_content_is_octets (suc depth) o p h (inl n) = n.0.content_octets
+nested_content_is_octets (suc depth) o p h (inr n) =
+    let all = subst IsOctets n.1.is (nested_element_is_octets (suc depth) o p h (inr n)) in
+    octets_front p.content end_of_contents (octets_back n.1.header (p.content ++ end_of_contents) all)

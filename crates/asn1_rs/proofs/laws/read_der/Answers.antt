@@ -1,0 +1,10 @@
+use Rattle.std.proofs.Common.{arith, rules}
+use Rattle.x690.specs.Identifiers.{IsCutIdentifier}
+use Rattle.asn1_rs.specs.Answers.{seen}
+use Rattle.asn1_rs.specs.Laws.Words.{read_back}
+use Rattle.asn1_rs.proofs.laws.read_der.Goals as goal
+
+pub returns-clause-back : goal.returns-clause-back
+returns-clause-back g c = λ v w rest s e.
+    read_back IsCutIdentifier g.T.Grammar.Form g.T.Grammar.Der g.T.Grammar.value _ g.met.T.LawfulItem.strict_der g.met.T.LawfulItem.der_one c.args.bytes.now (seen c.from_der.result)
+    ((g.met.T.LawfulDer c.lifetimes (search rules)).der_exact c.args.bytes.now (seen c.from_der.result) (λ k. omega (arith, c.type_inv.bytes k)) c.from_der.ensures) v w rest s e

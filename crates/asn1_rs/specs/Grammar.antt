@@ -1,0 +1,94 @@
+-- Grammars of types that are read as one element, checked and converted.
+use Rattle.std.specs.Prelude.{ℕ, Bool, List, [], ◌++◌, ◌≡◌, ◌⊎◌, length, Result, Ok, Err, IsTrue}
+use Rattle.x690.specs.Octets.{IsOctets}
+use Rattle.x690.specs.Identifiers.{Identifier, IsCutIdentifier}
+use Rattle.x690.specs.Lengths.{definite}
+use Rattle.x690.specs.Elements.{Parts, IsDefiniteElement}
+use Rattle.x690.specs.Faults.{Fault, DefiniteElementFault}
+use Rattle.x690.specs.Nested.{IsElement, ElementFault, EndsInIdentifier}
+use Rattle.asn1_rs.specs.declared.error.Err.{Err as Refusal}
+use Rattle.asn1_rs.specs.declared.error.Err.TheVariants.{Error as refused}
+use Rattle.asn1_rs.specs.declared.error.Error.{Error}
+use Rattle.asn1_rs.specs.declared.error.Error.TheVariants.{OutOfMemory}
+use Rattle.asn1_rs.specs.Error.{Converted}
+use Rattle.asn1_rs.specs.Header.{der_refusal, ber_refusal}
+use Rattle.asn1_rs.specs.Answers.{Front}
+
+-- no word is empty, and two words that begin one input are the same and have one value
+pub record IsOneFront {V : Type 0} (G : List ℕ → V → Type 0) : Type 0 where
+  pub one : (x y r s : List ℕ) (v w : V) → G x v → G y w → x ++ r ≡ y ++ s → (x ≡ y) × (v ≡ w)
+  pub some : (v : V) → G [] v → ⊥
+
+-- one element, whose parts meet the check and have the value by the body
+abbrev pub ElementWord : {V : Type 0} → (List ℕ → Parts → Type 0) → (Parts → Type 0) → (Parts → V → Type 0) → List ℕ → V → Type 0
+ElementWord Element Check Body o v = (p : Parts) × Element o p × Check p × Body p v
+
+-- by BER an element is nested fifty deep at most, and no constraint is asked of it
+abbrev pub max_depth : ℕ
+max_depth = 50
+
+abbrev pub NoCheck : Parts → Type 0
+NoCheck p = Unit {0}
+
+abbrev pub BerWord : {V : Type 0} → (Parts → V → Type 0) → List ℕ → V → Type 0
+BerWord Body = ElementWord (IsElement max_depth) NoCheck Body
+
+-- by DER its length is definite, and the constraints are met
+abbrev pub DerWord : {V : Type 0} → (Parts → Type 0) → (Parts → V → Type 0) → List ℕ → V → Type 0
+DerWord Check Body = ElementWord IsDefiniteElement Check Body
+
+-- What a reader may answer that reads an element, checks it and converts it: the value; or else the refusal of the element's first fault, that of the check, or that of the conversion, in this order.
+abbrev pub ElementGives : {T E : Type 0} → (List ℕ → Parts → Type 0) → (List ℕ → Fault → Type 0) → (Fault → Refusal Error) → (Parts → Result (Unit {0}) Error → Type 0) → (Parts → Result T E → Type 0) → (Error → E → Type 0) → List ℕ → Result (List ℕ × T) (Refusal E) → Type 0
+ElementGives Element FaultOf refusal check convert from input (Ok x) = (p : Parts) × Front Element input p x.0 × check p (Ok tt) × convert p (Ok x.1)
+ElementGives {T} {E} Element FaultOf refusal check convert from input (Err r) =
+    ((fault : Fault) × FaultOf input fault × Converted from (refusal fault) r) ⊎
+    ((p : Parts) × (rest : List ℕ) × Front Element input p rest ×
+    (((e : Error) × check p (Err e) × ((f : E) × from e f × (r ≡ refused f))) ⊎ (check p (Ok tt) × ((e : E) × convert p (Err e) × (r ≡ refused e)))))
+
+abbrev pub DerGives : {T E : Type 0} → (Parts → Result (Unit {0}) Error → Type 0) → (Parts → Result T E → Type 0) → (Error → E → Type 0) → List ℕ → Result (List ℕ × T) (Refusal E) → Type 0
+DerGives check convert from = ElementGives IsDefiniteElement DefiniteElementFault der_refusal check convert from
+
+-- a check that refuses nothing
+abbrev pub PassesAll : Parts → Result (Unit {0}) Error → Type 0
+PassesAll p answer = answer ≡ Ok tt
+
+abbrev pub BerGives : {T E : Type 0} → (Parts → Result T E → Type 0) → (Error → E → Type 0) → List ℕ → Result (List ℕ × T) (Refusal E) → Type 0
+BerGives convert from = ElementGives (IsElement max_depth) (ElementFault max_depth) ber_refusal PassesAll convert from
+
+-- where by BER the input ends within an identifier in high form
+abbrev pub EndsWithin : List ℕ → Type 0
+EndsWithin = EndsInIdentifier max_depth
+
+-- The conversion takes an element exactly where the body has a value, and gives it. Where it takes memory, want of it may be told.
+abbrev pub TakesBody : {T V E : Type 0} → (Parts → V → Type 0) → (T → V) → Bool → (Error → E → Type 0) → Parts → Result T E → Type 0
+TakesBody Body value takes from p (Ok x) = Body p (value x)
+TakesBody {T} {V} Body value takes from p (Err e) = (IsTrue takes × from OutOfMemory e) ⊎ ((v : V) → Body p v → ⊥)
+
+-- the check passes exactly the parts that meet it
+abbrev pub Checks : (Parts → Type 0) → Parts → Result (Unit {0}) Error → Type 0
+Checks Check p (Ok x) = Check p
+Checks Check p (Err e) = Check p → ⊥
+
+-- a body gives one value
+abbrev pub IsOneBody : {V : Type 0} → (Parts → V → Type 0) → Type 0
+IsOneBody {V} Body = (p : Parts) (v w : V) → Body p v → Body p w → v ≡ w
+
+-- the parts of an element of definite length
+abbrev pub made : Identifier → List ℕ → Parts
+made i c = record { id = i; form = definite (length c); content = c }
+
+-- the same identifier under another class
+abbrev pub of_class : ℕ → Identifier → Identifier
+of_class class i = record { class = class; constructed = i.constructed; number = i.number }
+
+-- the strict parts of a value meet the check
+abbrev pub FormChecks : {V : Type 0} → (V → Identifier → List ℕ → Type 0) → (Parts → Type 0) → Type 0
+FormChecks {V} Form Check = (v : V) (i : Identifier) (c : List ℕ) → Form v i c → Check (made i c)
+
+-- and the body, with this value
+abbrev pub FormBodies : {V : Type 0} → (V → Identifier → List ℕ → Type 0) → (Parts → V → Type 0) → Type 0
+FormBodies {V} Form Body = (v : V) (i : Identifier) (c : List ℕ) → Form v i c → Body (made i c) v
+
+-- They have this number, and meet check and body with this class in place of their own.
+abbrev pub FormTakes : {V : Type 0} → (V → Identifier → List ℕ → Type 0) → (Parts → Type 0) → (Parts → V → Type 0) → ℕ → ℕ → Type 0
+FormTakes {V} Form Check Body class number = (v : V) (i : Identifier) (c : List ℕ) → Form v i c → (i.number ≡ number) × Check (made (of_class class i) c) × Body (made (of_class class i) c) v

@@ -1,0 +1,104 @@
+-- Readers that read one element, check it and convert it are exact.
+use Rattle.std.proofs.Common.{arith, ◌≡◌, ◌∙◌, ap, sym, subst, refl, ℕ, ◌<◌, ◌≤◌, ◌⊎◌, inl, inr, Bool, List, [], ◌++◌, length, append_assoc, append-nil}
+use Rattle.std.specs.Prelude.{Result, Ok, Err}
+use Rattle.x690.specs.Octets.{IsOctets}
+use Rattle.x690.specs.Identifiers.{IsCutIdentifier}
+use Rattle.x690.specs.Elements.{Parts, IsDefiniteElement}
+use Rattle.x690.specs.Faults.{Fault, missing, tag_fault, length_fault, form_fault, depth_fault, DefiniteElementFault, SpeaksOf}
+use Rattle.x690.specs.Nested.{IsElement, ElementFault}
+use Rattle.x690.specs.Laws.Octets.{octets_front, octets_back}
+use Rattle.x690.specs.Laws.Elements.{definite_element_unique, definite_element_two, definite_element_is_octets}
+use Rattle.x690.specs.Laws.Faults.{CountsSome, no_definite_element, definite_fault_counts}
+use Rattle.x690.specs.Laws.Nested.{nested_element_unique, nested_element_two, nested_content_is_octets}
+use Rattle.x690.specs.Laws.NestedFaults.{no_element, element_fault_counts}
+use Rattle.asn1_rs.specs.declared.error.Err.{Err as Refusal}
+use Rattle.asn1_rs.specs.declared.error.Err.TheVariants.{Error as refused, Incomplete as cut, Failure as failed}
+use Rattle.asn1_rs.specs.declared.error.Needed.TheVariants.{Size, Unknown}
+use Rattle.asn1_rs.specs.declared.error.Error.{Error}
+use Rattle.asn1_rs.specs.Error.{Converted}
+use Rattle.asn1_rs.specs.Header.{refusal_of, der_refusal, ber_refusal}
+use Rattle.asn1_rs.specs.Answers.{Front, NoFront, IsFinal, Speaks, Exactly, TellsMemory, ReadsBack}
+use Rattle.asn1_rs.specs.Grammar.{IsOneFront, ElementWord, ElementGives, TakesBody, Checks, max_depth, EndsWithin}
+
+-- What the laws ask of elements: one alone begins an input, and a fault is final.
+pub record AreElements (Element : List ℕ → Parts → Type 0) (FaultOf : List ℕ → Fault → Type 0) (IsCut : List ℕ → Type 0) : Type 0 where
+  pub one : IsOneFront Element
+  pub final : (input more o rest : List ℕ) (p : Parts) (fault : Fault) → FaultOf input fault → SpeaksOf (IsCut input) fault more → Element o p → input ++ more ≡ o ++ rest → ⊥
+  pub counts : (input : List ℕ) (fault : Fault) → FaultOf input fault → CountsSome fault
+  pub content : (o : List ℕ) (p : Parts) → Element o p → IsOctets p.content
+
+pub der_elements : AreElements IsDefiniteElement DefiniteElementFault IsCutIdentifier
+der_elements = record {
+  one = record {
+    one = λ x y r s p q a b e. let u = definite_element_unique x y r s p q a b e in (u.0, u.1);
+    some = λ p a. let l = definite_element_two [] p a in absurd (omega (arith, l));
+  };
+  final = λ input more o rest p fault f s a e. no_definite_element input more o rest p fault f s a e;
+  counts = λ input fault f. definite_fault_counts input fault f;
+  content = λ o p a. a.content_octets;
+}
+
+pub ber_elements : AreElements (IsElement max_depth) (ElementFault max_depth) EndsWithin
+ber_elements = record {
+  one = record {
+    one = λ x y r s p q a b e. let u = nested_element_unique max_depth x y r s p q a.0 b.0 a.1 b.1 e in (u.0, u.1);
+    some = λ p a. let l = nested_element_two max_depth [] p a.0 a.1 in absurd (omega (arith, l));
+  };
+  final = λ input more o rest p fault f s a e. no_element max_depth input more o rest p a.0 fault f s a.1 e;
+  counts = λ input fault f. element_fault_counts max_depth input fault f;
+  content = λ o p a. nested_content_is_octets max_depth o p a.0 a.1;
+}
+
+speaks_missing : (E : Type 0) (is_cut : Type 0) (n : ℕ) (more : List ℕ) → 1 ≤ n → Speaks {E = E} is_cut (cut (Size n)) more → length more < n
+speaks_missing E is_cut n more some (inl e) = let l = ap length e in omega (arith, l)
+speaks_missing E is_cut n more some (inr l) = l
+
+-- what a refusal that tells of a fault speaks of, the fault speaks of
+pub speaks_fault : {E : Type 0} (at_indefinite : Error) (from : Error → E → Type 0) (fault : Fault) (r : Refusal E) (is_cut : Type 0) (more : List ℕ) → CountsSome fault → Converted from (refusal_of at_indefinite fault) r → Speaks is_cut r more → SpeaksOf is_cut fault more
+speaks_fault {E} at from (missing n) r is_cut more some c s = speaks_missing E is_cut n more some (subst (λ (q : Refusal E). Speaks is_cut q more) c s)
+speaks_fault {E} at from tag_fault r is_cut more some c s = subst (λ (q : Refusal E). Speaks is_cut q more) c.2 s
+speaks_fault at from length_fault r is_cut more some c s = tt
+speaks_fault at from form_fault r is_cut more some c s = tt
+speaks_fault at from depth_fault r is_cut more some c s = tt
+
+speaks_now : {E : Type 0} (is_cut : Type 0) (r : Refusal E) → Speaks is_cut r []
+speaks_now is_cut (cut (Size n)) = inl refl
+speaks_now is_cut (cut Unknown) = refl
+speaks_now is_cut (refused x) = inl refl
+speaks_now is_cut (failed x) = inl refl
+
+pub none_now : {V E : Type 0} (is_cut : Type 0) (r : Refusal E) (G : List ℕ → V → Type 0) (input : List ℕ) → IsFinal is_cut r G input → NoFront G input
+none_now is_cut r G input f w rest v e g = f [] (speaks_now is_cut r) w rest v (append-nil input ∙ e) g
+
+pub front_more : {V : Type 0} (G : List ℕ → V → Type 0) (input : List ℕ) (v : V) (rest more : List ℕ) → Front G input v rest → Front G (input ++ more) v (rest ++ more)
+front_more G input v rest more f = record { word = f.word; fits = f.fits; is = ap (λ (x : List ℕ). x ++ more) f.is ∙ append_assoc f.word rest more }
+
+module _ {T V E : Type 0} (Element : List ℕ → Parts → Type 0) (FaultOf : List ℕ → Fault → Type 0) (IsCut : List ℕ → Type 0) (elements : AreElements Element FaultOf IsCut) (at_indefinite : Error)
+    (check : Parts → Result (Unit {0}) Error → Type 0) (convert : Parts → Result T E → Type 0) (from : Error → E → Type 0)
+    (Check : Parts → Type 0) (Body : Parts → V → Type 0) (value : T → V) (takes : Bool) (G : List ℕ → V → Type 0)
+    (check_exact : (p : Parts) (answer : Result (Unit {0}) Error) → check p answer → Checks Check p answer)
+    (body_exact : (p : Parts) (answer : Result T E) → IsOctets p.content → convert p answer → TakesBody Body value takes from p answer)
+    (split : (o : List ℕ) (v : V) → G o v → ElementWord Element Check Body o v)
+    (join : (o : List ℕ) (v : V) → ElementWord Element Check Body o v → G o v) where
+  -- the element that was read is the one of any word at the front
+  word_parts : (input rest w r : List ℕ) (p : Parts) (v : V) → Front Element input p rest → input ≡ w ++ r → G w v → Check p × Body p v
+  word_parts input rest w r p v front e d =
+      let a : ElementWord Element Check Body w v = split w v d in
+      let same : (front.word ≡ w) × (p ≡ a.0) = elements.one.one front.word w rest r p a.0 front.fits a.1 (sym front.is ∙ e) in
+      (subst Check (sym same.1) a.2, subst (λ (q : Parts). Body q v) (sym same.1) a.3)
+
+  pub element_exact : (input : List ℕ) (answer : Result (List ℕ × T) (Refusal E)) → ElementGives Element FaultOf (refusal_of at_indefinite) check convert from input answer → Exactly IsCut G value (TellsMemory takes from) input answer
+  element_exact input (Ok x) g = record {
+    word = g.1.word;
+    fits = join g.1.word (value x.1) (g.0, g.1.fits, check_exact g.0 (Ok tt) g.2, body_exact g.0 (Ok x.1) (elements.content g.1.word g.0 g.1.fits) g.3);
+    is = g.1.is;
+  }
+  element_exact input (Err r) (inl (fault, f, c)) = inr (λ more s w rest v e d.
+      let a : ElementWord Element Check Body w v = split w v d in
+      elements.final input more w rest a.0 fault f (speaks_fault at_indefinite from fault r (IsCut input) more (elements.counts input fault f) c s) a.1 e)
+  element_exact input (Err r) (inr (p, rest, front, inl (e, c, f))) = inr (λ more s w t v h d. check_exact p (Err e) c (word_parts (input ++ more) (rest ++ more) w t p v (front_more Element input p rest more front) h d).0)
+  element_exact input (Err r) (inr (p, rest, front, inr (c, (e, cv, is)))) =
+      elim (body_exact p (Err e) (elements.content front.word p front.fits) cv) [
+        | inl m ↦ inl (m.0, (e, m.1, is))
+        | inr none ↦ inr (λ more s w t v h d. none v (word_parts (input ++ more) (rest ++ more) w t p v (front_more Element input p rest more front) h d).1)
+      ]

@@ -1,0 +1,51 @@
+-- Strict parts, and what is written.
+use Rattle.std.specs.Prelude.{◌≡◌, ℕ, ◌<◌, ◌^◌, Bool, true, false, List, ◌++◌, length}
+use Rattle.std.proofs.Common.{sym, ap, ◌∙◌, subst, arith}
+use Rattle.x690.specs.Octets.{IsOctets}
+use Rattle.x690.specs.Identifiers.{Identifier}
+use Rattle.x690.specs.Elements.{IsStrictElement}
+use Rattle.x690.specs.Strict.{header_octets}
+use Rattle.x690.specs.Laws.StrictElements.{strict_element_octets}
+use Rattle.asn1_rs.specs.Form.{IsOneForm, IsOneValue, FitsElement, HasValues, IsStrict}
+
+-- the identifier of a universal type
+abbrev pub universal : Bool → ℕ → Identifier
+universal constructed number = record { class = 0; constructed = constructed; number = number }
+
+-- the strict header of an element with these contents octets
+abbrev pub header_of : Identifier → List ℕ → List ℕ
+header_of i c = header_octets i.class i.constructed i.number (length c)
+
+-- the strict parts of a universal type whose contents octets are related to its values
+abbrev pub UniversalForm : {V : Type 0} → Bool → ℕ → (V → List ℕ → Type 0) → V → Identifier → List ℕ → Type 0
+UniversalForm constructed number Content v i c = (i ≡ universal constructed number) × Content v c
+
+module _ {V : Type 0} (constructed : Bool) (number : ℕ) (Content : V → List ℕ → Type 0) where
+  pub universal_one : ((v : V) (c d : List ℕ) → Content v c → Content v d → c ≡ d) → IsOneForm (UniversalForm constructed number Content)
+  universal_one one = λ v i j c d f g. (f.0 ∙ sym g.0, one v c d f.1 g.1)
+
+  pub universal_value : ((v w : V) (c : List ℕ) → Content v c → Content w c → v ≡ w) → IsOneValue (UniversalForm constructed number Content)
+  universal_value one = λ v w i c f g. one v w c f.1 g.1
+
+  pub universal_fits : number < 31 → ((v : V) (c : List ℕ) → Content v c → IsOctets c) → FitsElement (UniversalForm constructed number Content)
+  universal_fits small octets = λ v i c f. (
+    let e = ap (λ (z : Identifier). z.class) f.0 in omega arith,
+    let e = ap (λ (z : Identifier). z.number) f.0 in omega arith,
+    octets v c f.1,
+  )
+
+-- What is written follows from the value.
+abbrev pub WritesByValue : {S V : Type 0} → (S → V) → (S → Bool) → (S → List ℕ) → (S → List ℕ) → Type 0
+WritesByValue {S} {V} value constructed header content = (x y : S) → value x ≡ value y → (constructed x ≡ constructed y) × (header x ≡ header y) × (content x ≡ content y)
+
+-- A value that has strict parts is writable, and they are what is written.
+abbrev pub WritesForm : {S V : Type 0} → (S → V) → (V → Identifier → List ℕ → Type 0) → (S → Type 0) → (S → Bool) → (S → List ℕ) → (S → List ℕ) → Type 0
+WritesForm {S} {V} value Form is_writable constructed header content = (x : S) (i : Identifier) (c : List ℕ) → Form (value x) i c →
+    is_writable x × (constructed x ≡ i.constructed) × (content x ≡ c) × (header x ≡ header_of i c)
+
+-- so the strict encoding is what is written
+pub strict_written : {S V : Type 0} (value : S → V) (Form : V → Identifier → List ℕ → Type 0) (is_writable : S → Type 0) (constructed : S → Bool) (header content : S → List ℕ) → WritesForm value Form is_writable constructed header content →
+    (x : S) (o : List ℕ) → IsStrict Form (value x) o → is_writable x × (header x ++ content x ≡ o)
+strict_written value Form is_writable constructed header content law x o s =
+    let h = law x s.id s.content s.form in
+    (h.0, ap (λ (a : List ℕ). a ++ content x) h.3 ∙ ap (λ (b : List ℕ). header_of s.id s.content ++ b) h.2 ∙ sym (strict_element_octets o s.id s.content s.element))

@@ -1,0 +1,59 @@
+-- Words of element grammars: one alone begins an input, and strict encodings are words that are read back.
+use Rattle.std.proofs.Common.{arith, ◌≡◌, ◌∙◌, ap, sym, subst, refl, ℕ, ◌<◌, ◌^◌, Bool, List, [], ◌++◌, length, inl, inr}
+use Rattle.std.proofs.lemmas.List.{append_cancel_left}
+use Rattle.std.specs.Prelude.{Result, Ok, Err}
+use Rattle.x690.specs.Octets.{IsOctets}
+use Rattle.x690.specs.Identifiers.{Identifier}
+use Rattle.x690.specs.Elements.{Parts, IsDefiniteElement, IsStrictElement}
+use Rattle.x690.specs.Nested.{IsElement}
+use Rattle.x690.specs.Laws.Nested.{definite_is_nested}
+use Rattle.x690.specs.Laws.StrictElements.{strict_is_definite, strict_element_one, strict_element_unique}
+use Rattle.asn1_rs.specs.declared.error.Err.{Err as Refusal}
+use Rattle.asn1_rs.specs.Answers.{Exactly, ReadsBack}
+use Rattle.asn1_rs.specs.Form.{IsOneForm, IsOneValue, IsStrict}
+use Rattle.asn1_rs.specs.Grammar.{IsOneFront, IsOneBody, ElementWord, BerWord, DerWord, NoCheck, FormChecks, FormBodies, made, max_depth}
+use Rattle.asn1_rs.specs.Laws.Elements.{none_now}
+
+-- words of one body, over elements of which one alone begins an input
+pub word_one : {V : Type 0} (Element : List ℕ → Parts → Type 0) (Check : Parts → Type 0) (Body : Parts → V → Type 0) → IsOneFront Element → IsOneBody Body → IsOneFront (ElementWord Element Check Body)
+word_one Element Check Body elements one = record {
+  one = λ x y r s v w a b e.
+      let same : (x ≡ y) × (a.0 ≡ b.0) = elements.one x y r s a.0 b.0 a.1 b.1 e in
+      (same.0, one b.0 v w (subst (λ (q : Parts). Body q v) same.1 a.3) b.3);
+  some = λ v a. elements.some a.0 a.1;
+}
+
+-- a strict encoding is one element of definite length
+pub strict_element : {V : Type 0} (Form : V → Identifier → List ℕ → Type 0) (v : V) (o : List ℕ) (s : IsStrict Form v o) → IsDefiniteElement o (made s.id s.content)
+strict_element Form v o s = strict_is_definite o s.id s.content s.element
+
+-- it is a word by DER where its parts meet check and body
+pub strict_der_word : {V : Type 0} (Form : V → Identifier → List ℕ → Type 0) (Check : Parts → Type 0) (Body : Parts → V → Type 0) → FormChecks Form Check → FormBodies Form Body → (v : V) (o : List ℕ) → IsStrict Form v o → DerWord Check Body o v
+strict_der_word Form Check Body checks bodies v o s = (made s.id s.content, strict_element Form v o s, checks v s.id s.content s.form, bodies v s.id s.content s.form)
+
+-- and by BER where they meet the body
+pub strict_ber_word : {V : Type 0} (Form : V → Identifier → List ℕ → Type 0) (Body : Parts → V → Type 0) → FormBodies Form Body → (v : V) (o : List ℕ) → IsStrict Form v o → BerWord Body o v
+strict_ber_word Form Body bodies v o s =
+    (made s.id s.content, (1, definite_is_nested max_depth o (made s.id s.content) (omega arith) (strict_element Form v o s)), tt, bodies v s.id s.content s.form)
+
+-- a value has one strict encoding where it has one form
+pub one_strict : {V : Type 0} (Form : V → Identifier → List ℕ → Type 0) → IsOneForm Form → (v : V) (o p : List ℕ) → IsStrict Form v o → IsStrict Form v p → o ≡ p
+one_strict Form one v o p s t =
+    let h = one v s.id t.id s.content t.content s.form t.form in
+    strict_element_one o p t.id t.content (subst (λ (c : List ℕ). IsStrictElement o t.id c) h.1 (subst (λ (i : Identifier). IsStrictElement o i s.content) h.0 s.element)) t.element
+
+-- no other value has it, and it begins no other one
+pub strict_apart : {V : Type 0} (Form : V → Identifier → List ℕ → Type 0) → IsOneValue Form → (v w : V) (o p r s : List ℕ) → IsStrict Form v o → IsStrict Form w p → o ++ r ≡ p ++ s → (o ≡ p) × (v ≡ w) × (r ≡ s)
+strict_apart Form one v w o p r s x y e =
+    let u = strict_element_unique o p r s x.id y.id x.content y.content x.element y.element e in
+    let form : Form v y.id y.content = subst (λ (c : List ℕ). Form v y.id c) u.2 (subst (λ (i : Identifier). Form v i x.content) u.1 x.form) in
+    (u.0, one v w y.id y.content form y.form, u.3)
+
+-- the strict encoding is read back before any rest
+pub read_back : {T V E : Type 0} (IsCut : List ℕ → Type 0) (Form : V → Identifier → List ℕ → Type 0) (G : List ℕ → V → Type 0) (value : T → V) (memory : Refusal E → Type 0) → ((v : V) (o : List ℕ) → IsStrict Form v o → G o v) → IsOneFront G →
+    (input : List ℕ) (answer : Result (List ℕ × T) (Refusal E)) → Exactly IsCut G value memory input answer → (v : V) (w rest : List ℕ) → IsStrict Form v w → input ≡ w ++ rest → ReadsBack value memory v rest answer
+read_back IsCut Form G value memory word one input (Ok x) f v w rest s e =
+    let same : (w ≡ f.word) × (v ≡ value x.1) = one.one w f.word rest x.0 v (value x.1) (word v w s) f.fits (sym e ∙ f.is) in
+    (same.1, append_cancel_left w x.0 rest (ap (λ (z : List ℕ). z ++ x.0) same.0 ∙ sym f.is ∙ e))
+read_back IsCut Form G value memory word one input (Err r) (inl m) v w rest s e = m
+read_back IsCut Form G value memory word one input (Err r) (inr n) v w rest s e = absurd (none_now (IsCut input) r G input n w rest v e (word v w s))

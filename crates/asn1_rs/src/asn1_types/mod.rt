@@ -1,0 +1,3 @@
+//! The types of elements.
+
+pub mod any;

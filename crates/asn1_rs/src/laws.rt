@@ -1,0 +1,181 @@
+//! What a type's values and grammars are, the laws of them, and the calls whose contracts rest on these laws.
+//!
+//! No code calls the law traits: they have no functions. A type whose laws are proved can be read by [`read_ber`] and
+//! [`read_der`] and written by [`write_strict`], alone or nested in lists, sets and tags.
+ghost use Rattle.std.specs.Prelude.{ℕ, Bool, List, ◌≡◌, ◌++◌, ◌<◌, ◌^◌, ◌↔◌, ◌||◌, false, length, Result, IsTrue, IfErr, MatchResult};
+ghost use Rattle.std.specs.Io.KnownBytes.{Appends};
+ghost use Rattle.x690.specs.Octets.{IsOctets};
+ghost use Rattle.x690.specs.Identifiers.{Identifier, IsCutIdentifier};
+ghost use Rattle.x690.specs.Elements.{Parts, IsDefiniteElement};
+ghost use Rattle.x690.specs.Faults.{DefiniteElementFault};
+ghost use Rattle.asn1_rs.specs.declared.error.Err.{Err as Refusal};
+ghost use Rattle.asn1_rs.specs.declared.error.Error.{Error as Fault};
+ghost use Rattle.asn1_rs.specs.declared.error.Error.TheVariants as faults;
+ghost use Rattle.asn1_rs.specs.declared.error.DerConstraint.TheVariants as constraints;
+ghost use Rattle.asn1_rs.specs.declared.error.SerializeError.TheVariants as refusals;
+ghost use Rattle.asn1_rs.specs.Answers.{seen, Exactly, TellsMemory, ReadsBack};
+ghost use Rattle.asn1_rs.specs.Form.{IsOneForm, IsOneValue, FitsElement, HasValues, IsStrict};
+ghost use Rattle.asn1_rs.specs.Grammar.{IsOneFront, IsOneBody, BerWord, DerWord, TakesBody, Checks, FormChecks, FormBodies, FormTakes, EndsWithin};
+ghost use Rattle.asn1_rs.specs.Wrote.{Wrote, MayRefuse};
+ghost use Rattle.asn1_rs.specs.Laws.Elements.{element_exact, der_elements};
+ghost use Rattle.asn1_rs.specs.Laws.Forms.{WritesByValue, WritesForm};
+
+use crate::error::{Error, ParseResult, SerializeResult};
+use crate::to_der::ToDer;
+use crate::traits::{CheckDerConstraints, DerAutoDerive, FromAny, FromBer, FromDer, Tagged};
+use crate::writer::DerWrite;
+use std::alloc::Global;
+
+/// The values of a type, its grammars and its strict parts: what the laws speak of.
+pub trait Grammar {
+    /// The values, with plain equality.
+    ghost Value: { Type 0 };
+
+    /// The value of an item in hand.
+    ghost value: { Self → Value };
+
+    /// Holds of the values of the type, as of the numbers in its range.
+    ghost IsValue: { Value → Type 0 };
+
+    /// The words by BER, with their values.
+    ghost Ber: { List ℕ → Value → Type 0 };
+
+    /// The words by DER, as a reader takes them, with their values.
+    ghost Der: { List ℕ → Value → Type 0 };
+
+    /// The value that the conversion finds in an element's parts.
+    ghost Body: { Parts → Value → Type 0 };
+
+    /// What the constraints ask of an element's parts.
+    ghost Check: { Parts → Type 0 };
+
+    /// The identifier and the contents octets of a value in DER form.
+    ghost Form: { Value → Identifier → List ℕ → Type 0 };
+
+    /// Whether reading may take memory.
+    ghost takes_memory: { Bool };
+}
+
+/// A type whose grammars and strict parts are lawful.
+pub trait LawfulItem: Grammar {
+    /// Words, bodies and strict parts have values of the type.
+    ghost ber_values: { (o : List ℕ) (v : Self.Value) → Self.Ber o v → Self.IsValue v };
+
+    ghost der_values: { (o : List ℕ) (v : Self.Value) → Self.Der o v → Self.IsValue v };
+
+    ghost body_values: { (p : Parts) (v : Self.Value) → IsOctets p.content → Self.Body p v → Self.IsValue v };
+
+    ghost form_values: { HasValues Self.Form Self.IsValue };
+
+    /// No word is empty, and two words that begin one input are the same and have one value.
+    ghost ber_one: { IsOneFront Self.Ber };
+
+    ghost der_one: { IsOneFront Self.Der };
+
+    /// An element's parts have one value.
+    ghost body_one: { IsOneBody Self.Body };
+
+    /// A value has one strict encoding, and this has one value.
+    ghost one_form: { IsOneForm Self.Form };
+
+    ghost one_value: { IsOneValue Self.Form };
+
+    /// Strict parts fit an element.
+    ghost form_fits: { FitsElement Self.Form };
+
+    /// A strict encoding is a word with its value.
+    ghost strict_ber: { (v : Self.Value) (o : List ℕ) → IsStrict Self.Form v o → Self.Ber o v };
+
+    ghost strict_der: { (v : Self.Value) (o : List ℕ) → IsStrict Self.Form v o → Self.Der o v };
+}
+
+/// The conversion of an element is exact: it finds the value of the body, and refuses only where there is none.
+pub trait LawfulBody<'a, E: From<Error>>: FromAny<'a, Error = E> + LawfulItem {
+    ghost body_exact: { (p : Parts) (answer : Result Self E) → IsOctets p.content → Self.any_gives p answer → TakesBody Self.Body Self.value Self.takes_memory E.from_gives p answer };
+
+    /// The strict parts of a value have it as their body.
+    ghost form_body: { FormBodies Self.Form Self.Body };
+
+    /// The words by BER are the elements by BER that have a body.
+    ghost ber_split: { (o : List ℕ) (v : Self.Value) → Self.Ber o v → BerWord Self.Body o v };
+
+    ghost ber_join: { (o : List ℕ) (v : Self.Value) → BerWord Self.Body o v → Self.Ber o v };
+}
+
+/// The check of an element is exact, and the strict parts of a value pass it.
+pub trait LawfulCheck: CheckDerConstraints + LawfulItem {
+    ghost check_exact: { (p : Parts) (answer : Result (Unit {0}) Fault) → Self.check_gives p answer → Checks Self.Check p answer };
+
+    ghost form_check: { FormChecks Self.Form Self.Check };
+}
+
+/// The words by DER are the elements of definite length that pass the check and have a body.
+pub trait LawfulAuto: LawfulCheck + DerAutoDerive {
+    ghost der_split: { (o : List ℕ) (v : Self.Value) → Self.Der o v → DerWord Self.Check Self.Body o v };
+
+    ghost der_join: { (o : List ℕ) (v : Self.Value) → DerWord Self.Check Self.Body o v → Self.Der o v };
+}
+
+/// The reader by BER is exact: Ok where a word by BER begins the input, and a final refusal else.
+pub trait LawfulBer<'a, E: From<Error>>: FromBer<'a, E> + LawfulItem {
+    ghost ber_exact: { (input : List ℕ) (answer : Result (List ℕ × Self) (Refusal E)) → IsOctets input → Self.ber_gives input answer → Exactly EndsWithin Self.Ber Self.value (TellsMemory Self.takes_memory E.from_gives) input answer };
+}
+
+/// The reader by DER is exact: Ok where a word by DER begins the input, and a final refusal else.
+pub trait LawfulDer<'a, E: From<Error>>: FromDer<'a, E> + LawfulItem {
+    ghost der_exact: { (input : List ℕ) (answer : Result (List ℕ × Self) (Refusal E)) → IsOctets input → Self.der_gives input answer → Exactly IsCutIdentifier Self.Der Self.value (TellsMemory Self.takes_memory E.from_gives) input answer };
+}
+
+/// What is written follows from the value, and is its strict encoding where it has one.
+pub trait LawfulWrite: ToDer + LawfulItem {
+    ghost tells_all: { (x : Self) → Self.tells x };
+
+    ghost by_value: { WritesByValue Self.value Self.constructed Self.header Self.content };
+
+    ghost form: { WritesForm Self.value Self.Form Self.is_writable Self.constructed Self.header Self.content };
+}
+
+/// The strict parts have the type's tag number, and pass check and body with class `K` in place of their own.
+///
+/// So an implicit tag of class `K` over the type is lawful.
+pub trait TakesClass<const K: u8>: LawfulItem + Tagged {
+    ghost takes_class: { FormTakes Self.Form Self.Check Self.Body K (Self.mark).0 };
+}
+
+/// Two items are equal exactly where their values are, so they can be members of a set.
+pub trait LawfulMember: LawfulItem + Eq {
+    ghost same: { (x y : Self) → IsTrue (Self.eq x y) ↔ (Self.value x ≡ Self.value y) };
+}
+
+/// Reads a value of a lawful type by DER.
+///
+/// Ok exactly where a word of the type's grammar begins the octets. A refusal is final: no word begins them, whatever
+/// follows of which the refusal speaks. The strict encoding of a value is read back before any rest.
+pub fn read_der<'a, T: LawfulDer<'a, E>, E: From<Error>>(
+    alloc: Global,
+    bytes: &'a [u8],
+) -> ParseResult<'a, T, E>
+    ensures exact { Exactly IsCutIdentifier T.Der T.value (TellsMemory T.takes_memory E.from_gives) bytes.now (seen result) }
+    ensures back { (v : T.Value) (w rest : List ℕ) → IsStrict T.Form v w → bytes.now ≡ w ++ rest → ReadsBack T.value (TellsMemory T.takes_memory E.from_gives) v rest (seen result) }
+    ensures gives { T.der_gives bytes.now (seen result) }
+{
+    T::from_der(alloc, bytes)
+}
+
+/// Appends the one strict encoding of a value in DER form.
+///
+/// No other value has it, and it begins no other one. For other values the answer is that of `write_der`.
+pub fn write_strict<T: LawfulWrite, W: DerWrite>(
+    x: &T,
+    alloc: Global,
+    w: &mut W,
+) -> SerializeResult<usize>
+    ensures wrote { (o : List ℕ) → IsStrict T.Form (T.value x.now) o → Wrote o (W.told w.old) (W.told w.new) (W.failed w.old) (W.failed w.new) result }
+    ensures refused { (o : List ℕ) → IsStrict T.Form (T.value x.now) o → IfErr result (MayRefuse (T.count_takes_memory || T.content_takes_memory) (length o)) }
+    ensures one { (o p : List ℕ) → IsStrict T.Form (T.value x.now) o → IsStrict T.Form (T.value x.now) p → o ≡ p }
+    ensures apart { (o p r s : List ℕ) (v w : T.Value) → IsStrict T.Form v o → IsStrict T.Form w p → o ++ r ≡ p ++ s → (o ≡ p) × (v ≡ w) × (r ≡ s) }
+    ensures headline { (o : List ℕ) → IsStrict T.Form (T.value x.now) o → length o < 2 ^ 64 → W.failed w.new ≡ false →
+        MatchResult result (λ n. Appends (W.told w.old) (W.told w.new) o × (n ≡ length o)) (λ e. (e ≡ refusals.OutOfMemory) × IsTrue (T.count_takes_memory || T.content_takes_memory)) }
+{
+    x.write_der(alloc, w)
+}

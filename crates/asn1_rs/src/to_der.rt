@@ -1,0 +1,167 @@
+//! The trait of values that are written by DER.
+ghost use Rattle.std.specs.Prelude.{◌≡◌, ◌++◌, ◌||◌, ℕ, Bool, true, false, List, [], length, Option, None, IfSome, IfOk, IfErr, Err};
+ghost use Rattle.std.specs.Io.KnownBytes.{Appends};
+ghost use Rattle.asn1_rs.specs.Wrote.{Wrote, MayRefuse, MayRefuseCount, SumsWritten, SumsCounts, RefusedAtOnce, written_refusal, tells_of_io};
+ghost use Rattle.asn1_rs.specs.declared.error.SerializeError.{SerializeError as Unwritten};
+ghost use Rattle.asn1_rs.specs.declared.error.Error.{Error as Uncounted};
+
+use crate::error::{Error, SerializeError, SerializeResult};
+use crate::traits::DynTagged;
+use crate::writer::{DerWrite, Told};
+use std::alloc::Global;
+
+/// The sum of two numbers of octets that were written.
+pub(crate) fn add_written(before: usize, after: usize) -> SerializeResult<usize>
+    ensures { SumsWritten before after result }
+{
+    before
+        .checked_add(after)
+        .ok_or(SerializeError::InvalidLength)
+}
+
+/// The sum of two counts.
+pub(crate) fn add_counts(before: usize, after: usize) -> Result<usize, Error>
+    ensures { SumsCounts before after result }
+{
+    before.checked_add(after).ok_or(Error::InvalidLength)
+}
+
+/// What a refused count makes of a writing: a length past `usize` and want of memory have refusals of their own.
+pub(crate) fn refusal_of_count(e: Error) -> SerializeError
+    ensures { result ≡ written_refusal e }
+{
+    match e {
+        Error::InvalidLength => SerializeError::InvalidLength,
+        Error::OutOfMemory => SerializeError::OutOfMemory,
+        e => SerializeError::ASN1Error(e),
+    }
+}
+
+/// Want of memory in the place of a writer's failure.
+fn without_io(e: SerializeError) -> SerializeError
+    ensures refused { (n : ℕ) (takes_memory : Bool) → MayRefuse takes_memory n e → MayRefuse true n result }
+    ensures io { tells_of_io result ≡ false }
+    ensures same { tells_of_io e ≡ false → result ≡ e }
+{
+    match e {
+        SerializeError::IOError(_) => SerializeError::OutOfMemory,
+        e => e,
+    }
+}
+
+/// A value that is written by DER.
+///
+/// The ghost members tell what is written for a value. A type that leaves them out is written all the same, and
+/// nothing is claimed of it.
+pub trait ToDer: DynTagged {
+    /// The other members tell what is written for this value.
+    ghost tells: { Self → Type 0 } = { λ _. ⊥ };
+
+    /// The value has an encoding, in DER form or not: nothing but its writer, its length and want of memory can refuse it.
+    ghost is_writable: { Self → Type 0 } = { λ _. ⊥ };
+
+    /// The octets of its header.
+    ghost header: { Self → List ℕ } = { λ _. [] };
+
+    /// Its contents octets.
+    ghost content: { Self → List ℕ } = { λ _. [] };
+
+    /// The constructed bit of its encoding.
+    ghost constructed: { Self → Bool } = { λ _. false };
+
+    /// The refusal of its counts, where it has one.
+    ghost count_refusal: { Self → Option Uncounted } = { λ _. None };
+
+    /// The refusal of its header, and so of the whole, before anything is appended, where it has one.
+    ghost header_refusal: { Self → Option Unwritten } = { λ _. None };
+
+    /// The refusal of its contents octets, before anything is appended, where it has one.
+    ghost content_refusal: { Self → Option Unwritten } = { λ _. None };
+
+    /// The raw form is the DER form.
+    ghost raw_is_der: { Self → Type 0 } = { λ _. Unit {0} };
+
+    /// Counting may take memory, and so may writing the header.
+    ghost count_takes_memory: { Bool } = { true };
+
+    /// Writing the contents octets may take memory.
+    ghost content_takes_memory: { Bool } = { true };
+
+    /// How many octets `write_der` appends.
+    fn to_der_len(&self) -> Result<usize, Error>
+        ensures count { tells self.now → IfOk result (λ n. n ≡ length (header self.now ++ content self.now)) }
+        ensures writable { tells self.now → is_writable self.now → IfErr result (MayRefuseCount count_takes_memory (length (header self.now ++ content self.now))) }
+        ensures refused { IfSome (count_refusal self.now) (λ e. result ≡ Err e) };
+
+    /// How many contents octets are appended.
+    fn der_content_len(&self) -> Result<usize, Error>
+        ensures count { tells self.now → IfOk result (λ n. n ≡ length (content self.now)) }
+        ensures writable { tells self.now → is_writable self.now → IfErr result (MayRefuseCount count_takes_memory (length (content self.now))) }
+        ensures refused { IfSome (count_refusal self.now) (λ e. result ≡ Err e) };
+
+    /// The constructed bit of the encoding. Most types answer whether their tag is that of sequence or set.
+    fn der_constructed(&self) -> bool
+        ensures { tells self.now → result ≡ constructed self.now };
+
+    /// Appends the identifier octets and the length octets, and answers their number.
+    fn write_der_header<W: DerWrite>(&self, alloc: Global, w: &mut W) -> SerializeResult<usize>
+        ensures wrote { tells self.now → Wrote (header self.now) (W.told w.old) (W.told w.new) (W.failed w.old) (W.failed w.new) result }
+        ensures writable { tells self.now → is_writable self.now → IfErr result (MayRefuse count_takes_memory (length (header self.now ++ content self.now))) }
+        ensures refused { IfSome (header_refusal self.now) (λ e. RefusedAtOnce e (W.told w.old) (W.told w.new) (W.failed w.old) (W.failed w.new) result) };
+
+    /// Appends the contents octets, and answers their number.
+    fn write_der_content<W: DerWrite>(&self, alloc: Global, w: &mut W) -> SerializeResult<usize>
+        ensures wrote { tells self.now → Wrote (content self.now) (W.told w.old) (W.told w.new) (W.failed w.old) (W.failed w.new) result }
+        ensures writable { tells self.now → is_writable self.now → IfErr result (MayRefuse content_takes_memory (length (content self.now))) }
+        ensures refused { IfSome (content_refusal self.now) (λ e. RefusedAtOnce e (W.told w.old) (W.told w.new) (W.failed w.old) (W.failed w.new) result) };
+
+    /// Appends the encoding, and answers its length.
+    ///
+    /// Refused with `IOError` only where the writer failed, or was marked before; with `InvalidLength` only where the
+    /// length passes `usize`. After a refusal a beginning of the encoding was appended.
+    fn write_der<W: DerWrite>(&self, alloc: Global, w: &mut W) -> SerializeResult<usize>
+        ensures wrote { tells self.now → Wrote (header self.now ++ content self.now) (W.told w.old) (W.told w.new) (W.failed w.old) (W.failed w.new) result }
+        ensures writable { tells self.now → is_writable self.now → IfErr result (MayRefuse (count_takes_memory || content_takes_memory) (length (header self.now ++ content self.now))) }
+        ensures refused { IfSome (header_refusal self.now) (λ e. RefusedAtOnce e (W.told w.old) (W.told w.new) (W.failed w.old) (W.failed w.new) result) }
+    {
+        let before = self.write_der_header(alloc, w)?;
+        let after = self.write_der_content(alloc, w)?;
+        add_written(before, after)
+    }
+
+    /// Appends the encoding as it was read, where the type keeps that; else as `write_der`.
+    fn write_der_raw<W: DerWrite>(&self, alloc: Global, w: &mut W) -> SerializeResult<usize>
+        ensures der { tells self.now → raw_is_der self.now → Wrote (header self.now ++ content self.now) (W.told w.old) (W.told w.new) (W.failed w.old) (W.failed w.new) result }
+        ensures counted { tells self.now → IfOk result (λ n. (raw : List ℕ) × Appends (W.told w.old) (W.told w.new) raw × (n ≡ length raw)) }
+        ensures refused { IfSome (header_refusal self.now) (λ e. RefusedAtOnce e (W.told w.old) (W.told w.new) (W.failed w.old) (W.failed w.new) result) }
+    {
+        self.write_der(alloc, w)
+    }
+
+    /// The encoding in a vector. Want of memory is `OutOfMemory`, and never an `IOError`.
+    fn to_der_vec(&self, alloc: Global) -> SerializeResult<Vec<u8>>
+        ensures wrote { tells self.now → IfOk result (λ octets. octets.items ≡ header self.now ++ content self.now) }
+        ensures writable { tells self.now → is_writable self.now → IfErr result (MayRefuse true (length (header self.now ++ content self.now))) }
+        ensures memory { IfErr result (λ e. tells_of_io e ≡ false) }
+        ensures refused { IfSome (header_refusal self.now) (λ e. tells_of_io e ≡ false → result ≡ Err e) }
+    {
+        let mut w = Told::new(Vec::new(alloc));
+        match self.write_der(alloc, &mut w) {
+            Ok(_) => Ok(w.into_inner()),
+            Err(e) => Err(without_io(e)),
+        }
+    }
+
+    /// The raw form in a vector.
+    fn to_der_vec_raw(&self, alloc: Global) -> SerializeResult<Vec<u8>>
+        ensures der { tells self.now → raw_is_der self.now → IfOk result (λ octets. octets.items ≡ header self.now ++ content self.now) }
+        ensures memory { IfErr result (λ e. tells_of_io e ≡ false) }
+        ensures refused { IfSome (header_refusal self.now) (λ e. tells_of_io e ≡ false → result ≡ Err e) }
+    {
+        let mut w = Told::new(Vec::new(alloc));
+        match self.write_der_raw(alloc, &mut w) {
+            Ok(_) => Ok(w.into_inner()),
+            Err(e) => Err(without_io(e)),
+        }
+    }
+}

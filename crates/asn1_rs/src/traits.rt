@@ -1,0 +1,117 @@
+//! The traits of readers, and of types with a tag.
+ghost use Rattle.std.specs.Prelude.{◌≡◌, ℕ, List, Result};
+ghost use Rattle.x690.specs.Elements.{Parts};
+ghost use Rattle.asn1_rs.specs.declared.tag.Tag.{Tag as Number};
+ghost use Rattle.asn1_rs.specs.declared.error.Err.{Err as Refusal};
+ghost use Rattle.asn1_rs.specs.declared.error.Error.{Error as Fault};
+ghost use Rattle.asn1_rs.specs.Answers.{seen};
+ghost use Rattle.asn1_rs.specs.Any.{parts_of};
+
+use crate::asn1_types::any::Any;
+use crate::error::{Error, ParseResult};
+use crate::tag::Tag;
+use std::alloc::Global;
+
+/// The reader by BER, as a type.
+#[derive(Debug, Clone, Copy)]
+pub struct BerParser;
+
+/// The reader by DER, as a type.
+#[derive(Debug, Clone, Copy)]
+pub struct DerParser;
+
+/// A reader, as a type.
+pub trait ASN1Parser {}
+
+impl ASN1Parser for BerParser {}
+
+impl ASN1Parser for DerParser {}
+
+/// A type whose elements have one tag number.
+pub trait Tagged {
+    /// The tag number.
+    const TAG: Tag;
+
+    /// The tag number, as contracts name it.
+    ghost mark: { Number };
+
+    /// The tag number, as contracts name it.
+    fn its_tag() -> Tag
+        ensures { result ≡ mark };
+}
+
+/// A value that has a tag number, which its type need not know.
+pub trait DynTagged {
+    /// The tag number of the value.
+    ghost dyn_tag: { Self → Number };
+
+    /// The tag number.
+    fn tag(&self) -> Tag
+        ensures { result ≡ dyn_tag self.now };
+}
+
+impl<T: Tagged> DynTagged for T {
+    ghost dyn_tag = { λ _. T.mark };
+
+    fn tag(&self) -> Tag {
+        T::its_tag()
+    }
+}
+
+impl<T: Tagged> Tagged for &T {
+    const TAG: Tag = T::TAG;
+
+    ghost mark = { T.mark };
+
+    fn its_tag() -> Tag {
+        T::its_tag()
+    }
+}
+
+/// A type that an element converts to.
+///
+/// A type with this conversion is read by BER; one that checks its constraints too and has [`DerAutoDerive`] is read by DER.
+pub trait FromAny<'a>: Sized {
+    /// Why an element is refused.
+    type Error;
+
+    /// What the conversion may answer to an element of these parts. Left out, nothing is claimed of it.
+    ghost any_gives: { Parts → Result Self Self.Error → Type 0 } = { λ _ _. Unit {0} };
+
+    /// The value of the element.
+    fn try_from_any(alloc: Global, any: Any<'a>) -> Result<Self, Self::Error>
+        ensures { any_gives (parts_of any.entry) result };
+}
+
+/// A type that is read by BER.
+pub trait FromBer<'a, E>: Sized {
+    /// What the reader may answer to these octets. Left out, nothing is claimed of it.
+    ghost ber_gives: { List ℕ → Result (List ℕ × Self) (Refusal E) → Type 0 } = { λ _ _. Unit {0} };
+
+    /// Reads a value at the front of the octets, by BER, and answers what follows it.
+    fn from_ber(alloc: Global, bytes: &'a [u8]) -> ParseResult<'a, Self, E>
+        ensures { ber_gives bytes.now (seen result) };
+}
+
+/// A type that is read by DER.
+pub trait FromDer<'a, E>: Sized {
+    /// What the reader may answer to these octets. Left out, nothing is claimed of it.
+    ghost der_gives: { List ℕ → Result (List ℕ × Self) (Refusal E) → Type 0 } = { λ _ _. Unit {0} };
+
+    /// Reads a value at the front of the octets, by DER, and answers what follows it.
+    fn from_der(alloc: Global, bytes: &'a [u8]) -> ParseResult<'a, Self, E>
+        ensures { der_gives bytes.now (seen result) };
+}
+
+/// A type whose elements keep constraints by DER (X.690, sections 10 and 11).
+pub trait CheckDerConstraints {
+    /// What the check may answer at an element of these parts. Left out, nothing is claimed of it.
+    ghost check_gives: { Parts → Result (Unit {0}) Fault → Type 0 } = { λ _ _. Unit {0} };
+
+    /// Refuses an element that breaks a constraint. It takes no memory.
+    fn check_constraints(any: &Any<'_>) -> Result<(), Error>
+        ensures { check_gives (parts_of any.now) result };
+}
+
+/// Marks a type that is read by DER as an element that is checked and then converted.
+pub trait DerAutoDerive {}

@@ -1,0 +1,69 @@
+-- Digits and first octets written into places.
+use Rattle.std.proofs.Common.{◌≡◌, ℕ, ◌+◌, ◌/◌, ◌%◌, ◌<◌, ◌≤◌, List, [], ◌∷◌, ◌++◌, length, map, take, drop, refl, sym, ap, ◌∙◌, arith, inl, inr, append_assoc, length-append, length-drop, zero-add}
+use Rattle.std.proofs.Math.ListN.{set, length-set}
+use Rattle.std.proofs.Math.Seq.{take-append-add}
+use Rattle.std.proofs.Math.Nat.{pow-zero}
+use Rattle.std.specs.Int.Digits.{digits_of}
+use Rattle.std.proofs.lemmas.Bool.{cases_lt}
+use Rattle.std.proofs.lemmas.Int.Digits.{digits_of_step, length-digits_of_step, length-digits_of-le}
+use Rattle.std.proofs.lemmas.List.{map_push, drop-set, take_more_set, length-take, take-append-le}
+use Rattle.std.proofs.lemmas.Slice.{take-put_mid}
+use borrow.Rule.Slice.PartMut.{put_mid}
+
+-- a number with digits is not 0
+some_number : (base n : ℕ) → 2 ≤ base → 1 ≤ length (digits_of base n) → 0 < n
+some_number base n two some = elim (cases_lt 0 n) [
+  | inl p ↦ p
+  | inr p ↦ absurd (omega (arith, length-digits_of-le base 0 n two (rw (pow-zero base) (omega arith))))
+]
+
+-- with a mark on each
+abbrev pub add_mark : ℕ → ℕ → ℕ
+add_mark mark digit = mark + digit
+
+-- the last digit that is left is written in front of those that are there
+pub digit_step : (base n p mark : ℕ) (out all : List ℕ) → 2 ≤ base → p < length out → p + 1 ≡ length (digits_of base n) → map (add_mark mark) (digits_of base n) ++ drop (p + 1) out ≡ all →
+    (p ≡ length (digits_of base (n / base))) × (map (add_mark mark) (digits_of base (n / base)) ++ drop p (set out p (mark + n % base)) ≡ all)
+digit_step base n p mark out all two within places written =
+    let some = some_number base n two (omega arith) in
+    let l = length-digits_of_step base n two some in
+    let digits : map (add_mark mark) (digits_of base n) ≡ map (add_mark mark) (digits_of base (n / base)) ++ (mark + n % base) ∷ [] =
+    ap (map (add_mark mark)) (digits_of_step base n two some) ∙ map_push (add_mark mark) (digits_of base (n / base)) (n % base) in (
+      omega arith,
+      ap (λ (ys : List ℕ). map (add_mark mark) (digits_of base (n / base)) ++ ys) (drop-set out p (mark + n % base) within)
+          ∙ sym (append_assoc (map (add_mark mark) (digits_of base (n / base))) ((mark + n % base) ∷ []) (drop (p + 1) out))
+          ∙ ap (λ (ys : List ℕ). ys ++ drop (p + 1) out) (sym digits)
+          ∙ written,
+    )
+
+pub no_mark : (ds : List ℕ) → map (add_mark 0) ds ≡ ds
+no_mark [] = refl
+no_mark (d ∷ ds) = let e : 0 + d ≡ d = zero-add d in let r = no_mark ds in cc
+
+-- the first octet alone
+pub first_alone : (xs : List ℕ) (v : ℕ) → 1 ≤ length xs → take 1 (set xs 0 v) ≡ v ∷ []
+first_alone [] v h = absurd (omega arith)
+first_alone (x ∷ xs) v h = refl
+
+pub put_length : (j : ℕ) (xs ys : List ℕ) → length ys ≡ j → 1 + j ≤ length xs → length (put_mid 1 j xs ys) ≡ length xs
+put_length j xs ys e h = simp (length-append, length-take, length-drop) (omega arith)
+
+-- the first octet, and those that were written after it
+pub after_first : (j k v : ℕ) (xs ys : List ℕ) → 1 ≤ length xs → length ys ≡ k → take (1 + k) (put_mid 1 j (set xs 0 v) ys) ≡ v ∷ ys
+after_first j k v xs ys h e =
+    take-put_mid 1 j (set xs 0 v) ys (1 + k) (omega arith) (omega (arith, length-set xs 0 v)) ∙ ap (λ (zs : List ℕ). zs ++ ys) (first_alone xs v h)
+
+-- and one last octet
+pub and_last : (j k v w : ℕ) (xs ys : List ℕ) → j ≡ k → 2 + k ≤ length xs → length ys ≡ k → take (2 + k) (set (put_mid 1 j (set xs 0 v) ys) (1 + k) w) ≡ v ∷ (ys ++ w ∷ [])
+and_last j k v w xs ys i h e =
+    let whole : List ℕ = put_mid 1 j (set xs 0 v) ys in
+    let l = put_length j (set xs 0 v) ys (omega arith) (omega (arith, length-set xs 0 v)) in
+    let n : 2 + k ≡ 1 + k + 1 = omega arith in
+    ap (λ m. take m (set whole (1 + k) w)) n
+    ∙ take_more_set whole (1 + k) w (omega (arith, length-set xs 0 v))
+    ∙ ap (λ (zs : List ℕ). zs ++ w ∷ []) (after_first j k v xs ys (omega arith) e)
+
+-- what is written at the front, and then what is written after it
+pub both_fronts : (a b : ℕ) (xs ys zs : List ℕ) → length xs ≡ a → b ≤ length ys → take (a + b) (xs ++ (ys ++ zs)) ≡ xs ++ take b ys
+both_fronts a b xs ys zs e h =
+    ap (λ n. take (n + b) (xs ++ (ys ++ zs))) (sym e) ∙ take-append-add xs (ys ++ zs) b ∙ ap (λ (ws : List ℕ). xs ++ ws) (take-append-le b ys zs h)

@@ -1,0 +1,56 @@
+-- Strict elements: one for each identifier and content, and one alone begins an input.
+use Rattle.std.proofs.Common.{◌≡◌, ℕ, ◌<◌, ◌^◌, List, ◌++◌, length, refl, sym, ap, ◌∙◌, append_assoc}
+use Rattle.x690.specs.Octets.{IsOctets}
+use Rattle.x690.specs.Identifiers.{Identifier}
+use Rattle.x690.specs.Lengths.{definite}
+use Rattle.x690.specs.Elements.{Parts, IsDefiniteElement, IsStrictElement}
+use Rattle.x690.specs.Strict.{identifier_octets, length_octets, header_octets}
+use Rattle.x690.specs.Laws.StrictIdentifiers.{strict_identifier, only_strict_identifier}
+use Rattle.x690.specs.Laws.StrictLengths.{strict_length, only_strict_length, length_fits}
+use Rattle.x690.specs.Laws.StrictHeaders.{header_octets_are}
+use Rattle.x690.specs.Laws.Elements.{definite_element_unique}
+
+-- the strict element, as a function
+abbrev pub element_octets : Identifier → List ℕ → List ℕ
+element_octets i c = header_octets i.class i.constructed i.number (length c) ++ c
+
+-- the parts of an element of definite length
+abbrev pub definite_parts : Identifier → List ℕ → Parts
+definite_parts i c = record { id = i; form = definite (length c); content = c }
+
+pub strict_element_octets : (o : List ℕ) (i : Identifier) (c : List ℕ) → IsStrictElement o i c → o ≡ element_octets i c
+strict_element_octets o i c s =
+    let e = only_strict_identifier i s.identifier s.identifier_is in
+    let f = only_strict_length (length c) s.count s.count_is in
+    s.is ∙ sym (append_assoc s.identifier s.count c) ∙ ap (λ (z : List ℕ). (z ++ s.count) ++ c) e ∙ ap (λ (z : List ℕ). (identifier_octets i ++ z) ++ c) f
+    ∙ ap (λ (z : List ℕ). z ++ c) (sym (header_octets_are i.class i.constructed i.number (length c)))
+
+pub made_strict_element : (i : Identifier) (c : List ℕ) → i.class < 4 → i.number < 2 ^ 32 → length c < 2 ^ 64 → IsOctets c → IsStrictElement (element_octets i c) i c
+made_strict_element i c k n l o = record {
+  identifier = identifier_octets i;
+  count = length_octets (length c);
+  identifier_is = strict_identifier i k n;
+  count_is = strict_length (length c) l;
+  content_octets = o;
+  is = ap (λ (z : List ℕ). z ++ c) (header_octets_are i.class i.constructed i.number (length c)) ∙ append_assoc (identifier_octets i) (length_octets (length c)) c;
+}
+
+pub strict_content_fits : (o : List ℕ) (i : Identifier) (c : List ℕ) → IsStrictElement o i c → length c < 2 ^ 64
+strict_content_fits o i c s = length_fits (length c) s.count s.count_is.lenient
+
+pub strict_is_definite : (o : List ℕ) (i : Identifier) (c : List ℕ) → IsStrictElement o i c → IsDefiniteElement o (definite_parts i c)
+strict_is_definite o i c s = record {
+  header = s.identifier ++ s.count;
+  header_is = record { identifier = s.identifier; count = s.count; is = refl; identifier_is = s.identifier_is.0; count_is = s.count_is.lenient; allowed = tt };
+  counted = refl;
+  content_octets = s.content_octets;
+  is = s.is ∙ sym (append_assoc s.identifier s.count c);
+}
+
+pub strict_element_one : (o p : List ℕ) (i : Identifier) (c : List ℕ) → IsStrictElement o i c → IsStrictElement p i c → o ≡ p
+strict_element_one o p i c s t = strict_element_octets o i c s ∙ sym (strict_element_octets p i c t)
+
+pub strict_element_unique : (o p r s : List ℕ) (i j : Identifier) (c d : List ℕ) → IsStrictElement o i c → IsStrictElement p j d → o ++ r ≡ p ++ s → (o ≡ p) × (i ≡ j) × (c ≡ d) × (r ≡ s)
+strict_element_unique o p r s i j c d x y e =
+    let u = definite_element_unique o p r s (definite_parts i c) (definite_parts j d) (strict_is_definite o i c x) (strict_is_definite p j d y) e in
+    (u.0, ap (λ (z : Parts). z.id) u.1, ap (λ (z : Parts). z.content) u.1, u.2)

@@ -1,0 +1,91 @@
+//! Contents octets of integers (X.690 8.3).
+
+ghost use Rattle.std.specs.Prelude.{ℕ, ◌≡◌, ◌<◌, ◌≤◌, ◌^◌, List, length, get_or, drop, pos, ℤ, IfSome, IfNone, IsTrue, ◌↔◌};
+ghost use Rattle.x690.specs.Digits.{base_256_value};
+ghost use Rattle.x690.specs.Integers.{HasSpareZeros, HasSpareOnes, IsIntegerContent, HasNoLeadingZero, unsigned_octets};
+
+/// The octets behind the leading zeros, which say the same number.
+fn without_leading_zeros(octets: &[u8]) -> &[u8]
+    ensures value { base_256_value result.now ≡ base_256_value octets.now }
+    ensures first { HasNoLeadingZero result.now }
+{
+    let mut rest = octets;
+    while let Some((first, others)) = rest.split_first() {
+        if *first != 0 {
+            return rest;
+        }
+        rest = others;
+    }
+    rest
+}
+
+/// The number whose digits in base 256 the octets are, with any leading zeros. There is none exactly where it
+/// does not fit in `most` octets.
+pub fn unsigned_number(octets: &[u8], most: usize) -> Option<u128>
+    requires { most ≤ 16 }
+    ensures some { IfSome result (λ number. number ≡ base_256_value octets.now) }
+    ensures fits { IfSome result (λ number. number < 256 ^ most) }
+    ensures none { IfNone result (256 ^ most ≤ base_256_value octets.now) }
+{
+    let digits = without_leading_zeros(octets);
+    if digits.len() > most {
+        return None;
+    }
+    let mut number: u128 = 0;
+    for octet in digits {
+        number = number * 256 + u128::from(*octet);
+    }
+    Some(number)
+}
+
+/// How many octets the strict contents octets of a natural number are.
+pub fn unsigned_octets_count(n: u128) -> usize
+    ensures count { result ≡ length (unsigned_octets n) }
+    ensures few { result ≤ 17 }
+{
+    let mut count = 1;
+    let mut left = n;
+    while left >= 128 {
+        left /= 256;
+        count += 1;
+    }
+    count
+}
+
+/// Writes the strict contents octets of a natural number to the end of the array, and says where they begin.
+pub fn unsigned_into(n: u128, out: &mut [u8; 17]) -> usize
+    ensures octets { drop result out.new ≡ unsigned_octets n }
+    ensures within { result ≤ 16 }
+{
+    let mut at = 16;
+    let mut left = n;
+    while left >= 128 {
+        out[at] = (left % 256) as u8;
+        left /= 256;
+        at -= 1;
+    }
+    out[at] = left as u8;
+    at
+}
+
+/// Whether the first nine bits are all zero, which X.690 8.3.2 forbids.
+pub fn has_spare_zeros(octets: &[u8]) -> bool
+    ensures { IsTrue result ↔ HasSpareZeros octets.now }
+{
+    octets.len() >= 2 && octets[0] == 0 && octets[1] < 128
+}
+
+/// Whether the first nine bits are all one, which X.690 8.3.2 forbids.
+pub fn has_spare_ones(octets: &[u8]) -> bool
+    ensures { IsTrue result ↔ HasSpareOnes octets.now }
+{
+    octets.len() >= 2 && octets[0] == 255 && octets[1] >= 128
+}
+
+/// Each natural number has strict contents octets, no integer has two, and strict contents octets are those of
+/// one integer alone (X.690 8.3.2, 8.3.3).
+pub fn integers_have_one_content()
+    ensures exists { (n : ℕ) → IsIntegerContent (pos n) (unsigned_octets n) }
+    ensures no_other { (n : ℤ) (c d : List ℕ) → IsIntegerContent n c → IsIntegerContent n d → c ≡ d }
+    ensures one_value { (m n : ℤ) (c : List ℕ) → IsIntegerContent m c → IsIntegerContent n c → m ≡ n }
+{}
