@@ -1,3 +1,4 @@
+pub mod Names
 pub mod Request
 pub mod Lines
 pub mod Answer

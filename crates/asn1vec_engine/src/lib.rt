@@ -3,6 +3,7 @@
 
 mod answer;
 mod engine;
+mod names;
 mod request;
 
 pub use engine::{RunError, run};
