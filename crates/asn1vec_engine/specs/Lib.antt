@@ -1,4 +1,5 @@
 pub mod Names
+pub mod Shown
 pub mod Request
 pub mod Lines
 pub mod Answer

@@ -5,5 +5,6 @@ mod answer;
 mod engine;
 mod names;
 mod request;
+mod shown;
 
 pub use engine::{RunError, run};
