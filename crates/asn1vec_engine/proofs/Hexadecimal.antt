@@ -130,3 +130,19 @@ decodes_where_stands [] digits other h = absurd (other h)
 decodes_where_stands (octet ∷ octets) digits other h =
     let n = even_digits (octet ∷ octets) digits h in
     decode_of-even digits (omega (arith, n)) ∙ decodes (octet ∷ octets) digits 0 h
+
+-- no octet stands behind `-`
+not_digits : (octet : ℕ) (octets digits : List ℕ) → StandsFor (octet ∷ octets) digits → digits ≡ codes "-" → ⊥
+not_digits octet octets digits h e =
+    let n = even_digits (octet ∷ octets) digits h in
+    let one = ap length e in
+    omega (arith, n, one)
+
+-- digits stand for one string of octets
+pub one_meaning : (octets others digits : List ℕ) → StandsFor octets digits → StandsFor others digits → octets ≡ others
+one_meaning [] [] digits h k = refl
+one_meaning [] (x ∷ others) digits h k = absurd (not_digits x others digits k h)
+one_meaning (x ∷ octets) [] digits h k = absurd (not_digits x octets digits h k)
+one_meaning (x ∷ octets) (y ∷ others) digits h k =
+    let same = sym (decodes (x ∷ octets) digits 0 h) ∙ decodes (y ∷ others) digits 0 k in
+    ap (λ (r : Result (List ℕ) FromHexError). result_unwrap_or r []) same

@@ -4,7 +4,8 @@ use Rattle.std.specs.List.{AllByRecursion, All}
 use Rattle.std.proofs.lemmas.List.Elements.{recursion_from_All}
 use Rattle.asn1vec_engine.specs.declared.request.Rule.{Rule}
 use Rattle.asn1vec_engine.specs.declared.request.Rule.TheVariants.{Ber, Der}
-use Rattle.asn1vec_engine.specs.Request.{IsOtherForm, StandsFor, BeginsWithRule}
+use Rattle.asn1vec_engine.specs.Request.{IsRequest, IsOtherForm, StandsFor, BeginsWithRule}
+use Rattle.asn1vec_engine.proofs.Hexadecimal.{one_meaning}
 
 abbrev IsWord : List ℕ → Type 0
 IsWord text = AllByRecursion (λ x. x ≢ 32) text
@@ -49,3 +50,10 @@ without_octets line rest word digits a begins split spaceless none rule name oct
     let same = one_rule line rest (name ++ 32 ∷ r.digits) a rule begins r.parts in
     let parts = one_word word digits name r.digits (recursion_from_All _ _ spaceless) (recursion_from_All _ _ r.one_word) (sym split ∙ same.1) in
     none octets (subst (StandsFor octets) (sym parts.1) r.stands)
+
+-- a line asks for one thing
+pub requests_same : (line name other octets others : List ℕ) (rule second : Rule) → IsRequest line rule name octets → IsRequest line second other others → (rule ≡ second) × (name ≡ other) × (octets ≡ others)
+requests_same line name other octets others rule second r s =
+    let begins = one_rule line (name ++ 32 ∷ r.digits) (other ++ 32 ∷ s.digits) rule second r.parts s.parts in
+    let parts = one_word name r.digits other s.digits (recursion_from_All _ _ r.one_word) (recursion_from_All _ _ s.one_word) begins.1 in
+    (begins.0, parts.0, one_meaning octets others s.digits (subst (StandsFor octets) parts.1 r.stands) s.stands)

@@ -4,3 +4,4 @@ pub mod Request
 pub mod Lines
 pub mod Answer
 pub mod Engine
+pub mod Types

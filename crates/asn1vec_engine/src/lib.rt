@@ -6,5 +6,7 @@ mod engine;
 mod names;
 mod request;
 mod shown;
+mod types;
 
 pub use engine::{RunError, run};
+pub use request::{Rule, one_request};

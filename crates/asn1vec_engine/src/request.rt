@@ -82,3 +82,9 @@ pub(crate) fn read_request(alloc: Global, line: &[u8]) -> Result<Option<Request>
     };
     Ok(Some(Request { rule, name, octets }))
 }
+
+/// A line asks for one thing.
+pub fn one_request()
+    ensures { (line name other octets others : List ℕ) (rule second : Rule) → IsRequest line rule name octets → IsRequest line second other others
+        → (rule ≡ second) × (name ≡ other) × (octets ≡ others) }
+{}
