@@ -5,6 +5,7 @@ mod asn1_types;
 mod class;
 pub mod error;
 mod header;
+mod header_reading;
 mod laws;
 mod length;
 mod tag;
