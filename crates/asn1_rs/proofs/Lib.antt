@@ -1,2 +1,3 @@
+mod Elements
 mod Reading
 mod Writing
