@@ -2,3 +2,5 @@ pub mod Elements
 pub mod Headers
 pub mod Words
 pub mod Forms
+pub mod Any
+pub mod Element

@@ -9,3 +9,4 @@ pub mod Answers
 pub mod Form
 pub mod Grammar
 pub mod Laws
+pub mod Element
