@@ -124,6 +124,8 @@ impl ToDer for (Class, bool, Tag) {
 
     ghost header = { λ parts. identifier_octets (parts_identifier parts) };
 
+    ghost content = { λ _. [] };
+
     ghost constructed = { λ parts. is_container parts.2 };
 
     ghost count_takes_memory = { false };
@@ -169,6 +171,8 @@ impl ToDer for Header<'_> {
     ghost is_writable = { λ _. Unit {0} };
 
     ghost header = { strict_header };
+
+    ghost content = { λ _. [] };
 
     ghost constructed = { λ h. is_container (tag_of h) };
 
