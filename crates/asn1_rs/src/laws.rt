@@ -147,6 +147,13 @@ pub trait LawfulMember: LawfulItem + Eq {
     ghost same: { (x y : Self) → IsTrue (Self.eq x y) ↔ (Self.value x ≡ Self.value y) };
 }
 
+impl<'a, T, E: From<Error>> LawfulDer<'a, E> for T
+where
+    T: LawfulBody<'a, E> + LawfulAuto,
+{
+    ghost der_exact = { λ input answer octets. element_exact IsDefiniteElement DefiniteElementFault IsCutIdentifier der_elements (faults.DerConstraintFailed constraints.IndefiniteLength) T.check_gives T.any_gives E.from_gives T.Check T.Body T.value T.takes_memory T.Der T.check_exact T.body_exact T.der_split T.der_join input answer };
+}
+
 /// Reads a value of a lawful type by DER.
 ///
 /// Ok exactly where a word of the type's grammar begins the octets. A refusal is final: no word begins them, whatever

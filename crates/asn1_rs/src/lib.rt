@@ -2,9 +2,11 @@
 #![tactic(auto)]
 
 mod asn1_types;
+mod ber;
 mod class;
 pub mod error;
 mod header;
+mod header_reading;
 mod header_writing;
 mod laws;
 mod length;
@@ -15,6 +17,7 @@ mod traits;
 mod writer;
 
 pub use asn1_types::any::Any;
+pub use ber::GetObjectContent;
 pub use class::{BerClassFromIntError, Class};
 pub use error::{
     DerConstraint, Err, Error, IResult, Needed, ParseResult, SerializeError, SerializeResult,
