@@ -4,6 +4,7 @@ pub mod Tag
 pub mod Length
 pub mod Header
 pub mod Wrote
+pub mod WrittenHeader
 pub mod Any
 pub mod Answers
 pub mod Form
