@@ -1,3 +1,4 @@
 pub mod Elements
 pub mod Words
 pub mod Forms
+pub mod Integer

@@ -8,4 +8,5 @@ pub mod Any
 pub mod Answers
 pub mod Form
 pub mod Grammar
+pub mod Integer
 pub mod Laws

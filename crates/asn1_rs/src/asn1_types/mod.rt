@@ -1,3 +1,4 @@
 //! The types of elements.
 
 pub mod any;
+pub mod integer;
