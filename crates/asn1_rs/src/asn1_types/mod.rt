@@ -2,3 +2,4 @@
 
 pub mod any;
 pub mod integer;
+mod unsigned;
