@@ -1,10 +1,11 @@
 -- Integers as elements (X.690 8.3).
-use Rattle.std.specs.Prelude.{◌≡◌, ◌≢◌, ℕ, ◌<◌, ◌≤◌, ◌^◌, true, false, List, [], get_or, pos, Some, Result, Ok, Err}
+use Rattle.std.specs.Prelude.{◌≡◌, ◌≢◌, ℕ, ◌<◌, ◌≤◌, ◌^◌, true, false, List, [], length, get_or, pos, Some, Result, Ok, Err}
 use Rattle.x690.specs.Digits.{base_256_value}
 use Rattle.x690.specs.Identifiers.{Identifier}
 use Rattle.x690.specs.Lengths.{definite, indefinite}
 use Rattle.x690.specs.Elements.{Parts}
-use Rattle.x690.specs.Integers.{HasSpareZeros, HasSpareOnes, IsShortestInteger, IsIntegerContent}
+use Rattle.x690.specs.Integers.{HasSpareZeros, HasSpareOnes, IsShortestInteger, IsIntegerContent, unsigned_octets}
+use Rattle.x690.specs.Strict.{header_octets}
 use Rattle.asn1_rs.specs.declared.error.Error.{Error}
 use Rattle.asn1_rs.specs.declared.error.Error.TheVariants.{UnexpectedTag, ConstructUnexpected, IndefiniteLengthUnexpected, IntegerNegative, IntegerTooLarge, DerConstraintFailed}
 use Rattle.asn1_rs.specs.declared.error.DerConstraint.TheVariants.{IntegerEmpty, IntegerLeadingZeroes, IntegerLeadingFF}
@@ -65,3 +66,7 @@ UnsignedContent size v c = (v < 256 ^ size) × IsIntegerContent (pos v) c
 
 abbrev pub UnsignedForm : ℕ → ℕ → Identifier → List ℕ → Type 0
 UnsignedForm size = UniversalForm false integer_number (UnsignedContent size)
+
+-- the strict header of the element of a natural number
+abbrev pub unsigned_header : ℕ → List ℕ
+unsigned_header v = header_octets 0 false integer_number (length (unsigned_octets v))

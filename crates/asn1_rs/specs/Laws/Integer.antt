@@ -21,7 +21,7 @@ use Rattle.asn1_rs.specs.Grammar.{IsOneFront, IsOneBody, BerWord, DerWord, NoChe
 use Rattle.asn1_rs.specs.Laws.Elements.{der_elements, ber_elements}
 use Rattle.asn1_rs.specs.Laws.Words.{word_one, strict_ber_word, strict_der_word}
 use Rattle.asn1_rs.specs.Laws.Forms.{WritesByValue, WritesForm, header_of, universal_one, universal_value, universal_fits}
-use Rattle.asn1_rs.specs.Integer.{integer_number, IntegerCheck, IntegerCheckRefuses, IntegerCheckGives, UnsignedBody, UnsignedRefuses, UnsignedGives, UnsignedContent, UnsignedForm}
+use Rattle.asn1_rs.specs.Integer.{integer_number, IntegerCheck, IntegerCheckRefuses, IntegerCheckGives, UnsignedBody, UnsignedRefuses, UnsignedGives, UnsignedContent, UnsignedForm, unsigned_header}
 
 -- the refusal of the check, where it refuses
 check_refusal : Bool → LengthForm → List ℕ → Error
@@ -153,10 +153,7 @@ module _ (size : ℕ) where
   pub unsigned_strict_der : (v : ℕ) (o : List ℕ) → IsStrict (UnsignedForm size) v o → DerWord IntegerCheck (UnsignedBody size) o v
   unsigned_strict_der = strict_der_word (UnsignedForm size) IntegerCheck (UnsignedBody size) unsigned_form_check unsigned_form_body
 
--- what is written
-abbrev pub unsigned_header : ℕ → List ℕ
-unsigned_header v = header_octets 0 false integer_number (length (unsigned_octets v))
-
+-- what is written follows from the value, and is its strict encoding
 pub unsigned_by_value : WritesByValue (λ (x : ℕ). x) (λ x. false) unsigned_header unsigned_octets
 unsigned_by_value = λ x y e. (refl, ap unsigned_header e, ap unsigned_octets e)
 

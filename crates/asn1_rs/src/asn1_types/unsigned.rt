@@ -1,18 +1,25 @@
 //! The types `u8`, `u16`, `u32` and `u64` as integers of one to eight octets.
 ghost use Rattle.std.specs.Prelude.{ℕ, ◌<◌, ◌^◌, false};
+ghost use Rattle.x690.specs.Integers.{unsigned_octets};
 ghost use Rattle.asn1_rs.specs.Grammar.{BerWord, DerWord};
-ghost use Rattle.asn1_rs.specs.Integer.{integer_number, IntegerCheck, IntegerCheckGives, UnsignedBody, UnsignedForm, UnsignedGives};
-ghost use Rattle.asn1_rs.specs.Laws.Integer.{integer_check_exact, unsigned_exact, unsigned_same, unsigned_one_body, unsigned_ber_one, unsigned_der_one, unsigned_one_form, unsigned_one_value, unsigned_fits, unsigned_form_check, unsigned_form_body, unsigned_takes_class, unsigned_strict_ber, unsigned_strict_der};
+ghost use Rattle.asn1_rs.specs.Integer.{integer_number, IntegerCheck, IntegerCheckGives, UnsignedBody, UnsignedForm, UnsignedGives, unsigned_header};
+ghost use Rattle.asn1_rs.specs.Laws.Integer.{integer_check_exact, unsigned_exact, unsigned_same, unsigned_one_body, unsigned_ber_one, unsigned_der_one, unsigned_one_form, unsigned_one_value, unsigned_fits, unsigned_form_check, unsigned_form_body, unsigned_takes_class, unsigned_strict_ber, unsigned_strict_der, unsigned_by_value, unsigned_writes_form};
 
 use crate::asn1_types::any::Any;
-use crate::asn1_types::integer::{check_integer, unsigned_from_any};
-use crate::error::Error;
+use crate::asn1_types::integer::{
+    check_integer, count_unsigned_element, put_unsigned_content, put_unsigned_header,
+    unsigned_from_any,
+};
+use crate::error::{Error, SerializeResult};
 use crate::laws::{
-    Grammar, LawfulAuto, LawfulBody, LawfulCheck, LawfulItem, LawfulMember, TakesClass,
+    Grammar, LawfulAuto, LawfulBody, LawfulCheck, LawfulItem, LawfulMember, LawfulWrite, TakesClass,
 };
 use crate::tag::Tag;
+use crate::to_der::ToDer;
 use crate::traits::{CheckDerConstraints, DerAutoDerive, FromAny, Tagged};
+use crate::writer::DerWrite;
 use std::alloc::Global;
+use x690::integers::unsigned_octets_count;
 
 impl Tagged for u8 {
     const TAG: Tag = Tag::Integer;
@@ -43,6 +50,42 @@ impl CheckDerConstraints for u8 {
 }
 
 impl DerAutoDerive for u8 {}
+
+impl ToDer for u8 {
+    ghost tells = { λ _. Unit {0} };
+
+    ghost is_writable = { λ _. Unit {0} };
+
+    ghost header = { unsigned_header };
+
+    ghost content = { unsigned_octets };
+
+    ghost constructed = { λ _. false };
+
+    ghost count_takes_memory = { false };
+
+    ghost content_takes_memory = { false };
+
+    fn to_der_len(&self) -> Result<usize, Error> {
+        count_unsigned_element(u128::from(*self))
+    }
+
+    fn der_content_len(&self) -> Result<usize, Error> {
+        Ok(unsigned_octets_count(u128::from(*self)))
+    }
+
+    fn der_constructed(&self) -> bool {
+        false
+    }
+
+    fn write_der_header<W: DerWrite>(&self, _alloc: Global, w: &mut W) -> SerializeResult<usize> {
+        put_unsigned_header(u128::from(*self), w)
+    }
+
+    fn write_der_content<W: DerWrite>(&self, _alloc: Global, w: &mut W) -> SerializeResult<usize> {
+        put_unsigned_content(u128::from(*self), w)
+    }
+}
 
 impl Grammar for u8 {
     ghost Value = { ℕ };
@@ -112,6 +155,14 @@ impl LawfulAuto for u8 {
     ghost der_join = { λ o v w. w };
 }
 
+impl LawfulWrite for u8 {
+    ghost tells_all = { λ x. tt };
+
+    ghost by_value = { unsigned_by_value };
+
+    ghost form = { unsigned_writes_form 1 };
+}
+
 impl<const K: u8> TakesClass<K> for u8 {
     ghost takes_class = { unsigned_takes_class 1 K };
 }
@@ -149,6 +200,42 @@ impl CheckDerConstraints for u16 {
 }
 
 impl DerAutoDerive for u16 {}
+
+impl ToDer for u16 {
+    ghost tells = { λ _. Unit {0} };
+
+    ghost is_writable = { λ _. Unit {0} };
+
+    ghost header = { unsigned_header };
+
+    ghost content = { unsigned_octets };
+
+    ghost constructed = { λ _. false };
+
+    ghost count_takes_memory = { false };
+
+    ghost content_takes_memory = { false };
+
+    fn to_der_len(&self) -> Result<usize, Error> {
+        count_unsigned_element(u128::from(*self))
+    }
+
+    fn der_content_len(&self) -> Result<usize, Error> {
+        Ok(unsigned_octets_count(u128::from(*self)))
+    }
+
+    fn der_constructed(&self) -> bool {
+        false
+    }
+
+    fn write_der_header<W: DerWrite>(&self, _alloc: Global, w: &mut W) -> SerializeResult<usize> {
+        put_unsigned_header(u128::from(*self), w)
+    }
+
+    fn write_der_content<W: DerWrite>(&self, _alloc: Global, w: &mut W) -> SerializeResult<usize> {
+        put_unsigned_content(u128::from(*self), w)
+    }
+}
 
 impl Grammar for u16 {
     ghost Value = { ℕ };
@@ -218,6 +305,14 @@ impl LawfulAuto for u16 {
     ghost der_join = { λ o v w. w };
 }
 
+impl LawfulWrite for u16 {
+    ghost tells_all = { λ x. tt };
+
+    ghost by_value = { unsigned_by_value };
+
+    ghost form = { unsigned_writes_form 2 };
+}
+
 impl<const K: u8> TakesClass<K> for u16 {
     ghost takes_class = { unsigned_takes_class 2 K };
 }
@@ -255,6 +350,42 @@ impl CheckDerConstraints for u32 {
 }
 
 impl DerAutoDerive for u32 {}
+
+impl ToDer for u32 {
+    ghost tells = { λ _. Unit {0} };
+
+    ghost is_writable = { λ _. Unit {0} };
+
+    ghost header = { unsigned_header };
+
+    ghost content = { unsigned_octets };
+
+    ghost constructed = { λ _. false };
+
+    ghost count_takes_memory = { false };
+
+    ghost content_takes_memory = { false };
+
+    fn to_der_len(&self) -> Result<usize, Error> {
+        count_unsigned_element(u128::from(*self))
+    }
+
+    fn der_content_len(&self) -> Result<usize, Error> {
+        Ok(unsigned_octets_count(u128::from(*self)))
+    }
+
+    fn der_constructed(&self) -> bool {
+        false
+    }
+
+    fn write_der_header<W: DerWrite>(&self, _alloc: Global, w: &mut W) -> SerializeResult<usize> {
+        put_unsigned_header(u128::from(*self), w)
+    }
+
+    fn write_der_content<W: DerWrite>(&self, _alloc: Global, w: &mut W) -> SerializeResult<usize> {
+        put_unsigned_content(u128::from(*self), w)
+    }
+}
 
 impl Grammar for u32 {
     ghost Value = { ℕ };
@@ -324,6 +455,14 @@ impl LawfulAuto for u32 {
     ghost der_join = { λ o v w. w };
 }
 
+impl LawfulWrite for u32 {
+    ghost tells_all = { λ x. tt };
+
+    ghost by_value = { unsigned_by_value };
+
+    ghost form = { unsigned_writes_form 4 };
+}
+
 impl<const K: u8> TakesClass<K> for u32 {
     ghost takes_class = { unsigned_takes_class 4 K };
 }
@@ -361,6 +500,42 @@ impl CheckDerConstraints for u64 {
 }
 
 impl DerAutoDerive for u64 {}
+
+impl ToDer for u64 {
+    ghost tells = { λ _. Unit {0} };
+
+    ghost is_writable = { λ _. Unit {0} };
+
+    ghost header = { unsigned_header };
+
+    ghost content = { unsigned_octets };
+
+    ghost constructed = { λ _. false };
+
+    ghost count_takes_memory = { false };
+
+    ghost content_takes_memory = { false };
+
+    fn to_der_len(&self) -> Result<usize, Error> {
+        count_unsigned_element(u128::from(*self))
+    }
+
+    fn der_content_len(&self) -> Result<usize, Error> {
+        Ok(unsigned_octets_count(u128::from(*self)))
+    }
+
+    fn der_constructed(&self) -> bool {
+        false
+    }
+
+    fn write_der_header<W: DerWrite>(&self, _alloc: Global, w: &mut W) -> SerializeResult<usize> {
+        put_unsigned_header(u128::from(*self), w)
+    }
+
+    fn write_der_content<W: DerWrite>(&self, _alloc: Global, w: &mut W) -> SerializeResult<usize> {
+        put_unsigned_content(u128::from(*self), w)
+    }
+}
 
 impl Grammar for u64 {
     ghost Value = { ℕ };
@@ -428,6 +603,14 @@ impl LawfulAuto for u64 {
     ghost der_split = { λ o v w. w };
 
     ghost der_join = { λ o v w. w };
+}
+
+impl LawfulWrite for u64 {
+    ghost tells_all = { λ x. tt };
+
+    ghost by_value = { unsigned_by_value };
+
+    ghost form = { unsigned_writes_form 8 };
 }
 
 impl<const K: u8> TakesClass<K> for u64 {
