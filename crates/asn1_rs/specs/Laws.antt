@@ -4,3 +4,4 @@ pub mod Words
 pub mod Forms
 pub mod Any
 pub mod Element
+pub mod Integer

@@ -17,6 +17,7 @@ mod traits;
 mod writer;
 
 pub use asn1_types::any::Any;
+pub use asn1_types::integer::integers_have_one_refusal;
 pub use ber::GetObjectContent;
 pub use class::{BerClassFromIntError, Class};
 pub use error::{
