@@ -1,11 +1,31 @@
 -- The answers to lines.
-use Rattle.std.specs.Prelude.{◌≡◌, ℕ, ◌<◌, ◌≤◌, List, [], ◌∷◌, ◌++◌, length, codes, ◌⊎◌}
+use Rattle.std.specs.Prelude.{◌≡◌, ℕ, ◌<◌, ◌≤◌, List, [], ◌∷◌, ◌++◌, length, codes, decimal, false, ◌⊎◌}
 use Rattle.asn1vec_engine.specs.declared.request.Rule.{Rule}
+use Rattle.asn1vec_engine.specs.declared.types.TypeName.{TypeName}
+use Rattle.asn1vec_engine.specs.declared.types.TypeName.TheVariants.{U8, U16, U32, U64}
+use Rattle.asn1_rs.specs.Grammar.{DerWord, DerGives}
+use Rattle.asn1_rs.specs.Integer.{IntegerCheck, IntegerCheckGives, UnsignedBody, UnsignedForm, UnsignedGives}
 use Rattle.asn1vec_engine.specs.Request.{IsRequest, IsOtherForm}
+use Rattle.asn1vec_engine.specs.Shown.{IsDerAnswer, StrictText}
+use Rattle.asn1vec_engine.specs.Types.{IsTypeOf}
 
--- the answer to a request, as octets of a text
+-- The answer of the unsigned integers of so many octets: in decimals, with the strict encoding that each of them has.
+abbrev pub IsUnsignedAnswer : ℕ → List ℕ → List ℕ → Type 0
+IsUnsignedAnswer size = IsDerAnswer {T = ℕ} {V = ℕ} (DerWord IntegerCheck (UnsignedBody size)) (λ x. x) false
+    (DerGives IntegerCheckGives (UnsignedGives size) (λ e f. f ≡ e)) decimal (StrictText (UnsignedForm size) false)
+
+-- the answer of a type to octets
+abbrev pub IsTypeAnswer : TypeName → List ℕ → List ℕ → Type 0
+IsTypeAnswer U8 = IsUnsignedAnswer 1
+IsTypeAnswer U16 = IsUnsignedAnswer 2
+IsTypeAnswer U32 = IsUnsignedAnswer 4
+IsTypeAnswer U64 = IsUnsignedAnswer 8
+
+-- the answer to a request: of the type that has the name under the rule, or that there is none
 abbrev pub IsRequestAnswer : Rule → List ℕ → List ℕ → List ℕ → Type 0
-IsRequestAnswer rule name octets text = text ≡ codes "err Type"
+IsRequestAnswer rule name octets text =
+    (((t : TypeName) → ¬ IsTypeOf rule name t) × (text ≡ codes "err Type")) ⊎
+    ((t : TypeName) × IsTypeOf rule name t × IsTypeAnswer t octets text)
 
 -- the line is too long or has another form
 abbrev pub IsRefusedLine : List ℕ → Type 0

@@ -7,6 +7,7 @@ mod names;
 mod request;
 mod shown;
 mod types;
+mod unsigned;
 
 pub use engine::{RunError, run};
 pub use request::{Rule, one_request};

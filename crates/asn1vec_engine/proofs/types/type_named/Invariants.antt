@@ -1,4 +1,4 @@
-use Rattle.std.proofs.Common.{◌≡◌, ◌≢◌, ℕ, ◌<◌, get_or}
+use Rattle.std.proofs.Common.{◌≢◌, ℕ, ◌<◌, get_or}
 use Rattle.asn1vec_engine.specs.declared.types.TypeName.{TypeName as Name}
 use Rattle.asn1vec_engine.specs.Types.{name_of}
 use Rattle.asn1vec_engine.proofs.types.type_named.Given as goal
