@@ -134,3 +134,9 @@ pub fn run<R: Read, W: DerWrite>(
     }
     Err(RunError::Input)
 }
+
+/// An input has one output. What is written up to a failure is a beginning of it.
+pub fn one_output()
+    ensures whole { (octets texts others : List ℕ) → AnswersTo octets texts → AnswersTo octets others → texts ≡ others }
+    ensures beginning { (octets front texts : List ℕ) → BeginsAnswersTo octets front → AnswersTo octets texts → (lost : List ℕ) × (texts ≡ front ++ lost) }
+{}
