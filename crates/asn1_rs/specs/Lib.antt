@@ -9,4 +9,6 @@ pub mod Any
 pub mod Answers
 pub mod Form
 pub mod Grammar
+pub mod Integer
 pub mod Laws
+pub mod Element
