@@ -1,1 +1,3 @@
+mod Elements
+mod Reading
 mod Writing

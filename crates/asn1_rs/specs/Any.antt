@@ -1,9 +1,60 @@
--- Elements in hand.
-use Rattle.x690.specs.Elements.{Parts}
+-- Elements in hand, and what reading one may answer.
+use Rattle.std.specs.Prelude.{◌≡◌, ◌≢◌, ◌⊎◌, ◌+◌, ◌≤◌, ℕ, List, ◌++◌, length, Some, Result, Ok, Err}
+use Rattle.std.specs.Borrow.{Bor}
+use Rattle.x690.specs.Lengths.{LengthForm, definite, indefinite}
+use Rattle.x690.specs.Elements.{Parts, IsDefiniteElement}
+use Rattle.x690.specs.Faults.{Fault, DefiniteElementFault}
 use Rattle.asn1_rs.specs.declared.asn1_types.any.Any.{Any}
-use Rattle.asn1_rs.specs.Header.{identifier_of}
+use Rattle.asn1_rs.specs.declared.class.Class.{Class}
+use Rattle.asn1_rs.specs.declared.tag.Tag.{Tag}
+use Rattle.asn1_rs.specs.declared.error.Error.{Error}
+use Rattle.asn1_rs.specs.declared.error.Error.TheVariants.{UnexpectedTag, UnexpectedClass, IndefiniteLengthUnexpected, DerConstraintFailed}
+use Rattle.asn1_rs.specs.declared.error.DerConstraint.TheVariants.{IndefiniteLength}
+use Rattle.asn1_rs.specs.declared.error.Err.{Err as Refusal}
+use Rattle.asn1_rs.specs.declared.error.Err.TheVariants.{Incomplete as cut, Error as refused}
+use Rattle.asn1_rs.specs.declared.error.Needed.TheVariants.{Size}
+use Rattle.asn1_rs.specs.Error.{Converted}
+use Rattle.asn1_rs.specs.Class.{class_number}
+use Rattle.asn1_rs.specs.Header.{identifier_of, Refused, der_refusal}
 use Rattle.asn1_rs.specs.Length.{form_of}
+use Rattle.asn1_rs.specs.Answers.{Front}
 
 -- what an element in hand is made of, whether it was read or made by hand
 abbrev pub parts_of : Any → Parts
 parts_of a = record { id = identifier_of a.header; form = form_of a.header.length; content = a.content.now }
+
+-- what a reader of elements may answer: the element and the rest, or the refusal of the first fault
+abbrev pub AnyGives : (List ℕ → Parts → Type 0) → (List ℕ → Fault → Type 0) → (Fault → Refusal Error) → List ℕ → Result (List ℕ × Any) (Refusal Error) → Type 0
+AnyGives Element FaultOf refusal input (Ok x) = Front Element input (parts_of x.1) x.0
+AnyGives Element FaultOf refusal input (Err r) = Refused FaultOf refusal input r
+
+-- the conversion to an element is the element
+abbrev pub IsTheElement : Parts → Result Any Error → Type 0
+IsTheElement p (Ok any) = parts_of any ≡ p
+IsTheElement p (Err e) = ⊥
+
+-- the length is definite, or that is refused
+abbrev pub IsDefiniteOr : Parts → Result (Unit {0}) Error → Type 0
+IsDefiniteOr p (Ok x) = (n : ℕ) × (p.form ≡ definite n)
+IsDefiniteOr p (Err e) = (p.form ≡ indefinite) × (e ≡ IndefiniteLengthUnexpected)
+
+-- so many octets of the input, and the rest, or how many are missing
+abbrev pub Splits : ℕ → List ℕ → Result (Bor (List ℕ) × Bor (List ℕ)) (Refusal Error) → Type 0
+Splits n input (Ok x) = (length x.1.now ≡ n) × (input ≡ x.1.now ++ x.0.now)
+Splits n input (Err r) = (lacking : ℕ) × (1 ≤ lacking) × (length input + lacking ≡ n) × (r ≡ cut (Size lacking))
+
+-- the contents octets by DER, of a header of this form
+abbrev pub DerContentGives : LengthForm → List ℕ → Result (Bor (List ℕ) × Bor (List ℕ)) (Refusal Error) → Type 0
+DerContentGives (definite n) input answer = Splits n input answer
+DerContentGives indefinite input answer = answer ≡ Err (refused (DerConstraintFailed IndefiniteLength))
+
+-- What reading an element by DER, looking at its tag number and then its class, and handing its contents octets to a reader may answer. The rest is the element's.
+abbrev pub AndThenGives : {T E : Type 0} → Class → Tag → (Error → E → Type 0) → (List ℕ → Result (Bor (List ℕ) × T) (Refusal E) → Type 0) → List ℕ → Result (List ℕ × T) (Refusal E) → Type 0
+AndThenGives class tag from reads input (Ok x) =
+    (p : Parts) × Front IsDefiniteElement input p x.0 × (p.id.number ≡ tag.0) × (p.id.class ≡ class_number class) × ((rest : Bor (List ℕ)) × reads p.content (Ok (rest, x.1)))
+AndThenGives {T} {E} class tag from reads input (Err r) =
+    ((fault : Fault) × DefiniteElementFault input fault × Converted from (der_refusal fault) r) ⊎
+    ((p : Parts) × (rest : List ℕ) × (actual : Class) × Front IsDefiniteElement input p rest × (p.id.class ≡ class_number actual) × (
+    ((p.id.number ≢ tag.0) × ((e : E) × from (UnexpectedTag (Some tag) (record { 0 = p.id.number })) e × (r ≡ refused e))) ⊎
+    ((p.id.number ≡ tag.0) × (actual ≢ class) × ((e : E) × from (UnexpectedClass (Some class) actual) e × (r ≡ refused e))) ⊎
+    ((p.id.number ≡ tag.0) × (actual ≡ class) × reads p.content (Err r))))

@@ -5,13 +5,14 @@ use Rattle.std.specs.Ordering.{on}
 use Rattle.std.specs.Bool.{beq}
 use Rattle.std.specs.Cow.{cow_slice_items}
 use Rattle.x690.specs.Identifiers.{Identifier, IsIdentifier, IsCutIdentifier}
-use Rattle.x690.specs.Lengths.{LengthForm}
+use Rattle.x690.specs.Lengths.{LengthForm, IsLengthForm}
 use Rattle.x690.specs.Elements.{IsHeader}
 use Rattle.x690.specs.Faults.{Fault, missing, tag_fault, length_fault, form_fault, depth_fault, HeaderFault}
 use Rattle.asn1_rs.specs.declared.class.Class.{Class}
 use Rattle.asn1_rs.specs.declared.tag.Tag.{Tag}
 use Rattle.asn1_rs.specs.declared.length.Length.{Length}
 use Rattle.asn1_rs.specs.declared.header.Header.{Header}
+use Rattle.asn1_rs.specs.declared.header_reading.IdentifierOctets.{IdentifierOctets as Read}
 use Rattle.asn1_rs.specs.declared.error.Error.{Error}
 use Rattle.asn1_rs.specs.declared.error.Error.TheVariants.{InvalidTag, InvalidLength, BerMaxDepth, DerConstraintFailed, ConstructExpected}
 use Rattle.asn1_rs.specs.declared.error.DerConstraint.TheVariants.{IndefiniteLength}
@@ -74,7 +75,26 @@ der_refusal = refusal_of (DerConstraintFailed IndefiniteLength)
 abbrev pub ber_refusal : Fault → Refusal Error
 ber_refusal = refusal_of ConstructExpected
 
+-- the refusal tells of a fault of the octets
+abbrev pub Refused : (List ℕ → Fault → Type 0) → (Fault → Refusal Error) → List ℕ → Refusal Error → Type 0
+Refused FaultOf refusal octets r = (fault : Fault) × FaultOf octets fault × (r ≡ refusal fault)
+
+-- identifier octets that were read, with what they say
+abbrev pub id_read : Read → Identifier
+id_read x = record { class = class_number x.class; constructed = x.constructed; number = x.number }
+
+abbrev pub tag_read : Read → Tag
+tag_read x = record { 0 = x.number }
+
+-- the identifier octets begin the input, and the rest follows
+abbrev pub BeginsWithIdentifier : List ℕ → List ℕ → Read → Type 0
+BeginsWithIdentifier input rest x = IsIdentifier x.octets.now (id_read x) × (input ≡ x.octets.now ++ rest)
+
+-- length octets, or 80, begin the input, and the rest follows
+abbrev pub BeginsWithLength : List ℕ → List ℕ → Length → Type 0
+BeginsWithLength input rest length = (octets : List ℕ) × IsLengthForm octets (form_of length) × (input ≡ octets ++ rest)
+
 -- what a reader of headers may answer: the header and the rest, or the refusal of the first fault
 abbrev pub HeaderGives : (Identifier → Bool) → (Fault → Refusal Error) → List ℕ → Result (List ℕ × Header) (Refusal Error) → Type 0
 HeaderGives rule refusal input (Ok x) = BeginsInput rule input x.0 x.1
-HeaderGives rule refusal input (Err r) = (fault : Fault) × HeaderFault rule input fault × (r ≡ refusal fault)
+HeaderGives rule refusal input (Err r) = Refused (HeaderFault rule) refusal input r

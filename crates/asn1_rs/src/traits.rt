@@ -6,9 +6,11 @@ ghost use Rattle.asn1_rs.specs.declared.error.Err.{Err as Refusal};
 ghost use Rattle.asn1_rs.specs.declared.error.Error.{Error as Fault};
 ghost use Rattle.asn1_rs.specs.Answers.{seen};
 ghost use Rattle.asn1_rs.specs.Any.{parts_of};
+ghost use Rattle.asn1_rs.specs.Grammar.{DerGives};
 
 use crate::asn1_types::any::Any;
-use crate::error::{Error, ParseResult};
+use crate::ber::element_by_der;
+use crate::error::{Err, Error, ParseResult};
 use crate::tag::Tag;
 use std::alloc::Global;
 
@@ -115,3 +117,26 @@ pub trait CheckDerConstraints {
 
 /// Marks a type that is read by DER as an element that is checked and then converted.
 pub trait DerAutoDerive {}
+
+/// Reads an element by DER, checks its constraints, and converts it, in this order; what refuses first names the refusal.
+impl<'a, T, E> FromDer<'a, E> for T
+where
+    T: FromAny<'a, Error = E> + CheckDerConstraints + DerAutoDerive,
+    E: From<Error>,
+{
+    ghost der_gives = { DerGives T.check_gives T.any_gives E.from_gives };
+
+    fn from_der(alloc: Global, bytes: &'a [u8]) -> ParseResult<'a, T, E> {
+        let (rest, any) = match element_by_der(bytes) {
+            Ok(read) => read,
+            Err(e) => return Err(Err::convert(e)),
+        };
+        if let Err(e) = T::check_constraints(&any) {
+            return Err(Err::Error(E::from(e)));
+        }
+        match T::try_from_any(alloc, any) {
+            Ok(value) => Ok((rest, value)),
+            Err(e) => Err(Err::Error(e)),
+        }
+    }
+}

@@ -102,3 +102,14 @@ module _ {T V E : Type 0} (Element : List ℕ → Parts → Type 0) (FaultOf : L
         | inl m ↦ inl (m.0, (e, m.1, is))
         | inr none ↦ inr (λ more s w t v h d. none v (word_parts (input ++ more) (rest ++ more) w t p v (front_more Element input p rest more front) h d).1)
       ]
+
+-- where the refusal of the fault is not converted
+pub speaks_itself : (at_indefinite : Error) (fault : Fault) (r : Refusal Error) (is_cut : Type 0) (more : List ℕ) → CountsSome fault → r ≡ refusal_of at_indefinite fault → Speaks is_cut r more → SpeaksOf is_cut fault more
+speaks_itself at fault r is_cut more some e s = speaks_fault {E = Error} at (λ x y. y ≡ x) fault (refusal_of at fault) is_cut more some (itself at fault) (subst (λ (q : Refusal Error). Speaks is_cut q more) e s)
+  where
+    itself : (at : Error) (fault : Fault) → Converted {E = Error} {F = Error} (λ x y. y ≡ x) (refusal_of at fault) (refusal_of at fault)
+    itself at (missing n) = refl
+    itself at tag_fault = (_, refl, refl)
+    itself at length_fault = (_, refl, refl)
+    itself at form_fault = (_, refl, refl)
+    itself at depth_fault = (_, refl, refl)

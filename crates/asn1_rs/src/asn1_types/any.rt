@@ -1,10 +1,246 @@
 //! Elements of any type.
+ghost use Rattle.std.specs.Prelude.{◌≡◌, ℕ, false, length, None};
+ghost use Rattle.std.specs.Fn.{FnOnceReturnsAt};
+ghost use Rattle.asn1_rs.specs.Answers.{seen};
+ghost use Rattle.asn1_rs.specs.Header.{class_of, is_constructed_of, tag_of, length_of, raw_tag_of, HasParts};
+ghost use Rattle.asn1_rs.specs.Length.{form_of};
+ghost use Rattle.asn1_rs.specs.Tag.{is_container};
+ghost use Rattle.asn1_rs.specs.Any.{parts_of, IsTheElement, IsDefiniteOr, DerContentGives, AndThenGives};
+ghost use Rattle.asn1_rs.specs.Grammar.{BerWord, DerWord};
+ghost use Rattle.asn1_rs.specs.Element.{Element, element_of, ElementBody, ElementCheck, IsElementValue, ElementForm};
+ghost use Rattle.asn1_rs.specs.Laws.Words.{strict_ber_word, strict_der_word};
+ghost use Rattle.asn1_rs.specs.Laws.Element.{element_ber_values, element_der_values, element_body_values, element_form_values, element_ber_one, element_der_one, element_body_one, element_one_form, element_one_value, element_fits, element_form_body, element_form_check, element_body_exact, element_check_exact};
+ghost use Rattle.asn1_rs.specs.declared.class.Class.TheVariants as classes;
+ghost use Rattle.asn1_rs.specs.declared.length.Length.TheVariants as forms;
+ghost use Rattle.asn1_rs.specs.declared.tag.Tag.{Tag as Number};
 
+use crate::ber::element_by_der;
+use crate::class::Class;
+use crate::error::{Err, Error, ParseResult};
 use crate::header::Header;
+use crate::laws::{Grammar, LawfulAuto, LawfulBody, LawfulCheck, LawfulItem};
+use crate::length::Length;
+use crate::tag::Tag;
+use crate::traits::{CheckDerConstraints, DerAutoDerive, DynTagged, FromAny, FromDer};
+use std::alloc::Global;
 
 /// An element: its header, and its contents octets, which are lent from the input.
-#[derive(Debug, Clone, Drop)]
+///
+/// An element that is made by hand may have a header that does not fit its contents octets.
+#[derive(Debug, Clone, Drop, PartialEq, Eq)]
 pub struct Any<'a> {
     pub header: Header<'a>,
     pub content: &'a [u8],
+}
+
+impl<'a> Any<'a> {
+    /// An element of this header and these contents octets, as they are.
+    pub fn new(header: Header<'a>, content: &'a [u8]) -> Self
+        ensures header { result.header ≡ header.entry }
+        ensures content { result.content.now ≡ content.now }
+    {
+        Any { header, content }
+    }
+
+    /// A universal element with these contents octets, whose length the header counts; constructed exactly for the
+    /// tags of sequence and set.
+    pub fn from_tag_and_data(tag: Tag, content: &'a [u8]) -> Self
+        ensures header { HasParts result.header classes.Universal (is_container tag) tag (forms.Definite (length content.now)) None }
+        ensures content { result.content.now ≡ content.now }
+    {
+        let header = Header::new_simple(tag).with_length(Length::Definite(content.len()));
+        Any { header, content }
+    }
+
+    /// The class.
+    pub fn class(&self) -> Class
+        ensures { result ≡ class_of self.now.header }
+    {
+        self.header.class()
+    }
+
+    /// The tag number.
+    pub fn tag(&self) -> Tag
+        ensures { result ≡ tag_of self.now.header }
+    {
+        self.header.tag()
+    }
+
+    /// The same element under another class. The identifier octets that were read stay.
+    pub fn with_class(self, class: Class) -> Self
+        ensures header { HasParts result.header class (is_constructed_of self.entry.header) (tag_of self.entry.header) (length_of self.entry.header) (raw_tag_of self.entry.header) }
+        ensures content { result.content.now ≡ self.entry.content.now }
+    {
+        Any {
+            header: self.header.with_class(class),
+            content: self.content,
+        }
+    }
+
+    /// The same element under another tag number. The identifier octets that were read stay.
+    pub fn with_tag(self, tag: Tag) -> Self
+        ensures header { HasParts result.header (class_of self.entry.header) (is_constructed_of self.entry.header) tag (length_of self.entry.header) (raw_tag_of self.entry.header) }
+        ensures content { result.content.now ≡ self.entry.content.now }
+    {
+        Any {
+            header: self.header.with_tag(tag),
+            content: self.content,
+        }
+    }
+
+    /// The contents octets, as they are lent from the input.
+    pub fn as_bytes(&self) -> &'a [u8]
+        ensures { result.now ≡ self.now.content.now }
+    {
+        self.content
+    }
+
+    /// Reads a value by DER at the front of the contents octets, and answers what follows it there.
+    pub fn parse_der<T: FromDer<'a, E>, E>(&self, alloc: Global) -> ParseResult<'a, T, E>
+        ensures { T.der_gives self.now.content.now (seen result) }
+    {
+        T::from_der(alloc, self.content)
+    }
+
+    /// The contents octets of a header at the front of the octets that follow it, by DER, and the rest.
+    pub fn parse_der_content<'i>(
+        i: &'i [u8],
+        header: &Header<'_>,
+    ) -> ParseResult<'i, &'i [u8], Error>
+        ensures { DerContentGives (form_of (length_of header.now)) i.now result }
+    {
+        header.parse_der_content(i)
+    }
+
+    /// Reads an element by DER, looks at its tag number and then at its class, and hands its contents octets to the
+    /// closure. The rest is the element's; what the closure leaves over is dropped.
+    ///
+    /// Refused as an element is; with `UnexpectedTag`; with `UnexpectedClass`; as the closure refuses.
+    pub fn from_der_and_then<F, T, E>(
+        class: Class,
+        tag: u32,
+        bytes: &'a [u8],
+        op: F,
+    ) -> ParseResult<'a, T, E>
+    where
+        F: FnOnce(&'a [u8]) -> ParseResult<'a, T, E> + Drop,
+        E: From<Error>,
+        requires { F.IsAlwaysCallable op }
+        ensures { AndThenGives class (record { 0 = tag }) E.from_gives (FnOnceReturnsAt F.FnOnce op) bytes.now (seen result) }
+    {
+        let (rest, any) = match element_by_der(bytes) {
+            Ok(read) => read,
+            Err(e) => return Err(Err::convert(e)),
+        };
+        if let Err(e) = any.tag().assert_eq(Tag(tag)) {
+            return Err(Err::Error(E::from(e)));
+        }
+        if let Err(e) = any.class().assert_eq(class) {
+            return Err(Err::Error(E::from(e)));
+        }
+        match op(any.content) {
+            Ok((_, value)) => Ok((rest, value)),
+            Err(e) => Err(e),
+        }
+    }
+}
+
+impl DynTagged for Any<'_> {
+    ghost dyn_tag = { λ any. tag_of any.header };
+
+    fn tag(&self) -> Tag {
+        self.header.tag()
+    }
+}
+
+impl<'a> FromAny<'a> for Any<'a> {
+    type Error = Error;
+
+    ghost any_gives = { IsTheElement };
+
+    /// The element itself.
+    fn try_from_any(_alloc: Global, any: Any<'a>) -> Result<Any<'a>, Error> {
+        Ok(any)
+    }
+}
+
+impl CheckDerConstraints for Any<'_> {
+    ghost check_gives = { IsDefiniteOr };
+
+    /// Refuses an indefinite length with `IndefiniteLengthUnexpected`.
+    fn check_constraints(any: &Any<'_>) -> Result<(), Error>
+        ensures { IsDefiniteOr (parts_of any.now) result }
+    {
+        any.header.length().assert_definite()
+    }
+}
+
+impl DerAutoDerive for Any<'_> {}
+
+impl Grammar for Any<'_> {
+    ghost Value = { Element };
+
+    ghost value = { element_of };
+
+    ghost IsValue = { IsElementValue };
+
+    ghost Ber = { BerWord ElementBody };
+
+    ghost Der = { DerWord ElementCheck ElementBody };
+
+    ghost Body = { ElementBody };
+
+    ghost Check = { ElementCheck };
+
+    ghost Form = { ElementForm };
+
+    ghost takes_memory = { false };
+}
+
+impl LawfulItem for Any<'_> {
+    ghost ber_values = { element_ber_values };
+
+    ghost der_values = { element_der_values };
+
+    ghost body_values = { element_body_values };
+
+    ghost form_values = { element_form_values };
+
+    ghost ber_one = { element_ber_one };
+
+    ghost der_one = { element_der_one };
+
+    ghost body_one = { element_body_one };
+
+    ghost one_form = { element_one_form };
+
+    ghost one_value = { element_one_value };
+
+    ghost form_fits = { element_fits };
+
+    ghost strict_ber = { λ v o s. strict_ber_word ElementForm ElementBody element_form_body v o s };
+
+    ghost strict_der = { λ v o s. strict_der_word ElementForm ElementCheck ElementBody element_form_check element_form_body v o s };
+}
+
+impl<'a> LawfulBody<'a, Error> for Any<'a> {
+    ghost body_exact = { λ p answer octets. element_body_exact (λ x y. y ≡ x) p answer };
+
+    ghost form_body = { element_form_body };
+
+    ghost ber_split = { λ o v w. w };
+
+    ghost ber_join = { λ o v w. w };
+}
+
+impl LawfulCheck for Any<'_> {
+    ghost check_exact = { element_check_exact };
+
+    ghost form_check = { element_form_check };
+}
+
+impl LawfulAuto for Any<'_> {
+    ghost der_split = { λ o v w. w };
+
+    ghost der_join = { λ o v w. w };
 }

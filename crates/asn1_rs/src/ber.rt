@@ -1,0 +1,90 @@
+//! Reading elements and their contents octets (X.690 8.1).
+ghost use Rattle.std.specs.Prelude.{◌≡◌, ℕ, Bool, List, Result};
+ghost use Rattle.std.specs.Borrow.{Bor};
+ghost use Rattle.x690.specs.Lengths.{LengthForm};
+ghost use Rattle.x690.specs.Elements.{IsDefiniteElement};
+ghost use Rattle.x690.specs.Faults.{DefiniteElementFault};
+ghost use Rattle.asn1_rs.specs.declared.error.Err.{Err as Refusal};
+ghost use Rattle.asn1_rs.specs.declared.error.Error.{Error as Fault};
+ghost use Rattle.asn1_rs.specs.Answers.{seen};
+ghost use Rattle.asn1_rs.specs.Header.{der_refusal, is_constructed_of, length_of};
+ghost use Rattle.asn1_rs.specs.Length.{form_of};
+ghost use Rattle.asn1_rs.specs.Any.{AnyGives, Splits, DerContentGives};
+
+use crate::asn1_types::any::Any;
+use crate::error::{DerConstraint, Err, Error, Needed, ParseResult};
+use crate::header::Header;
+use crate::header_reading::header_by_der;
+use crate::length::Length;
+use crate::traits::DerParser;
+
+/// So many octets of the input, or `Incomplete` with the number that is missing.
+fn split_content(bytes: &[u8], len: usize) -> ParseResult<'_, &[u8], Error>
+    ensures { Splits len bytes.now result }
+{
+    if bytes.len() < len {
+        return Err(Err::Incomplete(Needed::Size(len - bytes.len())));
+    }
+    let (content, rest) = bytes.split_at(len);
+    Ok((rest, content))
+}
+
+/// The element at the front, by DER. It takes no memory.
+pub(crate) fn element_by_der(bytes: &[u8]) -> ParseResult<'_, Any<'_>, Error>
+    ensures { AnyGives IsDefiniteElement DefiniteElementFault der_refusal bytes.now (seen result) }
+{
+    let (rest, header) = header_by_der(bytes)?;
+    match header.length() {
+        Length::Definite(len) => {
+            let (rest, content) = split_content(rest, len)?;
+            Ok((rest, Any::new(header, content)))
+        }
+        Length::Indefinite => Err(Err::Error(Error::DerConstraintFailed(
+            DerConstraint::IndefiniteLength,
+        ))),
+    }
+}
+
+/// A reader of contents octets, whose header was read before them.
+pub trait GetObjectContent {
+    /// What the reader may answer at a header with this constructed bit and this form of length, at a depth.
+    ghost content_gives: { Bool → LengthForm → ℕ → List ℕ → Result (Bor (List ℕ) × Bor (List ℕ)) (Refusal Fault) → Type 0 };
+
+    /// The contents octets of the header at the front, and what follows them. The depth bounds how deep indefinite
+    /// lengths may nest.
+    fn get_object_content<'a>(
+        i: &'a [u8],
+        hdr: &Header<'_>,
+        max_depth: usize,
+    ) -> ParseResult<'a, &'a [u8], Error>
+        ensures { content_gives (is_constructed_of hdr.now) (form_of (length_of hdr.now)) max_depth i.now result };
+}
+
+impl GetObjectContent for DerParser {
+    ghost content_gives = { λ _ form _ input answer. DerContentGives form input answer };
+
+    fn get_object_content<'a>(
+        i: &'a [u8],
+        hdr: &Header<'_>,
+        _max_depth: usize,
+    ) -> ParseResult<'a, &'a [u8], Error> {
+        match hdr.length() {
+            Length::Definite(len) => split_content(i, len),
+            Length::Indefinite => Err(Err::Error(Error::DerConstraintFailed(
+                DerConstraint::IndefiniteLength,
+            ))),
+        }
+    }
+}
+
+impl Header<'_> {
+    /// The contents octets at the front of the octets that follow this header, by DER, and the rest.
+    ///
+    /// Refused with `DerConstraintFailed(IndefiniteLength)` at an indefinite length, else with `Incomplete(n)` where n
+    /// octets are missing.
+    pub fn parse_der_content<'i>(&self, i: &'i [u8]) -> ParseResult<'i, &'i [u8], Error>
+        ensures { DerContentGives (form_of (length_of self.now)) i.now result }
+    {
+        DerParser::get_object_content(i, self, 0)
+    }
+}
