@@ -4,8 +4,11 @@ pub mod Tag
 pub mod Length
 pub mod Header
 pub mod Wrote
+pub mod WrittenHeader
 pub mod Any
 pub mod Answers
 pub mod Form
 pub mod Grammar
+pub mod Integer
 pub mod Laws
+pub mod Element

@@ -1,12 +1,24 @@
 //! Strict headers, as they are written (X.690 8.1.2, 8.1.3, 10.1).
-ghost use Rattle.std.specs.Prelude.{◌≡◌, ◌<◌, ◌++◌, ℕ, Bool, List, length, IfOk, IfErr, Err};
-ghost use Rattle.x690.specs.Strict.{header_octets};
+ghost use Rattle.std.specs.Prelude.{◌≡◌, ◌<◌, ◌++◌, [], ℕ, Bool, false, List, length, None, IfOk, IfErr, Ok, Err};
+ghost use Rattle.std.specs.Io.KnownBytes.{Appends};
+ghost use Rattle.x690.specs.Strict.{identifier_octets, length_form_octets, header_octets};
+ghost use Rattle.asn1_rs.specs.Length.{form_of};
+ghost use Rattle.asn1_rs.specs.Tag.{is_container};
+ghost use Rattle.asn1_rs.specs.Header.{tag_of, raw_tag_of};
+ghost use Rattle.asn1_rs.specs.WrittenHeader.{parts_identifier, strict_header, kept_header};
 ghost use Rattle.asn1_rs.specs.Wrote.{Wrote, MayRefuse, MayRefuseCount, RefusedAtOnce, written_refusal};
 
+use crate::class::Class;
 use crate::error::{Error, SerializeResult};
-use crate::to_der::{add_counts, refusal_of_count};
+use crate::header::Header;
+use crate::length::Length;
+use crate::length_writing::{length_len, put_length};
+use crate::tag::Tag;
+use crate::to_der::{ToDer, add_counts, refusal_of_count};
+use crate::traits::DynTagged;
 use crate::writer::{DerWrite, put_all};
-use x690::digits::{header_into, identifier_octets_count, length_octets_count};
+use std::alloc::Global;
+use x690::digits::{header_into, identifier_into, identifier_octets_count, length_octets_count};
 
 /// How many octets the strict header of an element has whose contents are so many octets.
 pub(crate) fn header_len(number: u32, len: usize) -> usize
@@ -62,5 +74,152 @@ pub(crate) fn put_counted_header<W: DerWrite>(
     match counted {
         Ok(len) => put_header(class, constructed, number, len, w),
         Err(e) => Err(refusal_of_count(e)),
+    }
+}
+
+/// Appends the strict identifier octets, in one piece, and answers their number.
+fn put_identifier<W: DerWrite>(parts: (Class, bool, Tag), w: &mut W) -> SerializeResult<usize>
+    ensures wrote { Wrote (identifier_octets (parts_identifier parts)) (W.told w.old) (W.told w.new) (W.failed w.old) (W.failed w.new) result }
+    ensures failed { (takes_memory : Bool) (most : ℕ) → IfErr result (MayRefuse takes_memory most) }
+{
+    let (class, constructed, tag) = parts;
+    let mut octets = [0; 6];
+    let count = identifier_into(class.number(), constructed, tag.0, &mut octets);
+    put_all(w, &octets[..count])
+}
+
+/// Appends identifier octets and then length octets, and answers their number.
+fn put_parts<W: DerWrite>(identifier: &[u8], form: Length, w: &mut W) -> SerializeResult<usize>
+    ensures wrote { Wrote (identifier.now ++ length_form_octets (form_of form)) (W.told w.old) (W.told w.new) (W.failed w.old) (W.failed w.new) result }
+    ensures failed { (takes_memory : Bool) (most : ℕ) → IfErr result (MayRefuse takes_memory most) }
+{
+    let before = put_all(w, identifier)?;
+    let after = put_length(form, w)?;
+    Ok(before + after)
+}
+
+/// Appends the strict identifier octets of the header and its length octets, and answers their number.
+fn put_strict_header<W: DerWrite>(header: &Header<'_>, w: &mut W) -> SerializeResult<usize>
+    ensures wrote { Wrote (strict_header header.now) (W.told w.old) (W.told w.new) (W.failed w.old) (W.failed w.new) result }
+    ensures failed { (takes_memory : Bool) (most : ℕ) → IfErr result (MayRefuse takes_memory most) }
+{
+    let mut octets = [0; 6];
+    let class = header.class().number();
+    let count = identifier_into(class, header.constructed(), header.tag().0, &mut octets);
+    put_parts(&octets[..count], header.length(), w)
+}
+
+impl DynTagged for (Class, bool, Tag) {
+    ghost dyn_tag = { λ parts. parts.2 };
+
+    fn tag(&self) -> Tag {
+        self.2
+    }
+}
+
+impl ToDer for (Class, bool, Tag) {
+    ghost tells = { λ _. Unit {0} };
+
+    ghost is_writable = { λ _. Unit {0} };
+
+    ghost header = { λ parts. identifier_octets (parts_identifier parts) };
+
+    ghost content = { λ _. [] };
+
+    ghost constructed = { λ parts. is_container parts.2 };
+
+    ghost count_takes_memory = { false };
+
+    ghost content_takes_memory = { false };
+
+    fn to_der_len(&self) -> Result<usize, Error>
+        ensures { result ≡ Ok (length (identifier_octets (parts_identifier self.now))) }
+    {
+        Ok(identifier_octets_count(self.2.0))
+    }
+
+    fn der_content_len(&self) -> Result<usize, Error>
+        ensures { result ≡ Ok 0 }
+    {
+        Ok(0)
+    }
+
+    fn der_constructed(&self) -> bool {
+        self.2.is_container()
+    }
+
+    fn write_der_header<W: DerWrite>(&self, _alloc: Global, w: &mut W) -> SerializeResult<usize> {
+        put_identifier(*self, w)
+    }
+
+    fn write_der_content<W: DerWrite>(&self, _alloc: Global, w: &mut W) -> SerializeResult<usize> {
+        put_all(w, &[])
+    }
+}
+
+impl DynTagged for Header<'_> {
+    ghost dyn_tag = { tag_of };
+
+    fn tag(&self) -> Tag {
+        self.tag()
+    }
+}
+
+impl ToDer for Header<'_> {
+    ghost tells = { λ _. Unit {0} };
+
+    ghost is_writable = { λ _. Unit {0} };
+
+    ghost header = { strict_header };
+
+    ghost content = { λ _. [] };
+
+    ghost constructed = { λ h. is_container (tag_of h) };
+
+    ghost raw_is_der = { λ h. raw_tag_of h ≡ None };
+
+    ghost count_takes_memory = { false };
+
+    ghost content_takes_memory = { false };
+
+    fn to_der_len(&self) -> Result<usize, Error>
+        ensures count { IfOk result (λ n. n ≡ length (strict_header self.now ++ [])) }
+        ensures writable { IfErr result (MayRefuseCount false (length (strict_header self.now ++ []))) }
+        ensures exact { result ≡ Ok (length (strict_header self.now)) }
+    {
+        Ok(identifier_octets_count(self.tag().0) + length_len(self.length()))
+    }
+
+    fn der_content_len(&self) -> Result<usize, Error>
+        ensures count { IfOk result (λ n. n ≡ 0) }
+        ensures writable { IfErr result (MayRefuseCount false 0) }
+        ensures none { result ≡ Ok 0 }
+    {
+        Ok(0)
+    }
+
+    fn der_constructed(&self) -> bool {
+        self.tag().is_container()
+    }
+
+    fn write_der_header<W: DerWrite>(&self, _alloc: Global, w: &mut W) -> SerializeResult<usize> {
+        put_strict_header(self, w)
+    }
+
+    fn write_der_content<W: DerWrite>(&self, _alloc: Global, w: &mut W) -> SerializeResult<usize> {
+        put_all(w, &[])
+    }
+
+    /// Appends the identifier octets that were read, where the header keeps them, and then the length octets.
+    fn write_der_raw<W: DerWrite>(&self, _alloc: Global, w: &mut W) -> SerializeResult<usize>
+        ensures raw { Wrote (kept_header self.now) (W.told w.old) (W.told w.new) (W.failed w.old) (W.failed w.new) result }
+        ensures failed { (takes_memory : Bool) (most : ℕ) → IfErr result (MayRefuse takes_memory most) }
+        ensures der { raw_tag_of self.now ≡ None → Wrote (strict_header self.now ++ []) (W.told w.old) (W.told w.new) (W.failed w.old) (W.failed w.new) result }
+        ensures counted { IfOk result (λ n. (raw : List ℕ) × Appends (W.told w.old) (W.told w.new) raw × (n ≡ length raw)) }
+    {
+        match self.raw_tag() {
+            Some(octets) => put_parts(octets, self.length(), w),
+            None => put_strict_header(self, w),
+        }
     }
 }

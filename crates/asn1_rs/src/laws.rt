@@ -2,7 +2,7 @@
 //!
 //! No code calls the law traits: they have no functions. A type whose laws are proved can be read by [`read_ber`] and
 //! [`read_der`] and written by [`write_strict`], alone or nested in lists, sets and tags.
-ghost use Rattle.std.specs.Prelude.{ℕ, Bool, List, ◌≡◌, ◌++◌, ◌<◌, ◌^◌, ◌↔◌, ◌||◌, false, length, Result, IsTrue, IfErr, MatchResult};
+ghost use Rattle.std.specs.Prelude.{ℕ, Bool, List, ◌≡◌, ◌++◌, ◌<◌, ◌^◌, ◌↔◌, ◌||◌, false, length, Result, Ok, Err, IsTrue, IfErr, MatchResult};
 ghost use Rattle.std.specs.Io.KnownBytes.{Appends};
 ghost use Rattle.x690.specs.Octets.{IsOctets};
 ghost use Rattle.x690.specs.Identifiers.{Identifier, IsCutIdentifier};
@@ -17,6 +17,10 @@ ghost use Rattle.asn1_rs.specs.Answers.{seen, Exactly, TellsMemory, ReadsBack};
 ghost use Rattle.asn1_rs.specs.Form.{IsOneForm, IsOneValue, FitsElement, HasValues, IsStrict};
 ghost use Rattle.asn1_rs.specs.Grammar.{IsOneFront, IsOneBody, BerWord, DerWord, TakesBody, Checks, FormChecks, FormBodies, FormTakes, EndsWithin};
 ghost use Rattle.asn1_rs.specs.Wrote.{Wrote, MayRefuse};
+ghost use Rattle.asn1_rs.specs.declared.header.Header.{Header as Head};
+ghost use Rattle.asn1_rs.specs.declared.asn1_types.any.Any.{Any as Element};
+ghost use Rattle.asn1_rs.specs.Header.{refusal_of, HeaderGives};
+ghost use Rattle.asn1_rs.specs.Laws.Any.{DerElementGives};
 ghost use Rattle.asn1_rs.specs.Laws.Elements.{element_exact, der_elements};
 ghost use Rattle.asn1_rs.specs.Laws.Forms.{WritesByValue, WritesForm};
 
@@ -186,3 +190,14 @@ pub fn write_strict<T: LawfulWrite, W: DerWrite>(
 {
     x.write_der(alloc, w)
 }
+
+/// The answers of the readers of headers by DER and by BER, and of elements by DER, are what the input makes them: it
+/// has one refusal, that of its first fault from the left, and none where a header, or an element, begins it.
+pub fn one_refusal()
+    ensures header { (rule : Identifier → Bool) (at_indefinite : Fault) (input : List ℕ) (q r : Refusal Fault)
+        → HeaderGives rule (refusal_of at_indefinite) input (Err q) → HeaderGives rule (refusal_of at_indefinite) input (Err r) → q ≡ r }
+    ensures no_header { (rule : Identifier → Bool) (at_indefinite : Fault) (input : List ℕ) (x : List ℕ × Head) (r : Refusal Fault)
+        → HeaderGives rule (refusal_of at_indefinite) input (Ok x) → HeaderGives rule (refusal_of at_indefinite) input (Err r) → ⊥ }
+    ensures element { (input : List ℕ) (q r : Refusal Fault) → DerElementGives input (Err q) → DerElementGives input (Err r) → q ≡ r }
+    ensures no_element { (input : List ℕ) (x : List ℕ × Element) (r : Refusal Fault) → DerElementGives input (Ok x) → DerElementGives input (Err r) → ⊥ }
+{}

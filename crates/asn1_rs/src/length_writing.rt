@@ -1,5 +1,5 @@
 //! Length octets, as they are written (X.690 8.1.3, 10.1).
-ghost use Rattle.std.specs.Prelude.{◌≡◌, ◌≤◌, ℕ, Bool, false, length, Ok, IfErr};
+ghost use Rattle.std.specs.Prelude.{◌≡◌, ◌≤◌, ℕ, Bool, false, [], length, Ok, IfOk, IfErr};
 ghost use Rattle.x690.specs.Strict.{length_form_octets};
 ghost use Rattle.asn1_rs.specs.Length.{form_of};
 ghost use Rattle.asn1_rs.specs.Wrote.{Wrote, MayRefuse};
@@ -27,6 +27,7 @@ pub(crate) fn length_len(form: Length) -> usize
 /// Appends the octets that say this length, in one piece, and answers their number.
 pub(crate) fn put_length<W: DerWrite>(form: Length, w: &mut W) -> SerializeResult<usize>
     ensures wrote { Wrote (length_form_octets (form_of form)) (W.told w.old) (W.told w.new) (W.failed w.old) (W.failed w.new) result }
+    ensures few { IfOk result (λ n. n ≤ 9) }
     ensures failed { (takes_memory : Bool) (most : ℕ) → IfErr result (MayRefuse takes_memory most) }
 {
     match form {
@@ -53,6 +54,10 @@ impl ToDer for Length {
     ghost is_writable = { λ _. Unit {0} };
 
     ghost header = { λ form. length_form_octets (form_of form) };
+
+    ghost content = { λ _. [] };
+
+    ghost constructed = { λ _. false };
 
     ghost count_takes_memory = { false };
 

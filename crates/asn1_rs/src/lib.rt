@@ -17,6 +17,7 @@ mod traits;
 mod writer;
 
 pub use asn1_types::any::Any;
+pub use asn1_types::integer::integers_have_one_refusal;
 pub use ber::GetObjectContent;
 pub use class::{BerClassFromIntError, Class};
 pub use error::{
@@ -26,7 +27,7 @@ pub use error::{
 pub use header::Header;
 pub use laws::{
     Grammar, LawfulAuto, LawfulBer, LawfulBody, LawfulCheck, LawfulDer, LawfulItem, LawfulMember,
-    LawfulWrite, TakesClass, read_der, write_strict,
+    LawfulWrite, TakesClass, one_refusal, read_der, write_strict,
 };
 pub use length::Length;
 pub use tag::Tag;

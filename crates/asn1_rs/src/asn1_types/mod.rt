@@ -1,3 +1,5 @@
 //! The types of elements.
 
 pub mod any;
+pub mod integer;
+mod unsigned;

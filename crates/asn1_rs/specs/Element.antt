@@ -1,0 +1,32 @@
+-- Elements of any type, as values.
+use Rattle.std.specs.Prelude.{◌≡◌, ℕ, ◌<◌, ◌^◌, List}
+use Rattle.x690.specs.Octets.{IsOctets}
+use Rattle.x690.specs.Identifiers.{Identifier}
+use Rattle.x690.specs.Lengths.{definite}
+use Rattle.x690.specs.Elements.{Parts}
+use Rattle.asn1_rs.specs.declared.asn1_types.any.Any.{Any}
+use Rattle.asn1_rs.specs.Header.{identifier_of}
+
+-- what an element says, however its length was written
+pub record Element : Type 0 where
+  pub id : Identifier
+  pub content : List ℕ
+
+abbrev pub element_of : Any → Element
+element_of a = record { id = identifier_of a.header; content = a.content.now }
+
+abbrev pub ElementBody : Parts → Element → Type 0
+ElementBody p v = v ≡ record { id = p.id; content = p.content }
+
+abbrev pub ElementCheck : Parts → Type 0
+ElementCheck p = (n : ℕ) × (p.form ≡ definite n)
+
+abbrev pub IsElementValue : Element → Type 0
+IsElementValue v = IsOctets v.content
+
+-- its own identifier and contents octets
+pub record ElementForm (v : Element) (id : Identifier) (content : List ℕ) : Type 0 where
+  pub is : v ≡ record { id = id; content = content }
+  pub class : id.class < 4
+  pub number : id.number < 2 ^ 32
+  pub octets : IsOctets content

@@ -1,0 +1,82 @@
+//! Integers (X.690 8.3).
+ghost use Rattle.std.specs.Prelude.{ℕ, ◌≡◌, ◌≤◌, ◌++◌, Bool, false, length, Err, IfOk, IfErr};
+ghost use Rattle.x690.specs.Elements.{Parts};
+ghost use Rattle.asn1_rs.specs.declared.error.Error.{Error as Fault};
+ghost use Rattle.x690.specs.Integers.{unsigned_octets};
+ghost use Rattle.asn1_rs.specs.Any.{parts_of};
+ghost use Rattle.asn1_rs.specs.Integer.{IntegerCheckGives, UnsignedGives, unsigned_header};
+ghost use Rattle.asn1_rs.specs.Laws.Integer.{one_integer_check_refusal, one_unsigned_refusal};
+ghost use Rattle.asn1_rs.specs.Wrote.{Wrote, MayRefuse, MayRefuseCount};
+
+use crate::asn1_types::any::Any;
+use crate::error::{DerConstraint, Error, SerializeResult};
+use crate::header_writing::{element_len, put_header};
+use crate::tag::Tag;
+use crate::writer::{DerWrite, put_all};
+use x690::integers::{
+    has_spare_ones, has_spare_zeros, unsigned_into, unsigned_number, unsigned_octets_count,
+};
+
+/// Refuses an element that is constructed, has an indefinite length, or whose contents octets are not the fewest of
+/// their number (X.690 8.3.1, 8.3.2). It is the check of all integers.
+pub(crate) fn check_integer(any: &Any<'_>) -> Result<(), Error>
+    ensures { IntegerCheckGives (parts_of any.now) result }
+{
+    any.header.assert_primitive()?;
+    any.header.length().assert_definite()?;
+    if any.content.is_empty() {
+        return Err(Error::DerConstraintFailed(DerConstraint::IntegerEmpty));
+    }
+    if has_spare_zeros(any.content) {
+        return Err(Error::DerConstraintFailed(DerConstraint::IntegerLeadingZeroes));
+    }
+    if has_spare_ones(any.content) {
+        return Err(Error::DerConstraintFailed(DerConstraint::IntegerLeadingFF));
+    }
+    Ok(())
+}
+
+/// The natural number of an element, which fits in so many octets.
+pub(crate) fn unsigned_from_any(any: &Any<'_>, size: usize) -> Result<u128, Error>
+    requires { size ≤ 16 }
+    ensures { UnsignedGives size (parts_of any.now) result }
+{
+    any.header.assert_tag(Tag::Integer)?;
+    any.header.assert_primitive()?;
+    if any.content.first().is_some_and(|first| *first >= 0x80) {
+        return Err(Error::IntegerNegative);
+    }
+    unsigned_number(any.content, size).ok_or(Error::IntegerTooLarge)
+}
+
+/// How many octets the element of a natural number has.
+pub(crate) fn count_unsigned_element(n: u128) -> Result<usize, Error>
+    ensures count { IfOk result (λ count. count ≡ length (unsigned_header n ++ unsigned_octets n)) }
+    ensures writable { IfErr result (MayRefuseCount false (length (unsigned_header n ++ unsigned_octets n))) }
+{
+    element_len(Tag::Integer.0, Ok(unsigned_octets_count(n)))
+}
+
+/// Appends the strict header of the element of a natural number, and answers its length.
+pub(crate) fn put_unsigned_header<W: DerWrite>(n: u128, w: &mut W) -> SerializeResult<usize>
+    ensures wrote { Wrote (unsigned_header n) (W.told w.old) (W.told w.new) (W.failed w.old) (W.failed w.new) result }
+    ensures writable { IfErr result (MayRefuse false (length (unsigned_header n ++ unsigned_octets n))) }
+{
+    put_header(0, false, Tag::Integer.0, unsigned_octets_count(n), w)
+}
+
+/// Appends the strict contents octets of a natural number, and answers their number.
+pub(crate) fn put_unsigned_content<W: DerWrite>(n: u128, w: &mut W) -> SerializeResult<usize>
+    ensures wrote { Wrote (unsigned_octets n) (W.told w.old) (W.told w.new) (W.failed w.old) (W.failed w.new) result }
+    ensures writable { IfErr result (MayRefuse false (length (unsigned_octets n))) }
+{
+    let mut octets = [0; 17];
+    let first = unsigned_into(n, &mut octets);
+    put_all(w, &octets[first..])
+}
+
+/// The check of an integer allows one refusal for one element, and so does the conversion to a natural number.
+pub fn integers_have_one_refusal()
+    ensures check { (p : Parts) (e f : Fault) → IntegerCheckGives p (Err e) → IntegerCheckGives p (Err f) → e ≡ f }
+    ensures unsigned { (size : ℕ) (p : Parts) (e f : Fault) → UnsignedGives size p (Err e) → UnsignedGives size p (Err f) → e ≡ f }
+{}
