@@ -5,6 +5,10 @@
 #[cfg(test)]
 mod devices;
 #[cfg(test)]
+mod elements;
+#[cfg(test)]
+mod errors;
+#[cfg(test)]
 mod headers;
 #[cfg(test)]
 mod writers;
