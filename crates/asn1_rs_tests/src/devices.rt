@@ -54,9 +54,30 @@ impl Write for Narrow {
 /// A writer of a caller's own, with a mark. It takes one octet a call, and so many octets in all.
 #[derive(Drop)]
 pub(crate) struct CallersOwn {
-    pub(crate) held: Vec<u8>,
-    pub(crate) room: usize,
-    pub(crate) is_failed: bool,
+    held: Vec<u8>,
+    room: usize,
+    is_failed: bool,
+}
+
+impl CallersOwn {
+    /// A writer with room for so many octets, which is not marked.
+    pub(crate) fn new(alloc: Global, room: usize) -> CallersOwn {
+        CallersOwn {
+            held: Vec::new(alloc),
+            room,
+            is_failed: false,
+        }
+    }
+
+    /// What it took.
+    pub(crate) fn held(&self) -> &[u8] {
+        self.held.as_slice()
+    }
+
+    /// Whether it is marked.
+    pub(crate) fn is_failed(&self) -> bool {
+        self.is_failed
+    }
 }
 
 impl DerWrite for CallersOwn {

@@ -5,69 +5,142 @@ use std::borrow::CowSlice;
 use std::test::Fail;
 
 #[test]
-fn identifier_octets_are_read(rt: HostRuntime) -> Result<(), Fail> {
-    // Octets with the length 0 behind them, class, constructed bit and tag number (X.690 8.1.2).
-    let table: [(&[u8], Class, bool, u32); 12] = [
-        (&[0x02, 0x00], Class::Universal, false, 2),
-        (&[0x30, 0x00], Class::Universal, true, 16),
-        (&[0x43, 0x00], Class::Application, false, 3),
-        (&[0x67, 0x00], Class::Application, true, 7),
-        (&[0x82, 0x00], Class::ContextSpecific, false, 2),
-        (&[0xa2, 0x00], Class::ContextSpecific, true, 2),
-        (&[0xde, 0x00], Class::Private, false, 30),
-        (&[0xfe, 0x00], Class::Private, true, 30),
-        (&[0x1f, 0xb4, 0x1a, 0x00], Class::Universal, false, 0x1a1a),
-        (&[0x9f, 0x0f, 0x00], Class::ContextSpecific, false, 15),
-        (&[0x1f, 0x80, 0x80, 0x0f, 0x00], Class::Universal, false, 15),
+fn headers_are_read(rt: HostRuntime) -> Result<(), Fail> {
+    // Octets, class, constructed bit, tag number and length; the identifier octets, and what follows (X.690 8.1.2, 8.1.3).
+    let table: [(&[u8], Class, bool, u32, usize, &[u8], &[u8]); 19] = [
+        (&[0x30, 0x00], Class::Universal, true, 16, 0, &[0x30], &[]),
+        (&[0x43, 0x00], Class::Application, false, 3, 0, &[0x43], &[]),
+        (&[0x67, 0x00], Class::Application, true, 7, 0, &[0x67], &[]),
+        (
+            &[0x82, 0x00],
+            Class::ContextSpecific,
+            false,
+            2,
+            0,
+            &[0x82],
+            &[],
+        ),
+        (
+            &[0xa2, 0x00],
+            Class::ContextSpecific,
+            true,
+            2,
+            0,
+            &[0xa2],
+            &[],
+        ),
+        (&[0xde, 0x00], Class::Private, false, 30, 0, &[0xde], &[]),
+        (&[0xfe, 0x00], Class::Private, true, 30, 0, &[0xfe], &[]),
+        (
+            &[0x1f, 0xb4, 0x1a, 0x00],
+            Class::Universal,
+            false,
+            0x1a1a,
+            0,
+            &[0x1f, 0xb4, 0x1a],
+            &[],
+        ),
+        (
+            &[0x9f, 0x0f, 0x02, 0x12, 0x34],
+            Class::ContextSpecific,
+            false,
+            15,
+            2,
+            &[0x9f, 0x0f],
+            &[0x12, 0x34],
+        ),
+        (
+            &[0x1f, 0x80, 0x80, 0x0f, 0x00],
+            Class::Universal,
+            false,
+            15,
+            0,
+            &[0x1f, 0x80, 0x80, 0x0f],
+            &[],
+        ),
         (
             &[0x1f, 0x8f, 0xff, 0xff, 0xff, 0x7f, 0x00],
             Class::Universal,
             false,
             4294967295,
+            0,
+            &[0x1f, 0x8f, 0xff, 0xff, 0xff, 0x7f],
+            &[],
         ),
-    ];
-    for (octets, class, constructed, tag) in table {
-        let (rest, header) = Header::from_der(rt.alloc(), octets)?;
-        assert_eq!(rt; header.class(), class, "{octets:?}");
-        assert_eq!(rt; header.constructed(), constructed, "{octets:?}");
-        assert_eq!(rt; header.tag(), Tag(tag), "{octets:?}");
-        assert_eq!(rt; header.length(), Length::Definite(0), "{octets:?}");
-        assert_eq!(rt; rest, [].as_slice(), "{octets:?}");
-        let [identifier @ .., _] = octets else {
-            continue;
-        };
-        assert_eq!(rt; header.raw_tag(), Some(identifier), "{octets:?}");
-    }
-    Ok(())
-}
-
-#[test]
-fn length_octets_are_read(rt: HostRuntime) -> Result<(), Fail> {
-    // Octets, length and what follows (X.690 8.1.3).
-    let table: [(&[u8], usize, &[u8]); 8] = [
-        (&[0x02, 0x05], 5, &[]),
-        (&[0x02, 0x26, 0x81], 38, &[0x81]),
-        (&[0x02, 0x7f, 0x01, 0x02], 127, &[0x01, 0x02]),
-        (&[0x02, 0x81, 0x05], 5, &[]),
-        (&[0x02, 0x81, 0xc9], 201, &[]),
-        (&[0x02, 0x82, 0x01, 0x2c], 300, &[]),
+        (&[0x02, 0x05], Class::Universal, false, 2, 5, &[0x02], &[]),
+        (
+            &[0x02, 0x26, 0x81],
+            Class::Universal,
+            false,
+            2,
+            38,
+            &[0x02],
+            &[0x81],
+        ),
+        (
+            &[0x02, 0x7f, 0x01, 0x02],
+            Class::Universal,
+            false,
+            2,
+            127,
+            &[0x02],
+            &[0x01, 0x02],
+        ),
+        (
+            &[0x02, 0x81, 0x05],
+            Class::Universal,
+            false,
+            2,
+            5,
+            &[0x02],
+            &[],
+        ),
+        (
+            &[0x02, 0x81, 0xc9],
+            Class::Universal,
+            false,
+            2,
+            201,
+            &[0x02],
+            &[],
+        ),
+        (
+            &[0x02, 0x82, 0x01, 0x2c],
+            Class::Universal,
+            false,
+            2,
+            300,
+            &[0x02],
+            &[],
+        ),
         (
             &[0x02, 0x88, 0xff, 0xff, 0xff, 0xff, 0xff, 0xff, 0xff, 0xff],
-            usize::MAX,
+            Class::Universal,
+            false,
+            2,
+            18446744073709551615,
+            &[0x02],
             &[],
         ),
         (
             &[
                 0x02, 0x89, 0x00, 0x00, 0x00, 0x00, 0x00, 0x00, 0x00, 0x00, 0x00,
             ],
+            Class::Universal,
+            false,
+            2,
             0,
+            &[0x02],
             &[],
         ),
     ];
-    for (octets, length, rest) in table {
+    for (octets, class, constructed, tag, length, identifier, rest) in table {
         let (left, header) = Header::from_der(rt.alloc(), octets)?;
+        assert_eq!(rt; header.class(), class, "{octets:?}");
+        assert_eq!(rt; header.constructed(), constructed, "{octets:?}");
+        assert_eq!(rt; header.tag(), Tag(tag), "{octets:?}");
         assert_eq!(rt; header.length(), Length::Definite(length), "{octets:?}");
-        assert_eq!(rt; header.tag(), Tag::Integer, "{octets:?}");
+        assert_eq!(rt; header.raw_tag(), Some(identifier), "{octets:?}");
         assert_eq!(rt; left, rest, "{octets:?}");
     }
     Ok(())

@@ -11,4 +11,8 @@ mod errors;
 #[cfg(test)]
 mod headers;
 #[cfg(test)]
+mod lines;
+#[cfg(test)]
+mod numbers;
+#[cfg(test)]
 mod writers;
