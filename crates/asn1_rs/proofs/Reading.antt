@@ -5,7 +5,7 @@ use Rattle.x690.specs.Laws.Octets.{octets_front}
 use Rattle.x690.specs.Identifiers.{Identifier, IsIdentifier}
 use Rattle.x690.specs.Lengths.{IsLengthForm}
 use Rattle.x690.specs.Elements.{AllowsForm}
-use Rattle.x690.specs.Faults.{Fault, missing, form_fault, LengthFault, FormFault}
+use Rattle.x690.specs.Faults.{missing, form_fault, LengthFault, FormFault}
 use Rattle.x690.specs.Laws.Identifiers.{same_identifier}
 use Rattle.asn1_rs.specs.declared.header.Header.{Header}
 use Rattle.asn1_rs.specs.declared.header_reading.IdentifierOctets.{IdentifierOctets as Read}

@@ -1,11 +1,11 @@
 -- Headers.
-use Rattle.std.specs.Prelude.{◌≡◌, ◌&&◌, ℕ, Bool, nat_eq, Option, Some, None, List, [], ◌++◌, Result, Ok, Err}
+use Rattle.std.specs.Prelude.{◌≡◌, ◌&&◌, ℕ, Bool, nat_eq, Option, Some, List, ◌++◌, Result, Ok, Err}
 use Rattle.std.specs.Option.{option_map}
 use Rattle.std.specs.Ordering.{on}
 use Rattle.std.specs.Bool.{beq}
 use Rattle.std.specs.Cow.{cow_slice_items}
-use Rattle.x690.specs.Identifiers.{Identifier, IsIdentifier, IsCutIdentifier}
-use Rattle.x690.specs.Lengths.{LengthForm, IsLengthForm}
+use Rattle.x690.specs.Identifiers.{Identifier, IsIdentifier}
+use Rattle.x690.specs.Lengths.{IsLengthForm}
 use Rattle.x690.specs.Elements.{IsHeader}
 use Rattle.x690.specs.Faults.{Fault, missing, tag_fault, length_fault, form_fault, depth_fault, HeaderFault}
 use Rattle.asn1_rs.specs.declared.class.Class.{Class}
