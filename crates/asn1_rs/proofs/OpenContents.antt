@@ -70,10 +70,12 @@ next_is_word (suc opened) depth octets word after outcome count headers some w n
 
 -- a header that counts its contents octets is next, with as many octets
 pub next_is_definite : (opened depth : ℕ) (octets header after content rest : List ℕ) (id : Identifier) (n : ℕ) (outcome : Result (List ℕ) Fault) (headers : ℕ) → 1 ≤ opened → 1 ≤ depth → IsOctets after → IsHeader ber_rule header id (definite n) → octets ≡ header ++ after → after ≡ content ++ rest → length content ≡ n →
-    ((tail : List ℕ) → octets ≡ end_of_contents ++ tail → ⊥) → OpenContents opened depth rest outcome headers → OpenContents opened depth octets outcome (1 + headers)
+    ((tail : List ℕ) → octets ≡ end_of_contents ++ tail → ⊥) → OpenContents opened depth rest outcome headers → OpenContents opened depth octets outcome (suc headers)
 next_is_definite opened depth octets header after content rest id n outcome headers some deep whole h s t l not_end r =
     let m = definite_made octets header after content rest id n whole h s t l in
-    next_is_word opened depth octets (header ++ content) rest outcome 1 headers some (_, definite_is_nested depth (header ++ content) _ deep m.0) (λ e. not_end rest (m.1 ∙ ap (λ (ys : List ℕ). ys ++ rest) e)) m.1 r
+    let n : 1 + headers ≡ suc headers = omega arith in
+    subst (λ (m : ℕ). OpenContents opened depth octets outcome m) n
+    (next_is_word opened depth octets (header ++ content) rest outcome 1 headers some (_, definite_is_nested depth (header ++ content) _ deep m.0) (λ e. not_end rest (m.1 ∙ ap (λ (ys : List ℕ). ys ++ rest) e)) m.1 r)
 
 opens : (opened depth : ℕ) (octets header after : List ℕ) (id : Identifier) (outcome : Result (List ℕ) Fault) (headers : ℕ) → IsHeader ber_rule header id indefinite → octets ≡ header ++ after → OpenContents (suc (suc opened)) depth after outcome headers → OpenContents (suc opened) (suc depth) octets outcome (suc headers)
 unfolding OpenContents
@@ -112,3 +114,15 @@ one_fails depth octets fault headers r = elim r [
   | inl s ↦ let e : s.0 ≡ fault = cc in subst (λ f. EndFault depth octets f) e s.1
   | inr s ↦ let e : Err fault ≡ Ok s.1 = s.5.0 in cc
 ]
+
+-- where the fault of the next element is that of the whole
+pub next_fails : (opened depth whole_depth : ℕ) (octets whole : List ℕ) (fault : Fault) (before : ℕ) → 1 ≤ opened → ElementFault depth octets fault →
+    ((outcome : Result (List ℕ) Fault) (headers : ℕ) → OpenContents opened depth octets outcome headers → OpenContents 1 whole_depth whole outcome (before + headers)) → EndFault whole_depth whole fault
+next_fails opened depth whole_depth octets whole fault before some why goes_on =
+    one_fails whole_depth whole fault (before + 0) (goes_on (Err fault) 0 (next_has_fault opened depth octets fault 0 some why))
+
+-- the headers after one more of them
+pub one_header_more : (depth : ℕ) (octets : List ℕ) (outcome : Result (List ℕ) Fault) (start now headers : ℕ) → start ≤ now → OpenContents 1 depth octets outcome ((now - start) + suc headers) → OpenContents 1 depth octets outcome ((now + 1 - start) + headers)
+one_header_more depth octets outcome start now headers grows r =
+    let e : (now - start) + suc headers ≡ (now + 1 - start) + headers = omega arith in
+    subst (λ (n : ℕ). OpenContents 1 depth octets outcome n) e r

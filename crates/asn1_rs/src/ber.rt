@@ -1,20 +1,23 @@
 //! Reading elements and their contents octets (X.690 8.1).
-ghost use Rattle.std.specs.Prelude.{◌≡◌, ℕ, Bool, List, Result};
+ghost use Rattle.std.specs.Prelude.{◌≡◌, ℕ, ◌+◌, ◌-◌, ◌*◌, ◌^◌, ◌<◌, ◌≤◌, Bool, List, ◌++◌, length, Result, IfOk, IfErr, IfSome, IfNone};
 ghost use Rattle.std.specs.Borrow.{Bor};
 ghost use Rattle.x690.specs.Lengths.{LengthForm};
 ghost use Rattle.x690.specs.Elements.{IsDefiniteElement};
 ghost use Rattle.x690.specs.Faults.{DefiniteElementFault};
+ghost use Rattle.x690.specs.Nested.{end_of_contents};
+ghost use Rattle.x690.specs.Contents.{IsEndedContent, EndFault};
 ghost use Rattle.asn1_rs.specs.declared.error.Err.{Err as Refusal};
 ghost use Rattle.asn1_rs.specs.declared.error.Error.{Error as Fault};
 ghost use Rattle.asn1_rs.specs.Answers.{seen};
-ghost use Rattle.asn1_rs.specs.Header.{der_refusal, is_constructed_of, length_of};
+ghost use Rattle.asn1_rs.specs.Header.{Refused, der_refusal, ber_refusal, is_constructed_of, length_of};
 ghost use Rattle.asn1_rs.specs.Length.{form_of};
+ghost use Rattle.asn1_rs.specs.Ber.{count_of};
 ghost use Rattle.asn1_rs.specs.Any.{AnyGives, Splits, DerContentGives};
 
 use crate::asn1_types::any::Any;
 use crate::error::{DerConstraint, Err, Error, Needed, ParseResult};
 use crate::header::Header;
-use crate::header_reading::header_by_der;
+use crate::header_reading::{header_by_der, length_by_ber};
 use crate::length::Length;
 use crate::traits::DerParser;
 
@@ -43,6 +46,88 @@ pub(crate) fn element_by_der(bytes: &[u8]) -> ParseResult<'_, Any<'_>, Error>
             DerConstraint::IndefiniteLength,
         ))),
     }
+}
+
+/// How deep elements of indefinite length may nest.
+pub const MAX_RECURSION: usize = 50;
+
+/// Counts the headers that are read.
+#[derive(Debug, Drop)]
+pub struct Steps {
+    count: u64,
+}
+
+impl Steps {
+    /// A count that starts at 0.
+    pub fn new() -> Steps
+        ensures { count_of result ≡ 0 }
+    {
+        Steps { count: 0 }
+    }
+
+    /// How many headers were read so far.
+    pub fn count(&self) -> u64
+        ensures { result ≡ count_of self.now }
+    {
+        self.count
+    }
+}
+
+/// What follows 00 00, if the octets begin with it.
+fn after_end(bytes: &[u8]) -> Option<&[u8]>
+    ensures some { IfSome result (λ rest. bytes.now ≡ end_of_contents ++ rest.now) }
+    ensures none { IfNone result ((rest : List ℕ) → bytes.now ≡ end_of_contents ++ rest → ⊥) }
+{
+    match bytes {
+        [0, 0, rest @ ..] => Some(rest),
+        _ => None,
+    }
+}
+
+/// What follows the 00 00 that ends an indefinite content (X.690 8.1.5).
+///
+/// The depth is that of the element whose content it is. One counter of the contents that are open stands in place of
+/// calls within calls.
+fn skip_content<'a>(
+    bytes: &'a [u8],
+    max_depth: usize,
+    steps: &mut Steps,
+) -> Result<&'a [u8], Err<Error>>
+    requires deep { 1 ≤ max_depth }
+    requires room { count_of steps.old + length bytes.now < 2 ^ 64 }
+    ensures ok { IfOk result (λ rest. (content : List ℕ) × (inner : ℕ) × IsEndedContent (max_depth - 1) bytes.now content rest.now inner × (count_of steps.new ≡ count_of steps.old + (inner + 1))) }
+    ensures err { IfErr result (Refused (EndFault (max_depth - 1)) ber_refusal bytes.now) }
+    ensures few { 2 * count_of steps.new ≤ 2 * count_of steps.old + length bytes.now }
+    ensures grows { count_of steps.old ≤ count_of steps.new }
+{
+    let mut rest = bytes;
+    let mut depth = max_depth - 1;
+    let mut opened: usize = 1;
+    while opened > 0 {
+        let (after, length) = length_by_ber(rest)?;
+        steps.count += 1;
+        if depth == 0 {
+            return Err(Err::Error(Error::BerMaxDepth));
+        }
+        if let Some(tail) = after_end(rest) {
+            rest = tail;
+            depth += 1;
+            opened -= 1;
+            continue;
+        }
+        match length {
+            Length::Definite(len) => {
+                let (tail, _content) = split_content(after, len)?;
+                rest = tail;
+            }
+            Length::Indefinite => {
+                rest = after;
+                depth -= 1;
+                opened += 1;
+            }
+        }
+    }
+    Ok(rest)
 }
 
 /// A reader of contents octets, whose header was read before them.

@@ -8,6 +8,7 @@ ghost use Rattle.asn1_rs.specs.Class.{class_number};
 ghost use Rattle.asn1_rs.specs.Answers.{seen};
 ghost use Rattle.asn1_rs.specs.Laws.Headers.{HeaderRefusalLasts};
 ghost use Rattle.asn1_rs.specs.Header.{Refused, refusal_of, der_refusal, ber_refusal, HeaderGives, BeginsWithIdentifier, BeginsWithLength, BeginsWithBoth, HasParts, tag_read};
+ghost use Rattle.asn1_rs.specs.Ber.{BeginsWithForm};
 ghost use Rattle.asn1_rs.specs.declared.error.Error.{Error as Fault};
 
 use crate::class::Class;
@@ -142,6 +143,15 @@ pub(crate) fn header_by_ber(bytes: &[u8]) -> ParseResult<'_, Header<'_>, Error>
         }
         _ => Ok((rest, identifier.with_length(length))),
     }
+}
+
+/// The length of the header at the front, by BER, and what follows the header.
+pub(crate) fn length_by_ber(bytes: &[u8]) -> ParseResult<'_, Length, Error>
+    ensures ok { IfOk result (λ x. BeginsWithForm bytes.now x.0.now x.1) }
+    ensures err { IfErr result (Refused (HeaderFault ber_rule) ber_refusal bytes.now) }
+{
+    let (rest, header) = header_by_ber(bytes)?;
+    Ok((rest, header.length()))
 }
 
 impl<'a> FromDer<'a, Error> for Header<'a> {
