@@ -4,20 +4,21 @@ ghost use Rattle.std.specs.Borrow.{Bor};
 ghost use Rattle.x690.specs.Lengths.{LengthForm};
 ghost use Rattle.x690.specs.Elements.{IsDefiniteElement};
 ghost use Rattle.x690.specs.Faults.{DefiniteElementFault};
-ghost use Rattle.x690.specs.Nested.{end_of_contents};
-ghost use Rattle.x690.specs.Contents.{IsEndedContent, EndFault};
+ghost use Rattle.x690.specs.Nested.{IsElement, ElementFault, end_of_contents};
+ghost use Rattle.x690.specs.Contents.{IsEndedContent, EndFault, IsContent, ContentFault};
 ghost use Rattle.asn1_rs.specs.declared.error.Err.{Err as Refusal};
 ghost use Rattle.asn1_rs.specs.declared.error.Error.{Error as Fault};
 ghost use Rattle.asn1_rs.specs.Answers.{seen};
 ghost use Rattle.asn1_rs.specs.Header.{Refused, der_refusal, ber_refusal, is_constructed_of, length_of};
 ghost use Rattle.asn1_rs.specs.Length.{form_of};
-ghost use Rattle.asn1_rs.specs.Ber.{count_of};
-ghost use Rattle.asn1_rs.specs.Any.{AnyGives, Splits, DerContentGives};
+ghost use Rattle.asn1_rs.specs.Ber.{count_of, CountedElement};
+ghost use Rattle.asn1_rs.specs.Grammar.{max_depth};
+ghost use Rattle.asn1_rs.specs.Any.{parts_of, AnyGives, Splits, DerContentGives};
 
 use crate::asn1_types::any::Any;
 use crate::error::{DerConstraint, Err, Error, Needed, ParseResult};
 use crate::header::Header;
-use crate::header_reading::{header_by_der, length_by_ber};
+use crate::header_reading::{header_by_ber, header_by_der, length_by_ber};
 use crate::length::Length;
 use crate::traits::DerParser;
 
@@ -128,6 +129,73 @@ fn skip_content<'a>(
         }
     }
     Ok(rest)
+}
+
+/// The contents octets at the front, of a length of this form, by BER. The depth is that of their element.
+fn content_by_ber<'a>(
+    bytes: &'a [u8],
+    form: Length,
+    max_depth: usize,
+    steps: &mut Steps,
+) -> ParseResult<'a, &'a [u8], Error>
+    requires deep { 1 ≤ max_depth }
+    requires room { count_of steps.old + length bytes.now < 2 ^ 64 }
+    ensures ok { IfOk result (λ x. (headers : ℕ) × IsContent (form_of form) (max_depth - 1) bytes.now x.1.now x.0.now headers × (count_of steps.new ≡ count_of steps.old + headers)) }
+    ensures err { IfErr result (Refused (ContentFault (form_of form) (max_depth - 1)) ber_refusal bytes.now) }
+    ensures few { 2 * count_of steps.new ≤ 2 * count_of steps.old + length bytes.now }
+    ensures grows { count_of steps.old ≤ count_of steps.new }
+{
+    match form {
+        Length::Definite(len) => split_content(bytes, len),
+        Length::Indefinite => {
+            let rest = skip_content(bytes, max_depth, steps)?;
+            let (content, _end) = bytes.split_at(bytes.len() - rest.len() - 2);
+            Ok((rest, content))
+        }
+    }
+}
+
+/// The element at the front, by BER, nested to a depth. The headers that are read are counted.
+fn element_to_depth<'a>(
+    bytes: &'a [u8],
+    max_depth: usize,
+    steps: &mut Steps,
+) -> ParseResult<'a, Any<'a>, Error>
+    requires deep { 1 ≤ max_depth }
+    requires room { count_of steps.old + length bytes.now < 2 ^ 64 }
+    ensures ok { IfOk result (λ x. CountedElement max_depth bytes.now x.0.now (parts_of x.1) (count_of steps.old) (count_of steps.new)) }
+    ensures err { IfErr result (Refused (ElementFault max_depth) ber_refusal bytes.now) }
+    ensures few { 2 * count_of steps.new ≤ 2 * count_of steps.old + length bytes.now }
+    ensures grows { count_of steps.old ≤ count_of steps.new }
+{
+    let (after, header) = header_by_ber(bytes)?;
+    steps.count += 1;
+    let (rest, content) = content_by_ber(after, header.length(), max_depth, steps)?;
+    Ok((rest, Any::new(header, content)))
+}
+
+/// The element at the front, by BER. It takes no memory.
+pub(crate) fn element_by_ber(bytes: &[u8]) -> ParseResult<'_, Any<'_>, Error>
+    ensures { AnyGives (IsElement max_depth) (ElementFault max_depth) ber_refusal bytes.now (seen result) }
+{
+    any_from_ber_counted(bytes, &mut Steps::new())
+}
+
+/// Reads an element by BER, as `Any::from_ber` does, and counts the headers that are read.
+///
+/// Each header that does not stand in a definite content is read once, and that of each 00 00 too. So the count grows
+/// by half the octets of the element at most.
+pub fn any_from_ber_counted<'a>(
+    bytes: &'a [u8],
+    steps: &mut Steps,
+) -> ParseResult<'a, Any<'a>, Error>
+    requires { count_of steps.old + length bytes.now < 2 ^ 64 }
+    ensures gives { AnyGives (IsElement max_depth) (ElementFault max_depth) ber_refusal bytes.now (seen result) }
+    ensures ticks { IfOk result (λ x. CountedElement max_depth bytes.now x.0.now (parts_of x.1) (count_of steps.old) (count_of steps.new)) }
+    ensures few { 2 * count_of steps.new ≤ 2 * count_of steps.old + length bytes.now }
+    ensures grows { count_of steps.old ≤ count_of steps.new }
+{
+    element_to_depth(bytes, MAX_RECURSION, steps)
 }
 
 /// A reader of contents octets, whose header was read before them.

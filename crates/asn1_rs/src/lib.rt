@@ -18,7 +18,7 @@ mod writer;
 
 pub use asn1_types::any::Any;
 pub use asn1_types::integer::integers_have_one_refusal;
-pub use ber::{GetObjectContent, MAX_RECURSION, Steps};
+pub use ber::{GetObjectContent, MAX_RECURSION, Steps, any_from_ber_counted};
 pub use class::{BerClassFromIntError, Class};
 pub use error::{
     DerConstraint, Err, Error, IResult, Needed, ParseResult, SerializeError, SerializeResult,
