@@ -149,8 +149,8 @@ fn content_by_ber<'a>(
         Length::Definite(len) => split_content(bytes, len),
         Length::Indefinite => {
             let rest = skip_content(bytes, max_depth, steps)?;
-            let (content, _end) = bytes.split_at(bytes.len() - rest.len() - 2);
-            Ok((rest, content))
+            let (contents, _end) = bytes.split_at(bytes.len() - rest.len() - 2);
+            Ok((rest, contents))
         }
     }
 }
@@ -170,8 +170,8 @@ fn element_to_depth<'a>(
 {
     let (after, header) = header_by_ber(bytes)?;
     steps.count += 1;
-    let (rest, content) = content_by_ber(after, header.length(), max_depth, steps)?;
-    Ok((rest, Any::new(header, content)))
+    let (rest, contents) = content_by_ber(after, header.length(), max_depth, steps)?;
+    Ok((rest, Any::new(header, contents)))
 }
 
 /// The element at the front, by BER. It takes no memory.

@@ -136,12 +136,12 @@ pub(crate) fn header_by_der(bytes: &[u8]) -> ParseResult<'_, Header<'_>, Error>
 pub(crate) fn header_by_ber(bytes: &[u8]) -> ParseResult<'_, Header<'_>, Error>
     ensures { HeaderGives ber_rule ber_refusal bytes.now (seen result) }
 {
-    let (rest, (identifier, length)) = read_parts(bytes)?;
-    match length {
+    let (rest, (identifier, form)) = read_parts(bytes)?;
+    match form {
         Length::Indefinite if !identifier.constructed => {
             Err(Err::Error(Error::ConstructExpected))
         }
-        _ => Ok((rest, identifier.with_length(length))),
+        _ => Ok((rest, identifier.with_length(form))),
     }
 }
 

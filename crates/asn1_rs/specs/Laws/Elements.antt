@@ -1,13 +1,12 @@
 -- Readers that read one element, check it and convert it are exact.
-use Rattle.std.proofs.Common.{arith, ◌≡◌, ◌∙◌, ap, sym, subst, refl, ℕ, ◌<◌, ◌≤◌, ◌⊎◌, inl, inr, Bool, List, [], ◌++◌, length, append_assoc, append-nil}
+use Rattle.std.proofs.Common.{arith, ◌≡◌, ◌∙◌, ap, sym, subst, refl, ℕ, ◌<◌, ◌≤◌, inl, inr, Bool, List, [], ◌++◌, length, append_assoc, append-nil}
 use Rattle.std.specs.Prelude.{Result, Ok, Err}
 use Rattle.x690.specs.Octets.{IsOctets}
 use Rattle.x690.specs.Identifiers.{IsCutIdentifier}
 use Rattle.x690.specs.Elements.{Parts, IsDefiniteElement}
 use Rattle.x690.specs.Faults.{Fault, missing, tag_fault, length_fault, form_fault, depth_fault, DefiniteElementFault, SpeaksOf}
 use Rattle.x690.specs.Nested.{IsElement, ElementFault}
-use Rattle.x690.specs.Laws.Octets.{octets_front, octets_back}
-use Rattle.x690.specs.Laws.Elements.{definite_element_unique, definite_element_two, definite_element_is_octets}
+use Rattle.x690.specs.Laws.Elements.{definite_element_unique, definite_element_two}
 use Rattle.x690.specs.Laws.Faults.{CountsSome, no_definite_element, definite_fault_counts}
 use Rattle.x690.specs.Laws.Nested.{nested_element_unique, nested_element_two, nested_content_is_octets}
 use Rattle.x690.specs.Laws.NestedFaults.{no_element, element_fault_counts}
@@ -16,8 +15,8 @@ use Rattle.asn1_rs.specs.declared.error.Err.TheVariants.{Error as refused, Incom
 use Rattle.asn1_rs.specs.declared.error.Needed.TheVariants.{Size, Unknown}
 use Rattle.asn1_rs.specs.declared.error.Error.{Error}
 use Rattle.asn1_rs.specs.Error.{Converted}
-use Rattle.asn1_rs.specs.Header.{refusal_of, der_refusal, ber_refusal}
-use Rattle.asn1_rs.specs.Answers.{Front, NoFront, IsFinal, Speaks, Exactly, TellsMemory, ReadsBack}
+use Rattle.asn1_rs.specs.Header.{refusal_of}
+use Rattle.asn1_rs.specs.Answers.{Front, NoFront, IsFinal, Speaks, Exactly, TellsMemory}
 use Rattle.asn1_rs.specs.Grammar.{IsOneFront, ElementWord, ElementGives, TakesBody, Checks, max_depth, EndsWithin}
 
 -- What the laws ask of elements: one alone begins an input, and a fault is final.

@@ -31,7 +31,7 @@ returns-clause-ok c =
     let h = c.in_ok-after.header in
     let s = c.in_ok-rest.ensures.ok in
     let made = c.new.ensures in
-    let m = nested_read c.args.max_depth c.args.bytes.now c.in_ok-after.after.now c.in_ok-rest.content.now c.in_ok-rest.rest.now h s.0 (parts_of c.new.result) c.requires.deep (λ k. omega (arith, c.type_inv.bytes k)) c.in_ok-after.ensures (subst (λ (l : Length). IsContent (form_of l) (c.args.max_depth - 1) c.in_ok-after.after.now c.in_ok-rest.content.now c.in_ok-rest.rest.now s.0) c.length.ensures s.1)
+    let m = nested_read c.args.max_depth c.args.bytes.now c.in_ok-after.after.now c.in_ok-rest.contents.now c.in_ok-rest.rest.now h s.0 (parts_of c.new.result) c.requires.deep (λ k. omega (arith, c.type_inv.bytes k)) c.in_ok-after.ensures (subst (λ (l : Length). IsContent (form_of l) (c.args.max_depth - 1) c.in_ok-after.after.now c.in_ok-rest.contents.now c.in_ok-rest.rest.now s.0) c.length.ensures s.1)
     (ap identifier_of made.header) (ap (λ (x : Header). form_of x.length) made.header) made.content in
     let n : count_of c.content_by_ber.new.steps ≡ count_of c.args.steps.now + suc s.0 = omega (arith, s.2) in
     record { word = m.0; headers = suc s.0; element = m.1; is = m.2; counted = n; half = nested_element_half c.args.max_depth m.0 (parts_of c.new.result) (suc s.0) m.1 }

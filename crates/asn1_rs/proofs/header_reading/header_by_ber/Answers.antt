@@ -15,9 +15,9 @@ returns-in_err-rest c =
 pub returns-in_default : goal.returns-in_default
 returns-in_default c =
     let x = c.in_ok-rest.identifier in
-    let allowed : AllowsForm (ber_rule (id_read x)) (form_of c.in_ok-rest.length) =
+    let allowed : AllowsForm (ber_rule (id_read x)) (form_of c.in_ok-rest.form) =
     elim c.in_default.branch [
-      | in_default-via-in-Indefinite+else-not-identifier w ↦ constructed_allowed _ c.in_ok-rest.length w.if-not-identifier.false
-      | in_default-via-in_default w ↦ definite_allowed _ c.in_ok-rest.length w.in_default.not-Indefinite
+      | in_default-via-in-Indefinite+else-not-identifier w ↦ constructed_allowed _ c.in_ok-rest.form w.if-not-identifier.false
+      | in_default-via-in_default w ↦ definite_allowed _ c.in_ok-rest.form w.in_default.not-Indefinite
     ] in
-    begins_made ber_rule c.args.bytes.now c.in_ok-rest.rest.now x c.in_ok-rest.length c.with_length.result c.in_ok-rest.ensures.ok c.with_length.ensures allowed
+    begins_made ber_rule c.args.bytes.now c.in_ok-rest.rest.now x c.in_ok-rest.form c.with_length.result c.in_ok-rest.ensures.ok c.with_length.ensures allowed
