@@ -11,7 +11,7 @@ ghost use Rattle.asn1_rs.specs.declared.error.Error.{Error as Fault};
 ghost use Rattle.asn1_rs.specs.Answers.{seen};
 ghost use Rattle.asn1_rs.specs.Header.{Refused, der_refusal, ber_refusal, is_constructed_of, length_of};
 ghost use Rattle.asn1_rs.specs.Length.{form_of};
-ghost use Rattle.asn1_rs.specs.Ber.{count_of, CountedElement};
+ghost use Rattle.asn1_rs.specs.Ber.{count_of, BerContentGives, CountedElement};
 ghost use Rattle.asn1_rs.specs.Grammar.{max_depth};
 ghost use Rattle.asn1_rs.specs.Any.{parts_of, AnyGives, Splits, DerContentGives};
 
@@ -20,7 +20,7 @@ use crate::error::{DerConstraint, Err, Error, Needed, ParseResult};
 use crate::header::Header;
 use crate::header_reading::{header_by_ber, header_by_der, length_by_ber};
 use crate::length::Length;
-use crate::traits::DerParser;
+use crate::traits::{BerParser, DerParser};
 
 /// So many octets of the input, or `Incomplete` with the number that is missing.
 fn split_content(bytes: &[u8], len: usize) -> ParseResult<'_, &[u8], Error>
@@ -213,6 +213,25 @@ pub trait GetObjectContent {
         ensures { content_gives (is_constructed_of hdr.now) (form_of (length_of hdr.now)) max_depth i.now result };
 }
 
+impl GetObjectContent for BerParser {
+    ghost content_gives = { BerContentGives };
+
+    fn get_object_content<'a>(
+        i: &'a [u8],
+        hdr: &Header<'_>,
+        max_depth: usize,
+    ) -> ParseResult<'a, &'a [u8], Error> {
+        if max_depth == 0 {
+            return Err(Err::Error(Error::BerMaxDepth));
+        }
+        let form = hdr.length();
+        match form {
+            Length::Indefinite if hdr.is_primitive() => Err(Err::Error(Error::ConstructExpected)),
+            _ => content_by_ber(i, form, max_depth, &mut Steps::new()),
+        }
+    }
+}
+
 impl GetObjectContent for DerParser {
     ghost content_gives = { λ _ form _ input answer. DerContentGives form input answer };
 
@@ -231,6 +250,17 @@ impl GetObjectContent for DerParser {
 }
 
 impl Header<'_> {
+    /// The contents octets at the front of the octets that follow this header, by BER, and the rest. Elements of
+    /// indefinite length nest eight deep at most, with that of this header.
+    ///
+    /// Where the length is indefinite these are the elements up to the 00 00 that ends them. Refused with
+    /// `Incomplete(n)` where n octets are missing of a definite length; else as `get_object_content` of [`BerParser`].
+    pub fn parse_ber_content<'i>(&self, i: &'i [u8]) -> ParseResult<'i, &'i [u8], Error>
+        ensures { BerContentGives (is_constructed_of self.now) (form_of (length_of self.now)) 8 i.now result }
+    {
+        BerParser::get_object_content(i, self, 8)
+    }
+
     /// The contents octets at the front of the octets that follow this header, by DER, and the rest.
     ///
     /// Refused with `DerConstraintFailed(IndefiniteLength)` at an indefinite length, else with `Incomplete(n)` where n
