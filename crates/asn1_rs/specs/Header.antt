@@ -94,6 +94,10 @@ BeginsWithIdentifier input rest x = IsIdentifier x.octets.now (id_read x) × (in
 abbrev pub BeginsWithLength : List ℕ → List ℕ → Length → Type 0
 BeginsWithLength input rest length = (octets : List ℕ) × IsLengthForm octets (form_of length) × (input ≡ octets ++ rest)
 
+-- identifier octets and then length octets, or 80, begin the input, and the rest follows
+abbrev pub BeginsWithBoth : List ℕ → List ℕ → Read → Length → Type 0
+BeginsWithBoth input rest x length = (mid : List ℕ) × BeginsWithIdentifier input mid x × BeginsWithLength mid rest length
+
 -- what a reader of headers may answer: the header and the rest, or the refusal of the first fault
 abbrev pub HeaderGives : (Identifier → Bool) → (Fault → Refusal Error) → List ℕ → Result (List ℕ × Header) (Refusal Error) → Type 0
 HeaderGives rule refusal input (Ok x) = BeginsInput rule input x.0 x.1

@@ -8,6 +8,7 @@ ghost use Rattle.x690.specs.Octets.{IsOctets};
 ghost use Rattle.x690.specs.Identifiers.{Identifier, IsCutIdentifier};
 ghost use Rattle.x690.specs.Elements.{Parts, IsDefiniteElement};
 ghost use Rattle.x690.specs.Faults.{DefiniteElementFault};
+ghost use Rattle.x690.specs.Nested.{IsElement, ElementFault};
 ghost use Rattle.asn1_rs.specs.declared.error.Err.{Err as Refusal};
 ghost use Rattle.asn1_rs.specs.declared.error.Error.{Error as Fault};
 ghost use Rattle.asn1_rs.specs.declared.error.Error.TheVariants as faults;
@@ -15,13 +16,13 @@ ghost use Rattle.asn1_rs.specs.declared.error.DerConstraint.TheVariants as const
 ghost use Rattle.asn1_rs.specs.declared.error.SerializeError.TheVariants as refusals;
 ghost use Rattle.asn1_rs.specs.Answers.{seen, Exactly, TellsMemory, ReadsBack};
 ghost use Rattle.asn1_rs.specs.Form.{IsOneForm, IsOneValue, FitsElement, HasValues, IsStrict};
-ghost use Rattle.asn1_rs.specs.Grammar.{IsOneFront, IsOneBody, BerWord, DerWord, TakesBody, Checks, FormChecks, FormBodies, FormTakes, EndsWithin};
+ghost use Rattle.asn1_rs.specs.Grammar.{max_depth, NoCheck, PassesAll, IsOneFront, IsOneBody, BerWord, DerWord, TakesBody, Checks, FormChecks, FormBodies, FormTakes, EndsWithin};
 ghost use Rattle.asn1_rs.specs.Wrote.{Wrote, MayRefuse};
 ghost use Rattle.asn1_rs.specs.declared.header.Header.{Header as Head};
 ghost use Rattle.asn1_rs.specs.declared.asn1_types.any.Any.{Any as Element};
 ghost use Rattle.asn1_rs.specs.Header.{refusal_of, HeaderGives};
 ghost use Rattle.asn1_rs.specs.Laws.Any.{DerElementGives};
-ghost use Rattle.asn1_rs.specs.Laws.Elements.{element_exact, der_elements};
+ghost use Rattle.asn1_rs.specs.Laws.Elements.{element_exact, der_elements, ber_elements, passes_all};
 ghost use Rattle.asn1_rs.specs.Laws.Forms.{WritesByValue, WritesForm};
 
 use crate::error::{Error, ParseResult, SerializeResult};
@@ -215,6 +216,28 @@ where
     T: LawfulBody<'a, E> + LawfulAuto,
 {
     ghost der_exact = { λ input answer octets. element_exact IsDefiniteElement DefiniteElementFault IsCutIdentifier der_elements (faults.DerConstraintFailed constraints.IndefiniteLength) T.check_gives T.any_gives E.from_gives T.Check T.Body T.value T.takes_memory T.Der T.check_exact T.body_exact T.der_split T.der_join input answer };
+}
+
+impl<'a, T, E: From<Error>> LawfulBer<'a, E> for T
+where
+    T: LawfulBody<'a, E>,
+{
+    ghost ber_exact = { λ input answer octets. element_exact (IsElement max_depth) (ElementFault max_depth) EndsWithin ber_elements faults.ConstructExpected PassesAll T.any_gives E.from_gives NoCheck T.Body T.value T.takes_memory T.Ber passes_all T.body_exact T.ber_split T.ber_join input answer };
+}
+
+/// Reads a value of a lawful type by BER.
+///
+/// Ok exactly where a word of the type's grammar begins the octets. A refusal is final: no word begins them, whatever
+/// follows of which the refusal speaks. The strict encoding of a value is read back before any rest.
+pub fn read_ber<'a, T: LawfulBer<'a, E>, E: From<Error>>(
+    alloc: Global,
+    input: &'a [u8],
+) -> ParseResult<'a, T, E>
+    ensures exact { Exactly EndsWithin T.Ber T.value (TellsMemory T.takes_memory E.from_gives) input.now (seen result) }
+    ensures back { (v : T.Value) (w rest : List ℕ) → IsStrict T.Form v w → input.now ≡ w ++ rest → ReadsBack T.value (TellsMemory T.takes_memory E.from_gives) v rest (seen result) }
+    ensures gives { T.ber_gives input.now (seen result) }
+{
+    T::from_ber(alloc, input)
 }
 
 /// Reads a value of a lawful type by DER.

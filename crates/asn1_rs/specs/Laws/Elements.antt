@@ -17,7 +17,7 @@ use Rattle.asn1_rs.specs.declared.error.Error.{Error}
 use Rattle.asn1_rs.specs.Error.{Converted}
 use Rattle.asn1_rs.specs.Header.{refusal_of}
 use Rattle.asn1_rs.specs.Answers.{Front, NoFront, IsFinal, Speaks, Exactly, TellsMemory}
-use Rattle.asn1_rs.specs.Grammar.{IsOneFront, ElementWord, ElementGives, TakesBody, Checks, max_depth, EndsWithin}
+use Rattle.asn1_rs.specs.Grammar.{IsOneFront, ElementWord, ElementGives, TakesBody, Checks, NoCheck, PassesAll, max_depth, EndsWithin}
 
 -- What the laws ask of elements: one alone begins an input, and a fault is final.
 pub record AreElements (Element : List ℕ → Parts → Type 0) (FaultOf : List ℕ → Fault → Type 0) (IsCut : List ℕ → Type 0) : Type 0 where
@@ -47,6 +47,11 @@ ber_elements = record {
   counts = λ input fault f. element_fault_counts max_depth input fault f;
   content = λ o p a. nested_content_is_octets max_depth o p a.0 a.1;
 }
+
+-- a check that refuses nothing asks nothing
+pub passes_all : (p : Parts) (answer : Result (Unit {0}) Error) → PassesAll p answer → Checks NoCheck p answer
+passes_all p (Ok x) h = tt
+passes_all p (Err e) h = cc
 
 speaks_missing : (E : Type 0) (is_cut : Type 0) (n : ℕ) (more : List ℕ) → 1 ≤ n → Speaks {E = E} is_cut (cut (Size n)) more → length more < n
 speaks_missing E is_cut n more some (inl e) = let l = ap length e in omega (arith, l)
