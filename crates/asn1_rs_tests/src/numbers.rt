@@ -46,6 +46,11 @@ fn not_der(constraint: DerConstraint) -> Err<Error> {
     Err::Error(Error::DerConstraintFailed(constraint))
 }
 
+/// The refusal of a number past the type's greatest, where it is.
+fn too_large(is_so: bool) -> Option<Err<Error>> {
+    is_so.then_some(Err::Error(Error::IntegerTooLarge))
+}
+
 #[test]
 fn numbers_are_read_and_written(rt: HostRuntime) -> Result<(), Fail> {
     let of_one_octet: [(u8, &[u8]); 4] = [
@@ -143,29 +148,41 @@ fn numbers_are_refused(rt: HostRuntime) {
         );
         assert_eq!(rt; by_u8, Some(refusal), "{octets:?}");
     }
-}
-
-#[test]
-fn numbers_are_bounded_by_their_types(rt: HostRuntime) -> Result<(), Fail> {
-    // 2 ^ 8, 2 ^ 16, 2 ^ 32 and 2 ^ 64.
-    let too_large = Some(Err::Error(Error::IntegerTooLarge));
-    assert_eq!(rt;
-        u8::from_der(rt.alloc(), &[0x02, 0x02, 0x01, 0x00]).err(),
-        too_large
-    );
-    let octets = [0x02, 0x03, 0x01, 0x00, 0x00];
-    assert_eq!(rt; u16::from_der(rt.alloc(), &octets).err(), too_large);
-    let octets = [0x02, 0x05, 0x01, 0x00, 0x00, 0x00, 0x00];
-    assert_eq!(rt; u32::from_der(rt.alloc(), &octets).err(), too_large);
-    let octets = [
-        0x02, 0x09, 0x01, 0x00, 0x00, 0x00, 0x00, 0x00, 0x00, 0x00, 0x00,
+    // 2 ^ 8, 2 ^ 16, 2 ^ 32 and 2 ^ 64, and how many octets the greatest type has that refuses it.
+    let table: [(&[u8], usize); 5] = [
+        (&[0x02, 0x02, 0x01, 0x00], 1),
+        (&[0x02, 0x03, 0x00, 0xff, 0xff], 1),
+        (&[0x02, 0x03, 0x01, 0x00, 0x00], 2),
+        (&[0x02, 0x05, 0x01, 0x00, 0x00, 0x00, 0x00], 4),
+        (
+            &[
+                0x02, 0x09, 0x01, 0x00, 0x00, 0x00, 0x00, 0x00, 0x00, 0x00, 0x00,
+            ],
+            8,
+        ),
     ];
-    assert_eq!(rt; u64::from_der(rt.alloc(), &octets).err(), too_large);
-    // 65535.
-    let octets = [0x02, 0x03, 0x00, 0xff, 0xff];
-    assert_eq!(rt; u8::from_der(rt.alloc(), &octets).err(), too_large);
-    assert_eq!(rt; read_der::<u16, Error>(rt.alloc(), &octets)?.1, 65535);
-    Ok(())
+    for (octets, size) in table {
+        assert_eq!(rt;
+            u8::from_der(rt.alloc(), octets).err(),
+            too_large(true),
+            "{octets:?}"
+        );
+        assert_eq!(rt;
+            u16::from_der(rt.alloc(), octets).err(),
+            too_large(size >= 2),
+            "{octets:?}"
+        );
+        assert_eq!(rt;
+            u32::from_der(rt.alloc(), octets).err(),
+            too_large(size >= 4),
+            "{octets:?}"
+        );
+        assert_eq!(rt;
+            u64::from_der(rt.alloc(), octets).err(),
+            too_large(size >= 8),
+            "{octets:?}"
+        );
+    }
 }
 
 #[test]
