@@ -1,16 +1,25 @@
--- Elements of definite length that are read.
-use Rattle.std.proofs.Common.{◌≡◌, ◌∙◌, ℕ, ◌+◌, ◌≤◌, Bool, List, ◌++◌, length, refl, subst, sym, ap, append_assoc}
+-- Elements that are read.
+use Rattle.std.proofs.Common.{◌≡◌, ◌∙◌, ℕ, ◌+◌, ◌-◌, ◌≤◌, suc, Bool, List, ◌++◌, length, refl, subst, sym, ap, append_assoc}
+use Rattle.std.specs.Prelude.{Result, Ok, Err, IfErr}
+use Rattle.std.specs.Borrow.{Bor}
 use Rattle.x690.specs.Octets.{IsOctets}
 use Rattle.x690.specs.Identifiers.{Identifier}
 use Rattle.x690.specs.Lengths.{definite, LengthForm}
-use Rattle.x690.specs.Elements.{IsHeader, Parts, IsDefiniteElement, der_rule}
+use Rattle.x690.specs.Elements.{IsHeader, Parts, IsDefiniteElement, der_rule, ber_rule}
 use Rattle.x690.specs.Faults.{missing, IsCutContent}
+use Rattle.x690.specs.Nested.{IsNestedElement}
+use Rattle.x690.specs.Contents.{IsContent, ContentFault}
+use Rattle.x690.specs.Laws.Elements.{same_parts}
+use Rattle.x690.specs.Laws.Contents.{element_made}
 use Rattle.x690.specs.Laws.Octets.{octets_front, octets_back}
 use Rattle.asn1_rs.specs.declared.header.Header.{Header}
 use Rattle.asn1_rs.specs.declared.length.Length.{Length}
 use Rattle.asn1_rs.specs.declared.length.Length.TheVariants.{Definite}
+use Rattle.asn1_rs.specs.declared.error.Err.{Err as Refusal}
+use Rattle.asn1_rs.specs.declared.error.Error.{Error}
+use Rattle.asn1_rs.specs.Any.{Splits}
 use Rattle.asn1_rs.specs.Answers.{Front}
-use Rattle.asn1_rs.specs.Header.{identifier_of, BeginsInput}
+use Rattle.asn1_rs.specs.Header.{identifier_of, BeginsInput, Refused, ber_refusal}
 use Rattle.asn1_rs.specs.Length.{form_of}
 
 -- the header counts octets of which some are missing
@@ -29,8 +38,8 @@ content_cut input rest h n lacking b f some sum = record {
 }
 
 -- the header counts octets that are there
-pub element_made : (input after content rest : List ℕ) (h : Header) (n : ℕ) → IsOctets input → BeginsInput der_rule input after h → h.length ≡ Definite n → length content ≡ n → after ≡ content ++ rest → (p : Parts) → p.id ≡ identifier_of h → p.form ≡ form_of h.length → p.content ≡ content → Front IsDefiniteElement input p rest
-element_made input after content rest h n octets b f l e p pi pf pc = record {
+pub definite_read : (input after content rest : List ℕ) (h : Header) (n : ℕ) → IsOctets input → BeginsInput der_rule input after h → h.length ≡ Definite n → length content ≡ n → after ≡ content ++ rest → (p : Parts) → p.id ≡ identifier_of h → p.form ≡ form_of h.length → p.content ≡ content → Front IsDefiniteElement input p rest
+definite_read input after content rest h n octets b f l e p pi pf pc = record {
   word = b.octets ++ content;
   fits = record {
     header = b.octets;
@@ -41,3 +50,15 @@ element_made input after content rest h n octets b f l e p pi pf pc = record {
   };
   is = b.is ∙ ap (λ (z : List ℕ). b.octets ++ z) e ∙ sym (append_assoc b.octets content rest);
 }
+
+-- octets that are missing are a fault of the contents octets
+pub splits_refused : (n depth : ℕ) (input : List ℕ) (answer : Result (Bor (List ℕ) × Bor (List ℕ)) (Refusal Error)) → Splits n input answer → IfErr answer (Refused (ContentFault (definite n) depth) ber_refusal input)
+splits_refused n depth input (Ok x) s = tt
+splits_refused n depth input (Err r) s = (missing s.0, (s.0, s.1, s.2, refl), s.3)
+
+-- a header and its contents octets by BER
+pub nested_read : (depth : ℕ) (input after content rest : List ℕ) (h : Header) (headers : ℕ) (p : Parts) → 1 ≤ depth → IsOctets input → BeginsInput ber_rule input after h → IsContent (form_of h.length) (depth - 1) after content rest headers → p.id ≡ identifier_of h → p.form ≡ form_of h.length → p.content ≡ content →
+    (word : List ℕ) × IsNestedElement depth word p (suc headers) × (input ≡ word ++ rest)
+nested_read depth input after content rest h headers p deep octets b c pi pf pc =
+    let m = element_made depth input b.octets after content rest (identifier_of h) (form_of h.length) headers deep (octets_back b.octets after (subst IsOctets b.is octets)) b.header b.is c in
+    (m.0, subst (λ (q : Parts). IsNestedElement depth m.0 q (suc headers)) (sym (same_parts p.id (identifier_of h) p.form (form_of h.length) p.content content pi pf pc)) m.1, m.2)

@@ -1,3 +1,4 @@
 mod Elements
+mod OpenContents
 mod Reading
 mod Writing

@@ -1,11 +1,11 @@
 -- Octets that are read.
-use Rattle.std.proofs.Common.{◌≡◌, ◌∙◌, ℕ, ◌+◌, ◌<◌, ◌≤◌, Bool, false, Some, List, [], ◌∷◌, ◌++◌, length, get_or, suc, refl, arith, subst, sym, ap, append_assoc}
+use Rattle.std.proofs.Common.{◌≡◌, ◌∙◌, ℕ, ◌+◌, ◌<◌, ◌≤◌, Bool, true, Some, List, [], ◌∷◌, ◌++◌, length, get_or, suc, refl, arith, subst, sym, ap, append_assoc}
 use Rattle.x690.specs.Octets.{IsOctets}
 use Rattle.x690.specs.Laws.Octets.{octets_front}
 use Rattle.x690.specs.Identifiers.{Identifier, IsIdentifier}
 use Rattle.x690.specs.Lengths.{IsLengthForm}
 use Rattle.x690.specs.Elements.{AllowsForm}
-use Rattle.x690.specs.Faults.{Fault, missing, form_fault, LengthFault, FormFault}
+use Rattle.x690.specs.Faults.{missing, LengthFault}
 use Rattle.x690.specs.Laws.Identifiers.{same_identifier}
 use Rattle.asn1_rs.specs.declared.header.Header.{Header}
 use Rattle.asn1_rs.specs.declared.header_reading.IdentifierOctets.{IdentifierOctets as Read}
@@ -14,7 +14,7 @@ use Rattle.asn1_rs.specs.declared.length.Length.TheVariants.{Definite, Indefinit
 use Rattle.asn1_rs.specs.declared.tag.Tag.{Tag}
 use Rattle.asn1_rs.specs.Class.{class_number}
 use Rattle.asn1_rs.specs.Length.{form_of}
-use Rattle.asn1_rs.specs.Header.{identifier_of, HasParts, BeginsInput, BeginsWithIdentifier, BeginsWithLength, id_read, tag_read}
+use Rattle.asn1_rs.specs.Header.{identifier_of, HasParts, BeginsInput, BeginsWithBoth, id_read, tag_read}
 
 pub nothing : (octets : List ℕ) → length octets < 1 → octets ≡ []
 nothing [] h = refl
@@ -35,9 +35,11 @@ long_octets octets front back first h e =
     octets_front front back (λ k. t (suc k))
 
 -- a header of the parts that were read begins the input
-pub begins_made : (rule : Identifier → Bool) (input mid rest : List ℕ) (x : Read) (length : Length) (h : Header) → BeginsWithIdentifier input mid x → BeginsWithLength mid rest length
+pub begins_made : (rule : Identifier → Bool) (input rest : List ℕ) (x : Read) (length : Length) (h : Header) → BeginsWithBoth input rest x length
     → HasParts h x.class x.constructed (tag_read x) length (Some x.octets.now) → AllowsForm (rule (id_read x)) (form_of length) → BeginsInput rule input rest h
-begins_made rule input mid rest x length h i l p allowed =
+begins_made rule input rest x length h b p allowed =
+    let i = b.1 in
+    let l = b.2 in
     let same : id_read x ≡ identifier_of h = sym (same_identifier (class_number h.class) (class_number x.class) h.tag.0 x.number h.constructed x.constructed (ap class_number p.class_is) p.constructed_is (ap (λ (t : Tag). t.0) p.tag_is)) in
     record {
       octets = x.octets.now ++ l.0;
@@ -53,11 +55,10 @@ begins_made rule input mid rest x length h i l p allowed =
       raw_tag = p.raw_tag_is;
     }
 
-pub definite_allowed : (allowed : Bool) (length : Length) (n : ℕ) → length ≡ Definite n → AllowsForm allowed (form_of length)
-definite_allowed allowed (Definite m) n e = tt
-definite_allowed allowed Indefinite n e = cc
+pub definite_allowed : (allowed : Bool) (length : Length) → (length ≡ Indefinite → ⊥) → AllowsForm allowed (form_of length)
+definite_allowed allowed (Definite m) e = tt
+definite_allowed allowed Indefinite e = absurd (e refl)
 
--- 80 begins the rest of an input with an indefinite length
-pub form_fault_made : (rest tail : List ℕ) (length : Length) (allowed : Bool) → BeginsWithLength rest tail length → length ≡ Indefinite → allowed ≡ false → FormFault allowed rest form_fault
-form_fault_made rest tail (Definite n) allowed l e a = cc
-form_fault_made rest tail Indefinite allowed l e a = (refl, a, (tail, l.2 ∙ ap (λ (ys : List ℕ). ys ++ tail) l.1))
+pub constructed_allowed : (allowed : Bool) (length : Length) → allowed ≡ true → AllowsForm allowed (form_of length)
+constructed_allowed allowed (Definite m) e = tt
+constructed_allowed allowed Indefinite e = e

@@ -1,5 +1,5 @@
 -- One writing after another.
-use Rattle.std.proofs.Common.{◌≡◌, ℕ, ◌+◌, Bool, true, false, ◌||◌, ◌&&◌, ◌==◌, nat_lt, List, [], ◌∷◌, ◌++◌, length, take, drop, ◌-◌, ◌≤◌, length-append, Option, None, Some, IfErr, IsTrue, MatchResult, ◌^◌, ◌<◌, IfOk, zero, suc, Result, Ok, Err, refl, sym, ap, ◌∙◌, append_assoc, arith, subst}
+use Rattle.std.proofs.Common.{◌≡◌, ℕ, ◌+◌, Bool, true, false, ◌||◌, ◌&&◌, ◌==◌, nat_lt, List, [], ◌++◌, length, take, drop, ◌-◌, ◌≤◌, length-append, Option, None, Some, IfErr, IsTrue, MatchResult, ◌^◌, ◌<◌, IfOk, zero, suc, Result, Ok, Err, refl, sym, ap, ◌∙◌, append_assoc, arith, subst}
 use Rattle.std.proofs.lemmas.Bool.Decides.{nat_tests}
 use Rattle.std.proofs.lemmas.List.{append-nil}
 use Rattle.std.proofs.lemmas.Grind.{common_steps}
@@ -7,7 +7,7 @@ use Rattle.std.specs.Io.KnownBytes.{Appends}
 use Rattle.std.specs.Io.{WritesAtMost}
 use Rattle.std.specs.Io.KnownBytes.{WriteAppends}
 use Rattle.std.specs.declared.io.Error.{Error as Failure}
-use Rattle.asn1_rs.specs.Wrote.{GrewByABeginning, Wrote, is_io, SumsWritten, SumsCounts, MayRefuse, MayRefuseCount, PutOnce, PutAnswer, put_fails}
+use Rattle.asn1_rs.specs.Wrote.{Wrote, is_io, SumsWritten, SumsCounts, MayRefuse, MayRefuseCount, PutOnce, PutAnswer, put_fails}
 use Rattle.asn1_rs.specs.declared.error.Error.{Error}
 use Rattle.asn1_rs.specs.declared.error.SerializeError.TheVariants as refusals
 use Rattle.asn1_rs.specs.declared.error.SerializeError.{SerializeError}

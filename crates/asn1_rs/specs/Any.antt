@@ -2,8 +2,8 @@
 use Rattle.std.specs.Prelude.{◌≡◌, ◌≢◌, ◌⊎◌, ◌+◌, ◌≤◌, ℕ, List, ◌++◌, length, Some, Result, Ok, Err}
 use Rattle.std.specs.Borrow.{Bor}
 use Rattle.x690.specs.Lengths.{LengthForm, definite, indefinite}
-use Rattle.x690.specs.Elements.{Parts, IsDefiniteElement}
-use Rattle.x690.specs.Faults.{Fault, DefiniteElementFault}
+use Rattle.x690.specs.Elements.{Parts}
+use Rattle.x690.specs.Faults.{Fault}
 use Rattle.asn1_rs.specs.declared.asn1_types.any.Any.{Any}
 use Rattle.asn1_rs.specs.declared.class.Class.{Class}
 use Rattle.asn1_rs.specs.declared.tag.Tag.{Tag}
@@ -15,7 +15,7 @@ use Rattle.asn1_rs.specs.declared.error.Err.TheVariants.{Incomplete as cut, Erro
 use Rattle.asn1_rs.specs.declared.error.Needed.TheVariants.{Size}
 use Rattle.asn1_rs.specs.Error.{Converted}
 use Rattle.asn1_rs.specs.Class.{class_number}
-use Rattle.asn1_rs.specs.Header.{identifier_of, Refused, der_refusal}
+use Rattle.asn1_rs.specs.Header.{identifier_of, Refused}
 use Rattle.asn1_rs.specs.Length.{form_of}
 use Rattle.asn1_rs.specs.Answers.{Front}
 
@@ -48,13 +48,19 @@ abbrev pub DerContentGives : LengthForm → List ℕ → Result (Bor (List ℕ) 
 DerContentGives (definite n) input answer = Splits n input answer
 DerContentGives indefinite input answer = answer ≡ Err (refused (DerConstraintFailed IndefiniteLength))
 
--- What reading an element by DER, looking at its tag number and then its class, and handing its contents octets to a reader may answer. The rest is the element's.
-abbrev pub AndThenGives : {T E : Type 0} → Class → Tag → (Error → E → Type 0) → (List ℕ → Result (Bor (List ℕ) × T) (Refusal E) → Type 0) → List ℕ → Result (List ℕ × T) (Refusal E) → Type 0
-AndThenGives class tag from reads input (Ok x) =
-    (p : Parts) × Front IsDefiniteElement input p x.0 × (p.id.number ≡ tag.0) × (p.id.class ≡ class_number class) × ((rest : Bor (List ℕ)) × reads p.content (Ok (rest, x.1)))
-AndThenGives {T} {E} class tag from reads input (Err r) =
-    ((fault : Fault) × DefiniteElementFault input fault × Converted from (der_refusal fault) r) ⊎
-    ((p : Parts) × (rest : List ℕ) × (actual : Class) × Front IsDefiniteElement input p rest × (p.id.class ≡ class_number actual) × (
+-- What looking at the tag number of an element and then at its class, and handing its contents octets to a reader, may answer. The rest is the element's.
+abbrev pub HandsOn : {T E : Type 0} → Class → Tag → (Error → E → Type 0) → (List ℕ → Result (Bor (List ℕ) × T) (Refusal E) → Type 0) → Parts → List ℕ → Result (List ℕ × T) (Refusal E) → Type 0
+HandsOn class tag from reads p rest (Ok x) =
+    (p.id.number ≡ tag.0) × (p.id.class ≡ class_number class) × (x.0 ≡ rest) × ((left : Bor (List ℕ)) × reads p.content (Ok (left, x.1)))
+HandsOn {T} {E} class tag from reads p rest (Err r) =
+    (actual : Class) × (p.id.class ≡ class_number actual) × (
     ((p.id.number ≢ tag.0) × ((e : E) × from (UnexpectedTag (Some tag) (record { 0 = p.id.number })) e × (r ≡ refused e))) ⊎
     ((p.id.number ≡ tag.0) × (actual ≢ class) × ((e : E) × from (UnexpectedClass (Some class) actual) e × (r ≡ refused e))) ⊎
-    ((p.id.number ≡ tag.0) × (actual ≡ class) × reads p.content (Err r))))
+    ((p.id.number ≡ tag.0) × (actual ≡ class) × reads p.content (Err r)))
+
+-- what reading an element and then that may answer: a refusal is that of the element's first fault, or that of what follows
+abbrev pub AndThenGives : {T E : Type 0} → (List ℕ → Parts → Type 0) → (List ℕ → Fault → Type 0) → (Fault → Refusal Error) → Class → Tag → (Error → E → Type 0) → (List ℕ → Result (Bor (List ℕ) × T) (Refusal E) → Type 0) → List ℕ → Result (List ℕ × T) (Refusal E) → Type 0
+AndThenGives Element FaultOf refusal class tag from reads input (Ok x) =
+    (p : Parts) × (rest : List ℕ) × Front Element input p rest × HandsOn class tag from reads p rest (Ok x)
+AndThenGives Element FaultOf refusal class tag from reads input (Err r) =
+    ((fault : Fault) × FaultOf input fault × Converted from (refusal fault) r) ⊎ ((p : Parts) × (rest : List ℕ) × Front Element input p rest × HandsOn class tag from reads p rest (Err r))

@@ -1,9 +1,11 @@
 -- Elements of any type, as values.
-use Rattle.std.specs.Prelude.{◌≡◌, ℕ, ◌<◌, ◌^◌, List}
+use Rattle.std.specs.Prelude.{◌≡◌, ℕ, ◌<◌, ◌^◌, List, length}
 use Rattle.x690.specs.Octets.{IsOctets}
 use Rattle.x690.specs.Identifiers.{Identifier}
 use Rattle.x690.specs.Lengths.{definite}
 use Rattle.x690.specs.Elements.{Parts}
+use Rattle.x690.specs.Strict.{header_octets}
+use Rattle.asn1_rs.specs.Class.{class_number}
 use Rattle.asn1_rs.specs.declared.asn1_types.any.Any.{Any}
 use Rattle.asn1_rs.specs.Header.{identifier_of}
 
@@ -30,3 +32,10 @@ pub record ElementForm (v : Element) (id : Identifier) (content : List ℕ) : Ty
   pub class : id.class < 4
   pub number : id.number < 2 ^ 32
   pub octets : IsOctets content
+
+abbrev pub content_of : Any → List ℕ
+content_of a = a.content.now
+
+-- the strict header of an element with its contents octets
+abbrev pub element_header : Any → List ℕ
+element_header a = header_octets (class_number a.header.class) a.header.constructed a.header.tag.0 (length a.content.now)

@@ -1,11 +1,11 @@
 -- Headers.
-use Rattle.std.specs.Prelude.{◌≡◌, ◌&&◌, ℕ, Bool, nat_eq, Option, Some, None, List, [], ◌++◌, Result, Ok, Err}
+use Rattle.std.specs.Prelude.{◌≡◌, ◌&&◌, ℕ, Bool, nat_eq, Option, Some, List, ◌++◌, Result, Ok, Err}
 use Rattle.std.specs.Option.{option_map}
 use Rattle.std.specs.Ordering.{on}
 use Rattle.std.specs.Bool.{beq}
 use Rattle.std.specs.Cow.{cow_slice_items}
-use Rattle.x690.specs.Identifiers.{Identifier, IsIdentifier, IsCutIdentifier}
-use Rattle.x690.specs.Lengths.{LengthForm, IsLengthForm}
+use Rattle.x690.specs.Identifiers.{Identifier, IsIdentifier}
+use Rattle.x690.specs.Lengths.{IsLengthForm}
 use Rattle.x690.specs.Elements.{IsHeader}
 use Rattle.x690.specs.Faults.{Fault, missing, tag_fault, length_fault, form_fault, depth_fault, HeaderFault}
 use Rattle.asn1_rs.specs.declared.class.Class.{Class}
@@ -93,6 +93,10 @@ BeginsWithIdentifier input rest x = IsIdentifier x.octets.now (id_read x) × (in
 -- length octets, or 80, begin the input, and the rest follows
 abbrev pub BeginsWithLength : List ℕ → List ℕ → Length → Type 0
 BeginsWithLength input rest length = (octets : List ℕ) × IsLengthForm octets (form_of length) × (input ≡ octets ++ rest)
+
+-- identifier octets and then length octets, or 80, begin the input, and the rest follows
+abbrev pub BeginsWithBoth : List ℕ → List ℕ → Read → Length → Type 0
+BeginsWithBoth input rest x length = (mid : List ℕ) × BeginsWithIdentifier input mid x × BeginsWithLength mid rest length
 
 -- what a reader of headers may answer: the header and the rest, or the refusal of the first fault
 abbrev pub HeaderGives : (Identifier → Bool) → (Fault → Refusal Error) → List ℕ → Result (List ℕ × Header) (Refusal Error) → Type 0

@@ -5,3 +5,4 @@ pub mod Forms
 pub mod Any
 pub mod Element
 pub mod Integer
+pub mod ElementWriting

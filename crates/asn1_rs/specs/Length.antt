@@ -1,5 +1,5 @@
 -- Lengths.
-use Rattle.std.specs.Prelude.{◌≡◌, ℕ, ◌+◌, ◌<◌, ◌^◌}
+use Rattle.std.specs.Prelude.{◌+◌, ◌<◌, ◌^◌}
 use Rattle.x690.specs.Lengths.{LengthForm, definite, indefinite}
 use Rattle.asn1_rs.specs.declared.length.Length.{Length}
 use Rattle.asn1_rs.specs.declared.length.Length.TheVariants.{Definite, Indefinite}

@@ -6,6 +6,7 @@ pub mod Header
 pub mod Wrote
 pub mod WrittenHeader
 pub mod Any
+pub mod Ber
 pub mod Answers
 pub mod Form
 pub mod Grammar

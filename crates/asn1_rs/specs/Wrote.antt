@@ -1,5 +1,5 @@
 -- What a writing leaves in a writer, and why it is refused.
-use Rattle.std.specs.Prelude.{◌≡◌, ℕ, ◌+◌, ◌≤◌, ◌^◌, ◌<◌, Bool, true, false, ◌||◌, ◌&&◌, ◌==◌, nat_lt, IsTrue, List, ◌++◌, length, Option, Result, Ok, Err, IfOk, OnErr, IsErr, MatchResult, ⊤}
+use Rattle.std.specs.Prelude.{◌≡◌, ℕ, ◌+◌, ◌≤◌, ◌^◌, Bool, true, false, ◌||◌, ◌&&◌, ◌==◌, nat_lt, IsTrue, List, ◌++◌, length, Option, Result, Ok, Err, IfOk, OnErr, IsErr, MatchResult, ⊤}
 use Rattle.std.specs.Io.{WritesAtMost}
 use Rattle.std.specs.Io.KnownBytes.{Appends, WriteAppends}
 use Rattle.std.specs.IoError.{error_kind}

@@ -1,22 +1,26 @@
 //! Reading elements and their contents octets (X.690 8.1).
-ghost use Rattle.std.specs.Prelude.{◌≡◌, ℕ, Bool, List, Result};
+ghost use Rattle.std.specs.Prelude.{◌≡◌, ℕ, ◌+◌, ◌-◌, ◌*◌, ◌^◌, ◌<◌, ◌≤◌, Bool, List, ◌++◌, length, Result, IfOk, IfErr, IfSome, IfNone};
 ghost use Rattle.std.specs.Borrow.{Bor};
 ghost use Rattle.x690.specs.Lengths.{LengthForm};
 ghost use Rattle.x690.specs.Elements.{IsDefiniteElement};
 ghost use Rattle.x690.specs.Faults.{DefiniteElementFault};
+ghost use Rattle.x690.specs.Nested.{IsElement, ElementFault, end_of_contents};
+ghost use Rattle.x690.specs.Contents.{IsEndedContent, EndFault, IsContent, ContentFault};
 ghost use Rattle.asn1_rs.specs.declared.error.Err.{Err as Refusal};
 ghost use Rattle.asn1_rs.specs.declared.error.Error.{Error as Fault};
 ghost use Rattle.asn1_rs.specs.Answers.{seen};
-ghost use Rattle.asn1_rs.specs.Header.{der_refusal, is_constructed_of, length_of};
+ghost use Rattle.asn1_rs.specs.Header.{Refused, der_refusal, ber_refusal, is_constructed_of, length_of};
 ghost use Rattle.asn1_rs.specs.Length.{form_of};
-ghost use Rattle.asn1_rs.specs.Any.{AnyGives, Splits, DerContentGives};
+ghost use Rattle.asn1_rs.specs.Ber.{count_of, BerContentGives, CountedElement};
+ghost use Rattle.asn1_rs.specs.Grammar.{max_depth};
+ghost use Rattle.asn1_rs.specs.Any.{parts_of, AnyGives, Splits, DerContentGives};
 
 use crate::asn1_types::any::Any;
 use crate::error::{DerConstraint, Err, Error, Needed, ParseResult};
 use crate::header::Header;
-use crate::header_reading::header_by_der;
+use crate::header_reading::{header_by_ber, header_by_der, length_by_ber};
 use crate::length::Length;
-use crate::traits::DerParser;
+use crate::traits::{BerParser, DerParser};
 
 /// So many octets of the input, or `Incomplete` with the number that is missing.
 fn split_content(bytes: &[u8], len: usize) -> ParseResult<'_, &[u8], Error>
@@ -45,6 +49,155 @@ pub(crate) fn element_by_der(bytes: &[u8]) -> ParseResult<'_, Any<'_>, Error>
     }
 }
 
+/// How deep elements of indefinite length may nest.
+pub const MAX_RECURSION: usize = 50;
+
+/// Counts the headers that are read.
+#[derive(Debug, Drop)]
+pub struct Steps {
+    count: u64,
+}
+
+impl Steps {
+    /// A count that starts at 0.
+    pub fn new() -> Steps
+        ensures { count_of result ≡ 0 }
+    {
+        Steps { count: 0 }
+    }
+
+    /// How many headers were read so far.
+    pub fn count(&self) -> u64
+        ensures { result ≡ count_of self.now }
+    {
+        self.count
+    }
+}
+
+/// What follows 00 00, if the octets begin with it.
+fn after_end(bytes: &[u8]) -> Option<&[u8]>
+    ensures some { IfSome result (λ rest. bytes.now ≡ end_of_contents ++ rest.now) }
+    ensures none { IfNone result ((rest : List ℕ) → bytes.now ≡ end_of_contents ++ rest → ⊥) }
+{
+    match bytes {
+        [0, 0, rest @ ..] => Some(rest),
+        _ => None,
+    }
+}
+
+/// What follows the 00 00 that ends an indefinite content (X.690 8.1.5).
+///
+/// The depth is that of the element whose content it is. One counter of the contents that are open stands in place of
+/// calls within calls.
+fn skip_content<'a>(
+    bytes: &'a [u8],
+    max_depth: usize,
+    steps: &mut Steps,
+) -> Result<&'a [u8], Err<Error>>
+    requires deep { 1 ≤ max_depth }
+    requires room { count_of steps.old + length bytes.now < 2 ^ 64 }
+    ensures ok { IfOk result (λ rest. (content : List ℕ) × (inner : ℕ) × IsEndedContent (max_depth - 1) bytes.now content rest.now inner × (count_of steps.new ≡ count_of steps.old + (inner + 1))) }
+    ensures err { IfErr result (Refused (EndFault (max_depth - 1)) ber_refusal bytes.now) }
+    ensures few { 2 * count_of steps.new ≤ 2 * count_of steps.old + length bytes.now }
+    ensures grows { count_of steps.old ≤ count_of steps.new }
+{
+    let mut rest = bytes;
+    let mut depth = max_depth - 1;
+    let mut opened: usize = 1;
+    while opened > 0 {
+        let (after, length) = length_by_ber(rest)?;
+        steps.count += 1;
+        if depth == 0 {
+            return Err(Err::Error(Error::BerMaxDepth));
+        }
+        if let Some(tail) = after_end(rest) {
+            rest = tail;
+            depth += 1;
+            opened -= 1;
+            continue;
+        }
+        match length {
+            Length::Definite(len) => {
+                let (tail, _content) = split_content(after, len)?;
+                rest = tail;
+            }
+            Length::Indefinite => {
+                rest = after;
+                depth -= 1;
+                opened += 1;
+            }
+        }
+    }
+    Ok(rest)
+}
+
+/// The contents octets at the front, of a length of this form, by BER. The depth is that of their element.
+fn content_by_ber<'a>(
+    bytes: &'a [u8],
+    form: Length,
+    max_depth: usize,
+    steps: &mut Steps,
+) -> ParseResult<'a, &'a [u8], Error>
+    requires deep { 1 ≤ max_depth }
+    requires room { count_of steps.old + length bytes.now < 2 ^ 64 }
+    ensures ok { IfOk result (λ x. (headers : ℕ) × IsContent (form_of form) (max_depth - 1) bytes.now x.1.now x.0.now headers × (count_of steps.new ≡ count_of steps.old + headers)) }
+    ensures err { IfErr result (Refused (ContentFault (form_of form) (max_depth - 1)) ber_refusal bytes.now) }
+    ensures few { 2 * count_of steps.new ≤ 2 * count_of steps.old + length bytes.now }
+    ensures grows { count_of steps.old ≤ count_of steps.new }
+{
+    match form {
+        Length::Definite(len) => split_content(bytes, len),
+        Length::Indefinite => {
+            let rest = skip_content(bytes, max_depth, steps)?;
+            let (contents, _end) = bytes.split_at(bytes.len() - rest.len() - 2);
+            Ok((rest, contents))
+        }
+    }
+}
+
+/// The element at the front, by BER, nested to a depth. The headers that are read are counted.
+fn element_to_depth<'a>(
+    bytes: &'a [u8],
+    max_depth: usize,
+    steps: &mut Steps,
+) -> ParseResult<'a, Any<'a>, Error>
+    requires deep { 1 ≤ max_depth }
+    requires room { count_of steps.old + length bytes.now < 2 ^ 64 }
+    ensures ok { IfOk result (λ x. CountedElement max_depth bytes.now x.0.now (parts_of x.1) (count_of steps.old) (count_of steps.new)) }
+    ensures err { IfErr result (Refused (ElementFault max_depth) ber_refusal bytes.now) }
+    ensures few { 2 * count_of steps.new ≤ 2 * count_of steps.old + length bytes.now }
+    ensures grows { count_of steps.old ≤ count_of steps.new }
+{
+    let (after, header) = header_by_ber(bytes)?;
+    steps.count += 1;
+    let (rest, contents) = content_by_ber(after, header.length(), max_depth, steps)?;
+    Ok((rest, Any::new(header, contents)))
+}
+
+/// The element at the front, by BER. It takes no memory.
+pub(crate) fn element_by_ber(bytes: &[u8]) -> ParseResult<'_, Any<'_>, Error>
+    ensures { AnyGives (IsElement max_depth) (ElementFault max_depth) ber_refusal bytes.now (seen result) }
+{
+    any_from_ber_counted(bytes, &mut Steps::new())
+}
+
+/// Reads an element by BER, as `Any::from_ber` does, and counts the headers that are read.
+///
+/// Each header that does not stand in a definite content is read once, and that of each 00 00 too. So the count grows
+/// by half the octets of the element at most.
+pub fn any_from_ber_counted<'a>(
+    bytes: &'a [u8],
+    steps: &mut Steps,
+) -> ParseResult<'a, Any<'a>, Error>
+    requires { count_of steps.old + length bytes.now < 2 ^ 64 }
+    ensures gives { AnyGives (IsElement max_depth) (ElementFault max_depth) ber_refusal bytes.now (seen result) }
+    ensures ticks { IfOk result (λ x. CountedElement max_depth bytes.now x.0.now (parts_of x.1) (count_of steps.old) (count_of steps.new)) }
+    ensures few { 2 * count_of steps.new ≤ 2 * count_of steps.old + length bytes.now }
+    ensures grows { count_of steps.old ≤ count_of steps.new }
+{
+    element_to_depth(bytes, MAX_RECURSION, steps)
+}
+
 /// A reader of contents octets, whose header was read before them.
 pub trait GetObjectContent {
     /// What the reader may answer at a header with this constructed bit and this form of length, at a depth.
@@ -58,6 +211,25 @@ pub trait GetObjectContent {
         max_depth: usize,
     ) -> ParseResult<'a, &'a [u8], Error>
         ensures { content_gives (is_constructed_of hdr.now) (form_of (length_of hdr.now)) max_depth i.now result };
+}
+
+impl GetObjectContent for BerParser {
+    ghost content_gives = { BerContentGives };
+
+    fn get_object_content<'a>(
+        i: &'a [u8],
+        hdr: &Header<'_>,
+        max_depth: usize,
+    ) -> ParseResult<'a, &'a [u8], Error> {
+        if max_depth == 0 {
+            return Err(Err::Error(Error::BerMaxDepth));
+        }
+        let form = hdr.length();
+        match form {
+            Length::Indefinite if hdr.is_primitive() => Err(Err::Error(Error::ConstructExpected)),
+            _ => content_by_ber(i, form, max_depth, &mut Steps::new()),
+        }
+    }
 }
 
 impl GetObjectContent for DerParser {
@@ -78,6 +250,17 @@ impl GetObjectContent for DerParser {
 }
 
 impl Header<'_> {
+    /// The contents octets at the front of the octets that follow this header, by BER, and the rest. Elements of
+    /// indefinite length nest eight deep at most, with that of this header.
+    ///
+    /// Where the length is indefinite these are the elements up to the 00 00 that ends them. Refused with
+    /// `Incomplete(n)` where n octets are missing of a definite length; else as `get_object_content` of [`BerParser`].
+    pub fn parse_ber_content<'i>(&self, i: &'i [u8]) -> ParseResult<'i, &'i [u8], Error>
+        ensures { BerContentGives (is_constructed_of self.now) (form_of (length_of self.now)) 8 i.now result }
+    {
+        BerParser::get_object_content(i, self, 8)
+    }
+
     /// The contents octets at the front of the octets that follow this header, by DER, and the rest.
     ///
     /// Refused with `DerConstraintFailed(IndefiniteLength)` at an indefinite length, else with `Incomplete(n)` where n

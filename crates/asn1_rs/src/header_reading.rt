@@ -1,13 +1,14 @@
 //! Reading identifier octets, length octets and headers (X.690 8.1.2, 8.1.3).
-ghost use Rattle.std.specs.Prelude.{◌≡◌, ℕ, List, ◌+◌, ◌*◌, ◌<◌, ◌≤◌, ◌++◌, length, IfOk, IfErr, Some};
-ghost use Rattle.x690.specs.Identifiers.{Identifier, IsIdentifier, IsCutIdentifier, bit};
+ghost use Rattle.std.specs.Prelude.{◌≡◌, ℕ, Bool, List, ◌+◌, ◌*◌, ◌<◌, ◌≤◌, ◌++◌, length, IfOk, IfErr, Some};
+ghost use Rattle.x690.specs.Identifiers.{Identifier, bit};
 ghost use Rattle.x690.specs.Lengths.{LengthForm};
-ghost use Rattle.x690.specs.Elements.{IsHeader, der_rule};
-ghost use Rattle.x690.specs.Faults.{IdentifierFault, LengthFault};
+ghost use Rattle.x690.specs.Elements.{der_rule, ber_rule};
+ghost use Rattle.x690.specs.Faults.{IdentifierFault, LengthFault, HeaderFault};
 ghost use Rattle.asn1_rs.specs.Class.{class_number};
 ghost use Rattle.asn1_rs.specs.Answers.{seen};
 ghost use Rattle.asn1_rs.specs.Laws.Headers.{HeaderRefusalLasts};
-ghost use Rattle.asn1_rs.specs.Header.{Refused, refusal_of, der_refusal, HeaderGives, BeginsWithIdentifier, BeginsWithLength, HasParts, tag_read};
+ghost use Rattle.asn1_rs.specs.Header.{Refused, refusal_of, der_refusal, ber_refusal, HeaderGives, BeginsWithIdentifier, BeginsWithLength, BeginsWithBoth, HasParts, tag_read};
+ghost use Rattle.asn1_rs.specs.Ber.{BeginsWithForm};
 ghost use Rattle.asn1_rs.specs.declared.error.Error.{Error as Fault};
 
 use crate::class::Class;
@@ -15,7 +16,7 @@ use crate::error::{DerConstraint, Err, Error, Needed, ParseResult};
 use crate::header::Header;
 use crate::length::Length;
 use crate::tag::Tag;
-use crate::traits::FromDer;
+use crate::traits::{FromBer, FromDer};
 use std::alloc::Global;
 use std::borrow::CowSlice;
 use x690::digits::{base_256_number, tag_number};
@@ -108,18 +109,49 @@ impl<'a> IdentifierOctets<'a> {
     }
 }
 
+/// The identifier octets at the front and the length octets, or 80, that follow them.
+fn read_parts(bytes: &[u8]) -> ParseResult<'_, (IdentifierOctets<'_>, Length), Error>
+    ensures ok { IfOk result (λ x. BeginsWithBoth bytes.now x.0.now x.1.0 x.1.1) }
+    ensures err { (rule : Identifier → Bool) (at_indefinite : Fault) → IfErr result (Refused (HeaderFault rule) (refusal_of at_indefinite) bytes.now) }
+{
+    let (rest, identifier) = read_identifier(bytes)?;
+    let (rest, length) = read_length(rest)?;
+    Ok((rest, (identifier, length)))
+}
+
 /// The header at the front, by DER: an indefinite length is refused.
 pub(crate) fn header_by_der(bytes: &[u8]) -> ParseResult<'_, Header<'_>, Error>
     ensures { HeaderGives der_rule der_refusal bytes.now (seen result) }
 {
-    let (rest, identifier) = read_identifier(bytes)?;
-    let (rest, length) = read_length(rest)?;
+    let (rest, (identifier, length)) = read_parts(bytes)?;
     match length {
         Length::Definite(_) => Ok((rest, identifier.with_length(length))),
         Length::Indefinite => Err(Err::Error(Error::DerConstraintFailed(
             DerConstraint::IndefiniteLength,
         ))),
     }
+}
+
+/// The header at the front, by BER: an indefinite length is refused at a primitive element.
+pub(crate) fn header_by_ber(bytes: &[u8]) -> ParseResult<'_, Header<'_>, Error>
+    ensures { HeaderGives ber_rule ber_refusal bytes.now (seen result) }
+{
+    let (rest, (identifier, form)) = read_parts(bytes)?;
+    match form {
+        Length::Indefinite if !identifier.constructed => {
+            Err(Err::Error(Error::ConstructExpected))
+        }
+        _ => Ok((rest, identifier.with_length(form))),
+    }
+}
+
+/// The length of the header at the front, by BER, and what follows the header.
+pub(crate) fn length_by_ber(bytes: &[u8]) -> ParseResult<'_, Length, Error>
+    ensures ok { IfOk result (λ x. BeginsWithForm bytes.now x.0.now x.1) }
+    ensures err { IfErr result (Refused (HeaderFault ber_rule) ber_refusal bytes.now) }
+{
+    let (rest, header) = header_by_ber(bytes)?;
+    Ok((rest, header.length()))
 }
 
 impl<'a> FromDer<'a, Error> for Header<'a> {
@@ -136,5 +168,20 @@ impl<'a> FromDer<'a, Error> for Header<'a> {
         ensures last { IfErr result (HeaderRefusalLasts der_rule bytes.now) }
     {
         header_by_der(bytes)
+    }
+}
+
+impl<'a> FromBer<'a, Error> for Header<'a> {
+    ghost ber_gives = { HeaderGives ber_rule ber_refusal };
+
+    /// Reads a header at the front, by BER, with its identifier octets as its raw tag (X.690 8.1.2, 8.1.3).
+    ///
+    /// Refused as by DER, but for 80: that is an indefinite length at a constructed element, and
+    /// `ConstructExpected` at a primitive one.
+    fn from_ber(_alloc: Global, bytes: &'a [u8]) -> ParseResult<'a, Header<'a>, Error>
+        ensures gives { HeaderGives ber_rule ber_refusal bytes.now (seen result) }
+        ensures last { IfErr result (HeaderRefusalLasts ber_rule bytes.now) }
+    {
+        header_by_ber(bytes)
     }
 }

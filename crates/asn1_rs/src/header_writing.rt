@@ -99,7 +99,10 @@ fn put_parts<W: DerWrite>(identifier: &[u8], form: Length, w: &mut W) -> Seriali
 }
 
 /// Appends the strict identifier octets of the header and its length octets, and answers their number.
-fn put_strict_header<W: DerWrite>(header: &Header<'_>, w: &mut W) -> SerializeResult<usize>
+pub(crate) fn put_strict_header<W: DerWrite>(
+    header: &Header<'_>,
+    w: &mut W,
+) -> SerializeResult<usize>
     ensures wrote { Wrote (strict_header header.now) (W.told w.old) (W.told w.new) (W.failed w.old) (W.failed w.new) result }
     ensures failed { (takes_memory : Bool) (most : ℕ) → IfErr result (MayRefuse takes_memory most) }
 {

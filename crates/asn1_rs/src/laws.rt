@@ -8,6 +8,7 @@ ghost use Rattle.x690.specs.Octets.{IsOctets};
 ghost use Rattle.x690.specs.Identifiers.{Identifier, IsCutIdentifier};
 ghost use Rattle.x690.specs.Elements.{Parts, IsDefiniteElement};
 ghost use Rattle.x690.specs.Faults.{DefiniteElementFault};
+ghost use Rattle.x690.specs.Nested.{IsElement, ElementFault};
 ghost use Rattle.asn1_rs.specs.declared.error.Err.{Err as Refusal};
 ghost use Rattle.asn1_rs.specs.declared.error.Error.{Error as Fault};
 ghost use Rattle.asn1_rs.specs.declared.error.Error.TheVariants as faults;
@@ -15,13 +16,13 @@ ghost use Rattle.asn1_rs.specs.declared.error.DerConstraint.TheVariants as const
 ghost use Rattle.asn1_rs.specs.declared.error.SerializeError.TheVariants as refusals;
 ghost use Rattle.asn1_rs.specs.Answers.{seen, Exactly, TellsMemory, ReadsBack};
 ghost use Rattle.asn1_rs.specs.Form.{IsOneForm, IsOneValue, FitsElement, HasValues, IsStrict};
-ghost use Rattle.asn1_rs.specs.Grammar.{IsOneFront, IsOneBody, BerWord, DerWord, TakesBody, Checks, FormChecks, FormBodies, FormTakes, EndsWithin};
+ghost use Rattle.asn1_rs.specs.Grammar.{max_depth, NoCheck, PassesAll, IsOneFront, IsOneBody, BerWord, DerWord, TakesBody, Checks, FormChecks, FormBodies, FormTakes, EndsWithin};
 ghost use Rattle.asn1_rs.specs.Wrote.{Wrote, MayRefuse};
 ghost use Rattle.asn1_rs.specs.declared.header.Header.{Header as Head};
 ghost use Rattle.asn1_rs.specs.declared.asn1_types.any.Any.{Any as Element};
 ghost use Rattle.asn1_rs.specs.Header.{refusal_of, HeaderGives};
 ghost use Rattle.asn1_rs.specs.Laws.Any.{DerElementGives};
-ghost use Rattle.asn1_rs.specs.Laws.Elements.{element_exact, der_elements};
+ghost use Rattle.asn1_rs.specs.Laws.Elements.{element_exact, der_elements, ber_elements, passes_all};
 ghost use Rattle.asn1_rs.specs.Laws.Forms.{WritesByValue, WritesForm};
 
 use crate::error::{Error, ParseResult, SerializeResult};
@@ -151,11 +152,92 @@ pub trait LawfulMember: LawfulItem + Eq {
     ghost same: { (x y : Self) → IsTrue (Self.eq x y) ↔ (Self.value x ≡ Self.value y) };
 }
 
+/// A reference has the values and grammars of what it refers to.
+impl<T: Grammar> Grammar for &T {
+    ghost Value = { T.Value };
+
+    ghost value = { λ r. T.value r.now };
+
+    ghost IsValue = { T.IsValue };
+
+    ghost Ber = { T.Ber };
+
+    ghost Der = { T.Der };
+
+    ghost Body = { T.Body };
+
+    ghost Check = { T.Check };
+
+    ghost Form = { T.Form };
+
+    ghost takes_memory = { T.takes_memory };
+}
+
+impl<T: LawfulItem> LawfulItem for &T {
+    ghost ber_values = { T.ber_values };
+
+    ghost der_values = { T.der_values };
+
+    ghost body_values = { T.body_values };
+
+    ghost form_values = { T.form_values };
+
+    ghost ber_one = { T.ber_one };
+
+    ghost der_one = { T.der_one };
+
+    ghost body_one = { T.body_one };
+
+    ghost one_form = { T.one_form };
+
+    ghost one_value = { T.one_value };
+
+    ghost form_fits = { T.form_fits };
+
+    ghost strict_ber = { T.strict_ber };
+
+    ghost strict_der = { T.strict_der };
+}
+
+impl<T: LawfulWrite + Tagged> LawfulWrite for &T {
+    ghost tells_all = { λ r. T.tells_all r.now };
+
+    ghost by_value = { λ q r. T.by_value q.now r.now };
+
+    ghost form = { λ r. T.form r.now };
+}
+
+impl<T: TakesClass<K>, const K: u8> TakesClass<K> for &T {
+    ghost takes_class = { T.takes_class };
+}
+
 impl<'a, T, E: From<Error>> LawfulDer<'a, E> for T
 where
     T: LawfulBody<'a, E> + LawfulAuto,
 {
     ghost der_exact = { λ input answer octets. element_exact IsDefiniteElement DefiniteElementFault IsCutIdentifier der_elements (faults.DerConstraintFailed constraints.IndefiniteLength) T.check_gives T.any_gives E.from_gives T.Check T.Body T.value T.takes_memory T.Der T.check_exact T.body_exact T.der_split T.der_join input answer };
+}
+
+impl<'a, T, E: From<Error>> LawfulBer<'a, E> for T
+where
+    T: LawfulBody<'a, E>,
+{
+    ghost ber_exact = { λ input answer octets. element_exact (IsElement max_depth) (ElementFault max_depth) EndsWithin ber_elements faults.ConstructExpected PassesAll T.any_gives E.from_gives NoCheck T.Body T.value T.takes_memory T.Ber passes_all T.body_exact T.ber_split T.ber_join input answer };
+}
+
+/// Reads a value of a lawful type by BER.
+///
+/// Ok exactly where a word of the type's grammar begins the octets. A refusal is final: no word begins them, whatever
+/// follows of which the refusal speaks. The strict encoding of a value is read back before any rest.
+pub fn read_ber<'a, T: LawfulBer<'a, E>, E: From<Error>>(
+    alloc: Global,
+    input: &'a [u8],
+) -> ParseResult<'a, T, E>
+    ensures exact { Exactly EndsWithin T.Ber T.value (TellsMemory T.takes_memory E.from_gives) input.now (seen result) }
+    ensures back { (v : T.Value) (w rest : List ℕ) → IsStrict T.Form v w → input.now ≡ w ++ rest → ReadsBack T.value (TellsMemory T.takes_memory E.from_gives) v rest (seen result) }
+    ensures gives { T.ber_gives input.now (seen result) }
+{
+    T::from_ber(alloc, input)
 }
 
 /// Reads a value of a lawful type by DER.

@@ -18,7 +18,7 @@ mod writer;
 
 pub use asn1_types::any::Any;
 pub use asn1_types::integer::integers_have_one_refusal;
-pub use ber::GetObjectContent;
+pub use ber::{GetObjectContent, MAX_RECURSION, Steps, any_from_ber_counted};
 pub use class::{BerClassFromIntError, Class};
 pub use error::{
     DerConstraint, Err, Error, IResult, Needed, ParseResult, SerializeError, SerializeResult,
@@ -27,7 +27,7 @@ pub use error::{
 pub use header::Header;
 pub use laws::{
     Grammar, LawfulAuto, LawfulBer, LawfulBody, LawfulCheck, LawfulDer, LawfulItem, LawfulMember,
-    LawfulWrite, TakesClass, one_refusal, read_der, write_strict,
+    LawfulWrite, TakesClass, one_refusal, read_ber, read_der, write_strict,
 };
 pub use length::Length;
 pub use tag::Tag;

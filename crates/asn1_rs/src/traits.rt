@@ -6,10 +6,10 @@ ghost use Rattle.asn1_rs.specs.declared.error.Err.{Err as Refusal};
 ghost use Rattle.asn1_rs.specs.declared.error.Error.{Error as Fault};
 ghost use Rattle.asn1_rs.specs.Answers.{seen};
 ghost use Rattle.asn1_rs.specs.Any.{parts_of};
-ghost use Rattle.asn1_rs.specs.Grammar.{DerGives};
+ghost use Rattle.asn1_rs.specs.Grammar.{BerGives, DerGives};
 
 use crate::asn1_types::any::Any;
-use crate::ber::element_by_der;
+use crate::ber::{element_by_ber, element_by_der};
 use crate::error::{Err, Error, ParseResult};
 use crate::tag::Tag;
 use std::alloc::Global;
@@ -137,6 +137,26 @@ where
         match T::try_from_any(alloc, any) {
             Ok(value) => Ok((rest, value)),
             Err(e) => Err(Err::Error(e)),
+        }
+    }
+}
+
+/// Reads an element by BER and converts it, in this order; what refuses first names the refusal. No constraint is checked.
+impl<'a, T, E> FromBer<'a, E> for T
+where
+    T: FromAny<'a, Error = E>,
+    E: From<Error>,
+{
+    ghost ber_gives = { BerGives T.any_gives E.from_gives };
+
+    fn from_ber(alloc: Global, bytes: &'a [u8]) -> ParseResult<'a, T, E> {
+        let (rest, any) = match element_by_ber(bytes) {
+            Ok(element) => element,
+            Err(refusal) => return Err(Err::convert(refusal)),
+        };
+        match T::try_from_any(alloc, any) {
+            Ok(item) => Ok((rest, item)),
+            Err(refusal) => Err(Err::Error(refusal)),
         }
     }
 }

@@ -10,6 +10,7 @@ pub mod Faults
 pub mod Rows
 pub mod Nested
 pub mod NestedFaults
+pub mod Contents
 pub mod StrictLengths
 pub mod StrictIdentifiers
 pub mod StrictHeaders

@@ -5,6 +5,7 @@ pub mod Lengths
 pub mod Elements
 pub mod Faults
 pub mod Nested
+pub mod Contents
 pub mod Strict
 pub mod Integers
 pub mod Laws

@@ -1,8 +1,8 @@
 -- What readers of elements by DER say of more octets, and that they have one refusal.
-use Rattle.std.proofs.Common.{◌≡◌, ◌∙◌, ap, sym, inr, ℕ, List, ◌++◌}
+use Rattle.std.proofs.Common.{◌≡◌, ◌∙◌, ap, sym, inr, ℕ, List}
 use Rattle.std.specs.Prelude.{Result, Ok, Err}
 use Rattle.x690.specs.Identifiers.{IsCutIdentifier}
-use Rattle.x690.specs.Elements.{Parts, IsDefiniteElement}
+use Rattle.x690.specs.Elements.{IsDefiniteElement}
 use Rattle.x690.specs.Faults.{DefiniteElementFault}
 use Rattle.x690.specs.Laws.Faults.{no_definite_element, definite_element_or_fault, definite_fault_counts, one_definite_fault}
 use Rattle.asn1_rs.specs.declared.error.Err.{Err as Refusal}

@@ -1,20 +1,19 @@
 -- Elements of any type are lawful.
-use Rattle.std.proofs.Common.{◌≡◌, ◌∙◌, ap, sym, subst, refl, ℕ, Bool, false, List, inr}
+use Rattle.std.proofs.Common.{◌≡◌, ◌∙◌, ap, sym, subst, refl, ℕ, false, List}
 use Rattle.std.specs.Prelude.{Result, Ok, Err}
 use Rattle.x690.specs.Octets.{IsOctets}
-use Rattle.x690.specs.Identifiers.{Identifier}
 use Rattle.x690.specs.Lengths.{definite, indefinite}
 use Rattle.x690.specs.Elements.{Parts, IsDefiniteElement}
 use Rattle.x690.specs.Nested.{IsElement}
 use Rattle.x690.specs.Laws.Nested.{nested_content_is_octets}
 use Rattle.asn1_rs.specs.declared.asn1_types.any.Any.{Any}
 use Rattle.asn1_rs.specs.declared.error.Error.{Error}
-use Rattle.asn1_rs.specs.Any.{parts_of, IsTheElement, IsDefiniteOr}
-use Rattle.asn1_rs.specs.Form.{IsOneForm, IsOneValue, FitsElement, HasValues, IsStrict}
-use Rattle.asn1_rs.specs.Grammar.{IsOneFront, IsOneBody, BerWord, DerWord, NoCheck, TakesBody, Checks, FormChecks, FormBodies, made, max_depth}
+use Rattle.asn1_rs.specs.Any.{IsTheElement, IsDefiniteOr}
+use Rattle.asn1_rs.specs.Form.{IsOneForm, IsOneValue, FitsElement, HasValues}
+use Rattle.asn1_rs.specs.Grammar.{IsOneFront, IsOneBody, BerWord, DerWord, NoCheck, TakesBody, Checks, FormChecks, FormBodies, max_depth}
 use Rattle.asn1_rs.specs.Element.{Element, element_of, ElementBody, ElementCheck, IsElementValue, ElementForm}
 use Rattle.asn1_rs.specs.Laws.Elements.{der_elements, ber_elements}
-use Rattle.asn1_rs.specs.Laws.Words.{word_one, strict_der_word, strict_ber_word}
+use Rattle.asn1_rs.specs.Laws.Words.{word_one}
 
 pub element_body_one : IsOneBody ElementBody
 element_body_one p v w a b = a ∙ sym b

@@ -1,13 +1,12 @@
 -- Readers that read one element, check it and convert it are exact.
-use Rattle.std.proofs.Common.{arith, ◌≡◌, ◌∙◌, ap, sym, subst, refl, ℕ, ◌<◌, ◌≤◌, ◌⊎◌, inl, inr, Bool, List, [], ◌++◌, length, append_assoc, append-nil}
+use Rattle.std.proofs.Common.{arith, ◌≡◌, ◌∙◌, ap, sym, subst, refl, ℕ, ◌<◌, ◌≤◌, inl, inr, Bool, List, [], ◌++◌, length, append_assoc, append-nil}
 use Rattle.std.specs.Prelude.{Result, Ok, Err}
 use Rattle.x690.specs.Octets.{IsOctets}
 use Rattle.x690.specs.Identifiers.{IsCutIdentifier}
 use Rattle.x690.specs.Elements.{Parts, IsDefiniteElement}
 use Rattle.x690.specs.Faults.{Fault, missing, tag_fault, length_fault, form_fault, depth_fault, DefiniteElementFault, SpeaksOf}
 use Rattle.x690.specs.Nested.{IsElement, ElementFault}
-use Rattle.x690.specs.Laws.Octets.{octets_front, octets_back}
-use Rattle.x690.specs.Laws.Elements.{definite_element_unique, definite_element_two, definite_element_is_octets}
+use Rattle.x690.specs.Laws.Elements.{definite_element_unique, definite_element_two}
 use Rattle.x690.specs.Laws.Faults.{CountsSome, no_definite_element, definite_fault_counts}
 use Rattle.x690.specs.Laws.Nested.{nested_element_unique, nested_element_two, nested_content_is_octets}
 use Rattle.x690.specs.Laws.NestedFaults.{no_element, element_fault_counts}
@@ -16,9 +15,9 @@ use Rattle.asn1_rs.specs.declared.error.Err.TheVariants.{Error as refused, Incom
 use Rattle.asn1_rs.specs.declared.error.Needed.TheVariants.{Size, Unknown}
 use Rattle.asn1_rs.specs.declared.error.Error.{Error}
 use Rattle.asn1_rs.specs.Error.{Converted}
-use Rattle.asn1_rs.specs.Header.{refusal_of, der_refusal, ber_refusal}
-use Rattle.asn1_rs.specs.Answers.{Front, NoFront, IsFinal, Speaks, Exactly, TellsMemory, ReadsBack}
-use Rattle.asn1_rs.specs.Grammar.{IsOneFront, ElementWord, ElementGives, TakesBody, Checks, max_depth, EndsWithin}
+use Rattle.asn1_rs.specs.Header.{refusal_of}
+use Rattle.asn1_rs.specs.Answers.{Front, NoFront, IsFinal, Speaks, Exactly, TellsMemory}
+use Rattle.asn1_rs.specs.Grammar.{IsOneFront, ElementWord, ElementGives, TakesBody, Checks, NoCheck, PassesAll, max_depth, EndsWithin}
 
 -- What the laws ask of elements: one alone begins an input, and a fault is final.
 pub record AreElements (Element : List ℕ → Parts → Type 0) (FaultOf : List ℕ → Fault → Type 0) (IsCut : List ℕ → Type 0) : Type 0 where
@@ -48,6 +47,11 @@ ber_elements = record {
   counts = λ input fault f. element_fault_counts max_depth input fault f;
   content = λ o p a. nested_content_is_octets max_depth o p a.0 a.1;
 }
+
+-- a check that refuses nothing asks nothing
+pub passes_all : (p : Parts) (answer : Result (Unit {0}) Error) → PassesAll p answer → Checks NoCheck p answer
+passes_all p (Ok x) h = tt
+passes_all p (Err e) h = cc
 
 speaks_missing : (E : Type 0) (is_cut : Type 0) (n : ℕ) (more : List ℕ) → 1 ≤ n → Speaks {E = E} is_cut (cut (Size n)) more → length more < n
 speaks_missing E is_cut n more some (inl e) = let l = ap length e in omega (arith, l)

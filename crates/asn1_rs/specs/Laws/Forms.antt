@@ -1,12 +1,11 @@
 -- Strict parts, and what is written.
-use Rattle.std.specs.Prelude.{◌≡◌, ℕ, ◌<◌, ◌^◌, Bool, true, false, List, ◌++◌, length}
-use Rattle.std.proofs.Common.{sym, ap, ◌∙◌, subst, arith}
+use Rattle.std.specs.Prelude.{◌≡◌, ℕ, ◌<◌, Bool, List, ◌++◌, length}
+use Rattle.std.proofs.Common.{sym, ap, ◌∙◌, arith}
 use Rattle.x690.specs.Octets.{IsOctets}
 use Rattle.x690.specs.Identifiers.{Identifier}
-use Rattle.x690.specs.Elements.{IsStrictElement}
 use Rattle.x690.specs.Strict.{header_octets}
 use Rattle.x690.specs.Laws.StrictElements.{strict_element_octets}
-use Rattle.asn1_rs.specs.Form.{IsOneForm, IsOneValue, FitsElement, HasValues, IsStrict}
+use Rattle.asn1_rs.specs.Form.{IsOneForm, IsOneValue, FitsElement, IsStrict}
 
 -- the identifier of a universal type
 abbrev pub universal : Bool → ℕ → Identifier

@@ -5,7 +5,6 @@ use Rattle.std.specs.Borrow.{Bor}
 use Rattle.x690.specs.Identifiers.{Identifier, IsCutIdentifier}
 use Rattle.x690.specs.Lengths.{LengthForm}
 use Rattle.x690.specs.Elements.{IsHeader}
-use Rattle.x690.specs.Faults.{Fault, HeaderFault}
 use Rattle.x690.specs.Laws.Faults.{no_header, header_or_fault, header_fault_counts, one_header_fault}
 use Rattle.asn1_rs.specs.declared.error.Err.{Err as Refusal}
 use Rattle.asn1_rs.specs.declared.error.Error.{Error}

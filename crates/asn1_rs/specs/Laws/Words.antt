@@ -1,17 +1,15 @@
 -- Words of element grammars: one alone begins an input, and strict encodings are words that are read back.
-use Rattle.std.proofs.Common.{arith, ◌≡◌, ◌∙◌, ap, sym, subst, refl, ℕ, ◌<◌, ◌^◌, Bool, List, [], ◌++◌, length, inl, inr}
+use Rattle.std.proofs.Common.{arith, ◌≡◌, ◌∙◌, ap, sym, subst, ℕ, List, ◌++◌, inl, inr}
 use Rattle.std.proofs.lemmas.List.{append_cancel_left}
 use Rattle.std.specs.Prelude.{Result, Ok, Err}
-use Rattle.x690.specs.Octets.{IsOctets}
 use Rattle.x690.specs.Identifiers.{Identifier}
 use Rattle.x690.specs.Elements.{Parts, IsDefiniteElement, IsStrictElement}
-use Rattle.x690.specs.Nested.{IsElement}
 use Rattle.x690.specs.Laws.Nested.{definite_is_nested}
 use Rattle.x690.specs.Laws.StrictElements.{strict_is_definite, strict_element_one, strict_element_unique}
 use Rattle.asn1_rs.specs.declared.error.Err.{Err as Refusal}
 use Rattle.asn1_rs.specs.Answers.{Exactly, ReadsBack}
 use Rattle.asn1_rs.specs.Form.{IsOneForm, IsOneValue, IsStrict}
-use Rattle.asn1_rs.specs.Grammar.{IsOneFront, IsOneBody, ElementWord, BerWord, DerWord, NoCheck, FormChecks, FormBodies, made, max_depth}
+use Rattle.asn1_rs.specs.Grammar.{IsOneFront, IsOneBody, ElementWord, BerWord, DerWord, FormChecks, FormBodies, made, max_depth}
 use Rattle.asn1_rs.specs.Laws.Elements.{none_now}
 
 -- words of one body, over elements of which one alone begins an input

@@ -1,12 +1,16 @@
 //! Elements of any type.
 ghost use Rattle.std.specs.Prelude.{◌≡◌, ℕ, false, length, None};
 ghost use Rattle.std.specs.Fn.{FnOnceReturnsAt};
+ghost use Rattle.x690.specs.Elements.{IsDefiniteElement};
+ghost use Rattle.x690.specs.Faults.{DefiniteElementFault};
+ghost use Rattle.x690.specs.Nested.{IsElement, ElementFault};
 ghost use Rattle.asn1_rs.specs.Answers.{seen};
-ghost use Rattle.asn1_rs.specs.Header.{class_of, is_constructed_of, tag_of, length_of, raw_tag_of, HasParts};
+ghost use Rattle.asn1_rs.specs.Header.{class_of, is_constructed_of, tag_of, length_of, raw_tag_of, HasParts, der_refusal, ber_refusal};
 ghost use Rattle.asn1_rs.specs.Length.{form_of};
 ghost use Rattle.asn1_rs.specs.Tag.{is_container};
-ghost use Rattle.asn1_rs.specs.Any.{parts_of, IsTheElement, IsDefiniteOr, DerContentGives, AndThenGives};
-ghost use Rattle.asn1_rs.specs.Grammar.{BerWord, DerWord};
+ghost use Rattle.asn1_rs.specs.Any.{parts_of, IsTheElement, IsDefiniteOr, DerContentGives, AndThenGives, HandsOn};
+ghost use Rattle.asn1_rs.specs.Ber.{BerContentGives};
+ghost use Rattle.asn1_rs.specs.Grammar.{max_depth, BerWord, DerWord};
 ghost use Rattle.asn1_rs.specs.Element.{Element, element_of, ElementBody, ElementCheck, IsElementValue, ElementForm};
 ghost use Rattle.asn1_rs.specs.Laws.Words.{strict_ber_word, strict_der_word};
 ghost use Rattle.asn1_rs.specs.Laws.Element.{element_ber_values, element_der_values, element_body_values, element_form_values, element_ber_one, element_der_one, element_body_one, element_one_form, element_one_value, element_fits, element_form_body, element_form_check, element_body_exact, element_check_exact};
@@ -14,14 +18,14 @@ ghost use Rattle.asn1_rs.specs.declared.class.Class.TheVariants as classes;
 ghost use Rattle.asn1_rs.specs.declared.length.Length.TheVariants as forms;
 ghost use Rattle.asn1_rs.specs.declared.tag.Tag.{Tag as Number};
 
-use crate::ber::element_by_der;
+use crate::ber::{element_by_ber, element_by_der};
 use crate::class::Class;
 use crate::error::{Err, Error, ParseResult};
 use crate::header::Header;
 use crate::laws::{Grammar, LawfulAuto, LawfulBody, LawfulCheck, LawfulItem};
 use crate::length::Length;
 use crate::tag::Tag;
-use crate::traits::{CheckDerConstraints, DerAutoDerive, DynTagged, FromAny, FromDer};
+use crate::traits::{CheckDerConstraints, DerAutoDerive, DynTagged, FromAny, FromBer, FromDer};
 use std::alloc::Global;
 
 /// An element: its header, and its contents octets, which are lent from the input.
@@ -112,6 +116,24 @@ impl<'a> Any<'a> {
         header.parse_der_content(i)
     }
 
+    /// Reads a value by BER at the front of the contents octets, and answers what follows it there.
+    pub fn parse_ber<T: FromBer<'a, E>, E>(&self, alloc: Global) -> ParseResult<'a, T, E>
+        ensures { T.ber_gives self.now.content.now (seen result) }
+    {
+        T::from_ber(alloc, self.content)
+    }
+
+    /// The contents octets of a header at the front of the octets that follow it, by BER, and the rest, as
+    /// [`Header::parse_ber_content`] gives them.
+    pub fn parse_ber_content<'i>(
+        i: &'i [u8],
+        header: &Header<'_>,
+    ) -> ParseResult<'i, &'i [u8], Error>
+        ensures { BerContentGives (is_constructed_of header.now) (form_of (length_of header.now)) 8 i.now result }
+    {
+        header.parse_ber_content(i)
+    }
+
     /// Reads an element by DER, looks at its tag number and then at its class, and hands its contents octets to the
     /// closure. The rest is the element's; what the closure leaves over is dropped.
     ///
@@ -126,22 +148,57 @@ impl<'a> Any<'a> {
         F: FnOnce(&'a [u8]) -> ParseResult<'a, T, E> + Drop,
         E: From<Error>,
         requires { F.IsAlwaysCallable op }
-        ensures { AndThenGives class (record { 0 = tag }) E.from_gives (FnOnceReturnsAt F.FnOnce op) bytes.now (seen result) }
+        ensures { AndThenGives IsDefiniteElement DefiniteElementFault der_refusal class (record { 0 = tag }) E.from_gives (FnOnceReturnsAt F.FnOnce op) bytes.now (seen result) }
     {
-        let (rest, any) = match element_by_der(bytes) {
-            Ok(read) => read,
-            Err(e) => return Err(Err::convert(e)),
-        };
-        if let Err(e) = any.tag().assert_eq(Tag(tag)) {
-            return Err(Err::Error(E::from(e)));
+        match element_by_der(bytes) {
+            Ok((rest, any)) => hand_on(any, rest, class, tag, op),
+            Err(e) => Err(Err::convert(e)),
         }
-        if let Err(e) = any.class().assert_eq(class) {
-            return Err(Err::Error(E::from(e)));
+    }
+
+    /// Reads an element by BER, and goes on as [`Any::from_der_and_then`] does.
+    pub fn from_ber_and_then<F, T, E>(
+        class: Class,
+        tag: u32,
+        bytes: &'a [u8],
+        op: F,
+    ) -> ParseResult<'a, T, E>
+    where
+        F: FnOnce(&'a [u8]) -> ParseResult<'a, T, E> + Drop,
+        E: From<Error>,
+        requires { F.IsAlwaysCallable op }
+        ensures { AndThenGives (IsElement max_depth) (ElementFault max_depth) ber_refusal class (record { 0 = tag }) E.from_gives (FnOnceReturnsAt F.FnOnce op) bytes.now (seen result) }
+    {
+        match element_by_ber(bytes) {
+            Ok((rest, any)) => hand_on(any, rest, class, tag, op),
+            Err(e) => Err(Err::convert(e)),
         }
-        match op(any.content) {
-            Ok((_, value)) => Ok((rest, value)),
-            Err(e) => Err(e),
-        }
+    }
+}
+
+/// Looks at the tag number of an element and then at its class, and hands its contents octets to the closure.
+fn hand_on<'a, F, T, E>(
+    any: Any<'a>,
+    rest: &'a [u8],
+    class: Class,
+    tag: u32,
+    op: F,
+) -> ParseResult<'a, T, E>
+where
+    F: FnOnce(&'a [u8]) -> ParseResult<'a, T, E> + Drop,
+    E: From<Error>,
+    requires { F.IsAlwaysCallable op }
+    ensures { HandsOn class (record { 0 = tag }) E.from_gives (FnOnceReturnsAt F.FnOnce op) (parts_of any.entry) rest.now (seen result) }
+{
+    if let Err(e) = any.tag().assert_eq(Tag(tag)) {
+        return Err(Err::Error(E::from(e)));
+    }
+    if let Err(e) = any.class().assert_eq(class) {
+        return Err(Err::Error(E::from(e)));
+    }
+    match op(any.content) {
+        Ok((_, value)) => Ok((rest, value)),
+        Err(e) => Err(e),
     }
 }
 

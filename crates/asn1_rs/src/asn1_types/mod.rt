@@ -1,5 +1,6 @@
 //! The types of elements.
 
 pub mod any;
+pub mod any_writing;
 pub mod integer;
 mod unsigned;

@@ -1,6 +1,5 @@
-use Rattle.std.proofs.Common.{◌≡◌, List, ℕ, ◌++◌, ◌||◌, IfErr, length, subst}
+use Rattle.std.proofs.Common.{◌≡◌, List, ℕ, ◌++◌}
 use Rattle.asn1_rs.specs.Form.{IsStrict}
-use Rattle.asn1_rs.specs.Wrote.{Wrote, MayRefuse}
 use Rattle.asn1_rs.specs.Laws.Words.{one_strict, strict_apart}
 use Rattle.asn1_rs.specs.Laws.Forms.{strict_written}
 use Rattle.asn1_rs.proofs.Writing.{writing_done}

@@ -1,0 +1,6 @@
+use Rattle.std.proofs.Common.{◌-◌}
+use Rattle.asn1_rs.proofs.Elements.{splits_refused}
+use Rattle.asn1_rs.proofs.ber.content_by_ber.Goals as goal
+
+pub returns-in-Definite-clause-err : goal.returns-in-Definite-clause-err
+returns-in-Definite-clause-err c = rw (c.in-Definite.is) (splits_refused c.in-Definite.len (c.args.max_depth - 1) c.args.bytes.now c.split_content.result c.split_content.ensures)

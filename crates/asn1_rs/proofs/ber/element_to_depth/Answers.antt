@@ -1,0 +1,37 @@
+use Rattle.std.proofs.Common.{◌+◌, ◌-◌, ◌≡◌, suc, arith, ap, subst}
+use Rattle.std.proofs.lemmas.Result.{err_from_is_err_and}
+use Rattle.x690.specs.Contents.{IsContent, ContentFault}
+use Rattle.x690.specs.Laws.Nested.{nested_element_half}
+use Rattle.x690.specs.Laws.Contents.{header_fault_first, content_fault_behind}
+use Rattle.asn1_rs.specs.declared.header.Header.{Header}
+use Rattle.asn1_rs.specs.declared.length.Length.{Length}
+use Rattle.asn1_rs.specs.Header.{identifier_of}
+use Rattle.asn1_rs.specs.Length.{form_of}
+use Rattle.asn1_rs.specs.Any.{parts_of}
+use Rattle.asn1_rs.specs.Ber.{count_of}
+use Rattle.asn1_rs.proofs.Elements.{nested_read}
+use Rattle.asn1_rs.proofs.ber.element_to_depth.Goals as goal
+
+pub returns-in_err-after-clause-err : goal.returns-in_err-after-clause-err
+returns-in_err-after-clause-err c =
+    let p = err_from_is_err_and c.from_residual.result c.from_residual.ensures.1 in
+    let f = c.in_err-after.ensures in
+    rw (p.1, p.2) (f.0, header_fault_first c.args.max_depth c.args.bytes.now f.0 f.1, f.2)
+
+pub returns-in_err-rest-clause-err : goal.returns-in_err-rest-clause-err
+returns-in_err-rest-clause-err c =
+    let p = err_from_is_err_and c.from_residual-in_err-rest.result c.from_residual-in_err-rest.ensures.1 in
+    let h = c.in_ok-after.header in
+    let b = c.in_ok-after.ensures in
+    let f = c.in_err-rest.ensures.err in
+    rw (p.1, p.2) (f.0, content_fault_behind c.args.max_depth c.args.bytes.now b.octets c.in_ok-after.after.now (identifier_of h) (form_of h.length) f.0 c.requires.deep b.header b.is (subst (λ (l : Length). ContentFault (form_of l) (c.args.max_depth - 1) c.in_ok-after.after.now f.0) c.length.ensures f.1), f.2)
+
+pub returns-clause-ok : goal.returns-clause-ok
+returns-clause-ok c =
+    let h = c.in_ok-after.header in
+    let s = c.in_ok-rest.ensures.ok in
+    let made = c.new.ensures in
+    let m = nested_read c.args.max_depth c.args.bytes.now c.in_ok-after.after.now c.in_ok-rest.contents.now c.in_ok-rest.rest.now h s.0 (parts_of c.new.result) c.requires.deep (λ k. omega (arith, c.type_inv.bytes k)) c.in_ok-after.ensures (subst (λ (l : Length). IsContent (form_of l) (c.args.max_depth - 1) c.in_ok-after.after.now c.in_ok-rest.contents.now c.in_ok-rest.rest.now s.0) c.length.ensures s.1)
+    (ap identifier_of made.header) (ap (λ (x : Header). form_of x.length) made.header) made.content in
+    let n : count_of c.content_by_ber.new.steps ≡ count_of c.args.steps.now + suc s.0 = omega (arith, s.2) in
+    record { word = m.0; headers = suc s.0; element = m.1; is = m.2; counted = n; half = nested_element_half c.args.max_depth m.0 (parts_of c.new.result) (suc s.0) m.1 }

@@ -1,0 +1,10 @@
+use Rattle.std.proofs.Common.{arith, rules}
+use Rattle.asn1_rs.specs.Grammar.{EndsWithin}
+use Rattle.asn1_rs.specs.Answers.{seen}
+use Rattle.asn1_rs.specs.Laws.Words.{read_back}
+use Rattle.asn1_rs.proofs.laws.read_ber.Goals as goal
+
+pub returns-clause-back : goal.returns-clause-back
+returns-clause-back g c = λ v w rest s e.
+    read_back EndsWithin g.T.Grammar.Form g.T.Grammar.Ber g.T.Grammar.value _ g.met.T.LawfulItem.strict_ber g.met.T.LawfulItem.ber_one c.args.input.now (seen c.from_ber.result)
+    ((g.met.T.LawfulBer c.lifetimes (search rules)).ber_exact c.args.input.now (seen c.from_ber.result) (λ k. omega (arith, c.type_inv.input k)) c.from_ber.ensures) v w rest s e

@@ -1,0 +1,106 @@
+//! Elements of any type, as they are written (X.690 8.1.1, 10.1).
+ghost use Rattle.std.specs.Prelude.{◌≡◌, ◌++◌, ℕ, List, Bool, false, length, Ok, IfOk, IfErr};
+ghost use Rattle.std.specs.Io.KnownBytes.{Appends};
+ghost use Rattle.x690.specs.Lengths.{definite};
+ghost use Rattle.asn1_rs.specs.Header.{is_constructed_of, length_of};
+ghost use Rattle.asn1_rs.specs.Length.{form_of};
+ghost use Rattle.asn1_rs.specs.WrittenHeader.{strict_header};
+ghost use Rattle.asn1_rs.specs.Element.{content_of, element_header};
+ghost use Rattle.asn1_rs.specs.Laws.ElementWriting.{element_by_value, element_writes_form, element_same};
+ghost use Rattle.asn1_rs.specs.Wrote.{Wrote, MayRefuse, MayRefuseCount};
+
+use crate::asn1_types::any::Any;
+use crate::error::{Error, SerializeResult};
+use crate::header_writing::{element_len, put_header, put_strict_header};
+use crate::laws::{LawfulMember, LawfulWrite};
+use crate::to_der::{ToDer, add_written};
+use crate::writer::{DerWrite, put_all};
+use std::alloc::Global;
+
+/// Appends the strict identifier octets, the length of the header and the contents octets, and answers their number.
+fn put_kept_length<W: DerWrite>(any: &Any<'_>, w: &mut W) -> SerializeResult<usize>
+    ensures wrote { Wrote (strict_header any.now.header ++ content_of any.now) (W.told w.old) (W.told w.new) (W.failed w.old) (W.failed w.new) result }
+    ensures failed { IfErr result (MayRefuse false (length (strict_header any.now.header ++ content_of any.now))) }
+{
+    let before = put_strict_header(&any.header, w)?;
+    let after = put_all(w, any.content)?;
+    add_written(before, after)
+}
+
+/// An element is written with the strict identifier of its header and the length of its contents octets, whatever
+/// length its header has.
+impl ToDer for Any<'_> {
+    ghost tells = { λ _. Unit {0} };
+
+    ghost is_writable = { λ _. Unit {0} };
+
+    ghost header = { element_header };
+
+    ghost content = { content_of };
+
+    ghost constructed = { λ any. is_constructed_of any.header };
+
+    ghost raw_is_der = { λ any. form_of (length_of any.header) ≡ definite (length (content_of any)) };
+
+    ghost count_takes_memory = { false };
+
+    ghost content_takes_memory = { false };
+
+    fn to_der_len(&self) -> Result<usize, Error>
+        ensures count { IfOk result (λ n. n ≡ length (element_header self.now ++ content_of self.now)) }
+        ensures writable { IfErr result (MayRefuseCount false (length (element_header self.now ++ content_of self.now))) }
+    {
+        element_len(self.header.tag().0, Ok(self.content.len()))
+    }
+
+    fn der_content_len(&self) -> Result<usize, Error>
+        ensures count { IfOk result (λ n. n ≡ length (content_of self.now)) }
+        ensures writable { IfErr result (MayRefuseCount false (length (content_of self.now))) }
+        ensures exact { result ≡ Ok (length (content_of self.now)) }
+    {
+        Ok(self.content.len())
+    }
+
+    fn der_constructed(&self) -> bool {
+        self.header.constructed()
+    }
+
+    fn write_der_header<W: DerWrite>(&self, _alloc: Global, w: &mut W) -> SerializeResult<usize> {
+        let class = self.header.class().number();
+        let constructed = self.header.constructed();
+        put_header(
+            class,
+            constructed,
+            self.header.tag().0,
+            self.content.len(),
+            w,
+        )
+    }
+
+    fn write_der_content<W: DerWrite>(&self, _alloc: Global, w: &mut W) -> SerializeResult<usize> {
+        put_all(w, self.content)
+    }
+
+    /// Appends the strict identifier octets, the length of the header (80 where it is indefinite), and the contents
+    /// octets as they stand.
+    fn write_der_raw<W: DerWrite>(&self, _alloc: Global, w: &mut W) -> SerializeResult<usize>
+        ensures raw { Wrote (strict_header self.now.header ++ content_of self.now) (W.told w.old) (W.told w.new) (W.failed w.old) (W.failed w.new) result }
+        ensures failed { IfErr result (MayRefuse false (length (strict_header self.now.header ++ content_of self.now))) }
+        ensures der { form_of (length_of self.now.header) ≡ definite (length (content_of self.now)) → Wrote (element_header self.now ++ content_of self.now) (W.told w.old) (W.told w.new) (W.failed w.old) (W.failed w.new) result }
+        ensures counted { IfOk result (λ n. (raw : List ℕ) × Appends (W.told w.old) (W.told w.new) raw × (n ≡ length raw)) }
+    {
+        put_kept_length(self, w)
+    }
+}
+
+impl LawfulWrite for Any<'_> {
+    ghost tells_all = { λ x. tt };
+
+    ghost by_value = { element_by_value };
+
+    ghost form = { element_writes_form };
+}
+
+impl LawfulMember for Any<'_> {
+    ghost same = { element_same };
+}

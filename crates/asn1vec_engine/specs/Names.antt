@@ -1,0 +1,76 @@
+-- The names of refusals.
+use Rattle.std.specs.Prelude.{ℕ, List, ◌++◌, codes, decimal}
+use Rattle.asn1_rs.specs.declared.error.Err.{Err as Refusal}
+use Rattle.asn1_rs.specs.declared.error.Err.TheVariants.{Incomplete as cut, Error as refused, Failure as failed}
+use Rattle.asn1_rs.specs.declared.error.Needed.{Needed}
+use Rattle.asn1_rs.specs.declared.error.Needed.TheVariants.{Unknown, Size}
+use Rattle.asn1_rs.specs.declared.error.DerConstraint.{DerConstraint}
+use Rattle.asn1_rs.specs.declared.error.DerConstraint.TheVariants as constraints
+use Rattle.asn1_rs.specs.declared.error.Error.{Error}
+use Rattle.asn1_rs.specs.declared.error.Error.TheVariants as faults
+use Rattle.asn1_rs.specs.declared.error.SerializeError.{SerializeError}
+use Rattle.asn1_rs.specs.declared.error.SerializeError.TheVariants as refusals
+
+-- how many octets are missing
+abbrev pub name_of_needed : Needed → List ℕ
+name_of_needed Unknown = codes "Unknown"
+name_of_needed (Size n) = decimal n
+
+abbrev pub name_of_constraint : DerConstraint → List ℕ
+name_of_constraint constraints.IndefiniteLength = codes "IndefiniteLength"
+name_of_constraint constraints.Constructed = codes "Constructed"
+name_of_constraint constraints.NotConstructed = codes "NotConstructed"
+name_of_constraint constraints.MissingTimeZone = codes "MissingTimeZone"
+name_of_constraint constraints.MissingSeconds = codes "MissingSeconds"
+name_of_constraint constraints.UnusedBitsNotZero = codes "UnusedBitsNotZero"
+name_of_constraint constraints.InvalidBoolean = codes "InvalidBoolean"
+name_of_constraint constraints.IntegerEmpty = codes "IntegerEmpty"
+name_of_constraint constraints.IntegerLeadingZeroes = codes "IntegerLeadingZeroes"
+name_of_constraint constraints.IntegerLeadingFF = codes "IntegerLeadingFF"
+
+-- an error without its parts
+abbrev pub word_of_error : Error → List ℕ
+word_of_error faults.BerTypeError = codes "BerTypeError"
+word_of_error faults.BerValueError = codes "BerValueError"
+word_of_error faults.InvalidLength = codes "InvalidLength"
+word_of_error (faults.InvalidValue tag msg) = codes "InvalidValue"
+word_of_error faults.InvalidTag = codes "InvalidTag"
+word_of_error (faults.UnknownTag number) = codes "UnknownTag"
+word_of_error (faults.UnexpectedTag expected actual) = codes "UnexpectedTag"
+word_of_error (faults.UnexpectedClass expected actual) = codes "UnexpectedClass"
+word_of_error faults.IndefiniteLengthUnexpected = codes "IndefiniteLengthUnexpected"
+word_of_error faults.ConstructExpected = codes "ConstructExpected"
+word_of_error faults.ConstructUnexpected = codes "ConstructUnexpected"
+word_of_error faults.IntegerTooLarge = codes "IntegerTooLarge"
+word_of_error faults.IntegerNegative = codes "IntegerNegative"
+word_of_error faults.BerMaxDepth = codes "BerMaxDepth"
+word_of_error faults.StringInvalidCharset = codes "StringInvalidCharset"
+word_of_error faults.InvalidDateTime = codes "InvalidDateTime"
+word_of_error (faults.DerConstraintFailed constraint) = codes "DerConstraintFailed"
+word_of_error faults.LifetimeError = codes "LifetimeError"
+word_of_error faults.Unsupported = codes "Unsupported"
+word_of_error (faults.Incomplete needed) = codes "Error.Incomplete"
+word_of_error faults.OutOfMemory = codes "OutOfMemory"
+
+abbrev pub in_brackets : List ℕ → List ℕ → List ℕ
+in_brackets word part = word ++ (codes "(" ++ (part ++ codes ")"))
+
+-- an error with the constraint that was broken, or the number of octets that are missing
+abbrev pub name_of_error : Error → List ℕ
+name_of_error (faults.DerConstraintFailed constraint) = in_brackets (codes "DerConstraintFailed") (name_of_constraint constraint)
+name_of_error (faults.Incomplete needed) = in_brackets (codes "Error.Incomplete") (name_of_needed needed)
+name_of_error error = word_of_error error
+
+-- what a reader refuses with
+abbrev pub name_of_refusal : Refusal Error → List ℕ
+name_of_refusal (cut needed) = in_brackets (codes "Incomplete") (name_of_needed needed)
+name_of_refusal (refused error) = name_of_error error
+name_of_refusal (failed error) = name_of_error error
+
+-- what a writer refuses with
+abbrev pub name_of_write_refusal : SerializeError → List ℕ
+name_of_write_refusal (refusals.ASN1Error error) = name_of_error error
+name_of_write_refusal (refusals.InvalidClass class) = codes "InvalidClass"
+name_of_write_refusal refusals.InvalidLength = codes "InvalidLength"
+name_of_write_refusal (refusals.IOError error) = codes "IOError"
+name_of_write_refusal refusals.OutOfMemory = codes "OutOfMemory"

@@ -1,0 +1,40 @@
+-- How a reading is answered: the value, what follows it and how it is written, or the refusal.
+use Rattle.std.specs.Prelude.{◌≡◌, ℕ, Bool, false, List, [], ◌∷◌, ◌++◌, length, codes, ◌⊎◌, Result, Ok, Err}
+use Rattle.hex.specs.Hex.{encode_lower}
+use Rattle.x690.specs.Identifiers.{Identifier, IsCutIdentifier}
+use Rattle.asn1_rs.specs.declared.error.Err.{Err as Refusal}
+use Rattle.asn1_rs.specs.declared.error.Error.{Error}
+use Rattle.asn1_rs.specs.declared.error.SerializeError.{SerializeError}
+use Rattle.asn1_rs.specs.Answers.{Exactly, TellsMemory}
+use Rattle.asn1_rs.specs.Form.{IsStrict}
+use Rattle.asn1_rs.specs.Wrote.{MayRefuse, tells_of_io}
+use Rattle.asn1vec_engine.specs.Names.{name_of_refusal, name_of_write_refusal}
+
+-- octets in hexadecimal digits of lower case, `-` for none
+abbrev pub in_hexadecimal : List ℕ → List ℕ
+in_hexadecimal [] = codes "-"
+in_hexadecimal (octet ∷ octets) = encode_lower (octet ∷ octets)
+
+-- an encoding that was written, or why writing it was refused
+abbrev pub WrittenText : Bool → List ℕ → List ℕ → Type 0
+WrittenText takes_memory encoding text =
+    (text ≡ in_hexadecimal encoding) ⊎
+    ((e : SerializeError) × MayRefuse takes_memory (length encoding) e × (tells_of_io e ≡ false) × (text ≡ codes "err " ++ name_of_write_refusal e))
+
+-- the same of the strict encoding of a value
+abbrev pub StrictText : {V : Type 0} → (V → Identifier → List ℕ → Type 0) → Bool → V → List ℕ → Type 0
+StrictText Form takes_memory v text = (encoding : List ℕ) × IsStrict Form v encoding × WrittenText takes_memory encoding text
+
+-- what a reader answered, in words
+abbrev pub Says : {T : Type 0} → (T → List ℕ) → (T → List ℕ → Type 0) → Result (List ℕ × T) (Refusal Error) → List ℕ → Type 0
+Says text_of Written (Ok x) text =
+    (written : List ℕ) × Written x.1 written ×
+    (text ≡ codes "ok " ++ (text_of x.1 ++ (codes " rest " ++ (in_hexadecimal x.0 ++ (codes " enc " ++ written)))))
+Says text_of Written (Err r) text = text ≡ codes "err " ++ name_of_refusal r
+
+-- The text says an answer that is exact by the grammar, and that the reader by DER may give.
+pub record IsDerAnswer {T V : Type 0} (Der : List ℕ → V → Type 0) (value : T → V) (takes_memory : Bool) (gives : List ℕ → Result (List ℕ × T) (Refusal Error) → Type 0) (text_of : T → List ℕ) (Written : T → List ℕ → Type 0) (octets text : List ℕ) : Type 0 where
+  pub answer : Result (List ℕ × T) (Refusal Error)
+  pub exact : Exactly IsCutIdentifier Der value (TellsMemory takes_memory (λ (e f : Error). f ≡ e)) octets answer
+  pub given : gives octets answer
+  pub says : Says text_of Written answer text

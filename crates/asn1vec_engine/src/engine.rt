@@ -1,0 +1,143 @@
+//! The run over an input: an answer for each line.
+ghost use Rattle.std.specs.Prelude.{◌≡◌, ◌≢◌, ℕ, ◌++◌, ◌∷◌, [], List, All, OnOk, OnErr, IfSome, ◌⊎◌};
+ghost use Rattle.std.specs.Io.KnownBytes.{Appends};
+ghost use Rattle.asn1vec_engine.specs.Answer.{IsAnswerLine, BeginsAnswer};
+ghost use Rattle.asn1vec_engine.specs.Engine.{AnswersTo, BeginsAnswersTo, Moves, Begins, TellsMark};
+ghost use Rattle.asn1vec_engine.specs.declared.engine.RunError.TheVariants.{OutOfMemory};
+
+use crate::answer::{LONGEST_LINE, answer_line};
+use asn1_rs::{DerWrite, put_all};
+use std::alloc::{AllocError, AllocFailed, Global};
+use std::io::Read;
+
+/// Why a run ended before its input.
+#[derive(Clone, Copy, Debug, PartialEq, Eq, thiserror::Error)]
+pub enum RunError {
+    /// The reader answered an Err.
+    #[error("input failed")]
+    Input,
+    /// The writer failed.
+    #[error("output failed")]
+    Output,
+    /// A buffer of the run could not grow.
+    #[error("out of memory")]
+    OutOfMemory,
+}
+
+impl From<AllocError> for RunError {
+    ghost from_gives = { λ _ e. e ≡ OutOfMemory };
+
+    fn from(_e: AllocError) -> RunError {
+        RunError::OutOfMemory
+    }
+}
+
+impl<T: Drop> From<AllocFailed<T>> for RunError {
+    ghost from_gives = { λ _ e. e ≡ OutOfMemory };
+
+    fn from(_e: AllocFailed<T>) -> RunError {
+        RunError::OutOfMemory
+    }
+}
+
+/// Writes the answer to a line.
+fn write_answer<W: DerWrite>(alloc: Global, line: &[u8], output: &mut W) -> Result<(), RunError>
+    ensures ok { OnOk result ((ended : List ℕ) × IsAnswerLine line.now ended × Appends (W.told output.old) (W.told output.new) ended) }
+    ensures err { OnErr result ((front : List ℕ) × ((front ≡ []) ⊎ BeginsAnswer line.now front) × Appends (W.told output.old) (W.told output.new) front) }
+    ensures mark { TellsMark (W.failed output.old) (W.failed output.new) result }
+{
+    let text = answer_line(alloc, line)?;
+    match put_all(output, text.as_bytes()) {
+        Ok(_) => Ok(()),
+        Err(_) => Err(RunError::Output),
+    }
+}
+
+/// Takes the next octet: it ends the line, or belongs to it.
+fn take_octet<W: DerWrite>(
+    alloc: Global,
+    line: &mut Vec<u8>,
+    octet: u8,
+    output: &mut W,
+) -> Result<(), RunError>
+    requires { All (λ x. x ≢ 10) line.old.items }
+    ensures open { OnOk result (All (λ x. x ≢ 10) line.new.items) }
+    ensures ok { OnOk result (Moves (W.told output.old) (W.told output.new) (line.old.items ++ octet ∷ []) line.new.items) }
+    ensures err { OnErr result (Begins (W.told output.old) (W.told output.new) (line.old.items ++ octet ∷ [])) }
+    ensures mark { TellsMark (W.failed output.old) (W.failed output.new) result }
+{
+    if octet == b'\n' {
+        write_answer(alloc, line.as_slice(), output)?;
+        line.clear();
+    } else if line.len() <= LONGEST_LINE {
+        line.push(octet)?;
+    }
+    Ok(())
+}
+
+/// Takes octets in turn.
+fn take_octets<W: DerWrite>(
+    alloc: Global,
+    line: &mut Vec<u8>,
+    octets: &[u8],
+    output: &mut W,
+) -> Result<(), RunError>
+    requires { All (λ x. x ≢ 10) line.old.items }
+    ensures open { OnOk result (All (λ x. x ≢ 10) line.new.items) }
+    ensures ok { OnOk result (Moves (W.told output.old) (W.told output.new) (line.old.items ++ octets.now) line.new.items) }
+    ensures err { OnErr result (Begins (W.told output.old) (W.told output.new) (line.old.items ++ octets.now)) }
+    ensures mark { TellsMark (W.failed output.old) (W.failed output.new) result }
+{
+    for octet in octets {
+        take_octet(alloc, line, *octet, output)?;
+    }
+    Ok(())
+}
+
+/// Answers the line that the end of input ends.
+fn finish<W: DerWrite>(alloc: Global, line: &[u8], output: &mut W) -> Result<(), RunError>
+    requires { All (λ x. x ≢ 10) line.now }
+    ensures ok { OnOk result ((texts : List ℕ) × AnswersTo line.now texts × Appends (W.told output.old) (W.told output.new) texts) }
+    ensures err { OnErr result ((texts : List ℕ) × BeginsAnswersTo line.now texts × Appends (W.told output.old) (W.told output.new) texts) }
+    ensures mark { TellsMark (W.failed output.old) (W.failed output.new) result }
+{
+    if line.is_empty() {
+        return Ok(());
+    }
+    write_answer(alloc, line, output)
+}
+
+/// Answers each line of the input, in order.
+///
+/// The first Err of the reader, of whatever kind, ends the run. The answer is `Output` exactly where the writer failed in
+/// this run, or was marked before and had something to write.
+pub fn run<R: Read, W: DerWrite>(
+    alloc: Global,
+    input: &mut R,
+    output: &mut W,
+) -> Result<(), RunError>
+    // All lines are answered, where the reader tells its octets.
+    ensures ok { OnOk result (IfSome (R.remaining input.old) (λ octets.
+        (texts : List ℕ) × AnswersTo octets texts × Appends (W.told output.old) (W.told output.new) texts)) }
+    // After a failure the writer has gained a beginning of the answers.
+    ensures err { OnErr result (IfSome (R.remaining input.old) (λ octets.
+        (texts : List ℕ) × BeginsAnswersTo octets texts × Appends (W.told output.old) (W.told output.new) texts)) }
+    ensures mark { TellsMark (W.failed output.old) (W.failed output.new) result }
+{
+    let mut line = Vec::new(alloc);
+    let mut chunk = [0u8; 4096];
+    for _ in 0..u64::MAX {
+        match input.read(&mut chunk) {
+            Ok(0) => return finish(alloc, line.as_slice(), output),
+            Ok(n) => take_octets(alloc, &mut line, &chunk[..n], output)?,
+            Err(_) => return Err(RunError::Input),
+        }
+    }
+    Err(RunError::Input)
+}
+
+/// An input has one output. What is written up to a failure is a beginning of it.
+pub fn one_output()
+    ensures whole { (octets texts others : List ℕ) → AnswersTo octets texts → AnswersTo octets others → texts ≡ others }
+    ensures beginning { (octets front texts : List ℕ) → BeginsAnswersTo octets front → AnswersTo octets texts → (lost : List ℕ) × (texts ≡ front ++ lost) }
+{}

@@ -1,0 +1,14 @@
+//! The engine of the program `asn1vec`: it answers each line of its input with one line.
+#![tactic(auto)]
+
+mod answer;
+mod engine;
+mod names;
+mod request;
+mod shown;
+mod types;
+mod unsigned;
+
+pub use answer::one_answer;
+pub use engine::{RunError, one_output, run};
+pub use request::{Rule, one_request};
