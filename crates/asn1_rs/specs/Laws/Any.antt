@@ -2,20 +2,17 @@
 use Rattle.std.proofs.Common.{◌≡◌, ◌∙◌, ap, sym, ℕ, List, [], ◌++◌, append_assoc, append-nil}
 use Rattle.std.proofs.lemmas.List.{append_cancel_left}
 use Rattle.std.specs.Prelude.{Result, Ok, Err}
-use Rattle.x690.specs.Identifiers.{IsCutIdentifier}
 use Rattle.x690.specs.Elements.{Parts, IsDefiniteElement}
 use Rattle.x690.specs.Faults.{Fault, DefiniteElementFault}
 use Rattle.x690.specs.Nested.{IsElement, ElementFault}
 use Rattle.asn1_rs.specs.declared.error.Err.{Err as Refusal}
 use Rattle.asn1_rs.specs.declared.error.Error.{Error}
-use Rattle.asn1_rs.specs.declared.error.Error.TheVariants.{DerConstraintFailed, ConstructExpected}
-use Rattle.asn1_rs.specs.declared.error.DerConstraint.TheVariants.{IndefiniteLength}
 use Rattle.asn1_rs.specs.declared.asn1_types.any.Any.{Any}
 use Rattle.asn1_rs.specs.Answers.{Speaks}
 use Rattle.asn1_rs.specs.Header.{refusal_of, der_refusal, ber_refusal}
 use Rattle.asn1_rs.specs.Any.{AnyGives, parts_of}
-use Rattle.asn1_rs.specs.Grammar.{max_depth, EndsWithin}
-use Rattle.asn1_rs.specs.Laws.Elements.{AreElements, der_elements, ber_elements, speaks_itself, speaks_now}
+use Rattle.asn1_rs.specs.Grammar.{max_depth}
+use Rattle.asn1_rs.specs.Laws.Elements.{AreElements, speaks_itself, speaks_now}
 
 -- the answers of the readers of elements by DER and by BER
 abbrev pub DerElementGives : List ℕ → Result (List ℕ × Any) (Refusal Error) → Type 0

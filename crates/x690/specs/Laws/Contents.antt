@@ -1,14 +1,13 @@
 -- A header and contents octets by BER make an element, and a fault of the contents octets is one of the element.
-use Rattle.std.proofs.Common.{◌≡◌, ◌≢◌, ℕ, zero, suc, ◌+◌, ◌-◌, ◌≤◌, List, [], ◌++◌, length, refl, sym, ap, ◌∙◌, arith, subst, inl, inr, append_assoc, length-append}
-use Rattle.std.specs.List.{concat}
+use Rattle.std.proofs.Common.{◌≡◌, ℕ, zero, suc, ◌+◌, ◌-◌, ◌≤◌, List, ◌++◌, length, refl, sym, ap, ◌∙◌, arith, subst, inl, inr, append_assoc}
 use Rattle.x690.specs.Octets.{IsOctets}
 use Rattle.x690.specs.Identifiers.{Identifier}
 use Rattle.x690.specs.Lengths.{LengthForm, definite, indefinite}
-use Rattle.x690.specs.Elements.{Parts, IsHeader, IsDefiniteElement, der_rule, ber_rule}
-use Rattle.x690.specs.Faults.{Fault, depth_fault, HeaderFault, IsCutContent}
+use Rattle.x690.specs.Elements.{IsHeader, IsDefiniteElement, der_rule, ber_rule}
+use Rattle.x690.specs.Faults.{Fault, depth_fault, HeaderFault}
 use Rattle.x690.specs.Nested.{IsNestedElement, ElementFault, end_of_contents}
 use Rattle.x690.specs.Contents.{IsEndedContent, EndFault, IsContent, ContentFault}
-use Rattle.x690.specs.Laws.Octets.{octets_front, octets_back}
+use Rattle.x690.specs.Laws.Octets.{octets_front}
 use Rattle.x690.specs.Laws.Headers.{header_definite}
 
 -- a header that counts them, and as many octets

@@ -1,4 +1,4 @@
-use Rattle.std.proofs.Common.{◌≡◌, ◌∙◌, ℕ, ◌+◌, ◌-◌, ◌≤◌, length, ap, subst, arith, refl, Ok, suc, length-append}
+use Rattle.std.proofs.Common.{◌≡◌, ◌+◌, ◌-◌, ◌≤◌, length, ap, subst, arith, refl, Ok, suc, length-append}
 use Rattle.std.proofs.lemmas.Result.{err_from_is_err_and}
 use Rattle.x690.specs.Octets.{IsOctets}
 use Rattle.x690.specs.Lengths.{definite, indefinite}
@@ -48,7 +48,7 @@ loop-opened-preserved-in-Some c =
       grows = omega arith;
       octets = octets_back end_of_contents c.in-Some.tail.now (subst IsOctets c.in-Some.ensures.some i.invariant.octets);
       opened = λ outcome headers r. one_header_more _ _ outcome c.args.steps.now.count i.steps.count headers i.invariant.grows
-      (i.invariant.opened outcome (suc headers) (next_is_end i.opened i.depth i.rest.now c.in-Some.tail.now outcome headers c.loop-opened-test.true (omega arith) c.in-Some.ensures.some r));
+          (i.invariant.opened outcome (suc headers) (next_is_end i.opened i.depth i.rest.now c.in-Some.tail.now outcome headers c.loop-opened-test.true (omega arith) c.in-Some.ensures.some r));
     }
 
 pub returns-in_err-tail-in-Definite-clause-err : goal.returns-in_err-tail-in-Definite-clause-err
@@ -79,7 +79,7 @@ loop-opened-preserved-in-Definite c =
       grows = omega arith;
       octets = octets_back content tail (subst IsOctets s.1 whole);
       opened = λ outcome headers r. one_header_more _ _ outcome c.args.steps.now.count i.steps.count headers i.invariant.grows
-      (i.invariant.opened outcome (suc headers) (next_is_definite i.opened i.depth i.rest.now b.0 c.in_ok-after.after.now content tail b.1 c.in-Definite.len outcome headers c.loop-opened-test.true (omega arith) whole h b.3 s.1 s.0 c.in_default.ensures.none r));
+          (i.invariant.opened outcome (suc headers) (next_is_definite i.opened i.depth i.rest.now b.0 c.in_ok-after.after.now content tail b.1 c.in-Definite.len outcome headers c.loop-opened-test.true (omega arith) whole h b.3 s.1 s.0 c.in_default.ensures.none r));
     }
 
 pub loop-opened-preserved : goal.loop-opened-preserved
@@ -95,7 +95,7 @@ loop-opened-preserved c =
       grows = omega arith;
       octets = after_octets m;
       opened = λ outcome headers r. one_header_more _ _ outcome c.args.steps.now.count i.steps.count headers i.invariant.grows
-      (i.invariant.opened outcome (suc headers) (next_is_opened i.opened i.depth i.rest.now b.0 c.in_ok-after.after.now b.1 outcome headers c.loop-opened-test.true (omega arith) h b.3 r));
+          (i.invariant.opened outcome (suc headers) (next_is_opened i.opened i.depth i.rest.now b.0 c.in_ok-after.after.now b.1 outcome headers c.loop-opened-test.true (omega arith) h b.3 r));
     }
 
 pub returns-clause-ok : goal.returns-clause-ok
