@@ -29,7 +29,8 @@ where
     assert_written(rt, alloc, number, octets)?;
     assert!(rt; !number.der_constructed(), "{octets:?}");
     // One tag octet and one length octet come before the contents octets.
-    assert_eq!(rt; number.der_content_len()? + 2, octets.len(), "{octets:?}");
+    let whole = number.der_content_len()?.checked_add(2);
+    assert_eq!(rt; whole, Some(octets.len()), "{octets:?}");
     let mut w = Told::new(Narrow::new(alloc, octets.len(), None));
     assert_eq!(rt;
         write_strict(number, alloc, &mut w)?,

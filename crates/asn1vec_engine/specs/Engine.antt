@@ -1,6 +1,8 @@
 -- What the engine has written on its way.
-use Rattle.std.specs.Prelude.{ℕ, List, ◌++◌, Option, Bool, true, false}
+use Rattle.std.specs.Prelude.{◌≡◌, ℕ, List, ◌++◌, Option, Bool, true, false, IsTrue, Result, Ok, Err}
 use Rattle.std.specs.Io.KnownBytes.{Appends}
+use Rattle.asn1vec_engine.specs.declared.engine.RunError.{RunError}
+use Rattle.asn1vec_engine.specs.declared.engine.RunError.TheVariants.{Input, Output, OutOfMemory}
 use Rattle.asn1vec_engine.specs.Lines.{lines_of}
 use Rattle.asn1vec_engine.specs.Answer.{AreAnswers, BeginAnswers}
 
@@ -28,3 +30,10 @@ pub record Begins (old new : Option (List ℕ)) (before : List ℕ) : Type 0 whe
   pub gained : List ℕ
   pub told : Appends old new gained
   pub front : (rest : List ℕ) → BeginsAnswersTo (before ++ rest) gained
+
+-- the writer is marked where the answer is `Output`, and else its mark is as it was
+abbrev pub TellsMark : Bool → Bool → Result (Unit {0}) RunError → Type 0
+TellsMark was is (Ok x) = is ≡ was
+TellsMark was is (Err Input) = is ≡ was
+TellsMark was is (Err Output) = IsTrue is
+TellsMark was is (Err OutOfMemory) = is ≡ was

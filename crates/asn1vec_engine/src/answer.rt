@@ -1,5 +1,5 @@
 //! The texts of answers.
-ghost use Rattle.std.specs.Prelude.{◌≡◌, ◌++◌, ◌∷◌, [], IfOk, string_bytes};
+ghost use Rattle.std.specs.Prelude.{◌≡◌, ◌++◌, ◌∷◌, [], ℕ, List, IfOk, string_bytes};
 ghost use Rattle.asn1vec_engine.specs.Answer.{IsAnswer, IsAnswerLine, IsRequestAnswer, IsTypeAnswer};
 
 use crate::request::{Request, read_request};
@@ -44,6 +44,11 @@ fn answer(alloc: Global, line: &[u8]) -> Result<String, AllocError>
         None => String::from_str(alloc, "err Line"),
     }
 }
+
+/// A line has one answer.
+pub fn one_answer()
+    ensures { (line text other : List ℕ) → IsAnswer line text → IsAnswer line other → text ≡ other }
+{}
 
 /// The answer to a line, with its end.
 pub(crate) fn answer_line(alloc: Global, line: &[u8]) -> Result<String, AllocError>

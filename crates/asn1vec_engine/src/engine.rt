@@ -1,8 +1,8 @@
 //! The run over an input: an answer for each line.
-ghost use Rattle.std.specs.Prelude.{◌≡◌, ◌≢◌, ℕ, ◌++◌, ◌∷◌, [], List, All, OnOk, OnErr, IfSome, IsTrue, IsErrOf, ◌⊎◌};
+ghost use Rattle.std.specs.Prelude.{◌≡◌, ◌≢◌, ℕ, ◌++◌, ◌∷◌, [], List, All, OnOk, OnErr, IfSome, ◌⊎◌};
 ghost use Rattle.std.specs.Io.KnownBytes.{Appends};
 ghost use Rattle.asn1vec_engine.specs.Answer.{IsAnswerLine, BeginsAnswer};
-ghost use Rattle.asn1vec_engine.specs.Engine.{AnswersTo, BeginsAnswersTo, Moves, Begins};
+ghost use Rattle.asn1vec_engine.specs.Engine.{AnswersTo, BeginsAnswersTo, Moves, Begins, TellsMark};
 ghost use Rattle.asn1vec_engine.specs.declared.engine.RunError.TheVariants.{OutOfMemory};
 
 use crate::answer::{LONGEST_LINE, answer_line};
@@ -44,7 +44,7 @@ impl<T: Drop> From<AllocFailed<T>> for RunError {
 fn write_answer<W: DerWrite>(alloc: Global, line: &[u8], output: &mut W) -> Result<(), RunError>
     ensures ok { OnOk result ((ended : List ℕ) × IsAnswerLine line.now ended × Appends (W.told output.old) (W.told output.new) ended) }
     ensures err { OnErr result ((front : List ℕ) × ((front ≡ []) ⊎ BeginsAnswer line.now front) × Appends (W.told output.old) (W.told output.new) front) }
-    ensures mark { IsErrOf result RunError.Output → IsTrue (W.failed output.new) }
+    ensures mark { TellsMark (W.failed output.old) (W.failed output.new) result }
 {
     let text = answer_line(alloc, line)?;
     match put_all(output, text.as_bytes()) {
@@ -64,7 +64,7 @@ fn take_octet<W: DerWrite>(
     ensures open { OnOk result (All (λ x. x ≢ 10) line.new.items) }
     ensures ok { OnOk result (Moves (W.told output.old) (W.told output.new) (line.old.items ++ octet ∷ []) line.new.items) }
     ensures err { OnErr result (Begins (W.told output.old) (W.told output.new) (line.old.items ++ octet ∷ [])) }
-    ensures mark { IsErrOf result RunError.Output → IsTrue (W.failed output.new) }
+    ensures mark { TellsMark (W.failed output.old) (W.failed output.new) result }
 {
     if octet == b'\n' {
         write_answer(alloc, line.as_slice(), output)?;
@@ -86,7 +86,7 @@ fn take_octets<W: DerWrite>(
     ensures open { OnOk result (All (λ x. x ≢ 10) line.new.items) }
     ensures ok { OnOk result (Moves (W.told output.old) (W.told output.new) (line.old.items ++ octets.now) line.new.items) }
     ensures err { OnErr result (Begins (W.told output.old) (W.told output.new) (line.old.items ++ octets.now)) }
-    ensures mark { IsErrOf result RunError.Output → IsTrue (W.failed output.new) }
+    ensures mark { TellsMark (W.failed output.old) (W.failed output.new) result }
 {
     for octet in octets {
         take_octet(alloc, line, *octet, output)?;
@@ -99,7 +99,7 @@ fn finish<W: DerWrite>(alloc: Global, line: &[u8], output: &mut W) -> Result<(),
     requires { All (λ x. x ≢ 10) line.now }
     ensures ok { OnOk result ((texts : List ℕ) × AnswersTo line.now texts × Appends (W.told output.old) (W.told output.new) texts) }
     ensures err { OnErr result ((texts : List ℕ) × BeginsAnswersTo line.now texts × Appends (W.told output.old) (W.told output.new) texts) }
-    ensures mark { IsErrOf result RunError.Output → IsTrue (W.failed output.new) }
+    ensures mark { TellsMark (W.failed output.old) (W.failed output.new) result }
 {
     if line.is_empty() {
         return Ok(());
@@ -109,7 +109,8 @@ fn finish<W: DerWrite>(alloc: Global, line: &[u8], output: &mut W) -> Result<(),
 
 /// Answers each line of the input, in order.
 ///
-/// The first Err of the reader, of whatever kind, ends the run.
+/// The first Err of the reader, of whatever kind, ends the run. The answer is `Output` exactly where the writer failed in
+/// this run, or was marked before and had something to write.
 pub fn run<R: Read, W: DerWrite>(
     alloc: Global,
     input: &mut R,
@@ -121,7 +122,7 @@ pub fn run<R: Read, W: DerWrite>(
     // After a failure the writer has gained a beginning of the answers.
     ensures err { OnErr result (IfSome (R.remaining input.old) (λ octets.
         (texts : List ℕ) × BeginsAnswersTo octets texts × Appends (W.told output.old) (W.told output.new) texts)) }
-    ensures mark { IsErrOf result RunError.Output → IsTrue (W.failed output.new) }
+    ensures mark { TellsMark (W.failed output.old) (W.failed output.new) result }
 {
     let mut line = Vec::new(alloc);
     let mut chunk = [0u8; 4096];
@@ -134,3 +135,9 @@ pub fn run<R: Read, W: DerWrite>(
     }
     Err(RunError::Input)
 }
+
+/// An input has one output. What is written up to a failure is a beginning of it.
+pub fn one_output()
+    ensures whole { (octets texts others : List ℕ) → AnswersTo octets texts → AnswersTo octets others → texts ≡ others }
+    ensures beginning { (octets front texts : List ℕ) → BeginsAnswersTo octets front → AnswersTo octets texts → (lost : List ℕ) × (texts ≡ front ++ lost) }
+{}

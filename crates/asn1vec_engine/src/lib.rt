@@ -9,5 +9,6 @@ mod shown;
 mod types;
 mod unsigned;
 
-pub use engine::{RunError, run};
+pub use answer::one_answer;
+pub use engine::{RunError, one_output, run};
 pub use request::{Rule, one_request};

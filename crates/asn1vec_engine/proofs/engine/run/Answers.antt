@@ -1,4 +1,4 @@
-use Rattle.std.proofs.Common.{◌≡◌, ℕ, ◌<◌, List, length, ◌++◌, arith, take, true, false, subst}
+use Rattle.std.proofs.Common.{◌∙◌, ◌≡◌, ℕ, ◌<◌, List, length, ◌++◌, arith, take, true, false, subst}
 use Rattle.std.proofs.lemmas.Result.{on_ok_weaker, on_err_weaker}
 use Rattle.asn1vec_engine.specs.Engine.{AnswersTo, BeginsAnswersTo}
 use Rattle.asn1vec_engine.proofs.Appended.{on_err}
@@ -42,6 +42,7 @@ loop-preserved g c =
     let t = c.in_ok-take_octets-in-Ok.ensures in
     record {
       open_line = t.«open»;
+      mark = t.mark ∙ c.loop.invariant.mark;
       so_far = (so_far.0 ++ take c.in-Ok.n c.read.new.buf, consumes_both _ _ _ _ _ so_far.1 h.0, moves_both (moves_more (take c.in-Ok.n c.read.new.buf) so_far.2) t.ok);
     }
 

@@ -1,4 +1,4 @@
-use Rattle.std.proofs.Common.{◌≢◌, List, ℕ}
+use Rattle.std.proofs.Common.{◌≡◌, ◌≢◌, List, ℕ}
 use Rattle.std.specs.List.{All}
 use Rattle.std.specs.Io.KnownBytes.{Consumes}
 use Rattle.asn1vec_engine.specs.Engine.{Moves}
@@ -7,6 +7,7 @@ use Rattle.asn1vec_engine.proofs.engine.run.Given as goal
 abbrev pub invariant-loop : goal.invariant-loop
 invariant-loop g l = record {
   open_line : All (λ x. x ≢ 10) l.line.items;
+  mark : g.W.DerWrite.failed l.output ≡ g.W.DerWrite.failed l.initial.output;
   so_far : (read : List ℕ) × Consumes (g.R.Read.remaining l.initial.input) (g.R.Read.remaining l.input) read
       × Moves (g.W.DerWrite.told l.initial.output) (g.W.DerWrite.told l.output) read l.line.items;
 }

@@ -1,0 +1,9 @@
+use Rattle.asn1vec_engine.specs.Lines.{lines_of}
+use Rattle.asn1vec_engine.proofs.OneAnswer.{lines_once, lines_begun}
+use Rattle.asn1vec_engine.proofs.engine.one_output.Goals as goal
+
+pub returns-clause-whole : goal.returns-clause-whole
+returns-clause-whole c = λ octets texts others a b. lines_once (lines_of octets) texts others a b
+
+pub returns-clause-beginning : goal.returns-clause-beginning
+returns-clause-beginning c = λ octets front texts a b. lines_begun (lines_of octets) front texts a b
