@@ -6,7 +6,7 @@ use Rattle.x690.specs.Identifiers.{Identifier}
 use Rattle.x690.specs.Lengths.{definite, indefinite}
 use Rattle.x690.specs.Elements.{IsHeader, ber_rule}
 use Rattle.x690.specs.Faults.{Fault}
-use Rattle.x690.specs.Nested.{IsNestedElement, IsWord, ElementFault, end_of_contents}
+use Rattle.x690.specs.Nested.{IsWord, ElementFault, end_of_contents}
 use Rattle.x690.specs.Contents.{IsEndedContent, EndFault}
 use Rattle.x690.specs.Laws.Nested.{indefinite_not_end, definite_is_nested}
 use Rattle.x690.specs.Laws.Contents.{definite_made, ended_made, end_fault_opened}

@@ -12,7 +12,8 @@ ghost use Rattle.asn1_rs.specs.Answers.{seen};
 ghost use Rattle.asn1_rs.specs.Header.{Refused, der_refusal, ber_refusal, is_constructed_of, length_of};
 ghost use Rattle.asn1_rs.specs.Length.{form_of};
 ghost use Rattle.asn1_rs.specs.Ber.{count_of, BerContentGives, CountedElement};
-ghost use Rattle.asn1_rs.specs.Grammar.{max_depth};
+ghost use Rattle.asn1_rs.specs.Grammar.{max_depth, EndsWithin};
+ghost use Rattle.asn1_rs.specs.Laws.Any.{RefusalLasts, ElementLasts};
 ghost use Rattle.asn1_rs.specs.Any.{parts_of, AnyGives, Splits, DerContentGives};
 
 use crate::asn1_types::any::Any;
@@ -184,13 +185,16 @@ pub(crate) fn element_by_ber(bytes: &[u8]) -> ParseResult<'_, Any<'_>, Error>
 /// Reads an element by BER, as `Any::from_ber` does, and counts the headers that are read.
 ///
 /// Each header that does not stand in a definite content is read once, and that of each 00 00 too. So the count grows
-/// by half the octets of the element at most.
+/// by half the octets of the element at most. An element, or a refusal, is that of the input whatever follows, as far as
+/// the refusal speaks.
 pub fn any_from_ber_counted<'a>(
     bytes: &'a [u8],
     steps: &mut Steps,
 ) -> ParseResult<'a, Any<'a>, Error>
     requires { count_of steps.old + length bytes.now < 2 ^ 64 }
     ensures gives { AnyGives (IsElement max_depth) (ElementFault max_depth) ber_refusal bytes.now (seen result) }
+    ensures last { IfErr result (RefusalLasts (IsElement max_depth) EndsWithin bytes.now) }
+    ensures same { IfOk result (λ x. ElementLasts (IsElement max_depth) bytes.now x.0.now x.1) }
     ensures ticks { IfOk result (λ x. CountedElement max_depth bytes.now x.0.now (parts_of x.1) (count_of steps.old) (count_of steps.new)) }
     ensures few { 2 * count_of steps.new ≤ 2 * count_of steps.old + length bytes.now }
     ensures grows { count_of steps.old ≤ count_of steps.new }

@@ -3,9 +3,11 @@
 //! No code calls the law traits: they have no functions. A type whose laws are proved can be read by [`read_ber`] and
 //! [`read_der`] and written by [`write_strict`], alone or nested in lists, sets and tags.
 ghost use Rattle.std.specs.Prelude.{ℕ, Bool, List, ◌≡◌, ◌++◌, ◌<◌, ◌^◌, ◌↔◌, ◌||◌, false, length, Result, Ok, Err, IsTrue, IfErr, MatchResult};
+ghost use Rattle.std.specs.Borrow.{Bor};
 ghost use Rattle.std.specs.Io.KnownBytes.{Appends};
 ghost use Rattle.x690.specs.Octets.{IsOctets};
 ghost use Rattle.x690.specs.Identifiers.{Identifier, IsCutIdentifier};
+ghost use Rattle.x690.specs.Lengths.{LengthForm};
 ghost use Rattle.x690.specs.Elements.{Parts, IsDefiniteElement};
 ghost use Rattle.x690.specs.Faults.{DefiniteElementFault};
 ghost use Rattle.x690.specs.Nested.{IsElement, ElementFault};
@@ -21,7 +23,8 @@ ghost use Rattle.asn1_rs.specs.Wrote.{Wrote, MayRefuse};
 ghost use Rattle.asn1_rs.specs.declared.header.Header.{Header as Head};
 ghost use Rattle.asn1_rs.specs.declared.asn1_types.any.Any.{Any as Element};
 ghost use Rattle.asn1_rs.specs.Header.{refusal_of, HeaderGives};
-ghost use Rattle.asn1_rs.specs.Laws.Any.{DerElementGives};
+ghost use Rattle.asn1_rs.specs.Ber.{BerContentGives};
+ghost use Rattle.asn1_rs.specs.Laws.Any.{DerElementGives, BerElementGives, RefusalLasts, ElementLasts, ContentStays};
 ghost use Rattle.asn1_rs.specs.Laws.Elements.{element_exact, der_elements, ber_elements, passes_all};
 ghost use Rattle.asn1_rs.specs.Laws.Forms.{WritesByValue, WritesForm};
 
@@ -273,8 +276,9 @@ pub fn write_strict<T: LawfulWrite, W: DerWrite>(
     x.write_der(alloc, w)
 }
 
-/// The answers of the readers of headers by DER and by BER, and of elements by DER, are what the input makes them: it
-/// has one refusal, that of its first fault from the left, and none where a header, or an element, begins it.
+/// The answers of the readers of headers and of elements, by DER and by BER, and of contents octets by BER are what the
+/// input makes them: it has one refusal, that of its first fault from the left, and none where a header, an element, or
+/// contents octets begin it.
 pub fn one_refusal()
     ensures header { (rule : Identifier → Bool) (at_indefinite : Fault) (input : List ℕ) (q r : Refusal Fault)
         → HeaderGives rule (refusal_of at_indefinite) input (Err q) → HeaderGives rule (refusal_of at_indefinite) input (Err r) → q ≡ r }
@@ -282,4 +286,22 @@ pub fn one_refusal()
         → HeaderGives rule (refusal_of at_indefinite) input (Ok x) → HeaderGives rule (refusal_of at_indefinite) input (Err r) → ⊥ }
     ensures element { (input : List ℕ) (q r : Refusal Fault) → DerElementGives input (Err q) → DerElementGives input (Err r) → q ≡ r }
     ensures no_element { (input : List ℕ) (x : List ℕ × Element) (r : Refusal Fault) → DerElementGives input (Ok x) → DerElementGives input (Err r) → ⊥ }
+    ensures ber_element { (input : List ℕ) (q r : Refusal Fault) → BerElementGives input (Err q) → BerElementGives input (Err r) → q ≡ r }
+    ensures no_ber_element { (input : List ℕ) (x : List ℕ × Element) (r : Refusal Fault) → BerElementGives input (Ok x) → BerElementGives input (Err r) → ⊥ }
+    ensures ber_content { (constructed : Bool) (form : LengthForm) (depth : ℕ) (input : List ℕ) (q r : Refusal Fault)
+        → BerContentGives constructed form depth input (Err q) → BerContentGives constructed form depth input (Err r) → q ≡ r }
+    ensures no_ber_content { (constructed : Bool) (form : LengthForm) (depth : ℕ) (input : List ℕ) (x : Bor (List ℕ) × Bor (List ℕ)) (r : Refusal Fault)
+        → BerContentGives constructed form depth input (Ok x) → BerContentGives constructed form depth input (Err r) → ⊥ }
+{}
+
+/// What the readers of elements answer lasts. After a refusal no element begins the input, nor more octets of which the
+/// refusal speaks. An element that is read is the one that begins the input, whatever follows, and so are contents
+/// octets.
+pub fn answers_last()
+    ensures refusal { (input : List ℕ) (r : Refusal Fault) → DerElementGives input (Err r) → RefusalLasts IsDefiniteElement IsCutIdentifier input r }
+    ensures element { (input : List ℕ) (x : List ℕ × Element) → DerElementGives input (Ok x) → ElementLasts IsDefiniteElement input x.0 x.1 }
+    ensures ber_refusal { (input : List ℕ) (r : Refusal Fault) → BerElementGives input (Err r) → RefusalLasts (IsElement max_depth) EndsWithin input r }
+    ensures ber_element { (input : List ℕ) (x : List ℕ × Element) → BerElementGives input (Ok x) → ElementLasts (IsElement max_depth) input x.0 x.1 }
+    ensures ber_content { (constructed : Bool) (form : LengthForm) (depth : ℕ) (input more : List ℕ) (x : Bor (List ℕ) × Bor (List ℕ)) (answer : Result (Bor (List ℕ) × Bor (List ℕ)) (Refusal Fault))
+        → BerContentGives constructed form depth input (Ok x) → BerContentGives constructed form depth (input ++ more) answer → ContentStays x more answer }
 {}

@@ -27,7 +27,7 @@ pub use error::{
 pub use header::Header;
 pub use laws::{
     Grammar, LawfulAuto, LawfulBer, LawfulBody, LawfulCheck, LawfulDer, LawfulItem, LawfulMember,
-    LawfulWrite, TakesClass, one_refusal, read_ber, read_der, write_strict,
+    LawfulWrite, TakesClass, answers_last, one_refusal, read_ber, read_der, write_strict,
 };
 pub use length::Length;
 pub use tag::Tag;

@@ -1,12 +1,14 @@
 //! The laws of elements by BER, nested to a depth, and of their faults.
 
-ghost use Rattle.std.specs.Prelude.{ℕ, List, ◌++◌, ◌≡◌, ◌+◌, ◌*◌, ◌≤◌, length};
+ghost use Rattle.std.specs.Prelude.{ℕ, List, ◌++◌, ◌≡◌, ◌+◌, ◌-◌, ◌*◌, ◌≤◌, length};
 ghost use Rattle.std.specs.List.{concat};
 ghost use Rattle.x690.specs.Octets.{IsOctets, BeginsWith};
-ghost use Rattle.x690.specs.Lengths.{definite};
-ghost use Rattle.x690.specs.Elements.{Parts, IsDefiniteElement};
+ghost use Rattle.x690.specs.Identifiers.{Identifier};
+ghost use Rattle.x690.specs.Lengths.{LengthForm, definite};
+ghost use Rattle.x690.specs.Elements.{Parts, IsHeader, IsDefiniteElement, ber_rule};
 ghost use Rattle.x690.specs.Faults.{Fault, missing, SpeaksOf};
 ghost use Rattle.x690.specs.Nested.{IsNestedElement, IsWord, IsRow, ElementFault, EndsInIdentifier, end_of_contents};
+ghost use Rattle.x690.specs.Contents.{IsContent, ContentFault};
 
 /// Where two elements begin one input they are the same, of whatever depths: they have the same parts and as many
 /// headers, and the same octets follow (X.690 8.1.1).
@@ -86,4 +88,31 @@ pub fn one_nested_fault()
     ensures one { (depth : ℕ) (input : List ℕ) (fault other : Fault)
         → ElementFault depth input fault → ElementFault depth input other → fault ≡ other }
     ensures some { (depth : ℕ) (input : List ℕ) (n : ℕ) → ElementFault depth input (missing n) → 1 ≤ n }
+{}
+
+/// Octets begin in one way with the contents octets that a length of a form announces, whatever follows, or they have
+/// one fault (X.690 8.1.3, 8.1.5).
+pub fn contents_are_determined()
+    ensures unique { (form : LengthForm) (depth : ℕ) (input content other rest tail : List ℕ) (headers other_headers : ℕ)
+        → IsContent form depth input content rest headers → IsContent form depth input other tail other_headers
+        → (content ≡ other) × (rest ≡ tail) × (headers ≡ other_headers) }
+    ensures last { (form : LengthForm) (depth : ℕ) (input content rest more : List ℕ) (headers : ℕ)
+        → IsContent form depth input content rest headers
+        → IsContent form depth (input ++ more) content (rest ++ more) headers }
+    ensures one_fault { (form : LengthForm) (depth : ℕ) (input : List ℕ) (fault other : Fault)
+        → ContentFault form depth input fault → ContentFault form depth input other → fault ≡ other }
+    ensures no_fault { (form : LengthForm) (depth : ℕ) (input content rest : List ℕ) (headers : ℕ) (fault : Fault)
+        → IsContent form depth input content rest headers → ContentFault form depth input fault → ⊥ }
+{}
+
+/// A header and the contents octets behind it are an element, with one header more. A fault of them is one of the
+/// element (X.690 8.1.1).
+pub fn headers_and_contents_are_elements()
+    ensures element { (depth : ℕ) (input header after content rest : List ℕ) (id : Identifier) (form : LengthForm) (headers : ℕ)
+        → 1 ≤ depth → IsOctets after → IsHeader ber_rule header id form → BeginsWith input header after
+        → IsContent form (depth - 1) after content rest headers
+        → (word : List ℕ) × IsNestedElement depth word (record { id = id; form = form; content = content }) (headers + 1) × BeginsWith input word rest }
+    ensures fault { (depth : ℕ) (input header after : List ℕ) (id : Identifier) (form : LengthForm) (fault : Fault)
+        → 1 ≤ depth → IsHeader ber_rule header id form → BeginsWith input header after
+        → ContentFault form (depth - 1) after fault → ElementFault depth input fault }
 {}

@@ -1,31 +1,98 @@
--- What readers of elements by DER say of more octets, and that they have one refusal.
-use Rattle.std.proofs.Common.{◌≡◌, ◌∙◌, ap, sym, inr, ℕ, List}
-use Rattle.std.specs.Prelude.{Result, Ok, Err}
-use Rattle.x690.specs.Identifiers.{IsCutIdentifier}
-use Rattle.x690.specs.Elements.{IsDefiniteElement}
-use Rattle.x690.specs.Faults.{DefiniteElementFault}
-use Rattle.x690.specs.Laws.Faults.{no_definite_element, definite_element_or_fault, definite_fault_counts, one_definite_fault}
+-- What readers of elements and of contents octets say of more octets, and that they have one refusal.
+use Rattle.std.proofs.Common.{◌≡◌, ◌∙◌, ap, sym, ℕ, List, [], ◌++◌, append_assoc, append-nil}
+use Rattle.std.proofs.lemmas.List.{append_cancel_left}
+use Rattle.std.specs.Prelude.{zero, suc, Bool, true, false, Result, Ok, Err}
+use Rattle.std.specs.Borrow.{Bor}
+use Rattle.x690.specs.Lengths.{LengthForm, definite, indefinite}
+use Rattle.x690.specs.Elements.{Parts, IsDefiniteElement}
+use Rattle.x690.specs.Faults.{Fault, DefiniteElementFault}
+use Rattle.x690.specs.Nested.{IsElement, ElementFault}
+use Rattle.x690.specs.Contents.{IsContent}
+use Rattle.x690.specs.Laws.Contents.{content_unique, content_extends, one_content_fault, content_or_fault}
 use Rattle.asn1_rs.specs.declared.error.Err.{Err as Refusal}
 use Rattle.asn1_rs.specs.declared.error.Error.{Error}
-use Rattle.asn1_rs.specs.declared.error.Error.TheVariants.{DerConstraintFailed}
-use Rattle.asn1_rs.specs.declared.error.DerConstraint.TheVariants.{IndefiniteLength}
 use Rattle.asn1_rs.specs.declared.asn1_types.any.Any.{Any}
-use Rattle.asn1_rs.specs.Answers.{Exactly}
-use Rattle.asn1_rs.specs.Header.{der_refusal}
+use Rattle.asn1_rs.specs.Answers.{Speaks}
+use Rattle.asn1_rs.specs.Header.{refusal_of, der_refusal, ber_refusal}
+use Rattle.asn1_rs.specs.Ber.{BerContentGives}
 use Rattle.asn1_rs.specs.Any.{AnyGives, parts_of}
-use Rattle.asn1_rs.specs.Laws.Elements.{speaks_itself}
+use Rattle.asn1_rs.specs.Grammar.{max_depth}
+use Rattle.asn1_rs.specs.Laws.Elements.{AreElements, speaks_itself, speaks_now}
 
--- the answer of a reader of elements by DER
+-- the answers of the readers of elements by DER and by BER
 abbrev pub DerElementGives : List ℕ → Result (List ℕ × Any) (Refusal Error) → Type 0
-DerElementGives input answer = AnyGives IsDefiniteElement DefiniteElementFault der_refusal input answer
+DerElementGives = AnyGives IsDefiniteElement DefiniteElementFault der_refusal
 
-pub der_element_exact : (memory : Refusal Error → Type 0) (input : List ℕ) (answer : Result (List ℕ × Any) (Refusal Error)) → DerElementGives input answer → Exactly IsCutIdentifier IsDefiniteElement parts_of memory input answer
-der_element_exact memory input (Ok x) g = g
-der_element_exact memory input (Err r) g = inr (λ more s word rest p e d.
-    no_definite_element input more word rest p g.0 g.1 (speaks_itself (DerConstraintFailed IndefiniteLength) g.0 r (IsCutIdentifier input) more (definite_fault_counts input g.0 g.1) g.2 s) d e)
+abbrev pub BerElementGives : List ℕ → Result (List ℕ × Any) (Refusal Error) → Type 0
+BerElementGives = AnyGives (IsElement max_depth) (ElementFault max_depth) ber_refusal
 
-pub one_der_refusal : (input : List ℕ) (q r : Refusal Error) → DerElementGives input (Err q) → DerElementGives input (Err r) → q ≡ r
-one_der_refusal input q r f g = f.2 ∙ ap der_refusal (one_definite_fault input f.0 g.0 f.1 g.1) ∙ sym g.2
+-- no element begins the input after a refusal, nor more octets of which the refusal speaks
+abbrev pub RefusalLasts : (List ℕ → Parts → Type 0) → (List ℕ → Type 0) → List ℕ → Refusal Error → Type 0
+RefusalLasts Element IsCut input r = (more word rest : List ℕ) (p : Parts) → Speaks (IsCut input) r more → Element word p → input ++ more ≡ word ++ rest → ⊥
 
-pub der_element_or_refusal : (input : List ℕ) (x : List ℕ × Any) (r : Refusal Error) → DerElementGives input (Ok x) → DerElementGives input (Err r) → ⊥
-der_element_or_refusal input x r f g = definite_element_or_fault input f.word x.0 (parts_of x.1) g.0 g.1 f.fits f.is
+-- no other element begins the input, whatever follows
+abbrev pub ElementLasts : (List ℕ → Parts → Type 0) → List ℕ → List ℕ → Any → Type 0
+ElementLasts Element input rest any = (more word tail : List ℕ) (p : Parts) → Element word p → input ++ more ≡ word ++ tail → (p ≡ parts_of any) × (tail ≡ rest ++ more)
+
+module _ (Element : List ℕ → Parts → Type 0) (FaultOf : List ℕ → Fault → Type 0) (IsCut : List ℕ → Type 0) (elements : AreElements Element FaultOf IsCut) (at_indefinite : Error) where
+  abbrev Gives : List ℕ → Result (List ℕ × Any) (Refusal Error) → Type 0
+  Gives = AnyGives Element FaultOf (refusal_of at_indefinite)
+
+  pub refusal_lasts : (input : List ℕ) (r : Refusal Error) → Gives input (Err r) → RefusalLasts Element IsCut input r
+  refusal_lasts input r g = λ more word rest p s a e.
+      elements.final input more word rest p g.0 g.1 (speaks_itself at_indefinite g.0 r (IsCut input) more (elements.counts input g.0 g.1) g.2 s) a e
+
+  pub element_lasts : (input : List ℕ) (x : List ℕ × Any) → Gives input (Ok x) → ElementLasts Element input x.0 x.1
+  element_lasts input x g = λ more word tail p a e.
+      let s : g.word ++ (x.0 ++ more) ≡ word ++ tail = sym (append_assoc g.word x.0 more) ∙ ap (λ (ys : List ℕ). ys ++ more) (sym g.is) ∙ e in
+      let same : (g.word ≡ word) × (parts_of x.1 ≡ p) = elements.one.one g.word word (x.0 ++ more) tail (parts_of x.1) p g.fits a s in
+      (sym same.1, sym (append_cancel_left word (x.0 ++ more) tail (ap (λ (ys : List ℕ). ys ++ (x.0 ++ more)) (sym same.0) ∙ s)))
+
+  -- an input has one refusal
+  pub one_element_refusal : (input : List ℕ) (q r : Refusal Error) → Gives input (Err q) → Gives input (Err r) → q ≡ r
+  one_element_refusal input q r f g = f.2 ∙ ap (refusal_of at_indefinite) (elements.alone input f.0 g.0 f.1 g.1) ∙ sym g.2
+
+  -- where an element begins an input there is no refusal of it
+  pub element_or_refusal : (input : List ℕ) (x : List ℕ × Any) (r : Refusal Error) → Gives input (Ok x) → Gives input (Err r) → ⊥
+  element_or_refusal input x r f g = refusal_lasts input r g [] f.word x.0 (parts_of x.1) (speaks_now (IsCut input) r) f.fits (append-nil input ∙ f.is)
+
+-- contents octets by BER have one refusal
+pub one_content_refusal : (constructed : Bool) (form : LengthForm) (depth : ℕ) (input : List ℕ) (q r : Refusal Error) → BerContentGives constructed form depth input (Err q) → BerContentGives constructed form depth input (Err r) → q ≡ r
+one_content_refusal true form zero input q r f g = cc
+one_content_refusal false form zero input q r f g = cc
+one_content_refusal false indefinite (suc depth) input q r f g = cc
+one_content_refusal false (definite n) (suc depth) input q r f g = f.2 ∙ ap ber_refusal (one_content_fault (definite n) depth input f.0 g.0 f.1 g.1) ∙ sym g.2
+one_content_refusal true form (suc depth) input q r f g = f.2 ∙ ap ber_refusal (one_content_fault form depth input f.0 g.0 f.1 g.1) ∙ sym g.2
+
+-- and none where contents octets begin the input
+pub content_or_refusal : (constructed : Bool) (form : LengthForm) (depth : ℕ) (input : List ℕ) (x : Bor (List ℕ) × Bor (List ℕ)) (r : Refusal Error) → BerContentGives constructed form depth input (Ok x) → BerContentGives constructed form depth input (Err r) → ⊥
+content_or_refusal true form zero input x r f g = cc
+content_or_refusal false form zero input x r f g = cc
+content_or_refusal false indefinite (suc depth) input x r f g = cc
+content_or_refusal false (definite n) (suc depth) input x r f g = content_or_fault (definite n) depth input x.1.now x.0.now f.0 g.0 f.1 g.1
+content_or_refusal true form (suc depth) input x r f g = content_or_fault form depth input x.1.now x.0.now f.0 g.0 f.1 g.1
+
+-- with more octets behind them the contents octets are answered too, and the rest with these
+abbrev pub ContentStays : Bor (List ℕ) × Bor (List ℕ) → List ℕ → Result (Bor (List ℕ) × Bor (List ℕ)) (Refusal Error) → Type 0
+ContentStays x more (Ok y) = (y.1.now ≡ x.1.now) × (y.0.now ≡ x.0.now ++ more)
+ContentStays x more (Err r) = ⊥
+
+-- what is read of a form stays, and no fault of it is found
+content_stays : (form : LengthForm) (depth : ℕ) (input more : List ℕ) (x : Bor (List ℕ) × Bor (List ℕ)) → ((headers : ℕ) × IsContent form depth input x.1.now x.0.now headers) →
+    (answer : Result (Bor (List ℕ) × Bor (List ℕ)) (Refusal Error)) → BerContentGives true form (suc depth) (input ++ more) answer → ContentStays x more answer
+content_stays form depth input more x f (Ok y) g =
+    let u = content_unique form depth (input ++ more) y.1.now x.1.now y.0.now (x.0.now ++ more) g.0 f.0 g.1 (content_extends form depth input x.1.now x.0.now more f.0 f.1) in
+    (u.0, u.1)
+content_stays form depth input more x f (Err r) g =
+    content_or_fault form depth (input ++ more) x.1.now (x.0.now ++ more) f.0 g.0 (content_extends form depth input x.1.now x.0.now more f.0 f.1) g.1
+
+either_bit : (n depth : ℕ) (input : List ℕ) (answer : Result (Bor (List ℕ) × Bor (List ℕ)) (Refusal Error)) → BerContentGives false (definite n) (suc depth) input answer → BerContentGives true (definite n) (suc depth) input answer
+either_bit n depth input (Ok x) g = g
+either_bit n depth input (Err r) g = g
+
+pub content_lasts : (constructed : Bool) (form : LengthForm) (depth : ℕ) (input more : List ℕ) (x : Bor (List ℕ) × Bor (List ℕ)) (answer : Result (Bor (List ℕ) × Bor (List ℕ)) (Refusal Error)) → BerContentGives constructed form depth input (Ok x) → BerContentGives constructed form depth (input ++ more) answer → ContentStays x more answer
+content_lasts true form zero input more x answer f g = cc
+content_lasts false form zero input more x answer f g = cc
+content_lasts false indefinite (suc depth) input more x answer f g = cc
+content_lasts false (definite n) (suc depth) input more x answer f g = content_stays (definite n) depth input more x f answer (either_bit n depth (input ++ more) answer g)
+content_lasts true form (suc depth) input more x answer f g = content_stays form depth input more x f answer g

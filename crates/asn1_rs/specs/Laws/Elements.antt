@@ -7,9 +7,9 @@ use Rattle.x690.specs.Elements.{Parts, IsDefiniteElement}
 use Rattle.x690.specs.Faults.{Fault, missing, tag_fault, length_fault, form_fault, depth_fault, DefiniteElementFault, SpeaksOf}
 use Rattle.x690.specs.Nested.{IsElement, ElementFault}
 use Rattle.x690.specs.Laws.Elements.{definite_element_unique, definite_element_two}
-use Rattle.x690.specs.Laws.Faults.{CountsSome, no_definite_element, definite_fault_counts}
+use Rattle.x690.specs.Laws.Faults.{CountsSome, no_definite_element, definite_fault_counts, one_definite_fault}
 use Rattle.x690.specs.Laws.Nested.{nested_element_unique, nested_element_two, nested_content_is_octets}
-use Rattle.x690.specs.Laws.NestedFaults.{no_element, element_fault_counts}
+use Rattle.x690.specs.Laws.NestedFaults.{no_element, element_fault_counts, one_element_fault}
 use Rattle.asn1_rs.specs.declared.error.Err.{Err as Refusal}
 use Rattle.asn1_rs.specs.declared.error.Err.TheVariants.{Error as refused, Incomplete as cut, Failure as failed}
 use Rattle.asn1_rs.specs.declared.error.Needed.TheVariants.{Size, Unknown}
@@ -19,11 +19,12 @@ use Rattle.asn1_rs.specs.Header.{refusal_of}
 use Rattle.asn1_rs.specs.Answers.{Front, NoFront, IsFinal, Speaks, Exactly, TellsMemory}
 use Rattle.asn1_rs.specs.Grammar.{IsOneFront, ElementWord, ElementGives, TakesBody, Checks, NoCheck, PassesAll, max_depth, EndsWithin}
 
--- What the laws ask of elements: one alone begins an input, and a fault is final.
+-- What the laws ask of elements: one alone begins an input, and a fault is the only one, and final.
 pub record AreElements (Element : List ℕ → Parts → Type 0) (FaultOf : List ℕ → Fault → Type 0) (IsCut : List ℕ → Type 0) : Type 0 where
   pub one : IsOneFront Element
   pub final : (input more o rest : List ℕ) (p : Parts) (fault : Fault) → FaultOf input fault → SpeaksOf (IsCut input) fault more → Element o p → input ++ more ≡ o ++ rest → ⊥
   pub counts : (input : List ℕ) (fault : Fault) → FaultOf input fault → CountsSome fault
+  pub alone : (input : List ℕ) (f g : Fault) → FaultOf input f → FaultOf input g → f ≡ g
   pub content : (o : List ℕ) (p : Parts) → Element o p → IsOctets p.content
 
 pub der_elements : AreElements IsDefiniteElement DefiniteElementFault IsCutIdentifier
@@ -34,6 +35,7 @@ der_elements = record {
   };
   final = λ input more o rest p fault f s a e. no_definite_element input more o rest p fault f s a e;
   counts = λ input fault f. definite_fault_counts input fault f;
+  alone = one_definite_fault;
   content = λ o p a. a.content_octets;
 }
 
@@ -45,6 +47,7 @@ ber_elements = record {
   };
   final = λ input more o rest p fault f s a e. no_element max_depth input more o rest p a.0 fault f s a.1 e;
   counts = λ input fault f. element_fault_counts max_depth input fault f;
+  alone = one_element_fault max_depth;
   content = λ o p a. nested_content_is_octets max_depth o p a.0 a.1;
 }
 
@@ -65,7 +68,7 @@ speaks_fault at from length_fault r is_cut more some c s = tt
 speaks_fault at from form_fault r is_cut more some c s = tt
 speaks_fault at from depth_fault r is_cut more some c s = tt
 
-speaks_now : {E : Type 0} (is_cut : Type 0) (r : Refusal E) → Speaks is_cut r []
+pub speaks_now : {E : Type 0} (is_cut : Type 0) (r : Refusal E) → Speaks is_cut r []
 speaks_now is_cut (cut (Size n)) = inl refl
 speaks_now is_cut (cut Unknown) = refl
 speaks_now is_cut (refused x) = inl refl

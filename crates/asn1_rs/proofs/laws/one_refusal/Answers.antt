@@ -1,6 +1,18 @@
+use Rattle.asn1_rs.specs.declared.error.Error.TheVariants.{DerConstraintFailed, ConstructExpected}
+use Rattle.asn1_rs.specs.declared.error.DerConstraint.TheVariants.{IndefiniteLength}
 use Rattle.asn1_rs.specs.Laws.Headers.{one_header_refusal, header_or_refusal}
-use Rattle.asn1_rs.specs.Laws.Any.{one_der_refusal, der_element_or_refusal}
+use Rattle.asn1_rs.specs.Laws.Elements.{der_elements, ber_elements}
+use Rattle.asn1_rs.specs.Laws.Any.{one_element_refusal, element_or_refusal, one_content_refusal, content_or_refusal}
 use Rattle.asn1_rs.proofs.laws.one_refusal.Goals as goal
 
 pub returns : goal.returns
-returns c = record { header = one_header_refusal; no_header = header_or_refusal; element = one_der_refusal; no_element = der_element_or_refusal }
+returns c = record {
+  header = one_header_refusal;
+  no_header = header_or_refusal;
+  element = one_element_refusal _ _ _ der_elements (DerConstraintFailed IndefiniteLength);
+  no_element = element_or_refusal _ _ _ der_elements (DerConstraintFailed IndefiniteLength);
+  ber_element = one_element_refusal _ _ _ ber_elements ConstructExpected;
+  no_ber_element = element_or_refusal _ _ _ ber_elements ConstructExpected;
+  ber_content = one_content_refusal;
+  no_ber_content = content_or_refusal;
+}
