@@ -1,6 +1,6 @@
 //! Readers and writers that take little at a time, and that fail.
 
-use asn1_rs::{DerWrite, SerializeError, SerializeResult, ToDer, Told};
+use asn1_rs::{DerWrite, SerializeError, ToDer, Told};
 use std::alloc::Global;
 use std::io;
 use std::io::{ErrorKind, Read, Write};
@@ -51,25 +51,27 @@ impl Write for Narrow {
     }
 }
 
-/// A writer of a caller's own, with a mark, over a narrow one.
+/// A writer of a caller's own, with a mark. It takes one octet a call, and so many octets in all.
 #[derive(Drop)]
 pub(crate) struct CallersOwn {
-    narrow: Narrow,
+    held: Vec<u8>,
+    room: usize,
     is_failed: bool,
 }
 
 impl CallersOwn {
-    /// A writer that is not marked.
-    pub(crate) fn new(narrow: Narrow) -> CallersOwn {
+    /// A writer with room for so many octets, which is not marked.
+    pub(crate) fn new(alloc: Global, room: usize) -> CallersOwn {
         CallersOwn {
-            narrow,
+            held: Vec::new(alloc),
+            room,
             is_failed: false,
         }
     }
 
     /// What it took.
     pub(crate) fn held(&self) -> &[u8] {
-        self.narrow.held()
+        self.held.as_slice()
     }
 
     /// Whether it is marked.
@@ -82,15 +84,22 @@ impl DerWrite for CallersOwn {
     ghost failed = { λ w. w.is_failed };
 
     fn put(&mut self, octets: &[u8]) -> io::Result<usize> {
-        if self.is_failed {
-            return Err(io::Error::from(ErrorKind::StorageFull));
-        }
-        let answer = self.narrow.write(octets);
-        self.is_failed = match &answer {
-            Ok(count) => *count == 0 && !octets.is_empty(),
-            Err(_) => true,
+        let [first, ..] = octets else {
+            return if self.is_failed {
+                Err(io::Error::from(ErrorKind::BrokenPipe))
+            } else {
+                Ok(0)
+            };
         };
-        answer
+        if self.is_failed || self.held.len() >= self.room {
+            self.is_failed = true;
+            return Err(io::Error::from(ErrorKind::BrokenPipe));
+        }
+        if let Err(e) = self.held.push(*first) {
+            self.is_failed = true;
+            return Err(io::Error::from(e));
+        }
+        Ok(1)
     }
 }
 
@@ -129,35 +138,29 @@ impl Read for SmallReads<'_> {
     }
 }
 
-/// How a writing ends: with a number of octets, or with a writer's failure of this kind, or with another refusal.
-pub(crate) fn ending(answer: SerializeResult<usize>) -> Result<usize, Option<ErrorKind>> {
-    match answer {
-        Ok(count) => Ok(count),
-        Err(SerializeError::IOError(e)) => Err(Some(e.kind())),
-        Err(_) => Err(None),
-    }
-}
-
-/// Asserts that the value is written so, and that of a writer that fails at any place the beginning was taken.
+/// Asserts that the value is written so, and that a writer that fails at any place took the beginning.
 pub(crate) fn assert_written<T: ToDer>(
     rt: &impl Abort,
     alloc: Global,
     value: &T,
     octets: &[u8],
 ) -> Result<(), Fail> {
-    let len = octets.len();
-    assert_eq!(rt; value.to_der_len()?, len, "{octets:?}");
+    assert_eq!(rt; value.to_der_len()?, octets.len(), "{octets:?}");
     assert_eq!(rt; value.to_der_vec(alloc)?.as_slice(), octets);
-    for place in 0..=len {
+    let mut whole = Told::new(Narrow::new(alloc, octets.len(), None));
+    assert_eq!(rt;
+        value.write_der(alloc, &mut whole)?,
+        octets.len(),
+        "{octets:?}"
+    );
+    assert_eq!(rt; whole.as_inner().held(), octets);
+    assert!(rt; !whole.is_failed(), "{octets:?}");
+    for place in 0..octets.len() {
         let mut w = Told::new(Narrow::new(alloc, place, Some(ErrorKind::BrokenPipe)));
-        let expected = if place < len {
-            Err(Some(ErrorKind::BrokenPipe))
-        } else {
-            Ok(len)
-        };
+        let refusal = value.write_der(alloc, &mut w).err();
         assert_eq!(rt;
-            ending(value.write_der(alloc, &mut w)),
-            expected,
+            io_kind(refusal),
+            Some(ErrorKind::BrokenPipe),
             "{octets:?} at {place}"
         );
         assert_eq!(rt;
@@ -165,7 +168,15 @@ pub(crate) fn assert_written<T: ToDer>(
             &octets[..place],
             "{octets:?} at {place}"
         );
-        assert_eq!(rt; w.is_failed(), place < len, "{octets:?} at {place}");
+        assert!(rt; w.is_failed(), "{octets:?} at {place}");
     }
     Ok(())
+}
+
+/// The kind of the writer's failure that a refusal tells of.
+pub(crate) fn io_kind(refusal: Option<SerializeError>) -> Option<ErrorKind> {
+    match refusal {
+        Some(SerializeError::IOError(e)) => Some(e.kind()),
+        _ => None,
+    }
 }

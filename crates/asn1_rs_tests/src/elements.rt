@@ -28,7 +28,7 @@ fn first_octet(content: &[u8]) -> ParseResult<'_, u8, Refused> {
 }
 
 #[test]
-fn elements_are_read_where_they_are_whole(rt: HostRuntime) -> Result<(), Fail> {
+fn elements_are_read(rt: HostRuntime) -> Result<(), Fail> {
     // Octets, class, tag number, contents octets and what follows.
     let table: [(&[u8], Class, u32, &[u8], &[u8]); 11] = [
         (
@@ -113,17 +113,30 @@ fn elements_are_read_where_they_are_whole(rt: HostRuntime) -> Result<(), Fail> {
         assert_eq!(rt; any.as_bytes(), content, "{octets:?}");
         assert_eq!(rt; left, rest, "{octets:?}");
     }
-    // How many octets are missing.
-    let cut: [(&[u8], usize); 3] = [
-        (&[0x02, 0x05], 5),
-        (&[0x02, 0x05, 0x01, 0x02, 0x03], 2),
+    Ok(())
+}
+
+#[test]
+fn elements_are_refused(rt: HostRuntime) -> Result<(), Fail> {
+    let table: [(&[u8], Err<Error>); 7] = [
+        (&[], Err::Incomplete(Needed::Size(1))),
+        (&[0x02], Err::Incomplete(Needed::Size(1))),
+        (&[0x02, 0x05], Err::Incomplete(Needed::Size(5))),
+        (
+            &[0x02, 0x05, 0x01, 0x02, 0x03],
+            Err::Incomplete(Needed::Size(2)),
+        ),
         (
             &[0x02, 0x88, 0xff, 0xff, 0xff, 0xff, 0xff, 0xff, 0xff, 0xff],
-            18446744073709551615,
+            Err::Incomplete(Needed::Size(usize::MAX)),
         ),
+        (
+            &[0x30, 0x80, 0x00, 0x00],
+            Err::Error(Error::DerConstraintFailed(DerConstraint::IndefiniteLength)),
+        ),
+        (&[0x1f, 0x81], Err::Error(Error::InvalidTag)),
     ];
-    for (octets, missing) in cut {
-        let refusal = Err::Incomplete(Needed::Size(missing));
+    for (octets, refusal) in table {
         assert_eq!(rt;
             Any::from_der(rt.alloc(), octets).err(),
             Some(refusal),

@@ -1,6 +1,6 @@
 //! Headers: how they are read, their parts, and when they are equal.
 
-use asn1_rs::{Any, Class, DerConstraint, Err, Error, FromDer, Header, Length, Needed, Tag};
+use asn1_rs::{Class, DerConstraint, Err, Error, FromDer, Header, Length, Needed, Tag};
 use std::borrow::CowSlice;
 use std::test::Fail;
 
@@ -147,7 +147,7 @@ fn headers_are_read(rt: HostRuntime) -> Result<(), Fail> {
 }
 
 #[test]
-fn headers_are_refused_and_their_elements(rt: HostRuntime) {
+fn headers_are_refused(rt: HostRuntime) -> Result<(), Fail> {
     let table: [(&[u8], Err<Error>); 17] = [
         (&[], Err::Incomplete(Needed::Size(1))),
         (&[0x02], Err::Incomplete(Needed::Size(1))),
@@ -193,57 +193,38 @@ fn headers_are_refused_and_their_elements(rt: HostRuntime) {
         ),
     ];
     for (octets, refusal) in table {
-        let of_header = Header::from_der(rt.alloc(), octets).err();
         assert_eq!(rt;
-            Any::from_der(rt.alloc(), octets).err(),
-            of_header,
+            Header::from_der(rt.alloc(), octets).err(),
+            Some(refusal),
             "{octets:?}"
         );
-        assert_eq!(rt; of_header, Some(refusal), "{octets:?}");
     }
+    Ok(())
 }
 
 #[test]
 fn parts_of_a_header_are_told_and_replaced(rt: HostRuntime) {
-    let classes = [
-        (Class::Universal, [true, false, false, false]),
-        (Class::Application, [false, true, false, false]),
-        (Class::ContextSpecific, [false, false, true, false]),
-        (Class::Private, [false, false, false, true]),
-    ];
-    for (class, is_class) in classes {
-        let header = Header::new(class, false, Tag(9), Length::Definite(7));
-        let told = [
-            header.is_universal(),
-            header.is_application(),
-            header.is_contextspecific(),
-            header.is_private(),
-        ];
-        assert_eq!(rt; told, is_class, "{class}");
-    }
-    for (tag, constructed) in [
-        (Tag::Integer, false),
-        (Tag::Sequence, true),
-        (Tag::Set, true),
-    ] {
-        let header = Header::new_simple(tag);
-        assert_eq!(rt; header.is_constructed(), constructed, "{tag}");
-        assert_eq!(rt; header.is_primitive(), !constructed, "{tag}");
-        assert_eq!(rt; header.length(), Length::Definite(0), "{tag}");
-        assert_eq!(rt; header.raw_tag(), None, "{tag}");
-        assert_eq!(rt; Header::from(tag), header);
-    }
-    let header = Header::new_simple(Tag::Integer)
+    let simple = Header::new_simple(Tag::Sequence);
+    assert!(rt; simple.is_constructed() && simple.is_universal() && !simple.is_primitive());
+    assert_eq!(rt; simple.length(), Length::Definite(0));
+    assert_eq!(rt; simple.raw_tag(), None);
+    assert!(rt; Header::new_simple(Tag::Set).constructed());
+    assert!(rt; Header::from(Tag::Integer).is_primitive());
+    let header = Header::new(Class::Application, false, Tag(9), Length::Definite(7));
+    assert!(rt; header.is_application() && header.is_primitive() && !header.is_constructed());
+    let header = header
         .with_class(Class::ContextSpecific)
         .with_constructed(true)
         .with_tag(Tag(15))
         .with_length(Length::Indefinite)
         .with_raw_tag(Some(CowSlice::Borrowed(&[0xbf, 0x0f])));
+    assert!(rt; header.is_contextspecific() && header.constructed());
+    assert!(rt; !header.is_universal() && !header.is_application() && !header.is_private());
     assert_eq!(rt; header.class(), Class::ContextSpecific);
-    assert!(rt; header.constructed());
     assert_eq!(rt; header.tag(), Tag(15));
     assert_eq!(rt; header.length(), Length::Indefinite);
     assert_eq!(rt; header.raw_tag(), Some([0xbf, 0x0f].as_slice()));
+    assert!(rt; header.with_class(Class::Private).is_private());
 }
 
 #[test]
@@ -281,18 +262,12 @@ fn headers_assert_their_parts(rt: HostRuntime) {
 
 #[test]
 fn headers_are_equal_by_class_constructed_bit_and_tag(rt: HostRuntime) -> Result<(), Fail> {
-    // Beside [15] of length 2 in low form.
-    let table: [(&[u8], bool); 5] = [
-        (&[0x8f, 0x02], true),
-        (&[0x9f, 0x0f, 0x05], true),
-        (&[0xcf, 0x02], false),
-        (&[0xaf, 0x02], false),
-        (&[0x8e, 0x02], false),
-    ];
-    let (_, fifteen) = Header::from_der(rt.alloc(), &[0x8f, 0x02])?;
-    for (octets, is_same) in table {
-        let (_, header) = Header::from_der(rt.alloc(), octets)?;
-        assert_eq!(rt; header == fifteen, is_same, "{octets:?}");
-    }
+    // The same tag number in low and in high form.
+    let (_, low) = Header::from_der(rt.alloc(), &[0x8f, 0x02])?;
+    let (_, high) = Header::from_der(rt.alloc(), &[0x9f, 0x0f, 0x05])?;
+    assert_eq!(rt; low, high);
+    assert_ne!(rt; low, high.clone()?.with_class(Class::Private));
+    assert_ne!(rt; low, high.clone()?.with_constructed(true));
+    assert_ne!(rt; low, high.with_tag(Tag(14)));
     Ok(())
 }

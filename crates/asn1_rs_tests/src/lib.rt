@@ -13,6 +13,4 @@ mod headers;
 #[cfg(test)]
 mod lines;
 #[cfg(test)]
-mod numbers;
-#[cfg(test)]
 mod writers;
