@@ -11,6 +11,7 @@ pub mod Rows
 pub mod Nested
 pub mod NestedFaults
 pub mod Contents
+pub mod IndefiniteContents
 pub mod StrictLengths
 pub mod StrictIdentifiers
 pub mod StrictHeaders
