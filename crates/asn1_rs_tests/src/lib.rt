@@ -11,6 +11,8 @@ mod errors;
 #[cfg(test)]
 mod headers;
 #[cfg(test)]
+mod iterators;
+#[cfg(test)]
 mod lines;
 #[cfg(test)]
 mod writers;
