@@ -46,6 +46,15 @@ fn elements_are_walked(rt: HostRuntime) -> Result<(), Fail> {
     Ok(())
 }
 
+/// The numbers in contents octets by DER.
+fn numbers_in(alloc: Global, content: &[u8]) -> Result<Vec<u32>, Error> {
+    let mut numbers = Vec::new(alloc);
+    for item in SetIterator::<u32, DerParser, Error>::new(alloc, content) {
+        numbers.push(item?)?;
+    }
+    Ok(numbers)
+}
+
 #[test]
 fn numbers_are_walked(rt: HostRuntime) -> Result<(), Fail> {
     let octets = [0x02, 0x03, 0x01, 0x00, 0x01, 0x02, 0x03, 0x01, 0x00];
@@ -56,9 +65,12 @@ fn numbers_are_walked(rt: HostRuntime) -> Result<(), Fail> {
         Some(Err(Error::Incomplete(Needed::Size(1))))
     );
     assert_eq!(rt; by_ber.next(), None);
-    let mut by_der = SetIterator::<u32, DerParser, Error>::new(rt.alloc(), &octets[..5]);
-    assert_eq!(rt; by_der.next(), Some(Ok(65537)));
-    assert_eq!(rt; by_der.next(), None);
+    let numbers = numbers_in(rt.alloc(), &[0x02, 0x01, 0x05, 0x02, 0x02, 0x01, 0x00])?;
+    assert_eq!(rt; numbers.as_slice(), [5, 256].as_slice());
+    assert_eq!(rt;
+        numbers_in(rt.alloc(), &octets).err(),
+        Some(Error::Incomplete(Needed::Size(1)))
+    );
     Ok(())
 }
 
