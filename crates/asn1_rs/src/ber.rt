@@ -50,7 +50,7 @@ pub(crate) fn element_by_der(bytes: &[u8]) -> ParseResult<'_, Any<'_>, Error>
     }
 }
 
-/// How deep elements of indefinite length may nest.
+/// How deep elements may nest by BER (X.690 8.1.3.6, 8.1.5): 49 of indefinite length at most, one in the other.
 pub const MAX_RECURSION: usize = 50;
 
 /// Counts the headers that are read.
@@ -255,7 +255,7 @@ impl GetObjectContent for DerParser {
 
 impl Header<'_> {
     /// The contents octets at the front of the octets that follow this header, by BER, and the rest. Elements of
-    /// indefinite length nest eight deep at most, with that of this header.
+    /// indefinite length nest seven deep at most, with that of this header.
     ///
     /// Where the length is indefinite these are the elements up to the 00 00 that ends them. Refused with
     /// `Incomplete(n)` where n octets are missing of a definite length; else as `get_object_content` of [`BerParser`].

@@ -66,80 +66,97 @@ pub trait Grammar {
 
 /// A type whose grammars and strict parts are lawful.
 pub trait LawfulItem: Grammar {
-    /// Words, bodies and strict parts have values of the type.
+    /// Words by BER have values of the type.
     ghost ber_values: { (o : List ℕ) (v : Self.Value) → Self.Ber o v → Self.IsValue v };
 
+    /// And so have words by DER.
     ghost der_values: { (o : List ℕ) (v : Self.Value) → Self.Der o v → Self.IsValue v };
 
+    /// And so have the bodies of elements whose contents octets are octets.
     ghost body_values: { (p : Parts) (v : Self.Value) → IsOctets p.content → Self.Body p v → Self.IsValue v };
 
+    /// A value that has strict parts is one of the type.
     ghost form_values: { HasValues Self.Form Self.IsValue };
 
-    /// No word is empty, and two words that begin one input are the same and have one value.
+    /// By BER no word is empty, and two words that begin one input are the same and have one value.
     ghost ber_one: { IsOneFront Self.Ber };
 
+    /// The same by DER.
     ghost der_one: { IsOneFront Self.Der };
 
     /// An element's parts have one value.
     ghost body_one: { IsOneBody Self.Body };
 
-    /// A value has one strict encoding, and this has one value.
+    /// A value has one strict identifier and one strict content.
     ghost one_form: { IsOneForm Self.Form };
 
+    /// And these have one value.
     ghost one_value: { IsOneValue Self.Form };
 
     /// Strict parts fit an element.
     ghost form_fits: { FitsElement Self.Form };
 
-    /// A strict encoding is a word with its value.
+    /// A strict encoding is a word by BER with its value.
     ghost strict_ber: { (v : Self.Value) (o : List ℕ) → IsStrict Self.Form v o → Self.Ber o v };
 
+    /// And one by DER.
     ghost strict_der: { (v : Self.Value) (o : List ℕ) → IsStrict Self.Form v o → Self.Der o v };
 }
 
 /// The conversion of an element is exact: it finds the value of the body, and refuses only where there is none.
 pub trait LawfulBody<'a, E: From<Error>>: FromAny<'a, Error = E> + LawfulItem {
+    /// An Ok is the value of the body; an Err comes only where there is none, or for want of memory.
     ghost body_exact: { (p : Parts) (answer : Result Self E) → IsOctets p.content → Self.any_gives p answer → TakesBody Self.Body Self.value Self.takes_memory E.from_gives p answer };
 
     /// The strict parts of a value have it as their body.
     ghost form_body: { FormBodies Self.Form Self.Body };
 
-    /// The words by BER are the elements by BER that have a body.
+    /// Each word by BER is an element by BER that has a body with this value.
     ghost ber_split: { (o : List ℕ) (v : Self.Value) → Self.Ber o v → BerWord Self.Body o v };
 
+    /// And each such element is a word by BER.
     ghost ber_join: { (o : List ℕ) (v : Self.Value) → BerWord Self.Body o v → Self.Ber o v };
 }
 
 /// The check of an element is exact, and the strict parts of a value pass it.
 pub trait LawfulCheck: CheckDerConstraints + LawfulItem {
+    /// The check passes exactly the parts that meet the constraints.
     ghost check_exact: { (p : Parts) (answer : Result (Unit {0}) Fault) → Self.check_gives p answer → Checks Self.Check p answer };
 
+    /// Strict parts meet the constraints.
     ghost form_check: { FormChecks Self.Form Self.Check };
 }
 
 /// The words by DER are the elements of definite length that pass the check and have a body.
 pub trait LawfulAuto: LawfulCheck + DerAutoDerive {
+    /// Each word by DER is such an element, with this value.
     ghost der_split: { (o : List ℕ) (v : Self.Value) → Self.Der o v → DerWord Self.Check Self.Body o v };
 
+    /// And each such element is a word by DER.
     ghost der_join: { (o : List ℕ) (v : Self.Value) → DerWord Self.Check Self.Body o v → Self.Der o v };
 }
 
 /// The reader by BER is exact: Ok where a word by BER begins the input, and a final refusal else.
 pub trait LawfulBer<'a, E: From<Error>>: FromBer<'a, E> + LawfulItem {
+    /// What the reader may answer is exact by the grammar by BER.
     ghost ber_exact: { (input : List ℕ) (answer : Result (List ℕ × Self) (Refusal E)) → IsOctets input → Self.ber_gives input answer → Exactly EndsWithin Self.Ber Self.value (TellsMemory Self.takes_memory E.from_gives) input answer };
 }
 
 /// The reader by DER is exact: Ok where a word by DER begins the input, and a final refusal else.
 pub trait LawfulDer<'a, E: From<Error>>: FromDer<'a, E> + LawfulItem {
+    /// What the reader may answer is exact by the grammar by DER.
     ghost der_exact: { (input : List ℕ) (answer : Result (List ℕ × Self) (Refusal E)) → IsOctets input → Self.der_gives input answer → Exactly IsCutIdentifier Self.Der Self.value (TellsMemory Self.takes_memory E.from_gives) input answer };
 }
 
 /// What is written follows from the value, and is its strict encoding where it has one.
 pub trait LawfulWrite: ToDer + LawfulItem {
+    /// The ghost members of [`ToDer`] tell what is written, for each item.
     ghost tells_all: { (x : Self) → Self.tells x };
 
+    /// Items of one value have one header, one content and one constructed bit.
     ghost by_value: { WritesByValue Self.value Self.constructed Self.header Self.content };
 
+    /// A value in DER form is written as its strict encoding, and can be written.
     ghost form: { WritesForm Self.value Self.Form Self.is_writable Self.constructed Self.header Self.content };
 }
 
@@ -147,11 +164,13 @@ pub trait LawfulWrite: ToDer + LawfulItem {
 ///
 /// So an implicit tag of class `K` over the type is lawful.
 pub trait TakesClass<const K: u8>: LawfulItem + Tagged {
+    /// Strict parts have the tag number of the type, and under class `K` they meet check and body all the same.
     ghost takes_class: { FormTakes Self.Form Self.Check Self.Body K (Self.mark).0 };
 }
 
 /// Two items are equal exactly where their values are, so they can be members of a set.
 pub trait LawfulMember: LawfulItem + Eq {
+    /// Equality of items is that of their values.
     ghost same: { (x y : Self) → IsTrue (Self.eq x y) ↔ (Self.value x ≡ Self.value y) };
 }
 
