@@ -12,6 +12,7 @@ pub mod Nested
 pub mod NestedFaults
 pub mod Contents
 pub mod IndefiniteContents
+pub mod Beginnings
 pub mod StrictLengths
 pub mod StrictIdentifiers
 pub mod StrictHeaders

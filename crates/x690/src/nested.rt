@@ -6,7 +6,7 @@ ghost use Rattle.x690.specs.Octets.{IsOctets, BeginsWith};
 ghost use Rattle.x690.specs.Identifiers.{Identifier};
 ghost use Rattle.x690.specs.Lengths.{LengthForm, definite};
 ghost use Rattle.x690.specs.Elements.{Parts, IsHeader, IsDefiniteElement, ber_rule};
-ghost use Rattle.x690.specs.Faults.{Fault, missing, SpeaksOf};
+ghost use Rattle.x690.specs.Faults.{Fault, missing, tag_fault, SpeaksOf, IsLackingOrCut};
 ghost use Rattle.x690.specs.Nested.{IsNestedElement, IsWord, IsRow, ElementFault, EndsInIdentifier, end_of_contents};
 ghost use Rattle.x690.specs.Contents.{IsContent, ContentFault};
 
@@ -73,6 +73,16 @@ pub fn nested_faults_are_final()
         → ElementFault depth input fault → SpeaksOf (EndsInIdentifier depth input) fault more
         → (front rest : List ℕ) (parts : Parts) (headers : ℕ)
         → IsNestedElement depth front parts headers → BeginsWith (input ++ more) front rest → ⊥ }
+{}
+
+/// Octets that more of them make begin with an element of the depth lack these or fewer, or they end within an
+/// identifier in high form. Where they end so, that is their fault.
+pub fn nested_beginnings_lack_octets()
+    ensures lacking { (depth : ℕ) (input more front rest : List ℕ) (parts : Parts) (headers : ℕ) (fault : Fault)
+        → ElementFault depth input fault
+        → IsNestedElement depth front parts headers → BeginsWith (input ++ more) front rest
+        → IsLackingOrCut (EndsInIdentifier depth input) fault more }
+    ensures within { (depth : ℕ) (input : List ℕ) → EndsInIdentifier depth input → ElementFault depth input tag_fault }
 {}
 
 /// Octets that an element of the depth begins have no fault.

@@ -40,13 +40,13 @@ cut_not_indefinite Word octets x o y p h fault why b e =
     let u = header_peel der_rule ber_rule why.header b.header why.rest (p.content ++ end_of_contents) x y why.id p.id (definite why.counted) p.form why.header_is b.header_is (ap (λ (ys : List ℕ). ys ++ x) (sym why.is) ∙ e ∙ ap (λ (ys : List ℕ). ys ++ y) b.is) in
     not_both_forms why.counted (definite why.counted) p.form refl b.form u.2
 
-opened_not_definite : (depth : ℕ) (octets rest x o y : List ℕ) (p : Parts) → IsOpened depth octets rest → IsDefiniteElement o p → octets ++ x ≡ o ++ y → ⊥
+pub opened_not_definite : (depth : ℕ) (octets rest x o y : List ℕ) (p : Parts) → IsOpened depth octets rest → IsDefiniteElement o p → octets ++ x ≡ o ++ y → ⊥
 opened_not_definite depth octets rest x o y p why b e =
     let u = header_peel der_rule ber_rule b.header why.header p.content (concat why.words ++ rest) y x p.id why.id p.form indefinite b.header_is why.header_is (ap (λ (ys : List ℕ). ys ++ y) (sym b.is) ∙ sym e ∙ ap (λ (ys : List ℕ). ys ++ x) why.is) in
     not_both_forms (length p.content) p.form indefinite b.counted refl u.2
 
 -- where an indefinite element begins opened octets, its end or one of its words begins what is behind the whole ones
-opened_goes_on : (depth : ℕ) (octets rest x o y : List ℕ) (p : Parts) (h : ℕ) → IsOpened depth octets rest → IsIndefiniteElement (IsWord depth) o p h → octets ++ x ≡ o ++ y → (rest ++ x ≡ end_of_contents ++ y) ⊎ BeginsWithWord (IsWord depth) (rest ++ x)
+pub opened_goes_on : (depth : ℕ) (octets rest x o y : List ℕ) (p : Parts) (h : ℕ) → IsOpened depth octets rest → IsIndefiniteElement (IsWord depth) o p h → octets ++ x ≡ o ++ y → (rest ++ x ≡ end_of_contents ++ y) ⊎ BeginsWithWord (IsWord depth) (rest ++ x)
 opened_goes_on depth octets rest x o y p h why b e =
     let u = header_peel ber_rule ber_rule why.header b.header (concat why.words ++ rest) (p.content ++ end_of_contents) x y why.id p.id indefinite p.form why.header_is b.header_is (ap (λ (ys : List ℕ). ys ++ x) (sym why.is) ∙ e ∙ ap (λ (ys : List ℕ). ys ++ y) b.is) in
     let t : concat why.words ++ (rest ++ x) ≡ concat b.words ++ (end_of_contents ++ y) = sym (append_assoc (concat why.words) rest x) ∙ u.3 ∙ append_assoc p.content end_of_contents y ∙ ap (λ (ys : List ℕ). ys ++ (end_of_contents ++ y)) b.content in
