@@ -10,6 +10,7 @@ pub mod Faults
 pub mod Rows
 pub mod Nested
 pub mod NestedFaults
+pub mod FaultHeaders
 pub mod Contents
 pub mod IndefiniteContents
 pub mod Beginnings
