@@ -1,6 +1,6 @@
 -- Elements that are read.
-use Rattle.std.proofs.Common.{◌≡◌, ◌∙◌, ℕ, ◌+◌, ◌-◌, ◌≤◌, suc, List, ◌++◌, length, refl, subst, sym, ap, append_assoc}
-use Rattle.std.specs.Prelude.{Result, Ok, Err, IfErr}
+use Rattle.std.proofs.Common.{◌≡◌, ◌∙◌, ℕ, ◌+◌, ◌-◌, ◌≤◌, suc, List, ◌++◌, length, refl, subst, sym, ap, append_assoc, arith}
+use Rattle.std.specs.Prelude.{Result, Ok, Err, IfErr, OnErr}
 use Rattle.std.specs.Borrow.{Bor}
 use Rattle.x690.specs.Octets.{IsOctets}
 use Rattle.x690.specs.Identifiers.{Identifier}
@@ -9,6 +9,7 @@ use Rattle.x690.specs.Elements.{IsHeader, Parts, IsDefiniteElement, der_rule, be
 use Rattle.x690.specs.Faults.{missing, IsCutContent}
 use Rattle.x690.specs.Nested.{IsNestedElement}
 use Rattle.x690.specs.Contents.{IsContent, ContentFault}
+use Rattle.x690.specs.FaultHeaders.{ContentFaultHeaders}
 use Rattle.x690.specs.Laws.Elements.{same_parts}
 use Rattle.x690.specs.Laws.Contents.{element_made}
 use Rattle.x690.specs.Laws.Octets.{octets_front, octets_back}
@@ -19,6 +20,7 @@ use Rattle.asn1_rs.specs.declared.error.Err.{Err as Refusal}
 use Rattle.asn1_rs.specs.declared.error.Error.{Error}
 use Rattle.asn1_rs.specs.Any.{Splits}
 use Rattle.asn1_rs.specs.Answers.{Front}
+use Rattle.asn1_rs.specs.Ber.{Counted}
 use Rattle.asn1_rs.specs.Header.{identifier_of, BeginsInput, Refused, ber_refusal}
 use Rattle.asn1_rs.specs.Length.{form_of}
 
@@ -55,6 +57,11 @@ definite_read input after content rest h n octets b f l e p pi pf pc = record {
 pub splits_refused : (n depth : ℕ) (input : List ℕ) (answer : Result (Bor (List ℕ) × Bor (List ℕ)) (Refusal Error)) → Splits n input answer → IfErr answer (Refused (ContentFault (definite n) depth) ber_refusal input)
 splits_refused n depth input (Ok x) s = tt
 splits_refused n depth input (Err r) s = (missing s.0, (s.0, s.1, s.2, refl), s.3)
+
+-- and no header is read before it
+pub splits_unread : (n depth count : ℕ) (input : List ℕ) (answer : Result (Bor (List ℕ) × Bor (List ℕ)) (Refusal Error)) → Splits n input answer → OnErr answer (Counted (ContentFaultHeaders (definite n) depth) input count count)
+splits_unread n depth count input (Ok x) s = tt
+splits_unread n depth count input (Err r) s = (0, (omega (arith, s.1, s.2), refl), omega arith)
 
 -- a header and its contents octets by BER
 pub nested_read : (depth : ℕ) (input after content rest : List ℕ) (h : Header) (headers : ℕ) (p : Parts) → 1 ≤ depth → IsOctets input → BeginsInput ber_rule input after h → IsContent (form_of h.length) (depth - 1) after content rest headers → p.id ≡ identifier_of h → p.form ≡ form_of h.length → p.content ≡ content →

@@ -8,23 +8,26 @@ ghost use Rattle.std.specs.Io.KnownBytes.{Appends};
 ghost use Rattle.x690.specs.Octets.{IsOctets};
 ghost use Rattle.x690.specs.Identifiers.{Identifier, IsCutIdentifier};
 ghost use Rattle.x690.specs.Lengths.{LengthForm};
-ghost use Rattle.x690.specs.Elements.{Parts, IsDefiniteElement};
+ghost use Rattle.x690.specs.Elements.{Parts, IsHeader, IsDefiniteElement};
 ghost use Rattle.x690.specs.Faults.{DefiniteElementFault};
 ghost use Rattle.x690.specs.Nested.{IsElement, ElementFault};
 ghost use Rattle.asn1_rs.specs.declared.error.Err.{Err as Refusal};
+ghost use Rattle.asn1_rs.specs.declared.error.Err.TheVariants as causes;
 ghost use Rattle.asn1_rs.specs.declared.error.Error.{Error as Fault};
 ghost use Rattle.asn1_rs.specs.declared.error.Error.TheVariants as faults;
 ghost use Rattle.asn1_rs.specs.declared.error.DerConstraint.TheVariants as constraints;
 ghost use Rattle.asn1_rs.specs.declared.error.SerializeError.TheVariants as refusals;
 ghost use Rattle.asn1_rs.specs.Answers.{seen, Exactly, TellsMemory, ReadsBack};
 ghost use Rattle.asn1_rs.specs.Form.{IsOneForm, IsOneValue, FitsElement, HasValues, IsStrict};
-ghost use Rattle.asn1_rs.specs.Grammar.{max_depth, NoCheck, PassesAll, IsOneFront, IsOneBody, BerWord, DerWord, TakesBody, Checks, FormChecks, FormBodies, FormTakes, EndsWithin};
+ghost use Rattle.asn1_rs.specs.Grammar.{max_depth, NoCheck, PassesAll, IsOneFront, IsOneBody, BerWord, DerWord, TakesBody, Checks, FormChecks, FormBodies, FormTakes, EndsWithin, BerGives, DerGives};
 ghost use Rattle.asn1_rs.specs.Wrote.{Wrote, MayRefuse};
 ghost use Rattle.asn1_rs.specs.declared.header.Header.{Header as Head};
 ghost use Rattle.asn1_rs.specs.declared.asn1_types.any.Any.{Any as Element};
 ghost use Rattle.asn1_rs.specs.Header.{refusal_of, HeaderGives};
 ghost use Rattle.asn1_rs.specs.Ber.{BerContentGives};
-ghost use Rattle.asn1_rs.specs.Laws.Any.{DerElementGives, BerElementGives, RefusalLasts, ElementLasts, ContentStays};
+ghost use Rattle.asn1_rs.specs.Any.{IsTheElement, IsDefiniteOr};
+ghost use Rattle.asn1_rs.specs.Laws.Any.{DerElementGives, BerElementGives, RefusalLasts, ElementLasts, ContentStays, TellsBeginning};
+ghost use Rattle.asn1_rs.specs.Laws.Headers.{HeaderLasts};
 ghost use Rattle.asn1_rs.specs.Laws.Elements.{element_exact, der_elements, ber_elements, passes_all};
 ghost use Rattle.asn1_rs.specs.Laws.Forms.{WritesByValue, WritesForm};
 
@@ -279,13 +282,15 @@ pub fn read_der<'a, T: LawfulDer<'a, E>, E: From<Error>>(
 
 /// Appends the one strict encoding of a value in DER form.
 ///
-/// No other value has it, and it begins no other one. For other values the answer is that of `write_der`.
+/// No other value has it, and it begins no other one. For other values too the octets of header and contents are
+/// appended, as `write_der` does.
 pub fn write_strict<T: LawfulWrite, W: DerWrite>(
     x: &T,
     alloc: Global,
     w: &mut W,
 ) -> SerializeResult<usize>
     ensures wrote { (o : List ℕ) → IsStrict T.Form (T.value x.now) o → Wrote o (W.told w.old) (W.told w.new) (W.failed w.old) (W.failed w.new) result }
+    ensures plain { Wrote (T.header x.now ++ T.content x.now) (W.told w.old) (W.told w.new) (W.failed w.old) (W.failed w.new) result }
     ensures refused { (o : List ℕ) → IsStrict T.Form (T.value x.now) o → IfErr result (MayRefuse (T.count_takes_memory || T.content_takes_memory) (length o)) }
     ensures one { (o p : List ℕ) → IsStrict T.Form (T.value x.now) o → IsStrict T.Form (T.value x.now) p → o ≡ p }
     ensures apart { (o p r s : List ℕ) (v w : T.Value) → IsStrict T.Form v o → IsStrict T.Form w p → o ++ r ≡ p ++ s → (o ≡ p) × (v ≡ w) × (r ≡ s) }
@@ -313,10 +318,35 @@ pub fn one_refusal()
         → BerContentGives constructed form depth input (Ok x) → BerContentGives constructed form depth input (Err r) → ⊥ }
 {}
 
-/// What the readers of elements answer lasts. After a refusal no element begins the input, nor more octets of which the
-/// refusal speaks. An element that is read is the one that begins the input, whatever follows, and so are contents
-/// octets.
+/// What the readers of [`Any`](crate::Any) answer is the element at the front of the octets, or the refusal of its first
+/// fault.
+pub fn any_is_the_element()
+    ensures der { (input : List ℕ) (answer : Result (List ℕ × Element) (Refusal Fault)) → DerGives IsDefiniteOr IsTheElement (λ e f. f ≡ e) input answer → DerElementGives input answer }
+    ensures ber { (input : List ℕ) (answer : Result (List ℕ × Element) (Refusal Fault)) → BerGives IsTheElement (λ e f. f ≡ e) input answer → BerElementGives input answer }
+{}
+
+/// Octets that more of them make begin with a header or an element are refused with `Incomplete` of these or fewer, or
+/// they end within an identifier in high form. Where they end so the answer is `InvalidTag`.
+pub fn beginnings_are_incomplete()
+    ensures header { (rule : Identifier → Bool) (at_indefinite : Fault) (input more front rest : List ℕ) (id : Identifier) (form : LengthForm) (r : Refusal Fault)
+        → HeaderGives rule (refusal_of at_indefinite) input (Err r) → IsHeader rule front id form → input ++ more ≡ front ++ rest → TellsBeginning (IsCutIdentifier input) r more }
+    ensures header_within { (rule : Identifier → Bool) (at_indefinite : Fault) (input : List ℕ) (answer : Result (List ℕ × Head) (Refusal Fault))
+        → IsCutIdentifier input → HeaderGives rule (refusal_of at_indefinite) input answer → answer ≡ Err (causes.Error faults.InvalidTag) }
+    ensures element { (input more word rest : List ℕ) (p : Parts) (r : Refusal Fault)
+        → DerElementGives input (Err r) → IsDefiniteElement word p → input ++ more ≡ word ++ rest → TellsBeginning (IsCutIdentifier input) r more }
+    ensures element_within { (input : List ℕ) (answer : Result (List ℕ × Element) (Refusal Fault))
+        → IsCutIdentifier input → DerElementGives input answer → answer ≡ Err (causes.Error faults.InvalidTag) }
+    ensures ber_element { (input more word rest : List ℕ) (p : Parts) (r : Refusal Fault)
+        → BerElementGives input (Err r) → IsElement max_depth word p → input ++ more ≡ word ++ rest → TellsBeginning (EndsWithin input) r more }
+    ensures ber_element_within { (input : List ℕ) (answer : Result (List ℕ × Element) (Refusal Fault))
+        → EndsWithin input → BerElementGives input answer → answer ≡ Err (causes.Error faults.InvalidTag) }
+{}
+
+/// What the readers of headers and of elements answer lasts. After a refusal no element begins the input, nor more
+/// octets of which the refusal speaks. A header or an element that is read is the one that begins the input, whatever
+/// follows, and so are contents octets.
 pub fn answers_last()
+    ensures header { (rule : Identifier → Bool) (at_indefinite : Fault) (input : List ℕ) (x : List ℕ × Head) → HeaderGives rule (refusal_of at_indefinite) input (Ok x) → HeaderLasts input x.0 x.1 }
     ensures refusal { (input : List ℕ) (r : Refusal Fault) → DerElementGives input (Err r) → RefusalLasts IsDefiniteElement IsCutIdentifier input r }
     ensures element { (input : List ℕ) (x : List ℕ × Element) → DerElementGives input (Ok x) → ElementLasts IsDefiniteElement input x.0 x.1 }
     ensures ber_refusal { (input : List ℕ) (r : Refusal Fault) → BerElementGives input (Err r) → RefusalLasts (IsElement max_depth) EndsWithin input r }

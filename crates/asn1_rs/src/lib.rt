@@ -31,7 +31,8 @@ pub use error::{
 pub use header::Header;
 pub use laws::{
     Grammar, LawfulAuto, LawfulBer, LawfulBody, LawfulCheck, LawfulDer, LawfulItem, LawfulMember,
-    LawfulWrite, TakesClass, answers_last, one_refusal, read_ber, read_der, write_strict,
+    LawfulWrite, TakesClass, answers_last, any_is_the_element, beginnings_are_incomplete,
+    one_refusal, read_ber, read_der, write_strict,
 };
 pub use length::Length;
 pub use tag::Tag;

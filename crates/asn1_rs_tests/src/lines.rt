@@ -52,7 +52,7 @@ fn lines_are_answered(rt: HostRuntime) -> Result<(), Fail> {
         ("der u64 1f81", "err InvalidTag"),
         ("der u64 0289010000000000000000", "err InvalidLength"),
         ("der foo -", "err Type"),
-        ("ber u64 020105", "err Type"),
+        ("ber u64 020105", "ok 5 rest - enc 020105"),
         ("der U64 020105", "err Type"),
         ("der u64\r 020105", "err Type"),
         ("", "err Line"),

@@ -1,5 +1,5 @@
 -- What the contents octets of an indefinite length are made of (X.690 8.1.3.6).
-use Rattle.std.proofs.Common.{◌≡◌, ◌∙◌, sym, ℕ, zero, suc, ◌<◌, ◌≤◌, arith, List, inl, inr}
+use Rattle.std.proofs.Common.{◌≡◌, ℕ, zero, suc, ◌≤◌, arith, List, inl, inr}
 use Rattle.std.specs.List.{concat}
 use Rattle.x690.specs.Lengths.{indefinite}
 use Rattle.x690.specs.Elements.{Parts}

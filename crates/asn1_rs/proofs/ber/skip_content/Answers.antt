@@ -8,6 +8,7 @@ use Rattle.x690.specs.Nested.{end_of_contents}
 use Rattle.x690.specs.Laws.Octets.{octets_back}
 use Rattle.x690.specs.Laws.Headers.{header_two}
 use Rattle.x690.specs.Laws.Contents.{header_fault_first, too_deep, content_fault_behind}
+use Rattle.x690.specs.Laws.FaultHeaders.{no_header_first, one_header_too_deep, content_headers_behind}
 use Rattle.asn1_rs.specs.declared.length.Length.{Length}
 use Rattle.asn1_rs.specs.Length.{form_of}
 use Rattle.asn1_rs.proofs.OpenContents.{all_closed, next_is_end, next_is_definite, next_is_opened, one_ends, next_fails, one_header_more}
@@ -30,14 +31,34 @@ returns-in_err-after-clause-err c =
     let p = err_from_is_err_and c.from_residual.result c.from_residual.ensures.1 in
     let i = c.loop-opened in
     let f = c.in_err-after.ensures.err in
-    rw (p.1, p.2) (f.0, next_fails i.opened i.depth _ i.rest.now _ f.0 _ c.loop-opened-test.true (header_fault_first i.depth i.rest.now f.0 f.1) i.invariant.opened, f.2)
+    let n = next_fails i.opened i.depth _ i.rest.now _ f.0 _ 0 c.loop-opened-test.true (header_fault_first i.depth i.rest.now f.0 f.1) (no_header_first i.depth i.rest.now f.0 f.1) i.invariant.opened in
+    rw (p.1, p.2) (f.0, n.0, f.2)
+
+pub returns-in_err-after-clause-stops : goal.returns-in_err-after-clause-stops
+returns-in_err-after-clause-stops c =
+    let p = err_from_is_err_and c.from_residual.result c.from_residual.ensures.1 in
+    let i = c.loop-opened in
+    let f = c.in_err-after.ensures.err in
+    let n = next_fails i.opened i.depth _ i.rest.now _ f.0 _ 0 c.loop-opened-test.true (header_fault_first i.depth i.rest.now f.0 f.1) (no_header_first i.depth i.rest.now f.0 f.1) i.invariant.opened in
+    rw p.1 (_, n.1, omega (arith, i.invariant.grows))
 
 pub returns-then-depth-eq0-clause-err : goal.returns-then-depth-eq0-clause-err
 returns-then-depth-eq0-clause-err c =
     let i = c.loop-opened in
     let b = c.in_ok-after.ensures.ok in
     let why = too_deep i.depth i.rest.now b.0 c.in_ok-after.after.now b.1 (form_of c.in_ok-after.length) c.if-depth-eq0.true b.2 b.3 in
-    (depth_fault, next_fails i.opened i.depth _ i.rest.now _ depth_fault _ c.loop-opened-test.true why i.invariant.opened, refl)
+    let stops = one_header_too_deep i.depth i.rest.now b.0 c.in_ok-after.after.now b.1 (form_of c.in_ok-after.length) c.if-depth-eq0.true b.2 b.3 in
+    let n = next_fails i.opened i.depth _ i.rest.now _ depth_fault _ 1 c.loop-opened-test.true why stops i.invariant.opened in
+    (depth_fault, n.0, refl)
+
+pub returns-then-depth-eq0-clause-stops : goal.returns-then-depth-eq0-clause-stops
+returns-then-depth-eq0-clause-stops c =
+    let i = c.loop-opened in
+    let b = c.in_ok-after.ensures.ok in
+    let why = too_deep i.depth i.rest.now b.0 c.in_ok-after.after.now b.1 (form_of c.in_ok-after.length) c.if-depth-eq0.true b.2 b.3 in
+    let stops = one_header_too_deep i.depth i.rest.now b.0 c.in_ok-after.after.now b.1 (form_of c.in_ok-after.length) c.if-depth-eq0.true b.2 b.3 in
+    let n = next_fails i.opened i.depth _ i.rest.now _ depth_fault _ 1 c.loop-opened-test.true why stops i.invariant.opened in
+    (_, n.1, omega (arith, i.invariant.grows))
 
 pub loop-opened-preserved-in-Some : goal.loop-opened-preserved-in-Some
 loop-opened-preserved-in-Some c =
@@ -60,7 +81,22 @@ returns-in_err-tail-in-Definite-clause-err c =
     let f = c.in_err-tail-in-Definite.ensures in
     let h : IsHeader ber_rule b.0 b.1 (definite c.in-Definite.len) = subst (λ (l : Length). IsHeader ber_rule b.0 b.1 (form_of l)) c.in-Definite.is b.2 in
     let why = content_fault_behind i.depth i.rest.now b.0 c.in_ok-after.after.now b.1 (definite c.in-Definite.len) (missing f.0) (omega arith) h b.3 (f.0, f.1, f.2, refl) in
-    rw (p.1, p.2) (missing f.0, next_fails i.opened i.depth _ i.rest.now _ (missing f.0) _ c.loop-opened-test.true why i.invariant.opened, f.3)
+    let stops = content_headers_behind i.depth i.rest.now b.0 c.in_ok-after.after.now b.1 (definite c.in-Definite.len) 0 (omega arith) h b.3 (omega (arith, f.1, f.2), refl) in
+    let n = next_fails i.opened i.depth _ i.rest.now _ (missing f.0) _ 1 c.loop-opened-test.true why stops i.invariant.opened in
+    rw (p.1, p.2) (missing f.0, n.0, f.3)
+
+pub returns-in_err-tail-in-Definite-clause-stops : goal.returns-in_err-tail-in-Definite-clause-stops
+returns-in_err-tail-in-Definite-clause-stops c =
+    let r = c.from_residual-in_err-tail-in-Definite in
+    let p = err_from_is_err_and r.result r.ensures.1 in
+    let i = c.loop-opened in
+    let b = c.in_ok-after.ensures.ok in
+    let f = c.in_err-tail-in-Definite.ensures in
+    let h : IsHeader ber_rule b.0 b.1 (definite c.in-Definite.len) = subst (λ (l : Length). IsHeader ber_rule b.0 b.1 (form_of l)) c.in-Definite.is b.2 in
+    let why = content_fault_behind i.depth i.rest.now b.0 c.in_ok-after.after.now b.1 (definite c.in-Definite.len) (missing f.0) (omega arith) h b.3 (f.0, f.1, f.2, refl) in
+    let stops = content_headers_behind i.depth i.rest.now b.0 c.in_ok-after.after.now b.1 (definite c.in-Definite.len) 0 (omega arith) h b.3 (omega (arith, f.1, f.2), refl) in
+    let n = next_fails i.opened i.depth _ i.rest.now _ (missing f.0) _ 1 c.loop-opened-test.true why stops i.invariant.opened in
+    rw p.1 (_, n.1, omega (arith, i.invariant.grows))
 
 pub loop-opened-preserved-in-Definite : goal.loop-opened-preserved-in-Definite
 loop-opened-preserved-in-Definite c =
