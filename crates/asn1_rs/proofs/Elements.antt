@@ -1,6 +1,6 @@
 -- Elements that are read.
 use Rattle.std.proofs.Common.{◌≡◌, ◌∙◌, ℕ, ◌+◌, ◌-◌, ◌≤◌, suc, List, ◌++◌, length, refl, subst, sym, ap, append_assoc, arith}
-use Rattle.std.specs.Prelude.{Result, Ok, Err, IfErr, OnErr}
+use Rattle.std.specs.Prelude.{Bool, Result, Ok, Err, IfErr, OnErr}
 use Rattle.std.specs.Borrow.{Bor}
 use Rattle.x690.specs.Octets.{IsOctets}
 use Rattle.x690.specs.Identifiers.{Identifier}
@@ -21,7 +21,7 @@ use Rattle.asn1_rs.specs.declared.error.Error.{Error}
 use Rattle.asn1_rs.specs.Any.{Splits}
 use Rattle.asn1_rs.specs.Answers.{Front}
 use Rattle.asn1_rs.specs.Ber.{Counted}
-use Rattle.asn1_rs.specs.Header.{identifier_of, BeginsInput, Refused, ber_refusal}
+use Rattle.asn1_rs.specs.Header.{identifier_of, BeginsInput, KeepsIdentifier, Refused, ber_refusal}
 use Rattle.asn1_rs.specs.Length.{form_of}
 
 -- the header counts octets of which some are missing
@@ -69,3 +69,8 @@ pub nested_read : (depth : ℕ) (input after content rest : List ℕ) (h : Heade
 nested_read depth input after content rest h headers p deep octets b c pi pf pc =
     let m = element_made depth input b.octets after content rest (identifier_of h) (form_of h.length) headers deep (octets_back b.octets after (subst IsOctets b.is octets)) b.header b.is c in
     (m.0, subst (λ (q : Parts). IsNestedElement depth m.0 q (suc headers)) (sym (same_parts p.id (identifier_of h) p.form (form_of h.length) p.content content pi pf pc)) m.1, m.2)
+
+-- a header that was read keeps its identifier octets
+pub identifier_kept : (rule : Identifier → Bool) (input rest : List ℕ) (h k : Header) → BeginsInput rule input rest h → k ≡ h → KeepsIdentifier input k
+identifier_kept rule input rest h k b e = subst (KeepsIdentifier input) (sym e)
+    (b.header.identifier, b.header.count ++ rest, b.header.identifier_is, b.is ∙ ap (λ (ys : List ℕ). ys ++ rest) b.header.is ∙ append_assoc b.header.identifier b.header.count rest, b.raw_tag)

@@ -1,5 +1,5 @@
 //! Elements of any type (X.690 8.1.1).
-ghost use Rattle.std.specs.Prelude.{◌≡◌, ℕ, false, length, None};
+ghost use Rattle.std.specs.Prelude.{◌≡◌, ℕ, false, length, None, Ok};
 ghost use Rattle.std.specs.Fn.{FnOnceReturnsAt};
 ghost use Rattle.x690.specs.Elements.{IsDefiniteElement};
 ghost use Rattle.x690.specs.Faults.{DefiniteElementFault};
@@ -217,8 +217,11 @@ impl<'a> FromAny<'a> for Any<'a> {
 
     ghost any_gives = { IsTheElement };
 
-    /// The element itself.
-    fn try_from_any(_alloc: Global, any: Any<'a>) -> Result<Any<'a>, Error> {
+    /// The element itself, with the identifier octets that it keeps.
+    fn try_from_any(_alloc: Global, any: Any<'a>) -> Result<Any<'a>, Error>
+        ensures gives { IsTheElement (parts_of any.entry) result }
+        ensures same { result ≡ Ok any.entry }
+    {
         Ok(any)
     }
 }

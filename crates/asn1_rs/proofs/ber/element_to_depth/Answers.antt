@@ -11,7 +11,8 @@ use Rattle.asn1_rs.specs.Header.{identifier_of}
 use Rattle.asn1_rs.specs.Length.{form_of}
 use Rattle.asn1_rs.specs.Any.{parts_of}
 use Rattle.asn1_rs.specs.Ber.{count_of}
-use Rattle.asn1_rs.proofs.Elements.{nested_read}
+use Rattle.x690.specs.Elements.{ber_rule}
+use Rattle.asn1_rs.proofs.Elements.{nested_read, identifier_kept}
 use Rattle.asn1_rs.proofs.ber.element_to_depth.Goals as goal
 
 pub returns-in_err-after-clause-err : goal.returns-in_err-after-clause-err
@@ -52,3 +53,6 @@ returns-clause-ok c =
     (ap identifier_of made.header) (ap (λ (x : Header). form_of x.length) made.header) made.content in
     let n : count_of c.content_by_ber.new.steps ≡ count_of c.args.steps.now + suc s.0 = omega (arith, s.2) in
     record { word = m.0; headers = suc s.0; element = m.1; is = m.2; counted = n; half = nested_element_half c.args.max_depth m.0 (parts_of c.new.result) (suc s.0) m.1 }
+
+pub returns-clause-keeps : goal.returns-clause-keeps
+returns-clause-keeps c = identifier_kept ber_rule c.args.bytes.now c.in_ok-after.after.now c.in_ok-after.header c.new.result.header c.in_ok-after.ensures c.new.ensures.header
