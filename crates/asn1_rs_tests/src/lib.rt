@@ -3,14 +3,20 @@
 #![tactic(auto)]
 
 #[cfg(test)]
-mod devices;
+mod by_hand;
 #[cfg(test)]
-mod elements;
+mod calls;
+#[cfg(test)]
+mod devices;
 #[cfg(test)]
 mod errors;
 #[cfg(test)]
-mod headers;
-#[cfg(test)]
 mod lines;
+#[cfg(test)]
+mod numbers;
+#[cfg(test)]
+mod reading;
+#[cfg(test)]
+mod rows;
 #[cfg(test)]
 mod writers;

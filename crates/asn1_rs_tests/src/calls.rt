@@ -1,0 +1,146 @@
+//! The calls of tables, and the texts of their answers.
+
+use crate::rows::push_digits;
+use asn1_rs::{Any, Err, Error, FromBer, FromDer, Header, Steps, ToDer, any_from_ber_counted};
+use std::alloc::Global;
+use std::fmt::{Debug, Display, Write};
+use std::test::Fail;
+
+/// Appends the parts of a header: class, `c` or `p`, number, length and identifier octets.
+fn push_header(text: &mut String, header: &Header<'_>) -> Result<(), Fail> {
+    let class = header.class() as u8;
+    let form = if header.constructed() { "c" } else { "p" };
+    let number = header.tag().0;
+    let length = header.length();
+    write!(text, "{class}.{form}.{number} {length:?} raw ")?;
+    push_digits(text, header.raw_tag().unwrap_or(&[]))
+}
+
+/// Appends octets behind their name.
+fn push_named(text: &mut String, name: &str, octets: &[u8]) -> Result<(), Fail> {
+    text.push_str(name)?;
+    push_digits(text, octets)
+}
+
+/// Appends what a reader of headers answers.
+fn push_header_answer(
+    text: &mut String,
+    answer: Result<(&[u8], Header<'_>), Err<Error>>,
+) -> Result<(), Fail> {
+    match answer {
+        Ok((rest, header)) => {
+            push_header(text, &header)?;
+            push_named(text, " rest ", rest)
+        }
+        Err(refusal) => Ok(write!(text, "{refusal:?}")?),
+    }
+}
+
+/// Appends what a reader of elements answers.
+fn push_any_answer(
+    text: &mut String,
+    answer: Result<(&[u8], Any<'_>), Err<Error>>,
+) -> Result<(), Fail> {
+    match answer {
+        Ok((rest, any)) => {
+            push_header(text, &any.header)?;
+            push_named(text, " content ", any.as_bytes())?;
+            push_named(text, " rest ", rest)
+        }
+        Err(refusal) => Ok(write!(text, "{refusal:?}")?),
+    }
+}
+
+/// Appends what a reader of contents octets answers.
+pub(crate) fn push_content_answer(
+    text: &mut String,
+    answer: Result<(&[u8], &[u8]), Err<Error>>,
+) -> Result<(), Fail> {
+    match answer {
+        Ok((rest, content)) => {
+            push_named(text, "content ", content)?;
+            push_named(text, " rest ", rest)
+        }
+        Err(refusal) => Ok(write!(text, "{refusal:?}")?),
+    }
+}
+
+/// An element by BER, and how many headers were read.
+fn push_counted(text: &mut String, octets: &[u8]) -> Result<(), Fail> {
+    let mut steps = Steps::new();
+    push_any_answer(text, any_from_ber_counted(octets, &mut steps))?;
+    Ok(write!(text, " headers {}", steps.count())?)
+}
+
+/// The contents octets by BER of the header at the front.
+fn push_ber_content(text: &mut String, alloc: Global, octets: &[u8]) -> Result<(), Fail> {
+    let (after, header) = Header::from_ber(alloc, octets)?;
+    push_content_answer(text, header.parse_ber_content(after))
+}
+
+/// The contents octets by DER of the header at the front, which is read by BER.
+fn push_der_content(text: &mut String, alloc: Global, octets: &[u8]) -> Result<(), Fail> {
+    let (after, header) = Header::from_ber(alloc, octets)?;
+    push_content_answer(text, Any::parse_der_content(after, &header))
+}
+
+/// How a value is written by DER and in its raw form, and its counts.
+pub(crate) fn push_written<T: ToDer>(
+    text: &mut String,
+    alloc: Global,
+    value: &T,
+) -> Result<(), Fail> {
+    push_digits(text, value.to_der_vec(alloc)?.as_slice())?;
+    let (count, content) = (value.to_der_len()?, value.der_content_len()?);
+    write!(text, " count {count} {content} raw ")?;
+    push_digits(text, value.to_der_vec_raw(alloc)?.as_slice())
+}
+
+/// The element at the front by BER, written again.
+fn push_any_again(text: &mut String, alloc: Global, octets: &[u8]) -> Result<(), Fail> {
+    push_written(text, alloc, &Any::from_ber(alloc, octets)?.1)
+}
+
+/// The header at the front by BER, written again.
+fn push_header_again(text: &mut String, alloc: Global, octets: &[u8]) -> Result<(), Fail> {
+    push_written(text, alloc, &Header::from_ber(alloc, octets)?.1)
+}
+
+/// What a reader of values answers.
+fn push_value_answer<T: Display + Drop, E: Debug + Drop>(
+    text: &mut String,
+    answer: Result<(&[u8], T), Err<E>>,
+) -> Result<(), Fail> {
+    match answer {
+        Ok((rest, value)) => {
+            write!(text, "{value}")?;
+            push_named(text, " rest ", rest)
+        }
+        Err(refusal) => Ok(write!(text, "{refusal:?}")?),
+    }
+}
+
+/// Appends the answer to a call.
+pub(crate) fn push_answer(
+    text: &mut String,
+    alloc: Global,
+    name: &str,
+    octets: &[u8],
+) -> Result<(), Fail> {
+    match name {
+        "header" => push_header_answer(text, Header::from_der(alloc, octets)),
+        "header_ber" => push_header_answer(text, Header::from_ber(alloc, octets)),
+        "header_again" => push_header_again(text, alloc, octets),
+        "any" => push_any_answer(text, Any::from_der(alloc, octets)),
+        "any_ber" => push_any_answer(text, Any::from_ber(alloc, octets)),
+        "any_again" => push_any_again(text, alloc, octets),
+        "counted" => push_counted(text, octets),
+        "ber_content" => push_ber_content(text, alloc, octets),
+        "der_content" => push_der_content(text, alloc, octets),
+        "u8" => push_value_answer(text, u8::from_der(alloc, octets)),
+        "u16" => push_value_answer(text, u16::from_der(alloc, octets)),
+        "u8_ber" => push_value_answer(text, u8::from_ber(alloc, octets)),
+        "u64_ber" => push_value_answer(text, u64::from_ber(alloc, octets)),
+        _ => Ok(text.push_str("no such call")?),
+    }
+}
