@@ -1,57 +1,19 @@
-//! Headers and elements that are made by hand, their parts, and what closures make of contents octets.
+//! Headers and elements that are made by hand: their parts, and what they are converted to.
 
-use crate::calls::push_content_answer;
 use crate::rows::assert_shown;
-use asn1_rs::{
-    Any, BerParser, CheckDerConstraints, Class, DynTagged, Err, Error, FromAny, FromDer,
-    GetObjectContent, Header, Length, ParseResult, Tag,
-};
+use asn1_rs::{Any, CheckDerConstraints, Class, DynTagged, FromAny, FromDer, Header, Length, Tag};
 use std::borrow::CowSlice;
 use std::test::Fail;
 
-/// An error of a caller's own.
-#[derive(Debug, Drop)]
-enum Refused {
-    ByLibrary(Error),
-    ByCaller,
-}
-
-impl From<Error> for Refused {
-    fn from(e: Error) -> Refused {
-        Refused::ByLibrary(e)
-    }
-}
-
-/// The first contents octet.
-fn first_octet(content: &[u8]) -> ParseResult<'_, u8, Refused> {
-    match content {
-        [first, rest @ ..] => Ok((rest, *first)),
-        [] => Err(Err::Failure(Refused::ByCaller)),
-    }
-}
-
 #[test]
 fn headers_have_parts(rt: HostRuntime) -> Result<(), Fail> {
-    let simple = Header::new_simple(Tag::Sequence);
-    let shown = (
-        simple.class(),
-        simple.constructed(),
-        simple.tag(),
-        simple.length(),
-    );
-    assert_shown(
-        &rt,
-        rt.alloc(),
-        &shown,
-        "(Universal, true, Tag(16), Definite(0))",
-    )?;
     let header = Header::new(Class::Application, false, Tag(9), Length::Definite(7))
         .with_class(Class::ContextSpecific)
         .with_constructed(true)
         .with_tag(Tag(15))
         .with_length(Length::Indefinite)
         .with_raw_tag(Some(CowSlice::Borrowed(&[0xbf, 0x0f])));
-    let shown = (
+    let parts = (
         header.class(),
         header.constructed(),
         header.tag(),
@@ -60,14 +22,8 @@ fn headers_have_parts(rt: HostRuntime) -> Result<(), Fail> {
     assert_shown(
         &rt,
         rt.alloc(),
-        &shown,
-        "(ContextSpecific, true, Tag(15), Indefinite)",
-    )?;
-    assert_shown(
-        &rt,
-        rt.alloc(),
-        &(simple.raw_tag(), header.raw_tag()),
-        "(None, Some([191, 15]))",
+        &(parts, header.raw_tag()),
+        "((ContextSpecific, true, Tag(15), Indefinite), Some([191, 15]))",
     )
 }
 
@@ -150,29 +106,14 @@ fn headers_are_equal_by_class_constructed_bit_and_tag(rt: HostRuntime) {
 }
 
 #[test]
-fn contents_octets_of_headers_by_hand_are_read(rt: HostRuntime) -> Result<(), Fail> {
-    let octets = [0x01, 0x02, 0x03];
-    let open = Header::new(Class::Universal, false, Tag(2), Length::Indefinite);
-    let two = Header::new(Class::Universal, false, Tag(2), Length::Definite(2));
-    let mut text = String::new(rt.alloc());
-    push_content_answer(&mut text, Any::parse_ber_content(&octets, &open))?;
-    push_content_answer(&mut text, BerParser::get_object_content(&octets, &two, 0))?;
-    push_content_answer(&mut text, Any::parse_ber_content(&octets, &two))?;
-    push_content_answer(&mut text, two.parse_der_content(&octets))?;
-    let expected =
-        "Error(ConstructExpected)Error(BerMaxDepth)content 0102 rest 03content 0102 rest 03";
-    assert_eq!(rt; text.as_str(), expected);
-    Ok(())
-}
-
-#[test]
 fn elements_have_parts(rt: HostRuntime) -> Result<(), Fail> {
     let set = Any::from_tag_and_data(Tag::Set, &[0x05, 0x00]);
-    let same = set == Any::new(Header::new_simple(Tag::Set), &[0x05, 0x00]);
-    let other = set == Any::new(Header::new_simple(Tag::Set), &[0x05]);
-    assert_eq!(rt; [same, other], [true, false]);
+    let equal = [
+        set == Any::new(Header::new_simple(Tag::Set), &[0x05, 0x00]),
+        set == Any::new(Header::new_simple(Tag::Set), &[0x05]),
+    ];
     let any = set.with_class(Class::Private).with_tag(Tag(7));
-    let shown = (
+    let parts = (
         any.class(),
         DynTagged::tag(&any),
         any.header.length(),
@@ -181,8 +122,8 @@ fn elements_have_parts(rt: HostRuntime) -> Result<(), Fail> {
     assert_shown(
         &rt,
         rt.alloc(),
-        &shown,
-        "(Private, Tag(7), Definite(2), [5, 0])",
+        &(equal, parts),
+        "([true, false], (Private, Tag(7), Definite(2), [5, 0]))",
     )
 }
 
@@ -209,56 +150,18 @@ fn constraints_of_elements_are_checked(rt: HostRuntime) -> Result<(), Fail> {
 
 #[test]
 fn elements_are_converted(rt: HostRuntime) -> Result<(), Fail> {
-    let number = Any::from_tag_and_data(Tag::Integer, &[0x01, 0x00]);
-    let small = u8::try_from_any(rt.alloc(), number.clone()?);
-    let large = u16::try_from_any(rt.alloc(), number.clone()?);
-    assert_shown(
-        &rt,
-        rt.alloc(),
-        &(small, large),
-        "(Err(IntegerTooLarge), Ok(256))",
-    )?;
-    let same = Any::try_from_any(rt.alloc(), number)?;
+    let number = [0x01, 0x00];
+    let answers = (
+        u8::try_from_any(rt.alloc(), Any::from_tag_and_data(Tag::Integer, &number)),
+        u16::try_from_any(rt.alloc(), Any::from_tag_and_data(Tag::Integer, &number)),
+    );
+    assert_shown(&rt, rt.alloc(), &answers, "(Err(IntegerTooLarge), Ok(256))")
+}
+
+#[test]
+fn element_is_converted_to_itself(rt: HostRuntime) -> Result<(), Fail> {
+    let same = Any::try_from_any(rt.alloc(), Any::from_tag_and_data(Tag::Null, &[0x01, 0x00]))?;
     assert_shown(&rt, rt.alloc(), &same.as_bytes(), "[1, 0]")
-}
-
-#[test]
-fn contents_octets_are_parsed(rt: HostRuntime) -> Result<(), Fail> {
-    let sequence = Any::from_tag_and_data(Tag::Sequence, &[0x02, 0x01, 0x07, 0x05, 0x00]);
-    let by_der = sequence.parse_der::<u8, Error>(rt.alloc());
-    let by_ber = sequence.parse_ber::<u64, Error>(rt.alloc());
-    assert_shown(
-        &rt,
-        rt.alloc(),
-        &(by_der, by_ber),
-        "(Ok(([5, 0], 7)), Ok(([5, 0], 7)))",
-    )
-}
-
-#[test]
-fn contents_octets_are_handed_to_a_closure(rt: HostRuntime) -> Result<(), Fail> {
-    // What is asked for is [2]. The rest that is answered is the element's, and not the closure's.
-    let table: [(&[u8], &str); 6] = [
-        (&[0x82, 0x02, 0x0a, 0x0b, 0x0c], "Ok(([12], 10))"),
-        (&[0xa2, 0x01, 0x0a], "Ok(([], 10))"),
-        (&[0x82, 0x00], "Err(Failure(ByCaller))"),
-        (
-            &[0x03, 0x01, 0x0a],
-            "Err(Error(ByLibrary(UnexpectedTag { expected: Some(Tag(2)), actual: Tag(3) })))",
-        ),
-        (
-            &[0x02, 0x01, 0x0a],
-            "Err(Error(ByLibrary(UnexpectedClass { expected: Some(ContextSpecific), actual: Universal })))",
-        ),
-        (&[0x82, 0x03, 0x0a], "Err(Incomplete(Size(2)))"),
-    ];
-    for (octets, expected) in table {
-        let by_der = Any::from_der_and_then(Class::ContextSpecific, 2, octets, first_octet);
-        assert_shown(&rt, rt.alloc(), &by_der, expected)?;
-        let by_ber = Any::from_ber_and_then(Class::ContextSpecific, 2, octets, first_octet);
-        assert_shown(&rt, rt.alloc(), &by_ber, expected)?;
-    }
-    Ok(())
 }
 
 #[test]

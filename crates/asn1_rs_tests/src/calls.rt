@@ -1,10 +1,34 @@
 //! The calls of tables, and the texts of their answers.
 
 use crate::rows::push_digits;
-use asn1_rs::{Any, Err, Error, FromBer, FromDer, Header, Steps, ToDer, any_from_ber_counted};
+use asn1_rs::{
+    Any, BerParser, Class, Err, Error, FromBer, FromDer, GetObjectContent, Header, Length,
+    ParseResult, SerializeResult, Steps, Tag, ToDer, any_from_ber_counted,
+};
 use std::alloc::Global;
 use std::fmt::{Debug, Display, Write};
 use std::test::Fail;
+
+/// An error of a caller's own.
+#[derive(Debug, Drop)]
+enum Refused {
+    ByLibrary(Error),
+    ByCaller,
+}
+
+impl From<Error> for Refused {
+    fn from(e: Error) -> Refused {
+        Refused::ByLibrary(e)
+    }
+}
+
+/// The first contents octet.
+fn first_octet(content: &[u8]) -> ParseResult<'_, u8, Refused> {
+    match content {
+        [first, rest @ ..] => Ok((rest, *first)),
+        [] => Err(Err::Failure(Refused::ByCaller)),
+    }
+}
 
 /// Appends the parts of a header: class, `c` or `p`, number, length and identifier octets.
 fn push_header(text: &mut String, header: &Header<'_>) -> Result<(), Fail> {
@@ -52,7 +76,7 @@ fn push_any_answer(
 }
 
 /// Appends what a reader of contents octets answers.
-pub(crate) fn push_content_answer(
+fn push_content_answer(
     text: &mut String,
     answer: Result<(&[u8], &[u8]), Err<Error>>,
 ) -> Result<(), Fail> {
@@ -84,16 +108,66 @@ fn push_der_content(text: &mut String, alloc: Global, octets: &[u8]) -> Result<(
     push_content_answer(text, Any::parse_der_content(after, &header))
 }
 
+/// The contents octets of a header by hand, which is primitive and of indefinite length.
+fn push_open_content(text: &mut String, octets: &[u8]) -> Result<(), Fail> {
+    let header = Header::new(Class::Universal, false, Tag(2), Length::Indefinite);
+    push_content_answer(text, Any::parse_ber_content(octets, &header))
+}
+
+/// Two contents octets by BER, where nothing may nest.
+fn push_two_at_depth_0(text: &mut String, octets: &[u8]) -> Result<(), Fail> {
+    let header = Header::new(Class::Universal, false, Tag(2), Length::Definite(2));
+    push_content_answer(text, BerParser::get_object_content(octets, &header, 0))
+}
+
+/// Two contents octets by DER.
+fn push_two(text: &mut String, octets: &[u8]) -> Result<(), Fail> {
+    let header = Header::new(Class::Universal, false, Tag(2), Length::Definite(2));
+    push_content_answer(text, header.parse_der_content(octets))
+}
+
+/// The first contents octet of an element [2].
+fn push_first_octet(text: &mut String, octets: &[u8]) -> Result<(), Fail> {
+    let answer = Any::from_der_and_then(Class::ContextSpecific, 2, octets, first_octet);
+    push_value_answer(text, answer)
+}
+
+/// The first contents octet of an element [2], by BER.
+fn push_first_octet_by_ber(text: &mut String, octets: &[u8]) -> Result<(), Fail> {
+    let answer = Any::from_ber_and_then(Class::ContextSpecific, 2, octets, first_octet);
+    push_value_answer(text, answer)
+}
+
+/// A number in the contents octets of a sequence.
+fn push_inner_number(text: &mut String, alloc: Global, octets: &[u8]) -> Result<(), Fail> {
+    let sequence = Any::from_tag_and_data(Tag::Sequence, octets);
+    push_value_answer(text, sequence.parse_der::<u8, Error>(alloc))
+}
+
+/// A number in the contents octets of a sequence, by BER.
+fn push_inner_number_by_ber(text: &mut String, alloc: Global, octets: &[u8]) -> Result<(), Fail> {
+    let sequence = Any::from_tag_and_data(Tag::Sequence, octets);
+    push_value_answer(text, sequence.parse_ber::<u8, Error>(alloc))
+}
+
+/// Appends the octets of a vector, or why there is none.
+fn push_vector(text: &mut String, vector: SerializeResult<Vec<u8>>) -> Result<(), Fail> {
+    match vector {
+        Ok(octets) => push_digits(text, octets.as_slice()),
+        Err(refusal) => Ok(write!(text, "{refusal:?}")?),
+    }
+}
+
 /// How a value is written by DER and in its raw form, and its counts.
 pub(crate) fn push_written<T: ToDer>(
     text: &mut String,
     alloc: Global,
     value: &T,
 ) -> Result<(), Fail> {
-    push_digits(text, value.to_der_vec(alloc)?.as_slice())?;
+    push_vector(text, value.to_der_vec(alloc))?;
     let (count, content) = (value.to_der_len()?, value.der_content_len()?);
     write!(text, " count {count} {content} raw ")?;
-    push_digits(text, value.to_der_vec_raw(alloc)?.as_slice())
+    push_vector(text, value.to_der_vec_raw(alloc))
 }
 
 /// The element at the front by BER, written again.
@@ -137,6 +211,13 @@ pub(crate) fn push_answer(
         "counted" => push_counted(text, octets),
         "ber_content" => push_ber_content(text, alloc, octets),
         "der_content" => push_der_content(text, alloc, octets),
+        "open_content" => push_open_content(text, octets),
+        "two_at_depth_0" => push_two_at_depth_0(text, octets),
+        "two" => push_two(text, octets),
+        "first_octet" => push_first_octet(text, octets),
+        "first_octet_ber" => push_first_octet_by_ber(text, octets),
+        "inner_u8" => push_inner_number(text, alloc, octets),
+        "inner_u8_ber" => push_inner_number_by_ber(text, alloc, octets),
         "u8" => push_value_answer(text, u8::from_der(alloc, octets)),
         "u16" => push_value_answer(text, u16::from_der(alloc, octets)),
         "u8_ber" => push_value_answer(text, u8::from_ber(alloc, octets)),

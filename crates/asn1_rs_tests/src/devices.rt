@@ -138,24 +138,26 @@ impl Read for SmallReads<'_> {
     }
 }
 
-/// Asserts that a std writer with too little room takes the beginning of the octets, and is marked.
-pub(crate) fn assert_cut<T: ToDer>(
+/// Asserts that a writing was refused with a failure of this kind, and that the writer is marked and took these octets.
+pub(crate) fn assert_failed(
     rt: &impl Abort,
-    alloc: Global,
-    value: &T,
+    refusal: Option<SerializeError>,
+    kind: ErrorKind,
+    w: &Told<Narrow>,
     octets: &[u8],
-) -> Result<(), Fail> {
+) {
+    assert!(rt; w.is_failed(), "{octets:?}");
+    assert_eq!(rt; io_kind(refusal), Some(kind), "{octets:?}");
+    assert_eq!(rt; w.as_inner().held(), octets);
+}
+
+/// Asserts that a std writer with too little room takes the beginning of the octets, and is marked.
+pub(crate) fn assert_cut<T: ToDer>(rt: &impl Abort, alloc: Global, value: &T, octets: &[u8]) {
     for room in 0..octets.len() {
         let mut w = Told::new(Narrow::new(alloc, room, Some(ErrorKind::BrokenPipe)));
-        let kind = io_kind(value.write_der(alloc, &mut w).err());
-        assert_eq!(rt;
-            (kind, w.is_failed()),
-            (Some(ErrorKind::BrokenPipe), true),
-            "{room}"
-        );
-        assert_eq!(rt; w.as_inner().held(), &octets[..room]);
+        let refusal = value.write_der(alloc, &mut w).err();
+        assert_failed(rt, refusal, ErrorKind::BrokenPipe, &w, &octets[..room]);
     }
-    Ok(())
 }
 
 /// The kind of the writer's failure that a refusal tells of.

@@ -1,9 +1,7 @@
 //! Classes, tag numbers, lengths, and the texts and conversions of errors.
 
 use crate::rows::assert_shown;
-use asn1_rs::{
-    Class, DerConstraint, Err, Error, Length, Needed, SerializeError, Tag, from_nom_error,
-};
+use asn1_rs::{Class, Err, Error, Length, Needed, SerializeError, Tag, from_nom_error};
 use std::alloc::AllocError;
 use std::borrow::CowStr;
 use std::fmt::Write;
@@ -24,6 +22,13 @@ impl From<Error> for Refused {
     }
 }
 
+impl Refused {
+    /// The error of this number.
+    fn from_number(number: u8) -> Refused {
+        Refused::ByNumber(number)
+    }
+}
+
 impl From<u8> for Refused {
     fn from(number: u8) -> Refused {
         Refused::ByNumber(number)
@@ -41,18 +46,27 @@ fn classes_have_numbers_and_names(rt: HostRuntime) -> Result<(), Fail> {
     }
     let names = "UNIVERSAL 0 APPLICATION 1 CONTEXT-SPECIFIC 2 PRIVATE 3 none none ";
     assert_eq!(rt; text.as_str(), names);
+    Ok(())
+}
+
+#[test]
+fn classes_are_asserted(rt: HostRuntime) -> Result<(), Fail> {
     let constants = [
         Class::UNIVERSAL,
         Class::APPLICATION,
         Class::CONTEXT_SPECIFIC,
         Class::PRIVATE,
     ];
-    assert_eq!(rt; constants, [0, 1, 2, 3]);
+    let answers = (
+        constants,
+        Class::Private.assert_eq(Class::Private),
+        Class::Private.assert_eq(Class::Universal),
+    );
     assert_shown(
         &rt,
         rt.alloc(),
-        &Class::Private.assert_eq(Class::Universal),
-        "Err(UnexpectedClass { expected: Some(Universal), actual: Private })",
+        &answers,
+        "([0, 1, 2, 3], Ok(()), Err(UnexpectedClass { expected: Some(Universal), actual: Private }))",
     )
 }
 
@@ -73,9 +87,9 @@ fn tags_have_names(rt: HostRuntime) -> Result<(), Fail> {
 }
 
 #[test]
-fn tags_have_numbers(rt: HostRuntime) {
+fn tags_have_numbers(rt: HostRuntime) -> Result<(), Fail> {
     // X.680 8.6, table 1.
-    let first = [
+    let tags = [
         Tag::EndOfContent,
         Tag::Boolean,
         Tag::Integer,
@@ -90,16 +104,12 @@ fn tags_have_numbers(rt: HostRuntime) {
         Tag::EmbeddedPdv,
         Tag::Utf8String,
         Tag::RelativeOid,
-    ];
-    for (tag, number) in first.iter().zip(0..14) {
-        assert_eq!(rt; tag.0, number);
-    }
-    let last = [
         Tag::Sequence,
         Tag::Set,
         Tag::NumericString,
         Tag::PrintableString,
         Tag::TeletexString,
+        Tag::T61String,
         Tag::VideotexString,
         Tag::Ia5String,
         Tag::UtcTime,
@@ -111,10 +121,13 @@ fn tags_have_numbers(rt: HostRuntime) {
         Tag::CharacterString,
         Tag::BmpString,
     ];
-    for (tag, number) in last.iter().zip(16..31) {
-        assert_eq!(rt; tag.0, number);
-    }
-    assert_eq!(rt; Tag::T61String.0, 20);
+    assert_shown(
+        &rt,
+        rt.alloc(),
+        &tags.map(|tag| tag.0),
+        "[0, 1, 2, 3, 4, 5, 6, 7, 8, 9, 10, 11, 12, 13, \
+        16, 17, 18, 19, 20, 20, 21, 22, 23, 24, 25, 26, 27, 28, 29, 30]",
+    )
 }
 
 #[test]
@@ -128,70 +141,84 @@ fn tags_are_asserted(rt: HostRuntime) -> Result<(), Fail> {
         &rt,
         rt.alloc(),
         &answers,
-        "(Ok(()), Err(UnexpectedTag { expected: Some(Tag(16)), actual: Tag(17) }), InvalidValue { tag: Tag(0), msg: \"no\" })",
+        "(Ok(()), Err(UnexpectedTag { expected: Some(Tag(16)), actual: Tag(17) }), \
+        InvalidValue { tag: Tag(0), msg: \"no\" })",
     )
 }
 
 #[test]
-fn lengths_are_added(rt: HostRuntime) {
+fn lengths_are_added(rt: HostRuntime) -> Result<(), Fail> {
     let two = Length::from(2);
     let open = Length::Indefinite;
     let (mut five, mut still_open) = (two, open);
     five += 3;
     still_open += 3;
-    let sums = [two, two + two, two + 2, five];
-    assert_eq!(rt; sums, [2, 4, 4, 5].map(Length::Definite));
-    assert_eq!(rt; [two + open, open + two, open + 2, still_open], [open; 4]);
+    let definite = [two, two + two, two + 2, five];
+    let indefinite = [two + open, open + two, open + 2, still_open];
+    assert_shown(
+        &rt,
+        rt.alloc(),
+        &(definite, indefinite),
+        "([Definite(2), Definite(4), Definite(4), Definite(5)], \
+        [Indefinite, Indefinite, Indefinite, Indefinite])",
+    )
 }
 
 #[test]
 fn lengths_are_asserted(rt: HostRuntime) -> Result<(), Fail> {
     let two = Length::from(2);
     let open = Length::Indefinite;
-    let tests = [
-        two.is_definite(),
-        !open.is_definite(),
-        Length::from(0).is_null(),
-        !two.is_null(),
-        !open.is_null(),
-    ];
-    assert_eq!(rt; tests, [true; 5]);
-    let answers = (
+    let of_two = (
         two.definite(),
         two.assert_definite(),
+        two.is_definite(),
+        two.is_null(),
+    );
+    let of_open = (
         open.definite(),
         open.assert_definite(),
+        open.is_definite(),
+        open.is_null(),
     );
     assert_shown(
         &rt,
         rt.alloc(),
-        &answers,
-        "(Ok(2), Ok(()), Err(IndefiniteLengthUnexpected), Err(IndefiniteLengthUnexpected))",
+        &(of_two, of_open, Length::from(0).is_null()),
+        "((Ok(2), Ok(()), true, false), \
+        (Err(IndefiniteLengthUnexpected), Err(IndefiniteLengthUnexpected), false, false), true)",
     )
 }
 
 #[test]
 fn refusals_are_converted(rt: HostRuntime) -> Result<(), Fail> {
-    let mut text = String::new(rt.alloc());
-    let refusals: [Err<u8>; 3] = [
-        Err::Incomplete(Needed::Size(3)),
-        Err::Error(7),
-        Err::Failure(8),
-    ];
-    for refusal in refusals {
-        write!(text, "{} ", refusal.is_incomplete())?;
-        let converted: Err<Refused> = Err::convert(refusal);
-        write!(text, "{converted:?} ")?;
-    }
-    let expected = "true Incomplete(Size(3)) false Error(ByNumber(7)) false Failure(ByNumber(8)) ";
-    assert_eq!(rt; text.as_str(), expected);
-    let mapped = (
-        Err::Error(7).map(Refused::ByNumber),
+    let cut: Err<u8> = Err::Incomplete(Needed::Size(3));
+    let refused: Err<u8> = Err::Error(7);
+    let tests = (cut.is_incomplete(), refused.is_incomplete());
+    let converted: (Err<Refused>, Err<Refused>, Err<Refused>) = (
+        Err::convert(cut),
+        Err::convert(refused),
+        Err::convert(Err::<u8>::Failure(8)),
+    );
+    assert_shown(
+        &rt,
+        rt.alloc(),
+        &(tests, converted, Err::Error(7).map(Refused::from_number)),
+        "((true, false), (Incomplete(Size(3)), Error(ByNumber(7)), Failure(ByNumber(8))), Error(ByNumber(7)))",
+    )
+}
+
+#[test]
+fn refusals_are_flattened(rt: HostRuntime) -> Result<(), Fail> {
+    let errors = (
         from_nom_error::<u8, Refused>(Err::Failure(8)),
         from_nom_error::<u8, Refused>(Err::Incomplete(Needed::Size(3))),
     );
-    let expected = "(Error(ByNumber(7)), ByNumber(8), ByLibrary(Incomplete(Size(3))))";
-    assert_shown(&rt, rt.alloc(), &mapped, expected)
+    assert_shown(
+        &rt,
+        rt.alloc(),
+        &errors,
+        "(ByNumber(8), ByLibrary(Incomplete(Size(3))))",
+    )
 }
 
 #[test]
@@ -223,30 +250,28 @@ fn errors_are_made(rt: HostRuntime) -> Result<(), Fail> {
         &rt,
         rt.alloc(),
         &errors,
-        "(UnexpectedTag { expected: None, actual: Tag(4) }, UnexpectedClass { expected: None, actual: Application }, InvalidValue { tag: Tag(0), msg: \"message\" })",
+        "(UnexpectedTag { expected: None, actual: Tag(4) }, \
+        UnexpectedClass { expected: None, actual: Application }, \
+        InvalidValue { tag: Tag(0), msg: \"message\" })",
     )
 }
 
 #[test]
 fn errors_have_texts(rt: HostRuntime) -> Result<(), Fail> {
     let refusals = [
-        (
-            SerializeError::from(Error::unexpected_tag(None, Tag(4))),
-            "ASN.1 error: UnexpectedTag",
-        ),
-        (SerializeError::InvalidClass { class: 4 }, "Invalid Class 4"),
-        (SerializeError::InvalidLength, "Invalid Length"),
-        (
-            SerializeError::from(io::Error::from(ErrorKind::BrokenPipe)),
-            "I/O error: ",
-        ),
-        (SerializeError::from(AllocError), "Out of memory"),
+        SerializeError::from(Error::unexpected_tag(None, Tag(4))),
+        SerializeError::InvalidClass { class: 4 },
+        SerializeError::InvalidLength,
+        SerializeError::from(AllocError),
+        SerializeError::from(io::Error::from(ErrorKind::BrokenPipe)),
     ];
-    for (refusal, front) in refusals {
-        let text = format!(in rt.alloc(); "{refusal}")?;
-        assert!(rt; text.starts_with(front), "{text}");
+    let mut text = String::new(rt.alloc());
+    for refusal in refusals {
+        write!(text, "{refusal}; ")?;
     }
-    let indefinite = Error::DerConstraintFailed(DerConstraint::IndefiniteLength);
-    assert!(rt; !format!(in rt.alloc(); "{indefinite}")?.is_empty());
+    let expected =
+        "ASN.1 error: UnexpectedTag { expected: None, actual: Tag(4) }; Invalid Class 4; Invalid Length; \
+        Out of memory; I/O error: ";
+    assert!(rt; text.starts_with(expected), "{text}");
     Ok(())
 }

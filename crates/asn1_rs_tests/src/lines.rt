@@ -37,29 +37,37 @@ der u16 020105+65522*0 = ok 5 rest 32761*00 enc 020105
 der u8 020105+65524*0 = err Line
 ";
 
-/// How the run over the octets ends, and the writer, which has so much room.
-fn run_over(
+/// Asserts how the run over the octets ends with a writer of so much room, whether that is marked, and what it took.
+fn assert_run(
+    rt: &impl Abort,
     alloc: Global,
-    input: &mut SmallReads<'_>,
+    mut input: SmallReads<'_>,
     room: usize,
-) -> (Result<(), RunError>, Told<Narrow>) {
+    ending: Result<(), RunError>,
+    answers: &[u8],
+) {
     let mut output = Told::new(Narrow::new(alloc, room, Some(ErrorKind::Other)));
-    let ending = run(alloc, input, &mut output);
-    (ending, output)
+    let ended = run(alloc, &mut input, &mut output);
+    assert_eq!(rt; ended, ending, "{answers:?}");
+    assert_eq!(rt; output.as_inner().held(), answers, "{answers:?}");
+    assert_eq!(rt; output.is_failed(), ending == Err(RunError::Output));
+}
+
+/// The words written out, with the end of a line.
+fn line_of(alloc: Global, words: &str) -> Result<String, Fail> {
+    let mut line = written_out(alloc, words)?;
+    line.push_str("\n")?;
+    Ok(line)
 }
 
 /// Asserts that each line is answered as its row says.
 pub(crate) fn assert_lines(rt: &impl Abort, alloc: Global, rows: &str) -> Result<(), Fail> {
     for row in rows.lines() {
         let (line, answer) = row.split_once(" = ").unwrap_or((row, ""));
-        let line = written_out(alloc, line)?;
-        let answer = written_out(alloc, answer)?;
-        let line = format!(in alloc; "{line}\n")?;
-        let answer = format!(in alloc; "{answer}\n")?;
-        let mut input = SmallReads::new(line.as_bytes(), 4096, None);
-        let (ending, output) = run_over(alloc, &mut input, usize::MAX);
-        assert_eq!(rt; ending, Ok(()), "{row}");
-        assert_eq!(rt; output.as_inner().held(), answer.as_bytes(), "{row}");
+        let line = line_of(alloc, line)?;
+        let answer = line_of(alloc, answer)?;
+        let input = SmallReads::new(line.as_bytes(), 4096, None);
+        assert_run(rt, alloc, input, usize::MAX, Ok(()), answer.as_bytes());
     }
     Ok(())
 }
@@ -70,33 +78,48 @@ fn lines_are_answered(rt: HostRuntime) -> Result<(), Fail> {
 }
 
 #[test]
-fn lines_come_in_pieces_and_readers_fail(rt: HostRuntime) {
+fn lines_come_in_pieces(rt: HostRuntime) {
+    // The last line has no end.
     let lines = b"der u8 020105\n\nder u8 02";
-    // How many octets a call gives, how they end, how the run ends, and how many octets of the answers there are.
     let answers = b"ok 5 rest - enc 020105\nerr Line\nerr Incomplete(1)\n";
-    let table = [
-        (1, None, Ok(()), 50),
-        (7, None, Ok(()), 50),
-        (4096, None, Ok(()), 50),
-        (1, Some(ErrorKind::Other), Err(RunError::Input), 32),
-        (4096, Some(ErrorKind::Interrupted), Err(RunError::Input), 32),
-    ];
-    for (most, end, expected, count) in table {
-        let mut input = SmallReads::new(lines, most, end);
-        let (ending, output) = run_over(rt.alloc(), &mut input, usize::MAX);
-        assert_eq!(rt; (ending, output.is_failed()), (expected, false), "{most}");
-        assert_eq!(rt; output.as_inner().held(), &answers[..count], "{most}");
+    for most in [1, 7, 4096] {
+        let input = SmallReads::new(lines, most, None);
+        assert_run(&rt, rt.alloc(), input, usize::MAX, Ok(()), answers);
     }
+    assert_run(
+        &rt,
+        rt.alloc(),
+        SmallReads::new(b"", 1, None),
+        0,
+        Ok(()),
+        b"",
+    );
 }
 
 #[test]
-fn input_without_lines_is_not_answered(rt: HostRuntime) {
-    for (end, expected) in [
-        (None, Ok(())),
-        (Some(ErrorKind::Other), Err(RunError::Input)),
-    ] {
-        let (ending, output) = run_over(rt.alloc(), &mut SmallReads::new(b"", 1, end), 0);
-        assert_eq!(rt; (ending, output.is_failed()), (expected, false));
+fn readers_fail(rt: HostRuntime) {
+    // A line that was begun is not answered.
+    let lines = b"der u8 020105\n\nder u8 02";
+    let answers = b"ok 5 rest - enc 020105\nerr Line\n";
+    for (most, end) in [(1, ErrorKind::Other), (4096, ErrorKind::Interrupted)] {
+        let input = SmallReads::new(lines, most, Some(end));
+        assert_run(
+            &rt,
+            rt.alloc(),
+            input,
+            usize::MAX,
+            Err(RunError::Input),
+            answers,
+        );
+        let nothing = SmallReads::new(b"", most, Some(end));
+        assert_run(
+            &rt,
+            rt.alloc(),
+            nothing,
+            usize::MAX,
+            Err(RunError::Input),
+            b"",
+        );
     }
 }
 
@@ -105,12 +128,14 @@ fn writer_of_answers_fails_at_each_place(rt: HostRuntime) {
     let lines = b"der u8 020105\nder u8\nder u8 3080";
     let answers = b"ok 5 rest - enc 020105\nerr Line\nerr DerConstraintFailed(IndefiniteLength)\n";
     for room in 0..answers.len() {
-        let (ending, output) = run_over(rt.alloc(), &mut SmallReads::new(lines, 4096, None), room);
-        assert_eq!(rt;
-            (ending, output.is_failed()),
-            (Err(RunError::Output), true),
-            "{room}"
+        let input = SmallReads::new(lines, 4096, None);
+        assert_run(
+            &rt,
+            rt.alloc(),
+            input,
+            room,
+            Err(RunError::Output),
+            &answers[..room],
         );
-        assert_eq!(rt; output.as_inner().held(), &answers[..room], "{room}");
     }
 }

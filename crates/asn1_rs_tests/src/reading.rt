@@ -126,6 +126,24 @@ ber_content 0205010203 = Incomplete(Size(2))
 der_content 0202010203 = content 0102 rest 03
 der_content 0205010203 = Incomplete(Size(2))
 der_content 30800000 = Error(DerConstraintFailed(IndefiniteLength))
+open_content 0000 = Error(ConstructExpected)
+two_at_depth_0 010203 = Error(BerMaxDepth)
+two 010203 = content 0102 rest 03
+";
+
+// The contents octets of an element [2] are handed to a closure, which takes one. The rest is the element's.
+const HANDED_ON: &str = "\
+first_octet 82020a0b0c = 10 rest 0c
+first_octet a2010a = 10 rest -
+first_octet 8200 = Failure(ByCaller)
+first_octet 03010a = Error(ByLibrary(UnexpectedTag { expected: Some(Tag(2)), actual: Tag(3) }))
+first_octet 02010a = Error(ByLibrary(UnexpectedClass { expected: Some(ContextSpecific), actual: Universal }))
+first_octet 82030a = Incomplete(Size(2))
+first_octet_ber 82020a0b0c = 10 rest 0c
+first_octet_ber a2800a0000000c = 10 rest 0c
+first_octet_ber 02010a = Error(ByLibrary(UnexpectedClass { expected: Some(ContextSpecific), actual: Universal }))
+inner_u8 0201070500 = 7 rest 0500
+inner_u8_ber 0201070500 = 7 rest 0500
 ";
 
 #[test]
@@ -156,4 +174,9 @@ fn headers_that_are_read_are_counted(rt: HostRuntime) -> Result<(), Fail> {
 #[test]
 fn contents_octets_are_read(rt: HostRuntime) -> Result<(), Fail> {
     assert_rows(&rt, rt.alloc(), CONTENTS)
+}
+
+#[test]
+fn contents_octets_are_handed_on(rt: HostRuntime) -> Result<(), Fail> {
+    assert_rows(&rt, rt.alloc(), HANDED_ON)
 }

@@ -1,8 +1,8 @@
 //! How values are written, and writers that take little at a time or fail.
 
 use crate::calls::push_written;
-use crate::devices::{CallersOwn, Narrow, assert_cut, io_kind};
-use crate::rows::assert_rows;
+use crate::devices::{CallersOwn, Narrow, assert_cut, assert_failed, io_kind};
+use crate::rows::{assert_rows, assert_shown};
 use asn1_rs::{Any, Class, DerWrite, Header, Length, Tag, ToDer, Told, put_all};
 use std::alloc::Global;
 use std::io::ErrorKind;
@@ -171,17 +171,17 @@ fn numbers_are_written(rt: HostRuntime) -> Result<(), Fail> {
 }
 
 #[test]
-fn writers_are_cut(rt: HostRuntime) -> Result<(), Fail> {
+fn writers_are_cut(rt: HostRuntime) {
     let element = [0x1f, 0x84, 0x8a, 0x89, 0x86, 0x44, 0x03, 0x02, 0x01, 0x01];
     let large = Any::from_tag_and_data(Tag(0x4142_4344), &[0x02, 0x01, 0x01]);
-    assert_cut(&rt, rt.alloc(), &large, &element)?;
-    assert_cut(&rt, rt.alloc(), &large.header, &element[..7])?;
-    assert_cut(&rt, rt.alloc(), &65537u32, &[0x02, 0x03, 0x01, 0x00, 0x01])?;
-    assert_cut(&rt, rt.alloc(), &Length::Definite(201), &[0x81, 0xc9])
+    assert_cut(&rt, rt.alloc(), &large, &element);
+    assert_cut(&rt, rt.alloc(), &large.header, &element[..7]);
+    assert_cut(&rt, rt.alloc(), &65537u32, &[0x02, 0x03, 0x01, 0x00, 0x01]);
+    assert_cut(&rt, rt.alloc(), &Length::Definite(201), &[0x81, 0xc9]);
 }
 
 #[test]
-fn writers_that_failed_are_marked(rt: HostRuntime) -> Result<(), Fail> {
+fn writers_that_failed_are_marked(rt: HostRuntime) {
     // How a full writer ends, and the kind that the refusal tells of.
     let table = [
         (Some(ErrorKind::BrokenPipe), ErrorKind::BrokenPipe),
@@ -190,34 +190,41 @@ fn writers_that_failed_are_marked(rt: HostRuntime) -> Result<(), Fail> {
     ];
     for (end, kind) in table {
         let mut w = Told::new(Narrow::new(rt.alloc(), 3, end));
-        let count = 65537u32.write_der(rt.alloc(), &mut w);
-        assert_eq!(rt; (io_kind(count.err()), w.is_failed()), (Some(kind), true));
-        assert_eq!(rt; w.as_inner().held(), [0x02, 0x03, 0x01].as_slice());
+        let refusal = 65537u32.write_der(rt.alloc(), &mut w).err();
+        assert_failed(&rt, refusal, kind, &w, &[0x02, 0x03, 0x01]);
     }
-    Ok(())
 }
 
 #[test]
-fn marked_writer_takes_nothing(rt: HostRuntime) {
+fn marked_writer_takes_nothing(rt: HostRuntime) -> Result<(), Fail> {
     let mut w = Told::new(Narrow::new(rt.alloc(), 0, None));
     let before = (w.put(&[]).is_ok(), w.is_failed());
     let first = io_kind(put_all(&mut w, &[0x0a]).err());
-    let marked = w.is_failed();
-    let nothing = put_all(&mut w, &[]).is_ok();
-    let second = w.put(&[]).err().map(|e| e.kind());
-    assert_eq!(rt; (before, marked, nothing), ((true, false), true, true));
-    let kind = Some(ErrorKind::WriteZero);
-    assert_eq!(rt; (first, second), (kind, kind));
+    let second = io_kind(put_all(&mut w, &[0x0a]).err());
+    let after = (
+        put_all(&mut w, &[]).is_ok(),
+        w.put(&[]).is_ok(),
+        w.is_failed(),
+    );
+    assert_shown(
+        &rt,
+        rt.alloc(),
+        &(before, first, second, after),
+        "((true, false), Some(WriteZero), Some(WriteZero), (true, false, true))",
+    )
 }
 
 #[test]
-fn writer_of_a_callers_own_is_filled(rt: HostRuntime) {
+fn writer_of_a_callers_own_is_filled(rt: HostRuntime) -> Result<(), Fail> {
     let mut w = CallersOwn::new(rt.alloc(), 4);
-    let count = Header::new_simple(Tag::Sequence).write_der(rt.alloc(), &mut w);
+    let count = Header::new_simple(Tag::Sequence)
+        .write_der(rt.alloc(), &mut w)
+        .ok();
     let kind = io_kind(put_all(&mut w, &[0x05, 0x06, 0x07]).err());
-    assert_eq!(rt; (count.ok(), kind), (Some(2), Some(ErrorKind::BrokenPipe)));
-    assert_eq!(rt;
-        (w.held(), w.is_failed()),
-        ([0x30, 0x00, 0x05, 0x06].as_slice(), true)
-    );
+    assert_shown(
+        &rt,
+        rt.alloc(),
+        &(count, kind, w.held(), w.is_failed()),
+        "(Some(2), Some(BrokenPipe), [48, 0, 5, 6], true)",
+    )
 }
