@@ -1,7 +1,7 @@
 //! Headers and elements that are made by hand: their parts, and what they are converted to.
 
 use crate::rows::assert_shown;
-use asn1_rs::{Any, CheckDerConstraints, Class, DynTagged, FromAny, FromDer, Header, Length, Tag};
+use asn1_rs::{Any, CheckDerConstraints, Class, DynTagged, FromAny, Header, Length, Tag};
 use std::borrow::CowSlice;
 use std::test::Fail;
 
@@ -25,29 +25,6 @@ fn headers_have_parts(rt: HostRuntime) -> Result<(), Fail> {
         &(parts, header.raw_tag()),
         "((ContextSpecific, true, Tag(15), Indefinite), Some([191, 15]))",
     )
-}
-
-#[test]
-fn headers_are_tested(rt: HostRuntime) {
-    let universal = Header::new_simple(Tag::Set);
-    let application = Header::new(Class::Application, false, Tag(9), Length::Definite(7));
-    let specific = Header::from(Tag::Integer).with_class(Class::ContextSpecific);
-    let private = Header::from(Tag::Integer).with_class(Class::Private);
-    let tests = [
-        universal.is_universal(),
-        universal.is_constructed(),
-        !universal.is_primitive(),
-        !universal.is_private(),
-        application.is_application(),
-        application.is_primitive(),
-        !application.is_constructed(),
-        !application.is_universal(),
-        specific.is_contextspecific(),
-        !specific.is_application(),
-        private.is_private(),
-        !private.is_contextspecific(),
-    ];
-    assert_eq!(rt; tests, [true; 12]);
 }
 
 #[test]
@@ -162,15 +139,4 @@ fn elements_are_converted(rt: HostRuntime) -> Result<(), Fail> {
 fn element_is_converted_to_itself(rt: HostRuntime) -> Result<(), Fail> {
     let same = Any::try_from_any(rt.alloc(), Any::from_tag_and_data(Tag::Null, &[0x01, 0x00]))?;
     assert_shown(&rt, rt.alloc(), &same.as_bytes(), "[1, 0]")
-}
-
-#[test]
-fn explicit_number_is_read_by_a_closure(rt: HostRuntime) -> Result<(), Fail> {
-    // [2] EXPLICIT INTEGER.
-    let alloc = rt.alloc();
-    let octets = [0xa2, 0x03, 0x02, 0x01, 0x05];
-    let read = Any::from_der_and_then(Class::ContextSpecific, 2, &octets, |content| {
-        u16::from_der(alloc, content)
-    });
-    assert_shown(&rt, alloc, &read, "Ok(([], 5))")
 }

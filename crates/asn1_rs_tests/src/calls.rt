@@ -30,13 +30,36 @@ fn first_octet(content: &[u8]) -> ParseResult<'_, u8, Refused> {
     }
 }
 
+/// The number of a header's class, by its tests.
+fn class_number(header: &Header<'_>) -> u8 {
+    if header.is_universal() {
+        return 0;
+    }
+    if header.is_application() {
+        return 1;
+    }
+    if header.is_contextspecific() {
+        return 2;
+    }
+    if header.is_private() { 3 } else { 4 }
+}
+
+/// `c` for a constructed header and `p` for a primitive one, by its tests.
+fn letter(header: &Header<'_>) -> &'static str {
+    match (header.is_constructed(), header.is_primitive()) {
+        (true, false) => "c",
+        (false, true) => "p",
+        _ => "?",
+    }
+}
+
 /// Appends the parts of a header: class, `c` or `p`, number, length and identifier octets.
 fn push_header(text: &mut String, header: &Header<'_>) -> Result<(), Fail> {
-    let class = header.class() as u8;
-    let form = if header.constructed() { "c" } else { "p" };
+    let class = class_number(header);
+    let letter = letter(header);
     let number = header.tag().0;
     let length = header.length();
-    write!(text, "{class}.{form}.{number} {length:?} raw ")?;
+    write!(text, "{class}.{letter}.{number} {length:?} raw ")?;
     push_digits(text, header.raw_tag().unwrap_or(&[]))
 }
 
@@ -46,18 +69,33 @@ fn push_named(text: &mut String, name: &str, octets: &[u8]) -> Result<(), Fail> 
     push_digits(text, octets)
 }
 
+/// Appends why a reader refused.
+fn push_refusal<E: Debug>(text: &mut String, refusal: &Err<E>) -> Result<(), Fail> {
+    Ok(write!(text, "{refusal:?}")?)
+}
+
+/// Appends a header that was read, and what follows it.
+fn push_read_header(text: &mut String, header: &Header<'_>, rest: &[u8]) -> Result<(), Fail> {
+    push_header(text, header)?;
+    push_named(text, " rest ", rest)
+}
+
 /// Appends what a reader of headers answers.
 fn push_header_answer(
     text: &mut String,
     answer: Result<(&[u8], Header<'_>), Err<Error>>,
 ) -> Result<(), Fail> {
     match answer {
-        Ok((rest, header)) => {
-            push_header(text, &header)?;
-            push_named(text, " rest ", rest)
-        }
-        Err(refusal) => Ok(write!(text, "{refusal:?}")?),
+        Ok((rest, header)) => push_read_header(text, &header, rest),
+        Err(refusal) => push_refusal(text, &refusal),
     }
+}
+
+/// Appends an element that was read, and what follows it.
+fn push_read_any(text: &mut String, any: &Any<'_>, rest: &[u8]) -> Result<(), Fail> {
+    push_header(text, &any.header)?;
+    text.push(' ')?;
+    push_read_content(text, any.as_bytes(), rest)
 }
 
 /// Appends what a reader of elements answers.
@@ -66,13 +104,15 @@ fn push_any_answer(
     answer: Result<(&[u8], Any<'_>), Err<Error>>,
 ) -> Result<(), Fail> {
     match answer {
-        Ok((rest, any)) => {
-            push_header(text, &any.header)?;
-            push_named(text, " content ", any.as_bytes())?;
-            push_named(text, " rest ", rest)
-        }
-        Err(refusal) => Ok(write!(text, "{refusal:?}")?),
+        Ok((rest, any)) => push_read_any(text, &any, rest),
+        Err(refusal) => push_refusal(text, &refusal),
     }
+}
+
+/// Appends contents octets that were read, and what follows them.
+fn push_read_content(text: &mut String, content: &[u8], rest: &[u8]) -> Result<(), Fail> {
+    push_named(text, "content ", content)?;
+    push_named(text, " rest ", rest)
 }
 
 /// Appends what a reader of contents octets answers.
@@ -81,11 +121,8 @@ fn push_content_answer(
     answer: Result<(&[u8], &[u8]), Err<Error>>,
 ) -> Result<(), Fail> {
     match answer {
-        Ok((rest, content)) => {
-            push_named(text, "content ", content)?;
-            push_named(text, " rest ", rest)
-        }
-        Err(refusal) => Ok(write!(text, "{refusal:?}")?),
+        Ok((rest, content)) => push_read_content(text, content, rest),
+        Err(refusal) => push_refusal(text, &refusal),
     }
 }
 
@@ -180,17 +217,20 @@ fn push_header_again(text: &mut String, alloc: Global, octets: &[u8]) -> Result<
     push_written(text, alloc, &Header::from_ber(alloc, octets)?.1)
 }
 
-/// What a reader of values answers.
+/// Appends a value that was read, and what follows it.
+fn push_read_value<T: Display>(text: &mut String, value: &T, rest: &[u8]) -> Result<(), Fail> {
+    write!(text, "{value}")?;
+    push_named(text, " rest ", rest)
+}
+
+/// Appends what a reader of values answers.
 fn push_value_answer<T: Display + Drop, E: Debug + Drop>(
     text: &mut String,
     answer: Result<(&[u8], T), Err<E>>,
 ) -> Result<(), Fail> {
     match answer {
-        Ok((rest, value)) => {
-            write!(text, "{value}")?;
-            push_named(text, " rest ", rest)
-        }
-        Err(refusal) => Ok(write!(text, "{refusal:?}")?),
+        Ok((rest, value)) => push_read_value(text, &value, rest),
+        Err(refusal) => push_refusal(text, &refusal),
     }
 }
 

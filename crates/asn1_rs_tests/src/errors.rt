@@ -191,19 +191,16 @@ fn lengths_are_asserted(rt: HostRuntime) -> Result<(), Fail> {
 
 #[test]
 fn refusals_are_converted(rt: HostRuntime) -> Result<(), Fail> {
-    let cut: Err<u8> = Err::Incomplete(Needed::Size(3));
-    let refused: Err<u8> = Err::Error(7);
-    let tests = (cut.is_incomplete(), refused.is_incomplete());
-    let converted: (Err<Refused>, Err<Refused>, Err<Refused>) = (
-        Err::convert(cut),
-        Err::convert(refused),
-        Err::convert(Err::<u8>::Failure(8)),
+    let refusals: (Err<Refused>, Err<Refused>, Err<Refused>) = (
+        Err::convert(Err::<u8>::Incomplete(Needed::Size(3))),
+        Err::convert(Err::<u8>::Error(7)),
+        Err::Failure(8).map(Refused::from_number),
     );
     assert_shown(
         &rt,
         rt.alloc(),
-        &(tests, converted, Err::Error(7).map(Refused::from_number)),
-        "((true, false), (Incomplete(Size(3)), Error(ByNumber(7)), Failure(ByNumber(8))), Error(ByNumber(7)))",
+        &refusals,
+        "(Incomplete(Size(3)), Error(ByNumber(7)), Failure(ByNumber(8)))",
     )
 }
 
@@ -212,12 +209,14 @@ fn refusals_are_flattened(rt: HostRuntime) -> Result<(), Fail> {
     let errors = (
         from_nom_error::<u8, Refused>(Err::Failure(8)),
         from_nom_error::<u8, Refused>(Err::Incomplete(Needed::Size(3))),
+        Err::<u8>::Incomplete(Needed::Size(3)).is_incomplete(),
+        Err::<u8>::Error(7).is_incomplete(),
     );
     assert_shown(
         &rt,
         rt.alloc(),
         &errors,
-        "(ByNumber(8), ByLibrary(Incomplete(Size(3))))",
+        "(ByNumber(8), ByLibrary(Incomplete(Size(3))), true, false)",
     )
 }
 
@@ -266,7 +265,7 @@ fn errors_have_texts(rt: HostRuntime) -> Result<(), Fail> {
         SerializeError::from(io::Error::from(ErrorKind::BrokenPipe)),
     ];
     let mut text = String::new(rt.alloc());
-    for refusal in refusals {
+    for refusal in &refusals {
         write!(text, "{refusal}; ")?;
     }
     let expected =

@@ -3,6 +3,8 @@
 #![tactic(auto)]
 
 #[cfg(test)]
+mod ber_lines;
+#[cfg(test)]
 mod by_hand;
 #[cfg(test)]
 mod calls;

@@ -2,27 +2,50 @@
 
 use crate::calls::push_answer;
 use std::alloc::Global;
-use std::fmt::{Debug, Write};
+use std::fmt::Debug;
 use std::process::Abort;
 use std::test::Fail;
+
+/// The hexadecimal digits.
+const DIGITS: [char; 16] = [
+    '0', '1', '2', '3', '4', '5', '6', '7', '8', '9', 'a', 'b', 'c', 'd', 'e', 'f',
+];
 
 /// Appends octets in hexadecimal digits, `-` for none.
 pub(crate) fn push_digits(text: &mut String, octets: &[u8]) -> Result<(), Fail> {
     if octets.is_empty() {
-        text.push_str("-")?;
+        text.push('-')?;
     }
     for octet in octets {
-        write!(text, "{octet:02x}")?;
+        text.push(DIGITS[usize::from(*octet / 16)])?;
+        text.push(DIGITS[usize::from(*octet % 16)])?;
     }
     Ok(())
 }
 
+/// The value of a hexadecimal digit of lower case.
+fn digit_value(digit: u8) -> u8 {
+    match digit {
+        b'a'..=b'f' => digit - b'a' + 10,
+        _ => digit % 16,
+    }
+}
+
 /// The octets that the digits stand for, `-` for none.
 fn octets_of(alloc: Global, digits: &str) -> Result<Vec<u8>, Fail> {
-    if digits == "-" {
-        return Ok(Vec::new(alloc));
+    let mut octets = Vec::new(alloc);
+    let mut high = None;
+    for digit in digits.as_bytes() {
+        let value = digit_value(*digit);
+        match high {
+            Some(before) => {
+                octets.push(value.wrapping_add(before))?;
+                high = None;
+            }
+            None => high = Some(value.wrapping_mul(16)),
+        }
     }
-    Ok(hex::decode(alloc, digits.as_bytes())?)
+    Ok(octets)
 }
 
 /// The number that decimal digits stand for.

@@ -154,7 +154,10 @@ fn elements_by_hand_are_written(rt: HostRuntime) -> Result<(), Fail> {
     // The raw form has the length of the header.
     let header = Header::new_simple(Tag::Integer).with_length(Length::Definite(3));
     let expected = "020102 count 3 1 raw 020302";
-    assert_written(&rt, rt.alloc(), &Any::new(header, &[0x02]), expected)
+    assert_written(&rt, rt.alloc(), &Any::new(header, &[0x02]), expected)?;
+    let header = Header::new_simple(Tag::Integer).with_length(Length::Definite(usize::MAX));
+    let expected = "0200 count 2 0 raw 0288ffffffffffffffff";
+    assert_written(&rt, rt.alloc(), &Any::new(header, &[]), expected)
 }
 
 #[test]
