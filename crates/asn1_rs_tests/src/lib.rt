@@ -3,16 +3,24 @@
 #![tactic(auto)]
 
 #[cfg(test)]
+mod ber_lines;
+#[cfg(test)]
+mod by_hand;
+#[cfg(test)]
+mod calls;
+#[cfg(test)]
 mod devices;
 #[cfg(test)]
-mod elements;
-#[cfg(test)]
 mod errors;
-#[cfg(test)]
-mod headers;
 #[cfg(test)]
 mod iterators;
 #[cfg(test)]
 mod lines;
+#[cfg(test)]
+mod numbers;
+#[cfg(test)]
+mod reading;
+#[cfg(test)]
+mod rows;
 #[cfg(test)]
 mod writers;
