@@ -190,8 +190,8 @@ pub(crate) fn element_by_ber(bytes: &[u8]) -> ParseResult<'_, Any<'_>, Error>
 /// Reads an element by BER, as `Any::from_ber` does, and counts the headers that are read.
 ///
 /// Each header that does not stand in a definite content is read once, and that of each 00 00 too. So the count grows
-/// by half the octets of the element at most. On a refusal it grows by one for each header that was read whole before the
-/// first fault. An element, or a refusal, is that of the input whatever follows, as far as the refusal speaks.
+/// by half the octets of the element at most. On a refusal it grows by one for each header that was read whole before
+/// the first fault. An element, or a refusal, is that of the input whatever follows, as far as the refusal speaks.
 pub fn any_from_ber_counted<'a>(
     bytes: &'a [u8],
     steps: &mut Steps,

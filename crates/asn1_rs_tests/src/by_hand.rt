@@ -105,6 +105,18 @@ fn elements_have_parts(rt: HostRuntime) -> Result<(), Fail> {
 }
 
 #[test]
+fn values_have_tags(rt: HostRuntime) {
+    let header = Header::new(Class::Private, true, Tag(9), Length::Indefinite);
+    let parts = (Class::Private, true, Tag(8));
+    let tags = [
+        DynTagged::tag(&header),
+        DynTagged::tag(&parts),
+        DynTagged::tag(&7u8),
+    ];
+    assert_eq!(rt; tags, [Tag(9), Tag(8), Tag(2)]);
+}
+
+#[test]
 fn constraints_of_elements_are_checked(rt: HostRuntime) -> Result<(), Fail> {
     let number = Any::from_tag_and_data(Tag::Integer, &[0x01, 0x00]);
     let open = Any::new(

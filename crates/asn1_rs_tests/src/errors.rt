@@ -86,45 +86,46 @@ fn tags_have_names(rt: HostRuntime) -> Result<(), Fail> {
     Ok(())
 }
 
+/// X.680 8.6, table 1.
+const TAGS: [Tag; 30] = [
+    Tag::EndOfContent,
+    Tag::Boolean,
+    Tag::Integer,
+    Tag::BitString,
+    Tag::OctetString,
+    Tag::Null,
+    Tag::Oid,
+    Tag::ObjectDescriptor,
+    Tag::External,
+    Tag::RealType,
+    Tag::Enumerated,
+    Tag::EmbeddedPdv,
+    Tag::Utf8String,
+    Tag::RelativeOid,
+    Tag::Sequence,
+    Tag::Set,
+    Tag::NumericString,
+    Tag::PrintableString,
+    Tag::TeletexString,
+    Tag::T61String,
+    Tag::VideotexString,
+    Tag::Ia5String,
+    Tag::UtcTime,
+    Tag::GeneralizedTime,
+    Tag::GraphicString,
+    Tag::VisibleString,
+    Tag::GeneralString,
+    Tag::UniversalString,
+    Tag::CharacterString,
+    Tag::BmpString,
+];
+
 #[test]
 fn tags_have_numbers(rt: HostRuntime) -> Result<(), Fail> {
-    // X.680 8.6, table 1.
-    let tags = [
-        Tag::EndOfContent,
-        Tag::Boolean,
-        Tag::Integer,
-        Tag::BitString,
-        Tag::OctetString,
-        Tag::Null,
-        Tag::Oid,
-        Tag::ObjectDescriptor,
-        Tag::External,
-        Tag::RealType,
-        Tag::Enumerated,
-        Tag::EmbeddedPdv,
-        Tag::Utf8String,
-        Tag::RelativeOid,
-        Tag::Sequence,
-        Tag::Set,
-        Tag::NumericString,
-        Tag::PrintableString,
-        Tag::TeletexString,
-        Tag::T61String,
-        Tag::VideotexString,
-        Tag::Ia5String,
-        Tag::UtcTime,
-        Tag::GeneralizedTime,
-        Tag::GraphicString,
-        Tag::VisibleString,
-        Tag::GeneralString,
-        Tag::UniversalString,
-        Tag::CharacterString,
-        Tag::BmpString,
-    ];
     assert_shown(
         &rt,
         rt.alloc(),
-        &tags.map(|tag| tag.0),
+        &TAGS.map(|tag| tag.0),
         "[0, 1, 2, 3, 4, 5, 6, 7, 8, 9, 10, 11, 12, 13, \
         16, 17, 18, 19, 20, 20, 21, 22, 23, 24, 25, 26, 27, 28, 29, 30]",
     )
@@ -236,6 +237,16 @@ fn errors_are_converted(rt: HostRuntime) -> Result<(), Fail> {
         &errors,
         "(Error(InvalidTag), InvalidTag, InvalidLength, Incomplete(Size(3)), OutOfMemory, (Unknown, Size(2)))",
     )
+}
+
+#[test]
+fn errors_are_equal_by_their_parts(rt: HostRuntime) {
+    let refused = Error::from(Err::Error(Error::BerTypeError));
+    let cut = Error::from(Err::<Error>::Incomplete(Needed::Size(2)));
+    assert_eq!(rt;
+        [refused == cut, cut == Error::Incomplete(Needed::Size(2))],
+        [false, true]
+    );
 }
 
 #[test]

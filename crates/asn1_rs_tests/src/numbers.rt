@@ -2,6 +2,7 @@
 
 use crate::lines::assert_lines;
 use crate::rows::assert_rows;
+use asn1_rs::{Error, Tag, Tagged, ToDer, Told, read_ber, read_der, write_strict};
 use std::test::Fail;
 
 /// Lines of the program and their answers.
@@ -79,4 +80,24 @@ fn numbers_are_refused(rt: HostRuntime) -> Result<(), Fail> {
 #[test]
 fn numbers_are_read_by_calls(rt: HostRuntime) -> Result<(), Fail> {
     assert_rows(&rt, rt.alloc(), BY_CALLS)
+}
+
+#[test]
+fn number_is_read_and_written_by_each_call(rt: HostRuntime) -> Result<(), Fail> {
+    let octets = [0x02, 0x01, 0x05];
+    let (_, number) = read_der::<u64, Error>(rt.alloc(), &octets)?;
+    let (_, same) = read_ber::<u64, Error>(rt.alloc(), &octets)?;
+    assert_eq!(rt; number, same);
+    let mut writer = Told::new(Vec::new(rt.alloc()));
+    let header = number.write_der_header(rt.alloc(), &mut writer)?;
+    let content = number.write_der_content(rt.alloc(), &mut writer)?;
+    // By reference too.
+    let whole = write_strict(&&number, rt.alloc(), &mut writer)?;
+    assert_eq!(rt; [header, content, whole], [2, 1, 3]);
+    assert_eq!(rt;
+        writer.into_inner().as_slice(),
+        [2, 1, 5, 2, 1, 5].as_slice()
+    );
+    assert_eq!(rt; <&u64 as Tagged>::TAG, Tag(2));
+    Ok(())
 }

@@ -73,6 +73,7 @@ any 0205010203 = Incomplete(Size(2))
 any 0288+8*ff = Incomplete(Size(18446744073709551615))
 any 30800000 = Error(DerConstraintFailed(IndefiniteLength))
 any 1f81 = Error(InvalidTag)
+any 1f908080800200 = Error(InvalidTag)
 ";
 
 const ELEMENTS_BY_BER: &str = "\

@@ -100,46 +100,48 @@ fn length_octets_are_written(rt: HostRuntime) -> Result<(), Fail> {
     Ok(())
 }
 
+/// Parts of headers, and how they are written.
+const HEADERS_BY_HAND: [(Class, bool, u32, Length, &str); 5] = [
+    (
+        Class::ContextSpecific,
+        true,
+        2,
+        Length::Definite(1),
+        "a201 count 2 0 raw a201",
+    ),
+    (
+        Class::ContextSpecific,
+        true,
+        2,
+        Length::Indefinite,
+        "a280 count 2 0 raw a280",
+    ),
+    (
+        Class::Universal,
+        false,
+        2,
+        Length::Indefinite,
+        "0280 count 2 0 raw 0280",
+    ),
+    (
+        Class::Universal,
+        false,
+        2,
+        Length::Definite(0),
+        "0200 count 2 0 raw 0200",
+    ),
+    (
+        Class::Application,
+        true,
+        31,
+        Length::Definite(128),
+        "7f1f8180 count 4 0 raw 7f1f8180",
+    ),
+];
+
 #[test]
 fn headers_by_hand_are_written(rt: HostRuntime) -> Result<(), Fail> {
-    let table = [
-        (
-            Class::ContextSpecific,
-            true,
-            2,
-            Length::Definite(1),
-            "a201 count 2 0 raw a201",
-        ),
-        (
-            Class::ContextSpecific,
-            true,
-            2,
-            Length::Indefinite,
-            "a280 count 2 0 raw a280",
-        ),
-        (
-            Class::Universal,
-            false,
-            2,
-            Length::Indefinite,
-            "0280 count 2 0 raw 0280",
-        ),
-        (
-            Class::Universal,
-            false,
-            2,
-            Length::Definite(0),
-            "0200 count 2 0 raw 0200",
-        ),
-        (
-            Class::Application,
-            true,
-            31,
-            Length::Definite(128),
-            "7f1f8180 count 4 0 raw 7f1f8180",
-        ),
-    ];
-    for (class, constructed, tag, length, expected) in table {
+    for (class, constructed, tag, length, expected) in HEADERS_BY_HAND {
         let header = Header::new(class, constructed, Tag(tag), length);
         assert_written(&rt, rt.alloc(), &header, expected)?;
     }
