@@ -1,6 +1,6 @@
 -- Integers as elements (X.690 8.3).
-use Rattle.std.specs.Prelude.{◌≡◌, ◌≢◌, ℕ, ◌<◌, ◌≤◌, ◌^◌, true, false, List, [], length, get_or, pos, Some, Result, Ok, Err}
-use Rattle.x690.specs.Digits.{base_256_value}
+use Rattle.std.specs.Prelude.{◌≡◌, ◌≢◌, ◌⊎◌, ℕ, ℤ, ◌<◌, ◌≤◌, ◌^◌, true, false, List, [], length, get_or, pos, Some, Result, Ok, Err}
+use Rattle.x690.specs.Digits.{base_256_value, twos_complement_value}
 use Rattle.x690.specs.Identifiers.{Identifier}
 use Rattle.x690.specs.Lengths.{definite, indefinite}
 use Rattle.x690.specs.Elements.{Parts}
@@ -40,33 +40,49 @@ abbrev pub IntegerCheckGives : Parts → Result (Unit {0}) Error → Type 0
 IntegerCheckGives p (Ok x) = IntegerCheck p
 IntegerCheckGives p (Err e) = IntegerCheckRefuses p e
 
--- The number of a primitive element with the tag number of integers: the sum of the digits, where the first bit is not set and the sum fits. No octet at all says 0, and leading zeros say nothing.
-pub record UnsignedBody (size : ℕ) (p : Parts) (v : ℕ) : Type 0 where
+-- The number of a primitive element with the tag number of integers, in two's complement, where the type holds it. No octets say 0, and octets that could be left out say nothing.
+pub record IntegerBody (Holds : ℤ → Type 0) (p : Parts) (n : ℤ) : Type 0 where
   pub number : p.id.number ≡ integer_number
   pub primitive : IsPrimitive p
-  pub positive : get_or p.content 0 0 < 128
-  pub value : v ≡ base_256_value p.content
-  pub fits : v < 256 ^ size
+  pub value : n ≡ twos_complement_value p.content
+  pub held : Holds n
 
--- the refusal of the first of these that fails
-abbrev pub UnsignedRefuses : ℕ → Parts → Error → Type 0
-UnsignedRefuses size p (UnexpectedTag expected actual) = (p.id.number ≢ integer_number) × (expected ≡ Some (record { 0 = integer_number })) × (actual ≡ record { 0 = p.id.number })
-UnsignedRefuses size p ConstructUnexpected = (p.id.number ≡ integer_number) × (p.id.constructed ≡ true)
-UnsignedRefuses size p IntegerNegative = (p.id.number ≡ integer_number) × IsPrimitive p × (128 ≤ get_or p.content 0 0)
-UnsignedRefuses size p IntegerTooLarge = (p.id.number ≡ integer_number) × IsPrimitive p × (get_or p.content 0 0 < 128) × (256 ^ size ≤ base_256_value p.content)
-UnsignedRefuses size p _ = ⊥
+-- the refusal of the first of these that fails; of a number that the type does not hold, that of its contents octets
+abbrev pub IntegerRefuses : (List ℕ → Error → Type 0) → Parts → Error → Type 0
+IntegerRefuses content_refuses p e =
+    ((p.id.number ≢ integer_number) × (e ≡ UnexpectedTag (Some (record { 0 = integer_number })) (record { 0 = p.id.number }))) ⊎
+    ((p.id.number ≡ integer_number) × (p.id.constructed ≡ true) × (e ≡ ConstructUnexpected)) ⊎
+    ((p.id.number ≡ integer_number) × IsPrimitive p × content_refuses p.content e)
 
+abbrev pub IntegerGives : {T : Type 0} → (T → ℤ) → (ℤ → Type 0) → (List ℕ → Error → Type 0) → Parts → Result T Error → Type 0
+IntegerGives number Holds content_refuses p (Ok x) = IntegerBody Holds p (number x)
+IntegerGives number Holds content_refuses p (Err e) = IntegerRefuses content_refuses p e
+
+-- the strict contents octets of a number that the type holds
+abbrev pub IntegerContent : (ℤ → Type 0) → ℤ → List ℕ → Type 0
+IntegerContent Holds n c = Holds n × IsIntegerContent n c
+
+abbrev pub IntegerForm : (ℤ → Type 0) → ℤ → Identifier → List ℕ → Type 0
+IntegerForm Holds = UniversalForm false integer_number (IntegerContent Holds)
+
+-- the strict header of an integer with these contents octets
+abbrev pub integer_header : List ℕ → List ℕ
+integer_header content = header_octets 0 false integer_number (length content)
+
+-- the natural numbers of so many octets
+abbrev pub IsUnsigned : ℕ → ℤ → Type 0
+IsUnsigned size n = (k : ℕ) × (n ≡ pos k) × (k < 256 ^ size)
+
+-- a number below 0 is refused as such, and one past the greatest as too large
+abbrev pub UnsignedRefuses : ℕ → List ℕ → Error → Type 0
+UnsignedRefuses size content IntegerNegative = 128 ≤ get_or content 0 0
+UnsignedRefuses size content IntegerTooLarge = (get_or content 0 0 < 128) × (256 ^ size ≤ base_256_value content)
+UnsignedRefuses size content _ = ⊥
+
+-- what the conversion to a natural number of so many octets may answer
 abbrev pub UnsignedGives : ℕ → Parts → Result ℕ Error → Type 0
-UnsignedGives size p (Ok v) = UnsignedBody size p v
-UnsignedGives size p (Err e) = UnsignedRefuses size p e
-
--- the strict contents octets of a number that fits
-abbrev pub UnsignedContent : ℕ → ℕ → List ℕ → Type 0
-UnsignedContent size v c = (v < 256 ^ size) × IsIntegerContent (pos v) c
-
-abbrev pub UnsignedForm : ℕ → ℕ → Identifier → List ℕ → Type 0
-UnsignedForm size = UniversalForm false integer_number (UnsignedContent size)
+UnsignedGives size = IntegerGives pos (IsUnsigned size) (UnsignedRefuses size)
 
 -- the strict header of the element of a natural number
 abbrev pub unsigned_header : ℕ → List ℕ
-unsigned_header v = header_octets 0 false integer_number (length (unsigned_octets v))
+unsigned_header v = integer_header (unsigned_octets v)

@@ -5,6 +5,7 @@ pub mod Forms
 pub mod Any
 pub mod Element
 pub mod Integer
+pub mod Unsigned
 pub mod ElementWriting
 pub mod Items
 pub mod IndefiniteContents

@@ -1,5 +1,7 @@
 -- A line has one answer.
-use Rattle.std.proofs.Common.{◌≡◌, ◌∙◌, ◌≤◌, ◌^◌, sym, ap, subst, refl, List, [], ◌∷◌, ◌++◌, length, ℕ, false, ◌⊎◌, inl, inr, Result, Ok, Err, arith, codes, decimal, Option, Some, append_assoc}
+use Rattle.std.proofs.Common.{◌≡◌, ◌∙◌, ◌≤◌, ◌^◌, sym, ap, subst, refl, List, [], ◌∷◌, ◌++◌, length, ℕ, false, ◌⊎◌, inl, inr, Result, Ok, Err, arith, codes, Option, Some, append_assoc}
+use Rattle.std.specs.Prelude.{ℤ, pos}
+use Rattle.std.specs.Fmt.{signed_decimal}
 use Rattle.std.proofs.lemmas.List.{append_cancel_left}
 use Rattle.std.proofs.Math.Dec.{eqb}
 use Rattle.std.specs.List.{find}
@@ -20,19 +22,20 @@ use Rattle.asn1_rs.specs.Element.{element_of, ElementBody, ElementCheck, Element
 use Rattle.asn1_rs.specs.Form.{IsOneForm}
 use Rattle.asn1_rs.specs.Wrote.{MayRefuse, tells_of_io}
 use Rattle.asn1_rs.specs.Grammar.{max_depth, IsOneFront, IsOneBody, NoCheck, PassesAll, BerWord, DerWord, BerGives, DerGives, EndsWithin}
-use Rattle.asn1_rs.specs.Integer.{IntegerCheck, IntegerCheckGives, UnsignedBody, UnsignedForm, UnsignedGives}
+use Rattle.asn1_rs.specs.Integer.{IntegerCheck, IntegerCheckGives, IntegerBody, IntegerForm, IntegerGives, IsUnsigned, UnsignedRefuses}
 use Rattle.asn1_rs.specs.Laws.Element.{element_body_one, element_one_form, element_check_exact}
 use Rattle.asn1_rs.specs.Laws.Elements.{none_now, der_elements, ber_elements}
-use Rattle.asn1_rs.specs.Laws.Integer.{one_integer_check_refusal, integer_check_exact, one_unsigned_refusal, unsigned_one_body, unsigned_one_form}
+use Rattle.asn1_rs.specs.Laws.Integer.{one_integer_check_refusal, integer_check_exact, one_integer_refusal, integer_one_body, integer_one_form}
+use Rattle.asn1_rs.specs.Laws.Unsigned.{one_unsigned_refusal}
 use Rattle.asn1_rs.specs.Laws.Words.{one_strict, word_one}
 use Rattle.asn1vec_engine.specs.declared.request.Rule.{Rule}
 use Rattle.asn1vec_engine.specs.declared.request.Rule.TheVariants.{Ber, Der}
 use Rattle.asn1vec_engine.specs.declared.types.TypeName.{TypeName}
-use Rattle.asn1vec_engine.specs.declared.types.TypeName.TheVariants.{U8, U16, U32, U64, Any}
+use Rattle.asn1vec_engine.specs.declared.types.TypeName.TheVariants.{U8, U16, U32, U64, U128, Any}
 use Rattle.asn1vec_engine.specs.Names.{name_of_refusal, name_of_write_refusal}
 use Rattle.asn1vec_engine.specs.Shown.{in_hexadecimal, element_text, WrittenText, StrictText, Says, Same, IsReadAnswer, IsAnswerBy}
 use Rattle.asn1vec_engine.specs.Types.{name_of}
-use Rattle.asn1vec_engine.specs.Answer.{IsUnsignedAnswer, IsElementAnswer, IsTypeAnswer, IsRequestAnswer, IsRefusedLine, IsAnswered, IsAnswer, IsAnswerLine, AreAnswers, BeginAnswers}
+use Rattle.asn1vec_engine.specs.Answer.{IsIntegerAnswer, IsUnsignedAnswer, IsElementAnswer, IsTypeAnswer, IsRequestAnswer, IsRefusedLine, IsAnswered, IsAnswer, IsAnswerLine, AreAnswers, BeginAnswers}
 use Rattle.asn1vec_engine.proofs.OneRefusal.{IsOneRefusal, one_reading_refusal}
 use Rattle.asn1vec_engine.proofs.Split.{requests_same}
 
@@ -120,9 +123,13 @@ module _ {T V : Type 0} (check : Parts → Result (Unit {0}) Error → Type 0) (
 
 -- ---- the types
 
+integer_once : {T : Type 0} (number : T → ℤ) (Holds : ℤ → Type 0) (refuses : List ℕ → Error → Type 0) → ((c : List ℕ) (e f : Error) → refuses c e → refuses c f → e ≡ f) →
+    (rule : Rule) (octets text other : List ℕ) → IsIntegerAnswer number Holds refuses rule octets text → IsIntegerAnswer number Holds refuses rule octets other → text ≡ other
+integer_once number Holds refuses one = item_once IntegerCheckGives (IntegerGives number Holds refuses) IntegerCheck (IntegerBody Holds) number signed_decimal (IntegerForm Holds)
+    one_integer_check_refusal (λ p e h k. integer_check_exact p (Err e) k h) (one_integer_refusal refuses one) (integer_one_body Holds) (integer_one_form Holds)
+
 unsigned_once : (size : ℕ) (rule : Rule) (octets text other : List ℕ) → IsUnsignedAnswer size rule octets text → IsUnsignedAnswer size rule octets other → text ≡ other
-unsigned_once size = item_once IntegerCheckGives (UnsignedGives size) IntegerCheck (UnsignedBody size) (λ (x : ℕ). x) decimal (UnsignedForm size)
-    one_integer_check_refusal (λ p e h k. integer_check_exact p (Err e) k h) (one_unsigned_refusal size) (unsigned_one_body size) (unsigned_one_form size)
+unsigned_once size = integer_once pos (IsUnsigned size) (UnsignedRefuses size) (one_unsigned_refusal size)
 
 one_element_check_refusal : IsOneRefusal IsDefiniteOr
 one_element_check_refusal p e f h k = h.1 ∙ sym k.1
@@ -136,13 +143,14 @@ type_once rule U8 octets text other a b = unsigned_once 1 rule octets text other
 type_once rule U16 octets text other a b = unsigned_once 2 rule octets text other a b
 type_once rule U32 octets text other a b = unsigned_once 4 rule octets text other a b
 type_once rule U64 octets text other a b = unsigned_once 8 rule octets text other a b
+type_once rule U128 octets text other a b = unsigned_once 16 rule octets text other a b
 type_once rule Any octets text other a b = element_once rule octets text other a b
 
 -- ---- a line
 
 -- the type that has a name
 named : List ℕ → Option TypeName
-named name = find (λ t. pointwise eqb name (name_of t)) (U8 ∷ U16 ∷ U32 ∷ U64 ∷ Any ∷ [])
+named name = find (λ t. pointwise eqb name (name_of t)) (U8 ∷ U16 ∷ U32 ∷ U64 ∷ U128 ∷ Any ∷ [])
 
 named_by_its_name : (t : TypeName) → named (name_of t) ≡ Some t
 unfolding named
@@ -150,6 +158,7 @@ named_by_its_name U8 = refl
 named_by_its_name U16 = refl
 named_by_its_name U32 = refl
 named_by_its_name U64 = refl
+named_by_its_name U128 = refl
 named_by_its_name Any = refl
 
 one_type : (name : List ℕ) (t s : TypeName) → name ≡ name_of t → name ≡ name_of s → t ≡ s

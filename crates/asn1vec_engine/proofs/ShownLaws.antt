@@ -1,5 +1,6 @@
 -- Texts of what was written.
 use Rattle.std.proofs.Common.{◌≡◌, ◌++◌, ◌∙◌, ℕ, Bool, false, List, length, codes, string_bytes, String, Global, Result, Ok, Err, IfOk, inl, inr, ap, subst, refl, arith, ◌<◌, ◌≤◌, ◌+◌, ◌^◌}
+use Rattle.std.specs.Prelude.{ℤ, pos}
 use Rattle.std.specs.declared.alloc.AllocError.{AllocError}
 use Rattle.x690.specs.Identifiers.{Identifier}
 use Rattle.x690.specs.Octets.{IsOctets}
@@ -15,11 +16,11 @@ use Rattle.asn1_rs.specs.Element.{element_of, ElementForm}
 use Rattle.asn1_rs.specs.Header.{identifier_of}
 use Rattle.asn1_rs.specs.Form.{IsStrict}
 use Rattle.asn1_rs.specs.Wrote.{MayRefuse, tells_of_io}
-use Rattle.asn1_rs.specs.Integer.{integer_number, UnsignedForm}
+use Rattle.asn1_rs.specs.Integer.{integer_number, IntegerForm, IsUnsigned}
 use Rattle.asn1_rs.specs.Laws.Forms.{universal}
 use Rattle.x690.specs.Laws.StrictElements.{element_octets, made_strict_element}
 use Rattle.x690.specs.Laws.UnsignedOctets.{unsigned_octets_content, unsigned_octets_few}
-use Rattle.x690.specs.Integers.{unsigned_octets}
+use Rattle.x690.specs.Integers.{IsIntegerContent, unsigned_octets}
 use Rattle.asn1vec_engine.specs.Names.{name_of_write_refusal}
 use Rattle.asn1vec_engine.specs.Shown.{in_hexadecimal, StrictText, Says, Same, IsReadAnswer}
 
@@ -39,20 +40,23 @@ module _ {V : Type 0} (Form : V → Identifier → List ℕ → Type 0) (takes_m
       shown (Ok text) f = (o, strict, inr (refusal, may, other, f ∙ ap (λ (n : List ℕ). codes "err " ++ n) e))
       shown (Err x) f = tt
 
--- each number that fits has a strict encoding
-pub strict_number : (size v : ℕ) → size ≤ 16 → v < 256 ^ size → (o : List ℕ) × IsStrict (UnsignedForm size) v o
-strict_number size v most fits =
-    let content = unsigned_octets_content v in
-    let few : length (unsigned_octets v) ≤ size + 1 = unsigned_octets_few v size fits in
+-- each number that a type holds has a strict encoding, where its contents octets are few
+pub strict_number : (Holds : ℤ → Type 0) (n : ℤ) (octets : List ℕ) → Holds n → IsIntegerContent n octets → length octets < 2 ^ 64 → (o : List ℕ) × IsStrict (IntegerForm Holds) n o
+strict_number Holds n octets held content few =
     let id = universal false integer_number in (
-      element_octets id (unsigned_octets v),
+      element_octets id octets,
       record {
         id = id;
-        content = unsigned_octets v;
-        form = (refl, (fits, content));
-        element = made_strict_element id (unsigned_octets v) (omega arith) (omega arith) (omega (arith, few)) content.octets;
+        content = octets;
+        form = (refl, (held, content));
+        element = made_strict_element id octets (omega arith) (omega arith) few content.octets;
       },
     )
+
+pub strict_unsigned : (size k : ℕ) → size ≤ 16 → k < 256 ^ size → (o : List ℕ) × IsStrict (IntegerForm (IsUnsigned size)) (pos k) o
+strict_unsigned size k most fits =
+    let few : length (unsigned_octets k) ≤ size + 1 = unsigned_octets_few k size fits in
+    strict_number (IsUnsigned size) (pos k) (unsigned_octets k) (k, refl, fits) (unsigned_octets_content k) (omega (arith, few))
 
 few_classes : (class : Class) → class_number class < 4
 few_classes Universal = omega arith

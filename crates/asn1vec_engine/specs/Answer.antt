@@ -1,21 +1,27 @@
 -- The answers to lines.
-use Rattle.std.specs.Prelude.{◌≡◌, ◌≢◌, ℕ, ◌<◌, ◌≤◌, List, [], ◌∷◌, ◌++◌, length, codes, decimal, false, ◌⊎◌}
+use Rattle.std.specs.Prelude.{◌≡◌, ◌≢◌, ℕ, ℤ, pos, ◌<◌, ◌≤◌, List, [], ◌∷◌, ◌++◌, length, codes, false, ◌⊎◌}
+use Rattle.std.specs.Fmt.{signed_decimal}
+use Rattle.asn1_rs.specs.declared.error.Error.{Error}
 use Rattle.asn1_rs.specs.declared.asn1_types.any.Any.{Any as Read}
 use Rattle.asn1_rs.specs.Any.{IsTheElement, IsDefiniteOr}
 use Rattle.asn1_rs.specs.Element.{Element, element_of, ElementBody, ElementCheck, ElementForm}
 use Rattle.asn1_rs.specs.Grammar.{BerWord, DerWord, BerGives, DerGives}
-use Rattle.asn1_rs.specs.Integer.{IntegerCheck, IntegerCheckGives, UnsignedBody, UnsignedForm, UnsignedGives}
+use Rattle.asn1_rs.specs.Integer.{IntegerCheck, IntegerCheckGives, IntegerBody, IntegerForm, IntegerGives, IsUnsigned, UnsignedRefuses}
 use Rattle.asn1vec_engine.specs.declared.request.Rule.{Rule}
 use Rattle.asn1vec_engine.specs.declared.types.TypeName.{TypeName}
-use Rattle.asn1vec_engine.specs.declared.types.TypeName.TheVariants.{U8, U16, U32, U64, Any}
+use Rattle.asn1vec_engine.specs.declared.types.TypeName.TheVariants.{U8, U16, U32, U64, U128, Any}
 use Rattle.asn1vec_engine.specs.Request.{IsRequest, IsOtherForm}
 use Rattle.asn1vec_engine.specs.Shown.{IsAnswerBy, Same, StrictText, element_text}
 use Rattle.asn1vec_engine.specs.Types.{name_of}
 
--- the answer of the unsigned integers of so many octets: in decimals, with the strict encoding that each of them has
+-- the answer of a type to integers: in decimals, with the strict encoding that each has which the type holds
+abbrev pub IsIntegerAnswer : {T : Type 0} → (T → ℤ) → (ℤ → Type 0) → (List ℕ → Error → Type 0) → Rule → List ℕ → List ℕ → Type 0
+IsIntegerAnswer {T} number Holds refuses = IsAnswerBy {T = T} {V = ℤ} (BerWord (IntegerBody Holds)) (DerWord IntegerCheck (IntegerBody Holds)) number false
+    (BerGives (IntegerGives number Holds refuses) Same) (DerGives IntegerCheckGives (IntegerGives number Holds refuses) Same) (λ x. signed_decimal (number x)) (λ x. StrictText (IntegerForm Holds) false (number x))
+
+-- that of the unsigned integers of so many octets
 abbrev pub IsUnsignedAnswer : ℕ → Rule → List ℕ → List ℕ → Type 0
-IsUnsignedAnswer size = IsAnswerBy {T = ℕ} {V = ℕ} (BerWord (UnsignedBody size)) (DerWord IntegerCheck (UnsignedBody size)) (λ x. x) false
-    (BerGives (UnsignedGives size) Same) (DerGives IntegerCheckGives (UnsignedGives size) Same) decimal (StrictText (UnsignedForm size) false)
+IsUnsignedAnswer size = IsIntegerAnswer {T = ℕ} pos (IsUnsigned size) (UnsignedRefuses size)
 
 -- the answer of elements of any type: what they say, with the strict encoding that each of them has
 abbrev pub IsElementAnswer : Rule → List ℕ → List ℕ → Type 0
@@ -28,6 +34,7 @@ IsTypeAnswer rule U8 = IsUnsignedAnswer 1 rule
 IsTypeAnswer rule U16 = IsUnsignedAnswer 2 rule
 IsTypeAnswer rule U32 = IsUnsignedAnswer 4 rule
 IsTypeAnswer rule U64 = IsUnsignedAnswer 8 rule
+IsTypeAnswer rule U128 = IsUnsignedAnswer 16 rule
 IsTypeAnswer rule Any = IsElementAnswer rule
 
 -- the answer to a request: of the type that has the name, by the rule, or that there is none

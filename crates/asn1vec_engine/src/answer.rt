@@ -20,6 +20,7 @@ fn answer_type(alloc: Global, rule: Rule, t: TypeName, octets: &[u8]) -> Result<
         TypeName::U16 => answer_by::<u16>(alloc, rule, octets),
         TypeName::U32 => answer_by::<u32>(alloc, rule, octets),
         TypeName::U64 => answer_by::<u64>(alloc, rule, octets),
+        TypeName::U128 => answer_by::<u128>(alloc, rule, octets),
         TypeName::Any => answer_by::<Any<'_>>(alloc, rule, octets),
     }
 }

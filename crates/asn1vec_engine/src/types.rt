@@ -10,15 +10,17 @@ pub(crate) enum TypeName {
     U16,
     U32,
     U64,
+    U128,
     Any,
 }
 
 /// Every type, once.
-const TYPES: [TypeName; 5] = [
+const TYPES: [TypeName; 6] = [
     TypeName::U8,
     TypeName::U16,
     TypeName::U32,
     TypeName::U64,
+    TypeName::U128,
     TypeName::Any,
 ];
 
@@ -32,6 +34,7 @@ impl TypeName {
             TypeName::U16 => "u16",
             TypeName::U32 => "u32",
             TypeName::U64 => "u64",
+            TypeName::U128 => "u128",
             TypeName::Any => "any",
         }
     }

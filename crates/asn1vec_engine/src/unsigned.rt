@@ -1,6 +1,6 @@
 //! How unsigned integers are shown.
-ghost use Rattle.std.specs.Prelude.{decimal, false};
-ghost use Rattle.asn1_rs.specs.Integer.{UnsignedForm};
+ghost use Rattle.std.specs.Prelude.{decimal, pos, false};
+ghost use Rattle.asn1_rs.specs.Integer.{IntegerForm, IsUnsigned};
 ghost use Rattle.asn1vec_engine.specs.Shown.{StrictText};
 
 use crate::shown::{Shown, strict_text};
@@ -9,7 +9,7 @@ use std::alloc::{AllocError, Global};
 impl Shown for u8 {
     ghost text_of = { decimal };
 
-    ghost Written = { StrictText (UnsignedForm 1) false };
+    ghost Written = { λ x. StrictText (IntegerForm (IsUnsigned 1)) false (pos x) };
 
     fn show(&self, alloc: Global) -> Result<String, AllocError> {
         format!(in alloc; "{self}")
@@ -24,7 +24,7 @@ impl Shown for u8 {
 impl Shown for u16 {
     ghost text_of = { decimal };
 
-    ghost Written = { StrictText (UnsignedForm 2) false };
+    ghost Written = { λ x. StrictText (IntegerForm (IsUnsigned 2)) false (pos x) };
 
     fn show(&self, alloc: Global) -> Result<String, AllocError> {
         format!(in alloc; "{self}")
@@ -39,7 +39,7 @@ impl Shown for u16 {
 impl Shown for u32 {
     ghost text_of = { decimal };
 
-    ghost Written = { StrictText (UnsignedForm 4) false };
+    ghost Written = { λ x. StrictText (IntegerForm (IsUnsigned 4)) false (pos x) };
 
     fn show(&self, alloc: Global) -> Result<String, AllocError> {
         format!(in alloc; "{self}")
@@ -54,7 +54,22 @@ impl Shown for u32 {
 impl Shown for u64 {
     ghost text_of = { decimal };
 
-    ghost Written = { StrictText (UnsignedForm 8) false };
+    ghost Written = { λ x. StrictText (IntegerForm (IsUnsigned 8)) false (pos x) };
+
+    fn show(&self, alloc: Global) -> Result<String, AllocError> {
+        format!(in alloc; "{self}")
+    }
+
+    fn written(&self, alloc: Global) -> Result<String, AllocError> {
+        let value = *self;
+        strict_text(alloc, &value)
+    }
+}
+
+impl Shown for u128 {
+    ghost text_of = { decimal };
+
+    ghost Written = { λ x. StrictText (IntegerForm (IsUnsigned 16)) false (pos x) };
 
     fn show(&self, alloc: Global) -> Result<String, AllocError> {
         format!(in alloc; "{self}")

@@ -1,27 +1,23 @@
 -- Laws of integers as elements (X.690 8.3).
-use Rattle.std.specs.Prelude.{Result, Ok, Err, IsTrue, nat_eq, nat_lt, ◌↔◌, if◌then◌else◌}
-use Rattle.std.proofs.Common.{arith, ◌≡◌, ◌∙◌, ap, sym, refl, ℕ, ◌<◌, inl, inr, Bool, true, false, List, [], ◌∷◌, length, get_or, pos, Some, eqb-true, eq-eqb}
-use Rattle.std.proofs.lemmas.Bool.{cases_lt}
-use Rattle.std.proofs.lemmas.Bool.Decides.{nat_tests}
+use Rattle.std.specs.Prelude.{Result, Ok, Err, ℤ, nat_eq, if◌then◌else◌}
+use Rattle.std.proofs.Common.{arith, ◌≡◌, ◌∙◌, ap, sym, refl, subst, ℕ, inl, inr, Bool, true, false, List, [], ◌∷◌, length}
 use Rattle.x690.specs.Octets.{IsOctets}
-use Rattle.x690.specs.Digits.{base_256_value}
+use Rattle.x690.specs.Digits.{twos_complement_value}
 use Rattle.x690.specs.Identifiers.{Identifier}
 use Rattle.x690.specs.Lengths.{LengthForm, definite, indefinite}
 use Rattle.x690.specs.Elements.{Parts, IsDefiniteElement}
 use Rattle.x690.specs.Nested.{IsElement}
-use Rattle.x690.specs.Strict.{header_octets}
-use Rattle.x690.specs.Integers.{HasSpareZeros, HasSpareOnes, IsIntegerContent, unsigned_octets}
-use Rattle.x690.specs.Laws.Integers.{integer_content_unique, integer_content_one_value, unsigned_value, negative_value}
-use Rattle.x690.specs.Laws.UnsignedOctets.{unsigned_octets_only}
+use Rattle.x690.specs.Integers.{HasSpareZeros, HasSpareOnes, IsIntegerContent}
+use Rattle.x690.specs.Laws.Integers.{integer_content_unique, integer_content_one_value}
 use Rattle.asn1_rs.specs.declared.error.Error.{Error}
-use Rattle.asn1_rs.specs.declared.error.Error.TheVariants.{UnexpectedTag, ConstructUnexpected, IndefiniteLengthUnexpected, IntegerNegative, IntegerTooLarge, DerConstraintFailed}
+use Rattle.asn1_rs.specs.declared.error.Error.TheVariants.{ConstructUnexpected, IndefiniteLengthUnexpected, DerConstraintFailed}
 use Rattle.asn1_rs.specs.declared.error.DerConstraint.TheVariants.{IntegerEmpty, IntegerLeadingZeroes, IntegerLeadingFF}
 use Rattle.asn1_rs.specs.Form.{IsOneForm, IsOneValue, FitsElement, IsStrict}
 use Rattle.asn1_rs.specs.Grammar.{IsOneFront, IsOneBody, BerWord, DerWord, NoCheck, TakesBody, Checks, FormChecks, FormBodies, FormTakes, made, of_class, max_depth}
 use Rattle.asn1_rs.specs.Laws.Elements.{der_elements, ber_elements}
 use Rattle.asn1_rs.specs.Laws.Words.{word_one, strict_ber_word, strict_der_word}
 use Rattle.asn1_rs.specs.Laws.Forms.{WritesByValue, WritesForm, header_of, universal_one, universal_value, universal_fits}
-use Rattle.asn1_rs.specs.Integer.{integer_number, IntegerCheck, IntegerCheckRefuses, IntegerCheckGives, UnsignedBody, UnsignedRefuses, UnsignedGives, UnsignedContent, UnsignedForm, unsigned_header}
+use Rattle.asn1_rs.specs.Integer.{integer_number, IntegerCheck, IntegerCheckRefuses, IntegerCheckGives, IntegerBody, IntegerRefuses, IntegerGives, IntegerContent, IntegerForm, integer_header}
 
 -- the refusal of the check, where it refuses
 check_refusal : Bool → LengthForm → List ℕ → Error
@@ -68,96 +64,82 @@ integer_check_exact p (Err e) h = λ k. refuses e h k
     refuses (DerConstraintFailed IntegerLeadingFF) h k = k.shortest.2 h.2
     refuses _ h k = h
 
--- the refusal of the conversion, where it refuses
-unsigned_refusal : ℕ → Bool → ℕ → Error
-unsigned_refusal number constructed first =
-    if nat_eq number integer_number then (if constructed then ConstructUnexpected else (if nat_lt first 128 then IntegerTooLarge else IntegerNegative)) else UnexpectedTag (Some (record { 0 = integer_number })) (record { 0 = number })
+-- the conversion allows one refusal for one element, where its contents octets allow one
+pub one_integer_refusal : (content_refuses : List ℕ → Error → Type 0) → ((c : List ℕ) (e f : Error) → content_refuses c e → content_refuses c f → e ≡ f) →
+    (p : Parts) (e f : Error) → IntegerRefuses content_refuses p e → IntegerRefuses content_refuses p f → e ≡ f
+one_integer_refusal refuses one p e f (inl a) (inl b) = a.1 ∙ sym b.1
+one_integer_refusal refuses one p e f (inl a) (inr (inl b)) = absurd (a.0 b.0)
+one_integer_refusal refuses one p e f (inl a) (inr (inr b)) = absurd (a.0 b.0)
+one_integer_refusal refuses one p e f (inr (inl a)) (inl b) = absurd (b.0 a.0)
+one_integer_refusal refuses one p e f (inr (inl a)) (inr (inl b)) = a.2 ∙ sym b.2
+one_integer_refusal refuses one p e f (inr (inl a)) (inr (inr b)) = let c = a.1 in let d = b.1 in cc
+one_integer_refusal refuses one p e f (inr (inr a)) (inl b) = absurd (b.0 a.0)
+one_integer_refusal refuses one p e f (inr (inr a)) (inr (inl b)) = let c = a.1 in let d = b.1 in cc
+one_integer_refusal refuses one p e f (inr (inr a)) (inr (inr b)) = one p.content e f a.2 b.2
 
-unsigned_refusal_is : (size : ℕ) (p : Parts) (e : Error) → UnsignedRefuses size p e → unsigned_refusal p.id.number p.id.constructed (get_or p.content 0 0) ≡ e
-unfolding unsigned_refusal
-unsigned_refusal_is size p (UnexpectedTag expected actual) h = let n = h.0 in rw (h.1, h.2) (grind (arith, nat_tests))
-unsigned_refusal_is size p ConstructUnexpected h = rw (h.0, h.1) refl
-unsigned_refusal_is size p IntegerNegative h = rw (h.0, h.1) (grind (arith, nat_tests))
-unsigned_refusal_is size p IntegerTooLarge h = rw (h.0, h.1) (grind (arith, nat_tests))
-unsigned_refusal_is size p _ h = absurd h
-
--- the conversion allows one refusal for one element
-pub one_unsigned_refusal : (size : ℕ) (p : Parts) (e f : Error) → UnsignedGives size p (Err e) → UnsignedGives size p (Err f) → e ≡ f
-one_unsigned_refusal size p e f h k = sym (unsigned_refusal_is size p e h) ∙ unsigned_refusal_is size p f k
-
-pub unsigned_same : (x y : ℕ) → IsTrue (nat_eq x y) ↔ (x ≡ y)
-unsigned_same x y = (λ h. eqb-true x y h, λ e. eq-eqb x y e)
-
-module _ (size : ℕ) where
+module _ (Holds : ℤ → Type 0) where
   -- it is exact
-  pub unsigned_exact : (p : Parts) (answer : Result ℕ Error) → IsOctets p.content → UnsignedGives size p answer → TakesBody (UnsignedBody size) (λ (x : ℕ). x) false (λ (x y : Error). y ≡ x) p answer
-  unsigned_exact p (Ok x) o h = h
-  unsigned_exact p (Err e) o h = inr (λ v b. refuses e h v b)
+  pub integer_exact : {T : Type 0} (number : T → ℤ) (content_refuses : List ℕ → Error → Type 0) → ((c : List ℕ) (e : Error) → IsOctets c → content_refuses c e → Holds (twos_complement_value c) → ⊥) →
+      (p : Parts) (answer : Result T Error) → IsOctets p.content → IntegerGives number Holds content_refuses p answer → TakesBody (IntegerBody Holds) number false (λ (x y : Error). y ≡ x) p answer
+  integer_exact number content_refuses refused p (Ok x) o h = h
+  integer_exact number content_refuses refused p (Err e) o h = inr (λ v b. refuses h v b)
     where
-      refuses : (e : Error) → UnsignedRefuses size p e → (v : ℕ) → UnsignedBody size p v → ⊥
-      refuses (UnexpectedTag expected actual) h v b = h.0 b.number
-      refuses ConstructUnexpected h v b = let a = b.primitive in let c = h.1 in cc
-      refuses IntegerNegative h v b = omega (arith, h.2, b.positive)
-      refuses IntegerTooLarge h v b = omega (arith, h.3, b.value, b.fits)
-      refuses _ h v b = h
+      refuses : IntegerRefuses content_refuses p e → (v : ℤ) → IntegerBody Holds p v → ⊥
+      refuses (inl a) v b = a.0 b.number
+      refuses (inr (inl a)) v b = let c = b.primitive in let d = a.1 in cc
+      refuses (inr (inr a)) v b = refused p.content e o a.2 (subst Holds b.value b.held)
 
-  pub unsigned_one_body : IsOneBody (UnsignedBody size)
-  unsigned_one_body = λ p v w a b. a.value ∙ sym b.value
+  pub integer_one_body : IsOneBody (IntegerBody Holds)
+  integer_one_body = λ p v w a b. a.value ∙ sym b.value
 
-  pub unsigned_ber_one : IsOneFront (BerWord (UnsignedBody size))
-  unsigned_ber_one = word_one (IsElement max_depth) NoCheck (UnsignedBody size) ber_elements.one unsigned_one_body
+  pub integer_ber_one : IsOneFront (BerWord (IntegerBody Holds))
+  integer_ber_one = word_one (IsElement max_depth) NoCheck (IntegerBody Holds) ber_elements.one integer_one_body
 
-  pub unsigned_der_one : IsOneFront (DerWord IntegerCheck (UnsignedBody size))
-  unsigned_der_one = word_one IsDefiniteElement IntegerCheck (UnsignedBody size) der_elements.one unsigned_one_body
+  pub integer_der_one : IsOneFront (DerWord IntegerCheck (IntegerBody Holds))
+  integer_der_one = word_one IsDefiniteElement IntegerCheck (IntegerBody Holds) der_elements.one integer_one_body
 
-  pub unsigned_one_form : IsOneForm (UnsignedForm size)
-  unsigned_one_form = universal_one false integer_number (UnsignedContent size) (λ v c d f g. integer_content_unique (pos v) c d f.1 g.1)
+  pub integer_one_form : IsOneForm (IntegerForm Holds)
+  integer_one_form = universal_one false integer_number (IntegerContent Holds) (λ v c d f g. integer_content_unique v c d f.1 g.1)
 
-  pub unsigned_one_value : IsOneValue (UnsignedForm size)
-  unsigned_one_value = universal_value false integer_number (UnsignedContent size) (λ v w c f g. let e : pos v ≡ pos w = integer_content_one_value (pos v) (pos w) c f.1 g.1 in cc)
+  pub integer_one_value : IsOneValue (IntegerForm Holds)
+  integer_one_value = universal_value false integer_number (IntegerContent Holds) (λ v w c f g. integer_content_one_value v w c f.1 g.1)
 
-  pub unsigned_fits : FitsElement (UnsignedForm size)
-  unsigned_fits = universal_fits false integer_number (UnsignedContent size) (omega arith) (λ v c f. f.1.octets)
+  pub integer_fits : FitsElement (IntegerForm Holds)
+  integer_fits = universal_fits false integer_number (IntegerContent Holds) (omega arith) (λ v c f. f.1.octets)
 
-  -- the first bit of the contents octets of a natural number is not set
-  first_below : (v : ℕ) (c : List ℕ) → IsIntegerContent (pos v) c → get_or c 0 0 < 128
-  first_below v c i = elim (cases_lt (get_or c 0 0) 128) [
-    | inl h ↦ h
-    | inr h ↦ absurd (negative_value c v i.octets h i.value)
-  ]
-
-  made_checks : (v : ℕ) (i : Identifier) (c : List ℕ) → i.constructed ≡ false → IsIntegerContent (pos v) c → IntegerCheck (made i c)
+  made_checks : (v : ℤ) (i : Identifier) (c : List ℕ) → i.constructed ≡ false → IsIntegerContent v c → IntegerCheck (made i c)
   made_checks v i c e h = record { primitive = e; counted = (length c, refl); shortest = h.shortest }
 
-  made_has_body : (v : ℕ) (i : Identifier) (c : List ℕ) → i.number ≡ integer_number → i.constructed ≡ false → UnsignedContent size v c → UnsignedBody size (made i c) v
-  made_has_body v i c n e h =
-      let below = first_below v c h.1 in
-      let same : pos (base_256_value c) ≡ pos v = sym (unsigned_value c below) ∙ h.1.value in
-      record { number = n; primitive = e; positive = below; value = cc; fits = h.0 }
+  made_has_body : (v : ℤ) (i : Identifier) (c : List ℕ) → i.number ≡ integer_number → i.constructed ≡ false → IntegerContent Holds v c → IntegerBody Holds (made i c) v
+  made_has_body v i c n e h = record { number = n; primitive = e; value = sym h.1.value; held = h.0 }
 
-  pub unsigned_form_check : FormChecks (UnsignedForm size) IntegerCheck
-  unsigned_form_check = λ v i c f. made_checks v i c (ap (λ (z : Identifier). z.constructed) f.0) f.1.1
+  pub integer_form_check : FormChecks (IntegerForm Holds) IntegerCheck
+  integer_form_check = λ v i c f. made_checks v i c (ap (λ (z : Identifier). z.constructed) f.0) f.1.1
 
-  pub unsigned_form_body : FormBodies (UnsignedForm size) (UnsignedBody size)
-  unsigned_form_body = λ v i c f. made_has_body v i c (ap (λ (z : Identifier). z.number) f.0) (ap (λ (z : Identifier). z.constructed) f.0) f.1
+  pub integer_form_body : FormBodies (IntegerForm Holds) (IntegerBody Holds)
+  integer_form_body = λ v i c f. made_has_body v i c (ap (λ (z : Identifier). z.number) f.0) (ap (λ (z : Identifier). z.constructed) f.0) f.1
 
-  pub unsigned_takes_class : (class : ℕ) → FormTakes (UnsignedForm size) IntegerCheck (UnsignedBody size) class integer_number
-  unsigned_takes_class class = λ v i c f.
+  pub integer_takes_class : (class : ℕ) → FormTakes (IntegerForm Holds) IntegerCheck (IntegerBody Holds) class integer_number
+  integer_takes_class class = λ v i c f.
       let n : i.number ≡ integer_number = ap (λ (z : Identifier). z.number) f.0 in
       let e : i.constructed ≡ false = ap (λ (z : Identifier). z.constructed) f.0 in
       (n, made_checks v (of_class class i) c e f.1.1, made_has_body v (of_class class i) c n e f.1)
 
-  pub unsigned_strict_ber : (v : ℕ) (o : List ℕ) → IsStrict (UnsignedForm size) v o → BerWord (UnsignedBody size) o v
-  unsigned_strict_ber = strict_ber_word (UnsignedForm size) (UnsignedBody size) unsigned_form_body
+  pub integer_strict_ber : (v : ℤ) (o : List ℕ) → IsStrict (IntegerForm Holds) v o → BerWord (IntegerBody Holds) o v
+  integer_strict_ber = strict_ber_word (IntegerForm Holds) (IntegerBody Holds) integer_form_body
 
-  pub unsigned_strict_der : (v : ℕ) (o : List ℕ) → IsStrict (UnsignedForm size) v o → DerWord IntegerCheck (UnsignedBody size) o v
-  unsigned_strict_der = strict_der_word (UnsignedForm size) IntegerCheck (UnsignedBody size) unsigned_form_check unsigned_form_body
+  pub integer_strict_der : (v : ℤ) (o : List ℕ) → IsStrict (IntegerForm Holds) v o → DerWord IntegerCheck (IntegerBody Holds) o v
+  integer_strict_der = strict_der_word (IntegerForm Holds) IntegerCheck (IntegerBody Holds) integer_form_check integer_form_body
 
--- what is written follows from the value, and is its strict encoding
-pub unsigned_by_value : WritesByValue (λ (x : ℕ). x) (λ x. false) unsigned_header unsigned_octets
-unsigned_by_value = λ x y e. (refl, ap unsigned_header e, ap unsigned_octets e)
+-- what is written follows from the number, and is its strict encoding
+module _ {T : Type 0} (number : T → ℤ) (octets : T → List ℕ) (strict : (x : T) → IsIntegerContent (number x) (octets x)) where
+  same_octets : (x : T) (v : ℤ) (c : List ℕ) → number x ≡ v → IsIntegerContent v c → octets x ≡ c
+  same_octets x v c e h = integer_content_unique v (octets x) c (subst (λ (z : ℤ). IsIntegerContent z (octets x)) e (strict x)) h
 
-pub unsigned_writes_form : (size : ℕ) → WritesForm (λ (x : ℕ). x) (UnsignedForm size) (λ x. Unit {0}) (λ x. false) unsigned_header unsigned_octets
-unsigned_writes_form size = λ x i c f.
-    let e : c ≡ unsigned_octets x = unsigned_octets_only x c f.1.1 in
-    (tt, sym (ap (λ (z : Identifier). z.constructed) f.0), sym e, ap (λ (z : List ℕ). header_octets 0 false integer_number (length z)) (sym e) ∙ ap (λ (z : Identifier). header_of z c) (sym f.0))
+  pub integer_by_value : WritesByValue number (λ x. false) (λ x. integer_header (octets x)) octets
+  integer_by_value = λ x y e. let s = same_octets x (number y) (octets y) e (strict y) in (refl, ap integer_header s, s)
+
+  pub integer_writes_form : (Holds : ℤ → Type 0) → WritesForm number (IntegerForm Holds) (λ x. Unit {0}) (λ x. false) (λ x. integer_header (octets x)) octets
+  integer_writes_form Holds = λ x i c f.
+      let s = same_octets x (number x) c refl f.1.1 in
+      (tt, sym (ap (λ (z : Identifier). z.constructed) f.0), s, ap integer_header s ∙ ap (λ (z : Identifier). header_of z c) (sym f.0))

@@ -1,11 +1,11 @@
 //! Integers (X.690 8.3).
-ghost use Rattle.std.specs.Prelude.{ℕ, ◌≡◌, ◌≤◌, ◌++◌, Bool, false, length, Err, IfOk, IfErr};
+ghost use Rattle.std.specs.Prelude.{ℕ, pos, ◌≡◌, ◌≤◌, ◌++◌, Bool, false, length, Err, IfOk, IfErr};
 ghost use Rattle.x690.specs.Elements.{Parts};
 ghost use Rattle.asn1_rs.specs.declared.error.Error.{Error as Fault};
+ghost use Rattle.x690.specs.Digits.{twos_complement_value};
 ghost use Rattle.x690.specs.Integers.{unsigned_octets};
 ghost use Rattle.asn1_rs.specs.Any.{parts_of};
-ghost use Rattle.asn1_rs.specs.Integer.{IntegerCheckGives, UnsignedGives, unsigned_header};
-ghost use Rattle.asn1_rs.specs.Laws.Integer.{one_integer_check_refusal, one_unsigned_refusal};
+ghost use Rattle.asn1_rs.specs.Integer.{IntegerCheckGives, IsUnsigned, UnsignedRefuses, UnsignedGives, unsigned_header};
 ghost use Rattle.asn1_rs.specs.Wrote.{Wrote, MayRefuse, MayRefuseCount};
 
 use crate::asn1_types::any::Any;
@@ -36,6 +36,19 @@ pub(crate) fn check_integer(any: &Any<'_>) -> Result<(), Error>
     Ok(())
 }
 
+/// The natural number of contents octets, which fits in so many octets.
+fn unsigned_from_content(content: &[u8], size: usize) -> Result<u128, Error>
+    requires { size ≤ 16 }
+    ensures number { IfOk result (λ n. pos n ≡ twos_complement_value content.now) }
+    ensures held { IfOk result (λ n. IsUnsigned size (pos n)) }
+    ensures refused { IfErr result (UnsignedRefuses size content.now) }
+{
+    if content.first().is_some_and(|first| *first >= 0x80) {
+        return Err(Error::IntegerNegative);
+    }
+    unsigned_number(content, size).ok_or(Error::IntegerTooLarge)
+}
+
 /// The natural number of an element, which fits in so many octets.
 pub(crate) fn unsigned_from_any(any: &Any<'_>, size: usize) -> Result<u128, Error>
     requires { size ≤ 16 }
@@ -43,10 +56,7 @@ pub(crate) fn unsigned_from_any(any: &Any<'_>, size: usize) -> Result<u128, Erro
 {
     any.header.assert_tag(Tag::Integer)?;
     any.header.assert_primitive()?;
-    if any.content.first().is_some_and(|first| *first >= 0x80) {
-        return Err(Error::IntegerNegative);
-    }
-    unsigned_number(any.content, size).ok_or(Error::IntegerTooLarge)
+    unsigned_from_content(any.content, size)
 }
 
 /// How many octets the element of a natural number has.

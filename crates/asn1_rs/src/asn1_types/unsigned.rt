@@ -1,9 +1,11 @@
-//! The types `u8`, `u16`, `u32` and `u64` as integers of one to eight octets.
-ghost use Rattle.std.specs.Prelude.{ℕ, ◌<◌, ◌^◌, false};
+//! The types `u8`, `u16`, `u32`, `u64` and `u128` as integers of one to sixteen octets.
+ghost use Rattle.std.specs.Prelude.{ℤ, pos, false};
 ghost use Rattle.x690.specs.Integers.{unsigned_octets};
+ghost use Rattle.x690.specs.Laws.UnsignedOctets.{unsigned_octets_content};
 ghost use Rattle.asn1_rs.specs.Grammar.{BerWord, DerWord};
-ghost use Rattle.asn1_rs.specs.Integer.{integer_number, IntegerCheck, IntegerCheckGives, UnsignedBody, UnsignedForm, UnsignedGives, unsigned_header};
-ghost use Rattle.asn1_rs.specs.Laws.Integer.{integer_check_exact, unsigned_exact, unsigned_same, unsigned_one_body, unsigned_ber_one, unsigned_der_one, unsigned_one_form, unsigned_one_value, unsigned_fits, unsigned_form_check, unsigned_form_body, unsigned_takes_class, unsigned_strict_ber, unsigned_strict_der, unsigned_by_value, unsigned_writes_form};
+ghost use Rattle.asn1_rs.specs.Integer.{integer_number, IntegerCheck, IntegerCheckGives, IntegerBody, IntegerForm, IsUnsigned, UnsignedRefuses, UnsignedGives, unsigned_header};
+ghost use Rattle.asn1_rs.specs.Laws.Integer.{integer_check_exact, integer_exact, integer_one_body, integer_ber_one, integer_der_one, integer_one_form, integer_one_value, integer_fits, integer_form_check, integer_form_body, integer_takes_class, integer_strict_ber, integer_strict_der, integer_by_value, integer_writes_form};
+ghost use Rattle.asn1_rs.specs.Laws.Unsigned.{unsigned_refused, unsigned_equal};
 
 use crate::asn1_types::any::Any;
 use crate::asn1_types::integer::{
@@ -88,55 +90,55 @@ impl ToDer for u8 {
 }
 
 impl Grammar for u8 {
-    ghost Value = { ℕ };
+    ghost Value = { ℤ };
 
-    ghost value = { λ x. x };
+    ghost value = { pos };
 
-    ghost IsValue = { λ x. x < 256 ^ 1 };
+    ghost IsValue = { IsUnsigned 1 };
 
-    ghost Ber = { BerWord (UnsignedBody 1) };
+    ghost Ber = { BerWord (IntegerBody (IsUnsigned 1)) };
 
-    ghost Der = { DerWord IntegerCheck (UnsignedBody 1) };
+    ghost Der = { DerWord IntegerCheck (IntegerBody (IsUnsigned 1)) };
 
-    ghost Body = { UnsignedBody 1 };
+    ghost Body = { IntegerBody (IsUnsigned 1) };
 
     ghost Check = { IntegerCheck };
 
-    ghost Form = { UnsignedForm 1 };
+    ghost Form = { IntegerForm (IsUnsigned 1) };
 
     ghost takes_memory = { false };
 }
 
 impl LawfulItem for u8 {
-    ghost ber_values = { λ o v w. w.3.fits };
+    ghost ber_values = { λ o v w. w.3.held };
 
-    ghost der_values = { λ o v w. w.3.fits };
+    ghost der_values = { λ o v w. w.3.held };
 
-    ghost body_values = { λ p v o b. b.fits };
+    ghost body_values = { λ p v o b. b.held };
 
     ghost form_values = { λ v i c f. f.1.0 };
 
-    ghost ber_one = { unsigned_ber_one 1 };
+    ghost ber_one = { integer_ber_one (IsUnsigned 1) };
 
-    ghost der_one = { unsigned_der_one 1 };
+    ghost der_one = { integer_der_one (IsUnsigned 1) };
 
-    ghost body_one = { unsigned_one_body 1 };
+    ghost body_one = { integer_one_body (IsUnsigned 1) };
 
-    ghost one_form = { unsigned_one_form 1 };
+    ghost one_form = { integer_one_form (IsUnsigned 1) };
 
-    ghost one_value = { unsigned_one_value 1 };
+    ghost one_value = { integer_one_value (IsUnsigned 1) };
 
-    ghost form_fits = { unsigned_fits 1 };
+    ghost form_fits = { integer_fits (IsUnsigned 1) };
 
-    ghost strict_ber = { unsigned_strict_ber 1 };
+    ghost strict_ber = { integer_strict_ber (IsUnsigned 1) };
 
-    ghost strict_der = { unsigned_strict_der 1 };
+    ghost strict_der = { integer_strict_der (IsUnsigned 1) };
 }
 
 impl<'a> LawfulBody<'a, Error> for u8 {
-    ghost body_exact = { unsigned_exact 1 };
+    ghost body_exact = { integer_exact (IsUnsigned 1) pos (UnsignedRefuses 1) (unsigned_refused 1) };
 
-    ghost form_body = { unsigned_form_body 1 };
+    ghost form_body = { integer_form_body (IsUnsigned 1) };
 
     ghost ber_split = { λ o v w. w };
 
@@ -146,7 +148,7 @@ impl<'a> LawfulBody<'a, Error> for u8 {
 impl LawfulCheck for u8 {
     ghost check_exact = { integer_check_exact };
 
-    ghost form_check = { unsigned_form_check 1 };
+    ghost form_check = { integer_form_check (IsUnsigned 1) };
 }
 
 impl LawfulAuto for u8 {
@@ -158,17 +160,17 @@ impl LawfulAuto for u8 {
 impl LawfulWrite for u8 {
     ghost tells_all = { λ x. tt };
 
-    ghost by_value = { unsigned_by_value };
+    ghost by_value = { integer_by_value pos unsigned_octets unsigned_octets_content };
 
-    ghost form = { unsigned_writes_form 1 };
+    ghost form = { integer_writes_form pos unsigned_octets unsigned_octets_content (IsUnsigned 1) };
 }
 
 impl<const K: u8> TakesClass<K> for u8 {
-    ghost takes_class = { unsigned_takes_class 1 K };
+    ghost takes_class = { integer_takes_class (IsUnsigned 1) K };
 }
 
 impl LawfulMember for u8 {
-    ghost same = { unsigned_same };
+    ghost same = { unsigned_equal };
 }
 
 impl Tagged for u16 {
@@ -238,55 +240,55 @@ impl ToDer for u16 {
 }
 
 impl Grammar for u16 {
-    ghost Value = { ℕ };
+    ghost Value = { ℤ };
 
-    ghost value = { λ x. x };
+    ghost value = { pos };
 
-    ghost IsValue = { λ x. x < 256 ^ 2 };
+    ghost IsValue = { IsUnsigned 2 };
 
-    ghost Ber = { BerWord (UnsignedBody 2) };
+    ghost Ber = { BerWord (IntegerBody (IsUnsigned 2)) };
 
-    ghost Der = { DerWord IntegerCheck (UnsignedBody 2) };
+    ghost Der = { DerWord IntegerCheck (IntegerBody (IsUnsigned 2)) };
 
-    ghost Body = { UnsignedBody 2 };
+    ghost Body = { IntegerBody (IsUnsigned 2) };
 
     ghost Check = { IntegerCheck };
 
-    ghost Form = { UnsignedForm 2 };
+    ghost Form = { IntegerForm (IsUnsigned 2) };
 
     ghost takes_memory = { false };
 }
 
 impl LawfulItem for u16 {
-    ghost ber_values = { λ o v w. w.3.fits };
+    ghost ber_values = { λ o v w. w.3.held };
 
-    ghost der_values = { λ o v w. w.3.fits };
+    ghost der_values = { λ o v w. w.3.held };
 
-    ghost body_values = { λ p v o b. b.fits };
+    ghost body_values = { λ p v o b. b.held };
 
     ghost form_values = { λ v i c f. f.1.0 };
 
-    ghost ber_one = { unsigned_ber_one 2 };
+    ghost ber_one = { integer_ber_one (IsUnsigned 2) };
 
-    ghost der_one = { unsigned_der_one 2 };
+    ghost der_one = { integer_der_one (IsUnsigned 2) };
 
-    ghost body_one = { unsigned_one_body 2 };
+    ghost body_one = { integer_one_body (IsUnsigned 2) };
 
-    ghost one_form = { unsigned_one_form 2 };
+    ghost one_form = { integer_one_form (IsUnsigned 2) };
 
-    ghost one_value = { unsigned_one_value 2 };
+    ghost one_value = { integer_one_value (IsUnsigned 2) };
 
-    ghost form_fits = { unsigned_fits 2 };
+    ghost form_fits = { integer_fits (IsUnsigned 2) };
 
-    ghost strict_ber = { unsigned_strict_ber 2 };
+    ghost strict_ber = { integer_strict_ber (IsUnsigned 2) };
 
-    ghost strict_der = { unsigned_strict_der 2 };
+    ghost strict_der = { integer_strict_der (IsUnsigned 2) };
 }
 
 impl<'a> LawfulBody<'a, Error> for u16 {
-    ghost body_exact = { unsigned_exact 2 };
+    ghost body_exact = { integer_exact (IsUnsigned 2) pos (UnsignedRefuses 2) (unsigned_refused 2) };
 
-    ghost form_body = { unsigned_form_body 2 };
+    ghost form_body = { integer_form_body (IsUnsigned 2) };
 
     ghost ber_split = { λ o v w. w };
 
@@ -296,7 +298,7 @@ impl<'a> LawfulBody<'a, Error> for u16 {
 impl LawfulCheck for u16 {
     ghost check_exact = { integer_check_exact };
 
-    ghost form_check = { unsigned_form_check 2 };
+    ghost form_check = { integer_form_check (IsUnsigned 2) };
 }
 
 impl LawfulAuto for u16 {
@@ -308,17 +310,17 @@ impl LawfulAuto for u16 {
 impl LawfulWrite for u16 {
     ghost tells_all = { λ x. tt };
 
-    ghost by_value = { unsigned_by_value };
+    ghost by_value = { integer_by_value pos unsigned_octets unsigned_octets_content };
 
-    ghost form = { unsigned_writes_form 2 };
+    ghost form = { integer_writes_form pos unsigned_octets unsigned_octets_content (IsUnsigned 2) };
 }
 
 impl<const K: u8> TakesClass<K> for u16 {
-    ghost takes_class = { unsigned_takes_class 2 K };
+    ghost takes_class = { integer_takes_class (IsUnsigned 2) K };
 }
 
 impl LawfulMember for u16 {
-    ghost same = { unsigned_same };
+    ghost same = { unsigned_equal };
 }
 
 impl Tagged for u32 {
@@ -388,55 +390,55 @@ impl ToDer for u32 {
 }
 
 impl Grammar for u32 {
-    ghost Value = { ℕ };
+    ghost Value = { ℤ };
 
-    ghost value = { λ x. x };
+    ghost value = { pos };
 
-    ghost IsValue = { λ x. x < 256 ^ 4 };
+    ghost IsValue = { IsUnsigned 4 };
 
-    ghost Ber = { BerWord (UnsignedBody 4) };
+    ghost Ber = { BerWord (IntegerBody (IsUnsigned 4)) };
 
-    ghost Der = { DerWord IntegerCheck (UnsignedBody 4) };
+    ghost Der = { DerWord IntegerCheck (IntegerBody (IsUnsigned 4)) };
 
-    ghost Body = { UnsignedBody 4 };
+    ghost Body = { IntegerBody (IsUnsigned 4) };
 
     ghost Check = { IntegerCheck };
 
-    ghost Form = { UnsignedForm 4 };
+    ghost Form = { IntegerForm (IsUnsigned 4) };
 
     ghost takes_memory = { false };
 }
 
 impl LawfulItem for u32 {
-    ghost ber_values = { λ o v w. w.3.fits };
+    ghost ber_values = { λ o v w. w.3.held };
 
-    ghost der_values = { λ o v w. w.3.fits };
+    ghost der_values = { λ o v w. w.3.held };
 
-    ghost body_values = { λ p v o b. b.fits };
+    ghost body_values = { λ p v o b. b.held };
 
     ghost form_values = { λ v i c f. f.1.0 };
 
-    ghost ber_one = { unsigned_ber_one 4 };
+    ghost ber_one = { integer_ber_one (IsUnsigned 4) };
 
-    ghost der_one = { unsigned_der_one 4 };
+    ghost der_one = { integer_der_one (IsUnsigned 4) };
 
-    ghost body_one = { unsigned_one_body 4 };
+    ghost body_one = { integer_one_body (IsUnsigned 4) };
 
-    ghost one_form = { unsigned_one_form 4 };
+    ghost one_form = { integer_one_form (IsUnsigned 4) };
 
-    ghost one_value = { unsigned_one_value 4 };
+    ghost one_value = { integer_one_value (IsUnsigned 4) };
 
-    ghost form_fits = { unsigned_fits 4 };
+    ghost form_fits = { integer_fits (IsUnsigned 4) };
 
-    ghost strict_ber = { unsigned_strict_ber 4 };
+    ghost strict_ber = { integer_strict_ber (IsUnsigned 4) };
 
-    ghost strict_der = { unsigned_strict_der 4 };
+    ghost strict_der = { integer_strict_der (IsUnsigned 4) };
 }
 
 impl<'a> LawfulBody<'a, Error> for u32 {
-    ghost body_exact = { unsigned_exact 4 };
+    ghost body_exact = { integer_exact (IsUnsigned 4) pos (UnsignedRefuses 4) (unsigned_refused 4) };
 
-    ghost form_body = { unsigned_form_body 4 };
+    ghost form_body = { integer_form_body (IsUnsigned 4) };
 
     ghost ber_split = { λ o v w. w };
 
@@ -446,7 +448,7 @@ impl<'a> LawfulBody<'a, Error> for u32 {
 impl LawfulCheck for u32 {
     ghost check_exact = { integer_check_exact };
 
-    ghost form_check = { unsigned_form_check 4 };
+    ghost form_check = { integer_form_check (IsUnsigned 4) };
 }
 
 impl LawfulAuto for u32 {
@@ -458,17 +460,17 @@ impl LawfulAuto for u32 {
 impl LawfulWrite for u32 {
     ghost tells_all = { λ x. tt };
 
-    ghost by_value = { unsigned_by_value };
+    ghost by_value = { integer_by_value pos unsigned_octets unsigned_octets_content };
 
-    ghost form = { unsigned_writes_form 4 };
+    ghost form = { integer_writes_form pos unsigned_octets unsigned_octets_content (IsUnsigned 4) };
 }
 
 impl<const K: u8> TakesClass<K> for u32 {
-    ghost takes_class = { unsigned_takes_class 4 K };
+    ghost takes_class = { integer_takes_class (IsUnsigned 4) K };
 }
 
 impl LawfulMember for u32 {
-    ghost same = { unsigned_same };
+    ghost same = { unsigned_equal };
 }
 
 impl Tagged for u64 {
@@ -538,55 +540,55 @@ impl ToDer for u64 {
 }
 
 impl Grammar for u64 {
-    ghost Value = { ℕ };
+    ghost Value = { ℤ };
 
-    ghost value = { λ x. x };
+    ghost value = { pos };
 
-    ghost IsValue = { λ x. x < 256 ^ 8 };
+    ghost IsValue = { IsUnsigned 8 };
 
-    ghost Ber = { BerWord (UnsignedBody 8) };
+    ghost Ber = { BerWord (IntegerBody (IsUnsigned 8)) };
 
-    ghost Der = { DerWord IntegerCheck (UnsignedBody 8) };
+    ghost Der = { DerWord IntegerCheck (IntegerBody (IsUnsigned 8)) };
 
-    ghost Body = { UnsignedBody 8 };
+    ghost Body = { IntegerBody (IsUnsigned 8) };
 
     ghost Check = { IntegerCheck };
 
-    ghost Form = { UnsignedForm 8 };
+    ghost Form = { IntegerForm (IsUnsigned 8) };
 
     ghost takes_memory = { false };
 }
 
 impl LawfulItem for u64 {
-    ghost ber_values = { λ o v w. w.3.fits };
+    ghost ber_values = { λ o v w. w.3.held };
 
-    ghost der_values = { λ o v w. w.3.fits };
+    ghost der_values = { λ o v w. w.3.held };
 
-    ghost body_values = { λ p v o b. b.fits };
+    ghost body_values = { λ p v o b. b.held };
 
     ghost form_values = { λ v i c f. f.1.0 };
 
-    ghost ber_one = { unsigned_ber_one 8 };
+    ghost ber_one = { integer_ber_one (IsUnsigned 8) };
 
-    ghost der_one = { unsigned_der_one 8 };
+    ghost der_one = { integer_der_one (IsUnsigned 8) };
 
-    ghost body_one = { unsigned_one_body 8 };
+    ghost body_one = { integer_one_body (IsUnsigned 8) };
 
-    ghost one_form = { unsigned_one_form 8 };
+    ghost one_form = { integer_one_form (IsUnsigned 8) };
 
-    ghost one_value = { unsigned_one_value 8 };
+    ghost one_value = { integer_one_value (IsUnsigned 8) };
 
-    ghost form_fits = { unsigned_fits 8 };
+    ghost form_fits = { integer_fits (IsUnsigned 8) };
 
-    ghost strict_ber = { unsigned_strict_ber 8 };
+    ghost strict_ber = { integer_strict_ber (IsUnsigned 8) };
 
-    ghost strict_der = { unsigned_strict_der 8 };
+    ghost strict_der = { integer_strict_der (IsUnsigned 8) };
 }
 
 impl<'a> LawfulBody<'a, Error> for u64 {
-    ghost body_exact = { unsigned_exact 8 };
+    ghost body_exact = { integer_exact (IsUnsigned 8) pos (UnsignedRefuses 8) (unsigned_refused 8) };
 
-    ghost form_body = { unsigned_form_body 8 };
+    ghost form_body = { integer_form_body (IsUnsigned 8) };
 
     ghost ber_split = { λ o v w. w };
 
@@ -596,7 +598,7 @@ impl<'a> LawfulBody<'a, Error> for u64 {
 impl LawfulCheck for u64 {
     ghost check_exact = { integer_check_exact };
 
-    ghost form_check = { unsigned_form_check 8 };
+    ghost form_check = { integer_form_check (IsUnsigned 8) };
 }
 
 impl LawfulAuto for u64 {
@@ -608,15 +610,165 @@ impl LawfulAuto for u64 {
 impl LawfulWrite for u64 {
     ghost tells_all = { λ x. tt };
 
-    ghost by_value = { unsigned_by_value };
+    ghost by_value = { integer_by_value pos unsigned_octets unsigned_octets_content };
 
-    ghost form = { unsigned_writes_form 8 };
+    ghost form = { integer_writes_form pos unsigned_octets unsigned_octets_content (IsUnsigned 8) };
 }
 
 impl<const K: u8> TakesClass<K> for u64 {
-    ghost takes_class = { unsigned_takes_class 8 K };
+    ghost takes_class = { integer_takes_class (IsUnsigned 8) K };
 }
 
 impl LawfulMember for u64 {
-    ghost same = { unsigned_same };
+    ghost same = { unsigned_equal };
+}
+
+impl Tagged for u128 {
+    const TAG: Tag = Tag::Integer;
+
+    ghost mark = { record { 0 = integer_number } };
+
+    fn its_tag() -> Tag {
+        Self::TAG
+    }
+}
+
+impl<'a> FromAny<'a> for u128 {
+    type Error = Error;
+
+    ghost any_gives = { UnsignedGives 16 };
+
+    fn try_from_any(_alloc: Global, any: Any<'a>) -> Result<u128, Error> {
+        unsigned_from_any(&any, 16)
+    }
+}
+
+impl CheckDerConstraints for u128 {
+    ghost check_gives = { IntegerCheckGives };
+
+    fn check_constraints(any: &Any<'_>) -> Result<(), Error> {
+        check_integer(any)
+    }
+}
+
+impl DerAutoDerive for u128 {}
+
+impl ToDer for u128 {
+    ghost tells = { λ _. Unit {0} };
+
+    ghost is_writable = { λ _. Unit {0} };
+
+    ghost header = { unsigned_header };
+
+    ghost content = { unsigned_octets };
+
+    ghost constructed = { λ _. false };
+
+    ghost count_takes_memory = { false };
+
+    ghost content_takes_memory = { false };
+
+    fn to_der_len(&self) -> Result<usize, Error> {
+        count_unsigned_element(*self)
+    }
+
+    fn der_content_len(&self) -> Result<usize, Error> {
+        Ok(unsigned_octets_count(*self))
+    }
+
+    fn der_constructed(&self) -> bool {
+        false
+    }
+
+    fn write_der_header<W: DerWrite>(&self, _alloc: Global, w: &mut W) -> SerializeResult<usize> {
+        put_unsigned_header(*self, w)
+    }
+
+    fn write_der_content<W: DerWrite>(&self, _alloc: Global, w: &mut W) -> SerializeResult<usize> {
+        put_unsigned_content(*self, w)
+    }
+}
+
+impl Grammar for u128 {
+    ghost Value = { ℤ };
+
+    ghost value = { pos };
+
+    ghost IsValue = { IsUnsigned 16 };
+
+    ghost Ber = { BerWord (IntegerBody (IsUnsigned 16)) };
+
+    ghost Der = { DerWord IntegerCheck (IntegerBody (IsUnsigned 16)) };
+
+    ghost Body = { IntegerBody (IsUnsigned 16) };
+
+    ghost Check = { IntegerCheck };
+
+    ghost Form = { IntegerForm (IsUnsigned 16) };
+
+    ghost takes_memory = { false };
+}
+
+impl LawfulItem for u128 {
+    ghost ber_values = { λ o v w. w.3.held };
+
+    ghost der_values = { λ o v w. w.3.held };
+
+    ghost body_values = { λ p v o b. b.held };
+
+    ghost form_values = { λ v i c f. f.1.0 };
+
+    ghost ber_one = { integer_ber_one (IsUnsigned 16) };
+
+    ghost der_one = { integer_der_one (IsUnsigned 16) };
+
+    ghost body_one = { integer_one_body (IsUnsigned 16) };
+
+    ghost one_form = { integer_one_form (IsUnsigned 16) };
+
+    ghost one_value = { integer_one_value (IsUnsigned 16) };
+
+    ghost form_fits = { integer_fits (IsUnsigned 16) };
+
+    ghost strict_ber = { integer_strict_ber (IsUnsigned 16) };
+
+    ghost strict_der = { integer_strict_der (IsUnsigned 16) };
+}
+
+impl<'a> LawfulBody<'a, Error> for u128 {
+    ghost body_exact = { integer_exact (IsUnsigned 16) pos (UnsignedRefuses 16) (unsigned_refused 16) };
+
+    ghost form_body = { integer_form_body (IsUnsigned 16) };
+
+    ghost ber_split = { λ o v w. w };
+
+    ghost ber_join = { λ o v w. w };
+}
+
+impl LawfulCheck for u128 {
+    ghost check_exact = { integer_check_exact };
+
+    ghost form_check = { integer_form_check (IsUnsigned 16) };
+}
+
+impl LawfulAuto for u128 {
+    ghost der_split = { λ o v w. w };
+
+    ghost der_join = { λ o v w. w };
+}
+
+impl LawfulWrite for u128 {
+    ghost tells_all = { λ x. tt };
+
+    ghost by_value = { integer_by_value pos unsigned_octets unsigned_octets_content };
+
+    ghost form = { integer_writes_form pos unsigned_octets unsigned_octets_content (IsUnsigned 16) };
+}
+
+impl<const K: u8> TakesClass<K> for u128 {
+    ghost takes_class = { integer_takes_class (IsUnsigned 16) K };
+}
+
+impl LawfulMember for u128 {
+    ghost same = { unsigned_equal };
 }
