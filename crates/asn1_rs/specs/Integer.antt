@@ -5,6 +5,7 @@ use Rattle.x690.specs.Identifiers.{Identifier}
 use Rattle.x690.specs.Lengths.{definite, indefinite}
 use Rattle.x690.specs.Elements.{Parts}
 use Rattle.x690.specs.Integers.{HasSpareZeros, HasSpareOnes, IsShortestInteger, IsIntegerContent, unsigned_octets}
+use Rattle.x690.specs.SignedOctets.{IsSigned, signed_octets}
 use Rattle.x690.specs.Strict.{header_octets}
 use Rattle.asn1_rs.specs.declared.error.Error.{Error}
 use Rattle.asn1_rs.specs.declared.error.Error.TheVariants.{UnexpectedTag, ConstructUnexpected, IndefiniteLengthUnexpected, IntegerNegative, IntegerTooLarge, DerConstraintFailed}
@@ -86,3 +87,15 @@ UnsignedGives size = IntegerGives pos (IsUnsigned size) (UnsignedRefuses size)
 -- the strict header of the element of a natural number
 abbrev pub unsigned_header : ℕ → List ℕ
 unsigned_header v = integer_header (unsigned_octets v)
+
+-- a number that so many octets do not hold is too large
+abbrev pub SignedRefuses : ℕ → List ℕ → Error → Type 0
+SignedRefuses size content e = (¬ IsSigned size (twos_complement_value content)) × (e ≡ IntegerTooLarge)
+
+-- what the conversion to an integer of so many octets may answer
+abbrev pub SignedGives : ℕ → Parts → Result ℤ Error → Type 0
+SignedGives size = IntegerGives (λ n. n) (IsSigned size) (SignedRefuses size)
+
+-- the strict header of the element of an integer
+abbrev pub signed_header : ℤ → List ℕ
+signed_header n = integer_header (signed_octets n)

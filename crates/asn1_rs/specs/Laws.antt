@@ -6,6 +6,7 @@ pub mod Any
 pub mod Element
 pub mod Integer
 pub mod Unsigned
+pub mod Signed
 pub mod ElementWriting
 pub mod Items
 pub mod IndefiniteContents

@@ -22,20 +22,22 @@ use Rattle.asn1_rs.specs.Element.{element_of, ElementBody, ElementCheck, Element
 use Rattle.asn1_rs.specs.Form.{IsOneForm}
 use Rattle.asn1_rs.specs.Wrote.{MayRefuse, tells_of_io}
 use Rattle.asn1_rs.specs.Grammar.{max_depth, IsOneFront, IsOneBody, NoCheck, PassesAll, BerWord, DerWord, BerGives, DerGives, EndsWithin}
-use Rattle.asn1_rs.specs.Integer.{IntegerCheck, IntegerCheckGives, IntegerBody, IntegerForm, IntegerGives, IsUnsigned, UnsignedRefuses}
+use Rattle.asn1_rs.specs.Integer.{IntegerCheck, IntegerCheckGives, IntegerBody, IntegerForm, IntegerGives, IsUnsigned, UnsignedRefuses, SignedRefuses}
 use Rattle.asn1_rs.specs.Laws.Element.{element_body_one, element_one_form, element_check_exact}
 use Rattle.asn1_rs.specs.Laws.Elements.{none_now, der_elements, ber_elements}
 use Rattle.asn1_rs.specs.Laws.Integer.{one_integer_check_refusal, integer_check_exact, one_integer_refusal, integer_one_body, integer_one_form}
+use Rattle.x690.specs.SignedOctets.{IsSigned}
 use Rattle.asn1_rs.specs.Laws.Unsigned.{one_unsigned_refusal}
+use Rattle.asn1_rs.specs.Laws.Signed.{one_signed_refusal}
 use Rattle.asn1_rs.specs.Laws.Words.{one_strict, word_one}
 use Rattle.asn1vec_engine.specs.declared.request.Rule.{Rule}
 use Rattle.asn1vec_engine.specs.declared.request.Rule.TheVariants.{Ber, Der}
 use Rattle.asn1vec_engine.specs.declared.types.TypeName.{TypeName}
-use Rattle.asn1vec_engine.specs.declared.types.TypeName.TheVariants.{U8, U16, U32, U64, U128, Any}
+use Rattle.asn1vec_engine.specs.declared.types.TypeName.TheVariants.{U8, U16, U32, U64, U128, I8, I16, I32, I64, I128, Any}
 use Rattle.asn1vec_engine.specs.Names.{name_of_refusal, name_of_write_refusal}
 use Rattle.asn1vec_engine.specs.Shown.{in_hexadecimal, element_text, WrittenText, StrictText, Says, Same, IsReadAnswer, IsAnswerBy}
 use Rattle.asn1vec_engine.specs.Types.{name_of}
-use Rattle.asn1vec_engine.specs.Answer.{IsIntegerAnswer, IsUnsignedAnswer, IsElementAnswer, IsTypeAnswer, IsRequestAnswer, IsRefusedLine, IsAnswered, IsAnswer, IsAnswerLine, AreAnswers, BeginAnswers}
+use Rattle.asn1vec_engine.specs.Answer.{IsIntegerAnswer, IsUnsignedAnswer, IsSignedAnswer, IsElementAnswer, IsTypeAnswer, IsRequestAnswer, IsRefusedLine, IsAnswered, IsAnswer, IsAnswerLine, AreAnswers, BeginAnswers}
 use Rattle.asn1vec_engine.proofs.OneRefusal.{IsOneRefusal, one_reading_refusal}
 use Rattle.asn1vec_engine.proofs.Split.{requests_same}
 
@@ -131,6 +133,9 @@ integer_once number Holds refuses one = item_once IntegerCheckGives (IntegerGive
 unsigned_once : (size : ℕ) (rule : Rule) (octets text other : List ℕ) → IsUnsignedAnswer size rule octets text → IsUnsignedAnswer size rule octets other → text ≡ other
 unsigned_once size = integer_once pos (IsUnsigned size) (UnsignedRefuses size) (one_unsigned_refusal size)
 
+signed_once : (size : ℕ) (rule : Rule) (octets text other : List ℕ) → IsSignedAnswer size rule octets text → IsSignedAnswer size rule octets other → text ≡ other
+signed_once size = integer_once (λ n. n) (IsSigned size) (SignedRefuses size) (one_signed_refusal size)
+
 one_element_check_refusal : IsOneRefusal IsDefiniteOr
 one_element_check_refusal p e f h k = h.1 ∙ sym k.1
 
@@ -144,13 +149,18 @@ type_once rule U16 octets text other a b = unsigned_once 2 rule octets text othe
 type_once rule U32 octets text other a b = unsigned_once 4 rule octets text other a b
 type_once rule U64 octets text other a b = unsigned_once 8 rule octets text other a b
 type_once rule U128 octets text other a b = unsigned_once 16 rule octets text other a b
+type_once rule I8 octets text other a b = signed_once 1 rule octets text other a b
+type_once rule I16 octets text other a b = signed_once 2 rule octets text other a b
+type_once rule I32 octets text other a b = signed_once 4 rule octets text other a b
+type_once rule I64 octets text other a b = signed_once 8 rule octets text other a b
+type_once rule I128 octets text other a b = signed_once 16 rule octets text other a b
 type_once rule Any octets text other a b = element_once rule octets text other a b
 
 -- ---- a line
 
 -- the type that has a name
 named : List ℕ → Option TypeName
-named name = find (λ t. pointwise eqb name (name_of t)) (U8 ∷ U16 ∷ U32 ∷ U64 ∷ U128 ∷ Any ∷ [])
+named name = find (λ t. pointwise eqb name (name_of t)) (U8 ∷ U16 ∷ U32 ∷ U64 ∷ U128 ∷ I8 ∷ I16 ∷ I32 ∷ I64 ∷ I128 ∷ Any ∷ [])
 
 named_by_its_name : (t : TypeName) → named (name_of t) ≡ Some t
 unfolding named
@@ -159,6 +169,11 @@ named_by_its_name U16 = refl
 named_by_its_name U32 = refl
 named_by_its_name U64 = refl
 named_by_its_name U128 = refl
+named_by_its_name I8 = refl
+named_by_its_name I16 = refl
+named_by_its_name I32 = refl
+named_by_its_name I64 = refl
+named_by_its_name I128 = refl
 named_by_its_name Any = refl
 
 one_type : (name : List ℕ) (t s : TypeName) → name ≡ name_of t → name ≡ name_of s → t ≡ s

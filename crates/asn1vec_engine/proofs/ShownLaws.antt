@@ -21,6 +21,8 @@ use Rattle.asn1_rs.specs.Laws.Forms.{universal}
 use Rattle.x690.specs.Laws.StrictElements.{element_octets, made_strict_element}
 use Rattle.x690.specs.Laws.UnsignedOctets.{unsigned_octets_content, unsigned_octets_few}
 use Rattle.x690.specs.Integers.{IsIntegerContent, unsigned_octets}
+use Rattle.x690.specs.SignedOctets.{IsSigned, signed_octets}
+use Rattle.x690.specs.Laws.SignedOctets.{signed_octets_content, signed_octets_few}
 use Rattle.asn1vec_engine.specs.Names.{name_of_write_refusal}
 use Rattle.asn1vec_engine.specs.Shown.{in_hexadecimal, StrictText, Says, Same, IsReadAnswer}
 
@@ -57,6 +59,11 @@ pub strict_unsigned : (size k : ℕ) → size ≤ 16 → k < 256 ^ size → (o :
 strict_unsigned size k most fits =
     let few : length (unsigned_octets k) ≤ size + 1 = unsigned_octets_few k size fits in
     strict_number (IsUnsigned size) (pos k) (unsigned_octets k) (k, refl, fits) (unsigned_octets_content k) (omega (arith, few))
+
+pub strict_signed : (size : ℕ) (n : ℤ) → 1 ≤ size → size ≤ 16 → IsSigned size n → (o : List ℕ) × IsStrict (IntegerForm (IsSigned size)) n o
+strict_signed size n some most held =
+    let few = signed_octets_few n size some held in
+    strict_number (IsSigned size) n (signed_octets n) held (signed_octets_content n) (omega (arith, few))
 
 few_classes : (class : Class) → class_number class < 4
 few_classes Universal = omega arith

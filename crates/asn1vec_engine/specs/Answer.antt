@@ -1,15 +1,16 @@
 -- The answers to lines.
 use Rattle.std.specs.Prelude.{◌≡◌, ◌≢◌, ℕ, ℤ, pos, ◌<◌, ◌≤◌, List, [], ◌∷◌, ◌++◌, length, codes, false, ◌⊎◌}
 use Rattle.std.specs.Fmt.{signed_decimal}
+use Rattle.x690.specs.SignedOctets.{IsSigned}
 use Rattle.asn1_rs.specs.declared.error.Error.{Error}
 use Rattle.asn1_rs.specs.declared.asn1_types.any.Any.{Any as Read}
 use Rattle.asn1_rs.specs.Any.{IsTheElement, IsDefiniteOr}
 use Rattle.asn1_rs.specs.Element.{Element, element_of, ElementBody, ElementCheck, ElementForm}
 use Rattle.asn1_rs.specs.Grammar.{BerWord, DerWord, BerGives, DerGives}
-use Rattle.asn1_rs.specs.Integer.{IntegerCheck, IntegerCheckGives, IntegerBody, IntegerForm, IntegerGives, IsUnsigned, UnsignedRefuses}
+use Rattle.asn1_rs.specs.Integer.{IntegerCheck, IntegerCheckGives, IntegerBody, IntegerForm, IntegerGives, IsUnsigned, UnsignedRefuses, SignedRefuses}
 use Rattle.asn1vec_engine.specs.declared.request.Rule.{Rule}
 use Rattle.asn1vec_engine.specs.declared.types.TypeName.{TypeName}
-use Rattle.asn1vec_engine.specs.declared.types.TypeName.TheVariants.{U8, U16, U32, U64, U128, Any}
+use Rattle.asn1vec_engine.specs.declared.types.TypeName.TheVariants.{U8, U16, U32, U64, U128, I8, I16, I32, I64, I128, Any}
 use Rattle.asn1vec_engine.specs.Request.{IsRequest, IsOtherForm}
 use Rattle.asn1vec_engine.specs.Shown.{IsAnswerBy, Same, StrictText, element_text}
 use Rattle.asn1vec_engine.specs.Types.{name_of}
@@ -23,6 +24,10 @@ IsIntegerAnswer {T} number Holds refuses = IsAnswerBy {T = T} {V = ℤ} (BerWord
 abbrev pub IsUnsignedAnswer : ℕ → Rule → List ℕ → List ℕ → Type 0
 IsUnsignedAnswer size = IsIntegerAnswer {T = ℕ} pos (IsUnsigned size) (UnsignedRefuses size)
 
+-- and that of the signed ones
+abbrev pub IsSignedAnswer : ℕ → Rule → List ℕ → List ℕ → Type 0
+IsSignedAnswer size = IsIntegerAnswer {T = ℤ} (λ n. n) (IsSigned size) (SignedRefuses size)
+
 -- the answer of elements of any type: what they say, with the strict encoding that each of them has
 abbrev pub IsElementAnswer : Rule → List ℕ → List ℕ → Type 0
 IsElementAnswer = IsAnswerBy {T = Read} {V = Element} (BerWord ElementBody) (DerWord ElementCheck ElementBody) element_of false
@@ -35,6 +40,11 @@ IsTypeAnswer rule U16 = IsUnsignedAnswer 2 rule
 IsTypeAnswer rule U32 = IsUnsignedAnswer 4 rule
 IsTypeAnswer rule U64 = IsUnsignedAnswer 8 rule
 IsTypeAnswer rule U128 = IsUnsignedAnswer 16 rule
+IsTypeAnswer rule I8 = IsSignedAnswer 1 rule
+IsTypeAnswer rule I16 = IsSignedAnswer 2 rule
+IsTypeAnswer rule I32 = IsSignedAnswer 4 rule
+IsTypeAnswer rule I64 = IsSignedAnswer 8 rule
+IsTypeAnswer rule I128 = IsSignedAnswer 16 rule
 IsTypeAnswer rule Any = IsElementAnswer rule
 
 -- the answer to a request: of the type that has the name, by the rule, or that there is none

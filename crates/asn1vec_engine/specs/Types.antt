@@ -1,7 +1,7 @@
 -- The names of types.
 use Rattle.std.specs.Prelude.{List, ℕ, codes}
 use Rattle.asn1vec_engine.specs.declared.types.TypeName.{TypeName}
-use Rattle.asn1vec_engine.specs.declared.types.TypeName.TheVariants.{U8, U16, U32, U64, U128, Any}
+use Rattle.asn1vec_engine.specs.declared.types.TypeName.TheVariants.{U8, U16, U32, U64, U128, I8, I16, I32, I64, I128, Any}
 
 abbrev pub name_of : TypeName → List ℕ
 name_of U8 = codes "u8"
@@ -9,4 +9,9 @@ name_of U16 = codes "u16"
 name_of U32 = codes "u32"
 name_of U64 = codes "u64"
 name_of U128 = codes "u128"
+name_of I8 = codes "i8"
+name_of I16 = codes "i16"
+name_of I32 = codes "i32"
+name_of I64 = codes "i64"
+name_of I128 = codes "i128"
 name_of Any = codes "any"

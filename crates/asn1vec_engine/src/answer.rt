@@ -21,6 +21,11 @@ fn answer_type(alloc: Global, rule: Rule, t: TypeName, octets: &[u8]) -> Result<
         TypeName::U32 => answer_by::<u32>(alloc, rule, octets),
         TypeName::U64 => answer_by::<u64>(alloc, rule, octets),
         TypeName::U128 => answer_by::<u128>(alloc, rule, octets),
+        TypeName::I8 => answer_by::<i8>(alloc, rule, octets),
+        TypeName::I16 => answer_by::<i16>(alloc, rule, octets),
+        TypeName::I32 => answer_by::<i32>(alloc, rule, octets),
+        TypeName::I64 => answer_by::<i64>(alloc, rule, octets),
+        TypeName::I128 => answer_by::<i128>(alloc, rule, octets),
         TypeName::Any => answer_by::<Any<'_>>(alloc, rule, octets),
     }
 }

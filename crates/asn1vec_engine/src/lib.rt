@@ -7,6 +7,7 @@ mod engine;
 mod names;
 mod request;
 mod shown;
+mod signed;
 mod types;
 mod unsigned;
 

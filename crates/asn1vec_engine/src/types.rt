@@ -11,16 +11,26 @@ pub(crate) enum TypeName {
     U32,
     U64,
     U128,
+    I8,
+    I16,
+    I32,
+    I64,
+    I128,
     Any,
 }
 
 /// Every type, once.
-const TYPES: [TypeName; 6] = [
+const TYPES: [TypeName; 11] = [
     TypeName::U8,
     TypeName::U16,
     TypeName::U32,
     TypeName::U64,
     TypeName::U128,
+    TypeName::I8,
+    TypeName::I16,
+    TypeName::I32,
+    TypeName::I64,
+    TypeName::I128,
     TypeName::Any,
 ];
 
@@ -35,6 +45,11 @@ impl TypeName {
             TypeName::U32 => "u32",
             TypeName::U64 => "u64",
             TypeName::U128 => "u128",
+            TypeName::I8 => "i8",
+            TypeName::I16 => "i16",
+            TypeName::I32 => "i32",
+            TypeName::I64 => "i64",
+            TypeName::I128 => "i128",
             TypeName::Any => "any",
         }
     }

@@ -4,8 +4,9 @@ ghost use Rattle.x690.specs.Elements.{Parts};
 ghost use Rattle.asn1_rs.specs.declared.error.Error.{Error as Fault};
 ghost use Rattle.x690.specs.Digits.{twos_complement_value};
 ghost use Rattle.x690.specs.Integers.{unsigned_octets};
+ghost use Rattle.x690.specs.SignedOctets.{signed_octets};
 ghost use Rattle.asn1_rs.specs.Any.{parts_of};
-ghost use Rattle.asn1_rs.specs.Integer.{IntegerCheckGives, IsUnsigned, UnsignedRefuses, UnsignedGives, unsigned_header};
+ghost use Rattle.asn1_rs.specs.Integer.{IntegerCheckGives, IsUnsigned, UnsignedRefuses, UnsignedGives, unsigned_header, SignedGives, signed_header};
 ghost use Rattle.asn1_rs.specs.Wrote.{Wrote, MayRefuse, MayRefuseCount};
 
 use crate::asn1_types::any::Any;
@@ -16,6 +17,7 @@ use crate::writer::{DerWrite, put_all};
 use x690::integers::{
     has_spare_ones, has_spare_zeros, unsigned_into, unsigned_number, unsigned_octets_count,
 };
+use x690::signed::{signed_into, signed_number, signed_octets_count};
 
 /// Refuses an element that is constructed, has an indefinite length, or whose contents octets are not the fewest of
 /// their number (X.690 8.3.1, 8.3.2). It is the check of all integers.
@@ -85,8 +87,47 @@ pub(crate) fn put_unsigned_content<W: DerWrite>(n: u128, w: &mut W) -> Serialize
     put_all(w, &octets[first..])
 }
 
-/// The check of an integer allows one refusal for one element, and so does the conversion to a natural number.
+/// The integer of an element, which fits in so many octets.
+pub(crate) fn signed_from_any(any: &Any<'_>, size: usize) -> Result<i128, Error>
+    requires some { 1 ≤ size }
+    requires few { size ≤ 16 }
+    ensures { SignedGives size (parts_of any.now) result }
+{
+    any.header.assert_tag(Tag::Integer)?;
+    any.header.assert_primitive()?;
+    signed_number(any.content, size).ok_or(Error::IntegerTooLarge)
+}
+
+/// How many octets the element of an integer has.
+pub(crate) fn count_signed_element(n: i128) -> Result<usize, Error>
+    ensures count { IfOk result (λ count. count ≡ length (signed_header n ++ signed_octets n)) }
+    ensures writable { IfErr result (MayRefuseCount false (length (signed_header n ++ signed_octets n))) }
+{
+    element_len(Tag::Integer.0, Ok(signed_octets_count(n)))
+}
+
+/// Appends the strict header of the element of an integer, and answers its length.
+pub(crate) fn put_signed_header<W: DerWrite>(n: i128, w: &mut W) -> SerializeResult<usize>
+    ensures wrote { Wrote (signed_header n) (W.told w.old) (W.told w.new) (W.failed w.old) (W.failed w.new) result }
+    ensures writable { IfErr result (MayRefuse false (length (signed_header n ++ signed_octets n))) }
+{
+    put_header(0, false, Tag::Integer.0, signed_octets_count(n), w)
+}
+
+/// Appends the strict contents octets of an integer, and answers their number.
+pub(crate) fn put_signed_content<W: DerWrite>(n: i128, w: &mut W) -> SerializeResult<usize>
+    ensures wrote { Wrote (signed_octets n) (W.told w.old) (W.told w.new) (W.failed w.old) (W.failed w.new) result }
+    ensures writable { IfErr result (MayRefuse false (length (signed_octets n))) }
+{
+    let mut octets = [0; 17];
+    let first = signed_into(n, &mut octets);
+    put_all(w, &octets[first..])
+}
+
+/// The check of an integer allows one refusal for one element, and so does the conversion to a natural number,
+/// and to an integer.
 pub fn integers_have_one_refusal()
     ensures check { (p : Parts) (e f : Fault) → IntegerCheckGives p (Err e) → IntegerCheckGives p (Err f) → e ≡ f }
     ensures unsigned { (size : ℕ) (p : Parts) (e f : Fault) → UnsignedGives size p (Err e) → UnsignedGives size p (Err f) → e ≡ f }
+    ensures signed { (size : ℕ) (p : Parts) (e f : Fault) → SignedGives size p (Err e) → SignedGives size p (Err f) → e ≡ f }
 {}

@@ -4,4 +4,5 @@ pub mod any;
 pub mod any_writing;
 pub mod integer;
 pub mod sequence_iterator;
+mod signed;
 mod unsigned;
