@@ -20,3 +20,4 @@ pub mod StrictHeaders
 pub mod StrictElements
 pub mod Integers
 pub mod UnsignedOctets
+pub mod SignedOctets

@@ -9,4 +9,5 @@ pub mod Contents
 pub mod FaultHeaders
 pub mod Strict
 pub mod Integers
+pub mod SignedOctets
 pub mod Laws

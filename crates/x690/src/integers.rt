@@ -3,6 +3,7 @@
 ghost use Rattle.std.specs.Prelude.{ℕ, ◌≡◌, ◌<◌, ◌≤◌, ◌^◌, List, length, get_or, drop, pos, ℤ, IfSome, IfNone, IsTrue, ◌↔◌};
 ghost use Rattle.x690.specs.Digits.{base_256_value};
 ghost use Rattle.x690.specs.Integers.{HasSpareZeros, HasSpareOnes, IsIntegerContent, HasNoLeadingZero, unsigned_octets};
+ghost use Rattle.x690.specs.SignedOctets.{signed_octets};
 
 /// The octets behind the leading zeros, which say the same number.
 fn without_leading_zeros(octets: &[u8]) -> &[u8]
@@ -83,10 +84,11 @@ pub fn has_spare_ones(octets: &[u8]) -> bool
     octets.len() >= 2 && octets[0] == 255 && octets[1] >= 128
 }
 
-/// Each natural number has strict contents octets, no integer has two, and strict contents octets are those of
+/// Each integer has strict contents octets, no integer has two, and strict contents octets are those of
 /// one integer alone (X.690 8.3.2, 8.3.3).
 pub fn integers_have_one_content()
-    ensures exists { (n : ℕ) → IsIntegerContent (pos n) (unsigned_octets n) }
+    ensures exists { (n : ℤ) → IsIntegerContent n (signed_octets n) }
+    ensures of_natural { (n : ℕ) → IsIntegerContent (pos n) (unsigned_octets n) }
     ensures no_other { (n : ℤ) (c d : List ℕ) → IsIntegerContent n c → IsIntegerContent n d → c ≡ d }
     ensures one_value { (m n : ℤ) (c : List ℕ) → IsIntegerContent m c → IsIntegerContent n c → m ≡ n }
 {}

@@ -8,6 +8,7 @@ pub mod integers;
 pub mod lengths;
 pub mod nested;
 pub mod octets;
+pub mod signed;
 pub mod strict;
 
 ghost use Rattle.std.specs.Prelude.{ℕ, List, ◌≡◌, ◌++◌};
@@ -29,6 +30,7 @@ pub use nested::{
     nested_faults_are_final, one_nested_fault,
 };
 pub use octets::{dictionary_order_is_total, first_difference_decides};
+pub use signed::octets_hold_their_integers;
 
 /// Octet strings, one after the other, are an octet string.
 pub fn octets_join()

@@ -36,7 +36,7 @@ value_high first others h =
     omega (arith, ints, e)
 
 -- a bound that needs the first nine bits to differ
-shortest_low : (first second : ℕ) (others : List ℕ) → ¬ HasSpareZeros (first ∷ second ∷ others) → 128 * 256 ^ length others ≤ base_256_value (first ∷ second ∷ others)
+pub shortest_low : (first second : ℕ) (others : List ℕ) → ¬ HasSpareZeros (first ∷ second ∷ others) → 128 * 256 ^ length others ≤ base_256_value (first ∷ second ∷ others)
 shortest_low first second others h =
     let w : 256 ^ suc (length others) ≡ 256 ^ length others * 256 = pow-suc 256 (length others) in
     elim (cases_lt 0 first) [
@@ -47,7 +47,7 @@ shortest_low first second others h =
       ]
     ]
 
-shortest_high : (first second : ℕ) (others : List ℕ) → IsOctets (first ∷ second ∷ others) → ¬ HasSpareOnes (first ∷ second ∷ others) → base_256_value (first ∷ second ∷ others) + 128 * 256 ^ length others < 256 ^ length (first ∷ second ∷ others)
+pub shortest_high : (first second : ℕ) (others : List ℕ) → IsOctets (first ∷ second ∷ others) → ¬ HasSpareOnes (first ∷ second ∷ others) → base_256_value (first ∷ second ∷ others) + 128 * 256 ^ length others < 256 ^ length (first ∷ second ∷ others)
 shortest_high first second others o h =
     let w : 256 ^ suc (length others) ≡ 256 ^ length others * 256 = pow-suc 256 (length others) in
     let v : 256 ^ suc (suc (length others)) ≡ 256 ^ suc (length others) * 256 = pow-suc 256 (suc (length others)) in

@@ -1,0 +1,94 @@
+//! Contents octets of integers of either sign (X.690 8.3).
+
+ghost use Rattle.std.specs.Prelude.{ℕ, ℤ, List, ◌≡◌, ◌<◌, ◌≤◌, ◌⊎◌, ◌↔◌, length, get_or, map, drop, pos, negsuc, IfSome, IfNone, IsTrue};
+ghost use Rattle.x690.specs.Octets.{IsOctets};
+ghost use Rattle.x690.specs.Digits.{twos_complement_value};
+ghost use Rattle.x690.specs.Integers.{HasSpareZeros, HasSpareOnes};
+ghost use Rattle.x690.specs.SignedOctets.{complement, signed_octets, IsSigned};
+
+use crate::integers::{has_spare_ones, has_spare_zeros, unsigned_into, unsigned_octets_count};
+
+/// The octets behind those in front that could be left out, which say the same integer (X.690 8.3.2).
+fn without_spare_octets(octets: &[u8]) -> &[u8]
+    ensures value { twos_complement_value result.now ≡ twos_complement_value octets.now }
+    ensures zeros { ¬ HasSpareZeros result.now }
+    ensures ones { ¬ HasSpareOnes result.now }
+{
+    let mut rest = octets;
+    while has_spare_zeros(rest) || has_spare_ones(rest) {
+        rest = &rest[1..];
+    }
+    rest
+}
+
+/// Whether the first bit is set.
+fn is_negative(octets: &[u8]) -> bool
+    ensures { IsTrue result ↔ (128 ≤ get_or octets.now 0 0) }
+{
+    !octets.is_empty() && octets[0] >= 128
+}
+
+/// The integer that the octets are in two's complement: no octet is 0, and octets in front that could be left out
+/// say nothing. There is none exactly where the integer does not fit in `most` octets (X.690 8.3.3).
+pub fn signed_number(octets: &[u8], most: usize) -> Option<i128>
+    requires some { 1 ≤ most }
+    requires few { most ≤ 16 }
+    ensures value { IfSome result (λ number. number ≡ twos_complement_value octets.now) }
+    ensures fits { IfSome result (λ number. IsSigned most number) }
+    ensures none { IfNone result (¬ IsSigned most (twos_complement_value octets.now)) }
+{
+    let rest = without_spare_octets(octets);
+    if rest.len() > most {
+        return None;
+    }
+    let negative = is_negative(rest);
+    let mut number: i128 = if negative { -1 } else { 0 };
+    for octet in rest {
+        number = number * 256 + i128::from(*octet);
+    }
+    Some(number)
+}
+
+/// The natural number whose strict contents octets those of the integer are, or are with each bit turned over.
+fn without_sign(n: i128) -> u128
+    ensures { (n ≡ pos result) ⊎ (n ≡ negsuc result) }
+{
+    if n < 0 { (-1 - n) as u128 } else { n as u128 }
+}
+
+/// How many octets the strict contents octets of an integer are (X.690 8.3.2, 8.3.3).
+pub fn signed_octets_count(n: i128) -> usize
+    ensures count { result ≡ length (signed_octets n) }
+    ensures few { result ≤ 16 }
+{
+    unsigned_octets_count(without_sign(n))
+}
+
+/// Turns each bit over.
+fn turn_over(octets: &mut [u8])
+    ensures { octets.new ≡ map complement octets.old }
+{
+    for octet in octets.iter_mut() {
+        *octet = 255 - *octet;
+    }
+}
+
+/// Writes the strict contents octets of an integer to the end of the array, and says where they begin
+/// (X.690 8.3.2, 8.3.3).
+pub fn signed_into(n: i128, out: &mut [u8; 17]) -> usize
+    ensures octets { drop result out.new ≡ signed_octets n }
+    ensures within { result ≤ 16 }
+{
+    let at = unsigned_into(without_sign(n), out);
+    if n < 0 {
+        turn_over(&mut out[at..]);
+    }
+    at
+}
+
+/// So many octets hold an integer exactly where its strict contents octets are no more, and no more octets than
+/// these are an integer that so many do not hold (X.690 8.3.2, 8.3.3).
+pub fn octets_hold_their_integers()
+    ensures strict { (n : ℤ) (size : ℕ) → 1 ≤ size → IsSigned size n ↔ (length (signed_octets n) ≤ size) }
+    ensures each { (octets : List ℕ) (size : ℕ) → IsOctets octets → length octets ≤ size → IsSigned size (twos_complement_value octets) }
+{}
