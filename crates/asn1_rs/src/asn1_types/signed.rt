@@ -9,8 +9,7 @@ ghost use Rattle.asn1_rs.specs.Laws.Signed.{signed_refused, signed_equal};
 
 use crate::asn1_types::any::Any;
 use crate::asn1_types::integer::{
-    check_integer, count_signed_element, put_signed_content, put_signed_header,
-    signed_from_any,
+    check_integer, count_signed_element, put_signed_content, put_signed_header, signed_from_any,
 };
 use crate::error::{Error, SerializeResult};
 use crate::laws::{
