@@ -1,5 +1,5 @@
 -- Laws of the strict contents octets of integers (X.690 8.3).
-use Rattle.std.proofs.Common.{◌≡◌, ◌≢◌, ℕ, zero, suc, ◌+◌, ◌-◌, ◌*◌, ◌^◌, ◌<◌, ◌≤◌, ◌⊎◌, ◌↔◌, List, [], ◌∷◌, length, map, drop, get_or, ℤ, pos, negsuc, ◌+ℤ◌, refl, sym, ap, ◌∙◌, arith, subst, inl, inr, lit≤}
+use Rattle.std.proofs.Common.{◌≡◌, ◌≢◌, ℕ, zero, suc, ◌+◌, ◌-◌, ◌*◌, ◌^◌, ◌<◌, ◌≤◌, ◌⊎◌, ◌↔◌, List, [], ◌∷◌, length, map, drop, get_or, ℤ, pos, negsuc, refl, sym, ap, ◌∙◌, arith, subst, inl, inr, lit≤}
 use Rattle.std.proofs.Math.Nat.{pow-suc, pow-le-pow_right}
 use Rattle.std.proofs.lemmas.Int.{ints}
 use Rattle.std.proofs.lemmas.Bool.{cases_lt}
@@ -116,3 +116,18 @@ signed_octets_fit n size l =
 
 pub signed_octets_count : (n : ℤ) (size : ℕ) → 1 ≤ size → IsSigned size n ↔ (length (signed_octets n) ≤ size)
 signed_octets_count n size some = (signed_octets_few n size some, signed_octets_fit n size)
+
+-- an octet in front that could be left out says nothing
+pub spare_zeros_say_nothing : (octets : List ℕ) → HasSpareZeros octets → twos_complement_value (drop 1 octets) ≡ twos_complement_value octets
+spare_zeros_say_nothing [] h = absurd h
+spare_zeros_say_nothing (first ∷ []) h = absurd h
+spare_zeros_say_nothing (first ∷ second ∷ others) h =
+    let m = ap (λ (n : ℕ). n * 256 ^ suc (length others)) h.0 in
+    omega (arith, ints, value_low first (second ∷ others) (omega (arith, h.0)), value_low second others h.1, m)
+
+pub spare_ones_say_nothing : (octets : List ℕ) → HasSpareOnes octets → twos_complement_value (drop 1 octets) ≡ twos_complement_value octets
+spare_ones_say_nothing [] h = absurd h
+spare_ones_say_nothing (first ∷ []) h = absurd h
+spare_ones_say_nothing (first ∷ second ∷ others) h =
+    let m = ap (λ (n : ℕ). n * 256 ^ suc (length others)) h.0 in
+    omega (arith, ints, value_high first (second ∷ others) (omega (arith, h.0)), value_high second others h.1, m, pow-suc 256 (suc (length others)))

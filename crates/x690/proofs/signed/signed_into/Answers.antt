@@ -1,4 +1,4 @@
-use Rattle.std.proofs.Common.{ℕ, ℤ, ◌≡◌, ◌-◌, ◌<◌, ◌≤◌, ◌⊎◌, inl, inr, List, ◌++◌, [], ◌∷◌, map, take, drop, pos, negsuc, length, sym, ap, ◌∙◌, arith, FitsSigned, ◌<ℤ◌, ◌≤ℤ◌, length-drop, append-nil}
+use Rattle.std.proofs.Common.{ℕ, ℤ, ◌≡◌, ◌-◌, ◌≤◌, ◌⊎◌, inl, inr, List, ◌++◌, map, take, drop, pos, negsuc, length, sym, ap, ◌∙◌, arith, FitsSigned, ◌<ℤ◌, ◌≤ℤ◌, length-drop, append-nil}
 use Rattle.std.specs.Int.{w128}
 use Rattle.std.proofs.lemmas.Int.{ints, to_z-of_z}
 use Rattle.std.proofs.lemmas.List.{drop_at, length-take-le, take_all, drop_all}

@@ -1,6 +1,6 @@
-use Rattle.std.proofs.Common.{rules, ℕ, ℤ, ◌≡◌, ◌+◌, ◌<◌, length, take, get_or, pos, ◌+ℤ◌, ◌*ℤ◌, arith, subst, sym, ap, ◌∙◌, to_z, FitsSigned}
+use Rattle.std.proofs.Common.{rules, ◌≡◌, arith, subst, sym, ap, ◌∙◌, to_z}
 use Rattle.std.specs.Int.{w128}
-use Rattle.std.proofs.lemmas.Int.{ints, to_z-of_z}
+use Rattle.std.proofs.lemmas.Int.{ints}
 use Rattle.std.proofs.lemmas.List.{take_all}
 use Rattle.x690.specs.Octets.{IsOctets}
 use Rattle.x690.specs.Digits.{twos_complement_value}

@@ -1,4 +1,4 @@
-use Rattle.std.proofs.Common.{ℕ, ℤ, ◌≡◌, ◌⊎◌, pos, negsuc, length, sym, ◌∙◌, arith, FitsSigned}
+use Rattle.std.proofs.Common.{◌≡◌, ◌⊎◌, pos, negsuc, sym, ◌∙◌, arith, FitsSigned}
 use Rattle.std.specs.Int.{w128}
 use Rattle.std.proofs.lemmas.Int.{ints, to_z-of_z}
 use Rattle.x690.specs.SignedOctets.{IsSigned}
