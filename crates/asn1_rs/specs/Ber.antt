@@ -38,3 +38,7 @@ BerContentGives constructed form zero input answer = answer ≡ Err (refused Ber
 BerContentGives false indefinite (suc depth) input answer = answer ≡ Err (refused ConstructExpected)
 BerContentGives constructed form (suc depth) input (Ok x) = (headers : ℕ) × IsContent form depth input x.1.now x.0.now headers
 BerContentGives constructed form (suc depth) input (Err r) = Refused (ContentFault form depth) ber_refusal input r
+
+-- as many headers of the input were counted as the relation says of it
+abbrev pub Counted : (List ℕ → ℕ → Type 0) → List ℕ → ℕ → ℕ → Type 0
+Counted Headers input before after = (headers : ℕ) × Headers input headers × (after ≡ before + headers)

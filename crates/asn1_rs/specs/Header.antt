@@ -102,3 +102,7 @@ BeginsWithBoth input rest x length = (mid : List ℕ) × BeginsWithIdentifier in
 abbrev pub HeaderGives : (Identifier → Bool) → (Fault → Refusal Error) → List ℕ → Result (List ℕ × Header) (Refusal Error) → Type 0
 HeaderGives rule refusal input (Ok x) = BeginsInput rule input x.0 x.1
 HeaderGives rule refusal input (Err r) = Refused (HeaderFault rule) refusal input r
+
+-- The header's identifier octets are those at the front of the octets, and it keeps them.
+abbrev pub KeepsIdentifier : List ℕ → Header → Type 0
+KeepsIdentifier input h = (identifier rest : List ℕ) × IsIdentifier identifier (identifier_of h) × (input ≡ identifier ++ rest) × (raw_tag_of h ≡ Some identifier)

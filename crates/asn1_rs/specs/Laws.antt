@@ -6,3 +6,5 @@ pub mod Any
 pub mod Element
 pub mod Integer
 pub mod ElementWriting
+pub mod Items
+pub mod IndefiniteContents

@@ -13,3 +13,4 @@ pub mod Grammar
 pub mod Integer
 pub mod Laws
 pub mod Element
+pub mod Items

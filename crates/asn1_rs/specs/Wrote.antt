@@ -97,3 +97,7 @@ pub record PutOnce (piece : List ℕ) (old new : Option (List ℕ)) (was is : Bo
   pub mark : is ≡ (put_fails put piece || was)
   pub marked : IsTrue was → IsErr put
   pub answered : PutAnswer put answer
+
+-- The refusal is that of the last call of `put`, on what was left of the piece, which left the writer as it is.
+abbrev pub PutFailed : {W : Type 0} → (W → Option (List ℕ)) → (W → Bool) → List ℕ → W → SerializeError → Type 0
+PutFailed {W} told failed piece after e = (front rest : List ℕ) × (before : W) × (piece ≡ front ++ rest) × PutOnce rest (told before) (told after) (failed before) (failed after) (Err e)

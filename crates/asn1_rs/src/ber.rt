@@ -1,17 +1,18 @@
 //! Reading elements and their contents octets (X.690 8.1).
-ghost use Rattle.std.specs.Prelude.{◌≡◌, ℕ, ◌+◌, ◌-◌, ◌*◌, ◌^◌, ◌<◌, ◌≤◌, Bool, List, ◌++◌, length, Result, IfOk, IfErr, IfSome, IfNone};
+ghost use Rattle.std.specs.Prelude.{◌≡◌, ℕ, ◌+◌, ◌-◌, ◌*◌, ◌^◌, ◌<◌, ◌≤◌, Bool, List, ◌++◌, length, Result, IfOk, IfErr, IfSome, IfNone, OnErr};
 ghost use Rattle.std.specs.Borrow.{Bor};
 ghost use Rattle.x690.specs.Lengths.{LengthForm};
 ghost use Rattle.x690.specs.Elements.{IsDefiniteElement};
 ghost use Rattle.x690.specs.Faults.{DefiniteElementFault};
 ghost use Rattle.x690.specs.Nested.{IsElement, ElementFault, end_of_contents};
 ghost use Rattle.x690.specs.Contents.{IsEndedContent, EndFault, IsContent, ContentFault};
+ghost use Rattle.x690.specs.FaultHeaders.{FaultHeaders, EndFaultHeaders, ContentFaultHeaders};
 ghost use Rattle.asn1_rs.specs.declared.error.Err.{Err as Refusal};
 ghost use Rattle.asn1_rs.specs.declared.error.Error.{Error as Fault};
 ghost use Rattle.asn1_rs.specs.Answers.{seen};
-ghost use Rattle.asn1_rs.specs.Header.{Refused, der_refusal, ber_refusal, is_constructed_of, length_of};
+ghost use Rattle.asn1_rs.specs.Header.{Refused, der_refusal, ber_refusal, is_constructed_of, length_of, KeepsIdentifier};
 ghost use Rattle.asn1_rs.specs.Length.{form_of};
-ghost use Rattle.asn1_rs.specs.Ber.{count_of, BerContentGives, CountedElement};
+ghost use Rattle.asn1_rs.specs.Ber.{count_of, BerContentGives, CountedElement, Counted};
 ghost use Rattle.asn1_rs.specs.Grammar.{max_depth, EndsWithin};
 ghost use Rattle.asn1_rs.specs.Laws.Any.{RefusalLasts, ElementLasts};
 ghost use Rattle.asn1_rs.specs.Any.{parts_of, AnyGives, Splits, DerContentGives};
@@ -50,7 +51,7 @@ pub(crate) fn element_by_der(bytes: &[u8]) -> ParseResult<'_, Any<'_>, Error>
     }
 }
 
-/// How deep elements of indefinite length may nest.
+/// How deep elements may nest by BER (X.690 8.1.3.6, 8.1.5): 49 of indefinite length at most, one in the other.
 pub const MAX_RECURSION: usize = 50;
 
 /// Counts the headers that are read.
@@ -99,6 +100,7 @@ fn skip_content<'a>(
     requires room { count_of steps.old + length bytes.now < 2 ^ 64 }
     ensures ok { IfOk result (λ rest. (content : List ℕ) × (inner : ℕ) × IsEndedContent (max_depth - 1) bytes.now content rest.now inner × (count_of steps.new ≡ count_of steps.old + (inner + 1))) }
     ensures err { IfErr result (Refused (EndFault (max_depth - 1)) ber_refusal bytes.now) }
+    ensures stops { OnErr result (Counted (EndFaultHeaders (max_depth - 1)) bytes.now (count_of steps.old) (count_of steps.new)) }
     ensures few { 2 * count_of steps.new ≤ 2 * count_of steps.old + length bytes.now }
     ensures grows { count_of steps.old ≤ count_of steps.new }
 {
@@ -143,6 +145,7 @@ fn content_by_ber<'a>(
     requires room { count_of steps.old + length bytes.now < 2 ^ 64 }
     ensures ok { IfOk result (λ x. (headers : ℕ) × IsContent (form_of form) (max_depth - 1) bytes.now x.1.now x.0.now headers × (count_of steps.new ≡ count_of steps.old + headers)) }
     ensures err { IfErr result (Refused (ContentFault (form_of form) (max_depth - 1)) ber_refusal bytes.now) }
+    ensures stops { OnErr result (Counted (ContentFaultHeaders (form_of form) (max_depth - 1)) bytes.now (count_of steps.old) (count_of steps.new)) }
     ensures few { 2 * count_of steps.new ≤ 2 * count_of steps.old + length bytes.now }
     ensures grows { count_of steps.old ≤ count_of steps.new }
 {
@@ -165,7 +168,9 @@ fn element_to_depth<'a>(
     requires deep { 1 ≤ max_depth }
     requires room { count_of steps.old + length bytes.now < 2 ^ 64 }
     ensures ok { IfOk result (λ x. CountedElement max_depth bytes.now x.0.now (parts_of x.1) (count_of steps.old) (count_of steps.new)) }
+    ensures keeps { IfOk result (λ x. KeepsIdentifier bytes.now x.1.header) }
     ensures err { IfErr result (Refused (ElementFault max_depth) ber_refusal bytes.now) }
+    ensures stops { OnErr result (Counted (FaultHeaders max_depth) bytes.now (count_of steps.old) (count_of steps.new)) }
     ensures few { 2 * count_of steps.new ≤ 2 * count_of steps.old + length bytes.now }
     ensures grows { count_of steps.old ≤ count_of steps.new }
 {
@@ -185,8 +190,8 @@ pub(crate) fn element_by_ber(bytes: &[u8]) -> ParseResult<'_, Any<'_>, Error>
 /// Reads an element by BER, as `Any::from_ber` does, and counts the headers that are read.
 ///
 /// Each header that does not stand in a definite content is read once, and that of each 00 00 too. So the count grows
-/// by half the octets of the element at most. An element, or a refusal, is that of the input whatever follows, as far as
-/// the refusal speaks.
+/// by half the octets of the element at most. On a refusal it grows by one for each header that was read whole before
+/// the first fault. An element, or a refusal, is that of the input whatever follows, as far as the refusal speaks.
 pub fn any_from_ber_counted<'a>(
     bytes: &'a [u8],
     steps: &mut Steps,
@@ -195,7 +200,9 @@ pub fn any_from_ber_counted<'a>(
     ensures gives { AnyGives (IsElement max_depth) (ElementFault max_depth) ber_refusal bytes.now (seen result) }
     ensures last { IfErr result (RefusalLasts (IsElement max_depth) EndsWithin bytes.now) }
     ensures same { IfOk result (λ x. ElementLasts (IsElement max_depth) bytes.now x.0.now x.1) }
+    ensures keeps { IfOk result (λ x. KeepsIdentifier bytes.now x.1.header) }
     ensures ticks { IfOk result (λ x. CountedElement max_depth bytes.now x.0.now (parts_of x.1) (count_of steps.old) (count_of steps.new)) }
+    ensures stops { OnErr result (Counted (FaultHeaders max_depth) bytes.now (count_of steps.old) (count_of steps.new)) }
     ensures few { 2 * count_of steps.new ≤ 2 * count_of steps.old + length bytes.now }
     ensures grows { count_of steps.old ≤ count_of steps.new }
 {
@@ -255,7 +262,7 @@ impl GetObjectContent for DerParser {
 
 impl Header<'_> {
     /// The contents octets at the front of the octets that follow this header, by BER, and the rest. Elements of
-    /// indefinite length nest eight deep at most, with that of this header.
+    /// indefinite length nest seven deep at most, with that of this header.
     ///
     /// Where the length is indefinite these are the elements up to the 00 00 that ends them. Refused with
     /// `Incomplete(n)` where n octets are missing of a definite length; else as `get_object_content` of [`BerParser`].

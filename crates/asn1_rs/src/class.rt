@@ -6,12 +6,16 @@ ghost use Rattle.asn1_rs.specs.declared.error.Error.TheVariants as faults;
 use crate::error::Error;
 use std::fmt;
 
-/// The class of a tag.
+/// The class of a tag: bits 8 and 7 of the first identifier octet (X.690 8.1.2.2, table 1).
 #[derive(Debug, Clone, Copy, PartialEq, Eq)]
 pub enum Class {
+    /// Types that X.680 itself defines: bits 00.
     Universal = 0,
+    /// Types of one application: bits 01.
     Application = 1,
+    /// A type by its place within another one: bits 10.
     ContextSpecific = 2,
+    /// Types of one enterprise: bits 11.
     Private = 3,
 }
 

@@ -7,7 +7,7 @@ ghost use Rattle.asn1_rs.specs.declared.error.SerializeError.TheVariants as refu
 
 use crate::class::Class;
 use crate::tag::Tag;
-use std::alloc::{AllocError, Global};
+use std::alloc::{AllocError, AllocFailed, Global};
 use std::borrow::CowStr;
 use std::io;
 
@@ -265,6 +265,14 @@ impl From<AllocError> for Error {
     }
 }
 
+impl<T: Drop> From<AllocFailed<T>> for Error {
+    ghost from_gives = { λ _ e. e ≡ faults.OutOfMemory };
+
+    fn from(_e: AllocFailed<T>) -> Error {
+        Error::OutOfMemory
+    }
+}
+
 /// Why a writing is refused.
 #[derive(Debug, Drop, thiserror::Error)]
 pub enum SerializeError {
@@ -305,6 +313,14 @@ impl From<AllocError> for SerializeError {
     ghost from_gives = { λ _ r. r ≡ refusals.OutOfMemory };
 
     fn from(_e: AllocError) -> SerializeError {
+        SerializeError::OutOfMemory
+    }
+}
+
+impl<T: Drop> From<AllocFailed<T>> for SerializeError {
+    ghost from_gives = { λ _ r. r ≡ refusals.OutOfMemory };
+
+    fn from(_e: AllocFailed<T>) -> SerializeError {
         SerializeError::OutOfMemory
     }
 }

@@ -1,12 +1,12 @@
 //! Strict headers, as they are written (X.690 8.1.2, 8.1.3, 10.1).
-ghost use Rattle.std.specs.Prelude.{◌≡◌, ◌<◌, ◌++◌, [], ℕ, Bool, false, List, length, None, IfOk, IfErr, Ok, Err};
+ghost use Rattle.std.specs.Prelude.{◌≡◌, ◌<◌, ◌++◌, [], ℕ, Bool, true, false, List, length, None, IfOk, IfErr, Ok, Err};
 ghost use Rattle.std.specs.Io.KnownBytes.{Appends};
 ghost use Rattle.x690.specs.Strict.{identifier_octets, length_form_octets, header_octets};
 ghost use Rattle.asn1_rs.specs.Length.{form_of};
 ghost use Rattle.asn1_rs.specs.Tag.{is_container};
 ghost use Rattle.asn1_rs.specs.Header.{tag_of, raw_tag_of};
 ghost use Rattle.asn1_rs.specs.WrittenHeader.{parts_identifier, strict_header, kept_header};
-ghost use Rattle.asn1_rs.specs.Wrote.{Wrote, MayRefuse, MayRefuseCount, RefusedAtOnce, written_refusal};
+ghost use Rattle.asn1_rs.specs.Wrote.{Wrote, MayRefuse, MayRefuseCount, RefusedAtOnce, written_refusal, tells_of_io};
 
 use crate::class::Class;
 use crate::error::{Error, SerializeResult};
@@ -14,9 +14,9 @@ use crate::header::Header;
 use crate::length::Length;
 use crate::length_writing::{length_len, put_length};
 use crate::tag::Tag;
-use crate::to_der::{ToDer, add_counts, refusal_of_count};
+use crate::to_der::{ToDer, add_counts, refusal_of_count, without_io};
 use crate::traits::DynTagged;
-use crate::writer::{DerWrite, put_all};
+use crate::writer::{DerWrite, Told, put_all};
 use std::alloc::Global;
 use x690::digits::{header_into, identifier_into, identifier_octets_count, length_octets_count};
 
@@ -218,11 +218,27 @@ impl ToDer for Header<'_> {
         ensures raw { Wrote (kept_header self.now) (W.told w.old) (W.told w.new) (W.failed w.old) (W.failed w.new) result }
         ensures failed { (takes_memory : Bool) (most : ℕ) → IfErr result (MayRefuse takes_memory most) }
         ensures der { raw_tag_of self.now ≡ None → Wrote (strict_header self.now ++ []) (W.told w.old) (W.told w.new) (W.failed w.old) (W.failed w.new) result }
+        ensures writable { raw_tag_of self.now ≡ None → IfErr result (MayRefuse false (length (strict_header self.now ++ []))) }
         ensures counted { IfOk result (λ n. (raw : List ℕ) × Appends (W.told w.old) (W.told w.new) raw × (n ≡ length raw)) }
     {
         match self.raw_tag() {
             Some(octets) => put_parts(octets, self.length(), w),
             None => put_strict_header(self, w),
+        }
+    }
+
+    /// The raw form in a vector. It is refused for want of memory alone.
+    fn to_der_vec_raw(&self, alloc: Global) -> SerializeResult<Vec<u8>>
+        ensures raw { IfOk result (λ octets. octets.items ≡ kept_header self.now) }
+        ensures failed { (most : ℕ) → IfErr result (MayRefuse true most) }
+        ensures der { raw_tag_of self.now ≡ None → IfOk result (λ octets. octets.items ≡ strict_header self.now ++ []) }
+        ensures writable { raw_tag_of self.now ≡ None → IfErr result (MayRefuse true (length (strict_header self.now ++ []))) }
+        ensures memory { IfErr result (λ e. tells_of_io e ≡ false) }
+    {
+        let mut w = Told::new(Vec::new(alloc));
+        match self.write_der_raw(alloc, &mut w) {
+            Ok(_) => Ok(w.into_inner()),
+            Err(e) => Err(without_io(e)),
         }
     }
 }

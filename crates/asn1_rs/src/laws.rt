@@ -8,23 +8,26 @@ ghost use Rattle.std.specs.Io.KnownBytes.{Appends};
 ghost use Rattle.x690.specs.Octets.{IsOctets};
 ghost use Rattle.x690.specs.Identifiers.{Identifier, IsCutIdentifier};
 ghost use Rattle.x690.specs.Lengths.{LengthForm};
-ghost use Rattle.x690.specs.Elements.{Parts, IsDefiniteElement};
+ghost use Rattle.x690.specs.Elements.{Parts, IsHeader, IsDefiniteElement};
 ghost use Rattle.x690.specs.Faults.{DefiniteElementFault};
 ghost use Rattle.x690.specs.Nested.{IsElement, ElementFault};
 ghost use Rattle.asn1_rs.specs.declared.error.Err.{Err as Refusal};
+ghost use Rattle.asn1_rs.specs.declared.error.Err.TheVariants as causes;
 ghost use Rattle.asn1_rs.specs.declared.error.Error.{Error as Fault};
 ghost use Rattle.asn1_rs.specs.declared.error.Error.TheVariants as faults;
 ghost use Rattle.asn1_rs.specs.declared.error.DerConstraint.TheVariants as constraints;
 ghost use Rattle.asn1_rs.specs.declared.error.SerializeError.TheVariants as refusals;
 ghost use Rattle.asn1_rs.specs.Answers.{seen, Exactly, TellsMemory, ReadsBack};
 ghost use Rattle.asn1_rs.specs.Form.{IsOneForm, IsOneValue, FitsElement, HasValues, IsStrict};
-ghost use Rattle.asn1_rs.specs.Grammar.{max_depth, NoCheck, PassesAll, IsOneFront, IsOneBody, BerWord, DerWord, TakesBody, Checks, FormChecks, FormBodies, FormTakes, EndsWithin};
+ghost use Rattle.asn1_rs.specs.Grammar.{max_depth, NoCheck, PassesAll, IsOneFront, IsOneBody, BerWord, DerWord, TakesBody, Checks, FormChecks, FormBodies, FormTakes, EndsWithin, BerGives, DerGives};
 ghost use Rattle.asn1_rs.specs.Wrote.{Wrote, MayRefuse};
 ghost use Rattle.asn1_rs.specs.declared.header.Header.{Header as Head};
 ghost use Rattle.asn1_rs.specs.declared.asn1_types.any.Any.{Any as Element};
 ghost use Rattle.asn1_rs.specs.Header.{refusal_of, HeaderGives};
 ghost use Rattle.asn1_rs.specs.Ber.{BerContentGives};
-ghost use Rattle.asn1_rs.specs.Laws.Any.{DerElementGives, BerElementGives, RefusalLasts, ElementLasts, ContentStays};
+ghost use Rattle.asn1_rs.specs.Any.{IsTheElement, IsDefiniteOr};
+ghost use Rattle.asn1_rs.specs.Laws.Any.{DerElementGives, BerElementGives, RefusalLasts, ElementLasts, ContentStays, TellsBeginning};
+ghost use Rattle.asn1_rs.specs.Laws.Headers.{HeaderLasts};
 ghost use Rattle.asn1_rs.specs.Laws.Elements.{element_exact, der_elements, ber_elements, passes_all};
 ghost use Rattle.asn1_rs.specs.Laws.Forms.{WritesByValue, WritesForm};
 
@@ -66,80 +69,97 @@ pub trait Grammar {
 
 /// A type whose grammars and strict parts are lawful.
 pub trait LawfulItem: Grammar {
-    /// Words, bodies and strict parts have values of the type.
+    /// Words by BER have values of the type.
     ghost ber_values: { (o : List ℕ) (v : Self.Value) → Self.Ber o v → Self.IsValue v };
 
+    /// And so have words by DER.
     ghost der_values: { (o : List ℕ) (v : Self.Value) → Self.Der o v → Self.IsValue v };
 
+    /// And so have the bodies of elements whose contents octets are octets.
     ghost body_values: { (p : Parts) (v : Self.Value) → IsOctets p.content → Self.Body p v → Self.IsValue v };
 
+    /// A value that has strict parts is one of the type.
     ghost form_values: { HasValues Self.Form Self.IsValue };
 
-    /// No word is empty, and two words that begin one input are the same and have one value.
+    /// By BER no word is empty, and two words that begin one input are the same and have one value.
     ghost ber_one: { IsOneFront Self.Ber };
 
+    /// The same by DER.
     ghost der_one: { IsOneFront Self.Der };
 
     /// An element's parts have one value.
     ghost body_one: { IsOneBody Self.Body };
 
-    /// A value has one strict encoding, and this has one value.
+    /// A value has one strict identifier and one strict content.
     ghost one_form: { IsOneForm Self.Form };
 
+    /// And these have one value.
     ghost one_value: { IsOneValue Self.Form };
 
     /// Strict parts fit an element.
     ghost form_fits: { FitsElement Self.Form };
 
-    /// A strict encoding is a word with its value.
+    /// A strict encoding is a word by BER with its value.
     ghost strict_ber: { (v : Self.Value) (o : List ℕ) → IsStrict Self.Form v o → Self.Ber o v };
 
+    /// And one by DER.
     ghost strict_der: { (v : Self.Value) (o : List ℕ) → IsStrict Self.Form v o → Self.Der o v };
 }
 
 /// The conversion of an element is exact: it finds the value of the body, and refuses only where there is none.
 pub trait LawfulBody<'a, E: From<Error>>: FromAny<'a, Error = E> + LawfulItem {
+    /// An Ok is the value of the body; an Err comes only where there is none, or for want of memory.
     ghost body_exact: { (p : Parts) (answer : Result Self E) → IsOctets p.content → Self.any_gives p answer → TakesBody Self.Body Self.value Self.takes_memory E.from_gives p answer };
 
     /// The strict parts of a value have it as their body.
     ghost form_body: { FormBodies Self.Form Self.Body };
 
-    /// The words by BER are the elements by BER that have a body.
+    /// Each word by BER is an element by BER that has a body with this value.
     ghost ber_split: { (o : List ℕ) (v : Self.Value) → Self.Ber o v → BerWord Self.Body o v };
 
+    /// And each such element is a word by BER.
     ghost ber_join: { (o : List ℕ) (v : Self.Value) → BerWord Self.Body o v → Self.Ber o v };
 }
 
 /// The check of an element is exact, and the strict parts of a value pass it.
 pub trait LawfulCheck: CheckDerConstraints + LawfulItem {
+    /// The check passes exactly the parts that meet the constraints.
     ghost check_exact: { (p : Parts) (answer : Result (Unit {0}) Fault) → Self.check_gives p answer → Checks Self.Check p answer };
 
+    /// Strict parts meet the constraints.
     ghost form_check: { FormChecks Self.Form Self.Check };
 }
 
 /// The words by DER are the elements of definite length that pass the check and have a body.
 pub trait LawfulAuto: LawfulCheck + DerAutoDerive {
+    /// Each word by DER is such an element, with this value.
     ghost der_split: { (o : List ℕ) (v : Self.Value) → Self.Der o v → DerWord Self.Check Self.Body o v };
 
+    /// And each such element is a word by DER.
     ghost der_join: { (o : List ℕ) (v : Self.Value) → DerWord Self.Check Self.Body o v → Self.Der o v };
 }
 
 /// The reader by BER is exact: Ok where a word by BER begins the input, and a final refusal else.
 pub trait LawfulBer<'a, E: From<Error>>: FromBer<'a, E> + LawfulItem {
+    /// What the reader may answer is exact by the grammar by BER.
     ghost ber_exact: { (input : List ℕ) (answer : Result (List ℕ × Self) (Refusal E)) → IsOctets input → Self.ber_gives input answer → Exactly EndsWithin Self.Ber Self.value (TellsMemory Self.takes_memory E.from_gives) input answer };
 }
 
 /// The reader by DER is exact: Ok where a word by DER begins the input, and a final refusal else.
 pub trait LawfulDer<'a, E: From<Error>>: FromDer<'a, E> + LawfulItem {
+    /// What the reader may answer is exact by the grammar by DER.
     ghost der_exact: { (input : List ℕ) (answer : Result (List ℕ × Self) (Refusal E)) → IsOctets input → Self.der_gives input answer → Exactly IsCutIdentifier Self.Der Self.value (TellsMemory Self.takes_memory E.from_gives) input answer };
 }
 
 /// What is written follows from the value, and is its strict encoding where it has one.
 pub trait LawfulWrite: ToDer + LawfulItem {
+    /// The ghost members of [`ToDer`] tell what is written, for each item.
     ghost tells_all: { (x : Self) → Self.tells x };
 
+    /// Items of one value have one header, one content and one constructed bit.
     ghost by_value: { WritesByValue Self.value Self.constructed Self.header Self.content };
 
+    /// A value in DER form is written as its strict encoding, and can be written.
     ghost form: { WritesForm Self.value Self.Form Self.is_writable Self.constructed Self.header Self.content };
 }
 
@@ -147,11 +167,13 @@ pub trait LawfulWrite: ToDer + LawfulItem {
 ///
 /// So an implicit tag of class `K` over the type is lawful.
 pub trait TakesClass<const K: u8>: LawfulItem + Tagged {
+    /// Strict parts have the tag number of the type, and under class `K` they meet check and body all the same.
     ghost takes_class: { FormTakes Self.Form Self.Check Self.Body K (Self.mark).0 };
 }
 
 /// Two items are equal exactly where their values are, so they can be members of a set.
 pub trait LawfulMember: LawfulItem + Eq {
+    /// Equality of items is that of their values.
     ghost same: { (x y : Self) → IsTrue (Self.eq x y) ↔ (Self.value x ≡ Self.value y) };
 }
 
@@ -260,13 +282,15 @@ pub fn read_der<'a, T: LawfulDer<'a, E>, E: From<Error>>(
 
 /// Appends the one strict encoding of a value in DER form.
 ///
-/// No other value has it, and it begins no other one. For other values the answer is that of `write_der`.
+/// No other value has it, and it begins no other one. For other values too the octets of header and contents are
+/// appended, as `write_der` does.
 pub fn write_strict<T: LawfulWrite, W: DerWrite>(
     x: &T,
     alloc: Global,
     w: &mut W,
 ) -> SerializeResult<usize>
     ensures wrote { (o : List ℕ) → IsStrict T.Form (T.value x.now) o → Wrote o (W.told w.old) (W.told w.new) (W.failed w.old) (W.failed w.new) result }
+    ensures plain { Wrote (T.header x.now ++ T.content x.now) (W.told w.old) (W.told w.new) (W.failed w.old) (W.failed w.new) result }
     ensures refused { (o : List ℕ) → IsStrict T.Form (T.value x.now) o → IfErr result (MayRefuse (T.count_takes_memory || T.content_takes_memory) (length o)) }
     ensures one { (o p : List ℕ) → IsStrict T.Form (T.value x.now) o → IsStrict T.Form (T.value x.now) p → o ≡ p }
     ensures apart { (o p r s : List ℕ) (v w : T.Value) → IsStrict T.Form v o → IsStrict T.Form w p → o ++ r ≡ p ++ s → (o ≡ p) × (v ≡ w) × (r ≡ s) }
@@ -294,10 +318,35 @@ pub fn one_refusal()
         → BerContentGives constructed form depth input (Ok x) → BerContentGives constructed form depth input (Err r) → ⊥ }
 {}
 
-/// What the readers of elements answer lasts. After a refusal no element begins the input, nor more octets of which the
-/// refusal speaks. An element that is read is the one that begins the input, whatever follows, and so are contents
-/// octets.
+/// What the readers of [`Any`](crate::Any) answer is the element at the front of the octets, or the refusal of its first
+/// fault.
+pub fn any_is_the_element()
+    ensures der { (input : List ℕ) (answer : Result (List ℕ × Element) (Refusal Fault)) → DerGives IsDefiniteOr IsTheElement (λ e f. f ≡ e) input answer → DerElementGives input answer }
+    ensures ber { (input : List ℕ) (answer : Result (List ℕ × Element) (Refusal Fault)) → BerGives IsTheElement (λ e f. f ≡ e) input answer → BerElementGives input answer }
+{}
+
+/// Octets that more of them make begin with a header or an element are refused with `Incomplete` of these or fewer, or
+/// they end within an identifier in high form. Where they end so the answer is `InvalidTag`.
+pub fn beginnings_are_incomplete()
+    ensures header { (rule : Identifier → Bool) (at_indefinite : Fault) (input more front rest : List ℕ) (id : Identifier) (form : LengthForm) (r : Refusal Fault)
+        → HeaderGives rule (refusal_of at_indefinite) input (Err r) → IsHeader rule front id form → input ++ more ≡ front ++ rest → TellsBeginning (IsCutIdentifier input) r more }
+    ensures header_within { (rule : Identifier → Bool) (at_indefinite : Fault) (input : List ℕ) (answer : Result (List ℕ × Head) (Refusal Fault))
+        → IsCutIdentifier input → HeaderGives rule (refusal_of at_indefinite) input answer → answer ≡ Err (causes.Error faults.InvalidTag) }
+    ensures element { (input more word rest : List ℕ) (p : Parts) (r : Refusal Fault)
+        → DerElementGives input (Err r) → IsDefiniteElement word p → input ++ more ≡ word ++ rest → TellsBeginning (IsCutIdentifier input) r more }
+    ensures element_within { (input : List ℕ) (answer : Result (List ℕ × Element) (Refusal Fault))
+        → IsCutIdentifier input → DerElementGives input answer → answer ≡ Err (causes.Error faults.InvalidTag) }
+    ensures ber_element { (input more word rest : List ℕ) (p : Parts) (r : Refusal Fault)
+        → BerElementGives input (Err r) → IsElement max_depth word p → input ++ more ≡ word ++ rest → TellsBeginning (EndsWithin input) r more }
+    ensures ber_element_within { (input : List ℕ) (answer : Result (List ℕ × Element) (Refusal Fault))
+        → EndsWithin input → BerElementGives input answer → answer ≡ Err (causes.Error faults.InvalidTag) }
+{}
+
+/// What the readers of headers and of elements answer lasts. After a refusal no element begins the input, nor more
+/// octets of which the refusal speaks. A header or an element that is read is the one that begins the input, whatever
+/// follows, and so are contents octets.
 pub fn answers_last()
+    ensures header { (rule : Identifier → Bool) (at_indefinite : Fault) (input : List ℕ) (x : List ℕ × Head) → HeaderGives rule (refusal_of at_indefinite) input (Ok x) → HeaderLasts input x.0 x.1 }
     ensures refusal { (input : List ℕ) (r : Refusal Fault) → DerElementGives input (Err r) → RefusalLasts IsDefiniteElement IsCutIdentifier input r }
     ensures element { (input : List ℕ) (x : List ℕ × Element) → DerElementGives input (Ok x) → ElementLasts IsDefiniteElement input x.0 x.1 }
     ensures ber_refusal { (input : List ℕ) (r : Refusal Fault) → BerElementGives input (Err r) → RefusalLasts (IsElement max_depth) EndsWithin input r }

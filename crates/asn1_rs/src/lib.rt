@@ -18,6 +18,10 @@ mod writer;
 
 pub use asn1_types::any::Any;
 pub use asn1_types::integer::integers_have_one_refusal;
+pub use asn1_types::sequence_iterator::{
+    ReadsItems, SequenceIterator, SetIterator, indefinite_contents_are_walked, walks_by_ber,
+    walks_by_der, walks_end,
+};
 pub use ber::{GetObjectContent, MAX_RECURSION, Steps, any_from_ber_counted};
 pub use class::{BerClassFromIntError, Class};
 pub use error::{
@@ -27,7 +31,8 @@ pub use error::{
 pub use header::Header;
 pub use laws::{
     Grammar, LawfulAuto, LawfulBer, LawfulBody, LawfulCheck, LawfulDer, LawfulItem, LawfulMember,
-    LawfulWrite, TakesClass, answers_last, one_refusal, read_ber, read_der, write_strict,
+    LawfulWrite, TakesClass, answers_last, any_is_the_element, beginnings_are_incomplete,
+    one_refusal, read_ber, read_der, write_strict,
 };
 pub use length::Length;
 pub use tag::Tag;

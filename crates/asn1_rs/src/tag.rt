@@ -13,64 +13,93 @@ use std::fmt;
 pub struct Tag(pub u32);
 
 impl Tag {
+    /// The end of the contents of an indefinite length (X.690 8.1.5).
     pub const EndOfContent: Tag = Tag(0);
 
+    /// A truth value (X.690 8.2).
     pub const Boolean: Tag = Tag(1);
 
+    /// An integer (X.690 8.3).
     pub const Integer: Tag = Tag(2);
 
+    /// A bit string (X.690 8.6).
     pub const BitString: Tag = Tag(3);
 
+    /// An octet string (X.690 8.7).
     pub const OctetString: Tag = Tag(4);
 
+    /// The null value (X.690 8.8).
     pub const Null: Tag = Tag(5);
 
+    /// An object identifier (X.690 8.19).
     pub const Oid: Tag = Tag(6);
 
+    /// A text that describes an object (X.690 8.25).
     pub const ObjectDescriptor: Tag = Tag(7);
 
+    /// A value of a type that is named beside it (X.690 8.18).
     pub const External: Tag = Tag(8);
 
+    /// A real number (X.690 8.5).
     pub const RealType: Tag = Tag(9);
 
+    /// One of the numbers that a type names (X.690 8.4).
     pub const Enumerated: Tag = Tag(10);
 
+    /// A value of another syntax, with what identifies that (X.690 8.17).
     pub const EmbeddedPdv: Tag = Tag(11);
 
+    /// A text in UTF-8 (X.690 8.23).
     pub const Utf8String: Tag = Tag(12);
 
+    /// An object identifier that goes on from another one (X.690 8.20).
     pub const RelativeOid: Tag = Tag(13);
 
+    /// A sequence of components, or of items of one type (X.690 8.9, 8.10).
     pub const Sequence: Tag = Tag(16);
 
+    /// A set of components, or of items of one type (X.690 8.11, 8.12).
     pub const Set: Tag = Tag(17);
 
+    /// A text of digits and spaces (X.690 8.23).
     pub const NumericString: Tag = Tag(18);
 
+    /// A text of letters, digits and some signs (X.690 8.23).
     pub const PrintableString: Tag = Tag(19);
 
+    /// A text of the teletex sets (X.690 8.23).
     pub const TeletexString: Tag = Tag(20);
     /// The same as `TeletexString`.
     pub const T61String: Tag = Tag(20);
 
+    /// A text of the videotex sets (X.690 8.23).
     pub const VideotexString: Tag = Tag(21);
 
+    /// A text in the International Alphabet No. 5 (X.690 8.23).
     pub const Ia5String: Tag = Tag(22);
 
+    /// A time with two digits of the year (X.690 8.25).
     pub const UtcTime: Tag = Tag(23);
 
+    /// A time with four digits of the year (X.690 8.25).
     pub const GeneralizedTime: Tag = Tag(24);
 
+    /// A text of registered graphic sets (X.690 8.23).
     pub const GraphicString: Tag = Tag(25);
 
+    /// A text of the printing characters of ASCII (X.690 8.23).
     pub const VisibleString: Tag = Tag(26);
 
+    /// A text of registered graphic and control sets (X.690 8.23).
     pub const GeneralString: Tag = Tag(27);
 
+    /// A text of four octets a character (X.690 8.23).
     pub const UniversalString: Tag = Tag(28);
 
+    /// A text with what identifies its characters (X.690 8.24).
     pub const CharacterString: Tag = Tag(29);
 
+    /// A text of two octets a character (X.690 8.23).
     pub const BmpString: Tag = Tag(30);
 
     /// Refuses another tag with `UnexpectedTag`: the one given is expected, and this one is the actual one.

@@ -38,7 +38,7 @@ pub(crate) fn refusal_of_count(e: Error) -> SerializeError
 }
 
 /// Want of memory in the place of a writer's failure.
-fn without_io(e: SerializeError) -> SerializeError
+pub(crate) fn without_io(e: SerializeError) -> SerializeError
     ensures refused { (n : ℕ) (takes_memory : Bool) → MayRefuse takes_memory n e → MayRefuse true n result }
     ensures io { tells_of_io result ≡ false }
     ensures same { tells_of_io e ≡ false → result ≡ e }
@@ -132,6 +132,7 @@ pub trait ToDer: DynTagged {
     /// Appends the encoding as it was read, where the type keeps that; else as `write_der`.
     fn write_der_raw<W: DerWrite>(&self, alloc: Global, w: &mut W) -> SerializeResult<usize>
         ensures der { tells self.now → raw_is_der self.now → Wrote (header self.now ++ content self.now) (W.told w.old) (W.told w.new) (W.failed w.old) (W.failed w.new) result }
+        ensures writable { tells self.now → is_writable self.now → raw_is_der self.now → IfErr result (MayRefuse (count_takes_memory || content_takes_memory) (length (header self.now ++ content self.now))) }
         ensures counted { tells self.now → IfOk result (λ n. (raw : List ℕ) × Appends (W.told w.old) (W.told w.new) raw × (n ≡ length raw)) }
         ensures refused { IfSome (header_refusal self.now) (λ e. RefusedAtOnce e (W.told w.old) (W.told w.new) (W.failed w.old) (W.failed w.new) result) }
     {
@@ -155,6 +156,7 @@ pub trait ToDer: DynTagged {
     /// The raw form in a vector.
     fn to_der_vec_raw(&self, alloc: Global) -> SerializeResult<Vec<u8>>
         ensures der { tells self.now → raw_is_der self.now → IfOk result (λ octets. octets.items ≡ header self.now ++ content self.now) }
+        ensures writable { tells self.now → is_writable self.now → raw_is_der self.now → IfErr result (MayRefuse true (length (header self.now ++ content self.now))) }
         ensures memory { IfErr result (λ e. tells_of_io e ≡ false) }
         ensures refused { IfSome (header_refusal self.now) (λ e. tells_of_io e ≡ false → result ≡ Err e) }
     {

@@ -3,7 +3,7 @@ ghost use Rattle.std.specs.Prelude.{◌≡◌, ◌≢◌, [], ◌||◌, Bool, �
 ghost use Rattle.std.specs.Io.{WritesAtMost};
 ghost use Rattle.std.specs.Io.KnownBytes.{WriteAppends};
 ghost use Rattle.std.specs.IoError.{error_kind};
-ghost use Rattle.asn1_rs.specs.Wrote.{wrapped_in, mark_of, put_fails, Wrote, MayRefuse, PutOnce};
+ghost use Rattle.asn1_rs.specs.Wrote.{wrapped_in, mark_of, put_fails, Wrote, MayRefuse, PutOnce, PutFailed};
 ghost use Rattle.std.specs.declared.io.ErrorKind.TheVariants.{WriteZero};
 
 use crate::error::{SerializeError, SerializeResult};
@@ -119,6 +119,7 @@ fn put_some<W: DerWrite>(w: &mut W, piece: &[u8]) -> SerializeResult<usize>
 pub fn put_all<W: DerWrite>(w: &mut W, piece: &[u8]) -> SerializeResult<usize>
     ensures wrote { Wrote piece.now (W.told w.old) (W.told w.new) (W.failed w.old) (W.failed w.new) result }
     ensures failed { IfErr result (MayRefuse false 0) }
+    ensures kind { IfErr result (PutFailed W.told W.failed piece.now w.new) }
 {
     let mut rest = piece;
     while !rest.is_empty() {

@@ -138,39 +138,26 @@ impl Read for SmallReads<'_> {
     }
 }
 
-/// Asserts that the value is written so, and that a writer that fails at any place took the beginning.
-pub(crate) fn assert_written<T: ToDer>(
+/// Asserts that a writing was refused with a failure of this kind, and that the writer is marked and took these octets.
+pub(crate) fn assert_failed(
     rt: &impl Abort,
-    alloc: Global,
-    value: &T,
+    refusal: Option<SerializeError>,
+    kind: ErrorKind,
+    w: &Told<Narrow>,
     octets: &[u8],
-) -> Result<(), Fail> {
-    assert_eq!(rt; value.to_der_len()?, octets.len(), "{octets:?}");
-    assert_eq!(rt; value.to_der_vec(alloc)?.as_slice(), octets);
-    let mut whole = Told::new(Narrow::new(alloc, octets.len(), None));
-    assert_eq!(rt;
-        value.write_der(alloc, &mut whole)?,
-        octets.len(),
-        "{octets:?}"
-    );
-    assert_eq!(rt; whole.as_inner().held(), octets);
-    assert!(rt; !whole.is_failed(), "{octets:?}");
-    for place in 0..octets.len() {
-        let mut w = Told::new(Narrow::new(alloc, place, Some(ErrorKind::BrokenPipe)));
+) {
+    assert!(rt; w.is_failed(), "{octets:?}");
+    assert_eq!(rt; io_kind(refusal), Some(kind), "{octets:?}");
+    assert_eq!(rt; w.as_inner().held(), octets);
+}
+
+/// Asserts that a std writer with too little room takes the beginning of the octets, and is marked.
+pub(crate) fn assert_cut<T: ToDer>(rt: &impl Abort, alloc: Global, value: &T, octets: &[u8]) {
+    for room in 0..octets.len() {
+        let mut w = Told::new(Narrow::new(alloc, room, Some(ErrorKind::BrokenPipe)));
         let refusal = value.write_der(alloc, &mut w).err();
-        assert_eq!(rt;
-            io_kind(refusal),
-            Some(ErrorKind::BrokenPipe),
-            "{octets:?} at {place}"
-        );
-        assert_eq!(rt;
-            w.as_inner().held(),
-            &octets[..place],
-            "{octets:?} at {place}"
-        );
-        assert!(rt; w.is_failed(), "{octets:?} at {place}");
+        assert_failed(rt, refusal, ErrorKind::BrokenPipe, &w, &octets[..room]);
     }
-    Ok(())
 }
 
 /// The kind of the writer's failure that a refusal tells of.

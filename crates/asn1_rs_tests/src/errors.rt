@@ -1,16 +1,16 @@
 //! Classes, tag numbers, lengths, and the texts and conversions of errors.
 
-use asn1_rs::{
-    Class, DerConstraint, Err, Error, Length, Needed, SerializeError, Tag, from_nom_error,
-};
+use crate::rows::assert_shown;
+use asn1_rs::{Class, Err, Error, Length, Needed, SerializeError, Tag, from_nom_error};
 use std::alloc::AllocError;
 use std::borrow::CowStr;
+use std::fmt::Write;
 use std::io;
 use std::io::ErrorKind;
 use std::test::Fail;
 
 /// An error of a caller's own.
-#[derive(Debug, Drop, PartialEq, Eq)]
+#[derive(Debug, Drop)]
 enum Refused {
     ByLibrary(Error),
     ByNumber(u8),
@@ -22,6 +22,13 @@ impl From<Error> for Refused {
     }
 }
 
+impl Refused {
+    /// The error of this number.
+    fn from_number(number: u8) -> Refused {
+        Refused::ByNumber(number)
+    }
+}
+
 impl From<u8> for Refused {
     fn from(number: u8) -> Refused {
         Refused::ByNumber(number)
@@ -30,206 +37,251 @@ impl From<u8> for Refused {
 
 #[test]
 fn classes_have_numbers_and_names(rt: HostRuntime) -> Result<(), Fail> {
-    let table = [
-        (Class::Universal, Class::UNIVERSAL, 0, "UNIVERSAL"),
-        (Class::Application, Class::APPLICATION, 1, "APPLICATION"),
-        (
-            Class::ContextSpecific,
-            Class::CONTEXT_SPECIFIC,
-            2,
-            "CONTEXT-SPECIFIC",
-        ),
-        (Class::Private, Class::PRIVATE, 3, "PRIVATE"),
-    ];
-    for (class, constant, number, name) in table {
-        assert_eq!(rt; class as u8, number);
-        assert_eq!(rt; constant, number);
-        assert_eq!(rt; Class::try_from(number), Ok(class));
-        assert_eq!(rt; class.to_string(rt.alloc())?.as_str(), name);
-        assert_eq!(rt; class.assert_eq(class), Ok(()));
+    let mut text = String::new(rt.alloc());
+    for number in [0, 1, 2, 3, 4, 255] {
+        match Class::try_from(number) {
+            Ok(class) => write!(text, "{class} {} ", class as u8)?,
+            Err(_) => write!(text, "none ")?,
+        }
     }
-    assert!(rt; Class::try_from(4).is_err());
-    assert!(rt; Class::try_from(255).is_err());
-    assert_eq!(rt;
+    let names = "UNIVERSAL 0 APPLICATION 1 CONTEXT-SPECIFIC 2 PRIVATE 3 none none ";
+    assert_eq!(rt; text.as_str(), names);
+    Ok(())
+}
+
+#[test]
+fn classes_are_asserted(rt: HostRuntime) -> Result<(), Fail> {
+    let constants = [
+        Class::UNIVERSAL,
+        Class::APPLICATION,
+        Class::CONTEXT_SPECIFIC,
+        Class::PRIVATE,
+    ];
+    let answers = (
+        constants,
+        Class::Private.assert_eq(Class::Private),
         Class::Private.assert_eq(Class::Universal),
-        Err(Error::UnexpectedClass {
-            expected: Some(Class::Universal),
-            actual: Class::Private
-        })
     );
-    Ok(())
+    assert_shown(
+        &rt,
+        rt.alloc(),
+        &answers,
+        "([0, 1, 2, 3], Ok(()), Err(UnexpectedClass { expected: Some(Universal), actual: Private }))",
+    )
 }
 
 #[test]
-fn tags_have_numbers_and_names(rt: HostRuntime) -> Result<(), Fail> {
-    // X.680 8.6, table 1.
-    let table = [
-        (Tag::EndOfContent, 0, "EndOfContent"),
-        (Tag::Boolean, 1, "Boolean"),
-        (Tag::Integer, 2, "Integer"),
-        (Tag::BitString, 3, "BitString"),
-        (Tag::OctetString, 4, "OctetString"),
-        (Tag::Null, 5, "Null"),
-        (Tag::Oid, 6, "Oid"),
-        (Tag::ObjectDescriptor, 7, "ObjectDescriptor"),
-        (Tag::External, 8, "External"),
-        (Tag::RealType, 9, "RealType"),
-        (Tag::Enumerated, 10, "Enumerated"),
-        (Tag::EmbeddedPdv, 11, "EmbeddedPdv"),
-        (Tag::Utf8String, 12, "Utf8String"),
-        (Tag::RelativeOid, 13, "RelativeOid"),
-        (Tag(14), 14, "Tag(14 / 0xe)"),
-        (Tag(15), 15, "Tag(15 / 0xf)"),
-        (Tag::Sequence, 16, "Sequence"),
-        (Tag::Set, 17, "Set"),
-        (Tag::NumericString, 18, "NumericString"),
-        (Tag::PrintableString, 19, "PrintableString"),
-        (Tag::TeletexString, 20, "TeletexString"),
-        (Tag::T61String, 20, "TeletexString"),
-        (Tag::VideotexString, 21, "VideotexString"),
-        (Tag::Ia5String, 22, "Ia5String"),
-        (Tag::UtcTime, 23, "UtcTime"),
-        (Tag::GeneralizedTime, 24, "GeneralizedTime"),
-        (Tag::GraphicString, 25, "GraphicString"),
-        (Tag::VisibleString, 26, "VisibleString"),
-        (Tag::GeneralString, 27, "GeneralString"),
-        (Tag::UniversalString, 28, "UniversalString"),
-        (Tag::CharacterString, 29, "CharacterString"),
-        (Tag::BmpString, 30, "BmpString"),
-        (Tag(31), 31, "Tag(31 / 0x1f)"),
-        (Tag(6698), 6698, "Tag(6698 / 0x1a2a)"),
-    ];
-    for (tag, number, name) in table {
-        assert_eq!(rt; tag, Tag::from(number));
-        assert_eq!(rt; tag.to_string(rt.alloc())?.as_str(), name);
+fn tags_have_names(rt: HostRuntime) -> Result<(), Fail> {
+    let mut text = String::new(rt.alloc());
+    for number in 0..32 {
+        write!(text, "{} ", Tag::from(number))?;
     }
-    assert_eq!(rt; Tag::Set.assert_eq(Tag(17)), Ok(()));
-    assert_eq!(rt;
-        Tag::Set.assert_eq(Tag::Sequence),
-        Err(Error::UnexpectedTag {
-            expected: Some(Tag::Sequence),
-            actual: Tag::Set
-        })
-    );
-    assert_eq!(rt;
-        Tag(0).invalid_value("no"),
-        Error::invalid_value(Tag(0), CowStr::Borrowed("no"))
-    );
+    // X.680 8.6, table 1.
+    let names =
+        "EndOfContent Boolean Integer BitString OctetString Null Oid ObjectDescriptor External RealType \
+        Enumerated EmbeddedPdv Utf8String RelativeOid Tag(14 / 0xe) Tag(15 / 0xf) Sequence Set NumericString \
+        PrintableString TeletexString VideotexString Ia5String UtcTime GeneralizedTime GraphicString VisibleString \
+        GeneralString UniversalString CharacterString BmpString Tag(31 / 0x1f) ";
+    assert_eq!(rt; text.as_str(), names);
     Ok(())
 }
 
+/// X.680 8.6, table 1.
+const TAGS: [Tag; 30] = [
+    Tag::EndOfContent,
+    Tag::Boolean,
+    Tag::Integer,
+    Tag::BitString,
+    Tag::OctetString,
+    Tag::Null,
+    Tag::Oid,
+    Tag::ObjectDescriptor,
+    Tag::External,
+    Tag::RealType,
+    Tag::Enumerated,
+    Tag::EmbeddedPdv,
+    Tag::Utf8String,
+    Tag::RelativeOid,
+    Tag::Sequence,
+    Tag::Set,
+    Tag::NumericString,
+    Tag::PrintableString,
+    Tag::TeletexString,
+    Tag::T61String,
+    Tag::VideotexString,
+    Tag::Ia5String,
+    Tag::UtcTime,
+    Tag::GeneralizedTime,
+    Tag::GraphicString,
+    Tag::VisibleString,
+    Tag::GeneralString,
+    Tag::UniversalString,
+    Tag::CharacterString,
+    Tag::BmpString,
+];
+
 #[test]
-fn lengths_are_added_and_asserted(rt: HostRuntime) {
+fn tags_have_numbers(rt: HostRuntime) -> Result<(), Fail> {
+    assert_shown(
+        &rt,
+        rt.alloc(),
+        &TAGS.map(|tag| tag.0),
+        "[0, 1, 2, 3, 4, 5, 6, 7, 8, 9, 10, 11, 12, 13, \
+        16, 17, 18, 19, 20, 20, 21, 22, 23, 24, 25, 26, 27, 28, 29, 30]",
+    )
+}
+
+#[test]
+fn tags_are_asserted(rt: HostRuntime) -> Result<(), Fail> {
+    let answers = (
+        Tag::Set.assert_eq(Tag(17)),
+        Tag::Set.assert_eq(Tag::Sequence),
+        Tag(0).invalid_value("no"),
+    );
+    assert_shown(
+        &rt,
+        rt.alloc(),
+        &answers,
+        "(Ok(()), Err(UnexpectedTag { expected: Some(Tag(16)), actual: Tag(17) }), \
+        InvalidValue { tag: Tag(0), msg: \"no\" })",
+    )
+}
+
+#[test]
+fn lengths_are_added(rt: HostRuntime) -> Result<(), Fail> {
     let two = Length::from(2);
     let open = Length::Indefinite;
-    assert_eq!(rt; two, Length::Definite(2));
-    assert_eq!(rt; two + two, Length::Definite(4));
-    assert_eq!(rt; two + 2, Length::Definite(4));
-    assert_eq!(rt; two + open, open);
-    assert_eq!(rt; open + two, open);
-    assert_eq!(rt; open + 2, open);
-    let mut sum = two;
-    sum += 3;
-    assert_eq!(rt; sum, Length::Definite(5));
-    let mut sum = open;
-    sum += 3;
-    assert_eq!(rt; sum, open);
-    assert_eq!(rt; two.definite(), Ok(2));
-    assert_eq!(rt; open.definite(), Err(Error::IndefiniteLengthUnexpected));
-    assert_eq!(rt; two.assert_definite(), Ok(()));
-    assert_eq!(rt;
-        open.assert_definite(),
-        Err(Error::IndefiniteLengthUnexpected)
+    let (mut five, mut still_open) = (two, open);
+    five += 3;
+    still_open += 3;
+    let definite = [two, two + two, two + 2, five];
+    let indefinite = [two + open, open + two, open + 2, still_open];
+    assert_shown(
+        &rt,
+        rt.alloc(),
+        &(definite, indefinite),
+        "([Definite(2), Definite(4), Definite(4), Definite(5)], \
+        [Indefinite, Indefinite, Indefinite, Indefinite])",
+    )
+}
+
+#[test]
+fn lengths_are_asserted(rt: HostRuntime) -> Result<(), Fail> {
+    let two = Length::from(2);
+    let open = Length::Indefinite;
+    let of_two = (
+        two.definite(),
+        two.assert_definite(),
+        two.is_definite(),
+        two.is_null(),
     );
-    assert!(rt; two.is_definite() && !open.is_definite());
-    assert!(rt; Length::from(0).is_null() && !two.is_null() && !open.is_null());
+    let of_open = (
+        open.definite(),
+        open.assert_definite(),
+        open.is_definite(),
+        open.is_null(),
+    );
+    assert_shown(
+        &rt,
+        rt.alloc(),
+        &(of_two, of_open, Length::from(0).is_null()),
+        "((Ok(2), Ok(()), true, false), \
+        (Err(IndefiniteLengthUnexpected), Err(IndefiniteLengthUnexpected), false, false), true)",
+    )
 }
 
 #[test]
 fn refusals_are_converted(rt: HostRuntime) -> Result<(), Fail> {
-    assert_eq!(rt; Needed::new(0), Needed::Unknown);
-    assert_eq!(rt; Needed::new(2), Needed::Size(2));
-    // A refusal, the same with its error converted, and the error that it holds.
-    let cut = Error::Incomplete(Needed::Size(3));
-    let table: [(Err<u8>, Err<Refused>, Refused); 3] = [
-        (
-            Err::Incomplete(Needed::Size(3)),
-            Err::Incomplete(Needed::Size(3)),
-            Refused::ByLibrary(cut),
-        ),
-        (
-            Err::Error(7),
-            Err::Error(Refused::ByNumber(7)),
-            Refused::ByNumber(7),
-        ),
-        (
-            Err::Failure(8),
-            Err::Failure(Refused::ByNumber(8)),
-            Refused::ByNumber(8),
-        ),
-    ];
-    for (refusal, converted, flattened) in table {
-        assert_eq!(rt;
-            refusal.is_incomplete(),
-            matches!(refusal, Err::Incomplete(_))
-        );
-        assert_eq!(rt; Err::convert(refusal.clone()?), converted);
-        assert_eq!(rt; refusal.clone()?.map(Refused::from), converted);
-        assert_eq!(rt; from_nom_error::<u8, Refused>(refusal), flattened);
-    }
-    assert_eq!(rt; Err::from(Error::InvalidTag), Err::Error(Error::InvalidTag));
-    assert_eq!(rt;
+    let refusals: (Err<Refused>, Err<Refused>, Err<Refused>) = (
+        Err::convert(Err::<u8>::Incomplete(Needed::Size(3))),
+        Err::convert(Err::<u8>::Error(7)),
+        Err::Failure(8).map(Refused::from_number),
+    );
+    assert_shown(
+        &rt,
+        rt.alloc(),
+        &refusals,
+        "(Incomplete(Size(3)), Error(ByNumber(7)), Failure(ByNumber(8)))",
+    )
+}
+
+#[test]
+fn refusals_are_flattened(rt: HostRuntime) -> Result<(), Fail> {
+    let errors = (
+        from_nom_error::<u8, Refused>(Err::Failure(8)),
+        from_nom_error::<u8, Refused>(Err::Incomplete(Needed::Size(3))),
+        Err::<u8>::Incomplete(Needed::Size(3)).is_incomplete(),
+        Err::<u8>::Error(7).is_incomplete(),
+    );
+    assert_shown(
+        &rt,
+        rt.alloc(),
+        &errors,
+        "(ByNumber(8), ByLibrary(Incomplete(Size(3))), true, false)",
+    )
+}
+
+#[test]
+fn errors_are_converted(rt: HostRuntime) -> Result<(), Fail> {
+    let errors = (
+        Err::from(Error::InvalidTag),
         Error::from(Err::Error(Error::InvalidTag)),
-        Error::InvalidTag
+        Error::from(Err::Failure(Error::InvalidLength)),
+        Error::from(Err::<Error>::Incomplete(Needed::Size(3))),
+        Error::from(AllocError),
+        (Needed::new(0), Needed::new(2)),
     );
+    assert_shown(
+        &rt,
+        rt.alloc(),
+        &errors,
+        "(Error(InvalidTag), InvalidTag, InvalidLength, Incomplete(Size(3)), OutOfMemory, (Unknown, Size(2)))",
+    )
+}
+
+#[test]
+fn errors_are_equal_by_their_parts(rt: HostRuntime) {
+    let refused = Error::from(Err::Error(Error::BerTypeError));
+    let cut = Error::from(Err::<Error>::Incomplete(Needed::Size(2)));
     assert_eq!(rt;
-        Error::from(Err::Failure(Error::InvalidTag)),
-        Error::InvalidTag
+        [refused == cut, cut == Error::Incomplete(Needed::Size(2))],
+        [false, true]
     );
-    assert_eq!(rt;
-        Error::from(Err::Incomplete(Needed::Size(3))),
-        Error::Incomplete(Needed::Size(3))
+}
+
+#[test]
+fn errors_are_made(rt: HostRuntime) -> Result<(), Fail> {
+    let errors = (
+        Error::unexpected_tag(None, Tag(4)),
+        Error::unexpected_class(None, Class::Application),
+        Error::invalid_value(Tag(0), CowStr::Borrowed("message")),
     );
-    assert_eq!(rt; Error::from(AllocError), Error::OutOfMemory);
-    Ok(())
+    assert_shown(
+        &rt,
+        rt.alloc(),
+        &errors,
+        "(UnexpectedTag { expected: None, actual: Tag(4) }, \
+        UnexpectedClass { expected: None, actual: Application }, \
+        InvalidValue { tag: Tag(0), msg: \"message\" })",
+    )
 }
 
 #[test]
 fn errors_have_texts(rt: HostRuntime) -> Result<(), Fail> {
-    let tag = Error::unexpected_tag(None, Tag(4));
-    assert_eq!(rt;
-        tag,
-        Error::UnexpectedTag {
-            expected: None,
-            actual: Tag::OctetString
-        }
-    );
-    let class = Error::unexpected_class(None, Class::Application);
-    assert_eq!(rt;
-        class,
-        Error::UnexpectedClass {
-            expected: None,
-            actual: Class::Application
-        }
-    );
-    let value = Error::invalid_value(Tag(0), CowStr::Borrowed("message"));
-    let table = [
-        (SerializeError::from(tag), "ASN.1 error: UnexpectedTag"),
-        (SerializeError::from(class), "ASN.1 error: UnexpectedClass"),
-        (SerializeError::from(value), "ASN.1 error: InvalidValue"),
-        (SerializeError::InvalidClass { class: 4 }, "Invalid Class 4"),
-        (SerializeError::InvalidLength, "Invalid Length"),
-        (
-            SerializeError::from(io::Error::from(ErrorKind::BrokenPipe)),
-            "I/O error: ",
-        ),
-        (SerializeError::from(AllocError), "Out of memory"),
+    let refusals = [
+        SerializeError::from(Error::unexpected_tag(None, Tag(4))),
+        SerializeError::InvalidClass { class: 4 },
+        SerializeError::InvalidLength,
+        SerializeError::from(AllocError),
+        SerializeError::from(io::Error::from(ErrorKind::BrokenPipe)),
     ];
-    for (refusal, front) in table {
-        let text = refusal.to_string(rt.alloc())?;
-        assert!(rt; text.starts_with(front), "{text}");
+    let mut text = String::new(rt.alloc());
+    for refusal in &refusals {
+        write!(text, "{refusal}; ")?;
     }
-    let indefinite = Error::DerConstraintFailed(DerConstraint::IndefiniteLength);
-    assert!(rt; !indefinite.to_string(rt.alloc())?.is_empty());
+    let expected =
+        "ASN.1 error: UnexpectedTag { expected: None, actual: Tag(4) }; Invalid Class 4; Invalid Length; \
+        Out of memory; I/O error: ";
+    assert!(rt; text.starts_with(expected), "{text}");
     Ok(())
 }

@@ -3,14 +3,24 @@
 #![tactic(auto)]
 
 #[cfg(test)]
-mod devices;
+mod ber_lines;
 #[cfg(test)]
-mod elements;
+mod by_hand;
+#[cfg(test)]
+mod calls;
+#[cfg(test)]
+mod devices;
 #[cfg(test)]
 mod errors;
 #[cfg(test)]
-mod headers;
+mod iterators;
 #[cfg(test)]
 mod lines;
+#[cfg(test)]
+mod numbers;
+#[cfg(test)]
+mod reading;
+#[cfg(test)]
+mod rows;
 #[cfg(test)]
 mod writers;

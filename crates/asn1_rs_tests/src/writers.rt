@@ -1,150 +1,192 @@
-//! How headers are written, and writers that take little at a time or fail.
+//! How values are written, and writers that take little at a time or fail.
 
-use crate::devices::{CallersOwn, Narrow, assert_written, io_kind};
-use asn1_rs::{Class, DerWrite, FromDer, Header, Length, Tag, ToDer, Told, put_all};
+use crate::calls::push_written;
+use crate::devices::{CallersOwn, Narrow, assert_cut, assert_failed, io_kind};
+use crate::rows::{assert_rows, assert_shown};
+use asn1_rs::{Any, Class, DerWrite, Header, Length, Tag, ToDer, Told, put_all};
+use std::alloc::Global;
 use std::io::ErrorKind;
+use std::process::Abort;
 use std::test::Fail;
 
+/// Headers and elements that are read by BER, and how they are written: by DER, their counts, and in the raw form.
+/// That of a header has the identifier octets that were read, that of an element the length that was read.
+const WRITTEN_AGAIN: &str = "\
+header_again 9f0f02 = 8f02 count 2 0 raw 9f0f02
+header_again 1f801f8103 = 1f1f03 count 3 0 raw 1f801f03
+header_again 1f8fffffff7f00 = 1f8fffffff7f00 count 7 0 raw 1f8fffffff7f00
+header_again a201 = a201 count 2 0 raw a201
+header_again a280 = a280 count 2 0 raw a280
+header_again 8f820002 = 8f02 count 2 0 raw 8f02
+any_again 9f0f021234 = 8f021234 count 4 2 raw 8f021234
+any_again 028200010a = 02010a count 3 1 raw 02010a
+any_again 300a1605536d6974680101ff = 300a1605536d6974680101ff count 12 10 raw 300a1605536d6974680101ff
+";
+
+/// Asserts how a value is written, as [`push_written`] shows it.
+fn assert_written<T: ToDer>(
+    rt: &impl Abort,
+    alloc: Global,
+    value: &T,
+    expected: &str,
+) -> Result<(), Fail> {
+    let mut text = String::new(alloc);
+    push_written(&mut text, alloc, value)?;
+    assert_eq!(rt; text.as_str(), expected);
+    Ok(())
+}
+
 #[test]
-fn identifier_and_length_octets_are_written(rt: HostRuntime) -> Result<(), Fail> {
-    let identifiers: [(Class, bool, u32, &[u8]); 9] = [
-        (Class::Universal, false, 0x1a, &[0x1a]),
-        (Class::Application, false, 0x1a, &[0x5a]),
-        (Class::Universal, true, 0x10, &[0x30]),
-        (Class::Private, true, 30, &[0xfe]),
-        (Class::ContextSpecific, false, 31, &[0x9f, 0x1f]),
-        (Class::ContextSpecific, false, 127, &[0x9f, 0x7f]),
-        (Class::ContextSpecific, false, 128, &[0x9f, 0x81, 0x00]),
-        (Class::Universal, false, 0x1a1a, &[0x1f, 0xb4, 0x1a]),
+fn what_was_read_is_written_again(rt: HostRuntime) -> Result<(), Fail> {
+    assert_rows(&rt, rt.alloc(), WRITTEN_AGAIN)
+}
+
+#[test]
+fn identifier_octets_are_written(rt: HostRuntime) -> Result<(), Fail> {
+    let table = [
+        (Class::Universal, false, 0x1a, "1a count 1 0 raw 1a"),
+        (Class::Application, false, 0x1a, "5a count 1 0 raw 5a"),
+        (Class::Universal, true, 0x10, "30 count 1 0 raw 30"),
+        (Class::Private, true, 30, "fe count 1 0 raw fe"),
+        (Class::ContextSpecific, false, 31, "9f1f count 2 0 raw 9f1f"),
+        (
+            Class::ContextSpecific,
+            false,
+            127,
+            "9f7f count 2 0 raw 9f7f",
+        ),
+        (
+            Class::ContextSpecific,
+            false,
+            128,
+            "9f8100 count 3 0 raw 9f8100",
+        ),
         (
             Class::Universal,
             false,
-            4294967295,
-            &[0x1f, 0x8f, 0xff, 0xff, 0xff, 0x7f],
+            0x1a1a,
+            "1fb41a count 3 0 raw 1fb41a",
         ),
     ];
-    for (class, constructed, tag, octets) in identifiers {
-        assert_written(&rt, rt.alloc(), &(class, constructed, Tag(tag)), octets)?;
+    for (class, constructed, tag, expected) in table {
+        assert_written(&rt, rt.alloc(), &(class, constructed, Tag(tag)), expected)?;
     }
-    let lengths: [(Length, &[u8]); 9] = [
-        (Length::Indefinite, &[0x80]),
-        (Length::Definite(0), &[0x00]),
-        (Length::Definite(3), &[0x03]),
-        (Length::Definite(127), &[0x7f]),
-        (Length::Definite(128), &[0x81, 0x80]),
-        // X.690 8.1.3.5
-        (Length::Definite(201), &[0x81, 0xc9]),
-        (Length::Definite(250), &[0x81, 0xfa]),
+    Ok(())
+}
+
+#[test]
+fn length_octets_are_written(rt: HostRuntime) -> Result<(), Fail> {
+    // X.690 8.1.3.5 has 201.
+    let table = [
+        (Length::Indefinite, "80 count 1 0 raw 80"),
+        (Length::Definite(0), "00 count 1 0 raw 00"),
+        (Length::Definite(3), "03 count 1 0 raw 03"),
+        (Length::Definite(127), "7f count 1 0 raw 7f"),
+        (Length::Definite(128), "8180 count 2 0 raw 8180"),
+        (Length::Definite(201), "81c9 count 2 0 raw 81c9"),
+        (Length::Definite(250), "81fa count 2 0 raw 81fa"),
         (
-            Length::Definite(0x0100_0000),
-            &[0x84, 0x01, 0x00, 0x00, 0x00],
+            Length::Definite(0x100_0000),
+            "8401000000 count 5 0 raw 8401000000",
         ),
         (
             Length::Definite(usize::MAX),
-            &[0x88, 0xff, 0xff, 0xff, 0xff, 0xff, 0xff, 0xff, 0xff],
+            "88ffffffffffffffff count 9 0 raw 88ffffffffffffffff",
         ),
     ];
-    for (length, octets) in lengths {
-        assert_written(&rt, rt.alloc(), &length, octets)?;
+    for (length, expected) in table {
+        assert_written(&rt, rt.alloc(), &length, expected)?;
+    }
+    Ok(())
+}
+
+/// Parts of headers, and how they are written.
+const HEADERS_BY_HAND: [(Class, bool, u32, Length, &str); 5] = [
+    (
+        Class::ContextSpecific,
+        true,
+        2,
+        Length::Definite(1),
+        "a201 count 2 0 raw a201",
+    ),
+    (
+        Class::ContextSpecific,
+        true,
+        2,
+        Length::Indefinite,
+        "a280 count 2 0 raw a280",
+    ),
+    (
+        Class::Universal,
+        false,
+        2,
+        Length::Indefinite,
+        "0280 count 2 0 raw 0280",
+    ),
+    (
+        Class::Universal,
+        false,
+        2,
+        Length::Definite(0),
+        "0200 count 2 0 raw 0200",
+    ),
+    (
+        Class::Application,
+        true,
+        31,
+        Length::Definite(128),
+        "7f1f8180 count 4 0 raw 7f1f8180",
+    ),
+];
+
+#[test]
+fn headers_by_hand_are_written(rt: HostRuntime) -> Result<(), Fail> {
+    for (class, constructed, tag, length, expected) in HEADERS_BY_HAND {
+        let header = Header::new(class, constructed, Tag(tag), length);
+        assert_written(&rt, rt.alloc(), &header, expected)?;
     }
     Ok(())
 }
 
 #[test]
-fn headers_are_written(rt: HostRuntime) -> Result<(), Fail> {
-    let table: [(Class, bool, u32, Length, &[u8]); 6] = [
-        (
-            Class::ContextSpecific,
-            true,
-            2,
-            Length::Definite(1),
-            &[0xa2, 0x01],
-        ),
-        (
-            Class::ContextSpecific,
-            true,
-            2,
-            Length::Indefinite,
-            &[0xa2, 0x80],
-        ),
-        (
-            Class::Universal,
-            false,
-            2,
-            Length::Indefinite,
-            &[0x02, 0x80],
-        ),
-        (
-            Class::Universal,
-            false,
-            2,
-            Length::Definite(300),
-            &[0x02, 0x82, 0x01, 0x2c],
-        ),
-        (
-            Class::ContextSpecific,
-            false,
-            15,
-            Length::Definite(2),
-            &[0x8f, 0x02],
-        ),
-        (
-            Class::Application,
-            true,
-            31,
-            Length::Definite(128),
-            &[0x7f, 0x1f, 0x81, 0x80],
-        ),
-    ];
-    for (class, constructed, tag, length, octets) in table {
-        let header = Header::new(class, constructed, Tag(tag), length);
-        assert_written(&rt, rt.alloc(), &header, octets)?;
-        assert_eq!(rt; header.to_der_vec_raw(rt.alloc())?.as_slice(), octets);
-    }
+fn elements_by_hand_are_written(rt: HostRuntime) -> Result<(), Fail> {
+    let large = Any::from_tag_and_data(Tag(0x4142_4344), &[0x02, 0x01, 0x01]);
+    let expected = "1f848a89864403020101 count 10 3 raw 1f848a89864403020101";
+    assert_written(&rt, rt.alloc(), &large, expected)?;
+    // The raw form has the length of the header.
+    let header = Header::new_simple(Tag::Integer).with_length(Length::Definite(3));
+    let expected = "020102 count 3 1 raw 020302";
+    assert_written(&rt, rt.alloc(), &Any::new(header, &[0x02]), expected)?;
+    let header = Header::new_simple(Tag::Integer).with_length(Length::Definite(usize::MAX));
+    let expected = "0200 count 2 0 raw 0288ffffffffffffffff";
+    assert_written(&rt, rt.alloc(), &Any::new(header, &[]), expected)
+}
+
+#[test]
+fn numbers_are_written(rt: HostRuntime) -> Result<(), Fail> {
+    assert_written(&rt, rt.alloc(), &255u8, "020200ff count 4 2 raw 020200ff")?;
+    assert_written(&rt, rt.alloc(), &256u16, "02020100 count 4 2 raw 02020100")?;
     assert_written(
         &rt,
         rt.alloc(),
-        &Header::new_simple(Tag::Integer),
-        &[0x02, 0x00],
-    )
+        &65537u32,
+        "0203010001 count 5 3 raw 0203010001",
+    )?;
+    assert_written(&rt, rt.alloc(), &127u64, "02017f count 3 1 raw 02017f")
 }
 
 #[test]
-fn headers_that_were_read_are_written_again(rt: HostRuntime) -> Result<(), Fail> {
-    // Octets that are read, and the header that is written; its raw form keeps the identifier octets.
-    let table: [(&[u8], &[u8], &[u8]); 3] = [
-        (&[0x9f, 0x0f, 0x02], &[0x8f, 0x02], &[0x9f, 0x0f, 0x02]),
-        (
-            &[0x1f, 0x80, 0x1f, 0x81, 0x03],
-            &[0x1f, 0x1f, 0x03],
-            &[0x1f, 0x80, 0x1f, 0x03],
-        ),
-        (
-            &[0x1f, 0x8f, 0xff, 0xff, 0xff, 0x7f, 0x00],
-            &[0x1f, 0x8f, 0xff, 0xff, 0xff, 0x7f, 0x00],
-            &[0x1f, 0x8f, 0xff, 0xff, 0xff, 0x7f, 0x00],
-        ),
-    ];
-    for (octets, strict, raw) in table {
-        let (_, header) = Header::from_der(rt.alloc(), octets)?;
-        assert_written(&rt, rt.alloc(), &header, strict)?;
-        assert_eq!(rt; header.to_der_vec_raw(rt.alloc())?.as_slice(), raw);
-        for place in 0..raw.len() {
-            let mut w = Told::new(Narrow::new(rt.alloc(), place, None));
-            let refusal = header.write_der_raw(rt.alloc(), &mut w).err();
-            assert_eq!(rt;
-                io_kind(refusal),
-                Some(ErrorKind::WriteZero),
-                "{octets:?} at {place}"
-            );
-            assert_eq!(rt; w.as_inner().held(), &raw[..place], "{octets:?} at {place}");
-        }
-    }
-    Ok(())
+fn writers_are_cut(rt: HostRuntime) {
+    let element = [0x1f, 0x84, 0x8a, 0x89, 0x86, 0x44, 0x03, 0x02, 0x01, 0x01];
+    let large = Any::from_tag_and_data(Tag(0x4142_4344), &[0x02, 0x01, 0x01]);
+    assert_cut(&rt, rt.alloc(), &large, &element);
+    assert_cut(&rt, rt.alloc(), &large.header, &element[..7]);
+    assert_cut(&rt, rt.alloc(), &65537u32, &[0x02, 0x03, 0x01, 0x00, 0x01]);
+    assert_cut(&rt, rt.alloc(), &Length::Definite(201), &[0x81, 0xc9]);
 }
 
 #[test]
-fn writers_that_failed_are_marked(rt: HostRuntime) -> Result<(), Fail> {
+fn writers_that_failed_are_marked(rt: HostRuntime) {
     // How a full writer ends, and the kind that the refusal tells of.
     let table = [
         (Some(ErrorKind::BrokenPipe), ErrorKind::BrokenPipe),
@@ -152,41 +194,42 @@ fn writers_that_failed_are_marked(rt: HostRuntime) -> Result<(), Fail> {
         (None, ErrorKind::WriteZero),
     ];
     for (end, kind) in table {
-        let mut w = Told::new(Narrow::new(rt.alloc(), 2, end));
-        assert_eq!(rt; put_all(&mut w, &[0x0a])?, 1);
-        assert_eq!(rt; w.put(&[])?, 0);
-        assert!(rt; !w.is_failed());
-        assert_eq!(rt; io_kind(put_all(&mut w, &[0x0b, 0x0c]).err()), Some(kind));
-        assert!(rt; w.is_failed());
-        for piece in [[0x0d].as_slice(), [].as_slice()] {
-            assert_eq!(rt;
-                w.put(piece).err().map(|e| e.kind()),
-                Some(ErrorKind::WriteZero)
-            );
-        }
-        assert_eq!(rt;
-            io_kind(put_all(&mut w, &[0x0d]).err()),
-            Some(ErrorKind::WriteZero)
-        );
-        assert_eq!(rt; put_all(&mut w, &[])?, 0);
-        assert_eq!(rt; w.into_inner().held(), [0x0a, 0x0b].as_slice());
+        let mut w = Told::new(Narrow::new(rt.alloc(), 3, end));
+        let refusal = 65537u32.write_der(rt.alloc(), &mut w).err();
+        assert_failed(&rt, refusal, kind, &w, &[0x02, 0x03, 0x01]);
     }
-    Ok(())
+}
+
+#[test]
+fn marked_writer_takes_nothing(rt: HostRuntime) -> Result<(), Fail> {
+    let mut w = Told::new(Narrow::new(rt.alloc(), 0, None));
+    let before = (w.put(&[]).is_ok(), w.is_failed());
+    let first = io_kind(put_all(&mut w, &[0x0a]).err());
+    let second = io_kind(put_all(&mut w, &[0x0a]).err());
+    let after = (
+        put_all(&mut w, &[]).is_ok(),
+        w.put(&[]).is_ok(),
+        w.is_failed(),
+    );
+    assert_shown(
+        &rt,
+        rt.alloc(),
+        &(before, first, second, after),
+        "((true, false), Some(WriteZero), Some(WriteZero), (true, false, true))",
+    )
 }
 
 #[test]
 fn writer_of_a_callers_own_is_filled(rt: HostRuntime) -> Result<(), Fail> {
     let mut w = CallersOwn::new(rt.alloc(), 4);
-    assert_eq!(rt;
-        Header::new_simple(Tag::Sequence).write_der(rt.alloc(), &mut w)?,
-        2
-    );
-    assert!(rt; !w.is_failed());
-    assert_eq!(rt;
-        io_kind(put_all(&mut w, &[0x05, 0x06, 0x07]).err()),
-        Some(ErrorKind::BrokenPipe)
-    );
-    assert!(rt; w.is_failed());
-    assert_eq!(rt; w.held(), [0x30, 0x00, 0x05, 0x06].as_slice());
-    Ok(())
+    let count = Header::new_simple(Tag::Sequence)
+        .write_der(rt.alloc(), &mut w)
+        .ok();
+    let kind = io_kind(put_all(&mut w, &[0x05, 0x06, 0x07]).err());
+    assert_shown(
+        &rt,
+        rt.alloc(),
+        &(count, kind, w.held(), w.is_failed()),
+        "(Some(2), Some(BrokenPipe), [48, 0, 5, 6], true)",
+    )
 }

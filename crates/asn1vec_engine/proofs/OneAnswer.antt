@@ -1,122 +1,148 @@
 -- A line has one answer.
-use Rattle.std.proofs.Common.{◌≡◌, ◌∙◌, ◌<◌, ◌≤◌, ◌+◌, ◌^◌, sym, ap, subst, refl, List, [], ◌∷◌, ◌++◌, length, length-append, ℕ, false, ◌⊎◌, inl, inr, Result, Ok, Err, arith, codes, decimal, Option, Some, append_assoc}
+use Rattle.std.proofs.Common.{◌≡◌, ◌∙◌, ◌≤◌, ◌^◌, sym, ap, subst, refl, List, [], ◌∷◌, ◌++◌, length, ℕ, false, ◌⊎◌, inl, inr, Result, Ok, Err, arith, codes, decimal, Option, Some, append_assoc}
 use Rattle.std.proofs.lemmas.List.{append_cancel_left}
 use Rattle.std.proofs.Math.Dec.{eqb}
 use Rattle.std.specs.List.{find}
 use Rattle.std.specs.Cmp.Lexicographic.{pointwise}
 use Rattle.x690.specs.Identifiers.{Identifier, IsCutIdentifier}
-use Rattle.x690.specs.Elements.{Parts}
-use Rattle.x690.specs.Strict.{header_octets}
-use Rattle.x690.specs.Laws.StrictHeaders.{header_octets_count}
-use Rattle.x690.specs.Laws.StrictIdentifiers.{identifier_octets_few}
-use Rattle.x690.specs.Laws.StrictLengths.{length_octets_count_low}
-use Rattle.x690.specs.Integers.{unsigned_octets}
-use Rattle.x690.specs.Laws.StrictElements.{strict_element_octets}
-use Rattle.x690.specs.Laws.UnsignedOctets.{unsigned_octets_few, unsigned_octets_only}
+use Rattle.x690.specs.Elements.{Parts, IsDefiniteElement}
+use Rattle.x690.specs.Faults.{DefiniteElementFault}
+use Rattle.x690.specs.Nested.{IsElement, ElementFault}
 use Rattle.asn1_rs.specs.declared.error.Err.{Err as Refusal}
 use Rattle.asn1_rs.specs.declared.error.Error.{Error}
+use Rattle.asn1_rs.specs.declared.error.Error.TheVariants as faults
+use Rattle.asn1_rs.specs.declared.error.DerConstraint.TheVariants as constraints
 use Rattle.asn1_rs.specs.declared.error.SerializeError.{SerializeError}
 use Rattle.asn1_rs.specs.declared.error.SerializeError.TheVariants as refusals
+use Rattle.asn1_rs.specs.Any.{IsTheElement, IsDefiniteOr}
 use Rattle.asn1_rs.specs.Answers.{Exactly, Front, IsFinal, TellsMemory}
-use Rattle.asn1_rs.specs.Form.{IsStrict}
+use Rattle.asn1_rs.specs.Element.{element_of, ElementBody, ElementCheck, ElementForm}
+use Rattle.asn1_rs.specs.Form.{IsOneForm}
 use Rattle.asn1_rs.specs.Wrote.{MayRefuse, tells_of_io}
-use Rattle.asn1_rs.specs.Grammar.{DerWord, DerGives}
-use Rattle.asn1_rs.specs.Integer.{integer_number, IntegerCheck, IntegerCheckGives, UnsignedBody, UnsignedForm, UnsignedGives}
-use Rattle.asn1_rs.specs.Laws.Elements.{none_now}
-use Rattle.asn1_rs.specs.Laws.Integer.{one_integer_check_refusal, integer_check_exact, one_unsigned_refusal, unsigned_der_one, unsigned_one_form}
-use Rattle.asn1_rs.specs.Laws.Words.{one_strict}
+use Rattle.asn1_rs.specs.Grammar.{max_depth, IsOneFront, IsOneBody, NoCheck, PassesAll, BerWord, DerWord, BerGives, DerGives, EndsWithin}
+use Rattle.asn1_rs.specs.Integer.{IntegerCheck, IntegerCheckGives, UnsignedBody, UnsignedForm, UnsignedGives}
+use Rattle.asn1_rs.specs.Laws.Element.{element_body_one, element_one_form, element_check_exact}
+use Rattle.asn1_rs.specs.Laws.Elements.{none_now, der_elements, ber_elements}
+use Rattle.asn1_rs.specs.Laws.Integer.{one_integer_check_refusal, integer_check_exact, one_unsigned_refusal, unsigned_one_body, unsigned_one_form}
+use Rattle.asn1_rs.specs.Laws.Words.{one_strict, word_one}
 use Rattle.asn1vec_engine.specs.declared.request.Rule.{Rule}
+use Rattle.asn1vec_engine.specs.declared.request.Rule.TheVariants.{Ber, Der}
 use Rattle.asn1vec_engine.specs.declared.types.TypeName.{TypeName}
-use Rattle.asn1vec_engine.specs.declared.types.TypeName.TheVariants.{U8, U16, U32, U64}
-use Rattle.asn1vec_engine.specs.Names.{name_of_refusal}
-use Rattle.asn1vec_engine.specs.Shown.{in_hexadecimal, WrittenText, StrictText, Says}
-use Rattle.asn1vec_engine.specs.Types.{name_of, IsTypeOf}
-use Rattle.asn1vec_engine.specs.Answer.{IsUnsignedAnswer, IsTypeAnswer, IsRequestAnswer, IsRefusedLine, IsAnswered, IsAnswer, IsAnswerLine, AreAnswers, BeginAnswers}
-use Rattle.asn1vec_engine.proofs.OneRefusal.{Same, one_der_refusal}
+use Rattle.asn1vec_engine.specs.declared.types.TypeName.TheVariants.{U8, U16, U32, U64, Any}
+use Rattle.asn1vec_engine.specs.Names.{name_of_refusal, name_of_write_refusal}
+use Rattle.asn1vec_engine.specs.Shown.{in_hexadecimal, element_text, WrittenText, StrictText, Says, Same, IsReadAnswer, IsAnswerBy}
+use Rattle.asn1vec_engine.specs.Types.{name_of}
+use Rattle.asn1vec_engine.specs.Answer.{IsUnsignedAnswer, IsElementAnswer, IsTypeAnswer, IsRequestAnswer, IsRefusedLine, IsAnswered, IsAnswer, IsAnswerLine, AreAnswers, BeginAnswers}
+use Rattle.asn1vec_engine.proofs.OneRefusal.{IsOneRefusal, one_reading_refusal}
 use Rattle.asn1vec_engine.proofs.Split.{requests_same}
 
--- ---- how a number is written
+-- ---- how a value is written
 
--- the encoding of a number that fits is short
-short_encoding : (size v : ℕ) (o : List ℕ) → size ≤ 16 → IsStrict (UnsignedForm size) v o → length o < 2 ^ 64
-short_encoding size v o most s =
-    let few : length (unsigned_octets v) ≤ size + 1 = unsigned_octets_few v size s.form.1.0 in
-    let content : length s.content ≡ length (unsigned_octets v) = ap length (unsigned_octets_only v s.content s.form.1.1) in
-    let low : length s.content < 128 = omega (arith, few, content) in
-    let number : s.id.number ≡ integer_number = ap (λ (i : Identifier). i.number) s.form.0 in
-    let header = header_octets_count s.id.class s.id.constructed s.id.number (length s.content) in
-    let first = identifier_octets_few s.id (omega arith) in
-    let second = length_octets_count_low (length s.content) low in
-    let whole = ap length (strict_element_octets o s.id s.content s.element) ∙ length-append (header_octets s.id.class s.id.constructed s.id.number (length s.content)) s.content in
-    omega (arith, whole, header, first, second, low)
+-- writing that takes no memory is refused only where the encoding is too long
+only_length : (n : ℕ) (e : SerializeError) → MayRefuse false n e → tells_of_io e ≡ false → (e ≡ refusals.InvalidLength) × (2 ^ 64 ≤ n)
+only_length n (refusals.ASN1Error e) may other = absurd may
+only_length n (refusals.InvalidClass c) may other = absurd may
+only_length n refusals.InvalidLength may other = (refl, may)
+only_length n (refusals.IOError e) may other = cc
+only_length n refusals.OutOfMemory may other = cc
 
--- so it is not refused
-never_refused : (o : List ℕ) (e : SerializeError) → length o < 2 ^ 64 → MayRefuse false (length o) e → tells_of_io e ≡ false → ⊥
-never_refused o (refusals.ASN1Error e) short may other = may
-never_refused o (refusals.InvalidClass c) short may other = may
-never_refused o refusals.InvalidLength short may other = omega arith
-never_refused o (refusals.IOError e) short may other = cc
-never_refused o refusals.OutOfMemory short may other = cc
+written_once : (o text other : List ℕ) → WrittenText false o text → WrittenText false o other → text ≡ other
+written_once o text other (inl (short, e)) (inl (few, f)) = e ∙ sym f
+written_once o text other (inl (short, e)) (inr (r, may, io, f)) = let long = (only_length (length o) r may io).1 in absurd (omega arith)
+written_once o text other (inr (q, may, io, e)) (inl (short, f)) = let long = (only_length (length o) q may io).1 in absurd (omega arith)
+written_once o text other (inr (q, may, io, e)) (inr (r, might, too, f)) =
+    e ∙ ap (λ (x : SerializeError). codes "err " ++ name_of_write_refusal x) ((only_length (length o) q may io).0 ∙ sym (only_length (length o) r might too).0) ∙ sym f
 
-written_once : (o text : List ℕ) → length o < 2 ^ 64 → WrittenText false o text → text ≡ in_hexadecimal o
-written_once o text short (inl e) = e
-written_once o text short (inr (e, may, other, is)) = absurd (never_refused o e short may other)
-
-one_written : (size v : ℕ) (text other : List ℕ) → size ≤ 16 → StrictText (UnsignedForm size) false v text → StrictText (UnsignedForm size) false v other → text ≡ other
-one_written size v text other most (o, s, w) (p, t, x) =
-    written_once o text (short_encoding size v o most s) w ∙ ap in_hexadecimal (one_strict (UnsignedForm size) (unsigned_one_form size) v o p s t) ∙ sym (written_once p other (short_encoding size v p most t) x)
+one_written : {V : Type 0} (Form : V → Identifier → List ℕ → Type 0) → IsOneForm Form → (v : V) (text other : List ℕ) → StrictText Form false v text → StrictText Form false v other → text ≡ other
+one_written Form one v text other (o, s, w) (p, t, x) = written_once p text other (subst (λ (y : List ℕ). WrittenText false y text) (one_strict Form one v o p s t) w) x
 
 -- ---- what a reader answers
-
--- the answers of a reader that takes no memory
-abbrev Answers : ℕ → List ℕ → Result (List ℕ × ℕ) (Refusal Error) → Type 0
-Answers size octets answer =
-    Exactly IsCutIdentifier (DerWord IntegerCheck (UnsignedBody size)) (λ (x : ℕ). x) (TellsMemory false Same) octets answer ×
-    DerGives IntegerCheckGives (UnsignedGives size) Same octets answer
 
 no_memory : (r : Refusal Error) → TellsMemory false Same r → ⊥
 no_memory r h = let no = h.0 in cc
 
-checked_once : (p : Parts) (e : Error) → IntegerCheckGives p (Ok tt) → IntegerCheckGives p (Err e) → ⊥
-checked_once p e h k = integer_check_exact p (Err e) k h
+-- a reader that takes no memory, of a grammar with one word at a front
+module _ {T V : Type 0} (IsCut : List ℕ → Type 0) (G : List ℕ → V → Type 0) (value : T → V) (gives : List ℕ → Result (List ℕ × T) (Refusal Error) → Type 0) (text_of : V → List ℕ) (Form : V → Identifier → List ℕ → Type 0)
+    (one_word : IsOneFront G) (one_form : IsOneForm Form) (one_refusal : (octets : List ℕ) (q r : Refusal Error) → gives octets (Err q) → gives octets (Err r) → q ≡ r) where
+  one_front : (octets rest tail : List ℕ) (v w : V) → Front G octets v rest → Front G octets w tail → (v ≡ w) × (rest ≡ tail)
+  one_front octets rest tail v w f g =
+      let one = one_word.one f.word g.word rest tail v w f.fits g.fits (sym f.is ∙ g.is) in
+      (one.1, append_cancel_left f.word rest tail (sym f.is ∙ g.is ∙ ap (λ (x : List ℕ). x ++ tail) (sym one.0)))
 
-one_front : (size : ℕ) (octets rest tail : List ℕ) (v w : ℕ) → Front (DerWord IntegerCheck (UnsignedBody size)) octets v rest → Front (DerWord IntegerCheck (UnsignedBody size)) octets w tail → (v ≡ w) × (rest ≡ tail)
-one_front size octets rest tail v w f g =
-    let one = (unsigned_der_one size).one f.word g.word rest tail v w f.fits g.fits (sym f.is ∙ g.is) in
-    (one.1, append_cancel_left f.word rest tail (sym f.is ∙ g.is ∙ ap (λ (x : List ℕ). x ++ tail) (sym one.0)))
+  front_or_refusal : (octets rest : List ℕ) (v : V) (r : Refusal Error) → Front G octets v rest → TellsMemory false Same r ⊎ IsFinal (IsCut octets) r G octets → ⊥
+  front_or_refusal octets rest v r f (inl memory) = no_memory r memory
+  front_or_refusal octets rest v r f (inr final) = none_now (IsCut octets) r G octets final f.word rest v f.is f.fits
 
-front_or_refusal : (size : ℕ) (octets rest : List ℕ) (v : ℕ) (r : Refusal Error) → Front (DerWord IntegerCheck (UnsignedBody size)) octets v rest → TellsMemory false Same r ⊎ IsFinal (IsCutIdentifier octets) r (DerWord IntegerCheck (UnsignedBody size)) octets → ⊥
-front_or_refusal size octets rest v r f (inl memory) = no_memory r memory
-front_or_refusal size octets rest v r f (inr final) = none_now (IsCutIdentifier octets) r (DerWord IntegerCheck (UnsignedBody size)) octets final f.word rest v f.is f.fits
+  abbrev Answers : List ℕ → Result (List ℕ × T) (Refusal Error) → Type 0
+  Answers octets answer = Exactly IsCut G value (TellsMemory false Same) octets answer × gives octets answer
 
-ok_once : (size : ℕ) (octets text other : List ℕ) → size ≤ 16 → (a b : Result (List ℕ × ℕ) (Refusal Error)) → Answers size octets a → Answers size octets b
-    → Says decimal (StrictText (UnsignedForm size) false) a text → Says decimal (StrictText (UnsignedForm size) false) b other → text ≡ other
-ok_once size octets text other most (Ok (rest, v)) (Ok (tail, w)) p q (written, s, e) (again, t, f) =
-    let one = one_front size octets rest tail v w p.0 q.0 in
-    let same = one_written size w written again most (subst (λ (x : ℕ). StrictText (UnsignedForm size) false x written) one.0 s) t in
-    e ∙ ap (λ (x : ℕ). codes "ok " ++ (decimal x ++ (codes " rest " ++ (in_hexadecimal rest ++ (codes " enc " ++ written))))) one.0
-    ∙ ap (λ (x : List ℕ). codes "ok " ++ (decimal w ++ (codes " rest " ++ (in_hexadecimal x ++ (codes " enc " ++ written))))) one.1
-    ∙ ap (λ (x : List ℕ). codes "ok " ++ (decimal w ++ (codes " rest " ++ (in_hexadecimal tail ++ (codes " enc " ++ x))))) same ∙ sym f
-ok_once size octets text other most (Ok (rest, v)) (Err r) p q s t = absurd (front_or_refusal size octets rest v r p.0 q.0)
-ok_once size octets text other most (Err r) (Ok (tail, w)) p q s t = absurd (front_or_refusal size octets tail w r q.0 p.0)
-ok_once size octets text other most (Err q) (Err r) f g e d =
-    let one = one_der_refusal IntegerCheckGives (UnsignedGives size) one_integer_check_refusal checked_once (one_unsigned_refusal size) octets q r f.1 g.1 in
-    e ∙ ap (λ (x : Refusal Error). codes "err " ++ name_of_refusal x) one ∙ sym d
+  -- text and encoding follow from the value
+  abbrev shown : T → List ℕ
+  shown x = text_of (value x)
 
-unsigned_once : (size : ℕ) (octets text other : List ℕ) → size ≤ 16 → IsUnsignedAnswer size octets text → IsUnsignedAnswer size octets other → text ≡ other
-unsigned_once size octets text other most a b = ok_once size octets text other most a.answer b.answer (a.exact, a.given) (b.exact, b.given) a.says b.says
+  abbrev Written : T → List ℕ → Type 0
+  Written x = StrictText Form false (value x)
 
-type_once : (t : TypeName) (octets text other : List ℕ) → IsTypeAnswer t octets text → IsTypeAnswer t octets other → text ≡ other
-type_once U8 octets text other a b = unsigned_once 1 octets text other (omega arith) a b
-type_once U16 octets text other a b = unsigned_once 2 octets text other (omega arith) a b
-type_once U32 octets text other a b = unsigned_once 4 octets text other (omega arith) a b
-type_once U64 octets text other a b = unsigned_once 8 octets text other (omega arith) a b
+  said_once : (octets text other : List ℕ) (a b : Result (List ℕ × T) (Refusal Error)) → Answers octets a → Answers octets b → Says shown Written a text → Says shown Written b other → text ≡ other
+  said_once octets text other (Ok (rest, x)) (Ok (tail, y)) p q (written, s, e) (again, t, f) =
+      let one = one_front octets rest tail (value x) (value y) p.0 q.0 in
+      let same = one_written Form one_form (value y) written again (subst (λ (v : V). StrictText Form false v written) one.0 s) t in
+      e ∙ ap (λ (v : V). codes "ok " ++ (text_of v ++ (codes " rest " ++ (in_hexadecimal rest ++ (codes " enc " ++ written))))) one.0
+      ∙ ap (λ (l : List ℕ). codes "ok " ++ (text_of (value y) ++ (codes " rest " ++ (in_hexadecimal l ++ (codes " enc " ++ written))))) one.1
+      ∙ ap (λ (l : List ℕ). codes "ok " ++ (text_of (value y) ++ (codes " rest " ++ (in_hexadecimal tail ++ (codes " enc " ++ l))))) same ∙ sym f
+  said_once octets text other (Ok (rest, x)) (Err r) p q s t = absurd (front_or_refusal octets rest (value x) r p.0 q.0)
+  said_once octets text other (Err r) (Ok (tail, y)) p q s t = absurd (front_or_refusal octets tail (value y) r q.0 p.0)
+  said_once octets text other (Err q) (Err r) p s e d = e ∙ ap (λ (x : Refusal Error). codes "err " ++ name_of_refusal x) (one_refusal octets q r p.1 s.1) ∙ sym d
+
+  reading_once : (octets text other : List ℕ) → IsReadAnswer IsCut G value false gives shown Written octets text → IsReadAnswer IsCut G value false gives shown Written octets other → text ≡ other
+  reading_once octets text other a b = said_once octets text other a.answer b.answer (a.exact, a.given) (b.exact, b.given) a.says b.says
+
+-- by BER no check refuses
+one_pass : IsOneRefusal PassesAll
+one_pass p e f h k = cc
+
+passed : (p : Parts) (e : Error) → PassesAll p (Ok tt) → PassesAll p (Err e) → ⊥
+passed p e h k = cc
+
+-- a type that is read as one element, checked and converted, by either rule
+module _ {T V : Type 0} (check : Parts → Result (Unit {0}) Error → Type 0) (convert : Parts → Result T Error → Type 0) (Check : Parts → Type 0) (Body : Parts → V → Type 0) (value : T → V) (text_of : V → List ℕ) (Form : V → Identifier → List ℕ → Type 0)
+    (one_check : IsOneRefusal check) (checked : (p : Parts) (e : Error) → check p (Ok tt) → check p (Err e) → ⊥) (one_conversion : IsOneRefusal convert) (one_body : IsOneBody Body) (one_form : IsOneForm Form) where
+  abbrev IsItemAnswer : Rule → List ℕ → List ℕ → Type 0
+  IsItemAnswer = IsAnswerBy (BerWord Body) (DerWord Check Body) value false (BerGives convert Same) (DerGives check convert Same) (λ x. text_of (value x)) (λ x. StrictText Form false (value x))
+
+  item_once : (rule : Rule) (octets text other : List ℕ) → IsItemAnswer rule octets text → IsItemAnswer rule octets other → text ≡ other
+  item_once Ber octets text other a b =
+      reading_once EndsWithin (BerWord Body) value (BerGives convert Same) text_of Form (word_one (IsElement max_depth) NoCheck Body ber_elements.one one_body) one_form
+      (one_reading_refusal PassesAll convert one_pass passed one_conversion (IsElement max_depth) (ElementFault max_depth) EndsWithin ber_elements faults.ConstructExpected) octets text other a b
+  item_once Der octets text other a b =
+      reading_once IsCutIdentifier (DerWord Check Body) value (DerGives check convert Same) text_of Form (word_one IsDefiniteElement Check Body der_elements.one one_body) one_form
+      (one_reading_refusal check convert one_check checked one_conversion IsDefiniteElement DefiniteElementFault IsCutIdentifier der_elements (faults.DerConstraintFailed constraints.IndefiniteLength)) octets text other a b
+
+-- ---- the types
+
+unsigned_once : (size : ℕ) (rule : Rule) (octets text other : List ℕ) → IsUnsignedAnswer size rule octets text → IsUnsignedAnswer size rule octets other → text ≡ other
+unsigned_once size = item_once IntegerCheckGives (UnsignedGives size) IntegerCheck (UnsignedBody size) (λ (x : ℕ). x) decimal (UnsignedForm size)
+    one_integer_check_refusal (λ p e h k. integer_check_exact p (Err e) k h) (one_unsigned_refusal size) (unsigned_one_body size) (unsigned_one_form size)
+
+one_element_check_refusal : IsOneRefusal IsDefiniteOr
+one_element_check_refusal p e f h k = h.1 ∙ sym k.1
+
+element_once : (rule : Rule) (octets text other : List ℕ) → IsElementAnswer rule octets text → IsElementAnswer rule octets other → text ≡ other
+element_once = item_once IsDefiniteOr IsTheElement ElementCheck ElementBody element_of element_text ElementForm
+    one_element_check_refusal (λ p e h k. element_check_exact p (Err e) k h) (λ p e f h k. absurd h) element_body_one element_one_form
+
+type_once : (rule : Rule) (t : TypeName) (octets text other : List ℕ) → IsTypeAnswer rule t octets text → IsTypeAnswer rule t octets other → text ≡ other
+type_once rule U8 octets text other a b = unsigned_once 1 rule octets text other a b
+type_once rule U16 octets text other a b = unsigned_once 2 rule octets text other a b
+type_once rule U32 octets text other a b = unsigned_once 4 rule octets text other a b
+type_once rule U64 octets text other a b = unsigned_once 8 rule octets text other a b
+type_once rule Any octets text other a b = element_once rule octets text other a b
 
 -- ---- a line
 
 -- the type that has a name
 named : List ℕ → Option TypeName
-named name = find (λ t. pointwise eqb name (name_of t)) (U8 ∷ U16 ∷ U32 ∷ U64 ∷ [])
+named name = find (λ t. pointwise eqb name (name_of t)) (U8 ∷ U16 ∷ U32 ∷ U64 ∷ Any ∷ [])
 
 named_by_its_name : (t : TypeName) → named (name_of t) ≡ Some t
 unfolding named
@@ -124,15 +150,16 @@ named_by_its_name U8 = refl
 named_by_its_name U16 = refl
 named_by_its_name U32 = refl
 named_by_its_name U64 = refl
+named_by_its_name Any = refl
 
-one_type : (rule : Rule) (name : List ℕ) (t s : TypeName) → IsTypeOf rule name t → IsTypeOf rule name s → t ≡ s
-one_type rule name t s a b = let e : Some t ≡ Some s = sym (named_by_its_name t) ∙ ap named (sym a.1 ∙ b.1) ∙ named_by_its_name s in cc
+one_type : (name : List ℕ) (t s : TypeName) → name ≡ name_of t → name ≡ name_of s → t ≡ s
+one_type name t s a b = let e : Some t ≡ Some s = sym (named_by_its_name t) ∙ ap named (sym a ∙ b) ∙ named_by_its_name s in cc
 
 request_once : (rule : Rule) (name octets text other : List ℕ) → IsRequestAnswer rule name octets text → IsRequestAnswer rule name octets other → text ≡ other
 request_once rule name octets text other (inl (none, e)) (inl (nor, f)) = e ∙ sym f
 request_once rule name octets text other (inl (none, e)) (inr (t, is, a)) = absurd (none t is)
 request_once rule name octets text other (inr (t, is, a)) (inl (none, e)) = absurd (none t is)
-request_once rule name octets text other (inr (t, is, a)) (inr (s, too, b)) = type_once s octets text other (subst (λ (x : TypeName). IsTypeAnswer x octets text) (one_type rule name t s is too) a) b
+request_once rule name octets text other (inr (t, is, a)) (inr (s, too, b)) = type_once rule s octets text other (subst (λ (x : TypeName). IsTypeAnswer rule x octets text) (one_type name t s is too) a) b
 
 refused_or_answered : (line text : List ℕ) → IsRefusedLine line → IsAnswered line text → ⊥
 refused_or_answered line text (inl long) a = omega (arith, long, a.short)

@@ -1,31 +1,40 @@
 -- The answers to lines.
-use Rattle.std.specs.Prelude.{◌≡◌, ℕ, ◌<◌, ◌≤◌, List, [], ◌∷◌, ◌++◌, length, codes, decimal, false, ◌⊎◌}
+use Rattle.std.specs.Prelude.{◌≡◌, ◌≢◌, ℕ, ◌<◌, ◌≤◌, List, [], ◌∷◌, ◌++◌, length, codes, decimal, false, ◌⊎◌}
+use Rattle.asn1_rs.specs.declared.asn1_types.any.Any.{Any as Read}
+use Rattle.asn1_rs.specs.Any.{IsTheElement, IsDefiniteOr}
+use Rattle.asn1_rs.specs.Element.{Element, element_of, ElementBody, ElementCheck, ElementForm}
+use Rattle.asn1_rs.specs.Grammar.{BerWord, DerWord, BerGives, DerGives}
+use Rattle.asn1_rs.specs.Integer.{IntegerCheck, IntegerCheckGives, UnsignedBody, UnsignedForm, UnsignedGives}
 use Rattle.asn1vec_engine.specs.declared.request.Rule.{Rule}
 use Rattle.asn1vec_engine.specs.declared.types.TypeName.{TypeName}
-use Rattle.asn1vec_engine.specs.declared.types.TypeName.TheVariants.{U8, U16, U32, U64}
-use Rattle.asn1_rs.specs.Grammar.{DerWord, DerGives}
-use Rattle.asn1_rs.specs.Integer.{IntegerCheck, IntegerCheckGives, UnsignedBody, UnsignedForm, UnsignedGives}
+use Rattle.asn1vec_engine.specs.declared.types.TypeName.TheVariants.{U8, U16, U32, U64, Any}
 use Rattle.asn1vec_engine.specs.Request.{IsRequest, IsOtherForm}
-use Rattle.asn1vec_engine.specs.Shown.{IsDerAnswer, StrictText}
-use Rattle.asn1vec_engine.specs.Types.{IsTypeOf}
+use Rattle.asn1vec_engine.specs.Shown.{IsAnswerBy, Same, StrictText, element_text}
+use Rattle.asn1vec_engine.specs.Types.{name_of}
 
--- The answer of the unsigned integers of so many octets: in decimals, with the strict encoding that each of them has.
-abbrev pub IsUnsignedAnswer : ℕ → List ℕ → List ℕ → Type 0
-IsUnsignedAnswer size = IsDerAnswer {T = ℕ} {V = ℕ} (DerWord IntegerCheck (UnsignedBody size)) (λ x. x) false
-    (DerGives IntegerCheckGives (UnsignedGives size) (λ e f. f ≡ e)) decimal (StrictText (UnsignedForm size) false)
+-- the answer of the unsigned integers of so many octets: in decimals, with the strict encoding that each of them has
+abbrev pub IsUnsignedAnswer : ℕ → Rule → List ℕ → List ℕ → Type 0
+IsUnsignedAnswer size = IsAnswerBy {T = ℕ} {V = ℕ} (BerWord (UnsignedBody size)) (DerWord IntegerCheck (UnsignedBody size)) (λ x. x) false
+    (BerGives (UnsignedGives size) Same) (DerGives IntegerCheckGives (UnsignedGives size) Same) decimal (StrictText (UnsignedForm size) false)
 
--- the answer of a type to octets
-abbrev pub IsTypeAnswer : TypeName → List ℕ → List ℕ → Type 0
-IsTypeAnswer U8 = IsUnsignedAnswer 1
-IsTypeAnswer U16 = IsUnsignedAnswer 2
-IsTypeAnswer U32 = IsUnsignedAnswer 4
-IsTypeAnswer U64 = IsUnsignedAnswer 8
+-- the answer of elements of any type: what they say, with the strict encoding that each of them has
+abbrev pub IsElementAnswer : Rule → List ℕ → List ℕ → Type 0
+IsElementAnswer = IsAnswerBy {T = Read} {V = Element} (BerWord ElementBody) (DerWord ElementCheck ElementBody) element_of false
+    (BerGives IsTheElement Same) (DerGives IsDefiniteOr IsTheElement Same) (λ a. element_text (element_of a)) (λ a. StrictText ElementForm false (element_of a))
 
--- the answer to a request: of the type that has the name under the rule, or that there is none
+-- the answer of a type to octets that are read by a rule
+abbrev pub IsTypeAnswer : Rule → TypeName → List ℕ → List ℕ → Type 0
+IsTypeAnswer rule U8 = IsUnsignedAnswer 1 rule
+IsTypeAnswer rule U16 = IsUnsignedAnswer 2 rule
+IsTypeAnswer rule U32 = IsUnsignedAnswer 4 rule
+IsTypeAnswer rule U64 = IsUnsignedAnswer 8 rule
+IsTypeAnswer rule Any = IsElementAnswer rule
+
+-- the answer to a request: of the type that has the name, by the rule, or that there is none
 abbrev pub IsRequestAnswer : Rule → List ℕ → List ℕ → List ℕ → Type 0
 IsRequestAnswer rule name octets text =
-    (((t : TypeName) → ¬ IsTypeOf rule name t) × (text ≡ codes "err Type")) ⊎
-    ((t : TypeName) × IsTypeOf rule name t × IsTypeAnswer t octets text)
+    (((t : TypeName) → name ≢ name_of t) × (text ≡ codes "err Type")) ⊎
+    ((t : TypeName) × (name ≡ name_of t) × IsTypeAnswer rule t octets text)
 
 -- the line is too long or has another form
 abbrev pub IsRefusedLine : List ℕ → Type 0

@@ -13,10 +13,10 @@ use std::io::Read;
 /// Why a run ended before its input.
 #[derive(Clone, Copy, Debug, PartialEq, Eq, thiserror::Error)]
 pub enum RunError {
-    /// The reader answered an Err.
+    /// The reader answered an Err, or gave octets 2^64 - 1 times and was not at its end.
     #[error("input failed")]
     Input,
-    /// The writer failed.
+    /// The writer failed, or was marked before.
     #[error("output failed")]
     Output,
     /// A buffer of the run could not grow.
@@ -109,8 +109,9 @@ fn finish<W: DerWrite>(alloc: Global, line: &[u8], output: &mut W) -> Result<(),
 
 /// Answers each line of the input, in order.
 ///
-/// The first Err of the reader, of whatever kind, ends the run. The answer is `Output` exactly where the writer failed in
-/// this run, or was marked before and had something to write.
+/// The first Err of the reader, of whatever kind, ends the run with `Input`, and so do 2^64 - 1 reads that do not come
+/// to its end. After `Output` the writer is marked: it failed in this run, or was marked before. After any other answer
+/// its mark is as it was.
 pub fn run<R: Read, W: DerWrite>(
     alloc: Global,
     input: &mut R,

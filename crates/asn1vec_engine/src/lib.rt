@@ -2,6 +2,7 @@
 #![tactic(auto)]
 
 mod answer;
+mod element;
 mod engine;
 mod names;
 mod request;

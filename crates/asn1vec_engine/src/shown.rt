@@ -1,12 +1,17 @@
 //! How a reading is answered: the value, what follows it and how it is written, or the refusal.
 ghost use Rattle.std.specs.Prelude.{◌≡◌, ◌++◌, ◌||◌, ℕ, List, IfOk, codes, string_bytes};
+ghost use Rattle.asn1_rs.specs.Answers.{seen};
 ghost use Rattle.asn1_rs.specs.Form.{IsStrict};
 ghost use Rattle.asn1_rs.specs.Wrote.{tells_of_io};
 ghost use Rattle.asn1vec_engine.specs.Names.{name_of_refusal, name_of_write_refusal};
-ghost use Rattle.asn1vec_engine.specs.Shown.{in_hexadecimal, StrictText, IsDerAnswer};
+ghost use Rattle.asn1vec_engine.specs.Shown.{in_hexadecimal, StrictText, Says, IsAnswerBy};
 
 use crate::names::{refusal_name, write_refusal_name};
-use asn1_rs::{Error, LawfulDer, LawfulWrite, SerializeError, Told, read_der, write_strict};
+use crate::request::Rule;
+use asn1_rs::{
+    Error, LawfulBer, LawfulDer, LawfulWrite, ParseResult, SerializeError, Told, read_ber,
+    read_der, write_strict,
+};
 use std::alloc::{AllocError, Global};
 
 /// A type whose values are shown in answers.
@@ -27,7 +32,7 @@ pub(crate) trait Shown {
 }
 
 /// Octets in hexadecimal digits of lower case, `-` for none.
-fn hexadecimal(alloc: Global, octets: &[u8]) -> Result<String, AllocError>
+pub(crate) fn hexadecimal(alloc: Global, octets: &[u8]) -> Result<String, AllocError>
     ensures { IfOk result (λ text. string_bytes text ≡ in_hexadecimal octets.now) }
 {
     if octets.is_empty() {
@@ -74,13 +79,14 @@ fn ok_text(alloc: Global, value: &str, rest: &str, written: &str) -> Result<Stri
     format!(in alloc; "ok {value} rest {rest} enc {written}")
 }
 
-/// The answer to octets that are read by DER.
-pub(crate) fn answer_der<'a, T>(alloc: Global, octets: &'a [u8]) -> Result<String, AllocError>
-where
-    T: LawfulDer<'a, Error> + Shown + Drop,
-    ensures { IfOk result (λ text. IsDerAnswer T.Der T.value T.takes_memory T.der_gives T.text_of T.Written octets.now (string_bytes text)) }
+/// What a reader answered, in words.
+fn reading_text<'a, T: Shown + Drop>(
+    alloc: Global,
+    answer: ParseResult<'a, T, Error>,
+) -> Result<String, AllocError>
+    ensures { IfOk result (λ text. Says T.text_of T.Written (seen answer.entry) (string_bytes text)) }
 {
-    match read_der::<T, Error>(alloc, octets) {
+    match answer {
         Ok((rest, x)) => {
             let value = x.show(alloc)?;
             let rest = hexadecimal(alloc, rest)?;
@@ -88,5 +94,21 @@ where
             ok_text(alloc, value.as_str(), rest.as_str(), written.as_str())
         }
         Err(refusal) => err_text(alloc, refusal_name(alloc, &refusal)?.as_str()),
+    }
+}
+
+/// The answer to octets that are read by a rule.
+pub(crate) fn answer_by<'a, T>(
+    alloc: Global,
+    rule: Rule,
+    octets: &'a [u8],
+) -> Result<String, AllocError>
+where
+    T: LawfulBer<'a, Error> + LawfulDer<'a, Error> + Shown + Drop,
+    ensures { IfOk result (λ text. IsAnswerBy T.Ber T.Der T.value T.takes_memory T.ber_gives T.der_gives T.text_of T.Written rule octets.now (string_bytes text)) }
+{
+    match rule {
+        Rule::Ber => reading_text(alloc, read_ber::<T, Error>(alloc, octets)),
+        Rule::Der => reading_text(alloc, read_der::<T, Error>(alloc, octets)),
     }
 }

@@ -1,9 +1,7 @@
 //! The names of types.
 ghost use Rattle.std.specs.Prelude.{◌≡◌, ◌≢◌, MatchOption};
 ghost use Rattle.asn1vec_engine.specs.declared.types.TypeName.{TypeName as Name};
-ghost use Rattle.asn1vec_engine.specs.Types.{name_of, IsTypeOf};
-
-use crate::request::Rule;
+ghost use Rattle.asn1vec_engine.specs.Types.{name_of};
 
 /// The types that a line can name.
 #[derive(Clone, Copy, Debug, PartialEq, Eq)]
@@ -12,10 +10,17 @@ pub(crate) enum TypeName {
     U16,
     U32,
     U64,
+    Any,
 }
 
 /// Every type, once.
-const TYPES: [TypeName; 4] = [TypeName::U8, TypeName::U16, TypeName::U32, TypeName::U64];
+const TYPES: [TypeName; 5] = [
+    TypeName::U8,
+    TypeName::U16,
+    TypeName::U32,
+    TypeName::U64,
+    TypeName::Any,
+];
 
 impl TypeName {
     /// The name of the type.
@@ -27,12 +32,13 @@ impl TypeName {
             TypeName::U16 => "u16",
             TypeName::U32 => "u32",
             TypeName::U64 => "u64",
+            TypeName::Any => "any",
         }
     }
 }
 
 /// The type that has the name.
-fn type_named(name: &[u8]) -> Option<TypeName>
+pub(crate) fn type_named(name: &[u8]) -> Option<TypeName>
     ensures { MatchOption result ((t : Name) → name.now ≢ name_of t) (λ t. name.now ≡ name_of t) }
 {
     for t in TYPES.iter() {
@@ -41,14 +47,4 @@ fn type_named(name: &[u8]) -> Option<TypeName>
         }
     }
     None
-}
-
-/// The type that the name has under the rule.
-pub(crate) fn type_of(rule: Rule, name: &[u8]) -> Option<TypeName>
-    ensures { MatchOption result ((t : Name) → ¬ IsTypeOf rule name.now t) (λ t. IsTypeOf rule name.now t) }
-{
-    match rule {
-        Rule::Ber => None,
-        Rule::Der => type_named(name),
-    }
 }

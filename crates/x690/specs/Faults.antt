@@ -64,3 +64,7 @@ abbrev pub SpeaksOf : Type 0 → Fault → List ℕ → Type 0
 SpeaksOf is_cut (missing n) more = length more < n
 SpeaksOf is_cut tag_fault more = (more ≡ []) ⊎ (is_cut → ⊥)
 SpeaksOf is_cut _ more = Unit {0}
+
+-- the fault of octets that more octets make whole: it lacks as many as these or fewer, or it is that of an identifier that is cut
+abbrev pub IsLackingOrCut : Type 0 → Fault → List ℕ → Type 0
+IsLackingOrCut cut fault more = ((n : ℕ) × (fault ≡ missing n) × (n ≤ length more)) ⊎ ((fault ≡ tag_fault) × cut)

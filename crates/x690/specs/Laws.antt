@@ -10,7 +10,10 @@ pub mod Faults
 pub mod Rows
 pub mod Nested
 pub mod NestedFaults
+pub mod FaultHeaders
 pub mod Contents
+pub mod IndefiniteContents
+pub mod Beginnings
 pub mod StrictLengths
 pub mod StrictIdentifiers
 pub mod StrictHeaders

@@ -6,6 +6,7 @@ pub mod Elements
 pub mod Faults
 pub mod Nested
 pub mod Contents
+pub mod FaultHeaders
 pub mod Strict
 pub mod Integers
 pub mod Laws

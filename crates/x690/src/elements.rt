@@ -5,7 +5,7 @@ ghost use Rattle.x690.specs.Octets.{IsOctets, BeginsWith};
 ghost use Rattle.x690.specs.Identifiers.{Identifier, IsCutIdentifier};
 ghost use Rattle.x690.specs.Lengths.{LengthForm, definite};
 ghost use Rattle.x690.specs.Elements.{IsHeader, Parts, IsDefiniteElement, der_rule, ber_rule};
-ghost use Rattle.x690.specs.Faults.{Fault, missing, HeaderFault, DefiniteElementFault, SpeaksOf};
+ghost use Rattle.x690.specs.Faults.{Fault, missing, tag_fault, HeaderFault, DefiniteElementFault, SpeaksOf, IsLackingOrCut};
 
 /// Where two headers begin one input they are the same and say the same, and the same octets follow, whichever rule
 /// each of them keeps (X.690 8.1.1). A header has two octets at least.
@@ -79,4 +79,16 @@ pub fn one_fault()
 pub fn some_octets_are_missing()
     ensures header { (rule : Identifier → Bool) (input : List ℕ) (n : ℕ) → HeaderFault rule input (missing n) → 1 ≤ n }
     ensures definite_element { (input : List ℕ) (n : ℕ) → DefiniteElementFault input (missing n) → 1 ≤ n }
+{}
+
+/// Octets that more of them make begin with a header, or with an element of definite length, lack these or fewer, or
+/// they end within an identifier in high form. Where they end so, that is their fault.
+pub fn beginnings_lack_octets()
+    ensures header { (rule : Identifier → Bool) (input more front rest : List ℕ) (id : Identifier) (form : LengthForm) (fault : Fault)
+        → HeaderFault rule input fault → IsHeader rule front id form → BeginsWith (input ++ more) front rest
+        → IsLackingOrCut (IsCutIdentifier input) fault more }
+    ensures definite_element { (input more front rest : List ℕ) (parts : Parts) (fault : Fault)
+        → DefiniteElementFault input fault → IsDefiniteElement front parts → BeginsWith (input ++ more) front rest
+        → IsLackingOrCut (IsCutIdentifier input) fault more }
+    ensures within { (rule : Identifier → Bool) (input : List ℕ) → IsCutIdentifier input → HeaderFault rule input tag_fault }
 {}

@@ -20,7 +20,7 @@ fn without_leading_zeros(octets: &[u8]) -> &[u8]
 }
 
 /// The number whose digits in base 256 the octets are, with any leading zeros. There is none exactly where it
-/// does not fit in `most` octets.
+/// does not fit in `most` octets (X.690 8.3.3).
 pub fn unsigned_number(octets: &[u8], most: usize) -> Option<u128>
     requires { most ≤ 16 }
     ensures some { IfSome result (λ number. number ≡ base_256_value octets.now) }
@@ -38,7 +38,7 @@ pub fn unsigned_number(octets: &[u8], most: usize) -> Option<u128>
     Some(number)
 }
 
-/// How many octets the strict contents octets of a natural number are.
+/// How many octets the strict contents octets of a natural number are (X.690 8.3.2, 8.3.3).
 pub fn unsigned_octets_count(n: u128) -> usize
     ensures count { result ≡ length (unsigned_octets n) }
     ensures few { result ≤ 17 }
@@ -52,7 +52,8 @@ pub fn unsigned_octets_count(n: u128) -> usize
     count
 }
 
-/// Writes the strict contents octets of a natural number to the end of the array, and says where they begin.
+/// Writes the strict contents octets of a natural number to the end of the array, and says where they begin
+/// (X.690 8.3.2, 8.3.3).
 pub fn unsigned_into(n: u128, out: &mut [u8; 17]) -> usize
     ensures octets { drop result out.new ≡ unsigned_octets n }
     ensures within { result ≤ 16 }

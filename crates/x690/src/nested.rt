@@ -6,9 +6,10 @@ ghost use Rattle.x690.specs.Octets.{IsOctets, BeginsWith};
 ghost use Rattle.x690.specs.Identifiers.{Identifier};
 ghost use Rattle.x690.specs.Lengths.{LengthForm, definite};
 ghost use Rattle.x690.specs.Elements.{Parts, IsHeader, IsDefiniteElement, ber_rule};
-ghost use Rattle.x690.specs.Faults.{Fault, missing, SpeaksOf};
+ghost use Rattle.x690.specs.Faults.{Fault, missing, tag_fault, SpeaksOf, IsLackingOrCut};
 ghost use Rattle.x690.specs.Nested.{IsNestedElement, IsWord, IsRow, ElementFault, EndsInIdentifier, end_of_contents};
 ghost use Rattle.x690.specs.Contents.{IsContent, ContentFault};
+ghost use Rattle.x690.specs.FaultHeaders.{FaultHeaders};
 
 /// Where two elements begin one input they are the same, of whatever depths: they have the same parts and as many
 /// headers, and the same octets follow (X.690 8.1.1).
@@ -75,6 +76,16 @@ pub fn nested_faults_are_final()
         → IsNestedElement depth front parts headers → BeginsWith (input ++ more) front rest → ⊥ }
 {}
 
+/// Octets that more of them make begin with an element of the depth lack these or fewer, or they end within an
+/// identifier in high form. Where they end so, that is their fault.
+pub fn nested_beginnings_lack_octets()
+    ensures lacking { (depth : ℕ) (input more front rest : List ℕ) (parts : Parts) (headers : ℕ) (fault : Fault)
+        → ElementFault depth input fault
+        → IsNestedElement depth front parts headers → BeginsWith (input ++ more) front rest
+        → IsLackingOrCut (EndsInIdentifier depth input) fault more }
+    ensures within { (depth : ℕ) (input : List ℕ) → EndsInIdentifier depth input → ElementFault depth input tag_fault }
+{}
+
 /// Octets that an element of the depth begins have no fault.
 pub fn nested_elements_have_no_fault()
     ensures { (depth : ℕ) (input front rest : List ℕ) (parts : Parts) (headers : ℕ)
@@ -88,6 +99,19 @@ pub fn one_nested_fault()
     ensures one { (depth : ℕ) (input : List ℕ) (fault other : Fault)
         → ElementFault depth input fault → ElementFault depth input other → fault ≡ other }
     ensures some { (depth : ℕ) (input : List ℕ) (n : ℕ) → ElementFault depth input (missing n) → 1 ≤ n }
+{}
+
+/// Octets that no element of the depth begins have one count of headers that are read whole before the first fault, and
+/// two octets at least for each of them. No other octets have one (X.690 8.1.3.6, 8.1.5).
+pub fn headers_before_faults_are_determined()
+    ensures one { (depth : ℕ) (input : List ℕ) (headers other : ℕ)
+        → FaultHeaders depth input headers → FaultHeaders depth input other → headers ≡ other }
+    ensures half { (depth : ℕ) (input : List ℕ) (headers : ℕ)
+        → FaultHeaders depth input headers → 2 * headers ≤ length input }
+    ensures counted { (depth : ℕ) (input : List ℕ) (fault : Fault)
+        → ElementFault depth input fault → (headers : ℕ) × FaultHeaders depth input headers }
+    ensures fault { (depth : ℕ) (input : List ℕ) (headers : ℕ)
+        → FaultHeaders depth input headers → (fault : Fault) × ElementFault depth input fault }
 {}
 
 /// Octets begin in one way with the contents octets that a length of a form announces, whatever follows, or they have

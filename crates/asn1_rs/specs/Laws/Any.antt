@@ -1,22 +1,26 @@
 -- What readers of elements and of contents octets say of more octets, and that they have one refusal.
-use Rattle.std.proofs.Common.{◌≡◌, ◌∙◌, ap, sym, ℕ, List, [], ◌++◌, append_assoc, append-nil}
+use Rattle.std.proofs.Common.{◌≡◌, ◌∙◌, ◌⊎◌, ◌≤◌, inl, inr, refl, subst, ap, sym, ℕ, length, List, [], ◌++◌, append_assoc, append-nil}
 use Rattle.std.proofs.lemmas.List.{append_cancel_left}
 use Rattle.std.specs.Prelude.{zero, suc, Bool, true, false, Result, Ok, Err}
 use Rattle.std.specs.Borrow.{Bor}
 use Rattle.x690.specs.Lengths.{LengthForm, definite, indefinite}
 use Rattle.x690.specs.Elements.{Parts, IsDefiniteElement}
-use Rattle.x690.specs.Faults.{Fault, DefiniteElementFault}
+use Rattle.x690.specs.Faults.{Fault, tag_fault, DefiniteElementFault, IsLackingOrCut}
 use Rattle.x690.specs.Nested.{IsElement, ElementFault}
 use Rattle.x690.specs.Contents.{IsContent}
 use Rattle.x690.specs.Laws.Contents.{content_unique, content_extends, one_content_fault, content_or_fault}
 use Rattle.asn1_rs.specs.declared.error.Err.{Err as Refusal}
+use Rattle.asn1_rs.specs.declared.error.Err.TheVariants.{Incomplete as cut, Error as refused, Failure as failed}
+use Rattle.asn1_rs.specs.declared.error.Needed.TheVariants.{Size}
+use Rattle.asn1_rs.specs.declared.error.Error.TheVariants.{InvalidTag}
+use Rattle.asn1_rs.specs.Error.{Converted}
 use Rattle.asn1_rs.specs.declared.error.Error.{Error}
 use Rattle.asn1_rs.specs.declared.asn1_types.any.Any.{Any}
-use Rattle.asn1_rs.specs.Answers.{Speaks}
+use Rattle.asn1_rs.specs.Answers.{Front, Speaks}
 use Rattle.asn1_rs.specs.Header.{refusal_of, der_refusal, ber_refusal}
 use Rattle.asn1_rs.specs.Ber.{BerContentGives}
-use Rattle.asn1_rs.specs.Any.{AnyGives, parts_of}
-use Rattle.asn1_rs.specs.Grammar.{max_depth}
+use Rattle.asn1_rs.specs.Any.{AnyGives, IsTheElement, IsDefiniteOr, parts_of}
+use Rattle.asn1_rs.specs.Grammar.{max_depth, BerGives, DerGives}
 use Rattle.asn1_rs.specs.Laws.Elements.{AreElements, speaks_itself, speaks_now}
 
 -- the answers of the readers of elements by DER and by BER
@@ -34,6 +38,15 @@ RefusalLasts Element IsCut input r = (more word rest : List ℕ) (p : Parts) →
 abbrev pub ElementLasts : (List ℕ → Parts → Type 0) → List ℕ → List ℕ → Any → Type 0
 ElementLasts Element input rest any = (more word tail : List ℕ) (p : Parts) → Element word p → input ++ more ≡ word ++ tail → (p ≡ parts_of any) × (tail ≡ rest ++ more)
 
+-- the refusal of octets that more of them make whole: it tells as many missing octets as these or fewer, or `InvalidTag`, where they end within an identifier
+abbrev pub TellsBeginning : Type 0 → Refusal Error → List ℕ → Type 0
+TellsBeginning ends_within r more = ((n : ℕ) × (r ≡ cut (Size n)) × (n ≤ length more)) ⊎ ((r ≡ refused InvalidTag) × ends_within)
+
+-- as the fault that it tells of
+pub tells_beginning : (at_indefinite : Error) (fault : Fault) (r : Refusal Error) (ends_within : Type 0) (more : List ℕ) → r ≡ refusal_of at_indefinite fault → IsLackingOrCut ends_within fault more → TellsBeginning ends_within r more
+tells_beginning at fault r ends_within more e (inl l) = inl (l.0, e ∙ ap (refusal_of at) l.1, l.2)
+tells_beginning at fault r ends_within more e (inr c) = inr (e ∙ ap (refusal_of at) c.0, c.1)
+
 module _ (Element : List ℕ → Parts → Type 0) (FaultOf : List ℕ → Fault → Type 0) (IsCut : List ℕ → Type 0) (elements : AreElements Element FaultOf IsCut) (at_indefinite : Error) where
   abbrev Gives : List ℕ → Result (List ℕ × Any) (Refusal Error) → Type 0
   Gives = AnyGives Element FaultOf (refusal_of at_indefinite)
@@ -47,6 +60,13 @@ module _ (Element : List ℕ → Parts → Type 0) (FaultOf : List ℕ → Fault
       let s : g.word ++ (x.0 ++ more) ≡ word ++ tail = sym (append_assoc g.word x.0 more) ∙ ap (λ (ys : List ℕ). ys ++ more) (sym g.is) ∙ e in
       let same : (g.word ≡ word) × (parts_of x.1 ≡ p) = elements.one.one g.word word (x.0 ++ more) tail (parts_of x.1) p g.fits a s in
       (sym same.1, sym (append_cancel_left word (x.0 ++ more) tail (ap (λ (ys : List ℕ). ys ++ (x.0 ++ more)) (sym same.0) ∙ s)))
+
+  pub beginning_refused : (input more word rest : List ℕ) (p : Parts) (r : Refusal Error) → Gives input (Err r) → Element word p → input ++ more ≡ word ++ rest → TellsBeginning (IsCut input) r more
+  beginning_refused input more word rest p r g a e = tells_beginning at_indefinite g.0 r (IsCut input) more g.2 (elements.beginning input more word rest p g.0 g.1 a e)
+
+  pub within_refused : (input : List ℕ) (answer : Result (List ℕ × Any) (Refusal Error)) → IsCut input → Gives input answer → answer ≡ Err (refused InvalidTag)
+  within_refused input (Ok x) c g = absurd (elements.final input [] g.word x.0 (parts_of x.1) tag_fault (elements.within input c) (inl refl) g.fits (append-nil input ∙ g.is))
+  within_refused input (Err r) c g = ap Err (g.2 ∙ ap (refusal_of at_indefinite) (elements.alone input g.0 tag_fault g.1 (elements.within input c)))
 
   -- an input has one refusal
   pub one_element_refusal : (input : List ℕ) (q r : Refusal Error) → Gives input (Err q) → Gives input (Err r) → q ≡ r
@@ -96,3 +116,26 @@ content_lasts false form zero input more x answer f g = cc
 content_lasts false indefinite (suc depth) input more x answer f g = cc
 content_lasts false (definite n) (suc depth) input more x answer f g = content_stays (definite n) depth input more x f answer (either_bit n depth (input ++ more) answer g)
 content_lasts true form (suc depth) input more x answer f g = content_stays form depth input more x f answer g
+
+-- errors that stay as they are keep the refusal
+same_refusal : (q r : Refusal Error) → Converted (λ (e f : Error). f ≡ e) q r → r ≡ q
+same_refusal (cut n) r c = c
+same_refusal (refused e) r c = c.2 ∙ ap refused c.1
+same_refusal (failed e) r c = c.2 ∙ ap failed c.1
+
+-- a definite element has no indefinite form
+not_indefinite : (o : List ℕ) (p : Parts) → IsDefiniteElement o p → p.form ≡ indefinite → ⊥
+not_indefinite o p d e = let counted = d.counted in cc
+
+-- What the blanket readers answer at an element is the element, or the refusal of its first fault.
+pub der_any : (input : List ℕ) (answer : Result (List ℕ × Any) (Refusal Error)) → DerGives IsDefiniteOr IsTheElement (λ e f. f ≡ e) input answer → DerElementGives input answer
+der_any input (Ok x) (p, front, check, same) = subst (λ (q : Parts). Front IsDefiniteElement input q x.0) (sym same) front
+der_any input (Err r) (inl (fault, f, c)) = (fault, f, same_refusal (der_refusal fault) r c)
+der_any input (Err r) (inr (p, rest, front, inl (e, check, from))) = absurd (not_indefinite front.word p front.fits check.0)
+der_any input (Err r) (inr (p, rest, front, inr (check, (e, convert, is)))) = absurd convert
+
+pub ber_any : (input : List ℕ) (answer : Result (List ℕ × Any) (Refusal Error)) → BerGives IsTheElement (λ e f. f ≡ e) input answer → BerElementGives input answer
+ber_any input (Ok x) (p, front, check, same) = subst (λ (q : Parts). Front (IsElement max_depth) input q x.0) (sym same) front
+ber_any input (Err r) (inl (fault, f, c)) = (fault, f, same_refusal (ber_refusal fault) r c)
+ber_any input (Err r) (inr (p, rest, front, inl (e, check, from))) = cc
+ber_any input (Err r) (inr (p, rest, front, inr (check, (e, convert, is)))) = absurd convert

@@ -3,13 +3,14 @@ use Rattle.std.proofs.Common.{arith, ◌≡◌, ◌∙◌, ap, sym, subst, refl,
 use Rattle.std.specs.Prelude.{Result, Ok, Err}
 use Rattle.x690.specs.Octets.{IsOctets}
 use Rattle.x690.specs.Identifiers.{IsCutIdentifier}
-use Rattle.x690.specs.Elements.{Parts, IsDefiniteElement}
-use Rattle.x690.specs.Faults.{Fault, missing, tag_fault, length_fault, form_fault, depth_fault, DefiniteElementFault, SpeaksOf}
+use Rattle.x690.specs.Elements.{Parts, IsDefiniteElement, der_rule}
+use Rattle.x690.specs.Faults.{Fault, missing, tag_fault, length_fault, form_fault, depth_fault, DefiniteElementFault, SpeaksOf, IsLackingOrCut}
 use Rattle.x690.specs.Nested.{IsElement, ElementFault}
 use Rattle.x690.specs.Laws.Elements.{definite_element_unique, definite_element_two}
 use Rattle.x690.specs.Laws.Faults.{CountsSome, no_definite_element, definite_fault_counts, one_definite_fault}
 use Rattle.x690.specs.Laws.Nested.{nested_element_unique, nested_element_two, nested_content_is_octets}
 use Rattle.x690.specs.Laws.NestedFaults.{no_element, element_fault_counts, one_element_fault}
+use Rattle.x690.specs.Laws.Beginnings.{cut_header_fault, within_fault, definite_beginning, element_beginning}
 use Rattle.asn1_rs.specs.declared.error.Err.{Err as Refusal}
 use Rattle.asn1_rs.specs.declared.error.Err.TheVariants.{Error as refused, Incomplete as cut, Failure as failed}
 use Rattle.asn1_rs.specs.declared.error.Needed.TheVariants.{Size, Unknown}
@@ -26,6 +27,8 @@ pub record AreElements (Element : List ℕ → Parts → Type 0) (FaultOf : List
   pub counts : (input : List ℕ) (fault : Fault) → FaultOf input fault → CountsSome fault
   pub alone : (input : List ℕ) (f g : Fault) → FaultOf input f → FaultOf input g → f ≡ g
   pub content : (o : List ℕ) (p : Parts) → Element o p → IsOctets p.content
+  pub beginning : (input more o rest : List ℕ) (p : Parts) (fault : Fault) → FaultOf input fault → Element o p → input ++ more ≡ o ++ rest → IsLackingOrCut (IsCut input) fault more
+  pub within : (input : List ℕ) → IsCut input → FaultOf input tag_fault
 
 pub der_elements : AreElements IsDefiniteElement DefiniteElementFault IsCutIdentifier
 der_elements = record {
@@ -37,6 +40,8 @@ der_elements = record {
   counts = λ input fault f. definite_fault_counts input fault f;
   alone = one_definite_fault;
   content = λ o p a. a.content_octets;
+  beginning = λ input more o rest p fault f a e. definite_beginning input more o rest p fault f a e;
+  within = λ input c. inl (cut_header_fault der_rule input c);
 }
 
 pub ber_elements : AreElements (IsElement max_depth) (ElementFault max_depth) EndsWithin
@@ -49,6 +54,8 @@ ber_elements = record {
   counts = λ input fault f. element_fault_counts max_depth input fault f;
   alone = one_element_fault max_depth;
   content = λ o p a. nested_content_is_octets max_depth o p a.0 a.1;
+  beginning = λ input more o rest p fault f a e. element_beginning max_depth input more o rest p a.0 fault f a.1 e;
+  within = within_fault max_depth;
 }
 
 -- a check that refuses nothing asks nothing

@@ -1,18 +1,24 @@
 -- What readers of headers say of more octets, and that they have one refusal.
-use Rattle.std.proofs.Common.{◌≡◌, ◌∙◌, ap, sym, ℕ, List, Bool, ◌++◌}
+use Rattle.std.proofs.Common.{◌≡◌, ◌∙◌, ap, sym, ℕ, List, Bool, ◌++◌, append_assoc}
 use Rattle.std.specs.Prelude.{Result, Ok, Err, IfErr}
 use Rattle.std.specs.Borrow.{Bor}
 use Rattle.x690.specs.Identifiers.{Identifier, IsCutIdentifier}
 use Rattle.x690.specs.Lengths.{LengthForm}
 use Rattle.x690.specs.Elements.{IsHeader}
+use Rattle.x690.specs.Faults.{tag_fault}
+use Rattle.x690.specs.Laws.Headers.{header_unique}
+use Rattle.x690.specs.Laws.Beginnings.{cut_header_fault, header_beginning}
 use Rattle.x690.specs.Laws.Faults.{no_header, header_or_fault, header_fault_counts, one_header_fault}
 use Rattle.asn1_rs.specs.declared.error.Err.{Err as Refusal}
+use Rattle.asn1_rs.specs.declared.error.Err.TheVariants.{Error as refused}
 use Rattle.asn1_rs.specs.declared.error.Error.{Error}
+use Rattle.asn1_rs.specs.declared.error.Error.TheVariants.{InvalidTag}
 use Rattle.asn1_rs.specs.declared.header.Header.{Header}
 use Rattle.asn1_rs.specs.Answers.{seen, Speaks}
 use Rattle.asn1_rs.specs.Header.{identifier_of, refusal_of, HeaderGives}
 use Rattle.asn1_rs.specs.Length.{form_of}
 use Rattle.asn1_rs.specs.Laws.Elements.{speaks_itself}
+use Rattle.asn1_rs.specs.Laws.Any.{TellsBeginning, tells_beginning}
 
 -- no header begins the input after a refusal, nor more octets of which the refusal speaks
 abbrev pub HeaderRefusalLasts : (Identifier → Bool) → List ℕ → Refusal Error → Type 0
@@ -30,3 +36,21 @@ one_header_refusal rule at input q r f g = f.2 ∙ ap (refusal_of at) (one_heade
 -- where a header begins an input there is no refusal of it
 pub header_or_refusal : (rule : Identifier → Bool) (at_indefinite : Error) (input : List ℕ) (x : List ℕ × Header) (r : Refusal Error) → HeaderGives rule (refusal_of at_indefinite) input (Ok x) → HeaderGives rule (refusal_of at_indefinite) input (Err r) → ⊥
 header_or_refusal rule at input x r f g = header_or_fault rule input f.octets x.0 (identifier_of x.1) (form_of x.1.length) g.0 g.1 f.header f.is
+
+-- a header that is read is the one that begins the input, by each rule and whatever follows
+abbrev pub HeaderLasts : List ℕ → List ℕ → Header → Type 0
+HeaderLasts input rest h = (rule : Identifier → Bool) (more front tail : List ℕ) (id : Identifier) (form : LengthForm) → IsHeader rule front id form → input ++ more ≡ front ++ tail → (id ≡ identifier_of h) × (form ≡ form_of h.length) × (tail ≡ rest ++ more)
+
+pub header_lasts : (rule : Identifier → Bool) (at_indefinite : Error) (input : List ℕ) (x : List ℕ × Header) → HeaderGives rule (refusal_of at_indefinite) input (Ok x) → HeaderLasts input x.0 x.1
+header_lasts rule at input x g = λ other more front tail id form h e.
+    let s : g.octets ++ (x.0 ++ more) ≡ front ++ tail = sym (append_assoc g.octets x.0 more) ∙ ap (λ (ys : List ℕ). ys ++ more) (sym g.is) ∙ e in
+    let u = header_unique rule other g.octets front (x.0 ++ more) tail (identifier_of x.1) id (form_of x.1.length) form g.header h s in
+    (sym u.1, sym u.2, sym u.3)
+
+-- octets that more of them make begin with a header
+pub header_beginning_refused : (rule : Identifier → Bool) (at_indefinite : Error) (input more front rest : List ℕ) (id : Identifier) (form : LengthForm) (r : Refusal Error) → HeaderGives rule (refusal_of at_indefinite) input (Err r) → IsHeader rule front id form → input ++ more ≡ front ++ rest → TellsBeginning (IsCutIdentifier input) r more
+header_beginning_refused rule at input more front rest id form r g h e = tells_beginning at g.0 r (IsCutIdentifier input) more g.2 (header_beginning rule input more front rest id form g.0 g.1 h e)
+
+pub header_within_refused : (rule : Identifier → Bool) (at_indefinite : Error) (input : List ℕ) (answer : Result (List ℕ × Header) (Refusal Error)) → IsCutIdentifier input → HeaderGives rule (refusal_of at_indefinite) input answer → answer ≡ Err (refused InvalidTag)
+header_within_refused rule at input (Ok x) c g = absurd (header_or_fault rule input g.octets x.0 (identifier_of x.1) (form_of x.1.length) tag_fault (cut_header_fault rule input c) g.header g.is)
+header_within_refused rule at input (Err r) c g = ap Err (g.2 ∙ ap (refusal_of at) (one_header_fault rule input g.0 tag_fault g.1 (cut_header_fault rule input c)))

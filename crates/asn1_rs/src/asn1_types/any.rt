@@ -1,5 +1,5 @@
-//! Elements of any type.
-ghost use Rattle.std.specs.Prelude.{◌≡◌, ℕ, false, length, None};
+//! Elements of any type (X.690 8.1.1).
+ghost use Rattle.std.specs.Prelude.{◌≡◌, ℕ, false, length, None, Ok};
 ghost use Rattle.std.specs.Fn.{FnOnceReturnsAt};
 ghost use Rattle.x690.specs.Elements.{IsDefiniteElement};
 ghost use Rattle.x690.specs.Faults.{DefiniteElementFault};
@@ -28,12 +28,14 @@ use crate::tag::Tag;
 use crate::traits::{CheckDerConstraints, DerAutoDerive, DynTagged, FromAny, FromBer, FromDer};
 use std::alloc::Global;
 
-/// An element: its header, and its contents octets, which are lent from the input.
+/// An element: its header, and its contents octets, which are lent from the input (X.690 8.1.1).
 ///
 /// An element that is made by hand may have a header that does not fit its contents octets.
 #[derive(Debug, Clone, Drop, PartialEq, Eq)]
 pub struct Any<'a> {
+    /// What its identifier octets and its length octets say (8.1.2, 8.1.3).
     pub header: Header<'a>,
+    /// Its contents octets (8.1.4), without the 00 00 that ends an indefinite length (8.1.5).
     pub content: &'a [u8],
 }
 
@@ -215,8 +217,11 @@ impl<'a> FromAny<'a> for Any<'a> {
 
     ghost any_gives = { IsTheElement };
 
-    /// The element itself.
-    fn try_from_any(_alloc: Global, any: Any<'a>) -> Result<Any<'a>, Error> {
+    /// The element itself, with the identifier octets that it keeps.
+    fn try_from_any(_alloc: Global, any: Any<'a>) -> Result<Any<'a>, Error>
+        ensures gives { IsTheElement (parts_of any.entry) result }
+        ensures same { result ≡ Ok any.entry }
+    {
         Ok(any)
     }
 }

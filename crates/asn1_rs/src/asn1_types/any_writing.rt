@@ -1,5 +1,5 @@
 //! Elements of any type, as they are written (X.690 8.1.1, 10.1).
-ghost use Rattle.std.specs.Prelude.{◌≡◌, ◌++◌, ℕ, List, Bool, false, length, Ok, IfOk, IfErr};
+ghost use Rattle.std.specs.Prelude.{◌≡◌, ◌++◌, ℕ, List, Bool, true, false, length, Ok, IfOk, IfErr};
 ghost use Rattle.std.specs.Io.KnownBytes.{Appends};
 ghost use Rattle.x690.specs.Lengths.{definite};
 ghost use Rattle.asn1_rs.specs.Header.{is_constructed_of, length_of};
@@ -7,14 +7,14 @@ ghost use Rattle.asn1_rs.specs.Length.{form_of};
 ghost use Rattle.asn1_rs.specs.WrittenHeader.{strict_header};
 ghost use Rattle.asn1_rs.specs.Element.{content_of, element_header};
 ghost use Rattle.asn1_rs.specs.Laws.ElementWriting.{element_by_value, element_writes_form, element_same};
-ghost use Rattle.asn1_rs.specs.Wrote.{Wrote, MayRefuse, MayRefuseCount};
+ghost use Rattle.asn1_rs.specs.Wrote.{Wrote, MayRefuse, MayRefuseCount, tells_of_io};
 
 use crate::asn1_types::any::Any;
 use crate::error::{Error, SerializeResult};
 use crate::header_writing::{element_len, put_header, put_strict_header};
 use crate::laws::{LawfulMember, LawfulWrite};
-use crate::to_der::{ToDer, add_written};
-use crate::writer::{DerWrite, put_all};
+use crate::to_der::{ToDer, add_written, without_io};
+use crate::writer::{DerWrite, Told, put_all};
 use std::alloc::Global;
 
 /// Appends the strict identifier octets, the length of the header and the contents octets, and answers their number.
@@ -87,9 +87,25 @@ impl ToDer for Any<'_> {
         ensures raw { Wrote (strict_header self.now.header ++ content_of self.now) (W.told w.old) (W.told w.new) (W.failed w.old) (W.failed w.new) result }
         ensures failed { IfErr result (MayRefuse false (length (strict_header self.now.header ++ content_of self.now))) }
         ensures der { form_of (length_of self.now.header) ≡ definite (length (content_of self.now)) → Wrote (element_header self.now ++ content_of self.now) (W.told w.old) (W.told w.new) (W.failed w.old) (W.failed w.new) result }
+        ensures writable { form_of (length_of self.now.header) ≡ definite (length (content_of self.now)) → IfErr result (MayRefuse false (length (element_header self.now ++ content_of self.now))) }
         ensures counted { IfOk result (λ n. (raw : List ℕ) × Appends (W.told w.old) (W.told w.new) raw × (n ≡ length raw)) }
     {
         put_kept_length(self, w)
+    }
+
+    /// The raw form in a vector.
+    fn to_der_vec_raw(&self, alloc: Global) -> SerializeResult<Vec<u8>>
+        ensures raw { IfOk result (λ octets. octets.items ≡ strict_header self.now.header ++ content_of self.now) }
+        ensures failed { IfErr result (MayRefuse true (length (strict_header self.now.header ++ content_of self.now))) }
+        ensures der { form_of (length_of self.now.header) ≡ definite (length (content_of self.now)) → IfOk result (λ octets. octets.items ≡ element_header self.now ++ content_of self.now) }
+        ensures writable { form_of (length_of self.now.header) ≡ definite (length (content_of self.now)) → IfErr result (MayRefuse true (length (element_header self.now ++ content_of self.now))) }
+        ensures memory { IfErr result (λ e. tells_of_io e ≡ false) }
+    {
+        let mut w = Told::new(Vec::new(alloc));
+        match self.write_der_raw(alloc, &mut w) {
+            Ok(_) => Ok(w.into_inner()),
+            Err(e) => Err(without_io(e)),
+        }
     }
 }
 

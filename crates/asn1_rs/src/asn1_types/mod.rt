@@ -3,4 +3,5 @@
 pub mod any;
 pub mod any_writing;
 pub mod integer;
+pub mod sequence_iterator;
 mod unsigned;

@@ -40,13 +40,13 @@ cut_not_indefinite Word octets x o y p h fault why b e =
     let u = header_peel der_rule ber_rule why.header b.header why.rest (p.content ++ end_of_contents) x y why.id p.id (definite why.counted) p.form why.header_is b.header_is (ap (λ (ys : List ℕ). ys ++ x) (sym why.is) ∙ e ∙ ap (λ (ys : List ℕ). ys ++ y) b.is) in
     not_both_forms why.counted (definite why.counted) p.form refl b.form u.2
 
-opened_not_definite : (depth : ℕ) (octets rest x o y : List ℕ) (p : Parts) → IsOpened depth octets rest → IsDefiniteElement o p → octets ++ x ≡ o ++ y → ⊥
+pub opened_not_definite : (depth : ℕ) (octets rest x o y : List ℕ) (p : Parts) → IsOpened depth octets rest → IsDefiniteElement o p → octets ++ x ≡ o ++ y → ⊥
 opened_not_definite depth octets rest x o y p why b e =
     let u = header_peel der_rule ber_rule b.header why.header p.content (concat why.words ++ rest) y x p.id why.id p.form indefinite b.header_is why.header_is (ap (λ (ys : List ℕ). ys ++ y) (sym b.is) ∙ sym e ∙ ap (λ (ys : List ℕ). ys ++ x) why.is) in
     not_both_forms (length p.content) p.form indefinite b.counted refl u.2
 
 -- where an indefinite element begins opened octets, its end or one of its words begins what is behind the whole ones
-opened_goes_on : (depth : ℕ) (octets rest x o y : List ℕ) (p : Parts) (h : ℕ) → IsOpened depth octets rest → IsIndefiniteElement (IsWord depth) o p h → octets ++ x ≡ o ++ y → (rest ++ x ≡ end_of_contents ++ y) ⊎ BeginsWithWord (IsWord depth) (rest ++ x)
+pub opened_goes_on : (depth : ℕ) (octets rest x o y : List ℕ) (p : Parts) (h : ℕ) → IsOpened depth octets rest → IsIndefiniteElement (IsWord depth) o p h → octets ++ x ≡ o ++ y → (rest ++ x ≡ end_of_contents ++ y) ⊎ BeginsWithWord (IsWord depth) (rest ++ x)
 opened_goes_on depth octets rest x o y p h why b e =
     let u = header_peel ber_rule ber_rule why.header b.header (concat why.words ++ rest) (p.content ++ end_of_contents) x y why.id p.id indefinite p.form why.header_is b.header_is (ap (λ (ys : List ℕ). ys ++ x) (sym why.is) ∙ e ∙ ap (λ (ys : List ℕ). ys ++ y) b.is) in
     let t : concat why.words ++ (rest ++ x) ≡ concat b.words ++ (end_of_contents ++ y) = sym (append_assoc (concat why.words) rest x) ∙ u.3 ∙ append_assoc p.content end_of_contents y ∙ ap (λ (ys : List ℕ). ys ++ (end_of_contents ++ y)) b.content in
@@ -80,28 +80,28 @@ pub element_or_fault : (depth : ℕ) (octets o y : List ℕ) (p : Parts) (h : �
 element_or_fault depth octets o y p h fault why b e =
     no_element depth octets [] o y p h fault why (speaks_now (EndsInIdentifier depth octets) fault (element_fault_counts depth octets fault why)) b (append-nil octets ∙ e)
 
-header_not_cut : (octets : List ℕ) (f g : Fault) → HeaderFault ber_rule octets f → IsCutContent octets g → ⊥
+pub header_not_cut : (octets : List ℕ) (f g : Fault) → HeaderFault ber_rule octets f → IsCutContent octets g → ⊥
 header_not_cut octets f g p q =
     header_or_fault ber_rule octets q.header q.rest q.id (definite q.counted) f p (header_definite der_rule ber_rule q.header q.id (definite q.counted) q.counted refl q.header_is) q.is
 
-header_not_opened : (depth : ℕ) (octets rest : List ℕ) (f : Fault) → HeaderFault ber_rule octets f → IsOpened depth octets rest → ⊥
+pub header_not_opened : (depth : ℕ) (octets rest : List ℕ) (f : Fault) → HeaderFault ber_rule octets f → IsOpened depth octets rest → ⊥
 header_not_opened depth octets rest f p q = header_or_fault ber_rule octets q.header (concat q.words ++ rest) q.id indefinite f p q.header_is q.is
 
-cut_not_opened : (depth : ℕ) (octets rest : List ℕ) (f : Fault) → IsCutContent octets f → IsOpened depth octets rest → ⊥
+pub cut_not_opened : (depth : ℕ) (octets rest : List ℕ) (f : Fault) → IsCutContent octets f → IsOpened depth octets rest → ⊥
 cut_not_opened depth octets rest f p q =
     let u = header_unique der_rule ber_rule p.header q.header p.rest (concat q.words ++ rest) p.id q.id (definite p.counted) indefinite p.header_is q.header_is (sym p.is ∙ q.is) in
     not_both_forms p.counted (definite p.counted) indefinite refl refl u.2
 
--- one input opened in two ways: the same rest, or one rest begins with a word
-opened_compared : (depth : ℕ) (octets rest other : List ℕ) → IsOpened depth octets rest → IsOpened depth octets other → (rest ≡ other) ⊎ BeginsWithWord (IsWord depth) rest ⊎ BeginsWithWord (IsWord depth) other
+-- one input opened in two ways: as many headers and the same rest, or one rest begins with a word
+pub opened_compared : (depth : ℕ) (octets rest other : List ℕ) (p : IsOpened depth octets rest) (q : IsOpened depth octets other) → ((p.headers ≡ q.headers) × (rest ≡ other)) ⊎ BeginsWithWord (IsWord depth) rest ⊎ BeginsWithWord (IsWord depth) other
 opened_compared depth octets rest other p q =
     let u = header_unique ber_rule ber_rule p.header q.header (concat p.words ++ rest) (concat q.words ++ other) p.id q.id indefinite indefinite p.header_is q.header_is (sym p.is ∙ q.is) in
     elim (rows_compared (IsWord depth) (words_are_unique depth) p.words q.words rest other p.headers q.headers p.row q.row u.3) [
-      | inl r ↦ inl r.2
+      | inl r ↦ inl (r.1, r.2)
       | inr r ↦ inr r
     ]
 
-no_fault_at_word : (depth : ℕ) (octets : List ℕ) (f : Fault) → ElementFault depth octets f → BeginsWithWord (IsWord depth) octets → ⊥
+pub no_fault_at_word : (depth : ℕ) (octets : List ℕ) (f : Fault) → ElementFault depth octets f → BeginsWithWord (IsWord depth) octets → ⊥
 no_fault_at_word depth octets f why b = element_or_fault depth octets b.word b.rest b.word_is.0 b.headers f why b.word_is.1 b.is
 
 -- Octets with no element of the depth have one fault.
@@ -121,7 +121,7 @@ one_element_fault (suc depth) octets f g (inr (inr p)) (inl q) = absurd (header_
 one_element_fault (suc depth) octets f g (inr (inr p)) (inr (inl q)) = absurd (cut_not_opened depth octets p.0 g q p.1)
 one_element_fault (suc depth) octets f g (inr (inr p)) (inr (inr q)) =
     elim (opened_compared depth octets p.0 q.0 p.1 q.1) [
-      | inl r ↦ one_element_fault depth p.0 f g p.2 (subst (λ (ys : List ℕ). ElementFault depth ys g) (sym r) q.2)
+      | inl r ↦ one_element_fault depth p.0 f g p.2 (subst (λ (ys : List ℕ). ElementFault depth ys g) (sym r.1) q.2)
       | inr (inl r) ↦ absurd (no_fault_at_word depth p.0 f p.2 r)
       | inr (inr r) ↦ absurd (no_fault_at_word depth q.0 g q.2 r)
     ]

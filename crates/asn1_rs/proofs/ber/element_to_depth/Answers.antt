@@ -1,15 +1,18 @@
 use Rattle.std.proofs.Common.{◌+◌, ◌-◌, ◌≡◌, suc, arith, ap, subst}
 use Rattle.std.proofs.lemmas.Result.{err_from_is_err_and}
 use Rattle.x690.specs.Contents.{IsContent, ContentFault}
+use Rattle.x690.specs.FaultHeaders.{ContentFaultHeaders}
 use Rattle.x690.specs.Laws.Nested.{nested_element_half}
 use Rattle.x690.specs.Laws.Contents.{header_fault_first, content_fault_behind}
+use Rattle.x690.specs.Laws.FaultHeaders.{no_header_first, content_headers_behind}
 use Rattle.asn1_rs.specs.declared.header.Header.{Header}
 use Rattle.asn1_rs.specs.declared.length.Length.{Length}
 use Rattle.asn1_rs.specs.Header.{identifier_of}
 use Rattle.asn1_rs.specs.Length.{form_of}
 use Rattle.asn1_rs.specs.Any.{parts_of}
 use Rattle.asn1_rs.specs.Ber.{count_of}
-use Rattle.asn1_rs.proofs.Elements.{nested_read}
+use Rattle.x690.specs.Elements.{ber_rule}
+use Rattle.asn1_rs.proofs.Elements.{nested_read, identifier_kept}
 use Rattle.asn1_rs.proofs.ber.element_to_depth.Goals as goal
 
 pub returns-in_err-after-clause-err : goal.returns-in_err-after-clause-err
@@ -26,6 +29,21 @@ returns-in_err-rest-clause-err c =
     let f = c.in_err-rest.ensures.err in
     rw (p.1, p.2) (f.0, content_fault_behind c.args.max_depth c.args.bytes.now b.octets c.in_ok-after.after.now (identifier_of h) (form_of h.length) f.0 c.requires.deep b.header b.is (subst (λ (l : Length). ContentFault (form_of l) (c.args.max_depth - 1) c.in_ok-after.after.now f.0) c.length.ensures f.1), f.2)
 
+pub returns-in_err-after-clause-stops : goal.returns-in_err-after-clause-stops
+returns-in_err-after-clause-stops c =
+    let p = err_from_is_err_and c.from_residual.result c.from_residual.ensures.1 in
+    let f = c.in_err-after.ensures in
+    rw p.1 (0, no_header_first c.args.max_depth c.args.bytes.now f.0 f.1, omega arith)
+
+pub returns-in_err-rest-clause-stops : goal.returns-in_err-rest-clause-stops
+returns-in_err-rest-clause-stops c =
+    let p = err_from_is_err_and c.from_residual-in_err-rest.result c.from_residual-in_err-rest.ensures.1 in
+    let h = c.in_ok-after.header in
+    let b = c.in_ok-after.ensures in
+    let s = c.in_err-rest.ensures.stops in
+    let stops = subst (λ (l : Length). ContentFaultHeaders (form_of l) (c.args.max_depth - 1) c.in_ok-after.after.now s.0) c.length.ensures s.1 in
+    rw p.1 (suc s.0, content_headers_behind c.args.max_depth c.args.bytes.now b.octets c.in_ok-after.after.now (identifier_of h) (form_of h.length) s.0 c.requires.deep b.header b.is stops, omega (arith, s.2))
+
 pub returns-clause-ok : goal.returns-clause-ok
 returns-clause-ok c =
     let h = c.in_ok-after.header in
@@ -35,3 +53,6 @@ returns-clause-ok c =
     (ap identifier_of made.header) (ap (λ (x : Header). form_of x.length) made.header) made.content in
     let n : count_of c.content_by_ber.new.steps ≡ count_of c.args.steps.now + suc s.0 = omega (arith, s.2) in
     record { word = m.0; headers = suc s.0; element = m.1; is = m.2; counted = n; half = nested_element_half c.args.max_depth m.0 (parts_of c.new.result) (suc s.0) m.1 }
+
+pub returns-clause-keeps : goal.returns-clause-keeps
+returns-clause-keeps c = identifier_kept ber_rule c.args.bytes.now c.in_ok-after.after.now c.in_ok-after.header c.new.result.header c.in_ok-after.ensures c.new.ensures.header

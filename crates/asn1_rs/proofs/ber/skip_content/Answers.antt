@@ -5,14 +5,17 @@ use Rattle.x690.specs.Lengths.{definite, indefinite}
 use Rattle.x690.specs.Elements.{IsHeader, ber_rule}
 use Rattle.x690.specs.Faults.{missing, depth_fault}
 use Rattle.x690.specs.Nested.{end_of_contents}
+use Rattle.x690.specs.Contents.{EndFault}
+use Rattle.x690.specs.FaultHeaders.{EndFaultHeaders}
 use Rattle.x690.specs.Laws.Octets.{octets_back}
 use Rattle.x690.specs.Laws.Headers.{header_two}
 use Rattle.x690.specs.Laws.Contents.{header_fault_first, too_deep, content_fault_behind}
+use Rattle.x690.specs.Laws.FaultHeaders.{no_header_first, one_header_too_deep, content_headers_behind}
 use Rattle.asn1_rs.specs.declared.length.Length.{Length}
 use Rattle.asn1_rs.specs.Length.{form_of}
 use Rattle.asn1_rs.proofs.OpenContents.{all_closed, next_is_end, next_is_definite, next_is_opened, one_ends, next_fails, one_header_more}
 use Rattle.asn1_rs.proofs.ber.skip_content.Goals as goal
-use Rattle.asn1_rs.proofs.ber.skip_content.Goals.{In_ok-after}
+use Rattle.asn1_rs.proofs.ber.skip_content.Goals.{In_ok-after, In_err-after, Then-depth-eq0, In_err-tail-in-Definite}
 
 -- the header that was read has two octets at least, and the rest is octets
 header_passed : (c : In_ok-after) → length c.in_ok-after.after.now + 2 ≤ length c.loop-opened.rest.now
@@ -25,19 +28,40 @@ after_octets c =
     let b = c.in_ok-after.ensures.ok in
     octets_back b.0 c.in_ok-after.after.now (subst IsOctets b.3 c.loop-opened.invariant.octets)
 
+-- the fault of the next header is that of the whole, and no header more is read
+header_fails : (c : In_err-after) → EndFault (c.args.max_depth - 1) c.args.bytes.now c.in_err-after.ensures.err.0 × EndFaultHeaders (c.args.max_depth - 1) c.args.bytes.now ((c.loop-opened.steps.count - c.args.steps.now.count) + 0)
+header_fails c =
+    let i = c.loop-opened in
+    let f = c.in_err-after.ensures.err in
+    next_fails i.opened i.depth _ i.rest.now _ f.0 _ 0 c.loop-opened-test.true (header_fault_first i.depth i.rest.now f.0 f.1) (no_header_first i.depth i.rest.now f.0 f.1) i.invariant.opened
+
 pub returns-in_err-after-clause-err : goal.returns-in_err-after-clause-err
 returns-in_err-after-clause-err c =
     let p = err_from_is_err_and c.from_residual.result c.from_residual.ensures.1 in
-    let i = c.loop-opened in
     let f = c.in_err-after.ensures.err in
-    rw (p.1, p.2) (f.0, next_fails i.opened i.depth _ i.rest.now _ f.0 _ c.loop-opened-test.true (header_fault_first i.depth i.rest.now f.0 f.1) i.invariant.opened, f.2)
+    rw (p.1, p.2) (f.0, (header_fails (goal.at.returns-in_err-after-clause-err c).In_err-after).0, f.2)
 
-pub returns-then-depth-eq0-clause-err : goal.returns-then-depth-eq0-clause-err
-returns-then-depth-eq0-clause-err c =
+pub returns-in_err-after-clause-stops : goal.returns-in_err-after-clause-stops
+returns-in_err-after-clause-stops c =
+    let p = err_from_is_err_and c.from_residual.result c.from_residual.ensures.1 in
+    rw p.1 (_, (header_fails (goal.at.returns-in_err-after-clause-stops c).In_err-after).1, omega (arith, c.loop-opened.invariant.grows))
+
+-- the depth is spent at the next header, the last that is read
+depth_fails : (c : Then-depth-eq0) → EndFault (c.args.max_depth - 1) c.args.bytes.now depth_fault × EndFaultHeaders (c.args.max_depth - 1) c.args.bytes.now ((c.loop-opened.steps.count - c.args.steps.now.count) + 1)
+depth_fails c =
     let i = c.loop-opened in
     let b = c.in_ok-after.ensures.ok in
     let why = too_deep i.depth i.rest.now b.0 c.in_ok-after.after.now b.1 (form_of c.in_ok-after.length) c.if-depth-eq0.true b.2 b.3 in
-    (depth_fault, next_fails i.opened i.depth _ i.rest.now _ depth_fault _ c.loop-opened-test.true why i.invariant.opened, refl)
+    let stops = one_header_too_deep i.depth i.rest.now b.0 c.in_ok-after.after.now b.1 (form_of c.in_ok-after.length) c.if-depth-eq0.true b.2 b.3 in
+    next_fails i.opened i.depth _ i.rest.now _ depth_fault _ 1 c.loop-opened-test.true why stops i.invariant.opened
+
+pub returns-then-depth-eq0-clause-err : goal.returns-then-depth-eq0-clause-err
+returns-then-depth-eq0-clause-err c =
+    (depth_fault, (depth_fails (goal.at.returns-then-depth-eq0-clause-err c).Then-depth-eq0).0, refl)
+
+pub returns-then-depth-eq0-clause-stops : goal.returns-then-depth-eq0-clause-stops
+returns-then-depth-eq0-clause-stops c =
+    (_, (depth_fails (goal.at.returns-then-depth-eq0-clause-stops c).Then-depth-eq0).1, omega (arith, c.loop-opened.invariant.grows))
 
 pub loop-opened-preserved-in-Some : goal.loop-opened-preserved-in-Some
 loop-opened-preserved-in-Some c =
@@ -51,16 +75,29 @@ loop-opened-preserved-in-Some c =
           (i.invariant.opened outcome (suc headers) (next_is_end i.opened i.depth i.rest.now c.in-Some.tail.now outcome headers c.loop-opened-test.true (omega arith) c.in-Some.ensures.some r));
     }
 
-pub returns-in_err-tail-in-Definite-clause-err : goal.returns-in_err-tail-in-Definite-clause-err
-returns-in_err-tail-in-Definite-clause-err c =
-    let r = c.from_residual-in_err-tail-in-Definite in
-    let p = err_from_is_err_and r.result r.ensures.1 in
+-- octets are missing behind the next header, the last that is read
+content_fails : (c : In_err-tail-in-Definite) → EndFault (c.args.max_depth - 1) c.args.bytes.now (missing c.in_err-tail-in-Definite.ensures.0) × EndFaultHeaders (c.args.max_depth - 1) c.args.bytes.now ((c.loop-opened.steps.count - c.args.steps.now.count) + 1)
+content_fails c =
     let i = c.loop-opened in
     let b = c.in_ok-after.ensures.ok in
     let f = c.in_err-tail-in-Definite.ensures in
     let h : IsHeader ber_rule b.0 b.1 (definite c.in-Definite.len) = subst (λ (l : Length). IsHeader ber_rule b.0 b.1 (form_of l)) c.in-Definite.is b.2 in
     let why = content_fault_behind i.depth i.rest.now b.0 c.in_ok-after.after.now b.1 (definite c.in-Definite.len) (missing f.0) (omega arith) h b.3 (f.0, f.1, f.2, refl) in
-    rw (p.1, p.2) (missing f.0, next_fails i.opened i.depth _ i.rest.now _ (missing f.0) _ c.loop-opened-test.true why i.invariant.opened, f.3)
+    let stops = content_headers_behind i.depth i.rest.now b.0 c.in_ok-after.after.now b.1 (definite c.in-Definite.len) 0 (omega arith) h b.3 (omega (arith, f.1, f.2), refl) in
+    next_fails i.opened i.depth _ i.rest.now _ (missing f.0) _ 1 c.loop-opened-test.true why stops i.invariant.opened
+
+pub returns-in_err-tail-in-Definite-clause-err : goal.returns-in_err-tail-in-Definite-clause-err
+returns-in_err-tail-in-Definite-clause-err c =
+    let r = c.from_residual-in_err-tail-in-Definite in
+    let p = err_from_is_err_and r.result r.ensures.1 in
+    let f = c.in_err-tail-in-Definite.ensures in
+    rw (p.1, p.2) (missing f.0, (content_fails (goal.at.returns-in_err-tail-in-Definite-clause-err c).In_err-tail-in-Definite).0, f.3)
+
+pub returns-in_err-tail-in-Definite-clause-stops : goal.returns-in_err-tail-in-Definite-clause-stops
+returns-in_err-tail-in-Definite-clause-stops c =
+    let r = c.from_residual-in_err-tail-in-Definite in
+    let p = err_from_is_err_and r.result r.ensures.1 in
+    rw p.1 (_, (content_fails (goal.at.returns-in_err-tail-in-Definite-clause-stops c).In_err-tail-in-Definite).1, omega (arith, c.loop-opened.invariant.grows))
 
 pub loop-opened-preserved-in-Definite : goal.loop-opened-preserved-in-Definite
 loop-opened-preserved-in-Definite c =

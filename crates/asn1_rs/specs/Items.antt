@@ -1,0 +1,66 @@
+-- Walking over the items in contents octets.
+use Rattle.std.specs.Prelude.{ℕ, Bool, IsTrue, ◌≡◌, ◌≢◌, ◌<◌, ◌≤◌, ◌⊎◌, List, [], ◌∷◌, ◌++◌, length, map, Result, Ok, Err, Option, Some, None}
+use Rattle.std.specs.List.{AllZip, concat}
+use Rattle.asn1_rs.specs.declared.error.Err.{Err as Refusal}
+use Rattle.asn1_rs.specs.declared.error.Error.{Error}
+use Rattle.asn1_rs.specs.declared.error.Error.TheVariants as faults
+use Rattle.asn1_rs.specs.declared.asn1_types.sequence_iterator.SequenceIterator.{SequenceIterator}
+use Rattle.asn1_rs.specs.Error.{FlattenedTo}
+use Rattle.asn1_rs.specs.Answers.{NoFront}
+
+-- the octets that are left
+abbrev pub octets_left : {T F E : Type 0} → SequenceIterator T F E → List ℕ
+octets_left s = s.left.now
+
+-- The error that a reader's answer ends a walk with: the item's own refusal, or that octets are missing of it; `InvalidLength` where as much is given back as there was, or more.
+abbrev pub EndsItem : {T E : Type 0} → (Error → E → Type 0) → List ℕ → Result (List ℕ × T) (Refusal E) → E → Type 0
+EndsItem from left (Ok read) e = (length left ≤ length read.0) × from faults.InvalidLength e
+EndsItem from left (Err r) e = FlattenedTo (λ x y. y ≡ x) from r e
+
+-- What a call of `next` answers where octets are left, and what is left then: the next item and what follows it, fewer octets than before; its refusal, and nothing is left; or nothing, at the end alone.
+abbrev pub TakesItem : {T E : Type 0} → (List ℕ → Result (List ℕ × T) (Refusal E) → Type 0) → (Error → E → Type 0) → List ℕ → Option (Result T E) → List ℕ → Type 0
+TakesItem reads from left None after = (left ≡ []) × (after ≡ [])
+TakesItem reads from left (Some (Ok item)) after = (left ≢ []) × reads left (Ok (after, item)) × (length after < length left)
+TakesItem {T} {E} reads from left (Some (Err e)) after = (left ≢ []) × ((answer : Result (List ℕ × T) (Refusal E)) × reads left answer × EndsItem from left answer e) × (after ≡ [])
+
+-- How a walk ended so far, where these octets were not taken: they are left; or one refusal told of them, and nothing is left.
+abbrev pub EndsWalk : {T E : Type 0} → (List ℕ → E → Type 0) → List ℕ → List (Result T E) → List ℕ → Type 0
+EndsWalk Tells octets [] left = left ≡ octets
+EndsWalk Tells octets (Err e ∷ []) left = (octets ≢ []) × Tells octets e × (left ≡ [])
+EndsWalk Tells octets _ left = ⊥
+
+-- What the calls of `next` gave so far: the values of words, whose joining begins the contents octets, and then perhaps one refusal of what follows them.
+pub record IsWalk {T V E : Type 0} (G : List ℕ → V → Type 0) (value : T → V) (Tells : List ℕ → E → Type 0) (content : List ℕ) (answers : List (Result T E)) (left : List ℕ) : Type 0 where
+  pub words : List (List ℕ)
+  pub items : List T
+  pub others : List ℕ
+  pub ends : List (Result T E)
+  pub answers_are : answers ≡ map Ok items ++ ends
+  pub values : AllZip (λ word item. G word (value item)) words items
+  pub joined : content ≡ concat words ++ others
+  pub end : EndsWalk Tells others ends left
+
+-- each of them is a word of the grammar
+abbrev pub AreWords : {V : Type 0} → (List ℕ → V → Type 0) → List (List ℕ) → Type 0
+AreWords G [] = Unit {0}
+AreWords {V} G (word ∷ words) = ((v : V) × G word v) × AreWords G words
+
+-- the octets are a joining of words of the grammar
+abbrev pub AreJoinedWords : {V : Type 0} → (List ℕ → V → Type 0) → List ℕ → Type 0
+AreJoinedWords G octets = (words : List (List ℕ)) × AreWords G words × (octets ≡ concat words)
+
+-- a refusal tells that no word begins what is left, or of want of memory, where the reader takes any
+abbrev pub TellsNoWord : {V E : Type 0} → (List ℕ → V → Type 0) → (E → Type 0) → List ℕ → E → Type 0
+TellsNoWord G memory octets e = memory e ⊎ NoFront G octets
+
+-- where a word begins what is left a refusal tells of want of memory alone
+abbrev pub TellsMemoryAlone : {E : Type 0} → (E → Type 0) → List ℕ → E → Type 0
+TellsMemoryAlone memory octets e = memory e
+
+-- the error tells of want of memory, where the reader takes any
+abbrev pub IsMemory : {E : Type 0} → Bool → (Error → E → Type 0) → E → Type 0
+IsMemory takes from e = IsTrue takes × from faults.OutOfMemory e
+
+-- where no refusal is told
+abbrev pub TellsNothing : {E : Type 0} → List ℕ → E → Type 0
+TellsNothing octets e = ⊥

@@ -1,0 +1,132 @@
+-- Laws of walks over items.
+use Rattle.std.proofs.Common.{arith, ◌≡◌, ◌≢◌, ◌∙◌, ap, sym, subst, refl, ℕ, ◌+◌, ◌≤◌, inl, inr, Bool, List, [], ◌∷◌, ◌++◌, length, append_assoc, length-append}
+use Rattle.std.proofs.lemmas.List.{append_cancel_left}
+use Rattle.std.specs.Prelude.{Result, Ok, Err, Option}
+use Rattle.std.specs.List.{concat}
+use Rattle.std.specs.Iterator.{Yields}
+use Rattle.x690.specs.Octets.{IsOctets}
+use Rattle.x690.specs.Laws.Octets.{octets_back}
+use Rattle.asn1_rs.specs.declared.error.Err.{Err as Refusal}
+use Rattle.asn1_rs.specs.declared.error.Err.TheVariants.{Incomplete as cut, Error as refused, Failure as failed}
+use Rattle.asn1_rs.specs.declared.error.Error.{Error}
+use Rattle.asn1_rs.specs.declared.error.Error.TheVariants as faults
+use Rattle.asn1_rs.specs.Error.{FlattenedTo}
+use Rattle.asn1_rs.specs.Answers.{Front, NoFront, Exactly, TellsMemory}
+use Rattle.asn1_rs.specs.Grammar.{IsOneFront}
+use Rattle.asn1_rs.specs.Items.{EndsItem, TakesItem, IsWalk, AreJoinedWords, TellsNoWord, TellsMemoryAlone, IsMemory}
+use Rattle.asn1_rs.specs.Laws.Elements.{none_now}
+
+some_length : (octets : List ℕ) → octets ≢ [] → 1 ≤ length octets
+some_length [] n = absurd (n refl)
+some_length (x ∷ xs) n = omega arith
+
+module _ {T E : Type 0} (reads : List ℕ → Result (List ℕ × T) (Refusal E) → Type 0) (from : Error → E → Type 0) where
+  abbrev Steps : List ℕ → Option (Result T E) → List ℕ → Type 0
+  Steps = TakesItem reads from
+
+  -- where nothing is left nothing more is answered
+  pub nothing_follows : (answers : List (Result T E)) (left : List ℕ) → Yields Steps [] answers left → (answers ≡ []) × (left ≡ [])
+  nothing_follows [] left y = (refl, sym y)
+  nothing_follows (Ok x ∷ answers) left (j, s, y) = absurd (s.0 refl)
+  nothing_follows (Err e ∷ answers) left (j, s, y) = absurd (s.0 refl)
+
+  -- each answer takes an octet at least
+  pub walk_is_short : (answers : List (Result T E)) (content left : List ℕ) → Yields Steps content answers left → length answers + length left ≤ length content
+  walk_is_short [] content left y = let l = ap length y in omega (arith, l)
+  walk_is_short (Ok x ∷ answers) content left (j, s, y) = let r = walk_is_short answers j left y in omega (arith, s.2, r)
+  walk_is_short (Err e ∷ answers) content left (j, s, y) =
+      let r = walk_is_short answers j left y in
+      let l = ap length s.2 in
+      let n = some_length content s.0 in
+      omega (arith, r, l, n)
+
+  -- a refusal is the last answer
+  pub refusal_is_last : (before after : List (Result T E)) (e : E) (content left : List ℕ) → Yields Steps content (before ++ Err e ∷ after) left → (after ≡ []) × (left ≡ [])
+  refusal_is_last [] after e content left (j, s, y) = nothing_follows after left (subst (λ (k : List ℕ). Yields Steps k after left) s.2 y)
+  refusal_is_last (x ∷ before) after e content left (j, s, y) = refusal_is_last before after e j left y
+
+  -- Where what is left keeps a property, from which an item is the value of a word and a refusal tells what it may, a walk takes the words of the contents octets.
+  module _ {V : Type 0} (G : List ℕ → V → Type 0) (value : T → V) (Tells : List ℕ → E → Type 0) (Keeps : List ℕ → Type 0)
+      (takes : (octets rest : List ℕ) (item : T) → Keeps octets → octets ≢ [] → reads octets (Ok (rest, item)) → Front G octets (value item) rest × Keeps rest)
+      (tells : (octets : List ℕ) (answer : Result (List ℕ × T) (Refusal E)) (e : E) → Keeps octets → octets ≢ [] → reads octets answer → EndsItem from octets answer e → Tells octets e) where
+    pub walk_made : (answers : List (Result T E)) (content left : List ℕ) → Keeps content → Yields Steps content answers left → IsWalk G value Tells content answers left
+    walk_made [] content left k y = record { words = []; items = []; others = content; ends = []; answers_are = refl; values = tt; joined = refl; end = sym y }
+    walk_made (Ok x ∷ answers) content left k (j, s, y) =
+        let t = takes content j x k s.0 s.1 in
+        let f = t.0 in
+        let w = walk_made answers j left t.1 y in
+        record {
+          words = f.word ∷ w.words;
+          items = x ∷ w.items;
+          others = w.others;
+          ends = w.ends;
+          answers_are = ap (λ (ys : List (Result T E)). Ok x ∷ ys) w.answers_are;
+          values = (f.fits, w.values);
+          joined = f.is ∙ ap (λ (ys : List ℕ). f.word ++ ys) w.joined ∙ sym (append_assoc f.word (concat w.words) w.others);
+          end = w.end;
+        }
+    walk_made (Err e ∷ []) content left k (j, s, y) =
+        record { words = []; items = []; others = content; ends = Err e ∷ []; answers_are = refl; values = tt; joined = refl; end = (s.0, tells content s.1.0 e k s.0 s.1.1 s.1.2, sym y ∙ s.2) }
+    walk_made (Err e ∷ (a ∷ answers)) content left k (j, s, y) =
+        let n = nothing_follows (a ∷ answers) left (subst (λ (k : List ℕ). Yields Steps k (a ∷ answers) left) s.2 y) in
+        cc
+
+-- Walks by a reader that is exact by a grammar whose words begin one input in one way.
+module _ {T V E : Type 0} (reads : List ℕ → Result (List ℕ × T) (Refusal E) → Type 0) (from : Error → E → Type 0) (G : List ℕ → V → Type 0) (value : T → V) (takes : Bool) (IsCut : List ℕ → Type 0)
+    (one : IsOneFront G)
+    (exact : (octets : List ℕ) (answer : Result (List ℕ × T) (Refusal E)) → IsOctets octets → reads octets answer → Exactly IsCut G value (TellsMemory takes from) octets answer) where
+  -- the rest behind a word is shorter
+  not_as_long : (octets rest : List ℕ) (v : V) → Front G octets v rest → length octets ≤ length rest → ⊥
+  not_as_long octets rest v f l = shown f.word f.fits f.is
+    where
+      shown : (word : List ℕ) → G word v → octets ≡ word ++ rest → ⊥
+      shown [] g e = one.some v g
+      shown (x ∷ xs) g e = omega (arith, ap length e, length-append xs rest, l)
+
+  rest_is_octets : (octets rest : List ℕ) (v : V) → IsOctets octets → Front G octets v rest → IsOctets rest
+  rest_is_octets octets rest v o f = octets_back f.word rest (subst IsOctets f.is o)
+
+  -- an answer that ends the walk tells that no word begins what is left, or of want of memory
+  end_tells : (octets : List ℕ) (answer : Result (List ℕ × T) (Refusal E)) (e : E) → IsOctets octets → reads octets answer → EndsItem from octets answer e → TellsNoWord G (IsMemory takes from) octets e
+  end_tells octets (Ok x) e o g w = absurd (not_as_long octets x.0 (value x.1) (exact octets (Ok x) o g) w.0)
+  end_tells octets (Err r) e o g w =
+      elim (exact octets (Err r) o g) [
+        | inl m ↦ inl (m.0, memory_told r m.1.0 m.1.2 w m.1.1)
+        | inr f ↦ inr (none_now (IsCut octets) r G octets f)
+      ]
+    where
+      memory_told : (r : Refusal E) (f : E) → r ≡ refused f → FlattenedTo (λ x y. y ≡ x) from r e → from faults.OutOfMemory f → from faults.OutOfMemory e
+      memory_told (refused x) f s t m = let u : e ≡ f = cc in subst (from faults.OutOfMemory) (sym u) m
+      memory_told (cut n) f s t m = cc
+      memory_told (failed x) f s t m = cc
+
+  pub lawful_walk : (answers : List (Result T E)) (content left : List ℕ) → IsOctets content → Yields (TakesItem reads from) content answers left → IsWalk G value (TellsNoWord G (IsMemory takes from)) content answers left
+  lawful_walk = walk_made reads from G value (TellsNoWord G (IsMemory takes from)) IsOctets
+      (λ octets rest item o n g. let f = exact octets (Ok (rest, item)) o g in (f, rest_is_octets octets rest (value item) o f))
+      (λ octets answer e o n g w. end_tells octets answer e o g w)
+
+  abbrev JoinedOctets : List ℕ → Type 0
+  JoinedOctets octets = IsOctets octets × AreJoinedWords G octets
+
+  -- behind the first of joined words the others are joined
+  others_joined : (octets rest : List ℕ) (v : V) → AreJoinedWords G octets → Front G octets v rest → AreJoinedWords G rest
+  others_joined octets rest v ([], a, e) f = absurd (shown f.word f.fits (sym e ∙ f.is))
+    where
+      shown : (word : List ℕ) → G word v → [] ≡ word ++ rest → ⊥
+      shown [] g s = one.some v g
+      shown (x ∷ xs) g s = cc
+  others_joined octets rest v (w ∷ words, a, e) f =
+      let s : f.word ++ rest ≡ w ++ concat words = sym f.is ∙ e in
+      let same : (f.word ≡ w) × (v ≡ a.0.0) = one.one f.word w rest (concat words) v a.0.0 f.fits a.0.1 s in
+      (words, a.1, append_cancel_left w rest (concat words) (ap (λ (ys : List ℕ). ys ++ rest) (sym same.0) ∙ s))
+
+  -- a word begins joined words, if there are any
+  begins_joined : (octets : List ℕ) → octets ≢ [] → AreJoinedWords G octets → NoFront G octets → ⊥
+  begins_joined octets n ([], a, e) none = n e
+  begins_joined octets n (w ∷ words, a, e) none = none w (concat words) a.0.0 e a.0.1
+
+  pub whole_walk : (answers : List (Result T E)) (content left : List ℕ) → IsOctets content → AreJoinedWords G content → Yields (TakesItem reads from) content answers left → IsWalk G value (TellsMemoryAlone (IsMemory takes from)) content answers left
+  whole_walk answers content left o a = walk_made reads from G value (TellsMemoryAlone (IsMemory takes from)) JoinedOctets
+      (λ octets rest item k n g. let f = exact octets (Ok (rest, item)) k.0 g in (f, (rest_is_octets octets rest (value item) k.0 f, others_joined octets rest (value item) k.1 f)))
+      (λ octets answer e k n g w. elim (end_tells octets answer e k.0 g w) [ inl m ↦ m | inr none ↦ absurd (begins_joined octets n k.1 none) ])
+      answers content left (o, a)

@@ -1,0 +1,267 @@
+//! The calls of tables, and the texts of their answers.
+
+use crate::rows::push_digits;
+use asn1_rs::{
+    Any, BerParser, Class, Err, Error, FromBer, FromDer, GetObjectContent, Header, Length,
+    ParseResult, SerializeResult, Steps, Tag, ToDer, any_from_ber_counted,
+};
+use std::alloc::Global;
+use std::fmt::{Debug, Display, Write};
+use std::test::Fail;
+
+/// An error of a caller's own.
+#[derive(Debug, Drop)]
+enum Refused {
+    ByLibrary(Error),
+    ByCaller,
+}
+
+impl From<Error> for Refused {
+    fn from(e: Error) -> Refused {
+        Refused::ByLibrary(e)
+    }
+}
+
+/// The first contents octet.
+fn first_octet(content: &[u8]) -> ParseResult<'_, u8, Refused> {
+    match content {
+        [first, rest @ ..] => Ok((rest, *first)),
+        [] => Err(Err::Failure(Refused::ByCaller)),
+    }
+}
+
+/// The number of a header's class, by its tests.
+fn class_number(header: &Header<'_>) -> u8 {
+    if header.is_universal() {
+        return 0;
+    }
+    if header.is_application() {
+        return 1;
+    }
+    if header.is_contextspecific() {
+        return 2;
+    }
+    if header.is_private() { 3 } else { 4 }
+}
+
+/// `c` for a constructed header and `p` for a primitive one, by its tests.
+fn letter(header: &Header<'_>) -> &'static str {
+    match (header.is_constructed(), header.is_primitive()) {
+        (true, false) => "c",
+        (false, true) => "p",
+        _ => "?",
+    }
+}
+
+/// Appends the parts of a header: class, `c` or `p`, number, length and identifier octets.
+fn push_header(text: &mut String, header: &Header<'_>) -> Result<(), Fail> {
+    let class = class_number(header);
+    let letter = letter(header);
+    let number = header.tag().0;
+    let length = header.length();
+    write!(text, "{class}.{letter}.{number} {length:?} raw ")?;
+    push_digits(text, header.raw_tag().unwrap_or(&[]))
+}
+
+/// Appends octets behind their name.
+fn push_named(text: &mut String, name: &str, octets: &[u8]) -> Result<(), Fail> {
+    text.push_str(name)?;
+    push_digits(text, octets)
+}
+
+/// Appends why a reader refused.
+fn push_refusal<E: Debug>(text: &mut String, refusal: &Err<E>) -> Result<(), Fail> {
+    Ok(write!(text, "{refusal:?}")?)
+}
+
+/// Appends a header that was read, and what follows it.
+fn push_read_header(text: &mut String, header: &Header<'_>, rest: &[u8]) -> Result<(), Fail> {
+    push_header(text, header)?;
+    push_named(text, " rest ", rest)
+}
+
+/// Appends what a reader of headers answers.
+fn push_header_answer(
+    text: &mut String,
+    answer: Result<(&[u8], Header<'_>), Err<Error>>,
+) -> Result<(), Fail> {
+    match answer {
+        Ok((rest, header)) => push_read_header(text, &header, rest),
+        Err(refusal) => push_refusal(text, &refusal),
+    }
+}
+
+/// Appends an element that was read, and what follows it.
+fn push_read_any(text: &mut String, any: &Any<'_>, rest: &[u8]) -> Result<(), Fail> {
+    push_header(text, &any.header)?;
+    text.push(' ')?;
+    push_read_content(text, any.as_bytes(), rest)
+}
+
+/// Appends what a reader of elements answers.
+fn push_any_answer(
+    text: &mut String,
+    answer: Result<(&[u8], Any<'_>), Err<Error>>,
+) -> Result<(), Fail> {
+    match answer {
+        Ok((rest, any)) => push_read_any(text, &any, rest),
+        Err(refusal) => push_refusal(text, &refusal),
+    }
+}
+
+/// Appends contents octets that were read, and what follows them.
+fn push_read_content(text: &mut String, content: &[u8], rest: &[u8]) -> Result<(), Fail> {
+    push_named(text, "content ", content)?;
+    push_named(text, " rest ", rest)
+}
+
+/// Appends what a reader of contents octets answers.
+fn push_content_answer(
+    text: &mut String,
+    answer: Result<(&[u8], &[u8]), Err<Error>>,
+) -> Result<(), Fail> {
+    match answer {
+        Ok((rest, content)) => push_read_content(text, content, rest),
+        Err(refusal) => push_refusal(text, &refusal),
+    }
+}
+
+/// An element by BER, and how many headers were read.
+fn push_counted(text: &mut String, octets: &[u8]) -> Result<(), Fail> {
+    let mut steps = Steps::new();
+    push_any_answer(text, any_from_ber_counted(octets, &mut steps))?;
+    Ok(write!(text, " headers {}", steps.count())?)
+}
+
+/// The contents octets by BER of the header at the front.
+fn push_ber_content(text: &mut String, alloc: Global, octets: &[u8]) -> Result<(), Fail> {
+    let (after, header) = Header::from_ber(alloc, octets)?;
+    push_content_answer(text, header.parse_ber_content(after))
+}
+
+/// The contents octets by DER of the header at the front, which is read by BER.
+fn push_der_content(text: &mut String, alloc: Global, octets: &[u8]) -> Result<(), Fail> {
+    let (after, header) = Header::from_ber(alloc, octets)?;
+    push_content_answer(text, Any::parse_der_content(after, &header))
+}
+
+/// The contents octets of a header by hand, which is primitive and of indefinite length.
+fn push_open_content(text: &mut String, octets: &[u8]) -> Result<(), Fail> {
+    let header = Header::new(Class::Universal, false, Tag(2), Length::Indefinite);
+    push_content_answer(text, Any::parse_ber_content(octets, &header))
+}
+
+/// Two contents octets by BER, where nothing may nest.
+fn push_two_at_depth_0(text: &mut String, octets: &[u8]) -> Result<(), Fail> {
+    let header = Header::new(Class::Universal, false, Tag(2), Length::Definite(2));
+    push_content_answer(text, BerParser::get_object_content(octets, &header, 0))
+}
+
+/// Two contents octets by DER.
+fn push_two(text: &mut String, octets: &[u8]) -> Result<(), Fail> {
+    let header = Header::new(Class::Universal, false, Tag(2), Length::Definite(2));
+    push_content_answer(text, header.parse_der_content(octets))
+}
+
+/// The first contents octet of an element [2].
+fn push_first_octet(text: &mut String, octets: &[u8]) -> Result<(), Fail> {
+    let answer = Any::from_der_and_then(Class::ContextSpecific, 2, octets, first_octet);
+    push_value_answer(text, answer)
+}
+
+/// The first contents octet of an element [2], by BER.
+fn push_first_octet_by_ber(text: &mut String, octets: &[u8]) -> Result<(), Fail> {
+    let answer = Any::from_ber_and_then(Class::ContextSpecific, 2, octets, first_octet);
+    push_value_answer(text, answer)
+}
+
+/// A number in the contents octets of a sequence.
+fn push_inner_number(text: &mut String, alloc: Global, octets: &[u8]) -> Result<(), Fail> {
+    let sequence = Any::from_tag_and_data(Tag::Sequence, octets);
+    push_value_answer(text, sequence.parse_der::<u8, Error>(alloc))
+}
+
+/// A number in the contents octets of a sequence, by BER.
+fn push_inner_number_by_ber(text: &mut String, alloc: Global, octets: &[u8]) -> Result<(), Fail> {
+    let sequence = Any::from_tag_and_data(Tag::Sequence, octets);
+    push_value_answer(text, sequence.parse_ber::<u8, Error>(alloc))
+}
+
+/// Appends the octets of a vector, or why there is none.
+fn push_vector(text: &mut String, vector: SerializeResult<Vec<u8>>) -> Result<(), Fail> {
+    match vector {
+        Ok(octets) => push_digits(text, octets.as_slice()),
+        Err(refusal) => Ok(write!(text, "{refusal:?}")?),
+    }
+}
+
+/// How a value is written by DER and in its raw form, and its counts.
+pub(crate) fn push_written<T: ToDer>(
+    text: &mut String,
+    alloc: Global,
+    value: &T,
+) -> Result<(), Fail> {
+    push_vector(text, value.to_der_vec(alloc))?;
+    let (count, content) = (value.to_der_len()?, value.der_content_len()?);
+    write!(text, " count {count} {content} raw ")?;
+    push_vector(text, value.to_der_vec_raw(alloc))
+}
+
+/// The element at the front by BER, written again.
+fn push_any_again(text: &mut String, alloc: Global, octets: &[u8]) -> Result<(), Fail> {
+    push_written(text, alloc, &Any::from_ber(alloc, octets)?.1)
+}
+
+/// The header at the front by BER, written again.
+fn push_header_again(text: &mut String, alloc: Global, octets: &[u8]) -> Result<(), Fail> {
+    push_written(text, alloc, &Header::from_ber(alloc, octets)?.1)
+}
+
+/// Appends a value that was read, and what follows it.
+fn push_read_value<T: Display>(text: &mut String, value: &T, rest: &[u8]) -> Result<(), Fail> {
+    write!(text, "{value}")?;
+    push_named(text, " rest ", rest)
+}
+
+/// Appends what a reader of values answers.
+fn push_value_answer<T: Display + Drop, E: Debug + Drop>(
+    text: &mut String,
+    answer: Result<(&[u8], T), Err<E>>,
+) -> Result<(), Fail> {
+    match answer {
+        Ok((rest, value)) => push_read_value(text, &value, rest),
+        Err(refusal) => push_refusal(text, &refusal),
+    }
+}
+
+/// Appends the answer to a call.
+pub(crate) fn push_answer(
+    text: &mut String,
+    alloc: Global,
+    name: &str,
+    octets: &[u8],
+) -> Result<(), Fail> {
+    match name {
+        "header" => push_header_answer(text, Header::from_der(alloc, octets)),
+        "header_ber" => push_header_answer(text, Header::from_ber(alloc, octets)),
+        "header_again" => push_header_again(text, alloc, octets),
+        "any" => push_any_answer(text, Any::from_der(alloc, octets)),
+        "any_ber" => push_any_answer(text, Any::from_ber(alloc, octets)),
+        "any_again" => push_any_again(text, alloc, octets),
+        "counted" => push_counted(text, octets),
+        "ber_content" => push_ber_content(text, alloc, octets),
+        "der_content" => push_der_content(text, alloc, octets),
+        "open_content" => push_open_content(text, octets),
+        "two_at_depth_0" => push_two_at_depth_0(text, octets),
+        "two" => push_two(text, octets),
+        "first_octet" => push_first_octet(text, octets),
+        "first_octet_ber" => push_first_octet_by_ber(text, octets),
+        "inner_u8" => push_inner_number(text, alloc, octets),
+        "inner_u8_ber" => push_inner_number_by_ber(text, alloc, octets),
+        "u8" => push_value_answer(text, u8::from_der(alloc, octets)),
+        "u16" => push_value_answer(text, u16::from_der(alloc, octets)),
+        "u8_ber" => push_value_answer(text, u8::from_ber(alloc, octets)),
+        "u64_ber" => push_value_answer(text, u64::from_ber(alloc, octets)),
+        _ => Ok(text.push_str("no such call")?),
+    }
+}

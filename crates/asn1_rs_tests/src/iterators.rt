@@ -1,0 +1,92 @@
+//! Walks over the items in contents octets.
+
+use asn1_rs::{
+    Any, BerParser, DerParser, Error, FromBer, Needed, ParseResult, SequenceIterator, SetIterator,
+    Tag,
+};
+use std::alloc::Global;
+use std::test::Fail;
+
+/// An item of no octets: its reader gives back what it got.
+#[derive(Debug, Drop, PartialEq, Eq)]
+struct OfNoOctets;
+
+impl<'a> FromBer<'a, Error> for OfNoOctets {
+    fn from_ber(_alloc: Global, octets: &'a [u8]) -> ParseResult<'a, OfNoOctets, Error> {
+        Ok((octets, OfNoOctets))
+    }
+}
+
+/// An item whose reader gives back more than it got.
+#[derive(Debug, Drop, PartialEq, Eq)]
+struct OfLessThanNone;
+
+impl<'a> FromBer<'a, Error> for OfLessThanNone {
+    fn from_ber(_alloc: Global, _octets: &'a [u8]) -> ParseResult<'a, OfLessThanNone, Error> {
+        Ok((&[1, 2, 3, 4], OfLessThanNone))
+    }
+}
+
+/// The tag number and the contents octets of the next element, if one comes.
+fn next_element<'a>(
+    items: &mut SequenceIterator<'a, Any<'a>, BerParser, Error>,
+) -> Option<(u32, &'a [u8])> {
+    let any = items.next()?.ok()?;
+    Some((any.tag().0, any.as_bytes()))
+}
+
+#[test]
+fn elements_are_walked(rt: HostRuntime) -> Result<(), Fail> {
+    let mut items = SequenceIterator::new(rt.alloc(), &[0x30, 0x80, 0x00, 0x00, 0x04, 0x00]);
+    let none: &[u8] = &[];
+    assert_eq!(rt; next_element(&mut items), Some((16, none)));
+    assert_eq!(rt; next_element(&mut items), Some((4, none)));
+    assert!(rt; items.next().is_none());
+    assert!(rt; items.next().is_none());
+    Ok(())
+}
+
+/// The numbers in contents octets by DER.
+fn numbers_in(alloc: Global, content: &[u8]) -> Result<Vec<u32>, Error> {
+    let mut numbers = Vec::new(alloc);
+    for item in SetIterator::<u32, DerParser, Error>::new(alloc, content) {
+        numbers.push(item?)?;
+    }
+    Ok(numbers)
+}
+
+#[test]
+fn numbers_are_walked(rt: HostRuntime) -> Result<(), Fail> {
+    let octets = [0x02, 0x03, 0x01, 0x00, 0x01, 0x02, 0x03, 0x01, 0x00];
+    let mut by_ber = SequenceIterator::<u32, BerParser, Error>::new(rt.alloc(), &octets);
+    assert_eq!(rt; by_ber.next(), Some(Ok(65537)));
+    assert_eq!(rt;
+        by_ber.next(),
+        Some(Err(Error::Incomplete(Needed::Size(1))))
+    );
+    assert_eq!(rt; by_ber.next(), None);
+    let numbers = numbers_in(rt.alloc(), &[0x02, 0x01, 0x05, 0x02, 0x02, 0x01, 0x00])?;
+    assert_eq!(rt; numbers.as_slice(), [5, 256].as_slice());
+    assert_eq!(rt;
+        numbers_in(rt.alloc(), &octets).err(),
+        Some(Error::Incomplete(Needed::Size(1)))
+    );
+    Ok(())
+}
+
+#[test]
+fn items_of_no_octets_end_a_walk(rt: HostRuntime) -> Result<(), Fail> {
+    let mut items = SequenceIterator::<OfNoOctets, BerParser, Error>::new(
+        rt.alloc(),
+        &[0x04, 0x00],
+    );
+    assert_eq!(rt; items.next(), Some(Err(Error::InvalidLength)));
+    assert_eq!(rt; items.next(), None);
+    let mut items = SequenceIterator::<OfLessThanNone, BerParser, Error>::new(
+        rt.alloc(),
+        &[0x04, 0x00],
+    );
+    assert_eq!(rt; items.next(), Some(Err(Error::InvalidLength)));
+    assert_eq!(rt; items.next(), None);
+    Ok(())
+}

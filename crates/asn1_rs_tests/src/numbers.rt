@@ -1,0 +1,103 @@
+//! Natural numbers of one to eight octets: how they are read and written.
+
+use crate::lines::assert_lines;
+use crate::rows::assert_rows;
+use asn1_rs::{Error, Tag, Tagged, ToDer, Told, read_ber, read_der, write_strict};
+use std::test::Fail;
+
+/// Lines of the program and their answers.
+const NUMBERS: &str = "\
+der u8 020100 = ok 0 rest - enc 020100
+der u8 02017f = ok 127 rest - enc 02017f
+der u8 02020080 = ok 128 rest - enc 02020080
+der u8 020200ff = ok 255 rest - enc 020200ff
+der u16 020100 = ok 0 rest - enc 020100
+der u16 02017f = ok 127 rest - enc 02017f
+der u16 020200ff = ok 255 rest - enc 020200ff
+der u16 02020100 = ok 256 rest - enc 02020100
+der u16 02027fff = ok 32767 rest - enc 02027fff
+der u16 0203008000 = ok 32768 rest - enc 0203008000
+der u16 020300ffff = ok 65535 rest - enc 020300ffff
+der u32 0203010001 = ok 65537 rest - enc 0203010001
+der u32 020500ffffffff = ok 4294967295 rest - enc 020500ffffffff
+der u64 020100 = ok 0 rest - enc 020100
+der u64 020801+7*00 = ok 72057594037927936 rest - enc 020801+7*00
+der u64 020900+8*ff = ok 18446744073709551615 rest - enc 020900+8*ff
+der u8 020102ffff = ok 2 rest ffff enc 020102
+der u8 820105 = ok 5 rest - enc 020105
+";
+
+// Of two faults the constraint is told. The class is not looked at.
+const REFUSED: &str = "\
+der u8 0202 = err Incomplete(2)
+der u8 3080 = err DerConstraintFailed(IndefiniteLength)
+der u8 0200 = err DerConstraintFailed(IntegerEmpty)
+der u8 02020000 = err DerConstraintFailed(IntegerLeadingZeroes)
+der u16 02020000 = err DerConstraintFailed(IntegerLeadingZeroes)
+der u8 0202007f = err DerConstraintFailed(IntegerLeadingZeroes)
+der u8 0202ff80 = err DerConstraintFailed(IntegerLeadingFF)
+der u8 220105 = err ConstructUnexpected
+der u8 240105 = err ConstructUnexpected
+der u8 0400 = err DerConstraintFailed(IntegerEmpty)
+der u8 040105 = err UnexpectedTag
+der u8 020180 = err IntegerNegative
+der u16 0203800000 = err IntegerNegative
+der u8 02020100 = err IntegerTooLarge
+der u8 020300ffff = err IntegerTooLarge
+der u16 0203010000 = err IntegerTooLarge
+der u32 02050100000000 = err IntegerTooLarge
+der u64 020901+8*00 = err IntegerTooLarge
+der u64 020300ffff = ok 65535 rest - enc 020300ffff
+";
+
+/// Calls and their answers.
+const BY_CALLS: &str = "\
+u8 020102ffff = 2 rest ffff
+u8 040105 = Error(UnexpectedTag { expected: Some(Tag(2)), actual: Tag(4) })
+u16 0203010000 = Error(IntegerTooLarge)
+u8_ber 020102ffff = 2 rest ffff
+u8_ber 020101 = 1 rest -
+u8_ber 30 = Incomplete(Size(1))
+u8_ber 02 = Incomplete(Size(1))
+u8_ber 0205 = Incomplete(Size(5))
+u8_ber 0285 = Incomplete(Size(5))
+u8_ber 0285ff = Incomplete(Size(4))
+u8_ber 02ff0102030405060708090a0b0c0d0e0f10 = Error(InvalidLength)
+u8_ber 0285ffffffffff00 = Incomplete(Size(1099511627774))
+u64_ber 0203010001 = 65537 rest -
+";
+
+#[test]
+fn numbers_are_read_and_written(rt: HostRuntime) -> Result<(), Fail> {
+    assert_lines(&rt, rt.alloc(), NUMBERS)
+}
+
+#[test]
+fn numbers_are_refused(rt: HostRuntime) -> Result<(), Fail> {
+    assert_lines(&rt, rt.alloc(), REFUSED)
+}
+
+#[test]
+fn numbers_are_read_by_calls(rt: HostRuntime) -> Result<(), Fail> {
+    assert_rows(&rt, rt.alloc(), BY_CALLS)
+}
+
+#[test]
+fn number_is_read_and_written_by_each_call(rt: HostRuntime) -> Result<(), Fail> {
+    let octets = [0x02, 0x01, 0x05];
+    let (_, number) = read_der::<u64, Error>(rt.alloc(), &octets)?;
+    let (_, same) = read_ber::<u64, Error>(rt.alloc(), &octets)?;
+    assert_eq!(rt; number, same);
+    let mut writer = Told::new(Vec::new(rt.alloc()));
+    let header = number.write_der_header(rt.alloc(), &mut writer)?;
+    let content = number.write_der_content(rt.alloc(), &mut writer)?;
+    // By reference too.
+    let whole = write_strict(&&number, rt.alloc(), &mut writer)?;
+    assert_eq!(rt; [header, content, whole], [2, 1, 3]);
+    assert_eq!(rt;
+        writer.into_inner().as_slice(),
+        [2, 1, 5, 2, 1, 5].as_slice()
+    );
+    assert_eq!(rt; <&u64 as Tagged>::TAG, Tag(2));
+    Ok(())
+}
