@@ -48,12 +48,16 @@ pub record IntegerBody (Holds : ℤ → Type 0) (p : Parts) (n : ℤ) : Type 0 w
   pub value : n ≡ twos_complement_value p.content
   pub held : Holds n
 
+-- a primitive element with the tag number of integers, or the refusal of the first of these that fails
+abbrev pub IsIntegerOr : Parts → Result (Unit {0}) Error → Type 0
+IsIntegerOr p (Ok x) = (p.id.number ≡ integer_number) × IsPrimitive p
+IsIntegerOr p (Err e) =
+    ((p.id.number ≢ integer_number) × (e ≡ UnexpectedTag (Some (record { 0 = integer_number })) (record { 0 = p.id.number }))) ⊎
+    ((p.id.number ≡ integer_number) × (p.id.constructed ≡ true) × (e ≡ ConstructUnexpected))
+
 -- the refusal of the first of these that fails; of a number that the type does not hold, that of its contents octets
 abbrev pub IntegerRefuses : (List ℕ → Error → Type 0) → Parts → Error → Type 0
-IntegerRefuses content_refuses p e =
-    ((p.id.number ≢ integer_number) × (e ≡ UnexpectedTag (Some (record { 0 = integer_number })) (record { 0 = p.id.number }))) ⊎
-    ((p.id.number ≡ integer_number) × (p.id.constructed ≡ true) × (e ≡ ConstructUnexpected)) ⊎
-    ((p.id.number ≡ integer_number) × IsPrimitive p × content_refuses p.content e)
+IntegerRefuses content_refuses p e = IsIntegerOr p (Err e) ⊎ (IsIntegerOr p (Ok tt) × content_refuses p.content e)
 
 abbrev pub IntegerGives : {T : Type 0} → (T → ℤ) → (ℤ → Type 0) → (List ℕ → Error → Type 0) → Parts → Result T Error → Type 0
 IntegerGives number Holds content_refuses p (Ok x) = IntegerBody Holds p (number x)

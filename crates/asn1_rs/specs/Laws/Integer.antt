@@ -17,7 +17,7 @@ use Rattle.asn1_rs.specs.Grammar.{IsOneFront, IsOneBody, BerWord, DerWord, NoChe
 use Rattle.asn1_rs.specs.Laws.Elements.{der_elements, ber_elements}
 use Rattle.asn1_rs.specs.Laws.Words.{word_one, strict_ber_word, strict_der_word}
 use Rattle.asn1_rs.specs.Laws.Forms.{WritesByValue, WritesForm, header_of, universal_one, universal_value, universal_fits}
-use Rattle.asn1_rs.specs.Integer.{integer_number, IntegerCheck, IntegerCheckRefuses, IntegerCheckGives, IntegerBody, IntegerRefuses, IntegerGives, IntegerContent, IntegerForm, integer_header}
+use Rattle.asn1_rs.specs.Integer.{integer_number, IntegerCheck, IntegerCheckRefuses, IntegerCheckGives, IsIntegerOr, IntegerBody, IntegerRefuses, IntegerGives, IntegerContent, IntegerForm, integer_header}
 
 -- the refusal of the check, where it refuses
 check_refusal : Bool → LengthForm → List ℕ → Error
@@ -64,18 +64,24 @@ integer_check_exact p (Err e) h = λ k. refuses e h k
     refuses (DerConstraintFailed IntegerLeadingFF) h k = k.shortest.2 h.2
     refuses _ h k = h
 
+-- no element is both an integer and refused as none
+integer_or_refused : (p : Parts) (e : Error) → IsIntegerOr p (Err e) → IsIntegerOr p (Ok tt) → ⊥
+integer_or_refused p e (inl a) b = a.0 b.0
+integer_or_refused p e (inr a) b = let c = a.1 in let d = b.1 in cc
+
+one_header_refusal : (p : Parts) (e f : Error) → IsIntegerOr p (Err e) → IsIntegerOr p (Err f) → e ≡ f
+one_header_refusal p e f (inl a) (inl b) = a.1 ∙ sym b.1
+one_header_refusal p e f (inl a) (inr b) = absurd (a.0 b.0)
+one_header_refusal p e f (inr a) (inl b) = absurd (b.0 a.0)
+one_header_refusal p e f (inr a) (inr b) = a.2 ∙ sym b.2
+
 -- the conversion allows one refusal for one element, where its contents octets allow one
 pub one_integer_refusal : (content_refuses : List ℕ → Error → Type 0) → ((c : List ℕ) (e f : Error) → content_refuses c e → content_refuses c f → e ≡ f) →
     (p : Parts) (e f : Error) → IntegerRefuses content_refuses p e → IntegerRefuses content_refuses p f → e ≡ f
-one_integer_refusal refuses one p e f (inl a) (inl b) = a.1 ∙ sym b.1
-one_integer_refusal refuses one p e f (inl a) (inr (inl b)) = absurd (a.0 b.0)
-one_integer_refusal refuses one p e f (inl a) (inr (inr b)) = absurd (a.0 b.0)
-one_integer_refusal refuses one p e f (inr (inl a)) (inl b) = absurd (b.0 a.0)
-one_integer_refusal refuses one p e f (inr (inl a)) (inr (inl b)) = a.2 ∙ sym b.2
-one_integer_refusal refuses one p e f (inr (inl a)) (inr (inr b)) = let c = a.1 in let d = b.1 in cc
-one_integer_refusal refuses one p e f (inr (inr a)) (inl b) = absurd (b.0 a.0)
-one_integer_refusal refuses one p e f (inr (inr a)) (inr (inl b)) = let c = a.1 in let d = b.1 in cc
-one_integer_refusal refuses one p e f (inr (inr a)) (inr (inr b)) = one p.content e f a.2 b.2
+one_integer_refusal refuses one p e f (inl a) (inl b) = one_header_refusal p e f a b
+one_integer_refusal refuses one p e f (inl a) (inr b) = absurd (integer_or_refused p e a b.0)
+one_integer_refusal refuses one p e f (inr a) (inl b) = absurd (integer_or_refused p f b a.0)
+one_integer_refusal refuses one p e f (inr a) (inr b) = one p.content e f a.1 b.1
 
 module _ (Holds : ℤ → Type 0) where
   -- it is exact
@@ -85,9 +91,8 @@ module _ (Holds : ℤ → Type 0) where
   integer_exact number content_refuses refused p (Err e) o h = inr (λ v b. refuses h v b)
     where
       refuses : IntegerRefuses content_refuses p e → (v : ℤ) → IntegerBody Holds p v → ⊥
-      refuses (inl a) v b = a.0 b.number
-      refuses (inr (inl a)) v b = let c = b.primitive in let d = a.1 in cc
-      refuses (inr (inr a)) v b = refused p.content e o a.2 (subst Holds b.value b.held)
+      refuses (inl a) v b = integer_or_refused p e a (b.number, b.primitive)
+      refuses (inr a) v b = refused p.content e o a.1 (subst Holds b.value b.held)
 
   pub integer_one_body : IsOneBody (IntegerBody Holds)
   integer_one_body = λ p v w a b. a.value ∙ sym b.value

@@ -6,7 +6,7 @@ ghost use Rattle.x690.specs.Digits.{twos_complement_value};
 ghost use Rattle.x690.specs.Integers.{unsigned_octets};
 ghost use Rattle.x690.specs.SignedOctets.{signed_octets};
 ghost use Rattle.asn1_rs.specs.Any.{parts_of};
-ghost use Rattle.asn1_rs.specs.Integer.{IntegerCheckGives, IsUnsigned, UnsignedRefuses, UnsignedGives, unsigned_header, SignedGives, signed_header};
+ghost use Rattle.asn1_rs.specs.Integer.{IntegerCheckGives, IsUnsigned, UnsignedRefuses, UnsignedGives, unsigned_header, SignedGives, signed_header, IsIntegerOr};
 ghost use Rattle.asn1_rs.specs.Wrote.{Wrote, MayRefuse, MayRefuseCount};
 
 use crate::asn1_types::any::Any;
@@ -38,6 +38,14 @@ pub(crate) fn check_integer(any: &Any<'_>) -> Result<(), Error>
     Ok(())
 }
 
+/// Refuses an element that has another tag number than integers, or is constructed (X.690 8.3.1).
+fn assert_integer(any: &Any<'_>) -> Result<(), Error>
+    ensures { IsIntegerOr (parts_of any.now) result }
+{
+    any.header.assert_tag(Tag::Integer)?;
+    any.header.assert_primitive()
+}
+
 /// The natural number of contents octets, which fits in so many octets.
 fn unsigned_from_content(content: &[u8], size: usize) -> Result<u128, Error>
     requires { size ≤ 16 }
@@ -56,8 +64,7 @@ pub(crate) fn unsigned_from_any(any: &Any<'_>, size: usize) -> Result<u128, Erro
     requires { size ≤ 16 }
     ensures { UnsignedGives size (parts_of any.now) result }
 {
-    any.header.assert_tag(Tag::Integer)?;
-    any.header.assert_primitive()?;
+    assert_integer(any)?;
     unsigned_from_content(any.content, size)
 }
 
@@ -93,8 +100,7 @@ pub(crate) fn signed_from_any(any: &Any<'_>, size: usize) -> Result<i128, Error>
     requires few { size ≤ 16 }
     ensures { SignedGives size (parts_of any.now) result }
 {
-    any.header.assert_tag(Tag::Integer)?;
-    any.header.assert_primitive()?;
+    assert_integer(any)?;
     signed_number(any.content, size).ok_or(Error::IntegerTooLarge)
 }
 
