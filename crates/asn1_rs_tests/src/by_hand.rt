@@ -152,3 +152,27 @@ fn element_is_converted_to_itself(rt: HostRuntime) -> Result<(), Fail> {
     let same = Any::try_from_any(rt.alloc(), Any::from_tag_and_data(Tag::Null, &[0x01, 0x00]))?;
     assert_shown(&rt, rt.alloc(), &same.as_bytes(), "[1, 0]")
 }
+
+#[test]
+fn elements_are_converted_to_integers(rt: HostRuntime) -> Result<(), Fail> {
+    let any = Any::from_tag_and_data(Tag::Integer, &[0x01, 0x00]);
+    let numbers = (
+        any.as_u8(),
+        any.as_u16(),
+        any.as_i8(),
+        any.as_i16(),
+        any.u32(),
+    );
+    let expected = "(Err(IntegerTooLarge), Ok(256), Err(IntegerTooLarge), Ok(256), Ok(256))";
+    assert_shown(&rt, rt.alloc(), &numbers, expected)?;
+    let any = Any::from_tag_and_data(Tag::Integer, &[0xff, 0x7f]);
+    let numbers = (
+        any.as_u64(),
+        any.as_u128(),
+        any.as_i32(),
+        any.as_i64(),
+        any.i128(),
+    );
+    let expected = "(Err(IntegerNegative), Err(IntegerNegative), Ok(-129), Ok(-129), Ok(-129))";
+    assert_shown(&rt, rt.alloc(), &numbers, expected)
+}

@@ -9,7 +9,7 @@ ghost use Rattle.asn1_rs.specs.Laws.Signed.{signed_refused, signed_equal};
 
 use crate::asn1_types::any::Any;
 use crate::asn1_types::integer::{
-    check_integer, count_signed_element, put_signed_content, put_signed_header, signed_from_any,
+    check_integer, count_signed_element, put_signed_content, put_signed_header,
 };
 use crate::error::{Error, SerializeResult};
 use crate::laws::{
@@ -38,7 +38,7 @@ impl<'a> FromAny<'a> for i8 {
     ghost any_gives = { SignedGives 1 };
 
     fn try_from_any(_alloc: Global, any: Any<'a>) -> Result<i8, Error> {
-        Ok(signed_from_any(&any, 1)? as i8)
+        any.as_i8()
     }
 }
 
@@ -188,7 +188,7 @@ impl<'a> FromAny<'a> for i16 {
     ghost any_gives = { SignedGives 2 };
 
     fn try_from_any(_alloc: Global, any: Any<'a>) -> Result<i16, Error> {
-        Ok(signed_from_any(&any, 2)? as i16)
+        any.as_i16()
     }
 }
 
@@ -338,7 +338,7 @@ impl<'a> FromAny<'a> for i32 {
     ghost any_gives = { SignedGives 4 };
 
     fn try_from_any(_alloc: Global, any: Any<'a>) -> Result<i32, Error> {
-        Ok(signed_from_any(&any, 4)? as i32)
+        any.as_i32()
     }
 }
 
@@ -488,7 +488,7 @@ impl<'a> FromAny<'a> for i64 {
     ghost any_gives = { SignedGives 8 };
 
     fn try_from_any(_alloc: Global, any: Any<'a>) -> Result<i64, Error> {
-        Ok(signed_from_any(&any, 8)? as i64)
+        any.as_i64()
     }
 }
 
@@ -638,7 +638,7 @@ impl<'a> FromAny<'a> for i128 {
     ghost any_gives = { SignedGives 16 };
 
     fn try_from_any(_alloc: Global, any: Any<'a>) -> Result<i128, Error> {
-        signed_from_any(&any, 16)
+        any.as_i128()
     }
 }
 

@@ -10,7 +10,6 @@ ghost use Rattle.asn1_rs.specs.Laws.Unsigned.{unsigned_refused, unsigned_equal};
 use crate::asn1_types::any::Any;
 use crate::asn1_types::integer::{
     check_integer, count_unsigned_element, put_unsigned_content, put_unsigned_header,
-    unsigned_from_any,
 };
 use crate::error::{Error, SerializeResult};
 use crate::laws::{
@@ -39,7 +38,7 @@ impl<'a> FromAny<'a> for u8 {
     ghost any_gives = { UnsignedGives 1 };
 
     fn try_from_any(_alloc: Global, any: Any<'a>) -> Result<u8, Error> {
-        Ok(unsigned_from_any(&any, 1)? as u8)
+        any.as_u8()
     }
 }
 
@@ -189,7 +188,7 @@ impl<'a> FromAny<'a> for u16 {
     ghost any_gives = { UnsignedGives 2 };
 
     fn try_from_any(_alloc: Global, any: Any<'a>) -> Result<u16, Error> {
-        Ok(unsigned_from_any(&any, 2)? as u16)
+        any.as_u16()
     }
 }
 
@@ -339,7 +338,7 @@ impl<'a> FromAny<'a> for u32 {
     ghost any_gives = { UnsignedGives 4 };
 
     fn try_from_any(_alloc: Global, any: Any<'a>) -> Result<u32, Error> {
-        Ok(unsigned_from_any(&any, 4)? as u32)
+        any.as_u32()
     }
 }
 
@@ -489,7 +488,7 @@ impl<'a> FromAny<'a> for u64 {
     ghost any_gives = { UnsignedGives 8 };
 
     fn try_from_any(_alloc: Global, any: Any<'a>) -> Result<u64, Error> {
-        Ok(unsigned_from_any(&any, 8)? as u64)
+        any.as_u64()
     }
 }
 
@@ -639,7 +638,7 @@ impl<'a> FromAny<'a> for u128 {
     ghost any_gives = { UnsignedGives 16 };
 
     fn try_from_any(_alloc: Global, any: Any<'a>) -> Result<u128, Error> {
-        unsigned_from_any(&any, 16)
+        any.as_u128()
     }
 }
 
