@@ -119,14 +119,6 @@ pub SumsCounts_refused : (takes : Bool) (xs ys : List ℕ) (n m : ℕ) (r : Resu
 SumsCounts_refused takes xs ys n m (Ok k) p q s = tt
 SumsCounts_refused takes xs ys n m (Err e) p q s = rw s.0 (simp length-append (omega (arith, s.1)))
 
--- a refusal before anything was appended, which is no writer's failure
-pub Wrote_nothing : {e : SerializeError} (xs : List ℕ) (a : Option (List ℕ)) (was : Bool) → is_io {A = ℕ} (Err e) ≡ false → Wrote xs a a was was (Err e)
-Wrote_nothing {e} xs a was h = record {
-  ok = tt;
-  err = record { front = []; rest = xs; parts = refl; grown = Appends_none a };
-  mark = ap (λ m. m || was) (sym h);
-}
-
 -- A writing whose length fits and whose writer is not marked is done, but for want of memory.
 pub writing_done : (r : Result ℕ SerializeError) (takes : Bool) (o : List ℕ) (old new : Option (List ℕ)) (was is : Bool) → Wrote o old new was is r → IfErr r (MayRefuse takes (length o)) → length o < 2 ^ 64 → is ≡ false
     → MatchResult r (λ n. Appends old new o × (n ≡ length o)) (λ e. (e ≡ refusals.OutOfMemory) × IsTrue takes)

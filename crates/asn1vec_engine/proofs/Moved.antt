@@ -8,9 +8,6 @@ use Rattle.asn1vec_engine.specs.Engine.{Answers, AnswersTo, BeginsAnswersTo, Mov
 use Rattle.asn1vec_engine.proofs.Appended.{appends_none, appends_both}
 use Rattle.asn1vec_engine.proofs.LineLaws.{IsOpen, lines_of_ended, lines_of_last, long_dropped, none_begun, answered_first}
 
-pub moves_none : (a : Option (List ℕ)) (xs : List ℕ) → Moves a a xs xs
-moves_none a xs = record { gained = []; told = appends_none a; joins = λ all rest texts h. h }
-
 pub moves_both : {a b c : Option (List ℕ)} {xs ys zs : List ℕ} → Moves a b xs ys → Moves b c ys zs → Moves a c xs zs
 moves_both {a} {b} {c} {xs} {ys} {zs} p q = record {
   gained = p.gained ++ q.gained;

@@ -1,12 +1,11 @@
 -- Octets that end within an identifier, a header or an element: which fault they have.
-use Rattle.std.proofs.Common.{◌≡◌, ◌≢◌, ℕ, zero, suc, ◌<◌, ◌≤◌, Bool, List, [], ◌∷◌, ◌++◌, length, drop, refl, sym, ap, ◌∙◌, arith, subst, inl, inr, ◌⊎◌, append_assoc, append-nil, length-drop, length-append}
+use Rattle.std.proofs.Common.{◌≡◌, ◌≢◌, ℕ, zero, suc, ◌≤◌, Bool, List, [], ◌∷◌, ◌++◌, length, drop, refl, sym, ap, ◌∙◌, arith, subst, inl, inr, append_assoc, append-nil, length-drop}
 use Rattle.std.proofs.lemmas.Bool.{cases_lt}
-use Rattle.std.specs.List.{concat}
 use Rattle.x690.specs.Identifiers.{Identifier, IsIdentifier, IsCutIdentifier}
 use Rattle.x690.specs.Lengths.{LengthForm}
 use Rattle.x690.specs.Elements.{Parts, IsHeader, IsDefiniteElement, der_rule, ber_rule}
-use Rattle.x690.specs.Faults.{Fault, missing, tag_fault, length_fault, form_fault, depth_fault, IdentifierFault, HeaderFault, IsCutContent, DefiniteElementFault, SpeaksOf, IsLackingOrCut}
-use Rattle.x690.specs.Nested.{IsNestedElement, IsWord, IsOpened, ElementFault, EndsInIdentifier, end_of_contents}
+use Rattle.x690.specs.Faults.{Fault, missing, tag_fault, length_fault, form_fault, depth_fault, IdentifierFault, HeaderFault, DefiniteElementFault, SpeaksOf, IsLackingOrCut}
+use Rattle.x690.specs.Nested.{IsNestedElement, ElementFault, EndsInIdentifier, end_of_contents}
 use Rattle.x690.specs.Laws.Identifiers.{identifier_unique}
 use Rattle.x690.specs.Laws.Faults.{shorter_front, no_header, no_definite_element}
 use Rattle.x690.specs.Laws.Nested.{end_parts, end_element, definite_is_nested, nested_header}

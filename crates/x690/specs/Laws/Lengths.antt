@@ -49,13 +49,7 @@ form_same o q x y (definite m) indefinite i j h = absurd (length_not_80 o x y m 
 form_same o q x y indefinite (definite n) i j h = absurd (length_not_80 q y x n j (sym h ∙ ap (λ (ys : List ℕ). ys ++ x) i))
 form_same o q x y indefinite indefinite i j h = (i ∙ sym j, refl)
 
--- Length octets that begin one input are the same and say the same, and the same follows.
-pub length_unique : (o q x y : List ℕ) (m n : ℕ) → IsLength o m → IsLength q n → o ++ x ≡ q ++ y → (o ≡ q) × (m ≡ n) × (x ≡ y)
-length_unique o q x y m n i j h =
-    let u = length_same o q x y m n i j h in
-    (u.0, u.1, append_cancel_left q x y (ap (λ (ys : List ℕ). ys ++ x) (sym u.0) ∙ h))
-
--- the same where 80 may stand for the indefinite form
+-- Length octets, or 80 for the indefinite form, that begin one input are the same and say the same, and the same follows.
 pub length_form_unique : (o q x y : List ℕ) (f g : LengthForm) → IsLengthForm o f → IsLengthForm q g → o ++ x ≡ q ++ y → (o ≡ q) × (f ≡ g) × (x ≡ y)
 length_form_unique o q x y f g i j h =
     let u = form_same o q x y f g i j h in

@@ -7,7 +7,7 @@ use Rattle.x690.specs.Octets.{IsOctets}
 use Rattle.x690.specs.Digits.{base_256_value, twos_complement_value}
 use Rattle.x690.specs.Integers.{HasSpareZeros, HasSpareOnes, IsShortestInteger, IsIntegerContent, unsigned_octets}
 use Rattle.x690.specs.SignedOctets.{complement, signed_octets, IsSigned}
-use Rattle.x690.specs.Laws.Integers.{value_low, value_high, first_below, first_above, octets_value_below, shortest_low, shortest_high, integer_content_unique}
+use Rattle.x690.specs.Laws.Integers.{value_low, value_high, first_below, first_above, octets_value_below, shortest_low, shortest_high}
 use Rattle.x690.specs.Laws.UnsignedOctets.{unsigned_octets_content, unsigned_octets_first, unsigned_octets_value}
 
 -- no more octets than these say an integer of this size
@@ -85,17 +85,6 @@ signed_octets_content (negsuc n) =
       shortest = complement_shortest (unsigned_octets n) i.octets i.shortest;
       value = complement_value (unsigned_octets n) i.octets i.shortest.0 (unsigned_octets_first n) ∙ ap negsuc (unsigned_octets_value n);
     }
-
--- and the only ones
-pub signed_octets_only : (n : ℤ) (content : List ℕ) → IsIntegerContent n content → content ≡ signed_octets n
-signed_octets_only n content i = integer_content_unique n content (signed_octets n) i (signed_octets_content n)
-
-pub signed_octets_some : (n : ℤ) → 1 ≤ length (signed_octets n)
-signed_octets_some n = some (signed_octets n) (signed_octets_content n).shortest.0
-  where
-    some : (octets : List ℕ) → octets ≢ [] → 1 ≤ length octets
-    some [] h = absurd (h refl)
-    some (first ∷ others) h = omega arith
 
 -- they are as many as those of the natural number that it is, or of which it is the complement
 pub signed_octets_length : (n : ℤ) (m : ℕ) → (n ≡ pos m) ⊎ (n ≡ negsuc m) → length (signed_octets n) ≡ length (unsigned_octets m)

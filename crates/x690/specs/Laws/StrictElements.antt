@@ -6,7 +6,7 @@ use Rattle.x690.specs.Lengths.{definite}
 use Rattle.x690.specs.Elements.{Parts, IsDefiniteElement, IsStrictElement}
 use Rattle.x690.specs.Strict.{identifier_octets, length_octets, header_octets}
 use Rattle.x690.specs.Laws.StrictIdentifiers.{strict_identifier, only_strict_identifier}
-use Rattle.x690.specs.Laws.StrictLengths.{strict_length, only_strict_length, length_fits}
+use Rattle.x690.specs.Laws.StrictLengths.{strict_length, only_strict_length}
 use Rattle.x690.specs.Laws.StrictHeaders.{header_octets_are}
 use Rattle.x690.specs.Laws.Elements.{definite_element_unique}
 
@@ -34,9 +34,6 @@ made_strict_element i c k n l o = record {
   content_octets = o;
   is = ap (λ (z : List ℕ). z ++ c) (header_octets_are i.class i.constructed i.number (length c)) ∙ append_assoc (identifier_octets i) (length_octets (length c)) c;
 }
-
-pub strict_content_fits : (o : List ℕ) (i : Identifier) (c : List ℕ) → IsStrictElement o i c → length c < 2 ^ 64
-strict_content_fits o i c s = length_fits (length c) s.count s.count_is.lenient
 
 pub strict_is_definite : (o : List ℕ) (i : Identifier) (c : List ℕ) → IsStrictElement o i c → IsDefiniteElement o (definite_parts i c)
 strict_is_definite o i c s = record {

@@ -1,13 +1,12 @@
 -- Laws of the strict headers (X.690 8.1.2, 8.1.3, 10.1).
-use Rattle.std.proofs.Common.{◌≡◌, ℕ, ◌+◌, ◌^◌, ◌<◌, ◌≤◌, Bool, List, ◌++◌, length, refl, arith, length-append}
+use Rattle.std.proofs.Common.{◌≡◌, ℕ, ◌+◌, ◌^◌, ◌<◌, Bool, List, ◌++◌, length, refl, length-append}
 use Rattle.x690.specs.Octets.{IsOctets}
 use Rattle.x690.specs.Identifiers.{Identifier}
 use Rattle.x690.specs.Lengths.{definite}
 use Rattle.x690.specs.Elements.{IsHeader, IsDefiniteElement, der_rule}
 use Rattle.x690.specs.Strict.{identifier_octets, length_octets, header_octets}
-use Rattle.x690.specs.Laws.Octets.{octets_append}
-use Rattle.x690.specs.Laws.StrictIdentifiers.{strict_identifier, identifier_octets_octets, identifier_octets_some, identifier_octets_few}
-use Rattle.x690.specs.Laws.StrictLengths.{strict_length, length_octets_octets, length_octets_some, length_octets_few}
+use Rattle.x690.specs.Laws.StrictIdentifiers.{strict_identifier}
+use Rattle.x690.specs.Laws.StrictLengths.{strict_length}
 
 -- class, constructed bit and tag number as one
 abbrev pub identifier_of : ℕ → Bool → ℕ → Identifier
@@ -32,17 +31,6 @@ strict_header rule class constructed number n c m f = record {
   count_is = (strict_length n f).lenient;
   allowed = tt;
 }
-
-pub header_octets_octets : (class : ℕ) (constructed : Bool) (number n : ℕ) → class < 4 → number < 2 ^ 32 → n < 2 ^ 64 → IsOctets (header_octets class constructed number n)
-unfolding header_octets
-header_octets_octets class constructed number n c m f =
-    octets_append (identifier_octets (identifier_of class constructed number)) (length_octets n) (identifier_octets_octets (identifier_of class constructed number) c m) (length_octets_octets n f)
-
-pub header_octets_some : (class : ℕ) (constructed : Bool) (number n : ℕ) → 2 ≤ length (header_octets class constructed number n)
-header_octets_some class constructed number n = omega (arith, header_octets_count class constructed number n, identifier_octets_some (identifier_of class constructed number), length_octets_some n)
-
-pub header_octets_few : (class : ℕ) (constructed : Bool) (number n : ℕ) → number < 2 ^ 32 → n < 2 ^ 64 → length (header_octets class constructed number n) ≤ 15
-header_octets_few class constructed number n m f = omega (arith, header_octets_count class constructed number n, identifier_octets_few (identifier_of class constructed number) m, length_octets_few n f)
 
 -- the strict header and then the contents octets that it counts are an element
 pub strict_element : (class : ℕ) (constructed : Bool) (number : ℕ) (content : List ℕ) → class < 4 → number < 2 ^ 32 → length content < 2 ^ 64 → IsOctets content →

@@ -8,7 +8,7 @@ use Rattle.x690.specs.Digits.{base_256_value}
 use Rattle.x690.specs.Integers.{IsIntegerContent, HasNoLeadingZero, HasSpareZeros, HasSpareOnes, with_sign_octet, unsigned_octets}
 use Rattle.x690.specs.Laws.Octets.{below_octets}
 use Rattle.x690.specs.Laws.Sums.{weighted_sum_digits}
-use Rattle.x690.specs.Laws.Integers.{value_low, unsigned_value, integer_content_unique}
+use Rattle.x690.specs.Laws.Integers.{value_low, unsigned_value}
 
 with_sign_low : (first : ℕ) (others : List ℕ) → first < 128 → with_sign_octet (first ∷ others) ≡ first ∷ others
 with_sign_low first others h = grind (arith, nat_tests)
@@ -67,10 +67,6 @@ unsigned_octets_content n =
     let s = signed_is_content (digits_of 256 n) (all_below_base_digits_of 256 n (omega arith)) (digits_start_well n) in
     subst (λ (m : ℕ). IsIntegerContent (pos m) (with_sign_octet (digits_of 256 n))) (weighted_sum_digits 256 n (omega arith)) s
 
--- and the only ones
-pub unsigned_octets_only : (n : ℕ) (content : List ℕ) → IsIntegerContent (pos n) content → content ≡ unsigned_octets n
-unsigned_octets_only n content i = integer_content_unique (pos n) content (unsigned_octets n) i (unsigned_octets_content n)
-
 -- their first bit is not set
 pub unsigned_octets_first : (n : ℕ) → get_or (unsigned_octets n) 0 0 < 128
 unfolding unsigned_octets
@@ -88,9 +84,6 @@ pub unsigned_octets_value : (n : ℕ) → base_256_value (unsigned_octets n) ≡
 unsigned_octets_value n =
     let e : pos (base_256_value (unsigned_octets n)) ≡ pos n = sym (unsigned_value (unsigned_octets n) (unsigned_octets_first n)) ∙ (unsigned_octets_content n).value in
     cc
-
-pub unsigned_octets_same : (m n : ℕ) → unsigned_octets m ≡ unsigned_octets n → m ≡ n
-unsigned_octets_same m n e = sym (unsigned_octets_value m) ∙ ap base_256_value e ∙ unsigned_octets_value n
 
 with_sign_count : (digits : List ℕ) → length (with_sign_octet digits) ≤ length digits + 1
 with_sign_count [] = omega arith
