@@ -155,8 +155,8 @@ impl ToDer for (Class, bool, Tag) {
         put_identifier(*self, w)
     }
 
-    fn write_der_content<W: DerWrite>(&self, _alloc: Global, w: &mut W) -> SerializeResult<usize> {
-        put_all(w, &[])
+    fn write_der_content<W: DerWrite>(&self, _alloc: Global, _w: &mut W) -> SerializeResult<usize> {
+        Ok(0)
     }
 }
 
@@ -209,8 +209,8 @@ impl ToDer for Header<'_> {
         put_strict_header(self, w)
     }
 
-    fn write_der_content<W: DerWrite>(&self, _alloc: Global, w: &mut W) -> SerializeResult<usize> {
-        put_all(w, &[])
+    fn write_der_content<W: DerWrite>(&self, _alloc: Global, _w: &mut W) -> SerializeResult<usize> {
+        Ok(0)
     }
 
     /// Appends the identifier octets that were read, where the header keeps them, and then the length octets.
