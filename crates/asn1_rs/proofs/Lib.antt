@@ -1,4 +1,5 @@
 mod Elements
+mod Lists
 mod OpenContents
 mod Reading
 mod Writing

@@ -1,14 +1,17 @@
 -- One writing after another.
-use Rattle.std.proofs.Common.{◌≡◌, ℕ, ◌+◌, Bool, true, false, ◌||◌, ◌&&◌, ◌==◌, nat_lt, List, [], ◌++◌, length, take, drop, ◌-◌, ◌≤◌, length-append, Option, None, Some, IfErr, IsTrue, MatchResult, ◌^◌, ◌<◌, IfOk, zero, suc, Result, Ok, Err, refl, sym, ap, ◌∙◌, append_assoc, arith, subst}
+use Rattle.std.proofs.Common.{◌≡◌, ◌⊎◌, inl, inr, ℕ, ◌+◌, Bool, true, false, ◌||◌, ◌&&◌, ◌==◌, nat_lt, List, [], ◌++◌, length, take, drop, ◌-◌, ◌≤◌, length-append, Option, None, Some, IfErr, IsTrue, MatchResult, ◌^◌, ◌<◌, IfOk, zero, suc, Result, Ok, Err, refl, sym, ap, ◌∙◌, append_assoc, arith, subst}
 use Rattle.std.proofs.lemmas.Bool.Decides.{nat_tests}
+use Rattle.std.proofs.lemmas.Bool.{false≢true}
 use Rattle.std.proofs.lemmas.List.{append-nil}
 use Rattle.std.proofs.lemmas.Grind.{common_steps}
 use Rattle.std.specs.Io.KnownBytes.{Appends}
 use Rattle.std.specs.Io.{WritesAtMost}
 use Rattle.std.specs.Io.KnownBytes.{WriteAppends}
 use Rattle.std.specs.declared.io.Error.{Error as Failure}
-use Rattle.asn1_rs.specs.Wrote.{Wrote, is_io, SumsWritten, SumsCounts, MayRefuse, MayRefuseCount, PutOnce, PutAnswer, put_fails}
+use Rattle.asn1_rs.specs.Wrote.{Wrote, is_io, SumsWritten, SumsCounts, MayRefuse, MayRefuseCount, PutOnce, PutAnswer, put_fails, Refuses, RefusesCount, RefusesAtOnce, IsRefusedAtOnce, RefusedAtOnce, Either, HasNone, VectorRefuses, WithoutIo, WrittenRefusal, OfClass, written_refusal, tells_of_io}
+use Rattle.std.specs.Prelude.{IsErr}
 use Rattle.asn1_rs.specs.declared.error.Error.{Error}
+use Rattle.asn1_rs.specs.declared.error.Error.TheVariants as faults
 use Rattle.asn1_rs.specs.declared.error.SerializeError.TheVariants as refusals
 use Rattle.asn1_rs.specs.declared.error.SerializeError.{SerializeError}
 
@@ -128,3 +131,105 @@ writing_done (Err (refusals.InvalidClass c)) takes o old new was is w m fits fre
 writing_done (Err refusals.InvalidLength) takes o old new was is w m fits free = absurd (omega arith)
 writing_done (Err (refusals.IOError e)) takes o old new was is w m fits free = let k : is ≡ true = w.mark in cc
 writing_done (Err refusals.OutOfMemory) takes o old new was is w m fits free = (refl, m)
+
+-- a writing that has no refusals of its own, or is not refused by them
+pub only_may : (r : Result ℕ SerializeError) (takes : Bool) (n : ℕ) (own : SerializeError → Type 0) → IfErr r (MayRefuse takes n) → IfErr r (Refuses takes n own)
+only_may (Ok k) takes n own h = tt
+only_may (Err e) takes n own h = inl h
+
+pub only_may_count : (r : Result ℕ Error) (takes : Bool) (n : ℕ) (own : Error → Type 0) → IfErr r (MayRefuseCount takes n) → IfErr r (RefusesCount takes n own)
+only_may_count (Ok k) takes n own h = tt
+only_may_count (Err e) takes n own h = inl h
+
+pub only_put : (r : Result ℕ SerializeError) (takes : Bool) (n : ℕ) (own : SerializeError → Type 0) → IfErr r (MayRefuse false 0) → IfErr r (Refuses takes n own)
+only_put (Ok k) takes n own h = tt
+only_put (Err (refusals.ASN1Error e)) takes n own h = absurd h
+only_put (Err (refusals.InvalidClass c)) takes n own h = absurd h
+only_put (Err refusals.InvalidLength) takes n own h = absurd (omega (arith, h))
+only_put (Err (refusals.IOError e)) takes n own h = inl tt
+only_put (Err refusals.OutOfMemory) takes n own h = cc
+
+pub plain_refusal : (r : Result ℕ SerializeError) (takes : Bool) (n : ℕ) (one other : SerializeError → Type 0) → HasNone one → HasNone other → IfErr r (Refuses takes n (Either one other)) → IfErr r (MayRefuse takes n)
+plain_refusal (Ok k) takes n one other a b h = tt
+plain_refusal (Err e) takes n one other a b (inl m) = m
+plain_refusal (Err e) takes n one other a b (inr (inl o)) = absurd (a e o)
+plain_refusal (Err e) takes n one other a b (inr (inr o)) = absurd (b e o)
+
+-- a refusal of the first of two parts, and of the second
+pub refuses_first : (e : SerializeError) (takes gives : Bool) (n : ℕ) (one other : SerializeError → Type 0) → Refuses takes n one e → Refuses (takes || gives) n (Either one other) e
+refuses_first e takes gives n one other (inl m) = inl (MayRefuse_either e takes gives n m)
+refuses_first e takes gives n one other (inr o) = inr (inl o)
+
+pub refuses_second : (e : SerializeError) (takes gives : Bool) (m n : ℕ) (one other : SerializeError → Type 0) → m ≤ n → Refuses gives m other e → Refuses (takes || gives) n (Either one other) e
+refuses_second e takes gives m n one other l (inl h) = inl (MayRefuse_other e takes gives n (MayRefuse_more e gives m n l h))
+refuses_second e takes gives m n one other l (inr o) = inr (inr o)
+
+-- what is refused at once is not Ok
+pub not_refused : (takes : Bool) (n : ℕ) (own : SerializeError → Type 0) (old new : Option (List ℕ)) (was is : Bool) (k : ℕ) → IsRefusedAtOnce takes n own old new was is (Ok k) → ⊥
+not_refused takes n own old new was is k r = let e = r.2.refused in cc
+
+-- the refusal of a writing into a vector
+pub vector_refuses : (e f : SerializeError) (takes : Bool) (n : ℕ) (own : SerializeError → Type 0) → ((n : ℕ) (takes : Bool) → MayRefuse takes n e → MayRefuse true n f) → WithoutIo e f → Refuses takes n own e → VectorRefuses n own f
+vector_refuses e f takes n own may same (inl m) = inl (may n takes m)
+vector_refuses e f takes n own may same (inr o) = inr (e, o, same)
+
+pub vector_at_once : (e f : SerializeError) (takes : Bool) (n : ℕ) (own : SerializeError → Type 0) (old new : Option (List ℕ)) (was is : Bool) → WithoutIo e f → IsRefusedAtOnce takes n own old new was is (Err e) → (g : SerializeError) × RefusesAtOnce takes n own g × WithoutIo g f
+vector_at_once e f takes n own old new was is same r =
+    let q : r.0 ≡ e = same_error r.0 e r.2.refused in
+    (r.0, r.1, subst (λ (x : SerializeError). WithoutIo x f) (sym q) same)
+  where
+    same_error : (x y : SerializeError) → ◌≡◌ {A = Result ℕ SerializeError} (Err y) (Err x) → x ≡ y
+    same_error x y p = cc
+
+-- how a refused count comes out
+pub written_may : (e : Error) (takes : Bool) (m n : ℕ) → m ≤ n → MayRefuseCount takes m e → MayRefuse takes n (written_refusal e) × (tells_of_io (written_refusal e) ≡ false)
+written_may faults.InvalidLength takes m n l h = (omega arith, refl)
+written_may faults.OutOfMemory takes m n l h = (h, refl)
+written_may _ takes m n l h = absurd h
+
+-- A header is written of contents octets that were counted.
+module _ (takes : Bool) (m n : ℕ) (l : m ≤ n) (own : Error → Type 0) where
+  header_refusal : (c : Error) → RefusesCount takes m own c → RefusesAtOnce takes n (WrittenRefusal own) (written_refusal c)
+  header_refusal c (inl h) = inl (written_may c takes m n l h)
+  header_refusal c (inr o) = inr (c, o, refl)
+
+  at_once_refused : (e : SerializeError) → RefusesAtOnce takes n (WrittenRefusal own) e → Refuses takes n (WrittenRefusal own) e
+  at_once_refused e (inl h) = inl h.0
+  at_once_refused e (inr o) = inr o
+
+  pub counted_refused : (counted : Result ℕ Error) (r : Result ℕ SerializeError) (old new : Option (List ℕ)) (was is : Bool) → IfErr counted (RefusesCount takes m own) → (IfErr counted (MayRefuseCount takes m) → IfErr r (MayRefuse takes n)) → IfErr counted (λ e. RefusedAtOnce (written_refusal e) old new was is r) → IfErr r (Refuses takes n (WrittenRefusal own))
+  counted_refused (Ok k) r old new was is h put at = only_may r takes n (WrittenRefusal own) (put tt)
+  counted_refused (Err c) r old new was is h put at = rw at.refused (at_once_refused (written_refusal c) (header_refusal c h))
+
+  pub counted_at_once : (counted : Result ℕ Error) (r : Result ℕ SerializeError) (old new : Option (List ℕ)) (was is : Bool) → IfErr counted (RefusesCount takes m own) → ((e : Error) → own e → IsErr counted) → IfErr counted (λ e. RefusedAtOnce (written_refusal e) old new was is r) → (e : SerializeError) → WrittenRefusal own e → IsRefusedAtOnce takes n (WrittenRefusal own) old new was is r
+  counted_at_once (Ok k) r old new was is h none at e o = absurd (false≢true (none o.0 o.1))
+  counted_at_once (Err c) r old new was is h none at e o = (written_refusal c, header_refusal c h, at)
+
+-- an element is counted whose contents octets were counted
+pub element_refused : (takes : Bool) (m n : ℕ) (own : Error → Type 0) (counted r : Result ℕ Error) → IfErr counted (RefusesCount takes m own) → (IfErr counted (MayRefuseCount takes m) → IfErr r (MayRefuseCount takes n)) → ((e : Error) → MayRefuseCount takes m e → MayRefuseCount takes n e) → IfErr counted (λ e. r ≡ Err e) → IfErr r (RefusesCount takes n own)
+element_refused takes m n own (Ok k) r h sum more at = only_may_count r takes n own (sum tt)
+element_refused takes m n own (Err c) r (inl h) sum more at = rw at (inl (more c h))
+element_refused takes m n own (Err c) r (inr o) sum more at = rw at (inr o)
+
+pub element_accepted : (own : Error → Type 0) (counted r : Result ℕ Error) → ((e : Error) → own e → IsErr counted) → IfErr counted (λ e. r ≡ Err e) → (e : Error) → own e → IsErr r
+element_accepted own (Ok k) r none at e o = absurd (false≢true (none e o))
+element_accepted own (Err c) r none at e o = rw at refl
+
+-- a value that was written has no refusals of its own
+pub neither_refuses : (takes : Bool) (n : ℕ) (one other : SerializeError → Type 0) (old new : Option (List ℕ)) (was is : Bool) (k : ℕ) → ((e : SerializeError) → one e → IsRefusedAtOnce takes n one old new was is (Ok k)) → ((e : SerializeError) → other e → IsErr {T = ℕ} {E = SerializeError} (Ok k)) → HasNone (Either one other)
+neither_refuses takes n one other old new was is k a b e (inl o) = not_refused takes n one old new was is k (a e o)
+neither_refuses takes n one other old new was is k a b e (inr o) = false≢true (b e o)
+
+-- the refusals of a value under a tag whose class is one of four
+pub class_refused : (class : ℕ) (takes : Bool) (n : ℕ) (own : SerializeError → Type 0) (r : Result ℕ SerializeError) → class < 4 → IfErr r (Refuses takes n own) → IfErr r (Refuses takes n (OfClass class own))
+class_refused class takes n own (Ok k) l h = tt
+class_refused class takes n own (Err e) l (inl m) = inl m
+class_refused class takes n own (Err e) l (inr o) = inr (inr (l, o))
+
+pub class_at_once : (class : ℕ) (takes : Bool) (n : ℕ) (own : SerializeError → Type 0) (old new : Option (List ℕ)) (was is : Bool) (r : Result ℕ SerializeError) → class < 4 → ((e : SerializeError) → own e → IsRefusedAtOnce takes n own old new was is r) → (e : SerializeError) → OfClass class own e → IsRefusedAtOnce takes n (OfClass class own) old new was is r
+class_at_once class takes n own old new was is r l at e (inl h) = let k = h.0 in absurd (omega arith)
+class_at_once class takes n own old new was is r l at e (inr h) = let a = at e h.1 in (a.0, one_of a.0 a.1, a.2)
+  where
+    one_of : (f : SerializeError) → RefusesAtOnce takes n own f → RefusesAtOnce takes n (OfClass class own) f
+    one_of f (inl m) = inl m
+    one_of f (inr o) = inr (inr (l, o))

@@ -9,4 +9,6 @@ pub mod Unsigned
 pub mod Signed
 pub mod ElementWriting
 pub mod Items
+pub mod Lists
+pub mod Tagged
 pub mod IndefiniteContents

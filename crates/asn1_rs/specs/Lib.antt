@@ -14,3 +14,5 @@ pub mod Integer
 pub mod Laws
 pub mod Element
 pub mod Items
+pub mod Lists
+pub mod Tagged

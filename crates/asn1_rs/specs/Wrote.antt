@@ -1,5 +1,5 @@
 -- What a writing leaves in a writer, and why it is refused.
-use Rattle.std.specs.Prelude.{◌≡◌, ℕ, ◌+◌, ◌≤◌, ◌^◌, Bool, true, false, ◌||◌, ◌&&◌, ◌==◌, nat_lt, IsTrue, List, ◌++◌, length, Option, Result, Ok, Err, IfOk, OnErr, IsErr, MatchResult, ⊤}
+use Rattle.std.specs.Prelude.{◌≡◌, ◌⊎◌, ℕ, ◌+◌, ◌<◌, ◌≤◌, ◌^◌, Bool, true, false, ◌||◌, ◌&&◌, ◌==◌, nat_lt, IsTrue, List, ◌++◌, length, Option, Result, Ok, Err, IfOk, OnErr, IsErr, MatchResult, ⊤}
 use Rattle.std.specs.Io.{WritesAtMost}
 use Rattle.std.specs.Io.KnownBytes.{Appends, WriteAppends}
 use Rattle.std.specs.IoError.{error_kind}
@@ -63,6 +63,29 @@ MayRefuseCount takes_memory n faults.InvalidLength = 2 ^ 64 ≤ n
 MayRefuseCount takes_memory n faults.OutOfMemory = IsTrue takes_memory
 MayRefuseCount takes_memory n _ = ⊥
 
+-- a refusal that one of the two has
+abbrev pub Either : {E : Type 0} → (E → Type 0) → (E → Type 0) → E → Type 0
+Either one other e = one e ⊎ other e
+
+-- Why a writing of n octets may be refused by a value that has refusals of its own: one of these, or as any writing.
+abbrev pub Refuses : Bool → ℕ → (SerializeError → Type 0) → SerializeError → Type 0
+Refuses takes_memory n own e = MayRefuse takes_memory n e ⊎ own e
+
+abbrev pub RefusesCount : Bool → ℕ → (Error → Type 0) → Error → Type 0
+RefusesCount takes_memory n own e = MayRefuseCount takes_memory n e ⊎ own e
+
+-- the same, where nothing was asked of the writer
+abbrev pub RefusesAtOnce : Bool → ℕ → (SerializeError → Type 0) → SerializeError → Type 0
+RefusesAtOnce takes_memory n own e = (MayRefuse takes_memory n e × (tells_of_io e ≡ false)) ⊎ own e
+
+-- no refusal is the value's own
+abbrev pub HasNone : {E : Type 0} → (E → Type 0) → Type 0
+HasNone {E} own = (e : E) → own e → ⊥
+
+-- neither its counts nor its header nor its contents octets have a refusal of their own
+abbrev pub IsWritable : (Error → Type 0) → (SerializeError → Type 0) → (SerializeError → Type 0) → Type 0
+IsWritable count header content = HasNone count × HasNone header × HasNone content
+
 -- the sum, where it fits
 abbrev pub SumsWritten : ℕ → ℕ → Result ℕ SerializeError → Type 0
 SumsWritten a b r = MatchResult r (λ n. n ≡ a + b) (λ e. (e ≡ refusals.InvalidLength) × (2 ^ 64 ≤ a + b))
@@ -81,6 +104,21 @@ pub record RefusedAtOnce (e : SerializeError) (old new : Option (List ℕ)) (was
   pub refused : answer ≡ Err e
   pub kept : new ≡ old
   pub mark : is ≡ was
+
+-- Refused by one of the value's own, by its length or for want of memory, with nothing appended and the mark as it was.
+abbrev pub IsRefusedAtOnce : Bool → ℕ → (SerializeError → Type 0) → Option (List ℕ) → Option (List ℕ) → Bool → Bool → Result ℕ SerializeError → Type 0
+IsRefusedAtOnce takes_memory n own old new was is answer = (e : SerializeError) × RefusesAtOnce takes_memory n own e × RefusedAtOnce e old new was is answer
+
+-- the refusal of a writing into a vector, which tells of no writer
+abbrev pub WithoutIo : SerializeError → SerializeError → Type 0
+WithoutIo e f = tells_of_io e ≡ false → f ≡ e
+
+abbrev pub VectorRefuses : ℕ → (SerializeError → Type 0) → SerializeError → Type 0
+VectorRefuses n own f = MayRefuse true n f ⊎ ((e : SerializeError) × own e × WithoutIo e f)
+
+-- the refusals of a header whose contents octets are counted
+abbrev pub WrittenRefusal : (Error → Type 0) → SerializeError → Type 0
+WrittenRefusal own e = (f : Error) × own f × (e ≡ written_refusal f)
 
 -- How the answer of `put` comes out: what it took, at least one octet, or its failure, and one of kind `WriteZero` where it took none.
 abbrev pub PutAnswer : Result ℕ Failure → Result ℕ SerializeError → Type 0
@@ -101,3 +139,7 @@ pub record PutOnce (piece : List ℕ) (old new : Option (List ℕ)) (was is : Bo
 -- The refusal is that of the last call of `put`, on what was left of the piece, which left the writer as it is.
 abbrev pub PutFailed : {W : Type 0} → (W → Option (List ℕ)) → (W → Bool) → List ℕ → W → SerializeError → Type 0
 PutFailed {W} told failed piece after e = (front rest : List ℕ) × (before : W) × (piece ≡ front ++ rest) × PutOnce rest (told before) (told after) (failed before) (failed after) (Err e)
+
+-- a class past 3 is the refusal, before all others
+abbrev pub OfClass : ℕ → (SerializeError → Type 0) → SerializeError → Type 0
+OfClass class own e = ((4 ≤ class) × (e ≡ refusals.InvalidClass class)) ⊎ ((class < 4) × own e)

@@ -6,7 +6,7 @@ ghost use Rattle.asn1_rs.specs.Length.{form_of};
 ghost use Rattle.asn1_rs.specs.Tag.{is_container};
 ghost use Rattle.asn1_rs.specs.Header.{tag_of, raw_tag_of};
 ghost use Rattle.asn1_rs.specs.WrittenHeader.{parts_identifier, strict_header, kept_header};
-ghost use Rattle.asn1_rs.specs.Wrote.{Wrote, MayRefuse, MayRefuseCount, RefusedAtOnce, written_refusal, tells_of_io};
+ghost use Rattle.asn1_rs.specs.Wrote.{Wrote, MayRefuse, MayRefuseCount, Refuses, RefusesCount, VectorRefuses, Either, RefusedAtOnce, written_refusal, tells_of_io};
 
 use crate::class::Class;
 use crate::error::{Error, SerializeResult};
@@ -123,8 +123,6 @@ impl DynTagged for (Class, bool, Tag) {
 impl ToDer for (Class, bool, Tag) {
     ghost tells = { λ _. Unit {0} };
 
-    ghost is_writable = { λ _. Unit {0} };
-
     ghost header = { λ parts. identifier_octets (parts_identifier parts) };
 
     ghost content = { λ _. [] };
@@ -171,8 +169,6 @@ impl DynTagged for Header<'_> {
 impl ToDer for Header<'_> {
     ghost tells = { λ _. Unit {0} };
 
-    ghost is_writable = { λ _. Unit {0} };
-
     ghost header = { strict_header };
 
     ghost content = { λ _. [] };
@@ -187,7 +183,7 @@ impl ToDer for Header<'_> {
 
     fn to_der_len(&self) -> Result<usize, Error>
         ensures count { IfOk result (λ n. n ≡ length (strict_header self.now ++ [])) }
-        ensures writable { IfErr result (MayRefuseCount false (length (strict_header self.now ++ []))) }
+        ensures refused { IfErr result (RefusesCount false (length (strict_header self.now ++ [])) (λ _. ⊥)) }
         ensures exact { result ≡ Ok (length (strict_header self.now)) }
     {
         Ok(identifier_octets_count(self.tag().0) + length_len(self.length()))
@@ -195,7 +191,7 @@ impl ToDer for Header<'_> {
 
     fn der_content_len(&self) -> Result<usize, Error>
         ensures count { IfOk result (λ n. n ≡ 0) }
-        ensures writable { IfErr result (MayRefuseCount false 0) }
+        ensures refused { IfErr result (RefusesCount false 0 (λ _. ⊥)) }
         ensures none { result ≡ Ok 0 }
     {
         Ok(0)
@@ -218,7 +214,7 @@ impl ToDer for Header<'_> {
         ensures raw { Wrote (kept_header self.now) (W.told w.old) (W.told w.new) (W.failed w.old) (W.failed w.new) result }
         ensures failed { (takes_memory : Bool) (most : ℕ) → IfErr result (MayRefuse takes_memory most) }
         ensures der { raw_tag_of self.now ≡ None → Wrote (strict_header self.now ++ []) (W.told w.old) (W.told w.new) (W.failed w.old) (W.failed w.new) result }
-        ensures writable { raw_tag_of self.now ≡ None → IfErr result (MayRefuse false (length (strict_header self.now ++ []))) }
+        ensures refused { raw_tag_of self.now ≡ None → IfErr result (Refuses false (length (strict_header self.now ++ [])) (Either (λ _. ⊥) (λ _. ⊥))) }
         ensures counted { IfOk result (λ n. (raw : List ℕ) × Appends (W.told w.old) (W.told w.new) raw × (n ≡ length raw)) }
     {
         match self.raw_tag() {
@@ -232,7 +228,7 @@ impl ToDer for Header<'_> {
         ensures raw { IfOk result (λ octets. octets.items ≡ kept_header self.now) }
         ensures failed { (most : ℕ) → IfErr result (MayRefuse true most) }
         ensures der { raw_tag_of self.now ≡ None → IfOk result (λ octets. octets.items ≡ strict_header self.now ++ []) }
-        ensures writable { raw_tag_of self.now ≡ None → IfErr result (MayRefuse true (length (strict_header self.now ++ []))) }
+        ensures refused { raw_tag_of self.now ≡ None → IfErr result (VectorRefuses (length (strict_header self.now ++ [])) (Either (λ _. ⊥) (λ _. ⊥))) }
         ensures memory { IfErr result (λ e. tells_of_io e ≡ false) }
     {
         let mut w = Told::new(Vec::new(alloc));

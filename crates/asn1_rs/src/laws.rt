@@ -20,7 +20,7 @@ ghost use Rattle.asn1_rs.specs.declared.error.SerializeError.TheVariants as refu
 ghost use Rattle.asn1_rs.specs.Answers.{seen, Exactly, TellsMemory, ReadsBack};
 ghost use Rattle.asn1_rs.specs.Form.{IsOneForm, IsOneValue, FitsElement, HasValues, IsStrict};
 ghost use Rattle.asn1_rs.specs.Grammar.{max_depth, NoCheck, PassesAll, IsOneFront, IsOneBody, BerWord, DerWord, TakesBody, Checks, FormChecks, FormBodies, FormTakes, EndsWithin, BerGives, DerGives};
-ghost use Rattle.asn1_rs.specs.Wrote.{Wrote, MayRefuse};
+ghost use Rattle.asn1_rs.specs.Wrote.{Wrote, MayRefuse, IsWritable};
 ghost use Rattle.asn1_rs.specs.declared.header.Header.{Header as Head};
 ghost use Rattle.asn1_rs.specs.declared.asn1_types.any.Any.{Any as Element};
 ghost use Rattle.asn1_rs.specs.Header.{refusal_of, HeaderGives};
@@ -99,6 +99,9 @@ pub trait LawfulItem: Grammar {
     /// Strict parts fit an element.
     ghost form_fits: { FitsElement Self.Form };
 
+    /// And they meet the constraints.
+    ghost form_check: { FormChecks Self.Form Self.Check };
+
     /// A strict encoding is a word by BER with its value.
     ghost strict_ber: { (v : Self.Value) (o : List ℕ) → IsStrict Self.Form v o → Self.Ber o v };
 
@@ -121,13 +124,10 @@ pub trait LawfulBody<'a, E: From<Error>>: FromAny<'a, Error = E> + LawfulItem {
     ghost ber_join: { (o : List ℕ) (v : Self.Value) → BerWord Self.Body o v → Self.Ber o v };
 }
 
-/// The check of an element is exact, and the strict parts of a value pass it.
+/// The check of an element is exact.
 pub trait LawfulCheck: CheckDerConstraints + LawfulItem {
     /// The check passes exactly the parts that meet the constraints.
     ghost check_exact: { (p : Parts) (answer : Result (Unit {0}) Fault) → Self.check_gives p answer → Checks Self.Check p answer };
-
-    /// Strict parts meet the constraints.
-    ghost form_check: { FormChecks Self.Form Self.Check };
 }
 
 /// The words by DER are the elements of definite length that pass the check and have a body.
@@ -160,7 +160,7 @@ pub trait LawfulWrite: ToDer + LawfulItem {
     ghost by_value: { WritesByValue Self.value Self.constructed Self.header Self.content };
 
     /// A value in DER form is written as its strict encoding, and can be written.
-    ghost form: { WritesForm Self.value Self.Form Self.is_writable Self.constructed Self.header Self.content };
+    ghost form: { WritesForm Self.value Self.Form (λ x. IsWritable (Self.count_refuses x) (Self.header_refuses x) (Self.content_refuses x)) Self.constructed Self.header Self.content };
 }
 
 /// The strict parts have the type's tag number, and pass check and body with class `K` in place of their own.
@@ -218,6 +218,8 @@ impl<T: LawfulItem> LawfulItem for &T {
     ghost one_value = { T.one_value };
 
     ghost form_fits = { T.form_fits };
+
+    ghost form_check = { T.form_check };
 
     ghost strict_ber = { T.strict_ber };
 

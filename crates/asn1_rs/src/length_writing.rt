@@ -51,8 +51,6 @@ impl DynTagged for Length {
 impl ToDer for Length {
     ghost tells = { λ _. Unit {0} };
 
-    ghost is_writable = { λ _. Unit {0} };
-
     ghost header = { λ form. length_form_octets (form_of form) };
 
     ghost content = { λ _. [] };

@@ -1,7 +1,7 @@
 //! The trait of values that are written by DER.
-ghost use Rattle.std.specs.Prelude.{◌≡◌, ◌++◌, ◌||◌, ℕ, Bool, true, false, List, [], length, Option, None, IfSome, IfOk, IfErr, Err};
+ghost use Rattle.std.specs.Prelude.{◌≡◌, ◌++◌, ◌||◌, ℕ, Bool, true, false, List, [], length, IfOk, IfErr, IsErr};
 ghost use Rattle.std.specs.Io.KnownBytes.{Appends};
-ghost use Rattle.asn1_rs.specs.Wrote.{Wrote, MayRefuse, MayRefuseCount, SumsWritten, SumsCounts, RefusedAtOnce, written_refusal, tells_of_io};
+ghost use Rattle.asn1_rs.specs.Wrote.{Wrote, MayRefuse, Refuses, RefusesCount, RefusesAtOnce, VectorRefuses, WithoutIo, Either, IsRefusedAtOnce, SumsWritten, SumsCounts, written_refusal, tells_of_io};
 ghost use Rattle.asn1_rs.specs.declared.error.SerializeError.{SerializeError as Unwritten};
 ghost use Rattle.asn1_rs.specs.declared.error.Error.{Error as Uncounted};
 
@@ -57,9 +57,6 @@ pub trait ToDer: DynTagged {
     /// The other members tell what is written for this value.
     ghost tells: { Self → Type 0 } = { λ _. ⊥ };
 
-    /// The value has an encoding, in DER form or not: nothing but its writer, its length and want of memory can refuse it.
-    ghost is_writable: { Self → Type 0 } = { λ _. ⊥ };
-
     /// The octets of its header.
     ghost header: { Self → List ℕ } = { λ _. [] };
 
@@ -69,14 +66,15 @@ pub trait ToDer: DynTagged {
     /// The constructed bit of its encoding.
     ghost constructed: { Self → Bool } = { λ _. false };
 
-    /// The refusal of its counts, where it has one.
-    ghost count_refusal: { Self → Option Uncounted } = { λ _. None };
+    /// The refusals of its counts that are its own: neither its length nor want of memory. A value that has one is not
+    /// counted.
+    ghost count_refuses: { Self → Uncounted → Type 0 } = { λ _ _. ⊥ };
 
-    /// The refusal of its header, and so of the whole, before anything is appended, where it has one.
-    ghost header_refusal: { Self → Option Unwritten } = { λ _. None };
+    /// The refusals of its header that are its own, and so of the whole. Where it has one nothing is appended.
+    ghost header_refuses: { Self → Unwritten → Type 0 } = { λ _ _. ⊥ };
 
-    /// The refusal of its contents octets, before anything is appended, where it has one.
-    ghost content_refusal: { Self → Option Unwritten } = { λ _. None };
+    /// The refusals of its contents octets that are its own. Where it has one a beginning of them may be appended.
+    ghost content_refuses: { Self → Unwritten → Type 0 } = { λ _ _. ⊥ };
 
     /// The raw form is the DER form.
     ghost raw_is_der: { Self → Type 0 } = { λ _. Unit {0} };
@@ -90,14 +88,14 @@ pub trait ToDer: DynTagged {
     /// How many octets `write_der` appends.
     fn to_der_len(&self) -> Result<usize, Error>
         ensures count { tells self.now → IfOk result (λ n. n ≡ length (header self.now ++ content self.now)) }
-        ensures writable { tells self.now → is_writable self.now → IfErr result (MayRefuseCount count_takes_memory (length (header self.now ++ content self.now))) }
-        ensures refused { IfSome (count_refusal self.now) (λ e. result ≡ Err e) };
+        ensures refused { tells self.now → IfErr result (RefusesCount count_takes_memory (length (header self.now ++ content self.now)) (count_refuses self.now)) }
+        ensures accepted { (e : Uncounted) → tells self.now → count_refuses self.now e → IsErr result };
 
     /// How many contents octets are appended.
     fn der_content_len(&self) -> Result<usize, Error>
         ensures count { tells self.now → IfOk result (λ n. n ≡ length (content self.now)) }
-        ensures writable { tells self.now → is_writable self.now → IfErr result (MayRefuseCount count_takes_memory (length (content self.now))) }
-        ensures refused { IfSome (count_refusal self.now) (λ e. result ≡ Err e) };
+        ensures refused { tells self.now → IfErr result (RefusesCount count_takes_memory (length (content self.now)) (count_refuses self.now)) }
+        ensures accepted { (e : Uncounted) → tells self.now → count_refuses self.now e → IsErr result };
 
     /// The constructed bit of the encoding. Most types answer whether their tag is that of sequence or set.
     fn der_constructed(&self) -> bool
@@ -106,14 +104,14 @@ pub trait ToDer: DynTagged {
     /// Appends the identifier octets and the length octets, and answers their number.
     fn write_der_header<W: DerWrite>(&self, alloc: Global, w: &mut W) -> SerializeResult<usize>
         ensures wrote { tells self.now → Wrote (header self.now) (W.told w.old) (W.told w.new) (W.failed w.old) (W.failed w.new) result }
-        ensures writable { tells self.now → is_writable self.now → IfErr result (MayRefuse count_takes_memory (length (header self.now ++ content self.now))) }
-        ensures refused { IfSome (header_refusal self.now) (λ e. RefusedAtOnce e (W.told w.old) (W.told w.new) (W.failed w.old) (W.failed w.new) result) };
+        ensures refused { tells self.now → IfErr result (Refuses count_takes_memory (length (header self.now ++ content self.now)) (header_refuses self.now)) }
+        ensures at_once { (e : Unwritten) → tells self.now → header_refuses self.now e → IsRefusedAtOnce count_takes_memory (length (header self.now ++ content self.now)) (header_refuses self.now) (W.told w.old) (W.told w.new) (W.failed w.old) (W.failed w.new) result };
 
     /// Appends the contents octets, and answers their number.
     fn write_der_content<W: DerWrite>(&self, alloc: Global, w: &mut W) -> SerializeResult<usize>
         ensures wrote { tells self.now → Wrote (content self.now) (W.told w.old) (W.told w.new) (W.failed w.old) (W.failed w.new) result }
-        ensures writable { tells self.now → is_writable self.now → IfErr result (MayRefuse content_takes_memory (length (content self.now))) }
-        ensures refused { IfSome (content_refusal self.now) (λ e. RefusedAtOnce e (W.told w.old) (W.told w.new) (W.failed w.old) (W.failed w.new) result) };
+        ensures refused { tells self.now → IfErr result (Refuses content_takes_memory (length (content self.now)) (content_refuses self.now)) }
+        ensures accepted { (e : Unwritten) → tells self.now → content_refuses self.now e → IsErr result };
 
     /// Appends the encoding, and answers its length.
     ///
@@ -121,8 +119,9 @@ pub trait ToDer: DynTagged {
     /// length passes `usize`. After a refusal a beginning of the encoding was appended.
     fn write_der<W: DerWrite>(&self, alloc: Global, w: &mut W) -> SerializeResult<usize>
         ensures wrote { tells self.now → Wrote (header self.now ++ content self.now) (W.told w.old) (W.told w.new) (W.failed w.old) (W.failed w.new) result }
-        ensures writable { tells self.now → is_writable self.now → IfErr result (MayRefuse (count_takes_memory || content_takes_memory) (length (header self.now ++ content self.now))) }
-        ensures refused { IfSome (header_refusal self.now) (λ e. RefusedAtOnce e (W.told w.old) (W.told w.new) (W.failed w.old) (W.failed w.new) result) }
+        ensures refused { tells self.now → IfErr result (Refuses (count_takes_memory || content_takes_memory) (length (header self.now ++ content self.now)) (Either (header_refuses self.now) (content_refuses self.now))) }
+        ensures accepted { (e : Unwritten) → tells self.now → content_refuses self.now e → IsErr result }
+        ensures at_once { (e : Unwritten) → tells self.now → header_refuses self.now e → IsRefusedAtOnce count_takes_memory (length (header self.now ++ content self.now)) (header_refuses self.now) (W.told w.old) (W.told w.new) (W.failed w.old) (W.failed w.new) result }
     {
         let before = self.write_der_header(alloc, w)?;
         let after = self.write_der_content(alloc, w)?;
@@ -132,9 +131,10 @@ pub trait ToDer: DynTagged {
     /// Appends the encoding as it was read, where the type keeps that; else as `write_der`.
     fn write_der_raw<W: DerWrite>(&self, alloc: Global, w: &mut W) -> SerializeResult<usize>
         ensures der { tells self.now → raw_is_der self.now → Wrote (header self.now ++ content self.now) (W.told w.old) (W.told w.new) (W.failed w.old) (W.failed w.new) result }
-        ensures writable { tells self.now → is_writable self.now → raw_is_der self.now → IfErr result (MayRefuse (count_takes_memory || content_takes_memory) (length (header self.now ++ content self.now))) }
+        ensures refused { tells self.now → raw_is_der self.now → IfErr result (Refuses (count_takes_memory || content_takes_memory) (length (header self.now ++ content self.now)) (Either (header_refuses self.now) (content_refuses self.now))) }
+        ensures accepted { (e : Unwritten) → tells self.now → raw_is_der self.now → content_refuses self.now e → IsErr result }
         ensures counted { tells self.now → IfOk result (λ n. (raw : List ℕ) × Appends (W.told w.old) (W.told w.new) raw × (n ≡ length raw)) }
-        ensures refused { IfSome (header_refusal self.now) (λ e. RefusedAtOnce e (W.told w.old) (W.told w.new) (W.failed w.old) (W.failed w.new) result) }
+        ensures at_once { (e : Unwritten) → tells self.now → raw_is_der self.now → header_refuses self.now e → IsRefusedAtOnce count_takes_memory (length (header self.now ++ content self.now)) (header_refuses self.now) (W.told w.old) (W.told w.new) (W.failed w.old) (W.failed w.new) result }
     {
         self.write_der(alloc, w)
     }
@@ -142,9 +142,10 @@ pub trait ToDer: DynTagged {
     /// The encoding in a vector. Want of memory is `OutOfMemory`, and never an `IOError`.
     fn to_der_vec(&self, alloc: Global) -> SerializeResult<Vec<u8>>
         ensures wrote { tells self.now → IfOk result (λ octets. octets.items ≡ header self.now ++ content self.now) }
-        ensures writable { tells self.now → is_writable self.now → IfErr result (MayRefuse true (length (header self.now ++ content self.now))) }
+        ensures refused { tells self.now → IfErr result (VectorRefuses (length (header self.now ++ content self.now)) (Either (header_refuses self.now) (content_refuses self.now))) }
+        ensures accepted { (e : Unwritten) → tells self.now → content_refuses self.now e → IsErr result }
         ensures memory { IfErr result (λ e. tells_of_io e ≡ false) }
-        ensures refused { IfSome (header_refusal self.now) (λ e. tells_of_io e ≡ false → result ≡ Err e) }
+        ensures at_once { (e : Unwritten) → tells self.now → header_refuses self.now e → IsErr result × IfErr result (λ f. (g : Unwritten) × RefusesAtOnce count_takes_memory (length (header self.now ++ content self.now)) (header_refuses self.now) g × WithoutIo g f) }
     {
         let mut w = Told::new(Vec::new(alloc));
         match self.write_der(alloc, &mut w) {
@@ -156,9 +157,10 @@ pub trait ToDer: DynTagged {
     /// The raw form in a vector.
     fn to_der_vec_raw(&self, alloc: Global) -> SerializeResult<Vec<u8>>
         ensures der { tells self.now → raw_is_der self.now → IfOk result (λ octets. octets.items ≡ header self.now ++ content self.now) }
-        ensures writable { tells self.now → is_writable self.now → raw_is_der self.now → IfErr result (MayRefuse true (length (header self.now ++ content self.now))) }
+        ensures refused { tells self.now → raw_is_der self.now → IfErr result (VectorRefuses (length (header self.now ++ content self.now)) (Either (header_refuses self.now) (content_refuses self.now))) }
+        ensures accepted { (e : Unwritten) → tells self.now → raw_is_der self.now → content_refuses self.now e → IsErr result }
         ensures memory { IfErr result (λ e. tells_of_io e ≡ false) }
-        ensures refused { IfSome (header_refusal self.now) (λ e. tells_of_io e ≡ false → result ≡ Err e) }
+        ensures at_once { (e : Unwritten) → tells self.now → raw_is_der self.now → header_refuses self.now e → IsErr result × IfErr result (λ f. (g : Unwritten) × RefusesAtOnce count_takes_memory (length (header self.now ++ content self.now)) (header_refuses self.now) g × WithoutIo g f) }
     {
         let mut w = Told::new(Vec::new(alloc));
         match self.write_der_raw(alloc, &mut w) {
@@ -172,19 +174,17 @@ pub trait ToDer: DynTagged {
 impl<T: ToDer + Tagged> ToDer for &T {
     ghost tells = { λ r. T.tells r.now };
 
-    ghost is_writable = { λ r. T.is_writable r.now };
-
     ghost header = { λ r. T.header r.now };
 
     ghost content = { λ r. T.content r.now };
 
     ghost constructed = { λ r. T.constructed r.now };
 
-    ghost count_refusal = { λ r. T.count_refusal r.now };
+    ghost count_refuses = { λ r. T.count_refuses r.now };
 
-    ghost header_refusal = { λ r. T.header_refusal r.now };
+    ghost header_refuses = { λ r. T.header_refuses r.now };
 
-    ghost content_refusal = { λ r. T.content_refusal r.now };
+    ghost content_refuses = { λ r. T.content_refuses r.now };
 
     ghost count_takes_memory = { T.count_takes_memory };
 

@@ -13,7 +13,7 @@ use Rattle.asn1_rs.specs.WrittenHeader.{strict_header}
 use Rattle.asn1_rs.specs.declared.asn1_types.any.Any.{Any}
 use Rattle.asn1_rs.specs.Element.{Element, element_of, ElementForm, content_of, element_header}
 use Rattle.asn1_rs.specs.Header.{identifier_of, is_constructed_of, is_same_identifier}
-use Rattle.asn1_rs.specs.Laws.Forms.{header_of, WritesByValue, WritesForm}
+use Rattle.asn1_rs.specs.Laws.Forms.{NothingRefused, nothing_refused, header_of, WritesByValue, WritesForm}
 
 header_by : (i j : Identifier) (c d : List ℕ) → i ≡ j → c ≡ d → header_of i c ≡ header_of j d
 header_by i j c d p q = ap (λ (z : Identifier). header_of z c) p ∙ ap (λ (z : List ℕ). header_of j z) q
@@ -25,9 +25,9 @@ element_by_value x y e = (
   ap (λ (z : Element). z.content) e,
 )
 
-pub element_writes_form : WritesForm element_of ElementForm (λ _. Unit {0}) (λ any. is_constructed_of any.header) element_header content_of
+pub element_writes_form : WritesForm element_of ElementForm (λ _. NothingRefused) (λ any. is_constructed_of any.header) element_header content_of
 element_writes_form x i c f = (
-  tt,
+  nothing_refused,
   ap (λ (z : Element). z.id.constructed) f.is,
   ap (λ (z : Element). z.content) f.is,
   header_by (identifier_of x.header) i x.content.now c (ap (λ (z : Element). z.id) f.is) (ap (λ (z : Element). z.content) f.is),

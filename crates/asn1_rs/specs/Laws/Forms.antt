@@ -5,6 +5,7 @@ use Rattle.x690.specs.Octets.{IsOctets}
 use Rattle.x690.specs.Identifiers.{Identifier}
 use Rattle.x690.specs.Strict.{header_octets}
 use Rattle.x690.specs.Laws.StrictElements.{strict_element_octets}
+use Rattle.asn1_rs.specs.Wrote.{IsWritable}
 use Rattle.asn1_rs.specs.Form.{IsOneForm, IsOneValue, FitsElement, IsStrict}
 
 -- the identifier of a universal type
@@ -48,3 +49,10 @@ pub strict_written : {S V : Type 0} (value : S → V) (Form : V → Identifier �
 strict_written value Form is_writable constructed header content law x o s =
     let h = law x s.id s.content s.form in
     (h.0, ap (λ (a : List ℕ). a ++ content x) h.3 ∙ ap (λ (b : List ℕ). header_of s.id s.content ++ b) h.2 ∙ sym (strict_element_octets o s.id s.content s.element))
+
+-- a value that has no refusals of its own
+abbrev pub NothingRefused : Type 0
+NothingRefused = IsWritable (λ _. ⊥) (λ _. ⊥) (λ _. ⊥)
+
+pub nothing_refused : NothingRefused
+nothing_refused = (λ e h. h, λ e h. h, λ e h. h)

@@ -16,7 +16,7 @@ use Rattle.asn1_rs.specs.Form.{IsOneForm, IsOneValue, FitsElement, IsStrict}
 use Rattle.asn1_rs.specs.Grammar.{IsOneFront, IsOneBody, BerWord, DerWord, NoCheck, TakesBody, Checks, FormChecks, FormBodies, FormTakes, made, of_class, max_depth}
 use Rattle.asn1_rs.specs.Laws.Elements.{der_elements, ber_elements}
 use Rattle.asn1_rs.specs.Laws.Words.{word_one, strict_ber_word, strict_der_word}
-use Rattle.asn1_rs.specs.Laws.Forms.{WritesByValue, WritesForm, header_of, universal_one, universal_value, universal_fits}
+use Rattle.asn1_rs.specs.Laws.Forms.{NothingRefused, nothing_refused, WritesByValue, WritesForm, header_of, universal_one, universal_value, universal_fits}
 use Rattle.asn1_rs.specs.Integer.{integer_number, IntegerCheck, IntegerCheckRefuses, IntegerCheckGives, IsIntegerOr, IntegerBody, IntegerRefuses, IntegerGives, IntegerContent, IntegerForm, integer_header}
 
 -- the refusal of the check, where it refuses
@@ -144,7 +144,7 @@ module _ {T : Type 0} (number : T → ℤ) (octets : T → List ℕ) (strict : (
   pub integer_by_value : WritesByValue number (λ x. false) (λ x. integer_header (octets x)) octets
   integer_by_value = λ x y e. let s = same_octets x (number y) (octets y) e (strict y) in (refl, ap integer_header s, s)
 
-  pub integer_writes_form : (Holds : ℤ → Type 0) → WritesForm number (IntegerForm Holds) (λ x. Unit {0}) (λ x. false) (λ x. integer_header (octets x)) octets
+  pub integer_writes_form : (Holds : ℤ → Type 0) → WritesForm number (IntegerForm Holds) (λ x. NothingRefused) (λ x. false) (λ x. integer_header (octets x)) octets
   integer_writes_form Holds = λ x i c f.
       let s = same_octets x (number x) c refl f.1.1 in
-      (tt, sym (ap (λ (z : Identifier). z.constructed) f.0), s, ap integer_header s ∙ ap (λ (z : Identifier). header_of z c) (sym f.0))
+      (nothing_refused, sym (ap (λ (z : Identifier). z.constructed) f.0), s, ap integer_header s ∙ ap (λ (z : Identifier). header_of z c) (sym f.0))

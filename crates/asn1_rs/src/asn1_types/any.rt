@@ -280,6 +280,8 @@ impl LawfulItem for Any<'_> {
 
     ghost form_fits = { element_fits };
 
+    ghost form_check = { element_form_check };
+
     ghost strict_ber = { λ v o s. strict_ber_word ElementForm ElementBody element_form_body v o s };
 
     ghost strict_der = { λ v o s. strict_der_word ElementForm ElementCheck ElementBody element_form_check element_form_body v o s };
@@ -297,8 +299,6 @@ impl<'a> LawfulBody<'a, Error> for Any<'a> {
 
 impl LawfulCheck for Any<'_> {
     ghost check_exact = { element_check_exact };
-
-    ghost form_check = { element_form_check };
 }
 
 impl LawfulAuto for Any<'_> {

@@ -7,7 +7,7 @@ ghost use Rattle.asn1_rs.specs.Length.{form_of};
 ghost use Rattle.asn1_rs.specs.WrittenHeader.{strict_header};
 ghost use Rattle.asn1_rs.specs.Element.{content_of, element_header};
 ghost use Rattle.asn1_rs.specs.Laws.ElementWriting.{element_by_value, element_writes_form, element_same};
-ghost use Rattle.asn1_rs.specs.Wrote.{Wrote, MayRefuse, MayRefuseCount, tells_of_io};
+ghost use Rattle.asn1_rs.specs.Wrote.{Wrote, MayRefuse, Refuses, RefusesCount, VectorRefuses, Either, tells_of_io};
 
 use crate::asn1_types::any::Any;
 use crate::error::{Error, SerializeResult};
@@ -32,8 +32,6 @@ fn put_kept_length<W: DerWrite>(any: &Any<'_>, w: &mut W) -> SerializeResult<usi
 impl ToDer for Any<'_> {
     ghost tells = { λ _. Unit {0} };
 
-    ghost is_writable = { λ _. Unit {0} };
-
     ghost header = { element_header };
 
     ghost content = { content_of };
@@ -48,14 +46,14 @@ impl ToDer for Any<'_> {
 
     fn to_der_len(&self) -> Result<usize, Error>
         ensures count { IfOk result (λ n. n ≡ length (element_header self.now ++ content_of self.now)) }
-        ensures writable { IfErr result (MayRefuseCount false (length (element_header self.now ++ content_of self.now))) }
+        ensures refused { IfErr result (RefusesCount false (length (element_header self.now ++ content_of self.now)) (λ _. ⊥)) }
     {
         element_len(self.header.tag().0, Ok(self.content.len()))
     }
 
     fn der_content_len(&self) -> Result<usize, Error>
         ensures count { IfOk result (λ n. n ≡ length (content_of self.now)) }
-        ensures writable { IfErr result (MayRefuseCount false (length (content_of self.now))) }
+        ensures refused { IfErr result (RefusesCount false (length (content_of self.now)) (λ _. ⊥)) }
         ensures exact { result ≡ Ok (length (content_of self.now)) }
     {
         Ok(self.content.len())
@@ -87,7 +85,7 @@ impl ToDer for Any<'_> {
         ensures raw { Wrote (strict_header self.now.header ++ content_of self.now) (W.told w.old) (W.told w.new) (W.failed w.old) (W.failed w.new) result }
         ensures failed { IfErr result (MayRefuse false (length (strict_header self.now.header ++ content_of self.now))) }
         ensures der { form_of (length_of self.now.header) ≡ definite (length (content_of self.now)) → Wrote (element_header self.now ++ content_of self.now) (W.told w.old) (W.told w.new) (W.failed w.old) (W.failed w.new) result }
-        ensures writable { form_of (length_of self.now.header) ≡ definite (length (content_of self.now)) → IfErr result (MayRefuse false (length (element_header self.now ++ content_of self.now))) }
+        ensures refused { form_of (length_of self.now.header) ≡ definite (length (content_of self.now)) → IfErr result (Refuses false (length (element_header self.now ++ content_of self.now)) (Either (λ _. ⊥) (λ _. ⊥))) }
         ensures counted { IfOk result (λ n. (raw : List ℕ) × Appends (W.told w.old) (W.told w.new) raw × (n ≡ length raw)) }
     {
         put_kept_length(self, w)
@@ -98,7 +96,7 @@ impl ToDer for Any<'_> {
         ensures raw { IfOk result (λ octets. octets.items ≡ strict_header self.now.header ++ content_of self.now) }
         ensures failed { IfErr result (MayRefuse true (length (strict_header self.now.header ++ content_of self.now))) }
         ensures der { form_of (length_of self.now.header) ≡ definite (length (content_of self.now)) → IfOk result (λ octets. octets.items ≡ element_header self.now ++ content_of self.now) }
-        ensures writable { form_of (length_of self.now.header) ≡ definite (length (content_of self.now)) → IfErr result (MayRefuse true (length (element_header self.now ++ content_of self.now))) }
+        ensures refused { form_of (length_of self.now.header) ≡ definite (length (content_of self.now)) → IfErr result (VectorRefuses (length (element_header self.now ++ content_of self.now)) (Either (λ _. ⊥) (λ _. ⊥))) }
         ensures memory { IfErr result (λ e. tells_of_io e ≡ false) }
     {
         let mut w = Told::new(Vec::new(alloc));

@@ -7,7 +7,7 @@ ghost use Rattle.x690.specs.Integers.{unsigned_octets};
 ghost use Rattle.x690.specs.SignedOctets.{signed_octets};
 ghost use Rattle.asn1_rs.specs.Any.{parts_of};
 ghost use Rattle.asn1_rs.specs.Integer.{IntegerCheckGives, IsUnsigned, UnsignedRefuses, UnsignedGives, unsigned_header, SignedGives, signed_header, IsIntegerOr};
-ghost use Rattle.asn1_rs.specs.Wrote.{Wrote, MayRefuse, MayRefuseCount};
+ghost use Rattle.asn1_rs.specs.Wrote.{Wrote, Refuses, RefusesCount};
 
 use crate::asn1_types::any::Any;
 use crate::error::{DerConstraint, Error, SerializeResult};
@@ -71,7 +71,7 @@ pub(crate) fn unsigned_from_any(any: &Any<'_>, size: usize) -> Result<u128, Erro
 /// How many octets the element of a natural number has.
 pub(crate) fn count_unsigned_element(n: u128) -> Result<usize, Error>
     ensures count { IfOk result (λ count. count ≡ length (unsigned_header n ++ unsigned_octets n)) }
-    ensures writable { IfErr result (MayRefuseCount false (length (unsigned_header n ++ unsigned_octets n))) }
+    ensures refused { IfErr result (RefusesCount false (length (unsigned_header n ++ unsigned_octets n)) (λ _. ⊥)) }
 {
     element_len(Tag::Integer.0, Ok(unsigned_octets_count(n)))
 }
@@ -79,7 +79,7 @@ pub(crate) fn count_unsigned_element(n: u128) -> Result<usize, Error>
 /// Appends the strict header of the element of a natural number, and answers its length.
 pub(crate) fn put_unsigned_header<W: DerWrite>(n: u128, w: &mut W) -> SerializeResult<usize>
     ensures wrote { Wrote (unsigned_header n) (W.told w.old) (W.told w.new) (W.failed w.old) (W.failed w.new) result }
-    ensures writable { IfErr result (MayRefuse false (length (unsigned_header n ++ unsigned_octets n))) }
+    ensures refused { IfErr result (Refuses false (length (unsigned_header n ++ unsigned_octets n)) (λ _. ⊥)) }
 {
     put_header(0, false, Tag::Integer.0, unsigned_octets_count(n), w)
 }
@@ -87,7 +87,7 @@ pub(crate) fn put_unsigned_header<W: DerWrite>(n: u128, w: &mut W) -> SerializeR
 /// Appends the strict contents octets of a natural number, and answers their number.
 pub(crate) fn put_unsigned_content<W: DerWrite>(n: u128, w: &mut W) -> SerializeResult<usize>
     ensures wrote { Wrote (unsigned_octets n) (W.told w.old) (W.told w.new) (W.failed w.old) (W.failed w.new) result }
-    ensures writable { IfErr result (MayRefuse false (length (unsigned_octets n))) }
+    ensures refused { IfErr result (Refuses false (length (unsigned_octets n)) (λ _. ⊥)) }
 {
     let mut octets = [0; 17];
     let first = unsigned_into(n, &mut octets);
@@ -107,7 +107,7 @@ pub(crate) fn signed_from_any(any: &Any<'_>, size: usize) -> Result<i128, Error>
 /// How many octets the element of an integer has.
 pub(crate) fn count_signed_element(n: i128) -> Result<usize, Error>
     ensures count { IfOk result (λ count. count ≡ length (signed_header n ++ signed_octets n)) }
-    ensures writable { IfErr result (MayRefuseCount false (length (signed_header n ++ signed_octets n))) }
+    ensures refused { IfErr result (RefusesCount false (length (signed_header n ++ signed_octets n)) (λ _. ⊥)) }
 {
     element_len(Tag::Integer.0, Ok(signed_octets_count(n)))
 }
@@ -115,7 +115,7 @@ pub(crate) fn count_signed_element(n: i128) -> Result<usize, Error>
 /// Appends the strict header of the element of an integer, and answers its length.
 pub(crate) fn put_signed_header<W: DerWrite>(n: i128, w: &mut W) -> SerializeResult<usize>
     ensures wrote { Wrote (signed_header n) (W.told w.old) (W.told w.new) (W.failed w.old) (W.failed w.new) result }
-    ensures writable { IfErr result (MayRefuse false (length (signed_header n ++ signed_octets n))) }
+    ensures refused { IfErr result (Refuses false (length (signed_header n ++ signed_octets n)) (λ _. ⊥)) }
 {
     put_header(0, false, Tag::Integer.0, signed_octets_count(n), w)
 }
@@ -123,7 +123,7 @@ pub(crate) fn put_signed_header<W: DerWrite>(n: i128, w: &mut W) -> SerializeRes
 /// Appends the strict contents octets of an integer, and answers their number.
 pub(crate) fn put_signed_content<W: DerWrite>(n: i128, w: &mut W) -> SerializeResult<usize>
     ensures wrote { Wrote (signed_octets n) (W.told w.old) (W.told w.new) (W.failed w.old) (W.failed w.new) result }
-    ensures writable { IfErr result (MayRefuse false (length (signed_octets n))) }
+    ensures refused { IfErr result (Refuses false (length (signed_octets n)) (λ _. ⊥)) }
 {
     let mut octets = [0; 17];
     let first = signed_into(n, &mut octets);

@@ -55,8 +55,6 @@ impl DerAutoDerive for i8 {}
 impl ToDer for i8 {
     ghost tells = { λ _. Unit {0} };
 
-    ghost is_writable = { λ _. Unit {0} };
-
     ghost header = { signed_header };
 
     ghost content = { signed_octets };
@@ -129,6 +127,8 @@ impl LawfulItem for i8 {
 
     ghost form_fits = { integer_fits (IsSigned 1) };
 
+    ghost form_check = { integer_form_check (IsSigned 1) };
+
     ghost strict_ber = { integer_strict_ber (IsSigned 1) };
 
     ghost strict_der = { integer_strict_der (IsSigned 1) };
@@ -146,8 +146,6 @@ impl<'a> LawfulBody<'a, Error> for i8 {
 
 impl LawfulCheck for i8 {
     ghost check_exact = { integer_check_exact };
-
-    ghost form_check = { integer_form_check (IsSigned 1) };
 }
 
 impl LawfulAuto for i8 {
@@ -204,8 +202,6 @@ impl DerAutoDerive for i16 {}
 
 impl ToDer for i16 {
     ghost tells = { λ _. Unit {0} };
-
-    ghost is_writable = { λ _. Unit {0} };
 
     ghost header = { signed_header };
 
@@ -279,6 +275,8 @@ impl LawfulItem for i16 {
 
     ghost form_fits = { integer_fits (IsSigned 2) };
 
+    ghost form_check = { integer_form_check (IsSigned 2) };
+
     ghost strict_ber = { integer_strict_ber (IsSigned 2) };
 
     ghost strict_der = { integer_strict_der (IsSigned 2) };
@@ -296,8 +294,6 @@ impl<'a> LawfulBody<'a, Error> for i16 {
 
 impl LawfulCheck for i16 {
     ghost check_exact = { integer_check_exact };
-
-    ghost form_check = { integer_form_check (IsSigned 2) };
 }
 
 impl LawfulAuto for i16 {
@@ -354,8 +350,6 @@ impl DerAutoDerive for i32 {}
 
 impl ToDer for i32 {
     ghost tells = { λ _. Unit {0} };
-
-    ghost is_writable = { λ _. Unit {0} };
 
     ghost header = { signed_header };
 
@@ -429,6 +423,8 @@ impl LawfulItem for i32 {
 
     ghost form_fits = { integer_fits (IsSigned 4) };
 
+    ghost form_check = { integer_form_check (IsSigned 4) };
+
     ghost strict_ber = { integer_strict_ber (IsSigned 4) };
 
     ghost strict_der = { integer_strict_der (IsSigned 4) };
@@ -446,8 +442,6 @@ impl<'a> LawfulBody<'a, Error> for i32 {
 
 impl LawfulCheck for i32 {
     ghost check_exact = { integer_check_exact };
-
-    ghost form_check = { integer_form_check (IsSigned 4) };
 }
 
 impl LawfulAuto for i32 {
@@ -504,8 +498,6 @@ impl DerAutoDerive for i64 {}
 
 impl ToDer for i64 {
     ghost tells = { λ _. Unit {0} };
-
-    ghost is_writable = { λ _. Unit {0} };
 
     ghost header = { signed_header };
 
@@ -579,6 +571,8 @@ impl LawfulItem for i64 {
 
     ghost form_fits = { integer_fits (IsSigned 8) };
 
+    ghost form_check = { integer_form_check (IsSigned 8) };
+
     ghost strict_ber = { integer_strict_ber (IsSigned 8) };
 
     ghost strict_der = { integer_strict_der (IsSigned 8) };
@@ -596,8 +590,6 @@ impl<'a> LawfulBody<'a, Error> for i64 {
 
 impl LawfulCheck for i64 {
     ghost check_exact = { integer_check_exact };
-
-    ghost form_check = { integer_form_check (IsSigned 8) };
 }
 
 impl LawfulAuto for i64 {
@@ -654,8 +646,6 @@ impl DerAutoDerive for i128 {}
 
 impl ToDer for i128 {
     ghost tells = { λ _. Unit {0} };
-
-    ghost is_writable = { λ _. Unit {0} };
 
     ghost header = { signed_header };
 
@@ -729,6 +719,8 @@ impl LawfulItem for i128 {
 
     ghost form_fits = { integer_fits (IsSigned 16) };
 
+    ghost form_check = { integer_form_check (IsSigned 16) };
+
     ghost strict_ber = { integer_strict_ber (IsSigned 16) };
 
     ghost strict_der = { integer_strict_der (IsSigned 16) };
@@ -746,8 +738,6 @@ impl<'a> LawfulBody<'a, Error> for i128 {
 
 impl LawfulCheck for i128 {
     ghost check_exact = { integer_check_exact };
-
-    ghost form_check = { integer_form_check (IsSigned 16) };
 }
 
 impl LawfulAuto for i128 {

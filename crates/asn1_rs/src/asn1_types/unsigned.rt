@@ -55,8 +55,6 @@ impl DerAutoDerive for u8 {}
 impl ToDer for u8 {
     ghost tells = { λ _. Unit {0} };
 
-    ghost is_writable = { λ _. Unit {0} };
-
     ghost header = { unsigned_header };
 
     ghost content = { unsigned_octets };
@@ -129,6 +127,8 @@ impl LawfulItem for u8 {
 
     ghost form_fits = { integer_fits (IsUnsigned 1) };
 
+    ghost form_check = { integer_form_check (IsUnsigned 1) };
+
     ghost strict_ber = { integer_strict_ber (IsUnsigned 1) };
 
     ghost strict_der = { integer_strict_der (IsUnsigned 1) };
@@ -146,8 +146,6 @@ impl<'a> LawfulBody<'a, Error> for u8 {
 
 impl LawfulCheck for u8 {
     ghost check_exact = { integer_check_exact };
-
-    ghost form_check = { integer_form_check (IsUnsigned 1) };
 }
 
 impl LawfulAuto for u8 {
@@ -204,8 +202,6 @@ impl DerAutoDerive for u16 {}
 
 impl ToDer for u16 {
     ghost tells = { λ _. Unit {0} };
-
-    ghost is_writable = { λ _. Unit {0} };
 
     ghost header = { unsigned_header };
 
@@ -279,6 +275,8 @@ impl LawfulItem for u16 {
 
     ghost form_fits = { integer_fits (IsUnsigned 2) };
 
+    ghost form_check = { integer_form_check (IsUnsigned 2) };
+
     ghost strict_ber = { integer_strict_ber (IsUnsigned 2) };
 
     ghost strict_der = { integer_strict_der (IsUnsigned 2) };
@@ -296,8 +294,6 @@ impl<'a> LawfulBody<'a, Error> for u16 {
 
 impl LawfulCheck for u16 {
     ghost check_exact = { integer_check_exact };
-
-    ghost form_check = { integer_form_check (IsUnsigned 2) };
 }
 
 impl LawfulAuto for u16 {
@@ -354,8 +350,6 @@ impl DerAutoDerive for u32 {}
 
 impl ToDer for u32 {
     ghost tells = { λ _. Unit {0} };
-
-    ghost is_writable = { λ _. Unit {0} };
 
     ghost header = { unsigned_header };
 
@@ -429,6 +423,8 @@ impl LawfulItem for u32 {
 
     ghost form_fits = { integer_fits (IsUnsigned 4) };
 
+    ghost form_check = { integer_form_check (IsUnsigned 4) };
+
     ghost strict_ber = { integer_strict_ber (IsUnsigned 4) };
 
     ghost strict_der = { integer_strict_der (IsUnsigned 4) };
@@ -446,8 +442,6 @@ impl<'a> LawfulBody<'a, Error> for u32 {
 
 impl LawfulCheck for u32 {
     ghost check_exact = { integer_check_exact };
-
-    ghost form_check = { integer_form_check (IsUnsigned 4) };
 }
 
 impl LawfulAuto for u32 {
@@ -504,8 +498,6 @@ impl DerAutoDerive for u64 {}
 
 impl ToDer for u64 {
     ghost tells = { λ _. Unit {0} };
-
-    ghost is_writable = { λ _. Unit {0} };
 
     ghost header = { unsigned_header };
 
@@ -579,6 +571,8 @@ impl LawfulItem for u64 {
 
     ghost form_fits = { integer_fits (IsUnsigned 8) };
 
+    ghost form_check = { integer_form_check (IsUnsigned 8) };
+
     ghost strict_ber = { integer_strict_ber (IsUnsigned 8) };
 
     ghost strict_der = { integer_strict_der (IsUnsigned 8) };
@@ -596,8 +590,6 @@ impl<'a> LawfulBody<'a, Error> for u64 {
 
 impl LawfulCheck for u64 {
     ghost check_exact = { integer_check_exact };
-
-    ghost form_check = { integer_form_check (IsUnsigned 8) };
 }
 
 impl LawfulAuto for u64 {
@@ -654,8 +646,6 @@ impl DerAutoDerive for u128 {}
 
 impl ToDer for u128 {
     ghost tells = { λ _. Unit {0} };
-
-    ghost is_writable = { λ _. Unit {0} };
 
     ghost header = { unsigned_header };
 
@@ -729,6 +719,8 @@ impl LawfulItem for u128 {
 
     ghost form_fits = { integer_fits (IsUnsigned 16) };
 
+    ghost form_check = { integer_form_check (IsUnsigned 16) };
+
     ghost strict_ber = { integer_strict_ber (IsUnsigned 16) };
 
     ghost strict_der = { integer_strict_der (IsUnsigned 16) };
@@ -746,8 +738,6 @@ impl<'a> LawfulBody<'a, Error> for u128 {
 
 impl LawfulCheck for u128 {
     ghost check_exact = { integer_check_exact };
-
-    ghost form_check = { integer_form_check (IsUnsigned 16) };
 }
 
 impl LawfulAuto for u128 {

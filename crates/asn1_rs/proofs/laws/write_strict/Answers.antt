@@ -2,19 +2,20 @@ use Rattle.std.proofs.Common.{◌≡◌, List, ℕ, ◌++◌}
 use Rattle.asn1_rs.specs.Form.{IsStrict}
 use Rattle.asn1_rs.specs.Laws.Words.{one_strict, strict_apart}
 use Rattle.asn1_rs.specs.Laws.Forms.{strict_written}
-use Rattle.asn1_rs.proofs.Writing.{writing_done}
+use Rattle.asn1_rs.specs.Wrote.{IsWritable}
+use Rattle.asn1_rs.proofs.Writing.{writing_done, plain_refusal}
 use Rattle.asn1_rs.proofs.laws.write_strict.Goals as goal
 use Rattle.asn1_rs.proofs.laws.write_strict.Given as given
 
 -- what is written is the strict encoding, and the value is writable
-written : (g : given.Over) (c : goal.After-write_der g) (o : List ℕ) → IsStrict g.T.Grammar.Form (g.T.Grammar.value c.args.x.now) o → g.T.ToDer.is_writable c.args.x.now × (g.T.ToDer.header c.args.x.now ++ g.T.ToDer.content c.args.x.now ≡ o)
-written g c o s = strict_written g.T.Grammar.value g.T.Grammar.Form g.T.ToDer.is_writable g.T.ToDer.constructed g.T.ToDer.header g.T.ToDer.content g.met.T.LawfulWrite.form c.args.x.now o s
+written : (g : given.Over) (c : goal.After-write_der g) (o : List ℕ) → IsStrict g.T.Grammar.Form (g.T.Grammar.value c.args.x.now) o → IsWritable (g.T.ToDer.count_refuses c.args.x.now) (g.T.ToDer.header_refuses c.args.x.now) (g.T.ToDer.content_refuses c.args.x.now) × (g.T.ToDer.header c.args.x.now ++ g.T.ToDer.content c.args.x.now ≡ o)
+written g c o s = strict_written g.T.Grammar.value g.T.Grammar.Form (λ x. IsWritable (g.T.ToDer.count_refuses x) (g.T.ToDer.header_refuses x) (g.T.ToDer.content_refuses x)) g.T.ToDer.constructed g.T.ToDer.header g.T.ToDer.content g.met.T.LawfulWrite.form c.args.x.now o s
 
 pub returns-clause-wrote : goal.returns-clause-wrote
 returns-clause-wrote g c = λ o s. rw (← (written g c o s).1) (c.write_der.ensures.wrote (g.met.T.LawfulWrite.tells_all c.args.x.now))
 
 pub returns-clause-refused : goal.returns-clause-refused
-returns-clause-refused g c = λ o s. let h = written g c o s in rw (← h.1) (c.write_der.ensures.writable (g.met.T.LawfulWrite.tells_all c.args.x.now) h.0)
+returns-clause-refused g c = λ o s. let h = written g c o s in rw (← h.1) (plain_refusal c.write_der.result _ _ (g.T.ToDer.header_refuses c.args.x.now) (g.T.ToDer.content_refuses c.args.x.now) h.0.1 h.0.2 (c.write_der.ensures.refused (g.met.T.LawfulWrite.tells_all c.args.x.now)))
 
 pub returns-clause-one : goal.returns-clause-one
 returns-clause-one g c = λ o p s t. one_strict g.T.Grammar.Form g.met.T.LawfulItem.one_form (g.T.Grammar.value c.args.x.now) o p s t

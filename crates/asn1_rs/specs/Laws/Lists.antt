@@ -1,0 +1,355 @@
+-- Laws of lists.
+use Rattle.std.proofs.Common.{arith, ◌≡◌, ◌≢◌, ◌∙◌, ap, sym, subst, refl, ℕ, ◌<◌, ◌≤◌, ◌⊎◌, inl, inr, Bool, true, false, List, [], ◌∷◌, ◌++◌, length, map, length-append}
+use Rattle.std.proofs.lemmas.List.{append_cancel_left}
+use Rattle.std.proofs.lemmas.List.Elements.{All-nil, All-cons}
+use Rattle.std.specs.Prelude.{slice_index_or, Result, Ok, Err, IsTrue, ◌↔◌, ◌&&◌}
+use Rattle.std.specs.Cmp.Lexicographic.{pointwise}
+use Rattle.std.specs.declared.vec.Vec.{Vec}
+use Rattle.std.specs.List.{All, flat_map}
+use Rattle.x690.specs.Strict.{header_octets}
+use Rattle.std.specs.Iterator.{Yields}
+use Rattle.x690.specs.Octets.{IsOctets}
+use Rattle.x690.specs.Identifiers.{Identifier, IsCutIdentifier}
+use Rattle.x690.specs.Elements.{Parts, IsDefiniteElement}
+use Rattle.x690.specs.Faults.{DefiniteElementFault}
+use Rattle.x690.specs.Laws.Octets.{octets_append, octets_back, below_octets}
+use Rattle.x690.specs.Laws.Elements.{definite_element_two, definite_element_is_octets}
+use Rattle.asn1_rs.specs.declared.error.Err.{Err as Refusal}
+use Rattle.asn1_rs.specs.declared.error.Err.TheVariants.{Incomplete as cut, Error as refused, Failure as failed}
+use Rattle.asn1_rs.specs.declared.error.Error.{Error}
+use Rattle.asn1_rs.specs.declared.error.Error.TheVariants as faults
+use Rattle.asn1_rs.specs.declared.error.DerConstraint.TheVariants.{IndefiniteLength}
+use Rattle.asn1_rs.specs.declared.asn1_types.any.Any.{Any}
+use Rattle.asn1_rs.specs.Error.{FlattenedTo}
+use Rattle.asn1_rs.specs.Any.{parts_of, IsTheElement}
+use Rattle.asn1_rs.specs.Answers.{Front, NoFront, Exactly, TellsMemory}
+use Rattle.asn1_rs.specs.Form.{IsOneForm, IsOneValue, FitsElement, HasValues, IsStrict}
+use Rattle.asn1_rs.specs.Grammar.{IsOneFront, IsOneBody, TakesBody, Checks, FormChecks, FormBodies, FormTakes, DerWord, made, of_class}
+use Rattle.asn1_rs.specs.Items.{TakesItem, EndsItem, TellsNoWord, IsMemory}
+use Rattle.asn1_rs.specs.Lists.{IsJoined, ListBody, ListOf, CheckedElement, ListCheck, StrictWord, ListForm, IsListOr, ItemsGive, ListTakes, ListReads, CheckedGives, ListCheckGives, SomeRefuses, has_items}
+use Rattle.asn1_rs.specs.Wrote.{HasNone, Either, IsWritable, WrittenRefusal}
+use Rattle.asn1_rs.specs.declared.error.SerializeError.{SerializeError}
+use Rattle.asn1_rs.specs.Laws.Elements.{none_now, element_exact, der_elements}
+use Rattle.asn1_rs.specs.Laws.Words.{strict_element, one_strict, strict_apart}
+use Rattle.asn1_rs.specs.Laws.Forms.{universal, header_of, universal_one, universal_value, universal_fits, WritesByValue, WritesForm, strict_written}
+
+empty_front : (w r : List ℕ) → [] ≡ w ++ r → w ≡ []
+empty_front [] r e = refl
+empty_front (a ∷ w) r e = cc
+
+-- words of one grammar that are words of another
+pub joined_map : {V : Type 0} (G H : List ℕ → V → Type 0) → ((o : List ℕ) (v : V) → G o v → H o v) → (c : List ℕ) (vs : List V) → IsJoined G c vs → IsJoined H c vs
+joined_map G H f c [] j = j
+joined_map G H f c (v ∷ vs) j = (j.0, j.1, f j.0 v j.2, j.3, joined_map G H f j.1 vs j.4)
+
+-- what holds of the value of each word
+pub joined_values : {V : Type 0} (G : List ℕ → V → Type 0) (P : V → Type 0) → ((o : List ℕ) (v : V) → G o v → P v) → (c : List ℕ) (vs : List V) → IsJoined G c vs → All P vs
+joined_values G P f c [] j = All-nil P
+joined_values G P f c (v ∷ vs) j = All-cons P v vs (f j.0 v j.2) (joined_values G P f j.1 vs j.4)
+
+pub joined_octets : {V : Type 0} (G : List ℕ → V → Type 0) → ((o : List ℕ) (v : V) → G o v → IsOctets o) → (c : List ℕ) (vs : List V) → IsJoined G c vs → IsOctets c
+joined_octets G f c [] j = subst IsOctets (sym j) (below_octets [] tt)
+joined_octets G f c (v ∷ vs) j = subst IsOctets (sym j.3) (octets_append j.0 j.1 (f j.0 v j.2) (joined_octets G f j.1 vs j.4))
+
+-- where each value has one word, a list has one joining
+pub joined_one : {V : Type 0} (G : List ℕ → V → Type 0) → ((v : V) (o p : List ℕ) → G o v → G p v → o ≡ p) → (vs : List V) (c d : List ℕ) → IsJoined G c vs → IsJoined G d vs → c ≡ d
+joined_one G one [] c d i j = i ∙ sym j
+joined_one G one (v ∷ vs) c d i j =
+    i.3 ∙ (ap (λ (o : List ℕ). o ++ i.1) (one v i.0 j.0 i.2 j.2) ∙ ap (λ (r : List ℕ). j.0 ++ r) (joined_one G one vs i.1 j.1 i.4 j.4)) ∙ sym j.3
+
+module _ {V : Type 0} (G : List ℕ → V → Type 0) (one : IsOneFront G) where
+  no_first : (c word rest : List ℕ) (v : V) → c ≡ [] → G word v → c ≡ word ++ rest → ⊥
+  no_first c word rest v n g e = one.some v (subst (λ (o : List ℕ). G o v) (empty_front word rest (sym n ∙ e)) g)
+
+  -- of words that begin one input the same follows
+  same_rest : (w x r s : List ℕ) (v u : V) → G w v → G x u → w ++ r ≡ x ++ s → (v ≡ u) × (r ≡ s)
+  same_rest w x r s v u g h e =
+      let same = one.one w x r s v u g h e in
+      (same.1, append_cancel_left x r s (ap (λ (ys : List ℕ). ys ++ r) (sym same.0) ∙ e))
+
+  -- octets are joined of words with one row of values
+  pub joined_same : (c d : List ℕ) (vs ws : List V) → c ≡ d → IsJoined G c vs → IsJoined G d ws → vs ≡ ws
+  joined_same c d [] [] e i j = refl
+  joined_same c d [] (w ∷ ws) e i j = absurd (no_first d j.0 j.1 w (sym e ∙ i) j.2 j.3)
+  joined_same c d (v ∷ vs) [] e i j = absurd (no_first c i.0 i.1 v (e ∙ j) i.2 i.3)
+  joined_same c d (v ∷ vs) (w ∷ ws) e i j =
+      let s = same_rest i.0 j.0 i.1 j.1 v w i.2 j.2 (sym i.3 ∙ e ∙ j.3) in
+      ap (λ x. x ∷ vs) s.0 ∙ ap (λ xs. w ∷ xs) (joined_same i.1 j.1 vs ws s.1 i.4 j.4)
+
+  pub list_body_one : (number : ℕ) → IsOneBody (ListBody number G)
+  list_body_one number p v w a b = joined_same p.content p.content v w refl a.items b.items
+
+  pub list_of_one : (number : ℕ) → IsOneBody (ListOf number G)
+  list_of_one number p v w a b = joined_same p.content p.content v w refl a.items b.items
+
+-- strict encodings are words that begin one input in one way
+pub strict_word_one : {V : Type 0} (Form : V → Identifier → List ℕ → Type 0) → IsOneValue Form → IsOneFront (StrictWord Form)
+strict_word_one Form one = record {
+  one = λ x y r s v w a b e. let u = strict_apart Form one v w x y r s a b e in (u.0, u.1);
+  some = λ v a. let l = definite_element_two [] _ (strict_element Form v [] a) in absurd (omega (arith, l));
+}
+
+strict_word_octets : {V : Type 0} (Form : V → Identifier → List ℕ → Type 0) (o : List ℕ) (v : V) → StrictWord Form o v → IsOctets o
+strict_word_octets Form o v s = definite_element_is_octets o _ (strict_element Form v o s)
+
+pub checked_one : (Check : Parts → Type 0) → IsOneFront (CheckedElement Check)
+checked_one Check = record {
+  one = λ x y r s p q a b e. der_elements.one.one x y r s p q a.0 b.0 e;
+  some = λ p a. der_elements.one.some p a.0;
+}
+
+-- the strict parts of a list
+module _ {V : Type 0} (Form : V → Identifier → List ℕ → Type 0) (number : ℕ) where
+  pub list_one_form : IsOneForm Form → IsOneForm (ListForm number Form)
+  list_one_form one = universal_one true number (λ vs c. IsJoined (StrictWord Form) c vs) (λ vs c d i j. joined_one (StrictWord Form) (one_strict Form one) vs c d i j)
+
+  pub list_one_value : IsOneValue Form → IsOneValue (ListForm number Form)
+  list_one_value one = universal_value true number (λ vs c. IsJoined (StrictWord Form) c vs) (λ vs ws c i j. joined_same (StrictWord Form) (strict_word_one Form one) c c vs ws refl i j)
+
+  pub list_fits : number < 31 → FitsElement (ListForm number Form)
+  list_fits small = universal_fits true number (λ vs c. IsJoined (StrictWord Form) c vs) small (λ vs c j. joined_octets (StrictWord Form) (strict_word_octets Form) c vs j)
+
+  pub list_form_values : (P : V → Type 0) → HasValues Form P → HasValues (ListForm number Form) (All P)
+  list_form_values P h = λ vs i c f. joined_values (StrictWord Form) P (λ o v s. h v s.id s.content s.form) c vs f.1
+
+  -- under any class they meet the body
+  pub list_form_body_under : (G : List ℕ → V → Type 0) → ((v : V) (o : List ℕ) → IsStrict Form v o → G o v) → (vs : List V) (i : Identifier) (c : List ℕ) (class : ℕ) → ListForm number Form vs i c → ListBody number G (made (of_class class i) c) vs
+  list_form_body_under G words vs i c class f = record {
+    number_is = ap (λ (z : Identifier). z.number) f.0;
+    constructed = ap (λ (z : Identifier). z.constructed) f.0;
+    items = joined_map (StrictWord Form) G (λ o v s. words v o s) c vs f.1;
+  }
+
+  pub list_form_body : (G : List ℕ → V → Type 0) → ((v : V) (o : List ℕ) → IsStrict Form v o → G o v) → FormBodies (ListForm number Form) (ListBody number G)
+  list_form_body G words = λ vs i c f. record {
+    number_is = ap (λ (z : Identifier). z.number) f.0;
+    constructed = ap (λ (z : Identifier). z.constructed) f.0;
+    items = joined_map (StrictWord Form) G (λ o v s. words v o s) c vs f.1;
+  }
+
+  pub list_form_of : (G : List ℕ → V → Type 0) → ((v : V) (o : List ℕ) → IsStrict Form v o → G o v) → FormBodies (ListForm number Form) (ListOf number G)
+  list_form_of G words = λ vs i c f. record {
+    number_is = ap (λ (z : Identifier). z.number) f.0;
+    items = joined_map (StrictWord Form) G (λ o v s. words v o s) c vs f.1;
+  }
+
+  joined_checked : (Check : Parts → Type 0) → FormChecks Form Check → (vs : List V) (c : List ℕ) → IsJoined (StrictWord Form) c vs → (ps : List Parts) × IsJoined (CheckedElement Check) c ps
+  joined_checked Check checks [] c j = ([], j)
+  joined_checked Check checks (v ∷ vs) c j =
+      let t = joined_checked Check checks vs j.1 j.4 in
+      let s : IsStrict Form v j.0 = j.2 in
+      (made s.id s.content ∷ t.0, (j.0, j.1, (strict_element Form v j.0 s, checks v s.id s.content s.form), j.3, t.1))
+
+  pub list_form_check_under : (Check : Parts → Type 0) → FormChecks Form Check → (vs : List V) (i : Identifier) (c : List ℕ) (class : ℕ) → ListForm number Form vs i c → ListCheck number Check (made (of_class class i) c)
+  list_form_check_under Check checks vs i c class f =
+      let t = joined_checked Check checks vs c f.1 in
+      record { number_is = ap (λ (z : Identifier). z.number) f.0; constructed = ap (λ (z : Identifier). z.constructed) f.0; elements = t.0; checked = t.1 }
+
+  pub list_form_check : (Check : Parts → Type 0) → FormChecks Form Check → FormChecks (ListForm number Form) (ListCheck number Check)
+  list_form_check Check checks = λ vs i c f.
+      let t = joined_checked Check checks vs c f.1 in
+      record { number_is = ap (λ (z : Identifier). z.number) f.0; constructed = ap (λ (z : Identifier). z.constructed) f.0; elements = t.0; checked = t.1 }
+
+  pub list_takes_class : (G : List ℕ → V → Type 0) (Check : Parts → Type 0) → ((v : V) (o : List ℕ) → IsStrict Form v o → G o v) → FormChecks Form Check → (class : ℕ) → FormTakes (ListForm number Form) (ListCheck number Check) (ListBody number G) class number
+  list_takes_class G Check words checks class = λ vs i c f.
+      (ap (λ (z : Identifier). z.number) f.0, list_form_check_under Check checks vs i c class f, list_form_body_under G words vs i c class f)
+
+-- An element is a list, or is refused as none.
+list_or_refused : (number : ℕ) (p : Parts) (e : Error) → IsListOr number p (Err e) → p.id.number ≡ number → p.id.constructed ≡ true → ⊥
+list_or_refused number p e (inl a) n c = a.0 n
+list_or_refused number p e (inr a) n c = let d = a.1 in cc
+
+-- Items that are read by a reader that is exact at octets of which something holds that holds of the rest too.
+module _ {T V E : Type 0} (reads : List ℕ → Result (List ℕ × T) (Refusal E) → Type 0) (from : Error → E → Type 0) (G : List ℕ → V → Type 0) (value : T → V) (takes : Bool) (IsCut : List ℕ → Type 0)
+    (one : IsOneFront G) (Keeps : List ℕ → Type 0)
+    (kept : (octets word rest : List ℕ) → Keeps octets → octets ≡ word ++ rest → Keeps rest)
+    (exact : (octets : List ℕ) (answer : Result (List ℕ × T) (Refusal E)) → Keeps octets → reads octets answer → Exactly IsCut G value (TellsMemory takes from) octets answer) where
+  -- all of them are joined
+  pub items_joined : (items : List T) (content left : List ℕ) → Keeps content → left ≡ [] → Yields (TakesItem reads from) content (map Ok items) left → IsJoined G content (map value items)
+  items_joined [] content left k n y = y ∙ n
+  items_joined (x ∷ items) content left k n y =
+      let f = exact content (Ok (y.0, x)) k y.1.1 in
+      (f.word, y.0, f.fits, f.is, items_joined items y.0 left (kept content f.word y.0 k f.is) n y.2)
+
+  not_as_long : (octets rest : List ℕ) (v : V) → Front G octets v rest → length octets ≤ length rest → ⊥
+  not_as_long octets rest v f l = shown f.word f.fits f.is
+    where
+      shown : (word : List ℕ) → G word v → octets ≡ word ++ rest → ⊥
+      shown [] g e = one.some v g
+      shown (x ∷ xs) g e = omega (arith, ap length e, length-append xs rest, l)
+
+  end_tells : (octets : List ℕ) (answer : Result (List ℕ × T) (Refusal E)) (e : E) → Keeps octets → reads octets answer → EndsItem from octets answer e → TellsNoWord G (IsMemory takes from) octets e
+  end_tells octets (Ok x) e o g w = absurd (not_as_long octets x.0 (value x.1) (exact octets (Ok x) o g) w.0)
+  end_tells octets (Err r) e o g w =
+      elim (exact octets (Err r) o g) [
+        | inl m ↦ inl (m.0, memory_told r m.1.0 m.1.2 w m.1.1)
+        | inr f ↦ inr (none_now (IsCut octets) r G octets f)
+      ]
+    where
+      memory_told : (r : Refusal E) (f : E) → r ≡ refused f → FlattenedTo (λ x y. y ≡ x) from r e → from faults.OutOfMemory f → from faults.OutOfMemory e
+      memory_told (refused x) f s t m = let u : e ≡ f = cc in subst (from faults.OutOfMemory) (sym u) m
+      memory_told (cut n) f s t m = cc
+      memory_told (failed x) f s t m = cc
+
+  none_joined : (content : List ℕ) (vs : List V) → content ≢ [] → NoFront G content → IsJoined G content vs → ⊥
+  none_joined content [] n none j = n j
+  none_joined content (v ∷ vs) n none j = none j.0 j.1 v j.3 j.2
+
+  -- where a refusal ended the walk no words are joined to the octets, or it tells of want of memory
+  pub items_none : (items : List T) (e : E) (content left : List ℕ) → Keeps content → Yields (TakesItem reads from) content (map Ok items ++ Err e ∷ []) left → IsMemory takes from e ⊎ ((vs : List V) → IsJoined G content vs → ⊥)
+  items_none [] e content left k (j, s, y) =
+      elim (end_tells content s.1.0 e k s.1.1 s.1.2) [ inl m ↦ inl m | inr none ↦ inr (λ vs i. none_joined content vs s.0 none i) ]
+  items_none (x ∷ items) e content left k (j, s, y) =
+      let f = exact content (Ok (j, x)) k s.1 in
+      elim (items_none items e j left (kept content f.word j k f.is) y) [ inl m ↦ inl m | inr none ↦ inr (behind f.word j (value x) f.fits f.is none) ]
+    where
+      behind : (word rest : List ℕ) (v : V) → G word v → content ≡ word ++ rest → ((vs : List V) → IsJoined G rest vs → ⊥) → (vs : List V) → IsJoined G content vs → ⊥
+      behind word rest v g e none [] i = no_first G one content word rest v i g e
+      behind word rest v g e none (w ∷ ws) i =
+          let s = same_rest G one word i.0 rest i.1 v w g i.2 (sym e ∙ i.3) in
+          none ws (subst (λ (r : List ℕ). IsJoined G r ws) (sym s.1) i.4)
+
+pub octets_kept : (octets word rest : List ℕ) → IsOctets octets → octets ≡ word ++ rest → IsOctets rest
+octets_kept octets word rest o e = octets_back word rest (subst IsOctets e o)
+
+-- The conversion of an element to a list is exact, and so is a list's own reader by DER.
+module _ {T V W E : Type 0} (number : ℕ) (holds : List T → W → Type 0) (values : W → List V) (reads : List ℕ → Result (List ℕ × T) (Refusal E) → Type 0) (from : Error → E → Type 0) (G : List ℕ → V → Type 0) (value : T → V) (takes : Bool) (IsCut : List ℕ → Type 0)
+    (valued : (items : List T) (w : W) → holds items w → map value items ≡ values w)
+    (one : IsOneFront G)
+    (exact : (octets : List ℕ) (answer : Result (List ℕ × T) (Refusal E)) → IsOctets octets → reads octets answer → Exactly IsCut G value (TellsMemory takes from) octets answer) where
+  all_joined : (items : List T) (w : W) (content : List ℕ) → IsOctets content → holds items w → Yields (TakesItem reads from) content (map Ok items) [] → IsJoined G content (values w)
+  all_joined items w content o h y = subst (IsJoined G content) (valued items w h) (items_joined reads from G value takes IsCut one IsOctets octets_kept exact items content [] o refl y)
+
+  none_taken : (e : E) (content : List ℕ) → IsOctets content → ItemsGive {T = T} reads from content (Err e) → from faults.OutOfMemory e ⊎ ((vs : List V) → IsJoined G content vs → ⊥)
+  none_taken e content o (inl m) = inl m
+  none_taken e content o (inr s) =
+      elim (items_none reads from G value takes IsCut one IsOctets octets_kept exact s.0 e content s.1 o s.2) [ inl m ↦ inl m.1 | inr none ↦ inr none ]
+
+  pub list_takes : (p : Parts) (answer : Result W E) → IsOctets p.content → ListTakes number holds reads from p answer → TakesBody (ListBody number G) values true from p answer
+  list_takes p (Ok w) o t = record {
+    number_is = t.0.0;
+    constructed = t.0.1;
+    items = all_joined t.1.0 w p.content o t.1.1 t.1.2;
+  }
+  list_takes p (Err e) o (inl r) = inr (λ vs b. list_or_refused number p r.0 r.1 b.number_is b.constructed)
+  list_takes p (Err e) o (inr (h, s)) = elim (none_taken e p.content o s) [ inl m ↦ inl (refl, m) | inr none ↦ inr (λ vs b. none vs b.items) ]
+
+  pub list_reads : (p : Parts) (answer : Result W E) → IsOctets p.content → ListReads number holds reads from p answer → TakesBody (ListOf number G) values true from p answer
+  list_reads p (Ok w) o t = record { number_is = t.0; items = all_joined t.1.0 w p.content o t.1.1 t.1.2 }
+  list_reads p (Err e) o (inl r) = inr (λ vs b. r.0 b.number_is)
+  list_reads p (Err e) o (inr (h, s)) = elim (none_taken e p.content o s) [ inl m ↦ inl (refl, m) | inr none ↦ inr (λ vs b. none vs b.items) ]
+
+-- the check of a list is exact
+module _ (number : ℕ) (check : Parts → Result (Unit {0}) Error → Type 0) (Check : Parts → Type 0)
+    (check_exact : (p : Parts) (answer : Result (Unit {0}) Error) → check p answer → Checks Check p answer) where
+  abbrev IsParts : Parts → Parts → Type 0
+  IsParts p q = q ≡ p
+
+  any_body : (p : Parts) (answer : Result Any Error) → IsOctets p.content → IsTheElement p answer → TakesBody IsParts parts_of false (λ (x y : Error). y ≡ x) p answer
+  any_body p (Ok x) o h = h
+  any_body p (Err e) o h = absurd h
+
+  to_checked : (o : List ℕ) (p : Parts) → DerWord Check IsParts o p → CheckedElement Check o p
+  to_checked o p w = (subst (λ (q : Parts). IsDefiniteElement o q) (sym w.3) w.1, subst Check (sym w.3) w.2)
+
+  element_checked : (octets : List ℕ) (answer : Result (List ℕ × Any) (Refusal Error)) → Unit {0} → CheckedGives check octets answer → Exactly IsCutIdentifier (CheckedElement Check) parts_of (TellsMemory false (λ x y. y ≡ x)) octets answer
+  element_checked octets answer k g = element_exact IsDefiniteElement DefiniteElementFault IsCutIdentifier der_elements (faults.DerConstraintFailed IndefiniteLength) check IsTheElement (λ (x y : Error). y ≡ x) Check IsParts parts_of false (CheckedElement Check) check_exact any_body
+      (λ o p c. (p, c.0, c.1, refl)) to_checked octets answer g
+
+  pub list_check_exact : (p : Parts) (answer : Result (Unit {0}) Error) → ListCheckGives number check p answer → Checks (ListCheck number Check) p answer
+  list_check_exact p (Ok x) t = record {
+    number_is = t.0.0;
+    constructed = t.0.1;
+    elements = map parts_of t.1.0;
+    checked = items_joined (CheckedGives check) (λ x y. y ≡ x) (CheckedElement Check) parts_of false IsCutIdentifier (checked_one Check) (λ o. Unit {0}) (λ o w r k e. tt) element_checked t.1.0 p.content [] tt refl t.1.1;
+  }
+  list_check_exact p (Err e) (inl r) = λ c. list_or_refused number p e r c.number_is c.constructed
+  list_check_exact p (Err e) (inr (h, s)) = λ c.
+      elim (items_none (CheckedGives check) (λ x y. y ≡ x) (CheckedElement Check) parts_of false IsCutIdentifier (checked_one Check) (λ o. Unit {0}) (λ o w r k e. tt) element_checked s.0 e p.content s.1 tt s.2) [
+        | inl m ↦ cc (m.0)
+        | inr none ↦ none c.elements c.checked
+      ]
+
+pub list_body_values : {V : Type 0} (number : ℕ) (G : List ℕ → V → Type 0) (P : V → Type 0) → ((o : List ℕ) (v : V) → G o v → P v) → (p : Parts) (vs : List V) → ListBody number G p vs → All P vs
+list_body_values number G P f p vs b = joined_values G P f p.content vs b.items
+
+pub list_der_values : {V : Type 0} (number : ℕ) (G : List ℕ → V → Type 0) (P : V → Type 0) → ((o : List ℕ) (v : V) → G o v → P v) → (p : Parts) (vs : List V) → ListOf number G p vs → All P vs
+list_der_values number G P f p vs b = joined_values G P f p.content vs b.items
+
+-- what the items of a list are written in
+abbrev pub written_items : {S : Type 0} → (S → List ℕ) → (S → List ℕ) → List S → List ℕ
+written_items header content = flat_map (λ x. header x ++ content x)
+
+module _ {S V : Type 0} (value : S → V) (octets : S → List ℕ) (law : (x y : S) → value x ≡ value y → octets x ≡ octets y) where
+  items_by_value : (xs ys : List S) → map value xs ≡ map value ys → flat_map octets xs ≡ flat_map octets ys
+  items_by_value [] [] e = refl
+  items_by_value [] (y ∷ ys) e = cc
+  items_by_value (x ∷ xs) [] e = cc
+  items_by_value (x ∷ xs) (y ∷ ys) e =
+      let head : value x ≡ value y = cc in
+      let tail : map value xs ≡ map value ys = cc in
+      ap (λ (a : List ℕ). a ++ flat_map octets xs) (law x y head) ∙ ap (λ (b : List ℕ). octets y ++ b) (items_by_value xs ys tail)
+
+both_by_value : {a b c d : List ℕ} → a ≡ b → c ≡ d → a ++ c ≡ b ++ d
+both_by_value p q = cc
+
+module _ {S V : Type 0} (number : ℕ) (value : S → V) (constructed : S → Bool) (header content : S → List ℕ) where
+  -- what is written for a list follows from its values
+  pub list_by_value : WritesByValue value constructed header content → (xs ys : List S) → map value xs ≡ map value ys →
+      (true ≡ true) × (header_octets 0 true number (length (written_items header content xs)) ≡ header_octets 0 true number (length (written_items header content ys))) × (written_items header content xs ≡ written_items header content ys)
+  list_by_value law xs ys e =
+      let h = items_by_value value (λ x. header x ++ content x) (λ x y e. let l = law x y e in both_by_value l.1 l.2) xs ys e in
+      (refl, ap (λ (c : List ℕ). header_octets 0 true number (length c)) h, h)
+
+-- where no item has a refusal, the list has none
+pub none_refuses : {S E : Type 0} (refuses : S → E → Type 0) (xs : List S) → All (λ x. HasNone (refuses x)) xs → HasNone (SomeRefuses refuses xs)
+none_refuses refuses xs a e o = subst (λ x. HasNone (refuses x)) o.3 (a o.0 o.1 o.2) e o.4
+
+module _ {S V : Type 0} (number : ℕ) (value : S → V) (Form : V → Identifier → List ℕ → Type 0) (counting : S → Error → Type 0) (heading filling : S → SerializeError → Type 0) (constructed : S → Bool) (header content : S → List ℕ) where
+  abbrev Writable : S → Type 0
+  Writable x = IsWritable (counting x) (heading x) (filling x)
+
+  abbrev Law : Type 0
+  Law = WritesForm value Form Writable constructed header content
+
+  joined_writable : Law → (xs : List S) (c : List ℕ) → IsJoined (StrictWord Form) c (map value xs) → All Writable xs
+  joined_writable law [] c j = All-nil Writable
+  joined_writable law (x ∷ xs) c j = All-cons Writable x xs (strict_written value Form Writable constructed header content law x j.0 j.2).0 (joined_writable law xs j.1 j.4)
+
+  joined_written : Law → (xs : List S) (c : List ℕ) → IsJoined (StrictWord Form) c (map value xs) → written_items header content xs ≡ c
+  joined_written law [] c j = sym j
+  joined_written law (x ∷ xs) c j =
+      ap (λ (a : List ℕ). a ++ written_items header content xs) (strict_written value Form Writable constructed header content law x j.0 j.2).1
+      ∙ ap (λ (b : List ℕ). j.0 ++ b) (joined_written law xs j.1 j.4) ∙ sym j.3
+
+  either_none : (x : S) → Writable x → HasNone (Either (heading x) (filling x))
+  either_none x w e (inl o) = w.1 e o
+  either_none x w e (inr o) = w.2 e o
+
+  -- a list in DER form is written as its strict parts
+  pub list_writes_form : Law → (xs : List S) (i : Identifier) (c : List ℕ) → ListForm number Form (map value xs) i c →
+      IsWritable (SomeRefuses counting xs) (WrittenRefusal (SomeRefuses counting xs)) (SomeRefuses (λ x. Either (heading x) (filling x)) xs) × (true ≡ i.constructed) × (written_items header content xs ≡ c) × (header_octets 0 true number (length (written_items header content xs)) ≡ header_of i c)
+  list_writes_form law xs i c f =
+      let e = joined_written law xs c f.1 in
+      let a : All Writable xs = joined_writable law xs c f.1 in
+      let n : HasNone (SomeRefuses counting xs) = none_refuses counting xs (λ k d h. (a k d h).0) in (
+        (n, λ e o. n o.0 o.1, none_refuses (λ x. Either (heading x) (filling x)) xs (λ k d h. either_none (slice_index_or xs k d) (a k d h))),
+        sym (ap (λ (z : Identifier). z.constructed) f.0),
+        e,
+        ap (λ (z : List ℕ). header_octets 0 true number (length z)) e ∙ ap (λ (z : Identifier). header_of z c) (sym f.0),
+      )
+
+-- lists of members are equal exactly where their values are
+pub same_lists : {S V : Type 0} (eq : S → S → Bool) (value : S → V) → ((x y : S) → IsTrue (eq x y) ↔ (value x ≡ value y)) → (xs ys : List S) → IsTrue (pointwise eq xs ys) ↔ (map value xs ≡ map value ys)
+same_lists eq value same [] [] = (λ h. refl, λ e. refl)
+same_lists eq value same [] (y ∷ ys) = (λ h. absurd (cc), λ e. absurd (cc))
+same_lists eq value same (x ∷ xs) [] = (λ h. absurd (cc), λ e. absurd (cc))
+same_lists eq value same (x ∷ xs) (y ∷ ys) =
+    elim (eq x y) as (λ b. eq x y ≡ b → IsTrue (b && pointwise eq xs ys) ↔ (value x ∷ map value xs ≡ value y ∷ map value ys)) [
+      | true ↦ λ q. (λ h. ap (λ z. z ∷ map value xs) ((same x y).0 q) ∙ ap (λ zs. value y ∷ zs) ((same_lists eq value same xs ys).0 h), λ e. (same_lists eq value same xs ys).1 (let t : map value xs ≡ map value ys = cc in t))
+      | false ↦ λ q. (λ h. absurd (cc), λ e. let t : value x ≡ value y = cc in let k : eq x y ≡ true = (same x y).1 t in absurd (cc))
+    ] refl
+
+-- the values of a vector's items
+pub same_values : {T V A : Type 0} (value : T → V) (items : List T) (v : Vec T A) → has_items items v → map value items ≡ map value v.items
+same_values value items v h = ap (map value) (sym h)

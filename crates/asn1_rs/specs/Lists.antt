@@ -1,0 +1,113 @@
+-- Lists: elements whose contents octets are items joined in their order (X.690 8.9, 8.10).
+use Rattle.std.specs.Prelude.{◌≡◌, ◌≢◌, ◌⊎◌, ℕ, true, false, List, [], ◌∷◌, ◌++◌, map, Some, Result, Ok, Err}
+use Rattle.std.specs.Borrow.{Bor}
+use Rattle.std.specs.declared.vec.Vec.{Vec}
+use Rattle.std.specs.List.{Any}
+use Rattle.std.specs.Iterator.{Yields}
+use Rattle.x690.specs.Identifiers.{Identifier}
+use Rattle.x690.specs.Elements.{Parts, IsDefiniteElement}
+use Rattle.asn1_rs.specs.declared.error.Err.{Err as Refusal}
+use Rattle.asn1_rs.specs.declared.error.Error.{Error}
+use Rattle.asn1_rs.specs.declared.error.Error.TheVariants as faults
+use Rattle.asn1_rs.specs.declared.asn1_types.any.Any.{Any as Element}
+use Rattle.asn1_rs.specs.Any.{IsTheElement}
+use Rattle.asn1_rs.specs.Error.{FlattenedTo}
+use Rattle.asn1_rs.specs.Form.{IsStrict}
+use Rattle.asn1_rs.specs.Grammar.{DerGives}
+use Rattle.asn1_rs.specs.Items.{TakesItem}
+use Rattle.asn1_rs.specs.Laws.Forms.{UniversalForm}
+
+-- the octets are words of the grammar with these values, joined in their order
+abbrev pub IsJoined : {V : Type 0} → (List ℕ → V → Type 0) → List ℕ → List V → Type 0
+IsJoined G octets [] = octets ≡ []
+IsJoined G octets (v ∷ vs) = (word : List ℕ) × (rest : List ℕ) × G word v × (octets ≡ word ++ rest) × IsJoined G rest vs
+
+-- A constructed element with the tag number, whose contents octets are words joined.
+pub record ListBody {V : Type 0} (number : ℕ) (G : List ℕ → V → Type 0) (p : Parts) (vs : List V) : Type 0 where
+  pub number_is : p.id.number ≡ number
+  pub constructed : p.id.constructed ≡ true
+  pub items : IsJoined G p.content vs
+
+-- The same, where the constructed bit is not looked at.
+pub record ListOf {V : Type 0} (number : ℕ) (G : List ℕ → V → Type 0) (p : Parts) (vs : List V) : Type 0 where
+  pub number_is : p.id.number ≡ number
+  pub items : IsJoined G p.content vs
+
+-- an element of definite length whose parts meet the constraints
+abbrev pub CheckedElement : (Parts → Type 0) → List ℕ → Parts → Type 0
+CheckedElement Check octets p = IsDefiniteElement octets p × Check p
+
+-- A constructed element with the tag number, whose contents octets are elements of definite length that meet the constraints of an item.
+pub record ListCheck (number : ℕ) (Check : Parts → Type 0) (p : Parts) : Type 0 where
+  pub number_is : p.id.number ≡ number
+  pub constructed : p.id.constructed ≡ true
+  pub elements : List Parts
+  pub checked : IsJoined (CheckedElement Check) p.content elements
+
+-- the strict encodings of a grammar's values, as words
+abbrev pub StrictWord : {V : Type 0} → (V → Identifier → List ℕ → Type 0) → List ℕ → V → Type 0
+StrictWord Form octets v = IsStrict Form v octets
+
+-- the strict parts of a list: universal, constructed, and the strict encodings of the items joined in their order
+abbrev pub ListForm : {V : Type 0} → ℕ → (V → Identifier → List ℕ → Type 0) → List V → Identifier → List ℕ → Type 0
+ListForm number Form = UniversalForm true number (λ vs c. IsJoined (StrictWord Form) c vs)
+
+-- a constructed element with the tag number, or the refusal of the first of these that fails
+abbrev pub IsListOr : ℕ → Parts → Result (Unit {0}) Error → Type 0
+IsListOr number p (Ok x) = (p.id.number ≡ number) × (p.id.constructed ≡ true)
+IsListOr number p (Err e) =
+    ((p.id.number ≢ number) × (e ≡ faults.UnexpectedTag (Some (record { 0 = number })) (record { 0 = p.id.number }))) ⊎
+    ((p.id.number ≡ number) × (p.id.constructed ≡ false) × (e ≡ faults.ConstructExpected))
+
+-- a walk gave items, and then this refusal
+abbrev pub EndsItems : {T E : Type 0} → (List ℕ → Result (List ℕ × T) (Refusal E) → Type 0) → (Error → E → Type 0) → List ℕ → E → Type 0
+EndsItems {T} {E} reads from content e = (items : List T) × (left : List ℕ) × Yields (TakesItem reads from) content (map Ok items ++ Err e ∷ []) left
+
+-- What collecting the items of a walk may answer: all of them, or the refusal that ended the walk, or want of memory.
+abbrev pub ItemsGive : {T E : Type 0} → (List ℕ → Result (List ℕ × T) (Refusal E) → Type 0) → (Error → E → Type 0) → List ℕ → Result (List T) E → Type 0
+ItemsGive reads from content (Ok items) = Yields (TakesItem reads from) content (map Ok items) []
+ItemsGive reads from content (Err e) = from faults.OutOfMemory e ⊎ EndsItems reads from content e
+
+-- the items of a vector that was answered
+abbrev pub listed : {T E A : Type 0} → Result (Vec T A) E → Result (List T) E
+listed (Ok v) = Ok v.items
+listed (Err e) = Err e
+
+-- What the conversion of an element to a list may answer: what holds its items; or the refusal of the tag number, that of the constructed bit, or that of the items.
+abbrev pub ListTakes : {T W E : Type 0} → ℕ → (List T → W → Type 0) → (List ℕ → Result (List ℕ × T) (Refusal E) → Type 0) → (Error → E → Type 0) → Parts → Result W E → Type 0
+ListTakes {T} number holds reads from p (Ok w) = IsListOr number p (Ok tt) × ((items : List T) × holds items w × ItemsGive reads from p.content (Ok items))
+ListTakes number holds reads from p (Err e) = ((refusal : Error) × IsListOr number p (Err refusal) × from refusal e) ⊎ (IsListOr number p (Ok tt) × ItemsGive reads from p.content (Err e))
+
+-- what a list's own reader by DER may answer to an element: the same, but the constructed bit is not looked at
+abbrev pub ListReads : {T W E : Type 0} → ℕ → (List T → W → Type 0) → (List ℕ → Result (List ℕ × T) (Refusal E) → Type 0) → (Error → E → Type 0) → Parts → Result W E → Type 0
+ListReads {T} number holds reads from p (Ok w) = (p.id.number ≡ number) × ((items : List T) × holds items w × ItemsGive reads from p.content (Ok items))
+ListReads number holds reads from p (Err e) =
+    ((p.id.number ≢ number) × from (faults.UnexpectedTag (Some (record { 0 = number })) (record { 0 = p.id.number })) e) ⊎
+    ((p.id.number ≡ number) × ItemsGive reads from p.content (Err e))
+
+-- a vector has these items
+abbrev pub has_items : {T A : Type 0} → List T → Vec T A → Type 0
+has_items items v = v.items ≡ items
+
+-- what reading an element by DER and checking its constraints may answer
+abbrev pub CheckedGives : (Parts → Result (Unit {0}) Error → Type 0) → List ℕ → Result (List ℕ × Element) (Refusal Error) → Type 0
+CheckedGives check = DerGives check IsTheElement (λ x y. y ≡ x)
+
+-- what checking the constraints of all items may answer: each passes; or the refusal of the first that is none, or does not
+abbrev pub ItemsCheckGives : (Parts → Result (Unit {0}) Error → Type 0) → List ℕ → Result (Unit {0}) Error → Type 0
+ItemsCheckGives check content (Ok x) = (items : List Element) × Yields (TakesItem (CheckedGives check) (λ x y. y ≡ x)) content (map Ok items) []
+ItemsCheckGives check content (Err e) = EndsItems (CheckedGives check) (λ x y. y ≡ x) content e
+
+-- what the check of a list may answer
+abbrev pub ListCheckGives : ℕ → (Parts → Result (Unit {0}) Error → Type 0) → Parts → Result (Unit {0}) Error → Type 0
+ListCheckGives number check p (Ok x) = IsListOr number p (Ok tt) × ItemsCheckGives check p.content (Ok tt)
+ListCheckGives number check p (Err e) = IsListOr number p (Err e) ⊎ (IsListOr number p (Ok tt) × ItemsCheckGives check p.content (Err e))
+
+-- what reading the first element and checking it may answer: what follows it, or its refusal
+abbrev pub FirstChecked : (Parts → Result (Unit {0}) Error → Type 0) → List ℕ → Result (Bor (List ℕ)) Error → Type 0
+FirstChecked check octets (Ok rest) = (item : Element) × CheckedGives check octets (Ok (rest.now, item))
+FirstChecked check octets (Err e) = (r : Refusal Error) × CheckedGives check octets (Err r) × FlattenedTo (λ x y. y ≡ x) (λ x y. y ≡ x) r e
+
+-- one of the items has this refusal
+abbrev pub SomeRefuses : {T E : Type 0} → (T → E → Type 0) → List T → E → Type 0
+SomeRefuses refuses items e = Any (λ x. refuses x e) items
