@@ -2,4 +2,5 @@ mod Elements
 mod Lists
 mod OpenContents
 mod Reading
+mod Sets
 mod Writing

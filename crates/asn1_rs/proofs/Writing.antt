@@ -233,3 +233,15 @@ class_at_once class takes n own old new was is r l at e (inr h) = let a = at e h
     one_of : (f : SerializeError) → RefusesAtOnce takes n own f → RefusesAtOnce takes n (OfClass class own) f
     one_of f (inl m) = inl m
     one_of f (inr o) = inr (inr (l, o))
+
+-- refused before anything was appended
+pub Wrote_nothing : {e : SerializeError} (xs : List ℕ) (a : Option (List ℕ)) (was : Bool) → is_io {A = ℕ} (Err e) ≡ false → Wrote xs a a was was (Err e)
+Wrote_nothing {e} xs a was h = record {
+  ok = tt;
+  err = record { front = []; rest = xs; parts = refl; grown = Appends_none a };
+  mark = ap (λ m. m || was) (sym h);
+}
+
+pub vector_refuses_neither : (one other : SerializeError → Type 0) → HasNone one → HasNone other → HasNone (Either one other)
+vector_refuses_neither one other n m e (inl o) = n e o
+vector_refuses_neither one other n m e (inr o) = m e o

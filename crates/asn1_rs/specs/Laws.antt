@@ -11,4 +11,9 @@ pub mod ElementWriting
 pub mod Items
 pub mod Lists
 pub mod Tagged
+pub mod Ascend
+pub mod Arranged
+pub mod Zips
+pub mod Differ
+pub mod Sets
 pub mod IndefiniteContents

@@ -16,3 +16,4 @@ pub mod Element
 pub mod Items
 pub mod Lists
 pub mod Tagged
+pub mod Sets

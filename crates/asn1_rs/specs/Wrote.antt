@@ -113,6 +113,10 @@ IsRefusedAtOnce takes_memory n own old new was is answer = (e : SerializeError) 
 abbrev pub WithoutIo : SerializeError → SerializeError → Type 0
 WithoutIo e f = tells_of_io e ≡ false → f ≡ e
 
+-- a refusal of the value's own, from a writing into a vector
+abbrev pub IntoVector : (SerializeError → Type 0) → SerializeError → Type 0
+IntoVector own f = (e : SerializeError) × own e × WithoutIo e f
+
 abbrev pub VectorRefuses : ℕ → (SerializeError → Type 0) → SerializeError → Type 0
 VectorRefuses n own f = MayRefuse true n f ⊎ ((e : SerializeError) × own e × WithoutIo e f)
 

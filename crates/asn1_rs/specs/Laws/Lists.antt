@@ -89,7 +89,7 @@ strict_word_one Form one = record {
   some = λ v a. let l = definite_element_two [] _ (strict_element Form v [] a) in absurd (omega (arith, l));
 }
 
-strict_word_octets : {V : Type 0} (Form : V → Identifier → List ℕ → Type 0) (o : List ℕ) (v : V) → StrictWord Form o v → IsOctets o
+pub strict_word_octets : {V : Type 0} (Form : V → Identifier → List ℕ → Type 0) (o : List ℕ) (v : V) → StrictWord Form o v → IsOctets o
 strict_word_octets Form o v s = definite_element_is_octets o _ (strict_element Form v o s)
 
 pub checked_one : (Check : Parts → Type 0) → IsOneFront (CheckedElement Check)
@@ -290,7 +290,7 @@ module _ {S V : Type 0} (value : S → V) (octets : S → List ℕ) (law : (x y 
       let tail : map value xs ≡ map value ys = cc in
       ap (λ (a : List ℕ). a ++ flat_map octets xs) (law x y head) ∙ ap (λ (b : List ℕ). octets y ++ b) (items_by_value xs ys tail)
 
-both_by_value : {a b c d : List ℕ} → a ≡ b → c ≡ d → a ++ c ≡ b ++ d
+pub both_by_value : {a b c d : List ℕ} → a ≡ b → c ≡ d → a ++ c ≡ b ++ d
 both_by_value p q = cc
 
 module _ {S V : Type 0} (number : ℕ) (value : S → V) (constructed : S → Bool) (header content : S → List ℕ) where

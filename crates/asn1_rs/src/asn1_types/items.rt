@@ -17,7 +17,7 @@ use crate::tag::Tag;
 use crate::to_der::{ToDer, add_counts, add_written};
 use crate::traits::{BerParser, CheckDerConstraints, DerParser, FromAny, FromBer, FromDer, Tagged};
 use crate::writer::DerWrite;
-use std::alloc::Global;
+use std::alloc::{AllocError, Global};
 
 /// Collects the items in contents octets, by the reader `F`.
 pub(crate) fn items_by<'a, T, F, E>(alloc: Global, content: &'a [u8]) -> Result<Vec<T>, E>
@@ -73,9 +73,9 @@ pub trait FromItems: Tagged + Sized {
     /// The value is made of these items, in this order.
     ghost holds: { List Self.Item → Self → Type 0 };
 
-    /// The list of the items.
-    fn from_items(items: Vec<Self::Item>) -> Self
-        ensures { holds items.items result };
+    /// The list of the items. Refused for want of memory alone.
+    fn from_items(alloc: Global, items: Vec<Self::Item>) -> Result<Self, AllocError>
+        ensures { IfOk result (holds items.items) };
 }
 
 /// The tag number is looked at, then the constructed bit; then the items are read by BER, to the end of the contents
@@ -92,7 +92,10 @@ where
 
     fn try_from_any(alloc: Global, any: Any<'a>) -> Result<L, E> {
         match list_from_any::<T, E>(alloc, L::its_tag().0, any) {
-            Ok(items) => Ok(L::from_items(items)),
+            Ok(items) => match L::from_items(alloc, items) {
+                Ok(list) => Ok(list),
+                Err(_) => Err(E::from(Error::OutOfMemory)),
+            },
             Err(e) => Err(e),
         }
     }
@@ -110,6 +113,19 @@ fn items_of_any<'a, T: FromDer<'a, E> + Drop, E: From<Error>>(
         Ok(()) => items_by::<T, DerParser, E>(alloc, any.content),
         Err(e) => Err(E::from(e)),
     }
+}
+
+/// The items of an element that is a set, by DER. The tag number is looked at, then the constructed bit.
+pub(crate) fn items_of_set<'a, T: FromDer<'a, E> + Drop, E: From<Error>>(
+    alloc: Global,
+    any: &Any<'a>,
+) -> Result<Vec<T>, E>
+    ensures { ListTakes 17 has_items T.der_gives E.from_gives (parts_of any.now) result }
+{
+    if let Err(e) = assert_list(Tag::Set.0, any) {
+        return Err(E::from(e));
+    }
+    items_by::<T, DerParser, E>(alloc, any.content)
 }
 
 /// The items of the list with this tag number at the front, by DER, and what follows it.

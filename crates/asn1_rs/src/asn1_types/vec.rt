@@ -1,5 +1,5 @@
 //! Vectors as sequences of items (X.690 8.10).
-ghost use Rattle.std.specs.Prelude.{ℕ, List, ◌++◌, ◌≡◌, ◌||◌, length, map, true, slice_index_or};
+ghost use Rattle.std.specs.Prelude.{ℕ, List, ◌++◌, ◌≡◌, ◌||◌, length, map, true, slice_index_or, IfOk};
 ghost use Rattle.std.specs.List.{All, flat_map};
 ghost use Rattle.std.proofs.Common.{lit<};
 ghost use Rattle.x690.specs.Strict.{header_octets};
@@ -28,7 +28,7 @@ use crate::tag::Tag;
 use crate::to_der::ToDer;
 use crate::traits::{CheckDerConstraints, FromDer, Tagged};
 use crate::writer::DerWrite;
-use std::alloc::Global;
+use std::alloc::{AllocError, Global};
 
 impl<T> Tagged for Vec<T> {
     const TAG: Tag = Tag::Sequence;
@@ -47,10 +47,10 @@ impl<T> FromItems for Vec<T> {
 
     ghost holds = { has_items };
 
-    fn from_items(items: Vec<T>) -> Vec<T>
-        ensures { result.items ≡ items.items }
+    fn from_items(_alloc: Global, items: Vec<T>) -> Result<Vec<T>, AllocError>
+        ensures { IfOk result (λ v. v.items ≡ items.items) }
     {
-        items
+        Ok(items)
     }
 }
 

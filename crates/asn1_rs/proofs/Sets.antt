@@ -1,0 +1,44 @@
+-- Sorted vectors of strings.
+use Rattle.std.specs.Prelude.{◌≡◌, ℕ, ◌+◌, ◌<◌, List, [], ◌∷◌, length, map, Some, slice_get, Result, Ok, Err, IfOk}
+use Rattle.std.specs.List.Sorted.{IsSortedBy, IsPermutation}
+use Rattle.std.specs.Ordering.{nat_cmp, is_lt}
+use Rattle.std.specs.Cmp.Lexicographic.{slice_cmp}
+use Rattle.std.proofs.Common.{refl, sym, ap, subst, arith, get_or, zero, suc, ◌++◌, length-append}
+use Rattle.std.proofs.lemmas.List.Sorted.{IsPermutation-trans, IsPermutation-sym, IsPermutation-map}
+use Rattle.asn1_rs.specs.Sets.{Ascending}
+use Rattle.asn1_rs.specs.Laws.Ascend.{Ascending-unique}
+use Rattle.asn1_rs.specs.Laws.Arranged.{arranged, arranged_ascends, arranged_moves}
+
+get_or-map_in : {X Y : Type 0} (f : X → Y) (xs : List X) (k : ℕ) (d : Y) (e : X) → k < length xs → get_or (map f xs) k d ≡ f (get_or xs k e)
+get_or-map_in f [] k d e h = absurd (omega (arith, h))
+get_or-map_in f (x ∷ xs) zero d e h = refl
+get_or-map_in f (x ∷ xs) (suc k) d e h = get_or-map_in f xs k d e (omega (arith, h))
+
+length-map : {X Y : Type 0} (f : X → Y) (xs : List X) → length (map f xs) ≡ length xs
+length-map f [] = refl
+length-map f (x ∷ xs) = ap suc (length-map f xs)
+
+Ascending-map : {X : Type 0} (f : X → List ℕ) (xs : List X) → IsSortedBy (λ x y. is_lt (slice_cmp nat_cmp (f x) (f y))) xs → Ascending (map f xs)
+Ascending-map f [] up k d l h = absurd (omega (arith, h))
+Ascending-map f (x ∷ xs) up k d l h =
+    let m : k + 1 < length (x ∷ xs) = subst (λ n. k + 1 < n) (length-map f (x ∷ xs)) h in
+    rw (get_or-map_in f (x ∷ xs) (k + 1) d x m) (rw (get_or-map_in f (x ∷ xs) k d x (omega (arith, m))) (up k x l m))
+
+pub sorted_is_arranged : {X : Type 0} (f : X → List ℕ) (xs ys : List X) → IsPermutation xs ys → IsSortedBy (λ x y. is_lt (slice_cmp nat_cmp (f x) (f y))) ys → map f ys ≡ arranged (map f xs)
+sorted_is_arranged f xs ys p up =
+    Ascending-unique (map f ys) (arranged (map f xs))
+      (IsPermutation-trans _ _ _ (IsPermutation-sym _ _ (IsPermutation-map f xs ys p)) (arranged_moves (map f xs)))
+      (Ascending-map f ys up) (arranged_ascends (map f xs))
+
+-- the item that was got at an index
+pub got_at : {X : Type 0} (xs : List X) (i : ℕ) (x : X) → i < length xs → slice_get xs i ≡ Some x → x ≡ get_or xs i x
+got_at [] i x h e = absurd (omega (arith, h))
+got_at (y ∷ ys) zero x h e = cc
+got_at (y ∷ ys) (suc i) x h e = got_at ys i x (omega (arith, h)) e
+
+pub one_longer : {X : Type 0} (xs : List X) (x : X) → length (xs ++ x ∷ []) ≡ length xs + 1
+one_longer xs x = length-append xs (x ∷ [])
+
+pub if_ok : {W E : Type 0} {P Q : W → Type 0} (r : Result W E) → ((w : W) → P w → Q w) → IfOk r P → IfOk r Q
+if_ok (Ok w) f h = f w h
+if_ok (Err e) f h = h
