@@ -4,6 +4,7 @@ pub mod Words
 pub mod Forms
 pub mod Any
 pub mod Element
+pub mod Kinds
 pub mod Integer
 pub mod Unsigned
 pub mod Signed

@@ -11,6 +11,8 @@ pub mod Answers
 pub mod Form
 pub mod Grammar
 pub mod Integer
+pub mod Kinds
+pub mod Written
 pub mod Laws
 pub mod Element
 pub mod Items

@@ -177,65 +177,6 @@ pub trait LawfulMember: LawfulItem + Eq {
     ghost same: { (x y : Self) → IsTrue (Self.eq x y) ↔ (Self.value x ≡ Self.value y) };
 }
 
-/// A reference has the values and grammars of what it refers to.
-impl<T: Grammar> Grammar for &T {
-    ghost Value = { T.Value };
-
-    ghost value = { λ r. T.value r.now };
-
-    ghost IsValue = { T.IsValue };
-
-    ghost Ber = { T.Ber };
-
-    ghost Der = { T.Der };
-
-    ghost Body = { T.Body };
-
-    ghost Check = { T.Check };
-
-    ghost Form = { T.Form };
-
-    ghost takes_memory = { T.takes_memory };
-}
-
-impl<T: LawfulItem> LawfulItem for &T {
-    ghost ber_values = { T.ber_values };
-
-    ghost der_values = { T.der_values };
-
-    ghost body_values = { T.body_values };
-
-    ghost form_values = { T.form_values };
-
-    ghost ber_one = { T.ber_one };
-
-    ghost der_one = { T.der_one };
-
-    ghost body_one = { T.body_one };
-
-    ghost one_form = { T.one_form };
-
-    ghost one_value = { T.one_value };
-
-    ghost form_fits = { T.form_fits };
-
-    ghost strict_ber = { T.strict_ber };
-
-    ghost strict_der = { T.strict_der };
-}
-
-impl<T: LawfulWrite + Tagged> LawfulWrite for &T {
-    ghost tells_all = { λ r. T.tells_all r.now };
-
-    ghost by_value = { λ q r. T.by_value q.now r.now };
-
-    ghost form = { λ r. T.form r.now };
-}
-
-impl<T: TakesClass<K>, const K: u8> TakesClass<K> for &T {
-    ghost takes_class = { T.takes_class };
-}
-
 impl<'a, T, E: From<Error>> LawfulDer<'a, E> for T
 where
     T: LawfulBody<'a, E> + LawfulAuto,

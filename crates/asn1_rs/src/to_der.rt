@@ -6,7 +6,7 @@ ghost use Rattle.asn1_rs.specs.declared.error.SerializeError.{SerializeError as 
 ghost use Rattle.asn1_rs.specs.declared.error.Error.{Error as Uncounted};
 
 use crate::error::{Error, SerializeError, SerializeResult};
-use crate::traits::{DynTagged, Tagged};
+use crate::traits::DynTagged;
 use crate::writer::{DerWrite, Told};
 use std::alloc::Global;
 
@@ -165,48 +165,5 @@ pub trait ToDer: DynTagged {
             Ok(_) => Ok(w.into_inner()),
             Err(e) => Err(without_io(e)),
         }
-    }
-}
-
-/// A reference is written as what it refers to. Its raw form is the DER form.
-impl<T: ToDer + Tagged> ToDer for &T {
-    ghost tells = { λ r. T.tells r.now };
-
-    ghost is_writable = { λ r. T.is_writable r.now };
-
-    ghost header = { λ r. T.header r.now };
-
-    ghost content = { λ r. T.content r.now };
-
-    ghost constructed = { λ r. T.constructed r.now };
-
-    ghost count_refusal = { λ r. T.count_refusal r.now };
-
-    ghost header_refusal = { λ r. T.header_refusal r.now };
-
-    ghost content_refusal = { λ r. T.content_refusal r.now };
-
-    ghost count_takes_memory = { T.count_takes_memory };
-
-    ghost content_takes_memory = { T.content_takes_memory };
-
-    fn to_der_len(&self) -> Result<usize, Error> {
-        T::to_der_len(*self)
-    }
-
-    fn der_content_len(&self) -> Result<usize, Error> {
-        T::der_content_len(*self)
-    }
-
-    fn der_constructed(&self) -> bool {
-        T::der_constructed(*self)
-    }
-
-    fn write_der_header<W: DerWrite>(&self, alloc: Global, w: &mut W) -> SerializeResult<usize> {
-        T::write_der_header(*self, alloc, w)
-    }
-
-    fn write_der_content<W: DerWrite>(&self, alloc: Global, w: &mut W) -> SerializeResult<usize> {
-        T::write_der_content(*self, alloc, w)
     }
 }
