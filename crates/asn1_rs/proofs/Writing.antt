@@ -8,7 +8,7 @@ use Rattle.std.specs.Io.KnownBytes.{Appends}
 use Rattle.std.specs.Io.{WritesAtMost}
 use Rattle.std.specs.Io.KnownBytes.{WriteAppends}
 use Rattle.std.specs.declared.io.Error.{Error as Failure}
-use Rattle.asn1_rs.specs.Wrote.{Wrote, is_io, SumsWritten, SumsCounts, MayRefuse, MayRefuseCount, PutOnce, PutAnswer, put_fails, Refuses, RefusesCount, RefusesAtOnce, IsRefusedAtOnce, RefusedAtOnce, Either, HasNone, VectorRefuses, WithoutIo, WrittenRefusal, OfClass, written_refusal, tells_of_io}
+use Rattle.asn1_rs.specs.Wrote.{Wrote, is_io, SumsWritten, SumsCounts, MayRefuse, MayRefuseCount, PutOnce, PutAnswer, put_fails, Refuses, RefusesCount, RefusesAtOnce, IsRefusedAtOnce, RefusedAtOnce, Either, some_takes, HasNone, VectorRefuses, WithoutIo, WrittenRefusal, OfClass, written_refusal, tells_of_io}
 use Rattle.std.specs.Prelude.{IsErr}
 use Rattle.asn1_rs.specs.declared.error.Error.{Error}
 use Rattle.asn1_rs.specs.declared.error.Error.TheVariants as faults
@@ -164,6 +164,24 @@ pub refuses_second : (e : SerializeError) (takes gives : Bool) (m n : ℕ) (one 
 refuses_second e takes gives m n one other l (inl h) = inl (MayRefuse_other e takes gives n (MayRefuse_more e gives m n l h))
 refuses_second e takes gives m n one other l (inr o) = inr (inr o)
 
+-- a writing whose own memory is counted too
+pub refuses_wider : (e : SerializeError) (write takes : Bool) (n : ℕ) (own : SerializeError → Type 0) → Refuses takes n own e → Refuses (write || takes) n own e
+refuses_wider e write takes n own (inl m) = inl (MayRefuse_other e write takes n m)
+refuses_wider e write takes n own (inr o) = inr o
+
+-- a header that was refused at once refuses the whole at once
+pub header_at_once : (write takes gives : Bool) (n : ℕ) (one other : SerializeError → Type 0) (old new : Option (List ℕ)) (was is : Bool) (r : Result ℕ SerializeError) → IsRefusedAtOnce takes n one old new was is r → IsRefusedAtOnce (some_takes write takes gives) n (Either one other) old new was is r
+header_at_once write takes gives n one other old new was is r at = (at.0, of at.1, at.2)
+  where
+    of : RefusesAtOnce takes n one at.0 → RefusesAtOnce (some_takes write takes gives) n (Either one other) at.0
+    of (inl m) = inl (MayRefuse_other at.0 write (takes || gives) n (MayRefuse_either at.0 takes gives n m.0), m.1)
+    of (inr o) = inr (inl o)
+
+-- no value has a refusal of neither
+pub neither_own : {E : Type 0} (e : E) → Either (λ _. ⊥) (λ _. ⊥) e → ⊥
+neither_own e (inl o) = o
+neither_own e (inr o) = o
+
 -- what is refused at once is not Ok
 pub not_refused : (takes : Bool) (n : ℕ) (own : SerializeError → Type 0) (old new : Option (List ℕ)) (was is : Bool) (k : ℕ) → IsRefusedAtOnce takes n own old new was is (Ok k) → ⊥
 not_refused takes n own old new was is k r = let e = r.2.refused in cc
@@ -172,14 +190,6 @@ not_refused takes n own old new was is k r = let e = r.2.refused in cc
 pub vector_refuses : (e f : SerializeError) (takes : Bool) (n : ℕ) (own : SerializeError → Type 0) → ((n : ℕ) (takes : Bool) → MayRefuse takes n e → MayRefuse true n f) → WithoutIo e f → Refuses takes n own e → VectorRefuses n own f
 vector_refuses e f takes n own may same (inl m) = inl (may n takes m)
 vector_refuses e f takes n own may same (inr o) = inr (e, o, same)
-
-pub vector_at_once : (e f : SerializeError) (takes : Bool) (n : ℕ) (own : SerializeError → Type 0) (old new : Option (List ℕ)) (was is : Bool) → WithoutIo e f → IsRefusedAtOnce takes n own old new was is (Err e) → (g : SerializeError) × RefusesAtOnce takes n own g × WithoutIo g f
-vector_at_once e f takes n own old new was is same r =
-    let q : r.0 ≡ e = same_error r.0 e r.2.refused in
-    (r.0, r.1, subst (λ (x : SerializeError). WithoutIo x f) (sym q) same)
-  where
-    same_error : (x y : SerializeError) → ◌≡◌ {A = Result ℕ SerializeError} (Err y) (Err x) → x ≡ y
-    same_error x y p = cc
 
 -- how a refused count comes out
 pub written_may : (e : Error) (takes : Bool) (m n : ℕ) → m ≤ n → MayRefuseCount takes m e → MayRefuse takes n (written_refusal e) × (tells_of_io (written_refusal e) ≡ false)
@@ -216,8 +226,8 @@ element_accepted own (Ok k) r none at e o = absurd (false≢true (none e o))
 element_accepted own (Err c) r none at e o = rw at refl
 
 -- a value that was written has no refusals of its own
-pub neither_refuses : (takes : Bool) (n : ℕ) (one other : SerializeError → Type 0) (old new : Option (List ℕ)) (was is : Bool) (k : ℕ) → ((e : SerializeError) → one e → IsRefusedAtOnce takes n one old new was is (Ok k)) → ((e : SerializeError) → other e → IsErr {T = ℕ} {E = SerializeError} (Ok k)) → HasNone (Either one other)
-neither_refuses takes n one other old new was is k a b e (inl o) = not_refused takes n one old new was is k (a e o)
+pub neither_refuses : (takes : Bool) (n : ℕ) (one other : SerializeError → Type 0) (old new : Option (List ℕ)) (was is : Bool) (k : ℕ) → ((e : SerializeError) → one e → IsRefusedAtOnce takes n (Either one other) old new was is (Ok k)) → ((e : SerializeError) → other e → IsErr {T = ℕ} {E = SerializeError} (Ok k)) → HasNone (Either one other)
+neither_refuses takes n one other old new was is k a b e (inl o) = not_refused takes n (Either one other) old new was is k (a e o)
 neither_refuses takes n one other old new was is k a b e (inr o) = false≢true (b e o)
 
 -- the refusals of a value under a tag whose class is one of four

@@ -1,5 +1,5 @@
 -- Elements of any type, as values.
-use Rattle.std.specs.Prelude.{◌≡◌, ℕ, ◌<◌, ◌^◌, List, length}
+use Rattle.std.specs.Prelude.{◌≡◌, ℕ, ◌<◌, ◌^◌, false, List, length}
 use Rattle.x690.specs.Octets.{IsOctets}
 use Rattle.x690.specs.Identifiers.{Identifier}
 use Rattle.x690.specs.Lengths.{definite}
@@ -8,6 +8,7 @@ use Rattle.x690.specs.Strict.{header_octets}
 use Rattle.asn1_rs.specs.Class.{class_number}
 use Rattle.asn1_rs.specs.declared.asn1_types.any.Any.{Any}
 use Rattle.asn1_rs.specs.Header.{identifier_of}
+use Rattle.asn1_rs.specs.Kinds.{ElementGrammar}
 
 -- what an element says, however its length was written
 pub record Element : Type 0 where
@@ -32,6 +33,18 @@ pub record ElementForm (v : Element) (id : Identifier) (content : List ℕ) : Ty
   pub class : id.class < 4
   pub number : id.number < 2 ^ 32
   pub octets : IsOctets content
+
+-- elements of any type, as elements
+abbrev pub any_element : ElementGrammar Any
+any_element = record {
+  Value = Element;
+  value = element_of;
+  IsValue = IsElementValue;
+  Body = ElementBody;
+  Check = ElementCheck;
+  Form = ElementForm;
+  takes_memory = false;
+}
 
 abbrev pub content_of : Any → List ℕ
 content_of a = a.content.now

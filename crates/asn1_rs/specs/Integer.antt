@@ -1,15 +1,15 @@
 -- Integers as elements (X.690 8.3).
-use Rattle.std.specs.Prelude.{◌≡◌, ◌≢◌, ◌⊎◌, ℕ, ℤ, ◌<◌, ◌≤◌, ◌^◌, true, false, List, [], length, get_or, pos, Some, Result, Ok, Err}
+use Rattle.std.specs.Prelude.{◌≡◌, ◌≢◌, ◌⊎◌, ℕ, ℤ, ◌<◌, ◌≤◌, ◌^◌, true, false, List, [], get_or, pos, Some, Result, Ok, Err}
 use Rattle.x690.specs.Digits.{base_256_value, twos_complement_value}
 use Rattle.x690.specs.Identifiers.{Identifier}
 use Rattle.x690.specs.Lengths.{definite, indefinite}
 use Rattle.x690.specs.Elements.{Parts}
-use Rattle.x690.specs.Integers.{HasSpareZeros, HasSpareOnes, IsShortestInteger, IsIntegerContent, unsigned_octets}
-use Rattle.x690.specs.SignedOctets.{IsSigned, signed_octets}
-use Rattle.x690.specs.Strict.{header_octets}
+use Rattle.x690.specs.Integers.{HasSpareZeros, HasSpareOnes, IsShortestInteger, IsIntegerContent}
+use Rattle.x690.specs.SignedOctets.{IsSigned}
 use Rattle.asn1_rs.specs.declared.error.Error.{Error}
 use Rattle.asn1_rs.specs.declared.error.Error.TheVariants.{UnexpectedTag, ConstructUnexpected, IndefiniteLengthUnexpected, IntegerNegative, IntegerTooLarge, DerConstraintFailed}
 use Rattle.asn1_rs.specs.declared.error.DerConstraint.TheVariants.{IntegerEmpty, IntegerLeadingZeroes, IntegerLeadingFF}
+use Rattle.asn1_rs.specs.Kinds.{ElementGrammar}
 use Rattle.asn1_rs.specs.Laws.Forms.{UniversalForm}
 
 -- the number of the tag of integers
@@ -70,9 +70,17 @@ IntegerContent Holds n c = Holds n × IsIntegerContent n c
 abbrev pub IntegerForm : (ℤ → Type 0) → ℤ → Identifier → List ℕ → Type 0
 IntegerForm Holds = UniversalForm false integer_number (IntegerContent Holds)
 
--- the strict header of an integer with these contents octets
-abbrev pub integer_header : List ℕ → List ℕ
-integer_header content = header_octets 0 false integer_number (length content)
+-- integers of a type that holds these, as elements
+abbrev pub integer_element : {S : Type 0} → (S → ℤ) → (ℤ → Type 0) → ElementGrammar S
+integer_element number Holds = record {
+  Value = ℤ;
+  value = number;
+  IsValue = Holds;
+  Body = IntegerBody Holds;
+  Check = IntegerCheck;
+  Form = IntegerForm Holds;
+  takes_memory = false;
+}
 
 -- the natural numbers of so many octets
 abbrev pub IsUnsigned : ℕ → ℤ → Type 0
@@ -88,10 +96,6 @@ UnsignedRefuses size content _ = ⊥
 abbrev pub UnsignedGives : ℕ → Parts → Result ℕ Error → Type 0
 UnsignedGives size = IntegerGives pos (IsUnsigned size) (UnsignedRefuses size)
 
--- the strict header of the element of a natural number
-abbrev pub unsigned_header : ℕ → List ℕ
-unsigned_header v = integer_header (unsigned_octets v)
-
 -- a number that so many octets do not hold is too large
 abbrev pub SignedRefuses : ℕ → List ℕ → Error → Type 0
 SignedRefuses size content e = (¬ IsSigned size (twos_complement_value content)) × (e ≡ IntegerTooLarge)
@@ -99,7 +103,3 @@ SignedRefuses size content e = (¬ IsSigned size (twos_complement_value content)
 -- what the conversion to an integer of so many octets may answer
 abbrev pub SignedGives : ℕ → Parts → Result ℤ Error → Type 0
 SignedGives size = IntegerGives (λ n. n) (IsSigned size) (SignedRefuses size)
-
--- the strict header of the element of an integer
-abbrev pub signed_header : ℤ → List ℕ
-signed_header n = integer_header (signed_octets n)

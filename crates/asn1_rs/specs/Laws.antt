@@ -4,13 +4,13 @@ pub mod Words
 pub mod Forms
 pub mod Any
 pub mod Element
+pub mod Kinds
 pub mod Integer
 pub mod Unsigned
 pub mod Signed
 pub mod ElementWriting
 pub mod Items
 pub mod Lists
-pub mod Tagged
 pub mod Ascend
 pub mod Arranged
 pub mod Zips

@@ -11,9 +11,10 @@ pub mod Answers
 pub mod Form
 pub mod Grammar
 pub mod Integer
+pub mod Kinds
+pub mod Written
 pub mod Laws
 pub mod Element
 pub mod Items
 pub mod Lists
-pub mod Tagged
 pub mod Sets

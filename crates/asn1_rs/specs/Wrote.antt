@@ -63,6 +63,10 @@ MayRefuseCount takes_memory n faults.InvalidLength = 2 ^ 64 ≤ n
 MayRefuseCount takes_memory n faults.OutOfMemory = IsTrue takes_memory
 MayRefuseCount takes_memory n _ = ⊥
 
+-- writing takes memory of its own, or where it counts, or for the contents octets
+abbrev pub some_takes : Bool → Bool → Bool → Bool
+some_takes write count content = write || (count || content)
+
 -- a refusal that one of the two has
 abbrev pub Either : {E : Type 0} → (E → Type 0) → (E → Type 0) → E → Type 0
 Either one other e = one e ⊎ other e

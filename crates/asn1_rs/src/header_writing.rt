@@ -133,6 +133,8 @@ impl ToDer for (Class, bool, Tag) {
 
     ghost content_takes_memory = { false };
 
+    ghost write_takes_memory = { false };
+
     fn to_der_len(&self) -> Result<usize, Error>
         ensures { result ≡ Ok (length (identifier_octets (parts_identifier self.now))) }
     {
@@ -180,6 +182,8 @@ impl ToDer for Header<'_> {
     ghost count_takes_memory = { false };
 
     ghost content_takes_memory = { false };
+
+    ghost write_takes_memory = { false };
 
     fn to_der_len(&self) -> Result<usize, Error>
         ensures count { IfOk result (λ n. n ≡ length (strict_header self.now ++ [])) }

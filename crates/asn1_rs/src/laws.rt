@@ -20,7 +20,7 @@ ghost use Rattle.asn1_rs.specs.declared.error.SerializeError.TheVariants as refu
 ghost use Rattle.asn1_rs.specs.Answers.{seen, Exactly, TellsMemory, ReadsBack};
 ghost use Rattle.asn1_rs.specs.Form.{IsOneForm, IsOneValue, FitsElement, HasValues, IsStrict};
 ghost use Rattle.asn1_rs.specs.Grammar.{max_depth, NoCheck, PassesAll, IsOneFront, IsOneBody, BerWord, DerWord, TakesBody, Checks, FormChecks, FormBodies, FormTakes, EndsWithin, BerGives, DerGives};
-ghost use Rattle.asn1_rs.specs.Wrote.{Wrote, MayRefuse, IsWritable};
+ghost use Rattle.asn1_rs.specs.Wrote.{Wrote, MayRefuse, IsWritable, some_takes};
 ghost use Rattle.asn1_rs.specs.declared.header.Header.{Header as Head};
 ghost use Rattle.asn1_rs.specs.declared.asn1_types.any.Any.{Any as Element};
 ghost use Rattle.asn1_rs.specs.Header.{refusal_of, HeaderGives};
@@ -177,67 +177,6 @@ pub trait LawfulMember: LawfulItem + Eq {
     ghost same: { (x y : Self) → IsTrue (Self.eq x y) ↔ (Self.value x ≡ Self.value y) };
 }
 
-/// A reference has the values and grammars of what it refers to.
-impl<T: Grammar> Grammar for &T {
-    ghost Value = { T.Value };
-
-    ghost value = { λ r. T.value r.now };
-
-    ghost IsValue = { T.IsValue };
-
-    ghost Ber = { T.Ber };
-
-    ghost Der = { T.Der };
-
-    ghost Body = { T.Body };
-
-    ghost Check = { T.Check };
-
-    ghost Form = { T.Form };
-
-    ghost takes_memory = { T.takes_memory };
-}
-
-impl<T: LawfulItem> LawfulItem for &T {
-    ghost ber_values = { T.ber_values };
-
-    ghost der_values = { T.der_values };
-
-    ghost body_values = { T.body_values };
-
-    ghost form_values = { T.form_values };
-
-    ghost ber_one = { T.ber_one };
-
-    ghost der_one = { T.der_one };
-
-    ghost body_one = { T.body_one };
-
-    ghost one_form = { T.one_form };
-
-    ghost one_value = { T.one_value };
-
-    ghost form_fits = { T.form_fits };
-
-    ghost form_check = { T.form_check };
-
-    ghost strict_ber = { T.strict_ber };
-
-    ghost strict_der = { T.strict_der };
-}
-
-impl<T: LawfulWrite + Tagged> LawfulWrite for &T {
-    ghost tells_all = { λ r. T.tells_all r.now };
-
-    ghost by_value = { λ q r. T.by_value q.now r.now };
-
-    ghost form = { λ r. T.form r.now };
-}
-
-impl<T: TakesClass<K>, const K: u8> TakesClass<K> for &T {
-    ghost takes_class = { T.takes_class };
-}
-
 impl<'a, T, E: From<Error>> LawfulDer<'a, E> for T
 where
     T: LawfulBody<'a, E> + LawfulAuto,
@@ -293,11 +232,11 @@ pub fn write_strict<T: LawfulWrite, W: DerWrite>(
 ) -> SerializeResult<usize>
     ensures wrote { (o : List ℕ) → IsStrict T.Form (T.value x.now) o → Wrote o (W.told w.old) (W.told w.new) (W.failed w.old) (W.failed w.new) result }
     ensures plain { Wrote (T.header x.now ++ T.content x.now) (W.told w.old) (W.told w.new) (W.failed w.old) (W.failed w.new) result }
-    ensures refused { (o : List ℕ) → IsStrict T.Form (T.value x.now) o → IfErr result (MayRefuse (T.count_takes_memory || T.content_takes_memory) (length o)) }
+    ensures refused { (o : List ℕ) → IsStrict T.Form (T.value x.now) o → IfErr result (MayRefuse (some_takes T.write_takes_memory T.count_takes_memory T.content_takes_memory) (length o)) }
     ensures one { (o p : List ℕ) → IsStrict T.Form (T.value x.now) o → IsStrict T.Form (T.value x.now) p → o ≡ p }
     ensures apart { (o p r s : List ℕ) (v w : T.Value) → IsStrict T.Form v o → IsStrict T.Form w p → o ++ r ≡ p ++ s → (o ≡ p) × (v ≡ w) × (r ≡ s) }
     ensures headline { (o : List ℕ) → IsStrict T.Form (T.value x.now) o → length o < 2 ^ 64 → W.failed w.new ≡ false →
-        MatchResult result (λ n. Appends (W.told w.old) (W.told w.new) o × (n ≡ length o)) (λ e. (e ≡ refusals.OutOfMemory) × IsTrue (T.count_takes_memory || T.content_takes_memory)) }
+        MatchResult result (λ n. Appends (W.told w.old) (W.told w.new) o × (n ≡ length o)) (λ e. (e ≡ refusals.OutOfMemory) × IsTrue (some_takes T.write_takes_memory T.count_takes_memory T.content_takes_memory)) }
 {
     x.write_der(alloc, w)
 }

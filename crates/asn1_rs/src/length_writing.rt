@@ -61,6 +61,8 @@ impl ToDer for Length {
 
     ghost content_takes_memory = { false };
 
+    ghost write_takes_memory = { false };
+
     fn to_der_len(&self) -> Result<usize, Error>
         ensures { result ≡ Ok (length (length_form_octets (form_of self.now))) }
     {

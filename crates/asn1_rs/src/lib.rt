@@ -8,6 +8,8 @@ pub mod error;
 mod header;
 mod header_reading;
 mod header_writing;
+mod kinds;
+mod kinds_writing;
 mod laws;
 mod length;
 mod length_writing;
@@ -29,6 +31,8 @@ pub use error::{
     from_nom_error,
 };
 pub use header::Header;
+pub use kinds::{ElementKind, HasKind, LawfulConversion, LawfulElement};
+pub use kinds_writing::WritesPrimitive;
 pub use laws::{
     Grammar, LawfulAuto, LawfulBer, LawfulBody, LawfulCheck, LawfulDer, LawfulItem, LawfulMember,
     LawfulWrite, TakesClass, answers_last, any_is_the_element, beginnings_are_incomplete,

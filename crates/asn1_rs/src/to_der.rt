@@ -1,12 +1,12 @@
 //! The trait of values that are written by DER.
 ghost use Rattle.std.specs.Prelude.{◌≡◌, ◌++◌, ◌||◌, ℕ, Bool, true, false, List, [], length, IfOk, IfErr, IsErr};
 ghost use Rattle.std.specs.Io.KnownBytes.{Appends};
-ghost use Rattle.asn1_rs.specs.Wrote.{Wrote, MayRefuse, Refuses, RefusesCount, RefusesAtOnce, VectorRefuses, WithoutIo, Either, IsRefusedAtOnce, SumsWritten, SumsCounts, written_refusal, tells_of_io};
+ghost use Rattle.asn1_rs.specs.Wrote.{Wrote, MayRefuse, Refuses, RefusesCount, VectorRefuses, Either, IsRefusedAtOnce, SumsWritten, SumsCounts, some_takes, written_refusal, tells_of_io};
 ghost use Rattle.asn1_rs.specs.declared.error.SerializeError.{SerializeError as Unwritten};
 ghost use Rattle.asn1_rs.specs.declared.error.Error.{Error as Uncounted};
 
 use crate::error::{Error, SerializeError, SerializeResult};
-use crate::traits::{DynTagged, Tagged};
+use crate::traits::DynTagged;
 use crate::writer::{DerWrite, Told};
 use std::alloc::Global;
 
@@ -51,8 +51,8 @@ pub(crate) fn without_io(e: SerializeError) -> SerializeError
 
 /// A value that is written by DER.
 ///
-/// The ghost members tell what is written for a value. A type that leaves them out is written all the same, and
-/// nothing is claimed of it.
+/// The ghost members tell what is written for a value, and what refuses it. A type that leaves them out is written all
+/// the same, and nothing is claimed of it.
 pub trait ToDer: DynTagged {
     /// The other members tell what is written for this value.
     ghost tells: { Self → Type 0 } = { λ _. ⊥ };
@@ -66,14 +66,15 @@ pub trait ToDer: DynTagged {
     /// The constructed bit of its encoding.
     ghost constructed: { Self → Bool } = { λ _. false };
 
-    /// The refusals of its counts that are its own: neither its length nor want of memory. A value that has one is not
-    /// counted.
+    /// The refusals of its counts that are its own: neither its length nor want of memory. A value that has one is
+    /// neither counted nor written.
     ghost count_refuses: { Self → Uncounted → Type 0 } = { λ _ _. ⊥ };
 
-    /// The refusals of its header that are its own, and so of the whole. Where it has one nothing is appended.
+    /// The refusals of its header that are its own. A value that has one is not written, and nothing is appended.
     ghost header_refuses: { Self → Unwritten → Type 0 } = { λ _ _. ⊥ };
 
-    /// The refusals of its contents octets that are its own. Where it has one a beginning of them may be appended.
+    /// The refusals of its contents octets that are its own. A value that has one is not written; a beginning of its
+    /// encoding may be appended.
     ghost content_refuses: { Self → Unwritten → Type 0 } = { λ _ _. ⊥ };
 
     /// The raw form is the DER form.
@@ -85,16 +86,24 @@ pub trait ToDer: DynTagged {
     /// Writing the contents octets may take memory.
     ghost content_takes_memory: { Bool } = { true };
 
+    /// Writing the whole may take memory of its own, beside that of header and contents.
+    ghost write_takes_memory: { Bool } = { true };
+
     /// How many octets `write_der` appends.
     fn to_der_len(&self) -> Result<usize, Error>
-        ensures count { tells self.now → IfOk result (λ n. n ≡ length (header self.now ++ content self.now)) }
-        ensures refused { tells self.now → IfErr result (RefusesCount count_takes_memory (length (header self.now ++ content self.now)) (count_refuses self.now)) }
+        ensures count { tells self.now →
+            IfOk result (λ n. n ≡ length (header self.now ++ content self.now)) }
+        ensures refused { tells self.now →
+            IfErr result (RefusesCount count_takes_memory
+                (length (header self.now ++ content self.now)) (count_refuses self.now)) }
         ensures accepted { (e : Uncounted) → tells self.now → count_refuses self.now e → IsErr result };
 
     /// How many contents octets are appended.
     fn der_content_len(&self) -> Result<usize, Error>
         ensures count { tells self.now → IfOk result (λ n. n ≡ length (content self.now)) }
-        ensures refused { tells self.now → IfErr result (RefusesCount count_takes_memory (length (content self.now)) (count_refuses self.now)) }
+        ensures refused { tells self.now →
+            IfErr result (RefusesCount count_takes_memory
+                (length (content self.now)) (count_refuses self.now)) }
         ensures accepted { (e : Uncounted) → tells self.now → count_refuses self.now e → IsErr result };
 
     /// The constructed bit of the encoding. Most types answer whether their tag is that of sequence or set.
@@ -103,25 +112,45 @@ pub trait ToDer: DynTagged {
 
     /// Appends the identifier octets and the length octets, and answers their number.
     fn write_der_header<W: DerWrite>(&self, alloc: Global, w: &mut W) -> SerializeResult<usize>
-        ensures wrote { tells self.now → Wrote (header self.now) (W.told w.old) (W.told w.new) (W.failed w.old) (W.failed w.new) result }
-        ensures refused { tells self.now → IfErr result (Refuses count_takes_memory (length (header self.now ++ content self.now)) (header_refuses self.now)) }
-        ensures at_once { (e : Unwritten) → tells self.now → header_refuses self.now e → IsRefusedAtOnce count_takes_memory (length (header self.now ++ content self.now)) (header_refuses self.now) (W.told w.old) (W.told w.new) (W.failed w.old) (W.failed w.new) result };
+        ensures wrote { tells self.now →
+            Wrote (header self.now) (W.told w.old) (W.told w.new) (W.failed w.old) (W.failed w.new) result }
+        ensures refused { tells self.now →
+            IfErr result (Refuses count_takes_memory
+                (length (header self.now ++ content self.now)) (header_refuses self.now)) }
+        ensures at_once { (e : Unwritten) → tells self.now → header_refuses self.now e →
+            IsRefusedAtOnce count_takes_memory
+                (length (header self.now ++ content self.now)) (header_refuses self.now)
+                (W.told w.old) (W.told w.new) (W.failed w.old) (W.failed w.new) result };
 
     /// Appends the contents octets, and answers their number.
     fn write_der_content<W: DerWrite>(&self, alloc: Global, w: &mut W) -> SerializeResult<usize>
-        ensures wrote { tells self.now → Wrote (content self.now) (W.told w.old) (W.told w.new) (W.failed w.old) (W.failed w.new) result }
-        ensures refused { tells self.now → IfErr result (Refuses content_takes_memory (length (content self.now)) (content_refuses self.now)) }
-        ensures accepted { (e : Unwritten) → tells self.now → content_refuses self.now e → IsErr result };
+        ensures wrote { tells self.now →
+            Wrote (content self.now) (W.told w.old) (W.told w.new) (W.failed w.old) (W.failed w.new) result }
+        ensures refused { tells self.now →
+            IfErr result (Refuses content_takes_memory
+                (length (content self.now)) (content_refuses self.now)) }
+        ensures accepted { (e : Unwritten) → tells self.now → content_refuses self.now e → IsErr result }
+        ensures uncounted { (e : Uncounted) → tells self.now → count_refuses self.now e → IsErr result };
 
     /// Appends the encoding, and answers its length.
     ///
     /// Refused with `IOError` only where the writer failed, or was marked before; with `InvalidLength` only where the
-    /// length passes `usize`. After a refusal a beginning of the encoding was appended.
+    /// length passes `usize`, or the value itself is so refused. After a refusal a beginning of the encoding was appended.
     fn write_der<W: DerWrite>(&self, alloc: Global, w: &mut W) -> SerializeResult<usize>
-        ensures wrote { tells self.now → Wrote (header self.now ++ content self.now) (W.told w.old) (W.told w.new) (W.failed w.old) (W.failed w.new) result }
-        ensures refused { tells self.now → IfErr result (Refuses (count_takes_memory || content_takes_memory) (length (header self.now ++ content self.now)) (Either (header_refuses self.now) (content_refuses self.now))) }
+        ensures wrote { tells self.now →
+            Wrote (header self.now ++ content self.now)
+                (W.told w.old) (W.told w.new) (W.failed w.old) (W.failed w.new) result }
+        ensures refused { tells self.now →
+            IfErr result (Refuses (some_takes write_takes_memory count_takes_memory content_takes_memory)
+                (length (header self.now ++ content self.now))
+                (Either (header_refuses self.now) (content_refuses self.now))) }
         ensures accepted { (e : Unwritten) → tells self.now → content_refuses self.now e → IsErr result }
-        ensures at_once { (e : Unwritten) → tells self.now → header_refuses self.now e → IsRefusedAtOnce count_takes_memory (length (header self.now ++ content self.now)) (header_refuses self.now) (W.told w.old) (W.told w.new) (W.failed w.old) (W.failed w.new) result }
+        ensures uncounted { (e : Uncounted) → tells self.now → count_refuses self.now e → IsErr result }
+        ensures at_once { (e : Unwritten) → tells self.now → header_refuses self.now e →
+            IsRefusedAtOnce (some_takes write_takes_memory count_takes_memory content_takes_memory)
+                (length (header self.now ++ content self.now))
+                (Either (header_refuses self.now) (content_refuses self.now))
+                (W.told w.old) (W.told w.new) (W.failed w.old) (W.failed w.new) result }
     {
         let before = self.write_der_header(alloc, w)?;
         let after = self.write_der_content(alloc, w)?;
@@ -130,22 +159,40 @@ pub trait ToDer: DynTagged {
 
     /// Appends the encoding as it was read, where the type keeps that; else as `write_der`.
     fn write_der_raw<W: DerWrite>(&self, alloc: Global, w: &mut W) -> SerializeResult<usize>
-        ensures der { tells self.now → raw_is_der self.now → Wrote (header self.now ++ content self.now) (W.told w.old) (W.told w.new) (W.failed w.old) (W.failed w.new) result }
-        ensures refused { tells self.now → raw_is_der self.now → IfErr result (Refuses (count_takes_memory || content_takes_memory) (length (header self.now ++ content self.now)) (Either (header_refuses self.now) (content_refuses self.now))) }
-        ensures accepted { (e : Unwritten) → tells self.now → raw_is_der self.now → content_refuses self.now e → IsErr result }
-        ensures counted { tells self.now → IfOk result (λ n. (raw : List ℕ) × Appends (W.told w.old) (W.told w.new) raw × (n ≡ length raw)) }
-        ensures at_once { (e : Unwritten) → tells self.now → raw_is_der self.now → header_refuses self.now e → IsRefusedAtOnce count_takes_memory (length (header self.now ++ content self.now)) (header_refuses self.now) (W.told w.old) (W.told w.new) (W.failed w.old) (W.failed w.new) result }
+        ensures der { tells self.now → raw_is_der self.now →
+            Wrote (header self.now ++ content self.now)
+                (W.told w.old) (W.told w.new) (W.failed w.old) (W.failed w.new) result }
+        ensures refused { tells self.now → raw_is_der self.now →
+            IfErr result (Refuses (some_takes write_takes_memory count_takes_memory content_takes_memory)
+                (length (header self.now ++ content self.now))
+                (Either (header_refuses self.now) (content_refuses self.now))) }
+        ensures accepted { (e : Unwritten) → tells self.now → raw_is_der self.now →
+            content_refuses self.now e → IsErr result }
+        ensures uncounted { (e : Uncounted) → tells self.now → raw_is_der self.now →
+            count_refuses self.now e → IsErr result }
+        ensures at_once { (e : Unwritten) → tells self.now → raw_is_der self.now →
+            header_refuses self.now e →
+            IsRefusedAtOnce (some_takes write_takes_memory count_takes_memory content_takes_memory)
+                (length (header self.now ++ content self.now))
+                (Either (header_refuses self.now) (content_refuses self.now))
+                (W.told w.old) (W.told w.new) (W.failed w.old) (W.failed w.new) result }
+        ensures counted { tells self.now →
+            IfOk result (λ n. (raw : List ℕ) × Appends (W.told w.old) (W.told w.new) raw × (n ≡ length raw)) }
     {
         self.write_der(alloc, w)
     }
 
     /// The encoding in a vector. Want of memory is `OutOfMemory`, and never an `IOError`.
     fn to_der_vec(&self, alloc: Global) -> SerializeResult<Vec<u8>>
-        ensures wrote { tells self.now → IfOk result (λ octets. octets.items ≡ header self.now ++ content self.now) }
-        ensures refused { tells self.now → IfErr result (VectorRefuses (length (header self.now ++ content self.now)) (Either (header_refuses self.now) (content_refuses self.now))) }
-        ensures accepted { (e : Unwritten) → tells self.now → content_refuses self.now e → IsErr result }
+        ensures wrote { tells self.now →
+            IfOk result (λ octets. octets.items ≡ header self.now ++ content self.now) }
+        ensures refused { tells self.now →
+            IfErr result (VectorRefuses (length (header self.now ++ content self.now))
+                (Either (header_refuses self.now) (content_refuses self.now))) }
+        ensures accepted { (e : Unwritten) → tells self.now →
+            Either (header_refuses self.now) (content_refuses self.now) e → IsErr result }
+        ensures uncounted { (e : Uncounted) → tells self.now → count_refuses self.now e → IsErr result }
         ensures memory { IfErr result (λ e. tells_of_io e ≡ false) }
-        ensures at_once { (e : Unwritten) → tells self.now → header_refuses self.now e → IsErr result × IfErr result (λ f. (g : Unwritten) × RefusesAtOnce count_takes_memory (length (header self.now ++ content self.now)) (header_refuses self.now) g × WithoutIo g f) }
     {
         let mut w = Told::new(Vec::new(alloc));
         match self.write_der(alloc, &mut w) {
@@ -156,57 +203,21 @@ pub trait ToDer: DynTagged {
 
     /// The raw form in a vector.
     fn to_der_vec_raw(&self, alloc: Global) -> SerializeResult<Vec<u8>>
-        ensures der { tells self.now → raw_is_der self.now → IfOk result (λ octets. octets.items ≡ header self.now ++ content self.now) }
-        ensures refused { tells self.now → raw_is_der self.now → IfErr result (VectorRefuses (length (header self.now ++ content self.now)) (Either (header_refuses self.now) (content_refuses self.now))) }
-        ensures accepted { (e : Unwritten) → tells self.now → raw_is_der self.now → content_refuses self.now e → IsErr result }
+        ensures der { tells self.now → raw_is_der self.now →
+            IfOk result (λ octets. octets.items ≡ header self.now ++ content self.now) }
+        ensures refused { tells self.now → raw_is_der self.now →
+            IfErr result (VectorRefuses (length (header self.now ++ content self.now))
+                (Either (header_refuses self.now) (content_refuses self.now))) }
+        ensures accepted { (e : Unwritten) → tells self.now → raw_is_der self.now →
+            Either (header_refuses self.now) (content_refuses self.now) e → IsErr result }
+        ensures uncounted { (e : Uncounted) → tells self.now → raw_is_der self.now →
+            count_refuses self.now e → IsErr result }
         ensures memory { IfErr result (λ e. tells_of_io e ≡ false) }
-        ensures at_once { (e : Unwritten) → tells self.now → raw_is_der self.now → header_refuses self.now e → IsErr result × IfErr result (λ f. (g : Unwritten) × RefusesAtOnce count_takes_memory (length (header self.now ++ content self.now)) (header_refuses self.now) g × WithoutIo g f) }
     {
         let mut w = Told::new(Vec::new(alloc));
         match self.write_der_raw(alloc, &mut w) {
             Ok(_) => Ok(w.into_inner()),
             Err(e) => Err(without_io(e)),
         }
-    }
-}
-
-/// A reference is written as what it refers to. Its raw form is the DER form.
-impl<T: ToDer + Tagged> ToDer for &T {
-    ghost tells = { λ r. T.tells r.now };
-
-    ghost header = { λ r. T.header r.now };
-
-    ghost content = { λ r. T.content r.now };
-
-    ghost constructed = { λ r. T.constructed r.now };
-
-    ghost count_refuses = { λ r. T.count_refuses r.now };
-
-    ghost header_refuses = { λ r. T.header_refuses r.now };
-
-    ghost content_refuses = { λ r. T.content_refuses r.now };
-
-    ghost count_takes_memory = { T.count_takes_memory };
-
-    ghost content_takes_memory = { T.content_takes_memory };
-
-    fn to_der_len(&self) -> Result<usize, Error> {
-        T::to_der_len(*self)
-    }
-
-    fn der_content_len(&self) -> Result<usize, Error> {
-        T::der_content_len(*self)
-    }
-
-    fn der_constructed(&self) -> bool {
-        T::der_constructed(*self)
-    }
-
-    fn write_der_header<W: DerWrite>(&self, alloc: Global, w: &mut W) -> SerializeResult<usize> {
-        T::write_der_header(*self, alloc, w)
-    }
-
-    fn write_der_content<W: DerWrite>(&self, alloc: Global, w: &mut W) -> SerializeResult<usize> {
-        T::write_der_content(*self, alloc, w)
     }
 }

@@ -23,9 +23,9 @@ use Rattle.asn1_rs.specs.Form.{IsOneForm}
 use Rattle.asn1_rs.specs.Wrote.{MayRefuse, tells_of_io}
 use Rattle.asn1_rs.specs.Grammar.{max_depth, IsOneFront, IsOneBody, NoCheck, PassesAll, BerWord, DerWord, BerGives, DerGives, EndsWithin}
 use Rattle.asn1_rs.specs.Integer.{IntegerCheck, IntegerCheckGives, IntegerBody, IntegerForm, IntegerGives, IsUnsigned, UnsignedRefuses, SignedRefuses}
-use Rattle.asn1_rs.specs.Laws.Element.{element_body_one, element_one_form, element_check_exact}
+use Rattle.asn1_rs.specs.Laws.Element.{element_lawful, element_check_exact}
 use Rattle.asn1_rs.specs.Laws.Elements.{none_now, der_elements, ber_elements}
-use Rattle.asn1_rs.specs.Laws.Integer.{one_integer_check_refusal, integer_check_exact, one_integer_refusal, integer_one_body, integer_one_form}
+use Rattle.asn1_rs.specs.Laws.Integer.{one_integer_check_refusal, integer_check_exact, one_integer_refusal, integer_lawful}
 use Rattle.x690.specs.SignedOctets.{IsSigned}
 use Rattle.asn1_rs.specs.Laws.Unsigned.{one_unsigned_refusal}
 use Rattle.asn1_rs.specs.Laws.Signed.{one_signed_refusal}
@@ -128,7 +128,7 @@ module _ {T V : Type 0} (check : Parts → Result (Unit {0}) Error → Type 0) (
 integer_once : {T : Type 0} (number : T → ℤ) (Holds : ℤ → Type 0) (refuses : List ℕ → Error → Type 0) → ((c : List ℕ) (e f : Error) → refuses c e → refuses c f → e ≡ f) →
     (rule : Rule) (octets text other : List ℕ) → IsIntegerAnswer number Holds refuses rule octets text → IsIntegerAnswer number Holds refuses rule octets other → text ≡ other
 integer_once number Holds refuses one = item_once IntegerCheckGives (IntegerGives number Holds refuses) IntegerCheck (IntegerBody Holds) number signed_decimal (IntegerForm Holds)
-    one_integer_check_refusal (λ p e h k. integer_check_exact p (Err e) k h) (one_integer_refusal refuses one) (integer_one_body Holds) (integer_one_form Holds)
+    one_integer_check_refusal (λ p e h k. integer_check_exact p (Err e) k h) (one_integer_refusal refuses one) (integer_lawful Holds number).body_one (integer_lawful Holds number).one_form
 
 unsigned_once : (size : ℕ) (rule : Rule) (octets text other : List ℕ) → IsUnsignedAnswer size rule octets text → IsUnsignedAnswer size rule octets other → text ≡ other
 unsigned_once size = integer_once pos (IsUnsigned size) (UnsignedRefuses size) (one_unsigned_refusal size)
@@ -141,7 +141,7 @@ one_element_check_refusal p e f h k = h.1 ∙ sym k.1
 
 element_once : (rule : Rule) (octets text other : List ℕ) → IsElementAnswer rule octets text → IsElementAnswer rule octets other → text ≡ other
 element_once = item_once IsDefiniteOr IsTheElement ElementCheck ElementBody element_of element_text ElementForm
-    one_element_check_refusal (λ p e h k. element_check_exact p (Err e) k h) (λ p e f h k. absurd h) element_body_one element_one_form
+    one_element_check_refusal (λ p e h k. element_check_exact p (Err e) k h) (λ p e f h k. absurd h) element_lawful.body_one element_lawful.one_form
 
 type_once : (rule : Rule) (t : TypeName) (octets text other : List ℕ) → IsTypeAnswer rule t octets text → IsTypeAnswer rule t octets other → text ≡ other
 type_once rule U8 octets text other a b = unsigned_once 1 rule octets text other a b

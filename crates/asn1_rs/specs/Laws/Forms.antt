@@ -1,12 +1,14 @@
 -- Strict parts, and what is written.
-use Rattle.std.specs.Prelude.{◌≡◌, ℕ, ◌<◌, Bool, List, ◌++◌, length}
-use Rattle.std.proofs.Common.{sym, ap, ◌∙◌, arith}
+use Rattle.std.specs.Prelude.{◌≡◌, ℕ, ◌<◌, Bool, false, List, ◌++◌, length}
+use Rattle.std.proofs.Common.{sym, ap, refl, ◌∙◌, arith}
 use Rattle.x690.specs.Octets.{IsOctets}
 use Rattle.x690.specs.Identifiers.{Identifier}
 use Rattle.x690.specs.Strict.{header_octets}
 use Rattle.x690.specs.Laws.StrictElements.{strict_element_octets}
 use Rattle.asn1_rs.specs.Wrote.{IsWritable}
 use Rattle.asn1_rs.specs.Form.{IsOneForm, IsOneValue, FitsElement, IsStrict}
+use Rattle.asn1_rs.specs.Grammar.{FormTakes}
+use Rattle.asn1_rs.specs.Kinds.{ElementGrammar}
 
 -- the identifier of a universal type
 abbrev pub universal : Bool → ℕ → Identifier
@@ -56,3 +58,19 @@ NothingRefused = IsWritable (λ _. ⊥) (λ _. ⊥) (λ _. ⊥)
 
 pub nothing_refused : NothingRefused
 nothing_refused = (λ e h. h, λ e h. h, λ e h. h)
+
+-- The contents octets of a primitive element follow from the value. Where it has strict parts, they are its content, and the identifier is the one of the universal class with this number; under any class they meet the check and have the value all the same.
+pub record IsPrimitiveElement {S : Type 0} (G : ElementGrammar S) (number : ℕ) (octets : S → List ℕ) : Type 0 where
+  pub by_value : (x y : S) → G.value x ≡ G.value y → octets x ≡ octets y
+  pub form : (x : S) (i : Identifier) (c : List ℕ) → G.Form (G.value x) i c → (i ≡ universal false number) × (octets x ≡ c)
+  pub class : (k : ℕ) → FormTakes G.Form G.Check G.Body k number
+
+-- so what is written of such an element is lawful
+module _ {S : Type 0} (G : ElementGrammar S) (number : ℕ) (octets : S → List ℕ) (primitive : IsPrimitiveElement G number octets) where
+  pub primitive_by_value : WritesByValue G.value (λ x. false) (λ x. header_octets 0 false number (length (octets x))) octets
+  primitive_by_value = λ x y e. let s = primitive.by_value x y e in (refl, ap (λ (c : List ℕ). header_octets 0 false number (length c)) s, s)
+
+  pub primitive_writes_form : WritesForm G.value G.Form (λ x. NothingRefused) (λ x. false) (λ x. header_octets 0 false number (length (octets x))) octets
+  primitive_writes_form = λ x i c f.
+      let s = primitive.form x i c f in
+      (nothing_refused, sym (ap (λ (z : Identifier). z.constructed) s.0), s.1, ap (λ (d : List ℕ). header_octets 0 false number (length d)) s.1 ∙ ap (λ (z : Identifier). header_of z c) (sym s.0))

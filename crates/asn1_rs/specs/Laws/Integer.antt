@@ -5,19 +5,17 @@ use Rattle.x690.specs.Octets.{IsOctets}
 use Rattle.x690.specs.Digits.{twos_complement_value}
 use Rattle.x690.specs.Identifiers.{Identifier}
 use Rattle.x690.specs.Lengths.{LengthForm, definite, indefinite}
-use Rattle.x690.specs.Elements.{Parts, IsDefiniteElement}
-use Rattle.x690.specs.Nested.{IsElement}
+use Rattle.x690.specs.Elements.{Parts}
 use Rattle.x690.specs.Integers.{HasSpareZeros, HasSpareOnes, IsIntegerContent}
 use Rattle.x690.specs.Laws.Integers.{integer_content_unique, integer_content_one_value}
 use Rattle.asn1_rs.specs.declared.error.Error.{Error}
 use Rattle.asn1_rs.specs.declared.error.Error.TheVariants.{ConstructUnexpected, IndefiniteLengthUnexpected, DerConstraintFailed}
 use Rattle.asn1_rs.specs.declared.error.DerConstraint.TheVariants.{IntegerEmpty, IntegerLeadingZeroes, IntegerLeadingFF}
-use Rattle.asn1_rs.specs.Form.{IsOneForm, IsOneValue, FitsElement, IsStrict}
-use Rattle.asn1_rs.specs.Grammar.{IsOneFront, IsOneBody, BerWord, DerWord, NoCheck, TakesBody, Checks, FormChecks, FormBodies, FormTakes, made, of_class, max_depth}
-use Rattle.asn1_rs.specs.Laws.Elements.{der_elements, ber_elements}
-use Rattle.asn1_rs.specs.Laws.Words.{word_one, strict_ber_word, strict_der_word}
-use Rattle.asn1_rs.specs.Laws.Forms.{NothingRefused, nothing_refused, WritesByValue, WritesForm, header_of, universal_one, universal_value, universal_fits}
-use Rattle.asn1_rs.specs.Integer.{integer_number, IntegerCheck, IntegerCheckRefuses, IntegerCheckGives, IsIntegerOr, IntegerBody, IntegerRefuses, IntegerGives, IntegerContent, IntegerForm, integer_header}
+use Rattle.asn1_rs.specs.Form.{IsOneForm, IsOneValue, FitsElement}
+use Rattle.asn1_rs.specs.Grammar.{TakesBody, Checks, FormChecks, FormBodies, FormTakes, made, of_class}
+use Rattle.asn1_rs.specs.Kinds.{IsLawfulElement}
+use Rattle.asn1_rs.specs.Laws.Forms.{IsPrimitiveElement, universal_one, universal_value, universal_fits}
+use Rattle.asn1_rs.specs.Integer.{integer_number, IntegerCheck, IntegerCheckRefuses, IntegerCheckGives, IsIntegerOr, IntegerBody, IntegerRefuses, IntegerGives, IntegerContent, IntegerForm, integer_element}
 
 -- the refusal of the check, where it refuses
 check_refusal : Bool → LengthForm → List ℕ → Error
@@ -94,22 +92,13 @@ module _ (Holds : ℤ → Type 0) where
       refuses (inl a) v b = integer_or_refused p e a (b.number, b.primitive)
       refuses (inr a) v b = refused p.content e o a.1 (subst Holds b.value b.held)
 
-  pub integer_one_body : IsOneBody (IntegerBody Holds)
-  integer_one_body = λ p v w a b. a.value ∙ sym b.value
-
-  pub integer_ber_one : IsOneFront (BerWord (IntegerBody Holds))
-  integer_ber_one = word_one (IsElement max_depth) NoCheck (IntegerBody Holds) ber_elements.one integer_one_body
-
-  pub integer_der_one : IsOneFront (DerWord IntegerCheck (IntegerBody Holds))
-  integer_der_one = word_one IsDefiniteElement IntegerCheck (IntegerBody Holds) der_elements.one integer_one_body
-
-  pub integer_one_form : IsOneForm (IntegerForm Holds)
+  integer_one_form : IsOneForm (IntegerForm Holds)
   integer_one_form = universal_one false integer_number (IntegerContent Holds) (λ v c d f g. integer_content_unique v c d f.1 g.1)
 
-  pub integer_one_value : IsOneValue (IntegerForm Holds)
+  integer_one_value : IsOneValue (IntegerForm Holds)
   integer_one_value = universal_value false integer_number (IntegerContent Holds) (λ v w c f g. integer_content_one_value v w c f.1 g.1)
 
-  pub integer_fits : FitsElement (IntegerForm Holds)
+  integer_fits : FitsElement (IntegerForm Holds)
   integer_fits = universal_fits false integer_number (IntegerContent Holds) (omega arith) (λ v c f. f.1.octets)
 
   made_checks : (v : ℤ) (i : Identifier) (c : List ℕ) → i.constructed ≡ false → IsIntegerContent v c → IntegerCheck (made i c)
@@ -118,33 +107,38 @@ module _ (Holds : ℤ → Type 0) where
   made_has_body : (v : ℤ) (i : Identifier) (c : List ℕ) → i.number ≡ integer_number → i.constructed ≡ false → IntegerContent Holds v c → IntegerBody Holds (made i c) v
   made_has_body v i c n e h = record { number = n; primitive = e; value = sym h.1.value; held = h.0 }
 
-  pub integer_form_check : FormChecks (IntegerForm Holds) IntegerCheck
+  integer_form_check : FormChecks (IntegerForm Holds) IntegerCheck
   integer_form_check = λ v i c f. made_checks v i c (ap (λ (z : Identifier). z.constructed) f.0) f.1.1
 
-  pub integer_form_body : FormBodies (IntegerForm Holds) (IntegerBody Holds)
+  integer_form_body : FormBodies (IntegerForm Holds) (IntegerBody Holds)
   integer_form_body = λ v i c f. made_has_body v i c (ap (λ (z : Identifier). z.number) f.0) (ap (λ (z : Identifier). z.constructed) f.0) f.1
 
-  pub integer_takes_class : (class : ℕ) → FormTakes (IntegerForm Holds) IntegerCheck (IntegerBody Holds) class integer_number
+  integer_takes_class : (class : ℕ) → FormTakes (IntegerForm Holds) IntegerCheck (IntegerBody Holds) class integer_number
   integer_takes_class class = λ v i c f.
       let n : i.number ≡ integer_number = ap (λ (z : Identifier). z.number) f.0 in
       let e : i.constructed ≡ false = ap (λ (z : Identifier). z.constructed) f.0 in
       (n, made_checks v (of_class class i) c e f.1.1, made_has_body v (of_class class i) c n e f.1)
 
-  pub integer_strict_ber : (v : ℤ) (o : List ℕ) → IsStrict (IntegerForm Holds) v o → BerWord (IntegerBody Holds) o v
-  integer_strict_ber = strict_ber_word (IntegerForm Holds) (IntegerBody Holds) integer_form_body
-
-  pub integer_strict_der : (v : ℤ) (o : List ℕ) → IsStrict (IntegerForm Holds) v o → DerWord IntegerCheck (IntegerBody Holds) o v
-  integer_strict_der = strict_der_word (IntegerForm Holds) IntegerCheck (IntegerBody Holds) integer_form_check integer_form_body
+  pub integer_lawful : {S : Type 0} (number : S → ℤ) → IsLawfulElement (integer_element number Holds)
+  integer_lawful number = record {
+    body_values = λ p v o b. b.held;
+    form_values = λ v i c f. f.1.0;
+    body_one = λ p v w a b. a.value ∙ sym b.value;
+    one_form = integer_one_form;
+    one_value = integer_one_value;
+    form_fits = integer_fits;
+    form_check = integer_form_check;
+    form_body = integer_form_body;
+  }
 
 -- what is written follows from the number, and is its strict encoding
 module _ {T : Type 0} (number : T → ℤ) (octets : T → List ℕ) (strict : (x : T) → IsIntegerContent (number x) (octets x)) where
   same_octets : (x : T) (v : ℤ) (c : List ℕ) → number x ≡ v → IsIntegerContent v c → octets x ≡ c
   same_octets x v c e h = integer_content_unique v (octets x) c (subst (λ (z : ℤ). IsIntegerContent z (octets x)) e (strict x)) h
 
-  pub integer_by_value : WritesByValue number (λ x. false) (λ x. integer_header (octets x)) octets
-  integer_by_value = λ x y e. let s = same_octets x (number y) (octets y) e (strict y) in (refl, ap integer_header s, s)
-
-  pub integer_writes_form : (Holds : ℤ → Type 0) → WritesForm number (IntegerForm Holds) (λ x. NothingRefused) (λ x. false) (λ x. integer_header (octets x)) octets
-  integer_writes_form Holds = λ x i c f.
-      let s = same_octets x (number x) c refl f.1.1 in
-      (nothing_refused, sym (ap (λ (z : Identifier). z.constructed) f.0), s, ap integer_header s ∙ ap (λ (z : Identifier). header_of z c) (sym f.0))
+  pub integer_primitive : (Holds : ℤ → Type 0) → IsPrimitiveElement (integer_element number Holds) integer_number octets
+  integer_primitive Holds = record {
+    by_value = λ x y e. same_octets x (number y) (octets y) e (strict y);
+    form = λ x i c f. (f.0, same_octets x (number x) c refl f.1.1);
+    class = integer_takes_class Holds;
+  }

@@ -10,10 +10,9 @@ ghost use Rattle.asn1_rs.specs.Length.{form_of};
 ghost use Rattle.asn1_rs.specs.Tag.{is_container};
 ghost use Rattle.asn1_rs.specs.Any.{parts_of, IsTheElement, IsDefiniteOr, DerContentGives, AndThenGives, HandsOn};
 ghost use Rattle.asn1_rs.specs.Ber.{BerContentGives};
-ghost use Rattle.asn1_rs.specs.Grammar.{max_depth, BerWord, DerWord};
-ghost use Rattle.asn1_rs.specs.Element.{Element, element_of, ElementBody, ElementCheck, IsElementValue, ElementForm};
-ghost use Rattle.asn1_rs.specs.Laws.Words.{strict_ber_word, strict_der_word};
-ghost use Rattle.asn1_rs.specs.Laws.Element.{element_ber_values, element_der_values, element_body_values, element_form_values, element_ber_one, element_der_one, element_body_one, element_one_form, element_one_value, element_fits, element_form_body, element_form_check, element_body_exact, element_check_exact};
+ghost use Rattle.asn1_rs.specs.Grammar.{max_depth};
+ghost use Rattle.asn1_rs.specs.Element.{any_element};
+ghost use Rattle.asn1_rs.specs.Laws.Element.{element_lawful, element_body_exact, element_check_exact};
 ghost use Rattle.asn1_rs.specs.declared.class.Class.TheVariants as classes;
 ghost use Rattle.asn1_rs.specs.declared.length.Length.TheVariants as forms;
 ghost use Rattle.asn1_rs.specs.declared.tag.Tag.{Tag as Number};
@@ -22,7 +21,7 @@ use crate::ber::{element_by_ber, element_by_der};
 use crate::class::Class;
 use crate::error::{Err, Error, ParseResult};
 use crate::header::Header;
-use crate::laws::{Grammar, LawfulAuto, LawfulBody, LawfulCheck, LawfulItem};
+use crate::kinds::{ElementKind, HasKind, LawfulConversion, LawfulElement};
 use crate::length::Length;
 use crate::tag::Tag;
 use crate::traits::{CheckDerConstraints, DerAutoDerive, DynTagged, FromAny, FromBer, FromDer};
@@ -239,70 +238,18 @@ impl CheckDerConstraints for Any<'_> {
 
 impl DerAutoDerive for Any<'_> {}
 
-impl Grammar for Any<'_> {
-    ghost Value = { Element };
-
-    ghost value = { element_of };
-
-    ghost IsValue = { IsElementValue };
-
-    ghost Ber = { BerWord ElementBody };
-
-    ghost Der = { DerWord ElementCheck ElementBody };
-
-    ghost Body = { ElementBody };
-
-    ghost Check = { ElementCheck };
-
-    ghost Form = { ElementForm };
-
-    ghost takes_memory = { false };
+impl HasKind for Any<'_> {
+    type Kind = ElementKind;
 }
 
-impl LawfulItem for Any<'_> {
-    ghost ber_values = { element_ber_values };
+impl LawfulElement for Any<'_> {
+    ghost element = { any_element };
 
-    ghost der_values = { element_der_values };
+    ghost lawful = { element_lawful };
 
-    ghost body_values = { element_body_values };
-
-    ghost form_values = { element_form_values };
-
-    ghost ber_one = { element_ber_one };
-
-    ghost der_one = { element_der_one };
-
-    ghost body_one = { element_body_one };
-
-    ghost one_form = { element_one_form };
-
-    ghost one_value = { element_one_value };
-
-    ghost form_fits = { element_fits };
-
-    ghost form_check = { element_form_check };
-
-    ghost strict_ber = { λ v o s. strict_ber_word ElementForm ElementBody element_form_body v o s };
-
-    ghost strict_der = { λ v o s. strict_der_word ElementForm ElementCheck ElementBody element_form_check element_form_body v o s };
+    ghost checks = { element_check_exact };
 }
 
-impl<'a> LawfulBody<'a, Error> for Any<'a> {
-    ghost body_exact = { λ p answer octets. element_body_exact (λ x y. y ≡ x) p answer };
-
-    ghost form_body = { element_form_body };
-
-    ghost ber_split = { λ o v w. w };
-
-    ghost ber_join = { λ o v w. w };
-}
-
-impl LawfulCheck for Any<'_> {
-    ghost check_exact = { element_check_exact };
-}
-
-impl LawfulAuto for Any<'_> {
-    ghost der_split = { λ o v w. w };
-
-    ghost der_join = { λ o v w. w };
+impl<'a> LawfulConversion<'a> for Any<'a> {
+    ghost converts = { λ p answer octets. element_body_exact (λ x y. y ≡ x) p answer };
 }

@@ -44,6 +44,8 @@ impl ToDer for Any<'_> {
 
     ghost content_takes_memory = { false };
 
+    ghost write_takes_memory = { false };
+
     fn to_der_len(&self) -> Result<usize, Error>
         ensures count { IfOk result (λ n. n ≡ length (element_header self.now ++ content_of self.now)) }
         ensures refused { IfErr result (RefusesCount false (length (element_header self.now ++ content_of self.now)) (λ _. ⊥)) }

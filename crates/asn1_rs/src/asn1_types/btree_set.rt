@@ -22,7 +22,6 @@ ghost use Rattle.asn1_rs.specs.Laws.Words.{word_one, strict_ber_word, strict_der
 ghost use Rattle.asn1_rs.specs.Laws.Lists.{list_body_one, list_of_one, list_body_values, list_der_values};
 ghost use Rattle.asn1_rs.specs.Laws.Sets.{set_content, body_seen, permutation_from_set, set_one_form, set_one_value, set_fits, set_form_values, set_form_body, set_form_row, set_form_check, set_by_value, set_writes_form, members_moved, members_are, set_takes, tree_told, below_apart, same_members};
 
-use crate::asn1_types::collects::ordered_set;
 use crate::asn1_types::items::{FromItems, items_of_set};
 use crate::asn1_types::any::Any;
 use crate::ber::element_by_der;
@@ -37,7 +36,6 @@ use crate::writer::DerWrite;
 use std::alloc::{AllocError, Global};
 use std::collections::BTreeSet;
 
-
 impl<T: Ord> Tagged for BTreeSet<T> {
     const TAG: Tag = Tag::Set;
 
@@ -46,6 +44,13 @@ impl<T: Ord> Tagged for BTreeSet<T> {
     fn its_tag() -> Tag {
         Tag::Set
     }
+}
+
+/// The set of the items.
+fn ordered_set<T: Ord + Drop>(alloc: Global, items: Vec<T>) -> Result<BTreeSet<T>, AllocError>
+    ensures { IfOk result (λ s. IsFromIterResult T.cmp items.items s) }
+{
+    BTreeSet::from_iter(alloc, items)
 }
 
 /// How many octets the members are written in.
@@ -70,6 +75,7 @@ fn encode_members<T: ToDer + Ord>(
     ensures each { All T.tells items.now.keys → IfOk result (λ os. map (λ v. v.items) os.items ≡ map (λ x. T.header x ++ T.content x) items.now.keys) }
     ensures refused { All T.tells items.now.keys → IfErr result (Refuses true (length (flat_map (λ x. T.header x ++ T.content x) items.now.keys)) (SomeRefuses (λ x. IntoVector (Either (T.header_refuses x) (T.content_refuses x))) items.now.keys)) }
     ensures accepted { (e : Unwritten) → All T.tells items.now.keys → SomeRefuses (λ x. IntoVector (Either (T.header_refuses x) (T.content_refuses x))) items.now.keys e → IsErr result }
+    ensures uncounted { (e : Uncounted) → All T.tells items.now.keys → SomeRefuses T.count_refuses items.now.keys e → IsErr result }
     ensures memory { IfErr result (λ e. tells_of_io e ≡ false) }
 {
     let mut strings = Vec::new(alloc);

@@ -1,23 +1,20 @@
 //! Integers (X.690 8.3).
-ghost use Rattle.std.specs.Prelude.{ℕ, pos, ◌≡◌, ◌≤◌, ◌++◌, Bool, false, length, Err, IfOk, IfErr};
+ghost use Rattle.std.specs.Prelude.{ℕ, pos, ◌≡◌, ◌≤◌, false, length, Err, IfOk, IfErr};
 ghost use Rattle.x690.specs.Elements.{Parts};
 ghost use Rattle.asn1_rs.specs.declared.error.Error.{Error as Fault};
 ghost use Rattle.x690.specs.Digits.{twos_complement_value};
 ghost use Rattle.x690.specs.Integers.{unsigned_octets};
 ghost use Rattle.x690.specs.SignedOctets.{signed_octets};
 ghost use Rattle.asn1_rs.specs.Any.{parts_of};
-ghost use Rattle.asn1_rs.specs.Integer.{IntegerCheckGives, IsUnsigned, UnsignedRefuses, UnsignedGives, unsigned_header, SignedGives, signed_header, IsIntegerOr};
-ghost use Rattle.asn1_rs.specs.Wrote.{Wrote, Refuses, RefusesCount};
+ghost use Rattle.asn1_rs.specs.Integer.{IntegerCheckGives, IsUnsigned, UnsignedRefuses, UnsignedGives, SignedGives, IsIntegerOr};
+ghost use Rattle.asn1_rs.specs.Wrote.{Wrote, MayRefuse};
 
 use crate::asn1_types::any::Any;
 use crate::error::{DerConstraint, Error, SerializeResult};
-use crate::header_writing::{element_len, put_header};
 use crate::tag::Tag;
 use crate::writer::{DerWrite, put_all};
-use x690::integers::{
-    has_spare_ones, has_spare_zeros, unsigned_into, unsigned_number, unsigned_octets_count,
-};
-use x690::signed::{signed_into, signed_number, signed_octets_count};
+use x690::integers::{has_spare_ones, has_spare_zeros, unsigned_into, unsigned_number};
+use x690::signed::{signed_into, signed_number};
 
 /// Refuses an element that is constructed, has an indefinite length, or whose contents octets are not the fewest of
 /// their number (X.690 8.3.1, 8.3.2). It is the check of all integers.
@@ -68,26 +65,10 @@ pub(crate) fn unsigned_from_any(any: &Any<'_>, size: usize) -> Result<u128, Erro
     unsigned_from_content(any.content, size)
 }
 
-/// How many octets the element of a natural number has.
-pub(crate) fn count_unsigned_element(n: u128) -> Result<usize, Error>
-    ensures count { IfOk result (λ count. count ≡ length (unsigned_header n ++ unsigned_octets n)) }
-    ensures refused { IfErr result (RefusesCount false (length (unsigned_header n ++ unsigned_octets n)) (λ _. ⊥)) }
-{
-    element_len(Tag::Integer.0, Ok(unsigned_octets_count(n)))
-}
-
-/// Appends the strict header of the element of a natural number, and answers its length.
-pub(crate) fn put_unsigned_header<W: DerWrite>(n: u128, w: &mut W) -> SerializeResult<usize>
-    ensures wrote { Wrote (unsigned_header n) (W.told w.old) (W.told w.new) (W.failed w.old) (W.failed w.new) result }
-    ensures refused { IfErr result (Refuses false (length (unsigned_header n ++ unsigned_octets n)) (λ _. ⊥)) }
-{
-    put_header(0, false, Tag::Integer.0, unsigned_octets_count(n), w)
-}
-
 /// Appends the strict contents octets of a natural number, and answers their number.
 pub(crate) fn put_unsigned_content<W: DerWrite>(n: u128, w: &mut W) -> SerializeResult<usize>
     ensures wrote { Wrote (unsigned_octets n) (W.told w.old) (W.told w.new) (W.failed w.old) (W.failed w.new) result }
-    ensures refused { IfErr result (Refuses false (length (unsigned_octets n)) (λ _. ⊥)) }
+    ensures refused { IfErr result (MayRefuse false (length (unsigned_octets n))) }
 {
     let mut octets = [0; 17];
     let first = unsigned_into(n, &mut octets);
@@ -104,26 +85,10 @@ pub(crate) fn signed_from_any(any: &Any<'_>, size: usize) -> Result<i128, Error>
     signed_number(any.content, size).ok_or(Error::IntegerTooLarge)
 }
 
-/// How many octets the element of an integer has.
-pub(crate) fn count_signed_element(n: i128) -> Result<usize, Error>
-    ensures count { IfOk result (λ count. count ≡ length (signed_header n ++ signed_octets n)) }
-    ensures refused { IfErr result (RefusesCount false (length (signed_header n ++ signed_octets n)) (λ _. ⊥)) }
-{
-    element_len(Tag::Integer.0, Ok(signed_octets_count(n)))
-}
-
-/// Appends the strict header of the element of an integer, and answers its length.
-pub(crate) fn put_signed_header<W: DerWrite>(n: i128, w: &mut W) -> SerializeResult<usize>
-    ensures wrote { Wrote (signed_header n) (W.told w.old) (W.told w.new) (W.failed w.old) (W.failed w.new) result }
-    ensures refused { IfErr result (Refuses false (length (signed_header n ++ signed_octets n)) (λ _. ⊥)) }
-{
-    put_header(0, false, Tag::Integer.0, signed_octets_count(n), w)
-}
-
 /// Appends the strict contents octets of an integer, and answers their number.
 pub(crate) fn put_signed_content<W: DerWrite>(n: i128, w: &mut W) -> SerializeResult<usize>
     ensures wrote { Wrote (signed_octets n) (W.told w.old) (W.told w.new) (W.failed w.old) (W.failed w.new) result }
-    ensures refused { IfErr result (Refuses false (length (signed_octets n)) (λ _. ⊥)) }
+    ensures refused { IfErr result (MayRefuse false (length (signed_octets n))) }
 {
     let mut octets = [0; 17];
     let first = signed_into(n, &mut octets);

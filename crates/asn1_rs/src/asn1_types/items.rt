@@ -7,7 +7,7 @@ ghost use Rattle.asn1_rs.specs.Grammar.{DerGives, PassesAll};
 ghost use Rattle.asn1_rs.specs.Lists.{IsListOr, ItemsGive, ListTakes, ListReads, ItemsCheckGives, ListCheckGives, FirstChecked, SomeRefuses, listed, has_items};
 ghost use Rattle.asn1_rs.specs.declared.error.SerializeError.{SerializeError as Unwritten};
 ghost use Rattle.asn1_rs.specs.declared.error.Error.{Error as Uncounted};
-ghost use Rattle.asn1_rs.specs.Wrote.{Wrote, Refuses, RefusesCount, Either};
+ghost use Rattle.asn1_rs.specs.Wrote.{Wrote, Refuses, RefusesCount, Either, some_takes};
 
 use crate::asn1_types::any::Any;
 use crate::asn1_types::sequence_iterator::{ReadsItems, SequenceIterator};
@@ -202,8 +202,9 @@ pub(crate) fn write_items<T: ToDer, W: DerWrite>(
     w: &mut W,
 ) -> SerializeResult<usize>
     ensures wrote { All T.tells items.now → Wrote (flat_map (λ x. T.header x ++ T.content x) items.now) (W.told w.old) (W.told w.new) (W.failed w.old) (W.failed w.new) result }
-    ensures refused { All T.tells items.now → IfErr result (Refuses (T.count_takes_memory || T.content_takes_memory) (length (flat_map (λ x. T.header x ++ T.content x) items.now)) (SomeRefuses (λ x. Either (T.header_refuses x) (T.content_refuses x)) items.now)) }
+    ensures refused { All T.tells items.now → IfErr result (Refuses (some_takes T.write_takes_memory T.count_takes_memory T.content_takes_memory) (length (flat_map (λ x. T.header x ++ T.content x) items.now)) (SomeRefuses (λ x. Either (T.header_refuses x) (T.content_refuses x)) items.now)) }
     ensures accepted { (e : Unwritten) → All T.tells items.now → SomeRefuses (λ x. Either (T.header_refuses x) (T.content_refuses x)) items.now e → IsErr result }
+    ensures uncounted { (e : Uncounted) → All T.tells items.now → SomeRefuses T.count_refuses items.now e → IsErr result }
 {
     let mut total = 0;
     for item in items {

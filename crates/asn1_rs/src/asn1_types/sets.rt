@@ -2,6 +2,7 @@
 ghost use Rattle.std.specs.Prelude.{◌≡◌, ◌++◌, ◌||◌, List, true, false, length, map, IfOk, IfErr, IsErr};
 ghost use Rattle.std.specs.List.{All, flat_map};
 ghost use Rattle.asn1_rs.specs.declared.error.SerializeError.{SerializeError as Unwritten};
+ghost use Rattle.asn1_rs.specs.declared.error.Error.{Error as Uncounted};
 ghost use Rattle.asn1_rs.specs.Lists.{SomeRefuses};
 ghost use Rattle.asn1_rs.specs.Sets.{joining};
 ghost use Rattle.asn1_rs.specs.Laws.Arranged.{arranged};
@@ -17,6 +18,7 @@ pub(crate) fn encode_items<T: ToDer>(items: &[T], alloc: Global) -> SerializeRes
     ensures each { All T.tells items.now → IfOk result (λ os. map (λ v. v.items) os.items ≡ map (λ x. T.header x ++ T.content x) items.now) }
     ensures refused { All T.tells items.now → IfErr result (Refuses true (length (flat_map (λ x. T.header x ++ T.content x) items.now)) (SomeRefuses (λ x. IntoVector (Either (T.header_refuses x) (T.content_refuses x))) items.now)) }
     ensures accepted { (e : Unwritten) → All T.tells items.now → SomeRefuses (λ x. IntoVector (Either (T.header_refuses x) (T.content_refuses x))) items.now e → IsErr result }
+    ensures uncounted { (e : Uncounted) → All T.tells items.now → SomeRefuses T.count_refuses items.now e → IsErr result }
     ensures memory { IfErr result (λ e. tells_of_io e ≡ false) }
 {
     let mut strings = Vec::new(alloc);

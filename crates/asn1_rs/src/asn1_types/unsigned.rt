@@ -1,22 +1,18 @@
 //! The types `u8`, `u16`, `u32`, `u64` and `u128` as integers of one to sixteen octets.
-ghost use Rattle.std.specs.Prelude.{ℤ, pos, false};
+ghost use Rattle.std.specs.Prelude.{pos};
 ghost use Rattle.x690.specs.Integers.{unsigned_octets};
 ghost use Rattle.x690.specs.Laws.UnsignedOctets.{unsigned_octets_content};
-ghost use Rattle.asn1_rs.specs.Grammar.{BerWord, DerWord};
-ghost use Rattle.asn1_rs.specs.Integer.{integer_number, IntegerCheck, IntegerCheckGives, IntegerBody, IntegerForm, IsUnsigned, UnsignedRefuses, UnsignedGives, unsigned_header};
-ghost use Rattle.asn1_rs.specs.Laws.Integer.{integer_check_exact, integer_exact, integer_one_body, integer_ber_one, integer_der_one, integer_one_form, integer_one_value, integer_fits, integer_form_check, integer_form_body, integer_takes_class, integer_strict_ber, integer_strict_der, integer_by_value, integer_writes_form};
+ghost use Rattle.asn1_rs.specs.Integer.{integer_number, integer_element, IntegerCheckGives, IsUnsigned, UnsignedRefuses, UnsignedGives};
+ghost use Rattle.asn1_rs.specs.Laws.Integer.{integer_check_exact, integer_exact, integer_lawful, integer_primitive};
 ghost use Rattle.asn1_rs.specs.Laws.Unsigned.{unsigned_refused, unsigned_equal};
 
 use crate::asn1_types::any::Any;
-use crate::asn1_types::integer::{
-    check_integer, count_unsigned_element, put_unsigned_content, put_unsigned_header,
-};
+use crate::asn1_types::integer::{check_integer, put_unsigned_content};
 use crate::error::{Error, SerializeResult};
-use crate::laws::{
-    Grammar, LawfulAuto, LawfulBody, LawfulCheck, LawfulItem, LawfulMember, LawfulWrite, TakesClass,
-};
+use crate::kinds::{ElementKind, HasKind, LawfulConversion, LawfulElement};
+use crate::kinds_writing::WritesPrimitive;
+use crate::laws::LawfulMember;
 use crate::tag::Tag;
-use crate::to_der::ToDer;
 use crate::traits::{CheckDerConstraints, DerAutoDerive, FromAny, Tagged};
 use crate::writer::DerWrite;
 use std::alloc::Global;
@@ -52,118 +48,34 @@ impl CheckDerConstraints for u8 {
 
 impl DerAutoDerive for u8 {}
 
-impl ToDer for u8 {
-    ghost tells = { λ _. Unit {0} };
+impl HasKind for u8 {
+    type Kind = ElementKind;
+}
 
-    ghost header = { unsigned_header };
+impl LawfulElement for u8 {
+    ghost element = { integer_element pos (IsUnsigned 1) };
 
-    ghost content = { unsigned_octets };
+    ghost lawful = { integer_lawful (IsUnsigned 1) pos };
 
-    ghost constructed = { λ _. false };
+    ghost checks = { integer_check_exact };
+}
 
-    ghost count_takes_memory = { false };
+impl<'a> LawfulConversion<'a> for u8 {
+    ghost converts = { integer_exact (IsUnsigned 1) pos (UnsignedRefuses 1) (unsigned_refused 1) };
+}
 
-    ghost content_takes_memory = { false };
+impl WritesPrimitive for u8 {
+    ghost octets = { unsigned_octets };
 
-    fn to_der_len(&self) -> Result<usize, Error> {
-        count_unsigned_element(u128::from(*self))
-    }
-
-    fn der_content_len(&self) -> Result<usize, Error> {
+    fn count_octets(&self) -> Result<usize, Error> {
         Ok(unsigned_octets_count(u128::from(*self)))
     }
 
-    fn der_constructed(&self) -> bool {
-        false
-    }
-
-    fn write_der_header<W: DerWrite>(&self, _alloc: Global, w: &mut W) -> SerializeResult<usize> {
-        put_unsigned_header(u128::from(*self), w)
-    }
-
-    fn write_der_content<W: DerWrite>(&self, _alloc: Global, w: &mut W) -> SerializeResult<usize> {
+    fn put_octets<W: DerWrite>(&self, w: &mut W) -> SerializeResult<usize> {
         put_unsigned_content(u128::from(*self), w)
     }
-}
 
-impl Grammar for u8 {
-    ghost Value = { ℤ };
-
-    ghost value = { pos };
-
-    ghost IsValue = { IsUnsigned 1 };
-
-    ghost Ber = { BerWord (IntegerBody (IsUnsigned 1)) };
-
-    ghost Der = { DerWord IntegerCheck (IntegerBody (IsUnsigned 1)) };
-
-    ghost Body = { IntegerBody (IsUnsigned 1) };
-
-    ghost Check = { IntegerCheck };
-
-    ghost Form = { IntegerForm (IsUnsigned 1) };
-
-    ghost takes_memory = { false };
-}
-
-impl LawfulItem for u8 {
-    ghost ber_values = { λ o v w. w.3.held };
-
-    ghost der_values = { λ o v w. w.3.held };
-
-    ghost body_values = { λ p v o b. b.held };
-
-    ghost form_values = { λ v i c f. f.1.0 };
-
-    ghost ber_one = { integer_ber_one (IsUnsigned 1) };
-
-    ghost der_one = { integer_der_one (IsUnsigned 1) };
-
-    ghost body_one = { integer_one_body (IsUnsigned 1) };
-
-    ghost one_form = { integer_one_form (IsUnsigned 1) };
-
-    ghost one_value = { integer_one_value (IsUnsigned 1) };
-
-    ghost form_fits = { integer_fits (IsUnsigned 1) };
-
-    ghost form_check = { integer_form_check (IsUnsigned 1) };
-
-    ghost strict_ber = { integer_strict_ber (IsUnsigned 1) };
-
-    ghost strict_der = { integer_strict_der (IsUnsigned 1) };
-}
-
-impl<'a> LawfulBody<'a, Error> for u8 {
-    ghost body_exact = { integer_exact (IsUnsigned 1) pos (UnsignedRefuses 1) (unsigned_refused 1) };
-
-    ghost form_body = { integer_form_body (IsUnsigned 1) };
-
-    ghost ber_split = { λ o v w. w };
-
-    ghost ber_join = { λ o v w. w };
-}
-
-impl LawfulCheck for u8 {
-    ghost check_exact = { integer_check_exact };
-}
-
-impl LawfulAuto for u8 {
-    ghost der_split = { λ o v w. w };
-
-    ghost der_join = { λ o v w. w };
-}
-
-impl LawfulWrite for u8 {
-    ghost tells_all = { λ x. tt };
-
-    ghost by_value = { integer_by_value pos unsigned_octets unsigned_octets_content };
-
-    ghost form = { integer_writes_form pos unsigned_octets unsigned_octets_content (IsUnsigned 1) };
-}
-
-impl<const K: u8> TakesClass<K> for u8 {
-    ghost takes_class = { integer_takes_class (IsUnsigned 1) K };
+    ghost primitive = { integer_primitive pos unsigned_octets unsigned_octets_content (IsUnsigned 1) };
 }
 
 impl LawfulMember for u8 {
@@ -200,118 +112,34 @@ impl CheckDerConstraints for u16 {
 
 impl DerAutoDerive for u16 {}
 
-impl ToDer for u16 {
-    ghost tells = { λ _. Unit {0} };
+impl HasKind for u16 {
+    type Kind = ElementKind;
+}
 
-    ghost header = { unsigned_header };
+impl LawfulElement for u16 {
+    ghost element = { integer_element pos (IsUnsigned 2) };
 
-    ghost content = { unsigned_octets };
+    ghost lawful = { integer_lawful (IsUnsigned 2) pos };
 
-    ghost constructed = { λ _. false };
+    ghost checks = { integer_check_exact };
+}
 
-    ghost count_takes_memory = { false };
+impl<'a> LawfulConversion<'a> for u16 {
+    ghost converts = { integer_exact (IsUnsigned 2) pos (UnsignedRefuses 2) (unsigned_refused 2) };
+}
 
-    ghost content_takes_memory = { false };
+impl WritesPrimitive for u16 {
+    ghost octets = { unsigned_octets };
 
-    fn to_der_len(&self) -> Result<usize, Error> {
-        count_unsigned_element(u128::from(*self))
-    }
-
-    fn der_content_len(&self) -> Result<usize, Error> {
+    fn count_octets(&self) -> Result<usize, Error> {
         Ok(unsigned_octets_count(u128::from(*self)))
     }
 
-    fn der_constructed(&self) -> bool {
-        false
-    }
-
-    fn write_der_header<W: DerWrite>(&self, _alloc: Global, w: &mut W) -> SerializeResult<usize> {
-        put_unsigned_header(u128::from(*self), w)
-    }
-
-    fn write_der_content<W: DerWrite>(&self, _alloc: Global, w: &mut W) -> SerializeResult<usize> {
+    fn put_octets<W: DerWrite>(&self, w: &mut W) -> SerializeResult<usize> {
         put_unsigned_content(u128::from(*self), w)
     }
-}
 
-impl Grammar for u16 {
-    ghost Value = { ℤ };
-
-    ghost value = { pos };
-
-    ghost IsValue = { IsUnsigned 2 };
-
-    ghost Ber = { BerWord (IntegerBody (IsUnsigned 2)) };
-
-    ghost Der = { DerWord IntegerCheck (IntegerBody (IsUnsigned 2)) };
-
-    ghost Body = { IntegerBody (IsUnsigned 2) };
-
-    ghost Check = { IntegerCheck };
-
-    ghost Form = { IntegerForm (IsUnsigned 2) };
-
-    ghost takes_memory = { false };
-}
-
-impl LawfulItem for u16 {
-    ghost ber_values = { λ o v w. w.3.held };
-
-    ghost der_values = { λ o v w. w.3.held };
-
-    ghost body_values = { λ p v o b. b.held };
-
-    ghost form_values = { λ v i c f. f.1.0 };
-
-    ghost ber_one = { integer_ber_one (IsUnsigned 2) };
-
-    ghost der_one = { integer_der_one (IsUnsigned 2) };
-
-    ghost body_one = { integer_one_body (IsUnsigned 2) };
-
-    ghost one_form = { integer_one_form (IsUnsigned 2) };
-
-    ghost one_value = { integer_one_value (IsUnsigned 2) };
-
-    ghost form_fits = { integer_fits (IsUnsigned 2) };
-
-    ghost form_check = { integer_form_check (IsUnsigned 2) };
-
-    ghost strict_ber = { integer_strict_ber (IsUnsigned 2) };
-
-    ghost strict_der = { integer_strict_der (IsUnsigned 2) };
-}
-
-impl<'a> LawfulBody<'a, Error> for u16 {
-    ghost body_exact = { integer_exact (IsUnsigned 2) pos (UnsignedRefuses 2) (unsigned_refused 2) };
-
-    ghost form_body = { integer_form_body (IsUnsigned 2) };
-
-    ghost ber_split = { λ o v w. w };
-
-    ghost ber_join = { λ o v w. w };
-}
-
-impl LawfulCheck for u16 {
-    ghost check_exact = { integer_check_exact };
-}
-
-impl LawfulAuto for u16 {
-    ghost der_split = { λ o v w. w };
-
-    ghost der_join = { λ o v w. w };
-}
-
-impl LawfulWrite for u16 {
-    ghost tells_all = { λ x. tt };
-
-    ghost by_value = { integer_by_value pos unsigned_octets unsigned_octets_content };
-
-    ghost form = { integer_writes_form pos unsigned_octets unsigned_octets_content (IsUnsigned 2) };
-}
-
-impl<const K: u8> TakesClass<K> for u16 {
-    ghost takes_class = { integer_takes_class (IsUnsigned 2) K };
+    ghost primitive = { integer_primitive pos unsigned_octets unsigned_octets_content (IsUnsigned 2) };
 }
 
 impl LawfulMember for u16 {
@@ -348,118 +176,34 @@ impl CheckDerConstraints for u32 {
 
 impl DerAutoDerive for u32 {}
 
-impl ToDer for u32 {
-    ghost tells = { λ _. Unit {0} };
+impl HasKind for u32 {
+    type Kind = ElementKind;
+}
 
-    ghost header = { unsigned_header };
+impl LawfulElement for u32 {
+    ghost element = { integer_element pos (IsUnsigned 4) };
 
-    ghost content = { unsigned_octets };
+    ghost lawful = { integer_lawful (IsUnsigned 4) pos };
 
-    ghost constructed = { λ _. false };
+    ghost checks = { integer_check_exact };
+}
 
-    ghost count_takes_memory = { false };
+impl<'a> LawfulConversion<'a> for u32 {
+    ghost converts = { integer_exact (IsUnsigned 4) pos (UnsignedRefuses 4) (unsigned_refused 4) };
+}
 
-    ghost content_takes_memory = { false };
+impl WritesPrimitive for u32 {
+    ghost octets = { unsigned_octets };
 
-    fn to_der_len(&self) -> Result<usize, Error> {
-        count_unsigned_element(u128::from(*self))
-    }
-
-    fn der_content_len(&self) -> Result<usize, Error> {
+    fn count_octets(&self) -> Result<usize, Error> {
         Ok(unsigned_octets_count(u128::from(*self)))
     }
 
-    fn der_constructed(&self) -> bool {
-        false
-    }
-
-    fn write_der_header<W: DerWrite>(&self, _alloc: Global, w: &mut W) -> SerializeResult<usize> {
-        put_unsigned_header(u128::from(*self), w)
-    }
-
-    fn write_der_content<W: DerWrite>(&self, _alloc: Global, w: &mut W) -> SerializeResult<usize> {
+    fn put_octets<W: DerWrite>(&self, w: &mut W) -> SerializeResult<usize> {
         put_unsigned_content(u128::from(*self), w)
     }
-}
 
-impl Grammar for u32 {
-    ghost Value = { ℤ };
-
-    ghost value = { pos };
-
-    ghost IsValue = { IsUnsigned 4 };
-
-    ghost Ber = { BerWord (IntegerBody (IsUnsigned 4)) };
-
-    ghost Der = { DerWord IntegerCheck (IntegerBody (IsUnsigned 4)) };
-
-    ghost Body = { IntegerBody (IsUnsigned 4) };
-
-    ghost Check = { IntegerCheck };
-
-    ghost Form = { IntegerForm (IsUnsigned 4) };
-
-    ghost takes_memory = { false };
-}
-
-impl LawfulItem for u32 {
-    ghost ber_values = { λ o v w. w.3.held };
-
-    ghost der_values = { λ o v w. w.3.held };
-
-    ghost body_values = { λ p v o b. b.held };
-
-    ghost form_values = { λ v i c f. f.1.0 };
-
-    ghost ber_one = { integer_ber_one (IsUnsigned 4) };
-
-    ghost der_one = { integer_der_one (IsUnsigned 4) };
-
-    ghost body_one = { integer_one_body (IsUnsigned 4) };
-
-    ghost one_form = { integer_one_form (IsUnsigned 4) };
-
-    ghost one_value = { integer_one_value (IsUnsigned 4) };
-
-    ghost form_fits = { integer_fits (IsUnsigned 4) };
-
-    ghost form_check = { integer_form_check (IsUnsigned 4) };
-
-    ghost strict_ber = { integer_strict_ber (IsUnsigned 4) };
-
-    ghost strict_der = { integer_strict_der (IsUnsigned 4) };
-}
-
-impl<'a> LawfulBody<'a, Error> for u32 {
-    ghost body_exact = { integer_exact (IsUnsigned 4) pos (UnsignedRefuses 4) (unsigned_refused 4) };
-
-    ghost form_body = { integer_form_body (IsUnsigned 4) };
-
-    ghost ber_split = { λ o v w. w };
-
-    ghost ber_join = { λ o v w. w };
-}
-
-impl LawfulCheck for u32 {
-    ghost check_exact = { integer_check_exact };
-}
-
-impl LawfulAuto for u32 {
-    ghost der_split = { λ o v w. w };
-
-    ghost der_join = { λ o v w. w };
-}
-
-impl LawfulWrite for u32 {
-    ghost tells_all = { λ x. tt };
-
-    ghost by_value = { integer_by_value pos unsigned_octets unsigned_octets_content };
-
-    ghost form = { integer_writes_form pos unsigned_octets unsigned_octets_content (IsUnsigned 4) };
-}
-
-impl<const K: u8> TakesClass<K> for u32 {
-    ghost takes_class = { integer_takes_class (IsUnsigned 4) K };
+    ghost primitive = { integer_primitive pos unsigned_octets unsigned_octets_content (IsUnsigned 4) };
 }
 
 impl LawfulMember for u32 {
@@ -496,118 +240,34 @@ impl CheckDerConstraints for u64 {
 
 impl DerAutoDerive for u64 {}
 
-impl ToDer for u64 {
-    ghost tells = { λ _. Unit {0} };
+impl HasKind for u64 {
+    type Kind = ElementKind;
+}
 
-    ghost header = { unsigned_header };
+impl LawfulElement for u64 {
+    ghost element = { integer_element pos (IsUnsigned 8) };
 
-    ghost content = { unsigned_octets };
+    ghost lawful = { integer_lawful (IsUnsigned 8) pos };
 
-    ghost constructed = { λ _. false };
+    ghost checks = { integer_check_exact };
+}
 
-    ghost count_takes_memory = { false };
+impl<'a> LawfulConversion<'a> for u64 {
+    ghost converts = { integer_exact (IsUnsigned 8) pos (UnsignedRefuses 8) (unsigned_refused 8) };
+}
 
-    ghost content_takes_memory = { false };
+impl WritesPrimitive for u64 {
+    ghost octets = { unsigned_octets };
 
-    fn to_der_len(&self) -> Result<usize, Error> {
-        count_unsigned_element(u128::from(*self))
-    }
-
-    fn der_content_len(&self) -> Result<usize, Error> {
+    fn count_octets(&self) -> Result<usize, Error> {
         Ok(unsigned_octets_count(u128::from(*self)))
     }
 
-    fn der_constructed(&self) -> bool {
-        false
-    }
-
-    fn write_der_header<W: DerWrite>(&self, _alloc: Global, w: &mut W) -> SerializeResult<usize> {
-        put_unsigned_header(u128::from(*self), w)
-    }
-
-    fn write_der_content<W: DerWrite>(&self, _alloc: Global, w: &mut W) -> SerializeResult<usize> {
+    fn put_octets<W: DerWrite>(&self, w: &mut W) -> SerializeResult<usize> {
         put_unsigned_content(u128::from(*self), w)
     }
-}
 
-impl Grammar for u64 {
-    ghost Value = { ℤ };
-
-    ghost value = { pos };
-
-    ghost IsValue = { IsUnsigned 8 };
-
-    ghost Ber = { BerWord (IntegerBody (IsUnsigned 8)) };
-
-    ghost Der = { DerWord IntegerCheck (IntegerBody (IsUnsigned 8)) };
-
-    ghost Body = { IntegerBody (IsUnsigned 8) };
-
-    ghost Check = { IntegerCheck };
-
-    ghost Form = { IntegerForm (IsUnsigned 8) };
-
-    ghost takes_memory = { false };
-}
-
-impl LawfulItem for u64 {
-    ghost ber_values = { λ o v w. w.3.held };
-
-    ghost der_values = { λ o v w. w.3.held };
-
-    ghost body_values = { λ p v o b. b.held };
-
-    ghost form_values = { λ v i c f. f.1.0 };
-
-    ghost ber_one = { integer_ber_one (IsUnsigned 8) };
-
-    ghost der_one = { integer_der_one (IsUnsigned 8) };
-
-    ghost body_one = { integer_one_body (IsUnsigned 8) };
-
-    ghost one_form = { integer_one_form (IsUnsigned 8) };
-
-    ghost one_value = { integer_one_value (IsUnsigned 8) };
-
-    ghost form_fits = { integer_fits (IsUnsigned 8) };
-
-    ghost form_check = { integer_form_check (IsUnsigned 8) };
-
-    ghost strict_ber = { integer_strict_ber (IsUnsigned 8) };
-
-    ghost strict_der = { integer_strict_der (IsUnsigned 8) };
-}
-
-impl<'a> LawfulBody<'a, Error> for u64 {
-    ghost body_exact = { integer_exact (IsUnsigned 8) pos (UnsignedRefuses 8) (unsigned_refused 8) };
-
-    ghost form_body = { integer_form_body (IsUnsigned 8) };
-
-    ghost ber_split = { λ o v w. w };
-
-    ghost ber_join = { λ o v w. w };
-}
-
-impl LawfulCheck for u64 {
-    ghost check_exact = { integer_check_exact };
-}
-
-impl LawfulAuto for u64 {
-    ghost der_split = { λ o v w. w };
-
-    ghost der_join = { λ o v w. w };
-}
-
-impl LawfulWrite for u64 {
-    ghost tells_all = { λ x. tt };
-
-    ghost by_value = { integer_by_value pos unsigned_octets unsigned_octets_content };
-
-    ghost form = { integer_writes_form pos unsigned_octets unsigned_octets_content (IsUnsigned 8) };
-}
-
-impl<const K: u8> TakesClass<K> for u64 {
-    ghost takes_class = { integer_takes_class (IsUnsigned 8) K };
+    ghost primitive = { integer_primitive pos unsigned_octets unsigned_octets_content (IsUnsigned 8) };
 }
 
 impl LawfulMember for u64 {
@@ -644,118 +304,34 @@ impl CheckDerConstraints for u128 {
 
 impl DerAutoDerive for u128 {}
 
-impl ToDer for u128 {
-    ghost tells = { λ _. Unit {0} };
+impl HasKind for u128 {
+    type Kind = ElementKind;
+}
 
-    ghost header = { unsigned_header };
+impl LawfulElement for u128 {
+    ghost element = { integer_element pos (IsUnsigned 16) };
 
-    ghost content = { unsigned_octets };
+    ghost lawful = { integer_lawful (IsUnsigned 16) pos };
 
-    ghost constructed = { λ _. false };
+    ghost checks = { integer_check_exact };
+}
 
-    ghost count_takes_memory = { false };
+impl<'a> LawfulConversion<'a> for u128 {
+    ghost converts = { integer_exact (IsUnsigned 16) pos (UnsignedRefuses 16) (unsigned_refused 16) };
+}
 
-    ghost content_takes_memory = { false };
+impl WritesPrimitive for u128 {
+    ghost octets = { unsigned_octets };
 
-    fn to_der_len(&self) -> Result<usize, Error> {
-        count_unsigned_element(*self)
+    fn count_octets(&self) -> Result<usize, Error> {
+        Ok(unsigned_octets_count(u128::from(*self)))
     }
 
-    fn der_content_len(&self) -> Result<usize, Error> {
-        Ok(unsigned_octets_count(*self))
+    fn put_octets<W: DerWrite>(&self, w: &mut W) -> SerializeResult<usize> {
+        put_unsigned_content(u128::from(*self), w)
     }
 
-    fn der_constructed(&self) -> bool {
-        false
-    }
-
-    fn write_der_header<W: DerWrite>(&self, _alloc: Global, w: &mut W) -> SerializeResult<usize> {
-        put_unsigned_header(*self, w)
-    }
-
-    fn write_der_content<W: DerWrite>(&self, _alloc: Global, w: &mut W) -> SerializeResult<usize> {
-        put_unsigned_content(*self, w)
-    }
-}
-
-impl Grammar for u128 {
-    ghost Value = { ℤ };
-
-    ghost value = { pos };
-
-    ghost IsValue = { IsUnsigned 16 };
-
-    ghost Ber = { BerWord (IntegerBody (IsUnsigned 16)) };
-
-    ghost Der = { DerWord IntegerCheck (IntegerBody (IsUnsigned 16)) };
-
-    ghost Body = { IntegerBody (IsUnsigned 16) };
-
-    ghost Check = { IntegerCheck };
-
-    ghost Form = { IntegerForm (IsUnsigned 16) };
-
-    ghost takes_memory = { false };
-}
-
-impl LawfulItem for u128 {
-    ghost ber_values = { λ o v w. w.3.held };
-
-    ghost der_values = { λ o v w. w.3.held };
-
-    ghost body_values = { λ p v o b. b.held };
-
-    ghost form_values = { λ v i c f. f.1.0 };
-
-    ghost ber_one = { integer_ber_one (IsUnsigned 16) };
-
-    ghost der_one = { integer_der_one (IsUnsigned 16) };
-
-    ghost body_one = { integer_one_body (IsUnsigned 16) };
-
-    ghost one_form = { integer_one_form (IsUnsigned 16) };
-
-    ghost one_value = { integer_one_value (IsUnsigned 16) };
-
-    ghost form_fits = { integer_fits (IsUnsigned 16) };
-
-    ghost form_check = { integer_form_check (IsUnsigned 16) };
-
-    ghost strict_ber = { integer_strict_ber (IsUnsigned 16) };
-
-    ghost strict_der = { integer_strict_der (IsUnsigned 16) };
-}
-
-impl<'a> LawfulBody<'a, Error> for u128 {
-    ghost body_exact = { integer_exact (IsUnsigned 16) pos (UnsignedRefuses 16) (unsigned_refused 16) };
-
-    ghost form_body = { integer_form_body (IsUnsigned 16) };
-
-    ghost ber_split = { λ o v w. w };
-
-    ghost ber_join = { λ o v w. w };
-}
-
-impl LawfulCheck for u128 {
-    ghost check_exact = { integer_check_exact };
-}
-
-impl LawfulAuto for u128 {
-    ghost der_split = { λ o v w. w };
-
-    ghost der_join = { λ o v w. w };
-}
-
-impl LawfulWrite for u128 {
-    ghost tells_all = { λ x. tt };
-
-    ghost by_value = { integer_by_value pos unsigned_octets unsigned_octets_content };
-
-    ghost form = { integer_writes_form pos unsigned_octets unsigned_octets_content (IsUnsigned 16) };
-}
-
-impl<const K: u8> TakesClass<K> for u128 {
-    ghost takes_class = { integer_takes_class (IsUnsigned 16) K };
+    ghost primitive = { integer_primitive pos unsigned_octets unsigned_octets_content (IsUnsigned 16) };
 }
 
 impl LawfulMember for u128 {

@@ -11,7 +11,7 @@ ghost use Rattle.asn1_rs.specs.declared.error.Error.TheVariants as faults;
 ghost use Rattle.asn1_rs.specs.declared.error.DerConstraint.TheVariants as constraints;
 ghost use Rattle.asn1_rs.specs.Grammar.{max_depth, NoCheck, PassesAll, BerWord, DerWord, EndsWithin, DerGives};
 ghost use Rattle.asn1_rs.specs.Lists.{ListBody, ListOf, ListCheck, ListForm, ListReads, ListCheckGives, SomeRefuses, has_items};
-ghost use Rattle.asn1_rs.specs.Wrote.{Either, WrittenRefusal};
+ghost use Rattle.asn1_rs.specs.Wrote.{Either, WrittenRefusal, some_takes};
 ghost use Rattle.asn1_rs.specs.Laws.Elements.{element_exact, der_elements, ber_elements, passes_all};
 ghost use Rattle.asn1_rs.specs.Laws.Words.{word_one, strict_ber_word, strict_der_word};
 ghost use Rattle.asn1_rs.specs.Laws.Lists.{list_body_one, list_of_one, list_one_form, list_one_value, list_fits, list_form_values, list_form_body, list_form_of, list_form_check, list_takes_class, list_takes, list_reads, list_check_exact, list_der_values, list_body_values, list_by_value, list_writes_form, same_lists, same_values};
@@ -87,7 +87,9 @@ impl<T: ToDer> ToDer for Vec<T> {
 
     ghost count_takes_memory = { T.count_takes_memory };
 
-    ghost content_takes_memory = { T.count_takes_memory || T.content_takes_memory };
+    ghost content_takes_memory = {
+        some_takes T.write_takes_memory T.count_takes_memory T.content_takes_memory
+    };
 
     fn to_der_len(&self) -> Result<usize, Error> {
         element_len(Tag::Sequence.0, self.der_content_len())

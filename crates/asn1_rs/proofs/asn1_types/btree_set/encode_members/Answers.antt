@@ -9,7 +9,6 @@ use Rattle.asn1_rs.specs.Wrote.{Either, IntoVector, HasNone}
 use Rattle.asn1_rs.specs.Lists.{SomeRefuses}
 use Rattle.asn1_rs.specs.Laws.Sets.{none_into}
 use Rattle.asn1_rs.proofs.Lists.{item_all, Refuses_item, RefusesCount_item, MayRefuseCount_item_sum, count_next, none_more, none_of_all}
-use Rattle.asn1_rs.proofs.Writing.{vector_refuses_neither}
 use Rattle.asn1_rs.proofs.Sets.{got_at, one_longer}
 use Rattle.asn1_rs.proofs.asn1_types.btree_set.encode_members.Goals as goal
 
@@ -29,7 +28,8 @@ loop-item-preserved g c = λ t.
     rw (one_longer c.loop-item.yielded c.in-Some.item) (
       rw c.in-Ok.ensures.items (rw (map_more (λ x. g.T.ToDer.header x ++ g.T.ToDer.content x) c.args.items.now.keys (length c.loop-item.yielded) c.in-Some.item.now turn.0) (rw (map-append (λ v. v.items) c.loop-item.strings.items (c.in_ok-string.string ∷ [])) (rw (← at) (rw ((c.loop-item.invariant t).0, c.in_ok-string.ensures.wrote told) refl)))),
       none_more (λ x. IntoVector (Either (g.T.ToDer.header_refuses x) (g.T.ToDer.content_refuses x))) c.args.items.now.keys (length c.loop-item.yielded) c.in-Some.item.now turn.0 at (c.loop-item.invariant t).1
-        (none_into _ (vector_refuses_neither (g.T.ToDer.header_refuses c.in-Some.item.now) (g.T.ToDer.content_refuses c.in-Some.item.now) (λ e o. false≢true (c.in_ok-string.ensures.at_once e told o).0) (λ e o. false≢true (c.in_ok-string.ensures.accepted e told o)))),
+        (none_into _ (λ e o. false≢true (c.in_ok-string.ensures.accepted e told o))),
+      none_more g.T.ToDer.count_refuses c.args.items.now.keys (length c.loop-item.yielded) c.in-Some.item.now turn.0 at (c.loop-item.invariant t).2 (λ e o. false≢true (c.in_ok-string.ensures.uncounted e told o)),
     )
 
 pub returns-clause-each : goal.returns-clause-each
@@ -41,3 +41,8 @@ pub returns-clause-accepted : goal.returns-clause-accepted
 returns-clause-accepted g c = λ e t o.
     let whole : (map deref c.loop-item.yielded ≡ c.args.items.now.keys) × (length c.loop-item.yielded ≡ length c.args.items.now.keys) = iter_end deref c.args.items.now.keys c.loop-item.yielded c.into_iter-item-iterator.result c.loop-item.item-iterator c.next.new.self c.next.result (search rules) c.loop-item.yielded_by (search rules) c.next.ensures.steps in
     absurd (none_of_all (λ x. IntoVector (Either (g.T.ToDer.header_refuses x) (g.T.ToDer.content_refuses x))) c.args.items.now.keys (length c.loop-item.yielded) (omega (arith, whole.1)) (c.loop-item.invariant t).1 e o)
+
+pub returns-clause-uncounted : goal.returns-clause-uncounted
+returns-clause-uncounted g c = λ e t o.
+    let whole : (map deref c.loop-item.yielded ≡ c.args.items.now.keys) × (length c.loop-item.yielded ≡ length c.args.items.now.keys) = iter_end deref c.args.items.now.keys c.loop-item.yielded c.into_iter-item-iterator.result c.loop-item.item-iterator c.next.new.self c.next.result (search rules) c.loop-item.yielded_by (search rules) c.next.ensures.steps in
+    absurd (none_of_all g.T.ToDer.count_refuses c.args.items.now.keys (length c.loop-item.yielded) (omega (arith, whole.1)) (c.loop-item.invariant t).2 e o)

@@ -29,3 +29,6 @@ returns-clause-refused g c = λ t.
 
 pub returns-clause-accepted : goal.returns-clause-accepted
 returns-clause-accepted g c = λ e t o. absurd (false≢true ((rw c.deref.ensures.value at c.in_ok-strings.ensures.accepted) e t o))
+
+pub returns-clause-uncounted : goal.returns-clause-uncounted
+returns-clause-uncounted g c = λ e t o. absurd (false≢true ((rw c.deref.ensures.value at c.in_ok-strings.ensures.uncounted) e t o))

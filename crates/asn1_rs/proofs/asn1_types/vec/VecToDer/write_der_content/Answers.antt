@@ -5,3 +5,6 @@ returns-clause-refused g c = rw c.deref.ensures.value at c.write_items.ensures.r
 
 pub returns-clause-accepted : goal.returns-clause-accepted
 returns-clause-accepted g c = rw c.deref.ensures.value at c.write_items.ensures.accepted
+
+pub returns-clause-uncounted : goal.returns-clause-uncounted
+returns-clause-uncounted g c = rw c.deref.ensures.value at c.write_items.ensures.uncounted
