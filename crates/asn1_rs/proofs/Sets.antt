@@ -27,8 +27,8 @@ Ascending-map f (x ∷ xs) up k d l h =
 pub sorted_is_arranged : {X : Type 0} (f : X → List ℕ) (xs ys : List X) → IsPermutation xs ys → IsSortedBy (λ x y. is_lt (slice_cmp nat_cmp (f x) (f y))) ys → map f ys ≡ arranged (map f xs)
 sorted_is_arranged f xs ys p up =
     Ascending-unique (map f ys) (arranged (map f xs))
-      (IsPermutation-trans _ _ _ (IsPermutation-sym _ _ (IsPermutation-map f xs ys p)) (arranged_moves (map f xs)))
-      (Ascending-map f ys up) (arranged_ascends (map f xs))
+    (IsPermutation-trans _ _ _ (IsPermutation-sym _ _ (IsPermutation-map f xs ys p)) (arranged_moves (map f xs)))
+    (Ascending-map f ys up) (arranged_ascends (map f xs))
 
 -- the item that was got at an index
 pub got_at : {X : Type 0} (xs : List X) (i : ℕ) (x : X) → i < length xs → slice_get xs i ≡ Some x → x ≡ get_or xs i x

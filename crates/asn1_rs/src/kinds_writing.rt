@@ -49,7 +49,7 @@ pub trait ToDerBy<K>: DynTagged {
             IfOk result (λ n. n ≡ length (writing.header self.now ++ writing.content self.now)) }
         ensures refused { writing.tells self.now →
             IfErr result (RefusesCount writing.count_takes_memory
-                (length (writing.header self.now ++ writing.content self.now)) (writing.count_refuses self.now)) }
+            (length (writing.header self.now ++ writing.content self.now)) (writing.count_refuses self.now)) }
         ensures accepted { (e : Uncounted) → writing.tells self.now →
             writing.count_refuses self.now e → IsErr result };
 
@@ -58,7 +58,7 @@ pub trait ToDerBy<K>: DynTagged {
         ensures count { writing.tells self.now → IfOk result (λ n. n ≡ length (writing.content self.now)) }
         ensures refused { writing.tells self.now →
             IfErr result (RefusesCount writing.count_takes_memory
-                (length (writing.content self.now)) (writing.count_refuses self.now)) }
+            (length (writing.content self.now)) (writing.count_refuses self.now)) }
         ensures accepted { (e : Uncounted) → writing.tells self.now →
             writing.count_refuses self.now e → IsErr result };
 
@@ -72,11 +72,11 @@ pub trait ToDerBy<K>: DynTagged {
             Wrote (writing.header self.now) (W.told w.old) (W.told w.new) (W.failed w.old) (W.failed w.new) result }
         ensures refused { writing.tells self.now →
             IfErr result (Refuses writing.count_takes_memory
-                (length (writing.header self.now ++ writing.content self.now)) (writing.header_refuses self.now)) }
+            (length (writing.header self.now ++ writing.content self.now)) (writing.header_refuses self.now)) }
         ensures at_once { (e : Unwritten) → writing.tells self.now → writing.header_refuses self.now e →
             IsRefusedAtOnce writing.count_takes_memory
-                (length (writing.header self.now ++ writing.content self.now)) (writing.header_refuses self.now)
-                (W.told w.old) (W.told w.new) (W.failed w.old) (W.failed w.new) result };
+            (length (writing.header self.now ++ writing.content self.now)) (writing.header_refuses self.now)
+            (W.told w.old) (W.told w.new) (W.failed w.old) (W.failed w.new) result };
 
     /// `write_der_content`.
     fn put_content<W: DerWrite>(&self, alloc: Global, w: &mut W) -> SerializeResult<usize>
@@ -84,7 +84,7 @@ pub trait ToDerBy<K>: DynTagged {
             Wrote (writing.content self.now) (W.told w.old) (W.told w.new) (W.failed w.old) (W.failed w.new) result }
         ensures refused { writing.tells self.now →
             IfErr result (Refuses writing.content_takes_memory
-                (length (writing.content self.now)) (writing.content_refuses self.now)) }
+            (length (writing.content self.now)) (writing.content_refuses self.now)) }
         ensures accepted { (e : Unwritten) → writing.tells self.now →
             writing.content_refuses self.now e → IsErr result }
         ensures uncounted { (e : Uncounted) → writing.tells self.now →

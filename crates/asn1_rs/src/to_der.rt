@@ -95,7 +95,7 @@ pub trait ToDer: DynTagged {
             IfOk result (λ n. n ≡ length (header self.now ++ content self.now)) }
         ensures refused { tells self.now →
             IfErr result (RefusesCount count_takes_memory
-                (length (header self.now ++ content self.now)) (count_refuses self.now)) }
+            (length (header self.now ++ content self.now)) (count_refuses self.now)) }
         ensures accepted { (e : Uncounted) → tells self.now → count_refuses self.now e → IsErr result };
 
     /// How many contents octets are appended.
@@ -103,7 +103,7 @@ pub trait ToDer: DynTagged {
         ensures count { tells self.now → IfOk result (λ n. n ≡ length (content self.now)) }
         ensures refused { tells self.now →
             IfErr result (RefusesCount count_takes_memory
-                (length (content self.now)) (count_refuses self.now)) }
+            (length (content self.now)) (count_refuses self.now)) }
         ensures accepted { (e : Uncounted) → tells self.now → count_refuses self.now e → IsErr result };
 
     /// The constructed bit of the encoding. Most types answer whether their tag is that of sequence or set.
@@ -116,11 +116,11 @@ pub trait ToDer: DynTagged {
             Wrote (header self.now) (W.told w.old) (W.told w.new) (W.failed w.old) (W.failed w.new) result }
         ensures refused { tells self.now →
             IfErr result (Refuses count_takes_memory
-                (length (header self.now ++ content self.now)) (header_refuses self.now)) }
+            (length (header self.now ++ content self.now)) (header_refuses self.now)) }
         ensures at_once { (e : Unwritten) → tells self.now → header_refuses self.now e →
             IsRefusedAtOnce count_takes_memory
-                (length (header self.now ++ content self.now)) (header_refuses self.now)
-                (W.told w.old) (W.told w.new) (W.failed w.old) (W.failed w.new) result };
+            (length (header self.now ++ content self.now)) (header_refuses self.now)
+            (W.told w.old) (W.told w.new) (W.failed w.old) (W.failed w.new) result };
 
     /// Appends the contents octets, and answers their number.
     fn write_der_content<W: DerWrite>(&self, alloc: Global, w: &mut W) -> SerializeResult<usize>
@@ -128,7 +128,7 @@ pub trait ToDer: DynTagged {
             Wrote (content self.now) (W.told w.old) (W.told w.new) (W.failed w.old) (W.failed w.new) result }
         ensures refused { tells self.now →
             IfErr result (Refuses content_takes_memory
-                (length (content self.now)) (content_refuses self.now)) }
+            (length (content self.now)) (content_refuses self.now)) }
         ensures accepted { (e : Unwritten) → tells self.now → content_refuses self.now e → IsErr result }
         ensures uncounted { (e : Uncounted) → tells self.now → count_refuses self.now e → IsErr result };
 
@@ -139,18 +139,18 @@ pub trait ToDer: DynTagged {
     fn write_der<W: DerWrite>(&self, alloc: Global, w: &mut W) -> SerializeResult<usize>
         ensures wrote { tells self.now →
             Wrote (header self.now ++ content self.now)
-                (W.told w.old) (W.told w.new) (W.failed w.old) (W.failed w.new) result }
+            (W.told w.old) (W.told w.new) (W.failed w.old) (W.failed w.new) result }
         ensures refused { tells self.now →
             IfErr result (Refuses (some_takes write_takes_memory count_takes_memory content_takes_memory)
-                (length (header self.now ++ content self.now))
-                (Either (header_refuses self.now) (content_refuses self.now))) }
+            (length (header self.now ++ content self.now))
+            (Either (header_refuses self.now) (content_refuses self.now))) }
         ensures accepted { (e : Unwritten) → tells self.now → content_refuses self.now e → IsErr result }
         ensures uncounted { (e : Uncounted) → tells self.now → count_refuses self.now e → IsErr result }
         ensures at_once { (e : Unwritten) → tells self.now → header_refuses self.now e →
             IsRefusedAtOnce (some_takes write_takes_memory count_takes_memory content_takes_memory)
-                (length (header self.now ++ content self.now))
-                (Either (header_refuses self.now) (content_refuses self.now))
-                (W.told w.old) (W.told w.new) (W.failed w.old) (W.failed w.new) result }
+            (length (header self.now ++ content self.now))
+            (Either (header_refuses self.now) (content_refuses self.now))
+            (W.told w.old) (W.told w.new) (W.failed w.old) (W.failed w.new) result }
     {
         let before = self.write_der_header(alloc, w)?;
         let after = self.write_der_content(alloc, w)?;
@@ -161,11 +161,11 @@ pub trait ToDer: DynTagged {
     fn write_der_raw<W: DerWrite>(&self, alloc: Global, w: &mut W) -> SerializeResult<usize>
         ensures der { tells self.now → raw_is_der self.now →
             Wrote (header self.now ++ content self.now)
-                (W.told w.old) (W.told w.new) (W.failed w.old) (W.failed w.new) result }
+            (W.told w.old) (W.told w.new) (W.failed w.old) (W.failed w.new) result }
         ensures refused { tells self.now → raw_is_der self.now →
             IfErr result (Refuses (some_takes write_takes_memory count_takes_memory content_takes_memory)
-                (length (header self.now ++ content self.now))
-                (Either (header_refuses self.now) (content_refuses self.now))) }
+            (length (header self.now ++ content self.now))
+            (Either (header_refuses self.now) (content_refuses self.now))) }
         ensures accepted { (e : Unwritten) → tells self.now → raw_is_der self.now →
             content_refuses self.now e → IsErr result }
         ensures uncounted { (e : Uncounted) → tells self.now → raw_is_der self.now →
@@ -173,9 +173,9 @@ pub trait ToDer: DynTagged {
         ensures at_once { (e : Unwritten) → tells self.now → raw_is_der self.now →
             header_refuses self.now e →
             IsRefusedAtOnce (some_takes write_takes_memory count_takes_memory content_takes_memory)
-                (length (header self.now ++ content self.now))
-                (Either (header_refuses self.now) (content_refuses self.now))
-                (W.told w.old) (W.told w.new) (W.failed w.old) (W.failed w.new) result }
+            (length (header self.now ++ content self.now))
+            (Either (header_refuses self.now) (content_refuses self.now))
+            (W.told w.old) (W.told w.new) (W.failed w.old) (W.failed w.new) result }
         ensures counted { tells self.now →
             IfOk result (λ n. (raw : List ℕ) × Appends (W.told w.old) (W.told w.new) raw × (n ≡ length raw)) }
     {
@@ -188,7 +188,7 @@ pub trait ToDer: DynTagged {
             IfOk result (λ octets. octets.items ≡ header self.now ++ content self.now) }
         ensures refused { tells self.now →
             IfErr result (VectorRefuses (length (header self.now ++ content self.now))
-                (Either (header_refuses self.now) (content_refuses self.now))) }
+            (Either (header_refuses self.now) (content_refuses self.now))) }
         ensures accepted { (e : Unwritten) → tells self.now →
             Either (header_refuses self.now) (content_refuses self.now) e → IsErr result }
         ensures uncounted { (e : Uncounted) → tells self.now → count_refuses self.now e → IsErr result }
@@ -207,7 +207,7 @@ pub trait ToDer: DynTagged {
             IfOk result (λ octets. octets.items ≡ header self.now ++ content self.now) }
         ensures refused { tells self.now → raw_is_der self.now →
             IfErr result (VectorRefuses (length (header self.now ++ content self.now))
-                (Either (header_refuses self.now) (content_refuses self.now))) }
+            (Either (header_refuses self.now) (content_refuses self.now))) }
         ensures accepted { (e : Unwritten) → tells self.now → raw_is_der self.now →
             Either (header_refuses self.now) (content_refuses self.now) e → IsErr result }
         ensures uncounted { (e : Uncounted) → tells self.now → raw_is_der self.now →

@@ -89,8 +89,8 @@ put_in_length o [] = ap length (flat_map-cons (λ x. x) o []) ∙ length-append 
 put_in_length o (p ∷ ps) =
     elim (is_lt (lex p o)) as (λ b. length (joining (if b then p ∷ put_in o ps else o ∷ p ∷ ps)) ≡ length o + length (joining (p ∷ ps))) [
       | true ↦ let a = ap length (flat_map-cons (λ x. x) p (put_in o ps)) ∙ length-append p (joining (put_in o ps)) in
-        let b = ap length (flat_map-cons (λ x. x) p ps) ∙ length-append p (joining ps) in
-        let c = put_in_length o ps in omega (arith, a, b, c)
+          let b = ap length (flat_map-cons (λ x. x) p ps) ∙ length-append p (joining ps) in
+          let c = put_in_length o ps in omega (arith, a, b, c)
       | false ↦ ap length (flat_map-cons (λ x. x) o (p ∷ ps)) ∙ length-append o (joining (p ∷ ps))
     ]
 

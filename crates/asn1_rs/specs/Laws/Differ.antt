@@ -40,9 +40,10 @@ module _ {V : Type 0} where
 
   differ_from_Apart : (xs : List V) → Apart xs → AllDiffer xs
   differ_from_Apart [] h = tt
-  differ_from_Apart (x ∷ xs) h =
-      (λ c. let e : suc c.0 ≡ 0 = h (suc c.0) 0 x (omega (arith, c.1)) (omega arith) c.2 in absurd (omega (arith, e)),
-       differ_from_Apart xs (λ i j d l m e. let k : suc i ≡ suc j = h (suc i) (suc j) d (omega (arith, l)) (omega (arith, m)) e in omega (arith, k)))
+  differ_from_Apart (x ∷ xs) h = (
+    λ c. let e : suc c.0 ≡ 0 = h (suc c.0) 0 x (omega (arith, c.1)) (omega arith) c.2 in absurd (omega (arith, e)),
+    differ_from_Apart xs (λ i j d l m e. let k : suc i ≡ suc j = h (suc i) (suc j) d (omega (arith, l)) (omega (arith, m)) e in omega (arith, k)),
+  )
 
   -- where a place went when a and b changed places
   moved_place : (f g : ℕ → V) (a b n : ℕ) → Swapped f g a b → a < n → b < n → (p : ℕ) → p < n → (s : ℕ) × (s < n) × (g p ≡ f s) × (p ≡ a → s ≡ b) × (p ≡ b → s ≡ a) × ((p ≡ a → ⊥) → (p ≡ b → ⊥) → s ≡ p)
@@ -86,13 +87,18 @@ module _ {V : Type 0} where
     where
       c : Contains ys x
       c = (s x).0 (0, omega arith, refl)
+
       zs : List V
       zs = remove ys c.0
+
       moved : IsPermutation ys (x ∷ zs)
       moved = IsPermutation-remove ys c.0 x c.1 (sym c.2)
+
       front : AllDiffer (x ∷ zs)
       front = AllDiffer-permutation ys (x ∷ zs) moved k
+
       to : (v : V) → Contains xs v → Contains zs v
       to v d = ⊎_elim (λ e. absurd (h.0 (subst (Contains xs) (sym e) d))) (λ t. t) (contains_cases x zs v (Contains-permutation ys (x ∷ zs) v moved ((s v).0 (contains_later x xs v d))))
+
       from : (v : V) → Contains zs v → Contains xs v
       from v d = ⊎_elim (λ e. absurd (front.0 (subst (Contains zs) (sym e) d))) (λ t. t) (contains_cases x xs v ((s v).1 (Contains-permutation (x ∷ zs) ys v (IsPermutation-sym ys (x ∷ zs) moved) (contains_later x zs v d))))

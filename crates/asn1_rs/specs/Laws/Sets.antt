@@ -133,17 +133,25 @@ module _ {V M : Type 0} (of : List V → M) (Each : List V → Type 0) (Form : V
     set_joined m c f = joined_map (StrictWord Form) G (λ o v s. word v o s) c f.items (joins_joined m c f)
 
     pub set_form_body : FormBodies (SetForm of Each Form) (SetBody of G)
-    set_form_body = λ m i c f. (f.1.items, f.1.are, record {
-      number_is = ap (λ (z : Identifier). z.number) f.0;
-      constructed = ap (λ (z : Identifier). z.constructed) f.0;
-      items = set_joined m c f.1;
-    })
+    set_form_body = λ m i c f. (
+      f.1.items,
+      f.1.are,
+      record {
+        number_is = ap (λ (z : Identifier). z.number) f.0;
+        constructed = ap (λ (z : Identifier). z.constructed) f.0;
+        items = set_joined m c f.1;
+      },
+    )
 
     pub set_form_row : FormBodies (SetForm of Each Form) (SetRow of G)
-    set_form_row = λ m i c f. (f.1.items, f.1.are, record {
-      number_is = ap (λ (z : Identifier). z.number) f.0;
-      items = set_joined m c f.1;
-    })
+    set_form_row = λ m i c f. (
+      f.1.items,
+      f.1.are,
+      record {
+        number_is = ap (λ (z : Identifier). z.number) f.0;
+        items = set_joined m c f.1;
+      },
+    )
 
   pub set_form_check : (Check : Parts → Type 0) → FormChecks Form Check → FormChecks (SetForm of Each Form) (ListCheck 17 Check)
   set_form_check Check checks = λ m i c f. list_form_check Form 17 Check checks f.1.items i c (f.0, joins_joined m c f.1)
@@ -159,8 +167,8 @@ Writes {S} value octets v o = (x : S) × (value x ≡ v) × (octets x ≡ o)
 ascending_same : (os ps : List (List ℕ)) → IsPermutation os ps → arranged os ≡ arranged ps
 ascending_same os ps p =
     Ascending-unique (arranged os) (arranged ps)
-      (IsPermutation-trans _ _ _ (IsPermutation-sym _ _ (arranged_moves os)) (IsPermutation-trans _ _ _ p (arranged_moves ps)))
-      (arranged_ascends os) (arranged_ascends ps)
+    (IsPermutation-trans _ _ _ (IsPermutation-sym _ _ (arranged_moves os)) (IsPermutation-trans _ _ _ p (arranged_moves ps)))
+    (arranged_ascends os) (arranged_ascends ps)
 
 module _ {S V : Type 0} (value : S → V) (octets : S → List ℕ) (law : (x y : S) → value x ≡ value y → octets x ≡ octets y) where
   writes_one : (v : V) (o p : List ℕ) → Writes value octets v o → Writes value octets v p → o ≡ p
@@ -174,9 +182,9 @@ module _ {S V : Type 0} (value : S → V) (octets : S → List ℕ) (law : (x y 
   pub set_content_same : (xs ys : List S) → ∥ IsPermutation (map value xs) (map value ys) ∥₁ → set_content octets xs ≡ set_content octets ys
   set_content_same xs ys m =
       ap joining (∥∥₁_elim m (strings_set _ _) (λ h.
-        let t = zip_permutation (Writes value octets) (map value xs) (map value ys) (map octets xs) h (writes_zip xs) in
-        let k : t.0 ≡ map octets ys = zip_right (Writes value octets) writes_one (map value ys) t.0 (map octets ys) t.1 (writes_zip ys) in
-        ascending_same (map octets xs) (map octets ys) (subst (IsPermutation (map octets xs)) k t.2)))
+      let t = zip_permutation (Writes value octets) (map value xs) (map value ys) (map octets xs) h (writes_zip xs) in
+      let k : t.0 ≡ map octets ys = zip_right (Writes value octets) writes_one (map value ys) t.0 (map octets ys) t.1 (writes_zip ys) in
+      ascending_same (map octets xs) (map octets ys) (subst (IsPermutation (map octets xs)) k t.2)))
 
 -- what is written for a set follows from its values
 module _ {S V : Type 0} (value : S → V) (constructed : S → Bool) (header content : S → List ℕ) where
@@ -221,11 +229,11 @@ module _ {S V : Type 0} (value : S → V) (Form : V → Identifier → List ℕ 
     set_written : set_content (λ x. header x ++ content x) xs ≡ c
     set_written =
         ap joining (∥∥₁_elim moved (strings_set _ _) (λ p.
-          let t = zip_permutation (IsStrict Form) j.items (map value xs) j.strings p j.each in
-          let k : map (λ x. header x ++ content x) xs ≡ t.0 = zip_octets law xs t.0 t.1 in
-          Ascending-unique (arranged (map (λ x. header x ++ content x) xs)) j.strings
-            (IsPermutation-trans _ _ _ (IsPermutation-sym _ _ (arranged_moves (map (λ x. header x ++ content x) xs))) (IsPermutation-sym _ _ (subst (IsPermutation j.strings) (sym k) t.2)))
-            (arranged_ascends (map (λ x. header x ++ content x) xs)) j.ascend)) ∙ j.joined
+        let t = zip_permutation (IsStrict Form) j.items (map value xs) j.strings p j.each in
+        let k : map (λ x. header x ++ content x) xs ≡ t.0 = zip_octets law xs t.0 t.1 in
+        Ascending-unique (arranged (map (λ x. header x ++ content x) xs)) j.strings
+        (IsPermutation-trans _ _ _ (IsPermutation-sym _ _ (arranged_moves (map (λ x. header x ++ content x) xs))) (IsPermutation-sym _ _ (subst (IsPermutation j.strings) (sym k) t.2)))
+        (arranged_ascends (map (λ x. header x ++ content x) xs)) j.ascend)) ∙ j.joined
 
     -- that nothing is refused is no datum, so it may be taken out of the quotient
     no_refusal : {E : Type 0} (refuses : S → E → Type 0) → ((x : S) → Writable x → HasNone (refuses x)) → HasNone (SomeRefuses refuses xs)
@@ -296,13 +304,13 @@ module _ {S V : Type 0} (test : S → S → Bool) (value : S → V) (apart : (x 
   members_moved xs ys =
       elim (pairs_pass test xs) as (λ a. pairs_pass test xs ≡ a → members_if a (map value xs) ≡ members test value ys → ∥ IsPermutation (map value xs) (map value ys) ∥₁) [
         | true ↦ λ p. elim (pairs_pass test ys) as (λ b. pairs_pass test ys ≡ b → set_of (map value xs) ≡ members_if b (map value ys) → ∥ IsPermutation (map value xs) (map value ys) ∥₁) [
-            | true ↦ λ q e. permutation_from_set (map value xs) (map value ys) (pairs_differ xs p) (pairs_differ ys q) e
-            | false ↦ λ q e. kinds_apart (value_set (map value xs)) (map value ys) e
-          ] refl
+          | true ↦ λ q e. permutation_from_set (map value xs) (map value ys) (pairs_differ xs p) (pairs_differ ys q) e
+          | false ↦ λ q e. kinds_apart (value_set (map value xs)) (map value ys) e
+        ] refl
         | false ↦ λ p. elim (pairs_pass test ys) as (λ b. ◌≡◌ {A = Members V} (inr (map value xs)) (members_if b (map value ys)) → ∥ IsPermutation (map value xs) (map value ys) ∥₁) [
-            | true ↦ λ e. kinds_apart (value_set (map value ys)) (map value xs) (sym e)
-            | false ↦ λ e. ∣ subst (IsPermutation (map value xs)) (row_inj (map value xs) (map value ys) e) (IsPermutation-refl (map value xs)) ∣₁
-          ]
+          | true ↦ λ e. kinds_apart (value_set (map value ys)) (map value xs) (sym e)
+          | false ↦ λ e. ∣ subst (IsPermutation (map value xs)) (row_inj (map value xs) (map value ys) e) (IsPermutation-refl (map value xs)) ∣₁
+        ]
       ] refl
 
   -- and a row that stands for a set has its values, each once
@@ -399,13 +407,15 @@ module _ {S V : Type 0} (eq : S → S → Bool) (value : S → V) (same : (x y :
     same_rows (x ∷ xs) (y ∷ ys) h k f g =
         ap (λ v. v ∷ map value xs) e
         ∙ ap (λ vs. value y ∷ vs) (same_rows xs ys p.1 q.1
-          (λ v i. ⊎_elim (λ r. absurd (not_again x xs p.0 (subst (λ z. In z (map value xs)) (sym (e ∙ r)) i))) (λ j. j) (f v (inr i)))
-          (λ v i. ⊎_elim (λ r. absurd (not_again y ys q.0 (subst (λ z. In z (map value ys)) (sym (sym e ∙ r)) i))) (λ j. j) (g v (inr i))))
+        (λ v i. ⊎_elim (λ r. absurd (not_again x xs p.0 (subst (λ z. In z (map value xs)) (sym (e ∙ r)) i))) (λ j. j) (f v (inr i)))
+        (λ v i. ⊎_elim (λ r. absurd (not_again y ys q.0 (subst (λ z. In z (map value ys)) (sym (sym e ∙ r)) i))) (λ j. j) (g v (inr i))))
       where
         p : (list_all (is_below cmp x) xs ≡ true) × (pairs_pass (is_below cmp) xs ≡ true)
         p = both_true (list_all (is_below cmp x) xs) (pairs_pass (is_below cmp) xs) h
+
         q : (list_all (is_below cmp y) ys ≡ true) × (pairs_pass (is_below cmp) ys ≡ true)
         q = both_true (list_all (is_below cmp y) ys) (pairs_pass (is_below cmp) ys) k
+
         e : value x ≡ value y
         e = same_first x y xs ys p.0 q.0 (f (value x) (inl refl)) (g (value y) (inl refl))
 
@@ -418,21 +428,22 @@ module _ {S V : Type 0} (eq : S → S → Bool) (value : S → V) (same : (x y :
       where
         to : IsTrue (pointwise eq xs ys) → members (is_below cmp) value xs ≡ members (is_below cmp) value ys
         to h = let e = (same_lists eq value same xs ys).0 h in
-          ap (λ b. members_if b (map value xs)) (pass_by_value xs ys e) ∙ ap (λ vs. members_if (pairs_pass (is_below cmp) ys) vs) e
+            ap (λ b. members_if b (map value xs)) (pass_by_value xs ys e) ∙ ap (λ vs. members_if (pairs_pass (is_below cmp) ys) vs) e
+
         from : members (is_below cmp) value xs ≡ members (is_below cmp) value ys → ∥ map value xs ≡ map value ys ∥₁
         from =
-          elim (pairs_pass (is_below cmp) xs) as (λ a. pairs_pass (is_below cmp) xs ≡ a → members_if a (map value xs) ≡ members (is_below cmp) value ys → ∥ map value xs ≡ map value ys ∥₁) [
-            | true ↦ λ p. elim (pairs_pass (is_below cmp) ys) as (λ b. pairs_pass (is_below cmp) ys ≡ b → set_of (map value xs) ≡ members_if b (map value ys) → ∥ map value xs ≡ map value ys ∥₁) [
+            elim (pairs_pass (is_below cmp) xs) as (λ a. pairs_pass (is_below cmp) xs ≡ a → members_if a (map value xs) ≡ members (is_below cmp) value ys → ∥ map value xs ≡ map value ys ∥₁) [
+              | true ↦ λ p. elim (pairs_pass (is_below cmp) ys) as (λ b. pairs_pass (is_below cmp) ys ≡ b → set_of (map value xs) ≡ members_if b (map value ys) → ∥ map value xs ≡ map value ys ∥₁) [
                 | true ↦ λ q e. ∥∥₁_map (have_same_from_value_set (map value xs) (map value ys) (set_inj (value_set (map value xs)) (value_set (map value ys)) e)) (λ r. same_rows xs ys p q
                     (λ v i. in_from_contains v (map value ys) ((r v).0 (contains_from_in v (map value xs) i)))
                     (λ v i. in_from_contains v (map value xs) ((r v).1 (contains_from_in v (map value ys) i))))
                 | false ↦ λ q e. kinds_apart (value_set (map value xs)) (map value ys) e
               ] refl
-            | false ↦ λ p. elim (pairs_pass (is_below cmp) ys) as (λ b. ◌≡◌ {A = Members V} (inr (map value xs)) (members_if b (map value ys)) → ∥ map value xs ≡ map value ys ∥₁) [
+              | false ↦ λ p. elim (pairs_pass (is_below cmp) ys) as (λ b. ◌≡◌ {A = Members V} (inr (map value xs)) (members_if b (map value ys)) → ∥ map value xs ≡ map value ys ∥₁) [
                 | true ↦ λ e. kinds_apart (value_set (map value ys)) (map value xs) (sym e)
                 | false ↦ λ e. ∣ row_inj (map value xs) (map value ys) e ∣₁
               ]
-          ] refl
+            ] refl
 
 -- what is collected from items has their values
 module _ {S V : Type 0} (test : S → S → Bool) (value : S → V) (is : (x y : S) → IsTrue (test x y) ↔ (value x ≡ value y)) where
@@ -467,9 +478,11 @@ module _ {T V W M E : Type 0} (holds : List T → W → Type 0) (of : List V →
     (one : IsOneFront G)
     (exact : (octets : List ℕ) (answer : Result (List ℕ × T) (Refusal E)) → IsOctets octets → reads octets answer → Exactly IsCut G value (TellsMemory takes from) octets answer) where
   pub set_takes : (p : Parts) (answer : Result W E) → IsOctets p.content → ListTakes 17 holds reads from p answer → TakesBody (SetBody of G) worth true from p answer
-  set_takes p (Ok w) o t =
-      (map value t.1.0, told t.1.0 w t.1.1,
-       list_takes 17 (λ (xs : List T) (ys : List T). ys ≡ xs) (map value) reads from G value takes IsCut (λ xs ys e. ap (map value) (sym e)) one exact p (Ok t.1.0) o (t.0, (t.1.0, refl, t.1.2)))
+  set_takes p (Ok w) o t = (
+    map value t.1.0,
+    told t.1.0 w t.1.1,
+    list_takes 17 (λ (xs : List T) (ys : List T). ys ≡ xs) (map value) reads from G value takes IsCut (λ xs ys e. ap (map value) (sym e)) one exact p (Ok t.1.0) o (t.0, (t.1.0, refl, t.1.2)),
+  )
   set_takes p (Err e) o t = elim (list_takes {W = List T} 17 (λ (xs : List T) (ys : List T). ys ≡ xs) (map value) reads from G value takes IsCut (λ xs ys e. ap (map value) (sym e)) one exact p (Err e) o t) [ inl m ↦ inl m | inr none ↦ inr (λ m b. none b.0 b.2) ]
 
 -- what std collects into a set stands for the values of the items

@@ -43,8 +43,11 @@ module _ {A B : Type 0} (R : A → B → Type 0) where
   zip_permutation xs ws ys p h =
       IsPermutation-keeps xs (λ l. (zs : List B) × AllZip R l zs × IsPermutation ys zs)
       (ys, h, IsPermutation-refl ys)
-      (λ l i j k m t. (swap t.0 i j, zip_swap l t.0 i j k m t.1,
-        IsPermutation-trans ys t.0 (swap t.0 i j) t.2 (IsPermutation-swap t.0 (swap t.0 i j) i j (subst (λ n. i < n) (sym (zip_length l t.0 t.1)) k) (subst (λ n. j < n) (sym (zip_length l t.0 t.1)) m) refl)))
+      (λ l i j k m t. (
+        swap t.0 i j,
+        zip_swap l t.0 i j k m t.1,
+        IsPermutation-trans ys t.0 (swap t.0 i j) t.2 (IsPermutation-swap t.0 (swap t.0 i j) i j (subst (λ n. i < n) (sym (zip_length l t.0 t.1)) k) (subst (λ n. j < n) (sym (zip_length l t.0 t.1)) m) refl),
+      ))
       ws p
 
   pub zip_right : ((x : A) (y z : B) → R x y → R x z → y ≡ z) → (xs : List A) (ys zs : List B) → AllZip R xs ys → AllZip R xs zs → ys ≡ zs

@@ -22,13 +22,15 @@ ghost use Rattle.asn1_rs.specs.Laws.Words.{word_one, strict_ber_word, strict_der
 ghost use Rattle.asn1_rs.specs.Laws.Lists.{list_body_one, list_of_one, list_body_values, list_der_values};
 ghost use Rattle.asn1_rs.specs.Laws.Sets.{set_content, body_seen, permutation_from_set, set_one_form, set_one_value, set_fits, set_form_values, set_form_body, set_form_row, set_form_check, set_by_value, set_writes_form, members_moved, members_are, set_takes, tree_told, below_apart, same_members};
 
-use crate::asn1_types::items::{FromItems, items_of_set};
 use crate::asn1_types::any::Any;
-use crate::ber::element_by_der;
+use crate::asn1_types::items::{FromItems, items_of_set};
 use crate::asn1_types::sets::write_ascending;
+use crate::ber::element_by_der;
 use crate::error::{Err, Error, ParseResult, SerializeError, SerializeResult};
 use crate::header_writing::{element_len, put_counted_header};
-use crate::laws::{Grammar, LawfulBer, LawfulBody, LawfulDer, LawfulItem, LawfulMember, LawfulWrite};
+use crate::laws::{
+    Grammar, LawfulBer, LawfulBody, LawfulDer, LawfulItem, LawfulMember, LawfulWrite,
+};
 use crate::tag::Tag;
 use crate::to_der::{ToDer, add_counts};
 use crate::traits::{FromDer, Tagged};
@@ -245,7 +247,8 @@ impl<'a, T: FromDer<'a, E> + Ord + Drop, E: From<Error>> FromDer<'a, E> for BTre
     }
 }
 
-impl<'a, T: LawfulBer<'a, Error> + LawfulMember + Ord + Drop> LawfulBody<'a, Error> for BTreeSet<T> {
+impl<'a, T: LawfulBer<'a, Error> + LawfulMember + Ord + Drop> LawfulBody<'a, Error>
+    for BTreeSet<T> {
     ghost body_exact = { set_takes (λ xs s. IsFromIterResult T.cmp xs s) set_of (λ s. members (is_below T.cmp) T.value s.keys) T.ber_gives (λ x y. y ≡ x) T.Ber T.value T.takes_memory EndsWithin (tree_told T.eq T.value T.same T.cmp T.matches_eq) T.ber_one T.ber_exact };
 
     ghost form_body = { set_form_body set_of AllDiffer T.Form T.Ber T.strict_ber };
@@ -255,6 +258,7 @@ impl<'a, T: LawfulBer<'a, Error> + LawfulMember + Ord + Drop> LawfulBody<'a, Err
     ghost ber_join = { λ o vs w. w };
 }
 
-impl<'a, T: LawfulDer<'a, E> + LawfulMember + Ord + Drop, E: From<Error>> LawfulDer<'a, E> for BTreeSet<T> {
+impl<'a, T: LawfulDer<'a, E> + LawfulMember + Ord + Drop, E: From<Error>> LawfulDer<'a, E>
+    for BTreeSet<T> {
     ghost der_exact = { λ input answer octets. element_exact IsDefiniteElement DefiniteElementFault IsCutIdentifier der_elements (faults.DerConstraintFailed constraints.IndefiniteLength) PassesAll (ListTakes 17 (λ xs s. IsFromIterResult T.cmp xs s) T.der_gives E.from_gives) E.from_gives NoCheck (SetBody set_of T.Der) (λ s. members (is_below T.cmp) T.value s.keys) true (DerWord NoCheck (SetBody set_of T.Der)) passes_all (set_takes (λ xs s. IsFromIterResult T.cmp xs s) set_of (λ s. members (is_below T.cmp) T.value s.keys) T.der_gives E.from_gives T.Der T.value T.takes_memory IsCutIdentifier (tree_told T.eq T.value T.same T.cmp T.matches_eq) T.der_one T.der_exact) (λ o vs w. w) (λ o vs w. w) input answer };
 }

@@ -87,9 +87,7 @@ impl<T: ToDer> ToDer for Vec<T> {
 
     ghost count_takes_memory = { T.count_takes_memory };
 
-    ghost content_takes_memory = {
-        some_takes T.write_takes_memory T.count_takes_memory T.content_takes_memory
-    };
+    ghost content_takes_memory = { some_takes T.write_takes_memory T.count_takes_memory T.content_takes_memory };
 
     fn to_der_len(&self) -> Result<usize, Error> {
         element_len(Tag::Sequence.0, self.der_content_len())

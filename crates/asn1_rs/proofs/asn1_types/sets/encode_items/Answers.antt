@@ -18,7 +18,7 @@ loop-item-preserved g c = λ t.
     let told = item_all (λ x. g.T.ToDer.header x ++ g.T.ToDer.content x) c.args.items.now c.loop-item.item-index c.item-item.result c.loop-item-test.true c.item-item.is g.T.ToDer.tells t in (
       rw c.in-Ok.ensures.items (rw (map_more (λ x. g.T.ToDer.header x ++ g.T.ToDer.content x) c.args.items.now c.loop-item.item-index c.item-item.result c.loop-item-test.true) (rw (map-append (λ v. v.items) c.loop-item.strings.items (c.in_ok-string.string ∷ [])) (rw (← c.item-item.is) (rw ((c.loop-item.invariant t).0, c.in_ok-string.ensures.wrote told) refl)))),
       none_more (λ x. IntoVector (Either (g.T.ToDer.header_refuses x) (g.T.ToDer.content_refuses x))) c.args.items.now c.loop-item.item-index c.item-item.result c.loop-item-test.true c.item-item.is (c.loop-item.invariant t).1
-        (none_into _ (λ e o. false≢true (c.in_ok-string.ensures.accepted e told o))),
+          (none_into _ (λ e o. false≢true (c.in_ok-string.ensures.accepted e told o))),
       none_more g.T.ToDer.count_refuses c.args.items.now c.loop-item.item-index c.item-item.result c.loop-item-test.true c.item-item.is (c.loop-item.invariant t).2 (λ e o. false≢true (c.in_ok-string.ensures.uncounted e told o)),
     )
 

@@ -25,7 +25,7 @@ returns-clause-wrote g c = λ t. rw (← (rw c.deref.ensures.value at c.in_ok-st
 pub returns-clause-refused : goal.returns-clause-refused
 returns-clause-refused g c = λ t.
     only_may c.write_ascending.result true _ (SomeRefuses (λ x. IntoVector (Either (g.T.ToDer.header_refuses x) (g.T.ToDer.content_refuses x))) c.args.self.now.items.items)
-      (rw (← (rw c.deref.ensures.value at c.in_ok-strings.ensures.each) t) c.write_ascending.ensures.refused)
+    (rw (← (rw c.deref.ensures.value at c.in_ok-strings.ensures.each) t) c.write_ascending.ensures.refused)
 
 pub returns-clause-accepted : goal.returns-clause-accepted
 returns-clause-accepted g c = λ e t o. absurd (false≢true ((rw c.deref.ensures.value at c.in_ok-strings.ensures.accepted) e t o))
