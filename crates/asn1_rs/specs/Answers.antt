@@ -1,5 +1,5 @@
 -- What readers answer.
-use Rattle.std.specs.Prelude.{ℕ, Bool, IsTrue, List, [], ◌++◌, ◌≡◌, ◌<◌, ◌⊎◌, length, Result, Ok, Err}
+use Rattle.std.specs.Prelude.{ℕ, Bool, IsTrue, List, [], ◌++◌, ◌≡◌, ◌≢◌, ◌<◌, ◌⊎◌, length, Result, Ok, Err}
 use Rattle.std.specs.Borrow.{Bor}
 use Rattle.asn1_rs.specs.declared.error.Err.{Err as Refusal}
 use Rattle.asn1_rs.specs.declared.error.Err.TheVariants.{Incomplete as cut, Error as refused, Failure as failed}
@@ -36,6 +36,10 @@ IsFinal is_cut r G input = (more : List ℕ) → Speaks is_cut r more → NoFron
 -- the refusal may tell want of memory, where the reader takes any
 abbrev pub TellsMemory : {E : Type 0} → Bool → (Error → E → Type 0) → Refusal E → Type 0
 TellsMemory {E} takes gives r = IsTrue takes × ((e : E) × gives OutOfMemory e × (r ≡ refused e))
+
+-- a refusal that is made of another cause than want of memory, or that is not what want of memory is made into
+abbrev pub IsOther : {E : Type 0} → (Error → E → Type 0) → E → Type 0
+IsOther {E} gives e = ((f : Error) × (f ≢ OutOfMemory) × gives f e) ⊎ (gives OutOfMemory e → ⊥)
 
 -- The answer is Ok exactly where a word of the grammar begins the input, with its value and the rest. Where the reader takes memory, want of it may be told.
 abbrev pub Exactly : {T V E : Type 0} → (List ℕ → Type 0) → (List ℕ → V → Type 0) → (T → V) → (Refusal E → Type 0) → List ℕ → Result (List ℕ × T) (Refusal E) → Type 0

@@ -40,6 +40,7 @@ any_element = record {
   Value = Element;
   value = element_of;
   IsValue = IsElementValue;
+  IsDer = λ v. ElementForm v v.id v.content;
   Body = ElementBody;
   Check = ElementCheck;
   Form = ElementForm;

@@ -88,6 +88,10 @@ FormChecks {V} Form Check = (v : V) (i : Identifier) (c : List ℕ) → Form v i
 abbrev pub FormBodies : {V : Type 0} → (V → Identifier → List ℕ → Type 0) → (Parts → V → Type 0) → Type 0
 FormBodies {V} Form Body = (v : V) (i : Identifier) (c : List ℕ) → Form v i c → Body (made i c) v
 
--- They have this number, and meet check and body with this class in place of their own.
-abbrev pub FormTakes : {V : Type 0} → (V → Identifier → List ℕ → Type 0) → (Parts → Type 0) → (Parts → V → Type 0) → ℕ → ℕ → Type 0
-FormTakes {V} Form Check Body class number = (v : V) (i : Identifier) (c : List ℕ) → Form v i c → (i.number ≡ number) × Check (made (of_class class i) c) × Body (made (of_class class i) c) v
+-- and they meet both with this class in place of their own
+abbrev pub FormTakes : {V : Type 0} → (V → Identifier → List ℕ → Type 0) → (Parts → Type 0) → (Parts → V → Type 0) → ℕ → Type 0
+FormTakes {V} Form Check Body class = (v : V) (i : Identifier) (c : List ℕ) → Form v i c → Check (made (of_class class i) c) × Body (made (of_class class i) c) v
+
+-- they have this tag number
+abbrev pub FormNumber : {V : Type 0} → (V → Identifier → List ℕ → Type 0) → ℕ → Type 0
+FormNumber {V} Form number = (v : V) (i : Identifier) (c : List ℕ) → Form v i c → i.number ≡ number

@@ -76,6 +76,7 @@ integer_element number Holds = record {
   Value = ℤ;
   value = number;
   IsValue = Holds;
+  IsDer = Holds;
   Body = IntegerBody Holds;
   Check = IntegerCheck;
   Form = IntegerForm Holds;

@@ -1,50 +1,27 @@
--- What a type says of its values, and that it is lawful.
-use Rattle.std.specs.Prelude.{ℕ, Bool, List}
+-- What a type says that is read as one element, checked and converted.
+use Rattle.std.specs.Prelude.{◌≡◌, ℕ, Bool, false, List, Result, Err}
 use Rattle.x690.specs.Octets.{IsOctets}
 use Rattle.x690.specs.Identifiers.{Identifier}
 use Rattle.x690.specs.Elements.{Parts}
-use Rattle.asn1_rs.specs.Form.{IsOneForm, IsOneValue, FitsElement, HasValues, IsStrict}
-use Rattle.asn1_rs.specs.Grammar.{IsOneFront, IsOneBody, BerWord, DerWord, FormChecks, FormBodies}
+use Rattle.asn1_rs.specs.declared.error.Error.{Error}
+use Rattle.asn1_rs.specs.declared.error.Error.TheVariants.{OutOfMemory}
+use Rattle.asn1_rs.specs.Form.{IsOneForm, IsOneValue, FitsElement, HasValues}
+use Rattle.asn1_rs.specs.Grammar.{IsOneBody, BerWord, DerWord, TakesBody, Checks, FormChecks, FormBodies}
+use Rattle.asn1_rs.specs.ItemGrammar.{ItemGrammar}
 
--- the values of a type, its grammars and its strict parts
-pub record ItemGrammar (S : Type 0) : Type 1 where
-  pub Value : Type 0
-  pub value : S → Value
-  pub IsValue : Value → Type 0
-  pub Ber : List ℕ → Value → Type 0
-  pub Der : List ℕ → Value → Type 0
-  pub Body : Parts → Value → Type 0
-  pub Check : Parts → Type 0
-  pub Form : Value → Identifier → List ℕ → Type 0
-  pub takes_memory : Bool
-
--- Words, bodies and strict parts have values of the type; one word alone begins an input, a body has one value, and a value has one strict encoding, which is a word.
-pub record IsLawfulItem {S : Type 0} (G : ItemGrammar S) : Type 0 where
-  pub ber_values : (o : List ℕ) (v : G.Value) → G.Ber o v → G.IsValue v
-  pub der_values : (o : List ℕ) (v : G.Value) → G.Der o v → G.IsValue v
-  pub body_values : (p : Parts) (v : G.Value) → IsOctets p.content → G.Body p v → G.IsValue v
-  pub form_values : HasValues G.Form G.IsValue
-  pub ber_one : IsOneFront G.Ber
-  pub der_one : IsOneFront G.Der
-  pub body_one : IsOneBody G.Body
-  pub one_form : IsOneForm G.Form
-  pub one_value : IsOneValue G.Form
-  pub form_fits : FitsElement G.Form
-  pub form_check : FormChecks G.Form G.Check
-  pub strict_ber : (v : G.Value) (o : List ℕ) → IsStrict G.Form v o → G.Ber o v
-  pub strict_der : (v : G.Value) (o : List ℕ) → IsStrict G.Form v o → G.Der o v
-
--- What a type says that is read as one element, checked and converted: its values, the value of a body, what the check asks, and the strict parts of a value.
+-- Its values, and which are in DER form; the value of a body, what the check asks, and the strict parts of a value.
 pub record ElementGrammar (S : Type 0) : Type 1 where
   pub Value : Type 0
   pub value : S → Value
   pub IsValue : Value → Type 0
+  pub IsDer : Value → Type 0
   pub Body : Parts → Value → Type 0
   pub Check : Parts → Type 0
   pub Form : Value → Identifier → List ℕ → Type 0
   pub takes_memory : Bool
 
--- Bodies and strict parts have values of the type, a body has one value, a value one strict identifier and one strict content, and these fit an element, meet the check and have the value.
+-- Bodies and strict parts have values of the type, a body has one value, a value one strict identifier and one strict
+-- content; these fit an element, meet the check and have the value, which is in DER form.
 pub record IsLawfulElement {S : Type 0} (G : ElementGrammar S) : Type 0 where
   pub body_values : (p : Parts) (v : G.Value) → IsOctets p.content → G.Body p v → G.IsValue v
   pub form_values : HasValues G.Form G.IsValue
@@ -53,6 +30,7 @@ pub record IsLawfulElement {S : Type 0} (G : ElementGrammar S) : Type 0 where
   pub one_value : IsOneValue G.Form
   pub form_fits : FitsElement G.Form
   pub form_check : FormChecks G.Form G.Check
+  pub form_der : HasValues G.Form G.IsDer
   pub form_body : FormBodies G.Form G.Body
 
 -- its words by BER are the elements that have a body, and those by DER the ones of definite length that pass the check
@@ -61,6 +39,7 @@ item_grammar G = record {
   Value = G.Value;
   value = G.value;
   IsValue = G.IsValue;
+  IsDer = G.IsDer;
   Ber = BerWord G.Body;
   Der = DerWord G.Check G.Body;
   Body = G.Body;
@@ -68,3 +47,15 @@ item_grammar G = record {
   Form = G.Form;
   takes_memory = G.takes_memory;
 }
+
+-- The check passes exactly the parts that meet the constraints, and no refusal of it tells of want of memory.
+pub record IsExactCheck (check : Parts → Result (Unit {0}) Error → Type 0) (Check : Parts → Type 0) : Type 0 where
+  pub exact : (p : Parts) (answer : Result (Unit {0}) Error) → check p answer → Checks Check p answer
+  pub spares : (p : Parts) → check p (Err OutOfMemory) → ⊥
+
+-- The conversion takes exactly the parts that have a body, with its value. Where it takes no memory, no refusal of it
+-- tells of want of memory.
+pub record IsExactConversion {S : Type 0} (gives : Parts → Result S Error → Type 0) (G : ElementGrammar S) : Type 0 where
+  pub exact : (p : Parts) (answer : Result S Error) → IsOctets p.content → gives p answer →
+      TakesBody G.Body G.value G.takes_memory (λ (x y : Error). y ≡ x) p answer
+  pub spares : G.takes_memory ≡ false → (p : Parts) → gives p (Err OutOfMemory) → ⊥

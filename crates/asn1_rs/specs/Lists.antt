@@ -2,7 +2,7 @@
 use Rattle.std.specs.Prelude.{◌≡◌, ◌≢◌, ◌⊎◌, ℕ, true, false, List, [], ◌∷◌, ◌++◌, map, Some, Result, Ok, Err}
 use Rattle.std.specs.Borrow.{Bor}
 use Rattle.std.specs.declared.vec.Vec.{Vec}
-use Rattle.std.specs.List.{Any}
+use Rattle.std.specs.List.{All, Any, flat_map}
 use Rattle.std.specs.Iterator.{Yields}
 use Rattle.x690.specs.Identifiers.{Identifier}
 use Rattle.x690.specs.Elements.{Parts, IsDefiniteElement}
@@ -13,7 +13,8 @@ use Rattle.asn1_rs.specs.declared.asn1_types.any.Any.{Any as Element}
 use Rattle.asn1_rs.specs.Any.{IsTheElement}
 use Rattle.asn1_rs.specs.Error.{FlattenedTo}
 use Rattle.asn1_rs.specs.Form.{IsStrict}
-use Rattle.asn1_rs.specs.Grammar.{DerGives}
+use Rattle.asn1_rs.specs.Grammar.{DerGives, BerWord, DerWord, NoCheck}
+use Rattle.asn1_rs.specs.ItemGrammar.{ItemGrammar}
 use Rattle.asn1_rs.specs.Items.{TakesItem}
 use Rattle.asn1_rs.specs.Laws.Forms.{UniversalForm}
 
@@ -21,6 +22,10 @@ use Rattle.asn1_rs.specs.Laws.Forms.{UniversalForm}
 abbrev pub IsJoined : {V : Type 0} → (List ℕ → V → Type 0) → List ℕ → List V → Type 0
 IsJoined G octets [] = octets ≡ []
 IsJoined G octets (v ∷ vs) = (word : List ℕ) × (rest : List ℕ) × G word v × (octets ≡ word ++ rest) × IsJoined G rest vs
+
+-- strings, one after another
+abbrev pub joining : List (List ℕ) → List ℕ
+joining os = flat_map (λ o. o) os
 
 -- A constructed element with the tag number, whose contents octets are words joined.
 pub record ListBody {V : Type 0} (number : ℕ) (G : List ℕ → V → Type 0) (p : Parts) (vs : List V) : Type 0 where
@@ -78,6 +83,11 @@ abbrev pub ListTakes : {T W E : Type 0} → ℕ → (List T → W → Type 0) �
 ListTakes {T} number holds reads from p (Ok w) = IsListOr number p (Ok tt) × ((items : List T) × holds items w × ItemsGive reads from p.content (Ok items))
 ListTakes number holds reads from p (Err e) = ((refusal : Error) × IsListOr number p (Err refusal) × from refusal e) ⊎ (IsListOr number p (Ok tt) × ItemsGive reads from p.content (Err e))
 
+-- what is made of the items, or want of memory
+abbrev pub IsMadeOf : {T W E : Type 0} → (List T → W → Type 0) → (Error → E → Type 0) → List T → Result W E → Type 0
+IsMadeOf holds from items (Ok w) = holds items w
+IsMadeOf holds from items (Err e) = from faults.OutOfMemory e
+
 -- what a list's own reader by DER may answer to an element: the same, but the constructed bit is not looked at
 abbrev pub ListReads : {T W E : Type 0} → ℕ → (List T → W → Type 0) → (List ℕ → Result (List ℕ × T) (Refusal E) → Type 0) → (Error → E → Type 0) → Parts → Result W E → Type 0
 ListReads {T} number holds reads from p (Ok w) = (p.id.number ≡ number) × ((items : List T) × holds items w × ItemsGive reads from p.content (Ok items))
@@ -111,3 +121,18 @@ FirstChecked check octets (Err e) = (r : Refusal Error) × CheckedGives check oc
 -- one of the items has this refusal
 abbrev pub SomeRefuses : {T E : Type 0} → (T → E → Type 0) → List T → E → Type 0
 SomeRefuses refuses items e = Any (λ x. refuses x e) items
+
+-- lists of items of a type, in what holds them
+abbrev pub list_grammar : {S W : Type 0} → ℕ → (W → List S) → ItemGrammar S → ItemGrammar W
+list_grammar number items G = record {
+  Value = List G.Value;
+  value = λ w. map G.value (items w);
+  IsValue = All G.IsValue;
+  IsDer = All G.IsDer;
+  Ber = BerWord (ListBody number G.Ber);
+  Der = DerWord NoCheck (ListOf number G.Der);
+  Body = ListBody number G.Ber;
+  Check = ListCheck number G.Check;
+  Form = ListForm number G.Form;
+  takes_memory = true;
+}

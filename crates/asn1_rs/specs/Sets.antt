@@ -1,5 +1,5 @@
 -- Sets: elements whose contents octets are items in any order, and are written in ascending order (X.690 11.6).
-use Rattle.std.specs.Prelude.{◌≡◌, ◌⊎◌, ◌↔◌, ℕ, Bool, true, false, ◌&&◌, not, if◌then◌else◌, List, [], ◌∷◌, ◌++◌, map, flat_map, Contains}
+use Rattle.std.specs.Prelude.{◌≡◌, ◌⊎◌, ◌↔◌, ℕ, Bool, true, false, ◌&&◌, if◌then◌else◌, List, [], ◌∷◌, ◌++◌, map, flat_map, Contains}
 use Rattle.std.specs.List.{All, AllZip, list_all}
 use Rattle.std.specs.List.Sorted.{IsSorted, IsPermutation}
 use Rattle.std.specs.Ordering.{nat_cmp, is_lt}
@@ -7,9 +7,12 @@ use Rattle.std.specs.declared.cmp.Ordering.{Ordering}
 use Rattle.std.specs.Cmp.Lexicographic.{slice_cmp}
 use Rattle.std.proofs.Common.{inl, inr}
 use Rattle.x690.specs.Identifiers.{Identifier}
+use Rattle.asn1_rs.specs.declared.asn1_types.set_of.SetOf.{SetOf}
 use Rattle.x690.specs.Elements.{Parts}
 use Rattle.asn1_rs.specs.Form.{IsStrict}
-use Rattle.asn1_rs.specs.Lists.{ListBody, ListOf}
+use Rattle.asn1_rs.specs.Grammar.{BerWord, DerWord, NoCheck}
+use Rattle.asn1_rs.specs.ItemGrammar.{ItemGrammar}
+use Rattle.asn1_rs.specs.Lists.{joining, ListBody, ListOf, ListCheck}
 use Rattle.asn1_rs.specs.Laws.Forms.{UniversalForm}
 use mathlib.Core.Quot.{Quot, mk}
 
@@ -56,19 +59,13 @@ members_if false vs = inr vs
 abbrev pub members : {S V : Type 0} → (S → S → Bool) → (S → V) → List S → Members V
 members test value xs = members_if (pairs_pass test xs) (map value xs)
 
--- keys in the order of a `BTreeSet`, and keys that differ
+-- keys in the order of a `BTreeSet`
 abbrev pub is_below : {S : Type 0} → (S → S → Ordering) → S → S → Bool
 is_below cmp x y = is_lt (cmp x y)
-
-abbrev pub is_other : {S : Type 0} → (S → S → Bool) → S → S → Bool
-is_other eq x y = not (eq x y)
 
 -- no string is before the one in front of it, in dictionary order
 abbrev pub Ascending : List (List ℕ) → Type 0
 Ascending os = IsSorted (slice_cmp nat_cmp) os
-
-abbrev pub joining : List (List ℕ) → List ℕ
-joining os = flat_map (λ o. o) os
 
 -- The octets are the ascending joining of strict encodings of the collection's items.
 -- `of` says what collection a list of items is, and Each how a list has to stand for it.
@@ -103,3 +100,39 @@ SetForm of Each Form = UniversalForm true 17 (Joins of Each Form)
 -- collections of values that hold
 abbrev pub SetValues : {V M : Type 0} → (List V → M) → (V → Type 0) → M → Type 0
 SetValues {V} of P m = (vs : List V) × (of vs ≡ m) × All P vs
+
+-- collections of values in DER form, each of which stands as often as the collection has it
+abbrev pub SetInDer : {V M : Type 0} → (List V → M) → (List V → Type 0) → (V → Type 0) → M → Type 0
+SetInDer {V} of Each IsDer m = (vs : List V) × Each vs × (of vs ≡ m) × All IsDer vs
+
+-- Collections of items of a type. `of` says what collection a list of values is, `worth` what one in hand is, Each how a
+-- list has to stand for it, and DerBody what a reader by DER finds in an element's parts.
+abbrev pub set_grammar : {S W M : Type 0} (G : ItemGrammar S) → (List G.Value → M) → (W → M) → (List G.Value → Type 0) → (Parts → M → Type 0) → ItemGrammar W
+set_grammar {S} {W} {M} G of worth Each DerBody = record {
+  Value = M;
+  value = worth;
+  IsValue = SetValues of G.IsValue;
+  IsDer = SetInDer of Each G.IsDer;
+  Ber = BerWord (SetBody of G.Ber);
+  Der = DerWord NoCheck DerBody;
+  Body = SetBody of G.Ber;
+  Check = ListCheck 17 G.Check;
+  Form = SetForm of Each G.Form;
+  takes_memory = true;
+}
+
+-- sets in which an item may stand more than once; by DER the constructed bit is not looked at
+abbrev pub multiset_grammar : {S W : Type 0} → (W → List S) → ItemGrammar S → ItemGrammar W
+multiset_grammar items G = set_grammar G multiset (λ w. multiset (map G.value (items w))) AnyList (SetRow multiset G.Der)
+
+-- the items of a set of the library's own
+abbrev pub items_of : {T : Type 0} → SetOf T → List T
+items_of s = s.items.items
+
+-- it is made of these items
+abbrev pub HasItems : {T : Type 0} → List T → SetOf T → Type 0
+HasItems items s = items_of s ≡ items
+
+-- sets of keys that pass the test, each with each one after it
+abbrev pub member_grammar : {S W : Type 0} → (S → S → Bool) → (W → List S) → ItemGrammar S → ItemGrammar W
+member_grammar test keys G = set_grammar G set_of (λ w. members test G.value (keys w)) AllDiffer (SetBody set_of G.Der)

@@ -1,16 +1,16 @@
 //! How types of items come by [`ToDer`] and the laws of it: by the contents octets of a primitive element, or by what they refer to.
 ghost use Rattle.std.specs.Prelude.{◌≡◌, ◌++◌, ℕ, false, List, length, IfOk, IfErr, IsErr};
-ghost use Rattle.asn1_rs.specs.Grammar.{FormTakes};
+ghost use Rattle.asn1_rs.specs.Grammar.{FormNumber, FormTakes};
 ghost use Rattle.asn1_rs.specs.Wrote.{Wrote, MayRefuse, MayRefuseCount, Refuses, RefusesCount, IsRefusedAtOnce, IsWritable};
 ghost use Rattle.asn1_rs.specs.declared.error.SerializeError.{SerializeError as Unwritten};
 ghost use Rattle.asn1_rs.specs.declared.error.Error.{Error as Uncounted};
 ghost use Rattle.asn1_rs.specs.Written.{Writing, primitive_writing};
-ghost use Rattle.asn1_rs.specs.Laws.Forms.{IsPrimitiveElement, WritesByValue, WritesForm, primitive_by_value, primitive_writes_form};
+ghost use Rattle.asn1_rs.specs.Laws.Forms.{IsPrimitiveElement, WritesByValue, WritesForm, HasForm, primitive_by_value, primitive_writes_form, primitive_has_form, primitive_number};
 
 use crate::error::{Error, SerializeResult};
 use crate::header_writing::{element_len, put_counted_header};
 use crate::kinds::{ElementKind, HasKind, LawfulElement, ReferenceKind};
-use crate::laws::{LawfulItem, LawfulWrite, TakesClass};
+use crate::laws::{LawfulItem, LawfulTagged, LawfulWrite, TakesClass};
 use crate::to_der::ToDer;
 use crate::traits::{DynTagged, Tagged};
 use crate::writer::DerWrite;
@@ -19,7 +19,7 @@ use std::alloc::Global;
 /// A value that is written as a primitive element of the universal class: the tag number of its type, and contents
 /// octets. It takes no memory.
 ///
-/// So it has [`ToDer`], [`LawfulWrite`] and [`TakesClass`].
+/// So it has [`ToDer`], [`LawfulWrite`], [`LawfulTagged`] and [`TakesClass`].
 pub trait WritesPrimitive: LawfulElement + Tagged {
     /// Its contents octets.
     ghost octets: { Self → List ℕ };
@@ -199,12 +199,15 @@ pub trait LawfulWriteBy<K>: ToDer + LawfulItem {
     ghost tells_each: { (x : Self) → Self.tells x };
 
     /// `by_value`.
-    ghost written_by_value: { WritesByValue Self.value Self.constructed Self.header Self.content };
+    ghost written_by_value: { WritesByValue Self.grammar.value Self.constructed Self.header Self.content };
 
     /// `form`.
-    ghost written_form: { WritesForm Self.value Self.Form
+    ghost written_form: { WritesForm Self.grammar.value Self.grammar.Form
         (λ x. IsWritable (Self.count_refuses x) (Self.header_refuses x) (Self.content_refuses x))
         Self.constructed Self.header Self.content };
+
+    /// `der_form`.
+    ghost written_der: { HasForm Self.grammar.value Self.grammar.IsDer Self.grammar.Form Self.header Self.content };
 }
 
 impl<T: WritesPrimitive> LawfulWriteBy<ElementKind> for T {
@@ -213,6 +216,8 @@ impl<T: WritesPrimitive> LawfulWriteBy<ElementKind> for T {
     ghost written_by_value = { primitive_by_value T.element (T.mark).0 T.octets T.primitive };
 
     ghost written_form = { primitive_writes_form T.element (T.mark).0 T.octets T.primitive };
+
+    ghost written_der = { primitive_has_form T.element (T.mark).0 T.octets T.primitive };
 }
 
 impl<T: LawfulWrite + Tagged> LawfulWriteBy<ReferenceKind> for &T {
@@ -221,6 +226,8 @@ impl<T: LawfulWrite + Tagged> LawfulWriteBy<ReferenceKind> for &T {
     ghost written_by_value = { λ q r. T.by_value q.now r.now };
 
     ghost written_form = { λ r. T.form r.now };
+
+    ghost written_der = { λ r. T.der_form r.now };
 }
 
 impl<T: HasKind + LawfulWriteBy<T::Kind>> LawfulWrite for T {
@@ -229,12 +236,32 @@ impl<T: HasKind + LawfulWriteBy<T::Kind>> LawfulWrite for T {
     ghost by_value = { T.written_by_value };
 
     ghost form = { T.written_form };
+
+    ghost der_form = { T.written_der };
+}
+
+/// The law of the tag number, for a type of this kind.
+pub trait LawfulTaggedBy<K>: LawfulItem + Tagged {
+    /// `tag_number`.
+    ghost number_by_kind: { FormNumber Self.grammar.Form (Self.mark).0 };
+}
+
+impl<T: WritesPrimitive> LawfulTaggedBy<ElementKind> for T {
+    ghost number_by_kind = { primitive_number T.element (T.mark).0 T.octets T.primitive };
+}
+
+impl<T: LawfulTagged> LawfulTaggedBy<ReferenceKind> for &T {
+    ghost number_by_kind = { T.tag_number };
+}
+
+impl<T: HasKind + LawfulTaggedBy<T::Kind>> LawfulTagged for T {
+    ghost tag_number = { T.number_by_kind };
 }
 
 /// The law of implicit tags of class `C`, for a type of this kind.
-pub trait TakesClassBy<K, const C: u8>: LawfulItem + Tagged {
+pub trait TakesClassBy<K, const C: u8>: LawfulTagged {
     /// `takes_class`.
-    ghost takes_this_class: { FormTakes Self.Form Self.Check Self.Body C (Self.mark).0 };
+    ghost takes_this_class: { FormTakes Self.grammar.Form Self.grammar.Check Self.grammar.Body C };
 }
 
 impl<T: WritesPrimitive, const C: u8> TakesClassBy<ElementKind, C> for T {

@@ -17,9 +17,12 @@ ghost use Rattle.asn1_rs.specs.declared.error.Error.{Error as Fault};
 ghost use Rattle.asn1_rs.specs.declared.error.Error.TheVariants as faults;
 ghost use Rattle.asn1_rs.specs.declared.error.DerConstraint.TheVariants as constraints;
 ghost use Rattle.asn1_rs.specs.declared.error.SerializeError.TheVariants as refusals;
-ghost use Rattle.asn1_rs.specs.Answers.{seen, Exactly, TellsMemory, ReadsBack};
-ghost use Rattle.asn1_rs.specs.Form.{IsOneForm, IsOneValue, FitsElement, HasValues, IsStrict};
-ghost use Rattle.asn1_rs.specs.Grammar.{max_depth, NoCheck, PassesAll, IsOneFront, IsOneBody, BerWord, DerWord, TakesBody, Checks, FormChecks, FormBodies, FormTakes, EndsWithin, BerGives, DerGives};
+ghost use Rattle.asn1_rs.specs.Answers.{seen, Exactly, TellsMemory, IsOther, ReadsBack};
+ghost use Rattle.asn1_rs.specs.Form.{IsStrict};
+ghost use Rattle.asn1_rs.specs.Grammar.{max_depth, NoCheck, PassesAll, BerWord, DerWord, TakesBody, FormBodies, FormTakes, FormNumber, EndsWithin, BerGives, DerGives};
+ghost use Rattle.asn1_rs.specs.ItemGrammar.{ItemGrammar, IsLawfulItem};
+ghost use Rattle.asn1_rs.specs.Kinds.{IsExactCheck};
+ghost use Rattle.asn1_rs.specs.Error.{HeldIn};
 ghost use Rattle.asn1_rs.specs.Wrote.{Wrote, MayRefuse, IsWritable, some_takes};
 ghost use Rattle.asn1_rs.specs.declared.header.Header.{Header as Head};
 ghost use Rattle.asn1_rs.specs.declared.asn1_types.any.Any.{Any as Element};
@@ -28,8 +31,8 @@ ghost use Rattle.asn1_rs.specs.Ber.{BerContentGives};
 ghost use Rattle.asn1_rs.specs.Any.{IsTheElement, IsDefiniteOr};
 ghost use Rattle.asn1_rs.specs.Laws.Any.{DerElementGives, BerElementGives, RefusalLasts, ElementLasts, ContentStays, TellsBeginning};
 ghost use Rattle.asn1_rs.specs.Laws.Headers.{HeaderLasts};
-ghost use Rattle.asn1_rs.specs.Laws.Elements.{element_exact, der_elements, ber_elements, passes_all};
-ghost use Rattle.asn1_rs.specs.Laws.Forms.{WritesByValue, WritesForm};
+ghost use Rattle.asn1_rs.specs.Laws.Elements.{element_exact, element_spares, no_indefinite_length_spares, construct_expected_spares, der_elements, ber_elements, passes_all, all_pass};
+ghost use Rattle.asn1_rs.specs.Laws.Forms.{WritesByValue, WritesForm, HasForm};
 
 use crate::error::{Error, ParseResult, SerializeResult};
 use crate::to_der::ToDer;
@@ -39,116 +42,83 @@ use std::alloc::Global;
 
 /// The values of a type, its grammars and its strict parts: what the laws speak of.
 pub trait Grammar {
-    /// The values, with plain equality.
-    ghost Value: { Type 0 };
-
-    /// The value of an item in hand.
-    ghost value: { Self → Value };
-
-    /// Holds of the values of the type, as of the numbers in its range.
-    ghost IsValue: { Value → Type 0 };
-
-    /// The words by BER, with their values.
-    ghost Ber: { List ℕ → Value → Type 0 };
-
-    /// The words by DER, as a reader takes them, with their values.
-    ghost Der: { List ℕ → Value → Type 0 };
-
-    /// The value that the conversion finds in an element's parts.
-    ghost Body: { Parts → Value → Type 0 };
-
-    /// What the constraints ask of an element's parts.
-    ghost Check: { Parts → Type 0 };
-
-    /// The identifier and the contents octets of a value in DER form.
-    ghost Form: { Value → Identifier → List ℕ → Type 0 };
-
-    /// Whether reading may take memory.
-    ghost takes_memory: { Bool };
+    /// The values, the words by BER and by DER, and the parts of the one strict element of a value.
+    ghost grammar: { ItemGrammar Self };
 }
 
 /// A type whose grammars and strict parts are lawful.
 pub trait LawfulItem: Grammar {
-    /// Words by BER have values of the type.
-    ghost ber_values: { (o : List ℕ) (v : Self.Value) → Self.Ber o v → Self.IsValue v };
-
-    /// And so have words by DER.
-    ghost der_values: { (o : List ℕ) (v : Self.Value) → Self.Der o v → Self.IsValue v };
-
-    /// And so have the bodies of elements whose contents octets are octets.
-    ghost body_values: { (p : Parts) (v : Self.Value) → IsOctets p.content → Self.Body p v → Self.IsValue v };
-
-    /// A value that has strict parts is one of the type.
-    ghost form_values: { HasValues Self.Form Self.IsValue };
-
-    /// By BER no word is empty, and two words that begin one input are the same and have one value.
-    ghost ber_one: { IsOneFront Self.Ber };
-
-    /// The same by DER.
-    ghost der_one: { IsOneFront Self.Der };
-
-    /// An element's parts have one value.
-    ghost body_one: { IsOneBody Self.Body };
-
-    /// A value has one strict identifier and one strict content.
-    ghost one_form: { IsOneForm Self.Form };
-
-    /// And these have one value.
-    ghost one_value: { IsOneValue Self.Form };
-
-    /// Strict parts fit an element.
-    ghost form_fits: { FitsElement Self.Form };
-
-    /// And they meet the constraints.
-    ghost form_check: { FormChecks Self.Form Self.Check };
-
-    /// A strict encoding is a word by BER with its value.
-    ghost strict_ber: { (v : Self.Value) (o : List ℕ) → IsStrict Self.Form v o → Self.Ber o v };
-
-    /// And one by DER.
-    ghost strict_der: { (v : Self.Value) (o : List ℕ) → IsStrict Self.Form v o → Self.Der o v };
+    /// Each part of [`Grammar`] has values of the type; one word alone begins an input; and a value has one strict
+    /// encoding, which no other value has, and which is a word.
+    ghost lawful_item: { IsLawfulItem Self.grammar };
 }
 
 /// The conversion of an element is exact: it finds the value of the body, and refuses only where there is none.
 pub trait LawfulBody<'a, E: From<Error>>: FromAny<'a, Error = E> + LawfulItem {
     /// An Ok is the value of the body; an Err comes only where there is none, or for want of memory.
-    ghost body_exact: { (p : Parts) (answer : Result Self E) → IsOctets p.content → Self.any_gives p answer → TakesBody Self.Body Self.value Self.takes_memory E.from_gives p answer };
+    ghost body_exact: { (p : Parts) (answer : Result Self E) → IsOctets p.content →
+        Self.any_gives p answer →
+        TakesBody Self.grammar.Body Self.grammar.value Self.grammar.takes_memory E.from_gives p answer };
+
+    /// Where the type takes no memory, no refusal of the conversion tells of want of it.
+    ghost body_spares: { Self.grammar.takes_memory ≡ false → (p : Parts) (e : E) →
+        Self.any_gives p (Err e) → IsOther E.from_gives e };
 
     /// The strict parts of a value have it as their body.
-    ghost form_body: { FormBodies Self.Form Self.Body };
+    ghost form_body: { FormBodies Self.grammar.Form Self.grammar.Body };
 
     /// Each word by BER is an element by BER that has a body with this value.
-    ghost ber_split: { (o : List ℕ) (v : Self.Value) → Self.Ber o v → BerWord Self.Body o v };
+    ghost ber_split: { (o : List ℕ) (v : Self.grammar.Value) →
+        Self.grammar.Ber o v → BerWord Self.grammar.Body o v };
 
     /// And each such element is a word by BER.
-    ghost ber_join: { (o : List ℕ) (v : Self.Value) → BerWord Self.Body o v → Self.Ber o v };
+    ghost ber_join: { (o : List ℕ) (v : Self.grammar.Value) →
+        BerWord Self.grammar.Body o v → Self.grammar.Ber o v };
 }
 
 /// The check of an element is exact.
 pub trait LawfulCheck: CheckDerConstraints + LawfulItem {
-    /// The check passes exactly the parts that meet the constraints.
-    ghost check_exact: { (p : Parts) (answer : Result (Unit {0}) Fault) → Self.check_gives p answer → Checks Self.Check p answer };
+    /// The check passes exactly the parts that meet the constraints, and never tells of want of memory.
+    ghost checks: { IsExactCheck Self.check_gives Self.grammar.Check };
 }
 
 /// The words by DER are the elements of definite length that pass the check and have a body.
 pub trait LawfulAuto: LawfulCheck + DerAutoDerive {
     /// Each word by DER is such an element, with this value.
-    ghost der_split: { (o : List ℕ) (v : Self.Value) → Self.Der o v → DerWord Self.Check Self.Body o v };
+    ghost der_split: { (o : List ℕ) (v : Self.grammar.Value) →
+        Self.grammar.Der o v → DerWord Self.grammar.Check Self.grammar.Body o v };
 
     /// And each such element is a word by DER.
-    ghost der_join: { (o : List ℕ) (v : Self.Value) → DerWord Self.Check Self.Body o v → Self.Der o v };
+    ghost der_join: { (o : List ℕ) (v : Self.grammar.Value) →
+        DerWord Self.grammar.Check Self.grammar.Body o v → Self.grammar.Der o v };
 }
 
 /// The reader by BER is exact: Ok where a word by BER begins the input, and a final refusal else.
 pub trait LawfulBer<'a, E: From<Error>>: FromBer<'a, E> + LawfulItem {
     /// What the reader may answer is exact by the grammar by BER.
-    ghost ber_exact: { (input : List ℕ) (answer : Result (List ℕ × Self) (Refusal E)) → IsOctets input → Self.ber_gives input answer → Exactly EndsWithin Self.Ber Self.value (TellsMemory Self.takes_memory E.from_gives) input answer };
+    ghost ber_exact: { (input : List ℕ) (answer : Result (List ℕ × Self) (Refusal E)) → IsOctets input →
+        Self.ber_gives input answer →
+        Exactly EndsWithin Self.grammar.Ber Self.grammar.value
+            (TellsMemory Self.grammar.takes_memory E.from_gives) input answer };
+
+    /// Where the type takes no memory, no refusal tells of want of it.
+    ghost ber_spares: { Self.grammar.takes_memory ≡ false →
+        (input : List ℕ) (answer : Result (List ℕ × Self) (Refusal E)) →
+        Self.ber_gives input answer → IfErr answer (HeldIn (IsOther E.from_gives)) };
 }
 
 /// The reader by DER is exact: Ok where a word by DER begins the input, and a final refusal else.
 pub trait LawfulDer<'a, E: From<Error>>: FromDer<'a, E> + LawfulItem {
     /// What the reader may answer is exact by the grammar by DER.
-    ghost der_exact: { (input : List ℕ) (answer : Result (List ℕ × Self) (Refusal E)) → IsOctets input → Self.der_gives input answer → Exactly IsCutIdentifier Self.Der Self.value (TellsMemory Self.takes_memory E.from_gives) input answer };
+    ghost der_exact: { (input : List ℕ) (answer : Result (List ℕ × Self) (Refusal E)) → IsOctets input →
+        Self.der_gives input answer →
+        Exactly IsCutIdentifier Self.grammar.Der Self.grammar.value
+            (TellsMemory Self.grammar.takes_memory E.from_gives) input answer };
+
+    /// Where the type takes no memory, no refusal tells of want of it.
+    ghost der_spares: { Self.grammar.takes_memory ≡ false →
+        (input : List ℕ) (answer : Result (List ℕ × Self) (Refusal E)) →
+        Self.der_gives input answer → IfErr answer (HeldIn (IsOther E.from_gives)) };
 }
 
 /// What is written follows from the value, and is its strict encoding where it has one.
@@ -157,38 +127,70 @@ pub trait LawfulWrite: ToDer + LawfulItem {
     ghost tells_all: { (x : Self) → Self.tells x };
 
     /// Items of one value have one header, one content and one constructed bit.
-    ghost by_value: { WritesByValue Self.value Self.constructed Self.header Self.content };
+    ghost by_value: { WritesByValue Self.grammar.value Self.constructed Self.header Self.content };
 
-    /// A value in DER form is written as its strict encoding, and can be written.
-    ghost form: { WritesForm Self.value Self.Form (λ x. IsWritable (Self.count_refuses x) (Self.header_refuses x) (Self.content_refuses x)) Self.constructed Self.header Self.content };
+    /// A value that has strict parts is written as its strict encoding, and can be written.
+    ghost form: { WritesForm Self.grammar.value Self.grammar.Form
+        (λ x. IsWritable (Self.count_refuses x) (Self.header_refuses x) (Self.content_refuses x))
+        Self.constructed Self.header Self.content };
+
+    /// A value in DER form whose octets fit in memory has strict parts.
+    ghost der_form: { HasForm Self.grammar.value Self.grammar.IsDer Self.grammar.Form Self.header Self.content };
 }
 
-/// The strict parts have the type's tag number, and pass check and body with class `K` in place of their own.
+/// The strict parts have the type's tag number.
+///
+/// So an optional value of the type is told by its tag number.
+pub trait LawfulTagged: LawfulItem + Tagged {
+    /// Strict parts have the tag number of the type.
+    ghost tag_number: { FormNumber Self.grammar.Form (Self.mark).0 };
+}
+
+/// The strict parts pass check and body with class `K` in place of their own.
 ///
 /// So an implicit tag of class `K` over the type is lawful.
-pub trait TakesClass<const K: u8>: LawfulItem + Tagged {
-    /// Strict parts have the tag number of the type, and under class `K` they meet check and body all the same.
-    ghost takes_class: { FormTakes Self.Form Self.Check Self.Body K (Self.mark).0 };
+pub trait TakesClass<const K: u8>: LawfulTagged {
+    /// Under class `K` strict parts meet check and body all the same.
+    ghost takes_class: { FormTakes Self.grammar.Form Self.grammar.Check Self.grammar.Body K };
 }
 
 /// Two items are equal exactly where their values are, so they can be members of a set.
 pub trait LawfulMember: LawfulItem + Eq {
     /// Equality of items is that of their values.
-    ghost same: { (x y : Self) → IsTrue (Self.eq x y) ↔ (Self.value x ≡ Self.value y) };
+    ghost same: { (x y : Self) →
+        IsTrue (Self.eq x y) ↔ (Self.grammar.value x ≡ Self.grammar.value y) };
 }
 
 impl<'a, T, E: From<Error>> LawfulDer<'a, E> for T
 where
     T: LawfulBody<'a, E> + LawfulAuto,
 {
-    ghost der_exact = { λ input answer octets. element_exact IsDefiniteElement DefiniteElementFault IsCutIdentifier der_elements (faults.DerConstraintFailed constraints.IndefiniteLength) T.check_gives T.any_gives E.from_gives T.Check T.Body T.value T.takes_memory T.Der T.check_exact T.body_exact T.der_split T.der_join input answer };
+    ghost der_exact = { λ input answer octets.
+        element_exact IsDefiniteElement DefiniteElementFault IsCutIdentifier der_elements
+            (faults.DerConstraintFailed constraints.IndefiniteLength)
+            T.check_gives T.any_gives E.from_gives T.grammar.Check T.grammar.Body T.grammar.value
+            T.grammar.takes_memory T.grammar.Der T.checks.exact T.body_exact T.der_split T.der_join
+            input answer };
+
+    ghost der_spares = { λ none.
+        element_spares IsDefiniteElement DefiniteElementFault
+            (faults.DerConstraintFailed constraints.IndefiniteLength) no_indefinite_length_spares
+            T.check_gives T.any_gives E.from_gives T.checks.spares (T.body_spares none) };
 }
 
 impl<'a, T, E: From<Error>> LawfulBer<'a, E> for T
 where
     T: LawfulBody<'a, E>,
 {
-    ghost ber_exact = { λ input answer octets. element_exact (IsElement max_depth) (ElementFault max_depth) EndsWithin ber_elements faults.ConstructExpected PassesAll T.any_gives E.from_gives NoCheck T.Body T.value T.takes_memory T.Ber passes_all T.body_exact T.ber_split T.ber_join input answer };
+    ghost ber_exact = { λ input answer octets.
+        element_exact (IsElement max_depth) (ElementFault max_depth) EndsWithin ber_elements
+            faults.ConstructExpected PassesAll T.any_gives E.from_gives NoCheck T.grammar.Body
+            T.grammar.value T.grammar.takes_memory T.grammar.Ber passes_all T.body_exact T.ber_split
+            T.ber_join input answer };
+
+    ghost ber_spares = { λ none.
+        element_spares (IsElement max_depth) (ElementFault max_depth) faults.ConstructExpected
+            construct_expected_spares PassesAll T.any_gives E.from_gives all_pass (T.body_spares none) };
 }
 
 /// Reads a value of a lawful type by BER.
@@ -199,8 +201,12 @@ pub fn read_ber<'a, T: LawfulBer<'a, E>, E: From<Error>>(
     alloc: Global,
     input: &'a [u8],
 ) -> ParseResult<'a, T, E>
-    ensures exact { Exactly EndsWithin T.Ber T.value (TellsMemory T.takes_memory E.from_gives) input.now (seen result) }
-    ensures back { (v : T.Value) (w rest : List ℕ) → IsStrict T.Form v w → input.now ≡ w ++ rest → ReadsBack T.value (TellsMemory T.takes_memory E.from_gives) v rest (seen result) }
+    ensures exact { Exactly EndsWithin T.grammar.Ber T.grammar.value
+        (TellsMemory T.grammar.takes_memory E.from_gives) input.now (seen result) }
+    ensures back { (v : T.grammar.Value) (w rest : List ℕ) →
+        IsStrict T.grammar.Form v w → input.now ≡ w ++ rest →
+        ReadsBack T.grammar.value (TellsMemory T.grammar.takes_memory E.from_gives) v rest (seen result) }
+    ensures spares { T.grammar.takes_memory ≡ false → IfErr (seen result) (HeldIn (IsOther E.from_gives)) }
     ensures gives { T.ber_gives input.now (seen result) }
 {
     T::from_ber(alloc, input)
@@ -214,8 +220,12 @@ pub fn read_der<'a, T: LawfulDer<'a, E>, E: From<Error>>(
     alloc: Global,
     bytes: &'a [u8],
 ) -> ParseResult<'a, T, E>
-    ensures exact { Exactly IsCutIdentifier T.Der T.value (TellsMemory T.takes_memory E.from_gives) bytes.now (seen result) }
-    ensures back { (v : T.Value) (w rest : List ℕ) → IsStrict T.Form v w → bytes.now ≡ w ++ rest → ReadsBack T.value (TellsMemory T.takes_memory E.from_gives) v rest (seen result) }
+    ensures exact { Exactly IsCutIdentifier T.grammar.Der T.grammar.value
+        (TellsMemory T.grammar.takes_memory E.from_gives) bytes.now (seen result) }
+    ensures back { (v : T.grammar.Value) (w rest : List ℕ) →
+        IsStrict T.grammar.Form v w → bytes.now ≡ w ++ rest →
+        ReadsBack T.grammar.value (TellsMemory T.grammar.takes_memory E.from_gives) v rest (seen result) }
+    ensures spares { T.grammar.takes_memory ≡ false → IfErr (seen result) (HeldIn (IsOther E.from_gives)) }
     ensures gives { T.der_gives bytes.now (seen result) }
 {
     T::from_der(alloc, bytes)
@@ -230,13 +240,26 @@ pub fn write_strict<T: LawfulWrite, W: DerWrite>(
     alloc: Global,
     w: &mut W,
 ) -> SerializeResult<usize>
-    ensures wrote { (o : List ℕ) → IsStrict T.Form (T.value x.now) o → Wrote o (W.told w.old) (W.told w.new) (W.failed w.old) (W.failed w.new) result }
-    ensures plain { Wrote (T.header x.now ++ T.content x.now) (W.told w.old) (W.told w.new) (W.failed w.old) (W.failed w.new) result }
-    ensures refused { (o : List ℕ) → IsStrict T.Form (T.value x.now) o → IfErr result (MayRefuse (some_takes T.write_takes_memory T.count_takes_memory T.content_takes_memory) (length o)) }
-    ensures one { (o p : List ℕ) → IsStrict T.Form (T.value x.now) o → IsStrict T.Form (T.value x.now) p → o ≡ p }
-    ensures apart { (o p r s : List ℕ) (v w : T.Value) → IsStrict T.Form v o → IsStrict T.Form w p → o ++ r ≡ p ++ s → (o ≡ p) × (v ≡ w) × (r ≡ s) }
-    ensures headline { (o : List ℕ) → IsStrict T.Form (T.value x.now) o → length o < 2 ^ 64 → W.failed w.new ≡ false →
-        MatchResult result (λ n. Appends (W.told w.old) (W.told w.new) o × (n ≡ length o)) (λ e. (e ≡ refusals.OutOfMemory) × IsTrue (some_takes T.write_takes_memory T.count_takes_memory T.content_takes_memory)) }
+    ensures headline { T.grammar.IsDer (T.grammar.value x.now) →
+        length (T.header x.now ++ T.content x.now) < 2 ^ 64 → W.failed w.new ≡ false →
+        ∥ IsStrict T.grammar.Form (T.grammar.value x.now) (T.header x.now ++ T.content x.now) ∥₁ ×
+        MatchResult result
+            (λ n. Appends (W.told w.old) (W.told w.new) (T.header x.now ++ T.content x.now) ×
+                (n ≡ length (T.header x.now ++ T.content x.now)))
+            (λ e. (e ≡ refusals.OutOfMemory) ×
+                IsTrue (some_takes T.write_takes_memory T.count_takes_memory T.content_takes_memory)) }
+    ensures wrote { (o : List ℕ) → IsStrict T.grammar.Form (T.grammar.value x.now) o →
+        Wrote o (W.told w.old) (W.told w.new) (W.failed w.old) (W.failed w.new) result }
+    ensures plain { Wrote (T.header x.now ++ T.content x.now)
+        (W.told w.old) (W.told w.new) (W.failed w.old) (W.failed w.new) result }
+    ensures refused { (o : List ℕ) → IsStrict T.grammar.Form (T.grammar.value x.now) o →
+        IfErr result (MayRefuse
+            (some_takes T.write_takes_memory T.count_takes_memory T.content_takes_memory) (length o)) }
+    ensures one { (o p : List ℕ) → IsStrict T.grammar.Form (T.grammar.value x.now) o →
+        IsStrict T.grammar.Form (T.grammar.value x.now) p → o ≡ p }
+    ensures apart { (o p r s : List ℕ) (v w : T.grammar.Value) →
+        IsStrict T.grammar.Form v o → IsStrict T.grammar.Form w p → o ++ r ≡ p ++ s →
+        (o ≡ p) × (v ≡ w) × (r ≡ s) }
 {
     x.write_der(alloc, w)
 }

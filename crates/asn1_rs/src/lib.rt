@@ -20,10 +20,12 @@ mod writer;
 
 pub use asn1_types::any::Any;
 pub use asn1_types::integer::integers_have_one_refusal;
+pub use asn1_types::items::FromItems;
 pub use asn1_types::sequence_iterator::{
     ReadsItems, SequenceIterator, SetIterator, indefinite_contents_are_walked, walks_by_ber,
     walks_by_der, walks_end,
 };
+pub use asn1_types::set_of::SetOf;
 pub use ber::{GetObjectContent, MAX_RECURSION, Steps, any_from_ber_counted};
 pub use class::{BerClassFromIntError, Class};
 pub use error::{
@@ -35,7 +37,7 @@ pub use kinds::{ElementKind, HasKind, LawfulConversion, LawfulElement};
 pub use kinds_writing::WritesPrimitive;
 pub use laws::{
     Grammar, LawfulAuto, LawfulBer, LawfulBody, LawfulCheck, LawfulDer, LawfulItem, LawfulMember,
-    LawfulWrite, TakesClass, answers_last, any_is_the_element, beginnings_are_incomplete,
+    LawfulTagged, LawfulWrite, TakesClass, answers_last, any_is_the_element, beginnings_are_incomplete,
     one_refusal, read_ber, read_der, write_strict,
 };
 pub use length::Length;

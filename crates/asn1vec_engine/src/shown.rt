@@ -57,8 +57,8 @@ fn is_io(refusal: &SerializeError) -> bool
 
 /// The strict encoding of a value in digits, or why writing it was refused.
 pub(crate) fn strict_text<T: LawfulWrite>(alloc: Global, x: &T) -> Result<String, AllocError>
-    requires { (o : List ℕ) × IsStrict T.Form (T.value x.now) o }
-    ensures { IfOk result (λ text. StrictText T.Form (T.count_takes_memory || T.content_takes_memory) (T.value x.now) (string_bytes text)) }
+    requires { (o : List ℕ) × IsStrict T.grammar.Form (T.grammar.value x.now) o }
+    ensures { IfOk result (λ text. StrictText T.grammar.Form (T.count_takes_memory || T.content_takes_memory) (T.grammar.value x.now) (string_bytes text)) }
 {
     let mut buffer = Told::new(Vec::new(alloc));
     match write_strict(x, alloc, &mut buffer) {
@@ -105,7 +105,7 @@ pub(crate) fn answer_by<'a, T>(
 ) -> Result<String, AllocError>
 where
     T: LawfulBer<'a, Error> + LawfulDer<'a, Error> + Shown + Drop,
-    ensures { IfOk result (λ text. IsAnswerBy T.Ber T.Der T.value T.takes_memory T.ber_gives T.der_gives T.text_of T.Written rule octets.now (string_bytes text)) }
+    ensures { IfOk result (λ text. IsAnswerBy T.grammar.Ber T.grammar.Der T.grammar.value T.grammar.takes_memory T.ber_gives T.der_gives T.text_of T.Written rule octets.now (string_bytes text)) }
 {
     match rule {
         Rule::Ber => reading_text(alloc, read_ber::<T, Error>(alloc, octets)),

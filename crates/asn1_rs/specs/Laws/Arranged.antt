@@ -7,7 +7,8 @@ use Rattle.std.specs.Ordering.{is_lt, ordering_reverse}
 use Rattle.std.specs.Cmp.Lexicographic.{nat_list_cmp_total}
 use Rattle.std.proofs.Common.{refl, sym, ◌∙◌, ap, subst, arith, get_or, zero, suc, add-one}
 use Rattle.std.proofs.lemmas.List.Sorted.{IsPermutation-refl, IsPermutation-trans, IsPermutation-swap, IsPermutation-cons}
-use Rattle.asn1_rs.specs.Sets.{Ascending, joining}
+use Rattle.asn1_rs.specs.Lists.{joining}
+use Rattle.asn1_rs.specs.Sets.{Ascending}
 use Rattle.std.specs.Prelude.{◌++◌, map}
 use Rattle.std.specs.List.{flat_map}
 use Rattle.std.proofs.lemmas.List.Concat.{flat_map-cons}

@@ -7,8 +7,8 @@ use Rattle.asn1_rs.specs.declared.asn1_types.any.Any.{Any}
 use Rattle.asn1_rs.specs.declared.error.Error.{Error}
 use Rattle.asn1_rs.specs.Any.{IsTheElement, IsDefiniteOr}
 use Rattle.asn1_rs.specs.Grammar.{TakesBody, Checks}
-use Rattle.asn1_rs.specs.Kinds.{IsLawfulElement}
-use Rattle.asn1_rs.specs.Element.{Element, element_of, ElementBody, ElementCheck, IsElementValue, any_element}
+use Rattle.asn1_rs.specs.Kinds.{IsLawfulElement, IsExactCheck, IsExactConversion}
+use Rattle.asn1_rs.specs.Element.{Element, element_of, ElementBody, ElementCheck, ElementForm, IsElementValue, any_element}
 
 pub element_lawful : IsLawfulElement any_element
 element_lawful = record {
@@ -19,13 +19,23 @@ element_lawful = record {
   one_value = λ v w i c f g. f.is ∙ sym g.is;
   form_fits = λ v i c f. (f.class, f.number, f.octets);
   form_check = λ v i c f. (_, refl);
+  form_der = λ v i c f. subst (λ (w : Element). ElementForm w w.id w.content) (sym f.is) (record { is = refl; class = f.class; number = f.number; octets = f.octets });
   form_body = λ v i c f. f.is;
 }
 
-pub element_body_exact : (from : Error → Error → Type 0) (p : Parts) (answer : Result Any Error) → IsTheElement p answer → TakesBody ElementBody element_of false from p answer
-element_body_exact from p (Ok x) h = ap (λ (q : Parts). let e : Element = record { id = q.id; content = q.content } in e) h
-element_body_exact from p (Err e) h = absurd h
+element_body_exact : (p : Parts) (answer : Result Any Error) → IsTheElement p answer → TakesBody ElementBody element_of false (λ (x y : Error). y ≡ x) p answer
+element_body_exact p (Ok x) h = ap (λ (q : Parts). let e : Element = record { id = q.id; content = q.content } in e) h
+element_body_exact p (Err e) h = absurd h
 
-pub element_check_exact : (p : Parts) (answer : Result (Unit {0}) Error) → IsDefiniteOr p answer → Checks ElementCheck p answer
+pub element_converts : IsExactConversion IsTheElement any_element
+element_converts = record {
+  exact = λ p answer octets h. element_body_exact p answer h;
+  spares = λ none p h. h;
+}
+
+element_check_exact : (p : Parts) (answer : Result (Unit {0}) Error) → IsDefiniteOr p answer → Checks ElementCheck p answer
 element_check_exact p (Ok x) h = h
 element_check_exact p (Err e) h = λ c. let k : definite c.0 ≡ indefinite = sym c.1 ∙ h.0 in cc
+
+pub element_checks : IsExactCheck IsDefiniteOr ElementCheck
+element_checks = record { exact = element_check_exact; spares = λ p h. let e = h.1 in cc }

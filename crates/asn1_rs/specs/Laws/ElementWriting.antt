@@ -13,7 +13,7 @@ use Rattle.asn1_rs.specs.WrittenHeader.{strict_header}
 use Rattle.asn1_rs.specs.declared.asn1_types.any.Any.{Any}
 use Rattle.asn1_rs.specs.Element.{Element, element_of, ElementForm, content_of, element_header}
 use Rattle.asn1_rs.specs.Header.{identifier_of, is_constructed_of, is_same_identifier}
-use Rattle.asn1_rs.specs.Laws.Forms.{NothingRefused, nothing_refused, header_of, WritesByValue, WritesForm}
+use Rattle.asn1_rs.specs.Laws.Forms.{NothingRefused, nothing_refused, header_of, WritesByValue, WritesForm, HasForm}
 
 header_by : (i j : Identifier) (c d : List ℕ) → i ≡ j → c ≡ d → header_of i c ≡ header_of j d
 header_by i j c d p q = ap (λ (z : Identifier). header_of z c) p ∙ ap (λ (z : List ℕ). header_of j z) q
@@ -32,6 +32,9 @@ element_writes_form x i c f = (
   ap (λ (z : Element). z.content) f.is,
   header_by (identifier_of x.header) i x.content.now c (ap (λ (z : Element). z.id) f.is) (ap (λ (z : Element). z.content) f.is),
 )
+
+pub element_has_form : HasForm element_of (λ v. ElementForm v v.id v.content) ElementForm element_header content_of
+element_has_form = λ x d l. ∣ (identifier_of x.header, d) ∣₁
 
 -- the strict header where the header counts the contents octets
 pub counted_header : (a : Any) → form_of a.header.length ≡ definite (length a.content.now) → strict_header a.header ≡ element_header a

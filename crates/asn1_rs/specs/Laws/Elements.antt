@@ -1,6 +1,6 @@
 -- Readers that read one element, check it and convert it are exact.
-use Rattle.std.proofs.Common.{arith, ◌≡◌, ◌∙◌, ap, sym, subst, refl, ℕ, ◌<◌, ◌≤◌, inl, inr, Bool, List, [], ◌++◌, length, append_assoc, append-nil}
-use Rattle.std.specs.Prelude.{Result, Ok, Err}
+use Rattle.std.proofs.Common.{arith, ◌≡◌, ◌≢◌, ◌∙◌, ap, sym, subst, refl, ℕ, ◌<◌, ◌≤◌, inl, inr, Bool, List, [], ◌++◌, length, append_assoc, append-nil}
+use Rattle.std.specs.Prelude.{Result, Ok, Err, IfErr}
 use Rattle.x690.specs.Octets.{IsOctets}
 use Rattle.x690.specs.Identifiers.{IsCutIdentifier}
 use Rattle.x690.specs.Elements.{Parts, IsDefiniteElement, der_rule}
@@ -15,10 +15,12 @@ use Rattle.asn1_rs.specs.declared.error.Err.{Err as Refusal}
 use Rattle.asn1_rs.specs.declared.error.Err.TheVariants.{Error as refused, Incomplete as cut, Failure as failed}
 use Rattle.asn1_rs.specs.declared.error.Needed.TheVariants.{Size, Unknown}
 use Rattle.asn1_rs.specs.declared.error.Error.{Error}
-use Rattle.asn1_rs.specs.Error.{Converted}
+use Rattle.asn1_rs.specs.declared.error.Error.TheVariants.{OutOfMemory, DerConstraintFailed, ConstructExpected}
+use Rattle.asn1_rs.specs.declared.error.DerConstraint.TheVariants.{IndefiniteLength}
+use Rattle.asn1_rs.specs.Error.{Converted, HeldIn}
 use Rattle.asn1_rs.specs.Header.{refusal_of}
-use Rattle.asn1_rs.specs.Answers.{Front, NoFront, IsFinal, Speaks, Exactly, TellsMemory}
-use Rattle.asn1_rs.specs.Grammar.{IsOneFront, ElementWord, ElementGives, TakesBody, Checks, NoCheck, PassesAll, max_depth, EndsWithin}
+use Rattle.asn1_rs.specs.Answers.{Front, NoFront, IsFinal, Speaks, Exactly, TellsMemory, IsOther}
+use Rattle.asn1_rs.specs.Grammar.{IsOneFront, ElementWord, ElementGives, DerGives, DerWord, TakesBody, Checks, NoCheck, PassesAll, max_depth, EndsWithin}
 
 -- What the laws ask of elements: one alone begins an input, and a fault is the only one, and final.
 pub record AreElements (Element : List ℕ → Parts → Type 0) (FaultOf : List ℕ → Fault → Type 0) (IsCut : List ℕ → Type 0) : Type 0 where
@@ -62,6 +64,9 @@ ber_elements = record {
 pub passes_all : (p : Parts) (answer : Result (Unit {0}) Error) → PassesAll p answer → Checks NoCheck p answer
 passes_all p (Ok x) h = tt
 passes_all p (Err e) h = cc
+
+pub all_pass : (p : Parts) → PassesAll p (Err OutOfMemory) → ⊥
+all_pass p h = cc
 
 speaks_missing : (E : Type 0) (is_cut : Type 0) (n : ℕ) (more : List ℕ) → 1 ≤ n → Speaks {E = E} is_cut (cut (Size n)) more → length more < n
 speaks_missing E is_cut n more some (inl e) = let l = ap length e in omega (arith, l)
@@ -116,6 +121,39 @@ module _ {T V E : Type 0} (Element : List ℕ → Parts → Type 0) (FaultOf : L
         | inl m ↦ inl (m.0, (e, m.1, is))
         | inr none ↦ inr (λ more s w t v h d. none v (word_parts (input ++ more) (rest ++ more) w t p v (front_more Element input p rest more front) h d).1)
       ]
+
+-- no fault tells of want of memory
+fault_spares : {E : Type 0} (from : Error → E → Type 0) (at_indefinite : Error) → at_indefinite ≢ OutOfMemory → (fault : Fault) (r : Refusal E) → Converted from (refusal_of at_indefinite fault) r → HeldIn (IsOther from) r
+fault_spares from at other (missing n) r c = subst (HeldIn (IsOther from)) (sym c) tt
+fault_spares from at other tag_fault r c = subst (HeldIn (IsOther from)) (sym c.2) (inl (_, λ q. cc, c.1))
+fault_spares from at other length_fault r c = subst (HeldIn (IsOther from)) (sym c.2) (inl (_, λ q. cc, c.1))
+fault_spares from at other form_fault r c = subst (HeldIn (IsOther from)) (sym c.2) (inl (_, other, c.1))
+fault_spares from at other depth_fault r c = subst (HeldIn (IsOther from)) (sym c.2) (inl (_, λ q. cc, c.1))
+
+-- where check and conversion take no memory, no refusal tells of want of it
+pub element_spares : {T E : Type 0} (Element : List ℕ → Parts → Type 0) (FaultOf : List ℕ → Fault → Type 0) (at_indefinite : Error) → at_indefinite ≢ OutOfMemory →
+    (check : Parts → Result (Unit {0}) Error → Type 0) (convert : Parts → Result T E → Type 0) (from : Error → E → Type 0) →
+    ((p : Parts) → check p (Err OutOfMemory) → ⊥) → ((p : Parts) (e : E) → convert p (Err e) → IsOther from e) →
+    (input : List ℕ) (answer : Result (List ℕ × T) (Refusal E)) → ElementGives Element FaultOf (refusal_of at_indefinite) check convert from input answer → IfErr answer (HeldIn (IsOther from))
+element_spares Element FaultOf at other check convert from checked converted input (Ok x) g = tt
+element_spares Element FaultOf at other check convert from checked converted input (Err r) (inl (fault, f, c)) = fault_spares from at other fault r c
+element_spares Element FaultOf at other check convert from checked converted input (Err r) (inr (p, rest, front, inl (e, c, (f, m, is)))) =
+    subst (HeldIn (IsOther from)) (sym is) (inl (e, λ q. checked p (subst (λ (x : Error). check p (Err x)) q c), m))
+element_spares Element FaultOf at other check convert from checked converted input (Err r) (inr (p, rest, front, inr (c, (e, v, is)))) =
+    subst (HeldIn (IsOther from)) (sym is) (converted p e v)
+
+pub no_indefinite_length_spares : DerConstraintFailed IndefiniteLength ≢ OutOfMemory
+no_indefinite_length_spares q = cc
+
+pub construct_expected_spares : ConstructExpected ≢ OutOfMemory
+construct_expected_spares q = cc
+
+-- a reader by DER that reads an element, checks nothing and converts it is exact
+pub unchecked_exact : {T V E : Type 0} (convert : Parts → Result T E → Type 0) (from : Error → E → Type 0) (Body : Parts → V → Type 0) (value : T → V) (takes : Bool) →
+    ((p : Parts) (answer : Result T E) → IsOctets p.content → convert p answer → TakesBody Body value takes from p answer) →
+    (input : List ℕ) (answer : Result (List ℕ × T) (Refusal E)) → DerGives PassesAll convert from input answer → Exactly IsCutIdentifier (DerWord NoCheck Body) value (TellsMemory takes from) input answer
+unchecked_exact convert from Body value takes exact =
+    element_exact IsDefiniteElement DefiniteElementFault IsCutIdentifier der_elements (DerConstraintFailed IndefiniteLength) PassesAll convert from NoCheck Body value takes (DerWord NoCheck Body) passes_all exact (λ o v w. w) (λ o v w. w)
 
 -- where the refusal of the fault is not converted
 pub speaks_itself : (at_indefinite : Error) (fault : Fault) (r : Refusal Error) (is_cut : Type 0) (more : List ℕ) → CountsSome fault → r ≡ refusal_of at_indefinite fault → Speaks is_cut r more → SpeaksOf is_cut fault more

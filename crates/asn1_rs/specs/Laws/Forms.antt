@@ -1,13 +1,14 @@
 -- Strict parts, and what is written.
-use Rattle.std.specs.Prelude.{◌≡◌, ℕ, ◌<◌, Bool, false, List, ◌++◌, length}
-use Rattle.std.proofs.Common.{sym, ap, refl, ◌∙◌, arith}
+use Rattle.std.specs.Prelude.{◌≡◌, ℕ, ◌<◌, ◌^◌, Bool, false, List, ◌++◌, length}
+use Rattle.std.proofs.Common.{sym, ap, refl, subst, ◌∙◌, arith, length-append}
+use mathlib.Core.Logic.{∥∥₁_map}
 use Rattle.x690.specs.Octets.{IsOctets}
 use Rattle.x690.specs.Identifiers.{Identifier}
 use Rattle.x690.specs.Strict.{header_octets}
-use Rattle.x690.specs.Laws.StrictElements.{strict_element_octets}
+use Rattle.x690.specs.Laws.StrictElements.{strict_element_octets, made_strict_element}
 use Rattle.asn1_rs.specs.Wrote.{IsWritable}
 use Rattle.asn1_rs.specs.Form.{IsOneForm, IsOneValue, FitsElement, IsStrict}
-use Rattle.asn1_rs.specs.Grammar.{FormTakes}
+use Rattle.asn1_rs.specs.Grammar.{FormTakes, FormNumber}
 use Rattle.asn1_rs.specs.Kinds.{ElementGrammar}
 
 -- the identifier of a universal type
@@ -45,12 +46,35 @@ abbrev pub WritesForm : {S V : Type 0} → (S → V) → (V → Identifier → L
 WritesForm {S} {V} value Form is_writable constructed header content = (x : S) (i : Identifier) (c : List ℕ) → Form (value x) i c →
     is_writable x × (constructed x ≡ i.constructed) × (content x ≡ c) × (header x ≡ header_of i c)
 
+-- A value in DER form whose octets fit in memory has strict parts, with the contents octets that are written.
+abbrev pub HasForm : {S V : Type 0} → (S → V) → (V → Type 0) → (V → Identifier → List ℕ → Type 0) → (S → List ℕ) → (S → List ℕ) → Type 0
+HasForm {S} {V} value IsDer Form header content = (x : S) → IsDer (value x) → length (header x ++ content x) < 2 ^ 64 →
+    ∥ ((i : Identifier) × Form (value x) i (content x)) ∥₁
+
+-- strict parts that fit in memory make a strict encoding
+pub strict_made : {V : Type 0} (Form : V → Identifier → List ℕ → Type 0) → FitsElement Form → (v : V) (i : Identifier) (c : List ℕ) → Form v i c → length c < 2 ^ 64 → IsStrict Form v (header_of i c ++ c)
+strict_made Form fits v i c f l = let h = fits v i c f in record {
+  id = i;
+  content = c;
+  form = f;
+  element = made_strict_element i c h.0 h.1 l h.2;
+}
+
 -- so the strict encoding is what is written
 pub strict_written : {S V : Type 0} (value : S → V) (Form : V → Identifier → List ℕ → Type 0) (is_writable : S → Type 0) (constructed : S → Bool) (header content : S → List ℕ) → WritesForm value Form is_writable constructed header content →
     (x : S) (o : List ℕ) → IsStrict Form (value x) o → is_writable x × (header x ++ content x ≡ o)
 strict_written value Form is_writable constructed header content law x o s =
     let h = law x s.id s.content s.form in
     (h.0, ap (λ (a : List ℕ). a ++ content x) h.3 ∙ ap (λ (b : List ℕ). header_of s.id s.content ++ b) h.2 ∙ sym (strict_element_octets o s.id s.content s.element))
+
+-- and a value in DER form whose octets fit in memory is written as its strict encoding
+pub der_strict : {S V : Type 0} (value : S → V) (IsDer : V → Type 0) (Form : V → Identifier → List ℕ → Type 0) (is_writable : S → Type 0) (constructed : S → Bool) (header content : S → List ℕ) →
+    WritesForm value Form is_writable constructed header content → HasForm value IsDer Form header content → FitsElement Form →
+    (x : S) → IsDer (value x) → length (header x ++ content x) < 2 ^ 64 → ∥ IsStrict Form (value x) (header x ++ content x) ∥₁
+der_strict value IsDer Form is_writable constructed header content writes has fits x d l =
+    ∥∥₁_map (has x d l) (λ f.
+      let short : length (content x) < 2 ^ 64 = omega (arith, length-append (header x) (content x), l) in
+      subst (λ (h : List ℕ). IsStrict Form (value x) (h ++ content x)) (sym (writes x f.0 (content x) f.1).3) (strict_made Form fits (value x) f.0 (content x) f.1 short))
 
 -- a value that has no refusals of its own
 abbrev pub NothingRefused : Type 0
@@ -59,11 +83,15 @@ NothingRefused = IsWritable (λ _. ⊥) (λ _. ⊥) (λ _. ⊥)
 pub nothing_refused : NothingRefused
 nothing_refused = (λ e h. h, λ e h. h, λ e h. h)
 
--- The contents octets of a primitive element follow from the value. Where it has strict parts, they are its content, and the identifier is the one of the universal class with this number; under any class they meet the check and have the value all the same.
+-- The contents octets of a primitive element follow from the value. Where it has strict parts, they are its content, and the
+-- identifier is the one of the universal class with this number; under any class they meet the check and have the value
+-- all the same. A value in DER form has strict parts.
 pub record IsPrimitiveElement {S : Type 0} (G : ElementGrammar S) (number : ℕ) (octets : S → List ℕ) : Type 0 where
   pub by_value : (x y : S) → G.value x ≡ G.value y → octets x ≡ octets y
-  pub form : (x : S) (i : Identifier) (c : List ℕ) → G.Form (G.value x) i c → (i ≡ universal false number) × (octets x ≡ c)
-  pub class : (k : ℕ) → FormTakes G.Form G.Check G.Body k number
+  pub identifier : (v : G.Value) (i : Identifier) (c : List ℕ) → G.Form v i c → i ≡ universal false number
+  pub form : (x : S) (i : Identifier) (c : List ℕ) → G.Form (G.value x) i c → octets x ≡ c
+  pub class : (k : ℕ) → FormTakes G.Form G.Check G.Body k
+  pub der : (x : S) → G.IsDer (G.value x) → G.Form (G.value x) (universal false number) (octets x)
 
 -- so what is written of such an element is lawful
 module _ {S : Type 0} (G : ElementGrammar S) (number : ℕ) (octets : S → List ℕ) (primitive : IsPrimitiveElement G number octets) where
@@ -72,5 +100,12 @@ module _ {S : Type 0} (G : ElementGrammar S) (number : ℕ) (octets : S → List
 
   pub primitive_writes_form : WritesForm G.value G.Form (λ x. NothingRefused) (λ x. false) (λ x. header_octets 0 false number (length (octets x))) octets
   primitive_writes_form = λ x i c f.
+      let e = primitive.identifier (G.value x) i c f in
       let s = primitive.form x i c f in
-      (nothing_refused, sym (ap (λ (z : Identifier). z.constructed) s.0), s.1, ap (λ (d : List ℕ). header_octets 0 false number (length d)) s.1 ∙ ap (λ (z : Identifier). header_of z c) (sym s.0))
+      (nothing_refused, sym (ap (λ (z : Identifier). z.constructed) e), s, ap (λ (d : List ℕ). header_octets 0 false number (length d)) s ∙ ap (λ (z : Identifier). header_of z c) (sym e))
+
+  pub primitive_has_form : HasForm G.value G.IsDer G.Form (λ x. header_octets 0 false number (length (octets x))) octets
+  primitive_has_form = λ x d l. ∣ (universal false number, primitive.der x d) ∣₁
+
+  pub primitive_number : FormNumber G.Form number
+  primitive_number = λ v i c f. ap (λ (z : Identifier). z.number) (primitive.identifier v i c f)

@@ -9,11 +9,11 @@ use Rattle.x690.specs.Elements.{Parts}
 use Rattle.x690.specs.Integers.{HasSpareZeros, HasSpareOnes, IsIntegerContent}
 use Rattle.x690.specs.Laws.Integers.{integer_content_unique, integer_content_one_value}
 use Rattle.asn1_rs.specs.declared.error.Error.{Error}
-use Rattle.asn1_rs.specs.declared.error.Error.TheVariants.{ConstructUnexpected, IndefiniteLengthUnexpected, DerConstraintFailed}
+use Rattle.asn1_rs.specs.declared.error.Error.TheVariants.{ConstructUnexpected, IndefiniteLengthUnexpected, DerConstraintFailed, OutOfMemory}
 use Rattle.asn1_rs.specs.declared.error.DerConstraint.TheVariants.{IntegerEmpty, IntegerLeadingZeroes, IntegerLeadingFF}
 use Rattle.asn1_rs.specs.Form.{IsOneForm, IsOneValue, FitsElement}
 use Rattle.asn1_rs.specs.Grammar.{TakesBody, Checks, FormChecks, FormBodies, FormTakes, made, of_class}
-use Rattle.asn1_rs.specs.Kinds.{IsLawfulElement}
+use Rattle.asn1_rs.specs.Kinds.{IsLawfulElement, IsExactCheck, IsExactConversion}
 use Rattle.asn1_rs.specs.Laws.Forms.{IsPrimitiveElement, universal_one, universal_value, universal_fits}
 use Rattle.asn1_rs.specs.Integer.{integer_number, IntegerCheck, IntegerCheckRefuses, IntegerCheckGives, IsIntegerOr, IntegerBody, IntegerRefuses, IntegerGives, IntegerContent, IntegerForm, integer_element}
 
@@ -50,7 +50,7 @@ pub one_integer_check_refusal : (p : Parts) (e f : Error) → IntegerCheckGives 
 one_integer_check_refusal p e f h k = sym (check_refusal_is p e h) ∙ check_refusal_is p f k
 
 -- it is exact
-pub integer_check_exact : (p : Parts) (answer : Result (Unit {0}) Error) → IntegerCheckGives p answer → Checks IntegerCheck p answer
+integer_check_exact : (p : Parts) (answer : Result (Unit {0}) Error) → IntegerCheckGives p answer → Checks IntegerCheck p answer
 integer_check_exact p (Ok x) h = h
 integer_check_exact p (Err e) h = λ k. refuses e h k
   where
@@ -61,6 +61,9 @@ integer_check_exact p (Err e) h = λ k. refuses e h k
     refuses (DerConstraintFailed IntegerLeadingZeroes) h k = k.shortest.1 h.2
     refuses (DerConstraintFailed IntegerLeadingFF) h k = k.shortest.2 h.2
     refuses _ h k = h
+
+pub integer_checks : IsExactCheck IntegerCheckGives IntegerCheck
+integer_checks = record { exact = integer_check_exact; spares = λ p h. h }
 
 -- no element is both an integer and refused as none
 integer_or_refused : (p : Parts) (e : Error) → IsIntegerOr p (Err e) → IsIntegerOr p (Ok tt) → ⊥
@@ -83,7 +86,7 @@ one_integer_refusal refuses one p e f (inr a) (inr b) = one p.content e f a.1 b.
 
 module _ (Holds : ℤ → Type 0) where
   -- it is exact
-  pub integer_exact : {T : Type 0} (number : T → ℤ) (content_refuses : List ℕ → Error → Type 0) → ((c : List ℕ) (e : Error) → IsOctets c → content_refuses c e → Holds (twos_complement_value c) → ⊥) →
+  integer_exact : {T : Type 0} (number : T → ℤ) (content_refuses : List ℕ → Error → Type 0) → ((c : List ℕ) (e : Error) → IsOctets c → content_refuses c e → Holds (twos_complement_value c) → ⊥) →
       (p : Parts) (answer : Result T Error) → IsOctets p.content → IntegerGives number Holds content_refuses p answer → TakesBody (IntegerBody Holds) number false (λ (x y : Error). y ≡ x) p answer
   integer_exact number content_refuses refused p (Ok x) o h = h
   integer_exact number content_refuses refused p (Err e) o h = inr (λ v b. refuses h v b)
@@ -91,6 +94,19 @@ module _ (Holds : ℤ → Type 0) where
       refuses : IntegerRefuses content_refuses p e → (v : ℤ) → IntegerBody Holds p v → ⊥
       refuses (inl a) v b = integer_or_refused p e a (b.number, b.primitive)
       refuses (inr a) v b = refused p.content e o a.1 (subst Holds b.value b.held)
+
+  pub integer_converts : {T : Type 0} (number : T → ℤ) (content_refuses : List ℕ → Error → Type 0) →
+      ((c : List ℕ) (e : Error) → IsOctets c → content_refuses c e → Holds (twos_complement_value c) → ⊥) → ((c : List ℕ) → content_refuses c OutOfMemory → ⊥) →
+      IsExactConversion (IntegerGives number Holds content_refuses) (integer_element number Holds)
+  integer_converts number content_refuses refused spares = record {
+    exact = integer_exact number content_refuses refused;
+    spares = λ none p r. spared p r;
+  }
+    where
+      spared : (p : Parts) → IntegerRefuses content_refuses p OutOfMemory → ⊥
+      spared p (inl (inl a)) = let e = a.1 in cc
+      spared p (inl (inr a)) = let e = a.2 in cc
+      spared p (inr a) = spares p.content a.1
 
   integer_one_form : IsOneForm (IntegerForm Holds)
   integer_one_form = universal_one false integer_number (IntegerContent Holds) (λ v c d f g. integer_content_unique v c d f.1 g.1)
@@ -113,11 +129,11 @@ module _ (Holds : ℤ → Type 0) where
   integer_form_body : FormBodies (IntegerForm Holds) (IntegerBody Holds)
   integer_form_body = λ v i c f. made_has_body v i c (ap (λ (z : Identifier). z.number) f.0) (ap (λ (z : Identifier). z.constructed) f.0) f.1
 
-  integer_takes_class : (class : ℕ) → FormTakes (IntegerForm Holds) IntegerCheck (IntegerBody Holds) class integer_number
+  integer_takes_class : (class : ℕ) → FormTakes (IntegerForm Holds) IntegerCheck (IntegerBody Holds) class
   integer_takes_class class = λ v i c f.
       let n : i.number ≡ integer_number = ap (λ (z : Identifier). z.number) f.0 in
       let e : i.constructed ≡ false = ap (λ (z : Identifier). z.constructed) f.0 in
-      (n, made_checks v (of_class class i) c e f.1.1, made_has_body v (of_class class i) c n e f.1)
+      (made_checks v (of_class class i) c e f.1.1, made_has_body v (of_class class i) c n e f.1)
 
   pub integer_lawful : {S : Type 0} (number : S → ℤ) → IsLawfulElement (integer_element number Holds)
   integer_lawful number = record {
@@ -128,6 +144,7 @@ module _ (Holds : ℤ → Type 0) where
     one_value = integer_one_value;
     form_fits = integer_fits;
     form_check = integer_form_check;
+    form_der = λ v i c f. f.1.0;
     form_body = integer_form_body;
   }
 
@@ -139,6 +156,8 @@ module _ {T : Type 0} (number : T → ℤ) (octets : T → List ℕ) (strict : (
   pub integer_primitive : (Holds : ℤ → Type 0) → IsPrimitiveElement (integer_element number Holds) integer_number octets
   integer_primitive Holds = record {
     by_value = λ x y e. same_octets x (number y) (octets y) e (strict y);
-    form = λ x i c f. (f.0, same_octets x (number x) c refl f.1.1);
+    identifier = λ v i c f. f.0;
+    form = λ x i c f. same_octets x (number x) c refl f.1.1;
     class = integer_takes_class Holds;
+    der = λ x h. (refl, (h, strict x));
   }

@@ -1,8 +1,14 @@
 -- A type that is read as one element is a lawful item.
-use Rattle.x690.specs.Elements.{IsDefiniteElement}
+use Rattle.std.specs.Prelude.{Result, Err}
+use Rattle.std.proofs.Common.{◌≡◌, refl, subst, inl}
+use Rattle.x690.specs.Elements.{Parts, IsDefiniteElement}
 use Rattle.x690.specs.Nested.{IsElement}
+use Rattle.asn1_rs.specs.declared.error.Error.{Error}
+use Rattle.asn1_rs.specs.declared.error.Error.TheVariants.{OutOfMemory}
+use Rattle.asn1_rs.specs.Answers.{IsOther}
 use Rattle.asn1_rs.specs.Grammar.{NoCheck, max_depth}
-use Rattle.asn1_rs.specs.Kinds.{ElementGrammar, IsLawfulElement, IsLawfulItem, item_grammar}
+use Rattle.asn1_rs.specs.ItemGrammar.{ItemGrammar, IsLawfulItem, by_reference}
+use Rattle.asn1_rs.specs.Kinds.{ElementGrammar, IsLawfulElement, item_grammar}
 use Rattle.asn1_rs.specs.Laws.Elements.{der_elements, ber_elements}
 use Rattle.asn1_rs.specs.Laws.Words.{word_one, strict_ber_word, strict_der_word}
 
@@ -19,6 +25,30 @@ lawful_item G l = record {
   one_value = l.one_value;
   form_fits = l.form_fits;
   form_check = l.form_check;
+  form_der = l.form_der;
   strict_ber = strict_ber_word G.Form G.Body l.form_body;
   strict_der = strict_der_word G.Form G.Check G.Body l.form_check l.form_body;
 }
+
+-- a reference is as lawful as what it refers to
+pub lawful_by_reference : {S : Type 0} (G : ItemGrammar S) → IsLawfulItem G → IsLawfulItem (by_reference G)
+lawful_by_reference G l = record {
+  ber_values = l.ber_values;
+  der_values = l.der_values;
+  body_values = l.body_values;
+  form_values = l.form_values;
+  ber_one = l.ber_one;
+  der_one = l.der_one;
+  body_one = l.body_one;
+  one_form = l.one_form;
+  one_value = l.one_value;
+  form_fits = l.form_fits;
+  form_check = l.form_check;
+  form_der = l.form_der;
+  strict_ber = l.strict_ber;
+  strict_der = l.strict_der;
+}
+
+-- a refusal that is no want of memory
+pub other_error : {S : Type 0} (gives : Parts → Result S Error → Type 0) → ((p : Parts) → gives p (Err OutOfMemory) → ⊥) → (p : Parts) (e : Error) → gives p (Err e) → IsOther (λ (x y : Error). y ≡ x) e
+other_error gives spares p e g = inl (e, λ q. spares p (subst (λ (x : Error). gives p (Err x)) q g), refl)

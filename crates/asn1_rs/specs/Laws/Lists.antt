@@ -1,17 +1,20 @@
 -- Laws of lists.
-use Rattle.std.proofs.Common.{arith, ◌≡◌, ◌≢◌, ◌∙◌, ap, sym, subst, refl, ℕ, ◌<◌, ◌≤◌, ◌⊎◌, inl, inr, Bool, true, false, List, [], ◌∷◌, ◌++◌, length, map, length-append}
+use Rattle.std.proofs.Common.{arith, ◌≡◌, ◌≢◌, ◌∙◌, ap, sym, subst, refl, ℕ, ◌+◌, ◌^◌, ◌<◌, ◌≤◌, ◌⊎◌, inl, inr, Bool, true, false, List, [], ◌∷◌, ◌++◌, length, map, length-append}
 use Rattle.std.proofs.lemmas.List.{append_cancel_left}
-use Rattle.std.proofs.lemmas.List.Elements.{All-nil, All-cons}
+use Rattle.std.proofs.lemmas.List.Elements.{All-nil, All-cons, All-head, All-tail}
+use Rattle.std.proofs.lemmas.List.Concat.{flat_map-cons}
+use mathlib.Core.Logic.{∥∥₁_prop, ∥∥₁_elim, ∥∥₁_map}
 use Rattle.std.specs.Prelude.{slice_index_or, Result, Ok, Err, IsTrue, ◌↔◌, ◌&&◌}
 use Rattle.std.specs.Cmp.Lexicographic.{pointwise}
 use Rattle.std.specs.declared.vec.Vec.{Vec}
-use Rattle.std.specs.List.{All, flat_map}
+use Rattle.std.specs.List.{All, AllZip, flat_map}
 use Rattle.x690.specs.Strict.{header_octets}
 use Rattle.std.specs.Iterator.{Yields}
 use Rattle.x690.specs.Octets.{IsOctets}
 use Rattle.x690.specs.Identifiers.{Identifier, IsCutIdentifier}
 use Rattle.x690.specs.Elements.{Parts, IsDefiniteElement}
 use Rattle.x690.specs.Faults.{DefiniteElementFault}
+use Rattle.x690.specs.Nested.{IsElement}
 use Rattle.x690.specs.Laws.Octets.{octets_append, octets_back, below_octets}
 use Rattle.x690.specs.Laws.Elements.{definite_element_two, definite_element_is_octets}
 use Rattle.asn1_rs.specs.declared.error.Err.{Err as Refusal}
@@ -20,18 +23,24 @@ use Rattle.asn1_rs.specs.declared.error.Error.{Error}
 use Rattle.asn1_rs.specs.declared.error.Error.TheVariants as faults
 use Rattle.asn1_rs.specs.declared.error.DerConstraint.TheVariants.{IndefiniteLength}
 use Rattle.asn1_rs.specs.declared.asn1_types.any.Any.{Any}
-use Rattle.asn1_rs.specs.Error.{FlattenedTo}
+use Rattle.asn1_rs.specs.Error.{HeldIn, FlattenedTo}
+use Rattle.asn1_rs.specs.Kinds.{IsExactCheck}
 use Rattle.asn1_rs.specs.Any.{parts_of, IsTheElement}
-use Rattle.asn1_rs.specs.Answers.{Front, NoFront, Exactly, TellsMemory}
+use Rattle.asn1_rs.specs.Answers.{Front, NoFront, Exactly, TellsMemory, IsOther}
 use Rattle.asn1_rs.specs.Form.{IsOneForm, IsOneValue, FitsElement, HasValues, IsStrict}
-use Rattle.asn1_rs.specs.Grammar.{IsOneFront, IsOneBody, TakesBody, Checks, FormChecks, FormBodies, FormTakes, DerWord, made, of_class}
+use Rattle.asn1_rs.specs.Grammar.{IsOneFront, IsOneBody, TakesBody, Checks, FormChecks, FormBodies, FormTakes, FormNumber, NoCheck, DerWord, made, of_class, max_depth}
 use Rattle.asn1_rs.specs.Items.{TakesItem, EndsItem, TellsNoWord, IsMemory}
-use Rattle.asn1_rs.specs.Lists.{IsJoined, ListBody, ListOf, CheckedElement, ListCheck, StrictWord, ListForm, IsListOr, ItemsGive, ListTakes, ListReads, CheckedGives, ListCheckGives, SomeRefuses, has_items}
+use Rattle.asn1_rs.specs.ItemGrammar.{ItemGrammar, IsLawfulItem}
+use Rattle.asn1_rs.specs.Lists.{joining, list_grammar, IsJoined, ListBody, ListOf, CheckedElement, ListCheck, StrictWord, ListForm, IsListOr, ItemsGive, ListTakes, ListReads, CheckedGives, ListCheckGives, SomeRefuses, has_items}
 use Rattle.asn1_rs.specs.Wrote.{HasNone, Either, IsWritable, WrittenRefusal}
 use Rattle.asn1_rs.specs.declared.error.SerializeError.{SerializeError}
-use Rattle.asn1_rs.specs.Laws.Elements.{none_now, element_exact, der_elements}
-use Rattle.asn1_rs.specs.Laws.Words.{strict_element, one_strict, strict_apart}
+use Rattle.asn1_rs.specs.Laws.Elements.{none_now, element_exact, element_spares, no_indefinite_length_spares, der_elements, ber_elements}
+use Rattle.asn1_rs.specs.Laws.Words.{word_one, strict_element, one_strict, strict_apart, strict_ber_word, strict_der_word}
 use Rattle.asn1_rs.specs.Laws.Forms.{universal, header_of, universal_one, universal_value, universal_fits, WritesByValue, WritesForm, strict_written}
+
+-- what takes memory may tell of want of it
+pub takes_some : {A : Type 0} → true ≡ false → A
+takes_some e = cc
 
 empty_front : (w r : List ℕ) → [] ≡ w ++ r → w ≡ []
 empty_front [] r e = refl
@@ -150,9 +159,37 @@ module _ {V : Type 0} (Form : V → Identifier → List ℕ → Type 0) (number 
       let t = joined_checked Check checks vs c f.1 in
       record { number_is = ap (λ (z : Identifier). z.number) f.0; constructed = ap (λ (z : Identifier). z.constructed) f.0; elements = t.0; checked = t.1 }
 
-  pub list_takes_class : (G : List ℕ → V → Type 0) (Check : Parts → Type 0) → ((v : V) (o : List ℕ) → IsStrict Form v o → G o v) → FormChecks Form Check → (class : ℕ) → FormTakes (ListForm number Form) (ListCheck number Check) (ListBody number G) class number
+  pub list_takes_class : (G : List ℕ → V → Type 0) (Check : Parts → Type 0) → ((v : V) (o : List ℕ) → IsStrict Form v o → G o v) → FormChecks Form Check → (class : ℕ) → FormTakes (ListForm number Form) (ListCheck number Check) (ListBody number G) class
   list_takes_class G Check words checks class = λ vs i c f.
-      (ap (λ (z : Identifier). z.number) f.0, list_form_check_under Check checks vs i c class f, list_form_body_under G words vs i c class f)
+      (list_form_check_under Check checks vs i c class f, list_form_body_under G words vs i c class f)
+
+  pub list_number : FormNumber (ListForm number Form) number
+  list_number = λ vs i c f. ap (λ (z : Identifier). z.number) f.0
+
+pub list_body_values : {V : Type 0} (number : ℕ) (G : List ℕ → V → Type 0) (P : V → Type 0) → ((o : List ℕ) (v : V) → G o v → P v) → (p : Parts) (vs : List V) → ListBody number G p vs → All P vs
+list_body_values number G P f p vs b = joined_values G P f p.content vs b.items
+
+pub list_der_values : {V : Type 0} (number : ℕ) (G : List ℕ → V → Type 0) (P : V → Type 0) → ((o : List ℕ) (v : V) → G o v → P v) → (p : Parts) (vs : List V) → ListOf number G p vs → All P vs
+list_der_values number G P f p vs b = joined_values G P f p.content vs b.items
+
+-- lists of lawful items are lawful
+pub list_lawful : {S W : Type 0} (number : ℕ) → number < 31 → (items : W → List S) (G : ItemGrammar S) → IsLawfulItem G → IsLawfulItem (list_grammar number items G)
+list_lawful number small items G l = record {
+  ber_values = λ o vs w. list_body_values number G.Ber G.IsValue l.ber_values w.0 vs w.3;
+  der_values = λ o vs w. list_der_values number G.Der G.IsValue l.der_values w.0 vs w.3;
+  body_values = λ p vs o b. list_body_values number G.Ber G.IsValue l.ber_values p vs b;
+  form_values = list_form_values G.Form number G.IsValue l.form_values;
+  ber_one = word_one (IsElement max_depth) NoCheck (ListBody number G.Ber) ber_elements.one (list_body_one G.Ber l.ber_one number);
+  der_one = word_one IsDefiniteElement NoCheck (ListOf number G.Der) der_elements.one (list_of_one G.Der l.der_one number);
+  body_one = list_body_one G.Ber l.ber_one number;
+  one_form = list_one_form G.Form number l.one_form;
+  one_value = list_one_value G.Form number l.one_value;
+  form_fits = list_fits G.Form number small;
+  form_check = list_form_check G.Form number G.Check l.form_check;
+  form_der = list_form_values G.Form number G.IsDer l.form_der;
+  strict_ber = strict_ber_word (ListForm number G.Form) (ListBody number G.Ber) (list_form_body G.Form number G.Ber l.strict_ber);
+  strict_der = strict_der_word (ListForm number G.Form) NoCheck (ListOf number G.Der) (λ v i c f. tt) (list_form_of G.Form number G.Der l.strict_der);
+}
 
 -- An element is a list, or is refused as none.
 list_or_refused : (number : ℕ) (p : Parts) (e : Error) → IsListOr number p (Err e) → p.id.number ≡ number → p.id.constructed ≡ true → ⊥
@@ -270,11 +307,32 @@ module _ (number : ℕ) (check : Parts → Result (Unit {0}) Error → Type 0) (
         | inr none ↦ none c.elements c.checked
       ]
 
-pub list_body_values : {V : Type 0} (number : ℕ) (G : List ℕ → V → Type 0) (P : V → Type 0) → ((o : List ℕ) (v : V) → G o v → P v) → (p : Parts) (vs : List V) → ListBody number G p vs → All P vs
-list_body_values number G P f p vs b = joined_values G P f p.content vs b.items
+-- and it takes no memory
+pub list_checks : (number : ℕ) (check : Parts → Result (Unit {0}) Error → Type 0) (Check : Parts → Type 0) → IsExactCheck check Check → IsExactCheck (ListCheckGives number check) (ListCheck number Check)
+list_checks number check Check c = record {
+  exact = list_check_exact number check Check c.exact;
+  spares = λ p h. spared p h;
+}
+  where
+    element_spared : (octets : List ℕ) (answer : Result (List ℕ × Any) (Refusal Error)) → CheckedGives check octets answer → EndsItem (λ (x y : Error). y ≡ x) octets answer faults.OutOfMemory → ⊥
+    element_spared octets (Ok x) g e = let a = e.1 in cc
+    element_spared octets (Err r) g e = refusal_spared r (element_spares IsDefiniteElement DefiniteElementFault (faults.DerConstraintFailed IndefiniteLength) no_indefinite_length_spares check IsTheElement (λ (x y : Error). y ≡ x) c.spares (λ p f h. absurd h) octets (Err r) g) e
+      where
+        refusal_spared : (r : Refusal Error) → HeldIn (IsOther (λ (x y : Error). y ≡ x)) r → FlattenedTo (λ x y. y ≡ x) (λ (x y : Error). y ≡ x) r faults.OutOfMemory → ⊥
+        refusal_spared (cut n) h f = cc
+        refusal_spared (refused f) (inl o) k = o.1 (let a = o.2 in cc)
+        refusal_spared (refused f) (inr o) k = o (sym k)
+        refusal_spared (failed f) (inl o) k = o.1 (let a = o.2 in cc)
+        refusal_spared (failed f) (inr o) k = o (sym k)
 
-pub list_der_values : {V : Type 0} (number : ℕ) (G : List ℕ → V → Type 0) (P : V → Type 0) → ((o : List ℕ) (v : V) → G o v → P v) → (p : Parts) (vs : List V) → ListOf number G p vs → All P vs
-list_der_values number G P f p vs b = joined_values G P f p.content vs b.items
+    walk_spared : (items : List Any) (content left : List ℕ) → Yields (TakesItem (CheckedGives check) (λ (x y : Error). y ≡ x)) content (map Ok items ++ Err faults.OutOfMemory ∷ []) left → ⊥
+    walk_spared [] content left y = element_spared content y.1.1.0 y.1.1.1 y.1.1.2
+    walk_spared (x ∷ items) content left y = walk_spared items y.0 left y.2
+
+    spared : (p : Parts) → ListCheckGives number check p (Err faults.OutOfMemory) → ⊥
+    spared p (inl (inl a)) = let e = a.1 in cc
+    spared p (inl (inr a)) = let e = a.2 in cc
+    spared p (inr h) = walk_spared h.1.0 p.content h.1.1 h.1.2
 
 -- what the items of a list are written in
 abbrev pub written_items : {S : Type 0} → (S → List ℕ) → (S → List ℕ) → List S → List ℕ
@@ -338,6 +396,37 @@ module _ {S V : Type 0} (number : ℕ) (value : S → V) (Form : V → Identifie
         e,
         ap (λ (z : List ℕ). header_octets 0 true number (length z)) e ∙ ap (λ (z : Identifier). header_of z c) (sym f.0),
       )
+
+pub zip_joined : {V : Type 0} (Form : V → Identifier → List ℕ → Type 0) (vs : List V) (os : List (List ℕ)) → AllZip (IsStrict Form) vs os → IsJoined (StrictWord Form) (joining os) vs
+zip_joined Form [] [] z = refl
+zip_joined Form [] (o ∷ os) z = absurd z
+zip_joined Form (v ∷ vs) [] z = absurd z
+zip_joined Form (v ∷ vs) (o ∷ os) z = (o, joining os, z.0, flat_map-cons (λ x. x) o os, zip_joined Form vs os z.1)
+
+-- items in DER form are written as their strict encodings
+module _ {S V : Type 0} (value : S → V) (IsDer : V → Type 0) (Form : V → Identifier → List ℕ → Type 0) (octets : S → List ℕ)
+    (strict : (x : S) → IsDer (value x) → length (octets x) < 2 ^ 64 → ∥ IsStrict Form (value x) (octets x) ∥₁) where
+  pub zip_written : (xs : List S) → All IsDer (map value xs) → length (flat_map octets xs) < 2 ^ 64 → ∥ AllZip (IsStrict Form) (map value xs) (map octets xs) ∥₁
+  zip_written [] a l = ∣ tt ∣₁
+  zip_written (x ∷ xs) a l =
+      let both : length (flat_map octets (x ∷ xs)) ≡ length (octets x) + length (flat_map octets xs) = ap length (flat_map-cons octets x xs) ∙ length-append (octets x) (flat_map octets xs) in
+      ∥∥₁_elim (strict x (All-head IsDer (value x) (map value xs) a) (omega (arith, both, l))) ∥∥₁_prop (λ s.
+        ∥∥₁_map (zip_written xs (All-tail IsDer (value x) (map value xs) a) (omega (arith, both, l))) (λ z. (s, z)))
+
+joined_flat : {S : Type 0} (octets : S → List ℕ) (xs : List S) → joining (map octets xs) ≡ flat_map octets xs
+joined_flat octets [] = refl
+joined_flat octets (x ∷ xs) = flat_map-cons (λ o. o) (octets x) (map octets xs) ∙ ap (λ r. octets x ++ r) (joined_flat octets xs) ∙ sym (flat_map-cons octets x xs)
+
+-- so a list in DER form has strict parts
+pub list_has_form : {S V : Type 0} (number : ℕ) (value : S → V) (IsDer : V → Type 0) (Form : V → Identifier → List ℕ → Type 0) (header content : S → List ℕ) →
+    ((x : S) → IsDer (value x) → length (header x ++ content x) < 2 ^ 64 → ∥ IsStrict Form (value x) (header x ++ content x) ∥₁) →
+    (xs : List S) → All IsDer (map value xs) → length (header_octets 0 true number (length (written_items header content xs)) ++ written_items header content xs) < 2 ^ 64 →
+    ∥ ((i : Identifier) × ListForm number Form (map value xs) i (written_items header content xs)) ∥₁
+list_has_form number value IsDer Form header content strict xs a l =
+    let joined = written_items header content xs in
+    let short : length joined < 2 ^ 64 = omega (arith, length-append (header_octets 0 true number (length joined)) joined, l) in
+    ∥∥₁_map (zip_written value IsDer Form (λ x. header x ++ content x) strict xs a short) (λ z.
+      (universal true number, (refl, subst (λ c. IsJoined (StrictWord Form) c (map value xs)) (joined_flat (λ x. header x ++ content x) xs) (zip_joined Form (map value xs) (map (λ x. header x ++ content x) xs) z))))
 
 -- lists of members are equal exactly where their values are
 pub same_lists : {S V : Type 0} (eq : S → S → Bool) (value : S → V) → ((x y : S) → IsTrue (eq x y) ↔ (value x ≡ value y)) → (xs ys : List S) → IsTrue (pointwise eq xs ys) ↔ (map value xs ≡ map value ys)

@@ -1,38 +1,40 @@
 -- Laws of sets.
-use Rattle.std.proofs.Common.{arith, ◌≡◌, ◌∙◌, ap, sym, subst, refl, ℕ, ◌<◌, ◌≤◌, ◌+◌, ◌⊎◌, inl, inr, ⊎_elim, Bool, true, false, List, [], ◌∷◌, ◌++◌, length, map, zero, suc, get_or}
+use Rattle.std.proofs.Common.{arith, ◌≡◌, ◌∙◌, ap, sym, subst, refl, ℕ, ◌<◌, ◌≤◌, ◌+◌, ◌^◌, ◌⊎◌, inl, inr, ⊎_elim, Bool, true, false, List, [], ◌∷◌, ◌++◌, length, map, zero, suc, get_or, length-append}
 use Rattle.std.specs.Prelude.{Result, Ok, Err, IsTrue, ◌↔◌, ◌&&◌, ◌||◌, Contains, slice_index_or, not}
-use Rattle.std.specs.List.{All, AllZip, AllByRecursion, IsDistinct, flat_map, list_all, list_any}
+use Rattle.std.specs.List.{All, AllZip, AllByRecursion, flat_map, list_all, list_any}
 use Rattle.std.specs.List.Sorted.{IsPermutation, IsStrictlySortedBy}
 use Rattle.std.specs.declared.cmp.Ordering.{Ordering}
 use Rattle.std.specs.declared.cmp.Ordering.TheVariants.{Less, Equal, Greater}
 use Rattle.std.specs.Ordering.{eq_by_cmp, is_eq, is_lt, is_gt, ordering_reverse}
 use Rattle.std.specs.Cmp.{IsTotalOrder, Equal-is, alike_right}
 use Rattle.std.specs.Cmp.Lexicographic.{pointwise}
-use Rattle.std.specs.BTreeSet.{BTreeSet, IsFromIterResult as IsOrderedOf}
-use Rattle.std.specs.HashSet.{HashSet, IsFromIterResult as IsHashedOf}
+use Rattle.std.specs.BTreeSet.{BTreeSet, IsFromIterResult}
 use Rattle.std.proofs.lemmas.List.Elements.{All-nil, All-cons}
-use Rattle.std.proofs.lemmas.List.Concat.{flat_map-cons}
-use Rattle.std.proofs.lemmas.List.Sorted.{IsPermutation-refl, IsPermutation-trans, IsPermutation-sym, IsPermutation-map, All-permutation}
+use Rattle.std.proofs.lemmas.List.Sorted.{IsPermutation-refl, IsPermutation-trans, IsPermutation-sym, IsPermutation-map, All-permutation, Contains-permutation}
 use Rattle.x690.specs.Strict.{header_octets}
 use Rattle.x690.specs.Octets.{IsOctets}
 use Rattle.x690.specs.Identifiers.{Identifier}
-use Rattle.x690.specs.Elements.{Parts}
+use Rattle.x690.specs.Elements.{Parts, IsDefiniteElement}
+use Rattle.x690.specs.Nested.{IsElement}
 use Rattle.asn1_rs.specs.declared.error.Err.{Err as Refusal}
 use Rattle.asn1_rs.specs.declared.error.Error.{Error}
+use Rattle.asn1_rs.specs.declared.asn1_types.set_of.SetOf.{SetOf}
 use Rattle.asn1_rs.specs.Answers.{Exactly, TellsMemory}
 use Rattle.asn1_rs.specs.declared.error.SerializeError.{SerializeError}
 use Rattle.asn1_rs.specs.Form.{IsOneForm, IsOneValue, FitsElement, HasValues, IsStrict}
-use Rattle.asn1_rs.specs.Grammar.{IsOneFront, IsOneBody, TakesBody, FormChecks, FormBodies, FormTakes, made}
-use Rattle.asn1_rs.specs.Lists.{IsJoined, ListBody, ListOf, ListCheck, StrictWord, SomeRefuses, ListTakes}
+use Rattle.asn1_rs.specs.Grammar.{IsOneFront, IsOneBody, TakesBody, FormChecks, FormBodies, FormTakes, FormNumber, NoCheck, made, max_depth}
+use Rattle.asn1_rs.specs.ItemGrammar.{ItemGrammar, IsLawfulItem}
+use Rattle.asn1_rs.specs.Lists.{joining, IsJoined, ListBody, ListOf, ListCheck, StrictWord, SomeRefuses, ListTakes, ListReads}
 use Rattle.asn1_rs.specs.Wrote.{HasNone, Either, IsWritable, WrittenRefusal, IntoVector}
-use Rattle.asn1_rs.specs.Sets.{Multiset, multiset, ValueSet, value_set, HaveSame, AllDiffer, Members, set_of, pairs_pass, members_if, members, is_below, is_other, Ascending, joining, Joins, AnyList, Seen, SetBody, SetRow, SetForm, SetValues}
-use Rattle.asn1_rs.specs.Laws.Words.{one_strict}
+use Rattle.asn1_rs.specs.Sets.{Multiset, multiset, ValueSet, value_set, HaveSame, AllDiffer, Members, set_of, pairs_pass, members_if, members, is_below, Ascending, Joins, AnyList, Seen, SetBody, SetRow, SetForm, SetValues, SetInDer, set_grammar, multiset_grammar, member_grammar, items_of, HasItems}
+use Rattle.asn1_rs.specs.Laws.Elements.{der_elements, ber_elements}
+use Rattle.asn1_rs.specs.Laws.Words.{word_one, one_strict, strict_ber_word, strict_der_word}
 use Rattle.asn1_rs.specs.Laws.Forms.{universal, header_of, universal_one, universal_value, universal_fits, WritesByValue, WritesForm, strict_written}
-use Rattle.asn1_rs.specs.Laws.Lists.{joined_map, joined_values, joined_octets, joined_same, strict_word_one, strict_word_octets, list_body_one, list_form_check, list_takes, none_refuses, both_by_value, same_lists}
-use Rattle.asn1_rs.specs.Laws.Arranged.{arranged, arranged_ascends, arranged_moves}
+use Rattle.asn1_rs.specs.Laws.Lists.{zip_joined, zip_written, joined_map, joined_values, joined_octets, joined_same, strict_word_one, strict_word_octets, list_body_one, list_of_one, list_body_values, list_der_values, list_form_check, list_takes_class, list_takes, list_reads, none_refuses, both_by_value, same_lists}
+use Rattle.asn1_rs.specs.Laws.Arranged.{arranged, arranged_ascends, arranged_moves, arranged_length}
 use Rattle.asn1_rs.specs.Laws.Ascend.{Ascending-unique}
-use Rattle.asn1_rs.specs.Laws.Zips.{zip_permutation, zip_right}
-use Rattle.asn1_rs.specs.Laws.Differ.{permutation_from_same}
+use Rattle.asn1_rs.specs.Laws.Zips.{zip_turn, zip_permutation, zip_right}
+use Rattle.asn1_rs.specs.Laws.Differ.{permutation_from_same, AllDiffer-permutation}
 use mathlib.Core.HProp.{HProp}
 use mathlib.Core.Bool.{true≢false, Bool-set}
 use mathlib.Core.Logic.{∥∥₁_prop, ∥∥₁_elim, ∥∥₁_map}
@@ -94,12 +96,6 @@ module _ {V : Type 0} (R : V → List ℕ → Type 0) (one : (v : V) (o p : List
       let e : t.0 ≡ ps = zip_right R one ws t.0 ps t.1 k in
       Ascending-unique os ps (subst (IsPermutation os) e t.2) up vp)
 
-zip_joined : {V : Type 0} (Form : V → Identifier → List ℕ → Type 0) (vs : List V) (os : List (List ℕ)) → AllZip (IsStrict Form) vs os → IsJoined (StrictWord Form) (joining os) vs
-zip_joined Form [] [] z = refl
-zip_joined Form [] (o ∷ os) z = absurd z
-zip_joined Form (v ∷ vs) [] z = absurd z
-zip_joined Form (v ∷ vs) (o ∷ os) z = (o, joining os, z.0, flat_map-cons (λ x. x) o os, zip_joined Form vs os z.1)
-
 -- what takes lists takes collections
 pub takes_seen : {T V W E : Type 0} (f : V → W) (B : Parts → V → Type 0) (value : T → V) (takes : Bool) (from : Error → E → Type 0) (p : Parts) (answer : Result T E) → TakesBody B value takes from p answer → TakesBody (Seen f B) (λ x. f (value x)) takes from p answer
 takes_seen f B value takes from p (Ok x) h = (value x, refl, h)
@@ -111,7 +107,7 @@ body_seen f B one p v w a b = sym a.1 ∙ ap f (one p a.0 b.0 a.2 b.2) ∙ b.1
 
 -- the strict parts of a set
 module _ {V M : Type 0} (of : List V → M) (Each : List V → Type 0) (Form : V → Identifier → List ℕ → Type 0) where
-  joins_joined : (m : M) (c : List ℕ) (j : Joins of Each Form m c) → IsJoined (StrictWord Form) c j.items
+  pub joins_joined : (m : M) (c : List ℕ) (j : Joins of Each Form m c) → IsJoined (StrictWord Form) c j.items
   joins_joined m c j = subst (λ d. IsJoined (StrictWord Form) d j.items) j.joined (zip_joined Form j.items j.strings j.each)
 
   pub set_one_form : ((vs ws : List V) → Each vs → Each ws → of vs ≡ of ws → ∥ IsPermutation vs ws ∥₁) → IsOneForm Form → IsOneForm (SetForm of Each Form)
@@ -155,6 +151,58 @@ module _ {V M : Type 0} (of : List V → M) (Each : List V → Type 0) (Form : V
 
   pub set_form_check : (Check : Parts → Type 0) → FormChecks Form Check → FormChecks (SetForm of Each Form) (ListCheck 17 Check)
   set_form_check Check checks = λ m i c f. list_form_check Form 17 Check checks f.1.items i c (f.0, joins_joined m c f.1)
+
+  pub set_takes_class : (G : List ℕ → V → Type 0) (Check : Parts → Type 0) → ((v : V) (o : List ℕ) → IsStrict Form v o → G o v) → FormChecks Form Check → (class : ℕ) → FormTakes (SetForm of Each Form) (ListCheck 17 Check) (SetBody of G) class
+  set_takes_class G Check words checks class = λ m i c f.
+      let t = list_takes_class Form 17 G Check words checks class f.1.items i c (f.0, joins_joined m c f.1) in
+      (t.0, (f.1.items, f.1.are, t.1))
+
+  pub set_number : FormNumber (SetForm of Each Form) 17
+  set_number = λ m i c f. ap (λ (z : Identifier). z.number) f.0
+
+-- sets of lawful items are lawful
+module _ {S W M : Type 0} (G : ItemGrammar S) (l : IsLawfulItem G) (of : List G.Value → M) (worth : W → M) (Each : List G.Value → Type 0)
+    (mixed : (vs ws : List G.Value) → Each vs → Each ws → of vs ≡ of ws → ∥ IsPermutation vs ws ∥₁) where
+  set_form_der : HasValues (SetForm of Each G.Form) (SetInDer of Each G.IsDer)
+  set_form_der = λ m i c f. (f.1.items, f.1.once, f.1.are, joined_values (StrictWord G.Form) G.IsDer (λ o v s. l.form_der v s.id s.content s.form) c f.1.items (joins_joined of Each G.Form m c f.1))
+
+  pub set_lawful : (DerBody : Parts → M → Type 0) → IsOneBody DerBody → ((p : Parts) (m : M) → DerBody p m → SetValues of G.IsValue m) → FormBodies (SetForm of Each G.Form) DerBody → IsLawfulItem (set_grammar {W = W} G of worth Each DerBody)
+  set_lawful DerBody one values bodies = record {
+    ber_values = λ o m w. body_values_of w.0 m w.3;
+    der_values = λ o m w. values w.0 m w.3;
+    body_values = λ p m o b. body_values_of p m b;
+    form_values = set_form_values of Each G.Form G.IsValue l.form_values;
+    ber_one = word_one (IsElement max_depth) NoCheck (SetBody of G.Ber) ber_elements.one body_one;
+    der_one = word_one IsDefiniteElement NoCheck DerBody der_elements.one one;
+    body_one = body_one;
+    one_form = set_one_form of Each G.Form mixed l.one_form;
+    one_value = set_one_value of Each G.Form l.one_value;
+    form_fits = set_fits of Each G.Form;
+    form_check = set_form_check of Each G.Form G.Check l.form_check;
+    form_der = set_form_der;
+    strict_ber = strict_ber_word (SetForm of Each G.Form) (SetBody of G.Ber) (set_form_body of Each G.Form G.Ber l.strict_ber);
+    strict_der = strict_der_word (SetForm of Each G.Form) NoCheck DerBody (λ v i c f. tt) bodies;
+  }
+    where
+      body_one : IsOneBody (SetBody of G.Ber)
+      body_one = body_seen of _ (list_body_one G.Ber l.ber_one 17)
+
+      body_values_of : (p : Parts) (m : M) → SetBody of G.Ber p m → SetValues of G.IsValue m
+      body_values_of p m b = (b.0, b.1, list_body_values 17 G.Ber G.IsValue l.ber_values p b.0 b.2)
+
+pub multiset_lawful : {S W : Type 0} (items : W → List S) (G : ItemGrammar S) → IsLawfulItem G → IsLawfulItem (multiset_grammar items G)
+multiset_lawful items G l =
+    set_lawful G l multiset (λ w. multiset (map G.value (items w))) AnyList (λ vs ws h k e. permutation_from_multiset vs ws e) (SetRow multiset G.Der)
+    (body_seen multiset _ (list_of_one G.Der l.der_one 17))
+    (λ p m b. (b.0, b.1, list_der_values 17 G.Der G.IsValue l.der_values p b.0 b.2))
+    (set_form_row multiset AnyList G.Form G.Der l.strict_der)
+
+pub member_lawful : {S W : Type 0} (test : S → S → Bool) (keys : W → List S) (G : ItemGrammar S) → IsLawfulItem G → IsLawfulItem (member_grammar test keys G)
+member_lawful test keys G l =
+    set_lawful G l set_of (λ w. members test G.value (keys w)) AllDiffer permutation_from_set (SetBody set_of G.Der)
+    (body_seen set_of _ (list_body_one G.Der l.der_one 17))
+    (λ p m b. (b.0, b.1, list_body_values 17 G.Der G.IsValue l.der_values p b.0 b.2))
+    (set_form_body set_of AllDiffer G.Form G.Der l.strict_der)
 
 -- what is written for the items, in ascending order
 abbrev pub set_content : {S : Type 0} → (S → List ℕ) → List S → List ℕ
@@ -253,6 +301,43 @@ module _ {S V : Type 0} (value : S → V) (Form : V → Identifier → List ℕ 
           ap (λ (z : List ℕ). header_octets 0 true 17 (length z)) set_written ∙ ap (λ (z : Identifier). header_of z c) (sym f),
         )
 
+-- Each way to stand for a collection is kept in another order, and so is the collection.
+module _ {V M : Type 0} (of : List V → M) (Each : List V → Type 0)
+    (stays : (vs ws : List V) → IsPermutation vs ws → Each vs → Each ws) (same : (vs ws : List V) → IsPermutation vs ws → of vs ≡ of ws) where
+  -- so a set in DER form has strict parts
+  pub set_has_form : {S : Type 0} (value : S → V) (IsDer : V → Type 0) (Form : V → Identifier → List ℕ → Type 0) (header content : S → List ℕ) →
+      ((x : S) → IsDer (value x) → length (header x ++ content x) < 2 ^ 64 → ∥ IsStrict Form (value x) (header x ++ content x) ∥₁) →
+      (xs : List S) (m : M) (d : SetInDer of Each IsDer m) → ∥ IsPermutation d.0 (map value xs) ∥₁ → length (header_octets 0 true 17 (length (set_content (λ x. header x ++ content x) xs)) ++ set_content (λ x. header x ++ content x) xs) < 2 ^ 64 →
+      ∥ ((i : Identifier) × SetForm of Each Form m i (set_content (λ x. header x ++ content x) xs)) ∥₁
+  set_has_form {S} value IsDer Form header content strict xs m d moved l =
+      ∥∥₁_elim moved ∥∥₁_prop (λ p. ∥∥₁_map (zip_written value IsDer Form octets strict xs (All-permutation IsDer d.0 (map value xs) p d.3) short) (λ z. (universal true 17, (refl, joins p z))))
+    where
+      octets : S → List ℕ
+      octets x = header x ++ content x
+
+      short : length (flat_map octets xs) < 2 ^ 64
+      short = omega (arith, length-append (header_octets 0 true 17 (length (set_content octets xs))) (set_content octets xs), arranged_length octets xs, l)
+
+      joins : IsPermutation d.0 (map value xs) → AllZip (IsStrict Form) (map value xs) (map octets xs) → Joins of Each Form m (set_content octets xs)
+      joins p z =
+          let t = zip_permutation (λ o v. IsStrict Form v o) (map octets xs) (arranged (map octets xs)) (map value xs) (arranged_moves (map octets xs)) (zip_turn (IsStrict Form) (map value xs) (map octets xs) z) in
+          let q = IsPermutation-trans d.0 (map value xs) t.0 p t.2 in
+          record {
+            items = t.0;
+            strings = arranged (map octets xs);
+            once = stays d.0 t.0 q d.1;
+            are = sym (same d.0 t.0 q) ∙ d.2;
+            each = zip_turn (λ o v. IsStrict Form v o) (arranged (map octets xs)) t.0 t.1;
+            ascend = arranged_ascends (map octets xs);
+            joined = refl;
+          }
+
+pub same_multiset : {V : Type 0} (vs ws : List V) → IsPermutation vs ws → multiset vs ≡ multiset ws
+same_multiset vs ws p = sound p
+
+pub same_set : {V : Type 0} (vs ws : List V) → IsPermutation vs ws → set_of vs ≡ set_of ws
+same_set vs ws p = ap inl (sound (λ v. (Contains-permutation vs ws v p, Contains-permutation ws vs v (IsPermutation-sym vs ws p))))
+
 both_true : (a b : Bool) → (a && b) ≡ true → (a ≡ true) × (b ≡ true)
 both_true true b h = (refl, h)
 both_true false b h = absurd (true≢false (sym h))
@@ -331,24 +416,12 @@ unfolding IsStrictlySortedBy
 ordered_pass cmp [] h = refl
 ordered_pass cmp (x ∷ xs) h = true_both (list_all (is_below cmp x) xs) (pairs_pass (is_below cmp) xs) (all_below cmp x xs h.0) (ordered_pass cmp xs h.1)
 
-all_other : {S : Type 0} (eq : S → S → Bool) (x : S) (xs : List S) → AllByRecursion (λ y. eq x y ≡ false) xs → list_all (is_other eq x) xs ≡ true
-all_other eq x [] h = refl
-all_other eq x (y ∷ ys) h = true_both (is_other eq x y) (list_all (is_other eq x) ys) (ap not h.0) (all_other eq x ys h.1)
-
-pub distinct_pass : {S : Type 0} (eq : S → S → Bool) (xs : List S) → IsDistinct eq xs → pairs_pass (is_other eq) xs ≡ true
-unfolding IsDistinct
-distinct_pass eq [] h = refl
-distinct_pass eq (x ∷ xs) h = true_both (list_all (is_other eq x) xs) (pairs_pass (is_other eq) xs) (all_other eq x xs h.0) (distinct_pass eq xs h.1)
-
 -- the members of keys that std holds are a set
 pub members_pass : {S V : Type 0} (test : S → S → Bool) (value : S → V) (xs : List S) → pairs_pass test xs ≡ true → members test value xs ≡ set_of (map value xs)
 members_pass test value xs h = ap (λ b. members_if b (map value xs)) h
 
 -- keys that pass differ in value, where their equality is that of their values
 module _ {S V : Type 0} (eq : S → S → Bool) (value : S → V) (same : (x y : S) → IsTrue (eq x y) ↔ (value x ≡ value y)) where
-  pub other_apart : (x y : S) → is_other eq x y ≡ true → value x ≡ value y → ⊥
-  other_apart x y h e = let t : eq x y ≡ true = (same x y).1 e in true≢false (sym h ∙ ap not t)
-
   module _ (cmp : S → S → Ordering) (total : IsTotalOrder cmp) (matches : (x y : S) → eq x y ≡ eq_by_cmp cmp x y) where
     tie : (x y : S) → value x ≡ value y → cmp x y ≡ Equal
     tie x y e = (Equal-is (cmp x y)).0 (sym (matches x y) ∙ (same x y).1 e)
@@ -485,14 +558,37 @@ module _ {T V W M E : Type 0} (holds : List T → W → Type 0) (of : List V →
   )
   set_takes p (Err e) o t = elim (list_takes {W = List T} 17 (λ (xs : List T) (ys : List T). ys ≡ xs) (map value) reads from G value takes IsCut (λ xs ys e. ap (map value) (sym e)) one exact p (Err e) o t) [ inl m ↦ inl m | inr none ↦ inr (λ m b. none b.0 b.2) ]
 
+  pub set_reads : (p : Parts) (answer : Result W E) → IsOctets p.content → ListReads 17 holds reads from p answer → TakesBody (SetRow of G) worth true from p answer
+  set_reads p (Ok w) o t = (
+    map value t.1.0,
+    told t.1.0 w t.1.1,
+    list_reads 17 (λ (xs : List T) (ys : List T). ys ≡ xs) (map value) reads from G value takes IsCut (λ xs ys e. ap (map value) (sym e)) one exact p (Ok t.1.0) o (t.0, (t.1.0, refl, t.1.2)),
+  )
+  set_reads p (Err e) o t = elim (list_reads {W = List T} 17 (λ (xs : List T) (ys : List T). ys ≡ xs) (map value) reads from G value takes IsCut (λ xs ys e. ap (map value) (sym e)) one exact p (Err e) o t) [ inl m ↦ inl m | inr none ↦ inr (λ m b. none b.0 b.2) ]
+
 -- what std collects into a set stands for the values of the items
-module _ {S V : Type 0} (eq : S → S → Bool) (value : S → V) (same : (x y : S) → IsTrue (eq x y) ↔ (value x ≡ value y)) where
-  pub table_told : {H : Type 0} (items : List S) (s : HashSet S H) → IsHashedOf eq items s → set_of (map value items) ≡ members (is_other eq) value s.keys
-  table_told items s h = sym (collected_values eq value same s.keys items h.0) ∙ sym (members_pass (is_other eq) value s.keys (distinct_pass eq s.keys h.1))
+module _ {S V : Type 0} (eq : S → S → Bool) (value : S → V) (same : (x y : S) → IsTrue (eq x y) ↔ (value x ≡ value y)) (cmp : S → S → Ordering) (matches : (x y : S) → eq x y ≡ eq_by_cmp cmp x y) where
+  ties_same : (x y : S) → IsTrue (eq_by_cmp cmp x y) ↔ (value x ≡ value y)
+  ties_same x y = (λ h. (same x y).0 (matches x y ∙ h), λ e. sym (matches x y) ∙ (same x y).1 e)
 
-  module _ (cmp : S → S → Ordering) (matches : (x y : S) → eq x y ≡ eq_by_cmp cmp x y) where
-    ties_same : (x y : S) → IsTrue (eq_by_cmp cmp x y) ↔ (value x ≡ value y)
-    ties_same x y = (λ h. (same x y).0 (matches x y ∙ h), λ e. sym (matches x y) ∙ (same x y).1 e)
+  pub tree_told : (items : List S) (s : BTreeSet S) → IsFromIterResult cmp items s → set_of (map value items) ≡ members (is_below cmp) value s.keys
+  tree_told items s h = sym (collected_values (eq_by_cmp cmp) value ties_same s.keys items h.0) ∙ sym (members_pass (is_below cmp) value s.keys (ordered_pass cmp s.keys h.1))
 
-    pub tree_told : (items : List S) (s : BTreeSet S) → IsOrderedOf cmp items s → set_of (map value items) ≡ members (is_below cmp) value s.keys
-    tree_told items s h = sym (collected_values (eq_by_cmp cmp) value ties_same s.keys items h.0) ∙ sym (members_pass (is_below cmp) value s.keys (ordered_pass cmp s.keys h.1))
+-- so each of the two kinds of sets has strict parts where it is in DER form
+module _ {S V : Type 0} (value : S → V) (IsDer : V → Type 0) (Form : V → Identifier → List ℕ → Type 0) (header content : S → List ℕ)
+    (strict : (x : S) → IsDer (value x) → length (header x ++ content x) < 2 ^ 64 → ∥ IsStrict Form (value x) (header x ++ content x) ∥₁) where
+  pub multiset_has_form : (xs : List S) → SetInDer multiset AnyList IsDer (multiset (map value xs)) →
+      length (header_octets 0 true 17 (length (set_content (λ x. header x ++ content x) xs)) ++ set_content (λ x. header x ++ content x) xs) < 2 ^ 64 →
+      ∥ ((i : Identifier) × SetForm multiset AnyList Form (multiset (map value xs)) i (set_content (λ x. header x ++ content x) xs)) ∥₁
+  multiset_has_form xs d l =
+      set_has_form multiset AnyList (λ vs ws p h. tt) same_multiset value IsDer Form header content strict xs (multiset (map value xs)) d (permutation_from_multiset d.0 (map value xs) d.2) l
+
+  pub members_have_form : (test : S → S → Bool) → ((x y : S) → test x y ≡ true → value x ≡ value y → ⊥) → (xs : List S) → SetInDer set_of AllDiffer IsDer (members test value xs) →
+      length (header_octets 0 true 17 (length (set_content (λ x. header x ++ content x) xs)) ++ set_content (λ x. header x ++ content x) xs) < 2 ^ 64 →
+      ∥ ((i : Identifier) × SetForm set_of AllDiffer Form (members test value xs) i (set_content (λ x. header x ++ content x) xs)) ∥₁
+  members_have_form test apart xs d l =
+      set_has_form set_of AllDiffer AllDiffer-permutation same_set value IsDer Form header content strict xs (members test value xs) d (members_are test value apart xs d.0 d.1 d.2) l
+
+-- the values of a set of the library's own
+pub multiset_told : {T V : Type 0} (value : T → V) (items : List T) (s : SetOf T) → HasItems items s → multiset (map value items) ≡ multiset (map value (items_of s))
+multiset_told value items s h = ap multiset (ap (map value) (sym h))

@@ -6,16 +6,22 @@ use Rattle.x690.specs.Digits.{base_256_value, twos_complement_value}
 use Rattle.x690.specs.Laws.Integers.{unsigned_value, negative_value}
 use Rattle.asn1_rs.specs.declared.error.Error.{Error}
 use Rattle.asn1_rs.specs.declared.error.Error.TheVariants.{IntegerNegative, IntegerTooLarge}
-use Rattle.asn1_rs.specs.Integer.{IsUnsigned, UnsignedRefuses}
+use Rattle.asn1_rs.specs.Integer.{IsUnsigned, UnsignedRefuses, UnsignedGives, integer_element}
+use Rattle.asn1_rs.specs.Kinds.{IsExactConversion}
+use Rattle.asn1_rs.specs.Laws.Integer.{integer_converts}
 
 -- a number that is refused is not held
-pub unsigned_refused : (size : ℕ) (c : List ℕ) (e : Error) → IsOctets c → UnsignedRefuses size c e → IsUnsigned size (twos_complement_value c) → ⊥
+unsigned_refused : (size : ℕ) (c : List ℕ) (e : Error) → IsOctets c → UnsignedRefuses size c e → IsUnsigned size (twos_complement_value c) → ⊥
 unsigned_refused size c IntegerNegative o h u = negative_value c u.0 o h u.1
 unsigned_refused size c IntegerTooLarge o h u =
     let same : pos (base_256_value c) ≡ pos u.0 = sym (unsigned_value c h.0) ∙ u.1 in
     let number : base_256_value c ≡ u.0 = cc in
     omega (arith, h.1, number, u.2)
 unsigned_refused size c _ o h u = h
+
+-- the conversion to a natural number of so many octets
+pub unsigned_converts : (size : ℕ) → IsExactConversion (UnsignedGives size) (integer_element pos (IsUnsigned size))
+unsigned_converts size = integer_converts (IsUnsigned size) pos (UnsignedRefuses size) (unsigned_refused size) (λ c h. h)
 
 -- it has one refusal
 pub one_unsigned_refusal : (size : ℕ) (c : List ℕ) (e f : Error) → UnsignedRefuses size c e → UnsignedRefuses size c f → e ≡ f

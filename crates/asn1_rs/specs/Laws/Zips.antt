@@ -6,9 +6,15 @@ use Rattle.std.proofs.Common.{refl, sym, ◌∙◌, ap, subst, arith, get_or, se
 use Rattle.std.proofs.lemmas.List.Sorted.{IsPermutation-keeps, IsPermutation-refl, IsPermutation-trans, IsPermutation-swap, length_permutation}
 use Rattle.std.proofs.lemmas.List.{append_cancel_left}
 use Rattle.std.proofs.lemmas.Slice.Eq.{bytes_eq-Decides}
-use Rattle.asn1_rs.specs.Sets.{joining}
+use Rattle.asn1_rs.specs.Lists.{joining}
 
 module _ {A B : Type 0} (R : A → B → Type 0) where
+  pub zip_turn : (xs : List A) (ys : List B) → AllZip R xs ys → AllZip (λ y x. R x y) ys xs
+  zip_turn [] [] h = tt
+  zip_turn [] (y ∷ ys) h = absurd h
+  zip_turn (x ∷ xs) [] h = absurd h
+  zip_turn (x ∷ xs) (y ∷ ys) h = (h.0, zip_turn xs ys h.1)
+
   pub zip_length : (xs : List A) (ys : List B) → AllZip R xs ys → length ys ≡ length xs
   zip_length [] [] h = refl
   zip_length [] (y ∷ ys) h = absurd h

@@ -12,7 +12,7 @@ ghost use Rattle.asn1_rs.specs.Any.{parts_of, IsTheElement, IsDefiniteOr, DerCon
 ghost use Rattle.asn1_rs.specs.Ber.{BerContentGives};
 ghost use Rattle.asn1_rs.specs.Grammar.{max_depth};
 ghost use Rattle.asn1_rs.specs.Element.{any_element};
-ghost use Rattle.asn1_rs.specs.Laws.Element.{element_lawful, element_body_exact, element_check_exact};
+ghost use Rattle.asn1_rs.specs.Laws.Element.{element_lawful, element_converts, element_checks};
 ghost use Rattle.asn1_rs.specs.declared.class.Class.TheVariants as classes;
 ghost use Rattle.asn1_rs.specs.declared.length.Length.TheVariants as forms;
 ghost use Rattle.asn1_rs.specs.declared.tag.Tag.{Tag as Number};
@@ -247,9 +247,9 @@ impl LawfulElement for Any<'_> {
 
     ghost lawful = { element_lawful };
 
-    ghost checks = { element_check_exact };
+    ghost checked = { element_checks };
 }
 
 impl<'a> LawfulConversion<'a> for Any<'a> {
-    ghost converts = { λ p answer octets. element_body_exact (λ x y. y ≡ x) p answer };
+    ghost converts = { element_converts };
 }

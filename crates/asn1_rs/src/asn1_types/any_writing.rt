@@ -6,7 +6,7 @@ ghost use Rattle.asn1_rs.specs.Header.{is_constructed_of, length_of};
 ghost use Rattle.asn1_rs.specs.Length.{form_of};
 ghost use Rattle.asn1_rs.specs.WrittenHeader.{strict_header};
 ghost use Rattle.asn1_rs.specs.Element.{content_of, element_header};
-ghost use Rattle.asn1_rs.specs.Laws.ElementWriting.{element_by_value, element_writes_form, element_same};
+ghost use Rattle.asn1_rs.specs.Laws.ElementWriting.{element_by_value, element_writes_form, element_has_form, element_same};
 ghost use Rattle.asn1_rs.specs.Wrote.{Wrote, MayRefuse, Refuses, RefusesCount, VectorRefuses, Either, tells_of_io};
 
 use crate::asn1_types::any::Any;
@@ -115,6 +115,8 @@ impl LawfulWrite for Any<'_> {
     ghost by_value = { element_by_value };
 
     ghost form = { element_writes_form };
+
+    ghost der_form = { element_has_form };
 }
 
 impl LawfulMember for Any<'_> {

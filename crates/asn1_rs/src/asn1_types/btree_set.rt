@@ -1,39 +1,32 @@
 //! `BTreeSet` as a set of members (X.690 8.12).
-ghost use Rattle.std.specs.Prelude.{ℕ, List, ◌++◌, ◌≡◌, ◌||◌, length, map, true, false, slice_index_or, IfOk, IfErr, IsErr};
+ghost use Rattle.std.specs.Prelude.{List, ◌++◌, ◌≡◌, length, map, true, false, slice_index_or, IfOk, IfErr, IsErr};
 ghost use Rattle.std.specs.List.{All, flat_map};
+ghost use Rattle.std.specs.BTreeSet.{IsFromIterResult};
 ghost use Rattle.x690.specs.Strict.{header_octets};
-ghost use Rattle.x690.specs.Elements.{IsDefiniteElement};
-ghost use Rattle.x690.specs.Nested.{IsElement};
+ghost use Rattle.x690.specs.Identifiers.{IsCutIdentifier};
 ghost use Rattle.asn1_rs.specs.declared.error.SerializeError.{SerializeError as Unwritten};
 ghost use Rattle.asn1_rs.specs.declared.error.Error.{Error as Uncounted};
-ghost use Rattle.std.specs.BTreeSet.{IsFromIterResult};
-ghost use Rattle.x690.specs.Identifiers.{IsCutIdentifier};
-ghost use Rattle.x690.specs.Faults.{DefiniteElementFault};
-ghost use Rattle.asn1_rs.specs.declared.error.Error.TheVariants as faults;
-ghost use Rattle.asn1_rs.specs.declared.error.DerConstraint.TheVariants as constraints;
-ghost use Rattle.asn1_rs.specs.Answers.{seen};
-ghost use Rattle.asn1_rs.specs.Any.{parts_of};
-ghost use Rattle.asn1_rs.specs.Grammar.{max_depth, NoCheck, PassesAll, BerWord, DerWord, DerGives, EndsWithin};
-ghost use Rattle.asn1_rs.specs.Lists.{ListCheck, ListTakes, SomeRefuses};
-ghost use Rattle.asn1_rs.specs.Wrote.{Either, Refuses, RefusesCount, WrittenRefusal, IntoVector, tells_of_io};
-ghost use Rattle.asn1_rs.specs.Sets.{Members, members, set_of, is_below, AllDiffer, SetBody, SetRow, SetForm, SetValues};
-ghost use Rattle.asn1_rs.specs.Laws.Elements.{element_exact, der_elements, ber_elements, passes_all};
-ghost use Rattle.asn1_rs.specs.Laws.Words.{word_one, strict_ber_word, strict_der_word};
-ghost use Rattle.asn1_rs.specs.Laws.Lists.{list_body_one, list_of_one, list_body_values, list_der_values};
-ghost use Rattle.asn1_rs.specs.Laws.Sets.{set_content, body_seen, permutation_from_set, set_one_form, set_one_value, set_fits, set_form_values, set_form_body, set_form_row, set_form_check, set_by_value, set_writes_form, members_moved, members_are, set_takes, tree_told, below_apart, same_members};
+ghost use Rattle.asn1_rs.specs.Grammar.{PassesAll, DerGives, EndsWithin};
+ghost use Rattle.asn1_rs.specs.Lists.{ListCheckGives, ListTakes, SomeRefuses};
+ghost use Rattle.asn1_rs.specs.Wrote.{Either, Refuses, RefusesCount, IsWritable, WrittenRefusal, IntoVector, tells_of_io};
+ghost use Rattle.asn1_rs.specs.Sets.{set_of, is_below, AllDiffer, SetBody, member_grammar};
+ghost use Rattle.asn1_rs.specs.Laws.Elements.{unchecked_exact};
+ghost use Rattle.asn1_rs.specs.Laws.Forms.{der_strict};
+ghost use Rattle.asn1_rs.specs.Laws.Lists.{takes_some, list_checks};
+ghost use Rattle.asn1_rs.specs.Laws.Sets.{set_content, member_lawful, set_takes, set_form_body, set_takes_class, set_number, set_by_value, set_writes_form, members_have_form, members_moved, members_are, tree_told, below_apart, same_members};
 
 use crate::asn1_types::any::Any;
-use crate::asn1_types::items::{FromItems, items_of_set};
+use crate::asn1_types::items::{FromItems, check_list, constructed_list_by_der};
 use crate::asn1_types::sets::write_ascending;
-use crate::ber::element_by_der;
-use crate::error::{Err, Error, ParseResult, SerializeError, SerializeResult};
+use crate::error::{Error, ParseResult, SerializeError, SerializeResult};
 use crate::header_writing::{element_len, put_counted_header};
 use crate::laws::{
-    Grammar, LawfulBer, LawfulBody, LawfulDer, LawfulItem, LawfulMember, LawfulWrite,
+    Grammar, LawfulBer, LawfulBody, LawfulCheck, LawfulDer, LawfulItem, LawfulMember, LawfulTagged,
+    LawfulWrite, TakesClass,
 };
 use crate::tag::Tag;
 use crate::to_der::{ToDer, add_counts};
-use crate::traits::{FromDer, Tagged};
+use crate::traits::{CheckDerConstraints, FromDer, Tagged};
 use crate::writer::DerWrite;
 use std::alloc::{AllocError, Global};
 use std::collections::BTreeSet;
@@ -132,72 +125,12 @@ impl<T: ToDer + Ord> ToDer for BTreeSet<T> {
     }
 }
 
-impl<T: Grammar + Ord> Grammar for BTreeSet<T> {
-    ghost Value = { Members T.Value };
-
-    ghost value = { λ s. members (is_below T.cmp) T.value s.keys };
-
-    ghost IsValue = { SetValues set_of T.IsValue };
-
-    ghost Ber = { BerWord (SetBody set_of T.Ber) };
-
-    ghost Der = { DerWord NoCheck (SetBody set_of T.Der) };
-
-    ghost Body = { SetBody set_of T.Ber };
-
-    ghost Check = { ListCheck 17 T.Check };
-
-    ghost Form = { SetForm set_of AllDiffer T.Form };
-
-    ghost takes_memory = { true };
-}
-
-impl<T: LawfulItem + Ord> LawfulItem for BTreeSet<T> {
-    ghost ber_values = { λ o m w. (w.3.0, w.3.1, list_body_values 17 T.Ber T.IsValue T.ber_values w.0 w.3.0 w.3.2) };
-
-    ghost der_values = { λ o m w. (w.3.0, w.3.1, list_body_values 17 T.Der T.IsValue T.der_values w.0 w.3.0 w.3.2) };
-
-    ghost body_values = { λ p m o b. (b.0, b.1, list_body_values 17 T.Ber T.IsValue T.ber_values p b.0 b.2) };
-
-    ghost form_values = { set_form_values set_of AllDiffer T.Form T.IsValue T.form_values };
-
-    ghost ber_one = { word_one (IsElement max_depth) NoCheck (SetBody set_of T.Ber) ber_elements.one (body_seen set_of _ (list_body_one T.Ber T.ber_one 17)) };
-
-    ghost der_one = { word_one IsDefiniteElement NoCheck (SetBody set_of T.Der) der_elements.one (body_seen set_of _ (list_body_one T.Der T.der_one 17)) };
-
-    ghost body_one = { body_seen set_of _ (list_body_one T.Ber T.ber_one 17) };
-
-    ghost one_form = { set_one_form set_of AllDiffer T.Form permutation_from_set T.one_form };
-
-    ghost one_value = { set_one_value set_of AllDiffer T.Form T.one_value };
-
-    ghost form_fits = { set_fits set_of AllDiffer T.Form };
-
-    ghost form_check = { set_form_check set_of AllDiffer T.Form T.Check T.form_check };
-
-    ghost strict_ber = { strict_ber_word (SetForm set_of AllDiffer T.Form) (SetBody set_of T.Ber) (set_form_body set_of AllDiffer T.Form T.Ber T.strict_ber) };
-
-    ghost strict_der = { strict_der_word (SetForm set_of AllDiffer T.Form) NoCheck (SetBody set_of T.Der) (λ v i c f. tt) (set_form_body set_of AllDiffer T.Form T.Der T.strict_der) };
-}
-
-impl<T: LawfulWrite + LawfulMember + Ord> LawfulWrite for BTreeSet<T> {
-    ghost tells_all = { λ s k d h. T.tells_all (slice_index_or s.keys k d) };
-
-    ghost by_value = { λ x y e. set_by_value T.value T.constructed T.header T.content T.by_value x.keys y.keys (members_moved (is_below T.cmp) T.value (below_apart T.eq T.value T.same T.cmp T.total T.matches_eq) x.keys y.keys e) };
-
-    ghost form = { λ s i c f. set_writes_form T.value T.Form T.count_refuses T.header_refuses T.content_refuses T.constructed T.header T.content set_of AllDiffer T.form s.keys c _ f.1 (members_are (is_below T.cmp) T.value (below_apart T.eq T.value T.same T.cmp T.total T.matches_eq) s.keys f.1.items f.1.once f.1.are) i f.0 };
-}
-
-impl<T: LawfulMember + Ord> LawfulMember for BTreeSet<T> {
-    ghost same = { λ x y. same_members T.eq T.value T.same T.cmp T.total T.matches_eq x.keys y.keys };
-}
-
 impl<T: Ord + Drop> FromItems for BTreeSet<T> {
     type Item = T;
 
     type Refusal = Error;
 
-    ghost holds = { (λ xs s. IsFromIterResult T.cmp xs s) };
+    ghost holds = { λ items s. IsFromIterResult T.cmp items s };
 
     fn from_items(alloc: Global, items: Vec<T>) -> Result<BTreeSet<T>, AllocError>
         ensures { IfOk result (λ s. IsFromIterResult T.cmp items.items s) }
@@ -206,59 +139,104 @@ impl<T: Ord + Drop> FromItems for BTreeSet<T> {
     }
 }
 
-/// The set of the items of an element, by DER.
-fn set_of_any<'a, T: FromDer<'a, E> + Ord + Drop, E: From<Error>>(
-    alloc: Global,
-    any: &Any<'a>,
-) -> Result<BTreeSet<T>, E>
-    ensures { ListTakes 17 (λ xs s. IsFromIterResult T.cmp xs s) T.der_gives E.from_gives (parts_of any.now) result }
-{
-    match items_of_set::<T, E>(alloc, any) {
-        Ok(items) => match ordered_set(alloc, items) {
-            Ok(set) => Ok(set),
-            Err(_) => Err(E::from(Error::OutOfMemory)),
-        },
-        Err(e) => Err(e),
-    }
-}
-
-/// The set at the front, by DER, and what follows it.
-fn set_by_der<'a, T: FromDer<'a, E> + Ord + Drop, E: From<Error>>(
-    alloc: Global,
-    bytes: &'a [u8],
-) -> ParseResult<'a, BTreeSet<T>, E>
-    ensures { DerGives PassesAll (ListTakes 17 (λ xs s. IsFromIterResult T.cmp xs s) T.der_gives E.from_gives) E.from_gives bytes.now (seen result) }
-{
-    let (rest, any) = match element_by_der(bytes) {
-        Ok(read) => read,
-        Err(e) => return Err(Err::convert(e)),
-    };
-    match set_of_any::<T, E>(alloc, &any) {
-        Ok(set) => Ok((rest, set)),
-        Err(e) => Err(Err::Error(e)),
-    }
-}
-
 impl<'a, T: FromDer<'a, E> + Ord + Drop, E: From<Error>> FromDer<'a, E> for BTreeSet<T> {
-    ghost der_gives = { DerGives PassesAll (ListTakes 17 (λ xs s. IsFromIterResult T.cmp xs s) T.der_gives E.from_gives) E.from_gives };
+    ghost der_gives = {
+        DerGives PassesAll
+            (ListTakes 17 (λ items s. IsFromIterResult T.cmp items s) T.der_gives E.from_gives)
+            E.from_gives };
 
     fn from_der(alloc: Global, bytes: &'a [u8]) -> ParseResult<'a, BTreeSet<T>, E> {
-        set_by_der(alloc, bytes)
+        constructed_list_by_der::<BTreeSet<T>, T, E>(alloc, bytes)
     }
+}
+
+impl<T: CheckDerConstraints + Ord> CheckDerConstraints for BTreeSet<T> {
+    ghost check_gives = { ListCheckGives 17 T.check_gives };
+
+    fn check_constraints(any: &Any<'_>) -> Result<(), Error> {
+        check_list::<T>(Tag::Set.0, any)
+    }
+}
+
+impl<T: Grammar + Ord> Grammar for BTreeSet<T> {
+    ghost grammar = { member_grammar (is_below T.cmp) (λ s. s.keys) T.grammar };
+}
+
+impl<T: LawfulItem + Ord> LawfulItem for BTreeSet<T> {
+    ghost lawful_item = { member_lawful (is_below T.cmp) (λ s. s.keys) T.grammar T.lawful_item };
 }
 
 impl<'a, T: LawfulBer<'a, Error> + LawfulMember + Ord + Drop> LawfulBody<'a, Error>
     for BTreeSet<T> {
-    ghost body_exact = { set_takes (λ xs s. IsFromIterResult T.cmp xs s) set_of (λ s. members (is_below T.cmp) T.value s.keys) T.ber_gives (λ x y. y ≡ x) T.Ber T.value T.takes_memory EndsWithin (tree_told T.eq T.value T.same T.cmp T.matches_eq) T.ber_one T.ber_exact };
+    ghost body_exact = {
+        set_takes (λ items s. IsFromIterResult T.cmp items s) set_of Self.grammar.value T.ber_gives
+            (λ x y. y ≡ x) T.grammar.Ber T.grammar.value T.grammar.takes_memory EndsWithin
+            (tree_told T.eq T.grammar.value T.same T.cmp T.matches_eq)
+            T.lawful_item.ber_one T.ber_exact };
 
-    ghost form_body = { set_form_body set_of AllDiffer T.Form T.Ber T.strict_ber };
+    ghost body_spares = { λ none p e g. takes_some none };
 
-    ghost ber_split = { λ o vs w. w };
+    ghost form_body = {
+        set_form_body set_of AllDiffer T.grammar.Form T.grammar.Ber T.lawful_item.strict_ber };
 
-    ghost ber_join = { λ o vs w. w };
+    ghost ber_split = { λ o m w. w };
+
+    ghost ber_join = { λ o m w. w };
 }
 
 impl<'a, T: LawfulDer<'a, E> + LawfulMember + Ord + Drop, E: From<Error>> LawfulDer<'a, E>
     for BTreeSet<T> {
-    ghost der_exact = { λ input answer octets. element_exact IsDefiniteElement DefiniteElementFault IsCutIdentifier der_elements (faults.DerConstraintFailed constraints.IndefiniteLength) PassesAll (ListTakes 17 (λ xs s. IsFromIterResult T.cmp xs s) T.der_gives E.from_gives) E.from_gives NoCheck (SetBody set_of T.Der) (λ s. members (is_below T.cmp) T.value s.keys) true (DerWord NoCheck (SetBody set_of T.Der)) passes_all (set_takes (λ xs s. IsFromIterResult T.cmp xs s) set_of (λ s. members (is_below T.cmp) T.value s.keys) T.der_gives E.from_gives T.Der T.value T.takes_memory IsCutIdentifier (tree_told T.eq T.value T.same T.cmp T.matches_eq) T.der_one T.der_exact) (λ o vs w. w) (λ o vs w. w) input answer };
+    ghost der_exact = { λ input answer octets.
+        unchecked_exact
+            (ListTakes 17 (λ items s. IsFromIterResult T.cmp items s) T.der_gives E.from_gives)
+            E.from_gives (SetBody set_of T.grammar.Der) Self.grammar.value true
+            (set_takes (λ items s. IsFromIterResult T.cmp items s) set_of Self.grammar.value T.der_gives
+                E.from_gives T.grammar.Der T.grammar.value T.grammar.takes_memory IsCutIdentifier
+                (tree_told T.eq T.grammar.value T.same T.cmp T.matches_eq)
+                T.lawful_item.der_one T.der_exact)
+            input answer };
+
+    ghost der_spares = { λ none input answer g. takes_some none };
+}
+
+impl<T: LawfulCheck + Ord> LawfulCheck for BTreeSet<T> {
+    ghost checks = { list_checks 17 T.check_gives T.grammar.Check T.checks };
+}
+
+impl<T: LawfulWrite + LawfulMember + Ord> LawfulWrite for BTreeSet<T> {
+    ghost tells_all = { λ s k d h. T.tells_all (slice_index_or s.keys k d) };
+
+    ghost by_value = { λ x y e.
+        set_by_value T.grammar.value T.constructed T.header T.content T.by_value x.keys y.keys
+            (members_moved (is_below T.cmp) T.grammar.value
+                (below_apart T.eq T.grammar.value T.same T.cmp T.total T.matches_eq) x.keys y.keys e) };
+
+    ghost form = { λ s i c f.
+        set_writes_form T.grammar.value T.grammar.Form T.count_refuses T.header_refuses
+            T.content_refuses T.constructed T.header T.content set_of AllDiffer T.form s.keys c _ f.1
+            (members_are (is_below T.cmp) T.grammar.value
+                (below_apart T.eq T.grammar.value T.same T.cmp T.total T.matches_eq)
+                s.keys f.1.items f.1.once f.1.are)
+            i f.0 };
+
+    ghost der_form = { λ s.
+        members_have_form T.grammar.value T.grammar.IsDer T.grammar.Form T.header T.content
+            (der_strict T.grammar.value T.grammar.IsDer T.grammar.Form
+                (λ x. IsWritable (T.count_refuses x) (T.header_refuses x) (T.content_refuses x))
+                T.constructed T.header T.content T.form T.der_form T.lawful_item.form_fits)
+            (is_below T.cmp) (below_apart T.eq T.grammar.value T.same T.cmp T.total T.matches_eq) s.keys };
+}
+
+impl<T: LawfulItem + Ord> LawfulTagged for BTreeSet<T> {
+    ghost tag_number = { set_number set_of AllDiffer T.grammar.Form };
+}
+
+impl<T: LawfulItem + Ord, const K: u8> TakesClass<K> for BTreeSet<T> {
+    ghost takes_class = {
+        set_takes_class set_of AllDiffer T.grammar.Form T.grammar.Ber T.grammar.Check
+            T.lawful_item.strict_ber T.lawful_item.form_check K };
+}
+
+impl<T: LawfulMember + Ord> LawfulMember for BTreeSet<T> {
+    ghost same = { λ x y. same_members T.eq T.grammar.value T.same T.cmp T.total T.matches_eq x.keys y.keys };
 }

@@ -4,7 +4,7 @@ ghost use Rattle.std.specs.List.{All, flat_map};
 ghost use Rattle.asn1_rs.specs.Any.{parts_of};
 ghost use Rattle.asn1_rs.specs.Answers.{seen};
 ghost use Rattle.asn1_rs.specs.Grammar.{DerGives, PassesAll};
-ghost use Rattle.asn1_rs.specs.Lists.{IsListOr, ItemsGive, ListTakes, ListReads, ItemsCheckGives, ListCheckGives, FirstChecked, SomeRefuses, listed, has_items};
+ghost use Rattle.asn1_rs.specs.Lists.{IsListOr, ItemsGive, ListTakes, ListReads, IsMadeOf, ItemsCheckGives, ListCheckGives, FirstChecked, SomeRefuses, listed};
 ghost use Rattle.asn1_rs.specs.declared.error.SerializeError.{SerializeError as Unwritten};
 ghost use Rattle.asn1_rs.specs.declared.error.Error.{Error as Uncounted};
 ghost use Rattle.asn1_rs.specs.Wrote.{Wrote, Refuses, RefusesCount, Either, some_takes};
@@ -48,20 +48,6 @@ fn assert_list(number: u32, any: &Any<'_>) -> Result<(), Error>
     any.header.assert_constructed()
 }
 
-/// The items of an element that is a list with this tag number, by BER.
-fn list_from_any<'a, T: FromBer<'a, E> + Drop, E: From<Error>>(
-    alloc: Global,
-    number: u32,
-    any: Any<'a>,
-) -> Result<Vec<T>, E>
-    ensures { ListTakes number has_items T.ber_gives E.from_gives (parts_of any.entry) result }
-{
-    if let Err(e) = assert_list(number, &any) {
-        return Err(E::from(e));
-    }
-    items_by::<T, BerParser, E>(alloc, any.content)
-}
-
 /// A list: a type that is made of items, which stand in the contents octets of one element.
 pub trait FromItems: Tagged + Sized {
     /// The items.
@@ -91,57 +77,97 @@ where
     ghost any_gives = { ListTakes (L.mark).0 L.holds T.ber_gives E.from_gives };
 
     fn try_from_any(alloc: Global, any: Any<'a>) -> Result<L, E> {
-        match list_from_any::<T, E>(alloc, L::its_tag().0, any) {
-            Ok(items) => match L::from_items(alloc, items) {
-                Ok(list) => Ok(list),
-                Err(_) => Err(E::from(Error::OutOfMemory)),
-            },
+        if let Err(e) = assert_list(L::its_tag().0, &any) {
+            return Err(E::from(e));
+        }
+        match items_by::<T, BerParser, E>(alloc, any.content) {
+            Ok(items) => made::<L, T, E>(alloc, items),
             Err(e) => Err(e),
         }
     }
 }
 
-/// The items of an element with this tag number, by DER. The constructed bit is not looked at.
-fn items_of_any<'a, T: FromDer<'a, E> + Drop, E: From<Error>>(
-    alloc: Global,
-    number: u32,
-    any: &Any<'a>,
-) -> Result<Vec<T>, E>
-    ensures { ListReads number has_items T.der_gives E.from_gives (parts_of any.now) result }
+/// The items, as a list.
+fn made<L: FromItems<Item = T>, T, E: From<Error>>(alloc: Global, items: Vec<T>) -> Result<L, E>
+    ensures { IsMadeOf L.holds E.from_gives items.items result }
 {
-    match any.header.assert_tag(Tag(number)) {
-        Ok(()) => items_by::<T, DerParser, E>(alloc, any.content),
-        Err(e) => Err(E::from(e)),
+    match L::from_items(alloc, items) {
+        Ok(list) => Ok(list),
+        Err(_) => Err(E::from(Error::OutOfMemory)),
     }
 }
 
-/// The items of an element that is a set, by DER. The tag number is looked at, then the constructed bit.
-pub(crate) fn items_of_set<'a, T: FromDer<'a, E> + Drop, E: From<Error>>(
-    alloc: Global,
-    any: &Any<'a>,
-) -> Result<Vec<T>, E>
-    ensures { ListTakes 17 has_items T.der_gives E.from_gives (parts_of any.now) result }
+/// The list that an element is, by DER. The tag number is looked at, and not the constructed bit.
+fn list_of_element<'a, L, T, E>(alloc: Global, any: &Any<'a>) -> Result<L, E>
+where
+    L: FromItems<Item = T>,
+    T: FromDer<'a, E> + Drop,
+    E: From<Error>,
+    ensures { ListReads (L.mark).0 L.holds T.der_gives E.from_gives (parts_of any.now) result }
 {
-    if let Err(e) = assert_list(Tag::Set.0, any) {
+    if let Err(e) = any.header.assert_tag(L::its_tag()) {
         return Err(E::from(e));
     }
-    items_by::<T, DerParser, E>(alloc, any.content)
+    match items_by::<T, DerParser, E>(alloc, any.content) {
+        Ok(items) => made::<L, T, E>(alloc, items),
+        Err(e) => Err(e),
+    }
 }
 
-/// The items of the list with this tag number at the front, by DER, and what follows it.
-pub(crate) fn list_by_der<'a, T: FromDer<'a, E> + Drop, E: From<Error>>(
-    alloc: Global,
-    number: u32,
-    bytes: &'a [u8],
-) -> ParseResult<'a, Vec<T>, E>
-    ensures { DerGives PassesAll (ListReads number has_items T.der_gives E.from_gives) E.from_gives bytes.now (seen result) }
+/// The list that an element is, by DER. The tag number is looked at, then the constructed bit.
+fn constructed_list_of_element<'a, L, T, E>(alloc: Global, any: &Any<'a>) -> Result<L, E>
+where
+    L: FromItems<Item = T>,
+    T: FromDer<'a, E> + Drop,
+    E: From<Error>,
+    ensures { ListTakes (L.mark).0 L.holds T.der_gives E.from_gives (parts_of any.now) result }
+{
+    if let Err(e) = assert_list(L::its_tag().0, any) {
+        return Err(E::from(e));
+    }
+    match items_by::<T, DerParser, E>(alloc, any.content) {
+        Ok(items) => made::<L, T, E>(alloc, items),
+        Err(e) => Err(e),
+    }
+}
+
+/// The list at the front, by DER, and what follows it. The constructed bit is not looked at.
+pub(crate) fn list_by_der<'a, L, T, E>(alloc: Global, bytes: &'a [u8]) -> ParseResult<'a, L, E>
+where
+    L: FromItems<Item = T>,
+    T: FromDer<'a, E> + Drop,
+    E: From<Error>,
+    ensures { DerGives PassesAll (ListReads (L.mark).0 L.holds T.der_gives E.from_gives)
+        E.from_gives bytes.now (seen result) }
 {
     let (rest, any) = match element_by_der(bytes) {
         Ok(read) => read,
         Err(e) => return Err(Err::convert(e)),
     };
-    match items_of_any::<T, E>(alloc, number, &any) {
-        Ok(items) => Ok((rest, items)),
+    match list_of_element::<L, T, E>(alloc, &any) {
+        Ok(list) => Ok((rest, list)),
+        Err(e) => Err(Err::Error(e)),
+    }
+}
+
+/// The list at the front, by DER, and what follows it. It is constructed.
+pub(crate) fn constructed_list_by_der<'a, L, T, E>(
+    alloc: Global,
+    bytes: &'a [u8],
+) -> ParseResult<'a, L, E>
+where
+    L: FromItems<Item = T>,
+    T: FromDer<'a, E> + Drop,
+    E: From<Error>,
+    ensures { DerGives PassesAll (ListTakes (L.mark).0 L.holds T.der_gives E.from_gives)
+        E.from_gives bytes.now (seen result) }
+{
+    let (rest, any) = match element_by_der(bytes) {
+        Ok(read) => read,
+        Err(e) => return Err(Err::convert(e)),
+    };
+    match constructed_list_of_element::<L, T, E>(alloc, &any) {
+        Ok(list) => Ok((rest, list)),
         Err(e) => Err(Err::Error(e)),
     }
 }

@@ -138,14 +138,14 @@ pub fn walks_end<'a, T, F: ReadsItems<'a, T, E>, E: From<Error>>()
 /// contents octets, and then perhaps one refusal, where no word begins what is left. Over a joining of words nothing is
 /// refused. Where reading takes memory, a refusal may tell of want of it.
 pub fn walks_by_ber<'a, T: LawfulBer<'a, E>, E: From<Error>>()
-    ensures run { (content left : List ℕ) (answers : List (Result T E)) → IsOctets content → Yields (TakesItem T.ber_gives E.from_gives) content answers left → IsWalk T.Ber T.value (TellsNoWord T.Ber (IsMemory T.takes_memory E.from_gives)) content answers left }
-    ensures whole { (content left : List ℕ) (answers : List (Result T E)) → IsOctets content → AreJoinedWords T.Ber content → Yields (TakesItem T.ber_gives E.from_gives) content answers left → IsWalk T.Ber T.value (TellsMemoryAlone (IsMemory T.takes_memory E.from_gives)) content answers left }
+    ensures run { (content left : List ℕ) (answers : List (Result T E)) → IsOctets content → Yields (TakesItem T.ber_gives E.from_gives) content answers left → IsWalk T.grammar.Ber T.grammar.value (TellsNoWord T.grammar.Ber (IsMemory T.grammar.takes_memory E.from_gives)) content answers left }
+    ensures whole { (content left : List ℕ) (answers : List (Result T E)) → IsOctets content → AreJoinedWords T.grammar.Ber content → Yields (TakesItem T.ber_gives E.from_gives) content answers left → IsWalk T.grammar.Ber T.grammar.value (TellsMemoryAlone (IsMemory T.grammar.takes_memory E.from_gives)) content answers left }
 {}
 
 /// A walk by DER over contents octets gives what [`walks_by_ber`] says, by the type's grammar by DER.
 pub fn walks_by_der<'a, T: LawfulDer<'a, E>, E: From<Error>>()
-    ensures run { (content left : List ℕ) (answers : List (Result T E)) → IsOctets content → Yields (TakesItem T.der_gives E.from_gives) content answers left → IsWalk T.Der T.value (TellsNoWord T.Der (IsMemory T.takes_memory E.from_gives)) content answers left }
-    ensures whole { (content left : List ℕ) (answers : List (Result T E)) → IsOctets content → AreJoinedWords T.Der content → Yields (TakesItem T.der_gives E.from_gives) content answers left → IsWalk T.Der T.value (TellsMemoryAlone (IsMemory T.takes_memory E.from_gives)) content answers left }
+    ensures run { (content left : List ℕ) (answers : List (Result T E)) → IsOctets content → Yields (TakesItem T.der_gives E.from_gives) content answers left → IsWalk T.grammar.Der T.grammar.value (TellsNoWord T.grammar.Der (IsMemory T.grammar.takes_memory E.from_gives)) content answers left }
+    ensures whole { (content left : List ℕ) (answers : List (Result T E)) → IsOctets content → AreJoinedWords T.grammar.Der content → Yields (TakesItem T.der_gives E.from_gives) content answers left → IsWalk T.grammar.Der T.grammar.value (TellsMemoryAlone (IsMemory T.grammar.takes_memory E.from_gives)) content answers left }
 {}
 
 /// A walk by BER over the contents octets of an element of indefinite length that [`Any`](crate::Any) was read from

@@ -1,33 +1,61 @@
 //! Sets in which an item may stand more than once (X.690 8.12).
-ghost use Rattle.std.specs.Prelude.{ℕ, List, ◌++◌, ◌≡◌, ◌||◌, length, map, true, slice_index_or};
+ghost use Rattle.std.specs.Prelude.{List, ◌++◌, ◌≡◌, length, true, slice_index_or, IfOk};
 ghost use Rattle.std.specs.List.{All};
 ghost use Rattle.x690.specs.Strict.{header_octets};
-ghost use Rattle.x690.specs.Elements.{IsDefiniteElement};
-ghost use Rattle.x690.specs.Nested.{IsElement};
-ghost use Rattle.asn1_rs.specs.Grammar.{max_depth, NoCheck, BerWord, DerWord};
-ghost use Rattle.asn1_rs.specs.Lists.{ListCheck, SomeRefuses};
-ghost use Rattle.asn1_rs.specs.Wrote.{Either, WrittenRefusal, IntoVector};
-ghost use Rattle.asn1_rs.specs.Sets.{Multiset, multiset, AnyList, SetBody, SetRow, SetForm, SetValues};
-ghost use Rattle.asn1_rs.specs.Laws.Elements.{der_elements, ber_elements};
-ghost use Rattle.asn1_rs.specs.Laws.Words.{word_one, strict_ber_word, strict_der_word};
-ghost use Rattle.asn1_rs.specs.Laws.Lists.{list_body_one, list_of_one, list_body_values, list_der_values};
-ghost use Rattle.asn1_rs.specs.Laws.Sets.{set_content, body_seen, permutation_from_multiset, set_one_form, set_one_value, set_fits, set_form_values, set_form_body, set_form_row, set_form_check, set_by_value, set_writes_form};
+ghost use Rattle.x690.specs.Identifiers.{IsCutIdentifier};
+ghost use Rattle.asn1_rs.specs.Grammar.{PassesAll, DerGives, EndsWithin};
+ghost use Rattle.asn1_rs.specs.Lists.{ListCheckGives, ListReads, SomeRefuses};
+ghost use Rattle.asn1_rs.specs.Wrote.{Either, IsWritable, WrittenRefusal, IntoVector};
+ghost use Rattle.asn1_rs.specs.Sets.{multiset, AnyList, SetRow, items_of, HasItems, multiset_grammar};
+ghost use Rattle.asn1_rs.specs.Laws.Elements.{unchecked_exact};
+ghost use Rattle.asn1_rs.specs.Laws.Forms.{der_strict};
+ghost use Rattle.asn1_rs.specs.Laws.Lists.{takes_some, list_checks};
+ghost use Rattle.asn1_rs.specs.Laws.Sets.{set_content, permutation_from_multiset,  multiset_told, multiset_lawful, set_takes, set_reads, set_form_body, set_takes_class, set_number, set_by_value, set_writes_form, multiset_has_form};
 
-use crate::asn1_types::items::count_items;
+use crate::asn1_types::any::Any;
+use crate::asn1_types::items::{FromItems, check_list, count_items, list_by_der};
 use crate::asn1_types::sets::{encode_items, write_ascending};
-use crate::error::{Error, SerializeResult};
+use crate::error::{Error, ParseResult, SerializeResult};
 use crate::header_writing::{element_len, put_counted_header};
-use crate::laws::{Grammar, LawfulItem, LawfulWrite};
+use crate::laws::{
+    Grammar, LawfulBer, LawfulBody, LawfulCheck, LawfulDer, LawfulItem, LawfulTagged, LawfulWrite,
+    TakesClass,
+};
 use crate::tag::Tag;
 use crate::to_der::ToDer;
-use crate::traits::Tagged;
+use crate::traits::{CheckDerConstraints, FromDer, Tagged};
 use crate::writer::DerWrite;
-use std::alloc::Global;
+use std::alloc::{AllocError, Global};
 
-/// A set of items, each as often as it stands in the list.
+/// A set of items, each as often as it stands in the list that it is made of.
+///
+/// It is written in ascending order of the items' encodings (X.690 11.6), in whatever order the items stand.
 #[derive(Drop)]
 pub struct SetOf<T> {
-    pub items: Vec<T>,
+    items: Vec<T>,
+}
+
+impl<T> SetOf<T> {
+    /// The set of the items, which it keeps in their order.
+    pub fn new(items: Vec<T>) -> SetOf<T>
+        ensures { HasItems items.items result }
+    {
+        SetOf { items }
+    }
+
+    /// The items in their order.
+    pub fn as_slice(&self) -> &[T]
+        ensures { result.now ≡ items_of self.now }
+    {
+        &self.items
+    }
+
+    /// The items in their order, by value.
+    pub fn into_vec(self) -> Vec<T>
+        ensures { result.items ≡ items_of self }
+    {
+        self.items
+    }
 }
 
 impl<T> Tagged for SetOf<T> {
@@ -40,24 +68,54 @@ impl<T> Tagged for SetOf<T> {
     }
 }
 
+impl<T> FromItems for SetOf<T> {
+    type Item = T;
+
+    type Refusal = Error;
+
+    ghost holds = { HasItems };
+
+    fn from_items(_alloc: Global, items: Vec<T>) -> Result<SetOf<T>, AllocError>
+        ensures { IfOk result (HasItems items.items) }
+    {
+        Ok(SetOf { items })
+    }
+}
+
+impl<'a, T: FromDer<'a, E> + Drop, E: From<Error>> FromDer<'a, E> for SetOf<T> {
+    ghost der_gives = { DerGives PassesAll (ListReads 17 HasItems T.der_gives E.from_gives) E.from_gives };
+
+    fn from_der(alloc: Global, bytes: &'a [u8]) -> ParseResult<'a, SetOf<T>, E> {
+        list_by_der::<SetOf<T>, T, E>(alloc, bytes)
+    }
+}
+
+impl<T: CheckDerConstraints> CheckDerConstraints for SetOf<T> {
+    ghost check_gives = { ListCheckGives 17 T.check_gives };
+
+    fn check_constraints(any: &Any<'_>) -> Result<(), Error> {
+        check_list::<T>(Tag::Set.0, any)
+    }
+}
+
 impl<T: ToDer> ToDer for SetOf<T> {
-    ghost tells = { λ s. All T.tells s.items.items };
+    ghost tells = { λ s. All T.tells (items_of s) };
 
-    ghost header = { λ s. header_octets 0 true 17 (length (set_content (λ x. T.header x ++ T.content x) s.items.items)) };
+    ghost header = { λ s.
+        header_octets 0 true 17 (length (set_content (λ x. T.header x ++ T.content x) (items_of s))) };
 
-    ghost content = { λ s. set_content (λ x. T.header x ++ T.content x) s.items.items };
+    ghost content = { λ s. set_content (λ x. T.header x ++ T.content x) (items_of s) };
 
     ghost constructed = { λ _. true };
 
-    ghost count_refuses = { λ s. SomeRefuses T.count_refuses s.items.items };
+    ghost count_refuses = { λ s. SomeRefuses T.count_refuses (items_of s) };
 
-    ghost header_refuses = { λ s. WrittenRefusal (SomeRefuses T.count_refuses s.items.items) };
+    ghost header_refuses = { λ s. WrittenRefusal (SomeRefuses T.count_refuses (items_of s)) };
 
-    ghost content_refuses = { λ s. SomeRefuses (λ x. IntoVector (Either (T.header_refuses x) (T.content_refuses x))) s.items.items };
+    ghost content_refuses = { λ s.
+        SomeRefuses (λ x. IntoVector (Either (T.header_refuses x) (T.content_refuses x))) (items_of s) };
 
     ghost count_takes_memory = { T.count_takes_memory };
-
-    ghost content_takes_memory = { true };
 
     fn to_der_len(&self) -> Result<usize, Error> {
         element_len(Tag::Set.0, self.der_content_len())
@@ -82,57 +140,71 @@ impl<T: ToDer> ToDer for SetOf<T> {
 }
 
 impl<T: Grammar> Grammar for SetOf<T> {
-    ghost Value = { Multiset T.Value };
-
-    ghost value = { λ s. multiset (map T.value s.items.items) };
-
-    ghost IsValue = { SetValues multiset T.IsValue };
-
-    ghost Ber = { BerWord (SetBody multiset T.Ber) };
-
-    ghost Der = { DerWord NoCheck (SetRow multiset T.Der) };
-
-    ghost Body = { SetBody multiset T.Ber };
-
-    ghost Check = { ListCheck 17 T.Check };
-
-    ghost Form = { SetForm multiset AnyList T.Form };
-
-    ghost takes_memory = { true };
+    ghost grammar = { multiset_grammar items_of T.grammar };
 }
 
 impl<T: LawfulItem> LawfulItem for SetOf<T> {
-    ghost ber_values = { λ o m w. (w.3.0, w.3.1, list_body_values 17 T.Ber T.IsValue T.ber_values w.0 w.3.0 w.3.2) };
+    ghost lawful_item = { multiset_lawful items_of T.grammar T.lawful_item };
+}
 
-    ghost der_values = { λ o m w. (w.3.0, w.3.1, list_der_values 17 T.Der T.IsValue T.der_values w.0 w.3.0 w.3.2) };
+impl<'a, T: LawfulBer<'a, Error> + Drop> LawfulBody<'a, Error> for SetOf<T> {
+    ghost body_exact = {
+        set_takes HasItems multiset Self.grammar.value T.ber_gives (λ x y. y ≡ x) T.grammar.Ber
+            T.grammar.value T.grammar.takes_memory EndsWithin (multiset_told T.grammar.value)
+            T.lawful_item.ber_one T.ber_exact };
 
-    ghost body_values = { λ p m o b. (b.0, b.1, list_body_values 17 T.Ber T.IsValue T.ber_values p b.0 b.2) };
+    ghost body_spares = { λ none p e g. takes_some none };
 
-    ghost form_values = { set_form_values multiset AnyList T.Form T.IsValue T.form_values };
+    ghost form_body = {
+        set_form_body multiset AnyList T.grammar.Form T.grammar.Ber T.lawful_item.strict_ber };
 
-    ghost ber_one = { word_one (IsElement max_depth) NoCheck (SetBody multiset T.Ber) ber_elements.one (body_seen multiset _ (list_body_one T.Ber T.ber_one 17)) };
+    ghost ber_split = { λ o m w. w };
 
-    ghost der_one = { word_one IsDefiniteElement NoCheck (SetRow multiset T.Der) der_elements.one (body_seen multiset _ (list_of_one T.Der T.der_one 17)) };
+    ghost ber_join = { λ o m w. w };
+}
 
-    ghost body_one = { body_seen multiset _ (list_body_one T.Ber T.ber_one 17) };
+impl<'a, T: LawfulDer<'a, E> + Drop, E: From<Error>> LawfulDer<'a, E> for SetOf<T> {
+    ghost der_exact = { λ input answer octets.
+        unchecked_exact (ListReads 17 HasItems T.der_gives E.from_gives) E.from_gives
+            (SetRow multiset T.grammar.Der) Self.grammar.value true
+            (set_reads HasItems multiset Self.grammar.value T.der_gives E.from_gives T.grammar.Der
+                T.grammar.value T.grammar.takes_memory IsCutIdentifier
+                (multiset_told T.grammar.value) T.lawful_item.der_one T.der_exact)
+            input answer };
 
-    ghost one_form = { set_one_form multiset AnyList T.Form (λ vs ws h k e. permutation_from_multiset vs ws e) T.one_form };
+    ghost der_spares = { λ none input answer g. takes_some none };
+}
 
-    ghost one_value = { set_one_value multiset AnyList T.Form T.one_value };
-
-    ghost form_fits = { set_fits multiset AnyList T.Form };
-
-    ghost form_check = { set_form_check multiset AnyList T.Form T.Check T.form_check };
-
-    ghost strict_ber = { strict_ber_word (SetForm multiset AnyList T.Form) (SetBody multiset T.Ber) (set_form_body multiset AnyList T.Form T.Ber T.strict_ber) };
-
-    ghost strict_der = { strict_der_word (SetForm multiset AnyList T.Form) NoCheck (SetRow multiset T.Der) (λ v i c f. tt) (set_form_row multiset AnyList T.Form T.Der T.strict_der) };
+impl<T: LawfulCheck> LawfulCheck for SetOf<T> {
+    ghost checks = { list_checks 17 T.check_gives T.grammar.Check T.checks };
 }
 
 impl<T: LawfulWrite> LawfulWrite for SetOf<T> {
-    ghost tells_all = { λ s k d h. T.tells_all (slice_index_or s.items.items k d) };
+    ghost tells_all = { λ s k d h. T.tells_all (slice_index_or (items_of s) k d) };
 
-    ghost by_value = { λ x y e. set_by_value T.value T.constructed T.header T.content T.by_value x.items.items y.items.items (permutation_from_multiset (map T.value x.items.items) (map T.value y.items.items) e) };
+    ghost by_value = { λ x y e.
+        set_by_value T.grammar.value T.constructed T.header T.content T.by_value (items_of x) (items_of y)
+            (permutation_from_multiset _ _ e) };
 
-    ghost form = { λ s i c f. set_writes_form T.value T.Form T.count_refuses T.header_refuses T.content_refuses T.constructed T.header T.content multiset AnyList T.form s.items.items c _ f.1 (permutation_from_multiset f.1.items (map T.value s.items.items) f.1.are) i f.0 };
+    ghost form = { λ s i c f.
+        set_writes_form T.grammar.value T.grammar.Form T.count_refuses T.header_refuses
+            T.content_refuses T.constructed T.header T.content multiset AnyList T.form (items_of s) c _
+            f.1 (permutation_from_multiset _ _ f.1.are) i f.0 };
+
+    ghost der_form = { λ s.
+        multiset_has_form T.grammar.value T.grammar.IsDer T.grammar.Form T.header T.content
+            (der_strict T.grammar.value T.grammar.IsDer T.grammar.Form
+                (λ x. IsWritable (T.count_refuses x) (T.header_refuses x) (T.content_refuses x))
+                T.constructed T.header T.content T.form T.der_form T.lawful_item.form_fits)
+            (items_of s) };
+}
+
+impl<T: LawfulItem> LawfulTagged for SetOf<T> {
+    ghost tag_number = { set_number multiset AnyList T.grammar.Form };
+}
+
+impl<T: LawfulItem, const K: u8> TakesClass<K> for SetOf<T> {
+    ghost takes_class = {
+        set_takes_class multiset AnyList T.grammar.Form T.grammar.Ber T.grammar.Check
+            T.lawful_item.strict_ber T.lawful_item.form_check K };
 }

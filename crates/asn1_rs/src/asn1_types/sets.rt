@@ -3,8 +3,7 @@ ghost use Rattle.std.specs.Prelude.{◌≡◌, ◌++◌, ◌||◌, List, true, f
 ghost use Rattle.std.specs.List.{All, flat_map};
 ghost use Rattle.asn1_rs.specs.declared.error.SerializeError.{SerializeError as Unwritten};
 ghost use Rattle.asn1_rs.specs.declared.error.Error.{Error as Uncounted};
-ghost use Rattle.asn1_rs.specs.Lists.{SomeRefuses};
-ghost use Rattle.asn1_rs.specs.Sets.{joining};
+ghost use Rattle.asn1_rs.specs.Lists.{SomeRefuses, joining};
 ghost use Rattle.asn1_rs.specs.Laws.Arranged.{arranged};
 ghost use Rattle.asn1_rs.specs.Wrote.{Wrote, MayRefuse, Refuses, Either, IntoVector, tells_of_io};
 

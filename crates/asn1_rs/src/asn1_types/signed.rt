@@ -1,9 +1,9 @@
 //! The types `i8`, `i16`, `i32`, `i64` and `i128` as integers of one to sixteen octets.
 ghost use Rattle.x690.specs.SignedOctets.{IsSigned, signed_octets};
 ghost use Rattle.x690.specs.Laws.SignedOctets.{signed_octets_content};
-ghost use Rattle.asn1_rs.specs.Integer.{integer_number, integer_element, IntegerCheckGives, SignedRefuses, SignedGives};
-ghost use Rattle.asn1_rs.specs.Laws.Integer.{integer_check_exact, integer_exact, integer_lawful, integer_primitive};
-ghost use Rattle.asn1_rs.specs.Laws.Signed.{signed_refused, signed_equal};
+ghost use Rattle.asn1_rs.specs.Integer.{integer_number, integer_element, IntegerCheckGives, SignedGives};
+ghost use Rattle.asn1_rs.specs.Laws.Integer.{integer_checks, integer_lawful, integer_primitive};
+ghost use Rattle.asn1_rs.specs.Laws.Signed.{signed_converts, signed_equal};
 
 use crate::asn1_types::any::Any;
 use crate::asn1_types::integer::{check_integer, put_signed_content};
@@ -56,11 +56,11 @@ impl LawfulElement for i8 {
 
     ghost lawful = { integer_lawful (IsSigned 1) (λ n. n) };
 
-    ghost checks = { integer_check_exact };
+    ghost checked = { integer_checks };
 }
 
 impl<'a> LawfulConversion<'a> for i8 {
-    ghost converts = { integer_exact (IsSigned 1) (λ n. n) (SignedRefuses 1) (signed_refused 1) };
+    ghost converts = { signed_converts 1 };
 }
 
 impl WritesPrimitive for i8 {
@@ -120,11 +120,11 @@ impl LawfulElement for i16 {
 
     ghost lawful = { integer_lawful (IsSigned 2) (λ n. n) };
 
-    ghost checks = { integer_check_exact };
+    ghost checked = { integer_checks };
 }
 
 impl<'a> LawfulConversion<'a> for i16 {
-    ghost converts = { integer_exact (IsSigned 2) (λ n. n) (SignedRefuses 2) (signed_refused 2) };
+    ghost converts = { signed_converts 2 };
 }
 
 impl WritesPrimitive for i16 {
@@ -184,11 +184,11 @@ impl LawfulElement for i32 {
 
     ghost lawful = { integer_lawful (IsSigned 4) (λ n. n) };
 
-    ghost checks = { integer_check_exact };
+    ghost checked = { integer_checks };
 }
 
 impl<'a> LawfulConversion<'a> for i32 {
-    ghost converts = { integer_exact (IsSigned 4) (λ n. n) (SignedRefuses 4) (signed_refused 4) };
+    ghost converts = { signed_converts 4 };
 }
 
 impl WritesPrimitive for i32 {
@@ -248,11 +248,11 @@ impl LawfulElement for i64 {
 
     ghost lawful = { integer_lawful (IsSigned 8) (λ n. n) };
 
-    ghost checks = { integer_check_exact };
+    ghost checked = { integer_checks };
 }
 
 impl<'a> LawfulConversion<'a> for i64 {
-    ghost converts = { integer_exact (IsSigned 8) (λ n. n) (SignedRefuses 8) (signed_refused 8) };
+    ghost converts = { signed_converts 8 };
 }
 
 impl WritesPrimitive for i64 {
@@ -312,11 +312,11 @@ impl LawfulElement for i128 {
 
     ghost lawful = { integer_lawful (IsSigned 16) (λ n. n) };
 
-    ghost checks = { integer_check_exact };
+    ghost checked = { integer_checks };
 }
 
 impl<'a> LawfulConversion<'a> for i128 {
-    ghost converts = { integer_exact (IsSigned 16) (λ n. n) (SignedRefuses 16) (signed_refused 16) };
+    ghost converts = { signed_converts 16 };
 }
 
 impl WritesPrimitive for i128 {

@@ -2,9 +2,9 @@
 ghost use Rattle.std.specs.Prelude.{pos};
 ghost use Rattle.x690.specs.Integers.{unsigned_octets};
 ghost use Rattle.x690.specs.Laws.UnsignedOctets.{unsigned_octets_content};
-ghost use Rattle.asn1_rs.specs.Integer.{integer_number, integer_element, IntegerCheckGives, IsUnsigned, UnsignedRefuses, UnsignedGives};
-ghost use Rattle.asn1_rs.specs.Laws.Integer.{integer_check_exact, integer_exact, integer_lawful, integer_primitive};
-ghost use Rattle.asn1_rs.specs.Laws.Unsigned.{unsigned_refused, unsigned_equal};
+ghost use Rattle.asn1_rs.specs.Integer.{integer_number, integer_element, IntegerCheckGives, IsUnsigned, UnsignedGives};
+ghost use Rattle.asn1_rs.specs.Laws.Integer.{integer_checks, integer_lawful, integer_primitive};
+ghost use Rattle.asn1_rs.specs.Laws.Unsigned.{unsigned_converts, unsigned_equal};
 
 use crate::asn1_types::any::Any;
 use crate::asn1_types::integer::{check_integer, put_unsigned_content};
@@ -57,11 +57,11 @@ impl LawfulElement for u8 {
 
     ghost lawful = { integer_lawful (IsUnsigned 1) pos };
 
-    ghost checks = { integer_check_exact };
+    ghost checked = { integer_checks };
 }
 
 impl<'a> LawfulConversion<'a> for u8 {
-    ghost converts = { integer_exact (IsUnsigned 1) pos (UnsignedRefuses 1) (unsigned_refused 1) };
+    ghost converts = { unsigned_converts 1 };
 }
 
 impl WritesPrimitive for u8 {
@@ -121,11 +121,11 @@ impl LawfulElement for u16 {
 
     ghost lawful = { integer_lawful (IsUnsigned 2) pos };
 
-    ghost checks = { integer_check_exact };
+    ghost checked = { integer_checks };
 }
 
 impl<'a> LawfulConversion<'a> for u16 {
-    ghost converts = { integer_exact (IsUnsigned 2) pos (UnsignedRefuses 2) (unsigned_refused 2) };
+    ghost converts = { unsigned_converts 2 };
 }
 
 impl WritesPrimitive for u16 {
@@ -185,11 +185,11 @@ impl LawfulElement for u32 {
 
     ghost lawful = { integer_lawful (IsUnsigned 4) pos };
 
-    ghost checks = { integer_check_exact };
+    ghost checked = { integer_checks };
 }
 
 impl<'a> LawfulConversion<'a> for u32 {
-    ghost converts = { integer_exact (IsUnsigned 4) pos (UnsignedRefuses 4) (unsigned_refused 4) };
+    ghost converts = { unsigned_converts 4 };
 }
 
 impl WritesPrimitive for u32 {
@@ -249,11 +249,11 @@ impl LawfulElement for u64 {
 
     ghost lawful = { integer_lawful (IsUnsigned 8) pos };
 
-    ghost checks = { integer_check_exact };
+    ghost checked = { integer_checks };
 }
 
 impl<'a> LawfulConversion<'a> for u64 {
-    ghost converts = { integer_exact (IsUnsigned 8) pos (UnsignedRefuses 8) (unsigned_refused 8) };
+    ghost converts = { unsigned_converts 8 };
 }
 
 impl WritesPrimitive for u64 {
@@ -313,11 +313,11 @@ impl LawfulElement for u128 {
 
     ghost lawful = { integer_lawful (IsUnsigned 16) pos };
 
-    ghost checks = { integer_check_exact };
+    ghost checked = { integer_checks };
 }
 
 impl<'a> LawfulConversion<'a> for u128 {
-    ghost converts = { integer_exact (IsUnsigned 16) pos (UnsignedRefuses 16) (unsigned_refused 16) };
+    ghost converts = { unsigned_converts 16 };
 }
 
 impl WritesPrimitive for u128 {

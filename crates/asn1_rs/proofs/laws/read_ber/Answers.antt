@@ -6,5 +6,8 @@ use Rattle.asn1_rs.proofs.laws.read_ber.Goals as goal
 
 pub returns-clause-back : goal.returns-clause-back
 returns-clause-back g c = λ v w rest s e.
-    read_back EndsWithin g.T.Grammar.Form g.T.Grammar.Ber g.T.Grammar.value _ g.met.T.LawfulItem.strict_ber g.met.T.LawfulItem.ber_one c.args.input.now (seen c.from_ber.result)
+    read_back EndsWithin g.T.Grammar.grammar.Form g.T.Grammar.grammar.Ber g.T.Grammar.grammar.value _ g.met.T.LawfulItem.lawful_item.strict_ber g.met.T.LawfulItem.lawful_item.ber_one c.args.input.now (seen c.from_ber.result)
     ((g.met.T.LawfulBer c.lifetimes (search rules)).ber_exact c.args.input.now (seen c.from_ber.result) (λ k. omega (arith, c.type_inv.input k)) c.from_ber.ensures) v w rest s e
+
+pub returns-clause-spares : goal.returns-clause-spares
+returns-clause-spares g c = λ none. (g.met.T.LawfulBer c.lifetimes (search rules)).ber_spares none c.args.input.now (seen c.from_ber.result) c.from_ber.ensures

@@ -1,15 +1,16 @@
 use Rattle.std.proofs.Common.{◌≡◌, List, ℕ, ◌++◌}
 use Rattle.asn1_rs.specs.Form.{IsStrict}
 use Rattle.asn1_rs.specs.Laws.Words.{one_strict, strict_apart}
-use Rattle.asn1_rs.specs.Laws.Forms.{strict_written}
-use Rattle.asn1_rs.specs.Wrote.{IsWritable}
+use Rattle.asn1_rs.specs.Laws.Forms.{strict_written, der_strict}
+use Rattle.asn1_rs.specs.Wrote.{IsWritable, HasNone}
+use mathlib.Core.Logic.{∥∥₁_elim}
 use Rattle.asn1_rs.proofs.Writing.{writing_done, plain_refusal}
 use Rattle.asn1_rs.proofs.laws.write_strict.Goals as goal
 use Rattle.asn1_rs.proofs.laws.write_strict.Given as given
 
 -- what is written is the strict encoding, and the value is writable
-written : (g : given.Over) (c : goal.After-write_der g) (o : List ℕ) → IsStrict g.T.Grammar.Form (g.T.Grammar.value c.args.x.now) o → IsWritable (g.T.ToDer.count_refuses c.args.x.now) (g.T.ToDer.header_refuses c.args.x.now) (g.T.ToDer.content_refuses c.args.x.now) × (g.T.ToDer.header c.args.x.now ++ g.T.ToDer.content c.args.x.now ≡ o)
-written g c o s = strict_written g.T.Grammar.value g.T.Grammar.Form (λ x. IsWritable (g.T.ToDer.count_refuses x) (g.T.ToDer.header_refuses x) (g.T.ToDer.content_refuses x)) g.T.ToDer.constructed g.T.ToDer.header g.T.ToDer.content g.met.T.LawfulWrite.form c.args.x.now o s
+written : (g : given.Over) (c : goal.After-write_der g) (o : List ℕ) → IsStrict g.T.Grammar.grammar.Form (g.T.Grammar.grammar.value c.args.x.now) o → IsWritable (g.T.ToDer.count_refuses c.args.x.now) (g.T.ToDer.header_refuses c.args.x.now) (g.T.ToDer.content_refuses c.args.x.now) × (g.T.ToDer.header c.args.x.now ++ g.T.ToDer.content c.args.x.now ≡ o)
+written g c o s = strict_written g.T.Grammar.grammar.value g.T.Grammar.grammar.Form (λ x. IsWritable (g.T.ToDer.count_refuses x) (g.T.ToDer.header_refuses x) (g.T.ToDer.content_refuses x)) g.T.ToDer.constructed g.T.ToDer.header g.T.ToDer.content g.met.T.LawfulWrite.form c.args.x.now o s
 
 pub returns-clause-wrote : goal.returns-clause-wrote
 returns-clause-wrote g c = λ o s. rw (← (written g c o s).1) (c.write_der.ensures.wrote (g.met.T.LawfulWrite.tells_all c.args.x.now))
@@ -18,10 +19,18 @@ pub returns-clause-refused : goal.returns-clause-refused
 returns-clause-refused g c = λ o s. let h = written g c o s in rw (← h.1) (plain_refusal c.write_der.result _ _ (g.T.ToDer.header_refuses c.args.x.now) (g.T.ToDer.content_refuses c.args.x.now) h.0.1 h.0.2 (c.write_der.ensures.refused (g.met.T.LawfulWrite.tells_all c.args.x.now)))
 
 pub returns-clause-one : goal.returns-clause-one
-returns-clause-one g c = λ o p s t. one_strict g.T.Grammar.Form g.met.T.LawfulItem.one_form (g.T.Grammar.value c.args.x.now) o p s t
+returns-clause-one g c = λ o p s t. one_strict g.T.Grammar.grammar.Form g.met.T.LawfulItem.lawful_item.one_form (g.T.Grammar.grammar.value c.args.x.now) o p s t
 
 pub returns-clause-apart : goal.returns-clause-apart
-returns-clause-apart g c = λ o p r s v w x y e. strict_apart g.T.Grammar.Form g.met.T.LawfulItem.one_value v w o p r s x y e
+returns-clause-apart g c = λ o p r s v w x y e. strict_apart g.T.Grammar.grammar.Form g.met.T.LawfulItem.lawful_item.one_value v w o p r s x y e
 
 pub returns-clause-headline : goal.returns-clause-headline
-returns-clause-headline g c = λ o s fits unmarked. writing_done _ _ o _ _ _ _ (returns-clause-wrote g c o s) (returns-clause-refused g c o s) fits unmarked
+returns-clause-headline g c = λ d fits unmarked.
+    let x = c.args.x.now in
+    let heading = g.T.ToDer.header_refuses x in
+    let filling = g.T.ToDer.content_refuses x in
+    let told = g.met.T.LawfulWrite.tells_all x in
+    let strict = der_strict g.T.Grammar.grammar.value g.T.Grammar.grammar.IsDer g.T.Grammar.grammar.Form (λ x. IsWritable (g.T.ToDer.count_refuses x) (g.T.ToDer.header_refuses x) (g.T.ToDer.content_refuses x)) g.T.ToDer.constructed g.T.ToDer.header g.T.ToDer.content g.met.T.LawfulWrite.form g.met.T.LawfulWrite.der_form g.met.T.LawfulItem.lawful_item.form_fits x d fits in
+    let no_heading : HasNone heading = λ e o. ∥∥₁_elim strict (λ a. absurd a) (λ s. (written g c _ s).0.1 e o) in
+    let no_filling : HasNone filling = λ e o. ∥∥₁_elim strict (λ a. absurd a) (λ s. (written g c _ s).0.2 e o) in
+    (strict, writing_done _ _ _ _ _ _ _ (c.write_der.ensures.wrote told) (plain_refusal c.write_der.result _ _ heading filling no_heading no_filling (c.write_der.ensures.refused told)) fits unmarked)

@@ -5,8 +5,8 @@ use Rattle.asn1_rs.proofs.asn1_types.sequence_iterator.walks_by_der.Goals as goa
 
 pub returns-clause-run : goal.returns-clause-run
 returns-clause-run g c = λ content left answers o y.
-    lawful_walk _ g.E.From.from_gives g.T.Grammar.Der g.T.Grammar.value g.T.Grammar.takes_memory IsCutIdentifier g.met.T.LawfulItem.der_one (g.met.T.LawfulDer c.lifetimes (search rules)).der_exact answers content left o y
+    lawful_walk _ g.E.From.from_gives g.T.Grammar.grammar.Der g.T.Grammar.grammar.value g.T.Grammar.grammar.takes_memory IsCutIdentifier g.met.T.LawfulItem.lawful_item.der_one (g.met.T.LawfulDer c.lifetimes (search rules)).der_exact answers content left o y
 
 pub returns-clause-whole : goal.returns-clause-whole
 returns-clause-whole g c = λ content left answers o j y.
-    whole_walk _ g.E.From.from_gives g.T.Grammar.Der g.T.Grammar.value g.T.Grammar.takes_memory IsCutIdentifier g.met.T.LawfulItem.der_one (g.met.T.LawfulDer c.lifetimes (search rules)).der_exact answers content left o j y
+    whole_walk _ g.E.From.from_gives g.T.Grammar.grammar.Der g.T.Grammar.grammar.value g.T.Grammar.grammar.takes_memory IsCutIdentifier g.met.T.LawfulItem.lawful_item.der_one (g.met.T.LawfulDer c.lifetimes (search rules)).der_exact answers content left o j y

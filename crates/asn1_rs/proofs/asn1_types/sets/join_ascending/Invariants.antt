@@ -1,5 +1,5 @@
 use Rattle.std.proofs.Common.{◌≡◌, ◌++◌, map, take}
-use Rattle.asn1_rs.specs.Sets.{joining}
+use Rattle.asn1_rs.specs.Lists.{joining}
 use Rattle.asn1_rs.proofs.asn1_types.sets.join_ascending.Given as goal
 
 abbrev pub invariant-loop-string : goal.invariant-loop-string

@@ -2,7 +2,7 @@ use Rattle.std.proofs.Common.{◌++◌, ◌≡◌, length, ap, inl, sym, subst, 
 use Rattle.std.proofs.lemmas.Result.{err_from_is_err_and}
 use Rattle.std.proofs.lemmas.Bool.{false≢true}
 use Rattle.asn1_rs.specs.Lists.{SomeRefuses}
-use Rattle.asn1_rs.specs.Sets.{joining}
+use Rattle.asn1_rs.specs.Lists.{joining}
 use Rattle.asn1_rs.specs.Wrote.{Either, IntoVector}
 use Rattle.asn1_rs.specs.Laws.Arranged.{arranged, arranged_length}
 use Rattle.asn1_rs.specs.Laws.Sets.{set_content}
