@@ -1,5 +1,5 @@
 -- What a type says that is read as one element, checked and converted.
-use Rattle.std.specs.Prelude.{◌≡◌, ℕ, Bool, false, List, Result, Err}
+use Rattle.std.specs.Prelude.{◌≡◌, ℕ, Bool, false, List, Result, Ok, Err}
 use Rattle.x690.specs.Octets.{IsOctets}
 use Rattle.x690.specs.Identifiers.{Identifier}
 use Rattle.x690.specs.Elements.{Parts}
@@ -59,3 +59,21 @@ pub record IsExactConversion {S : Type 0} (gives : Parts → Result S Error → 
   pub exact : (p : Parts) (answer : Result S Error) → IsOctets p.content → gives p answer →
       TakesBody G.Body G.value G.takes_memory (λ (x y : Error). y ≡ x) p answer
   pub spares : G.takes_memory ≡ false → (p : Parts) → gives p (Err OutOfMemory) → ⊥
+
+-- what holds one item, and nothing else, has the values and the elements of that item
+abbrev pub holding : {S T : Type 0} → (T → S) → ElementGrammar S → ElementGrammar T
+holding held G = record {
+  Value = G.Value;
+  value = λ x. G.value (held x);
+  IsValue = G.IsValue;
+  IsDer = G.IsDer;
+  Body = G.Body;
+  Check = G.Check;
+  Form = G.Form;
+  takes_memory = G.takes_memory;
+}
+
+-- a conversion that answers what holds the item that another one answers
+abbrev pub HoldingGives : {S T : Type 0} → (T → S) → (Parts → Result S Error → Type 0) → Parts → Result T Error → Type 0
+HoldingGives held gives p (Ok x) = gives p (Ok (held x))
+HoldingGives held gives p (Err e) = gives p (Err e)

@@ -1,14 +1,16 @@
 -- A type that is read as one element is a lawful item.
-use Rattle.std.specs.Prelude.{Result, Err}
+use Rattle.std.specs.Prelude.{ℕ, List, Result, Ok, Err}
+use Rattle.x690.specs.Octets.{IsOctets}
 use Rattle.std.proofs.Common.{◌≡◌, refl, subst, inl}
 use Rattle.x690.specs.Elements.{Parts, IsDefiniteElement}
 use Rattle.x690.specs.Nested.{IsElement}
 use Rattle.asn1_rs.specs.declared.error.Error.{Error}
 use Rattle.asn1_rs.specs.declared.error.Error.TheVariants.{OutOfMemory}
 use Rattle.asn1_rs.specs.Answers.{IsOther}
-use Rattle.asn1_rs.specs.Grammar.{NoCheck, max_depth}
+use Rattle.asn1_rs.specs.Grammar.{NoCheck, TakesBody, max_depth}
 use Rattle.asn1_rs.specs.ItemGrammar.{ItemGrammar, IsLawfulItem, by_reference}
-use Rattle.asn1_rs.specs.Kinds.{ElementGrammar, IsLawfulElement, item_grammar}
+use Rattle.asn1_rs.specs.Kinds.{ElementGrammar, IsLawfulElement, IsExactConversion, item_grammar, holding, HoldingGives}
+use Rattle.asn1_rs.specs.Laws.Forms.{IsPrimitiveElement}
 use Rattle.asn1_rs.specs.Laws.Elements.{der_elements, ber_elements}
 use Rattle.asn1_rs.specs.Laws.Words.{word_one, strict_ber_word, strict_der_word}
 
@@ -52,3 +54,34 @@ lawful_by_reference G l = record {
 -- a refusal that is no want of memory
 pub other_error : {S : Type 0} (gives : Parts → Result S Error → Type 0) → ((p : Parts) → gives p (Err OutOfMemory) → ⊥) → (p : Parts) (e : Error) → gives p (Err e) → IsOther (λ (x y : Error). y ≡ x) e
 other_error gives spares p e g = inl (e, λ q. spares p (subst (λ (x : Error). gives p (Err x)) q g), refl)
+
+-- a type that holds one item is as lawful as that
+module _ {S T : Type 0} (held : T → S) (G : ElementGrammar S) where
+  pub holding_lawful : IsLawfulElement G → IsLawfulElement (holding held G)
+  holding_lawful l = record {
+    body_values = l.body_values;
+    form_values = l.form_values;
+    body_one = l.body_one;
+    one_form = l.one_form;
+    one_value = l.one_value;
+    form_fits = l.form_fits;
+    form_check = l.form_check;
+    form_der = l.form_der;
+    form_body = l.form_body;
+  }
+
+  pub holding_converts : (gives : Parts → Result S Error → Type 0) → IsExactConversion gives G → IsExactConversion (HoldingGives held gives) (holding held G)
+  holding_converts gives c = record { exact = exact; spares = c.spares }
+    where
+      exact : (p : Parts) (answer : Result T Error) → IsOctets p.content → HoldingGives held gives p answer → TakesBody G.Body (λ x. G.value (held x)) G.takes_memory (λ (x y : Error). y ≡ x) p answer
+      exact p (Ok x) o h = c.exact p (Ok (held x)) o h
+      exact p (Err e) o h = c.exact p (Err e) o h
+
+  pub holding_primitive : (number : ℕ) (octets : S → List ℕ) → IsPrimitiveElement G number octets → IsPrimitiveElement (holding held G) number (λ x. octets (held x))
+  holding_primitive number octets l = record {
+    by_value = λ x y e. l.by_value (held x) (held y) e;
+    identifier = l.identifier;
+    form = λ x i c f. l.form (held x) i c f;
+    class = l.class;
+    der = λ x d. l.der (held x) d;
+  }
