@@ -6,6 +6,7 @@ pub mod Any
 pub mod Element
 pub mod Kinds
 pub mod Integer
+pub mod OctetsElement
 pub mod Unsigned
 pub mod Signed
 pub mod ElementWriting

@@ -11,6 +11,7 @@ pub mod Answers
 pub mod Form
 pub mod Grammar
 pub mod Integer
+pub mod OctetsElement
 pub mod ItemGrammar
 pub mod Kinds
 pub mod Written

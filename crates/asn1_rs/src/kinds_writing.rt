@@ -13,7 +13,7 @@ use crate::kinds::{ElementKind, HasKind, LawfulElement, ReferenceKind};
 use crate::laws::{LawfulItem, LawfulTagged, LawfulWrite, TakesClass};
 use crate::to_der::ToDer;
 use crate::traits::{DynTagged, Tagged};
-use crate::writer::DerWrite;
+use crate::writer::{DerWrite, put_all};
 use std::alloc::Global;
 
 /// A value that is written as a primitive element of the universal class: the tag number of its type, and contents
@@ -36,6 +36,35 @@ pub trait WritesPrimitive: LawfulElement + Tagged {
 
     /// They follow from the value, and are its strict content where it has one; another class changes nothing.
     ghost primitive: { IsPrimitiveElement Self.element (Self.mark).0 octets };
+}
+
+/// A value that holds its contents octets, and is written as a primitive element of them.
+///
+/// So it has [`WritesPrimitive`].
+pub trait WritesOctets: LawfulElement + Tagged {
+    /// The octets that it holds.
+    ghost held: { Self → List ℕ };
+
+    /// The octets that it holds.
+    fn contents_octets(&self) -> &[u8]
+        ensures { result.now ≡ held self.now };
+
+    /// They follow from the value, and are its strict content where it has one; another class changes nothing.
+    ghost held_are: { IsPrimitiveElement Self.element (Self.mark).0 held };
+}
+
+impl<T: WritesOctets> WritesPrimitive for T {
+    ghost octets = { T.held };
+
+    fn count_octets(&self) -> Result<usize, Error> {
+        Ok(self.contents_octets().len())
+    }
+
+    fn put_octets<W: DerWrite>(&self, w: &mut W) -> SerializeResult<usize> {
+        put_all(w, self.contents_octets())
+    }
+
+    ghost primitive = { T.held_are };
 }
 
 /// The calls of [`ToDer`], for a type of this kind.

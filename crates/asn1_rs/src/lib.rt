@@ -34,7 +34,7 @@ pub use error::{
 };
 pub use header::Header;
 pub use kinds::{ElementKind, HasKind, LawfulConversion, LawfulElement};
-pub use kinds_writing::WritesPrimitive;
+pub use kinds_writing::{WritesOctets, WritesPrimitive};
 pub use laws::{
     Grammar, LawfulAuto, LawfulBer, LawfulBody, LawfulCheck, LawfulDer, LawfulItem, LawfulMember,
     LawfulTagged, LawfulWrite, TakesClass, answers_last, any_is_the_element, beginnings_are_incomplete,

@@ -1,0 +1,8 @@
+//! Callers.
+#![tactic(auto)]
+
+mod fingerprint;
+mod serial_number;
+
+pub use fingerprint::Fingerprint;
+pub use serial_number::SerialNumber;
