@@ -1,5 +1,6 @@
-use Rattle.std.proofs.Common.{◌++◌, ◌∙◌, take}
-use Rattle.asn1_rs.proofs.Writing.{Appends_more, taken_more, put_taken}
+use Rattle.std.proofs.Common.{◌++◌, ◌∙◌, take, subst, sym, IsTrue}
+use Rattle.std.proofs.lemmas.Bool.{false≢true}
+use Rattle.asn1_rs.proofs.Writing.{Appends_more, taken_more, took_more}
 use Rattle.asn1_rs.proofs.writer.put_all.Goals as goal
 
 pub loop-rest-preserved : goal.loop-rest-preserved
@@ -7,8 +8,11 @@ loop-rest-preserved g c =
     let i = c.loop-rest.invariant in
     let n = c.in_ok-n.n in
     let rest = c.loop-rest.rest.now in
-    let p = put_taken rest _ _ _ _ n c.in_ok-n.ensures in
+    let call = c.in_ok-n.ensures in
+    let took = call.once.took in
     record {
-      marked = p.3 ∙ i.marked;
-      grown = (i.grown.0 ++ take n rest, taken_more _ i.grown.0 rest n p.1 i.grown.1, Appends_more _ _ _ _ _ i.grown.2 p.2);
+      kept = call.once.mark ∙ i.kept;
+      grown = (i.grown.0 ++ take n rest, taken_more _ i.grown.0 rest n took.1 i.grown.1, Appends_more _ _ _ _ _ i.grown.2 took.2);
+      marked = λ h. absurd (false≢true (subst IsTrue took.3 (subst IsTrue (sym i.kept) h)));
+      calls = took_more g.W.DerWrite.puts c.args.piece.now c.args.w.now c.loop-rest.w rest n c.put_some.new.w i.calls call.took took.0 took.1;
     }
