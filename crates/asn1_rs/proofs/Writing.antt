@@ -40,6 +40,11 @@ slice_left rest n h = grind (arith, common_steps)
 pub took_more : {W : Type 0} (puts : Calls W) (piece : List ℕ) (old before : W) (rest : List ℕ) (n : ℕ) (new : W) → TookAllBut puts piece old rest before → puts before rest (Ok n) new → 1 ≤ n → n ≤ length rest → TookAllBut puts piece old (take (length rest - n) (drop n rest)) new
 took_more puts piece old before rest n new calls call some h = (calls.0 ++ (n ∷ []), FoldsTo-push (Took puts) (old, piece) calls.0 (before, rest) n (new, take (length rest - n) (drop n rest)) calls.1 (call, some, h, slice_left rest n h))
 
+-- of no octets no call takes any
+pub none_took : {W : Type 0} (puts : Calls W) (old : W) (rest : List ℕ) (new : W) → TookAllBut puts [] old rest new → (rest ≡ []) × (new ≡ old)
+none_took puts old rest new ([], e) = (ap (λ (p : _ × List ℕ). p.1) (sym e), ap (λ (p : _ × List ℕ). p.0) (sym e))
+none_took puts old rest new (n ∷ counts, call) = absurd (omega (arith, call.1.1, call.1.2))
+
 -- a refusal after a part that was written
 pub Wrote_then_err : {e : SerializeError} {n : ℕ} {xs ys : List ℕ} {a b c : Option (List ℕ)} {was mid is : Bool} → Wrote xs a b was mid (Ok n) → Wrote ys b c mid is (Err e) → Wrote (xs ++ ys) a c was is (Err e)
 Wrote_then_err {e} {n} {xs} {ys} {a} {b} {c} {was} {mid} {is} p q = record {

@@ -147,6 +147,7 @@ pub fn put_all<W: DerWrite>(w: &mut W, piece: &[u8]) -> SerializeResult<usize>
     ensures wrote { Wrote piece.now (W.told w.old) (W.told w.new) (W.failed w.old) (W.failed w.new) result }
     ensures failed { IfErr result (MayRefuse false 0) }
     ensures calls { PutInCalls W.puts piece.now w.old w.new result }
+    ensures nothing { piece.now ≡ [] → (result ≡ Ok 0) × (w.new ≡ w.old) }
 {
     let mut rest = piece;
     while !rest.is_empty() {
