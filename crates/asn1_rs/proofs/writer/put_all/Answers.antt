@@ -15,7 +15,7 @@ loop-rest-preserved g c =
       kept = let mark = call.once.mark in let before = i.kept in cc;
       grown = (i.grown.0 ++ take n rest, taken_more _ i.grown.0 rest n took.1 i.grown.1, Appends_more _ _ _ _ _ i.grown.2 took.2);
       marked = λ h. absurd (false≢true (subst IsTrue took.3 (subst IsTrue (sym i.kept) h)));
-      calls = took_more g.W.DerWrite.puts c.args.piece.now c.args.w.now c.loop-rest.w rest n c.put_some.new.w i.calls call.took took.0 took.1;
+      calls = took_more g.W.DerWrite.puts c.args.piece.now c.args.w.now c.loop-rest.w rest n _ i.calls call.took took.0 took.1;
     }
 
 pub returns-clause-nothing : goal.returns-clause-nothing
