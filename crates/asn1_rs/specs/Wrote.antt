@@ -1,5 +1,5 @@
 -- What a writing leaves in a writer, and why it is refused.
-use Rattle.std.specs.Prelude.{◌≡◌, ◌⊎◌, ℕ, ◌+◌, ◌<◌, ◌≤◌, ◌^◌, Bool, true, false, ◌||◌, ◌&&◌, ◌==◌, nat_lt, IsTrue, List, ◌++◌, length, Option, Result, Ok, Err, IfOk, IfErr, OnOk, OnErr, IsErr, IsErrAnd, MatchResult, ⊤, ◌≢◌, [], take, drop}
+use Rattle.std.specs.Prelude.{◌≡◌, ◌⊎◌, ℕ, ◌+◌, ◌<◌, ◌≤◌, ◌^◌, Bool, true, false, ◌||◌, ◌&&◌, ◌==◌, nat_lt, IsTrue, List, ◌++◌, length, Option, Result, Ok, Err, IfOk, IfErr, OnOk, OnErr, IsErrAnd, MatchResult, ⊤, ◌≢◌, [], take, drop}
 use Rattle.std.specs.List.{FoldsTo}
 use Rattle.std.specs.Io.KnownBytes.{Appends}
 use Rattle.std.specs.IoError.{error_kind}
@@ -35,7 +35,8 @@ is_io (Err refusals.OutOfMemory) = false
 abbrev pub tells_of_io : SerializeError → Bool
 tells_of_io e = is_io {A = ℕ} (Err e)
 
--- the known octets grew by a beginning of the octets
+-- The known octets grew by a beginning of the octets. The beginning is tied by what the writer held before and holds now;
+-- of a writer that does not tell it nothing is said.
 pub record GrewByABeginning (old new : Option (List ℕ)) (octets : List ℕ) : Type 0 where
   pub front : List ℕ
   pub rest : List ℕ
@@ -44,8 +45,7 @@ pub record GrewByABeginning (old new : Option (List ℕ)) (octets : List ℕ) : 
 
 -- On `Ok` the octets were appended, and their number is the answer; else a beginning of them was.
 -- The mark is set exactly where the answer is an `IOError`, and is never taken off. A writer that was marked takes no
--- octets, and for no octets it is not asked, so that the answer is no `IOError`. The octets that were taken before a
--- refusal are tied by what the writer holds.
+-- octets, and for no octets none is asked, so that the answer is no `IOError`.
 pub record Wrote (octets : List ℕ) (old new : Option (List ℕ)) (was is : Bool) (answer : Result ℕ SerializeError) : Type 0 where
   pub ok : IfOk answer (λ n. Appends old new octets × (n ≡ length octets))
   pub err : OnErr answer (GrewByABeginning old new octets)
@@ -110,21 +110,26 @@ pub record RefusedAtOnce (e : SerializeError) (old new : Option (List ℕ)) (was
   pub mark : is ≡ was
 
 -- Refused by one of the value's own, by its length or for want of memory, with nothing appended and the mark as it was.
+-- The refusal is tied by the answer.
 abbrev pub IsRefusedAtOnce : Bool → ℕ → (SerializeError → Type 0) → Option (List ℕ) → Option (List ℕ) → Bool → Bool → Result ℕ SerializeError → Type 0
 IsRefusedAtOnce takes_memory n own old new was is answer = (e : SerializeError) × RefusesAtOnce takes_memory n own e × RefusedAtOnce e old new was is answer
 
--- the refusal of a writing into a vector, which tells of no writer
-abbrev pub WithoutIo : SerializeError → SerializeError → Type 0
-WithoutIo e f = tells_of_io e ≡ false → f ≡ e
+-- how a refused writing into a vector comes out: want of memory in the place of the writer's failure
+abbrev pub vector_refusal : SerializeError → SerializeError
+vector_refusal (refusals.IOError e) = refusals.OutOfMemory
+vector_refusal e = e
 
--- a refusal of the value's own, from a writing into a vector
+abbrev pub WithoutIo : SerializeError → SerializeError → Type 0
+WithoutIo e f = f ≡ vector_refusal e
+
+-- A refusal of the value's own, from a writing into a vector. The value's own is tied by the one that it comes out as.
 abbrev pub IntoVector : (SerializeError → Type 0) → SerializeError → Type 0
 IntoVector own f = (e : SerializeError) × own e × WithoutIo e f
 
 abbrev pub VectorRefuses : ℕ → (SerializeError → Type 0) → SerializeError → Type 0
 VectorRefuses n own f = MayRefuse true n f ⊎ ((e : SerializeError) × own e × WithoutIo e f)
 
--- the refusals of a header whose contents octets are counted
+-- The refusals of a header whose contents octets are counted. The refusal of the count is tied by the one that it comes out as.
 abbrev pub WrittenRefusal : (Error → Type 0) → SerializeError → Type 0
 WrittenRefusal own e = (f : Error) × own f × (e ≡ written_refusal f)
 

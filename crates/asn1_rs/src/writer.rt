@@ -24,10 +24,8 @@ pub trait TellsWrites: Write {
 }
 
 impl<W: Write> TellsWrites for W {
-    ghost writes = {
-        λ old octets answer new.
-            WritesAtMost answer octets × WriteAppends (W.contents old) (W.contents new) answer octets
-    };
+    ghost writes = { λ old octets answer new.
+        WritesAtMost answer octets × WriteAppends (W.contents old) (W.contents new) answer octets };
 
     fn write_once(&mut self, octets: &[u8]) -> io::Result<usize> {
         self.write(octets)

@@ -1,4 +1,4 @@
-use Rattle.std.proofs.Common.{◌≡◌, ◌++◌, List, length, IsTrue, []}
+use Rattle.std.proofs.Common.{◌≡◌, ◌++◌, List, length, IsTrue}
 use Rattle.std.specs.Io.KnownBytes.{Appends}
 use Rattle.asn1_rs.specs.Wrote.{TookAllBut}
 use Rattle.asn1_rs.proofs.writer.put_all.Given as goal
