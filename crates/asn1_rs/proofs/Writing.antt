@@ -1,14 +1,11 @@
 -- One writing after another.
-use Rattle.std.proofs.Common.{◌≡◌, ◌⊎◌, inl, inr, ℕ, ◌+◌, Bool, true, false, ◌||◌, ◌&&◌, ◌==◌, nat_lt, List, [], ◌++◌, length, take, drop, ◌-◌, ◌≤◌, length-append, Option, None, Some, IfErr, IsTrue, MatchResult, ◌^◌, ◌<◌, IfOk, zero, suc, Result, Ok, Err, refl, sym, ap, ◌∙◌, append_assoc, arith, subst}
-use Rattle.std.proofs.lemmas.Bool.Decides.{nat_tests}
+use Rattle.std.proofs.Common.{◌≡◌, inl, inr, ℕ, ◌+◌, Bool, true, false, ◌||◌, List, [], ◌++◌, length, take, drop, ◌-◌, ◌≤◌, length-append, Option, None, Some, IfErr, IsTrue, MatchResult, ◌^◌, ◌<◌, IfOk, Result, Ok, Err, ◌∷◌, refl, sym, ap, ◌∙◌, append_assoc, arith, subst}
 use Rattle.std.proofs.lemmas.Bool.{false≢true}
 use Rattle.std.proofs.lemmas.List.{append-nil}
+use Rattle.std.proofs.lemmas.Fn.{FoldsTo-push}
 use Rattle.std.proofs.lemmas.Grind.{common_steps}
 use Rattle.std.specs.Io.KnownBytes.{Appends}
-use Rattle.std.specs.Io.{WritesAtMost}
-use Rattle.std.specs.Io.KnownBytes.{WriteAppends}
-use Rattle.std.specs.declared.io.Error.{Error as Failure}
-use Rattle.asn1_rs.specs.Wrote.{Wrote, is_io, SumsWritten, SumsCounts, MayRefuse, MayRefuseCount, PutOnce, PutAnswer, put_fails, Refuses, RefusesCount, RefusesAtOnce, IsRefusedAtOnce, RefusedAtOnce, Either, some_takes, HasNone, VectorRefuses, WithoutIo, WrittenRefusal, OfClass, written_refusal, tells_of_io}
+use Rattle.asn1_rs.specs.Wrote.{Wrote, Calls, Took, TookAllBut, is_io, SumsWritten, SumsCounts, MayRefuse, MayRefuseCount, Refuses, RefusesCount, RefusesAtOnce, IsRefusedAtOnce, RefusedAtOnce, Either, some_takes, HasNone, VectorRefuses, WithoutIo, WrittenRefusal, OfClass, written_refusal, tells_of_io}
 use Rattle.std.specs.Prelude.{IsErr}
 use Rattle.asn1_rs.specs.declared.error.Error.{Error}
 use Rattle.asn1_rs.specs.declared.error.Error.TheVariants as faults
@@ -25,21 +22,27 @@ pub Appends_none : (a : Option (List ℕ)) → Appends a a []
 Appends_none None = tt
 Appends_none (Some a) = sym (append-nil a)
 
-not_none : (k : ℕ) → (suc k == 0) ≡ false
-not_none k = grind (arith, nat_tests)
-
--- what a call of `put` that took octets did
-pub put_taken : (piece : List ℕ) (old new : Option (List ℕ)) (was is : Bool) (n : ℕ) → PutOnce piece old new was is (Ok n) → (1 ≤ n) × (n ≤ length piece) × Appends old new (take n piece) × (is ≡ was)
-put_taken piece old new was is n p = taken p.put p.bound p.bytes p.mark p.answered
-  where
-    taken : (r : Result ℕ Failure) → WritesAtMost r piece → WriteAppends old new r piece → is ≡ (put_fails r piece || was) → PutAnswer r (Ok n) → (1 ≤ n) × (n ≤ length piece) × Appends old new (take n piece) × (is ≡ was)
-    taken (Ok zero) bound bytes mark answered = absurd (omega (arith, answered.0, answered.1))
-    taken (Ok (suc k)) bound bytes mark answered = (answered.1, omega (arith, bound, answered.0), subst (λ (m : ℕ). Appends old new (take m piece)) (sym answered.0) bytes, mark ∙ ap (λ b. (b && nat_lt 0 (length piece)) || was) (not_none k))
-    taken (Err e) bound bytes mark answered = absurd answered
+-- no octets are joined of none
+pub none_of_both : (xs ys : List ℕ) → xs ++ ys ≡ [] → (xs ≡ []) × (ys ≡ [])
+none_of_both [] ys e = (refl, e)
+none_of_both (x ∷ xs) ys e = cc
 
 -- a piece of which n more octets were taken
 pub taken_more : (piece front rest : List ℕ) (n : ℕ) → n ≤ length rest → piece ≡ front ++ rest → piece ≡ (front ++ take n rest) ++ take (length rest - n) (drop n rest)
 taken_more piece front rest n h e = e ∙ grind (arith, common_steps)
+
+-- what is left of a piece past n octets, as a slice
+pub slice_left : (rest : List ℕ) (n : ℕ) → n ≤ length rest → take (length rest - n) (drop n rest) ≡ drop n rest
+slice_left rest n h = grind (arith, common_steps)
+
+-- one more call of `put`, on what was left
+pub took_more : {W : Type 0} (puts : Calls W) (piece : List ℕ) (old before : W) (rest : List ℕ) (n : ℕ) (new : W) → TookAllBut puts piece old rest before → puts before rest (Ok n) new → 1 ≤ n → n ≤ length rest → TookAllBut puts piece old (take (length rest - n) (drop n rest)) new
+took_more puts piece old before rest n new calls call some h = (calls.0 ++ (n ∷ []), FoldsTo-push (Took puts) (old, piece) calls.0 (before, rest) n (new, take (length rest - n) (drop n rest)) calls.1 (call, some, h, slice_left rest n h))
+
+-- of no octets no call takes any
+pub none_took : {W : Type 0} (puts : Calls W) (old : W) (rest : List ℕ) (new : W) → TookAllBut puts [] old rest new → (rest ≡ []) × (new ≡ old)
+none_took puts old rest new ([], e) = (ap (λ (p : _ × List ℕ). p.1) (sym e), ap (λ (p : _ × List ℕ). p.0) (sym e))
+none_took puts old rest new (n ∷ counts, call) = absurd (omega (arith, call.1.1, call.1.2))
 
 -- a refusal after a part that was written
 pub Wrote_then_err : {e : SerializeError} {n : ℕ} {xs ys : List ℕ} {a b c : Option (List ℕ)} {was mid is : Bool} → Wrote xs a b was mid (Ok n) → Wrote ys b c mid is (Err e) → Wrote (xs ++ ys) a c was is (Err e)
@@ -52,6 +55,8 @@ Wrote_then_err {e} {n} {xs} {ys} {a} {b} {c} {was} {mid} {is} p q = record {
     grown = Appends_more a b c xs r.front p.ok.0 r.grown;
   };
   mark = q.mark ∙ ap (λ m. is_io {A = ℕ} (Err e) || m) p.mark;
+  marked = λ _. tt;
+  nothing = λ h. q.nothing (none_of_both xs ys h).1;
 }
 
 -- both parts were written
@@ -60,6 +65,8 @@ Wrote_then {n} {m} {xs} {ys} {a} {b} {c} p q = record {
   ok = (Appends_more a b c xs ys p.ok.0 q.ok.0, simp length-append (omega (arith, p.ok.1, q.ok.1)));
   err = tt;
   mark = q.mark ∙ p.mark;
+  marked = λ h. ap (λ z. z ++ ys) (p.marked h) ∙ q.marked (subst IsTrue (sym p.mark) h);
+  nothing = λ _. refl;
 }
 
 -- all was written, and the answer is still a refusal
@@ -68,6 +75,8 @@ Wrote_refused {e} {n} {xs} {a} {b} {was} {is} p h = record {
   ok = tt;
   err = record { front = xs; rest = []; parts = sym (append-nil xs); grown = p.ok.0 };
   mark = p.mark ∙ ap (λ m. m || was) (sym h);
+  marked = λ _. tt;
+  nothing = λ _. h;
 }
 
 pub Wrote_sum : {n m : ℕ} {xs ys : List ℕ} {a b c : Option (List ℕ)} {was mid is : Bool} (r : Result ℕ SerializeError) → Wrote xs a b was mid (Ok n) → Wrote ys b c mid is (Ok m) → SumsWritten n m r → Wrote (xs ++ ys) a c was is r
@@ -89,6 +98,8 @@ Wrote_front {e} {xs} zs p = record {
     grown = r.grown;
   };
   mark = p.mark;
+  marked = λ _. tt;
+  nothing = λ h. p.nothing (none_of_both xs zs h).0;
 }
 
 pub MayRefuse_more : (e : SerializeError) (takes : Bool) (m n : ℕ) → m ≤ n → MayRefuse takes m e → MayRefuse takes n e
@@ -250,6 +261,8 @@ Wrote_nothing {e} xs a was h = record {
   ok = tt;
   err = record { front = []; rest = xs; parts = refl; grown = Appends_none a };
   mark = ap (λ m. m || was) (sym h);
+  marked = λ _. tt;
+  nothing = λ _. h;
 }
 
 pub vector_refuses_neither : (one other : SerializeError → Type 0) → HasNone one → HasNone other → HasNone (Either one other)

@@ -1,7 +1,7 @@
 -- What a writing leaves in a writer, and why it is refused.
-use Rattle.std.specs.Prelude.{◌≡◌, ◌⊎◌, ℕ, ◌+◌, ◌<◌, ◌≤◌, ◌^◌, Bool, true, false, ◌||◌, ◌&&◌, ◌==◌, nat_lt, IsTrue, List, ◌++◌, length, Option, Result, Ok, Err, IfOk, OnErr, IsErr, MatchResult, ⊤}
-use Rattle.std.specs.Io.{WritesAtMost}
-use Rattle.std.specs.Io.KnownBytes.{Appends, WriteAppends}
+use Rattle.std.specs.Prelude.{◌≡◌, ◌⊎◌, ℕ, ◌+◌, ◌<◌, ◌≤◌, ◌^◌, Bool, true, false, ◌||◌, ◌&&◌, ◌==◌, nat_lt, IsTrue, List, ◌++◌, length, Option, Result, Ok, Err, IfOk, IfErr, OnOk, OnErr, IsErrAnd, MatchResult, ⊤, ◌≢◌, [], take, drop}
+use Rattle.std.specs.List.{FoldsTo}
+use Rattle.std.specs.Io.KnownBytes.{Appends}
 use Rattle.std.specs.IoError.{error_kind}
 use Rattle.std.specs.declared.io.Error.{Error as Failure}
 use Rattle.std.specs.declared.io.ErrorKind.TheVariants.{WriteZero}
@@ -35,7 +35,8 @@ is_io (Err refusals.OutOfMemory) = false
 abbrev pub tells_of_io : SerializeError → Bool
 tells_of_io e = is_io {A = ℕ} (Err e)
 
--- the known octets grew by a beginning of the octets
+-- The known octets grew by a beginning of the octets. The beginning is tied by what the writer held before and holds now;
+-- of a writer that does not tell it nothing is said.
 pub record GrewByABeginning (old new : Option (List ℕ)) (octets : List ℕ) : Type 0 where
   pub front : List ℕ
   pub rest : List ℕ
@@ -43,11 +44,14 @@ pub record GrewByABeginning (old new : Option (List ℕ)) (octets : List ℕ) : 
   pub grown : Appends old new front
 
 -- On `Ok` the octets were appended, and their number is the answer; else a beginning of them was.
--- The mark is set exactly where the answer is an `IOError`, and is never taken off.
+-- The mark is set exactly where the answer is an `IOError`, and is never taken off. A writer that was marked takes no
+-- octets, and for no octets none is asked, so that the answer is no `IOError`.
 pub record Wrote (octets : List ℕ) (old new : Option (List ℕ)) (was is : Bool) (answer : Result ℕ SerializeError) : Type 0 where
   pub ok : IfOk answer (λ n. Appends old new octets × (n ≡ length octets))
   pub err : OnErr answer (GrewByABeginning old new octets)
   pub mark : is ≡ (is_io answer || was)
+  pub marked : IsTrue was → OnOk answer (octets ≡ [])
+  pub nothing : octets ≡ [] → is_io answer ≡ false
 
 -- Why a writing of n octets may be refused: its writer failed, their number is past what 64 bits hold, or, where it takes memory, that was refused.
 abbrev pub MayRefuse : Bool → ℕ → SerializeError → Type 0
@@ -110,43 +114,71 @@ pub record RefusedAtOnce (e : SerializeError) (old new : Option (List ℕ)) (was
   pub mark : is ≡ was
 
 -- Refused by one of the value's own, by its length or for want of memory, with nothing appended and the mark as it was.
+-- The refusal is tied by the answer.
 abbrev pub IsRefusedAtOnce : Bool → ℕ → (SerializeError → Type 0) → Option (List ℕ) → Option (List ℕ) → Bool → Bool → Result ℕ SerializeError → Type 0
 IsRefusedAtOnce takes_memory n own old new was is answer = (e : SerializeError) × RefusesAtOnce takes_memory n own e × RefusedAtOnce e old new was is answer
 
--- the refusal of a writing into a vector, which tells of no writer
-abbrev pub WithoutIo : SerializeError → SerializeError → Type 0
-WithoutIo e f = tells_of_io e ≡ false → f ≡ e
+-- how a refused writing into a vector comes out: want of memory in the place of the writer's failure
+abbrev pub vector_refusal : SerializeError → SerializeError
+vector_refusal (refusals.IOError e) = refusals.OutOfMemory
+vector_refusal e = e
 
--- a refusal of the value's own, from a writing into a vector
+abbrev pub WithoutIo : SerializeError → SerializeError → Type 0
+WithoutIo e f = f ≡ vector_refusal e
+
+-- A refusal of the value's own, from a writing into a vector. The value's own is tied by the one that it comes out as.
 abbrev pub IntoVector : (SerializeError → Type 0) → SerializeError → Type 0
 IntoVector own f = (e : SerializeError) × own e × WithoutIo e f
 
 abbrev pub VectorRefuses : ℕ → (SerializeError → Type 0) → SerializeError → Type 0
 VectorRefuses n own f = MayRefuse true n f ⊎ ((e : SerializeError) × own e × WithoutIo e f)
 
--- the refusals of a header whose contents octets are counted
+-- The refusals of a header whose contents octets are counted. The refusal of the count is tied by the one that it comes out as.
 abbrev pub WrittenRefusal : (Error → Type 0) → SerializeError → Type 0
 WrittenRefusal own e = (f : Error) × own f × (e ≡ written_refusal f)
 
--- How the answer of `put` comes out: what it took, at least one octet, or its failure, and one of kind `WriteZero` where it took none.
-abbrev pub PutAnswer : Result ℕ Failure → Result ℕ SerializeError → Type 0
-PutAnswer (Ok k) (Ok n) = (n ≡ k) × (1 ≤ n)
-PutAnswer (Ok k) (Err (refusals.IOError e)) = (k ≡ 0) × (error_kind e ≡ WriteZero)
-PutAnswer (Err f) (Err (refusals.IOError e)) = e ≡ f
-PutAnswer _ _ = ⊥
+-- What a call of `put`, or of a std writer's `write`, may come to: the writer before it, the octets, the answer and the writer after it.
+abbrev pub Calls : Type 0 → Type 1
+Calls W = W → List ℕ → Result ℕ Failure → W → Type 0
 
--- one call of `put` on the piece, and what came of it
+-- A call of `Told`. Marked, it asks nobody, answers an Err of kind `WriteZero`, and stays as it was; else its answer is
+-- that of one call of the wrapped writer, with these octets.
+pub record ToldPut {W : Type 0} (writes : Calls W) (old : Told W) (octets : List ℕ) (answer : Result ℕ Failure) (new : Told W) : Type 0 where
+  pub refused : IsTrue (mark_of old) → IsErrAnd answer (λ e. error_kind e ≡ WriteZero) × (new ≡ old)
+  pub asked : mark_of old ≡ false → writes (wrapped_in old) octets answer (wrapped_in new)
+  pub mark : mark_of new ≡ (put_fails answer octets || mark_of old)
+
+-- A call of `put` took n octets, at least one, of all that was left. It is tied to the writer by `puts`, which `put` alone ensures.
+abbrev pub Took : {W : Type 0} → Calls W → W × List ℕ → ℕ → W × List ℕ → Type 0
+Took puts before n after = puts before.0 before.1 (Ok n) after.0 × (1 ≤ n) × (n ≤ length before.1) × (after.1 ≡ drop n before.1)
+
+-- Calls of `put` took the piece down to the rest. The numbers that they took are tied by the calls, from the first writer to the last.
+abbrev pub TookAllBut : {W : Type 0} → Calls W → List ℕ → W → List ℕ → W → Type 0
+TookAllBut puts piece old rest new = (counts : List ℕ) × FoldsTo (Took puts) (old, piece) counts (new, rest)
+
+-- how a call of `put` comes out as a refusal: its failure, and one of kind `WriteZero` where it took none
+abbrev pub PutRefusal : Result ℕ Failure → SerializeError → Type 0
+PutRefusal (Ok n) (refusals.IOError e) = (n ≡ 0) × (error_kind e ≡ WriteZero)
+PutRefusal (Err f) (refusals.IOError e) = e ≡ f
+PutRefusal _ _ = ⊥
+
+-- One call of `put`, with octets, is the refusal. Its answer is tied by `puts`, to the writer before it and the one after it.
+abbrev pub PutRefused : {W : Type 0} → Calls W → List ℕ → W → W → SerializeError → Type 0
+PutRefused puts octets old new e = (octets ≢ []) × ((put : Result ℕ Failure) × puts old octets put new × PutRefusal put e)
+
+-- Calls of `put`, each with all that was left, took the whole piece, or the last of them is the refusal. No octets ask for no call.
+-- The writer before that last call, and what was left then, are tied by the calls that led there.
+abbrev pub PutInCalls : {W : Type 0} → Calls W → List ℕ → W → W → Result ℕ SerializeError → Type 0
+PutInCalls {W} puts piece old new answer = MatchResult answer
+    (λ n. TookAllBut puts piece old [] new)
+    (λ e. (rest : List ℕ) × (before : W) × TookAllBut puts piece old rest before × PutRefused puts rest before new e)
+
+-- one call of `put`: what it took, at least one octet of a writer that was not marked, or a refusal that took none
 pub record PutOnce (piece : List ℕ) (old new : Option (List ℕ)) (was is : Bool) (answer : Result ℕ SerializeError) : Type 0 where
-  pub put : Result ℕ Failure
-  pub bound : WritesAtMost put piece
-  pub bytes : WriteAppends old new put piece
-  pub mark : is ≡ (put_fails put piece || was)
-  pub marked : IsTrue was → IsErr put
-  pub answered : PutAnswer put answer
-
--- The refusal is that of the last call of `put`, on what was left of the piece, which left the writer as it is.
-abbrev pub PutFailed : {W : Type 0} → (W → Option (List ℕ)) → (W → Bool) → List ℕ → W → SerializeError → Type 0
-PutFailed {W} told failed piece after e = (front rest : List ℕ) × (before : W) × (piece ≡ front ++ rest) × PutOnce rest (told before) (told after) (failed before) (failed after) (Err e)
+  pub took : IfOk answer (λ n. (1 ≤ n) × (n ≤ length piece) × Appends old new (take n piece) × (was ≡ false))
+  pub kept : OnErr answer (Appends old new [])
+  pub mark : is ≡ (is_io answer || was)
+  pub refused : IfErr answer (MayRefuse false 0)
 
 -- a class past 3 is the refusal, before all others
 abbrev pub OfClass : ℕ → (SerializeError → Type 0) → SerializeError → Type 0

@@ -1,7 +1,7 @@
 //! The trait of values that are written by DER.
 ghost use Rattle.std.specs.Prelude.{◌≡◌, ◌++◌, ◌||◌, ℕ, Bool, true, false, List, [], length, IfOk, IfErr, IsErr};
 ghost use Rattle.std.specs.Io.KnownBytes.{Appends};
-ghost use Rattle.asn1_rs.specs.Wrote.{Wrote, MayRefuse, Refuses, RefusesCount, VectorRefuses, Either, IsRefusedAtOnce, SumsWritten, SumsCounts, some_takes, written_refusal, tells_of_io};
+ghost use Rattle.asn1_rs.specs.Wrote.{Wrote, MayRefuse, Refuses, RefusesCount, VectorRefuses, Either, IsRefusedAtOnce, SumsWritten, SumsCounts, some_takes, written_refusal, vector_refusal, tells_of_io};
 ghost use Rattle.asn1_rs.specs.declared.error.SerializeError.{SerializeError as Unwritten};
 ghost use Rattle.asn1_rs.specs.declared.error.Error.{Error as Uncounted};
 
@@ -41,7 +41,7 @@ pub(crate) fn refusal_of_count(e: Error) -> SerializeError
 pub(crate) fn without_io(e: SerializeError) -> SerializeError
     ensures refused { (n : ℕ) (takes_memory : Bool) → MayRefuse takes_memory n e → MayRefuse true n result }
     ensures io { tells_of_io result ≡ false }
-    ensures same { tells_of_io e ≡ false → result ≡ e }
+    ensures same { result ≡ vector_refusal e }
 {
     match e {
         SerializeError::IOError(_) => SerializeError::OutOfMemory,

@@ -1,14 +1,36 @@
 //! Writers that tell what they took and whether they failed.
-ghost use Rattle.std.specs.Prelude.{◌≡◌, ◌≢◌, [], ◌||◌, Bool, ℕ, List, Option, None, false, IsTrue, IsErr, IfErr};
+ghost use Rattle.std.specs.Prelude.{◌≡◌, ◌≢◌, [], ◌||◌, Bool, ℕ, List, Option, None, false, IsTrue, IsErr, IfOk, IfErr, Ok};
 ghost use Rattle.std.specs.Io.{WritesAtMost};
 ghost use Rattle.std.specs.Io.KnownBytes.{WriteAppends};
-ghost use Rattle.std.specs.IoError.{error_kind};
-ghost use Rattle.asn1_rs.specs.Wrote.{wrapped_in, mark_of, put_fails, Wrote, MayRefuse, PutOnce, PutFailed};
-ghost use Rattle.std.specs.declared.io.ErrorKind.TheVariants.{WriteZero};
+ghost use Rattle.asn1_rs.specs.Wrote.{wrapped_in, mark_of, put_fails, Wrote, MayRefuse, Calls, ToldPut, PutOnce, PutRefused, PutInCalls};
 
 use crate::error::{SerializeError, SerializeResult};
 use std::io;
 use std::io::{ErrorKind, Write};
+
+/// A std writer whose calls of `write` are told one by one. Every std writer is one.
+///
+/// Contracts of [`Told`] speak of its calls through this trait, as those of std's `Write` tell of a call only how many
+/// octets were taken, and which.
+pub trait TellsWrites: Write {
+    /// What a call of `write` may come to.
+    ghost writes: { Calls Self };
+
+    /// Calls `write` once, and answers what it does.
+    fn write_once(&mut self, octets: &[u8]) -> io::Result<usize>
+        ensures call { writes self.old octets.now result self.new }
+        ensures bound { WritesAtMost result octets.now }
+        ensures bytes { WriteAppends (Self.contents self.old) (Self.contents self.new) result octets.now };
+}
+
+impl<W: Write> TellsWrites for W {
+    ghost writes = { λ old octets answer new.
+        WritesAtMost answer octets × WriteAppends (W.contents old) (W.contents new) answer octets };
+
+    fn write_once(&mut self, octets: &[u8]) -> io::Result<usize> {
+        self.write(octets)
+    }
+}
 
 /// Takes octets, and keeps a mark once it has failed.
 ///
@@ -20,6 +42,9 @@ pub trait DerWrite {
     /// A `put` was refused, or took no octet of a piece that has some.
     ghost failed: { Self → Bool };
 
+    /// What a call of `put` may come to. A writer that leaves it out claims nothing of which answer a call has.
+    ghost puts: { Calls Self } = { λ _ _ _ _. Unit {0} };
+
     /// Takes a beginning of the octets and answers its length; on an Err it takes none.
     ///
     /// A writer that is marked answers an Err.
@@ -27,7 +52,8 @@ pub trait DerWrite {
         ensures bound { WritesAtMost result octets.now }
         ensures bytes { WriteAppends (told self.old) (told self.new) result octets.now }
         ensures mark { failed self.new ≡ (put_fails result octets.now || failed self.old) }
-        ensures marked { IsTrue (failed self.old) → IsErr result };
+        ensures marked { IsTrue (failed self.old) → IsErr result }
+        ensures call { puts self.old octets.now result self.new };
 }
 
 /// Makes a [`DerWrite`] of any std writer: it is marked by its first failure, and answers an Err of kind `WriteZero` from then on.
@@ -71,22 +97,18 @@ impl<W> Told<W> {
     }
 }
 
-impl<W: Write> DerWrite for Told<W> {
+impl<W: TellsWrites> DerWrite for Told<W> {
     ghost told = { λ t. W.contents (wrapped_in t) };
 
     ghost failed = { mark_of };
 
-    fn put(&mut self, octets: &[u8]) -> io::Result<usize>
-        ensures bound { WritesAtMost result octets.now }
-        ensures bytes { WriteAppends (W.contents (wrapped_in self.old)) (W.contents (wrapped_in self.new)) result octets.now }
-        ensures mark { mark_of self.new ≡ (put_fails result octets.now || mark_of self.old) }
-        ensures marked { IsTrue (mark_of self.old) → IsErr result }
-        ensures kind { IsTrue (mark_of self.old) → IfErr result (λ e. error_kind e ≡ WriteZero) }
-    {
+    ghost puts = { ToldPut W.writes };
+
+    fn put(&mut self, octets: &[u8]) -> io::Result<usize> {
         if self.is_failed {
             return Err(io::Error::from(ErrorKind::WriteZero));
         }
-        match self.inner.write(octets) {
+        match self.inner.write_once(octets) {
             Ok(n) => {
                 if n == 0 && !octets.is_empty() {
                     self.is_failed = true;
@@ -104,7 +126,9 @@ impl<W: Write> DerWrite for Told<W> {
 /// One call of `put`: what it took, at least one octet; its failure; or a failure of kind `WriteZero` where it took none.
 fn put_some<W: DerWrite>(w: &mut W, piece: &[u8]) -> SerializeResult<usize>
     requires { piece.now ≢ [] }
-    ensures { PutOnce piece.now (W.told w.old) (W.told w.new) (W.failed w.old) (W.failed w.new) result }
+    ensures took { IfOk result (λ n. W.puts w.old piece.now (Ok n) w.new) }
+    ensures refused { IfErr result (PutRefused W.puts piece.now w.old w.new) }
+    ensures once { PutOnce piece.now (W.told w.old) (W.told w.new) (W.failed w.old) (W.failed w.new) result }
 {
     match w.put(piece) {
         Ok(0) => Err(SerializeError::IOError(io::Error::from(ErrorKind::WriteZero))),
@@ -113,13 +137,15 @@ fn put_some<W: DerWrite>(w: &mut W, piece: &[u8]) -> SerializeResult<usize>
     }
 }
 
-/// Appends the piece, by as many calls of `put` as it takes, and answers its length.
+/// Appends the piece, by as many calls of `put` as it takes, each with all that is left, and answers its length.
 ///
-/// Refused with `IOError` alone: with what `put` failed with, or of kind `WriteZero` where it took none.
+/// Refused with `IOError` alone: with what `put` failed with, or of kind `WriteZero` where it took none. A piece of no
+/// octets asks for no call.
 pub fn put_all<W: DerWrite>(w: &mut W, piece: &[u8]) -> SerializeResult<usize>
     ensures wrote { Wrote piece.now (W.told w.old) (W.told w.new) (W.failed w.old) (W.failed w.new) result }
     ensures failed { IfErr result (MayRefuse false 0) }
-    ensures kind { IfErr result (PutFailed W.told W.failed piece.now w.new) }
+    ensures calls { PutInCalls W.puts piece.now w.old w.new result }
+    ensures nothing { piece.now ≡ [] → (result ≡ Ok 0) × (w.new ≡ w.old) }
 {
     let mut rest = piece;
     while !rest.is_empty() {

@@ -51,6 +51,46 @@ impl Write for Narrow {
     }
 }
 
+/// A std writer that answers as it is told, then takes all, and keeps how many octets each call handed on.
+#[derive(Drop)]
+pub(crate) struct Recorder<'a> {
+    answers: &'a [Result<usize, ErrorKind>],
+    handed: Vec<usize>,
+}
+
+impl<'a> Recorder<'a> {
+    /// A writer with these answers to its first calls. An Ok is of no more octets than a call has.
+    pub(crate) fn new(alloc: Global, answers: &'a [Result<usize, ErrorKind>]) -> Recorder<'a> {
+        Recorder {
+            answers,
+            handed: Vec::new(alloc),
+        }
+    }
+
+    /// How many octets each call handed on.
+    pub(crate) fn handed(&self) -> &[usize] {
+        self.handed.as_slice()
+    }
+}
+
+impl Write for Recorder<'_> {
+    fn write(&mut self, octets: &[u8]) -> io::Result<usize> {
+        self.handed.push(octets.len())?;
+        let [first, rest @ ..] = self.answers else {
+            return Ok(octets.len());
+        };
+        self.answers = rest;
+        match *first {
+            Ok(n) => Ok(n.min(octets.len())),
+            Err(kind) => Err(io::Error::from(kind)),
+        }
+    }
+
+    fn flush(&mut self) -> io::Result<()> {
+        Ok(())
+    }
+}
+
 /// A writer of a caller's own, with a mark. It takes one octet a call, and so many octets in all.
 #[derive(Drop)]
 pub(crate) struct CallersOwn {

@@ -1,7 +1,7 @@
 //! How values are written, and writers that take little at a time or fail.
 
 use crate::calls::push_written;
-use crate::devices::{CallersOwn, Narrow, assert_cut, assert_failed, io_kind};
+use crate::devices::{CallersOwn, Narrow, Recorder, assert_cut, assert_failed, io_kind};
 use crate::rows::{assert_rows, assert_shown};
 use asn1_rs::{Any, Class, DerWrite, Header, Length, Tag, ToDer, Told, put_all};
 use std::alloc::Global;
@@ -216,6 +216,48 @@ fn marked_writer_takes_nothing(rt: HostRuntime) -> Result<(), Fail> {
         rt.alloc(),
         &(before, first, second, after),
         "((true, false), Some(WriteZero), Some(WriteZero), (true, false, true))",
+    )
+}
+
+#[test]
+fn told_writer_is_asked_once_a_call(rt: HostRuntime) -> Result<(), Fail> {
+    // What the writer answers, the piece, and: how many octets were written, which failure came, whether the writer is
+    // marked, and how many octets each call handed on.
+    let interrupted = Err(ErrorKind::Interrupted);
+    let rows: [(&[Result<usize, ErrorKind>], &[u8], &str); 7] = [
+        (&[], &[1, 2, 3, 4], "(Some(4), None, false, [4])"),
+        (&[Ok(1), Ok(2)], &[1, 2, 3, 4], "(Some(4), None, false, [4, 3, 1])"),
+        (&[interrupted], &[1, 2, 3, 4], "(None, Some(Interrupted), true, [4])"),
+        (&[Ok(1), interrupted], &[1, 2, 3, 4], "(None, Some(Interrupted), true, [4, 3])"),
+        (&[Ok(3), Ok(0)], &[1, 2, 3, 4], "(None, Some(WriteZero), true, [4, 1])"),
+        (&[interrupted], &[], "(Some(0), None, false, [])"),
+        (&[Err(ErrorKind::BrokenPipe)], &[1], "(None, Some(BrokenPipe), true, [1])"),
+    ];
+    for (answers, piece, shown) in rows {
+        let mut w = Told::new(Recorder::new(rt.alloc(), answers));
+        let (count, kind) = match put_all(&mut w, piece) {
+            Ok(n) => (Some(n), None),
+            Err(e) => (None, io_kind(Some(e))),
+        };
+        let row = (count, kind, w.is_failed(), w.as_inner().handed());
+        assert_shown(&rt, rt.alloc(), &row, shown)?;
+    }
+    Ok(())
+}
+
+#[test]
+fn call_of_a_told_writer_answers_its_writer(rt: HostRuntime) -> Result<(), Fail> {
+    // Some octets taken, and none: that is an Ok that marks. Then nobody is asked.
+    let answers = [Ok(1), Ok(0), Ok(2)];
+    let mut w = Told::new(Recorder::new(rt.alloc(), &answers));
+    let first = w.put(&[1, 2]).ok();
+    let none_taken = (w.put(&[1, 2, 3]).ok(), w.is_failed());
+    let marked = w.put(&[1, 2]).err().map(|e| e.kind());
+    assert_shown(
+        &rt,
+        rt.alloc(),
+        &(first, none_taken, marked, w.as_inner().handed()),
+        "(Some(1), (Some(0), true), Some(WriteZero), [2, 3])",
     )
 }
 

@@ -1,11 +1,14 @@
-use Rattle.std.proofs.Common.{◌≡◌, ◌++◌, List, length}
+use Rattle.std.proofs.Common.{◌≡◌, ◌++◌, List, length, IsTrue}
 use Rattle.std.specs.Io.KnownBytes.{Appends}
+use Rattle.asn1_rs.specs.Wrote.{TookAllBut}
 use Rattle.asn1_rs.proofs.writer.put_all.Given as goal
 
 abbrev pub invariant-loop-rest : goal.invariant-loop-rest
 invariant-loop-rest g l = record {
-  marked : g.W.DerWrite.failed l.w ≡ g.W.DerWrite.failed l.fn.w;
+  kept : g.W.DerWrite.failed l.w ≡ g.W.DerWrite.failed l.fn.w;
   grown : (front : List _) × (l.piece ≡ front ++ l.rest) × Appends (g.W.DerWrite.told l.fn.w) (g.W.DerWrite.told l.w) front;
+  marked : IsTrue (g.W.DerWrite.failed l.fn.w) → l.rest ≡ l.piece;
+  calls : TookAllBut g.W.DerWrite.puts l.piece l.fn.w l.rest l.w;
 }
 
 abbrev pub decreases-loop-rest : goal.decreases-loop-rest
