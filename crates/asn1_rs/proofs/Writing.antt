@@ -1,5 +1,5 @@
 -- One writing after another.
-use Rattle.std.proofs.Common.{◌≡◌, ℕ, ◌+◌, Bool, true, false, ◌||◌, ◌&&◌, ◌==◌, nat_lt, List, [], ◌++◌, length, take, drop, ◌-◌, ◌≤◌, length-append, Option, None, Some, IfErr, IsTrue, MatchResult, ◌^◌, ◌<◌, IfOk, zero, suc, Result, Ok, Err, refl, sym, ap, ◌∙◌, append_assoc, arith, subst}
+use Rattle.std.proofs.Common.{◌≡◌, ℕ, ◌+◌, Bool, true, false, ◌||◌, ◌&&◌, ◌==◌, nat_lt, List, [], ◌++◌, length, take, drop, ◌-◌, ◌≤◌, length-append, Option, None, Some, IfErr, IsTrue, MatchResult, ◌^◌, ◌<◌, IfOk, zero, suc, Result, Ok, Err, refl, sym, ap, ◌∙◌, append_assoc, arith, subst, inl, inr}
 use Rattle.std.proofs.lemmas.Bool.Decides.{nat_tests}
 use Rattle.std.proofs.lemmas.List.{append-nil}
 use Rattle.std.proofs.lemmas.Grind.{common_steps}
@@ -7,7 +7,8 @@ use Rattle.std.specs.Io.KnownBytes.{Appends}
 use Rattle.std.specs.Io.{WritesAtMost}
 use Rattle.std.specs.Io.KnownBytes.{WriteAppends}
 use Rattle.std.specs.declared.io.Error.{Error as Failure}
-use Rattle.asn1_rs.specs.Wrote.{Wrote, is_io, SumsWritten, SumsCounts, MayRefuse, MayRefuseCount, PutOnce, PutAnswer, put_fails}
+use Rattle.std.specs.declared.vec.Vec.{Vec}
+use Rattle.asn1_rs.specs.Wrote.{Wrote, is_io, tells_of_io, IsMemoryOrLength, SumsWritten, SumsCounts, MayRefuse, MayRefuseCount, PutOnce, PutAnswer, put_fails}
 use Rattle.asn1_rs.specs.declared.error.Error.{Error}
 use Rattle.asn1_rs.specs.declared.error.SerializeError.TheVariants as refusals
 use Rattle.asn1_rs.specs.declared.error.SerializeError.{SerializeError}
@@ -128,3 +129,12 @@ writing_done (Err (refusals.InvalidClass c)) takes o old new was is w m fits fre
 writing_done (Err refusals.InvalidLength) takes o old new was is w m fits free = absurd (omega arith)
 writing_done (Err (refusals.IOError e)) takes o old new was is w m fits free = let k : is ≡ true = w.mark in cc
 writing_done (Err refusals.OutOfMemory) takes o old new was is w m fits free = (refl, m)
+
+-- a vector of the octets, or a refusal that is none of a writer
+pub vector_done : {A : Type 0} (written o : List ℕ) → written ≡ o → (r : Result (Vec ℕ A) SerializeError) → IfOk r (λ v. v.items ≡ written) → IfErr r (MayRefuse true (length written)) → IfErr r (λ e. tells_of_io e ≡ false) → MatchResult r (λ v. v.items ≡ o) (IsMemoryOrLength o)
+vector_done written o e (Ok v) w m io = w ∙ e
+vector_done written o e (Err (refusals.ASN1Error f)) w m io = absurd m
+vector_done written o e (Err (refusals.InvalidClass k)) w m io = absurd m
+vector_done written o e (Err refusals.InvalidLength) w m io = inr (refl, omega (arith, m, ap length e))
+vector_done written o e (Err (refusals.IOError f)) w m io = cc
+vector_done written o e (Err refusals.OutOfMemory) w m io = inl refl

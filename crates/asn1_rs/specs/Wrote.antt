@@ -1,5 +1,5 @@
 -- What a writing leaves in a writer, and why it is refused.
-use Rattle.std.specs.Prelude.{◌≡◌, ℕ, ◌+◌, ◌≤◌, ◌^◌, Bool, true, false, ◌||◌, ◌&&◌, ◌==◌, nat_lt, IsTrue, List, ◌++◌, length, Option, Result, Ok, Err, IfOk, OnErr, IsErr, MatchResult, ⊤}
+use Rattle.std.specs.Prelude.{◌≡◌, ◌⊎◌, ℕ, ◌+◌, ◌≤◌, ◌^◌, Bool, true, false, ◌||◌, ◌&&◌, ◌==◌, nat_lt, IsTrue, List, ◌++◌, length, Option, Result, Ok, Err, IfOk, OnErr, IsErr, MatchResult, ⊤}
 use Rattle.std.specs.Io.{WritesAtMost}
 use Rattle.std.specs.Io.KnownBytes.{Appends, WriteAppends}
 use Rattle.std.specs.IoError.{error_kind}
@@ -56,6 +56,10 @@ MayRefuse takes_memory n (refusals.InvalidClass c) = ⊥
 MayRefuse takes_memory n refusals.InvalidLength = 2 ^ 64 ≤ n
 MayRefuse takes_memory n (refusals.IOError e) = ⊤
 MayRefuse takes_memory n refusals.OutOfMemory = IsTrue takes_memory
+
+-- want of memory, or a length past what 64 bits hold
+abbrev pub IsMemoryOrLength : List ℕ → SerializeError → Type 0
+IsMemoryOrLength octets e = (e ≡ refusals.OutOfMemory) ⊎ ((e ≡ refusals.InvalidLength) × (2 ^ 64 ≤ length octets))
 
 -- why counting n octets may be refused
 abbrev pub MayRefuseCount : Bool → ℕ → Error → Type 0

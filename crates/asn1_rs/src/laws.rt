@@ -2,7 +2,7 @@
 //!
 //! No code calls the law traits: they have no functions. A type whose laws are proved can be read by [`read_ber`] and
 //! [`read_der`] and written by [`write_strict`], alone or nested in lists, sets and tags.
-ghost use Rattle.std.specs.Prelude.{ℕ, Bool, List, ◌≡◌, ◌++◌, ◌<◌, ◌^◌, ◌↔◌, ◌||◌, false, length, Result, Ok, Err, IsTrue, IfErr, MatchResult};
+ghost use Rattle.std.specs.Prelude.{ℕ, Bool, List, ◌≡◌, ◌++◌, ◌<◌, ◌^◌, ◌↔◌, ◌||◌, false, length, Result, Ok, Err, IsTrue, IfOk, IfErr, MatchResult};
 ghost use Rattle.std.specs.Borrow.{Bor};
 ghost use Rattle.std.specs.Io.KnownBytes.{Appends};
 ghost use Rattle.x690.specs.Octets.{IsOctets};
@@ -20,7 +20,7 @@ ghost use Rattle.asn1_rs.specs.declared.error.SerializeError.TheVariants as refu
 ghost use Rattle.asn1_rs.specs.Answers.{seen, Exactly, TellsMemory, ReadsBack};
 ghost use Rattle.asn1_rs.specs.Form.{IsOneForm, IsOneValue, FitsElement, HasValues, IsStrict};
 ghost use Rattle.asn1_rs.specs.Grammar.{max_depth, NoCheck, PassesAll, IsOneFront, IsOneBody, BerWord, DerWord, TakesBody, Checks, FormChecks, FormBodies, FormTakes, EndsWithin, BerGives, DerGives};
-ghost use Rattle.asn1_rs.specs.Wrote.{Wrote, MayRefuse};
+ghost use Rattle.asn1_rs.specs.Wrote.{Wrote, MayRefuse, IsMemoryOrLength};
 ghost use Rattle.asn1_rs.specs.declared.header.Header.{Header as Head};
 ghost use Rattle.asn1_rs.specs.declared.asn1_types.any.Any.{Any as Element};
 ghost use Rattle.asn1_rs.specs.Header.{refusal_of, HeaderGives};
@@ -239,6 +239,20 @@ pub fn write_strict<T: LawfulWrite, W: DerWrite>(
         MatchResult result (λ n. Appends (W.told w.old) (W.told w.new) o × (n ≡ length o)) (λ e. (e ≡ refusals.OutOfMemory) × IsTrue (T.count_takes_memory || T.content_takes_memory)) }
 {
     x.write_der(alloc, w)
+}
+
+/// The one strict encoding of a value in DER form, in a vector.
+///
+/// No other value has it, and it begins no other one. Refused only for want of memory, or where the length passes
+/// `usize`. For other values too the vector has the octets of header and contents, as [`ToDer::to_der_vec`] gives them.
+pub fn strict_vec<T: LawfulWrite>(alloc: Global, x: &T) -> SerializeResult<Vec<u8>>
+    ensures strict { (o : List ℕ) → IsStrict T.Form (T.value x.now) o
+        → MatchResult result (λ octets. octets.items ≡ o) (IsMemoryOrLength o) }
+    ensures plain { IfOk result (λ octets. octets.items ≡ T.header x.now ++ T.content x.now) }
+    ensures one { (o p : List ℕ) → IsStrict T.Form (T.value x.now) o → IsStrict T.Form (T.value x.now) p → o ≡ p }
+    ensures apart { (o p r s : List ℕ) (v w : T.Value) → IsStrict T.Form v o → IsStrict T.Form w p → o ++ r ≡ p ++ s → (o ≡ p) × (v ≡ w) × (r ≡ s) }
+{
+    x.to_der_vec(alloc)
 }
 
 /// The answers of the readers of headers and of elements, by DER and by BER, and of contents octets by BER are what the

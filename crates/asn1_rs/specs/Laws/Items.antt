@@ -1,9 +1,10 @@
 -- Laws of walks over items.
 use Rattle.std.proofs.Common.{arith, ◌≡◌, ◌≢◌, ◌∙◌, ap, sym, subst, refl, ℕ, ◌+◌, ◌≤◌, inl, inr, Bool, List, [], ◌∷◌, ◌++◌, length, append_assoc, length-append}
 use Rattle.std.proofs.lemmas.List.{append_cancel_left}
-use Rattle.std.specs.Prelude.{Result, Ok, Err, Option}
+use Rattle.std.specs.Prelude.{Result, Ok, Err, Option, None, true}
 use Rattle.std.specs.List.{concat}
 use Rattle.std.specs.Iterator.{Yields}
+use Rattle.std.specs.Iterator.Runs.{Run, YieldsRun}
 use Rattle.x690.specs.Octets.{IsOctets}
 use Rattle.x690.specs.Laws.Octets.{octets_back}
 use Rattle.asn1_rs.specs.declared.error.Err.{Err as Refusal}
@@ -13,8 +14,14 @@ use Rattle.asn1_rs.specs.declared.error.Error.TheVariants as faults
 use Rattle.asn1_rs.specs.Error.{FlattenedTo}
 use Rattle.asn1_rs.specs.Answers.{Front, NoFront, Exactly, TellsMemory}
 use Rattle.asn1_rs.specs.Grammar.{IsOneFront}
-use Rattle.asn1_rs.specs.Items.{EndsItem, TakesItem, IsWalk, AreJoinedWords, TellsNoWord, TellsMemoryAlone, IsMemory}
+use Rattle.asn1_rs.specs.declared.asn1_types.sequence_iterator.SequenceIterator.{SequenceIterator}
+use Rattle.asn1_rs.specs.Items.{octets_left, EndsItem, TakesItem, WalkSteps, IsWalk, IsWalkOf, AreJoinedWords, TellsNoWord, TellsMemoryAlone, IsMemory}
 use Rattle.asn1_rs.specs.Laws.Elements.{none_now}
+
+-- Calls on an iterator are steps over the octets that are left.
+pub octets_walked : {T F E : Type 0} (reads : List ℕ → Result (List ℕ × T) (Refusal E) → Type 0) (from : Error → E → Type 0) (s t : SequenceIterator T F E) (answers : List (Result T E)) → Yields (WalkSteps reads from) s answers t → Yields (TakesItem reads from) (octets_left s) answers (octets_left t)
+octets_walked reads from s t [] y = ap octets_left y
+octets_walked reads from s t (x ∷ answers) (j, step, y) = (octets_left j, step, octets_walked reads from j t answers y)
 
 some_length : (octets : List ℕ) → octets ≢ [] → 1 ≤ length octets
 some_length [] n = absurd (n refl)
@@ -130,3 +137,14 @@ module _ {T V E : Type 0} (reads : List ℕ → Result (List ℕ × T) (Refusal 
       (λ octets rest item k n g. let f = exact octets (Ok (rest, item)) k.0 g in (f, (rest_is_octets octets rest (value item) k.0 f, others_joined octets rest (value item) k.1 f)))
       (λ octets answer e k n g w. elim (end_tells octets answer e k.0 g w) [ inl m ↦ m | inr none ↦ absurd (begins_joined octets n k.1 none) ])
       answers content left (o, a)
+
+-- What holds of a walk over octets holds of the runs of std's consumers.
+pub run_walked : {T F V E : Type 0} (reads : List ℕ → Result (List ℕ × T) (Refusal E) → Type 0) (from : Error → E → Type 0) (G : List ℕ → V → Type 0) (value : T → V) (Tells : List ℕ → E → Type 0)
+    (p : Run {S = SequenceIterator T F E} {A = Result T E} (WalkSteps reads from)) →
+    ((left : List ℕ) → Yields (TakesItem reads from) (octets_left p.from) p.items left → IsWalk G value Tells (octets_left p.from) p.items left) → IsWalkOf G value Tells p
+unfolding YieldsRun
+run_walked reads from G value Tells p walks = let y = p.gave.0 in record {
+  left = octets_left y.0;
+  walk = walks (octets_left y.0) (octets_walked reads from p.from y.0 p.items y.1);
+  whole = λ w. (y.2 w).1.0;
+}
