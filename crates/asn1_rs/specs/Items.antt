@@ -7,7 +7,9 @@ use Rattle.asn1_rs.specs.declared.error.Error.{Error}
 use Rattle.asn1_rs.specs.declared.error.Error.TheVariants as faults
 use Rattle.asn1_rs.specs.declared.asn1_types.sequence_iterator.SequenceIterator.{SequenceIterator}
 use Rattle.asn1_rs.specs.Error.{FlattenedTo}
-use Rattle.asn1_rs.specs.Answers.{NoFront}
+use Rattle.x690.specs.Octets.{IsOctets}
+use Rattle.asn1_rs.specs.Answers.{NoFront, Exactly}
+use Rattle.asn1_rs.specs.Grammar.{IsOneFront}
 
 -- the octets that are left
 abbrev pub octets_left : {T F E : Type 0} → SequenceIterator T F E → List ℕ
@@ -23,6 +25,11 @@ abbrev pub TakesItem : {T E : Type 0} → (List ℕ → Result (List ℕ × T) (
 TakesItem reads from left None after = (left ≡ []) × (after ≡ [])
 TakesItem reads from left (Some (Ok item)) after = (left ≢ []) × reads left (Ok (after, item)) × (length after < length left)
 TakesItem {T} {E} reads from left (Some (Err e)) after = (left ≢ []) × ((answer : Result (List ℕ × T) (Refusal E)) × reads left answer × EndsItem from left answer e) × (after ≡ [])
+
+-- A reader takes an item exactly where a word of the grammar begins the octets, and one word alone begins an input.
+pub record ReadsExactly {T V E : Type 0} (IsCut : List ℕ → Type 0) (G : List ℕ → V → Type 0) (value : T → V) (memory : Refusal E → Type 0) (reads : List ℕ → Result (List ℕ × T) (Refusal E) → Type 0) : Type 0 where
+  pub one_word : IsOneFront G
+  pub takes : (octets : List ℕ) (answer : Result (List ℕ × T) (Refusal E)) → IsOctets octets → reads octets answer → Exactly IsCut G value memory octets answer
 
 -- What a call of `next` on the iterator answers, and the iterator that it leaves.
 abbrev pub WalkSteps : {T F E : Type 0} → (List ℕ → Result (List ℕ × T) (Refusal E) → Type 0) → (Error → E → Type 0) → SequenceIterator T F E → Option (Result T E) → SequenceIterator T F E → Type 0
@@ -56,14 +63,14 @@ abbrev pub IsJoined : {V : Type 0} → (List ℕ → V → Type 0) → List ℕ 
 IsJoined G octets [] = octets ≡ []
 IsJoined G octets (v ∷ vs) = (word : List ℕ) × (rest : List ℕ) × G word v × (octets ≡ word ++ rest) × IsJoined G rest vs
 
--- Words of the grammar with these values begin the octets, and then something is left that no word begins.
-pub record EndsJoined {V : Type 0} (G : List ℕ → V → Type 0) (octets : List ℕ) (values : List V) : Type 0 where
+-- Words of the grammar with these values begin the octets, and something is left behind them, of which the refusal tells.
+pub record EndsJoined {V E : Type 0} (G : List ℕ → V → Type 0) (Tells : List ℕ → E → Type 0) (octets : List ℕ) (values : List V) (e : E) : Type 0 where
   pub front : List ℕ
   pub others : List ℕ
   pub is : octets ≡ front ++ others
   pub joined : IsJoined G front values
   pub some : others ≢ []
-  pub none : NoFront G others
+  pub tells : Tells others e
 
 -- each of them is a word of the grammar
 abbrev pub AreWords : {V : Type 0} → (List ℕ → V → Type 0) → List (List ℕ) → Type 0

@@ -9,12 +9,12 @@ ghost use Rattle.x690.specs.Lengths.{indefinite};
 ghost use Rattle.x690.specs.Nested.{IsElement};
 ghost use Rattle.asn1_rs.specs.declared.error.Err.{Err as Refusal};
 ghost use Rattle.asn1_rs.specs.declared.traits.BerParser.{BerParser as Ber};
-ghost use Rattle.asn1_rs.specs.Answers.{seen, Exactly, TellsMemory};
+ghost use Rattle.asn1_rs.specs.Answers.{seen, TellsMemory};
 ghost use Rattle.asn1_rs.specs.declared.error.Error.{Error as Fault};
 ghost use Rattle.asn1_rs.specs.declared.asn1_types.any.Any.{Any as Element};
 ghost use Rattle.asn1_rs.specs.Any.{parts_of};
-ghost use Rattle.asn1_rs.specs.Grammar.{max_depth, EndsWithin, IsOneFront};
-ghost use Rattle.asn1_rs.specs.Items.{octets_left, EndsItem, WalkSteps, IsWalk, IsWalkOf, AreJoinedWords, TellsNoWord, TellsMemoryAlone, TellsNothing, IsMemory};
+ghost use Rattle.asn1_rs.specs.Grammar.{max_depth, EndsWithin};
+ghost use Rattle.asn1_rs.specs.Items.{octets_left, ReadsExactly, EndsItem, WalkSteps, IsWalk, IsWalkOf, AreJoinedWords, TellsNoWord, TellsMemoryAlone, TellsNothing, IsMemory};
 ghost use Rattle.asn1_rs.specs.Laws.Any.{BerElementGives};
 ghost use Rattle.asn1_rs.specs.Laws.IndefiniteContents.{ElementsGive};
 
@@ -148,13 +148,8 @@ pub trait ReadsWords<'a, T, E: From<Error>>: ReadsItems<'a, T, E> {
     /// Whether reading may take memory.
     ghost takes_memory: { Bool };
 
-    /// No word is empty, and two words that begin one input are the same and have one value.
-    ghost one_word: { IsOneFront Words };
-
-    /// The reader takes exactly the words.
-    ghost exact: { (octets : List ℕ) (answer : Result (List ℕ × T) (Refusal E)) → IsOctets octets
-        → Self.item_gives octets answer
-        → Exactly Self.IsCut Self.Words Self.value (TellsMemory Self.takes_memory E.from_gives) octets answer };
+    /// It takes exactly the words, and one word alone begins an input.
+    ghost exact: { ReadsExactly Self.IsCut Self.Words Self.value (TellsMemory Self.takes_memory E.from_gives) Self.item_gives };
 }
 
 impl<'a, T: LawfulBer<'a, E>, E: From<Error>> ReadsWords<'a, T, E> for BerParser {
@@ -168,9 +163,7 @@ impl<'a, T: LawfulBer<'a, E>, E: From<Error>> ReadsWords<'a, T, E> for BerParser
 
     ghost takes_memory = { T.takes_memory };
 
-    ghost one_word = { T.ber_one };
-
-    ghost exact = { T.ber_exact };
+    ghost exact = { record { one_word = T.ber_one; takes = T.ber_exact } };
 }
 
 impl<'a, T: LawfulDer<'a, E>, E: From<Error>> ReadsWords<'a, T, E> for DerParser {
@@ -184,9 +177,7 @@ impl<'a, T: LawfulDer<'a, E>, E: From<Error>> ReadsWords<'a, T, E> for DerParser
 
     ghost takes_memory = { T.takes_memory };
 
-    ghost one_word = { T.der_one };
-
-    ghost exact = { T.der_exact };
+    ghost exact = { record { one_word = T.der_one; takes = T.der_exact } };
 }
 
 /// A walk ends, whatever the items are. Each answer takes an octet at least, so there are no more answers than octets;

@@ -1,0 +1,14 @@
+//! Callers of `asn1_rs`: how its theorems reach the contracts of a crate above.
+//!
+//! A caller names a law at its types, as `reader_is_exact_by_der::<u64, Error>()`, and cites what it says.
+#![tactic(auto)]
+
+mod elements;
+mod items;
+mod numbers;
+
+pub use elements::{read_element, read_header};
+pub use items::{count_of_numbers, items_in, numbers_in};
+pub use numbers::{
+    count_number, is_strict_front, is_same_number, read_number, read_number_by_ber, write_number,
+};
