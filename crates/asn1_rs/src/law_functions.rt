@@ -27,25 +27,35 @@ use crate::laws::{LawfulBer, LawfulDer, LawfulItem, LawfulWrite};
 /// and the rest, and a final refusal else. The strict encoding of a value is read back before any rest. Octets that are
 /// shorter than a word that more of them make them begin with are refused.
 pub fn reader_is_exact_by_ber<'a, T: LawfulBer<'a, E>, E: From<Error>>()
-    ensures exact { (input : List ℕ) (answer : Result (List ℕ × T) (Refusal E)) → IsOctets input → T.ber_gives input answer
+    ensures exact { (input : List ℕ) (answer : Result (List ℕ × T) (Refusal E)) → IsOctets input
+        → T.ber_gives input answer
         → Exactly EndsWithin T.Ber T.value (TellsMemory T.takes_memory E.from_gives) input answer }
-    ensures back { (input : List ℕ) (answer : Result (List ℕ × T) (Refusal E)) (v : T.Value) (w rest : List ℕ) → IsOctets input → T.ber_gives input answer
-        → IsStrict T.Form v w → input ≡ w ++ rest → ReadsBack T.value (TellsMemory T.takes_memory E.from_gives) v rest answer }
-    ensures beginning { (input : List ℕ) (answer : Result (List ℕ × T) (Refusal E)) (more word rest : List ℕ) (v : T.Value) → IsOctets input → T.ber_gives input answer
+    ensures back { (input : List ℕ) (answer : Result (List ℕ × T) (Refusal E)) (v : T.Value)
+        (w rest : List ℕ) → IsOctets input → T.ber_gives input answer → IsStrict T.Form v w
+        → input ≡ w ++ rest
+        → ReadsBack T.value (TellsMemory T.takes_memory E.from_gives) v rest answer }
+    ensures beginning { (input : List ℕ) (answer : Result (List ℕ × T) (Refusal E))
+        (more word rest : List ℕ) (v : T.Value) → IsOctets input → T.ber_gives input answer
         → T.Ber word v → input ++ more ≡ word ++ rest → length input < length word
-        → RefusedBeforeEnd (TellsMemory T.takes_memory E.from_gives) (EndsWithin input) more answer }
+        → RefusedBeforeEnd (TellsMemory T.takes_memory E.from_gives)
+        (EndsWithin input) more answer }
 {}
 
 /// The reader by DER of a lawful type is exact: what `T::from_der` may answer, `T.der_gives`, is what
 /// [`reader_is_exact_by_ber`] says, by the type's grammar by DER.
 pub fn reader_is_exact_by_der<'a, T: LawfulDer<'a, E>, E: From<Error>>()
-    ensures exact { (input : List ℕ) (answer : Result (List ℕ × T) (Refusal E)) → IsOctets input → T.der_gives input answer
+    ensures exact { (input : List ℕ) (answer : Result (List ℕ × T) (Refusal E)) → IsOctets input
+        → T.der_gives input answer
         → Exactly IsCutIdentifier T.Der T.value (TellsMemory T.takes_memory E.from_gives) input answer }
-    ensures back { (input : List ℕ) (answer : Result (List ℕ × T) (Refusal E)) (v : T.Value) (w rest : List ℕ) → IsOctets input → T.der_gives input answer
-        → IsStrict T.Form v w → input ≡ w ++ rest → ReadsBack T.value (TellsMemory T.takes_memory E.from_gives) v rest answer }
-    ensures beginning { (input : List ℕ) (answer : Result (List ℕ × T) (Refusal E)) (more word rest : List ℕ) (v : T.Value) → IsOctets input → T.der_gives input answer
+    ensures back { (input : List ℕ) (answer : Result (List ℕ × T) (Refusal E)) (v : T.Value)
+        (w rest : List ℕ) → IsOctets input → T.der_gives input answer → IsStrict T.Form v w
+        → input ≡ w ++ rest
+        → ReadsBack T.value (TellsMemory T.takes_memory E.from_gives) v rest answer }
+    ensures beginning { (input : List ℕ) (answer : Result (List ℕ × T) (Refusal E))
+        (more word rest : List ℕ) (v : T.Value) → IsOctets input → T.der_gives input answer
         → T.Der word v → input ++ more ≡ word ++ rest → length input < length word
-        → RefusedBeforeEnd (TellsMemory T.takes_memory E.from_gives) (IsCutIdentifier input) more answer }
+        → RefusedBeforeEnd (TellsMemory T.takes_memory E.from_gives)
+        (IsCutIdentifier input) more answer }
 {}
 
 /// An octet string has at most one value, and a value at most one strict encoding.
@@ -55,11 +65,15 @@ pub fn reader_is_exact_by_der<'a, T: LawfulDer<'a, E>, E: From<Error>>()
 pub fn words_and_values_are_unique<T: LawfulItem>()
     ensures ber_value { (o : List ℕ) (v w : T.Value) → T.Ber o v → T.Ber o w → v ≡ w }
     ensures der_value { (o : List ℕ) (v w : T.Value) → T.Der o v → T.Der o w → v ≡ w }
-    ensures ber_front { (x y r s : List ℕ) (v w : T.Value) → T.Ber x v → T.Ber y w → x ++ r ≡ y ++ s → (x ≡ y) × (v ≡ w) × (r ≡ s) }
-    ensures der_front { (x y r s : List ℕ) (v w : T.Value) → T.Der x v → T.Der y w → x ++ r ≡ y ++ s → (x ≡ y) × (v ≡ w) × (r ≡ s) }
+    ensures ber_front { (x y r s : List ℕ) (v w : T.Value) → T.Ber x v → T.Ber y w → x ++ r ≡ y ++ s
+        → (x ≡ y) × (v ≡ w) × (r ≡ s) }
+    ensures der_front { (x y r s : List ℕ) (v w : T.Value) → T.Der x v → T.Der y w → x ++ r ≡ y ++ s
+        → (x ≡ y) × (v ≡ w) × (r ≡ s) }
     ensures strict_word { (v : T.Value) (o : List ℕ) → IsStrict T.Form v o → T.Ber o v × T.Der o v }
-    ensures strict { (v : T.Value) (o p : List ℕ) → IsStrict T.Form v o → IsStrict T.Form v p → o ≡ p }
-    ensures apart { (o p r s : List ℕ) (v w : T.Value) → IsStrict T.Form v o → IsStrict T.Form w p → o ++ r ≡ p ++ s → (o ≡ p) × (v ≡ w) × (r ≡ s) }
+    ensures strict { (v : T.Value) (o p : List ℕ) → IsStrict T.Form v o → IsStrict T.Form v p
+        → o ≡ p }
+    ensures apart { (o p r s : List ℕ) (v w : T.Value) → IsStrict T.Form v o → IsStrict T.Form w p
+        → o ++ r ≡ p ++ s → (o ≡ p) × (v ≡ w) × (r ≡ s) }
 {}
 
 /// What a lawful type writes and counts of a value in DER form is its strict encoding.
@@ -68,9 +82,11 @@ pub fn words_and_values_are_unique<T: LawfulItem>()
 /// `der_content_len` append and count, and `T.constructed` what `der_constructed` answers.
 pub fn counts_are_of_the_strict_encoding<T: LawfulWrite>()
     ensures tells { (x : T) → T.tells x }
-    ensures written { (x : T) (o : List ℕ) → IsStrict T.Form (T.value x) o → T.is_writable x × (T.header x ++ T.content x ≡ o) }
+    ensures written { (x : T) (o : List ℕ) → IsStrict T.Form (T.value x) o → T.is_writable x
+        × (T.header x ++ T.content x ≡ o) }
     ensures counted { (x : T) (o : List ℕ) (s : IsStrict T.Form (T.value x) o)
-        → (length (T.header x ++ T.content x) ≡ length o) × (length (T.content x) ≡ length s.content) × (T.constructed x ≡ s.id.constructed) }
+        → (length (T.header x ++ T.content x) ≡ length o)
+        × (length (T.content x) ≡ length s.content) × (T.constructed x ≡ s.id.constructed) }
 {}
 
 /// A front that a value was read from was its strict encoding exactly where writing the value gives the same octets.
@@ -78,20 +94,26 @@ pub fn counts_are_of_the_strict_encoding<T: LawfulWrite>()
 /// It speaks of values in DER form, those that have a strict identifier and strict contents octets. No octets are strict
 /// for another value, and yet it may be written as it was read.
 pub fn strict_fronts_are_written_again<T: LawfulWrite>()
-    ensures { (x : T) (id : Identifier) (content front : List ℕ) → T.Form (T.value x) id content → length front < 2 ^ 64
+    ensures { (x : T) (id : Identifier) (content front : List ℕ) → T.Form (T.value x) id content
+        → length front < 2 ^ 64
         → IsStrict T.Form (T.value x) front ↔ (front ≡ T.header x ++ T.content x) }
 {}
 
 /// Octets that are shorter than a header or an element, and that more of them make begin with it, are refused: with
 /// `Incomplete` of these or fewer, or with `InvalidTag` where they end within an identifier in high form.
 pub fn beginnings_are_refused()
-    ensures header { (rule : Identifier → Bool) (at_indefinite : Fault) (input more front rest : List ℕ) (id : Identifier) (form : LengthForm) (answer : Result (List ℕ × Head) (Refusal Fault))
-        → HeaderGives rule (refusal_of at_indefinite) input answer → IsHeader rule front id form → input ++ more ≡ front ++ rest → length input < length front
+    ensures header { (rule : Identifier → Bool) (at_indefinite : Fault)
+        (input more front rest : List ℕ) (id : Identifier) (form : LengthForm)
+        (answer : Result (List ℕ × Head) (Refusal Fault))
+        → HeaderGives rule (refusal_of at_indefinite) input answer → IsHeader rule front id form
+        → input ++ more ≡ front ++ rest → length input < length front
         → RefusedAsBeginning (IsCutIdentifier input) more answer }
-    ensures element { (input more word rest : List ℕ) (p : Parts) (answer : Result (List ℕ × Element) (Refusal Fault))
-        → DerElementGives input answer → IsDefiniteElement word p → input ++ more ≡ word ++ rest → length input < length word
+    ensures element { (input more word rest : List ℕ) (p : Parts)
+        (answer : Result (List ℕ × Element) (Refusal Fault)) → DerElementGives input answer → IsDefiniteElement word p
+        → input ++ more ≡ word ++ rest → length input < length word
         → RefusedAsBeginning (IsCutIdentifier input) more answer }
-    ensures ber_element { (input more word rest : List ℕ) (p : Parts) (answer : Result (List ℕ × Element) (Refusal Fault))
-        → BerElementGives input answer → IsElement max_depth word p → input ++ more ≡ word ++ rest → length input < length word
+    ensures ber_element { (input more word rest : List ℕ) (p : Parts)
+        (answer : Result (List ℕ × Element) (Refusal Fault)) → BerElementGives input answer → IsElement max_depth word p
+        → input ++ more ≡ word ++ rest → length input < length word
         → RefusedAsBeginning (EndsWithin input) more answer }
 {}

@@ -9,7 +9,7 @@ use Rattle.asn1_rs.specs.declared.error.Err.{Err as Refusal}
 use Rattle.asn1_rs.specs.declared.error.Error.{Error}
 use Rattle.asn1_rs.specs.declared.error.Error.TheVariants as faults
 use Rattle.asn1_rs.specs.declared.asn1_types.sequence_iterator.SequenceIterator.{SequenceIterator}
-use Rattle.asn1_rs.specs.Items.{octets_left, WalkSteps, EndsWalk, IsWalk, IsWalkOf, IsJoined, AreJoinedWords, EndsJoined, TellsNoWord, TellsMemoryAlone, IsMemory}
+use Rattle.asn1_rs.specs.Items.{octets_left, WalkSteps, EndsWalk, IsWalk, IsWalkOf, IsJoined, EndsJoined, TellsNoWord, TellsMemoryAlone, IsMemory}
 use Rattle.asn1_rs.specs.Laws.Items.{items_joined, items_ended}
 use Rattle.asn1_rs_uses.specs.Items.{EndsBefore}
 

@@ -16,7 +16,8 @@ use std::alloc::Global;
 /// Octets that end within such an element are refused: with `Incomplete` of those that are missing or fewer, or with
 /// `InvalidTag`.
 pub fn read_element<'a>(alloc: Global, octets: &'a [u8]) -> ParseResult<'a, Any<'a>, Error>
-    ensures cut { (more word rest : List ℕ) (p : Parts) → IsDefiniteElement word p → octets.now ++ more ≡ word ++ rest → length octets.now < length word
+    ensures cut { (more word rest : List ℕ) (p : Parts) → IsDefiniteElement word p
+        → octets.now ++ more ≡ word ++ rest → length octets.now < length word
         → RefusedAsBeginning (IsCutIdentifier octets.now) more (seen result) }
 {
     any_is_the_element();
@@ -26,7 +27,9 @@ pub fn read_element<'a>(alloc: Global, octets: &'a [u8]) -> ParseResult<'a, Any<
 
 /// The header at the front of the octets, by BER, and what follows it. Octets that end within a header are refused.
 pub fn read_header<'a>(alloc: Global, octets: &'a [u8]) -> ParseResult<'a, Header<'a>, Error>
-    ensures cut { (more front rest : List ℕ) (id : Identifier) (form : LengthForm) → IsHeader ber_rule front id form → octets.now ++ more ≡ front ++ rest → length octets.now < length front
+    ensures cut { (more front rest : List ℕ) (id : Identifier) (form : LengthForm)
+        → IsHeader ber_rule front id form → octets.now ++ more ≡ front ++ rest
+        → length octets.now < length front
         → RefusedAsBeginning (IsCutIdentifier octets.now) more (seen result) }
 {
     beginnings_are_refused();

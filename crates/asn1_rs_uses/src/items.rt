@@ -1,10 +1,9 @@
 //! Items in contents octets.
 ghost use Rattle.std.specs.Prelude.{◌≡◌, ◌⊎◌, List, length, map, pos, ℤ, IfOk, IfErr};
 ghost use Rattle.asn1_rs.specs.declared.error.Error.TheVariants as faults;
-ghost use Rattle.asn1_rs.specs.Grammar.{DerWord};
-ghost use Rattle.asn1_rs.specs.Integer.{IntegerBody, IntegerCheck, IsUnsigned};
 ghost use Rattle.asn1_rs.specs.Items.{IsJoined, AreJoinedWords};
 ghost use Rattle.asn1_rs_uses.specs.Items.{EndsBefore};
+ghost use Rattle.asn1_rs_uses.specs.Numbers.{NumberByDer};
 
 use asn1_rs::{DerParser, Error, ReadsWords, SequenceIterator, walks_take_words};
 use std::alloc::Global;
@@ -20,7 +19,8 @@ where
     E: From<Error>,
     ensures joined { IfOk result (λ items. IsJoined F.Words content.now (map F.value items.items)) }
     ensures refused { IfErr result (λ e. E.from_gives faults.OutOfMemory e ⊎ EndsBefore F.Words content.now e) }
-    ensures whole { AreJoinedWords F.Words content.now → IfErr result (E.from_gives faults.OutOfMemory) }
+    ensures whole { AreJoinedWords F.Words content.now
+        → IfErr result (E.from_gives faults.OutOfMemory) }
 {
     walks_take_words::<T, F, E>();
     let mut items = Vec::new(alloc);
@@ -38,15 +38,17 @@ where
 
 /// The numbers in contents octets, by DER.
 pub fn numbers_in(alloc: Global, content: &[u8]) -> Result<Vec<u64>, Error>
-    ensures joined { IfOk result (λ items. IsJoined (DerWord IntegerCheck (IntegerBody (IsUnsigned 8))) content.now (map pos items.items)) }
+    ensures joined { IfOk result (λ items. IsJoined NumberByDer content.now (map pos items.items)) }
+    ensures refused { IfErr result (λ e. (e ≡ faults.OutOfMemory) ⊎ EndsBefore NumberByDer content.now e) }
+    ensures whole { AreJoinedWords NumberByDer content.now → IfErr result (λ e. e ≡ faults.OutOfMemory) }
 {
     items_in::<u64, DerParser, Error>(alloc, content)
 }
 
 /// How many numbers stand in contents octets that are numbers by DER, joined.
 pub fn count_of_numbers(alloc: Global, content: &[u8]) -> usize
-    ensures { AreJoinedWords (DerWord IntegerCheck (IntegerBody (IsUnsigned 8))) content.now
-        → (numbers : List ℤ) × IsJoined (DerWord IntegerCheck (IntegerBody (IsUnsigned 8))) content.now numbers × (result ≡ length numbers) }
+    ensures { AreJoinedWords NumberByDer content.now → (numbers : List ℤ)
+        × IsJoined NumberByDer content.now numbers × (result ≡ length numbers) }
 {
     walks_take_words::<u64, DerParser, Error>();
     SequenceIterator::<u64, DerParser, Error>::new(alloc, content).count()

@@ -9,7 +9,6 @@ use Rattle.std.proofs.lemmas.Int.Digits.{digits_of_step, length-digits_of_step, 
 use Rattle.std.proofs.lemmas.List.{map_push, drop-set, drop-set-lt, take_more_set, drop_all, drop_at, take_all, length-take-le, length-take, take-append-le}
 use Rattle.std.proofs.lemmas.Slice.{take-put_mid, drop-put_mid}
 use borrow.Rule.Slice.PartMut.{put_mid, mid_of}
-use Rattle.std.proofs.lemmas.Grind.{common_steps}
 
 -- a number with digits is not 0
 some_number : (base n : ℕ) → 2 ≤ base → 1 ≤ length (digits_of base n) → 0 < n

@@ -1,7 +1,6 @@
 -- Octets that more of them make begin with a word, and that are shorter than it, are refused.
 use Rattle.std.proofs.Common.{arith, ◌≡◌, ◌∙◌, ap, sym, ℕ, ◌<◌, inl, inr, List, ◌++◌, length, append_assoc, length-append, Bool}
 use Rattle.std.specs.Prelude.{◌⊎◌, Result, Ok, Err, IsErrAnd}
-use Rattle.x690.specs.Octets.{IsOctets}
 use Rattle.x690.specs.Identifiers.{Identifier, IsCutIdentifier}
 use Rattle.x690.specs.Lengths.{LengthForm}
 use Rattle.x690.specs.Elements.{Parts, IsHeader}

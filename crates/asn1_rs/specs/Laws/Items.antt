@@ -1,7 +1,7 @@
 -- Laws of walks over items.
 use Rattle.std.proofs.Common.{arith, ◌≡◌, ◌≢◌, ◌∙◌, ap, sym, subst, refl, ℕ, ◌+◌, ◌≤◌, inl, inr, Bool, List, [], ◌∷◌, ◌++◌, length, append_assoc, length-append, append-nil}
 use Rattle.std.proofs.lemmas.List.{append_cancel_left}
-use Rattle.std.specs.Prelude.{Result, Ok, Err, Option, None, true, map}
+use Rattle.std.specs.Prelude.{Result, Ok, Err, Option, map}
 use Rattle.std.specs.List.{AllZip, concat}
 use Rattle.std.specs.Iterator.{Yields}
 use Rattle.std.specs.Iterator.Runs.{Run, YieldsRun}

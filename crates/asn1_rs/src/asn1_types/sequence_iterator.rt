@@ -149,7 +149,8 @@ pub trait ReadsWords<'a, T, E: From<Error>>: ReadsItems<'a, T, E> {
     ghost takes_memory: { Bool };
 
     /// It takes exactly the words, and one word alone begins an input.
-    ghost exact: { ReadsExactly Self.IsCut Self.Words Self.value (TellsMemory Self.takes_memory E.from_gives) Self.item_gives };
+    ghost exact: { ReadsExactly Self.IsCut Self.Words Self.value
+        (TellsMemory Self.takes_memory E.from_gives) Self.item_gives };
 }
 
 impl<'a, T: LawfulBer<'a, E>, E: From<Error>> ReadsWords<'a, T, E> for BerParser {
@@ -192,8 +193,8 @@ pub fn walks_end<'a, T, F: ReadsItems<'a, T, E>, E: From<Error>>()
         → Yields (WalkSteps F.item_gives E.from_gives) s (before ++ results.Err e ∷ after) t
         → (after ≡ []) × (octets_left t ≡ []) }
     ensures done { (s t : SequenceIterator T F E) (answers : List (Result T E)) → octets_left s ≡ []
-        → Yields (WalkSteps F.item_gives E.from_gives) s answers t
-        → (answers ≡ []) × (octets_left t ≡ []) }
+        → Yields (WalkSteps F.item_gives E.from_gives) s answers t → (answers ≡ [])
+        × (octets_left t ≡ []) }
 {}
 
 /// A walk over contents octets gives the values of words of the reader's grammar, whose joining begins the contents
@@ -203,28 +204,38 @@ pub fn walks_end<'a, T, F: ReadsItems<'a, T, E>, E: From<Error>>()
 /// The calls are those of `next` or of a `for`, from an iterator `s` to an
 /// iterator `t`; `run` and `whole_run` say the same of the calls that std's consumers make.
 pub fn walks_take_words<'a, T, F: ReadsWords<'a, T, E>, E: From<Error>>()
-    ensures calls { (s t : SequenceIterator T F E) (answers : List (Result T E)) → IsOctets (octets_left s)
+    ensures calls { (s t : SequenceIterator T F E) (answers : List (Result T E))
+        → IsOctets (octets_left s) → Yields (WalkSteps F.item_gives E.from_gives) s answers t
+        → IsWalk F.Words F.value (TellsNoWord F.Words (IsMemory F.takes_memory E.from_gives))
+        (octets_left s) answers (octets_left t) }
+    ensures whole { (s t : SequenceIterator T F E) (answers : List (Result T E))
+        → IsOctets (octets_left s) → AreJoinedWords F.Words (octets_left s)
         → Yields (WalkSteps F.item_gives E.from_gives) s answers t
-        → IsWalk F.Words F.value (TellsNoWord F.Words (IsMemory F.takes_memory E.from_gives)) (octets_left s) answers (octets_left t) }
-    ensures whole { (s t : SequenceIterator T F E) (answers : List (Result T E)) → IsOctets (octets_left s)
-        → AreJoinedWords F.Words (octets_left s)
-        → Yields (WalkSteps F.item_gives E.from_gives) s answers t
-        → IsWalk F.Words F.value (TellsMemoryAlone (IsMemory F.takes_memory E.from_gives)) (octets_left s) answers (octets_left t) }
-    ensures run { (p : Run {S = SequenceIterator T F E} {A = Result T E} (WalkSteps F.item_gives E.from_gives)) → IsOctets (octets_left p.from)
+        → IsWalk F.Words F.value (TellsMemoryAlone (IsMemory F.takes_memory E.from_gives))
+        (octets_left s) answers (octets_left t) }
+    ensures run { (p : Run {S = SequenceIterator T F E} {A = Result T E}
+        (WalkSteps F.item_gives E.from_gives))
+        → IsOctets (octets_left p.from)
         → IsWalkOf F.Words F.value (TellsNoWord F.Words (IsMemory F.takes_memory E.from_gives)) p }
-    ensures whole_run { (p : Run {S = SequenceIterator T F E} {A = Result T E} (WalkSteps F.item_gives E.from_gives)) → IsOctets (octets_left p.from)
-        → AreJoinedWords F.Words (octets_left p.from)
+    ensures whole_run { (p : Run {S = SequenceIterator T F E} {A = Result T E}
+        (WalkSteps F.item_gives E.from_gives))
+        → IsOctets (octets_left p.from) → AreJoinedWords F.Words (octets_left p.from)
         → IsWalkOf F.Words F.value (TellsMemoryAlone (IsMemory F.takes_memory E.from_gives)) p }
 {}
 
 /// A walk by BER over the contents octets of an element of indefinite length that [`Any`](crate::Any) was read from
 /// gives elements alone, whose joining begins the contents octets, and nothing is refused (X.690 8.1.3.6).
 pub fn indefinite_contents_are_walked()
-    ensures calls { (input : List ℕ) (x : List ℕ × Element) (s t : SequenceIterator Element Ber Fault) (answers : List (Result Element Fault))
-        → BerElementGives input (Ok x) → (parts_of x.1).form ≡ indefinite → octets_left s ≡ (parts_of x.1).content
+    ensures calls { (input : List ℕ) (x : List ℕ × Element)
+        (s t : SequenceIterator Element Ber Fault) (answers : List (Result Element Fault))
+        → BerElementGives input (Ok x) → (parts_of x.1).form ≡ indefinite
+        → octets_left s ≡ (parts_of x.1).content
         → Yields (WalkSteps ElementsGive (λ e f. f ≡ e)) s answers t
         → IsWalk (IsElement max_depth) parts_of TellsNothing (octets_left s) answers (octets_left t) }
-    ensures run { (input : List ℕ) (x : List ℕ × Element) (p : Run {S = SequenceIterator Element Ber Fault} {A = Result Element Fault} (WalkSteps ElementsGive (λ e f. f ≡ e)))
-        → BerElementGives input (Ok x) → (parts_of x.1).form ≡ indefinite → octets_left p.from ≡ (parts_of x.1).content
+    ensures run { (input : List ℕ) (x : List ℕ × Element)
+        (p : Run {S = SequenceIterator Element Ber Fault} {A = Result Element Fault}
+        (WalkSteps ElementsGive (λ e f. f ≡ e)))
+        → BerElementGives input (Ok x) → (parts_of x.1).form ≡ indefinite
+        → octets_left p.from ≡ (parts_of x.1).content
         → IsWalkOf (IsElement max_depth) parts_of TellsNothing p }
 {}

@@ -1,4 +1,4 @@
-use Rattle.std.proofs.Common.{◌≡◌, List, ℕ, ◌++◌, ◌∙◌}
+use Rattle.std.proofs.Common.{◌++◌}
 use Rattle.asn1_rs.specs.Laws.Words.{one_strict, strict_apart}
 use Rattle.asn1_rs.specs.Laws.Forms.{strict_written}
 use Rattle.asn1_rs.proofs.Writing.{vector_done}

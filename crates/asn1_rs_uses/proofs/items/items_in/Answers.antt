@@ -1,9 +1,8 @@
-use Rattle.std.proofs.Common.{◌≡◌, ◌∙◌, ap, arith, subst, sym, rules, List, ℕ}
+use Rattle.std.proofs.Common.{◌≡◌, ◌∙◌, ap, arith, subst, sym, List, ℕ}
 use Rattle.x690.specs.Octets.{IsOctets}
 use Rattle.asn1_rs.specs.Items.{octets_left, TellsNoWord, TellsMemoryAlone, IsMemory, AreJoinedWords}
 use Rattle.asn1_rs_uses.proofs.Collected.{collected, refused, why_refused}
 use Rattle.asn1_rs_uses.proofs.items.items_in.Goals as goal
-use Rattle.asn1_rs_uses.proofs.items.items_in.Given as given
 
 pub returns-in-Err-clause-refused : goal.returns-in-Err-clause-refused
 returns-in-Err-clause-refused g c =

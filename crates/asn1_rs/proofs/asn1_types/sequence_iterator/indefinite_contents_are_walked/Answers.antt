@@ -1,7 +1,3 @@
-use Rattle.std.proofs.Common.{◌≡◌, List, ℕ, subst, sym}
-use Rattle.std.specs.Iterator.{Yields}
-use Rattle.asn1_rs.specs.Any.{parts_of}
-use Rattle.asn1_rs.specs.Grammar.{max_depth}
 use Rattle.asn1_rs.specs.Items.{octets_left}
 use Rattle.asn1_rs.specs.Laws.IndefiniteContents.{indefinite_walk, ElementsGive, IsSame}
 use Rattle.asn1_rs.specs.Laws.Items.{octets_walked, run_walked}

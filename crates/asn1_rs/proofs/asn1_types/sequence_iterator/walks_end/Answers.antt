@@ -1,4 +1,4 @@
-use Rattle.std.proofs.Common.{◌++◌, ◌∷◌, ◌≡◌, [], subst, List, ℕ}
+use Rattle.std.proofs.Common.{◌++◌, ◌∷◌, subst, List, ℕ}
 use Rattle.std.specs.Prelude.{Err}
 use Rattle.std.specs.Iterator.{Yields}
 use Rattle.asn1_rs.specs.Items.{octets_left, TakesItem}
