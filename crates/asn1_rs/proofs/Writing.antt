@@ -5,7 +5,8 @@ use Rattle.std.proofs.lemmas.List.{append-nil}
 use Rattle.std.proofs.lemmas.Fn.{FoldsTo-push}
 use Rattle.std.proofs.lemmas.Grind.{common_steps}
 use Rattle.std.specs.Io.KnownBytes.{Appends}
-use Rattle.asn1_rs.specs.Wrote.{Wrote, Calls, Took, TookAllBut, is_io, SumsWritten, SumsCounts, MayRefuse, MayRefuseCount, Refuses, RefusesCount, RefusesAtOnce, IsRefusedAtOnce, RefusedAtOnce, Either, some_takes, HasNone, VectorRefuses, WithoutIo, WrittenRefusal, OfClass, written_refusal, tells_of_io}
+use Rattle.std.specs.declared.vec.Vec.{Vec}
+use Rattle.asn1_rs.specs.Wrote.{Wrote, IsMemoryOrLength, Calls, Took, TookAllBut, is_io, SumsWritten, SumsCounts, MayRefuse, MayRefuseCount, Refuses, RefusesCount, RefusesAtOnce, IsRefusedAtOnce, RefusedAtOnce, Either, some_takes, HasNone, VectorRefuses, WithoutIo, WrittenRefusal, OfClass, written_refusal, tells_of_io}
 use Rattle.std.specs.Prelude.{IsErr}
 use Rattle.asn1_rs.specs.declared.error.Error.{Error}
 use Rattle.asn1_rs.specs.declared.error.Error.TheVariants as faults
@@ -268,3 +269,24 @@ Wrote_nothing {e} xs a was h = record {
 pub vector_refuses_neither : (one other : SerializeError → Type 0) → HasNone one → HasNone other → HasNone (Either one other)
 vector_refuses_neither one other n m e (inl o) = n e o
 vector_refuses_neither one other n m e (inr o) = m e o
+
+-- a vector of the octets, or a refusal that is none of a writer
+pub vector_done : {A : Type 0} (written o : List ℕ) → written ≡ o → (r : Result (Vec ℕ A) SerializeError) → IfOk r (λ v. v.items ≡ written) → IfErr r (MayRefuse true (length written)) → IfErr r (λ e. tells_of_io e ≡ false) → MatchResult r (λ v. v.items ≡ o) (IsMemoryOrLength o)
+vector_done written o e (Ok v) w m io = w ∙ e
+vector_done written o e (Err (refusals.ASN1Error f)) w m io = absurd m
+vector_done written o e (Err (refusals.InvalidClass k)) w m io = absurd m
+vector_done written o e (Err refusals.InvalidLength) w m io = inr (refl, omega (arith, m, ap length e))
+vector_done written o e (Err (refusals.IOError f)) w m io = cc
+vector_done written o e (Err refusals.OutOfMemory) w m io = inl refl
+
+pub plain_vector : {A : Type 0} (r : Result A SerializeError) (n : ℕ) (one other : SerializeError → Type 0) → HasNone one → HasNone other → IfErr r (VectorRefuses n (Either one other)) → IfErr r (MayRefuse true n)
+plain_vector (Ok v) n one other a b h = tt
+plain_vector (Err e) n one other a b (inl m) = m
+plain_vector (Err e) n one other a b (inr (f, inl o, w)) = absurd (a f o)
+plain_vector (Err e) n one other a b (inr (f, inr o, w)) = absurd (b f o)
+
+-- a vector of octets that fit in memory is refused for want of it alone
+pub vector_fits : {A : Type 0} (P : A → Type 0) (o : List ℕ) (r : Result A SerializeError) → length o < 2 ^ 64 → MatchResult r P (IsMemoryOrLength o) → MatchResult r P (λ e. e ≡ refusals.OutOfMemory)
+vector_fits P o (Ok v) l h = h
+vector_fits P o (Err e) l (inl m) = m
+vector_fits P o (Err e) l (inr h) = absurd (omega (arith, h.1, l))

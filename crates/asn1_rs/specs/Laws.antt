@@ -2,6 +2,7 @@ pub mod Elements
 pub mod Headers
 pub mod Words
 pub mod Forms
+pub mod Beginnings
 pub mod Any
 pub mod Element
 pub mod Kinds

@@ -15,13 +15,8 @@ use Rattle.asn1_rs.specs.Error.{FlattenedTo}
 use Rattle.asn1_rs.specs.Form.{IsStrict}
 use Rattle.asn1_rs.specs.Grammar.{DerGives, BerWord, DerWord, NoCheck}
 use Rattle.asn1_rs.specs.ItemGrammar.{ItemGrammar}
-use Rattle.asn1_rs.specs.Items.{TakesItem}
+use Rattle.asn1_rs.specs.Items.{TakesItem, IsJoined}
 use Rattle.asn1_rs.specs.Laws.Forms.{UniversalForm}
-
--- the octets are words of the grammar with these values, joined in their order
-abbrev pub IsJoined : {V : Type 0} → (List ℕ → V → Type 0) → List ℕ → List V → Type 0
-IsJoined G octets [] = octets ≡ []
-IsJoined G octets (v ∷ vs) = (word : List ℕ) × (rest : List ℕ) × G word v × (octets ≡ word ++ rest) × IsJoined G rest vs
 
 -- strings, one after another
 abbrev pub joining : List (List ℕ) → List ℕ

@@ -61,6 +61,10 @@ MayRefuse takes_memory n refusals.InvalidLength = 2 ^ 64 ≤ n
 MayRefuse takes_memory n (refusals.IOError e) = ⊤
 MayRefuse takes_memory n refusals.OutOfMemory = IsTrue takes_memory
 
+-- want of memory, or a length past what 64 bits hold
+abbrev pub IsMemoryOrLength : List ℕ → SerializeError → Type 0
+IsMemoryOrLength octets e = (e ≡ refusals.OutOfMemory) ⊎ ((e ≡ refusals.InvalidLength) × (2 ^ 64 ≤ length octets))
+
 -- why counting n octets may be refused
 abbrev pub MayRefuseCount : Bool → ℕ → Error → Type 0
 MayRefuseCount takes_memory n faults.InvalidLength = 2 ^ 64 ≤ n

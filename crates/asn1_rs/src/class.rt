@@ -1,6 +1,7 @@
 //! Classes of tags (X.690 8.1.2.2).
 ghost use Rattle.std.specs.Prelude.{◌≡◌, ◌≢◌, Some, MatchResult};
 ghost use Rattle.asn1_rs.specs.Class.{class_number, class_text, ClassOf};
+ghost use Rattle.asn1_rs.specs.declared.class.Class.TheVariants as classes;
 ghost use Rattle.asn1_rs.specs.declared.error.Error.TheVariants as faults;
 
 use crate::error::Error;
@@ -44,18 +45,23 @@ impl Class {
         }
     }
 
-    /// The number of the class.
+    /// The number of the class, which is that of the variant.
     pub(crate) fn number(self) -> u8
         ensures { result ≡ class_number self }
     {
-        match self {
-            Class::Universal => 0,
-            Class::Application => 1,
-            Class::ContextSpecific => 2,
-            Class::Private => 3,
-        }
+        self as u8
     }
 }
+
+/// Each constant has the number of its class (X.690 8.1.2.2, table 1), as `class as u8` has.
+///
+/// A law: nothing runs.
+pub fn classes_are_numbered()
+    ensures universal { Class.UNIVERSAL ≡ class_number classes.Universal }
+    ensures application { Class.APPLICATION ≡ class_number classes.Application }
+    ensures context_specific { Class.CONTEXT_SPECIFIC ≡ class_number classes.ContextSpecific }
+    ensures private { Class.PRIVATE ≡ class_number classes.Private }
+{}
 
 impl TryFrom<u8> for Class {
     type Error = BerClassFromIntError;

@@ -2,7 +2,7 @@
 //!
 //! No code calls the law traits: they have no functions. A type whose laws are proved can be read by [`read_ber`] and
 //! [`read_der`] and written by [`write_strict`], alone or nested in lists, sets and tags.
-ghost use Rattle.std.specs.Prelude.{ℕ, Bool, List, ◌≡◌, ◌++◌, ◌<◌, ◌^◌, ◌↔◌, ◌||◌, false, length, Result, Ok, Err, IsTrue, IfErr, MatchResult};
+ghost use Rattle.std.specs.Prelude.{ℕ, Bool, List, ◌≡◌, ◌++◌, ◌<◌, ◌^◌, ◌↔◌, ◌||◌, false, length, Result, Ok, Err, IsTrue, IfOk, IfErr, MatchResult};
 ghost use Rattle.std.specs.Borrow.{Bor};
 ghost use Rattle.std.specs.Io.KnownBytes.{Appends};
 ghost use Rattle.x690.specs.Octets.{IsOctets};
@@ -23,7 +23,7 @@ ghost use Rattle.asn1_rs.specs.Grammar.{max_depth, NoCheck, PassesAll, BerWord, 
 ghost use Rattle.asn1_rs.specs.ItemGrammar.{ItemGrammar, IsLawfulItem};
 ghost use Rattle.asn1_rs.specs.Kinds.{IsExactCheck};
 ghost use Rattle.asn1_rs.specs.Error.{HeldIn};
-ghost use Rattle.asn1_rs.specs.Wrote.{Wrote, MayRefuse, IsWritable, some_takes};
+ghost use Rattle.asn1_rs.specs.Wrote.{Wrote, MayRefuse, IsMemoryOrLength, IsWritable, some_takes};
 ghost use Rattle.asn1_rs.specs.declared.header.Header.{Header as Head};
 ghost use Rattle.asn1_rs.specs.declared.asn1_types.any.Any.{Any as Element};
 ghost use Rattle.asn1_rs.specs.Header.{refusal_of, HeaderGives};
@@ -99,7 +99,7 @@ pub trait LawfulBer<'a, E: From<Error>>: FromBer<'a, E> + LawfulItem {
     ghost ber_exact: { (input : List ℕ) (answer : Result (List ℕ × Self) (Refusal E)) → IsOctets input →
         Self.ber_gives input answer →
         Exactly EndsWithin Self.grammar.Ber Self.grammar.value
-            (TellsMemory Self.grammar.takes_memory E.from_gives) input answer };
+        (TellsMemory Self.grammar.takes_memory E.from_gives) input answer };
 
     /// Where the type takes no memory, no refusal tells of want of it.
     ghost ber_spares: { Self.grammar.takes_memory ≡ false →
@@ -113,7 +113,7 @@ pub trait LawfulDer<'a, E: From<Error>>: FromDer<'a, E> + LawfulItem {
     ghost der_exact: { (input : List ℕ) (answer : Result (List ℕ × Self) (Refusal E)) → IsOctets input →
         Self.der_gives input answer →
         Exactly IsCutIdentifier Self.grammar.Der Self.grammar.value
-            (TellsMemory Self.grammar.takes_memory E.from_gives) input answer };
+        (TellsMemory Self.grammar.takes_memory E.from_gives) input answer };
 
     /// Where the type takes no memory, no refusal tells of want of it.
     ghost der_spares: { Self.grammar.takes_memory ≡ false →
@@ -167,15 +167,15 @@ where
 {
     ghost der_exact = { λ input answer octets.
         element_exact IsDefiniteElement DefiniteElementFault IsCutIdentifier der_elements
-            (faults.DerConstraintFailed constraints.IndefiniteLength)
-            T.check_gives T.any_gives E.from_gives T.grammar.Check T.grammar.Body T.grammar.value
-            T.grammar.takes_memory T.grammar.Der T.checks.exact T.body_exact T.der_split T.der_join
-            input answer };
+        (faults.DerConstraintFailed constraints.IndefiniteLength)
+        T.check_gives T.any_gives E.from_gives T.grammar.Check T.grammar.Body T.grammar.value
+        T.grammar.takes_memory T.grammar.Der T.checks.exact T.body_exact T.der_split T.der_join
+        input answer };
 
     ghost der_spares = { λ none.
         element_spares IsDefiniteElement DefiniteElementFault
-            (faults.DerConstraintFailed constraints.IndefiniteLength) no_indefinite_length_spares
-            T.check_gives T.any_gives E.from_gives T.checks.spares (T.body_spares none) };
+        (faults.DerConstraintFailed constraints.IndefiniteLength) no_indefinite_length_spares
+        T.check_gives T.any_gives E.from_gives T.checks.spares (T.body_spares none) };
 }
 
 impl<'a, T, E: From<Error>> LawfulBer<'a, E> for T
@@ -184,13 +184,13 @@ where
 {
     ghost ber_exact = { λ input answer octets.
         element_exact (IsElement max_depth) (ElementFault max_depth) EndsWithin ber_elements
-            faults.ConstructExpected PassesAll T.any_gives E.from_gives NoCheck T.grammar.Body
-            T.grammar.value T.grammar.takes_memory T.grammar.Ber passes_all T.body_exact T.ber_split
-            T.ber_join input answer };
+        faults.ConstructExpected PassesAll T.any_gives E.from_gives NoCheck T.grammar.Body
+        T.grammar.value T.grammar.takes_memory T.grammar.Ber passes_all T.body_exact T.ber_split
+        T.ber_join input answer };
 
     ghost ber_spares = { λ none.
         element_spares (IsElement max_depth) (ElementFault max_depth) faults.ConstructExpected
-            construct_expected_spares PassesAll T.any_gives E.from_gives all_pass (T.body_spares none) };
+        construct_expected_spares PassesAll T.any_gives E.from_gives all_pass (T.body_spares none) };
 }
 
 /// Reads a value of a lawful type by BER.
@@ -244,17 +244,17 @@ pub fn write_strict<T: LawfulWrite, W: DerWrite>(
         length (T.header x.now ++ T.content x.now) < 2 ^ 64 → W.failed w.new ≡ false →
         ∥ IsStrict T.grammar.Form (T.grammar.value x.now) (T.header x.now ++ T.content x.now) ∥₁ ×
         MatchResult result
-            (λ n. Appends (W.told w.old) (W.told w.new) (T.header x.now ++ T.content x.now) ×
-                (n ≡ length (T.header x.now ++ T.content x.now)))
-            (λ e. (e ≡ refusals.OutOfMemory) ×
-                IsTrue (some_takes T.write_takes_memory T.count_takes_memory T.content_takes_memory)) }
+        (λ n. Appends (W.told w.old) (W.told w.new) (T.header x.now ++ T.content x.now) ×
+        (n ≡ length (T.header x.now ++ T.content x.now)))
+        (λ e. (e ≡ refusals.OutOfMemory) ×
+        IsTrue (some_takes T.write_takes_memory T.count_takes_memory T.content_takes_memory)) }
     ensures wrote { (o : List ℕ) → IsStrict T.grammar.Form (T.grammar.value x.now) o →
         Wrote o (W.told w.old) (W.told w.new) (W.failed w.old) (W.failed w.new) result }
     ensures plain { Wrote (T.header x.now ++ T.content x.now)
         (W.told w.old) (W.told w.new) (W.failed w.old) (W.failed w.new) result }
     ensures refused { (o : List ℕ) → IsStrict T.grammar.Form (T.grammar.value x.now) o →
         IfErr result (MayRefuse
-            (some_takes T.write_takes_memory T.count_takes_memory T.content_takes_memory) (length o)) }
+        (some_takes T.write_takes_memory T.count_takes_memory T.content_takes_memory) (length o)) }
     ensures one { (o p : List ℕ) → IsStrict T.grammar.Form (T.grammar.value x.now) o →
         IsStrict T.grammar.Form (T.grammar.value x.now) p → o ≡ p }
     ensures apart { (o p r s : List ℕ) (v w : T.grammar.Value) →
@@ -262,6 +262,29 @@ pub fn write_strict<T: LawfulWrite, W: DerWrite>(
         (o ≡ p) × (v ≡ w) × (r ≡ s) }
 {
     x.write_der(alloc, w)
+}
+
+/// The one strict encoding of a value in DER form, in a vector.
+///
+/// No other value has it, and it begins no other one. Refused only for want of memory, or where the length passes
+/// `usize`. For other values too the vector has the octets of header and contents, as [`ToDer::to_der_vec`] gives them.
+pub fn strict_vec<T: LawfulWrite>(alloc: Global, x: &T) -> SerializeResult<Vec<u8>>
+    ensures headline { T.grammar.IsDer (T.grammar.value x.now) →
+        length (T.header x.now ++ T.content x.now) < 2 ^ 64 →
+        ∥ IsStrict T.grammar.Form (T.grammar.value x.now) (T.header x.now ++ T.content x.now) ∥₁ ×
+        MatchResult result
+        (λ octets. octets.items ≡ T.header x.now ++ T.content x.now)
+        (λ e. e ≡ refusals.OutOfMemory) }
+    ensures strict { (o : List ℕ) → IsStrict T.grammar.Form (T.grammar.value x.now) o →
+        MatchResult result (λ octets. octets.items ≡ o) (IsMemoryOrLength o) }
+    ensures plain { IfOk result (λ octets. octets.items ≡ T.header x.now ++ T.content x.now) }
+    ensures one { (o p : List ℕ) → IsStrict T.grammar.Form (T.grammar.value x.now) o →
+        IsStrict T.grammar.Form (T.grammar.value x.now) p → o ≡ p }
+    ensures apart { (o p r s : List ℕ) (v w : T.grammar.Value) →
+        IsStrict T.grammar.Form v o → IsStrict T.grammar.Form w p → o ++ r ≡ p ++ s →
+        (o ≡ p) × (v ≡ w) × (r ≡ s) }
+{
+    x.to_der_vec(alloc)
 }
 
 /// The answers of the readers of headers and of elements, by DER and by BER, and of contents octets by BER are what the

@@ -10,6 +10,7 @@ mod header_reading;
 mod header_writing;
 mod kinds;
 mod kinds_writing;
+mod law_functions;
 mod laws;
 mod length;
 mod length_writing;
@@ -22,12 +23,12 @@ pub use asn1_types::any::Any;
 pub use asn1_types::integer::integers_have_one_refusal;
 pub use asn1_types::items::FromItems;
 pub use asn1_types::sequence_iterator::{
-    ReadsItems, SequenceIterator, SetIterator, indefinite_contents_are_walked, walks_by_ber,
-    walks_by_der, walks_end,
+    ReadsItems, ReadsWords, SequenceIterator, SetIterator, indefinite_contents_are_walked,
+    walks_end, walks_take_words,
 };
 pub use asn1_types::set_of::SetOf;
 pub use ber::{GetObjectContent, MAX_RECURSION, Steps, any_from_ber_counted};
-pub use class::{BerClassFromIntError, Class};
+pub use class::{BerClassFromIntError, Class, classes_are_numbered};
 pub use error::{
     DerConstraint, Err, Error, IResult, Needed, ParseResult, SerializeError, SerializeResult,
     from_nom_error,
@@ -35,13 +36,17 @@ pub use error::{
 pub use header::Header;
 pub use kinds::{ElementKind, HasKind, LawfulConversion, LawfulElement};
 pub use kinds_writing::{WritesOctets, WritesPrimitive};
+pub use law_functions::{
+    beginnings_are_refused, counts_are_of_the_strict_encoding, reader_is_exact_by_ber,
+    reader_is_exact_by_der, strict_fronts_are_written_again, words_and_values_are_unique,
+};
 pub use laws::{
     Grammar, LawfulAuto, LawfulBer, LawfulBody, LawfulCheck, LawfulDer, LawfulItem, LawfulMember,
-    LawfulTagged, LawfulWrite, TakesClass, answers_last, any_is_the_element, beginnings_are_incomplete,
-    one_refusal, read_ber, read_der, write_strict,
+    LawfulTagged, LawfulWrite, TakesClass, answers_last, any_is_the_element,
+    beginnings_are_incomplete, one_refusal, read_ber, read_der, strict_vec, write_strict,
 };
 pub use length::Length;
-pub use tag::Tag;
+pub use tag::{Tag, universal_types_are_numbered};
 pub use to_der::ToDer;
 pub use traits::{
     ASN1Parser, BerParser, CheckDerConstraints, DerAutoDerive, DerParser, DynTagged, FromAny,

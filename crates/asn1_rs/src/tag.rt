@@ -169,6 +169,42 @@ impl Tag {
     }
 }
 
+/// Each constant has the number of its universal type (X.680 8.6, table 1).
+///
+/// A law: nothing runs.
+pub fn universal_types_are_numbered()
+    ensures end_of_content { (Tag.EndOfContent).0 ≡ 0 }
+    ensures boolean { (Tag.Boolean).0 ≡ 1 }
+    ensures integer { (Tag.Integer).0 ≡ 2 }
+    ensures bit_string { (Tag.BitString).0 ≡ 3 }
+    ensures octet_string { (Tag.OctetString).0 ≡ 4 }
+    ensures null { (Tag.Null).0 ≡ 5 }
+    ensures oid { (Tag.Oid).0 ≡ 6 }
+    ensures object_descriptor { (Tag.ObjectDescriptor).0 ≡ 7 }
+    ensures external { (Tag.External).0 ≡ 8 }
+    ensures real_type { (Tag.RealType).0 ≡ 9 }
+    ensures enumerated { (Tag.Enumerated).0 ≡ 10 }
+    ensures embedded_pdv { (Tag.EmbeddedPdv).0 ≡ 11 }
+    ensures utf8_string { (Tag.Utf8String).0 ≡ 12 }
+    ensures relative_oid { (Tag.RelativeOid).0 ≡ 13 }
+    ensures sequence { (Tag.Sequence).0 ≡ 16 }
+    ensures set { (Tag.Set).0 ≡ 17 }
+    ensures numeric_string { (Tag.NumericString).0 ≡ 18 }
+    ensures printable_string { (Tag.PrintableString).0 ≡ 19 }
+    ensures teletex_string { (Tag.TeletexString).0 ≡ 20 }
+    ensures t61_string { (Tag.T61String).0 ≡ 20 }
+    ensures videotex_string { (Tag.VideotexString).0 ≡ 21 }
+    ensures ia5_string { (Tag.Ia5String).0 ≡ 22 }
+    ensures utc_time { (Tag.UtcTime).0 ≡ 23 }
+    ensures generalized_time { (Tag.GeneralizedTime).0 ≡ 24 }
+    ensures graphic_string { (Tag.GraphicString).0 ≡ 25 }
+    ensures visible_string { (Tag.VisibleString).0 ≡ 26 }
+    ensures general_string { (Tag.GeneralString).0 ≡ 27 }
+    ensures universal_string { (Tag.UniversalString).0 ≡ 28 }
+    ensures character_string { (Tag.CharacterString).0 ≡ 29 }
+    ensures bmp_string { (Tag.BmpString).0 ≡ 30 }
+{}
+
 impl From<u32> for Tag {
     ghost from_gives = { λ number tag. tag.0 ≡ number };
 

@@ -1,8 +1,18 @@
-//! Callers.
+//! Callers of `asn1_rs`: how its theorems reach the contracts of a crate above.
+//!
+//! A caller names a law at its types, as `reader_is_exact_by_der::<u64, Error>()`, and cites what it says.
 #![tactic(auto)]
 
+mod elements;
 mod fingerprint;
+mod items;
+mod numbers;
 mod serial_number;
 
+pub use elements::{read_element, read_header};
 pub use fingerprint::Fingerprint;
+pub use items::{count_of_numbers, items_in, numbers_in};
+pub use numbers::{
+    count_number, is_same_number, is_strict_front, read_number, read_number_by_ber, write_number,
+};
 pub use serial_number::SerialNumber;

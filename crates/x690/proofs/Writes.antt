@@ -1,14 +1,14 @@
 -- Digits and first octets written into places.
-use Rattle.std.proofs.Common.{◌≡◌, ℕ, ◌+◌, ◌/◌, ◌%◌, ◌<◌, ◌≤◌, List, [], ◌∷◌, ◌++◌, length, map, take, drop, refl, sym, ap, ◌∙◌, arith, inl, inr, append_assoc, length-append, length-drop, zero-add}
+use Rattle.std.proofs.Common.{◌≡◌, ℕ, ◌+◌, ◌/◌, ◌%◌, ◌<◌, ◌≤◌, List, [], ◌∷◌, ◌++◌, length, map, take, drop, refl, sym, ap, ◌∙◌, arith, inl, inr, append_assoc, length-append, length-drop, zero-add, append-nil, drop-drop}
 use Rattle.std.proofs.Math.ListN.{set, length-set}
 use Rattle.std.proofs.Math.Seq.{take-append-add}
 use Rattle.std.proofs.Math.Nat.{pow-zero}
 use Rattle.std.specs.Int.Digits.{digits_of}
 use Rattle.std.proofs.lemmas.Bool.{cases_lt}
 use Rattle.std.proofs.lemmas.Int.Digits.{digits_of_step, length-digits_of_step, length-digits_of-le}
-use Rattle.std.proofs.lemmas.List.{map_push, drop-set, take_more_set, length-take, take-append-le}
-use Rattle.std.proofs.lemmas.Slice.{take-put_mid}
-use borrow.Rule.Slice.PartMut.{put_mid}
+use Rattle.std.proofs.lemmas.List.{map_push, drop-set, drop-set-lt, take_more_set, drop_all, drop_at, take_all, length-take-le, length-take, take-append-le}
+use Rattle.std.proofs.lemmas.Slice.{take-put_mid, drop-put_mid}
+use borrow.Rule.Slice.PartMut.{put_mid, mid_of}
 
 -- a number with digits is not 0
 some_number : (base n : ℕ) → 2 ≤ base → 1 ≤ length (digits_of base n) → 0 < n
@@ -67,3 +67,28 @@ and_last j k v w xs ys i h e =
 pub both_fronts : (a b : ℕ) (xs ys zs : List ℕ) → length xs ≡ a → b ≤ length ys → take (a + b) (xs ++ (ys ++ zs)) ≡ xs ++ take b ys
 both_fronts a b xs ys zs e h =
     ap (λ n. take (n + b) (xs ++ (ys ++ zs))) (sym e) ∙ take-append-add xs (ys ++ zs) b ∙ ap (λ (ws : List ℕ). xs ++ ws) (take-append-le b ys zs h)
+
+-- what stands behind the first octet, behind those that were written after it, and behind one last octet
+pub behind_first : (j k v : ℕ) (xs ys : List ℕ) → j ≡ k → 1 + k ≤ length xs → length ys ≡ k → drop (1 + k) (put_mid 1 j (set xs 0 v) ys) ≡ drop (1 + k) xs
+behind_first j k v xs ys i h e = drop-put_mid 1 j (set xs 0 v) ys (1 + k) (omega arith) (omega (arith, length-set xs 0 v)) (omega arith) ∙ drop-set-lt (1 + k) xs 0 v (omega arith)
+
+pub behind_last : (j k v w : ℕ) (xs ys : List ℕ) → j ≡ k → 2 + k ≤ length xs → length ys ≡ k → drop (2 + k) (set (put_mid 1 j (set xs 0 v) ys) (1 + k) w) ≡ drop (2 + k) xs
+behind_last j k v w xs ys i h e =
+    drop-set-lt (2 + k) (put_mid 1 j (set xs 0 v) ys) (1 + k) w (omega arith)
+    ∙ drop-put_mid 1 j (set xs 0 v) ys (2 + k) (omega arith) (omega (arith, length-set xs 0 v)) (omega arith)
+    ∙ drop-set-lt (2 + k) xs 0 v (omega arith)
+
+-- what stands behind octets that were written into what follows others, where what stands behind each of them stays
+pub behind_both : (a b j : ℕ) (old xs ys : List ℕ) → a + j ≡ length xs → drop a xs ≡ drop a old → drop b ys ≡ drop b (mid_of a j xs) → length ys ≡ j → b ≤ j → drop (a + b) (put_mid a j xs ys) ≡ drop (a + b) old
+behind_both a b j old xs ys h first second l few =
+    let front : length (take a xs) ≡ a = length-take-le a xs (omega arith) in
+    let rest : length (drop a xs) ≤ j = omega (arith, length-drop a xs) in
+    let none : drop j (drop a xs) ≡ [] = drop_all j (drop a xs) rest in
+    let whole : take j (drop a xs) ≡ drop a xs = take_all j (drop a xs) rest in
+    sym (drop-drop b a (put_mid a j xs ys))
+    ∙ ap (λ (zs : List ℕ). drop b zs) (drop_at (take a xs) (ys ++ drop j (drop a xs)) a front)
+    ∙ ap (λ (zs : List ℕ). drop b (ys ++ zs)) none
+    ∙ ap (λ (zs : List ℕ). drop b zs) (append-nil ys)
+    ∙ second
+    ∙ ap (λ (zs : List ℕ). drop b zs) (whole ∙ first)
+    ∙ drop-drop b a old

@@ -1,6 +1,6 @@
 //! Numbers and the octets that are their digits, with no memory but what the caller lends.
 
-ghost use Rattle.std.specs.Prelude.{ℕ, ◌≡◌, ◌+◌, ◌*◌, ◌<◌, ◌≤◌, ◌^◌, Bool, length, map, take, IfSome, IfNone};
+ghost use Rattle.std.specs.Prelude.{ℕ, ◌≡◌, ◌+◌, ◌*◌, ◌<◌, ◌≤◌, ◌^◌, Bool, length, map, take, drop, IfSome, IfNone};
 ghost use Rattle.std.specs.Int.Digits.{digits_of};
 ghost use Rattle.x690.specs.Digits.{base_256_value, base_128_value};
 ghost use Rattle.x690.specs.Identifiers.{AreTagDigits, bit};
@@ -128,6 +128,7 @@ fn write_identifier(class: u8, constructed: bool, number: u32, out: &mut [u8]) -
     requires class { class < 4 }
     requires room { 6 ≤ length out.old }
     ensures written { take result out.new ≡ identifier_octets (record { class = class; constructed = constructed; number = number }) }
+    ensures kept { drop result out.new ≡ drop result out.old }
     ensures few { result ≤ 6 }
 {
     let high = high_bits(class, constructed);
@@ -146,6 +147,7 @@ fn write_identifier(class: u8, constructed: bool, number: u32, out: &mut [u8]) -
 fn write_length(n: usize, out: &mut [u8]) -> usize
     requires { 9 ≤ length out.old }
     ensures written { take result out.new ≡ length_octets n }
+    ensures kept { drop result out.new ≡ drop result out.old }
     ensures few { result ≤ 9 }
 {
     if n < 128 {
@@ -158,28 +160,33 @@ fn write_length(n: usize, out: &mut [u8]) -> usize
     1 + count
 }
 
-/// Writes the strict identifier octets, and says how many they are: one to six (X.690 8.1.2.2, 8.1.2.4).
+/// Writes the strict identifier octets at the front, and says how many they are: one to six (X.690 8.1.2.2, 8.1.2.4).
+/// What stands behind them stays.
 pub fn identifier_into(class: u8, constructed: bool, number: u32, out: &mut [u8; 6]) -> usize
     requires { class < 4 }
     ensures written { take result out.new ≡ identifier_octets (record { class = class; constructed = constructed; number = number }) }
+    ensures kept { drop result out.new ≡ drop result out.old }
     ensures few { result ≤ 6 }
 {
     write_identifier(class, constructed, number, out)
 }
 
-/// Writes the strict length octets, and says how many they are: one to nine (X.690 8.1.3.4, 8.1.3.5, 10.1).
+/// Writes the strict length octets at the front, and says how many they are: one to nine (X.690 8.1.3.4, 8.1.3.5,
+/// 10.1). What stands behind them stays.
 pub fn length_into(n: usize, out: &mut [u8; 9]) -> usize
     ensures written { take result out.new ≡ length_octets n }
+    ensures kept { drop result out.new ≡ drop result out.old }
     ensures few { result ≤ 9 }
 {
     write_length(n, out)
 }
 
-/// Writes the strict header of an element whose contents are n octets, and says how many octets it has: two to
-/// fifteen (X.690 8.1.2, 8.1.3, 10.1).
+/// Writes the strict header of an element whose contents are n octets at the front, and says how many octets it has: two
+/// to fifteen (X.690 8.1.2, 8.1.3, 10.1). What stands behind them stays.
 pub fn header_into(class: u8, constructed: bool, number: u32, n: usize, out: &mut [u8; 15]) -> usize
     requires { class < 4 }
     ensures written { take result out.new ≡ header_octets class constructed number n }
+    ensures kept { drop result out.new ≡ drop result out.old }
     ensures few { result ≤ 15 }
 {
     let front = write_identifier(class, constructed, number, out);

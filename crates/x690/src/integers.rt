@@ -1,6 +1,6 @@
 //! Contents octets of integers (X.690 8.3).
 
-ghost use Rattle.std.specs.Prelude.{ℕ, ◌≡◌, ◌<◌, ◌≤◌, ◌^◌, List, length, get_or, drop, pos, ℤ, IfSome, IfNone, IsTrue, ◌↔◌};
+ghost use Rattle.std.specs.Prelude.{ℕ, ◌≡◌, ◌<◌, ◌≤◌, ◌^◌, List, length, get_or, take, drop, pos, ℤ, IfSome, IfNone, IsTrue, ◌↔◌};
 ghost use Rattle.x690.specs.Digits.{base_256_value};
 ghost use Rattle.x690.specs.Integers.{HasSpareZeros, HasSpareOnes, IsIntegerContent, HasNoLeadingZero, unsigned_octets};
 ghost use Rattle.x690.specs.SignedOctets.{signed_octets};
@@ -54,9 +54,10 @@ pub fn unsigned_octets_count(n: u128) -> usize
 }
 
 /// Writes the strict contents octets of a natural number to the end of the array, and says where they begin
-/// (X.690 8.3.2, 8.3.3).
+/// (X.690 8.3.2, 8.3.3). What stands before them stays.
 pub fn unsigned_into(n: u128, out: &mut [u8; 17]) -> usize
     ensures octets { drop result out.new ≡ unsigned_octets n }
+    ensures kept { take result out.new ≡ take result out.old }
     ensures within { result ≤ 16 }
 {
     let mut at = 16;

@@ -1,6 +1,6 @@
 //! Contents octets of integers of either sign (X.690 8.3).
 
-ghost use Rattle.std.specs.Prelude.{ℕ, ℤ, List, ◌≡◌, ◌<◌, ◌≤◌, ◌⊎◌, ◌↔◌, length, get_or, map, drop, pos, negsuc, IfSome, IfNone, IsTrue};
+ghost use Rattle.std.specs.Prelude.{ℕ, ℤ, List, ◌≡◌, ◌<◌, ◌≤◌, ◌⊎◌, ◌↔◌, length, get_or, map, take, drop, pos, negsuc, IfSome, IfNone, IsTrue};
 ghost use Rattle.x690.specs.Octets.{IsOctets};
 ghost use Rattle.x690.specs.Digits.{twos_complement_value};
 ghost use Rattle.x690.specs.Integers.{HasSpareZeros, HasSpareOnes};
@@ -74,9 +74,10 @@ fn turn_over(octets: &mut [u8])
 }
 
 /// Writes the strict contents octets of an integer to the end of the array, and says where they begin
-/// (X.690 8.3.2, 8.3.3).
+/// (X.690 8.3.2, 8.3.3). What stands before them stays.
 pub fn signed_into(n: i128, out: &mut [u8; 17]) -> usize
     ensures octets { drop result out.new ≡ signed_octets n }
+    ensures kept { take result out.new ≡ take result out.old }
     ensures within { result ≤ 16 }
 {
     let at = unsigned_into(without_sign(n), out);

@@ -1,11 +1,12 @@
 -- Strict parts, and what is written.
-use Rattle.std.specs.Prelude.{◌≡◌, ℕ, ◌<◌, ◌^◌, Bool, false, List, ◌++◌, length}
+use Rattle.std.specs.Prelude.{◌≡◌, ℕ, ◌<◌, ◌^◌, ◌↔◌, Bool, false, List, ◌++◌, length}
 use Rattle.std.proofs.Common.{sym, ap, refl, subst, ◌∙◌, arith, length-append}
 use mathlib.Core.Logic.{∥∥₁_map}
 use Rattle.x690.specs.Octets.{IsOctets}
 use Rattle.x690.specs.Identifiers.{Identifier}
 use Rattle.x690.specs.Strict.{header_octets}
-use Rattle.x690.specs.Laws.StrictElements.{strict_element_octets, made_strict_element}
+use Rattle.x690.specs.Elements.{IsStrictElement}
+use Rattle.x690.specs.Laws.StrictElements.{strict_element_octets, element_octets, made_strict_element}
 use Rattle.asn1_rs.specs.Wrote.{IsWritable}
 use Rattle.asn1_rs.specs.Form.{IsOneForm, IsOneValue, FitsElement, IsStrict}
 use Rattle.asn1_rs.specs.Grammar.{FormTakes, FormNumber}
@@ -73,8 +74,29 @@ pub der_strict : {S V : Type 0} (value : S → V) (IsDer : V → Type 0) (Form :
     (x : S) → IsDer (value x) → length (header x ++ content x) < 2 ^ 64 → ∥ IsStrict Form (value x) (header x ++ content x) ∥₁
 der_strict value IsDer Form is_writable constructed header content writes has fits x d l =
     ∥∥₁_map (has x d l) (λ f.
-      let short : length (content x) < 2 ^ 64 = omega (arith, length-append (header x) (content x), l) in
-      subst (λ (h : List ℕ). IsStrict Form (value x) (h ++ content x)) (sym (writes x f.0 (content x) f.1).3) (strict_made Form fits (value x) f.0 (content x) f.1 short))
+    let short : length (content x) < 2 ^ 64 = omega (arith, length-append (header x) (content x), l) in
+    subst (λ (h : List ℕ). IsStrict Form (value x) (h ++ content x)) (sym (writes x f.0 (content x) f.1).3) (strict_made Form fits (value x) f.0 (content x) f.1 short))
+
+-- Octets are strict for a value that has strict parts exactly where they are what is written of it.
+pub strict_where_written : {S V : Type 0} (value : S → V) (Form : V → Identifier → List ℕ → Type 0) (is_writable : S → Type 0) (constructed : S → Bool) (header content : S → List ℕ) → FitsElement Form → WritesForm value Form is_writable constructed header content →
+    (x : S) (i : Identifier) (c w : List ℕ) → Form (value x) i c → length w < 2 ^ 64 → IsStrict Form (value x) w ↔ (w ≡ header x ++ content x)
+strict_where_written value Form is_writable constructed header content fits law x i c w f l = (
+  λ s. sym (strict_written value Form is_writable constructed header content law x w s).1,
+  λ e.
+      let h = law x i c f in
+      let k = fits (value x) i c f in
+      let is : w ≡ element_octets i c = e ∙ ap (λ (a : List ℕ). a ++ content x) h.3 ∙ ap (λ (b : List ℕ). header_of i c ++ b) h.2 in
+      let short : length c < 2 ^ 64 = omega (arith, ap length is, length-append (header_of i c) c, l) in
+      let strict : IsStrict Form (value x) w = record { id = i; content = c; form = f; element = subst (λ (o : List ℕ). IsStrictElement o i c) (sym is) (made_strict_element i c k.0 k.1 short k.2) } in
+      strict,
+)
+
+-- What is counted of a value that has a strict encoding is that encoding, and so is the constructed bit.
+pub strict_counted : {S V : Type 0} (value : S → V) (Form : V → Identifier → List ℕ → Type 0) (is_writable : S → Type 0) (constructed : S → Bool) (header content : S → List ℕ) → WritesForm value Form is_writable constructed header content →
+    (x : S) (o : List ℕ) (s : IsStrict Form (value x) o) → (length (header x ++ content x) ≡ length o) × (length (content x) ≡ length s.content) × (constructed x ≡ s.id.constructed)
+strict_counted value Form is_writable constructed header content law x o s =
+    let h = law x s.id s.content s.form in
+    (ap length (strict_written value Form is_writable constructed header content law x o s).1, ap length h.2, h.1)
 
 -- a value that has no refusals of its own
 abbrev pub NothingRefused : Type 0

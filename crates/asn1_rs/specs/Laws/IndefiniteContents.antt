@@ -1,5 +1,5 @@
 -- Walks over the contents octets of elements of indefinite length.
-use Rattle.std.proofs.Common.{◌≡◌, sym, subst, refl, ℕ, ◌≤◌, false, List, [], ◌∷◌}
+use Rattle.std.proofs.Common.{◌≡◌, ◌∙◌, sym, subst, refl, ℕ, ◌≤◌, false, List, [], ◌∷◌}
 use Rattle.std.specs.Prelude.{Result, Ok, Err}
 use Rattle.std.specs.Iterator.{Yields}
 use Rattle.x690.specs.Octets.{IsOctets}
@@ -20,7 +20,7 @@ use Rattle.asn1_rs.specs.Laws.Any.{BerElementGives}
 use Rattle.asn1_rs.specs.Laws.Elements.{ber_elements, element_exact, passes_all}
 use Rattle.asn1_rs.specs.Laws.Items.{whole_walk}
 
-abbrev IsSame : Error → Error → Type 0
+abbrev pub IsSame : Error → Error → Type 0
 IsSame e f = f ≡ e
 
 -- what a reader of elements by BER may answer
@@ -55,10 +55,10 @@ no_end octets (Err e ∷ []) left w = let untold = w.1.0 in cc
 no_end octets (Err e ∷ (a ∷ others)) left w = w
 no_end octets (Ok x ∷ others) left w = w
 
-pub indefinite_walk : (input : List ℕ) (x : List ℕ × Any) (answers : List (Result Any Error)) (left : List ℕ) → BerElementGives input (Ok x) → (parts_of x.1).form ≡ indefinite → Yields (TakesItem ElementsGive IsSame) (parts_of x.1).content answers left → IsWalk (IsElement max_depth) parts_of TellsNothing (parts_of x.1).content answers left
-indefinite_walk input x answers left g f y =
+pub indefinite_walk : (input : List ℕ) (x : List ℕ × Any) (content : List ℕ) (answers : List (Result Any Error)) (left : List ℕ) → BerElementGives input (Ok x) → (parts_of x.1).form ≡ indefinite → content ≡ (parts_of x.1).content → Yields (TakesItem ElementsGive IsSame) content answers left → IsWalk (IsElement max_depth) parts_of TellsNothing content answers left
+indefinite_walk input x content answers left g f e y =
     let n = g.fits.1 in
     let row = indefinite_is_row max_depth g.word (parts_of x.1) g.fits.0 f n in
-    let o = nested_content_is_octets max_depth g.word (parts_of x.1) g.fits.0 n in
-    let w = whole_walk ElementsGive IsSame (IsElement max_depth) parts_of false EndsWithin ber_elements.one elements_exact answers (parts_of x.1).content left o (row.1, row_words row.0 row.1 row.2 row.3 row.4, row.5) y in
+    let o = subst IsOctets (sym e) (nested_content_is_octets max_depth g.word (parts_of x.1) g.fits.0 n) in
+    let w = whole_walk ElementsGive IsSame (IsElement max_depth) parts_of false EndsWithin ber_elements.one elements_exact answers content left o (row.1, row_words row.0 row.1 row.2 row.3 row.4, e ∙ row.5) y in
     record { words = w.words; items = w.items; others = w.others; ends = w.ends; answers_are = w.answers_are; values = w.values; joined = w.joined; end = no_end w.others w.ends left w.end }

@@ -1,9 +1,10 @@
 -- Laws of walks over items.
-use Rattle.std.proofs.Common.{arith, ◌≡◌, ◌≢◌, ◌∙◌, ap, sym, subst, refl, ℕ, ◌+◌, ◌≤◌, inl, inr, Bool, List, [], ◌∷◌, ◌++◌, length, append_assoc, length-append}
+use Rattle.std.proofs.Common.{arith, ◌≡◌, ◌≢◌, ◌∙◌, ap, sym, subst, refl, ℕ, ◌+◌, ◌≤◌, inl, inr, Bool, List, [], ◌∷◌, ◌++◌, length, append_assoc, length-append, append-nil}
 use Rattle.std.proofs.lemmas.List.{append_cancel_left}
-use Rattle.std.specs.Prelude.{Result, Ok, Err, Option}
-use Rattle.std.specs.List.{concat}
+use Rattle.std.specs.Prelude.{Result, Ok, Err, Option, map}
+use Rattle.std.specs.List.{AllZip, concat}
 use Rattle.std.specs.Iterator.{Yields}
+use Rattle.std.specs.Iterator.Runs.{Run, YieldsRun}
 use Rattle.x690.specs.Octets.{IsOctets}
 use Rattle.x690.specs.Laws.Octets.{octets_back}
 use Rattle.asn1_rs.specs.declared.error.Err.{Err as Refusal}
@@ -13,8 +14,14 @@ use Rattle.asn1_rs.specs.declared.error.Error.TheVariants as faults
 use Rattle.asn1_rs.specs.Error.{FlattenedTo}
 use Rattle.asn1_rs.specs.Answers.{Front, NoFront, Exactly, TellsMemory}
 use Rattle.asn1_rs.specs.Grammar.{IsOneFront}
-use Rattle.asn1_rs.specs.Items.{EndsItem, TakesItem, IsWalk, AreJoinedWords, TellsNoWord, TellsMemoryAlone, IsMemory}
+use Rattle.asn1_rs.specs.declared.asn1_types.sequence_iterator.SequenceIterator.{SequenceIterator}
+use Rattle.asn1_rs.specs.Items.{octets_left, EndsItem, TakesItem, WalkSteps, EndsWalk, IsWalk, IsWalkOf, IsJoined, EndsJoined, AreJoinedWords, TellsNoWord, TellsMemoryAlone, IsMemory}
 use Rattle.asn1_rs.specs.Laws.Elements.{none_now}
+
+-- Calls on an iterator are steps over the octets that are left.
+pub octets_walked : {T F E : Type 0} (reads : List ℕ → Result (List ℕ × T) (Refusal E) → Type 0) (from : Error → E → Type 0) (s t : SequenceIterator T F E) (answers : List (Result T E)) → Yields (WalkSteps reads from) s answers t → Yields (TakesItem reads from) (octets_left s) answers (octets_left t)
+octets_walked reads from s t [] y = ap octets_left y
+octets_walked reads from s t (x ∷ answers) (j, step, y) = (octets_left j, step, octets_walked reads from j t answers y)
 
 some_length : (octets : List ℕ) → octets ≢ [] → 1 ≤ length octets
 some_length [] n = absurd (n refl)
@@ -130,3 +137,71 @@ module _ {T V E : Type 0} (reads : List ℕ → Result (List ℕ × T) (Refusal 
       (λ octets rest item k n g. let f = exact octets (Ok (rest, item)) k.0 g in (f, (rest_is_octets octets rest (value item) k.0 f, others_joined octets rest (value item) k.1 f)))
       (λ octets answer e k n g w. elim (end_tells octets answer e k.0 g w) [ inl m ↦ m | inr none ↦ absurd (begins_joined octets n k.1 none) ])
       answers content left (o, a)
+
+-- What holds of a walk over octets holds of the runs of std's consumers.
+pub run_walked : {T F V E : Type 0} (reads : List ℕ → Result (List ℕ × T) (Refusal E) → Type 0) (from : Error → E → Type 0) (G : List ℕ → V → Type 0) (value : T → V) (Tells : List ℕ → E → Type 0)
+    (p : Run {S = SequenceIterator T F E} {A = Result T E} (WalkSteps reads from)) →
+    ((left : List ℕ) → Yields (TakesItem reads from) (octets_left p.from) p.items left → IsWalk G value Tells (octets_left p.from) p.items left) → IsWalkOf G value Tells p
+unfolding YieldsRun
+run_walked reads from G value Tells p walks = let y = p.gave.0 in record {
+  left = octets_left y.0;
+  walk = walks (octets_left y.0) (octets_walked reads from p.from y.0 p.items y.1);
+  whole = λ w. (y.2 w).1.0;
+}
+
+module _ {T V : Type 0} (G : List ℕ → V → Type 0) (value : T → V) where
+  joined_words : (words : List (List ℕ)) (items : List T) (octets : List ℕ) → AllZip (λ word item. G word (value item)) words items → octets ≡ concat words → IsJoined G octets (map value items)
+  joined_words [] [] octets a e = e
+  joined_words [] (x ∷ items) octets a e = absurd a
+  joined_words (w ∷ words) [] octets a e = absurd a
+  joined_words (w ∷ words) (x ∷ items) octets a e = (w, concat words, a.0, e, joined_words words items (concat words) a.1 refl)
+
+-- What a walk gave before it ended, by the items in hand.
+module _ {T V E : Type 0} (G : List ℕ → V → Type 0) (value : T → V) where
+  module _ (Tells : List ℕ → E → Type 0) (others left : List ℕ) where
+    -- items alone are all that was given
+    all_items : (items xs : List T) (ends : List (Result T E)) → map Ok items ≡ map Ok xs ++ ends → EndsWalk Tells others ends left → (xs ≡ items) × (ends ≡ [])
+    all_items [] [] [] e w = (refl, refl)
+    all_items [] [] (a ∷ ends) e w = cc
+    all_items [] (x ∷ xs) ends e w = cc
+    all_items (i ∷ items) [] [] e w = cc
+    all_items (i ∷ items) [] (Ok x ∷ ends) e w = absurd w
+    all_items (i ∷ items) [] (Err f ∷ ends) e w = cc
+    all_items (i ∷ items) (x ∷ xs) ends e w =
+        let same : map Ok items ≡ map Ok xs ++ ends = cc in
+        let r = all_items items xs ends same w in
+        (cc, r.1)
+
+    -- and so are items and a refusal
+    all_before : (items xs : List T) (f : E) (ends : List (Result T E)) → map Ok items ++ Err f ∷ [] ≡ map Ok xs ++ ends → EndsWalk Tells others ends left → (xs ≡ items) × (ends ≡ Err f ∷ [])
+    all_before [] [] f ends e w = (refl, sym e)
+    all_before [] (x ∷ xs) f ends e w = cc
+    all_before (i ∷ items) [] f [] e w = cc
+    all_before (i ∷ items) [] f (Ok x ∷ ends) e w = absurd w
+    all_before (i ∷ items) [] f (Err g ∷ ends) e w = cc
+    all_before (i ∷ items) (x ∷ xs) f ends e w =
+        let same : map Ok items ++ Err f ∷ [] ≡ map Ok xs ++ ends = cc in
+        let r = all_before items xs f ends same w in
+        (cc, r.1)
+
+  -- a walk that gave items alone, and left nothing
+  pub items_joined : (Tells : List ℕ → E → Type 0) (content : List ℕ) (items : List T) (left : List ℕ) → IsWalk G value Tells content (map Ok items) left → left ≡ [] → IsJoined G content (map value items)
+  items_joined Tells content items left w e =
+      let all = all_items Tells w.others left items w.items w.ends w.answers_are w.end in
+      let none : w.others ≡ [] = sym (subst (λ (ends : List (Result T E)). EndsWalk Tells w.others ends left) all.1 w.end) ∙ e in
+      let is : content ≡ concat w.words = w.joined ∙ ap (λ (xs : List ℕ). concat w.words ++ xs) none ∙ append-nil (concat w.words) in
+      subst (λ (xs : List T). IsJoined G content (map value xs)) all.0 (joined_words G value w.words w.items content w.values is)
+
+  -- a walk that gave items, and then a refusal
+  pub items_ended : (Tells : List ℕ → E → Type 0) (content : List ℕ) (items : List T) (f : E) (left : List ℕ) → IsWalk G value Tells content (map Ok items ++ Err f ∷ []) left → EndsJoined G Tells content (map value items) f
+  items_ended Tells content items f left w =
+      let all = all_before Tells w.others left items w.items f w.ends w.answers_are w.end in
+      let end : EndsWalk {T = T} Tells w.others (Err f ∷ []) left = subst (λ (ends : List (Result T E)). EndsWalk Tells w.others ends left) all.1 w.end in
+      record {
+        front = concat w.words;
+        others = w.others;
+        is = w.joined;
+        joined = subst (λ (xs : List T). IsJoined G (concat w.words) (map value xs)) all.0 (joined_words G value w.words w.items (concat w.words) w.values refl);
+        some = end.0;
+        tells = end.1;
+      }

@@ -29,9 +29,9 @@ use Rattle.asn1_rs.specs.Any.{parts_of, IsTheElement}
 use Rattle.asn1_rs.specs.Answers.{Front, NoFront, Exactly, TellsMemory, IsOther}
 use Rattle.asn1_rs.specs.Form.{IsOneForm, IsOneValue, FitsElement, HasValues, IsStrict}
 use Rattle.asn1_rs.specs.Grammar.{IsOneFront, IsOneBody, TakesBody, Checks, FormChecks, FormBodies, FormTakes, FormNumber, NoCheck, DerWord, made, of_class, max_depth}
-use Rattle.asn1_rs.specs.Items.{TakesItem, EndsItem, TellsNoWord, IsMemory}
+use Rattle.asn1_rs.specs.Items.{IsJoined, TakesItem, EndsItem, TellsNoWord, IsMemory}
 use Rattle.asn1_rs.specs.ItemGrammar.{ItemGrammar, IsLawfulItem}
-use Rattle.asn1_rs.specs.Lists.{joining, list_grammar, IsJoined, ListBody, ListOf, CheckedElement, ListCheck, StrictWord, ListForm, IsListOr, ItemsGive, ListTakes, ListReads, CheckedGives, ListCheckGives, SomeRefuses, has_items}
+use Rattle.asn1_rs.specs.Lists.{joining, list_grammar, ListBody, ListOf, CheckedElement, ListCheck, StrictWord, ListForm, IsListOr, ItemsGive, ListTakes, ListReads, CheckedGives, ListCheckGives, SomeRefuses, has_items}
 use Rattle.asn1_rs.specs.Wrote.{HasNone, Either, IsWritable, WrittenRefusal}
 use Rattle.asn1_rs.specs.declared.error.SerializeError.{SerializeError}
 use Rattle.asn1_rs.specs.Laws.Elements.{none_now, element_exact, element_spares, no_indefinite_length_spares, der_elements, ber_elements}
@@ -411,7 +411,7 @@ module _ {S V : Type 0} (value : S → V) (IsDer : V → Type 0) (Form : V → I
   zip_written (x ∷ xs) a l =
       let both : length (flat_map octets (x ∷ xs)) ≡ length (octets x) + length (flat_map octets xs) = ap length (flat_map-cons octets x xs) ∙ length-append (octets x) (flat_map octets xs) in
       ∥∥₁_elim (strict x (All-head IsDer (value x) (map value xs) a) (omega (arith, both, l))) ∥∥₁_prop (λ s.
-        ∥∥₁_map (zip_written xs (All-tail IsDer (value x) (map value xs) a) (omega (arith, both, l))) (λ z. (s, z)))
+      ∥∥₁_map (zip_written xs (All-tail IsDer (value x) (map value xs) a) (omega (arith, both, l))) (λ z. (s, z)))
 
 joined_flat : {S : Type 0} (octets : S → List ℕ) (xs : List S) → joining (map octets xs) ≡ flat_map octets xs
 joined_flat octets [] = refl
@@ -426,7 +426,7 @@ list_has_form number value IsDer Form header content strict xs a l =
     let joined = written_items header content xs in
     let short : length joined < 2 ^ 64 = omega (arith, length-append (header_octets 0 true number (length joined)) joined, l) in
     ∥∥₁_map (zip_written value IsDer Form (λ x. header x ++ content x) strict xs a short) (λ z.
-      (universal true number, (refl, subst (λ c. IsJoined (StrictWord Form) c (map value xs)) (joined_flat (λ x. header x ++ content x) xs) (zip_joined Form (map value xs) (map (λ x. header x ++ content x) xs) z))))
+    (universal true number, (refl, subst (λ c. IsJoined (StrictWord Form) c (map value xs)) (joined_flat (λ x. header x ++ content x) xs) (zip_joined Form (map value xs) (map (λ x. header x ++ content x) xs) z))))
 
 -- lists of members are equal exactly where their values are
 pub same_lists : {S V : Type 0} (eq : S → S → Bool) (value : S → V) → ((x y : S) → IsTrue (eq x y) ↔ (value x ≡ value y)) → (xs ys : List S) → IsTrue (pointwise eq xs ys) ↔ (map value xs ≡ map value ys)

@@ -24,7 +24,8 @@ use Rattle.asn1_rs.specs.declared.error.SerializeError.{SerializeError}
 use Rattle.asn1_rs.specs.Form.{IsOneForm, IsOneValue, FitsElement, HasValues, IsStrict}
 use Rattle.asn1_rs.specs.Grammar.{IsOneFront, IsOneBody, TakesBody, FormChecks, FormBodies, FormTakes, FormNumber, NoCheck, made, max_depth}
 use Rattle.asn1_rs.specs.ItemGrammar.{ItemGrammar, IsLawfulItem}
-use Rattle.asn1_rs.specs.Lists.{joining, IsJoined, ListBody, ListOf, ListCheck, StrictWord, SomeRefuses, ListTakes, ListReads}
+use Rattle.asn1_rs.specs.Items.{IsJoined}
+use Rattle.asn1_rs.specs.Lists.{joining, ListBody, ListOf, ListCheck, StrictWord, SomeRefuses, ListTakes, ListReads}
 use Rattle.asn1_rs.specs.Wrote.{HasNone, Either, IsWritable, WrittenRefusal, IntoVector}
 use Rattle.asn1_rs.specs.Sets.{Multiset, multiset, ValueSet, value_set, HaveSame, AllDiffer, Members, set_of, pairs_pass, members_if, members, is_below, Ascending, Joins, AnyList, Seen, SetBody, SetRow, SetForm, SetValues, SetInDer, set_grammar, multiset_grammar, member_grammar, items_of, HasItems}
 use Rattle.asn1_rs.specs.Laws.Elements.{der_elements, ber_elements}

@@ -140,10 +140,9 @@ impl<T: Ord + Drop> FromItems for BTreeSet<T> {
 }
 
 impl<'a, T: FromDer<'a, E> + Ord + Drop, E: From<Error>> FromDer<'a, E> for BTreeSet<T> {
-    ghost der_gives = {
-        DerGives PassesAll
-            (ListTakes 17 (λ items s. IsFromIterResult T.cmp items s) T.der_gives E.from_gives)
-            E.from_gives };
+    ghost der_gives = { DerGives PassesAll
+        (ListTakes 17 (λ items s. IsFromIterResult T.cmp items s) T.der_gives E.from_gives)
+        E.from_gives };
 
     fn from_der(alloc: Global, bytes: &'a [u8]) -> ParseResult<'a, BTreeSet<T>, E> {
         constructed_list_by_der::<BTreeSet<T>, T, E>(alloc, bytes)
@@ -168,16 +167,14 @@ impl<T: LawfulItem + Ord> LawfulItem for BTreeSet<T> {
 
 impl<'a, T: LawfulBer<'a, Error> + LawfulMember + Ord + Drop> LawfulBody<'a, Error>
     for BTreeSet<T> {
-    ghost body_exact = {
-        set_takes (λ items s. IsFromIterResult T.cmp items s) set_of Self.grammar.value T.ber_gives
-            (λ x y. y ≡ x) T.grammar.Ber T.grammar.value T.grammar.takes_memory EndsWithin
-            (tree_told T.eq T.grammar.value T.same T.cmp T.matches_eq)
-            T.lawful_item.ber_one T.ber_exact };
+    ghost body_exact = { set_takes (λ items s. IsFromIterResult T.cmp items s) set_of Self.grammar.value T.ber_gives
+        (λ x y. y ≡ x) T.grammar.Ber T.grammar.value T.grammar.takes_memory EndsWithin
+        (tree_told T.eq T.grammar.value T.same T.cmp T.matches_eq)
+        T.lawful_item.ber_one T.ber_exact };
 
     ghost body_spares = { λ none p e g. takes_some none };
 
-    ghost form_body = {
-        set_form_body set_of AllDiffer T.grammar.Form T.grammar.Ber T.lawful_item.strict_ber };
+    ghost form_body = { set_form_body set_of AllDiffer T.grammar.Form T.grammar.Ber T.lawful_item.strict_ber };
 
     ghost ber_split = { λ o m w. w };
 
@@ -188,13 +185,13 @@ impl<'a, T: LawfulDer<'a, E> + LawfulMember + Ord + Drop, E: From<Error>> Lawful
     for BTreeSet<T> {
     ghost der_exact = { λ input answer octets.
         unchecked_exact
-            (ListTakes 17 (λ items s. IsFromIterResult T.cmp items s) T.der_gives E.from_gives)
-            E.from_gives (SetBody set_of T.grammar.Der) Self.grammar.value true
-            (set_takes (λ items s. IsFromIterResult T.cmp items s) set_of Self.grammar.value T.der_gives
-                E.from_gives T.grammar.Der T.grammar.value T.grammar.takes_memory IsCutIdentifier
-                (tree_told T.eq T.grammar.value T.same T.cmp T.matches_eq)
-                T.lawful_item.der_one T.der_exact)
-            input answer };
+        (ListTakes 17 (λ items s. IsFromIterResult T.cmp items s) T.der_gives E.from_gives)
+        E.from_gives (SetBody set_of T.grammar.Der) Self.grammar.value true
+        (set_takes (λ items s. IsFromIterResult T.cmp items s) set_of Self.grammar.value T.der_gives
+        E.from_gives T.grammar.Der T.grammar.value T.grammar.takes_memory IsCutIdentifier
+        (tree_told T.eq T.grammar.value T.same T.cmp T.matches_eq)
+        T.lawful_item.der_one T.der_exact)
+        input answer };
 
     ghost der_spares = { λ none input answer g. takes_some none };
 }
@@ -208,23 +205,23 @@ impl<T: LawfulWrite + LawfulMember + Ord> LawfulWrite for BTreeSet<T> {
 
     ghost by_value = { λ x y e.
         set_by_value T.grammar.value T.constructed T.header T.content T.by_value x.keys y.keys
-            (members_moved (is_below T.cmp) T.grammar.value
-                (below_apart T.eq T.grammar.value T.same T.cmp T.total T.matches_eq) x.keys y.keys e) };
+        (members_moved (is_below T.cmp) T.grammar.value
+        (below_apart T.eq T.grammar.value T.same T.cmp T.total T.matches_eq) x.keys y.keys e) };
 
     ghost form = { λ s i c f.
         set_writes_form T.grammar.value T.grammar.Form T.count_refuses T.header_refuses
-            T.content_refuses T.constructed T.header T.content set_of AllDiffer T.form s.keys c _ f.1
-            (members_are (is_below T.cmp) T.grammar.value
-                (below_apart T.eq T.grammar.value T.same T.cmp T.total T.matches_eq)
-                s.keys f.1.items f.1.once f.1.are)
-            i f.0 };
+        T.content_refuses T.constructed T.header T.content set_of AllDiffer T.form s.keys c _ f.1
+        (members_are (is_below T.cmp) T.grammar.value
+        (below_apart T.eq T.grammar.value T.same T.cmp T.total T.matches_eq)
+        s.keys f.1.items f.1.once f.1.are)
+        i f.0 };
 
     ghost der_form = { λ s.
         members_have_form T.grammar.value T.grammar.IsDer T.grammar.Form T.header T.content
-            (der_strict T.grammar.value T.grammar.IsDer T.grammar.Form
-                (λ x. IsWritable (T.count_refuses x) (T.header_refuses x) (T.content_refuses x))
-                T.constructed T.header T.content T.form T.der_form T.lawful_item.form_fits)
-            (is_below T.cmp) (below_apart T.eq T.grammar.value T.same T.cmp T.total T.matches_eq) s.keys };
+        (der_strict T.grammar.value T.grammar.IsDer T.grammar.Form
+        (λ x. IsWritable (T.count_refuses x) (T.header_refuses x) (T.content_refuses x))
+        T.constructed T.header T.content T.form T.der_form T.lawful_item.form_fits)
+        (is_below T.cmp) (below_apart T.eq T.grammar.value T.same T.cmp T.total T.matches_eq) s.keys };
 }
 
 impl<T: LawfulItem + Ord> LawfulTagged for BTreeSet<T> {
@@ -232,9 +229,8 @@ impl<T: LawfulItem + Ord> LawfulTagged for BTreeSet<T> {
 }
 
 impl<T: LawfulItem + Ord, const K: u8> TakesClass<K> for BTreeSet<T> {
-    ghost takes_class = {
-        set_takes_class set_of AllDiffer T.grammar.Form T.grammar.Ber T.grammar.Check
-            T.lawful_item.strict_ber T.lawful_item.form_check K };
+    ghost takes_class = { set_takes_class set_of AllDiffer T.grammar.Form T.grammar.Ber T.grammar.Check
+        T.lawful_item.strict_ber T.lawful_item.form_check K };
 }
 
 impl<T: LawfulMember + Ord> LawfulMember for BTreeSet<T> {

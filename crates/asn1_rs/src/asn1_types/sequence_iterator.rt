@@ -1,17 +1,20 @@
 //! Walking over the items in contents octets, as those of a sequence or a set.
-ghost use Rattle.std.specs.Prelude.{◌≡◌, ◌+◌, ◌<◌, ◌≤◌, ℕ, List, [], ◌∷◌, ◌++◌, Result, Ok, IfOk, IfErr, length};
+ghost use Rattle.std.specs.Prelude.{◌≡◌, ◌+◌, ◌<◌, ◌≤◌, ℕ, Bool, List, [], ◌∷◌, ◌++◌, Result, Ok, IfOk, IfErr, length};
 ghost use Rattle.std.specs.declared.result.Result.TheVariants as results;
 ghost use Rattle.std.specs.Iterator.{at_most, Yields};
+ghost use Rattle.std.specs.Iterator.Runs.{Run};
 ghost use Rattle.x690.specs.Octets.{IsOctets};
+ghost use Rattle.x690.specs.Identifiers.{IsCutIdentifier};
 ghost use Rattle.x690.specs.Lengths.{indefinite};
 ghost use Rattle.x690.specs.Nested.{IsElement};
 ghost use Rattle.asn1_rs.specs.declared.error.Err.{Err as Refusal};
-ghost use Rattle.asn1_rs.specs.Answers.{seen};
+ghost use Rattle.asn1_rs.specs.declared.traits.BerParser.{BerParser as Ber};
+ghost use Rattle.asn1_rs.specs.Answers.{seen, TellsMemory};
 ghost use Rattle.asn1_rs.specs.declared.error.Error.{Error as Fault};
 ghost use Rattle.asn1_rs.specs.declared.asn1_types.any.Any.{Any as Element};
 ghost use Rattle.asn1_rs.specs.Any.{parts_of};
-ghost use Rattle.asn1_rs.specs.Grammar.{max_depth};
-ghost use Rattle.asn1_rs.specs.Items.{octets_left, EndsItem, TakesItem, IsWalk, AreJoinedWords, TellsNoWord, TellsMemoryAlone, TellsNothing, IsMemory};
+ghost use Rattle.asn1_rs.specs.Grammar.{max_depth, EndsWithin};
+ghost use Rattle.asn1_rs.specs.Items.{octets_left, ReadsExactly, EndsItem, WalkSteps, IsWalk, IsWalkOf, AreJoinedWords, TellsNoWord, TellsMemoryAlone, TellsNothing, IsMemory};
 ghost use Rattle.asn1_rs.specs.Laws.Any.{BerElementGives};
 ghost use Rattle.asn1_rs.specs.Laws.IndefiniteContents.{ElementsGive};
 
@@ -104,7 +107,7 @@ where
 {
     type Item = Result<T, E>;
 
-    ghost next_gives = { λ s answer t. TakesItem F.item_gives E.from_gives (octets_left s) answer (octets_left t) };
+    ghost next_gives = { WalkSteps F.item_gives E.from_gives };
 
     ghost remaining = { λ s. at_most (length (octets_left s)) };
 
@@ -126,30 +129,113 @@ where
     }
 }
 
+/// A reader that is exact by a grammar: it takes an item exactly where a word of the grammar begins the octets.
+///
+/// For a lawful type [`BerParser`] is one by the type's grammar by BER, [`DerParser`] by that by DER.
+pub trait ReadsWords<'a, T, E: From<Error>>: ReadsItems<'a, T, E> {
+    /// The values of the items.
+    ghost Value: { Type 0 };
+
+    /// The value of an item in hand.
+    ghost value: { T → Value };
+
+    /// The words that it takes, with their values.
+    ghost Words: { List ℕ → Value → Type 0 };
+
+    /// Where the octets end within an identifier, so that a refusal says nothing of more of them.
+    ghost IsCut: { List ℕ → Type 0 };
+
+    /// Whether reading may take memory.
+    ghost takes_memory: { Bool };
+
+    /// It takes exactly the words, and one word alone begins an input.
+    ghost exact: { ReadsExactly Self.IsCut Self.Words Self.value
+        (TellsMemory Self.takes_memory E.from_gives) Self.item_gives };
+}
+
+impl<'a, T: LawfulBer<'a, E>, E: From<Error>> ReadsWords<'a, T, E> for BerParser {
+    ghost Value = { T.grammar.Value };
+
+    ghost value = { T.grammar.value };
+
+    ghost Words = { T.grammar.Ber };
+
+    ghost IsCut = { EndsWithin };
+
+    ghost takes_memory = { T.grammar.takes_memory };
+
+    ghost exact = { record { one_word = T.lawful_item.ber_one; takes = T.ber_exact } };
+}
+
+impl<'a, T: LawfulDer<'a, E>, E: From<Error>> ReadsWords<'a, T, E> for DerParser {
+    ghost Value = { T.grammar.Value };
+
+    ghost value = { T.grammar.value };
+
+    ghost Words = { T.grammar.Der };
+
+    ghost IsCut = { IsCutIdentifier };
+
+    ghost takes_memory = { T.grammar.takes_memory };
+
+    ghost exact = { record { one_word = T.lawful_item.der_one; takes = T.der_exact } };
+}
+
 /// A walk ends, whatever the items are. Each answer takes an octet at least, so there are no more answers than octets;
 /// a refusal is the last answer; and where nothing is left, nothing more is answered.
+///
+/// The calls are those of `next`, of a `for`, or of std's consumers, from an iterator `s` to an iterator `t`.
 pub fn walks_end<'a, T, F: ReadsItems<'a, T, E>, E: From<Error>>()
-    ensures short { (content left : List ℕ) (answers : List (Result T E)) → Yields (TakesItem F.item_gives E.from_gives) content answers left → length answers + length left ≤ length content }
-    ensures last { (content left : List ℕ) (before after : List (Result T E)) (e : E) → Yields (TakesItem F.item_gives E.from_gives) content (before ++ results.Err e ∷ after) left → (after ≡ []) × (left ≡ []) }
-    ensures done { (left : List ℕ) (answers : List (Result T E)) → Yields (TakesItem F.item_gives E.from_gives) [] answers left → (answers ≡ []) × (left ≡ []) }
+    ensures short { (s t : SequenceIterator T F E) (answers : List (Result T E))
+        → Yields (WalkSteps F.item_gives E.from_gives) s answers t
+        → length answers + length (octets_left t) ≤ length (octets_left s) }
+    ensures last { (s t : SequenceIterator T F E) (before after : List (Result T E)) (e : E)
+        → Yields (WalkSteps F.item_gives E.from_gives) s (before ++ results.Err e ∷ after) t
+        → (after ≡ []) × (octets_left t ≡ []) }
+    ensures done { (s t : SequenceIterator T F E) (answers : List (Result T E)) → octets_left s ≡ []
+        → Yields (WalkSteps F.item_gives E.from_gives) s answers t → (answers ≡ [])
+        × (octets_left t ≡ []) }
 {}
 
-/// A walk by BER over contents octets gives the values of words of the type's grammar, whose joining begins the
-/// contents octets, and then perhaps one refusal, where no word begins what is left. Over a joining of words nothing is
-/// refused. Where reading takes memory, a refusal may tell of want of it.
-pub fn walks_by_ber<'a, T: LawfulBer<'a, E>, E: From<Error>>()
-    ensures run { (content left : List ℕ) (answers : List (Result T E)) → IsOctets content → Yields (TakesItem T.ber_gives E.from_gives) content answers left → IsWalk T.grammar.Ber T.grammar.value (TellsNoWord T.grammar.Ber (IsMemory T.grammar.takes_memory E.from_gives)) content answers left }
-    ensures whole { (content left : List ℕ) (answers : List (Result T E)) → IsOctets content → AreJoinedWords T.grammar.Ber content → Yields (TakesItem T.ber_gives E.from_gives) content answers left → IsWalk T.grammar.Ber T.grammar.value (TellsMemoryAlone (IsMemory T.grammar.takes_memory E.from_gives)) content answers left }
-{}
-
-/// A walk by DER over contents octets gives what [`walks_by_ber`] says, by the type's grammar by DER.
-pub fn walks_by_der<'a, T: LawfulDer<'a, E>, E: From<Error>>()
-    ensures run { (content left : List ℕ) (answers : List (Result T E)) → IsOctets content → Yields (TakesItem T.der_gives E.from_gives) content answers left → IsWalk T.grammar.Der T.grammar.value (TellsNoWord T.grammar.Der (IsMemory T.grammar.takes_memory E.from_gives)) content answers left }
-    ensures whole { (content left : List ℕ) (answers : List (Result T E)) → IsOctets content → AreJoinedWords T.grammar.Der content → Yields (TakesItem T.der_gives E.from_gives) content answers left → IsWalk T.grammar.Der T.grammar.value (TellsMemoryAlone (IsMemory T.grammar.takes_memory E.from_gives)) content answers left }
+/// A walk over contents octets gives the values of words of the reader's grammar, whose joining begins the contents
+/// octets, and then perhaps one refusal, where no word begins what is left. Over a joining of words nothing is refused.
+/// Where reading takes memory, a refusal may tell of want of it.
+///
+/// The calls are those of `next` or of a `for`, from an iterator `s` to an
+/// iterator `t`; `run` and `whole_run` say the same of the calls that std's consumers make.
+pub fn walks_take_words<'a, T, F: ReadsWords<'a, T, E>, E: From<Error>>()
+    ensures calls { (s t : SequenceIterator T F E) (answers : List (Result T E))
+        → IsOctets (octets_left s) → Yields (WalkSteps F.item_gives E.from_gives) s answers t
+        → IsWalk F.Words F.value (TellsNoWord F.Words (IsMemory F.takes_memory E.from_gives))
+        (octets_left s) answers (octets_left t) }
+    ensures whole { (s t : SequenceIterator T F E) (answers : List (Result T E))
+        → IsOctets (octets_left s) → AreJoinedWords F.Words (octets_left s)
+        → Yields (WalkSteps F.item_gives E.from_gives) s answers t
+        → IsWalk F.Words F.value (TellsMemoryAlone (IsMemory F.takes_memory E.from_gives))
+        (octets_left s) answers (octets_left t) }
+    ensures run { (p : Run {S = SequenceIterator T F E} {A = Result T E}
+        (WalkSteps F.item_gives E.from_gives))
+        → IsOctets (octets_left p.from)
+        → IsWalkOf F.Words F.value (TellsNoWord F.Words (IsMemory F.takes_memory E.from_gives)) p }
+    ensures whole_run { (p : Run {S = SequenceIterator T F E} {A = Result T E}
+        (WalkSteps F.item_gives E.from_gives))
+        → IsOctets (octets_left p.from) → AreJoinedWords F.Words (octets_left p.from)
+        → IsWalkOf F.Words F.value (TellsMemoryAlone (IsMemory F.takes_memory E.from_gives)) p }
 {}
 
 /// A walk by BER over the contents octets of an element of indefinite length that [`Any`](crate::Any) was read from
 /// gives elements alone, whose joining begins the contents octets, and nothing is refused (X.690 8.1.3.6).
 pub fn indefinite_contents_are_walked()
-    ensures { (input left : List ℕ) (x : List ℕ × Element) (answers : List (Result Element Fault)) → BerElementGives input (Ok x) → (parts_of x.1).form ≡ indefinite → Yields (TakesItem ElementsGive (λ e f. f ≡ e)) (parts_of x.1).content answers left → IsWalk (IsElement max_depth) parts_of TellsNothing (parts_of x.1).content answers left }
+    ensures calls { (input : List ℕ) (x : List ℕ × Element)
+        (s t : SequenceIterator Element Ber Fault) (answers : List (Result Element Fault))
+        → BerElementGives input (Ok x) → (parts_of x.1).form ≡ indefinite
+        → octets_left s ≡ (parts_of x.1).content
+        → Yields (WalkSteps ElementsGive (λ e f. f ≡ e)) s answers t
+        → IsWalk (IsElement max_depth) parts_of TellsNothing (octets_left s) answers (octets_left t) }
+    ensures run { (input : List ℕ) (x : List ℕ × Element)
+        (p : Run {S = SequenceIterator Element Ber Fault} {A = Result Element Fault}
+        (WalkSteps ElementsGive (λ e f. f ≡ e)))
+        → BerElementGives input (Ok x) → (parts_of x.1).form ≡ indefinite
+        → octets_left p.from ≡ (parts_of x.1).content
+        → IsWalkOf (IsElement max_depth) parts_of TellsNothing p }
 {}

@@ -10,7 +10,7 @@ ghost use Rattle.asn1_rs.specs.Sets.{multiset, AnyList, SetRow, items_of, HasIte
 ghost use Rattle.asn1_rs.specs.Laws.Elements.{unchecked_exact};
 ghost use Rattle.asn1_rs.specs.Laws.Forms.{der_strict};
 ghost use Rattle.asn1_rs.specs.Laws.Lists.{takes_some, list_checks};
-ghost use Rattle.asn1_rs.specs.Laws.Sets.{set_content, permutation_from_multiset,  multiset_told, multiset_lawful, set_takes, set_reads, set_form_body, set_takes_class, set_number, set_by_value, set_writes_form, multiset_has_form};
+ghost use Rattle.asn1_rs.specs.Laws.Sets.{set_content, permutation_from_multiset, multiset_told, multiset_lawful, set_takes, set_reads, set_form_body, set_takes_class, set_number, set_by_value, set_writes_form, multiset_has_form};
 
 use crate::asn1_types::any::Any;
 use crate::asn1_types::items::{FromItems, check_list, count_items, list_by_der};
@@ -148,15 +148,13 @@ impl<T: LawfulItem> LawfulItem for SetOf<T> {
 }
 
 impl<'a, T: LawfulBer<'a, Error> + Drop> LawfulBody<'a, Error> for SetOf<T> {
-    ghost body_exact = {
-        set_takes HasItems multiset Self.grammar.value T.ber_gives (λ x y. y ≡ x) T.grammar.Ber
-            T.grammar.value T.grammar.takes_memory EndsWithin (multiset_told T.grammar.value)
-            T.lawful_item.ber_one T.ber_exact };
+    ghost body_exact = { set_takes HasItems multiset Self.grammar.value T.ber_gives (λ x y. y ≡ x) T.grammar.Ber
+        T.grammar.value T.grammar.takes_memory EndsWithin (multiset_told T.grammar.value)
+        T.lawful_item.ber_one T.ber_exact };
 
     ghost body_spares = { λ none p e g. takes_some none };
 
-    ghost form_body = {
-        set_form_body multiset AnyList T.grammar.Form T.grammar.Ber T.lawful_item.strict_ber };
+    ghost form_body = { set_form_body multiset AnyList T.grammar.Form T.grammar.Ber T.lawful_item.strict_ber };
 
     ghost ber_split = { λ o m w. w };
 
@@ -166,11 +164,11 @@ impl<'a, T: LawfulBer<'a, Error> + Drop> LawfulBody<'a, Error> for SetOf<T> {
 impl<'a, T: LawfulDer<'a, E> + Drop, E: From<Error>> LawfulDer<'a, E> for SetOf<T> {
     ghost der_exact = { λ input answer octets.
         unchecked_exact (ListReads 17 HasItems T.der_gives E.from_gives) E.from_gives
-            (SetRow multiset T.grammar.Der) Self.grammar.value true
-            (set_reads HasItems multiset Self.grammar.value T.der_gives E.from_gives T.grammar.Der
-                T.grammar.value T.grammar.takes_memory IsCutIdentifier
-                (multiset_told T.grammar.value) T.lawful_item.der_one T.der_exact)
-            input answer };
+        (SetRow multiset T.grammar.Der) Self.grammar.value true
+        (set_reads HasItems multiset Self.grammar.value T.der_gives E.from_gives T.grammar.Der
+        T.grammar.value T.grammar.takes_memory IsCutIdentifier
+        (multiset_told T.grammar.value) T.lawful_item.der_one T.der_exact)
+        input answer };
 
     ghost der_spares = { λ none input answer g. takes_some none };
 }
@@ -184,19 +182,19 @@ impl<T: LawfulWrite> LawfulWrite for SetOf<T> {
 
     ghost by_value = { λ x y e.
         set_by_value T.grammar.value T.constructed T.header T.content T.by_value (items_of x) (items_of y)
-            (permutation_from_multiset _ _ e) };
+        (permutation_from_multiset _ _ e) };
 
     ghost form = { λ s i c f.
         set_writes_form T.grammar.value T.grammar.Form T.count_refuses T.header_refuses
-            T.content_refuses T.constructed T.header T.content multiset AnyList T.form (items_of s) c _
-            f.1 (permutation_from_multiset _ _ f.1.are) i f.0 };
+        T.content_refuses T.constructed T.header T.content multiset AnyList T.form (items_of s) c _
+        f.1 (permutation_from_multiset _ _ f.1.are) i f.0 };
 
     ghost der_form = { λ s.
         multiset_has_form T.grammar.value T.grammar.IsDer T.grammar.Form T.header T.content
-            (der_strict T.grammar.value T.grammar.IsDer T.grammar.Form
-                (λ x. IsWritable (T.count_refuses x) (T.header_refuses x) (T.content_refuses x))
-                T.constructed T.header T.content T.form T.der_form T.lawful_item.form_fits)
-            (items_of s) };
+        (der_strict T.grammar.value T.grammar.IsDer T.grammar.Form
+        (λ x. IsWritable (T.count_refuses x) (T.header_refuses x) (T.content_refuses x))
+        T.constructed T.header T.content T.form T.der_form T.lawful_item.form_fits)
+        (items_of s) };
 }
 
 impl<T: LawfulItem> LawfulTagged for SetOf<T> {
@@ -204,7 +202,6 @@ impl<T: LawfulItem> LawfulTagged for SetOf<T> {
 }
 
 impl<T: LawfulItem, const K: u8> TakesClass<K> for SetOf<T> {
-    ghost takes_class = {
-        set_takes_class multiset AnyList T.grammar.Form T.grammar.Ber T.grammar.Check
-            T.lawful_item.strict_ber T.lawful_item.form_check K };
+    ghost takes_class = { set_takes_class multiset AnyList T.grammar.Form T.grammar.Ber T.grammar.Check
+        T.lawful_item.strict_ber T.lawful_item.form_check K };
 }

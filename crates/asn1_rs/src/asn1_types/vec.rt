@@ -84,8 +84,7 @@ impl<T: ToDer> ToDer for Vec<T> {
 
     ghost count_takes_memory = { T.count_takes_memory };
 
-    ghost content_takes_memory = {
-        some_takes T.write_takes_memory T.count_takes_memory T.content_takes_memory };
+    ghost content_takes_memory = { some_takes T.write_takes_memory T.count_takes_memory T.content_takes_memory };
 
     fn to_der_len(&self) -> Result<usize, Error> {
         element_len(Tag::Sequence.0, self.der_content_len())
@@ -117,10 +116,9 @@ impl<T: LawfulItem> LawfulItem for Vec<T> {
 }
 
 impl<'a, T: LawfulBer<'a, Error> + Drop> LawfulBody<'a, Error> for Vec<T> {
-    ghost body_exact = {
-        list_takes 16 has_items Self.grammar.value T.ber_gives (λ x y. y ≡ x) T.grammar.Ber
-            T.grammar.value T.grammar.takes_memory EndsWithin (same_values T.grammar.value)
-            T.lawful_item.ber_one T.ber_exact };
+    ghost body_exact = { list_takes 16 has_items Self.grammar.value T.ber_gives (λ x y. y ≡ x) T.grammar.Ber
+        T.grammar.value T.grammar.takes_memory EndsWithin (same_values T.grammar.value)
+        T.lawful_item.ber_one T.ber_exact };
 
     ghost body_spares = { λ none p e g. takes_some none };
 
@@ -134,11 +132,11 @@ impl<'a, T: LawfulBer<'a, Error> + Drop> LawfulBody<'a, Error> for Vec<T> {
 impl<'a, T: LawfulDer<'a, E> + Drop, E: From<Error>> LawfulDer<'a, E> for Vec<T> {
     ghost der_exact = { λ input answer octets.
         unchecked_exact (ListReads 16 has_items T.der_gives E.from_gives) E.from_gives
-            (ListOf 16 T.grammar.Der) Self.grammar.value true
-            (list_reads 16 has_items Self.grammar.value T.der_gives E.from_gives T.grammar.Der
-                T.grammar.value T.grammar.takes_memory IsCutIdentifier (same_values T.grammar.value)
-                T.lawful_item.der_one T.der_exact)
-            input answer };
+        (ListOf 16 T.grammar.Der) Self.grammar.value true
+        (list_reads 16 has_items Self.grammar.value T.der_gives E.from_gives T.grammar.Der
+        T.grammar.value T.grammar.takes_memory IsCutIdentifier (same_values T.grammar.value)
+        T.lawful_item.der_one T.der_exact)
+        input answer };
 
     ghost der_spares = { λ none input answer g. takes_some none };
 }
@@ -155,14 +153,14 @@ impl<T: LawfulWrite> LawfulWrite for Vec<T> {
 
     ghost form = { λ v.
         list_writes_form 16 T.grammar.value T.grammar.Form T.count_refuses T.header_refuses
-            T.content_refuses T.constructed T.header T.content T.form v.items };
+        T.content_refuses T.constructed T.header T.content T.form v.items };
 
     ghost der_form = { λ v.
         list_has_form 16 T.grammar.value T.grammar.IsDer T.grammar.Form T.header T.content
-            (der_strict T.grammar.value T.grammar.IsDer T.grammar.Form
-                (λ x. IsWritable (T.count_refuses x) (T.header_refuses x) (T.content_refuses x))
-                T.constructed T.header T.content T.form T.der_form T.lawful_item.form_fits)
-            v.items };
+        (der_strict T.grammar.value T.grammar.IsDer T.grammar.Form
+        (λ x. IsWritable (T.count_refuses x) (T.header_refuses x) (T.content_refuses x))
+        T.constructed T.header T.content T.form T.der_form T.lawful_item.form_fits)
+        v.items };
 }
 
 impl<T: LawfulItem> LawfulTagged for Vec<T> {
@@ -170,9 +168,8 @@ impl<T: LawfulItem> LawfulTagged for Vec<T> {
 }
 
 impl<T: LawfulItem, const K: u8> TakesClass<K> for Vec<T> {
-    ghost takes_class = {
-        list_takes_class T.grammar.Form 16 T.grammar.Ber T.grammar.Check T.lawful_item.strict_ber
-            T.lawful_item.form_check K };
+    ghost takes_class = { list_takes_class T.grammar.Form 16 T.grammar.Ber T.grammar.Check T.lawful_item.strict_ber
+        T.lawful_item.form_check K };
 }
 
 impl<T: LawfulMember> LawfulMember for Vec<T> {

@@ -4,7 +4,7 @@ use Rattle.std.proofs.lemmas.List.{length-take-le}
 use borrow.Rule.Slice.PartMut.{post_of}
 use Rattle.x690.specs.Strict.{identifier_octets}
 use Rattle.x690.specs.Laws.StrictHeaders.{identifier_of, header_octets_are}
-use Rattle.x690.proofs.Writes.{both_fronts}
+use Rattle.x690.proofs.Writes.{both_fronts, behind_both}
 use Rattle.x690.proofs.digits.header_into.Goals as goal
 
 pub returns-clause-written : goal.returns-clause-written
@@ -19,3 +19,7 @@ returns-clause-written c =
     ∙ ap (λ (zs : List ℕ). zs ++ take b ys) c.write_identifier-front.ensures.written
     ∙ ap (λ (zs : List ℕ). identifier_octets (identifier_of c.args.class c.args.constructed c.args.number) ++ zs) c.write_length.ensures.written
     ∙ sym (header_octets_are c.args.class c.args.constructed c.args.number c.args.n)
+
+pub returns-clause-kept : goal.returns-clause-kept
+returns-clause-kept c =
+    behind_both c.write_identifier-front.result c.write_length.result (15 - c.write_identifier-front.result) c.args.out.now c.write_identifier-front.new.out c.write_length.new.out (omega arith) c.write_identifier-front.ensures.kept c.write_length.ensures.kept (omega arith) (omega arith)

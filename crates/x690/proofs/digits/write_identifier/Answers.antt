@@ -6,7 +6,7 @@ use Rattle.std.proofs.lemmas.Int.Digits.{length-digits_of-le}
 use Rattle.x690.specs.Identifiers.{Identifier}
 use Rattle.x690.specs.Strict.{with_bit_8}
 use Rattle.x690.specs.Laws.StrictIdentifiers.{identifier_octets_low, identifier_octets_high}
-use Rattle.x690.proofs.Writes.{first_alone, put_length, and_last}
+use Rattle.x690.proofs.Writes.{first_alone, put_length, and_last, behind_last}
 use Rattle.x690.proofs.digits.write_identifier.Goals as goal
 
 four : (number : ℕ) → number < 2 ^ 32 → length (digits_of 128 (number / 128)) ≤ 4
@@ -46,3 +46,10 @@ returns-clause-written c =
     ∙ ap (λ (ys : List ℕ). (c.high_bits-high.result + 31) ∷ (ys ++ last ∷ [])) c.write_digits.ensures
     ∙ ap (λ b. (b + 31) ∷ (map with_bit_8 (digits_of 128 (c.args.number / 128)) ++ last ∷ [])) c.high_bits-high.ensures.value
     ∙ sym (identifier_octets_high id c.if-number-lt31.false)
+
+pub returns-clause-kept : goal.returns-clause-kept
+returns-clause-kept c =
+    let k = c.count_base_128-count.result in
+    let n = as_many c.args.number k c.write_digits.new.out c.count_base_128-count.ensures.count c.write_digits.ensures in
+    let f = four c.args.number (omega arith) in
+    behind_last (1 + k - 1) k (c.high_bits-high.result + 31) (c.args.number % 128) c.args.out.now c.write_digits.new.out (omega arith) (omega arith) n

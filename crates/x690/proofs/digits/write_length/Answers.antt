@@ -1,7 +1,7 @@
 use Rattle.std.proofs.Common.{◌≡◌, ℕ, ◌+◌, ◌-◌, List, ◌∷◌, length, sym, ap, ◌∙◌, arith}
 use Rattle.std.specs.Int.Digits.{digits_of}
 use Rattle.x690.specs.Laws.StrictLengths.{length_octets_low, length_octets_high}
-use Rattle.x690.proofs.Writes.{no_mark, first_alone, after_first}
+use Rattle.x690.proofs.Writes.{no_mark, first_alone, after_first, behind_first}
 use Rattle.x690.proofs.digits.write_length.Goals as goal
 
 pub returns-then-n-lt128-clause-written : goal.returns-then-n-lt128-clause-written
@@ -17,3 +17,9 @@ returns-clause-written c =
     ∙ ap (λ (zs : List ℕ). (128 + k) ∷ zs) ys
     ∙ ap (λ j. (128 + j) ∷ digits) c.count_base_256-count.ensures.count
     ∙ sym (length_octets_high c.args.n c.if-n-lt128.false)
+
+pub returns-clause-kept : goal.returns-clause-kept
+returns-clause-kept c =
+    let k = c.count_base_256-count.result in
+    let l = ap length (c.write_digits.ensures ∙ no_mark (digits_of 256 c.args.n)) in
+    behind_first (1 + k - 1) k (128 + k) c.args.out.now c.write_digits.new.out (omega arith) (omega arith) (omega arith)

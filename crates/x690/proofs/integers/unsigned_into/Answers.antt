@@ -1,5 +1,5 @@
-use Rattle.std.proofs.Common.{◌≡◌, ℕ, ◌+◌, ◌-◌, ◌/◌, ◌%◌, ◌^◌, ◌<◌, ◌≤◌, List, [], ◌∷◌, ◌++◌, length, drop, set, ap, sym, ◌∙◌, arith, append_assoc, length-append, length-drop}
-use Rattle.std.proofs.lemmas.List.{drop-set, length-set}
+use Rattle.std.proofs.Common.{◌≡◌, ℕ, ◌+◌, ◌-◌, ◌/◌, ◌%◌, ◌^◌, ◌<◌, ◌≤◌, List, [], ◌∷◌, ◌++◌, length, take, drop, set, ap, sym, ◌∙◌, arith, append_assoc, length-append, length-drop}
+use Rattle.std.proofs.lemmas.List.{drop-set, length-set, take-set-le, take-take}
 use Rattle.x690.specs.Integers.{unsigned_octets}
 use Rattle.x690.specs.Laws.UnsignedOctets.{unsigned_octets_few, unsigned_octets_some, unsigned_octets_low, unsigned_octets_step, unsigned_octets_count_step}
 use Rattle.x690.proofs.integers.unsigned_into.Goals as goal
@@ -21,6 +21,11 @@ put_first : (left at : ℕ) (out : List ℕ) → at < length out → left < 128 
 put_first left at out within low =
     drop-set out at left within ∙ ap (λ (ys : List ℕ). ys ++ drop (at + 1) out) (sym (unsigned_octets_low left low))
 
+-- what stands before an octet that is put stays
+kept_before : (at p v : ℕ) (out old : List ℕ) → p ≤ at → take (at + 1) out ≡ take (at + 1) old → take p (set out at v) ≡ take p old
+kept_before at p v out old h e =
+    take-set-le p out at v h ∙ sym (take-take p (at + 1) out (omega arith)) ∙ ap (λ (xs : List ℕ). take p xs) e ∙ take-take p (at + 1) old (omega arith)
+
 pub overflow_sub-at : goal.overflow_sub-at
 overflow_sub-at c = room c.args.n c.loop-left.left c.loop-left.at c.loop-left.out (omega arith) c.loop-left.invariant.long (omega arith) (omega arith) c.loop-left.invariant.octets
 
@@ -32,9 +37,13 @@ loop-left-preserved c =
       octets =
           ap (λ (i : ℕ). unsigned_octets (c.loop-left.left / 256) ++ drop i (set c.loop-left.out c.loop-left.at (c.loop-left.left % 256))) e
           ∙ put c.loop-left.left c.loop-left.at c.loop-left.out (omega arith) (omega arith) ∙ c.loop-left.invariant.octets;
+      kept = kept_before c.loop-left.at (c.loop-left.at - 1 + 1) (c.loop-left.left % 256) c.loop-left.out c.args.out.now (omega arith) c.loop-left.invariant.kept;
       within = omega arith;
       long = simp length-set c.loop-left.invariant.long;
     }
 
 pub returns-clause-octets : goal.returns-clause-octets
 returns-clause-octets c = put_first c.loop-left.left c.loop-left.at c.loop-left.out (omega arith) (omega arith) ∙ c.loop-left.invariant.octets
+
+pub returns-clause-kept : goal.returns-clause-kept
+returns-clause-kept c = kept_before c.loop-left.at c.loop-left.at c.loop-left.left c.loop-left.out c.args.out.now (omega arith) c.loop-left.invariant.kept

@@ -2,6 +2,7 @@ use Rattle.std.proofs.Common.{ℕ, ℤ, ◌≡◌, ◌-◌, ◌≤◌, ◌⊎◌
 use Rattle.std.specs.Int.{w128}
 use Rattle.std.proofs.lemmas.Int.{ints, to_z-of_z}
 use Rattle.std.proofs.lemmas.List.{drop_at, length-take-le, take_all, drop_all}
+use Rattle.std.proofs.lemmas.Slice.{take-put_mid_below}
 use borrow.Rule.Slice.PartMut.{post_of, mid_of}
 use Rattle.x690.specs.Integers.{unsigned_octets}
 use Rattle.x690.specs.SignedOctets.{complement, signed_octets}
@@ -46,3 +47,10 @@ returns-else-n-lt0-clause-octets c =
       | inl s ↦ c.unsigned_into-at.ensures.octets ∙ s.1
       | inr s ↦ absurd (grind (arith, ints))
     ]
+
+pub returns-then-n-lt0-clause-kept : goal.returns-then-n-lt0-clause-kept
+returns-then-n-lt0-clause-kept c =
+    let at : ℕ = c.unsigned_into-at.result in
+    let out : List ℕ = c.unsigned_into-at.new.out in
+    let long = c.unsigned_into-at.array_long in
+    take-put_mid_below at (17 - at) out c.turn_over.new.octets at (omega arith) (omega arith) ∙ c.unsigned_into-at.ensures.kept

@@ -1,0 +1,7 @@
+use Rattle.std.proofs.Common.{arith}
+use Rattle.asn1_rs.specs.Answers.{seen}
+use Rattle.asn1_rs_uses.proofs.numbers.read_number.Goals as goal
+
+pub returns-clause-cut : goal.returns-clause-cut
+returns-clause-cut c = λ more word rest n d e l.
+    c.reader_is_exact_by_der.ensures.beginning c.args.octets.now (seen c.from_der.result) more word rest n (λ k. omega (arith, c.type_inv.octets k)) c.from_der.ensures d e l

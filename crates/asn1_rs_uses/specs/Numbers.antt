@@ -1,0 +1,23 @@
+-- Numbers of eight octets, by BER and by DER.
+use Rattle.std.specs.Prelude.{◌≡◌, ℕ, ℤ, List, false, pos}
+use Rattle.asn1_rs.specs.declared.error.Err.{Err as Refusal}
+use Rattle.asn1_rs.specs.declared.error.Error.{Error}
+use Rattle.asn1_rs.specs.Answers.{TellsMemory}
+use Rattle.asn1_rs.specs.Form.{IsStrict}
+use Rattle.asn1_rs.specs.Grammar.{BerWord, DerWord}
+use Rattle.asn1_rs.specs.Integer.{IntegerBody, IntegerCheck, IntegerForm, IsUnsigned}
+
+-- the words by BER and by DER, with their numbers
+abbrev pub NumberByBer : List ℕ → ℤ → Type 0
+NumberByBer = BerWord (IntegerBody (IsUnsigned 8))
+
+abbrev pub NumberByDer : List ℕ → ℤ → Type 0
+NumberByDer = DerWord IntegerCheck (IntegerBody (IsUnsigned 8))
+
+-- the octets are the strict encoding of the number
+abbrev pub IsStrictNumber : ℕ → List ℕ → Type 0
+IsStrictNumber x octets = IsStrict (IntegerForm (IsUnsigned 8)) (pos x) octets
+
+-- reading a number takes no memory, so no refusal tells of want of it
+abbrev pub NoMemory : Refusal Error → Type 0
+NoMemory = TellsMemory false (λ e f. f ≡ e)

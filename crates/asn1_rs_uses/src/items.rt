@@ -1,0 +1,55 @@
+//! Items in contents octets.
+ghost use Rattle.std.specs.Prelude.{◌≡◌, ◌⊎◌, List, length, map, pos, ℤ, IfOk, IfErr};
+ghost use Rattle.asn1_rs.specs.declared.error.Error.TheVariants as faults;
+ghost use Rattle.asn1_rs.specs.Items.{IsJoined, AreJoinedWords};
+ghost use Rattle.asn1_rs_uses.specs.Items.{EndsBefore};
+ghost use Rattle.asn1_rs_uses.specs.Numbers.{NumberByDer};
+
+use asn1_rs::{DerParser, Error, ReadsWords, SequenceIterator, walks_take_words};
+use std::alloc::Global;
+
+/// The items in contents octets, in their order, by the reader `F`.
+///
+/// On Ok the contents octets are words of the reader's grammar with these values, joined. On Err words begin them, and
+/// no word begins what follows; or memory was wanted.
+pub fn items_in<'a, T, F, E>(alloc: Global, content: &'a [u8]) -> Result<Vec<T>, E>
+where
+    T: Drop,
+    F: ReadsWords<'a, T, E>,
+    E: From<Error>,
+    ensures joined { IfOk result (λ items. IsJoined F.Words content.now (map F.value items.items)) }
+    ensures refused { IfErr result (λ e. E.from_gives faults.OutOfMemory e ⊎ EndsBefore F.Words content.now e) }
+    ensures whole { AreJoinedWords F.Words content.now
+        → IfErr result (E.from_gives faults.OutOfMemory) }
+{
+    walks_take_words::<T, F, E>();
+    let mut items = Vec::new(alloc);
+    for item in SequenceIterator::<T, F, E>::new(alloc, content) {
+        match item {
+            Ok(item) => match items.push(item) {
+                Ok(()) => {}
+                Err(_) => return Err(E::from(Error::OutOfMemory)),
+            },
+            Err(e) => return Err(e),
+        }
+    }
+    Ok(items)
+}
+
+/// The numbers in contents octets, by DER.
+pub fn numbers_in(alloc: Global, content: &[u8]) -> Result<Vec<u64>, Error>
+    ensures joined { IfOk result (λ items. IsJoined NumberByDer content.now (map pos items.items)) }
+    ensures refused { IfErr result (λ e. (e ≡ faults.OutOfMemory) ⊎ EndsBefore NumberByDer content.now e) }
+    ensures whole { AreJoinedWords NumberByDer content.now → IfErr result (λ e. e ≡ faults.OutOfMemory) }
+{
+    items_in::<u64, DerParser, Error>(alloc, content)
+}
+
+/// How many numbers stand in contents octets that are numbers by DER, joined.
+pub fn count_of_numbers(alloc: Global, content: &[u8]) -> usize
+    ensures { AreJoinedWords NumberByDer content.now → (numbers : List ℤ)
+        × IsJoined NumberByDer content.now numbers × (result ≡ length numbers) }
+{
+    walks_take_words::<u64, DerParser, Error>();
+    SequenceIterator::<u64, DerParser, Error>::new(alloc, content).count()
+}
