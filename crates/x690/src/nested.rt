@@ -1,14 +1,15 @@
 //! The laws of elements by BER, nested to a depth, and of their faults.
 
-ghost use Rattle.std.specs.Prelude.{ℕ, List, ◌++◌, ◌≡◌, ◌+◌, ◌-◌, ◌*◌, ◌≤◌, length};
+ghost use Rattle.std.specs.Prelude.{ℕ, List, ◌++◌, ◌≡◌, ◌+◌, ◌-◌, ◌*◌, ◌≤◌, ◌⊎◌, length};
 ghost use Rattle.std.specs.List.{concat};
 ghost use Rattle.x690.specs.Octets.{IsOctets, BeginsWith};
 ghost use Rattle.x690.specs.Identifiers.{Identifier};
 ghost use Rattle.x690.specs.Lengths.{LengthForm, definite};
-ghost use Rattle.x690.specs.Elements.{Parts, IsHeader, IsDefiniteElement, ber_rule};
-ghost use Rattle.x690.specs.Faults.{Fault, missing, tag_fault, SpeaksOf, IsLackingOrCut};
-ghost use Rattle.x690.specs.Nested.{IsNestedElement, IsWord, IsRow, ElementFault, EndsInIdentifier, end_of_contents};
-ghost use Rattle.x690.specs.Contents.{IsContent, ContentFault};
+ghost use Rattle.x690.specs.Rules.{Rule, ber_rule};
+ghost use Rattle.x690.specs.Elements.{Parts, IsHeader, IsDefiniteElement, BeginsWithElement};
+ghost use Rattle.x690.specs.Faults.{Fault, missing, tag_fault, HasFault, SpeaksOf, IsLackingOrCut};
+ghost use Rattle.x690.specs.Nested.{IsNestedElement, IsElement, IsWord, IsRow, ElementFault, EndsInIdentifier, end_of_contents};
+ghost use Rattle.x690.specs.Contents.{IsContent, BeginsWithContent, ContentFault};
 ghost use Rattle.x690.specs.FaultHeaders.{FaultHeaders};
 
 /// Where two elements begin one input they are the same, of whatever depths: they have the same parts and as many
@@ -42,14 +43,14 @@ pub fn contents_split_in_one_way()
         → (words ≡ others) × (headers ≡ other_headers) × (rest ≡ tail) }
 {}
 
-/// An element of definite length is an element of every depth from 1 on, with one header. It is the only kind that
-/// counts its contents octets (X.690 8.1.3.6).
+/// An element of definite length is an element by BER of every depth from 1 on, with one header, whichever rule it
+/// keeps. It is the only kind that counts its contents octets (X.690 8.1.3.6).
 pub fn definite_elements_are_nested()
-    ensures nested { (depth : ℕ) (octets : List ℕ) (parts : Parts)
-        → 1 ≤ depth → IsDefiniteElement octets parts → IsNestedElement depth octets parts 1 }
+    ensures nested { (rule : Rule) (depth : ℕ) (octets : List ℕ) (parts : Parts)
+        → 1 ≤ depth → IsDefiniteElement rule octets parts → IsNestedElement depth octets parts 1 }
     ensures definite { (depth : ℕ) (octets : List ℕ) (parts : Parts) (headers n : ℕ)
         → parts.form ≡ definite n → IsNestedElement depth octets parts headers
-        → IsDefiniteElement octets parts × (headers ≡ 1) }
+        → IsDefiniteElement ber_rule octets parts × (headers ≡ 1) }
 {}
 
 /// An element of one depth is an element of each greater depth.
@@ -86,6 +87,18 @@ pub fn nested_beginnings_lack_octets()
     ensures within { (depth : ℕ) (input : List ℕ) → EndsInIdentifier depth input → ElementFault depth input tag_fault }
 {}
 
+/// Octets that no element of the depth begins have a fault, and so have octets that begin with no contents octets of a
+/// form: it can be computed which of the two holds.
+///
+/// That they are octets is needed: 0 and then the number 256 have no fault, and no element begins them, nor contents
+/// octets that end with `00 00`.
+pub fn nested_faults_are_complete()
+    ensures element { (depth : ℕ) (input : List ℕ)
+        → IsOctets input → BeginsWithElement (IsElement depth) input ⊎ HasFault (ElementFault depth) input }
+    ensures content { (form : LengthForm) (depth : ℕ) (input : List ℕ)
+        → IsOctets input → BeginsWithContent form depth input ⊎ HasFault (ContentFault form depth) input }
+{}
+
 /// Octets that an element of the depth begins have no fault.
 pub fn nested_elements_have_no_fault()
     ensures { (depth : ℕ) (input front rest : List ℕ) (parts : Parts) (headers : ℕ)
@@ -101,8 +114,8 @@ pub fn one_nested_fault()
     ensures some { (depth : ℕ) (input : List ℕ) (n : ℕ) → ElementFault depth input (missing n) → 1 ≤ n }
 {}
 
-/// Octets that no element of the depth begins have one count of headers that are read whole before the first fault, and
-/// two octets at least for each of them. No other octets have one (X.690 8.1.3.6, 8.1.5).
+/// Octets that have a fault of an element of the depth have one count of headers that are read whole before it, and two
+/// octets at least for each of them. No other octets have one (X.690 8.1.3.6, 8.1.5).
 pub fn headers_before_faults_are_determined()
     ensures one { (depth : ℕ) (input : List ℕ) (headers other : ℕ)
         → FaultHeaders depth input headers → FaultHeaders depth input other → headers ≡ other }
@@ -114,8 +127,8 @@ pub fn headers_before_faults_are_determined()
         → FaultHeaders depth input headers → (fault : Fault) × ElementFault depth input fault }
 {}
 
-/// Octets begin in one way with the contents octets that a length of a form announces, whatever follows, or they have
-/// one fault (X.690 8.1.3, 8.1.5).
+/// Octets begin in one way at most with the contents octets that a length of a form announces, whatever follows, and
+/// have one fault of them at most, and not both (X.690 8.1.3, 8.1.5).
 pub fn contents_are_determined()
     ensures unique { (form : LengthForm) (depth : ℕ) (input content other rest tail : List ℕ) (headers other_headers : ℕ)
         → IsContent form depth input content rest headers → IsContent form depth input other tail other_headers
