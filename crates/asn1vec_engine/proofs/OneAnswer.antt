@@ -7,8 +7,8 @@ use Rattle.std.proofs.Math.Dec.{eqb}
 use Rattle.std.specs.List.{find}
 use Rattle.std.specs.Cmp.Lexicographic.{pointwise}
 use Rattle.x690.specs.Identifiers.{Identifier, IsCutIdentifier}
-use Rattle.x690.specs.Elements.{Parts, IsDefiniteElement}
-use Rattle.x690.specs.Faults.{DefiniteElementFault}
+use Rattle.x690.specs.Elements.{Parts, IsDerElement}
+use Rattle.x690.specs.Faults.{DerElementFault}
 use Rattle.x690.specs.Nested.{IsElement, ElementFault}
 use Rattle.asn1_rs.specs.declared.error.Err.{Err as Refusal}
 use Rattle.asn1_rs.specs.declared.error.Error.{Error}
@@ -120,8 +120,8 @@ module _ {T V : Type 0} (check : Parts → Result (Unit {0}) Error → Type 0) (
       reading_once EndsWithin (BerWord Body) value (BerGives convert Same) text_of Form (word_one (IsElement max_depth) NoCheck Body ber_elements.one one_body) one_form
       (one_reading_refusal PassesAll convert one_pass passed one_conversion (IsElement max_depth) (ElementFault max_depth) EndsWithin ber_elements faults.ConstructExpected) octets text other a b
   item_once Der octets text other a b =
-      reading_once IsCutIdentifier (DerWord Check Body) value (DerGives check convert Same) text_of Form (word_one IsDefiniteElement Check Body der_elements.one one_body) one_form
-      (one_reading_refusal check convert one_check checked one_conversion IsDefiniteElement DefiniteElementFault IsCutIdentifier der_elements (faults.DerConstraintFailed constraints.IndefiniteLength)) octets text other a b
+      reading_once IsCutIdentifier (DerWord Check Body) value (DerGives check convert Same) text_of Form (word_one IsDerElement Check Body der_elements.one one_body) one_form
+      (one_reading_refusal check convert one_check checked one_conversion IsDerElement DerElementFault IsCutIdentifier der_elements (faults.DerConstraintFailed constraints.IndefiniteLength)) octets text other a b
 
 -- ---- the types
 

@@ -1,5 +1,5 @@
 -- Headers and elements of definite length (X.690 8.1.1, 10.1).
-use Rattle.std.specs.Prelude.{◌≡◌, ℕ, true, List, ◌++◌, length}
+use Rattle.std.specs.Prelude.{◌≡◌, ℕ, ◌<◌, ◌^◌, true, List, ◌++◌, length}
 use Rattle.x690.specs.Octets.{IsOctets, BeginsWith}
 use Rattle.x690.specs.Identifiers.{Identifier, IsIdentifier, IsStrictIdentifier}
 use Rattle.x690.specs.Lengths.{LengthForm, definite, IsLengthForm, IsStrictLength}
@@ -20,6 +20,12 @@ pub record Parts : Type 0 where
   pub id : Identifier
   pub form : LengthForm
   pub content : List ℕ
+
+-- the parts that an element can have
+pub record ArePossible (parts : Parts) : Type 0 where
+  pub class : parts.id.class < 4
+  pub number : parts.id.number < 2 ^ 32
+  pub content : IsOctets parts.content
 
 -- a header that counts the contents octets, and then these
 pub record IsDefiniteElement (rule : Rule) (octets : List ℕ) (parts : Parts) : Type 0 where

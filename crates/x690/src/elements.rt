@@ -5,7 +5,7 @@ ghost use Rattle.x690.specs.Octets.{IsOctets, BeginsWith};
 ghost use Rattle.x690.specs.Identifiers.{Identifier, IsCutIdentifier};
 ghost use Rattle.x690.specs.Lengths.{LengthForm, definite};
 ghost use Rattle.x690.specs.Rules.{Rule, der_rule, ber_rule};
-ghost use Rattle.x690.specs.Elements.{IsHeader, Parts, IsDefiniteElement, IsDerElement, BeginsWithHeader, BeginsWithElement};
+ghost use Rattle.x690.specs.Elements.{IsHeader, Parts, ArePossible, IsDefiniteElement, IsDerElement, BeginsWithHeader, BeginsWithElement};
 ghost use Rattle.x690.specs.Faults.{Fault, missing, tag_fault, HeaderFault, DerElementFault, HasFault, SpeaksOf, IsLackingOrCut};
 
 /// Where two headers begin one input they are the same and say the same, and the same octets follow, whichever rule
@@ -35,7 +35,7 @@ pub fn der_headers_are_ber_headers()
 
 /// Where two elements of definite length begin one input they are the same and have the same parts, and the same
 /// octets follow, whichever rule each of them keeps (X.690 8.1.1, 8.1.3.3). An element has two octets more than its
-/// contents at least.
+/// contents at least, a class from 0 to 3 and a tag number below 2^32.
 pub fn definite_elements_unique()
     ensures unique { (rule other_rule : Rule) (input front other rest tail : List ℕ) (front_parts other_parts : Parts)
         → IsDefiniteElement rule front front_parts → BeginsWith input front rest
@@ -45,6 +45,8 @@ pub fn definite_elements_unique()
         → IsDefiniteElement rule octets parts → length parts.content + 2 ≤ length octets }
     ensures octets { (rule : Rule) (octets : List ℕ) (parts : Parts)
         → IsDefiniteElement rule octets parts → IsOctets octets }
+    ensures possible { (rule : Rule) (octets : List ℕ) (parts : Parts)
+        → IsDefiniteElement rule octets parts → ArePossible parts }
 {}
 
 /// A fault is final: where octets have one, no header, or no element by DER, begins them, nor any extension of them of

@@ -6,14 +6,14 @@ ghost use Rattle.x690.specs.Octets.{IsOctets, BeginsWith};
 ghost use Rattle.x690.specs.Identifiers.{Identifier};
 ghost use Rattle.x690.specs.Lengths.{LengthForm, definite};
 ghost use Rattle.x690.specs.Rules.{Rule, ber_rule};
-ghost use Rattle.x690.specs.Elements.{Parts, IsHeader, IsDefiniteElement, BeginsWithElement};
+ghost use Rattle.x690.specs.Elements.{Parts, ArePossible, IsHeader, IsDefiniteElement, BeginsWithElement};
 ghost use Rattle.x690.specs.Faults.{Fault, missing, tag_fault, HasFault, SpeaksOf, IsLackingOrCut};
 ghost use Rattle.x690.specs.Nested.{IsNestedElement, IsElement, IsWord, IsRow, ElementFault, EndsInIdentifier, end_of_contents};
 ghost use Rattle.x690.specs.Contents.{IsContent, BeginsWithContent, ContentFault};
 ghost use Rattle.x690.specs.FaultHeaders.{FaultHeaders};
 
 /// Where two elements begin one input they are the same, of whatever depths: they have the same parts and as many
-/// headers, and the same octets follow (X.690 8.1.1).
+/// headers, and the same octets follow (X.690 8.1.1). An element has a class from 0 to 3, and a tag number below 2^32.
 pub fn nested_elements_unique()
     ensures unique { (depth other_depth : ℕ) (input front other rest tail : List ℕ)
         (front_parts other_parts : Parts) (front_headers other_headers : ℕ)
@@ -22,6 +22,8 @@ pub fn nested_elements_unique()
         → (front ≡ other) × (front_parts ≡ other_parts) × (front_headers ≡ other_headers) × (rest ≡ tail) }
     ensures octets { (depth : ℕ) (octets : List ℕ) (parts : Parts) (headers : ℕ)
         → IsNestedElement depth octets parts headers → IsOctets octets }
+    ensures possible { (depth : ℕ) (octets : List ℕ) (parts : Parts) (headers : ℕ)
+        → IsNestedElement depth octets parts headers → ArePossible parts }
 {}
 
 /// The element that begins an input begins each extension of it too, and no other does.

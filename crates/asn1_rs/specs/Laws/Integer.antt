@@ -5,7 +5,7 @@ use Rattle.x690.specs.Octets.{IsOctets}
 use Rattle.x690.specs.Digits.{twos_complement_value}
 use Rattle.x690.specs.Identifiers.{Identifier}
 use Rattle.x690.specs.Lengths.{LengthForm, definite, indefinite}
-use Rattle.x690.specs.Elements.{Parts, IsDefiniteElement}
+use Rattle.x690.specs.Elements.{Parts, IsDerElement}
 use Rattle.x690.specs.Nested.{IsElement}
 use Rattle.x690.specs.Integers.{HasSpareZeros, HasSpareOnes, IsIntegerContent}
 use Rattle.x690.specs.Laws.Integers.{integer_content_unique, integer_content_one_value}
@@ -101,7 +101,7 @@ module _ (Holds : ℤ → Type 0) where
   integer_ber_one = word_one (IsElement max_depth) NoCheck (IntegerBody Holds) ber_elements.one integer_one_body
 
   pub integer_der_one : IsOneFront (DerWord IntegerCheck (IntegerBody Holds))
-  integer_der_one = word_one IsDefiniteElement IntegerCheck (IntegerBody Holds) der_elements.one integer_one_body
+  integer_der_one = word_one IsDerElement IntegerCheck (IntegerBody Holds) der_elements.one integer_one_body
 
   pub integer_one_form : IsOneForm (IntegerForm Holds)
   integer_one_form = universal_one false integer_number (IntegerContent Holds) (λ v c d f g. integer_content_unique v c d f.1 g.1)

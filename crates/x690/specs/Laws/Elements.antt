@@ -5,8 +5,9 @@ use Rattle.x690.specs.Octets.{IsOctets}
 use Rattle.x690.specs.Identifiers.{Identifier}
 use Rattle.x690.specs.Lengths.{LengthForm}
 use Rattle.x690.specs.Rules.{Rule}
-use Rattle.x690.specs.Elements.{Parts, IsDefiniteElement}
+use Rattle.x690.specs.Elements.{Parts, IsDefiniteElement, ArePossible}
 use Rattle.x690.specs.Laws.Octets.{octets_append}
+use Rattle.x690.specs.Laws.Identifiers.{identifier_bounds}
 use Rattle.x690.specs.Laws.Lengths.{same_front}
 use Rattle.x690.specs.Laws.Headers.{header_peel, header_two, header_is_octets, definite_same}
 
@@ -29,3 +30,9 @@ definite_element_two rule o p a = omega (arith, header_two rule a.header p.id p.
 pub definite_element_is_octets : (rule : Rule) (o : List ℕ) (p : Parts) → IsDefiniteElement rule o p → IsOctets o
 definite_element_is_octets rule o p a =
     subst IsOctets (sym a.is) (octets_append a.header p.content (header_is_octets rule a.header p.id p.form a.header_is) a.content_octets)
+
+-- the parts are those that an element can have
+pub definite_possible : (rule : Rule) (o : List ℕ) (p : Parts) → IsDefiniteElement rule o p → ArePossible p
+definite_possible rule o p a =
+    let b = identifier_bounds a.header_is.identifier p.id a.header_is.identifier_is in
+    record { class = b.0; number = b.1; content = a.content_octets }

@@ -6,9 +6,10 @@ use Rattle.x690.specs.Octets.{IsOctets}
 use Rattle.x690.specs.Identifiers.{Identifier}
 use Rattle.x690.specs.Lengths.{definite, indefinite}
 use Rattle.x690.specs.Rules.{Rule, ber_rule}
-use Rattle.x690.specs.Elements.{Parts, IsHeader, IsDefiniteElement}
+use Rattle.x690.specs.Elements.{Parts, IsHeader, IsDefiniteElement, ArePossible}
 use Rattle.x690.specs.Nested.{IsRow, IsIndefiniteElement, IsNestedElement, IsWord, end_of_contents}
 use Rattle.x690.specs.Laws.Octets.{octets_append, octets_front, octets_back, below_octets}
+use Rattle.x690.specs.Laws.Identifiers.{identifier_bounds}
 use Rattle.x690.specs.Laws.Headers.{header_unique, header_peel, header_definite, header_two, header_is_octets, not_both_forms}
 use Rattle.x690.specs.Laws.Elements.{same_parts, definite_element_unique, definite_element_two, definite_element_is_octets}
 use Rattle.x690.specs.Laws.Rows.{AreWordsUnique, IsEndWhole, rows_unique, row_half, row_map, row_is_octets}
@@ -171,3 +172,9 @@ nested_content_is_octets (suc depth) o p h (inl n) = n.0.content_octets
 nested_content_is_octets (suc depth) o p h (inr n) =
     let all = subst IsOctets n.1.is (nested_element_is_octets (suc depth) o p h (inr n)) in
     octets_front p.content end_of_contents (octets_back n.1.header (p.content ++ end_of_contents) all)
+
+pub nested_possible : (depth : ℕ) (o : List ℕ) (p : Parts) (h : ℕ) → IsNestedElement depth o p h → ArePossible p
+nested_possible depth o p h n =
+    let w = nested_header depth o p h n in
+    let b = identifier_bounds w.2.identifier p.id w.2.identifier_is in
+    record { class = b.0; number = b.1; content = nested_content_is_octets depth o p h n }
