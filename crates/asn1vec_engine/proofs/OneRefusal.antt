@@ -1,7 +1,7 @@
 -- Octets that are read as one element, checked and converted, have one refusal.
 use Rattle.std.proofs.Common.{◌≡◌, ◌∙◌, sym, ap, subst, refl, List, [], ℕ, append-nil, ◌⊎◌, inl, inr, Result, Ok, Err}
 use Rattle.x690.specs.Elements.{Parts}
-use Rattle.x690.specs.Faults.{Fault}
+use Rattle.x690.specs.Faults.{Breach, Fault}
 use Rattle.asn1_rs.specs.declared.error.Err.{Err as Refusal}
 use Rattle.asn1_rs.specs.declared.error.Err.TheVariants.{Incomplete as cut, Error as refused, Failure as failed}
 use Rattle.asn1_rs.specs.declared.error.Error.{Error}
