@@ -305,17 +305,40 @@ pub fn write_strict<T: LawfulWrite, W: DerWrite>(
 /// contents octets begin it.
 pub fn one_refusal()
     ensures header { (rule : Rule) (refuses : Breach → Fault) (input : List ℕ) (q r : Refusal Fault)
-        → HeaderGives rule (refusal_of refuses) input (Err q) → HeaderGives rule (refusal_of refuses) input (Err r) → q ≡ r }
-    ensures no_header { (rule : Rule) (refuses : Breach → Fault) (input : List ℕ) (x : List ℕ × Head) (r : Refusal Fault)
-        → HeaderGives rule (refusal_of refuses) input (Ok x) → HeaderGives rule (refusal_of refuses) input (Err r) → ⊥ }
-    ensures element { (input : List ℕ) (q r : Refusal Fault) → DerElementGives input (Err q) → DerElementGives input (Err r) → q ≡ r }
-    ensures no_element { (input : List ℕ) (x : List ℕ × Element) (r : Refusal Fault) → DerElementGives input (Ok x) → DerElementGives input (Err r) → ⊥ }
-    ensures ber_element { (input : List ℕ) (q r : Refusal Fault) → BerElementGives input (Err q) → BerElementGives input (Err r) → q ≡ r }
-    ensures no_ber_element { (input : List ℕ) (x : List ℕ × Element) (r : Refusal Fault) → BerElementGives input (Ok x) → BerElementGives input (Err r) → ⊥ }
-    ensures ber_content { (constructed : Bool) (form : LengthForm) (depth : ℕ) (input : List ℕ) (q r : Refusal Fault)
-        → BerContentGives constructed form depth input (Err q) → BerContentGives constructed form depth input (Err r) → q ≡ r }
-    ensures no_ber_content { (constructed : Bool) (form : LengthForm) (depth : ℕ) (input : List ℕ) (x : Bor (List ℕ) × Bor (List ℕ)) (r : Refusal Fault)
-        → BerContentGives constructed form depth input (Ok x) → BerContentGives constructed form depth input (Err r) → ⊥ }
+        → HeaderGives rule (refusal_of refuses) input (Err q)
+        → HeaderGives rule (refusal_of refuses) input (Err r)
+        → q ≡ r }
+    ensures no_header { (rule : Rule) (refuses : Breach → Fault) (input : List ℕ)
+        (x : List ℕ × Head) (r : Refusal Fault)
+        → HeaderGives rule (refusal_of refuses) input (Ok x)
+        → HeaderGives rule (refusal_of refuses) input (Err r)
+        → ⊥ }
+    ensures element { (input : List ℕ) (q r : Refusal Fault)
+        → DerElementGives input (Err q)
+        → DerElementGives input (Err r)
+        → q ≡ r }
+    ensures no_element { (input : List ℕ) (x : List ℕ × Element) (r : Refusal Fault)
+        → DerElementGives input (Ok x)
+        → DerElementGives input (Err r)
+        → ⊥ }
+    ensures ber_element { (input : List ℕ) (q r : Refusal Fault)
+        → BerElementGives input (Err q)
+        → BerElementGives input (Err r)
+        → q ≡ r }
+    ensures no_ber_element { (input : List ℕ) (x : List ℕ × Element) (r : Refusal Fault)
+        → BerElementGives input (Ok x)
+        → BerElementGives input (Err r)
+        → ⊥ }
+    ensures ber_content { (constructed : Bool) (form : LengthForm) (depth : ℕ) (input : List ℕ)
+        (q r : Refusal Fault)
+        → BerContentGives constructed form depth input (Err q)
+        → BerContentGives constructed form depth input (Err r)
+        → q ≡ r }
+    ensures no_ber_content { (constructed : Bool) (form : LengthForm) (depth : ℕ) (input : List ℕ)
+        (x : Bor (List ℕ) × Bor (List ℕ)) (r : Refusal Fault)
+        → BerContentGives constructed form depth input (Ok x)
+        → BerContentGives constructed form depth input (Err r)
+        → ⊥ }
 {}
 
 /// What the readers of [`Any`](crate::Any) answer is the element at the front of the octets, or the refusal of its first
@@ -328,29 +351,61 @@ pub fn any_is_the_element()
 /// Octets that more of them make begin with a header or an element are refused with `Incomplete` of these or fewer, or
 /// they end within an identifier in high form. Where they end so the answer is `InvalidTag`.
 pub fn beginnings_are_incomplete()
-    ensures header { (rule : Rule) (refuses : Breach → Fault) (input more front rest : List ℕ) (id : Identifier) (form : LengthForm) (r : Refusal Fault)
-        → HeaderGives rule (refusal_of refuses) input (Err r) → IsHeader rule front id form → input ++ more ≡ front ++ rest → TellsBeginning (IsCutIdentifier input) r more }
-    ensures header_within { (rule : Rule) (refuses : Breach → Fault) (input : List ℕ) (answer : Result (List ℕ × Head) (Refusal Fault))
-        → IsCutIdentifier input → HeaderGives rule (refusal_of refuses) input answer → answer ≡ Err (causes.Error faults.InvalidTag) }
+    ensures header { (rule : Rule) (refuses : Breach → Fault) (input more front rest : List ℕ)
+        (id : Identifier) (form : LengthForm) (r : Refusal Fault)
+        → HeaderGives rule (refusal_of refuses) input (Err r)
+        → IsHeader rule front id form
+        → input ++ more ≡ front ++ rest
+        → TellsBeginning (IsCutIdentifier input) r more }
+    ensures header_within { (rule : Rule) (refuses : Breach → Fault) (input : List ℕ)
+        (answer : Result (List ℕ × Head) (Refusal Fault))
+        → IsCutIdentifier input
+        → HeaderGives rule (refusal_of refuses) input answer
+        → answer ≡ Err (causes.Error faults.InvalidTag) }
     ensures element { (input more word rest : List ℕ) (p : Parts) (r : Refusal Fault)
-        → DerElementGives input (Err r) → IsDerElement word p → input ++ more ≡ word ++ rest → TellsBeginning (IsCutIdentifier input) r more }
+        → DerElementGives input (Err r)
+        → IsDerElement word p
+        → input ++ more ≡ word ++ rest
+        → TellsBeginning (IsCutIdentifier input) r more }
     ensures element_within { (input : List ℕ) (answer : Result (List ℕ × Element) (Refusal Fault))
-        → IsCutIdentifier input → DerElementGives input answer → answer ≡ Err (causes.Error faults.InvalidTag) }
+        → IsCutIdentifier input
+        → DerElementGives input answer
+        → answer ≡ Err (causes.Error faults.InvalidTag) }
     ensures ber_element { (input more word rest : List ℕ) (p : Parts) (r : Refusal Fault)
-        → BerElementGives input (Err r) → IsElement max_depth word p → input ++ more ≡ word ++ rest → TellsBeginning (EndsWithin input) r more }
-    ensures ber_element_within { (input : List ℕ) (answer : Result (List ℕ × Element) (Refusal Fault))
-        → EndsWithin input → BerElementGives input answer → answer ≡ Err (causes.Error faults.InvalidTag) }
+        → BerElementGives input (Err r)
+        → IsElement max_depth word p
+        → input ++ more ≡ word ++ rest
+        → TellsBeginning (EndsWithin input) r more }
+    ensures ber_element_within { (input : List ℕ)
+        (answer : Result (List ℕ × Element) (Refusal Fault))
+        → EndsWithin input
+        → BerElementGives input answer
+        → answer ≡ Err (causes.Error faults.InvalidTag) }
 {}
 
 /// What the readers of headers and of elements answer lasts. After a refusal no element begins the input, nor more
 /// octets of which the refusal speaks. A header or an element that is read is the one that begins the input, whatever
 /// follows, and so are contents octets.
 pub fn answers_last()
-    ensures header { (rule : Rule) (refuses : Breach → Fault) (input : List ℕ) (x : List ℕ × Head) → HeaderGives rule (refusal_of refuses) input (Ok x) → HeaderLasts input x.0 x.1 }
-    ensures refusal { (input : List ℕ) (r : Refusal Fault) → DerElementGives input (Err r) → RefusalLasts IsDerElement IsCutIdentifier input r }
-    ensures element { (input : List ℕ) (x : List ℕ × Element) → DerElementGives input (Ok x) → ElementLasts IsDerElement input x.0 x.1 }
-    ensures ber_refusal { (input : List ℕ) (r : Refusal Fault) → BerElementGives input (Err r) → RefusalLasts (IsElement max_depth) EndsWithin input r }
-    ensures ber_element { (input : List ℕ) (x : List ℕ × Element) → BerElementGives input (Ok x) → ElementLasts (IsElement max_depth) input x.0 x.1 }
-    ensures ber_content { (constructed : Bool) (form : LengthForm) (depth : ℕ) (input more : List ℕ) (x : Bor (List ℕ) × Bor (List ℕ)) (answer : Result (Bor (List ℕ) × Bor (List ℕ)) (Refusal Fault))
-        → BerContentGives constructed form depth input (Ok x) → BerContentGives constructed form depth (input ++ more) answer → ContentStays x more answer }
+    ensures header { (rule : Rule) (refuses : Breach → Fault) (input : List ℕ) (x : List ℕ × Head)
+        → HeaderGives rule (refusal_of refuses) input (Ok x)
+        → HeaderLasts input x.0 x.1 }
+    ensures refusal { (input : List ℕ) (r : Refusal Fault)
+        → DerElementGives input (Err r)
+        → RefusalLasts IsDerElement IsCutIdentifier input r }
+    ensures element { (input : List ℕ) (x : List ℕ × Element)
+        → DerElementGives input (Ok x)
+        → ElementLasts IsDerElement input x.0 x.1 }
+    ensures ber_refusal { (input : List ℕ) (r : Refusal Fault)
+        → BerElementGives input (Err r)
+        → RefusalLasts (IsElement max_depth) EndsWithin input r }
+    ensures ber_element { (input : List ℕ) (x : List ℕ × Element)
+        → BerElementGives input (Ok x)
+        → ElementLasts (IsElement max_depth) input x.0 x.1 }
+    ensures ber_content { (constructed : Bool) (form : LengthForm) (depth : ℕ)
+        (input more : List ℕ) (x : Bor (List ℕ) × Bor (List ℕ))
+        (answer : Result (Bor (List ℕ) × Bor (List ℕ)) (Refusal Fault))
+        → BerContentGives constructed form depth input (Ok x)
+        → BerContentGives constructed form depth (input ++ more) answer
+        → ContentStays x more answer }
 {}

@@ -100,7 +100,8 @@ pub fn some_octets_are_missing()
 /// Octets that more of them make begin with a header, or with an element by DER, lack these or fewer, or they end within
 /// an identifier in high form. Where they end so, that is their fault.
 pub fn beginnings_lack_octets()
-    ensures header { (rule : Rule) (input more front rest : List ℕ) (id : Identifier) (form : LengthForm) (fault : Fault)
+    ensures header { (rule : Rule) (input more front rest : List ℕ)
+        (id : Identifier) (form : LengthForm) (fault : Fault)
         → HeaderFault rule input fault → IsHeader rule front id form → BeginsWith (input ++ more) front rest
         → IsLackingOrCut (IsCutIdentifier input) fault more }
     ensures der_element { (input more front rest : List ℕ) (parts : Parts) (fault : Fault)

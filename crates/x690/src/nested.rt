@@ -89,14 +89,17 @@ pub fn nested_beginnings_lack_octets()
     ensures within { (depth : ℕ) (input : List ℕ) → EndsInIdentifier depth input → ElementFault depth input tag_fault }
 {}
 
-/// Octets that no element of the depth begins have a fault, and so have octets that begin with no contents octets of a
-/// form: it can be computed which of the two holds.
+/// Octets that no element of the depth begins have a fault, with a count of headers that are read whole before it, and
+/// octets that begin with no contents octets of a form have one too: it can be computed which of the two holds.
 ///
 /// That they are octets is needed: 0 and then the number 256 have no fault, and no element begins them, nor contents
 /// octets that end with `00 00`.
 pub fn nested_faults_are_complete()
     ensures element { (depth : ℕ) (input : List ℕ)
         → IsOctets input → BeginsWithElement (IsElement depth) input ⊎ HasFault (ElementFault depth) input }
+    ensures headers { (depth : ℕ) (input : List ℕ)
+        → IsOctets input
+        → BeginsWithElement (IsElement depth) input ⊎ ((headers : ℕ) × FaultHeaders depth input headers) }
     ensures content { (form : LengthForm) (depth : ℕ) (input : List ℕ)
         → IsOctets input → BeginsWithContent form depth input ⊎ HasFault (ContentFault form depth) input }
 {}

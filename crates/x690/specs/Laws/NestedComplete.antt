@@ -13,6 +13,8 @@ use Rattle.x690.specs.Contents.{IsEndedContent, EndFault, IsContent, BeginsWithC
 use Rattle.x690.specs.Laws.Octets.{octets_back}
 use Rattle.x690.specs.Laws.Nested.{nested_element_two}
 use Rattle.x690.specs.Laws.Contents.{element_made, header_fault_first, too_deep, content_fault_behind}
+use Rattle.x690.specs.FaultHeaders.{FaultHeaders}
+use Rattle.x690.specs.Laws.FaultHeaders.{fault_has_headers}
 use Rattle.x690.specs.Laws.Complete.{header_or_has_fault}
 
 -- an element begins each string of octets that has no fault
@@ -109,6 +111,13 @@ element_or_has_fault (suc depth) octets o = elim (header_or_has_fault ber_rule o
             inl (m.0, rest, record { id = id; form = form; content = content }, (suc headers, m.1), m.2)
         | inr f ↦ inr (f.0, content_fault_behind (suc depth) octets header after id form f.0 (omega arith) h s (subst (λ (d : ℕ). ContentFault form d after f.0) e f.1))
       ]
+]
+
+-- or a count of headers before it
+pub element_or_fault_headers : (depth : ℕ) (octets : List ℕ) → IsOctets octets → BeginsWithElement (IsElement depth) octets ⊎ ((headers : ℕ) × FaultHeaders depth octets headers)
+element_or_fault_headers depth octets o = elim (element_or_has_fault depth octets o) [
+  | inl w ↦ inl w
+  | inr f ↦ inr (fault_has_headers depth octets f.0 f.1)
 ]
 
 -- Contents octets of a form begin octets, or they have a fault.
