@@ -12,6 +12,7 @@ pub data Breach : Type 0 where
   length_breach : Breach
   form_breach : Breach
 
+-- What is wrong: so many octets are missing; identifier octets that are cut or too great; length octets that are ff or too great; a header that its rule does not allow; a depth that is spent.
 pub data Fault : Type 0 where
   missing : ℕ → Fault
   tag_fault : Fault
