@@ -47,7 +47,8 @@ fn first_octet(octet: u8) -> (Class, bool, u8)
 /// The identifier octets at the front.
 fn read_identifier(bytes: &[u8]) -> ParseResult<'_, IdentifierOctets<'_>, Error>
     ensures ok { IfOk result (λ x. BeginsWithIdentifier bytes.now x.0.now x.1) }
-    ensures err { (refuses : Breach → Fault) → IfErr result (Refused IdentifierFault (refusal_of refuses) bytes.now) }
+    ensures err { (refuses : Breach → Fault)
+        → IfErr result (Refused IdentifierFault (refusal_of refuses) bytes.now) }
 {
     let [first, digits @ ..] = bytes else {
         return Err(Err::Incomplete(Needed::Size(1)));
@@ -76,7 +77,8 @@ fn read_identifier(bytes: &[u8]) -> ParseResult<'_, IdentifierOctets<'_>, Error>
 /// The length octets at the front, or 80.
 fn read_length(bytes: &[u8]) -> ParseResult<'_, Length, Error>
     ensures ok { IfOk result (λ x. BeginsWithLength bytes.now x.0.now x.1) }
-    ensures err { (refuses : Breach → Fault) → IfErr result (Refused LengthFault (refusal_of refuses) bytes.now) }
+    ensures err { (refuses : Breach → Fault)
+        → IfErr result (Refused LengthFault (refusal_of refuses) bytes.now) }
 {
     let [first, rest @ ..] = bytes else {
         return Err(Err::Incomplete(Needed::Size(1)));
@@ -113,7 +115,8 @@ impl<'a> IdentifierOctets<'a> {
 fn read_parts(bytes: &[u8]) -> ParseResult<'_, (IdentifierOctets<'_>, Length), Error>
     ensures ok { IfOk result (λ x. BeginsWithBoth bytes.now x.0.now x.1.0 x.1.1) }
     ensures err { (rule : Rule) (refuses : Breach → Fault)
-        → AllowsIdentifiers rule → IfErr result (Refused (HeaderFault rule) (refusal_of refuses) bytes.now) }
+        → AllowsIdentifiers rule
+        → IfErr result (Refused (HeaderFault rule) (refusal_of refuses) bytes.now) }
 {
     let (rest, identifier) = read_identifier(bytes)?;
     let (rest, length) = read_length(rest)?;

@@ -37,7 +37,8 @@ pub fn der_headers_are_ber_headers()
 /// octets follow, whichever rule each of them keeps (X.690 8.1.1, 8.1.3.3). An element has two octets more than its
 /// contents at least, a class from 0 to 3 and a tag number below 2^32.
 pub fn definite_elements_unique()
-    ensures unique { (rule other_rule : Rule) (input front other rest tail : List ℕ) (front_parts other_parts : Parts)
+    ensures unique { (rule other_rule : Rule) (input front other rest tail : List ℕ)
+        (front_parts other_parts : Parts)
         → IsDefiniteElement rule front front_parts → BeginsWith input front rest
         → IsDefiniteElement other_rule other other_parts → BeginsWith input other tail
         → (front ≡ other) × (front_parts ≡ other_parts) × (rest ≡ tail) }
@@ -93,7 +94,9 @@ pub fn one_fault()
 
 /// Where octets are missing, one is missing at least.
 pub fn some_octets_are_missing()
-    ensures header { (rule : Rule) (input : List ℕ) (n : ℕ) → HeaderFault rule input (missing n) → 1 ≤ n }
+    ensures header { (rule : Rule) (input : List ℕ) (n : ℕ)
+        → HeaderFault rule input (missing n)
+        → 1 ≤ n }
     ensures der_element { (input : List ℕ) (n : ℕ) → DerElementFault input (missing n) → 1 ≤ n }
 {}
 
@@ -102,10 +105,16 @@ pub fn some_octets_are_missing()
 pub fn beginnings_lack_octets()
     ensures header { (rule : Rule) (input more front rest : List ℕ)
         (id : Identifier) (form : LengthForm) (fault : Fault)
-        → HeaderFault rule input fault → IsHeader rule front id form → BeginsWith (input ++ more) front rest
+        → HeaderFault rule input fault
+        → IsHeader rule front id form
+        → BeginsWith (input ++ more) front rest
         → IsLackingOrCut (IsCutIdentifier input) fault more }
     ensures der_element { (input more front rest : List ℕ) (parts : Parts) (fault : Fault)
-        → DerElementFault input fault → IsDerElement front parts → BeginsWith (input ++ more) front rest
+        → DerElementFault input fault
+        → IsDerElement front parts
+        → BeginsWith (input ++ more) front rest
         → IsLackingOrCut (IsCutIdentifier input) fault more }
-    ensures within { (rule : Rule) (input : List ℕ) → IsCutIdentifier input → HeaderFault rule input tag_fault }
+    ensures within { (rule : Rule) (input : List ℕ)
+        → IsCutIdentifier input
+        → HeaderFault rule input tag_fault }
 {}
