@@ -1,11 +1,12 @@
 -- Elements that are read.
 use Rattle.std.proofs.Common.{◌≡◌, ◌∙◌, ℕ, ◌+◌, ◌-◌, ◌≤◌, suc, List, ◌++◌, length, refl, subst, sym, ap, append_assoc, arith}
-use Rattle.std.specs.Prelude.{Bool, Result, Ok, Err, IfErr, OnErr}
+use Rattle.std.specs.Prelude.{Result, Ok, Err, IfErr, OnErr}
 use Rattle.std.specs.Borrow.{Bor}
 use Rattle.x690.specs.Octets.{IsOctets}
 use Rattle.x690.specs.Identifiers.{Identifier}
 use Rattle.x690.specs.Lengths.{definite, LengthForm}
-use Rattle.x690.specs.Elements.{IsHeader, Parts, IsDefiniteElement, der_rule, ber_rule}
+use Rattle.x690.specs.Rules.{Rule, der_rule, ber_rule}
+use Rattle.x690.specs.Elements.{IsHeader, Parts, IsDerElement}
 use Rattle.x690.specs.Faults.{missing, IsCutContent}
 use Rattle.x690.specs.Nested.{IsNestedElement}
 use Rattle.x690.specs.Contents.{IsContent, ContentFault}
@@ -25,7 +26,7 @@ use Rattle.asn1_rs.specs.Header.{identifier_of, BeginsInput, KeepsIdentifier, Re
 use Rattle.asn1_rs.specs.Length.{form_of}
 
 -- the header counts octets of which some are missing
-pub content_cut : (input rest : List ℕ) (h : Header) (n lacking : ℕ) → BeginsInput der_rule input rest h → h.length ≡ Definite n → 1 ≤ lacking → length rest + lacking ≡ n → IsCutContent input (missing lacking)
+pub content_cut : (input rest : List ℕ) (h : Header) (n lacking : ℕ) → BeginsInput der_rule input rest h → h.length ≡ Definite n → 1 ≤ lacking → length rest + lacking ≡ n → IsCutContent der_rule input (missing lacking)
 content_cut input rest h n lacking b f some sum = record {
   header = b.octets;
   rest = rest;
@@ -40,7 +41,7 @@ content_cut input rest h n lacking b f some sum = record {
 }
 
 -- the header counts octets that are there
-pub definite_read : (input after content rest : List ℕ) (h : Header) (n : ℕ) → IsOctets input → BeginsInput der_rule input after h → h.length ≡ Definite n → length content ≡ n → after ≡ content ++ rest → (p : Parts) → p.id ≡ identifier_of h → p.form ≡ form_of h.length → p.content ≡ content → Front IsDefiniteElement input p rest
+pub definite_read : (input after content rest : List ℕ) (h : Header) (n : ℕ) → IsOctets input → BeginsInput der_rule input after h → h.length ≡ Definite n → length content ≡ n → after ≡ content ++ rest → (p : Parts) → p.id ≡ identifier_of h → p.form ≡ form_of h.length → p.content ≡ content → Front IsDerElement input p rest
 definite_read input after content rest h n octets b f l e p pi pf pc = record {
   word = b.octets ++ content;
   fits = record {
@@ -71,6 +72,6 @@ nested_read depth input after content rest h headers p deep octets b c pi pf pc 
     (m.0, subst (λ (q : Parts). IsNestedElement depth m.0 q (suc headers)) (sym (same_parts p.id (identifier_of h) p.form (form_of h.length) p.content content pi pf pc)) m.1, m.2)
 
 -- a header that was read keeps its identifier octets
-pub identifier_kept : (rule : Identifier → Bool) (input rest : List ℕ) (h k : Header) → BeginsInput rule input rest h → k ≡ h → KeepsIdentifier input k
+pub identifier_kept : (rule : Rule) (input rest : List ℕ) (h k : Header) → BeginsInput rule input rest h → k ≡ h → KeepsIdentifier input k
 identifier_kept rule input rest h k b e = subst (KeepsIdentifier input) (sym e)
     (b.header.identifier, b.header.count ++ rest, b.header.identifier_is, b.is ∙ ap (λ (ys : List ℕ). ys ++ rest) b.header.is ∙ append_assoc b.header.identifier b.header.count rest, b.raw_tag)

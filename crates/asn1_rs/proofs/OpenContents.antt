@@ -4,7 +4,8 @@ use Rattle.std.specs.List.{concat}
 use Rattle.x690.specs.Octets.{IsOctets}
 use Rattle.x690.specs.Identifiers.{Identifier}
 use Rattle.x690.specs.Lengths.{definite, indefinite}
-use Rattle.x690.specs.Elements.{IsHeader, ber_rule}
+use Rattle.x690.specs.Rules.{ber_rule}
+use Rattle.x690.specs.Elements.{IsHeader}
 use Rattle.x690.specs.Faults.{Fault}
 use Rattle.x690.specs.Nested.{IsWord, ElementFault, end_of_contents}
 use Rattle.x690.specs.Contents.{IsEndedContent, EndFault}
@@ -94,7 +95,7 @@ next_is_definite opened depth octets header after content rest id n outcome head
     let m = definite_made octets header after content rest id n whole h s t l in
     let n : 1 + headers ≡ suc headers = omega arith in
     subst (λ (m : ℕ). OpenContents opened depth octets outcome m) n
-    (next_is_word opened depth octets (header ++ content) rest outcome 1 headers some (_, definite_is_nested depth (header ++ content) _ deep m.0) (λ e. not_end rest (m.1 ∙ ap (λ (ys : List ℕ). ys ++ rest) e)) m.1 r)
+    (next_is_word opened depth octets (header ++ content) rest outcome 1 headers some (_, definite_is_nested ber_rule depth (header ++ content) _ deep m.0) (λ e. not_end rest (m.1 ∙ ap (λ (ys : List ℕ). ys ++ rest) e)) m.1 r)
 
 opens : (opened depth : ℕ) (octets header after : List ℕ) (id : Identifier) (outcome : Result (List ℕ) Fault) (headers : ℕ) → IsHeader ber_rule header id indefinite → octets ≡ header ++ after → OpenContents (suc (suc opened)) depth after outcome headers → OpenContents (suc opened) (suc depth) octets outcome (suc headers)
 unfolding OpenContents

@@ -1,20 +1,22 @@
 -- Octets that are read.
-use Rattle.std.proofs.Common.{◌≡◌, ◌∙◌, ℕ, ◌+◌, ◌<◌, ◌≤◌, Bool, true, Some, List, [], ◌∷◌, ◌++◌, length, get_or, suc, refl, arith, subst, sym, ap, append_assoc}
+use Rattle.std.proofs.Common.{◌≡◌, ◌∙◌, ℕ, ◌+◌, ◌<◌, ◌≤◌, true, false, Some, List, [], ◌∷◌, ◌++◌, length, get_or, suc, refl, arith, subst, inr, sym, ap, append_assoc}
 use Rattle.x690.specs.Octets.{IsOctets}
 use Rattle.x690.specs.Laws.Octets.{octets_front}
 use Rattle.x690.specs.Identifiers.{Identifier, IsIdentifier}
-use Rattle.x690.specs.Lengths.{IsLengthForm}
-use Rattle.x690.specs.Elements.{AllowsForm}
-use Rattle.x690.specs.Faults.{missing, LengthFault}
+use Rattle.x690.specs.Lengths.{indefinite, IsLengthForm}
+use Rattle.x690.specs.Rules.{Rule, der_rule, ber_rule, allows_form}
+use Rattle.x690.specs.Faults.{Breach, form_breach, missing, rule_fault, LengthFault, IsLengthBreach, HeaderFault}
 use Rattle.x690.specs.Laws.Identifiers.{same_identifier}
 use Rattle.asn1_rs.specs.declared.header.Header.{Header}
 use Rattle.asn1_rs.specs.declared.header_reading.IdentifierOctets.{IdentifierOctets as Read}
+use Rattle.asn1_rs.specs.declared.error.Error.{Error}
+use Rattle.asn1_rs.specs.declared.error.Err.TheVariants.{Error as refused}
 use Rattle.asn1_rs.specs.declared.length.Length.{Length}
 use Rattle.asn1_rs.specs.declared.length.Length.TheVariants.{Definite, Indefinite}
 use Rattle.asn1_rs.specs.declared.tag.Tag.{Tag}
 use Rattle.asn1_rs.specs.Class.{class_number}
 use Rattle.asn1_rs.specs.Length.{form_of}
-use Rattle.asn1_rs.specs.Header.{identifier_of, HasParts, BeginsInput, BeginsWithBoth, id_read, tag_read}
+use Rattle.asn1_rs.specs.Header.{identifier_of, HasParts, BeginsInput, BeginsWithBoth, AllowsIdentifiers, Refused, refusal_of, id_read, tag_read}
 
 pub nothing : (octets : List ℕ) → length octets < 1 → octets ≡ []
 nothing [] h = refl
@@ -35,9 +37,9 @@ long_octets octets front back first h e =
     octets_front front back (λ k. t (suc k))
 
 -- a header of the parts that were read begins the input
-pub begins_made : (rule : Identifier → Bool) (input rest : List ℕ) (x : Read) (length : Length) (h : Header) → BeginsWithBoth input rest x length
-    → HasParts h x.class x.constructed (tag_read x) length (Some x.octets.now) → AllowsForm (rule (id_read x)) (form_of length) → BeginsInput rule input rest h
-begins_made rule input rest x length h b p allowed =
+pub begins_made : (rule : Rule) → AllowsIdentifiers rule → (input rest : List ℕ) (x : Read) (length : Length) (h : Header) → BeginsWithBoth input rest x length
+    → HasParts h x.class x.constructed (tag_read x) length (Some x.octets.now) → ((count : List ℕ) → allows_form rule (id_read x) count (form_of length) ≡ true) → BeginsInput rule input rest h
+begins_made rule all input rest x length h b p allowed =
     let i = b.1 in
     let l = b.2 in
     let same : id_read x ≡ identifier_of h = sym (same_identifier (class_number h.class) (class_number x.class) h.tag.0 x.number h.constructed x.constructed (ap class_number p.class_is) p.constructed_is (ap (λ (t : Tag). t.0) p.tag_is)) in
@@ -49,16 +51,31 @@ begins_made rule input rest x length h b p allowed =
         is = refl;
         identifier_is = subst (λ id. IsIdentifier x.octets.now id) same i.0;
         count_is = subst (λ (f : Length). IsLengthForm l.0 (form_of f)) (sym p.length_is) l.1;
-        allowed = subst (λ id. AllowsForm (rule id) (form_of h.length)) same (subst (λ (f : Length). AllowsForm (rule (id_read x)) (form_of f)) (sym p.length_is) allowed);
+        identifier_allowed = all x.octets.now;
+        count_allowed = subst (λ id. allows_form rule id l.0 (form_of h.length) ≡ true) same (subst (λ (f : Length). allows_form rule (id_read x) l.0 (form_of f) ≡ true) (sym p.length_is) (allowed l.0));
       };
       is = i.1 ∙ ap (λ (ys : List ℕ). x.octets.now ++ ys) l.2 ∙ sym (append_assoc x.octets.now l.0 rest);
       raw_tag = p.raw_tag_is;
     }
 
-pub definite_allowed : (allowed : Bool) (length : Length) → (length ≡ Indefinite → ⊥) → AllowsForm allowed (form_of length)
-definite_allowed allowed (Definite m) e = tt
-definite_allowed allowed Indefinite e = absurd (e refl)
+-- the indefinite form begins the length octets, and the rule does not allow it
+pub indefinite_refused : (rule : Rule) → AllowsIdentifiers rule → (refuses : Breach → Error) (input rest : List ℕ) (x : Read) (length : Length) → BeginsWithBoth input rest x length → length ≡ Indefinite → rule.allows_indefinite (id_read x) ≡ false → Refused (HeaderFault rule) (refusal_of refuses) input (refused (refuses form_breach))
+indefinite_refused rule all refuses input rest x length b e none =
+    let i = b.1 in
+    let l = b.2 in
+    let breach : IsLengthBreach rule (id_read x) b.0 (rule_fault form_breach) = record { count = l.0; rest = rest; form = indefinite; count_is = subst (λ (f : Length). IsLengthForm l.0 (form_of f)) e l.1; is = l.2; not_allowed = none; fault_is = refl } in
+    (rule_fault form_breach, inr (record { identifier = x.octets.now; rest = b.0; id = id_read x; identifier_is = i.0; is = i.1; why = inr (all x.octets.now, inr breach) }), refl)
 
-pub constructed_allowed : (allowed : Bool) (length : Length) → allowed ≡ true → AllowsForm allowed (form_of length)
-constructed_allowed allowed (Definite m) e = tt
-constructed_allowed allowed Indefinite e = e
+pub ber_takes : AllowsIdentifiers ber_rule
+ber_takes octets = refl
+
+pub der_takes : AllowsIdentifiers der_rule
+der_takes octets = refl
+
+pub ber_form_allowed : (id : Identifier) (length : Length) → (length ≡ Indefinite → id.constructed ≡ true) → (count : List ℕ) → allows_form ber_rule id count (form_of length) ≡ true
+ber_form_allowed id (Definite m) e count = refl
+ber_form_allowed id Indefinite e count = e refl
+
+pub der_form_allowed : (id : Identifier) (length : Length) → (length ≡ Indefinite → ⊥) → (count : List ℕ) → allows_form der_rule id count (form_of length) ≡ true
+der_form_allowed id (Definite m) e count = refl
+der_form_allowed id Indefinite e count = absurd (e refl)

@@ -3,7 +3,8 @@ use Rattle.std.specs.Prelude.{ℕ, zero, suc, Bool, false, Result, Ok, Err, ◌+
 use Rattle.std.specs.Borrow.{Bor}
 use Rattle.x690.specs.Identifiers.{Identifier}
 use Rattle.x690.specs.Lengths.{LengthForm, indefinite}
-use Rattle.x690.specs.Elements.{Parts, IsHeader, ber_rule}
+use Rattle.x690.specs.Rules.{ber_rule}
+use Rattle.x690.specs.Elements.{Parts, IsHeader}
 use Rattle.x690.specs.Nested.{IsNestedElement}
 use Rattle.x690.specs.Contents.{IsContent, ContentFault}
 use Rattle.asn1_rs.specs.declared.ber.Steps.{Steps}

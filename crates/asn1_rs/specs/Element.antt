@@ -24,8 +24,10 @@ ElementBody p v = v ≡ record { id = p.id; content = p.content }
 abbrev pub ElementCheck : Parts → Type 0
 ElementCheck p = (n : ℕ) × (p.form ≡ definite n)
 
-abbrev pub IsElementValue : Element → Type 0
-IsElementValue v = IsOctets v.content
+pub record IsElementValue (v : Element) : Type 0 where
+  pub class : v.id.class < 4
+  pub number : v.id.number < 2 ^ 32
+  pub content : IsOctets v.content
 
 -- its own identifier and contents octets
 pub record ElementForm (v : Element) (id : Identifier) (content : List ℕ) : Type 0 where

@@ -2,8 +2,8 @@
 use Rattle.std.specs.Prelude.{ℕ, Bool, List, [], ◌++◌, ◌≡◌, ◌⊎◌, length, Result, Ok, Err, IsTrue}
 use Rattle.x690.specs.Identifiers.{Identifier}
 use Rattle.x690.specs.Lengths.{definite}
-use Rattle.x690.specs.Elements.{Parts, IsDefiniteElement}
-use Rattle.x690.specs.Faults.{Fault, DefiniteElementFault}
+use Rattle.x690.specs.Elements.{Parts, IsDerElement}
+use Rattle.x690.specs.Faults.{Fault, DerElementFault}
 use Rattle.x690.specs.Nested.{IsElement, ElementFault, EndsInIdentifier}
 use Rattle.asn1_rs.specs.declared.error.Err.{Err as Refusal}
 use Rattle.asn1_rs.specs.declared.error.Err.TheVariants.{Error as refused}
@@ -34,7 +34,7 @@ BerWord Body = ElementWord (IsElement max_depth) NoCheck Body
 
 -- by DER its length is definite, and the constraints are met
 abbrev pub DerWord : {V : Type 0} → (Parts → Type 0) → (Parts → V → Type 0) → List ℕ → V → Type 0
-DerWord Check Body = ElementWord IsDefiniteElement Check Body
+DerWord Check Body = ElementWord IsDerElement Check Body
 
 -- What a reader may answer that reads an element, checks it and converts it: the value; or else the refusal of the element's first fault, that of the check, or that of the conversion, in this order.
 abbrev pub ElementGives : {T E : Type 0} → (List ℕ → Parts → Type 0) → (List ℕ → Fault → Type 0) → (Fault → Refusal Error) → (Parts → Result (Unit {0}) Error → Type 0) → (Parts → Result T E → Type 0) → (Error → E → Type 0) → List ℕ → Result (List ℕ × T) (Refusal E) → Type 0
@@ -45,7 +45,7 @@ ElementGives {T} {E} Element FaultOf refusal check convert from input (Err r) =
     (((e : Error) × check p (Err e) × ((f : E) × from e f × (r ≡ refused f))) ⊎ (check p (Ok tt) × ((e : E) × convert p (Err e) × (r ≡ refused e)))))
 
 abbrev pub DerGives : {T E : Type 0} → (Parts → Result (Unit {0}) Error → Type 0) → (Parts → Result T E → Type 0) → (Error → E → Type 0) → List ℕ → Result (List ℕ × T) (Refusal E) → Type 0
-DerGives check convert from = ElementGives IsDefiniteElement DefiniteElementFault der_refusal check convert from
+DerGives check convert from = ElementGives IsDerElement DerElementFault der_refusal check convert from
 
 -- a check that refuses nothing
 abbrev pub PassesAll : Parts → Result (Unit {0}) Error → Type 0

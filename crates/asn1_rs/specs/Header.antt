@@ -1,13 +1,14 @@
 -- Headers.
-use Rattle.std.specs.Prelude.{◌≡◌, ◌&&◌, ℕ, Bool, nat_eq, Option, Some, List, ◌++◌, Result, Ok, Err}
+use Rattle.std.specs.Prelude.{◌≡◌, ◌&&◌, ℕ, Bool, true, nat_eq, Option, Some, List, ◌++◌, Result, Ok, Err}
 use Rattle.std.specs.Option.{option_map}
 use Rattle.std.specs.Ordering.{on}
 use Rattle.std.specs.Bool.{beq}
 use Rattle.std.specs.Cow.{cow_slice_items}
 use Rattle.x690.specs.Identifiers.{Identifier, IsIdentifier}
 use Rattle.x690.specs.Lengths.{IsLengthForm}
+use Rattle.x690.specs.Rules.{Rule}
 use Rattle.x690.specs.Elements.{IsHeader}
-use Rattle.x690.specs.Faults.{Fault, missing, tag_fault, length_fault, form_fault, depth_fault, HeaderFault}
+use Rattle.x690.specs.Faults.{Breach, Fault, missing, tag_fault, length_fault, rule_fault, depth_fault, HeaderFault}
 use Rattle.asn1_rs.specs.declared.class.Class.{Class}
 use Rattle.asn1_rs.specs.declared.tag.Tag.{Tag}
 use Rattle.asn1_rs.specs.declared.length.Length.{Length}
@@ -54,26 +55,32 @@ pub record HasParts (h : Header) (class : Class) (constructed : Bool) (tag : Tag
   pub raw_tag_is : option_map cow_slice_items h.raw_tag ≡ raw_tag
 
 -- The header, with its identifier octets kept, begins the input, and the rest follows.
-pub record BeginsInput (rule : Identifier → Bool) (input rest : List ℕ) (h : Header) : Type 0 where
+pub record BeginsInput (rule : Rule) (input rest : List ℕ) (h : Header) : Type 0 where
   pub octets : List ℕ
   pub header : IsHeader rule octets (identifier_of h) (form_of h.length)
   pub is : input ≡ octets ++ rest
   pub raw_tag : raw_tag_of h ≡ Some header.identifier
 
--- the refusal that tells of a fault, where the one of an indefinite length is given
-abbrev pub refusal_of : Error → Fault → Refusal Error
-refusal_of at_indefinite (missing n) = cut (Size n)
-refusal_of at_indefinite tag_fault = refused InvalidTag
-refusal_of at_indefinite length_fault = refused InvalidLength
-refusal_of at_indefinite form_fault = refused at_indefinite
-refusal_of at_indefinite depth_fault = refused BerMaxDepth
+-- the refusal that tells of a fault, where those of headers that their rule does not allow are given
+abbrev pub refusal_of : (Breach → Error) → Fault → Refusal Error
+refusal_of refuses (missing n) = cut (Size n)
+refusal_of refuses tag_fault = refused InvalidTag
+refusal_of refuses length_fault = refused InvalidLength
+refusal_of refuses (rule_fault breach) = refused (refuses breach)
+refusal_of refuses depth_fault = refused BerMaxDepth
 
--- 80 is refused by DER always, and by BER at a primitive element
+-- of what its rule does not allow in a header, DER refuses 80 always, and BER at a primitive element; there is nothing else today
+abbrev pub der_breach : Breach → Error
+der_breach breach = DerConstraintFailed IndefiniteLength
+
+abbrev pub ber_breach : Breach → Error
+ber_breach breach = ConstructExpected
+
 abbrev pub der_refusal : Fault → Refusal Error
-der_refusal = refusal_of (DerConstraintFailed IndefiniteLength)
+der_refusal = refusal_of der_breach
 
 abbrev pub ber_refusal : Fault → Refusal Error
-ber_refusal = refusal_of ConstructExpected
+ber_refusal = refusal_of ber_breach
 
 -- the refusal tells of a fault of the octets
 abbrev pub Refused : (List ℕ → Fault → Type 0) → (Fault → Refusal Error) → List ℕ → Refusal Error → Type 0
@@ -98,8 +105,12 @@ BeginsWithLength input rest length = (octets : List ℕ) × IsLengthForm octets 
 abbrev pub BeginsWithBoth : List ℕ → List ℕ → Read → Length → Type 0
 BeginsWithBoth input rest x length = (mid : List ℕ) × BeginsWithIdentifier input mid x × BeginsWithLength mid rest length
 
+-- the rule allows all identifier octets that a reader takes
+abbrev pub AllowsIdentifiers : Rule → Type 0
+AllowsIdentifiers rule = (octets : List ℕ) → rule.allows_identifier octets ≡ true
+
 -- what a reader of headers may answer: the header and the rest, or the refusal of the first fault
-abbrev pub HeaderGives : (Identifier → Bool) → (Fault → Refusal Error) → List ℕ → Result (List ℕ × Header) (Refusal Error) → Type 0
+abbrev pub HeaderGives : Rule → (Fault → Refusal Error) → List ℕ → Result (List ℕ × Header) (Refusal Error) → Type 0
 HeaderGives rule refusal input (Ok x) = BeginsInput rule input x.0 x.1
 HeaderGives rule refusal input (Err r) = Refused (HeaderFault rule) refusal input r
 

@@ -1,9 +1,8 @@
 -- What a type says of its values and grammars, and what makes that lawful.
 use Rattle.std.specs.Prelude.{ℕ, Bool, List}
 use Rattle.std.specs.Borrow.{Bor}
-use Rattle.x690.specs.Octets.{IsOctets}
 use Rattle.x690.specs.Identifiers.{Identifier}
-use Rattle.x690.specs.Elements.{Parts}
+use Rattle.x690.specs.Elements.{Parts, ArePossible}
 use Rattle.asn1_rs.specs.Form.{IsOneForm, IsOneValue, FitsElement, HasValues, IsStrict}
 use Rattle.asn1_rs.specs.Grammar.{IsOneFront, IsOneBody, FormChecks}
 
@@ -29,7 +28,7 @@ pub record ItemGrammar (S : Type 0) : Type 1 where
 pub record IsLawfulItem {S : Type 0} (G : ItemGrammar S) : Type 0 where
   pub ber_values : (o : List ℕ) (v : G.Value) → G.Ber o v → G.IsValue v
   pub der_values : (o : List ℕ) (v : G.Value) → G.Der o v → G.IsValue v
-  pub body_values : (p : Parts) (v : G.Value) → IsOctets p.content → G.Body p v → G.IsValue v
+  pub body_values : (p : Parts) (v : G.Value) → ArePossible p → G.Body p v → G.IsValue v
   pub form_values : HasValues G.Form G.IsValue
   pub ber_one : IsOneFront G.Ber
   pub der_one : IsOneFront G.Der

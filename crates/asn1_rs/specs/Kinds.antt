@@ -2,7 +2,7 @@
 use Rattle.std.specs.Prelude.{◌≡◌, ℕ, Bool, false, List, Result, Ok, Err}
 use Rattle.x690.specs.Octets.{IsOctets}
 use Rattle.x690.specs.Identifiers.{Identifier}
-use Rattle.x690.specs.Elements.{Parts}
+use Rattle.x690.specs.Elements.{Parts, ArePossible}
 use Rattle.asn1_rs.specs.declared.error.Error.{Error}
 use Rattle.asn1_rs.specs.declared.error.Error.TheVariants.{OutOfMemory}
 use Rattle.asn1_rs.specs.Form.{IsOneForm, IsOneValue, FitsElement, HasValues}
@@ -23,7 +23,7 @@ pub record ElementGrammar (S : Type 0) : Type 1 where
 -- Bodies and strict parts have values of the type, a body has one value, a value one strict identifier and one strict
 -- content; these fit an element, meet the check and have the value, which is in DER form.
 pub record IsLawfulElement {S : Type 0} (G : ElementGrammar S) : Type 0 where
-  pub body_values : (p : Parts) (v : G.Value) → IsOctets p.content → G.Body p v → G.IsValue v
+  pub body_values : (p : Parts) (v : G.Value) → ArePossible p → G.Body p v → G.IsValue v
   pub form_values : HasValues G.Form G.IsValue
   pub body_one : IsOneBody G.Body
   pub one_form : IsOneForm G.Form

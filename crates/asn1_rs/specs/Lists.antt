@@ -5,7 +5,7 @@ use Rattle.std.specs.declared.vec.Vec.{Vec}
 use Rattle.std.specs.List.{All, Any, flat_map}
 use Rattle.std.specs.Iterator.{Yields}
 use Rattle.x690.specs.Identifiers.{Identifier}
-use Rattle.x690.specs.Elements.{Parts, IsDefiniteElement}
+use Rattle.x690.specs.Elements.{Parts, IsDerElement}
 use Rattle.asn1_rs.specs.declared.error.Err.{Err as Refusal}
 use Rattle.asn1_rs.specs.declared.error.Error.{Error}
 use Rattle.asn1_rs.specs.declared.error.Error.TheVariants as faults
@@ -35,7 +35,7 @@ pub record ListOf {V : Type 0} (number : ℕ) (G : List ℕ → V → Type 0) (p
 
 -- an element of definite length whose parts meet the constraints
 abbrev pub CheckedElement : (Parts → Type 0) → List ℕ → Parts → Type 0
-CheckedElement Check octets p = IsDefiniteElement octets p × Check p
+CheckedElement Check octets p = IsDerElement octets p × Check p
 
 -- A constructed element with the tag number, whose contents octets are elements of definite length that meet the constraints of an item.
 pub record ListCheck (number : ℕ) (Check : Parts → Type 0) (p : Parts) : Type 0 where

@@ -2,8 +2,8 @@
 ghost use Rattle.std.specs.Prelude.{◌≡◌, ℕ, ◌+◌, ◌-◌, ◌*◌, ◌^◌, ◌<◌, ◌≤◌, Bool, List, ◌++◌, length, Result, IfOk, IfErr, IfSome, IfNone, OnErr};
 ghost use Rattle.std.specs.Borrow.{Bor};
 ghost use Rattle.x690.specs.Lengths.{LengthForm};
-ghost use Rattle.x690.specs.Elements.{IsDefiniteElement};
-ghost use Rattle.x690.specs.Faults.{DefiniteElementFault};
+ghost use Rattle.x690.specs.Elements.{IsDerElement};
+ghost use Rattle.x690.specs.Faults.{DerElementFault};
 ghost use Rattle.x690.specs.Nested.{IsElement, ElementFault, end_of_contents};
 ghost use Rattle.x690.specs.Contents.{IsEndedContent, EndFault, IsContent, ContentFault};
 ghost use Rattle.x690.specs.FaultHeaders.{FaultHeaders, EndFaultHeaders, ContentFaultHeaders};
@@ -37,7 +37,7 @@ fn split_content(bytes: &[u8], len: usize) -> ParseResult<'_, &[u8], Error>
 
 /// The element at the front, by DER. It takes no memory.
 pub(crate) fn element_by_der(bytes: &[u8]) -> ParseResult<'_, Any<'_>, Error>
-    ensures { AnyGives IsDefiniteElement DefiniteElementFault der_refusal bytes.now (seen result) }
+    ensures { AnyGives IsDerElement DerElementFault der_refusal bytes.now (seen result) }
 {
     let (rest, header) = header_by_der(bytes)?;
     match header.length() {
@@ -192,11 +192,13 @@ pub(crate) fn element_by_ber(bytes: &[u8]) -> ParseResult<'_, Any<'_>, Error>
 /// Each header that does not stand in a definite content is read once, and that of each 00 00 too. So the count grows
 /// by half the octets of the element at most. On a refusal it grows by one for each header that was read whole before
 /// the first fault. An element, or a refusal, is that of the input whatever follows, as far as the refusal speaks.
+/// Elements nest as deep as [`MAX_RECURSION`] says.
 pub fn any_from_ber_counted<'a>(
     bytes: &'a [u8],
     steps: &mut Steps,
 ) -> ParseResult<'a, Any<'a>, Error>
     requires { count_of steps.old + length bytes.now < 2 ^ 64 }
+    ensures depth { MAX_RECURSION ≡ max_depth }
     ensures gives { AnyGives (IsElement max_depth) (ElementFault max_depth) ber_refusal bytes.now (seen result) }
     ensures last { IfErr result (RefusalLasts (IsElement max_depth) EndsWithin bytes.now) }
     ensures same { IfOk result (λ x. ElementLasts (IsElement max_depth) bytes.now x.0.now x.1) }

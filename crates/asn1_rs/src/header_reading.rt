@@ -2,12 +2,12 @@
 ghost use Rattle.std.specs.Prelude.{◌≡◌, ℕ, Bool, List, ◌+◌, ◌*◌, ◌<◌, ◌≤◌, ◌++◌, length, IfOk, IfErr, Some};
 ghost use Rattle.x690.specs.Identifiers.{Identifier, bit};
 ghost use Rattle.x690.specs.Lengths.{LengthForm};
-ghost use Rattle.x690.specs.Elements.{der_rule, ber_rule};
-ghost use Rattle.x690.specs.Faults.{IdentifierFault, LengthFault, HeaderFault};
+ghost use Rattle.x690.specs.Rules.{Rule, der_rule, ber_rule};
+ghost use Rattle.x690.specs.Faults.{Breach, IdentifierFault, LengthFault, HeaderFault};
 ghost use Rattle.asn1_rs.specs.Class.{class_number};
 ghost use Rattle.asn1_rs.specs.Answers.{seen};
 ghost use Rattle.asn1_rs.specs.Laws.Headers.{HeaderRefusalLasts};
-ghost use Rattle.asn1_rs.specs.Header.{Refused, refusal_of, der_refusal, ber_refusal, HeaderGives, BeginsWithIdentifier, BeginsWithLength, BeginsWithBoth, HasParts, tag_read};
+ghost use Rattle.asn1_rs.specs.Header.{Refused, refusal_of, der_refusal, ber_refusal, HeaderGives, BeginsWithIdentifier, BeginsWithLength, BeginsWithBoth, AllowsIdentifiers, HasParts, tag_read};
 ghost use Rattle.asn1_rs.specs.Ber.{BeginsWithForm};
 ghost use Rattle.asn1_rs.specs.declared.error.Error.{Error as Fault};
 
@@ -47,7 +47,8 @@ fn first_octet(octet: u8) -> (Class, bool, u8)
 /// The identifier octets at the front.
 fn read_identifier(bytes: &[u8]) -> ParseResult<'_, IdentifierOctets<'_>, Error>
     ensures ok { IfOk result (λ x. BeginsWithIdentifier bytes.now x.0.now x.1) }
-    ensures err { (at_indefinite : Fault) → IfErr result (Refused IdentifierFault (refusal_of at_indefinite) bytes.now) }
+    ensures err { (refuses : Breach → Fault)
+        → IfErr result (Refused IdentifierFault (refusal_of refuses) bytes.now) }
 {
     let [first, digits @ ..] = bytes else {
         return Err(Err::Incomplete(Needed::Size(1)));
@@ -76,7 +77,8 @@ fn read_identifier(bytes: &[u8]) -> ParseResult<'_, IdentifierOctets<'_>, Error>
 /// The length octets at the front, or 80.
 fn read_length(bytes: &[u8]) -> ParseResult<'_, Length, Error>
     ensures ok { IfOk result (λ x. BeginsWithLength bytes.now x.0.now x.1) }
-    ensures err { (at_indefinite : Fault) → IfErr result (Refused LengthFault (refusal_of at_indefinite) bytes.now) }
+    ensures err { (refuses : Breach → Fault)
+        → IfErr result (Refused LengthFault (refusal_of refuses) bytes.now) }
 {
     let [first, rest @ ..] = bytes else {
         return Err(Err::Incomplete(Needed::Size(1)));
@@ -112,7 +114,9 @@ impl<'a> IdentifierOctets<'a> {
 /// The identifier octets at the front and the length octets, or 80, that follow them.
 fn read_parts(bytes: &[u8]) -> ParseResult<'_, (IdentifierOctets<'_>, Length), Error>
     ensures ok { IfOk result (λ x. BeginsWithBoth bytes.now x.0.now x.1.0 x.1.1) }
-    ensures err { (rule : Identifier → Bool) (at_indefinite : Fault) → IfErr result (Refused (HeaderFault rule) (refusal_of at_indefinite) bytes.now) }
+    ensures err { (rule : Rule) (refuses : Breach → Fault)
+        → AllowsIdentifiers rule
+        → IfErr result (Refused (HeaderFault rule) (refusal_of refuses) bytes.now) }
 {
     let (rest, identifier) = read_identifier(bytes)?;
     let (rest, length) = read_length(rest)?;

@@ -5,7 +5,9 @@ ghost use Rattle.std.specs.Prelude.{◌≡◌, ◌++◌, ◌<◌, ◌^◌, ◌�
 ghost use Rattle.x690.specs.Octets.{IsOctets};
 ghost use Rattle.x690.specs.Identifiers.{Identifier, IsCutIdentifier};
 ghost use Rattle.x690.specs.Lengths.{LengthForm};
-ghost use Rattle.x690.specs.Elements.{Parts, IsHeader, IsDefiniteElement};
+ghost use Rattle.x690.specs.Rules.{Rule};
+ghost use Rattle.x690.specs.Elements.{Parts, IsHeader, IsDerElement};
+ghost use Rattle.x690.specs.Faults.{Breach};
 ghost use Rattle.x690.specs.Nested.{IsElement};
 ghost use Rattle.asn1_rs.specs.declared.error.Err.{Err as Refusal};
 ghost use Rattle.asn1_rs.specs.declared.error.Error.{Error as Fault};
@@ -107,14 +109,14 @@ pub fn strict_fronts_are_written_again<T: LawfulWrite>()
 /// Octets that are shorter than a header or an element, and that more of them make begin with it, are refused: with
 /// `Incomplete` of these or fewer, or with `InvalidTag` where they end within an identifier in high form.
 pub fn beginnings_are_refused()
-    ensures header { (rule : Identifier → Bool) (at_indefinite : Fault)
+    ensures header { (rule : Rule) (refuses : Breach → Fault)
         (input more front rest : List ℕ) (id : Identifier) (form : LengthForm)
         (answer : Result (List ℕ × Head) (Refusal Fault))
-        → HeaderGives rule (refusal_of at_indefinite) input answer → IsHeader rule front id form
+        → HeaderGives rule (refusal_of refuses) input answer → IsHeader rule front id form
         → input ++ more ≡ front ++ rest → length input < length front
         → RefusedAsBeginning (IsCutIdentifier input) more answer }
     ensures element { (input more word rest : List ℕ) (p : Parts)
-        (answer : Result (List ℕ × Element) (Refusal Fault)) → DerElementGives input answer → IsDefiniteElement word p
+        (answer : Result (List ℕ × Element) (Refusal Fault)) → DerElementGives input answer → IsDerElement word p
         → input ++ more ≡ word ++ rest → length input < length word
         → RefusedAsBeginning (IsCutIdentifier input) more answer }
     ensures ber_element { (input more word rest : List ℕ) (p : Parts)

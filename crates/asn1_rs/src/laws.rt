@@ -8,14 +8,14 @@ ghost use Rattle.std.specs.Io.KnownBytes.{Appends};
 ghost use Rattle.x690.specs.Octets.{IsOctets};
 ghost use Rattle.x690.specs.Identifiers.{Identifier, IsCutIdentifier};
 ghost use Rattle.x690.specs.Lengths.{LengthForm};
-ghost use Rattle.x690.specs.Elements.{Parts, IsHeader, IsDefiniteElement};
-ghost use Rattle.x690.specs.Faults.{DefiniteElementFault};
+ghost use Rattle.x690.specs.Rules.{Rule};
+ghost use Rattle.x690.specs.Elements.{Parts, ArePossible, IsHeader, IsDerElement};
+ghost use Rattle.x690.specs.Faults.{Breach, DerElementFault};
 ghost use Rattle.x690.specs.Nested.{IsElement, ElementFault};
 ghost use Rattle.asn1_rs.specs.declared.error.Err.{Err as Refusal};
 ghost use Rattle.asn1_rs.specs.declared.error.Err.TheVariants as causes;
 ghost use Rattle.asn1_rs.specs.declared.error.Error.{Error as Fault};
 ghost use Rattle.asn1_rs.specs.declared.error.Error.TheVariants as faults;
-ghost use Rattle.asn1_rs.specs.declared.error.DerConstraint.TheVariants as constraints;
 ghost use Rattle.asn1_rs.specs.declared.error.SerializeError.TheVariants as refusals;
 ghost use Rattle.asn1_rs.specs.Answers.{seen, Exactly, TellsMemory, IsOther, ReadsBack};
 ghost use Rattle.asn1_rs.specs.Form.{IsStrict};
@@ -26,12 +26,12 @@ ghost use Rattle.asn1_rs.specs.Error.{HeldIn};
 ghost use Rattle.asn1_rs.specs.Wrote.{Wrote, MayRefuse, IsMemoryOrLength, IsWritable, some_takes};
 ghost use Rattle.asn1_rs.specs.declared.header.Header.{Header as Head};
 ghost use Rattle.asn1_rs.specs.declared.asn1_types.any.Any.{Any as Element};
-ghost use Rattle.asn1_rs.specs.Header.{refusal_of, HeaderGives};
+ghost use Rattle.asn1_rs.specs.Header.{refusal_of, der_breach, ber_breach, HeaderGives};
 ghost use Rattle.asn1_rs.specs.Ber.{BerContentGives};
 ghost use Rattle.asn1_rs.specs.Any.{IsTheElement, IsDefiniteOr};
 ghost use Rattle.asn1_rs.specs.Laws.Any.{DerElementGives, BerElementGives, RefusalLasts, ElementLasts, ContentStays, TellsBeginning};
 ghost use Rattle.asn1_rs.specs.Laws.Headers.{HeaderLasts};
-ghost use Rattle.asn1_rs.specs.Laws.Elements.{element_exact, element_spares, no_indefinite_length_spares, construct_expected_spares, der_elements, ber_elements, passes_all, all_pass};
+ghost use Rattle.asn1_rs.specs.Laws.Elements.{element_exact, element_spares, der_breach_spares, ber_breach_spares, der_elements, ber_elements, passes_all, all_pass};
 ghost use Rattle.asn1_rs.specs.Laws.Forms.{WritesByValue, WritesForm, HasForm};
 
 use crate::error::{Error, ParseResult, SerializeResult};
@@ -166,15 +166,15 @@ where
     T: LawfulBody<'a, E> + LawfulAuto,
 {
     ghost der_exact = { λ input answer octets.
-        element_exact IsDefiniteElement DefiniteElementFault IsCutIdentifier der_elements
-        (faults.DerConstraintFailed constraints.IndefiniteLength)
+        element_exact IsDerElement DerElementFault IsCutIdentifier der_elements
+        der_breach
         T.check_gives T.any_gives E.from_gives T.grammar.Check T.grammar.Body T.grammar.value
         T.grammar.takes_memory T.grammar.Der T.checks.exact T.body_exact T.der_split T.der_join
         input answer };
 
     ghost der_spares = { λ none.
-        element_spares IsDefiniteElement DefiniteElementFault
-        (faults.DerConstraintFailed constraints.IndefiniteLength) no_indefinite_length_spares
+        element_spares IsDerElement DerElementFault
+        der_breach der_breach_spares
         T.check_gives T.any_gives E.from_gives T.checks.spares (T.body_spares none) };
 }
 
@@ -184,13 +184,13 @@ where
 {
     ghost ber_exact = { λ input answer octets.
         element_exact (IsElement max_depth) (ElementFault max_depth) EndsWithin ber_elements
-        faults.ConstructExpected PassesAll T.any_gives E.from_gives NoCheck T.grammar.Body
+        ber_breach PassesAll T.any_gives E.from_gives NoCheck T.grammar.Body
         T.grammar.value T.grammar.takes_memory T.grammar.Ber passes_all T.body_exact T.ber_split
         T.ber_join input answer };
 
     ghost ber_spares = { λ none.
-        element_spares (IsElement max_depth) (ElementFault max_depth) faults.ConstructExpected
-        construct_expected_spares PassesAll T.any_gives E.from_gives all_pass (T.body_spares none) };
+        element_spares (IsElement max_depth) (ElementFault max_depth) ber_breach
+        ber_breach_spares PassesAll T.any_gives E.from_gives all_pass (T.body_spares none) };
 }
 
 /// Reads a value of a lawful type by BER.
@@ -291,18 +291,41 @@ pub fn strict_vec<T: LawfulWrite>(alloc: Global, x: &T) -> SerializeResult<Vec<u
 /// input makes them: it has one refusal, that of its first fault from the left, and none where a header, an element, or
 /// contents octets begin it.
 pub fn one_refusal()
-    ensures header { (rule : Identifier → Bool) (at_indefinite : Fault) (input : List ℕ) (q r : Refusal Fault)
-        → HeaderGives rule (refusal_of at_indefinite) input (Err q) → HeaderGives rule (refusal_of at_indefinite) input (Err r) → q ≡ r }
-    ensures no_header { (rule : Identifier → Bool) (at_indefinite : Fault) (input : List ℕ) (x : List ℕ × Head) (r : Refusal Fault)
-        → HeaderGives rule (refusal_of at_indefinite) input (Ok x) → HeaderGives rule (refusal_of at_indefinite) input (Err r) → ⊥ }
-    ensures element { (input : List ℕ) (q r : Refusal Fault) → DerElementGives input (Err q) → DerElementGives input (Err r) → q ≡ r }
-    ensures no_element { (input : List ℕ) (x : List ℕ × Element) (r : Refusal Fault) → DerElementGives input (Ok x) → DerElementGives input (Err r) → ⊥ }
-    ensures ber_element { (input : List ℕ) (q r : Refusal Fault) → BerElementGives input (Err q) → BerElementGives input (Err r) → q ≡ r }
-    ensures no_ber_element { (input : List ℕ) (x : List ℕ × Element) (r : Refusal Fault) → BerElementGives input (Ok x) → BerElementGives input (Err r) → ⊥ }
-    ensures ber_content { (constructed : Bool) (form : LengthForm) (depth : ℕ) (input : List ℕ) (q r : Refusal Fault)
-        → BerContentGives constructed form depth input (Err q) → BerContentGives constructed form depth input (Err r) → q ≡ r }
-    ensures no_ber_content { (constructed : Bool) (form : LengthForm) (depth : ℕ) (input : List ℕ) (x : Bor (List ℕ) × Bor (List ℕ)) (r : Refusal Fault)
-        → BerContentGives constructed form depth input (Ok x) → BerContentGives constructed form depth input (Err r) → ⊥ }
+    ensures header { (rule : Rule) (refuses : Breach → Fault) (input : List ℕ) (q r : Refusal Fault)
+        → HeaderGives rule (refusal_of refuses) input (Err q)
+        → HeaderGives rule (refusal_of refuses) input (Err r)
+        → q ≡ r }
+    ensures no_header { (rule : Rule) (refuses : Breach → Fault) (input : List ℕ)
+        (x : List ℕ × Head) (r : Refusal Fault)
+        → HeaderGives rule (refusal_of refuses) input (Ok x)
+        → HeaderGives rule (refusal_of refuses) input (Err r)
+        → ⊥ }
+    ensures element { (input : List ℕ) (q r : Refusal Fault)
+        → DerElementGives input (Err q)
+        → DerElementGives input (Err r)
+        → q ≡ r }
+    ensures no_element { (input : List ℕ) (x : List ℕ × Element) (r : Refusal Fault)
+        → DerElementGives input (Ok x)
+        → DerElementGives input (Err r)
+        → ⊥ }
+    ensures ber_element { (input : List ℕ) (q r : Refusal Fault)
+        → BerElementGives input (Err q)
+        → BerElementGives input (Err r)
+        → q ≡ r }
+    ensures no_ber_element { (input : List ℕ) (x : List ℕ × Element) (r : Refusal Fault)
+        → BerElementGives input (Ok x)
+        → BerElementGives input (Err r)
+        → ⊥ }
+    ensures ber_content { (constructed : Bool) (form : LengthForm) (depth : ℕ) (input : List ℕ)
+        (q r : Refusal Fault)
+        → BerContentGives constructed form depth input (Err q)
+        → BerContentGives constructed form depth input (Err r)
+        → q ≡ r }
+    ensures no_ber_content { (constructed : Bool) (form : LengthForm) (depth : ℕ) (input : List ℕ)
+        (x : Bor (List ℕ) × Bor (List ℕ)) (r : Refusal Fault)
+        → BerContentGives constructed form depth input (Ok x)
+        → BerContentGives constructed form depth input (Err r)
+        → ⊥ }
 {}
 
 /// What the readers of [`Any`](crate::Any) answer is the element at the front of the octets, or the refusal of its first
@@ -315,29 +338,61 @@ pub fn any_is_the_element()
 /// Octets that more of them make begin with a header or an element are refused with `Incomplete` of these or fewer, or
 /// they end within an identifier in high form. Where they end so the answer is `InvalidTag`.
 pub fn beginnings_are_incomplete()
-    ensures header { (rule : Identifier → Bool) (at_indefinite : Fault) (input more front rest : List ℕ) (id : Identifier) (form : LengthForm) (r : Refusal Fault)
-        → HeaderGives rule (refusal_of at_indefinite) input (Err r) → IsHeader rule front id form → input ++ more ≡ front ++ rest → TellsBeginning (IsCutIdentifier input) r more }
-    ensures header_within { (rule : Identifier → Bool) (at_indefinite : Fault) (input : List ℕ) (answer : Result (List ℕ × Head) (Refusal Fault))
-        → IsCutIdentifier input → HeaderGives rule (refusal_of at_indefinite) input answer → answer ≡ Err (causes.Error faults.InvalidTag) }
+    ensures header { (rule : Rule) (refuses : Breach → Fault) (input more front rest : List ℕ)
+        (id : Identifier) (form : LengthForm) (r : Refusal Fault)
+        → HeaderGives rule (refusal_of refuses) input (Err r)
+        → IsHeader rule front id form
+        → input ++ more ≡ front ++ rest
+        → TellsBeginning (IsCutIdentifier input) r more }
+    ensures header_within { (rule : Rule) (refuses : Breach → Fault) (input : List ℕ)
+        (answer : Result (List ℕ × Head) (Refusal Fault))
+        → IsCutIdentifier input
+        → HeaderGives rule (refusal_of refuses) input answer
+        → answer ≡ Err (causes.Error faults.InvalidTag) }
     ensures element { (input more word rest : List ℕ) (p : Parts) (r : Refusal Fault)
-        → DerElementGives input (Err r) → IsDefiniteElement word p → input ++ more ≡ word ++ rest → TellsBeginning (IsCutIdentifier input) r more }
+        → DerElementGives input (Err r)
+        → IsDerElement word p
+        → input ++ more ≡ word ++ rest
+        → TellsBeginning (IsCutIdentifier input) r more }
     ensures element_within { (input : List ℕ) (answer : Result (List ℕ × Element) (Refusal Fault))
-        → IsCutIdentifier input → DerElementGives input answer → answer ≡ Err (causes.Error faults.InvalidTag) }
+        → IsCutIdentifier input
+        → DerElementGives input answer
+        → answer ≡ Err (causes.Error faults.InvalidTag) }
     ensures ber_element { (input more word rest : List ℕ) (p : Parts) (r : Refusal Fault)
-        → BerElementGives input (Err r) → IsElement max_depth word p → input ++ more ≡ word ++ rest → TellsBeginning (EndsWithin input) r more }
-    ensures ber_element_within { (input : List ℕ) (answer : Result (List ℕ × Element) (Refusal Fault))
-        → EndsWithin input → BerElementGives input answer → answer ≡ Err (causes.Error faults.InvalidTag) }
+        → BerElementGives input (Err r)
+        → IsElement max_depth word p
+        → input ++ more ≡ word ++ rest
+        → TellsBeginning (EndsWithin input) r more }
+    ensures ber_element_within { (input : List ℕ)
+        (answer : Result (List ℕ × Element) (Refusal Fault))
+        → EndsWithin input
+        → BerElementGives input answer
+        → answer ≡ Err (causes.Error faults.InvalidTag) }
 {}
 
 /// What the readers of headers and of elements answer lasts. After a refusal no element begins the input, nor more
 /// octets of which the refusal speaks. A header or an element that is read is the one that begins the input, whatever
 /// follows, and so are contents octets.
 pub fn answers_last()
-    ensures header { (rule : Identifier → Bool) (at_indefinite : Fault) (input : List ℕ) (x : List ℕ × Head) → HeaderGives rule (refusal_of at_indefinite) input (Ok x) → HeaderLasts input x.0 x.1 }
-    ensures refusal { (input : List ℕ) (r : Refusal Fault) → DerElementGives input (Err r) → RefusalLasts IsDefiniteElement IsCutIdentifier input r }
-    ensures element { (input : List ℕ) (x : List ℕ × Element) → DerElementGives input (Ok x) → ElementLasts IsDefiniteElement input x.0 x.1 }
-    ensures ber_refusal { (input : List ℕ) (r : Refusal Fault) → BerElementGives input (Err r) → RefusalLasts (IsElement max_depth) EndsWithin input r }
-    ensures ber_element { (input : List ℕ) (x : List ℕ × Element) → BerElementGives input (Ok x) → ElementLasts (IsElement max_depth) input x.0 x.1 }
-    ensures ber_content { (constructed : Bool) (form : LengthForm) (depth : ℕ) (input more : List ℕ) (x : Bor (List ℕ) × Bor (List ℕ)) (answer : Result (Bor (List ℕ) × Bor (List ℕ)) (Refusal Fault))
-        → BerContentGives constructed form depth input (Ok x) → BerContentGives constructed form depth (input ++ more) answer → ContentStays x more answer }
+    ensures header { (rule : Rule) (refuses : Breach → Fault) (input : List ℕ) (x : List ℕ × Head)
+        → HeaderGives rule (refusal_of refuses) input (Ok x)
+        → HeaderLasts input x.0 x.1 }
+    ensures refusal { (input : List ℕ) (r : Refusal Fault)
+        → DerElementGives input (Err r)
+        → RefusalLasts IsDerElement IsCutIdentifier input r }
+    ensures element { (input : List ℕ) (x : List ℕ × Element)
+        → DerElementGives input (Ok x)
+        → ElementLasts IsDerElement input x.0 x.1 }
+    ensures ber_refusal { (input : List ℕ) (r : Refusal Fault)
+        → BerElementGives input (Err r)
+        → RefusalLasts (IsElement max_depth) EndsWithin input r }
+    ensures ber_element { (input : List ℕ) (x : List ℕ × Element)
+        → BerElementGives input (Ok x)
+        → ElementLasts (IsElement max_depth) input x.0 x.1 }
+    ensures ber_content { (constructed : Bool) (form : LengthForm) (depth : ℕ)
+        (input more : List ℕ) (x : Bor (List ℕ) × Bor (List ℕ))
+        (answer : Result (Bor (List ℕ) × Bor (List ℕ)) (Refusal Fault))
+        → BerContentGives constructed form depth input (Ok x)
+        → BerContentGives constructed form depth (input ++ more) answer
+        → ContentStays x more answer }
 {}

@@ -2,7 +2,8 @@
 ghost use Rattle.std.specs.Prelude.{◌≡◌, ◌<◌, ◌++◌, ℕ, List, length};
 ghost use Rattle.x690.specs.Identifiers.{Identifier, IsCutIdentifier};
 ghost use Rattle.x690.specs.Lengths.{LengthForm};
-ghost use Rattle.x690.specs.Elements.{Parts, IsHeader, IsDefiniteElement, ber_rule};
+ghost use Rattle.x690.specs.Rules.{ber_rule};
+ghost use Rattle.x690.specs.Elements.{Parts, IsHeader, IsDerElement};
 ghost use Rattle.asn1_rs.specs.Answers.{seen};
 ghost use Rattle.asn1_rs.specs.Laws.Beginnings.{RefusedAsBeginning};
 
@@ -16,7 +17,7 @@ use std::alloc::Global;
 /// Octets that end within such an element are refused: with `Incomplete` of those that are missing or fewer, or with
 /// `InvalidTag`.
 pub fn read_element<'a>(alloc: Global, octets: &'a [u8]) -> ParseResult<'a, Any<'a>, Error>
-    ensures cut { (more word rest : List ℕ) (p : Parts) → IsDefiniteElement word p
+    ensures cut { (more word rest : List ℕ) (p : Parts) → IsDerElement word p
         → octets.now ++ more ≡ word ++ rest → length octets.now < length word
         → RefusedAsBeginning (IsCutIdentifier octets.now) more (seen result) }
 {

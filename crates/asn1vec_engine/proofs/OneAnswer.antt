@@ -7,19 +7,18 @@ use Rattle.std.proofs.Math.Dec.{eqb}
 use Rattle.std.specs.List.{find}
 use Rattle.std.specs.Cmp.Lexicographic.{pointwise}
 use Rattle.x690.specs.Identifiers.{Identifier, IsCutIdentifier}
-use Rattle.x690.specs.Elements.{Parts, IsDefiniteElement}
-use Rattle.x690.specs.Faults.{DefiniteElementFault}
+use Rattle.x690.specs.Elements.{Parts, IsDerElement}
+use Rattle.x690.specs.Faults.{DerElementFault}
 use Rattle.x690.specs.Nested.{IsElement, ElementFault}
 use Rattle.asn1_rs.specs.declared.error.Err.{Err as Refusal}
 use Rattle.asn1_rs.specs.declared.error.Error.{Error}
-use Rattle.asn1_rs.specs.declared.error.Error.TheVariants as faults
-use Rattle.asn1_rs.specs.declared.error.DerConstraint.TheVariants as constraints
 use Rattle.asn1_rs.specs.declared.error.SerializeError.{SerializeError}
 use Rattle.asn1_rs.specs.declared.error.SerializeError.TheVariants as refusals
 use Rattle.asn1_rs.specs.Any.{IsTheElement, IsDefiniteOr}
 use Rattle.asn1_rs.specs.Answers.{Exactly, Front, IsFinal, TellsMemory}
 use Rattle.asn1_rs.specs.Element.{element_of, ElementBody, ElementCheck, ElementForm}
 use Rattle.asn1_rs.specs.Form.{IsOneForm}
+use Rattle.asn1_rs.specs.Header.{der_breach, ber_breach}
 use Rattle.asn1_rs.specs.Wrote.{MayRefuse, tells_of_io}
 use Rattle.asn1_rs.specs.Grammar.{max_depth, IsOneFront, IsOneBody, NoCheck, PassesAll, BerWord, DerWord, BerGives, DerGives, EndsWithin}
 use Rattle.asn1_rs.specs.Integer.{IntegerCheck, IntegerCheckGives, IntegerBody, IntegerForm, IntegerGives, IsUnsigned, UnsignedRefuses, SignedRefuses}
@@ -118,10 +117,10 @@ module _ {T V : Type 0} (check : Parts → Result (Unit {0}) Error → Type 0) (
   item_once : (rule : Rule) (octets text other : List ℕ) → IsItemAnswer rule octets text → IsItemAnswer rule octets other → text ≡ other
   item_once Ber octets text other a b =
       reading_once EndsWithin (BerWord Body) value (BerGives convert Same) text_of Form (word_one (IsElement max_depth) NoCheck Body ber_elements.one one_body) one_form
-      (one_reading_refusal PassesAll convert one_pass passed one_conversion (IsElement max_depth) (ElementFault max_depth) EndsWithin ber_elements faults.ConstructExpected) octets text other a b
+      (one_reading_refusal PassesAll convert one_pass passed one_conversion (IsElement max_depth) (ElementFault max_depth) EndsWithin ber_elements ber_breach) octets text other a b
   item_once Der octets text other a b =
-      reading_once IsCutIdentifier (DerWord Check Body) value (DerGives check convert Same) text_of Form (word_one IsDefiniteElement Check Body der_elements.one one_body) one_form
-      (one_reading_refusal check convert one_check checked one_conversion IsDefiniteElement DefiniteElementFault IsCutIdentifier der_elements (faults.DerConstraintFailed constraints.IndefiniteLength)) octets text other a b
+      reading_once IsCutIdentifier (DerWord Check Body) value (DerGives check convert Same) text_of Form (word_one IsDerElement Check Body der_elements.one one_body) one_form
+      (one_reading_refusal check convert one_check checked one_conversion IsDerElement DerElementFault IsCutIdentifier der_elements der_breach) octets text other a b
 
 -- ---- the types
 

@@ -1,7 +1,7 @@
 -- Octets that are read as one element, checked and converted, have one refusal.
 use Rattle.std.proofs.Common.{◌≡◌, ◌∙◌, sym, ap, subst, refl, List, [], ℕ, append-nil, ◌⊎◌, inl, inr, Result, Ok, Err}
 use Rattle.x690.specs.Elements.{Parts}
-use Rattle.x690.specs.Faults.{Fault}
+use Rattle.x690.specs.Faults.{Breach, Fault}
 use Rattle.asn1_rs.specs.declared.error.Err.{Err as Refusal}
 use Rattle.asn1_rs.specs.declared.error.Err.TheVariants.{Incomplete as cut, Error as refused, Failure as failed}
 use Rattle.asn1_rs.specs.declared.error.Error.{Error}
@@ -33,21 +33,21 @@ module _ {T : Type 0} (check : Parts → Result (Unit {0}) Error → Type 0) (co
     parts_once p q r (inr (passed, rest)) (inl (e, why, given)) = absurd (checked p e passed why)
     parts_once p q r (inr (passed, (e, why, is))) (inr (again, (f, also, too))) = is ∙ ap refused (one_conversion p e f why also) ∙ sym too
 
-    module _ (Element : List ℕ → Parts → Type 0) (FaultOf : List ℕ → Fault → Type 0) (IsCut : List ℕ → Type 0) (elements : AreElements Element FaultOf IsCut) (at_indefinite : Error) where
+    module _ (Element : List ℕ → Parts → Type 0) (FaultOf : List ℕ → Fault → Type 0) (IsCut : List ℕ → Type 0) (elements : AreElements Element FaultOf IsCut) (refuses : Breach → Error) where
       same_parts : (input rest tail : List ℕ) (p o : Parts) → Front Element input p rest → Front Element input o tail → o ≡ p
       same_parts input rest tail p o f g = (elements.one.one g.word f.word tail rest o p g.fits f.fits (sym g.is ∙ f.is)).1
 
       element_or_fault : (input rest : List ℕ) (p : Parts) (fault : Fault) → Front Element input p rest → FaultOf input fault → ⊥
       element_or_fault input rest p fault f why =
-          let silent = speaks_itself at_indefinite fault (refusal_of at_indefinite fault) (IsCut input) [] (elements.counts input fault why) refl (speaks_now (IsCut input) (refusal_of at_indefinite fault)) in
+          let silent = speaks_itself refuses fault (refusal_of refuses fault) (IsCut input) [] (elements.counts input fault why) refl (speaks_now (IsCut input) (refusal_of refuses fault)) in
           elements.final input [] f.word rest p fault why silent f.fits (append-nil input ∙ f.is)
 
       abbrev Gives : List ℕ → Result (List ℕ × T) (Refusal Error) → Type 0
-      Gives = ElementGives Element FaultOf (refusal_of at_indefinite) check convert Same
+      Gives = ElementGives Element FaultOf (refusal_of refuses) check convert Same
 
       pub one_reading_refusal : (input : List ℕ) (q r : Refusal Error) → Gives input (Err q) → Gives input (Err r) → q ≡ r
       one_reading_refusal input q r (inl (f, why, c)) (inl (g, also, d)) =
-          converted_same (refusal_of at_indefinite f) q c ∙ ap (refusal_of at_indefinite) (elements.alone input f g why also) ∙ sym (converted_same (refusal_of at_indefinite g) r d)
+          converted_same (refusal_of refuses f) q c ∙ ap (refusal_of refuses) (elements.alone input f g why also) ∙ sym (converted_same (refusal_of refuses g) r d)
       one_reading_refusal input q r (inl (f, why, c)) (inr (p, rest, front, given)) = absurd (element_or_fault input rest p f front why)
       one_reading_refusal input q r (inr (p, rest, front, given)) (inl (f, why, c)) = absurd (element_or_fault input rest p f front why)
       one_reading_refusal input q r (inr (p, rest, front, given)) (inr (o, tail, other, taken)) = parts_once p q r given (subst (λ (x : Parts). RefusedParts x r) (same_parts input rest tail p o front other) taken)

@@ -27,6 +27,10 @@ abbrev pub IsContent : LengthForm → ℕ → List ℕ → List ℕ → List ℕ
 IsContent (definite n) depth octets content rest headers = (length content ≡ n) × (octets ≡ content ++ rest) × (headers ≡ 0)
 IsContent indefinite depth octets content rest headers = (inner : ℕ) × IsEndedContent depth octets content rest inner × (headers ≡ inner + 1)
 
+-- such contents octets begin the octets
+abbrev pub BeginsWithContent : LengthForm → ℕ → List ℕ → Type 0
+BeginsWithContent form depth octets = (content : List ℕ) × (rest : List ℕ) × (headers : ℕ) × IsContent form depth octets content rest headers
+
 -- why no such contents octets begin the octets
 abbrev pub ContentFault : LengthForm → ℕ → List ℕ → Fault → Type 0
 ContentFault (definite n) depth octets fault = (lacking : ℕ) × (1 ≤ lacking) × (length octets + lacking ≡ n) × (fault ≡ missing lacking)

@@ -1,28 +1,19 @@
 -- Headers and elements of definite length (X.690 8.1.1, 10.1).
-use Rattle.std.specs.Prelude.{◌≡◌, ℕ, Bool, true, false, List, ◌++◌, length}
-use Rattle.x690.specs.Octets.{IsOctets}
+use Rattle.std.specs.Prelude.{◌≡◌, ℕ, ◌<◌, ◌^◌, true, List, ◌++◌, length}
+use Rattle.x690.specs.Octets.{IsOctets, BeginsWith}
 use Rattle.x690.specs.Identifiers.{Identifier, IsIdentifier, IsStrictIdentifier}
-use Rattle.x690.specs.Lengths.{LengthForm, definite, indefinite, IsLengthForm, IsStrictLength}
-
--- whether an element with this identifier may have the indefinite form: by DER none, by BER a constructed one
-abbrev pub der_rule : Identifier → Bool
-der_rule id = false
-
-abbrev pub ber_rule : Identifier → Bool
-ber_rule id = id.constructed
-
-abbrev pub AllowsForm : Bool → LengthForm → Type 0
-AllowsForm allowed (definite n) = Unit {0}
-AllowsForm allowed indefinite = allowed ≡ true
+use Rattle.x690.specs.Lengths.{LengthForm, definite, IsLengthForm, IsStrictLength}
+use Rattle.x690.specs.Rules.{Rule, der_rule, allows_form}
 
 -- identifier octets, and then length octets
-pub record IsHeader (rule : Identifier → Bool) (octets : List ℕ) (id : Identifier) (form : LengthForm) : Type 0 where
+pub record IsHeader (rule : Rule) (octets : List ℕ) (id : Identifier) (form : LengthForm) : Type 0 where
   pub identifier : List ℕ
   pub count : List ℕ
   pub is : octets ≡ identifier ++ count
   pub identifier_is : IsIdentifier identifier id
   pub count_is : IsLengthForm count form
-  pub allowed : AllowsForm (rule id) form
+  pub identifier_allowed : rule.allows_identifier identifier ≡ true
+  pub count_allowed : allows_form rule id count form ≡ true
 
 -- what an element is made of
 pub record Parts : Type 0 where
@@ -30,13 +21,23 @@ pub record Parts : Type 0 where
   pub form : LengthForm
   pub content : List ℕ
 
+-- the parts that an element can have
+pub record ArePossible (parts : Parts) : Type 0 where
+  pub class : parts.id.class < 4
+  pub number : parts.id.number < 2 ^ 32
+  pub content : IsOctets parts.content
+
 -- a header that counts the contents octets, and then these
-pub record IsDefiniteElement (octets : List ℕ) (parts : Parts) : Type 0 where
+pub record IsDefiniteElement (rule : Rule) (octets : List ℕ) (parts : Parts) : Type 0 where
   pub header : List ℕ
-  pub header_is : IsHeader der_rule header parts.id parts.form
+  pub header_is : IsHeader rule header parts.id parts.form
   pub counted : parts.form ≡ definite (length parts.content)
   pub content_octets : IsOctets parts.content
   pub is : octets ≡ header ++ parts.content
+
+-- an element by DER (an element by BER is one of definite length by its rule, or of indefinite length)
+abbrev pub IsDerElement : List ℕ → Parts → Type 0
+IsDerElement = IsDefiniteElement der_rule
 
 -- the strict identifier, the strict length of the contents octets, and these
 pub record IsStrictElement (octets : List ℕ) (id : Identifier) (content : List ℕ) : Type 0 where
@@ -46,3 +47,16 @@ pub record IsStrictElement (octets : List ℕ) (id : Identifier) (content : List
   pub count_is : IsStrictLength count (length content)
   pub content_octets : IsOctets content
   pub is : octets ≡ identifier ++ (count ++ content)
+
+-- the rule allows what a writer writes
+pub record AllowsStrict (rule : Rule) : Type 0 where
+  pub identifier : (octets : List ℕ) (id : Identifier) → IsStrictIdentifier octets id → rule.allows_identifier octets ≡ true
+  pub length : (octets : List ℕ) (n : ℕ) → IsStrictLength octets n → rule.allows_length octets ≡ true
+
+-- a header by the rule begins the octets
+abbrev pub BeginsWithHeader : Rule → List ℕ → Type 0
+BeginsWithHeader rule octets = (header : List ℕ) × (rest : List ℕ) × (id : Identifier) × (form : LengthForm) × IsHeader rule header id form × BeginsWith octets header rest
+
+-- an element begins the octets
+abbrev pub BeginsWithElement : (List ℕ → Parts → Type 0) → List ℕ → Type 0
+BeginsWithElement Element octets = (word : List ℕ) × (rest : List ℕ) × (parts : Parts) × Element word parts × BeginsWith octets word rest

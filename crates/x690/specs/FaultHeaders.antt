@@ -2,21 +2,22 @@
 use Rattle.std.specs.Prelude.{◌≡◌, ℕ, zero, suc, ◌+◌, ◌<◌, List, ◌++◌, length, ◌⊎◌}
 use Rattle.std.specs.List.{concat}
 use Rattle.x690.specs.Lengths.{LengthForm, definite, indefinite}
-use Rattle.x690.specs.Elements.{ber_rule}
-use Rattle.x690.specs.Faults.{Fault, HeaderFault, IsCutContent}
-use Rattle.x690.specs.Nested.{IsRow, IsWord, IsOpened, BeginsWithHeader}
+use Rattle.x690.specs.Rules.{ber_rule}
+use Rattle.x690.specs.Elements.{BeginsWithHeader}
+use Rattle.x690.specs.Faults.{HeaderFault, IsCutContent, HasFault}
+use Rattle.x690.specs.Nested.{IsRow, IsWord, IsOpened}
 
 -- no header begins the octets
 abbrev pub LacksHeader : List ℕ → Type 0
-LacksHeader octets = (fault : Fault) × HeaderFault ber_rule octets fault
+LacksHeader = HasFault (HeaderFault ber_rule)
 
 -- a header begins the octets, and some of the contents octets that it counts are missing
 abbrev pub LacksContent : List ℕ → Type 0
-LacksContent octets = (fault : Fault) × IsCutContent octets fault
+LacksContent = HasFault (IsCutContent ber_rule)
 
 -- No element of the depth begins the octets, and so many headers are read whole before the first fault: none where the first header has the fault; else that header, and behind one of the indefinite form also those of the whole elements and of what follows them. Below depth 1 nothing is read but one header.
 unfoldable pub FaultHeaders : ℕ → List ℕ → ℕ → Type 0
-FaultHeaders zero octets headers = (LacksHeader octets × (headers ≡ 0)) ⊎ (BeginsWithHeader octets × (headers ≡ 1))
+FaultHeaders zero octets headers = (LacksHeader octets × (headers ≡ 0)) ⊎ (BeginsWithHeader ber_rule octets × (headers ≡ 1))
 FaultHeaders (suc depth) octets headers =
     (LacksHeader octets × (headers ≡ 0)) ⊎ (LacksContent octets × (headers ≡ 1)) ⊎ ((rest : List ℕ) × (opened : IsOpened depth octets rest) × (behind : ℕ) × FaultHeaders depth rest behind × (headers ≡ 1 + opened.headers + behind))
 

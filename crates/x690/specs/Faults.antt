@@ -1,15 +1,23 @@
 -- Why no header and no element begins octets: the first fault from the left.
-use Rattle.std.specs.Prelude.{◌≡◌, ◌≢◌, ℕ, ◌+◌, ◌^◌, ◌<◌, ◌≤◌, Bool, false, List, [], ◌∷◌, ◌++◌, length, ◌⊎◌}
+use Rattle.std.specs.Prelude.{◌≡◌, ◌≢◌, ℕ, ◌+◌, ◌^◌, ◌<◌, ◌≤◌, true, false, List, [], ◌∷◌, ◌++◌, length, ◌⊎◌}
 use Rattle.x690.specs.Digits.{base_256_value}
 use Rattle.x690.specs.Identifiers.{Identifier, IsIdentifier}
-use Rattle.x690.specs.Lengths.{definite}
-use Rattle.x690.specs.Elements.{IsHeader, der_rule}
+use Rattle.x690.specs.Lengths.{LengthForm, definite, indefinite, IsLengthForm}
+use Rattle.x690.specs.Rules.{Rule, der_rule, allows_form}
+use Rattle.x690.specs.Elements.{IsHeader}
 
+-- what of a header its rule does not allow: the identifier octets, the length octets, or the indefinite form
+pub data Breach : Type 0 where
+  identifier_breach : Breach
+  length_breach : Breach
+  form_breach : Breach
+
+-- What is wrong: so many octets are missing; identifier octets that are cut or too great; length octets that are ff or too great; a header that its rule does not allow; a depth that is spent.
 pub data Fault : Type 0 where
   missing : ℕ → Fault
   tag_fault : Fault
   length_fault : Fault
-  form_fault : Fault
+  rule_fault : Breach → Fault
   depth_fault : Fault
 
 -- nothing is there, or no front of the octets is an identifier
@@ -33,31 +41,58 @@ LengthFault octets (missing n) = IsCutLength octets n
 LengthFault octets length_fault = ((others : List ℕ) × (octets ≡ 255 ∷ others)) ⊎ IsHugeLength octets
 LengthFault octets _ = ⊥
 
--- 80 stands where the rule has no indefinite form
-abbrev pub FormFault : Bool → List ℕ → Fault → Type 0
-FormFault allowed octets fault = (fault ≡ form_fault) × (allowed ≡ false) × ((others : List ℕ) × (octets ≡ 128 ∷ others))
+abbrev pub breach_of : LengthForm → Breach
+breach_of (definite n) = length_breach
+breach_of indefinite = form_breach
 
--- no identifier, or no length after one
-abbrev pub HeaderFault : (Identifier → Bool) → List ℕ → Fault → Type 0
-HeaderFault rule octets fault =
-    IdentifierFault octets fault ⊎ ((identifier : List ℕ) × (rest : List ℕ) × (id : Identifier) × IsIdentifier identifier id × (octets ≡ identifier ++ rest) × (LengthFault rest fault ⊎ FormFault (rule id) rest fault))
+-- length octets, or 80, that the rule does not allow behind the identifier
+pub record IsLengthBreach (rule : Rule) (id : Identifier) (octets : List ℕ) (fault : Fault) : Type 0 where
+  pub count : List ℕ
+  pub rest : List ℕ
+  pub form : LengthForm
+  pub count_is : IsLengthForm count form
+  pub is : octets ≡ count ++ rest
+  pub not_allowed : allows_form rule id count form ≡ false
+  pub fault_is : fault ≡ rule_fault (breach_of form)
+
+-- the rule does not allow the identifier octets; or it does, and no length that it allows follows
+abbrev pub FaultFrom : Rule → List ℕ → Identifier → List ℕ → Fault → Type 0
+FaultFrom rule identifier id rest fault =
+    ((rule.allows_identifier identifier ≡ false) × (fault ≡ rule_fault identifier_breach)) ⊎ ((rule.allows_identifier identifier ≡ true) × (LengthFault rest fault ⊎ IsLengthBreach rule id rest fault))
+
+-- identifier octets, and then the fault
+pub record IsFaultFromIdentifier (rule : Rule) (octets : List ℕ) (fault : Fault) : Type 0 where
+  pub identifier : List ℕ
+  pub rest : List ℕ
+  pub id : Identifier
+  pub identifier_is : IsIdentifier identifier id
+  pub is : octets ≡ identifier ++ rest
+  pub why : FaultFrom rule identifier id rest fault
+
+-- why no header by the rule begins the octets
+abbrev pub HeaderFault : Rule → List ℕ → Fault → Type 0
+HeaderFault rule octets fault = IdentifierFault octets fault ⊎ IsFaultFromIdentifier rule octets fault
 
 -- some of the contents octets that a header counts are missing
-pub record IsCutContent (octets : List ℕ) (fault : Fault) : Type 0 where
+pub record IsCutContent (rule : Rule) (octets : List ℕ) (fault : Fault) : Type 0 where
   pub header : List ℕ
   pub rest : List ℕ
   pub id : Identifier
   pub counted : ℕ
   pub lacking : ℕ
-  pub header_is : IsHeader der_rule header id (definite counted)
+  pub header_is : IsHeader rule header id (definite counted)
   pub is : octets ≡ header ++ rest
   pub some : 1 ≤ lacking
   pub sum : length rest + lacking ≡ counted
   pub fault_is : fault ≡ missing lacking
 
--- why no element of definite length begins the octets
-abbrev pub DefiniteElementFault : List ℕ → Fault → Type 0
-DefiniteElementFault octets fault = HeaderFault der_rule octets fault ⊎ IsCutContent octets fault
+-- why no element by DER begins the octets
+abbrev pub DerElementFault : List ℕ → Fault → Type 0
+DerElementFault octets fault = HeaderFault der_rule octets fault ⊎ IsCutContent der_rule octets fault
+
+-- the octets have a fault
+abbrev pub HasFault : (List ℕ → Fault → Type 0) → List ℕ → Type 0
+HasFault FaultOf octets = (fault : Fault) × FaultOf octets fault
 
 -- What a fault says of the octets with more behind them. Where n are missing it says nothing of n or more; where the octets end within an identifier in high form it says nothing of any.
 abbrev pub SpeaksOf : Type 0 → Fault → List ℕ → Type 0

@@ -7,12 +7,14 @@ pub mod Lengths
 pub mod Headers
 pub mod Elements
 pub mod Faults
+pub mod Complete
 pub mod Rows
 pub mod Nested
 pub mod NestedFaults
 pub mod FaultHeaders
 pub mod Contents
 pub mod IndefiniteContents
+pub mod NestedComplete
 pub mod Beginnings
 pub mod StrictLengths
 pub mod StrictIdentifiers

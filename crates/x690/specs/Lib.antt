@@ -2,6 +2,7 @@ pub mod Octets
 pub mod Digits
 pub mod Identifiers
 pub mod Lengths
+pub mod Rules
 pub mod Elements
 pub mod Faults
 pub mod Nested

@@ -2,8 +2,9 @@
 use Rattle.std.specs.Prelude.{◌≡◌, ◌≢◌, ℕ, zero, suc, ◌+◌, ◌≤◌, List, [], ◌∷◌, ◌++◌, ◌⊎◌}
 use Rattle.std.specs.List.{concat}
 use Rattle.x690.specs.Identifiers.{Identifier, IsCutIdentifier}
-use Rattle.x690.specs.Lengths.{LengthForm, indefinite}
-use Rattle.x690.specs.Elements.{Parts, IsHeader, IsDefiniteElement, ber_rule}
+use Rattle.x690.specs.Lengths.{indefinite}
+use Rattle.x690.specs.Rules.{ber_rule}
+use Rattle.x690.specs.Elements.{Parts, IsHeader, IsDefiniteElement, BeginsWithHeader}
 use Rattle.x690.specs.Faults.{Fault, depth_fault, HeaderFault, IsCutContent}
 
 -- 00 00 ends an indefinite content
@@ -31,7 +32,7 @@ pub record IsIndefiniteElement (Word : List ℕ → ℕ → Type 0) (octets : Li
 unfoldable pub IsNestedElement : ℕ → List ℕ → Parts → ℕ → Type 0
 IsNestedElement zero octets parts headers = ⊥
 IsNestedElement (suc depth) octets parts headers =
-    (IsDefiniteElement octets parts × (headers ≡ 1)) ⊎ ((1 ≤ depth) × IsIndefiniteElement (λ word count. (inner : Parts) × IsNestedElement depth word inner count) octets parts headers)
+    (IsDefiniteElement ber_rule octets parts × (headers ≡ 1)) ⊎ ((1 ≤ depth) × IsIndefiniteElement (λ word count. (inner : Parts) × IsNestedElement depth word inner count) octets parts headers)
 
 -- an element of the depth, of any parts
 abbrev pub IsWord : ℕ → List ℕ → ℕ → Type 0
@@ -40,9 +41,6 @@ IsWord depth word headers = (parts : Parts) × IsNestedElement depth word parts 
 -- an element by BER of the depth, with any number of headers
 abbrev pub IsElement : ℕ → List ℕ → Parts → Type 0
 IsElement depth octets parts = (headers : ℕ) × IsNestedElement depth octets parts headers
-
-abbrev pub BeginsWithHeader : List ℕ → Type 0
-BeginsWithHeader octets = (header : List ℕ) × (rest : List ℕ) × (id : Identifier) × (form : LengthForm) × IsHeader ber_rule header id form × (octets ≡ header ++ rest)
 
 -- an indefinite header, and then whole elements of the depth below
 pub record IsOpened (depth : ℕ) (octets rest : List ℕ) : Type 0 where
@@ -56,9 +54,9 @@ pub record IsOpened (depth : ℕ) (octets rest : List ℕ) : Type 0 where
 
 -- Why no element of the depth begins the octets: the first fault from the left. Below depth 1 nothing is read but one header.
 unfoldable pub ElementFault : ℕ → List ℕ → Fault → Type 0
-ElementFault zero octets fault = HeaderFault ber_rule octets fault ⊎ (BeginsWithHeader octets × (fault ≡ depth_fault))
+ElementFault zero octets fault = HeaderFault ber_rule octets fault ⊎ (BeginsWithHeader ber_rule octets × (fault ≡ depth_fault))
 ElementFault (suc depth) octets fault =
-    HeaderFault ber_rule octets fault ⊎ IsCutContent octets fault ⊎ ((rest : List ℕ) × IsOpened depth octets rest × ElementFault depth rest fault)
+    HeaderFault ber_rule octets fault ⊎ IsCutContent ber_rule octets fault ⊎ ((rest : List ℕ) × IsOpened depth octets rest × ElementFault depth rest fault)
 
 -- the octets end within an identifier in high form: at their front, or after the whole elements of an open content
 unfoldable pub EndsInIdentifier : ℕ → List ℕ → Type 0

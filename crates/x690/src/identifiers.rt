@@ -11,6 +11,10 @@ pub fn identifiers_unique()
         → IsIdentifier front front_id → BeginsWith input front rest
         → IsIdentifier other other_id → BeginsWith input other tail
         → (front ≡ other) × (front_id ≡ other_id) × (rest ≡ tail) }
-    ensures some { (octets : List ℕ) (id : Identifier) → IsIdentifier octets id → 1 ≤ length octets }
-    ensures octets { (octets : List ℕ) (id : Identifier) → IsIdentifier octets id → IsOctets octets }
+    ensures some { (octets : List ℕ) (id : Identifier)
+        → IsIdentifier octets id
+        → 1 ≤ length octets }
+    ensures octets { (octets : List ℕ) (id : Identifier)
+        → IsIdentifier octets id
+        → IsOctets octets }
 {}

@@ -11,6 +11,10 @@ pub fn lengths_unique()
         → IsLengthForm front front_form → BeginsWith input front rest
         → IsLengthForm other other_form → BeginsWith input other tail
         → (front ≡ other) × (front_form ≡ other_form) × (rest ≡ tail) }
-    ensures some { (octets : List ℕ) (form : LengthForm) → IsLengthForm octets form → 1 ≤ length octets }
-    ensures octets { (octets : List ℕ) (form : LengthForm) → IsLengthForm octets form → IsOctets octets }
+    ensures some { (octets : List ℕ) (form : LengthForm)
+        → IsLengthForm octets form
+        → 1 ≤ length octets }
+    ensures octets { (octets : List ℕ) (form : LengthForm)
+        → IsLengthForm octets form
+        → IsOctets octets }
 {}

@@ -17,7 +17,8 @@ ghost use Rattle.x690.specs.Laws.Octets.{octets_append};
 
 pub use elements::{
     beginnings_lack_octets, definite_elements_unique, der_headers_are_ber_headers,
-    faults_are_final, headers_unique, one_fault, some_octets_are_missing, words_have_no_fault,
+    faults_are_complete, faults_are_final, headers_unique, one_fault, some_octets_are_missing,
+    words_have_no_fault,
 };
 pub use identifiers::identifiers_unique;
 pub use integers::integers_have_one_content;
@@ -27,7 +28,7 @@ pub use nested::{
     depths_include_lesser_ones, headers_and_contents_are_elements, headers_are_few,
     headers_before_faults_are_determined, nested_beginnings_lack_octets,
     nested_elements_have_no_fault, nested_elements_last, nested_elements_unique,
-    nested_faults_are_final, one_nested_fault,
+    nested_faults_are_complete, nested_faults_are_final, one_nested_fault,
 };
 pub use octets::{dictionary_order_is_total, first_difference_decides};
 pub use signed::octets_hold_their_integers;

@@ -4,8 +4,8 @@ use Rattle.std.proofs.lemmas.List.{append_cancel_left}
 use Rattle.std.specs.Prelude.{zero, suc, Bool, true, false, Result, Ok, Err}
 use Rattle.std.specs.Borrow.{Bor}
 use Rattle.x690.specs.Lengths.{LengthForm, definite, indefinite}
-use Rattle.x690.specs.Elements.{Parts, IsDefiniteElement}
-use Rattle.x690.specs.Faults.{Fault, tag_fault, DefiniteElementFault, IsLackingOrCut}
+use Rattle.x690.specs.Elements.{Parts, IsDerElement}
+use Rattle.x690.specs.Faults.{Breach, Fault, tag_fault, DerElementFault, IsLackingOrCut}
 use Rattle.x690.specs.Nested.{IsElement, ElementFault}
 use Rattle.x690.specs.Contents.{IsContent}
 use Rattle.x690.specs.Laws.Contents.{content_unique, content_extends, one_content_fault, content_or_fault}
@@ -25,7 +25,7 @@ use Rattle.asn1_rs.specs.Laws.Elements.{AreElements, speaks_itself, speaks_now}
 
 -- the answers of the readers of elements by DER and by BER
 abbrev pub DerElementGives : List ℕ → Result (List ℕ × Any) (Refusal Error) → Type 0
-DerElementGives = AnyGives IsDefiniteElement DefiniteElementFault der_refusal
+DerElementGives = AnyGives IsDerElement DerElementFault der_refusal
 
 abbrev pub BerElementGives : List ℕ → Result (List ℕ × Any) (Refusal Error) → Type 0
 BerElementGives = AnyGives (IsElement max_depth) (ElementFault max_depth) ber_refusal
@@ -43,17 +43,17 @@ abbrev pub TellsBeginning : Type 0 → Refusal Error → List ℕ → Type 0
 TellsBeginning ends_within r more = ((n : ℕ) × (r ≡ cut (Size n)) × (n ≤ length more)) ⊎ ((r ≡ refused InvalidTag) × ends_within)
 
 -- as the fault that it tells of
-pub tells_beginning : (at_indefinite : Error) (fault : Fault) (r : Refusal Error) (ends_within : Type 0) (more : List ℕ) → r ≡ refusal_of at_indefinite fault → IsLackingOrCut ends_within fault more → TellsBeginning ends_within r more
+pub tells_beginning : (refuses : Breach → Error) (fault : Fault) (r : Refusal Error) (ends_within : Type 0) (more : List ℕ) → r ≡ refusal_of refuses fault → IsLackingOrCut ends_within fault more → TellsBeginning ends_within r more
 tells_beginning at fault r ends_within more e (inl l) = inl (l.0, e ∙ ap (refusal_of at) l.1, l.2)
 tells_beginning at fault r ends_within more e (inr c) = inr (e ∙ ap (refusal_of at) c.0, c.1)
 
-module _ (Element : List ℕ → Parts → Type 0) (FaultOf : List ℕ → Fault → Type 0) (IsCut : List ℕ → Type 0) (elements : AreElements Element FaultOf IsCut) (at_indefinite : Error) where
+module _ (Element : List ℕ → Parts → Type 0) (FaultOf : List ℕ → Fault → Type 0) (IsCut : List ℕ → Type 0) (elements : AreElements Element FaultOf IsCut) (refuses : Breach → Error) where
   abbrev Gives : List ℕ → Result (List ℕ × Any) (Refusal Error) → Type 0
-  Gives = AnyGives Element FaultOf (refusal_of at_indefinite)
+  Gives = AnyGives Element FaultOf (refusal_of refuses)
 
   pub refusal_lasts : (input : List ℕ) (r : Refusal Error) → Gives input (Err r) → RefusalLasts Element IsCut input r
   refusal_lasts input r g = λ more word rest p s a e.
-      elements.final input more word rest p g.0 g.1 (speaks_itself at_indefinite g.0 r (IsCut input) more (elements.counts input g.0 g.1) g.2 s) a e
+      elements.final input more word rest p g.0 g.1 (speaks_itself refuses g.0 r (IsCut input) more (elements.counts input g.0 g.1) g.2 s) a e
 
   pub element_lasts : (input : List ℕ) (x : List ℕ × Any) → Gives input (Ok x) → ElementLasts Element input x.0 x.1
   element_lasts input x g = λ more word tail p a e.
@@ -62,15 +62,15 @@ module _ (Element : List ℕ → Parts → Type 0) (FaultOf : List ℕ → Fault
       (sym same.1, sym (append_cancel_left word (x.0 ++ more) tail (ap (λ (ys : List ℕ). ys ++ (x.0 ++ more)) (sym same.0) ∙ s)))
 
   pub beginning_refused : (input more word rest : List ℕ) (p : Parts) (r : Refusal Error) → Gives input (Err r) → Element word p → input ++ more ≡ word ++ rest → TellsBeginning (IsCut input) r more
-  beginning_refused input more word rest p r g a e = tells_beginning at_indefinite g.0 r (IsCut input) more g.2 (elements.beginning input more word rest p g.0 g.1 a e)
+  beginning_refused input more word rest p r g a e = tells_beginning refuses g.0 r (IsCut input) more g.2 (elements.beginning input more word rest p g.0 g.1 a e)
 
   pub within_refused : (input : List ℕ) (answer : Result (List ℕ × Any) (Refusal Error)) → IsCut input → Gives input answer → answer ≡ Err (refused InvalidTag)
   within_refused input (Ok x) c g = absurd (elements.final input [] g.word x.0 (parts_of x.1) tag_fault (elements.within input c) (inl refl) g.fits (append-nil input ∙ g.is))
-  within_refused input (Err r) c g = ap Err (g.2 ∙ ap (refusal_of at_indefinite) (elements.alone input g.0 tag_fault g.1 (elements.within input c)))
+  within_refused input (Err r) c g = ap Err (g.2 ∙ ap (refusal_of refuses) (elements.alone input g.0 tag_fault g.1 (elements.within input c)))
 
   -- an input has one refusal
   pub one_element_refusal : (input : List ℕ) (q r : Refusal Error) → Gives input (Err q) → Gives input (Err r) → q ≡ r
-  one_element_refusal input q r f g = f.2 ∙ ap (refusal_of at_indefinite) (elements.alone input f.0 g.0 f.1 g.1) ∙ sym g.2
+  one_element_refusal input q r f g = f.2 ∙ ap (refusal_of refuses) (elements.alone input f.0 g.0 f.1 g.1) ∙ sym g.2
 
   -- where an element begins an input there is no refusal of it
   pub element_or_refusal : (input : List ℕ) (x : List ℕ × Any) (r : Refusal Error) → Gives input (Ok x) → Gives input (Err r) → ⊥
@@ -124,12 +124,12 @@ same_refusal (refused e) r c = c.2 ∙ ap refused c.1
 same_refusal (failed e) r c = c.2 ∙ ap failed c.1
 
 -- a definite element has no indefinite form
-not_indefinite : (o : List ℕ) (p : Parts) → IsDefiniteElement o p → p.form ≡ indefinite → ⊥
+not_indefinite : (o : List ℕ) (p : Parts) → IsDerElement o p → p.form ≡ indefinite → ⊥
 not_indefinite o p d e = let counted = d.counted in cc
 
 -- What the blanket readers answer at an element is the element, or the refusal of its first fault.
 pub der_any : (input : List ℕ) (answer : Result (List ℕ × Any) (Refusal Error)) → DerGives IsDefiniteOr IsTheElement (λ e f. f ≡ e) input answer → DerElementGives input answer
-der_any input (Ok x) (p, front, check, same) = subst (λ (q : Parts). Front IsDefiniteElement input q x.0) (sym same) front
+der_any input (Ok x) (p, front, check, same) = subst (λ (q : Parts). Front IsDerElement input q x.0) (sym same) front
 der_any input (Err r) (inl (fault, f, c)) = (fault, f, same_refusal (der_refusal fault) r c)
 der_any input (Err r) (inr (p, rest, front, inl (e, check, from))) = absurd (not_indefinite front.word p front.fits check.0)
 der_any input (Err r) (inr (p, rest, front, inr (check, (e, convert, is)))) = absurd convert

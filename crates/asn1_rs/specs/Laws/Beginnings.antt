@@ -1,10 +1,11 @@
 -- Octets that more of them make begin with a word, and that are shorter than it, are refused.
-use Rattle.std.proofs.Common.{arith, ◌≡◌, ◌∙◌, ap, sym, ℕ, ◌<◌, inl, inr, List, ◌++◌, length, append_assoc, length-append, Bool}
+use Rattle.std.proofs.Common.{arith, ◌≡◌, ◌∙◌, ap, sym, ℕ, ◌<◌, inl, inr, List, ◌++◌, length, append_assoc, length-append}
 use Rattle.std.specs.Prelude.{◌⊎◌, Result, Ok, Err, IsErrAnd}
 use Rattle.x690.specs.Identifiers.{Identifier, IsCutIdentifier}
 use Rattle.x690.specs.Lengths.{LengthForm}
 use Rattle.x690.specs.Elements.{Parts, IsHeader}
-use Rattle.x690.specs.Faults.{Fault}
+use Rattle.x690.specs.Rules.{Rule}
+use Rattle.x690.specs.Faults.{Breach, Fault}
 use Rattle.x690.specs.Laws.Headers.{header_unique}
 use Rattle.asn1_rs.specs.declared.error.Err.{Err as Refusal}
 use Rattle.asn1_rs.specs.declared.error.Error.{Error}
@@ -40,12 +41,12 @@ no_front_of_beginning G one input more word rest left v w f g e l =
     let same : (f.word ≡ word) × (v ≡ w) = one.one f.word word (left ++ more) rest v w f.fits g (moved input more f.word left word rest f.is e) in
     no_longer input more f.word left word rest f.is same.0 l
 
-pub beginning_is_refused : (Element : List ℕ → Parts → Type 0) (FaultOf : List ℕ → Fault → Type 0) (IsCut : List ℕ → Type 0) → AreElements Element FaultOf IsCut → (at_indefinite : Error) →
-    (input more word rest : List ℕ) (p : Parts) (answer : Result (List ℕ × Any) (Refusal Error)) → AnyGives Element FaultOf (refusal_of at_indefinite) input answer → Element word p → input ++ more ≡ word ++ rest → length input < length word → RefusedAsBeginning (IsCut input) more answer
+pub beginning_is_refused : (Element : List ℕ → Parts → Type 0) (FaultOf : List ℕ → Fault → Type 0) (IsCut : List ℕ → Type 0) → AreElements Element FaultOf IsCut → (refuses : Breach → Error) →
+    (input more word rest : List ℕ) (p : Parts) (answer : Result (List ℕ × Any) (Refusal Error)) → AnyGives Element FaultOf (refusal_of refuses) input answer → Element word p → input ++ more ≡ word ++ rest → length input < length word → RefusedAsBeginning (IsCut input) more answer
 beginning_is_refused Element FaultOf IsCut elements at input more word rest p (Ok x) g a e l = absurd (no_front_of_beginning Element elements.one input more word rest x.0 (parts_of x.1) p g a e l)
 beginning_is_refused Element FaultOf IsCut elements at input more word rest p (Err r) g a e l = beginning_refused Element FaultOf IsCut elements at input more word rest p r g a e
 
-pub header_beginning_is_refused : (rule : Identifier → Bool) (at_indefinite : Error) (input more front rest : List ℕ) (id : Identifier) (form : LengthForm) (answer : Result (List ℕ × Header) (Refusal Error)) → HeaderGives rule (refusal_of at_indefinite) input answer → IsHeader rule front id form → input ++ more ≡ front ++ rest → length input < length front → RefusedAsBeginning (IsCutIdentifier input) more answer
+pub header_beginning_is_refused : (rule : Rule) (refuses : Breach → Error) (input more front rest : List ℕ) (id : Identifier) (form : LengthForm) (answer : Result (List ℕ × Header) (Refusal Error)) → HeaderGives rule (refusal_of refuses) input answer → IsHeader rule front id form → input ++ more ≡ front ++ rest → length input < length front → RefusedAsBeginning (IsCutIdentifier input) more answer
 header_beginning_is_refused rule at input more front rest id form (Ok x) g h e l =
     let u = header_unique rule rule g.octets front (x.0 ++ more) rest (identifier_of x.1) id (form_of x.1.length) form g.header h (moved input more g.octets x.0 front rest g.is e) in
     absurd (no_longer input more g.octets x.0 front rest g.is u.0 l)

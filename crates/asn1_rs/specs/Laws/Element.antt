@@ -12,8 +12,8 @@ use Rattle.asn1_rs.specs.Element.{Element, element_of, ElementBody, ElementCheck
 
 pub element_lawful : IsLawfulElement any_element
 element_lawful = record {
-  body_values = λ p v o b. subst IsElementValue (sym b) o;
-  form_values = λ v i c f. subst IsElementValue (sym f.is) f.octets;
+  body_values = λ p v o b. subst IsElementValue (sym b) (record { class = o.class; number = o.number; content = o.content });
+  form_values = λ v i c f. subst IsElementValue (sym f.is) (record { class = f.class; number = f.number; content = f.octets });
   body_one = λ p v w a b. a ∙ sym b;
   one_form = λ v i j c d f g. let e = sym f.is ∙ g.is in (ap (λ (z : Element). z.id) e, ap (λ (z : Element). z.content) e);
   one_value = λ v w i c f g. f.is ∙ sym g.is;

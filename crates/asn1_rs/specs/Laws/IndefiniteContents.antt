@@ -10,10 +10,10 @@ use Rattle.x690.specs.Laws.Nested.{nested_element_deeper, nested_content_is_octe
 use Rattle.x690.specs.Laws.IndefiniteContents.{indefinite_is_row}
 use Rattle.asn1_rs.specs.declared.error.Err.{Err as Refusal}
 use Rattle.asn1_rs.specs.declared.error.Error.{Error}
-use Rattle.asn1_rs.specs.declared.error.Error.TheVariants as faults
 use Rattle.asn1_rs.specs.declared.asn1_types.any.Any.{Any}
 use Rattle.asn1_rs.specs.Answers.{Exactly, TellsMemory}
 use Rattle.asn1_rs.specs.Any.{parts_of, IsTheElement}
+use Rattle.asn1_rs.specs.Header.{ber_breach}
 use Rattle.asn1_rs.specs.Grammar.{max_depth, BerGives, EndsWithin, ElementWord, NoCheck, PassesAll, TakesBody}
 use Rattle.asn1_rs.specs.Items.{TakesItem, IsWalk, AreWords, TellsNothing, TellsMemoryAlone, IsMemory, EndsWalk}
 use Rattle.asn1_rs.specs.Laws.Any.{BerElementGives}
@@ -41,7 +41,7 @@ element_join : (o : List ℕ) (v : Parts) → ElementWord (IsElement max_depth) 
 element_join o v a = subst (λ (p : Parts). IsElement max_depth o p) (sym a.3) a.1
 
 elements_exact : (octets : List ℕ) (answer : Result (List ℕ × Any) (Refusal Error)) → IsOctets octets → ElementsGive octets answer → Exactly EndsWithin (IsElement max_depth) parts_of (TellsMemory false IsSame) octets answer
-elements_exact octets answer o = element_exact (IsElement max_depth) (ElementFault max_depth) EndsWithin ber_elements faults.ConstructExpected PassesAll IsTheElement IsSame NoCheck HasParts parts_of false (IsElement max_depth) passes_all element_taken element_split element_join octets answer
+elements_exact octets answer o = element_exact (IsElement max_depth) (ElementFault max_depth) EndsWithin ber_elements ber_breach PassesAll IsTheElement IsSame NoCheck HasParts parts_of false (IsElement max_depth) passes_all element_taken element_split element_join octets answer
 
 -- elements of a lesser depth are elements by BER
 row_words : (within : ℕ) (words : List (List ℕ)) (headers : ℕ) → within ≤ max_depth → IsRow (IsWord within) words headers → AreWords (IsElement max_depth) words

@@ -2,7 +2,7 @@
 use Rattle.std.specs.Prelude.{ℕ, List, Result, Ok, Err}
 use Rattle.x690.specs.Octets.{IsOctets}
 use Rattle.std.proofs.Common.{◌≡◌, refl, subst, inl}
-use Rattle.x690.specs.Elements.{Parts, IsDefiniteElement}
+use Rattle.x690.specs.Elements.{Parts, IsDerElement}
 use Rattle.x690.specs.Nested.{IsElement}
 use Rattle.asn1_rs.specs.declared.error.Error.{Error}
 use Rattle.asn1_rs.specs.declared.error.Error.TheVariants.{OutOfMemory}
@@ -16,12 +16,12 @@ use Rattle.asn1_rs.specs.Laws.Words.{word_one, strict_ber_word, strict_der_word}
 
 pub lawful_item : {S : Type 0} (G : ElementGrammar S) → IsLawfulElement G → IsLawfulItem (item_grammar G)
 lawful_item G l = record {
-  ber_values = λ o v w. l.body_values w.0 v (ber_elements.content o w.0 w.1) w.3;
-  der_values = λ o v w. l.body_values w.0 v (der_elements.content o w.0 w.1) w.3;
+  ber_values = λ o v w. l.body_values w.0 v (ber_elements.possible o w.0 w.1) w.3;
+  der_values = λ o v w. l.body_values w.0 v (der_elements.possible o w.0 w.1) w.3;
   body_values = l.body_values;
   form_values = l.form_values;
   ber_one = word_one (IsElement max_depth) NoCheck G.Body ber_elements.one l.body_one;
-  der_one = word_one IsDefiniteElement G.Check G.Body der_elements.one l.body_one;
+  der_one = word_one IsDerElement G.Check G.Body der_elements.one l.body_one;
   body_one = l.body_one;
   one_form = l.one_form;
   one_value = l.one_value;

@@ -12,8 +12,8 @@ use Rattle.x690.specs.Strict.{header_octets}
 use Rattle.std.specs.Iterator.{Yields}
 use Rattle.x690.specs.Octets.{IsOctets}
 use Rattle.x690.specs.Identifiers.{Identifier, IsCutIdentifier}
-use Rattle.x690.specs.Elements.{Parts, IsDefiniteElement}
-use Rattle.x690.specs.Faults.{DefiniteElementFault}
+use Rattle.x690.specs.Elements.{Parts, IsDerElement}
+use Rattle.x690.specs.Faults.{DerElementFault}
 use Rattle.x690.specs.Nested.{IsElement}
 use Rattle.x690.specs.Laws.Octets.{octets_append, octets_back, below_octets}
 use Rattle.x690.specs.Laws.Elements.{definite_element_two, definite_element_is_octets}
@@ -21,7 +21,9 @@ use Rattle.asn1_rs.specs.declared.error.Err.{Err as Refusal}
 use Rattle.asn1_rs.specs.declared.error.Err.TheVariants.{Incomplete as cut, Error as refused, Failure as failed}
 use Rattle.asn1_rs.specs.declared.error.Error.{Error}
 use Rattle.asn1_rs.specs.declared.error.Error.TheVariants as faults
-use Rattle.asn1_rs.specs.declared.error.DerConstraint.TheVariants.{IndefiniteLength}
+use Rattle.x690.specs.Rules.{der_rule}
+use Rattle.x690.specs.Laws.StrictElements.{der_allows_strict}
+use Rattle.asn1_rs.specs.Header.{der_breach}
 use Rattle.asn1_rs.specs.declared.asn1_types.any.Any.{Any}
 use Rattle.asn1_rs.specs.Error.{HeldIn, FlattenedTo}
 use Rattle.asn1_rs.specs.Kinds.{IsExactCheck}
@@ -34,7 +36,7 @@ use Rattle.asn1_rs.specs.ItemGrammar.{ItemGrammar, IsLawfulItem}
 use Rattle.asn1_rs.specs.Lists.{joining, list_grammar, ListBody, ListOf, CheckedElement, ListCheck, StrictWord, ListForm, IsListOr, ItemsGive, ListTakes, ListReads, CheckedGives, ListCheckGives, SomeRefuses, has_items}
 use Rattle.asn1_rs.specs.Wrote.{HasNone, Either, IsWritable, WrittenRefusal}
 use Rattle.asn1_rs.specs.declared.error.SerializeError.{SerializeError}
-use Rattle.asn1_rs.specs.Laws.Elements.{none_now, element_exact, element_spares, no_indefinite_length_spares, der_elements, ber_elements}
+use Rattle.asn1_rs.specs.Laws.Elements.{none_now, element_exact, element_spares, der_breach_spares, der_elements, ber_elements}
 use Rattle.asn1_rs.specs.Laws.Words.{word_one, strict_element, one_strict, strict_apart, strict_ber_word, strict_der_word}
 use Rattle.asn1_rs.specs.Laws.Forms.{universal, header_of, universal_one, universal_value, universal_fits, WritesByValue, WritesForm, strict_written}
 
@@ -95,11 +97,11 @@ module _ {V : Type 0} (G : List ℕ → V → Type 0) (one : IsOneFront G) where
 pub strict_word_one : {V : Type 0} (Form : V → Identifier → List ℕ → Type 0) → IsOneValue Form → IsOneFront (StrictWord Form)
 strict_word_one Form one = record {
   one = λ x y r s v w a b e. let u = strict_apart Form one v w x y r s a b e in (u.0, u.1);
-  some = λ v a. let l = definite_element_two [] _ (strict_element Form v [] a) in absurd (omega (arith, l));
+  some = λ v a. let l = definite_element_two der_rule [] _ (strict_element der_rule der_allows_strict Form v [] a) in absurd (omega (arith, l));
 }
 
 pub strict_word_octets : {V : Type 0} (Form : V → Identifier → List ℕ → Type 0) (o : List ℕ) (v : V) → StrictWord Form o v → IsOctets o
-strict_word_octets Form o v s = definite_element_is_octets o _ (strict_element Form v o s)
+strict_word_octets Form o v s = definite_element_is_octets der_rule o _ (strict_element der_rule der_allows_strict Form v o s)
 
 pub checked_one : (Check : Parts → Type 0) → IsOneFront (CheckedElement Check)
 checked_one Check = record {
@@ -147,7 +149,7 @@ module _ {V : Type 0} (Form : V → Identifier → List ℕ → Type 0) (number 
   joined_checked Check checks (v ∷ vs) c j =
       let t = joined_checked Check checks vs j.1 j.4 in
       let s : IsStrict Form v j.0 = j.2 in
-      (made s.id s.content ∷ t.0, (j.0, j.1, (strict_element Form v j.0 s, checks v s.id s.content s.form), j.3, t.1))
+      (made s.id s.content ∷ t.0, (j.0, j.1, (strict_element der_rule der_allows_strict Form v j.0 s, checks v s.id s.content s.form), j.3, t.1))
 
   pub list_form_check_under : (Check : Parts → Type 0) → FormChecks Form Check → (vs : List V) (i : Identifier) (c : List ℕ) (class : ℕ) → ListForm number Form vs i c → ListCheck number Check (made (of_class class i) c)
   list_form_check_under Check checks vs i c class f =
@@ -180,7 +182,7 @@ list_lawful number small items G l = record {
   body_values = λ p vs o b. list_body_values number G.Ber G.IsValue l.ber_values p vs b;
   form_values = list_form_values G.Form number G.IsValue l.form_values;
   ber_one = word_one (IsElement max_depth) NoCheck (ListBody number G.Ber) ber_elements.one (list_body_one G.Ber l.ber_one number);
-  der_one = word_one IsDefiniteElement NoCheck (ListOf number G.Der) der_elements.one (list_of_one G.Der l.der_one number);
+  der_one = word_one IsDerElement NoCheck (ListOf number G.Der) der_elements.one (list_of_one G.Der l.der_one number);
   body_one = list_body_one G.Ber l.ber_one number;
   one_form = list_one_form G.Form number l.one_form;
   one_value = list_one_value G.Form number l.one_value;
@@ -287,10 +289,10 @@ module _ (number : ℕ) (check : Parts → Result (Unit {0}) Error → Type 0) (
   any_body p (Err e) o h = absurd h
 
   to_checked : (o : List ℕ) (p : Parts) → DerWord Check IsParts o p → CheckedElement Check o p
-  to_checked o p w = (subst (λ (q : Parts). IsDefiniteElement o q) (sym w.3) w.1, subst Check (sym w.3) w.2)
+  to_checked o p w = (subst (λ (q : Parts). IsDerElement o q) (sym w.3) w.1, subst Check (sym w.3) w.2)
 
   element_checked : (octets : List ℕ) (answer : Result (List ℕ × Any) (Refusal Error)) → Unit {0} → CheckedGives check octets answer → Exactly IsCutIdentifier (CheckedElement Check) parts_of (TellsMemory false (λ x y. y ≡ x)) octets answer
-  element_checked octets answer k g = element_exact IsDefiniteElement DefiniteElementFault IsCutIdentifier der_elements (faults.DerConstraintFailed IndefiniteLength) check IsTheElement (λ (x y : Error). y ≡ x) Check IsParts parts_of false (CheckedElement Check) check_exact any_body
+  element_checked octets answer k g = element_exact IsDerElement DerElementFault IsCutIdentifier der_elements der_breach check IsTheElement (λ (x y : Error). y ≡ x) Check IsParts parts_of false (CheckedElement Check) check_exact any_body
       (λ o p c. (p, c.0, c.1, refl)) to_checked octets answer g
 
   pub list_check_exact : (p : Parts) (answer : Result (Unit {0}) Error) → ListCheckGives number check p answer → Checks (ListCheck number Check) p answer
@@ -316,7 +318,7 @@ list_checks number check Check c = record {
   where
     element_spared : (octets : List ℕ) (answer : Result (List ℕ × Any) (Refusal Error)) → CheckedGives check octets answer → EndsItem (λ (x y : Error). y ≡ x) octets answer faults.OutOfMemory → ⊥
     element_spared octets (Ok x) g e = let a = e.1 in cc
-    element_spared octets (Err r) g e = refusal_spared r (element_spares IsDefiniteElement DefiniteElementFault (faults.DerConstraintFailed IndefiniteLength) no_indefinite_length_spares check IsTheElement (λ (x y : Error). y ≡ x) c.spares (λ p f h. absurd h) octets (Err r) g) e
+    element_spared octets (Err r) g e = refusal_spared r (element_spares IsDerElement DerElementFault der_breach der_breach_spares check IsTheElement (λ (x y : Error). y ≡ x) c.spares (λ p f h. absurd h) octets (Err r) g) e
       where
         refusal_spared : (r : Refusal Error) → HeldIn (IsOther (λ (x y : Error). y ≡ x)) r → FlattenedTo (λ x y. y ≡ x) (λ (x y : Error). y ≡ x) r faults.OutOfMemory → ⊥
         refusal_spared (cut n) h f = cc

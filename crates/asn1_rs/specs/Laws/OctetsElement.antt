@@ -20,7 +20,7 @@ primitive_checks = record { exact = exact; spares = λ p h. let e = h.1 in cc }
 module _ {S : Type 0} (number : ℕ) (octets : S → List ℕ) where
   pub octets_lawful : number < 31 → IsLawfulElement (octets_element number octets)
   octets_lawful small = record {
-    body_values = λ p v o b. subst IsOctets (sym b.1) o;
+    body_values = λ p v o b. subst IsOctets (sym b.1) o.content;
     form_values = λ v i c f. subst IsOctets (sym f.1.0) f.1.1;
     body_one = λ p v w a b. a.1 ∙ sym b.1;
     one_form = universal_one false number OctetsContent (λ v c d f g. sym f.0 ∙ g.0);

@@ -14,7 +14,7 @@ use Rattle.std.proofs.lemmas.List.Sorted.{IsPermutation-refl, IsPermutation-tran
 use Rattle.x690.specs.Strict.{header_octets}
 use Rattle.x690.specs.Octets.{IsOctets}
 use Rattle.x690.specs.Identifiers.{Identifier}
-use Rattle.x690.specs.Elements.{Parts, IsDefiniteElement}
+use Rattle.x690.specs.Elements.{Parts, IsDerElement}
 use Rattle.x690.specs.Nested.{IsElement}
 use Rattle.asn1_rs.specs.declared.error.Err.{Err as Refusal}
 use Rattle.asn1_rs.specs.declared.error.Error.{Error}
@@ -174,7 +174,7 @@ module _ {S W M : Type 0} (G : ItemGrammar S) (l : IsLawfulItem G) (of : List G.
     body_values = λ p m o b. body_values_of p m b;
     form_values = set_form_values of Each G.Form G.IsValue l.form_values;
     ber_one = word_one (IsElement max_depth) NoCheck (SetBody of G.Ber) ber_elements.one body_one;
-    der_one = word_one IsDefiniteElement NoCheck DerBody der_elements.one one;
+    der_one = word_one IsDerElement NoCheck DerBody der_elements.one one;
     body_one = body_one;
     one_form = set_one_form of Each G.Form mixed l.one_form;
     one_value = set_one_value of Each G.Form l.one_value;

@@ -3,9 +3,10 @@ use Rattle.std.proofs.Common.{arith, ◌≡◌, ◌∙◌, ap, sym, subst, refl,
 use Rattle.std.proofs.lemmas.List.{append_cancel_left}
 use Rattle.std.specs.Prelude.{Result, Ok, Err}
 use Rattle.x690.specs.Identifiers.{Identifier}
-use Rattle.x690.specs.Elements.{Parts, IsDefiniteElement, IsStrictElement}
+use Rattle.x690.specs.Rules.{Rule, der_rule, ber_rule}
+use Rattle.x690.specs.Elements.{Parts, IsDefiniteElement, IsStrictElement, AllowsStrict}
 use Rattle.x690.specs.Laws.Nested.{definite_is_nested}
-use Rattle.x690.specs.Laws.StrictElements.{strict_is_definite, strict_element_one, strict_element_unique}
+use Rattle.x690.specs.Laws.StrictElements.{der_allows_strict, ber_allows_strict, strict_is_definite, strict_element_one, strict_element_unique}
 use Rattle.asn1_rs.specs.declared.error.Err.{Err as Refusal}
 use Rattle.asn1_rs.specs.Answers.{Exactly, ReadsBack}
 use Rattle.asn1_rs.specs.Form.{IsOneForm, IsOneValue, IsStrict}
@@ -21,18 +22,18 @@ word_one Element Check Body elements one = record {
   some = λ v a. elements.some a.0 a.1;
 }
 
--- a strict encoding is one element of definite length
-pub strict_element : {V : Type 0} (Form : V → Identifier → List ℕ → Type 0) (v : V) (o : List ℕ) (s : IsStrict Form v o) → IsDefiniteElement o (made s.id s.content)
-strict_element Form v o s = strict_is_definite o s.id s.content s.element
+-- a strict encoding is one element of definite length by each rule that allows it
+pub strict_element : {V : Type 0} (rule : Rule) → AllowsStrict rule → (Form : V → Identifier → List ℕ → Type 0) (v : V) (o : List ℕ) (s : IsStrict Form v o) → IsDefiniteElement rule o (made s.id s.content)
+strict_element rule allows Form v o s = strict_is_definite rule allows o s.id s.content s.element
 
 -- it is a word by DER where its parts meet check and body
 pub strict_der_word : {V : Type 0} (Form : V → Identifier → List ℕ → Type 0) (Check : Parts → Type 0) (Body : Parts → V → Type 0) → FormChecks Form Check → FormBodies Form Body → (v : V) (o : List ℕ) → IsStrict Form v o → DerWord Check Body o v
-strict_der_word Form Check Body checks bodies v o s = (made s.id s.content, strict_element Form v o s, checks v s.id s.content s.form, bodies v s.id s.content s.form)
+strict_der_word Form Check Body checks bodies v o s = (made s.id s.content, strict_element der_rule der_allows_strict Form v o s, checks v s.id s.content s.form, bodies v s.id s.content s.form)
 
 -- and by BER where they meet the body
 pub strict_ber_word : {V : Type 0} (Form : V → Identifier → List ℕ → Type 0) (Body : Parts → V → Type 0) → FormBodies Form Body → (v : V) (o : List ℕ) → IsStrict Form v o → BerWord Body o v
 strict_ber_word Form Body bodies v o s =
-    (made s.id s.content, (1, definite_is_nested max_depth o (made s.id s.content) (omega arith) (strict_element Form v o s)), tt, bodies v s.id s.content s.form)
+    (made s.id s.content, (1, definite_is_nested ber_rule max_depth o (made s.id s.content) (omega arith) (strict_element ber_rule ber_allows_strict Form v o s)), tt, bodies v s.id s.content s.form)
 
 -- a value has one strict encoding where it has one form
 pub one_strict : {V : Type 0} (Form : V → Identifier → List ℕ → Type 0) → IsOneForm Form → (v : V) (o p : List ℕ) → IsStrict Form v o → IsStrict Form v p → o ≡ p

@@ -1,8 +1,8 @@
 //! Elements of any type (X.690 8.1.1).
 ghost use Rattle.std.specs.Prelude.{◌≡◌, ℕ, false, length, None, Ok};
 ghost use Rattle.std.specs.Fn.{FnOnceReturnsAt};
-ghost use Rattle.x690.specs.Elements.{IsDefiniteElement};
-ghost use Rattle.x690.specs.Faults.{DefiniteElementFault};
+ghost use Rattle.x690.specs.Elements.{IsDerElement};
+ghost use Rattle.x690.specs.Faults.{DerElementFault};
 ghost use Rattle.x690.specs.Nested.{IsElement, ElementFault};
 ghost use Rattle.asn1_rs.specs.Answers.{seen};
 ghost use Rattle.asn1_rs.specs.Header.{class_of, is_constructed_of, tag_of, length_of, raw_tag_of, HasParts, der_refusal, ber_refusal};
@@ -149,7 +149,7 @@ impl<'a> Any<'a> {
         F: FnOnce(&'a [u8]) -> ParseResult<'a, T, E> + Drop,
         E: From<Error>,
         requires { F.IsAlwaysCallable op }
-        ensures { AndThenGives IsDefiniteElement DefiniteElementFault der_refusal class (record { 0 = tag }) E.from_gives (FnOnceReturnsAt F.FnOnce op) bytes.now (seen result) }
+        ensures { AndThenGives IsDerElement DerElementFault der_refusal class (record { 0 = tag }) E.from_gives (FnOnceReturnsAt F.FnOnce op) bytes.now (seen result) }
     {
         match element_by_der(bytes) {
             Ok((rest, any)) => hand_on(any, rest, class, tag, op),

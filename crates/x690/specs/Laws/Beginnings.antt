@@ -1,13 +1,14 @@
 -- Octets that end within an identifier, a header or an element: which fault they have.
-use Rattle.std.proofs.Common.{◌≡◌, ◌≢◌, ℕ, zero, suc, ◌≤◌, Bool, List, [], ◌∷◌, ◌++◌, length, drop, refl, sym, ap, ◌∙◌, arith, subst, inl, inr, append_assoc, append-nil, length-drop}
+use Rattle.std.proofs.Common.{◌≡◌, ◌≢◌, ℕ, zero, suc, ◌≤◌, List, [], ◌∷◌, ◌++◌, length, drop, refl, sym, ap, ◌∙◌, arith, subst, inl, inr, append_assoc, append-nil, length-drop}
 use Rattle.std.proofs.lemmas.Bool.{cases_lt}
 use Rattle.x690.specs.Identifiers.{Identifier, IsIdentifier, IsCutIdentifier}
 use Rattle.x690.specs.Lengths.{LengthForm}
-use Rattle.x690.specs.Elements.{Parts, IsHeader, IsDefiniteElement, der_rule, ber_rule}
-use Rattle.x690.specs.Faults.{Fault, missing, tag_fault, length_fault, form_fault, depth_fault, IdentifierFault, HeaderFault, DefiniteElementFault, SpeaksOf, IsLackingOrCut}
+use Rattle.x690.specs.Rules.{Rule, der_rule, ber_rule}
+use Rattle.x690.specs.Elements.{Parts, IsHeader, IsDerElement}
+use Rattle.x690.specs.Faults.{Fault, missing, tag_fault, length_fault, rule_fault, depth_fault, Breach, IdentifierFault, HeaderFault, DerElementFault, SpeaksOf, IsLackingOrCut}
 use Rattle.x690.specs.Nested.{IsNestedElement, ElementFault, EndsInIdentifier, end_of_contents}
 use Rattle.x690.specs.Laws.Identifiers.{identifier_unique}
-use Rattle.x690.specs.Laws.Faults.{shorter_front, no_header, no_definite_element}
+use Rattle.x690.specs.Laws.Faults.{shorter_front, no_header, no_der_element}
 use Rattle.x690.specs.Laws.Nested.{end_parts, end_element, definite_is_nested, nested_header}
 use Rattle.x690.specs.Laws.NestedFaults.{no_element, opened_not_definite, opened_goes_on}
 
@@ -25,7 +26,7 @@ cut_identifier_fault octets c = (
     no_more [] more e = e
     no_more (x ∷ rest) more e = cc
 
-pub cut_header_fault : (rule : Identifier → Bool) (octets : List ℕ) → IsCutIdentifier octets → HeaderFault rule octets tag_fault
+pub cut_header_fault : (rule : Rule) (octets : List ℕ) → IsCutIdentifier octets → HeaderFault rule octets tag_fault
 cut_header_fault rule octets c = inl (cut_identifier_fault octets c)
 
 -- octets that end within an identifier have its fault
@@ -49,23 +50,27 @@ fault_is_cut octets x o y id why i h =
           record { more = drop (length octets) o; id = id; some = why.0; missing = some_left (drop (length octets) o) k; whole = subst (λ (ys : List ℕ). IsIdentifier ys id) t i }
     ]
 
-tag_not_form : tag_fault ≡ form_fault → ⊥
-tag_not_form e = cc
+tag_not_rule : (b : Breach) → tag_fault ≡ rule_fault b → ⊥
+tag_not_rule b e = cc
 
 -- the same of a header
-header_is_cut : (rule : Identifier → Bool) (octets x o y : List ℕ) (id : Identifier) (form : LengthForm) → HeaderFault rule octets tag_fault → IsHeader rule o id form → octets ++ x ≡ o ++ y → IsCutIdentifier octets
+header_is_cut : (rule : Rule) (octets x o y : List ℕ) (id : Identifier) (form : LengthForm) → HeaderFault rule octets tag_fault → IsHeader rule o id form → octets ++ x ≡ o ++ y → IsCutIdentifier octets
 header_is_cut rule octets x o y id form (inl why) h e =
     fault_is_cut octets x h.identifier (h.count ++ y) id why h.identifier_is (e ∙ ap (λ (ys : List ℕ). ys ++ y) h.is ∙ append_assoc h.identifier h.count y)
-header_is_cut rule octets x o y id form (inr why) h e = elim why.5 [ inl p ↦ absurd p | inr p ↦ absurd (tag_not_form p.0) ]
+header_is_cut rule octets x o y id form (inr why) h e = elim why.why [
+  | inl p ↦ absurd (tag_not_rule _ p.1)
+  | inr (allowed, inl p) ↦ absurd p
+  | inr (allowed, inr p) ↦ absurd (tag_not_rule _ p.fault_is)
+]
 
 tag_not_missing : (n : ℕ) → tag_fault ≡ missing n → ⊥
 tag_not_missing n e = cc
 
--- of an element of definite length
-definite_is_cut : (octets x o y : List ℕ) (p : Parts) → DefiniteElementFault octets tag_fault → IsDefiniteElement o p → octets ++ x ≡ o ++ y → IsCutIdentifier octets
-definite_is_cut octets x o y p (inl why) b e =
+-- of an element by DER
+der_is_cut : (octets x o y : List ℕ) (p : Parts) → DerElementFault octets tag_fault → IsDerElement o p → octets ++ x ≡ o ++ y → IsCutIdentifier octets
+der_is_cut octets x o y p (inl why) b e =
     header_is_cut der_rule octets x b.header (p.content ++ y) p.id p.form why b.header_is (e ∙ ap (λ (ys : List ℕ). ys ++ y) b.is ∙ append_assoc b.header p.content y)
-definite_is_cut octets x o y p (inr why) b e = absurd (tag_not_missing why.lacking why.fault_is)
+der_is_cut octets x o y p (inr why) b e = absurd (tag_not_missing why.lacking why.fault_is)
 
 -- and of an element by BER
 element_is_cut : (depth : ℕ) (octets x o y : List ℕ) (p : Parts) (h : ℕ) → ElementFault depth octets tag_fault → IsNestedElement depth o p h → octets ++ x ≡ o ++ y → EndsInIdentifier depth octets
@@ -78,7 +83,7 @@ element_is_cut (suc depth) octets x o y p h (inr (inl why)) b e = absurd (tag_no
 element_is_cut (suc depth) octets x o y p h (inr (inr why)) (inl b) e = absurd (opened_not_definite depth octets why.0 x o y p why.1 b.0 e)
 element_is_cut (suc depth) octets x o y p h (inr (inr why)) (inr b) e =
     elim (opened_goes_on depth octets why.0 x o y p h why.1 b.1 e) [
-      | inl z ↦ inr (why.0, why.1, element_is_cut depth why.0 x end_of_contents y end_parts 1 why.2 (definite_is_nested depth end_of_contents end_parts b.0 end_element) z)
+      | inl z ↦ inr (why.0, why.1, element_is_cut depth why.0 x end_of_contents y end_parts 1 why.2 (definite_is_nested ber_rule depth end_of_contents end_parts b.0 end_element) z)
       | inr z ↦ inr (why.0, why.1, element_is_cut depth why.0 x z.word z.rest z.word_is.0 z.headers why.2 z.word_is.1 z.is)
     ]
 
@@ -87,19 +92,19 @@ lacking_or_cut : (cut : Type 0) (fault : Fault) (x : List ℕ) → (SpeaksOf cut
 lacking_or_cut cut (missing n) x silent c = elim (cases_lt (length x) n) [ inl l ↦ absurd (silent l) | inr l ↦ inl (n, refl, l) ]
 lacking_or_cut cut tag_fault x silent c = inr (refl, c refl)
 lacking_or_cut cut length_fault x silent c = absurd (silent tt)
-lacking_or_cut cut form_fault x silent c = absurd (silent tt)
+lacking_or_cut cut (rule_fault b) x silent c = absurd (silent tt)
 lacking_or_cut cut depth_fault x silent c = absurd (silent tt)
 
 -- So where more octets begin with a header, octets lack as many at most or end within its identifier.
-pub header_beginning : (rule : Identifier → Bool) (octets x o y : List ℕ) (id : Identifier) (form : LengthForm) (fault : Fault) → HeaderFault rule octets fault → IsHeader rule o id form → octets ++ x ≡ o ++ y → IsLackingOrCut (IsCutIdentifier octets) fault x
+pub header_beginning : (rule : Rule) (octets x o y : List ℕ) (id : Identifier) (form : LengthForm) (fault : Fault) → HeaderFault rule octets fault → IsHeader rule o id form → octets ++ x ≡ o ++ y → IsLackingOrCut (IsCutIdentifier octets) fault x
 header_beginning rule octets x o y id form fault why h e =
     lacking_or_cut (IsCutIdentifier octets) fault x (λ s. no_header rule octets x o y id form fault why s h e)
     (λ t. header_is_cut rule octets x o y id form (subst (λ (f : Fault). HeaderFault rule octets f) t why) h e)
 
-pub definite_beginning : (octets x o y : List ℕ) (p : Parts) (fault : Fault) → DefiniteElementFault octets fault → IsDefiniteElement o p → octets ++ x ≡ o ++ y → IsLackingOrCut (IsCutIdentifier octets) fault x
-definite_beginning octets x o y p fault why b e =
-    lacking_or_cut (IsCutIdentifier octets) fault x (λ s. no_definite_element octets x o y p fault why s b e)
-    (λ t. definite_is_cut octets x o y p (subst (λ (f : Fault). DefiniteElementFault octets f) t why) b e)
+pub der_beginning : (octets x o y : List ℕ) (p : Parts) (fault : Fault) → DerElementFault octets fault → IsDerElement o p → octets ++ x ≡ o ++ y → IsLackingOrCut (IsCutIdentifier octets) fault x
+der_beginning octets x o y p fault why b e =
+    lacking_or_cut (IsCutIdentifier octets) fault x (λ s. no_der_element octets x o y p fault why s b e)
+    (λ t. der_is_cut octets x o y p (subst (λ (f : Fault). DerElementFault octets f) t why) b e)
 
 pub element_beginning : (depth : ℕ) (octets x o y : List ℕ) (p : Parts) (h : ℕ) (fault : Fault) → ElementFault depth octets fault → IsNestedElement depth o p h → octets ++ x ≡ o ++ y → IsLackingOrCut (EndsInIdentifier depth octets) fault x
 element_beginning depth octets x o y p h fault why b e =

@@ -5,20 +5,20 @@ use Rattle.std.proofs.lemmas.List.{append_cancel_left}
 use Rattle.x690.specs.Octets.{IsOctets}
 use Rattle.x690.specs.Identifiers.{Identifier}
 use Rattle.x690.specs.Lengths.{LengthForm, definite, indefinite}
-use Rattle.x690.specs.Elements.{IsHeader, IsDefiniteElement, der_rule, ber_rule}
+use Rattle.x690.specs.Rules.{ber_rule}
+use Rattle.x690.specs.Elements.{IsHeader, IsDefiniteElement}
 use Rattle.x690.specs.Faults.{Fault, missing, depth_fault, HeaderFault}
 use Rattle.x690.specs.Nested.{IsNestedElement, ElementFault, end_of_contents}
 use Rattle.x690.specs.Contents.{IsEndedContent, EndFault, IsContent, ContentFault}
 use Rattle.x690.specs.Laws.Octets.{octets_front}
 use Rattle.x690.specs.Laws.Lengths.{same_front}
-use Rattle.x690.specs.Laws.Headers.{header_definite}
 use Rattle.x690.specs.Laws.Nested.{words_unique}
 use Rattle.x690.specs.Laws.NestedFaults.{one_element_fault, element_or_fault}
 
 -- a header that counts them, and as many octets
-pub definite_made : (octets header after content rest : List ℕ) (id : Identifier) (n : ℕ) → IsOctets after → IsHeader ber_rule header id (definite n) → octets ≡ header ++ after → after ≡ content ++ rest → length content ≡ n → IsDefiniteElement (header ++ content) (record { id = id; form = definite n; content = content }) × (octets ≡ (header ++ content) ++ rest)
+pub definite_made : (octets header after content rest : List ℕ) (id : Identifier) (n : ℕ) → IsOctets after → IsHeader ber_rule header id (definite n) → octets ≡ header ++ after → after ≡ content ++ rest → length content ≡ n → IsDefiniteElement ber_rule (header ++ content) (record { id = id; form = definite n; content = content }) × (octets ≡ (header ++ content) ++ rest)
 definite_made octets header after content rest id n whole h s t l = (
-  record { header = header; header_is = header_definite ber_rule der_rule header id (definite n) n refl h; counted = ap definite (sym l); content_octets = octets_front content rest (subst IsOctets t whole); is = refl },
+  record { header = header; header_is = h; counted = ap definite (sym l); content_octets = octets_front content rest (subst IsOctets t whole); is = refl },
   s ∙ ap (λ (ys : List ℕ). header ++ ys) t ∙ sym (append_assoc header content rest),
 )
 
@@ -67,7 +67,7 @@ pub content_fault_behind : (depth : ℕ) (octets header after : List ℕ) (id : 
 unfolding ElementFault
 content_fault_behind zero octets header after id form fault some h s why = absurd (omega arith)
 content_fault_behind (suc depth) octets header after id (definite n) fault some h s why =
-    inr (inl (record { header = header; rest = after; id = id; counted = n; lacking = why.0; header_is = header_definite ber_rule der_rule header id (definite n) n refl h; is = s; some = why.1; sum = why.2; fault_is = why.3 }))
+    inr (inl (record { header = header; rest = after; id = id; counted = n; lacking = why.0; header_is = h; is = s; some = why.1; sum = why.2; fault_is = why.3 }))
 content_fault_behind (suc depth) octets header after id indefinite fault some h s why =
     let e : suc depth - 1 ≡ depth = omega arith in
     end_fault_opened depth octets header after id fault h s (subst (λ (d : ℕ). EndFault d after fault) e why)
@@ -102,7 +102,7 @@ opening_identifier = record { class = 0; constructed = true; number = 16 }
 
 opening_header : IsHeader ber_rule opening opening_identifier indefinite
 unfolding opening opening_identifier
-opening_header = record { identifier = 48 ∷ []; count = 128 ∷ []; is = refl; identifier_is = (16, omega arith, omega arith, refl, inl (refl, omega arith, refl)); count_is = refl; allowed = refl }
+opening_header = record { identifier = 48 ∷ []; count = 128 ∷ []; is = refl; identifier_is = (16, omega arith, omega arith, refl, inl (refl, omega arith, refl)); count_is = refl; identifier_allowed = refl; count_allowed = refl }
 
 behind_opening : (depth : ℕ) (octets : List ℕ) (fault : Fault) → EndFault depth octets fault → ElementFault (suc depth) (opening ++ octets) fault
 behind_opening depth octets fault why = end_fault_opened depth (opening ++ octets) opening octets opening_identifier fault opening_header refl why

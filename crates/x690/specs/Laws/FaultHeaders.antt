@@ -3,11 +3,12 @@ use Rattle.std.proofs.Common.{◌≡◌, ℕ, zero, suc, ◌+◌, ◌-◌, ◌*�
 use Rattle.std.specs.List.{concat}
 use Rattle.x690.specs.Identifiers.{Identifier}
 use Rattle.x690.specs.Lengths.{LengthForm, definite, indefinite}
-use Rattle.x690.specs.Elements.{IsHeader, der_rule, ber_rule}
+use Rattle.x690.specs.Rules.{ber_rule}
+use Rattle.x690.specs.Elements.{IsHeader}
 use Rattle.x690.specs.Faults.{Fault, missing, depth_fault, HeaderFault}
 use Rattle.x690.specs.Nested.{IsWord, ElementFault}
 use Rattle.x690.specs.FaultHeaders.{FaultHeaders, EndFaultHeaders, ContentFaultHeaders}
-use Rattle.x690.specs.Laws.Headers.{header_two, header_definite}
+use Rattle.x690.specs.Laws.Headers.{header_two}
 use Rattle.x690.specs.Laws.Faults.{header_or_fault}
 use Rattle.x690.specs.Laws.Rows.{BeginsWithWord, row_half}
 use Rattle.x690.specs.Laws.Nested.{nested_element_half}
@@ -36,7 +37,7 @@ pub content_headers_behind : (depth : ℕ) (octets header after : List ℕ) (id 
 unfolding FaultHeaders
 content_headers_behind zero octets header after id form headers some h s b = absurd (omega arith)
 content_headers_behind (suc depth) octets header after id (definite n) headers some h s b =
-    inr (inl ((missing (n - length after), record { header = header; rest = after; id = id; counted = n; lacking = n - length after; header_is = header_definite ber_rule der_rule header id (definite n) n refl h; is = s; some = omega (arith, b.0); sum = omega (arith, b.0); fault_is = refl }), omega (arith, b.1)))
+    inr (inl ((missing (n - length after), record { header = header; rest = after; id = id; counted = n; lacking = n - length after; header_is = h; is = s; some = omega (arith, b.0); sum = omega (arith, b.0); fault_is = refl }), omega (arith, b.1)))
 content_headers_behind (suc depth) octets header after id indefinite headers some h s b =
     let e : suc depth - 1 ≡ depth = omega arith in
     opened_headers depth octets header after id headers h s (subst (λ (d : ℕ). EndFaultHeaders d after headers) e b)
@@ -102,7 +103,7 @@ fault_headers_half zero octets headers (inr a) =
 fault_headers_half (suc depth) octets headers (inl a) = omega (arith, a.1)
 fault_headers_half (suc depth) octets headers (inr (inl a)) =
     let b = a.0.1 in
-    omega (arith, a.1, header_two der_rule b.header b.id (definite b.counted) b.header_is, ap length b.is, length-append b.header b.rest)
+    omega (arith, a.1, header_two ber_rule b.header b.id (definite b.counted) b.header_is, ap length b.is, length-append b.header b.rest)
 fault_headers_half (suc depth) octets headers (inr (inr a)) =
     let b = a.1 in
     let whole = row_half (IsWord depth) (λ w g k. nested_element_half depth w k.0 g k.1) b.words b.headers b.row in

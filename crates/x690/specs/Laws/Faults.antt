@@ -1,12 +1,13 @@
 -- Where there is a fault there is no header and no element, and there is one fault alone.
-use Rattle.std.proofs.Common.{◌≡◌, ◌≢◌, ℕ, ◌+◌, ◌^◌, ◌<◌, ◌≤◌, Bool, true, false, List, [], ◌∷◌, ◌++◌, length, drop, take, refl, sym, ap, ◌∙◌, arith, subst, inl, inr, ◌⊎◌, append_assoc, append-nil, length-drop, length-append, take-append-drop}
+use Rattle.std.proofs.Common.{◌≡◌, ◌≢◌, ℕ, ◌+◌, ◌^◌, ◌<◌, ◌≤◌, Bool, true, false, List, [], ◌∷◌, ◌++◌, length, drop, take, refl, sym, ap, ◌∙◌, arith, subst, inl, inr, append_assoc, append-nil, length-drop, length-append, take-append-drop}
 use Rattle.std.proofs.lemmas.Bool.{cases_lt}
 use Rattle.std.proofs.lemmas.List.{take_at, take-append-le}
 use Rattle.x690.specs.Digits.{base_256_value}
 use Rattle.x690.specs.Identifiers.{Identifier, IsIdentifier, IsCutIdentifier}
 use Rattle.x690.specs.Lengths.{LengthForm, definite, indefinite, IsLengthForm, IsLongLength}
-use Rattle.x690.specs.Elements.{IsHeader, AllowsForm, Parts, IsDefiniteElement, der_rule}
-use Rattle.x690.specs.Faults.{Fault, missing, tag_fault, length_fault, form_fault, depth_fault, IdentifierFault, IsCutLength, LengthFault, FormFault, HeaderFault, IsCutContent, DefiniteElementFault, SpeaksOf}
+use Rattle.x690.specs.Rules.{Rule, der_rule, allows_form}
+use Rattle.x690.specs.Elements.{IsHeader, Parts, IsDefiniteElement, IsDerElement}
+use Rattle.x690.specs.Faults.{Fault, missing, tag_fault, length_fault, rule_fault, depth_fault, breach_of, IdentifierFault, IsCutLength, LengthFault, IsLengthBreach, FaultFrom, HeaderFault, IsCutContent, DerElementFault, SpeaksOf}
 use Rattle.x690.specs.Laws.Identifiers.{identifier_unique}
 use Rattle.x690.specs.Laws.Lengths.{same_front, same_octet, length_form_unique}
 use Rattle.x690.specs.Laws.Headers.{header_unique, header_peel, definite_same}
@@ -57,7 +58,7 @@ no_length cut rest x o y form length_fault (inr why) s l h =
     let f = no_first (128 + length why.0) (why.0 ++ (why.1 ++ x)) o y form (omega arith) l t in
     no_huge why.0 (why.1 ++ x) o y f.0 why.5 f.1 t
 no_length cut rest x o y form tag_fault why s l h = why
-no_length cut rest x o y form form_fault why s l h = why
+no_length cut rest x o y form (rule_fault b) why s l h = why
 no_length cut rest x o y form depth_fault why s l h = why
 
 -- of two fronts of one list the shorter begins the longer
@@ -82,43 +83,51 @@ no_cut_identifier octets x (l ∷ ds) y id tag_fault why (inr s) i h =
           s (record { more = drop (length octets) o; id = id; some = why.0; missing = not_nil (drop (length octets) o) k; whole = subst (λ (ys : List ℕ). IsIdentifier ys id) t i })
     ]
 no_cut_identifier octets x (l ∷ ds) y id length_fault why s i h = why
-no_cut_identifier octets x (l ∷ ds) y id form_fault why s i h = why
+no_cut_identifier octets x (l ∷ ds) y id (rule_fault b) why s i h = why
 no_cut_identifier octets x (l ∷ ds) y id depth_fault why s i h = why
 
-form_clash : (allowed : Bool) → allowed ≡ false → AllowsForm allowed indefinite → ⊥
-form_clash allowed e a = let t : true ≡ false = sym a ∙ e in cc
+not_both : (allowed other : Bool) → allowed ≡ false → other ≡ true → allowed ≡ other → ⊥
+not_both allowed other e a s = let t : true ≡ false = sym a ∙ sym s ∙ e in cc
+
+same_allowed : (rule : Rule) (i j : Identifier) (c d : List ℕ) (f g : LengthForm) → i ≡ j → c ≡ d → f ≡ g → allows_form rule i c f ≡ allows_form rule j d g
+same_allowed rule i j c d f g p q r = ap (λ (z : Identifier). allows_form rule z c f) p ∙ ap (λ (z : List ℕ). allows_form rule j z f) q ∙ ap (λ (z : LengthForm). allows_form rule j d z) r
+
+-- where the rule does not allow the length octets it has no header of them
+no_breach : (rule : Rule) (rest x o y : List ℕ) (id jd : Identifier) (form : LengthForm) (fault : Fault) → IsLengthBreach rule id rest fault → id ≡ jd → IsLengthForm o form → allows_form rule jd o form ≡ true → rest ++ x ≡ o ++ y → ⊥
+no_breach rule rest x o y id jd form fault why same l allowed h =
+    let v = length_form_unique why.count o (why.rest ++ x) y why.form form why.count_is l (sym (append_assoc why.count why.rest x) ∙ ap (λ (ys : List ℕ). ys ++ x) (sym why.is) ∙ h) in
+    not_both (allows_form rule id why.count why.form) (allows_form rule jd o form) why.not_allowed allowed (same_allowed rule id jd why.count o why.form form same v.0 v.1)
 
 -- The same of a header by one rule.
-pub no_header : (rule : Identifier → Bool) (octets x o y : List ℕ) (id : Identifier) (form : LengthForm) (fault : Fault) → HeaderFault rule octets fault → SpeaksOf (IsCutIdentifier octets) fault x → IsHeader rule o id form → octets ++ x ≡ o ++ y → ⊥
+pub no_header : (rule : Rule) (octets x o y : List ℕ) (id : Identifier) (form : LengthForm) (fault : Fault) → HeaderFault rule octets fault → SpeaksOf (IsCutIdentifier octets) fault x → IsHeader rule o id form → octets ++ x ≡ o ++ y → ⊥
 no_header rule octets x o y id form fault (inl why) s h i =
     no_cut_identifier octets x h.identifier (h.count ++ y) id fault why s h.identifier_is (i ∙ ap (λ (ys : List ℕ). ys ++ y) h.is ∙ append_assoc h.identifier h.count y)
 no_header rule octets x o y id form fault (inr why) s h i =
-    let a : why.0 ++ (why.1 ++ x) ≡ h.identifier ++ (h.count ++ y) = sym (append_assoc why.0 why.1 x) ∙ ap (λ (ys : List ℕ). ys ++ x) (sym why.4) ∙ i ∙ ap (λ (ys : List ℕ). ys ++ y) h.is ∙ append_assoc h.identifier h.count y in
-    let u = identifier_unique why.0 h.identifier (why.1 ++ x) (h.count ++ y) why.2 id why.3 h.identifier_is a in
-    elim why.5 [
-      | inl p ↦ no_length (IsCutIdentifier octets) why.1 x h.count y form fault p s h.count_is u.2
-      | inr p ↦
-          let v = length_form_unique (128 ∷ []) h.count (p.2.0 ++ x) y indefinite form refl h.count_is (ap (λ (ys : List ℕ). ys ++ x) (sym p.2.1) ∙ u.2) in
-          form_clash (rule id) (ap rule (sym u.1) ∙ p.1) (subst (λ (f : LengthForm). AllowsForm (rule id) f) (sym v.1) h.allowed)
+    let a : why.identifier ++ (why.rest ++ x) ≡ h.identifier ++ (h.count ++ y) = sym (append_assoc why.identifier why.rest x) ∙ ap (λ (ys : List ℕ). ys ++ x) (sym why.is) ∙ i ∙ ap (λ (ys : List ℕ). ys ++ y) h.is ∙ append_assoc h.identifier h.count y in
+    let u = identifier_unique why.identifier h.identifier (why.rest ++ x) (h.count ++ y) why.id id why.identifier_is h.identifier_is a in
+    elim why.why [
+      | inl p ↦ not_both (rule.allows_identifier why.identifier) (rule.allows_identifier h.identifier) p.0 h.identifier_allowed (ap rule.allows_identifier u.0)
+      | inr (allowed, inl p) ↦ no_length (IsCutIdentifier octets) why.rest x h.count y form fault p s h.count_is u.2
+      | inr (allowed, inr p) ↦ no_breach rule why.rest x h.count y why.id id form fault p u.1 h.count_is h.count_allowed u.2
     ]
 
 speaks_cut : (cut : Type 0) (fault : Fault) (n : ℕ) (x : List ℕ) → fault ≡ missing n → SpeaksOf cut fault x → length x < n
 speaks_cut cut fault n x h s = subst (λ (f : Fault). SpeaksOf cut f x) h s
 
 -- some octets of the contents are missing, and more of them leave some missing
-pub no_content : (cut : Type 0) (octets x o y : List ℕ) (p : Parts) (fault : Fault) → IsCutContent octets fault → SpeaksOf cut fault x → IsDefiniteElement o p → octets ++ x ≡ o ++ y → ⊥
-no_content cut octets x o y p fault why s b h =
-    let u = header_peel der_rule der_rule why.header b.header why.rest p.content x y why.id p.id (definite why.counted) p.form why.header_is b.header_is (ap (λ (ys : List ℕ). ys ++ x) (sym why.is) ∙ h ∙ ap (λ (ys : List ℕ). ys ++ y) b.is) in
+pub no_content : (rule : Rule) (cut : Type 0) (octets x o y : List ℕ) (p : Parts) (fault : Fault) → IsCutContent rule octets fault → SpeaksOf cut fault x → IsDefiniteElement rule o p → octets ++ x ≡ o ++ y → ⊥
+no_content rule cut octets x o y p fault why s b h =
+    let u = header_peel rule rule why.header b.header why.rest p.content x y why.id p.id (definite why.counted) p.form why.header_is b.header_is (ap (λ (ys : List ℕ). ys ++ x) (sym why.is) ∙ h ∙ ap (λ (ys : List ℕ). ys ++ y) b.is) in
     let l = definite_same why.counted (length p.content) (u.2 ∙ b.counted) in
     let t = ap length u.3 in
     let short = speaks_cut cut fault why.lacking x why.fault_is s in
     omega (arith, length-append why.rest x, length-append p.content y, why.sum)
 
--- The same of an element of definite length.
-pub no_definite_element : (octets x o y : List ℕ) (p : Parts) (fault : Fault) → DefiniteElementFault octets fault → SpeaksOf (IsCutIdentifier octets) fault x → IsDefiniteElement o p → octets ++ x ≡ o ++ y → ⊥
-no_definite_element octets x o y p fault (inl why) s b h =
+-- The same of an element by DER.
+pub no_der_element : (octets x o y : List ℕ) (p : Parts) (fault : Fault) → DerElementFault octets fault → SpeaksOf (IsCutIdentifier octets) fault x → IsDerElement o p → octets ++ x ≡ o ++ y → ⊥
+no_der_element octets x o y p fault (inl why) s b h =
     no_header der_rule octets x b.header (p.content ++ y) p.id p.form fault why s b.header_is (h ∙ ap (λ (ys : List ℕ). ys ++ y) b.is ∙ append_assoc b.header p.content y)
-no_definite_element octets x o y p fault (inr why) s b h = no_content (IsCutIdentifier octets) octets x o y p fault why s b h
+no_der_element octets x o y p fault (inr why) s b h = no_content der_rule (IsCutIdentifier octets) octets x o y p fault why s b h
 
 -- a fault that says how many octets are missing counts one at least
 abbrev pub CountsSome : Fault → Type 0
@@ -129,7 +138,7 @@ identifier_fault_counts : (octets : List ℕ) (fault : Fault) → IdentifierFaul
 identifier_fault_counts octets (missing n) why = omega (arith, why.1)
 identifier_fault_counts octets tag_fault why = tt
 identifier_fault_counts octets length_fault why = tt
-identifier_fault_counts octets form_fault why = tt
+identifier_fault_counts octets (rule_fault b) why = tt
 identifier_fault_counts octets depth_fault why = tt
 
 cut_length_counts : (octets : List ℕ) (n : ℕ) → IsCutLength octets n → 1 ≤ n
@@ -140,40 +149,41 @@ length_fault_counts : (octets : List ℕ) (fault : Fault) → LengthFault octets
 length_fault_counts octets (missing n) why = cut_length_counts octets n why
 length_fault_counts octets tag_fault why = tt
 length_fault_counts octets length_fault why = tt
-length_fault_counts octets form_fault why = tt
+length_fault_counts octets (rule_fault b) why = tt
 length_fault_counts octets depth_fault why = tt
 
-pub header_fault_counts : (rule : Identifier → Bool) (octets : List ℕ) (fault : Fault) → HeaderFault rule octets fault → CountsSome fault
+pub header_fault_counts : (rule : Rule) (octets : List ℕ) (fault : Fault) → HeaderFault rule octets fault → CountsSome fault
 header_fault_counts rule octets fault (inl why) = identifier_fault_counts octets fault why
-header_fault_counts rule octets fault (inr why) = elim why.5 [
-  | inl p ↦ length_fault_counts why.1 fault p
-  | inr p ↦ subst CountsSome (sym p.0) tt
+header_fault_counts rule octets fault (inr why) = elim why.why [
+  | inl p ↦ subst CountsSome (sym p.1) tt
+  | inr (allowed, inl p) ↦ length_fault_counts why.rest fault p
+  | inr (allowed, inr p) ↦ subst CountsSome (sym p.fault_is) tt
 ]
 
-pub cut_content_counts : (octets : List ℕ) (fault : Fault) → IsCutContent octets fault → CountsSome fault
-cut_content_counts octets fault why = subst CountsSome (sym why.fault_is) why.some
+pub cut_content_counts : (rule : Rule) (octets : List ℕ) (fault : Fault) → IsCutContent rule octets fault → CountsSome fault
+cut_content_counts rule octets fault why = subst CountsSome (sym why.fault_is) why.some
 
-pub definite_fault_counts : (octets : List ℕ) (fault : Fault) → DefiniteElementFault octets fault → CountsSome fault
-definite_fault_counts octets fault (inl why) = header_fault_counts der_rule octets fault why
-definite_fault_counts octets fault (inr why) = cut_content_counts octets fault why
+pub der_fault_counts : (octets : List ℕ) (fault : Fault) → DerElementFault octets fault → CountsSome fault
+der_fault_counts octets fault (inl why) = header_fault_counts der_rule octets fault why
+der_fault_counts octets fault (inr why) = cut_content_counts der_rule octets fault why
 
 -- a fault speaks of the octets as they are
 pub speaks_now : (cut : Type 0) (fault : Fault) → CountsSome fault → SpeaksOf cut fault []
 speaks_now cut (missing n) some = omega arith
 speaks_now cut tag_fault some = inl refl
 speaks_now cut length_fault some = tt
-speaks_now cut form_fault some = tt
+speaks_now cut (rule_fault b) some = tt
 speaks_now cut depth_fault some = tt
 
 -- where a header begins the octets there is no fault
-pub header_or_fault : (rule : Identifier → Bool) (octets o y : List ℕ) (id : Identifier) (form : LengthForm) (fault : Fault) → HeaderFault rule octets fault → IsHeader rule o id form → octets ≡ o ++ y → ⊥
+pub header_or_fault : (rule : Rule) (octets o y : List ℕ) (id : Identifier) (form : LengthForm) (fault : Fault) → HeaderFault rule octets fault → IsHeader rule o id form → octets ≡ o ++ y → ⊥
 header_or_fault rule octets o y id form fault why h e =
     no_header rule octets [] o y id form fault why (speaks_now (IsCutIdentifier octets) fault (header_fault_counts rule octets fault why)) h (append-nil octets ∙ e)
 
--- where an element of definite length begins the octets there is no fault
-pub definite_element_or_fault : (octets o y : List ℕ) (p : Parts) (fault : Fault) → DefiniteElementFault octets fault → IsDefiniteElement o p → octets ≡ o ++ y → ⊥
-definite_element_or_fault octets o y p fault why b e =
-    no_definite_element octets [] o y p fault why (speaks_now (IsCutIdentifier octets) fault (definite_fault_counts octets fault why)) b (append-nil octets ∙ e)
+-- where an element by DER begins the octets there is no fault
+pub der_element_or_fault : (octets o y : List ℕ) (p : Parts) (fault : Fault) → DerElementFault octets fault → IsDerElement o p → octets ≡ o ++ y → ⊥
+der_element_or_fault octets o y p fault why b e =
+    no_der_element octets [] o y p fault why (speaks_now (IsCutIdentifier octets) fault (der_fault_counts octets fault why)) b (append-nil octets ∙ e)
 
 one_identifier_fault : (octets : List ℕ) (f g : Fault) → IdentifierFault octets f → IdentifierFault octets g → f ≡ g
 one_identifier_fault octets (missing n) (missing m) p q = ap missing (p.1 ∙ sym q.1)
@@ -181,10 +191,10 @@ one_identifier_fault octets (missing n) tag_fault p q = absurd (q.0 p.0)
 one_identifier_fault octets tag_fault (missing m) p q = absurd (p.0 q.0)
 one_identifier_fault octets tag_fault tag_fault p q = refl
 one_identifier_fault octets length_fault g p q = absurd p
-one_identifier_fault octets form_fault g p q = absurd p
+one_identifier_fault octets (rule_fault b) g p q = absurd p
 one_identifier_fault octets depth_fault g p q = absurd p
 one_identifier_fault octets f length_fault p q = absurd q
-one_identifier_fault octets f form_fault p q = absurd q
+one_identifier_fault octets f (rule_fault b) p q = absurd q
 one_identifier_fault octets f depth_fault p q = absurd q
 
 one_cut_length : (octets : List ℕ) (n m : ℕ) → IsCutLength octets n → IsCutLength octets m → n ≡ m
@@ -208,48 +218,57 @@ one_length_fault octets (missing n) length_fault p q = absurd (cut_not_huge octe
 one_length_fault octets length_fault (missing m) p q = absurd (cut_not_huge octets m q p)
 one_length_fault octets length_fault length_fault p q = refl
 one_length_fault octets tag_fault g p q = absurd p
-one_length_fault octets form_fault g p q = absurd p
+one_length_fault octets (rule_fault b) g p q = absurd p
 one_length_fault octets depth_fault g p q = absurd p
 one_length_fault octets f tag_fault p q = absurd q
-one_length_fault octets f form_fault p q = absurd q
+one_length_fault octets f (rule_fault b) p q = absurd q
 one_length_fault octets f depth_fault p q = absurd q
 
--- 80 is no fault of a length
-no_length_fault_at_80 : (octets others : List ℕ) (f : Fault) → LengthFault octets f → octets ≡ 128 ∷ others → ⊥
-no_length_fault_at_80 octets others f why e =
-    no_length ⊥ octets [] (128 ∷ []) others indefinite f why (speaks_now ⊥ f (length_fault_counts octets f why)) refl (append-nil octets ∙ e)
+-- length octets begin the octets, so that there is no fault before their end
+length_or_fault : (octets o y : List ℕ) (form : LengthForm) (f : Fault) → LengthFault octets f → IsLengthForm o form → octets ≡ o ++ y → ⊥
+length_or_fault octets o y form f why l e =
+    no_length ⊥ octets [] o y form f why (speaks_now ⊥ f (length_fault_counts octets f why)) l (append-nil octets ∙ e)
 
 -- a front of the octets is an identifier, so that there is no fault before its end
 identifier_or_fault : (octets o y : List ℕ) (id : Identifier) (f : Fault) → IdentifierFault octets f → IsIdentifier o id → octets ≡ o ++ y → ⊥
 identifier_or_fault octets o y id f why i e =
     no_cut_identifier octets [] o y id f why (speaks_now (IsCutIdentifier octets) f (identifier_fault_counts octets f why)) i (append-nil octets ∙ e)
 
-one_fault_behind : (rest : List ℕ) (allowed : Bool) (f g : Fault) → LengthFault rest f ⊎ FormFault allowed rest f → LengthFault rest g ⊎ FormFault allowed rest g → f ≡ g
-one_fault_behind rest allowed f g (inl p) (inl q) = one_length_fault rest f g p q
-one_fault_behind rest allowed f g (inl p) (inr q) = absurd (no_length_fault_at_80 rest q.2.0 f p q.2.1)
-one_fault_behind rest allowed f g (inr p) (inl q) = absurd (no_length_fault_at_80 rest p.2.0 g q p.2.1)
-one_fault_behind rest allowed f g (inr p) (inr q) = p.0 ∙ sym q.0
+one_breach : (rule : Rule) (id : Identifier) (rest : List ℕ) (f g : Fault) → IsLengthBreach rule id rest f → IsLengthBreach rule id rest g → f ≡ g
+one_breach rule id rest f g p q =
+    let u = length_form_unique p.count q.count p.rest q.rest p.form q.form p.count_is q.count_is (sym p.is ∙ q.is) in
+    p.fault_is ∙ ap (λ (z : LengthForm). rule_fault (breach_of z)) u.1 ∙ sym q.fault_is
+
+one_fault_from : (rule : Rule) (identifier : List ℕ) (id : Identifier) (rest : List ℕ) (f g : Fault) → FaultFrom rule identifier id rest f → FaultFrom rule identifier id rest g → f ≡ g
+one_fault_from rule identifier id rest f g (inl p) (inl q) = p.1 ∙ sym q.1
+one_fault_from rule identifier id rest f g (inl p) (inr q) = absurd (not_both (rule.allows_identifier identifier) (rule.allows_identifier identifier) p.0 q.0 refl)
+one_fault_from rule identifier id rest f g (inr p) (inl q) = absurd (not_both (rule.allows_identifier identifier) (rule.allows_identifier identifier) q.0 p.0 refl)
+one_fault_from rule identifier id rest f g (inr (a, inl p)) (inr (b, inl q)) = one_length_fault rest f g p q
+one_fault_from rule identifier id rest f g (inr (a, inl p)) (inr (b, inr q)) = absurd (length_or_fault rest q.count q.rest q.form f p q.count_is q.is)
+one_fault_from rule identifier id rest f g (inr (a, inr p)) (inr (b, inl q)) = absurd (length_or_fault rest p.count p.rest p.form g q p.count_is p.is)
+one_fault_from rule identifier id rest f g (inr (a, inr p)) (inr (b, inr q)) = one_breach rule id rest f g p q
 
 -- Octets with no header have one fault.
-pub one_header_fault : (rule : Identifier → Bool) (octets : List ℕ) (f g : Fault) → HeaderFault rule octets f → HeaderFault rule octets g → f ≡ g
+pub one_header_fault : (rule : Rule) (octets : List ℕ) (f g : Fault) → HeaderFault rule octets f → HeaderFault rule octets g → f ≡ g
 one_header_fault rule octets f g (inl p) (inl q) = one_identifier_fault octets f g p q
-one_header_fault rule octets f g (inl p) (inr q) = absurd (identifier_or_fault octets q.0 q.1 q.2 f p q.3 q.4)
-one_header_fault rule octets f g (inr p) (inl q) = absurd (identifier_or_fault octets p.0 p.1 p.2 g q p.3 p.4)
+one_header_fault rule octets f g (inl p) (inr q) = absurd (identifier_or_fault octets q.identifier q.rest q.id f p q.identifier_is q.is)
+one_header_fault rule octets f g (inr p) (inl q) = absurd (identifier_or_fault octets p.identifier p.rest p.id g q p.identifier_is p.is)
 one_header_fault rule octets f g (inr p) (inr q) =
-    let u = identifier_unique p.0 q.0 p.1 q.1 p.2 q.2 p.3 q.3 (sym p.4 ∙ q.4) in
-    let a : LengthFault p.1 g ⊎ FormFault (rule p.2) p.1 g = subst (λ (r : List ℕ). LengthFault r g ⊎ FormFault (rule p.2) r g) (sym u.2) (subst (λ (i : Identifier). LengthFault q.1 g ⊎ FormFault (rule i) q.1 g) (sym u.1) q.5) in
-    one_fault_behind p.1 (rule p.2) f g p.5 a
+    let u = identifier_unique q.identifier p.identifier q.rest p.rest q.id p.id q.identifier_is p.identifier_is (sym q.is ∙ p.is) in
+    let a : FaultFrom rule p.identifier q.id q.rest g = subst (λ (z : List ℕ). FaultFrom rule z q.id q.rest g) u.0 q.why in
+    let b : FaultFrom rule p.identifier p.id q.rest g = subst (λ (z : Identifier). FaultFrom rule p.identifier z q.rest g) u.1 a in
+    one_fault_from rule p.identifier p.id p.rest f g p.why (subst (λ (z : List ℕ). FaultFrom rule p.identifier p.id z g) u.2 b)
 
-pub one_cut_content : (octets : List ℕ) (f g : Fault) → IsCutContent octets f → IsCutContent octets g → f ≡ g
-one_cut_content octets f g p q =
-    let u = header_unique der_rule der_rule p.header q.header p.rest q.rest p.id q.id (definite p.counted) (definite q.counted) p.header_is q.header_is (sym p.is ∙ q.is) in
+pub one_cut_content : (rule : Rule) (octets : List ℕ) (f g : Fault) → IsCutContent rule octets f → IsCutContent rule octets g → f ≡ g
+one_cut_content rule octets f g p q =
+    let u = header_unique rule rule p.header q.header p.rest q.rest p.id q.id (definite p.counted) (definite q.counted) p.header_is q.header_is (sym p.is ∙ q.is) in
     let l = definite_same p.counted q.counted u.2 in
     let t = ap length u.3 in
     p.fault_is ∙ ap missing (omega (arith, l, t, p.sum, q.sum)) ∙ sym q.fault_is
 
--- Octets with no element of definite length have one fault.
-pub one_definite_fault : (octets : List ℕ) (f g : Fault) → DefiniteElementFault octets f → DefiniteElementFault octets g → f ≡ g
-one_definite_fault octets f g (inl p) (inl q) = one_header_fault der_rule octets f g p q
-one_definite_fault octets f g (inl p) (inr q) = absurd (header_or_fault der_rule octets q.header q.rest q.id (definite q.counted) f p q.header_is q.is)
-one_definite_fault octets f g (inr p) (inl q) = absurd (header_or_fault der_rule octets p.header p.rest p.id (definite p.counted) g q p.header_is p.is)
-one_definite_fault octets f g (inr p) (inr q) = one_cut_content octets f g p q
+-- Octets with no element by DER have one fault.
+pub one_der_fault : (octets : List ℕ) (f g : Fault) → DerElementFault octets f → DerElementFault octets g → f ≡ g
+one_der_fault octets f g (inl p) (inl q) = one_header_fault der_rule octets f g p q
+one_der_fault octets f g (inl p) (inr q) = absurd (header_or_fault der_rule octets q.header q.rest q.id (definite q.counted) f p q.header_is q.is)
+one_der_fault octets f g (inr p) (inl q) = absurd (header_or_fault der_rule octets p.header p.rest p.id (definite p.counted) g q p.header_is p.is)
+one_der_fault octets f g (inr p) (inr q) = one_cut_content der_rule octets f g p q

@@ -87,6 +87,11 @@ tag_digits_below [] h = tt
 tag_digits_below (d ∷ []) h = (omega arith, tt)
 tag_digits_below (d ∷ e ∷ ds) h = (h.1, tag_digits_below (e ∷ ds) h.2)
 
+-- the class and the tag number that identifier octets say
+pub identifier_bounds : (o : List ℕ) (id : Identifier) → IsIdentifier o id → (id.class < 4) × (id.number < 2 ^ 32)
+identifier_bounds [] id i = absurd i
+identifier_bounds (first ∷ following) id i = (i.1, elim i.4 [ inl p ↦ omega (arith, p.1) | inr p ↦ p.4 ])
+
 bit_at_most_1 : (b : Bool) → bit b ≤ 1
 bit_at_most_1 true = omega arith
 bit_at_most_1 false = omega arith

@@ -5,10 +5,12 @@ use Rattle.std.proofs.lemmas.List.{append_cancel_left}
 use Rattle.x690.specs.Octets.{IsOctets}
 use Rattle.x690.specs.Identifiers.{Identifier}
 use Rattle.x690.specs.Lengths.{definite, indefinite}
-use Rattle.x690.specs.Elements.{Parts, IsHeader, IsDefiniteElement, der_rule, ber_rule}
+use Rattle.x690.specs.Rules.{Rule, ber_rule}
+use Rattle.x690.specs.Elements.{Parts, IsHeader, IsDefiniteElement, ArePossible}
 use Rattle.x690.specs.Nested.{IsRow, IsIndefiniteElement, IsNestedElement, IsWord, end_of_contents}
 use Rattle.x690.specs.Laws.Octets.{octets_append, octets_front, octets_back, below_octets}
-use Rattle.x690.specs.Laws.Headers.{header_unique, header_peel, header_ber, header_two, header_is_octets, not_both_forms}
+use Rattle.x690.specs.Laws.Identifiers.{identifier_bounds}
+use Rattle.x690.specs.Laws.Headers.{header_unique, header_peel, header_definite, header_two, header_is_octets, not_both_forms}
 use Rattle.x690.specs.Laws.Elements.{same_parts, definite_element_unique, definite_element_two, definite_element_is_octets}
 use Rattle.x690.specs.Laws.Rows.{AreWordsUnique, IsEndWhole, rows_unique, row_half, row_map, row_is_octets}
 
@@ -16,39 +18,42 @@ use Rattle.x690.specs.Laws.Rows.{AreWordsUnique, IsEndWhole, rows_unique, row_ha
 abbrev pub end_identifier : Identifier
 end_identifier = record { class = 0; constructed = false; number = 0 }
 
-pub end_header : IsHeader der_rule end_of_contents end_identifier (definite 0)
-end_header = record { identifier = 0 ∷ []; count = 0 ∷ []; is = refl; identifier_is = (0, omega arith, omega arith, refl, inl (refl, omega arith, refl)); count_is = inl (omega arith, refl); allowed = tt }
+pub end_header : IsHeader ber_rule end_of_contents end_identifier (definite 0)
+end_header = record { identifier = 0 ∷ []; count = 0 ∷ []; is = refl; identifier_is = (0, omega arith, omega arith, refl, inl (refl, omega arith, refl)); count_is = inl (omega arith, refl); identifier_allowed = refl; count_allowed = refl }
 
 abbrev pub end_parts : Parts
 end_parts = record { id = end_identifier; form = definite 0; content = [] }
 
 -- 00 00 is itself an element of definite length
-pub end_element : IsDefiniteElement end_of_contents end_parts
+pub end_element : IsDefiniteElement ber_rule end_of_contents end_parts
 end_element = record { header = end_of_contents; header_is = end_header; counted = refl; content_octets = below_octets [] tt; is = refl }
 
 -- no indefinite header begins 00 00
 pub indefinite_not_end : (header more : List ℕ) (id : Identifier) → IsHeader ber_rule header id indefinite → header ++ more ≢ end_of_contents
 indefinite_not_end header more id h e =
-    let u = header_unique ber_rule der_rule header end_of_contents more [] id end_identifier indefinite (definite 0) h end_header e in
+    let u = header_unique ber_rule ber_rule header end_of_contents more [] id end_identifier indefinite (definite 0) h end_header e in
     not_both_forms 0 (definite 0) indefinite refl refl (sym u.2)
 
--- an element of definite length is one of every depth from 1 on
-pub definite_is_nested : (depth : ℕ) (o : List ℕ) (p : Parts) → 1 ≤ depth → IsDefiniteElement o p → IsNestedElement depth o p 1
+definite_by_ber : (rule : Rule) (o : List ℕ) (p : Parts) → IsDefiniteElement rule o p → IsDefiniteElement ber_rule o p
+definite_by_ber rule o p a = record { header = a.header; header_is = header_definite rule a.header p.id p.form (length p.content) a.counted a.header_is; counted = a.counted; content_octets = a.content_octets; is = a.is }
+
+-- an element of definite length by any rule is one by BER of every depth from 1 on
+pub definite_is_nested : (rule : Rule) (depth : ℕ) (o : List ℕ) (p : Parts) → 1 ≤ depth → IsDefiniteElement rule o p → IsNestedElement depth o p 1
 unfolding IsNestedElement
-definite_is_nested zero o p some a = absurd (omega arith)
-definite_is_nested (suc depth) o p some a = inl (a, refl)
+definite_is_nested rule zero o p some a = absurd (omega arith)
+definite_is_nested rule (suc depth) o p some a = inl (definite_by_ber rule o p a, refl)
 
 -- and one of definite form is of definite length
-pub nested_is_definite : (depth : ℕ) (o : List ℕ) (p : Parts) (h n : ℕ) → p.form ≡ definite n → IsNestedElement depth o p h → IsDefiniteElement o p × (h ≡ 1)
+pub nested_is_definite : (depth : ℕ) (o : List ℕ) (p : Parts) (h n : ℕ) → p.form ≡ definite n → IsNestedElement depth o p h → IsDefiniteElement ber_rule o p × (h ≡ 1)
 unfolding IsNestedElement
 nested_is_definite zero o p h n f a = absurd a
 nested_is_definite (suc depth) o p h n f (inl a) = (a.0, a.1)
 nested_is_definite (suc depth) o p h n f (inr a) = absurd (not_both_forms n p.form p.form f a.1.form refl)
 
 -- a definite element is no indefinite one
-definite_not_indefinite : (Word : List ℕ → ℕ → Type 0) (o q x y : List ℕ) (p r : Parts) (h : ℕ) → IsDefiniteElement o p → IsIndefiniteElement Word q r h → o ++ x ≡ q ++ y → ⊥
+definite_not_indefinite : (Word : List ℕ → ℕ → Type 0) (o q x y : List ℕ) (p r : Parts) (h : ℕ) → IsDefiniteElement ber_rule o p → IsIndefiniteElement Word q r h → o ++ x ≡ q ++ y → ⊥
 definite_not_indefinite Word o q x y p r h a b e =
-    let u = header_peel der_rule ber_rule a.header b.header p.content (r.content ++ end_of_contents) x y p.id r.id p.form r.form a.header_is b.header_is (ap (λ (ys : List ℕ). ys ++ x) (sym a.is) ∙ e ∙ ap (λ (ys : List ℕ). ys ++ y) b.is) in
+    let u = header_peel ber_rule ber_rule a.header b.header p.content (r.content ++ end_of_contents) x y p.id r.id p.form r.form a.header_is b.header_is (ap (λ (ys : List ℕ). ys ++ x) (sym a.is) ∙ e ∙ ap (λ (ys : List ℕ). ys ++ y) b.is) in
     not_both_forms (length p.content) p.form r.form a.counted b.form u.2
 
 -- an element that begins with 00 00 is 00 00
@@ -56,7 +61,7 @@ pub word_end_whole : (depth : ℕ) → IsEndWhole (IsWord depth)
 unfolding IsNestedElement
 word_end_whole zero o x y g w e = absurd w.1
 word_end_whole (suc depth) o x y g w e = elim w.1 [
-  | inl a ↦ (definite_element_unique o end_of_contents x y w.0 end_parts a.0 end_element e).0
+  | inl a ↦ (definite_element_unique ber_rule ber_rule o end_of_contents x y w.0 end_parts a.0 end_element e).0
   | inr a ↦ absurd (definite_not_indefinite (IsWord depth) end_of_contents o y x end_parts w.0 g end_element a.1 (sym e))
 ]
 
@@ -74,7 +79,7 @@ indefinite_unique Word unique whole o q x y p r g h a b e =
 nested_same : (depth : ℕ) (o q x y : List ℕ) (p r : Parts) (g h : ℕ) → IsNestedElement depth o p g → IsNestedElement depth q r h → o ++ x ≡ q ++ y → (o ≡ q) × (p ≡ r) × (g ≡ h)
 unfolding IsNestedElement
 nested_same zero o q x y p r g h a b e = absurd a
-nested_same (suc depth) o q x y p r g h (inl a) (inl b) e = let u = definite_element_unique o q x y p r a.0 b.0 e in (u.0, u.1, a.1 ∙ sym b.1)
+nested_same (suc depth) o q x y p r g h (inl a) (inl b) e = let u = definite_element_unique ber_rule ber_rule o q x y p r a.0 b.0 e in (u.0, u.1, a.1 ∙ sym b.1)
 nested_same (suc depth) o q x y p r g h (inl a) (inr b) e = absurd (definite_not_indefinite (IsWord depth) o q x y p r h a.0 b.1 e)
 nested_same (suc depth) o q x y p r g h (inr a) (inl b) e = absurd (definite_not_indefinite (IsWord depth) q o y x r p g b.0 a.1 (sym e))
 nested_same (suc depth) o q x y p r g h (inr a) (inr b) e =
@@ -102,7 +107,7 @@ nested_element_lasts depth octets tail behind o q rest p r g h a s b e =
 pub nested_header : (depth : ℕ) (o : List ℕ) (p : Parts) (g : ℕ) → IsNestedElement depth o p g → (header : List ℕ) × (more : List ℕ) × IsHeader ber_rule header p.id p.form × (o ≡ header ++ more)
 unfolding IsNestedElement
 nested_header zero o p g a = absurd a
-nested_header (suc depth) o p g (inl a) = (a.0.header, p.content, header_ber a.0.header p.id p.form a.0.header_is, a.0.is)
+nested_header (suc depth) o p g (inl a) = (a.0.header, p.content, a.0.header_is, a.0.is)
 nested_header (suc depth) o p g (inr a) = (a.1.header, p.content ++ end_of_contents, a.1.header_is, a.1.is)
 
 -- an element has two octets at least
@@ -115,7 +120,7 @@ nested_element_two depth o p g a =
 pub nested_element_half : (depth : ℕ) (o : List ℕ) (p : Parts) (h : ℕ) → IsNestedElement depth o p h → 2 * h ≤ length o
 unfolding IsNestedElement
 nested_element_half zero o p h a = absurd a
-nested_element_half (suc depth) o p h (inl a) = omega (arith, definite_element_two o p a.0, a.1)
+nested_element_half (suc depth) o p h (inl a) = omega (arith, definite_element_two ber_rule o p a.0, a.1)
 nested_element_half (suc depth) o p h (inr b) =
     let a = b.1 in
     let r = row_half (IsWord depth) (λ w g k. nested_element_half depth w k.0 g k.1) a.words a.inner a.row in
@@ -153,11 +158,11 @@ nested_element_unique_deep depth other o q x y p r g h a b e =
 pub nested_element_is_octets : (depth : ℕ) (o : List ℕ) (p : Parts) (h : ℕ) → IsNestedElement depth o p h → IsOctets o
 unfolding IsNestedElement
 nested_element_is_octets zero o p h a = absurd a
-nested_element_is_octets (suc depth) o p h (inl a) = definite_element_is_octets o p a.0
+nested_element_is_octets (suc depth) o p h (inl a) = definite_element_is_octets ber_rule o p a.0
 nested_element_is_octets (suc depth) o p h (inr b) =
     let a = b.1 in
     let c : IsOctets p.content = subst IsOctets (sym a.content) (row_is_octets (IsWord depth) (λ w g k. nested_element_is_octets depth w k.0 g k.1) a.words a.inner a.row) in
-    let t : IsOctets end_of_contents = header_is_octets der_rule end_of_contents end_identifier (definite 0) end_header in
+    let t : IsOctets end_of_contents = header_is_octets ber_rule end_of_contents end_identifier (definite 0) end_header in
     subst IsOctets (sym a.is) (octets_append a.header (p.content ++ end_of_contents) (header_is_octets ber_rule a.header p.id p.form a.header_is) (octets_append p.content end_of_contents c t))
 
 pub nested_content_is_octets : (depth : ℕ) (o : List ℕ) (p : Parts) (h : ℕ) → IsNestedElement depth o p h → IsOctets p.content
@@ -167,3 +172,9 @@ nested_content_is_octets (suc depth) o p h (inl n) = n.0.content_octets
 nested_content_is_octets (suc depth) o p h (inr n) =
     let all = subst IsOctets n.1.is (nested_element_is_octets (suc depth) o p h (inr n)) in
     octets_front p.content end_of_contents (octets_back n.1.header (p.content ++ end_of_contents) all)
+
+pub nested_possible : (depth : ℕ) (o : List ℕ) (p : Parts) (h : ℕ) → IsNestedElement depth o p h → ArePossible p
+nested_possible depth o p h n =
+    let w = nested_header depth o p h n in
+    let b = identifier_bounds w.2.identifier p.id w.2.identifier_is in
+    record { class = b.0; number = b.1; content = nested_content_is_octets depth o p h n }

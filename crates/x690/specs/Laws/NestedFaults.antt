@@ -3,10 +3,11 @@ use Rattle.std.proofs.Common.{◌≡◌, ℕ, zero, suc, List, [], ◌++◌, len
 use Rattle.std.specs.List.{concat}
 use Rattle.x690.specs.Identifiers.{IsCutIdentifier}
 use Rattle.x690.specs.Lengths.{definite, indefinite}
-use Rattle.x690.specs.Elements.{Parts, IsDefiniteElement, der_rule, ber_rule}
-use Rattle.x690.specs.Faults.{Fault, missing, tag_fault, length_fault, form_fault, depth_fault, HeaderFault, IsCutContent, SpeaksOf}
+use Rattle.x690.specs.Rules.{ber_rule}
+use Rattle.x690.specs.Elements.{Parts, IsDefiniteElement}
+use Rattle.x690.specs.Faults.{Fault, missing, tag_fault, length_fault, rule_fault, depth_fault, HeaderFault, IsCutContent, SpeaksOf}
 use Rattle.x690.specs.Nested.{IsIndefiniteElement, IsNestedElement, IsWord, IsOpened, ElementFault, EndsInIdentifier, end_of_contents}
-use Rattle.x690.specs.Laws.Headers.{header_unique, header_peel, header_definite, not_both_forms}
+use Rattle.x690.specs.Laws.Headers.{header_unique, header_peel, not_both_forms}
 use Rattle.x690.specs.Laws.Faults.{no_header, no_content, CountsSome, header_fault_counts, cut_content_counts, speaks_now, header_or_fault, one_header_fault, one_cut_content}
 use Rattle.x690.specs.Laws.Rows.{BeginsWithWord, rows_compared, row_goes_on}
 use Rattle.x690.specs.Laws.Nested.{end_parts, end_element, definite_is_nested, word_end_whole, words_are_unique, nested_header}
@@ -17,7 +18,7 @@ speaks_within cut less (missing n) x f s = s
 speaks_within cut less tag_fault x f (inl s) = inl s
 speaks_within cut less tag_fault x f (inr s) = inr (λ t. s (f t))
 speaks_within cut less length_fault x f s = s
-speaks_within cut less form_fault x f s = s
+speaks_within cut less (rule_fault b) x f s = s
 speaks_within cut less depth_fault x f s = s
 
 -- a front that is an identifier cut short is such an end
@@ -35,14 +36,14 @@ no_start depth octets x o y p h fault why s b e =
     let w = nested_header depth o p h b in
     no_header ber_rule octets x w.0 (w.1 ++ y) p.id p.form fault why (speaks_within (EndsInIdentifier depth octets) (IsCutIdentifier octets) fault x (cut_ends depth octets) s) w.2 (e ∙ ap (λ (ys : List ℕ). ys ++ y) w.3 ∙ append_assoc w.0 w.1 y)
 
-cut_not_indefinite : (Word : List ℕ → ℕ → Type 0) (octets x o y : List ℕ) (p : Parts) (h : ℕ) (fault : Fault) → IsCutContent octets fault → IsIndefiniteElement Word o p h → octets ++ x ≡ o ++ y → ⊥
+cut_not_indefinite : (Word : List ℕ → ℕ → Type 0) (octets x o y : List ℕ) (p : Parts) (h : ℕ) (fault : Fault) → IsCutContent ber_rule octets fault → IsIndefiniteElement Word o p h → octets ++ x ≡ o ++ y → ⊥
 cut_not_indefinite Word octets x o y p h fault why b e =
-    let u = header_peel der_rule ber_rule why.header b.header why.rest (p.content ++ end_of_contents) x y why.id p.id (definite why.counted) p.form why.header_is b.header_is (ap (λ (ys : List ℕ). ys ++ x) (sym why.is) ∙ e ∙ ap (λ (ys : List ℕ). ys ++ y) b.is) in
+    let u = header_peel ber_rule ber_rule why.header b.header why.rest (p.content ++ end_of_contents) x y why.id p.id (definite why.counted) p.form why.header_is b.header_is (ap (λ (ys : List ℕ). ys ++ x) (sym why.is) ∙ e ∙ ap (λ (ys : List ℕ). ys ++ y) b.is) in
     not_both_forms why.counted (definite why.counted) p.form refl b.form u.2
 
-pub opened_not_definite : (depth : ℕ) (octets rest x o y : List ℕ) (p : Parts) → IsOpened depth octets rest → IsDefiniteElement o p → octets ++ x ≡ o ++ y → ⊥
+pub opened_not_definite : (depth : ℕ) (octets rest x o y : List ℕ) (p : Parts) → IsOpened depth octets rest → IsDefiniteElement ber_rule o p → octets ++ x ≡ o ++ y → ⊥
 opened_not_definite depth octets rest x o y p why b e =
-    let u = header_peel der_rule ber_rule b.header why.header p.content (concat why.words ++ rest) y x p.id why.id p.form indefinite b.header_is why.header_is (ap (λ (ys : List ℕ). ys ++ y) (sym b.is) ∙ sym e ∙ ap (λ (ys : List ℕ). ys ++ x) why.is) in
+    let u = header_peel ber_rule ber_rule b.header why.header p.content (concat why.words ++ rest) y x p.id why.id p.form indefinite b.header_is why.header_is (ap (λ (ys : List ℕ). ys ++ y) (sym b.is) ∙ sym e ∙ ap (λ (ys : List ℕ). ys ++ x) why.is) in
     not_both_forms (length p.content) p.form indefinite b.counted refl u.2
 
 -- where an indefinite element begins opened octets, its end or one of its words begins what is behind the whole ones
@@ -57,13 +58,13 @@ pub no_element : (depth : ℕ) (octets x o y : List ℕ) (p : Parts) (h : ℕ) (
 unfolding IsNestedElement ElementFault
 no_element zero octets x o y p h fault why s b e = b
 no_element (suc depth) octets x o y p h fault (inl why) s b e = no_start (suc depth) octets x o y p h fault why s b e
-no_element (suc depth) octets x o y p h fault (inr (inl why)) s (inl b) e = no_content (EndsInIdentifier (suc depth) octets) octets x o y p fault why s b.0 e
+no_element (suc depth) octets x o y p h fault (inr (inl why)) s (inl b) e = no_content ber_rule (EndsInIdentifier (suc depth) octets) octets x o y p fault why s b.0 e
 no_element (suc depth) octets x o y p h fault (inr (inl why)) s (inr b) e = cut_not_indefinite (IsWord depth) octets x o y p h fault why b.1 e
 no_element (suc depth) octets x o y p h fault (inr (inr why)) s (inl b) e = opened_not_definite depth octets why.0 x o y p why.1 b.0 e
 no_element (suc depth) octets x o y p h fault (inr (inr why)) s (inr b) e =
     let r = speaks_within (EndsInIdentifier (suc depth) octets) (EndsInIdentifier depth why.0) fault x (opened_ends depth octets why.0 why.1) s in
     elim (opened_goes_on depth octets why.0 x o y p h why.1 b.1 e) [
-      | inl z ↦ no_element depth why.0 x end_of_contents y end_parts 1 fault why.2 r (definite_is_nested depth end_of_contents end_parts b.0 end_element) z
+      | inl z ↦ no_element depth why.0 x end_of_contents y end_parts 1 fault why.2 r (definite_is_nested ber_rule depth end_of_contents end_parts b.0 end_element) z
       | inr z ↦ no_element depth why.0 x z.word z.rest z.word_is.0 z.headers fault why.2 r z.word_is.1 z.is
     ]
 
@@ -72,7 +73,7 @@ unfolding ElementFault
 element_fault_counts zero octets fault (inl why) = header_fault_counts ber_rule octets fault why
 element_fault_counts zero octets fault (inr why) = subst CountsSome (sym why.1) tt
 element_fault_counts (suc depth) octets fault (inl why) = header_fault_counts ber_rule octets fault why
-element_fault_counts (suc depth) octets fault (inr (inl why)) = cut_content_counts octets fault why
+element_fault_counts (suc depth) octets fault (inr (inl why)) = cut_content_counts ber_rule octets fault why
 element_fault_counts (suc depth) octets fault (inr (inr why)) = element_fault_counts depth why.0 fault why.2
 
 -- where an element of the depth begins the octets there is no fault
@@ -80,16 +81,16 @@ pub element_or_fault : (depth : ℕ) (octets o y : List ℕ) (p : Parts) (h : �
 element_or_fault depth octets o y p h fault why b e =
     no_element depth octets [] o y p h fault why (speaks_now (EndsInIdentifier depth octets) fault (element_fault_counts depth octets fault why)) b (append-nil octets ∙ e)
 
-pub header_not_cut : (octets : List ℕ) (f g : Fault) → HeaderFault ber_rule octets f → IsCutContent octets g → ⊥
+pub header_not_cut : (octets : List ℕ) (f g : Fault) → HeaderFault ber_rule octets f → IsCutContent ber_rule octets g → ⊥
 header_not_cut octets f g p q =
-    header_or_fault ber_rule octets q.header q.rest q.id (definite q.counted) f p (header_definite der_rule ber_rule q.header q.id (definite q.counted) q.counted refl q.header_is) q.is
+    header_or_fault ber_rule octets q.header q.rest q.id (definite q.counted) f p q.header_is q.is
 
 pub header_not_opened : (depth : ℕ) (octets rest : List ℕ) (f : Fault) → HeaderFault ber_rule octets f → IsOpened depth octets rest → ⊥
 header_not_opened depth octets rest f p q = header_or_fault ber_rule octets q.header (concat q.words ++ rest) q.id indefinite f p q.header_is q.is
 
-pub cut_not_opened : (depth : ℕ) (octets rest : List ℕ) (f : Fault) → IsCutContent octets f → IsOpened depth octets rest → ⊥
+pub cut_not_opened : (depth : ℕ) (octets rest : List ℕ) (f : Fault) → IsCutContent ber_rule octets f → IsOpened depth octets rest → ⊥
 cut_not_opened depth octets rest f p q =
-    let u = header_unique der_rule ber_rule p.header q.header p.rest (concat q.words ++ rest) p.id q.id (definite p.counted) indefinite p.header_is q.header_is (sym p.is ∙ q.is) in
+    let u = header_unique ber_rule ber_rule p.header q.header p.rest (concat q.words ++ rest) p.id q.id (definite p.counted) indefinite p.header_is q.header_is (sym p.is ∙ q.is) in
     not_both_forms p.counted (definite p.counted) indefinite refl refl u.2
 
 -- one input opened in two ways: as many headers and the same rest, or one rest begins with a word
@@ -115,7 +116,7 @@ one_element_fault (suc depth) octets f g (inl p) (inl q) = one_header_fault ber_
 one_element_fault (suc depth) octets f g (inl p) (inr (inl q)) = absurd (header_not_cut octets f g p q)
 one_element_fault (suc depth) octets f g (inl p) (inr (inr q)) = absurd (header_not_opened depth octets q.0 f p q.1)
 one_element_fault (suc depth) octets f g (inr (inl p)) (inl q) = absurd (header_not_cut octets g f q p)
-one_element_fault (suc depth) octets f g (inr (inl p)) (inr (inl q)) = one_cut_content octets f g p q
+one_element_fault (suc depth) octets f g (inr (inl p)) (inr (inl q)) = one_cut_content ber_rule octets f g p q
 one_element_fault (suc depth) octets f g (inr (inl p)) (inr (inr q)) = absurd (cut_not_opened depth octets q.0 f p q.1)
 one_element_fault (suc depth) octets f g (inr (inr p)) (inl q) = absurd (header_not_opened depth octets p.0 g q p.1)
 one_element_fault (suc depth) octets f g (inr (inr p)) (inr (inl q)) = absurd (cut_not_opened depth octets p.0 g q p.1)

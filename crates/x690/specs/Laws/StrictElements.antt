@@ -3,7 +3,8 @@ use Rattle.std.proofs.Common.{◌≡◌, ℕ, ◌<◌, ◌^◌, List, ◌++◌, 
 use Rattle.x690.specs.Octets.{IsOctets}
 use Rattle.x690.specs.Identifiers.{Identifier}
 use Rattle.x690.specs.Lengths.{definite}
-use Rattle.x690.specs.Elements.{Parts, IsDefiniteElement, IsStrictElement}
+use Rattle.x690.specs.Rules.{Rule, der_rule, ber_rule}
+use Rattle.x690.specs.Elements.{Parts, IsDefiniteElement, IsStrictElement, AllowsStrict}
 use Rattle.x690.specs.Strict.{identifier_octets, length_octets, header_octets}
 use Rattle.x690.specs.Laws.StrictIdentifiers.{strict_identifier, only_strict_identifier}
 use Rattle.x690.specs.Laws.StrictLengths.{strict_length, only_strict_length}
@@ -35,10 +36,16 @@ made_strict_element i c k n l o = record {
   is = ap (λ (z : List ℕ). z ++ c) (header_octets_are i.class i.constructed i.number (length c)) ∙ append_assoc (identifier_octets i) (length_octets (length c)) c;
 }
 
-pub strict_is_definite : (o : List ℕ) (i : Identifier) (c : List ℕ) → IsStrictElement o i c → IsDefiniteElement o (definite_parts i c)
-strict_is_definite o i c s = record {
+pub der_allows_strict : AllowsStrict der_rule
+der_allows_strict = record { identifier = λ octets id i. refl; length = λ octets n l. refl }
+
+pub ber_allows_strict : AllowsStrict ber_rule
+ber_allows_strict = record { identifier = λ octets id i. refl; length = λ octets n l. refl }
+
+pub strict_is_definite : (rule : Rule) → AllowsStrict rule → (o : List ℕ) (i : Identifier) (c : List ℕ) → IsStrictElement o i c → IsDefiniteElement rule o (definite_parts i c)
+strict_is_definite rule allows o i c s = record {
   header = s.identifier ++ s.count;
-  header_is = record { identifier = s.identifier; count = s.count; is = refl; identifier_is = s.identifier_is.0; count_is = s.count_is.lenient; allowed = tt };
+  header_is = record { identifier = s.identifier; count = s.count; is = refl; identifier_is = s.identifier_is.0; count_is = s.count_is.lenient; identifier_allowed = allows.identifier s.identifier i s.identifier_is; count_allowed = allows.length s.count (length c) s.count_is };
   counted = refl;
   content_octets = s.content_octets;
   is = s.is ∙ sym (append_assoc s.identifier s.count c);
@@ -49,5 +56,5 @@ strict_element_one o p i c s t = strict_element_octets o i c s ∙ sym (strict_e
 
 pub strict_element_unique : (o p r s : List ℕ) (i j : Identifier) (c d : List ℕ) → IsStrictElement o i c → IsStrictElement p j d → o ++ r ≡ p ++ s → (o ≡ p) × (i ≡ j) × (c ≡ d) × (r ≡ s)
 strict_element_unique o p r s i j c d x y e =
-    let u = definite_element_unique o p r s (definite_parts i c) (definite_parts j d) (strict_is_definite o i c x) (strict_is_definite p j d y) e in
+    let u = definite_element_unique ber_rule ber_rule o p r s (definite_parts i c) (definite_parts j d) (strict_is_definite ber_rule ber_allows_strict o i c x) (strict_is_definite ber_rule ber_allows_strict p j d y) e in
     (u.0, ap (λ (z : Parts). z.id) u.1, ap (λ (z : Parts). z.content) u.1, u.2)

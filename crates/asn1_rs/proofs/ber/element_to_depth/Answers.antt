@@ -11,7 +11,7 @@ use Rattle.asn1_rs.specs.Header.{identifier_of}
 use Rattle.asn1_rs.specs.Length.{form_of}
 use Rattle.asn1_rs.specs.Any.{parts_of}
 use Rattle.asn1_rs.specs.Ber.{count_of}
-use Rattle.x690.specs.Elements.{ber_rule}
+use Rattle.x690.specs.Rules.{ber_rule}
 use Rattle.asn1_rs.proofs.Elements.{nested_read, identifier_kept}
 use Rattle.asn1_rs.proofs.ber.element_to_depth.Goals as goal
 

@@ -2,7 +2,8 @@ use Rattle.std.proofs.Common.{◌≡◌, ◌+◌, ◌-◌, ◌≤◌, length, ap
 use Rattle.std.proofs.lemmas.Result.{err_from_is_err_and}
 use Rattle.x690.specs.Octets.{IsOctets}
 use Rattle.x690.specs.Lengths.{definite, indefinite}
-use Rattle.x690.specs.Elements.{IsHeader, ber_rule}
+use Rattle.x690.specs.Rules.{ber_rule}
+use Rattle.x690.specs.Elements.{IsHeader}
 use Rattle.x690.specs.Faults.{missing, depth_fault}
 use Rattle.x690.specs.Nested.{end_of_contents}
 use Rattle.x690.specs.Contents.{EndFault}

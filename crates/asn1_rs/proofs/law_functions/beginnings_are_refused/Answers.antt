@@ -1,5 +1,4 @@
-use Rattle.asn1_rs.specs.declared.error.Error.TheVariants.{DerConstraintFailed, ConstructExpected}
-use Rattle.asn1_rs.specs.declared.error.DerConstraint.TheVariants.{IndefiniteLength}
+use Rattle.asn1_rs.specs.Header.{der_breach, ber_breach}
 use Rattle.asn1_rs.specs.Laws.Elements.{der_elements, ber_elements}
 use Rattle.asn1_rs.specs.Laws.Beginnings.{beginning_is_refused, header_beginning_is_refused}
 use Rattle.asn1_rs.proofs.law_functions.beginnings_are_refused.Goals as goal
@@ -7,6 +6,6 @@ use Rattle.asn1_rs.proofs.law_functions.beginnings_are_refused.Goals as goal
 pub returns : goal.returns
 returns c = record {
   header = header_beginning_is_refused;
-  element = beginning_is_refused _ _ _ der_elements (DerConstraintFailed IndefiniteLength);
-  ber_element = beginning_is_refused _ _ _ ber_elements ConstructExpected;
+  element = beginning_is_refused _ _ _ der_elements der_breach;
+  ber_element = beginning_is_refused _ _ _ ber_elements ber_breach;
 }

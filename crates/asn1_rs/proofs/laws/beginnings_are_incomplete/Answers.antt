@@ -1,5 +1,4 @@
-use Rattle.asn1_rs.specs.declared.error.Error.TheVariants.{DerConstraintFailed, ConstructExpected}
-use Rattle.asn1_rs.specs.declared.error.DerConstraint.TheVariants.{IndefiniteLength}
+use Rattle.asn1_rs.specs.Header.{der_breach, ber_breach}
 use Rattle.asn1_rs.specs.Laws.Elements.{der_elements, ber_elements}
 use Rattle.asn1_rs.specs.Laws.Any.{beginning_refused, within_refused}
 use Rattle.asn1_rs.specs.Laws.Headers.{header_beginning_refused, header_within_refused}
@@ -9,8 +8,8 @@ pub returns : goal.returns
 returns c = record {
   header = header_beginning_refused;
   header_within = header_within_refused;
-  element = beginning_refused _ _ _ der_elements (DerConstraintFailed IndefiniteLength);
-  element_within = within_refused _ _ _ der_elements (DerConstraintFailed IndefiniteLength);
-  ber_element = beginning_refused _ _ _ ber_elements ConstructExpected;
-  ber_element_within = within_refused _ _ _ ber_elements ConstructExpected;
+  element = beginning_refused _ _ _ der_elements der_breach;
+  element_within = within_refused _ _ _ der_elements der_breach;
+  ber_element = beginning_refused _ _ _ ber_elements ber_breach;
+  ber_element_within = within_refused _ _ _ ber_elements ber_breach;
 }

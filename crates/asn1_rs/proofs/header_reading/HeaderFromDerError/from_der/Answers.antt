@@ -1,4 +1,4 @@
-use Rattle.x690.specs.Elements.{der_rule}
+use Rattle.x690.specs.Rules.{der_rule}
 use Rattle.asn1_rs.specs.Laws.Headers.{header_refusal_lasts}
 use Rattle.asn1_rs.proofs.header_reading.HeaderFromDerError.from_der.Goals as goal
 
