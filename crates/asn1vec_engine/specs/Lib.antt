@@ -4,4 +4,5 @@ pub mod Request
 pub mod Lines
 pub mod Answer
 pub mod Engine
+pub mod Memory
 pub mod Types
