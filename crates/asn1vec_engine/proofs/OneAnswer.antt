@@ -22,7 +22,8 @@ use Rattle.asn1vec_engine.specs.declared.types.TypeName.{TypeName}
 use Rattle.asn1vec_engine.specs.declared.types.TypeName.TheVariants.{U8, U16, U32, U64, U128, I8, I16, I32, I64, I128, Any}
 use Rattle.asn1vec_engine.specs.Request.{IsRequest}
 use Rattle.asn1vec_engine.specs.Shown.{element_text}
-use Rattle.asn1vec_engine.specs.Types.{name_of, Meaning, meaning_of, integers, unsigned, signed, elements, Names, IsTypeAnswer}
+use Rattle.asn1vec_engine.specs.Meaning.{Meaning}
+use Rattle.asn1vec_engine.specs.Types.{name_of, meaning_of, integers, unsigned, signed, elements, Names, IsTypeAnswer}
 use Rattle.asn1vec_engine.specs.Answer.{IsRequestAnswer, IsRefusedLine, IsAnswered, IsAnswer, IsAnswerLine, AreAnswers, BeginAnswers}
 use Rattle.asn1vec_engine.specs.Memory.{DifferByMemory, AsksFor, AreAlike, TakesNoMemory, AllAlike}
 use Rattle.asn1vec_engine.proofs.OneReading.{HasOneAnswer, ShownAlike, answers_alike, readings_weaker, strict_same, either_same}

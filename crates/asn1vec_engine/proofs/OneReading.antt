@@ -22,7 +22,7 @@ use Rattle.asn1vec_engine.specs.declared.request.Rule.{Rule}
 use Rattle.asn1vec_engine.specs.declared.request.Rule.TheVariants.{Ber, Der}
 use Rattle.asn1vec_engine.specs.Names.{name_of_refusal}
 use Rattle.asn1vec_engine.specs.Shown.{in_hexadecimal, Encoding, Reading, written_text, encoding_text, ok_text, Says, Same, IsReadAnswer, ReadsByBer, ReadsByDer, IsWritten, StrictEncoding}
-use Rattle.asn1vec_engine.specs.Types.{Meaning, ReadsByEither}
+use Rattle.asn1vec_engine.specs.Meaning.{Meaning, ReadsByEither}
 use Rattle.asn1vec_engine.specs.Memory.{DifferByMemory}
 use Rattle.asn1vec_engine.proofs.OneRefusal.{IsSameBut, no_memory, IsOneRefusal, IsOneRefusalBut, one_reading_refusal}
 

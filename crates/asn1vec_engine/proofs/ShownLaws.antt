@@ -20,14 +20,20 @@ use Rattle.x690.specs.Laws.UnsignedOctets.{unsigned_octets_content, unsigned_oct
 use Rattle.x690.specs.Integers.{IsIntegerContent, unsigned_octets}
 use Rattle.x690.specs.SignedOctets.{IsSigned, signed_octets}
 use Rattle.x690.specs.Laws.SignedOctets.{signed_octets_content, signed_octets_few}
-use Rattle.asn1vec_engine.specs.Shown.{SaysWriting, SaysWritten, StrictEncoding}
+use Rattle.asn1vec_engine.specs.Shown.{SaysWriting, SaysWritten, IsWritten, StrictEncoding}
 
--- what is said of a writing into a vector is an encoding
-pub strict_said : {V : Type 0} (Form : V → Identifier → List ℕ → Type 0) (takes_memory : Bool) (v : V) (o written : List ℕ) → IsStrict Form v o → length written < 2 ^ 64 → (answer : Result ℕ SerializeError) → IfOk answer (λ n. written ≡ o)
-    → IfErr answer (MayRefuse takes_memory (length o)) → (r : Result (String Global) AllocError) → IfOk r (λ text. SaysWriting written answer (string_bytes text)) → IfOk r (λ text. SaysWritten (StrictEncoding Form takes_memory v) (string_bytes text))
-strict_said Form takes_memory v o written strict few (Ok n) is may (Ok text) said = (Ok written, (o, strict, (subst (λ (l : List ℕ). length l < 2 ^ 64) is few, is)), said)
-strict_said Form takes_memory v o written strict few (Err e) is may (Ok text) said = (Err e, (o, strict, (may, said.0)), said.1)
-strict_said Form takes_memory v o written strict few answer is may (Err x) said = tt
+-- what is said of a writing into a vector is these octets, or why writing them was refused
+pub writing_said : (takes_memory : Bool) (o written : List ℕ) → length written < 2 ^ 64 → (answer : Result ℕ SerializeError) → IfOk answer (λ n. written ≡ o) → IfErr answer (MayRefuse takes_memory (length o))
+    → (r : Result (String Global) AllocError) → IfOk r (λ text. SaysWriting written answer (string_bytes text)) → IfOk r (λ text. SaysWritten (IsWritten takes_memory o) (string_bytes text))
+writing_said takes_memory o written few (Ok n) is may (Ok text) said = (Ok written, (subst (λ (l : List ℕ). length l < 2 ^ 64) is few, is), said)
+writing_said takes_memory o written few (Err e) is may (Ok text) said = (Err e, (may, said.0), said.1)
+writing_said takes_memory o written few answer is may (Err x) said = tt
+
+-- where they are the strict encoding of a value
+pub strict_said : {V : Type 0} (Form : V → Identifier → List ℕ → Type 0) (takes_memory : Bool) (v : V) (o : List ℕ) → IsStrict Form v o
+    → (r : Result (String Global) AllocError) → IfOk r (λ text. SaysWritten (IsWritten takes_memory o) (string_bytes text)) → IfOk r (λ text. SaysWritten (StrictEncoding Form takes_memory v) (string_bytes text))
+strict_said Form takes_memory v o strict (Ok text) (written, is, said) = (written, (o, strict, is), said)
+strict_said Form takes_memory v o strict (Err x) h = tt
 
 -- each number that a type holds has a strict encoding, where its contents octets are few
 pub strict_number : (Holds : ℤ → Type 0) (n : ℤ) (octets : List ℕ) → Holds n → IsIntegerContent n octets → length octets < 2 ^ 64 → (o : List ℕ) × IsStrict (IntegerForm Holds) n o

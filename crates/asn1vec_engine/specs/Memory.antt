@@ -3,7 +3,8 @@ use Rattle.std.specs.Prelude.{◌≡◌, ℕ, List, [], ◌∷◌, ◌++◌, cod
 use Rattle.asn1vec_engine.specs.declared.request.Rule.{Rule}
 use Rattle.asn1vec_engine.specs.declared.types.TypeName.{TypeName}
 use Rattle.asn1vec_engine.specs.Request.{IsRequest}
-use Rattle.asn1vec_engine.specs.Types.{Meaning, meaning_of, Names}
+use Rattle.asn1vec_engine.specs.Meaning.{Meaning}
+use Rattle.asn1vec_engine.specs.Types.{meaning_of, Names}
 
 -- The text tells that memory was refused where the other one goes on: in reading, or, behind the
 -- same value and rest, in writing.

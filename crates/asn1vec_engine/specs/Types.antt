@@ -1,5 +1,5 @@
 -- The names of types, and what each stands for.
-use Rattle.std.specs.Prelude.{◌≡◌, List, ℕ, ℤ, pos, codes, Bool, true, false}
+use Rattle.std.specs.Prelude.{◌≡◌, List, ℕ, ℤ, pos, codes, true, false}
 use Rattle.std.specs.Fmt.{signed_decimal}
 use Rattle.x690.specs.SignedOctets.{IsSigned}
 use Rattle.asn1_rs.specs.declared.error.Error.{Error}
@@ -9,10 +9,10 @@ use Rattle.asn1_rs.specs.Element.{Element, element_of, ElementBody, ElementCheck
 use Rattle.asn1_rs.specs.Grammar.{BerWord, DerWord, BerGives, DerGives}
 use Rattle.asn1_rs.specs.Integer.{IntegerCheck, IntegerCheckGives, IntegerBody, IntegerForm, IntegerGives, IsUnsigned, UnsignedRefuses, SignedRefuses}
 use Rattle.asn1vec_engine.specs.declared.request.Rule.{Rule}
-use Rattle.asn1vec_engine.specs.declared.request.Rule.TheVariants.{Ber as ber, Der as der}
 use Rattle.asn1vec_engine.specs.declared.types.TypeName.{TypeName}
 use Rattle.asn1vec_engine.specs.declared.types.TypeName.TheVariants.{U8, U16, U32, U64, U128, I8, I16, I32, I64, I128, Any}
-use Rattle.asn1vec_engine.specs.Shown.{Encoding, Reading, IsReadAnswer, Same, ReadsByBer, ReadsByDer, StrictEncoding, element_text}
+use Rattle.asn1vec_engine.specs.Meaning.{Meaning, ReadsByEither}
+use Rattle.asn1vec_engine.specs.Shown.{IsReadAnswer, Same, StrictEncoding, element_text}
 
 abbrev pub name_of : TypeName → List ℕ
 name_of U8 = codes "u8"
@@ -26,28 +26,6 @@ name_of I32 = codes "i32"
 name_of I64 = codes "i64"
 name_of I128 = codes "i128"
 name_of Any = codes "any"
-
--- What a name stands for.
-pub record Meaning : Type 1 where
-  -- the type of its values
-  pub T : Type 0
-  -- whether the name is there by a rule
-  pub is_there : Rule → Bool
-  -- what reading octets by the rule may answer
-  pub Reads : Rule → List ℕ → Reading T → Type 0
-  -- how a value is shown
-  pub text_of : T → List ℕ
-  -- what may be said of its encoding
-  pub Encodes : T → Encoding → Type 0
-  -- whether want of memory may be answered
-  pub reading_takes_memory : Bool
-  pub writing_takes_memory : Bool
-
--- read by either rule
-abbrev pub ReadsByEither : {T V : Type 0} → (Ber Der : List ℕ → V → Type 0) → (T → V) → Bool →
-    (ber_gives der_gives : List ℕ → Reading T → Type 0) → Rule → List ℕ → Reading T → Type 0
-ReadsByEither Ber Der value takes_memory ber_gives der_gives ber = ReadsByBer Ber value takes_memory ber_gives
-ReadsByEither Ber Der value takes_memory ber_gives der_gives der = ReadsByDer Der value takes_memory der_gives
 
 -- integers, there by either rule: in decimals, with the strict encoding that each has which the type holds
 abbrev pub integers : {T : Type 0} → (T → ℤ) → (ℤ → Type 0) → (List ℕ → Error → Type 0) → Meaning

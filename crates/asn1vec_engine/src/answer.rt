@@ -3,7 +3,8 @@ ghost use Rattle.std.specs.Prelude.{◌≡◌, ◌++◌, ◌∷◌, [], ℕ, Lis
 ghost use Rattle.asn1vec_engine.specs.Answer.{IsAnswer, IsAnswerLine, IsRequestAnswer};
 ghost use Rattle.asn1vec_engine.specs.Memory.{AreAlike, TakesNoMemory};
 ghost use Rattle.asn1vec_engine.specs.Shown.{IsReadAnswer};
-ghost use Rattle.asn1vec_engine.specs.Types.{ReadsByEither, IsTypeAnswer};
+ghost use Rattle.asn1vec_engine.specs.Meaning.{ReadsByEither};
+ghost use Rattle.asn1vec_engine.specs.Types.{IsTypeAnswer};
 
 use crate::request::{Request, Rule, read_request};
 use crate::shown::{Shown, answer_by_ber, answer_by_der};
