@@ -1,12 +1,11 @@
 -- A line has one answer, but for want of memory.
-use Rattle.std.proofs.Common.{◌≡◌, ◌∙◌, ◌≤◌, sym, ap, subst, refl, List, [], ◌∷◌, ◌++◌, length, ℕ, true, false, ◌⊎◌, inl, inr, Result, Err, Ok, arith, codes, Option, Some, append_assoc}
+use Rattle.std.proofs.Common.{◌≡◌, ◌∙◌, sym, ap, subst, refl, List, [], ◌∷◌, ◌++◌, ℕ, false, ◌⊎◌, inl, inr, Err, arith, Option, Some, append_assoc}
 use Rattle.std.specs.Prelude.{ℤ, pos}
 use Rattle.std.specs.Fmt.{signed_decimal}
 use Rattle.std.proofs.Math.Dec.{eqb}
 use Rattle.std.specs.List.{find, All, AllByRecursion}
 use Rattle.std.proofs.lemmas.List.Elements.{recursion_from_All}
 use Rattle.std.specs.Cmp.Lexicographic.{pointwise}
-use Rattle.x690.specs.Elements.{Parts}
 use Rattle.x690.specs.SignedOctets.{IsSigned}
 use Rattle.asn1_rs.specs.declared.error.Error.{Error}
 use Rattle.asn1_rs.specs.declared.asn1_types.any.Any.{Any as Read}
@@ -23,9 +22,9 @@ use Rattle.asn1vec_engine.specs.declared.types.TypeName.TheVariants.{U8, U16, U3
 use Rattle.asn1vec_engine.specs.Request.{IsRequest}
 use Rattle.asn1vec_engine.specs.Shown.{element_text}
 use Rattle.asn1vec_engine.specs.Meaning.{Meaning}
-use Rattle.asn1vec_engine.specs.Types.{name_of, meaning_of, integers, unsigned, signed, elements, Names, IsTypeAnswer}
+use Rattle.asn1vec_engine.specs.Types.{name_of, meaning_of, integers, elements, Names, IsTypeAnswer}
 use Rattle.asn1vec_engine.specs.Answer.{IsRequestAnswer, IsRefusedLine, IsAnswered, IsAnswer, IsAnswerLine, AreAnswers, BeginAnswers}
-use Rattle.asn1vec_engine.specs.Memory.{DifferByMemory, AsksFor, AreAlike, TakesNoMemory, AllAlike}
+use Rattle.asn1vec_engine.specs.Memory.{DifferByMemory, AreAlike, TakesNoMemory, AllAlike}
 use Rattle.asn1vec_engine.proofs.OneReading.{HasOneAnswer, ShownAlike, answers_alike, readings_weaker, strict_same, either_same}
 use Rattle.asn1vec_engine.proofs.Split.{requests_same}
 

@@ -1,5 +1,5 @@
 -- What a name stands for has one answer to octets, but for want of memory, where two readings and two encodings are the same but for that.
-use Rattle.std.proofs.Common.{◌≡◌, ◌∙◌, ◌≤◌, ◌^◌, sym, ap, subst, refl, List, [], ◌∷◌, ◌++◌, length, ℕ, Bool, true, false, ◌⊎◌, inl, inr, Option, None, Some, Result, Ok, Err, arith, codes, append_assoc}
+use Rattle.std.proofs.Common.{◌≡◌, ◌∙◌, ◌≤◌, ◌^◌, sym, ap, subst, refl, List, ◌++◌, length, ℕ, Bool, true, false, ◌⊎◌, inl, inr, None, Some, Result, Ok, Err, arith, codes, append_assoc}
 use Rattle.std.proofs.lemmas.List.{append_cancel_left}
 use Rattle.x690.specs.Identifiers.{Identifier, IsCutIdentifier}
 use Rattle.x690.specs.Elements.{Parts, IsDefiniteElement}

@@ -1,5 +1,5 @@
 -- What is said of encodings, and strict encodings of what is shown.
-use Rattle.std.proofs.Common.{◌≡◌, ◌++◌, ◌∙◌, ℕ, Bool, false, List, length, string_bytes, String, Global, Result, Ok, Err, IfOk, IfErr, ap, subst, refl, arith, ◌<◌, ◌≤◌, ◌+◌, ◌^◌}
+use Rattle.std.proofs.Common.{◌≡◌, ℕ, Bool, false, List, length, string_bytes, String, Global, Result, Ok, Err, IfOk, IfErr, subst, refl, arith, ◌<◌, ◌≤◌, ◌+◌, ◌^◌}
 use Rattle.std.specs.Prelude.{ℤ, pos}
 use Rattle.std.specs.declared.alloc.AllocError.{AllocError}
 use Rattle.x690.specs.Identifiers.{Identifier}

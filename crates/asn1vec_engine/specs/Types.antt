@@ -5,7 +5,7 @@ use Rattle.x690.specs.SignedOctets.{IsSigned}
 use Rattle.asn1_rs.specs.declared.error.Error.{Error}
 use Rattle.asn1_rs.specs.declared.asn1_types.any.Any.{Any as Read}
 use Rattle.asn1_rs.specs.Any.{IsTheElement, IsDefiniteOr}
-use Rattle.asn1_rs.specs.Element.{Element, element_of, ElementBody, ElementCheck, ElementForm}
+use Rattle.asn1_rs.specs.Element.{element_of, ElementBody, ElementCheck, ElementForm}
 use Rattle.asn1_rs.specs.Grammar.{BerWord, DerWord, BerGives, DerGives}
 use Rattle.asn1_rs.specs.Integer.{IntegerCheck, IntegerCheckGives, IntegerBody, IntegerForm, IntegerGives, IsUnsigned, UnsignedRefuses, SignedRefuses}
 use Rattle.asn1vec_engine.specs.declared.request.Rule.{Rule}

@@ -1,7 +1,6 @@
 //! How a reading is answered: the value, what follows it and its encoding, or the refusal.
 ghost use Rattle.std.specs.Prelude.{◌≡◌, ◌++◌, ◌||◌, ℕ, List, Result, Ok, None, IfOk, MatchOption};
 ghost use Rattle.std.specs.Prelude.{codes, string_bytes};
-ghost use Rattle.asn1_rs.specs.declared.error.SerializeError.{SerializeError as Unwritten};
 ghost use Rattle.asn1_rs.specs.Answers.{seen};
 ghost use Rattle.asn1_rs.specs.Form.{IsStrict};
 ghost use Rattle.asn1_rs.specs.Wrote.{tells_of_io};
