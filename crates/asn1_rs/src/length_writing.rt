@@ -72,7 +72,7 @@ impl ToDer for Length {
     fn der_content_len(&self) -> Result<usize, Error>
         ensures { result ≡ Ok 0 }
     {
-        Ok(0)
+        Ok(0) // The length octets are its header.
     }
 
     fn der_constructed(&self) -> bool {

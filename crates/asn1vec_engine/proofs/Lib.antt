@@ -3,6 +3,7 @@ pub mod Hexadecimal
 pub mod LineLaws
 pub mod Moved
 pub mod OneAnswer
+pub mod OneReading
 pub mod OneRefusal
 pub mod ShownLaws
 pub mod Split

@@ -1,5 +1,5 @@
--- Texts of what was written.
-use Rattle.std.proofs.Common.{◌≡◌, ◌++◌, ◌∙◌, ℕ, Bool, false, List, length, codes, string_bytes, String, Global, Result, Ok, Err, IfOk, inl, inr, ap, subst, refl, arith, ◌<◌, ◌≤◌, ◌+◌, ◌^◌}
+-- What is said of encodings, and strict encodings of what is shown.
+use Rattle.std.proofs.Common.{◌≡◌, ℕ, Bool, false, List, length, string_bytes, String, Global, Result, Ok, Err, IfOk, IfErr, subst, refl, arith, ◌<◌, ◌≤◌, ◌+◌, ◌^◌}
 use Rattle.std.specs.Prelude.{ℤ, pos}
 use Rattle.std.specs.declared.alloc.AllocError.{AllocError}
 use Rattle.x690.specs.Identifiers.{Identifier}
@@ -7,15 +7,12 @@ use Rattle.x690.specs.Octets.{IsOctets}
 use Rattle.asn1_rs.specs.declared.asn1_types.any.Any.{Any}
 use Rattle.asn1_rs.specs.declared.class.Class.{Class}
 use Rattle.asn1_rs.specs.declared.class.Class.TheVariants.{Universal, Application, ContextSpecific, Private}
-use Rattle.asn1_rs.specs.declared.error.Err.{Err as Refusal}
-use Rattle.asn1_rs.specs.declared.error.Error.{Error}
 use Rattle.asn1_rs.specs.declared.error.SerializeError.{SerializeError}
-use Rattle.asn1_rs.specs.Answers.{Exactly, TellsMemory}
 use Rattle.asn1_rs.specs.Class.{class_number}
 use Rattle.asn1_rs.specs.Element.{element_of, ElementForm}
 use Rattle.asn1_rs.specs.Header.{identifier_of}
 use Rattle.asn1_rs.specs.Form.{IsStrict}
-use Rattle.asn1_rs.specs.Wrote.{MayRefuse, tells_of_io}
+use Rattle.asn1_rs.specs.Wrote.{MayRefuse}
 use Rattle.asn1_rs.specs.Integer.{integer_number, IntegerForm, IsUnsigned}
 use Rattle.asn1_rs.specs.Laws.Forms.{universal}
 use Rattle.x690.specs.Laws.StrictElements.{element_octets, made_strict_element}
@@ -23,24 +20,20 @@ use Rattle.x690.specs.Laws.UnsignedOctets.{unsigned_octets_content, unsigned_oct
 use Rattle.x690.specs.Integers.{IsIntegerContent, unsigned_octets}
 use Rattle.x690.specs.SignedOctets.{IsSigned, signed_octets}
 use Rattle.x690.specs.Laws.SignedOctets.{signed_octets_content, signed_octets_few}
-use Rattle.asn1vec_engine.specs.Names.{name_of_write_refusal}
-use Rattle.asn1vec_engine.specs.Shown.{in_hexadecimal, StrictText, Says, Same, IsReadAnswer}
+use Rattle.asn1vec_engine.specs.Shown.{SaysWriting, SaysWritten, IsWritten, StrictEncoding}
 
-module _ {V : Type 0} (Form : V → Identifier → List ℕ → Type 0) (takes_memory : Bool) (v : V) (o : List ℕ) (r : Result (String Global) AllocError) (strict : IsStrict Form v o) where
-  pub strict_shown : (bytes : List ℕ) → length bytes < 2 ^ 64 → bytes ≡ o → IfOk r (λ text. string_bytes text ≡ in_hexadecimal bytes) → IfOk r (λ text. StrictText Form takes_memory v (string_bytes text))
-  strict_shown bytes few e h = shown r h
-    where
-      shown : (q : Result (String Global) AllocError) → IfOk q (λ text. string_bytes text ≡ in_hexadecimal bytes) → IfOk q (λ text. StrictText Form takes_memory v (string_bytes text))
-      shown (Ok text) f = (o, strict, inl (subst (λ (l : List ℕ). length l < 2 ^ 64) e few, f ∙ ap in_hexadecimal e))
-      shown (Err x) f = tt
+-- what is said of a writing into a vector is these octets, or why writing them was refused
+pub writing_said : (takes_memory : Bool) (o written : List ℕ) → length written < 2 ^ 64 → (answer : Result ℕ SerializeError) → IfOk answer (λ n. written ≡ o) → IfErr answer (MayRefuse takes_memory (length o))
+    → (r : Result (String Global) AllocError) → IfOk r (λ text. SaysWriting written answer (string_bytes text)) → IfOk r (λ text. SaysWritten (IsWritten takes_memory o) (string_bytes text))
+writing_said takes_memory o written few (Ok n) is may (Ok text) said = (Ok written, (subst (λ (l : List ℕ). length l < 2 ^ 64) is few, is), said)
+writing_said takes_memory o written few (Err e) is may (Ok text) said = (Err e, (may, said.0), said.1)
+writing_said takes_memory o written few answer is may (Err x) said = tt
 
-  pub strict_refused : (refusal : SerializeError) (name : List ℕ) → MayRefuse takes_memory (length o) refusal → tells_of_io refusal ≡ false → name ≡ name_of_write_refusal refusal → IfOk r (λ text. string_bytes text ≡ codes "err " ++ name)
-      → IfOk r (λ text. StrictText Form takes_memory v (string_bytes text))
-  strict_refused refusal name may other e h = shown r h
-    where
-      shown : (q : Result (String Global) AllocError) → IfOk q (λ text. string_bytes text ≡ codes "err " ++ name) → IfOk q (λ text. StrictText Form takes_memory v (string_bytes text))
-      shown (Ok text) f = (o, strict, inr (refusal, may, other, f ∙ ap (λ (n : List ℕ). codes "err " ++ n) e))
-      shown (Err x) f = tt
+-- where they are the strict encoding of a value
+pub strict_said : {V : Type 0} (Form : V → Identifier → List ℕ → Type 0) (takes_memory : Bool) (v : V) (o : List ℕ) → IsStrict Form v o
+    → (r : Result (String Global) AllocError) → IfOk r (λ text. SaysWritten (IsWritten takes_memory o) (string_bytes text)) → IfOk r (λ text. SaysWritten (StrictEncoding Form takes_memory v) (string_bytes text))
+strict_said Form takes_memory v o strict (Ok text) (written, is, said) = (written, (o, strict, is), said)
+strict_said Form takes_memory v o strict (Err x) h = tt
 
 -- each number that a type holds has a strict encoding, where its contents octets are few
 pub strict_number : (Holds : ℤ → Type 0) (n : ℤ) (octets : List ℕ) → Holds n → IsIntegerContent n octets → length octets < 2 ^ 64 → (o : List ℕ) × IsStrict (IntegerForm Holds) n o
@@ -84,10 +77,3 @@ strict_element a number octets few =
         element = made_strict_element id a.content.now class number few octets;
       },
     )
-
--- the words of an exact answer are an answer by its grammar
-pub read_answered : {T V : Type 0} (IsCut : List ℕ → Type 0) (G : List ℕ → V → Type 0) (value : T → V) (takes_memory : Bool) (gives : List ℕ → Result (List ℕ × T) (Refusal Error) → Type 0) (text_of : T → List ℕ) (Written : T → List ℕ → Type 0) (octets : List ℕ)
-    (answer : Result (List ℕ × T) (Refusal Error)) → Exactly IsCut G value (TellsMemory takes_memory Same) octets answer → gives octets answer → (r : Result (String Global) AllocError) → IfOk r (λ text. Says text_of Written answer (string_bytes text))
-    → IfOk r (λ text. IsReadAnswer IsCut G value takes_memory gives text_of Written octets (string_bytes text))
-read_answered IsCut G value takes_memory gives text_of Written octets answer exact given (Ok text) says = record { answer = answer; exact = exact; given = given; says = says }
-read_answered IsCut G value takes_memory gives text_of Written octets answer exact given (Err e) says = tt

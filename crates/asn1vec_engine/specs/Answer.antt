@@ -1,57 +1,15 @@
 -- The answers to lines.
-use Rattle.std.specs.Prelude.{◌≡◌, ◌≢◌, ℕ, ℤ, pos, ◌<◌, ◌≤◌, List, [], ◌∷◌, ◌++◌, length, codes, false, ◌⊎◌}
-use Rattle.std.specs.Fmt.{signed_decimal}
-use Rattle.x690.specs.SignedOctets.{IsSigned}
-use Rattle.asn1_rs.specs.declared.error.Error.{Error}
-use Rattle.asn1_rs.specs.declared.asn1_types.any.Any.{Any as Read}
-use Rattle.asn1_rs.specs.Any.{IsTheElement, IsDefiniteOr}
-use Rattle.asn1_rs.specs.Element.{Element, element_of, ElementBody, ElementCheck, ElementForm}
-use Rattle.asn1_rs.specs.Grammar.{BerWord, DerWord, BerGives, DerGives}
-use Rattle.asn1_rs.specs.Integer.{IntegerCheck, IntegerCheckGives, IntegerBody, IntegerForm, IntegerGives, IsUnsigned, UnsignedRefuses, SignedRefuses}
+use Rattle.std.specs.Prelude.{◌≡◌, ℕ, ◌<◌, ◌≤◌, List, [], ◌∷◌, ◌++◌, length, codes, ◌⊎◌}
 use Rattle.asn1vec_engine.specs.declared.request.Rule.{Rule}
 use Rattle.asn1vec_engine.specs.declared.types.TypeName.{TypeName}
-use Rattle.asn1vec_engine.specs.declared.types.TypeName.TheVariants.{U8, U16, U32, U64, U128, I8, I16, I32, I64, I128, Any}
 use Rattle.asn1vec_engine.specs.Request.{IsRequest, IsOtherForm}
-use Rattle.asn1vec_engine.specs.Shown.{IsAnswerBy, Same, StrictText, element_text}
-use Rattle.asn1vec_engine.specs.Types.{name_of}
+use Rattle.asn1vec_engine.specs.Types.{Names, NamesNone, IsTypeAnswer}
 
--- the answer of a type to integers: in decimals, with the strict encoding that each has which the type holds
-abbrev pub IsIntegerAnswer : {T : Type 0} → (T → ℤ) → (ℤ → Type 0) → (List ℕ → Error → Type 0) → Rule → List ℕ → List ℕ → Type 0
-IsIntegerAnswer {T} number Holds refuses = IsAnswerBy {T = T} {V = ℤ} (BerWord (IntegerBody Holds)) (DerWord IntegerCheck (IntegerBody Holds)) number false
-    (BerGives (IntegerGives number Holds refuses) Same) (DerGives IntegerCheckGives (IntegerGives number Holds refuses) Same) (λ x. signed_decimal (number x)) (λ x. StrictText (IntegerForm Holds) false (number x))
-
--- that of the unsigned integers of so many octets
-abbrev pub IsUnsignedAnswer : ℕ → Rule → List ℕ → List ℕ → Type 0
-IsUnsignedAnswer size = IsIntegerAnswer {T = ℕ} pos (IsUnsigned size) (UnsignedRefuses size)
-
--- and that of the signed ones
-abbrev pub IsSignedAnswer : ℕ → Rule → List ℕ → List ℕ → Type 0
-IsSignedAnswer size = IsIntegerAnswer {T = ℤ} (λ n. n) (IsSigned size) (SignedRefuses size)
-
--- the answer of elements of any type: what they say, with the strict encoding that each of them has
-abbrev pub IsElementAnswer : Rule → List ℕ → List ℕ → Type 0
-IsElementAnswer = IsAnswerBy {T = Read} {V = Element} (BerWord ElementBody) (DerWord ElementCheck ElementBody) element_of false
-    (BerGives IsTheElement Same) (DerGives IsDefiniteOr IsTheElement Same) (λ a. element_text (element_of a)) (λ a. StrictText ElementForm false (element_of a))
-
--- the answer of a type to octets that are read by a rule
-abbrev pub IsTypeAnswer : Rule → TypeName → List ℕ → List ℕ → Type 0
-IsTypeAnswer rule U8 = IsUnsignedAnswer 1 rule
-IsTypeAnswer rule U16 = IsUnsignedAnswer 2 rule
-IsTypeAnswer rule U32 = IsUnsignedAnswer 4 rule
-IsTypeAnswer rule U64 = IsUnsignedAnswer 8 rule
-IsTypeAnswer rule U128 = IsUnsignedAnswer 16 rule
-IsTypeAnswer rule I8 = IsSignedAnswer 1 rule
-IsTypeAnswer rule I16 = IsSignedAnswer 2 rule
-IsTypeAnswer rule I32 = IsSignedAnswer 4 rule
-IsTypeAnswer rule I64 = IsSignedAnswer 8 rule
-IsTypeAnswer rule I128 = IsSignedAnswer 16 rule
-IsTypeAnswer rule Any = IsElementAnswer rule
-
--- the answer to a request: of the type that has the name, by the rule, or that there is none
+-- the answer to a request: of the type that has the name by the rule, or that there is none
 abbrev pub IsRequestAnswer : Rule → List ℕ → List ℕ → List ℕ → Type 0
 IsRequestAnswer rule name octets text =
-    (((t : TypeName) → name ≢ name_of t) × (text ≡ codes "err Type")) ⊎
-    ((t : TypeName) × (name ≡ name_of t) × IsTypeAnswer rule t octets text)
+    (NamesNone rule name × (text ≡ codes "err Type")) ⊎
+    ((t : TypeName) × Names rule name t × IsTypeAnswer rule t octets text)
 
 -- the line is too long or has another form
 abbrev pub IsRefusedLine : List ℕ → Type 0

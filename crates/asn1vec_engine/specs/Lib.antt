@@ -4,4 +4,6 @@ pub mod Request
 pub mod Lines
 pub mod Answer
 pub mod Engine
+pub mod Meaning
+pub mod Memory
 pub mod Types

@@ -1,5 +1,5 @@
--- How a reading is answered: the value, what follows it and how it is written, or the refusal.
-use Rattle.std.specs.Prelude.{◌≡◌, ℕ, ◌<◌, ◌^◌, Bool, true, false, List, [], ◌∷◌, ◌++◌, length, codes, decimal, ◌⊎◌, Result, Ok, Err}
+-- How a reading is answered: the value, what follows it and its encoding, or the refusal.
+use Rattle.std.specs.Prelude.{◌≡◌, ℕ, ◌<◌, ◌^◌, Bool, true, false, List, [], ◌∷◌, ◌++◌, length, codes, decimal, Option, None, Some, Result, Ok, Err}
 use Rattle.hex.specs.Hex.{encode_lower}
 use Rattle.x690.specs.Identifiers.{Identifier, IsCutIdentifier}
 use Rattle.asn1_rs.specs.declared.error.Err.{Err as Refusal}
@@ -10,8 +10,6 @@ use Rattle.asn1_rs.specs.Grammar.{EndsWithin}
 use Rattle.asn1_rs.specs.Element.{Element}
 use Rattle.asn1_rs.specs.Form.{IsStrict}
 use Rattle.asn1_rs.specs.Wrote.{MayRefuse, tells_of_io}
-use Rattle.asn1vec_engine.specs.declared.request.Rule.{Rule}
-use Rattle.asn1vec_engine.specs.declared.request.Rule.TheVariants.{Ber as ber, Der as der}
 use Rattle.asn1vec_engine.specs.Names.{name_of_refusal, name_of_write_refusal}
 
 -- octets in hexadecimal digits of lower case, `-` for none
@@ -24,39 +22,86 @@ abbrev pub letter_of : Bool → List ℕ
 letter_of true = codes "c"
 letter_of false = codes "p"
 
--- the number of the class, the letter of the form, the tag number and the contents octets, joined by points
+-- the number of the class, the letter of the form, the tag number and the contents octets, joined
+-- by points
 abbrev pub element_text : Element → List ℕ
-element_text v = decimal v.id.class ++ (codes "." ++ (letter_of v.id.constructed ++ (codes "." ++ (decimal v.id.number ++ (codes "." ++ in_hexadecimal v.content)))))
+element_text v =
+    decimal v.id.class ++ (codes "." ++ (letter_of v.id.constructed ++ (codes "." ++
+    (decimal v.id.number ++ (codes "." ++ in_hexadecimal v.content)))))
 
--- an encoding that was written, of a length that 64 bits hold, or why writing it was refused
-abbrev pub WrittenText : Bool → List ℕ → List ℕ → Type 0
-WrittenText takes_memory encoding text =
-    ((length encoding < 2 ^ 64) × (text ≡ in_hexadecimal encoding)) ⊎
-    ((e : SerializeError) × MayRefuse takes_memory (length encoding) e × (tells_of_io e ≡ false) × (text ≡ codes "err " ++ name_of_write_refusal e))
+-- What there is to say of the encoding of a value: nothing, where its type has no writer; the octets
+-- that were written; or why writing it was refused.
+abbrev pub Encoding : Type 0
+Encoding = Option (Result (List ℕ) SerializeError)
 
--- the same of the strict encoding of a value
-abbrev pub StrictText : {V : Type 0} → (V → Identifier → List ℕ → Type 0) → Bool → V → List ℕ → Type 0
-StrictText Form takes_memory v text = (encoding : List ℕ) × IsStrict Form v encoding × WrittenText takes_memory encoding text
+-- that in words
+abbrev pub written_text : Result (List ℕ) SerializeError → List ℕ
+written_text (Ok octets) = in_hexadecimal octets
+written_text (Err e) = codes "err " ++ name_of_write_refusal e
 
--- what a reader answered, in words
-abbrev pub Says : {T : Type 0} → (T → List ℕ) → (T → List ℕ → Type 0) → Result (List ℕ × T) (Refusal Error) → List ℕ → Type 0
-Says text_of Written (Ok x) text =
-    (written : List ℕ) × Written x.1 written ×
-    (text ≡ codes "ok " ++ (text_of x.1 ++ (codes " rest " ++ (in_hexadecimal x.0 ++ (codes " enc " ++ written)))))
-Says text_of Written (Err r) text = text ≡ codes "err " ++ name_of_refusal r
+abbrev pub encoding_text : Encoding → List ℕ
+encoding_text None = []
+encoding_text (Some written) = codes " enc " ++ written_text written
+
+-- a value, what follows it, and its encoding
+abbrev pub ok_text : List ℕ → List ℕ → Encoding → List ℕ
+ok_text value rest encoding =
+    codes "ok " ++ (value ++ (codes " rest " ++ (in_hexadecimal rest ++ encoding_text encoding)))
+
+-- what reading octets answers: a value and the rest, or a refusal
+abbrev pub Reading : Type 0 → Type 0
+Reading T = Result (List ℕ × T) (Refusal Error)
+
+-- that in words: the value, the rest and an encoding that the value may have; or the refusal
+abbrev pub Says : {T : Type 0} → (T → List ℕ) → (T → Encoding → Type 0) → Reading T → List ℕ → Type 0
+Says text_of Encodes (Ok x) text =
+    (encoding : Encoding) × Encodes x.1 encoding × (text ≡ ok_text (text_of x.1) x.0 encoding)
+Says text_of Encodes (Err r) text = text ≡ codes "err " ++ name_of_refusal r
+
+-- The text says what reading the octets may answer.
+pub record IsReadAnswer {T : Type 0} (Reads : List ℕ → Reading T → Type 0) (text_of : T → List ℕ)
+    (Encodes : T → Encoding → Type 0) (octets text : List ℕ) : Type 0 where
+  pub answer : Reading T
+  pub reads : Reads octets answer
+  pub says : Says text_of Encodes answer text
+
+-- ---- readings and encodings of lawful types
 
 -- errors stay as they are
 abbrev pub Same : Error → Error → Type 0
 Same e f = f ≡ e
 
--- The text says an answer that is exact by the grammar, and that the reader may give.
-pub record IsReadAnswer {T V : Type 0} (IsCut : List ℕ → Type 0) (G : List ℕ → V → Type 0) (value : T → V) (takes_memory : Bool) (gives : List ℕ → Result (List ℕ × T) (Refusal Error) → Type 0) (text_of : T → List ℕ) (Written : T → List ℕ → Type 0) (octets text : List ℕ) : Type 0 where
-  pub answer : Result (List ℕ × T) (Refusal Error)
-  pub exact : Exactly IsCut G value (TellsMemory takes_memory Same) octets answer
-  pub given : gives octets answer
-  pub says : Says text_of Written answer text
+-- by BER: what is exact by the grammar, and what the reader gives
+abbrev pub ReadsByBer : {T V : Type 0} → (List ℕ → V → Type 0) → (T → V) → Bool → (List ℕ → Reading T → Type 0) →
+    List ℕ → Reading T → Type 0
+ReadsByBer Ber value takes_memory gives octets answer =
+    Exactly EndsWithin Ber value (TellsMemory takes_memory Same) octets answer × gives octets answer
 
--- the same by the grammar and the reader of the rule
-abbrev pub IsAnswerBy : {T V : Type 0} → (Ber Der : List ℕ → V → Type 0) → (T → V) → Bool → (ber_gives der_gives : List ℕ → Result (List ℕ × T) (Refusal Error) → Type 0) → (T → List ℕ) → (T → List ℕ → Type 0) → Rule → List ℕ → List ℕ → Type 0
-IsAnswerBy Ber Der value takes_memory ber_gives der_gives text_of Written ber = IsReadAnswer EndsWithin Ber value takes_memory ber_gives text_of Written
-IsAnswerBy Ber Der value takes_memory ber_gives der_gives text_of Written der = IsReadAnswer IsCutIdentifier Der value takes_memory der_gives text_of Written
+-- the same by DER
+abbrev pub ReadsByDer : {T V : Type 0} → (List ℕ → V → Type 0) → (T → V) → Bool → (List ℕ → Reading T → Type 0) →
+    List ℕ → Reading T → Type 0
+ReadsByDer Der value takes_memory gives octets answer =
+    Exactly IsCutIdentifier Der value (TellsMemory takes_memory Same) octets answer × gives octets answer
+
+-- these octets, of a length that 64 bits hold, or why writing them was refused
+abbrev pub IsWritten : Bool → List ℕ → Encoding → Type 0
+IsWritten takes_memory octets None = ⊥
+IsWritten takes_memory octets (Some (Ok written)) = (length octets < 2 ^ 64) × (written ≡ octets)
+IsWritten takes_memory octets (Some (Err e)) =
+    MayRefuse takes_memory (length octets) e × (tells_of_io e ≡ false)
+
+-- the strict encoding of a value, or why writing that was refused
+abbrev pub StrictEncoding : {V : Type 0} → (V → Identifier → List ℕ → Type 0) → Bool → V → Encoding → Type 0
+StrictEncoding Form takes_memory v encoding =
+    (octets : List ℕ) × IsStrict Form v octets × IsWritten takes_memory octets encoding
+
+-- ---- what functions on the way say
+
+-- the words say what may have been written
+abbrev pub SaysWritten : (Encoding → Type 0) → List ℕ → Type 0
+SaysWritten Encodes text = (written : Result (List ℕ) SerializeError) × Encodes (Some written) × (text ≡ written_text written)
+
+-- they say what came of a writing that left these octets
+abbrev pub SaysWriting : List ℕ → Result ℕ SerializeError → List ℕ → Type 0
+SaysWriting octets (Ok n) text = text ≡ written_text (Ok octets)
+SaysWriting octets (Err e) text = (tells_of_io e ≡ false) × (text ≡ written_text (Err e))

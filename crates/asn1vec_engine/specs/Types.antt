@@ -1,7 +1,18 @@
--- The names of types.
-use Rattle.std.specs.Prelude.{List, ℕ, codes}
+-- The names of types, and what each stands for.
+use Rattle.std.specs.Prelude.{◌≡◌, List, ℕ, ℤ, pos, codes, true, false}
+use Rattle.std.specs.Fmt.{signed_decimal}
+use Rattle.x690.specs.SignedOctets.{IsSigned}
+use Rattle.asn1_rs.specs.declared.error.Error.{Error}
+use Rattle.asn1_rs.specs.declared.asn1_types.any.Any.{Any as Read}
+use Rattle.asn1_rs.specs.Any.{IsTheElement, IsDefiniteOr}
+use Rattle.asn1_rs.specs.Element.{element_of, ElementBody, ElementCheck, ElementForm}
+use Rattle.asn1_rs.specs.Grammar.{BerWord, DerWord, BerGives, DerGives}
+use Rattle.asn1_rs.specs.Integer.{IntegerCheck, IntegerCheckGives, IntegerBody, IntegerForm, IntegerGives, IsUnsigned, UnsignedRefuses, SignedRefuses}
+use Rattle.asn1vec_engine.specs.declared.request.Rule.{Rule}
 use Rattle.asn1vec_engine.specs.declared.types.TypeName.{TypeName}
 use Rattle.asn1vec_engine.specs.declared.types.TypeName.TheVariants.{U8, U16, U32, U64, U128, I8, I16, I32, I64, I128, Any}
+use Rattle.asn1vec_engine.specs.Meaning.{Meaning, ReadsByEither}
+use Rattle.asn1vec_engine.specs.Shown.{IsReadAnswer, Same, StrictEncoding, element_text}
 
 abbrev pub name_of : TypeName → List ℕ
 name_of U8 = codes "u8"
@@ -15,3 +26,63 @@ name_of I32 = codes "i32"
 name_of I64 = codes "i64"
 name_of I128 = codes "i128"
 name_of Any = codes "any"
+
+-- integers, there by either rule: in decimals, with the strict encoding that each has which the type holds
+abbrev pub integers : {T : Type 0} → (T → ℤ) → (ℤ → Type 0) → (List ℕ → Error → Type 0) → Meaning
+integers {T} number Holds refuses = record {
+  T = T;
+  is_there = λ rule. true;
+  Reads = ReadsByEither (BerWord (IntegerBody Holds)) (DerWord IntegerCheck (IntegerBody Holds)) number false
+      (BerGives (IntegerGives number Holds refuses) Same)
+      (DerGives IntegerCheckGives (IntegerGives number Holds refuses) Same);
+  text_of = λ x. signed_decimal (number x);
+  Encodes = λ x. StrictEncoding (IntegerForm Holds) false (number x);
+  reading_takes_memory = false;
+  writing_takes_memory = false;
+}
+
+-- the unsigned integers of so many octets
+abbrev pub unsigned : ℕ → Meaning
+unsigned size = integers {T = ℕ} pos (IsUnsigned size) (UnsignedRefuses size)
+
+-- and the signed ones
+abbrev pub signed : ℕ → Meaning
+signed size = integers {T = ℤ} (λ n. n) (IsSigned size) (SignedRefuses size)
+
+-- elements of any type, there by either rule: what they say, with the strict encoding that each of them has
+abbrev pub elements : Meaning
+elements = record {
+  T = Read;
+  is_there = λ rule. true;
+  Reads = ReadsByEither (BerWord ElementBody) (DerWord ElementCheck ElementBody) element_of false
+      (BerGives IsTheElement Same) (DerGives IsDefiniteOr IsTheElement Same);
+  text_of = λ a. element_text (element_of a);
+  Encodes = λ a. StrictEncoding ElementForm false (element_of a);
+  reading_takes_memory = false;
+  writing_takes_memory = false;
+}
+
+abbrev pub meaning_of : TypeName → Meaning
+meaning_of U8 = unsigned 1
+meaning_of U16 = unsigned 2
+meaning_of U32 = unsigned 4
+meaning_of U64 = unsigned 8
+meaning_of U128 = unsigned 16
+meaning_of I8 = signed 1
+meaning_of I16 = signed 2
+meaning_of I32 = signed 4
+meaning_of I64 = signed 8
+meaning_of I128 = signed 16
+meaning_of Any = elements
+
+-- the name is that of the type, and is there by the rule
+abbrev pub Names : Rule → List ℕ → TypeName → Type 0
+Names rule name t = (name ≡ name_of t) × ((meaning_of t).is_there rule ≡ true)
+
+-- no type has the name by the rule
+abbrev pub NamesNone : Rule → List ℕ → Type 0
+NamesNone rule name = (t : TypeName) → ¬ Names rule name t
+
+-- the text is the answer of the type to octets that are read by the rule
+abbrev pub IsTypeAnswer : Rule → TypeName → List ℕ → List ℕ → Type 0
+IsTypeAnswer rule t = IsReadAnswer ((meaning_of t).Reads rule) (meaning_of t).text_of (meaning_of t).Encodes

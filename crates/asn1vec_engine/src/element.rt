@@ -3,9 +3,9 @@ ghost use Rattle.std.specs.Prelude.{◌≡◌, ◌<◌, ◌^◌, false, length};
 ghost use Rattle.x690.specs.Octets.{IsOctets};
 ghost use Rattle.asn1_rs.specs.Class.{class_number};
 ghost use Rattle.asn1_rs.specs.Element.{element_of, ElementForm};
-ghost use Rattle.asn1vec_engine.specs.Shown.{StrictText, element_text, letter_of};
+ghost use Rattle.asn1vec_engine.specs.Shown.{StrictEncoding, element_text, letter_of};
 
-use crate::shown::{Shown, hexadecimal, strict_text};
+use crate::shown::{Shown, hexadecimal, strict_encoding};
 use asn1_rs::{Any, Class};
 use std::alloc::{AllocError, Global};
 
@@ -32,9 +32,10 @@ fn are_octets(octets: &[u8])
 impl Shown for Any<'_> {
     ghost text_of = { λ a. element_text (element_of a) };
 
-    ghost Written = { λ a. StrictText ElementForm false (element_of a) };
+    ghost Encodes = { λ a. StrictEncoding ElementForm false (element_of a) };
 
-    /// The number of the class, the letter of the form, the tag number and the contents octets, joined by points.
+    /// The number of the class, the letter of the form, the tag number and the contents octets,
+    /// joined by points.
     fn show(&self, alloc: Global) -> Result<String, AllocError> {
         let class = number_of(self.header.class());
         let form = letter(self.header.constructed());
@@ -43,10 +44,11 @@ impl Shown for Any<'_> {
         format!(in alloc; "{class}.{form}.{number}.{content}")
     }
 
-    fn written(&self, alloc: Global) -> Result<String, AllocError> {
-        // What their types say of the tag number and the contents octets: each element has a strict encoding.
+    fn encoding(&self, alloc: Global) -> Result<Option<String>, AllocError> {
+        // What their types say of the tag number and the contents octets: each element has a strict
+        // encoding.
         let _number = self.tag();
         are_octets(self.content);
-        strict_text(alloc, self)
+        Ok(Some(strict_encoding(alloc, self)?))
     }
 }

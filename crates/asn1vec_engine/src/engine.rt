@@ -1,7 +1,10 @@
 //! The run over an input: an answer for each line.
-ghost use Rattle.std.specs.Prelude.{◌≡◌, ◌≢◌, ℕ, ◌++◌, ◌∷◌, [], List, All, OnOk, OnErr, IfSome, ◌⊎◌};
+ghost use Rattle.std.specs.Prelude.{◌≡◌, ◌≢◌, ℕ, ◌++◌, ◌∷◌, [], List, All, OnOk, OnErr, IfSome};
+ghost use Rattle.std.specs.Prelude.{◌⊎◌};
 ghost use Rattle.std.specs.Io.KnownBytes.{Appends};
 ghost use Rattle.asn1vec_engine.specs.Answer.{IsAnswerLine, BeginsAnswer};
+ghost use Rattle.asn1vec_engine.specs.Lines.{lines_of};
+ghost use Rattle.asn1vec_engine.specs.Memory.{TakesNoMemory, AllAlike};
 ghost use Rattle.asn1vec_engine.specs.Engine.{AnswersTo, BeginsAnswersTo, Moves, Begins, TellsMark};
 ghost use Rattle.asn1vec_engine.specs.declared.engine.RunError.TheVariants.{OutOfMemory};
 
@@ -42,8 +45,11 @@ impl<T: Drop> From<AllocFailed<T>> for RunError {
 
 /// Writes the answer to a line.
 fn write_answer<W: DerWrite>(alloc: Global, line: &[u8], output: &mut W) -> Result<(), RunError>
-    ensures ok { OnOk result ((ended : List ℕ) × IsAnswerLine line.now ended × Appends (W.told output.old) (W.told output.new) ended) }
-    ensures err { OnErr result ((front : List ℕ) × ((front ≡ []) ⊎ BeginsAnswer line.now front) × Appends (W.told output.old) (W.told output.new) front) }
+    ensures ok { OnOk result ((ended : List ℕ)
+        × IsAnswerLine line.now ended × Appends (W.told output.old) (W.told output.new) ended) }
+    ensures err { OnErr result ((front : List ℕ)
+        × ((front ≡ []) ⊎ BeginsAnswer line.now front)
+        × Appends (W.told output.old) (W.told output.new) front) }
     ensures mark { TellsMark (W.failed output.old) (W.failed output.new) result }
 {
     let text = answer_line(alloc, line)?;
@@ -62,8 +68,10 @@ fn take_octet<W: DerWrite>(
 ) -> Result<(), RunError>
     requires { All (λ x. x ≢ 10) line.old.items }
     ensures open { OnOk result (All (λ x. x ≢ 10) line.new.items) }
-    ensures ok { OnOk result (Moves (W.told output.old) (W.told output.new) (line.old.items ++ octet ∷ []) line.new.items) }
-    ensures err { OnErr result (Begins (W.told output.old) (W.told output.new) (line.old.items ++ octet ∷ [])) }
+    ensures ok { OnOk result (Moves (W.told output.old) (W.told output.new)
+        (line.old.items ++ octet ∷ []) line.new.items) }
+    ensures err { OnErr result (Begins (W.told output.old) (W.told output.new)
+        (line.old.items ++ octet ∷ [])) }
     ensures mark { TellsMark (W.failed output.old) (W.failed output.new) result }
 {
     if octet == b'\n' {
@@ -84,8 +92,10 @@ fn take_octets<W: DerWrite>(
 ) -> Result<(), RunError>
     requires { All (λ x. x ≢ 10) line.old.items }
     ensures open { OnOk result (All (λ x. x ≢ 10) line.new.items) }
-    ensures ok { OnOk result (Moves (W.told output.old) (W.told output.new) (line.old.items ++ octets.now) line.new.items) }
-    ensures err { OnErr result (Begins (W.told output.old) (W.told output.new) (line.old.items ++ octets.now)) }
+    ensures ok { OnOk result (Moves (W.told output.old) (W.told output.new)
+        (line.old.items ++ octets.now) line.new.items) }
+    ensures err { OnErr result (Begins (W.told output.old) (W.told output.new)
+        (line.old.items ++ octets.now)) }
     ensures mark { TellsMark (W.failed output.old) (W.failed output.new) result }
 {
     for octet in octets {
@@ -97,8 +107,10 @@ fn take_octets<W: DerWrite>(
 /// Answers the line that the end of input ends.
 fn finish<W: DerWrite>(alloc: Global, line: &[u8], output: &mut W) -> Result<(), RunError>
     requires { All (λ x. x ≢ 10) line.now }
-    ensures ok { OnOk result ((texts : List ℕ) × AnswersTo line.now texts × Appends (W.told output.old) (W.told output.new) texts) }
-    ensures err { OnErr result ((texts : List ℕ) × BeginsAnswersTo line.now texts × Appends (W.told output.old) (W.told output.new) texts) }
+    ensures ok { OnOk result ((texts : List ℕ)
+        × AnswersTo line.now texts × Appends (W.told output.old) (W.told output.new) texts) }
+    ensures err { OnErr result ((texts : List ℕ)
+        × BeginsAnswersTo line.now texts × Appends (W.told output.old) (W.told output.new) texts) }
     ensures mark { TellsMark (W.failed output.old) (W.failed output.new) result }
 {
     if line.is_empty() {
@@ -109,20 +121,20 @@ fn finish<W: DerWrite>(alloc: Global, line: &[u8], output: &mut W) -> Result<(),
 
 /// Answers each line of the input, in order.
 ///
-/// The first Err of the reader, of whatever kind, ends the run with `Input`, and so do 2^64 - 1 reads that do not come
-/// to its end. After `Output` the writer is marked: it failed in this run, or was marked before. After any other answer
-/// its mark is as it was.
+/// The first Err of the reader, of whatever kind, ends the run with `Input`, and so do 2^64 - 1
+/// reads that do not come to its end. After `Output` the writer is marked: it failed in this run, or
+/// was marked before. After any other answer its mark is as it was.
 pub fn run<R: Read, W: DerWrite>(
     alloc: Global,
     input: &mut R,
     output: &mut W,
 ) -> Result<(), RunError>
     // All lines are answered, where the reader tells its octets.
-    ensures ok { OnOk result (IfSome (R.remaining input.old) (λ octets.
-        (texts : List ℕ) × AnswersTo octets texts × Appends (W.told output.old) (W.told output.new) texts)) }
+    ensures ok { OnOk result (IfSome (R.remaining input.old) (λ octets. (texts : List ℕ)
+        × AnswersTo octets texts × Appends (W.told output.old) (W.told output.new) texts)) }
     // After a failure the writer has gained a beginning of the answers.
-    ensures err { OnErr result (IfSome (R.remaining input.old) (λ octets.
-        (texts : List ℕ) × BeginsAnswersTo octets texts × Appends (W.told output.old) (W.told output.new) texts)) }
+    ensures err { OnErr result (IfSome (R.remaining input.old) (λ octets. (texts : List ℕ)
+        × BeginsAnswersTo octets texts × Appends (W.told output.old) (W.told output.new) texts)) }
     ensures mark { TellsMark (W.failed output.old) (W.failed output.new) result }
 {
     let mut line = Vec::new(alloc);
@@ -137,8 +149,14 @@ pub fn run<R: Read, W: DerWrite>(
     Err(RunError::Input)
 }
 
-/// An input has one output. What is written up to a failure is a beginning of it.
+/// An input has one output, but for want of memory in a line where reading or writing what it names
+/// takes any. What is written up to a failure is a beginning of it, where no line takes any.
 pub fn one_output()
-    ensures whole { (octets texts others : List ℕ) → AnswersTo octets texts → AnswersTo octets others → texts ≡ others }
-    ensures beginning { (octets front texts : List ℕ) → BeginsAnswersTo octets front → AnswersTo octets texts → (lost : List ℕ) × (texts ≡ front ++ lost) }
+    ensures alike { (octets texts others : List ℕ)
+        → AnswersTo octets texts → AnswersTo octets others → AllAlike (lines_of octets) texts others }
+    ensures whole { (octets texts others : List ℕ) → All TakesNoMemory (lines_of octets)
+        → AnswersTo octets texts → AnswersTo octets others → texts ≡ others }
+    ensures beginning { (octets front texts : List ℕ) → All TakesNoMemory (lines_of octets)
+        → BeginsAnswersTo octets front → AnswersTo octets texts
+        → (lost : List ℕ) × (texts ≡ front ++ lost) }
 {}

@@ -1,6 +1,8 @@
 //! The names of refusals.
 ghost use Rattle.std.specs.Prelude.{◌≡◌, IfOk, string_bytes};
-ghost use Rattle.asn1vec_engine.specs.Names.{name_of_needed, name_of_constraint, word_of_error, in_brackets, name_of_error, name_of_refusal, name_of_write_refusal};
+ghost use Rattle.asn1vec_engine.specs.Names.{name_of_needed, name_of_constraint, word_of_error};
+ghost use Rattle.asn1vec_engine.specs.Names.{in_brackets, name_of_error};
+ghost use Rattle.asn1vec_engine.specs.Names.{name_of_refusal, name_of_write_refusal};
 
 use asn1_rs::{DerConstraint, Err as Refusal, Error, Needed, SerializeError};
 use std::alloc::{AllocError, Global};
@@ -69,7 +71,8 @@ fn error_word(error: &Error) -> &'static str
     }
 }
 
-/// The name of an error, with the constraint that was broken or the number of octets that are missing.
+/// The name of an error, with the constraint that was broken or the number of octets that are
+/// missing.
 fn error_name(alloc: Global, error: &Error) -> Result<String, AllocError>
     ensures { IfOk result (λ name. string_bytes name ≡ name_of_error error.now) }
 {

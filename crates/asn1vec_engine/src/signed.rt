@@ -3,82 +3,82 @@ ghost use Rattle.std.specs.Prelude.{false};
 ghost use Rattle.std.specs.Fmt.{signed_decimal};
 ghost use Rattle.x690.specs.SignedOctets.{IsSigned};
 ghost use Rattle.asn1_rs.specs.Integer.{IntegerForm};
-ghost use Rattle.asn1vec_engine.specs.Shown.{StrictText};
+ghost use Rattle.asn1vec_engine.specs.Shown.{StrictEncoding};
 
-use crate::shown::{Shown, strict_text};
+use crate::shown::{Shown, strict_encoding};
 use std::alloc::{AllocError, Global};
 
 impl Shown for i8 {
     ghost text_of = { signed_decimal };
 
-    ghost Written = { StrictText (IntegerForm (IsSigned 1)) false };
+    ghost Encodes = { StrictEncoding (IntegerForm (IsSigned 1)) false };
 
     fn show(&self, alloc: Global) -> Result<String, AllocError> {
         format!(in alloc; "{self}")
     }
 
-    fn written(&self, alloc: Global) -> Result<String, AllocError> {
+    fn encoding(&self, alloc: Global) -> Result<Option<String>, AllocError> {
         let value = *self;
-        strict_text(alloc, &value)
+        Ok(Some(strict_encoding(alloc, &value)?))
     }
 }
 
 impl Shown for i16 {
     ghost text_of = { signed_decimal };
 
-    ghost Written = { StrictText (IntegerForm (IsSigned 2)) false };
+    ghost Encodes = { StrictEncoding (IntegerForm (IsSigned 2)) false };
 
     fn show(&self, alloc: Global) -> Result<String, AllocError> {
         format!(in alloc; "{self}")
     }
 
-    fn written(&self, alloc: Global) -> Result<String, AllocError> {
+    fn encoding(&self, alloc: Global) -> Result<Option<String>, AllocError> {
         let value = *self;
-        strict_text(alloc, &value)
+        Ok(Some(strict_encoding(alloc, &value)?))
     }
 }
 
 impl Shown for i32 {
     ghost text_of = { signed_decimal };
 
-    ghost Written = { StrictText (IntegerForm (IsSigned 4)) false };
+    ghost Encodes = { StrictEncoding (IntegerForm (IsSigned 4)) false };
 
     fn show(&self, alloc: Global) -> Result<String, AllocError> {
         format!(in alloc; "{self}")
     }
 
-    fn written(&self, alloc: Global) -> Result<String, AllocError> {
+    fn encoding(&self, alloc: Global) -> Result<Option<String>, AllocError> {
         let value = *self;
-        strict_text(alloc, &value)
+        Ok(Some(strict_encoding(alloc, &value)?))
     }
 }
 
 impl Shown for i64 {
     ghost text_of = { signed_decimal };
 
-    ghost Written = { StrictText (IntegerForm (IsSigned 8)) false };
+    ghost Encodes = { StrictEncoding (IntegerForm (IsSigned 8)) false };
 
     fn show(&self, alloc: Global) -> Result<String, AllocError> {
         format!(in alloc; "{self}")
     }
 
-    fn written(&self, alloc: Global) -> Result<String, AllocError> {
+    fn encoding(&self, alloc: Global) -> Result<Option<String>, AllocError> {
         let value = *self;
-        strict_text(alloc, &value)
+        Ok(Some(strict_encoding(alloc, &value)?))
     }
 }
 
 impl Shown for i128 {
     ghost text_of = { signed_decimal };
 
-    ghost Written = { StrictText (IntegerForm (IsSigned 16)) false };
+    ghost Encodes = { StrictEncoding (IntegerForm (IsSigned 16)) false };
 
     fn show(&self, alloc: Global) -> Result<String, AllocError> {
         format!(in alloc; "{self}")
     }
 
-    fn written(&self, alloc: Global) -> Result<String, AllocError> {
+    fn encoding(&self, alloc: Global) -> Result<Option<String>, AllocError> {
         let value = *self;
-        strict_text(alloc, &value)
+        Ok(Some(strict_encoding(alloc, &value)?))
     }
 }

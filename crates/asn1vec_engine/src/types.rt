@@ -1,7 +1,8 @@
 //! The names of types.
-ghost use Rattle.std.specs.Prelude.{◌≡◌, ◌≢◌, MatchOption};
-ghost use Rattle.asn1vec_engine.specs.declared.types.TypeName.{TypeName as Name};
-ghost use Rattle.asn1vec_engine.specs.Types.{name_of};
+ghost use Rattle.std.specs.Prelude.{◌≡◌, MatchOption};
+ghost use Rattle.asn1vec_engine.specs.Types.{name_of, meaning_of, Names, NamesNone};
+
+use crate::request::Rule;
 
 /// The types that a line can name.
 #[derive(Clone, Copy, Debug, PartialEq, Eq)]
@@ -53,14 +54,36 @@ impl TypeName {
             TypeName::Any => "any",
         }
     }
+
+    /// Whether the name is there by the rule.
+    fn is_there(self, rule: Rule) -> bool
+        ensures { result ≡ (meaning_of self).is_there rule }
+    {
+        match (self, rule) {
+            (
+                TypeName::U8
+                | TypeName::U16
+                | TypeName::U32
+                | TypeName::U64
+                | TypeName::U128
+                | TypeName::I8
+                | TypeName::I16
+                | TypeName::I32
+                | TypeName::I64
+                | TypeName::I128
+                | TypeName::Any,
+                Rule::Ber | Rule::Der,
+            ) => true,
+        }
+    }
 }
 
-/// The type that has the name.
-pub(crate) fn type_named(name: &[u8]) -> Option<TypeName>
-    ensures { MatchOption result ((t : Name) → name.now ≢ name_of t) (λ t. name.now ≡ name_of t) }
+/// The type that has the name by the rule.
+pub(crate) fn type_named(rule: Rule, name: &[u8]) -> Option<TypeName>
+    ensures { MatchOption result (NamesNone rule name.now) (λ t. Names rule name.now t) }
 {
     for t in TYPES.iter() {
-        if name == t.name().as_bytes() {
+        if name == t.name().as_bytes() && t.is_there(rule) {
             return Some(*t);
         }
     }

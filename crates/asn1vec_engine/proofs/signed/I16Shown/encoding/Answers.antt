@@ -2,9 +2,9 @@ use Rattle.std.proofs.Common.{arith, FitsSigned, rules}
 use Rattle.std.specs.Int.{w16}
 use Rattle.std.proofs.lemmas.Int.{ints, to_z-of_z}
 use Rattle.asn1vec_engine.proofs.ShownLaws.{strict_signed}
-use Rattle.asn1vec_engine.proofs.signed.I16Shown.written.Goals as goal
+use Rattle.asn1vec_engine.proofs.signed.I16Shown.encoding.Goals as goal
 
-pub strict_text-requires : goal.strict_text-requires
-strict_text-requires c =
+pub strict_encoding-requires : goal.strict_encoding-requires
+strict_encoding-requires c =
     let fits : FitsSigned w16 c.args.self.now = search rules in
     simp to_z-of_z (strict_signed 2 c.args.self.now (omega arith) (omega arith) (omega (arith, ints)))

@@ -2,9 +2,9 @@ use Rattle.std.proofs.Common.{arith, FitsSigned, rules}
 use Rattle.std.specs.Int.{w32}
 use Rattle.std.proofs.lemmas.Int.{ints, to_z-of_z}
 use Rattle.asn1vec_engine.proofs.ShownLaws.{strict_signed}
-use Rattle.asn1vec_engine.proofs.signed.I32Shown.written.Goals as goal
+use Rattle.asn1vec_engine.proofs.signed.I32Shown.encoding.Goals as goal
 
-pub strict_text-requires : goal.strict_text-requires
-strict_text-requires c =
+pub strict_encoding-requires : goal.strict_encoding-requires
+strict_encoding-requires c =
     let fits : FitsSigned w32 c.args.self.now = search rules in
     simp to_z-of_z (strict_signed 4 c.args.self.now (omega arith) (omega arith) (omega (arith, ints)))

@@ -1,0 +1,27 @@
+-- What a name stands for.
+use Rattle.std.specs.Prelude.{List, ℕ, Bool}
+use Rattle.asn1vec_engine.specs.declared.request.Rule.{Rule}
+use Rattle.asn1vec_engine.specs.declared.request.Rule.TheVariants.{Ber as ber, Der as der}
+use Rattle.asn1vec_engine.specs.Shown.{Encoding, Reading, ReadsByBer, ReadsByDer}
+
+-- The data of a name.
+pub record Meaning : Type 1 where
+  -- the type of its values
+  pub T : Type 0
+  -- whether the name is there by a rule
+  pub is_there : Rule → Bool
+  -- what reading octets by the rule may answer
+  pub Reads : Rule → List ℕ → Reading T → Type 0
+  -- how a value is shown
+  pub text_of : T → List ℕ
+  -- what may be said of its encoding
+  pub Encodes : T → Encoding → Type 0
+  -- whether want of memory may be answered
+  pub reading_takes_memory : Bool
+  pub writing_takes_memory : Bool
+
+-- read by either rule
+abbrev pub ReadsByEither : {T V : Type 0} → (Ber Der : List ℕ → V → Type 0) → (T → V) → Bool →
+    (ber_gives der_gives : List ℕ → Reading T → Type 0) → Rule → List ℕ → Reading T → Type 0
+ReadsByEither Ber Der value takes_memory ber_gives der_gives ber = ReadsByBer Ber value takes_memory ber_gives
+ReadsByEither Ber Der value takes_memory ber_gives der_gives der = ReadsByDer Der value takes_memory der_gives
