@@ -226,12 +226,32 @@ fn told_writer_is_asked_once_a_call(rt: HostRuntime) -> Result<(), Fail> {
     let interrupted = Err(ErrorKind::Interrupted);
     let rows: [(&[Result<usize, ErrorKind>], &[u8], &str); 7] = [
         (&[], &[1, 2, 3, 4], "(Some(4), None, false, [4])"),
-        (&[Ok(1), Ok(2)], &[1, 2, 3, 4], "(Some(4), None, false, [4, 3, 1])"),
-        (&[interrupted], &[1, 2, 3, 4], "(None, Some(Interrupted), true, [4])"),
-        (&[Ok(1), interrupted], &[1, 2, 3, 4], "(None, Some(Interrupted), true, [4, 3])"),
-        (&[Ok(3), Ok(0)], &[1, 2, 3, 4], "(None, Some(WriteZero), true, [4, 1])"),
+        (
+            &[Ok(1), Ok(2)],
+            &[1, 2, 3, 4],
+            "(Some(4), None, false, [4, 3, 1])",
+        ),
+        (
+            &[interrupted],
+            &[1, 2, 3, 4],
+            "(None, Some(Interrupted), true, [4])",
+        ),
+        (
+            &[Ok(1), interrupted],
+            &[1, 2, 3, 4],
+            "(None, Some(Interrupted), true, [4, 3])",
+        ),
+        (
+            &[Ok(3), Ok(0)],
+            &[1, 2, 3, 4],
+            "(None, Some(WriteZero), true, [4, 1])",
+        ),
         (&[interrupted], &[], "(Some(0), None, false, [])"),
-        (&[Err(ErrorKind::BrokenPipe)], &[1], "(None, Some(BrokenPipe), true, [1])"),
+        (
+            &[Err(ErrorKind::BrokenPipe)],
+            &[1],
+            "(None, Some(BrokenPipe), true, [1])",
+        ),
     ];
     for (answers, piece, shown) in rows {
         let mut w = Told::new(Recorder::new(rt.alloc(), answers));
