@@ -6,6 +6,8 @@
 mod elements;
 mod items;
 mod numbers;
+#[cfg(test)]
+mod tests;
 
 pub use elements::{read_element, read_header};
 pub use items::{count_of_numbers, items_in, numbers_in};
