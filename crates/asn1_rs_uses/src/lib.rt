@@ -10,7 +10,7 @@ mod numbers;
 mod tests;
 
 pub use elements::{read_element, read_header};
-pub use items::{count_of_numbers, items_in, numbers_in};
+pub use items::{count_of_numbers, elements_in, items_in, numbers_in};
 pub use numbers::{
     count_number, is_same_number, is_strict_front, read_number, read_number_by_ber, write_number,
 };
