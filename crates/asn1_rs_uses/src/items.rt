@@ -1,11 +1,13 @@
 //! Items in contents octets.
 ghost use Rattle.std.specs.Prelude.{◌≡◌, ◌⊎◌, List, length, map, pos, ℤ, IfOk, IfErr};
 ghost use Rattle.asn1_rs.specs.declared.error.Error.TheVariants as faults;
+ghost use Rattle.asn1_rs.specs.Element.{ElementBody, element_of};
+ghost use Rattle.asn1_rs.specs.Grammar.{BerWord};
 ghost use Rattle.asn1_rs.specs.Items.{IsJoined, AreJoinedWords};
 ghost use Rattle.asn1_rs_uses.specs.Items.{EndsBefore};
 ghost use Rattle.asn1_rs_uses.specs.Numbers.{NumberByDer};
 
-use asn1_rs::{DerParser, Error, ReadsWords, SequenceIterator, walks_take_words};
+use asn1_rs::{Any, BerParser, DerParser, Error, ReadsWords, SequenceIterator, walks_take_words};
 use std::alloc::Global;
 
 /// The items in contents octets, in their order, by the reader `F`.
@@ -43,6 +45,13 @@ pub fn numbers_in(alloc: Global, content: &[u8]) -> Result<Vec<u64>, Error>
     ensures whole { AreJoinedWords NumberByDer content.now → IfErr result (λ e. e ≡ faults.OutOfMemory) }
 {
     items_in::<u64, DerParser, Error>(alloc, content)
+}
+
+/// The elements in contents octets, by BER.
+pub fn elements_in<'a>(alloc: Global, content: &'a [u8]) -> Result<Vec<Any<'a>>, Error>
+    ensures joined { IfOk result (λ items. IsJoined (BerWord ElementBody) content.now (map element_of items.items)) }
+{
+    items_in::<Any<'a>, BerParser, Error>(alloc, content)
 }
 
 /// How many numbers stand in contents octets that are numbers by DER, joined.

@@ -8,10 +8,12 @@ mod fingerprint;
 mod items;
 mod numbers;
 mod serial_number;
+#[cfg(test)]
+mod tests;
 
 pub use elements::{read_element, read_header};
 pub use fingerprint::Fingerprint;
-pub use items::{count_of_numbers, items_in, numbers_in};
+pub use items::{count_of_numbers, elements_in, items_in, numbers_in};
 pub use numbers::{
     count_number, is_same_number, is_strict_front, read_number, read_number_by_ber, write_number,
 };
