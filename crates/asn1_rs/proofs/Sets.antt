@@ -3,7 +3,7 @@ use Rattle.std.specs.Prelude.{◌≡◌, ℕ, ◌+◌, ◌<◌, List, [], ◌∷
 use Rattle.std.specs.List.Sorted.{IsSortedBy, IsPermutation}
 use Rattle.std.specs.Ordering.{nat_cmp, is_lt}
 use Rattle.std.specs.Cmp.Lexicographic.{slice_cmp}
-use Rattle.std.proofs.Common.{refl, sym, ap, subst, arith, get_or, zero, suc, ◌++◌, length-append}
+use Rattle.std.proofs.Common.{refl, ap, subst, arith, get_or, zero, suc, ◌++◌, length-append}
 use Rattle.std.proofs.lemmas.List.Sorted.{IsPermutation-trans, IsPermutation-sym, IsPermutation-map}
 use Rattle.asn1_rs.specs.Sets.{Ascending}
 use Rattle.asn1_rs.specs.Laws.Ascend.{Ascending-unique}

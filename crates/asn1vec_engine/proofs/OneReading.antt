@@ -8,7 +8,6 @@ use Rattle.x690.specs.Nested.{IsElement, ElementFault}
 use Rattle.asn1_rs.specs.declared.error.Err.{Err as Refusal}
 use Rattle.asn1_rs.specs.declared.error.Err.TheVariants.{Error as refused}
 use Rattle.asn1_rs.specs.declared.error.Error.{Error}
-use Rattle.asn1_rs.specs.declared.error.Error.TheVariants as faults
 use Rattle.asn1_rs.specs.Header.{der_breach, ber_breach}
 use Rattle.asn1_rs.specs.declared.error.SerializeError.{SerializeError}
 use Rattle.asn1_rs.specs.declared.error.SerializeError.TheVariants as refusals

@@ -1,5 +1,5 @@
 -- Elements whose value is their contents octets are lawful.
-use Rattle.std.proofs.Common.{◌≡◌, ◌∙◌, ap, sym, subst, refl, inl, inr, false, List, ℕ, ◌<◌}
+use Rattle.std.proofs.Common.{◌≡◌, ◌∙◌, ap, sym, subst, refl, inr, false, List, ℕ, ◌<◌}
 use Rattle.std.specs.Prelude.{Result, Ok, Err}
 use Rattle.x690.specs.Octets.{IsOctets}
 use Rattle.x690.specs.Identifiers.{Identifier}

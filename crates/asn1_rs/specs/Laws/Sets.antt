@@ -1,6 +1,6 @@
 -- Laws of sets.
-use Rattle.std.proofs.Common.{arith, ◌≡◌, ◌∙◌, ap, sym, subst, refl, ℕ, ◌<◌, ◌≤◌, ◌+◌, ◌^◌, ◌⊎◌, inl, inr, ⊎_elim, Bool, true, false, List, [], ◌∷◌, ◌++◌, length, map, zero, suc, get_or, length-append}
-use Rattle.std.specs.Prelude.{Result, Ok, Err, IsTrue, ◌↔◌, ◌&&◌, ◌||◌, Contains, slice_index_or, not}
+use Rattle.std.proofs.Common.{arith, ◌≡◌, ◌∙◌, ap, sym, subst, refl, ℕ, ◌<◌, ◌^◌, ◌⊎◌, inl, inr, ⊎_elim, Bool, true, false, List, [], ◌∷◌, ◌++◌, length, map, zero, suc, get_or, length-append}
+use Rattle.std.specs.Prelude.{Result, Ok, Err, IsTrue, ◌↔◌, ◌&&◌, ◌||◌, Contains, slice_index_or}
 use Rattle.std.specs.List.{All, AllZip, AllByRecursion, flat_map, list_all, list_any}
 use Rattle.std.specs.List.Sorted.{IsPermutation, IsStrictlySortedBy}
 use Rattle.std.specs.declared.cmp.Ordering.{Ordering}
@@ -10,7 +10,7 @@ use Rattle.std.specs.Cmp.{IsTotalOrder, Equal-is, alike_right}
 use Rattle.std.specs.Cmp.Lexicographic.{pointwise}
 use Rattle.std.specs.BTreeSet.{BTreeSet, IsFromIterResult}
 use Rattle.std.proofs.lemmas.List.Elements.{All-nil, All-cons}
-use Rattle.std.proofs.lemmas.List.Sorted.{IsPermutation-refl, IsPermutation-trans, IsPermutation-sym, IsPermutation-map, All-permutation, Contains-permutation}
+use Rattle.std.proofs.lemmas.List.Sorted.{IsPermutation-refl, IsPermutation-trans, IsPermutation-sym, All-permutation, Contains-permutation}
 use Rattle.x690.specs.Strict.{header_octets}
 use Rattle.x690.specs.Octets.{IsOctets}
 use Rattle.x690.specs.Identifiers.{Identifier}
@@ -22,10 +22,10 @@ use Rattle.asn1_rs.specs.declared.asn1_types.set_of.SetOf.{SetOf}
 use Rattle.asn1_rs.specs.Answers.{Exactly, TellsMemory}
 use Rattle.asn1_rs.specs.declared.error.SerializeError.{SerializeError}
 use Rattle.asn1_rs.specs.Form.{IsOneForm, IsOneValue, FitsElement, HasValues, IsStrict}
-use Rattle.asn1_rs.specs.Grammar.{IsOneFront, IsOneBody, TakesBody, FormChecks, FormBodies, FormTakes, FormNumber, NoCheck, made, max_depth}
+use Rattle.asn1_rs.specs.Grammar.{IsOneFront, IsOneBody, TakesBody, FormChecks, FormBodies, FormTakes, FormNumber, NoCheck, max_depth}
 use Rattle.asn1_rs.specs.ItemGrammar.{ItemGrammar, IsLawfulItem}
 use Rattle.asn1_rs.specs.Items.{IsJoined}
-use Rattle.asn1_rs.specs.Lists.{joining, ListBody, ListOf, ListCheck, StrictWord, SomeRefuses, ListTakes, ListReads}
+use Rattle.asn1_rs.specs.Lists.{joining, ListCheck, StrictWord, SomeRefuses, ListTakes, ListReads}
 use Rattle.asn1_rs.specs.Wrote.{HasNone, Either, IsWritable, WrittenRefusal, IntoVector}
 use Rattle.asn1_rs.specs.Sets.{Multiset, multiset, ValueSet, value_set, HaveSame, AllDiffer, Members, set_of, pairs_pass, members_if, members, is_below, Ascending, Joins, AnyList, Seen, SetBody, SetRow, SetForm, SetValues, SetInDer, set_grammar, multiset_grammar, member_grammar, items_of, HasItems}
 use Rattle.asn1_rs.specs.Laws.Elements.{der_elements, ber_elements}
@@ -39,7 +39,7 @@ use Rattle.asn1_rs.specs.Laws.Differ.{permutation_from_same, AllDiffer-permutati
 use mathlib.Core.HProp.{HProp}
 use mathlib.Core.Bool.{true≢false, Bool-set}
 use mathlib.Core.Logic.{∥∥₁_prop, ∥∥₁_elim, ∥∥₁_map}
-use mathlib.Core.Quot.{Quot, mk, lift_prop, sound}
+use mathlib.Core.Quot.{lift_prop, sound}
 use mathlib.Core.List.{is_set}
 use native.Mathlib.Nat.{ℕ_set}
 

@@ -1,15 +1,11 @@
-use Rattle.std.proofs.Common.{rules, ◌≡◌, ◌++◌, ◌∙◌, ◌<◌, ◌≤◌, refl, true, ℕ, List, [], ◌∷◌, sym, ap, subst, inl, inr, arith, map, take, length, slice_get, Some}
+use Rattle.std.proofs.Common.{rules, ◌≡◌, ◌++◌, ◌∙◌, ◌<◌, ap, inl, arith, map, length, slice_get, Some}
 use Rattle.std.proofs.lemmas.Bool.{false≢true}
-use Rattle.std.proofs.lemmas.List.{map_more, map-append, take_all}
+use Rattle.std.proofs.lemmas.List.{take_all}
 use Rattle.std.proofs.lemmas.Result.{err_from_is_err_and}
 use Rattle.std.proofs.lemmas.Map.Iter.{iter_end, iter_turn}
 use Rattle.std.specs.Map.Iter.{deref}
-use Rattle.std.specs.List.{All, flat_map}
-use Rattle.asn1_rs.specs.Wrote.{Either, IntoVector, HasNone}
-use Rattle.asn1_rs.specs.Lists.{SomeRefuses}
-use Rattle.asn1_rs.specs.Laws.Sets.{none_into}
-use Rattle.asn1_rs.proofs.Lists.{item_all, Refuses_item, RefusesCount_item, MayRefuseCount_item_sum, count_next, none_more, none_of_all}
-use Rattle.asn1_rs.proofs.Writing.{vector_refuses_neither}
+use Rattle.std.specs.List.{flat_map}
+use Rattle.asn1_rs.proofs.Lists.{item_all, RefusesCount_item, MayRefuseCount_item_sum, count_next, none_more, none_of_all}
 use Rattle.asn1_rs.proofs.Sets.{got_at, one_longer}
 use Rattle.asn1_rs.proofs.asn1_types.btree_set.count_members.Goals as goal
 

@@ -1,6 +1,6 @@
-use Rattle.std.proofs.Common.{◌≡◌, ◌++◌, map, take, length}
+use Rattle.std.proofs.Common.{◌≡◌, ◌++◌, take, length}
 use Rattle.std.specs.List.{All, flat_map}
-use Rattle.asn1_rs.specs.Wrote.{HasNone, Either, IntoVector}
+use Rattle.asn1_rs.specs.Wrote.{HasNone}
 use Rattle.asn1_rs.proofs.asn1_types.btree_set.count_members.Given as goal
 
 abbrev pub invariant-loop-item : goal.invariant-loop-item

@@ -1,5 +1,5 @@
 use Rattle.std.proofs.Common.{◌≡◌, ◌++◌, map, take, length}
-use Rattle.std.specs.List.{All, flat_map}
+use Rattle.std.specs.List.{All}
 use Rattle.asn1_rs.specs.Wrote.{HasNone, Either, IntoVector}
 use Rattle.asn1_rs.proofs.asn1_types.btree_set.encode_members.Given as goal
 

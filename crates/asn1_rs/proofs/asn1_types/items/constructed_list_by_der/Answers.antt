@@ -1,4 +1,4 @@
-use Rattle.std.proofs.Common.{refl, inl, inr}
+use Rattle.std.proofs.Common.{refl, inr}
 use Rattle.asn1_rs.specs.Any.{parts_of}
 use Rattle.asn1_rs.proofs.asn1_types.items.constructed_list_by_der.Goals as goal
 

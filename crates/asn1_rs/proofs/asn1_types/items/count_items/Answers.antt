@@ -1,9 +1,7 @@
-use Rattle.std.proofs.Common.{◌++◌, ℕ, List, sym, inl, arith}
+use Rattle.std.proofs.Common.{◌++◌, inl, arith}
 use Rattle.std.proofs.lemmas.Bool.{false≢true}
 use Rattle.std.proofs.lemmas.Result.{err_from_is_err_and}
 use Rattle.asn1_rs.proofs.Lists.{item_all, RefusesCount_item, MayRefuseCount_item_sum, count_next, none_more, none_of_all}
-use Rattle.asn1_rs.specs.Lists.{SomeRefuses}
-use Rattle.asn1_rs.proofs.Writing.{only_may_count}
 use Rattle.asn1_rs.proofs.asn1_types.items.count_items.Goals as goal
 
 pub returns-in_err-count-clause-refused : goal.returns-in_err-count-clause-refused

@@ -1,4 +1,4 @@
-use Rattle.std.proofs.Common.{◌≡◌, List, map, Ok, subst, sym, inr}
+use Rattle.std.proofs.Common.{List, map, Ok, subst, sym, inr}
 use Rattle.std.specs.Iterator.{Yields}
 use Rattle.asn1_rs.specs.Items.{TakesItem, octets_left}
 use Rattle.asn1_rs.proofs.Lists.{items_push, items_end}

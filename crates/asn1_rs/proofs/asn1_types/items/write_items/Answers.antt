@@ -1,4 +1,4 @@
-use Rattle.std.proofs.Common.{◌++◌, ℕ, List, sym, inl, inr, arith}
+use Rattle.std.proofs.Common.{◌++◌, inl, arith}
 use Rattle.std.proofs.lemmas.Result.{err_from_is_err_and}
 use Rattle.std.proofs.lemmas.Bool.{false≢true}
 use Rattle.asn1_rs.specs.Wrote.{Either, some_takes}

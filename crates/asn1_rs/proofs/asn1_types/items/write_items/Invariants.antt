@@ -1,4 +1,4 @@
-use Rattle.std.proofs.Common.{◌≡◌, ◌++◌, Ok, length, take}
+use Rattle.std.proofs.Common.{◌++◌, Ok, take}
 use Rattle.std.specs.List.{All, flat_map}
 use Rattle.asn1_rs.specs.Wrote.{Wrote, HasNone, Either}
 use Rattle.asn1_rs.proofs.asn1_types.items.write_items.Given as goal

@@ -1,7 +1,6 @@
-use Rattle.std.proofs.Common.{◌≡◌, ◌++◌, map, ◌≤◌, length, arith, ap, take, ◌∙◌}
+use Rattle.std.proofs.Common.{◌≡◌, map, arith, ap, ◌∙◌}
 use Rattle.std.proofs.lemmas.Grind.{common_steps}
 use Rattle.asn1_rs.specs.Lists.{joining}
-use Rattle.asn1_rs.specs.Laws.Arranged.{arranged}
 use Rattle.asn1_rs.proofs.Sets.{sorted_is_arranged}
 use Rattle.asn1_rs.proofs.asn1_types.sets.join_ascending.Goals as goal
 

@@ -1,4 +1,4 @@
-use Rattle.std.proofs.Common.{◌≡◌, ◌++◌, map, take}
+use Rattle.std.proofs.Common.{◌≡◌, map, take}
 use Rattle.asn1_rs.specs.Lists.{joining}
 use Rattle.asn1_rs.proofs.asn1_types.sets.join_ascending.Given as goal
 

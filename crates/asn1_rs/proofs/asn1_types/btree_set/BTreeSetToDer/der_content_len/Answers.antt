@@ -1,4 +1,4 @@
-use Rattle.std.proofs.Common.{◌++◌, length, ◌≡◌}
+use Rattle.std.proofs.Common.{◌++◌}
 use Rattle.asn1_rs.specs.Laws.Arranged.{arranged_length}
 use Rattle.asn1_rs.proofs.asn1_types.btree_set.BTreeSetToDer.der_content_len.Goals as goal
 

@@ -1,11 +1,9 @@
-use Rattle.std.proofs.Common.{◌++◌, ◌≡◌, length, ap, inl, sym, subst, true, map, refl}
+use Rattle.std.proofs.Common.{◌++◌, true}
 use Rattle.std.proofs.lemmas.Result.{err_from_is_err_and}
 use Rattle.std.proofs.lemmas.Bool.{false≢true}
 use Rattle.asn1_rs.specs.Lists.{SomeRefuses}
-use Rattle.asn1_rs.specs.Lists.{joining}
 use Rattle.asn1_rs.specs.Wrote.{Either, IntoVector}
-use Rattle.asn1_rs.specs.Laws.Arranged.{arranged, arranged_length}
-use Rattle.asn1_rs.specs.Laws.Sets.{set_content}
+use Rattle.asn1_rs.specs.Laws.Arranged.{arranged_length}
 use Rattle.asn1_rs.proofs.Writing.{Wrote_nothing, only_may}
 use Rattle.asn1_rs.proofs.asn1_types.btree_set.BTreeSetToDer.write_der_content.Goals as goal
 
