@@ -73,22 +73,22 @@ abbrev pub listed : {T E A : Type 0} → Result (Vec T A) E → Result (List T) 
 listed (Ok v) = Ok v.items
 listed (Err e) = Err e
 
--- What the conversion of an element to a list may answer: what holds its items; or the refusal of the tag number, that of the constructed bit, or that of the items.
-abbrev pub ListTakes : {T W E : Type 0} → ℕ → (List T → W → Type 0) → (List ℕ → Result (List ℕ × T) (Refusal E) → Type 0) → (Error → E → Type 0) → Parts → Result W E → Type 0
-ListTakes {T} number holds reads from p (Ok w) = IsListOr number p (Ok tt) × ((items : List T) × holds items w × ItemsGive reads from p.content (Ok items))
-ListTakes number holds reads from p (Err e) = ((refusal : Error) × IsListOr number p (Err refusal) × from refusal e) ⊎ (IsListOr number p (Ok tt) × ItemsGive reads from p.content (Err e))
+-- What making a list of the items of a walk may answer: what holds the items; or the refusal that ended the walk, or want of memory.
+abbrev pub ListGives : {T W E : Type 0} → (List T → W → Type 0) → (List ℕ → Result (List ℕ × T) (Refusal E) → Type 0) → (Error → E → Type 0) → List ℕ → Result W E → Type 0
+ListGives {T} holds reads from content (Ok w) = (items : List T) × holds items w × ItemsGive reads from content (Ok items)
+ListGives holds reads from content (Err e) = ItemsGive reads from content (Err e)
 
--- what is made of the items, or want of memory
-abbrev pub IsMadeOf : {T W E : Type 0} → (List T → W → Type 0) → (Error → E → Type 0) → List T → Result W E → Type 0
-IsMadeOf holds from items (Ok w) = holds items w
-IsMadeOf holds from items (Err e) = from faults.OutOfMemory e
+-- What the conversion of an element to a list may answer: the list of its items; or the refusal of the tag number, that of the constructed bit, or that of the items.
+abbrev pub ListTakes : {T W E : Type 0} → ℕ → (List T → W → Type 0) → (List ℕ → Result (List ℕ × T) (Refusal E) → Type 0) → (Error → E → Type 0) → Parts → Result W E → Type 0
+ListTakes number holds reads from p (Ok w) = IsListOr number p (Ok tt) × ListGives holds reads from p.content (Ok w)
+ListTakes number holds reads from p (Err e) = ((refusal : Error) × IsListOr number p (Err refusal) × from refusal e) ⊎ (IsListOr number p (Ok tt) × ListGives holds reads from p.content (Err e))
 
 -- what a list's own reader by DER may answer to an element: the same, but the constructed bit is not looked at
 abbrev pub ListReads : {T W E : Type 0} → ℕ → (List T → W → Type 0) → (List ℕ → Result (List ℕ × T) (Refusal E) → Type 0) → (Error → E → Type 0) → Parts → Result W E → Type 0
-ListReads {T} number holds reads from p (Ok w) = (p.id.number ≡ number) × ((items : List T) × holds items w × ItemsGive reads from p.content (Ok items))
+ListReads number holds reads from p (Ok w) = (p.id.number ≡ number) × ListGives holds reads from p.content (Ok w)
 ListReads number holds reads from p (Err e) =
     ((p.id.number ≢ number) × from (faults.UnexpectedTag (Some (record { 0 = number })) (record { 0 = p.id.number })) e) ⊎
-    ((p.id.number ≡ number) × ItemsGive reads from p.content (Err e))
+    ((p.id.number ≡ number) × ListGives holds reads from p.content (Err e))
 
 -- a vector has these items
 abbrev pub has_items : {T A : Type 0} → List T → Vec T A → Type 0

@@ -150,6 +150,17 @@ lines_alike [] texts others a b = (a, b)
 lines_alike (line ∷ lines) texts others (ended, rest, (text, a, e), more, is) (again, tail, (other, b, f), after, too) =
     (text, other, answered_alike line text other a b, (rest, tail, ended_by text rest texts ended e is, ended_by other tail others again f too, lines_alike lines rest tail more after))
 
+-- a beginning of answers, completed
+pub begun_alike : (lines : List (List ℕ)) (front texts : List ℕ) → BeginAnswers lines front → AreAnswers lines texts → (lost : List ℕ) × AllAlike lines (front ++ lost) texts
+begun_alike [] front texts e b = ([], (ap (λ (x : List ℕ). x ++ []) e, b))
+begun_alike (line ∷ lines) front texts (inl e) b = (texts, subst (λ (x : List ℕ). AllAlike (line ∷ lines) (x ++ texts) texts) (sym e) (lines_alike (line ∷ lines) texts texts b b))
+begun_alike (line ∷ lines) front texts (inr (inl (lost, (text, a, e)))) (ended, rest, (other, b, f), more, is) =
+    (lost ++ rest, (text, other, answered_alike line text other a b, (rest, rest, ended_by text rest (front ++ (lost ++ rest)) (front ++ lost) e (sym (append_assoc front lost rest)), ended_by other rest texts ended f is, lines_alike lines rest rest more more)))
+begun_alike (line ∷ lines) front texts (inr (inr (ended, rest, (text, a, e), more, is))) (again, tail, (other, b, f), after, too) =
+    let begun = begun_alike lines rest tail more after in
+    let front_lost = ap (λ (x : List ℕ). x ++ begun.0) is ∙ append_assoc ended rest begun.0 in
+    (begun.0, (text, other, answered_alike line text other a b, (rest ++ begun.0, tail, ended_by text (rest ++ begun.0) (front ++ begun.0) ended e front_lost, ended_by other tail texts again f too, begun.1)))
+
 line_once : (line ended other : List ℕ) → TakesNoMemory line → IsAnswerLine line ended → IsAnswerLine line other → ended ≡ other
 line_once line ended other none (text, a, e) (again, b, f) = e ∙ ap (λ (x : List ℕ). x ++ 10 ∷ []) (answered_once line text again none a b) ∙ sym f
 

@@ -150,10 +150,13 @@ pub fn run<R: Read, W: DerWrite>(
 }
 
 /// An input has one output, but for want of memory in a line where reading or writing what it names
-/// takes any. What is written up to a failure is a beginning of it, where no line takes any.
+/// takes any. What is written up to a failure is a beginning of it, but for the same.
 pub fn one_output()
     ensures alike { (octets texts others : List ℕ)
         → AnswersTo octets texts → AnswersTo octets others → AllAlike (lines_of octets) texts others }
+    ensures begins_alike { (octets front texts : List ℕ)
+        → BeginsAnswersTo octets front → AnswersTo octets texts
+        → (lost : List ℕ) × AllAlike (lines_of octets) (front ++ lost) texts }
     ensures whole { (octets texts others : List ℕ) → All TakesNoMemory (lines_of octets)
         → AnswersTo octets texts → AnswersTo octets others → texts ≡ others }
     ensures beginning { (octets front texts : List ℕ) → All TakesNoMemory (lines_of octets)

@@ -19,7 +19,7 @@ use Rattle.asn1_rs.specs.Items.{TakesItem, IsWalk, AreWords, TellsNothing, Tells
 use Rattle.asn1_rs.specs.Laws.Any.{BerElementGives}
 use Rattle.asn1_rs.specs.Laws.Element.{the_element_parts}
 use Rattle.asn1_rs.specs.Laws.Elements.{ber_elements, element_exact, passes_all}
-use Rattle.asn1_rs.specs.Laws.Items.{whole_walk}
+use Rattle.asn1_rs.specs.Laws.Items.{octets_kept, whole_walk}
 
 abbrev pub IsSame : Error → Error → Type 0
 IsSame e f = f ≡ e
@@ -62,5 +62,5 @@ indefinite_walk input x content answers left g f e y =
     let n = front.fits.1 in
     let row = indefinite_is_row max_depth front.word (parts_of x.1) front.fits.0 f n in
     let o = subst IsOctets (sym e) (nested_content_is_octets max_depth front.word (parts_of x.1) front.fits.0 n) in
-    let w = whole_walk ElementsGive IsSame (IsElement max_depth) parts_of false EndsWithin ber_elements.one elements_exact answers content left o (row.1, row_words row.0 row.1 row.2 row.3 row.4, e ∙ row.5) y in
+    let w = whole_walk ElementsGive IsSame (IsElement max_depth) parts_of false EndsWithin ber_elements.one IsOctets octets_kept elements_exact answers content left o (row.1, row_words row.0 row.1 row.2 row.3 row.4, e ∙ row.5) y in
     record { words = w.words; items = w.items; others = w.others; ends = w.ends; answers_are = w.answers_are; values = w.values; joined = w.joined; end = no_end w.others w.ends left w.end }

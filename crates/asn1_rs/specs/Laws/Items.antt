@@ -78,10 +78,15 @@ module _ {T E : Type 0} (reads : List ℕ → Result (List ℕ × T) (Refusal E)
         let n = nothing_follows (a ∷ answers) left (subst (λ (k : List ℕ). Yields Steps k (a ∷ answers) left) s.2 y) in
         cc
 
--- Walks by a reader that is exact by a grammar whose words begin one input in one way.
+-- what follows the front of octets are octets
+pub octets_kept : (octets word rest : List ℕ) → IsOctets octets → octets ≡ word ++ rest → IsOctets rest
+octets_kept octets word rest o e = octets_back word rest (subst IsOctets e o)
+
+-- Walks by a reader that is exact by a grammar whose words begin one input in one way, at octets of which something holds that holds of what follows a word too.
 module _ {T V E : Type 0} (reads : List ℕ → Result (List ℕ × T) (Refusal E) → Type 0) (from : Error → E → Type 0) (G : List ℕ → V → Type 0) (value : T → V) (takes : Bool) (IsCut : List ℕ → Type 0)
-    (one : IsOneFront G)
-    (exact : (octets : List ℕ) (answer : Result (List ℕ × T) (Refusal E)) → IsOctets octets → reads octets answer → Exactly IsCut G value (TellsMemory takes from) octets answer) where
+    (one : IsOneFront G) (Keeps : List ℕ → Type 0)
+    (kept : (octets word rest : List ℕ) → Keeps octets → octets ≡ word ++ rest → Keeps rest)
+    (exact : (octets : List ℕ) (answer : Result (List ℕ × T) (Refusal E)) → Keeps octets → reads octets answer → Exactly IsCut G value (TellsMemory takes from) octets answer) where
   -- the rest behind a word is shorter
   not_as_long : (octets rest : List ℕ) (v : V) → Front G octets v rest → length octets ≤ length rest → ⊥
   not_as_long octets rest v f l = shown f.word f.fits f.is
@@ -90,11 +95,8 @@ module _ {T V E : Type 0} (reads : List ℕ → Result (List ℕ × T) (Refusal 
       shown [] g e = one.some v g
       shown (x ∷ xs) g e = omega (arith, ap length e, length-append xs rest, l)
 
-  rest_is_octets : (octets rest : List ℕ) (v : V) → IsOctets octets → Front G octets v rest → IsOctets rest
-  rest_is_octets octets rest v o f = octets_back f.word rest (subst IsOctets f.is o)
-
   -- an answer that ends the walk tells that no word begins what is left, or of want of memory
-  end_tells : (octets : List ℕ) (answer : Result (List ℕ × T) (Refusal E)) (e : E) → IsOctets octets → reads octets answer → EndsItem from octets answer e → TellsNoWord G (IsMemory takes from) octets e
+  end_tells : (octets : List ℕ) (answer : Result (List ℕ × T) (Refusal E)) (e : E) → Keeps octets → reads octets answer → EndsItem from octets answer e → TellsNoWord G (IsMemory takes from) octets e
   end_tells octets (Ok x) e o g w = absurd (not_as_long octets x.0 (value x.1) (exact octets (Ok x) o g) w.0)
   end_tells octets (Err r) e o g w =
       elim (exact octets (Err r) o g) [
@@ -107,13 +109,13 @@ module _ {T V E : Type 0} (reads : List ℕ → Result (List ℕ × T) (Refusal 
       memory_told (cut n) f s t m = cc
       memory_told (failed x) f s t m = cc
 
-  pub lawful_walk : (answers : List (Result T E)) (content left : List ℕ) → IsOctets content → Yields (TakesItem reads from) content answers left → IsWalk G value (TellsNoWord G (IsMemory takes from)) content answers left
-  lawful_walk = walk_made reads from G value (TellsNoWord G (IsMemory takes from)) IsOctets
-      (λ octets rest item o n g. let f = exact octets (Ok (rest, item)) o g in (f, rest_is_octets octets rest (value item) o f))
+  pub lawful_walk : (answers : List (Result T E)) (content left : List ℕ) → Keeps content → Yields (TakesItem reads from) content answers left → IsWalk G value (TellsNoWord G (IsMemory takes from)) content answers left
+  lawful_walk = walk_made reads from G value (TellsNoWord G (IsMemory takes from)) Keeps
+      (λ octets rest item o n g. let f = exact octets (Ok (rest, item)) o g in (f, kept octets f.word rest o f.is))
       (λ octets answer e o n g w. end_tells octets answer e o g w)
 
-  abbrev JoinedOctets : List ℕ → Type 0
-  JoinedOctets octets = IsOctets octets × AreJoinedWords G octets
+  abbrev KeepsJoined : List ℕ → Type 0
+  KeepsJoined octets = Keeps octets × AreJoinedWords G octets
 
   -- behind the first of joined words the others are joined
   others_joined : (octets rest : List ℕ) (v : V) → AreJoinedWords G octets → Front G octets v rest → AreJoinedWords G rest
@@ -132,9 +134,9 @@ module _ {T V E : Type 0} (reads : List ℕ → Result (List ℕ × T) (Refusal 
   begins_joined octets n ([], a, e) none = n e
   begins_joined octets n (w ∷ words, a, e) none = none w (concat words) a.0.0 e a.0.1
 
-  pub whole_walk : (answers : List (Result T E)) (content left : List ℕ) → IsOctets content → AreJoinedWords G content → Yields (TakesItem reads from) content answers left → IsWalk G value (TellsMemoryAlone (IsMemory takes from)) content answers left
-  whole_walk answers content left o a = walk_made reads from G value (TellsMemoryAlone (IsMemory takes from)) JoinedOctets
-      (λ octets rest item k n g. let f = exact octets (Ok (rest, item)) k.0 g in (f, (rest_is_octets octets rest (value item) k.0 f, others_joined octets rest (value item) k.1 f)))
+  pub whole_walk : (answers : List (Result T E)) (content left : List ℕ) → Keeps content → AreJoinedWords G content → Yields (TakesItem reads from) content answers left → IsWalk G value (TellsMemoryAlone (IsMemory takes from)) content answers left
+  whole_walk answers content left o a = walk_made reads from G value (TellsMemoryAlone (IsMemory takes from)) KeepsJoined
+      (λ octets rest item k n g. let f = exact octets (Ok (rest, item)) k.0 g in (f, (kept octets f.word rest k.0 f.is, others_joined octets rest (value item) k.1 f)))
       (λ octets answer e k n g w. elim (end_tells octets answer e k.0 g w) [ inl m ↦ m | inr none ↦ absurd (begins_joined octets n k.1 none) ])
       answers content left (o, a)
 

@@ -1,5 +1,5 @@
 -- Laws of lists.
-use Rattle.std.proofs.Common.{arith, ◌≡◌, ◌≢◌, ◌∙◌, ap, sym, subst, refl, ℕ, ◌+◌, ◌^◌, ◌<◌, ◌≤◌, ◌⊎◌, inl, inr, Bool, true, false, List, [], ◌∷◌, ◌++◌, length, map, length-append}
+use Rattle.std.proofs.Common.{arith, ◌≡◌, ◌≢◌, ◌∙◌, ap, sym, subst, refl, ℕ, ◌+◌, ◌^◌, ◌<◌, ◌⊎◌, inl, inr, Bool, true, false, List, [], ◌∷◌, ◌++◌, length, map, append_assoc, length-append}
 use Rattle.std.proofs.lemmas.List.{append_cancel_left}
 use Rattle.std.proofs.lemmas.List.Elements.{All-nil, All-cons, All-head, All-tail}
 use Rattle.std.proofs.lemmas.List.Concat.{flat_map-cons}
@@ -15,7 +15,7 @@ use Rattle.x690.specs.Identifiers.{Identifier, IsCutIdentifier}
 use Rattle.x690.specs.Elements.{Parts, IsDerElement}
 use Rattle.x690.specs.Faults.{DerElementFault}
 use Rattle.x690.specs.Nested.{IsElement}
-use Rattle.x690.specs.Laws.Octets.{octets_append, octets_back, below_octets}
+use Rattle.x690.specs.Laws.Octets.{octets_append, below_octets}
 use Rattle.x690.specs.Laws.Elements.{definite_element_two, definite_element_is_octets}
 use Rattle.asn1_rs.specs.declared.error.Err.{Err as Refusal}
 use Rattle.asn1_rs.specs.declared.error.Err.TheVariants.{Incomplete as cut, Error as refused, Failure as failed}
@@ -29,15 +29,16 @@ use Rattle.asn1_rs.specs.Error.{HeldIn, FlattenedTo}
 use Rattle.asn1_rs.specs.Kinds.{IsExactCheck}
 use Rattle.asn1_rs.specs.Any.{parts_of, IsTheElement, OfParts}
 use Rattle.asn1_rs.specs.Laws.Element.{the_element_parts}
-use Rattle.asn1_rs.specs.Answers.{Front, NoFront, Exactly, TellsMemory, IsOther}
+use Rattle.asn1_rs.specs.Answers.{NoFront, Exactly, TellsMemory, IsOther}
 use Rattle.asn1_rs.specs.Form.{IsOneForm, IsOneValue, FitsElement, HasValues, IsStrict}
 use Rattle.asn1_rs.specs.Grammar.{IsOneFront, IsOneBody, TakesBody, Checks, FormChecks, FormBodies, FormTakes, FormNumber, NoCheck, DerWord, made, of_class, max_depth}
-use Rattle.asn1_rs.specs.Items.{IsJoined, TakesItem, EndsItem, TellsNoWord, IsMemory}
+use Rattle.asn1_rs.specs.Items.{IsJoined, IsWalk, TakesItem, EndsItem, TellsNoWord, IsMemory}
+use Rattle.asn1_rs.specs.Laws.Items.{octets_kept, lawful_walk, items_joined, items_ended}
 use Rattle.asn1_rs.specs.ItemGrammar.{ItemGrammar, IsLawfulItem}
 use Rattle.asn1_rs.specs.Lists.{joining, list_grammar, ListBody, ListOf, CheckedElement, ListCheck, StrictWord, ListForm, IsListOr, ItemsGive, ListTakes, ListReads, CheckedGives, ListCheckGives, SomeRefuses, has_items}
 use Rattle.asn1_rs.specs.Wrote.{HasNone, Either, IsWritable, WrittenRefusal}
 use Rattle.asn1_rs.specs.declared.error.SerializeError.{SerializeError}
-use Rattle.asn1_rs.specs.Laws.Elements.{none_now, element_exact, element_spares, der_breach_spares, der_elements, ber_elements}
+use Rattle.asn1_rs.specs.Laws.Elements.{element_exact, element_spares, der_breach_spares, der_elements, ber_elements}
 use Rattle.asn1_rs.specs.Laws.Words.{word_one, strict_element, one_strict, strict_apart, strict_ber_word, strict_der_word}
 use Rattle.asn1_rs.specs.Laws.Forms.{universal, header_of, universal_one, universal_value, universal_fits, WritesByValue, WritesForm, strict_written}
 
@@ -199,58 +200,37 @@ list_or_refused : (number : ℕ) (p : Parts) (e : Error) → IsListOr number p (
 list_or_refused number p e (inl a) n c = a.0 n
 list_or_refused number p e (inr a) n c = let d = a.1 in cc
 
--- Items that are read by a reader that is exact at octets of which something holds that holds of the rest too.
+-- where something follows joined words that begins with no word, no words are joined to the octets
+ends_unjoined : {V : Type 0} (G : List ℕ → V → Type 0) → IsOneFront G → (c front others : List ℕ) (vs ws : List V) → c ≡ front ++ others → others ≢ [] → NoFront G others → IsJoined G front vs → IsJoined G c ws → ⊥
+ends_unjoined G one c front others [] [] e n none i j =
+    let same : front ++ others ≡ others = ap (λ (o : List ℕ). o ++ others) i in
+    n (sym same ∙ (sym e ∙ j))
+ends_unjoined G one c front others [] (w ∷ ws) e n none i j =
+    let same : front ++ others ≡ others = ap (λ (o : List ℕ). o ++ others) i in
+    none j.0 j.1 w (sym same ∙ (sym e ∙ j.3)) j.2
+ends_unjoined G one c front others (v ∷ vs) [] e n none i j =
+    let same : front ++ others ≡ i.0 ++ (i.1 ++ others) = ap (λ (o : List ℕ). o ++ others) i.3 ∙ append_assoc i.0 i.1 others in
+    no_first G one c i.0 (i.1 ++ others) v j i.2 (e ∙ same)
+ends_unjoined G one c front others (v ∷ vs) (w ∷ ws) e n none i j =
+    let same : front ++ others ≡ i.0 ++ (i.1 ++ others) = ap (λ (o : List ℕ). o ++ others) i.3 ∙ append_assoc i.0 i.1 others in
+    let s = same_rest G one i.0 j.0 (i.1 ++ others) j.1 v w i.2 j.2 (sym same ∙ (sym e ∙ j.3)) in
+    ends_unjoined G one j.1 i.1 others vs ws (sym s.1) n none i.4 j.4
+
+-- Items that were taken by an exact reader are joined words; where a refusal ended the walk there are no such words, or it tells of want of memory.
 module _ {T V E : Type 0} (reads : List ℕ → Result (List ℕ × T) (Refusal E) → Type 0) (from : Error → E → Type 0) (G : List ℕ → V → Type 0) (value : T → V) (takes : Bool) (IsCut : List ℕ → Type 0)
     (one : IsOneFront G) (Keeps : List ℕ → Type 0)
     (kept : (octets word rest : List ℕ) → Keeps octets → octets ≡ word ++ rest → Keeps rest)
     (exact : (octets : List ℕ) (answer : Result (List ℕ × T) (Refusal E)) → Keeps octets → reads octets answer → Exactly IsCut G value (TellsMemory takes from) octets answer) where
-  -- all of them are joined
-  pub items_joined : (items : List T) (content left : List ℕ) → Keeps content → left ≡ [] → Yields (TakesItem reads from) content (map Ok items) left → IsJoined G content (map value items)
-  items_joined [] content left k n y = y ∙ n
-  items_joined (x ∷ items) content left k n y =
-      let f = exact content (Ok (y.0, x)) k y.1.1 in
-      (f.word, y.0, f.fits, f.is, items_joined items y.0 left (kept content f.word y.0 k f.is) n y.2)
+  walked : (answers : List (Result T E)) (content left : List ℕ) → Keeps content → Yields (TakesItem reads from) content answers left → IsWalk G value (TellsNoWord G (IsMemory takes from)) content answers left
+  walked = lawful_walk reads from G value takes IsCut one Keeps kept exact
 
-  not_as_long : (octets rest : List ℕ) (v : V) → Front G octets v rest → length octets ≤ length rest → ⊥
-  not_as_long octets rest v f l = shown f.word f.fits f.is
-    where
-      shown : (word : List ℕ) → G word v → octets ≡ word ++ rest → ⊥
-      shown [] g e = one.some v g
-      shown (x ∷ xs) g e = omega (arith, ap length e, length-append xs rest, l)
+  pub taken_joined : (items : List T) (content left : List ℕ) → Keeps content → left ≡ [] → Yields (TakesItem reads from) content (map Ok items) left → IsJoined G content (map value items)
+  taken_joined items content left k n y = items_joined G value (TellsNoWord G (IsMemory takes from)) content items left (walked (map Ok items) content left k y) n
 
-  end_tells : (octets : List ℕ) (answer : Result (List ℕ × T) (Refusal E)) (e : E) → Keeps octets → reads octets answer → EndsItem from octets answer e → TellsNoWord G (IsMemory takes from) octets e
-  end_tells octets (Ok x) e o g w = absurd (not_as_long octets x.0 (value x.1) (exact octets (Ok x) o g) w.0)
-  end_tells octets (Err r) e o g w =
-      elim (exact octets (Err r) o g) [
-        | inl m ↦ inl (m.0, memory_told r m.1.0 m.1.2 w m.1.1)
-        | inr f ↦ inr (none_now (IsCut octets) r G octets f)
-      ]
-    where
-      memory_told : (r : Refusal E) (f : E) → r ≡ refused f → FlattenedTo (λ x y. y ≡ x) from r e → from faults.OutOfMemory f → from faults.OutOfMemory e
-      memory_told (refused x) f s t m = let u : e ≡ f = cc in subst (from faults.OutOfMemory) (sym u) m
-      memory_told (cut n) f s t m = cc
-      memory_told (failed x) f s t m = cc
-
-  none_joined : (content : List ℕ) (vs : List V) → content ≢ [] → NoFront G content → IsJoined G content vs → ⊥
-  none_joined content [] n none j = n j
-  none_joined content (v ∷ vs) n none j = none j.0 j.1 v j.3 j.2
-
-  -- where a refusal ended the walk no words are joined to the octets, or it tells of want of memory
-  pub items_none : (items : List T) (e : E) (content left : List ℕ) → Keeps content → Yields (TakesItem reads from) content (map Ok items ++ Err e ∷ []) left → IsMemory takes from e ⊎ ((vs : List V) → IsJoined G content vs → ⊥)
-  items_none [] e content left k (j, s, y) =
-      elim (end_tells content s.1.0 e k s.1.1 s.1.2) [ inl m ↦ inl m | inr none ↦ inr (λ vs i. none_joined content vs s.0 none i) ]
-  items_none (x ∷ items) e content left k (j, s, y) =
-      let f = exact content (Ok (j, x)) k s.1 in
-      elim (items_none items e j left (kept content f.word j k f.is) y) [ inl m ↦ inl m | inr none ↦ inr (behind f.word j (value x) f.fits f.is none) ]
-    where
-      behind : (word rest : List ℕ) (v : V) → G word v → content ≡ word ++ rest → ((vs : List V) → IsJoined G rest vs → ⊥) → (vs : List V) → IsJoined G content vs → ⊥
-      behind word rest v g e none [] i = no_first G one content word rest v i g e
-      behind word rest v g e none (w ∷ ws) i =
-          let s = same_rest G one word i.0 rest i.1 v w g i.2 (sym e ∙ i.3) in
-          none ws (subst (λ (r : List ℕ). IsJoined G r ws) (sym s.1) i.4)
-
-pub octets_kept : (octets word rest : List ℕ) → IsOctets octets → octets ≡ word ++ rest → IsOctets rest
-octets_kept octets word rest o e = octets_back word rest (subst IsOctets e o)
+  pub taken_none : (items : List T) (e : E) (content left : List ℕ) → Keeps content → Yields (TakesItem reads from) content (map Ok items ++ Err e ∷ []) left → IsMemory takes from e ⊎ ((vs : List V) → IsJoined G content vs → ⊥)
+  taken_none items e content left k y =
+      let end = items_ended G value (TellsNoWord G (IsMemory takes from)) content items e left (walked (map Ok items ++ Err e ∷ []) content left k y) in
+      elim end.tells [ inl m ↦ inl m | inr none ↦ inr (λ ws j. ends_unjoined G one content end.front end.others (map value items) ws end.is end.some none end.joined j) ]
 
 -- The conversion of an element to a list is exact, and so is a list's own reader by DER.
 module _ {T V W E : Type 0} (number : ℕ) (holds : List T → W → Type 0) (values : W → List V) (reads : List ℕ → Result (List ℕ × T) (Refusal E) → Type 0) (from : Error → E → Type 0) (G : List ℕ → V → Type 0) (value : T → V) (takes : Bool) (IsCut : List ℕ → Type 0)
@@ -258,12 +238,12 @@ module _ {T V W E : Type 0} (number : ℕ) (holds : List T → W → Type 0) (va
     (one : IsOneFront G)
     (exact : (octets : List ℕ) (answer : Result (List ℕ × T) (Refusal E)) → IsOctets octets → reads octets answer → Exactly IsCut G value (TellsMemory takes from) octets answer) where
   all_joined : (items : List T) (w : W) (content : List ℕ) → IsOctets content → holds items w → Yields (TakesItem reads from) content (map Ok items) [] → IsJoined G content (values w)
-  all_joined items w content o h y = subst (IsJoined G content) (valued items w h) (items_joined reads from G value takes IsCut one IsOctets octets_kept exact items content [] o refl y)
+  all_joined items w content o h y = subst (IsJoined G content) (valued items w h) (taken_joined reads from G value takes IsCut one IsOctets octets_kept exact items content [] o refl y)
 
   none_taken : (e : E) (content : List ℕ) → IsOctets content → ItemsGive {T = T} reads from content (Err e) → from faults.OutOfMemory e ⊎ ((vs : List V) → IsJoined G content vs → ⊥)
   none_taken e content o (inl m) = inl m
   none_taken e content o (inr s) =
-      elim (items_none reads from G value takes IsCut one IsOctets octets_kept exact s.0 e content s.1 o s.2) [ inl m ↦ inl m.1 | inr none ↦ inr none ]
+      elim (taken_none reads from G value takes IsCut one IsOctets octets_kept exact s.0 e content s.1 o s.2) [ inl m ↦ inl m.1 | inr none ↦ inr none ]
 
   pub list_takes : (any : Any) (answer : Result W E) → IsOctets any.content.now → OfParts (ListTakes number holds reads from) any answer → TakesBody (ListBody number G) values true from (parts_of any) answer
   list_takes any (Ok w) o t = record {
@@ -301,11 +281,11 @@ module _ (number : ℕ) (check : Parts → Result (Unit {0}) Error → Type 0) (
     number_is = t.0.0;
     constructed = t.0.1;
     elements = map parts_of t.1.0;
-    checked = items_joined (CheckedGives check) (λ x y. y ≡ x) (CheckedElement Check) parts_of false IsCutIdentifier (checked_one Check) (λ o. Unit {0}) (λ o w r k e. tt) element_checked t.1.0 p.content [] tt refl t.1.1;
+    checked = taken_joined (CheckedGives check) (λ x y. y ≡ x) (CheckedElement Check) parts_of false IsCutIdentifier (checked_one Check) (λ o. Unit {0}) (λ o w r k e. tt) element_checked t.1.0 p.content [] tt refl t.1.1;
   }
   list_check_exact p (Err e) (inl r) = λ c. list_or_refused number p e r c.number_is c.constructed
   list_check_exact p (Err e) (inr (h, s)) = λ c.
-      elim (items_none (CheckedGives check) (λ x y. y ≡ x) (CheckedElement Check) parts_of false IsCutIdentifier (checked_one Check) (λ o. Unit {0}) (λ o w r k e. tt) element_checked s.0 e p.content s.1 tt s.2) [
+      elim (taken_none (CheckedGives check) (λ x y. y ≡ x) (CheckedElement Check) parts_of false IsCutIdentifier (checked_one Check) (λ o. Unit {0}) (λ o w r k e. tt) element_checked s.0 e p.content s.1 tt s.2) [
         | inl m ↦ cc (m.0)
         | inr none ↦ none c.elements c.checked
       ]

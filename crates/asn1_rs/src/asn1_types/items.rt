@@ -4,7 +4,7 @@ ghost use Rattle.std.specs.List.{All, flat_map};
 ghost use Rattle.asn1_rs.specs.Any.{parts_of, OfParts};
 ghost use Rattle.asn1_rs.specs.Answers.{seen};
 ghost use Rattle.asn1_rs.specs.Grammar.{DerGives, PassesAll};
-ghost use Rattle.asn1_rs.specs.Lists.{IsListOr, ItemsGive, ListTakes, ListReads, IsMadeOf, ItemsCheckGives, ListCheckGives, FirstChecked, SomeRefuses, listed};
+ghost use Rattle.asn1_rs.specs.Lists.{IsListOr, ItemsGive, ListGives, ListTakes, ListReads, ItemsCheckGives, ListCheckGives, FirstChecked, SomeRefuses, listed};
 ghost use Rattle.asn1_rs.specs.declared.error.SerializeError.{SerializeError as Unwritten};
 ghost use Rattle.asn1_rs.specs.declared.error.Error.{Error as Uncounted};
 ghost use Rattle.asn1_rs.specs.Wrote.{Wrote, Refuses, RefusesCount, Either, some_takes};
@@ -80,17 +80,23 @@ where
         if let Err(e) = assert_list(L::its_tag().0, &any) {
             return Err(E::from(e));
         }
-        match items_by::<T, BerParser, E>(alloc, any.content) {
-            Ok(items) => made::<L, T, E>(alloc, items),
-            Err(e) => Err(e),
-        }
+        list_of_content::<L, T, BerParser, E>(alloc, any.content)
     }
 }
 
-/// The items, as a list.
-fn made<L: FromItems<Item = T>, T, E: From<Error>>(alloc: Global, items: Vec<T>) -> Result<L, E>
-    ensures { IsMadeOf L.holds E.from_gives items.items result }
+/// The list of the items in contents octets, by the reader `F`.
+fn list_of_content<'a, L, T, F, E>(alloc: Global, content: &'a [u8]) -> Result<L, E>
+where
+    L: FromItems<Item = T>,
+    T: Drop,
+    F: ReadsItems<'a, T, E>,
+    E: From<Error>,
+    ensures { ListGives L.holds F.item_gives E.from_gives content.now result }
 {
+    let items = match items_by::<T, F, E>(alloc, content) {
+        Ok(items) => items,
+        Err(e) => return Err(e),
+    };
     match L::from_items(alloc, items) {
         Ok(list) => Ok(list),
         Err(_) => Err(E::from(Error::OutOfMemory)),
@@ -108,10 +114,7 @@ where
     if let Err(e) = any.header.assert_tag(L::its_tag()) {
         return Err(E::from(e));
     }
-    match items_by::<T, DerParser, E>(alloc, any.content) {
-        Ok(items) => made::<L, T, E>(alloc, items),
-        Err(e) => Err(e),
-    }
+    list_of_content::<L, T, DerParser, E>(alloc, any.content)
 }
 
 /// The list that an element is, by DER. The tag number is looked at, then the constructed bit.
@@ -125,10 +128,7 @@ where
     if let Err(e) = assert_list(L::its_tag().0, any) {
         return Err(E::from(e));
     }
-    match items_by::<T, DerParser, E>(alloc, any.content) {
-        Ok(items) => made::<L, T, E>(alloc, items),
-        Err(e) => Err(e),
-    }
+    list_of_content::<L, T, DerParser, E>(alloc, any.content)
 }
 
 /// The list at the front, by DER, and what follows it. The constructed bit is not looked at.
