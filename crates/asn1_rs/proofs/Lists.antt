@@ -18,8 +18,7 @@ use Rattle.asn1_rs.specs.declared.error.Err.{Err as Refusal}
 use Rattle.asn1_rs.specs.declared.error.Err.TheVariants.{Incomplete as cut, Error as refused, Failure as failed}
 use Rattle.asn1_rs.specs.Error.{Converted, FlattenedTo}
 use Rattle.asn1_rs.specs.Header.{Refused, der_refusal}
-use Rattle.asn1_rs.specs.Any.{parts_of}
-use Rattle.asn1_rs.specs.Answers.{Front}
+use Rattle.asn1_rs.specs.Any.{parts_of, BeginsWithElement}
 use Rattle.asn1_rs.specs.Items.{TakesItem}
 use Rattle.asn1_rs.specs.Lists.{CheckedGives, EndsItems, SomeRefuses}
 use Rattle.asn1_rs.specs.declared.error.Error.{Error}
@@ -114,18 +113,18 @@ converted_itself (cut n) = refl
 converted_itself (refused e) = (e, refl, refl)
 converted_itself (failed e) = (e, refl, refl)
 
-pub element_checked : (check : Parts → Result (Unit {0}) Error → Type 0) (octets rest : List ℕ) (item : Any) → Front IsDerElement octets (parts_of item) rest → check (parts_of item) (Ok tt) → CheckedGives check octets (Ok (rest, item))
-element_checked check octets rest item f h = (parts_of item, f, h, refl)
+pub element_checked : (check : Parts → Result (Unit {0}) Error → Type 0) (octets rest : List ℕ) (item : Any) → BeginsWithElement IsDerElement octets item rest → check (parts_of item) (Ok tt) → CheckedGives check octets (Ok (rest, item))
+element_checked check octets rest item f h = (item, f, h, (refl, refl))
 
-pub check_failed : (check : Parts → Result (Unit {0}) Error → Type 0) (octets rest : List ℕ) (item : Any) (e : Error) → Front IsDerElement octets (parts_of item) rest → check (parts_of item) (Err e) → (r : Refusal Error) × CheckedGives check octets (Err r) × FlattenedTo (λ x y. y ≡ x) (λ x y. y ≡ x) r e
-check_failed check octets rest item e f h = (refused e, inr (parts_of item, rest, f, inl (e, h, (e, refl, refl))), refl)
+pub check_failed : (check : Parts → Result (Unit {0}) Error → Type 0) (octets rest : List ℕ) (item : Any) (e : Error) → BeginsWithElement IsDerElement octets item rest → check (parts_of item) (Err e) → (r : Refusal Error) × CheckedGives check octets (Err r) × FlattenedTo (λ x y. y ≡ x) (λ x y. y ≡ x) r e
+check_failed check octets rest item e f h = (refused e, inr (item, rest, f, inl (e, h, (e, refl, refl))), refl)
 
 pub element_failed : (check : Parts → Result (Unit {0}) Error → Type 0) (octets : List ℕ) (r : Refusal Error) (e : Error) → Refused DerElementFault der_refusal octets r → FlattenedTo (λ x y. y ≡ x) (λ x y. y ≡ x) r e → (r : Refusal Error) × CheckedGives check octets (Err r) × FlattenedTo (λ x y. y ≡ x) (λ x y. y ≡ x) r e
 element_failed check octets r e f h = (r, inl (f.0, f.1, subst (λ (q : Refusal Error). Converted (λ (x y : Error). y ≡ x) q r) f.2 (converted_itself r)), h)
 
 -- what follows it is shorter
 pub checked_less : (check : Parts → Result (Unit {0}) Error → Type 0) (left rest : List ℕ) (item : Any) → CheckedGives check left (Ok (rest, item)) → length rest < length left
-checked_less check left rest item g = let f = g.1 in omega (arith, definite_element_two der_rule f.word g.0 f.fits, ap length f.is, length-append f.word rest)
+checked_less check left rest item g = let f = g.1.front in omega (arith, definite_element_two der_rule f.word (parts_of g.0) f.fits, ap length f.is, length-append f.word rest)
 
 -- one more element that was checked
 pub checked_push : (check : Parts → Result (Unit {0}) Error → Type 0) (content left rest : List ℕ) → left ≢ [] → (items : List Any) × Yields (TakesItem (CheckedGives check) (λ (x y : Error). y ≡ x)) content (map Ok items) left → (item : Any) × CheckedGives check left (Ok (rest, item)) →

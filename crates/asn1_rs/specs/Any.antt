@@ -15,7 +15,7 @@ use Rattle.asn1_rs.specs.declared.error.Err.TheVariants.{Incomplete as cut, Erro
 use Rattle.asn1_rs.specs.declared.error.Needed.TheVariants.{Size}
 use Rattle.asn1_rs.specs.Error.{Converted}
 use Rattle.asn1_rs.specs.Class.{class_number}
-use Rattle.asn1_rs.specs.Header.{identifier_of, Refused}
+use Rattle.asn1_rs.specs.Header.{identifier_of, Refused, KeepsIdentifier}
 use Rattle.asn1_rs.specs.Length.{form_of}
 use Rattle.asn1_rs.specs.Answers.{Front}
 
@@ -23,15 +23,24 @@ use Rattle.asn1_rs.specs.Answers.{Front}
 abbrev pub parts_of : Any → Parts
 parts_of a = record { id = identifier_of a.header; form = form_of a.header.length; content = a.content.now }
 
+-- The element, with its identifier octets kept, begins the input, and the rest follows.
+pub record BeginsWithElement (Element : List ℕ → Parts → Type 0) (input : List ℕ) (any : Any) (rest : List ℕ) : Type 0 where
+  pub front : Front Element input (parts_of any) rest
+  pub kept : KeepsIdentifier input any.header
+
 -- what a reader of elements may answer: the element and the rest, or the refusal of the first fault
 abbrev pub AnyGives : (List ℕ → Parts → Type 0) → (List ℕ → Fault → Type 0) → (Fault → Refusal Error) → List ℕ → Result (List ℕ × Any) (Refusal Error) → Type 0
-AnyGives Element FaultOf refusal input (Ok x) = Front Element input (parts_of x.1) x.0
+AnyGives Element FaultOf refusal input (Ok x) = BeginsWithElement Element input x.1 x.0
 AnyGives Element FaultOf refusal input (Err r) = Refused FaultOf refusal input r
 
--- the conversion to an element is the element
-abbrev pub IsTheElement : Parts → Result Any Error → Type 0
-IsTheElement p (Ok any) = parts_of any ≡ p
-IsTheElement p (Err e) = ⊥
+-- the conversion to an element is the element: its header, with the identifier octets that it keeps, and its contents octets
+abbrev pub IsTheElement : Any → Result Any Error → Type 0
+IsTheElement any (Ok same) = (same.header ≡ any.header) × (same.content.now ≡ any.content.now)
+IsTheElement any (Err e) = ⊥
+
+-- what a conversion may answer that looks at the parts of an element alone
+abbrev pub OfParts : {T E : Type 0} → (Parts → Result T E → Type 0) → Any → Result T E → Type 0
+OfParts gives any answer = gives (parts_of any) answer
 
 -- the length is definite, or that is refused
 abbrev pub IsDefiniteOr : Parts → Result (Unit {0}) Error → Type 0

@@ -3,8 +3,10 @@ use Rattle.std.specs.Prelude.{◌≡◌, ℕ, Bool, false, List, Result, Ok, Err
 use Rattle.x690.specs.Octets.{IsOctets}
 use Rattle.x690.specs.Identifiers.{Identifier}
 use Rattle.x690.specs.Elements.{Parts, ArePossible}
+use Rattle.asn1_rs.specs.declared.asn1_types.any.Any.{Any}
 use Rattle.asn1_rs.specs.declared.error.Error.{Error}
 use Rattle.asn1_rs.specs.declared.error.Error.TheVariants.{OutOfMemory}
+use Rattle.asn1_rs.specs.Any.{parts_of}
 use Rattle.asn1_rs.specs.Form.{IsOneForm, IsOneValue, FitsElement, HasValues}
 use Rattle.asn1_rs.specs.Grammar.{IsOneBody, BerWord, DerWord, TakesBody, Checks, FormChecks, FormBodies}
 use Rattle.asn1_rs.specs.ItemGrammar.{ItemGrammar}
@@ -53,12 +55,12 @@ pub record IsExactCheck (check : Parts → Result (Unit {0}) Error → Type 0) (
   pub exact : (p : Parts) (answer : Result (Unit {0}) Error) → check p answer → Checks Check p answer
   pub spares : (p : Parts) → check p (Err OutOfMemory) → ⊥
 
--- The conversion takes exactly the parts that have a body, with its value. Where it takes no memory, no refusal of it
+-- The conversion takes exactly the elements whose parts have a body, with its value. Where it takes no memory, no refusal of it
 -- tells of want of memory.
-pub record IsExactConversion {S : Type 0} (gives : Parts → Result S Error → Type 0) (G : ElementGrammar S) : Type 0 where
-  pub exact : (p : Parts) (answer : Result S Error) → IsOctets p.content → gives p answer →
-      TakesBody G.Body G.value G.takes_memory (λ (x y : Error). y ≡ x) p answer
-  pub spares : G.takes_memory ≡ false → (p : Parts) → gives p (Err OutOfMemory) → ⊥
+pub record IsExactConversion {S : Type 0} (gives : Any → Result S Error → Type 0) (G : ElementGrammar S) : Type 0 where
+  pub exact : (any : Any) (answer : Result S Error) → IsOctets any.content.now → gives any answer →
+      TakesBody G.Body G.value G.takes_memory (λ (x y : Error). y ≡ x) (parts_of any) answer
+  pub spares : G.takes_memory ≡ false → (any : Any) → gives any (Err OutOfMemory) → ⊥
 
 -- what holds one item, and nothing else, has the values and the elements of that item
 abbrev pub holding : {S T : Type 0} → (T → S) → ElementGrammar S → ElementGrammar T
@@ -74,6 +76,6 @@ holding held G = record {
 }
 
 -- a conversion that answers what holds the item that another one answers
-abbrev pub HoldingGives : {S T : Type 0} → (T → S) → (Parts → Result S Error → Type 0) → Parts → Result T Error → Type 0
-HoldingGives held gives p (Ok x) = gives p (Ok (held x))
-HoldingGives held gives p (Err e) = gives p (Err e)
+abbrev pub HoldingGives : {S T : Type 0} → (T → S) → (Any → Result S Error → Type 0) → Any → Result T Error → Type 0
+HoldingGives held gives any (Ok x) = gives any (Ok (held x))
+HoldingGives held gives any (Err e) = gives any (Err e)

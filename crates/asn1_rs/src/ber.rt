@@ -10,7 +10,7 @@ ghost use Rattle.x690.specs.FaultHeaders.{FaultHeaders, EndFaultHeaders, Content
 ghost use Rattle.asn1_rs.specs.declared.error.Err.{Err as Refusal};
 ghost use Rattle.asn1_rs.specs.declared.error.Error.{Error as Fault};
 ghost use Rattle.asn1_rs.specs.Answers.{seen};
-ghost use Rattle.asn1_rs.specs.Header.{Refused, der_refusal, ber_refusal, is_constructed_of, length_of, KeepsIdentifier};
+ghost use Rattle.asn1_rs.specs.Header.{Refused, der_refusal, ber_refusal, is_constructed_of, length_of};
 ghost use Rattle.asn1_rs.specs.Length.{form_of};
 ghost use Rattle.asn1_rs.specs.Ber.{count_of, BerContentGives, CountedElement, Counted};
 ghost use Rattle.asn1_rs.specs.Grammar.{max_depth, EndsWithin};
@@ -167,9 +167,8 @@ fn element_to_depth<'a>(
 ) -> ParseResult<'a, Any<'a>, Error>
     requires deep { 1 ≤ max_depth }
     requires room { count_of steps.old + length bytes.now < 2 ^ 64 }
-    ensures ok { IfOk result (λ x. CountedElement max_depth bytes.now x.0.now (parts_of x.1) (count_of steps.old) (count_of steps.new)) }
-    ensures keeps { IfOk result (λ x. KeepsIdentifier bytes.now x.1.header) }
-    ensures err { IfErr result (Refused (ElementFault max_depth) ber_refusal bytes.now) }
+    ensures gives { AnyGives (IsElement max_depth) (ElementFault max_depth) ber_refusal bytes.now (seen result) }
+    ensures ticks { IfOk result (λ x. CountedElement max_depth bytes.now x.0.now (parts_of x.1) (count_of steps.old) (count_of steps.new)) }
     ensures stops { OnErr result (Counted (FaultHeaders max_depth) bytes.now (count_of steps.old) (count_of steps.new)) }
     ensures few { 2 * count_of steps.new ≤ 2 * count_of steps.old + length bytes.now }
     ensures grows { count_of steps.old ≤ count_of steps.new }
@@ -202,7 +201,6 @@ pub fn any_from_ber_counted<'a>(
     ensures gives { AnyGives (IsElement max_depth) (ElementFault max_depth) ber_refusal bytes.now (seen result) }
     ensures last { IfErr result (RefusalLasts (IsElement max_depth) EndsWithin bytes.now) }
     ensures same { IfOk result (λ x. ElementLasts (IsElement max_depth) bytes.now x.0.now x.1) }
-    ensures keeps { IfOk result (λ x. KeepsIdentifier bytes.now x.1.header) }
     ensures ticks { IfOk result (λ x. CountedElement max_depth bytes.now x.0.now (parts_of x.1) (count_of steps.old) (count_of steps.new)) }
     ensures stops { OnErr result (Counted (FaultHeaders max_depth) bytes.now (count_of steps.old) (count_of steps.new)) }
     ensures few { 2 * count_of steps.new ≤ 2 * count_of steps.old + length bytes.now }

@@ -88,7 +88,7 @@ impl<T: HasKind + LawfulItemBy<T::Kind>> LawfulItem for T {
 impl<'a, T: LawfulConversion<'a>> LawfulBody<'a, Error> for T {
     ghost body_exact = { T.converts.exact };
 
-    ghost body_spares = { λ none p e g. other_error T.any_gives (T.converts.spares none) p e g };
+    ghost body_spares = { λ none. other_error T.any_gives (T.converts.spares none) };
 
     ghost form_body = { T.lawful.form_body };
 

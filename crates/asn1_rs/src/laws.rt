@@ -2,11 +2,11 @@
 //!
 //! No code calls the law traits: they have no functions. A type whose laws are proved can be read by [`read_ber`] and
 //! [`read_der`] and written by [`write_strict`], alone or nested in lists, sets and tags.
-ghost use Rattle.std.specs.Prelude.{ℕ, Bool, List, ◌≡◌, ◌++◌, ◌<◌, ◌^◌, ◌↔◌, ◌||◌, false, length, Result, Ok, Err, IsTrue, IfOk, IfErr, MatchResult};
+ghost use Rattle.std.specs.Prelude.{ℕ, Bool, List, ◌≡◌, ◌++◌, ◌<◌, ◌^◌, ◌↔◌, ◌||◌, false, length, Some, Result, Ok, Err, IsTrue, IfOk, IfErr, MatchResult};
 ghost use Rattle.std.specs.Borrow.{Bor};
 ghost use Rattle.std.specs.Io.KnownBytes.{Appends};
 ghost use Rattle.x690.specs.Octets.{IsOctets};
-ghost use Rattle.x690.specs.Identifiers.{Identifier, IsCutIdentifier};
+ghost use Rattle.x690.specs.Identifiers.{Identifier, IsIdentifier, IsCutIdentifier};
 ghost use Rattle.x690.specs.Lengths.{LengthForm};
 ghost use Rattle.x690.specs.Rules.{Rule};
 ghost use Rattle.x690.specs.Elements.{Parts, ArePossible, IsHeader, IsDerElement};
@@ -26,9 +26,9 @@ ghost use Rattle.asn1_rs.specs.Error.{HeldIn};
 ghost use Rattle.asn1_rs.specs.Wrote.{Wrote, MayRefuse, IsMemoryOrLength, IsWritable, some_takes};
 ghost use Rattle.asn1_rs.specs.declared.header.Header.{Header as Head};
 ghost use Rattle.asn1_rs.specs.declared.asn1_types.any.Any.{Any as Element};
-ghost use Rattle.asn1_rs.specs.Header.{refusal_of, der_breach, ber_breach, HeaderGives};
+ghost use Rattle.asn1_rs.specs.Header.{refusal_of, der_breach, ber_breach, raw_tag_of, HeaderGives};
 ghost use Rattle.asn1_rs.specs.Ber.{BerContentGives};
-ghost use Rattle.asn1_rs.specs.Any.{IsTheElement, IsDefiniteOr};
+ghost use Rattle.asn1_rs.specs.Any.{parts_of, IsTheElement, IsDefiniteOr};
 ghost use Rattle.asn1_rs.specs.Laws.Any.{DerElementGives, BerElementGives, RefusalLasts, ElementLasts, ContentStays, TellsBeginning};
 ghost use Rattle.asn1_rs.specs.Laws.Headers.{HeaderLasts};
 ghost use Rattle.asn1_rs.specs.Laws.Elements.{element_exact, element_spares, der_breach_spares, ber_breach_spares, der_elements, ber_elements, passes_all, all_pass};
@@ -56,13 +56,14 @@ pub trait LawfulItem: Grammar {
 /// The conversion of an element is exact: it finds the value of the body, and refuses only where there is none.
 pub trait LawfulBody<'a, E: From<Error>>: FromAny<'a, Error = E> + LawfulItem {
     /// An Ok is the value of the body; an Err comes only where there is none, or for want of memory.
-    ghost body_exact: { (p : Parts) (answer : Result Self E) → IsOctets p.content →
-        Self.any_gives p answer →
-        TakesBody Self.grammar.Body Self.grammar.value Self.grammar.takes_memory E.from_gives p answer };
+    ghost body_exact: { (any : Element) (answer : Result Self E) → IsOctets any.content.now →
+        Self.any_gives any answer →
+        TakesBody Self.grammar.Body Self.grammar.value Self.grammar.takes_memory E.from_gives
+        (parts_of any) answer };
 
     /// Where the type takes no memory, no refusal of the conversion tells of want of it.
-    ghost body_spares: { Self.grammar.takes_memory ≡ false → (p : Parts) (e : E) →
-        Self.any_gives p (Err e) → IsOther E.from_gives e };
+    ghost body_spares: { Self.grammar.takes_memory ≡ false → (any : Element) (e : E) →
+        Self.any_gives any (Err e) → IsOther E.from_gives e };
 
     /// The strict parts of a value have it as their body.
     ghost form_body: { FormBodies Self.grammar.Form Self.grammar.Body };
@@ -329,10 +330,26 @@ pub fn one_refusal()
 {}
 
 /// What the readers of [`Any`](crate::Any) answer is the element at the front of the octets, or the refusal of its first
-/// fault.
+/// fault. The raw tag of its header is the identifier octets at the front.
 pub fn any_is_the_element()
-    ensures der { (input : List ℕ) (answer : Result (List ℕ × Element) (Refusal Fault)) → DerGives IsDefiniteOr IsTheElement (λ e f. f ≡ e) input answer → DerElementGives input answer }
-    ensures ber { (input : List ℕ) (answer : Result (List ℕ × Element) (Refusal Fault)) → BerGives IsTheElement (λ e f. f ≡ e) input answer → BerElementGives input answer }
+    ensures der { (input : List ℕ) (answer : Result (List ℕ × Element) (Refusal Fault))
+        → DerGives IsDefiniteOr IsTheElement (λ e f. f ≡ e) input answer
+        → DerElementGives input answer }
+    ensures ber { (input : List ℕ) (answer : Result (List ℕ × Element) (Refusal Fault))
+        → BerGives IsTheElement (λ e f. f ≡ e) input answer
+        → BerElementGives input answer }
+    ensures der_raw_tag { (input identifier more : List ℕ) (id : Identifier)
+        (answer : Result (List ℕ × Element) (Refusal Fault))
+        → IsIdentifier identifier id
+        → input ≡ identifier ++ more
+        → DerElementGives input answer
+        → IfOk answer (λ x. raw_tag_of x.1.header ≡ Some identifier) }
+    ensures ber_raw_tag { (input identifier more : List ℕ) (id : Identifier)
+        (answer : Result (List ℕ × Element) (Refusal Fault))
+        → IsIdentifier identifier id
+        → input ≡ identifier ++ more
+        → BerElementGives input answer
+        → IfOk answer (λ x. raw_tag_of x.1.header ≡ Some identifier) }
 {}
 
 /// Octets that more of them make begin with a header or an element are refused with `Incomplete` of these or fewer, or

@@ -1,6 +1,7 @@
 //! The traits of readers, and of types with a tag.
 ghost use Rattle.std.specs.Prelude.{◌≡◌, ℕ, List, Result};
 ghost use Rattle.x690.specs.Elements.{Parts};
+ghost use Rattle.asn1_rs.specs.declared.asn1_types.any.Any.{Any as Element};
 ghost use Rattle.asn1_rs.specs.declared.tag.Tag.{Tag as Number};
 ghost use Rattle.asn1_rs.specs.declared.error.Err.{Err as Refusal};
 ghost use Rattle.asn1_rs.specs.declared.error.Error.{Error as Fault};
@@ -77,12 +78,14 @@ pub trait FromAny<'a>: Sized {
     /// Why an element is refused.
     type Error;
 
-    /// What the conversion may answer to an element of these parts. Left out, nothing is claimed of it.
-    ghost any_gives: { Parts → Result Self Self.Error → Type 0 } = { λ _ _. Unit {0} };
+    /// What the conversion may answer to this element. Left out, nothing is claimed of it.
+    ///
+    /// A type that looks at the parts of the element alone says `OfParts` of a relation of these.
+    ghost any_gives: { Element → Result Self Self.Error → Type 0 } = { λ _ _. Unit {0} };
 
     /// The value of the element.
     fn try_from_any(alloc: Global, any: Any<'a>) -> Result<Self, Self::Error>
-        ensures { any_gives (parts_of any.entry) result };
+        ensures { any_gives any.entry result };
 }
 
 /// A type that is read by BER.

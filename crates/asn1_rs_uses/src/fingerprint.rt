@@ -1,7 +1,7 @@
 //! A lawful type of a caller's that borrows its contents octets.
 ghost use Rattle.std.specs.Prelude.{◌≡◌};
 ghost use Rattle.std.proofs.Common.{lit<};
-ghost use Rattle.asn1_rs.specs.Any.{parts_of};
+ghost use Rattle.asn1_rs.specs.Any.{parts_of, OfParts};
 ghost use Rattle.asn1_rs.specs.OctetsElement.{OctetsGives, PrimitiveCheckGives, octets_element};
 ghost use Rattle.asn1_rs.specs.Laws.OctetsElement.{primitive_checks, octets_lawful, octets_converts, octets_primitive};
 
@@ -30,7 +30,7 @@ impl Tagged for Fingerprint<'_> {
 impl<'a> FromAny<'a> for Fingerprint<'a> {
     type Error = Error;
 
-    ghost any_gives = { OctetsGives 4 (λ x. x.0.now) };
+    ghost any_gives = { OfParts (OctetsGives 4 (λ x. x.0.now)) };
 
     fn try_from_any(_alloc: Global, any: Any<'a>) -> Result<Fingerprint<'a>, Error> {
         any.header.assert_tag(Tag::OctetString)?;

@@ -2,6 +2,7 @@
 ghost use Rattle.std.specs.Prelude.{pos};
 ghost use Rattle.x690.specs.Integers.{unsigned_octets};
 ghost use Rattle.x690.specs.Laws.UnsignedOctets.{unsigned_octets_content};
+ghost use Rattle.asn1_rs.specs.Any.{OfParts};
 ghost use Rattle.asn1_rs.specs.Integer.{integer_element, IntegerCheckGives, IsUnsigned, UnsignedGives};
 ghost use Rattle.asn1_rs.specs.Kinds.{holding, HoldingGives};
 ghost use Rattle.asn1_rs.specs.Laws.Integer.{integer_checks, integer_lawful, integer_primitive};
@@ -31,7 +32,7 @@ impl Tagged for SerialNumber {
 impl<'a> FromAny<'a> for SerialNumber {
     type Error = Error;
 
-    ghost any_gives = { HoldingGives (λ x. x.0) (UnsignedGives 8) };
+    ghost any_gives = { HoldingGives (λ x. x.0) (OfParts (UnsignedGives 8)) };
 
     fn try_from_any(_alloc: Global, any: Any<'a>) -> Result<SerialNumber, Error> {
         Ok(SerialNumber(any.u64()?))

@@ -9,7 +9,7 @@ use Rattle.std.specs.Cmp.Lexicographic.{pointwise}
 use Rattle.x690.specs.SignedOctets.{IsSigned}
 use Rattle.asn1_rs.specs.declared.error.Error.{Error}
 use Rattle.asn1_rs.specs.declared.asn1_types.any.Any.{Any as Read}
-use Rattle.asn1_rs.specs.Any.{IsTheElement, IsDefiniteOr}
+use Rattle.asn1_rs.specs.Any.{IsTheElement, IsDefiniteOr, OfParts}
 use Rattle.asn1_rs.specs.Element.{element_of, ElementBody, ElementCheck, ElementForm}
 use Rattle.asn1_rs.specs.Integer.{IntegerCheck, IntegerCheckGives, IntegerBody, IntegerForm, IntegerGives, IsUnsigned, UnsignedRefuses, SignedRefuses}
 use Rattle.asn1_rs.specs.Laws.Element.{element_lawful, element_checks}
@@ -26,6 +26,7 @@ use Rattle.asn1vec_engine.specs.Types.{name_of, meaning_of, integers, elements, 
 use Rattle.asn1vec_engine.specs.Answer.{IsRequestAnswer, IsRefusedLine, IsAnswered, IsAnswer, IsAnswerLine, AreAnswers, BeginAnswers}
 use Rattle.asn1vec_engine.specs.Memory.{DifferByMemory, AreAlike, TakesNoMemory, AllAlike}
 use Rattle.asn1vec_engine.proofs.OneReading.{HasOneAnswer, ShownAlike, answers_alike, readings_weaker, strict_same, either_same}
+use Rattle.asn1vec_engine.proofs.OneRefusal.{one_of_parts}
 use Rattle.asn1vec_engine.proofs.Split.{requests_same}
 
 -- ---- what the names stand for has one answer
@@ -33,7 +34,7 @@ use Rattle.asn1vec_engine.proofs.Split.{requests_same}
 integers_once : {T : Type 0} (number : T → ℤ) (Holds : ℤ → Type 0) (refuses : List ℕ → Error → Type 0) → ((c : List ℕ) (e f : Error) → refuses c e → refuses c f → e ≡ f) → HasOneAnswer (integers number Holds refuses)
 integers_once {T} number Holds refuses one rule octets a b p q =
     readings_weaker _ (ShownAlike (integers number Holds refuses)) false shown a b
-    (either_same (IntegerBody Holds) number false (IntegerGives number Holds refuses) (integer_lawful Holds number).body_one (λ p e f h k. inl (one_integer_refusal refuses one p e f h k))
+    (either_same (IntegerBody Holds) number false (OfParts (IntegerGives number Holds refuses)) (integer_lawful Holds number).body_one (one_of_parts (IntegerGives number Holds refuses) (one_integer_refusal refuses one))
     IntegerCheckGives IntegerCheck one_integer_check_refusal (λ p e h k. integer_checks.exact p (Err e) k h) rule octets a b p q)
   where
     shown : (x y : T) → number x ≡ number y → ShownAlike (integers number Holds refuses) x y
@@ -42,7 +43,7 @@ integers_once {T} number Holds refuses one rule octets a b p q =
 elements_once : HasOneAnswer elements
 elements_once rule octets a b p q =
     readings_weaker _ (ShownAlike elements) false shown a b
-    (either_same ElementBody element_of false IsTheElement element_lawful.body_one (λ p e f h k. absurd h) IsDefiniteOr ElementCheck (λ p e f h k. h.1 ∙ sym k.1) (λ p e h k. element_checks.exact p (Err e) k h) rule octets a b p q)
+    (either_same ElementBody element_of false IsTheElement element_lawful.body_one (λ a b e f same h k. absurd h) IsDefiniteOr ElementCheck (λ p e f h k. h.1 ∙ sym k.1) (λ p e h k. element_checks.exact p (Err e) k h) rule octets a b p q)
   where
     shown : (x y : Read) → element_of x ≡ element_of y → ShownAlike elements x y
     shown x y same = record { text = ap element_text same; encoding = strict_same ElementForm element_lawful.one_form false (element_of x) (element_of y) same }

@@ -8,6 +8,7 @@ use Rattle.x690.specs.Nested.{IsElement, ElementFault}
 use Rattle.asn1_rs.specs.declared.error.Err.{Err as Refusal}
 use Rattle.asn1_rs.specs.declared.error.Err.TheVariants.{Error as refused}
 use Rattle.asn1_rs.specs.declared.error.Error.{Error}
+use Rattle.asn1_rs.specs.declared.asn1_types.any.Any.{Any}
 use Rattle.asn1_rs.specs.Header.{der_breach, ber_breach}
 use Rattle.asn1_rs.specs.declared.error.SerializeError.{SerializeError}
 use Rattle.asn1_rs.specs.declared.error.SerializeError.TheVariants as refusals
@@ -179,7 +180,7 @@ passed : (p : Parts) (e : Error) → PassesAll p (Ok tt) → PassesAll p (Err e)
 passed p e h k = cc
 
 -- a type that is read as one element and converted, by BER; and, where it is checked, by DER
-module _ {T V : Type 0} (Body : Parts → V → Type 0) (value : T → V) (takes_memory : Bool) (convert : Parts → Result T Error → Type 0) (one_body : IsOneBody Body) (one_conversion : IsOneRefusalBut takes_memory convert) where
+module _ {T V : Type 0} (Body : Parts → V → Type 0) (value : T → V) (takes_memory : Bool) (convert : Any → Result T Error → Type 0) (one_body : IsOneBody Body) (one_conversion : IsOneRefusalBut takes_memory convert) where
   pub ber_same : (octets : List ℕ) (a b : Reading T) → ReadsByBer (BerWord Body) value takes_memory (BerGives convert Same) octets a → ReadsByBer (BerWord Body) value takes_memory (BerGives convert Same) octets b
       → SameReading (λ x y. value x ≡ value y) takes_memory a b
   ber_same = readings_same EndsWithin (BerWord Body) value takes_memory (BerGives convert Same) (word_one (IsElement max_depth) NoCheck Body ber_elements.one one_body)

@@ -1,11 +1,13 @@
 -- Octets that are read as one element, checked and converted, have one refusal, but for want of memory.
-use Rattle.std.proofs.Common.{◌≡◌, ◌∙◌, sym, ap, subst, refl, List, [], ℕ, Bool, true, append-nil, ◌⊎◌, inl, inr, Result, Ok, Err}
+use Rattle.std.proofs.Common.{◌≡◌, ◌∙◌, sym, ap, subst, refl, List, [], ℕ, Bool, true, false, append-nil, ◌⊎◌, inl, inr, Result, Ok, Err}
 use Rattle.x690.specs.Elements.{Parts}
 use Rattle.x690.specs.Faults.{Breach, Fault}
 use Rattle.asn1_rs.specs.declared.error.Err.{Err as Refusal}
 use Rattle.asn1_rs.specs.declared.error.Err.TheVariants.{Incomplete as cut, Error as refused, Failure as failed}
 use Rattle.asn1_rs.specs.declared.error.Error.{Error}
 use Rattle.asn1_rs.specs.declared.error.Error.TheVariants.{OutOfMemory}
+use Rattle.asn1_rs.specs.declared.asn1_types.any.Any.{Any}
+use Rattle.asn1_rs.specs.Any.{parts_of, OfParts}
 use Rattle.asn1_rs.specs.Answers.{Front}
 use Rattle.asn1_rs.specs.Error.{Converted}
 use Rattle.asn1_rs.specs.Header.{refusal_of}
@@ -30,29 +32,33 @@ no_memory = refused OutOfMemory
 abbrev pub IsOneRefusal : {T : Type 0} → (Parts → Result T Error → Type 0) → Type 0
 IsOneRefusal gives = (p : Parts) (e f : Error) → gives p (Err e) → gives p (Err f) → e ≡ f
 
--- the same but for want of memory
-abbrev pub IsOneRefusalBut : {T : Type 0} → Bool → (Parts → Result T Error → Type 0) → Type 0
-IsOneRefusalBut takes_memory gives = (p : Parts) (e f : Error) → gives p (Err e) → gives p (Err f) → IsSameBut OutOfMemory takes_memory e f
+-- a relation of elements to answers allows one for elements of the same parts, but for want of memory
+abbrev pub IsOneRefusalBut : {T : Type 0} → Bool → (Any → Result T Error → Type 0) → Type 0
+IsOneRefusalBut takes_memory gives = (a b : Any) (e f : Error) → parts_of b ≡ parts_of a → gives a (Err e) → gives b (Err f) → IsSameBut OutOfMemory takes_memory e f
+
+-- as one that looks at parts alone does, where it allows one for one element
+pub one_of_parts : {T : Type 0} (gives : Parts → Result T Error → Type 0) → IsOneRefusal gives → IsOneRefusalBut false (OfParts gives)
+one_of_parts gives one a b e f same h k = inl (one (parts_of a) e f h (subst (λ (p : Parts). gives p (Err f)) same k))
 
 refused_same : (takes_memory : Bool) (q r : Refusal Error) (e f : Error) → IsSameBut OutOfMemory takes_memory e f → q ≡ refused e → r ≡ refused f → IsSameBut no_memory takes_memory q r
 refused_same takes_memory q r e f (inl same) is too = inl (is ∙ ap refused same ∙ sym too)
 refused_same takes_memory q r e f (inr (takes, inl memory)) is too = inr (takes, inl (is ∙ ap refused memory))
 refused_same takes_memory q r e f (inr (takes, inr memory)) is too = inr (takes, inr (too ∙ ap refused memory))
 
-module _ {T : Type 0} (takes_memory : Bool) (check : Parts → Result (Unit {0}) Error → Type 0) (convert : Parts → Result T Error → Type 0) where
+module _ {T : Type 0} (takes_memory : Bool) (check : Parts → Result (Unit {0}) Error → Type 0) (convert : Any → Result T Error → Type 0) where
   -- the check or the conversion refused the element
-  abbrev RefusedParts : Parts → Refusal Error → Type 0
-  RefusedParts p r = ((e : Error) × check p (Err e) × ((f : Error) × Same e f × (r ≡ refused f))) ⊎ (check p (Ok tt) × ((e : Error) × convert p (Err e) × (r ≡ refused e)))
+  abbrev RefusedElement : Any → Refusal Error → Type 0
+  RefusedElement any r = ((e : Error) × check (parts_of any) (Err e) × ((f : Error) × Same e f × (r ≡ refused f))) ⊎ (check (parts_of any) (Ok tt) × ((e : Error) × convert any (Err e) × (r ≡ refused e)))
 
   abbrev Agree : Refusal Error → Refusal Error → Type 0
   Agree = IsSameBut no_memory takes_memory
 
   module _ (one_check : IsOneRefusal check) (checked : (p : Parts) (e : Error) → check p (Ok tt) → check p (Err e) → ⊥) (one_conversion : IsOneRefusalBut takes_memory convert) where
-    parts_once : (p : Parts) (q r : Refusal Error) → RefusedParts p q → RefusedParts p r → Agree q r
-    parts_once p q r (inl (e, why, (f, same, is))) (inl (d, also, (g, equal, too))) = inl (is ∙ ap refused (same ∙ one_check p e d why also ∙ sym equal) ∙ sym too)
-    parts_once p q r (inl (e, why, given)) (inr (passed, rest)) = absurd (checked p e passed why)
-    parts_once p q r (inr (passed, rest)) (inl (e, why, given)) = absurd (checked p e passed why)
-    parts_once p q r (inr (passed, (e, why, is))) (inr (again, (f, also, too))) = refused_same takes_memory q r e f (one_conversion p e f why also) is too
+    elements_once : (a b : Any) (q r : Refusal Error) → parts_of b ≡ parts_of a → RefusedElement a q → RefusedElement b r → Agree q r
+    elements_once a b q r alike (inl (e, why, (f, same, is))) (inl (d, also, (g, equal, too))) = inl (is ∙ ap refused (same ∙ one_check (parts_of a) e d why (subst (λ (p : Parts). check p (Err d)) alike also) ∙ sym equal) ∙ sym too)
+    elements_once a b q r alike (inl (e, why, given)) (inr (passed, rest)) = absurd (checked (parts_of a) e (subst (λ (p : Parts). check p (Ok tt)) alike passed) why)
+    elements_once a b q r alike (inr (passed, rest)) (inl (e, why, given)) = absurd (checked (parts_of a) e passed (subst (λ (p : Parts). check p (Err e)) alike why))
+    elements_once a b q r alike (inr (passed, (e, why, is))) (inr (again, (f, also, too))) = refused_same takes_memory q r e f (one_conversion a b e f alike why also) is too
 
     module _ (Element : List ℕ → Parts → Type 0) (FaultOf : List ℕ → Fault → Type 0) (IsCut : List ℕ → Type 0) (elements : AreElements Element FaultOf IsCut) (refuses : Breach → Error) where
       same_parts : (input rest tail : List ℕ) (p o : Parts) → Front Element input p rest → Front Element input o tail → o ≡ p
@@ -69,6 +75,6 @@ module _ {T : Type 0} (takes_memory : Bool) (check : Parts → Result (Unit {0})
       pub one_reading_refusal : (input : List ℕ) (q r : Refusal Error) → Gives input (Err q) → Gives input (Err r) → Agree q r
       one_reading_refusal input q r (inl (f, why, c)) (inl (g, also, d)) =
           inl (converted_same (refusal_of refuses f) q c ∙ ap (refusal_of refuses) (elements.alone input f g why also) ∙ sym (converted_same (refusal_of refuses g) r d))
-      one_reading_refusal input q r (inl (f, why, c)) (inr (p, rest, front, given)) = absurd (element_or_fault input rest p f front why)
-      one_reading_refusal input q r (inr (p, rest, front, given)) (inl (f, why, c)) = absurd (element_or_fault input rest p f front why)
-      one_reading_refusal input q r (inr (p, rest, front, given)) (inr (o, tail, other, taken)) = parts_once p q r given (subst (λ (x : Parts). RefusedParts x r) (same_parts input rest tail p o front other) taken)
+      one_reading_refusal input q r (inl (f, why, c)) (inr (a, rest, begins, given)) = absurd (element_or_fault input rest (parts_of a) f begins.front why)
+      one_reading_refusal input q r (inr (a, rest, begins, given)) (inl (f, why, c)) = absurd (element_or_fault input rest (parts_of a) f begins.front why)
+      one_reading_refusal input q r (inr (a, rest, begins, given)) (inr (b, tail, other, taken)) = elements_once a b q r (same_parts input rest tail (parts_of a) (parts_of b) begins.front other.front) given taken

@@ -4,7 +4,7 @@ use Rattle.std.specs.Fmt.{signed_decimal}
 use Rattle.x690.specs.SignedOctets.{IsSigned}
 use Rattle.asn1_rs.specs.declared.error.Error.{Error}
 use Rattle.asn1_rs.specs.declared.asn1_types.any.Any.{Any as Read}
-use Rattle.asn1_rs.specs.Any.{IsTheElement, IsDefiniteOr}
+use Rattle.asn1_rs.specs.Any.{IsTheElement, IsDefiniteOr, OfParts}
 use Rattle.asn1_rs.specs.Element.{element_of, ElementBody, ElementCheck, ElementForm}
 use Rattle.asn1_rs.specs.Grammar.{BerWord, DerWord, BerGives, DerGives}
 use Rattle.asn1_rs.specs.Integer.{IntegerCheck, IntegerCheckGives, IntegerBody, IntegerForm, IntegerGives, IsUnsigned, UnsignedRefuses, SignedRefuses}
@@ -33,8 +33,8 @@ integers {T} number Holds refuses = record {
   T = T;
   is_there = λ rule. true;
   Reads = ReadsByEither (BerWord (IntegerBody Holds)) (DerWord IntegerCheck (IntegerBody Holds)) number false
-      (BerGives (IntegerGives number Holds refuses) Same)
-      (DerGives IntegerCheckGives (IntegerGives number Holds refuses) Same);
+      (BerGives (OfParts (IntegerGives number Holds refuses)) Same)
+      (DerGives IntegerCheckGives (OfParts (IntegerGives number Holds refuses)) Same);
   text_of = λ x. signed_decimal (number x);
   Encodes = λ x. StrictEncoding (IntegerForm Holds) false (number x);
   reading_takes_memory = false;

@@ -1,8 +1,10 @@
 -- What readers of elements and of contents octets say of more octets, and that they have one refusal.
 use Rattle.std.proofs.Common.{◌≡◌, ◌∙◌, ◌⊎◌, ◌≤◌, inl, inr, refl, subst, ap, sym, ℕ, length, List, [], ◌++◌, append_assoc, append-nil}
 use Rattle.std.proofs.lemmas.List.{append_cancel_left}
-use Rattle.std.specs.Prelude.{zero, suc, Bool, true, false, Result, Ok, Err}
+use Rattle.std.specs.Prelude.{zero, suc, Bool, true, false, Some, Result, Ok, Err, IfOk}
 use Rattle.std.specs.Borrow.{Bor}
+use Rattle.x690.specs.Identifiers.{Identifier, IsIdentifier}
+use Rattle.x690.specs.Laws.Identifiers.{identifier_unique}
 use Rattle.x690.specs.Lengths.{LengthForm, definite, indefinite}
 use Rattle.x690.specs.Elements.{Parts, IsDerElement}
 use Rattle.x690.specs.Faults.{Breach, Fault, tag_fault, DerElementFault, IsLackingOrCut}
@@ -17,9 +19,11 @@ use Rattle.asn1_rs.specs.Error.{Converted}
 use Rattle.asn1_rs.specs.declared.error.Error.{Error}
 use Rattle.asn1_rs.specs.declared.asn1_types.any.Any.{Any}
 use Rattle.asn1_rs.specs.Answers.{Front, Speaks}
-use Rattle.asn1_rs.specs.Header.{refusal_of, der_refusal, ber_refusal}
+use Rattle.asn1_rs.specs.declared.header.Header.{Header}
+use Rattle.asn1_rs.specs.Header.{refusal_of, der_refusal, ber_refusal, identifier_of, raw_tag_of, KeepsIdentifier}
 use Rattle.asn1_rs.specs.Ber.{BerContentGives}
-use Rattle.asn1_rs.specs.Any.{AnyGives, IsTheElement, IsDefiniteOr, parts_of}
+use Rattle.asn1_rs.specs.Any.{AnyGives, BeginsWithElement, IsTheElement, IsDefiniteOr, parts_of}
+use Rattle.asn1_rs.specs.Laws.Element.{the_element_parts}
 use Rattle.asn1_rs.specs.Grammar.{max_depth, BerGives, DerGives}
 use Rattle.asn1_rs.specs.Laws.Elements.{AreElements, speaks_itself, speaks_now}
 
@@ -57,15 +61,16 @@ module _ (Element : List ℕ → Parts → Type 0) (FaultOf : List ℕ → Fault
 
   pub element_lasts : (input : List ℕ) (x : List ℕ × Any) → Gives input (Ok x) → ElementLasts Element input x.0 x.1
   element_lasts input x g = λ more word tail p a e.
-      let s : g.word ++ (x.0 ++ more) ≡ word ++ tail = sym (append_assoc g.word x.0 more) ∙ ap (λ (ys : List ℕ). ys ++ more) (sym g.is) ∙ e in
-      let same : (g.word ≡ word) × (parts_of x.1 ≡ p) = elements.one.one g.word word (x.0 ++ more) tail (parts_of x.1) p g.fits a s in
+      let f = g.front in
+      let s : f.word ++ (x.0 ++ more) ≡ word ++ tail = sym (append_assoc f.word x.0 more) ∙ ap (λ (ys : List ℕ). ys ++ more) (sym f.is) ∙ e in
+      let same : (f.word ≡ word) × (parts_of x.1 ≡ p) = elements.one.one f.word word (x.0 ++ more) tail (parts_of x.1) p f.fits a s in
       (sym same.1, sym (append_cancel_left word (x.0 ++ more) tail (ap (λ (ys : List ℕ). ys ++ (x.0 ++ more)) (sym same.0) ∙ s)))
 
   pub beginning_refused : (input more word rest : List ℕ) (p : Parts) (r : Refusal Error) → Gives input (Err r) → Element word p → input ++ more ≡ word ++ rest → TellsBeginning (IsCut input) r more
   beginning_refused input more word rest p r g a e = tells_beginning refuses g.0 r (IsCut input) more g.2 (elements.beginning input more word rest p g.0 g.1 a e)
 
   pub within_refused : (input : List ℕ) (answer : Result (List ℕ × Any) (Refusal Error)) → IsCut input → Gives input answer → answer ≡ Err (refused InvalidTag)
-  within_refused input (Ok x) c g = absurd (elements.final input [] g.word x.0 (parts_of x.1) tag_fault (elements.within input c) (inl refl) g.fits (append-nil input ∙ g.is))
+  within_refused input (Ok x) c g = absurd (elements.final input [] g.front.word x.0 (parts_of x.1) tag_fault (elements.within input c) (inl refl) g.front.fits (append-nil input ∙ g.front.is))
   within_refused input (Err r) c g = ap Err (g.2 ∙ ap (refusal_of refuses) (elements.alone input g.0 tag_fault g.1 (elements.within input c)))
 
   -- an input has one refusal
@@ -74,7 +79,7 @@ module _ (Element : List ℕ → Parts → Type 0) (FaultOf : List ℕ → Fault
 
   -- where an element begins an input there is no refusal of it
   pub element_or_refusal : (input : List ℕ) (x : List ℕ × Any) (r : Refusal Error) → Gives input (Ok x) → Gives input (Err r) → ⊥
-  element_or_refusal input x r f g = refusal_lasts input r g [] f.word x.0 (parts_of x.1) (speaks_now (IsCut input) r) f.fits (append-nil input ∙ f.is)
+  element_or_refusal input x r f g = refusal_lasts input r g [] f.front.word x.0 (parts_of x.1) (speaks_now (IsCut input) r) f.front.fits (append-nil input ∙ f.front.is)
 
 -- contents octets by BER have one refusal
 pub one_content_refusal : (constructed : Bool) (form : LengthForm) (depth : ℕ) (input : List ℕ) (q r : Refusal Error) → BerContentGives constructed form depth input (Err q) → BerContentGives constructed form depth input (Err r) → q ≡ r
@@ -117,6 +122,15 @@ content_lasts false indefinite (suc depth) input more x answer f g = cc
 content_lasts false (definite n) (suc depth) input more x answer f g = content_stays (definite n) depth input more x f answer (either_bit n depth (input ++ more) answer g)
 content_lasts true form (suc depth) input more x answer f g = content_stays form depth input more x f answer g
 
+-- a header that keeps the identifier octets at the front of the input keeps these, since one string of them begins it
+raw_tag_kept : (input identifier more : List ℕ) (id : Identifier) (h : Header) → IsIdentifier identifier id → input ≡ identifier ++ more → KeepsIdentifier input h → raw_tag_of h ≡ Some identifier
+raw_tag_kept input identifier more id h i e (octets, rest, j, f, kept) = kept ∙ ap Some (identifier_unique octets identifier rest more (identifier_of h) id j i (sym f ∙ e)).0
+
+pub raw_tag_told : (Element : List ℕ → Parts → Type 0) (FaultOf : List ℕ → Fault → Type 0) (refusal : Fault → Refusal Error) (input identifier more : List ℕ) (id : Identifier) (answer : Result (List ℕ × Any) (Refusal Error)) →
+    IsIdentifier identifier id → input ≡ identifier ++ more → AnyGives Element FaultOf refusal input answer → IfOk answer (λ x. raw_tag_of x.1.header ≡ Some identifier)
+raw_tag_told Element FaultOf refusal input identifier more id (Ok x) i e g = raw_tag_kept input identifier more id x.1.header i e g.kept
+raw_tag_told Element FaultOf refusal input identifier more id (Err r) i e g = tt
+
 -- errors that stay as they are keep the refusal
 same_refusal : (q r : Refusal Error) → Converted (λ (e f : Error). f ≡ e) q r → r ≡ q
 same_refusal (cut n) r c = c
@@ -127,15 +141,22 @@ same_refusal (failed e) r c = c.2 ∙ ap failed c.1
 not_indefinite : (o : List ℕ) (p : Parts) → IsDerElement o p → p.form ≡ indefinite → ⊥
 not_indefinite o p d e = let counted = d.counted in cc
 
+-- what is the element that begins an input begins it too
+same_begins : (Element : List ℕ → Parts → Type 0) (input rest : List ℕ) (any same : Any) → IsTheElement any (Ok same) → BeginsWithElement Element input any rest → BeginsWithElement Element input same rest
+same_begins Element input rest any same h b = record {
+  front = subst (λ (p : Parts). Front Element input p rest) (sym (the_element_parts any same h)) b.front;
+  kept = subst (KeepsIdentifier input) (sym h.0) b.kept;
+}
+
 -- What the blanket readers answer at an element is the element, or the refusal of its first fault.
 pub der_any : (input : List ℕ) (answer : Result (List ℕ × Any) (Refusal Error)) → DerGives IsDefiniteOr IsTheElement (λ e f. f ≡ e) input answer → DerElementGives input answer
-der_any input (Ok x) (p, front, check, same) = subst (λ (q : Parts). Front IsDerElement input q x.0) (sym same) front
+der_any input (Ok x) (any, begins, check, same) = same_begins IsDerElement input x.0 any x.1 same begins
 der_any input (Err r) (inl (fault, f, c)) = (fault, f, same_refusal (der_refusal fault) r c)
-der_any input (Err r) (inr (p, rest, front, inl (e, check, from))) = absurd (not_indefinite front.word p front.fits check.0)
-der_any input (Err r) (inr (p, rest, front, inr (check, (e, convert, is)))) = absurd convert
+der_any input (Err r) (inr (any, rest, begins, inl (e, check, from))) = absurd (not_indefinite begins.front.word (parts_of any) begins.front.fits check.0)
+der_any input (Err r) (inr (any, rest, begins, inr (check, (e, convert, is)))) = absurd convert
 
 pub ber_any : (input : List ℕ) (answer : Result (List ℕ × Any) (Refusal Error)) → BerGives IsTheElement (λ e f. f ≡ e) input answer → BerElementGives input answer
-ber_any input (Ok x) (p, front, check, same) = subst (λ (q : Parts). Front (IsElement max_depth) input q x.0) (sym same) front
+ber_any input (Ok x) (any, begins, check, same) = same_begins (IsElement max_depth) input x.0 any x.1 same begins
 ber_any input (Err r) (inl (fault, f, c)) = (fault, f, same_refusal (ber_refusal fault) r c)
-ber_any input (Err r) (inr (p, rest, front, inl (e, check, from))) = cc
-ber_any input (Err r) (inr (p, rest, front, inr (check, (e, convert, is)))) = absurd convert
+ber_any input (Err r) (inr (any, rest, begins, inl (e, check, from))) = cc
+ber_any input (Err r) (inr (any, rest, begins, inr (check, (e, convert, is)))) = absurd convert

@@ -43,7 +43,7 @@ no_front_of_beginning G one input more word rest left v w f g e l =
 
 pub beginning_is_refused : (Element : List ℕ → Parts → Type 0) (FaultOf : List ℕ → Fault → Type 0) (IsCut : List ℕ → Type 0) → AreElements Element FaultOf IsCut → (refuses : Breach → Error) →
     (input more word rest : List ℕ) (p : Parts) (answer : Result (List ℕ × Any) (Refusal Error)) → AnyGives Element FaultOf (refusal_of refuses) input answer → Element word p → input ++ more ≡ word ++ rest → length input < length word → RefusedAsBeginning (IsCut input) more answer
-beginning_is_refused Element FaultOf IsCut elements at input more word rest p (Ok x) g a e l = absurd (no_front_of_beginning Element elements.one input more word rest x.0 (parts_of x.1) p g a e l)
+beginning_is_refused Element FaultOf IsCut elements at input more word rest p (Ok x) g a e l = absurd (no_front_of_beginning Element elements.one input more word rest x.0 (parts_of x.1) p g.front a e l)
 beginning_is_refused Element FaultOf IsCut elements at input more word rest p (Err r) g a e l = beginning_refused Element FaultOf IsCut elements at input more word rest p r g a e
 
 pub header_beginning_is_refused : (rule : Rule) (refuses : Breach → Error) (input more front rest : List ℕ) (id : Identifier) (form : LengthForm) (answer : Result (List ℕ × Header) (Refusal Error)) → HeaderGives rule (refusal_of refuses) input answer → IsHeader rule front id form → input ++ more ≡ front ++ rest → length input < length front → RefusedAsBeginning (IsCutIdentifier input) more answer

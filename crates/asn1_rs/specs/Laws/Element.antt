@@ -3,9 +3,13 @@ use Rattle.std.proofs.Common.{◌≡◌, ◌∙◌, ap, sym, subst, refl, false}
 use Rattle.std.specs.Prelude.{Result, Ok, Err}
 use Rattle.x690.specs.Lengths.{definite, indefinite}
 use Rattle.x690.specs.Elements.{Parts}
+use Rattle.x690.specs.Laws.Elements.{same_parts}
 use Rattle.asn1_rs.specs.declared.asn1_types.any.Any.{Any}
 use Rattle.asn1_rs.specs.declared.error.Error.{Error}
-use Rattle.asn1_rs.specs.Any.{IsTheElement, IsDefiniteOr}
+use Rattle.asn1_rs.specs.declared.header.Header.{Header}
+use Rattle.asn1_rs.specs.Any.{parts_of, IsTheElement, IsDefiniteOr}
+use Rattle.asn1_rs.specs.Header.{identifier_of}
+use Rattle.asn1_rs.specs.Length.{form_of}
 use Rattle.asn1_rs.specs.Grammar.{TakesBody, Checks}
 use Rattle.asn1_rs.specs.Kinds.{IsLawfulElement, IsExactCheck, IsExactConversion}
 use Rattle.asn1_rs.specs.Element.{Element, element_of, ElementBody, ElementCheck, ElementForm, IsElementValue, any_element}
@@ -23,14 +27,19 @@ element_lawful = record {
   form_body = λ v i c f. f.is;
 }
 
-element_body_exact : (p : Parts) (answer : Result Any Error) → IsTheElement p answer → TakesBody ElementBody element_of false (λ (x y : Error). y ≡ x) p answer
-element_body_exact p (Ok x) h = ap (λ (q : Parts). let e : Element = record { id = q.id; content = q.content } in e) h
-element_body_exact p (Err e) h = absurd h
+-- it has the parts of what it was converted from
+pub the_element_parts : (any same : Any) → IsTheElement any (Ok same) → parts_of same ≡ parts_of any
+the_element_parts any same (h, c) = same_parts (identifier_of same.header) (identifier_of any.header) (form_of same.header.length) (form_of any.header.length) same.content.now any.content.now
+    (ap identifier_of h) (ap (λ (x : Header). form_of x.length) h) c
+
+element_body_exact : (any : Any) (answer : Result Any Error) → IsTheElement any answer → TakesBody ElementBody element_of false (λ (x y : Error). y ≡ x) (parts_of any) answer
+element_body_exact any (Ok x) h = ap (λ (q : Parts). let e : Element = record { id = q.id; content = q.content } in e) (the_element_parts any x h)
+element_body_exact any (Err e) h = absurd h
 
 pub element_converts : IsExactConversion IsTheElement any_element
 element_converts = record {
-  exact = λ p answer octets h. element_body_exact p answer h;
-  spares = λ none p h. h;
+  exact = λ any answer octets h. element_body_exact any answer h;
+  spares = λ none any h. h;
 }
 
 element_check_exact : (p : Parts) (answer : Result (Unit {0}) Error) → IsDefiniteOr p answer → Checks ElementCheck p answer

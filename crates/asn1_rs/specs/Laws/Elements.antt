@@ -12,6 +12,7 @@ use Rattle.x690.specs.Laws.Faults.{CountsSome, no_der_element, der_fault_counts,
 use Rattle.x690.specs.Laws.Nested.{nested_element_unique, nested_element_two, nested_possible}
 use Rattle.x690.specs.Laws.NestedFaults.{no_element, element_fault_counts, one_element_fault}
 use Rattle.x690.specs.Laws.Beginnings.{cut_header_fault, within_fault, der_beginning, element_beginning}
+use Rattle.asn1_rs.specs.declared.asn1_types.any.Any.{Any}
 use Rattle.asn1_rs.specs.declared.error.Err.{Err as Refusal}
 use Rattle.asn1_rs.specs.declared.error.Err.TheVariants.{Error as refused, Incomplete as cut, Failure as failed}
 use Rattle.asn1_rs.specs.declared.error.Needed.TheVariants.{Size, Unknown}
@@ -19,6 +20,7 @@ use Rattle.asn1_rs.specs.declared.error.Error.{Error}
 use Rattle.asn1_rs.specs.declared.error.Error.TheVariants.{OutOfMemory}
 use Rattle.asn1_rs.specs.Error.{Converted, HeldIn}
 use Rattle.asn1_rs.specs.Header.{refusal_of, der_breach, ber_breach}
+use Rattle.asn1_rs.specs.Any.{parts_of}
 use Rattle.asn1_rs.specs.Answers.{Front, NoFront, IsFinal, Speaks, Exactly, TellsMemory, IsOther}
 use Rattle.asn1_rs.specs.Grammar.{IsOneFront, ElementWord, ElementGives, DerGives, DerWord, TakesBody, Checks, NoCheck, PassesAll, max_depth, EndsWithin}
 
@@ -93,10 +95,10 @@ pub front_more : {V : Type 0} (G : List ℕ → V → Type 0) (input : List ℕ)
 front_more G input v rest more f = record { word = f.word; fits = f.fits; is = ap (λ (x : List ℕ). x ++ more) f.is ∙ append_assoc f.word rest more }
 
 module _ {T V E : Type 0} (Element : List ℕ → Parts → Type 0) (FaultOf : List ℕ → Fault → Type 0) (IsCut : List ℕ → Type 0) (elements : AreElements Element FaultOf IsCut) (refuses : Breach → Error)
-    (check : Parts → Result (Unit {0}) Error → Type 0) (convert : Parts → Result T E → Type 0) (from : Error → E → Type 0)
+    (check : Parts → Result (Unit {0}) Error → Type 0) (convert : Any → Result T E → Type 0) (from : Error → E → Type 0)
     (Check : Parts → Type 0) (Body : Parts → V → Type 0) (value : T → V) (takes : Bool) (G : List ℕ → V → Type 0)
     (check_exact : (p : Parts) (answer : Result (Unit {0}) Error) → check p answer → Checks Check p answer)
-    (body_exact : (p : Parts) (answer : Result T E) → IsOctets p.content → convert p answer → TakesBody Body value takes from p answer)
+    (body_exact : (any : Any) (answer : Result T E) → IsOctets any.content.now → convert any answer → TakesBody Body value takes from (parts_of any) answer)
     (split : (o : List ℕ) (v : V) → G o v → ElementWord Element Check Body o v)
     (join : (o : List ℕ) (v : V) → ElementWord Element Check Body o v → G o v) where
   -- the element that was read is the one of any word at the front
@@ -108,18 +110,18 @@ module _ {T V E : Type 0} (Element : List ℕ → Parts → Type 0) (FaultOf : L
 
   pub element_exact : (input : List ℕ) (answer : Result (List ℕ × T) (Refusal E)) → ElementGives Element FaultOf (refusal_of refuses) check convert from input answer → Exactly IsCut G value (TellsMemory takes from) input answer
   element_exact input (Ok x) g = record {
-    word = g.1.word;
-    fits = join g.1.word (value x.1) (g.0, g.1.fits, check_exact g.0 (Ok tt) g.2, body_exact g.0 (Ok x.1) (elements.possible g.1.word g.0 g.1.fits).content g.3);
-    is = g.1.is;
+    word = g.1.front.word;
+    fits = join g.1.front.word (value x.1) (parts_of g.0, g.1.front.fits, check_exact (parts_of g.0) (Ok tt) g.2, body_exact g.0 (Ok x.1) (elements.possible g.1.front.word (parts_of g.0) g.1.front.fits).content g.3);
+    is = g.1.front.is;
   }
   element_exact input (Err r) (inl (fault, f, c)) = inr (λ more s w rest v e d.
       let a : ElementWord Element Check Body w v = split w v d in
       elements.final input more w rest a.0 fault f (speaks_fault refuses from fault r (IsCut input) more (elements.counts input fault f) c s) a.1 e)
-  element_exact input (Err r) (inr (p, rest, front, inl (e, c, f))) = inr (λ more s w t v h d. check_exact p (Err e) c (word_parts (input ++ more) (rest ++ more) w t p v (front_more Element input p rest more front) h d).0)
-  element_exact input (Err r) (inr (p, rest, front, inr (c, (e, cv, is)))) =
-      elim (body_exact p (Err e) (elements.possible front.word p front.fits).content cv) [
+  element_exact input (Err r) (inr (any, rest, begins, inl (e, c, f))) = inr (λ more s w t v h d. check_exact (parts_of any) (Err e) c (word_parts (input ++ more) (rest ++ more) w t (parts_of any) v (front_more Element input (parts_of any) rest more begins.front) h d).0)
+  element_exact input (Err r) (inr (any, rest, begins, inr (c, (e, cv, is)))) =
+      elim (body_exact any (Err e) (elements.possible begins.front.word (parts_of any) begins.front.fits).content cv) [
         | inl m ↦ inl (m.0, (e, m.1, is))
-        | inr none ↦ inr (λ more s w t v h d. none v (word_parts (input ++ more) (rest ++ more) w t p v (front_more Element input p rest more front) h d).1)
+        | inr none ↦ inr (λ more s w t v h d. none v (word_parts (input ++ more) (rest ++ more) w t (parts_of any) v (front_more Element input (parts_of any) rest more begins.front) h d).1)
       ]
 
 -- no fault tells of want of memory
@@ -132,15 +134,15 @@ fault_spares from at other depth_fault r c = subst (HeldIn (IsOther from)) (sym 
 
 -- where check and conversion take no memory, no refusal tells of want of it
 pub element_spares : {T E : Type 0} (Element : List ℕ → Parts → Type 0) (FaultOf : List ℕ → Fault → Type 0) (refuses : Breach → Error) → ((breach : Breach) → refuses breach ≢ OutOfMemory) →
-    (check : Parts → Result (Unit {0}) Error → Type 0) (convert : Parts → Result T E → Type 0) (from : Error → E → Type 0) →
-    ((p : Parts) → check p (Err OutOfMemory) → ⊥) → ((p : Parts) (e : E) → convert p (Err e) → IsOther from e) →
+    (check : Parts → Result (Unit {0}) Error → Type 0) (convert : Any → Result T E → Type 0) (from : Error → E → Type 0) →
+    ((p : Parts) → check p (Err OutOfMemory) → ⊥) → ((any : Any) (e : E) → convert any (Err e) → IsOther from e) →
     (input : List ℕ) (answer : Result (List ℕ × T) (Refusal E)) → ElementGives Element FaultOf (refusal_of refuses) check convert from input answer → IfErr answer (HeldIn (IsOther from))
 element_spares Element FaultOf at other check convert from checked converted input (Ok x) g = tt
 element_spares Element FaultOf at other check convert from checked converted input (Err r) (inl (fault, f, c)) = fault_spares from at other fault r c
-element_spares Element FaultOf at other check convert from checked converted input (Err r) (inr (p, rest, front, inl (e, c, (f, m, is)))) =
-    subst (HeldIn (IsOther from)) (sym is) (inl (e, λ q. checked p (subst (λ (x : Error). check p (Err x)) q c), m))
-element_spares Element FaultOf at other check convert from checked converted input (Err r) (inr (p, rest, front, inr (c, (e, v, is)))) =
-    subst (HeldIn (IsOther from)) (sym is) (converted p e v)
+element_spares Element FaultOf at other check convert from checked converted input (Err r) (inr (any, rest, begins, inl (e, c, (f, m, is)))) =
+    subst (HeldIn (IsOther from)) (sym is) (inl (e, λ q. checked (parts_of any) (subst (λ (x : Error). check (parts_of any) (Err x)) q c), m))
+element_spares Element FaultOf at other check convert from checked converted input (Err r) (inr (any, rest, begins, inr (c, (e, v, is)))) =
+    subst (HeldIn (IsOther from)) (sym is) (converted any e v)
 
 pub der_breach_spares : (breach : Breach) → der_breach breach ≢ OutOfMemory
 der_breach_spares breach q = cc
@@ -149,8 +151,8 @@ pub ber_breach_spares : (breach : Breach) → ber_breach breach ≢ OutOfMemory
 ber_breach_spares breach q = cc
 
 -- a reader by DER that reads an element, checks nothing and converts it is exact
-pub unchecked_exact : {T V E : Type 0} (convert : Parts → Result T E → Type 0) (from : Error → E → Type 0) (Body : Parts → V → Type 0) (value : T → V) (takes : Bool) →
-    ((p : Parts) (answer : Result T E) → IsOctets p.content → convert p answer → TakesBody Body value takes from p answer) →
+pub unchecked_exact : {T V E : Type 0} (convert : Any → Result T E → Type 0) (from : Error → E → Type 0) (Body : Parts → V → Type 0) (value : T → V) (takes : Bool) →
+    ((any : Any) (answer : Result T E) → IsOctets any.content.now → convert any answer → TakesBody Body value takes from (parts_of any) answer) →
     (input : List ℕ) (answer : Result (List ℕ × T) (Refusal E)) → DerGives PassesAll convert from input answer → Exactly IsCutIdentifier (DerWord NoCheck Body) value (TellsMemory takes from) input answer
 unchecked_exact convert from Body value takes exact =
     element_exact IsDerElement DerElementFault IsCutIdentifier der_elements der_breach PassesAll convert from NoCheck Body value takes (DerWord NoCheck Body) passes_all exact (λ o v w. w) (λ o v w. w)

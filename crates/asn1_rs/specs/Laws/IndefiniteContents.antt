@@ -17,6 +17,7 @@ use Rattle.asn1_rs.specs.Header.{ber_breach}
 use Rattle.asn1_rs.specs.Grammar.{max_depth, BerGives, EndsWithin, ElementWord, NoCheck, PassesAll, TakesBody}
 use Rattle.asn1_rs.specs.Items.{TakesItem, IsWalk, AreWords, TellsNothing, TellsMemoryAlone, IsMemory, EndsWalk}
 use Rattle.asn1_rs.specs.Laws.Any.{BerElementGives}
+use Rattle.asn1_rs.specs.Laws.Element.{the_element_parts}
 use Rattle.asn1_rs.specs.Laws.Elements.{ber_elements, element_exact, passes_all}
 use Rattle.asn1_rs.specs.Laws.Items.{octets_kept, whole_walk}
 
@@ -30,9 +31,9 @@ ElementsGive = BerGives IsTheElement IsSame
 abbrev HasParts : Parts → Parts → Type 0
 HasParts p v = v ≡ p
 
-element_taken : (p : Parts) (answer : Result Any Error) → IsOctets p.content → IsTheElement p answer → TakesBody HasParts parts_of false IsSame p answer
-element_taken p (Ok any) o g = g
-element_taken p (Err e) o g = absurd g
+element_taken : (any : Any) (answer : Result Any Error) → IsOctets any.content.now → IsTheElement any answer → TakesBody HasParts parts_of false IsSame (parts_of any) answer
+element_taken any (Ok same) o g = the_element_parts any same g
+element_taken any (Err e) o g = absurd g
 
 element_split : (o : List ℕ) (v : Parts) → IsElement max_depth o v → ElementWord (IsElement max_depth) NoCheck HasParts o v
 element_split o v a = (v, a, tt, refl)
@@ -57,8 +58,9 @@ no_end octets (Ok x ∷ others) left w = w
 
 pub indefinite_walk : (input : List ℕ) (x : List ℕ × Any) (content : List ℕ) (answers : List (Result Any Error)) (left : List ℕ) → BerElementGives input (Ok x) → (parts_of x.1).form ≡ indefinite → content ≡ (parts_of x.1).content → Yields (TakesItem ElementsGive IsSame) content answers left → IsWalk (IsElement max_depth) parts_of TellsNothing content answers left
 indefinite_walk input x content answers left g f e y =
-    let n = g.fits.1 in
-    let row = indefinite_is_row max_depth g.word (parts_of x.1) g.fits.0 f n in
-    let o = subst IsOctets (sym e) (nested_content_is_octets max_depth g.word (parts_of x.1) g.fits.0 n) in
+    let front = g.front in
+    let n = front.fits.1 in
+    let row = indefinite_is_row max_depth front.word (parts_of x.1) front.fits.0 f n in
+    let o = subst IsOctets (sym e) (nested_content_is_octets max_depth front.word (parts_of x.1) front.fits.0 n) in
     let w = whole_walk ElementsGive IsSame (IsElement max_depth) parts_of false EndsWithin ber_elements.one IsOctets octets_kept elements_exact answers content left o (row.1, row_words row.0 row.1 row.2 row.3 row.4, e ∙ row.5) y in
     record { words = w.words; items = w.items; others = w.others; ends = w.ends; answers_are = w.answers_are; values = w.values; joined = w.joined; end = no_end w.others w.ends left w.end }

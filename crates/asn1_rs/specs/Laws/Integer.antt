@@ -11,6 +11,7 @@ use Rattle.x690.specs.Laws.Integers.{integer_content_unique, integer_content_one
 use Rattle.asn1_rs.specs.declared.error.Error.{Error}
 use Rattle.asn1_rs.specs.declared.error.Error.TheVariants.{ConstructUnexpected, IndefiniteLengthUnexpected, DerConstraintFailed, OutOfMemory}
 use Rattle.asn1_rs.specs.declared.error.DerConstraint.TheVariants.{IntegerEmpty, IntegerLeadingZeroes, IntegerLeadingFF}
+use Rattle.asn1_rs.specs.Any.{parts_of, OfParts}
 use Rattle.asn1_rs.specs.Form.{IsOneForm, IsOneValue, FitsElement}
 use Rattle.asn1_rs.specs.Grammar.{TakesBody, Checks, FormChecks, FormBodies, FormTakes, made, of_class}
 use Rattle.asn1_rs.specs.Kinds.{IsLawfulElement, IsExactCheck, IsExactConversion}
@@ -97,10 +98,10 @@ module _ (Holds : ℤ → Type 0) where
 
   pub integer_converts : {T : Type 0} (number : T → ℤ) (content_refuses : List ℕ → Error → Type 0) →
       ((c : List ℕ) (e : Error) → IsOctets c → content_refuses c e → Holds (twos_complement_value c) → ⊥) → ((c : List ℕ) → content_refuses c OutOfMemory → ⊥) →
-      IsExactConversion (IntegerGives number Holds content_refuses) (integer_element number Holds)
+      IsExactConversion (OfParts (IntegerGives number Holds content_refuses)) (integer_element number Holds)
   integer_converts number content_refuses refused spares = record {
-    exact = integer_exact number content_refuses refused;
-    spares = λ none p r. spared p r;
+    exact = λ any. integer_exact number content_refuses refused (parts_of any);
+    spares = λ none any r. spared (parts_of any) r;
   }
     where
       spared : (p : Parts) → IntegerRefuses content_refuses p OutOfMemory → ⊥

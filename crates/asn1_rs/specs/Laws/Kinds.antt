@@ -4,8 +4,10 @@ use Rattle.x690.specs.Octets.{IsOctets}
 use Rattle.std.proofs.Common.{◌≡◌, refl, subst, inl}
 use Rattle.x690.specs.Elements.{Parts, IsDerElement}
 use Rattle.x690.specs.Nested.{IsElement}
+use Rattle.asn1_rs.specs.declared.asn1_types.any.Any.{Any}
 use Rattle.asn1_rs.specs.declared.error.Error.{Error}
 use Rattle.asn1_rs.specs.declared.error.Error.TheVariants.{OutOfMemory}
+use Rattle.asn1_rs.specs.Any.{parts_of}
 use Rattle.asn1_rs.specs.Answers.{IsOther}
 use Rattle.asn1_rs.specs.Grammar.{NoCheck, TakesBody, max_depth}
 use Rattle.asn1_rs.specs.ItemGrammar.{ItemGrammar, IsLawfulItem, by_reference}
@@ -52,8 +54,8 @@ lawful_by_reference G l = record {
 }
 
 -- a refusal that is no want of memory
-pub other_error : {S : Type 0} (gives : Parts → Result S Error → Type 0) → ((p : Parts) → gives p (Err OutOfMemory) → ⊥) → (p : Parts) (e : Error) → gives p (Err e) → IsOther (λ (x y : Error). y ≡ x) e
-other_error gives spares p e g = inl (e, λ q. spares p (subst (λ (x : Error). gives p (Err x)) q g), refl)
+pub other_error : {S : Type 0} (gives : Any → Result S Error → Type 0) → ((any : Any) → gives any (Err OutOfMemory) → ⊥) → (any : Any) (e : Error) → gives any (Err e) → IsOther (λ (x y : Error). y ≡ x) e
+other_error gives spares any e g = inl (e, λ q. spares any (subst (λ (x : Error). gives any (Err x)) q g), refl)
 
 -- a type that holds one item is as lawful as that
 module _ {S T : Type 0} (held : T → S) (G : ElementGrammar S) where
@@ -70,12 +72,12 @@ module _ {S T : Type 0} (held : T → S) (G : ElementGrammar S) where
     form_body = l.form_body;
   }
 
-  pub holding_converts : (gives : Parts → Result S Error → Type 0) → IsExactConversion gives G → IsExactConversion (HoldingGives held gives) (holding held G)
+  pub holding_converts : (gives : Any → Result S Error → Type 0) → IsExactConversion gives G → IsExactConversion (HoldingGives held gives) (holding held G)
   holding_converts gives c = record { exact = exact; spares = c.spares }
     where
-      exact : (p : Parts) (answer : Result T Error) → IsOctets p.content → HoldingGives held gives p answer → TakesBody G.Body (λ x. G.value (held x)) G.takes_memory (λ (x y : Error). y ≡ x) p answer
-      exact p (Ok x) o h = c.exact p (Ok (held x)) o h
-      exact p (Err e) o h = c.exact p (Err e) o h
+      exact : (any : Any) (answer : Result T Error) → IsOctets any.content.now → HoldingGives held gives any answer → TakesBody G.Body (λ x. G.value (held x)) G.takes_memory (λ (x y : Error). y ≡ x) (parts_of any) answer
+      exact any (Ok x) o h = c.exact any (Ok (held x)) o h
+      exact any (Err e) o h = c.exact any (Err e) o h
 
   pub holding_primitive : (number : ℕ) (octets : S → List ℕ) → IsPrimitiveElement G number octets → IsPrimitiveElement (holding held G) number (λ x. octets (held x))
   holding_primitive number octets l = record {

@@ -27,7 +27,8 @@ use Rattle.asn1_rs.specs.Header.{der_breach}
 use Rattle.asn1_rs.specs.declared.asn1_types.any.Any.{Any}
 use Rattle.asn1_rs.specs.Error.{HeldIn, FlattenedTo}
 use Rattle.asn1_rs.specs.Kinds.{IsExactCheck}
-use Rattle.asn1_rs.specs.Any.{parts_of, IsTheElement}
+use Rattle.asn1_rs.specs.Any.{parts_of, IsTheElement, OfParts}
+use Rattle.asn1_rs.specs.Laws.Element.{the_element_parts}
 use Rattle.asn1_rs.specs.Answers.{NoFront, Exactly, TellsMemory, IsOther}
 use Rattle.asn1_rs.specs.Form.{IsOneForm, IsOneValue, FitsElement, HasValues, IsStrict}
 use Rattle.asn1_rs.specs.Grammar.{IsOneFront, IsOneBody, TakesBody, Checks, FormChecks, FormBodies, FormTakes, FormNumber, NoCheck, DerWord, made, of_class, max_depth}
@@ -244,19 +245,19 @@ module _ {T V W E : Type 0} (number : ℕ) (holds : List T → W → Type 0) (va
   none_taken e content o (inr s) =
       elim (taken_none reads from G value takes IsCut one IsOctets octets_kept exact s.0 e content s.1 o s.2) [ inl m ↦ inl m.1 | inr none ↦ inr none ]
 
-  pub list_takes : (p : Parts) (answer : Result W E) → IsOctets p.content → ListTakes number holds reads from p answer → TakesBody (ListBody number G) values true from p answer
-  list_takes p (Ok w) o t = record {
+  pub list_takes : (any : Any) (answer : Result W E) → IsOctets any.content.now → OfParts (ListTakes number holds reads from) any answer → TakesBody (ListBody number G) values true from (parts_of any) answer
+  list_takes any (Ok w) o t = record {
     number_is = t.0.0;
     constructed = t.0.1;
-    items = all_joined t.1.0 w p.content o t.1.1 t.1.2;
+    items = all_joined t.1.0 w any.content.now o t.1.1 t.1.2;
   }
-  list_takes p (Err e) o (inl r) = inr (λ vs b. list_or_refused number p r.0 r.1 b.number_is b.constructed)
-  list_takes p (Err e) o (inr (h, s)) = elim (none_taken e p.content o s) [ inl m ↦ inl (refl, m) | inr none ↦ inr (λ vs b. none vs b.items) ]
+  list_takes any (Err e) o (inl r) = inr (λ vs b. list_or_refused number (parts_of any) r.0 r.1 b.number_is b.constructed)
+  list_takes any (Err e) o (inr (h, s)) = elim (none_taken e any.content.now o s) [ inl m ↦ inl (refl, m) | inr none ↦ inr (λ vs b. none vs b.items) ]
 
-  pub list_reads : (p : Parts) (answer : Result W E) → IsOctets p.content → ListReads number holds reads from p answer → TakesBody (ListOf number G) values true from p answer
-  list_reads p (Ok w) o t = record { number_is = t.0; items = all_joined t.1.0 w p.content o t.1.1 t.1.2 }
-  list_reads p (Err e) o (inl r) = inr (λ vs b. r.0 b.number_is)
-  list_reads p (Err e) o (inr (h, s)) = elim (none_taken e p.content o s) [ inl m ↦ inl (refl, m) | inr none ↦ inr (λ vs b. none vs b.items) ]
+  pub list_reads : (any : Any) (answer : Result W E) → IsOctets any.content.now → OfParts (ListReads number holds reads from) any answer → TakesBody (ListOf number G) values true from (parts_of any) answer
+  list_reads any (Ok w) o t = record { number_is = t.0; items = all_joined t.1.0 w any.content.now o t.1.1 t.1.2 }
+  list_reads any (Err e) o (inl r) = inr (λ vs b. r.0 b.number_is)
+  list_reads any (Err e) o (inr (h, s)) = elim (none_taken e any.content.now o s) [ inl m ↦ inl (refl, m) | inr none ↦ inr (λ vs b. none vs b.items) ]
 
 -- the check of a list is exact
 module _ (number : ℕ) (check : Parts → Result (Unit {0}) Error → Type 0) (Check : Parts → Type 0)
@@ -264,9 +265,9 @@ module _ (number : ℕ) (check : Parts → Result (Unit {0}) Error → Type 0) (
   abbrev IsParts : Parts → Parts → Type 0
   IsParts p q = q ≡ p
 
-  any_body : (p : Parts) (answer : Result Any Error) → IsOctets p.content → IsTheElement p answer → TakesBody IsParts parts_of false (λ (x y : Error). y ≡ x) p answer
-  any_body p (Ok x) o h = h
-  any_body p (Err e) o h = absurd h
+  any_body : (any : Any) (answer : Result Any Error) → IsOctets any.content.now → IsTheElement any answer → TakesBody IsParts parts_of false (λ (x y : Error). y ≡ x) (parts_of any) answer
+  any_body any (Ok x) o h = the_element_parts any x h
+  any_body any (Err e) o h = absurd h
 
   to_checked : (o : List ℕ) (p : Parts) → DerWord Check IsParts o p → CheckedElement Check o p
   to_checked o p w = (subst (λ (q : Parts). IsDerElement o q) (sym w.3) w.1, subst Check (sym w.3) w.2)
@@ -298,7 +299,7 @@ list_checks number check Check c = record {
   where
     element_spared : (octets : List ℕ) (answer : Result (List ℕ × Any) (Refusal Error)) → CheckedGives check octets answer → EndsItem (λ (x y : Error). y ≡ x) octets answer faults.OutOfMemory → ⊥
     element_spared octets (Ok x) g e = let a = e.1 in cc
-    element_spared octets (Err r) g e = refusal_spared r (element_spares IsDerElement DerElementFault der_breach der_breach_spares check IsTheElement (λ (x y : Error). y ≡ x) c.spares (λ p f h. absurd h) octets (Err r) g) e
+    element_spared octets (Err r) g e = refusal_spared r (element_spares IsDerElement DerElementFault der_breach der_breach_spares check IsTheElement (λ (x y : Error). y ≡ x) c.spares (λ any f h. absurd h) octets (Err r) g) e
       where
         refusal_spared : (r : Refusal Error) → HeldIn (IsOther (λ (x y : Error). y ≡ x)) r → FlattenedTo (λ x y. y ≡ x) (λ (x y : Error). y ≡ x) r faults.OutOfMemory → ⊥
         refusal_spared (cut n) h f = cc

@@ -5,6 +5,7 @@ use Rattle.x690.specs.Octets.{IsOctets}
 use Rattle.x690.specs.Identifiers.{Identifier}
 use Rattle.x690.specs.Elements.{Parts}
 use Rattle.asn1_rs.specs.declared.error.Error.{Error}
+use Rattle.asn1_rs.specs.Any.{parts_of, OfParts}
 use Rattle.asn1_rs.specs.Grammar.{TakesBody, Checks}
 use Rattle.asn1_rs.specs.Kinds.{IsLawfulElement, IsExactCheck, IsExactConversion}
 use Rattle.asn1_rs.specs.Laws.Forms.{IsPrimitiveElement, universal_one, universal_value, universal_fits}
@@ -31,8 +32,8 @@ module _ {S : Type 0} (number : ℕ) (octets : S → List ℕ) where
     form_body = λ v i c f. (ap (λ (z : Identifier). z.number) f.0, f.1.0);
   }
 
-  pub octets_converts : IsExactConversion (OctetsGives number octets) (octets_element number octets)
-  octets_converts = record { exact = exact; spares = λ none p h. let e = h.1 in cc }
+  pub octets_converts : IsExactConversion (OfParts (OctetsGives number octets)) (octets_element number octets)
+  octets_converts = record { exact = λ any. exact (parts_of any); spares = λ none any h. let e = h.1 in cc }
     where
       exact : (p : Parts) (answer : Result S Error) → IsOctets p.content → OctetsGives number octets p answer → TakesBody (OctetsBody number) octets false (λ (x y : Error). y ≡ x) p answer
       exact p (Ok x) o g = g

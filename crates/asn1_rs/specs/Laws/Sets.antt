@@ -25,6 +25,8 @@ use Rattle.asn1_rs.specs.Form.{IsOneForm, IsOneValue, FitsElement, HasValues, Is
 use Rattle.asn1_rs.specs.Grammar.{IsOneFront, IsOneBody, TakesBody, FormChecks, FormBodies, FormTakes, FormNumber, NoCheck, max_depth}
 use Rattle.asn1_rs.specs.ItemGrammar.{ItemGrammar, IsLawfulItem}
 use Rattle.asn1_rs.specs.Items.{IsJoined}
+use Rattle.asn1_rs.specs.declared.asn1_types.any.Any.{Any}
+use Rattle.asn1_rs.specs.Any.{parts_of, OfParts}
 use Rattle.asn1_rs.specs.Lists.{joining, ListCheck, StrictWord, SomeRefuses, ListTakes, ListReads}
 use Rattle.asn1_rs.specs.Wrote.{HasNone, Either, IsWritable, WrittenRefusal, IntoVector}
 use Rattle.asn1_rs.specs.Sets.{Multiset, multiset, ValueSet, value_set, HaveSame, AllDiffer, Members, set_of, pairs_pass, members_if, members, is_below, Ascending, Joins, AnyList, Seen, SetBody, SetRow, SetForm, SetValues, SetInDer, set_grammar, multiset_grammar, member_grammar, items_of, HasItems}
@@ -551,21 +553,21 @@ module _ {T V W M E : Type 0} (holds : List T → W → Type 0) (of : List V →
     (told : (items : List T) (w : W) → holds items w → of (map value items) ≡ worth w)
     (one : IsOneFront G)
     (exact : (octets : List ℕ) (answer : Result (List ℕ × T) (Refusal E)) → IsOctets octets → reads octets answer → Exactly IsCut G value (TellsMemory takes from) octets answer) where
-  pub set_takes : (p : Parts) (answer : Result W E) → IsOctets p.content → ListTakes 17 holds reads from p answer → TakesBody (SetBody of G) worth true from p answer
-  set_takes p (Ok w) o t = (
+  pub set_takes : (any : Any) (answer : Result W E) → IsOctets any.content.now → OfParts (ListTakes 17 holds reads from) any answer → TakesBody (SetBody of G) worth true from (parts_of any) answer
+  set_takes any (Ok w) o t = (
     map value t.1.0,
     told t.1.0 w t.1.1,
-    list_takes 17 (λ (xs : List T) (ys : List T). ys ≡ xs) (map value) reads from G value takes IsCut (λ xs ys e. ap (map value) (sym e)) one exact p (Ok t.1.0) o (t.0, (t.1.0, refl, t.1.2)),
+    list_takes 17 (λ (xs : List T) (ys : List T). ys ≡ xs) (map value) reads from G value takes IsCut (λ xs ys e. ap (map value) (sym e)) one exact any (Ok t.1.0) o (t.0, (t.1.0, refl, t.1.2)),
   )
-  set_takes p (Err e) o t = elim (list_takes {W = List T} 17 (λ (xs : List T) (ys : List T). ys ≡ xs) (map value) reads from G value takes IsCut (λ xs ys e. ap (map value) (sym e)) one exact p (Err e) o t) [ inl m ↦ inl m | inr none ↦ inr (λ m b. none b.0 b.2) ]
+  set_takes any (Err e) o t = elim (list_takes {W = List T} 17 (λ (xs : List T) (ys : List T). ys ≡ xs) (map value) reads from G value takes IsCut (λ xs ys e. ap (map value) (sym e)) one exact any (Err e) o t) [ inl m ↦ inl m | inr none ↦ inr (λ m b. none b.0 b.2) ]
 
-  pub set_reads : (p : Parts) (answer : Result W E) → IsOctets p.content → ListReads 17 holds reads from p answer → TakesBody (SetRow of G) worth true from p answer
-  set_reads p (Ok w) o t = (
+  pub set_reads : (any : Any) (answer : Result W E) → IsOctets any.content.now → OfParts (ListReads 17 holds reads from) any answer → TakesBody (SetRow of G) worth true from (parts_of any) answer
+  set_reads any (Ok w) o t = (
     map value t.1.0,
     told t.1.0 w t.1.1,
-    list_reads 17 (λ (xs : List T) (ys : List T). ys ≡ xs) (map value) reads from G value takes IsCut (λ xs ys e. ap (map value) (sym e)) one exact p (Ok t.1.0) o (t.0, (t.1.0, refl, t.1.2)),
+    list_reads 17 (λ (xs : List T) (ys : List T). ys ≡ xs) (map value) reads from G value takes IsCut (λ xs ys e. ap (map value) (sym e)) one exact any (Ok t.1.0) o (t.0, (t.1.0, refl, t.1.2)),
   )
-  set_reads p (Err e) o t = elim (list_reads {W = List T} 17 (λ (xs : List T) (ys : List T). ys ≡ xs) (map value) reads from G value takes IsCut (λ xs ys e. ap (map value) (sym e)) one exact p (Err e) o t) [ inl m ↦ inl m | inr none ↦ inr (λ m b. none b.0 b.2) ]
+  set_reads any (Err e) o t = elim (list_reads {W = List T} 17 (λ (xs : List T) (ys : List T). ys ≡ xs) (map value) reads from G value takes IsCut (λ xs ys e. ap (map value) (sym e)) one exact any (Err e) o t) [ inl m ↦ inl m | inr none ↦ inr (λ m b. none b.0 b.2) ]
 
 -- what std collects into a set stands for the values of the items
 module _ {S V : Type 0} (eq : S → S → Bool) (value : S → V) (same : (x y : S) → IsTrue (eq x y) ↔ (value x ≡ value y)) (cmp : S → S → Ordering) (matches : (x y : S) → eq x y ≡ eq_by_cmp cmp x y) where

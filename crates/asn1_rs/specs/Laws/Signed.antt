@@ -6,6 +6,7 @@ use Rattle.x690.specs.Octets.{IsOctets}
 use Rattle.x690.specs.Digits.{twos_complement_value}
 use Rattle.x690.specs.SignedOctets.{IsSigned}
 use Rattle.asn1_rs.specs.declared.error.Error.{Error}
+use Rattle.asn1_rs.specs.Any.{OfParts}
 use Rattle.asn1_rs.specs.Integer.{SignedRefuses, SignedGives, integer_element}
 use Rattle.asn1_rs.specs.Kinds.{IsExactConversion}
 use Rattle.asn1_rs.specs.Laws.Integer.{integer_converts}
@@ -15,7 +16,7 @@ signed_refused : (size : ℕ) (c : List ℕ) (e : Error) → IsOctets c → Sign
 signed_refused size c e o h s = h.0 s
 
 -- the conversion to an integer of so many octets
-pub signed_converts : (size : ℕ) → IsExactConversion (SignedGives size) (integer_element (λ (n : ℤ). n) (IsSigned size))
+pub signed_converts : (size : ℕ) → IsExactConversion (OfParts (SignedGives size)) (integer_element (λ (n : ℤ). n) (IsSigned size))
 signed_converts size = integer_converts (IsSigned size) (λ n. n) (SignedRefuses size) (signed_refused size) (λ c h. let e = h.1 in cc)
 
 -- it has one refusal

@@ -6,6 +6,7 @@ use Rattle.x690.specs.Digits.{base_256_value, twos_complement_value}
 use Rattle.x690.specs.Laws.Integers.{unsigned_value, negative_value}
 use Rattle.asn1_rs.specs.declared.error.Error.{Error}
 use Rattle.asn1_rs.specs.declared.error.Error.TheVariants.{IntegerNegative, IntegerTooLarge}
+use Rattle.asn1_rs.specs.Any.{OfParts}
 use Rattle.asn1_rs.specs.Integer.{IsUnsigned, UnsignedRefuses, UnsignedGives, integer_element}
 use Rattle.asn1_rs.specs.Kinds.{IsExactConversion}
 use Rattle.asn1_rs.specs.Laws.Integer.{integer_converts}
@@ -20,7 +21,7 @@ unsigned_refused size c IntegerTooLarge o h u =
 unsigned_refused size c _ o h u = h
 
 -- the conversion to a natural number of so many octets
-pub unsigned_converts : (size : ℕ) → IsExactConversion (UnsignedGives size) (integer_element pos (IsUnsigned size))
+pub unsigned_converts : (size : ℕ) → IsExactConversion (OfParts (UnsignedGives size)) (integer_element pos (IsUnsigned size))
 unsigned_converts size = integer_converts (IsUnsigned size) pos (UnsignedRefuses size) (unsigned_refused size) (λ c h. h)
 
 -- it has one refusal

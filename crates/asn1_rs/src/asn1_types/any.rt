@@ -218,7 +218,7 @@ impl<'a> FromAny<'a> for Any<'a> {
 
     /// The element itself, with the identifier octets that it keeps.
     fn try_from_any(_alloc: Global, any: Any<'a>) -> Result<Any<'a>, Error>
-        ensures gives { IsTheElement (parts_of any.entry) result }
+        ensures gives { IsTheElement any.entry result }
         ensures same { result ≡ Ok any.entry }
     {
         Ok(any)

@@ -7,6 +7,7 @@ ghost use Rattle.x690.specs.Identifiers.{IsCutIdentifier};
 ghost use Rattle.asn1_rs.specs.declared.error.SerializeError.{SerializeError as Unwritten};
 ghost use Rattle.asn1_rs.specs.declared.error.Error.{Error as Uncounted};
 ghost use Rattle.asn1_rs.specs.Grammar.{PassesAll, DerGives, EndsWithin};
+ghost use Rattle.asn1_rs.specs.Any.{OfParts};
 ghost use Rattle.asn1_rs.specs.Lists.{ListCheckGives, ListTakes, SomeRefuses};
 ghost use Rattle.asn1_rs.specs.Wrote.{Either, Refuses, RefusesCount, IsWritable, WrittenRefusal, IntoVector, tells_of_io};
 ghost use Rattle.asn1_rs.specs.Sets.{set_of, is_below, AllDiffer, SetBody, member_grammar};
@@ -141,7 +142,7 @@ impl<T: Ord + Drop> FromItems for BTreeSet<T> {
 
 impl<'a, T: FromDer<'a, E> + Ord + Drop, E: From<Error>> FromDer<'a, E> for BTreeSet<T> {
     ghost der_gives = { DerGives PassesAll
-        (ListTakes 17 (λ items s. IsFromIterResult T.cmp items s) T.der_gives E.from_gives)
+        (OfParts (ListTakes 17 (λ items s. IsFromIterResult T.cmp items s) T.der_gives E.from_gives))
         E.from_gives };
 
     fn from_der(alloc: Global, bytes: &'a [u8]) -> ParseResult<'a, BTreeSet<T>, E> {
@@ -185,7 +186,7 @@ impl<'a, T: LawfulDer<'a, E> + LawfulMember + Ord + Drop, E: From<Error>> Lawful
     for BTreeSet<T> {
     ghost der_exact = { λ input answer octets.
         unchecked_exact
-        (ListTakes 17 (λ items s. IsFromIterResult T.cmp items s) T.der_gives E.from_gives)
+        (OfParts (ListTakes 17 (λ items s. IsFromIterResult T.cmp items s) T.der_gives E.from_gives))
         E.from_gives (SetBody set_of T.grammar.Der) Self.grammar.value true
         (set_takes (λ items s. IsFromIterResult T.cmp items s) set_of Self.grammar.value T.der_gives
         E.from_gives T.grammar.Der T.grammar.value T.grammar.takes_memory IsCutIdentifier

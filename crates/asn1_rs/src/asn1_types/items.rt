@@ -1,7 +1,7 @@
 //! Items of lists: how they are read, checked, counted and written.
 ghost use Rattle.std.specs.Prelude.{◌≡◌, ◌++◌, ◌||◌, List, length, IfOk, IfErr, IsErr};
 ghost use Rattle.std.specs.List.{All, flat_map};
-ghost use Rattle.asn1_rs.specs.Any.{parts_of};
+ghost use Rattle.asn1_rs.specs.Any.{parts_of, OfParts};
 ghost use Rattle.asn1_rs.specs.Answers.{seen};
 ghost use Rattle.asn1_rs.specs.Grammar.{DerGives, PassesAll};
 ghost use Rattle.asn1_rs.specs.Lists.{IsListOr, ItemsGive, ListGives, ListTakes, ListReads, ItemsCheckGives, ListCheckGives, FirstChecked, SomeRefuses, listed};
@@ -74,7 +74,7 @@ where
 {
     type Error = E;
 
-    ghost any_gives = { ListTakes (L.mark).0 L.holds T.ber_gives E.from_gives };
+    ghost any_gives = { OfParts (ListTakes (L.mark).0 L.holds T.ber_gives E.from_gives) };
 
     fn try_from_any(alloc: Global, any: Any<'a>) -> Result<L, E> {
         if let Err(e) = assert_list(L::its_tag().0, &any) {
@@ -137,7 +137,7 @@ where
     L: FromItems<Item = T>,
     T: FromDer<'a, E> + Drop,
     E: From<Error>,
-    ensures { DerGives PassesAll (ListReads (L.mark).0 L.holds T.der_gives E.from_gives)
+    ensures { DerGives PassesAll (OfParts (ListReads (L.mark).0 L.holds T.der_gives E.from_gives))
         E.from_gives bytes.now (seen result) }
 {
     let (rest, any) = match element_by_der(bytes) {
@@ -159,7 +159,7 @@ where
     L: FromItems<Item = T>,
     T: FromDer<'a, E> + Drop,
     E: From<Error>,
-    ensures { DerGives PassesAll (ListTakes (L.mark).0 L.holds T.der_gives E.from_gives)
+    ensures { DerGives PassesAll (OfParts (ListTakes (L.mark).0 L.holds T.der_gives E.from_gives))
         E.from_gives bytes.now (seen result) }
 {
     let (rest, any) = match element_by_der(bytes) {

@@ -4,6 +4,7 @@ ghost use Rattle.std.specs.List.{All};
 ghost use Rattle.x690.specs.Strict.{header_octets};
 ghost use Rattle.x690.specs.Identifiers.{IsCutIdentifier};
 ghost use Rattle.asn1_rs.specs.Grammar.{PassesAll, DerGives, EndsWithin};
+ghost use Rattle.asn1_rs.specs.Any.{OfParts};
 ghost use Rattle.asn1_rs.specs.Lists.{ListCheckGives, ListReads, SomeRefuses};
 ghost use Rattle.asn1_rs.specs.Wrote.{Either, IsWritable, WrittenRefusal, IntoVector};
 ghost use Rattle.asn1_rs.specs.Sets.{multiset, AnyList, SetRow, items_of, HasItems, multiset_grammar};
@@ -83,7 +84,8 @@ impl<T> FromItems for SetOf<T> {
 }
 
 impl<'a, T: FromDer<'a, E> + Drop, E: From<Error>> FromDer<'a, E> for SetOf<T> {
-    ghost der_gives = { DerGives PassesAll (ListReads 17 HasItems T.der_gives E.from_gives) E.from_gives };
+    ghost der_gives = { DerGives PassesAll
+        (OfParts (ListReads 17 HasItems T.der_gives E.from_gives)) E.from_gives };
 
     fn from_der(alloc: Global, bytes: &'a [u8]) -> ParseResult<'a, SetOf<T>, E> {
         list_by_der::<SetOf<T>, T, E>(alloc, bytes)
@@ -163,7 +165,7 @@ impl<'a, T: LawfulBer<'a, Error> + Drop> LawfulBody<'a, Error> for SetOf<T> {
 
 impl<'a, T: LawfulDer<'a, E> + Drop, E: From<Error>> LawfulDer<'a, E> for SetOf<T> {
     ghost der_exact = { λ input answer octets.
-        unchecked_exact (ListReads 17 HasItems T.der_gives E.from_gives) E.from_gives
+        unchecked_exact (OfParts (ListReads 17 HasItems T.der_gives E.from_gives)) E.from_gives
         (SetRow multiset T.grammar.Der) Self.grammar.value true
         (set_reads HasItems multiset Self.grammar.value T.der_gives E.from_gives T.grammar.Der
         T.grammar.value T.grammar.takes_memory IsCutIdentifier

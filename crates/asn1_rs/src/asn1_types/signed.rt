@@ -1,6 +1,7 @@
 //! The types `i8`, `i16`, `i32`, `i64` and `i128` as integers of one to sixteen octets.
 ghost use Rattle.x690.specs.SignedOctets.{IsSigned, signed_octets};
 ghost use Rattle.x690.specs.Laws.SignedOctets.{signed_octets_content};
+ghost use Rattle.asn1_rs.specs.Any.{OfParts};
 ghost use Rattle.asn1_rs.specs.Integer.{integer_number, integer_element, IntegerCheckGives, SignedGives};
 ghost use Rattle.asn1_rs.specs.Laws.Integer.{integer_checks, integer_lawful, integer_primitive};
 ghost use Rattle.asn1_rs.specs.Laws.Signed.{signed_converts, signed_equal};
@@ -30,7 +31,7 @@ impl Tagged for i8 {
 impl<'a> FromAny<'a> for i8 {
     type Error = Error;
 
-    ghost any_gives = { SignedGives 1 };
+    ghost any_gives = { OfParts (SignedGives 1) };
 
     fn try_from_any(_alloc: Global, any: Any<'a>) -> Result<i8, Error> {
         any.as_i8()
@@ -94,7 +95,7 @@ impl Tagged for i16 {
 impl<'a> FromAny<'a> for i16 {
     type Error = Error;
 
-    ghost any_gives = { SignedGives 2 };
+    ghost any_gives = { OfParts (SignedGives 2) };
 
     fn try_from_any(_alloc: Global, any: Any<'a>) -> Result<i16, Error> {
         any.as_i16()
@@ -158,7 +159,7 @@ impl Tagged for i32 {
 impl<'a> FromAny<'a> for i32 {
     type Error = Error;
 
-    ghost any_gives = { SignedGives 4 };
+    ghost any_gives = { OfParts (SignedGives 4) };
 
     fn try_from_any(_alloc: Global, any: Any<'a>) -> Result<i32, Error> {
         any.as_i32()
@@ -222,7 +223,7 @@ impl Tagged for i64 {
 impl<'a> FromAny<'a> for i64 {
     type Error = Error;
 
-    ghost any_gives = { SignedGives 8 };
+    ghost any_gives = { OfParts (SignedGives 8) };
 
     fn try_from_any(_alloc: Global, any: Any<'a>) -> Result<i64, Error> {
         any.as_i64()
@@ -286,7 +287,7 @@ impl Tagged for i128 {
 impl<'a> FromAny<'a> for i128 {
     type Error = Error;
 
-    ghost any_gives = { SignedGives 16 };
+    ghost any_gives = { OfParts (SignedGives 16) };
 
     fn try_from_any(_alloc: Global, any: Any<'a>) -> Result<i128, Error> {
         any.as_i128()

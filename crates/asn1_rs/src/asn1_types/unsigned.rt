@@ -2,6 +2,7 @@
 ghost use Rattle.std.specs.Prelude.{pos};
 ghost use Rattle.x690.specs.Integers.{unsigned_octets};
 ghost use Rattle.x690.specs.Laws.UnsignedOctets.{unsigned_octets_content};
+ghost use Rattle.asn1_rs.specs.Any.{OfParts};
 ghost use Rattle.asn1_rs.specs.Integer.{integer_number, integer_element, IntegerCheckGives, IsUnsigned, UnsignedGives};
 ghost use Rattle.asn1_rs.specs.Laws.Integer.{integer_checks, integer_lawful, integer_primitive};
 ghost use Rattle.asn1_rs.specs.Laws.Unsigned.{unsigned_converts, unsigned_equal};
@@ -31,7 +32,7 @@ impl Tagged for u8 {
 impl<'a> FromAny<'a> for u8 {
     type Error = Error;
 
-    ghost any_gives = { UnsignedGives 1 };
+    ghost any_gives = { OfParts (UnsignedGives 1) };
 
     fn try_from_any(_alloc: Global, any: Any<'a>) -> Result<u8, Error> {
         any.as_u8()
@@ -95,7 +96,7 @@ impl Tagged for u16 {
 impl<'a> FromAny<'a> for u16 {
     type Error = Error;
 
-    ghost any_gives = { UnsignedGives 2 };
+    ghost any_gives = { OfParts (UnsignedGives 2) };
 
     fn try_from_any(_alloc: Global, any: Any<'a>) -> Result<u16, Error> {
         any.as_u16()
@@ -159,7 +160,7 @@ impl Tagged for u32 {
 impl<'a> FromAny<'a> for u32 {
     type Error = Error;
 
-    ghost any_gives = { UnsignedGives 4 };
+    ghost any_gives = { OfParts (UnsignedGives 4) };
 
     fn try_from_any(_alloc: Global, any: Any<'a>) -> Result<u32, Error> {
         any.as_u32()
@@ -223,7 +224,7 @@ impl Tagged for u64 {
 impl<'a> FromAny<'a> for u64 {
     type Error = Error;
 
-    ghost any_gives = { UnsignedGives 8 };
+    ghost any_gives = { OfParts (UnsignedGives 8) };
 
     fn try_from_any(_alloc: Global, any: Any<'a>) -> Result<u64, Error> {
         any.as_u64()
@@ -287,7 +288,7 @@ impl Tagged for u128 {
 impl<'a> FromAny<'a> for u128 {
     type Error = Error;
 
-    ghost any_gives = { UnsignedGives 16 };
+    ghost any_gives = { OfParts (UnsignedGives 16) };
 
     fn try_from_any(_alloc: Global, any: Any<'a>) -> Result<u128, Error> {
         any.as_u128()

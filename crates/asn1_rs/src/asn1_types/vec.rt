@@ -5,6 +5,7 @@ ghost use Rattle.std.proofs.Common.{lit<};
 ghost use Rattle.x690.specs.Strict.{header_octets};
 ghost use Rattle.asn1_rs.specs.Grammar.{PassesAll, DerGives, EndsWithin};
 ghost use Rattle.x690.specs.Identifiers.{IsCutIdentifier};
+ghost use Rattle.asn1_rs.specs.Any.{OfParts};
 ghost use Rattle.asn1_rs.specs.Lists.{ListOf, ListReads, ListCheckGives, SomeRefuses, has_items, list_grammar};
 ghost use Rattle.asn1_rs.specs.Wrote.{Either, IsWritable, WrittenRefusal, some_takes};
 ghost use Rattle.asn1_rs.specs.Laws.Elements.{unchecked_exact};
@@ -50,7 +51,8 @@ impl<T> FromItems for Vec<T> {
 }
 
 impl<'a, T: FromDer<'a, E> + Drop, E: From<Error>> FromDer<'a, E> for Vec<T> {
-    ghost der_gives = { DerGives PassesAll (ListReads 16 has_items T.der_gives E.from_gives) E.from_gives };
+    ghost der_gives = { DerGives PassesAll
+        (OfParts (ListReads 16 has_items T.der_gives E.from_gives)) E.from_gives };
 
     fn from_der(alloc: Global, bytes: &'a [u8]) -> ParseResult<'a, Vec<T>, E> {
         list_by_der::<Vec<T>, T, E>(alloc, bytes)
@@ -131,7 +133,7 @@ impl<'a, T: LawfulBer<'a, Error> + Drop> LawfulBody<'a, Error> for Vec<T> {
 
 impl<'a, T: LawfulDer<'a, E> + Drop, E: From<Error>> LawfulDer<'a, E> for Vec<T> {
     ghost der_exact = { λ input answer octets.
-        unchecked_exact (ListReads 16 has_items T.der_gives E.from_gives) E.from_gives
+        unchecked_exact (OfParts (ListReads 16 has_items T.der_gives E.from_gives)) E.from_gives
         (ListOf 16 T.grammar.Der) Self.grammar.value true
         (list_reads 16 has_items Self.grammar.value T.der_gives E.from_gives T.grammar.Der
         T.grammar.value T.grammar.takes_memory IsCutIdentifier (same_values T.grammar.value)

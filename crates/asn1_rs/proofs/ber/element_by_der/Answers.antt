@@ -5,7 +5,8 @@ use Rattle.asn1_rs.specs.declared.header.Header.{Header}
 use Rattle.asn1_rs.specs.Header.{identifier_of}
 use Rattle.asn1_rs.specs.Length.{form_of}
 use Rattle.asn1_rs.specs.Any.{parts_of}
-use Rattle.asn1_rs.proofs.Elements.{definite_read, content_cut}
+use Rattle.x690.specs.Rules.{der_rule}
+use Rattle.asn1_rs.proofs.Elements.{definite_read, content_cut, identifier_kept}
 use Rattle.asn1_rs.proofs.ber.element_by_der.Goals as goal
 
 pub returns-in_err-rest-in-Definite : goal.returns-in_err-rest-in-Definite
@@ -19,5 +20,8 @@ returns-in-Definite c =
     let h = c.in_ok-rest.header in
     let s = c.in_ok-rest-in-Definite.ensures in
     let made = c.new.ensures in
-    definite_read c.args.bytes.now c.in_ok-rest.rest.now c.in_ok-rest-in-Definite.content.now c.in_ok-rest-in-Definite.rest.now h c.in-Definite.len (λ k. omega (arith, c.type_inv.bytes k)) c.in_ok-rest.ensures (sym c.length.ensures ∙ c.in-Definite.is) s.0 s.1 (parts_of c.new.result)
-    (ap identifier_of made.header) (ap (λ (x : Header). form_of x.length) made.header) made.content
+    record {
+      front = definite_read c.args.bytes.now c.in_ok-rest.rest.now c.in_ok-rest-in-Definite.content.now c.in_ok-rest-in-Definite.rest.now h c.in-Definite.len (λ k. omega (arith, c.type_inv.bytes k)) c.in_ok-rest.ensures (sym c.length.ensures ∙ c.in-Definite.is) s.0 s.1 (parts_of c.new.result)
+          (ap identifier_of made.header) (ap (λ (x : Header). form_of x.length) made.header) made.content;
+      kept = identifier_kept der_rule c.args.bytes.now c.in_ok-rest.rest.now h c.new.result.header c.in_ok-rest.ensures made.header;
+    }

@@ -1,10 +1,12 @@
-use Rattle.std.proofs.Common.{◌+◌, ◌-◌, ◌≡◌, suc, arith, ap, subst}
+use Rattle.std.proofs.Common.{◌+◌, ◌-◌, ◌≡◌, ◌++◌, ℕ, List, suc, arith, ap, subst}
 use Rattle.std.proofs.lemmas.Result.{err_from_is_err_and}
+use Rattle.x690.specs.Nested.{IsNestedElement}
 use Rattle.x690.specs.Contents.{IsContent, ContentFault}
 use Rattle.x690.specs.FaultHeaders.{ContentFaultHeaders}
 use Rattle.x690.specs.Laws.Nested.{nested_element_half}
 use Rattle.x690.specs.Laws.Contents.{header_fault_first, content_fault_behind}
 use Rattle.x690.specs.Laws.FaultHeaders.{no_header_first, content_headers_behind}
+use Rattle.asn1_rs.specs.declared.asn1_types.any.Any.{Any}
 use Rattle.asn1_rs.specs.declared.header.Header.{Header}
 use Rattle.asn1_rs.specs.declared.length.Length.{Length}
 use Rattle.asn1_rs.specs.Header.{identifier_of}
@@ -14,15 +16,16 @@ use Rattle.asn1_rs.specs.Ber.{count_of}
 use Rattle.x690.specs.Rules.{ber_rule}
 use Rattle.asn1_rs.proofs.Elements.{nested_read, identifier_kept}
 use Rattle.asn1_rs.proofs.ber.element_to_depth.Goals as goal
+use Rattle.asn1_rs.proofs.ber.element_to_depth.Goals.{In_ok-rest}
 
-pub returns-in_err-after-clause-err : goal.returns-in_err-after-clause-err
-returns-in_err-after-clause-err c =
+pub returns-in_err-after-clause-gives : goal.returns-in_err-after-clause-gives
+returns-in_err-after-clause-gives c =
     let p = err_from_is_err_and c.from_residual.result c.from_residual.ensures.1 in
     let f = c.in_err-after.ensures in
     rw (p.1, p.2) (f.0, header_fault_first c.args.max_depth c.args.bytes.now f.0 f.1, f.2)
 
-pub returns-in_err-rest-clause-err : goal.returns-in_err-rest-clause-err
-returns-in_err-rest-clause-err c =
+pub returns-in_err-rest-clause-gives : goal.returns-in_err-rest-clause-gives
+returns-in_err-rest-clause-gives c =
     let p = err_from_is_err_and c.from_residual-in_err-rest.result c.from_residual-in_err-rest.ensures.1 in
     let h = c.in_ok-after.header in
     let b = c.in_ok-after.ensures in
@@ -44,15 +47,25 @@ returns-in_err-rest-clause-stops c =
     let stops = subst (λ (l : Length). ContentFaultHeaders (form_of l) (c.args.max_depth - 1) c.in_ok-after.after.now s.0) c.length.ensures s.1 in
     rw p.1 (suc s.0, content_headers_behind c.args.max_depth c.args.bytes.now b.octets c.in_ok-after.after.now (identifier_of h) (form_of h.length) s.0 c.requires.deep b.header b.is stops, omega (arith, s.2))
 
-pub returns-clause-ok : goal.returns-clause-ok
-returns-clause-ok c =
+-- the element that was read
+element_read : (c : In_ok-rest) → (any : Any) → any.header ≡ c.in_ok-after.header → any.content.now ≡ c.in_ok-rest.contents.now → (word : List ℕ) × IsNestedElement c.args.max_depth word (parts_of any) (suc c.in_ok-rest.ensures.ok.0) × (c.args.bytes.now ≡ word ++ c.in_ok-rest.rest.now)
+element_read c any same content =
     let h = c.in_ok-after.header in
     let s = c.in_ok-rest.ensures.ok in
-    let made = c.new.ensures in
-    let m = nested_read c.args.max_depth c.args.bytes.now c.in_ok-after.after.now c.in_ok-rest.contents.now c.in_ok-rest.rest.now h s.0 (parts_of c.new.result) c.requires.deep (λ k. omega (arith, c.type_inv.bytes k)) c.in_ok-after.ensures (subst (λ (l : Length). IsContent (form_of l) (c.args.max_depth - 1) c.in_ok-after.after.now c.in_ok-rest.contents.now c.in_ok-rest.rest.now s.0) c.length.ensures s.1)
-    (ap identifier_of made.header) (ap (λ (x : Header). form_of x.length) made.header) made.content in
+    nested_read c.args.max_depth c.args.bytes.now c.in_ok-after.after.now c.in_ok-rest.contents.now c.in_ok-rest.rest.now h s.0 (parts_of any) c.requires.deep (λ k. omega (arith, c.type_inv.bytes k)) c.in_ok-after.ensures (subst (λ (l : Length). IsContent (form_of l) (c.args.max_depth - 1) c.in_ok-after.after.now c.in_ok-rest.contents.now c.in_ok-rest.rest.now s.0) c.length.ensures s.1)
+    (ap identifier_of same) (ap (λ (x : Header). form_of x.length) same) content
+
+pub returns-clause-ticks : goal.returns-clause-ticks
+returns-clause-ticks c =
+    let s = c.in_ok-rest.ensures.ok in
+    let m = element_read (goal.at.returns-clause-ticks c).In_ok-rest c.new.result c.new.ensures.header c.new.ensures.content in
     let n : count_of c.content_by_ber.new.steps ≡ count_of c.args.steps.now + suc s.0 = omega (arith, s.2) in
     record { word = m.0; headers = suc s.0; element = m.1; is = m.2; counted = n; half = nested_element_half c.args.max_depth m.0 (parts_of c.new.result) (suc s.0) m.1 }
 
-pub returns-clause-keeps : goal.returns-clause-keeps
-returns-clause-keeps c = identifier_kept ber_rule c.args.bytes.now c.in_ok-after.after.now c.in_ok-after.header c.new.result.header c.in_ok-after.ensures c.new.ensures.header
+pub returns-clause-gives : goal.returns-clause-gives
+returns-clause-gives c =
+    let m = element_read (goal.at.returns-clause-gives c).In_ok-rest c.new.result c.new.ensures.header c.new.ensures.content in
+    record {
+      front = record { word = m.0; fits = (suc c.in_ok-rest.ensures.ok.0, m.1); is = m.2 };
+      kept = identifier_kept ber_rule c.args.bytes.now c.in_ok-after.after.now c.in_ok-after.header c.new.result.header c.in_ok-after.ensures c.new.ensures.header;
+    }
