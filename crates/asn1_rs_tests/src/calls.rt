@@ -1,5 +1,6 @@
 //! The calls of tables, and the texts of their answers.
 
+use crate::collections::push_list_answer;
 use crate::rows::push_digits;
 use asn1_rs::{
     Any, BerParser, Class, Err, Error, FromBer, FromDer, GetObjectContent, Header, Length,
@@ -262,6 +263,6 @@ pub(crate) fn push_answer(
         "u16" => push_value_answer(text, u16::from_der(alloc, octets)),
         "u8_ber" => push_value_answer(text, u8::from_ber(alloc, octets)),
         "u64_ber" => push_value_answer(text, u64::from_ber(alloc, octets)),
-        _ => Ok(text.push_str("no such call")?),
+        _ => push_list_answer(text, alloc, name, octets),
     }
 }

@@ -9,6 +9,8 @@ mod by_hand;
 #[cfg(test)]
 mod calls;
 #[cfg(test)]
+mod collections;
+#[cfg(test)]
 mod devices;
 #[cfg(test)]
 mod errors;

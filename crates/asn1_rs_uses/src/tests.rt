@@ -1,10 +1,16 @@
 //! Each caller once.
 
 use crate::{
-    count_number, count_of_numbers, is_same_number, is_strict_front, numbers_in, read_element,
-    read_header, read_number, read_number_by_ber, write_number,
+    InClass, NamePart, count_name, count_number, count_of_numbers, is_same_number, is_strict_front,
+    numbers_in, read_element, read_header, read_number, read_number_by_ber, vector_in_class,
+    write_header_in_class, write_in_class, write_list_in_classes, write_name, write_number,
+    write_ordered_set_in_classes, write_raw_in_class, write_set_in_classes,
 };
-use asn1_rs::{Err, Error, Needed};
+use asn1_rs::{Err, Error, Needed, SetOf, ToDer, Told};
+use std::alloc::Global;
+use std::collections::BTreeSet;
+use std::fmt::Debug;
+use std::process::Abort;
 use std::test::Fail;
 
 #[test]
@@ -49,4 +55,112 @@ fn what_is_cut_is_refused(rt: HostRuntime) -> Result<(), Fail> {
         Some(Err::Incomplete(Needed::new(1)))
     );
     Ok(())
+}
+
+/// Asserts that answers have these derived texts.
+fn assert_shown<T: Debug>(
+    rt: &impl Abort,
+    alloc: Global,
+    answers: &T,
+    expected: &str,
+) -> Result<(), Fail> {
+    let text = format!(in alloc; "{answers:?}")?;
+    assert_eq!(rt; text.as_str(), expected);
+    Ok(())
+}
+
+/// What is refused in class 4, and the answer of a count.
+const NO_CLASS: &str =
+    "(Err(InvalidClass { class: 4 }), Err(InvalidClass { class: 4 }), Err(InvalidClass { class: 4 }))";
+
+#[test]
+fn values_of_no_class_are_counted_and_refused(rt: HostRuntime) -> Result<(), Fail> {
+    let alloc = rt.alloc();
+    let none = InClass { class: 4, octet: 9 };
+    let mut w = Told::new(Vec::new(alloc));
+    let written = (
+        write_in_class(&none, alloc, &mut w),
+        write_header_in_class(&none, alloc, &mut w),
+        write_raw_in_class(&none, alloc, &mut w),
+    );
+    assert_shown(&rt, alloc, &written, NO_CLASS)?;
+    let others = (
+        none.to_der_len(),
+        vector_in_class(alloc, &none),
+        none.write_der_content(alloc, &mut w),
+    );
+    assert_shown(
+        &rt,
+        alloc,
+        &others,
+        "(Ok(3), Err(InvalidClass { class: 4 }), Err(InvalidClass { class: 4 }))",
+    )?;
+    let private = write_in_class(&InClass { class: 3, octet: 9 }, alloc, &mut w);
+    assert_shown(
+        &rt,
+        alloc,
+        &(private, w.as_inner().as_slice()),
+        "(Ok(3), [192, 1, 9])",
+    )
+}
+
+/// Values of the classes 1, 2 and 4.
+fn three_classes(alloc: Global) -> Result<Vec<InClass>, Fail> {
+    let mut values = Vec::new(alloc);
+    values.push(InClass { class: 1, octet: 7 })?;
+    values.push(InClass { class: 2, octet: 8 })?;
+    values.push(InClass { class: 4, octet: 9 })?;
+    Ok(values)
+}
+
+#[test]
+fn list_is_begun_up_to_a_value_of_no_class(rt: HostRuntime) -> Result<(), Fail> {
+    let alloc = rt.alloc();
+    let values = three_classes(alloc)?;
+    let mut w = Told::new(Vec::new(alloc));
+    let written = write_list_in_classes(&values, alloc, &mut w);
+    let held = w.as_inner().as_slice();
+    let expected = "(Ok(11), Err(InvalidClass { class: 4 }), [48, 9, 64, 1, 7, 128, 1, 8])";
+    assert_shown(&rt, alloc, &(values.to_der_len(), written, held), expected)
+}
+
+#[test]
+fn sets_with_a_value_of_no_class_are_refused(rt: HostRuntime) -> Result<(), Fail> {
+    let alloc = rt.alloc();
+    let mut w = Told::new(Vec::new(alloc));
+    let set = SetOf::new(three_classes(alloc)?);
+    let written = write_set_in_classes(&set, alloc, &mut w);
+    assert_shown(&rt, alloc, &written, "Err(InvalidClass { class: 4 })")?;
+    let ordered = BTreeSet::from_iter(alloc, three_classes(alloc)?)?;
+    let written = write_ordered_set_in_classes(&ordered, alloc, &mut w);
+    // The headers alone.
+    let held = w.as_inner().as_slice();
+    assert_shown(
+        &rt,
+        alloc,
+        &(written, held),
+        "(Err(InvalidClass { class: 4 }), [49, 9, 49, 9])",
+    )
+}
+
+/// How an empty part is refused.
+const EMPTY_PART: &str =
+    "(Err(InvalidValue { tag: Tag(12), msg: \"empty part\" }), Err(ASN1Error(InvalidValue { tag: Tag(12), msg: \"empty part\" })), [])";
+
+#[test]
+fn names_with_an_empty_part_are_refused(rt: HostRuntime) -> Result<(), Fail> {
+    let alloc = rt.alloc();
+    let mut parts = Vec::new(alloc);
+    parts.push(NamePart(&[0x61]))?;
+    let mut w = Told::new(Vec::new(alloc));
+    assert_shown(&rt, alloc, &write_name(&parts, alloc, &mut w), "Ok(5)")?;
+    parts.push(NamePart(&[]))?;
+    let mut w = Told::new(Vec::new(alloc));
+    let written = write_name(&parts, alloc, &mut w);
+    assert_shown(
+        &rt,
+        alloc,
+        &(count_name(&parts), written, w.as_inner().as_slice()),
+        EMPTY_PART,
+    )
 }

@@ -1,5 +1,5 @@
 //! Vectors as sequences of items (X.690 8.10).
-ghost use Rattle.std.specs.Prelude.{List, ◌++◌, ◌≡◌, length, true, slice_index_or, IfOk};
+ghost use Rattle.std.specs.Prelude.{List, ◌++◌, ◌≡◌, length, true, false, slice_index_or, IfOk};
 ghost use Rattle.std.specs.List.{All, flat_map};
 ghost use Rattle.std.proofs.Common.{lit<};
 ghost use Rattle.x690.specs.Strict.{header_octets};
@@ -87,6 +87,8 @@ impl<T: ToDer> ToDer for Vec<T> {
     ghost count_takes_memory = { T.count_takes_memory };
 
     ghost content_takes_memory = { some_takes T.write_takes_memory T.count_takes_memory T.content_takes_memory };
+
+    ghost write_takes_memory = { false };
 
     fn to_der_len(&self) -> Result<usize, Error> {
         element_len(Tag::Sequence.0, self.der_content_len())

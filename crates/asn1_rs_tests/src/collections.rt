@@ -1,0 +1,232 @@
+//! Lists and sets: how they are read, checked and written.
+
+use crate::calls::push_written;
+use crate::devices::assert_cut;
+use crate::rows::{assert_rows, push_digits};
+use asn1_rs::{Any, CheckDerConstraints, Err, Error, FromAny, FromBer, FromDer, SetOf, ToDer};
+use std::alloc::Global;
+use std::collections::BTreeSet;
+use std::fmt::{Debug, Write};
+use std::test::Fail;
+
+/// Lists: items, what follows them, and how the list is written. By DER the constructed bit of the list itself is not
+/// looked at; its tag number is looked at first.
+const LISTS: &str = "\
+vec_u32 3008020301000102010100 = [65537, 1] rest 00 written 30080203010001020101 count 10 8 raw 30080203010001020101
+vec_u32 3000 = [] rest - written 3000 count 2 0 raw 3000
+vec_u8 1003020105 = [5] rest - written 3003020105 count 5 3 raw 3003020105
+vec_u8 3003020105ffff = [5] rest ffff written 3003020105 count 5 3 raw 3003020105
+vec_u8 3103020105 = Error(UnexpectedTag { expected: Some(Tag(16)), actual: Tag(17) })
+vec_u8 3003010100 = Error(UnexpectedTag { expected: Some(Tag(2)), actual: Tag(1) })
+vec_u8 300402020005 = Error(DerConstraintFailed(IntegerLeadingZeroes))
+vec_u8 3005020105 = Incomplete(Size(2))
+vec_u8 3003020205 = Error(Incomplete(Size(1)))
+vec_u8 3080 = Error(DerConstraintFailed(IndefiniteLength))
+vec_u8_ber 300402020005 = [5] rest - written 3003020105 count 5 3 raw 3003020105
+vec_u8_ber 30800201050000 = [5] rest - written 3003020105 count 5 3 raw 3003020105
+vec_u8_ber 1003020105 = Error(ConstructExpected)
+vec_u8_ber 1103020105 = Error(UnexpectedTag { expected: Some(Tag(16)), actual: Tag(17) })
+vec_u8_ber 3005020105 = Incomplete(Size(2))
+vec_u8_ber 3003020205 = Error(Incomplete(Size(1)))
+vec_u8_ber 300702010502020100 = Error(IntegerTooLarge)
+vec_vec 300a30030201053003020106 = [[5], [6]] rest - written 300a30030201053003020106 count 12 10 raw 300a30030201053003020106
+vec_vec 30023100 = Error(UnexpectedTag { expected: Some(Tag(16)), actual: Tag(17) })
+vec_vec_ber 30803080020105000030000000 = [[5], []] rest - written 300730030201053000 count 9 7 raw 300730030201053000
+vec_any 30803080000004000000 = 2 items 300430000400 count 6 4 raw 300430000400
+";
+
+/// Sets: items in the order in which they stand, and the set as it is written, in ascending order.
+const SETS: &str = "\
+set_of 3106020102020101 = [2, 1] rest - written 3106020101020102 count 8 6 raw 3106020101020102
+set_of 3109020105020101020105 = [5, 1, 5] rest - written 3109020101020105020105 count 11 9 raw 3109020101020105020105
+set_of 1103020105 = [5] rest - written 3103020105 count 5 3 raw 3103020105
+set_of 3003020105 = Error(UnexpectedTag { expected: Some(Tag(17)), actual: Tag(16) })
+set_of 3103020205 = Error(Incomplete(Size(1)))
+set_of 3105020105 = Incomplete(Size(2))
+set_of_ber 31800201050000 = [5] rest - written 3103020105 count 5 3 raw 3103020105
+set_of_ber 1103020105 = Error(ConstructExpected)
+set_of_ber 310402020005 = [5] rest - written 3103020105 count 5 3 raw 3103020105
+set_of_set 310d31060201020201013103020103 = 2 items 310d31030201033106020101020102 count 15 13 raw 310d31030201033106020101020102
+ordered 3106020105020105 = {5} rest - written 3103020105 count 5 3 raw 3103020105
+ordered 310402020005 = Error(DerConstraintFailed(IntegerLeadingZeroes))
+ordered 1103020105 = Error(ConstructExpected)
+ordered 1003020105 = Error(UnexpectedTag { expected: Some(Tag(17)), actual: Tag(16) })
+ordered 3103020205 = Error(Incomplete(Size(1)))
+ordered 3105020105 = Incomplete(Size(2))
+ordered_ber 310402020005 = {5} rest - written 3103020105 count 5 3 raw 3103020105
+ordered_ber 1103020105 = Error(ConstructExpected)
+ordered_i16 310e0202012c0201ff02010002020080 = {-1, 0, 128, 300} rest - written 310e0201000201ff020200800202012c count 16 14 raw 310e0201000201ff020200800202012c
+ordered_sets 310d31060201020201013103020103 = {{1, 2}, {3}} rest - written 310d31030201033106020101020102 count 15 13 raw 310d31030201033106020101020102
+";
+
+/// Elements by BER that are checked, and converted.
+const ELEMENTS: &str = "\
+check_vec 3003020105 = Ok(())
+check_vec 300402020005 = Err(DerConstraintFailed(IntegerLeadingZeroes))
+check_vec 1003020105 = Err(ConstructExpected)
+check_vec 3103020105 = Err(UnexpectedTag { expected: Some(Tag(16)), actual: Tag(17) })
+check_vec 3003020205 = Err(Incomplete(Size(1)))
+check_set_of 3106020105020105 = Ok(())
+check_set_of 310702010502020005 = Err(DerConstraintFailed(IntegerLeadingZeroes))
+check_ordered 3103020105 = Ok(())
+check_ordered 1103020105 = Err(ConstructExpected)
+try_vec 3003020105 = Ok([5])
+try_vec 300402020005 = Ok([5])
+try_vec 1003020105 = Err(ConstructExpected)
+try_set_of 3106020105020105 = Ok([5, 5])
+try_ordered 3106020105020105 = Ok({5})
+try_ordered 3003020105 = Err(UnexpectedTag { expected: Some(Tag(17)), actual: Tag(16) })
+";
+
+/// Appends what a reader of lists answers, and how the list is written.
+fn push_list<T: Debug + ToDer + Drop>(
+    text: &mut String,
+    alloc: Global,
+    answer: Result<(&[u8], T), Err<Error>>,
+) -> Result<(), Fail> {
+    match answer {
+        Ok((rest, list)) => push_shown(text, alloc, &list, rest, &list),
+        Err(refusal) => Ok(write!(text, "{refusal:?}")?),
+    }
+}
+
+/// Appends items, what follows them, and how the list of them is written.
+fn push_shown<T: Debug, L: ToDer>(
+    text: &mut String,
+    alloc: Global,
+    items: &T,
+    rest: &[u8],
+    list: &L,
+) -> Result<(), Fail> {
+    write!(text, "{items:?} rest ")?;
+    push_digits(text, rest)?;
+    text.push_str(" written ")?;
+    push_written(text, alloc, list)
+}
+
+/// Appends what a reader of sets answers whose items may stand more than once.
+fn push_set(
+    text: &mut String,
+    alloc: Global,
+    answer: Result<(&[u8], SetOf<u8>), Err<Error>>,
+) -> Result<(), Fail> {
+    match answer {
+        Ok((rest, set)) => push_shown(text, alloc, &set.as_slice(), rest, &set),
+        Err(refusal) => Ok(write!(text, "{refusal:?}")?),
+    }
+}
+
+/// Appends how many items there are, and how the list of them is written.
+fn push_count<L: ToDer>(
+    text: &mut String,
+    alloc: Global,
+    count: usize,
+    list: &L,
+) -> Result<(), Fail> {
+    write!(text, "{count} items ")?;
+    push_written(text, alloc, list)
+}
+
+/// Elements of any type in a list by BER.
+fn push_elements(text: &mut String, alloc: Global, octets: &[u8]) -> Result<(), Fail> {
+    let list = Vec::<Any<'_>>::from_ber(alloc, octets)?.1;
+    push_count(text, alloc, list.len(), &list)
+}
+
+/// Sets in a set.
+fn push_sets(text: &mut String, alloc: Global, octets: &[u8]) -> Result<(), Fail> {
+    let sets = SetOf::<SetOf<u8>>::from_der(alloc, octets)?.1.into_vec();
+    let count = sets.len();
+    push_count(text, alloc, count, &SetOf::new(sets))
+}
+
+/// Appends an answer.
+fn push_debug<T: Debug>(text: &mut String, answer: &T) -> Result<(), Fail> {
+    Ok(write!(text, "{answer:?}")?)
+}
+
+/// What the check of an element says, or what the conversion answers.
+fn push_element_call(
+    text: &mut String,
+    alloc: Global,
+    name: &str,
+    any: Any<'_>,
+) -> Result<(), Fail> {
+    match name {
+        "check_vec" => push_debug(text, &Vec::<u8>::check_constraints(&any)),
+        "check_set_of" => push_debug(text, &SetOf::<u8>::check_constraints(&any)),
+        "check_ordered" => push_debug(text, &BTreeSet::<u8>::check_constraints(&any)),
+        "try_vec" => push_debug(text, &Vec::<u8>::try_from_any(alloc, any)),
+        "try_set_of" => push_debug(
+            text,
+            &SetOf::try_from_any(alloc, any).map(SetOf::<u8>::into_vec),
+        ),
+        "try_ordered" => push_debug(text, &BTreeSet::<u8>::try_from_any(alloc, any)),
+        _ => Ok(text.push_str("no such call")?),
+    }
+}
+
+/// Appends the answer to a call of lists and sets.
+pub(crate) fn push_list_answer(
+    text: &mut String,
+    alloc: Global,
+    name: &str,
+    octets: &[u8],
+) -> Result<(), Fail> {
+    match name {
+        "vec_u8" => push_list(text, alloc, Vec::<u8>::from_der(alloc, octets)),
+        "vec_u8_ber" => push_list(text, alloc, Vec::<u8>::from_ber(alloc, octets)),
+        "vec_u32" => push_list(text, alloc, Vec::<u32>::from_der(alloc, octets)),
+        "vec_vec" => push_list(text, alloc, Vec::<Vec<u32>>::from_der(alloc, octets)),
+        "vec_vec_ber" => push_list(text, alloc, Vec::<Vec<u32>>::from_ber(alloc, octets)),
+        "vec_any" => push_elements(text, alloc, octets),
+        "set_of" => push_set(text, alloc, SetOf::<u8>::from_der(alloc, octets)),
+        "set_of_ber" => push_set(text, alloc, SetOf::<u8>::from_ber(alloc, octets)),
+        "set_of_set" => push_sets(text, alloc, octets),
+        "ordered" => push_list(text, alloc, BTreeSet::<u8>::from_der(alloc, octets)),
+        "ordered_ber" => push_list(text, alloc, BTreeSet::<u8>::from_ber(alloc, octets)),
+        "ordered_i16" => push_list(text, alloc, BTreeSet::<i16>::from_der(alloc, octets)),
+        "ordered_sets" => push_list(
+            text,
+            alloc,
+            BTreeSet::<BTreeSet<u8>>::from_der(alloc, octets),
+        ),
+        _ => push_element_call(text, alloc, name, Any::from_ber(alloc, octets)?.1),
+    }
+}
+
+#[test]
+fn lists_are_read_and_written(rt: HostRuntime) -> Result<(), Fail> {
+    assert_rows(&rt, rt.alloc(), LISTS)
+}
+
+#[test]
+fn sets_are_read_and_written_in_ascending_order(rt: HostRuntime) -> Result<(), Fail> {
+    assert_rows(&rt, rt.alloc(), SETS)
+}
+
+#[test]
+fn elements_are_checked_and_converted(rt: HostRuntime) -> Result<(), Fail> {
+    assert_rows(&rt, rt.alloc(), ELEMENTS)
+}
+
+#[test]
+fn writers_of_a_list_are_cut(rt: HostRuntime) -> Result<(), Fail> {
+    let mut numbers = Vec::new(rt.alloc());
+    numbers.push(2u8)?;
+    numbers.push(1)?;
+    assert_cut(
+        &rt,
+        rt.alloc(),
+        &numbers,
+        &[0x30, 0x06, 0x02, 0x01, 0x02, 0x02, 0x01, 0x01],
+    );
+    let set = SetOf::new(numbers);
+    assert_cut(
+        &rt,
+        rt.alloc(),
+        &set,
+        &[0x31, 0x06, 0x02, 0x01, 0x01, 0x02, 0x01, 0x02],
+    );
+    Ok(())
+}

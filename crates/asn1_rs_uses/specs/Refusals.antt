@@ -1,0 +1,55 @@
+-- Values that are not written: of no class, or empty.
+use Rattle.std.specs.Prelude.{◌≡◌, ◌≤◌, ℕ, true, false, List, [], ◌∷◌, ◌++◌, length, codes}
+use Rattle.std.specs.List.{Any, flat_map}
+use Rattle.std.specs.Cow.{cow_str_bytes}
+use Rattle.x690.specs.Strict.{header_octets}
+use Rattle.asn1_rs_uses.specs.declared.refusals.InClass.{InClass}
+use Rattle.asn1_rs_uses.specs.declared.refusals.NamePart.{NamePart}
+use Rattle.asn1_rs.specs.declared.error.Error.{Error}
+use Rattle.asn1_rs.specs.declared.error.Error.TheVariants as faults
+use Rattle.asn1_rs.specs.declared.error.SerializeError.{SerializeError}
+use Rattle.asn1_rs.specs.declared.error.SerializeError.TheVariants as refusals
+
+-- no class has the number, and the refusal names it
+abbrev pub NamesNoClass : ℕ → SerializeError → Type 0
+NamesNoClass class e = (4 ≤ class) × (e ≡ refusals.InvalidClass class)
+
+-- the refusal of an empty part, with its tag number and its text
+abbrev pub TellsOfEmptyPart : Error → Type 0
+TellsOfEmptyPart (faults.InvalidValue tag msg) = (tag ≡ record { 0 = 12 }) × (cow_str_bytes msg ≡ codes "empty part")
+TellsOfEmptyPart _ = ⊥
+
+-- a part has no octets, and the refusal tells of that
+abbrev pub IsEmptyPart : List ℕ → Error → Type 0
+IsEmptyPart octets e = (octets ≡ []) × TellsOfEmptyPart e
+
+-- the same, in writing
+abbrev pub WrittenEmptyPart : SerializeError → Type 0
+WrittenEmptyPart (refusals.ASN1Error e) = TellsOfEmptyPart e
+WrittenEmptyPart _ = ⊥
+
+-- the refusal names the class of one of the items, which is none
+abbrev pub TellsOfNoClass : List InClass → SerializeError → Type 0
+TellsOfNoClass xs e = Any (λ x. NamesNoClass x.class e) xs
+
+-- some item is of no class
+abbrev pub SomeInNoClass : List InClass → Type 0
+SomeInNoClass xs = Any (λ x. 4 ≤ x.class) xs
+
+-- an element of one octet, with tag number 0, under the class
+abbrev pub octets_in_class : InClass → List ℕ
+octets_in_class x = header_octets x.class false 0 1 ++ x.octet ∷ []
+
+-- the items as a list
+abbrev pub octets_in_classes : List InClass → List ℕ
+octets_in_classes xs = let content = flat_map octets_in_class xs in header_octets 0 true 16 (length content) ++ content
+
+-- some part is empty
+abbrev pub SomeEmpty : List NamePart → Type 0
+SomeEmpty parts = Any (λ p. p.0.now ≡ []) parts
+
+-- a refusal that any writing may have: the writer's failure, a length past what 64 bits hold, or want of memory
+abbrev pub AsAnyWriting : SerializeError → Type 0
+AsAnyWriting (refusals.ASN1Error e) = ⊥
+AsAnyWriting (refusals.InvalidClass c) = ⊥
+AsAnyWriting e = Unit {0}
