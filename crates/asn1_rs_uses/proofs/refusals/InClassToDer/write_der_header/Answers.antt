@@ -1,6 +1,4 @@
-use Rattle.std.proofs.Common.{◌≡◌, false, arith}
-use Rattle.x690.specs.Strict.{header_octets}
-use Rattle.asn1_rs.specs.WrittenHeader.{strict_header}
+use Rattle.std.proofs.Common.{arith}
 use Rattle.asn1_rs_uses.specs.Refusals.{NamesNoClass}
 use Rattle.asn1_rs_uses.proofs.Unwritten.{header_of_one, few_refused, two_octets}
 use Rattle.asn1_rs_uses.proofs.refusals.InClassToDer.write_der_header.Goals as goal
