@@ -2,8 +2,10 @@
 
 use crate::calls::push_written;
 use crate::devices::assert_cut;
-use crate::rows::{assert_rows, push_digits};
-use asn1_rs::{Any, CheckDerConstraints, Err, Error, FromAny, FromBer, FromDer, SetOf, ToDer};
+use crate::rows::{assert_rows, assert_shown, push_digits};
+use asn1_rs::{
+    Any, CheckDerConstraints, Err, Error, FromAny, FromBer, FromDer, SetOf, Tagged, ToDer,
+};
 use std::alloc::Global;
 use std::collections::BTreeSet;
 use std::fmt::{Debug, Write};
@@ -229,4 +231,16 @@ fn writers_of_a_list_are_cut(rt: HostRuntime) -> Result<(), Fail> {
         &[0x31, 0x06, 0x02, 0x01, 0x01, 0x02, 0x01, 0x02],
     );
     Ok(())
+}
+
+#[test]
+fn lists_and_sets_have_tag_numbers(rt: HostRuntime) -> Result<(), Fail> {
+    let constants = (Vec::<u8>::TAG, SetOf::<u8>::TAG, BTreeSet::<u8>::TAG);
+    let calls = (
+        Vec::<u8>::its_tag(),
+        SetOf::<u8>::its_tag(),
+        BTreeSet::<u8>::its_tag(),
+    );
+    let expected = "((Tag(16), Tag(17), Tag(17)), (Tag(16), Tag(17), Tag(17)))";
+    assert_shown(&rt, rt.alloc(), &(constants, calls), expected)
 }

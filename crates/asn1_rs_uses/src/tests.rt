@@ -6,7 +6,10 @@ use crate::{
     write_header_in_class, write_in_class, write_list_in_classes, write_name, write_number,
     write_ordered_set_in_classes, write_raw_in_class, write_set_in_classes,
 };
-use asn1_rs::{Err, Error, Needed, SetOf, ToDer, Told};
+use asn1_rs::{
+    Any, Err, Error, FromItems, LawfulBer, LawfulDer, LawfulWrite, Needed, SetOf, ToDer, Told,
+    read_ber, read_der, strict_vec,
+};
 use std::alloc::Global;
 use std::collections::BTreeSet;
 use std::fmt::Debug;
@@ -163,4 +166,67 @@ fn names_with_an_empty_part_are_refused(rt: HostRuntime) -> Result<(), Fail> {
         &(count_name(&parts), written, w.as_inner().as_slice()),
         EMPTY_PART,
     )
+}
+
+/// The strict encoding of the value at the front, by DER.
+fn again<'a, T: LawfulDer<'a, Error> + LawfulWrite + Drop>(
+    alloc: Global,
+    octets: &'a [u8],
+) -> Result<Vec<u8>, Fail> {
+    let value = read_der::<T, Error>(alloc, octets)?.1;
+    Ok(strict_vec::<T>(alloc, &value)?)
+}
+
+/// The strict encoding of the value at the front, by BER.
+fn again_by_ber<'a, T: LawfulBer<'a, Error> + LawfulWrite + Drop>(
+    alloc: Global,
+    octets: &'a [u8],
+) -> Result<Vec<u8>, Fail> {
+    let value = read_ber::<T, Error>(alloc, octets)?.1;
+    Ok(strict_vec::<T>(alloc, &value)?)
+}
+
+/// A list of one list, of 2 and 1.
+const LISTS: [u8; 10] = [0x30, 0x08, 0x30, 0x06, 0x02, 0x01, 0x02, 0x02, 0x01, 0x01];
+
+/// A set of one set, of 2 and 1.
+const SETS: [u8; 10] = [0x31, 0x08, 0x31, 0x06, 0x02, 0x01, 0x02, 0x02, 0x01, 0x01];
+
+/// The same set in ascending order.
+const ASCENDING: [u8; 10] = [0x31, 0x08, 0x31, 0x06, 0x02, 0x01, 0x01, 0x02, 0x01, 0x02];
+
+#[test]
+fn laws_reach_nested_lists(rt: HostRuntime) -> Result<(), Fail> {
+    let alloc = rt.alloc();
+    assert!(rt; again::<Vec<Vec<u32>>>(alloc, &LISTS)?.as_slice() == LISTS.as_slice());
+    assert!(rt; again_by_ber::<Vec<Vec<u32>>>(alloc, &LISTS)?.as_slice() == LISTS.as_slice());
+    assert!(rt; again_by_ber::<Vec<Any<'_>>>(alloc, &LISTS)?.as_slice() == LISTS.as_slice());
+    Ok(())
+}
+
+#[test]
+fn laws_reach_nested_sets(rt: HostRuntime) -> Result<(), Fail> {
+    let alloc = rt.alloc();
+    assert!(rt; again::<SetOf<SetOf<u8>>>(alloc, &SETS)?.as_slice() == ASCENDING.as_slice());
+    assert!(rt; again_by_ber::<SetOf<SetOf<u8>>>(alloc, &SETS)?.as_slice() == ASCENDING.as_slice());
+    assert!(rt; again::<BTreeSet<BTreeSet<u8>>>(alloc, &SETS)?.as_slice() == ASCENDING.as_slice());
+    assert!(rt;
+        again_by_ber::<BTreeSet<BTreeSet<u8>>>(alloc, &SETS)?.as_slice() == ASCENDING.as_slice()
+    );
+    Ok(())
+}
+
+/// How many contents octets the list of three values has.
+fn made<L: FromItems<Item = InClass> + ToDer + Drop>(alloc: Global) -> Result<usize, Fail> {
+    let list = L::from_items(alloc, three_classes(alloc)?)?;
+    Ok(list.der_content_len()?)
+}
+
+#[test]
+fn lists_are_made_of_items(rt: HostRuntime) -> Result<(), Fail> {
+    let alloc = rt.alloc();
+    assert_eq!(rt; made::<Vec<InClass>>(alloc)?, 9);
+    assert_eq!(rt; made::<SetOf<InClass>>(alloc)?, 9);
+    assert_eq!(rt; made::<BTreeSet<InClass>>(alloc)?, 9);
+    Ok(())
 }
