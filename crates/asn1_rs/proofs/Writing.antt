@@ -210,9 +210,18 @@ written_may faults.OutOfMemory takes m n l h = (h, refl)
 written_may _ takes m n l h = absurd h
 
 -- A header is written of contents octets that were counted.
-module _ (takes : Bool) (m n : ℕ) (l : m ≤ n) (own : Error → Type 0) where
+module _ (takes : Bool) (header content : List ℕ) (own : Error → Type 0) where
+  abbrev m : ℕ
+  m = length content
+
+  abbrev n : ℕ
+  n = length (header ++ content)
+
+  shorter : m ≤ n
+  shorter = simp length-append (omega arith)
+
   header_refusal : (c : Error) → RefusesCount takes m own c → RefusesAtOnce takes n (WrittenRefusal own) (written_refusal c)
-  header_refusal c (inl h) = inl (written_may c takes m n l h)
+  header_refusal c (inl h) = inl (written_may c takes m n shorter h)
   header_refusal c (inr o) = inr (c, o, refl)
 
   at_once_refused : (e : SerializeError) → RefusesAtOnce takes n (WrittenRefusal own) e → Refuses takes n (WrittenRefusal own) e

@@ -1,11 +1,11 @@
 //! How types of items come by [`ToDer`] and the laws of it: by the contents octets of a primitive element, or by what they refer to.
-ghost use Rattle.std.specs.Prelude.{◌≡◌, ◌++◌, ℕ, false, List, length, IfOk, IfErr, IsErr};
+ghost use Rattle.std.specs.Prelude.{◌≡◌, ◌++◌, ◌<◌, ◌^◌, ℕ, false, List, length, IfOk, IfErr, IsErr};
 ghost use Rattle.asn1_rs.specs.Grammar.{FormNumber, FormTakes};
 ghost use Rattle.asn1_rs.specs.Wrote.{Wrote, MayRefuse, MayRefuseCount, Refuses, RefusesCount, IsRefusedAtOnce, IsWritable};
 ghost use Rattle.asn1_rs.specs.declared.error.SerializeError.{SerializeError as Unwritten};
 ghost use Rattle.asn1_rs.specs.declared.error.Error.{Error as Uncounted};
 ghost use Rattle.asn1_rs.specs.Written.{Writing, primitive_writing};
-ghost use Rattle.asn1_rs.specs.Laws.Forms.{IsPrimitiveElement, WritesByValue, WritesForm, HasForm, primitive_by_value, primitive_writes_form, primitive_has_form, primitive_number};
+ghost use Rattle.asn1_rs.specs.Laws.Forms.{IsPrimitiveElement, WritesByValue, WritesForm, HasForm, primitive_by_value, primitive_writes_form, primitive_has_form, primitive_number, primitive_fits};
 
 use crate::error::{Error, SerializeResult};
 use crate::header_writing::{element_len, put_counted_header};
@@ -236,7 +236,7 @@ pub trait LawfulWriteBy<K>: ToDer + LawfulItem {
         Self.constructed Self.header Self.content };
 
     /// `der_form`.
-    ghost written_der: { HasForm Self.grammar.value Self.grammar.IsDer Self.grammar.Form Self.header Self.content };
+    ghost written_der: { HasForm Self.grammar.value Self.grammar.IsDer Self.grammar.Form Self.content };
 }
 
 impl<T: WritesPrimitive> LawfulWriteBy<ElementKind> for T {
@@ -269,22 +269,31 @@ impl<T: HasKind + LawfulWriteBy<T::Kind>> LawfulWrite for T {
     ghost der_form = { T.written_der };
 }
 
-/// The law of the tag number, for a type of this kind.
+/// The laws of the tag number, for a type of this kind.
 pub trait LawfulTaggedBy<K>: LawfulItem + Tagged {
     /// `tag_number`.
     ghost number_by_kind: { FormNumber Self.grammar.Form (Self.mark).0 };
+
+    /// `number_fits`.
+    ghost number_is_small: { (Self.mark).0 < 2 ^ 32 };
 }
 
 impl<T: WritesPrimitive> LawfulTaggedBy<ElementKind> for T {
     ghost number_by_kind = { primitive_number T.element (T.mark).0 T.octets T.primitive };
+
+    ghost number_is_small = { primitive_fits T.element (T.mark).0 T.octets T.primitive };
 }
 
 impl<T: LawfulTagged> LawfulTaggedBy<ReferenceKind> for &T {
     ghost number_by_kind = { T.tag_number };
+
+    ghost number_is_small = { T.number_fits };
 }
 
 impl<T: HasKind + LawfulTaggedBy<T::Kind>> LawfulTagged for T {
     ghost tag_number = { T.number_by_kind };
+
+    ghost number_fits = { T.number_is_small };
 }
 
 /// The law of implicit tags of class `C`, for a type of this kind.

@@ -135,8 +135,8 @@ pub trait LawfulWrite: ToDer + LawfulItem {
         (λ x. IsWritable (Self.count_refuses x) (Self.header_refuses x) (Self.content_refuses x))
         Self.constructed Self.header Self.content };
 
-    /// A value in DER form whose octets fit in memory has strict parts.
-    ghost der_form: { HasForm Self.grammar.value Self.grammar.IsDer Self.grammar.Form Self.header Self.content };
+    /// A value in DER form whose contents octets fit in memory has strict parts.
+    ghost der_form: { HasForm Self.grammar.value Self.grammar.IsDer Self.grammar.Form Self.content };
 }
 
 /// The strict parts have the type's tag number.
@@ -145,6 +145,9 @@ pub trait LawfulWrite: ToDer + LawfulItem {
 pub trait LawfulTagged: LawfulItem + Tagged {
     /// Strict parts have the tag number of the type.
     ghost tag_number: { FormNumber Self.grammar.Form (Self.mark).0 };
+
+    /// And an element can have it.
+    ghost number_fits: { (Self.mark).0 < 2 ^ 32 };
 }
 
 /// The strict parts pass check and body with class `K` in place of their own.

@@ -73,5 +73,5 @@ impl WritesOctets for Fingerprint<'_> {
         self.0
     }
 
-    ghost held_are = { octets_primitive 4 (λ x. x.0.now) };
+    ghost held_are = { octets_primitive 4 (λ x. x.0.now) (lit< tt) };
 }

@@ -33,7 +33,7 @@ element_writes_form x i c f = (
   header_by (identifier_of x.header) i x.content.now c (ap (λ (z : Element). z.id) f.is) (ap (λ (z : Element). z.content) f.is),
 )
 
-pub element_has_form : HasForm element_of (λ v. ElementForm v v.id v.content) ElementForm element_header content_of
+pub element_has_form : HasForm element_of (λ v. ElementForm v v.id v.content) ElementForm content_of
 element_has_form = λ x d l. ∣ (identifier_of x.header, d) ∣₁
 
 -- the strict header where the header counts the contents octets

@@ -47,9 +47,9 @@ abbrev pub WritesForm : {S V : Type 0} → (S → V) → (V → Identifier → L
 WritesForm {S} {V} value Form is_writable constructed header content = (x : S) (i : Identifier) (c : List ℕ) → Form (value x) i c →
     is_writable x × (constructed x ≡ i.constructed) × (content x ≡ c) × (header x ≡ header_of i c)
 
--- A value in DER form whose octets fit in memory has strict parts, with the contents octets that are written.
-abbrev pub HasForm : {S V : Type 0} → (S → V) → (V → Type 0) → (V → Identifier → List ℕ → Type 0) → (S → List ℕ) → (S → List ℕ) → Type 0
-HasForm {S} {V} value IsDer Form header content = (x : S) → IsDer (value x) → length (header x ++ content x) < 2 ^ 64 →
+-- A value in DER form whose contents octets fit in memory has strict parts, with the contents octets that are written.
+abbrev pub HasForm : {S V : Type 0} → (S → V) → (V → Type 0) → (V → Identifier → List ℕ → Type 0) → (S → List ℕ) → Type 0
+HasForm {S} {V} value IsDer Form content = (x : S) → IsDer (value x) → length (content x) < 2 ^ 64 →
     ∥ ((i : Identifier) × Form (value x) i (content x)) ∥₁
 
 -- strict parts that fit in memory make a strict encoding
@@ -70,11 +70,11 @@ strict_written value Form is_writable constructed header content law x o s =
 
 -- and a value in DER form whose octets fit in memory is written as its strict encoding
 pub der_strict : {S V : Type 0} (value : S → V) (IsDer : V → Type 0) (Form : V → Identifier → List ℕ → Type 0) (is_writable : S → Type 0) (constructed : S → Bool) (header content : S → List ℕ) →
-    WritesForm value Form is_writable constructed header content → HasForm value IsDer Form header content → FitsElement Form →
+    WritesForm value Form is_writable constructed header content → HasForm value IsDer Form content → FitsElement Form →
     (x : S) → IsDer (value x) → length (header x ++ content x) < 2 ^ 64 → ∥ IsStrict Form (value x) (header x ++ content x) ∥₁
 der_strict value IsDer Form is_writable constructed header content writes has fits x d l =
-    ∥∥₁_map (has x d l) (λ f.
     let short : length (content x) < 2 ^ 64 = omega (arith, length-append (header x) (content x), l) in
+    ∥∥₁_map (has x d short) (λ f.
     subst (λ (h : List ℕ). IsStrict Form (value x) (h ++ content x)) (sym (writes x f.0 (content x) f.1).3) (strict_made Form fits (value x) f.0 (content x) f.1 short))
 
 -- Octets are strict for a value that has strict parts exactly where they are what is written of it.
@@ -107,13 +107,15 @@ nothing_refused = (λ e h. h, λ e h. h, λ e h. h)
 
 -- The contents octets of a primitive element follow from the value. Where it has strict parts, they are its content, and the
 -- identifier is the one of the universal class with this number; under any class they meet the check and have the value
--- all the same. A value in DER form has strict parts.
+-- all the same. A value in DER form has strict parts. The number is one of the
+-- low form.
 pub record IsPrimitiveElement {S : Type 0} (G : ElementGrammar S) (number : ℕ) (octets : S → List ℕ) : Type 0 where
   pub by_value : (x y : S) → G.value x ≡ G.value y → octets x ≡ octets y
   pub identifier : (v : G.Value) (i : Identifier) (c : List ℕ) → G.Form v i c → i ≡ universal false number
   pub form : (x : S) (i : Identifier) (c : List ℕ) → G.Form (G.value x) i c → octets x ≡ c
   pub class : (k : ℕ) → FormTakes G.Form G.Check G.Body k
   pub der : (x : S) → G.IsDer (G.value x) → G.Form (G.value x) (universal false number) (octets x)
+  pub small : number < 31
 
 -- so what is written of such an element is lawful
 module _ {S : Type 0} (G : ElementGrammar S) (number : ℕ) (octets : S → List ℕ) (primitive : IsPrimitiveElement G number octets) where
@@ -126,8 +128,11 @@ module _ {S : Type 0} (G : ElementGrammar S) (number : ℕ) (octets : S → List
       let s = primitive.form x i c f in
       (nothing_refused, sym (ap (λ (z : Identifier). z.constructed) e), s, ap (λ (d : List ℕ). header_octets 0 false number (length d)) s ∙ ap (λ (z : Identifier). header_of z c) (sym e))
 
-  pub primitive_has_form : HasForm G.value G.IsDer G.Form (λ x. header_octets 0 false number (length (octets x))) octets
+  pub primitive_has_form : HasForm G.value G.IsDer G.Form octets
   primitive_has_form = λ x d l. ∣ (universal false number, primitive.der x d) ∣₁
+
+  pub primitive_fits : number < 2 ^ 32
+  primitive_fits = let s = primitive.small in omega arith
 
   pub primitive_number : FormNumber G.Form number
   primitive_number = λ v i c f. ap (λ (z : Identifier). z.number) (primitive.identifier v i c f)

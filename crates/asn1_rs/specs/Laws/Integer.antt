@@ -1,6 +1,6 @@
 -- Laws of integers as elements (X.690 8.3).
 use Rattle.std.specs.Prelude.{Result, Ok, Err, ℤ, nat_eq, if◌then◌else◌}
-use Rattle.std.proofs.Common.{arith, ◌≡◌, ◌∙◌, ap, sym, refl, subst, ℕ, inl, inr, Bool, true, false, List, [], ◌∷◌, length}
+use Rattle.std.proofs.Common.{arith, lit<, ◌≡◌, ◌∙◌, ap, sym, refl, subst, ℕ, inl, inr, Bool, true, false, List, [], ◌∷◌, length}
 use Rattle.x690.specs.Octets.{IsOctets}
 use Rattle.x690.specs.Digits.{twos_complement_value}
 use Rattle.x690.specs.Identifiers.{Identifier}
@@ -161,4 +161,5 @@ module _ {T : Type 0} (number : T → ℤ) (octets : T → List ℕ) (strict : (
     form = λ x i c f. same_octets x (number x) c refl f.1.1;
     class = integer_takes_class Holds;
     der = λ x h. (refl, (h, strict x));
+    small = lit< tt;
   }

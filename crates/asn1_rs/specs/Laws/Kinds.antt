@@ -86,4 +86,5 @@ module _ {S T : Type 0} (held : T → S) (G : ElementGrammar S) where
     form = λ x i c f. l.form (held x) i c f;
     class = l.class;
     der = λ x d. l.der (held x) d;
+    small = l.small;
   }

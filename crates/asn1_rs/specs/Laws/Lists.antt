@@ -403,12 +403,10 @@ joined_flat octets (x ∷ xs) = flat_map-cons (λ o. o) (octets x) (map octets x
 -- so a list in DER form has strict parts
 pub list_has_form : {S V : Type 0} (number : ℕ) (value : S → V) (IsDer : V → Type 0) (Form : V → Identifier → List ℕ → Type 0) (header content : S → List ℕ) →
     ((x : S) → IsDer (value x) → length (header x ++ content x) < 2 ^ 64 → ∥ IsStrict Form (value x) (header x ++ content x) ∥₁) →
-    (xs : List S) → All IsDer (map value xs) → length (header_octets 0 true number (length (written_items header content xs)) ++ written_items header content xs) < 2 ^ 64 →
+    (xs : List S) → All IsDer (map value xs) → length (written_items header content xs) < 2 ^ 64 →
     ∥ ((i : Identifier) × ListForm number Form (map value xs) i (written_items header content xs)) ∥₁
 list_has_form number value IsDer Form header content strict xs a l =
-    let joined = written_items header content xs in
-    let short : length joined < 2 ^ 64 = omega (arith, length-append (header_octets 0 true number (length joined)) joined, l) in
-    ∥∥₁_map (zip_written value IsDer Form (λ x. header x ++ content x) strict xs a short) (λ z.
+    ∥∥₁_map (zip_written value IsDer Form (λ x. header x ++ content x) strict xs a l) (λ z.
     (universal true number, (refl, subst (λ c. IsJoined (StrictWord Form) c (map value xs)) (joined_flat (λ x. header x ++ content x) xs) (zip_joined Form (map value xs) (map (λ x. header x ++ content x) xs) z))))
 
 -- lists of members are equal exactly where their values are

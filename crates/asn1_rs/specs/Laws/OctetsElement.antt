@@ -39,11 +39,12 @@ module _ {S : Type 0} (number : ℕ) (octets : S → List ℕ) where
       exact p (Ok x) o g = g
       exact p (Err e) o g = inr (λ v b. g.0 b.0)
 
-  pub octets_primitive : IsPrimitiveElement (octets_element number octets) number octets
-  octets_primitive = record {
+  pub octets_primitive : number < 31 → IsPrimitiveElement (octets_element number octets) number octets
+  octets_primitive small = record {
     by_value = λ x y e. e;
     identifier = λ v i c f. f.0;
     form = λ x i c f. f.1.0;
     class = λ k v i c f. (ap (λ (z : Identifier). z.constructed) f.0, (ap (λ (z : Identifier). z.number) f.0, f.1.0));
     der = λ x d. (refl, (refl, d));
+    small = small;
   }

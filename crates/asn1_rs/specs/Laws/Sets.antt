@@ -310,7 +310,7 @@ module _ {V M : Type 0} (of : List V → M) (Each : List V → Type 0)
   -- so a set in DER form has strict parts
   pub set_has_form : {S : Type 0} (value : S → V) (IsDer : V → Type 0) (Form : V → Identifier → List ℕ → Type 0) (header content : S → List ℕ) →
       ((x : S) → IsDer (value x) → length (header x ++ content x) < 2 ^ 64 → ∥ IsStrict Form (value x) (header x ++ content x) ∥₁) →
-      (xs : List S) (m : M) (d : SetInDer of Each IsDer m) → ∥ IsPermutation d.0 (map value xs) ∥₁ → length (header_octets 0 true 17 (length (set_content (λ x. header x ++ content x) xs)) ++ set_content (λ x. header x ++ content x) xs) < 2 ^ 64 →
+      (xs : List S) (m : M) (d : SetInDer of Each IsDer m) → ∥ IsPermutation d.0 (map value xs) ∥₁ → length (set_content (λ x. header x ++ content x) xs) < 2 ^ 64 →
       ∥ ((i : Identifier) × SetForm of Each Form m i (set_content (λ x. header x ++ content x) xs)) ∥₁
   set_has_form {S} value IsDer Form header content strict xs m d moved l =
       ∥∥₁_elim moved ∥∥₁_prop (λ p. ∥∥₁_map (zip_written value IsDer Form octets strict xs (All-permutation IsDer d.0 (map value xs) p d.3) short) (λ z. (universal true 17, (refl, joins p z))))
@@ -319,7 +319,7 @@ module _ {V M : Type 0} (of : List V → M) (Each : List V → Type 0)
       octets x = header x ++ content x
 
       short : length (flat_map octets xs) < 2 ^ 64
-      short = omega (arith, length-append (header_octets 0 true 17 (length (set_content octets xs))) (set_content octets xs), arranged_length octets xs, l)
+      short = omega (arith, arranged_length octets xs, l)
 
       joins : IsPermutation d.0 (map value xs) → AllZip (IsStrict Form) (map value xs) (map octets xs) → Joins of Each Form m (set_content octets xs)
       joins p z =
@@ -581,13 +581,13 @@ module _ {S V : Type 0} (eq : S → S → Bool) (value : S → V) (same : (x y :
 module _ {S V : Type 0} (value : S → V) (IsDer : V → Type 0) (Form : V → Identifier → List ℕ → Type 0) (header content : S → List ℕ)
     (strict : (x : S) → IsDer (value x) → length (header x ++ content x) < 2 ^ 64 → ∥ IsStrict Form (value x) (header x ++ content x) ∥₁) where
   pub multiset_has_form : (xs : List S) → SetInDer multiset AnyList IsDer (multiset (map value xs)) →
-      length (header_octets 0 true 17 (length (set_content (λ x. header x ++ content x) xs)) ++ set_content (λ x. header x ++ content x) xs) < 2 ^ 64 →
+      length (set_content (λ x. header x ++ content x) xs) < 2 ^ 64 →
       ∥ ((i : Identifier) × SetForm multiset AnyList Form (multiset (map value xs)) i (set_content (λ x. header x ++ content x) xs)) ∥₁
   multiset_has_form xs d l =
       set_has_form multiset AnyList (λ vs ws p h. tt) same_multiset value IsDer Form header content strict xs (multiset (map value xs)) d (permutation_from_multiset d.0 (map value xs) d.2) l
 
   pub members_have_form : (test : S → S → Bool) → ((x y : S) → test x y ≡ true → value x ≡ value y → ⊥) → (xs : List S) → SetInDer set_of AllDiffer IsDer (members test value xs) →
-      length (header_octets 0 true 17 (length (set_content (λ x. header x ++ content x) xs)) ++ set_content (λ x. header x ++ content x) xs) < 2 ^ 64 →
+      length (set_content (λ x. header x ++ content x) xs) < 2 ^ 64 →
       ∥ ((i : Identifier) × SetForm set_of AllDiffer Form (members test value xs) i (set_content (λ x. header x ++ content x) xs)) ∥₁
   members_have_form test apart xs d l =
       set_has_form set_of AllDiffer AllDiffer-permutation same_set value IsDer Form header content strict xs (members test value xs) d (members_are test value apart xs d.0 d.1 d.2) l

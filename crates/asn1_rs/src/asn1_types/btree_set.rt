@@ -1,6 +1,7 @@
 //! `BTreeSet` as a set of members (X.690 8.12).
 ghost use Rattle.std.specs.Prelude.{List, ◌++◌, ◌≡◌, length, map, true, false, slice_index_or, IfOk, IfErr, IsErr};
 ghost use Rattle.std.specs.List.{All, flat_map};
+ghost use Rattle.std.proofs.Common.{lit<};
 ghost use Rattle.std.specs.BTreeSet.{IsFromIterResult};
 ghost use Rattle.x690.specs.Strict.{header_octets};
 ghost use Rattle.x690.specs.Identifiers.{IsCutIdentifier};
@@ -227,6 +228,8 @@ impl<T: LawfulWrite + LawfulMember + Ord> LawfulWrite for BTreeSet<T> {
 
 impl<T: LawfulItem + Ord> LawfulTagged for BTreeSet<T> {
     ghost tag_number = { set_number set_of AllDiffer T.grammar.Form };
+
+    ghost number_fits = { lit< tt };
 }
 
 impl<T: LawfulItem + Ord, const K: u8> TakesClass<K> for BTreeSet<T> {

@@ -1,6 +1,7 @@
 //! Sets in which an item may stand more than once (X.690 8.12).
 ghost use Rattle.std.specs.Prelude.{List, ◌++◌, ◌≡◌, length, true, slice_index_or, IfOk};
 ghost use Rattle.std.specs.List.{All};
+ghost use Rattle.std.proofs.Common.{lit<};
 ghost use Rattle.x690.specs.Strict.{header_octets};
 ghost use Rattle.x690.specs.Identifiers.{IsCutIdentifier};
 ghost use Rattle.asn1_rs.specs.Grammar.{PassesAll, DerGives, EndsWithin};
@@ -201,6 +202,8 @@ impl<T: LawfulWrite> LawfulWrite for SetOf<T> {
 
 impl<T: LawfulItem> LawfulTagged for SetOf<T> {
     ghost tag_number = { set_number multiset AnyList T.grammar.Form };
+
+    ghost number_fits = { lit< tt };
 }
 
 impl<T: LawfulItem, const K: u8> TakesClass<K> for SetOf<T> {

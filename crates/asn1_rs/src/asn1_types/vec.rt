@@ -167,6 +167,8 @@ impl<T: LawfulWrite> LawfulWrite for Vec<T> {
 
 impl<T: LawfulItem> LawfulTagged for Vec<T> {
     ghost tag_number = { list_number T.grammar.Form 16 };
+
+    ghost number_fits = { lit< tt };
 }
 
 impl<T: LawfulItem, const K: u8> TakesClass<K> for Vec<T> {
