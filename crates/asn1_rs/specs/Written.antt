@@ -13,6 +13,7 @@ pub record Writing (S : Type 0) : Type 1 where
   pub count_refuses : S → Error → Type 0
   pub header_refuses : S → SerializeError → Type 0
   pub content_refuses : S → SerializeError → Type 0
+  pub refuses_first : S → SerializeError → Type 0
   pub count_takes_memory : Bool
   pub content_takes_memory : Bool
   pub write_takes_memory : Bool
@@ -27,6 +28,7 @@ primitive_writing number octets = record {
   count_refuses = λ x e. ⊥;
   header_refuses = λ x e. ⊥;
   content_refuses = λ x e. ⊥;
+  refuses_first = λ x e. ⊥;
   count_takes_memory = false;
   content_takes_memory = false;
   write_takes_memory = false;

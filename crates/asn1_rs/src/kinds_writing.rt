@@ -1,7 +1,7 @@
 //! How types of items come by [`ToDer`] and the laws of it: by the contents octets of a primitive element, or by what they refer to.
 ghost use Rattle.std.specs.Prelude.{◌≡◌, ◌++◌, ◌<◌, ◌^◌, ℕ, false, List, length, IfOk, IfErr, IsErr};
 ghost use Rattle.asn1_rs.specs.Grammar.{FormNumber, FormTakes};
-ghost use Rattle.asn1_rs.specs.Wrote.{Wrote, MayRefuse, MayRefuseCount, Refuses, RefusesCount, IsRefusedAtOnce, IsWritable};
+ghost use Rattle.asn1_rs.specs.Wrote.{Wrote, MayRefuse, MayRefuseCount, Refuses, RefusesCount, IsRefusedAtOnce, RefusedAtOnce, IsWritable};
 ghost use Rattle.asn1_rs.specs.declared.error.SerializeError.{SerializeError as Unwritten};
 ghost use Rattle.asn1_rs.specs.declared.error.Error.{Error as Uncounted};
 ghost use Rattle.asn1_rs.specs.Written.{Writing, primitive_writing};
@@ -105,7 +105,9 @@ pub trait ToDerBy<K>: DynTagged {
         ensures at_once { (e : Unwritten) → writing.tells self.now → writing.header_refuses self.now e →
             IsRefusedAtOnce writing.count_takes_memory
             (length (writing.header self.now ++ writing.content self.now)) (writing.header_refuses self.now)
-            (W.told w.old) (W.told w.new) (W.failed w.old) (W.failed w.new) result };
+            (W.told w.old) (W.told w.new) (W.failed w.old) (W.failed w.new) result }
+        ensures first { (e : Unwritten) → writing.refuses_first self.now e →
+            RefusedAtOnce e (W.told w.old) (W.told w.new) (W.failed w.old) (W.failed w.new) result };
 
     /// `write_der_content`.
     fn put_content<W: DerWrite>(&self, alloc: Global, w: &mut W) -> SerializeResult<usize>
@@ -117,7 +119,9 @@ pub trait ToDerBy<K>: DynTagged {
         ensures accepted { (e : Unwritten) → writing.tells self.now →
             writing.content_refuses self.now e → IsErr result }
         ensures uncounted { (e : Uncounted) → writing.tells self.now →
-            writing.count_refuses self.now e → IsErr result };
+            writing.count_refuses self.now e → IsErr result }
+        ensures first { (e : Unwritten) → writing.refuses_first self.now e →
+            RefusedAtOnce e (W.told w.old) (W.told w.new) (W.failed w.old) (W.failed w.new) result };
 }
 
 impl<T: WritesPrimitive> ToDerBy<ElementKind> for T {
@@ -154,6 +158,7 @@ impl<T: ToDer + Tagged> ToDerBy<ReferenceKind> for &T {
       count_refuses = λ r. T.count_refuses r.now;
       header_refuses = λ r. T.header_refuses r.now;
       content_refuses = λ r. T.content_refuses r.now;
+      refuses_first = λ r. T.refuses_first r.now;
       count_takes_memory = T.count_takes_memory;
       content_takes_memory = T.content_takes_memory;
       write_takes_memory = T.write_takes_memory;
@@ -194,6 +199,8 @@ impl<T: HasKind + ToDerBy<T::Kind>> ToDer for T {
     ghost header_refuses = { T.writing.header_refuses };
 
     ghost content_refuses = { T.writing.content_refuses };
+
+    ghost refuses_first = { T.writing.refuses_first };
 
     ghost count_takes_memory = { T.writing.count_takes_memory };
 

@@ -1,7 +1,7 @@
 //! The trait of values that are written by DER.
-ghost use Rattle.std.specs.Prelude.{◌≡◌, ◌++◌, ◌||◌, ℕ, Bool, true, false, List, [], length, IfOk, IfErr, IsErr};
+ghost use Rattle.std.specs.Prelude.{◌≡◌, ◌++◌, ◌||◌, ℕ, Bool, true, false, List, [], length, Err, IfOk, IfErr, IsErr};
 ghost use Rattle.std.specs.Io.KnownBytes.{Appends};
-ghost use Rattle.asn1_rs.specs.Wrote.{Wrote, MayRefuse, Refuses, RefusesCount, VectorRefuses, Either, IsRefusedAtOnce, SumsWritten, SumsCounts, some_takes, written_refusal, vector_refusal, tells_of_io};
+ghost use Rattle.asn1_rs.specs.Wrote.{Wrote, MayRefuse, Refuses, RefusesCount, VectorRefuses, Either, IsRefusedAtOnce, RefusedAtOnce, SumsWritten, SumsCounts, some_takes, written_refusal, vector_refusal, tells_of_io};
 ghost use Rattle.asn1_rs.specs.declared.error.SerializeError.{SerializeError as Unwritten};
 ghost use Rattle.asn1_rs.specs.declared.error.Error.{Error as Uncounted};
 
@@ -77,6 +77,9 @@ pub trait ToDer: DynTagged {
     /// encoding may be appended.
     ghost content_refuses: { Self → Unwritten → Type 0 } = { λ _ _. ⊥ };
 
+    /// The refusals that come before all others: before anything is counted, and before the writer is asked.
+    ghost refuses_first: { Self → Unwritten → Type 0 } = { λ _ _. ⊥ };
+
     /// The raw form is the DER form.
     ghost raw_is_der: { Self → Type 0 } = { λ _. Unit {0} };
 
@@ -120,7 +123,9 @@ pub trait ToDer: DynTagged {
         ensures at_once { (e : Unwritten) → tells self.now → header_refuses self.now e →
             IsRefusedAtOnce count_takes_memory
             (length (header self.now ++ content self.now)) (header_refuses self.now)
-            (W.told w.old) (W.told w.new) (W.failed w.old) (W.failed w.new) result };
+            (W.told w.old) (W.told w.new) (W.failed w.old) (W.failed w.new) result }
+        ensures first { (e : Unwritten) → refuses_first self.now e →
+            RefusedAtOnce e (W.told w.old) (W.told w.new) (W.failed w.old) (W.failed w.new) result };
 
     /// Appends the contents octets, and answers their number.
     fn write_der_content<W: DerWrite>(&self, alloc: Global, w: &mut W) -> SerializeResult<usize>
@@ -130,7 +135,9 @@ pub trait ToDer: DynTagged {
             IfErr result (Refuses content_takes_memory
             (length (content self.now)) (content_refuses self.now)) }
         ensures accepted { (e : Unwritten) → tells self.now → content_refuses self.now e → IsErr result }
-        ensures uncounted { (e : Uncounted) → tells self.now → count_refuses self.now e → IsErr result };
+        ensures uncounted { (e : Uncounted) → tells self.now → count_refuses self.now e → IsErr result }
+        ensures first { (e : Unwritten) → refuses_first self.now e →
+            RefusedAtOnce e (W.told w.old) (W.told w.new) (W.failed w.old) (W.failed w.new) result };
 
     /// Appends the encoding, and answers its length.
     ///
@@ -151,6 +158,8 @@ pub trait ToDer: DynTagged {
             (length (header self.now ++ content self.now))
             (Either (header_refuses self.now) (content_refuses self.now))
             (W.told w.old) (W.told w.new) (W.failed w.old) (W.failed w.new) result }
+        ensures first { (e : Unwritten) → refuses_first self.now e →
+            RefusedAtOnce e (W.told w.old) (W.told w.new) (W.failed w.old) (W.failed w.new) result }
     {
         let before = self.write_der_header(alloc, w)?;
         let after = self.write_der_content(alloc, w)?;
@@ -178,6 +187,8 @@ pub trait ToDer: DynTagged {
             (W.told w.old) (W.told w.new) (W.failed w.old) (W.failed w.new) result }
         ensures counted { tells self.now →
             IfOk result (λ n. (raw : List ℕ) × Appends (W.told w.old) (W.told w.new) raw × (n ≡ length raw)) }
+        ensures first { (e : Unwritten) → refuses_first self.now e →
+            RefusedAtOnce e (W.told w.old) (W.told w.new) (W.failed w.old) (W.failed w.new) result }
     {
         self.write_der(alloc, w)
     }
@@ -193,6 +204,7 @@ pub trait ToDer: DynTagged {
             Either (header_refuses self.now) (content_refuses self.now) e → IsErr result }
         ensures uncounted { (e : Uncounted) → tells self.now → count_refuses self.now e → IsErr result }
         ensures memory { IfErr result (λ e. tells_of_io e ≡ false) }
+        ensures first { (e : Unwritten) → refuses_first self.now e → result ≡ Err (vector_refusal e) }
     {
         let mut w = Told::new(Vec::new(alloc));
         match self.write_der(alloc, &mut w) {
@@ -213,6 +225,7 @@ pub trait ToDer: DynTagged {
         ensures uncounted { (e : Uncounted) → tells self.now → raw_is_der self.now →
             count_refuses self.now e → IsErr result }
         ensures memory { IfErr result (λ e. tells_of_io e ≡ false) }
+        ensures first { (e : Unwritten) → refuses_first self.now e → result ≡ Err (vector_refusal e) }
     {
         let mut w = Told::new(Vec::new(alloc));
         match self.write_der_raw(alloc, &mut w) {

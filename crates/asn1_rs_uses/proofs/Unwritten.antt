@@ -17,7 +17,7 @@ use Rattle.asn1_rs.specs.WrittenHeader.{strict_header}
 use Rattle.asn1_rs.specs.Wrote.{MayRefuse, Refuses, RefusesCount, RefusedAtOnce, IsRefusedAtOnce, VectorRefuses, IntoVector, WrittenRefusal, Either, vector_refusal, tells_of_io}
 use Rattle.asn1_rs_uses.specs.declared.refusals.InClass.{InClass}
 use Rattle.asn1_rs_uses.specs.declared.refusals.NamePart.{NamePart}
-use Rattle.asn1_rs_uses.specs.Refusals.{NamesNoClass, TellsOfNoClass, SomeInNoClass, AsAnyWriting, TellsOfEmptyPart, IsEmptyPart, WrittenEmptyPart, SomeEmpty}
+use Rattle.asn1_rs_uses.specs.Refusals.{NamesNoClass, TellsOfNoClass, SomeInNoClass, AsAnyWriting, TellsOfEmptyPart, IsEmptyPart, WrittenEmptyPart, IsMemoryOrLength, SomeEmpty}
 
 -- the header of an element of one octet, with tag number 0
 pub header_of_one : (h : Header) (class : Class) (n : ℕ) → n ≡ class_number class → HasParts h class false (record { 0 = 0 }) (Definite 1) None → strict_header h ≡ header_octets n false 0 1
@@ -36,21 +36,6 @@ pub few_refused : (n m : ℕ) (own : SerializeError → Type 0) (r : Result ℕ 
 few_refused n m own (Ok k) few p = tt
 few_refused n m own (Err e) few p = elim p [ inl may ↦ inl (few_may n m few e may) | inr none ↦ absurd none ]
 
--- where nothing was asked of the writer either, the refusal is one of the value's own
-few_at_once : (n : ℕ) → n < 2 ^ 64 → (e : SerializeError) → MayRefuse false n e → tells_of_io e ≡ false → ⊥
-few_at_once n few (refusals.ASN1Error e) p h = p
-few_at_once n few (refusals.InvalidClass c) p h = p
-few_at_once n few refusals.InvalidLength p h = absurd (omega arith)
-few_at_once n few (refusals.IOError e) p h = cc
-few_at_once n few refusals.OutOfMemory p h = cc
-
-own_at_once : (n : ℕ) (own : SerializeError → Type 0) (f : SerializeError) (old new : Option (List ℕ)) (was is : Bool) (r : Result ℕ SerializeError) → n < 2 ^ 64 → ((e : SerializeError) → own e → e ≡ f) → IsRefusedAtOnce false n own old new was is r → RefusedAtOnce f old new was is r
-own_at_once n own f old new was is r few only (e, why, at) =
-    elim why [
-      | inl may ↦ absurd (few_at_once n few e may.0 may.1)
-      | inr mine ↦ subst (λ (z : SerializeError). RefusedAtOnce z old new was is r) (only e mine) at
-    ]
-
 either_same : {E : Type 0} (P : E → Type 0) (e : E) → Either P P e → P e
 either_same P e (inl p) = p
 either_same P e (inr p) = p
@@ -60,39 +45,12 @@ pub three_octets : (n o : ℕ) → length (header_octets n false 0 1 ++ o ∷ []
 unfolding header_octets identifier_octets length_octets
 three_octets n o = refl
 
-few_octets : (n o : ℕ) → length (header_octets n false 0 1 ++ o ∷ []) < 2 ^ 64
-few_octets n o = rw (three_octets n o) (omega arith)
-
--- a header of no class is refused with nothing appended
-pub header_at_once : (n o : ℕ) (old new : Option (List ℕ)) (was is : Bool) (r : Result ℕ SerializeError) → IsRefusedAtOnce false (length (header_octets n false 0 1 ++ o ∷ [])) (NamesNoClass n) old new was is r → RefusedAtOnce (refusals.InvalidClass n) old new was is r
-header_at_once n o old new was is r at = own_at_once _ (NamesNoClass n) (refusals.InvalidClass n) old new was is r (few_octets n o) (λ e p. p.1) at
-
--- and so is an element
-pub element_at_once : (n o : ℕ) (old new : Option (List ℕ)) (was is : Bool) (r : Result ℕ SerializeError) → IsRefusedAtOnce false (length (header_octets n false 0 1 ++ o ∷ [])) (Either (NamesNoClass n) (NamesNoClass n)) old new was is r → RefusedAtOnce (refusals.InvalidClass n) old new was is r
-element_at_once n o old new was is r at = own_at_once _ (Either (NamesNoClass n) (NamesNoClass n)) (refusals.InvalidClass n) old new was is r (few_octets n o) (λ e p. (either_same (NamesNoClass n) e p).1) at
-
--- why a writing into a vector is refused: it names the class, or memory was wanted
-few_in_vector : (n : ℕ) → n < 2 ^ 64 → (e : SerializeError) → MayRefuse true n e → tells_of_io e ≡ false → e ≡ refusals.OutOfMemory
-few_in_vector n few (refusals.ASN1Error e) p h = absurd p
-few_in_vector n few (refusals.InvalidClass c) p h = absurd p
-few_in_vector n few refusals.InvalidLength p h = absurd (omega arith)
-few_in_vector n few (refusals.IOError e) p h = cc
-few_in_vector n few refusals.OutOfMemory p h = refl
-
-pub vector_refused : {A : Type 0} (n o : ℕ) (r : Result A SerializeError) → IsErr r → IfErr r (VectorRefuses (length (header_octets n false 0 1 ++ o ∷ [])) (Either (NamesNoClass n) (NamesNoClass n))) → IfErr r (λ e. tells_of_io e ≡ false) → IsErrAnd r (λ e. (e ≡ refusals.InvalidClass n) ⊎ (e ≡ refusals.OutOfMemory))
-vector_refused n o (Ok x) refused why io = cc
-vector_refused n o (Err e) refused why io =
-    elim why [
-      | inl may ↦ inr (few_in_vector _ (few_octets n o) e may io)
-      | inr own ↦ inl (own.2 ∙ ap vector_refusal (either_same (NamesNoClass n) own.0 own.1).1)
-    ]
-
 -- an item of no class is refused with the class
 pub names_some : (xs : List InClass) → SomeInNoClass xs → (e : SerializeError) × SomeRefuses (λ x. Either (NamesNoClass x.class) (NamesNoClass x.class)) xs e × SomeRefuses (λ x. IntoVector (Either (NamesNoClass x.class) (NamesNoClass x.class))) xs e
 names_some xs (k, x, lt, at, h) = let e = refusals.InvalidClass x.class in (e, (k, x, lt, at, inl (h, refl)), (k, x, lt, at, (e, inl (h, refl), refl)))
 
 -- a list is refused as any writing, or with the class of an item
-pub list_refused : (n : ℕ) (xs : List InClass) (r : Result ℕ SerializeError) → IfErr r (Refuses false n (Either (WrittenRefusal (SomeRefuses (λ (x : InClass) e. ⊥) xs)) (SomeRefuses (λ x. Either (NamesNoClass x.class) (NamesNoClass x.class)) xs))) → IfErr r (λ e. MayRefuse false n e ⊎ TellsOfNoClass xs e)
+pub list_refused : (n : ℕ) (xs : List InClass) (r : Result ℕ SerializeError) → IfErr r (Refuses true n (Either (WrittenRefusal (SomeRefuses (λ (x : InClass) e. ⊥) xs)) (SomeRefuses (λ x. Either (NamesNoClass x.class) (NamesNoClass x.class)) xs))) → IfErr r (λ e. MayRefuse true n e ⊎ TellsOfNoClass xs e)
 list_refused n xs (Ok k) why = tt
 list_refused n xs (Err e) (inl may) = inl may
 list_refused n xs (Err e) (inr (inl (f, (k, x, lt, at, none), is))) = absurd none
@@ -133,20 +91,20 @@ written_empty octets e (faults.InvalidValue tag msg, own, is) = rw is own.1
 written_empty octets e (f, own, is) = absurd own.1
 
 -- nor is it written, and nothing is appended
-may_at_once : (n : ℕ) (e : SerializeError) → MayRefuse false n e → tells_of_io e ≡ false → e ≡ refusals.InvalidLength
+may_at_once : (n : ℕ) (e : SerializeError) → MayRefuse true n e → tells_of_io e ≡ false → IsMemoryOrLength e
 may_at_once n (refusals.ASN1Error e) p h = absurd p
 may_at_once n (refusals.InvalidClass c) p h = absurd p
-may_at_once n refusals.InvalidLength p h = refl
+may_at_once n refusals.InvalidLength p h = inr refl
 may_at_once n (refusals.IOError e) p h = cc
-may_at_once n refusals.OutOfMemory p h = cc
+may_at_once n refusals.OutOfMemory p h = inl refl
 
 own_unwritten : (parts : List NamePart) (e : SerializeError) → Either (WrittenRefusal (SomeRefuses (λ p. IsEmptyPart p.0.now) parts)) (SomeRefuses (λ p. Either (WrittenRefusal (IsEmptyPart p.0.now)) (WrittenRefusal (IsEmptyPart p.0.now))) parts) e → WrittenEmptyPart e
 own_unwritten parts e (inl (f, (k, p, lt, at, own), is)) = written_empty p.0.now e (f, own, is)
 own_unwritten parts e (inr (k, p, lt, at, own)) = written_empty p.0.now e (either_same (WrittenRefusal (IsEmptyPart p.0.now)) e own)
 
-pub name_unwritten : (n : ℕ) (parts : List NamePart) (old new : Option (List ℕ)) (was is : Bool) (r : Result ℕ SerializeError) → IsRefusedAtOnce false n (Either (WrittenRefusal (SomeRefuses (λ p. IsEmptyPart p.0.now) parts)) (SomeRefuses (λ p. Either (WrittenRefusal (IsEmptyPart p.0.now)) (WrittenRefusal (IsEmptyPart p.0.now))) parts)) old new was is r → IsErrAnd r (λ e. WrittenEmptyPart e ⊎ (e ≡ refusals.InvalidLength)) × (new ≡ old) × (is ≡ was)
+pub name_unwritten : (n : ℕ) (parts : List NamePart) (old new : Option (List ℕ)) (was is : Bool) (r : Result ℕ SerializeError) → IsRefusedAtOnce true n (Either (WrittenRefusal (SomeRefuses (λ p. IsEmptyPart p.0.now) parts)) (SomeRefuses (λ p. Either (WrittenRefusal (IsEmptyPart p.0.now)) (WrittenRefusal (IsEmptyPart p.0.now))) parts)) old new was is r → IsErrAnd r (λ e. WrittenEmptyPart e ⊎ IsMemoryOrLength e) × (new ≡ old) × (is ≡ was)
 name_unwritten n parts old new was is r (e, why, at) =
-    let telling : WrittenEmptyPart e ⊎ (e ≡ refusals.InvalidLength) = elim why [ inl may ↦ inr (may_at_once n e may.0 may.1) | inr own ↦ inl (own_unwritten parts e own) ] in
+    let telling : WrittenEmptyPart e ⊎ IsMemoryOrLength e = elim why [ inl may ↦ inr (may_at_once n e may.0 may.1) | inr own ↦ inl (own_unwritten parts e own) ] in
     (rw at.refused telling, at.kept, at.mark)
 
 -- so few octets has the header of an element of one

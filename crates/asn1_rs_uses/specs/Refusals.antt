@@ -1,5 +1,5 @@
 -- Values that are not written: of no class, or empty.
-use Rattle.std.specs.Prelude.{◌≡◌, ◌≤◌, ℕ, true, false, List, [], ◌∷◌, ◌++◌, length, codes}
+use Rattle.std.specs.Prelude.{◌≡◌, ◌⊎◌, ◌≤◌, ℕ, true, false, List, [], ◌∷◌, ◌++◌, length, codes}
 use Rattle.std.specs.List.{Any, flat_map}
 use Rattle.std.specs.Cow.{cow_str_bytes}
 use Rattle.x690.specs.Strict.{header_octets}
@@ -53,3 +53,7 @@ abbrev pub AsAnyWriting : SerializeError → Type 0
 AsAnyWriting (refusals.ASN1Error e) = ⊥
 AsAnyWriting (refusals.InvalidClass c) = ⊥
 AsAnyWriting e = Unit {0}
+
+-- want of memory, or a length past what 64 bits hold
+abbrev pub IsMemoryOrLength : SerializeError → Type 0
+IsMemoryOrLength e = (e ≡ refusals.OutOfMemory) ⊎ (e ≡ refusals.InvalidLength)

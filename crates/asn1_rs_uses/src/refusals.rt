@@ -1,5 +1,5 @@
 //! Types of a caller's whose values may not be written, alone and in lists and sets.
-ghost use Rattle.std.specs.Prelude.{◌≡◌, ◌≢◌, ◌≤◌, ◌⊎◌, ◌∷◌, [], None, false, length, IfErr, OnErr, IsErr, IsErrAnd, MatchResult};
+ghost use Rattle.std.specs.Prelude.{◌≡◌, ◌≢◌, ◌≤◌, ◌⊎◌, ◌∷◌, [], None, false, length, Err, IfErr, OnErr, IsErr, IsErrAnd, MatchResult};
 ghost use Rattle.x690.specs.Strict.{header_octets};
 ghost use Rattle.asn1_rs.specs.declared.class.Class.TheVariants as classes;
 ghost use Rattle.asn1_rs.specs.declared.length.Length.TheVariants as forms;
@@ -8,7 +8,7 @@ ghost use Rattle.asn1_rs.specs.declared.error.SerializeError.TheVariants as refu
 ghost use Rattle.asn1_rs.specs.Header.{HasParts};
 ghost use Rattle.asn1_rs.specs.Sets.{items_of};
 ghost use Rattle.asn1_rs.specs.Wrote.{GrewByABeginning, MayRefuse, RefusedAtOnce, WrittenRefusal};
-ghost use Rattle.asn1_rs_uses.specs.Refusals.{NamesNoClass, AsAnyWriting, TellsOfNoClass, SomeInNoClass, octets_in_classes, IsEmptyPart, TellsOfEmptyPart, WrittenEmptyPart, SomeEmpty};
+ghost use Rattle.asn1_rs_uses.specs.Refusals.{NamesNoClass, AsAnyWriting, TellsOfNoClass, SomeInNoClass, octets_in_classes, IsEmptyPart, TellsOfEmptyPart, WrittenEmptyPart, IsMemoryOrLength, SomeEmpty};
 
 use asn1_rs::{
     Any, Class, DerWrite, DynTagged, Error, Header, Length, SerializeError, SerializeResult, SetOf,
@@ -45,6 +45,8 @@ impl ToDer for InClass {
     ghost header_refuses = { λ x. NamesNoClass x.class };
 
     ghost content_refuses = { λ x. NamesNoClass x.class };
+
+    ghost refuses_first = { λ x. NamesNoClass x.class };
 
     ghost count_takes_memory = { false };
 
@@ -115,8 +117,7 @@ pub fn write_raw_in_class<W: DerWrite>(
 
 /// The encoding in a vector.
 pub fn vector_in_class(alloc: Global, x: &InClass) -> SerializeResult<Vec<u8>>
-    ensures { 4 ≤ x.now.class → IsErrAnd result (λ e.
-        (e ≡ refusals.InvalidClass x.now.class) ⊎ (e ≡ refusals.OutOfMemory)) }
+    ensures { 4 ≤ x.now.class → result ≡ Err (refusals.InvalidClass x.now.class) }
 {
     x.to_der_vec(alloc)
 }
@@ -128,7 +129,7 @@ pub fn write_list_in_classes<W: DerWrite>(
     w: &mut W,
 ) -> SerializeResult<usize>
     ensures some { SomeInNoClass xs.now.items → IsErr result }
-    ensures why { IfErr result (λ e. MayRefuse false (length (octets_in_classes xs.now.items)) e
+    ensures why { IfErr result (λ e. MayRefuse true (length (octets_in_classes xs.now.items)) e
         ⊎ TellsOfNoClass xs.now.items e) }
     ensures begun { OnErr result
         (GrewByABeginning (W.told w.old) (W.told w.new) (octets_in_classes xs.now.items)) }
@@ -236,14 +237,15 @@ pub fn count_name(parts: &Vec<NamePart<'_>>) -> Result<usize, Error>
     parts.to_der_len()
 }
 
-/// Appends a name. One with an empty part is refused with the text of that, and nothing is appended.
+/// Appends a name. One with an empty part is refused with the text of that, unless memory is wanted or the length passes
+/// `usize` before; and nothing is appended.
 pub fn write_name<W: DerWrite>(
     parts: &Vec<NamePart<'_>>,
     alloc: Global,
     w: &mut W,
 ) -> SerializeResult<usize>
     ensures why { SomeEmpty parts.now.items →
-        IsErrAnd result (λ e. WrittenEmptyPart e ⊎ (e ≡ refusals.InvalidLength)) }
+        IsErrAnd result (λ e. WrittenEmptyPart e ⊎ IsMemoryOrLength e) }
     ensures nothing { SomeEmpty parts.now.items →
         (W.told w.new ≡ W.told w.old) × (W.failed w.new ≡ W.failed w.old) }
 {

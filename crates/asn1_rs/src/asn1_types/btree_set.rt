@@ -105,8 +105,6 @@ impl<T: ToDer + Ord> ToDer for BTreeSet<T> {
 
     ghost content_takes_memory = { true };
 
-    ghost write_takes_memory = { false };
-
     fn to_der_len(&self) -> Result<usize, Error> {
         element_len(Tag::Set.0, self.der_content_len())
     }

@@ -1,5 +1,5 @@
 //! Sets in which an item may stand more than once (X.690 8.12).
-ghost use Rattle.std.specs.Prelude.{List, ◌++◌, ◌≡◌, length, true, false, slice_index_or, IfOk};
+ghost use Rattle.std.specs.Prelude.{List, ◌++◌, ◌≡◌, length, true, false, slice_index_or, MatchResult};
 ghost use Rattle.std.specs.List.{All};
 ghost use Rattle.std.proofs.Common.{lit<};
 ghost use Rattle.x690.specs.Strict.{header_octets};
@@ -78,7 +78,7 @@ impl<T> FromItems for SetOf<T> {
     ghost holds = { HasItems };
 
     fn from_items(_alloc: Global, items: Vec<T>) -> Result<SetOf<T>, AllocError>
-        ensures { IfOk result (HasItems items.items) }
+        ensures { MatchResult result (HasItems items.items) (λ _. ⊥) }
     {
         Ok(SetOf { items })
     }
@@ -119,8 +119,6 @@ impl<T: ToDer> ToDer for SetOf<T> {
         SomeRefuses (λ x. IntoVector (Either (T.header_refuses x) (T.content_refuses x))) (items_of s) };
 
     ghost count_takes_memory = { T.count_takes_memory };
-
-    ghost write_takes_memory = { false };
 
     fn to_der_len(&self) -> Result<usize, Error> {
         element_len(Tag::Set.0, self.der_content_len())

@@ -1,5 +1,5 @@
 //! Vectors as sequences of items (X.690 8.10).
-ghost use Rattle.std.specs.Prelude.{List, ◌++◌, ◌≡◌, length, true, false, slice_index_or, IfOk};
+ghost use Rattle.std.specs.Prelude.{List, ◌++◌, ◌≡◌, length, true, false, slice_index_or, MatchResult};
 ghost use Rattle.std.specs.List.{All, flat_map};
 ghost use Rattle.std.proofs.Common.{lit<};
 ghost use Rattle.x690.specs.Strict.{header_octets};
@@ -44,7 +44,7 @@ impl<T> FromItems for Vec<T> {
     ghost holds = { has_items };
 
     fn from_items(_alloc: Global, items: Vec<T>) -> Result<Vec<T>, AllocError>
-        ensures { IfOk result (λ v. v.items ≡ items.items) }
+        ensures { MatchResult result (λ v. v.items ≡ items.items) (λ _. ⊥) }
     {
         Ok(items)
     }
@@ -87,8 +87,6 @@ impl<T: ToDer> ToDer for Vec<T> {
     ghost count_takes_memory = { T.count_takes_memory };
 
     ghost content_takes_memory = { some_takes T.write_takes_memory T.count_takes_memory T.content_takes_memory };
-
-    ghost write_takes_memory = { false };
 
     fn to_der_len(&self) -> Result<usize, Error> {
         element_len(Tag::Sequence.0, self.der_content_len())
