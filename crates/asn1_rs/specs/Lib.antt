@@ -1,6 +1,7 @@
 pub mod Error
 pub mod Class
 pub mod Tag
+pub mod Texts
 pub mod Length
 pub mod Header
 pub mod Wrote

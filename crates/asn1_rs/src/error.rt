@@ -7,6 +7,7 @@ ghost use Rattle.asn1_rs.specs.declared.error.SerializeError.TheVariants as refu
 
 use crate::class::Class;
 use crate::tag::Tag;
+use crate::texts::{TagName, write_classes, write_tags};
 use std::alloc::{AllocError, AllocFailed, Global};
 use std::borrow::CowStr;
 use std::io;
@@ -150,7 +151,7 @@ pub enum Error {
     #[error("invalid length")]
     InvalidLength,
     /// Contents octets that stand for no value of the type with this tag.
-    #[error("invalid value of tag {tag:?}: {msg:?}")]
+    #[error("invalid value of tag {name}: {msg}", name = TagName(*.tag))]
     InvalidValue {
         tag: Tag,
         msg: CowStr<'static, Global>,
@@ -162,13 +163,13 @@ pub enum Error {
     #[error("unknown tag {0}")]
     UnknownTag(u32),
     /// Another tag number.
-    #[error("unexpected tag (expected: {expected:?}, actual: {actual:?})")]
+    #[error(fmt = write_tags)]
     UnexpectedTag {
         expected: Option<Tag>,
         actual: Tag,
     },
     /// Another class.
-    #[error("unexpected class (expected: {expected:?}, actual: {actual:?})")]
+    #[error(fmt = write_classes)]
     UnexpectedClass {
         expected: Option<Class>,
         actual: Class,
@@ -207,7 +208,7 @@ pub enum Error {
     #[error("not supported")]
     Unsupported,
     /// Octets are missing in a part of the input that is whole itself.
-    #[error("octets are missing: {0:?}")]
+    #[error("{0}")]
     Incomplete(Needed),
     /// An allocation was refused.
     #[error("out of memory")]
@@ -277,19 +278,19 @@ impl<T: Drop> From<AllocFailed<T>> for Error {
 #[derive(Debug, Drop, thiserror::Error)]
 pub enum SerializeError {
     /// The value can't be written, or its parts can't be counted.
-    #[error("ASN.1 error: {0:?}")]
+    #[error("ASN.1 error: {0}")]
     ASN1Error(Error),
     /// A class number above 3.
-    #[error("Invalid Class {class:}")]
+    #[error("invalid class {class}")]
     InvalidClass { class: u8 },
     /// The encoding would be longer than `usize` counts.
-    #[error("Invalid Length")]
+    #[error("invalid length")]
     InvalidLength,
     /// The writer failed, or took nothing.
-    #[error("I/O error: {0:?}")]
+    #[error("I/O error: {0}")]
     IOError(io::Error),
     /// An allocation was refused.
-    #[error("Out of memory")]
+    #[error("out of memory")]
     OutOfMemory,
 }
 

@@ -15,6 +15,7 @@ mod laws;
 mod length;
 mod length_writing;
 mod tag;
+mod texts;
 mod to_der;
 mod traits;
 mod writer;

@@ -128,8 +128,8 @@ impl Tag {
     }
 
     /// The name of the universal type with this number.
-    fn name(self) -> Option<&'static str>
-        ensures some { IfSome result (λ name. name.now ≡ tag_text self.0) }
+    pub(crate) fn name(self) -> Option<&'static str>
+        ensures some { IfSome result (λ name. (name.now ≡ tag_text self.0) × (name_of self.0 ≢ [])) }
         ensures none { IfNone result (name_of self.0 ≡ []) }
     {
         let name = match self.0 {

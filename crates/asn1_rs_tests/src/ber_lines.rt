@@ -54,6 +54,7 @@ ber u8 0285ff = err Incomplete(4)
 ber u8 0285ffffffffff00 = err Incomplete(1099511627774)
 ber u8 02ff = err InvalidLength
 ber u8 02ff0102030405060708090a0b0c0d0e0f10 = err InvalidLength
+ber u8 02ff000102030405060708090a0b0c0d0e0f10 = err InvalidLength
 ";
 
 #[test]

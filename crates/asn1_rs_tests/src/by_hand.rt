@@ -1,7 +1,7 @@
 //! Headers and elements that are made by hand: their parts, and what they are converted to.
 
 use crate::rows::assert_shown;
-use asn1_rs::{Any, CheckDerConstraints, Class, DynTagged, FromAny, Header, Length, Tag};
+use asn1_rs::{Any, CheckDerConstraints, Class, DynTagged, FromAny, FromBer, Header, Length, Tag};
 use std::borrow::CowSlice;
 use std::test::Fail;
 
@@ -80,6 +80,14 @@ fn headers_are_equal_by_class_constructed_bit_and_tag(rt: HostRuntime) {
         [equal, other_form, other_tag, low == high],
         [true, false, false, false]
     );
+}
+
+#[test]
+fn header_that_was_read_equals_one_by_hand(rt: HostRuntime) -> Result<(), Fail> {
+    let (rest, header) = Header::from_ber(rt.alloc(), &[0x02, 0x01, 0x00])?;
+    assert!(rt; header == Header::new_simple(Tag::Integer));
+    assert_eq!(rt; rest, [0x00].as_slice());
+    Ok(())
 }
 
 #[test]

@@ -1,10 +1,11 @@
 //! The calls of tables, and the texts of their answers.
 
-use crate::collections::push_list_answer;
+use crate::collections::{push_list, push_list_answer};
+use crate::colour::Colour;
 use crate::rows::push_digits;
 use asn1_rs::{
-    Any, BerParser, Class, Err, Error, FromBer, FromDer, GetObjectContent, Header, Length,
-    ParseResult, SerializeResult, Steps, Tag, ToDer, any_from_ber_counted,
+    Any, BerParser, Class, DerParser, Err, Error, FromBer, FromDer, GetObjectContent, Header,
+    Length, ParseResult, SerializeResult, Steps, Tag, ToDer, any_from_ber_counted,
 };
 use std::alloc::Global;
 use std::fmt::{Debug, Display, Write};
@@ -152,10 +153,15 @@ fn push_open_content(text: &mut String, octets: &[u8]) -> Result<(), Fail> {
     push_content_answer(text, Any::parse_ber_content(octets, &header))
 }
 
-/// Two contents octets by BER, where nothing may nest.
-fn push_two_at_depth_0(text: &mut String, octets: &[u8]) -> Result<(), Fail> {
-    let header = Header::new(Class::Universal, false, Tag(2), Length::Definite(2));
-    push_content_answer(text, BerParser::get_object_content(octets, &header, 0))
+/// The contents octets of the header at the front, which is read by BER, where so many lengths may nest.
+fn push_object_content<P: GetObjectContent>(
+    text: &mut String,
+    alloc: Global,
+    octets: &[u8],
+    depth: usize,
+) -> Result<(), Fail> {
+    let (after, header) = Header::from_ber(alloc, octets)?;
+    push_content_answer(text, P::get_object_content(after, &header, depth))
 }
 
 /// Two contents octets by DER.
@@ -243,26 +249,37 @@ pub(crate) fn push_answer(
     octets: &[u8],
 ) -> Result<(), Fail> {
     match name {
-        "header" => push_header_answer(text, Header::from_der(alloc, octets)),
-        "header_ber" => push_header_answer(text, Header::from_ber(alloc, octets)),
-        "header_again" => push_header_again(text, alloc, octets),
-        "any" => push_any_answer(text, Any::from_der(alloc, octets)),
-        "any_ber" => push_any_answer(text, Any::from_ber(alloc, octets)),
-        "any_again" => push_any_again(text, alloc, octets),
-        "counted" => push_counted(text, octets),
-        "ber_content" => push_ber_content(text, alloc, octets),
-        "der_content" => push_der_content(text, alloc, octets),
-        "open_content" => push_open_content(text, octets),
-        "two_at_depth_0" => push_two_at_depth_0(text, octets),
-        "two" => push_two(text, octets),
-        "first_octet" => push_first_octet(text, octets),
-        "first_octet_ber" => push_first_octet_by_ber(text, octets),
-        "inner_u8" => push_inner_number(text, alloc, octets),
-        "inner_u8_ber" => push_inner_number_by_ber(text, alloc, octets),
-        "u8" => push_value_answer(text, u8::from_der(alloc, octets)),
-        "u16" => push_value_answer(text, u16::from_der(alloc, octets)),
-        "u8_ber" => push_value_answer(text, u8::from_ber(alloc, octets)),
-        "u64_ber" => push_value_answer(text, u64::from_ber(alloc, octets)),
+        "Header::from_der" => push_header_answer(text, Header::from_der(alloc, octets)),
+        "Header::from_ber" => push_header_answer(text, Header::from_ber(alloc, octets)),
+        "Header::write_der" => push_header_again(text, alloc, octets),
+        "Any::from_der" => push_any_answer(text, Any::from_der(alloc, octets)),
+        "Any::from_ber" => push_any_answer(text, Any::from_ber(alloc, octets)),
+        "Any::write_der" => push_any_again(text, alloc, octets),
+        "any_from_ber_counted" => push_counted(text, octets),
+        "Header::parse_ber_content" => push_ber_content(text, alloc, octets),
+        "Any::parse_der_content" => push_der_content(text, alloc, octets),
+        "Any::parse_ber_content" => push_open_content(text, octets),
+        "BerParser::get_object_content 2" => push_object_content::<BerParser>(
+            text, alloc, octets, 2,
+        ),
+        "BerParser::get_object_content 0" => push_object_content::<BerParser>(
+            text, alloc, octets, 0,
+        ),
+        "DerParser::get_object_content 0" => push_object_content::<DerParser>(
+            text, alloc, octets, 0,
+        ),
+        "Header::parse_der_content" => push_two(text, octets),
+        "Any::from_der_and_then" => push_first_octet(text, octets),
+        "Any::from_ber_and_then" => push_first_octet_by_ber(text, octets),
+        "Any::parse_der" => push_inner_number(text, alloc, octets),
+        "Any::parse_ber" => push_inner_number_by_ber(text, alloc, octets),
+        "u8::from_der" => push_value_answer(text, u8::from_der(alloc, octets)),
+        "u16::from_der" => push_value_answer(text, u16::from_der(alloc, octets)),
+        "u8::from_ber" => push_value_answer(text, u8::from_ber(alloc, octets)),
+        "u64::from_ber" => push_value_answer(text, u64::from_ber(alloc, octets)),
+        "Colour::from_der" => push_list(text, alloc, Colour::from_der(alloc, octets)),
+        "Colour::from_ber" => push_list(text, alloc, Colour::from_ber(alloc, octets)),
+        "Vec::<Colour>::from_der" => push_list(text, alloc, Vec::<Colour>::from_der(alloc, octets)),
         _ => push_list_answer(text, alloc, name, octets),
     }
 }

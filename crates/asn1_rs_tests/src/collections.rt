@@ -14,74 +14,93 @@ use std::test::Fail;
 /// Lists: items, what follows them, and how the list is written. By DER the constructed bit of the list itself is not
 /// looked at; its tag number is looked at first.
 const LISTS: &str = "\
-vec_u32 3008020301000102010100 = [65537, 1] rest 00 written 30080203010001020101 count 10 8 raw 30080203010001020101
-vec_u32 3000 = [] rest - written 3000 count 2 0 raw 3000
-vec_u8 1003020105 = [5] rest - written 3003020105 count 5 3 raw 3003020105
-vec_u8 3003020105ffff = [5] rest ffff written 3003020105 count 5 3 raw 3003020105
-vec_u8 3103020105 = Error(UnexpectedTag { expected: Some(Tag(16)), actual: Tag(17) })
-vec_u8 3003010100 = Error(UnexpectedTag { expected: Some(Tag(2)), actual: Tag(1) })
-vec_u8 300402020005 = Error(DerConstraintFailed(IntegerLeadingZeroes))
-vec_u8 3005020105 = Incomplete(Size(2))
-vec_u8 3003020205 = Error(Incomplete(Size(1)))
-vec_u8 3080 = Error(DerConstraintFailed(IndefiniteLength))
-vec_u8_ber 300402020005 = [5] rest - written 3003020105 count 5 3 raw 3003020105
-vec_u8_ber 30800201050000 = [5] rest - written 3003020105 count 5 3 raw 3003020105
-vec_u8_ber 1003020105 = Error(ConstructExpected)
-vec_u8_ber 1103020105 = Error(UnexpectedTag { expected: Some(Tag(16)), actual: Tag(17) })
-vec_u8_ber 3005020105 = Incomplete(Size(2))
-vec_u8_ber 3003020205 = Error(Incomplete(Size(1)))
-vec_u8_ber 300702010502020100 = Error(IntegerTooLarge)
-vec_vec 300a30030201053003020106 = [[5], [6]] rest - written 300a30030201053003020106 count 12 10 raw 300a30030201053003020106
-vec_vec 30023100 = Error(UnexpectedTag { expected: Some(Tag(16)), actual: Tag(17) })
-vec_vec_ber 30803080020105000030000000 = [[5], []] rest - written 300730030201053000 count 9 7 raw 300730030201053000
-vec_any 30803080000004000000 = 2 items 300430000400 count 6 4 raw 300430000400
+Vec::<u32>::from_der:
+3008020301000102010100 = [65537, 1] rest 00 written 30080203010001020101 count 10 8 raw 30080203010001020101
+3000 = [] rest - written 3000 count 2 0 raw 3000
+Vec::<u8>::from_der:
+1003020105 = [5] rest - written 3003020105 count 5 3 raw 3003020105
+3003020105ffff = [5] rest ffff written 3003020105 count 5 3 raw 3003020105
+3103020105 = Error(UnexpectedTag { expected: Some(Tag(16)), actual: Tag(17) })
+3003010100 = Error(UnexpectedTag { expected: Some(Tag(2)), actual: Tag(1) })
+300402020005 = Error(DerConstraintFailed(IntegerLeadingZeroes))
+3005020105 = Incomplete(Size(2))
+3003020205 = Error(Incomplete(Size(1)))
+3080 = Error(DerConstraintFailed(IndefiniteLength))
+Vec::<u8>::from_ber:
+300402020005 = [5] rest - written 3003020105 count 5 3 raw 3003020105
+30800201050000 = [5] rest - written 3003020105 count 5 3 raw 3003020105
+1003020105 = Error(ConstructExpected)
+1103020105 = Error(UnexpectedTag { expected: Some(Tag(16)), actual: Tag(17) })
+3005020105 = Incomplete(Size(2))
+3003020205 = Error(Incomplete(Size(1)))
+300702010502020100 = Error(IntegerTooLarge)
+Vec::<Vec<u32>>::from_der:
+300a30030201053003020106 = [[5], [6]] rest - written 300a30030201053003020106 count 12 10 raw 300a30030201053003020106
+30023100 = Error(UnexpectedTag { expected: Some(Tag(16)), actual: Tag(17) })
+Vec::<Vec<u32>>::from_ber:
+30803080020105000030000000 = [[5], []] rest - written 300730030201053000 count 9 7 raw 300730030201053000
+Vec::<Any>::from_ber:
+30803080000004000000 = 2 items 300430000400 count 6 4 raw 300430000400
 ";
 
 /// Sets: items in the order in which they stand, and the set as it is written, in ascending order.
 const SETS: &str = "\
-set_of 3106020102020101 = [2, 1] rest - written 3106020101020102 count 8 6 raw 3106020101020102
-set_of 3109020105020101020105 = [5, 1, 5] rest - written 3109020101020105020105 count 11 9 raw 3109020101020105020105
-set_of 1103020105 = [5] rest - written 3103020105 count 5 3 raw 3103020105
-set_of 3003020105 = Error(UnexpectedTag { expected: Some(Tag(17)), actual: Tag(16) })
-set_of 3103020205 = Error(Incomplete(Size(1)))
-set_of 3105020105 = Incomplete(Size(2))
-set_of_ber 31800201050000 = [5] rest - written 3103020105 count 5 3 raw 3103020105
-set_of_ber 1103020105 = Error(ConstructExpected)
-set_of_ber 310402020005 = [5] rest - written 3103020105 count 5 3 raw 3103020105
-set_of_set 310d31060201020201013103020103 = 2 items 310d31030201033106020101020102 count 15 13 raw 310d31030201033106020101020102
-ordered 3106020105020105 = {5} rest - written 3103020105 count 5 3 raw 3103020105
-ordered 310402020005 = Error(DerConstraintFailed(IntegerLeadingZeroes))
-ordered 1103020105 = Error(ConstructExpected)
-ordered 1003020105 = Error(UnexpectedTag { expected: Some(Tag(17)), actual: Tag(16) })
-ordered 3103020205 = Error(Incomplete(Size(1)))
-ordered 3105020105 = Incomplete(Size(2))
-ordered_ber 310402020005 = {5} rest - written 3103020105 count 5 3 raw 3103020105
-ordered_ber 1103020105 = Error(ConstructExpected)
-ordered_i16 310e0202012c0201ff02010002020080 = {-1, 0, 128, 300} rest - written 310e0201000201ff020200800202012c count 16 14 raw 310e0201000201ff020200800202012c
-ordered_sets 310d31060201020201013103020103 = {{1, 2}, {3}} rest - written 310d31030201033106020101020102 count 15 13 raw 310d31030201033106020101020102
+SetOf::<u8>::from_der:
+3106020102020101 = [2, 1] rest - written 3106020101020102 count 8 6 raw 3106020101020102
+3109020105020101020105 = [5, 1, 5] rest - written 3109020101020105020105 count 11 9 raw 3109020101020105020105
+1103020105 = [5] rest - written 3103020105 count 5 3 raw 3103020105
+3003020105 = Error(UnexpectedTag { expected: Some(Tag(17)), actual: Tag(16) })
+3103020205 = Error(Incomplete(Size(1)))
+3105020105 = Incomplete(Size(2))
+SetOf::<u8>::from_ber:
+31800201050000 = [5] rest - written 3103020105 count 5 3 raw 3103020105
+1103020105 = Error(ConstructExpected)
+310402020005 = [5] rest - written 3103020105 count 5 3 raw 3103020105
+SetOf::<SetOf<u8>>::from_der:
+310d31060201020201013103020103 = 2 items 310d31030201033106020101020102 count 15 13 raw 310d31030201033106020101020102
+BTreeSet::<u8>::from_der:
+3106020105020105 = {5} rest - written 3103020105 count 5 3 raw 3103020105
+310402020005 = Error(DerConstraintFailed(IntegerLeadingZeroes))
+1103020105 = Error(ConstructExpected)
+1003020105 = Error(UnexpectedTag { expected: Some(Tag(17)), actual: Tag(16) })
+3103020205 = Error(Incomplete(Size(1)))
+3105020105 = Incomplete(Size(2))
+BTreeSet::<u8>::from_ber:
+310402020005 = {5} rest - written 3103020105 count 5 3 raw 3103020105
+1103020105 = Error(ConstructExpected)
+BTreeSet::<i16>::from_der:
+310e0202012c0201ff02010002020080 = {-1, 0, 128, 300} rest - written 310e0201000201ff020200800202012c count 16 14 raw 310e0201000201ff020200800202012c
+BTreeSet::<BTreeSet<u8>>::from_der:
+310d31060201020201013103020103 = {{1, 2}, {3}} rest - written 310d31030201033106020101020102 count 15 13 raw 310d31030201033106020101020102
 ";
 
 /// Elements by BER that are checked, and converted.
 const ELEMENTS: &str = "\
-check_vec 3003020105 = Ok(())
-check_vec 300402020005 = Err(DerConstraintFailed(IntegerLeadingZeroes))
-check_vec 1003020105 = Err(ConstructExpected)
-check_vec 3103020105 = Err(UnexpectedTag { expected: Some(Tag(16)), actual: Tag(17) })
-check_vec 3003020205 = Err(Incomplete(Size(1)))
-check_set_of 3106020105020105 = Ok(())
-check_set_of 310702010502020005 = Err(DerConstraintFailed(IntegerLeadingZeroes))
-check_ordered 3103020105 = Ok(())
-check_ordered 1103020105 = Err(ConstructExpected)
-try_vec 3003020105 = Ok([5])
-try_vec 300402020005 = Ok([5])
-try_vec 1003020105 = Err(ConstructExpected)
-try_set_of 3106020105020105 = Ok([5, 5])
-try_ordered 3106020105020105 = Ok({5})
-try_ordered 3003020105 = Err(UnexpectedTag { expected: Some(Tag(17)), actual: Tag(16) })
+Vec::<u8>::check_constraints:
+3003020105 = Ok(())
+300402020005 = Err(DerConstraintFailed(IntegerLeadingZeroes))
+1003020105 = Err(ConstructExpected)
+3103020105 = Err(UnexpectedTag { expected: Some(Tag(16)), actual: Tag(17) })
+3003020205 = Err(Incomplete(Size(1)))
+SetOf::<u8>::check_constraints:
+3106020105020105 = Ok(())
+310702010502020005 = Err(DerConstraintFailed(IntegerLeadingZeroes))
+BTreeSet::<u8>::check_constraints:
+3103020105 = Ok(())
+1103020105 = Err(ConstructExpected)
+Vec::<u8>::try_from_any:
+3003020105 = Ok([5])
+300402020005 = Ok([5])
+1003020105 = Err(ConstructExpected)
+SetOf::<u8>::try_from_any:
+3106020105020105 = Ok([5, 5])
+BTreeSet::<u8>::try_from_any:
+3106020105020105 = Ok({5})
+3003020105 = Err(UnexpectedTag { expected: Some(Tag(17)), actual: Tag(16) })
 ";
 
-/// Appends what a reader of lists answers, and how the list is written.
-fn push_list<T: Debug + ToDer + Drop>(
+/// Appends what a reader answers, and how the value is written.
+pub(crate) fn push_list<T: Debug + ToDer + Drop>(
     text: &mut String,
     alloc: Global,
     answer: Result<(&[u8], T), Err<Error>>,
@@ -155,15 +174,21 @@ fn push_element_call(
     any: Any<'_>,
 ) -> Result<(), Fail> {
     match name {
-        "check_vec" => push_debug(text, &Vec::<u8>::check_constraints(&any)),
-        "check_set_of" => push_debug(text, &SetOf::<u8>::check_constraints(&any)),
-        "check_ordered" => push_debug(text, &BTreeSet::<u8>::check_constraints(&any)),
-        "try_vec" => push_debug(text, &Vec::<u8>::try_from_any(alloc, any)),
-        "try_set_of" => push_debug(
+        "Vec::<u8>::check_constraints" => push_debug(text, &Vec::<u8>::check_constraints(&any)),
+        "SetOf::<u8>::check_constraints" => push_debug(text, &SetOf::<u8>::check_constraints(&any)),
+        "BTreeSet::<u8>::check_constraints" => push_debug(
+            text,
+            &BTreeSet::<u8>::check_constraints(&any),
+        ),
+        "Vec::<u8>::try_from_any" => push_debug(text, &Vec::<u8>::try_from_any(alloc, any)),
+        "SetOf::<u8>::try_from_any" => push_debug(
             text,
             &SetOf::try_from_any(alloc, any).map(SetOf::<u8>::into_vec),
         ),
-        "try_ordered" => push_debug(text, &BTreeSet::<u8>::try_from_any(alloc, any)),
+        "BTreeSet::<u8>::try_from_any" => push_debug(
+            text,
+            &BTreeSet::<u8>::try_from_any(alloc, any),
+        ),
         _ => Ok(text.push_str("no such call")?),
     }
 }
@@ -176,19 +201,39 @@ pub(crate) fn push_list_answer(
     octets: &[u8],
 ) -> Result<(), Fail> {
     match name {
-        "vec_u8" => push_list(text, alloc, Vec::<u8>::from_der(alloc, octets)),
-        "vec_u8_ber" => push_list(text, alloc, Vec::<u8>::from_ber(alloc, octets)),
-        "vec_u32" => push_list(text, alloc, Vec::<u32>::from_der(alloc, octets)),
-        "vec_vec" => push_list(text, alloc, Vec::<Vec<u32>>::from_der(alloc, octets)),
-        "vec_vec_ber" => push_list(text, alloc, Vec::<Vec<u32>>::from_ber(alloc, octets)),
-        "vec_any" => push_elements(text, alloc, octets),
-        "set_of" => push_set(text, alloc, SetOf::<u8>::from_der(alloc, octets)),
-        "set_of_ber" => push_set(text, alloc, SetOf::<u8>::from_ber(alloc, octets)),
-        "set_of_set" => push_sets(text, alloc, octets),
-        "ordered" => push_list(text, alloc, BTreeSet::<u8>::from_der(alloc, octets)),
-        "ordered_ber" => push_list(text, alloc, BTreeSet::<u8>::from_ber(alloc, octets)),
-        "ordered_i16" => push_list(text, alloc, BTreeSet::<i16>::from_der(alloc, octets)),
-        "ordered_sets" => push_list(
+        "Vec::<u8>::from_der" => push_list(text, alloc, Vec::<u8>::from_der(alloc, octets)),
+        "Vec::<u8>::from_ber" => push_list(text, alloc, Vec::<u8>::from_ber(alloc, octets)),
+        "Vec::<u32>::from_der" => push_list(text, alloc, Vec::<u32>::from_der(alloc, octets)),
+        "Vec::<Vec<u32>>::from_der" => push_list(
+            text,
+            alloc,
+            Vec::<Vec<u32>>::from_der(alloc, octets),
+        ),
+        "Vec::<Vec<u32>>::from_ber" => push_list(
+            text,
+            alloc,
+            Vec::<Vec<u32>>::from_ber(alloc, octets),
+        ),
+        "Vec::<Any>::from_ber" => push_elements(text, alloc, octets),
+        "SetOf::<u8>::from_der" => push_set(text, alloc, SetOf::<u8>::from_der(alloc, octets)),
+        "SetOf::<u8>::from_ber" => push_set(text, alloc, SetOf::<u8>::from_ber(alloc, octets)),
+        "SetOf::<SetOf<u8>>::from_der" => push_sets(text, alloc, octets),
+        "BTreeSet::<u8>::from_der" => push_list(
+            text,
+            alloc,
+            BTreeSet::<u8>::from_der(alloc, octets),
+        ),
+        "BTreeSet::<u8>::from_ber" => push_list(
+            text,
+            alloc,
+            BTreeSet::<u8>::from_ber(alloc, octets),
+        ),
+        "BTreeSet::<i16>::from_der" => push_list(
+            text,
+            alloc,
+            BTreeSet::<i16>::from_der(alloc, octets),
+        ),
+        "BTreeSet::<BTreeSet<u8>>::from_der" => push_list(
             text,
             alloc,
             BTreeSet::<BTreeSet<u8>>::from_der(alloc, octets),

@@ -191,13 +191,27 @@ pub(crate) fn assert_failed(
     assert_eq!(rt; w.as_inner().held(), octets);
 }
 
-/// Asserts that a std writer with too little room takes the beginning of the octets, and is marked.
-pub(crate) fn assert_cut<T: ToDer>(rt: &impl Abort, alloc: Global, value: &T, octets: &[u8]) {
+/// Asserts that a std writer that ends so takes the beginning of the octets for which it has room, and is marked.
+fn assert_ended<T: ToDer>(
+    rt: &impl Abort,
+    alloc: Global,
+    value: &T,
+    octets: &[u8],
+    end: Option<ErrorKind>,
+    kind: ErrorKind,
+) {
     for room in 0..octets.len() {
-        let mut w = Told::new(Narrow::new(alloc, room, Some(ErrorKind::BrokenPipe)));
+        let mut w = Told::new(Narrow::new(alloc, room, end));
         let refusal = value.write_der(alloc, &mut w).err();
-        assert_failed(rt, refusal, ErrorKind::BrokenPipe, &w, &octets[..room]);
+        assert_failed(rt, refusal, kind, &w, &octets[..room]);
     }
+}
+
+/// Asserts that a std writer that fails at some place, or takes no octets from there on, takes the beginning up to it.
+pub(crate) fn assert_cut<T: ToDer>(rt: &impl Abort, alloc: Global, value: &T, octets: &[u8]) {
+    let failure = ErrorKind::BrokenPipe;
+    assert_ended(rt, alloc, value, octets, Some(failure), failure);
+    assert_ended(rt, alloc, value, octets, None, ErrorKind::WriteZero);
 }
 
 /// The kind of the writer's failure that a refusal tells of.

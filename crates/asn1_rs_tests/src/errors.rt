@@ -1,12 +1,15 @@
 //! Classes, tag numbers, lengths, and the texts and conversions of errors.
 
 use crate::rows::assert_shown;
-use asn1_rs::{Class, Err, Error, Length, Needed, SerializeError, Tag, from_nom_error};
-use std::alloc::AllocError;
+use asn1_rs::{
+    Class, DerConstraint, Err, Error, Length, Needed, SerializeError, Tag, from_nom_error,
+};
+use std::alloc::{AllocError, Global};
 use std::borrow::CowStr;
-use std::fmt::Write;
+use std::fmt::{Display, Write};
 use std::io;
 use std::io::ErrorKind;
+use std::process::Abort;
 use std::test::Fail;
 
 /// An error of a caller's own.
@@ -41,10 +44,11 @@ fn classes_have_numbers_and_names(rt: HostRuntime) -> Result<(), Fail> {
     for number in [0, 1, 2, 3, 4, 255] {
         match Class::try_from(number) {
             Ok(class) => write!(text, "{class} {} ", class as u8)?,
-            Err(_) => write!(text, "none ")?,
+            Err(e) => write!(text, "{e} ")?,
         }
     }
-    let names = "UNIVERSAL 0 APPLICATION 1 CONTEXT-SPECIFIC 2 PRIVATE 3 none none ";
+    let names = "UNIVERSAL 0 APPLICATION 1 CONTEXT-SPECIFIC 2 PRIVATE 3 \
+        no class has this number no class has this number ";
     assert_eq!(rt; text.as_str(), names);
     Ok(())
 }
@@ -266,22 +270,147 @@ fn errors_are_made(rt: HostRuntime) -> Result<(), Fail> {
     )
 }
 
+/// Asserts the texts of values, a line for each.
+fn assert_texts<T: Display>(
+    rt: &impl Abort,
+    alloc: Global,
+    values: &[T],
+    expected: &str,
+) -> Result<(), Fail> {
+    let mut text = String::new(alloc);
+    for value in values {
+        writeln!(text, "{value}")?;
+    }
+    assert_eq!(rt; text.as_str(), expected);
+    Ok(())
+}
+
+const ERRORS: &str = "\
+invalid type
+invalid value
+invalid length
+invalid value of tag Utf8String: empty part
+invalid tag
+unknown tag 99
+expected tag Integer, found OctetString
+expected tag Integer, found 31
+unexpected tag Null
+expected class Universal, found ContextSpecific
+expected class Application, found Private
+unexpected class Private
+indefinite length
+constructed encoding expected
+primitive encoding expected
+integer too large
+negative integer
+nested too deep
+octets outside the character set
+invalid date or time
+rule of DER broken: empty integer
+owned octets cannot be borrowed so long
+not supported
+5 octets are missing
+out of memory
+";
+
 #[test]
 fn errors_have_texts(rt: HostRuntime) -> Result<(), Fail> {
+    let errors = [
+        Error::BerTypeError,
+        Error::BerValueError,
+        Error::InvalidLength,
+        Tag::Utf8String.invalid_value("empty part"),
+        Error::InvalidTag,
+        Error::UnknownTag(99),
+        Error::unexpected_tag(Some(Tag::Integer), Tag::OctetString),
+        Error::unexpected_tag(Some(Tag::Integer), Tag(31)),
+        Error::unexpected_tag(None, Tag::Null),
+        Error::unexpected_class(Some(Class::Universal), Class::ContextSpecific),
+        Error::unexpected_class(Some(Class::Application), Class::Private),
+        Error::unexpected_class(None, Class::Private),
+        Error::IndefiniteLengthUnexpected,
+        Error::ConstructExpected,
+        Error::ConstructUnexpected,
+        Error::IntegerTooLarge,
+        Error::IntegerNegative,
+        Error::BerMaxDepth,
+        Error::StringInvalidCharset,
+        Error::InvalidDateTime,
+        Error::DerConstraintFailed(DerConstraint::IntegerEmpty),
+        Error::LifetimeError,
+        Error::Unsupported,
+        Error::Incomplete(Needed::Size(5)),
+        Error::OutOfMemory,
+    ];
+    assert_texts(&rt, rt.alloc(), &errors, ERRORS)
+}
+
+const CONSTRAINTS: &str = "\
+indefinite length
+constructed encoding
+primitive encoding
+time zone missing
+seconds missing
+unused bits not zero
+truth value neither 00 nor ff
+empty integer
+integer with spare leading zeros
+integer with spare leading ff
+";
+
+#[test]
+fn constraints_have_texts(rt: HostRuntime) -> Result<(), Fail> {
+    let constraints = [
+        DerConstraint::IndefiniteLength,
+        DerConstraint::Constructed,
+        DerConstraint::NotConstructed,
+        DerConstraint::MissingTimeZone,
+        DerConstraint::MissingSeconds,
+        DerConstraint::UnusedBitsNotZero,
+        DerConstraint::InvalidBoolean,
+        DerConstraint::IntegerEmpty,
+        DerConstraint::IntegerLeadingZeroes,
+        DerConstraint::IntegerLeadingFF,
+    ];
+    assert_texts(&rt, rt.alloc(), &constraints, CONSTRAINTS)
+}
+
+const REFUSALS: &str = "\
+1 octet is missing
+5 octets are missing
+octets are missing
+expected tag Set, found Sequence
+not supported
+";
+
+#[test]
+fn refusals_have_texts(rt: HostRuntime) -> Result<(), Fail> {
     let refusals = [
-        SerializeError::from(Error::unexpected_tag(None, Tag(4))),
+        Err::Incomplete(Needed::Size(1)),
+        Err::Incomplete(Needed::Size(5)),
+        Err::Incomplete(Needed::Unknown),
+        Err::Error(Error::unexpected_tag(Some(Tag::Set), Tag::Sequence)),
+        Err::Failure(Error::Unsupported),
+    ];
+    assert_texts(&rt, rt.alloc(), &refusals, REFUSALS)
+}
+
+const WRITING: &str = "\
+ASN.1 error: unexpected tag OctetString
+invalid class 4
+invalid length
+I/O error: broken pipe
+out of memory
+";
+
+#[test]
+fn refusals_of_writing_have_texts(rt: HostRuntime) -> Result<(), Fail> {
+    let refusals = [
+        SerializeError::from(Error::unexpected_tag(None, Tag::OctetString)),
         SerializeError::InvalidClass { class: 4 },
         SerializeError::InvalidLength,
-        SerializeError::from(AllocError),
         SerializeError::from(io::Error::from(ErrorKind::BrokenPipe)),
+        SerializeError::from(AllocError),
     ];
-    let mut text = String::new(rt.alloc());
-    for refusal in &refusals {
-        write!(text, "{refusal}; ")?;
-    }
-    let expected =
-        "ASN.1 error: UnexpectedTag { expected: None, actual: Tag(4) }; Invalid Class 4; Invalid Length; \
-        Out of memory; I/O error: ";
-    assert!(rt; text.starts_with(expected), "{text}");
-    Ok(())
+    assert_texts(&rt, rt.alloc(), &refusals, WRITING)
 }

@@ -1,8 +1,8 @@
 //! Walks over the items in contents octets.
 
 use asn1_rs::{
-    Any, BerParser, DerParser, Error, FromBer, Needed, ParseResult, SequenceIterator, SetIterator,
-    Tag,
+    Any, BerParser, DerConstraint, DerParser, Err, Error, FromBer, FromDer, Needed, ParseResult,
+    ReadsItems, SequenceIterator, SetIterator,
 };
 use std::alloc::Global;
 use std::test::Fail;
@@ -27,23 +27,60 @@ impl<'a> FromBer<'a, Error> for OfLessThanNone {
     }
 }
 
+/// An item of one octet, which may not be 0: then no other reading may be tried.
+#[derive(Debug, Drop, PartialEq, Eq)]
+struct NotZero(u8);
+
+impl<'a> FromDer<'a, Error> for NotZero {
+    fn from_der(_alloc: Global, octets: &'a [u8]) -> ParseResult<'a, NotZero, Error> {
+        match octets {
+            [] => Err(Err::Incomplete(Needed::Size(1))),
+            [0, ..] => Err(Err::Failure(Error::Unsupported)),
+            [octet, rest @ ..] => Ok((rest, NotZero(*octet))),
+        }
+    }
+}
+
 /// The tag number and the contents octets of the next element, if one comes.
-fn next_element<'a>(
-    items: &mut SequenceIterator<'a, Any<'a>, BerParser, Error>,
+fn next_element<'a, F: ReadsItems<'a, Any<'a>, Error>>(
+    items: &mut SequenceIterator<'a, Any<'a>, F, Error>,
 ) -> Option<(u32, &'a [u8])> {
     let any = items.next()?.ok()?;
     Some((any.tag().0, any.as_bytes()))
 }
 
 #[test]
-fn elements_are_walked(rt: HostRuntime) -> Result<(), Fail> {
-    let mut items = SequenceIterator::new(rt.alloc(), &[0x30, 0x80, 0x00, 0x00, 0x04, 0x00]);
+fn elements_are_walked(rt: HostRuntime) {
+    let octets = [0x30, 0x80, 0x00, 0x00, 0x04, 0x00];
+    let mut items = SequenceIterator::<Any<'_>, BerParser, Error>::new(rt.alloc(), &octets);
     let none: &[u8] = &[];
     assert_eq!(rt; next_element(&mut items), Some((16, none)));
     assert_eq!(rt; next_element(&mut items), Some((4, none)));
     assert!(rt; items.next().is_none());
     assert!(rt; items.next().is_none());
-    Ok(())
+}
+
+#[test]
+fn elements_are_walked_by_der(rt: HostRuntime) {
+    let octets = [0x30, 0x00, 0x04, 0x00, 0x30, 0x80];
+    let mut items = SequenceIterator::<Any<'_>, DerParser, Error>::new(rt.alloc(), &octets);
+    let none: &[u8] = &[];
+    assert_eq!(rt; next_element(&mut items), Some((16, none)));
+    assert_eq!(rt; next_element(&mut items), Some((4, none)));
+    let refusal = items.next().and_then(Result::err);
+    assert_eq!(rt;
+        refusal,
+        Some(Error::DerConstraintFailed(DerConstraint::IndefiniteLength))
+    );
+    assert!(rt; items.next().is_none());
+}
+
+#[test]
+fn failure_of_a_callers_own_ends_a_walk(rt: HostRuntime) {
+    let mut items = SequenceIterator::<NotZero, DerParser, Error>::new(rt.alloc(), &[5, 0, 6]);
+    assert_eq!(rt; items.next(), Some(Ok(NotZero(5))));
+    assert_eq!(rt; items.next(), Some(Err(Error::Unsupported)));
+    assert_eq!(rt; items.next(), None);
 }
 
 /// The numbers in contents octets by DER.

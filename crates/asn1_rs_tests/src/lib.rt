@@ -11,11 +11,15 @@ mod calls;
 #[cfg(test)]
 mod collections;
 #[cfg(test)]
+mod colour;
+#[cfg(test)]
 mod devices;
 #[cfg(test)]
 mod errors;
 #[cfg(test)]
 mod iterators;
+#[cfg(test)]
+mod laws;
 #[cfg(test)]
 mod lines;
 #[cfg(test)]

@@ -1,7 +1,7 @@
 //! The lines of `asn1vec`, through its engine: what is answered, and readers and writers that fail.
 
 use crate::devices::{Narrow, SmallReads};
-use crate::rows::written_out;
+use crate::rows::{sides, written_out};
 use asn1_rs::Told;
 use asn1vec_engine::{RunError, run};
 use std::alloc::Global;
@@ -37,20 +37,40 @@ der u16 020105+65522*0 = ok 5 rest 32761*00 enc 020105
 der u8 020105+65524*0 = err Line
 ";
 
-/// Asserts how the run over the octets ends with a writer of so much room, whether that is marked, and what it took.
+/// Asserts how the run over the octets ends with this writer, whether that is marked, and what it took.
 fn assert_run(
     rt: &impl Abort,
     alloc: Global,
     mut input: SmallReads<'_>,
-    room: usize,
+    output: Narrow,
     ending: Result<(), RunError>,
     answers: &[u8],
 ) {
-    let mut output = Told::new(Narrow::new(alloc, room, Some(ErrorKind::Other)));
+    let mut output = Told::new(output);
     let ended = run(alloc, &mut input, &mut output);
     assert_eq!(rt; ended, ending, "{answers:?}");
     assert_eq!(rt; output.as_inner().held(), answers, "{answers:?}");
     assert_eq!(rt; output.is_failed(), ending == Err(RunError::Output));
+}
+
+/// Asserts that all lines are answered, by a writer that does not fail.
+fn assert_answered(rt: &impl Abort, alloc: Global, input: SmallReads<'_>, answers: &[u8]) {
+    let output = Narrow::new(alloc, usize::MAX, None);
+    assert_run(rt, alloc, input, output, Ok(()), answers);
+}
+
+/// Asserts that the run ends with `Input` where a reader fails so behind these octets, and what was answered.
+fn assert_input_fails(
+    rt: &impl Abort,
+    alloc: Global,
+    octets: &[u8],
+    most: usize,
+    end: ErrorKind,
+    answers: &[u8],
+) {
+    let input = SmallReads::new(octets, most, Some(end));
+    let output = Narrow::new(alloc, usize::MAX, None);
+    assert_run(rt, alloc, input, output, Err(RunError::Input), answers);
 }
 
 /// The words written out, with the end of a line.
@@ -63,11 +83,11 @@ fn line_of(alloc: Global, words: &str) -> Result<String, Fail> {
 /// Asserts that each line is answered as its row says.
 pub(crate) fn assert_lines(rt: &impl Abort, alloc: Global, rows: &str) -> Result<(), Fail> {
     for row in rows.lines() {
-        let (line, answer) = row.split_once(" = ").unwrap_or((row, ""));
+        let (line, answer) = sides(row)?;
         let line = line_of(alloc, line)?;
         let answer = line_of(alloc, answer)?;
         let input = SmallReads::new(line.as_bytes(), 4096, None);
-        assert_run(rt, alloc, input, usize::MAX, Ok(()), answer.as_bytes());
+        assert_answered(rt, alloc, input, answer.as_bytes());
     }
     Ok(())
 }
@@ -83,59 +103,56 @@ fn lines_come_in_pieces(rt: HostRuntime) {
     let lines = b"der u8 020105\n\nder u8 02";
     let answers = b"ok 5 rest - enc 020105\nerr Line\nerr Incomplete(1)\n";
     for most in [1, 7, 4096] {
-        let input = SmallReads::new(lines, most, None);
-        assert_run(&rt, rt.alloc(), input, usize::MAX, Ok(()), answers);
+        assert_answered(&rt, rt.alloc(), SmallReads::new(lines, most, None), answers);
     }
-    assert_run(
-        &rt,
-        rt.alloc(),
-        SmallReads::new(b"", 1, None),
-        0,
-        Ok(()),
-        b"",
-    );
+    assert_answered(&rt, rt.alloc(), SmallReads::new(b"", 1, None), b"");
 }
 
 #[test]
-fn readers_fail(rt: HostRuntime) {
-    // A line that was begun is not answered.
+fn reader_fails_at_each_place(rt: HostRuntime) {
     let lines = b"der u8 020105\n\nder u8 02";
     let answers = b"ok 5 rest - enc 020105\nerr Line\n";
-    for (most, end) in [(1, ErrorKind::Other), (4096, ErrorKind::Interrupted)] {
-        let input = SmallReads::new(lines, most, Some(end));
-        assert_run(
+    for place in 0..=lines.len() {
+        // How many octets of the answers there are: a line that was begun is not answered.
+        let answered = match place {
+            ..14 => 0,
+            14 => 23,
+            _ => 32,
+        };
+        let (octets, answers) = (&lines[..place], &answers[..answered]);
+        assert_input_fails(&rt, rt.alloc(), octets, 1, ErrorKind::Other, answers);
+        assert_input_fails(
             &rt,
             rt.alloc(),
-            input,
-            usize::MAX,
-            Err(RunError::Input),
+            octets,
+            4096,
+            ErrorKind::Interrupted,
             answers,
-        );
-        let nothing = SmallReads::new(b"", most, Some(end));
-        assert_run(
-            &rt,
-            rt.alloc(),
-            nothing,
-            usize::MAX,
-            Err(RunError::Input),
-            b"",
         );
     }
 }
 
-#[test]
-fn writer_of_answers_fails_at_each_place(rt: HostRuntime) {
+/// Asserts that the run ends with `Output` where a writer ends so after each number of octets.
+fn assert_output_fails(rt: &impl Abort, alloc: Global, end: Option<ErrorKind>) {
     let lines = b"der u8 020105\nder u8\nder u8 3080";
     let answers = b"ok 5 rest - enc 020105\nerr Line\nerr DerConstraintFailed(IndefiniteLength)\n";
     for room in 0..answers.len() {
         let input = SmallReads::new(lines, 4096, None);
+        let output = Narrow::new(alloc, room, end);
         assert_run(
-            &rt,
-            rt.alloc(),
+            rt,
+            alloc,
             input,
-            room,
+            output,
             Err(RunError::Output),
             &answers[..room],
         );
     }
+}
+
+#[test]
+fn writer_of_answers_ends_at_each_place(rt: HostRuntime) {
+    assert_output_fails(&rt, rt.alloc(), Some(ErrorKind::Other));
+    // It takes no octets.
+    assert_output_fails(&rt, rt.alloc(), None);
 }

@@ -95,19 +95,24 @@ der u64 020300ffff = ok 65535 rest - enc 020300ffff
 
 /// Calls and their answers.
 const BY_CALLS: &str = "\
-u8 020102ffff = 2 rest ffff
-u8 040105 = Error(UnexpectedTag { expected: Some(Tag(2)), actual: Tag(4) })
-u16 0203010000 = Error(IntegerTooLarge)
-u8_ber 020102ffff = 2 rest ffff
-u8_ber 020101 = 1 rest -
-u8_ber 30 = Incomplete(Size(1))
-u8_ber 02 = Incomplete(Size(1))
-u8_ber 0205 = Incomplete(Size(5))
-u8_ber 0285 = Incomplete(Size(5))
-u8_ber 0285ff = Incomplete(Size(4))
-u8_ber 02ff0102030405060708090a0b0c0d0e0f10 = Error(InvalidLength)
-u8_ber 0285ffffffffff00 = Incomplete(Size(1099511627774))
-u64_ber 0203010001 = 65537 rest -
+u8::from_der:
+020102ffff = 2 rest ffff
+040105 = Error(UnexpectedTag { expected: Some(Tag(2)), actual: Tag(4) })
+u16::from_der:
+0203010000 = Error(IntegerTooLarge)
+u8::from_ber:
+020102ffff = 2 rest ffff
+020101 = 1 rest -
+30 = Incomplete(Size(1))
+02 = Incomplete(Size(1))
+0205 = Incomplete(Size(5))
+0285 = Incomplete(Size(5))
+0285ff = Incomplete(Size(4))
+02ff0102030405060708090a0b0c0d0e0f10 = Error(InvalidLength)
+02ff000102030405060708090a0b0c0d0e0f10 = Error(InvalidLength)
+0285ffffffffff00 = Incomplete(Size(1099511627774))
+u64::from_ber:
+0203010001 = 65537 rest -
 ";
 
 #[test]

@@ -1,6 +1,7 @@
-//! Tables in text: a row is a call, ` = ` and the text of its answer.
+//! Tables in text: a line that ends in `:` names a call, and a row below it has octets, ` = ` and the text of the answer.
 
 use crate::calls::push_answer;
+use hex::FromHexError;
 use std::alloc::Global;
 use std::fmt::Debug;
 use std::process::Abort;
@@ -23,46 +24,18 @@ pub(crate) fn push_digits(text: &mut String, octets: &[u8]) -> Result<(), Fail> 
     Ok(())
 }
 
-/// The value of a hexadecimal digit of lower case.
-fn digit_value(digit: u8) -> u8 {
-    match digit {
-        b'a'..=b'f' => digit - b'a' + 10,
-        _ => digit % 16,
-    }
-}
-
 /// The octets that the digits stand for, `-` for none.
-fn octets_of(alloc: Global, digits: &str) -> Result<Vec<u8>, Fail> {
-    let mut octets = Vec::new(alloc);
-    let mut high = None;
-    for digit in digits.as_bytes() {
-        let value = digit_value(*digit);
-        match high {
-            Some(before) => {
-                octets.push(value.wrapping_add(before))?;
-                high = None;
-            }
-            None => high = Some(value.wrapping_mul(16)),
-        }
+fn octets_of(alloc: Global, digits: &str) -> Result<Vec<u8>, FromHexError> {
+    match digits {
+        "-" => Ok(Vec::new(alloc)),
+        _ => hex::decode(alloc, digits),
     }
-    Ok(octets)
-}
-
-/// The number that decimal digits stand for.
-fn number_of(digits: &str) -> usize {
-    let mut number: usize = 0;
-    for digit in digits.as_bytes() {
-        number = number
-            .wrapping_mul(10)
-            .wrapping_add(usize::from(*digit % 16));
-    }
-    number
 }
 
 /// Appends a piece of a word: itself, or, as `49*3080`, a text so many times.
 fn push_piece(text: &mut String, piece: &str) -> Result<(), Fail> {
     let (count, part) = piece.split_once('*').unwrap_or(("1", piece));
-    for _ in 0..number_of(count) {
+    for _ in 0..count.parse::<usize>()? {
         text.push_str(part)?;
     }
     Ok(())
@@ -88,23 +61,40 @@ pub(crate) fn written_out(alloc: Global, words: &str) -> Result<String, Fail> {
     Ok(text)
 }
 
-/// The answer to a call, which is a name and octets.
-fn answer(alloc: Global, call: &str) -> Result<String, Fail> {
-    let (name, digits) = call.split_once(' ').unwrap_or((call, "-"));
+/// The two sides of a row.
+pub(crate) fn sides(row: &str) -> Result<(&str, &str), Fail> {
+    match row.split_once(" = ") {
+        Some(sides) => Ok(sides),
+        None => Err(Fail::new(format_args!("no row: {row}"))),
+    }
+}
+
+/// The answer to a call at the octets that the digits stand for.
+fn answer(alloc: Global, call: &str, digits: &str) -> Result<String, Fail> {
     let octets = octets_of(alloc, digits)?;
     let mut text = String::new(alloc);
-    push_answer(&mut text, alloc, name, octets.as_slice())?;
+    push_answer(&mut text, alloc, call, octets.as_slice())?;
     Ok(text)
 }
 
-/// Asserts that the call of each row is answered as the row says.
-pub(crate) fn assert_rows(rt: &impl Abort, alloc: Global, rows: &str) -> Result<(), Fail> {
-    for row in rows.lines() {
-        let (call, expected) = row.split_once(" = ").unwrap_or((row, ""));
-        let call = written_out(alloc, call)?;
-        let expected = written_out(alloc, expected)?;
-        let answer = answer(alloc, call.as_str())?;
-        assert_eq!(rt; answer.as_str(), expected.as_str(), "{row}");
+/// Asserts that the call is answered as the row says.
+fn assert_row(rt: &impl Abort, alloc: Global, call: &str, row: &str) -> Result<(), Fail> {
+    let (digits, expected) = sides(row)?;
+    let digits = written_out(alloc, digits)?;
+    let expected = written_out(alloc, expected)?;
+    let answer = answer(alloc, call, digits.as_str())?;
+    assert_eq!(rt; answer.as_str(), expected.as_str(), "{call}: {row}");
+    Ok(())
+}
+
+/// Asserts that each call is answered as the rows below its name say.
+pub(crate) fn assert_rows(rt: &impl Abort, alloc: Global, lines: &str) -> Result<(), Fail> {
+    let mut call = "";
+    for line in lines.lines() {
+        match line.strip_suffix(':') {
+            Some(name) => call = name,
+            None => assert_row(rt, alloc, call, line)?,
+        }
     }
     Ok(())
 }
@@ -119,4 +109,11 @@ pub(crate) fn assert_shown<T: Debug>(
     let text = format!(in alloc; "{value:?}")?;
     assert_eq!(rt; text.as_str(), expected);
     Ok(())
+}
+
+#[test]
+fn wrong_digits_are_no_octets(rt: HostRuntime) {
+    for digits in ["3000f", "4Z00", "02!5", "0"] {
+        assert!(rt; octets_of(rt.alloc(), digits).is_err(), "{digits}");
+    }
 }

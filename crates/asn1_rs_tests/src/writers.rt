@@ -12,15 +12,18 @@ use std::test::Fail;
 /// Headers and elements that are read by BER, and how they are written: by DER, their counts, and in the raw form.
 /// That of a header has the identifier octets that were read, that of an element the length that was read.
 const WRITTEN_AGAIN: &str = "\
-header_again 9f0f02 = 8f02 count 2 0 raw 9f0f02
-header_again 1f801f8103 = 1f1f03 count 3 0 raw 1f801f03
-header_again 1f8fffffff7f00 = 1f8fffffff7f00 count 7 0 raw 1f8fffffff7f00
-header_again a201 = a201 count 2 0 raw a201
-header_again a280 = a280 count 2 0 raw a280
-header_again 8f820002 = 8f02 count 2 0 raw 8f02
-any_again 9f0f021234 = 8f021234 count 4 2 raw 8f021234
-any_again 028200010a = 02010a count 3 1 raw 02010a
-any_again 300a1605536d6974680101ff = 300a1605536d6974680101ff count 12 10 raw 300a1605536d6974680101ff
+Header::write_der:
+9f0f02 = 8f02 count 2 0 raw 9f0f02
+1f801f8103 = 1f1f03 count 3 0 raw 1f801f03
+1f8fffffff7f00 = 1f8fffffff7f00 count 7 0 raw 1f8fffffff7f00
+a201 = a201 count 2 0 raw a201
+a280 = a280 count 2 0 raw a280
+8f820002 = 8f02 count 2 0 raw 8f02
+Any::write_der:
+9f0f021234 = 8f021234 count 4 2 raw 8f021234
+028200010a = 02010a count 3 1 raw 02010a
+300a1605536d6974680101ff = 300a1605536d6974680101ff count 12 10 raw 300a1605536d6974680101ff
+308080000000 = 30028000 count 4 2 raw 30808000
 ";
 
 /// Asserts how a value is written, as [`push_written`] shows it.
@@ -153,6 +156,9 @@ fn elements_by_hand_are_written(rt: HostRuntime) -> Result<(), Fail> {
     let large = Any::from_tag_and_data(Tag(0x4142_4344), &[0x02, 0x01, 0x01]);
     let expected = "1f848a89864403020101 count 10 3 raw 1f848a89864403020101";
     assert_written(&rt, rt.alloc(), &large, expected)?;
+    let header = Header::new_simple(Tag::Integer);
+    let expected = "020102 count 3 1 raw 020002";
+    assert_written(&rt, rt.alloc(), &Any::new(header, &[0x02]), expected)?;
     // The raw form has the length of the header.
     let header = Header::new_simple(Tag::Integer).with_length(Length::Definite(3));
     let expected = "020102 count 3 1 raw 020302";

@@ -1,0 +1,33 @@
+//! The laws: each can be called, at a type where it has one.
+
+use asn1_rs::{
+    Any, BerParser, DerParser, Error, answers_last, any_is_the_element, beginnings_are_incomplete,
+    beginnings_are_refused, classes_are_numbered, counts_are_of_the_strict_encoding,
+    indefinite_contents_are_walked, integers_have_one_refusal, one_refusal, reader_is_exact_by_ber,
+    reader_is_exact_by_der, strict_fronts_are_written_again, universal_types_are_numbered,
+    walks_end, walks_take_words, words_and_values_are_unique,
+};
+
+#[test]
+fn laws_of_each_type_are_called() {
+    reader_is_exact_by_ber::<Vec<i16>, Error>();
+    reader_is_exact_by_der::<Vec<i16>, Error>();
+    words_and_values_are_unique::<Vec<i16>>();
+    counts_are_of_the_strict_encoding::<Vec<i16>>();
+    strict_fronts_are_written_again::<Vec<i16>>();
+    walks_end::<Any<'_>, BerParser, Error>();
+    walks_take_words::<Any<'_>, DerParser, Error>();
+}
+
+#[test]
+fn laws_are_called() {
+    answers_last();
+    any_is_the_element();
+    beginnings_are_incomplete();
+    beginnings_are_refused();
+    classes_are_numbered();
+    indefinite_contents_are_walked();
+    integers_have_one_refusal();
+    one_refusal();
+    universal_types_are_numbered();
+}
