@@ -17,6 +17,8 @@ mod devices;
 #[cfg(test)]
 mod errors;
 #[cfg(test)]
+mod growths;
+#[cfg(test)]
 mod iterators;
 #[cfg(test)]
 mod laws;
