@@ -6,8 +6,11 @@
 mod elements;
 mod fingerprint;
 mod items;
+mod message;
 mod numbers;
+mod point;
 mod refusals;
+mod sequences;
 mod serial_number;
 #[cfg(test)]
 mod tests;
@@ -15,12 +18,15 @@ mod tests;
 pub use elements::{read_element, read_header};
 pub use fingerprint::Fingerprint;
 pub use items::{count_of_numbers, elements_in, items_in, numbers_in};
+pub use message::Message;
 pub use numbers::{
     count_number, is_same_number, is_strict_front, read_number, read_number_by_ber, write_number,
 };
+pub use point::Point;
 pub use refusals::{
     InClass, NamePart, count_name, vector_in_class, write_header_in_class, write_in_class,
     write_list_in_classes, write_name, write_ordered_set_in_classes, write_raw_in_class,
     write_set_in_classes,
 };
+pub use sequences::{read_numbers, write_numbers};
 pub use serial_number::SerialNumber;

@@ -1,14 +1,15 @@
 //! Each caller once.
 
 use crate::{
-    InClass, NamePart, count_name, count_number, count_of_numbers, is_same_number, is_strict_front,
-    numbers_in, read_element, read_header, read_number, read_number_by_ber, vector_in_class,
-    write_header_in_class, write_in_class, write_list_in_classes, write_name, write_number,
-    write_ordered_set_in_classes, write_raw_in_class, write_set_in_classes,
+    InClass, Message, NamePart, Point, count_name, count_number, count_of_numbers, is_same_number,
+    is_strict_front, numbers_in, read_element, read_header, read_number, read_number_by_ber,
+    read_numbers, vector_in_class, write_header_in_class, write_in_class, write_list_in_classes,
+    write_name, write_number, write_numbers, write_ordered_set_in_classes, write_raw_in_class,
+    write_set_in_classes,
 };
 use asn1_rs::{
-    Any, Err, Error, FromItems, LawfulBer, LawfulDer, LawfulWrite, Needed, SetOf, ToDer, Told,
-    read_ber, read_der, strict_vec,
+    Any, Err, Error, FromDer, FromItems, LawfulBer, LawfulDer, LawfulWrite, Needed, SetOf, ToDer,
+    Told, read_ber, read_der, strict_vec,
 };
 use std::alloc::Global;
 use std::collections::BTreeSet;
@@ -29,6 +30,37 @@ fn numbers_are_read_and_written(rt: HostRuntime) -> Result<(), Fail> {
     assert!(rt; !is_strict_front(alloc, 5, &octets[..4])?);
     assert!(rt; is_same_number(alloc, 5, 5)?);
     assert!(rt; !is_same_number(alloc, 5, 6)?);
+    Ok(())
+}
+
+/// A message of version 1 of the community `public`, with the numbers 5 and 128.
+const MESSAGE: [u8; 22] = [
+    0x30, 0x14, 0x02, 0x01, 0x01, 0x04, 0x06, b'p', b'u', b'b', b'l', b'i', b'c', 0x30, 0x07, 0x02,
+    0x01, 0x05, 0x02, 0x02, 0x00, 0x80,
+];
+
+#[test]
+fn messages_are_read_and_written(rt: HostRuntime) -> Result<(), Fail> {
+    let alloc = rt.alloc();
+    let (rest, message) = Message::from_der(alloc, &MESSAGE)?;
+    assert!(rt; rest.is_empty());
+    assert_eq!(rt; message.version, 1);
+    assert!(rt; message.community.as_bytes() == b"public".as_slice());
+    assert!(rt; message.numbers.as_slice() == [5, 128].as_slice());
+    assert!(rt; message.to_der(alloc)?.as_slice() == MESSAGE.as_slice());
+    Ok(())
+}
+
+#[test]
+fn sequences_and_points_are_read_and_written(rt: HostRuntime) -> Result<(), Fail> {
+    let alloc = rt.alloc();
+    let octets = [0x30, 0x06, 0x02, 0x01, 0x05, 0x02, 0x01, 0xff];
+    let (rest, point) = Point::from_der(alloc, &octets)?;
+    assert!(rt; rest.is_empty());
+    assert_eq!(rt; point, Point { x: 5, y: -1 });
+    assert!(rt; point.to_der_vec(alloc)?.as_slice() == octets.as_slice());
+    let (_, numbers) = read_numbers(alloc, &MESSAGE[13..])?;
+    assert!(rt; write_numbers(alloc, &numbers)?.as_slice() == &MESSAGE[13..]);
     Ok(())
 }
 

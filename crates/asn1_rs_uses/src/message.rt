@@ -1,0 +1,62 @@
+//! A message in the manner of SNMP: a version, the name of a community, and numbers, in a sequence.
+ghost use Rattle.std.specs.Prelude.{◌≡◌, IfOk};
+ghost use Rattle.asn1_rs.specs.Answers.{seen};
+ghost use Rattle.asn1_rs.specs.Any.{parts_of};
+ghost use Rattle.asn1_rs_uses.specs.Messages.{BeginsWithMessage, IsMessage, message_octets};
+
+use asn1_rs::{Any, Err, Error, ParseResult, SerializeResult, Tag, ToDer, Told, read_der};
+use std::alloc::Global;
+use std::borrow::CowStr;
+
+/// A message. The name of its community is borrowed from the octets that it was read from.
+#[derive(Debug, Drop)]
+pub struct Message<'a> {
+    pub version: u32,
+    pub community: Any<'a>,
+    pub numbers: Vec<u32>,
+}
+
+impl<'a> Message<'a> {
+    /// The message at the front of the octets, by DER, and what follows it.
+    ///
+    /// Refused as `Incomplete` only where the sequence itself is cut.
+    pub fn from_der(alloc: Global, octets: &'a [u8]) -> ParseResult<'a, Message<'a>, Error>
+        ensures { IfOk (seen result) (λ x. BeginsWithMessage octets.now x.1 x.0) }
+    {
+        let (rest, sequence) = read_der::<Any<'a>, Error>(alloc, octets)?;
+        match Message::from_element(alloc, &sequence) {
+            Ok(message) => Ok((rest, message)),
+            Err(e) => Err(Err::Error(e)),
+        }
+    }
+
+    /// The message that an element is.
+    fn from_element(alloc: Global, element: &Any<'a>) -> Result<Message<'a>, Error>
+        ensures { IfOk result (IsMessage (parts_of element.now)) }
+    {
+        element.tag().assert_eq(Tag::Sequence)?;
+        let (content, version) = read_der::<u32, Error>(alloc, element.as_bytes())?;
+        let (content, community) = read_der::<Any<'a>, Error>(alloc, content)?;
+        let (content, numbers) = read_der::<Vec<u32>, Error>(alloc, content)?;
+        if !content.is_empty() {
+            return Err(Error::invalid_value(Tag::Sequence, CowStr::Borrowed("octets left over")));
+        }
+        Ok(Message {
+            version,
+            community,
+            numbers,
+        })
+    }
+
+    /// The octets of the message, by DER.
+    pub fn to_der(&self, alloc: Global) -> SerializeResult<Vec<u8>>
+        ensures { IfOk result (λ octets. octets.items ≡ message_octets self.now) }
+    {
+        let mut content = Told::new(Vec::new(alloc));
+        self.version.write_der(alloc, &mut content)?;
+        self.community.write_der(alloc, &mut content)?;
+        self.numbers.write_der(alloc, &mut content)?;
+        let content = content.into_inner();
+        Any::from_tag_and_data(Tag::Sequence, &content).to_der_vec(alloc)
+    }
+}
