@@ -23,6 +23,7 @@ impl<'a, T, E, P: ReadsItems<'a, T, E>> ReadsItems<'a, T, E> for Kept<P> {
 }
 
 /// Reads a value and answers it with what follows it, which is to be less than the octets.
+#[inline(always)]
 fn read_some<'a, T, P>(alloc: Global, octets: &'a [u8]) -> Result<(&'a [u8], T), Failure>
 where
     T: Drop,
