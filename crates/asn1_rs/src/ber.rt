@@ -25,6 +25,7 @@ use crate::length::Length;
 use crate::traits::{BerParser, DerParser};
 
 /// So many octets of the input, or `Incomplete` with the number that is missing.
+#[inline(always)]
 fn split_content(bytes: &[u8], len: usize) -> ParseResult<'_, &[u8], Error>
     ensures { Splits len bytes.now result }
 {
@@ -36,6 +37,7 @@ fn split_content(bytes: &[u8], len: usize) -> ParseResult<'_, &[u8], Error>
 }
 
 /// The element at the front, by DER. It takes no memory.
+#[inline(always)]
 pub(crate) fn element_by_der(bytes: &[u8]) -> ParseResult<'_, Any<'_>, Error>
     ensures { AnyGives IsDerElement DerElementFault der_refusal bytes.now (seen result) }
 {
@@ -135,6 +137,7 @@ fn skip_content<'a>(
 }
 
 /// The contents octets at the front, of a length of this form, by BER. The depth is that of their element.
+#[inline(always)]
 fn content_by_ber<'a>(
     bytes: &'a [u8],
     form: Length,
@@ -160,6 +163,7 @@ fn content_by_ber<'a>(
 }
 
 /// The element at the front, by BER, nested to a depth. The headers that are read are counted.
+#[inline(always)]
 fn element_to_depth<'a>(
     bytes: &'a [u8],
     max_depth: usize,
@@ -180,6 +184,7 @@ fn element_to_depth<'a>(
 }
 
 /// The element at the front, by BER. It takes no memory.
+#[inline(always)]
 pub(crate) fn element_by_ber(bytes: &[u8]) -> ParseResult<'_, Any<'_>, Error>
     ensures { AnyGives (IsElement max_depth) (ElementFault max_depth) ber_refusal bytes.now (seen result) }
 {
@@ -192,6 +197,7 @@ pub(crate) fn element_by_ber(bytes: &[u8]) -> ParseResult<'_, Any<'_>, Error>
 /// by half the octets of the element at most. On a refusal it grows by one for each header that was read whole before
 /// the first fault. An element, or a refusal, is that of the input whatever follows, as far as the refusal speaks.
 /// Elements nest as deep as [`MAX_RECURSION`] says.
+#[inline(always)]
 pub fn any_from_ber_counted<'a>(
     bytes: &'a [u8],
     steps: &mut Steps,

@@ -31,6 +31,7 @@ pub(crate) struct IdentifierOctets<'a> {
 }
 
 /// The class, the constructed bit and the low five bits of the first identifier octet (8.1.2.2).
+#[inline(always)]
 fn first_octet(octet: u8) -> (Class, bool, u8)
     ensures sum { octet ≡ 64 * class_number result.0 + 32 * bit result.1 + result.2 }
     ensures low { result.2 < 32 }
@@ -45,6 +46,7 @@ fn first_octet(octet: u8) -> (Class, bool, u8)
 }
 
 /// The identifier octets at the front.
+#[inline(always)]
 fn read_identifier(bytes: &[u8]) -> ParseResult<'_, IdentifierOctets<'_>, Error>
     ensures ok { IfOk result (λ x. BeginsWithIdentifier bytes.now x.0.now x.1) }
     ensures err { (refuses : Breach → Fault)
@@ -75,6 +77,7 @@ fn read_identifier(bytes: &[u8]) -> ParseResult<'_, IdentifierOctets<'_>, Error>
 }
 
 /// The length octets at the front, or 80.
+#[inline(always)]
 fn read_length(bytes: &[u8]) -> ParseResult<'_, Length, Error>
     ensures ok { IfOk result (λ x. BeginsWithLength bytes.now x.0.now x.1) }
     ensures err { (refuses : Breach → Fault)
@@ -102,6 +105,7 @@ fn read_length(bytes: &[u8]) -> ParseResult<'_, Length, Error>
 
 impl<'a> IdentifierOctets<'a> {
     /// The header with this identifier, and these octets as its raw tag.
+    #[inline(always)]
     fn with_length(self, length: Length) -> Header<'a>
         ensures { HasParts result self.entry.class self.entry.constructed (tag_read self.entry) length (Some self.entry.octets.now) }
     {
@@ -112,6 +116,7 @@ impl<'a> IdentifierOctets<'a> {
 }
 
 /// The identifier octets at the front and the length octets, or 80, that follow them.
+#[inline(always)]
 fn read_parts(bytes: &[u8]) -> ParseResult<'_, (IdentifierOctets<'_>, Length), Error>
     ensures ok { IfOk result (λ x. BeginsWithBoth bytes.now x.0.now x.1.0 x.1.1) }
     ensures err { (rule : Rule) (refuses : Breach → Fault)
@@ -124,6 +129,7 @@ fn read_parts(bytes: &[u8]) -> ParseResult<'_, (IdentifierOctets<'_>, Length), E
 }
 
 /// The header at the front, by DER: an indefinite length is refused.
+#[inline(always)]
 pub(crate) fn header_by_der(bytes: &[u8]) -> ParseResult<'_, Header<'_>, Error>
     ensures { HeaderGives der_rule der_refusal bytes.now (seen result) }
 {
@@ -137,6 +143,7 @@ pub(crate) fn header_by_der(bytes: &[u8]) -> ParseResult<'_, Header<'_>, Error>
 }
 
 /// The header at the front, by BER: an indefinite length is refused at a primitive element.
+#[inline(always)]
 pub(crate) fn header_by_ber(bytes: &[u8]) -> ParseResult<'_, Header<'_>, Error>
     ensures { HeaderGives ber_rule ber_refusal bytes.now (seen result) }
 {

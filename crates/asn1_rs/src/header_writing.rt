@@ -40,6 +40,7 @@ pub(crate) fn element_len(number: u32, counted: Result<usize, Error>) -> Result<
 }
 
 /// Appends the strict header of an element whose contents are so many octets, in one piece, and answers its length.
+#[inline(always)]
 pub(crate) fn put_header<W: DerWrite>(
     class: u8,
     constructed: bool,
@@ -59,6 +60,7 @@ pub(crate) fn put_header<W: DerWrite>(
 /// Appends the strict header of an element whose contents were counted.
 ///
 /// A refused count is the refusal, before anything is appended.
+#[inline(always)]
 pub(crate) fn put_counted_header<W: DerWrite>(
     class: u8,
     constructed: bool,

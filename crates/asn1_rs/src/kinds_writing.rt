@@ -139,10 +139,12 @@ impl<T: WritesPrimitive> ToDerBy<ElementKind> for T {
         false
     }
 
+    #[inline(always)]
     fn put_header<W: DerWrite>(&self, _alloc: Global, w: &mut W) -> SerializeResult<usize> {
         put_counted_header(0, false, T::its_tag().0, self.count_octets(), w)
     }
 
+    #[inline(always)]
     fn put_content<W: DerWrite>(&self, _alloc: Global, w: &mut W) -> SerializeResult<usize> {
         self.put_octets(w)
     }
@@ -220,10 +222,12 @@ impl<T: HasKind + ToDerBy<T::Kind>> ToDer for T {
         self.is_constructed()
     }
 
+    #[inline(always)]
     fn write_der_header<W: DerWrite>(&self, alloc: Global, w: &mut W) -> SerializeResult<usize> {
         self.put_header(alloc, w)
     }
 
+    #[inline(always)]
     fn write_der_content<W: DerWrite>(&self, alloc: Global, w: &mut W) -> SerializeResult<usize> {
         self.put_content(alloc, w)
     }

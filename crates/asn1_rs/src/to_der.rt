@@ -11,6 +11,7 @@ use crate::writer::{DerWrite, Told};
 use std::alloc::Global;
 
 /// The sum of two numbers of octets that were written.
+#[inline(always)]
 pub(crate) fn add_written(before: usize, after: usize) -> SerializeResult<usize>
     ensures { SumsWritten before after result }
 {
@@ -20,6 +21,7 @@ pub(crate) fn add_written(before: usize, after: usize) -> SerializeResult<usize>
 }
 
 /// The sum of two counts.
+#[inline(always)]
 pub(crate) fn add_counts(before: usize, after: usize) -> Result<usize, Error>
     ensures { SumsCounts before after result }
 {

@@ -129,6 +129,7 @@ where
 {
     ghost der_gives = { DerGives T.check_gives T.any_gives E.from_gives };
 
+    #[inline(always)]
     fn from_der(alloc: Global, bytes: &'a [u8]) -> ParseResult<'a, T, E> {
         let (rest, any) = match element_by_der(bytes) {
             Ok(read) => read,
@@ -152,6 +153,7 @@ where
 {
     ghost ber_gives = { BerGives T.any_gives E.from_gives };
 
+    #[inline(always)]
     fn from_ber(alloc: Global, bytes: &'a [u8]) -> ParseResult<'a, T, E> {
         let (rest, any) = match element_by_ber(bytes) {
             Ok(element) => element,

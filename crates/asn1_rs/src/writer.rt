@@ -27,6 +27,7 @@ impl<W: Write> TellsWrites for W {
     ghost writes = { λ old octets answer new.
         WritesAtMost answer octets × WriteAppends (W.contents old) (W.contents new) answer octets };
 
+    #[inline(always)]
     fn write_once(&mut self, octets: &[u8]) -> io::Result<usize> {
         self.write(octets)
     }
@@ -104,6 +105,7 @@ impl<W: TellsWrites> DerWrite for Told<W> {
 
     ghost puts = { ToldPut W.writes };
 
+    #[inline(always)]
     fn put(&mut self, octets: &[u8]) -> io::Result<usize> {
         if self.is_failed {
             return Err(io::Error::from(ErrorKind::WriteZero));
@@ -124,6 +126,7 @@ impl<W: TellsWrites> DerWrite for Told<W> {
 }
 
 /// One call of `put`: what it took, at least one octet; its failure; or a failure of kind `WriteZero` where it took none.
+#[inline(always)]
 fn put_some<W: DerWrite>(w: &mut W, piece: &[u8]) -> SerializeResult<usize>
     requires { piece.now ≢ [] }
     ensures took { IfOk result (λ n. W.puts w.old piece.now (Ok n) w.new) }
@@ -141,6 +144,7 @@ fn put_some<W: DerWrite>(w: &mut W, piece: &[u8]) -> SerializeResult<usize>
 ///
 /// Refused with `IOError` alone: with what `put` failed with, or of kind `WriteZero` where it took none. A piece of no
 /// octets asks for no call.
+#[inline(always)]
 pub fn put_all<W: DerWrite>(w: &mut W, piece: &[u8]) -> SerializeResult<usize>
     ensures wrote { Wrote piece.now (W.told w.old) (W.told w.new) (W.failed w.old) (W.failed w.new) result }
     ensures failed { IfErr result (MayRefuse false 0) }

@@ -115,6 +115,7 @@ fn write_digits<const BASE: usize>(number: usize, mark: u8, out: &mut [u8])
 }
 
 /// The first identifier octet without its low five bits.
+#[inline(always)]
 fn high_bits(class: u8, constructed: bool) -> u8
     requires { class < 4 }
     ensures value { result ≡ 64 * class + 32 * bit constructed }
@@ -124,6 +125,7 @@ fn high_bits(class: u8, constructed: bool) -> u8
 }
 
 /// Writes strict identifier octets at the front, and says how many they are.
+#[inline(always)]
 fn write_identifier(class: u8, constructed: bool, number: u32, out: &mut [u8]) -> usize
     requires class { class < 4 }
     requires room { 6 ≤ length out.old }
@@ -144,6 +146,7 @@ fn write_identifier(class: u8, constructed: bool, number: u32, out: &mut [u8]) -
 }
 
 /// Writes strict length octets at the front, and says how many they are.
+#[inline(always)]
 fn write_length(n: usize, out: &mut [u8]) -> usize
     requires { 9 ≤ length out.old }
     ensures written { take result out.new ≡ length_octets n }
@@ -183,6 +186,7 @@ pub fn length_into(n: usize, out: &mut [u8; 9]) -> usize
 
 /// Writes the strict header of an element whose contents are n octets at the front, and says how many octets it has: two
 /// to fifteen (X.690 8.1.2, 8.1.3, 10.1). What stands behind them stays.
+#[inline(always)]
 pub fn header_into(class: u8, constructed: bool, number: u32, n: usize, out: &mut [u8; 15]) -> usize
     requires { class < 4 }
     ensures written { take result out.new ≡ header_octets class constructed number n }

@@ -1,6 +1,6 @@
 //! Contents octets of integers (X.690 8.3).
 
-ghost use Rattle.std.specs.Prelude.{ℕ, ◌≡◌, ◌<◌, ◌≤◌, ◌^◌, List, length, get_or, take, drop, pos, ℤ, IfSome, IfNone, IsTrue, ◌↔◌};
+ghost use Rattle.std.specs.Prelude.{ℕ, ◌≡◌, ◌<◌, ◌≤◌, ◌^◌, ◌+◌, ◌*◌, ◌/◌, List, length, get_or, take, drop, pos, ℤ, IfSome, IfNone, IsTrue, ◌↔◌};
 ghost use Rattle.x690.specs.Digits.{base_256_value};
 ghost use Rattle.x690.specs.Integers.{HasSpareZeros, HasSpareOnes, IsIntegerContent, HasNoLeadingZero, unsigned_octets};
 ghost use Rattle.x690.specs.SignedOctets.{signed_octets};
@@ -20,6 +20,29 @@ fn without_leading_zeros(octets: &[u8]) -> &[u8]
     rest
 }
 
+/// The octets themselves where they are no more than `most`, else those behind the leading zeros.
+fn fewest_digits(octets: &[u8], most: usize) -> &[u8]
+    ensures value { base_256_value result.now ≡ base_256_value octets.now }
+    ensures first { most < length result.now → HasNoLeadingZero result.now }
+{
+    if octets.len() <= most {
+        return octets;
+    }
+    without_leading_zeros(octets)
+}
+
+/// The number whose digits in base 256 the octets are, which one machine word holds.
+fn word_number(digits: &[u8]) -> u64
+    requires { length digits.now ≤ 8 }
+    ensures { result ≡ base_256_value digits.now }
+{
+    let mut number: u64 = 0;
+    for octet in digits {
+        number = number * 256 + u64::from(*octet);
+    }
+    number
+}
+
 /// The number whose digits in base 256 the octets are, with any leading zeros. There is none exactly where it
 /// does not fit in `most` octets (X.690 8.3.3).
 pub fn unsigned_number(octets: &[u8], most: usize) -> Option<u128>
@@ -28,9 +51,12 @@ pub fn unsigned_number(octets: &[u8], most: usize) -> Option<u128>
     ensures fits { IfSome result (λ number. number < 256 ^ most) }
     ensures none { IfNone result (256 ^ most ≤ base_256_value octets.now) }
 {
-    let digits = without_leading_zeros(octets);
+    let digits = fewest_digits(octets, most);
     if digits.len() > most {
         return None;
+    }
+    if digits.len() <= 8 {
+        return Some(u128::from(word_number(digits)));
     }
     let mut number: u128 = 0;
     for octet in digits {
@@ -71,18 +97,26 @@ pub fn unsigned_into(n: u128, out: &mut [u8; 17]) -> usize
     at
 }
 
+/// The first nine bits as a number, so that one comparison looks at all of them.
+fn first_nine_bits(octets: &[u8]) -> u16
+    requires { 2 ≤ length octets.now }
+    ensures { result ≡ 2 * get_or octets.now 0 0 + get_or octets.now 1 0 / 128 }
+{
+    2 * u16::from(octets[0]) + u16::from(octets[1] / 128)
+}
+
 /// Whether the first nine bits are all zero, which X.690 8.3.2 forbids.
 pub fn has_spare_zeros(octets: &[u8]) -> bool
     ensures { IsTrue result ↔ HasSpareZeros octets.now }
 {
-    octets.len() >= 2 && octets[0] == 0 && octets[1] < 128
+    octets.len() >= 2 && first_nine_bits(octets) == 0
 }
 
 /// Whether the first nine bits are all one, which X.690 8.3.2 forbids.
 pub fn has_spare_ones(octets: &[u8]) -> bool
     ensures { IsTrue result ↔ HasSpareOnes octets.now }
 {
-    octets.len() >= 2 && octets[0] == 255 && octets[1] >= 128
+    octets.len() >= 2 && first_nine_bits(octets) == 511
 }
 
 /// Each integer has strict contents octets, no integer has two, and strict contents octets are those of

@@ -21,11 +21,36 @@ fn without_spare_octets(octets: &[u8]) -> &[u8]
     rest
 }
 
+/// The octets themselves where they are no more than `most`, else those behind the ones that could be left out.
+fn fewest_octets(octets: &[u8], most: usize) -> &[u8]
+    ensures value { twos_complement_value result.now ≡ twos_complement_value octets.now }
+    ensures zeros { most < length result.now → ¬ HasSpareZeros result.now }
+    ensures ones { most < length result.now → ¬ HasSpareOnes result.now }
+{
+    if octets.len() <= most {
+        return octets;
+    }
+    without_spare_octets(octets)
+}
+
 /// Whether the first bit is set.
 fn is_negative(octets: &[u8]) -> bool
     ensures { IsTrue result ↔ (128 ≤ get_or octets.now 0 0) }
 {
     !octets.is_empty() && octets[0] >= 128
+}
+
+/// The integer of this sign that the octets are, which one machine word holds.
+fn word_signed(octets: &[u8], negative: bool) -> i128
+    requires few { length octets.now ≤ 8 }
+    requires sign { IsTrue negative ↔ (128 ≤ get_or octets.now 0 0) }
+    ensures { result ≡ twos_complement_value octets.now }
+{
+    let mut number: i64 = if negative { -1 } else { 0 };
+    for octet in octets {
+        number = number * 256 + i64::from(*octet);
+    }
+    i128::from(number)
 }
 
 /// The integer that the octets are in two's complement: no octet is 0, and octets in front that could be left out
@@ -37,11 +62,14 @@ pub fn signed_number(octets: &[u8], most: usize) -> Option<i128>
     ensures fits { IfSome result (λ number. IsSigned most number) }
     ensures none { IfNone result (¬ IsSigned most (twos_complement_value octets.now)) }
 {
-    let rest = without_spare_octets(octets);
+    let rest = fewest_octets(octets, most);
     if rest.len() > most {
         return None;
     }
     let negative = is_negative(rest);
+    if rest.len() <= 8 {
+        return Some(word_signed(rest, negative));
+    }
     let mut number: i128 = if negative { -1 } else { 0 };
     for octet in rest {
         number = number * 256 + i128::from(*octet);

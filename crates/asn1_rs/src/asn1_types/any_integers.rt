@@ -20,6 +20,7 @@ impl Any<'_> {
     }
 
     /// The number as a `u8`, of an element that stays.
+    #[inline(always)]
     pub fn as_u8(&self) -> Result<u8, Error>
         ensures { UnsignedGives 1 (parts_of self.now) result }
     {
@@ -34,6 +35,7 @@ impl Any<'_> {
     }
 
     /// The number as a `u16`, of an element that stays.
+    #[inline(always)]
     pub fn as_u16(&self) -> Result<u16, Error>
         ensures { UnsignedGives 2 (parts_of self.now) result }
     {
@@ -48,6 +50,7 @@ impl Any<'_> {
     }
 
     /// The number as a `u32`, of an element that stays.
+    #[inline(always)]
     pub fn as_u32(&self) -> Result<u32, Error>
         ensures { UnsignedGives 4 (parts_of self.now) result }
     {
@@ -62,6 +65,7 @@ impl Any<'_> {
     }
 
     /// The number as a `u64`, of an element that stays.
+    #[inline(always)]
     pub fn as_u64(&self) -> Result<u64, Error>
         ensures { UnsignedGives 8 (parts_of self.now) result }
     {
@@ -76,6 +80,7 @@ impl Any<'_> {
     }
 
     /// The number as a `u128`, of an element that stays.
+    #[inline(always)]
     pub fn as_u128(&self) -> Result<u128, Error>
         ensures { UnsignedGives 16 (parts_of self.now) result }
     {
@@ -90,6 +95,7 @@ impl Any<'_> {
     }
 
     /// The number as a `i8`, of an element that stays.
+    #[inline(always)]
     pub fn as_i8(&self) -> Result<i8, Error>
         ensures { SignedGives 1 (parts_of self.now) result }
     {
@@ -104,6 +110,7 @@ impl Any<'_> {
     }
 
     /// The number as a `i16`, of an element that stays.
+    #[inline(always)]
     pub fn as_i16(&self) -> Result<i16, Error>
         ensures { SignedGives 2 (parts_of self.now) result }
     {
@@ -118,6 +125,7 @@ impl Any<'_> {
     }
 
     /// The number as a `i32`, of an element that stays.
+    #[inline(always)]
     pub fn as_i32(&self) -> Result<i32, Error>
         ensures { SignedGives 4 (parts_of self.now) result }
     {
@@ -132,6 +140,7 @@ impl Any<'_> {
     }
 
     /// The number as a `i64`, of an element that stays.
+    #[inline(always)]
     pub fn as_i64(&self) -> Result<i64, Error>
         ensures { SignedGives 8 (parts_of self.now) result }
     {
@@ -146,6 +155,7 @@ impl Any<'_> {
     }
 
     /// The number as a `i128`, of an element that stays.
+    #[inline(always)]
     pub fn as_i128(&self) -> Result<i128, Error>
         ensures { SignedGives 16 (parts_of self.now) result }
     {

@@ -18,6 +18,7 @@ use x690::signed::{signed_into, signed_number};
 
 /// Refuses an element that is constructed, has an indefinite length, or whose contents octets are not the fewest of
 /// their number (X.690 8.3.1, 8.3.2). It is the check of all integers.
+#[inline(always)]
 pub(crate) fn check_integer(any: &Any<'_>) -> Result<(), Error>
     ensures { IntegerCheckGives (parts_of any.now) result }
 {
@@ -36,6 +37,7 @@ pub(crate) fn check_integer(any: &Any<'_>) -> Result<(), Error>
 }
 
 /// Refuses an element that has another tag number than integers, or is constructed (X.690 8.3.1).
+#[inline(always)]
 fn assert_integer(any: &Any<'_>) -> Result<(), Error>
     ensures { IsIntegerOr (parts_of any.now) result }
 {
@@ -44,6 +46,7 @@ fn assert_integer(any: &Any<'_>) -> Result<(), Error>
 }
 
 /// The natural number of contents octets, which fits in so many octets.
+#[inline(always)]
 fn unsigned_from_content(content: &[u8], size: usize) -> Result<u128, Error>
     requires { size ≤ 16 }
     ensures number { IfOk result (λ n. pos n ≡ twos_complement_value content.now) }
@@ -57,6 +60,7 @@ fn unsigned_from_content(content: &[u8], size: usize) -> Result<u128, Error>
 }
 
 /// The natural number of an element, which fits in so many octets.
+#[inline(always)]
 pub(crate) fn unsigned_from_any(any: &Any<'_>, size: usize) -> Result<u128, Error>
     requires { size ≤ 16 }
     ensures { UnsignedGives size (parts_of any.now) result }
@@ -66,6 +70,7 @@ pub(crate) fn unsigned_from_any(any: &Any<'_>, size: usize) -> Result<u128, Erro
 }
 
 /// Appends the strict contents octets of a natural number, and answers their number.
+#[inline(always)]
 pub(crate) fn put_unsigned_content<W: DerWrite>(n: u128, w: &mut W) -> SerializeResult<usize>
     ensures wrote { Wrote (unsigned_octets n) (W.told w.old) (W.told w.new) (W.failed w.old) (W.failed w.new) result }
     ensures refused { IfErr result (MayRefuse false (length (unsigned_octets n))) }
@@ -76,6 +81,7 @@ pub(crate) fn put_unsigned_content<W: DerWrite>(n: u128, w: &mut W) -> Serialize
 }
 
 /// The integer of an element, which fits in so many octets.
+#[inline(always)]
 pub(crate) fn signed_from_any(any: &Any<'_>, size: usize) -> Result<i128, Error>
     requires some { 1 ≤ size }
     requires few { size ≤ 16 }
@@ -86,6 +92,7 @@ pub(crate) fn signed_from_any(any: &Any<'_>, size: usize) -> Result<i128, Error>
 }
 
 /// Appends the strict contents octets of an integer, and answers their number.
+#[inline(always)]
 pub(crate) fn put_signed_content<W: DerWrite>(n: i128, w: &mut W) -> SerializeResult<usize>
     ensures wrote { Wrote (signed_octets n) (W.told w.old) (W.told w.new) (W.failed w.old) (W.failed w.new) result }
     ensures refused { IfErr result (MayRefuse false (length (signed_octets n))) }

@@ -39,6 +39,7 @@ pub trait ReadsItems<'a, T, E>: ASN1Parser {
 impl<'a, T: FromBer<'a, E>, E> ReadsItems<'a, T, E> for BerParser {
     ghost item_gives = { T.ber_gives };
 
+    #[inline(always)]
     fn read_item(alloc: Global, octets: &'a [u8]) -> ParseResult<'a, T, E> {
         T::from_ber(alloc, octets)
     }
@@ -47,6 +48,7 @@ impl<'a, T: FromBer<'a, E>, E> ReadsItems<'a, T, E> for BerParser {
 impl<'a, T: FromDer<'a, E>, E> ReadsItems<'a, T, E> for DerParser {
     ghost item_gives = { T.der_gives };
 
+    #[inline(always)]
     fn read_item(alloc: Global, octets: &'a [u8]) -> ParseResult<'a, T, E> {
         T::from_der(alloc, octets)
     }
@@ -83,6 +85,7 @@ impl<'a, T, F: ASN1Parser, E> SequenceIterator<'a, T, F, E> {
 }
 
 /// The item and what is left behind it, or the refusal that ends the walk.
+#[inline(always)]
 fn item_or_end<'a, T: Drop, E: From<Error>>(
     octets: &'a [u8],
     answer: ParseResult<'a, T, E>,
@@ -112,6 +115,7 @@ where
     ghost remaining = { λ s. at_most (length (octets_left s)) };
 
     /// The next item, or the refusal that ends the walk; `None` where nothing is left.
+    #[inline(always)]
     fn next(&mut self) -> Option<Result<T, E>> {
         if self.left.is_empty() {
             return None;

@@ -14,22 +14,27 @@ front_below octets i k o l =
 
 pub returns-then-digits-most-clause-none : goal.returns-then-digits-most-clause-none
 returns-then-digits-most-clause-none c =
-    omega (arith, c.without_leading_zeros-digits.ensures.value, no_leading_zero_value c.without_leading_zeros-digits.result.now c.args.most c.without_leading_zeros-digits.ensures.first (omega arith))
+    omega (arith, c.fewest_digits-digits.ensures.value, no_leading_zero_value c.fewest_digits-digits.result.now c.args.most (c.fewest_digits-digits.ensures.first (omega arith)) (omega arith))
 
 pub overflow_mul-number : goal.overflow_mul-number
 overflow_mul-number c =
-    let o : IsOctets c.without_leading_zeros-digits.result.now = λ k. omega (arith, c.type_inv.digits k) in
-    omega (arith, front_below c.without_leading_zeros-digits.result.now c.loop-octet.octet-index 15 o (omega arith))
+    let o : IsOctets c.fewest_digits-digits.result.now = λ k. omega (arith, c.type_inv.digits k) in
+    omega (arith, front_below c.fewest_digits-digits.result.now c.loop-octet.octet-index 15 o (omega arith))
 
 pub overflow_add-number : goal.overflow_add-number
 overflow_add-number c =
-    let o : IsOctets c.without_leading_zeros-digits.result.now = λ k. omega (arith, c.type_inv.digits k) in
-    omega (arith, front_below c.without_leading_zeros-digits.result.now c.loop-octet.octet-index 15 o (omega arith))
+    let o : IsOctets c.fewest_digits-digits.result.now = λ k. omega (arith, c.type_inv.digits k) in
+    omega (arith, front_below c.fewest_digits-digits.result.now c.loop-octet.octet-index 15 o (omega arith))
 
 pub loop-octet-preserved : goal.loop-octet-preserved
 loop-octet-preserved c = grind (arith, weighted_sum_more)
 
 pub returns-clause-fits : goal.returns-clause-fits
 returns-clause-fits c =
-    let o : IsOctets c.without_leading_zeros-digits.result.now = search rules in
-    omega (arith, front_below c.without_leading_zeros-digits.result.now c.loop-octet.octet-index c.args.most o (omega arith))
+    let o : IsOctets c.fewest_digits-digits.result.now = search rules in
+    omega (arith, front_below c.fewest_digits-digits.result.now c.loop-octet.octet-index c.args.most o (omega arith))
+
+pub returns-then-digits-le8-clause-fits : goal.returns-then-digits-le8-clause-fits
+returns-then-digits-le8-clause-fits c =
+    let o : IsOctets c.fewest_digits-digits.result.now = search rules in
+    omega (arith, few_octets_value c.fewest_digits-digits.result.now c.args.most o (omega arith))

@@ -1,0 +1,131 @@
+//! The workloads by their names.
+
+use crate::failure::Failure;
+use crate::rounds::{Outcome, Rounds};
+use crate::rows::{Kept, read_row, values_of, walk, write_row};
+use crate::sums::Summed;
+use asn1_rs::{Any, BerParser, DerParser, Error, ReadsItems, SetOf, ToDer};
+use std::alloc::Global;
+use std::time::CpuClock;
+
+/// So deep a walk goes.
+const MAX_DEPTH: usize = 64;
+
+/// The octets of a workload, and how it is run.
+#[derive(Drop)]
+struct Bench<'a, C> {
+    alloc: Global,
+    rounds: &'a Rounds<'a, C>,
+    octets: &'a [u8],
+}
+
+impl<'a, C: CpuClock> Bench<'a, C> {
+    /// Reads a row of values.
+    fn read<T, P>(&self) -> Result<Outcome, Failure>
+    where
+        T: Summed + Drop,
+        P: ReadsItems<'a, T, Error>,
+    {
+        let alloc = self.alloc;
+        let octets = self.octets;
+        self.rounds.time(|| read_row::<T, P>(alloc, octets))
+    }
+
+    /// Writes the values of a row, which are read beforehand and kept.
+    fn write<T>(&self) -> Result<Outcome, Failure>
+    where
+        T: ToDer + Drop,
+        DerParser: ReadsItems<'a, T, Error>,
+    {
+        let values = values_of::<T, DerParser>(self.alloc, self.octets)?;
+        self.write_values(&values)
+    }
+
+    /// Writes the values, which are those of the octets.
+    fn write_values<T: ToDer>(&self, values: &[T]) -> Result<Outcome, Failure> {
+        let alloc = self.alloc;
+        let mut output = Vec::with_capacity(alloc, self.octets.len())?;
+        let outcome = self.rounds.time(|| write_row(alloc, values, &mut output))?;
+        if output.as_slice() != self.octets {
+            return Err(Failure::OtherOctets);
+        }
+        Ok(outcome)
+    }
+
+    /// Walks through a row of elements by DER.
+    fn walk_by_der(&self) -> Result<Outcome, Failure> {
+        let alloc = self.alloc;
+        let octets = self.octets;
+        self.rounds.time(|| walk::<true>(alloc, octets, MAX_DEPTH))
+    }
+
+    /// Walks through a row of elements by BER.
+    fn walk_by_ber(&self) -> Result<Outcome, Failure> {
+        let alloc = self.alloc;
+        let octets = self.octets;
+        self.rounds.time(|| walk::<false>(alloc, octets, MAX_DEPTH))
+    }
+
+    /// Reads a row of values of the kind of this name.
+    fn read_kind(&self, kind: &[u8]) -> Result<Outcome, Failure> {
+        match kind {
+            b"u32" => self.read::<u32, DerParser>(),
+            b"i64" => self.read::<i64, DerParser>(),
+            b"vec_u32" | b"vec_u32_short" => self.read::<Vec<u32>, DerParser>(),
+            b"vec_vec_u8" | b"nested_02" => self.read::<Vec<Vec<u8>>, DerParser>(),
+            b"setof_u32" => self.read::<SetOf<u32>, DerParser>(),
+            _ => Err(Failure::NoSuchWorkload),
+        }
+    }
+
+    /// The same behind a call.
+    fn read_kept(&self, kind: &[u8]) -> Result<Outcome, Failure> {
+        match kind {
+            b"u32" => self.read::<u32, Kept<DerParser>>(),
+            b"i64" => self.read::<i64, Kept<DerParser>>(),
+            _ => Err(Failure::NoSuchWorkload),
+        }
+    }
+
+    /// Writes the values of a row of the kind of this name.
+    fn write_kind(&self, kind: &[u8]) -> Result<Outcome, Failure> {
+        match kind {
+            b"u32" => self.write::<u32>(),
+            b"i64" => self.write::<i64>(),
+            b"vec_u32" | b"vec_u32_short" => self.write::<Vec<u32>>(),
+            b"vec_vec_u8" | b"nested_02" => self.write::<Vec<Vec<u8>>>(),
+            b"setof_u32" => self.write::<SetOf<u32>>(),
+            b"certs_any" => self.write::<Any<'_>>(),
+            _ => Err(Failure::NoSuchWorkload),
+        }
+    }
+}
+
+/// Runs the workload of this name over the octets: what is done, a slash, and the kind of the octets.
+pub(crate) fn run_workload<C: CpuClock>(
+    alloc: Global,
+    rounds: &Rounds<'_, C>,
+    name: &str,
+    octets: &[u8],
+) -> Result<Outcome, Failure> {
+    let Some((way, kind)) = name.split_once('/') else {
+        return Err(Failure::NoSuchWorkload);
+    };
+    let bench = Bench {
+        alloc,
+        rounds,
+        octets,
+    };
+    match way.as_bytes() {
+        b"read" => bench.read_kind(kind.as_bytes()),
+        b"kept" => bench.read_kept(kind.as_bytes()),
+        b"any_der" => bench.read::<Any<'_>, DerParser>(),
+        b"any_ber" => bench.read::<Any<'_>, BerParser>(),
+        b"kept_any_der" => bench.read::<Any<'_>, Kept<DerParser>>(),
+        b"kept_any_ber" => bench.read::<Any<'_>, Kept<BerParser>>(),
+        b"walk_der" => bench.walk_by_der(),
+        b"walk_ber" => bench.walk_by_ber(),
+        b"write" => bench.write_kind(kind.as_bytes()),
+        _ => Err(Failure::NoSuchWorkload),
+    }
+}
