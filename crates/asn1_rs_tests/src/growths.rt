@@ -40,5 +40,10 @@ fn lists_are_refused_for_want_of_memory(rt: HostRuntime) {
 fn sets_are_refused_for_want_of_memory(rt: HostRuntime) {
     let sets = [0x31, 0x08, 0x31, 0x06, 0x02, 0x01, 0x01, 0x02, 0x01, 0x02];
     assert_read::<SetOf<SetOf<u8>>>(&rt, rt.alloc(), &sets);
+}
+
+#[test]
+fn ordered_sets_are_refused_for_want_of_memory(rt: HostRuntime) {
+    let sets = [0x31, 0x08, 0x31, 0x06, 0x02, 0x01, 0x01, 0x02, 0x01, 0x02];
     assert_read::<BTreeSet<BTreeSet<u8>>>(&rt, rt.alloc(), &sets);
 }

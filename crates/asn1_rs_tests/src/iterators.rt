@@ -2,7 +2,7 @@
 
 use asn1_rs::{
     Any, BerParser, DerConstraint, DerParser, Err, Error, FromBer, FromDer, Needed, ParseResult,
-    ReadsItems, SequenceIterator, SetIterator,
+    SequenceIterator, SetIterator,
 };
 use std::alloc::Global;
 use std::test::Fail;
@@ -41,11 +41,9 @@ impl<'a> FromDer<'a, Error> for NotZero {
     }
 }
 
-/// The tag number and the contents octets of the next element, if one comes.
-fn next_element<'a, F: ReadsItems<'a, Any<'a>, Error>>(
-    items: &mut SequenceIterator<'a, Any<'a>, F, Error>,
-) -> Option<(u32, &'a [u8])> {
-    let any = items.next()?.ok()?;
+/// The tag number and the contents octets of an element, if one comes.
+fn parts_of<'a>(item: Option<Result<Any<'a>, Error>>) -> Option<(u32, &'a [u8])> {
+    let any = item?.ok()?;
     Some((any.tag().0, any.as_bytes()))
 }
 
@@ -54,8 +52,8 @@ fn elements_are_walked(rt: HostRuntime) {
     let octets = [0x30, 0x80, 0x00, 0x00, 0x04, 0x00];
     let mut items = SequenceIterator::<Any<'_>, BerParser, Error>::new(rt.alloc(), &octets);
     let none: &[u8] = &[];
-    assert_eq!(rt; next_element(&mut items), Some((16, none)));
-    assert_eq!(rt; next_element(&mut items), Some((4, none)));
+    assert_eq!(rt; parts_of(items.next()), Some((16, none)));
+    assert_eq!(rt; parts_of(items.next()), Some((4, none)));
     assert!(rt; items.next().is_none());
     assert!(rt; items.next().is_none());
 }
@@ -65,8 +63,8 @@ fn elements_are_walked_by_der(rt: HostRuntime) {
     let octets = [0x30, 0x00, 0x04, 0x00, 0x30, 0x80];
     let mut items = SequenceIterator::<Any<'_>, DerParser, Error>::new(rt.alloc(), &octets);
     let none: &[u8] = &[];
-    assert_eq!(rt; next_element(&mut items), Some((16, none)));
-    assert_eq!(rt; next_element(&mut items), Some((4, none)));
+    assert_eq!(rt; parts_of(items.next()), Some((16, none)));
+    assert_eq!(rt; parts_of(items.next()), Some((4, none)));
     let refusal = items.next().and_then(Result::err);
     assert_eq!(rt;
         refusal,
