@@ -6,6 +6,7 @@ use crate::sums::Summed;
 use asn1_rs::{ASN1Parser, Any, BerParser, DerParser, Error, ParseResult, ReadsItems, ToDer, Told};
 use std::alloc::Global;
 use std::marker::PhantomData;
+use std::mem;
 
 /// The reader `P` behind a call, so that its whole answer goes through memory.
 #[derive(Debug, Drop)]
@@ -79,12 +80,13 @@ pub(crate) fn write_row<T: ToDer>(
     output: &mut Vec<u8>,
 ) -> Result<u64, Failure> {
     output.clear();
-    let mut writer = Told::new(output);
+    let mut writer = Told::new(mem::replace(output, Vec::new(alloc)));
     let mut total: u64 = 0;
     for value in values {
         let count = value.write_der(alloc, &mut writer)?;
         total = total.wrapping_add(count as u64);
     }
+    *output = writer.into_inner();
     Ok(total)
 }
 

@@ -1,11 +1,10 @@
 //! What a value adds to the check of a workload.
-ghost use Rattle.std.specs.Prelude.{◌≡◌, ◌+◌, ◌%◌, ◌^◌, ℕ, length};
 
 use asn1_rs::{Any, SetOf};
 
 /// A value that adds to a check.
 pub(crate) trait Summed {
-    /// What it adds: so much less a multiple of 2^64.
+    /// What it adds, modulo 2^64.
     fn sum(&self) -> u64;
 }
 
