@@ -2,10 +2,10 @@
 use Rattle.std.proofs.Common.{◌≡◌, ◌≢◌, ℕ, zero, suc, ◌+◌, ◌-◌, ◌*◌, ◌/◌, ◌%◌, ◌<◌, ◌≤◌, ◌==◌, ◌&&◌, nat_lt, cond, Bool, true, false, List, [], ◌∷◌, length, slice_index, Option, Some, None, Result, Ok, Err, refl, sym, ap, ◌∙◌, arith, inl, inr, ◌⊎◌, codes, subst}
 use Rattle.std.proofs.lemmas.Bool.{and_parts, cases_lt, eqb-true}
 use Rattle.std.proofs.lemmas.Bool.Decides.{nat_tests}
-use Rattle.std.specs.Result.{result_unwrap_or}
-use Rattle.hex.specs.Hex.{decode_of, decode_pairs, digit_or_error, hex_digit_value, lower_digits, upper_digits, pair_value, value_at, ◌>>=◌}
+use Rattle.std.specs.Result.{MatchResult, result_unwrap_or}
+use Rattle.hex.specs.Hex.{decode_of, decode_pairs, decode_sized, digit_or_error, hex_digit_value, lower_digits, upper_digits, pair_value, value_at, ◌>>=◌}
 use Rattle.hex.specs.declared.error.FromHexError.{FromHexError}
-use Rattle.hex.proofs.HexLemmas.{IsDigits-lower_digits, IsDigits-upper_digits, decode_of-even, decode_of-ok}
+use Rattle.hex.proofs.HexLemmas.{IsDigits-lower_digits, IsDigits-upper_digits, decode_of-even, decode_of-ok, decode_sized-ok, decode_sized-twice}
 use Rattle.hex.proofs.Pairs.{cons_byte, decode_pairs-ok_pair}
 use Rattle.asn1vec_engine.specs.Request.{IsDigit, IsHexadecimal, StandsFor}
 
@@ -130,6 +130,25 @@ decodes_where_stands [] digits other h = absurd (other h)
 decodes_where_stands (octet ∷ octets) digits other h =
     let n = even_digits (octet ∷ octets) digits h in
     decode_of-even digits (omega (arith, n)) ∙ decodes (octet ∷ octets) digits 0 h
+
+-- decoding into a slice gave octets: those to which the digits decode
+pub sized_ok : (digits new : List ℕ) (n : ℕ) (d : Result (List ℕ) FromHexError) (r : Result (Unit {0}) FromHexError) → d ≡ decode_sized digits n
+    → MatchResult d (λ bytes. (r ≡ Ok tt) × (new ≡ bytes)) (λ e. r ≡ Err e) → r ≡ Ok tt → decode_of digits ≡ Ok new
+sized_ok digits new n (Ok bytes) r same is ok =
+    let size = decode_sized-ok digits n bytes (sym same) in
+    sym (decode_sized-twice digits n size) ∙ sym same ∙ ap Ok (sym is.1)
+sized_ok digits new n (Err e) r same is ok = absurd (cc)
+
+-- decoding into half as many octets was refused: the digits decode to none
+pub sized_err : (digits new octets : List ℕ) (n : ℕ) (x : FromHexError) (d : Result (List ℕ) FromHexError) (r : Result (Unit {0}) FromHexError) → d ≡ decode_sized digits n
+    → MatchResult d (λ bytes. (r ≡ Ok tt) × (new ≡ bytes)) (λ e. r ≡ Err e) → r ≡ Err x → n ≡ length digits / 2 → decode_of digits ≡ Ok octets → ⊥
+sized_err digits new octets n x (Ok bytes) r same is err half h = let ok = is.0 in cc
+sized_err digits new octets n x (Err e) r same is err half h =
+    let parts = decode_of-ok digits octets h in
+    let even = parts.0 in
+    let size : length digits ≡ 2 * n = omega (arith, even, half) in
+    let other = same ∙ decode_sized-twice digits n size ∙ h in
+    cc
 
 -- no octet stands behind `-`
 not_digits : (octet : ℕ) (octets digits : List ℕ) → StandsFor (octet ∷ octets) digits → digits ≡ codes "-" → ⊥

@@ -1,4 +1,5 @@
 pub mod Appended
+pub mod Gained
 pub mod Hexadecimal
 pub mod LineLaws
 pub mod Moved

@@ -1,6 +1,9 @@
 -- Steps of the engine.
-use Rattle.std.proofs.Common.{◌≡◌, ◌≢◌, ℕ, ◌<◌, List, [], ◌∷◌, ◌++◌, Bool, false, Option, None, Some, IfSome, refl, sym, ap, ◌∙◌, append_assoc, append-nil, length, subst, ◌+◌, take, drop, get_or, ◌⊎◌, inl, inr}
-use Rattle.std.proofs.lemmas.List.{take-append-drop, take_more}
+use Rattle.std.proofs.Common.{◌≡◌, ◌≢◌, ℕ, ◌<◌, List, [], ◌∷◌, ◌++◌, Bool, false, Option, None, Some, IfSome, refl, sym, ap, ◌∙◌, append_assoc, append-nil, length, subst, ◌+◌, take, drop, ◌⊎◌, inl, inr, ◌-◌, min, arith, length-append}
+use Rattle.std.specs.List.{All}
+use Rattle.std.proofs.lemmas.Bool.{cases_lt}
+use Rattle.std.proofs.lemmas.List.{take-append-drop, take_all, length-take-le}
+use Rattle.std.proofs.lemmas.List.Elements.{All-append, All-drop, All-take, recursion_from_All}
 use Rattle.std.specs.Io.KnownBytes.{Appends, Consumes, IsAtEnd}
 use Rattle.asn1vec_engine.specs.Lines.{lines_of}
 use Rattle.asn1vec_engine.specs.Answer.{IsAnswerLine, BeginsAnswer, AreAnswers, BeginAnswers}
@@ -14,6 +17,9 @@ moves_both {a} {b} {c} {xs} {ys} {zs} p q = record {
   told = appends_both _ _ _ _ _ p.told q.told;
   joins = λ all rest texts h. subst (Answers all (lines_of (xs ++ rest))) (sym (append_assoc p.gained q.gained texts)) (p.joins all rest (q.gained ++ texts) (q.joins all rest texts h));
 }
+
+pub moves_none : (a : Option (List ℕ)) (xs : List ℕ) → Moves a a xs xs
+moves_none a xs = record { gained = []; told = appends_none a; joins = λ all rest texts h. h }
 
 -- more octets after both
 pub moves_more : {a b : Option (List ℕ)} {xs ys : List ℕ} (more : List ℕ) → Moves a b xs ys → Moves a b (xs ++ more) (ys ++ more)
@@ -75,18 +81,72 @@ moves_dropped a line x o n h = record {
   joins = λ all rest texts t. subst (λ l. Answers all (lines_of l) texts) (sym (append_assoc line (x ∷ []) rest)) (long_dropped all x line rest texts o n h t);
 }
 
--- one more octet of a slice
-pub moves_step : {a b c : Option (List ℕ)} {ys zs : List ℕ} (xs octets : List ℕ) (i : ℕ) → i < length octets → Moves a b (xs ++ take i octets) ys → Moves b c (ys ++ get_or octets i 0 ∷ []) zs
-    → Moves a c (xs ++ take (i + 1) octets) zs
-moves_step {a} {b} {c} {ys} {zs} xs octets i h p q =
-    subst (λ l. Moves a c l zs) (append_assoc xs (take i octets) _ ∙ ap (λ l. xs ++ l) (sym (take_more octets i 0 h))) (moves_both (moves_more (get_or octets i 0 ∷ []) p) q)
+-- so were any octets
+pub moves_cut : (a : Option (List ℕ)) (line more : List ℕ) → IsOpen line → IsOpen more → 65536 < length line → Moves a a (line ++ more) line
+moves_cut a line [] o p h = subst (λ l. Moves a a l line) (sym (append-nil line)) (moves_none a line)
+moves_cut a line (x ∷ more) o (n, p) h =
+    subst (λ l. Moves a a l line) (append_assoc line (x ∷ []) more) (moves_both (moves_more more (moves_dropped a line x o n h)) (moves_cut a line more o p h))
 
-pub begins_step : {a b c : Option (List ℕ)} {ys : List ℕ} (xs octets : List ℕ) (i : ℕ) → i < length octets → Moves a b (xs ++ take i octets) ys → Begins b c (ys ++ get_or octets i 0 ∷ [])
-    → Begins a c (xs ++ octets)
-begins_step {a} {b} {c} {ys} xs octets i h p q =
-    subst (Begins a c) (append_assoc xs (take (i + 1) octets) (drop (i + 1) octets) ∙ ap (λ l. xs ++ l) (take-append-drop (i + 1) octets))
-    (begins_more (drop (i + 1) octets)
-    (subst (Begins a c) (append_assoc xs (take i octets) _ ∙ ap (λ l. xs ++ l) (sym (take_more octets i 0 h))) (moves_begins (moves_more (get_or octets i 0 ∷ []) p) q)))
+-- as many octets are kept as make the line too long, or all
+pub moves_kept : (a : Option (List ℕ)) (line octets : List ℕ) (n : ℕ) → All (λ x. x ≢ 10) line → All (λ x. x ≢ 10) octets → n ≡ min (length octets) (65537 - length line)
+    → Moves a a (line ++ octets) (line ++ take n octets)
+moves_kept a line octets n o p e = elim (cases_lt n (length octets)) [
+  | inl cut ↦
+      let kept : length (take n octets) ≡ n = length-take-le n octets (omega (arith, cut)) in
+      let size : 65536 < length (line ++ take n octets) = simp length-append (omega (arith, kept, cut, e)) in
+      let whole : (line ++ take n octets) ++ drop n octets ≡ line ++ octets = append_assoc line (take n octets) (drop n octets) ∙ ap (λ l. line ++ l) (take-append-drop n octets) in
+      let front : IsOpen (line ++ take n octets) = recursion_from_All _ _ (All-append (λ x. x ≢ 10) line (take n octets) o (All-take (λ x. x ≢ 10) n octets p)) in
+      subst (λ l. Moves a a l (line ++ take n octets)) whole (moves_cut a (line ++ take n octets) (drop n octets) front (recursion_from_All _ _ (All-drop (λ x. x ≢ 10) n octets p)) size)
+  | inr all ↦ subst (λ l. Moves a a (line ++ octets) (line ++ l)) (sym (take_all n octets all)) (moves_none a (line ++ octets))
+]
+
+-- the line was empty, and one that octets end was answered
+pub moves_first : {a b : Option (List ℕ)} (line last ended : List ℕ) → length line ≡ 0 → All (λ x. x ≢ 10) last → IsAnswerLine last ended → Appends a b ended → Moves a b ((line ++ last) ++ 10 ∷ []) line
+moves_first [] last ended none o is t = moves_ended last ended (recursion_from_All _ _ o) is t
+moves_first (x ∷ line) last ended none o is t = absurd (omega (arith, none))
+
+pub begins_first : {a b : Option (List ℕ)} (line last front : List ℕ) → length line ≡ 0 → All (λ x. x ≢ 10) last → (front ≡ []) ⊎ BeginsAnswer last front → Appends a b front → Begins a b ((line ++ last) ++ 10 ∷ [])
+begins_first [] last front none o is t = begins_ended last front (recursion_from_All _ _ o) is t
+begins_first (x ∷ line) last front none o is t = absurd (omega (arith, none))
+
+-- no octets were taken yet
+pub moves_start : (a : Option (List ℕ)) (line octets : List ℕ) → (done : List ℕ) × (octets ≡ done ++ octets) × Moves a a (line ++ done) line
+moves_start a line octets = ([], refl, subst (λ l. Moves a a l line) (sym (append-nil line)) (moves_none a line))
+
+pub shorter : (rest last after : List ℕ) → rest ≡ last ++ 10 ∷ after → length after < length rest
+shorter rest last after e = rw e (omega (arith, length-append last (10 ∷ after)))
+
+-- one more line that octets end
+pub moves_line : {a b c : Option (List ℕ)} {kept next : List ℕ} (first octets done rest last after : List ℕ) → octets ≡ done ++ rest → rest ≡ last ++ 10 ∷ after → Moves a b (first ++ done) kept
+    → Moves b c ((kept ++ last) ++ 10 ∷ []) next → (all : List ℕ) × (octets ≡ all ++ after) × Moves a c (first ++ all) next
+moves_line {a} {b} {c} {kept} {next} first octets done rest last after whole split p q =
+    let line = last ++ 10 ∷ [] in
+    let seam : done ++ rest ≡ (done ++ line) ++ after = ap (λ l. done ++ l) (split ∙ sym (append_assoc last (10 ∷ []) after)) ∙ sym (append_assoc done line after) in (
+      done ++ line,
+      whole ∙ seam,
+      subst (λ l. Moves a c l next) (append_assoc first done line)
+          (moves_both (moves_more line p) (subst (λ l. Moves b c l next) (append_assoc kept last (10 ∷ [])) q)),
+    )
+
+-- a beginning of its answer was written
+pub begins_line : {a b c : Option (List ℕ)} {kept : List ℕ} (first octets done rest last after : List ℕ) → octets ≡ done ++ rest → rest ≡ last ++ 10 ∷ after → Moves a b (first ++ done) kept
+    → Begins b c ((kept ++ last) ++ 10 ∷ []) → Begins a c (first ++ octets)
+begins_line {a} {b} {c} {kept} first octets done rest last after whole split p q =
+    let line = last ++ 10 ∷ [] in
+    let seam : done ++ rest ≡ (done ++ line) ++ after = ap (λ l. done ++ l) (split ∙ sym (append_assoc last (10 ∷ []) after)) ∙ sym (append_assoc done line after) in
+    let begun = moves_begins (moves_more line p) (subst (Begins b c) (append_assoc kept last (10 ∷ [])) q) in
+    subst (Begins a c) (append_assoc first (done ++ line) after ∙ ap (λ l. first ++ l) (sym (whole ∙ seam)))
+    (begins_more after (subst (Begins a c) (append_assoc first done line) begun))
+
+-- what follows the last line was kept
+pub moves_rest : {a b : Option (List ℕ)} {kept next : List ℕ} (first octets done rest : List ℕ) → octets ≡ done ++ rest → Moves a b (first ++ done) kept → Moves b b (kept ++ rest) next → Moves a b (first ++ octets) next
+moves_rest {a} {b} {kept} {next} first octets done rest whole p q =
+    subst (λ l. Moves a b l next) (append_assoc first done rest ∙ ap (λ l. first ++ l) (sym whole)) (moves_both (moves_more rest p) q)
+
+-- or could not be kept
+pub begins_rest : {a b : Option (List ℕ)} {kept : List ℕ} (first octets done rest : List ℕ) → octets ≡ done ++ rest → Moves a b (first ++ done) kept → Begins a b (first ++ octets)
+begins_rest {a} {b} {kept} first octets done rest whole p =
+    subst (Begins a b) (append_assoc first done rest ∙ ap (λ l. first ++ l) (sym whole)) (begins_more rest (moves_begins p (begins_none b kept)))
 
 -- the end of input ends a line
 pub last_answers : (line ended : List ℕ) → IsOpen line → (line ≡ [] → ⊥) → IsAnswerLine line ended → AnswersTo line ended

@@ -1,7 +1,6 @@
 -- What is said of encodings, and strict encodings of what is shown.
-use Rattle.std.proofs.Common.{◌≡◌, ℕ, Bool, false, List, length, string_bytes, String, Global, Result, Ok, Err, IfOk, IfErr, subst, refl, arith, ◌<◌, ◌≤◌, ◌+◌, ◌^◌}
+use Rattle.std.proofs.Common.{◌≡◌, ℕ, Bool, false, List, ◌++◌, length, codes, Some, Result, Ok, Err, IfOk, IfErr, subst, refl, ap, arith, ◌<◌, ◌≤◌, ◌+◌, ◌^◌}
 use Rattle.std.specs.Prelude.{ℤ, pos}
-use Rattle.std.specs.declared.alloc.AllocError.{AllocError}
 use Rattle.x690.specs.Identifiers.{Identifier}
 use Rattle.x690.specs.Octets.{IsOctets}
 use Rattle.asn1_rs.specs.declared.asn1_types.any.Any.{Any}
@@ -20,20 +19,18 @@ use Rattle.x690.specs.Laws.UnsignedOctets.{unsigned_octets_content, unsigned_oct
 use Rattle.x690.specs.Integers.{IsIntegerContent, unsigned_octets}
 use Rattle.x690.specs.SignedOctets.{IsSigned, signed_octets}
 use Rattle.x690.specs.Laws.SignedOctets.{signed_octets_content, signed_octets_few}
-use Rattle.asn1vec_engine.specs.Shown.{SaysWriting, SaysWritten, IsWritten, StrictEncoding}
+use Rattle.asn1vec_engine.specs.Shown.{Gains, SaysEncoding, SaysWriting, StrictEncoding}
+use Rattle.asn1vec_engine.proofs.Gained.{gains_both}
 
--- what is said of a writing into a vector is these octets, or why writing them was refused
-pub writing_said : (takes_memory : Bool) (o written : List ℕ) → length written < 2 ^ 64 → (answer : Result ℕ SerializeError) → IfOk answer (λ n. written ≡ o) → IfErr answer (MayRefuse takes_memory (length o))
-    → (r : Result (String Global) AllocError) → IfOk r (λ text. SaysWriting written answer (string_bytes text)) → IfOk r (λ text. SaysWritten (IsWritten takes_memory o) (string_bytes text))
-writing_said takes_memory o written few (Ok n) is may (Ok text) said = (Ok written, (subst (λ (l : List ℕ). length l < 2 ^ 64) is few, is), said)
-writing_said takes_memory o written few (Err e) is may (Ok text) said = (Err e, (may, said.0), said.1)
-writing_said takes_memory o written few answer is may (Err x) said = tt
-
--- where they are the strict encoding of a value
-pub strict_said : {V : Type 0} (Form : V → Identifier → List ℕ → Type 0) (takes_memory : Bool) (v : V) (o : List ℕ) → IsStrict Form v o
-    → (r : Result (String Global) AllocError) → IfOk r (λ text. SaysWritten (IsWritten takes_memory o) (string_bytes text)) → IfOk r (λ text. SaysWritten (StrictEncoding Form takes_memory v) (string_bytes text))
-strict_said Form takes_memory v o strict (Ok text) (written, is, said) = (written, (o, strict, is), said)
-strict_said Form takes_memory v o strict (Err x) h = tt
+-- what is said of the writing of a value's strict encoding into a vector
+pub encoding_said : {V : Type 0} (Form : V → Identifier → List ℕ → Type 0) (takes_memory : Bool) (v : V) (o written : List ℕ) → IsStrict Form v o → length written < 2 ^ 64
+    → (answer : Result ℕ SerializeError) → IfOk answer (λ n. written ≡ o) → IfErr answer (MayRefuse takes_memory (length o))
+    → (a b c : List ℕ) → b ≡ a ++ codes " enc " → Gains b c (SaysWriting written answer) → Gains a c (SaysEncoding (StrictEncoding Form takes_memory v))
+encoding_said Form takes_memory v o written strict few (Ok n) is may a b c e (said, says, more) =
+    let whole : StrictEncoding Form takes_memory v (Some (Ok written)) = (o, strict, (subst (λ (l : List ℕ). length l < 2 ^ 64) is few, is)) in
+    (codes " enc " ++ said, (Some (Ok written), whole, ap (λ l. codes " enc " ++ l) says), gains_both a b c (codes " enc ") said e more)
+encoding_said Form takes_memory v o written strict few (Err e) is may a b c same (said, says, more) =
+    (codes " enc " ++ said, (Some (Err e), (o, strict, (may, says.0)), ap (λ l. codes " enc " ++ l) says.1), gains_both a b c (codes " enc ") said same more)
 
 -- each number that a type holds has a strict encoding, where its contents octets are few
 pub strict_number : (Holds : ℤ → Type 0) (n : ℤ) (octets : List ℕ) → Holds n → IsIntegerContent n octets → length octets < 2 ^ 64 → (o : List ℕ) × IsStrict (IntegerForm Holds) n o

@@ -97,9 +97,13 @@ StrictEncoding Form takes_memory v encoding =
 
 -- ---- what functions on the way say
 
--- the words say what may have been written
-abbrev pub SaysWritten : (Encoding → Type 0) → List ℕ → Type 0
-SaysWritten Encodes text = (written : Result (List ℕ) SerializeError) × Encodes (Some written) × (text ≡ written_text written)
+-- the text grew by what this holds of
+abbrev pub Gains : List ℕ → List ℕ → (List ℕ → Type 0) → Type 0
+Gains old new Is = (gained : List ℕ) × Is gained × (new ≡ old ++ gained)
+
+-- the words say what may be said of an encoding
+abbrev pub SaysEncoding : (Encoding → Type 0) → List ℕ → Type 0
+SaysEncoding Encodes text = (encoding : Encoding) × Encodes encoding × (text ≡ encoding_text encoding)
 
 -- they say what came of a writing that left these octets
 abbrev pub SaysWriting : List ℕ → Result ℕ SerializeError → List ℕ → Type 0

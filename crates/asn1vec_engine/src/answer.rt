@@ -1,13 +1,14 @@
 //! The texts of answers.
-ghost use Rattle.std.specs.Prelude.{◌≡◌, ◌++◌, ◌∷◌, [], ℕ, List, IfOk, string_bytes};
+ghost use Rattle.std.specs.Prelude.{◌≡◌, ℕ, List, OnOk};
 ghost use Rattle.asn1vec_engine.specs.Answer.{IsAnswer, IsAnswerLine, IsRequestAnswer};
 ghost use Rattle.asn1vec_engine.specs.Memory.{AreAlike, TakesNoMemory};
-ghost use Rattle.asn1vec_engine.specs.Shown.{IsReadAnswer};
+ghost use Rattle.asn1vec_engine.specs.Shown.{Gains, IsReadAnswer};
 ghost use Rattle.asn1vec_engine.specs.Meaning.{ReadsByEither};
 ghost use Rattle.asn1vec_engine.specs.Types.{IsTypeAnswer};
 
 use crate::request::{Request, Rule, read_request};
-use crate::shown::{Shown, answer_by_ber, answer_by_der};
+use crate::shown::{Shown, push_by_ber, push_by_der};
+use crate::text::push_str;
 use crate::types::{TypeName, type_named};
 use asn1_rs::{Any, Error, LawfulBer, LawfulDer};
 use std::alloc::{AllocError, Global};
@@ -15,64 +16,86 @@ use std::alloc::{AllocError, Global};
 /// The most octets of a line, without its end.
 pub(crate) const LONGEST_LINE: usize = 65_536;
 
-/// The answer to octets that are read by either rule.
-fn answer_by_either<'a, T>(
+/// Appends the answer to octets that are read by either rule.
+fn push_by_either<'a, T>(
     alloc: Global,
     rule: Rule,
     octets: &'a [u8],
-) -> Result<String, AllocError>
+    buffer: &mut Vec<u8>,
+    text: &mut Vec<u8>,
+) -> Result<(), AllocError>
 where
     T: LawfulBer<'a, Error> + LawfulDer<'a, Error> + Shown + Drop,
-    ensures { IfOk result (λ text.
-        IsReadAnswer (ReadsByEither T.grammar.Ber T.grammar.Der T.grammar.value T.grammar.takes_memory T.ber_gives T.der_gives rule)
-        T.text_of T.Encodes octets.now (string_bytes text)) }
+    ensures { OnOk result (Gains text.old.items text.new.items (IsReadAnswer
+        (ReadsByEither T.grammar.Ber T.grammar.Der T.grammar.value T.grammar.takes_memory T.ber_gives T.der_gives rule)
+        T.text_of T.Encodes octets.now)) }
 {
     match rule {
-        Rule::Ber => answer_by_ber::<T>(alloc, octets),
-        Rule::Der => answer_by_der::<T>(alloc, octets),
+        Rule::Ber => push_by_ber::<T>(alloc, octets, buffer, text),
+        Rule::Der => push_by_der::<T>(alloc, octets, buffer, text),
     }
 }
 
-/// The answer to octets that are read as a value of the type.
-fn answer_type(alloc: Global, rule: Rule, t: TypeName, octets: &[u8]) -> Result<String, AllocError>
-    ensures { IfOk result (λ text. IsTypeAnswer rule t octets.now (string_bytes text)) }
+/// Appends the answer to octets that are read as a value of the type.
+fn push_by_type(
+    alloc: Global,
+    rule: Rule,
+    t: TypeName,
+    octets: &[u8],
+    buffer: &mut Vec<u8>,
+    text: &mut Vec<u8>,
+) -> Result<(), AllocError>
+    ensures { OnOk result
+        (Gains text.old.items text.new.items (IsTypeAnswer rule t octets.now)) }
 {
     match t {
-        TypeName::U8 => answer_by_either::<u8>(alloc, rule, octets),
-        TypeName::U16 => answer_by_either::<u16>(alloc, rule, octets),
-        TypeName::U32 => answer_by_either::<u32>(alloc, rule, octets),
-        TypeName::U64 => answer_by_either::<u64>(alloc, rule, octets),
-        TypeName::U128 => answer_by_either::<u128>(alloc, rule, octets),
-        TypeName::I8 => answer_by_either::<i8>(alloc, rule, octets),
-        TypeName::I16 => answer_by_either::<i16>(alloc, rule, octets),
-        TypeName::I32 => answer_by_either::<i32>(alloc, rule, octets),
-        TypeName::I64 => answer_by_either::<i64>(alloc, rule, octets),
-        TypeName::I128 => answer_by_either::<i128>(alloc, rule, octets),
-        TypeName::Any => answer_by_either::<Any<'_>>(alloc, rule, octets),
+        TypeName::U8 => push_by_either::<u8>(alloc, rule, octets, buffer, text),
+        TypeName::U16 => push_by_either::<u16>(alloc, rule, octets, buffer, text),
+        TypeName::U32 => push_by_either::<u32>(alloc, rule, octets, buffer, text),
+        TypeName::U64 => push_by_either::<u64>(alloc, rule, octets, buffer, text),
+        TypeName::U128 => push_by_either::<u128>(alloc, rule, octets, buffer, text),
+        TypeName::I8 => push_by_either::<i8>(alloc, rule, octets, buffer, text),
+        TypeName::I16 => push_by_either::<i16>(alloc, rule, octets, buffer, text),
+        TypeName::I32 => push_by_either::<i32>(alloc, rule, octets, buffer, text),
+        TypeName::I64 => push_by_either::<i64>(alloc, rule, octets, buffer, text),
+        TypeName::I128 => push_by_either::<i128>(alloc, rule, octets, buffer, text),
+        TypeName::Any => push_by_either::<Any<'_>>(alloc, rule, octets, buffer, text),
     }
 }
 
-/// The answer to a request.
-fn answer_request(alloc: Global, request: &Request) -> Result<String, AllocError>
-    ensures { IfOk result (λ text.
-        IsRequestAnswer request.now.rule request.now.name.now request.now.octets.items (string_bytes text)) }
+/// Appends the answer to a request to read octets.
+fn push_requested(
+    alloc: Global,
+    request: &Request,
+    octets: &[u8],
+    buffer: &mut Vec<u8>,
+    text: &mut Vec<u8>,
+) -> Result<(), AllocError>
+    ensures { OnOk result (Gains text.old.items text.new.items
+        (IsRequestAnswer request.now.rule request.now.name.now octets.now)) }
 {
     match type_named(request.rule, request.name) {
-        Some(t) => answer_type(alloc, request.rule, t, request.octets.as_slice()),
-        None => String::from_str(alloc, "err Type"),
+        Some(t) => push_by_type(alloc, request.rule, t, octets, buffer, text),
+        None => push_str(text, "err Type"),
     }
 }
 
-/// The answer to a line.
-fn answer(alloc: Global, line: &[u8]) -> Result<String, AllocError>
-    ensures { IfOk result (λ text. IsAnswer line.now (string_bytes text)) }
+/// Appends the answer to a line.
+fn push_answer(
+    alloc: Global,
+    line: &[u8],
+    octets: &mut Vec<u8>,
+    buffer: &mut Vec<u8>,
+    text: &mut Vec<u8>,
+) -> Result<(), AllocError>
+    ensures { OnOk result (Gains text.old.items text.new.items (IsAnswer line.now)) }
 {
     if line.len() > LONGEST_LINE {
-        return String::from_str(alloc, "err Line");
+        return push_str(text, "err Line");
     }
-    match read_request(alloc, line)? {
-        Some(request) => answer_request(alloc, &request),
-        None => String::from_str(alloc, "err Line"),
+    match read_request(line, octets)? {
+        Some(request) => push_requested(alloc, &request, octets.as_slice(), buffer, text),
+        None => push_str(text, "err Line"),
     }
 }
 
@@ -86,11 +109,19 @@ pub fn one_answer()
     ensures none { (line : List ℕ) → TakesNoMemory line }
 {}
 
-/// The answer to a line, with its end.
-pub(crate) fn answer_line(alloc: Global, line: &[u8]) -> Result<String, AllocError>
-    ensures { IfOk result (λ ended. IsAnswerLine line.now (string_bytes ended)) }
+/// Makes the text the answer to a line, with its end. The octets that it asks for and the encoding that
+/// is told are written into buffers first.
+pub(crate) fn answer_line(
+    alloc: Global,
+    line: &[u8],
+    octets: &mut Vec<u8>,
+    encoding: &mut Vec<u8>,
+    text: &mut Vec<u8>,
+) -> Result<(), AllocError>
+    ensures { OnOk result (IsAnswerLine line.now text.new.items) }
 {
-    let mut text = answer(alloc, line)?;
-    text.push_str("\n")?;
-    Ok(text)
+    text.clear();
+    push_answer(alloc, line, octets, encoding, text)?;
+    push_str(text, "\n")?;
+    Ok(())
 }

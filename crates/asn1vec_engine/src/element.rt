@@ -5,9 +5,11 @@ ghost use Rattle.asn1_rs.specs.Class.{class_number};
 ghost use Rattle.asn1_rs.specs.Element.{element_of, ElementForm};
 ghost use Rattle.asn1vec_engine.specs.Shown.{StrictEncoding, element_text, letter_of};
 
-use crate::shown::{Shown, hexadecimal, strict_encoding};
+use crate::shown::{Shown, push_encoding};
+use crate::text::push_hexadecimal;
 use asn1_rs::{Any, Class};
 use std::alloc::{AllocError, Global};
+use std::io::Write;
 
 /// The number of a class.
 fn number_of(class: Class) -> u8
@@ -36,19 +38,25 @@ impl Shown for Any<'_> {
 
     /// The number of the class, the letter of the form, the tag number and the contents octets,
     /// joined by points.
-    fn show(&self, alloc: Global) -> Result<String, AllocError> {
+    fn show(&self, text: &mut Vec<u8>) -> Result<(), AllocError> {
         let class = number_of(self.header.class());
         let form = letter(self.header.constructed());
         let number = self.header.tag().0;
-        let content = hexadecimal(alloc, self.content)?;
-        format!(in alloc; "{class}.{form}.{number}.{content}")
+        write!(text, "{class}.{form}.{number}.").map_err(|_| AllocError)?;
+        push_hexadecimal(text, self.content)?;
+        Ok(())
     }
 
-    fn encoding(&self, alloc: Global) -> Result<Option<String>, AllocError> {
+    fn tell_encoding(
+        &self,
+        alloc: Global,
+        buffer: &mut Vec<u8>,
+        text: &mut Vec<u8>,
+    ) -> Result<(), AllocError> {
         // What their types say of the tag number and the contents octets: each element has a strict
         // encoding.
         let _number = self.tag();
         are_octets(self.content);
-        Ok(Some(strict_encoding(alloc, self)?))
+        push_encoding(alloc, self, buffer, text)
     }
 }

@@ -1,5 +1,5 @@
 //! The run over an input: an answer for each line.
-ghost use Rattle.std.specs.Prelude.{◌≡◌, ◌≢◌, ℕ, ◌++◌, ◌∷◌, [], List, All, OnOk, OnErr, IfSome};
+ghost use Rattle.std.specs.Prelude.{◌≡◌, ◌≢◌, ℕ, ◌++◌, ◌∷◌, [], List, Option, All, OnOk, OnErr, IfSome};
 ghost use Rattle.std.specs.Prelude.{◌⊎◌};
 ghost use Rattle.std.specs.Io.KnownBytes.{Appends};
 ghost use Rattle.asn1vec_engine.specs.Answer.{IsAnswerLine, BeginsAnswer};
@@ -9,18 +9,19 @@ ghost use Rattle.asn1vec_engine.specs.Engine.{AnswersTo, BeginsAnswersTo, Moves,
 ghost use Rattle.asn1vec_engine.specs.declared.engine.RunError.TheVariants.{OutOfMemory};
 
 use crate::answer::{LONGEST_LINE, answer_line};
+use crate::request::split_once;
 use asn1_rs::{DerWrite, put_all};
-use std::alloc::{AllocError, AllocFailed, Global};
+use std::alloc::{AllocError, Global};
 use std::io::Read;
 
 /// Why a run ended before its input.
 #[derive(Clone, Copy, Debug, PartialEq, Eq, thiserror::Error)]
 pub enum RunError {
     /// The reader answered an Err, or gave octets 2^64 - 1 times and was not at its end.
-    #[error("input failed")]
+    #[error("the input could not be read")]
     Input,
     /// The writer failed, or was marked before.
-    #[error("output failed")]
+    #[error("the output could not be written")]
     Output,
     /// A buffer of the run could not grow.
     #[error("out of memory")]
@@ -35,16 +36,36 @@ impl From<AllocError> for RunError {
     }
 }
 
-impl<T: Drop> From<AllocFailed<T>> for RunError {
-    ghost from_gives = { λ _ e. e ≡ OutOfMemory };
+/// What a run keeps from line to line, so that an answer takes no new memory once these are as long
+/// as it asks for.
+#[derive(Debug, Drop)]
+struct Buffers {
+    /// The octets that the line asks for.
+    octets: Vec<u8>,
+    /// The encoding that its answer tells.
+    encoding: Vec<u8>,
+    /// Its answer.
+    text: Vec<u8>,
+}
 
-    fn from(_e: AllocFailed<T>) -> RunError {
-        RunError::OutOfMemory
+impl Buffers {
+    /// Buffers with no memory.
+    fn new(alloc: Global) -> Buffers {
+        Buffers {
+            octets: Vec::new(alloc),
+            encoding: Vec::new(alloc),
+            text: Vec::new(alloc),
+        }
     }
 }
 
 /// Writes the answer to a line.
-fn write_answer<W: DerWrite>(alloc: Global, line: &[u8], output: &mut W) -> Result<(), RunError>
+fn write_answer<W: DerWrite>(
+    alloc: Global,
+    line: &[u8],
+    buffers: &mut Buffers,
+    output: &mut W,
+) -> Result<(), RunError>
     ensures ok { OnOk result ((ended : List ℕ)
         × IsAnswerLine line.now ended × Appends (W.told output.old) (W.told output.new) ended) }
     ensures err { OnErr result ((front : List ℕ)
@@ -52,42 +73,64 @@ fn write_answer<W: DerWrite>(alloc: Global, line: &[u8], output: &mut W) -> Resu
         × Appends (W.told output.old) (W.told output.new) front) }
     ensures mark { TellsMark (W.failed output.old) (W.failed output.new) result }
 {
-    let text = answer_line(alloc, line)?;
-    match put_all(output, text.as_bytes()) {
+    let Buffers {
+        octets,
+        encoding,
+        text,
+    } = buffers;
+    answer_line(alloc, line, octets, encoding, text)?;
+    match put_all(output, text.as_slice()) {
         Ok(_) => Ok(()),
         Err(_) => Err(RunError::Output),
     }
 }
 
-/// Takes the next octet: it ends the line, or belongs to it.
-fn take_octet<W: DerWrite>(
-    alloc: Global,
-    line: &mut Vec<u8>,
-    octet: u8,
-    output: &mut W,
-) -> Result<(), RunError>
-    requires { All (λ x. x ≢ 10) line.old.items }
+/// Keeps octets of a line, but for those that follow one more than the longest line has.
+fn keep(line: &mut Vec<u8>, octets: &[u8]) -> Result<(), AllocError>
+    requires open { All (λ x. x ≢ 10) line.old.items }
+    requires octets { All (λ x. x ≢ 10) octets.now }
     ensures open { OnOk result (All (λ x. x ≢ 10) line.new.items) }
-    ensures ok { OnOk result (Moves (W.told output.old) (W.told output.new)
-        (line.old.items ++ octet ∷ []) line.new.items) }
-    ensures err { OnErr result (Begins (W.told output.old) (W.told output.new)
-        (line.old.items ++ octet ∷ [])) }
-    ensures mark { TellsMark (W.failed output.old) (W.failed output.new) result }
+    ensures moves { OnOk result
+        ((told : Option (List ℕ)) → Moves told told (line.old.items ++ octets.now) line.new.items) }
 {
-    if octet == b'\n' {
-        write_answer(alloc, line.as_slice(), output)?;
-        line.clear();
-    } else if line.len() <= LONGEST_LINE {
-        line.push(octet)?;
-    }
+    let room = (LONGEST_LINE + 1).saturating_sub(line.len());
+    let kept = octets.len().min(room);
+    line.extend_from_slice(&octets[..kept])?;
     Ok(())
 }
 
-/// Takes octets in turn.
+/// Answers the line that ends with these octets, of which the ones before are kept.
+fn end_line<W: DerWrite>(
+    alloc: Global,
+    line: &mut Vec<u8>,
+    last: &[u8],
+    buffers: &mut Buffers,
+    output: &mut W,
+) -> Result<(), RunError>
+    requires open { All (λ x. x ≢ 10) line.old.items }
+    requires last { All (λ x. x ≢ 10) last.now }
+    ensures open { OnOk result (All (λ x. x ≢ 10) line.new.items) }
+    ensures ok { OnOk result (Moves (W.told output.old) (W.told output.new)
+        ((line.old.items ++ last.now) ++ 10 ∷ []) line.new.items) }
+    ensures err { OnErr result (Begins (W.told output.old) (W.told output.new)
+        ((line.old.items ++ last.now) ++ 10 ∷ [])) }
+    ensures mark { TellsMark (W.failed output.old) (W.failed output.new) result }
+{
+    if line.is_empty() {
+        return write_answer(alloc, last, buffers, output);
+    }
+    keep(line, last)?;
+    write_answer(alloc, line.as_slice(), buffers, output)?;
+    line.clear();
+    Ok(())
+}
+
+/// Takes octets: each line that they end is answered, and what follows is kept.
 fn take_octets<W: DerWrite>(
     alloc: Global,
     line: &mut Vec<u8>,
     octets: &[u8],
+    buffers: &mut Buffers,
     output: &mut W,
 ) -> Result<(), RunError>
     requires { All (λ x. x ≢ 10) line.old.items }
@@ -98,14 +141,22 @@ fn take_octets<W: DerWrite>(
         (line.old.items ++ octets.now)) }
     ensures mark { TellsMark (W.failed output.old) (W.failed output.new) result }
 {
-    for octet in octets {
-        take_octet(alloc, line, *octet, output)?;
+    let mut rest = octets;
+    'lines: while let Some((last, after)) = split_once(rest, b'\n') {
+        end_line(alloc, line, last, buffers, output)?;
+        rest = after;
     }
+    keep(line, rest)?;
     Ok(())
 }
 
 /// Answers the line that the end of input ends.
-fn finish<W: DerWrite>(alloc: Global, line: &[u8], output: &mut W) -> Result<(), RunError>
+fn finish<W: DerWrite>(
+    alloc: Global,
+    line: &[u8],
+    buffers: &mut Buffers,
+    output: &mut W,
+) -> Result<(), RunError>
     requires { All (λ x. x ≢ 10) line.now }
     ensures ok { OnOk result ((texts : List ℕ)
         × AnswersTo line.now texts × Appends (W.told output.old) (W.told output.new) texts) }
@@ -116,7 +167,7 @@ fn finish<W: DerWrite>(alloc: Global, line: &[u8], output: &mut W) -> Result<(),
     if line.is_empty() {
         return Ok(());
     }
-    write_answer(alloc, line, output)
+    write_answer(alloc, line, buffers, output)
 }
 
 /// Answers each line of the input, in order.
@@ -138,11 +189,12 @@ pub fn run<R: Read, W: DerWrite>(
     ensures mark { TellsMark (W.failed output.old) (W.failed output.new) result }
 {
     let mut line = Vec::new(alloc);
+    let mut buffers = Buffers::new(alloc);
     let mut chunk = [0u8; 4096];
     for _ in 0..u64::MAX {
         match input.read(&mut chunk) {
-            Ok(0) => return finish(alloc, line.as_slice(), output),
-            Ok(n) => take_octets(alloc, &mut line, &chunk[..n], output)?,
+            Ok(0) => return finish(alloc, line.as_slice(), &mut buffers, output),
+            Ok(n) => take_octets(alloc, &mut line, &chunk[..n], &mut buffers, output)?,
             Err(_) => return Err(RunError::Input),
         }
     }

@@ -8,6 +8,7 @@ mod names;
 mod request;
 mod shown;
 mod signed;
+mod text;
 mod types;
 mod unsigned;
 

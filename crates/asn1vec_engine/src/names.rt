@@ -1,19 +1,21 @@
 //! The names of refusals.
-ghost use Rattle.std.specs.Prelude.{◌≡◌, IfOk, string_bytes};
+ghost use Rattle.std.specs.Prelude.{◌≡◌, ◌++◌, OnOk};
 ghost use Rattle.asn1vec_engine.specs.Names.{name_of_needed, name_of_constraint, word_of_error};
 ghost use Rattle.asn1vec_engine.specs.Names.{in_brackets, name_of_error};
 ghost use Rattle.asn1vec_engine.specs.Names.{name_of_refusal, name_of_write_refusal};
 
+use crate::text::push_str;
 use asn1_rs::{DerConstraint, Err as Refusal, Error, Needed, SerializeError};
-use std::alloc::{AllocError, Global};
+use std::alloc::AllocError;
+use std::io::Write;
 
-/// How many octets are missing.
-fn needed_name(alloc: Global, needed: Needed) -> Result<String, AllocError>
-    ensures { IfOk result (λ name. string_bytes name ≡ name_of_needed needed) }
+/// Appends how many octets are missing.
+fn push_needed(text: &mut Vec<u8>, needed: Needed) -> Result<(), AllocError>
+    ensures { OnOk result (text.new.items ≡ text.old.items ++ name_of_needed needed) }
 {
     match needed {
-        Needed::Unknown => String::from_str(alloc, "Unknown"),
-        Needed::Size(n) => format!(in alloc; "{n}"),
+        Needed::Unknown => push_str(text, "Unknown"),
+        Needed::Size(n) => write!(text, "{n}").map_err(|_| AllocError),
     }
 }
 
@@ -35,11 +37,32 @@ fn constraint_name(constraint: DerConstraint) -> &'static str
     }
 }
 
-/// The word before the brackets round a part.
-fn with_part(alloc: Global, word: &str, part: &str) -> Result<String, AllocError>
-    ensures { IfOk result (λ name. string_bytes name ≡ in_brackets word.now part.now) }
+/// Appends a word, and in brackets how many octets are missing.
+fn push_with_needed(text: &mut Vec<u8>, word: &str, needed: Needed) -> Result<(), AllocError>
+    ensures { OnOk result
+        (text.new.items ≡ text.old.items ++ in_brackets word.now (name_of_needed needed)) }
 {
-    format!(in alloc; "{word}({part})")
+    push_str(text, word)?;
+    push_str(text, "(")?;
+    push_needed(text, needed)?;
+    push_str(text, ")")?;
+    Ok(())
+}
+
+/// Appends a word, and in brackets the constraint that was broken.
+fn push_with_constraint(
+    text: &mut Vec<u8>,
+    word: &str,
+    constraint: DerConstraint,
+) -> Result<(), AllocError>
+    ensures { OnOk result
+        (text.new.items ≡ text.old.items ++ in_brackets word.now (name_of_constraint constraint)) }
+{
+    push_str(text, word)?;
+    push_str(text, "(")?;
+    push_str(text, constraint_name(constraint))?;
+    push_str(text, ")")?;
+    Ok(())
 }
 
 /// The name of an error whose parts are not told.
@@ -71,48 +94,42 @@ fn error_word(error: &Error) -> &'static str
     }
 }
 
-/// The name of an error, with the constraint that was broken or the number of octets that are
+/// Appends the name of an error, with the constraint that was broken or the number of octets that are
 /// missing.
-fn error_name(alloc: Global, error: &Error) -> Result<String, AllocError>
-    ensures { IfOk result (λ name. string_bytes name ≡ name_of_error error.now) }
+fn push_error(text: &mut Vec<u8>, error: &Error) -> Result<(), AllocError>
+    ensures { OnOk result (text.new.items ≡ text.old.items ++ name_of_error error.now) }
 {
     let word = error_word(error);
     match error {
-        Error::DerConstraintFailed(constraint) => {
-            with_part(alloc, word, constraint_name(*constraint))
-        }
-        Error::Incomplete(needed) => {
-            with_part(alloc, word, needed_name(alloc, *needed)?.as_str())
-        }
-        _ => String::from_str(alloc, word),
+        Error::DerConstraintFailed(constraint) => push_with_constraint(text, word, *constraint),
+        Error::Incomplete(needed) => push_with_needed(text, word, *needed),
+        _ => push_str(text, word),
     }
 }
 
-/// The name of a reader's refusal.
-pub(crate) fn refusal_name(alloc: Global, refusal: &Refusal<Error>) -> Result<String, AllocError>
-    ensures { IfOk result (λ name. string_bytes name ≡ name_of_refusal refusal.now) }
+/// Appends the name of a reader's refusal.
+pub(crate) fn push_refusal(text: &mut Vec<u8>, refusal: &Refusal<Error>) -> Result<(), AllocError>
+    ensures { OnOk result (text.new.items ≡ text.old.items ++ name_of_refusal refusal.now) }
 {
     match refusal {
-        Refusal::Incomplete(needed) => {
-            with_part(alloc, "Incomplete", needed_name(alloc, *needed)?.as_str())
-        }
-        Refusal::Error(error) => error_name(alloc, error),
-        Refusal::Failure(error) => error_name(alloc, error),
+        Refusal::Incomplete(needed) => push_with_needed(text, "Incomplete", *needed),
+        Refusal::Error(error) => push_error(text, error),
+        Refusal::Failure(error) => push_error(text, error),
     }
 }
 
-/// The name of a writer's refusal.
-pub(crate) fn write_refusal_name(
-    alloc: Global,
+/// Appends the name of a writer's refusal.
+pub(crate) fn push_write_refusal(
+    text: &mut Vec<u8>,
     refusal: &SerializeError,
-) -> Result<String, AllocError>
-    ensures { IfOk result (λ name. string_bytes name ≡ name_of_write_refusal refusal.now) }
+) -> Result<(), AllocError>
+    ensures { OnOk result (text.new.items ≡ text.old.items ++ name_of_write_refusal refusal.now) }
 {
     match refusal {
-        SerializeError::ASN1Error(error) => error_name(alloc, error),
-        SerializeError::InvalidClass { .. } => String::from_str(alloc, "InvalidClass"),
-        SerializeError::InvalidLength => String::from_str(alloc, "InvalidLength"),
-        SerializeError::IOError(_) => String::from_str(alloc, "IOError"),
-        SerializeError::OutOfMemory => String::from_str(alloc, "OutOfMemory"),
+        SerializeError::ASN1Error(error) => push_error(text, error),
+        SerializeError::InvalidClass { .. } => push_str(text, "InvalidClass"),
+        SerializeError::InvalidLength => push_str(text, "InvalidLength"),
+        SerializeError::IOError(_) => push_str(text, "IOError"),
+        SerializeError::OutOfMemory => push_str(text, "OutOfMemory"),
     }
 }

@@ -1,11 +1,11 @@
 //! The form of a line: a rule, the name of a type, and octets in hexadecimal.
 ghost use Rattle.std.specs.Prelude.{◌≡◌, ◌≢◌, ◌++◌, ◌∷◌, ℕ, List, All, IfOk, MatchOption};
+ghost use Rattle.std.specs.Prelude.{IsTrue, false};
 ghost use Rattle.asn1vec_engine.specs.declared.request.Rule.{Rule};
 ghost use Rattle.asn1vec_engine.specs.Request.{IsRequest, IsOtherForm, StandsFor};
 ghost use Rattle.asn1vec_engine.specs.Request.{BeginsWithRule, IsOtherRule};
 
-use hex::FromHexError;
-use std::alloc::{AllocError, Global};
+use std::alloc::AllocError;
 
 /// By which rules octets are read.
 #[derive(Clone, Copy, Debug, PartialEq, Eq)]
@@ -16,15 +16,13 @@ pub enum Rule {
     Der,
 }
 
-/// What a line asks for.
-#[derive(Debug, Drop)]
-pub struct Request<'a> {
+/// What a line asks for, but for the octets that are read.
+#[derive(Clone, Copy, Debug)]
+pub(crate) struct Request<'a> {
     /// By which rules the octets are read.
     pub rule: Rule,
     /// The name of the type that is read.
     pub name: &'a [u8],
-    /// What is read.
-    pub octets: Vec<u8>,
 }
 
 /// The rule that begins a line, and what follows its space.
@@ -39,54 +37,60 @@ fn rule_of(line: &[u8]) -> Option<(Rule, &[u8])>
     Some((Rule::Der, rest))
 }
 
-/// What stands before the first space, and what follows it.
-fn split_at_space(octets: &[u8]) -> Option<(&[u8], &[u8])>
-    ensures { MatchOption result (All (λ x. x ≢ 32) octets.now) (λ parts.
-        (octets.now ≡ parts.0.now ++ 32 ∷ parts.1.now) × All (λ x. x ≢ 32) parts.0.now) }
+/// What stands before the first of the marks, and what follows it.
+pub(crate) fn split_once(octets: &[u8], mark: u8) -> Option<(&[u8], &[u8])>
+    ensures { MatchOption result (All (λ x. x ≢ mark) octets.now) (λ parts.
+        (octets.now ≡ parts.0.now ++ mark ∷ parts.1.now) × All (λ x. x ≢ mark) parts.0.now) }
 {
-    let place = octets.iter().position(|octet| *octet == b' ')?;
+    let place = octets.iter().position(|octet| *octet == mark)?;
     Some((&octets[..place], &octets[place + 1..]))
 }
 
-/// The octets for which the digits stand.
-fn octets_of(alloc: Global, digits: &[u8]) -> Result<Option<Vec<u8>>, AllocError>
-    ensures { IfOk result (λ found. MatchOption found
-        ((octets : List ℕ) → ¬ StandsFor octets digits.now)
-        (λ octets. StandsFor octets.items digits.now)) }
+/// Puts the octets for which the digits stand in place of those there, and answers whether there are
+/// such octets.
+fn read_digits(digits: &[u8], octets: &mut Vec<u8>) -> Result<bool, AllocError>
+    ensures found { IfOk result (λ found.
+        IsTrue found → StandsFor octets.new.items digits.now) }
+    ensures none { IfOk result (λ found.
+        found ≡ false → (octets : List ℕ) → ¬ StandsFor octets digits.now) }
 {
+    octets.clear();
     if digits == b"-".as_slice() {
-        return Ok(Some(Vec::new(alloc)));
+        return Ok(true);
     }
     if digits.is_empty() {
-        return Ok(None);
+        return Ok(false);
     }
-    match hex::decode(alloc, digits) {
-        Ok(octets) => Ok(Some(octets)),
-        Err(e) => match e {
-            FromHexError::OutOfMemory => Err(AllocError),
-            _ => Ok(None),
-        },
+    octets.resize(digits.len() / 2, 0)?;
+    match hex::decode_to_slice(digits, octets.as_mut_slice()) {
+        Ok(()) => Ok(true),
+        Err(_) => Ok(false),
     }
 }
 
-/// What the line asks for, or `None` where it has another form.
-pub(crate) fn read_request(alloc: Global, line: &[u8]) -> Result<Option<Request>, AllocError>
+/// What the line asks for, with the octets in place of those there, or `None` where it has another
+/// form.
+pub(crate) fn read_request<'a>(
+    line: &'a [u8],
+    octets: &mut Vec<u8>,
+) -> Result<Option<Request<'a>>, AllocError>
     ensures { IfOk result (λ found. MatchOption found (IsOtherForm line.now) (λ request.
-        IsRequest line.now request.rule request.name.now request.octets.items)) }
+        IsRequest line.now request.rule request.name.now octets.new.items)) }
 {
     let Some((rule, rest)) = rule_of(line) else {
         return Ok(None);
     };
-    let Some((name, digits)) = split_at_space(rest) else {
+    let Some((name, digits)) = split_once(rest, b' ') else {
         return Ok(None);
     };
     if name.is_empty() {
         return Ok(None);
     }
-    let Some(octets) = octets_of(alloc, digits)? else {
+    let found = read_digits(digits, octets)?;
+    if !found {
         return Ok(None);
-    };
-    Ok(Some(Request { rule, name, octets }))
+    }
+    Ok(Some(Request { rule, name }))
 }
 
 /// A line asks for one thing.

@@ -1,20 +1,20 @@
 //! How a reading is answered: the value, what follows it and its encoding, or the refusal.
-ghost use Rattle.std.specs.Prelude.{◌≡◌, ◌++◌, ◌||◌, ℕ, List, Result, Ok, None, IfOk, MatchOption};
-ghost use Rattle.std.specs.Prelude.{codes, string_bytes};
+ghost use Rattle.std.specs.Prelude.{◌≡◌, ◌++◌, ◌||◌, ℕ, List, Result, Ok, OnOk};
 ghost use Rattle.asn1_rs.specs.Answers.{seen};
 ghost use Rattle.asn1_rs.specs.Form.{IsStrict};
 ghost use Rattle.asn1_rs.specs.Wrote.{some_takes, tells_of_io};
-ghost use Rattle.asn1vec_engine.specs.Names.{name_of_refusal, name_of_write_refusal};
-ghost use Rattle.asn1vec_engine.specs.Shown.{in_hexadecimal, Encoding, Says, IsReadAnswer};
+ghost use Rattle.asn1vec_engine.specs.Shown.{Encoding, Gains, Says, IsReadAnswer};
 ghost use Rattle.asn1vec_engine.specs.Shown.{ReadsByBer, ReadsByDer, StrictEncoding};
-ghost use Rattle.asn1vec_engine.specs.Shown.{SaysWritten, SaysWriting};
+ghost use Rattle.asn1vec_engine.specs.Shown.{SaysEncoding, SaysWriting};
 
-use crate::names::{refusal_name, write_refusal_name};
+use crate::names::{push_refusal, push_write_refusal};
+use crate::text::{push_hexadecimal, push_str};
 use asn1_rs::{
     Error, LawfulBer, LawfulDer, LawfulWrite, ParseResult, SerializeError, SerializeResult, Told,
     read_ber, read_der, write_strict,
 };
 use std::alloc::{AllocError, Global};
+use std::mem;
 
 /// A type whose values are shown in answers.
 pub(crate) trait Shown {
@@ -24,32 +24,20 @@ pub(crate) trait Shown {
     /// What may be said of the encoding of a value.
     ghost Encodes: { Self → Encoding → Type 0 };
 
-    /// The text of the value.
-    fn show(&self, alloc: Global) -> Result<String, AllocError>
-        ensures { IfOk result (λ text. string_bytes text ≡ text_of self.now) };
+    /// Appends the text of the value.
+    fn show(&self, text: &mut Vec<u8>) -> Result<(), AllocError>
+        ensures { OnOk result (text.new.items ≡ text.old.items ++ text_of self.now) };
 
-    /// The encoding of the value in digits, or why writing it was refused; `None` where its type has
-    /// no writer.
-    fn encoding(&self, alloc: Global) -> Result<Option<String>, AllocError>
-        ensures { IfOk result (λ said. MatchOption said (Encodes self.now None)
-            (λ text. SaysWritten (Encodes self.now) (string_bytes text))) };
-}
-
-/// Octets in hexadecimal digits of lower case, `-` for none.
-pub(crate) fn hexadecimal(alloc: Global, octets: &[u8]) -> Result<String, AllocError>
-    ensures { IfOk result (λ text. string_bytes text ≡ in_hexadecimal octets.now) }
-{
-    if octets.is_empty() {
-        return String::from_str(alloc, "-");
-    }
-    hex::encode(alloc, octets)
-}
-
-/// `err`, a space and a name.
-fn err_text(alloc: Global, name: &str) -> Result<String, AllocError>
-    ensures { IfOk result (λ text. string_bytes text ≡ codes "err " ++ name.now) }
-{
-    format!(in alloc; "err {name}")
+    /// Appends what is said of the encoding of the value, which is written into a buffer first;
+    /// nothing where its type has no writer.
+    fn tell_encoding(
+        &self,
+        alloc: Global,
+        buffer: &mut Vec<u8>,
+        text: &mut Vec<u8>,
+    ) -> Result<(), AllocError>
+        ensures { OnOk result
+            (Gains text.old.items text.new.items (SaysEncoding (Encodes self.now))) };
 }
 
 /// Whether the refusal tells of a writer that failed.
@@ -59,104 +47,115 @@ fn is_io(refusal: &SerializeError) -> bool
     matches!(refusal, SerializeError::IOError(_))
 }
 
-/// What a writing left in a vector, in digits, or why it was refused. Where the vector could not
-/// grow there is nothing to say.
-fn writing_text(
-    alloc: Global,
+/// Appends what a writing left in a vector, in digits, or why it was refused. Where the vector could
+/// not grow there is nothing to say.
+fn push_writing(
+    text: &mut Vec<u8>,
     octets: &[u8],
     answer: SerializeResult<usize>,
-) -> Result<String, AllocError>
-    ensures { IfOk result (λ text. SaysWriting octets.now answer (string_bytes text)) }
+) -> Result<(), AllocError>
+    ensures { OnOk result (Gains text.old.items text.new.items (SaysWriting octets.now answer)) }
 {
     match answer {
-        Ok(_) => hexadecimal(alloc, octets),
+        Ok(_) => push_hexadecimal(text, octets),
         Err(e) => {
             if is_io(&e) {
                 return Err(AllocError);
             }
-            err_text(alloc, write_refusal_name(alloc, &e)?.as_str())
+            push_str(text, "err ")?;
+            push_write_refusal(text, &e)?;
+            Ok(())
         }
     }
 }
 
-/// The strict encoding of a value in digits, or why writing it was refused.
-pub(crate) fn strict_encoding<T: LawfulWrite>(alloc: Global, x: &T) -> Result<String, AllocError>
-    requires { (o : List ℕ) × IsStrict T.grammar.Form (T.grammar.value x.now) o }
-    ensures { IfOk result (λ text. SaysWritten
-        (StrictEncoding T.grammar.Form (some_takes T.write_takes_memory T.count_takes_memory T.content_takes_memory) (T.grammar.value x.now))
-        (string_bytes text)) }
-{
-    let mut buffer = Told::new(Vec::new(alloc));
-    let answer = write_strict(x, alloc, &mut buffer);
-    writing_text(alloc, buffer.as_inner().as_slice(), answer)
-}
-
-/// The answer that shows a value and what follows it.
-fn plain_text(alloc: Global, value: &str, rest: &str) -> Result<String, AllocError>
-    ensures { IfOk result (λ text.
-        string_bytes text ≡ codes "ok " ++ (value.now ++ (codes " rest " ++ rest.now))) }
-{
-    format!(in alloc; "ok {value} rest {rest}")
-}
-
-/// The answer that shows a value, what follows it, and what is said of its encoding.
-fn encoded_text(
+/// Appends the strict encoding of a value in digits, or why writing it was refused.
+pub(crate) fn push_encoding<T: LawfulWrite>(
     alloc: Global,
-    value: &str,
-    rest: &str,
-    encoding: &str,
-) -> Result<String, AllocError>
-    ensures { IfOk result (λ text. string_bytes text ≡ codes "ok " ++ (value.now
-        ++ (codes " rest " ++ (rest.now ++ (codes " enc " ++ encoding.now))))) }
+    x: &T,
+    buffer: &mut Vec<u8>,
+    text: &mut Vec<u8>,
+) -> Result<(), AllocError>
+    requires { (o : List ℕ) × IsStrict T.grammar.Form (T.grammar.value x.now) o }
+    ensures { OnOk result (Gains text.old.items text.new.items (SaysEncoding
+        (StrictEncoding T.grammar.Form (some_takes T.write_takes_memory T.count_takes_memory T.content_takes_memory) (T.grammar.value x.now)))) }
 {
-    format!(in alloc; "ok {value} rest {rest} enc {encoding}")
+    buffer.clear();
+    let mut output = Told::new(mem::replace(buffer, Vec::new(alloc)));
+    let answer = write_strict(x, alloc, &mut output);
+    *buffer = output.into_inner();
+    push_str(text, " enc ")?;
+    push_writing(text, buffer.as_slice(), answer)?;
+    Ok(())
 }
 
-/// The answer that shows a value that was read.
-fn value_text<T: Shown>(alloc: Global, x: &T, rest: &[u8]) -> Result<String, AllocError>
-    ensures { IfOk result (λ text.
-        Says T.text_of T.Encodes (Ok (rest.now, x.now)) (string_bytes text)) }
+/// Appends the answer that shows a value that was read.
+fn push_value<T: Shown>(
+    alloc: Global,
+    x: &T,
+    rest: &[u8],
+    buffer: &mut Vec<u8>,
+    text: &mut Vec<u8>,
+) -> Result<(), AllocError>
+    ensures { OnOk result (Gains text.old.items text.new.items
+        (Says T.text_of T.Encodes (Ok (rest.now, x.now)))) }
 {
-    let value = x.show(alloc)?;
-    let rest = hexadecimal(alloc, rest)?;
-    match x.encoding(alloc)? {
-        Some(encoding) => encoded_text(alloc, value.as_str(), rest.as_str(), encoding.as_str()),
-        None => plain_text(alloc, value.as_str(), rest.as_str()),
-    }
+    push_str(text, "ok ")?;
+    x.show(text)?;
+    push_str(text, " rest ")?;
+    push_hexadecimal(text, rest)?;
+    x.tell_encoding(alloc, buffer, text)?;
+    Ok(())
 }
 
-/// What a reader answered, in words.
-fn reading_text<'a, T: Shown + Drop>(
+/// Appends what a reader answered, in words.
+fn push_reading<'a, T: Shown + Drop>(
     alloc: Global,
     answer: ParseResult<'a, T, Error>,
-) -> Result<String, AllocError>
-    ensures { IfOk result (λ text.
-        Says T.text_of T.Encodes (seen answer.entry) (string_bytes text)) }
+    buffer: &mut Vec<u8>,
+    text: &mut Vec<u8>,
+) -> Result<(), AllocError>
+    ensures { OnOk result (Gains text.old.items text.new.items
+        (Says T.text_of T.Encodes (seen answer.entry))) }
 {
     match answer {
-        Ok((rest, x)) => value_text(alloc, &x, rest),
-        Err(refusal) => err_text(alloc, refusal_name(alloc, &refusal)?.as_str()),
+        Ok((rest, x)) => push_value(alloc, &x, rest, buffer, text),
+        Err(refusal) => {
+            push_str(text, "err ")?;
+            push_refusal(text, &refusal)?;
+            Ok(())
+        }
     }
 }
 
-/// The answer to octets that are read by BER.
-pub(crate) fn answer_by_ber<'a, T>(alloc: Global, octets: &'a [u8]) -> Result<String, AllocError>
+/// Appends the answer to octets that are read by BER.
+pub(crate) fn push_by_ber<'a, T>(
+    alloc: Global,
+    octets: &'a [u8],
+    buffer: &mut Vec<u8>,
+    text: &mut Vec<u8>,
+) -> Result<(), AllocError>
 where
     T: LawfulBer<'a, Error> + Shown + Drop,
-    ensures { IfOk result (λ text.
-        IsReadAnswer (ReadsByBer T.grammar.Ber T.grammar.value T.grammar.takes_memory T.ber_gives)
-        T.text_of T.Encodes octets.now (string_bytes text)) }
+    ensures { OnOk result (Gains text.old.items text.new.items (IsReadAnswer
+        (ReadsByBer T.grammar.Ber T.grammar.value T.grammar.takes_memory T.ber_gives)
+        T.text_of T.Encodes octets.now)) }
 {
-    reading_text(alloc, read_ber::<T, Error>(alloc, octets))
+    push_reading(alloc, read_ber::<T, Error>(alloc, octets), buffer, text)
 }
 
-/// The answer to octets that are read by DER.
-pub(crate) fn answer_by_der<'a, T>(alloc: Global, octets: &'a [u8]) -> Result<String, AllocError>
+/// Appends the answer to octets that are read by DER.
+pub(crate) fn push_by_der<'a, T>(
+    alloc: Global,
+    octets: &'a [u8],
+    buffer: &mut Vec<u8>,
+    text: &mut Vec<u8>,
+) -> Result<(), AllocError>
 where
     T: LawfulDer<'a, Error> + Shown + Drop,
-    ensures { IfOk result (λ text.
-        IsReadAnswer (ReadsByDer T.grammar.Der T.grammar.value T.grammar.takes_memory T.der_gives)
-        T.text_of T.Encodes octets.now (string_bytes text)) }
+    ensures { OnOk result (Gains text.old.items text.new.items (IsReadAnswer
+        (ReadsByDer T.grammar.Der T.grammar.value T.grammar.takes_memory T.der_gives)
+        T.text_of T.Encodes octets.now)) }
 {
-    reading_text(alloc, read_der::<T, Error>(alloc, octets))
+    push_reading(alloc, read_der::<T, Error>(alloc, octets), buffer, text)
 }

@@ -5,21 +5,27 @@ ghost use Rattle.x690.specs.SignedOctets.{IsSigned};
 ghost use Rattle.asn1_rs.specs.Integer.{IntegerForm};
 ghost use Rattle.asn1vec_engine.specs.Shown.{StrictEncoding};
 
-use crate::shown::{Shown, strict_encoding};
+use crate::shown::{Shown, push_encoding};
 use std::alloc::{AllocError, Global};
+use std::io::Write;
 
 impl Shown for i8 {
     ghost text_of = { signed_decimal };
 
     ghost Encodes = { StrictEncoding (IntegerForm (IsSigned 1)) false };
 
-    fn show(&self, alloc: Global) -> Result<String, AllocError> {
-        format!(in alloc; "{self}")
+    fn show(&self, text: &mut Vec<u8>) -> Result<(), AllocError> {
+        write!(text, "{self}").map_err(|_| AllocError)
     }
 
-    fn encoding(&self, alloc: Global) -> Result<Option<String>, AllocError> {
+    fn tell_encoding(
+        &self,
+        alloc: Global,
+        buffer: &mut Vec<u8>,
+        text: &mut Vec<u8>,
+    ) -> Result<(), AllocError> {
         let value = *self;
-        Ok(Some(strict_encoding(alloc, &value)?))
+        push_encoding(alloc, &value, buffer, text)
     }
 }
 
@@ -28,13 +34,18 @@ impl Shown for i16 {
 
     ghost Encodes = { StrictEncoding (IntegerForm (IsSigned 2)) false };
 
-    fn show(&self, alloc: Global) -> Result<String, AllocError> {
-        format!(in alloc; "{self}")
+    fn show(&self, text: &mut Vec<u8>) -> Result<(), AllocError> {
+        write!(text, "{self}").map_err(|_| AllocError)
     }
 
-    fn encoding(&self, alloc: Global) -> Result<Option<String>, AllocError> {
+    fn tell_encoding(
+        &self,
+        alloc: Global,
+        buffer: &mut Vec<u8>,
+        text: &mut Vec<u8>,
+    ) -> Result<(), AllocError> {
         let value = *self;
-        Ok(Some(strict_encoding(alloc, &value)?))
+        push_encoding(alloc, &value, buffer, text)
     }
 }
 
@@ -43,13 +54,18 @@ impl Shown for i32 {
 
     ghost Encodes = { StrictEncoding (IntegerForm (IsSigned 4)) false };
 
-    fn show(&self, alloc: Global) -> Result<String, AllocError> {
-        format!(in alloc; "{self}")
+    fn show(&self, text: &mut Vec<u8>) -> Result<(), AllocError> {
+        write!(text, "{self}").map_err(|_| AllocError)
     }
 
-    fn encoding(&self, alloc: Global) -> Result<Option<String>, AllocError> {
+    fn tell_encoding(
+        &self,
+        alloc: Global,
+        buffer: &mut Vec<u8>,
+        text: &mut Vec<u8>,
+    ) -> Result<(), AllocError> {
         let value = *self;
-        Ok(Some(strict_encoding(alloc, &value)?))
+        push_encoding(alloc, &value, buffer, text)
     }
 }
 
@@ -58,13 +74,18 @@ impl Shown for i64 {
 
     ghost Encodes = { StrictEncoding (IntegerForm (IsSigned 8)) false };
 
-    fn show(&self, alloc: Global) -> Result<String, AllocError> {
-        format!(in alloc; "{self}")
+    fn show(&self, text: &mut Vec<u8>) -> Result<(), AllocError> {
+        write!(text, "{self}").map_err(|_| AllocError)
     }
 
-    fn encoding(&self, alloc: Global) -> Result<Option<String>, AllocError> {
+    fn tell_encoding(
+        &self,
+        alloc: Global,
+        buffer: &mut Vec<u8>,
+        text: &mut Vec<u8>,
+    ) -> Result<(), AllocError> {
         let value = *self;
-        Ok(Some(strict_encoding(alloc, &value)?))
+        push_encoding(alloc, &value, buffer, text)
     }
 }
 
@@ -73,12 +94,17 @@ impl Shown for i128 {
 
     ghost Encodes = { StrictEncoding (IntegerForm (IsSigned 16)) false };
 
-    fn show(&self, alloc: Global) -> Result<String, AllocError> {
-        format!(in alloc; "{self}")
+    fn show(&self, text: &mut Vec<u8>) -> Result<(), AllocError> {
+        write!(text, "{self}").map_err(|_| AllocError)
     }
 
-    fn encoding(&self, alloc: Global) -> Result<Option<String>, AllocError> {
+    fn tell_encoding(
+        &self,
+        alloc: Global,
+        buffer: &mut Vec<u8>,
+        text: &mut Vec<u8>,
+    ) -> Result<(), AllocError> {
         let value = *self;
-        Ok(Some(strict_encoding(alloc, &value)?))
+        push_encoding(alloc, &value, buffer, text)
     }
 }

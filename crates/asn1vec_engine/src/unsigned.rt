@@ -3,21 +3,27 @@ ghost use Rattle.std.specs.Prelude.{decimal, pos, false};
 ghost use Rattle.asn1_rs.specs.Integer.{IntegerForm, IsUnsigned};
 ghost use Rattle.asn1vec_engine.specs.Shown.{StrictEncoding};
 
-use crate::shown::{Shown, strict_encoding};
+use crate::shown::{Shown, push_encoding};
 use std::alloc::{AllocError, Global};
+use std::io::Write;
 
 impl Shown for u8 {
     ghost text_of = { decimal };
 
     ghost Encodes = { λ x. StrictEncoding (IntegerForm (IsUnsigned 1)) false (pos x) };
 
-    fn show(&self, alloc: Global) -> Result<String, AllocError> {
-        format!(in alloc; "{self}")
+    fn show(&self, text: &mut Vec<u8>) -> Result<(), AllocError> {
+        write!(text, "{self}").map_err(|_| AllocError)
     }
 
-    fn encoding(&self, alloc: Global) -> Result<Option<String>, AllocError> {
+    fn tell_encoding(
+        &self,
+        alloc: Global,
+        buffer: &mut Vec<u8>,
+        text: &mut Vec<u8>,
+    ) -> Result<(), AllocError> {
         let value = *self;
-        Ok(Some(strict_encoding(alloc, &value)?))
+        push_encoding(alloc, &value, buffer, text)
     }
 }
 
@@ -26,13 +32,18 @@ impl Shown for u16 {
 
     ghost Encodes = { λ x. StrictEncoding (IntegerForm (IsUnsigned 2)) false (pos x) };
 
-    fn show(&self, alloc: Global) -> Result<String, AllocError> {
-        format!(in alloc; "{self}")
+    fn show(&self, text: &mut Vec<u8>) -> Result<(), AllocError> {
+        write!(text, "{self}").map_err(|_| AllocError)
     }
 
-    fn encoding(&self, alloc: Global) -> Result<Option<String>, AllocError> {
+    fn tell_encoding(
+        &self,
+        alloc: Global,
+        buffer: &mut Vec<u8>,
+        text: &mut Vec<u8>,
+    ) -> Result<(), AllocError> {
         let value = *self;
-        Ok(Some(strict_encoding(alloc, &value)?))
+        push_encoding(alloc, &value, buffer, text)
     }
 }
 
@@ -41,13 +52,18 @@ impl Shown for u32 {
 
     ghost Encodes = { λ x. StrictEncoding (IntegerForm (IsUnsigned 4)) false (pos x) };
 
-    fn show(&self, alloc: Global) -> Result<String, AllocError> {
-        format!(in alloc; "{self}")
+    fn show(&self, text: &mut Vec<u8>) -> Result<(), AllocError> {
+        write!(text, "{self}").map_err(|_| AllocError)
     }
 
-    fn encoding(&self, alloc: Global) -> Result<Option<String>, AllocError> {
+    fn tell_encoding(
+        &self,
+        alloc: Global,
+        buffer: &mut Vec<u8>,
+        text: &mut Vec<u8>,
+    ) -> Result<(), AllocError> {
         let value = *self;
-        Ok(Some(strict_encoding(alloc, &value)?))
+        push_encoding(alloc, &value, buffer, text)
     }
 }
 
@@ -56,13 +72,18 @@ impl Shown for u64 {
 
     ghost Encodes = { λ x. StrictEncoding (IntegerForm (IsUnsigned 8)) false (pos x) };
 
-    fn show(&self, alloc: Global) -> Result<String, AllocError> {
-        format!(in alloc; "{self}")
+    fn show(&self, text: &mut Vec<u8>) -> Result<(), AllocError> {
+        write!(text, "{self}").map_err(|_| AllocError)
     }
 
-    fn encoding(&self, alloc: Global) -> Result<Option<String>, AllocError> {
+    fn tell_encoding(
+        &self,
+        alloc: Global,
+        buffer: &mut Vec<u8>,
+        text: &mut Vec<u8>,
+    ) -> Result<(), AllocError> {
         let value = *self;
-        Ok(Some(strict_encoding(alloc, &value)?))
+        push_encoding(alloc, &value, buffer, text)
     }
 }
 
@@ -71,12 +92,17 @@ impl Shown for u128 {
 
     ghost Encodes = { λ x. StrictEncoding (IntegerForm (IsUnsigned 16)) false (pos x) };
 
-    fn show(&self, alloc: Global) -> Result<String, AllocError> {
-        format!(in alloc; "{self}")
+    fn show(&self, text: &mut Vec<u8>) -> Result<(), AllocError> {
+        write!(text, "{self}").map_err(|_| AllocError)
     }
 
-    fn encoding(&self, alloc: Global) -> Result<Option<String>, AllocError> {
+    fn tell_encoding(
+        &self,
+        alloc: Global,
+        buffer: &mut Vec<u8>,
+        text: &mut Vec<u8>,
+    ) -> Result<(), AllocError> {
         let value = *self;
-        Ok(Some(strict_encoding(alloc, &value)?))
+        push_encoding(alloc, &value, buffer, text)
     }
 }

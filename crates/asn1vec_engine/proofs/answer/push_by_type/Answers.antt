@@ -1,0 +1,34 @@
+use Rattle.asn1vec_engine.proofs.answer.push_by_type.Goals as goal
+
+pub returns-in-U8 : goal.returns-in-U8
+returns-in-U8 c = rw c.in-U8.is c.push_by_either.ensures
+
+pub returns-in-U16 : goal.returns-in-U16
+returns-in-U16 c = rw c.in-U16.is c.push_by_either-in-U16.ensures
+
+pub returns-in-U32 : goal.returns-in-U32
+returns-in-U32 c = rw c.in-U32.is c.push_by_either-in-U32.ensures
+
+pub returns-in-U64 : goal.returns-in-U64
+returns-in-U64 c = rw c.in-U64.is c.push_by_either-in-U64.ensures
+
+pub returns-in-U128 : goal.returns-in-U128
+returns-in-U128 c = rw c.in-U128.is c.push_by_either-in-U128.ensures
+
+pub returns-in-I8 : goal.returns-in-I8
+returns-in-I8 c = rw c.in-I8.is c.push_by_either-in-I8.ensures
+
+pub returns-in-I16 : goal.returns-in-I16
+returns-in-I16 c = rw c.in-I16.is c.push_by_either-in-I16.ensures
+
+pub returns-in-I32 : goal.returns-in-I32
+returns-in-I32 c = rw c.in-I32.is c.push_by_either-in-I32.ensures
+
+pub returns-in-I64 : goal.returns-in-I64
+returns-in-I64 c = rw c.in-I64.is c.push_by_either-in-I64.ensures
+
+pub returns-in-I128 : goal.returns-in-I128
+returns-in-I128 c = rw c.in-I128.is c.push_by_either-in-I128.ensures
+
+pub returns-in-Any : goal.returns-in-Any
+returns-in-Any c = rw c.in-Any.is c.push_by_either-in-Any.ensures

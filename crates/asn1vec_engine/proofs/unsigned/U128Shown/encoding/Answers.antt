@@ -1,6 +1,0 @@
-use Rattle.std.proofs.Common.{arith}
-use Rattle.asn1vec_engine.proofs.ShownLaws.{strict_unsigned}
-use Rattle.asn1vec_engine.proofs.unsigned.U128Shown.encoding.Goals as goal
-
-pub strict_encoding-requires : goal.strict_encoding-requires
-strict_encoding-requires c = strict_unsigned 16 c.args.self.now (omega arith) (omega arith)
