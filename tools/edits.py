@@ -1,5 +1,6 @@
 #!/usr/bin/env python3
-"""Looks whether each edit of crates/NAME/must-fail/ and crates/NAME/mutants/ applies to the sources as they are.
+"""Looks whether each edit of crates/NAME/must-fail/ and crates/NAME/mutants/ (a folder for each module) applies to
+the sources as they are.
 
 An edit has lines 'file: src/NAME.rt', 'old: TEXT' and 'new: TEXT', each TEXT one line, and perhaps further pairs, which
 apply to what the earlier ones made. It applies where each old text stands exactly once in its file, and the edit
@@ -55,10 +56,10 @@ class Edit:
 
 
 def main():
-    paths = sorted([*TOP.glob("crates/*/must-fail/*.edit"), *TOP.glob("crates/*/mutants/*.edit")])
+    paths = sorted([*TOP.glob("crates/*/must-fail/*.edit"), *TOP.glob("crates/*/mutants/**/*.edit")])
     faults = 0
     for path in paths:
-        fault = Edit(path).fault(path.parent.parent)
+        fault = Edit(path).fault(TOP / pathlib.Path(*path.relative_to(TOP).parts[:2]))
         if fault:
             faults += 1
             print(f"{path.relative_to(TOP)}: does not apply: {fault}")

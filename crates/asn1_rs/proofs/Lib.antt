@@ -1,4 +1,4 @@
-mod Elements
+mod HeadersAndContents
 mod Lists
 mod OpenContents
 mod Reading

@@ -17,14 +17,15 @@ use Rattle.asn1_rs.specs.declared.asn1_types.any.Any.{Any}
 use Rattle.asn1_rs.specs.declared.error.Err.{Err as Refusal}
 use Rattle.asn1_rs.specs.declared.error.Err.TheVariants.{Incomplete as cut, Error as refused, Failure as failed}
 use Rattle.asn1_rs.specs.Error.{Converted, FlattenedTo}
-use Rattle.asn1_rs.specs.Header.{Refused, der_refusal}
+use Rattle.asn1_rs.specs.Header.Reading.{Refused, der_refusal}
 use Rattle.asn1_rs.specs.Any.{parts_of, BeginsWithElement}
-use Rattle.asn1_rs.specs.Items.{TakesItem}
+use Rattle.asn1_rs.specs.Sequence.Iterator.{TakesItem}
 use Rattle.asn1_rs.specs.Lists.{CheckedGives, EndsItems, SomeRefuses}
 use Rattle.asn1_rs.specs.declared.error.Error.{Error}
-use Rattle.asn1_rs.specs.declared.error.Error.TheVariants as faults
+use Rattle.asn1_rs.specs.declared.error.Error.TheVariants as errors
 use Rattle.asn1_rs.specs.declared.error.SerializeError.{SerializeError}
-use Rattle.asn1_rs.specs.Wrote.{Wrote, SumsWritten, SumsCounts, MayRefuse, MayRefuseCount, Refuses, RefusesCount, HasNone}
+use Rattle.asn1_rs.specs.Writer.{Wrote, SumsWritten, MayRefuse}
+use Rattle.asn1_rs.specs.ToDer.{SumsCounts, MayRefuseCount, Refuses, RefusesCount, HasNone}
 use Rattle.asn1_rs.proofs.Writing.{Wrote_front, Wrote_then_err, Wrote_sum, MayRefuse_more}
 
 -- one more item of a walk, and the refusal that ends it
@@ -37,8 +38,8 @@ items_end steps [] s t u e y n = (u, subst (λ (k : _). steps k (Some (Err e)) u
 items_end steps (a ∷ xs) s t u e y n = (y.0, y.1, items_end steps xs y.0 t u e y.2 n)
 
 pub MayRefuseCount_more : (e : Error) (takes : Bool) (m n : ℕ) → m ≤ n → MayRefuseCount takes m e → MayRefuseCount takes n e
-MayRefuseCount_more faults.InvalidLength takes m n h p = omega arith
-MayRefuseCount_more faults.OutOfMemory takes m n h p = p
+MayRefuseCount_more errors.InvalidLength takes m n h p = omega arith
+MayRefuseCount_more errors.OutOfMemory takes m n h p = p
 MayRefuseCount_more _ takes m n h p = absurd p
 
 -- an item between those before it and those after it

@@ -8,11 +8,11 @@ use Rattle.x690.specs.Rules.{ber_rule}
 use Rattle.x690.specs.Elements.{IsHeader}
 use Rattle.x690.specs.Faults.{Fault}
 use Rattle.x690.specs.Nested.{IsWord, ElementFault, end_of_contents}
-use Rattle.x690.specs.Contents.{IsEndedContent, EndFault}
-use Rattle.x690.specs.FaultHeaders.{FaultHeaders, EndFaultHeaders}
+use Rattle.x690.specs.Nested.Contents.{IsEndedContent, EndFault}
+use Rattle.x690.specs.Nested.FaultHeaders.{FaultHeaders, EndFaultHeaders}
 use Rattle.x690.specs.Laws.Nested.{indefinite_not_end, definite_is_nested}
-use Rattle.x690.specs.Laws.Contents.{definite_made, ended_made, end_fault_opened}
-use Rattle.x690.specs.Laws.FaultHeaders.{opened_headers}
+use Rattle.x690.specs.Laws.Nested.Contents.{definite_made, ended_made, end_fault_opened}
+use Rattle.x690.specs.Laws.Nested.FaultHeaders.{opened_headers}
 
 -- What comes of the octets within so many open contents, where the innermost has elements of the depth, and how many headers are read whole on the way: the first fault behind whole elements, or 00 00 behind them and then what comes of the rest within one content less.
 unfoldable pub OpenContents : ℕ → ℕ → List ℕ → Result (List ℕ) Fault → ℕ → Type 0

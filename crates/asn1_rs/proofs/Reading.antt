@@ -8,7 +8,7 @@ use Rattle.x690.specs.Rules.{Rule, der_rule, ber_rule, allows_form}
 use Rattle.x690.specs.Faults.{Breach, form_breach, missing, rule_fault, LengthFault, IsLengthBreach, HeaderFault}
 use Rattle.x690.specs.Laws.Identifiers.{same_identifier}
 use Rattle.asn1_rs.specs.declared.header.Header.{Header}
-use Rattle.asn1_rs.specs.declared.header_reading.IdentifierOctets.{IdentifierOctets as Read}
+use Rattle.asn1_rs.specs.declared.header.reading.IdentifierOctets.{IdentifierOctets}
 use Rattle.asn1_rs.specs.declared.error.Error.{Error}
 use Rattle.asn1_rs.specs.declared.error.Err.TheVariants.{Error as refused}
 use Rattle.asn1_rs.specs.declared.length.Length.{Length}
@@ -16,7 +16,8 @@ use Rattle.asn1_rs.specs.declared.length.Length.TheVariants.{Definite, Indefinit
 use Rattle.asn1_rs.specs.declared.tag.Tag.{Tag}
 use Rattle.asn1_rs.specs.Class.{class_number}
 use Rattle.asn1_rs.specs.Length.{form_of}
-use Rattle.asn1_rs.specs.Header.{identifier_of, HasParts, BeginsInput, BeginsWithBoth, AllowsIdentifiers, Refused, refusal_of, id_read, tag_read}
+use Rattle.asn1_rs.specs.Header.{identifier_of, HasParts}
+use Rattle.asn1_rs.specs.Header.Reading.{BeginsInput, BeginsWithBoth, AllowsIdentifiers, Refused, refusal_of, id_read, tag_read}
 
 pub nothing : (octets : List ℕ) → length octets < 1 → octets ≡ []
 nothing [] h = refl
@@ -37,7 +38,7 @@ long_octets octets front back first h e =
     octets_front front back (λ k. t (suc k))
 
 -- a header of the parts that were read begins the input
-pub begins_made : (rule : Rule) → AllowsIdentifiers rule → (input rest : List ℕ) (x : Read) (length : Length) (h : Header) → BeginsWithBoth input rest x length
+pub begins_made : (rule : Rule) → AllowsIdentifiers rule → (input rest : List ℕ) (x : IdentifierOctets) (length : Length) (h : Header) → BeginsWithBoth input rest x length
     → HasParts h x.class x.constructed (tag_read x) length (Some x.octets.now) → ((count : List ℕ) → allows_form rule (id_read x) count (form_of length) ≡ true) → BeginsInput rule input rest h
 begins_made rule all input rest x length h b p allowed =
     let i = b.1 in
@@ -59,7 +60,7 @@ begins_made rule all input rest x length h b p allowed =
     }
 
 -- the indefinite form begins the length octets, and the rule does not allow it
-pub indefinite_refused : (rule : Rule) → AllowsIdentifiers rule → (refuses : Breach → Error) (input rest : List ℕ) (x : Read) (length : Length) → BeginsWithBoth input rest x length → length ≡ Indefinite → rule.allows_indefinite (id_read x) ≡ false → Refused (HeaderFault rule) (refusal_of refuses) input (refused (refuses form_breach))
+pub indefinite_refused : (rule : Rule) → AllowsIdentifiers rule → (refuses : Breach → Error) (input rest : List ℕ) (x : IdentifierOctets) (length : Length) → BeginsWithBoth input rest x length → length ≡ Indefinite → rule.allows_indefinite (id_read x) ≡ false → Refused (HeaderFault rule) (refusal_of refuses) input (refused (refuses form_breach))
 indefinite_refused rule all refuses input rest x length b e none =
     let i = b.1 in
     let l = b.2 in

@@ -5,9 +5,9 @@ use Rattle.std.specs.Ordering.{nat_cmp, is_lt}
 use Rattle.std.specs.Cmp.Lexicographic.{slice_cmp}
 use Rattle.std.proofs.Common.{refl, ap, subst, arith, get_or, zero, suc, ◌++◌, length-append}
 use Rattle.std.proofs.lemmas.List.Sorted.{IsPermutation-trans, IsPermutation-sym, IsPermutation-map}
-use Rattle.asn1_rs.specs.Sets.{Ascending}
-use Rattle.asn1_rs.specs.Laws.Ascend.{Ascending-unique}
-use Rattle.asn1_rs.specs.Laws.Arranged.{arranged, arranged_ascends, arranged_moves}
+use Rattle.asn1_rs.specs.Set.{Ascending, arranged}
+use Rattle.asn1_rs.specs.Laws.Set.Ascend.{Ascending-unique}
+use Rattle.asn1_rs.specs.Laws.Set.Arranged.{arranged_ascends, arranged_moves}
 
 get_or-map_in : {X Y : Type 0} (f : X → Y) (xs : List X) (k : ℕ) (d : Y) (e : X) → k < length xs → get_or (map f xs) k d ≡ f (get_or xs k e)
 get_or-map_in f [] k d e h = absurd (omega (arith, h))

@@ -6,11 +6,13 @@ use Rattle.std.proofs.lemmas.Fn.{FoldsTo-push}
 use Rattle.std.proofs.lemmas.Grind.{common_steps}
 use Rattle.std.specs.Io.KnownBytes.{Appends}
 use Rattle.std.specs.declared.vec.Vec.{Vec}
-use Rattle.asn1_rs.specs.Wrote.{Wrote, IsMemoryOrLength, Calls, Took, TookAllBut, is_io, SumsWritten, SumsCounts, MayRefuse, MayRefuseCount, Refuses, RefusesCount, RefusesAtOnce, IsRefusedAtOnce, RefusedAtOnce, Either, some_takes, HasNone, VectorRefuses, WithoutIo, WrittenRefusal, OfClass, written_refusal, tells_of_io}
+use Rattle.asn1_rs.specs.Writer.{Wrote, IsMemoryOrLength, Calls, Took, TookAllBut, SumsWritten, MayRefuse}
+use Rattle.asn1_rs.specs.Error.{is_io, WithoutIo, written_refusal, tells_of_io}
+use Rattle.asn1_rs.specs.ToDer.{SumsCounts, MayRefuseCount, Refuses, RefusesCount, RefusesAtOnce, IsRefusedAtOnce, RefusedAtOnce, Either, some_allocates, HasNone, VectorRefuses, WrittenRefusal, OfClass}
 use Rattle.std.specs.Prelude.{IsErr}
 use Rattle.asn1_rs.specs.declared.error.Error.{Error}
-use Rattle.asn1_rs.specs.declared.error.Error.TheVariants as faults
-use Rattle.asn1_rs.specs.declared.error.SerializeError.TheVariants as refusals
+use Rattle.asn1_rs.specs.declared.error.Error.TheVariants as errors
+use Rattle.asn1_rs.specs.declared.error.SerializeError.TheVariants as serialize_errors
 use Rattle.asn1_rs.specs.declared.error.SerializeError.{SerializeError}
 
 pub Appends_more : (a b c : Option (List ℕ)) (xs ys : List ℕ) → Appends a b xs → Appends b c ys → Appends a c (xs ++ ys)
@@ -104,27 +106,27 @@ Wrote_front {e} {xs} zs p = record {
 }
 
 pub MayRefuse_more : (e : SerializeError) (takes : Bool) (m n : ℕ) → m ≤ n → MayRefuse takes m e → MayRefuse takes n e
-MayRefuse_more (refusals.ASN1Error e) takes m n h p = absurd p
-MayRefuse_more (refusals.InvalidClass c) takes m n h p = absurd p
-MayRefuse_more refusals.InvalidLength takes m n h p = omega arith
-MayRefuse_more (refusals.IOError e) takes m n h p = tt
-MayRefuse_more refusals.OutOfMemory takes m n h p = p
+MayRefuse_more (serialize_errors.ASN1Error e) takes m n h p = absurd p
+MayRefuse_more (serialize_errors.InvalidClass c) takes m n h p = absurd p
+MayRefuse_more serialize_errors.InvalidLength takes m n h p = omega arith
+MayRefuse_more (serialize_errors.IOError e) takes m n h p = tt
+MayRefuse_more serialize_errors.OutOfMemory takes m n h p = p
 
 pub MayRefuse_either : (e : SerializeError) (takes gives : Bool) (n : ℕ) → MayRefuse takes n e → MayRefuse (takes || gives) n e
-MayRefuse_either (refusals.ASN1Error e) takes gives n p = absurd p
-MayRefuse_either (refusals.InvalidClass c) takes gives n p = absurd p
-MayRefuse_either refusals.InvalidLength takes gives n p = p
-MayRefuse_either (refusals.IOError e) takes gives n p = tt
-MayRefuse_either refusals.OutOfMemory true gives n p = refl
-MayRefuse_either refusals.OutOfMemory false gives n p = cc
+MayRefuse_either (serialize_errors.ASN1Error e) takes gives n p = absurd p
+MayRefuse_either (serialize_errors.InvalidClass c) takes gives n p = absurd p
+MayRefuse_either serialize_errors.InvalidLength takes gives n p = p
+MayRefuse_either (serialize_errors.IOError e) takes gives n p = tt
+MayRefuse_either serialize_errors.OutOfMemory true gives n p = refl
+MayRefuse_either serialize_errors.OutOfMemory false gives n p = cc
 
 pub MayRefuse_other : (e : SerializeError) (takes gives : Bool) (n : ℕ) → MayRefuse gives n e → MayRefuse (takes || gives) n e
-MayRefuse_other (refusals.ASN1Error e) takes gives n p = absurd p
-MayRefuse_other (refusals.InvalidClass c) takes gives n p = absurd p
-MayRefuse_other refusals.InvalidLength takes gives n p = p
-MayRefuse_other (refusals.IOError e) takes gives n p = tt
-MayRefuse_other refusals.OutOfMemory true gives n p = refl
-MayRefuse_other refusals.OutOfMemory false gives n p = p
+MayRefuse_other (serialize_errors.ASN1Error e) takes gives n p = absurd p
+MayRefuse_other (serialize_errors.InvalidClass c) takes gives n p = absurd p
+MayRefuse_other serialize_errors.InvalidLength takes gives n p = p
+MayRefuse_other (serialize_errors.IOError e) takes gives n p = tt
+MayRefuse_other serialize_errors.OutOfMemory true gives n p = refl
+MayRefuse_other serialize_errors.OutOfMemory false gives n p = p
 
 pub SumsCounts_count : (xs ys : List ℕ) (n m : ℕ) (r : Result ℕ Error) → n ≡ length xs → m ≡ length ys → SumsCounts n m r → IfOk r (λ k. k ≡ length (xs ++ ys))
 SumsCounts_count xs ys n m (Ok k) p q s = simp length-append (omega (arith, s))
@@ -134,15 +136,15 @@ pub SumsCounts_refused : (takes : Bool) (xs ys : List ℕ) (n m : ℕ) (r : Resu
 SumsCounts_refused takes xs ys n m (Ok k) p q s = tt
 SumsCounts_refused takes xs ys n m (Err e) p q s = rw s.0 (simp length-append (omega (arith, s.1)))
 
--- A writing whose length fits and whose writer is not marked is done, but for want of memory.
+-- A writing whose length fits and whose writer is not marked is done, except when out of memory.
 pub writing_done : (r : Result ℕ SerializeError) (takes : Bool) (o : List ℕ) (old new : Option (List ℕ)) (was is : Bool) → Wrote o old new was is r → IfErr r (MayRefuse takes (length o)) → length o < 2 ^ 64 → is ≡ false
-    → MatchResult r (λ n. Appends old new o × (n ≡ length o)) (λ e. (e ≡ refusals.OutOfMemory) × IsTrue takes)
+    → MatchResult r (λ n. Appends old new o × (n ≡ length o)) (λ e. (e ≡ serialize_errors.OutOfMemory) × IsTrue takes)
 writing_done (Ok n) takes o old new was is w m fits free = w.ok
-writing_done (Err (refusals.ASN1Error e)) takes o old new was is w m fits free = absurd m
-writing_done (Err (refusals.InvalidClass c)) takes o old new was is w m fits free = absurd m
-writing_done (Err refusals.InvalidLength) takes o old new was is w m fits free = absurd (omega arith)
-writing_done (Err (refusals.IOError e)) takes o old new was is w m fits free = let k : is ≡ true = w.mark in cc
-writing_done (Err refusals.OutOfMemory) takes o old new was is w m fits free = (refl, m)
+writing_done (Err (serialize_errors.ASN1Error e)) takes o old new was is w m fits free = absurd m
+writing_done (Err (serialize_errors.InvalidClass c)) takes o old new was is w m fits free = absurd m
+writing_done (Err serialize_errors.InvalidLength) takes o old new was is w m fits free = absurd (omega arith)
+writing_done (Err (serialize_errors.IOError e)) takes o old new was is w m fits free = let k : is ≡ true = w.mark in cc
+writing_done (Err serialize_errors.OutOfMemory) takes o old new was is w m fits free = (refl, m)
 
 -- a writing that has no refusals of its own, or is not refused by them
 pub only_may : (r : Result ℕ SerializeError) (takes : Bool) (n : ℕ) (own : SerializeError → Type 0) → IfErr r (MayRefuse takes n) → IfErr r (Refuses takes n own)
@@ -155,11 +157,11 @@ only_may_count (Err e) takes n own h = inl h
 
 pub only_put : (r : Result ℕ SerializeError) (takes : Bool) (n : ℕ) (own : SerializeError → Type 0) → IfErr r (MayRefuse false 0) → IfErr r (Refuses takes n own)
 only_put (Ok k) takes n own h = tt
-only_put (Err (refusals.ASN1Error e)) takes n own h = absurd h
-only_put (Err (refusals.InvalidClass c)) takes n own h = absurd h
-only_put (Err refusals.InvalidLength) takes n own h = absurd (omega (arith, h))
-only_put (Err (refusals.IOError e)) takes n own h = inl tt
-only_put (Err refusals.OutOfMemory) takes n own h = cc
+only_put (Err (serialize_errors.ASN1Error e)) takes n own h = absurd h
+only_put (Err (serialize_errors.InvalidClass c)) takes n own h = absurd h
+only_put (Err serialize_errors.InvalidLength) takes n own h = absurd (omega (arith, h))
+only_put (Err (serialize_errors.IOError e)) takes n own h = inl tt
+only_put (Err serialize_errors.OutOfMemory) takes n own h = cc
 
 pub plain_refusal : (r : Result ℕ SerializeError) (takes : Bool) (n : ℕ) (one other : SerializeError → Type 0) → HasNone one → HasNone other → IfErr r (Refuses takes n (Either one other)) → IfErr r (MayRefuse takes n)
 plain_refusal (Ok k) takes n one other a b h = tt
@@ -182,10 +184,10 @@ refuses_wider e write takes n own (inl m) = inl (MayRefuse_other e write takes n
 refuses_wider e write takes n own (inr o) = inr o
 
 -- a header that was refused at once refuses the whole at once
-pub header_at_once : (write takes gives : Bool) (n : ℕ) (one other : SerializeError → Type 0) (old new : Option (List ℕ)) (was is : Bool) (r : Result ℕ SerializeError) → IsRefusedAtOnce takes n one old new was is r → IsRefusedAtOnce (some_takes write takes gives) n (Either one other) old new was is r
+pub header_at_once : (write takes gives : Bool) (n : ℕ) (one other : SerializeError → Type 0) (old new : Option (List ℕ)) (was is : Bool) (r : Result ℕ SerializeError) → IsRefusedAtOnce takes n one old new was is r → IsRefusedAtOnce (some_allocates write takes gives) n (Either one other) old new was is r
 header_at_once write takes gives n one other old new was is r at = (at.0, of at.1, at.2)
   where
-    of : RefusesAtOnce takes n one at.0 → RefusesAtOnce (some_takes write takes gives) n (Either one other) at.0
+    of : RefusesAtOnce takes n one at.0 → RefusesAtOnce (some_allocates write takes gives) n (Either one other) at.0
     of (inl m) = inl (MayRefuse_other at.0 write (takes || gives) n (MayRefuse_either at.0 takes gives n m.0), m.1)
     of (inr o) = inr (inl o)
 
@@ -205,8 +207,8 @@ vector_refuses e f takes n own may same (inr o) = inr (e, o, same)
 
 -- how a refused count comes out
 pub written_may : (e : Error) (takes : Bool) (m n : ℕ) → m ≤ n → MayRefuseCount takes m e → MayRefuse takes n (written_refusal e) × (tells_of_io (written_refusal e) ≡ false)
-written_may faults.InvalidLength takes m n l h = (omega arith, refl)
-written_may faults.OutOfMemory takes m n l h = (h, refl)
+written_may errors.InvalidLength takes m n l h = (omega arith, refl)
+written_may errors.OutOfMemory takes m n l h = (h, refl)
 written_may _ takes m n l h = absurd h
 
 -- A header is written of contents octets that were counted.
@@ -282,11 +284,11 @@ vector_refuses_neither one other n m e (inr o) = m e o
 -- a vector of the octets, or a refusal that is none of a writer
 pub vector_done : {A : Type 0} (written o : List ℕ) → written ≡ o → (r : Result (Vec ℕ A) SerializeError) → IfOk r (λ v. v.items ≡ written) → IfErr r (MayRefuse true (length written)) → IfErr r (λ e. tells_of_io e ≡ false) → MatchResult r (λ v. v.items ≡ o) (IsMemoryOrLength o)
 vector_done written o e (Ok v) w m io = w ∙ e
-vector_done written o e (Err (refusals.ASN1Error f)) w m io = absurd m
-vector_done written o e (Err (refusals.InvalidClass k)) w m io = absurd m
-vector_done written o e (Err refusals.InvalidLength) w m io = inr (refl, omega (arith, m, ap length e))
-vector_done written o e (Err (refusals.IOError f)) w m io = cc
-vector_done written o e (Err refusals.OutOfMemory) w m io = inl refl
+vector_done written o e (Err (serialize_errors.ASN1Error f)) w m io = absurd m
+vector_done written o e (Err (serialize_errors.InvalidClass k)) w m io = absurd m
+vector_done written o e (Err serialize_errors.InvalidLength) w m io = inr (refl, omega (arith, m, ap length e))
+vector_done written o e (Err (serialize_errors.IOError f)) w m io = cc
+vector_done written o e (Err serialize_errors.OutOfMemory) w m io = inl refl
 
 pub plain_vector : {A : Type 0} (r : Result A SerializeError) (n : ℕ) (one other : SerializeError → Type 0) → HasNone one → HasNone other → IfErr r (VectorRefuses n (Either one other)) → IfErr r (MayRefuse true n)
 plain_vector (Ok v) n one other a b h = tt
@@ -294,8 +296,8 @@ plain_vector (Err e) n one other a b (inl m) = m
 plain_vector (Err e) n one other a b (inr (f, inl o, w)) = absurd (a f o)
 plain_vector (Err e) n one other a b (inr (f, inr o, w)) = absurd (b f o)
 
--- a vector of octets that fit in memory is refused for want of it alone
-pub vector_fits : {A : Type 0} (P : A → Type 0) (o : List ℕ) (r : Result A SerializeError) → length o < 2 ^ 64 → MatchResult r P (IsMemoryOrLength o) → MatchResult r P (λ e. e ≡ refusals.OutOfMemory)
+-- a vector of octets that fit in memory is refused only when out of memory
+pub vector_fits : {A : Type 0} (P : A → Type 0) (o : List ℕ) (r : Result A SerializeError) → length o < 2 ^ 64 → MatchResult r P (IsMemoryOrLength o) → MatchResult r P (λ e. e ≡ serialize_errors.OutOfMemory)
 vector_fits P o (Ok v) l h = h
 vector_fits P o (Err e) l (inl m) = m
 vector_fits P o (Err e) l (inr h) = absurd (omega (arith, h.1, l))

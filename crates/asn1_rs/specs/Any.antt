@@ -1,61 +1,50 @@
 -- Elements in hand, and what reading one may answer.
-use Rattle.std.specs.Prelude.{◌≡◌, ◌≢◌, ◌⊎◌, ◌+◌, ◌≤◌, ℕ, List, ◌++◌, length, Some, Result, Ok, Err}
+pub mod Value
+pub mod Writing
+use Rattle.std.specs.Prelude.{◌≡◌, ◌≢◌, ◌⊎◌, ℕ, List, ◌++◌, length, Some, Result, Ok, Err}
 use Rattle.std.specs.Borrow.{Bor}
-use Rattle.x690.specs.Lengths.{LengthForm, definite, indefinite}
-use Rattle.x690.specs.Elements.{Parts}
-use Rattle.x690.specs.Faults.{Fault}
+use Rattle.x690.specs.Lengths.{definite, indefinite}
+use Rattle.x690.specs.Elements.{Parts, IsDerElement}
+use Rattle.x690.specs.Faults.{Fault, DerElementFault}
 use Rattle.asn1_rs.specs.declared.asn1_types.any.Any.{Any}
 use Rattle.asn1_rs.specs.declared.class.Class.{Class}
 use Rattle.asn1_rs.specs.declared.tag.Tag.{Tag}
 use Rattle.asn1_rs.specs.declared.error.Error.{Error}
-use Rattle.asn1_rs.specs.declared.error.Error.TheVariants.{UnexpectedTag, UnexpectedClass, IndefiniteLengthUnexpected, DerConstraintFailed}
-use Rattle.asn1_rs.specs.declared.error.DerConstraint.TheVariants.{IndefiniteLength}
+use Rattle.asn1_rs.specs.declared.error.Error.TheVariants.{UnexpectedTag, UnexpectedClass, IndefiniteLengthUnexpected}
 use Rattle.asn1_rs.specs.declared.error.Err.{Err as Refusal}
-use Rattle.asn1_rs.specs.declared.error.Err.TheVariants.{Incomplete as cut, Error as refused}
-use Rattle.asn1_rs.specs.declared.error.Needed.TheVariants.{Size}
+use Rattle.asn1_rs.specs.declared.error.Err.TheVariants.{Error as refused}
 use Rattle.asn1_rs.specs.Error.{Converted}
 use Rattle.asn1_rs.specs.Class.{class_number}
-use Rattle.asn1_rs.specs.Header.{identifier_of, Refused, KeepsIdentifier}
+use Rattle.asn1_rs.specs.Header.{identifier_of}
+use Rattle.asn1_rs.specs.Header.Reading.{Refused, KeepsIdentifier, der_refusal, ber_refusal}
 use Rattle.asn1_rs.specs.Length.{form_of}
-use Rattle.asn1_rs.specs.Answers.{Front}
+use Rattle.asn1_rs.specs.Answers.{Front, Speaks}
+use Rattle.x690.specs.Nested.{IsElement, ElementFault}
+use Rattle.asn1_rs.specs.Ber.{max_depth}
 
 -- what an element in hand is made of, whether it was read or made by hand
 abbrev pub parts_of : Any → Parts
 parts_of a = record { id = identifier_of a.header; form = form_of a.header.length; content = a.content.now }
 
 -- The element, with its identifier octets kept, begins the input, and the rest follows.
-pub record BeginsWithElement (Element : List ℕ → Parts → Type 0) (input : List ℕ) (any : Any) (rest : List ℕ) : Type 0 where
-  pub front : Front Element input (parts_of any) rest
+pub record BeginsWithElement (ElementOf : List ℕ → Parts → Type 0) (input : List ℕ) (any : Any) (rest : List ℕ) : Type 0 where
+  pub front : Front ElementOf input (parts_of any) rest
   pub kept : KeepsIdentifier input any.header
 
 -- what a reader of elements may answer: the element and the rest, or the refusal of the first fault
 abbrev pub AnyGives : (List ℕ → Parts → Type 0) → (List ℕ → Fault → Type 0) → (Fault → Refusal Error) → List ℕ → Result (List ℕ × Any) (Refusal Error) → Type 0
-AnyGives Element FaultOf refusal input (Ok x) = BeginsWithElement Element input x.1 x.0
-AnyGives Element FaultOf refusal input (Err r) = Refused FaultOf refusal input r
+AnyGives ElementOf FaultOf refusal input (Ok x) = BeginsWithElement ElementOf input x.1 x.0
+AnyGives ElementOf FaultOf refusal input (Err r) = Refused FaultOf refusal input r
 
 -- the conversion to an element is the element: its header, with the identifier octets that it keeps, and its contents octets
 abbrev pub IsTheElement : Any → Result Any Error → Type 0
 IsTheElement any (Ok same) = (same.header ≡ any.header) × (same.content.now ≡ any.content.now)
 IsTheElement any (Err e) = ⊥
 
--- what a conversion may answer that looks at the parts of an element alone
-abbrev pub OfParts : {T E : Type 0} → (Parts → Result T E → Type 0) → Any → Result T E → Type 0
-OfParts gives any answer = gives (parts_of any) answer
-
 -- the length is definite, or that is refused
 abbrev pub IsDefiniteOr : Parts → Result (Unit {0}) Error → Type 0
 IsDefiniteOr p (Ok x) = (n : ℕ) × (p.form ≡ definite n)
 IsDefiniteOr p (Err e) = (p.form ≡ indefinite) × (e ≡ IndefiniteLengthUnexpected)
-
--- so many octets of the input, and the rest, or how many are missing
-abbrev pub Splits : ℕ → List ℕ → Result (Bor (List ℕ) × Bor (List ℕ)) (Refusal Error) → Type 0
-Splits n input (Ok x) = (length x.1.now ≡ n) × (input ≡ x.1.now ++ x.0.now)
-Splits n input (Err r) = (lacking : ℕ) × (1 ≤ lacking) × (length input + lacking ≡ n) × (r ≡ cut (Size lacking))
-
--- the contents octets by DER, of a header of this form
-abbrev pub DerContentGives : LengthForm → List ℕ → Result (Bor (List ℕ) × Bor (List ℕ)) (Refusal Error) → Type 0
-DerContentGives (definite n) input answer = Splits n input answer
-DerContentGives indefinite input answer = answer ≡ Err (refused (DerConstraintFailed IndefiniteLength))
 
 -- What looking at the tag number of an element and then at its class, and handing its contents octets to a reader, may answer. The rest is the element's.
 abbrev pub HandsOn : {T E : Type 0} → Class → Tag → (Error → E → Type 0) → (List ℕ → Result (Bor (List ℕ) × T) (Refusal E) → Type 0) → Parts → List ℕ → Result (List ℕ × T) (Refusal E) → Type 0
@@ -69,7 +58,22 @@ HandsOn {T} {E} class tag from reads p rest (Err r) =
 
 -- what reading an element and then that may answer: a refusal is that of the element's first fault, or that of what follows
 abbrev pub AndThenGives : {T E : Type 0} → (List ℕ → Parts → Type 0) → (List ℕ → Fault → Type 0) → (Fault → Refusal Error) → Class → Tag → (Error → E → Type 0) → (List ℕ → Result (Bor (List ℕ) × T) (Refusal E) → Type 0) → List ℕ → Result (List ℕ × T) (Refusal E) → Type 0
-AndThenGives Element FaultOf refusal class tag from reads input (Ok x) =
-    (p : Parts) × (rest : List ℕ) × Front Element input p rest × HandsOn class tag from reads p rest (Ok x)
-AndThenGives Element FaultOf refusal class tag from reads input (Err r) =
-    ((fault : Fault) × FaultOf input fault × Converted from (refusal fault) r) ⊎ ((p : Parts) × (rest : List ℕ) × Front Element input p rest × HandsOn class tag from reads p rest (Err r))
+AndThenGives ElementOf FaultOf refusal class tag from reads input (Ok x) =
+    (p : Parts) × (rest : List ℕ) × Front ElementOf input p rest × HandsOn class tag from reads p rest (Ok x)
+AndThenGives ElementOf FaultOf refusal class tag from reads input (Err r) =
+    ((fault : Fault) × FaultOf input fault × Converted from (refusal fault) r) ⊎ ((p : Parts) × (rest : List ℕ) × Front ElementOf input p rest × HandsOn class tag from reads p rest (Err r))
+
+-- the answers of the readers of elements by DER and by BER
+abbrev pub DerElementGives : List ℕ → Result (List ℕ × Any) (Refusal Error) → Type 0
+DerElementGives = AnyGives IsDerElement DerElementFault der_refusal
+
+abbrev pub BerElementGives : List ℕ → Result (List ℕ × Any) (Refusal Error) → Type 0
+BerElementGives = AnyGives (IsElement max_depth) (ElementFault max_depth) ber_refusal
+
+-- no element begins the input after a refusal, nor more octets of which the refusal speaks
+abbrev pub RefusalLasts : (List ℕ → Parts → Type 0) → (List ℕ → Type 0) → List ℕ → Refusal Error → Type 0
+RefusalLasts ElementOf IsCut input r = (more word rest : List ℕ) (p : Parts) → Speaks (IsCut input) r more → ElementOf word p → input ++ more ≡ word ++ rest → ⊥
+
+-- no other element begins the input, whatever follows
+abbrev pub ElementLasts : (List ℕ → Parts → Type 0) → List ℕ → List ℕ → Any → Type 0
+ElementLasts ElementOf input rest any = (more word tail : List ℕ) (p : Parts) → ElementOf word p → input ++ more ≡ word ++ tail → (p ≡ parts_of any) × (tail ≡ rest ++ more)

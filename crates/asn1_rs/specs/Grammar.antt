@@ -1,18 +1,14 @@
 -- Grammars of types that are read as one element, checked and converted.
+pub mod Form
+pub mod Item
 use Rattle.std.specs.Prelude.{ℕ, Bool, List, [], ◌++◌, ◌≡◌, ◌⊎◌, length, Result, Ok, Err, IsTrue}
 use Rattle.x690.specs.Identifiers.{Identifier}
 use Rattle.x690.specs.Lengths.{definite}
 use Rattle.x690.specs.Elements.{Parts, IsDerElement}
-use Rattle.x690.specs.Faults.{Fault, DerElementFault}
-use Rattle.x690.specs.Nested.{IsElement, ElementFault, EndsInIdentifier}
-use Rattle.asn1_rs.specs.declared.asn1_types.any.Any.{Any}
-use Rattle.asn1_rs.specs.declared.error.Err.{Err as Refusal}
-use Rattle.asn1_rs.specs.declared.error.Err.TheVariants.{Error as refused}
+use Rattle.x690.specs.Nested.{IsElement}
 use Rattle.asn1_rs.specs.declared.error.Error.{Error}
 use Rattle.asn1_rs.specs.declared.error.Error.TheVariants.{OutOfMemory}
-use Rattle.asn1_rs.specs.Error.{Converted}
-use Rattle.asn1_rs.specs.Header.{der_refusal, ber_refusal}
-use Rattle.asn1_rs.specs.Any.{parts_of, BeginsWithElement}
+use Rattle.asn1_rs.specs.Ber.{max_depth}
 
 -- no word is empty, and two words that begin one input are the same and have one value
 pub record IsOneFront {V : Type 0} (G : List ℕ → V → Type 0) : Type 0 where
@@ -21,11 +17,7 @@ pub record IsOneFront {V : Type 0} (G : List ℕ → V → Type 0) : Type 0 wher
 
 -- one element, whose parts meet the check and have the value by the body
 abbrev pub ElementWord : {V : Type 0} → (List ℕ → Parts → Type 0) → (Parts → Type 0) → (Parts → V → Type 0) → List ℕ → V → Type 0
-ElementWord Element Check Body o v = (p : Parts) × Element o p × Check p × Body p v
-
--- by BER an element is nested fifty deep at most, and no constraint is asked of it
-abbrev pub max_depth : ℕ
-max_depth = 50
+ElementWord ElementOf Check Body o v = (p : Parts) × ElementOf o p × Check p × Body p v
 
 abbrev pub NoCheck : Parts → Type 0
 NoCheck p = Unit {0}
@@ -37,29 +29,7 @@ BerWord Body = ElementWord (IsElement max_depth) NoCheck Body
 abbrev pub DerWord : {V : Type 0} → (Parts → Type 0) → (Parts → V → Type 0) → List ℕ → V → Type 0
 DerWord Check Body = ElementWord IsDerElement Check Body
 
--- What a reader may answer that reads an element, checks it and converts it: the value; or else the refusal of the element's first fault, that of the check, or that of the conversion, in this order.
-abbrev pub ElementGives : {T E : Type 0} → (List ℕ → Parts → Type 0) → (List ℕ → Fault → Type 0) → (Fault → Refusal Error) → (Parts → Result (Unit {0}) Error → Type 0) → (Any → Result T E → Type 0) → (Error → E → Type 0) → List ℕ → Result (List ℕ × T) (Refusal E) → Type 0
-ElementGives Element FaultOf refusal check convert from input (Ok x) = (any : Any) × BeginsWithElement Element input any x.0 × check (parts_of any) (Ok tt) × convert any (Ok x.1)
-ElementGives {T} {E} Element FaultOf refusal check convert from input (Err r) =
-    ((fault : Fault) × FaultOf input fault × Converted from (refusal fault) r) ⊎
-    ((any : Any) × (rest : List ℕ) × BeginsWithElement Element input any rest ×
-    (((e : Error) × check (parts_of any) (Err e) × ((f : E) × from e f × (r ≡ refused f))) ⊎ (check (parts_of any) (Ok tt) × ((e : E) × convert any (Err e) × (r ≡ refused e)))))
-
-abbrev pub DerGives : {T E : Type 0} → (Parts → Result (Unit {0}) Error → Type 0) → (Any → Result T E → Type 0) → (Error → E → Type 0) → List ℕ → Result (List ℕ × T) (Refusal E) → Type 0
-DerGives check convert from = ElementGives IsDerElement DerElementFault der_refusal check convert from
-
--- a check that refuses nothing
-abbrev pub PassesAll : Parts → Result (Unit {0}) Error → Type 0
-PassesAll p answer = answer ≡ Ok tt
-
-abbrev pub BerGives : {T E : Type 0} → (Any → Result T E → Type 0) → (Error → E → Type 0) → List ℕ → Result (List ℕ × T) (Refusal E) → Type 0
-BerGives convert from = ElementGives (IsElement max_depth) (ElementFault max_depth) ber_refusal PassesAll convert from
-
--- where by BER the input ends within an identifier in high form
-abbrev pub EndsWithin : List ℕ → Type 0
-EndsWithin = EndsInIdentifier max_depth
-
--- The conversion takes an element exactly where the body has a value, and gives it. Where it takes memory, want of it may be told.
+-- The conversion takes an element exactly where the body has a value, and gives it. Where it allocates, out of memory may be reported.
 abbrev pub TakesBody : {T V E : Type 0} → (Parts → V → Type 0) → (T → V) → Bool → (Error → E → Type 0) → Parts → Result T E → Type 0
 TakesBody Body value takes from p (Ok x) = Body p (value x)
 TakesBody {T} {V} Body value takes from p (Err e) = (IsTrue takes × from OutOfMemory e) ⊎ ((v : V) → Body p v → ⊥)

@@ -5,12 +5,12 @@ use Rattle.x690.specs.Identifiers.{Identifier}
 use Rattle.x690.specs.Lengths.{definite, indefinite}
 use Rattle.x690.specs.Elements.{Parts}
 use Rattle.x690.specs.Integers.{HasSpareZeros, HasSpareOnes, IsShortestInteger, IsIntegerContent}
-use Rattle.x690.specs.SignedOctets.{IsSigned}
+use Rattle.x690.specs.Signed.{IsSigned}
 use Rattle.asn1_rs.specs.declared.error.Error.{Error}
 use Rattle.asn1_rs.specs.declared.error.Error.TheVariants.{UnexpectedTag, ConstructUnexpected, IndefiniteLengthUnexpected, IntegerNegative, IntegerTooLarge, DerConstraintFailed}
 use Rattle.asn1_rs.specs.declared.error.DerConstraint.TheVariants.{IntegerEmpty, IntegerLeadingZeroes, IntegerLeadingFF}
 use Rattle.asn1_rs.specs.Kinds.{ElementGrammar}
-use Rattle.asn1_rs.specs.Laws.Forms.{UniversalForm}
+use Rattle.asn1_rs.specs.Grammar.Form.{UniversalForm}
 
 -- the number of the tag of integers
 abbrev pub integer_number : ℕ
@@ -80,7 +80,7 @@ integer_element number Holds = record {
   Body = IntegerBody Holds;
   Check = IntegerCheck;
   Form = IntegerForm Holds;
-  takes_memory = false;
+  allocates = false;
 }
 
 -- the natural numbers of so many octets

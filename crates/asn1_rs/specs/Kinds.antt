@@ -1,4 +1,5 @@
 -- What a type says that is read as one element, checked and converted.
+pub mod Writing
 use Rattle.std.specs.Prelude.{◌≡◌, ℕ, Bool, false, List, Result, Ok, Err}
 use Rattle.x690.specs.Octets.{IsOctets}
 use Rattle.x690.specs.Identifiers.{Identifier}
@@ -7,9 +8,9 @@ use Rattle.asn1_rs.specs.declared.asn1_types.any.Any.{Any}
 use Rattle.asn1_rs.specs.declared.error.Error.{Error}
 use Rattle.asn1_rs.specs.declared.error.Error.TheVariants.{OutOfMemory}
 use Rattle.asn1_rs.specs.Any.{parts_of}
-use Rattle.asn1_rs.specs.Form.{IsOneForm, IsOneValue, FitsElement, HasValues}
+use Rattle.asn1_rs.specs.Grammar.Form.{IsOneForm, IsOneValue, FitsElement, HasValues}
 use Rattle.asn1_rs.specs.Grammar.{IsOneBody, BerWord, DerWord, TakesBody, Checks, FormChecks, FormBodies}
-use Rattle.asn1_rs.specs.ItemGrammar.{ItemGrammar}
+use Rattle.asn1_rs.specs.Grammar.Item.{ItemGrammar}
 
 -- Its values, and which are in DER form; the value of a body, what the check asks, and the strict parts of a value.
 pub record ElementGrammar (S : Type 0) : Type 1 where
@@ -20,7 +21,7 @@ pub record ElementGrammar (S : Type 0) : Type 1 where
   pub Body : Parts → Value → Type 0
   pub Check : Parts → Type 0
   pub Form : Value → Identifier → List ℕ → Type 0
-  pub takes_memory : Bool
+  pub allocates : Bool
 
 -- Bodies and strict parts have values of the type, a body has one value, a value one strict identifier and one strict
 -- content; these fit an element, meet the check and have the value, which is in DER form.
@@ -47,20 +48,20 @@ item_grammar G = record {
   Body = G.Body;
   Check = G.Check;
   Form = G.Form;
-  takes_memory = G.takes_memory;
+  allocates = G.allocates;
 }
 
--- The check passes exactly the parts that meet the constraints, and no refusal of it tells of want of memory.
+-- The check passes exactly the parts that meet the constraints, and no refusal of it reports out of memory.
 pub record IsExactCheck (check : Parts → Result (Unit {0}) Error → Type 0) (Check : Parts → Type 0) : Type 0 where
   pub exact : (p : Parts) (answer : Result (Unit {0}) Error) → check p answer → Checks Check p answer
   pub spares : (p : Parts) → check p (Err OutOfMemory) → ⊥
 
--- The conversion takes exactly the elements whose parts have a body, with its value. Where it takes no memory, no refusal of it
--- tells of want of memory.
+-- The conversion takes exactly the elements whose parts have a body, with its value. Where it does not allocate, no refusal of it
+-- reports out of memory.
 pub record IsExactConversion {S : Type 0} (gives : Any → Result S Error → Type 0) (G : ElementGrammar S) : Type 0 where
   pub exact : (any : Any) (answer : Result S Error) → IsOctets any.content.now → gives any answer →
-      TakesBody G.Body G.value G.takes_memory (λ (x y : Error). y ≡ x) (parts_of any) answer
-  pub spares : G.takes_memory ≡ false → (any : Any) → gives any (Err OutOfMemory) → ⊥
+      TakesBody G.Body G.value G.allocates (λ (x y : Error). y ≡ x) (parts_of any) answer
+  pub spares : G.allocates ≡ false → (any : Any) → gives any (Err OutOfMemory) → ⊥
 
 -- what holds one item, and nothing else, has the values and the elements of that item
 abbrev pub holding : {S T : Type 0} → (T → S) → ElementGrammar S → ElementGrammar T
@@ -72,7 +73,7 @@ holding held G = record {
   Body = G.Body;
   Check = G.Check;
   Form = G.Form;
-  takes_memory = G.takes_memory;
+  allocates = G.allocates;
 }
 
 -- a conversion that answers what holds the item that another one answers

@@ -2,21 +2,21 @@
 use Rattle.std.specs.Prelude.{◌≡◌, ◌≢◌, ◌⊎◌, ℕ, true, false, List, [], ◌∷◌, ◌++◌, map, Some, Result, Ok, Err}
 use Rattle.std.specs.Borrow.{Bor}
 use Rattle.std.specs.declared.vec.Vec.{Vec}
-use Rattle.std.specs.List.{All, Any, flat_map}
+use Rattle.std.specs.List.{All, Any as HasSome, flat_map}
 use Rattle.std.specs.Iterator.{Yields}
 use Rattle.x690.specs.Identifiers.{Identifier}
 use Rattle.x690.specs.Elements.{Parts, IsDerElement}
 use Rattle.asn1_rs.specs.declared.error.Err.{Err as Refusal}
 use Rattle.asn1_rs.specs.declared.error.Error.{Error}
-use Rattle.asn1_rs.specs.declared.error.Error.TheVariants as faults
-use Rattle.asn1_rs.specs.declared.asn1_types.any.Any.{Any as Element}
+use Rattle.asn1_rs.specs.declared.error.Error.TheVariants as errors
+use Rattle.asn1_rs.specs.declared.asn1_types.any.Any.{Any}
 use Rattle.asn1_rs.specs.Any.{IsTheElement}
 use Rattle.asn1_rs.specs.Error.{FlattenedTo}
-use Rattle.asn1_rs.specs.Form.{IsStrict}
-use Rattle.asn1_rs.specs.Grammar.{DerGives, BerWord, DerWord, NoCheck}
-use Rattle.asn1_rs.specs.ItemGrammar.{ItemGrammar}
-use Rattle.asn1_rs.specs.Items.{TakesItem, IsJoined}
-use Rattle.asn1_rs.specs.Laws.Forms.{UniversalForm}
+use Rattle.asn1_rs.specs.Grammar.Form.{IsStrict, UniversalForm}
+use Rattle.asn1_rs.specs.Traits.{DerGives}
+use Rattle.asn1_rs.specs.Grammar.{BerWord, DerWord, NoCheck}
+use Rattle.asn1_rs.specs.Grammar.Item.{ItemGrammar}
+use Rattle.asn1_rs.specs.Sequence.Iterator.{TakesItem, IsJoined}
 
 -- strings, one after another
 abbrev pub joining : List (List ℕ) → List ℕ
@@ -56,24 +56,24 @@ ListForm number Form = UniversalForm true number (λ vs c. IsJoined (StrictWord 
 abbrev pub IsListOr : ℕ → Parts → Result (Unit {0}) Error → Type 0
 IsListOr number p (Ok x) = (p.id.number ≡ number) × (p.id.constructed ≡ true)
 IsListOr number p (Err e) =
-    ((p.id.number ≢ number) × (e ≡ faults.UnexpectedTag (Some (record { 0 = number })) (record { 0 = p.id.number }))) ⊎
-    ((p.id.number ≡ number) × (p.id.constructed ≡ false) × (e ≡ faults.ConstructExpected))
+    ((p.id.number ≢ number) × (e ≡ errors.UnexpectedTag (Some (record { 0 = number })) (record { 0 = p.id.number }))) ⊎
+    ((p.id.number ≡ number) × (p.id.constructed ≡ false) × (e ≡ errors.ConstructExpected))
 
 -- a walk gave items, and then this refusal
 abbrev pub EndsItems : {T E : Type 0} → (List ℕ → Result (List ℕ × T) (Refusal E) → Type 0) → (Error → E → Type 0) → List ℕ → E → Type 0
 EndsItems {T} {E} reads from content e = (items : List T) × (left : List ℕ) × Yields (TakesItem reads from) content (map Ok items ++ Err e ∷ []) left
 
--- What collecting the items of a walk may answer: all of them, or the refusal that ended the walk, or want of memory.
+-- What collecting the items of a walk may answer: all of them, or the refusal that ended the walk, or out of memory.
 abbrev pub ItemsGive : {T E : Type 0} → (List ℕ → Result (List ℕ × T) (Refusal E) → Type 0) → (Error → E → Type 0) → List ℕ → Result (List T) E → Type 0
 ItemsGive reads from content (Ok items) = Yields (TakesItem reads from) content (map Ok items) []
-ItemsGive reads from content (Err e) = from faults.OutOfMemory e ⊎ EndsItems reads from content e
+ItemsGive reads from content (Err e) = from errors.OutOfMemory e ⊎ EndsItems reads from content e
 
 -- the items of a vector that was answered
 abbrev pub listed : {T E A : Type 0} → Result (Vec T A) E → Result (List T) E
 listed (Ok v) = Ok v.items
 listed (Err e) = Err e
 
--- What making a list of the items of a walk may answer: what holds the items; or the refusal that ended the walk, or want of memory.
+-- What making a list of the items of a walk may answer: what holds the items; or the refusal that ended the walk, or out of memory.
 abbrev pub ListGives : {T W E : Type 0} → (List T → W → Type 0) → (List ℕ → Result (List ℕ × T) (Refusal E) → Type 0) → (Error → E → Type 0) → List ℕ → Result W E → Type 0
 ListGives {T} holds reads from content (Ok w) = (items : List T) × holds items w × ItemsGive reads from content (Ok items)
 ListGives holds reads from content (Err e) = ItemsGive reads from content (Err e)
@@ -87,7 +87,7 @@ ListTakes number holds reads from p (Err e) = ((refusal : Error) × IsListOr num
 abbrev pub ListReads : {T W E : Type 0} → ℕ → (List T → W → Type 0) → (List ℕ → Result (List ℕ × T) (Refusal E) → Type 0) → (Error → E → Type 0) → Parts → Result W E → Type 0
 ListReads number holds reads from p (Ok w) = (p.id.number ≡ number) × ListGives holds reads from p.content (Ok w)
 ListReads number holds reads from p (Err e) =
-    ((p.id.number ≢ number) × from (faults.UnexpectedTag (Some (record { 0 = number })) (record { 0 = p.id.number })) e) ⊎
+    ((p.id.number ≢ number) × from (errors.UnexpectedTag (Some (record { 0 = number })) (record { 0 = p.id.number })) e) ⊎
     ((p.id.number ≡ number) × ListGives holds reads from p.content (Err e))
 
 -- a vector has these items
@@ -95,12 +95,12 @@ abbrev pub has_items : {T A : Type 0} → List T → Vec T A → Type 0
 has_items items v = v.items ≡ items
 
 -- what reading an element by DER and checking its constraints may answer
-abbrev pub CheckedGives : (Parts → Result (Unit {0}) Error → Type 0) → List ℕ → Result (List ℕ × Element) (Refusal Error) → Type 0
+abbrev pub CheckedGives : (Parts → Result (Unit {0}) Error → Type 0) → List ℕ → Result (List ℕ × Any) (Refusal Error) → Type 0
 CheckedGives check = DerGives check IsTheElement (λ x y. y ≡ x)
 
 -- what checking the constraints of all items may answer: each passes; or the refusal of the first that is none, or does not
 abbrev pub ItemsCheckGives : (Parts → Result (Unit {0}) Error → Type 0) → List ℕ → Result (Unit {0}) Error → Type 0
-ItemsCheckGives check content (Ok x) = (items : List Element) × Yields (TakesItem (CheckedGives check) (λ x y. y ≡ x)) content (map Ok items) []
+ItemsCheckGives check content (Ok x) = (items : List Any) × Yields (TakesItem (CheckedGives check) (λ x y. y ≡ x)) content (map Ok items) []
 ItemsCheckGives check content (Err e) = EndsItems (CheckedGives check) (λ x y. y ≡ x) content e
 
 -- what the check of a list may answer
@@ -110,12 +110,12 @@ ListCheckGives number check p (Err e) = IsListOr number p (Err e) ⊎ (IsListOr 
 
 -- what reading the first element and checking it may answer: what follows it, or its refusal
 abbrev pub FirstChecked : (Parts → Result (Unit {0}) Error → Type 0) → List ℕ → Result (Bor (List ℕ)) Error → Type 0
-FirstChecked check octets (Ok rest) = (item : Element) × CheckedGives check octets (Ok (rest.now, item))
+FirstChecked check octets (Ok rest) = (item : Any) × CheckedGives check octets (Ok (rest.now, item))
 FirstChecked check octets (Err e) = (r : Refusal Error) × CheckedGives check octets (Err r) × FlattenedTo (λ x y. y ≡ x) (λ x y. y ≡ x) r e
 
 -- one of the items has this refusal
 abbrev pub SomeRefuses : {T E : Type 0} → (T → E → Type 0) → List T → E → Type 0
-SomeRefuses refuses items e = Any (λ x. refuses x e) items
+SomeRefuses refuses items e = HasSome (λ x. refuses x e) items
 
 -- lists of items of a type, in what holds them
 abbrev pub list_grammar : {S W : Type 0} → ℕ → (W → List S) → ItemGrammar S → ItemGrammar W
@@ -129,5 +129,5 @@ list_grammar number items G = record {
   Body = ListBody number G.Ber;
   Check = ListCheck number G.Check;
   Form = ListForm number G.Form;
-  takes_memory = true;
+  allocates = true;
 }

@@ -5,7 +5,7 @@ use Rattle.x690.specs.Elements.{Parts}
 use Rattle.asn1_rs.specs.declared.error.Error.{Error}
 use Rattle.asn1_rs.specs.declared.error.Error.TheVariants.{UnexpectedTag, ConstructUnexpected}
 use Rattle.asn1_rs.specs.Kinds.{ElementGrammar}
-use Rattle.asn1_rs.specs.Laws.Forms.{UniversalForm}
+use Rattle.asn1_rs.specs.Grammar.Form.{UniversalForm}
 
 -- an element with the tag number, primitive or constructed, and its contents octets
 abbrev pub OctetsBody : ℕ → Parts → List ℕ → Type 0
@@ -38,5 +38,5 @@ octets_element number octets = record {
   Body = OctetsBody number;
   Check = PrimitiveCheck;
   Form = UniversalForm false number OctetsContent;
-  takes_memory = false;
+  allocates = false;
 }

@@ -1,57 +1,22 @@
-//! Reading elements and their contents octets (X.690 8.1).
-ghost use Rattle.std.specs.Prelude.{◌≡◌, ℕ, ◌+◌, ◌-◌, ◌*◌, ◌^◌, ◌<◌, ◌≤◌, Bool, List, ◌++◌, length, Result, IfOk, IfErr, IfSome, IfNone, OnErr};
-ghost use Rattle.std.specs.Borrow.{Bor};
-ghost use Rattle.x690.specs.Lengths.{LengthForm};
-ghost use Rattle.x690.specs.Elements.{IsDerElement};
-ghost use Rattle.x690.specs.Faults.{DerElementFault};
+//! Reading elements and their contents octets by BER (X.690 8.1).
+ghost use Rattle.std.specs.Prelude.{◌≡◌, ℕ, ◌+◌, ◌-◌, ◌*◌, ◌^◌, ◌<◌, ◌≤◌, List, ◌++◌, length, Result, IfOk, IfErr, IfSome, IfNone, OnErr};
 ghost use Rattle.x690.specs.Nested.{IsElement, ElementFault, end_of_contents};
-ghost use Rattle.x690.specs.Contents.{IsEndedContent, EndFault, IsContent, ContentFault};
-ghost use Rattle.x690.specs.FaultHeaders.{FaultHeaders, EndFaultHeaders, ContentFaultHeaders};
-ghost use Rattle.asn1_rs.specs.declared.error.Err.{Err as Refusal};
-ghost use Rattle.asn1_rs.specs.declared.error.Error.{Error as Fault};
+ghost use Rattle.x690.specs.Nested.Contents.{IsEndedContent, EndFault, IsContent, ContentFault};
+ghost use Rattle.x690.specs.Nested.FaultHeaders.{FaultHeaders, EndFaultHeaders, ContentFaultHeaders};
 ghost use Rattle.asn1_rs.specs.Answers.{seen};
-ghost use Rattle.asn1_rs.specs.Header.{Refused, der_refusal, ber_refusal, is_constructed_of, length_of};
+ghost use Rattle.asn1_rs.specs.Header.Reading.{Refused, ber_refusal};
+ghost use Rattle.asn1_rs.specs.Header.{is_constructed_of, length_of};
 ghost use Rattle.asn1_rs.specs.Length.{form_of};
-ghost use Rattle.asn1_rs.specs.Ber.{count_of, BerContentGives, CountedElement, Counted};
-ghost use Rattle.asn1_rs.specs.Grammar.{max_depth, EndsWithin};
-ghost use Rattle.asn1_rs.specs.Laws.Any.{RefusalLasts, ElementLasts};
-ghost use Rattle.asn1_rs.specs.Any.{parts_of, AnyGives, Splits, DerContentGives};
+ghost use Rattle.asn1_rs.specs.Ber.{count_of, BerContentGives, CountedElement, Counted, max_depth, EndsWithin};
+ghost use Rattle.asn1_rs.specs.Any.{RefusalLasts, ElementLasts, parts_of, AnyGives};
 
 use crate::asn1_types::any::Any;
-use crate::error::{DerConstraint, Err, Error, Needed, ParseResult};
+use crate::content::{GetObjectContent, split_content};
+use crate::error::{Err, Error, ParseResult};
 use crate::header::Header;
-use crate::header_reading::{header_by_ber, header_by_der, length_by_ber};
+use crate::header::reading::{header_by_ber, length_by_ber};
 use crate::length::Length;
-use crate::traits::{BerParser, DerParser};
-
-/// So many octets of the input, or `Incomplete` with the number that is missing.
-#[inline(always)]
-fn split_content(bytes: &[u8], len: usize) -> ParseResult<'_, &[u8], Error>
-    ensures { Splits len bytes.now result }
-{
-    if bytes.len() < len {
-        return Err(Err::Incomplete(Needed::Size(len - bytes.len())));
-    }
-    let (content, rest) = bytes.split_at(len);
-    Ok((rest, content))
-}
-
-/// The element at the front, by DER. It takes no memory.
-#[inline(always)]
-pub(crate) fn element_by_der(bytes: &[u8]) -> ParseResult<'_, Any<'_>, Error>
-    ensures { AnyGives IsDerElement DerElementFault der_refusal bytes.now (seen result) }
-{
-    let (rest, header) = header_by_der(bytes)?;
-    match header.length() {
-        Length::Definite(len) => {
-            let (rest, content) = split_content(rest, len)?;
-            Ok((rest, Any::new(header, content)))
-        }
-        Length::Indefinite => Err(Err::Error(Error::DerConstraintFailed(
-            DerConstraint::IndefiniteLength,
-        ))),
-    }
-}
+use crate::traits::BerParser;
 
 /// How deep elements may nest by BER (X.690 8.1.3.6, 8.1.5): 49 of indefinite length at most, one in the other.
 pub const MAX_RECURSION: usize = 50;
@@ -183,7 +148,7 @@ fn element_to_depth<'a>(
     Ok((rest, Any::new(header, contents)))
 }
 
-/// The element at the front, by BER. It takes no memory.
+/// The element at the front, by BER. It does not allocate.
 #[inline(always)]
 pub(crate) fn element_by_ber(bytes: &[u8]) -> ParseResult<'_, Any<'_>, Error>
     ensures { AnyGives (IsElement max_depth) (ElementFault max_depth) ber_refusal bytes.now (seen result) }
@@ -215,21 +180,6 @@ pub fn any_from_ber_counted<'a>(
     element_to_depth(bytes, MAX_RECURSION, steps)
 }
 
-/// A reader of contents octets, whose header was read before them.
-pub trait GetObjectContent {
-    /// What the reader may answer at a header with this constructed bit and this form of length, at a depth.
-    ghost content_gives: { Bool → LengthForm → ℕ → List ℕ → Result (Bor (List ℕ) × Bor (List ℕ)) (Refusal Fault) → Type 0 };
-
-    /// The contents octets of the header at the front, and what follows them. The depth bounds how deep indefinite
-    /// lengths may nest.
-    fn get_object_content<'a>(
-        i: &'a [u8],
-        hdr: &Header<'_>,
-        max_depth: usize,
-    ) -> ParseResult<'a, &'a [u8], Error>
-        ensures { content_gives (is_constructed_of hdr.now) (form_of (length_of hdr.now)) max_depth i.now result };
-}
-
 impl GetObjectContent for BerParser {
     ghost content_gives = { BerContentGives };
 
@@ -249,23 +199,6 @@ impl GetObjectContent for BerParser {
     }
 }
 
-impl GetObjectContent for DerParser {
-    ghost content_gives = { λ _ form _ input answer. DerContentGives form input answer };
-
-    fn get_object_content<'a>(
-        i: &'a [u8],
-        hdr: &Header<'_>,
-        _max_depth: usize,
-    ) -> ParseResult<'a, &'a [u8], Error> {
-        match hdr.length() {
-            Length::Definite(len) => split_content(i, len),
-            Length::Indefinite => Err(Err::Error(Error::DerConstraintFailed(
-                DerConstraint::IndefiniteLength,
-            ))),
-        }
-    }
-}
-
 impl Header<'_> {
     /// The contents octets at the front of the octets that follow this header, by BER, and the rest. Elements of
     /// indefinite length nest seven deep at most, with that of this header.
@@ -276,15 +209,5 @@ impl Header<'_> {
         ensures { BerContentGives (is_constructed_of self.now) (form_of (length_of self.now)) 8 i.now result }
     {
         BerParser::get_object_content(i, self, 8)
-    }
-
-    /// The contents octets at the front of the octets that follow this header, by DER, and the rest.
-    ///
-    /// Refused with `DerConstraintFailed(IndefiniteLength)` at an indefinite length, else with `Incomplete(n)` where n
-    /// octets are missing.
-    pub fn parse_der_content<'i>(&self, i: &'i [u8]) -> ParseResult<'i, &'i [u8], Error>
-        ensures { DerContentGives (form_of (length_of self.now)) i.now result }
-    {
-        DerParser::get_object_content(i, self, 0)
     }
 }

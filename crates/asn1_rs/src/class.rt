@@ -2,7 +2,7 @@
 ghost use Rattle.std.specs.Prelude.{◌≡◌, ◌≢◌, Some, MatchResult};
 ghost use Rattle.asn1_rs.specs.Class.{class_number, class_text, ClassOf};
 ghost use Rattle.asn1_rs.specs.declared.class.Class.TheVariants as classes;
-ghost use Rattle.asn1_rs.specs.declared.error.Error.TheVariants as faults;
+ghost use Rattle.asn1_rs.specs.declared.error.Error.TheVariants as errors;
 
 use crate::error::Error;
 use std::fmt;
@@ -36,7 +36,7 @@ impl Class {
 
     /// Refuses another class with `UnexpectedClass`: the one given is expected, and this one is the actual one.
     pub fn assert_eq(&self, class: Class) -> Result<(), Error>
-        ensures { MatchResult result (λ _. self.now ≡ class) (λ e. (self.now ≢ class) × (e ≡ faults.UnexpectedClass (Some class) self.now)) }
+        ensures { MatchResult result (λ _. self.now ≡ class) (λ e. (self.now ≢ class) × (e ≡ errors.UnexpectedClass (Some class) self.now)) }
     {
         if *self == class {
             Ok(())

@@ -1,9 +1,10 @@
 //! Why a reading or a writing is refused.
-ghost use Rattle.std.specs.Prelude.{◌≡◌, ◌↔◌, IsTrue};
-ghost use Rattle.asn1_rs.specs.Error.{Converted, HeldIn, FlattenedTo, IsCut, needed_of};
-ghost use Rattle.asn1_rs.specs.declared.error.Err.TheVariants as outcomes;
-ghost use Rattle.asn1_rs.specs.declared.error.Error.TheVariants as faults;
-ghost use Rattle.asn1_rs.specs.declared.error.SerializeError.TheVariants as refusals;
+ghost use Rattle.std.specs.Prelude.{◌≡◌, ◌↔◌, IsTrue, ℕ, Bool, true, false};
+ghost use Rattle.asn1_rs.specs.Error.{Converted, HeldIn, FlattenedTo, IsCut, needed_of, tells_of_io, written_refusal, vector_refusal};
+ghost use Rattle.asn1_rs.specs.declared.error.Err.TheVariants.{Error as refused};
+ghost use Rattle.asn1_rs.specs.declared.error.Error.TheVariants as errors;
+ghost use Rattle.asn1_rs.specs.declared.error.SerializeError.TheVariants as serialize_errors;
+ghost use Rattle.asn1_rs.specs.Writer.{MayRefuse};
 
 use crate::class::Class;
 use crate::tag::Tag;
@@ -239,7 +240,7 @@ impl Error {
 }
 
 impl From<Error> for Err<Error> {
-    ghost from_gives = { λ e r. r ≡ outcomes.Error e };
+    ghost from_gives = { λ e r. r ≡ refused e };
 
     fn from(e: Error) -> Err<Error> {
         Err::Error(e)
@@ -259,7 +260,7 @@ impl From<Err<Error>> for Error {
 }
 
 impl From<AllocError> for Error {
-    ghost from_gives = { λ _ e. e ≡ faults.OutOfMemory };
+    ghost from_gives = { λ _ e. e ≡ errors.OutOfMemory };
 
     fn from(_e: AllocError) -> Error {
         Error::OutOfMemory
@@ -267,7 +268,7 @@ impl From<AllocError> for Error {
 }
 
 impl<T: Drop> From<AllocFailed<T>> for Error {
-    ghost from_gives = { λ _ e. e ≡ faults.OutOfMemory };
+    ghost from_gives = { λ _ e. e ≡ errors.OutOfMemory };
 
     fn from(_e: AllocFailed<T>) -> Error {
         Error::OutOfMemory
@@ -295,7 +296,7 @@ pub enum SerializeError {
 }
 
 impl From<Error> for SerializeError {
-    ghost from_gives = { λ e r. r ≡ refusals.ASN1Error e };
+    ghost from_gives = { λ e r. r ≡ serialize_errors.ASN1Error e };
 
     fn from(e: Error) -> SerializeError {
         SerializeError::ASN1Error(e)
@@ -303,7 +304,7 @@ impl From<Error> for SerializeError {
 }
 
 impl From<io::Error> for SerializeError {
-    ghost from_gives = { λ e r. r ≡ refusals.IOError e };
+    ghost from_gives = { λ e r. r ≡ serialize_errors.IOError e };
 
     fn from(e: io::Error) -> SerializeError {
         SerializeError::IOError(e)
@@ -311,7 +312,7 @@ impl From<io::Error> for SerializeError {
 }
 
 impl From<AllocError> for SerializeError {
-    ghost from_gives = { λ _ r. r ≡ refusals.OutOfMemory };
+    ghost from_gives = { λ _ r. r ≡ serialize_errors.OutOfMemory };
 
     fn from(_e: AllocError) -> SerializeError {
         SerializeError::OutOfMemory
@@ -319,9 +320,32 @@ impl From<AllocError> for SerializeError {
 }
 
 impl<T: Drop> From<AllocFailed<T>> for SerializeError {
-    ghost from_gives = { λ _ r. r ≡ refusals.OutOfMemory };
+    ghost from_gives = { λ _ r. r ≡ serialize_errors.OutOfMemory };
 
     fn from(_e: AllocFailed<T>) -> SerializeError {
         SerializeError::OutOfMemory
+    }
+}
+
+/// What a refused count makes of a writing: a length past `usize` and out of memory have refusals of their own.
+pub(crate) fn refusal_of_count(e: Error) -> SerializeError
+    ensures { result ≡ written_refusal e }
+{
+    match e {
+        Error::InvalidLength => SerializeError::InvalidLength,
+        Error::OutOfMemory => SerializeError::OutOfMemory,
+        e => SerializeError::ASN1Error(e),
+    }
+}
+
+/// Out of memory in the place of a writer's failure.
+pub(crate) fn without_io(e: SerializeError) -> SerializeError
+    ensures refused { (n : ℕ) (allocates : Bool) → MayRefuse allocates n e → MayRefuse true n result }
+    ensures io { tells_of_io result ≡ false }
+    ensures same { result ≡ vector_refusal e }
+{
+    match e {
+        SerializeError::IOError(_) => SerializeError::OutOfMemory,
+        e => e,
     }
 }

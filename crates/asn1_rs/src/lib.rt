@@ -4,16 +4,13 @@
 mod asn1_types;
 mod ber;
 mod class;
+mod content;
+mod der;
 pub mod error;
 mod header;
-mod header_reading;
-mod header_writing;
 mod kinds;
-mod kinds_writing;
-mod law_functions;
 mod laws;
 mod length;
-mod length_writing;
 mod tag;
 mod texts;
 mod to_der;
@@ -22,22 +19,23 @@ mod writer;
 
 pub use asn1_types::any::Any;
 pub use asn1_types::integer::integers_have_one_refusal;
-pub use asn1_types::items::FromItems;
-pub use asn1_types::sequence_iterator::{
+pub use asn1_types::lists::FromItems;
+pub use asn1_types::sequence::iterator::{
     ReadsItems, ReadsWords, SequenceIterator, SetIterator, indefinite_contents_are_walked,
     walks_end, walks_take_words,
 };
-pub use asn1_types::set_of::SetOf;
-pub use ber::{GetObjectContent, MAX_RECURSION, Steps, any_from_ber_counted};
+pub use asn1_types::set::set_of::SetOf;
+pub use ber::{MAX_RECURSION, Steps, any_from_ber_counted};
 pub use class::{BerClassFromIntError, Class, classes_are_numbered};
+pub use content::GetObjectContent;
 pub use error::{
     DerConstraint, Err, Error, IResult, Needed, ParseResult, SerializeError, SerializeResult,
     from_nom_error,
 };
 pub use header::Header;
+pub use kinds::writing::{WritesOctets, WritesPrimitive};
 pub use kinds::{ElementKind, HasKind, LawfulConversion, LawfulElement};
-pub use kinds_writing::{WritesOctets, WritesPrimitive};
-pub use law_functions::{
+pub use laws::functions::{
     beginnings_are_refused, counts_are_of_the_strict_encoding, reader_is_exact_by_ber,
     reader_is_exact_by_der, strict_fronts_are_written_again, words_and_values_are_unique,
 };

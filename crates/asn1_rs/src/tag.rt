@@ -1,7 +1,7 @@
 //! Tag numbers (X.690 8.1.2, X.680 8.6).
 ghost use Rattle.std.specs.Prelude.{◌≡◌, ◌≢◌, Some, IfSome, IfNone, MatchResult, []};
 ghost use Rattle.asn1_rs.specs.Tag.{name_of, tag_text, is_container};
-ghost use Rattle.asn1_rs.specs.declared.error.Error.TheVariants as faults;
+ghost use Rattle.asn1_rs.specs.declared.error.Error.TheVariants as errors;
 ghost use Rattle.std.specs.declared.borrow.CowStr.TheVariants.{Borrowed};
 
 use crate::error::Error;
@@ -104,7 +104,7 @@ impl Tag {
 
     /// Refuses another tag with `UnexpectedTag`: the one given is expected, and this one is the actual one.
     pub fn assert_eq(&self, tag: Tag) -> Result<(), Error>
-        ensures { MatchResult result (λ _. self.now ≡ tag) (λ e. (self.now ≢ tag) × (e ≡ faults.UnexpectedTag (Some tag) self.now)) }
+        ensures { MatchResult result (λ _. self.now ≡ tag) (λ e. (self.now ≢ tag) × (e ≡ errors.UnexpectedTag (Some tag) self.now)) }
     {
         if self.0 == tag.0 {
             Ok(())
@@ -113,9 +113,9 @@ impl Tag {
         }
     }
 
-    /// The refusal `InvalidValue` of this tag, with a text that is lent for good.
+    /// The refusal `InvalidValue` of this tag, with a text borrowed for `'static`.
     pub fn invalid_value(&self, msg: &'static str) -> Error
-        ensures { result ≡ faults.InvalidValue self.now (Borrowed msg.entry) }
+        ensures { result ≡ errors.InvalidValue self.now (Borrowed msg.entry) }
     {
         Error::invalid_value(*self, CowStr::Borrowed(msg))
     }

@@ -1,55 +1,16 @@
 //! The trait of values that are written by DER.
-ghost use Rattle.std.specs.Prelude.{◌≡◌, ◌++◌, ◌||◌, ℕ, Bool, true, false, List, [], length, Err, IfOk, IfErr, IsErr};
+ghost use Rattle.std.specs.Prelude.{◌≡◌, ◌++◌, ℕ, Bool, true, false, List, [], length, Err, IfOk, IfErr, IsErr};
 ghost use Rattle.std.specs.Io.KnownBytes.{Appends};
-ghost use Rattle.asn1_rs.specs.Wrote.{Wrote, MayRefuse, Refuses, RefusesCount, VectorRefuses, Either, IsRefusedAtOnce, RefusedAtOnce, SumsWritten, SumsCounts, some_takes, written_refusal, vector_refusal, tells_of_io};
-ghost use Rattle.asn1_rs.specs.declared.error.SerializeError.{SerializeError as Unwritten};
-ghost use Rattle.asn1_rs.specs.declared.error.Error.{Error as Uncounted};
+ghost use Rattle.asn1_rs.specs.Writer.{Wrote};
+ghost use Rattle.asn1_rs.specs.ToDer.{Refuses, RefusesCount, VectorRefuses, Either, IsRefusedAtOnce, RefusedAtOnce, some_allocates};
+ghost use Rattle.asn1_rs.specs.Error.{vector_refusal, tells_of_io};
+ghost use Rattle.asn1_rs.specs.declared.error.SerializeError.{SerializeError};
+ghost use Rattle.asn1_rs.specs.declared.error.Error.{Error};
 
-use crate::error::{Error, SerializeError, SerializeResult};
+use crate::error::{Error, SerializeResult, without_io};
 use crate::traits::DynTagged;
-use crate::writer::{DerWrite, Told};
+use crate::writer::{DerWrite, Told, add_written};
 use std::alloc::Global;
-
-/// The sum of two numbers of octets that were written.
-#[inline(always)]
-pub(crate) fn add_written(before: usize, after: usize) -> SerializeResult<usize>
-    ensures { SumsWritten before after result }
-{
-    before
-        .checked_add(after)
-        .ok_or(SerializeError::InvalidLength)
-}
-
-/// The sum of two counts.
-#[inline(always)]
-pub(crate) fn add_counts(before: usize, after: usize) -> Result<usize, Error>
-    ensures { SumsCounts before after result }
-{
-    before.checked_add(after).ok_or(Error::InvalidLength)
-}
-
-/// What a refused count makes of a writing: a length past `usize` and want of memory have refusals of their own.
-pub(crate) fn refusal_of_count(e: Error) -> SerializeError
-    ensures { result ≡ written_refusal e }
-{
-    match e {
-        Error::InvalidLength => SerializeError::InvalidLength,
-        Error::OutOfMemory => SerializeError::OutOfMemory,
-        e => SerializeError::ASN1Error(e),
-    }
-}
-
-/// Want of memory in the place of a writer's failure.
-pub(crate) fn without_io(e: SerializeError) -> SerializeError
-    ensures refused { (n : ℕ) (takes_memory : Bool) → MayRefuse takes_memory n e → MayRefuse true n result }
-    ensures io { tells_of_io result ≡ false }
-    ensures same { result ≡ vector_refusal e }
-{
-    match e {
-        SerializeError::IOError(_) => SerializeError::OutOfMemory,
-        e => e,
-    }
-}
 
 /// A value that is written by DER.
 ///
@@ -68,48 +29,48 @@ pub trait ToDer: DynTagged {
     /// The constructed bit of its encoding.
     ghost constructed: { Self → Bool } = { λ _. false };
 
-    /// The refusals of its counts that are its own: neither its length nor want of memory. A value that has one is
+    /// The refusals of its counts that are its own: neither its length nor out of memory. A value that has one is
     /// neither counted nor written.
-    ghost count_refuses: { Self → Uncounted → Type 0 } = { λ _ _. ⊥ };
+    ghost count_refuses: { Self → Error → Type 0 } = { λ _ _. ⊥ };
 
     /// The refusals of its header that are its own. A value that has one is not written, and nothing is appended.
-    ghost header_refuses: { Self → Unwritten → Type 0 } = { λ _ _. ⊥ };
+    ghost header_refuses: { Self → SerializeError → Type 0 } = { λ _ _. ⊥ };
 
     /// The refusals of its contents octets that are its own. A value that has one is not written; a beginning of its
     /// encoding may be appended.
-    ghost content_refuses: { Self → Unwritten → Type 0 } = { λ _ _. ⊥ };
+    ghost content_refuses: { Self → SerializeError → Type 0 } = { λ _ _. ⊥ };
 
     /// The refusals that come before all others: before anything is counted, and before the writer is asked.
-    ghost refuses_first: { Self → Unwritten → Type 0 } = { λ _ _. ⊥ };
+    ghost refuses_first: { Self → SerializeError → Type 0 } = { λ _ _. ⊥ };
 
     /// The raw form is the DER form.
     ghost raw_is_der: { Self → Type 0 } = { λ _. Unit {0} };
 
-    /// Counting may take memory, and so may writing the header.
-    ghost count_takes_memory: { Bool } = { true };
+    /// Counting may allocate, and so may writing the header.
+    ghost count_allocates: { Bool } = { true };
 
-    /// Writing the contents octets may take memory.
-    ghost content_takes_memory: { Bool } = { true };
+    /// Writing the contents octets may allocate.
+    ghost content_allocates: { Bool } = { true };
 
-    /// Writing the whole may take memory of its own, beside that of header and contents.
-    ghost write_takes_memory: { Bool } = { true };
+    /// Writing the whole may allocate itself, beside what header and contents do.
+    ghost write_allocates: { Bool } = { true };
 
     /// How many octets `write_der` appends.
     fn to_der_len(&self) -> Result<usize, Error>
         ensures count { tells self.now →
             IfOk result (λ n. n ≡ length (header self.now ++ content self.now)) }
         ensures refused { tells self.now →
-            IfErr result (RefusesCount count_takes_memory
+            IfErr result (RefusesCount count_allocates
             (length (header self.now ++ content self.now)) (count_refuses self.now)) }
-        ensures accepted { (e : Uncounted) → tells self.now → count_refuses self.now e → IsErr result };
+        ensures accepted { (e : Error) → tells self.now → count_refuses self.now e → IsErr result };
 
     /// How many contents octets are appended.
     fn der_content_len(&self) -> Result<usize, Error>
         ensures count { tells self.now → IfOk result (λ n. n ≡ length (content self.now)) }
         ensures refused { tells self.now →
-            IfErr result (RefusesCount count_takes_memory
+            IfErr result (RefusesCount count_allocates
             (length (content self.now)) (count_refuses self.now)) }
-        ensures accepted { (e : Uncounted) → tells self.now → count_refuses self.now e → IsErr result };
+        ensures accepted { (e : Error) → tells self.now → count_refuses self.now e → IsErr result };
 
     /// The constructed bit of the encoding. Most types answer whether their tag is that of sequence or set.
     fn der_constructed(&self) -> bool
@@ -120,13 +81,13 @@ pub trait ToDer: DynTagged {
         ensures wrote { tells self.now →
             Wrote (header self.now) (W.told w.old) (W.told w.new) (W.failed w.old) (W.failed w.new) result }
         ensures refused { tells self.now →
-            IfErr result (Refuses count_takes_memory
+            IfErr result (Refuses count_allocates
             (length (header self.now ++ content self.now)) (header_refuses self.now)) }
-        ensures at_once { (e : Unwritten) → tells self.now → header_refuses self.now e →
-            IsRefusedAtOnce count_takes_memory
+        ensures at_once { (e : SerializeError) → tells self.now → header_refuses self.now e →
+            IsRefusedAtOnce count_allocates
             (length (header self.now ++ content self.now)) (header_refuses self.now)
             (W.told w.old) (W.told w.new) (W.failed w.old) (W.failed w.new) result }
-        ensures first { (e : Unwritten) → refuses_first self.now e →
+        ensures first { (e : SerializeError) → refuses_first self.now e →
             RefusedAtOnce e (W.told w.old) (W.told w.new) (W.failed w.old) (W.failed w.new) result };
 
     /// Appends the contents octets, and answers their number.
@@ -134,11 +95,11 @@ pub trait ToDer: DynTagged {
         ensures wrote { tells self.now →
             Wrote (content self.now) (W.told w.old) (W.told w.new) (W.failed w.old) (W.failed w.new) result }
         ensures refused { tells self.now →
-            IfErr result (Refuses content_takes_memory
+            IfErr result (Refuses content_allocates
             (length (content self.now)) (content_refuses self.now)) }
-        ensures accepted { (e : Unwritten) → tells self.now → content_refuses self.now e → IsErr result }
-        ensures uncounted { (e : Uncounted) → tells self.now → count_refuses self.now e → IsErr result }
-        ensures first { (e : Unwritten) → refuses_first self.now e →
+        ensures accepted { (e : SerializeError) → tells self.now → content_refuses self.now e → IsErr result }
+        ensures uncounted { (e : Error) → tells self.now → count_refuses self.now e → IsErr result }
+        ensures first { (e : SerializeError) → refuses_first self.now e →
             RefusedAtOnce e (W.told w.old) (W.told w.new) (W.failed w.old) (W.failed w.new) result };
 
     /// Appends the encoding, and answers its length.
@@ -150,17 +111,17 @@ pub trait ToDer: DynTagged {
             Wrote (header self.now ++ content self.now)
             (W.told w.old) (W.told w.new) (W.failed w.old) (W.failed w.new) result }
         ensures refused { tells self.now →
-            IfErr result (Refuses (some_takes write_takes_memory count_takes_memory content_takes_memory)
+            IfErr result (Refuses (some_allocates write_allocates count_allocates content_allocates)
             (length (header self.now ++ content self.now))
             (Either (header_refuses self.now) (content_refuses self.now))) }
-        ensures accepted { (e : Unwritten) → tells self.now → content_refuses self.now e → IsErr result }
-        ensures uncounted { (e : Uncounted) → tells self.now → count_refuses self.now e → IsErr result }
-        ensures at_once { (e : Unwritten) → tells self.now → header_refuses self.now e →
-            IsRefusedAtOnce (some_takes write_takes_memory count_takes_memory content_takes_memory)
+        ensures accepted { (e : SerializeError) → tells self.now → content_refuses self.now e → IsErr result }
+        ensures uncounted { (e : Error) → tells self.now → count_refuses self.now e → IsErr result }
+        ensures at_once { (e : SerializeError) → tells self.now → header_refuses self.now e →
+            IsRefusedAtOnce (some_allocates write_allocates count_allocates content_allocates)
             (length (header self.now ++ content self.now))
             (Either (header_refuses self.now) (content_refuses self.now))
             (W.told w.old) (W.told w.new) (W.failed w.old) (W.failed w.new) result }
-        ensures first { (e : Unwritten) → refuses_first self.now e →
+        ensures first { (e : SerializeError) → refuses_first self.now e →
             RefusedAtOnce e (W.told w.old) (W.told w.new) (W.failed w.old) (W.failed w.new) result }
     {
         let before = self.write_der_header(alloc, w)?;
@@ -174,39 +135,39 @@ pub trait ToDer: DynTagged {
             Wrote (header self.now ++ content self.now)
             (W.told w.old) (W.told w.new) (W.failed w.old) (W.failed w.new) result }
         ensures refused { tells self.now → raw_is_der self.now →
-            IfErr result (Refuses (some_takes write_takes_memory count_takes_memory content_takes_memory)
+            IfErr result (Refuses (some_allocates write_allocates count_allocates content_allocates)
             (length (header self.now ++ content self.now))
             (Either (header_refuses self.now) (content_refuses self.now))) }
-        ensures accepted { (e : Unwritten) → tells self.now → raw_is_der self.now →
+        ensures accepted { (e : SerializeError) → tells self.now → raw_is_der self.now →
             content_refuses self.now e → IsErr result }
-        ensures uncounted { (e : Uncounted) → tells self.now → raw_is_der self.now →
+        ensures uncounted { (e : Error) → tells self.now → raw_is_der self.now →
             count_refuses self.now e → IsErr result }
-        ensures at_once { (e : Unwritten) → tells self.now → raw_is_der self.now →
+        ensures at_once { (e : SerializeError) → tells self.now → raw_is_der self.now →
             header_refuses self.now e →
-            IsRefusedAtOnce (some_takes write_takes_memory count_takes_memory content_takes_memory)
+            IsRefusedAtOnce (some_allocates write_allocates count_allocates content_allocates)
             (length (header self.now ++ content self.now))
             (Either (header_refuses self.now) (content_refuses self.now))
             (W.told w.old) (W.told w.new) (W.failed w.old) (W.failed w.new) result }
         ensures counted { tells self.now →
             IfOk result (λ n. (raw : List ℕ) × Appends (W.told w.old) (W.told w.new) raw × (n ≡ length raw)) }
-        ensures first { (e : Unwritten) → refuses_first self.now e →
+        ensures first { (e : SerializeError) → refuses_first self.now e →
             RefusedAtOnce e (W.told w.old) (W.told w.new) (W.failed w.old) (W.failed w.new) result }
     {
         self.write_der(alloc, w)
     }
 
-    /// The encoding in a vector. Want of memory is `OutOfMemory`, and never an `IOError`.
+    /// The encoding in a vector. Out of memory is `OutOfMemory`, and never an `IOError`.
     fn to_der_vec(&self, alloc: Global) -> SerializeResult<Vec<u8>>
         ensures wrote { tells self.now →
             IfOk result (λ octets. octets.items ≡ header self.now ++ content self.now) }
         ensures refused { tells self.now →
             IfErr result (VectorRefuses (length (header self.now ++ content self.now))
             (Either (header_refuses self.now) (content_refuses self.now))) }
-        ensures accepted { (e : Unwritten) → tells self.now →
+        ensures accepted { (e : SerializeError) → tells self.now →
             Either (header_refuses self.now) (content_refuses self.now) e → IsErr result }
-        ensures uncounted { (e : Uncounted) → tells self.now → count_refuses self.now e → IsErr result }
+        ensures uncounted { (e : Error) → tells self.now → count_refuses self.now e → IsErr result }
         ensures memory { IfErr result (λ e. tells_of_io e ≡ false) }
-        ensures first { (e : Unwritten) → refuses_first self.now e → result ≡ Err (vector_refusal e) }
+        ensures first { (e : SerializeError) → refuses_first self.now e → result ≡ Err (vector_refusal e) }
     {
         let mut w = Told::new(Vec::new(alloc));
         match self.write_der(alloc, &mut w) {
@@ -222,12 +183,12 @@ pub trait ToDer: DynTagged {
         ensures refused { tells self.now → raw_is_der self.now →
             IfErr result (VectorRefuses (length (header self.now ++ content self.now))
             (Either (header_refuses self.now) (content_refuses self.now))) }
-        ensures accepted { (e : Unwritten) → tells self.now → raw_is_der self.now →
+        ensures accepted { (e : SerializeError) → tells self.now → raw_is_der self.now →
             Either (header_refuses self.now) (content_refuses self.now) e → IsErr result }
-        ensures uncounted { (e : Uncounted) → tells self.now → raw_is_der self.now →
+        ensures uncounted { (e : Error) → tells self.now → raw_is_der self.now →
             count_refuses self.now e → IsErr result }
         ensures memory { IfErr result (λ e. tells_of_io e ≡ false) }
-        ensures first { (e : Unwritten) → refuses_first self.now e → result ≡ Err (vector_refusal e) }
+        ensures first { (e : SerializeError) → refuses_first self.now e → result ≡ Err (vector_refusal e) }
     {
         let mut w = Told::new(Vec::new(alloc));
         match self.write_der_raw(alloc, &mut w) {

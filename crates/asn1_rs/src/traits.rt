@@ -1,16 +1,17 @@
 //! The traits of readers, and of types with a tag.
 ghost use Rattle.std.specs.Prelude.{◌≡◌, ℕ, List, Result};
 ghost use Rattle.x690.specs.Elements.{Parts};
-ghost use Rattle.asn1_rs.specs.declared.asn1_types.any.Any.{Any as Element};
-ghost use Rattle.asn1_rs.specs.declared.tag.Tag.{Tag as Number};
+ghost use Rattle.asn1_rs.specs.declared.asn1_types.any.Any.{Any};
+ghost use Rattle.asn1_rs.specs.declared.tag.Tag.{Tag};
 ghost use Rattle.asn1_rs.specs.declared.error.Err.{Err as Refusal};
-ghost use Rattle.asn1_rs.specs.declared.error.Error.{Error as Fault};
+ghost use Rattle.asn1_rs.specs.declared.error.Error.{Error};
 ghost use Rattle.asn1_rs.specs.Answers.{seen};
 ghost use Rattle.asn1_rs.specs.Any.{parts_of};
-ghost use Rattle.asn1_rs.specs.Grammar.{BerGives, DerGives};
+ghost use Rattle.asn1_rs.specs.Traits.{BerGives, DerGives};
 
 use crate::asn1_types::any::Any;
-use crate::ber::{element_by_ber, element_by_der};
+use crate::ber::element_by_ber;
+use crate::der::element_by_der;
 use crate::error::{Err, Error, ParseResult};
 use crate::tag::Tag;
 use std::alloc::Global;
@@ -36,7 +37,7 @@ pub trait Tagged {
     const TAG: Tag;
 
     /// The tag number, as contracts name it.
-    ghost mark: { Number };
+    ghost mark: { Tag };
 
     /// The tag number, as contracts name it.
     fn its_tag() -> Tag
@@ -46,7 +47,7 @@ pub trait Tagged {
 /// A value that has a tag number, which its type need not know.
 pub trait DynTagged {
     /// The tag number of the value.
-    ghost dyn_tag: { Self → Number };
+    ghost dyn_tag: { Self → Tag };
 
     /// The tag number.
     fn tag(&self) -> Tag
@@ -81,7 +82,7 @@ pub trait FromAny<'a>: Sized {
     /// What the conversion may answer to this element. Left out, nothing is claimed of it.
     ///
     /// A type that looks at the parts of the element alone says `OfParts` of a relation of these.
-    ghost any_gives: { Element → Result Self Self.Error → Type 0 } = { λ _ _. Unit {0} };
+    ghost any_gives: { Any → Result Self Self.Error → Type 0 } = { λ _ _. Unit {0} };
 
     /// The value of the element.
     fn try_from_any(alloc: Global, any: Any<'a>) -> Result<Self, Self::Error>
@@ -111,9 +112,9 @@ pub trait FromDer<'a, E>: Sized {
 /// A type whose elements keep constraints by DER (X.690, sections 10 and 11).
 pub trait CheckDerConstraints {
     /// What the check may answer at an element of these parts. Left out, nothing is claimed of it.
-    ghost check_gives: { Parts → Result (Unit {0}) Fault → Type 0 } = { λ _ _. Unit {0} };
+    ghost check_gives: { Parts → Result (Unit {0}) Error → Type 0 } = { λ _ _. Unit {0} };
 
-    /// Refuses an element that breaks a constraint. It takes no memory.
+    /// Refuses an element that breaks a constraint. It does not allocate.
     fn check_constraints(any: &Any<'_>) -> Result<(), Error>
         ensures { check_gives (parts_of any.now) result };
 }

@@ -2,7 +2,7 @@
 ghost use Rattle.std.specs.Prelude.{◌≡◌, ◌≢◌, [], ◌||◌, Bool, ℕ, List, Option, None, false, IsTrue, IsErr, IfOk, IfErr, Ok};
 ghost use Rattle.std.specs.Io.{WritesAtMost};
 ghost use Rattle.std.specs.Io.KnownBytes.{WriteAppends};
-ghost use Rattle.asn1_rs.specs.Wrote.{wrapped_in, mark_of, put_fails, Wrote, MayRefuse, Calls, ToldPut, PutOnce, PutRefused, PutInCalls};
+ghost use Rattle.asn1_rs.specs.Writer.{wrapped_in, mark_of, put_fails, Wrote, MayRefuse, Calls, ToldPut, PutOnce, PutRefused, PutInCalls, SumsWritten};
 
 use crate::error::{SerializeError, SerializeResult};
 use std::io;
@@ -157,4 +157,14 @@ pub fn put_all<W: DerWrite>(w: &mut W, piece: &[u8]) -> SerializeResult<usize>
         rest = &rest[n..];
     }
     Ok(piece.len())
+}
+
+/// The sum of two numbers of octets that were written.
+#[inline(always)]
+pub(crate) fn add_written(before: usize, after: usize) -> SerializeResult<usize>
+    ensures { SumsWritten before after result }
+{
+    before
+        .checked_add(after)
+        .ok_or(SerializeError::InvalidLength)
 }

@@ -1,12 +1,12 @@
-//! Calls that take memory, each twice. Where one growth is refused, as `tools/refused_growths` has it, one call tells of
-//! want of memory, and the other answers as ever.
+//! Calls that allocate, each twice. Where one growth is refused, as `tools/refused_growths` has it, one call tells of
+//! out of memory, and the other answers as ever.
 
 use asn1_rs::{Err, Error, FromDer, SerializeError, SetOf, ToDer};
 use std::alloc::Global;
 use std::collections::BTreeSet;
 use std::process::Abort;
 
-/// Asserts that the value is written as these octets, or refused for want of memory.
+/// Asserts that the value is written as these octets, or refused when out of memory.
 fn assert_written<T: ToDer>(rt: &impl Abort, alloc: Global, value: &T, octets: &[u8]) {
     for _ in 0..2 {
         match value.to_der_vec(alloc) {
@@ -16,7 +16,7 @@ fn assert_written<T: ToDer>(rt: &impl Abort, alloc: Global, value: &T, octets: &
     }
 }
 
-/// Asserts that a value is read from its strict encoding and written again, or refused for want of memory.
+/// Asserts that a value is read from its strict encoding and written again, or refused when out of memory.
 fn assert_read<'a, T: FromDer<'a, Error> + ToDer + Drop>(
     rt: &impl Abort,
     alloc: Global,

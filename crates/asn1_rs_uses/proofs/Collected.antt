@@ -7,10 +7,10 @@ use Rattle.std.specs.Iterator.Runs.{Run}
 use Rattle.std.proofs.iter.Next.{Yields-more}
 use Rattle.asn1_rs.specs.declared.error.Err.{Err as Refusal}
 use Rattle.asn1_rs.specs.declared.error.Error.{Error}
-use Rattle.asn1_rs.specs.declared.error.Error.TheVariants as faults
-use Rattle.asn1_rs.specs.declared.asn1_types.sequence_iterator.SequenceIterator.{SequenceIterator}
-use Rattle.asn1_rs.specs.Items.{octets_left, WalkSteps, EndsWalk, IsWalk, IsWalkOf, IsJoined, EndsJoined, TellsNoWord, TellsMemoryAlone, IsMemory}
-use Rattle.asn1_rs.specs.Laws.Items.{items_joined, items_ended}
+use Rattle.asn1_rs.specs.declared.error.Error.TheVariants as errors
+use Rattle.asn1_rs.specs.declared.asn1_types.sequence.iterator.SequenceIterator.{SequenceIterator}
+use Rattle.asn1_rs.specs.Sequence.Iterator.{octets_left, WalkSteps, EndsWalk, IsWalk, IsWalkOf, IsJoined, EndsJoined, TellsNoWord, TellsMemoryAlone, IsMemory}
+use Rattle.asn1_rs.specs.Laws.Sequence.Iterator.{items_joined, items_ended}
 use Rattle.asn1_rs_uses.specs.Items.{EndsBefore}
 
 module _ {T F V E : Type 0} (reads : List ℕ → Result (List ℕ × T) (Refusal E) → Type 0) (from : Error → E → Type 0) (G : List ℕ → V → Type 0) (value : T → V)
@@ -36,7 +36,7 @@ module _ {T F V E : Type 0} (reads : List ℕ → Result (List ℕ × T) (Refusa
       subst (λ (o : List ℕ). EndsJoined G Tells o (map value items) e) begins (items_ended G value Tells (octets_left s) items e (octets_left u) w)
 
 -- a refusal tells of memory, or that no word begins what is left
-pub why_refused : {V E : Type 0} (from : Error → E → Type 0) (G : List ℕ → V → Type 0) (takes : Bool) (content : List ℕ) (values : List V) (e : E) → EndsJoined G (TellsNoWord G (IsMemory takes from)) content values e → from faults.OutOfMemory e ⊎ EndsBefore G content e
+pub why_refused : {V E : Type 0} (from : Error → E → Type 0) (G : List ℕ → V → Type 0) (takes : Bool) (content : List ℕ) (values : List V) (e : E) → EndsJoined G (TellsNoWord G (IsMemory takes from)) content values e → from errors.OutOfMemory e ⊎ EndsBefore G content e
 why_refused from G takes content values e j =
     elim j.tells [
       | inl m ↦ inl m.1

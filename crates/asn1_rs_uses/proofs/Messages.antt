@@ -5,7 +5,7 @@ use Rattle.std.proofs.lemmas.List.{append-nil}
 use Rattle.asn1_rs.specs.declared.asn1_types.any.Any.{Any}
 use Rattle.asn1_rs.specs.declared.tag.Tag.{Tag}
 use Rattle.asn1_rs.specs.Any.{parts_of}
-use Rattle.asn1_rs.specs.Element.{Element, element_of}
+use Rattle.asn1_rs.specs.Any.Value.{ElementValue, element_of}
 use Rattle.asn1_rs.specs.Answers.{Front}
 use Rattle.std.specs.Prelude.{map, pos}
 use Rattle.asn1_rs_uses.specs.declared.message.Message.{Message}
@@ -40,11 +40,11 @@ message_begins octets rest any m f s = record {
   element = f.fits.1;
   is = f.is;
   message = record {
-    sequence = sym (ap (λ (z : Element). z.id.number) f.fits.3) ∙ s.sequence;
+    sequence = sym (ap (λ (z : ElementValue). z.id.number) f.fits.3) ∙ s.sequence;
     first = s.first;
     second = s.second;
     third = s.third;
-    joined = sym (ap (λ (z : Element). z.content) f.fits.3) ∙ s.joined;
+    joined = sym (ap (λ (z : ElementValue). z.content) f.fits.3) ∙ s.joined;
     version_is = s.version_is;
     community_is = s.community_is;
     numbers_are = s.numbers_are;

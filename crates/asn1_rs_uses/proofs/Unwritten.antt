@@ -7,14 +7,16 @@ use Rattle.asn1_rs.specs.declared.class.Class.{Class}
 use Rattle.asn1_rs.specs.declared.header.Header.{Header}
 use Rattle.asn1_rs.specs.declared.length.Length.TheVariants.{Definite}
 use Rattle.asn1_rs.specs.declared.error.Error.{Error}
-use Rattle.asn1_rs.specs.declared.error.Error.TheVariants as faults
+use Rattle.asn1_rs.specs.declared.error.Error.TheVariants as errors
 use Rattle.asn1_rs.specs.declared.error.SerializeError.{SerializeError}
-use Rattle.asn1_rs.specs.declared.error.SerializeError.TheVariants as refusals
+use Rattle.asn1_rs.specs.declared.error.SerializeError.TheVariants as serialize_errors
 use Rattle.asn1_rs.specs.Class.{class_number}
 use Rattle.asn1_rs.specs.Header.{HasParts}
 use Rattle.asn1_rs.specs.Lists.{SomeRefuses}
-use Rattle.asn1_rs.specs.WrittenHeader.{strict_header}
-use Rattle.asn1_rs.specs.Wrote.{MayRefuse, Refuses, RefusesCount, RefusedAtOnce, IsRefusedAtOnce, VectorRefuses, IntoVector, WrittenRefusal, Either, vector_refusal, tells_of_io}
+use Rattle.asn1_rs.specs.Header.Writing.{strict_header}
+use Rattle.asn1_rs.specs.Writer.{MayRefuse}
+use Rattle.asn1_rs.specs.ToDer.{Refuses, RefusesCount, RefusedAtOnce, IsRefusedAtOnce, VectorRefuses, IntoVector, WrittenRefusal, Either}
+use Rattle.asn1_rs.specs.Error.{vector_refusal, tells_of_io}
 use Rattle.asn1_rs_uses.specs.declared.refusals.InClass.{InClass}
 use Rattle.asn1_rs_uses.specs.declared.refusals.NamePart.{NamePart}
 use Rattle.asn1_rs_uses.specs.Refusals.{NamesNoClass, TellsOfNoClass, SomeInNoClass, AsAnyWriting, TellsOfEmptyPart, IsEmptyPart, WrittenEmptyPart, IsMemoryOrLength, SomeEmpty}
@@ -24,13 +26,13 @@ pub header_of_one : (h : Header) (class : Class) (n : ℕ) → n ≡ class_numbe
 unfolding header_octets
 header_of_one h class n e p = let is = p.class_is in let of = p.constructed_is in let tag = p.tag_is in let form = p.length_is in rw (e, is, of, tag, form) refl
 
--- Of few octets, where no memory is taken, the writer's failure is the only refusal.
+-- Of few octets, where no memory is allocated, the writer's failure is the only refusal.
 few_may : (n m : ℕ) → n < 2 ^ 64 → (e : SerializeError) → MayRefuse false n e → MayRefuse false m e
-few_may n m few (refusals.ASN1Error e) p = absurd p
-few_may n m few (refusals.InvalidClass c) p = absurd p
-few_may n m few refusals.InvalidLength p = absurd (omega arith)
-few_may n m few (refusals.IOError e) p = tt
-few_may n m few refusals.OutOfMemory p = p
+few_may n m few (serialize_errors.ASN1Error e) p = absurd p
+few_may n m few (serialize_errors.InvalidClass c) p = absurd p
+few_may n m few serialize_errors.InvalidLength p = absurd (omega arith)
+few_may n m few (serialize_errors.IOError e) p = tt
+few_may n m few serialize_errors.OutOfMemory p = p
 
 pub few_refused : (n m : ℕ) (own : SerializeError → Type 0) (r : Result ℕ SerializeError) → n < 2 ^ 64 → IfErr r (Refuses false n (λ e. ⊥)) → IfErr r (Refuses false m own)
 few_refused n m own (Ok k) few p = tt
@@ -47,7 +49,7 @@ three_octets n o = refl
 
 -- an item of no class is refused with the class
 pub names_some : (xs : List InClass) → SomeInNoClass xs → (e : SerializeError) × SomeRefuses (λ x. Either (NamesNoClass x.class) (NamesNoClass x.class)) xs e × SomeRefuses (λ x. IntoVector (Either (NamesNoClass x.class) (NamesNoClass x.class))) xs e
-names_some xs (k, x, lt, at, h) = let e = refusals.InvalidClass x.class in (e, (k, x, lt, at, inl (h, refl)), (k, x, lt, at, (e, inl (h, refl), refl)))
+names_some xs (k, x, lt, at, h) = let e = serialize_errors.InvalidClass x.class in (e, (k, x, lt, at, inl (h, refl)), (k, x, lt, at, (e, inl (h, refl), refl)))
 
 -- a list is refused as any writing, or with the class of an item
 pub list_refused : (n : ℕ) (xs : List InClass) (r : Result ℕ SerializeError) → IfErr r (Refuses true n (Either (WrittenRefusal (SomeRefuses (λ (x : InClass) e. ⊥) xs)) (SomeRefuses (λ x. Either (NamesNoClass x.class) (NamesNoClass x.class)) xs))) → IfErr r (λ e. MayRefuse true n e ⊎ TellsOfNoClass xs e)
@@ -57,11 +59,11 @@ list_refused n xs (Err e) (inr (inl (f, (k, x, lt, at, none), is))) = absurd non
 list_refused n xs (Err e) (inr (inr (k, x, lt, at, own))) = inr (k, x, lt, at, either_same (NamesNoClass x.class) e own)
 
 may_as_any : (takes : Bool) (n : ℕ) (e : SerializeError) → MayRefuse takes n e → AsAnyWriting e
-may_as_any takes n (refusals.ASN1Error e) p = p
-may_as_any takes n (refusals.InvalidClass c) p = p
-may_as_any takes n refusals.InvalidLength p = tt
-may_as_any takes n (refusals.IOError e) p = tt
-may_as_any takes n refusals.OutOfMemory p = tt
+may_as_any takes n (serialize_errors.ASN1Error e) p = p
+may_as_any takes n (serialize_errors.InvalidClass c) p = p
+may_as_any takes n serialize_errors.InvalidLength p = tt
+may_as_any takes n (serialize_errors.IOError e) p = tt
+may_as_any takes n serialize_errors.OutOfMemory p = tt
 
 -- and so is a set, where memory may be wanted first
 pub set_refused : (takes : Bool) (n : ℕ) (xs : List InClass) (r : Result ℕ SerializeError) → IfErr r (Refuses takes n (Either (WrittenRefusal (SomeRefuses (λ (x : InClass) e. ⊥) xs)) (SomeRefuses (λ x. IntoVector (Either (NamesNoClass x.class) (NamesNoClass x.class))) xs))) → IfErr r (λ e. AsAnyWriting e ⊎ TellsOfNoClass xs e)
@@ -75,28 +77,28 @@ set_refused takes n xs (Err e) (inr (inr (k, x, lt, at, (f, own, is)))) =
 -- an empty part has a refusal
 pub empty_part : (parts : List NamePart) → SomeEmpty parts → (e : Error) × SomeRefuses (λ p. IsEmptyPart p.0.now) parts e × TellsOfEmptyPart e
 empty_part parts (k, p, lt, at, empty) =
-    let e = faults.InvalidValue (record { 0 = 12 }) (cow.Borrowed (record { ref_ptr = p.0.ref_ptr; now = codes "empty part" })) in
+    let e = errors.InvalidValue (record { 0 = 12 }) (cow.Borrowed (record { ref_ptr = p.0.ref_ptr; now = codes "empty part" })) in
     (e, (k, p, lt, at, (empty, (refl, refl))), (refl, refl))
 
 -- a name with an empty part is not counted
-pub name_uncounted : (n : ℕ) (parts : List NamePart) (r : Result ℕ Error) → IsErr r → IfErr r (RefusesCount false n (SomeRefuses (λ p. IsEmptyPart p.0.now) parts)) → IsErrAnd r (λ e. TellsOfEmptyPart e ⊎ (e ≡ faults.InvalidLength))
+pub name_uncounted : (n : ℕ) (parts : List NamePart) (r : Result ℕ Error) → IsErr r → IfErr r (RefusesCount false n (SomeRefuses (λ p. IsEmptyPart p.0.now) parts)) → IsErrAnd r (λ e. TellsOfEmptyPart e ⊎ (e ≡ errors.InvalidLength))
 name_uncounted n parts (Ok k) refused why = cc
 name_uncounted n parts (Err e) refused (inr (k, p, lt, at, own)) = inl own.1
-name_uncounted n parts (Err faults.InvalidLength) refused (inl may) = inr refl
-name_uncounted n parts (Err faults.OutOfMemory) refused (inl may) = cc
+name_uncounted n parts (Err errors.InvalidLength) refused (inl may) = inr refl
+name_uncounted n parts (Err errors.OutOfMemory) refused (inl may) = cc
 name_uncounted n parts (Err e) refused (inl may) = absurd may
 
 written_empty : (octets : List ℕ) (e : SerializeError) → WrittenRefusal (IsEmptyPart octets) e → WrittenEmptyPart e
-written_empty octets e (faults.InvalidValue tag msg, own, is) = rw is own.1
+written_empty octets e (errors.InvalidValue tag msg, own, is) = rw is own.1
 written_empty octets e (f, own, is) = absurd own.1
 
 -- nor is it written, and nothing is appended
 may_at_once : (n : ℕ) (e : SerializeError) → MayRefuse true n e → tells_of_io e ≡ false → IsMemoryOrLength e
-may_at_once n (refusals.ASN1Error e) p h = absurd p
-may_at_once n (refusals.InvalidClass c) p h = absurd p
-may_at_once n refusals.InvalidLength p h = inr refl
-may_at_once n (refusals.IOError e) p h = cc
-may_at_once n refusals.OutOfMemory p h = inl refl
+may_at_once n (serialize_errors.ASN1Error e) p h = absurd p
+may_at_once n (serialize_errors.InvalidClass c) p h = absurd p
+may_at_once n serialize_errors.InvalidLength p h = inr refl
+may_at_once n (serialize_errors.IOError e) p h = cc
+may_at_once n serialize_errors.OutOfMemory p h = inl refl
 
 own_unwritten : (parts : List NamePart) (e : SerializeError) → Either (WrittenRefusal (SomeRefuses (λ p. IsEmptyPart p.0.now) parts)) (SomeRefuses (λ p. Either (WrittenRefusal (IsEmptyPart p.0.now)) (WrittenRefusal (IsEmptyPart p.0.now))) parts) e → WrittenEmptyPart e
 own_unwritten parts e (inl (f, (k, p, lt, at, own), is)) = written_empty p.0.now e (f, own, is)

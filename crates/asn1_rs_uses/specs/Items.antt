@@ -1,7 +1,7 @@
 -- Contents octets that are not items alone.
 use Rattle.std.specs.Prelude.{ℕ, List}
 use Rattle.asn1_rs.specs.Answers.{NoFront}
-use Rattle.asn1_rs.specs.Items.{EndsJoined}
+use Rattle.asn1_rs.specs.Sequence.Iterator.{EndsJoined}
 
 -- no word begins the octets, whatever is told of them
 abbrev pub NoWord : {V E : Type 0} → (List ℕ → V → Type 0) → List ℕ → E → Type 0

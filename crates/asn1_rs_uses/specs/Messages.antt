@@ -7,7 +7,8 @@ use Rattle.x690.specs.Strict.{header_octets}
 use Rattle.asn1_rs.specs.declared.error.Err.{Err as Refusal}
 use Rattle.asn1_rs.specs.declared.error.Error.{Error}
 use Rattle.asn1_rs.specs.Answers.{TellsMemory}
-use Rattle.asn1_rs.specs.Element.{Element, ElementBody, ElementCheck, element_of, element_header}
+use Rattle.asn1_rs.specs.Any.Value.{ElementValue, ElementBody, ElementCheck, element_of}
+use Rattle.asn1_rs.specs.Any.Writing.{element_header}
 use Rattle.asn1_rs.specs.Grammar.{DerWord, NoCheck}
 use Rattle.asn1_rs.specs.Integer.{IntegerBody, IntegerCheck, IsUnsigned}
 use Rattle.asn1_rs.specs.Lists.{ListOf}
@@ -17,7 +18,7 @@ use Rattle.asn1_rs_uses.specs.declared.message.Message.{Message}
 abbrev pub ShortNumber : List ℕ → ℤ → Type 0
 ShortNumber = DerWord IntegerCheck (IntegerBody (IsUnsigned 4))
 
-abbrev pub AnyElement : List ℕ → Element → Type 0
+abbrev pub AnyElement : List ℕ → ElementValue → Type 0
 AnyElement = DerWord ElementCheck ElementBody
 
 abbrev pub ShortNumbers : List ℕ → List ℤ → Type 0
@@ -57,6 +58,6 @@ abbrev pub message_octets : Message → List ℕ
 message_octets m =
     in_sequence (number_octets m.version ++ (element_header m.community ++ m.community.content.now) ++ numbers_octets m.numbers.items)
 
--- reading numbers takes memory, and want of it may be told
+-- reading numbers allocates, and out of memory may be reported
 abbrev pub WantsMemory : Refusal Error → Type 0
 WantsMemory = TellsMemory true (λ e f. f ≡ e)

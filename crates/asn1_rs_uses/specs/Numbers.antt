@@ -3,7 +3,7 @@ use Rattle.std.specs.Prelude.{◌≡◌, ℕ, ℤ, List, false, pos}
 use Rattle.asn1_rs.specs.declared.error.Err.{Err as Refusal}
 use Rattle.asn1_rs.specs.declared.error.Error.{Error}
 use Rattle.asn1_rs.specs.Answers.{TellsMemory}
-use Rattle.asn1_rs.specs.Form.{IsStrict}
+use Rattle.asn1_rs.specs.Grammar.Form.{IsStrict}
 use Rattle.asn1_rs.specs.Grammar.{BerWord, DerWord}
 use Rattle.asn1_rs.specs.Integer.{IntegerBody, IntegerCheck, IntegerForm, IsUnsigned}
 
@@ -18,6 +18,6 @@ NumberByDer = DerWord IntegerCheck (IntegerBody (IsUnsigned 8))
 abbrev pub IsStrictNumber : ℕ → List ℕ → Type 0
 IsStrictNumber x octets = IsStrict (IntegerForm (IsUnsigned 8)) (pos x) octets
 
--- reading a number takes no memory, so no refusal tells of want of it
+-- reading a number does not allocate, so no refusal reports out of memory
 abbrev pub NoMemory : Refusal Error → Type 0
 NoMemory = TellsMemory false (λ e f. f ≡ e)

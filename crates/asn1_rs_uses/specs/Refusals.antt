@@ -6,17 +6,17 @@ use Rattle.x690.specs.Strict.{header_octets}
 use Rattle.asn1_rs_uses.specs.declared.refusals.InClass.{InClass}
 use Rattle.asn1_rs_uses.specs.declared.refusals.NamePart.{NamePart}
 use Rattle.asn1_rs.specs.declared.error.Error.{Error}
-use Rattle.asn1_rs.specs.declared.error.Error.TheVariants as faults
+use Rattle.asn1_rs.specs.declared.error.Error.TheVariants as errors
 use Rattle.asn1_rs.specs.declared.error.SerializeError.{SerializeError}
-use Rattle.asn1_rs.specs.declared.error.SerializeError.TheVariants as refusals
+use Rattle.asn1_rs.specs.declared.error.SerializeError.TheVariants as serialize_errors
 
 -- no class has the number, and the refusal names it
 abbrev pub NamesNoClass : ℕ → SerializeError → Type 0
-NamesNoClass class e = (4 ≤ class) × (e ≡ refusals.InvalidClass class)
+NamesNoClass class e = (4 ≤ class) × (e ≡ serialize_errors.InvalidClass class)
 
 -- the refusal of an empty part, with its tag number and its text
 abbrev pub TellsOfEmptyPart : Error → Type 0
-TellsOfEmptyPart (faults.InvalidValue tag msg) = (tag ≡ record { 0 = 12 }) × (cow_str_bytes msg ≡ codes "empty part")
+TellsOfEmptyPart (errors.InvalidValue tag msg) = (tag ≡ record { 0 = 12 }) × (cow_str_bytes msg ≡ codes "empty part")
 TellsOfEmptyPart _ = ⊥
 
 -- a part has no octets, and the refusal tells of that
@@ -25,7 +25,7 @@ IsEmptyPart octets e = (octets ≡ []) × TellsOfEmptyPart e
 
 -- the same, in writing
 abbrev pub WrittenEmptyPart : SerializeError → Type 0
-WrittenEmptyPart (refusals.ASN1Error e) = TellsOfEmptyPart e
+WrittenEmptyPart (serialize_errors.ASN1Error e) = TellsOfEmptyPart e
 WrittenEmptyPart _ = ⊥
 
 -- the refusal names the class of one of the items, which is none
@@ -48,12 +48,12 @@ octets_in_classes xs = let content = flat_map octets_in_class xs in header_octet
 abbrev pub SomeEmpty : List NamePart → Type 0
 SomeEmpty parts = Any (λ p. p.0.now ≡ []) parts
 
--- a refusal that any writing may have: the writer's failure, a length past what 64 bits hold, or want of memory
+-- a refusal that any writing may have: the writer's failure, a length past what 64 bits hold, or out of memory
 abbrev pub AsAnyWriting : SerializeError → Type 0
-AsAnyWriting (refusals.ASN1Error e) = ⊥
-AsAnyWriting (refusals.InvalidClass c) = ⊥
+AsAnyWriting (serialize_errors.ASN1Error e) = ⊥
+AsAnyWriting (serialize_errors.InvalidClass c) = ⊥
 AsAnyWriting e = Unit {0}
 
--- want of memory, or a length past what 64 bits hold
+-- out of memory, or a length past what 64 bits hold
 abbrev pub IsMemoryOrLength : SerializeError → Type 0
-IsMemoryOrLength e = (e ≡ refusals.OutOfMemory) ⊎ (e ≡ refusals.InvalidLength)
+IsMemoryOrLength e = (e ≡ serialize_errors.OutOfMemory) ⊎ (e ≡ serialize_errors.InvalidLength)

@@ -1,7 +1,8 @@
 //! A lawful type of a caller's that borrows its contents octets.
 ghost use Rattle.std.specs.Prelude.{◌≡◌};
 ghost use Rattle.std.proofs.Common.{lit<};
-ghost use Rattle.asn1_rs.specs.Any.{parts_of, OfParts};
+ghost use Rattle.asn1_rs.specs.Any.{parts_of};
+ghost use Rattle.asn1_rs.specs.Traits.{OfParts};
 ghost use Rattle.asn1_rs.specs.OctetsElement.{OctetsGives, PrimitiveCheckGives, octets_element};
 ghost use Rattle.asn1_rs.specs.Laws.OctetsElement.{primitive_checks, octets_lawful, octets_converts, octets_primitive};
 

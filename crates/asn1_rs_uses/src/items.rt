@@ -1,9 +1,9 @@
 //! Items in contents octets.
 ghost use Rattle.std.specs.Prelude.{◌≡◌, ◌⊎◌, List, length, map, pos, ℤ, IfOk, IfErr};
-ghost use Rattle.asn1_rs.specs.declared.error.Error.TheVariants as faults;
-ghost use Rattle.asn1_rs.specs.Element.{ElementBody, element_of};
+ghost use Rattle.asn1_rs.specs.declared.error.Error.TheVariants as errors;
+ghost use Rattle.asn1_rs.specs.Any.Value.{ElementBody, element_of};
 ghost use Rattle.asn1_rs.specs.Grammar.{BerWord};
-ghost use Rattle.asn1_rs.specs.Items.{IsJoined, AreJoinedWords};
+ghost use Rattle.asn1_rs.specs.Sequence.Iterator.{IsJoined, AreJoinedWords};
 ghost use Rattle.asn1_rs_uses.specs.Items.{EndsBefore};
 ghost use Rattle.asn1_rs_uses.specs.Numbers.{NumberByDer};
 
@@ -20,9 +20,9 @@ where
     F: ReadsWords<'a, T, E>,
     E: From<Error>,
     ensures joined { IfOk result (λ items. IsJoined F.Words content.now (map F.value items.items)) }
-    ensures refused { IfErr result (λ e. E.from_gives faults.OutOfMemory e ⊎ EndsBefore F.Words content.now e) }
+    ensures refused { IfErr result (λ e. E.from_gives errors.OutOfMemory e ⊎ EndsBefore F.Words content.now e) }
     ensures whole { AreJoinedWords F.Words content.now
-        → IfErr result (E.from_gives faults.OutOfMemory) }
+        → IfErr result (E.from_gives errors.OutOfMemory) }
 {
     walks_take_words::<T, F, E>();
     let mut items = Vec::new(alloc);
@@ -41,8 +41,8 @@ where
 /// The numbers in contents octets, by DER.
 pub fn numbers_in(alloc: Global, content: &[u8]) -> Result<Vec<u64>, Error>
     ensures joined { IfOk result (λ items. IsJoined NumberByDer content.now (map pos items.items)) }
-    ensures refused { IfErr result (λ e. (e ≡ faults.OutOfMemory) ⊎ EndsBefore NumberByDer content.now e) }
-    ensures whole { AreJoinedWords NumberByDer content.now → IfErr result (λ e. e ≡ faults.OutOfMemory) }
+    ensures refused { IfErr result (λ e. (e ≡ errors.OutOfMemory) ⊎ EndsBefore NumberByDer content.now e) }
+    ensures whole { AreJoinedWords NumberByDer content.now → IfErr result (λ e. e ≡ errors.OutOfMemory) }
 {
     items_in::<u64, DerParser, Error>(alloc, content)
 }

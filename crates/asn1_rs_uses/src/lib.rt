@@ -3,8 +3,8 @@
 //! A caller names a law at its types, as `reader_is_exact_by_der::<u64, Error>()`, and cites what it says.
 #![tactic(auto)]
 
-mod elements;
 mod fingerprint;
+mod incomplete;
 mod items;
 mod message;
 mod numbers;
@@ -15,8 +15,8 @@ mod serial_number;
 #[cfg(test)]
 mod tests;
 
-pub use elements::{read_element, read_header};
 pub use fingerprint::Fingerprint;
+pub use incomplete::{read_element, read_header};
 pub use items::{count_of_numbers, elements_in, items_in, numbers_in};
 pub use message::Message;
 pub use numbers::{

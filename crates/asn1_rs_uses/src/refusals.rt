@@ -3,11 +3,12 @@ ghost use Rattle.std.specs.Prelude.{◌≡◌, ◌≢◌, ◌≤◌, ◌⊎◌, 
 ghost use Rattle.x690.specs.Strict.{header_octets};
 ghost use Rattle.asn1_rs.specs.declared.class.Class.TheVariants as classes;
 ghost use Rattle.asn1_rs.specs.declared.length.Length.TheVariants as forms;
-ghost use Rattle.asn1_rs.specs.declared.error.Error.TheVariants as faults;
-ghost use Rattle.asn1_rs.specs.declared.error.SerializeError.TheVariants as refusals;
+ghost use Rattle.asn1_rs.specs.declared.error.Error.TheVariants as errors;
+ghost use Rattle.asn1_rs.specs.declared.error.SerializeError.TheVariants as serialize_errors;
 ghost use Rattle.asn1_rs.specs.Header.{HasParts};
-ghost use Rattle.asn1_rs.specs.Sets.{items_of};
-ghost use Rattle.asn1_rs.specs.Wrote.{GrewByABeginning, MayRefuse, RefusedAtOnce, WrittenRefusal};
+ghost use Rattle.asn1_rs.specs.Set.{items_of};
+ghost use Rattle.asn1_rs.specs.Writer.{GrewByABeginning, MayRefuse};
+ghost use Rattle.asn1_rs.specs.ToDer.{RefusedAtOnce, WrittenRefusal};
 ghost use Rattle.asn1_rs_uses.specs.Refusals.{NamesNoClass, AsAnyWriting, TellsOfNoClass, SomeInNoClass, octets_in_classes, IsEmptyPart, TellsOfEmptyPart, WrittenEmptyPart, IsMemoryOrLength, SomeEmpty};
 
 use asn1_rs::{
@@ -48,11 +49,11 @@ impl ToDer for InClass {
 
     ghost refuses_first = { λ x. NamesNoClass x.class };
 
-    ghost count_takes_memory = { false };
+    ghost count_allocates = { false };
 
-    ghost content_takes_memory = { false };
+    ghost content_allocates = { false };
 
-    ghost write_takes_memory = { false };
+    ghost write_allocates = { false };
 
     fn to_der_len(&self) -> Result<usize, Error> {
         Ok(3)
@@ -85,7 +86,7 @@ impl ToDer for InClass {
 
 /// Appends the element. A value of no class is refused, with nothing appended.
 pub fn write_in_class<W: DerWrite>(x: &InClass, alloc: Global, w: &mut W) -> SerializeResult<usize>
-    ensures { 4 ≤ x.now.class → RefusedAtOnce (refusals.InvalidClass x.now.class)
+    ensures { 4 ≤ x.now.class → RefusedAtOnce (serialize_errors.InvalidClass x.now.class)
         (W.told w.old) (W.told w.new) (W.failed w.old) (W.failed w.new) result }
 {
     x.write_der(alloc, w)
@@ -97,7 +98,7 @@ pub fn write_header_in_class<W: DerWrite>(
     alloc: Global,
     w: &mut W,
 ) -> SerializeResult<usize>
-    ensures { 4 ≤ x.now.class → RefusedAtOnce (refusals.InvalidClass x.now.class)
+    ensures { 4 ≤ x.now.class → RefusedAtOnce (serialize_errors.InvalidClass x.now.class)
         (W.told w.old) (W.told w.new) (W.failed w.old) (W.failed w.new) result }
 {
     x.write_der_header(alloc, w)
@@ -109,7 +110,7 @@ pub fn write_raw_in_class<W: DerWrite>(
     alloc: Global,
     w: &mut W,
 ) -> SerializeResult<usize>
-    ensures { 4 ≤ x.now.class → RefusedAtOnce (refusals.InvalidClass x.now.class)
+    ensures { 4 ≤ x.now.class → RefusedAtOnce (serialize_errors.InvalidClass x.now.class)
         (W.told w.old) (W.told w.new) (W.failed w.old) (W.failed w.new) result }
 {
     x.write_der_raw(alloc, w)
@@ -117,7 +118,7 @@ pub fn write_raw_in_class<W: DerWrite>(
 
 /// The encoding in a vector.
 pub fn vector_in_class(alloc: Global, x: &InClass) -> SerializeResult<Vec<u8>>
-    ensures { 4 ≤ x.now.class → result ≡ Err (refusals.InvalidClass x.now.class) }
+    ensures { 4 ≤ x.now.class → result ≡ Err (serialize_errors.InvalidClass x.now.class) }
 {
     x.to_der_vec(alloc)
 }
@@ -137,7 +138,7 @@ pub fn write_list_in_classes<W: DerWrite>(
     xs.write_der(alloc, w)
 }
 
-/// Appends a set of such values. Want of memory may be the refusal before one of no class is met.
+/// Appends a set of such values. Out of memory may be the refusal before one of no class is met.
 pub fn write_set_in_classes<W: DerWrite>(
     xs: &SetOf<InClass>,
     alloc: Global,
@@ -202,11 +203,11 @@ impl ToDer for NamePart<'_> {
 
     ghost content_refuses = { λ p. WrittenRefusal (IsEmptyPart p.0.now) };
 
-    ghost count_takes_memory = { false };
+    ghost count_allocates = { false };
 
-    ghost content_takes_memory = { false };
+    ghost content_allocates = { false };
 
-    ghost write_takes_memory = { false };
+    ghost write_allocates = { false };
 
     fn to_der_len(&self) -> Result<usize, Error> {
         self.element()?.to_der_len()
@@ -232,7 +233,7 @@ impl ToDer for NamePart<'_> {
 /// How many octets a name has. One with an empty part is refused with the text of that.
 pub fn count_name(parts: &Vec<NamePart<'_>>) -> Result<usize, Error>
     ensures { SomeEmpty parts.now.items →
-        IsErrAnd result (λ e. TellsOfEmptyPart e ⊎ (e ≡ faults.InvalidLength)) }
+        IsErrAnd result (λ e. TellsOfEmptyPart e ⊎ (e ≡ errors.InvalidLength)) }
 {
     parts.to_der_len()
 }

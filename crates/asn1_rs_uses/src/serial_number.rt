@@ -1,13 +1,13 @@
 //! A lawful type of a caller's that holds a number.
 ghost use Rattle.std.specs.Prelude.{pos};
 ghost use Rattle.x690.specs.Integers.{unsigned_octets};
-ghost use Rattle.x690.specs.Laws.UnsignedOctets.{unsigned_octets_content};
-ghost use Rattle.asn1_rs.specs.Any.{OfParts};
+ghost use Rattle.x690.specs.Laws.Integers.Unsigned.{unsigned_octets_content};
+ghost use Rattle.asn1_rs.specs.Traits.{OfParts};
 ghost use Rattle.asn1_rs.specs.Integer.{integer_element, IntegerCheckGives, IsUnsigned, UnsignedGives};
 ghost use Rattle.asn1_rs.specs.Kinds.{holding, HoldingGives};
 ghost use Rattle.asn1_rs.specs.Laws.Integer.{integer_checks, integer_lawful, integer_primitive};
 ghost use Rattle.asn1_rs.specs.Laws.Kinds.{holding_lawful, holding_converts, holding_primitive};
-ghost use Rattle.asn1_rs.specs.Laws.Unsigned.{unsigned_converts};
+ghost use Rattle.asn1_rs.specs.Laws.Integer.Unsigned.{unsigned_converts};
 
 use asn1_rs::{
     Any, CheckDerConstraints, DerAutoDerive, DerWrite, ElementKind, Error, FromAny, HasKind,

@@ -1,4 +1,4 @@
--- A line has one answer, but for want of memory.
+-- A line has one answer, except when out of memory.
 use Rattle.std.proofs.Common.{◌≡◌, ◌∙◌, sym, ap, subst, refl, List, [], ◌∷◌, ◌++◌, ℕ, false, ◌⊎◌, inl, inr, Err, arith, Option, Some, append_assoc}
 use Rattle.std.specs.Prelude.{ℤ, pos}
 use Rattle.std.specs.Fmt.{signed_decimal}
@@ -6,16 +6,17 @@ use Rattle.std.proofs.Math.Dec.{eqb}
 use Rattle.std.specs.List.{find, All, AllByRecursion}
 use Rattle.std.proofs.lemmas.List.Elements.{recursion_from_All}
 use Rattle.std.specs.Cmp.Lexicographic.{pointwise}
-use Rattle.x690.specs.SignedOctets.{IsSigned}
+use Rattle.x690.specs.Signed.{IsSigned}
 use Rattle.asn1_rs.specs.declared.error.Error.{Error}
-use Rattle.asn1_rs.specs.declared.asn1_types.any.Any.{Any as Read}
-use Rattle.asn1_rs.specs.Any.{IsTheElement, IsDefiniteOr, OfParts}
-use Rattle.asn1_rs.specs.Element.{element_of, ElementBody, ElementCheck, ElementForm}
+use Rattle.asn1_rs.specs.declared.asn1_types.any.Any.{Any}
+use Rattle.asn1_rs.specs.Any.{IsTheElement, IsDefiniteOr}
+use Rattle.asn1_rs.specs.Traits.{OfParts}
+use Rattle.asn1_rs.specs.Any.Value.{element_of, ElementBody, ElementCheck, ElementForm}
 use Rattle.asn1_rs.specs.Integer.{IntegerCheck, IntegerCheckGives, IntegerBody, IntegerForm, IntegerGives, IsUnsigned, UnsignedRefuses, SignedRefuses}
-use Rattle.asn1_rs.specs.Laws.Element.{element_lawful, element_checks}
+use Rattle.asn1_rs.specs.Laws.Any.Value.{element_lawful, element_checks}
 use Rattle.asn1_rs.specs.Laws.Integer.{one_integer_check_refusal, integer_checks, one_integer_refusal, integer_lawful}
-use Rattle.asn1_rs.specs.Laws.Unsigned.{one_unsigned_refusal}
-use Rattle.asn1_rs.specs.Laws.Signed.{one_signed_refusal}
+use Rattle.asn1_rs.specs.Laws.Integer.Unsigned.{one_unsigned_refusal}
+use Rattle.asn1_rs.specs.Laws.Integer.Signed.{one_signed_refusal}
 use Rattle.asn1vec_engine.specs.declared.request.Rule.{Rule}
 use Rattle.asn1vec_engine.specs.declared.types.TypeName.{TypeName}
 use Rattle.asn1vec_engine.specs.declared.types.TypeName.TheVariants.{U8, U16, U32, U64, U128, I8, I16, I32, I64, I128, Any}
@@ -45,7 +46,7 @@ elements_once rule octets a b p q =
     readings_weaker _ (ShownAlike elements) false shown a b
     (either_same ElementBody element_of false IsTheElement element_lawful.body_one (λ a b e f same h k. absurd h) IsDefiniteOr ElementCheck (λ p e f h k. h.1 ∙ sym k.1) (λ p e h k. element_checks.exact p (Err e) k h) rule octets a b p q)
   where
-    shown : (x y : Read) → element_of x ≡ element_of y → ShownAlike elements x y
+    shown : (x y : Any) → element_of x ≡ element_of y → ShownAlike elements x y
     shown x y same = record { text = ap element_text same; encoding = strict_same ElementForm element_lawful.one_form false (element_of x) (element_of y) same }
 
 type_once : (t : TypeName) → HasOneAnswer (meaning_of t)
@@ -61,18 +62,18 @@ type_once I64 = integers_once (λ n. n) (IsSigned 8) (SignedRefuses 8) (one_sign
 type_once I128 = integers_once (λ n. n) (IsSigned 16) (SignedRefuses 16) (one_signed_refusal 16)
 type_once Any = elements_once
 
-takes_none : (t : TypeName) → ((meaning_of t).reading_takes_memory ≡ false) × ((meaning_of t).writing_takes_memory ≡ false)
-takes_none U8 = (refl, refl)
-takes_none U16 = (refl, refl)
-takes_none U32 = (refl, refl)
-takes_none U64 = (refl, refl)
-takes_none U128 = (refl, refl)
-takes_none I8 = (refl, refl)
-takes_none I16 = (refl, refl)
-takes_none I32 = (refl, refl)
-takes_none I64 = (refl, refl)
-takes_none I128 = (refl, refl)
-takes_none Any = (refl, refl)
+allocates_none : (t : TypeName) → ((meaning_of t).reading_allocates ≡ false) × ((meaning_of t).writing_allocates ≡ false)
+allocates_none U8 = (refl, refl)
+allocates_none U16 = (refl, refl)
+allocates_none U32 = (refl, refl)
+allocates_none U64 = (refl, refl)
+allocates_none U128 = (refl, refl)
+allocates_none I8 = (refl, refl)
+allocates_none I16 = (refl, refl)
+allocates_none I32 = (refl, refl)
+allocates_none I64 = (refl, refl)
+allocates_none I128 = (refl, refl)
+allocates_none Any = (refl, refl)
 
 -- ---- a line
 
@@ -124,7 +125,7 @@ answered_alike line text other (inr a) (inr b) =
     b.answer
 
 -- nothing tells of refused memory where none is taken
-no_difference : (m : Meaning) (text other : List ℕ) → (m.reading_takes_memory ≡ false) × (m.writing_takes_memory ≡ false) → DifferByMemory m text other → ⊥
+no_difference : (m : Meaning) (text other : List ℕ) → (m.reading_allocates ≡ false) × (m.writing_allocates ≡ false) → DifferByMemory m text other → ⊥
 no_difference m text other (reading, writing) (inl (inl (takes, is))) = cc
 no_difference m text other (reading, writing) (inl (inr (takes, rest))) = cc
 no_difference m text other (reading, writing) (inr (inl (takes, is))) = cc
@@ -138,7 +139,7 @@ answered_once line text other none a b = once (answered_alike line text other a 
     once (inr (t, asks, memory)) = absurd (no_difference (meaning_of t) text other (none t asks) memory)
 
 pub takes_no_memory : (line : List ℕ) → TakesNoMemory line
-takes_no_memory line t asks = takes_none t
+takes_no_memory line t asks = allocates_none t
 
 -- ---- an input
 

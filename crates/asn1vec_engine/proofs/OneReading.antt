@@ -1,4 +1,4 @@
--- What a name stands for has one answer to octets, but for want of memory, where two readings and two encodings are the same but for that.
+-- What a name stands for has one answer to octets, except when out of memory, where two readings and two encodings are the same but for that.
 use Rattle.std.proofs.Common.{◌≡◌, ◌∙◌, ◌≤◌, ◌^◌, sym, ap, subst, refl, List, ◌++◌, length, ℕ, Bool, true, false, ◌⊎◌, inl, inr, None, Some, Result, Ok, Err, arith, codes, append_assoc}
 use Rattle.std.proofs.lemmas.List.{append_cancel_left}
 use Rattle.x690.specs.Identifiers.{Identifier, IsCutIdentifier}
@@ -9,14 +9,17 @@ use Rattle.asn1_rs.specs.declared.error.Err.{Err as Refusal}
 use Rattle.asn1_rs.specs.declared.error.Err.TheVariants.{Error as refused}
 use Rattle.asn1_rs.specs.declared.error.Error.{Error}
 use Rattle.asn1_rs.specs.declared.asn1_types.any.Any.{Any}
-use Rattle.asn1_rs.specs.Header.{der_breach, ber_breach}
+use Rattle.asn1_rs.specs.Header.Reading.{der_breach, ber_breach}
 use Rattle.asn1_rs.specs.declared.error.SerializeError.{SerializeError}
-use Rattle.asn1_rs.specs.declared.error.SerializeError.TheVariants as refusals
+use Rattle.asn1_rs.specs.declared.error.SerializeError.TheVariants as serialize_errors
 use Rattle.asn1_rs.specs.Answers.{Exactly, Front, IsFinal, TellsMemory}
-use Rattle.asn1_rs.specs.Form.{IsOneForm, IsStrict}
-use Rattle.asn1_rs.specs.Wrote.{MayRefuse, tells_of_io}
-use Rattle.asn1_rs.specs.Grammar.{max_depth, IsOneFront, IsOneBody, NoCheck, PassesAll, BerWord, DerWord, BerGives, DerGives, EndsWithin}
-use Rattle.asn1_rs.specs.Laws.Elements.{none_now, der_elements, ber_elements}
+use Rattle.asn1_rs.specs.Grammar.Form.{IsOneForm, IsStrict}
+use Rattle.asn1_rs.specs.Writer.{MayRefuse}
+use Rattle.asn1_rs.specs.Error.{tells_of_io}
+use Rattle.asn1_rs.specs.Ber.{max_depth, EndsWithin}
+use Rattle.asn1_rs.specs.Grammar.{IsOneFront, IsOneBody, NoCheck, BerWord, DerWord}
+use Rattle.asn1_rs.specs.Traits.{PassesAll, BerGives, DerGives}
+use Rattle.asn1_rs.specs.Laws.Readers.{none_now, der_elements, ber_elements}
 use Rattle.asn1_rs.specs.Laws.Words.{one_strict, word_one}
 use Rattle.asn1vec_engine.specs.declared.request.Rule.{Rule}
 use Rattle.asn1vec_engine.specs.declared.request.Rule.TheVariants.{Ber, Der}
@@ -30,25 +33,25 @@ use Rattle.asn1vec_engine.proofs.OneRefusal.{IsSameBut, no_memory, IsOneRefusal,
 
 -- the same, but that one of them may say that memory was refused, where something is said of both
 abbrev pub SameEncoding : Bool → Encoding → Encoding → Type 0
-SameEncoding takes_memory None None = Unit {0}
-SameEncoding takes_memory None (Some v) = ⊥
-SameEncoding takes_memory (Some w) None = ⊥
-SameEncoding takes_memory (Some w) (Some v) = IsSameBut (Err refusals.OutOfMemory) takes_memory w v
+SameEncoding allocates None None = Unit {0}
+SameEncoding allocates None (Some v) = ⊥
+SameEncoding allocates (Some w) None = ⊥
+SameEncoding allocates (Some w) (Some v) = IsSameBut (Err serialize_errors.OutOfMemory) allocates w v
 
--- the same, but that one of them may be a refusal for want of memory; values are compared by a relation
+-- the same, but that one of them may be a refusal when out of memory; values are compared by a relation
 abbrev pub SameReading : {T : Type 0} → (T → T → Type 0) → Bool → Reading T → Reading T → Type 0
-SameReading Agree takes_memory (Ok x) (Ok y) = Agree x.1 y.1 × (x.0 ≡ y.0)
-SameReading Agree takes_memory (Ok x) (Err r) = (takes_memory ≡ true) × (r ≡ no_memory)
-SameReading Agree takes_memory (Err q) (Ok y) = (takes_memory ≡ true) × (q ≡ no_memory)
-SameReading Agree takes_memory (Err q) (Err r) = IsSameBut no_memory takes_memory q r
+SameReading Agree allocates (Ok x) (Ok y) = Agree x.1 y.1 × (x.0 ≡ y.0)
+SameReading Agree allocates (Ok x) (Err r) = (allocates ≡ true) × (r ≡ no_memory)
+SameReading Agree allocates (Err q) (Ok y) = (allocates ≡ true) × (q ≡ no_memory)
+SameReading Agree allocates (Err q) (Err r) = IsSameBut no_memory allocates q r
 
 -- values that are shown alike
 pub record ShownAlike (m : Meaning) (x y : m.T) : Type 0 where
   pub text : m.text_of x ≡ m.text_of y
-  pub encoding : (e f : Encoding) → m.Encodes x e → m.Encodes y f → SameEncoding m.writing_takes_memory e f
+  pub encoding : (e f : Encoding) → m.Encodes x e → m.Encodes y f → SameEncoding m.writing_allocates e f
 
 abbrev pub HasOneAnswer : Meaning → Type 0
-HasOneAnswer m = (rule : Rule) (octets : List ℕ) (a b : Reading m.T) → m.Reads rule octets a → m.Reads rule octets b → SameReading (ShownAlike m) m.reading_takes_memory a b
+HasOneAnswer m = (rule : Rule) (octets : List ℕ) (a b : Reading m.T) → m.Reads rule octets a → m.Reads rule octets b → SameReading (ShownAlike m) m.reading_allocates a b
 
 -- ---- and what follows
 
@@ -65,8 +68,8 @@ module _ (m : Meaning) where
   abbrev Alike : List ℕ → List ℕ → Type 0
   Alike text other = (text ≡ other) ⊎ DifferByMemory m text other
 
-  refused_writing : (front text other : List ℕ) (w v : Result (List ℕ) SerializeError) → m.writing_takes_memory ≡ true → w ≡ Err refusals.OutOfMemory → text ≡ front ++ encoding_text (Some w) → other ≡ front ++ encoding_text (Some v)
-      → (m.writing_takes_memory ≡ true) × ((front rest : List ℕ) × (text ≡ front ++ codes " enc err OutOfMemory") × (other ≡ front ++ (codes " enc " ++ rest)))
+  refused_writing : (front text other : List ℕ) (w v : Result (List ℕ) SerializeError) → m.writing_allocates ≡ true → w ≡ Err serialize_errors.OutOfMemory → text ≡ front ++ encoding_text (Some w) → other ≡ front ++ encoding_text (Some v)
+      → (m.writing_allocates ≡ true) × ((front rest : List ℕ) × (text ≡ front ++ codes " enc err OutOfMemory") × (other ≡ front ++ (codes " enc " ++ rest)))
   refused_writing front text other w v takes memory e f = (
     takes,
     (
@@ -77,7 +80,7 @@ module _ (m : Meaning) where
     ),
   )
 
-  encodings_same : (front text other : List ℕ) (e f : Encoding) → SameEncoding m.writing_takes_memory e f → text ≡ front ++ encoding_text e → other ≡ front ++ encoding_text f → Alike text other
+  encodings_same : (front text other : List ℕ) (e f : Encoding) → SameEncoding m.writing_allocates e f → text ≡ front ++ encoding_text e → other ≡ front ++ encoding_text f → Alike text other
   encodings_same front text other None None same is too = inl (is ∙ sym too)
   encodings_same front text other None (Some v) same is too = absurd same
   encodings_same front text other (Some w) None same is too = absurd same
@@ -85,12 +88,12 @@ module _ (m : Meaning) where
   encodings_same front text other (Some w) (Some v) (inr (takes, inl memory)) is too = inr (inl (inr (refused_writing front text other w v takes memory is too)))
   encodings_same front text other (Some w) (Some v) (inr (takes, inr memory)) is too = inr (inr (inr (refused_writing front other text v w takes memory too is)))
 
-  refusals_same : (q r : Refusal Error) (text other : List ℕ) → IsSameBut no_memory m.reading_takes_memory q r → text ≡ codes "err " ++ name_of_refusal q → other ≡ codes "err " ++ name_of_refusal r → Alike text other
+  refusals_same : (q r : Refusal Error) (text other : List ℕ) → IsSameBut no_memory m.reading_allocates q r → text ≡ codes "err " ++ name_of_refusal q → other ≡ codes "err " ++ name_of_refusal r → Alike text other
   refusals_same q r text other (inl same) is too = inl (is ∙ ap (λ (x : Refusal Error). codes "err " ++ name_of_refusal x) same ∙ sym too)
   refusals_same q r text other (inr (takes, inl memory)) is too = inr (inl (inl (takes, is ∙ ap (λ (x : Refusal Error). codes "err " ++ name_of_refusal x) memory)))
   refusals_same q r text other (inr (takes, inr memory)) is too = inr (inr (inl (takes, too ∙ ap (λ (x : Refusal Error). codes "err " ++ name_of_refusal x) memory)))
 
-  said_alike : (a b : Reading m.T) (text other : List ℕ) → SameReading (ShownAlike m) m.reading_takes_memory a b → Says m.text_of m.Encodes a text → Says m.text_of m.Encodes b other → Alike text other
+  said_alike : (a b : Reading m.T) (text other : List ℕ) → SameReading (ShownAlike m) m.reading_allocates a b → Says m.text_of m.Encodes a text → Says m.text_of m.Encodes b other → Alike text other
   said_alike (Ok (rest, x)) (Ok (tail, y)) text other (same, equal) (e, encodes, is) (f, encoded, too) =
       encodings_same (ok_front (m.text_of y) tail) text other e f (same.encoding e f encodes encoded)
       (is ∙ ap (λ (l : List ℕ). ok_text l rest e) same.text ∙ ap (λ (l : List ℕ). ok_text (m.text_of y) l e) equal ∙ ok_parts (m.text_of y) tail e)
@@ -103,70 +106,70 @@ module _ (m : Meaning) where
   answers_alike one rule octets text other a b = said_alike a.answer b.answer text other (one rule octets a.answer b.answer a.reads b.reads) a.says b.says
 
 -- values are compared by a weaker relation
-pub readings_weaker : {T : Type 0} (P Q : T → T → Type 0) (takes_memory : Bool) → ((x y : T) → P x y → Q x y) → (a b : Reading T) → SameReading P takes_memory a b → SameReading Q takes_memory a b
-readings_weaker P Q takes_memory weaker (Ok x) (Ok y) (same, equal) = (weaker x.1 y.1 same, equal)
-readings_weaker P Q takes_memory weaker (Ok x) (Err r) h = h
-readings_weaker P Q takes_memory weaker (Err q) (Ok y) h = h
-readings_weaker P Q takes_memory weaker (Err q) (Err r) h = h
+pub readings_weaker : {T : Type 0} (P Q : T → T → Type 0) (allocates : Bool) → ((x y : T) → P x y → Q x y) → (a b : Reading T) → SameReading P allocates a b → SameReading Q allocates a b
+readings_weaker P Q allocates weaker (Ok x) (Ok y) (same, equal) = (weaker x.1 y.1 same, equal)
+readings_weaker P Q allocates weaker (Ok x) (Err r) h = h
+readings_weaker P Q allocates weaker (Err q) (Ok y) h = h
+readings_weaker P Q allocates weaker (Err q) (Err r) h = h
 
 -- ---- lawful types
 
--- writing into a vector is refused only where the encoding is too long, or for want of memory
-only_refusals : (takes_memory : Bool) (n : ℕ) (e : SerializeError) → MayRefuse takes_memory n e → tells_of_io e ≡ false → ((e ≡ refusals.InvalidLength) × (2 ^ 64 ≤ n)) ⊎ ((takes_memory ≡ true) × (e ≡ refusals.OutOfMemory))
-only_refusals takes_memory n (refusals.ASN1Error e) may other = absurd may
-only_refusals takes_memory n (refusals.InvalidClass c) may other = absurd may
-only_refusals takes_memory n refusals.InvalidLength may other = inl (refl, may)
-only_refusals takes_memory n (refusals.IOError e) may other = cc
-only_refusals takes_memory n refusals.OutOfMemory may other = inr (may, refl)
+-- writing into a vector is refused only where the encoding is too long, or when out of memory
+only_refusals : (allocates : Bool) (n : ℕ) (e : SerializeError) → MayRefuse allocates n e → tells_of_io e ≡ false → ((e ≡ serialize_errors.InvalidLength) × (2 ^ 64 ≤ n)) ⊎ ((allocates ≡ true) × (e ≡ serialize_errors.OutOfMemory))
+only_refusals allocates n (serialize_errors.ASN1Error e) may other = absurd may
+only_refusals allocates n (serialize_errors.InvalidClass c) may other = absurd may
+only_refusals allocates n serialize_errors.InvalidLength may other = inl (refl, may)
+only_refusals allocates n (serialize_errors.IOError e) may other = cc
+only_refusals allocates n serialize_errors.OutOfMemory may other = inr (may, refl)
 
 abbrev SameWriting : Bool → Result (List ℕ) SerializeError → Result (List ℕ) SerializeError → Type 0
-SameWriting takes_memory w v = IsSameBut (Err refusals.OutOfMemory) takes_memory w v
+SameWriting allocates w v = IsSameBut (Err serialize_errors.OutOfMemory) allocates w v
 
-refused_writing_same : (takes_memory : Bool) (n : ℕ) (q r : SerializeError) → ((q ≡ refusals.InvalidLength) × (2 ^ 64 ≤ n)) ⊎ ((takes_memory ≡ true) × (q ≡ refusals.OutOfMemory)) → ((r ≡ refusals.InvalidLength) × (2 ^ 64 ≤ n)) ⊎ ((takes_memory ≡ true) × (r ≡ refusals.OutOfMemory)) → SameWriting takes_memory (Err q) (Err r)
-refused_writing_same takes_memory n q r (inl (long, past)) (inl (too, also)) = inl (ap (λ (x : SerializeError). Err x) (long ∙ sym too))
-refused_writing_same takes_memory n q r h (inr (takes, memory)) = inr (takes, inr (ap (λ (x : SerializeError). Err x) memory))
-refused_writing_same takes_memory n q r (inr (takes, memory)) h = inr (takes, inl (ap (λ (x : SerializeError). Err x) memory))
+refused_writing_same : (allocates : Bool) (n : ℕ) (q r : SerializeError) → ((q ≡ serialize_errors.InvalidLength) × (2 ^ 64 ≤ n)) ⊎ ((allocates ≡ true) × (q ≡ serialize_errors.OutOfMemory)) → ((r ≡ serialize_errors.InvalidLength) × (2 ^ 64 ≤ n)) ⊎ ((allocates ≡ true) × (r ≡ serialize_errors.OutOfMemory)) → SameWriting allocates (Err q) (Err r)
+refused_writing_same allocates n q r (inl (long, past)) (inl (too, also)) = inl (ap (λ (x : SerializeError). Err x) (long ∙ sym too))
+refused_writing_same allocates n q r h (inr (takes, memory)) = inr (takes, inr (ap (λ (x : SerializeError). Err x) memory))
+refused_writing_same allocates n q r (inr (takes, memory)) h = inr (takes, inl (ap (λ (x : SerializeError). Err x) memory))
 
 -- what is written of the same octets
-pub written_same : (takes_memory : Bool) (o : List ℕ) (e f : Encoding) → IsWritten takes_memory o e → IsWritten takes_memory o f → SameEncoding takes_memory e f
-written_same takes_memory o None f h k = absurd h
-written_same takes_memory o (Some w) None h k = absurd k
-written_same takes_memory o (Some (Ok x)) (Some (Ok y)) (short, e) (few, f) = inl (ap (λ (l : List ℕ). Ok l) (e ∙ sym f))
-written_same takes_memory o (Some (Ok x)) (Some (Err r)) (short, e) (may, io) =
-    elim (only_refusals takes_memory (length o) r may io) [
+pub written_same : (allocates : Bool) (o : List ℕ) (e f : Encoding) → IsWritten allocates o e → IsWritten allocates o f → SameEncoding allocates e f
+written_same allocates o None f h k = absurd h
+written_same allocates o (Some w) None h k = absurd k
+written_same allocates o (Some (Ok x)) (Some (Ok y)) (short, e) (few, f) = inl (ap (λ (l : List ℕ). Ok l) (e ∙ sym f))
+written_same allocates o (Some (Ok x)) (Some (Err r)) (short, e) (may, io) =
+    elim (only_refusals allocates (length o) r may io) [
       | inl long ↦ absurd (omega (arith, short, long.1))
       | inr memory ↦ inr (memory.0, inr (ap (λ (d : SerializeError). Err d) memory.1))
     ]
-written_same takes_memory o (Some (Err q)) (Some (Ok y)) (may, io) (few, f) =
-    elim (only_refusals takes_memory (length o) q may io) [
+written_same allocates o (Some (Err q)) (Some (Ok y)) (may, io) (few, f) =
+    elim (only_refusals allocates (length o) q may io) [
       | inl long ↦ absurd (omega (arith, few, long.1))
       | inr memory ↦ inr (memory.0, inl (ap (λ (d : SerializeError). Err d) memory.1))
     ]
-written_same takes_memory o (Some (Err q)) (Some (Err r)) (may, io) (might, too) =
-    refused_writing_same takes_memory (length o) q r (only_refusals takes_memory (length o) q may io) (only_refusals takes_memory (length o) r might too)
+written_same allocates o (Some (Err q)) (Some (Err r)) (may, io) (might, too) =
+    refused_writing_same allocates (length o) q r (only_refusals allocates (length o) q may io) (only_refusals allocates (length o) r might too)
 
 -- and of the same value
-pub strict_same : {V : Type 0} (Form : V → Identifier → List ℕ → Type 0) → IsOneForm Form → (takes_memory : Bool) (v w : V) → v ≡ w → (e f : Encoding) → StrictEncoding Form takes_memory v e → StrictEncoding Form takes_memory w f → SameEncoding takes_memory e f
-strict_same {V} Form one takes_memory v w same e f (o, s, written) (p, t, also) =
-    written_same takes_memory p e f (subst (λ (l : List ℕ). IsWritten takes_memory l e) (one_strict Form one w o p (subst (λ (x : V). IsStrict Form x o) same s) t) written) also
+pub strict_same : {V : Type 0} (Form : V → Identifier → List ℕ → Type 0) → IsOneForm Form → (allocates : Bool) (v w : V) → v ≡ w → (e f : Encoding) → StrictEncoding Form allocates v e → StrictEncoding Form allocates w f → SameEncoding allocates e f
+strict_same {V} Form one allocates v w same e f (o, s, written) (p, t, also) =
+    written_same allocates p e f (subst (λ (l : List ℕ). IsWritten allocates l e) (one_strict Form one w o p (subst (λ (x : V). IsStrict Form x o) same s) t) written) also
 
-tells_no_memory : (takes_memory : Bool) (r : Refusal Error) → TellsMemory takes_memory Same r → (takes_memory ≡ true) × (r ≡ no_memory)
-tells_no_memory takes_memory r (takes, (e, same, is)) = (takes, is ∙ ap (λ (x : Error). refused x) same)
+tells_no_memory : (allocates : Bool) (r : Refusal Error) → TellsMemory allocates Same r → (allocates ≡ true) × (r ≡ no_memory)
+tells_no_memory allocates r (takes, (e, same, is)) = (takes, is ∙ ap (λ (x : Error). refused x) same)
 
 -- a reader that is exact by a grammar with one word at a front
-module _ {T V : Type 0} (IsCut : List ℕ → Type 0) (G : List ℕ → V → Type 0) (value : T → V) (takes_memory : Bool) (gives : List ℕ → Reading T → Type 0) (one_word : IsOneFront G)
-    (one_refusal : (octets : List ℕ) (q r : Refusal Error) → gives octets (Err q) → gives octets (Err r) → IsSameBut no_memory takes_memory q r) where
+module _ {T V : Type 0} (IsCut : List ℕ → Type 0) (G : List ℕ → V → Type 0) (value : T → V) (allocates : Bool) (gives : List ℕ → Reading T → Type 0) (one_word : IsOneFront G)
+    (one_refusal : (octets : List ℕ) (q r : Refusal Error) → gives octets (Err q) → gives octets (Err r) → IsSameBut no_memory allocates q r) where
   one_front : (octets rest tail : List ℕ) (v w : V) → Front G octets v rest → Front G octets w tail → (v ≡ w) × (rest ≡ tail)
   one_front octets rest tail v w f g =
       let one = one_word.one f.word g.word rest tail v w f.fits g.fits (sym f.is ∙ g.is) in
       (one.1, append_cancel_left f.word rest tail (sym f.is ∙ g.is ∙ ap (λ (x : List ℕ). x ++ tail) (sym one.0)))
 
-  front_or_refusal : (octets rest : List ℕ) (v : V) (r : Refusal Error) → Front G octets v rest → TellsMemory takes_memory Same r ⊎ IsFinal (IsCut octets) r G octets → (takes_memory ≡ true) × (r ≡ no_memory)
-  front_or_refusal octets rest v r f (inl memory) = tells_no_memory takes_memory r memory
+  front_or_refusal : (octets rest : List ℕ) (v : V) (r : Refusal Error) → Front G octets v rest → TellsMemory allocates Same r ⊎ IsFinal (IsCut octets) r G octets → (allocates ≡ true) × (r ≡ no_memory)
+  front_or_refusal octets rest v r f (inl memory) = tells_no_memory allocates r memory
   front_or_refusal octets rest v r f (inr final) = absurd (none_now (IsCut octets) r G octets final f.word rest v f.is f.fits)
 
-  pub readings_same : (octets : List ℕ) (a b : Reading T) → Exactly IsCut G value (TellsMemory takes_memory Same) octets a × gives octets a → Exactly IsCut G value (TellsMemory takes_memory Same) octets b × gives octets b
-      → SameReading (λ x y. value x ≡ value y) takes_memory a b
+  pub readings_same : (octets : List ℕ) (a b : Reading T) → Exactly IsCut G value (TellsMemory allocates Same) octets a × gives octets a → Exactly IsCut G value (TellsMemory allocates Same) octets b × gives octets b
+      → SameReading (λ x y. value x ≡ value y) allocates a b
   readings_same octets (Ok (rest, x)) (Ok (tail, y)) p q = one_front octets rest tail (value x) (value y) p.0 q.0
   readings_same octets (Ok (rest, x)) (Err r) p q = front_or_refusal octets rest (value x) r p.0 q.0
   readings_same octets (Err r) (Ok (tail, y)) p q = front_or_refusal octets tail (value y) r q.0 p.0
@@ -180,19 +183,19 @@ passed : (p : Parts) (e : Error) → PassesAll p (Ok tt) → PassesAll p (Err e)
 passed p e h k = cc
 
 -- a type that is read as one element and converted, by BER; and, where it is checked, by DER
-module _ {T V : Type 0} (Body : Parts → V → Type 0) (value : T → V) (takes_memory : Bool) (convert : Any → Result T Error → Type 0) (one_body : IsOneBody Body) (one_conversion : IsOneRefusalBut takes_memory convert) where
-  pub ber_same : (octets : List ℕ) (a b : Reading T) → ReadsByBer (BerWord Body) value takes_memory (BerGives convert Same) octets a → ReadsByBer (BerWord Body) value takes_memory (BerGives convert Same) octets b
-      → SameReading (λ x y. value x ≡ value y) takes_memory a b
-  ber_same = readings_same EndsWithin (BerWord Body) value takes_memory (BerGives convert Same) (word_one (IsElement max_depth) NoCheck Body ber_elements.one one_body)
-      (one_reading_refusal takes_memory PassesAll convert one_pass passed one_conversion (IsElement max_depth) (ElementFault max_depth) EndsWithin ber_elements ber_breach)
+module _ {T V : Type 0} (Body : Parts → V → Type 0) (value : T → V) (allocates : Bool) (convert : Any → Result T Error → Type 0) (one_body : IsOneBody Body) (one_conversion : IsOneRefusalBut allocates convert) where
+  pub ber_same : (octets : List ℕ) (a b : Reading T) → ReadsByBer (BerWord Body) value allocates (BerGives convert Same) octets a → ReadsByBer (BerWord Body) value allocates (BerGives convert Same) octets b
+      → SameReading (λ x y. value x ≡ value y) allocates a b
+  ber_same = readings_same EndsWithin (BerWord Body) value allocates (BerGives convert Same) (word_one (IsElement max_depth) NoCheck Body ber_elements.one one_body)
+      (one_reading_refusal allocates PassesAll convert one_pass passed one_conversion (IsElement max_depth) (ElementFault max_depth) EndsWithin ber_elements ber_breach)
 
   module _ (check : Parts → Result (Unit {0}) Error → Type 0) (Check : Parts → Type 0) (one_check : IsOneRefusal check) (checked : (p : Parts) (e : Error) → check p (Ok tt) → check p (Err e) → ⊥) where
-    pub der_same : (octets : List ℕ) (a b : Reading T) → ReadsByDer (DerWord Check Body) value takes_memory (DerGives check convert Same) octets a → ReadsByDer (DerWord Check Body) value takes_memory (DerGives check convert Same) octets b
-        → SameReading (λ x y. value x ≡ value y) takes_memory a b
-    der_same = readings_same IsCutIdentifier (DerWord Check Body) value takes_memory (DerGives check convert Same) (word_one IsDerElement Check Body der_elements.one one_body)
-        (one_reading_refusal takes_memory check convert one_check checked one_conversion IsDerElement DerElementFault IsCutIdentifier der_elements der_breach)
+    pub der_same : (octets : List ℕ) (a b : Reading T) → ReadsByDer (DerWord Check Body) value allocates (DerGives check convert Same) octets a → ReadsByDer (DerWord Check Body) value allocates (DerGives check convert Same) octets b
+        → SameReading (λ x y. value x ≡ value y) allocates a b
+    der_same = readings_same IsCutIdentifier (DerWord Check Body) value allocates (DerGives check convert Same) (word_one IsDerElement Check Body der_elements.one one_body)
+        (one_reading_refusal allocates check convert one_check checked one_conversion IsDerElement DerElementFault IsCutIdentifier der_elements der_breach)
 
-    pub either_same : (rule : Rule) (octets : List ℕ) (a b : Reading T) → ReadsByEither (BerWord Body) (DerWord Check Body) value takes_memory (BerGives convert Same) (DerGives check convert Same) rule octets a
-        → ReadsByEither (BerWord Body) (DerWord Check Body) value takes_memory (BerGives convert Same) (DerGives check convert Same) rule octets b → SameReading (λ x y. value x ≡ value y) takes_memory a b
+    pub either_same : (rule : Rule) (octets : List ℕ) (a b : Reading T) → ReadsByEither (BerWord Body) (DerWord Check Body) value allocates (BerGives convert Same) (DerGives check convert Same) rule octets a
+        → ReadsByEither (BerWord Body) (DerWord Check Body) value allocates (BerGives convert Same) (DerGives check convert Same) rule octets b → SameReading (λ x y. value x ≡ value y) allocates a b
     either_same Ber = ber_same
     either_same Der = der_same

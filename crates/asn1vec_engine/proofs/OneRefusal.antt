@@ -1,4 +1,4 @@
--- Octets that are read as one element, checked and converted, have one refusal, but for want of memory.
+-- Octets that are read as one element, checked and converted, have one refusal, except when out of memory.
 use Rattle.std.proofs.Common.{◌≡◌, ◌∙◌, sym, ap, subst, refl, List, [], ℕ, Bool, true, false, append-nil, ◌⊎◌, inl, inr, Result, Ok, Err}
 use Rattle.x690.specs.Elements.{Parts}
 use Rattle.x690.specs.Faults.{Breach, Fault}
@@ -7,12 +7,12 @@ use Rattle.asn1_rs.specs.declared.error.Err.TheVariants.{Incomplete as cut, Erro
 use Rattle.asn1_rs.specs.declared.error.Error.{Error}
 use Rattle.asn1_rs.specs.declared.error.Error.TheVariants.{OutOfMemory}
 use Rattle.asn1_rs.specs.declared.asn1_types.any.Any.{Any}
-use Rattle.asn1_rs.specs.Any.{parts_of, OfParts}
+use Rattle.asn1_rs.specs.Any.{parts_of}
+use Rattle.asn1_rs.specs.Traits.{OfParts, ElementGives}
 use Rattle.asn1_rs.specs.Answers.{Front}
 use Rattle.asn1_rs.specs.Error.{Converted}
-use Rattle.asn1_rs.specs.Header.{refusal_of}
-use Rattle.asn1_rs.specs.Grammar.{ElementGives}
-use Rattle.asn1_rs.specs.Laws.Elements.{AreElements, speaks_itself, speaks_now}
+use Rattle.asn1_rs.specs.Header.Reading.{refusal_of}
+use Rattle.asn1_rs.specs.Laws.Readers.{AreElements, speaks_itself, speaks_now}
 use Rattle.asn1vec_engine.specs.Shown.{Same}
 
 converted_same : (s r : Refusal Error) → Converted Same s r → r ≡ s
@@ -20,9 +20,9 @@ converted_same (cut n) r h = h
 converted_same (refused e) r (f, same, is) = is ∙ ap refused same
 converted_same (failed e) r (f, same, is) = is ∙ ap failed same
 
--- the same, but that one of them may be this, where memory is taken
+-- the same, but that one of them may be this, where memory is allocated
 abbrev pub IsSameBut : {A : Type 0} → A → Bool → A → A → Type 0
-IsSameBut memory takes_memory a b = (a ≡ b) ⊎ ((takes_memory ≡ true) × ((a ≡ memory) ⊎ (b ≡ memory)))
+IsSameBut memory allocates a b = (a ≡ b) ⊎ ((allocates ≡ true) × ((a ≡ memory) ⊎ (b ≡ memory)))
 
 -- the refusal that tells of refused memory
 abbrev pub no_memory : Refusal Error
@@ -32,45 +32,45 @@ no_memory = refused OutOfMemory
 abbrev pub IsOneRefusal : {T : Type 0} → (Parts → Result T Error → Type 0) → Type 0
 IsOneRefusal gives = (p : Parts) (e f : Error) → gives p (Err e) → gives p (Err f) → e ≡ f
 
--- a relation of elements to answers allows one for elements of the same parts, but for want of memory
+-- a relation of elements to answers allows one for elements of the same parts, except when out of memory
 abbrev pub IsOneRefusalBut : {T : Type 0} → Bool → (Any → Result T Error → Type 0) → Type 0
-IsOneRefusalBut takes_memory gives = (a b : Any) (e f : Error) → parts_of b ≡ parts_of a → gives a (Err e) → gives b (Err f) → IsSameBut OutOfMemory takes_memory e f
+IsOneRefusalBut allocates gives = (a b : Any) (e f : Error) → parts_of b ≡ parts_of a → gives a (Err e) → gives b (Err f) → IsSameBut OutOfMemory allocates e f
 
 -- as one that looks at parts alone does, where it allows one for one element
 pub one_of_parts : {T : Type 0} (gives : Parts → Result T Error → Type 0) → IsOneRefusal gives → IsOneRefusalBut false (OfParts gives)
 one_of_parts gives one a b e f same h k = inl (one (parts_of a) e f h (subst (λ (p : Parts). gives p (Err f)) same k))
 
-refused_same : (takes_memory : Bool) (q r : Refusal Error) (e f : Error) → IsSameBut OutOfMemory takes_memory e f → q ≡ refused e → r ≡ refused f → IsSameBut no_memory takes_memory q r
-refused_same takes_memory q r e f (inl same) is too = inl (is ∙ ap refused same ∙ sym too)
-refused_same takes_memory q r e f (inr (takes, inl memory)) is too = inr (takes, inl (is ∙ ap refused memory))
-refused_same takes_memory q r e f (inr (takes, inr memory)) is too = inr (takes, inr (too ∙ ap refused memory))
+refused_same : (allocates : Bool) (q r : Refusal Error) (e f : Error) → IsSameBut OutOfMemory allocates e f → q ≡ refused e → r ≡ refused f → IsSameBut no_memory allocates q r
+refused_same allocates q r e f (inl same) is too = inl (is ∙ ap refused same ∙ sym too)
+refused_same allocates q r e f (inr (takes, inl memory)) is too = inr (takes, inl (is ∙ ap refused memory))
+refused_same allocates q r e f (inr (takes, inr memory)) is too = inr (takes, inr (too ∙ ap refused memory))
 
-module _ {T : Type 0} (takes_memory : Bool) (check : Parts → Result (Unit {0}) Error → Type 0) (convert : Any → Result T Error → Type 0) where
+module _ {T : Type 0} (allocates : Bool) (check : Parts → Result (Unit {0}) Error → Type 0) (convert : Any → Result T Error → Type 0) where
   -- the check or the conversion refused the element
   abbrev RefusedElement : Any → Refusal Error → Type 0
   RefusedElement any r = ((e : Error) × check (parts_of any) (Err e) × ((f : Error) × Same e f × (r ≡ refused f))) ⊎ (check (parts_of any) (Ok tt) × ((e : Error) × convert any (Err e) × (r ≡ refused e)))
 
   abbrev Agree : Refusal Error → Refusal Error → Type 0
-  Agree = IsSameBut no_memory takes_memory
+  Agree = IsSameBut no_memory allocates
 
-  module _ (one_check : IsOneRefusal check) (checked : (p : Parts) (e : Error) → check p (Ok tt) → check p (Err e) → ⊥) (one_conversion : IsOneRefusalBut takes_memory convert) where
+  module _ (one_check : IsOneRefusal check) (checked : (p : Parts) (e : Error) → check p (Ok tt) → check p (Err e) → ⊥) (one_conversion : IsOneRefusalBut allocates convert) where
     elements_once : (a b : Any) (q r : Refusal Error) → parts_of b ≡ parts_of a → RefusedElement a q → RefusedElement b r → Agree q r
     elements_once a b q r alike (inl (e, why, (f, same, is))) (inl (d, also, (g, equal, too))) = inl (is ∙ ap refused (same ∙ one_check (parts_of a) e d why (subst (λ (p : Parts). check p (Err d)) alike also) ∙ sym equal) ∙ sym too)
     elements_once a b q r alike (inl (e, why, given)) (inr (passed, rest)) = absurd (checked (parts_of a) e (subst (λ (p : Parts). check p (Ok tt)) alike passed) why)
     elements_once a b q r alike (inr (passed, rest)) (inl (e, why, given)) = absurd (checked (parts_of a) e passed (subst (λ (p : Parts). check p (Err e)) alike why))
-    elements_once a b q r alike (inr (passed, (e, why, is))) (inr (again, (f, also, too))) = refused_same takes_memory q r e f (one_conversion a b e f alike why also) is too
+    elements_once a b q r alike (inr (passed, (e, why, is))) (inr (again, (f, also, too))) = refused_same allocates q r e f (one_conversion a b e f alike why also) is too
 
-    module _ (Element : List ℕ → Parts → Type 0) (FaultOf : List ℕ → Fault → Type 0) (IsCut : List ℕ → Type 0) (elements : AreElements Element FaultOf IsCut) (refuses : Breach → Error) where
-      same_parts : (input rest tail : List ℕ) (p o : Parts) → Front Element input p rest → Front Element input o tail → o ≡ p
+    module _ (ElementOf : List ℕ → Parts → Type 0) (FaultOf : List ℕ → Fault → Type 0) (IsCut : List ℕ → Type 0) (elements : AreElements ElementOf FaultOf IsCut) (refuses : Breach → Error) where
+      same_parts : (input rest tail : List ℕ) (p o : Parts) → Front ElementOf input p rest → Front ElementOf input o tail → o ≡ p
       same_parts input rest tail p o f g = (elements.one.one g.word f.word tail rest o p g.fits f.fits (sym g.is ∙ f.is)).1
 
-      element_or_fault : (input rest : List ℕ) (p : Parts) (fault : Fault) → Front Element input p rest → FaultOf input fault → ⊥
+      element_or_fault : (input rest : List ℕ) (p : Parts) (fault : Fault) → Front ElementOf input p rest → FaultOf input fault → ⊥
       element_or_fault input rest p fault f why =
           let silent = speaks_itself refuses fault (refusal_of refuses fault) (IsCut input) [] (elements.counts input fault why) refl (speaks_now (IsCut input) (refusal_of refuses fault)) in
           elements.final input [] f.word rest p fault why silent f.fits (append-nil input ∙ f.is)
 
       abbrev Gives : List ℕ → Result (List ℕ × T) (Refusal Error) → Type 0
-      Gives = ElementGives Element FaultOf (refusal_of refuses) check convert Same
+      Gives = ElementGives ElementOf FaultOf (refusal_of refuses) check convert Same
 
       pub one_reading_refusal : (input : List ℕ) (q r : Refusal Error) → Gives input (Err q) → Gives input (Err r) → Agree q r
       one_reading_refusal input q r (inl (f, why, c)) (inl (g, also, d)) =

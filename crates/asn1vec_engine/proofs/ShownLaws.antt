@@ -8,28 +8,28 @@ use Rattle.asn1_rs.specs.declared.class.Class.{Class}
 use Rattle.asn1_rs.specs.declared.class.Class.TheVariants.{Universal, Application, ContextSpecific, Private}
 use Rattle.asn1_rs.specs.declared.error.SerializeError.{SerializeError}
 use Rattle.asn1_rs.specs.Class.{class_number}
-use Rattle.asn1_rs.specs.Element.{element_of, ElementForm}
+use Rattle.asn1_rs.specs.Any.Value.{element_of, ElementForm}
 use Rattle.asn1_rs.specs.Header.{identifier_of}
-use Rattle.asn1_rs.specs.Form.{IsStrict}
-use Rattle.asn1_rs.specs.Wrote.{MayRefuse}
+use Rattle.asn1_rs.specs.Grammar.Form.{IsStrict, universal}
+use Rattle.asn1_rs.specs.Writer.{MayRefuse}
 use Rattle.asn1_rs.specs.Integer.{integer_number, IntegerForm, IsUnsigned}
-use Rattle.asn1_rs.specs.Laws.Forms.{universal}
-use Rattle.x690.specs.Laws.StrictElements.{element_octets, made_strict_element}
-use Rattle.x690.specs.Laws.UnsignedOctets.{unsigned_octets_content, unsigned_octets_few}
+use Rattle.x690.specs.Strict.{element_octets}
+use Rattle.x690.specs.Laws.StrictElements.{made_strict_element}
+use Rattle.x690.specs.Laws.Integers.Unsigned.{unsigned_octets_content, unsigned_octets_few}
 use Rattle.x690.specs.Integers.{IsIntegerContent, unsigned_octets}
-use Rattle.x690.specs.SignedOctets.{IsSigned, signed_octets}
-use Rattle.x690.specs.Laws.SignedOctets.{signed_octets_content, signed_octets_few}
+use Rattle.x690.specs.Signed.{IsSigned, signed_octets}
+use Rattle.x690.specs.Laws.Signed.{signed_octets_content, signed_octets_few}
 use Rattle.asn1vec_engine.specs.Shown.{Gains, SaysEncoding, SaysWriting, StrictEncoding}
 use Rattle.asn1vec_engine.proofs.Gained.{gains_both}
 
 -- what is said of the writing of a value's strict encoding into a vector
-pub encoding_said : {V : Type 0} (Form : V → Identifier → List ℕ → Type 0) (takes_memory : Bool) (v : V) (o written : List ℕ) → IsStrict Form v o → length written < 2 ^ 64
-    → (answer : Result ℕ SerializeError) → IfOk answer (λ n. written ≡ o) → IfErr answer (MayRefuse takes_memory (length o))
-    → (a b c : List ℕ) → b ≡ a ++ codes " enc " → Gains b c (SaysWriting written answer) → Gains a c (SaysEncoding (StrictEncoding Form takes_memory v))
-encoding_said Form takes_memory v o written strict few (Ok n) is may a b c e (said, says, more) =
-    let whole : StrictEncoding Form takes_memory v (Some (Ok written)) = (o, strict, (subst (λ (l : List ℕ). length l < 2 ^ 64) is few, is)) in
+pub encoding_said : {V : Type 0} (Form : V → Identifier → List ℕ → Type 0) (allocates : Bool) (v : V) (o written : List ℕ) → IsStrict Form v o → length written < 2 ^ 64
+    → (answer : Result ℕ SerializeError) → IfOk answer (λ n. written ≡ o) → IfErr answer (MayRefuse allocates (length o))
+    → (a b c : List ℕ) → b ≡ a ++ codes " enc " → Gains b c (SaysWriting written answer) → Gains a c (SaysEncoding (StrictEncoding Form allocates v))
+encoding_said Form allocates v o written strict few (Ok n) is may a b c e (said, says, more) =
+    let whole : StrictEncoding Form allocates v (Some (Ok written)) = (o, strict, (subst (λ (l : List ℕ). length l < 2 ^ 64) is few, is)) in
     (codes " enc " ++ said, (Some (Ok written), whole, ap (λ l. codes " enc " ++ l) says), gains_both a b c (codes " enc ") said e more)
-encoding_said Form takes_memory v o written strict few (Err e) is may a b c same (said, says, more) =
+encoding_said Form allocates v o written strict few (Err e) is may a b c same (said, says, more) =
     (codes " enc " ++ said, (Some (Err e), (o, strict, (may, says.0)), ap (λ l. codes " enc " ++ l) says.1), gains_both a b c (codes " enc ") said same more)
 
 -- each number that a type holds has a strict encoding, where its contents octets are few

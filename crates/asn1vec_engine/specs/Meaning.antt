@@ -16,12 +16,12 @@ pub record Meaning : Type 1 where
   pub text_of : T → List ℕ
   -- what may be said of its encoding
   pub Encodes : T → Encoding → Type 0
-  -- whether want of memory may be answered
-  pub reading_takes_memory : Bool
-  pub writing_takes_memory : Bool
+  -- whether out of memory may be answered
+  pub reading_allocates : Bool
+  pub writing_allocates : Bool
 
 -- read by either rule
 abbrev pub ReadsByEither : {T V : Type 0} → (Ber Der : List ℕ → V → Type 0) → (T → V) → Bool →
     (ber_gives der_gives : List ℕ → Reading T → Type 0) → Rule → List ℕ → Reading T → Type 0
-ReadsByEither Ber Der value takes_memory ber_gives der_gives ber = ReadsByBer Ber value takes_memory ber_gives
-ReadsByEither Ber Der value takes_memory ber_gives der_gives der = ReadsByDer Der value takes_memory der_gives
+ReadsByEither Ber Der value allocates ber_gives der_gives ber = ReadsByBer Ber value allocates ber_gives
+ReadsByEither Ber Der value allocates ber_gives der_gives der = ReadsByDer Der value allocates der_gives

@@ -10,8 +10,8 @@ use Rattle.asn1vec_engine.specs.Types.{meaning_of, Names}
 -- same value and rest, in writing.
 abbrev pub TellsRefusedMemory : Meaning → List ℕ → List ℕ → Type 0
 TellsRefusedMemory m text other =
-    ((m.reading_takes_memory ≡ true) × (text ≡ codes "err OutOfMemory")) ⊎
-    ((m.writing_takes_memory ≡ true) × ((front rest : List ℕ) ×
+    ((m.reading_allocates ≡ true) × (text ≡ codes "err OutOfMemory")) ⊎
+    ((m.writing_allocates ≡ true) × ((front rest : List ℕ) ×
     (text ≡ front ++ codes " enc err OutOfMemory") × (other ≡ front ++ (codes " enc " ++ rest))))
 
 -- one of them does
@@ -22,16 +22,16 @@ DifferByMemory m text other = TellsRefusedMemory m text other ⊎ TellsRefusedMe
 abbrev pub AsksFor : List ℕ → TypeName → Type 0
 AsksFor line t = (rule : Rule) × ((name octets : List ℕ) × IsRequest line rule name octets × Names rule name t)
 
--- the answers are the same but for want of memory, as far as the type takes any
+-- the answers are the same except when out of memory, as far as the type allocates
 abbrev pub AreAlike : List ℕ → List ℕ → List ℕ → Type 0
 AreAlike line text other =
     (text ≡ other) ⊎ ((t : TypeName) × AsksFor line t × DifferByMemory (meaning_of t) text other)
 
--- no type that the line asks for takes memory
+-- no type that the line asks for allocates
 abbrev pub TakesNoMemory : List ℕ → Type 0
 TakesNoMemory line =
     (t : TypeName) → AsksFor line t →
-    ((meaning_of t).reading_takes_memory ≡ false) × ((meaning_of t).writing_takes_memory ≡ false)
+    ((meaning_of t).reading_allocates ≡ false) × ((meaning_of t).writing_allocates ≡ false)
 
 -- the same of the answers to lines, each with its end
 abbrev pub AllAlike : List (List ℕ) → List ℕ → List ℕ → Type 0

@@ -7,9 +7,9 @@ use Rattle.asn1_rs.specs.declared.error.Needed.TheVariants.{Unknown, Size}
 use Rattle.asn1_rs.specs.declared.error.DerConstraint.{DerConstraint}
 use Rattle.asn1_rs.specs.declared.error.DerConstraint.TheVariants as constraints
 use Rattle.asn1_rs.specs.declared.error.Error.{Error}
-use Rattle.asn1_rs.specs.declared.error.Error.TheVariants as faults
+use Rattle.asn1_rs.specs.declared.error.Error.TheVariants as errors
 use Rattle.asn1_rs.specs.declared.error.SerializeError.{SerializeError}
-use Rattle.asn1_rs.specs.declared.error.SerializeError.TheVariants as refusals
+use Rattle.asn1_rs.specs.declared.error.SerializeError.TheVariants as serialize_errors
 
 -- how many octets are missing
 abbrev pub name_of_needed : Needed → List ℕ
@@ -30,35 +30,35 @@ name_of_constraint constraints.IntegerLeadingFF = codes "IntegerLeadingFF"
 
 -- an error without its parts
 abbrev pub word_of_error : Error → List ℕ
-word_of_error faults.BerTypeError = codes "BerTypeError"
-word_of_error faults.BerValueError = codes "BerValueError"
-word_of_error faults.InvalidLength = codes "InvalidLength"
-word_of_error (faults.InvalidValue tag msg) = codes "InvalidValue"
-word_of_error faults.InvalidTag = codes "InvalidTag"
-word_of_error (faults.UnknownTag number) = codes "UnknownTag"
-word_of_error (faults.UnexpectedTag expected actual) = codes "UnexpectedTag"
-word_of_error (faults.UnexpectedClass expected actual) = codes "UnexpectedClass"
-word_of_error faults.IndefiniteLengthUnexpected = codes "IndefiniteLengthUnexpected"
-word_of_error faults.ConstructExpected = codes "ConstructExpected"
-word_of_error faults.ConstructUnexpected = codes "ConstructUnexpected"
-word_of_error faults.IntegerTooLarge = codes "IntegerTooLarge"
-word_of_error faults.IntegerNegative = codes "IntegerNegative"
-word_of_error faults.BerMaxDepth = codes "BerMaxDepth"
-word_of_error faults.StringInvalidCharset = codes "StringInvalidCharset"
-word_of_error faults.InvalidDateTime = codes "InvalidDateTime"
-word_of_error (faults.DerConstraintFailed constraint) = codes "DerConstraintFailed"
-word_of_error faults.LifetimeError = codes "LifetimeError"
-word_of_error faults.Unsupported = codes "Unsupported"
-word_of_error (faults.Incomplete needed) = codes "Error.Incomplete"
-word_of_error faults.OutOfMemory = codes "OutOfMemory"
+word_of_error errors.BerTypeError = codes "BerTypeError"
+word_of_error errors.BerValueError = codes "BerValueError"
+word_of_error errors.InvalidLength = codes "InvalidLength"
+word_of_error (errors.InvalidValue tag msg) = codes "InvalidValue"
+word_of_error errors.InvalidTag = codes "InvalidTag"
+word_of_error (errors.UnknownTag number) = codes "UnknownTag"
+word_of_error (errors.UnexpectedTag expected actual) = codes "UnexpectedTag"
+word_of_error (errors.UnexpectedClass expected actual) = codes "UnexpectedClass"
+word_of_error errors.IndefiniteLengthUnexpected = codes "IndefiniteLengthUnexpected"
+word_of_error errors.ConstructExpected = codes "ConstructExpected"
+word_of_error errors.ConstructUnexpected = codes "ConstructUnexpected"
+word_of_error errors.IntegerTooLarge = codes "IntegerTooLarge"
+word_of_error errors.IntegerNegative = codes "IntegerNegative"
+word_of_error errors.BerMaxDepth = codes "BerMaxDepth"
+word_of_error errors.StringInvalidCharset = codes "StringInvalidCharset"
+word_of_error errors.InvalidDateTime = codes "InvalidDateTime"
+word_of_error (errors.DerConstraintFailed constraint) = codes "DerConstraintFailed"
+word_of_error errors.LifetimeError = codes "LifetimeError"
+word_of_error errors.Unsupported = codes "Unsupported"
+word_of_error (errors.Incomplete needed) = codes "Error.Incomplete"
+word_of_error errors.OutOfMemory = codes "OutOfMemory"
 
 abbrev pub in_brackets : List ℕ → List ℕ → List ℕ
 in_brackets word part = word ++ (codes "(" ++ (part ++ codes ")"))
 
 -- an error with the constraint that was broken, or the number of octets that are missing
 abbrev pub name_of_error : Error → List ℕ
-name_of_error (faults.DerConstraintFailed constraint) = in_brackets (codes "DerConstraintFailed") (name_of_constraint constraint)
-name_of_error (faults.Incomplete needed) = in_brackets (codes "Error.Incomplete") (name_of_needed needed)
+name_of_error (errors.DerConstraintFailed constraint) = in_brackets (codes "DerConstraintFailed") (name_of_constraint constraint)
+name_of_error (errors.Incomplete needed) = in_brackets (codes "Error.Incomplete") (name_of_needed needed)
 name_of_error error = word_of_error error
 
 -- what a reader refuses with
@@ -69,8 +69,8 @@ name_of_refusal (failed error) = name_of_error error
 
 -- what a writer refuses with
 abbrev pub name_of_write_refusal : SerializeError → List ℕ
-name_of_write_refusal (refusals.ASN1Error error) = name_of_error error
-name_of_write_refusal (refusals.InvalidClass class) = codes "InvalidClass"
-name_of_write_refusal refusals.InvalidLength = codes "InvalidLength"
-name_of_write_refusal (refusals.IOError error) = codes "IOError"
-name_of_write_refusal refusals.OutOfMemory = codes "OutOfMemory"
+name_of_write_refusal (serialize_errors.ASN1Error error) = name_of_error error
+name_of_write_refusal (serialize_errors.InvalidClass class) = codes "InvalidClass"
+name_of_write_refusal serialize_errors.InvalidLength = codes "InvalidLength"
+name_of_write_refusal (serialize_errors.IOError error) = codes "IOError"
+name_of_write_refusal serialize_errors.OutOfMemory = codes "OutOfMemory"

@@ -6,10 +6,11 @@ use Rattle.asn1_rs.specs.declared.error.Err.{Err as Refusal}
 use Rattle.asn1_rs.specs.declared.error.Error.{Error}
 use Rattle.asn1_rs.specs.declared.error.SerializeError.{SerializeError}
 use Rattle.asn1_rs.specs.Answers.{Exactly, TellsMemory}
-use Rattle.asn1_rs.specs.Grammar.{EndsWithin}
-use Rattle.asn1_rs.specs.Element.{Element}
-use Rattle.asn1_rs.specs.Form.{IsStrict}
-use Rattle.asn1_rs.specs.Wrote.{MayRefuse, tells_of_io}
+use Rattle.asn1_rs.specs.Ber.{EndsWithin}
+use Rattle.asn1_rs.specs.Any.Value.{ElementValue}
+use Rattle.asn1_rs.specs.Grammar.Form.{IsStrict}
+use Rattle.asn1_rs.specs.Writer.{MayRefuse}
+use Rattle.asn1_rs.specs.Error.{tells_of_io}
 use Rattle.asn1vec_engine.specs.Names.{name_of_refusal, name_of_write_refusal}
 
 -- octets in hexadecimal digits of lower case, `-` for none
@@ -24,7 +25,7 @@ letter_of false = codes "p"
 
 -- the number of the class, the letter of the form, the tag number and the contents octets, joined
 -- by points
-abbrev pub element_text : Element → List ℕ
+abbrev pub element_text : ElementValue → List ℕ
 element_text v =
     decimal v.id.class ++ (codes "." ++ (letter_of v.id.constructed ++ (codes "." ++
     (decimal v.id.number ++ (codes "." ++ in_hexadecimal v.content)))))
@@ -74,26 +75,26 @@ Same e f = f ≡ e
 -- by BER: what is exact by the grammar, and what the reader gives
 abbrev pub ReadsByBer : {T V : Type 0} → (List ℕ → V → Type 0) → (T → V) → Bool → (List ℕ → Reading T → Type 0) →
     List ℕ → Reading T → Type 0
-ReadsByBer Ber value takes_memory gives octets answer =
-    Exactly EndsWithin Ber value (TellsMemory takes_memory Same) octets answer × gives octets answer
+ReadsByBer Ber value allocates gives octets answer =
+    Exactly EndsWithin Ber value (TellsMemory allocates Same) octets answer × gives octets answer
 
 -- the same by DER
 abbrev pub ReadsByDer : {T V : Type 0} → (List ℕ → V → Type 0) → (T → V) → Bool → (List ℕ → Reading T → Type 0) →
     List ℕ → Reading T → Type 0
-ReadsByDer Der value takes_memory gives octets answer =
-    Exactly IsCutIdentifier Der value (TellsMemory takes_memory Same) octets answer × gives octets answer
+ReadsByDer Der value allocates gives octets answer =
+    Exactly IsCutIdentifier Der value (TellsMemory allocates Same) octets answer × gives octets answer
 
 -- these octets, of a length that 64 bits hold, or why writing them was refused
 abbrev pub IsWritten : Bool → List ℕ → Encoding → Type 0
-IsWritten takes_memory octets None = ⊥
-IsWritten takes_memory octets (Some (Ok written)) = (length octets < 2 ^ 64) × (written ≡ octets)
-IsWritten takes_memory octets (Some (Err e)) =
-    MayRefuse takes_memory (length octets) e × (tells_of_io e ≡ false)
+IsWritten allocates octets None = ⊥
+IsWritten allocates octets (Some (Ok written)) = (length octets < 2 ^ 64) × (written ≡ octets)
+IsWritten allocates octets (Some (Err e)) =
+    MayRefuse allocates (length octets) e × (tells_of_io e ≡ false)
 
 -- the strict encoding of a value, or why writing that was refused
 abbrev pub StrictEncoding : {V : Type 0} → (V → Identifier → List ℕ → Type 0) → Bool → V → Encoding → Type 0
-StrictEncoding Form takes_memory v encoding =
-    (octets : List ℕ) × IsStrict Form v octets × IsWritten takes_memory octets encoding
+StrictEncoding Form allocates v encoding =
+    (octets : List ℕ) × IsStrict Form v octets × IsWritten allocates octets encoding
 
 -- ---- what functions on the way say
 

@@ -1,12 +1,13 @@
 -- The names of types, and what each stands for.
 use Rattle.std.specs.Prelude.{◌≡◌, List, ℕ, ℤ, pos, codes, true, false}
 use Rattle.std.specs.Fmt.{signed_decimal}
-use Rattle.x690.specs.SignedOctets.{IsSigned}
+use Rattle.x690.specs.Signed.{IsSigned}
 use Rattle.asn1_rs.specs.declared.error.Error.{Error}
-use Rattle.asn1_rs.specs.declared.asn1_types.any.Any.{Any as Read}
-use Rattle.asn1_rs.specs.Any.{IsTheElement, IsDefiniteOr, OfParts}
-use Rattle.asn1_rs.specs.Element.{element_of, ElementBody, ElementCheck, ElementForm}
-use Rattle.asn1_rs.specs.Grammar.{BerWord, DerWord, BerGives, DerGives}
+use Rattle.asn1_rs.specs.declared.asn1_types.any.Any.{Any}
+use Rattle.asn1_rs.specs.Any.{IsTheElement, IsDefiniteOr}
+use Rattle.asn1_rs.specs.Traits.{OfParts, BerGives, DerGives}
+use Rattle.asn1_rs.specs.Any.Value.{element_of, ElementBody, ElementCheck, ElementForm}
+use Rattle.asn1_rs.specs.Grammar.{BerWord, DerWord}
 use Rattle.asn1_rs.specs.Integer.{IntegerCheck, IntegerCheckGives, IntegerBody, IntegerForm, IntegerGives, IsUnsigned, UnsignedRefuses, SignedRefuses}
 use Rattle.asn1vec_engine.specs.declared.request.Rule.{Rule}
 use Rattle.asn1vec_engine.specs.declared.types.TypeName.{TypeName}
@@ -37,8 +38,8 @@ integers {T} number Holds refuses = record {
       (DerGives IntegerCheckGives (OfParts (IntegerGives number Holds refuses)) Same);
   text_of = λ x. signed_decimal (number x);
   Encodes = λ x. StrictEncoding (IntegerForm Holds) false (number x);
-  reading_takes_memory = false;
-  writing_takes_memory = false;
+  reading_allocates = false;
+  writing_allocates = false;
 }
 
 -- the unsigned integers of so many octets
@@ -52,14 +53,14 @@ signed size = integers {T = ℤ} (λ n. n) (IsSigned size) (SignedRefuses size)
 -- elements of any type, there by either rule: what they say, with the strict encoding that each of them has
 abbrev pub elements : Meaning
 elements = record {
-  T = Read;
+  T = Any;
   is_there = λ rule. true;
   Reads = ReadsByEither (BerWord ElementBody) (DerWord ElementCheck ElementBody) element_of false
       (BerGives IsTheElement Same) (DerGives IsDefiniteOr IsTheElement Same);
   text_of = λ a. element_text (element_of a);
   Encodes = λ a. StrictEncoding ElementForm false (element_of a);
-  reading_takes_memory = false;
-  writing_takes_memory = false;
+  reading_allocates = false;
+  writing_allocates = false;
 }
 
 abbrev pub meaning_of : TypeName → Meaning

@@ -27,7 +27,7 @@ fn push_by_either<'a, T>(
 where
     T: LawfulBer<'a, Error> + LawfulDer<'a, Error> + Shown + Drop,
     ensures { OnOk result (Gains text.old.items text.new.items (IsReadAnswer
-        (ReadsByEither T.grammar.Ber T.grammar.Der T.grammar.value T.grammar.takes_memory T.ber_gives T.der_gives rule)
+        (ReadsByEither T.grammar.Ber T.grammar.Der T.grammar.value T.grammar.allocates T.ber_gives T.der_gives rule)
         T.text_of T.Encodes octets.now)) }
 {
     match rule {
@@ -99,13 +99,13 @@ fn push_answer(
     }
 }
 
-/// A line has one answer, but for want of memory where reading or writing what it names takes any.
+/// A line has one answer, except when out of memory where reading or writing what it names allocates.
 pub fn one_answer()
     ensures alike { (line text other : List ℕ)
         → IsAnswer line text → IsAnswer line other → AreAlike line text other }
     ensures one { (line text other : List ℕ)
         → TakesNoMemory line → IsAnswer line text → IsAnswer line other → text ≡ other }
-    // No name takes any yet.
+    // No name allocates yet.
     ensures none { (line : List ℕ) → TakesNoMemory line }
 {}
 

@@ -201,8 +201,8 @@ pub fn run<R: Read, W: DerWrite>(
     Err(RunError::Input)
 }
 
-/// An input has one output, but for want of memory in a line where reading or writing what it names
-/// takes any. What is written up to a failure is a beginning of it, but for the same.
+/// An input has one output, except when out of memory in a line where reading or writing what it names
+/// allocates. What is written up to a failure is a beginning of it, but for the same.
 pub fn one_output()
     ensures alike { (octets texts others : List ℕ)
         → AnswersTo octets texts → AnswersTo octets others → AllAlike (lines_of octets) texts others }

@@ -2,7 +2,7 @@
 #![tactic(auto)]
 
 mod answer;
-mod element;
+mod any;
 mod engine;
 mod names;
 mod request;

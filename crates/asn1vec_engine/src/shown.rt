@@ -1,11 +1,10 @@
 //! How a reading is answered: the value, what follows it and its encoding, or the refusal.
 ghost use Rattle.std.specs.Prelude.{◌≡◌, ◌++◌, ◌||◌, ℕ, List, Result, Ok, OnOk};
 ghost use Rattle.asn1_rs.specs.Answers.{seen};
-ghost use Rattle.asn1_rs.specs.Form.{IsStrict};
-ghost use Rattle.asn1_rs.specs.Wrote.{some_takes, tells_of_io};
-ghost use Rattle.asn1vec_engine.specs.Shown.{Encoding, Gains, Says, IsReadAnswer};
-ghost use Rattle.asn1vec_engine.specs.Shown.{ReadsByBer, ReadsByDer, StrictEncoding};
-ghost use Rattle.asn1vec_engine.specs.Shown.{SaysEncoding, SaysWriting};
+ghost use Rattle.asn1_rs.specs.Grammar.Form.{IsStrict};
+ghost use Rattle.asn1_rs.specs.ToDer.{some_allocates};
+ghost use Rattle.asn1_rs.specs.Error.{tells_of_io};
+ghost use Rattle.asn1vec_engine.specs.Shown.{Encoding, Gains, Says, IsReadAnswer, ReadsByBer, ReadsByDer, StrictEncoding, SaysEncoding, SaysWriting};
 
 use crate::names::{push_refusal, push_write_refusal};
 use crate::text::{push_hexadecimal, push_str};
@@ -78,7 +77,7 @@ pub(crate) fn push_encoding<T: LawfulWrite>(
 ) -> Result<(), AllocError>
     requires { (o : List ℕ) × IsStrict T.grammar.Form (T.grammar.value x.now) o }
     ensures { OnOk result (Gains text.old.items text.new.items (SaysEncoding
-        (StrictEncoding T.grammar.Form (some_takes T.write_takes_memory T.count_takes_memory T.content_takes_memory) (T.grammar.value x.now)))) }
+        (StrictEncoding T.grammar.Form (some_allocates T.write_allocates T.count_allocates T.content_allocates) (T.grammar.value x.now)))) }
 {
     buffer.clear();
     let mut output = Told::new(mem::replace(buffer, Vec::new(alloc)));
@@ -138,7 +137,7 @@ pub(crate) fn push_by_ber<'a, T>(
 where
     T: LawfulBer<'a, Error> + Shown + Drop,
     ensures { OnOk result (Gains text.old.items text.new.items (IsReadAnswer
-        (ReadsByBer T.grammar.Ber T.grammar.value T.grammar.takes_memory T.ber_gives)
+        (ReadsByBer T.grammar.Ber T.grammar.value T.grammar.allocates T.ber_gives)
         T.text_of T.Encodes octets.now)) }
 {
     push_reading(alloc, read_ber::<T, Error>(alloc, octets), buffer, text)
@@ -154,7 +153,7 @@ pub(crate) fn push_by_der<'a, T>(
 where
     T: LawfulDer<'a, Error> + Shown + Drop,
     ensures { OnOk result (Gains text.old.items text.new.items (IsReadAnswer
-        (ReadsByDer T.grammar.Der T.grammar.value T.grammar.takes_memory T.der_gives)
+        (ReadsByDer T.grammar.Der T.grammar.value T.grammar.allocates T.der_gives)
         T.text_of T.Encodes octets.now)) }
 {
     push_reading(alloc, read_der::<T, Error>(alloc, octets), buffer, text)

@@ -1,7 +1,7 @@
 //! How signed integers are shown.
 ghost use Rattle.std.specs.Prelude.{false};
 ghost use Rattle.std.specs.Fmt.{signed_decimal};
-ghost use Rattle.x690.specs.SignedOctets.{IsSigned};
+ghost use Rattle.x690.specs.Signed.{IsSigned};
 ghost use Rattle.asn1_rs.specs.Integer.{IntegerForm};
 ghost use Rattle.asn1vec_engine.specs.Shown.{StrictEncoding};
 

@@ -6,11 +6,11 @@ use Rattle.std.proofs.lemmas.List.{length-take}
 use Rattle.std.proofs.Math.Nat.{pow-suc}
 use Rattle.x690.specs.Octets.{IsOctets}
 use Rattle.x690.specs.Digits.{base_256_value, twos_complement_value}
-use Rattle.x690.specs.SignedOctets.{IsSigned}
+use Rattle.x690.specs.Signed.{IsSigned}
 use Rattle.x690.specs.Laws.Octets.{octets_front}
 use Rattle.x690.specs.Laws.Digits.{weighted_sum_more}
 use Rattle.x690.specs.Laws.Integers.{value_low, value_high}
-use Rattle.x690.specs.Laws.SignedOctets.{octets_say_signed}
+use Rattle.x690.specs.Laws.Signed.{octets_say_signed}
 
 -- the digits of a natural number, or of a negative one, which ones go before
 abbrev pub signed_sum : Bool → List ℕ → ℤ

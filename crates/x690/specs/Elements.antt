@@ -59,4 +59,4 @@ BeginsWithHeader rule octets = (header : List ℕ) × (rest : List ℕ) × (id :
 
 -- an element begins the octets
 abbrev pub BeginsWithElement : (List ℕ → Parts → Type 0) → List ℕ → Type 0
-BeginsWithElement Element octets = (word : List ℕ) × (rest : List ℕ) × (parts : Parts) × Element word parts × BeginsWith octets word rest
+BeginsWithElement ElementOf octets = (word : List ℕ) × (rest : List ℕ) × (parts : Parts) × ElementOf word parts × BeginsWith octets word rest

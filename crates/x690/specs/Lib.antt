@@ -6,9 +6,7 @@ pub mod Rules
 pub mod Elements
 pub mod Faults
 pub mod Nested
-pub mod Contents
-pub mod FaultHeaders
 pub mod Strict
 pub mod Integers
-pub mod SignedOctets
+pub mod Signed
 pub mod Laws

@@ -1,4 +1,6 @@
 -- Elements by BER, nested to a depth (X.690 8.1.3.6, 8.1.5).
+pub mod Contents
+pub mod FaultHeaders
 use Rattle.std.specs.Prelude.{◌≡◌, ◌≢◌, ℕ, zero, suc, ◌+◌, ◌≤◌, List, [], ◌∷◌, ◌++◌, ◌⊎◌}
 use Rattle.std.specs.List.{concat}
 use Rattle.x690.specs.Identifiers.{Identifier, IsCutIdentifier}

@@ -3,6 +3,7 @@ use Rattle.std.specs.Prelude.{ℕ, ◌+◌, ◌*◌, ◌/◌, ◌%◌, Bool, Lis
 use Rattle.std.specs.Int.Digits.{digits_of}
 use Rattle.x690.specs.Identifiers.{Identifier, bit}
 use Rattle.x690.specs.Lengths.{LengthForm, definite, indefinite}
+use Rattle.x690.specs.Elements.{Parts}
 
 -- with bit 8 set
 abbrev pub with_bit_8 : ℕ → ℕ
@@ -28,3 +29,11 @@ length_form_octets indefinite = 128 ∷ []
 -- the strict header of an element whose contents are n octets
 unfoldable pub header_octets : ℕ → Bool → ℕ → ℕ → List ℕ
 header_octets class constructed number n = identifier_octets (record { class = class; constructed = constructed; number = number }) ++ length_octets n
+
+-- the strict element, as a function
+abbrev pub element_octets : Identifier → List ℕ → List ℕ
+element_octets i c = header_octets i.class i.constructed i.number (length c) ++ c
+
+-- the parts of an element of definite length
+abbrev pub definite_parts : Identifier → List ℕ → Parts
+definite_parts i c = record { id = i; form = definite (length c); content = c }

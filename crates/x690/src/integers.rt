@@ -3,7 +3,7 @@
 ghost use Rattle.std.specs.Prelude.{ℕ, ◌≡◌, ◌<◌, ◌≤◌, ◌^◌, ◌+◌, ◌*◌, ◌/◌, List, length, get_or, take, drop, pos, ℤ, IfSome, IfNone, IsTrue, ◌↔◌};
 ghost use Rattle.x690.specs.Digits.{base_256_value};
 ghost use Rattle.x690.specs.Integers.{HasSpareZeros, HasSpareOnes, IsIntegerContent, HasNoLeadingZero, unsigned_octets};
-ghost use Rattle.x690.specs.SignedOctets.{signed_octets};
+ghost use Rattle.x690.specs.Signed.{signed_octets};
 
 /// The octets behind the leading zeros, which say the same number.
 fn without_leading_zeros(octets: &[u8]) -> &[u8]

@@ -9,8 +9,8 @@ ghost use Rattle.x690.specs.Rules.{Rule, ber_rule};
 ghost use Rattle.x690.specs.Elements.{Parts, ArePossible, IsHeader, IsDefiniteElement, BeginsWithElement};
 ghost use Rattle.x690.specs.Faults.{Fault, missing, tag_fault, HasFault, SpeaksOf, IsLackingOrCut};
 ghost use Rattle.x690.specs.Nested.{IsNestedElement, IsElement, IsWord, IsRow, ElementFault, EndsInIdentifier, end_of_contents};
-ghost use Rattle.x690.specs.Contents.{IsContent, BeginsWithContent, ContentFault};
-ghost use Rattle.x690.specs.FaultHeaders.{FaultHeaders};
+ghost use Rattle.x690.specs.Nested.Contents.{IsContent, BeginsWithContent, ContentFault};
+ghost use Rattle.x690.specs.Nested.FaultHeaders.{FaultHeaders};
 
 /// Where two elements begin one input they are the same, of whatever depths: they have the same parts and as many
 /// headers, and the same octets follow (X.690 8.1.1). An element has a class from 0 to 3, and a tag number below 2^32.

@@ -4,7 +4,7 @@ ghost use Rattle.std.specs.Prelude.{ℕ, ℤ, List, ◌≡◌, ◌<◌, ◌≤�
 ghost use Rattle.x690.specs.Octets.{IsOctets};
 ghost use Rattle.x690.specs.Digits.{twos_complement_value};
 ghost use Rattle.x690.specs.Integers.{HasSpareZeros, HasSpareOnes};
-ghost use Rattle.x690.specs.SignedOctets.{complement, signed_octets, IsSigned};
+ghost use Rattle.x690.specs.Signed.{complement, signed_octets, IsSigned};
 
 use crate::integers::{has_spare_ones, has_spare_zeros, unsigned_into, unsigned_octets_count};
 

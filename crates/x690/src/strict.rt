@@ -6,8 +6,7 @@ ghost use Rattle.x690.specs.Lengths.{IsLength, IsStrictLength};
 ghost use Rattle.x690.specs.Octets.{IsOctets};
 ghost use Rattle.x690.specs.Rules.{Rule, der_rule, ber_rule};
 ghost use Rattle.x690.specs.Elements.{IsDefiniteElement, IsStrictElement, AllowsStrict};
-ghost use Rattle.x690.specs.Laws.StrictElements.{element_octets, definite_parts};
-ghost use Rattle.x690.specs.Strict.{identifier_octets, length_octets};
+ghost use Rattle.x690.specs.Strict.{element_octets, definite_parts, identifier_octets, length_octets};
 
 /// Each class, constructed bit and tag number below 2^32 has exactly one string of strict identifier octets,
 /// and no identifier octets that a reader takes for it are fewer (X.690 8.1.2.2, 8.1.2.4).

@@ -1,5 +1,7 @@
 -- What readers of elements and of contents octets say of more octets, and that they have one refusal.
-use Rattle.std.proofs.Common.{◌≡◌, ◌∙◌, ◌⊎◌, ◌≤◌, inl, inr, refl, subst, ap, sym, ℕ, length, List, [], ◌++◌, append_assoc, append-nil}
+pub mod Value
+pub mod Writing
+use Rattle.std.proofs.Common.{◌≡◌, ◌∙◌, inl, inr, refl, subst, ap, sym, ℕ, List, [], ◌++◌, append_assoc, append-nil}
 use Rattle.std.proofs.lemmas.List.{append_cancel_left}
 use Rattle.std.specs.Prelude.{zero, suc, Bool, true, false, Some, Result, Ok, Err, IfOk}
 use Rattle.std.specs.Borrow.{Bor}
@@ -7,66 +9,48 @@ use Rattle.x690.specs.Identifiers.{Identifier, IsIdentifier}
 use Rattle.x690.specs.Laws.Identifiers.{identifier_unique}
 use Rattle.x690.specs.Lengths.{LengthForm, definite, indefinite}
 use Rattle.x690.specs.Elements.{Parts, IsDerElement}
-use Rattle.x690.specs.Faults.{Breach, Fault, tag_fault, DerElementFault, IsLackingOrCut}
-use Rattle.x690.specs.Nested.{IsElement, ElementFault}
-use Rattle.x690.specs.Contents.{IsContent}
-use Rattle.x690.specs.Laws.Contents.{content_unique, content_extends, one_content_fault, content_or_fault}
+use Rattle.x690.specs.Faults.{Breach, Fault, tag_fault, IsLackingOrCut}
+use Rattle.x690.specs.Nested.{IsElement}
+use Rattle.x690.specs.Nested.Contents.{IsContent}
+use Rattle.x690.specs.Laws.Nested.Contents.{content_unique, content_extends, one_content_fault, content_or_fault}
 use Rattle.asn1_rs.specs.declared.error.Err.{Err as Refusal}
 use Rattle.asn1_rs.specs.declared.error.Err.TheVariants.{Incomplete as cut, Error as refused, Failure as failed}
-use Rattle.asn1_rs.specs.declared.error.Needed.TheVariants.{Size}
 use Rattle.asn1_rs.specs.declared.error.Error.TheVariants.{InvalidTag}
 use Rattle.asn1_rs.specs.Error.{Converted}
 use Rattle.asn1_rs.specs.declared.error.Error.{Error}
 use Rattle.asn1_rs.specs.declared.asn1_types.any.Any.{Any}
-use Rattle.asn1_rs.specs.Answers.{Front, Speaks}
+use Rattle.asn1_rs.specs.Answers.{Front, TellsBeginning}
 use Rattle.asn1_rs.specs.declared.header.Header.{Header}
-use Rattle.asn1_rs.specs.Header.{refusal_of, der_refusal, ber_refusal, identifier_of, raw_tag_of, KeepsIdentifier}
-use Rattle.asn1_rs.specs.Ber.{BerContentGives}
-use Rattle.asn1_rs.specs.Any.{AnyGives, BeginsWithElement, IsTheElement, IsDefiniteOr, parts_of}
-use Rattle.asn1_rs.specs.Laws.Element.{the_element_parts}
-use Rattle.asn1_rs.specs.Grammar.{max_depth, BerGives, DerGives}
-use Rattle.asn1_rs.specs.Laws.Elements.{AreElements, speaks_itself, speaks_now}
-
--- the answers of the readers of elements by DER and by BER
-abbrev pub DerElementGives : List ℕ → Result (List ℕ × Any) (Refusal Error) → Type 0
-DerElementGives = AnyGives IsDerElement DerElementFault der_refusal
-
-abbrev pub BerElementGives : List ℕ → Result (List ℕ × Any) (Refusal Error) → Type 0
-BerElementGives = AnyGives (IsElement max_depth) (ElementFault max_depth) ber_refusal
-
--- no element begins the input after a refusal, nor more octets of which the refusal speaks
-abbrev pub RefusalLasts : (List ℕ → Parts → Type 0) → (List ℕ → Type 0) → List ℕ → Refusal Error → Type 0
-RefusalLasts Element IsCut input r = (more word rest : List ℕ) (p : Parts) → Speaks (IsCut input) r more → Element word p → input ++ more ≡ word ++ rest → ⊥
-
--- no other element begins the input, whatever follows
-abbrev pub ElementLasts : (List ℕ → Parts → Type 0) → List ℕ → List ℕ → Any → Type 0
-ElementLasts Element input rest any = (more word tail : List ℕ) (p : Parts) → Element word p → input ++ more ≡ word ++ tail → (p ≡ parts_of any) × (tail ≡ rest ++ more)
-
--- the refusal of octets that more of them make whole: it tells as many missing octets as these or fewer, or `InvalidTag`, where they end within an identifier
-abbrev pub TellsBeginning : Type 0 → Refusal Error → List ℕ → Type 0
-TellsBeginning ends_within r more = ((n : ℕ) × (r ≡ cut (Size n)) × (n ≤ length more)) ⊎ ((r ≡ refused InvalidTag) × ends_within)
+use Rattle.asn1_rs.specs.Header.Reading.{refusal_of, der_refusal, ber_refusal, KeepsIdentifier}
+use Rattle.asn1_rs.specs.Header.{identifier_of, raw_tag_of}
+use Rattle.asn1_rs.specs.Ber.{BerContentGives, max_depth}
+use Rattle.asn1_rs.specs.Any.{AnyGives, BeginsWithElement, IsTheElement, IsDefiniteOr, parts_of, BerElementGives, DerElementGives, ElementLasts, RefusalLasts}
+use Rattle.asn1_rs.specs.Laws.Any.Value.{the_element_parts}
+use Rattle.asn1_rs.specs.Traits.{BerGives, DerGives}
+use Rattle.asn1_rs.specs.Laws.Readers.{AreElements, speaks_itself, speaks_now}
+use Rattle.asn1_rs.specs.Content.{ContentStays}
 
 -- as the fault that it tells of
 pub tells_beginning : (refuses : Breach → Error) (fault : Fault) (r : Refusal Error) (ends_within : Type 0) (more : List ℕ) → r ≡ refusal_of refuses fault → IsLackingOrCut ends_within fault more → TellsBeginning ends_within r more
 tells_beginning at fault r ends_within more e (inl l) = inl (l.0, e ∙ ap (refusal_of at) l.1, l.2)
 tells_beginning at fault r ends_within more e (inr c) = inr (e ∙ ap (refusal_of at) c.0, c.1)
 
-module _ (Element : List ℕ → Parts → Type 0) (FaultOf : List ℕ → Fault → Type 0) (IsCut : List ℕ → Type 0) (elements : AreElements Element FaultOf IsCut) (refuses : Breach → Error) where
+module _ (ElementOf : List ℕ → Parts → Type 0) (FaultOf : List ℕ → Fault → Type 0) (IsCut : List ℕ → Type 0) (elements : AreElements ElementOf FaultOf IsCut) (refuses : Breach → Error) where
   abbrev Gives : List ℕ → Result (List ℕ × Any) (Refusal Error) → Type 0
-  Gives = AnyGives Element FaultOf (refusal_of refuses)
+  Gives = AnyGives ElementOf FaultOf (refusal_of refuses)
 
-  pub refusal_lasts : (input : List ℕ) (r : Refusal Error) → Gives input (Err r) → RefusalLasts Element IsCut input r
+  pub refusal_lasts : (input : List ℕ) (r : Refusal Error) → Gives input (Err r) → RefusalLasts ElementOf IsCut input r
   refusal_lasts input r g = λ more word rest p s a e.
       elements.final input more word rest p g.0 g.1 (speaks_itself refuses g.0 r (IsCut input) more (elements.counts input g.0 g.1) g.2 s) a e
 
-  pub element_lasts : (input : List ℕ) (x : List ℕ × Any) → Gives input (Ok x) → ElementLasts Element input x.0 x.1
+  pub element_lasts : (input : List ℕ) (x : List ℕ × Any) → Gives input (Ok x) → ElementLasts ElementOf input x.0 x.1
   element_lasts input x g = λ more word tail p a e.
       let f = g.front in
       let s : f.word ++ (x.0 ++ more) ≡ word ++ tail = sym (append_assoc f.word x.0 more) ∙ ap (λ (ys : List ℕ). ys ++ more) (sym f.is) ∙ e in
       let same : (f.word ≡ word) × (parts_of x.1 ≡ p) = elements.one.one f.word word (x.0 ++ more) tail (parts_of x.1) p f.fits a s in
       (sym same.1, sym (append_cancel_left word (x.0 ++ more) tail (ap (λ (ys : List ℕ). ys ++ (x.0 ++ more)) (sym same.0) ∙ s)))
 
-  pub beginning_refused : (input more word rest : List ℕ) (p : Parts) (r : Refusal Error) → Gives input (Err r) → Element word p → input ++ more ≡ word ++ rest → TellsBeginning (IsCut input) r more
+  pub beginning_refused : (input more word rest : List ℕ) (p : Parts) (r : Refusal Error) → Gives input (Err r) → ElementOf word p → input ++ more ≡ word ++ rest → TellsBeginning (IsCut input) r more
   beginning_refused input more word rest p r g a e = tells_beginning refuses g.0 r (IsCut input) more g.2 (elements.beginning input more word rest p g.0 g.1 a e)
 
   pub within_refused : (input : List ℕ) (answer : Result (List ℕ × Any) (Refusal Error)) → IsCut input → Gives input answer → answer ≡ Err (refused InvalidTag)
@@ -97,11 +81,6 @@ content_or_refusal false indefinite (suc depth) input x r f g = cc
 content_or_refusal false (definite n) (suc depth) input x r f g = content_or_fault (definite n) depth input x.1.now x.0.now f.0 g.0 f.1 g.1
 content_or_refusal true form (suc depth) input x r f g = content_or_fault form depth input x.1.now x.0.now f.0 g.0 f.1 g.1
 
--- with more octets behind them the contents octets are answered too, and the rest with these
-abbrev pub ContentStays : Bor (List ℕ) × Bor (List ℕ) → List ℕ → Result (Bor (List ℕ) × Bor (List ℕ)) (Refusal Error) → Type 0
-ContentStays x more (Ok y) = (y.1.now ≡ x.1.now) × (y.0.now ≡ x.0.now ++ more)
-ContentStays x more (Err r) = ⊥
-
 -- what is read of a form stays, and no fault of it is found
 content_stays : (form : LengthForm) (depth : ℕ) (input more : List ℕ) (x : Bor (List ℕ) × Bor (List ℕ)) → ((headers : ℕ) × IsContent form depth input x.1.now x.0.now headers) →
     (answer : Result (Bor (List ℕ) × Bor (List ℕ)) (Refusal Error)) → BerContentGives true form (suc depth) (input ++ more) answer → ContentStays x more answer
@@ -126,10 +105,10 @@ content_lasts true form (suc depth) input more x answer f g = content_stays form
 raw_tag_kept : (input identifier more : List ℕ) (id : Identifier) (h : Header) → IsIdentifier identifier id → input ≡ identifier ++ more → KeepsIdentifier input h → raw_tag_of h ≡ Some identifier
 raw_tag_kept input identifier more id h i e (octets, rest, j, f, kept) = kept ∙ ap Some (identifier_unique octets identifier rest more (identifier_of h) id j i (sym f ∙ e)).0
 
-pub raw_tag_told : (Element : List ℕ → Parts → Type 0) (FaultOf : List ℕ → Fault → Type 0) (refusal : Fault → Refusal Error) (input identifier more : List ℕ) (id : Identifier) (answer : Result (List ℕ × Any) (Refusal Error)) →
-    IsIdentifier identifier id → input ≡ identifier ++ more → AnyGives Element FaultOf refusal input answer → IfOk answer (λ x. raw_tag_of x.1.header ≡ Some identifier)
-raw_tag_told Element FaultOf refusal input identifier more id (Ok x) i e g = raw_tag_kept input identifier more id x.1.header i e g.kept
-raw_tag_told Element FaultOf refusal input identifier more id (Err r) i e g = tt
+pub raw_tag_told : (ElementOf : List ℕ → Parts → Type 0) (FaultOf : List ℕ → Fault → Type 0) (refusal : Fault → Refusal Error) (input identifier more : List ℕ) (id : Identifier) (answer : Result (List ℕ × Any) (Refusal Error)) →
+    IsIdentifier identifier id → input ≡ identifier ++ more → AnyGives ElementOf FaultOf refusal input answer → IfOk answer (λ x. raw_tag_of x.1.header ≡ Some identifier)
+raw_tag_told ElementOf FaultOf refusal input identifier more id (Ok x) i e g = raw_tag_kept input identifier more id x.1.header i e g.kept
+raw_tag_told ElementOf FaultOf refusal input identifier more id (Err r) i e g = tt
 
 -- errors that stay as they are keep the refusal
 same_refusal : (q r : Refusal Error) → Converted (λ (e f : Error). f ≡ e) q r → r ≡ q
@@ -142,9 +121,9 @@ not_indefinite : (o : List ℕ) (p : Parts) → IsDerElement o p → p.form ≡ 
 not_indefinite o p d e = let counted = d.counted in cc
 
 -- what is the element that begins an input begins it too
-same_begins : (Element : List ℕ → Parts → Type 0) (input rest : List ℕ) (any same : Any) → IsTheElement any (Ok same) → BeginsWithElement Element input any rest → BeginsWithElement Element input same rest
-same_begins Element input rest any same h b = record {
-  front = subst (λ (p : Parts). Front Element input p rest) (sym (the_element_parts any same h)) b.front;
+same_begins : (ElementOf : List ℕ → Parts → Type 0) (input rest : List ℕ) (any same : Any) → IsTheElement any (Ok same) → BeginsWithElement ElementOf input any rest → BeginsWithElement ElementOf input same rest
+same_begins ElementOf input rest any same h b = record {
+  front = subst (λ (p : Parts). Front ElementOf input p rest) (sym (the_element_parts any same h)) b.front;
   kept = subst (KeepsIdentifier input) (sym h.0) b.kept;
 }
 

@@ -1,6 +1,6 @@
 -- Octets that more of them make begin with a word, and that are shorter than it, are refused.
 use Rattle.std.proofs.Common.{arith, ◌≡◌, ◌∙◌, ap, sym, ℕ, ◌<◌, inl, inr, List, ◌++◌, length, append_assoc, length-append}
-use Rattle.std.specs.Prelude.{◌⊎◌, Result, Ok, Err, IsErrAnd}
+use Rattle.std.specs.Prelude.{Result, Ok, Err}
 use Rattle.x690.specs.Identifiers.{Identifier, IsCutIdentifier}
 use Rattle.x690.specs.Lengths.{LengthForm}
 use Rattle.x690.specs.Elements.{Parts, IsHeader}
@@ -11,22 +11,15 @@ use Rattle.asn1_rs.specs.declared.error.Err.{Err as Refusal}
 use Rattle.asn1_rs.specs.declared.error.Error.{Error}
 use Rattle.asn1_rs.specs.declared.header.Header.{Header}
 use Rattle.asn1_rs.specs.declared.asn1_types.any.Any.{Any}
-use Rattle.asn1_rs.specs.Answers.{Front, Exactly, Speaks}
+use Rattle.asn1_rs.specs.Answers.{Front, Exactly, RefusedAsBeginning, RefusedBeforeEnd}
 use Rattle.asn1_rs.specs.Any.{AnyGives, parts_of}
 use Rattle.asn1_rs.specs.Grammar.{IsOneFront}
-use Rattle.asn1_rs.specs.Header.{refusal_of, HeaderGives, identifier_of}
+use Rattle.asn1_rs.specs.Header.Reading.{refusal_of, HeaderGives}
+use Rattle.asn1_rs.specs.Header.{identifier_of}
 use Rattle.asn1_rs.specs.Length.{form_of}
-use Rattle.asn1_rs.specs.Laws.Any.{TellsBeginning, beginning_refused}
-use Rattle.asn1_rs.specs.Laws.Elements.{AreElements}
-use Rattle.asn1_rs.specs.Laws.Headers.{header_beginning_refused}
-
--- The answer is an `Err` that tells of octets that more of them make whole.
-abbrev pub RefusedAsBeginning : {A : Type 0} → Type 0 → List ℕ → Result A (Refusal Error) → Type 0
-RefusedAsBeginning ends_within more answer = IsErrAnd answer (λ r. TellsBeginning ends_within r more)
-
--- The answer is an `Err`, for want of memory, or one that does not speak of these octets.
-abbrev pub RefusedBeforeEnd : {A E : Type 0} → (Refusal E → Type 0) → Type 0 → List ℕ → Result A (Refusal E) → Type 0
-RefusedBeforeEnd memory is_cut more answer = IsErrAnd answer (λ r. memory r ⊎ (Speaks is_cut r more → ⊥))
+use Rattle.asn1_rs.specs.Laws.Any.{beginning_refused}
+use Rattle.asn1_rs.specs.Laws.Readers.{AreElements}
+use Rattle.asn1_rs.specs.Laws.Header.{header_beginning_refused}
 
 -- what begins an input is no longer than it
 no_longer : (input more front left word rest : List ℕ) → input ≡ front ++ left → front ≡ word → length input < length word → ⊥
@@ -41,10 +34,10 @@ no_front_of_beginning G one input more word rest left v w f g e l =
     let same : (f.word ≡ word) × (v ≡ w) = one.one f.word word (left ++ more) rest v w f.fits g (moved input more f.word left word rest f.is e) in
     no_longer input more f.word left word rest f.is same.0 l
 
-pub beginning_is_refused : (Element : List ℕ → Parts → Type 0) (FaultOf : List ℕ → Fault → Type 0) (IsCut : List ℕ → Type 0) → AreElements Element FaultOf IsCut → (refuses : Breach → Error) →
-    (input more word rest : List ℕ) (p : Parts) (answer : Result (List ℕ × Any) (Refusal Error)) → AnyGives Element FaultOf (refusal_of refuses) input answer → Element word p → input ++ more ≡ word ++ rest → length input < length word → RefusedAsBeginning (IsCut input) more answer
-beginning_is_refused Element FaultOf IsCut elements at input more word rest p (Ok x) g a e l = absurd (no_front_of_beginning Element elements.one input more word rest x.0 (parts_of x.1) p g.front a e l)
-beginning_is_refused Element FaultOf IsCut elements at input more word rest p (Err r) g a e l = beginning_refused Element FaultOf IsCut elements at input more word rest p r g a e
+pub beginning_is_refused : (ElementOf : List ℕ → Parts → Type 0) (FaultOf : List ℕ → Fault → Type 0) (IsCut : List ℕ → Type 0) → AreElements ElementOf FaultOf IsCut → (refuses : Breach → Error) →
+    (input more word rest : List ℕ) (p : Parts) (answer : Result (List ℕ × Any) (Refusal Error)) → AnyGives ElementOf FaultOf (refusal_of refuses) input answer → ElementOf word p → input ++ more ≡ word ++ rest → length input < length word → RefusedAsBeginning (IsCut input) more answer
+beginning_is_refused ElementOf FaultOf IsCut elements at input more word rest p (Ok x) g a e l = absurd (no_front_of_beginning ElementOf elements.one input more word rest x.0 (parts_of x.1) p g.front a e l)
+beginning_is_refused ElementOf FaultOf IsCut elements at input more word rest p (Err r) g a e l = beginning_refused ElementOf FaultOf IsCut elements at input more word rest p r g a e
 
 pub header_beginning_is_refused : (rule : Rule) (refuses : Breach → Error) (input more front rest : List ℕ) (id : Identifier) (form : LengthForm) (answer : Result (List ℕ × Header) (Refusal Error)) → HeaderGives rule (refusal_of refuses) input answer → IsHeader rule front id form → input ++ more ≡ front ++ rest → length input < length front → RefusedAsBeginning (IsCutIdentifier input) more answer
 header_beginning_is_refused rule at input more front rest id form (Ok x) g h e l =

@@ -4,25 +4,14 @@ use Rattle.std.proofs.Common.{sym, ap, refl, subst, ◌∙◌, arith, length-app
 use mathlib.Core.Logic.{∥∥₁_map}
 use Rattle.x690.specs.Octets.{IsOctets}
 use Rattle.x690.specs.Identifiers.{Identifier}
-use Rattle.x690.specs.Strict.{header_octets}
+use Rattle.x690.specs.Strict.{header_octets, element_octets}
 use Rattle.x690.specs.Elements.{IsStrictElement}
-use Rattle.x690.specs.Laws.StrictElements.{strict_element_octets, element_octets, made_strict_element}
-use Rattle.asn1_rs.specs.Wrote.{IsWritable}
-use Rattle.asn1_rs.specs.Form.{IsOneForm, IsOneValue, FitsElement, IsStrict}
-use Rattle.asn1_rs.specs.Grammar.{FormTakes, FormNumber}
+use Rattle.x690.specs.Laws.StrictElements.{strict_element_octets, made_strict_element}
+use Rattle.asn1_rs.specs.ToDer.{IsWritable}
+use Rattle.asn1_rs.specs.Grammar.Form.{IsOneForm, IsOneValue, FitsElement, IsStrict, HasForm, UniversalForm, WritesByValue, WritesForm, header_of, universal}
+use Rattle.asn1_rs.specs.Grammar.{FormNumber}
 use Rattle.asn1_rs.specs.Kinds.{ElementGrammar}
-
--- the identifier of a universal type
-abbrev pub universal : Bool → ℕ → Identifier
-universal constructed number = record { class = 0; constructed = constructed; number = number }
-
--- the strict header of an element with these contents octets
-abbrev pub header_of : Identifier → List ℕ → List ℕ
-header_of i c = header_octets i.class i.constructed i.number (length c)
-
--- the strict parts of a universal type whose contents octets are related to its values
-abbrev pub UniversalForm : {V : Type 0} → Bool → ℕ → (V → List ℕ → Type 0) → V → Identifier → List ℕ → Type 0
-UniversalForm constructed number Content v i c = (i ≡ universal constructed number) × Content v c
+use Rattle.asn1_rs.specs.Kinds.Writing.{IsPrimitiveElement}
 
 module _ {V : Type 0} (constructed : Bool) (number : ℕ) (Content : V → List ℕ → Type 0) where
   pub universal_one : ((v : V) (c d : List ℕ) → Content v c → Content v d → c ≡ d) → IsOneForm (UniversalForm constructed number Content)
@@ -37,20 +26,6 @@ module _ {V : Type 0} (constructed : Bool) (number : ℕ) (Content : V → List 
     let e = ap (λ (z : Identifier). z.number) f.0 in omega arith,
     octets v c f.1,
   )
-
--- What is written follows from the value.
-abbrev pub WritesByValue : {S V : Type 0} → (S → V) → (S → Bool) → (S → List ℕ) → (S → List ℕ) → Type 0
-WritesByValue {S} {V} value constructed header content = (x y : S) → value x ≡ value y → (constructed x ≡ constructed y) × (header x ≡ header y) × (content x ≡ content y)
-
--- A value that has strict parts is writable, and they are what is written.
-abbrev pub WritesForm : {S V : Type 0} → (S → V) → (V → Identifier → List ℕ → Type 0) → (S → Type 0) → (S → Bool) → (S → List ℕ) → (S → List ℕ) → Type 0
-WritesForm {S} {V} value Form is_writable constructed header content = (x : S) (i : Identifier) (c : List ℕ) → Form (value x) i c →
-    is_writable x × (constructed x ≡ i.constructed) × (content x ≡ c) × (header x ≡ header_of i c)
-
--- A value in DER form whose contents octets fit in memory has strict parts, with the contents octets that are written.
-abbrev pub HasForm : {S V : Type 0} → (S → V) → (V → Type 0) → (V → Identifier → List ℕ → Type 0) → (S → List ℕ) → Type 0
-HasForm {S} {V} value IsDer Form content = (x : S) → IsDer (value x) → length (content x) < 2 ^ 64 →
-    ∥ ((i : Identifier) × Form (value x) i (content x)) ∥₁
 
 -- strict parts that fit in memory make a strict encoding
 pub strict_made : {V : Type 0} (Form : V → Identifier → List ℕ → Type 0) → FitsElement Form → (v : V) (i : Identifier) (c : List ℕ) → Form v i c → length c < 2 ^ 64 → IsStrict Form v (header_of i c ++ c)
@@ -104,18 +79,6 @@ NothingRefused = IsWritable (λ _. ⊥) (λ _. ⊥) (λ _. ⊥)
 
 pub nothing_refused : NothingRefused
 nothing_refused = (λ e h. h, λ e h. h, λ e h. h)
-
--- The contents octets of a primitive element follow from the value. Where it has strict parts, they are its content, and the
--- identifier is the one of the universal class with this number; under any class they meet the check and have the value
--- all the same. A value in DER form has strict parts. The number is one of the
--- low form.
-pub record IsPrimitiveElement {S : Type 0} (G : ElementGrammar S) (number : ℕ) (octets : S → List ℕ) : Type 0 where
-  pub by_value : (x y : S) → G.value x ≡ G.value y → octets x ≡ octets y
-  pub identifier : (v : G.Value) (i : Identifier) (c : List ℕ) → G.Form v i c → i ≡ universal false number
-  pub form : (x : S) (i : Identifier) (c : List ℕ) → G.Form (G.value x) i c → octets x ≡ c
-  pub class : (k : ℕ) → FormTakes G.Form G.Check G.Body k
-  pub der : (x : S) → G.IsDer (G.value x) → G.Form (G.value x) (universal false number) (octets x)
-  pub small : number < 31
 
 -- so what is written of such an element is lawful
 module _ {S : Type 0} (G : ElementGrammar S) (number : ℕ) (octets : S → List ℕ) (primitive : IsPrimitiveElement G number octets) where

@@ -1,4 +1,6 @@
 -- Laws of integers as elements (X.690 8.3).
+pub mod Unsigned
+pub mod Signed
 use Rattle.std.specs.Prelude.{Result, Ok, Err, ℤ, nat_eq, if◌then◌else◌}
 use Rattle.std.proofs.Common.{arith, lit<, ◌≡◌, ◌∙◌, ap, sym, refl, subst, ℕ, inl, inr, Bool, true, false, List, [], ◌∷◌, length}
 use Rattle.x690.specs.Octets.{IsOctets}
@@ -11,11 +13,13 @@ use Rattle.x690.specs.Laws.Integers.{integer_content_unique, integer_content_one
 use Rattle.asn1_rs.specs.declared.error.Error.{Error}
 use Rattle.asn1_rs.specs.declared.error.Error.TheVariants.{ConstructUnexpected, IndefiniteLengthUnexpected, DerConstraintFailed, OutOfMemory}
 use Rattle.asn1_rs.specs.declared.error.DerConstraint.TheVariants.{IntegerEmpty, IntegerLeadingZeroes, IntegerLeadingFF}
-use Rattle.asn1_rs.specs.Any.{parts_of, OfParts}
-use Rattle.asn1_rs.specs.Form.{IsOneForm, IsOneValue, FitsElement}
+use Rattle.asn1_rs.specs.Any.{parts_of}
+use Rattle.asn1_rs.specs.Traits.{OfParts}
+use Rattle.asn1_rs.specs.Grammar.Form.{IsOneForm, IsOneValue, FitsElement}
 use Rattle.asn1_rs.specs.Grammar.{TakesBody, Checks, FormChecks, FormBodies, FormTakes, made, of_class}
 use Rattle.asn1_rs.specs.Kinds.{IsLawfulElement, IsExactCheck, IsExactConversion}
-use Rattle.asn1_rs.specs.Laws.Forms.{IsPrimitiveElement, universal_one, universal_value, universal_fits}
+use Rattle.asn1_rs.specs.Kinds.Writing.{IsPrimitiveElement}
+use Rattle.asn1_rs.specs.Laws.Forms.{universal_one, universal_value, universal_fits}
 use Rattle.asn1_rs.specs.Integer.{integer_number, IntegerCheck, IntegerCheckRefuses, IntegerCheckGives, IsIntegerOr, IntegerBody, IntegerRefuses, IntegerGives, IntegerContent, IntegerForm, integer_element}
 
 -- the refusal of the check, where it refuses

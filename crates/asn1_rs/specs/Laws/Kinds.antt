@@ -9,11 +9,12 @@ use Rattle.asn1_rs.specs.declared.error.Error.{Error}
 use Rattle.asn1_rs.specs.declared.error.Error.TheVariants.{OutOfMemory}
 use Rattle.asn1_rs.specs.Any.{parts_of}
 use Rattle.asn1_rs.specs.Answers.{IsOther}
-use Rattle.asn1_rs.specs.Grammar.{NoCheck, TakesBody, max_depth}
-use Rattle.asn1_rs.specs.ItemGrammar.{ItemGrammar, IsLawfulItem, by_reference}
+use Rattle.asn1_rs.specs.Grammar.{NoCheck, TakesBody}
+use Rattle.asn1_rs.specs.Ber.{max_depth}
+use Rattle.asn1_rs.specs.Grammar.Item.{ItemGrammar, IsLawfulItem, by_reference}
 use Rattle.asn1_rs.specs.Kinds.{ElementGrammar, IsLawfulElement, IsExactConversion, item_grammar, holding, HoldingGives}
-use Rattle.asn1_rs.specs.Laws.Forms.{IsPrimitiveElement}
-use Rattle.asn1_rs.specs.Laws.Elements.{der_elements, ber_elements}
+use Rattle.asn1_rs.specs.Kinds.Writing.{IsPrimitiveElement}
+use Rattle.asn1_rs.specs.Laws.Readers.{der_elements, ber_elements}
 use Rattle.asn1_rs.specs.Laws.Words.{word_one, strict_ber_word, strict_der_word}
 
 pub lawful_item : {S : Type 0} (G : ElementGrammar S) → IsLawfulElement G → IsLawfulItem (item_grammar G)
@@ -53,7 +54,7 @@ lawful_by_reference G l = record {
   strict_der = l.strict_der;
 }
 
--- a refusal that is no want of memory
+-- a refusal that is not out of memory
 pub other_error : {S : Type 0} (gives : Any → Result S Error → Type 0) → ((any : Any) → gives any (Err OutOfMemory) → ⊥) → (any : Any) (e : Error) → gives any (Err e) → IsOther (λ (x y : Error). y ≡ x) e
 other_error gives spares any e g = inl (e, λ q. spares any (subst (λ (x : Error). gives any (Err x)) q g), refl)
 
@@ -75,7 +76,7 @@ module _ {S T : Type 0} (held : T → S) (G : ElementGrammar S) where
   pub holding_converts : (gives : Any → Result S Error → Type 0) → IsExactConversion gives G → IsExactConversion (HoldingGives held gives) (holding held G)
   holding_converts gives c = record { exact = exact; spares = c.spares }
     where
-      exact : (any : Any) (answer : Result T Error) → IsOctets any.content.now → HoldingGives held gives any answer → TakesBody G.Body (λ x. G.value (held x)) G.takes_memory (λ (x y : Error). y ≡ x) (parts_of any) answer
+      exact : (any : Any) (answer : Result T Error) → IsOctets any.content.now → HoldingGives held gives any answer → TakesBody G.Body (λ x. G.value (held x)) G.allocates (λ (x y : Error). y ≡ x) (parts_of any) answer
       exact any (Ok x) o h = c.exact any (Ok (held x)) o h
       exact any (Err e) o h = c.exact any (Err e) o h
 

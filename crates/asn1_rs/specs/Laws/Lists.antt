@@ -20,29 +20,31 @@ use Rattle.x690.specs.Laws.Elements.{definite_element_two, definite_element_is_o
 use Rattle.asn1_rs.specs.declared.error.Err.{Err as Refusal}
 use Rattle.asn1_rs.specs.declared.error.Err.TheVariants.{Incomplete as cut, Error as refused, Failure as failed}
 use Rattle.asn1_rs.specs.declared.error.Error.{Error}
-use Rattle.asn1_rs.specs.declared.error.Error.TheVariants as faults
+use Rattle.asn1_rs.specs.declared.error.Error.TheVariants as errors
 use Rattle.x690.specs.Rules.{der_rule}
 use Rattle.x690.specs.Laws.StrictElements.{der_allows_strict}
-use Rattle.asn1_rs.specs.Header.{der_breach}
+use Rattle.asn1_rs.specs.Header.Reading.{der_breach}
 use Rattle.asn1_rs.specs.declared.asn1_types.any.Any.{Any}
 use Rattle.asn1_rs.specs.Error.{HeldIn, FlattenedTo}
 use Rattle.asn1_rs.specs.Kinds.{IsExactCheck}
-use Rattle.asn1_rs.specs.Any.{parts_of, IsTheElement, OfParts}
-use Rattle.asn1_rs.specs.Laws.Element.{the_element_parts}
+use Rattle.asn1_rs.specs.Any.{parts_of, IsTheElement}
+use Rattle.asn1_rs.specs.Traits.{OfParts}
+use Rattle.asn1_rs.specs.Laws.Any.Value.{the_element_parts}
 use Rattle.asn1_rs.specs.Answers.{NoFront, Exactly, TellsMemory, IsOther}
-use Rattle.asn1_rs.specs.Form.{IsOneForm, IsOneValue, FitsElement, HasValues, IsStrict}
-use Rattle.asn1_rs.specs.Grammar.{IsOneFront, IsOneBody, TakesBody, Checks, FormChecks, FormBodies, FormTakes, FormNumber, NoCheck, DerWord, made, of_class, max_depth}
-use Rattle.asn1_rs.specs.Items.{IsJoined, IsWalk, TakesItem, EndsItem, TellsNoWord, IsMemory}
-use Rattle.asn1_rs.specs.Laws.Items.{octets_kept, lawful_walk, items_joined, items_ended}
-use Rattle.asn1_rs.specs.ItemGrammar.{ItemGrammar, IsLawfulItem}
+use Rattle.asn1_rs.specs.Grammar.Form.{IsOneForm, IsOneValue, FitsElement, HasValues, IsStrict, universal, header_of, WritesByValue, WritesForm}
+use Rattle.asn1_rs.specs.Grammar.{IsOneFront, IsOneBody, TakesBody, Checks, FormChecks, FormBodies, FormTakes, FormNumber, NoCheck, DerWord, made, of_class}
+use Rattle.asn1_rs.specs.Ber.{max_depth}
+use Rattle.asn1_rs.specs.Sequence.Iterator.{IsJoined, IsWalk, TakesItem, EndsItem, TellsNoWord, IsMemory}
+use Rattle.asn1_rs.specs.Laws.Sequence.Iterator.{octets_kept, lawful_walk, items_joined, items_ended}
+use Rattle.asn1_rs.specs.Grammar.Item.{ItemGrammar, IsLawfulItem}
 use Rattle.asn1_rs.specs.Lists.{joining, list_grammar, ListBody, ListOf, CheckedElement, ListCheck, StrictWord, ListForm, IsListOr, ItemsGive, ListTakes, ListReads, CheckedGives, ListCheckGives, SomeRefuses, has_items}
-use Rattle.asn1_rs.specs.Wrote.{HasNone, Either, IsWritable, WrittenRefusal}
+use Rattle.asn1_rs.specs.ToDer.{HasNone, Either, IsWritable, WrittenRefusal}
 use Rattle.asn1_rs.specs.declared.error.SerializeError.{SerializeError}
-use Rattle.asn1_rs.specs.Laws.Elements.{element_exact, element_spares, der_breach_spares, der_elements, ber_elements}
+use Rattle.asn1_rs.specs.Laws.Readers.{element_exact, element_spares, der_breach_spares, der_elements, ber_elements}
 use Rattle.asn1_rs.specs.Laws.Words.{word_one, strict_element, one_strict, strict_apart, strict_ber_word, strict_der_word}
-use Rattle.asn1_rs.specs.Laws.Forms.{universal, header_of, universal_one, universal_value, universal_fits, WritesByValue, WritesForm, strict_written}
+use Rattle.asn1_rs.specs.Laws.Forms.{universal_one, universal_value, universal_fits, strict_written}
 
--- what takes memory may tell of want of it
+-- what allocates may report out of memory
 pub takes_some : {A : Type 0} → true ≡ false → A
 takes_some e = cc
 
@@ -216,7 +218,7 @@ ends_unjoined G one c front others (v ∷ vs) (w ∷ ws) e n none i j =
     let s = same_rest G one i.0 j.0 (i.1 ++ others) j.1 v w i.2 j.2 (sym same ∙ (sym e ∙ j.3)) in
     ends_unjoined G one j.1 i.1 others vs ws (sym s.1) n none i.4 j.4
 
--- Items that were taken by an exact reader are joined words; where a refusal ended the walk there are no such words, or it tells of want of memory.
+-- Items that were taken by an exact reader are joined words; where a refusal ended the walk there are no such words, or it reports out of memory.
 module _ {T V E : Type 0} (reads : List ℕ → Result (List ℕ × T) (Refusal E) → Type 0) (from : Error → E → Type 0) (G : List ℕ → V → Type 0) (value : T → V) (takes : Bool) (IsCut : List ℕ → Type 0)
     (one : IsOneFront G) (Keeps : List ℕ → Type 0)
     (kept : (octets word rest : List ℕ) → Keeps octets → octets ≡ word ++ rest → Keeps rest)
@@ -240,7 +242,7 @@ module _ {T V W E : Type 0} (number : ℕ) (holds : List T → W → Type 0) (va
   all_joined : (items : List T) (w : W) (content : List ℕ) → IsOctets content → holds items w → Yields (TakesItem reads from) content (map Ok items) [] → IsJoined G content (values w)
   all_joined items w content o h y = subst (IsJoined G content) (valued items w h) (taken_joined reads from G value takes IsCut one IsOctets octets_kept exact items content [] o refl y)
 
-  none_taken : (e : E) (content : List ℕ) → IsOctets content → ItemsGive {T = T} reads from content (Err e) → from faults.OutOfMemory e ⊎ ((vs : List V) → IsJoined G content vs → ⊥)
+  none_taken : (e : E) (content : List ℕ) → IsOctets content → ItemsGive {T = T} reads from content (Err e) → from errors.OutOfMemory e ⊎ ((vs : List V) → IsJoined G content vs → ⊥)
   none_taken e content o (inl m) = inl m
   none_taken e content o (inr s) =
       elim (taken_none reads from G value takes IsCut one IsOctets octets_kept exact s.0 e content s.1 o s.2) [ inl m ↦ inl m.1 | inr none ↦ inr none ]
@@ -290,29 +292,29 @@ module _ (number : ℕ) (check : Parts → Result (Unit {0}) Error → Type 0) (
         | inr none ↦ none c.elements c.checked
       ]
 
--- and it takes no memory
+-- and it does not allocate
 pub list_checks : (number : ℕ) (check : Parts → Result (Unit {0}) Error → Type 0) (Check : Parts → Type 0) → IsExactCheck check Check → IsExactCheck (ListCheckGives number check) (ListCheck number Check)
 list_checks number check Check c = record {
   exact = list_check_exact number check Check c.exact;
   spares = λ p h. spared p h;
 }
   where
-    element_spared : (octets : List ℕ) (answer : Result (List ℕ × Any) (Refusal Error)) → CheckedGives check octets answer → EndsItem (λ (x y : Error). y ≡ x) octets answer faults.OutOfMemory → ⊥
+    element_spared : (octets : List ℕ) (answer : Result (List ℕ × Any) (Refusal Error)) → CheckedGives check octets answer → EndsItem (λ (x y : Error). y ≡ x) octets answer errors.OutOfMemory → ⊥
     element_spared octets (Ok x) g e = let a = e.1 in cc
     element_spared octets (Err r) g e = refusal_spared r (element_spares IsDerElement DerElementFault der_breach der_breach_spares check IsTheElement (λ (x y : Error). y ≡ x) c.spares (λ any f h. absurd h) octets (Err r) g) e
       where
-        refusal_spared : (r : Refusal Error) → HeldIn (IsOther (λ (x y : Error). y ≡ x)) r → FlattenedTo (λ x y. y ≡ x) (λ (x y : Error). y ≡ x) r faults.OutOfMemory → ⊥
+        refusal_spared : (r : Refusal Error) → HeldIn (IsOther (λ (x y : Error). y ≡ x)) r → FlattenedTo (λ x y. y ≡ x) (λ (x y : Error). y ≡ x) r errors.OutOfMemory → ⊥
         refusal_spared (cut n) h f = cc
         refusal_spared (refused f) (inl o) k = o.1 (let a = o.2 in cc)
         refusal_spared (refused f) (inr o) k = o (sym k)
         refusal_spared (failed f) (inl o) k = o.1 (let a = o.2 in cc)
         refusal_spared (failed f) (inr o) k = o (sym k)
 
-    walk_spared : (items : List Any) (content left : List ℕ) → Yields (TakesItem (CheckedGives check) (λ (x y : Error). y ≡ x)) content (map Ok items ++ Err faults.OutOfMemory ∷ []) left → ⊥
+    walk_spared : (items : List Any) (content left : List ℕ) → Yields (TakesItem (CheckedGives check) (λ (x y : Error). y ≡ x)) content (map Ok items ++ Err errors.OutOfMemory ∷ []) left → ⊥
     walk_spared [] content left y = element_spared content y.1.1.0 y.1.1.1 y.1.1.2
     walk_spared (x ∷ items) content left y = walk_spared items y.0 left y.2
 
-    spared : (p : Parts) → ListCheckGives number check p (Err faults.OutOfMemory) → ⊥
+    spared : (p : Parts) → ListCheckGives number check p (Err errors.OutOfMemory) → ⊥
     spared p (inl (inl a)) = let e = a.1 in cc
     spared p (inl (inr a)) = let e = a.2 in cc
     spared p (inr h) = walk_spared h.1.0 p.content h.1.1 h.1.2

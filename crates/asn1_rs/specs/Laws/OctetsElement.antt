@@ -5,10 +5,12 @@ use Rattle.x690.specs.Octets.{IsOctets}
 use Rattle.x690.specs.Identifiers.{Identifier}
 use Rattle.x690.specs.Elements.{Parts}
 use Rattle.asn1_rs.specs.declared.error.Error.{Error}
-use Rattle.asn1_rs.specs.Any.{parts_of, OfParts}
+use Rattle.asn1_rs.specs.Any.{parts_of}
+use Rattle.asn1_rs.specs.Traits.{OfParts}
 use Rattle.asn1_rs.specs.Grammar.{TakesBody, Checks}
 use Rattle.asn1_rs.specs.Kinds.{IsLawfulElement, IsExactCheck, IsExactConversion}
-use Rattle.asn1_rs.specs.Laws.Forms.{IsPrimitiveElement, universal_one, universal_value, universal_fits}
+use Rattle.asn1_rs.specs.Kinds.Writing.{IsPrimitiveElement}
+use Rattle.asn1_rs.specs.Laws.Forms.{universal_one, universal_value, universal_fits}
 use Rattle.asn1_rs.specs.OctetsElement.{OctetsBody, OctetsGives, PrimitiveCheck, PrimitiveCheckGives, OctetsContent, octets_element}
 
 pub primitive_checks : IsExactCheck PrimitiveCheckGives PrimitiveCheck

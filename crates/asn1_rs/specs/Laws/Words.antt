@@ -9,13 +9,14 @@ use Rattle.x690.specs.Laws.Nested.{definite_is_nested}
 use Rattle.x690.specs.Laws.StrictElements.{der_allows_strict, ber_allows_strict, strict_is_definite, strict_element_one, strict_element_unique}
 use Rattle.asn1_rs.specs.declared.error.Err.{Err as Refusal}
 use Rattle.asn1_rs.specs.Answers.{Exactly, ReadsBack}
-use Rattle.asn1_rs.specs.Form.{IsOneForm, IsOneValue, IsStrict}
-use Rattle.asn1_rs.specs.Grammar.{IsOneFront, IsOneBody, ElementWord, BerWord, DerWord, FormChecks, FormBodies, made, max_depth}
-use Rattle.asn1_rs.specs.Laws.Elements.{none_now}
+use Rattle.asn1_rs.specs.Grammar.Form.{IsOneForm, IsOneValue, IsStrict}
+use Rattle.asn1_rs.specs.Grammar.{IsOneFront, IsOneBody, ElementWord, BerWord, DerWord, FormChecks, FormBodies, made}
+use Rattle.asn1_rs.specs.Ber.{max_depth}
+use Rattle.asn1_rs.specs.Laws.Readers.{none_now}
 
 -- words of one body, over elements of which one alone begins an input
-pub word_one : {V : Type 0} (Element : List ℕ → Parts → Type 0) (Check : Parts → Type 0) (Body : Parts → V → Type 0) → IsOneFront Element → IsOneBody Body → IsOneFront (ElementWord Element Check Body)
-word_one Element Check Body elements one = record {
+pub word_one : {V : Type 0} (ElementOf : List ℕ → Parts → Type 0) (Check : Parts → Type 0) (Body : Parts → V → Type 0) → IsOneFront ElementOf → IsOneBody Body → IsOneFront (ElementWord ElementOf Check Body)
+word_one ElementOf Check Body elements one = record {
   one = λ x y r s v w a b e.
       let same : (x ≡ y) × (a.0 ≡ b.0) = elements.one x y r s a.0 b.0 a.1 b.1 e in
       (same.0, one b.0 v w (subst (λ (q : Parts). Body q v) same.1 a.3) b.3);

@@ -1,4 +1,5 @@
 -- Laws of the sums of digits, and of the digits of a tag number.
+pub mod Sums
 use Rattle.std.proofs.Common.{◌≡◌, ℕ, zero, suc, ◌+◌, ◌*◌, ◌%◌, ◌^◌, ◌<◌, ◌≤◌, List, [], ◌∷◌, ◌++◌, length, map, get_or, take, drop, take-append-drop, refl, sym, ap, ◌∙◌, arith}
 use Rattle.std.proofs.Math.Nat.{pow-zero, mul-one, pow-succ', mul_assoc, add-mul}
 use Rattle.std.specs.Int.Digits.{number_from_digits, number_from_digits_after}

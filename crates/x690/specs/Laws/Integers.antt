@@ -1,4 +1,5 @@
 -- Laws of the contents octets of integers (X.690 8.3).
+pub mod Unsigned
 use Rattle.std.proofs.Common.{◌≡◌, ℕ, zero, suc, ◌+◌, ◌*◌, ◌^◌, ◌<◌, ◌≤◌, List, [], ◌∷◌, ◌++◌, length, replicate, get_or, ℤ, pos, ◌+ℤ◌, ◌-ℤ◌, refl, sym, ap, ◌∙◌, arith, inl, inr, ◌⊎◌, lit≤}
 use Rattle.std.proofs.Math.Nat.{pow-suc, pow-le-pow_right, mul-le-mul_right}
 use Rattle.std.proofs.lemmas.Int.{ints}
@@ -8,7 +9,7 @@ use Rattle.x690.specs.Octets.{IsOctets}
 use Rattle.x690.specs.Digits.{base_256_value, twos_complement_value}
 use Rattle.x690.specs.Integers.{HasSpareZeros, HasSpareOnes, HasNoLeadingZero, IsIntegerContent}
 use Rattle.x690.specs.Laws.Octets.{octets_below}
-use Rattle.x690.specs.Laws.Sums.{weighted_sum_lt, same_digits}
+use Rattle.x690.specs.Laws.Digits.Sums.{weighted_sum_lt, same_digits}
 
 -- the octets say less than 256 to their number
 pub octets_value_below : (octets : List ℕ) → IsOctets octets → base_256_value octets < 256 ^ length octets

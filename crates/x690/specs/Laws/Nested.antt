@@ -1,4 +1,10 @@
 -- Laws of elements by BER.
+pub mod Rows
+pub mod Faults
+pub mod FaultHeaders
+pub mod Contents
+pub mod IndefiniteContents
+pub mod Complete
 use Rattle.std.proofs.Common.{◌≡◌, ◌≢◌, ℕ, zero, suc, ◌+◌, ◌-◌, ◌*◌, ◌≤◌, false, List, [], ◌∷◌, ◌++◌, length, refl, sym, ap, ◌∙◌, arith, subst, inl, inr, append_assoc, length-append}
 use Rattle.std.specs.List.{concat}
 use Rattle.std.proofs.lemmas.List.{append_cancel_left}
@@ -12,7 +18,7 @@ use Rattle.x690.specs.Laws.Octets.{octets_append, octets_front, octets_back, bel
 use Rattle.x690.specs.Laws.Identifiers.{identifier_bounds}
 use Rattle.x690.specs.Laws.Headers.{header_unique, header_peel, header_definite, header_two, header_is_octets, not_both_forms}
 use Rattle.x690.specs.Laws.Elements.{same_parts, definite_element_unique, definite_element_two, definite_element_is_octets}
-use Rattle.x690.specs.Laws.Rows.{AreWordsUnique, IsEndWhole, rows_unique, row_half, row_map, row_is_octets}
+use Rattle.x690.specs.Laws.Nested.Rows.{AreWordsUnique, IsEndWhole, rows_unique, row_half, row_map, row_is_octets}
 
 -- what 00 00 says as a header: universal, primitive, tag number 0
 abbrev pub end_identifier : Identifier

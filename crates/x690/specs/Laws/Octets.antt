@@ -1,4 +1,5 @@
 -- Laws of octet strings.
+pub mod Order
 use Rattle.std.proofs.Common.{ℕ, zero, suc, ◌<◌, List, [], ◌∷◌, ◌++◌, arith}
 use Rattle.std.specs.Int.Digits.{AllBelowBase}
 use Rattle.x690.specs.Octets.{IsOctets}

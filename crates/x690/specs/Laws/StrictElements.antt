@@ -2,22 +2,13 @@
 use Rattle.std.proofs.Common.{◌≡◌, ℕ, ◌<◌, ◌^◌, List, ◌++◌, length, refl, sym, ap, ◌∙◌, append_assoc}
 use Rattle.x690.specs.Octets.{IsOctets}
 use Rattle.x690.specs.Identifiers.{Identifier}
-use Rattle.x690.specs.Lengths.{definite}
 use Rattle.x690.specs.Rules.{Rule, der_rule, ber_rule}
 use Rattle.x690.specs.Elements.{Parts, IsDefiniteElement, IsStrictElement, AllowsStrict}
-use Rattle.x690.specs.Strict.{identifier_octets, length_octets, header_octets}
+use Rattle.x690.specs.Strict.{identifier_octets, length_octets, definite_parts, element_octets}
 use Rattle.x690.specs.Laws.StrictIdentifiers.{strict_identifier, only_strict_identifier}
 use Rattle.x690.specs.Laws.StrictLengths.{strict_length, only_strict_length}
 use Rattle.x690.specs.Laws.StrictHeaders.{header_octets_are}
 use Rattle.x690.specs.Laws.Elements.{definite_element_unique}
-
--- the strict element, as a function
-abbrev pub element_octets : Identifier → List ℕ → List ℕ
-element_octets i c = header_octets i.class i.constructed i.number (length c) ++ c
-
--- the parts of an element of definite length
-abbrev pub definite_parts : Identifier → List ℕ → Parts
-definite_parts i c = record { id = i; form = definite (length c); content = c }
 
 pub strict_element_octets : (o : List ℕ) (i : Identifier) (c : List ℕ) → IsStrictElement o i c → o ≡ element_octets i c
 strict_element_octets o i c s =

@@ -11,7 +11,7 @@ use Rattle.x690.specs.Digits.{weighted_sum, base_128_value, low_seven_bits}
 use Rattle.x690.specs.Identifiers.{Identifier, bit, AreTagDigits, IsLowForm, IsHighForm, IsIdentifier, NeedsItsDigits, IsStrictIdentifier}
 use Rattle.x690.specs.Strict.{with_bit_8, tag_digits, identifier_octets}
 use Rattle.x690.specs.Laws.Digits.{weighted_sum_push}
-use Rattle.x690.specs.Laws.Sums.{weighted_sum_lt, weighted_sum_digits, same_digits}
+use Rattle.x690.specs.Laws.Digits.Sums.{weighted_sum_lt, weighted_sum_digits, same_digits}
 use Rattle.x690.specs.Laws.Identifiers.{identifier_some, identifier_is_octets}
 
 -- the digits with bit 8

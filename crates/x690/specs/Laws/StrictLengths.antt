@@ -9,7 +9,7 @@ use Rattle.x690.specs.Lengths.{IsLength, IsLongLength, IsStrictLength, definite}
 use Rattle.x690.specs.Strict.{length_octets}
 use Rattle.x690.specs.Laws.Octets.{octets_below, below_octets}
 use Rattle.x690.specs.Laws.Lengths.{length_form_some, length_is_octets}
-use Rattle.x690.specs.Laws.Sums.{weighted_sum_lt, weighted_sum_digits, same_digits}
+use Rattle.x690.specs.Laws.Digits.Sums.{weighted_sum_lt, weighted_sum_digits, same_digits}
 
 -- the octets after the first one
 abbrev others_of : ℕ → List ℕ

@@ -5,12 +5,12 @@ use Rattle.x690.specs.Nested.{IsElement, ElementFault}
 use Rattle.asn1_rs.specs.declared.asn1_types.any.Any.{Any}
 use Rattle.asn1_rs.specs.declared.error.Err.{Err as Refusal}
 use Rattle.asn1_rs.specs.declared.error.Error.{Error}
-use Rattle.asn1_rs.specs.Any.{AnyGives}
+use Rattle.asn1_rs.specs.Any.{AnyGives, RefusalLasts, ElementLasts}
 use Rattle.asn1_rs.specs.Answers.{seen}
-use Rattle.asn1_rs.specs.Grammar.{max_depth, EndsWithin}
-use Rattle.asn1_rs.specs.Header.{ber_breach, ber_refusal}
-use Rattle.asn1_rs.specs.Laws.Elements.{ber_elements}
-use Rattle.asn1_rs.specs.Laws.Any.{RefusalLasts, ElementLasts, refusal_lasts, element_lasts}
+use Rattle.asn1_rs.specs.Ber.{max_depth, EndsWithin}
+use Rattle.asn1_rs.specs.Header.Reading.{ber_breach, ber_refusal}
+use Rattle.asn1_rs.specs.Laws.Readers.{ber_elements}
+use Rattle.asn1_rs.specs.Laws.Any.{refusal_lasts, element_lasts}
 use Rattle.asn1_rs.proofs.ber.any_from_ber_counted.Goals as goal
 
 refused : (input : List ℕ) (answer : Result (Bor (List ℕ) × Any) (Refusal Error)) → AnyGives (IsElement max_depth) (ElementFault max_depth) ber_refusal input (seen answer) → IfErr answer (RefusalLasts (IsElement max_depth) EndsWithin input)

@@ -1,5 +1,5 @@
 use Rattle.std.proofs.Common.{◌-◌}
-use Rattle.asn1_rs.proofs.Elements.{splits_refused, splits_unread}
+use Rattle.asn1_rs.proofs.HeadersAndContents.{splits_refused, splits_unread}
 use Rattle.asn1_rs.proofs.ber.content_by_ber.Goals as goal
 
 pub returns-in-Definite-clause-err : goal.returns-in-Definite-clause-err

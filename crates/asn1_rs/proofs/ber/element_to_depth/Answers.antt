@@ -1,11 +1,11 @@
 use Rattle.std.proofs.Common.{◌+◌, ◌-◌, ◌≡◌, ◌++◌, ℕ, List, suc, arith, ap, subst}
 use Rattle.std.proofs.lemmas.Result.{err_from_is_err_and}
 use Rattle.x690.specs.Nested.{IsNestedElement}
-use Rattle.x690.specs.Contents.{IsContent, ContentFault}
-use Rattle.x690.specs.FaultHeaders.{ContentFaultHeaders}
+use Rattle.x690.specs.Nested.Contents.{IsContent, ContentFault}
+use Rattle.x690.specs.Nested.FaultHeaders.{ContentFaultHeaders}
 use Rattle.x690.specs.Laws.Nested.{nested_element_half}
-use Rattle.x690.specs.Laws.Contents.{header_fault_first, content_fault_behind}
-use Rattle.x690.specs.Laws.FaultHeaders.{no_header_first, content_headers_behind}
+use Rattle.x690.specs.Laws.Nested.Contents.{header_fault_first, content_fault_behind}
+use Rattle.x690.specs.Laws.Nested.FaultHeaders.{no_header_first, content_headers_behind}
 use Rattle.asn1_rs.specs.declared.asn1_types.any.Any.{Any}
 use Rattle.asn1_rs.specs.declared.header.Header.{Header}
 use Rattle.asn1_rs.specs.declared.length.Length.{Length}
@@ -14,7 +14,7 @@ use Rattle.asn1_rs.specs.Length.{form_of}
 use Rattle.asn1_rs.specs.Any.{parts_of}
 use Rattle.asn1_rs.specs.Ber.{count_of}
 use Rattle.x690.specs.Rules.{ber_rule}
-use Rattle.asn1_rs.proofs.Elements.{nested_read, identifier_kept}
+use Rattle.asn1_rs.proofs.HeadersAndContents.{nested_read, identifier_kept}
 use Rattle.asn1_rs.proofs.ber.element_to_depth.Goals as goal
 use Rattle.asn1_rs.proofs.ber.element_to_depth.Goals.{In_ok-rest}
 

@@ -6,12 +6,12 @@ use Rattle.x690.specs.Rules.{ber_rule}
 use Rattle.x690.specs.Elements.{IsHeader}
 use Rattle.x690.specs.Faults.{missing, depth_fault}
 use Rattle.x690.specs.Nested.{end_of_contents}
-use Rattle.x690.specs.Contents.{EndFault}
-use Rattle.x690.specs.FaultHeaders.{EndFaultHeaders}
+use Rattle.x690.specs.Nested.Contents.{EndFault}
+use Rattle.x690.specs.Nested.FaultHeaders.{EndFaultHeaders}
 use Rattle.x690.specs.Laws.Octets.{octets_back}
 use Rattle.x690.specs.Laws.Headers.{header_two}
-use Rattle.x690.specs.Laws.Contents.{header_fault_first, too_deep, content_fault_behind}
-use Rattle.x690.specs.Laws.FaultHeaders.{no_header_first, one_header_too_deep, content_headers_behind}
+use Rattle.x690.specs.Laws.Nested.Contents.{header_fault_first, too_deep, content_fault_behind}
+use Rattle.x690.specs.Laws.Nested.FaultHeaders.{no_header_first, one_header_too_deep, content_headers_behind}
 use Rattle.asn1_rs.specs.declared.length.Length.{Length}
 use Rattle.asn1_rs.specs.Length.{form_of}
 use Rattle.asn1_rs.proofs.OpenContents.{all_closed, next_is_end, next_is_definite, next_is_opened, one_ends, next_fails, one_header_more}

@@ -1,7 +1,7 @@
-use Rattle.asn1_rs.specs.Header.{der_breach, ber_breach}
-use Rattle.asn1_rs.specs.Laws.Elements.{der_elements, ber_elements}
+use Rattle.asn1_rs.specs.Header.Reading.{der_breach, ber_breach}
+use Rattle.asn1_rs.specs.Laws.Readers.{der_elements, ber_elements}
 use Rattle.asn1_rs.specs.Laws.Any.{refusal_lasts, element_lasts, content_lasts}
-use Rattle.asn1_rs.specs.Laws.Headers.{header_lasts}
+use Rattle.asn1_rs.specs.Laws.Header.{header_lasts}
 use Rattle.asn1_rs.proofs.laws.answers_last.Goals as goal
 
 pub returns : goal.returns

@@ -1,7 +1,7 @@
-use Rattle.asn1_rs.specs.Header.{der_breach, ber_breach}
-use Rattle.asn1_rs.specs.Laws.Elements.{der_elements, ber_elements}
+use Rattle.asn1_rs.specs.Header.Reading.{der_breach, ber_breach}
+use Rattle.asn1_rs.specs.Laws.Readers.{der_elements, ber_elements}
 use Rattle.asn1_rs.specs.Laws.Any.{beginning_refused, within_refused}
-use Rattle.asn1_rs.specs.Laws.Headers.{header_beginning_refused, header_within_refused}
+use Rattle.asn1_rs.specs.Laws.Header.{header_beginning_refused, header_within_refused}
 use Rattle.asn1_rs.proofs.laws.beginnings_are_incomplete.Goals as goal
 
 pub returns : goal.returns

@@ -1,8 +1,8 @@
 use Rattle.std.proofs.Common.{◌≡◌, ◌++◌, refl, List, ℕ}
-use Rattle.asn1_rs.specs.Form.{IsStrict}
+use Rattle.asn1_rs.specs.Grammar.Form.{IsStrict}
 use Rattle.asn1_rs.specs.Laws.Words.{one_strict, strict_apart}
 use Rattle.asn1_rs.specs.Laws.Forms.{strict_written, der_strict}
-use Rattle.asn1_rs.specs.Wrote.{IsWritable, HasNone}
+use Rattle.asn1_rs.specs.ToDer.{IsWritable, HasNone}
 use Rattle.asn1_rs.proofs.Writing.{vector_done, vector_fits, plain_vector}
 use Rattle.asn1_rs.proofs.laws.strict_vec.Goals as goal
 use Rattle.asn1_rs.proofs.laws.strict_vec.Given as given

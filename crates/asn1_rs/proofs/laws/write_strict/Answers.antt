@@ -1,8 +1,8 @@
 use Rattle.std.proofs.Common.{◌≡◌, List, ℕ, ◌++◌}
-use Rattle.asn1_rs.specs.Form.{IsStrict}
+use Rattle.asn1_rs.specs.Grammar.Form.{IsStrict}
 use Rattle.asn1_rs.specs.Laws.Words.{one_strict, strict_apart}
 use Rattle.asn1_rs.specs.Laws.Forms.{strict_written, der_strict}
-use Rattle.asn1_rs.specs.Wrote.{IsWritable, HasNone}
+use Rattle.asn1_rs.specs.ToDer.{IsWritable, HasNone}
 use mathlib.Core.Logic.{∥∥₁_elim}
 use Rattle.asn1_rs.proofs.Writing.{writing_done, plain_refusal}
 use Rattle.asn1_rs.proofs.laws.write_strict.Goals as goal

@@ -1,6 +1,6 @@
 use Rattle.std.proofs.Common.{◌++◌, take, length, subst, sym, ap, Ok, IsTrue}
 use Rattle.std.proofs.lemmas.Bool.{false≢true}
-use Rattle.asn1_rs.specs.Wrote.{TookAllBut}
+use Rattle.asn1_rs.specs.Writer.{TookAllBut}
 use Rattle.asn1_rs.proofs.Writing.{Appends_more, taken_more, took_more, none_took}
 use Rattle.asn1_rs.proofs.writer.put_all.Goals as goal
 

@@ -1,6 +1,6 @@
 use Rattle.std.proofs.Common.{◌≡◌, ◌++◌, List, length, IsTrue}
 use Rattle.std.specs.Io.KnownBytes.{Appends}
-use Rattle.asn1_rs.specs.Wrote.{TookAllBut}
+use Rattle.asn1_rs.specs.Writer.{TookAllBut}
 use Rattle.asn1_rs.proofs.writer.put_all.Given as goal
 
 abbrev pub invariant-loop-rest : goal.invariant-loop-rest

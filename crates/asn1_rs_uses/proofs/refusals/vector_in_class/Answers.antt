@@ -1,6 +1,6 @@
 use Rattle.std.proofs.Common.{refl}
-use Rattle.asn1_rs.specs.declared.error.SerializeError.TheVariants as refusals
+use Rattle.asn1_rs.specs.declared.error.SerializeError.TheVariants as serialize_errors
 use Rattle.asn1_rs_uses.proofs.refusals.vector_in_class.Goals as goal
 
 pub returns : goal.returns
-returns c = λ h. c.to_der_vec.ensures.first (refusals.InvalidClass c.args.x.now.class) (h, refl)
+returns c = λ h. c.to_der_vec.ensures.first (serialize_errors.InvalidClass c.args.x.now.class) (h, refl)

@@ -1,6 +1,6 @@
 use Rattle.std.proofs.Common.{refl}
-use Rattle.asn1_rs.specs.declared.error.SerializeError.TheVariants as refusals
+use Rattle.asn1_rs.specs.declared.error.SerializeError.TheVariants as serialize_errors
 use Rattle.asn1_rs_uses.proofs.refusals.write_raw_in_class.Goals as goal
 
 pub returns : goal.returns
-returns g c = λ h. c.write_der_raw.ensures.first (refusals.InvalidClass c.args.x.now.class) (h, refl)
+returns g c = λ h. c.write_der_raw.ensures.first (serialize_errors.InvalidClass c.args.x.now.class) (h, refl)

@@ -1,4 +1,4 @@
-use Rattle.asn1_rs.specs.Sets.{items_of}
+use Rattle.asn1_rs.specs.Set.{items_of}
 use Rattle.asn1_rs_uses.proofs.Unwritten.{names_some, set_refused}
 use Rattle.asn1_rs_uses.proofs.refusals.write_set_in_classes.Goals as goal
 

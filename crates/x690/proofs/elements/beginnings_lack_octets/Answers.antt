@@ -1,4 +1,4 @@
-use Rattle.x690.specs.Laws.Beginnings.{header_beginning, der_beginning, cut_header_fault}
+use Rattle.x690.specs.Laws.Faults.Beginnings.{header_beginning, der_beginning, cut_header_fault}
 use Rattle.x690.proofs.elements.beginnings_lack_octets.Goals as goal
 
 pub returns : goal.returns

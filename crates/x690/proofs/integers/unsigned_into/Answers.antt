@@ -1,7 +1,7 @@
 use Rattle.std.proofs.Common.{◌≡◌, ℕ, ◌+◌, ◌-◌, ◌/◌, ◌%◌, ◌^◌, ◌<◌, ◌≤◌, List, [], ◌∷◌, ◌++◌, length, take, drop, set, ap, sym, ◌∙◌, arith, append_assoc, length-append, length-drop}
 use Rattle.std.proofs.lemmas.List.{drop-set, length-set, take-set-le, take-take}
 use Rattle.x690.specs.Integers.{unsigned_octets}
-use Rattle.x690.specs.Laws.UnsignedOctets.{unsigned_octets_few, unsigned_octets_some, unsigned_octets_low, unsigned_octets_step, unsigned_octets_count_step}
+use Rattle.x690.specs.Laws.Integers.Unsigned.{unsigned_octets_few, unsigned_octets_some, unsigned_octets_low, unsigned_octets_step, unsigned_octets_count_step}
 use Rattle.x690.proofs.integers.unsigned_into.Goals as goal
 
 -- as long as octets are left there is room for one more

@@ -1,6 +1,6 @@
 use Rattle.std.proofs.Common.{ℕ, ◌^◌, ◌<◌, ◌≤◌, length, arith}
 use Rattle.x690.specs.Integers.{unsigned_octets}
-use Rattle.x690.specs.Laws.UnsignedOctets.{unsigned_octets_few, unsigned_octets_some, unsigned_octets_count_low, unsigned_octets_count_step}
+use Rattle.x690.specs.Laws.Integers.Unsigned.{unsigned_octets_few, unsigned_octets_some, unsigned_octets_count_low, unsigned_octets_count_step}
 use Rattle.x690.proofs.integers.unsigned_octets_count.Goals as goal
 
 few : (n : ℕ) → n < 2 ^ 128 → length (unsigned_octets n) ≤ 17

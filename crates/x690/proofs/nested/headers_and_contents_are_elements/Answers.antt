@@ -1,6 +1,6 @@
 use Rattle.std.proofs.Common.{arith, subst, suc, ◌≡◌, ◌+◌}
 use Rattle.x690.specs.Nested.{IsNestedElement}
-use Rattle.x690.specs.Laws.Contents.{element_made, content_fault_behind}
+use Rattle.x690.specs.Laws.Nested.Contents.{element_made, content_fault_behind}
 use Rattle.x690.proofs.nested.headers_and_contents_are_elements.Goals as goal
 
 pub returns-clause-element : goal.returns-clause-element

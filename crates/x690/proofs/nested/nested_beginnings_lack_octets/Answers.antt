@@ -1,4 +1,4 @@
-use Rattle.x690.specs.Laws.Beginnings.{element_beginning, within_fault}
+use Rattle.x690.specs.Laws.Faults.Beginnings.{element_beginning, within_fault}
 use Rattle.x690.proofs.nested.nested_beginnings_lack_octets.Goals as goal
 
 pub returns : goal.returns

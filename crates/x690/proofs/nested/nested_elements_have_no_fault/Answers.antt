@@ -1,4 +1,4 @@
-use Rattle.x690.specs.Laws.NestedFaults.{element_or_fault}
+use Rattle.x690.specs.Laws.Nested.Faults.{element_or_fault}
 use Rattle.x690.proofs.nested.nested_elements_have_no_fault.Goals as goal
 
 pub returns : goal.returns

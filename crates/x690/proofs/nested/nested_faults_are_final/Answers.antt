@@ -1,4 +1,4 @@
-use Rattle.x690.specs.Laws.NestedFaults.{no_element}
+use Rattle.x690.specs.Laws.Nested.Faults.{no_element}
 use Rattle.x690.proofs.nested.nested_faults_are_final.Goals as goal
 
 pub returns : goal.returns

@@ -1,5 +1,5 @@
 use Rattle.x690.specs.Faults.{missing}
-use Rattle.x690.specs.Laws.NestedFaults.{one_element_fault, element_fault_counts}
+use Rattle.x690.specs.Laws.Nested.Faults.{one_element_fault, element_fault_counts}
 use Rattle.x690.proofs.nested.one_nested_fault.Goals as goal
 
 pub returns-clause-one : goal.returns-clause-one

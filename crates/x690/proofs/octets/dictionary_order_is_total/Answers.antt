@@ -1,4 +1,4 @@
-use Rattle.x690.specs.Laws.Order.{before_or_same_total, before_or_same_antisymmetric, before_or_same_transitive}
+use Rattle.x690.specs.Laws.Octets.Order.{before_or_same_total, before_or_same_antisymmetric, before_or_same_transitive}
 use Rattle.x690.proofs.octets.dictionary_order_is_total.Goals as goal
 
 pub returns-clause-total : goal.returns-clause-total

@@ -1,4 +1,4 @@
-use Rattle.x690.specs.Laws.Order.{first_difference_before, first_difference_not_after, front_before_or_same}
+use Rattle.x690.specs.Laws.Octets.Order.{first_difference_before, first_difference_not_after, front_before_or_same}
 use Rattle.x690.proofs.octets.first_difference_decides.Goals as goal
 
 pub returns-clause-before : goal.returns-clause-before

@@ -1,4 +1,4 @@
-use Rattle.x690.specs.Laws.SignedOctets.{signed_octets_count, octets_say_signed}
+use Rattle.x690.specs.Laws.Signed.{signed_octets_count, octets_say_signed}
 use Rattle.x690.proofs.signed.octets_hold_their_integers.Goals as goal
 
 pub returns : goal.returns

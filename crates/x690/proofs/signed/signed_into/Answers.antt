@@ -5,7 +5,7 @@ use Rattle.std.proofs.lemmas.List.{drop_at, length-take-le, take_all, drop_all}
 use Rattle.std.proofs.lemmas.Slice.{take-put_mid_below}
 use borrow.Rule.Slice.PartMut.{post_of, mid_of}
 use Rattle.x690.specs.Integers.{unsigned_octets}
-use Rattle.x690.specs.SignedOctets.{complement, signed_octets}
+use Rattle.x690.specs.Signed.{complement, signed_octets}
 use Rattle.x690.proofs.signed.signed_into.Goals as goal
 
 -- the part from `at` on, and what is put in its place

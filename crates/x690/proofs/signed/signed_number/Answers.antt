@@ -4,8 +4,8 @@ use Rattle.std.proofs.lemmas.Int.{ints}
 use Rattle.std.proofs.lemmas.List.{take_all}
 use Rattle.x690.specs.Octets.{IsOctets}
 use Rattle.x690.specs.Digits.{twos_complement_value}
-use Rattle.x690.specs.SignedOctets.{IsSigned}
-use Rattle.x690.specs.Laws.SignedOctets.{signed_needs_few, octets_say_signed}
+use Rattle.x690.specs.Signed.{IsSigned}
+use Rattle.x690.specs.Laws.Signed.{signed_needs_few, octets_say_signed}
 use Rattle.x690.proofs.SignedSums.{signed_sum, sum_is_value, sum_more, sum_is_small}
 use Rattle.x690.proofs.signed.signed_number.Goals as goal
 

@@ -1,8 +1,8 @@
 use Rattle.std.proofs.Common.{◌≡◌, ◌⊎◌, pos, negsuc, sym, ◌∙◌, arith, FitsSigned}
 use Rattle.std.specs.Int.{w128}
 use Rattle.std.proofs.lemmas.Int.{ints, to_z-of_z}
-use Rattle.x690.specs.SignedOctets.{IsSigned}
-use Rattle.x690.specs.Laws.SignedOctets.{signed_octets_few, signed_octets_length}
+use Rattle.x690.specs.Signed.{IsSigned}
+use Rattle.x690.specs.Laws.Signed.{signed_octets_few, signed_octets_length}
 use Rattle.x690.proofs.signed.signed_octets_count.Goals as goal
 
 pub returns-clause-count : goal.returns-clause-count

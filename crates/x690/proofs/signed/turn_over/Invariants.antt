@@ -1,5 +1,5 @@
 use Rattle.std.proofs.Common.{◌≡◌, ◌++◌, map, take, drop}
-use Rattle.x690.specs.SignedOctets.{complement}
+use Rattle.x690.specs.Signed.{complement}
 use Rattle.x690.proofs.signed.turn_over.Given as goal
 
 abbrev pub invariant-loop-octet : goal.invariant-loop-octet

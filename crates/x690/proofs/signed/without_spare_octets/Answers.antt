@@ -1,7 +1,7 @@
 use Rattle.std.proofs.Common.{ap, ◌∙◌}
 use Rattle.std.proofs.lemmas.List.{take_rest}
 use Rattle.x690.specs.Digits.{twos_complement_value}
-use Rattle.x690.specs.Laws.SignedOctets.{spare_zeros_say_nothing, spare_ones_say_nothing}
+use Rattle.x690.specs.Laws.Signed.{spare_zeros_say_nothing, spare_ones_say_nothing}
 use Rattle.x690.proofs.signed.without_spare_octets.Goals as goal
 use Rattle.x690.proofs.signed.without_spare_octets.Goals.{then-has_spare_zeros, else-has_spare_zeros+then-has_spare_ones}
 

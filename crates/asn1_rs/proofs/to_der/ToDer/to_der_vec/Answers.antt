@@ -1,4 +1,4 @@
-use Rattle.asn1_rs.specs.Wrote.{Either}
+use Rattle.asn1_rs.specs.ToDer.{Either}
 use Rattle.asn1_rs.proofs.Writing.{vector_refuses, neither_refuses}
 use Rattle.asn1_rs.proofs.to_der.ToDer.to_der_vec.Goals as goal
 

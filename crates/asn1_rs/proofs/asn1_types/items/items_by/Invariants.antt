@@ -1,7 +1,0 @@
-use Rattle.std.proofs.Common.{map, Ok}
-use Rattle.std.specs.Iterator.{Yields}
-use Rattle.asn1_rs.specs.Items.{TakesItem}
-use Rattle.asn1_rs.proofs.asn1_types.items.items_by.Given as goal
-
-abbrev pub invariant-loop-item : goal.invariant-loop-item
-invariant-loop-item g l = Yields (TakesItem g.F.ReadsItems.item_gives g.E.From.from_gives) l.content (map Ok l.items.items) l.item-iterator.left.now

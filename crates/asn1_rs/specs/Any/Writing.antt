@@ -1,0 +1,12 @@
+-- Elements of any type, as they are written.
+use Rattle.std.specs.Prelude.{ℕ, List, length}
+use Rattle.x690.specs.Strict.{header_octets}
+use Rattle.asn1_rs.specs.Class.{class_number}
+use Rattle.asn1_rs.specs.declared.asn1_types.any.Any.{Any}
+
+abbrev pub content_of : Any → List ℕ
+content_of a = a.content.now
+
+-- the strict header of an element with its contents octets
+abbrev pub element_header : Any → List ℕ
+element_header a = header_octets (class_number a.header.class) a.header.constructed a.header.tag.0 (length a.content.now)

@@ -1,0 +1,57 @@
+-- What a type says of its values and grammars, and what makes that lawful.
+use Rattle.std.specs.Prelude.{ℕ, Bool, List}
+use Rattle.std.specs.Borrow.{Bor}
+use Rattle.x690.specs.Identifiers.{Identifier}
+use Rattle.x690.specs.Elements.{Parts, ArePossible}
+use Rattle.asn1_rs.specs.Grammar.Form.{IsOneForm, IsOneValue, FitsElement, HasValues, IsStrict}
+use Rattle.asn1_rs.specs.Grammar.{IsOneFront, IsOneBody, FormChecks}
+
+-- The values of a type, with plain equality; the value of an item in hand; which values are the type's, as the numbers in
+-- its range, and which are in DER form. The words by BER and by DER, with their values. What the conversion finds in an
+-- element's parts, and what the constraints ask of them. The identifier and the contents octets of a value in DER form.
+-- Whether reading may allocate.
+pub record ItemGrammar (S : Type 0) : Type 1 where
+  pub Value : Type 0
+  pub value : S → Value
+  pub IsValue : Value → Type 0
+  pub IsDer : Value → Type 0
+  pub Ber : List ℕ → Value → Type 0
+  pub Der : List ℕ → Value → Type 0
+  pub Body : Parts → Value → Type 0
+  pub Check : Parts → Type 0
+  pub Form : Value → Identifier → List ℕ → Type 0
+  pub allocates : Bool
+
+-- Words, bodies and strict parts have values of the type. One word alone begins an input, and a body has one value. A
+-- value has one strict identifier and content; these fit an element, meet the constraints and have one value, which is in
+-- DER form; and the strict encoding that they make is a word by BER and by DER.
+pub record IsLawfulItem {S : Type 0} (G : ItemGrammar S) : Type 0 where
+  pub ber_values : (o : List ℕ) (v : G.Value) → G.Ber o v → G.IsValue v
+  pub der_values : (o : List ℕ) (v : G.Value) → G.Der o v → G.IsValue v
+  pub body_values : (p : Parts) (v : G.Value) → ArePossible p → G.Body p v → G.IsValue v
+  pub form_values : HasValues G.Form G.IsValue
+  pub ber_one : IsOneFront G.Ber
+  pub der_one : IsOneFront G.Der
+  pub body_one : IsOneBody G.Body
+  pub one_form : IsOneForm G.Form
+  pub one_value : IsOneValue G.Form
+  pub form_fits : FitsElement G.Form
+  pub form_check : FormChecks G.Form G.Check
+  pub form_der : HasValues G.Form G.IsDer
+  pub strict_ber : (v : G.Value) (o : List ℕ) → IsStrict G.Form v o → G.Ber o v
+  pub strict_der : (v : G.Value) (o : List ℕ) → IsStrict G.Form v o → G.Der o v
+
+-- a reference has the values and grammars of what it refers to
+abbrev pub by_reference : {S : Type 0} → ItemGrammar S → ItemGrammar (Bor S)
+by_reference G = record {
+  Value = G.Value;
+  value = λ r. G.value r.now;
+  IsValue = G.IsValue;
+  IsDer = G.IsDer;
+  Ber = G.Ber;
+  Der = G.Der;
+  Body = G.Body;
+  Check = G.Check;
+  Form = G.Form;
+  allocates = G.allocates;
+}

@@ -1,0 +1,69 @@
+-- Elements of any type are written as what they say.
+use Rattle.std.proofs.Common.{◌≡◌, ◌∙◌, ap, sym, refl, ℕ, Bool, true, false, ◌&&◌, List, ◌++◌, length, rules}
+use Rattle.std.specs.Prelude.{IsTrue, ◌↔◌, bytes_eq}
+use Rattle.std.proofs.lemmas.Slice.Eq.{bytes_eq-Decides}
+use Rattle.x690.specs.Identifiers.{Identifier}
+use Rattle.x690.specs.Lengths.{LengthForm, definite}
+use Rattle.x690.specs.Strict.{identifier_octets, length_form_octets}
+use Rattle.x690.specs.Laws.StrictHeaders.{header_octets_are}
+use Rattle.asn1_rs.specs.declared.header.Header.{Header}
+use Rattle.asn1_rs.specs.Class.{class_number}
+use Rattle.asn1_rs.specs.Length.{form_of}
+use Rattle.asn1_rs.specs.Header.Writing.{strict_header}
+use Rattle.asn1_rs.specs.declared.asn1_types.any.Any.{Any}
+use Rattle.asn1_rs.specs.Any.Value.{ElementValue, element_of, ElementForm}
+use Rattle.asn1_rs.specs.Any.Writing.{content_of, element_header}
+use Rattle.asn1_rs.specs.Header.{identifier_of, is_constructed_of, is_same_identifier}
+use Rattle.asn1_rs.specs.Laws.Forms.{NothingRefused, nothing_refused}
+use Rattle.asn1_rs.specs.Grammar.Form.{header_of, WritesByValue, WritesForm, HasForm}
+
+header_by : (i j : Identifier) (c d : List ℕ) → i ≡ j → c ≡ d → header_of i c ≡ header_of j d
+header_by i j c d p q = ap (λ (z : Identifier). header_of z c) p ∙ ap (λ (z : List ℕ). header_of j z) q
+
+pub element_by_value : WritesByValue element_of (λ any. is_constructed_of any.header) element_header content_of
+element_by_value x y e = (
+  ap (λ (z : ElementValue). z.id.constructed) e,
+  header_by (identifier_of x.header) (identifier_of y.header) x.content.now y.content.now (ap (λ (z : ElementValue). z.id) e) (ap (λ (z : ElementValue). z.content) e),
+  ap (λ (z : ElementValue). z.content) e,
+)
+
+pub element_writes_form : WritesForm element_of ElementForm (λ _. NothingRefused) (λ any. is_constructed_of any.header) element_header content_of
+element_writes_form x i c f = (
+  nothing_refused,
+  ap (λ (z : ElementValue). z.id.constructed) f.is,
+  ap (λ (z : ElementValue). z.content) f.is,
+  header_by (identifier_of x.header) i x.content.now c (ap (λ (z : ElementValue). z.id) f.is) (ap (λ (z : ElementValue). z.content) f.is),
+)
+
+pub element_has_form : HasForm element_of (λ v. ElementForm v v.id v.content) ElementForm content_of
+element_has_form = λ x d l. ∣ (identifier_of x.header, d) ∣₁
+
+-- the strict header where the header counts the contents octets
+pub counted_header : (a : Any) → form_of a.header.length ≡ definite (length a.content.now) → strict_header a.header ≡ element_header a
+counted_header a e =
+    ap (λ (f : LengthForm). identifier_octets (identifier_of a.header) ++ length_form_octets f) e
+    ∙ sym (header_octets_are (class_number a.header.class) a.header.constructed a.header.tag.0 (length a.content.now))
+
+same_parts : (g h : Header) → is_same_identifier g h ≡ true → identifier_of g ≡ identifier_of h
+same_parts g h e = search rules
+
+parts_same : (g h : Header) → identifier_of g ≡ identifier_of h → is_same_identifier g h ≡ true
+parts_same g h e = search rules
+
+both_true : (p q : Bool) → p && q ≡ true → (p ≡ true) × (q ≡ true)
+both_true true q e = (refl, e)
+both_true false q e = cc
+
+-- two elements are equal exactly where they say the same
+pub element_same : (x y : Any) → IsTrue (is_same_identifier x.header y.header && bytes_eq x.content.now y.content.now) ↔ (element_of x ≡ element_of y)
+element_same x y = (
+  λ h.
+      let b = both_true (is_same_identifier x.header y.header) (bytes_eq x.content.now y.content.now) h in
+      let i = same_parts x.header y.header b.0 in
+      let c = (bytes_eq-Decides x.content.now y.content.now).0 b.1 in
+      ap (λ (z : Identifier). let e : ElementValue = record { id = z; content = x.content.now } in e) i ∙ ap (λ (z : List ℕ). let e : ElementValue = record { id = identifier_of y.header; content = z } in e) c,
+  λ e.
+      let i : is_same_identifier x.header y.header ≡ true = parts_same x.header y.header (ap (λ (z : ElementValue). z.id) e) in
+      let c : bytes_eq x.content.now y.content.now ≡ true = (bytes_eq-Decides x.content.now y.content.now).1 (ap (λ (z : ElementValue). z.content) e) in
+      ap (λ b. b && bytes_eq x.content.now y.content.now) i ∙ c,
+)

@@ -1,0 +1,2 @@
+pub mod Iterator
+pub mod IndefiniteContents

@@ -1,0 +1,599 @@
+-- Laws of sets.
+pub mod Ascend
+pub mod Arranged
+pub mod Zips
+pub mod Differ
+use Rattle.std.proofs.Common.{arith, ◌≡◌, ◌∙◌, ap, sym, subst, refl, ℕ, ◌<◌, ◌^◌, ◌⊎◌, inl, inr, ⊎_elim, Bool, true, false, List, [], ◌∷◌, ◌++◌, length, map, zero, suc, get_or}
+use Rattle.std.specs.Prelude.{Result, Ok, Err, IsTrue, ◌↔◌, ◌&&◌, ◌||◌, Contains, slice_index_or}
+use Rattle.std.specs.List.{All, AllZip, AllByRecursion, flat_map, list_all, list_any}
+use Rattle.std.specs.List.Sorted.{IsPermutation, IsStrictlySortedBy}
+use Rattle.std.specs.declared.cmp.Ordering.{Ordering}
+use Rattle.std.specs.declared.cmp.Ordering.TheVariants.{Less, Equal, Greater}
+use Rattle.std.specs.Ordering.{eq_by_cmp, is_eq, is_lt, is_gt, ordering_reverse}
+use Rattle.std.specs.Cmp.{IsTotalOrder, Equal-is, alike_right}
+use Rattle.std.specs.Cmp.Lexicographic.{pointwise}
+use Rattle.std.specs.BTreeSet.{BTreeSet, IsFromIterResult}
+use Rattle.std.proofs.lemmas.List.Elements.{All-nil, All-cons}
+use Rattle.std.proofs.lemmas.List.Sorted.{IsPermutation-refl, IsPermutation-trans, IsPermutation-sym, All-permutation, Contains-permutation}
+use Rattle.x690.specs.Strict.{header_octets}
+use Rattle.x690.specs.Octets.{IsOctets}
+use Rattle.x690.specs.Identifiers.{Identifier}
+use Rattle.x690.specs.Elements.{Parts, IsDerElement}
+use Rattle.x690.specs.Nested.{IsElement}
+use Rattle.asn1_rs.specs.declared.error.Err.{Err as Refusal}
+use Rattle.asn1_rs.specs.declared.error.Error.{Error}
+use Rattle.asn1_rs.specs.declared.asn1_types.set.set_of.SetOf.{SetOf}
+use Rattle.asn1_rs.specs.Answers.{Exactly, TellsMemory}
+use Rattle.asn1_rs.specs.declared.error.SerializeError.{SerializeError}
+use Rattle.asn1_rs.specs.Grammar.Form.{IsOneForm, IsOneValue, FitsElement, HasValues, IsStrict, universal, header_of, WritesByValue, WritesForm}
+use Rattle.asn1_rs.specs.Grammar.{IsOneFront, IsOneBody, TakesBody, FormChecks, FormBodies, FormTakes, FormNumber, NoCheck}
+use Rattle.asn1_rs.specs.Ber.{max_depth}
+use Rattle.asn1_rs.specs.Grammar.Item.{ItemGrammar, IsLawfulItem}
+use Rattle.asn1_rs.specs.Sequence.Iterator.{IsJoined}
+use Rattle.asn1_rs.specs.declared.asn1_types.any.Any.{Any}
+use Rattle.asn1_rs.specs.Any.{parts_of}
+use Rattle.asn1_rs.specs.Traits.{OfParts}
+use Rattle.asn1_rs.specs.Lists.{joining, ListCheck, StrictWord, SomeRefuses, ListTakes, ListReads}
+use Rattle.asn1_rs.specs.ToDer.{HasNone, Either, IsWritable, WrittenRefusal, IntoVector}
+use Rattle.asn1_rs.specs.Set.{Multiset, multiset, ValueSet, value_set, HaveSame, AllDiffer, Members, set_of, pairs_pass, members_if, members, is_below, Ascending, Joins, AnyList, Seen, SetBody, SetRow, SetForm, SetValues, SetInDer, set_grammar, multiset_grammar, member_grammar, items_of, HasItems, arranged, set_content}
+use Rattle.asn1_rs.specs.Laws.Readers.{der_elements, ber_elements}
+use Rattle.asn1_rs.specs.Laws.Words.{word_one, one_strict, strict_ber_word, strict_der_word}
+use Rattle.asn1_rs.specs.Laws.Forms.{universal_one, universal_value, universal_fits, strict_written}
+use Rattle.asn1_rs.specs.Laws.Lists.{zip_joined, zip_written, joined_map, joined_values, joined_octets, joined_same, strict_word_one, strict_word_octets, list_body_one, list_of_one, list_body_values, list_der_values, list_form_check, list_takes_class, list_takes, list_reads, none_refuses, both_by_value, same_lists}
+use Rattle.asn1_rs.specs.Laws.Set.Arranged.{arranged_ascends, arranged_moves, arranged_length}
+use Rattle.asn1_rs.specs.Laws.Set.Ascend.{Ascending-unique}
+use Rattle.asn1_rs.specs.Laws.Set.Zips.{zip_turn, zip_permutation, zip_right}
+use Rattle.asn1_rs.specs.Laws.Set.Differ.{permutation_from_same, AllDiffer-permutation}
+use mathlib.Core.HProp.{HProp}
+use mathlib.Core.Bool.{true≢false, Bool-set}
+use mathlib.Core.Logic.{∥∥₁_prop, ∥∥₁_elim, ∥∥₁_map}
+use mathlib.Core.Quot.{lift_prop, sound}
+use mathlib.Core.List.{is_set}
+use native.Mathlib.Nat.{ℕ_set}
+
+-- lists of one multiset have the same items, in some order
+pub permutation_from_multiset : {V : Type 0} (xs ys : List V) → multiset xs ≡ multiset ys → ∥ IsPermutation xs ys ∥₁
+permutation_from_multiset {V} xs ys e =
+    let reaches : Multiset V → HProp {0} = lift_prop (λ zs. (∥ IsPermutation xs zs ∥₁, ∥∥₁_prop)) (λ zs ws p. (λ h. ∥∥₁_map h (λ q. IsPermutation-trans xs zs ws q p), λ h. ∥∥₁_map h (λ q. IsPermutation-trans xs ws zs q (IsPermutation-sym zs ws p)))) in
+    subst (λ m. (reaches m).0) e ∣ IsPermutation-refl xs ∣₁
+
+HaveSame-trans : {V : Type 0} (xs ys zs : List V) → HaveSame xs ys → HaveSame ys zs → HaveSame xs zs
+HaveSame-trans xs ys zs h k v = (λ c. (k v).0 ((h v).0 c), λ c. (h v).1 ((k v).1 c))
+
+HaveSame-sym : {V : Type 0} (xs ys : List V) → HaveSame xs ys → HaveSame ys xs
+HaveSame-sym xs ys h v = ((h v).1, (h v).0)
+
+pub have_same_from_value_set : {V : Type 0} (xs ys : List V) → value_set xs ≡ value_set ys → ∥ HaveSame xs ys ∥₁
+have_same_from_value_set {V} xs ys e =
+    let reaches : ValueSet V → HProp {0} = lift_prop (λ zs. (∥ HaveSame xs zs ∥₁, ∥∥₁_prop)) (λ zs ws p. (λ h. ∥∥₁_map h (λ q. HaveSame-trans xs zs ws q p), λ h. ∥∥₁_map h (λ q. HaveSame-trans xs ws zs q (HaveSame-sym zs ws p)))) in
+    subst (λ m. (reaches m).0) e ∣ (λ v. (λ c. c, λ c. c)) ∣₁
+
+-- the two kinds of rows are apart, and each tells what it is of
+set_inj : {V : Type 0} (a b : ValueSet V) → ◌≡◌ {A = Members V} (inl a) (inl b) → a ≡ b
+set_inj {V} a b e = ap first e
+  where
+    first : Members V → ValueSet V
+    first (inl s) = s
+    first (inr vs) = a
+
+row_inj : {V : Type 0} (a b : List V) → ◌≡◌ {A = Members V} (inr a) (inr b) → a ≡ b
+row_inj {V} a b e = ap second e
+  where
+    second : Members V → List V
+    second (inl s) = a
+    second (inr vs) = vs
+
+is_set_of : {V : Type 0} → Members V → Bool
+is_set_of (inl s) = true
+is_set_of (inr vs) = false
+
+kinds_apart : {V : Type 0} {P : Type 0} (a : ValueSet V) (b : List V) → ◌≡◌ {A = Members V} (inl a) (inr b) → P
+unfolding is_set_of
+kinds_apart a b e = absurd (true≢false (ap is_set_of e))
+
+pub permutation_from_set : {V : Type 0} (vs ws : List V) → AllDiffer vs → AllDiffer ws → set_of vs ≡ set_of ws → ∥ IsPermutation vs ws ∥₁
+permutation_from_set vs ws h k e = ∥∥₁_map (have_same_from_value_set vs ws (set_inj (value_set vs) (value_set ws) e)) (λ p. permutation_from_same vs ws h k p)
+
+strings_set : IsSet (List (List ℕ))
+strings_set = is_set (is_set ℕ_set)
+
+-- a list of values decides its ascending strings, where each value has one
+module _ {V : Type 0} (R : V → List ℕ → Type 0) (one : (v : V) (o p : List ℕ) → R v o → R v p → o ≡ p) where
+  pub same_strings_of : (vs ws : List V) (os ps : List (List ℕ)) → AllZip R vs os → AllZip R ws ps → Ascending os → Ascending ps → ∥ IsPermutation vs ws ∥₁ → os ≡ ps
+  same_strings_of vs ws os ps h k up vp m = ∥∥₁_elim m (strings_set _ _) (λ p.
+      let t = zip_permutation R vs ws os p h in
+      let e : t.0 ≡ ps = zip_right R one ws t.0 ps t.1 k in
+      Ascending-unique os ps (subst (IsPermutation os) e t.2) up vp)
+
+-- what takes lists takes collections
+pub takes_seen : {T V W E : Type 0} (f : V → W) (B : Parts → V → Type 0) (value : T → V) (takes : Bool) (from : Error → E → Type 0) (p : Parts) (answer : Result T E) → TakesBody B value takes from p answer → TakesBody (Seen f B) (λ x. f (value x)) takes from p answer
+takes_seen f B value takes from p (Ok x) h = (value x, refl, h)
+takes_seen f B value takes from p (Err e) (inl m) = inl m
+takes_seen f B value takes from p (Err e) (inr n) = inr (λ v g. n g.0 g.2)
+
+pub body_seen : {V W : Type 0} (f : V → W) (B : Parts → V → Type 0) → IsOneBody B → IsOneBody (Seen f B)
+body_seen f B one p v w a b = sym a.1 ∙ ap f (one p a.0 b.0 a.2 b.2) ∙ b.1
+
+-- the strict parts of a set
+module _ {V M : Type 0} (of : List V → M) (Each : List V → Type 0) (Form : V → Identifier → List ℕ → Type 0) where
+  pub joins_joined : (m : M) (c : List ℕ) (j : Joins of Each Form m c) → IsJoined (StrictWord Form) c j.items
+  joins_joined m c j = subst (λ d. IsJoined (StrictWord Form) d j.items) j.joined (zip_joined Form j.items j.strings j.each)
+
+  pub set_one_form : ((vs ws : List V) → Each vs → Each ws → of vs ≡ of ws → ∥ IsPermutation vs ws ∥₁) → IsOneForm Form → IsOneForm (SetForm of Each Form)
+  set_one_form mixed one = universal_one true 17 (Joins of Each Form) (λ m c d f g.
+      sym f.joined ∙ ap joining (same_strings_of (IsStrict Form) (one_strict Form one) f.items g.items f.strings g.strings f.each g.each f.ascend g.ascend (mixed f.items g.items f.once g.once (f.are ∙ sym g.are))) ∙ g.joined)
+
+  pub set_one_value : IsOneValue Form → IsOneValue (SetForm of Each Form)
+  set_one_value one = universal_value true 17 (Joins of Each Form) (λ m n c f g.
+      sym f.are ∙ ap of (joined_same (StrictWord Form) (strict_word_one Form one) c c f.items g.items refl (joins_joined m c f) (joins_joined n c g)) ∙ g.are)
+
+  pub set_fits : FitsElement (SetForm of Each Form)
+  set_fits = universal_fits true 17 (Joins of Each Form) (omega arith) (λ m c f. joined_octets (StrictWord Form) (strict_word_octets Form) c f.items (joins_joined m c f))
+
+  pub set_form_values : (P : V → Type 0) → HasValues Form P → HasValues (SetForm of Each Form) (SetValues of P)
+  set_form_values P h = λ m i c f. (f.1.items, f.1.are, joined_values (StrictWord Form) P (λ o v s. h v s.id s.content s.form) c f.1.items (joins_joined m c f.1))
+
+  module _ (G : List ℕ → V → Type 0) (word : (v : V) (o : List ℕ) → IsStrict Form v o → G o v) where
+    set_joined : (m : M) (c : List ℕ) (f : Joins of Each Form m c) → IsJoined G c f.items
+    set_joined m c f = joined_map (StrictWord Form) G (λ o v s. word v o s) c f.items (joins_joined m c f)
+
+    pub set_form_body : FormBodies (SetForm of Each Form) (SetBody of G)
+    set_form_body = λ m i c f. (
+      f.1.items,
+      f.1.are,
+      record {
+        number_is = ap (λ (z : Identifier). z.number) f.0;
+        constructed = ap (λ (z : Identifier). z.constructed) f.0;
+        items = set_joined m c f.1;
+      },
+    )
+
+    pub set_form_row : FormBodies (SetForm of Each Form) (SetRow of G)
+    set_form_row = λ m i c f. (
+      f.1.items,
+      f.1.are,
+      record {
+        number_is = ap (λ (z : Identifier). z.number) f.0;
+        items = set_joined m c f.1;
+      },
+    )
+
+  pub set_form_check : (Check : Parts → Type 0) → FormChecks Form Check → FormChecks (SetForm of Each Form) (ListCheck 17 Check)
+  set_form_check Check checks = λ m i c f. list_form_check Form 17 Check checks f.1.items i c (f.0, joins_joined m c f.1)
+
+  pub set_takes_class : (G : List ℕ → V → Type 0) (Check : Parts → Type 0) → ((v : V) (o : List ℕ) → IsStrict Form v o → G o v) → FormChecks Form Check → (class : ℕ) → FormTakes (SetForm of Each Form) (ListCheck 17 Check) (SetBody of G) class
+  set_takes_class G Check words checks class = λ m i c f.
+      let t = list_takes_class Form 17 G Check words checks class f.1.items i c (f.0, joins_joined m c f.1) in
+      (t.0, (f.1.items, f.1.are, t.1))
+
+  pub set_number : FormNumber (SetForm of Each Form) 17
+  set_number = λ m i c f. ap (λ (z : Identifier). z.number) f.0
+
+-- sets of lawful items are lawful
+module _ {S W M : Type 0} (G : ItemGrammar S) (l : IsLawfulItem G) (of : List G.Value → M) (worth : W → M) (Each : List G.Value → Type 0)
+    (mixed : (vs ws : List G.Value) → Each vs → Each ws → of vs ≡ of ws → ∥ IsPermutation vs ws ∥₁) where
+  set_form_der : HasValues (SetForm of Each G.Form) (SetInDer of Each G.IsDer)
+  set_form_der = λ m i c f. (f.1.items, f.1.once, f.1.are, joined_values (StrictWord G.Form) G.IsDer (λ o v s. l.form_der v s.id s.content s.form) c f.1.items (joins_joined of Each G.Form m c f.1))
+
+  pub set_lawful : (DerBody : Parts → M → Type 0) → IsOneBody DerBody → ((p : Parts) (m : M) → DerBody p m → SetValues of G.IsValue m) → FormBodies (SetForm of Each G.Form) DerBody → IsLawfulItem (set_grammar {W = W} G of worth Each DerBody)
+  set_lawful DerBody one values bodies = record {
+    ber_values = λ o m w. body_values_of w.0 m w.3;
+    der_values = λ o m w. values w.0 m w.3;
+    body_values = λ p m o b. body_values_of p m b;
+    form_values = set_form_values of Each G.Form G.IsValue l.form_values;
+    ber_one = word_one (IsElement max_depth) NoCheck (SetBody of G.Ber) ber_elements.one body_one;
+    der_one = word_one IsDerElement NoCheck DerBody der_elements.one one;
+    body_one = body_one;
+    one_form = set_one_form of Each G.Form mixed l.one_form;
+    one_value = set_one_value of Each G.Form l.one_value;
+    form_fits = set_fits of Each G.Form;
+    form_check = set_form_check of Each G.Form G.Check l.form_check;
+    form_der = set_form_der;
+    strict_ber = strict_ber_word (SetForm of Each G.Form) (SetBody of G.Ber) (set_form_body of Each G.Form G.Ber l.strict_ber);
+    strict_der = strict_der_word (SetForm of Each G.Form) NoCheck DerBody (λ v i c f. tt) bodies;
+  }
+    where
+      body_one : IsOneBody (SetBody of G.Ber)
+      body_one = body_seen of _ (list_body_one G.Ber l.ber_one 17)
+
+      body_values_of : (p : Parts) (m : M) → SetBody of G.Ber p m → SetValues of G.IsValue m
+      body_values_of p m b = (b.0, b.1, list_body_values 17 G.Ber G.IsValue l.ber_values p b.0 b.2)
+
+pub multiset_lawful : {S W : Type 0} (items : W → List S) (G : ItemGrammar S) → IsLawfulItem G → IsLawfulItem (multiset_grammar items G)
+multiset_lawful items G l =
+    set_lawful G l multiset (λ w. multiset (map G.value (items w))) AnyList (λ vs ws h k e. permutation_from_multiset vs ws e) (SetRow multiset G.Der)
+    (body_seen multiset _ (list_of_one G.Der l.der_one 17))
+    (λ p m b. (b.0, b.1, list_der_values 17 G.Der G.IsValue l.der_values p b.0 b.2))
+    (set_form_row multiset AnyList G.Form G.Der l.strict_der)
+
+pub member_lawful : {S W : Type 0} (test : S → S → Bool) (keys : W → List S) (G : ItemGrammar S) → IsLawfulItem G → IsLawfulItem (member_grammar test keys G)
+member_lawful test keys G l =
+    set_lawful G l set_of (λ w. members test G.value (keys w)) AllDiffer permutation_from_set (SetBody set_of G.Der)
+    (body_seen set_of _ (list_body_one G.Der l.der_one 17))
+    (λ p m b. (b.0, b.1, list_body_values 17 G.Der G.IsValue l.der_values p b.0 b.2))
+    (set_form_body set_of AllDiffer G.Form G.Der l.strict_der)
+
+-- a value beside what is written for an item that has it
+abbrev pub Writes : {S V : Type 0} → (S → V) → (S → List ℕ) → V → List ℕ → Type 0
+Writes {S} value octets v o = (x : S) × (value x ≡ v) × (octets x ≡ o)
+
+ascending_same : (os ps : List (List ℕ)) → IsPermutation os ps → arranged os ≡ arranged ps
+ascending_same os ps p =
+    Ascending-unique (arranged os) (arranged ps)
+    (IsPermutation-trans _ _ _ (IsPermutation-sym _ _ (arranged_moves os)) (IsPermutation-trans _ _ _ p (arranged_moves ps)))
+    (arranged_ascends os) (arranged_ascends ps)
+
+module _ {S V : Type 0} (value : S → V) (octets : S → List ℕ) (law : (x y : S) → value x ≡ value y → octets x ≡ octets y) where
+  writes_one : (v : V) (o p : List ℕ) → Writes value octets v o → Writes value octets v p → o ≡ p
+  writes_one v o p a b = sym a.2 ∙ law a.0 b.0 (a.1 ∙ sym b.1) ∙ b.2
+
+  writes_zip : (xs : List S) → AllZip (Writes value octets) (map value xs) (map octets xs)
+  writes_zip [] = tt
+  writes_zip (x ∷ xs) = ((x, refl, refl), writes_zip xs)
+
+  -- items with the same values, in any order, are written alike
+  pub set_content_same : (xs ys : List S) → ∥ IsPermutation (map value xs) (map value ys) ∥₁ → set_content octets xs ≡ set_content octets ys
+  set_content_same xs ys m =
+      ap joining (∥∥₁_elim m (strings_set _ _) (λ h.
+      let t = zip_permutation (Writes value octets) (map value xs) (map value ys) (map octets xs) h (writes_zip xs) in
+      let k : t.0 ≡ map octets ys = zip_right (Writes value octets) writes_one (map value ys) t.0 (map octets ys) t.1 (writes_zip ys) in
+      ascending_same (map octets xs) (map octets ys) (subst (IsPermutation (map octets xs)) k t.2)))
+
+-- what is written for a set follows from its values
+module _ {S V : Type 0} (value : S → V) (constructed : S → Bool) (header content : S → List ℕ) where
+  abbrev pub SetWritten : List S → List ℕ
+  SetWritten = set_content (λ x. header x ++ content x)
+
+  pub set_by_value : WritesByValue value constructed header content → (xs ys : List S) → ∥ IsPermutation (map value xs) (map value ys) ∥₁ →
+      (true ≡ true) × (header_octets 0 true 17 (length (SetWritten xs)) ≡ header_octets 0 true 17 (length (SetWritten ys))) × (SetWritten xs ≡ SetWritten ys)
+  set_by_value law xs ys m =
+      let h = set_content_same value (λ x. header x ++ content x) (λ x y e. let l = law x y e in both_by_value l.1 l.2) xs ys m in
+      (refl, ap (λ (c : List ℕ). header_octets 0 true 17 (length c)) h, h)
+
+pub none_into : (own : SerializeError → Type 0) → HasNone own → HasNone (IntoVector own)
+none_into own n e o = n o.0 o.1
+
+module _ {S V : Type 0} (value : S → V) (Form : V → Identifier → List ℕ → Type 0) (counting : S → Error → Type 0) (heading filling : S → SerializeError → Type 0) (constructed : S → Bool) (header content : S → List ℕ) where
+  abbrev Writable : S → Type 0
+  Writable x = IsWritable (counting x) (heading x) (filling x)
+
+  abbrev Law : Type 0
+  Law = WritesForm value Form Writable constructed header content
+
+  octets_of : S → List ℕ
+  octets_of x = header x ++ content x
+
+  zip_octets : Law → (xs : List S) (os : List (List ℕ)) → AllZip (IsStrict Form) (map value xs) os → map (λ x. header x ++ content x) xs ≡ os
+  zip_octets law [] [] z = refl
+  zip_octets law [] (o ∷ os) z = absurd z
+  zip_octets law (x ∷ xs) [] z = absurd z
+  zip_octets law (x ∷ xs) (o ∷ os) z = ap (λ y. y ∷ map (λ x. header x ++ content x) xs) (strict_written value Form Writable constructed header content law x o z.0).1 ∙ ap (λ ys. o ∷ ys) (zip_octets law xs os z.1)
+
+  zip_writable : Law → (xs : List S) (os : List (List ℕ)) → AllZip (IsStrict Form) (map value xs) os → All Writable xs
+  zip_writable law [] os z = All-nil Writable
+  zip_writable law (x ∷ xs) [] z = absurd z
+  zip_writable law (x ∷ xs) (o ∷ os) z = All-cons Writable x xs (strict_written value Form Writable constructed header content law x o z.0).0 (zip_writable law xs os z.1)
+
+  either_none : (x : S) → Writable x → HasNone (Either (heading x) (filling x))
+  either_none x w e (inl o) = w.1 e o
+  either_none x w e (inr o) = w.2 e o
+
+  module _ {M : Type 0} (of : List V → M) (Each : List V → Type 0) (law : Law) (xs : List S) (c : List ℕ) (m : M) (j : Joins of Each Form m c) (moved : ∥ IsPermutation j.items (map value xs) ∥₁) where
+    set_written : set_content (λ x. header x ++ content x) xs ≡ c
+    set_written =
+        ap joining (∥∥₁_elim moved (strings_set _ _) (λ p.
+        let t = zip_permutation (IsStrict Form) j.items (map value xs) j.strings p j.each in
+        let k : map (λ x. header x ++ content x) xs ≡ t.0 = zip_octets law xs t.0 t.1 in
+        Ascending-unique (arranged (map (λ x. header x ++ content x) xs)) j.strings
+        (IsPermutation-trans _ _ _ (IsPermutation-sym _ _ (arranged_moves (map (λ x. header x ++ content x) xs))) (IsPermutation-sym _ _ (subst (IsPermutation j.strings) (sym k) t.2)))
+        (arranged_ascends (map (λ x. header x ++ content x) xs)) j.ascend)) ∙ j.joined
+
+    -- that nothing is refused is no datum, so it may be taken out of the quotient
+    no_refusal : {E : Type 0} (refuses : S → E → Type 0) → ((x : S) → Writable x → HasNone (refuses x)) → HasNone (SomeRefuses refuses xs)
+    no_refusal refuses none e o = ∥∥₁_elim moved (λ a. absurd a) (λ p.
+        let t = zip_permutation (IsStrict Form) j.items (map value xs) j.strings p j.each in
+        let a : All Writable xs = zip_writable law xs t.0 t.1 in
+        none_refuses refuses xs (λ k d h. none (slice_index_or xs k d) (a k d h)) e o)
+
+    -- a set in DER form is written as its strict parts
+    pub set_writes_form : (i : Identifier) → i ≡ universal true 17 →
+        IsWritable (SomeRefuses counting xs) (WrittenRefusal (SomeRefuses counting xs)) (SomeRefuses (λ x. IntoVector (Either (heading x) (filling x))) xs) × (true ≡ i.constructed) × (set_content (λ x. header x ++ content x) xs ≡ c) × (header_octets 0 true 17 (length (set_content (λ x. header x ++ content x) xs)) ≡ header_of i c)
+    set_writes_form i f =
+        let n : HasNone (SomeRefuses counting xs) = no_refusal counting (λ x w. w.0) in (
+          (n, λ e o. n o.0 o.1, no_refusal (λ x. IntoVector (Either (heading x) (filling x))) (λ x w. none_into (Either (heading x) (filling x)) (either_none x w))),
+          sym (ap (λ (z : Identifier). z.constructed) f),
+          set_written,
+          ap (λ (z : List ℕ). header_octets 0 true 17 (length z)) set_written ∙ ap (λ (z : Identifier). header_of z c) (sym f),
+        )
+
+-- Each way to stand for a collection is kept in another order, and so is the collection.
+module _ {V M : Type 0} (of : List V → M) (Each : List V → Type 0)
+    (stays : (vs ws : List V) → IsPermutation vs ws → Each vs → Each ws) (same : (vs ws : List V) → IsPermutation vs ws → of vs ≡ of ws) where
+  -- so a set in DER form has strict parts
+  pub set_has_form : {S : Type 0} (value : S → V) (IsDer : V → Type 0) (Form : V → Identifier → List ℕ → Type 0) (header content : S → List ℕ) →
+      ((x : S) → IsDer (value x) → length (header x ++ content x) < 2 ^ 64 → ∥ IsStrict Form (value x) (header x ++ content x) ∥₁) →
+      (xs : List S) (m : M) (d : SetInDer of Each IsDer m) → ∥ IsPermutation d.0 (map value xs) ∥₁ → length (set_content (λ x. header x ++ content x) xs) < 2 ^ 64 →
+      ∥ ((i : Identifier) × SetForm of Each Form m i (set_content (λ x. header x ++ content x) xs)) ∥₁
+  set_has_form {S} value IsDer Form header content strict xs m d moved l =
+      ∥∥₁_elim moved ∥∥₁_prop (λ p. ∥∥₁_map (zip_written value IsDer Form octets strict xs (All-permutation IsDer d.0 (map value xs) p d.3) short) (λ z. (universal true 17, (refl, joins p z))))
+    where
+      octets : S → List ℕ
+      octets x = header x ++ content x
+
+      short : length (flat_map octets xs) < 2 ^ 64
+      short = omega (arith, arranged_length octets xs, l)
+
+      joins : IsPermutation d.0 (map value xs) → AllZip (IsStrict Form) (map value xs) (map octets xs) → Joins of Each Form m (set_content octets xs)
+      joins p z =
+          let t = zip_permutation (λ o v. IsStrict Form v o) (map octets xs) (arranged (map octets xs)) (map value xs) (arranged_moves (map octets xs)) (zip_turn (IsStrict Form) (map value xs) (map octets xs) z) in
+          let q = IsPermutation-trans d.0 (map value xs) t.0 p t.2 in
+          record {
+            items = t.0;
+            strings = arranged (map octets xs);
+            once = stays d.0 t.0 q d.1;
+            are = sym (same d.0 t.0 q) ∙ d.2;
+            each = zip_turn (λ o v. IsStrict Form v o) (arranged (map octets xs)) t.0 t.1;
+            ascend = arranged_ascends (map octets xs);
+            joined = refl;
+          }
+
+pub same_multiset : {V : Type 0} (vs ws : List V) → IsPermutation vs ws → multiset vs ≡ multiset ws
+same_multiset vs ws p = sound p
+
+pub same_set : {V : Type 0} (vs ws : List V) → IsPermutation vs ws → set_of vs ≡ set_of ws
+same_set vs ws p = ap inl (sound (λ v. (Contains-permutation vs ws v p, Contains-permutation ws vs v (IsPermutation-sym vs ws p))))
+
+both_true : (a b : Bool) → (a && b) ≡ true → (a ≡ true) × (b ≡ true)
+both_true true b h = (refl, h)
+both_true false b h = absurd (true≢false (sym h))
+
+true_both : (a b : Bool) → a ≡ true → b ≡ true → (a && b) ≡ true
+true_both true b h k = k
+true_both false b h k = h
+
+-- v stands in the list
+abbrev In : {V : Type 0} → V → List V → Type 0
+In v [] = ⊥
+In v (x ∷ xs) = (x ≡ v) ⊎ In v xs
+
+module _ {V : Type 0} where
+  in_from_contains : (v : V) (xs : List V) → Contains xs v → In v xs
+  in_from_contains v xs c = at xs c.0 c.1 c.2
+    where
+      at : (xs : List V) (k : ℕ) → k < length xs → get_or xs k v ≡ v → In v xs
+      at [] k l e = absurd (omega (arith, l))
+      at (x ∷ xs) zero l e = inl e
+      at (x ∷ xs) (suc k) l e = inr (at xs k (omega (arith, l)) e)
+
+  contains_from_in : (v : V) (xs : List V) → In v xs → Contains xs v
+  contains_from_in v [] h = absurd h
+  contains_from_in v (x ∷ xs) (inl e) = (0, omega arith, e)
+  contains_from_in v (x ∷ xs) (inr h) = let c = contains_from_in v xs h in (suc c.0, omega (arith, c.1), c.2)
+
+is_less : (r : Ordering) → is_lt r ≡ true → r ≡ Less
+is_less Less h = refl
+is_less Equal h = absurd (true≢false (sym h))
+is_less Greater h = absurd (true≢false (sym h))
+
+-- rows of keys as members of a set
+module _ {S V : Type 0} (test : S → S → Bool) (value : S → V) (apart : (x y : S) → test x y ≡ true → value x ≡ value y → ⊥) where
+  first_apart : (x : S) (xs : List S) → list_all (test x) xs ≡ true → Contains (map value xs) (value x) → ⊥
+  first_apart x xs h c = at xs h c.0 c.1 c.2
+    where
+      at : (ys : List S) → list_all (test x) ys ≡ true → (i : ℕ) → i < length (map value ys) → get_or (map value ys) i (value x) ≡ value x → ⊥
+      at [] h i l e = absurd (omega (arith, l))
+      at (y ∷ ys) h zero l e = apart x y (both_true (test x y) (list_all (test x) ys) h).0 (sym e)
+      at (y ∷ ys) h (suc i) l e = at ys (both_true (test x y) (list_all (test x) ys) h).1 i (omega (arith, l)) e
+
+  pub pairs_differ : (xs : List S) → pairs_pass test xs ≡ true → AllDiffer (map value xs)
+  pairs_differ [] h = tt
+  pairs_differ (x ∷ xs) h = (let t = both_true (list_all (test x) xs) (pairs_pass test xs) h in (first_apart x xs t.0, pairs_differ xs t.1))
+
+  -- rows that stand for the same have the same values, in some order
+  pub members_moved : (xs ys : List S) → members test value xs ≡ members test value ys → ∥ IsPermutation (map value xs) (map value ys) ∥₁
+  members_moved xs ys =
+      elim (pairs_pass test xs) as (λ a. pairs_pass test xs ≡ a → members_if a (map value xs) ≡ members test value ys → ∥ IsPermutation (map value xs) (map value ys) ∥₁) [
+        | true ↦ λ p. elim (pairs_pass test ys) as (λ b. pairs_pass test ys ≡ b → set_of (map value xs) ≡ members_if b (map value ys) → ∥ IsPermutation (map value xs) (map value ys) ∥₁) [
+          | true ↦ λ q e. permutation_from_set (map value xs) (map value ys) (pairs_differ xs p) (pairs_differ ys q) e
+          | false ↦ λ q e. kinds_apart (value_set (map value xs)) (map value ys) e
+        ] refl
+        | false ↦ λ p. elim (pairs_pass test ys) as (λ b. ◌≡◌ {A = Members V} (inr (map value xs)) (members_if b (map value ys)) → ∥ IsPermutation (map value xs) (map value ys) ∥₁) [
+          | true ↦ λ e. kinds_apart (value_set (map value ys)) (map value xs) (sym e)
+          | false ↦ λ e. ∣ subst (IsPermutation (map value xs)) (row_inj (map value xs) (map value ys) e) (IsPermutation-refl (map value xs)) ∣₁
+        ]
+      ] refl
+
+  -- and a row that stands for a set has its values, each once
+  pub members_are : (xs : List S) (vs : List V) → AllDiffer vs → set_of vs ≡ members test value xs → ∥ IsPermutation vs (map value xs) ∥₁
+  members_are xs vs h =
+      elim (pairs_pass test xs) as (λ a. pairs_pass test xs ≡ a → set_of vs ≡ members_if a (map value xs) → ∥ IsPermutation vs (map value xs) ∥₁) [
+        | true ↦ λ p e. permutation_from_set vs (map value xs) h (pairs_differ xs p) e
+        | false ↦ λ p e. kinds_apart (value_set vs) (map value xs) e
+      ] refl
+
+-- what std tells of the keys of a set in hand
+all_below : {S : Type 0} (cmp : S → S → Ordering) (x : S) (xs : List S) → AllByRecursion (λ y. cmp x y ≡ Less) xs → list_all (is_below cmp x) xs ≡ true
+all_below cmp x [] h = refl
+all_below cmp x (y ∷ ys) h = true_both (is_below cmp x y) (list_all (is_below cmp x) ys) (ap is_lt h.0) (all_below cmp x ys h.1)
+
+pub ordered_pass : {S : Type 0} (cmp : S → S → Ordering) (xs : List S) → IsStrictlySortedBy cmp xs → pairs_pass (is_below cmp) xs ≡ true
+unfolding IsStrictlySortedBy
+ordered_pass cmp [] h = refl
+ordered_pass cmp (x ∷ xs) h = true_both (list_all (is_below cmp x) xs) (pairs_pass (is_below cmp) xs) (all_below cmp x xs h.0) (ordered_pass cmp xs h.1)
+
+-- the members of keys that std holds are a set
+pub members_pass : {S V : Type 0} (test : S → S → Bool) (value : S → V) (xs : List S) → pairs_pass test xs ≡ true → members test value xs ≡ set_of (map value xs)
+members_pass test value xs h = ap (λ b. members_if b (map value xs)) h
+
+-- keys that pass differ in value, where their equality is that of their values
+module _ {S V : Type 0} (eq : S → S → Bool) (value : S → V) (same : (x y : S) → IsTrue (eq x y) ↔ (value x ≡ value y)) where
+  module _ (cmp : S → S → Ordering) (total : IsTotalOrder cmp) (matches : (x y : S) → eq x y ≡ eq_by_cmp cmp x y) where
+    tie : (x y : S) → value x ≡ value y → cmp x y ≡ Equal
+    tie x y e = (Equal-is (cmp x y)).0 (sym (matches x y) ∙ (same x y).1 e)
+
+    pub below_apart : (x y : S) → is_below cmp x y ≡ true → value x ≡ value y → ⊥
+    below_apart x y h e = true≢false (sym h ∙ ap is_lt (tie x y e))
+
+    -- the order of keys follows from their values
+    cmp_by_value : (x y a b : S) → value x ≡ value a → value y ≡ value b → cmp x y ≡ cmp a b
+    cmp_by_value x y a b e f = total.congr x a y (tie x a e) ∙ alike_right total y b a (tie y b f)
+
+    all_by_value : (x a : S) (ys bs : List S) → value x ≡ value a → map value ys ≡ map value bs → list_all (is_below cmp x) ys ≡ list_all (is_below cmp a) bs
+    all_by_value x a [] [] e f = refl
+    all_by_value x a [] (b ∷ bs) e f = cc
+    all_by_value x a (y ∷ ys) [] e f = cc
+    all_by_value x a (y ∷ ys) (b ∷ bs) e f =
+        let head : value y ≡ value b = cc in
+        let tail : map value ys ≡ map value bs = cc in
+        ap (λ o. is_lt o && list_all (is_below cmp x) ys) (cmp_by_value x y a b e head) ∙ ap (λ p. is_below cmp a b && p) (all_by_value x a ys bs e tail)
+
+    pass_by_value : (xs ys : List S) → map value xs ≡ map value ys → pairs_pass (is_below cmp) xs ≡ pairs_pass (is_below cmp) ys
+    pass_by_value [] [] e = refl
+    pass_by_value [] (y ∷ ys) e = cc
+    pass_by_value (x ∷ xs) [] e = cc
+    pass_by_value (x ∷ xs) (y ∷ ys) e =
+        let head : value x ≡ value y = cc in
+        let tail : map value xs ≡ map value ys = cc in
+        ap (λ p. p && pairs_pass (is_below cmp) xs) (all_by_value x y xs ys head tail) ∙ ap (λ p. list_all (is_below cmp y) ys && p) (pass_by_value xs ys tail)
+
+    -- the key above x that has the value v
+    key_above : (v : V) (x : S) (ks : List S) → list_all (is_below cmp x) ks ≡ true → In v (map value ks) → (k : S) × (value k ≡ v) × (cmp x k ≡ Less)
+    key_above v x [] a i = absurd i
+    key_above v x (k ∷ ks) a (inl e) = (k, e, is_less (cmp x k) (both_true (is_below cmp x k) (list_all (is_below cmp x) ks) a).0)
+    key_above v x (k ∷ ks) a (inr i) = key_above v x ks (both_true (is_below cmp x k) (list_all (is_below cmp x) ks) a).1 i
+
+    same_first : (x y : S) (xs ys : List S) → list_all (is_below cmp x) xs ≡ true → list_all (is_below cmp y) ys ≡ true → In (value x) (map value (y ∷ ys)) → In (value y) (map value (x ∷ xs)) → value x ≡ value y
+    same_first x y xs ys a b (inl e) j = sym e
+    same_first x y xs ys a b (inr i) (inl e) = e
+    same_first x y xs ys a b (inr i) (inr j) =
+        let s = key_above (value x) y ys b i in
+        let t = key_above (value y) x xs a j in
+        let up : cmp x y ≡ Less = alike_right total y t.0 x (tie y t.0 (sym t.1)) ∙ t.2 in
+        let down : cmp y x ≡ Less = alike_right total x s.0 y (tie x s.0 (sym s.1)) ∙ s.2 in
+        absurd (true≢false (ap is_gt (ap ordering_reverse (sym down) ∙ sym (total.antisymm x y) ∙ up)))
+
+    not_again : (x : S) (xs : List S) → list_all (is_below cmp x) xs ≡ true → In (value x) (map value xs) → ⊥
+    not_again x xs a i =
+        let s = key_above (value x) x xs a i in
+        true≢false (ap is_eq (sym (tie x s.0 (sym s.1)) ∙ s.2))
+
+    -- ascending keys with the same values are the same row of values
+    same_rows : (xs ys : List S) → pairs_pass (is_below cmp) xs ≡ true → pairs_pass (is_below cmp) ys ≡ true → ((v : V) → In v (map value xs) → In v (map value ys)) → ((v : V) → In v (map value ys) → In v (map value xs)) → map value xs ≡ map value ys
+    same_rows [] [] h k f g = refl
+    same_rows [] (y ∷ ys) h k f g = absurd (g (value y) (inl refl))
+    same_rows (x ∷ xs) [] h k f g = absurd (f (value x) (inl refl))
+    same_rows (x ∷ xs) (y ∷ ys) h k f g =
+        ap (λ v. v ∷ map value xs) e
+        ∙ ap (λ vs. value y ∷ vs) (same_rows xs ys p.1 q.1
+        (λ v i. ⊎_elim (λ r. absurd (not_again x xs p.0 (subst (λ z. In z (map value xs)) (sym (e ∙ r)) i))) (λ j. j) (f v (inr i)))
+        (λ v i. ⊎_elim (λ r. absurd (not_again y ys q.0 (subst (λ z. In z (map value ys)) (sym (sym e ∙ r)) i))) (λ j. j) (g v (inr i))))
+      where
+        p : (list_all (is_below cmp x) xs ≡ true) × (pairs_pass (is_below cmp) xs ≡ true)
+        p = both_true (list_all (is_below cmp x) xs) (pairs_pass (is_below cmp) xs) h
+
+        q : (list_all (is_below cmp y) ys ≡ true) × (pairs_pass (is_below cmp) ys ≡ true)
+        q = both_true (list_all (is_below cmp y) ys) (pairs_pass (is_below cmp) ys) k
+
+        e : value x ≡ value y
+        e = same_first x y xs ys p.0 q.0 (f (value x) (inl refl)) (g (value y) (inl refl))
+
+    pointwise_from_values : (xs ys : List S) → ∥ map value xs ≡ map value ys ∥₁ → IsTrue (pointwise eq xs ys)
+    pointwise_from_values xs ys m = ∥∥₁_elim m (Bool-set _ _) (λ e. (same_lists eq value same xs ys).1 e)
+
+    -- sets in the order of their keys are equal exactly where their members are
+    pub same_members : (xs ys : List S) → IsTrue (pointwise eq xs ys) ↔ (members (is_below cmp) value xs ≡ members (is_below cmp) value ys)
+    same_members xs ys = (to, λ e. pointwise_from_values xs ys (from e))
+      where
+        to : IsTrue (pointwise eq xs ys) → members (is_below cmp) value xs ≡ members (is_below cmp) value ys
+        to h = let e = (same_lists eq value same xs ys).0 h in
+            ap (λ b. members_if b (map value xs)) (pass_by_value xs ys e) ∙ ap (λ vs. members_if (pairs_pass (is_below cmp) ys) vs) e
+
+        from : members (is_below cmp) value xs ≡ members (is_below cmp) value ys → ∥ map value xs ≡ map value ys ∥₁
+        from =
+            elim (pairs_pass (is_below cmp) xs) as (λ a. pairs_pass (is_below cmp) xs ≡ a → members_if a (map value xs) ≡ members (is_below cmp) value ys → ∥ map value xs ≡ map value ys ∥₁) [
+              | true ↦ λ p. elim (pairs_pass (is_below cmp) ys) as (λ b. pairs_pass (is_below cmp) ys ≡ b → set_of (map value xs) ≡ members_if b (map value ys) → ∥ map value xs ≡ map value ys ∥₁) [
+                | true ↦ λ q e. ∥∥₁_map (have_same_from_value_set (map value xs) (map value ys) (set_inj (value_set (map value xs)) (value_set (map value ys)) e)) (λ r. same_rows xs ys p q
+                    (λ v i. in_from_contains v (map value ys) ((r v).0 (contains_from_in v (map value xs) i)))
+                    (λ v i. in_from_contains v (map value xs) ((r v).1 (contains_from_in v (map value ys) i))))
+                | false ↦ λ q e. kinds_apart (value_set (map value xs)) (map value ys) e
+              ] refl
+              | false ↦ λ p. elim (pairs_pass (is_below cmp) ys) as (λ b. ◌≡◌ {A = Members V} (inr (map value xs)) (members_if b (map value ys)) → ∥ map value xs ≡ map value ys ∥₁) [
+                | true ↦ λ e. kinds_apart (value_set (map value ys)) (map value xs) (sym e)
+                | false ↦ λ e. ∣ row_inj (map value xs) (map value ys) e ∣₁
+              ]
+            ] refl
+
+-- what is collected from items has their values
+module _ {S V : Type 0} (test : S → S → Bool) (value : S → V) (is : (x y : S) → IsTrue (test x y) ↔ (value x ≡ value y)) where
+  any_in : (x : S) (ks : List S) → list_any (test x) ks ≡ true → In (value x) (map value ks)
+  any_in x [] h = absurd (true≢false (sym h))
+  any_in x (k ∷ ks) h =
+      elim (test x k) as (λ b. test x k ≡ b → (b || list_any (test x) ks) ≡ true → In (value x) (value k ∷ map value ks)) [
+        | true ↦ λ q r. inl (sym ((is x k).0 q))
+        | false ↦ λ q r. inr (any_in x ks r)
+      ] refl h
+
+  in_any : (v : V) (ks : List S) → In v (map value ks) → (x : S) × (value x ≡ v) × (list_any (test x) ks ≡ true)
+  in_any v [] i = absurd i
+  in_any v (k ∷ ks) (inl e) = (k, e, ap (λ b. b || list_any (test k) ks) (let t : test k k ≡ true = (is k k).1 refl in t))
+  in_any v (k ∷ ks) (inr i) = let t = in_any v ks i in (t.0, t.1, later (test t.0 k) (list_any (test t.0) ks) t.2)
+    where
+      later : (a b : Bool) → b ≡ true → (a || b) ≡ true
+      later true b h = refl
+      later false b h = h
+
+  move_values : (ks xs : List S) → ((q : S) → list_any (test q) ks ≡ list_any (test q) xs) → (v : V) → Contains (map value ks) v → Contains (map value xs) v
+  move_values ks xs h v c =
+      let t = in_any v ks (in_from_contains v (map value ks) c) in
+      contains_from_in v (map value xs) (subst (λ w. In w (map value xs)) t.1 (any_in t.0 xs (sym (h t.0) ∙ t.2)))
+
+  pub collected_values : (ks xs : List S) → ((q : S) → list_any (test q) ks ≡ list_any (test q) xs) → set_of (map value ks) ≡ set_of (map value xs)
+  collected_values ks xs h = ap inl (sound (λ v. (move_values ks xs h v, move_values xs ks (λ q. sym (h q)) v)))
+
+-- an exact reader of lists is one of what is collected from them
+module _ {T V W M E : Type 0} (holds : List T → W → Type 0) (of : List V → M) (worth : W → M) (reads : List ℕ → Result (List ℕ × T) (Refusal E) → Type 0) (from : Error → E → Type 0) (G : List ℕ → V → Type 0) (value : T → V) (takes : Bool) (IsCut : List ℕ → Type 0)
+    (told : (items : List T) (w : W) → holds items w → of (map value items) ≡ worth w)
+    (one : IsOneFront G)
+    (exact : (octets : List ℕ) (answer : Result (List ℕ × T) (Refusal E)) → IsOctets octets → reads octets answer → Exactly IsCut G value (TellsMemory takes from) octets answer) where
+  pub set_takes : (any : Any) (answer : Result W E) → IsOctets any.content.now → OfParts (ListTakes 17 holds reads from) any answer → TakesBody (SetBody of G) worth true from (parts_of any) answer
+  set_takes any (Ok w) o t = (
+    map value t.1.0,
+    told t.1.0 w t.1.1,
+    list_takes 17 (λ (xs : List T) (ys : List T). ys ≡ xs) (map value) reads from G value takes IsCut (λ xs ys e. ap (map value) (sym e)) one exact any (Ok t.1.0) o (t.0, (t.1.0, refl, t.1.2)),
+  )
+  set_takes any (Err e) o t = elim (list_takes {W = List T} 17 (λ (xs : List T) (ys : List T). ys ≡ xs) (map value) reads from G value takes IsCut (λ xs ys e. ap (map value) (sym e)) one exact any (Err e) o t) [ inl m ↦ inl m | inr none ↦ inr (λ m b. none b.0 b.2) ]
+
+  pub set_reads : (any : Any) (answer : Result W E) → IsOctets any.content.now → OfParts (ListReads 17 holds reads from) any answer → TakesBody (SetRow of G) worth true from (parts_of any) answer
+  set_reads any (Ok w) o t = (
+    map value t.1.0,
+    told t.1.0 w t.1.1,
+    list_reads 17 (λ (xs : List T) (ys : List T). ys ≡ xs) (map value) reads from G value takes IsCut (λ xs ys e. ap (map value) (sym e)) one exact any (Ok t.1.0) o (t.0, (t.1.0, refl, t.1.2)),
+  )
+  set_reads any (Err e) o t = elim (list_reads {W = List T} 17 (λ (xs : List T) (ys : List T). ys ≡ xs) (map value) reads from G value takes IsCut (λ xs ys e. ap (map value) (sym e)) one exact any (Err e) o t) [ inl m ↦ inl m | inr none ↦ inr (λ m b. none b.0 b.2) ]
+
+-- what std collects into a set stands for the values of the items
+module _ {S V : Type 0} (eq : S → S → Bool) (value : S → V) (same : (x y : S) → IsTrue (eq x y) ↔ (value x ≡ value y)) (cmp : S → S → Ordering) (matches : (x y : S) → eq x y ≡ eq_by_cmp cmp x y) where
+  ties_same : (x y : S) → IsTrue (eq_by_cmp cmp x y) ↔ (value x ≡ value y)
+  ties_same x y = (λ h. (same x y).0 (matches x y ∙ h), λ e. sym (matches x y) ∙ (same x y).1 e)
+
+  pub tree_told : (items : List S) (s : BTreeSet S) → IsFromIterResult cmp items s → set_of (map value items) ≡ members (is_below cmp) value s.keys
+  tree_told items s h = sym (collected_values (eq_by_cmp cmp) value ties_same s.keys items h.0) ∙ sym (members_pass (is_below cmp) value s.keys (ordered_pass cmp s.keys h.1))
+
+-- so each of the two kinds of sets has strict parts where it is in DER form
+module _ {S V : Type 0} (value : S → V) (IsDer : V → Type 0) (Form : V → Identifier → List ℕ → Type 0) (header content : S → List ℕ)
+    (strict : (x : S) → IsDer (value x) → length (header x ++ content x) < 2 ^ 64 → ∥ IsStrict Form (value x) (header x ++ content x) ∥₁) where
+  pub multiset_has_form : (xs : List S) → SetInDer multiset AnyList IsDer (multiset (map value xs)) →
+      length (set_content (λ x. header x ++ content x) xs) < 2 ^ 64 →
+      ∥ ((i : Identifier) × SetForm multiset AnyList Form (multiset (map value xs)) i (set_content (λ x. header x ++ content x) xs)) ∥₁
+  multiset_has_form xs d l =
+      set_has_form multiset AnyList (λ vs ws p h. tt) same_multiset value IsDer Form header content strict xs (multiset (map value xs)) d (permutation_from_multiset d.0 (map value xs) d.2) l
+
+  pub members_have_form : (test : S → S → Bool) → ((x y : S) → test x y ≡ true → value x ≡ value y → ⊥) → (xs : List S) → SetInDer set_of AllDiffer IsDer (members test value xs) →
+      length (set_content (λ x. header x ++ content x) xs) < 2 ^ 64 →
+      ∥ ((i : Identifier) × SetForm set_of AllDiffer Form (members test value xs) i (set_content (λ x. header x ++ content x) xs)) ∥₁
+  members_have_form test apart xs d l =
+      set_has_form set_of AllDiffer AllDiffer-permutation same_set value IsDer Form header content strict xs (members test value xs) d (members_are test value apart xs d.0 d.1 d.2) l
+
+-- the values of a set of the library's own
+pub multiset_told : {T V : Type 0} (value : T → V) (items : List T) (s : SetOf T) → HasItems items s → multiset (map value items) ≡ multiset (map value (items_of s))
+multiset_told value items s h = ap multiset (ap (map value) (sym h))

@@ -1,0 +1,108 @@
+-- Walking over the items in contents octets.
+use Rattle.std.specs.Prelude.{ℕ, Bool, true, IsTrue, ◌≡◌, ◌≢◌, ◌<◌, ◌≤◌, ◌⊎◌, List, [], ◌∷◌, ◌++◌, length, map, Result, Ok, Err, Option, Some, None}
+use Rattle.std.specs.List.{AllZip, concat}
+use Rattle.std.specs.Iterator.Runs.{Run}
+use Rattle.asn1_rs.specs.declared.error.Err.{Err as Refusal}
+use Rattle.asn1_rs.specs.declared.error.Error.{Error}
+use Rattle.asn1_rs.specs.declared.error.Error.TheVariants as errors
+use Rattle.asn1_rs.specs.declared.asn1_types.sequence.iterator.SequenceIterator.{SequenceIterator}
+use Rattle.asn1_rs.specs.Error.{FlattenedTo}
+use Rattle.x690.specs.Octets.{IsOctets}
+use Rattle.asn1_rs.specs.Answers.{NoFront, Exactly}
+use Rattle.asn1_rs.specs.Grammar.{IsOneFront}
+use Rattle.asn1_rs.specs.declared.asn1_types.any.Any.{Any}
+use Rattle.asn1_rs.specs.Any.{IsTheElement}
+use Rattle.asn1_rs.specs.Traits.{BerGives}
+
+-- the octets that are left
+abbrev pub octets_left : {T F E : Type 0} → SequenceIterator T F E → List ℕ
+octets_left s = s.left.now
+
+-- The error that a reader's answer ends a walk with: the item's own refusal, or that octets are missing of it; `InvalidLength` where as much is given back as there was, or more.
+abbrev pub EndsItem : {T E : Type 0} → (Error → E → Type 0) → List ℕ → Result (List ℕ × T) (Refusal E) → E → Type 0
+EndsItem from left (Ok read) e = (length left ≤ length read.0) × from errors.InvalidLength e
+EndsItem from left (Err r) e = FlattenedTo (λ x y. y ≡ x) from r e
+
+-- What a call of `next` answers where octets are left, and what is left then: the next item and what follows it, fewer octets than before; its refusal, and nothing is left; or nothing, at the end alone.
+abbrev pub TakesItem : {T E : Type 0} → (List ℕ → Result (List ℕ × T) (Refusal E) → Type 0) → (Error → E → Type 0) → List ℕ → Option (Result T E) → List ℕ → Type 0
+TakesItem reads from left None after = (left ≡ []) × (after ≡ [])
+TakesItem reads from left (Some (Ok item)) after = (left ≢ []) × reads left (Ok (after, item)) × (length after < length left)
+TakesItem {T} {E} reads from left (Some (Err e)) after = (left ≢ []) × ((answer : Result (List ℕ × T) (Refusal E)) × reads left answer × EndsItem from left answer e) × (after ≡ [])
+
+-- A reader takes an item exactly where a word of the grammar begins the octets, and one word alone begins an input.
+pub record ReadsExactly {T V E : Type 0} (IsCut : List ℕ → Type 0) (G : List ℕ → V → Type 0) (value : T → V) (memory : Refusal E → Type 0) (reads : List ℕ → Result (List ℕ × T) (Refusal E) → Type 0) : Type 0 where
+  pub one_word : IsOneFront G
+  pub takes : (octets : List ℕ) (answer : Result (List ℕ × T) (Refusal E)) → IsOctets octets → reads octets answer → Exactly IsCut G value memory octets answer
+
+-- What a call of `next` on the iterator answers, and the iterator that it leaves.
+abbrev pub WalkSteps : {T F E : Type 0} → (List ℕ → Result (List ℕ × T) (Refusal E) → Type 0) → (Error → E → Type 0) → SequenceIterator T F E → Option (Result T E) → SequenceIterator T F E → Type 0
+WalkSteps reads from s answer t = TakesItem reads from (octets_left s) answer (octets_left t)
+
+-- How a walk ended so far, where these octets were not taken: they are left; or one refusal told of them, and nothing is left.
+abbrev pub EndsWalk : {T E : Type 0} → (List ℕ → E → Type 0) → List ℕ → List (Result T E) → List ℕ → Type 0
+EndsWalk Tells octets [] left = left ≡ octets
+EndsWalk Tells octets (Err e ∷ []) left = (octets ≢ []) × Tells octets e × (left ≡ [])
+EndsWalk Tells octets _ left = ⊥
+
+-- What the calls of `next` gave so far: the values of words, whose joining begins the contents octets, and then perhaps one refusal of what follows them.
+pub record IsWalk {T V E : Type 0} (G : List ℕ → V → Type 0) (value : T → V) (Tells : List ℕ → E → Type 0) (content : List ℕ) (answers : List (Result T E)) (left : List ℕ) : Type 0 where
+  pub words : List (List ℕ)
+  pub items : List T
+  pub others : List ℕ
+  pub ends : List (Result T E)
+  pub answers_are : answers ≡ map Ok items ++ ends
+  pub values : AllZip (λ word item. G word (value item)) words items
+  pub joined : content ≡ concat words ++ others
+  pub end : EndsWalk Tells others ends left
+
+-- What the calls that std's consumers make give is a walk, and where they went on to `None`, nothing is left.
+pub record IsWalkOf {T F V E : Type 0} {steps : SequenceIterator T F E → Option (Result T E) → SequenceIterator T F E → Type 0} (G : List ℕ → V → Type 0) (value : T → V) (Tells : List ℕ → E → Type 0) (run : Run steps) : Type 0 where
+  pub left : List ℕ
+  pub walk : IsWalk G value Tells (octets_left run.from) run.items left
+  pub whole : run.whole ≡ true → left ≡ []
+
+-- The octets are words of the grammar with these values, joined in their order.
+abbrev pub IsJoined : {V : Type 0} → (List ℕ → V → Type 0) → List ℕ → List V → Type 0
+IsJoined G octets [] = octets ≡ []
+IsJoined G octets (v ∷ vs) = (word : List ℕ) × (rest : List ℕ) × G word v × (octets ≡ word ++ rest) × IsJoined G rest vs
+
+-- Words of the grammar with these values begin the octets, and something is left behind them, of which the refusal tells.
+pub record EndsJoined {V E : Type 0} (G : List ℕ → V → Type 0) (Tells : List ℕ → E → Type 0) (octets : List ℕ) (values : List V) (e : E) : Type 0 where
+  pub front : List ℕ
+  pub others : List ℕ
+  pub is : octets ≡ front ++ others
+  pub joined : IsJoined G front values
+  pub some : others ≢ []
+  pub tells : Tells others e
+
+-- each of them is a word of the grammar
+abbrev pub AreWords : {V : Type 0} → (List ℕ → V → Type 0) → List (List ℕ) → Type 0
+AreWords G [] = Unit {0}
+AreWords {V} G (word ∷ words) = ((v : V) × G word v) × AreWords G words
+
+-- the octets are a joining of words of the grammar
+abbrev pub AreJoinedWords : {V : Type 0} → (List ℕ → V → Type 0) → List ℕ → Type 0
+AreJoinedWords G octets = (words : List (List ℕ)) × AreWords G words × (octets ≡ concat words)
+
+-- a refusal tells that no word begins what is left, or reports out of memory, where the reader allocates
+abbrev pub TellsNoWord : {V E : Type 0} → (List ℕ → V → Type 0) → (E → Type 0) → List ℕ → E → Type 0
+TellsNoWord G memory octets e = memory e ⊎ NoFront G octets
+
+-- where a word begins what is left a refusal reports out of memory alone
+abbrev pub TellsMemoryAlone : {E : Type 0} → (E → Type 0) → List ℕ → E → Type 0
+TellsMemoryAlone memory octets e = memory e
+
+-- the error reports out of memory, where the reader allocates
+abbrev pub IsMemory : {E : Type 0} → Bool → (Error → E → Type 0) → E → Type 0
+IsMemory takes from e = IsTrue takes × from errors.OutOfMemory e
+
+-- where no refusal is told
+abbrev pub TellsNothing : {E : Type 0} → List ℕ → E → Type 0
+TellsNothing octets e = ⊥
+
+abbrev pub IsSame : Error → Error → Type 0
+IsSame e f = f ≡ e
+
+-- what a reader of elements by BER may answer
+abbrev pub ElementsGive : List ℕ → Result (List ℕ × Any) (Refusal Error) → Type 0
+ElementsGive = BerGives IsTheElement IsSame

@@ -1,0 +1,155 @@
+-- Sets: elements whose contents octets are items in any order, and are written in ascending order (X.690 11.6).
+use Rattle.std.specs.Prelude.{◌≡◌, ◌⊎◌, ◌↔◌, ℕ, Bool, true, false, ◌&&◌, List, [], ◌∷◌, map, Contains, if◌then◌else◌}
+use Rattle.std.specs.List.{All, AllZip, list_all}
+use Rattle.std.specs.List.Sorted.{IsSorted, IsPermutation}
+use Rattle.std.specs.Ordering.{nat_cmp, is_lt}
+use Rattle.std.specs.declared.cmp.Ordering.{Ordering}
+use Rattle.std.specs.Cmp.Lexicographic.{slice_cmp}
+use Rattle.std.proofs.Common.{inl, inr}
+use Rattle.x690.specs.Identifiers.{Identifier}
+use Rattle.asn1_rs.specs.declared.asn1_types.set.set_of.SetOf.{SetOf}
+use Rattle.x690.specs.Elements.{Parts}
+use Rattle.asn1_rs.specs.Grammar.Form.{IsStrict, UniversalForm}
+use Rattle.asn1_rs.specs.Grammar.{BerWord, DerWord, NoCheck}
+use Rattle.asn1_rs.specs.Grammar.Item.{ItemGrammar}
+use Rattle.asn1_rs.specs.Lists.{joining, ListBody, ListOf, ListCheck}
+use mathlib.Core.Quot.{Quot, mk}
+
+-- a multiset is a list up to the order of its items
+abbrev pub Multiset : Type 0 → Type 0
+Multiset V = Quot (IsPermutation {X = V})
+
+abbrev pub multiset : {V : Type 0} → List V → Multiset V
+multiset vs = mk vs
+
+-- the same values stand in both
+abbrev pub HaveSame : {V : Type 0} → List V → List V → Type 0
+HaveSame {V} xs ys = (v : V) → Contains xs v ↔ Contains ys v
+
+-- a set is a list up to order and repetition
+abbrev pub ValueSet : Type 0 → Type 0
+ValueSet V = Quot (HaveSame {V = V})
+
+abbrev pub value_set : {V : Type 0} → List V → ValueSet V
+value_set vs = mk vs
+
+-- no value stands twice
+abbrev pub AllDiffer : {V : Type 0} → List V → Type 0
+AllDiffer [] = Unit {0}
+AllDiffer (v ∷ vs) = (Contains vs v → ⊥) × AllDiffer vs
+
+-- What a row of keys stands for: a set; or, where the keys stand in no way in which a set keeps them, that row itself.
+-- Each set in hand is of the first kind, as its `len` and `iter` tell.
+abbrev pub Members : Type 0 → Type 0
+Members V = ValueSet V ⊎ List V
+
+abbrev pub set_of : {V : Type 0} → List V → Members V
+set_of vs = inl (value_set vs)
+
+-- each item passes the test with each one after it
+abbrev pub pairs_pass : {S : Type 0} → (S → S → Bool) → List S → Bool
+pairs_pass test [] = true
+pairs_pass test (x ∷ xs) = list_all (test x) xs && pairs_pass test xs
+
+abbrev pub members_if : {V : Type 0} → Bool → List V → Members V
+members_if true vs = set_of vs
+members_if false vs = inr vs
+
+abbrev pub members : {S V : Type 0} → (S → S → Bool) → (S → V) → List S → Members V
+members test value xs = members_if (pairs_pass test xs) (map value xs)
+
+-- keys in the order of a `BTreeSet`
+abbrev pub is_below : {S : Type 0} → (S → S → Ordering) → S → S → Bool
+is_below cmp x y = is_lt (cmp x y)
+
+-- no string is before the one in front of it, in dictionary order
+abbrev pub Ascending : List (List ℕ) → Type 0
+Ascending os = IsSorted (slice_cmp nat_cmp) os
+
+-- The octets are the ascending joining of strict encodings of the collection's items.
+-- `of` says what collection a list of items is, and Each how a list has to stand for it.
+pub record Joins {V M : Type 0} (of : List V → M) (Each : List V → Type 0) (Form : V → Identifier → List ℕ → Type 0) (m : M) (c : List ℕ) : Type 0 where
+  pub items : List V
+  pub strings : List (List ℕ)
+  pub once : Each items
+  pub are : of items ≡ m
+  pub each : AllZip (IsStrict Form) items strings
+  pub ascend : Ascending strings
+  pub joined : joining strings ≡ c
+
+-- any list is a multiset's
+abbrev pub AnyList : {V : Type 0} → List V → Type 0
+AnyList vs = Unit {0}
+
+-- values of one grammar, seen as another's
+abbrev pub Seen : {X V W : Type 0} → (V → W) → (X → V → Type 0) → X → W → Type 0
+Seen {X} {V} f G o w = (v : V) × (f v ≡ w) × G o v
+
+-- the bodies of sets: items in any order
+abbrev pub SetBody : {V M : Type 0} → (List V → M) → (List ℕ → V → Type 0) → Parts → M → Type 0
+SetBody of G = Seen of (ListBody 17 G)
+
+abbrev pub SetRow : {V M : Type 0} → (List V → M) → (List ℕ → V → Type 0) → Parts → M → Type 0
+SetRow of G = Seen of (ListOf 17 G)
+
+-- the strict parts of a set
+abbrev pub SetForm : {V M : Type 0} → (List V → M) → (List V → Type 0) → (V → Identifier → List ℕ → Type 0) → M → Identifier → List ℕ → Type 0
+SetForm of Each Form = UniversalForm true 17 (Joins of Each Form)
+
+-- collections of values that hold
+abbrev pub SetValues : {V M : Type 0} → (List V → M) → (V → Type 0) → M → Type 0
+SetValues {V} of P m = (vs : List V) × (of vs ≡ m) × All P vs
+
+-- collections of values in DER form, each of which stands as often as the collection has it
+abbrev pub SetInDer : {V M : Type 0} → (List V → M) → (List V → Type 0) → (V → Type 0) → M → Type 0
+SetInDer {V} of Each IsDer m = (vs : List V) × Each vs × (of vs ≡ m) × All IsDer vs
+
+-- Collections of items of a type. `of` says what collection a list of values is, `worth` what one in hand is, Each how a
+-- list has to stand for it, and DerBody what a reader by DER finds in an element's parts.
+abbrev pub set_grammar : {S W M : Type 0} (G : ItemGrammar S) → (List G.Value → M) → (W → M) → (List G.Value → Type 0) → (Parts → M → Type 0) → ItemGrammar W
+set_grammar {S} {W} {M} G of worth Each DerBody = record {
+  Value = M;
+  value = worth;
+  IsValue = SetValues of G.IsValue;
+  IsDer = SetInDer of Each G.IsDer;
+  Ber = BerWord (SetBody of G.Ber);
+  Der = DerWord NoCheck DerBody;
+  Body = SetBody of G.Ber;
+  Check = ListCheck 17 G.Check;
+  Form = SetForm of Each G.Form;
+  allocates = true;
+}
+
+-- sets in which an item may stand more than once; by DER the constructed bit is not looked at
+abbrev pub multiset_grammar : {S W : Type 0} → (W → List S) → ItemGrammar S → ItemGrammar W
+multiset_grammar items G = set_grammar G multiset (λ w. multiset (map G.value (items w))) AnyList (SetRow multiset G.Der)
+
+-- the items of a set of the library's own
+abbrev pub items_of : {T : Type 0} → SetOf T → List T
+items_of s = s.items.items
+
+-- it is made of these items
+abbrev pub HasItems : {T : Type 0} → List T → SetOf T → Type 0
+HasItems items s = items_of s ≡ items
+
+-- sets of keys that pass the test, each with each one after it
+abbrev pub member_grammar : {S W : Type 0} → (S → S → Bool) → (W → List S) → ItemGrammar S → ItemGrammar W
+member_grammar test keys G = set_grammar G set_of (λ w. members test G.value (keys w)) AllDiffer (SetBody set_of G.Der)
+
+-- the dictionary order of strings
+abbrev pub lex : List ℕ → List ℕ → Ordering
+lex = slice_cmp nat_cmp
+
+-- o at its place among ascending strings
+unfoldable pub put_in : List ℕ → List (List ℕ) → List (List ℕ)
+put_in o [] = o ∷ []
+put_in o (p ∷ ps) = if is_lt (lex p o) then p ∷ put_in o ps else o ∷ p ∷ ps
+
+-- the strings in ascending order
+unfoldable pub arranged : List (List ℕ) → List (List ℕ)
+arranged [] = []
+arranged (o ∷ os) = put_in o (arranged os)
+
+-- what is written for the items, in ascending order
+abbrev pub set_content : {S : Type 0} → (S → List ℕ) → List S → List ℕ
+set_content octets xs = joining (arranged (map octets xs))

@@ -1,0 +1,126 @@
+//! Elements of any type, as they are written (X.690 8.1.1, 10.1).
+ghost use Rattle.std.specs.Prelude.{◌≡◌, ◌++◌, ℕ, List, Bool, true, false, length, Ok, IfOk, IfErr};
+ghost use Rattle.std.specs.Io.KnownBytes.{Appends};
+ghost use Rattle.x690.specs.Lengths.{definite};
+ghost use Rattle.asn1_rs.specs.Header.{is_constructed_of, length_of};
+ghost use Rattle.asn1_rs.specs.Length.{form_of};
+ghost use Rattle.asn1_rs.specs.Header.Writing.{strict_header};
+ghost use Rattle.asn1_rs.specs.Any.Writing.{content_of, element_header};
+ghost use Rattle.asn1_rs.specs.Laws.Any.Writing.{element_by_value, element_writes_form, element_has_form, element_same};
+ghost use Rattle.asn1_rs.specs.Writer.{Wrote, MayRefuse};
+ghost use Rattle.asn1_rs.specs.ToDer.{Refuses, RefusesCount, VectorRefuses, Either};
+ghost use Rattle.asn1_rs.specs.Error.{tells_of_io};
+
+use crate::asn1_types::any::Any;
+use crate::error::{Error, SerializeResult, without_io};
+use crate::header::writing::{element_len, put_header, put_strict_header};
+use crate::laws::{LawfulMember, LawfulWrite};
+use crate::to_der::ToDer;
+use crate::writer::{DerWrite, Told, add_written, put_all};
+use std::alloc::Global;
+
+/// Appends the strict identifier octets, the length of the header and the contents octets, and answers their number.
+fn put_kept_length<W: DerWrite>(any: &Any<'_>, w: &mut W) -> SerializeResult<usize>
+    ensures wrote { Wrote (strict_header any.now.header ++ content_of any.now) (W.told w.old) (W.told w.new) (W.failed w.old) (W.failed w.new) result }
+    ensures failed { IfErr result (MayRefuse false (length (strict_header any.now.header ++ content_of any.now))) }
+{
+    let before = put_strict_header(&any.header, w)?;
+    let after = put_all(w, any.content)?;
+    add_written(before, after)
+}
+
+/// An element is written with the strict identifier of its header and the length of its contents octets, whatever
+/// length its header has.
+impl ToDer for Any<'_> {
+    ghost tells = { λ _. Unit {0} };
+
+    ghost header = { element_header };
+
+    ghost content = { content_of };
+
+    ghost constructed = { λ any. is_constructed_of any.header };
+
+    ghost raw_is_der = { λ any. form_of (length_of any.header) ≡ definite (length (content_of any)) };
+
+    ghost count_allocates = { false };
+
+    ghost content_allocates = { false };
+
+    ghost write_allocates = { false };
+
+    fn to_der_len(&self) -> Result<usize, Error>
+        ensures count { IfOk result (λ n. n ≡ length (element_header self.now ++ content_of self.now)) }
+        ensures refused { IfErr result (RefusesCount false (length (element_header self.now ++ content_of self.now)) (λ _. ⊥)) }
+    {
+        element_len(self.header.tag().0, Ok(self.content.len()))
+    }
+
+    fn der_content_len(&self) -> Result<usize, Error>
+        ensures count { IfOk result (λ n. n ≡ length (content_of self.now)) }
+        ensures refused { IfErr result (RefusesCount false (length (content_of self.now)) (λ _. ⊥)) }
+        ensures exact { result ≡ Ok (length (content_of self.now)) }
+    {
+        Ok(self.content.len())
+    }
+
+    fn der_constructed(&self) -> bool {
+        self.header.constructed()
+    }
+
+    fn write_der_header<W: DerWrite>(&self, _alloc: Global, w: &mut W) -> SerializeResult<usize> {
+        let class = self.header.class().number();
+        let constructed = self.header.constructed();
+        put_header(
+            class,
+            constructed,
+            self.header.tag().0,
+            self.content.len(),
+            w,
+        )
+    }
+
+    fn write_der_content<W: DerWrite>(&self, _alloc: Global, w: &mut W) -> SerializeResult<usize> {
+        put_all(w, self.content)
+    }
+
+    /// Appends the strict identifier octets, the length of the header (80 where it is indefinite), and the contents
+    /// octets as they stand.
+    fn write_der_raw<W: DerWrite>(&self, _alloc: Global, w: &mut W) -> SerializeResult<usize>
+        ensures raw { Wrote (strict_header self.now.header ++ content_of self.now) (W.told w.old) (W.told w.new) (W.failed w.old) (W.failed w.new) result }
+        ensures failed { IfErr result (MayRefuse false (length (strict_header self.now.header ++ content_of self.now))) }
+        ensures der { form_of (length_of self.now.header) ≡ definite (length (content_of self.now)) → Wrote (element_header self.now ++ content_of self.now) (W.told w.old) (W.told w.new) (W.failed w.old) (W.failed w.new) result }
+        ensures refused { form_of (length_of self.now.header) ≡ definite (length (content_of self.now)) → IfErr result (Refuses false (length (element_header self.now ++ content_of self.now)) (Either (λ _. ⊥) (λ _. ⊥))) }
+        ensures counted { IfOk result (λ n. (raw : List ℕ) × Appends (W.told w.old) (W.told w.new) raw × (n ≡ length raw)) }
+    {
+        put_kept_length(self, w)
+    }
+
+    /// The raw form in a vector.
+    fn to_der_vec_raw(&self, alloc: Global) -> SerializeResult<Vec<u8>>
+        ensures raw { IfOk result (λ octets. octets.items ≡ strict_header self.now.header ++ content_of self.now) }
+        ensures failed { IfErr result (MayRefuse true (length (strict_header self.now.header ++ content_of self.now))) }
+        ensures der { form_of (length_of self.now.header) ≡ definite (length (content_of self.now)) → IfOk result (λ octets. octets.items ≡ element_header self.now ++ content_of self.now) }
+        ensures refused { form_of (length_of self.now.header) ≡ definite (length (content_of self.now)) → IfErr result (VectorRefuses (length (element_header self.now ++ content_of self.now)) (Either (λ _. ⊥) (λ _. ⊥))) }
+        ensures memory { IfErr result (λ e. tells_of_io e ≡ false) }
+    {
+        let mut w = Told::new(Vec::new(alloc));
+        match self.write_der_raw(alloc, &mut w) {
+            Ok(_) => Ok(w.into_inner()),
+            Err(e) => Err(without_io(e)),
+        }
+    }
+}
+
+impl LawfulWrite for Any<'_> {
+    ghost tells_all = { λ x. tt };
+
+    ghost by_value = { element_by_value };
+
+    ghost form = { element_writes_form };
+
+    ghost der_form = { element_has_form };
+}
+
+impl LawfulMember for Any<'_> {
+    ghost same = { element_same };
+}

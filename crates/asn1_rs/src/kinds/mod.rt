@@ -1,0 +1,111 @@
+//! How types of items come by their grammars and laws: by the element that they are read as, or by what they refer to.
+//!
+//! A type that is read as one element, checked and converted, names its kind, [`ElementKind`], and says once what its
+//! values are ([`LawfulElement`], [`LawfulConversion`]). The traits of [`laws`](crate::laws) follow from these. A type of
+//! another make, as a list, has those traits itself and no kind.
+
+pub(crate) mod writing;
+
+ghost use Rattle.asn1_rs.specs.Grammar.Item.{ItemGrammar, IsLawfulItem, by_reference};
+ghost use Rattle.asn1_rs.specs.Kinds.{ElementGrammar, IsLawfulElement, IsExactCheck, IsExactConversion, item_grammar};
+ghost use Rattle.asn1_rs.specs.Laws.Kinds.{lawful_item, lawful_by_reference, other_error};
+
+use crate::error::Error;
+use crate::laws::{Grammar, LawfulAuto, LawfulBody, LawfulCheck, LawfulItem};
+use crate::traits::{CheckDerConstraints, DerAutoDerive, FromAny};
+
+/// A type that has its grammars and laws by its kind.
+pub trait HasKind {
+    /// The kind: [`ElementKind`], or that of references.
+    type Kind;
+}
+
+/// The kind of types that are read as one element, checked and converted.
+pub struct ElementKind;
+
+/// The kind of references.
+pub struct ReferenceKind;
+
+impl<T> HasKind for &T {
+    type Kind = ReferenceKind;
+}
+
+/// A type that is read as one element, checked and converted: its values, and that what it says of them is lawful.
+///
+/// So it has [`Grammar`], [`LawfulItem`], [`LawfulCheck`] and [`LawfulAuto`].
+pub trait LawfulElement: HasKind<Kind = ElementKind> + CheckDerConstraints + DerAutoDerive {
+    /// Its values, and what the element of a value is.
+    ghost element: { ElementGrammar Self };
+
+    /// An element has one value, a value one strict element, and this has the value and passes the check.
+    ghost lawful: { IsLawfulElement Self.element };
+
+    /// The check passes exactly the parts that meet the constraints, and does not allocate.
+    ghost checked: { IsExactCheck Self.check_gives Self.element.Check };
+}
+
+/// The conversion of such an element is exact, so the type has [`LawfulBody`], and with it the laws of both readers.
+pub trait LawfulConversion<'a>: FromAny<'a, Error = Error> + LawfulElement {
+    /// An Ok is the value of the body; an Err comes only where there is none, or when out of memory.
+    ghost converts: { IsExactConversion Self.any_gives Self.element };
+}
+
+/// The grammars of a type of this kind.
+pub trait GrammarBy<K> {
+    /// What [`Grammar`] tells.
+    ghost grammar_by_kind: { ItemGrammar Self };
+}
+
+/// The laws of a type of this kind.
+pub trait LawfulItemBy<K>: GrammarBy<K> {
+    /// What [`LawfulItem`] tells.
+    ghost lawful_by_kind: { IsLawfulItem Self.grammar_by_kind };
+}
+
+/// The words are the elements that have a body; by DER those of definite length that pass the check.
+impl<T: LawfulElement> GrammarBy<ElementKind> for T {
+    ghost grammar_by_kind = { item_grammar T.element };
+}
+
+impl<T: LawfulElement> LawfulItemBy<ElementKind> for T {
+    ghost lawful_by_kind = { lawful_item T.element T.lawful };
+}
+
+/// A reference has the values and grammars of what it refers to.
+impl<T: Grammar> GrammarBy<ReferenceKind> for &T {
+    ghost grammar_by_kind = { by_reference T.grammar };
+}
+
+impl<T: LawfulItem> LawfulItemBy<ReferenceKind> for &T {
+    ghost lawful_by_kind = { lawful_by_reference T.grammar T.lawful_item };
+}
+
+impl<T: HasKind + GrammarBy<T::Kind>> Grammar for T {
+    ghost grammar = { T.grammar_by_kind };
+}
+
+impl<T: HasKind + LawfulItemBy<T::Kind>> LawfulItem for T {
+    ghost lawful_item = { T.lawful_by_kind };
+}
+
+impl<'a, T: LawfulConversion<'a>> LawfulBody<'a, Error> for T {
+    ghost body_exact = { T.converts.exact };
+
+    ghost body_spares = { λ none. other_error T.any_gives (T.converts.spares none) };
+
+    ghost form_body = { T.lawful.form_body };
+
+    ghost ber_split = { λ o v w. w };
+
+    ghost ber_join = { λ o v w. w };
+}
+
+impl<T: LawfulElement> LawfulCheck for T {
+    ghost checks = { T.checked };
+}
+
+impl<T: LawfulElement> LawfulAuto for T {
+    ghost der_split = { λ o v w. w };
+
+    ghost der_join = { λ o v w. w };
+}

@@ -1,0 +1,328 @@
+//! How types of items come by [`ToDer`] and the laws of it: by the contents octets of a primitive element, or by what they refer to.
+ghost use Rattle.std.specs.Prelude.{◌≡◌, ◌++◌, ◌<◌, ◌^◌, ℕ, false, List, length, IfOk, IfErr, IsErr};
+ghost use Rattle.asn1_rs.specs.Grammar.{FormNumber, FormTakes};
+ghost use Rattle.asn1_rs.specs.Writer.{Wrote, MayRefuse};
+ghost use Rattle.asn1_rs.specs.ToDer.{MayRefuseCount, Refuses, RefusesCount, IsRefusedAtOnce, RefusedAtOnce, IsWritable};
+ghost use Rattle.asn1_rs.specs.declared.error.SerializeError.{SerializeError};
+ghost use Rattle.asn1_rs.specs.declared.error.Error.{Error};
+ghost use Rattle.asn1_rs.specs.Kinds.Writing.{Writing, primitive_writing, IsPrimitiveElement};
+ghost use Rattle.asn1_rs.specs.Grammar.Form.{WritesByValue, WritesForm, HasForm};
+ghost use Rattle.asn1_rs.specs.Laws.Forms.{primitive_by_value, primitive_writes_form, primitive_has_form, primitive_number, primitive_fits};
+
+use crate::error::{Error, SerializeResult};
+use crate::header::writing::{element_len, put_counted_header};
+use crate::kinds::{ElementKind, HasKind, LawfulElement, ReferenceKind};
+use crate::laws::{LawfulItem, LawfulTagged, LawfulWrite, TakesClass};
+use crate::to_der::ToDer;
+use crate::traits::{DynTagged, Tagged};
+use crate::writer::{DerWrite, put_all};
+use std::alloc::Global;
+
+/// A value that is written as a primitive element of the universal class: the tag number of its type, and contents
+/// octets. It does not allocate.
+///
+/// So it has [`ToDer`], [`LawfulWrite`], [`LawfulTagged`] and [`TakesClass`].
+pub trait WritesPrimitive: LawfulElement + Tagged {
+    /// Its contents octets.
+    ghost octets: { Self → List ℕ };
+
+    /// How many contents octets are appended.
+    fn count_octets(&self) -> Result<usize, Error>
+        ensures count { IfOk result (λ n. n ≡ length (octets self.now)) }
+        ensures refused { IfErr result (MayRefuseCount false (length (octets self.now))) };
+
+    /// Appends the contents octets, and answers their number.
+    fn put_octets<W: DerWrite>(&self, w: &mut W) -> SerializeResult<usize>
+        ensures wrote { Wrote (octets self.now) (W.told w.old) (W.told w.new) (W.failed w.old) (W.failed w.new) result }
+        ensures refused { IfErr result (MayRefuse false (length (octets self.now))) };
+
+    /// They follow from the value, and are its strict content where it has one; another class changes nothing.
+    ghost primitive: { IsPrimitiveElement Self.element (Self.mark).0 octets };
+}
+
+/// A value that holds its contents octets, and is written as a primitive element of them.
+///
+/// So it has [`WritesPrimitive`].
+pub trait WritesOctets: LawfulElement + Tagged {
+    /// The octets that it holds.
+    ghost held: { Self → List ℕ };
+
+    /// The octets that it holds.
+    fn contents_octets(&self) -> &[u8]
+        ensures { result.now ≡ held self.now };
+
+    /// They follow from the value, and are its strict content where it has one; another class changes nothing.
+    ghost held_are: { IsPrimitiveElement Self.element (Self.mark).0 held };
+}
+
+impl<T: WritesOctets> WritesPrimitive for T {
+    ghost octets = { T.held };
+
+    fn count_octets(&self) -> Result<usize, Error> {
+        Ok(self.contents_octets().len())
+    }
+
+    fn put_octets<W: DerWrite>(&self, w: &mut W) -> SerializeResult<usize> {
+        put_all(w, self.contents_octets())
+    }
+
+    ghost primitive = { T.held_are };
+}
+
+/// The calls of [`ToDer`], for a type of this kind.
+pub trait ToDerBy<K>: DynTagged {
+    /// What the ghost members of [`ToDer`] tell.
+    ghost writing: { Writing Self };
+
+    /// `to_der_len`.
+    fn element_count(&self) -> Result<usize, Error>
+        ensures count { writing.tells self.now →
+            IfOk result (λ n. n ≡ length (writing.header self.now ++ writing.content self.now)) }
+        ensures refused { writing.tells self.now →
+            IfErr result (RefusesCount writing.count_allocates
+            (length (writing.header self.now ++ writing.content self.now)) (writing.count_refuses self.now)) }
+        ensures accepted { (e : Error) → writing.tells self.now →
+            writing.count_refuses self.now e → IsErr result };
+
+    /// `der_content_len`.
+    fn content_count(&self) -> Result<usize, Error>
+        ensures count { writing.tells self.now → IfOk result (λ n. n ≡ length (writing.content self.now)) }
+        ensures refused { writing.tells self.now →
+            IfErr result (RefusesCount writing.count_allocates
+            (length (writing.content self.now)) (writing.count_refuses self.now)) }
+        ensures accepted { (e : Error) → writing.tells self.now →
+            writing.count_refuses self.now e → IsErr result };
+
+    /// `der_constructed`.
+    fn is_constructed(&self) -> bool
+        ensures { writing.tells self.now → result ≡ writing.constructed self.now };
+
+    /// `write_der_header`.
+    fn put_header<W: DerWrite>(&self, alloc: Global, w: &mut W) -> SerializeResult<usize>
+        ensures wrote { writing.tells self.now →
+            Wrote (writing.header self.now) (W.told w.old) (W.told w.new) (W.failed w.old) (W.failed w.new) result }
+        ensures refused { writing.tells self.now →
+            IfErr result (Refuses writing.count_allocates
+            (length (writing.header self.now ++ writing.content self.now)) (writing.header_refuses self.now)) }
+        ensures at_once { (e : SerializeError) → writing.tells self.now → writing.header_refuses self.now e →
+            IsRefusedAtOnce writing.count_allocates
+            (length (writing.header self.now ++ writing.content self.now)) (writing.header_refuses self.now)
+            (W.told w.old) (W.told w.new) (W.failed w.old) (W.failed w.new) result }
+        ensures first { (e : SerializeError) → writing.refuses_first self.now e →
+            RefusedAtOnce e (W.told w.old) (W.told w.new) (W.failed w.old) (W.failed w.new) result };
+
+    /// `write_der_content`.
+    fn put_content<W: DerWrite>(&self, alloc: Global, w: &mut W) -> SerializeResult<usize>
+        ensures wrote { writing.tells self.now →
+            Wrote (writing.content self.now) (W.told w.old) (W.told w.new) (W.failed w.old) (W.failed w.new) result }
+        ensures refused { writing.tells self.now →
+            IfErr result (Refuses writing.content_allocates
+            (length (writing.content self.now)) (writing.content_refuses self.now)) }
+        ensures accepted { (e : SerializeError) → writing.tells self.now →
+            writing.content_refuses self.now e → IsErr result }
+        ensures uncounted { (e : Error) → writing.tells self.now →
+            writing.count_refuses self.now e → IsErr result }
+        ensures first { (e : SerializeError) → writing.refuses_first self.now e →
+            RefusedAtOnce e (W.told w.old) (W.told w.new) (W.failed w.old) (W.failed w.new) result };
+}
+
+impl<T: WritesPrimitive> ToDerBy<ElementKind> for T {
+    ghost writing = { primitive_writing (T.mark).0 T.octets };
+
+    fn element_count(&self) -> Result<usize, Error> {
+        element_len(T::its_tag().0, self.count_octets())
+    }
+
+    fn content_count(&self) -> Result<usize, Error> {
+        self.count_octets()
+    }
+
+    fn is_constructed(&self) -> bool {
+        false
+    }
+
+    #[inline(always)]
+    fn put_header<W: DerWrite>(&self, _alloc: Global, w: &mut W) -> SerializeResult<usize> {
+        put_counted_header(0, false, T::its_tag().0, self.count_octets(), w)
+    }
+
+    #[inline(always)]
+    fn put_content<W: DerWrite>(&self, _alloc: Global, w: &mut W) -> SerializeResult<usize> {
+        self.put_octets(w)
+    }
+}
+
+/// A reference is written as what it refers to. Its raw form is the DER form.
+impl<T: ToDer + Tagged> ToDerBy<ReferenceKind> for &T {
+    ghost writing = { record {
+      tells = λ r. T.tells r.now;
+      header = λ r. T.header r.now;
+      content = λ r. T.content r.now;
+      constructed = λ r. T.constructed r.now;
+      count_refuses = λ r. T.count_refuses r.now;
+      header_refuses = λ r. T.header_refuses r.now;
+      content_refuses = λ r. T.content_refuses r.now;
+      refuses_first = λ r. T.refuses_first r.now;
+      count_allocates = T.count_allocates;
+      content_allocates = T.content_allocates;
+      write_allocates = T.write_allocates;
+    } };
+
+    fn element_count(&self) -> Result<usize, Error> {
+        T::to_der_len(*self)
+    }
+
+    fn content_count(&self) -> Result<usize, Error> {
+        T::der_content_len(*self)
+    }
+
+    fn is_constructed(&self) -> bool {
+        T::der_constructed(*self)
+    }
+
+    fn put_header<W: DerWrite>(&self, alloc: Global, w: &mut W) -> SerializeResult<usize> {
+        T::write_der_header(*self, alloc, w)
+    }
+
+    fn put_content<W: DerWrite>(&self, alloc: Global, w: &mut W) -> SerializeResult<usize> {
+        T::write_der_content(*self, alloc, w)
+    }
+}
+
+impl<T: HasKind + ToDerBy<T::Kind>> ToDer for T {
+    ghost tells = { T.writing.tells };
+
+    ghost header = { T.writing.header };
+
+    ghost content = { T.writing.content };
+
+    ghost constructed = { T.writing.constructed };
+
+    ghost count_refuses = { T.writing.count_refuses };
+
+    ghost header_refuses = { T.writing.header_refuses };
+
+    ghost content_refuses = { T.writing.content_refuses };
+
+    ghost refuses_first = { T.writing.refuses_first };
+
+    ghost count_allocates = { T.writing.count_allocates };
+
+    ghost content_allocates = { T.writing.content_allocates };
+
+    ghost write_allocates = { T.writing.write_allocates };
+
+    fn to_der_len(&self) -> Result<usize, Error> {
+        self.element_count()
+    }
+
+    fn der_content_len(&self) -> Result<usize, Error> {
+        self.content_count()
+    }
+
+    fn der_constructed(&self) -> bool {
+        self.is_constructed()
+    }
+
+    #[inline(always)]
+    fn write_der_header<W: DerWrite>(&self, alloc: Global, w: &mut W) -> SerializeResult<usize> {
+        self.put_header(alloc, w)
+    }
+
+    #[inline(always)]
+    fn write_der_content<W: DerWrite>(&self, alloc: Global, w: &mut W) -> SerializeResult<usize> {
+        self.put_content(alloc, w)
+    }
+}
+
+/// The laws of what is written, for a type of this kind.
+pub trait LawfulWriteBy<K>: ToDer + LawfulItem {
+    /// `tells_all`.
+    ghost tells_each: { (x : Self) → Self.tells x };
+
+    /// `by_value`.
+    ghost written_by_value: { WritesByValue Self.grammar.value Self.constructed Self.header Self.content };
+
+    /// `form`.
+    ghost written_form: { WritesForm Self.grammar.value Self.grammar.Form
+        (λ x. IsWritable (Self.count_refuses x) (Self.header_refuses x) (Self.content_refuses x))
+        Self.constructed Self.header Self.content };
+
+    /// `der_form`.
+    ghost written_der: { HasForm Self.grammar.value Self.grammar.IsDer Self.grammar.Form Self.content };
+}
+
+impl<T: WritesPrimitive> LawfulWriteBy<ElementKind> for T {
+    ghost tells_each = { λ x. tt };
+
+    ghost written_by_value = { primitive_by_value T.element (T.mark).0 T.octets T.primitive };
+
+    ghost written_form = { primitive_writes_form T.element (T.mark).0 T.octets T.primitive };
+
+    ghost written_der = { primitive_has_form T.element (T.mark).0 T.octets T.primitive };
+}
+
+impl<T: LawfulWrite + Tagged> LawfulWriteBy<ReferenceKind> for &T {
+    ghost tells_each = { λ r. T.tells_all r.now };
+
+    ghost written_by_value = { λ q r. T.by_value q.now r.now };
+
+    ghost written_form = { λ r. T.form r.now };
+
+    ghost written_der = { λ r. T.der_form r.now };
+}
+
+impl<T: HasKind + LawfulWriteBy<T::Kind>> LawfulWrite for T {
+    ghost tells_all = { T.tells_each };
+
+    ghost by_value = { T.written_by_value };
+
+    ghost form = { T.written_form };
+
+    ghost der_form = { T.written_der };
+}
+
+/// The laws of the tag number, for a type of this kind.
+pub trait LawfulTaggedBy<K>: LawfulItem + Tagged {
+    /// `tag_number`.
+    ghost number_by_kind: { FormNumber Self.grammar.Form (Self.mark).0 };
+
+    /// `number_fits`.
+    ghost number_is_small: { (Self.mark).0 < 2 ^ 32 };
+}
+
+impl<T: WritesPrimitive> LawfulTaggedBy<ElementKind> for T {
+    ghost number_by_kind = { primitive_number T.element (T.mark).0 T.octets T.primitive };
+
+    ghost number_is_small = { primitive_fits T.element (T.mark).0 T.octets T.primitive };
+}
+
+impl<T: LawfulTagged> LawfulTaggedBy<ReferenceKind> for &T {
+    ghost number_by_kind = { T.tag_number };
+
+    ghost number_is_small = { T.number_fits };
+}
+
+impl<T: HasKind + LawfulTaggedBy<T::Kind>> LawfulTagged for T {
+    ghost tag_number = { T.number_by_kind };
+
+    ghost number_fits = { T.number_is_small };
+}
+
+/// The law of implicit tags of class `C`, for a type of this kind.
+pub trait TakesClassBy<K, const C: u8>: LawfulTagged {
+    /// `takes_class`.
+    ghost takes_this_class: { FormTakes Self.grammar.Form Self.grammar.Check Self.grammar.Body C };
+}
+
+impl<T: WritesPrimitive, const C: u8> TakesClassBy<ElementKind, C> for T {
+    ghost takes_this_class = { T.primitive.class C };
+}
+
+impl<T: TakesClass<C>, const C: u8> TakesClassBy<ReferenceKind, C> for &T {
+    ghost takes_this_class = { T.takes_class };
+}
+
+impl<T: HasKind + TakesClassBy<T::Kind, C>, const C: u8> TakesClass<C> for T {
+    ghost takes_class = { T.takes_this_class };
+}

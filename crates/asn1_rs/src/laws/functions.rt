@@ -1,0 +1,125 @@
+//! Laws that a caller names at a concrete type, as `reader_is_exact_by_der::<u64, Error>()`.
+//!
+//! Their contracts are the statements, and nothing runs in them: a caller calls one where it needs the law.
+ghost use Rattle.std.specs.Prelude.{◌≡◌, ◌++◌, ◌<◌, ◌^◌, ◌↔◌, ℕ, Bool, List, length, Result};
+ghost use Rattle.x690.specs.Octets.{IsOctets};
+ghost use Rattle.x690.specs.Identifiers.{Identifier, IsCutIdentifier};
+ghost use Rattle.x690.specs.Lengths.{LengthForm};
+ghost use Rattle.x690.specs.Rules.{Rule};
+ghost use Rattle.x690.specs.Elements.{Parts, IsHeader, IsDerElement};
+ghost use Rattle.x690.specs.Faults.{Breach};
+ghost use Rattle.x690.specs.Nested.{IsElement};
+ghost use Rattle.asn1_rs.specs.declared.error.Err.{Err as Refusal};
+ghost use Rattle.asn1_rs.specs.declared.error.Error.{Error};
+ghost use Rattle.asn1_rs.specs.declared.header.Header.{Header};
+ghost use Rattle.asn1_rs.specs.declared.asn1_types.any.Any.{Any};
+ghost use Rattle.asn1_rs.specs.Answers.{Exactly, TellsMemory, ReadsBack, RefusedAsBeginning, RefusedBeforeEnd};
+ghost use Rattle.asn1_rs.specs.Grammar.Form.{IsStrict};
+ghost use Rattle.asn1_rs.specs.Ber.{max_depth, EndsWithin};
+ghost use Rattle.asn1_rs.specs.Header.Reading.{refusal_of, HeaderGives};
+ghost use Rattle.asn1_rs.specs.Any.{DerElementGives, BerElementGives};
+ghost use Rattle.asn1_rs.specs.ToDer.{IsWritable};
+
+use crate::error::Error;
+use crate::laws::{LawfulBer, LawfulDer, LawfulItem, LawfulWrite};
+
+/// The reader by BER of a lawful type is exact.
+///
+/// What `T::from_ber` may answer, `T.ber_gives`, is an Ok exactly where a word by BER begins the octets, with its value
+/// and the rest, and a final refusal else. The strict encoding of a value is read back before any rest. Octets that are
+/// shorter than a word that more of them make them begin with are refused.
+pub fn reader_is_exact_by_ber<'a, T: LawfulBer<'a, E>, E: From<Error>>()
+    ensures exact { (input : List ℕ) (answer : Result (List ℕ × T) (Refusal E)) → IsOctets input
+        → T.ber_gives input answer
+        → Exactly EndsWithin T.grammar.Ber T.grammar.value (TellsMemory T.grammar.allocates E.from_gives) input answer }
+    ensures back { (input : List ℕ) (answer : Result (List ℕ × T) (Refusal E)) (v : T.grammar.Value)
+        (w rest : List ℕ) → IsOctets input → T.ber_gives input answer → IsStrict T.grammar.Form v w
+        → input ≡ w ++ rest
+        → ReadsBack T.grammar.value (TellsMemory T.grammar.allocates E.from_gives) v rest answer }
+    ensures beginning { (input : List ℕ) (answer : Result (List ℕ × T) (Refusal E))
+        (more word rest : List ℕ) (v : T.grammar.Value) → IsOctets input → T.ber_gives input answer
+        → T.grammar.Ber word v → input ++ more ≡ word ++ rest → length input < length word
+        → RefusedBeforeEnd (TellsMemory T.grammar.allocates E.from_gives)
+        (EndsWithin input) more answer }
+{}
+
+/// The reader by DER of a lawful type is exact: what `T::from_der` may answer, `T.der_gives`, is what
+/// [`reader_is_exact_by_ber`] says, by the type's grammar by DER.
+pub fn reader_is_exact_by_der<'a, T: LawfulDer<'a, E>, E: From<Error>>()
+    ensures exact { (input : List ℕ) (answer : Result (List ℕ × T) (Refusal E)) → IsOctets input
+        → T.der_gives input answer
+        → Exactly IsCutIdentifier T.grammar.Der T.grammar.value (TellsMemory T.grammar.allocates E.from_gives) input answer }
+    ensures back { (input : List ℕ) (answer : Result (List ℕ × T) (Refusal E)) (v : T.grammar.Value)
+        (w rest : List ℕ) → IsOctets input → T.der_gives input answer → IsStrict T.grammar.Form v w
+        → input ≡ w ++ rest
+        → ReadsBack T.grammar.value (TellsMemory T.grammar.allocates E.from_gives) v rest answer }
+    ensures beginning { (input : List ℕ) (answer : Result (List ℕ × T) (Refusal E))
+        (more word rest : List ℕ) (v : T.grammar.Value) → IsOctets input → T.der_gives input answer
+        → T.grammar.Der word v → input ++ more ≡ word ++ rest → length input < length word
+        → RefusedBeforeEnd (TellsMemory T.grammar.allocates E.from_gives)
+        (IsCutIdentifier input) more answer }
+{}
+
+/// An octet string has at most one value, and a value at most one strict encoding.
+///
+/// One word begins an input, by BER and by DER, with one value and one rest. The strict encoding of a value is a word by
+/// BER and by DER with this value; no other value has it, and it begins no other strict encoding.
+pub fn words_and_values_are_unique<T: LawfulItem>()
+    ensures ber_value { (o : List ℕ) (v w : T.grammar.Value) → T.grammar.Ber o v → T.grammar.Ber o w → v ≡ w }
+    ensures der_value { (o : List ℕ) (v w : T.grammar.Value) → T.grammar.Der o v → T.grammar.Der o w → v ≡ w }
+    ensures ber_front { (x y r s : List ℕ) (v w : T.grammar.Value) → T.grammar.Ber x v → T.grammar.Ber y w → x ++ r ≡ y ++ s
+        → (x ≡ y) × (v ≡ w) × (r ≡ s) }
+    ensures der_front { (x y r s : List ℕ) (v w : T.grammar.Value) → T.grammar.Der x v → T.grammar.Der y w → x ++ r ≡ y ++ s
+        → (x ≡ y) × (v ≡ w) × (r ≡ s) }
+    ensures strict_word { (v : T.grammar.Value) (o : List ℕ) → IsStrict T.grammar.Form v o → T.grammar.Ber o v × T.grammar.Der o v }
+    ensures strict { (v : T.grammar.Value) (o p : List ℕ) → IsStrict T.grammar.Form v o → IsStrict T.grammar.Form v p
+        → o ≡ p }
+    ensures apart { (o p r s : List ℕ) (v w : T.grammar.Value) → IsStrict T.grammar.Form v o → IsStrict T.grammar.Form w p
+        → o ++ r ≡ p ++ s → (o ≡ p) × (v ≡ w) × (r ≡ s) }
+{}
+
+/// What a lawful type writes and counts of a value in DER form is its strict encoding.
+///
+/// `T.header` and `T.content` are what the contracts of [`ToDer`](crate::ToDer) say that `write_der`, `to_der_len` and
+/// `der_content_len` append and count, and `T.constructed` what `der_constructed` answers.
+pub fn counts_are_of_the_strict_encoding<T: LawfulWrite>()
+    ensures tells { (x : T) → T.tells x }
+    ensures strict { (x : T) → T.grammar.IsDer (T.grammar.value x)
+        → length (T.header x ++ T.content x) < 2 ^ 64
+        → ∥ IsStrict T.grammar.Form (T.grammar.value x) (T.header x ++ T.content x) ∥₁ }
+    ensures written { (x : T) (o : List ℕ) → IsStrict T.grammar.Form (T.grammar.value x) o
+        → IsWritable (T.count_refuses x) (T.header_refuses x) (T.content_refuses x)
+        × (T.header x ++ T.content x ≡ o) }
+    ensures counted { (x : T) (o : List ℕ) (s : IsStrict T.grammar.Form (T.grammar.value x) o)
+        → (length (T.header x ++ T.content x) ≡ length o)
+        × (length (T.content x) ≡ length s.content) × (T.constructed x ≡ s.id.constructed) }
+{}
+
+/// A front that a value was read from was its strict encoding exactly where writing the value gives the same octets.
+///
+/// It speaks of values in DER form, those that have a strict identifier and strict contents octets. No octets are strict
+/// for another value, and yet it may be written as it was read.
+pub fn strict_fronts_are_written_again<T: LawfulWrite>()
+    ensures { (x : T) (id : Identifier) (content front : List ℕ) → T.grammar.Form (T.grammar.value x) id content
+        → length front < 2 ^ 64
+        → IsStrict T.grammar.Form (T.grammar.value x) front ↔ (front ≡ T.header x ++ T.content x) }
+{}
+
+/// Octets that are shorter than a header or an element, and that more of them make begin with it, are refused: with
+/// `Incomplete` of these or fewer, or with `InvalidTag` where they end within an identifier in high form.
+pub fn beginnings_are_refused()
+    ensures header { (rule : Rule) (refuses : Breach → Error)
+        (input more front rest : List ℕ) (id : Identifier) (form : LengthForm)
+        (answer : Result (List ℕ × Header) (Refusal Error))
+        → HeaderGives rule (refusal_of refuses) input answer → IsHeader rule front id form
+        → input ++ more ≡ front ++ rest → length input < length front
+        → RefusedAsBeginning (IsCutIdentifier input) more answer }
+    ensures element { (input more word rest : List ℕ) (p : Parts)
+        (answer : Result (List ℕ × Any) (Refusal Error)) → DerElementGives input answer → IsDerElement word p
+        → input ++ more ≡ word ++ rest → length input < length word
+        → RefusedAsBeginning (IsCutIdentifier input) more answer }
+    ensures ber_element { (input more word rest : List ℕ) (p : Parts)
+        (answer : Result (List ℕ × Any) (Refusal Error)) → BerElementGives input answer → IsElement max_depth word p
+        → input ++ more ≡ word ++ rest → length input < length word
+        → RefusedAsBeginning (EndsWithin input) more answer }
+{}

@@ -1,0 +1,422 @@
+//! What a type's values and grammars are, the laws of them, and the calls whose contracts rest on these laws.
+//!
+//! No code calls the law traits: they have no functions. A type whose laws are proved can be read by [`read_ber`] and
+//! [`read_der`] and written by [`write_strict`], alone or nested in lists, sets and tags.
+
+pub(crate) mod functions;
+
+ghost use Rattle.std.specs.Prelude.{ℕ, Bool, List, ◌≡◌, ◌++◌, ◌<◌, ◌^◌, ◌↔◌, ◌||◌, false, length, Some, Result, Ok, Err, IsTrue, IfOk, IfErr, MatchResult};
+ghost use Rattle.std.specs.Borrow.{Bor};
+ghost use Rattle.std.specs.Io.KnownBytes.{Appends};
+ghost use Rattle.x690.specs.Octets.{IsOctets};
+ghost use Rattle.x690.specs.Identifiers.{Identifier, IsIdentifier, IsCutIdentifier};
+ghost use Rattle.x690.specs.Lengths.{LengthForm};
+ghost use Rattle.x690.specs.Rules.{Rule};
+ghost use Rattle.x690.specs.Elements.{Parts, ArePossible, IsHeader, IsDerElement};
+ghost use Rattle.x690.specs.Faults.{Breach, DerElementFault};
+ghost use Rattle.x690.specs.Nested.{IsElement, ElementFault};
+ghost use Rattle.asn1_rs.specs.declared.error.Err.{Err as Refusal};
+ghost use Rattle.asn1_rs.specs.declared.error.Err.TheVariants.{Error as refused};
+ghost use Rattle.asn1_rs.specs.declared.error.Error.{Error};
+ghost use Rattle.asn1_rs.specs.declared.error.Error.TheVariants as errors;
+ghost use Rattle.asn1_rs.specs.declared.error.SerializeError.TheVariants as serialize_errors;
+ghost use Rattle.asn1_rs.specs.Answers.{seen, Exactly, TellsMemory, IsOther, ReadsBack, TellsBeginning};
+ghost use Rattle.asn1_rs.specs.Grammar.Form.{IsStrict, WritesByValue, WritesForm, HasForm};
+ghost use Rattle.asn1_rs.specs.Ber.{max_depth, EndsWithin, BerContentGives};
+ghost use Rattle.asn1_rs.specs.Grammar.{NoCheck, BerWord, DerWord, TakesBody, FormBodies, FormTakes, FormNumber};
+ghost use Rattle.asn1_rs.specs.Traits.{PassesAll, BerGives, DerGives};
+ghost use Rattle.asn1_rs.specs.Grammar.Item.{ItemGrammar, IsLawfulItem};
+ghost use Rattle.asn1_rs.specs.Kinds.{IsExactCheck};
+ghost use Rattle.asn1_rs.specs.Error.{HeldIn};
+ghost use Rattle.asn1_rs.specs.Writer.{Wrote, MayRefuse, IsMemoryOrLength};
+ghost use Rattle.asn1_rs.specs.ToDer.{IsWritable, some_allocates};
+ghost use Rattle.asn1_rs.specs.declared.header.Header.{Header};
+ghost use Rattle.asn1_rs.specs.declared.asn1_types.any.Any.{Any};
+ghost use Rattle.asn1_rs.specs.Header.Reading.{refusal_of, der_breach, ber_breach, HeaderGives, HeaderLasts};
+ghost use Rattle.asn1_rs.specs.Header.{raw_tag_of};
+ghost use Rattle.asn1_rs.specs.Any.{parts_of, IsTheElement, IsDefiniteOr, DerElementGives, BerElementGives, RefusalLasts, ElementLasts};
+ghost use Rattle.asn1_rs.specs.Content.{ContentStays};
+ghost use Rattle.asn1_rs.specs.Laws.Readers.{element_exact, element_spares, der_breach_spares, ber_breach_spares, der_elements, ber_elements, passes_all, all_pass};
+
+use crate::error::{Error, ParseResult, SerializeResult};
+use crate::to_der::ToDer;
+use crate::traits::{CheckDerConstraints, DerAutoDerive, FromAny, FromBer, FromDer, Tagged};
+use crate::writer::DerWrite;
+use std::alloc::Global;
+
+/// The values of a type, its grammars and its strict parts: what the laws speak of.
+pub trait Grammar {
+    /// The values, the words by BER and by DER, and the parts of the one strict element of a value.
+    ghost grammar: { ItemGrammar Self };
+}
+
+/// A type whose grammars and strict parts are lawful.
+pub trait LawfulItem: Grammar {
+    /// Each part of [`Grammar`] has values of the type; one word alone begins an input; and a value has one strict
+    /// encoding, which no other value has, and which is a word.
+    ghost lawful_item: { IsLawfulItem Self.grammar };
+}
+
+/// The conversion of an element is exact: it finds the value of the body, and refuses only where there is none.
+pub trait LawfulBody<'a, E: From<Error>>: FromAny<'a, Error = E> + LawfulItem {
+    /// An Ok is the value of the body; an Err comes only where there is none, or when out of memory.
+    ghost body_exact: { (any : Any) (answer : Result Self E) → IsOctets any.content.now →
+        Self.any_gives any answer →
+        TakesBody Self.grammar.Body Self.grammar.value Self.grammar.allocates E.from_gives
+        (parts_of any) answer };
+
+    /// Where the type does not allocate, no refusal of the conversion reports out of memory.
+    ghost body_spares: { Self.grammar.allocates ≡ false → (any : Any) (e : E) →
+        Self.any_gives any (Err e) → IsOther E.from_gives e };
+
+    /// The strict parts of a value have it as their body.
+    ghost form_body: { FormBodies Self.grammar.Form Self.grammar.Body };
+
+    /// Each word by BER is an element by BER that has a body with this value.
+    ghost ber_split: { (o : List ℕ) (v : Self.grammar.Value) →
+        Self.grammar.Ber o v → BerWord Self.grammar.Body o v };
+
+    /// And each such element is a word by BER.
+    ghost ber_join: { (o : List ℕ) (v : Self.grammar.Value) →
+        BerWord Self.grammar.Body o v → Self.grammar.Ber o v };
+}
+
+/// The check of an element is exact.
+pub trait LawfulCheck: CheckDerConstraints + LawfulItem {
+    /// The check passes exactly the parts that meet the constraints, and never reports out of memory.
+    ghost checks: { IsExactCheck Self.check_gives Self.grammar.Check };
+}
+
+/// The words by DER are the elements of definite length that pass the check and have a body.
+pub trait LawfulAuto: LawfulCheck + DerAutoDerive {
+    /// Each word by DER is such an element, with this value.
+    ghost der_split: { (o : List ℕ) (v : Self.grammar.Value) →
+        Self.grammar.Der o v → DerWord Self.grammar.Check Self.grammar.Body o v };
+
+    /// And each such element is a word by DER.
+    ghost der_join: { (o : List ℕ) (v : Self.grammar.Value) →
+        DerWord Self.grammar.Check Self.grammar.Body o v → Self.grammar.Der o v };
+}
+
+/// The reader by BER is exact: Ok where a word by BER begins the input, and a final refusal else.
+pub trait LawfulBer<'a, E: From<Error>>: FromBer<'a, E> + LawfulItem {
+    /// What the reader may answer is exact by the grammar by BER.
+    ghost ber_exact: { (input : List ℕ) (answer : Result (List ℕ × Self) (Refusal E)) → IsOctets input →
+        Self.ber_gives input answer →
+        Exactly EndsWithin Self.grammar.Ber Self.grammar.value
+        (TellsMemory Self.grammar.allocates E.from_gives) input answer };
+
+    /// Where the type does not allocate, no refusal reports out of memory.
+    ghost ber_spares: { Self.grammar.allocates ≡ false →
+        (input : List ℕ) (answer : Result (List ℕ × Self) (Refusal E)) →
+        Self.ber_gives input answer → IfErr answer (HeldIn (IsOther E.from_gives)) };
+}
+
+/// The reader by DER is exact: Ok where a word by DER begins the input, and a final refusal else.
+pub trait LawfulDer<'a, E: From<Error>>: FromDer<'a, E> + LawfulItem {
+    /// What the reader may answer is exact by the grammar by DER.
+    ghost der_exact: { (input : List ℕ) (answer : Result (List ℕ × Self) (Refusal E)) → IsOctets input →
+        Self.der_gives input answer →
+        Exactly IsCutIdentifier Self.grammar.Der Self.grammar.value
+        (TellsMemory Self.grammar.allocates E.from_gives) input answer };
+
+    /// Where the type does not allocate, no refusal reports out of memory.
+    ghost der_spares: { Self.grammar.allocates ≡ false →
+        (input : List ℕ) (answer : Result (List ℕ × Self) (Refusal E)) →
+        Self.der_gives input answer → IfErr answer (HeldIn (IsOther E.from_gives)) };
+}
+
+/// What is written follows from the value, and is its strict encoding where it has one.
+pub trait LawfulWrite: ToDer + LawfulItem {
+    /// The ghost members of [`ToDer`] tell what is written, for each item.
+    ghost tells_all: { (x : Self) → Self.tells x };
+
+    /// Items of one value have one header, one content and one constructed bit.
+    ghost by_value: { WritesByValue Self.grammar.value Self.constructed Self.header Self.content };
+
+    /// A value that has strict parts is written as its strict encoding, and can be written.
+    ghost form: { WritesForm Self.grammar.value Self.grammar.Form
+        (λ x. IsWritable (Self.count_refuses x) (Self.header_refuses x) (Self.content_refuses x))
+        Self.constructed Self.header Self.content };
+
+    /// A value in DER form whose contents octets fit in memory has strict parts.
+    ghost der_form: { HasForm Self.grammar.value Self.grammar.IsDer Self.grammar.Form Self.content };
+}
+
+/// The strict parts have the type's tag number.
+///
+/// So an optional value of the type is told by its tag number.
+pub trait LawfulTagged: LawfulItem + Tagged {
+    /// Strict parts have the tag number of the type.
+    ghost tag_number: { FormNumber Self.grammar.Form (Self.mark).0 };
+
+    /// And an element can have it.
+    ghost number_fits: { (Self.mark).0 < 2 ^ 32 };
+}
+
+/// The strict parts pass check and body with class `K` in place of their own.
+///
+/// So an implicit tag of class `K` over the type is lawful.
+pub trait TakesClass<const K: u8>: LawfulTagged {
+    /// Under class `K` strict parts meet check and body all the same.
+    ghost takes_class: { FormTakes Self.grammar.Form Self.grammar.Check Self.grammar.Body K };
+}
+
+/// Two items are equal exactly where their values are, so they can be members of a set.
+pub trait LawfulMember: LawfulItem + Eq {
+    /// Equality of items is that of their values.
+    ghost same: { (x y : Self) →
+        IsTrue (Self.eq x y) ↔ (Self.grammar.value x ≡ Self.grammar.value y) };
+}
+
+impl<'a, T, E: From<Error>> LawfulDer<'a, E> for T
+where
+    T: LawfulBody<'a, E> + LawfulAuto,
+{
+    ghost der_exact = { λ input answer octets.
+        element_exact IsDerElement DerElementFault IsCutIdentifier der_elements
+        der_breach
+        T.check_gives T.any_gives E.from_gives T.grammar.Check T.grammar.Body T.grammar.value
+        T.grammar.allocates T.grammar.Der T.checks.exact T.body_exact T.der_split T.der_join
+        input answer };
+
+    ghost der_spares = { λ none.
+        element_spares IsDerElement DerElementFault
+        der_breach der_breach_spares
+        T.check_gives T.any_gives E.from_gives T.checks.spares (T.body_spares none) };
+}
+
+impl<'a, T, E: From<Error>> LawfulBer<'a, E> for T
+where
+    T: LawfulBody<'a, E>,
+{
+    ghost ber_exact = { λ input answer octets.
+        element_exact (IsElement max_depth) (ElementFault max_depth) EndsWithin ber_elements
+        ber_breach PassesAll T.any_gives E.from_gives NoCheck T.grammar.Body
+        T.grammar.value T.grammar.allocates T.grammar.Ber passes_all T.body_exact T.ber_split
+        T.ber_join input answer };
+
+    ghost ber_spares = { λ none.
+        element_spares (IsElement max_depth) (ElementFault max_depth) ber_breach
+        ber_breach_spares PassesAll T.any_gives E.from_gives all_pass (T.body_spares none) };
+}
+
+/// Reads a value of a lawful type by BER.
+///
+/// Ok exactly where a word of the type's grammar begins the octets. A refusal is final: no word begins them, whatever
+/// follows of which the refusal speaks. The strict encoding of a value is read back before any rest.
+pub fn read_ber<'a, T: LawfulBer<'a, E>, E: From<Error>>(
+    alloc: Global,
+    input: &'a [u8],
+) -> ParseResult<'a, T, E>
+    ensures exact { Exactly EndsWithin T.grammar.Ber T.grammar.value
+        (TellsMemory T.grammar.allocates E.from_gives) input.now (seen result) }
+    ensures back { (v : T.grammar.Value) (w rest : List ℕ) →
+        IsStrict T.grammar.Form v w → input.now ≡ w ++ rest →
+        ReadsBack T.grammar.value (TellsMemory T.grammar.allocates E.from_gives) v rest (seen result) }
+    ensures spares { T.grammar.allocates ≡ false → IfErr (seen result) (HeldIn (IsOther E.from_gives)) }
+    ensures gives { T.ber_gives input.now (seen result) }
+{
+    T::from_ber(alloc, input)
+}
+
+/// Reads a value of a lawful type by DER.
+///
+/// Ok exactly where a word of the type's grammar begins the octets. A refusal is final: no word begins them, whatever
+/// follows of which the refusal speaks. The strict encoding of a value is read back before any rest.
+pub fn read_der<'a, T: LawfulDer<'a, E>, E: From<Error>>(
+    alloc: Global,
+    bytes: &'a [u8],
+) -> ParseResult<'a, T, E>
+    ensures exact { Exactly IsCutIdentifier T.grammar.Der T.grammar.value
+        (TellsMemory T.grammar.allocates E.from_gives) bytes.now (seen result) }
+    ensures back { (v : T.grammar.Value) (w rest : List ℕ) →
+        IsStrict T.grammar.Form v w → bytes.now ≡ w ++ rest →
+        ReadsBack T.grammar.value (TellsMemory T.grammar.allocates E.from_gives) v rest (seen result) }
+    ensures spares { T.grammar.allocates ≡ false → IfErr (seen result) (HeldIn (IsOther E.from_gives)) }
+    ensures gives { T.der_gives bytes.now (seen result) }
+{
+    T::from_der(alloc, bytes)
+}
+
+/// Appends the one strict encoding of a value in DER form.
+///
+/// No other value has it, and it begins no other one. For other values too the octets of header and contents are
+/// appended, as `write_der` does.
+pub fn write_strict<T: LawfulWrite, W: DerWrite>(
+    x: &T,
+    alloc: Global,
+    w: &mut W,
+) -> SerializeResult<usize>
+    ensures headline { T.grammar.IsDer (T.grammar.value x.now) →
+        length (T.header x.now ++ T.content x.now) < 2 ^ 64 → W.failed w.new ≡ false →
+        ∥ IsStrict T.grammar.Form (T.grammar.value x.now) (T.header x.now ++ T.content x.now) ∥₁ ×
+        MatchResult result
+        (λ n. Appends (W.told w.old) (W.told w.new) (T.header x.now ++ T.content x.now) ×
+        (n ≡ length (T.header x.now ++ T.content x.now)))
+        (λ e. (e ≡ serialize_errors.OutOfMemory) ×
+        IsTrue (some_allocates T.write_allocates T.count_allocates T.content_allocates)) }
+    ensures wrote { (o : List ℕ) → IsStrict T.grammar.Form (T.grammar.value x.now) o →
+        Wrote o (W.told w.old) (W.told w.new) (W.failed w.old) (W.failed w.new) result }
+    ensures plain { Wrote (T.header x.now ++ T.content x.now)
+        (W.told w.old) (W.told w.new) (W.failed w.old) (W.failed w.new) result }
+    ensures refused { (o : List ℕ) → IsStrict T.grammar.Form (T.grammar.value x.now) o →
+        IfErr result (MayRefuse
+        (some_allocates T.write_allocates T.count_allocates T.content_allocates) (length o)) }
+    ensures one { (o p : List ℕ) → IsStrict T.grammar.Form (T.grammar.value x.now) o →
+        IsStrict T.grammar.Form (T.grammar.value x.now) p → o ≡ p }
+    ensures apart { (o p r s : List ℕ) (v w : T.grammar.Value) →
+        IsStrict T.grammar.Form v o → IsStrict T.grammar.Form w p → o ++ r ≡ p ++ s →
+        (o ≡ p) × (v ≡ w) × (r ≡ s) }
+{
+    x.write_der(alloc, w)
+}
+
+/// The one strict encoding of a value in DER form, in a vector.
+///
+/// No other value has it, and it begins no other one. Refused only when out of memory, or where the length passes
+/// `usize`. For other values too the vector has the octets of header and contents, as [`ToDer::to_der_vec`] gives them.
+pub fn strict_vec<T: LawfulWrite>(alloc: Global, x: &T) -> SerializeResult<Vec<u8>>
+    ensures headline { T.grammar.IsDer (T.grammar.value x.now) →
+        length (T.header x.now ++ T.content x.now) < 2 ^ 64 →
+        ∥ IsStrict T.grammar.Form (T.grammar.value x.now) (T.header x.now ++ T.content x.now) ∥₁ ×
+        MatchResult result
+        (λ octets. octets.items ≡ T.header x.now ++ T.content x.now)
+        (λ e. e ≡ serialize_errors.OutOfMemory) }
+    ensures strict { (o : List ℕ) → IsStrict T.grammar.Form (T.grammar.value x.now) o →
+        MatchResult result (λ octets. octets.items ≡ o) (IsMemoryOrLength o) }
+    ensures plain { IfOk result (λ octets. octets.items ≡ T.header x.now ++ T.content x.now) }
+    ensures one { (o p : List ℕ) → IsStrict T.grammar.Form (T.grammar.value x.now) o →
+        IsStrict T.grammar.Form (T.grammar.value x.now) p → o ≡ p }
+    ensures apart { (o p r s : List ℕ) (v w : T.grammar.Value) →
+        IsStrict T.grammar.Form v o → IsStrict T.grammar.Form w p → o ++ r ≡ p ++ s →
+        (o ≡ p) × (v ≡ w) × (r ≡ s) }
+{
+    x.to_der_vec(alloc)
+}
+
+/// The answers of the readers of headers and of elements, by DER and by BER, and of contents octets by BER are what the
+/// input makes them: it has one refusal, that of its first fault from the left, and none where a header, an element, or
+/// contents octets begin it.
+pub fn one_refusal()
+    ensures header { (rule : Rule) (refuses : Breach → Error) (input : List ℕ) (q r : Refusal Error)
+        → HeaderGives rule (refusal_of refuses) input (Err q)
+        → HeaderGives rule (refusal_of refuses) input (Err r)
+        → q ≡ r }
+    ensures no_header { (rule : Rule) (refuses : Breach → Error) (input : List ℕ)
+        (x : List ℕ × Header) (r : Refusal Error)
+        → HeaderGives rule (refusal_of refuses) input (Ok x)
+        → HeaderGives rule (refusal_of refuses) input (Err r)
+        → ⊥ }
+    ensures element { (input : List ℕ) (q r : Refusal Error)
+        → DerElementGives input (Err q)
+        → DerElementGives input (Err r)
+        → q ≡ r }
+    ensures no_element { (input : List ℕ) (x : List ℕ × Any) (r : Refusal Error)
+        → DerElementGives input (Ok x)
+        → DerElementGives input (Err r)
+        → ⊥ }
+    ensures ber_element { (input : List ℕ) (q r : Refusal Error)
+        → BerElementGives input (Err q)
+        → BerElementGives input (Err r)
+        → q ≡ r }
+    ensures no_ber_element { (input : List ℕ) (x : List ℕ × Any) (r : Refusal Error)
+        → BerElementGives input (Ok x)
+        → BerElementGives input (Err r)
+        → ⊥ }
+    ensures ber_content { (constructed : Bool) (form : LengthForm) (depth : ℕ) (input : List ℕ)
+        (q r : Refusal Error)
+        → BerContentGives constructed form depth input (Err q)
+        → BerContentGives constructed form depth input (Err r)
+        → q ≡ r }
+    ensures no_ber_content { (constructed : Bool) (form : LengthForm) (depth : ℕ) (input : List ℕ)
+        (x : Bor (List ℕ) × Bor (List ℕ)) (r : Refusal Error)
+        → BerContentGives constructed form depth input (Ok x)
+        → BerContentGives constructed form depth input (Err r)
+        → ⊥ }
+{}
+
+/// What the readers of [`Any`](crate::Any) answer is the element at the front of the octets, or the refusal of its first
+/// fault. The raw tag of its header is the identifier octets at the front.
+pub fn any_is_the_element()
+    ensures der { (input : List ℕ) (answer : Result (List ℕ × Any) (Refusal Error))
+        → DerGives IsDefiniteOr IsTheElement (λ e f. f ≡ e) input answer
+        → DerElementGives input answer }
+    ensures ber { (input : List ℕ) (answer : Result (List ℕ × Any) (Refusal Error))
+        → BerGives IsTheElement (λ e f. f ≡ e) input answer
+        → BerElementGives input answer }
+    ensures der_raw_tag { (input identifier more : List ℕ) (id : Identifier)
+        (answer : Result (List ℕ × Any) (Refusal Error))
+        → IsIdentifier identifier id
+        → input ≡ identifier ++ more
+        → DerElementGives input answer
+        → IfOk answer (λ x. raw_tag_of x.1.header ≡ Some identifier) }
+    ensures ber_raw_tag { (input identifier more : List ℕ) (id : Identifier)
+        (answer : Result (List ℕ × Any) (Refusal Error))
+        → IsIdentifier identifier id
+        → input ≡ identifier ++ more
+        → BerElementGives input answer
+        → IfOk answer (λ x. raw_tag_of x.1.header ≡ Some identifier) }
+{}
+
+/// Octets that more of them make begin with a header or an element are refused with `Incomplete` of these or fewer, or
+/// they end within an identifier in high form. Where they end so the answer is `InvalidTag`.
+pub fn beginnings_are_incomplete()
+    ensures header { (rule : Rule) (refuses : Breach → Error) (input more front rest : List ℕ)
+        (id : Identifier) (form : LengthForm) (r : Refusal Error)
+        → HeaderGives rule (refusal_of refuses) input (Err r)
+        → IsHeader rule front id form
+        → input ++ more ≡ front ++ rest
+        → TellsBeginning (IsCutIdentifier input) r more }
+    ensures header_within { (rule : Rule) (refuses : Breach → Error) (input : List ℕ)
+        (answer : Result (List ℕ × Header) (Refusal Error))
+        → IsCutIdentifier input
+        → HeaderGives rule (refusal_of refuses) input answer
+        → answer ≡ Err (refused errors.InvalidTag) }
+    ensures element { (input more word rest : List ℕ) (p : Parts) (r : Refusal Error)
+        → DerElementGives input (Err r)
+        → IsDerElement word p
+        → input ++ more ≡ word ++ rest
+        → TellsBeginning (IsCutIdentifier input) r more }
+    ensures element_within { (input : List ℕ) (answer : Result (List ℕ × Any) (Refusal Error))
+        → IsCutIdentifier input
+        → DerElementGives input answer
+        → answer ≡ Err (refused errors.InvalidTag) }
+    ensures ber_element { (input more word rest : List ℕ) (p : Parts) (r : Refusal Error)
+        → BerElementGives input (Err r)
+        → IsElement max_depth word p
+        → input ++ more ≡ word ++ rest
+        → TellsBeginning (EndsWithin input) r more }
+    ensures ber_element_within { (input : List ℕ)
+        (answer : Result (List ℕ × Any) (Refusal Error))
+        → EndsWithin input
+        → BerElementGives input answer
+        → answer ≡ Err (refused errors.InvalidTag) }
+{}
+
+/// What the readers of headers and of elements answer lasts. After a refusal no element begins the input, nor more
+/// octets of which the refusal speaks. A header or an element that is read is the one that begins the input, whatever
+/// follows, and so are contents octets.
+pub fn answers_last()
+    ensures header { (rule : Rule) (refuses : Breach → Error) (input : List ℕ) (x : List ℕ × Header)
+        → HeaderGives rule (refusal_of refuses) input (Ok x)
+        → HeaderLasts input x.0 x.1 }
+    ensures refusal { (input : List ℕ) (r : Refusal Error)
+        → DerElementGives input (Err r)
+        → RefusalLasts IsDerElement IsCutIdentifier input r }
+    ensures element { (input : List ℕ) (x : List ℕ × Any)
+        → DerElementGives input (Ok x)
+        → ElementLasts IsDerElement input x.0 x.1 }
+    ensures ber_refusal { (input : List ℕ) (r : Refusal Error)
+        → BerElementGives input (Err r)
+        → RefusalLasts (IsElement max_depth) EndsWithin input r }
+    ensures ber_element { (input : List ℕ) (x : List ℕ × Any)
+        → BerElementGives input (Ok x)
+        → ElementLasts (IsElement max_depth) input x.0 x.1 }
+    ensures ber_content { (constructed : Bool) (form : LengthForm) (depth : ℕ)
+        (input more : List ℕ) (x : Bor (List ℕ) × Bor (List ℕ))
+        (answer : Result (Bor (List ℕ) × Bor (List ℕ)) (Refusal Error))
+        → BerContentGives constructed form depth input (Ok x)
+        → BerContentGives constructed form depth (input ++ more) answer
+        → ContentStays x more answer }
+{}

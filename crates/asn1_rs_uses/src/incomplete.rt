@@ -1,0 +1,41 @@
+//! Headers and elements that may be cut.
+ghost use Rattle.std.specs.Prelude.{◌≡◌, ◌<◌, ◌++◌, ℕ, List, length, Some, IfOk};
+ghost use Rattle.x690.specs.Identifiers.{Identifier, IsIdentifier, IsCutIdentifier};
+ghost use Rattle.x690.specs.Lengths.{LengthForm};
+ghost use Rattle.x690.specs.Rules.{ber_rule};
+ghost use Rattle.x690.specs.Elements.{Parts, IsHeader, IsDerElement};
+ghost use Rattle.asn1_rs.specs.Answers.{seen, RefusedAsBeginning};
+ghost use Rattle.asn1_rs.specs.Header.{raw_tag_of};
+
+use asn1_rs::{
+    Any, Error, FromBer, FromDer, Header, ParseResult, any_is_the_element, beginnings_are_refused,
+};
+use std::alloc::Global;
+
+/// The element at the front of the octets, by DER, and what follows it.
+///
+/// It keeps its identifier octets. Octets that end within such an element are refused: with `Incomplete` of those that are
+/// missing or fewer, or with `InvalidTag`.
+pub fn read_element<'a>(alloc: Global, octets: &'a [u8]) -> ParseResult<'a, Any<'a>, Error>
+    ensures cut { (more word rest : List ℕ) (p : Parts) → IsDerElement word p
+        → octets.now ++ more ≡ word ++ rest → length octets.now < length word
+        → RefusedAsBeginning (IsCutIdentifier octets.now) more (seen result) }
+    ensures raw_tag { (identifier more : List ℕ) (id : Identifier) → IsIdentifier identifier id
+        → octets.now ≡ identifier ++ more
+        → IfOk (seen result) (λ x. raw_tag_of x.1.header ≡ Some identifier) }
+{
+    any_is_the_element();
+    beginnings_are_refused();
+    Any::from_der(alloc, octets)
+}
+
+/// The header at the front of the octets, by BER, and what follows it. Octets that end within a header are refused.
+pub fn read_header<'a>(alloc: Global, octets: &'a [u8]) -> ParseResult<'a, Header<'a>, Error>
+    ensures cut { (more front rest : List ℕ) (id : Identifier) (form : LengthForm)
+        → IsHeader ber_rule front id form → octets.now ++ more ≡ front ++ rest
+        → length octets.now < length front
+        → RefusedAsBeginning (IsCutIdentifier octets.now) more (seen result) }
+{
+    beginnings_are_refused();
+    Header::from_ber(alloc, octets)
+}
