@@ -65,9 +65,13 @@ fn skip_content<'a>(
 ) -> Result<&'a [u8], Err<Error>>
     requires deep { 1 ≤ max_depth }
     requires room { count_of steps.old + length bytes.now < 2 ^ 64 }
-    ensures ok { IfOk result (λ rest. (content : List ℕ) × (inner : ℕ) × IsEndedContent (max_depth - 1) bytes.now content rest.now inner × (count_of steps.new ≡ count_of steps.old + (inner + 1))) }
+    ensures ok { IfOk result (λ rest. (content : List ℕ) × (inner : ℕ)
+        × IsEndedContent (max_depth - 1) bytes.now content rest.now inner
+        × (count_of steps.new ≡ count_of steps.old + (inner + 1))) }
     ensures err { IfErr result (Refused (EndFault (max_depth - 1)) ber_refusal bytes.now) }
-    ensures stops { OnErr result (Counted (EndFaultHeaders (max_depth - 1)) bytes.now (count_of steps.old) (count_of steps.new)) }
+    ensures stops { OnErr result
+        (Counted (EndFaultHeaders (max_depth - 1)) bytes.now (count_of steps.old)
+        (count_of steps.new)) }
     ensures few { 2 * count_of steps.new ≤ 2 * count_of steps.old + length bytes.now }
     ensures grows { count_of steps.old ≤ count_of steps.new }
 {
@@ -111,9 +115,14 @@ fn content_by_ber<'a>(
 ) -> ParseResult<'a, &'a [u8], Error>
     requires deep { 1 ≤ max_depth }
     requires room { count_of steps.old + length bytes.now < 2 ^ 64 }
-    ensures ok { IfOk result (λ x. (headers : ℕ) × IsContent (form_of form) (max_depth - 1) bytes.now x.1.now x.0.now headers × (count_of steps.new ≡ count_of steps.old + headers)) }
-    ensures err { IfErr result (Refused (ContentFault (form_of form) (max_depth - 1)) ber_refusal bytes.now) }
-    ensures stops { OnErr result (Counted (ContentFaultHeaders (form_of form) (max_depth - 1)) bytes.now (count_of steps.old) (count_of steps.new)) }
+    ensures ok { IfOk result (λ x. (headers : ℕ)
+        × IsContent (form_of form) (max_depth - 1) bytes.now x.1.now x.0.now headers
+        × (count_of steps.new ≡ count_of steps.old + headers)) }
+    ensures err { IfErr result
+        (Refused (ContentFault (form_of form) (max_depth - 1)) ber_refusal bytes.now) }
+    ensures stops { OnErr result
+        (Counted (ContentFaultHeaders (form_of form) (max_depth - 1)) bytes.now (count_of steps.old)
+        (count_of steps.new)) }
     ensures few { 2 * count_of steps.new ≤ 2 * count_of steps.old + length bytes.now }
     ensures grows { count_of steps.old ≤ count_of steps.new }
 {
@@ -136,9 +145,13 @@ fn element_to_depth<'a>(
 ) -> ParseResult<'a, Any<'a>, Error>
     requires deep { 1 ≤ max_depth }
     requires room { count_of steps.old + length bytes.now < 2 ^ 64 }
-    ensures gives { AnyGives (IsElement max_depth) (ElementFault max_depth) ber_refusal bytes.now (seen result) }
-    ensures ticks { IfOk result (λ x. CountedElement max_depth bytes.now x.0.now (parts_of x.1) (count_of steps.old) (count_of steps.new)) }
-    ensures stops { OnErr result (Counted (FaultHeaders max_depth) bytes.now (count_of steps.old) (count_of steps.new)) }
+    ensures gives { AnyGives (IsElement max_depth) (ElementFault max_depth) ber_refusal bytes.now
+        (seen result) }
+    ensures ticks { IfOk result
+        (λ x. CountedElement max_depth bytes.now x.0.now (parts_of x.1) (count_of steps.old)
+        (count_of steps.new)) }
+    ensures stops { OnErr result
+        (Counted (FaultHeaders max_depth) bytes.now (count_of steps.old) (count_of steps.new)) }
     ensures few { 2 * count_of steps.new ≤ 2 * count_of steps.old + length bytes.now }
     ensures grows { count_of steps.old ≤ count_of steps.new }
 {
@@ -151,7 +164,8 @@ fn element_to_depth<'a>(
 /// The element at the front, by BER. It does not allocate.
 #[inline(always)]
 pub(crate) fn element_by_ber(bytes: &[u8]) -> ParseResult<'_, Any<'_>, Error>
-    ensures { AnyGives (IsElement max_depth) (ElementFault max_depth) ber_refusal bytes.now (seen result) }
+    ensures { AnyGives (IsElement max_depth) (ElementFault max_depth) ber_refusal bytes.now
+        (seen result) }
 {
     any_from_ber_counted(bytes, &mut Steps::new())
 }
@@ -169,11 +183,15 @@ pub fn any_from_ber_counted<'a>(
 ) -> ParseResult<'a, Any<'a>, Error>
     requires { count_of steps.old + length bytes.now < 2 ^ 64 }
     ensures depth { MAX_RECURSION ≡ max_depth }
-    ensures gives { AnyGives (IsElement max_depth) (ElementFault max_depth) ber_refusal bytes.now (seen result) }
+    ensures gives { AnyGives (IsElement max_depth) (ElementFault max_depth) ber_refusal bytes.now
+        (seen result) }
     ensures last { IfErr result (RefusalLasts (IsElement max_depth) EndsWithin bytes.now) }
     ensures same { IfOk result (λ x. ElementLasts (IsElement max_depth) bytes.now x.0.now x.1) }
-    ensures ticks { IfOk result (λ x. CountedElement max_depth bytes.now x.0.now (parts_of x.1) (count_of steps.old) (count_of steps.new)) }
-    ensures stops { OnErr result (Counted (FaultHeaders max_depth) bytes.now (count_of steps.old) (count_of steps.new)) }
+    ensures ticks { IfOk result
+        (λ x. CountedElement max_depth bytes.now x.0.now (parts_of x.1) (count_of steps.old)
+        (count_of steps.new)) }
+    ensures stops { OnErr result
+        (Counted (FaultHeaders max_depth) bytes.now (count_of steps.old) (count_of steps.new)) }
     ensures few { 2 * count_of steps.new ≤ 2 * count_of steps.old + length bytes.now }
     ensures grows { count_of steps.old ≤ count_of steps.new }
 {
@@ -206,7 +224,8 @@ impl Header<'_> {
     /// Where the length is indefinite these are the elements up to the 00 00 that ends them. Refused with
     /// `Incomplete(n)` where n octets are missing of a definite length; else as `get_object_content` of [`BerParser`].
     pub fn parse_ber_content<'i>(&self, i: &'i [u8]) -> ParseResult<'i, &'i [u8], Error>
-        ensures { BerContentGives (is_constructed_of self.now) (form_of (length_of self.now)) 8 i.now result }
+        ensures { BerContentGives (is_constructed_of self.now)
+            (form_of (length_of self.now)) 8 i.now result }
     {
         BerParser::get_object_content(i, self, 8)
     }

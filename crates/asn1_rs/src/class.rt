@@ -36,7 +36,8 @@ impl Class {
 
     /// Refuses another class with `UnexpectedClass`: the one given is expected, and this one is the actual one.
     pub fn assert_eq(&self, class: Class) -> Result<(), Error>
-        ensures { MatchResult result (λ _. self.now ≡ class) (λ e. (self.now ≢ class) × (e ≡ errors.UnexpectedClass (Some class) self.now)) }
+        ensures { MatchResult result (λ _. self.now ≡ class)
+            (λ e. (self.now ≢ class) × (e ≡ errors.UnexpectedClass (Some class) self.now)) }
     {
         if *self == class {
             Ok(())

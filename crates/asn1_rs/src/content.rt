@@ -26,7 +26,8 @@ pub(crate) fn split_content(bytes: &[u8], len: usize) -> ParseResult<'_, &[u8], 
 /// A reader of contents octets, whose header was read before them.
 pub trait GetObjectContent {
     /// What the reader may answer at a header with this constructed bit and this form of length, at a depth.
-    ghost content_gives: { Bool → LengthForm → ℕ → List ℕ → Result (Bor (List ℕ) × Bor (List ℕ)) (Refusal Error) → Type 0 };
+    ghost content_gives: { Bool → LengthForm → ℕ → List ℕ →
+        Result (Bor (List ℕ) × Bor (List ℕ)) (Refusal Error) → Type 0 };
 
     /// The contents octets of the header at the front, and what follows them. The depth bounds how deep indefinite
     /// lengths may nest.
@@ -35,5 +36,6 @@ pub trait GetObjectContent {
         hdr: &Header<'_>,
         max_depth: usize,
     ) -> ParseResult<'a, &'a [u8], Error>
-        ensures { content_gives (is_constructed_of hdr.now) (form_of (length_of hdr.now)) max_depth i.now result };
+        ensures { content_gives (is_constructed_of hdr.now)
+            (form_of (length_of hdr.now)) max_depth i.now result };
 }

@@ -340,7 +340,8 @@ pub(crate) fn refusal_of_count(e: Error) -> SerializeError
 
 /// Out of memory in the place of a writer's failure.
 pub(crate) fn without_io(e: SerializeError) -> SerializeError
-    ensures refused { (n : ℕ) (allocates : Bool) → MayRefuse allocates n e → MayRefuse true n result }
+    ensures refused { (n : ℕ) (allocates : Bool) → MayRefuse allocates n e →
+        MayRefuse true n result }
     ensures io { tells_of_io result ≡ false }
     ensures same { result ≡ vector_refusal e }
 {

@@ -104,7 +104,8 @@ impl Tag {
 
     /// Refuses another tag with `UnexpectedTag`: the one given is expected, and this one is the actual one.
     pub fn assert_eq(&self, tag: Tag) -> Result<(), Error>
-        ensures { MatchResult result (λ _. self.now ≡ tag) (λ e. (self.now ≢ tag) × (e ≡ errors.UnexpectedTag (Some tag) self.now)) }
+        ensures { MatchResult result (λ _. self.now ≡ tag)
+            (λ e. (self.now ≢ tag) × (e ≡ errors.UnexpectedTag (Some tag) self.now)) }
     {
         if self.0 == tag.0 {
             Ok(())
@@ -129,7 +130,8 @@ impl Tag {
 
     /// The name of the universal type with this number.
     pub(crate) fn name(self) -> Option<&'static str>
-        ensures some { IfSome result (λ name. (name.now ≡ tag_text self.0) × (name_of self.0 ≢ [])) }
+        ensures some { IfSome result
+            (λ name. (name.now ≡ tag_text self.0) × (name_of self.0 ≢ [])) }
         ensures none { IfNone result (name_of self.0 ≡ []) }
     {
         let name = match self.0 {

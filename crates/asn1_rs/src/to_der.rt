@@ -79,7 +79,8 @@ pub trait ToDer: DynTagged {
     /// Appends the identifier octets and the length octets, and answers their number.
     fn write_der_header<W: DerWrite>(&self, alloc: Global, w: &mut W) -> SerializeResult<usize>
         ensures wrote { tells self.now →
-            Wrote (header self.now) (W.told w.old) (W.told w.new) (W.failed w.old) (W.failed w.new) result }
+            Wrote (header self.now) (W.told w.old) (W.told w.new) (W.failed w.old)
+            (W.failed w.new) result }
         ensures refused { tells self.now →
             IfErr result (Refuses count_allocates
             (length (header self.now ++ content self.now)) (header_refuses self.now)) }
@@ -88,19 +89,23 @@ pub trait ToDer: DynTagged {
             (length (header self.now ++ content self.now)) (header_refuses self.now)
             (W.told w.old) (W.told w.new) (W.failed w.old) (W.failed w.new) result }
         ensures first { (e : SerializeError) → refuses_first self.now e →
-            RefusedAtOnce e (W.told w.old) (W.told w.new) (W.failed w.old) (W.failed w.new) result };
+            RefusedAtOnce e (W.told w.old) (W.told w.new) (W.failed w.old)
+            (W.failed w.new) result };
 
     /// Appends the contents octets, and answers their number.
     fn write_der_content<W: DerWrite>(&self, alloc: Global, w: &mut W) -> SerializeResult<usize>
         ensures wrote { tells self.now →
-            Wrote (content self.now) (W.told w.old) (W.told w.new) (W.failed w.old) (W.failed w.new) result }
+            Wrote (content self.now) (W.told w.old) (W.told w.new) (W.failed w.old)
+            (W.failed w.new) result }
         ensures refused { tells self.now →
             IfErr result (Refuses content_allocates
             (length (content self.now)) (content_refuses self.now)) }
-        ensures accepted { (e : SerializeError) → tells self.now → content_refuses self.now e → IsErr result }
+        ensures accepted { (e : SerializeError) → tells self.now → content_refuses self.now e →
+            IsErr result }
         ensures uncounted { (e : Error) → tells self.now → count_refuses self.now e → IsErr result }
         ensures first { (e : SerializeError) → refuses_first self.now e →
-            RefusedAtOnce e (W.told w.old) (W.told w.new) (W.failed w.old) (W.failed w.new) result };
+            RefusedAtOnce e (W.told w.old) (W.told w.new) (W.failed w.old)
+            (W.failed w.new) result };
 
     /// Appends the encoding, and answers its length.
     ///
@@ -114,7 +119,8 @@ pub trait ToDer: DynTagged {
             IfErr result (Refuses (some_allocates write_allocates count_allocates content_allocates)
             (length (header self.now ++ content self.now))
             (Either (header_refuses self.now) (content_refuses self.now))) }
-        ensures accepted { (e : SerializeError) → tells self.now → content_refuses self.now e → IsErr result }
+        ensures accepted { (e : SerializeError) → tells self.now → content_refuses self.now e →
+            IsErr result }
         ensures uncounted { (e : Error) → tells self.now → count_refuses self.now e → IsErr result }
         ensures at_once { (e : SerializeError) → tells self.now → header_refuses self.now e →
             IsRefusedAtOnce (some_allocates write_allocates count_allocates content_allocates)
@@ -149,7 +155,8 @@ pub trait ToDer: DynTagged {
             (Either (header_refuses self.now) (content_refuses self.now))
             (W.told w.old) (W.told w.new) (W.failed w.old) (W.failed w.new) result }
         ensures counted { tells self.now →
-            IfOk result (λ n. (raw : List ℕ) × Appends (W.told w.old) (W.told w.new) raw × (n ≡ length raw)) }
+            IfOk result (λ n. (raw : List ℕ) × Appends (W.told w.old) (W.told w.new) raw
+            × (n ≡ length raw)) }
         ensures first { (e : SerializeError) → refuses_first self.now e →
             RefusedAtOnce e (W.told w.old) (W.told w.new) (W.failed w.old) (W.failed w.new) result }
     {
@@ -167,7 +174,8 @@ pub trait ToDer: DynTagged {
             Either (header_refuses self.now) (content_refuses self.now) e → IsErr result }
         ensures uncounted { (e : Error) → tells self.now → count_refuses self.now e → IsErr result }
         ensures memory { IfErr result (λ e. tells_of_io e ≡ false) }
-        ensures first { (e : SerializeError) → refuses_first self.now e → result ≡ Err (vector_refusal e) }
+        ensures first { (e : SerializeError) → refuses_first self.now e →
+            result ≡ Err (vector_refusal e) }
     {
         let mut w = Told::new(Vec::new(alloc));
         match self.write_der(alloc, &mut w) {
@@ -188,7 +196,8 @@ pub trait ToDer: DynTagged {
         ensures uncounted { (e : Error) → tells self.now → raw_is_der self.now →
             count_refuses self.now e → IsErr result }
         ensures memory { IfErr result (λ e. tells_of_io e ≡ false) }
-        ensures first { (e : SerializeError) → refuses_first self.now e → result ≡ Err (vector_refusal e) }
+        ensures first { (e : SerializeError) → refuses_first self.now e →
+            result ≡ Err (vector_refusal e) }
     {
         let mut w = Told::new(Vec::new(alloc));
         match self.write_der_raw(alloc, &mut w) {

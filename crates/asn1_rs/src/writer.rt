@@ -20,7 +20,8 @@ pub trait TellsWrites: Write {
     fn write_once(&mut self, octets: &[u8]) -> io::Result<usize>
         ensures call { writes self.old octets.now result self.new }
         ensures bound { WritesAtMost result octets.now }
-        ensures bytes { WriteAppends (Self.contents self.old) (Self.contents self.new) result octets.now };
+        ensures bytes { WriteAppends (Self.contents self.old)
+            (Self.contents self.new) result octets.now };
 }
 
 impl<W: Write> TellsWrites for W {
@@ -131,7 +132,8 @@ fn put_some<W: DerWrite>(w: &mut W, piece: &[u8]) -> SerializeResult<usize>
     requires { piece.now ≢ [] }
     ensures took { IfOk result (λ n. W.puts w.old piece.now (Ok n) w.new) }
     ensures refused { IfErr result (PutRefused W.puts piece.now w.old w.new) }
-    ensures once { PutOnce piece.now (W.told w.old) (W.told w.new) (W.failed w.old) (W.failed w.new) result }
+    ensures once { PutOnce piece.now (W.told w.old) (W.told w.new) (W.failed w.old)
+        (W.failed w.new) result }
 {
     match w.put(piece) {
         Ok(0) => Err(SerializeError::IOError(io::Error::from(ErrorKind::WriteZero))),
@@ -146,7 +148,8 @@ fn put_some<W: DerWrite>(w: &mut W, piece: &[u8]) -> SerializeResult<usize>
 /// octets asks for no call.
 #[inline(always)]
 pub fn put_all<W: DerWrite>(w: &mut W, piece: &[u8]) -> SerializeResult<usize>
-    ensures wrote { Wrote piece.now (W.told w.old) (W.told w.new) (W.failed w.old) (W.failed w.new) result }
+    ensures wrote { Wrote piece.now (W.told w.old) (W.told w.new) (W.failed w.old)
+        (W.failed w.new) result }
     ensures failed { IfErr result (MayRefuse false 0) }
     ensures calls { PutInCalls W.puts piece.now w.old w.new result }
     ensures nothing { piece.now ≡ [] → (result ≡ Ok 0) × (w.new ≡ w.old) }

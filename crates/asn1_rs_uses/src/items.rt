@@ -20,7 +20,8 @@ where
     F: ReadsWords<'a, T, E>,
     E: From<Error>,
     ensures joined { IfOk result (λ items. IsJoined F.Words content.now (map F.value items.items)) }
-    ensures refused { IfErr result (λ e. E.from_gives errors.OutOfMemory e ⊎ EndsBefore F.Words content.now e) }
+    ensures refused { IfErr result (λ e. E.from_gives errors.OutOfMemory e
+        ⊎ EndsBefore F.Words content.now e) }
     ensures whole { AreJoinedWords F.Words content.now
         → IfErr result (E.from_gives errors.OutOfMemory) }
 {
@@ -41,15 +42,18 @@ where
 /// The numbers in contents octets, by DER.
 pub fn numbers_in(alloc: Global, content: &[u8]) -> Result<Vec<u64>, Error>
     ensures joined { IfOk result (λ items. IsJoined NumberByDer content.now (map pos items.items)) }
-    ensures refused { IfErr result (λ e. (e ≡ errors.OutOfMemory) ⊎ EndsBefore NumberByDer content.now e) }
-    ensures whole { AreJoinedWords NumberByDer content.now → IfErr result (λ e. e ≡ errors.OutOfMemory) }
+    ensures refused { IfErr result (λ e. (e ≡ errors.OutOfMemory)
+        ⊎ EndsBefore NumberByDer content.now e) }
+    ensures whole { AreJoinedWords NumberByDer content.now →
+        IfErr result (λ e. e ≡ errors.OutOfMemory) }
 {
     items_in::<u64, DerParser, Error>(alloc, content)
 }
 
 /// The elements in contents octets, by BER.
 pub fn elements_in<'a>(alloc: Global, content: &'a [u8]) -> Result<Vec<Any<'a>>, Error>
-    ensures joined { IfOk result (λ items. IsJoined (BerWord ElementBody) content.now (map element_of items.items)) }
+    ensures joined { IfOk result
+        (λ items. IsJoined (BerWord ElementBody) content.now (map element_of items.items)) }
 {
     items_in::<Any<'a>, BerParser, Error>(alloc, content)
 }

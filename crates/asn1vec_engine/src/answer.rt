@@ -26,9 +26,11 @@ fn push_by_either<'a, T>(
 ) -> Result<(), AllocError>
 where
     T: LawfulBer<'a, Error> + LawfulDer<'a, Error> + Shown + Drop,
-    ensures { OnOk result (Gains text.old.items text.new.items (IsReadAnswer
-        (ReadsByEither T.grammar.Ber T.grammar.Der T.grammar.value T.grammar.allocates T.ber_gives T.der_gives rule)
-        T.text_of T.Encodes octets.now)) }
+    ensures { OnOk result
+        (Gains text.old.items text.new.items
+        (IsReadAnswer
+        (ReadsByEither T.grammar.Ber T.grammar.Der T.grammar.value T.grammar.allocates T.ber_gives
+        T.der_gives rule) T.text_of T.Encodes octets.now)) }
 {
     match rule {
         Rule::Ber => push_by_ber::<T>(alloc, octets, buffer, text),

@@ -204,8 +204,8 @@ pub fn run<R: Read, W: DerWrite>(
 /// An input has one output, except when out of memory in a line where reading or writing what it names
 /// allocates. What is written up to a failure is a beginning of it, but for the same.
 pub fn one_output()
-    ensures alike { (octets texts others : List ℕ)
-        → AnswersTo octets texts → AnswersTo octets others → AllAlike (lines_of octets) texts others }
+    ensures alike { (octets texts others : List ℕ) → AnswersTo octets texts →
+        AnswersTo octets others → AllAlike (lines_of octets) texts others }
     ensures begins_alike { (octets front texts : List ℕ)
         → BeginsAnswersTo octets front → AnswersTo octets texts
         → (lost : List ℕ) × AllAlike (lines_of octets) (front ++ lost) texts }

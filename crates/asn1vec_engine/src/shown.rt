@@ -76,8 +76,11 @@ pub(crate) fn push_encoding<T: LawfulWrite>(
     text: &mut Vec<u8>,
 ) -> Result<(), AllocError>
     requires { (o : List ℕ) × IsStrict T.grammar.Form (T.grammar.value x.now) o }
-    ensures { OnOk result (Gains text.old.items text.new.items (SaysEncoding
-        (StrictEncoding T.grammar.Form (some_allocates T.write_allocates T.count_allocates T.content_allocates) (T.grammar.value x.now)))) }
+    ensures { OnOk result
+        (Gains text.old.items text.new.items
+        (SaysEncoding (StrictEncoding T.grammar.Form
+        (some_allocates T.write_allocates T.count_allocates T.content_allocates)
+        (T.grammar.value x.now)))) }
 {
     buffer.clear();
     let mut output = Told::new(mem::replace(buffer, Vec::new(alloc)));

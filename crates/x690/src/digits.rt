@@ -29,7 +29,8 @@ pub fn tag_number(octets: &[u8]) -> Option<(u32, usize)>
     ensures few { IfSome result (λ found. found.1 ≤ 5) }
     ensures digits { IfSome result (λ found. AreTagDigits (take found.1 octets.now)) }
     ensures value { IfSome result (λ found. base_128_value (take found.1 octets.now) ≡ found.0) }
-    ensures none { IfNone result ((k : ℕ) → k ≤ 5 → AreTagDigits (take k octets.now) → base_128_value (take k octets.now) < 2 ^ 32 → ⊥) }
+    ensures none { IfNone result ((k : ℕ) → k ≤ 5 → AreTagDigits (take k octets.now) →
+        base_128_value (take k octets.now) < 2 ^ 32 → ⊥) }
 {
     let mut number: u64 = 0;
     for (i, octet) in octets.iter().enumerate() {
@@ -88,7 +89,9 @@ pub fn length_octets_count(n: usize) -> usize
 /// How many strict identifier octets say this tag number, whatever the class and the constructed bit
 /// (X.690 8.1.2.2, 8.1.2.4).
 pub fn identifier_octets_count(number: u32) -> usize
-    ensures count { (class : ℕ) (constructed : Bool) → result ≡ length (identifier_octets (record { class = class; constructed = constructed; number = number })) }
+    ensures count { (class : ℕ) (constructed : Bool) →
+        result ≡ length
+        (identifier_octets (record { class = class; constructed = constructed; number = number })) }
     ensures few { result ≤ 6 }
 {
     if number < 31 {
@@ -129,7 +132,8 @@ fn high_bits(class: u8, constructed: bool) -> u8
 fn write_identifier(class: u8, constructed: bool, number: u32, out: &mut [u8]) -> usize
     requires class { class < 4 }
     requires room { 6 ≤ length out.old }
-    ensures written { take result out.new ≡ identifier_octets (record { class = class; constructed = constructed; number = number }) }
+    ensures written { take result out.new ≡
+        identifier_octets (record { class = class; constructed = constructed; number = number }) }
     ensures kept { drop result out.new ≡ drop result out.old }
     ensures few { result ≤ 6 }
 {
@@ -167,7 +171,8 @@ fn write_length(n: usize, out: &mut [u8]) -> usize
 /// What stands behind them stays.
 pub fn identifier_into(class: u8, constructed: bool, number: u32, out: &mut [u8; 6]) -> usize
     requires { class < 4 }
-    ensures written { take result out.new ≡ identifier_octets (record { class = class; constructed = constructed; number = number }) }
+    ensures written { take result out.new ≡
+        identifier_octets (record { class = class; constructed = constructed; number = number }) }
     ensures kept { drop result out.new ≡ drop result out.old }
     ensures few { result ≤ 6 }
 {

@@ -124,6 +124,8 @@ pub fn has_spare_ones(octets: &[u8]) -> bool
 pub fn integers_have_one_content()
     ensures exists { (n : ℤ) → IsIntegerContent n (signed_octets n) }
     ensures of_natural { (n : ℕ) → IsIntegerContent (pos n) (unsigned_octets n) }
-    ensures no_other { (n : ℤ) (c d : List ℕ) → IsIntegerContent n c → IsIntegerContent n d → c ≡ d }
-    ensures one_value { (m n : ℤ) (c : List ℕ) → IsIntegerContent m c → IsIntegerContent n c → m ≡ n }
+    ensures no_other { (n : ℤ) (c d : List ℕ) → IsIntegerContent n c → IsIntegerContent n d →
+        c ≡ d }
+    ensures one_value { (m n : ℤ) (c : List ℕ) → IsIntegerContent m c → IsIntegerContent n c →
+        m ≡ n }
 {}

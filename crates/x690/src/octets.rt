@@ -7,9 +7,10 @@ ghost use Rattle.x690.specs.Octets.{IsBeforeOrSame};
 /// are the same, and not both but where they are the same.
 pub fn dictionary_order_is_total()
     ensures total { (one other : List ℕ) → IsBeforeOrSame one other ⊎ IsBeforeOrSame other one }
-    ensures antisymmetric { (one other : List ℕ) → IsBeforeOrSame one other → IsBeforeOrSame other one → one ≡ other }
-    ensures transitive { (one other third : List ℕ) → IsBeforeOrSame one other → IsBeforeOrSame other third
-        → IsBeforeOrSame one third }
+    ensures antisymmetric { (one other : List ℕ) → IsBeforeOrSame one other →
+        IsBeforeOrSame other one → one ≡ other }
+    ensures transitive { (one other third : List ℕ) → IsBeforeOrSame one other →
+        IsBeforeOrSame other third → IsBeforeOrSame one third }
 {}
 
 /// At the first difference of two octet strings the lesser octet decides which one comes before the other, and a

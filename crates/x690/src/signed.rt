@@ -118,6 +118,8 @@ pub fn signed_into(n: i128, out: &mut [u8; 17]) -> usize
 /// So many octets hold an integer exactly where its strict contents octets are no more, and any octets that are
 /// no more say an integer that so many hold (X.690 8.3.2, 8.3.3).
 pub fn octets_hold_their_integers()
-    ensures strict { (n : ℤ) (size : ℕ) → 1 ≤ size → IsSigned size n ↔ (length (signed_octets n) ≤ size) }
-    ensures each { (octets : List ℕ) (size : ℕ) → IsOctets octets → length octets ≤ size → IsSigned size (twos_complement_value octets) }
+    ensures strict { (n : ℤ) (size : ℕ) → 1 ≤ size →
+        IsSigned size n ↔ (length (signed_octets n) ≤ size) }
+    ensures each { (octets : List ℕ) (size : ℕ) → IsOctets octets → length octets ≤ size →
+        IsSigned size (twos_complement_value octets) }
 {}

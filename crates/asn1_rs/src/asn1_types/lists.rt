@@ -211,9 +211,14 @@ pub(crate) fn check_list<T: CheckDerConstraints>(number: u32, any: &Any<'_>) -> 
 
 /// How many octets the items are written in.
 pub(crate) fn count_items<T: ToDer>(items: &[T]) -> Result<usize, Error>
-    ensures count { All T.tells items.now → IfOk result (λ n. n ≡ length (flat_map (λ x. T.header x ++ T.content x) items.now)) }
-    ensures refused { All T.tells items.now → IfErr result (RefusesCount T.count_allocates (length (flat_map (λ x. T.header x ++ T.content x) items.now)) (SomeRefuses T.count_refuses items.now)) }
-    ensures accepted { (e : Error) → All T.tells items.now → SomeRefuses T.count_refuses items.now e → IsErr result }
+    ensures count { All T.tells items.now →
+        IfOk result (λ n. n ≡ length (flat_map (λ x. T.header x ++ T.content x) items.now)) }
+    ensures refused { All T.tells items.now →
+        IfErr result (RefusesCount T.count_allocates
+        (length (flat_map (λ x. T.header x ++ T.content x) items.now))
+        (SomeRefuses T.count_refuses items.now)) }
+    ensures accepted { (e : Error) → All T.tells items.now →
+        SomeRefuses T.count_refuses items.now e → IsErr result }
 {
     let mut total = 0;
     for item in items {
@@ -229,10 +234,19 @@ pub(crate) fn write_items<T: ToDer, W: DerWrite>(
     alloc: Global,
     w: &mut W,
 ) -> SerializeResult<usize>
-    ensures wrote { All T.tells items.now → Wrote (flat_map (λ x. T.header x ++ T.content x) items.now) (W.told w.old) (W.told w.new) (W.failed w.old) (W.failed w.new) result }
-    ensures refused { All T.tells items.now → IfErr result (Refuses (some_allocates T.write_allocates T.count_allocates T.content_allocates) (length (flat_map (λ x. T.header x ++ T.content x) items.now)) (SomeRefuses (λ x. Either (T.header_refuses x) (T.content_refuses x)) items.now)) }
-    ensures accepted { (e : SerializeError) → All T.tells items.now → SomeRefuses (λ x. Either (T.header_refuses x) (T.content_refuses x)) items.now e → IsErr result }
-    ensures uncounted { (e : Error) → All T.tells items.now → SomeRefuses T.count_refuses items.now e → IsErr result }
+    ensures wrote { All T.tells items.now →
+        Wrote (flat_map (λ x. T.header x ++ T.content x) items.now) (W.told w.old) (W.told w.new)
+        (W.failed w.old) (W.failed w.new) result }
+    ensures refused { All T.tells items.now →
+        IfErr result
+        (Refuses (some_allocates T.write_allocates T.count_allocates T.content_allocates)
+        (length (flat_map (λ x. T.header x ++ T.content x) items.now))
+        (SomeRefuses (λ x. Either (T.header_refuses x) (T.content_refuses x)) items.now)) }
+    ensures accepted { (e : SerializeError) → All T.tells items.now →
+        SomeRefuses (λ x. Either (T.header_refuses x) (T.content_refuses x)) items.now e →
+        IsErr result }
+    ensures uncounted { (e : Error) → All T.tells items.now →
+        SomeRefuses T.count_refuses items.now e → IsErr result }
 {
     let mut total = 0;
     for item in items {

@@ -62,14 +62,16 @@ impl<'a> Header<'a> {
 
     /// The same header with another class.
     pub fn with_class(self, class: Class) -> Self
-        ensures { HasParts result class (is_constructed_of self.entry) (tag_of self.entry) (length_of self.entry) (raw_tag_of self.entry) }
+        ensures { HasParts result class (is_constructed_of self.entry) (tag_of self.entry)
+            (length_of self.entry) (raw_tag_of self.entry) }
     {
         Header { class, ..self }
     }
 
     /// The same header with another constructed bit.
     pub fn with_constructed(self, constructed: bool) -> Self
-        ensures { HasParts result (class_of self.entry) constructed (tag_of self.entry) (length_of self.entry) (raw_tag_of self.entry) }
+        ensures { HasParts result (class_of self.entry) constructed (tag_of self.entry)
+            (length_of self.entry) (raw_tag_of self.entry) }
     {
         Header {
             constructed,
@@ -79,21 +81,24 @@ impl<'a> Header<'a> {
 
     /// The same header with another tag number. The identifier octets that were read stay.
     pub fn with_tag(self, tag: Tag) -> Self
-        ensures { HasParts result (class_of self.entry) (is_constructed_of self.entry) tag (length_of self.entry) (raw_tag_of self.entry) }
+        ensures { HasParts result (class_of self.entry) (is_constructed_of self.entry) tag
+            (length_of self.entry) (raw_tag_of self.entry) }
     {
         Header { tag, ..self }
     }
 
     /// The same header with another length.
     pub fn with_length(self, length: Length) -> Self
-        ensures { HasParts result (class_of self.entry) (is_constructed_of self.entry) (tag_of self.entry) length (raw_tag_of self.entry) }
+        ensures { HasParts result (class_of self.entry) (is_constructed_of self.entry)
+            (tag_of self.entry) length (raw_tag_of self.entry) }
     {
         Header { length, ..self }
     }
 
     /// The same header with other identifier octets, or with none.
     pub fn with_raw_tag(self, raw_tag: Option<CowSlice<'a, u8, Global>>) -> Self
-        ensures { HasParts result (class_of self.entry) (is_constructed_of self.entry) (tag_of self.entry) (length_of self.entry) (option_map cow_slice_items raw_tag.entry) }
+        ensures { HasParts result (class_of self.entry) (is_constructed_of self.entry)
+            (tag_of self.entry) (length_of self.entry) (option_map cow_slice_items raw_tag.entry) }
     {
         Header {
             class: self.class,
@@ -186,21 +191,26 @@ impl<'a> Header<'a> {
 
     /// Refuses another class with `UnexpectedClass`.
     pub fn assert_class(&self, class: Class) -> Result<(), Error>
-        ensures { MatchResult result (λ _. class_of self.now ≡ class) (λ e. (class_of self.now ≢ class) × (e ≡ errors.UnexpectedClass (Some class) (class_of self.now))) }
+        ensures { MatchResult result (λ _. class_of self.now ≡ class)
+            (λ e. (class_of self.now ≢ class)
+            × (e ≡ errors.UnexpectedClass (Some class) (class_of self.now))) }
     {
         self.class.assert_eq(class)
     }
 
     /// Refuses another tag number with `UnexpectedTag`.
     pub fn assert_tag(&self, tag: Tag) -> Result<(), Error>
-        ensures { MatchResult result (λ _. tag_of self.now ≡ tag) (λ e. (tag_of self.now ≢ tag) × (e ≡ errors.UnexpectedTag (Some tag) (tag_of self.now))) }
+        ensures { MatchResult result (λ _. tag_of self.now ≡ tag)
+            (λ e. (tag_of self.now ≢ tag)
+            × (e ≡ errors.UnexpectedTag (Some tag) (tag_of self.now))) }
     {
         self.tag.assert_eq(tag)
     }
 
     /// Refuses a constructed header with `ConstructUnexpected`.
     pub fn assert_primitive(&self) -> Result<(), Error>
-        ensures { MatchResult result (λ _. is_constructed_of self.now ≡ false) (λ e. (is_constructed_of self.now ≡ true) × (e ≡ errors.ConstructUnexpected)) }
+        ensures { MatchResult result (λ _. is_constructed_of self.now ≡ false)
+            (λ e. (is_constructed_of self.now ≡ true) × (e ≡ errors.ConstructUnexpected)) }
     {
         if self.constructed {
             Err(Error::ConstructUnexpected)
@@ -211,7 +221,8 @@ impl<'a> Header<'a> {
 
     /// Refuses a primitive header with `ConstructExpected`.
     pub fn assert_constructed(&self) -> Result<(), Error>
-        ensures { MatchResult result (λ _. is_constructed_of self.now ≡ true) (λ e. (is_constructed_of self.now ≡ false) × (e ≡ errors.ConstructExpected)) }
+        ensures { MatchResult result (λ _. is_constructed_of self.now ≡ true)
+            (λ e. (is_constructed_of self.now ≡ false) × (e ≡ errors.ConstructExpected)) }
     {
         if self.constructed {
             Ok(())
@@ -222,7 +233,9 @@ impl<'a> Header<'a> {
 
     /// Refuses an indefinite length with `DerConstraintFailed(IndefiniteLength)`.
     pub fn assert_definite(&self) -> Result<(), Error>
-        ensures { MatchResult result (λ _. (n : ℕ) × (length_of self.now ≡ forms.Definite n)) (λ e. (length_of self.now ≡ forms.Indefinite) × (e ≡ errors.DerConstraintFailed constraints.IndefiniteLength)) }
+        ensures { MatchResult result (λ _. (n : ℕ) × (length_of self.now ≡ forms.Definite n))
+            (λ e. (length_of self.now ≡ forms.Indefinite)
+            × (e ≡ errors.DerConstraintFailed constraints.IndefiniteLength)) }
     {
         match self.length {
             Length::Definite(_) => Ok(()),
@@ -251,7 +264,8 @@ impl Eq for Header<'_> {
 }
 
 impl From<Tag> for Header<'_> {
-    ghost from_gives = { λ tag header. HasParts header classes.Universal (is_container tag) tag (forms.Definite 0) None };
+    ghost from_gives = { λ tag header. HasParts header classes.Universal (is_container tag) tag
+        (forms.Definite 0) None };
 
     fn from(tag: Tag) -> Self {
         Header::new_simple(tag)

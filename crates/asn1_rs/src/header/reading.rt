@@ -106,7 +106,8 @@ impl<'a> IdentifierOctets<'a> {
     /// The header with this identifier, and these octets as its raw tag.
     #[inline(always)]
     fn with_length(self, length: Length) -> Header<'a>
-        ensures { HasParts result self.entry.class self.entry.constructed (tag_read self.entry) length (Some self.entry.octets.now) }
+        ensures { HasParts result self.entry.class self.entry.constructed
+            (tag_read self.entry) length (Some self.entry.octets.now) }
     {
         Header::new(self.class, self.constructed, Tag(self.number), length).with_raw_tag(Some(
             CowSlice::Borrowed(self.octets),

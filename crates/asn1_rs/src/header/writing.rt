@@ -24,7 +24,8 @@ use x690::digits::{header_into, identifier_into, identifier_octets_count, length
 
 /// How many octets the strict header of an element has whose contents are so many octets.
 pub(crate) fn header_len(number: u32, len: usize) -> usize
-    ensures { (class : ℕ) (constructed : Bool) → result ≡ length (header_octets class constructed number len) }
+    ensures { (class : ℕ) (constructed : Bool) →
+        result ≡ length (header_octets class constructed number len) }
 {
     identifier_octets_count(number) + length_octets_count(len)
 }
@@ -39,8 +40,16 @@ pub(crate) fn add_counts(before: usize, after: usize) -> Result<usize, Error>
 
 /// How many octets an element has whose contents were counted.
 pub(crate) fn element_len(number: u32, counted: Result<usize, Error>) -> Result<usize, Error>
-    ensures count { (class : ℕ) (constructed : Bool) (content : List ℕ) → IfOk counted (λ n. n ≡ length content) → IfOk result (λ n. n ≡ length (header_octets class constructed number (length content) ++ content)) }
-    ensures writable { (allocates : Bool) (class : ℕ) (constructed : Bool) (content : List ℕ) → IfOk counted (λ n. n ≡ length content) → IfErr counted (MayRefuseCount allocates (length content)) → IfErr result (MayRefuseCount allocates (length (header_octets class constructed number (length content) ++ content))) }
+    ensures count { (class : ℕ) (constructed : Bool) (content : List ℕ) →
+        IfOk counted (λ n. n ≡ length content) →
+        IfOk result
+        (λ n. n ≡ length (header_octets class constructed number (length content) ++ content)) }
+    ensures writable { (allocates : Bool) (class : ℕ) (constructed : Bool) (content : List ℕ) →
+        IfOk counted (λ n. n ≡ length content) →
+        IfErr counted (MayRefuseCount allocates (length content)) →
+        IfErr result
+        (MayRefuseCount allocates
+        (length (header_octets class constructed number (length content) ++ content))) }
     ensures refused { IfErr counted (λ e. result ≡ Err e) }
 {
     match counted {
@@ -59,7 +68,8 @@ pub(crate) fn put_header<W: DerWrite>(
     w: &mut W,
 ) -> SerializeResult<usize>
     requires { class < 4 }
-    ensures wrote { Wrote (header_octets class constructed number len) (W.told w.old) (W.told w.new) (W.failed w.old) (W.failed w.new) result }
+    ensures wrote { Wrote (header_octets class constructed number len) (W.told w.old) (W.told w.new)
+        (W.failed w.old) (W.failed w.new) result }
     ensures failed { (allocates : Bool) (most : ℕ) → IfErr result (MayRefuse allocates most) }
 {
     let mut octets = [0; 15];
@@ -79,9 +89,15 @@ pub(crate) fn put_counted_header<W: DerWrite>(
     w: &mut W,
 ) -> SerializeResult<usize>
     requires { class < 4 }
-    ensures wrote { (len : ℕ) → IfOk counted (λ n. n ≡ len) → Wrote (header_octets class constructed number len) (W.told w.old) (W.told w.new) (W.failed w.old) (W.failed w.new) result }
-    ensures writable { (allocates : Bool) (front content : List ℕ) → IfErr counted (MayRefuseCount allocates (length content)) → IfErr result (MayRefuse allocates (length (front ++ content))) }
-    ensures refused { IfErr counted (λ e. RefusedAtOnce (written_refusal e) (W.told w.old) (W.told w.new) (W.failed w.old) (W.failed w.new) result) }
+    ensures wrote { (len : ℕ) → IfOk counted (λ n. n ≡ len) →
+        Wrote (header_octets class constructed number len) (W.told w.old) (W.told w.new)
+        (W.failed w.old) (W.failed w.new) result }
+    ensures writable { (allocates : Bool) (front content : List ℕ) →
+        IfErr counted (MayRefuseCount allocates (length content)) →
+        IfErr result (MayRefuse allocates (length (front ++ content))) }
+    ensures refused { IfErr counted
+        (λ e. RefusedAtOnce (written_refusal e) (W.told w.old) (W.told w.new) (W.failed w.old)
+        (W.failed w.new) result) }
 {
     match counted {
         Ok(len) => put_header(class, constructed, number, len, w),
@@ -91,7 +107,8 @@ pub(crate) fn put_counted_header<W: DerWrite>(
 
 /// Appends the strict identifier octets, in one piece, and answers their number.
 fn put_identifier<W: DerWrite>(parts: (Class, bool, Tag), w: &mut W) -> SerializeResult<usize>
-    ensures wrote { Wrote (identifier_octets (parts_identifier parts)) (W.told w.old) (W.told w.new) (W.failed w.old) (W.failed w.new) result }
+    ensures wrote { Wrote (identifier_octets (parts_identifier parts)) (W.told w.old) (W.told w.new)
+        (W.failed w.old) (W.failed w.new) result }
     ensures failed { (allocates : Bool) (most : ℕ) → IfErr result (MayRefuse allocates most) }
 {
     let (class, constructed, tag) = parts;
@@ -102,7 +119,8 @@ fn put_identifier<W: DerWrite>(parts: (Class, bool, Tag), w: &mut W) -> Serializ
 
 /// Appends identifier octets and then length octets, and answers their number.
 fn put_parts<W: DerWrite>(identifier: &[u8], form: Length, w: &mut W) -> SerializeResult<usize>
-    ensures wrote { Wrote (identifier.now ++ length_form_octets (form_of form)) (W.told w.old) (W.told w.new) (W.failed w.old) (W.failed w.new) result }
+    ensures wrote { Wrote (identifier.now ++ length_form_octets (form_of form)) (W.told w.old)
+        (W.told w.new) (W.failed w.old) (W.failed w.new) result }
     ensures failed { (allocates : Bool) (most : ℕ) → IfErr result (MayRefuse allocates most) }
 {
     let before = put_all(w, identifier)?;
@@ -115,7 +133,8 @@ pub(crate) fn put_strict_header<W: DerWrite>(
     header: &Header<'_>,
     w: &mut W,
 ) -> SerializeResult<usize>
-    ensures wrote { Wrote (strict_header header.now) (W.told w.old) (W.told w.new) (W.failed w.old) (W.failed w.new) result }
+    ensures wrote { Wrote (strict_header header.now) (W.told w.old) (W.told w.new) (W.failed w.old)
+        (W.failed w.new) result }
     ensures failed { (allocates : Bool) (most : ℕ) → IfErr result (MayRefuse allocates most) }
 {
     let mut octets = [0; 6];
@@ -199,7 +218,8 @@ impl ToDer for Header<'_> {
 
     fn to_der_len(&self) -> Result<usize, Error>
         ensures count { IfOk result (λ n. n ≡ length (strict_header self.now ++ [])) }
-        ensures refused { IfErr result (RefusesCount false (length (strict_header self.now ++ [])) (λ _. ⊥)) }
+        ensures refused { IfErr result
+            (RefusesCount false (length (strict_header self.now ++ [])) (λ _. ⊥)) }
         ensures exact { result ≡ Ok (length (strict_header self.now)) }
     {
         Ok(identifier_octets_count(self.tag().0) + length_len(self.length()))
@@ -227,11 +247,17 @@ impl ToDer for Header<'_> {
 
     /// Appends the identifier octets that were read, where the header keeps them, and then the length octets.
     fn write_der_raw<W: DerWrite>(&self, _alloc: Global, w: &mut W) -> SerializeResult<usize>
-        ensures raw { Wrote (kept_header self.now) (W.told w.old) (W.told w.new) (W.failed w.old) (W.failed w.new) result }
+        ensures raw { Wrote (kept_header self.now) (W.told w.old) (W.told w.new) (W.failed w.old)
+            (W.failed w.new) result }
         ensures failed { (allocates : Bool) (most : ℕ) → IfErr result (MayRefuse allocates most) }
-        ensures der { raw_tag_of self.now ≡ None → Wrote (strict_header self.now ++ []) (W.told w.old) (W.told w.new) (W.failed w.old) (W.failed w.new) result }
-        ensures refused { raw_tag_of self.now ≡ None → IfErr result (Refuses false (length (strict_header self.now ++ [])) (Either (λ _. ⊥) (λ _. ⊥))) }
-        ensures counted { IfOk result (λ n. (raw : List ℕ) × Appends (W.told w.old) (W.told w.new) raw × (n ≡ length raw)) }
+        ensures der { raw_tag_of self.now ≡ None →
+            Wrote (strict_header self.now ++ []) (W.told w.old) (W.told w.new) (W.failed w.old)
+            (W.failed w.new) result }
+        ensures refused { raw_tag_of self.now ≡ None →
+            IfErr result
+            (Refuses false (length (strict_header self.now ++ [])) (Either (λ _. ⊥) (λ _. ⊥))) }
+        ensures counted { IfOk result
+            (λ n. (raw : List ℕ) × Appends (W.told w.old) (W.told w.new) raw × (n ≡ length raw)) }
     {
         match self.raw_tag() {
             Some(octets) => put_parts(octets, self.length(), w),
@@ -243,8 +269,11 @@ impl ToDer for Header<'_> {
     fn to_der_vec_raw(&self, alloc: Global) -> SerializeResult<Vec<u8>>
         ensures raw { IfOk result (λ octets. octets.items ≡ kept_header self.now) }
         ensures failed { (most : ℕ) → IfErr result (MayRefuse true most) }
-        ensures der { raw_tag_of self.now ≡ None → IfOk result (λ octets. octets.items ≡ strict_header self.now ++ []) }
-        ensures refused { raw_tag_of self.now ≡ None → IfErr result (VectorRefuses (length (strict_header self.now ++ [])) (Either (λ _. ⊥) (λ _. ⊥))) }
+        ensures der { raw_tag_of self.now ≡ None →
+            IfOk result (λ octets. octets.items ≡ strict_header self.now ++ []) }
+        ensures refused { raw_tag_of self.now ≡ None →
+            IfErr result
+            (VectorRefuses (length (strict_header self.now ++ [])) (Either (λ _. ⊥) (λ _. ⊥))) }
         ensures memory { IfErr result (λ e. tells_of_io e ≡ false) }
     {
         let mut w = Told::new(Vec::new(alloc));

@@ -33,7 +33,8 @@ pub trait WritesPrimitive: LawfulElement + Tagged {
 
     /// Appends the contents octets, and answers their number.
     fn put_octets<W: DerWrite>(&self, w: &mut W) -> SerializeResult<usize>
-        ensures wrote { Wrote (octets self.now) (W.told w.old) (W.told w.new) (W.failed w.old) (W.failed w.new) result }
+        ensures wrote { Wrote (octets self.now) (W.told w.old) (W.told w.new) (W.failed w.old)
+            (W.failed w.new) result }
         ensures refused { IfErr result (MayRefuse false (length (octets self.now))) };
 
     /// They follow from the value, and are its strict content where it has one; another class changes nothing.
@@ -79,14 +80,17 @@ pub trait ToDerBy<K>: DynTagged {
         ensures count { writing.tells self.now →
             IfOk result (λ n. n ≡ length (writing.header self.now ++ writing.content self.now)) }
         ensures refused { writing.tells self.now →
-            IfErr result (RefusesCount writing.count_allocates
-            (length (writing.header self.now ++ writing.content self.now)) (writing.count_refuses self.now)) }
+            IfErr result
+            (RefusesCount writing.count_allocates
+            (length (writing.header self.now ++ writing.content self.now))
+            (writing.count_refuses self.now)) }
         ensures accepted { (e : Error) → writing.tells self.now →
             writing.count_refuses self.now e → IsErr result };
 
     /// `der_content_len`.
     fn content_count(&self) -> Result<usize, Error>
-        ensures count { writing.tells self.now → IfOk result (λ n. n ≡ length (writing.content self.now)) }
+        ensures count { writing.tells self.now →
+            IfOk result (λ n. n ≡ length (writing.content self.now)) }
         ensures refused { writing.tells self.now →
             IfErr result (RefusesCount writing.count_allocates
             (length (writing.content self.now)) (writing.count_refuses self.now)) }
@@ -100,21 +104,28 @@ pub trait ToDerBy<K>: DynTagged {
     /// `write_der_header`.
     fn put_header<W: DerWrite>(&self, alloc: Global, w: &mut W) -> SerializeResult<usize>
         ensures wrote { writing.tells self.now →
-            Wrote (writing.header self.now) (W.told w.old) (W.told w.new) (W.failed w.old) (W.failed w.new) result }
+            Wrote (writing.header self.now) (W.told w.old) (W.told w.new) (W.failed w.old)
+            (W.failed w.new) result }
         ensures refused { writing.tells self.now →
-            IfErr result (Refuses writing.count_allocates
-            (length (writing.header self.now ++ writing.content self.now)) (writing.header_refuses self.now)) }
-        ensures at_once { (e : SerializeError) → writing.tells self.now → writing.header_refuses self.now e →
+            IfErr result
+            (Refuses writing.count_allocates
+            (length (writing.header self.now ++ writing.content self.now))
+            (writing.header_refuses self.now)) }
+        ensures at_once { (e : SerializeError) → writing.tells self.now →
+            writing.header_refuses self.now e →
             IsRefusedAtOnce writing.count_allocates
-            (length (writing.header self.now ++ writing.content self.now)) (writing.header_refuses self.now)
-            (W.told w.old) (W.told w.new) (W.failed w.old) (W.failed w.new) result }
+            (length (writing.header self.now ++ writing.content self.now))
+            (writing.header_refuses self.now) (W.told w.old) (W.told w.new) (W.failed w.old)
+            (W.failed w.new) result }
         ensures first { (e : SerializeError) → writing.refuses_first self.now e →
-            RefusedAtOnce e (W.told w.old) (W.told w.new) (W.failed w.old) (W.failed w.new) result };
+            RefusedAtOnce e (W.told w.old) (W.told w.new) (W.failed w.old)
+            (W.failed w.new) result };
 
     /// `write_der_content`.
     fn put_content<W: DerWrite>(&self, alloc: Global, w: &mut W) -> SerializeResult<usize>
         ensures wrote { writing.tells self.now →
-            Wrote (writing.content self.now) (W.told w.old) (W.told w.new) (W.failed w.old) (W.failed w.new) result }
+            Wrote (writing.content self.now) (W.told w.old) (W.told w.new) (W.failed w.old)
+            (W.failed w.new) result }
         ensures refused { writing.tells self.now →
             IfErr result (Refuses writing.content_allocates
             (length (writing.content self.now)) (writing.content_refuses self.now)) }
@@ -123,7 +134,8 @@ pub trait ToDerBy<K>: DynTagged {
         ensures uncounted { (e : Error) → writing.tells self.now →
             writing.count_refuses self.now e → IsErr result }
         ensures first { (e : SerializeError) → writing.refuses_first self.now e →
-            RefusedAtOnce e (W.told w.old) (W.told w.new) (W.failed w.old) (W.failed w.new) result };
+            RefusedAtOnce e (W.told w.old) (W.told w.new) (W.failed w.old)
+            (W.failed w.new) result };
 }
 
 impl<T: WritesPrimitive> ToDerBy<ElementKind> for T {
@@ -241,7 +253,8 @@ pub trait LawfulWriteBy<K>: ToDer + LawfulItem {
     ghost tells_each: { (x : Self) → Self.tells x };
 
     /// `by_value`.
-    ghost written_by_value: { WritesByValue Self.grammar.value Self.constructed Self.header Self.content };
+    ghost written_by_value: { WritesByValue Self.grammar.value Self.constructed Self.header
+        Self.content };
 
     /// `form`.
     ghost written_form: { WritesForm Self.grammar.value Self.grammar.Form
@@ -249,7 +262,8 @@ pub trait LawfulWriteBy<K>: ToDer + LawfulItem {
         Self.constructed Self.header Self.content };
 
     /// `der_form`.
-    ghost written_der: { HasForm Self.grammar.value Self.grammar.IsDer Self.grammar.Form Self.content };
+    ghost written_der: { HasForm Self.grammar.value Self.grammar.IsDer Self.grammar.Form
+        Self.content };
 }
 
 impl<T: WritesPrimitive> LawfulWriteBy<ElementKind> for T {

@@ -29,9 +29,10 @@ use crate::laws::{LawfulBer, LawfulDer, LawfulItem, LawfulWrite};
 /// and the rest, and a final refusal else. The strict encoding of a value is read back before any rest. Octets that are
 /// shorter than a word that more of them make them begin with are refused.
 pub fn reader_is_exact_by_ber<'a, T: LawfulBer<'a, E>, E: From<Error>>()
-    ensures exact { (input : List ℕ) (answer : Result (List ℕ × T) (Refusal E)) → IsOctets input
-        → T.ber_gives input answer
-        → Exactly EndsWithin T.grammar.Ber T.grammar.value (TellsMemory T.grammar.allocates E.from_gives) input answer }
+    ensures exact { (input : List ℕ) (answer : Result (List ℕ × T) (Refusal E)) → IsOctets input →
+        T.ber_gives input answer →
+        Exactly EndsWithin T.grammar.Ber T.grammar.value
+        (TellsMemory T.grammar.allocates E.from_gives) input answer }
     ensures back { (input : List ℕ) (answer : Result (List ℕ × T) (Refusal E)) (v : T.grammar.Value)
         (w rest : List ℕ) → IsOctets input → T.ber_gives input answer → IsStrict T.grammar.Form v w
         → input ≡ w ++ rest
@@ -46,9 +47,10 @@ pub fn reader_is_exact_by_ber<'a, T: LawfulBer<'a, E>, E: From<Error>>()
 /// The reader by DER of a lawful type is exact: what `T::from_der` may answer, `T.der_gives`, is what
 /// [`reader_is_exact_by_ber`] says, by the type's grammar by DER.
 pub fn reader_is_exact_by_der<'a, T: LawfulDer<'a, E>, E: From<Error>>()
-    ensures exact { (input : List ℕ) (answer : Result (List ℕ × T) (Refusal E)) → IsOctets input
-        → T.der_gives input answer
-        → Exactly IsCutIdentifier T.grammar.Der T.grammar.value (TellsMemory T.grammar.allocates E.from_gives) input answer }
+    ensures exact { (input : List ℕ) (answer : Result (List ℕ × T) (Refusal E)) → IsOctets input →
+        T.der_gives input answer →
+        Exactly IsCutIdentifier T.grammar.Der T.grammar.value
+        (TellsMemory T.grammar.allocates E.from_gives) input answer }
     ensures back { (input : List ℕ) (answer : Result (List ℕ × T) (Refusal E)) (v : T.grammar.Value)
         (w rest : List ℕ) → IsOctets input → T.der_gives input answer → IsStrict T.grammar.Form v w
         → input ≡ w ++ rest
@@ -65,17 +67,20 @@ pub fn reader_is_exact_by_der<'a, T: LawfulDer<'a, E>, E: From<Error>>()
 /// One word begins an input, by BER and by DER, with one value and one rest. The strict encoding of a value is a word by
 /// BER and by DER with this value; no other value has it, and it begins no other strict encoding.
 pub fn words_and_values_are_unique<T: LawfulItem>()
-    ensures ber_value { (o : List ℕ) (v w : T.grammar.Value) → T.grammar.Ber o v → T.grammar.Ber o w → v ≡ w }
-    ensures der_value { (o : List ℕ) (v w : T.grammar.Value) → T.grammar.Der o v → T.grammar.Der o w → v ≡ w }
-    ensures ber_front { (x y r s : List ℕ) (v w : T.grammar.Value) → T.grammar.Ber x v → T.grammar.Ber y w → x ++ r ≡ y ++ s
-        → (x ≡ y) × (v ≡ w) × (r ≡ s) }
-    ensures der_front { (x y r s : List ℕ) (v w : T.grammar.Value) → T.grammar.Der x v → T.grammar.Der y w → x ++ r ≡ y ++ s
-        → (x ≡ y) × (v ≡ w) × (r ≡ s) }
-    ensures strict_word { (v : T.grammar.Value) (o : List ℕ) → IsStrict T.grammar.Form v o → T.grammar.Ber o v × T.grammar.Der o v }
-    ensures strict { (v : T.grammar.Value) (o p : List ℕ) → IsStrict T.grammar.Form v o → IsStrict T.grammar.Form v p
-        → o ≡ p }
-    ensures apart { (o p r s : List ℕ) (v w : T.grammar.Value) → IsStrict T.grammar.Form v o → IsStrict T.grammar.Form w p
-        → o ++ r ≡ p ++ s → (o ≡ p) × (v ≡ w) × (r ≡ s) }
+    ensures ber_value { (o : List ℕ) (v w : T.grammar.Value) → T.grammar.Ber o v →
+        T.grammar.Ber o w → v ≡ w }
+    ensures der_value { (o : List ℕ) (v w : T.grammar.Value) → T.grammar.Der o v →
+        T.grammar.Der o w → v ≡ w }
+    ensures ber_front { (x y r s : List ℕ) (v w : T.grammar.Value) → T.grammar.Ber x v →
+        T.grammar.Ber y w → x ++ r ≡ y ++ s → (x ≡ y) × (v ≡ w) × (r ≡ s) }
+    ensures der_front { (x y r s : List ℕ) (v w : T.grammar.Value) → T.grammar.Der x v →
+        T.grammar.Der y w → x ++ r ≡ y ++ s → (x ≡ y) × (v ≡ w) × (r ≡ s) }
+    ensures strict_word { (v : T.grammar.Value) (o : List ℕ) → IsStrict T.grammar.Form v o →
+        T.grammar.Ber o v × T.grammar.Der o v }
+    ensures strict { (v : T.grammar.Value) (o p : List ℕ) → IsStrict T.grammar.Form v o →
+        IsStrict T.grammar.Form v p → o ≡ p }
+    ensures apart { (o p r s : List ℕ) (v w : T.grammar.Value) → IsStrict T.grammar.Form v o →
+        IsStrict T.grammar.Form w p → o ++ r ≡ p ++ s → (o ≡ p) × (v ≡ w) × (r ≡ s) }
 {}
 
 /// What a lawful type writes and counts of a value in DER form is its strict encoding.
@@ -100,9 +105,9 @@ pub fn counts_are_of_the_strict_encoding<T: LawfulWrite>()
 /// It speaks of values in DER form, those that have a strict identifier and strict contents octets. No octets are strict
 /// for another value, and yet it may be written as it was read.
 pub fn strict_fronts_are_written_again<T: LawfulWrite>()
-    ensures { (x : T) (id : Identifier) (content front : List ℕ) → T.grammar.Form (T.grammar.value x) id content
-        → length front < 2 ^ 64
-        → IsStrict T.grammar.Form (T.grammar.value x) front ↔ (front ≡ T.header x ++ T.content x) }
+    ensures { (x : T) (id : Identifier) (content front : List ℕ) →
+        T.grammar.Form (T.grammar.value x) id content → length front < 2 ^ 64 →
+        IsStrict T.grammar.Form (T.grammar.value x) front ↔ (front ≡ T.header x ++ T.content x) }
 {}
 
 /// Octets that are shorter than a header or an element, and that more of them make begin with it, are refused: with
@@ -115,11 +120,11 @@ pub fn beginnings_are_refused()
         → input ++ more ≡ front ++ rest → length input < length front
         → RefusedAsBeginning (IsCutIdentifier input) more answer }
     ensures element { (input more word rest : List ℕ) (p : Parts)
-        (answer : Result (List ℕ × Any) (Refusal Error)) → DerElementGives input answer → IsDerElement word p
-        → input ++ more ≡ word ++ rest → length input < length word
-        → RefusedAsBeginning (IsCutIdentifier input) more answer }
+        (answer : Result (List ℕ × Any) (Refusal Error)) → DerElementGives input answer →
+        IsDerElement word p → input ++ more ≡ word ++ rest → length input < length word →
+        RefusedAsBeginning (IsCutIdentifier input) more answer }
     ensures ber_element { (input more word rest : List ℕ) (p : Parts)
-        (answer : Result (List ℕ × Any) (Refusal Error)) → BerElementGives input answer → IsElement max_depth word p
-        → input ++ more ≡ word ++ rest → length input < length word
-        → RefusedAsBeginning (EndsWithin input) more answer }
+        (answer : Result (List ℕ × Any) (Refusal Error)) → BerElementGives input answer →
+        IsElement max_depth word p → input ++ more ≡ word ++ rest → length input < length word →
+        RefusedAsBeginning (EndsWithin input) more answer }
 {}

@@ -101,8 +101,8 @@ pub trait LawfulAuto: LawfulCheck + DerAutoDerive {
 /// The reader by BER is exact: Ok where a word by BER begins the input, and a final refusal else.
 pub trait LawfulBer<'a, E: From<Error>>: FromBer<'a, E> + LawfulItem {
     /// What the reader may answer is exact by the grammar by BER.
-    ghost ber_exact: { (input : List ℕ) (answer : Result (List ℕ × Self) (Refusal E)) → IsOctets input →
-        Self.ber_gives input answer →
+    ghost ber_exact: { (input : List ℕ) (answer : Result (List ℕ × Self) (Refusal E)) →
+        IsOctets input → Self.ber_gives input answer →
         Exactly EndsWithin Self.grammar.Ber Self.grammar.value
         (TellsMemory Self.grammar.allocates E.from_gives) input answer };
 
@@ -115,8 +115,8 @@ pub trait LawfulBer<'a, E: From<Error>>: FromBer<'a, E> + LawfulItem {
 /// The reader by DER is exact: Ok where a word by DER begins the input, and a final refusal else.
 pub trait LawfulDer<'a, E: From<Error>>: FromDer<'a, E> + LawfulItem {
     /// What the reader may answer is exact by the grammar by DER.
-    ghost der_exact: { (input : List ℕ) (answer : Result (List ℕ × Self) (Refusal E)) → IsOctets input →
-        Self.der_gives input answer →
+    ghost der_exact: { (input : List ℕ) (answer : Result (List ℕ × Self) (Refusal E)) →
+        IsOctets input → Self.der_gives input answer →
         Exactly IsCutIdentifier Self.grammar.Der Self.grammar.value
         (TellsMemory Self.grammar.allocates E.from_gives) input answer };
 
@@ -140,7 +140,8 @@ pub trait LawfulWrite: ToDer + LawfulItem {
         Self.constructed Self.header Self.content };
 
     /// A value in DER form whose contents octets fit in memory has strict parts.
-    ghost der_form: { HasForm Self.grammar.value Self.grammar.IsDer Self.grammar.Form Self.content };
+    ghost der_form: { HasForm Self.grammar.value Self.grammar.IsDer Self.grammar.Form
+        Self.content };
 }
 
 /// The strict parts have the type's tag number.
@@ -211,10 +212,11 @@ pub fn read_ber<'a, T: LawfulBer<'a, E>, E: From<Error>>(
 ) -> ParseResult<'a, T, E>
     ensures exact { Exactly EndsWithin T.grammar.Ber T.grammar.value
         (TellsMemory T.grammar.allocates E.from_gives) input.now (seen result) }
-    ensures back { (v : T.grammar.Value) (w rest : List ℕ) →
-        IsStrict T.grammar.Form v w → input.now ≡ w ++ rest →
-        ReadsBack T.grammar.value (TellsMemory T.grammar.allocates E.from_gives) v rest (seen result) }
-    ensures spares { T.grammar.allocates ≡ false → IfErr (seen result) (HeldIn (IsOther E.from_gives)) }
+    ensures back { (v : T.grammar.Value) (w rest : List ℕ) → IsStrict T.grammar.Form v w →
+        input.now ≡ w ++ rest → ReadsBack T.grammar.value
+        (TellsMemory T.grammar.allocates E.from_gives) v rest (seen result) }
+    ensures spares { T.grammar.allocates ≡ false →
+        IfErr (seen result) (HeldIn (IsOther E.from_gives)) }
     ensures gives { T.ber_gives input.now (seen result) }
 {
     T::from_ber(alloc, input)
@@ -230,10 +232,11 @@ pub fn read_der<'a, T: LawfulDer<'a, E>, E: From<Error>>(
 ) -> ParseResult<'a, T, E>
     ensures exact { Exactly IsCutIdentifier T.grammar.Der T.grammar.value
         (TellsMemory T.grammar.allocates E.from_gives) bytes.now (seen result) }
-    ensures back { (v : T.grammar.Value) (w rest : List ℕ) →
-        IsStrict T.grammar.Form v w → bytes.now ≡ w ++ rest →
-        ReadsBack T.grammar.value (TellsMemory T.grammar.allocates E.from_gives) v rest (seen result) }
-    ensures spares { T.grammar.allocates ≡ false → IfErr (seen result) (HeldIn (IsOther E.from_gives)) }
+    ensures back { (v : T.grammar.Value) (w rest : List ℕ) → IsStrict T.grammar.Form v w →
+        bytes.now ≡ w ++ rest → ReadsBack T.grammar.value
+        (TellsMemory T.grammar.allocates E.from_gives) v rest (seen result) }
+    ensures spares { T.grammar.allocates ≡ false →
+        IfErr (seen result) (HeldIn (IsOther E.from_gives)) }
     ensures gives { T.der_gives bytes.now (seen result) }
 {
     T::from_der(alloc, bytes)

@@ -29,7 +29,8 @@ impl Length {
 
     /// The number of octets, or `IndefiniteLengthUnexpected`.
     pub fn definite(&self) -> Result<usize, Error>
-        ensures { MatchResult result (λ n. self.now ≡ forms.Definite n) (λ e. (self.now ≡ forms.Indefinite) × (e ≡ errors.IndefiniteLengthUnexpected)) }
+        ensures { MatchResult result (λ n. self.now ≡ forms.Definite n)
+            (λ e. (self.now ≡ forms.Indefinite) × (e ≡ errors.IndefiniteLengthUnexpected)) }
     {
         match self {
             Length::Definite(n) => Ok(*n),
@@ -46,7 +47,8 @@ impl Length {
 
     /// Refuses the indefinite form with `IndefiniteLengthUnexpected`.
     pub fn assert_definite(&self) -> Result<(), Error>
-        ensures { MatchResult result (λ _. (n : ℕ) × (self.now ≡ forms.Definite n)) (λ e. (self.now ≡ forms.Indefinite) × (e ≡ errors.IndefiniteLengthUnexpected)) }
+        ensures { MatchResult result (λ _. (n : ℕ) × (self.now ≡ forms.Definite n))
+            (λ e. (self.now ≡ forms.Indefinite) × (e ≡ errors.IndefiniteLengthUnexpected)) }
     {
         match self {
             Length::Definite(_) => Ok(()),

@@ -56,7 +56,8 @@ impl<'a> Any<'a> {
     /// A universal element with these contents octets, whose length the header counts; constructed exactly for the
     /// tags of sequence and set.
     pub fn from_tag_and_data(tag: Tag, content: &'a [u8]) -> Self
-        ensures header { HasParts result.header classes.Universal (is_container tag) tag (forms.Definite (length content.now)) None }
+        ensures header { HasParts result.header classes.Universal (is_container tag) tag
+            (forms.Definite (length content.now)) None }
         ensures content { result.content.now ≡ content.now }
     {
         let header = Header::new_simple(tag).with_length(Length::Definite(content.len()));
@@ -79,7 +80,9 @@ impl<'a> Any<'a> {
 
     /// The same element under another class. The identifier octets that were read stay.
     pub fn with_class(self, class: Class) -> Self
-        ensures header { HasParts result.header class (is_constructed_of self.entry.header) (tag_of self.entry.header) (length_of self.entry.header) (raw_tag_of self.entry.header) }
+        ensures header { HasParts result.header class (is_constructed_of self.entry.header)
+            (tag_of self.entry.header) (length_of self.entry.header)
+            (raw_tag_of self.entry.header) }
         ensures content { result.content.now ≡ self.entry.content.now }
     {
         Any {
@@ -90,7 +93,9 @@ impl<'a> Any<'a> {
 
     /// The same element under another tag number. The identifier octets that were read stay.
     pub fn with_tag(self, tag: Tag) -> Self
-        ensures header { HasParts result.header (class_of self.entry.header) (is_constructed_of self.entry.header) tag (length_of self.entry.header) (raw_tag_of self.entry.header) }
+        ensures header { HasParts result.header (class_of self.entry.header)
+            (is_constructed_of self.entry.header) tag (length_of self.entry.header)
+            (raw_tag_of self.entry.header) }
         ensures content { result.content.now ≡ self.entry.content.now }
     {
         Any {
@@ -136,7 +141,8 @@ impl<'a> Any<'a> {
         i: &'i [u8],
         header: &Header<'_>,
     ) -> ParseResult<'i, &'i [u8], Error>
-        ensures { BerContentGives (is_constructed_of header.now) (form_of (length_of header.now)) 8 i.now result }
+        ensures { BerContentGives (is_constructed_of header.now)
+            (form_of (length_of header.now)) 8 i.now result }
     {
         header.parse_ber_content(i)
     }
@@ -155,7 +161,9 @@ impl<'a> Any<'a> {
         F: FnOnce(&'a [u8]) -> ParseResult<'a, T, E> + Drop,
         E: From<Error>,
         requires { F.IsAlwaysCallable op }
-        ensures { AndThenGives IsDerElement DerElementFault der_refusal class (record { 0 = tag }) E.from_gives (FnOnceReturnsAt F.FnOnce op) bytes.now (seen result) }
+        ensures { AndThenGives IsDerElement DerElementFault der_refusal class
+            (record { 0 = tag }) E.from_gives (FnOnceReturnsAt F.FnOnce op) bytes.now
+            (seen result) }
     {
         match element_by_der(bytes) {
             Ok((rest, any)) => hand_on(any, rest, class, tag, op),
@@ -174,7 +182,9 @@ impl<'a> Any<'a> {
         F: FnOnce(&'a [u8]) -> ParseResult<'a, T, E> + Drop,
         E: From<Error>,
         requires { F.IsAlwaysCallable op }
-        ensures { AndThenGives (IsElement max_depth) (ElementFault max_depth) ber_refusal class (record { 0 = tag }) E.from_gives (FnOnceReturnsAt F.FnOnce op) bytes.now (seen result) }
+        ensures { AndThenGives (IsElement max_depth) (ElementFault max_depth) ber_refusal class
+            (record { 0 = tag }) E.from_gives (FnOnceReturnsAt F.FnOnce op) bytes.now
+            (seen result) }
     {
         match element_by_ber(bytes) {
             Ok((rest, any)) => hand_on(any, rest, class, tag, op),
@@ -195,7 +205,8 @@ where
     F: FnOnce(&'a [u8]) -> ParseResult<'a, T, E> + Drop,
     E: From<Error>,
     requires { F.IsAlwaysCallable op }
-    ensures { HandsOn class (record { 0 = tag }) E.from_gives (FnOnceReturnsAt F.FnOnce op) (parts_of any.entry) rest.now (seen result) }
+    ensures { HandsOn class (record { 0 = tag }) E.from_gives (FnOnceReturnsAt F.FnOnce op)
+        (parts_of any.entry) rest.now (seen result) }
 {
     if let Err(e) = any.tag().assert_eq(Tag(tag)) {
         return Err(Err::Error(E::from(e)));

@@ -21,8 +21,10 @@ use std::alloc::Global;
 
 /// Appends the strict identifier octets, the length of the header and the contents octets, and answers their number.
 fn put_kept_length<W: DerWrite>(any: &Any<'_>, w: &mut W) -> SerializeResult<usize>
-    ensures wrote { Wrote (strict_header any.now.header ++ content_of any.now) (W.told w.old) (W.told w.new) (W.failed w.old) (W.failed w.new) result }
-    ensures failed { IfErr result (MayRefuse false (length (strict_header any.now.header ++ content_of any.now))) }
+    ensures wrote { Wrote (strict_header any.now.header ++ content_of any.now) (W.told w.old)
+        (W.told w.new) (W.failed w.old) (W.failed w.new) result }
+    ensures failed { IfErr result
+        (MayRefuse false (length (strict_header any.now.header ++ content_of any.now))) }
 {
     let before = put_strict_header(&any.header, w)?;
     let after = put_all(w, any.content)?;
@@ -40,7 +42,8 @@ impl ToDer for Any<'_> {
 
     ghost constructed = { λ any. is_constructed_of any.header };
 
-    ghost raw_is_der = { λ any. form_of (length_of any.header) ≡ definite (length (content_of any)) };
+    ghost raw_is_der = { λ any. form_of (length_of any.header) ≡
+        definite (length (content_of any)) };
 
     ghost count_allocates = { false };
 
@@ -49,15 +52,19 @@ impl ToDer for Any<'_> {
     ghost write_allocates = { false };
 
     fn to_der_len(&self) -> Result<usize, Error>
-        ensures count { IfOk result (λ n. n ≡ length (element_header self.now ++ content_of self.now)) }
-        ensures refused { IfErr result (RefusesCount false (length (element_header self.now ++ content_of self.now)) (λ _. ⊥)) }
+        ensures count { IfOk result
+            (λ n. n ≡ length (element_header self.now ++ content_of self.now)) }
+        ensures refused { IfErr result
+            (RefusesCount false (length (element_header self.now ++ content_of self.now))
+            (λ _. ⊥)) }
     {
         element_len(self.header.tag().0, Ok(self.content.len()))
     }
 
     fn der_content_len(&self) -> Result<usize, Error>
         ensures count { IfOk result (λ n. n ≡ length (content_of self.now)) }
-        ensures refused { IfErr result (RefusesCount false (length (content_of self.now)) (λ _. ⊥)) }
+        ensures refused { IfErr result
+            (RefusesCount false (length (content_of self.now)) (λ _. ⊥)) }
         ensures exact { result ≡ Ok (length (content_of self.now)) }
     {
         Ok(self.content.len())
@@ -86,21 +93,39 @@ impl ToDer for Any<'_> {
     /// Appends the strict identifier octets, the length of the header (80 where it is indefinite), and the contents
     /// octets as they stand.
     fn write_der_raw<W: DerWrite>(&self, _alloc: Global, w: &mut W) -> SerializeResult<usize>
-        ensures raw { Wrote (strict_header self.now.header ++ content_of self.now) (W.told w.old) (W.told w.new) (W.failed w.old) (W.failed w.new) result }
-        ensures failed { IfErr result (MayRefuse false (length (strict_header self.now.header ++ content_of self.now))) }
-        ensures der { form_of (length_of self.now.header) ≡ definite (length (content_of self.now)) → Wrote (element_header self.now ++ content_of self.now) (W.told w.old) (W.told w.new) (W.failed w.old) (W.failed w.new) result }
-        ensures refused { form_of (length_of self.now.header) ≡ definite (length (content_of self.now)) → IfErr result (Refuses false (length (element_header self.now ++ content_of self.now)) (Either (λ _. ⊥) (λ _. ⊥))) }
-        ensures counted { IfOk result (λ n. (raw : List ℕ) × Appends (W.told w.old) (W.told w.new) raw × (n ≡ length raw)) }
+        ensures raw { Wrote (strict_header self.now.header ++ content_of self.now) (W.told w.old)
+            (W.told w.new) (W.failed w.old) (W.failed w.new) result }
+        ensures failed { IfErr result
+            (MayRefuse false (length (strict_header self.now.header ++ content_of self.now))) }
+        ensures der { form_of (length_of self.now.header) ≡
+            definite (length (content_of self.now)) →
+            Wrote (element_header self.now ++ content_of self.now) (W.told w.old) (W.told w.new)
+            (W.failed w.old) (W.failed w.new) result }
+        ensures refused { form_of (length_of self.now.header) ≡
+            definite (length (content_of self.now)) →
+            IfErr result
+            (Refuses false (length (element_header self.now ++ content_of self.now))
+            (Either (λ _. ⊥) (λ _. ⊥))) }
+        ensures counted { IfOk result
+            (λ n. (raw : List ℕ) × Appends (W.told w.old) (W.told w.new) raw × (n ≡ length raw)) }
     {
         put_kept_length(self, w)
     }
 
     /// The raw form in a vector.
     fn to_der_vec_raw(&self, alloc: Global) -> SerializeResult<Vec<u8>>
-        ensures raw { IfOk result (λ octets. octets.items ≡ strict_header self.now.header ++ content_of self.now) }
-        ensures failed { IfErr result (MayRefuse true (length (strict_header self.now.header ++ content_of self.now))) }
-        ensures der { form_of (length_of self.now.header) ≡ definite (length (content_of self.now)) → IfOk result (λ octets. octets.items ≡ element_header self.now ++ content_of self.now) }
-        ensures refused { form_of (length_of self.now.header) ≡ definite (length (content_of self.now)) → IfErr result (VectorRefuses (length (element_header self.now ++ content_of self.now)) (Either (λ _. ⊥) (λ _. ⊥))) }
+        ensures raw { IfOk result
+            (λ octets. octets.items ≡ strict_header self.now.header ++ content_of self.now) }
+        ensures failed { IfErr result
+            (MayRefuse true (length (strict_header self.now.header ++ content_of self.now))) }
+        ensures der { form_of (length_of self.now.header) ≡
+            definite (length (content_of self.now)) →
+            IfOk result (λ octets. octets.items ≡ element_header self.now ++ content_of self.now) }
+        ensures refused { form_of (length_of self.now.header) ≡
+            definite (length (content_of self.now)) →
+            IfErr result
+            (VectorRefuses (length (element_header self.now ++ content_of self.now))
+            (Either (λ _. ⊥) (λ _. ⊥))) }
         ensures memory { IfErr result (λ e. tells_of_io e ≡ false) }
     {
         let mut w = Told::new(Vec::new(alloc));

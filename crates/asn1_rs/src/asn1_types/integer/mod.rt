@@ -76,7 +76,8 @@ pub(crate) fn unsigned_from_any(any: &Any<'_>, size: usize) -> Result<u128, Erro
 /// Appends the strict contents octets of a natural number, and answers their number.
 #[inline(always)]
 pub(crate) fn put_unsigned_content<W: DerWrite>(n: u128, w: &mut W) -> SerializeResult<usize>
-    ensures wrote { Wrote (unsigned_octets n) (W.told w.old) (W.told w.new) (W.failed w.old) (W.failed w.new) result }
+    ensures wrote { Wrote (unsigned_octets n) (W.told w.old) (W.told w.new) (W.failed w.old)
+        (W.failed w.new) result }
     ensures refused { IfErr result (MayRefuse false (length (unsigned_octets n))) }
 {
     let mut octets = [0; 17];
@@ -98,7 +99,8 @@ pub(crate) fn signed_from_any(any: &Any<'_>, size: usize) -> Result<i128, Error>
 /// Appends the strict contents octets of an integer, and answers their number.
 #[inline(always)]
 pub(crate) fn put_signed_content<W: DerWrite>(n: i128, w: &mut W) -> SerializeResult<usize>
-    ensures wrote { Wrote (signed_octets n) (W.told w.old) (W.told w.new) (W.failed w.old) (W.failed w.new) result }
+    ensures wrote { Wrote (signed_octets n) (W.told w.old) (W.told w.new) (W.failed w.old)
+        (W.failed w.new) result }
     ensures refused { IfErr result (MayRefuse false (length (signed_octets n))) }
 {
     let mut octets = [0; 17];
@@ -109,7 +111,10 @@ pub(crate) fn put_signed_content<W: DerWrite>(n: i128, w: &mut W) -> SerializeRe
 /// The check of an integer allows one refusal for one element, and so does the conversion to a natural number,
 /// and to an integer.
 pub fn integers_have_one_refusal()
-    ensures check { (p : Parts) (e f : Error) → IntegerCheckGives p (Err e) → IntegerCheckGives p (Err f) → e ≡ f }
-    ensures unsigned { (size : ℕ) (p : Parts) (e f : Error) → UnsignedGives size p (Err e) → UnsignedGives size p (Err f) → e ≡ f }
-    ensures signed { (size : ℕ) (p : Parts) (e f : Error) → SignedGives size p (Err e) → SignedGives size p (Err f) → e ≡ f }
+    ensures check { (p : Parts) (e f : Error) → IntegerCheckGives p (Err e) →
+        IntegerCheckGives p (Err f) → e ≡ f }
+    ensures unsigned { (size : ℕ) (p : Parts) (e f : Error) → UnsignedGives size p (Err e) →
+        UnsignedGives size p (Err f) → e ≡ f }
+    ensures signed { (size : ℕ) (p : Parts) (e f : Error) → SignedGives size p (Err e) →
+        SignedGives size p (Err f) → e ≡ f }
 {}

@@ -75,7 +75,8 @@ impl WritesPrimitive for i8 {
         put_signed_content(i128::from(*self), w)
     }
 
-    ghost primitive = { integer_primitive (λ n. n) signed_octets signed_octets_content (IsSigned 1) };
+    ghost primitive = { integer_primitive (λ n. n) signed_octets signed_octets_content
+        (IsSigned 1) };
 }
 
 impl LawfulMember for i8 {
@@ -139,7 +140,8 @@ impl WritesPrimitive for i16 {
         put_signed_content(i128::from(*self), w)
     }
 
-    ghost primitive = { integer_primitive (λ n. n) signed_octets signed_octets_content (IsSigned 2) };
+    ghost primitive = { integer_primitive (λ n. n) signed_octets signed_octets_content
+        (IsSigned 2) };
 }
 
 impl LawfulMember for i16 {
@@ -203,7 +205,8 @@ impl WritesPrimitive for i32 {
         put_signed_content(i128::from(*self), w)
     }
 
-    ghost primitive = { integer_primitive (λ n. n) signed_octets signed_octets_content (IsSigned 4) };
+    ghost primitive = { integer_primitive (λ n. n) signed_octets signed_octets_content
+        (IsSigned 4) };
 }
 
 impl LawfulMember for i32 {
@@ -267,7 +270,8 @@ impl WritesPrimitive for i64 {
         put_signed_content(i128::from(*self), w)
     }
 
-    ghost primitive = { integer_primitive (λ n. n) signed_octets signed_octets_content (IsSigned 8) };
+    ghost primitive = { integer_primitive (λ n. n) signed_octets signed_octets_content
+        (IsSigned 8) };
 }
 
 impl LawfulMember for i64 {
@@ -331,7 +335,8 @@ impl WritesPrimitive for i128 {
         put_signed_content(i128::from(*self), w)
     }
 
-    ghost primitive = { integer_primitive (λ n. n) signed_octets signed_octets_content (IsSigned 16) };
+    ghost primitive = { integer_primitive (λ n. n) signed_octets signed_octets_content
+        (IsSigned 16) };
 }
 
 impl LawfulMember for i128 {

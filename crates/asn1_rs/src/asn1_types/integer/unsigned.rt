@@ -76,7 +76,8 @@ impl WritesPrimitive for u8 {
         put_unsigned_content(u128::from(*self), w)
     }
 
-    ghost primitive = { integer_primitive pos unsigned_octets unsigned_octets_content (IsUnsigned 1) };
+    ghost primitive = { integer_primitive pos unsigned_octets unsigned_octets_content
+        (IsUnsigned 1) };
 }
 
 impl LawfulMember for u8 {
@@ -140,7 +141,8 @@ impl WritesPrimitive for u16 {
         put_unsigned_content(u128::from(*self), w)
     }
 
-    ghost primitive = { integer_primitive pos unsigned_octets unsigned_octets_content (IsUnsigned 2) };
+    ghost primitive = { integer_primitive pos unsigned_octets unsigned_octets_content
+        (IsUnsigned 2) };
 }
 
 impl LawfulMember for u16 {
@@ -204,7 +206,8 @@ impl WritesPrimitive for u32 {
         put_unsigned_content(u128::from(*self), w)
     }
 
-    ghost primitive = { integer_primitive pos unsigned_octets unsigned_octets_content (IsUnsigned 4) };
+    ghost primitive = { integer_primitive pos unsigned_octets unsigned_octets_content
+        (IsUnsigned 4) };
 }
 
 impl LawfulMember for u32 {
@@ -268,7 +271,8 @@ impl WritesPrimitive for u64 {
         put_unsigned_content(u128::from(*self), w)
     }
 
-    ghost primitive = { integer_primitive pos unsigned_octets unsigned_octets_content (IsUnsigned 8) };
+    ghost primitive = { integer_primitive pos unsigned_octets unsigned_octets_content
+        (IsUnsigned 8) };
 }
 
 impl LawfulMember for u64 {
@@ -332,7 +336,8 @@ impl WritesPrimitive for u128 {
         put_unsigned_content(u128::from(*self), w)
     }
 
-    ghost primitive = { integer_primitive pos unsigned_octets unsigned_octets_content (IsUnsigned 16) };
+    ghost primitive = { integer_primitive pos unsigned_octets unsigned_octets_content
+        (IsUnsigned 16) };
 }
 
 impl LawfulMember for u128 {

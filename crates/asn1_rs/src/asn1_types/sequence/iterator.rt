@@ -88,7 +88,8 @@ fn item_or_end<'a, T: Drop, E: From<Error>>(
     octets: &'a [u8],
     answer: ParseResult<'a, T, E>,
 ) -> Result<(&'a [u8], T), E>
-    ensures item { IfOk result (λ x. (seen answer.entry ≡ Ok (x.0.now, x.1)) × (length x.0.now < length octets.now)) }
+    ensures item { IfOk result (λ x. (seen answer.entry ≡ Ok (x.0.now, x.1))
+        × (length x.0.now < length octets.now)) }
     ensures end { IfErr result (EndsItem E.from_gives octets.now (seen answer.entry)) }
 {
     match answer {
@@ -228,12 +229,11 @@ pub fn walks_take_words<'a, T, F: ReadsWords<'a, T, E>, E: From<Error>>()
 /// A walk by BER over the contents octets of an element of indefinite length that [`Any`](crate::Any) was read from
 /// gives elements alone, whose joining begins the contents octets, and nothing is refused (X.690 8.1.3.6).
 pub fn indefinite_contents_are_walked()
-    ensures calls { (input : List ℕ) (x : List ℕ × Any)
-        (s t : SequenceIterator Any BerParser Error) (answers : List (Result Any Error))
-        → BerElementGives input (Ok x) → (parts_of x.1).form ≡ indefinite
-        → octets_left s ≡ (parts_of x.1).content
-        → Yields (WalkSteps ElementsGive (λ e f. f ≡ e)) s answers t
-        → IsWalk (IsElement max_depth) parts_of TellsNothing (octets_left s) answers (octets_left t) }
+    ensures calls { (input : List ℕ) (x : List ℕ × Any) (s t : SequenceIterator Any BerParser Error)
+        (answers : List (Result Any Error)) → BerElementGives input (Ok x) →
+        (parts_of x.1).form ≡ indefinite → octets_left s ≡ (parts_of x.1).content →
+        Yields (WalkSteps ElementsGive (λ e f. f ≡ e)) s answers t →
+        IsWalk (IsElement max_depth) parts_of TellsNothing (octets_left s) answers (octets_left t) }
     ensures run { (input : List ℕ) (x : List ℕ × Any)
         (p : Run {S = SequenceIterator Any BerParser Error} {A = Result Any Error}
         (WalkSteps ElementsGive (λ e f. f ≡ e)))

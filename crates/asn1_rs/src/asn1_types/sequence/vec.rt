@@ -86,7 +86,8 @@ impl<T: ToDer> ToDer for Vec<T> {
 
     ghost count_allocates = { T.count_allocates };
 
-    ghost content_allocates = { some_allocates T.write_allocates T.count_allocates T.content_allocates };
+    ghost content_allocates = { some_allocates T.write_allocates T.count_allocates
+        T.content_allocates };
 
     fn to_der_len(&self) -> Result<usize, Error> {
         element_len(Tag::Sequence.0, self.der_content_len())
@@ -118,9 +119,9 @@ impl<T: LawfulItem> LawfulItem for Vec<T> {
 }
 
 impl<'a, T: LawfulBer<'a, Error> + Drop> LawfulBody<'a, Error> for Vec<T> {
-    ghost body_exact = { list_takes 16 has_items Self.grammar.value T.ber_gives (λ x y. y ≡ x) T.grammar.Ber
-        T.grammar.value T.grammar.allocates EndsWithin (same_values T.grammar.value)
-        T.lawful_item.ber_one T.ber_exact };
+    ghost body_exact = { list_takes 16 has_items Self.grammar.value T.ber_gives
+        (λ x y. y ≡ x) T.grammar.Ber T.grammar.value T.grammar.allocates EndsWithin
+        (same_values T.grammar.value) T.lawful_item.ber_one T.ber_exact };
 
     ghost body_spares = { λ none p e g. takes_some none };
 
@@ -150,8 +151,8 @@ impl<T: LawfulCheck> LawfulCheck for Vec<T> {
 impl<T: LawfulWrite> LawfulWrite for Vec<T> {
     ghost tells_all = { λ v k d h. T.tells_all (slice_index_or v.items k d) };
 
-    ghost by_value = { λ x y e.
-        list_by_value 16 T.grammar.value T.constructed T.header T.content T.by_value x.items y.items e };
+    ghost by_value = { λ x y e. list_by_value 16 T.grammar.value T.constructed T.header T.content
+        T.by_value x.items y.items e };
 
     ghost form = { λ v.
         list_writes_form 16 T.grammar.value T.grammar.Form T.count_refuses T.header_refuses
@@ -172,8 +173,8 @@ impl<T: LawfulItem> LawfulTagged for Vec<T> {
 }
 
 impl<T: LawfulItem, const K: u8> TakesClass<K> for Vec<T> {
-    ghost takes_class = { list_takes_class T.grammar.Form 16 T.grammar.Ber T.grammar.Check T.lawful_item.strict_ber
-        T.lawful_item.form_check K };
+    ghost takes_class = { list_takes_class T.grammar.Form 16 T.grammar.Ber T.grammar.Check
+        T.lawful_item.strict_ber T.lawful_item.form_check K };
 }
 
 impl<T: LawfulMember> LawfulMember for Vec<T> {

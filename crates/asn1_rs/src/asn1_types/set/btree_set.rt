@@ -53,9 +53,14 @@ fn ordered_set<T: Ord + Drop>(alloc: Global, items: Vec<T>) -> Result<BTreeSet<T
 
 /// How many octets the members are written in.
 fn count_members<T: ToDer + Ord>(items: &BTreeSet<T>) -> Result<usize, Error>
-    ensures count { All T.tells items.now.keys → IfOk result (λ n. n ≡ length (flat_map (λ x. T.header x ++ T.content x) items.now.keys)) }
-    ensures refused { All T.tells items.now.keys → IfErr result (RefusesCount T.count_allocates (length (flat_map (λ x. T.header x ++ T.content x) items.now.keys)) (SomeRefuses T.count_refuses items.now.keys)) }
-    ensures accepted { (e : Error) → All T.tells items.now.keys → SomeRefuses T.count_refuses items.now.keys e → IsErr result }
+    ensures count { All T.tells items.now.keys →
+        IfOk result (λ n. n ≡ length (flat_map (λ x. T.header x ++ T.content x) items.now.keys)) }
+    ensures refused { All T.tells items.now.keys →
+        IfErr result (RefusesCount T.count_allocates
+        (length (flat_map (λ x. T.header x ++ T.content x) items.now.keys))
+        (SomeRefuses T.count_refuses items.now.keys)) }
+    ensures accepted { (e : Error) → All T.tells items.now.keys →
+        SomeRefuses T.count_refuses items.now.keys e → IsErr result }
 {
     let mut total = 0;
     for item in items.iter() {
@@ -70,10 +75,19 @@ fn encode_members<T: ToDer + Ord>(
     items: &BTreeSet<T>,
     alloc: Global,
 ) -> SerializeResult<Vec<Vec<u8>>>
-    ensures each { All T.tells items.now.keys → IfOk result (λ os. map (λ v. v.items) os.items ≡ map (λ x. T.header x ++ T.content x) items.now.keys) }
-    ensures refused { All T.tells items.now.keys → IfErr result (Refuses true (length (flat_map (λ x. T.header x ++ T.content x) items.now.keys)) (SomeRefuses (λ x. IntoVector (Either (T.header_refuses x) (T.content_refuses x))) items.now.keys)) }
-    ensures accepted { (e : SerializeError) → All T.tells items.now.keys → SomeRefuses (λ x. IntoVector (Either (T.header_refuses x) (T.content_refuses x))) items.now.keys e → IsErr result }
-    ensures uncounted { (e : Error) → All T.tells items.now.keys → SomeRefuses T.count_refuses items.now.keys e → IsErr result }
+    ensures each { All T.tells items.now.keys →
+        IfOk result (λ os. map (λ v. v.items) os.items ≡
+        map (λ x. T.header x ++ T.content x) items.now.keys) }
+    ensures refused { All T.tells items.now.keys →
+        IfErr result
+        (Refuses true (length (flat_map (λ x. T.header x ++ T.content x) items.now.keys))
+        (SomeRefuses (λ x. IntoVector (Either (T.header_refuses x) (T.content_refuses x)))
+        items.now.keys)) }
+    ensures accepted { (e : SerializeError) → All T.tells items.now.keys →
+        SomeRefuses (λ x. IntoVector (Either (T.header_refuses x) (T.content_refuses x)))
+        items.now.keys e → IsErr result }
+    ensures uncounted { (e : Error) → All T.tells items.now.keys →
+        SomeRefuses T.count_refuses items.now.keys e → IsErr result }
     ensures memory { IfErr result (λ e. tells_of_io e ≡ false) }
 {
     let mut strings = Vec::new(alloc);
@@ -90,7 +104,8 @@ fn encode_members<T: ToDer + Ord>(
 impl<T: ToDer + Ord> ToDer for BTreeSet<T> {
     ghost tells = { λ s. All T.tells s.keys };
 
-    ghost header = { λ s. header_octets 0 true 17 (length (set_content (λ x. T.header x ++ T.content x) s.keys)) };
+    ghost header = { λ s. header_octets 0 true 17
+        (length (set_content (λ x. T.header x ++ T.content x) s.keys)) };
 
     ghost content = { λ s. set_content (λ x. T.header x ++ T.content x) s.keys };
 
@@ -100,7 +115,8 @@ impl<T: ToDer + Ord> ToDer for BTreeSet<T> {
 
     ghost header_refuses = { λ s. WrittenRefusal (SomeRefuses T.count_refuses s.keys) };
 
-    ghost content_refuses = { λ s. SomeRefuses (λ x. IntoVector (Either (T.header_refuses x) (T.content_refuses x))) s.keys };
+    ghost content_refuses = { λ s. SomeRefuses
+        (λ x. IntoVector (Either (T.header_refuses x) (T.content_refuses x))) s.keys };
 
     ghost count_allocates = { T.count_allocates };
 
@@ -144,7 +160,8 @@ impl<T: Ord + Drop> FromItems for BTreeSet<T> {
 
 impl<'a, T: FromDer<'a, E> + Ord + Drop, E: From<Error>> FromDer<'a, E> for BTreeSet<T> {
     ghost der_gives = { DerGives PassesAll
-        (OfParts (ListTakes 17 (λ items s. IsFromIterResult T.cmp items s) T.der_gives E.from_gives))
+        (OfParts
+        (ListTakes 17 (λ items s. IsFromIterResult T.cmp items s) T.der_gives E.from_gives))
         E.from_gives };
 
     fn from_der(alloc: Global, bytes: &'a [u8]) -> ParseResult<'a, BTreeSet<T>, E> {
@@ -170,14 +187,15 @@ impl<T: LawfulItem + Ord> LawfulItem for BTreeSet<T> {
 
 impl<'a, T: LawfulBer<'a, Error> + LawfulMember + Ord + Drop> LawfulBody<'a, Error>
     for BTreeSet<T> {
-    ghost body_exact = { set_takes (λ items s. IsFromIterResult T.cmp items s) set_of Self.grammar.value T.ber_gives
-        (λ x y. y ≡ x) T.grammar.Ber T.grammar.value T.grammar.allocates EndsWithin
-        (tree_told T.eq T.grammar.value T.same T.cmp T.matches_eq)
+    ghost body_exact = { set_takes (λ items s. IsFromIterResult T.cmp items s) set_of
+        Self.grammar.value T.ber_gives (λ x y. y ≡ x) T.grammar.Ber T.grammar.value
+        T.grammar.allocates EndsWithin (tree_told T.eq T.grammar.value T.same T.cmp T.matches_eq)
         T.lawful_item.ber_one T.ber_exact };
 
     ghost body_spares = { λ none p e g. takes_some none };
 
-    ghost form_body = { set_form_body set_of AllDiffer T.grammar.Form T.grammar.Ber T.lawful_item.strict_ber };
+    ghost form_body = { set_form_body set_of AllDiffer T.grammar.Form T.grammar.Ber
+        T.lawful_item.strict_ber };
 
     ghost ber_split = { λ o m w. w };
 
@@ -188,13 +206,13 @@ impl<'a, T: LawfulDer<'a, E> + LawfulMember + Ord + Drop, E: From<Error>> Lawful
     for BTreeSet<T> {
     ghost der_exact = { λ input answer octets.
         unchecked_exact
-        (OfParts (ListTakes 17 (λ items s. IsFromIterResult T.cmp items s) T.der_gives E.from_gives))
+        (OfParts
+        (ListTakes 17 (λ items s. IsFromIterResult T.cmp items s) T.der_gives E.from_gives))
         E.from_gives (SetBody set_of T.grammar.Der) Self.grammar.value true
         (set_takes (λ items s. IsFromIterResult T.cmp items s) set_of Self.grammar.value T.der_gives
         E.from_gives T.grammar.Der T.grammar.value T.grammar.allocates IsCutIdentifier
-        (tree_told T.eq T.grammar.value T.same T.cmp T.matches_eq)
-        T.lawful_item.der_one T.der_exact)
-        input answer };
+        (tree_told T.eq T.grammar.value T.same T.cmp T.matches_eq) T.lawful_item.der_one
+        T.der_exact) input answer };
 
     ghost der_spares = { λ none input answer g. takes_some none };
 }
@@ -219,12 +237,12 @@ impl<T: LawfulWrite + LawfulMember + Ord> LawfulWrite for BTreeSet<T> {
         s.keys f.1.items f.1.once f.1.are)
         i f.0 };
 
-    ghost der_form = { λ s.
-        members_have_form T.grammar.value T.grammar.IsDer T.grammar.Form T.header T.content
+    ghost der_form = { λ s. members_have_form T.grammar.value T.grammar.IsDer T.grammar.Form
+        T.header T.content
         (der_strict T.grammar.value T.grammar.IsDer T.grammar.Form
         (λ x. IsWritable (T.count_refuses x) (T.header_refuses x) (T.content_refuses x))
-        T.constructed T.header T.content T.form T.der_form T.lawful_item.form_fits)
-        (is_below T.cmp) (below_apart T.eq T.grammar.value T.same T.cmp T.total T.matches_eq) s.keys };
+        T.constructed T.header T.content T.form T.der_form T.lawful_item.form_fits) (is_below T.cmp)
+        (below_apart T.eq T.grammar.value T.same T.cmp T.total T.matches_eq) s.keys };
 }
 
 impl<T: LawfulItem + Ord> LawfulTagged for BTreeSet<T> {
@@ -234,10 +252,11 @@ impl<T: LawfulItem + Ord> LawfulTagged for BTreeSet<T> {
 }
 
 impl<T: LawfulItem + Ord, const K: u8> TakesClass<K> for BTreeSet<T> {
-    ghost takes_class = { set_takes_class set_of AllDiffer T.grammar.Form T.grammar.Ber T.grammar.Check
-        T.lawful_item.strict_ber T.lawful_item.form_check K };
+    ghost takes_class = { set_takes_class set_of AllDiffer T.grammar.Form T.grammar.Ber
+        T.grammar.Check T.lawful_item.strict_ber T.lawful_item.form_check K };
 }
 
 impl<T: LawfulMember + Ord> LawfulMember for BTreeSet<T> {
-    ghost same = { λ x y. same_members T.eq T.grammar.value T.same T.cmp T.total T.matches_eq x.keys y.keys };
+    ghost same = { λ x y. same_members T.eq T.grammar.value T.same T.cmp T.total T.matches_eq x.keys
+        y.keys };
 }

@@ -20,10 +20,18 @@ use std::alloc::{AllocError, Global};
 
 /// The encoding of each item.
 pub(crate) fn encode_items<T: ToDer>(items: &[T], alloc: Global) -> SerializeResult<Vec<Vec<u8>>>
-    ensures each { All T.tells items.now → IfOk result (λ os. map (λ v. v.items) os.items ≡ map (λ x. T.header x ++ T.content x) items.now) }
-    ensures refused { All T.tells items.now → IfErr result (Refuses true (length (flat_map (λ x. T.header x ++ T.content x) items.now)) (SomeRefuses (λ x. IntoVector (Either (T.header_refuses x) (T.content_refuses x))) items.now)) }
-    ensures accepted { (e : SerializeError) → All T.tells items.now → SomeRefuses (λ x. IntoVector (Either (T.header_refuses x) (T.content_refuses x))) items.now e → IsErr result }
-    ensures uncounted { (e : Error) → All T.tells items.now → SomeRefuses T.count_refuses items.now e → IsErr result }
+    ensures each { All T.tells items.now →
+        IfOk result (λ os. map (λ v. v.items) os.items ≡
+        map (λ x. T.header x ++ T.content x) items.now) }
+    ensures refused { All T.tells items.now →
+        IfErr result (Refuses true (length (flat_map (λ x. T.header x ++ T.content x) items.now))
+        (SomeRefuses (λ x. IntoVector (Either (T.header_refuses x) (T.content_refuses x)))
+        items.now)) }
+    ensures accepted { (e : SerializeError) → All T.tells items.now →
+        SomeRefuses (λ x. IntoVector (Either (T.header_refuses x) (T.content_refuses x))) items.now
+        e → IsErr result }
+    ensures uncounted { (e : Error) → All T.tells items.now →
+        SomeRefuses T.count_refuses items.now e → IsErr result }
     ensures memory { IfErr result (λ e. tells_of_io e ≡ false) }
 {
     let mut strings = Vec::new(alloc);
@@ -56,8 +64,10 @@ pub(crate) fn write_ascending<W: DerWrite>(
     alloc: Global,
     w: &mut W,
 ) -> SerializeResult<usize>
-    ensures wrote { Wrote (joining (arranged (map (λ s. s.items) strings.items))) (W.told w.old) (W.told w.new) (W.failed w.old) (W.failed w.new) result }
-    ensures refused { IfErr result (MayRefuse true (length (joining (arranged (map (λ s. s.items) strings.items))))) }
+    ensures wrote { Wrote (joining (arranged (map (λ s. s.items) strings.items))) (W.told w.old)
+        (W.told w.new) (W.failed w.old) (W.failed w.new) result }
+    ensures refused { IfErr result
+        (MayRefuse true (length (joining (arranged (map (λ s. s.items) strings.items))))) }
 {
     match join_ascending(strings, alloc) {
         Ok(content) => put_all(w, &content),

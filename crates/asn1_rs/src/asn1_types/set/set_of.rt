@@ -104,8 +104,8 @@ impl<T: CheckDerConstraints> CheckDerConstraints for SetOf<T> {
 impl<T: ToDer> ToDer for SetOf<T> {
     ghost tells = { λ s. All T.tells (items_of s) };
 
-    ghost header = { λ s.
-        header_octets 0 true 17 (length (set_content (λ x. T.header x ++ T.content x) (items_of s))) };
+    ghost header = { λ s. header_octets 0 true 17
+        (length (set_content (λ x. T.header x ++ T.content x) (items_of s))) };
 
     ghost content = { λ s. set_content (λ x. T.header x ++ T.content x) (items_of s) };
 
@@ -115,8 +115,8 @@ impl<T: ToDer> ToDer for SetOf<T> {
 
     ghost header_refuses = { λ s. WrittenRefusal (SomeRefuses T.count_refuses (items_of s)) };
 
-    ghost content_refuses = { λ s.
-        SomeRefuses (λ x. IntoVector (Either (T.header_refuses x) (T.content_refuses x))) (items_of s) };
+    ghost content_refuses = { λ s. SomeRefuses
+        (λ x. IntoVector (Either (T.header_refuses x) (T.content_refuses x))) (items_of s) };
 
     ghost count_allocates = { T.count_allocates };
 
@@ -151,13 +151,14 @@ impl<T: LawfulItem> LawfulItem for SetOf<T> {
 }
 
 impl<'a, T: LawfulBer<'a, Error> + Drop> LawfulBody<'a, Error> for SetOf<T> {
-    ghost body_exact = { set_takes HasItems multiset Self.grammar.value T.ber_gives (λ x y. y ≡ x) T.grammar.Ber
-        T.grammar.value T.grammar.allocates EndsWithin (multiset_told T.grammar.value)
-        T.lawful_item.ber_one T.ber_exact };
+    ghost body_exact = { set_takes HasItems multiset Self.grammar.value T.ber_gives
+        (λ x y. y ≡ x) T.grammar.Ber T.grammar.value T.grammar.allocates EndsWithin
+        (multiset_told T.grammar.value) T.lawful_item.ber_one T.ber_exact };
 
     ghost body_spares = { λ none p e g. takes_some none };
 
-    ghost form_body = { set_form_body multiset AnyList T.grammar.Form T.grammar.Ber T.lawful_item.strict_ber };
+    ghost form_body = { set_form_body multiset AnyList T.grammar.Form T.grammar.Ber
+        T.lawful_item.strict_ber };
 
     ghost ber_split = { λ o m w. w };
 
@@ -183,9 +184,8 @@ impl<T: LawfulCheck> LawfulCheck for SetOf<T> {
 impl<T: LawfulWrite> LawfulWrite for SetOf<T> {
     ghost tells_all = { λ s k d h. T.tells_all (slice_index_or (items_of s) k d) };
 
-    ghost by_value = { λ x y e.
-        set_by_value T.grammar.value T.constructed T.header T.content T.by_value (items_of x) (items_of y)
-        (permutation_from_multiset _ _ e) };
+    ghost by_value = { λ x y e. set_by_value T.grammar.value T.constructed T.header T.content
+        T.by_value (items_of x) (items_of y) (permutation_from_multiset _ _ e) };
 
     ghost form = { λ s i c f.
         set_writes_form T.grammar.value T.grammar.Form T.count_refuses T.header_refuses
@@ -207,6 +207,6 @@ impl<T: LawfulItem> LawfulTagged for SetOf<T> {
 }
 
 impl<T: LawfulItem, const K: u8> TakesClass<K> for SetOf<T> {
-    ghost takes_class = { set_takes_class multiset AnyList T.grammar.Form T.grammar.Ber T.grammar.Check
-        T.lawful_item.strict_ber T.lawful_item.form_check K };
+    ghost takes_class = { set_takes_class multiset AnyList T.grammar.Form T.grammar.Ber
+        T.grammar.Check T.lawful_item.strict_ber T.lawful_item.form_check K };
 }
