@@ -17,6 +17,7 @@ const LISTS: &str = "\
 Vec::<u32>::from_der:
 3008020301000102010100 = [65537, 1] rest 00 written 30080203010001020101 count 10 8 raw 30080203010001020101
 3000 = [] rest - written 3000 count 2 0 raw 3000
+
 Vec::<u8>::from_der:
 1003020105 = [5] rest - written 3003020105 count 5 3 raw 3003020105
 3003020105ffff = [5] rest ffff written 3003020105 count 5 3 raw 3003020105
@@ -26,6 +27,7 @@ Vec::<u8>::from_der:
 3005020105 = Incomplete(Size(2))
 3003020205 = Error(Incomplete(Size(1)))
 3080 = Error(DerConstraintFailed(IndefiniteLength))
+
 Vec::<u8>::from_ber:
 300402020005 = [5] rest - written 3003020105 count 5 3 raw 3003020105
 30800201050000 = [5] rest - written 3003020105 count 5 3 raw 3003020105
@@ -34,11 +36,14 @@ Vec::<u8>::from_ber:
 3005020105 = Incomplete(Size(2))
 3003020205 = Error(Incomplete(Size(1)))
 300702010502020100 = Error(IntegerTooLarge)
+
 Vec::<Vec<u32>>::from_der:
 300a30030201053003020106 = [[5], [6]] rest - written 300a30030201053003020106 count 12 10 raw 300a30030201053003020106
 30023100 = Error(UnexpectedTag { expected: Some(Tag(16)), actual: Tag(17) })
+
 Vec::<Vec<u32>>::from_ber:
 30803080020105000030000000 = [[5], []] rest - written 300730030201053000 count 9 7 raw 300730030201053000
+
 Vec::<Any>::from_ber:
 30803080000004000000 = 2 items 300430000400 count 6 4 raw 300430000400
 ";
@@ -52,12 +57,15 @@ SetOf::<u8>::from_der:
 3003020105 = Error(UnexpectedTag { expected: Some(Tag(17)), actual: Tag(16) })
 3103020205 = Error(Incomplete(Size(1)))
 3105020105 = Incomplete(Size(2))
+
 SetOf::<u8>::from_ber:
 31800201050000 = [5] rest - written 3103020105 count 5 3 raw 3103020105
 1103020105 = Error(ConstructExpected)
 310402020005 = [5] rest - written 3103020105 count 5 3 raw 3103020105
+
 SetOf::<SetOf<u8>>::from_der:
 310d31060201020201013103020103 = 2 items 310d31030201033106020101020102 count 15 13 raw 310d31030201033106020101020102
+
 BTreeSet::<u8>::from_der:
 3106020105020105 = {5} rest - written 3103020105 count 5 3 raw 3103020105
 310402020005 = Error(DerConstraintFailed(IntegerLeadingZeroes))
@@ -65,11 +73,14 @@ BTreeSet::<u8>::from_der:
 1003020105 = Error(UnexpectedTag { expected: Some(Tag(17)), actual: Tag(16) })
 3103020205 = Error(Incomplete(Size(1)))
 3105020105 = Incomplete(Size(2))
+
 BTreeSet::<u8>::from_ber:
 310402020005 = {5} rest - written 3103020105 count 5 3 raw 3103020105
 1103020105 = Error(ConstructExpected)
+
 BTreeSet::<i16>::from_der:
 310e0202012c0201ff02010002020080 = {-1, 0, 128, 300} rest - written 310e0201000201ff020200800202012c count 16 14 raw 310e0201000201ff020200800202012c
+
 BTreeSet::<BTreeSet<u8>>::from_der:
 310d31060201020201013103020103 = {{1, 2}, {3}} rest - written 310d31030201033106020101020102 count 15 13 raw 310d31030201033106020101020102
 ";
@@ -82,18 +93,23 @@ Vec::<u8>::check_constraints:
 1003020105 = Err(ConstructExpected)
 3103020105 = Err(UnexpectedTag { expected: Some(Tag(16)), actual: Tag(17) })
 3003020205 = Err(Incomplete(Size(1)))
+
 SetOf::<u8>::check_constraints:
 3106020105020105 = Ok(())
 310702010502020005 = Err(DerConstraintFailed(IntegerLeadingZeroes))
+
 BTreeSet::<u8>::check_constraints:
 3103020105 = Ok(())
 1103020105 = Err(ConstructExpected)
+
 Vec::<u8>::try_from_any:
 3003020105 = Ok([5])
 300402020005 = Ok([5])
 1003020105 = Err(ConstructExpected)
+
 SetOf::<u8>::try_from_any:
 3106020105020105 = Ok([5, 5])
+
 BTreeSet::<u8>::try_from_any:
 3106020105020105 = Ok({5})
 3003020105 = Err(UnexpectedTag { expected: Some(Tag(17)), actual: Tag(16) })

@@ -98,8 +98,10 @@ const BY_CALLS: &str = "\
 u8::from_der:
 020102ffff = 2 rest ffff
 040105 = Error(UnexpectedTag { expected: Some(Tag(2)), actual: Tag(4) })
+
 u16::from_der:
 0203010000 = Error(IntegerTooLarge)
+
 u8::from_ber:
 020102ffff = 2 rest ffff
 020101 = 1 rest -
@@ -111,6 +113,7 @@ u8::from_ber:
 02ff0102030405060708090a0b0c0d0e0f10 = Error(InvalidLength)
 02ff000102030405060708090a0b0c0d0e0f10 = Error(InvalidLength)
 0285ffffffffff00 = Incomplete(Size(1099511627774))
+
 u64::from_ber:
 0203010001 = 65537 rest -
 ";

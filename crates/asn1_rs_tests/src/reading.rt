@@ -25,6 +25,7 @@ fe00 = 3.c.30 Definite(0) raw fe rest -
 0282012c = 0.p.2 Definite(300) raw 02 rest -
 0288+8*ff = 0.p.2 Definite(18446744073709551615) raw 02 rest -
 0289+9*00 = 0.p.2 Definite(0) raw 02 rest -
+
 Header::from_ber:
 020100 = 0.p.2 Definite(1) raw 02 rest 00
 308000 = 0.c.16 Indefinite raw 30 rest 00
@@ -50,6 +51,7 @@ Header::from_der:
 1f+5*80+0100 = Error(InvalidTag)
 1f90+3*80+0000 = Error(InvalidTag)
 1f90+3*80+0200 = Error(InvalidTag)
+
 Header::from_ber:
 0280 = Error(ConstructExpected)
 02ff = Error(InvalidLength)
@@ -134,22 +136,28 @@ Header::parse_ber_content:
 020100 = content 00 rest -
 0202010203 = content 0102 rest 03
 0205010203 = Incomplete(Size(2))
+
 Any::parse_der_content:
 020100 = content 00 rest -
 0202010203 = content 0102 rest 03
 0205010203 = Incomplete(Size(2))
 30800000 = Error(DerConstraintFailed(IndefiniteLength))
+
 Any::parse_ber_content:
 0000 = Error(ConstructExpected)
+
 BerParser::get_object_content 2:
 0202010203 = content 0102 rest 03
 3080020105000004 = content 020105 rest 04
 3080308000000000 = Error(BerMaxDepth)
+
 BerParser::get_object_content 0:
 0202010203 = Error(BerMaxDepth)
+
 DerParser::get_object_content 0:
 0202010203 = content 0102 rest 03
 30800000 = Error(DerConstraintFailed(IndefiniteLength))
+
 Header::parse_der_content:
 010203 = content 0102 rest 03
 ";
@@ -163,12 +171,15 @@ a2010a = 10 rest -
 03010a = Error(ByLibrary(UnexpectedTag { expected: Some(Tag(2)), actual: Tag(3) }))
 02010a = Error(ByLibrary(UnexpectedClass { expected: Some(ContextSpecific), actual: Universal }))
 82030a = Incomplete(Size(2))
+
 Any::from_ber_and_then:
 82020a0b0c = 10 rest 0c
 a2800a0000000c = 10 rest 0c
 02010a = Error(ByLibrary(UnexpectedClass { expected: Some(ContextSpecific), actual: Universal }))
+
 Any::parse_der:
 0201070500 = 7 rest 0500
+
 Any::parse_ber:
 0201070500 = 7 rest 0500
 ";

@@ -1,4 +1,4 @@
-//! Tables in text: a line that ends in `:` names a call, and a row below it has octets, ` = ` and the text of the answer.
+//! Tables in text: the name of a call and `:`, and rows below it of octets, ` = ` and the text of the answer.
 
 use crate::calls::push_answer;
 use hex::FromHexError;
@@ -87,14 +87,21 @@ fn assert_row(rt: &impl Abort, alloc: Global, call: &str, row: &str) -> Result<(
     Ok(())
 }
 
-/// Asserts that each call is answered as the rows below its name say.
-pub(crate) fn assert_rows(rt: &impl Abort, alloc: Global, lines: &str) -> Result<(), Fail> {
-    let mut call = "";
-    for line in lines.lines() {
-        match line.strip_suffix(':') {
-            Some(name) => call = name,
-            None => assert_row(rt, alloc, call, line)?,
-        }
+/// Asserts that the call that the first line names is answered as the rows below it say.
+fn assert_call(rt: &impl Abort, alloc: Global, block: &str) -> Result<(), Fail> {
+    let Some((call, rows)) = block.split_once(":\n") else {
+        return Err(Fail::new(format_args!("no call: {block}")));
+    };
+    for row in rows.lines() {
+        assert_row(rt, alloc, call, row)?;
+    }
+    Ok(())
+}
+
+/// Asserts that each call of a table is answered as its rows say. An empty line parts the calls.
+pub(crate) fn assert_rows(rt: &impl Abort, alloc: Global, table: &str) -> Result<(), Fail> {
+    for block in table.split("\n\n") {
+        assert_call(rt, alloc, block)?;
     }
     Ok(())
 }

@@ -19,6 +19,7 @@ Header::write_der:
 a201 = a201 count 2 0 raw a201
 a280 = a280 count 2 0 raw a280
 8f820002 = 8f02 count 2 0 raw 8f02
+
 Any::write_der:
 9f0f021234 = 8f021234 count 4 2 raw 8f021234
 028200010a = 02010a count 3 1 raw 02010a
