@@ -8,7 +8,7 @@ use Rattle.std.proofs.lemmas.List.Elements.{recursion_from_All}
 use Rattle.std.specs.Cmp.Lexicographic.{pointwise}
 use Rattle.x690.specs.Signed.{IsSigned}
 use Rattle.asn1_rs.specs.declared.error.Error.{Error}
-use Rattle.asn1_rs.specs.declared.asn1_types.any.Any.{Any}
+use Rattle.asn1_rs.specs.declared.asn1_types.any.Any.{Any as AnyElement}
 use Rattle.asn1_rs.specs.Any.{IsTheElement, IsDefiniteOr}
 use Rattle.asn1_rs.specs.Traits.{OfParts}
 use Rattle.asn1_rs.specs.Any.Value.{element_of, ElementBody, ElementCheck, ElementForm}
@@ -46,7 +46,7 @@ elements_once rule octets a b p q =
     readings_weaker _ (ShownAlike elements) false shown a b
     (either_same ElementBody element_of false IsTheElement element_lawful.body_one (λ a b e f same h k. absurd h) IsDefiniteOr ElementCheck (λ p e f h k. h.1 ∙ sym k.1) (λ p e h k. element_checks.exact p (Err e) k h) rule octets a b p q)
   where
-    shown : (x y : Any) → element_of x ≡ element_of y → ShownAlike elements x y
+    shown : (x y : AnyElement) → element_of x ≡ element_of y → ShownAlike elements x y
     shown x y same = record { text = ap element_text same; encoding = strict_same ElementForm element_lawful.one_form false (element_of x) (element_of y) same }
 
 type_once : (t : TypeName) → HasOneAnswer (meaning_of t)

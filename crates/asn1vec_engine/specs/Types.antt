@@ -3,7 +3,7 @@ use Rattle.std.specs.Prelude.{◌≡◌, List, ℕ, ℤ, pos, codes, true, false
 use Rattle.std.specs.Fmt.{signed_decimal}
 use Rattle.x690.specs.Signed.{IsSigned}
 use Rattle.asn1_rs.specs.declared.error.Error.{Error}
-use Rattle.asn1_rs.specs.declared.asn1_types.any.Any.{Any}
+use Rattle.asn1_rs.specs.declared.asn1_types.any.Any.{Any as AnyElement}
 use Rattle.asn1_rs.specs.Any.{IsTheElement, IsDefiniteOr}
 use Rattle.asn1_rs.specs.Traits.{OfParts, BerGives, DerGives}
 use Rattle.asn1_rs.specs.Any.Value.{element_of, ElementBody, ElementCheck, ElementForm}
@@ -53,7 +53,7 @@ signed size = integers {T = ℤ} (λ n. n) (IsSigned size) (SignedRefuses size)
 -- elements of any type, there by either rule: what they say, with the strict encoding that each of them has
 abbrev pub elements : Meaning
 elements = record {
-  T = Any;
+  T = AnyElement;
   is_there = λ rule. true;
   Reads = ReadsByEither (BerWord ElementBody) (DerWord ElementCheck ElementBody) element_of false
       (BerGives IsTheElement Same) (DerGives IsDefiniteOr IsTheElement Same);
