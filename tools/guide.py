@@ -1,8 +1,8 @@
 #!/usr/bin/env python3
 """Looks whether the code of the guide stands in the crate of uses, which the gate proves and tests.
 
-Each block of Rust in README.md and docs/*.md must stand line for line in one file of crates/asn1_rs_uses/src. A block that
-does not has a line that names it, and then this ends with status 1.
+Each block of Rust in README.md and docs/*.md must stand line for line in one file of crates/asn1_rs_uses/src. A block
+that does not has a line that names it, and then this ends with status 1.
 """
 import pathlib
 import re

@@ -1,5 +1,5 @@
 -- Elements that are read.
-use Rattle.std.proofs.Common.{◌≡◌, ◌∙◌, ℕ, ◌+◌, ◌-◌, ◌≤◌, suc, List, ◌++◌, length, refl, subst, sym, ap, append_assoc, arith}
+use Rattle.std.proofs.Common.{◌≡◌, ◌∙◌, ℕ, ◌+◌, ◌-◌, ◌≤◌, suc, List, ◌++◌, length, refl, subst, sym, ap, append_assoc, arith, inr, true, false}
 use Rattle.std.specs.Prelude.{Result, Ok, Err, IfErr, OnErr}
 use Rattle.std.specs.Borrow.{Bor}
 use Rattle.x690.specs.Octets.{IsOctets}
@@ -7,7 +7,7 @@ use Rattle.x690.specs.Identifiers.{Identifier}
 use Rattle.x690.specs.Lengths.{definite, LengthForm}
 use Rattle.x690.specs.Rules.{Rule, der_rule, ber_rule}
 use Rattle.x690.specs.Elements.{IsHeader, Parts, IsDerElement}
-use Rattle.x690.specs.Faults.{missing, IsCutContent}
+use Rattle.x690.specs.Faults.{missing, IsCutContent, DerElementFault}
 use Rattle.x690.specs.Nested.{IsNestedElement}
 use Rattle.x690.specs.Nested.Contents.{IsContent, ContentFault}
 use Rattle.x690.specs.Nested.FaultHeaders.{ContentFaultHeaders}
@@ -16,15 +16,16 @@ use Rattle.x690.specs.Laws.Nested.Contents.{element_made}
 use Rattle.x690.specs.Laws.Octets.{octets_front, octets_back}
 use Rattle.asn1_rs.specs.declared.header.Header.{Header}
 use Rattle.asn1_rs.specs.declared.length.Length.{Length}
-use Rattle.asn1_rs.specs.declared.length.Length.TheVariants.{Definite}
+use Rattle.asn1_rs.specs.declared.length.Length.TheVariants.{Definite, Indefinite}
 use Rattle.asn1_rs.specs.declared.error.Err.{Err as Refusal}
 use Rattle.asn1_rs.specs.declared.error.Error.{Error}
 use Rattle.asn1_rs.specs.Content.{Splits}
 use Rattle.asn1_rs.specs.Answers.{Front}
 use Rattle.asn1_rs.specs.Ber.{Counted}
 use Rattle.asn1_rs.specs.Header.{identifier_of}
-use Rattle.asn1_rs.specs.Header.Reading.{BeginsInput, KeepsIdentifier, Refused, ber_refusal}
+use Rattle.asn1_rs.specs.Header.Reading.{BeginsInput, KeepsIdentifier, Refused, ber_refusal, der_refusal}
 use Rattle.asn1_rs.specs.Length.{form_of}
+use Rattle.asn1_rs.specs.Der.{DerContentGives}
 
 -- the header counts octets of which some are missing
 pub content_cut : (input rest : List ℕ) (h : Header) (n lacking : ℕ) → BeginsInput der_rule input rest h → h.length ≡ Definite n → 1 ≤ lacking → length rest + lacking ≡ n → IsCutContent der_rule input (missing lacking)
@@ -54,6 +55,19 @@ definite_read input after content rest h n octets b f l e p pi pf pc = record {
   };
   is = b.is ∙ ap (λ (z : List ℕ). b.octets ++ z) e ∙ sym (append_assoc b.octets content rest);
 }
+
+-- contents octets by DER that are there
+pub der_content_read : (input after : List ℕ) (x : Bor (List ℕ) × Bor (List ℕ)) (h : Header) (l : Length) → IsOctets input → BeginsInput der_rule input after h → h.length ≡ l → DerContentGives (form_of l) after (Ok x) → (p : Parts) → p.id ≡ identifier_of h → p.form ≡ form_of h.length → p.content ≡ x.1.now → Front IsDerElement input p x.0.now
+der_content_read input after x h (Definite n) octets b f s p pi pf pc = definite_read input after x.1.now x.0.now h n octets b f s.0 s.1 p pi pf pc
+der_content_read input after x h Indefinite octets b f s p pi pf pc = absurd (cc)
+
+-- and a refusal of them, which is of octets that are missing: no header by DER has the indefinite form
+pub der_content_refused : (input after : List ℕ) (h : Header) (l : Length) (r : Refusal Error) → BeginsInput der_rule input after h → h.length ≡ l → DerContentGives (form_of l) after (Err r) → Refused DerElementFault der_refusal input r
+der_content_refused input after h (Definite n) r b f s = (missing s.0, inr (content_cut input after h n s.0 b f s.1 s.2), s.3)
+der_content_refused input after h Indefinite r b f s =
+    let a = subst (λ (z : Length). IsHeader der_rule b.octets (identifier_of h) (form_of z)) f b.header in
+    let none : false ≡ true = a.count_allowed in
+    absurd (cc)
 
 -- octets that are missing are a fault of the contents octets
 pub splits_refused : (n depth : ℕ) (input : List ℕ) (answer : Result (Bor (List ℕ) × Bor (List ℕ)) (Refusal Error)) → Splits n input answer → IfErr answer (Refused (ContentFault (definite n) depth) ber_refusal input)

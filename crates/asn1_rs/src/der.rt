@@ -10,11 +10,22 @@ ghost use Rattle.asn1_rs.specs.Der.{DerContentGives};
 
 use crate::asn1_types::any::Any;
 use crate::content::{GetObjectContent, split_content};
-use crate::error::{DerConstraint, Err, Error, ParseResult};
+use crate::error::{Error, ParseResult};
 use crate::header::Header;
-use crate::header::reading::header_by_der;
+use crate::header::reading::{header_by_der, indefinite_length};
 use crate::length::Length;
 use crate::traits::DerParser;
+
+/// The contents octets at the front, of a length of this form, by DER.
+#[inline(always)]
+fn content_by_der(bytes: &[u8], form: Length) -> ParseResult<'_, &[u8], Error>
+    ensures { DerContentGives (form_of form) bytes.now result }
+{
+    match form {
+        Length::Definite(len) => split_content(bytes, len),
+        Length::Indefinite => Err(indefinite_length()),
+    }
+}
 
 /// The element at the front, by DER. It does not allocate.
 #[inline(always)]
@@ -22,15 +33,8 @@ pub(crate) fn element_by_der(bytes: &[u8]) -> ParseResult<'_, Any<'_>, Error>
     ensures { AnyGives IsDerElement DerElementFault der_refusal bytes.now (seen result) }
 {
     let (rest, header) = header_by_der(bytes)?;
-    match header.length() {
-        Length::Definite(len) => {
-            let (rest, content) = split_content(rest, len)?;
-            Ok((rest, Any::new(header, content)))
-        }
-        Length::Indefinite => Err(Err::Error(Error::DerConstraintFailed(
-            DerConstraint::IndefiniteLength,
-        ))),
-    }
+    let (rest, content) = content_by_der(rest, header.length())?;
+    Ok((rest, Any::new(header, content)))
 }
 
 impl GetObjectContent for DerParser {
@@ -41,12 +45,7 @@ impl GetObjectContent for DerParser {
         hdr: &Header<'_>,
         _max_depth: usize,
     ) -> ParseResult<'a, &'a [u8], Error> {
-        match hdr.length() {
-            Length::Definite(len) => split_content(i, len),
-            Length::Indefinite => Err(Err::Error(Error::DerConstraintFailed(
-                DerConstraint::IndefiniteLength,
-            ))),
-        }
+        content_by_der(i, hdr.length())
     }
 }
 

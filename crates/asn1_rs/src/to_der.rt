@@ -110,7 +110,9 @@ pub trait ToDer: DynTagged {
     /// Appends the encoding, and answers its length.
     ///
     /// Refused with `IOError` only where the writer failed, or was marked before; with `InvalidLength` only where the
-    /// length passes `usize`, or the value itself is so refused. After a refusal a beginning of the encoding was appended.
+    /// length passes `usize`, or the value itself is so refused. After a refusal a beginning of the encoding was
+    /// appended.
+    #[inline(always)]
     fn write_der<W: DerWrite>(&self, alloc: Global, w: &mut W) -> SerializeResult<usize>
         ensures wrote { tells self.now →
             Wrote (header self.now ++ content self.now)

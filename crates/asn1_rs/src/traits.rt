@@ -74,7 +74,8 @@ impl<T: Tagged> Tagged for &T {
 
 /// A type that an element converts to.
 ///
-/// A type with this conversion is read by BER; one that checks its constraints too and has [`DerAutoDerive`] is read by DER.
+/// A type with this conversion is read by BER; one that checks its constraints too and has [`DerAutoDerive`] is read by
+/// DER.
 pub trait FromAny<'a>: Sized {
     /// Why an element is refused.
     type Error;
@@ -122,7 +123,8 @@ pub trait CheckDerConstraints {
 /// Marks a type that is read by DER as an element that is checked and then converted.
 pub trait DerAutoDerive {}
 
-/// Reads an element by DER, checks its constraints, and converts it, in this order; what refuses first names the refusal.
+/// Reads an element by DER, checks its constraints, and converts it, in this order; what refuses first names the
+/// refusal.
 impl<'a, T, E> FromDer<'a, E> for T
 where
     T: FromAny<'a, Error = E> + CheckDerConstraints + DerAutoDerive,
@@ -146,7 +148,8 @@ where
     }
 }
 
-/// Reads an element by BER and converts it, in this order; what refuses first names the refusal. No constraint is checked.
+/// Reads an element by BER and converts it, in this order; what refuses first names the refusal. No constraint is
+/// checked.
 impl<'a, T, E> FromBer<'a, E> for T
 where
     T: FromAny<'a, Error = E>,

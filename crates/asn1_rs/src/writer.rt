@@ -58,7 +58,8 @@ pub trait DerWrite {
         ensures call { puts self.old octets.now result self.new };
 }
 
-/// Makes a [`DerWrite`] of any std writer: it is marked by its first failure, and answers an Err of kind `WriteZero` from then on.
+/// Makes a [`DerWrite`] of any std writer: it is marked by its first failure, and answers an Err of kind `WriteZero`
+/// from then on.
 #[derive(Debug, Drop)]
 pub struct Told<W> {
     inner: W,
@@ -126,7 +127,8 @@ impl<W: TellsWrites> DerWrite for Told<W> {
     }
 }
 
-/// One call of `put`: what it took, at least one octet; its failure; or a failure of kind `WriteZero` where it took none.
+/// One call of `put`: what it took, at least one octet; its failure; or a failure of kind `WriteZero` where it took
+/// none.
 #[inline(always)]
 fn put_some<W: DerWrite>(w: &mut W, piece: &[u8]) -> SerializeResult<usize>
     requires { piece.now ≢ [] }

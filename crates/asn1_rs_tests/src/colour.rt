@@ -80,7 +80,8 @@ Colour::from_ber:
 2403010203 = Colour([1, 2, 3]) rest - written 0403010203 count 5 3 raw 0403010203
 
 Vec::<Colour>::from_der:
-300a04030102030403040506 = [Colour([1, 2, 3]), Colour([4, 5, 6])] rest - written 300a04030102030403040506 count 12 10 raw 300a04030102030403040506
+300a04030102030403040506 = [Colour([1, 2, 3]), Colour([4, 5, 6])] rest - written 300a04030102030403040506 count 12 10 \
+raw 300a04030102030403040506
 3003040101 = Error(InvalidLength)
 ";
 

@@ -238,8 +238,8 @@ pub fn count_name(parts: &Vec<NamePart<'_>>) -> Result<usize, Error>
     parts.to_der_len()
 }
 
-/// Appends a name. One with an empty part is refused with the text of that, unless memory is wanted or the length passes
-/// `usize` before; and nothing is appended.
+/// Appends a name. One with an empty part is refused with the text of that, unless it is out of memory or the length
+/// passes `usize` before; and nothing is appended.
 pub fn write_name<W: DerWrite>(
     parts: &Vec<NamePart<'_>>,
     alloc: Global,

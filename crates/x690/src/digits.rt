@@ -189,8 +189,8 @@ pub fn length_into(n: usize, out: &mut [u8; 9]) -> usize
     write_length(n, out)
 }
 
-/// Writes the strict header of an element whose contents are n octets at the front, and says how many octets it has: two
-/// to fifteen (X.690 8.1.2, 8.1.3, 10.1). What stands behind them stays.
+/// Writes the strict header of an element whose contents are n octets at the front, and says how many octets it has:
+/// two to fifteen (X.690 8.1.2, 8.1.3, 10.1). What stands behind them stays.
 #[inline(always)]
 pub fn header_into(class: u8, constructed: bool, number: u32, n: usize, out: &mut [u8; 15]) -> usize
     requires { class < 4 }

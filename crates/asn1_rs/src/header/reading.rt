@@ -9,6 +9,9 @@ ghost use Rattle.asn1_rs.specs.Answers.{seen};
 ghost use Rattle.asn1_rs.specs.Header.Reading.{HeaderRefusalLasts, Refused, refusal_of, der_refusal, ber_refusal, HeaderGives, BeginsWithIdentifier, BeginsWithLength, BeginsWithBoth, AllowsIdentifiers, tag_read, BeginsWithForm};
 ghost use Rattle.asn1_rs.specs.Header.{HasParts};
 ghost use Rattle.asn1_rs.specs.declared.error.Error.{Error};
+ghost use Rattle.asn1_rs.specs.declared.error.Err.TheVariants.{Error as refused};
+ghost use Rattle.asn1_rs.specs.declared.error.Error.TheVariants as errors;
+ghost use Rattle.asn1_rs.specs.declared.error.DerConstraint.TheVariants as constraints;
 
 use crate::class::Class;
 use crate::error::{DerConstraint, Err, Error, Needed, ParseResult};
@@ -128,6 +131,13 @@ fn read_parts(bytes: &[u8]) -> ParseResult<'_, (IdentifierOctets<'_>, Length), E
     Ok((rest, (identifier, length)))
 }
 
+/// The refusal of an indefinite length by DER (X.690 10.1).
+pub(crate) fn indefinite_length() -> Err<Error>
+    ensures { result ≡ refused (errors.DerConstraintFailed constraints.IndefiniteLength) }
+{
+    Err::Error(Error::DerConstraintFailed(DerConstraint::IndefiniteLength))
+}
+
 /// The header at the front, by DER: an indefinite length is refused.
 #[inline(always)]
 pub(crate) fn header_by_der(bytes: &[u8]) -> ParseResult<'_, Header<'_>, Error>
@@ -136,9 +146,7 @@ pub(crate) fn header_by_der(bytes: &[u8]) -> ParseResult<'_, Header<'_>, Error>
     let (rest, (identifier, length)) = read_parts(bytes)?;
     match length {
         Length::Definite(_) => Ok((rest, identifier.with_length(length))),
-        Length::Indefinite => Err(Err::Error(Error::DerConstraintFailed(
-            DerConstraint::IndefiniteLength,
-        ))),
+        Length::Indefinite => Err(indefinite_length()),
     }
 }
 

@@ -1,4 +1,5 @@
-//! How types of items come by [`ToDer`] and the laws of it: by the contents octets of a primitive element, or by what they refer to.
+//! How types of items come by [`ToDer`] and the laws of it: by the contents octets of a primitive element, or by what
+//! they refer to.
 ghost use Rattle.std.specs.Prelude.{◌≡◌, ◌++◌, ◌<◌, ◌^◌, ℕ, false, List, length, IfOk, IfErr, IsErr};
 ghost use Rattle.asn1_rs.specs.Grammar.{FormNumber, FormTakes};
 ghost use Rattle.asn1_rs.specs.Writer.{Wrote, MayRefuse};

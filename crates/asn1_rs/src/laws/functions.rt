@@ -64,8 +64,8 @@ pub fn reader_is_exact_by_der<'a, T: LawfulDer<'a, E>, E: From<Error>>()
 
 /// An octet string has at most one value, and a value at most one strict encoding.
 ///
-/// One word begins an input, by BER and by DER, with one value and one rest. The strict encoding of a value is a word by
-/// BER and by DER with this value; no other value has it, and it begins no other strict encoding.
+/// One word begins an input, by BER and by DER, with one value and one rest. The strict encoding of a value is a word
+/// by BER and by DER with this value; no other value has it, and it begins no other strict encoding.
 pub fn words_and_values_are_unique<T: LawfulItem>()
     ensures ber_value { (o : List ℕ) (v w : T.grammar.Value) → T.grammar.Ber o v →
         T.grammar.Ber o w → v ≡ w }
@@ -102,8 +102,8 @@ pub fn counts_are_of_the_strict_encoding<T: LawfulWrite>()
 
 /// A front that a value was read from was its strict encoding exactly where writing the value gives the same octets.
 ///
-/// It speaks of values in DER form, those that have a strict identifier and strict contents octets. No octets are strict
-/// for another value, and yet it may be written as it was read.
+/// It speaks of values in DER form, those that have a strict identifier and strict contents octets. No octets are
+/// strict for another value, and yet it may be written as it was read.
 pub fn strict_fronts_are_written_again<T: LawfulWrite>()
     ensures { (x : T) (id : Identifier) (content front : List ℕ) →
         T.grammar.Form (T.grammar.value x) id content → length front < 2 ^ 64 →

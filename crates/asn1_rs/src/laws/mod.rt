@@ -339,8 +339,8 @@ pub fn one_refusal()
         → ⊥ }
 {}
 
-/// What the readers of [`Any`](crate::Any) answer is the element at the front of the octets, or the refusal of its first
-/// fault. The raw tag of its header is the identifier octets at the front.
+/// What the readers of [`Any`](crate::Any) answer is the element at the front of the octets, or the refusal of its
+/// first fault. The raw tag of its header is the identifier octets at the front.
 pub fn any_is_the_element()
     ensures der { (input : List ℕ) (answer : Result (List ℕ × Any) (Refusal Error))
         → DerGives IsDefiniteOr IsTheElement (λ e f. f ≡ e) input answer

@@ -16,4 +16,4 @@ returns-in-Definite c =
 
 pub returns-in-Indefinite : goal.returns-in-Indefinite
 returns-in-Indefinite c =
-    indefinite_refused der_rule der_takes der_breach c.args.bytes.now c.in_ok-rest.rest.now c.in_ok-rest.identifier c.in_ok-rest.length c.in_ok-rest.ensures.ok c.in-Indefinite.is refl
+    rw c.indefinite_length.ensures (indefinite_refused der_rule der_takes der_breach c.args.bytes.now c.in_ok-rest.rest.now c.in_ok-rest.identifier c.in_ok-rest.length c.in_ok-rest.ensures.ok c.in-Indefinite.is refl)
