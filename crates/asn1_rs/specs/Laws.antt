@@ -5,6 +5,10 @@ pub mod Beginnings
 pub mod Words
 pub mod Forms
 pub mod Kinds
+pub mod Checks
+pub mod Leaf
+pub mod Boolean
+pub mod Null
 pub mod Integer
 pub mod OctetsElement
 pub mod Sequence

@@ -10,7 +10,11 @@ pub mod Any
 pub mod Answers
 pub mod Traits
 pub mod Grammar
+pub mod Checks
 pub mod Kinds
+pub mod Leaf
+pub mod Boolean
+pub mod Null
 pub mod Writer
 pub mod ToDer
 pub mod Integer

@@ -1,7 +1,9 @@
 //! The types of elements.
 
 pub mod any;
+pub mod boolean;
 pub mod integer;
 pub mod lists;
+pub mod null;
 pub mod sequence;
 pub mod set;

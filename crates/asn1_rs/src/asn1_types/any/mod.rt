@@ -1,5 +1,6 @@
 //! Elements of any type (X.690 8.1.1).
 
+mod checks;
 mod integers;
 mod writing;
 

@@ -1,0 +1,82 @@
+-- Truth values are lawful leaves.
+use Rattle.std.specs.Prelude.{◌≡◌, ◌<◌, ℕ, Bool, true, false, List, [], ◌∷◌, ◌↔◌, IsTrue, nat_eq}
+use Rattle.std.proofs.Math.Bool.{beq}
+use Rattle.std.specs.Cmp.{booleans_Decides}
+use Rattle.std.proofs.Common.{◌∙◌, ap, sym, subst, refl, inl, inr, arith, lit<, eqb-true, eq-eqb}
+use Rattle.x690.specs.Octets.{IsOctets}
+use Rattle.x690.specs.Laws.Octets.{below_octets}
+use Rattle.asn1_rs.specs.Checks.{IsCheck, check, has_length, has_content}
+use Rattle.asn1_rs.specs.Leaf.{IsLawfulLeaf}
+use Rattle.asn1_rs.specs.declared.asn1_types.boolean.Boolean.{Boolean}
+use Rattle.asn1_rs.specs.Boolean.{boolean_leaf, bool_leaf, truth_octet, says_true, IsStrictTruth, IsOtherTruth, truth_constraints}
+use Rattle.asn1_rs.specs.Laws.Checks.{check_is, before_is, has_length_is, has_content_is}
+
+one_octet : (n : ℕ) → n < 256 → IsOctets (n ∷ [])
+one_octet n h = below_octets (n ∷ []) (h, tt)
+
+-- no octet is strict and not
+truth_apart : (octet : ℕ) → IsStrictTruth octet → IsOtherTruth octet → ⊥
+truth_apart octet (inl a) b = b.0 a
+truth_apart octet (inr a) b = b.1 a
+
+truth_constraints_are : IsCheck truth_constraints
+truth_constraints_are = before_is has_content _ has_content_is (check_is _ _ _ (λ p. truth_apart _) (λ p e. cc))
+
+-- the strict octet of what a strict octet says is that octet
+pub strict_truth : (octet : ℕ) → IsStrictTruth octet → truth_octet (says_true octet) ≡ octet
+strict_truth octet (inl a) = rw a refl
+strict_truth octet (inr a) = rw a refl
+
+pub boolean_lawful : IsLawfulLeaf boolean_leaf
+boolean_lawful = record {
+  small = lit< tt;
+  checks = has_length_is 1;
+  constraints = truth_constraints_are;
+  one_value = λ c v w a b. let e : v ∷ [] ≡ w ∷ [] = sym a ∙ b in cc;
+  says_value = λ p v o m s. subst IsOctets s o.content 0;
+  der_value = λ v d. small v d;
+  der_octets = λ v d. one_octet (truth_octet (says_true v)) (subst (λ (n : ℕ). n < 256) (sym (strict_truth v d)) (small v d));
+  der_says = λ v d. ap (λ (n : ℕ). n ∷ []) (strict_truth v d);
+  der_checks = λ k v d. (refl, refl);
+  der_constraints = λ k v d. ((λ e. cc), subst IsStrictTruth (sym (strict_truth v d)) d);
+}
+  where
+    small : (v : ℕ) → IsStrictTruth v → v < 256
+    small v (inl e) = omega (arith, e)
+    small v (inr e) = omega (arith, e)
+
+pub bool_lawful : IsLawfulLeaf bool_leaf
+bool_lawful = record {
+  small = lit< tt;
+  checks = has_length_is 1;
+  constraints = truth_constraints_are;
+  one_value = λ c v w a b. same v w a.0 b.0 a.2 b.2 (sym a.1 ∙ b.1);
+  says_value = λ p v o m s. tt;
+  der_value = λ v d. tt;
+  der_octets = λ v d. octets v;
+  der_says = λ v d. says v;
+  der_checks = λ k v d. (refl, refl);
+  der_constraints = λ k v d. ((λ e. cc), strict v);
+}
+  where
+    same : (v w : Bool) (m n : ℕ) → v ≡ says_true m → w ≡ says_true n → m ∷ [] ≡ n ∷ [] → v ≡ w
+    same v w m n a b e = let f : m ≡ n = cc in a ∙ ap says_true f ∙ sym b
+
+    octets : (v : Bool) → IsOctets (truth_octet v ∷ [])
+    octets true = one_octet 255 (lit< tt)
+    octets false = one_octet 0 (lit< tt)
+
+    says : (v : Bool) → (octet : ℕ) × (truth_octet v ∷ [] ≡ octet ∷ []) × (v ≡ says_true octet)
+    says true = (255, refl, refl)
+    says false = (0, refl, refl)
+
+    strict : (v : Bool) → IsStrictTruth (truth_octet v)
+    strict true = inr refl
+    strict false = inl refl
+
+-- truth values are equal where they are the same
+pub bool_equal : (x y : Bool) → IsTrue (beq x y) ↔ (x ≡ y)
+bool_equal x y = booleans_Decides x y
+
+pub boolean_equal : (x y : Boolean) → IsTrue (nat_eq x.value y.value) ↔ (x.value ≡ y.value)
+boolean_equal x y = (λ h. eqb-true x.value y.value h, λ e. eq-eqb x.value y.value e)

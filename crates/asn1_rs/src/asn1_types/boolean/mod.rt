@@ -1,0 +1,225 @@
+//! Truth values (X.690 8.2, 11.1).
+
+mod writing;
+
+ghost use Rattle.std.specs.Prelude.{◌≡◌, ◌∷◌, [], false, IfErr};
+ghost use Rattle.asn1_rs.specs.Any.{parts_of};
+ghost use Rattle.asn1_rs.specs.Boolean.{boolean_number, boolean_leaf, bool_leaf, says_true, truth_octet, truth_constraints};
+ghost use Rattle.asn1_rs.specs.Leaf.{LeafGives, leaf_element};
+ghost use Rattle.asn1_rs.specs.Laws.Boolean.{boolean_lawful, bool_lawful, boolean_equal, bool_equal};
+ghost use Rattle.asn1_rs.specs.Laws.Leaf.{leaf_lawful, leaf_constraints, leaf_converts, leaf_primitive};
+ghost use Rattle.asn1_rs.specs.Traits.{OfParts};
+ghost use Rattle.asn1_rs.specs.Writer.{Wrote, MayRefuse};
+
+use crate::asn1_types::any::Any;
+use crate::error::{DerConstraint, Error, SerializeResult};
+use crate::kinds::writing::WritesPrimitive;
+use crate::kinds::{ElementKind, HasKind, LawfulConversion, LawfulElement};
+use crate::laws::LawfulMember;
+use crate::tag::Tag;
+use crate::traits::{CheckDerConstraints, DerAutoDerive, FromAny, Tagged};
+use crate::writer::{DerWrite, put_all};
+use std::alloc::Global;
+
+/// A truth value with the octet that says it (X.690 8.2.2): 00 is false, every other octet true.
+///
+/// It is written as 00 or ff; its raw form writes the octet that it holds.
+#[derive(Debug, Drop, PartialEq, Eq)]
+pub struct Boolean {
+    /// The contents octet.
+    pub value: u8,
+}
+
+impl Boolean {
+    /// The octet 00.
+    pub const FALSE: Boolean = Boolean { value: 0 };
+
+    /// The octet ff.
+    pub const TRUE: Boolean = Boolean { value: 0xff };
+
+    /// The truth value of this octet.
+    pub const fn new(value: u8) -> Self
+        ensures { result.value ≡ value }
+    {
+        Boolean { value }
+    }
+
+    /// Whether the octet is not 00.
+    pub const fn bool(&self) -> bool
+        ensures { result ≡ says_true self.now.value }
+    {
+        self.value != 0
+    }
+}
+
+impl Any<'_> {
+    /// The truth value with its octet. Refused at another tag number with `UnexpectedTag`, and where there is not
+    /// exactly one contents octet with `InvalidLength`.
+    pub fn boolean(self) -> Result<Boolean, Error>
+        ensures { LeafGives boolean_leaf (parts_of self.entry) result }
+    {
+        self.as_boolean()
+    }
+
+    /// The truth value with its octet, of an element that stays.
+    #[inline(always)]
+    pub fn as_boolean(&self) -> Result<Boolean, Error>
+        ensures { LeafGives boolean_leaf (parts_of self.now) result }
+    {
+        self.assert_number(Tag::Boolean)?;
+        self.assert_length(1)?;
+        Ok(Boolean::new(self.content[0]))
+    }
+
+    /// The truth value, refused as `boolean` is.
+    pub fn bool(self) -> Result<bool, Error>
+        ensures { LeafGives bool_leaf (parts_of self.entry) result }
+    {
+        self.as_bool()
+    }
+
+    /// The truth value, of an element that stays.
+    #[inline(always)]
+    pub fn as_bool(&self) -> Result<bool, Error>
+        ensures { LeafGives bool_leaf (parts_of self.now) result }
+    {
+        Ok(self.as_boolean()?.bool())
+    }
+}
+
+/// Refuses an element without contents octets with `InvalidLength`, and one whose first is neither 00 nor ff with
+/// `InvalidBoolean` (X.690 11.1).
+#[inline(always)]
+fn check_truth(any: &Any<'_>) -> Result<(), Error>
+    ensures { truth_constraints (parts_of any.now) result }
+{
+    match any.content.first() {
+        None => Err(Error::InvalidLength),
+        Some(0 | 0xff) => Ok(()),
+        Some(_) => Err(Error::DerConstraintFailed(DerConstraint::InvalidBoolean)),
+    }
+}
+
+/// Appends 00 or ff.
+#[inline(always)]
+fn put_truth<W: DerWrite>(truth: bool, w: &mut W) -> SerializeResult<usize>
+    ensures wrote { Wrote (truth_octet truth ∷ []) (W.told w.old) (W.told w.new) (W.failed w.old)
+        (W.failed w.new) result }
+    ensures refused { IfErr result (MayRefuse false 1) }
+{
+    put_all(w, &[if truth { 0xff } else { 0 }])
+}
+
+impl Tagged for bool {
+    const TAG: Tag = Tag::Boolean;
+
+    ghost mark = { record { 0 = boolean_number } };
+
+    fn its_tag() -> Tag {
+        Self::TAG
+    }
+}
+
+impl<'a> FromAny<'a> for bool {
+    type Error = Error;
+
+    ghost any_gives = { OfParts (LeafGives bool_leaf) };
+
+    fn try_from_any(_alloc: Global, any: Any<'a>) -> Result<bool, Error> {
+        any.as_bool()
+    }
+}
+
+impl CheckDerConstraints for bool {
+    ghost check_gives = { truth_constraints };
+
+    fn check_constraints(any: &Any<'_>) -> Result<(), Error> {
+        check_truth(any)
+    }
+}
+
+impl DerAutoDerive for bool {}
+
+impl HasKind for bool {
+    type Kind = ElementKind;
+}
+
+impl LawfulElement for bool {
+    ghost element = { leaf_element bool_leaf };
+
+    ghost lawful = { leaf_lawful bool_leaf bool_lawful };
+
+    ghost checked = { leaf_constraints bool_leaf bool_lawful };
+}
+
+impl<'a> LawfulConversion<'a> for bool {
+    ghost converts = { leaf_converts bool_leaf bool_lawful };
+}
+
+impl WritesPrimitive for bool {
+    ghost octets = { λ b. truth_octet b ∷ [] };
+
+    fn count_octets(&self) -> Result<usize, Error> {
+        Ok(1)
+    }
+
+    fn put_octets<W: DerWrite>(&self, w: &mut W) -> SerializeResult<usize> {
+        put_truth(*self, w)
+    }
+
+    ghost primitive = { leaf_primitive bool_leaf bool_lawful };
+}
+
+impl LawfulMember for bool {
+    ghost same = { bool_equal };
+}
+
+impl Tagged for Boolean {
+    const TAG: Tag = Tag::Boolean;
+
+    ghost mark = { record { 0 = boolean_number } };
+
+    fn its_tag() -> Tag {
+        Self::TAG
+    }
+}
+
+impl<'a> FromAny<'a> for Boolean {
+    type Error = Error;
+
+    ghost any_gives = { OfParts (LeafGives boolean_leaf) };
+
+    fn try_from_any(_alloc: Global, any: Any<'a>) -> Result<Boolean, Error> {
+        any.as_boolean()
+    }
+}
+
+impl CheckDerConstraints for Boolean {
+    ghost check_gives = { truth_constraints };
+
+    fn check_constraints(any: &Any<'_>) -> Result<(), Error> {
+        check_truth(any)
+    }
+}
+
+impl DerAutoDerive for Boolean {}
+
+impl HasKind for Boolean {
+    type Kind = ElementKind;
+}
+
+impl LawfulElement for Boolean {
+    ghost element = { leaf_element boolean_leaf };
+
+    ghost lawful = { leaf_lawful boolean_leaf boolean_lawful };
+
+    ghost checked = { leaf_constraints boolean_leaf boolean_lawful };
+}
+
+impl<'a> LawfulConversion<'a> for Boolean {
+    ghost converts = { leaf_converts boolean_leaf boolean_lawful };
+}
+
+impl LawfulMember for Boolean {
+    ghost same = { boolean_equal };
+}

@@ -1,0 +1,119 @@
+//! Truth values with their octet, as they are written (X.690 8.2.2, 11.1).
+ghost use Rattle.std.specs.Prelude.{◌≡◌, ◌++◌, ℕ, List, false, length, Ok, true, IfOk, IfErr};
+ghost use Rattle.std.specs.Io.KnownBytes.{Appends};
+ghost use Rattle.asn1_rs.specs.Boolean.{boolean_number, boolean_leaf, truth_octets, raw_boolean, truth_header, IsStrictTruth};
+ghost use Rattle.asn1_rs.specs.Error.{tells_of_io};
+ghost use Rattle.asn1_rs.specs.Leaf.{leaf_element};
+ghost use Rattle.asn1_rs.specs.Laws.Boolean.{boolean_lawful};
+ghost use Rattle.asn1_rs.specs.Laws.Forms.{primitive_by_value, primitive_writes_form, primitive_has_form, primitive_number, primitive_fits};
+ghost use Rattle.asn1_rs.specs.Laws.Leaf.{leaf_primitive};
+ghost use Rattle.asn1_rs.specs.ToDer.{Refuses, VectorRefuses, Either};
+ghost use Rattle.asn1_rs.specs.Writer.{Wrote, MayRefuse};
+
+use crate::asn1_types::boolean::{Boolean, put_truth};
+use crate::error::{Error, SerializeResult, without_io};
+use crate::laws::{LawfulTagged, LawfulWrite, TakesClass};
+use crate::to_der::ToDer;
+use crate::writer::{DerWrite, Told, put_all};
+use std::alloc::Global;
+
+/// It is written as 00 or ff; its raw form has the octet that it holds.
+impl ToDer for Boolean {
+    ghost tells = { λ _. Unit {0} };
+
+    ghost header = { λ _. truth_header };
+
+    ghost content = { truth_octets };
+
+    ghost raw_is_der = { λ x. IsStrictTruth x.value };
+
+    ghost count_allocates = { false };
+
+    ghost content_allocates = { false };
+
+    ghost write_allocates = { false };
+
+    fn to_der_len(&self) -> Result<usize, Error>
+        ensures { result ≡ Ok 3 }
+    {
+        Ok(3)
+    }
+
+    fn der_content_len(&self) -> Result<usize, Error>
+        ensures { result ≡ Ok 1 }
+    {
+        Ok(1)
+    }
+
+    fn der_constructed(&self) -> bool {
+        false
+    }
+
+    fn write_der_header<W: DerWrite>(&self, _alloc: Global, w: &mut W) -> SerializeResult<usize> {
+        put_all(w, &[0x01, 0x01])
+    }
+
+    fn write_der_content<W: DerWrite>(&self, _alloc: Global, w: &mut W) -> SerializeResult<usize> {
+        put_truth(self.bool(), w)
+    }
+
+    /// Appends 01, 01 and the octet that it holds.
+    fn write_der_raw<W: DerWrite>(&self, _alloc: Global, w: &mut W) -> SerializeResult<usize>
+        ensures raw { Wrote (raw_boolean self.now) (W.told w.old) (W.told w.new)
+            (W.failed w.old) (W.failed w.new) result }
+        ensures failed { IfErr result (MayRefuse false 3) }
+        ensures der { IsStrictTruth self.now.value →
+            Wrote (truth_header ++ truth_octets self.now) (W.told w.old) (W.told w.new)
+            (W.failed w.old) (W.failed w.new) result }
+        ensures refused { IsStrictTruth self.now.value →
+            IfErr result (Refuses false (length (truth_header ++ truth_octets self.now))
+            (Either (λ _. ⊥) (λ _. ⊥))) }
+        ensures counted { IfOk result
+            (λ n. (raw : List ℕ) × Appends (W.told w.old) (W.told w.new) raw × (n ≡ length raw)) }
+    {
+        put_all(w, &[0x01, 0x01, self.value])
+    }
+
+    /// The raw form in a vector.
+    fn to_der_vec_raw(&self, alloc: Global) -> SerializeResult<Vec<u8>>
+        ensures raw { IfOk result (λ octets. octets.items ≡ raw_boolean self.now) }
+        ensures failed { IfErr result (MayRefuse true 3) }
+        ensures der { IsStrictTruth self.now.value →
+            IfOk result (λ octets. octets.items ≡ truth_header ++ truth_octets self.now) }
+        ensures refused { IsStrictTruth self.now.value →
+            IfErr result (VectorRefuses (length (truth_header ++ truth_octets self.now))
+            (Either (λ _. ⊥) (λ _. ⊥))) }
+        ensures memory { IfErr result (λ e. tells_of_io e ≡ false) }
+    {
+        let mut w = Told::new(Vec::new(alloc));
+        match self.write_der_raw(alloc, &mut w) {
+            Ok(_) => Ok(w.into_inner()),
+            Err(e) => Err(without_io(e)),
+        }
+    }
+}
+
+impl LawfulWrite for Boolean {
+    ghost tells_all = { λ x. tt };
+
+    ghost by_value = { primitive_by_value (leaf_element boolean_leaf) boolean_number truth_octets
+        (leaf_primitive boolean_leaf boolean_lawful) };
+
+    ghost form = { primitive_writes_form (leaf_element boolean_leaf) boolean_number truth_octets
+        (leaf_primitive boolean_leaf boolean_lawful) };
+
+    ghost der_form = { primitive_has_form (leaf_element boolean_leaf) boolean_number truth_octets
+        (leaf_primitive boolean_leaf boolean_lawful) };
+}
+
+impl LawfulTagged for Boolean {
+    ghost tag_number = { primitive_number (leaf_element boolean_leaf) boolean_number truth_octets
+        (leaf_primitive boolean_leaf boolean_lawful) };
+
+    ghost number_fits = { primitive_fits (leaf_element boolean_leaf) boolean_number truth_octets
+        (leaf_primitive boolean_leaf boolean_lawful) };
+}
+
+impl<const C: u8> TakesClass<C> for Boolean {
+    ghost takes_class = { (leaf_primitive boolean_leaf boolean_lawful).class C };
+}
