@@ -9,6 +9,7 @@ pub mod Checks
 pub mod Leaf
 pub mod Boolean
 pub mod Null
+pub mod EndOfContent
 pub mod Integer
 pub mod OctetsElement
 pub mod Sequence

@@ -15,6 +15,7 @@ pub mod Kinds
 pub mod Leaf
 pub mod Boolean
 pub mod Null
+pub mod EndOfContent
 pub mod Writer
 pub mod ToDer
 pub mod Integer

@@ -2,6 +2,7 @@
 
 pub mod any;
 pub mod boolean;
+pub mod end_of_content;
 pub mod integer;
 pub mod lists;
 pub mod null;
