@@ -1,29 +1,38 @@
 #!/usr/bin/env python3
-"""Looks whether the code of the guide stands in the crate of uses, which the gate proves and tests.
+"""Looks whether the code of the guides stands in the crates, which the gate proves and tests.
 
-Each block of Rust in README.md and docs/*.md must stand line for line in one file of crates/asn1_rs_uses/src. A block
-that does not has a line that names it, and then this ends with status 1.
+Each block of Rust in README.md and docs/*.md must stand line for line in one file of src/ of asn1_rs_uses or asn1_rs,
+and each block of definitions in one file of their specs/. A block that does not has a line that names it, and then this
+ends with status 1.
 """
 import pathlib
 import re
 import sys
 
 TOP = pathlib.Path(__file__).resolve().parent.parent
-BLOCK = re.compile(r"^```rust\n(.*?)^```$", re.M | re.S)
+BLOCK = re.compile(r"^```(rust|antt)\n(.*?)^```$", re.M | re.S)
+PLACES = {"rust": "src/**/*.rt", "antt": "specs/**/*.antt"}
+CRATES = ["asn1_rs_uses", "asn1_rs"]
+
+
+def sources(places):
+    """The texts of the files of these places in the crates."""
+    paths = [path for name in CRATES for path in sorted((TOP / "crates" / name).glob(places))]
+    return [path.read_text(encoding="utf-8") for path in paths]
 
 
 def main():
-    sources = [path.read_text(encoding="utf-8") for path in sorted((TOP / "crates/asn1_rs_uses/src").glob("**/*.rt"))]
+    texts = {language: sources(places) for language, places in PLACES.items()}
     blocks = faults = 0
     for page in [TOP / "README.md", *sorted((TOP / "docs").glob("*.md"))]:
         text = page.read_text(encoding="utf-8")
         for block in BLOCK.finditer(text):
             blocks += 1
-            if not any(block[1] in source for source in sources):
+            if not any(block[2] in source for source in texts[block[1]]):
                 line = text.count("\n", 0, block.start()) + 1
-                print(f"{page.relative_to(TOP)}:{line}: this block stands in no file of crates/asn1_rs_uses/src")
+                print(f"{page.relative_to(TOP)}:{line}: this block stands in no {PLACES[block[1]]} of {' or '.join(CRATES)}")
                 faults += 1
-    print(f"{blocks - faults} of {blocks} blocks of the guide stand in crates/asn1_rs_uses")
+    print(f"{blocks - faults} of {blocks} blocks of the guides stand in the crates")
     sys.exit(1 if faults else 0)
 
 

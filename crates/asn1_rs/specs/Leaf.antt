@@ -72,3 +72,12 @@ pub record IsLawfulLeaf {S : Type 0} (L : Leaf S) : Type 0 where
   pub der_says : (v : L.Value) → L.IsDer v → L.Says (L.octets v) v
   pub der_checks : (class : ℕ) (v : L.Value) → L.IsDer v → L.checks (leaf_parts L class v) (Ok tt)
   pub der_constraints : (class : ℕ) (v : L.Value) → L.IsDer v → L.constraints (leaf_parts L class v) (Ok tt)
+
+-- parts have one refusal, and none where there is a value
+pub record HasOneRefusal {T : Type 0} (gives : Parts → Result T Error → Type 0) : Type 0 where
+  pub one : (p : Parts) (e f : Error) → gives p (Err e) → gives p (Err f) → e ≡ f
+  pub none : (p : Parts) (x : T) (e : Error) → gives p (Ok x) → gives p (Err e) → ⊥
+
+-- so of the conversion of a leaf, and of its check
+abbrev pub HaveOneRefusal : {S : Type 0} → Leaf S → Type 0
+HaveOneRefusal L = HasOneRefusal (LeafGives L) × HasOneRefusal L.constraints

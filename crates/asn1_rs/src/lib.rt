@@ -18,7 +18,7 @@ mod traits;
 mod writer;
 
 pub use asn1_types::any::Any;
-pub use asn1_types::boolean::Boolean;
+pub use asn1_types::boolean::{Boolean, truth_constants_are_octets};
 pub use asn1_types::end_of_content::EndOfContent;
 pub use asn1_types::integer::integers_have_one_refusal;
 pub use asn1_types::lists::FromItems;
@@ -39,8 +39,9 @@ pub use header::Header;
 pub use kinds::writing::{WritesOctets, WritesPrimitive};
 pub use kinds::{ElementKind, HasKind, LawfulConversion, LawfulElement};
 pub use laws::functions::{
-    beginnings_are_refused, counts_are_of_the_strict_encoding, reader_is_exact_by_ber,
-    reader_is_exact_by_der, strict_fronts_are_written_again, words_and_values_are_unique,
+    beginnings_are_refused, counts_are_of_the_strict_encoding, leaves_have_one_refusal,
+    reader_is_exact_by_ber, reader_is_exact_by_der, strict_fronts_are_written_again,
+    words_and_values_are_unique,
 };
 pub use laws::{
     Grammar, LawfulAuto, LawfulBer, LawfulBody, LawfulCheck, LawfulDer, LawfulItem, LawfulMember,

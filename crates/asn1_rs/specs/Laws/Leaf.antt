@@ -12,7 +12,7 @@ use Rattle.asn1_rs.specs.Grammar.{TakesBody, Checks, made, of_class}
 use Rattle.asn1_rs.specs.Grammar.Form.{universal}
 use Rattle.asn1_rs.specs.Kinds.{IsLawfulElement, IsExactCheck, IsExactConversion}
 use Rattle.asn1_rs.specs.Kinds.Writing.{IsPrimitiveElement}
-use Rattle.asn1_rs.specs.Leaf.{Leaf, IsLawfulLeaf, LeafBody, LeafGives, LeafContent, leaf_checks, leaf_element, leaf_parts}
+use Rattle.asn1_rs.specs.Leaf.{Leaf, IsLawfulLeaf, LeafBody, LeafGives, LeafContent, leaf_checks, leaf_element, leaf_parts, HasOneRefusal, HaveOneRefusal}
 use Rattle.asn1_rs.specs.Laws.Checks.{before_is, has_number_is}
 use Rattle.asn1_rs.specs.Laws.Forms.{universal_one, universal_value, universal_fits}
 
@@ -65,9 +65,14 @@ module _ {S : Type 0} (L : Leaf S) (l : IsLawfulLeaf L) where
       exact p (Ok x) o g = g
       exact p (Err e) o g = inr (λ v b. all_checks.apart p e b.0 g)
 
-  -- the conversion has one refusal of an element
-  pub one_leaf_refusal : (p : Parts) (e f : Error) → LeafGives L p (Err e) → LeafGives L p (Err f) → e ≡ f
-  one_leaf_refusal p e f h k = all_checks.one p e f h k
+  pub leaf_one_refusal : HaveOneRefusal L
+  leaf_one_refusal = (of_checks (leaf_checks L) all_checks (LeafGives L) (λ p x h. h.0) (λ p e h. h), of_checks L.constraints l.constraints L.constraints (λ p x h. h) (λ p e h. h))
+    where
+      of_checks : {T : Type 0} (checks : CheckGives) → IsCheck checks → (gives : Parts → Result T Error → Type 0) → ((p : Parts) (x : T) → gives p (Ok x) → checks p (Ok tt)) → ((p : Parts) (e : Error) → gives p (Err e) → checks p (Err e)) → HasOneRefusal gives
+      of_checks checks c gives meets breaks = record {
+        one = λ p e f g h. c.one p e f (breaks p e g) (breaks p f h);
+        none = λ p x e g h. c.apart p e (meets p x g) (breaks p e h);
+      }
 
   pub leaf_primitive : IsPrimitiveElement (leaf_element L) L.number (λ x. L.octets (L.value x))
   leaf_primitive = record {

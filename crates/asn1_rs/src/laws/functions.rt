@@ -18,6 +18,11 @@ ghost use Rattle.asn1_rs.specs.Grammar.Form.{IsStrict};
 ghost use Rattle.asn1_rs.specs.Ber.{max_depth, EndsWithin};
 ghost use Rattle.asn1_rs.specs.Header.Reading.{refusal_of, HeaderGives};
 ghost use Rattle.asn1_rs.specs.Any.{DerElementGives, BerElementGives};
+ghost use Rattle.asn1_rs.specs.declared.asn1_types.null.Null.{Null};
+ghost use Rattle.asn1_rs.specs.Leaf.{HaveOneRefusal};
+ghost use Rattle.asn1_rs.specs.Boolean.{boolean_leaf, bool_leaf};
+ghost use Rattle.asn1_rs.specs.Null.{null_leaf, no_octets, primitive_without_octets};
+ghost use Rattle.asn1_rs.specs.EndOfContent.{end_leaf};
 ghost use Rattle.asn1_rs.specs.ToDer.{IsWritable};
 
 use crate::error::Error;
@@ -127,4 +132,16 @@ pub fn beginnings_are_refused()
         (answer : Result (List ℕ × Any) (Refusal Error)) → BerElementGives input answer →
         IsElement max_depth word p → input ++ more ≡ word ++ rest → length input < length word →
         RefusedAsBeginning (EndsWithin input) more answer }
+{}
+
+/// An element has one refusal by the conversion of a leaf type and one by its check, and none where it has a value, or
+/// meets the constraints.
+///
+/// A clause for each type, with its conversion and its check.
+pub fn leaves_have_one_refusal()
+    ensures boolean { HaveOneRefusal boolean_leaf }
+    ensures bool { HaveOneRefusal bool_leaf }
+    ensures null { HaveOneRefusal (null_leaf {S = Null} no_octets) }
+    ensures unit { HaveOneRefusal (null_leaf {S = Unit {0}} primitive_without_octets) }
+    ensures end_of_content { HaveOneRefusal end_leaf }
 {}

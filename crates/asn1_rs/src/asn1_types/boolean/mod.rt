@@ -52,6 +52,14 @@ impl Boolean {
     }
 }
 
+/// The constants hold 00 and ff.
+///
+/// A law: nothing runs.
+pub fn truth_constants_are_octets()
+    ensures no { (Boolean.FALSE).value ≡ 0 }
+    ensures yes { (Boolean.TRUE).value ≡ 255 }
+{}
+
 impl Any<'_> {
     /// The truth value with its octet. Refused at another tag number with `UnexpectedTag`, and where there is not
     /// exactly one contents octet with `InvalidLength`.

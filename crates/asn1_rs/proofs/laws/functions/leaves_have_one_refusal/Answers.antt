@@ -1,0 +1,14 @@
+use Rattle.asn1_rs.specs.Laws.Boolean.{boolean_lawful, bool_lawful}
+use Rattle.asn1_rs.specs.Laws.EndOfContent.{end_lawful}
+use Rattle.asn1_rs.specs.Laws.Leaf.{leaf_one_refusal}
+use Rattle.asn1_rs.specs.Laws.Null.{null_lawful, unit_lawful}
+use Rattle.asn1_rs.proofs.laws.functions.leaves_have_one_refusal.Goals as goal
+
+pub returns : goal.returns
+returns c = record {
+  boolean = leaf_one_refusal _ boolean_lawful;
+  bool = leaf_one_refusal _ bool_lawful;
+  null = leaf_one_refusal _ null_lawful;
+  unit = leaf_one_refusal _ unit_lawful;
+  end_of_content = leaf_one_refusal _ end_lawful;
+}
