@@ -15,7 +15,6 @@ check Meets Breaks refusal p (Ok x) = Meets p
 check Meets Breaks refusal p (Err e) = Breaks p × (e ≡ refusal p)
 
 infixr 3 ◌before◌
-
 -- one check and then the others: the refusal is that of the first that is broken
 abbrev pub ◌before◌ : CheckGives → CheckGives → CheckGives
 ◌before◌ first others p (Ok x) = first p (Ok x) × others p (Ok x)

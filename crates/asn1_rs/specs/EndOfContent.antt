@@ -1,5 +1,5 @@
 -- The octets 00 00 that end indefinite contents (X.690 8.1.5), as an element that is read by BER alone.
-use Rattle.std.specs.Prelude.{◌≡◌, ℕ, false, List, []}
+use Rattle.std.specs.Prelude.{◌≡◌, ℕ, false, []}
 use Rattle.asn1_rs.specs.declared.asn1_types.end_of_content.EndOfContent.{EndOfContent}
 use Rattle.asn1_rs.specs.Checks.{nothing, has_length}
 use Rattle.asn1_rs.specs.Grammar.{BerWord}

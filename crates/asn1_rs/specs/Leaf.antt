@@ -1,8 +1,6 @@
 -- Types whose values are primitive elements of the universal class: what such a leaf of an encoding says of itself.
-use Rattle.std.specs.Prelude.{◌≡◌, ◌<◌, ℕ, false, List, length, Result, Ok, Err}
+use Rattle.std.specs.Prelude.{◌≡◌, ◌<◌, ℕ, false, List, Result, Ok, Err}
 use Rattle.x690.specs.Octets.{IsOctets}
-use Rattle.x690.specs.Identifiers.{Identifier}
-use Rattle.x690.specs.Lengths.{definite}
 use Rattle.x690.specs.Elements.{Parts, ArePossible}
 use Rattle.asn1_rs.specs.declared.error.Error.{Error}
 use Rattle.asn1_rs.specs.Checks.{CheckGives, IsCheck, ◌before◌, has_number}

@@ -1,5 +1,6 @@
 -- The null value (X.690 8.8).
-use Rattle.std.specs.Prelude.{◌≡◌, ℕ, List, []}
+use Rattle.std.specs.Prelude.{◌≡◌, ℕ, []}
+use Rattle.asn1_rs.specs.declared.asn1_types.null.Null.{Null}
 use Rattle.asn1_rs.specs.Checks.{CheckGives, ◌before◌, nothing, is_primitive, has_length}
 use Rattle.asn1_rs.specs.Leaf.{Leaf}
 
@@ -8,8 +9,8 @@ abbrev pub null_number : ℕ
 null_number = 5
 
 -- a type with one value, which has no contents octets
-abbrev pub null_leaf : {S : Type 0} → CheckGives → Leaf S
-null_leaf checks = record {
+abbrev pub one_value_leaf : (S : Type 0) → CheckGives → Leaf S
+one_value_leaf S checks = record {
   number = null_number;
   Value = Unit {0};
   value = λ x. tt;
@@ -22,8 +23,8 @@ null_leaf checks = record {
 }
 
 -- `Null` is read from a constructed element too, and the unit value is not
-abbrev pub no_octets : CheckGives
-no_octets = has_length 0
+abbrev pub null_leaf : Leaf Null
+null_leaf = one_value_leaf Null (has_length 0)
 
-abbrev pub primitive_without_octets : CheckGives
-primitive_without_octets = is_primitive before has_length 0
+abbrev pub unit_leaf : Leaf (Unit {0})
+unit_leaf = one_value_leaf (Unit {0}) (is_primitive before has_length 0)

@@ -1,15 +1,19 @@
 -- Truth values are lawful leaves.
-use Rattle.std.specs.Prelude.{◌≡◌, ◌<◌, ℕ, Bool, true, false, List, [], ◌∷◌, ◌↔◌, IsTrue, nat_eq}
+use Rattle.std.specs.Prelude.{◌≡◌, ◌<◌, ℕ, Bool, true, false, [], ◌∷◌, ◌↔◌, IsTrue, nat_eq}
 use Rattle.std.proofs.Math.Bool.{beq}
 use Rattle.std.specs.Cmp.{booleans_Decides}
 use Rattle.std.proofs.Common.{◌∙◌, ap, sym, subst, refl, inl, inr, arith, lit<, eqb-true, eq-eqb}
 use Rattle.x690.specs.Octets.{IsOctets}
 use Rattle.x690.specs.Laws.Octets.{below_octets}
-use Rattle.asn1_rs.specs.Checks.{IsCheck, check, has_length, has_content}
-use Rattle.asn1_rs.specs.Leaf.{IsLawfulLeaf}
+use Rattle.asn1_rs.specs.Checks.{IsCheck, has_content}
+use Rattle.x690.specs.Strict.{header_octets, identifier_octets, length_octets}
+use Rattle.asn1_rs.specs.Grammar.Form.{WritesByValue, WritesForm}
+use Rattle.asn1_rs.specs.Leaf.{IsLawfulLeaf, leaf_element}
 use Rattle.asn1_rs.specs.declared.asn1_types.boolean.Boolean.{Boolean}
-use Rattle.asn1_rs.specs.Boolean.{boolean_leaf, bool_leaf, truth_octet, says_true, IsStrictTruth, IsOtherTruth, truth_constraints}
+use Rattle.asn1_rs.specs.Boolean.{boolean_number, boolean_leaf, bool_leaf, truth_octet, says_true, IsStrictTruth, IsOtherTruth, truth_constraints, truth_header, truth_octets}
 use Rattle.asn1_rs.specs.Laws.Checks.{check_is, before_is, has_length_is, has_content_is}
+use Rattle.asn1_rs.specs.Laws.Forms.{NothingRefused, primitive_by_value, primitive_writes_form}
+use Rattle.asn1_rs.specs.Laws.Leaf.{leaf_primitive}
 
 one_octet : (n : ℕ) → n < 256 → IsOctets (n ∷ [])
 one_octet n h = below_octets (n ∷ []) (h, tt)
@@ -80,3 +84,12 @@ bool_equal x y = booleans_Decides x y
 
 pub boolean_equal : (x y : Boolean) → IsTrue (nat_eq x.value y.value) ↔ (x.value ≡ y.value)
 boolean_equal x y = (λ h. eqb-true x.value y.value h, λ e. eq-eqb x.value y.value e)
+
+-- a truth value with its octet is written as one contents octet
+pub boolean_by_value : WritesByValue (leaf_element boolean_leaf).value (λ x. false) (λ x. truth_header) truth_octets
+unfolding header_octets identifier_octets length_octets
+boolean_by_value = primitive_by_value (leaf_element boolean_leaf) boolean_number truth_octets (leaf_primitive boolean_leaf boolean_lawful)
+
+pub boolean_writes_form : WritesForm (leaf_element boolean_leaf).value (leaf_element boolean_leaf).Form (λ x. NothingRefused) (λ x. false) (λ x. truth_header) truth_octets
+unfolding header_octets identifier_octets length_octets
+boolean_writes_form = primitive_writes_form (leaf_element boolean_leaf) boolean_number truth_octets (leaf_primitive boolean_leaf boolean_lawful)

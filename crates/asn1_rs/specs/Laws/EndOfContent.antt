@@ -1,5 +1,4 @@
 -- The end of contents is lawful, as far as it is read.
-use Rattle.std.specs.Prelude.{◌≡◌, ℕ, []}
 use Rattle.std.proofs.Common.{refl, lit<}
 use Rattle.x690.specs.Nested.{IsElement}
 use Rattle.asn1_rs.specs.Ber.{max_depth}

@@ -4,7 +4,7 @@ ghost use Rattle.std.proofs.Common.{refl};
 ghost use Rattle.asn1_rs.specs.Any.{parts_of};
 ghost use Rattle.asn1_rs.specs.Checks.{nothing};
 ghost use Rattle.asn1_rs.specs.Leaf.{LeafGives, leaf_element};
-ghost use Rattle.asn1_rs.specs.Null.{null_number, null_leaf, no_octets, primitive_without_octets};
+ghost use Rattle.asn1_rs.specs.Null.{null_number, null_leaf, unit_leaf};
 ghost use Rattle.asn1_rs.specs.Laws.Leaf.{leaf_lawful, leaf_constraints, leaf_converts, leaf_primitive};
 ghost use Rattle.asn1_rs.specs.Laws.Null.{null_lawful, unit_lawful};
 ghost use Rattle.asn1_rs.specs.Traits.{OfParts};
@@ -39,7 +39,7 @@ impl Any<'_> {
     /// The null value. Refused at another tag number with `UnexpectedTag`, and where there are contents octets, or the
     /// header does not count none, with `InvalidLength`.
     pub fn null(self) -> Result<Null, Error>
-        ensures { LeafGives (null_leaf no_octets) (parts_of self.entry) result }
+        ensures { LeafGives null_leaf (parts_of self.entry) result }
     {
         self.as_null()
     }
@@ -47,7 +47,7 @@ impl Any<'_> {
     /// The null value, of an element that stays.
     #[inline(always)]
     pub fn as_null(&self) -> Result<Null, Error>
-        ensures { LeafGives (null_leaf no_octets) (parts_of self.now) result }
+        ensures { LeafGives null_leaf (parts_of self.now) result }
     {
         self.assert_number(Tag::Null)?;
         self.assert_length(0)?;
@@ -68,7 +68,7 @@ impl Tagged for Null {
 impl<'a> FromAny<'a> for Null {
     type Error = Error;
 
-    ghost any_gives = { OfParts (LeafGives (null_leaf no_octets)) };
+    ghost any_gives = { OfParts (LeafGives null_leaf) };
 
     fn try_from_any(_alloc: Global, any: Any<'a>) -> Result<Null, Error> {
         any.null()
@@ -91,15 +91,15 @@ impl HasKind for Null {
 }
 
 impl LawfulElement for Null {
-    ghost element = { leaf_element (null_leaf no_octets) };
+    ghost element = { leaf_element null_leaf };
 
-    ghost lawful = { leaf_lawful (null_leaf no_octets) null_lawful };
+    ghost lawful = { leaf_lawful null_leaf null_lawful };
 
-    ghost checked = { leaf_constraints (null_leaf no_octets) null_lawful };
+    ghost checked = { leaf_constraints null_leaf null_lawful };
 }
 
 impl<'a> LawfulConversion<'a> for Null {
-    ghost converts = { leaf_converts (null_leaf no_octets) null_lawful };
+    ghost converts = { leaf_converts null_leaf null_lawful };
 }
 
 impl WritesOctets for Null {
@@ -109,11 +109,11 @@ impl WritesOctets for Null {
         &[]
     }
 
-    ghost held_are = { leaf_primitive (null_leaf no_octets) null_lawful };
+    ghost held_are = { leaf_primitive null_leaf null_lawful };
 }
 
 impl LawfulMember for Null {
-    ghost same = { λ x y. (λ h. refl, λ e. tt) };
+    ghost same = { λ x y. (λ h. refl, λ e. refl) };
 }
 
 impl Tagged for () {
@@ -129,7 +129,7 @@ impl Tagged for () {
 impl<'a> FromAny<'a> for () {
     type Error = Error;
 
-    ghost any_gives = { OfParts (LeafGives (null_leaf primitive_without_octets)) };
+    ghost any_gives = { OfParts (LeafGives unit_leaf) };
 
     fn try_from_any(_alloc: Global, any: Any<'a>) -> Result<(), Error> {
         any.assert_number(Tag::Null)?;
@@ -154,15 +154,15 @@ impl HasKind for () {
 }
 
 impl LawfulElement for () {
-    ghost element = { leaf_element (null_leaf primitive_without_octets) };
+    ghost element = { leaf_element unit_leaf };
 
-    ghost lawful = { leaf_lawful (null_leaf primitive_without_octets) unit_lawful };
+    ghost lawful = { leaf_lawful unit_leaf unit_lawful };
 
-    ghost checked = { leaf_constraints (null_leaf primitive_without_octets) unit_lawful };
+    ghost checked = { leaf_constraints unit_leaf unit_lawful };
 }
 
 impl<'a> LawfulConversion<'a> for () {
-    ghost converts = { leaf_converts (null_leaf primitive_without_octets) unit_lawful };
+    ghost converts = { leaf_converts unit_leaf unit_lawful };
 }
 
 impl WritesOctets for () {
@@ -172,9 +172,9 @@ impl WritesOctets for () {
         &[]
     }
 
-    ghost held_are = { leaf_primitive (null_leaf primitive_without_octets) unit_lawful };
+    ghost held_are = { leaf_primitive unit_leaf unit_lawful };
 }
 
 impl LawfulMember for () {
-    ghost same = { λ x y. (λ h. refl, λ e. tt) };
+    ghost same = { λ x y. (λ h. refl, λ e. refl) };
 }

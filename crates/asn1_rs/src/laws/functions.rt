@@ -18,10 +18,9 @@ ghost use Rattle.asn1_rs.specs.Grammar.Form.{IsStrict};
 ghost use Rattle.asn1_rs.specs.Ber.{max_depth, EndsWithin};
 ghost use Rattle.asn1_rs.specs.Header.Reading.{refusal_of, HeaderGives};
 ghost use Rattle.asn1_rs.specs.Any.{DerElementGives, BerElementGives};
-ghost use Rattle.asn1_rs.specs.declared.asn1_types.null.Null.{Null};
 ghost use Rattle.asn1_rs.specs.Leaf.{HaveOneRefusal};
 ghost use Rattle.asn1_rs.specs.Boolean.{boolean_leaf, bool_leaf};
-ghost use Rattle.asn1_rs.specs.Null.{null_leaf, no_octets, primitive_without_octets};
+ghost use Rattle.asn1_rs.specs.Null.{null_leaf, unit_leaf};
 ghost use Rattle.asn1_rs.specs.EndOfContent.{end_leaf};
 ghost use Rattle.asn1_rs.specs.ToDer.{IsWritable};
 
@@ -141,7 +140,7 @@ pub fn beginnings_are_refused()
 pub fn leaves_have_one_refusal()
     ensures boolean { HaveOneRefusal boolean_leaf }
     ensures bool { HaveOneRefusal bool_leaf }
-    ensures null { HaveOneRefusal (null_leaf {S = Null} no_octets) }
-    ensures unit { HaveOneRefusal (null_leaf {S = Unit {0}} primitive_without_octets) }
+    ensures null { HaveOneRefusal null_leaf }
+    ensures unit { HaveOneRefusal unit_leaf }
     ensures end_of_content { HaveOneRefusal end_leaf }
 {}

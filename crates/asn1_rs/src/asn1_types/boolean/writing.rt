@@ -4,8 +4,8 @@ ghost use Rattle.std.specs.Io.KnownBytes.{Appends};
 ghost use Rattle.asn1_rs.specs.Boolean.{boolean_number, boolean_leaf, truth_octets, raw_boolean, truth_header, IsStrictTruth};
 ghost use Rattle.asn1_rs.specs.Error.{tells_of_io};
 ghost use Rattle.asn1_rs.specs.Leaf.{leaf_element};
-ghost use Rattle.asn1_rs.specs.Laws.Boolean.{boolean_lawful};
-ghost use Rattle.asn1_rs.specs.Laws.Forms.{primitive_by_value, primitive_writes_form, primitive_has_form, primitive_number, primitive_fits};
+ghost use Rattle.asn1_rs.specs.Laws.Boolean.{boolean_lawful, boolean_by_value, boolean_writes_form};
+ghost use Rattle.asn1_rs.specs.Laws.Forms.{primitive_has_form, primitive_number, primitive_fits};
 ghost use Rattle.asn1_rs.specs.Laws.Leaf.{leaf_primitive};
 ghost use Rattle.asn1_rs.specs.ToDer.{Refuses, VectorRefuses, Either};
 ghost use Rattle.asn1_rs.specs.Writer.{Wrote, MayRefuse};
@@ -96,11 +96,9 @@ impl ToDer for Boolean {
 impl LawfulWrite for Boolean {
     ghost tells_all = { λ x. tt };
 
-    ghost by_value = { primitive_by_value (leaf_element boolean_leaf) boolean_number truth_octets
-        (leaf_primitive boolean_leaf boolean_lawful) };
+    ghost by_value = { boolean_by_value };
 
-    ghost form = { primitive_writes_form (leaf_element boolean_leaf) boolean_number truth_octets
-        (leaf_primitive boolean_leaf boolean_lawful) };
+    ghost form = { boolean_writes_form };
 
     ghost der_form = { primitive_has_form (leaf_element boolean_leaf) boolean_number truth_octets
         (leaf_primitive boolean_leaf boolean_lawful) };
