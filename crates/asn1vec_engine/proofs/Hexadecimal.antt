@@ -1,153 +1,115 @@
--- Hexadecimal digits, and what decoding says of them.
-use Rattle.std.proofs.Common.{◌≡◌, ◌≢◌, ℕ, zero, suc, ◌+◌, ◌-◌, ◌*◌, ◌/◌, ◌%◌, ◌<◌, ◌≤◌, ◌==◌, ◌&&◌, nat_lt, cond, Bool, true, false, List, [], ◌∷◌, length, slice_index, Option, Some, None, Result, Ok, Err, refl, sym, ap, ◌∙◌, arith, inl, inr, ◌⊎◌, codes, subst}
+-- Hexadecimal digits: how they are read, and that they stand for one string of octets.
+use Rattle.std.proofs.Common.{◌≡◌, ◌≢◌, ℕ, zero, suc, ◌+◌, ◌*◌, ◌/◌, ◌%◌, ◌<◌, ◌==◌, ◌&&◌, ◌||◌, nat_lt, cond, Bool, true, false, List, [], ◌∷◌, ◌++◌, length, take, slice_index, slice_set, refl, sym, ap, ◌∙◌, arith, inl, inr, ◌⊎◌, codes, subst, append_assoc}
 use Rattle.std.proofs.lemmas.Bool.{and_parts, cases_lt, eqb-true}
 use Rattle.std.proofs.lemmas.Bool.Decides.{nat_tests}
-use Rattle.std.specs.Result.{MatchResult, result_unwrap_or}
-use Rattle.hex.specs.Hex.{decode_of, decode_pairs, decode_sized, digit_or_error, hex_digit_value, lower_digits, upper_digits, pair_value, value_at, ◌>>=◌}
-use Rattle.hex.specs.declared.error.FromHexError.{FromHexError}
-use Rattle.hex.proofs.HexLemmas.{IsDigits-lower_digits, IsDigits-upper_digits, decode_of-even, decode_of-ok, decode_sized-ok, decode_sized-twice}
-use Rattle.hex.proofs.Pairs.{cons_byte, decode_pairs-ok_pair}
+use Rattle.std.proofs.lemmas.List.{take_more, take_more_set}
 use Rattle.asn1vec_engine.specs.Request.{IsDigit, IsHexadecimal, StandsFor}
+use Rattle.asn1vec_engine.specs.declared.digits.TheConstants.{NUMBERS}
 
--- the digit d of a table whose letters begin with the code `first`
-abbrev code_of : ℕ → ℕ → ℕ
-code_of first d = cond (nat_lt d 10) (48 + d) (first + d - 10)
+-- ---- the table
 
-abbrev all_at : List ℕ → ℕ → ℕ → Bool
-all_at table first zero = true
-all_at table first (suc n) = (slice_index table n == code_of first n) && all_at table first n
+abbrev lower : ℕ → ℕ
+lower d = slice_index (codes "0123456789abcdef") d
 
-at_place : (table : List ℕ) (first n d : ℕ) → all_at table first n ≡ true → d < n → slice_index table d ≡ code_of first d
-at_place table first zero d h lt = absurd (omega arith)
-at_place table first (suc n) d h lt =
-    let parts = and_parts (slice_index table n == code_of first n) (all_at table first n) h in
-    elim (cases_lt d n) [
-      | inl below ↦ at_place table first n d parts.1 below
+abbrev upper : ℕ → ℕ
+upper d = slice_index (codes "0123456789ABCDEF") d
+
+-- all numbers below n pass a test
+abbrev all_below : (ℕ → Bool) → ℕ → Bool
+all_below test zero = true
+all_below test (suc n) = test n && all_below test n
+
+passes : (test : ℕ → Bool) (n k : ℕ) → all_below test n ≡ true → k < n → test k ≡ true
+passes test zero k h lt = absurd (omega arith)
+passes test (suc n) k h lt =
+    let parts = and_parts (test n) (all_below test n) h in
+    elim (cases_lt k n) [
+      | inl below ↦ passes test n k parts.1 below
       | inr top ↦
-          let e : d ≡ n = omega arith in
-          rw e (eqb-true _ _ parts.0)
+          let e : k ≡ n = omega arith in
+          rw e parts.0
     ]
 
--- which character stands for d
-abbrev Reads : ℕ → ℕ → Type 0
-Reads c d = ((48 ≤ c) × (c ≤ 57) × (48 + d ≡ c)) ⊎ (((65 ≤ c) × (c ≤ 70) × (55 + d ≡ c)) ⊎ ((97 ≤ c) × (c ≤ 102) × (87 + d ≡ c)))
+-- what has a number below 16 is the digit of that number
+abbrev is_digit_or_none : List ℕ → ℕ → Bool
+is_digit_or_none table c = cond (nat_lt (slice_index table c) 16) ((c == lower (slice_index table c)) || (c == upper (slice_index table c))) true
 
-reads : (c d : ℕ) → hex_digit_value c ≡ Some d → Reads c d
-reads c d h = grind (arith, nat_tests)
+-- the digits of a number have that number
+abbrev has_its_number : List ℕ → ℕ → Bool
+has_its_number table d = (slice_index table (lower d) == d) && (slice_index table (upper d) == d)
 
-code_of-figure : (first d : ℕ) → d < 10 → code_of first d ≡ 48 + d
-code_of-figure first d h = grind (arith, nat_tests)
+one_of_two : (small c l u : ℕ) → cond (nat_lt small 16) ((c == l) || (c == u)) true ≡ true → small < 16 → (c ≡ l) ⊎ (c ≡ u)
+one_of_two small c l u h lt = grind (arith, nat_tests)
 
-code_of-letter : (first d : ℕ) → 10 ≤ d → code_of first d ≡ first + d - 10
-code_of-letter first d h = grind (arith, nat_tests)
+digit_in : (table : List ℕ) → all_below (is_digit_or_none table) 256 ≡ true → (c : ℕ) → c < 256 → slice_index table c < 16 → IsDigit (slice_index table c) c
+digit_in table h c octet small = (small, one_of_two (slice_index table c) c _ _ (passes (is_digit_or_none table) 256 c h octet) small)
 
-digit_of_value : (c d : ℕ) → hex_digit_value c ≡ Some d → IsDigit d c
-digit_of_value c d h = elim (reads c d h) [
-  | inl (low, high, e) ↦
-      let small : d < 10 = omega arith in
-      (omega arith, inl (sym e ∙ sym (at_place lower_digits 97 16 d refl (omega arith) ∙ code_of-figure 97 d small)))
-  | inr (inl (low, high, e)) ↦
-      let large : 10 ≤ d = omega arith in
-      let at : c ≡ 65 + d - 10 = omega arith in
-      (omega arith, inr (at ∙ sym (at_place upper_digits 65 16 d refl (omega arith) ∙ code_of-letter 65 d large)))
-  | inr (inr (low, high, e)) ↦
-      let large : 10 ≤ d = omega arith in
-      let at : c ≡ 97 + d - 10 = omega arith in
-      (omega arith, inl (at ∙ sym (at_place lower_digits 97 16 d refl (omega arith) ∙ code_of-letter 97 d large)))
-]
+number_in : (table : List ℕ) → all_below (has_its_number table) 16 ≡ true → (d c : ℕ) → IsDigit d c → slice_index table c ≡ d
+number_in table h d c (small, inl e) = ap (slice_index table) e ∙ eqb-true _ _ (and_parts (slice_index table (lower d) == d) _ (passes (has_its_number table) 16 d h small)).0
+number_in table h d c (small, inr e) = ap (slice_index table) e ∙ eqb-true _ _ (and_parts (slice_index table (lower d) == d) _ (passes (has_its_number table) 16 d h small)).1
 
-value_of_digit : (d c : ℕ) → IsDigit d c → hex_digit_value c ≡ Some d
-value_of_digit d c (small, inl e) = ap hex_digit_value e ∙ IsDigits-lower_digits d small
-value_of_digit d c (small, inr e) = ap hex_digit_value e ∙ IsDigits-upper_digits d small
+pub is_digit : (c : ℕ) → c < 256 → slice_index NUMBERS c < 16 → IsDigit (slice_index NUMBERS c) c
+is_digit = digit_in NUMBERS refl
 
--- what the digits of octets decode to
-decodes : (octets digits : List ℕ) (i : ℕ) → IsHexadecimal octets digits → decode_pairs i digits ≡ Ok octets
-unfolding decode_pairs
-decodes [] digits i h = rw h refl
-decodes (octet ∷ octets) digits i (high, low, rest, a, b, more, e) =
-    let ha : value_at high i ≡ Ok (octet / 16) = ap (digit_or_error high i) (value_of_digit (octet / 16) high a) in
-    let hb : value_at low (i + 1) ≡ Ok (octet % 16) = ap (digit_or_error low (i + 1)) (value_of_digit (octet % 16) low b) in
-    let pair : pair_value high low i ≡ Ok (octet / 16 * 16 + octet % 16) = rw (ha, hb) refl in
-    let whole : octet / 16 * 16 + octet % 16 ≡ octet = omega arith in
-    ap (decode_pairs i) e ∙ decode_pairs-ok_pair i high low _ rest pair ∙ ap (cons_byte (octet / 16 * 16 + octet % 16)) (decodes octets rest (i + 2) more)
-    ∙ ap (λ (v : ℕ). Ok (v ∷ octets)) whole
+pub number_is : (d c : ℕ) → IsDigit d c → slice_index NUMBERS c ≡ d
+number_is = number_in NUMBERS refl
+
+-- ---- digits of octets
+
+-- one more octet, behind the others
+one_more : (octets digits : List ℕ) (octet high low : ℕ) → IsHexadecimal octets digits → IsDigit (octet / 16) high → IsDigit (octet % 16) low → IsHexadecimal (octets ++ octet ∷ []) (digits ++ high ∷ low ∷ [])
+one_more [] digits octet high low h a b = (high, low, [], a, b, refl, ap (λ l. l ++ high ∷ low ∷ []) h)
+one_more (x ∷ octets) digits octet high low (first, second, rest, p, q, more, e) a b =
+    (first, second, rest ++ high ∷ low ∷ [], p, q, one_more octets rest octet high low more a b, ap (λ l. l ++ high ∷ low ∷ []) e)
+
+-- two digits more are read
+pub pair_read : (octets digits : List ℕ) (i high low : ℕ) → i < length octets → 2 * i + 1 < length digits → IsDigit high (slice_index digits (2 * i)) → IsDigit low (slice_index digits (2 * i + 1))
+    → IsHexadecimal (take i octets) (take (2 * i) digits) → IsHexadecimal (take (i + 1) (slice_set octets i (high * 16 + low))) (take (2 * (i + 1)) digits)
+pair_read octets digits i high low room fits a b read =
+    let octet : ℕ = high * 16 + low in
+    let first : high ≡ octet / 16 = omega (arith, a.0, b.0) in
+    let second : low ≡ octet % 16 = omega (arith, a.0, b.0) in
+    let two : 2 * (i + 1) ≡ 2 * i + 1 + 1 = omega arith in
+    let front : take (2 * (i + 1)) digits ≡ take (2 * i) digits ++ slice_index digits (2 * i) ∷ slice_index digits (2 * i + 1) ∷ [] =
+    rw (two, take_more digits (2 * i + 1) 0 fits, take_more digits (2 * i) 0 (omega arith)) (append_assoc (take (2 * i) digits) _ _) in
+    rw (front, take_more_set octets i octet room)
+    (one_more (take i octets) (take (2 * i) digits) octet _ _ read (subst (λ (d : ℕ). IsDigit d (slice_index digits (2 * i))) first a) (subst (λ (d : ℕ). IsDigit d (slice_index digits (2 * i + 1))) second b))
 
 -- an even number of digits
-even_digits : (octets digits : List ℕ) → IsHexadecimal octets digits → length digits ≡ 2 * length octets
+pub even_digits : (octets digits : List ℕ) → IsHexadecimal octets digits → length digits ≡ 2 * length octets
 even_digits [] digits h = rw h refl
 even_digits (octet ∷ octets) digits (high, low, rest, a, b, more, e) =
     let n = even_digits octets rest more in
     rw e (omega (arith, n))
 
--- the value of a digit that was read
-digit_read : (c i : ℕ) (o : Option ℕ) (v : ℕ) → digit_or_error c i o ≡ Ok v → o ≡ Some v
-digit_read c i (Some w) v h = ap Some (ap (λ (r : Result ℕ FromHexError). result_unwrap_or r 0) h)
-digit_read c i None v h = cc h
+-- the digits of one of the octets
+pub digits_at : (octets digits : List ℕ) (i : ℕ) → IsHexadecimal octets digits → 2 * i + 1 < length digits
+    → (octet : ℕ) × IsDigit (octet / 16) (slice_index digits (2 * i)) × IsDigit (octet % 16) (slice_index digits (2 * i + 1))
+digits_at [] digits i h lt = absurd (omega (arith, ap length h))
+digits_at (octet ∷ octets) digits zero (high, low, rest, a, b, more, e) lt = rw e (octet, a, b)
+digits_at (octet ∷ octets) digits (suc i) (high, low, rest, a, b, more, e) lt =
+    let n = ap length e in
+    let first : 2 * suc i ≡ suc (suc (2 * i)) = omega arith in
+    let second : 2 * suc i + 1 ≡ suc (suc (2 * i + 1)) = omega arith in
+    rw (e, second, first) (digits_at octets rest i more (omega (arith, n)))
 
--- both steps gave a value
-both_ok : {A B : Type 0} (r : Result A FromHexError) (f : A → Result B FromHexError) (y : B) → (r >>= f) ≡ Ok y → (x : A) × (r ≡ Ok x) × (f x ≡ Ok y)
-both_ok (Ok x) f y h = (x, refl, h)
-both_ok (Err e) f y h = cc h
+-- ---- one meaning
 
--- digits that decode are those of the octets
-decoded : (digits octets : List ℕ) (i : ℕ) → decode_pairs i digits ≡ Ok octets → IsHexadecimal octets digits
-unfolding decode_pairs
-decoded [] octets i h =
-    let e : [] ≡ octets = ap (λ (r : Result (List ℕ) FromHexError). result_unwrap_or r []) h in
-    subst (λ (o : List ℕ). IsHexadecimal o []) e refl
-decoded (a ∷ []) octets i h = cc h
-decoded (a ∷ b ∷ rest) octets i h =
-    let pair = both_ok (pair_value a b i) _ octets h in
-    let high = both_ok (value_at a i) _ pair.0 pair.1 in
-    let low = both_ok (value_at b (i + 1)) _ pair.0 high.2 in
-    let more = both_ok (decode_pairs (i + 2) rest) _ octets pair.2 in
-    let e : pair.0 ∷ more.0 ≡ octets = ap (λ (r : Result (List ℕ) FromHexError). result_unwrap_or r []) more.2 in
-    let octet : high.0 * 16 + low.0 ≡ pair.0 = ap (λ (r : Result ℕ FromHexError). result_unwrap_or r 0) low.2 in
-    let da = digit_of_value a high.0 (digit_read a i (hex_digit_value a) high.0 high.1) in
-    let db = digit_of_value b low.0 (digit_read b (i + 1) (hex_digit_value b) low.0 low.1) in
-    let first : high.0 ≡ pair.0 / 16 = omega (arith, da.0, db.0) in
-    let second : low.0 ≡ pair.0 % 16 = omega (arith, da.0, db.0) in
-    subst (λ (o : List ℕ). IsHexadecimal o (a ∷ b ∷ rest)) e
-    (a, b, rest, subst (λ (d : ℕ). IsDigit d a) first da, subst (λ (d : ℕ). IsDigit d b) second db, decoded rest more.0 (i + 2) more.1, refl)
+one_number : (d e c : ℕ) → IsDigit d c → IsDigit e c → d ≡ e
+one_number d e c a b = sym (number_is d c a) ∙ number_is e c b
 
--- digits decode to the octets for which they stand
-pub stands_for_decoded : (octets digits : List ℕ) → false ≡ (length digits == 0) → decode_of digits ≡ Ok octets → StandsFor octets digits
-stands_for_decoded octets digits some h =
-    let parts = decode_of-ok digits octets h in
-    stands octets digits some (decoded digits octets 0 (sym (decode_of-even digits parts.0) ∙ h))
-  where
-    stands : (octets digits : List ℕ) → false ≡ (length digits == 0) → IsHexadecimal octets digits → StandsFor octets digits
-    stands [] digits some h = absurd (not_none digits some h)
-      where
-        not_none : (digits : List ℕ) → false ≡ (length digits == 0) → digits ≡ [] → ⊥
-        not_none [] some e = absurd (cc)
-        not_none (x ∷ digits) some e = cc
-    stands (octet ∷ octets) digits some h = h
-
--- what stands for octets decodes to them
-pub decodes_where_stands : (octets digits : List ℕ) → digits ≢ codes "-" → StandsFor octets digits → decode_of digits ≡ Ok octets
-decodes_where_stands [] digits other h = absurd (other h)
-decodes_where_stands (octet ∷ octets) digits other h =
-    let n = even_digits (octet ∷ octets) digits h in
-    decode_of-even digits (omega (arith, n)) ∙ decodes (octet ∷ octets) digits 0 h
-
--- decoding into a slice gave octets: those to which the digits decode
-pub sized_ok : (digits new : List ℕ) (n : ℕ) (d : Result (List ℕ) FromHexError) (r : Result (Unit {0}) FromHexError) → d ≡ decode_sized digits n
-    → MatchResult d (λ bytes. (r ≡ Ok tt) × (new ≡ bytes)) (λ e. r ≡ Err e) → r ≡ Ok tt → decode_of digits ≡ Ok new
-sized_ok digits new n (Ok bytes) r same is ok =
-    let size = decode_sized-ok digits n bytes (sym same) in
-    sym (decode_sized-twice digits n size) ∙ sym same ∙ ap Ok (sym is.1)
-sized_ok digits new n (Err e) r same is ok = absurd (cc)
-
--- decoding into half as many octets was refused: the digits decode to none
-pub sized_err : (digits new octets : List ℕ) (n : ℕ) (x : FromHexError) (d : Result (List ℕ) FromHexError) (r : Result (Unit {0}) FromHexError) → d ≡ decode_sized digits n
-    → MatchResult d (λ bytes. (r ≡ Ok tt) × (new ≡ bytes)) (λ e. r ≡ Err e) → r ≡ Err x → n ≡ length digits / 2 → decode_of digits ≡ Ok octets → ⊥
-sized_err digits new octets n x (Ok bytes) r same is err half h = let ok = is.0 in cc
-sized_err digits new octets n x (Err e) r same is err half h =
-    let parts = decode_of-ok digits octets h in
-    let even = parts.0 in
-    let size : length digits ≡ 2 * n = omega (arith, even, half) in
-    let other = same ∙ decode_sized-twice digits n size ∙ h in
+same_octets : (octets others digits : List ℕ) → IsHexadecimal octets digits → IsHexadecimal others digits → octets ≡ others
+same_octets [] [] digits h k = refl
+same_octets [] (y ∷ others) digits h (high, low, rest, a, b, more, e) = absurd (cc)
+same_octets (x ∷ octets) [] digits (high, low, rest, a, b, more, e) k = absurd (cc)
+same_octets (x ∷ octets) (y ∷ others) digits (high, low, rest, a, b, more, e) (first, second, tail, p, q, after, f) =
+    let one : high ≡ first = cc in
+    let two : low ≡ second = cc in
+    let end : rest ≡ tail = cc in
+    let m = one_number (x / 16) (y / 16) first (subst (IsDigit (x / 16)) one a) p in
+    let n = one_number (x % 16) (y % 16) second (subst (IsDigit (x % 16)) two b) q in
+    let same : x ≡ y = omega (arith, m, n) in
+    let others_same = same_octets octets others tail (subst (IsHexadecimal octets) end more) after in
     cc
 
 -- no octet stands behind `-`
@@ -162,6 +124,16 @@ pub one_meaning : (octets others digits : List ℕ) → StandsFor octets digits 
 one_meaning [] [] digits h k = refl
 one_meaning [] (x ∷ others) digits h k = absurd (not_digits x others digits k h)
 one_meaning (x ∷ octets) [] digits h k = absurd (not_digits x octets digits h k)
-one_meaning (x ∷ octets) (y ∷ others) digits h k =
-    let same = sym (decodes (x ∷ octets) digits 0 h) ∙ decodes (y ∷ others) digits 0 k in
-    ap (λ (r : Result (List ℕ) FromHexError). result_unwrap_or r []) same
+one_meaning (x ∷ octets) (y ∷ others) digits h k = same_octets (x ∷ octets) (y ∷ others) digits h k
+
+-- ---- what digits stand for
+
+-- digits of octets stand for them, where there are some
+pub stands : (octets digits : List ℕ) → false ≡ (length digits == 0) → IsHexadecimal octets digits → StandsFor octets digits
+stands [] digits some h = absurd (let none = ap length h in cc)
+stands (octet ∷ octets) digits some h = h
+
+-- what else stands for octets is digits of them
+pub digits_where_stands : (octets digits : List ℕ) → digits ≢ codes "-" → StandsFor octets digits → IsHexadecimal octets digits
+digits_where_stands [] digits other h = absurd (other h)
+digits_where_stands (octet ∷ octets) digits other h = h

@@ -1,5 +1,5 @@
 -- Steps of the engine.
-use Rattle.std.proofs.Common.{◌≡◌, ◌≢◌, ℕ, ◌<◌, List, [], ◌∷◌, ◌++◌, Bool, false, Option, None, Some, IfSome, refl, sym, ap, ◌∙◌, append_assoc, append-nil, length, subst, ◌+◌, take, drop, ◌⊎◌, inl, inr, ◌-◌, min, arith, length-append}
+use Rattle.std.proofs.Common.{◌≡◌, ◌≢◌, ℕ, ◌<◌, List, [], ◌∷◌, ◌++◌, Bool, false, Option, None, Some, IfSome, refl, sym, ap, ◌∙◌, append_assoc, append-nil, length, subst, take, drop, ◌⊎◌, inl, inr, ◌-◌, min, arith, length-append}
 use Rattle.std.specs.List.{All}
 use Rattle.std.proofs.lemmas.Bool.{cases_lt}
 use Rattle.std.proofs.lemmas.List.{take-append-drop, take_all, length-take-le}

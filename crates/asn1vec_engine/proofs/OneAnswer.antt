@@ -1,5 +1,5 @@
 -- A line has one answer, except when out of memory.
-use Rattle.std.proofs.Common.{◌≡◌, ◌∙◌, sym, ap, subst, refl, List, [], ◌∷◌, ◌++◌, ℕ, false, ◌⊎◌, inl, inr, Err, arith, Option, Some, append_assoc}
+use Rattle.std.proofs.Common.{◌≡◌, ◌∙◌, sym, ap, subst, List, [], ◌∷◌, ◌++◌, ℕ, false, ◌⊎◌, inl, inr, Err, arith, Option, Some, append_assoc}
 use Rattle.std.specs.Prelude.{ℤ, pos}
 use Rattle.std.specs.Fmt.{signed_decimal}
 use Rattle.std.proofs.Math.Dec.{eqb}
@@ -63,17 +63,7 @@ type_once I128 = integers_once (λ n. n) (IsSigned 16) (SignedRefuses 16) (one_s
 type_once Any = elements_once
 
 allocates_none : (t : TypeName) → ((meaning_of t).reading_allocates ≡ false) × ((meaning_of t).writing_allocates ≡ false)
-allocates_none U8 = (refl, refl)
-allocates_none U16 = (refl, refl)
-allocates_none U32 = (refl, refl)
-allocates_none U64 = (refl, refl)
-allocates_none U128 = (refl, refl)
-allocates_none I8 = (refl, refl)
-allocates_none I16 = (refl, refl)
-allocates_none I32 = (refl, refl)
-allocates_none I64 = (refl, refl)
-allocates_none I128 = (refl, refl)
-allocates_none Any = (refl, refl)
+allocates_none t = grind arith
 
 -- ---- a line
 
@@ -83,17 +73,7 @@ named name = find (λ t. pointwise eqb name (name_of t)) (U8 ∷ U16 ∷ U32 ∷
 
 named_by_its_name : (t : TypeName) → named (name_of t) ≡ Some t
 unfolding named
-named_by_its_name U8 = refl
-named_by_its_name U16 = refl
-named_by_its_name U32 = refl
-named_by_its_name U64 = refl
-named_by_its_name U128 = refl
-named_by_its_name I8 = refl
-named_by_its_name I16 = refl
-named_by_its_name I32 = refl
-named_by_its_name I64 = refl
-named_by_its_name I128 = refl
-named_by_its_name Any = refl
+named_by_its_name t = grind arith
 
 one_type : (name : List ℕ) (t s : TypeName) → name ≡ name_of t → name ≡ name_of s → t ≡ s
 one_type name t s a b = let e : Some t ≡ Some s = sym (named_by_its_name t) ∙ ap named (sym a ∙ b) ∙ named_by_its_name s in cc

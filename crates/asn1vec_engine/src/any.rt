@@ -1,15 +1,14 @@
 //! How elements of any type are shown.
-ghost use Rattle.std.specs.Prelude.{◌≡◌, ◌<◌, ◌^◌, false, length};
+ghost use Rattle.std.specs.Prelude.{◌≡◌, ◌<◌, ◌^◌, length};
 ghost use Rattle.x690.specs.Octets.{IsOctets};
 ghost use Rattle.asn1_rs.specs.Class.{class_number};
-ghost use Rattle.asn1_rs.specs.Any.Value.{element_of, ElementForm};
-ghost use Rattle.asn1vec_engine.specs.Shown.{StrictEncoding, element_text, letter_of};
+ghost use Rattle.asn1_rs.specs.Any.Value.{element_of};
+ghost use Rattle.asn1vec_engine.specs.Shown.{element_text, letter_of};
 
-use crate::shown::{Shown, push_encoding};
-use crate::text::push_hexadecimal;
+use crate::shown::Encoded;
+use crate::text::{push_hexadecimal, push_number, push_str};
 use asn1_rs::{Any, Class};
-use std::alloc::{AllocError, Global};
-use std::io::Write;
+use std::alloc::AllocError;
 
 /// The number of a class.
 fn number_of(class: Class) -> u8
@@ -31,10 +30,8 @@ fn are_octets(octets: &[u8])
     ensures counted { length octets.now < 2 ^ 64 }
 {}
 
-impl Shown for Any<'_> {
+impl Encoded for Any<'_> {
     ghost text_of = { λ a. element_text (element_of a) };
-
-    ghost Encodes = { λ a. StrictEncoding ElementForm false (element_of a) };
 
     /// The number of the class, the letter of the form, the tag number and the contents octets,
     /// joined by points.
@@ -42,21 +39,18 @@ impl Shown for Any<'_> {
         let class = number_of(self.header.class());
         let form = letter(self.header.constructed());
         let number = self.header.tag().0;
-        write!(text, "{class}.{form}.{number}.").map_err(|_| AllocError)?;
+        push_number(text, class)?;
+        push_str(text, ".")?;
+        push_str(text, form)?;
+        push_str(text, ".")?;
+        push_number(text, number)?;
+        push_str(text, ".")?;
         push_hexadecimal(text, self.content)?;
         Ok(())
     }
 
-    fn tell_encoding(
-        &self,
-        alloc: Global,
-        buffer: &mut Vec<u8>,
-        text: &mut Vec<u8>,
-    ) -> Result<(), AllocError> {
-        // What their types say of the tag number and the contents octets: each element has a strict
-        // encoding.
+    fn has_encoding(&self) {
         let _number = self.tag();
         are_octets(self.content);
-        push_encoding(alloc, self, buffer, text)
     }
 }

@@ -3,14 +3,14 @@
 
 mod answer;
 mod any;
+mod digits;
 mod engine;
 mod names;
+mod numbers;
 mod request;
 mod shown;
-mod signed;
 mod text;
 mod types;
-mod unsigned;
 
 pub use answer::one_answer;
 pub use engine::{RunError, one_output, run};

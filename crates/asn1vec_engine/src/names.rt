@@ -4,10 +4,9 @@ ghost use Rattle.asn1vec_engine.specs.Names.{name_of_needed, name_of_constraint,
 ghost use Rattle.asn1vec_engine.specs.Names.{in_brackets, name_of_error};
 ghost use Rattle.asn1vec_engine.specs.Names.{name_of_refusal, name_of_write_refusal};
 
-use crate::text::push_str;
+use crate::text::{push_number, push_str};
 use asn1_rs::{DerConstraint, Err as Refusal, Error, Needed, SerializeError};
 use std::alloc::AllocError;
-use std::io::Write;
 
 /// Appends how many octets are missing.
 fn push_needed(text: &mut Vec<u8>, needed: Needed) -> Result<(), AllocError>
@@ -15,7 +14,7 @@ fn push_needed(text: &mut Vec<u8>, needed: Needed) -> Result<(), AllocError>
 {
     match needed {
         Needed::Unknown => push_str(text, "Unknown"),
-        Needed::Size(n) => write!(text, "{n}").map_err(|_| AllocError),
+        Needed::Size(n) => push_number(text, n),
     }
 }
 

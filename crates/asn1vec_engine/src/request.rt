@@ -5,6 +5,7 @@ ghost use Rattle.asn1vec_engine.specs.declared.request.Rule.{Rule};
 ghost use Rattle.asn1vec_engine.specs.Request.{IsRequest, IsOtherForm, StandsFor};
 ghost use Rattle.asn1vec_engine.specs.Request.{BeginsWithRule, IsOtherRule};
 
+use crate::digits::fill;
 use std::alloc::AllocError;
 
 /// By which rules octets are read.
@@ -61,11 +62,12 @@ fn read_digits(digits: &[u8], octets: &mut Vec<u8>) -> Result<bool, AllocError>
     if digits.is_empty() {
         return Ok(false);
     }
-    octets.resize(digits.len() / 2, 0)?;
-    match hex::decode_to_slice(digits, octets.as_mut_slice()) {
-        Ok(()) => Ok(true),
-        Err(_) => Ok(false),
+    if digits.len() % 2 != 0 {
+        return Ok(false);
     }
+    octets.resize(digits.len() / 2, 0)?;
+    let found = fill(digits, octets.as_mut_slice());
+    Ok(found)
 }
 
 /// What the line asks for, with the octets in place of those there, or `None` where it has another

@@ -15,7 +15,7 @@ use asn1_rs::{
 use std::alloc::{AllocError, Global};
 use std::mem;
 
-/// A type whose values are shown in answers.
+/// A type whose values are shown in answers. `Encoded` gives it to all that have a strict encoding.
 pub(crate) trait Shown {
     /// The text of a value.
     ghost text_of: { Self → List ℕ };
@@ -37,6 +37,42 @@ pub(crate) trait Shown {
     ) -> Result<(), AllocError>
         ensures { OnOk result
             (Gains text.old.items text.new.items (SaysEncoding (Encodes self.now))) };
+}
+
+/// A type whose values are shown, each of which has a strict encoding.
+pub(crate) trait Encoded: LawfulWrite {
+    /// The text of a value.
+    ghost text_of: { Self → List ℕ };
+
+    /// Appends the text of the value.
+    fn show(&self, text: &mut Vec<u8>) -> Result<(), AllocError>
+        ensures { OnOk result (text.new.items ≡ text.old.items ++ text_of self.now) };
+
+    /// States that the value has a strict encoding: its body only names what its types say of it.
+    fn has_encoding(&self)
+        ensures { (o : List ℕ) × IsStrict Self.grammar.Form (Self.grammar.value self.now) o };
+}
+
+impl<T: Encoded> Shown for T {
+    ghost text_of = { T.text_of };
+
+    ghost Encodes = { λ x. StrictEncoding T.grammar.Form
+        (some_allocates T.write_allocates T.count_allocates T.content_allocates)
+        (T.grammar.value x) };
+
+    fn show(&self, text: &mut Vec<u8>) -> Result<(), AllocError> {
+        Encoded::show(self, text)
+    }
+
+    fn tell_encoding(
+        &self,
+        alloc: Global,
+        buffer: &mut Vec<u8>,
+        text: &mut Vec<u8>,
+    ) -> Result<(), AllocError> {
+        self.has_encoding();
+        push_encoding(alloc, self, buffer, text)
+    }
 }
 
 /// Whether the refusal tells of a writer that failed.
@@ -69,7 +105,7 @@ fn push_writing(
 }
 
 /// Appends the strict encoding of a value in digits, or why writing it was refused.
-pub(crate) fn push_encoding<T: LawfulWrite>(
+fn push_encoding<T: LawfulWrite>(
     alloc: Global,
     x: &T,
     buffer: &mut Vec<u8>,

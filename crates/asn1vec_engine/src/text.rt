@@ -3,6 +3,7 @@
 ghost use Rattle.std.specs.Prelude.{◌≡◌, ◌++◌, OnOk};
 ghost use Rattle.asn1vec_engine.specs.Shown.{in_hexadecimal};
 
+use itoa::{Buffer, Integer};
 use std::alloc::AllocError;
 
 /// Appends a text.
@@ -10,6 +11,14 @@ pub(crate) fn push_str(text: &mut Vec<u8>, part: &str) -> Result<(), AllocError>
     ensures { OnOk result (text.new.items ≡ text.old.items ++ part.now) }
 {
     text.extend_from_slice(part.as_bytes())
+}
+
+/// Appends a number in decimals.
+pub(crate) fn push_number<I: Integer>(text: &mut Vec<u8>, number: I) -> Result<(), AllocError>
+    ensures { OnOk result (text.new.items ≡ text.old.items ++ I.text number) }
+{
+    let mut buffer = Buffer::new();
+    text.extend_from_slice(buffer.format(number).as_bytes())
 }
 
 /// Appends octets in hexadecimal digits of lower case, `-` for none.

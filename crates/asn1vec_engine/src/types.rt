@@ -1,5 +1,6 @@
 //! The names of types.
-ghost use Rattle.std.specs.Prelude.{◌≡◌, MatchOption};
+ghost use Rattle.std.specs.Prelude.{◌≡◌, ◌≢◌, MatchOption};
+ghost use Rattle.asn1vec_engine.specs.declared.types.TypeName.{TypeName};
 ghost use Rattle.asn1vec_engine.specs.Types.{name_of, meaning_of, Names, NamesNone};
 
 use crate::request::Rule;
@@ -20,61 +21,35 @@ pub(crate) enum TypeName {
     Any,
 }
 
-/// Every type, once.
-const TYPES: [TypeName; 11] = [
-    TypeName::U8,
-    TypeName::U16,
-    TypeName::U32,
-    TypeName::U64,
-    TypeName::U128,
-    TypeName::I8,
-    TypeName::I16,
-    TypeName::I32,
-    TypeName::I64,
-    TypeName::I128,
-    TypeName::Any,
-];
-
 impl TypeName {
-    /// The name of the type.
-    fn name(self) -> &'static str
-        ensures { result.now ≡ name_of self }
-    {
-        match self {
-            TypeName::U8 => "u8",
-            TypeName::U16 => "u16",
-            TypeName::U32 => "u32",
-            TypeName::U64 => "u64",
-            TypeName::U128 => "u128",
-            TypeName::I8 => "i8",
-            TypeName::I16 => "i16",
-            TypeName::I32 => "i32",
-            TypeName::I64 => "i64",
-            TypeName::I128 => "i128",
-            TypeName::Any => "any",
-        }
-    }
-
     /// Whether the name is there by the rule.
     fn is_there(self, rule: Rule) -> bool
         ensures { result ≡ (meaning_of self).is_there rule }
     {
         match (self, rule) {
-            (
-                TypeName::U8
-                | TypeName::U16
-                | TypeName::U32
-                | TypeName::U64
-                | TypeName::U128
-                | TypeName::I8
-                | TypeName::I16
-                | TypeName::I32
-                | TypeName::I64
-                | TypeName::I128
-                | TypeName::Any,
-                Rule::Ber | Rule::Der,
-            ) => true,
+            (_, Rule::Ber | Rule::Der) => true,
         }
+    }
+}
+
+/// The type of a name.
+fn type_of(name: &[u8]) -> Option<TypeName>
+    ensures { MatchOption result ((t : TypeName) → name.now ≢ name_of t)
+        (λ t. name.now ≡ name_of t) }
+{
+    match name {
+        b"u8" => Some(TypeName::U8),
+        b"u16" => Some(TypeName::U16),
+        b"u32" => Some(TypeName::U32),
+        b"u64" => Some(TypeName::U64),
+        b"u128" => Some(TypeName::U128),
+        b"i8" => Some(TypeName::I8),
+        b"i16" => Some(TypeName::I16),
+        b"i32" => Some(TypeName::I32),
+        b"i64" => Some(TypeName::I64),
+        b"i128" => Some(TypeName::I128),
+        b"any" => Some(TypeName::Any),
+        _ => None,
     }
 }
 
@@ -82,10 +57,6 @@ impl TypeName {
 pub(crate) fn type_named(rule: Rule, name: &[u8]) -> Option<TypeName>
     ensures { MatchOption result (NamesNone rule name.now) (λ t. Names rule name.now t) }
 {
-    for t in TYPES.iter() {
-        if name == t.name().as_bytes() && t.is_there(rule) {
-            return Some(*t);
-        }
-    }
-    None
+    let t = type_of(name)?;
+    if t.is_there(rule) { Some(t) } else { None }
 }

@@ -1,4 +1,4 @@
-use Rattle.std.proofs.Common.{◌++◌, ◌∙◌, ℕ, List, Vec, Global, ap}
+use Rattle.std.proofs.Common.{◌++◌, ◌∙◌, ℕ, Vec, Global, ap}
 use Rattle.asn1_rs.specs.ToDer.{some_allocates}
 use Rattle.std.proofs.lemmas.Result.{IfOk-weaker}
 use Rattle.asn1vec_engine.proofs.ShownLaws.{encoding_said}
