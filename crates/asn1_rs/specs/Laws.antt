@@ -11,6 +11,7 @@ pub mod Boolean
 pub mod Null
 pub mod EndOfContent
 pub mod Integer
+pub mod Enumerated
 pub mod OctetsElement
 pub mod Sequence
 pub mod Lists

@@ -19,6 +19,7 @@ pub mod EndOfContent
 pub mod Writer
 pub mod ToDer
 pub mod Integer
+pub mod Enumerated
 pub mod OctetsElement
 pub mod Sequence
 pub mod Lists

@@ -20,6 +20,7 @@ mod writer;
 pub use asn1_types::any::Any;
 pub use asn1_types::boolean::{Boolean, truth_constants_are_octets};
 pub use asn1_types::end_of_content::EndOfContent;
+pub use asn1_types::enumerated::Enumerated;
 pub use asn1_types::integer::integers_have_one_refusal;
 pub use asn1_types::lists::FromItems;
 pub use asn1_types::null::Null;

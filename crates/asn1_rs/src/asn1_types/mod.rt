@@ -3,6 +3,7 @@
 pub mod any;
 pub mod boolean;
 pub mod end_of_content;
+pub mod enumerated;
 pub mod integer;
 pub mod lists;
 pub mod null;

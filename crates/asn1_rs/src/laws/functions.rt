@@ -21,6 +21,7 @@ ghost use Rattle.asn1_rs.specs.Any.{DerElementGives, BerElementGives};
 ghost use Rattle.asn1_rs.specs.Leaf.{HaveOneRefusal};
 ghost use Rattle.asn1_rs.specs.Boolean.{boolean_leaf, bool_leaf};
 ghost use Rattle.asn1_rs.specs.Null.{null_leaf, unit_leaf};
+ghost use Rattle.asn1_rs.specs.Enumerated.{enumerated_leaf};
 ghost use Rattle.asn1_rs.specs.EndOfContent.{end_leaf};
 ghost use Rattle.asn1_rs.specs.ToDer.{IsWritable};
 
@@ -143,4 +144,5 @@ pub fn leaves_have_one_refusal()
     ensures null { HaveOneRefusal null_leaf }
     ensures unit { HaveOneRefusal unit_leaf }
     ensures end_of_content { HaveOneRefusal end_leaf }
+    ensures enumerated { HaveOneRefusal enumerated_leaf }
 {}
