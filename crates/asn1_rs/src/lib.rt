@@ -22,6 +22,8 @@ pub use asn1_types::boolean::{Boolean, truth_constants_are_octets};
 pub use asn1_types::end_of_content::EndOfContent;
 pub use asn1_types::enumerated::Enumerated;
 pub use asn1_types::integer::integers_have_one_refusal;
+pub use asn1_types::integer::machine::MachineInt;
+pub use asn1_types::integer::octets::Integer;
 pub use asn1_types::lists::FromItems;
 pub use asn1_types::null::Null;
 pub use asn1_types::sequence::iterator::{
