@@ -26,7 +26,7 @@ abbrev pub MachineGives : {T : Type 0} → Machine T → List ℕ → Result T E
 MachineGives M content (Ok x) = (M.number x ≡ twos_complement_value content) × M.Holds (M.number x)
 MachineGives M content (Err e) = M.refuses content e
 
--- A value is that of one integer, whose strict contents octets are its own. What is refused is held by no value.
+-- A value is that of one integer, whose strict contents octets are its own. Octets that are refused say an integer that the type does not hold.
 pub record IsLawfulMachine {T : Type 0} (M : Machine T) : Type 0 where
   pub one : (x y : T) → M.number x ≡ M.number y → x ≡ y
   pub content : (x : T) → IsIntegerContent (M.number x) (M.octets x)

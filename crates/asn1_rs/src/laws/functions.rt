@@ -22,7 +22,7 @@ ghost use Rattle.asn1_rs.specs.Leaf.{HaveOneRefusal};
 ghost use Rattle.asn1_rs.specs.Boolean.{boolean_leaf, bool_leaf};
 ghost use Rattle.asn1_rs.specs.Null.{null_leaf, unit_leaf};
 ghost use Rattle.asn1_rs.specs.Enumerated.{enumerated_leaf};
-ghost use Rattle.asn1_rs.specs.Integer.Octets.{octets_leaf};
+ghost use Rattle.asn1_rs.specs.Integer.Octets.{integer_leaf};
 ghost use Rattle.asn1_rs.specs.EndOfContent.{end_leaf};
 ghost use Rattle.asn1_rs.specs.ToDer.{IsWritable};
 
@@ -146,5 +146,5 @@ pub fn leaves_have_one_refusal()
     ensures unit { HaveOneRefusal unit_leaf }
     ensures end_of_content { HaveOneRefusal end_leaf }
     ensures enumerated { HaveOneRefusal enumerated_leaf }
-    ensures integer { HaveOneRefusal octets_leaf }
+    ensures integer { HaveOneRefusal integer_leaf }
 {}

@@ -13,7 +13,7 @@ pub trait MachineInt: Copy {
     /// The integers that its values are, which it holds, and how octets of others are refused.
     ghost machine: { Machine Self };
 
-    /// A value is that of one integer, and what is refused is held by none.
+    /// A value is that of one integer, and octets are refused only where the type does not hold theirs.
     ghost lawful_machine: { IsLawfulMachine Self.machine };
 
     /// Writes the strict contents octets to the end of the array, and says where they begin (X.690 8.3.2, 8.3.3).

@@ -1,7 +1,7 @@
 use Rattle.asn1_rs.specs.Laws.Boolean.{boolean_lawful, bool_lawful}
 use Rattle.asn1_rs.specs.Laws.EndOfContent.{end_lawful}
 use Rattle.asn1_rs.specs.Laws.Enumerated.{enumerated_lawful}
-use Rattle.asn1_rs.specs.Laws.Integer.Octets.{octets_lawful}
+use Rattle.asn1_rs.specs.Laws.Integer.Octets.{integer_leaf_lawful}
 use Rattle.asn1_rs.specs.Laws.Leaf.{leaf_one_refusal}
 use Rattle.asn1_rs.specs.Laws.Null.{null_lawful, unit_lawful}
 use Rattle.asn1_rs.proofs.laws.functions.leaves_have_one_refusal.Goals as goal
@@ -14,5 +14,5 @@ returns c = record {
   unit = leaf_one_refusal _ unit_lawful;
   end_of_content = leaf_one_refusal _ end_lawful;
   enumerated = leaf_one_refusal _ enumerated_lawful;
-  integer = leaf_one_refusal _ octets_lawful;
+  integer = leaf_one_refusal _ integer_leaf_lawful;
 }
