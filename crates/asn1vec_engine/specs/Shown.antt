@@ -23,6 +23,11 @@ abbrev pub letter_of : Bool → List ℕ
 letter_of true = codes "c"
 letter_of false = codes "p"
 
+-- a truth value
+abbrev pub truth_text : Bool → List ℕ
+truth_text true = codes "true"
+truth_text false = codes "false"
+
 -- the number of the class, the letter of the form, the tag number and the contents octets, joined
 -- by points
 abbrev pub element_text : ElementValue → List ℕ

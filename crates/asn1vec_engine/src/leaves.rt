@@ -1,0 +1,69 @@
+//! How values of leaf types are shown, with the octets that are written for them, and the end of contents.
+ghost use Rattle.std.specs.Prelude.{◌≡◌, false, None, codes};
+ghost use Rattle.asn1_rs.specs.Boolean.{bool_leaf};
+ghost use Rattle.asn1_rs.specs.Null.{null_leaf};
+ghost use Rattle.asn1vec_engine.specs.Shown.{IsWritten, truth_text};
+ghost use Rattle.asn1vec_engine.specs.Types.{leaf_octets};
+
+use crate::shown::{Shown, push_written};
+use crate::text::push_str;
+use asn1_rs::{EndOfContent, Null};
+use std::alloc::{AllocError, Global};
+
+impl Shown for bool {
+    ghost text_of = { truth_text };
+
+    ghost Encodes = { λ x. IsWritten false (leaf_octets bool_leaf x) };
+
+    fn show(&self, text: &mut Vec<u8>) -> Result<(), AllocError> {
+        push_str(text, if *self { "true" } else { "false" })
+    }
+
+    fn tell_encoding(
+        &self,
+        alloc: Global,
+        buffer: &mut Vec<u8>,
+        text: &mut Vec<u8>,
+    ) -> Result<(), AllocError> {
+        push_written(alloc, self, buffer, text)
+    }
+}
+
+impl Shown for Null {
+    ghost text_of = { λ _. codes "null" };
+
+    ghost Encodes = { λ _. IsWritten false (leaf_octets null_leaf tt) };
+
+    fn show(&self, text: &mut Vec<u8>) -> Result<(), AllocError> {
+        push_str(text, "null")
+    }
+
+    fn tell_encoding(
+        &self,
+        alloc: Global,
+        buffer: &mut Vec<u8>,
+        text: &mut Vec<u8>,
+    ) -> Result<(), AllocError> {
+        push_written(alloc, self, buffer, text)
+    }
+}
+
+/// It has no writer, so nothing is said of its encoding.
+impl Shown for EndOfContent {
+    ghost text_of = { λ _. codes "eoc" };
+
+    ghost Encodes = { λ _ encoding. encoding ≡ None };
+
+    fn show(&self, text: &mut Vec<u8>) -> Result<(), AllocError> {
+        push_str(text, "eoc")
+    }
+
+    fn tell_encoding(
+        &self,
+        _alloc: Global,
+        _buffer: &mut Vec<u8>,
+        _text: &mut Vec<u8>,
+    ) -> Result<(), AllocError> {
+        Ok(())
+    }
+}
