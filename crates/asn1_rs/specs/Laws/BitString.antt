@@ -1,5 +1,5 @@
 -- Bit strings are lawful leaves.
-use Rattle.std.specs.Prelude.{◌≡◌, ℕ, ◌+◌, ◌-◌, ◌*◌, ◌/◌, ◌%◌, ◌<◌, ◌≤◌, List, [], ◌∷◌, length, get_or, ◌↔◌, ◌⊎◌, IsTrue, nat_eq, ◌&&◌, Ok}
+use Rattle.std.specs.Prelude.{◌≡◌, ℕ, ◌+◌, ◌-◌, ◌*◌, ◌/◌, ◌%◌, ◌<◌, ◌≤◌, List, ◌∷◌, length, get_or, ◌↔◌, ◌⊎◌, IsTrue, nat_eq, ◌&&◌}
 use Rattle.std.specs.Bool.{Decides}
 use Rattle.std.specs.Cmp.{unsigned_Decides}
 use Rattle.std.specs.Cmp.Lexicographic.{pointwise, pointwise_decides}
@@ -11,7 +11,7 @@ use Rattle.std.proofs.lemmas.List.{get_or_past}
 use Rattle.std.proofs.lemmas.Nat.Bits.{bit_at-trailing_zeros, bit_at-zero}
 use Rattle.x690.specs.Octets.{IsOctets}
 use Rattle.asn1_rs.specs.declared.asn1_types.bit_string.BitString.{BitString}
-use Rattle.asn1_rs.specs.Checks.{IsCheck, ◌before◌, is_primitive, has_content, content_check}
+use Rattle.asn1_rs.specs.Checks.{IsCheck, is_primitive, has_content}
 use Rattle.asn1_rs.specs.Leaf.{IsLawfulLeaf}
 use Rattle.asn1_rs.specs.BitString.{Bits, bit_of, bits_of, bits_in, data_of, HasZeroUnused, AreStrictBits, bit_string_constraints, bit_string_leaf}
 use Rattle.asn1_rs.specs.Laws.Checks.{before_is, has_content_is, is_primitive_is, content_check_is}

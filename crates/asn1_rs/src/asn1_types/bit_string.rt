@@ -144,9 +144,7 @@ impl CheckDerConstraints for BitString<'_> {
         match any.content.split_first() {
             None | Some((1.., [])) => Err(Error::InvalidLength),
             Some((unused_bits, octets)) if is_zero_padded(*unused_bits, octets) => Ok(()),
-            Some(_) => Err(Error::DerConstraintFailed(
-                DerConstraint::UnusedBitsNotZero,
-            )),
+            Some(_) => Err(Error::DerConstraintFailed(DerConstraint::UnusedBitsNotZero)),
         }
     }
 }

@@ -1,4 +1,4 @@
-use Rattle.std.proofs.Common.{◌≡◌, ◌∙◌, ap, sym, subst, ℕ, ◌<◌, ◌≤◌, ◌-◌, length, get_or, arith}
+use Rattle.std.proofs.Common.{◌≡◌, ap, sym, ◌<◌, ◌-◌, length, get_or, arith}
 use Rattle.std.proofs.lemmas.Bool.{leb-true, le-leb}
 use Rattle.std.specs.Int.{trailing_zeros, w8}
 use Rattle.asn1_rs.specs.Laws.BitString.{zero_unused}
@@ -13,8 +13,7 @@ returns-then-unused_bits-le7 c =
     let small : get_or octets (length octets - 1) 0 < 256 = omega (arith, c.type_inv.octets (length octets - 1)) in
     let zeros = zero_unused unused octets item.3.0 c.if-unused_bits-le7.true small in
     let same : trailing_zeros w8 (get_or octets (length octets - 1) 0) ≡ trailing_zeros w8 c.in-Some.octet.now = ap (trailing_zeros w8) (sym last) in
-    let from : c.from.result ≡ unused = c.from.ensures in
-    (
+    let from : c.from.result ≡ unused = c.from.ensures in (
       λ h.
           let enough = leb-true _ _ h in
           (c.if-unused_bits-le7.true, zeros.1 (omega arith)),
