@@ -10,8 +10,9 @@ pub mod Leaf
 pub mod Boolean
 pub mod Null
 pub mod EndOfContent
+pub mod OctetString
+pub mod BitString
 pub mod Integer
-pub mod OctetsElement
 pub mod Sequence
 pub mod Lists
 pub mod Set

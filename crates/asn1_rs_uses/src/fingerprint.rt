@@ -2,9 +2,12 @@
 ghost use Rattle.std.specs.Prelude.{◌≡◌};
 ghost use Rattle.std.proofs.Common.{lit<};
 ghost use Rattle.asn1_rs.specs.Any.{parts_of};
+ghost use Rattle.asn1_rs.specs.Checks.{is_primitive};
+ghost use Rattle.asn1_rs.specs.Leaf.{LeafGives, leaf_element};
+ghost use Rattle.asn1_rs.specs.Laws.Leaf.{leaf_lawful, leaf_constraints, leaf_converts, leaf_primitive};
+ghost use Rattle.asn1_rs.specs.Laws.OctetString.{octets_lawful};
+ghost use Rattle.asn1_rs.specs.OctetString.{octets_leaf};
 ghost use Rattle.asn1_rs.specs.Traits.{OfParts};
-ghost use Rattle.asn1_rs.specs.OctetsElement.{OctetsGives, PrimitiveCheckGives, octets_element};
-ghost use Rattle.asn1_rs.specs.Laws.OctetsElement.{primitive_checks, octets_lawful, octets_converts, octets_primitive};
 
 use asn1_rs::{
     Any, CheckDerConstraints, DerAutoDerive, ElementKind, Error, FromAny, HasKind,
@@ -31,7 +34,7 @@ impl Tagged for Fingerprint<'_> {
 impl<'a> FromAny<'a> for Fingerprint<'a> {
     type Error = Error;
 
-    ghost any_gives = { OfParts (OctetsGives 4 (λ x. x.0.now)) };
+    ghost any_gives = { OfParts (LeafGives (octets_leaf 4 (λ x. x.0.now))) };
 
     fn try_from_any(_alloc: Global, any: Any<'a>) -> Result<Fingerprint<'a>, Error> {
         any.header.assert_tag(Tag::OctetString)?;
@@ -40,10 +43,10 @@ impl<'a> FromAny<'a> for Fingerprint<'a> {
 }
 
 impl CheckDerConstraints for Fingerprint<'_> {
-    ghost check_gives = { PrimitiveCheckGives };
+    ghost check_gives = { is_primitive };
 
     fn check_constraints(any: &Any<'_>) -> Result<(), Error>
-        ensures { PrimitiveCheckGives (parts_of any.now) result }
+        ensures { is_primitive (parts_of any.now) result }
     {
         any.header.assert_primitive()
     }
@@ -56,15 +59,15 @@ impl HasKind for Fingerprint<'_> {
 }
 
 impl LawfulElement for Fingerprint<'_> {
-    ghost element = { octets_element 4 (λ x. x.0.now) };
+    ghost element = { leaf_element (octets_leaf 4 (λ x. x.0.now)) };
 
-    ghost lawful = { octets_lawful 4 (λ x. x.0.now) (lit< tt) };
+    ghost lawful = { leaf_lawful _ (octets_lawful 4 (λ x. x.0.now) (lit< tt)) };
 
-    ghost checked = { primitive_checks };
+    ghost checked = { leaf_constraints _ (octets_lawful 4 (λ x. x.0.now) (lit< tt)) };
 }
 
 impl<'a> LawfulConversion<'a> for Fingerprint<'a> {
-    ghost converts = { octets_converts 4 (λ x. x.0.now) };
+    ghost converts = { leaf_converts _ (octets_lawful 4 (λ x. x.0.now) (lit< tt)) };
 }
 
 impl WritesOctets for Fingerprint<'_> {
@@ -74,5 +77,5 @@ impl WritesOctets for Fingerprint<'_> {
         self.0
     }
 
-    ghost held_are = { octets_primitive 4 (λ x. x.0.now) (lit< tt) };
+    ghost held_are = { leaf_primitive _ (octets_lawful 4 (λ x. x.0.now) (lit< tt)) };
 }

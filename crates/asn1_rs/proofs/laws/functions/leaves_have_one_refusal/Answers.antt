@@ -1,7 +1,9 @@
+use Rattle.asn1_rs.specs.Laws.BitString.{bit_string_lawful}
 use Rattle.asn1_rs.specs.Laws.Boolean.{boolean_lawful, bool_lawful}
 use Rattle.asn1_rs.specs.Laws.EndOfContent.{end_lawful}
 use Rattle.asn1_rs.specs.Laws.Leaf.{leaf_one_refusal}
 use Rattle.asn1_rs.specs.Laws.Null.{null_lawful, unit_lawful}
+use Rattle.asn1_rs.specs.Laws.OctetString.{octet_string_lawful, slice_lawful}
 use Rattle.asn1_rs.proofs.laws.functions.leaves_have_one_refusal.Goals as goal
 
 pub returns : goal.returns
@@ -11,4 +13,7 @@ returns c = record {
   null = leaf_one_refusal _ null_lawful;
   unit = leaf_one_refusal _ unit_lawful;
   end_of_content = leaf_one_refusal _ end_lawful;
+  octet_string = leaf_one_refusal _ octet_string_lawful;
+  octets = leaf_one_refusal _ slice_lawful;
+  bit_string = leaf_one_refusal _ bit_string_lawful;
 }
