@@ -14,23 +14,27 @@ use Rattle.asn1_rs.specs.Traits.{OfParts}
 use Rattle.asn1_rs.specs.Any.Value.{element_of, ElementBody, ElementCheck, ElementForm}
 use Rattle.asn1_rs.specs.Integer.{IntegerCheck, IntegerCheckGives, IntegerBody, IntegerForm, IntegerGives, IsUnsigned, UnsignedRefuses, SignedRefuses}
 use Rattle.asn1_rs.specs.declared.asn1_types.end_of_content.EndOfContent.{EndOfContent}
+use Rattle.asn1_rs.specs.BitString.{bit_string_leaf}
 use Rattle.asn1_rs.specs.Boolean.{bool_leaf}
 use Rattle.asn1_rs.specs.EndOfContent.{end_leaf}
 use Rattle.asn1_rs.specs.Leaf.{Leaf, IsLawfulLeaf, LeafBody, LeafGives}
 use Rattle.asn1_rs.specs.Null.{null_leaf}
+use Rattle.asn1_rs.specs.OctetString.{octet_string_leaf}
+use Rattle.asn1_rs.specs.Laws.BitString.{bit_string_lawful}
 use Rattle.asn1_rs.specs.Laws.Boolean.{bool_lawful}
 use Rattle.asn1_rs.specs.Laws.EndOfContent.{end_lawful}
 use Rattle.asn1_rs.specs.Laws.Leaf.{leaf_lawful, leaf_one_refusal}
 use Rattle.asn1_rs.specs.Laws.Null.{null_lawful}
+use Rattle.asn1_rs.specs.Laws.OctetString.{octet_string_lawful}
 use Rattle.asn1_rs.specs.Laws.Any.Value.{element_lawful, element_checks}
 use Rattle.asn1_rs.specs.Laws.Integer.{one_integer_check_refusal, integer_checks, one_integer_refusal, integer_lawful}
 use Rattle.asn1_rs.specs.Laws.Integer.Unsigned.{one_unsigned_refusal}
 use Rattle.asn1_rs.specs.Laws.Integer.Signed.{one_signed_refusal}
 use Rattle.asn1vec_engine.specs.declared.request.Rule.{Rule}
 use Rattle.asn1vec_engine.specs.declared.types.TypeName.{TypeName}
-use Rattle.asn1vec_engine.specs.declared.types.TypeName.TheVariants.{U8, U16, U32, U64, U128, I8, I16, I32, I64, I128, Any, Bool, Null, Eoc}
+use Rattle.asn1vec_engine.specs.declared.types.TypeName.TheVariants.{U8, U16, U32, U64, U128, I8, I16, I32, I64, I128, Any, Bool, Null, Octets, Bits, Eoc}
 use Rattle.asn1vec_engine.specs.Request.{IsRequest}
-use Rattle.asn1vec_engine.specs.Shown.{IsWritten, element_text, truth_text}
+use Rattle.asn1vec_engine.specs.Shown.{IsWritten, bits_text, element_text, in_hexadecimal, truth_text}
 use Rattle.asn1vec_engine.specs.Meaning.{Meaning}
 use Rattle.asn1vec_engine.specs.Types.{name_of, meaning_of, integers, elements, leaf, leaf_octets, ends, Names, IsTypeAnswer}
 use Rattle.asn1vec_engine.specs.Answer.{IsRequestAnswer, IsRefusedLine, IsAnswered, IsAnswer, IsAnswerLine, AreAnswers, BeginAnswers}
@@ -92,6 +96,8 @@ type_once I128 = integers_once (λ n. n) (IsSigned 16) (SignedRefuses 16) (one_s
 type_once Any = elements_once
 type_once Bool = leaf_once bool_leaf truth_text bool_lawful
 type_once Null = leaf_once null_leaf (λ v. codes "null") null_lawful
+type_once Octets = leaf_once octet_string_leaf in_hexadecimal octet_string_lawful
+type_once Bits = leaf_once bit_string_leaf bits_text bit_string_lawful
 type_once Eoc = ends_once
 
 allocates_none : (t : TypeName) → ((meaning_of t).reading_allocates ≡ false) × ((meaning_of t).writing_allocates ≡ false)
@@ -101,7 +107,7 @@ allocates_none t = grind arith
 
 -- the type that has a name
 named : List ℕ → Option TypeName
-named name = find (λ t. pointwise eqb name (name_of t)) (U8 ∷ U16 ∷ U32 ∷ U64 ∷ U128 ∷ I8 ∷ I16 ∷ I32 ∷ I64 ∷ I128 ∷ Any ∷ Bool ∷ Null ∷ Eoc ∷ [])
+named name = find (λ t. pointwise eqb name (name_of t)) (U8 ∷ U16 ∷ U32 ∷ U64 ∷ U128 ∷ I8 ∷ I16 ∷ I32 ∷ I64 ∷ I128 ∷ Any ∷ Bool ∷ Null ∷ Octets ∷ Bits ∷ Eoc ∷ [])
 
 named_by_its_name : (t : TypeName) → named (name_of t) ≡ Some t
 unfolding named

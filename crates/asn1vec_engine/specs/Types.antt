@@ -6,10 +6,12 @@ use Rattle.x690.specs.Strict.{header_octets}
 use Rattle.asn1_rs.specs.declared.error.Error.{Error}
 use Rattle.asn1_rs.specs.declared.asn1_types.any.Any.{Any as AnyElement}
 use Rattle.asn1_rs.specs.declared.asn1_types.end_of_content.EndOfContent.{EndOfContent}
+use Rattle.asn1_rs.specs.BitString.{bit_string_leaf}
 use Rattle.asn1_rs.specs.Boolean.{bool_leaf}
 use Rattle.asn1_rs.specs.EndOfContent.{end_leaf}
 use Rattle.asn1_rs.specs.Leaf.{Leaf, LeafBody, LeafGives}
 use Rattle.asn1_rs.specs.Null.{null_leaf}
+use Rattle.asn1_rs.specs.OctetString.{octet_string_leaf}
 use Rattle.asn1_rs.specs.Any.{IsTheElement, IsDefiniteOr}
 use Rattle.asn1_rs.specs.Traits.{OfParts, BerGives, DerGives}
 use Rattle.asn1_rs.specs.Any.Value.{element_of, ElementBody, ElementCheck, ElementForm}
@@ -17,9 +19,9 @@ use Rattle.asn1_rs.specs.Grammar.{BerWord, DerWord}
 use Rattle.asn1_rs.specs.Integer.{IntegerCheck, IntegerCheckGives, IntegerBody, IntegerForm, IntegerGives, IsUnsigned, UnsignedRefuses, SignedRefuses}
 use Rattle.asn1vec_engine.specs.declared.request.Rule.{Rule}
 use Rattle.asn1vec_engine.specs.declared.types.TypeName.{TypeName}
-use Rattle.asn1vec_engine.specs.declared.types.TypeName.TheVariants.{U8, U16, U32, U64, U128, I8, I16, I32, I64, I128, Any, Bool, Null, Eoc}
+use Rattle.asn1vec_engine.specs.declared.types.TypeName.TheVariants.{U8, U16, U32, U64, U128, I8, I16, I32, I64, I128, Any, Bool, Null, Octets, Bits, Eoc}
 use Rattle.asn1vec_engine.specs.Meaning.{Meaning, ReadsByEither, is_ber}
-use Rattle.asn1vec_engine.specs.Shown.{IsReadAnswer, IsWritten, ReadsByBer, Same, StrictEncoding, element_text, truth_text}
+use Rattle.asn1vec_engine.specs.Shown.{IsReadAnswer, IsWritten, ReadsByBer, Same, StrictEncoding, bits_text, element_text, in_hexadecimal, truth_text}
 
 abbrev pub name_of : TypeName → List ℕ
 name_of U8 = codes "u8"
@@ -35,6 +37,8 @@ name_of I128 = codes "i128"
 name_of Any = codes "any"
 name_of Bool = codes "bool"
 name_of Null = codes "null"
+name_of Octets = codes "octets"
+name_of Bits = codes "bits"
 name_of Eoc = codes "eoc"
 
 -- integers, there by either rule: in decimals, with the strict encoding that each has which the type holds
@@ -115,6 +119,8 @@ meaning_of I128 = signed 16
 meaning_of Any = elements
 meaning_of Bool = leaf bool_leaf truth_text
 meaning_of Null = leaf null_leaf (λ v. codes "null")
+meaning_of Octets = leaf octet_string_leaf in_hexadecimal
+meaning_of Bits = leaf bit_string_leaf bits_text
 meaning_of Eoc = ends
 
 -- the name is that of the type, and is there by the rule

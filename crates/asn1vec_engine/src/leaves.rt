@@ -1,13 +1,15 @@
 //! How values of leaf types are shown, with the octets that are written for them, and the end of contents.
 ghost use Rattle.std.specs.Prelude.{◌≡◌, false, None, codes};
+ghost use Rattle.asn1_rs.specs.BitString.{bit_string_leaf, bits_in};
 ghost use Rattle.asn1_rs.specs.Boolean.{bool_leaf};
 ghost use Rattle.asn1_rs.specs.Null.{null_leaf};
-ghost use Rattle.asn1vec_engine.specs.Shown.{IsWritten, truth_text};
+ghost use Rattle.asn1_rs.specs.OctetString.{octet_string_leaf, octets_of};
+ghost use Rattle.asn1vec_engine.specs.Shown.{IsWritten, bits_text, in_hexadecimal, truth_text};
 ghost use Rattle.asn1vec_engine.specs.Types.{leaf_octets};
 
 use crate::shown::{Shown, push_written};
-use crate::text::push_str;
-use asn1_rs::{EndOfContent, Null};
+use crate::text::{push_hexadecimal, push_number, push_str};
+use asn1_rs::{BitString, EndOfContent, Null, OctetString};
 use std::alloc::{AllocError, Global};
 
 impl Shown for bool {
@@ -36,6 +38,46 @@ impl Shown for Null {
 
     fn show(&self, text: &mut Vec<u8>) -> Result<(), AllocError> {
         push_str(text, "null")
+    }
+
+    fn tell_encoding(
+        &self,
+        alloc: Global,
+        buffer: &mut Vec<u8>,
+        text: &mut Vec<u8>,
+    ) -> Result<(), AllocError> {
+        push_written(alloc, self, buffer, text)
+    }
+}
+
+impl Shown for OctetString<'_> {
+    ghost text_of = { λ x. in_hexadecimal (octets_of x) };
+
+    ghost Encodes = { λ x. IsWritten false (leaf_octets octet_string_leaf (octets_of x)) };
+
+    fn show(&self, text: &mut Vec<u8>) -> Result<(), AllocError> {
+        push_hexadecimal(text, self.as_bytes())
+    }
+
+    fn tell_encoding(
+        &self,
+        alloc: Global,
+        buffer: &mut Vec<u8>,
+        text: &mut Vec<u8>,
+    ) -> Result<(), AllocError> {
+        push_written(alloc, self, buffer, text)
+    }
+}
+
+impl Shown for BitString<'_> {
+    ghost text_of = { λ x. bits_text (bits_in x) };
+
+    ghost Encodes = { λ x. IsWritten false (leaf_octets bit_string_leaf (bits_in x)) };
+
+    fn show(&self, text: &mut Vec<u8>) -> Result<(), AllocError> {
+        push_number(text, self.unused_bits)?;
+        push_str(text, ":")?;
+        push_hexadecimal(text, self.as_bytes())
     }
 
     fn tell_encoding(

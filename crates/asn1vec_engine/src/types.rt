@@ -21,6 +21,8 @@ pub(crate) enum TypeName {
     Any,
     Bool,
     Null,
+    Octets,
+    Bits,
     Eoc,
 }
 
@@ -55,6 +57,8 @@ fn type_of(name: &[u8]) -> Option<TypeName>
         b"any" => Some(TypeName::Any),
         b"bool" => Some(TypeName::Bool),
         b"null" => Some(TypeName::Null),
+        b"octets" => Some(TypeName::Octets),
+        b"bits" => Some(TypeName::Bits),
         b"eoc" => Some(TypeName::Eoc),
         _ => None,
     }

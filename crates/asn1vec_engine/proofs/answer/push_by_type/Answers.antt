@@ -41,3 +41,9 @@ returns-in-Null c = rw c.in-Null.is c.push_by_either-in-Null.ensures
 
 pub returns-in-Eoc : goal.returns-in-Eoc
 returns-in-Eoc c = rw c.in-Eoc.is c.push_by_ber.ensures
+
+pub returns-in-Octets : goal.returns-in-Octets
+returns-in-Octets c = rw c.in-Octets.is c.push_by_either-in-Octets.ensures
+
+pub returns-in-Bits : goal.returns-in-Bits
+returns-in-Bits c = rw c.in-Bits.is c.push_by_either-in-Bits.ensures
