@@ -169,12 +169,7 @@ fn push_converted(text: &mut String, alloc: Global, name: &str, any: Any<'_>) ->
 }
 
 impl Calls for ByHand {
-    fn push_answer(
-        text: &mut String,
-        alloc: Global,
-        name: &str,
-        octets: &[u8],
-    ) -> Result<(), Fail> {
+    fn answer(text: &mut String, alloc: Global, name: &str, octets: &[u8]) -> Result<(), Fail> {
         match name.split_once(' ') {
             Some(("open", name)) => push_element_answer(text, name, &open(octets)),
             Some((_, name)) => push_converted(text, alloc, name, integer(octets)),

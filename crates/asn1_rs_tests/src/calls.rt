@@ -246,12 +246,7 @@ fn push_value_answer<T: Display + Drop, E: Debug + Drop>(
 pub(crate) struct Library;
 
 impl Calls for Library {
-    fn push_answer(
-        text: &mut String,
-        alloc: Global,
-        name: &str,
-        octets: &[u8],
-    ) -> Result<(), Fail> {
+    fn answer(text: &mut String, alloc: Global, name: &str, octets: &[u8]) -> Result<(), Fail> {
         match name {
             "Header::from_der" => push_header_answer(text, Header::from_der(alloc, octets)),
             "Header::from_ber" => push_header_answer(text, Header::from_ber(alloc, octets)),

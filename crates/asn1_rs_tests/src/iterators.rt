@@ -61,12 +61,7 @@ fn push_walk<'a, T: Debug + Drop, F: ReadsItems<'a, T, Error>>(
 struct Walks;
 
 impl Calls for Walks {
-    fn push_answer(
-        text: &mut String,
-        alloc: Global,
-        name: &str,
-        octets: &[u8],
-    ) -> Result<(), Fail> {
+    fn answer(text: &mut String, alloc: Global, name: &str, octets: &[u8]) -> Result<(), Fail> {
         match name {
             "Any, BerParser" => push_walk::<Any<'_>, BerParser>(text, alloc, octets),
             "Any, DerParser" => push_walk::<Any<'_>, DerParser>(text, alloc, octets),

@@ -70,14 +70,14 @@ pub fn sides(row: &str) -> Result<(&str, &str), Fail> {
 /// The calls that a table can name.
 pub trait Calls {
     /// Appends the answer to the call of this name at these octets.
-    fn push_answer(text: &mut String, alloc: Global, name: &str, octets: &[u8]) -> Result<(), Fail>;
+    fn answer(text: &mut String, alloc: Global, name: &str, octets: &[u8]) -> Result<(), Fail>;
 }
 
 /// The answer to a call at the octets that the digits stand for.
 fn answer<C: Calls>(alloc: Global, call: &str, digits: &str) -> Result<String, Fail> {
     let octets = octets_of(alloc, digits)?;
     let mut text = String::new(alloc);
-    C::push_answer(&mut text, alloc, call, octets.as_slice())?;
+    C::answer(&mut text, alloc, call, octets.as_slice())?;
     Ok(text)
 }
 
