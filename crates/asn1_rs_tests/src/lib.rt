@@ -20,6 +20,8 @@ mod iterators;
 #[cfg(test)]
 mod laws;
 #[cfg(test)]
+mod leaves;
+#[cfg(test)]
 mod numbers;
 #[cfg(test)]
 mod reading;

@@ -4,6 +4,8 @@
 #[cfg(test)]
 mod elements;
 #[cfg(test)]
+mod leaves;
+#[cfg(test)]
 mod lines;
 #[cfg(test)]
 mod numbers;
