@@ -1,13 +1,12 @@
 //! A lawful type of a caller's that borrows its contents octets.
 ghost use Rattle.std.specs.Prelude.{◌≡◌};
-ghost use Rattle.std.proofs.Common.{lit<};
 ghost use Rattle.asn1_rs.specs.Any.{parts_of};
 ghost use Rattle.asn1_rs.specs.Checks.{is_primitive};
 ghost use Rattle.asn1_rs.specs.Leaf.{LeafGives, leaf_element};
 ghost use Rattle.asn1_rs.specs.Laws.Leaf.{leaf_lawful, leaf_constraints, leaf_converts, leaf_primitive};
-ghost use Rattle.asn1_rs.specs.Laws.OctetString.{octets_lawful};
-ghost use Rattle.asn1_rs.specs.OctetString.{octets_leaf};
+ghost use Rattle.asn1_rs.specs.OctetString.{octet_string_number};
 ghost use Rattle.asn1_rs.specs.Traits.{OfParts};
+ghost use Rattle.asn1_rs_uses.specs.Fingerprint.{fingerprint_leaf, fingerprint_lawful};
 
 use asn1_rs::{
     Any, CheckDerConstraints, DerAutoDerive, ElementKind, Error, FromAny, HasKind,
@@ -22,10 +21,10 @@ pub struct Fingerprint<'a>(pub &'a [u8]);
 impl Tagged for Fingerprint<'_> {
     const TAG: Tag = Tag::OctetString;
 
-    ghost mark = { record { 0 = 4 } };
+    ghost mark = { record { 0 = octet_string_number } };
 
     fn its_tag() -> Tag
-        ensures { result ≡ record { 0 = 4 } }
+        ensures { result ≡ record { 0 = octet_string_number } }
     {
         Self::TAG
     }
@@ -34,7 +33,7 @@ impl Tagged for Fingerprint<'_> {
 impl<'a> FromAny<'a> for Fingerprint<'a> {
     type Error = Error;
 
-    ghost any_gives = { OfParts (LeafGives (octets_leaf 4 (λ x. x.0.now))) };
+    ghost any_gives = { OfParts (LeafGives fingerprint_leaf) };
 
     fn try_from_any(_alloc: Global, any: Any<'a>) -> Result<Fingerprint<'a>, Error> {
         any.header.assert_tag(Tag::OctetString)?;
@@ -59,15 +58,15 @@ impl HasKind for Fingerprint<'_> {
 }
 
 impl LawfulElement for Fingerprint<'_> {
-    ghost element = { leaf_element (octets_leaf 4 (λ x. x.0.now)) };
+    ghost element = { leaf_element fingerprint_leaf };
 
-    ghost lawful = { leaf_lawful _ (octets_lawful 4 (λ x. x.0.now) (lit< tt)) };
+    ghost lawful = { leaf_lawful fingerprint_leaf fingerprint_lawful };
 
-    ghost checked = { leaf_constraints _ (octets_lawful 4 (λ x. x.0.now) (lit< tt)) };
+    ghost checked = { leaf_constraints fingerprint_leaf fingerprint_lawful };
 }
 
 impl<'a> LawfulConversion<'a> for Fingerprint<'a> {
-    ghost converts = { leaf_converts _ (octets_lawful 4 (λ x. x.0.now) (lit< tt)) };
+    ghost converts = { leaf_converts fingerprint_leaf fingerprint_lawful };
 }
 
 impl WritesOctets for Fingerprint<'_> {
@@ -77,5 +76,5 @@ impl WritesOctets for Fingerprint<'_> {
         self.0
     }
 
-    ghost held_are = { leaf_primitive _ (octets_lawful 4 (λ x. x.0.now) (lit< tt)) };
+    ghost held_are = { leaf_primitive fingerprint_leaf fingerprint_lawful };
 }
