@@ -1,4 +1,6 @@
 -- Integers as elements (X.690 8.3).
+pub mod Machine
+pub mod Octets
 use Rattle.std.specs.Prelude.{◌≡◌, ◌≢◌, ◌⊎◌, ℕ, ℤ, ◌<◌, ◌≤◌, ◌^◌, true, false, List, [], get_or, pos, Some, Result, Ok, Err}
 use Rattle.x690.specs.Digits.{base_256_value, twos_complement_value}
 use Rattle.x690.specs.Identifiers.{Identifier}

@@ -13,6 +13,7 @@ pub mod EndOfContent
 pub mod OctetString
 pub mod BitString
 pub mod Integer
+pub mod Enumerated
 pub mod Sequence
 pub mod Lists
 pub mod Set

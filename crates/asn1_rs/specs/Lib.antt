@@ -21,6 +21,7 @@ pub mod BitString
 pub mod Writer
 pub mod ToDer
 pub mod Integer
+pub mod Enumerated
 pub mod Sequence
 pub mod Lists
 pub mod Set

@@ -1,6 +1,6 @@
 //! Contents octets of integers (X.690 8.3).
 
-ghost use Rattle.std.specs.Prelude.{ℕ, ◌≡◌, ◌<◌, ◌≤◌, ◌^◌, ◌+◌, ◌-◌, ◌*◌, ◌/◌, List, length, get_or, take, drop, pos, ℤ, IfSome, IfNone, IsTrue, ◌↔◌};
+ghost use Rattle.std.specs.Prelude.{ℕ, ◌≡◌, ◌<◌, ◌≤◌, ◌^◌, ◌+◌, ◌-◌, ◌*◌, ◌/◌, ◌++◌, List, length, get_or, take, drop, pos, ℤ, IfSome, IfNone, IsTrue, ◌↔◌};
 ghost use Rattle.x690.specs.Digits.{base_256_value};
 ghost use Rattle.x690.specs.Integers.{HasSpareZeros, HasSpareOnes, IsIntegerContent, HasNoLeadingZero, unsigned_octets};
 ghost use Rattle.x690.specs.Signed.{signed_octets};
@@ -102,6 +102,20 @@ pub fn unsigned_into(n: u128, out: &mut [u8; 17]) -> usize
     }
     put_at_end(&digits[16 - count..], out);
     17 - count
+}
+
+/// The strict contents octets of the natural number whose digits in base 256 the octets are, in two parts: 00 where
+/// there is no digit or the first one would be read as a sign, else nothing; and the digits behind the leading zeros
+/// (X.690 8.3.2, 8.3.3).
+pub fn natural_parts(octets: &[u8]) -> (&'static [u8], &[u8])
+    ensures { IsIntegerContent (pos (base_256_value octets.now))
+        (result.0.now ++ result.1.now) }
+{
+    let digits = without_leading_zeros(octets);
+    match digits.first() {
+        Some(0..128) => (&[], digits),
+        _ => (&[0], digits),
+    }
 }
 
 /// The first nine bits as a number, so that one comparison looks at all of them.

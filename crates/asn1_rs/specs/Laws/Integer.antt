@@ -1,6 +1,8 @@
 -- Laws of integers as elements (X.690 8.3).
 pub mod Unsigned
 pub mod Signed
+pub mod Machine
+pub mod Octets
 use Rattle.std.specs.Prelude.{Result, Ok, Err, ℤ, nat_eq, if◌then◌else◌}
 use Rattle.std.proofs.Common.{arith, lit<, ◌≡◌, ◌∙◌, ap, sym, refl, subst, ℕ, inl, inr, Bool, true, false, List, [], ◌∷◌, length}
 use Rattle.x690.specs.Octets.{IsOctets}

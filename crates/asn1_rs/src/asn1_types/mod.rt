@@ -4,6 +4,7 @@ pub mod any;
 pub mod bit_string;
 pub mod boolean;
 pub mod end_of_content;
+pub mod enumerated;
 pub mod integer;
 pub mod lists;
 pub mod null;

@@ -21,6 +21,8 @@ ghost use Rattle.asn1_rs.specs.Any.{DerElementGives, BerElementGives};
 ghost use Rattle.asn1_rs.specs.Leaf.{HaveOneRefusal};
 ghost use Rattle.asn1_rs.specs.Boolean.{boolean_leaf, bool_leaf};
 ghost use Rattle.asn1_rs.specs.Null.{null_leaf, unit_leaf};
+ghost use Rattle.asn1_rs.specs.Enumerated.{enumerated_leaf};
+ghost use Rattle.asn1_rs.specs.Integer.Octets.{any_integer_leaf};
 ghost use Rattle.asn1_rs.specs.EndOfContent.{end_leaf};
 ghost use Rattle.asn1_rs.specs.OctetString.{octet_string_leaf, slice_leaf};
 ghost use Rattle.asn1_rs.specs.BitString.{bit_string_leaf};
@@ -148,4 +150,6 @@ pub fn leaves_have_one_refusal()
     ensures octet_string { HaveOneRefusal octet_string_leaf }
     ensures octets { HaveOneRefusal slice_leaf }
     ensures bit_string { HaveOneRefusal bit_string_leaf }
+    ensures enumerated { HaveOneRefusal enumerated_leaf }
+    ensures integer { HaveOneRefusal any_integer_leaf }
 {}

@@ -12,7 +12,7 @@ use Rattle.asn1_rs.specs.Kinds.{IsExactConversion}
 use Rattle.asn1_rs.specs.Laws.Integer.{integer_converts}
 
 -- a number that is refused is not held
-signed_refused : (size : ℕ) (c : List ℕ) (e : Error) → IsOctets c → SignedRefuses size c e → IsSigned size (twos_complement_value c) → ⊥
+pub signed_refused : (size : ℕ) (c : List ℕ) (e : Error) → IsOctets c → SignedRefuses size c e → IsSigned size (twos_complement_value c) → ⊥
 signed_refused size c e o h s = h.0 s
 
 -- the conversion to an integer of so many octets

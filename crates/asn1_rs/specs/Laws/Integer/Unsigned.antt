@@ -12,7 +12,7 @@ use Rattle.asn1_rs.specs.Kinds.{IsExactConversion}
 use Rattle.asn1_rs.specs.Laws.Integer.{integer_converts}
 
 -- a number that is refused is not held
-unsigned_refused : (size : ℕ) (c : List ℕ) (e : Error) → IsOctets c → UnsignedRefuses size c e → IsUnsigned size (twos_complement_value c) → ⊥
+pub unsigned_refused : (size : ℕ) (c : List ℕ) (e : Error) → IsOctets c → UnsignedRefuses size c e → IsUnsigned size (twos_complement_value c) → ⊥
 unsigned_refused size c IntegerNegative o h u = negative_value c u.0 o h u.1
 unsigned_refused size c IntegerTooLarge o h u =
     let same : pos (base_256_value c) ≡ pos u.0 = sym (unsigned_value c h.0) ∙ u.1 in

@@ -1,5 +1,8 @@
 //! Integers (X.690 8.3).
 
+mod conversions;
+pub(crate) mod machine;
+pub(crate) mod octets;
 mod signed;
 mod unsigned;
 
@@ -8,10 +11,10 @@ ghost use Rattle.x690.specs.Elements.{Parts};
 ghost use Rattle.asn1_rs.specs.declared.error.Error.{Error};
 ghost use Rattle.x690.specs.Digits.{twos_complement_value};
 ghost use Rattle.x690.specs.Integers.{unsigned_octets};
-ghost use Rattle.x690.specs.Signed.{signed_octets};
+ghost use Rattle.x690.specs.Signed.{IsSigned, signed_octets};
 ghost use Rattle.x690.specs.Strict.{header_octets};
 ghost use Rattle.asn1_rs.specs.Any.{parts_of};
-ghost use Rattle.asn1_rs.specs.Integer.{integer_number, IntegerCheckGives, IsUnsigned, UnsignedRefuses, UnsignedGives, SignedGives, IsIntegerOr};
+ghost use Rattle.asn1_rs.specs.Integer.{integer_number, IntegerCheckGives, IsUnsigned, UnsignedRefuses, UnsignedGives, SignedGives, SignedRefuses, IsIntegerOr};
 ghost use Rattle.asn1_rs.specs.Writer.{Wrote, MayRefuse};
 
 use crate::asn1_types::any::Any;
@@ -86,6 +89,18 @@ pub(crate) fn put_unsigned_content<W: DerWrite>(n: u128, w: &mut W) -> Serialize
     put_all(w, &octets[first..])
 }
 
+/// The integer of contents octets, which fits in so many octets.
+#[inline(always)]
+fn signed_from_content(content: &[u8], size: usize) -> Result<i128, Error>
+    requires some { 1 ≤ size }
+    requires few { size ≤ 16 }
+    ensures number { IfOk result (λ n. n ≡ twos_complement_value content.now) }
+    ensures held { IfOk result (λ n. IsSigned size n) }
+    ensures refused { IfErr result (SignedRefuses size content.now) }
+{
+    signed_number(content, size).ok_or(Error::IntegerTooLarge)
+}
+
 /// The integer of an element, which fits in so many octets.
 #[inline(always)]
 pub(crate) fn signed_from_any(any: &Any<'_>, size: usize) -> Result<i128, Error>
@@ -94,7 +109,7 @@ pub(crate) fn signed_from_any(any: &Any<'_>, size: usize) -> Result<i128, Error>
     ensures { SignedGives size (parts_of any.now) result }
 {
     assert_integer(any)?;
-    signed_number(any.content, size).ok_or(Error::IntegerTooLarge)
+    signed_from_content(any.content, size)
 }
 
 /// Appends the strict contents octets of an integer, and answers their number.

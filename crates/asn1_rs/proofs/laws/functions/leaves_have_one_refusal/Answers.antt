@@ -1,6 +1,8 @@
 use Rattle.asn1_rs.specs.Laws.BitString.{bit_string_lawful}
 use Rattle.asn1_rs.specs.Laws.Boolean.{boolean_lawful, bool_lawful}
 use Rattle.asn1_rs.specs.Laws.EndOfContent.{end_lawful}
+use Rattle.asn1_rs.specs.Laws.Enumerated.{enumerated_lawful}
+use Rattle.asn1_rs.specs.Laws.Integer.Octets.{any_integer_lawful}
 use Rattle.asn1_rs.specs.Laws.Leaf.{leaf_one_refusal}
 use Rattle.asn1_rs.specs.Laws.Null.{null_lawful, unit_lawful}
 use Rattle.asn1_rs.specs.Laws.OctetString.{octet_string_lawful, slice_lawful}
@@ -16,4 +18,6 @@ returns c = record {
   octet_string = leaf_one_refusal _ octet_string_lawful;
   octets = leaf_one_refusal _ slice_lawful;
   bit_string = leaf_one_refusal _ bit_string_lawful;
+  enumerated = leaf_one_refusal _ enumerated_lawful;
+  integer = leaf_one_refusal _ any_integer_lawful;
 }

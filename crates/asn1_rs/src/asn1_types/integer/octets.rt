@@ -1,0 +1,186 @@
+//! Integers of any size, by their contents octets (X.690 8.3).
+ghost use Rattle.std.specs.Prelude.{◌≡◌, ◌≤◌, ℕ, false, length, None, pos, IfOk};
+ghost use Rattle.x690.specs.Digits.{base_256_value};
+ghost use Rattle.asn1_rs.specs.Any.{parts_of};
+ghost use Rattle.asn1_rs.specs.Header.{HasParts};
+ghost use Rattle.asn1_rs.specs.Integer.{integer_number, IntegerCheckGives};
+ghost use Rattle.asn1_rs.specs.Integer.Machine.{GivesBack};
+ghost use Rattle.asn1_rs.specs.Integer.Octets.{integer_octets, any_integer_leaf, BorrowsOctets, HoldsOr};
+ghost use Rattle.asn1_rs.specs.Leaf.{LeafGives, leaf_element};
+ghost use Rattle.asn1_rs.specs.Laws.Integer.Octets.{any_integer_lawful, octets_equal};
+ghost use Rattle.asn1_rs.specs.Laws.Leaf.{leaf_lawful, leaf_constraints, leaf_converts, leaf_primitive};
+ghost use Rattle.asn1_rs.specs.Traits.{OfParts};
+ghost use Rattle.asn1_rs.specs.declared.class.Class.TheVariants as classes;
+ghost use Rattle.asn1_rs.specs.declared.length.Length.TheVariants as forms;
+
+use crate::asn1_types::any::Any;
+use crate::asn1_types::integer::check_integer;
+use crate::asn1_types::integer::machine::MachineInt;
+use crate::error::Error;
+use crate::kinds::writing::WritesOctets;
+use crate::kinds::{ElementKind, HasKind, LawfulConversion, LawfulElement};
+use crate::laws::LawfulMember;
+use crate::tag::Tag;
+use crate::traits::{CheckDerConstraints, DerAutoDerive, FromAny, Tagged};
+use std::alloc::Global;
+use std::borrow::CowSlice;
+use x690::integers::natural_parts;
+
+/// An integer of any size, as the contents octets that say it in two's complement (X.690 8.3).
+///
+/// It holds octets as they stand, also where there are none or some could be left out, and is written so. It is in DER
+/// form where there is one, and none that could be left out (8.3.1, 8.3.2). Two are equal where their octets are.
+#[derive(Debug, Drop, PartialEq, Eq)]
+pub struct Integer<'a> {
+    octets: CowSlice<'a, u8, Global>,
+}
+
+impl<'a> Integer<'a> {
+    /// The integer of these contents octets, which it borrows.
+    pub fn new(s: &'a [u8]) -> Self
+        ensures octets { integer_octets result ≡ s.now }
+        ensures borrowed { BorrowsOctets result }
+    {
+        Integer {
+            octets: CowSlice::Borrowed(s),
+        }
+    }
+
+    /// A universal, primitive element of its contents octets, which the header counts.
+    pub fn any(&'a self) -> Any<'a>
+        ensures header { HasParts result.header classes.Universal false
+            (record { 0 = integer_number }) (forms.Definite (length (integer_octets self.now)))
+            None }
+        ensures content { result.content.now ≡ integer_octets self.now }
+    {
+        Any::from_tag_and_data(Tag::Integer, self.as_bytes())
+    }
+
+    /// The contents octets.
+    pub fn as_bytes(&self) -> &[u8]
+        ensures { result.now ≡ integer_octets self.now }
+    {
+        self.octets.as_slice()
+    }
+}
+
+impl Integer<'static> {
+    /// The strict contents octets of a machine integer, in memory of its own: the fewest that say it in two's
+    /// complement (X.690 8.3.2, 8.3.3). Converted to that type, they give the machine integer again.
+    ///
+    /// Refused where memory is, with `OutOfMemory`.
+    pub fn from<M: MachineInt>(alloc: Global, x: M) -> Result<Integer<'static>, Error>
+        ensures strict { HoldsOr (M.machine.number x) result }
+        ensures back { IfOk result (λ i. GivesBack M.machine x (integer_octets i)) }
+    {
+        let mut octets = [0; 17];
+        let first = x.octets_into(&mut octets);
+        Ok(Integer {
+            octets: CowSlice::Owned(Vec::from_slice(alloc, &octets[first..])?),
+        })
+    }
+
+    /// The strict contents octets of the natural number whose digits in base 256 the array has, in memory of its own:
+    /// leading zeros say nothing, and 00 stands in front of a first octet of 80 or more (X.690 8.3.2, 8.3.3).
+    ///
+    /// Refused where memory is, with `OutOfMemory`.
+    pub fn from_const_array<const N: usize>(
+        alloc: Global,
+        b: [u8; N],
+    ) -> Result<Integer<'static>, Error>
+        requires { 1 ≤ N }
+        ensures { HoldsOr (pos (base_256_value b.entry)) result }
+    {
+        let (sign, digits) = natural_parts(&b);
+        let mut octets = Vec::from_slice(alloc, sign)?;
+        octets.extend_from_slice(digits)?;
+        Ok(Integer {
+            octets: CowSlice::Owned(octets),
+        })
+    }
+}
+
+impl<'a> Any<'a> {
+    /// The integer by its contents octets, which are borrowed (X.690 8.3). Refused at another tag number with
+    /// `UnexpectedTag`, and nowhere else.
+    pub fn integer(self) -> Result<Integer<'a>, Error>
+        ensures gives { LeafGives any_integer_leaf (parts_of self.entry) result }
+        ensures borrowed { IfOk result BorrowsOctets }
+    {
+        self.as_integer()
+    }
+
+    /// The integer by its contents octets, of an element that stays.
+    #[inline(always)]
+    pub fn as_integer(&self) -> Result<Integer<'a>, Error>
+        ensures gives { LeafGives any_integer_leaf (parts_of self.now) result }
+        ensures borrowed { IfOk result BorrowsOctets }
+    {
+        self.assert_number(Tag::Integer)?;
+        Ok(Integer::new(self.content))
+    }
+}
+
+impl Tagged for Integer<'_> {
+    const TAG: Tag = Tag::Integer;
+
+    ghost mark = { record { 0 = integer_number } };
+
+    fn its_tag() -> Tag
+        ensures { result ≡ record { 0 = integer_number } }
+    {
+        Self::TAG
+    }
+}
+
+impl<'a> FromAny<'a> for Integer<'a> {
+    type Error = Error;
+
+    ghost any_gives = { OfParts (LeafGives any_integer_leaf) };
+
+    fn try_from_any(_alloc: Global, any: Any<'a>) -> Result<Integer<'a>, Error> {
+        any.as_integer()
+    }
+}
+
+impl CheckDerConstraints for Integer<'_> {
+    ghost check_gives = { IntegerCheckGives };
+
+    fn check_constraints(any: &Any<'_>) -> Result<(), Error>
+        ensures { IntegerCheckGives (parts_of any.now) result }
+    {
+        check_integer(any)
+    }
+}
+
+impl DerAutoDerive for Integer<'_> {}
+
+impl HasKind for Integer<'_> {
+    type Kind = ElementKind;
+}
+
+impl LawfulElement for Integer<'_> {
+    ghost element = { leaf_element any_integer_leaf };
+
+    ghost lawful = { leaf_lawful any_integer_leaf any_integer_lawful };
+
+    ghost checked = { leaf_constraints any_integer_leaf any_integer_lawful };
+}
+
+impl<'a> LawfulConversion<'a> for Integer<'a> {
+    ghost converts = { leaf_converts any_integer_leaf any_integer_lawful };
+}
+
+impl WritesOctets for Integer<'_> {
+    ghost held = { integer_octets };
+
+    fn contents_octets(&self) -> &[u8] {
+        self.as_bytes()
+    }
+
+    ghost held_are = { leaf_primitive any_integer_leaf any_integer_lawful };
+}
+
+impl LawfulMember for Integer<'_> {
+    ghost same = { octets_equal };
+}
