@@ -1,6 +1,6 @@
 -- A line has one answer, except when out of memory.
 use Rattle.std.proofs.Common.{◌≡◌, ◌∙◌, sym, ap, subst, List, [], ◌∷◌, ◌++◌, ℕ, false, ◌⊎◌, inl, inr, refl, Ok, Err, codes, arith, Option, Some, append_assoc}
-use Rattle.std.specs.Prelude.{ℤ, pos}
+use Rattle.std.specs.Prelude.{ℤ, pos, decimal}
 use Rattle.std.specs.Fmt.{signed_decimal}
 use Rattle.std.proofs.Math.Dec.{eqb}
 use Rattle.std.specs.List.{find, All, AllByRecursion}
@@ -17,12 +17,16 @@ use Rattle.asn1_rs.specs.declared.asn1_types.end_of_content.EndOfContent.{EndOfC
 use Rattle.asn1_rs.specs.BitString.{bit_string_leaf}
 use Rattle.asn1_rs.specs.Boolean.{bool_leaf}
 use Rattle.asn1_rs.specs.EndOfContent.{end_leaf}
+use Rattle.asn1_rs.specs.Enumerated.{enumerated_leaf}
+use Rattle.asn1_rs.specs.Integer.Octets.{any_integer_leaf}
 use Rattle.asn1_rs.specs.Leaf.{Leaf, IsLawfulLeaf, LeafBody, LeafGives}
 use Rattle.asn1_rs.specs.Null.{null_leaf}
 use Rattle.asn1_rs.specs.OctetString.{octet_string_leaf}
 use Rattle.asn1_rs.specs.Laws.BitString.{bit_string_lawful}
 use Rattle.asn1_rs.specs.Laws.Boolean.{bool_lawful}
 use Rattle.asn1_rs.specs.Laws.EndOfContent.{end_lawful}
+use Rattle.asn1_rs.specs.Laws.Enumerated.{enumerated_lawful}
+use Rattle.asn1_rs.specs.Laws.Integer.Octets.{any_integer_lawful}
 use Rattle.asn1_rs.specs.Laws.Leaf.{leaf_lawful, leaf_one_refusal}
 use Rattle.asn1_rs.specs.Laws.Null.{null_lawful}
 use Rattle.asn1_rs.specs.Laws.OctetString.{octet_string_lawful}
@@ -32,7 +36,7 @@ use Rattle.asn1_rs.specs.Laws.Integer.Unsigned.{one_unsigned_refusal}
 use Rattle.asn1_rs.specs.Laws.Integer.Signed.{one_signed_refusal}
 use Rattle.asn1vec_engine.specs.declared.request.Rule.{Rule}
 use Rattle.asn1vec_engine.specs.declared.types.TypeName.{TypeName}
-use Rattle.asn1vec_engine.specs.declared.types.TypeName.TheVariants.{U8, U16, U32, U64, U128, I8, I16, I32, I64, I128, Any, Bool, Null, Octets, Bits, Eoc}
+use Rattle.asn1vec_engine.specs.declared.types.TypeName.TheVariants.{U8, U16, U32, U64, U128, I8, I16, I32, I64, I128, Any, Bool, Null, Enumerated, Integer, Octets, Bits, Eoc}
 use Rattle.asn1vec_engine.specs.Request.{IsRequest}
 use Rattle.asn1vec_engine.specs.Shown.{IsWritten, bits_text, element_text, in_hexadecimal, truth_text}
 use Rattle.asn1vec_engine.specs.Meaning.{Meaning}
@@ -96,6 +100,8 @@ type_once I128 = integers_once (λ n. n) (IsSigned 16) (SignedRefuses 16) (one_s
 type_once Any = elements_once
 type_once Bool = leaf_once bool_leaf truth_text bool_lawful
 type_once Null = leaf_once null_leaf (λ v. codes "null") null_lawful
+type_once Enumerated = leaf_once enumerated_leaf decimal enumerated_lawful
+type_once Integer = leaf_once any_integer_leaf in_hexadecimal any_integer_lawful
 type_once Octets = leaf_once octet_string_leaf in_hexadecimal octet_string_lawful
 type_once Bits = leaf_once bit_string_leaf bits_text bit_string_lawful
 type_once Eoc = ends_once
@@ -107,7 +113,7 @@ allocates_none t = grind arith
 
 -- the type that has a name
 named : List ℕ → Option TypeName
-named name = find (λ t. pointwise eqb name (name_of t)) (U8 ∷ U16 ∷ U32 ∷ U64 ∷ U128 ∷ I8 ∷ I16 ∷ I32 ∷ I64 ∷ I128 ∷ Any ∷ Bool ∷ Null ∷ Octets ∷ Bits ∷ Eoc ∷ [])
+named name = find (λ t. pointwise eqb name (name_of t)) (U8 ∷ U16 ∷ U32 ∷ U64 ∷ U128 ∷ I8 ∷ I16 ∷ I32 ∷ I64 ∷ I128 ∷ Any ∷ Bool ∷ Null ∷ Enumerated ∷ Integer ∷ Octets ∷ Bits ∷ Eoc ∷ [])
 
 named_by_its_name : (t : TypeName) → named (name_of t) ≡ Some t
 unfolding named

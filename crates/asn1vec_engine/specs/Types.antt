@@ -1,5 +1,5 @@
 -- The names of types, and what each stands for.
-use Rattle.std.specs.Prelude.{◌≡◌, List, ◌++◌, length, ℕ, ℤ, pos, codes, true, false, None, Ok}
+use Rattle.std.specs.Prelude.{◌≡◌, List, ◌++◌, length, ℕ, ℤ, pos, codes, decimal, true, false, None, Ok}
 use Rattle.std.specs.Fmt.{signed_decimal}
 use Rattle.x690.specs.Signed.{IsSigned}
 use Rattle.x690.specs.Strict.{header_octets}
@@ -9,6 +9,8 @@ use Rattle.asn1_rs.specs.declared.asn1_types.end_of_content.EndOfContent.{EndOfC
 use Rattle.asn1_rs.specs.BitString.{bit_string_leaf}
 use Rattle.asn1_rs.specs.Boolean.{bool_leaf}
 use Rattle.asn1_rs.specs.EndOfContent.{end_leaf}
+use Rattle.asn1_rs.specs.Enumerated.{enumerated_leaf}
+use Rattle.asn1_rs.specs.Integer.Octets.{any_integer_leaf}
 use Rattle.asn1_rs.specs.Leaf.{Leaf, LeafBody, LeafGives}
 use Rattle.asn1_rs.specs.Null.{null_leaf}
 use Rattle.asn1_rs.specs.OctetString.{octet_string_leaf}
@@ -19,7 +21,7 @@ use Rattle.asn1_rs.specs.Grammar.{BerWord, DerWord}
 use Rattle.asn1_rs.specs.Integer.{IntegerCheck, IntegerCheckGives, IntegerBody, IntegerForm, IntegerGives, IsUnsigned, UnsignedRefuses, SignedRefuses}
 use Rattle.asn1vec_engine.specs.declared.request.Rule.{Rule}
 use Rattle.asn1vec_engine.specs.declared.types.TypeName.{TypeName}
-use Rattle.asn1vec_engine.specs.declared.types.TypeName.TheVariants.{U8, U16, U32, U64, U128, I8, I16, I32, I64, I128, Any, Bool, Null, Octets, Bits, Eoc}
+use Rattle.asn1vec_engine.specs.declared.types.TypeName.TheVariants.{U8, U16, U32, U64, U128, I8, I16, I32, I64, I128, Any, Bool, Null, Enumerated, Integer, Octets, Bits, Eoc}
 use Rattle.asn1vec_engine.specs.Meaning.{Meaning, ReadsByEither, is_ber}
 use Rattle.asn1vec_engine.specs.Shown.{IsReadAnswer, IsWritten, ReadsByBer, Same, StrictEncoding, bits_text, element_text, in_hexadecimal, truth_text}
 
@@ -37,6 +39,8 @@ name_of I128 = codes "i128"
 name_of Any = codes "any"
 name_of Bool = codes "bool"
 name_of Null = codes "null"
+name_of Enumerated = codes "enumerated"
+name_of Integer = codes "integer"
 name_of Octets = codes "octets"
 name_of Bits = codes "bits"
 name_of Eoc = codes "eoc"
@@ -119,6 +123,8 @@ meaning_of I128 = signed 16
 meaning_of Any = elements
 meaning_of Bool = leaf bool_leaf truth_text
 meaning_of Null = leaf null_leaf (λ v. codes "null")
+meaning_of Enumerated = leaf enumerated_leaf decimal
+meaning_of Integer = leaf any_integer_leaf in_hexadecimal
 meaning_of Octets = leaf octet_string_leaf in_hexadecimal
 meaning_of Bits = leaf bit_string_leaf bits_text
 meaning_of Eoc = ends

@@ -47,3 +47,9 @@ returns-in-Octets c = rw c.in-Octets.is c.push_by_either-in-Octets.ensures
 
 pub returns-in-Bits : goal.returns-in-Bits
 returns-in-Bits c = rw c.in-Bits.is c.push_by_either-in-Bits.ensures
+
+pub returns-in-Enumerated : goal.returns-in-Enumerated
+returns-in-Enumerated c = rw c.in-Enumerated.is c.push_by_either-in-Enumerated.ensures
+
+pub returns-in-Integer : goal.returns-in-Integer
+returns-in-Integer c = rw c.in-Integer.is c.push_by_either-in-Integer.ensures
