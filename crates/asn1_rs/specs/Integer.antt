@@ -4,25 +4,20 @@ pub mod Octets
 use Rattle.std.specs.Prelude.{◌≡◌, ◌≢◌, ◌⊎◌, ℕ, ℤ, ◌<◌, ◌≤◌, ◌^◌, true, false, List, [], get_or, pos, Some, Result, Ok, Err}
 use Rattle.x690.specs.Digits.{base_256_value, twos_complement_value}
 use Rattle.x690.specs.Identifiers.{Identifier}
-use Rattle.x690.specs.Lengths.{definite, indefinite}
+use Rattle.x690.specs.Lengths.{indefinite}
 use Rattle.x690.specs.Elements.{Parts}
 use Rattle.x690.specs.Integers.{HasSpareZeros, HasSpareOnes, IsShortestInteger, IsIntegerContent}
 use Rattle.x690.specs.Signed.{IsSigned}
 use Rattle.asn1_rs.specs.declared.error.Error.{Error}
 use Rattle.asn1_rs.specs.declared.error.Error.TheVariants.{UnexpectedTag, ConstructUnexpected, IndefiniteLengthUnexpected, IntegerNegative, IntegerTooLarge, DerConstraintFailed}
 use Rattle.asn1_rs.specs.declared.error.DerConstraint.TheVariants.{IntegerEmpty, IntegerLeadingZeroes, IntegerLeadingFF}
+use Rattle.asn1_rs.specs.Checks.{IsPrimitive, IsCounted}
 use Rattle.asn1_rs.specs.Kinds.{ElementGrammar}
 use Rattle.asn1_rs.specs.Grammar.Form.{UniversalForm}
 
 -- the number of the tag of integers
 abbrev pub integer_number : ℕ
 integer_number = 2
-
-abbrev pub IsPrimitive : Parts → Type 0
-IsPrimitive p = p.id.constructed ≡ false
-
-abbrev pub IsCounted : Parts → Type 0
-IsCounted p = (n : ℕ) × (p.form ≡ definite n)
 
 -- What the constraints ask of an integer: a primitive element of definite length, whose contents octets are the fewest (X.690 8.3.1, 8.3.2, 10.1).
 pub record IntegerCheck (p : Parts) : Type 0 where

@@ -10,9 +10,10 @@ pub mod Leaf
 pub mod Boolean
 pub mod Null
 pub mod EndOfContent
+pub mod OctetString
+pub mod BitString
 pub mod Integer
 pub mod Enumerated
-pub mod OctetsElement
 pub mod Sequence
 pub mod Lists
 pub mod Set

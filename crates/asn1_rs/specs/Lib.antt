@@ -16,11 +16,12 @@ pub mod Leaf
 pub mod Boolean
 pub mod Null
 pub mod EndOfContent
+pub mod OctetString
+pub mod BitString
 pub mod Writer
 pub mod ToDer
 pub mod Integer
 pub mod Enumerated
-pub mod OctetsElement
 pub mod Sequence
 pub mod Lists
 pub mod Set

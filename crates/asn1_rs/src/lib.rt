@@ -18,6 +18,7 @@ mod traits;
 mod writer;
 
 pub use asn1_types::any::Any;
+pub use asn1_types::bit_string::BitString;
 pub use asn1_types::boolean::{Boolean, truth_constants_are_octets};
 pub use asn1_types::end_of_content::EndOfContent;
 pub use asn1_types::enumerated::Enumerated;
@@ -26,6 +27,7 @@ pub use asn1_types::integer::machine::MachineInt;
 pub use asn1_types::integer::octets::Integer;
 pub use asn1_types::lists::FromItems;
 pub use asn1_types::null::Null;
+pub use asn1_types::octet_string::OctetString;
 pub use asn1_types::sequence::iterator::{
     ReadsItems, ReadsWords, SequenceIterator, SetIterator, indefinite_contents_are_walked,
     walks_end, walks_take_words,

@@ -166,6 +166,7 @@ pub trait ToDer: DynTagged {
     }
 
     /// The encoding in a vector. Out of memory is `OutOfMemory`, and never an `IOError`.
+    #[inline(always)]
     fn to_der_vec(&self, alloc: Global) -> SerializeResult<Vec<u8>>
         ensures wrote { tells self.now →
             IfOk result (λ octets. octets.items ≡ header self.now ++ content self.now) }

@@ -1,9 +1,11 @@
 //! Headers and elements that are made by hand: their parts, and what they are converted to.
 
-use crate::rows::assert_shown;
+use crate::calls::push_debug;
 use asn1_rs::{Any, CheckDerConstraints, Class, DynTagged, FromAny, FromBer, Header, Length, Tag};
+use std::alloc::Global;
 use std::borrow::CowSlice;
 use std::test::Fail;
+use test_rows::{Calls, assert_rows, assert_shown};
 
 #[test]
 fn headers_have_parts(rt: HostRuntime) -> Result<(), Fail> {
@@ -20,7 +22,6 @@ fn headers_have_parts(rt: HostRuntime) -> Result<(), Fail> {
         header.length(),
     );
     assert_shown(
-        &rt,
         rt.alloc(),
         &(parts, header.raw_tag()),
         "((ContextSpecific, true, Tag(15), Indefinite), Some([191, 15]))",
@@ -40,7 +41,6 @@ fn headers_assert_their_parts(rt: HostRuntime) -> Result<(), Fail> {
         header.assert_definite(),
     ];
     assert_shown(
-        &rt,
         rt.alloc(),
         &answers,
         "[Ok(()), Err(UnexpectedClass { expected: Some(Universal), actual: Private }), \
@@ -56,7 +56,6 @@ fn headers_assert_their_parts(rt: HostRuntime) -> Result<(), Fail> {
         header.assert_definite(),
     ];
     assert_shown(
-        &rt,
         rt.alloc(),
         &answers,
         "[Err(ConstructExpected), Ok(()), Ok(())]",
@@ -105,7 +104,6 @@ fn elements_have_parts(rt: HostRuntime) -> Result<(), Fail> {
         any.as_bytes(),
     );
     assert_shown(
-        &rt,
         rt.alloc(),
         &(equal, parts),
         "([true, false], (Private, Tag(7), Definite(2), [5, 0]))",
@@ -124,63 +122,118 @@ fn values_have_tags(rt: HostRuntime) {
     assert_eq!(rt; tags, [Tag(9), Tag(8), Tag(2)]);
 }
 
-#[test]
-fn constraints_of_elements_are_checked(rt: HostRuntime) -> Result<(), Fail> {
-    let number = Any::from_tag_and_data(Tag::Integer, &[0x01, 0x00]);
-    let open = Any::new(
+/// An integer with these contents octets.
+fn integer(content: &[u8]) -> Any<'_> {
+    Any::from_tag_and_data(Tag::Integer, content)
+}
+
+/// An integer of indefinite length.
+fn open(content: &[u8]) -> Any<'_> {
+    Any::new(
         Header::from(Tag::Integer).with_length(Length::Indefinite),
-        &[0x05],
-    );
-    let answers = [
-        Any::check_constraints(&number),
-        Any::check_constraints(&open),
-        u16::check_constraints(&number),
-        u8::check_constraints(&open),
-    ];
-    assert_shown(
-        &rt,
-        rt.alloc(),
-        &answers,
-        "[Ok(()), Err(IndefiniteLengthUnexpected), Ok(()), Err(IndefiniteLengthUnexpected)]",
+        content,
     )
 }
 
-#[test]
-fn elements_are_converted(rt: HostRuntime) -> Result<(), Fail> {
-    let number = [0x01, 0x00];
-    let answers = (
-        u8::try_from_any(rt.alloc(), Any::from_tag_and_data(Tag::Integer, &number)),
-        u16::try_from_any(rt.alloc(), Any::from_tag_and_data(Tag::Integer, &number)),
-    );
-    assert_shown(&rt, rt.alloc(), &answers, "(Err(IntegerTooLarge), Ok(256))")
+/// The calls of an element that is made by hand: of an integer; behind `open`, of one of indefinite length; behind
+/// `into`, its conversions.
+struct ByHand;
+
+/// Appends what a check of the element says, or a conversion answers.
+fn push_element_answer(text: &mut String, name: &str, any: &Any<'_>) -> Result<(), Fail> {
+    match name {
+        "Any::check_constraints" => push_debug(text, &Any::check_constraints(any)),
+        "u8::check_constraints" => push_debug(text, &u8::check_constraints(any)),
+        "u16::check_constraints" => push_debug(text, &u16::check_constraints(any)),
+        "as_u8" => push_debug(text, &any.as_u8()),
+        "as_u16" => push_debug(text, &any.as_u16()),
+        "as_u64" => push_debug(text, &any.as_u64()),
+        "as_u128" => push_debug(text, &any.as_u128()),
+        "as_i8" => push_debug(text, &any.as_i8()),
+        "as_i16" => push_debug(text, &any.as_i16()),
+        "as_i32" => push_debug(text, &any.as_i32()),
+        "as_i64" => push_debug(text, &any.as_i64()),
+        _ => Ok(text.push_str("no such call")?),
+    }
 }
 
-#[test]
-fn element_is_converted_to_itself(rt: HostRuntime) -> Result<(), Fail> {
-    let same = Any::try_from_any(rt.alloc(), Any::from_tag_and_data(Tag::Null, &[0x01, 0x00]))?;
-    assert_shown(&rt, rt.alloc(), &same.as_bytes(), "[1, 0]")
+/// Appends what an element is converted to.
+fn push_converted(text: &mut String, alloc: Global, name: &str, any: Any<'_>) -> Result<(), Fail> {
+    match name {
+        "Any" => push_debug(text, &Any::try_from_any(alloc, any)),
+        "u8" => push_debug(text, &u8::try_from_any(alloc, any)),
+        "u32" => push_debug(text, &any.u32()),
+        "i128" => push_debug(text, &any.i128()),
+        _ => push_debug(text, &u16::try_from_any(alloc, any)),
+    }
 }
 
+impl Calls for ByHand {
+    fn answer(text: &mut String, alloc: Global, name: &str, octets: &[u8]) -> Result<(), Fail> {
+        match name.split_once(' ') {
+            Some(("open", name)) => push_element_answer(text, name, &open(octets)),
+            Some((_, name)) => push_converted(text, alloc, name, integer(octets)),
+            None => push_element_answer(text, name, &integer(octets)),
+        }
+    }
+}
+
+/// Contents octets, and what the element is answered by each call.
+const ELEMENTS: &str = "\
+Any::check_constraints:
+0100 = Ok(())
+
+u16::check_constraints:
+0100 = Ok(())
+
+open Any::check_constraints:
+05 = Err(IndefiniteLengthUnexpected)
+
+open u8::check_constraints:
+05 = Err(IndefiniteLengthUnexpected)
+
+into u8:
+0100 = Err(IntegerTooLarge)
+
+into u16:
+0100 = Ok(256)
+
+into Any:
+0100 = Ok(Any { header: Header { class: Universal, constructed: false, tag: Tag(2), length: Definite(2), \
+raw_tag: None }, content: [1, 0] })
+
+as_u8:
+0100 = Err(IntegerTooLarge)
+
+as_u16:
+0100 = Ok(256)
+
+as_i8:
+0100 = Err(IntegerTooLarge)
+
+as_i16:
+0100 = Ok(256)
+
+into u32:
+0100 = Ok(256)
+
+as_u64:
+ff7f = Err(IntegerNegative)
+
+as_u128:
+ff7f = Err(IntegerNegative)
+
+as_i32:
+ff7f = Ok(-129)
+
+as_i64:
+ff7f = Ok(-129)
+
+into i128:
+ff7f = Ok(-129)
+";
+
 #[test]
-fn elements_are_converted_to_integers(rt: HostRuntime) -> Result<(), Fail> {
-    let any = Any::from_tag_and_data(Tag::Integer, &[0x01, 0x00]);
-    let numbers = (
-        any.as_u8(),
-        any.as_u16(),
-        any.as_i8(),
-        any.as_i16(),
-        any.u32(),
-    );
-    let expected = "(Err(IntegerTooLarge), Ok(256), Err(IntegerTooLarge), Ok(256), Ok(256))";
-    assert_shown(&rt, rt.alloc(), &numbers, expected)?;
-    let any = Any::from_tag_and_data(Tag::Integer, &[0xff, 0x7f]);
-    let numbers = (
-        any.as_u64(),
-        any.as_u128(),
-        any.as_i32(),
-        any.as_i64(),
-        any.i128(),
-    );
-    let expected = "(Err(IntegerNegative), Err(IntegerNegative), Ok(-129), Ok(-129), Ok(-129))";
-    assert_shown(&rt, rt.alloc(), &numbers, expected)
+fn elements_are_checked_and_converted(rt: HostRuntime) -> Result<(), Fail> {
+    assert_rows::<ByHand>(rt.alloc(), ELEMENTS)
 }

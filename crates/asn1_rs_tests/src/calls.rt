@@ -1,15 +1,16 @@
 //! The calls of tables, and the texts of their answers.
 
-use crate::collections::{push_list, push_list_answer};
+use crate::collections::{push_by_ber, push_by_der, push_list_answer};
 use crate::colour::Colour;
-use crate::rows::push_digits;
 use asn1_rs::{
     Any, BerParser, Class, DerParser, Err, Error, FromBer, FromDer, GetObjectContent, Header,
-    Length, ParseResult, SerializeResult, Steps, Tag, ToDer, any_from_ber_counted,
+    Length, ParseResult, SerializeResult, Steps, Tag, ToDer, any_from_ber_counted, read_ber,
+    read_der,
 };
 use std::alloc::Global;
 use std::fmt::{Debug, Display, Write};
 use std::test::Fail;
+use test_rows::{Calls, push_digits};
 
 /// An error of a caller's own.
 #[derive(Debug, Drop)]
@@ -71,9 +72,9 @@ fn push_named(text: &mut String, name: &str, octets: &[u8]) -> Result<(), Fail> 
     push_digits(text, octets)
 }
 
-/// Appends why a reader refused.
-fn push_refusal<E: Debug>(text: &mut String, refusal: &Err<E>) -> Result<(), Fail> {
-    Ok(write!(text, "{refusal:?}")?)
+/// Appends the derived text of a value.
+pub(crate) fn push_debug<T: Debug>(text: &mut String, value: &T) -> Result<(), Fail> {
+    Ok(write!(text, "{value:?}")?)
 }
 
 /// Appends a header that was read, and what follows it.
@@ -89,7 +90,7 @@ fn push_header_answer(
 ) -> Result<(), Fail> {
     match answer {
         Ok((rest, header)) => push_read_header(text, &header, rest),
-        Err(refusal) => push_refusal(text, &refusal),
+        Err(refusal) => push_debug(text, &refusal),
     }
 }
 
@@ -107,7 +108,7 @@ fn push_any_answer(
 ) -> Result<(), Fail> {
     match answer {
         Ok((rest, any)) => push_read_any(text, &any, rest),
-        Err(refusal) => push_refusal(text, &refusal),
+        Err(refusal) => push_debug(text, &refusal),
     }
 }
 
@@ -124,7 +125,7 @@ fn push_content_answer(
 ) -> Result<(), Fail> {
     match answer {
         Ok((rest, content)) => push_read_content(text, content, rest),
-        Err(refusal) => push_refusal(text, &refusal),
+        Err(refusal) => push_debug(text, &refusal),
     }
 }
 
@@ -198,7 +199,7 @@ fn push_inner_number_by_ber(text: &mut String, alloc: Global, octets: &[u8]) -> 
 fn push_vector(text: &mut String, vector: SerializeResult<Vec<u8>>) -> Result<(), Fail> {
     match vector {
         Ok(octets) => push_digits(text, octets.as_slice()),
-        Err(refusal) => Ok(write!(text, "{refusal:?}")?),
+        Err(refusal) => push_debug(text, &refusal),
     }
 }
 
@@ -237,49 +238,50 @@ fn push_value_answer<T: Display + Drop, E: Debug + Drop>(
 ) -> Result<(), Fail> {
     match answer {
         Ok((rest, value)) => push_read_value(text, &value, rest),
-        Err(refusal) => push_refusal(text, &refusal),
+        Err(refusal) => push_debug(text, &refusal),
     }
 }
 
-/// Appends the answer to a call.
-pub(crate) fn push_answer(
-    text: &mut String,
-    alloc: Global,
-    name: &str,
-    octets: &[u8],
-) -> Result<(), Fail> {
-    match name {
-        "Header::from_der" => push_header_answer(text, Header::from_der(alloc, octets)),
-        "Header::from_ber" => push_header_answer(text, Header::from_ber(alloc, octets)),
-        "Header::write_der" => push_header_again(text, alloc, octets),
-        "Any::from_der" => push_any_answer(text, Any::from_der(alloc, octets)),
-        "Any::from_ber" => push_any_answer(text, Any::from_ber(alloc, octets)),
-        "Any::write_der" => push_any_again(text, alloc, octets),
-        "any_from_ber_counted" => push_counted(text, octets),
-        "Header::parse_ber_content" => push_ber_content(text, alloc, octets),
-        "Any::parse_der_content" => push_der_content(text, alloc, octets),
-        "Any::parse_ber_content" => push_open_content(text, octets),
-        "BerParser::get_object_content 2" => push_object_content::<BerParser>(
-            text, alloc, octets, 2,
-        ),
-        "BerParser::get_object_content 0" => push_object_content::<BerParser>(
-            text, alloc, octets, 0,
-        ),
-        "DerParser::get_object_content 0" => push_object_content::<DerParser>(
-            text, alloc, octets, 0,
-        ),
-        "Header::parse_der_content" => push_two(text, octets),
-        "Any::from_der_and_then" => push_first_octet(text, octets),
-        "Any::from_ber_and_then" => push_first_octet_by_ber(text, octets),
-        "Any::parse_der" => push_inner_number(text, alloc, octets),
-        "Any::parse_ber" => push_inner_number_by_ber(text, alloc, octets),
-        "u8::from_der" => push_value_answer(text, u8::from_der(alloc, octets)),
-        "u16::from_der" => push_value_answer(text, u16::from_der(alloc, octets)),
-        "u8::from_ber" => push_value_answer(text, u8::from_ber(alloc, octets)),
-        "u64::from_ber" => push_value_answer(text, u64::from_ber(alloc, octets)),
-        "Colour::from_der" => push_list(text, alloc, Colour::from_der(alloc, octets)),
-        "Colour::from_ber" => push_list(text, alloc, Colour::from_ber(alloc, octets)),
-        "Vec::<Colour>::from_der" => push_list(text, alloc, Vec::<Colour>::from_der(alloc, octets)),
-        _ => push_list_answer(text, alloc, name, octets),
+/// The calls of the library.
+pub(crate) struct Library;
+
+impl Calls for Library {
+    fn answer(text: &mut String, alloc: Global, name: &str, octets: &[u8]) -> Result<(), Fail> {
+        match name {
+            "Header::from_der" => push_header_answer(text, Header::from_der(alloc, octets)),
+            "Header::from_ber" => push_header_answer(text, Header::from_ber(alloc, octets)),
+            "Header::write_der" => push_header_again(text, alloc, octets),
+            "Any::from_der" => push_any_answer(text, Any::from_der(alloc, octets)),
+            "Any::from_ber" => push_any_answer(text, Any::from_ber(alloc, octets)),
+            "Any::write_der" => push_any_again(text, alloc, octets),
+            "any_from_ber_counted" => push_counted(text, octets),
+            "Header::parse_ber_content" => push_ber_content(text, alloc, octets),
+            "Any::parse_der_content" => push_der_content(text, alloc, octets),
+            "Any::parse_ber_content" => push_open_content(text, octets),
+            "BerParser::get_object_content 2" => push_object_content::<BerParser>(
+                text, alloc, octets, 2,
+            ),
+            "BerParser::get_object_content 0" => push_object_content::<BerParser>(
+                text, alloc, octets, 0,
+            ),
+            "DerParser::get_object_content 0" => push_object_content::<DerParser>(
+                text, alloc, octets, 0,
+            ),
+            "Header::parse_der_content" => push_two(text, octets),
+            "Any::from_der_and_then" => push_first_octet(text, octets),
+            "Any::from_ber_and_then" => push_first_octet_by_ber(text, octets),
+            "Any::parse_der" => push_inner_number(text, alloc, octets),
+            "Any::parse_ber" => push_inner_number_by_ber(text, alloc, octets),
+            "u8::from_der" => push_value_answer(text, u8::from_der(alloc, octets)),
+            "u16::from_der" => push_value_answer(text, u16::from_der(alloc, octets)),
+            "u8::from_ber" => push_value_answer(text, u8::from_ber(alloc, octets)),
+            "u64::from_ber" => push_value_answer(text, u64::from_ber(alloc, octets)),
+            "read_der::<u64>" => push_value_answer(text, read_der::<u64, Error>(alloc, octets)),
+            "read_ber::<u64>" => push_value_answer(text, read_ber::<u64, Error>(alloc, octets)),
+            "Colour::from_der" => push_by_der::<Colour>(text, alloc, octets),
+            "Colour::from_ber" => push_by_ber::<Colour>(text, alloc, octets),
+            "Vec::<Colour>::from_der" => push_by_der::<Vec<Colour>>(text, alloc, octets),
+            _ => push_list_answer(text, alloc, name, octets),
+        }
     }
 }

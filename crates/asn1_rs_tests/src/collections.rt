@@ -1,8 +1,7 @@
 //! Lists and sets: how they are read, checked and written.
 
-use crate::calls::push_written;
+use crate::calls::{Library, push_debug, push_written};
 use crate::devices::assert_cut;
-use crate::rows::{assert_rows, assert_shown, push_digits};
 use asn1_rs::{
     Any, CheckDerConstraints, Err, Error, FromAny, FromBer, FromDer, SetOf, Tagged, ToDer,
 };
@@ -10,6 +9,7 @@ use std::alloc::Global;
 use std::collections::BTreeSet;
 use std::fmt::{Debug, Write};
 use std::test::Fail;
+use test_rows::{assert_rows, assert_shown, push_digits};
 
 /// Lists: items, what follows them, and how the list is written. By DER the constructed bit of the list itself is not
 /// looked at; its tag number is looked at first.
@@ -118,15 +118,33 @@ BTreeSet::<u8>::try_from_any:
 ";
 
 /// Appends what a reader answers, and how the value is written.
-pub(crate) fn push_list<T: Debug + ToDer + Drop>(
+fn push_list<T: Debug + ToDer + Drop>(
     text: &mut String,
     alloc: Global,
     answer: Result<(&[u8], T), Err<Error>>,
 ) -> Result<(), Fail> {
     match answer {
         Ok((rest, list)) => push_shown(text, alloc, &list, rest, &list),
-        Err(refusal) => Ok(write!(text, "{refusal:?}")?),
+        Err(refusal) => push_debug(text, &refusal),
     }
+}
+
+/// Appends what the reader of a type answers by DER, and how the value is written.
+pub(crate) fn push_by_der<'a, T: FromDer<'a, Error> + Debug + ToDer + Drop>(
+    text: &mut String,
+    alloc: Global,
+    octets: &'a [u8],
+) -> Result<(), Fail> {
+    push_list(text, alloc, T::from_der(alloc, octets))
+}
+
+/// Appends what the reader of a type answers by BER, and how the value is written.
+pub(crate) fn push_by_ber<'a, T: FromBer<'a, Error> + Debug + ToDer + Drop>(
+    text: &mut String,
+    alloc: Global,
+    octets: &'a [u8],
+) -> Result<(), Fail> {
+    push_list(text, alloc, T::from_ber(alloc, octets))
 }
 
 /// Appends items, what follows them, and how the list of them is written.
@@ -151,7 +169,7 @@ fn push_set(
 ) -> Result<(), Fail> {
     match answer {
         Ok((rest, set)) => push_shown(text, alloc, &set.as_slice(), rest, &set),
-        Err(refusal) => Ok(write!(text, "{refusal:?}")?),
+        Err(refusal) => push_debug(text, &refusal),
     }
 }
 
@@ -179,34 +197,49 @@ fn push_sets(text: &mut String, alloc: Global, octets: &[u8]) -> Result<(), Fail
     push_count(text, alloc, count, &SetOf::new(sets))
 }
 
-/// Appends an answer.
-fn push_debug<T: Debug>(text: &mut String, answer: &T) -> Result<(), Fail> {
-    Ok(write!(text, "{answer:?}")?)
+/// What the check of the element at the front, by BER, says.
+fn push_checked<T: CheckDerConstraints>(
+    text: &mut String,
+    alloc: Global,
+    octets: &[u8],
+) -> Result<(), Fail> {
+    let (_, any) = Any::from_ber(alloc, octets)?;
+    push_debug(text, &T::check_constraints(&any))
 }
 
-/// What the check of an element says, or what the conversion answers.
+/// What the element at the front, by BER, is converted to.
+fn push_converted<'a, T: FromAny<'a, Error = Error> + Debug + Drop>(
+    text: &mut String,
+    alloc: Global,
+    octets: &'a [u8],
+) -> Result<(), Fail> {
+    let (_, any) = Any::from_ber(alloc, octets)?;
+    push_debug(text, &T::try_from_any(alloc, any))
+}
+
+/// The same of a set whose items may stand more than once.
+fn push_converted_set(text: &mut String, alloc: Global, octets: &[u8]) -> Result<(), Fail> {
+    let (_, any) = Any::from_ber(alloc, octets)?;
+    push_debug(
+        text,
+        &SetOf::try_from_any(alloc, any).map(SetOf::<u8>::into_vec),
+    )
+}
+
+/// Appends the answer to a call of an element.
 fn push_element_call(
     text: &mut String,
     alloc: Global,
     name: &str,
-    any: Any<'_>,
+    octets: &[u8],
 ) -> Result<(), Fail> {
     match name {
-        "Vec::<u8>::check_constraints" => push_debug(text, &Vec::<u8>::check_constraints(&any)),
-        "SetOf::<u8>::check_constraints" => push_debug(text, &SetOf::<u8>::check_constraints(&any)),
-        "BTreeSet::<u8>::check_constraints" => push_debug(
-            text,
-            &BTreeSet::<u8>::check_constraints(&any),
-        ),
-        "Vec::<u8>::try_from_any" => push_debug(text, &Vec::<u8>::try_from_any(alloc, any)),
-        "SetOf::<u8>::try_from_any" => push_debug(
-            text,
-            &SetOf::try_from_any(alloc, any).map(SetOf::<u8>::into_vec),
-        ),
-        "BTreeSet::<u8>::try_from_any" => push_debug(
-            text,
-            &BTreeSet::<u8>::try_from_any(alloc, any),
-        ),
+        "Vec::<u8>::check_constraints" => push_checked::<Vec<u8>>(text, alloc, octets),
+        "SetOf::<u8>::check_constraints" => push_checked::<SetOf<u8>>(text, alloc, octets),
+        "BTreeSet::<u8>::check_constraints" => push_checked::<BTreeSet<u8>>(text, alloc, octets),
+        "Vec::<u8>::try_from_any" => push_converted::<Vec<u8>>(text, alloc, octets),
+        "SetOf::<u8>::try_from_any" => push_converted_set(text, alloc, octets),
+        "BTreeSet::<u8>::try_from_any" => push_converted::<BTreeSet<u8>>(text, alloc, octets),
         _ => Ok(text.push_str("no such call")?),
     }
 }
@@ -219,81 +252,49 @@ pub(crate) fn push_list_answer(
     octets: &[u8],
 ) -> Result<(), Fail> {
     match name {
-        "Vec::<u8>::from_der" => push_list(text, alloc, Vec::<u8>::from_der(alloc, octets)),
-        "Vec::<u8>::from_ber" => push_list(text, alloc, Vec::<u8>::from_ber(alloc, octets)),
-        "Vec::<u32>::from_der" => push_list(text, alloc, Vec::<u32>::from_der(alloc, octets)),
-        "Vec::<Vec<u32>>::from_der" => push_list(
-            text,
-            alloc,
-            Vec::<Vec<u32>>::from_der(alloc, octets),
-        ),
-        "Vec::<Vec<u32>>::from_ber" => push_list(
-            text,
-            alloc,
-            Vec::<Vec<u32>>::from_ber(alloc, octets),
-        ),
+        "Vec::<u8>::from_der" => push_by_der::<Vec<u8>>(text, alloc, octets),
+        "Vec::<u8>::from_ber" => push_by_ber::<Vec<u8>>(text, alloc, octets),
+        "Vec::<u32>::from_der" => push_by_der::<Vec<u32>>(text, alloc, octets),
+        "Vec::<Vec<u32>>::from_der" => push_by_der::<Vec<Vec<u32>>>(text, alloc, octets),
+        "Vec::<Vec<u32>>::from_ber" => push_by_ber::<Vec<Vec<u32>>>(text, alloc, octets),
         "Vec::<Any>::from_ber" => push_elements(text, alloc, octets),
         "SetOf::<u8>::from_der" => push_set(text, alloc, SetOf::<u8>::from_der(alloc, octets)),
         "SetOf::<u8>::from_ber" => push_set(text, alloc, SetOf::<u8>::from_ber(alloc, octets)),
         "SetOf::<SetOf<u8>>::from_der" => push_sets(text, alloc, octets),
-        "BTreeSet::<u8>::from_der" => push_list(
-            text,
-            alloc,
-            BTreeSet::<u8>::from_der(alloc, octets),
+        "BTreeSet::<u8>::from_der" => push_by_der::<BTreeSet<u8>>(text, alloc, octets),
+        "BTreeSet::<u8>::from_ber" => push_by_ber::<BTreeSet<u8>>(text, alloc, octets),
+        "BTreeSet::<i16>::from_der" => push_by_der::<BTreeSet<i16>>(text, alloc, octets),
+        "BTreeSet::<BTreeSet<u8>>::from_der" => push_by_der::<BTreeSet<BTreeSet<u8>>>(
+            text, alloc, octets,
         ),
-        "BTreeSet::<u8>::from_ber" => push_list(
-            text,
-            alloc,
-            BTreeSet::<u8>::from_ber(alloc, octets),
-        ),
-        "BTreeSet::<i16>::from_der" => push_list(
-            text,
-            alloc,
-            BTreeSet::<i16>::from_der(alloc, octets),
-        ),
-        "BTreeSet::<BTreeSet<u8>>::from_der" => push_list(
-            text,
-            alloc,
-            BTreeSet::<BTreeSet<u8>>::from_der(alloc, octets),
-        ),
-        _ => push_element_call(text, alloc, name, Any::from_ber(alloc, octets)?.1),
+        _ => push_element_call(text, alloc, name, octets),
     }
 }
 
 #[test]
-fn lists_are_read_and_written(rt: HostRuntime) -> Result<(), Fail> {
-    assert_rows(&rt, rt.alloc(), LISTS)
+fn lists_and_sets_are_read_and_written(rt: HostRuntime) -> Result<(), Fail> {
+    assert_rows::<Library>(rt.alloc(), LISTS)?;
+    // In ascending order.
+    assert_rows::<Library>(rt.alloc(), SETS)?;
+    assert_rows::<Library>(rt.alloc(), ELEMENTS)
 }
 
 #[test]
-fn sets_are_read_and_written_in_ascending_order(rt: HostRuntime) -> Result<(), Fail> {
-    assert_rows(&rt, rt.alloc(), SETS)
+fn writers_of_lists_are_cut(rt: HostRuntime) -> Result<(), Fail> {
+    let octets = [0x30, 0x06, 0x02, 0x01, 0x02, 0x02, 0x01, 0x01];
+    let (_, numbers) = Vec::<u8>::from_der(rt.alloc(), &octets)?;
+    assert_cut(rt.alloc(), &numbers, &octets)
 }
 
 #[test]
-fn elements_are_checked_and_converted(rt: HostRuntime) -> Result<(), Fail> {
-    assert_rows(&rt, rt.alloc(), ELEMENTS)
-}
-
-#[test]
-fn writers_of_a_list_are_cut(rt: HostRuntime) -> Result<(), Fail> {
-    let mut numbers = Vec::new(rt.alloc());
-    numbers.push(2u8)?;
-    numbers.push(1)?;
+fn writers_of_sets_are_cut(rt: HostRuntime) -> Result<(), Fail> {
+    let octets = [0x31, 0x06, 0x02, 0x01, 0x02, 0x02, 0x01, 0x01];
+    let (_, set) = SetOf::<u8>::from_der(rt.alloc(), &octets)?;
     assert_cut(
-        &rt,
-        rt.alloc(),
-        &numbers,
-        &[0x30, 0x06, 0x02, 0x01, 0x02, 0x02, 0x01, 0x01],
-    );
-    let set = SetOf::new(numbers);
-    assert_cut(
-        &rt,
         rt.alloc(),
         &set,
         &[0x31, 0x06, 0x02, 0x01, 0x01, 0x02, 0x01, 0x02],
-    );
-    Ok(())
+    )
 }
 
 #[test]
@@ -305,5 +306,5 @@ fn lists_and_sets_have_tag_numbers(rt: HostRuntime) -> Result<(), Fail> {
         BTreeSet::<u8>::its_tag(),
     );
     let expected = "((Tag(16), Tag(17), Tag(17)), (Tag(16), Tag(17), Tag(17)))";
-    assert_shown(&rt, rt.alloc(), &(constants, calls), expected)
+    assert_shown(rt.alloc(), &(constants, calls), expected)
 }

@@ -1,12 +1,13 @@
 //! A type of a caller's own, without what it tells in contracts: read, checked and written alone and in a list.
 
-use crate::rows::assert_rows;
+use crate::calls::Library;
 use asn1_rs::{
     Any, CheckDerConstraints, Class, DerAutoDerive, DerWrite, Error, FromAny, Header, Length,
     SerializeResult, Tag, Tagged, ToDer, put_all,
 };
 use std::alloc::Global;
 use std::test::Fail;
+use test_rows::assert_rows;
 
 /// A colour, as an octet string of its three parts.
 #[derive(Debug, Drop)]
@@ -87,5 +88,5 @@ raw 300a04030102030403040506
 
 #[test]
 fn colours_are_read_and_written(rt: HostRuntime) -> Result<(), Fail> {
-    assert_rows(&rt, rt.alloc(), COLOURS)
+    assert_rows::<Library>(rt.alloc(), COLOURS)
 }

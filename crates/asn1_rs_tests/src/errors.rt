@@ -1,6 +1,5 @@
 //! Classes, tag numbers, lengths, and the texts and conversions of errors.
 
-use crate::rows::assert_shown;
 use asn1_rs::{
     Class, DerConstraint, Err, Error, Length, Needed, SerializeError, Tag, from_nom_error,
 };
@@ -11,6 +10,7 @@ use std::io;
 use std::io::ErrorKind;
 use std::process::Abort;
 use std::test::Fail;
+use test_rows::{assert_shown, assert_text, assert_texts};
 
 /// An error of a caller's own.
 #[derive(Debug, Drop)]
@@ -25,13 +25,6 @@ impl From<Error> for Refused {
     }
 }
 
-impl Refused {
-    /// The error of this number.
-    fn from_number(number: u8) -> Refused {
-        Refused::ByNumber(number)
-    }
-}
-
 impl From<u8> for Refused {
     fn from(number: u8) -> Refused {
         Refused::ByNumber(number)
@@ -39,55 +32,49 @@ impl From<u8> for Refused {
 }
 
 #[test]
-fn classes_have_numbers_and_names(rt: HostRuntime) -> Result<(), Fail> {
-    let mut text = String::new(rt.alloc());
-    for number in [0, 1, 2, 3, 4, 255] {
-        match Class::try_from(number) {
-            Ok(class) => write!(text, "{class} {} ", class as u8)?,
-            Err(e) => write!(text, "{e} ")?,
-        }
-    }
-    let names = "UNIVERSAL 0 APPLICATION 1 CONTEXT-SPECIFIC 2 PRIVATE 3 \
-        no class has this number no class has this number ";
-    assert_eq!(rt; text.as_str(), names);
-    Ok(())
-}
-
-#[test]
-fn classes_are_asserted(rt: HostRuntime) -> Result<(), Fail> {
+fn classes_have_numbers(rt: HostRuntime) -> Result<(), Fail> {
     let constants = [
         Class::UNIVERSAL,
         Class::APPLICATION,
         Class::CONTEXT_SPECIFIC,
         Class::PRIVATE,
     ];
-    let answers = (
-        constants,
-        Class::Private.assert_eq(Class::Private),
-        Class::Private.assert_eq(Class::Universal),
-    );
+    let numbers = [
+        Class::Universal as u8,
+        Class::Application as u8,
+        Class::ContextSpecific as u8,
+        Class::Private as u8,
+    ];
+    let classes = [
+        Class::try_from(0),
+        Class::try_from(1),
+        Class::try_from(2),
+        Class::try_from(3),
+        Class::try_from(4),
+        Class::try_from(255),
+    ];
     assert_shown(
-        &rt,
         rt.alloc(),
-        &answers,
-        "([0, 1, 2, 3], Ok(()), Err(UnexpectedClass { expected: Some(Universal), actual: Private }))",
+        &(constants, numbers, classes),
+        "([0, 1, 2, 3], [0, 1, 2, 3], [Ok(Universal), Ok(Application), Ok(ContextSpecific), Ok(Private), \
+        Err(BerClassFromIntError(())), Err(BerClassFromIntError(()))])",
     )
 }
 
 #[test]
-fn tags_have_names(rt: HostRuntime) -> Result<(), Fail> {
-    let mut text = String::new(rt.alloc());
-    for number in 0..32 {
-        write!(text, "{} ", Tag::from(number))?;
+fn classes_have_names(rt: HostRuntime) -> Result<(), Fail> {
+    let names = "UNIVERSAL\nAPPLICATION\nCONTEXT-SPECIFIC\nPRIVATE\n";
+    let classes = [
+        Class::Universal,
+        Class::Application,
+        Class::ContextSpecific,
+        Class::Private,
+    ];
+    assert_texts(rt.alloc(), &classes, names)?;
+    match Class::try_from(4) {
+        Ok(_) => Err(Fail::new("4 is the number of a class")),
+        Err(refusal) => assert_texts(rt.alloc(), &[refusal], "no class has this number\n"),
     }
-    // X.680 8.6, table 1.
-    let names =
-        "EndOfContent Boolean Integer BitString OctetString Null Oid ObjectDescriptor External RealType \
-        Enumerated EmbeddedPdv Utf8String RelativeOid Tag(14 / 0xe) Tag(15 / 0xf) Sequence Set NumericString \
-        PrintableString TeletexString VideotexString Ia5String UtcTime GeneralizedTime GraphicString VisibleString \
-        GeneralString UniversalString CharacterString BmpString Tag(31 / 0x1f) ";
-    assert_eq!(rt; text.as_str(), names);
-    Ok(())
 }
 
 /// X.680 8.6, table 1.
@@ -124,35 +111,29 @@ const TAGS: [Tag; 30] = [
     Tag::BmpString,
 ];
 
+const NUMBERS: &str = "\
+[Tag(0), Tag(1), Tag(2), Tag(3), Tag(4), Tag(5), Tag(6), Tag(7), Tag(8), Tag(9), Tag(10), Tag(11), Tag(12), \
+Tag(13), Tag(16), Tag(17), Tag(18), Tag(19), Tag(20), Tag(20), Tag(21), Tag(22), Tag(23), Tag(24), Tag(25), \
+Tag(26), Tag(27), Tag(28), Tag(29), Tag(30)]";
+
 #[test]
-fn tags_have_numbers(rt: HostRuntime) -> Result<(), Fail> {
-    assert_shown(
-        &rt,
-        rt.alloc(),
-        &TAGS.map(|tag| tag.0),
-        "[0, 1, 2, 3, 4, 5, 6, 7, 8, 9, 10, 11, 12, 13, \
-        16, 17, 18, 19, 20, 20, 21, 22, 23, 24, 25, 26, 27, 28, 29, 30]",
-    )
+fn tags_have_numbers_and_names(rt: HostRuntime) -> Result<(), Fail> {
+    assert_shown(rt.alloc(), &TAGS, NUMBERS)?;
+    let mut text = String::new(rt.alloc());
+    for number in 0..32 {
+        write!(text, "{} ", Tag::from(number))?;
+    }
+    // X.680 8.6, table 1.
+    let names =
+        "EndOfContent Boolean Integer BitString OctetString Null Oid ObjectDescriptor External RealType \
+        Enumerated EmbeddedPdv Utf8String RelativeOid Tag(14 / 0xe) Tag(15 / 0xf) Sequence Set NumericString \
+        PrintableString TeletexString VideotexString Ia5String UtcTime GeneralizedTime GraphicString VisibleString \
+        GeneralString UniversalString CharacterString BmpString Tag(31 / 0x1f) ";
+    assert_text("names", text.as_str(), names)
 }
 
 #[test]
-fn tags_are_asserted(rt: HostRuntime) -> Result<(), Fail> {
-    let answers = (
-        Tag::Set.assert_eq(Tag(17)),
-        Tag::Set.assert_eq(Tag::Sequence),
-        Tag(0).invalid_value("no"),
-    );
-    assert_shown(
-        &rt,
-        rt.alloc(),
-        &answers,
-        "(Ok(()), Err(UnexpectedTag { expected: Some(Tag(16)), actual: Tag(17) }), \
-        InvalidValue { tag: Tag(0), msg: \"no\" })",
-    )
-}
-
-#[test]
-fn lengths_are_added(rt: HostRuntime) -> Result<(), Fail> {
+fn lengths_are_added_and_tested(rt: HostRuntime) -> Result<(), Fail> {
     let two = Length::from(2);
     let open = Length::Indefinite;
     let (mut five, mut still_open) = (two, open);
@@ -160,37 +141,38 @@ fn lengths_are_added(rt: HostRuntime) -> Result<(), Fail> {
     still_open += 3;
     let definite = [two, two + two, two + 2, five];
     let indefinite = [two + open, open + two, open + 2, still_open];
+    let facts = [
+        two.is_definite(),
+        two.is_null(),
+        open.is_definite(),
+        open.is_null(),
+        Length::from(0).is_null(),
+    ];
     assert_shown(
-        &rt,
         rt.alloc(),
-        &(definite, indefinite),
+        &(definite, indefinite, facts),
         "([Definite(2), Definite(4), Definite(4), Definite(5)], \
-        [Indefinite, Indefinite, Indefinite, Indefinite])",
+        [Indefinite, Indefinite, Indefinite, Indefinite], [true, false, false, false, true])",
     )
 }
 
 #[test]
-fn lengths_are_asserted(rt: HostRuntime) -> Result<(), Fail> {
-    let two = Length::from(2);
-    let open = Length::Indefinite;
-    let of_two = (
-        two.definite(),
+fn classes_tags_and_lengths_are_asserted(rt: HostRuntime) -> Result<(), Fail> {
+    let (two, open) = (Length::from(2), Length::Indefinite);
+    let answers = [
+        Class::Private.assert_eq(Class::Private),
+        Class::Private.assert_eq(Class::Universal),
+        Tag::Set.assert_eq(Tag(17)),
+        Tag::Set.assert_eq(Tag::Sequence),
         two.assert_definite(),
-        two.is_definite(),
-        two.is_null(),
-    );
-    let of_open = (
-        open.definite(),
         open.assert_definite(),
-        open.is_definite(),
-        open.is_null(),
-    );
+    ];
     assert_shown(
-        &rt,
         rt.alloc(),
-        &(of_two, of_open, Length::from(0).is_null()),
-        "((Ok(2), Ok(()), true, false), \
-        (Err(IndefiniteLengthUnexpected), Err(IndefiniteLengthUnexpected), false, false), true)",
+        &(answers, two.definite(), open.definite()),
+        "([Ok(()), Err(UnexpectedClass { expected: Some(Universal), actual: Private }), \
+        Ok(()), Err(UnexpectedTag { expected: Some(Tag(16)), actual: Tag(17) }), \
+        Ok(()), Err(IndefiniteLengthUnexpected)], Ok(2), Err(IndefiniteLengthUnexpected))",
     )
 }
 
@@ -199,10 +181,9 @@ fn refusals_are_converted(rt: HostRuntime) -> Result<(), Fail> {
     let refusals: (Err<Refused>, Err<Refused>, Err<Refused>) = (
         Err::convert(Err::<u8>::Incomplete(Needed::Size(3))),
         Err::convert(Err::<u8>::Error(7)),
-        Err::Failure(8).map(Refused::from_number),
+        Err::Failure(8).map(Refused::from),
     );
     assert_shown(
-        &rt,
         rt.alloc(),
         &refusals,
         "(Incomplete(Size(3)), Error(ByNumber(7)), Failure(ByNumber(8)))",
@@ -218,7 +199,6 @@ fn refusals_are_flattened(rt: HostRuntime) -> Result<(), Fail> {
         Err::<u8>::Error(7).is_incomplete(),
     );
     assert_shown(
-        &rt,
         rt.alloc(),
         &errors,
         "(ByNumber(8), ByLibrary(Incomplete(Size(3))), true, false)",
@@ -236,7 +216,6 @@ fn errors_are_converted(rt: HostRuntime) -> Result<(), Fail> {
         (Needed::new(0), Needed::new(2)),
     );
     assert_shown(
-        &rt,
         rt.alloc(),
         &errors,
         "(Error(InvalidTag), InvalidTag, InvalidLength, Incomplete(Size(3)), OutOfMemory, (Unknown, Size(2)))",
@@ -259,30 +238,15 @@ fn errors_are_made(rt: HostRuntime) -> Result<(), Fail> {
         Error::unexpected_tag(None, Tag(4)),
         Error::unexpected_class(None, Class::Application),
         Error::invalid_value(Tag(0), CowStr::Borrowed("message")),
+        Tag(0).invalid_value("no"),
     );
     assert_shown(
-        &rt,
         rt.alloc(),
         &errors,
         "(UnexpectedTag { expected: None, actual: Tag(4) }, \
         UnexpectedClass { expected: None, actual: Application }, \
-        InvalidValue { tag: Tag(0), msg: \"message\" })",
+        InvalidValue { tag: Tag(0), msg: \"message\" }, InvalidValue { tag: Tag(0), msg: \"no\" })",
     )
-}
-
-/// Asserts the texts of values, a line for each.
-fn assert_texts<T: Display>(
-    rt: &impl Abort,
-    alloc: Global,
-    values: &[T],
-    expected: &str,
-) -> Result<(), Fail> {
-    let mut text = String::new(alloc);
-    for value in values {
-        writeln!(text, "{value}")?;
-    }
-    assert_eq!(rt; text.as_str(), expected);
-    Ok(())
 }
 
 const ERRORS: &str = "\
@@ -342,7 +306,7 @@ fn errors_have_texts(rt: HostRuntime) -> Result<(), Fail> {
         Error::Incomplete(Needed::Size(5)),
         Error::OutOfMemory,
     ];
-    assert_texts(&rt, rt.alloc(), &errors, ERRORS)
+    assert_texts(rt.alloc(), &errors, ERRORS)
 }
 
 const CONSTRAINTS: &str = "\
@@ -372,7 +336,7 @@ fn constraints_have_texts(rt: HostRuntime) -> Result<(), Fail> {
         DerConstraint::IntegerLeadingZeroes,
         DerConstraint::IntegerLeadingFF,
     ];
-    assert_texts(&rt, rt.alloc(), &constraints, CONSTRAINTS)
+    assert_texts(rt.alloc(), &constraints, CONSTRAINTS)
 }
 
 const REFUSALS: &str = "\
@@ -392,7 +356,7 @@ fn refusals_have_texts(rt: HostRuntime) -> Result<(), Fail> {
         Err::Error(Error::unexpected_tag(Some(Tag::Set), Tag::Sequence)),
         Err::Failure(Error::Unsupported),
     ];
-    assert_texts(&rt, rt.alloc(), &refusals, REFUSALS)
+    assert_texts(rt.alloc(), &refusals, REFUSALS)
 }
 
 const WRITING: &str = "\
@@ -412,5 +376,5 @@ fn refusals_of_writing_have_texts(rt: HostRuntime) -> Result<(), Fail> {
         SerializeError::from(io::Error::from(ErrorKind::BrokenPipe)),
         SerializeError::from(AllocError),
     ];
-    assert_texts(&rt, rt.alloc(), &refusals, WRITING)
+    assert_texts(rt.alloc(), &refusals, WRITING)
 }

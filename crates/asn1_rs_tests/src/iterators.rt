@@ -1,34 +1,30 @@
 //! Walks over the items in contents octets.
 
+use crate::calls::push_debug;
 use asn1_rs::{
-    Any, BerParser, DerConstraint, DerParser, Err, Error, FromBer, FromDer, Needed, ParseResult,
-    SequenceIterator, SetIterator,
+    Any, BerParser, DerParser, Err, Error, FromBer, FromDer, Needed, ParseResult, ReadsItems,
+    SequenceIterator,
 };
 use std::alloc::Global;
+use std::fmt::Debug;
 use std::test::Fail;
+use test_rows::{Calls, assert_rows};
 
-/// An item of no octets: its reader gives back what it got.
-#[derive(Debug, Drop, PartialEq, Eq)]
+/// An item of no octets: its reader gives back what it got, or, where that begins with 05, more than it got.
+#[derive(Debug, Drop)]
 struct OfNoOctets;
 
 impl<'a> FromBer<'a, Error> for OfNoOctets {
     fn from_ber(_alloc: Global, octets: &'a [u8]) -> ParseResult<'a, OfNoOctets, Error> {
-        Ok((octets, OfNoOctets))
-    }
-}
-
-/// An item whose reader gives back more than it got.
-#[derive(Debug, Drop, PartialEq, Eq)]
-struct OfLessThanNone;
-
-impl<'a> FromBer<'a, Error> for OfLessThanNone {
-    fn from_ber(_alloc: Global, _octets: &'a [u8]) -> ParseResult<'a, OfLessThanNone, Error> {
-        Ok((&[1, 2, 3, 4], OfLessThanNone))
+        match octets {
+            [5, ..] => Ok((&[1, 2, 3, 4], OfNoOctets)),
+            _ => Ok((octets, OfNoOctets)),
+        }
     }
 }
 
 /// An item of one octet, which may not be 0: then no other reading may be tried.
-#[derive(Debug, Drop, PartialEq, Eq)]
+#[derive(Debug, Drop)]
 struct NotZero(u8);
 
 impl<'a> FromDer<'a, Error> for NotZero {
@@ -41,87 +37,73 @@ impl<'a> FromDer<'a, Error> for NotZero {
     }
 }
 
-/// The tag number and the contents octets of an element, if one comes.
-fn parts_of<'a>(item: Option<Result<Any<'a>, Error>>) -> Option<(u32, &'a [u8])> {
-    let any = item?.ok()?;
-    Some((any.tag().0, any.as_bytes()))
-}
-
-#[test]
-fn elements_are_walked(rt: HostRuntime) {
-    let octets = [0x30, 0x80, 0x00, 0x00, 0x04, 0x00];
-    let mut items = SequenceIterator::<Any<'_>, BerParser, Error>::new(rt.alloc(), &octets);
-    let none: &[u8] = &[];
-    assert_eq!(rt; parts_of(items.next()), Some((16, none)));
-    assert_eq!(rt; parts_of(items.next()), Some((4, none)));
-    assert!(rt; items.next().is_none());
-    assert!(rt; items.next().is_none());
-}
-
-#[test]
-fn elements_are_walked_by_der(rt: HostRuntime) {
-    let octets = [0x30, 0x00, 0x04, 0x00, 0x30, 0x80];
-    let mut items = SequenceIterator::<Any<'_>, DerParser, Error>::new(rt.alloc(), &octets);
-    let none: &[u8] = &[];
-    assert_eq!(rt; parts_of(items.next()), Some((16, none)));
-    assert_eq!(rt; parts_of(items.next()), Some((4, none)));
-    let refusal = items.next().and_then(Result::err);
-    assert_eq!(rt;
-        refusal,
-        Some(Error::DerConstraintFailed(DerConstraint::IndefiniteLength))
-    );
-    assert!(rt; items.next().is_none());
-}
-
-#[test]
-fn failure_of_a_callers_own_ends_a_walk(rt: HostRuntime) {
-    let mut items = SequenceIterator::<NotZero, DerParser, Error>::new(rt.alloc(), &[5, 0, 6]);
-    assert_eq!(rt; items.next(), Some(Ok(NotZero(5))));
-    assert_eq!(rt; items.next(), Some(Err(Error::Unsupported)));
-    assert_eq!(rt; items.next(), None);
-}
-
-/// The numbers in contents octets by DER.
-fn numbers_in(alloc: Global, content: &[u8]) -> Result<Vec<u32>, Error> {
-    let mut numbers = Vec::new(alloc);
-    for item in SetIterator::<u32, DerParser, Error>::new(alloc, content) {
-        numbers.push(item?)?;
+/// Appends what the first four calls of a walk answer: items, refusals and ends.
+fn push_walk<'a, T: Debug + Drop, F: ReadsItems<'a, T, Error>>(
+    text: &mut String,
+    alloc: Global,
+    octets: &'a [u8],
+) -> Result<(), Fail> {
+    let mut items = SequenceIterator::<T, F, Error>::new(alloc, octets);
+    for place in 0..4 {
+        if place > 0 {
+            text.push_str(", ")?;
+        }
+        match items.next() {
+            Some(Ok(item)) => push_debug(text, &item)?,
+            Some(Err(refusal)) => push_debug(text, &refusal)?,
+            None => text.push_str("end")?,
+        }
     }
-    Ok(numbers)
-}
-
-#[test]
-fn numbers_are_walked(rt: HostRuntime) -> Result<(), Fail> {
-    let octets = [0x02, 0x03, 0x01, 0x00, 0x01, 0x02, 0x03, 0x01, 0x00];
-    let mut by_ber = SequenceIterator::<u32, BerParser, Error>::new(rt.alloc(), &octets);
-    assert_eq!(rt; by_ber.next(), Some(Ok(65537)));
-    assert_eq!(rt;
-        by_ber.next(),
-        Some(Err(Error::Incomplete(Needed::Size(1))))
-    );
-    assert_eq!(rt; by_ber.next(), None);
-    let numbers = numbers_in(rt.alloc(), &[0x02, 0x01, 0x05, 0x02, 0x02, 0x01, 0x00])?;
-    assert_eq!(rt; numbers.as_slice(), [5, 256].as_slice());
-    assert_eq!(rt;
-        numbers_in(rt.alloc(), &octets).err(),
-        Some(Error::Incomplete(Needed::Size(1)))
-    );
     Ok(())
 }
 
+/// Walks, by the types of their items and by their rules.
+struct Walks;
+
+impl Calls for Walks {
+    fn answer(text: &mut String, alloc: Global, name: &str, octets: &[u8]) -> Result<(), Fail> {
+        match name {
+            "Any, BerParser" => push_walk::<Any<'_>, BerParser>(text, alloc, octets),
+            "Any, DerParser" => push_walk::<Any<'_>, DerParser>(text, alloc, octets),
+            "NotZero, DerParser" => push_walk::<NotZero, DerParser>(text, alloc, octets),
+            "u32, BerParser" => push_walk::<u32, BerParser>(text, alloc, octets),
+            "u32, DerParser" => push_walk::<u32, DerParser>(text, alloc, octets),
+            "OfNoOctets, BerParser" => push_walk::<OfNoOctets, BerParser>(text, alloc, octets),
+            _ => Ok(text.push_str("no such walk")?),
+        }
+    }
+}
+
+/// The contents octets, and what the first four calls answer.
+const WALKS: &str = "\
+Any, BerParser:
+308000000400 = Any { header: Header { class: Universal, constructed: true, tag: Tag(16), length: Indefinite, \
+raw_tag: Some([48]) }, content: [] }, \
+Any { header: Header { class: Universal, constructed: false, tag: Tag(4), length: Definite(0), \
+raw_tag: Some([4]) }, content: [] }, end, end
+
+Any, DerParser:
+300004003080 = Any { header: Header { class: Universal, constructed: true, tag: Tag(16), length: Definite(0), \
+raw_tag: Some([48]) }, content: [] }, \
+Any { header: Header { class: Universal, constructed: false, tag: Tag(4), length: Definite(0), \
+raw_tag: Some([4]) }, content: [] }, DerConstraintFailed(IndefiniteLength), end
+
+NotZero, DerParser:
+050006 = NotZero(5), Unsupported, end, end
+
+u32, BerParser:
+020301000102030100 = 65537, Incomplete(Size(1)), end, end
+
+u32, DerParser:
+02010502020100 = 5, 256, end, end
+020301000102030100 = 65537, Incomplete(Size(1)), end, end
+
+OfNoOctets, BerParser:
+0400 = InvalidLength, end, end, end
+0500 = InvalidLength, end, end, end
+";
+
 #[test]
-fn items_of_no_octets_end_a_walk(rt: HostRuntime) -> Result<(), Fail> {
-    let mut items = SequenceIterator::<OfNoOctets, BerParser, Error>::new(
-        rt.alloc(),
-        &[0x04, 0x00],
-    );
-    assert_eq!(rt; items.next(), Some(Err(Error::InvalidLength)));
-    assert_eq!(rt; items.next(), None);
-    let mut items = SequenceIterator::<OfLessThanNone, BerParser, Error>::new(
-        rt.alloc(),
-        &[0x04, 0x00],
-    );
-    assert_eq!(rt; items.next(), Some(Err(Error::InvalidLength)));
-    assert_eq!(rt; items.next(), None);
-    Ok(())
+fn items_are_walked(rt: HostRuntime) -> Result<(), Fail> {
+    assert_rows::<Walks>(rt.alloc(), WALKS)
 }

@@ -10,11 +10,11 @@ use asn1_rs::{
 
 #[test]
 fn laws_of_each_type_are_called() {
-    reader_is_exact_by_ber::<Vec<i16>, Error>();
-    reader_is_exact_by_der::<Vec<i16>, Error>();
-    words_and_values_are_unique::<Vec<i16>>();
-    counts_are_of_the_strict_encoding::<Vec<i16>>();
-    strict_fronts_are_written_again::<Vec<i16>>();
+    reader_is_exact_by_ber::<i16, Error>();
+    reader_is_exact_by_der::<i16, Error>();
+    words_and_values_are_unique::<i16>();
+    counts_are_of_the_strict_encoding::<i16>();
+    strict_fronts_are_written_again::<i16>();
     walks_end::<Any<'_>, BerParser, Error>();
     walks_take_words::<Any<'_>, DerParser, Error>();
 }

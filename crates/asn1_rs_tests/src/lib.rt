@@ -1,9 +1,6 @@
-//! Tests of the reader and the writer: worked values from X.690 and from other encoders, the texts of errors, and
-//! writers and readers that fail.
+//! Tests of the library: worked values from X.690 and from other encoders, the texts of errors, and writers that fail.
 #![tactic(auto)]
 
-#[cfg(test)]
-mod ber_lines;
 #[cfg(test)]
 mod by_hand;
 #[cfg(test)]
@@ -23,12 +20,10 @@ mod iterators;
 #[cfg(test)]
 mod laws;
 #[cfg(test)]
-mod lines;
+mod leaves;
 #[cfg(test)]
 mod numbers;
 #[cfg(test)]
 mod reading;
-#[cfg(test)]
-mod rows;
 #[cfg(test)]
 mod writers;

@@ -1,97 +1,9 @@
-//! Integers of one to sixteen octets: how they are read and written.
+//! Integers of one to sixteen octets, by calls.
 
-use crate::lines::assert_lines;
-use crate::rows::assert_rows;
-use asn1_rs::{Error, Tag, Tagged, ToDer, Told, read_ber, read_der, write_strict};
+use crate::calls::Library;
+use asn1_rs::{Tagged, ToDer, Told, write_strict};
 use std::test::Fail;
-
-/// Lines of the program and their answers.
-const NUMBERS: &str = "\
-der u8 020100 = ok 0 rest - enc 020100
-der u8 02017f = ok 127 rest - enc 02017f
-der u8 02020080 = ok 128 rest - enc 02020080
-der u8 020200ff = ok 255 rest - enc 020200ff
-der u16 020100 = ok 0 rest - enc 020100
-der u16 02017f = ok 127 rest - enc 02017f
-der u16 020200ff = ok 255 rest - enc 020200ff
-der u16 02020100 = ok 256 rest - enc 02020100
-der u16 02027fff = ok 32767 rest - enc 02027fff
-der u16 0203008000 = ok 32768 rest - enc 0203008000
-der u16 020300ffff = ok 65535 rest - enc 020300ffff
-der u32 0203010001 = ok 65537 rest - enc 0203010001
-der u32 020500ffffffff = ok 4294967295 rest - enc 020500ffffffff
-der u64 020100 = ok 0 rest - enc 020100
-der u64 020801+7*00 = ok 72057594037927936 rest - enc 020801+7*00
-der u64 020900+8*ff = ok 18446744073709551615 rest - enc 020900+8*ff
-der u8 020102ffff = ok 2 rest ffff enc 020102
-der u8 820105 = ok 5 rest - enc 020105
-";
-
-// X.690 8.3: two's complement.
-const SIGNED: &str = "\
-der i8 020100 = ok 0 rest - enc 020100
-der i8 02017f = ok 127 rest - enc 02017f
-der i8 020180 = ok -128 rest - enc 020180
-der i8 0201ff = ok -1 rest - enc 0201ff
-der i8 0201fc = ok -4 rest - enc 0201fc
-ber i8 0202ff80 = ok -128 rest - enc 020180
-ber i8 0200 = ok 0 rest - enc 020100
-der i16 020100 = ok 0 rest - enc 020100
-der i16 02017f = ok 127 rest - enc 02017f
-der i16 02020080 = ok 128 rest - enc 02020080
-der i16 020200ff = ok 255 rest - enc 020200ff
-der i16 02020100 = ok 256 rest - enc 02020100
-der i16 02027fff = ok 32767 rest - enc 02027fff
-der i16 020180 = ok -128 rest - enc 020180
-der i16 0202ff7f = ok -129 rest - enc 0202ff7f
-der i16 02028000 = ok -32768 rest - enc 02028000
-der i32 020480000000 = ok -2147483648 rest - enc 020480000000
-der i64 020880+7*00 = ok -9223372036854775808 rest - enc 020880+7*00
-der i64 02087f+7*ff = ok 9223372036854775807 rest - enc 02087f+7*ff
-der i128 021080+15*00 = ok -170141183460469231731687303715884105728 rest - enc 021080+15*00
-der i128 02107f+15*ff = ok 170141183460469231731687303715884105727 rest - enc 02107f+15*ff
-der u128 021100+16*ff = ok 340282366920938463463374607431768211455 rest - enc 021100+16*ff
-";
-
-const SIGNED_REFUSED: &str = "\
-der i8 0202ff80 = err DerConstraintFailed(IntegerLeadingFF)
-der i8 02020000 = err DerConstraintFailed(IntegerLeadingZeroes)
-der i16 02020000 = err DerConstraintFailed(IntegerLeadingZeroes)
-der i8 02020080 = err IntegerTooLarge
-der i8 0202ff7f = err IntegerTooLarge
-ber i8 020300ffff = err IntegerTooLarge
-der i16 020300ffff = err IntegerTooLarge
-der i16 0203ff7fff = err IntegerTooLarge
-der i128 021100+16*ff = err IntegerTooLarge
-der u128 021101+16*00 = err IntegerTooLarge
-der u128 0201ff = err IntegerNegative
-der i32 040101 = err UnexpectedTag
-ber i32 220101 = err ConstructUnexpected
-der i64 0200 = err DerConstraintFailed(IntegerEmpty)
-";
-
-// Of two faults the constraint is told. The class is not looked at.
-const REFUSED: &str = "\
-der u8 0202 = err Incomplete(2)
-der u8 3080 = err DerConstraintFailed(IndefiniteLength)
-der u8 0200 = err DerConstraintFailed(IntegerEmpty)
-der u8 02020000 = err DerConstraintFailed(IntegerLeadingZeroes)
-der u16 02020000 = err DerConstraintFailed(IntegerLeadingZeroes)
-der u8 0202007f = err DerConstraintFailed(IntegerLeadingZeroes)
-der u8 0202ff80 = err DerConstraintFailed(IntegerLeadingFF)
-der u8 220105 = err ConstructUnexpected
-der u8 240105 = err ConstructUnexpected
-der u8 0400 = err DerConstraintFailed(IntegerEmpty)
-der u8 040105 = err UnexpectedTag
-der u8 020180 = err IntegerNegative
-der u16 0203800000 = err IntegerNegative
-der u8 02020100 = err IntegerTooLarge
-der u8 020300ffff = err IntegerTooLarge
-der u16 0203010000 = err IntegerTooLarge
-der u32 02050100000000 = err IntegerTooLarge
-der u64 020901+8*00 = err IntegerTooLarge
-der u64 020300ffff = ok 65535 rest - enc 020300ffff
-";
+use test_rows::{assert_rows, assert_shown};
 
 /// Calls and their answers.
 const BY_CALLS: &str = "\
@@ -116,49 +28,29 @@ u8::from_ber:
 
 u64::from_ber:
 0203010001 = 65537 rest -
+
+read_der::<u64>:
+020105 = 5 rest -
+
+read_ber::<u64>:
+020105 = 5 rest -
 ";
 
 #[test]
-fn numbers_are_read_and_written(rt: HostRuntime) -> Result<(), Fail> {
-    assert_lines(&rt, rt.alloc(), NUMBERS)
-}
-
-#[test]
-fn integers_are_read_and_written(rt: HostRuntime) -> Result<(), Fail> {
-    assert_lines(&rt, rt.alloc(), SIGNED)
-}
-
-#[test]
-fn integers_are_refused(rt: HostRuntime) -> Result<(), Fail> {
-    assert_lines(&rt, rt.alloc(), SIGNED_REFUSED)
-}
-
-#[test]
-fn numbers_are_refused(rt: HostRuntime) -> Result<(), Fail> {
-    assert_lines(&rt, rt.alloc(), REFUSED)
-}
-
-#[test]
 fn numbers_are_read_by_calls(rt: HostRuntime) -> Result<(), Fail> {
-    assert_rows(&rt, rt.alloc(), BY_CALLS)
+    assert_rows::<Library>(rt.alloc(), BY_CALLS)
 }
 
 #[test]
-fn number_is_read_and_written_by_each_call(rt: HostRuntime) -> Result<(), Fail> {
-    let octets = [0x02, 0x01, 0x05];
-    let (_, number) = read_der::<u64, Error>(rt.alloc(), &octets)?;
-    let (_, same) = read_ber::<u64, Error>(rt.alloc(), &octets)?;
-    assert_eq!(rt; number, same);
-    let mut writer = Told::new(Vec::new(rt.alloc()));
-    let header = number.write_der_header(rt.alloc(), &mut writer)?;
-    let content = number.write_der_content(rt.alloc(), &mut writer)?;
-    // By reference too.
-    let whole = write_strict(&&number, rt.alloc(), &mut writer)?;
-    assert_eq!(rt; [header, content, whole], [2, 1, 3]);
-    assert_eq!(rt;
-        writer.into_inner().as_slice(),
-        [2, 1, 5, 2, 1, 5].as_slice()
-    );
-    assert_eq!(rt; <&u64 as Tagged>::TAG, Tag(2));
-    Ok(())
+fn number_is_written_by_each_call(rt: HostRuntime) -> Result<(), Fail> {
+    let mut w = Told::new(Vec::new(rt.alloc()));
+    let counts = [
+        5u64.write_der_header(rt.alloc(), &mut w).ok(),
+        5u64.write_der_content(rt.alloc(), &mut w).ok(),
+        // By reference too.
+        write_strict(&&5u64, rt.alloc(), &mut w).ok(),
+    ];
+    let parts = (counts, w.as_inner().as_slice(), <&u64 as Tagged>::TAG);
+    let expected = "([Some(2), Some(1), Some(3)], [2, 1, 5, 2, 1, 5], Tag(2))";
+    assert_shown(rt.alloc(), &parts, expected)
 }

@@ -1,7 +1,8 @@
 //! Headers, elements and contents octets that are read.
 
-use crate::rows::assert_rows;
+use crate::calls::Library;
 use std::test::Fail;
+use test_rows::{assert_rows, octets_of};
 
 // X.690 8.1.2, 8.1.3.
 const HEADERS: &str = "\
@@ -186,35 +187,26 @@ Any::parse_ber:
 
 #[test]
 fn headers_are_read(rt: HostRuntime) -> Result<(), Fail> {
-    assert_rows(&rt, rt.alloc(), HEADERS)
-}
-
-#[test]
-fn headers_are_refused(rt: HostRuntime) -> Result<(), Fail> {
-    assert_rows(&rt, rt.alloc(), REFUSED_HEADERS)
+    assert_rows::<Library>(rt.alloc(), HEADERS)?;
+    assert_rows::<Library>(rt.alloc(), REFUSED_HEADERS)
 }
 
 #[test]
 fn elements_are_read(rt: HostRuntime) -> Result<(), Fail> {
-    assert_rows(&rt, rt.alloc(), ELEMENTS)
+    assert_rows::<Library>(rt.alloc(), ELEMENTS)?;
+    assert_rows::<Library>(rt.alloc(), ELEMENTS_BY_BER)?;
+    assert_rows::<Library>(rt.alloc(), COUNTED)
 }
 
 #[test]
-fn elements_are_read_by_ber(rt: HostRuntime) -> Result<(), Fail> {
-    assert_rows(&rt, rt.alloc(), ELEMENTS_BY_BER)
+fn contents_octets_are_read_and_handed_on(rt: HostRuntime) -> Result<(), Fail> {
+    assert_rows::<Library>(rt.alloc(), CONTENTS)?;
+    assert_rows::<Library>(rt.alloc(), HANDED_ON)
 }
 
 #[test]
-fn headers_that_are_read_are_counted(rt: HostRuntime) -> Result<(), Fail> {
-    assert_rows(&rt, rt.alloc(), COUNTED)
-}
-
-#[test]
-fn contents_octets_are_read(rt: HostRuntime) -> Result<(), Fail> {
-    assert_rows(&rt, rt.alloc(), CONTENTS)
-}
-
-#[test]
-fn contents_octets_are_handed_on(rt: HostRuntime) -> Result<(), Fail> {
-    assert_rows(&rt, rt.alloc(), HANDED_ON)
+fn wrong_digits_are_no_octets(rt: HostRuntime) {
+    for digits in ["3000f", "4Z00", "02!5", "0"] {
+        assert!(rt; octets_of(rt.alloc(), digits).is_err(), "{digits}");
+    }
 }

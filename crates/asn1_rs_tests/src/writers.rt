@@ -1,13 +1,12 @@
 //! How values are written, and writers that take little at a time or fail.
 
-use crate::calls::push_written;
-use crate::devices::{CallersOwn, Narrow, Recorder, assert_cut, assert_failed, io_kind};
-use crate::rows::{assert_rows, assert_shown};
+use crate::calls::{Library, push_written};
+use crate::devices::{CallersOwn, Recorder, assert_cut, assert_failed, io_kind};
 use asn1_rs::{Any, Class, DerWrite, Header, Length, Tag, ToDer, Told, put_all};
 use std::alloc::Global;
 use std::io::ErrorKind;
-use std::process::Abort;
 use std::test::Fail;
+use test_rows::{Narrow, assert_rows, assert_shown, assert_text};
 
 /// Headers and elements that are read by BER, and how they are written: by DER, their counts, and in the raw form.
 /// That of a header has the identifier octets that were read, that of an element the length that was read.
@@ -28,21 +27,15 @@ Any::write_der:
 ";
 
 /// Asserts how a value is written, as [`push_written`] shows it.
-fn assert_written<T: ToDer>(
-    rt: &impl Abort,
-    alloc: Global,
-    value: &T,
-    expected: &str,
-) -> Result<(), Fail> {
+fn assert_written<T: ToDer>(alloc: Global, value: &T, expected: &str) -> Result<(), Fail> {
     let mut text = String::new(alloc);
     push_written(&mut text, alloc, value)?;
-    assert_eq!(rt; text.as_str(), expected);
-    Ok(())
+    assert_text("a value is written", text.as_str(), expected)
 }
 
 #[test]
 fn what_was_read_is_written_again(rt: HostRuntime) -> Result<(), Fail> {
-    assert_rows(&rt, rt.alloc(), WRITTEN_AGAIN)
+    assert_rows::<Library>(rt.alloc(), WRITTEN_AGAIN)
 }
 
 #[test]
@@ -73,7 +66,7 @@ fn identifier_octets_are_written(rt: HostRuntime) -> Result<(), Fail> {
         ),
     ];
     for (class, constructed, tag, expected) in table {
-        assert_written(&rt, rt.alloc(), &(class, constructed, Tag(tag)), expected)?;
+        assert_written(rt.alloc(), &(class, constructed, Tag(tag)), expected)?;
     }
     Ok(())
 }
@@ -99,7 +92,7 @@ fn length_octets_are_written(rt: HostRuntime) -> Result<(), Fail> {
         ),
     ];
     for (length, expected) in table {
-        assert_written(&rt, rt.alloc(), &length, expected)?;
+        assert_written(rt.alloc(), &length, expected)?;
     }
     Ok(())
 }
@@ -147,64 +140,87 @@ const HEADERS_BY_HAND: [(Class, bool, u32, Length, &str); 5] = [
 fn headers_by_hand_are_written(rt: HostRuntime) -> Result<(), Fail> {
     for (class, constructed, tag, length, expected) in HEADERS_BY_HAND {
         let header = Header::new(class, constructed, Tag(tag), length);
-        assert_written(&rt, rt.alloc(), &header, expected)?;
+        assert_written(rt.alloc(), &header, expected)?;
     }
     Ok(())
 }
 
+/// Asserts how an integer is written whose header has this length.
+fn assert_integer_written(
+    alloc: Global,
+    length: Length,
+    content: &[u8],
+    expected: &str,
+) -> Result<(), Fail> {
+    let header = Header::new_simple(Tag::Integer).with_length(length);
+    assert_written(alloc, &Any::new(header, content), expected)
+}
+
 #[test]
-fn elements_by_hand_are_written(rt: HostRuntime) -> Result<(), Fail> {
-    let large = Any::from_tag_and_data(Tag(0x4142_4344), &[0x02, 0x01, 0x01]);
-    let expected = "1f848a89864403020101 count 10 3 raw 1f848a89864403020101";
-    assert_written(&rt, rt.alloc(), &large, expected)?;
-    let header = Header::new_simple(Tag::Integer);
-    let expected = "020102 count 3 1 raw 020002";
-    assert_written(&rt, rt.alloc(), &Any::new(header, &[0x02]), expected)?;
+fn integers_by_hand_are_written(rt: HostRuntime) -> Result<(), Fail> {
+    let (none, most) = (Length::Definite(0), Length::Definite(usize::MAX));
+    assert_integer_written(rt.alloc(), none, &[0x02], "020102 count 3 1 raw 020002")?;
     // The raw form has the length of the header.
-    let header = Header::new_simple(Tag::Integer).with_length(Length::Definite(3));
-    let expected = "020102 count 3 1 raw 020302";
-    assert_written(&rt, rt.alloc(), &Any::new(header, &[0x02]), expected)?;
-    let header = Header::new_simple(Tag::Integer).with_length(Length::Definite(usize::MAX));
-    let expected = "0200 count 2 0 raw 0288ffffffffffffffff";
-    assert_written(&rt, rt.alloc(), &Any::new(header, &[]), expected)
+    let three = Length::Definite(3);
+    assert_integer_written(rt.alloc(), three, &[0x02], "020102 count 3 1 raw 020302")?;
+    assert_integer_written(
+        rt.alloc(),
+        most,
+        &[],
+        "0200 count 2 0 raw 0288ffffffffffffffff",
+    )
+}
+
+/// An element whose identifier octets are six.
+fn large_element() -> Any<'static> {
+    Any::from_tag_and_data(Tag(0x4142_4344), &[0x02, 0x01, 0x01])
+}
+
+#[test]
+fn element_by_hand_is_written(rt: HostRuntime) -> Result<(), Fail> {
+    let expected = "1f848a89864403020101 count 10 3 raw 1f848a89864403020101";
+    assert_written(rt.alloc(), &large_element(), expected)
 }
 
 #[test]
 fn numbers_are_written(rt: HostRuntime) -> Result<(), Fail> {
-    assert_written(&rt, rt.alloc(), &255u8, "020200ff count 4 2 raw 020200ff")?;
-    assert_written(&rt, rt.alloc(), &256u16, "02020100 count 4 2 raw 02020100")?;
-    assert_written(
-        &rt,
-        rt.alloc(),
-        &65537u32,
-        "0203010001 count 5 3 raw 0203010001",
-    )?;
-    assert_written(&rt, rt.alloc(), &127u64, "02017f count 3 1 raw 02017f")
+    assert_written(rt.alloc(), &255u8, "020200ff count 4 2 raw 020200ff")?;
+    assert_written(rt.alloc(), &256u16, "02020100 count 4 2 raw 02020100")?;
+    assert_written(rt.alloc(), &65537u32, "0203010001 count 5 3 raw 0203010001")?;
+    assert_written(rt.alloc(), &127u64, "02017f count 3 1 raw 02017f")
 }
 
 #[test]
-fn writers_are_cut(rt: HostRuntime) {
+fn writers_of_an_element_are_cut(rt: HostRuntime) -> Result<(), Fail> {
     let element = [0x1f, 0x84, 0x8a, 0x89, 0x86, 0x44, 0x03, 0x02, 0x01, 0x01];
-    let large = Any::from_tag_and_data(Tag(0x4142_4344), &[0x02, 0x01, 0x01]);
-    assert_cut(&rt, rt.alloc(), &large, &element);
-    assert_cut(&rt, rt.alloc(), &large.header, &element[..7]);
-    assert_cut(&rt, rt.alloc(), &65537u32, &[0x02, 0x03, 0x01, 0x00, 0x01]);
-    assert_cut(&rt, rt.alloc(), &Length::Definite(201), &[0x81, 0xc9]);
+    assert_cut(rt.alloc(), &large_element(), &element)
 }
 
 #[test]
-fn writers_that_failed_are_marked(rt: HostRuntime) {
-    // How a full writer ends, and the kind that the refusal tells of.
-    let table = [
-        (Some(ErrorKind::BrokenPipe), ErrorKind::BrokenPipe),
-        (Some(ErrorKind::Interrupted), ErrorKind::Interrupted),
-        (None, ErrorKind::WriteZero),
-    ];
-    for (end, kind) in table {
-        let mut w = Told::new(Narrow::new(rt.alloc(), 3, end));
-        let refusal = 65537u32.write_der(rt.alloc(), &mut w).err();
-        assert_failed(&rt, refusal, kind, &w, &[0x02, 0x03, 0x01]);
-    }
+fn writers_of_a_header_are_cut(rt: HostRuntime) -> Result<(), Fail> {
+    let header = [0x1f, 0x84, 0x8a, 0x89, 0x86, 0x44, 0x03];
+    assert_cut(rt.alloc(), &large_element().header, &header)
+}
+
+#[test]
+fn writers_of_numbers_and_lengths_are_cut(rt: HostRuntime) -> Result<(), Fail> {
+    assert_cut(rt.alloc(), &65537u32, &[0x02, 0x03, 0x01, 0x00, 0x01])?;
+    assert_cut(rt.alloc(), &Length::Definite(201), &[0x81, 0xc9])
+}
+
+/// Asserts that a writer that has room for three octets, and then ends so, is marked by a failure of this kind.
+fn assert_marked(alloc: Global, end: Option<ErrorKind>, kind: ErrorKind) -> Result<(), Fail> {
+    let mut w = Told::new(Narrow::new(alloc, 3, end));
+    let refusal = 65537u32.write_der(alloc, &mut w).err();
+    assert_failed(refusal, kind, &w, &[0x02, 0x03, 0x01])
+}
+
+#[test]
+fn writers_that_failed_are_marked(rt: HostRuntime) -> Result<(), Fail> {
+    let (broken, interrupted) = (ErrorKind::BrokenPipe, ErrorKind::Interrupted);
+    assert_marked(rt.alloc(), Some(broken), broken)?;
+    assert_marked(rt.alloc(), Some(interrupted), interrupted)?;
+    assert_marked(rt.alloc(), None, ErrorKind::WriteZero)
 }
 
 #[test]
@@ -219,57 +235,50 @@ fn marked_writer_takes_nothing(rt: HostRuntime) -> Result<(), Fail> {
         w.is_failed(),
     );
     assert_shown(
-        &rt,
         rt.alloc(),
         &(before, first, second, after),
         "((true, false), Some(WriteZero), Some(WriteZero), (true, false, true))",
     )
 }
 
+/// Asserts of a writer that answers so, and of a piece: how many octets were written, which failure came, whether the
+/// writer is marked, and how many octets each call handed on.
+fn assert_asked(
+    alloc: Global,
+    answers: &[Result<usize, ErrorKind>],
+    piece: &[u8],
+    shown: &str,
+) -> Result<(), Fail> {
+    let mut w = Told::new(Recorder::new(alloc, answers));
+    let (count, kind) = match put_all(&mut w, piece) {
+        Ok(n) => (Some(n), None),
+        Err(e) => (None, io_kind(Some(e))),
+    };
+    let row = (count, kind, w.is_failed(), w.as_inner().handed());
+    assert_shown(alloc, &row, shown)
+}
+
 #[test]
 fn told_writer_is_asked_once_a_call(rt: HostRuntime) -> Result<(), Fail> {
-    // What the writer answers, the piece, and: how many octets were written, which failure came, whether the writer is
-    // marked, and how many octets each call handed on.
+    let (alloc, four) = (rt.alloc(), [1, 2, 3, 4]);
     let interrupted = Err(ErrorKind::Interrupted);
-    let rows: [(&[Result<usize, ErrorKind>], &[u8], &str); 7] = [
-        (&[], &[1, 2, 3, 4], "(Some(4), None, false, [4])"),
-        (
-            &[Ok(1), Ok(2)],
-            &[1, 2, 3, 4],
-            "(Some(4), None, false, [4, 3, 1])",
-        ),
-        (
-            &[interrupted],
-            &[1, 2, 3, 4],
-            "(None, Some(Interrupted), true, [4])",
-        ),
-        (
-            &[Ok(1), interrupted],
-            &[1, 2, 3, 4],
-            "(None, Some(Interrupted), true, [4, 3])",
-        ),
-        (
-            &[Ok(3), Ok(0)],
-            &[1, 2, 3, 4],
-            "(None, Some(WriteZero), true, [4, 1])",
-        ),
-        (&[interrupted], &[], "(Some(0), None, false, [])"),
-        (
-            &[Err(ErrorKind::BrokenPipe)],
-            &[1],
-            "(None, Some(BrokenPipe), true, [1])",
-        ),
-    ];
-    for (answers, piece, shown) in rows {
-        let mut w = Told::new(Recorder::new(rt.alloc(), answers));
-        let (count, kind) = match put_all(&mut w, piece) {
-            Ok(n) => (Some(n), None),
-            Err(e) => (None, io_kind(Some(e))),
-        };
-        let row = (count, kind, w.is_failed(), w.as_inner().handed());
-        assert_shown(&rt, rt.alloc(), &row, shown)?;
-    }
-    Ok(())
+    assert_asked(alloc, &[], &four, "(Some(4), None, false, [4])")?;
+    let some = [Ok(1), Ok(2)];
+    assert_asked(alloc, &some, &four, "(Some(4), None, false, [4, 3, 1])")?;
+    let none = [Ok(3), Ok(0)];
+    assert_asked(alloc, &none, &four, "(None, Some(WriteZero), true, [4, 1])")?;
+    let first = [interrupted];
+    assert_asked(alloc, &first, &four, "(None, Some(Interrupted), true, [4])")?;
+    assert_asked(alloc, &first, &[], "(Some(0), None, false, [])")?;
+    let second = [Ok(1), interrupted];
+    assert_asked(
+        alloc,
+        &second,
+        &four,
+        "(None, Some(Interrupted), true, [4, 3])",
+    )?;
+    let broken = [Err(ErrorKind::BrokenPipe)];
+    assert_asked(alloc, &broken, &[1], "(None, Some(BrokenPipe), true, [1])")
 }
 
 #[test]
@@ -281,7 +290,6 @@ fn call_of_a_told_writer_answers_its_writer(rt: HostRuntime) -> Result<(), Fail>
     let none_taken = (w.put(&[1, 2, 3]).ok(), w.is_failed());
     let marked = w.put(&[1, 2]).err().map(|e| e.kind());
     assert_shown(
-        &rt,
         rt.alloc(),
         &(first, none_taken, marked, w.as_inner().handed()),
         "(Some(1), (Some(0), true), Some(WriteZero), [2, 3])",
@@ -296,7 +304,6 @@ fn writer_of_a_callers_own_is_filled(rt: HostRuntime) -> Result<(), Fail> {
         .ok();
     let kind = io_kind(put_all(&mut w, &[0x05, 0x06, 0x07]).err());
     assert_shown(
-        &rt,
         rt.alloc(),
         &(count, kind, w.held(), w.is_failed()),
         "(Some(2), Some(BrokenPipe), [48, 0, 5, 6], true)",

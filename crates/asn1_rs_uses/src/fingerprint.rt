@@ -1,10 +1,12 @@
 //! A lawful type of a caller's that borrows its contents octets.
 ghost use Rattle.std.specs.Prelude.{◌≡◌};
-ghost use Rattle.std.proofs.Common.{lit<};
 ghost use Rattle.asn1_rs.specs.Any.{parts_of};
+ghost use Rattle.asn1_rs.specs.Checks.{is_primitive};
+ghost use Rattle.asn1_rs.specs.Leaf.{LeafGives, leaf_element};
+ghost use Rattle.asn1_rs.specs.Laws.Leaf.{leaf_lawful, leaf_constraints, leaf_converts, leaf_primitive};
+ghost use Rattle.asn1_rs.specs.OctetString.{octet_string_number};
 ghost use Rattle.asn1_rs.specs.Traits.{OfParts};
-ghost use Rattle.asn1_rs.specs.OctetsElement.{OctetsGives, PrimitiveCheckGives, octets_element};
-ghost use Rattle.asn1_rs.specs.Laws.OctetsElement.{primitive_checks, octets_lawful, octets_converts, octets_primitive};
+ghost use Rattle.asn1_rs_uses.specs.Fingerprint.{fingerprint_leaf, fingerprint_lawful};
 
 use asn1_rs::{
     Any, CheckDerConstraints, DerAutoDerive, ElementKind, Error, FromAny, HasKind,
@@ -19,10 +21,10 @@ pub struct Fingerprint<'a>(pub &'a [u8]);
 impl Tagged for Fingerprint<'_> {
     const TAG: Tag = Tag::OctetString;
 
-    ghost mark = { record { 0 = 4 } };
+    ghost mark = { record { 0 = octet_string_number } };
 
     fn its_tag() -> Tag
-        ensures { result ≡ record { 0 = 4 } }
+        ensures { result ≡ record { 0 = octet_string_number } }
     {
         Self::TAG
     }
@@ -31,7 +33,7 @@ impl Tagged for Fingerprint<'_> {
 impl<'a> FromAny<'a> for Fingerprint<'a> {
     type Error = Error;
 
-    ghost any_gives = { OfParts (OctetsGives 4 (λ x. x.0.now)) };
+    ghost any_gives = { OfParts (LeafGives fingerprint_leaf) };
 
     fn try_from_any(_alloc: Global, any: Any<'a>) -> Result<Fingerprint<'a>, Error> {
         any.header.assert_tag(Tag::OctetString)?;
@@ -40,10 +42,10 @@ impl<'a> FromAny<'a> for Fingerprint<'a> {
 }
 
 impl CheckDerConstraints for Fingerprint<'_> {
-    ghost check_gives = { PrimitiveCheckGives };
+    ghost check_gives = { is_primitive };
 
     fn check_constraints(any: &Any<'_>) -> Result<(), Error>
-        ensures { PrimitiveCheckGives (parts_of any.now) result }
+        ensures { is_primitive (parts_of any.now) result }
     {
         any.header.assert_primitive()
     }
@@ -56,15 +58,15 @@ impl HasKind for Fingerprint<'_> {
 }
 
 impl LawfulElement for Fingerprint<'_> {
-    ghost element = { octets_element 4 (λ x. x.0.now) };
+    ghost element = { leaf_element fingerprint_leaf };
 
-    ghost lawful = { octets_lawful 4 (λ x. x.0.now) (lit< tt) };
+    ghost lawful = { leaf_lawful fingerprint_leaf fingerprint_lawful };
 
-    ghost checked = { primitive_checks };
+    ghost checked = { leaf_constraints fingerprint_leaf fingerprint_lawful };
 }
 
 impl<'a> LawfulConversion<'a> for Fingerprint<'a> {
-    ghost converts = { octets_converts 4 (λ x. x.0.now) };
+    ghost converts = { leaf_converts fingerprint_leaf fingerprint_lawful };
 }
 
 impl WritesOctets for Fingerprint<'_> {
@@ -74,5 +76,5 @@ impl WritesOctets for Fingerprint<'_> {
         self.0
     }
 
-    ghost held_are = { octets_primitive 4 (λ x. x.0.now) (lit< tt) };
+    ghost held_are = { leaf_primitive fingerprint_leaf fingerprint_lawful };
 }

@@ -1,21 +1,22 @@
 -- Hexadecimal digits: how they are read, and that they stand for one string of octets.
-use Rattle.std.proofs.Common.{◌≡◌, ◌≢◌, ℕ, zero, suc, ◌+◌, ◌*◌, ◌/◌, ◌%◌, ◌<◌, ◌==◌, ◌&&◌, ◌||◌, nat_lt, cond, Bool, true, false, List, [], ◌∷◌, ◌++◌, length, take, slice_index, slice_set, refl, sym, ap, ◌∙◌, arith, inl, inr, ◌⊎◌, codes, subst, append_assoc}
+use Rattle.std.proofs.Common.{Some, ◌≡◌, ◌≢◌, ℕ, zero, suc, ◌+◌, ◌*◌, ◌/◌, ◌%◌, ◌<◌, ◌==◌, ◌&&◌, ◌||◌, nat_lt, cond, Bool, true, false, List, [], ◌∷◌, ◌++◌, length, take, slice_index, slice_set, refl, sym, ap, ◌∙◌, arith, inl, inr, ◌⊎◌, codes, subst, append_assoc}
 use Rattle.std.proofs.lemmas.Bool.{and_parts, cases_lt, eqb-true}
 use Rattle.std.proofs.lemmas.Bool.Decides.{nat_tests}
 use Rattle.std.proofs.lemmas.List.{take_more, take_more_set}
+use Rattle.hex.specs.Hex.{hex_digit_value}
+use Rattle.hex.proofs.HexLemmas.{IsDigits-lower_digits, IsDigits-upper_digits}
 use Rattle.asn1vec_engine.specs.Request.{IsDigit, IsHexadecimal, StandsFor}
-use Rattle.asn1vec_engine.specs.declared.digits.TheConstants.{NUMBERS}
 
 -- ---- the table
 
-abbrev lower : ℕ → ℕ
+abbrev pub lower : ℕ → ℕ
 lower d = slice_index (codes "0123456789abcdef") d
 
-abbrev upper : ℕ → ℕ
+abbrev pub upper : ℕ → ℕ
 upper d = slice_index (codes "0123456789ABCDEF") d
 
 -- all numbers below n pass a test
-abbrev all_below : (ℕ → Bool) → ℕ → Bool
+abbrev pub all_below : (ℕ → Bool) → ℕ → Bool
 all_below test zero = true
 all_below test (suc n) = test n && all_below test n
 
@@ -31,28 +32,22 @@ passes test (suc n) k h lt =
     ]
 
 -- what has a number below 16 is the digit of that number
-abbrev is_digit_or_none : List ℕ → ℕ → Bool
+abbrev pub is_digit_or_none : List ℕ → ℕ → Bool
 is_digit_or_none table c = cond (nat_lt (slice_index table c) 16) ((c == lower (slice_index table c)) || (c == upper (slice_index table c))) true
 
 -- the digits of a number have that number
-abbrev has_its_number : List ℕ → ℕ → Bool
+abbrev pub has_its_number : List ℕ → ℕ → Bool
 has_its_number table d = (slice_index table (lower d) == d) && (slice_index table (upper d) == d)
 
 one_of_two : (small c l u : ℕ) → cond (nat_lt small 16) ((c == l) || (c == u)) true ≡ true → small < 16 → (c ≡ l) ⊎ (c ≡ u)
 one_of_two small c l u h lt = grind (arith, nat_tests)
 
-digit_in : (table : List ℕ) → all_below (is_digit_or_none table) 256 ≡ true → (c : ℕ) → c < 256 → slice_index table c < 16 → IsDigit (slice_index table c) c
+pub digit_in : (table : List ℕ) → all_below (is_digit_or_none table) 256 ≡ true → (c : ℕ) → c < 256 → slice_index table c < 16 → IsDigit (slice_index table c) c
 digit_in table h c octet small = (small, one_of_two (slice_index table c) c _ _ (passes (is_digit_or_none table) 256 c h octet) small)
 
-number_in : (table : List ℕ) → all_below (has_its_number table) 16 ≡ true → (d c : ℕ) → IsDigit d c → slice_index table c ≡ d
+pub number_in : (table : List ℕ) → all_below (has_its_number table) 16 ≡ true → (d c : ℕ) → IsDigit d c → slice_index table c ≡ d
 number_in table h d c (small, inl e) = ap (slice_index table) e ∙ eqb-true _ _ (and_parts (slice_index table (lower d) == d) _ (passes (has_its_number table) 16 d h small)).0
 number_in table h d c (small, inr e) = ap (slice_index table) e ∙ eqb-true _ _ (and_parts (slice_index table (lower d) == d) _ (passes (has_its_number table) 16 d h small)).1
-
-pub is_digit : (c : ℕ) → c < 256 → slice_index NUMBERS c < 16 → IsDigit (slice_index NUMBERS c) c
-is_digit = digit_in NUMBERS refl
-
-pub number_is : (d c : ℕ) → IsDigit d c → slice_index NUMBERS c ≡ d
-number_is = number_in NUMBERS refl
 
 -- ---- digits of octets
 
@@ -95,8 +90,12 @@ digits_at (octet ∷ octets) digits (suc i) (high, low, rest, a, b, more, e) lt 
 
 -- ---- one meaning
 
+value_of_digit : (d c : ℕ) → IsDigit d c → hex_digit_value c ≡ Some d
+value_of_digit d c (small, inl e) = ap hex_digit_value e ∙ IsDigits-lower_digits d small
+value_of_digit d c (small, inr e) = ap hex_digit_value e ∙ IsDigits-upper_digits d small
+
 one_number : (d e c : ℕ) → IsDigit d c → IsDigit e c → d ≡ e
-one_number d e c a b = sym (number_is d c a) ∙ number_is e c b
+one_number d e c a b = let same : Some d ≡ Some e = sym (value_of_digit d c a) ∙ value_of_digit e c b in cc
 
 same_octets : (octets others digits : List ℕ) → IsHexadecimal octets digits → IsHexadecimal others digits → octets ≡ others
 same_octets [] [] digits h k = refl

@@ -1,6 +1,6 @@
 -- A line has one answer, except when out of memory.
-use Rattle.std.proofs.Common.{◌≡◌, ◌∙◌, sym, ap, subst, List, [], ◌∷◌, ◌++◌, ℕ, false, ◌⊎◌, inl, inr, Err, arith, Option, Some, append_assoc}
-use Rattle.std.specs.Prelude.{ℤ, pos}
+use Rattle.std.proofs.Common.{◌≡◌, ◌∙◌, sym, ap, subst, List, [], ◌∷◌, ◌++◌, ℕ, false, ◌⊎◌, inl, inr, refl, Ok, Err, codes, arith, Option, Some, append_assoc}
+use Rattle.std.specs.Prelude.{ℤ, pos, decimal}
 use Rattle.std.specs.Fmt.{signed_decimal}
 use Rattle.std.proofs.Math.Dec.{eqb}
 use Rattle.std.specs.List.{find, All, AllByRecursion}
@@ -13,20 +13,37 @@ use Rattle.asn1_rs.specs.Any.{IsTheElement, IsDefiniteOr}
 use Rattle.asn1_rs.specs.Traits.{OfParts}
 use Rattle.asn1_rs.specs.Any.Value.{element_of, ElementBody, ElementCheck, ElementForm}
 use Rattle.asn1_rs.specs.Integer.{IntegerCheck, IntegerCheckGives, IntegerBody, IntegerForm, IntegerGives, IsUnsigned, UnsignedRefuses, SignedRefuses}
+use Rattle.asn1_rs.specs.declared.asn1_types.end_of_content.EndOfContent.{EndOfContent}
+use Rattle.asn1_rs.specs.BitString.{bit_string_leaf}
+use Rattle.asn1_rs.specs.Boolean.{bool_leaf}
+use Rattle.asn1_rs.specs.EndOfContent.{end_leaf}
+use Rattle.asn1_rs.specs.Enumerated.{enumerated_leaf}
+use Rattle.asn1_rs.specs.Integer.Octets.{any_integer_leaf}
+use Rattle.asn1_rs.specs.Leaf.{Leaf, IsLawfulLeaf, LeafBody, LeafGives}
+use Rattle.asn1_rs.specs.Null.{null_leaf}
+use Rattle.asn1_rs.specs.OctetString.{octet_string_leaf}
+use Rattle.asn1_rs.specs.Laws.BitString.{bit_string_lawful}
+use Rattle.asn1_rs.specs.Laws.Boolean.{bool_lawful}
+use Rattle.asn1_rs.specs.Laws.EndOfContent.{end_lawful}
+use Rattle.asn1_rs.specs.Laws.Enumerated.{enumerated_lawful}
+use Rattle.asn1_rs.specs.Laws.Integer.Octets.{any_integer_lawful}
+use Rattle.asn1_rs.specs.Laws.Leaf.{leaf_lawful, leaf_one_refusal}
+use Rattle.asn1_rs.specs.Laws.Null.{null_lawful}
+use Rattle.asn1_rs.specs.Laws.OctetString.{octet_string_lawful}
 use Rattle.asn1_rs.specs.Laws.Any.Value.{element_lawful, element_checks}
 use Rattle.asn1_rs.specs.Laws.Integer.{one_integer_check_refusal, integer_checks, one_integer_refusal, integer_lawful}
 use Rattle.asn1_rs.specs.Laws.Integer.Unsigned.{one_unsigned_refusal}
 use Rattle.asn1_rs.specs.Laws.Integer.Signed.{one_signed_refusal}
 use Rattle.asn1vec_engine.specs.declared.request.Rule.{Rule}
 use Rattle.asn1vec_engine.specs.declared.types.TypeName.{TypeName}
-use Rattle.asn1vec_engine.specs.declared.types.TypeName.TheVariants.{U8, U16, U32, U64, U128, I8, I16, I32, I64, I128, Any}
+use Rattle.asn1vec_engine.specs.declared.types.TypeName.TheVariants.{U8, U16, U32, U64, U128, I8, I16, I32, I64, I128, Any, Bool, Null, Enumerated, Integer, Octets, Bits, Eoc}
 use Rattle.asn1vec_engine.specs.Request.{IsRequest}
-use Rattle.asn1vec_engine.specs.Shown.{element_text}
+use Rattle.asn1vec_engine.specs.Shown.{IsWritten, bits_text, element_text, in_hexadecimal, truth_text}
 use Rattle.asn1vec_engine.specs.Meaning.{Meaning}
-use Rattle.asn1vec_engine.specs.Types.{name_of, meaning_of, integers, elements, Names, IsTypeAnswer}
+use Rattle.asn1vec_engine.specs.Types.{name_of, meaning_of, integers, elements, leaf, leaf_octets, ends, Names, IsTypeAnswer}
 use Rattle.asn1vec_engine.specs.Answer.{IsRequestAnswer, IsRefusedLine, IsAnswered, IsAnswer, IsAnswerLine, AreAnswers, BeginAnswers}
 use Rattle.asn1vec_engine.specs.Memory.{DifferByMemory, AreAlike, TakesNoMemory, AllAlike}
-use Rattle.asn1vec_engine.proofs.OneReading.{HasOneAnswer, ShownAlike, answers_alike, readings_weaker, strict_same, either_same}
+use Rattle.asn1vec_engine.proofs.OneReading.{HasOneAnswer, ShownAlike, answers_alike, readings_weaker, strict_same, written_same, ber_same, either_same}
 use Rattle.asn1vec_engine.proofs.OneRefusal.{one_of_parts}
 use Rattle.asn1vec_engine.proofs.Split.{requests_same}
 
@@ -49,6 +66,26 @@ elements_once rule octets a b p q =
     shown : (x y : AnyElement) → element_of x ≡ element_of y → ShownAlike elements x y
     shown x y same = record { text = ap element_text same; encoding = strict_same ElementForm element_lawful.one_form false (element_of x) (element_of y) same }
 
+-- a leaf type
+leaf_once : {T : Type 0} (L : Leaf T) (text : L.Value → List ℕ) → IsLawfulLeaf L → HasOneAnswer (leaf L text)
+leaf_once {T} L text l rule octets a b p q =
+    let one = leaf_one_refusal L l in
+    readings_weaker _ (ShownAlike (leaf L text)) false shown a b
+    (either_same (LeafBody L) L.value false (OfParts (LeafGives L)) (leaf_lawful L l).body_one (one_of_parts (LeafGives L) one.0.one)
+    L.constraints (λ p. L.constraints p (Ok tt)) one.1.one (λ p e h k. one.1.none p tt e h k) rule octets a b p q)
+  where
+    shown : (x y : T) → L.value x ≡ L.value y → ShownAlike (leaf L text) x y
+    shown x y same = record { text = ap text same; encoding = λ e f h k. written_same false (leaf_octets L (L.value y)) e f (subst (λ (v : L.Value). IsWritten false (leaf_octets L v) e) same h) k }
+
+-- the end of contents
+ends_once : HasOneAnswer ends
+ends_once rule octets a b p q =
+    readings_weaker _ (ShownAlike ends) false shown a b
+    (ber_same (LeafBody end_leaf) end_leaf.value false (OfParts (LeafGives end_leaf)) (leaf_lawful end_leaf end_lawful).body_one (one_of_parts (LeafGives end_leaf) (leaf_one_refusal end_leaf end_lawful).0.one) octets a b p q)
+  where
+    shown : (x y : EndOfContent) → end_leaf.value x ≡ end_leaf.value y → ShownAlike ends x y
+    shown x y same = record { text = refl; encoding = λ e f h k. rw (h, k) tt }
+
 type_once : (t : TypeName) → HasOneAnswer (meaning_of t)
 type_once U8 = integers_once pos (IsUnsigned 1) (UnsignedRefuses 1) (one_unsigned_refusal 1)
 type_once U16 = integers_once pos (IsUnsigned 2) (UnsignedRefuses 2) (one_unsigned_refusal 2)
@@ -61,6 +98,13 @@ type_once I32 = integers_once (λ n. n) (IsSigned 4) (SignedRefuses 4) (one_sign
 type_once I64 = integers_once (λ n. n) (IsSigned 8) (SignedRefuses 8) (one_signed_refusal 8)
 type_once I128 = integers_once (λ n. n) (IsSigned 16) (SignedRefuses 16) (one_signed_refusal 16)
 type_once Any = elements_once
+type_once Bool = leaf_once bool_leaf truth_text bool_lawful
+type_once Null = leaf_once null_leaf (λ v. codes "null") null_lawful
+type_once Enumerated = leaf_once enumerated_leaf decimal enumerated_lawful
+type_once Integer = leaf_once any_integer_leaf in_hexadecimal any_integer_lawful
+type_once Octets = leaf_once octet_string_leaf in_hexadecimal octet_string_lawful
+type_once Bits = leaf_once bit_string_leaf bits_text bit_string_lawful
+type_once Eoc = ends_once
 
 allocates_none : (t : TypeName) → ((meaning_of t).reading_allocates ≡ false) × ((meaning_of t).writing_allocates ≡ false)
 allocates_none t = grind arith
@@ -69,7 +113,7 @@ allocates_none t = grind arith
 
 -- the type that has a name
 named : List ℕ → Option TypeName
-named name = find (λ t. pointwise eqb name (name_of t)) (U8 ∷ U16 ∷ U32 ∷ U64 ∷ U128 ∷ I8 ∷ I16 ∷ I32 ∷ I64 ∷ I128 ∷ Any ∷ [])
+named name = find (λ t. pointwise eqb name (name_of t)) (U8 ∷ U16 ∷ U32 ∷ U64 ∷ U128 ∷ I8 ∷ I16 ∷ I32 ∷ I64 ∷ I128 ∷ Any ∷ Bool ∷ Null ∷ Enumerated ∷ Integer ∷ Octets ∷ Bits ∷ Eoc ∷ [])
 
 named_by_its_name : (t : TypeName) → named (name_of t) ≡ Some t
 unfolding named

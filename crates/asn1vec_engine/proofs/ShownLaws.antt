@@ -1,5 +1,5 @@
 -- What is said of encodings, and strict encodings of what is shown.
-use Rattle.std.proofs.Common.{◌≡◌, ℕ, Bool, false, List, ◌++◌, length, codes, Some, Result, Ok, Err, IfOk, IfErr, subst, refl, ap, arith, ◌<◌, ◌≤◌, ◌+◌, ◌^◌}
+use Rattle.std.proofs.Common.{◌≡◌, ℕ, Bool, false, List, ◌++◌, length, codes, inl, inr, Some, Result, Ok, Err, IfOk, IfErr, subst, refl, ap, arith, ◌<◌, ◌≤◌, ◌+◌, ◌^◌}
 use Rattle.std.specs.Prelude.{ℤ, pos}
 use Rattle.x690.specs.Identifiers.{Identifier}
 use Rattle.x690.specs.Octets.{IsOctets}
@@ -19,18 +19,28 @@ use Rattle.x690.specs.Laws.Integers.Unsigned.{unsigned_octets_content, unsigned_
 use Rattle.x690.specs.Integers.{IsIntegerContent, unsigned_octets}
 use Rattle.x690.specs.Signed.{IsSigned, signed_octets}
 use Rattle.x690.specs.Laws.Signed.{signed_octets_content, signed_octets_few}
-use Rattle.asn1vec_engine.specs.Shown.{Gains, SaysEncoding, SaysWriting, StrictEncoding}
+use Rattle.asn1_rs.specs.ToDer.{Refuses}
+use Rattle.asn1vec_engine.specs.Shown.{Gains, IsWritten, SaysEncoding, SaysWriting, StrictEncoding}
 use Rattle.asn1vec_engine.proofs.Gained.{gains_both}
 
--- what is said of the writing of a value's strict encoding into a vector
-pub encoding_said : {V : Type 0} (Form : V → Identifier → List ℕ → Type 0) (allocates : Bool) (v : V) (o written : List ℕ) → IsStrict Form v o → length written < 2 ^ 64
-    → (answer : Result ℕ SerializeError) → IfOk answer (λ n. written ≡ o) → IfErr answer (MayRefuse allocates (length o))
-    → (a b c : List ℕ) → b ≡ a ++ codes " enc " → Gains b c (SaysWriting written answer) → Gains a c (SaysEncoding (StrictEncoding Form allocates v))
-encoding_said Form allocates v o written strict few (Ok n) is may a b c e (said, says, more) =
-    let whole : StrictEncoding Form allocates v (Some (Ok written)) = (o, strict, (subst (λ (l : List ℕ). length l < 2 ^ 64) is few, is)) in
+-- what is said of the writing of octets into a vector
+pub written_said : (allocates : Bool) (o written : List ℕ) → length written < 2 ^ 64 → (answer : Result ℕ SerializeError) → IfOk answer (λ n. written ≡ o) → IfErr answer (MayRefuse allocates (length o))
+    → (a b c : List ℕ) → b ≡ a ++ codes " enc " → Gains b c (SaysWriting written answer) → Gains a c (SaysEncoding (IsWritten allocates o))
+written_said allocates o written few (Ok n) is may a b c e (said, says, more) =
+    let whole : IsWritten allocates o (Some (Ok written)) = (subst (λ (l : List ℕ). length l < 2 ^ 64) is few, is) in
     (codes " enc " ++ said, (Some (Ok written), whole, ap (λ l. codes " enc " ++ l) says), gains_both a b c (codes " enc ") said e more)
-encoding_said Form allocates v o written strict few (Err e) is may a b c same (said, says, more) =
-    (codes " enc " ++ said, (Some (Err e), (o, strict, (may, says.0)), ap (λ l. codes " enc " ++ l) says.1), gains_both a b c (codes " enc ") said same more)
+written_said allocates o written few (Err e) is may a b c same (said, says, more) =
+    (codes " enc " ++ said, (Some (Err e), (may, says.0), ap (λ l. codes " enc " ++ l) says.1), gains_both a b c (codes " enc ") said same more)
+
+-- a writing that the value itself does not refuse
+pub refused_as_any : (allocates : Bool) (n : ℕ) (own : SerializeError → Type 0) → ((e : SerializeError) → own e → ⊥) → (answer : Result ℕ SerializeError) → IfErr answer (Refuses allocates n own) → IfErr answer (MayRefuse allocates n)
+refused_as_any allocates n own none (Ok k) h = tt
+refused_as_any allocates n own none (Err e) (inl h) = h
+refused_as_any allocates n own none (Err e) (inr o) = absurd (none e o)
+
+-- what is said of the strict encoding, which is what is written
+pub strict_said : {V : Type 0} (Form : V → Identifier → List ℕ → Type 0) (allocates : Bool) (v : V) (o w : List ℕ) → IsStrict Form v o → w ≡ o → (a c : List ℕ) → Gains a c (SaysEncoding (IsWritten allocates w)) → Gains a c (SaysEncoding (StrictEncoding Form allocates v))
+strict_said Form allocates v o w strict is a c (said, (encoding, written, says), more) = (said, (encoding, (o, strict, subst (λ (l : List ℕ). IsWritten allocates l encoding) is written), says), more)
 
 -- each number that a type holds has a strict encoding, where its contents octets are few
 pub strict_number : (Holds : ℤ → Type 0) (n : ℤ) (octets : List ℕ) → Holds n → IsIntegerContent n octets → length octets < 2 ^ 64 → (o : List ℕ) × IsStrict (IntegerForm Holds) n o

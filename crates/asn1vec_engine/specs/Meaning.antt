@@ -1,5 +1,5 @@
 -- What a name stands for.
-use Rattle.std.specs.Prelude.{List, ℕ, Bool}
+use Rattle.std.specs.Prelude.{List, ℕ, Bool, true, false}
 use Rattle.asn1vec_engine.specs.declared.request.Rule.{Rule}
 use Rattle.asn1vec_engine.specs.declared.request.Rule.TheVariants.{Ber as ber, Der as der}
 use Rattle.asn1vec_engine.specs.Shown.{Encoding, Reading, ReadsByBer, ReadsByDer}
@@ -19,6 +19,11 @@ pub record Meaning : Type 1 where
   -- whether out of memory may be answered
   pub reading_allocates : Bool
   pub writing_allocates : Bool
+
+-- a name that is there by BER alone
+abbrev pub is_ber : Rule → Bool
+is_ber ber = true
+is_ber der = false
 
 -- read by either rule
 abbrev pub ReadsByEither : {T V : Type 0} → (Ber Der : List ℕ → V → Type 0) → (T → V) → Bool →

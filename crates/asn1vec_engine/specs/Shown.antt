@@ -8,6 +8,7 @@ use Rattle.asn1_rs.specs.declared.error.SerializeError.{SerializeError}
 use Rattle.asn1_rs.specs.Answers.{Exactly, TellsMemory}
 use Rattle.asn1_rs.specs.Ber.{EndsWithin}
 use Rattle.asn1_rs.specs.Any.Value.{ElementValue}
+use Rattle.asn1_rs.specs.BitString.{Bits}
 use Rattle.asn1_rs.specs.Grammar.Form.{IsStrict}
 use Rattle.asn1_rs.specs.Writer.{MayRefuse}
 use Rattle.asn1_rs.specs.Error.{tells_of_io}
@@ -22,6 +23,15 @@ in_hexadecimal (octet ∷ octets) = encode_lower (octet ∷ octets)
 abbrev pub letter_of : Bool → List ℕ
 letter_of true = codes "c"
 letter_of false = codes "p"
+
+-- a bit string: the number of its unused bits, and the octets that have its bits
+abbrev pub bits_text : Bits → List ℕ
+bits_text v = decimal v.unused ++ (codes ":" ++ in_hexadecimal v.octets)
+
+-- a truth value
+abbrev pub truth_text : Bool → List ℕ
+truth_text true = codes "true"
+truth_text false = codes "false"
 
 -- the number of the class, the letter of the form, the tag number and the contents octets, joined
 -- by points

@@ -1,9 +1,19 @@
 -- The names of types, and what each stands for.
-use Rattle.std.specs.Prelude.{◌≡◌, List, ℕ, ℤ, pos, codes, true, false}
+use Rattle.std.specs.Prelude.{◌≡◌, List, ◌++◌, length, ℕ, ℤ, pos, codes, decimal, true, false, None, Ok}
 use Rattle.std.specs.Fmt.{signed_decimal}
 use Rattle.x690.specs.Signed.{IsSigned}
+use Rattle.x690.specs.Strict.{header_octets}
 use Rattle.asn1_rs.specs.declared.error.Error.{Error}
 use Rattle.asn1_rs.specs.declared.asn1_types.any.Any.{Any as AnyElement}
+use Rattle.asn1_rs.specs.declared.asn1_types.end_of_content.EndOfContent.{EndOfContent}
+use Rattle.asn1_rs.specs.BitString.{bit_string_leaf}
+use Rattle.asn1_rs.specs.Boolean.{bool_leaf}
+use Rattle.asn1_rs.specs.EndOfContent.{end_leaf}
+use Rattle.asn1_rs.specs.Enumerated.{enumerated_leaf}
+use Rattle.asn1_rs.specs.Integer.Octets.{any_integer_leaf}
+use Rattle.asn1_rs.specs.Leaf.{Leaf, LeafBody, LeafGives}
+use Rattle.asn1_rs.specs.Null.{null_leaf}
+use Rattle.asn1_rs.specs.OctetString.{octet_string_leaf}
 use Rattle.asn1_rs.specs.Any.{IsTheElement, IsDefiniteOr}
 use Rattle.asn1_rs.specs.Traits.{OfParts, BerGives, DerGives}
 use Rattle.asn1_rs.specs.Any.Value.{element_of, ElementBody, ElementCheck, ElementForm}
@@ -11,9 +21,9 @@ use Rattle.asn1_rs.specs.Grammar.{BerWord, DerWord}
 use Rattle.asn1_rs.specs.Integer.{IntegerCheck, IntegerCheckGives, IntegerBody, IntegerForm, IntegerGives, IsUnsigned, UnsignedRefuses, SignedRefuses}
 use Rattle.asn1vec_engine.specs.declared.request.Rule.{Rule}
 use Rattle.asn1vec_engine.specs.declared.types.TypeName.{TypeName}
-use Rattle.asn1vec_engine.specs.declared.types.TypeName.TheVariants.{U8, U16, U32, U64, U128, I8, I16, I32, I64, I128, Any}
-use Rattle.asn1vec_engine.specs.Meaning.{Meaning, ReadsByEither}
-use Rattle.asn1vec_engine.specs.Shown.{IsReadAnswer, Same, StrictEncoding, element_text}
+use Rattle.asn1vec_engine.specs.declared.types.TypeName.TheVariants.{U8, U16, U32, U64, U128, I8, I16, I32, I64, I128, Any, Bool, Null, Enumerated, Integer, Octets, Bits, Eoc}
+use Rattle.asn1vec_engine.specs.Meaning.{Meaning, ReadsByEither, is_ber}
+use Rattle.asn1vec_engine.specs.Shown.{IsReadAnswer, IsWritten, ReadsByBer, Same, StrictEncoding, bits_text, element_text, in_hexadecimal, truth_text}
 
 abbrev pub name_of : TypeName → List ℕ
 name_of U8 = codes "u8"
@@ -27,6 +37,13 @@ name_of I32 = codes "i32"
 name_of I64 = codes "i64"
 name_of I128 = codes "i128"
 name_of Any = codes "any"
+name_of Bool = codes "bool"
+name_of Null = codes "null"
+name_of Enumerated = codes "enumerated"
+name_of Integer = codes "integer"
+name_of Octets = codes "octets"
+name_of Bits = codes "bits"
+name_of Eoc = codes "eoc"
 
 -- integers, there by either rule: in decimals, with the strict encoding that each has which the type holds
 abbrev pub integers : {T : Type 0} → (T → ℤ) → (ℤ → Type 0) → (List ℕ → Error → Type 0) → Meaning
@@ -63,6 +80,35 @@ elements = record {
   writing_allocates = false;
 }
 
+-- the octets that are written for a value of a leaf type, in DER form or not
+abbrev pub leaf_octets : {T : Type 0} (L : Leaf T) → L.Value → List ℕ
+leaf_octets L v = header_octets 0 false L.number (length (L.octets v)) ++ L.octets v
+
+-- a leaf type, there by either rule: shown by its value, with the octets that are written for it
+abbrev pub leaf : {T : Type 0} (L : Leaf T) → (L.Value → List ℕ) → Meaning
+leaf {T} L text = record {
+  T = T;
+  is_there = λ rule. true;
+  Reads = ReadsByEither (BerWord (LeafBody L)) (DerWord (λ p. L.constraints p (Ok tt)) (LeafBody L)) L.value false
+      (BerGives (OfParts (LeafGives L)) Same) (DerGives L.constraints (OfParts (LeafGives L)) Same);
+  text_of = λ x. text (L.value x);
+  Encodes = λ x. IsWritten false (leaf_octets L (L.value x));
+  reading_allocates = false;
+  writing_allocates = false;
+}
+
+-- the end of contents, there by BER alone; it has no writer
+abbrev pub ends : Meaning
+ends = record {
+  T = EndOfContent;
+  is_there = λ rule. is_ber rule;
+  Reads = λ rule. ReadsByBer (BerWord (LeafBody end_leaf)) end_leaf.value false (BerGives (OfParts (LeafGives end_leaf)) Same);
+  text_of = λ x. codes "eoc";
+  Encodes = λ x encoding. encoding ≡ None;
+  reading_allocates = false;
+  writing_allocates = false;
+}
+
 abbrev pub meaning_of : TypeName → Meaning
 meaning_of U8 = unsigned 1
 meaning_of U16 = unsigned 2
@@ -75,6 +121,13 @@ meaning_of I32 = signed 4
 meaning_of I64 = signed 8
 meaning_of I128 = signed 16
 meaning_of Any = elements
+meaning_of Bool = leaf bool_leaf truth_text
+meaning_of Null = leaf null_leaf (λ v. codes "null")
+meaning_of Enumerated = leaf enumerated_leaf decimal
+meaning_of Integer = leaf any_integer_leaf in_hexadecimal
+meaning_of Octets = leaf octet_string_leaf in_hexadecimal
+meaning_of Bits = leaf bit_string_leaf bits_text
+meaning_of Eoc = ends
 
 -- the name is that of the type, and is there by the rule
 abbrev pub Names : Rule → List ℕ → TypeName → Type 0

@@ -10,7 +10,9 @@ use crate::request::{Request, Rule, read_request};
 use crate::shown::{Shown, push_by_ber, push_by_der};
 use crate::text::push_str;
 use crate::types::{TypeName, type_named};
-use asn1_rs::{Any, Error, LawfulBer, LawfulDer};
+use asn1_rs::{
+    Any, BitString, EndOfContent, Enumerated, Error, Integer, LawfulBer, LawfulDer, Null, OctetString,
+};
 use std::alloc::{AllocError, Global};
 
 /// The most octets of a line, without its end.
@@ -62,6 +64,13 @@ fn push_by_type(
         TypeName::I64 => push_by_either::<i64>(alloc, rule, octets, buffer, text),
         TypeName::I128 => push_by_either::<i128>(alloc, rule, octets, buffer, text),
         TypeName::Any => push_by_either::<Any<'_>>(alloc, rule, octets, buffer, text),
+        TypeName::Bool => push_by_either::<bool>(alloc, rule, octets, buffer, text),
+        TypeName::Null => push_by_either::<Null>(alloc, rule, octets, buffer, text),
+        TypeName::Enumerated => push_by_either::<Enumerated>(alloc, rule, octets, buffer, text),
+        TypeName::Integer => push_by_either::<Integer<'_>>(alloc, rule, octets, buffer, text),
+        TypeName::Octets => push_by_either::<OctetString<'_>>(alloc, rule, octets, buffer, text),
+        TypeName::Bits => push_by_either::<BitString<'_>>(alloc, rule, octets, buffer, text),
+        TypeName::Eoc => push_by_ber::<EndOfContent>(alloc, octets, buffer, text),
     }
 }
 

@@ -5,6 +5,7 @@ mod answer;
 mod any;
 mod digits;
 mod engine;
+mod leaves;
 mod names;
 mod numbers;
 mod request;

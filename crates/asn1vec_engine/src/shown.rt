@@ -2,15 +2,16 @@
 ghost use Rattle.std.specs.Prelude.{◌≡◌, ◌++◌, ◌||◌, ℕ, List, Result, Ok, OnOk};
 ghost use Rattle.asn1_rs.specs.Answers.{seen};
 ghost use Rattle.asn1_rs.specs.Grammar.Form.{IsStrict};
-ghost use Rattle.asn1_rs.specs.ToDer.{some_allocates};
+ghost use Rattle.asn1_rs.specs.ToDer.{Either, some_allocates};
+ghost use Rattle.asn1_rs.specs.declared.error.SerializeError.{SerializeError};
 ghost use Rattle.asn1_rs.specs.Error.{tells_of_io};
-ghost use Rattle.asn1vec_engine.specs.Shown.{Encoding, Gains, Says, IsReadAnswer, ReadsByBer, ReadsByDer, StrictEncoding, SaysEncoding, SaysWriting};
+ghost use Rattle.asn1vec_engine.specs.Shown.{Encoding, Gains, Says, IsReadAnswer, IsWritten, ReadsByBer, ReadsByDer, StrictEncoding, SaysEncoding, SaysWriting};
 
 use crate::names::{push_refusal, push_write_refusal};
 use crate::text::{push_hexadecimal, push_str};
 use asn1_rs::{
     Error, LawfulBer, LawfulDer, LawfulWrite, ParseResult, SerializeError, SerializeResult, Told,
-    read_ber, read_der, write_strict,
+    read_ber, read_der,
 };
 use std::alloc::{AllocError, Global};
 use std::mem;
@@ -104,6 +105,29 @@ fn push_writing(
     }
 }
 
+/// Appends what `write_der` appends for a value in digits, be it in DER form or not, or why writing it was refused.
+pub(crate) fn push_written<T: LawfulWrite>(
+    alloc: Global,
+    x: &T,
+    buffer: &mut Vec<u8>,
+    text: &mut Vec<u8>,
+) -> Result<(), AllocError>
+    requires { (e : SerializeError) → Either (T.header_refuses x.now) (T.content_refuses x.now) e → ⊥ }
+    ensures { OnOk result
+        (Gains text.old.items text.new.items
+        (SaysEncoding (IsWritten
+        (some_allocates T.write_allocates T.count_allocates T.content_allocates)
+        (T.header x.now ++ T.content x.now)))) }
+{
+    buffer.clear();
+    let mut output = Told::new(mem::replace(buffer, Vec::new(alloc)));
+    let answer = x.write_der(alloc, &mut output);
+    *buffer = output.into_inner();
+    push_str(text, " enc ")?;
+    push_writing(text, buffer.as_slice(), answer)?;
+    Ok(())
+}
+
 /// Appends the strict encoding of a value in digits, or why writing it was refused.
 fn push_encoding<T: LawfulWrite>(
     alloc: Global,
@@ -118,13 +142,7 @@ fn push_encoding<T: LawfulWrite>(
         (some_allocates T.write_allocates T.count_allocates T.content_allocates)
         (T.grammar.value x.now)))) }
 {
-    buffer.clear();
-    let mut output = Told::new(mem::replace(buffer, Vec::new(alloc)));
-    let answer = write_strict(x, alloc, &mut output);
-    *buffer = output.into_inner();
-    push_str(text, " enc ")?;
-    push_writing(text, buffer.as_slice(), answer)?;
-    Ok(())
+    push_written(alloc, x, buffer, text)
 }
 
 /// Appends the answer that shows a value that was read.

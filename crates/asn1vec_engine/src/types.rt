@@ -19,6 +19,13 @@ pub(crate) enum TypeName {
     I64,
     I128,
     Any,
+    Bool,
+    Null,
+    Enumerated,
+    Integer,
+    Octets,
+    Bits,
+    Eoc,
 }
 
 impl TypeName {
@@ -27,6 +34,7 @@ impl TypeName {
         ensures { result ≡ (meaning_of self).is_there rule }
     {
         match (self, rule) {
+            (TypeName::Eoc, Rule::Der) => false,
             (_, Rule::Ber | Rule::Der) => true,
         }
     }
@@ -49,6 +57,13 @@ fn type_of(name: &[u8]) -> Option<TypeName>
         b"i64" => Some(TypeName::I64),
         b"i128" => Some(TypeName::I128),
         b"any" => Some(TypeName::Any),
+        b"bool" => Some(TypeName::Bool),
+        b"null" => Some(TypeName::Null),
+        b"enumerated" => Some(TypeName::Enumerated),
+        b"integer" => Some(TypeName::Integer),
+        b"octets" => Some(TypeName::Octets),
+        b"bits" => Some(TypeName::Bits),
+        b"eoc" => Some(TypeName::Eoc),
         _ => None,
     }
 }

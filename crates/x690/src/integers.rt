@@ -1,6 +1,6 @@
 //! Contents octets of integers (X.690 8.3).
 
-ghost use Rattle.std.specs.Prelude.{ℕ, ◌≡◌, ◌<◌, ◌≤◌, ◌^◌, ◌+◌, ◌*◌, ◌/◌, ◌++◌, List, length, get_or, take, drop, pos, ℤ, IfSome, IfNone, IsTrue, ◌↔◌};
+ghost use Rattle.std.specs.Prelude.{ℕ, ◌≡◌, ◌<◌, ◌≤◌, ◌^◌, ◌+◌, ◌-◌, ◌*◌, ◌/◌, ◌++◌, List, length, get_or, take, drop, pos, ℤ, IfSome, IfNone, IsTrue, ◌↔◌};
 ghost use Rattle.x690.specs.Digits.{base_256_value};
 ghost use Rattle.x690.specs.Integers.{HasSpareZeros, HasSpareOnes, IsIntegerContent, HasNoLeadingZero, unsigned_octets};
 ghost use Rattle.x690.specs.Signed.{signed_octets};
@@ -70,13 +70,20 @@ pub fn unsigned_octets_count(n: u128) -> usize
     ensures count { result ≡ length (unsigned_octets n) }
     ensures few { result ≤ 17 }
 {
-    let mut count = 1;
-    let mut left = n;
-    while left >= 128 {
-        left /= 256;
-        count += 1;
-    }
-    count
+    let bits = 128 - n.leading_zeros() as usize;
+    bits / 8 + 1
+}
+
+/// Writes the octets to the end of the array. What stands before them stays.
+#[inline(always)]
+fn put_at_end(octets: &[u8], out: &mut [u8; 17])
+    requires { length octets.now ≤ 17 }
+    ensures octets { drop (17 - length octets.now) out.new ≡ octets.now }
+    ensures kept { take (17 - length octets.now) out.new ≡
+        take (17 - length octets.now) out.old }
+{
+    let first = 17 - octets.len();
+    out[first..].copy_from_slice(octets);
 }
 
 /// Writes the strict contents octets of a natural number to the end of the array, and says where they begin
@@ -86,15 +93,15 @@ pub fn unsigned_into(n: u128, out: &mut [u8; 17]) -> usize
     ensures kept { take result out.new ≡ take result out.old }
     ensures within { result ≤ 16 }
 {
-    let mut at = 16;
-    let mut left = n;
-    while left >= 128 {
-        out[at] = (left % 256) as u8;
-        left /= 256;
-        at -= 1;
+    let count = unsigned_octets_count(n);
+    let digits = n.to_be_bytes();
+    if count == 17 {
+        put_at_end(&digits, out);
+        out[0] = 0;
+        return 0;
     }
-    out[at] = left as u8;
-    at
+    put_at_end(&digits[16 - count..], out);
+    17 - count
 }
 
 /// The strict contents octets of the natural number whose digits in base 256 the octets are, in two parts: 00 where

@@ -1,9 +1,11 @@
 //! Contents octets of integers of either sign (X.690 8.3).
 
-ghost use Rattle.std.specs.Prelude.{ℕ, ℤ, List, ◌≡◌, ◌<◌, ◌≤◌, ◌⊎◌, ◌↔◌, length, get_or, map, take, drop, pos, negsuc, IfSome, IfNone, IsTrue};
+ghost use Rattle.std.specs.Prelude.{ℕ, ℤ, List, ◌++◌, false, ◌≡◌, ◌<◌, ◌≤◌, ◌⊎◌, ◌↔◌, length, get_or, map, take, drop, pos, negsuc, IfSome, IfNone, IsTrue};
+ghost use Rattle.std.specs.Int.{w64, to_be_bytes};
 ghost use Rattle.x690.specs.Octets.{IsOctets};
 ghost use Rattle.x690.specs.Digits.{twos_complement_value};
-ghost use Rattle.x690.specs.Integers.{HasSpareZeros, HasSpareOnes};
+ghost use Rattle.x690.specs.Strict.{header_octets};
+ghost use Rattle.x690.specs.Integers.{HasSpareZeros, HasSpareOnes, unsigned_octets};
 ghost use Rattle.x690.specs.Signed.{complement, signed_octets, IsSigned};
 
 use crate::integers::{has_spare_ones, has_spare_zeros, unsigned_into, unsigned_octets_count};
@@ -113,6 +115,49 @@ pub fn signed_into(n: i128, out: &mut [u8; 17]) -> usize
         turn_over(&mut out[at..]);
     }
     at
+}
+
+/// How many octets the strict contents octets of a natural number are, which one machine word holds.
+fn word_octets_count(n: u64) -> usize
+    ensures { result ≡ length (unsigned_octets n) }
+{
+    let bits = 64 - n.leading_zeros() as usize;
+    bits / 8 + 1
+}
+
+/// The natural number whose strict contents octets those of the integer are, or are with each bit turned over.
+fn word_without_sign(n: i64) -> u64
+    ensures { (n ≡ pos result) ⊎ (n ≡ negsuc result) }
+{
+    if n < 0 { (-1 - n) as u64 } else { n as u64 }
+}
+
+/// Strict contents octets as the highest of a machine word, and how many they are (X.690 8.3.2, 8.3.3).
+#[inline(always)]
+fn highest_octets(n: i64) -> (u64, usize)
+    ensures octets { take result.1 (to_be_bytes w64 result.0) ≡ signed_octets n }
+    ensures count { result.1 ≡ length (signed_octets n) }
+    ensures few { result.1 ≤ 8 }
+{
+    let turned = word_without_sign(n);
+    let count = word_octets_count(turned);
+    let word = if n < 0 { u64::MAX - turned } else { turned };
+    (word << (8 * (8 - count)), count)
+}
+
+/// The strict element of an integer, primitive and of the universal class with this tag number, at the front of the
+/// array, and how many octets it has (X.690 8.1.2, 8.1.3, 8.3.2, 8.3.3, 10.1).
+#[inline(always)]
+pub fn integer_element(number: u32, n: i64) -> ([u8; 16], usize)
+    requires { number < 31 }
+    ensures element { take result.1 result.0 ≡
+        header_octets 0 false number (length (signed_octets n)) ++ signed_octets n }
+    ensures few { result.1 ≤ 10 }
+{
+    let (content, count) = highest_octets(n);
+    let header = 256 * u128::from(number) + count as u128;
+    let octets = (header << 112) + (u128::from(content) << 48);
+    (octets.to_be_bytes(), 2 + count)
 }
 
 /// So many octets hold an integer exactly where its strict contents octets are no more, and any octets that are

@@ -23,8 +23,8 @@ abbrev pub AreStrict : List ℕ → Type 0
 AreStrict octets = IsOctets octets × IsShortestInteger octets
 
 -- any octets as they stand, of an element that is primitive or constructed
-abbrev pub integer_leaf : Leaf Integer
-integer_leaf = record {
+abbrev pub any_integer_leaf : Leaf Integer
+any_integer_leaf = record {
   number = integer_number;
   Value = List ℕ;
   value = integer_octets;

@@ -1,5 +1,5 @@
 //! Items of lists: how they are read, checked, counted and written.
-ghost use Rattle.std.specs.Prelude.{◌≡◌, ◌++◌, ◌||◌, List, length, IfOk, IfErr, IsErr};
+ghost use Rattle.std.specs.Prelude.{◌≡◌, ◌≤◌, ◌++◌, ◌||◌, List, length, IfOk, IfErr, IsErr};
 ghost use Rattle.std.specs.List.{All, flat_map};
 ghost use Rattle.asn1_rs.specs.Any.{parts_of};
 ghost use Rattle.asn1_rs.specs.Traits.{OfParts, DerGives, PassesAll};
@@ -21,6 +21,14 @@ use crate::traits::{BerParser, CheckDerConstraints, DerParser, FromAny, FromBer,
 use crate::writer::{DerWrite, add_written};
 use std::alloc::{AllocError, Global};
 
+/// How many items a list has room for before it grows: no more than the contents octets can hold, each of two octets or
+/// more, and few.
+fn first_room(content: &[u8]) -> usize
+    ensures { result ≤ 8 }
+{
+    (content.len() / 2).min(8)
+}
+
 /// Collects the items in contents octets, by the reader `F`.
 pub(crate) fn items_by<'a, T, F, E>(alloc: Global, content: &'a [u8]) -> Result<Vec<T>, E>
 where
@@ -29,7 +37,10 @@ where
     E: From<Error>,
     ensures { ItemsGive F.item_gives E.from_gives content.now (listed result) }
 {
-    let mut items = Vec::new(alloc);
+    let mut items = match Vec::with_capacity(alloc, first_room(content)) {
+        Ok(items) => items,
+        Err(_) => return Err(E::from(Error::OutOfMemory)),
+    };
     for item in SequenceIterator::<T, F, E>::new(alloc, content) {
         match item {
             Ok(item) => match items.push(item) {

@@ -3,7 +3,8 @@
 ghost use Rattle.std.specs.Prelude.{◌≡◌, ◌++◌, ◌<◌, ◌^◌, ℕ, false, List, length, IfOk, IfErr, IsErr};
 ghost use Rattle.asn1_rs.specs.Grammar.{FormNumber, FormTakes};
 ghost use Rattle.asn1_rs.specs.Writer.{Wrote, MayRefuse};
-ghost use Rattle.asn1_rs.specs.ToDer.{MayRefuseCount, Refuses, RefusesCount, IsRefusedAtOnce, RefusedAtOnce, IsWritable};
+ghost use Rattle.x690.specs.Strict.{header_octets};
+ghost use Rattle.asn1_rs.specs.ToDer.{MayRefuseCount, Refuses, RefusesCount, Either, IsRefusedAtOnce, RefusedAtOnce, IsWritable, some_allocates};
 ghost use Rattle.asn1_rs.specs.declared.error.SerializeError.{SerializeError};
 ghost use Rattle.asn1_rs.specs.declared.error.Error.{Error};
 ghost use Rattle.asn1_rs.specs.Kinds.Writing.{Writing, primitive_writing, IsPrimitiveElement};
@@ -16,7 +17,7 @@ use crate::kinds::{ElementKind, HasKind, LawfulElement, ReferenceKind};
 use crate::laws::{LawfulItem, LawfulTagged, LawfulWrite, TakesClass};
 use crate::to_der::ToDer;
 use crate::traits::{DynTagged, Tagged};
-use crate::writer::{DerWrite, put_all};
+use crate::writer::{DerWrite, add_written, put_all};
 use std::alloc::Global;
 
 /// A value that is written as a primitive element of the universal class: the tag number of its type, and contents
@@ -37,6 +38,23 @@ pub trait WritesPrimitive: LawfulElement + Tagged {
         ensures wrote { Wrote (octets self.now) (W.told w.old) (W.told w.new) (W.failed w.old)
             (W.failed w.new) result }
         ensures refused { IfErr result (MayRefuse false (length (octets self.now))) };
+
+    /// Appends the whole element, and answers its length.
+    ///
+    /// A type whose contents octets are few can make one piece of header and contents octets.
+    #[inline(always)]
+    fn put_element<W: DerWrite>(&self, w: &mut W) -> SerializeResult<usize>
+        ensures wrote { Wrote (header_octets 0 false (Self.mark).0 (length (octets self.now))
+            ++ octets self.now) (W.told w.old) (W.told w.new) (W.failed w.old) (W.failed w.new)
+            result }
+        ensures refused { IfErr result (MayRefuse false
+            (length (header_octets 0 false (Self.mark).0 (length (octets self.now))
+            ++ octets self.now))) }
+    {
+        let before = put_counted_header(0, false, Self::its_tag().0, self.count_octets(), w)?;
+        let after = self.put_octets(w)?;
+        add_written(before, after)
+    }
 
     /// They follow from the value, and are its strict content where it has one; another class changes nothing.
     ghost primitive: { IsPrimitiveElement Self.element (Self.mark).0 octets };
@@ -137,6 +155,32 @@ pub trait ToDerBy<K>: DynTagged {
         ensures first { (e : SerializeError) → writing.refuses_first self.now e →
             RefusedAtOnce e (W.told w.old) (W.told w.new) (W.failed w.old)
             (W.failed w.new) result };
+
+    /// `write_der`.
+    fn put_whole<W: DerWrite>(&self, alloc: Global, w: &mut W) -> SerializeResult<usize>
+        ensures wrote { writing.tells self.now →
+            Wrote (writing.header self.now ++ writing.content self.now)
+            (W.told w.old) (W.told w.new) (W.failed w.old) (W.failed w.new) result }
+        ensures refused { writing.tells self.now →
+            IfErr result
+            (Refuses (some_allocates writing.write_allocates writing.count_allocates
+            writing.content_allocates)
+            (length (writing.header self.now ++ writing.content self.now))
+            (Either (writing.header_refuses self.now) (writing.content_refuses self.now))) }
+        ensures accepted { (e : SerializeError) → writing.tells self.now →
+            writing.content_refuses self.now e → IsErr result }
+        ensures uncounted { (e : Error) → writing.tells self.now →
+            writing.count_refuses self.now e → IsErr result }
+        ensures at_once { (e : SerializeError) → writing.tells self.now →
+            writing.header_refuses self.now e →
+            IsRefusedAtOnce (some_allocates writing.write_allocates writing.count_allocates
+            writing.content_allocates)
+            (length (writing.header self.now ++ writing.content self.now))
+            (Either (writing.header_refuses self.now) (writing.content_refuses self.now))
+            (W.told w.old) (W.told w.new) (W.failed w.old) (W.failed w.new) result }
+        ensures first { (e : SerializeError) → writing.refuses_first self.now e →
+            RefusedAtOnce e (W.told w.old) (W.told w.new) (W.failed w.old)
+            (W.failed w.new) result };
 }
 
 impl<T: WritesPrimitive> ToDerBy<ElementKind> for T {
@@ -162,6 +206,11 @@ impl<T: WritesPrimitive> ToDerBy<ElementKind> for T {
     #[inline(always)]
     fn put_content<W: DerWrite>(&self, _alloc: Global, w: &mut W) -> SerializeResult<usize> {
         self.put_octets(w)
+    }
+
+    #[inline(always)]
+    fn put_whole<W: DerWrite>(&self, _alloc: Global, w: &mut W) -> SerializeResult<usize> {
+        self.put_element(w)
     }
 }
 
@@ -199,6 +248,11 @@ impl<T: ToDer + Tagged> ToDerBy<ReferenceKind> for &T {
 
     fn put_content<W: DerWrite>(&self, alloc: Global, w: &mut W) -> SerializeResult<usize> {
         T::write_der_content(*self, alloc, w)
+    }
+
+    #[inline(always)]
+    fn put_whole<W: DerWrite>(&self, alloc: Global, w: &mut W) -> SerializeResult<usize> {
+        T::write_der(*self, alloc, w)
     }
 }
 
@@ -245,6 +299,11 @@ impl<T: HasKind + ToDerBy<T::Kind>> ToDer for T {
     #[inline(always)]
     fn write_der_content<W: DerWrite>(&self, alloc: Global, w: &mut W) -> SerializeResult<usize> {
         self.put_content(alloc, w)
+    }
+
+    #[inline(always)]
+    fn write_der<W: DerWrite>(&self, alloc: Global, w: &mut W) -> SerializeResult<usize> {
+        self.put_whole(alloc, w)
     }
 }
 

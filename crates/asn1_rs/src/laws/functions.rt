@@ -22,8 +22,10 @@ ghost use Rattle.asn1_rs.specs.Leaf.{HaveOneRefusal};
 ghost use Rattle.asn1_rs.specs.Boolean.{boolean_leaf, bool_leaf};
 ghost use Rattle.asn1_rs.specs.Null.{null_leaf, unit_leaf};
 ghost use Rattle.asn1_rs.specs.Enumerated.{enumerated_leaf};
-ghost use Rattle.asn1_rs.specs.Integer.Octets.{integer_leaf};
+ghost use Rattle.asn1_rs.specs.Integer.Octets.{any_integer_leaf};
 ghost use Rattle.asn1_rs.specs.EndOfContent.{end_leaf};
+ghost use Rattle.asn1_rs.specs.OctetString.{octet_string_leaf, slice_leaf};
+ghost use Rattle.asn1_rs.specs.BitString.{bit_string_leaf};
 ghost use Rattle.asn1_rs.specs.ToDer.{IsWritable};
 
 use crate::error::Error;
@@ -145,6 +147,9 @@ pub fn leaves_have_one_refusal()
     ensures null { HaveOneRefusal null_leaf }
     ensures unit { HaveOneRefusal unit_leaf }
     ensures end_of_content { HaveOneRefusal end_leaf }
+    ensures octet_string { HaveOneRefusal octet_string_leaf }
+    ensures octets { HaveOneRefusal slice_leaf }
+    ensures bit_string { HaveOneRefusal bit_string_leaf }
     ensures enumerated { HaveOneRefusal enumerated_leaf }
-    ensures integer { HaveOneRefusal integer_leaf }
+    ensures integer { HaveOneRefusal any_integer_leaf }
 {}

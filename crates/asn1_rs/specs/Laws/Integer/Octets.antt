@@ -6,7 +6,7 @@ use Rattle.x690.specs.Octets.{IsOctets}
 use Rattle.asn1_rs.specs.Checks.{IsCheck}
 use Rattle.asn1_rs.specs.declared.asn1_types.integer.octets.Integer.{Integer}
 use Rattle.asn1_rs.specs.Integer.{IntegerCheckGives}
-use Rattle.asn1_rs.specs.Integer.Octets.{integer_octets, integer_leaf}
+use Rattle.asn1_rs.specs.Integer.Octets.{integer_octets, any_integer_leaf}
 use Rattle.asn1_rs.specs.Laws.Checks.{nothing_is}
 use Rattle.asn1_rs.specs.Laws.Integer.{integer_checks, one_integer_check_refusal}
 use Rattle.asn1_rs.specs.Leaf.{IsLawfulLeaf}
@@ -19,8 +19,8 @@ integer_check_is = record {
   spares = integer_checks.spares;
 }
 
-pub integer_leaf_lawful : IsLawfulLeaf integer_leaf
-integer_leaf_lawful = record {
+pub any_integer_lawful : IsLawfulLeaf any_integer_leaf
+any_integer_lawful = record {
   small = lit< tt;
   checks = nothing_is;
   constraints = integer_check_is;
@@ -34,5 +34,5 @@ integer_leaf_lawful = record {
 }
 
 -- integers are equal where their octets are the same
-pub integers_equal : (x y : Integer) → IsTrue (pointwise nat_eq (integer_octets x) (integer_octets y)) ↔ (integer_octets x ≡ integer_octets y)
-integers_equal x y = bytes_decides (integer_octets x) (integer_octets y)
+pub octets_equal : (x y : Integer) → IsTrue (pointwise nat_eq (integer_octets x) (integer_octets y)) ↔ (integer_octets x ≡ integer_octets y)
+octets_equal x y = bytes_decides (integer_octets x) (integer_octets y)

@@ -6,14 +6,15 @@ pub(crate) mod octets;
 mod signed;
 mod unsigned;
 
-ghost use Rattle.std.specs.Prelude.{ℕ, pos, ◌≡◌, ◌≤◌, false, length, Err, IfOk, IfErr};
+ghost use Rattle.std.specs.Prelude.{ℕ, pos, ◌++◌, ◌≡◌, ◌≤◌, false, length, Err, IfOk, IfErr};
 ghost use Rattle.x690.specs.Elements.{Parts};
 ghost use Rattle.asn1_rs.specs.declared.error.Error.{Error};
 ghost use Rattle.x690.specs.Digits.{twos_complement_value};
 ghost use Rattle.x690.specs.Integers.{unsigned_octets};
 ghost use Rattle.x690.specs.Signed.{IsSigned, signed_octets};
+ghost use Rattle.x690.specs.Strict.{header_octets};
 ghost use Rattle.asn1_rs.specs.Any.{parts_of};
-ghost use Rattle.asn1_rs.specs.Integer.{IntegerCheckGives, IsUnsigned, UnsignedRefuses, UnsignedGives, SignedGives, SignedRefuses, IsIntegerOr};
+ghost use Rattle.asn1_rs.specs.Integer.{integer_number, IntegerCheckGives, IsUnsigned, UnsignedRefuses, UnsignedGives, SignedGives, SignedRefuses, IsIntegerOr};
 ghost use Rattle.asn1_rs.specs.Writer.{Wrote, MayRefuse};
 
 use crate::asn1_types::any::Any;
@@ -21,7 +22,7 @@ use crate::error::{DerConstraint, Error, SerializeResult};
 use crate::tag::Tag;
 use crate::writer::{DerWrite, put_all};
 use x690::integers::{has_spare_ones, has_spare_zeros, unsigned_into, unsigned_number};
-use x690::signed::{signed_into, signed_number};
+use x690::signed::{integer_element, signed_into, signed_number};
 
 /// Refuses an element that is constructed, has an indefinite length, or whose contents octets are not the fewest of
 /// their number (X.690 8.3.1, 8.3.2). It is the check of all integers.
@@ -121,6 +122,32 @@ pub(crate) fn put_signed_content<W: DerWrite>(n: i128, w: &mut W) -> SerializeRe
     let mut octets = [0; 17];
     let first = signed_into(n, &mut octets);
     put_all(w, &octets[first..])
+}
+
+/// Appends the strict element of an integer in one piece, and answers its length.
+#[inline(always)]
+pub(crate) fn put_signed_element<W: DerWrite>(n: i64, w: &mut W) -> SerializeResult<usize>
+    ensures wrote { Wrote (header_octets 0 false integer_number (length (signed_octets n))
+        ++ signed_octets n) (W.told w.old) (W.told w.new) (W.failed w.old) (W.failed w.new) result }
+    ensures refused { IfErr result (MayRefuse false
+        (length (header_octets 0 false integer_number (length (signed_octets n))
+        ++ signed_octets n))) }
+{
+    let (octets, count) = integer_element(Tag::Integer.0, n);
+    put_all(w, &octets[..count])
+}
+
+/// Appends the strict element of a natural number in one piece, and answers its length.
+#[inline(always)]
+pub(crate) fn put_unsigned_element<W: DerWrite>(n: u32, w: &mut W) -> SerializeResult<usize>
+    ensures wrote { Wrote (header_octets 0 false integer_number (length (unsigned_octets n))
+        ++ unsigned_octets n) (W.told w.old) (W.told w.new) (W.failed w.old) (W.failed w.new)
+        result }
+    ensures refused { IfErr result (MayRefuse false
+        (length (header_octets 0 false integer_number (length (unsigned_octets n))
+        ++ unsigned_octets n))) }
+{
+    put_signed_element(i64::from(n), w)
 }
 
 /// The check of an integer allows one refusal for one element, and so does the conversion to a natural number,

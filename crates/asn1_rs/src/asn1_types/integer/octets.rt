@@ -5,9 +5,9 @@ ghost use Rattle.asn1_rs.specs.Any.{parts_of};
 ghost use Rattle.asn1_rs.specs.Header.{HasParts};
 ghost use Rattle.asn1_rs.specs.Integer.{integer_number, IntegerCheckGives};
 ghost use Rattle.asn1_rs.specs.Integer.Machine.{GivesBack};
-ghost use Rattle.asn1_rs.specs.Integer.Octets.{integer_octets, integer_leaf, BorrowsOctets, HoldsOr};
+ghost use Rattle.asn1_rs.specs.Integer.Octets.{integer_octets, any_integer_leaf, BorrowsOctets, HoldsOr};
 ghost use Rattle.asn1_rs.specs.Leaf.{LeafGives, leaf_element};
-ghost use Rattle.asn1_rs.specs.Laws.Integer.Octets.{integer_leaf_lawful, integers_equal};
+ghost use Rattle.asn1_rs.specs.Laws.Integer.Octets.{any_integer_lawful, octets_equal};
 ghost use Rattle.asn1_rs.specs.Laws.Leaf.{leaf_lawful, leaf_constraints, leaf_converts, leaf_primitive};
 ghost use Rattle.asn1_rs.specs.Traits.{OfParts};
 ghost use Rattle.asn1_rs.specs.declared.class.Class.TheVariants as classes;
@@ -104,7 +104,7 @@ impl<'a> Any<'a> {
     /// The integer by its contents octets, which are borrowed (X.690 8.3). Refused at another tag number with
     /// `UnexpectedTag`, and nowhere else.
     pub fn integer(self) -> Result<Integer<'a>, Error>
-        ensures gives { LeafGives integer_leaf (parts_of self.entry) result }
+        ensures gives { LeafGives any_integer_leaf (parts_of self.entry) result }
         ensures borrowed { IfOk result BorrowsOctets }
     {
         self.as_integer()
@@ -113,7 +113,7 @@ impl<'a> Any<'a> {
     /// The integer by its contents octets, of an element that stays.
     #[inline(always)]
     pub fn as_integer(&self) -> Result<Integer<'a>, Error>
-        ensures gives { LeafGives integer_leaf (parts_of self.now) result }
+        ensures gives { LeafGives any_integer_leaf (parts_of self.now) result }
         ensures borrowed { IfOk result BorrowsOctets }
     {
         self.assert_number(Tag::Integer)?;
@@ -136,7 +136,7 @@ impl Tagged for Integer<'_> {
 impl<'a> FromAny<'a> for Integer<'a> {
     type Error = Error;
 
-    ghost any_gives = { OfParts (LeafGives integer_leaf) };
+    ghost any_gives = { OfParts (LeafGives any_integer_leaf) };
 
     fn try_from_any(_alloc: Global, any: Any<'a>) -> Result<Integer<'a>, Error> {
         any.as_integer()
@@ -160,15 +160,15 @@ impl HasKind for Integer<'_> {
 }
 
 impl LawfulElement for Integer<'_> {
-    ghost element = { leaf_element integer_leaf };
+    ghost element = { leaf_element any_integer_leaf };
 
-    ghost lawful = { leaf_lawful integer_leaf integer_leaf_lawful };
+    ghost lawful = { leaf_lawful any_integer_leaf any_integer_lawful };
 
-    ghost checked = { leaf_constraints integer_leaf integer_leaf_lawful };
+    ghost checked = { leaf_constraints any_integer_leaf any_integer_lawful };
 }
 
 impl<'a> LawfulConversion<'a> for Integer<'a> {
-    ghost converts = { leaf_converts integer_leaf integer_leaf_lawful };
+    ghost converts = { leaf_converts any_integer_leaf any_integer_lawful };
 }
 
 impl WritesOctets for Integer<'_> {
@@ -178,9 +178,9 @@ impl WritesOctets for Integer<'_> {
         self.as_bytes()
     }
 
-    ghost held_are = { leaf_primitive integer_leaf integer_leaf_lawful };
+    ghost held_are = { leaf_primitive any_integer_leaf any_integer_lawful };
 }
 
 impl LawfulMember for Integer<'_> {
-    ghost same = { integers_equal };
+    ghost same = { octets_equal };
 }

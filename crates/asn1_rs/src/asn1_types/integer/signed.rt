@@ -7,7 +7,7 @@ ghost use Rattle.asn1_rs.specs.Laws.Integer.{integer_checks, integer_lawful, int
 ghost use Rattle.asn1_rs.specs.Laws.Integer.Signed.{signed_converts, signed_equal};
 
 use crate::asn1_types::any::Any;
-use crate::asn1_types::integer::{check_integer, put_signed_content};
+use crate::asn1_types::integer::{check_integer, put_signed_content, put_signed_element};
 use crate::error::{Error, SerializeResult};
 use crate::kinds::writing::WritesPrimitive;
 use crate::kinds::{ElementKind, HasKind, LawfulConversion, LawfulElement};
@@ -75,6 +75,11 @@ impl WritesPrimitive for i8 {
         put_signed_content(i128::from(*self), w)
     }
 
+    #[inline(always)]
+    fn put_element<W: DerWrite>(&self, w: &mut W) -> SerializeResult<usize> {
+        put_signed_element(i64::from(*self), w)
+    }
+
     ghost primitive = { integer_primitive (λ n. n) signed_octets signed_octets_content
         (IsSigned 1) };
 }
@@ -138,6 +143,11 @@ impl WritesPrimitive for i16 {
 
     fn put_octets<W: DerWrite>(&self, w: &mut W) -> SerializeResult<usize> {
         put_signed_content(i128::from(*self), w)
+    }
+
+    #[inline(always)]
+    fn put_element<W: DerWrite>(&self, w: &mut W) -> SerializeResult<usize> {
+        put_signed_element(i64::from(*self), w)
     }
 
     ghost primitive = { integer_primitive (λ n. n) signed_octets signed_octets_content
@@ -205,6 +215,11 @@ impl WritesPrimitive for i32 {
         put_signed_content(i128::from(*self), w)
     }
 
+    #[inline(always)]
+    fn put_element<W: DerWrite>(&self, w: &mut W) -> SerializeResult<usize> {
+        put_signed_element(i64::from(*self), w)
+    }
+
     ghost primitive = { integer_primitive (λ n. n) signed_octets signed_octets_content
         (IsSigned 4) };
 }
@@ -268,6 +283,11 @@ impl WritesPrimitive for i64 {
 
     fn put_octets<W: DerWrite>(&self, w: &mut W) -> SerializeResult<usize> {
         put_signed_content(i128::from(*self), w)
+    }
+
+    #[inline(always)]
+    fn put_element<W: DerWrite>(&self, w: &mut W) -> SerializeResult<usize> {
+        put_signed_element(*self, w)
     }
 
     ghost primitive = { integer_primitive (λ n. n) signed_octets signed_octets_content

@@ -8,7 +8,7 @@ ghost use Rattle.asn1_rs.specs.Laws.Integer.{integer_checks, integer_lawful, int
 ghost use Rattle.asn1_rs.specs.Laws.Integer.Unsigned.{unsigned_converts, unsigned_equal};
 
 use crate::asn1_types::any::Any;
-use crate::asn1_types::integer::{check_integer, put_unsigned_content};
+use crate::asn1_types::integer::{check_integer, put_unsigned_content, put_unsigned_element};
 use crate::error::{Error, SerializeResult};
 use crate::kinds::writing::WritesPrimitive;
 use crate::kinds::{ElementKind, HasKind, LawfulConversion, LawfulElement};
@@ -76,6 +76,11 @@ impl WritesPrimitive for u8 {
         put_unsigned_content(u128::from(*self), w)
     }
 
+    #[inline(always)]
+    fn put_element<W: DerWrite>(&self, w: &mut W) -> SerializeResult<usize> {
+        put_unsigned_element(u32::from(*self), w)
+    }
+
     ghost primitive = { integer_primitive pos unsigned_octets unsigned_octets_content
         (IsUnsigned 1) };
 }
@@ -141,6 +146,11 @@ impl WritesPrimitive for u16 {
         put_unsigned_content(u128::from(*self), w)
     }
 
+    #[inline(always)]
+    fn put_element<W: DerWrite>(&self, w: &mut W) -> SerializeResult<usize> {
+        put_unsigned_element(u32::from(*self), w)
+    }
+
     ghost primitive = { integer_primitive pos unsigned_octets unsigned_octets_content
         (IsUnsigned 2) };
 }
@@ -204,6 +214,11 @@ impl WritesPrimitive for u32 {
 
     fn put_octets<W: DerWrite>(&self, w: &mut W) -> SerializeResult<usize> {
         put_unsigned_content(u128::from(*self), w)
+    }
+
+    #[inline(always)]
+    fn put_element<W: DerWrite>(&self, w: &mut W) -> SerializeResult<usize> {
+        put_unsigned_element(*self, w)
     }
 
     ghost primitive = { integer_primitive pos unsigned_octets unsigned_octets_content

@@ -32,3 +32,24 @@ returns-in-I128 c = rw c.in-I128.is c.push_by_either-in-I128.ensures
 
 pub returns-in-Any : goal.returns-in-Any
 returns-in-Any c = rw c.in-Any.is c.push_by_either-in-Any.ensures
+
+pub returns-in-Bool : goal.returns-in-Bool
+returns-in-Bool c = rw c.in-Bool.is c.push_by_either-in-Bool.ensures
+
+pub returns-in-Null : goal.returns-in-Null
+returns-in-Null c = rw c.in-Null.is c.push_by_either-in-Null.ensures
+
+pub returns-in-Eoc : goal.returns-in-Eoc
+returns-in-Eoc c = rw c.in-Eoc.is c.push_by_ber.ensures
+
+pub returns-in-Octets : goal.returns-in-Octets
+returns-in-Octets c = rw c.in-Octets.is c.push_by_either-in-Octets.ensures
+
+pub returns-in-Bits : goal.returns-in-Bits
+returns-in-Bits c = rw c.in-Bits.is c.push_by_either-in-Bits.ensures
+
+pub returns-in-Enumerated : goal.returns-in-Enumerated
+returns-in-Enumerated c = rw c.in-Enumerated.is c.push_by_either-in-Enumerated.ensures
+
+pub returns-in-Integer : goal.returns-in-Integer
+returns-in-Integer c = rw c.in-Integer.is c.push_by_either-in-Integer.ensures

@@ -1,9 +1,10 @@
-use Rattle.std.proofs.Common.{arith}
-use Rattle.asn1vec_engine.proofs.Hexadecimal.{is_digit, number_is}
+use Rattle.std.proofs.Common.{refl, arith}
+use Rattle.asn1vec_engine.specs.declared.digits.TheConstants.{NUMBERS}
+use Rattle.asn1vec_engine.proofs.Hexadecimal.{digit_in, number_in}
 use Rattle.asn1vec_engine.proofs.digits.number_of.Goals as goal
 
 pub returns-clause-digit : goal.returns-clause-digit
-returns-clause-digit c = is_digit c.args.digit (omega arith)
+returns-clause-digit c = digit_in NUMBERS refl c.args.digit (omega arith)
 
 pub returns-clause-none : goal.returns-clause-none
-returns-clause-none c = λ d. number_is d c.args.digit
+returns-clause-none c = λ d. number_in NUMBERS refl d c.args.digit

@@ -1,49 +1,41 @@
-use Rattle.std.proofs.Common.{◌≡◌, ℕ, ◌+◌, ◌-◌, ◌/◌, ◌%◌, ◌^◌, ◌<◌, ◌≤◌, List, [], ◌∷◌, ◌++◌, length, take, drop, set, ap, sym, ◌∙◌, arith, append_assoc, length-append, length-drop}
-use Rattle.std.proofs.lemmas.List.{drop-set, length-set, take-set-le, take-take}
+use Rattle.std.proofs.Common.{ℕ, ◌≡◌, ◌+◌, ◌-◌, ◌≤◌, List, [], ◌∷◌, take, drop, set, length, ap, sym, ◌∙◌, arith}
+use Rattle.std.proofs.lemmas.List.{take_all}
+use Rattle.std.specs.Int.{bytes_high_first}
 use Rattle.x690.specs.Integers.{unsigned_octets}
-use Rattle.x690.specs.Laws.Integers.Unsigned.{unsigned_octets_few, unsigned_octets_some, unsigned_octets_low, unsigned_octets_step, unsigned_octets_count_step}
+use Rattle.x690.specs.Laws.Integers.Unsigned.{unsigned_octets_some}
+use Rattle.x690.proofs.Bytes.{length-bytes, last_bytes, octet_more, bytes_are_octets}
 use Rattle.x690.proofs.integers.unsigned_into.Goals as goal
 
--- as long as octets are left there is room for one more
-room : (n left at : ℕ) (out : List ℕ) → n < 2 ^ 128 → length out ≡ 17 → at ≤ 16 → 128 ≤ left → unsigned_octets left ++ drop (at + 1) out ≡ unsigned_octets n → 1 ≤ at
-room n left at out fits long within more e =
-    let l = ap length e in
-    omega (arith, l, length-append (unsigned_octets left) (drop (at + 1) out), length-drop (at + 1) out, unsigned_octets_few n 16 fits, unsigned_octets_count_step left more, unsigned_octets_some (left / 256))
+-- all but the first
+first_put : (out digits : List ℕ) → length digits ≡ 16 → length out ≡ 17 → drop (17 - length digits) out ≡ digits → set out 0 0 ≡ 0 ∷ digits
+first_put [] digits l long e = absurd (omega arith)
+first_put (first ∷ others) digits l long e =
+    let one : 17 - length digits ≡ 1 = omega arith in
+    let rest : others ≡ digits = ap (λ (i : ℕ). drop i (first ∷ others)) (sym one) ∙ e in
+    ap (λ (ys : List ℕ). 0 ∷ ys) rest
 
--- the last octet is put
-put : (left at : ℕ) (out : List ℕ) → at < length out → 128 ≤ left → unsigned_octets (left / 256) ++ drop at (set out at (left % 256)) ≡ unsigned_octets left ++ drop (at + 1) out
-put left at out within more =
-    ap (λ (ys : List ℕ). unsigned_octets (left / 256) ++ ys) (drop-set out at (left % 256) within) ∙ sym (append_assoc (unsigned_octets (left / 256)) ((left % 256) ∷ []) (drop (at + 1) out))
-    ∙ ap (λ (ys : List ℕ). ys ++ drop (at + 1) out) (sym (unsigned_octets_step left more))
+-- the last of 16 bytes
+last_digits : (n k : ℕ) (digits : List ℕ) → k ≤ 16 → digits ≡ bytes_high_first 16 n → k ≡ length (unsigned_octets n) → take (16 - (16 - k)) (drop (16 - k) digits) ≡ unsigned_octets n
+last_digits n k digits h e l =
+    let s : 16 - k + k ≡ 16 = omega arith in
+    let whole : digits ≡ bytes_high_first (16 - k + k) n = e ∙ ap (λ (i : ℕ). bytes_high_first i n) (sym s) in
+    let lasts : drop (16 - k) digits ≡ bytes_high_first k n = ap (drop (16 - k)) whole ∙ last_bytes k (16 - k) n in
+    let all : take (16 - (16 - k)) (drop (16 - k) digits) ≡ drop (16 - k) digits = take_all (16 - (16 - k)) (drop (16 - k) digits) (omega (arith, ap length lasts, length-bytes k n)) in
+    all ∙ lasts ∙ bytes_are_octets k n (sym l)
 
--- and the first one
-put_first : (left at : ℕ) (out : List ℕ) → at < length out → left < 128 → drop at (set out at left) ≡ unsigned_octets left ++ drop (at + 1) out
-put_first left at out within low =
-    drop-set out at left within ∙ ap (λ (ys : List ℕ). ys ++ drop (at + 1) out) (sym (unsigned_octets_low left low))
-
--- what stands before an octet that is put stays
-kept_before : (at p v : ℕ) (out old : List ℕ) → p ≤ at → take (at + 1) out ≡ take (at + 1) old → take p (set out at v) ≡ take p old
-kept_before at p v out old h e =
-    take-set-le p out at v h ∙ sym (take-take p (at + 1) out (omega arith)) ∙ ap (λ (xs : List ℕ). take p xs) e ∙ take-take p (at + 1) old (omega arith)
-
-pub overflow_sub-at : goal.overflow_sub-at
-overflow_sub-at c = room c.args.n c.loop-left.left c.loop-left.at c.loop-left.out (omega arith) c.loop-left.invariant.long (omega arith) (omega arith) c.loop-left.invariant.octets
-
-pub loop-left-preserved : goal.loop-left-preserved
-loop-left-preserved c =
-    let some = room c.args.n c.loop-left.left c.loop-left.at c.loop-left.out (omega arith) c.loop-left.invariant.long (omega arith) (omega arith) c.loop-left.invariant.octets in
-    let e : c.loop-left.at - 1 + 1 ≡ c.loop-left.at = omega arith in
-    record {
-      octets =
-          ap (λ (i : ℕ). unsigned_octets (c.loop-left.left / 256) ++ drop i (set c.loop-left.out c.loop-left.at (c.loop-left.left % 256))) e
-          ∙ put c.loop-left.left c.loop-left.at c.loop-left.out (omega arith) (omega arith) ∙ c.loop-left.invariant.octets;
-      kept = kept_before c.loop-left.at (c.loop-left.at - 1 + 1) (c.loop-left.left % 256) c.loop-left.out c.args.out.now (omega arith) c.loop-left.invariant.kept;
-      within = omega arith;
-      long = simp length-set c.loop-left.invariant.long;
-    }
+pub returns-then-count-eq17-clause-octets : goal.returns-then-count-eq17-clause-octets
+returns-then-count-eq17-clause-octets c =
+    let bytes = c.to_be_bytes-digits in
+    first_put c.put_at_end.new.out bytes.result (omega (arith, ap length bytes.ensures, length-bytes 16 c.args.n)) c.put_at_end.array_long c.put_at_end.ensures.octets
+    ∙ ap (λ (ys : List ℕ). 0 ∷ ys) bytes.ensures
+    ∙ octet_more 15 c.args.n (omega arith) (sym c.unsigned_octets_count-count.ensures.count ∙ c.if-count-eq17.true)
 
 pub returns-clause-octets : goal.returns-clause-octets
-returns-clause-octets c = put_first c.loop-left.left c.loop-left.at c.loop-left.out (omega arith) (omega arith) ∙ c.loop-left.invariant.octets
+returns-clause-octets c =
+    let count = c.unsigned_octets_count-count in
+    let digits = last_digits c.args.n count.result c.to_be_bytes-digits.result (omega (arith, count.ensures.few)) c.to_be_bytes-digits.ensures count.ensures.count in
+    let l : length (take (16 - (16 - count.result)) (drop (16 - count.result) c.to_be_bytes-digits.result)) ≡ count.result = ap length digits ∙ sym count.ensures.count in
+    ap (λ (i : ℕ). drop (17 - i) c.put_at_end-2.new.out) (sym l) ∙ c.put_at_end-2.ensures.octets ∙ digits
 
-pub returns-clause-kept : goal.returns-clause-kept
-returns-clause-kept c = kept_before c.loop-left.at c.loop-left.at c.loop-left.left c.loop-left.out c.args.out.now (omega arith) c.loop-left.invariant.kept
+pub returns-clause-within : goal.returns-clause-within
+returns-clause-within c = omega (arith, c.unsigned_octets_count-count.ensures.count, unsigned_octets_some c.args.n)

@@ -1,10 +1,8 @@
 //! Tables in text: the name of a call and `:`, and rows below it of octets, ` = ` and the text of the answer.
 
-use crate::calls::push_answer;
+use crate::texts::assert_text;
 use hex::FromHexError;
 use std::alloc::Global;
-use std::fmt::Debug;
-use std::process::Abort;
 use std::test::Fail;
 
 /// The hexadecimal digits.
@@ -13,7 +11,7 @@ const DIGITS: [char; 16] = [
 ];
 
 /// Appends octets in hexadecimal digits, `-` for none.
-pub(crate) fn push_digits(text: &mut String, octets: &[u8]) -> Result<(), Fail> {
+pub fn push_digits(text: &mut String, octets: &[u8]) -> Result<(), Fail> {
     if octets.is_empty() {
         text.push('-')?;
     }
@@ -25,7 +23,7 @@ pub(crate) fn push_digits(text: &mut String, octets: &[u8]) -> Result<(), Fail> 
 }
 
 /// The octets that the digits stand for, `-` for none.
-fn octets_of(alloc: Global, digits: &str) -> Result<Vec<u8>, FromHexError> {
+pub fn octets_of(alloc: Global, digits: &str) -> Result<Vec<u8>, FromHexError> {
     match digits {
         "-" => Ok(Vec::new(alloc)),
         _ => hex::decode(alloc, digits),
@@ -50,7 +48,7 @@ fn push_word(text: &mut String, word: &str) -> Result<(), Fail> {
 }
 
 /// The words with their pieces written out.
-pub(crate) fn written_out(alloc: Global, words: &str) -> Result<String, Fail> {
+pub fn written_out(alloc: Global, words: &str) -> Result<String, Fail> {
     let mut text = String::new(alloc);
     for (place, word) in words.split(' ').enumerate() {
         if place > 0 {
@@ -62,65 +60,51 @@ pub(crate) fn written_out(alloc: Global, words: &str) -> Result<String, Fail> {
 }
 
 /// The two sides of a row.
-pub(crate) fn sides(row: &str) -> Result<(&str, &str), Fail> {
+pub fn sides(row: &str) -> Result<(&str, &str), Fail> {
     match row.split_once(" = ") {
         Some(sides) => Ok(sides),
         None => Err(Fail::new(format_args!("no row: {row}"))),
     }
 }
 
+/// The calls that a table can name.
+pub trait Calls {
+    /// Appends the answer to the call of this name at these octets.
+    fn answer(text: &mut String, alloc: Global, name: &str, octets: &[u8]) -> Result<(), Fail>;
+}
+
 /// The answer to a call at the octets that the digits stand for.
-fn answer(alloc: Global, call: &str, digits: &str) -> Result<String, Fail> {
+fn answer<C: Calls>(alloc: Global, call: &str, digits: &str) -> Result<String, Fail> {
     let octets = octets_of(alloc, digits)?;
     let mut text = String::new(alloc);
-    push_answer(&mut text, alloc, call, octets.as_slice())?;
+    C::answer(&mut text, alloc, call, octets.as_slice())?;
     Ok(text)
 }
 
 /// Asserts that the call is answered as the row says.
-fn assert_row(rt: &impl Abort, alloc: Global, call: &str, row: &str) -> Result<(), Fail> {
+fn assert_row<C: Calls>(alloc: Global, call: &str, row: &str) -> Result<(), Fail> {
     let (digits, expected) = sides(row)?;
     let digits = written_out(alloc, digits)?;
     let expected = written_out(alloc, expected)?;
-    let answer = answer(alloc, call, digits.as_str())?;
-    assert_eq!(rt; answer.as_str(), expected.as_str(), "{call}: {row}");
-    Ok(())
+    let answer = answer::<C>(alloc, call, digits.as_str())?;
+    assert_text(row, answer.as_str(), expected.as_str())
 }
 
 /// Asserts that the call that the first line names is answered as the rows below it say.
-fn assert_call(rt: &impl Abort, alloc: Global, block: &str) -> Result<(), Fail> {
+fn assert_call<C: Calls>(alloc: Global, block: &str) -> Result<(), Fail> {
     let Some((call, rows)) = block.split_once(":\n") else {
         return Err(Fail::new(format_args!("no call: {block}")));
     };
     for row in rows.lines() {
-        assert_row(rt, alloc, call, row)?;
+        assert_row::<C>(alloc, call, row)?;
     }
     Ok(())
 }
 
 /// Asserts that each call of a table is answered as its rows say. An empty line parts the calls.
-pub(crate) fn assert_rows(rt: &impl Abort, alloc: Global, table: &str) -> Result<(), Fail> {
+pub fn assert_rows<C: Calls>(alloc: Global, table: &str) -> Result<(), Fail> {
     for block in table.split("\n\n") {
-        assert_call(rt, alloc, block)?;
+        assert_call::<C>(alloc, block)?;
     }
     Ok(())
-}
-
-/// Asserts that a value has this derived text.
-pub(crate) fn assert_shown<T: Debug>(
-    rt: &impl Abort,
-    alloc: Global,
-    value: &T,
-    expected: &str,
-) -> Result<(), Fail> {
-    let text = format!(in alloc; "{value:?}")?;
-    assert_eq!(rt; text.as_str(), expected);
-    Ok(())
-}
-
-#[test]
-fn wrong_digits_are_no_octets(rt: HostRuntime) {
-    for digits in ["3000f", "4Z00", "02!5", "0"] {
-        assert!(rt; octets_of(rt.alloc(), digits).is_err(), "{digits}");
-    }
 }

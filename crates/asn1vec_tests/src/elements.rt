@@ -1,6 +1,6 @@
 //! Lines of the program by BER, and lines of elements of any type.
 
-use crate::lines::assert_lines;
+use crate::runs::assert_lines;
 use std::test::Fail;
 
 const ELEMENTS: &str = "\
@@ -59,15 +59,7 @@ ber u8 02ff000102030405060708090a0b0c0d0e0f10 = err InvalidLength
 
 #[test]
 fn lines_of_elements_are_answered(rt: HostRuntime) -> Result<(), Fail> {
-    assert_lines(&rt, rt.alloc(), ELEMENTS)
-}
-
-#[test]
-fn lines_of_elements_are_refused(rt: HostRuntime) -> Result<(), Fail> {
-    assert_lines(&rt, rt.alloc(), REFUSED_ELEMENTS)
-}
-
-#[test]
-fn lines_of_numbers_are_answered_by_ber(rt: HostRuntime) -> Result<(), Fail> {
-    assert_lines(&rt, rt.alloc(), NUMBERS)
+    assert_lines(rt.alloc(), ELEMENTS)?;
+    assert_lines(rt.alloc(), REFUSED_ELEMENTS)?;
+    assert_lines(rt.alloc(), NUMBERS)
 }

@@ -1,0 +1,186 @@
+//! Bit strings (X.690 8.6, 11.2).
+ghost use Rattle.std.specs.Prelude.{◌≡◌, ◌∷◌, ◌↔◌, false, length, IsTrue, IfErr};
+ghost use Rattle.std.specs.Cow.{IsBorrowedSlice};
+ghost use Rattle.asn1_rs.specs.Any.{parts_of};
+ghost use Rattle.asn1_rs.specs.BitString.{bit_string_number, bit_string_leaf, bit_string_constraints, bit_string_octets, data_of, bit_of, IsZeroPadded};
+ghost use Rattle.asn1_rs.specs.Leaf.{LeafGives, leaf_element};
+ghost use Rattle.asn1_rs.specs.Laws.BitString.{bit_string_lawful, bit_string_equal};
+ghost use Rattle.asn1_rs.specs.Laws.Leaf.{leaf_lawful, leaf_constraints, leaf_converts, leaf_primitive};
+ghost use Rattle.asn1_rs.specs.Traits.{OfParts};
+ghost use Rattle.asn1_rs.specs.Writer.{Wrote, MayRefuse};
+
+use crate::asn1_types::any::Any;
+use crate::error::{DerConstraint, Error, SerializeResult};
+use crate::kinds::writing::WritesPrimitive;
+use crate::kinds::{ElementKind, HasKind, LawfulConversion, LawfulElement};
+use crate::laws::LawfulMember;
+use crate::tag::Tag;
+use crate::traits::{CheckDerConstraints, DerAutoDerive, FromAny, Tagged};
+use crate::writer::{DerWrite, add_written, put_all};
+use std::alloc::Global;
+use std::borrow::CowSlice;
+
+/// A bit string: octets that have its bits, and how many bits at the end of the last octet are unused (X.690 8.6).
+///
+/// Two are equal where their counts and their octets are, with the unused bits of these.
+#[derive(Debug, Clone, Drop, PartialEq, Eq)]
+pub struct BitString<'a> {
+    /// How many bits of the last octet are unused, at most 7 of a strict one (8.6.2.2).
+    pub unused_bits: u8,
+    /// The octets that have the bits, the first bit the highest of the first octet (8.6.2.1).
+    pub content: CowSlice<'a, u8, Global>,
+}
+
+impl<'a> BitString<'a> {
+    /// The bits of these octets, which it borrows, but for so many unused ones.
+    pub const fn new(unused_bits: u8, s: &'a [u8]) -> Self
+        ensures unused { result.unused_bits ≡ unused_bits }
+        ensures octets { data_of result ≡ s.now }
+        ensures borrowed { IsBorrowedSlice result.content }
+    {
+        BitString {
+            unused_bits,
+            content: CowSlice::Borrowed(s),
+        }
+    }
+
+    /// The octets that have the bits.
+    pub fn as_bytes(&self) -> &[u8]
+        ensures { result.now ≡ data_of self.now }
+    {
+        self.content.as_slice()
+    }
+
+    /// Whether this bit is set; bit 0 is the highest of the first octet (8.6.2.1). An unused bit is looked at as any
+    /// other, and past the octets no bit is set.
+    pub fn is_set(&self, bitnum: usize) -> bool
+        ensures { IsTrue result ↔ (bit_of (data_of self.now) bitnum ≡ 1) }
+    {
+        match self.as_bytes().get(bitnum / 8) {
+            Some(octet) => *octet >> (7 - bitnum % 8) & 1 == 1,
+            None => false,
+        }
+    }
+}
+
+impl<'a> Any<'a> {
+    /// The bit string of the contents octets, whether the element is primitive or constructed: the first octet is the
+    /// count of unused bits, whatever it is. Refused at another tag number with `UnexpectedTag`, and where there are no
+    /// contents octets with `InvalidLength`.
+    pub fn bitstring(self) -> Result<BitString<'a>, Error>
+        ensures { LeafGives bit_string_leaf (parts_of self.entry) result }
+    {
+        self.as_bitstring()
+    }
+
+    /// The bit string, of an element that stays.
+    #[inline(always)]
+    pub fn as_bitstring(&self) -> Result<BitString<'a>, Error>
+        ensures { LeafGives bit_string_leaf (parts_of self.now) result }
+    {
+        self.assert_number(Tag::BitString)?;
+        match self.content.split_first() {
+            Some((unused_bits, octets)) => Ok(BitString::new(*unused_bits, octets)),
+            None => Err(Error::InvalidLength),
+        }
+    }
+}
+
+/// Whether at most seven bits are unused, and these are zero.
+#[inline(always)]
+fn is_zero_padded(unused_bits: u8, octets: &[u8]) -> bool
+    ensures { IsTrue result ↔ IsZeroPadded (record { unused = unused_bits; octets = octets.now }) }
+{
+    match octets.last() {
+        Some(octet) => unused_bits <= 7 && u32::from(unused_bits) <= octet.trailing_zeros(),
+        None => unused_bits <= 7,
+    }
+}
+
+/// Appends the count of unused bits, and then the octets.
+#[inline(always)]
+fn put_bits<W: DerWrite>(unused_bits: u8, octets: &[u8], w: &mut W) -> SerializeResult<usize>
+    ensures wrote { Wrote (unused_bits ∷ octets.now) (W.told w.old) (W.told w.new) (W.failed w.old)
+        (W.failed w.new) result }
+    ensures refused { IfErr result (MayRefuse false (length (unused_bits ∷ octets.now))) }
+{
+    let before = put_all(w, &[unused_bits])?;
+    let after = put_all(w, octets)?;
+    add_written(before, after)
+}
+
+impl Tagged for BitString<'_> {
+    const TAG: Tag = Tag::BitString;
+
+    ghost mark = { record { 0 = bit_string_number } };
+
+    fn its_tag() -> Tag
+        ensures { result ≡ record { 0 = bit_string_number } }
+    {
+        Self::TAG
+    }
+}
+
+impl<'a> FromAny<'a> for BitString<'a> {
+    type Error = Error;
+
+    ghost any_gives = { OfParts (LeafGives bit_string_leaf) };
+
+    fn try_from_any(_alloc: Global, any: Any<'a>) -> Result<BitString<'a>, Error> {
+        any.as_bitstring()
+    }
+}
+
+impl CheckDerConstraints for BitString<'_> {
+    ghost check_gives = { bit_string_constraints };
+
+    /// Refuses a constructed element with `ConstructUnexpected` (X.690 10.2); no contents octets, or one alone that is
+    /// not 0, with `InvalidLength` (8.6.2.3); more than seven unused bits, or one that is not zero, with
+    /// `DerConstraintFailed(UnusedBitsNotZero)` (8.6.2.2, 11.2.1).
+    fn check_constraints(any: &Any<'_>) -> Result<(), Error>
+        ensures { bit_string_constraints (parts_of any.now) result }
+    {
+        any.header.assert_primitive()?;
+        match any.content.split_first() {
+            None | Some((1.., [])) => Err(Error::InvalidLength),
+            Some((unused_bits, octets)) if is_zero_padded(*unused_bits, octets) => Ok(()),
+            Some(_) => Err(Error::DerConstraintFailed(DerConstraint::UnusedBitsNotZero)),
+        }
+    }
+}
+
+impl DerAutoDerive for BitString<'_> {}
+
+impl HasKind for BitString<'_> {
+    type Kind = ElementKind;
+}
+
+impl LawfulElement for BitString<'_> {
+    ghost element = { leaf_element bit_string_leaf };
+
+    ghost lawful = { leaf_lawful bit_string_leaf bit_string_lawful };
+
+    ghost checked = { leaf_constraints bit_string_leaf bit_string_lawful };
+}
+
+impl<'a> LawfulConversion<'a> for BitString<'a> {
+    ghost converts = { leaf_converts bit_string_leaf bit_string_lawful };
+}
+
+impl WritesPrimitive for BitString<'_> {
+    ghost octets = { bit_string_octets };
+
+    fn count_octets(&self) -> Result<usize, Error> {
+        Ok(1 + self.as_bytes().len())
+    }
+
+    fn put_octets<W: DerWrite>(&self, w: &mut W) -> SerializeResult<usize> {
+        put_bits(self.unused_bits, self.as_bytes(), w)
+    }
+
+    ghost primitive = { leaf_primitive bit_string_leaf bit_string_lawful };
+}
+
+impl LawfulMember for BitString<'_> {
+    ghost same = { bit_string_equal };
+}

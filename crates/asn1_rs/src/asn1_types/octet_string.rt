@@ -1,0 +1,226 @@
+//! Octet strings (X.690 8.7).
+ghost use Rattle.std.specs.Prelude.{◌≡◌};
+ghost use Rattle.std.specs.Cow.{IsBorrowedSlice};
+ghost use Rattle.asn1_rs.specs.Any.{parts_of};
+ghost use Rattle.asn1_rs.specs.Checks.{is_primitive};
+ghost use Rattle.asn1_rs.specs.Leaf.{LeafGives, leaf_element};
+ghost use Rattle.asn1_rs.specs.Laws.Leaf.{leaf_lawful, leaf_constraints, leaf_converts, leaf_primitive};
+ghost use Rattle.asn1_rs.specs.Laws.OctetString.{octet_string_lawful, octet_string_equal, slice_lawful, slice_equal};
+ghost use Rattle.asn1_rs.specs.OctetString.{octet_string_number, octet_string_leaf, slice_leaf, octets_of, cow_of};
+ghost use Rattle.asn1_rs.specs.Traits.{OfParts};
+
+use crate::asn1_types::any::Any;
+use crate::error::Error;
+use crate::kinds::writing::WritesOctets;
+use crate::kinds::{ElementKind, HasKind, LawfulConversion, LawfulElement};
+use crate::laws::LawfulMember;
+use crate::tag::Tag;
+use crate::traits::{CheckDerConstraints, DerAutoDerive, FromAny, Tagged};
+use std::alloc::Global;
+use std::borrow::CowSlice;
+
+/// An octet string, whose octets are borrowed or owned (X.690 8.7).
+///
+/// Two are equal where their octets are.
+#[derive(Debug, Drop, PartialEq, Eq)]
+pub struct OctetString<'a> {
+    octets: CowSlice<'a, u8, Global>,
+}
+
+impl<'a> OctetString<'a> {
+    /// The octet string of these octets, which it borrows.
+    pub const fn new(s: &'a [u8]) -> Self
+        ensures octets { octets_of result ≡ s.now }
+        ensures borrowed { IsBorrowedSlice (cow_of result) }
+    {
+        OctetString {
+            octets: CowSlice::Borrowed(s),
+        }
+    }
+
+    /// The octets, as they are held.
+    pub const fn as_cow(&self) -> &CowSlice<'a, u8, Global>
+        ensures { result.now ≡ cow_of self.now }
+    {
+        &self.octets
+    }
+
+    /// The octets, as they are held.
+    pub fn into_cow(self) -> CowSlice<'a, u8, Global>
+        ensures { result ≡ cow_of self.entry }
+    {
+        self.octets
+    }
+
+    /// The octets.
+    pub fn as_bytes(&self) -> &[u8]
+        ensures { result.now ≡ octets_of self.now }
+    {
+        self.as_cow().as_slice()
+    }
+}
+
+impl<'a> From<&'a [u8]> for OctetString<'a> {
+    ghost from_gives = { λ s x. octets_of x ≡ s.now };
+
+    /// The octet string of these octets, which it borrows.
+    fn from(s: &'a [u8]) -> Self
+        ensures octets { octets_of result ≡ s.now }
+        ensures borrowed { IsBorrowedSlice (cow_of result) }
+    {
+        OctetString::new(s)
+    }
+}
+
+impl<'a> Any<'a> {
+    /// The octet string of the contents octets, whether the element is primitive or constructed. Refused at another
+    /// tag number with `UnexpectedTag`.
+    pub fn octetstring(self) -> Result<OctetString<'a>, Error>
+        ensures { LeafGives octet_string_leaf (parts_of self.entry) result }
+    {
+        self.as_octetstring()
+    }
+
+    /// The octet string, of an element that stays.
+    #[inline(always)]
+    pub fn as_octetstring(&self) -> Result<OctetString<'a>, Error>
+        ensures { LeafGives octet_string_leaf (parts_of self.now) result }
+    {
+        self.assert_number(Tag::OctetString)?;
+        Ok(OctetString::new(self.content))
+    }
+}
+
+impl Tagged for OctetString<'_> {
+    const TAG: Tag = Tag::OctetString;
+
+    ghost mark = { record { 0 = octet_string_number } };
+
+    fn its_tag() -> Tag
+        ensures { result ≡ record { 0 = octet_string_number } }
+    {
+        Self::TAG
+    }
+}
+
+impl<'a> FromAny<'a> for OctetString<'a> {
+    type Error = Error;
+
+    ghost any_gives = { OfParts (LeafGives octet_string_leaf) };
+
+    fn try_from_any(_alloc: Global, any: Any<'a>) -> Result<OctetString<'a>, Error> {
+        any.as_octetstring()
+    }
+}
+
+impl CheckDerConstraints for OctetString<'_> {
+    ghost check_gives = { is_primitive };
+
+    /// Refuses a constructed element with `ConstructUnexpected` (X.690 10.2).
+    fn check_constraints(any: &Any<'_>) -> Result<(), Error>
+        ensures { is_primitive (parts_of any.now) result }
+    {
+        any.header.assert_primitive()
+    }
+}
+
+impl DerAutoDerive for OctetString<'_> {}
+
+impl HasKind for OctetString<'_> {
+    type Kind = ElementKind;
+}
+
+impl LawfulElement for OctetString<'_> {
+    ghost element = { leaf_element octet_string_leaf };
+
+    ghost lawful = { leaf_lawful octet_string_leaf octet_string_lawful };
+
+    ghost checked = { leaf_constraints octet_string_leaf octet_string_lawful };
+}
+
+impl<'a> LawfulConversion<'a> for OctetString<'a> {
+    ghost converts = { leaf_converts octet_string_leaf octet_string_lawful };
+}
+
+impl WritesOctets for OctetString<'_> {
+    ghost held = { octets_of };
+
+    fn contents_octets(&self) -> &[u8] {
+        self.as_bytes()
+    }
+
+    ghost held_are = { leaf_primitive octet_string_leaf octet_string_lawful };
+}
+
+impl LawfulMember for OctetString<'_> {
+    ghost same = { octet_string_equal };
+}
+
+impl Tagged for &[u8] {
+    const TAG: Tag = Tag::OctetString;
+
+    ghost mark = { record { 0 = octet_string_number } };
+
+    fn its_tag() -> Tag
+        ensures { result ≡ record { 0 = octet_string_number } }
+    {
+        Self::TAG
+    }
+}
+
+impl<'a> FromAny<'a> for &'a [u8] {
+    type Error = Error;
+
+    ghost any_gives = { OfParts (LeafGives slice_leaf) };
+
+    /// The contents octets, whether the element is primitive or constructed. Refused at another tag number with
+    /// `UnexpectedTag`.
+    fn try_from_any(_alloc: Global, any: Any<'a>) -> Result<&'a [u8], Error> {
+        any.assert_number(Tag::OctetString)?;
+        Ok(any.content)
+    }
+}
+
+impl CheckDerConstraints for &[u8] {
+    ghost check_gives = { is_primitive };
+
+    /// Refuses a constructed element with `ConstructUnexpected` (X.690 10.2).
+    fn check_constraints(any: &Any<'_>) -> Result<(), Error>
+        ensures { is_primitive (parts_of any.now) result }
+    {
+        OctetString::check_constraints(any)
+    }
+}
+
+impl DerAutoDerive for &[u8] {}
+
+/// Octets are an element of their own, and no reference to one.
+impl HasKind for &[u8] {
+    type Kind = ElementKind;
+}
+
+impl LawfulElement for &[u8] {
+    ghost element = { leaf_element slice_leaf };
+
+    ghost lawful = { leaf_lawful slice_leaf slice_lawful };
+
+    ghost checked = { leaf_constraints slice_leaf slice_lawful };
+}
+
+impl<'a> LawfulConversion<'a> for &'a [u8] {
+    ghost converts = { leaf_converts slice_leaf slice_lawful };
+}
+
+impl WritesOctets for &[u8] {
+    ghost held = { λ x. x.now };
+
+    fn contents_octets(&self) -> &[u8] {
+        *self
+    }
+
+    ghost held_are = { leaf_primitive slice_leaf slice_lawful };
+}
+
+impl LawfulMember for &[u8] {
+    ghost same = { slice_equal };
+}

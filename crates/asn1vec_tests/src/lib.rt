@@ -1,0 +1,13 @@
+//! Tests of the lines of `asn1vec`, through its engine: what is answered, and readers and writers that fail.
+#![tactic(auto)]
+
+#[cfg(test)]
+mod elements;
+#[cfg(test)]
+mod leaves;
+#[cfg(test)]
+mod lines;
+#[cfg(test)]
+mod numbers;
+#[cfg(test)]
+mod runs;

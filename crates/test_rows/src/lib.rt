@@ -1,0 +1,10 @@
+//! What the crates of tests share: tables in text, the texts of values, and a writer that takes little at a time.
+#![tactic(auto)]
+
+mod narrow;
+mod rows;
+mod texts;
+
+pub use narrow::Narrow;
+pub use rows::{Calls, assert_rows, octets_of, push_digits, sides, written_out};
+pub use texts::{assert_all, assert_shown, assert_text, assert_texts};
