@@ -158,14 +158,22 @@ fn counted_octets_have_to_be_there(rt: HostRuntime) -> Result<(), Fail> {
     let header = Header::new(Class::Universal, false, Tag::Boolean, Length::Definite(1));
     let any = Any::new(header, &[]);
     let answers = (Boolean::check_constraints(&any), any.boolean());
-    assert_shown(rt.alloc(), &answers, "(Err(InvalidLength), Err(InvalidLength))")
+    assert_shown(
+        rt.alloc(),
+        &answers,
+        "(Err(InvalidLength), Err(InvalidLength))",
+    )
 }
 
 #[test]
 fn constants_and_laws_of_leaves_are_there(rt: HostRuntime) -> Result<(), Fail> {
     leaves_have_one_refusal();
     truth_constants_are_octets();
-    let truths = (Boolean::FALSE.bool(), Boolean::TRUE.bool(), Boolean::new(5).bool());
+    let truths = (
+        Boolean::FALSE.bool(),
+        Boolean::TRUE.bool(),
+        Boolean::new(5).bool(),
+    );
     assert_shown(rt.alloc(), &truths, "(false, true, true)")
 }
 
@@ -194,7 +202,13 @@ fn octets_are_kept_as_given(rt: HostRuntime) -> Result<(), Fail> {
 #[test]
 fn long_octet_string_is_written(rt: HostRuntime) -> Result<(), Fail> {
     let mut w = Told::new(Narrow::new(rt.alloc(), 304, None));
-    let written = OctetString::new(&[7; 300]).write_der(rt.alloc(), &mut w).ok();
-    let shown = (written, w.as_inner().held().len(), w.as_inner().held().first());
+    let written = OctetString::new(&[7; 300])
+        .write_der(rt.alloc(), &mut w)
+        .ok();
+    let shown = (
+        written,
+        w.as_inner().held().len(),
+        w.as_inner().held().first(),
+    );
     assert_shown(rt.alloc(), &shown, "(Some(304), 304, Some(4))")
 }

@@ -11,7 +11,8 @@ use crate::shown::{Shown, push_by_ber, push_by_der};
 use crate::text::push_str;
 use crate::types::{TypeName, type_named};
 use asn1_rs::{
-    Any, BitString, EndOfContent, Enumerated, Error, Integer, LawfulBer, LawfulDer, Null, OctetString,
+    Any, BitString, EndOfContent, Enumerated, Error, Integer, LawfulBer, LawfulDer, Null,
+    OctetString,
 };
 use std::alloc::{AllocError, Global};
 
