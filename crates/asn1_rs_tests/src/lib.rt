@@ -16,6 +16,8 @@ mod errors;
 #[cfg(test)]
 mod growths;
 #[cfg(test)]
+mod integers;
+#[cfg(test)]
 mod iterators;
 #[cfg(test)]
 mod laws;
