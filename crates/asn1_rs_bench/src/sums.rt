@@ -1,6 +1,6 @@
 //! What a value adds to the check of a workload.
 
-use asn1_rs::{Any, SetOf};
+use asn1_rs::{Any, OctetString, SetOf};
 
 /// A value that adds to a check.
 pub(crate) trait Summed {
@@ -30,6 +30,13 @@ impl Summed for i64 {
 impl Summed for Any<'_> {
     fn sum(&self) -> u64 {
         self.content.len() as u64
+    }
+}
+
+/// An octet string adds how many octets it has.
+impl Summed for OctetString<'_> {
+    fn sum(&self) -> u64 {
+        self.as_bytes().len() as u64
     }
 }
 

@@ -4,7 +4,7 @@ use crate::failure::Failure;
 use crate::rounds::{Outcome, Rounds};
 use crate::rows::{Kept, read_row, values_of, walk, write_row};
 use crate::sums::Summed;
-use asn1_rs::{Any, BerParser, DerParser, Error, ReadsItems, SetOf, ToDer};
+use asn1_rs::{Any, BerParser, DerParser, Error, OctetString, ReadsItems, SetOf, ToDer};
 use std::alloc::Global;
 use std::time::CpuClock;
 
@@ -74,6 +74,7 @@ impl<'a, C: CpuClock> Bench<'a, C> {
             b"vec_u32" | b"vec_u32_short" => self.read::<Vec<u32>, DerParser>(),
             b"vec_vec_u8" | b"nested_02" => self.read::<Vec<Vec<u8>>, DerParser>(),
             b"setof_u32" => self.read::<SetOf<u32>, DerParser>(),
+            b"octets" => self.read::<OctetString<'_>, DerParser>(),
             _ => Err(Failure::NoSuchWorkload),
         }
     }
@@ -83,6 +84,7 @@ impl<'a, C: CpuClock> Bench<'a, C> {
         match kind {
             b"u32" => self.read::<u32, Kept<DerParser>>(),
             b"i64" => self.read::<i64, Kept<DerParser>>(),
+            b"octets" => self.read::<OctetString<'_>, Kept<DerParser>>(),
             _ => Err(Failure::NoSuchWorkload),
         }
     }
@@ -95,6 +97,7 @@ impl<'a, C: CpuClock> Bench<'a, C> {
             b"vec_u32" | b"vec_u32_short" => self.write::<Vec<u32>>(),
             b"vec_vec_u8" | b"nested_02" => self.write::<Vec<Vec<u8>>>(),
             b"setof_u32" => self.write::<SetOf<u32>>(),
+            b"octets" => self.write::<OctetString<'_>>(),
             b"certs_any" => self.write::<Any<'_>>(),
             _ => Err(Failure::NoSuchWorkload),
         }
