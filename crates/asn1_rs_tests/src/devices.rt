@@ -1,7 +1,7 @@
 //! Writers that take little at a time, and that fail.
 
 use asn1_rs::{DerWrite, SerializeError, ToDer, Told};
-use std::alloc::Global;
+use std::alloc::{AllocError, Global};
 use std::io;
 use std::io::{ErrorKind, Write};
 use std::test::Fail;
@@ -16,11 +16,14 @@ pub(crate) struct Recorder<'a> {
 
 impl<'a> Recorder<'a> {
     /// A writer with these answers to its first calls. An Ok is of no more octets than a call has.
-    pub(crate) fn new(alloc: Global, answers: &'a [Result<usize, ErrorKind>]) -> Recorder<'a> {
-        Recorder {
+    pub(crate) fn new(
+        alloc: Global,
+        answers: &'a [Result<usize, ErrorKind>],
+    ) -> Result<Recorder<'a>, AllocError> {
+        Ok(Recorder {
             answers,
-            handed: Vec::new(alloc),
-        }
+            handed: Vec::with_capacity(alloc, 16)?,
+        })
     }
 
     /// How many octets each call handed on.
@@ -57,12 +60,12 @@ pub(crate) struct CallersOwn {
 
 impl CallersOwn {
     /// A writer with room for so many octets, which is not marked.
-    pub(crate) fn new(alloc: Global, room: usize) -> CallersOwn {
-        CallersOwn {
-            held: Vec::new(alloc),
+    pub(crate) fn new(alloc: Global, room: usize) -> Result<CallersOwn, AllocError> {
+        Ok(CallersOwn {
+            held: Vec::with_capacity(alloc, room)?,
             room,
             is_failed: false,
-        }
+        })
     }
 
     /// What it took.
@@ -106,6 +109,9 @@ pub(crate) fn assert_failed(
     w: &Told<Narrow>,
     octets: &[u8],
 ) -> Result<(), Fail> {
+    if let Some(SerializeError::OutOfMemory) = refusal {
+        return Err(Fail::new(format_args!("out of memory")));
+    }
     if w.is_failed() && w.as_inner().held() == octets && io_kind(refusal) == Some(kind) {
         return Ok(());
     }
@@ -120,7 +126,7 @@ fn assert_cut_at<T: ToDer>(
     end: Option<ErrorKind>,
     kind: ErrorKind,
 ) -> Result<(), Fail> {
-    let mut w = Told::new(Narrow::new(alloc, front.len(), end));
+    let mut w = Told::new(Narrow::new(alloc, front.len(), end)?);
     let refusal = value.write_der(alloc, &mut w).err();
     assert_failed(refusal, kind, &w, front)
 }

@@ -1,7 +1,7 @@
 //! Calls that allocate, each twice. Where one growth is refused, as `tools/refused_growths` has it, one call tells of
 //! out of memory, and the other answers as ever.
 
-use asn1_rs::{Err, Error, FromDer, SerializeError, SetOf, ToDer};
+use asn1_rs::{Err, Error, FromDer, Integer, SerializeError, SetOf, ToDer};
 use std::alloc::Global;
 use std::collections::BTreeSet;
 
@@ -19,6 +19,32 @@ fn is_read<'a, T: FromDer<'a, Error> + ToDer + Drop>(alloc: Global, octets: &'a 
         Ok((_, value)) => is_written(alloc, &value, octets) && is_written(alloc, &value, octets),
         Err(refusal) => refusal == Err::Error(Error::OutOfMemory),
     }
+}
+
+/// Whether an integer was made of these octets, or refused when out of memory.
+fn is_made(made: Result<Integer<'static>, Error>, octets: &[u8]) -> bool {
+    match made {
+        Ok(integer) => integer.as_bytes() == octets,
+        Err(refusal) => refusal == Error::OutOfMemory,
+    }
+}
+
+#[test]
+fn integers_are_refused_for_want_of_memory(rt: HostRuntime) {
+    assert!(rt; is_made(Integer::from(rt.alloc(), 128u8), &[0, 0x80]));
+    assert!(rt; is_made(Integer::from(rt.alloc(), 128u8), &[0, 0x80]));
+    assert!(rt;
+        is_made(
+            Integer::from_const_array(rt.alloc(), [0, 0, 0x80]),
+            &[0, 0x80]
+        )
+    );
+    assert!(rt;
+        is_made(
+            Integer::from_const_array(rt.alloc(), [0, 0, 0x80]),
+            &[0, 0x80]
+        )
+    );
 }
 
 #[test]

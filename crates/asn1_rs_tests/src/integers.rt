@@ -100,7 +100,7 @@ fn integers_are_written_in_turn(rt: HostRuntime) -> Result<(), Fail> {
         Integer::from(alloc, 65537u32)?,
         Integer::from(alloc, 65536u32)?,
     );
-    let mut w = Told::new(Vec::new(alloc));
+    let mut w = Told::new(Vec::with_capacity(alloc, 16)?);
     let counts = (
         one.write_der(alloc, &mut w).ok(),
         other.write_der(alloc, &mut w).ok(),

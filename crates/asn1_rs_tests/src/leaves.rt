@@ -201,7 +201,7 @@ fn octets_are_kept_as_given(rt: HostRuntime) -> Result<(), Fail> {
 /// A writer that takes one octet a call takes a long octet string whole.
 #[test]
 fn long_octet_string_is_written(rt: HostRuntime) -> Result<(), Fail> {
-    let mut w = Told::new(Narrow::new(rt.alloc(), 304, None));
+    let mut w = Told::new(Narrow::new(rt.alloc(), 304, None)?);
     let written = OctetString::new(&[7; 300])
         .write_der(rt.alloc(), &mut w)
         .ok();

@@ -43,7 +43,7 @@ fn numbers_are_read_by_calls(rt: HostRuntime) -> Result<(), Fail> {
 
 #[test]
 fn number_is_written_by_each_call(rt: HostRuntime) -> Result<(), Fail> {
-    let mut w = Told::new(Vec::new(rt.alloc()));
+    let mut w = Told::new(Vec::with_capacity(rt.alloc(), 16)?);
     let counts = [
         5u64.write_der_header(rt.alloc(), &mut w).ok(),
         5u64.write_der_content(rt.alloc(), &mut w).ok(),

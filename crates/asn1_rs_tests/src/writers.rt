@@ -210,7 +210,7 @@ fn writers_of_numbers_and_lengths_are_cut(rt: HostRuntime) -> Result<(), Fail> {
 
 /// Asserts that a writer that has room for three octets, and then ends so, is marked by a failure of this kind.
 fn assert_marked(alloc: Global, end: Option<ErrorKind>, kind: ErrorKind) -> Result<(), Fail> {
-    let mut w = Told::new(Narrow::new(alloc, 3, end));
+    let mut w = Told::new(Narrow::new(alloc, 3, end)?);
     let refusal = 65537u32.write_der(alloc, &mut w).err();
     assert_failed(refusal, kind, &w, &[0x02, 0x03, 0x01])
 }
@@ -225,7 +225,7 @@ fn writers_that_failed_are_marked(rt: HostRuntime) -> Result<(), Fail> {
 
 #[test]
 fn marked_writer_takes_nothing(rt: HostRuntime) -> Result<(), Fail> {
-    let mut w = Told::new(Narrow::new(rt.alloc(), 0, None));
+    let mut w = Told::new(Narrow::new(rt.alloc(), 0, None)?);
     let before = (w.put(&[]).is_ok(), w.is_failed());
     let first = io_kind(put_all(&mut w, &[0x0a]).err());
     let second = io_kind(put_all(&mut w, &[0x0a]).err());
@@ -249,7 +249,7 @@ fn assert_asked(
     piece: &[u8],
     shown: &str,
 ) -> Result<(), Fail> {
-    let mut w = Told::new(Recorder::new(alloc, answers));
+    let mut w = Told::new(Recorder::new(alloc, answers)?);
     let (count, kind) = match put_all(&mut w, piece) {
         Ok(n) => (Some(n), None),
         Err(e) => (None, io_kind(Some(e))),
@@ -285,7 +285,7 @@ fn told_writer_is_asked_once_a_call(rt: HostRuntime) -> Result<(), Fail> {
 fn call_of_a_told_writer_answers_its_writer(rt: HostRuntime) -> Result<(), Fail> {
     // Some octets taken, and none: that is an Ok that marks. Then nobody is asked.
     let answers = [Ok(1), Ok(0), Ok(2)];
-    let mut w = Told::new(Recorder::new(rt.alloc(), &answers));
+    let mut w = Told::new(Recorder::new(rt.alloc(), &answers)?);
     let first = w.put(&[1, 2]).ok();
     let none_taken = (w.put(&[1, 2, 3]).ok(), w.is_failed());
     let marked = w.put(&[1, 2]).err().map(|e| e.kind());
@@ -298,7 +298,7 @@ fn call_of_a_told_writer_answers_its_writer(rt: HostRuntime) -> Result<(), Fail>
 
 #[test]
 fn writer_of_a_callers_own_is_filled(rt: HostRuntime) -> Result<(), Fail> {
-    let mut w = CallersOwn::new(rt.alloc(), 4);
+    let mut w = CallersOwn::new(rt.alloc(), 4)?;
     let count = Header::new_simple(Tag::Sequence)
         .write_der(rt.alloc(), &mut w)
         .ok();

@@ -69,7 +69,7 @@ pub(crate) fn assert_answered(
     assert_run(
         alloc,
         input,
-        Narrow::new(alloc, usize::MAX, None),
+        Narrow::new(alloc, usize::MAX, None)?,
         Ok(()),
         answers,
     )
@@ -84,7 +84,7 @@ pub(crate) fn assert_input_fails(
     answers: &[u8],
 ) -> Result<(), Fail> {
     let input = SmallReads::new(octets, most, Some(end));
-    let output = Narrow::new(alloc, usize::MAX, None);
+    let output = Narrow::new(alloc, usize::MAX, None)?;
     assert_run(alloc, input, output, Err(RunError::Input), answers)
 }
 
@@ -97,7 +97,7 @@ pub(crate) fn assert_output_fails(
     answers: &[u8],
 ) -> Result<(), Fail> {
     let input = SmallReads::new(lines, 4096, None);
-    let output = Narrow::new(alloc, room, end);
+    let output = Narrow::new(alloc, room, end)?;
     assert_run(alloc, input, output, Err(RunError::Output), answers)
 }
 

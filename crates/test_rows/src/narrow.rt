@@ -1,6 +1,6 @@
 //! A writer that takes little at a time, and that ends.
 
-use std::alloc::Global;
+use std::alloc::{AllocError, Global};
 use std::io;
 use std::io::{ErrorKind, Write};
 
@@ -13,13 +13,14 @@ pub struct Narrow {
 }
 
 impl Narrow {
-    /// A writer with room for so many octets. Past them it fails so, or takes nothing.
-    pub fn new(alloc: Global, room: usize, end: Option<ErrorKind>) -> Narrow {
-        Narrow {
-            held: Vec::new(alloc),
+    /// A writer with room for so many octets. Past them it fails so, or takes nothing. Memory for the first octets is
+    /// there from the start.
+    pub fn new(alloc: Global, room: usize, end: Option<ErrorKind>) -> Result<Narrow, AllocError> {
+        Ok(Narrow {
+            held: Vec::with_capacity(alloc, room.min(512))?,
             room,
             end,
-        }
+        })
     }
 
     /// What it took.
