@@ -1,5 +1,5 @@
 -- Items, one after another.
-use Rattle.std.proofs.Common.{◌≡◌, ◌≢◌, inl, inr, ℕ, ◌+◌, ◌<◌, ◌≤◌, suc, Bool, true, false, ◌==◌, List, [], ◌∷◌, ◌++◌, length, take, drop, get_or, map, Option, Some, Result, Ok, Err, refl, sym, ap, ◌∙◌, append_assoc, length-append, arith, subst}
+use Rattle.std.proofs.Common.{◌≡◌, ◌≢◌, inl, inr, ℕ, ◌+◌, ◌<◌, ◌≤◌, suc, Bool, true, false, ◌==◌, List, [], ◌∷◌, ◌++◌, length, take, drop, get_or, map, Option, Some, None, Result, Ok, Err, refl, sym, ap, ◌∙◌, append_assoc, length-append, arith, subst}
 use Rattle.std.proofs.lemmas.Bool.Decides.{nat_tests}
 use Rattle.std.proofs.lemmas.Grind.{flat_map-append}
 use Rattle.std.proofs.lemmas.List.Concat.{flat_map-cons}
@@ -8,7 +8,9 @@ use Rattle.std.proofs.lemmas.List.{take_all, take_more, append-nil}
 use Rattle.asn1_rs.specs.Laws.Lists.{none_refuses}
 use Rattle.std.proofs.Math.Seq.{split_at}
 use Rattle.std.specs.List.{All, flat_map}
-use Rattle.std.specs.Iterator.{Yields}
+use Rattle.std.specs.Iterator.{Yields, AlwaysYields}
+use Rattle.std.proofs.lemmas.Iterator.{YieldsList}
+use Rattle.std.proofs.lemmas.Iterator.Consumers.{YieldsList-turn, YieldsList-end}
 use Rattle.x690.specs.Elements.{Parts, IsDerElement}
 use Rattle.x690.specs.Faults.{DerElementFault}
 use Rattle.x690.specs.Rules.{der_rule}
@@ -20,7 +22,7 @@ use Rattle.asn1_rs.specs.Error.{Converted, FlattenedTo}
 use Rattle.asn1_rs.specs.Header.Reading.{Refused, der_refusal}
 use Rattle.asn1_rs.specs.Any.{parts_of, BeginsWithElement}
 use Rattle.asn1_rs.specs.Sequence.Iterator.{TakesItem}
-use Rattle.asn1_rs.specs.Lists.{CheckedGives, EndsItems, SomeRefuses}
+use Rattle.asn1_rs.specs.Lists.{CheckedGives, EndsItems, GivesItems, SomeRefuses}
 use Rattle.asn1_rs.specs.declared.error.Error.{Error}
 use Rattle.asn1_rs.specs.declared.error.Error.TheVariants as errors
 use Rattle.asn1_rs.specs.declared.error.SerializeError.{SerializeError}
@@ -100,6 +102,23 @@ module _ {X : Type 0} (f : X → List ℕ) (xs : List X) (i : ℕ) (x : X) (h : 
   pub RefusesCount_item : (e : Error) (takes : Bool) (refuses : X → Error → Type 0) → RefusesCount takes (length (f x)) (refuses x) e → RefusesCount takes (length (flat_map f xs)) (SomeRefuses refuses xs) e
   RefusesCount_item e takes refuses (inl m) = inl (MayRefuseCount_item e takes m)
   RefusesCount_item e takes refuses (inr o) = inr (some_refuses refuses e o)
+
+-- what a `for` over an iterator has seen of its items: in a turn the next one, and all of them where it ends
+module _ {S R T : Type 0} {steps : S → Option R → S → Type 0} {sees : R → T → Type 0} {first : S} {xs : List T} (gives : GivesItems steps sees first xs)
+    (begin now next : S) (start : begin ≡ first) (seen : List R) (led : Yields steps begin seen now) (answer : Option R) (step : steps now answer next) where
+  list : YieldsList steps gives.item begin xs
+  list = record { runs = subst (λ (z : S). AlwaysYields steps gives.item z xs) (sym start) gives.gives }
+
+  pub item_given : (r : R) → answer ≡ Some r → (x : T) → sees r x → (length seen < length xs) × (x ≡ get_or xs (length seen) x)
+  item_given r is x shown =
+      let turn = YieldsList-turn list seen now led answer next r is step in
+      (turn.0, subst (λ (z : T). z ≡ get_or xs (length seen) z) (sym (gives.only r x shown)) turn.1)
+
+  pub all_given : answer ≡ None → length xs ≤ length seen
+  all_given is = let end = YieldsList-end list seen now led answer next is step in omega (arith, end.1)
+
+pub one_longer : {X : Type 0} (xs : List X) (x : X) → length (xs ++ x ∷ []) ≡ length xs + 1
+one_longer xs x = length-append xs (x ∷ [])
 
 -- one more item that is not refused
 pub none_more : {X E : Type 0} (refuses : X → E → Type 0) (xs : List X) (i : ℕ) (x : X) → i < length xs → x ≡ get_or xs i x → All (λ x. HasNone (refuses x)) (take i xs) → HasNone (refuses x) → All (λ x. HasNone (refuses x)) (take (i + 1) xs)

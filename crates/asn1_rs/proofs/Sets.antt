@@ -36,9 +36,6 @@ got_at [] i x h e = absurd (omega (arith, h))
 got_at (y ∷ ys) zero x h e = cc
 got_at (y ∷ ys) (suc i) x h e = got_at ys i x (omega (arith, h)) e
 
-pub one_longer : {X : Type 0} (xs : List X) (x : X) → length (xs ++ x ∷ []) ≡ length xs + 1
-one_longer xs x = length-append xs (x ∷ [])
-
 pub if_ok : {W E : Type 0} {P Q : W → Type 0} (r : Result W E) → ((w : W) → P w → Q w) → IfOk r P → IfOk r Q
 if_ok (Ok w) f h = f w h
 if_ok (Err e) f h = h

@@ -1,9 +1,9 @@
 -- Lists: elements whose contents octets are items joined in their order (X.690 8.9, 8.10).
-use Rattle.std.specs.Prelude.{◌≡◌, ◌≢◌, ◌⊎◌, ℕ, true, false, List, [], ◌∷◌, ◌++◌, map, Some, Result, Ok, Err}
+use Rattle.std.specs.Prelude.{◌≡◌, ◌≢◌, ◌⊎◌, ℕ, true, false, List, [], ◌∷◌, ◌++◌, map, Option, Some, Result, Ok, Err}
 use Rattle.std.specs.Borrow.{Bor}
 use Rattle.std.specs.declared.vec.Vec.{Vec}
 use Rattle.std.specs.List.{All, Any as HasSome, flat_map}
-use Rattle.std.specs.Iterator.{Yields}
+use Rattle.std.specs.Iterator.{Yields, AlwaysYields}
 use Rattle.x690.specs.Identifiers.{Identifier}
 use Rattle.x690.specs.Elements.{Parts, IsDerElement}
 use Rattle.asn1_rs.specs.declared.error.Err.{Err as Refusal}
@@ -112,6 +112,12 @@ ListCheckGives number check p (Err e) = IsListOr number p (Err e) ⊎ (IsListOr 
 abbrev pub FirstChecked : (Parts → Result (Unit {0}) Error → Type 0) → List ℕ → Result (Bor (List ℕ)) Error → Type 0
 FirstChecked check octets (Ok rest) = (item : Any) × CheckedGives check octets (Ok (rest.now, item))
 FirstChecked check octets (Err e) = (r : Refusal Error) × CheckedGives check octets (Err r) × FlattenedTo (λ x y. y ≡ x) (λ x y. y ≡ x) r e
+
+-- An iterator gives these items, in this order, and nothing more. What it gives is seen as an item by `sees`.
+pub record GivesItems {S R T : Type 0} (steps : S → Option R → S → Type 0) (sees : R → T → Type 0) (s : S) (xs : List T) : Type 0 where
+  pub item : R → T
+  pub only : (r : R) (x : T) → sees r x → x ≡ item r
+  pub gives : AlwaysYields steps item s xs
 
 -- one of the items has this refusal
 abbrev pub SomeRefuses : {T E : Type 0} → (T → E → Type 0) → List T → E → Type 0

@@ -1,25 +1,28 @@
 //! Items of lists: how they are read, checked, counted and written.
-ghost use Rattle.std.specs.Prelude.{◌≡◌, ◌≤◌, ◌++◌, ◌||◌, List, length, IfOk, IfErr, IsErr};
+ghost use Rattle.std.specs.Prelude.{◌≡◌, ◌≤◌, ◌++◌, ◌||◌, List, true, false, length, map, IfOk, IfErr, IsErr};
 ghost use Rattle.std.specs.List.{All, flat_map};
+ghost use Rattle.std.specs.Iterator.{IsFinite};
 ghost use Rattle.asn1_rs.specs.Any.{parts_of};
 ghost use Rattle.asn1_rs.specs.Traits.{OfParts, DerGives, PassesAll};
 ghost use Rattle.asn1_rs.specs.Answers.{seen};
-ghost use Rattle.asn1_rs.specs.Lists.{IsListOr, ItemsGive, ListGives, ListTakes, ListReads, ItemsCheckGives, ListCheckGives, FirstChecked, SomeRefuses, listed};
+ghost use Rattle.asn1_rs.specs.Lists.{IsListOr, ItemsGive, ListGives, ListTakes, ListReads, ItemsCheckGives, ListCheckGives, FirstChecked, GivesItems, SomeRefuses, listed};
 ghost use Rattle.asn1_rs.specs.declared.error.SerializeError.{SerializeError};
 ghost use Rattle.asn1_rs.specs.declared.error.Error.{Error};
 ghost use Rattle.asn1_rs.specs.Writer.{Wrote};
-ghost use Rattle.asn1_rs.specs.ToDer.{Refuses, RefusesCount, Either, some_allocates};
+ghost use Rattle.asn1_rs.specs.ToDer.{Refuses, RefusesCount, Either, IntoVector, some_allocates};
+ghost use Rattle.asn1_rs.specs.Error.{tells_of_io};
 
 use crate::asn1_types::any::Any;
 use crate::asn1_types::sequence::iterator::{ReadsItems, SequenceIterator};
 use crate::der::element_by_der;
-use crate::error::{Err, Error, ParseResult, SerializeResult};
+use crate::error::{Err, Error, ParseResult, SerializeError, SerializeResult};
 use crate::header::writing::add_counts;
 use crate::tag::Tag;
 use crate::to_der::ToDer;
 use crate::traits::{BerParser, CheckDerConstraints, DerParser, FromAny, FromBer, FromDer, Tagged};
 use crate::writer::{DerWrite, add_written};
 use std::alloc::{AllocError, Global};
+use std::ops::Deref;
 
 /// How many items a list has room for before it grows: no more than the contents octets can hold, each of two octets or
 /// more, and few.
@@ -221,15 +224,23 @@ pub(crate) fn check_list<T: CheckDerConstraints>(number: u32, any: &Any<'_>) -> 
 }
 
 /// How many octets the items are written in.
-pub(crate) fn count_items<T: ToDer>(items: &[T]) -> Result<usize, Error>
-    ensures count { All T.tells items.now →
-        IfOk result (λ n. n ≡ length (flat_map (λ x. T.header x ++ T.content x) items.now)) }
-    ensures refused { All T.tells items.now →
+pub(crate) fn count_items<T, R, I>(items: I) -> Result<usize, Error>
+where
+    T: ToDer,
+    R: Deref<Target = T> + Drop,
+    I: Iterator<Item = R> + Drop,
+    requires can { I.can_next items }
+    requires ends { IsFinite (I.remaining items) }
+    ensures count { (xs : List T) → GivesItems I.next_gives R.deref_gives items xs →
+        All T.tells xs →
+        IfOk result (λ n. n ≡ length (flat_map (λ x. T.header x ++ T.content x) xs)) }
+    ensures refused { (xs : List T) → GivesItems I.next_gives R.deref_gives items xs →
+        All T.tells xs →
         IfErr result (RefusesCount T.count_allocates
-        (length (flat_map (λ x. T.header x ++ T.content x) items.now))
-        (SomeRefuses T.count_refuses items.now)) }
-    ensures accepted { (e : Error) → All T.tells items.now →
-        SomeRefuses T.count_refuses items.now e → IsErr result }
+        (length (flat_map (λ x. T.header x ++ T.content x) xs)) (SomeRefuses T.count_refuses xs)) }
+    ensures accepted { (xs : List T) (e : Error) →
+        GivesItems I.next_gives R.deref_gives items xs → All T.tells xs →
+        SomeRefuses T.count_refuses xs e → IsErr result }
 {
     let mut total = 0;
     for item in items {
@@ -240,24 +251,31 @@ pub(crate) fn count_items<T: ToDer>(items: &[T]) -> Result<usize, Error>
 }
 
 /// Appends the items in their order, and answers the number of octets.
-pub(crate) fn write_items<T: ToDer, W: DerWrite>(
-    items: &[T],
-    alloc: Global,
-    w: &mut W,
-) -> SerializeResult<usize>
-    ensures wrote { All T.tells items.now →
-        Wrote (flat_map (λ x. T.header x ++ T.content x) items.now) (W.told w.old) (W.told w.new)
+pub(crate) fn write_items<T, R, I, W>(items: I, alloc: Global, w: &mut W) -> SerializeResult<usize>
+where
+    T: ToDer,
+    R: Deref<Target = T> + Drop,
+    I: Iterator<Item = R> + Drop,
+    W: DerWrite,
+    requires can { I.can_next items }
+    requires ends { IsFinite (I.remaining items) }
+    ensures wrote { (xs : List T) → GivesItems I.next_gives R.deref_gives items xs →
+        All T.tells xs →
+        Wrote (flat_map (λ x. T.header x ++ T.content x) xs) (W.told w.old) (W.told w.new)
         (W.failed w.old) (W.failed w.new) result }
-    ensures refused { All T.tells items.now →
+    ensures refused { (xs : List T) → GivesItems I.next_gives R.deref_gives items xs →
+        All T.tells xs →
         IfErr result
         (Refuses (some_allocates T.write_allocates T.count_allocates T.content_allocates)
-        (length (flat_map (λ x. T.header x ++ T.content x) items.now))
-        (SomeRefuses (λ x. Either (T.header_refuses x) (T.content_refuses x)) items.now)) }
-    ensures accepted { (e : SerializeError) → All T.tells items.now →
-        SomeRefuses (λ x. Either (T.header_refuses x) (T.content_refuses x)) items.now e →
+        (length (flat_map (λ x. T.header x ++ T.content x) xs))
+        (SomeRefuses (λ x. Either (T.header_refuses x) (T.content_refuses x)) xs)) }
+    ensures accepted { (xs : List T) (e : SerializeError) →
+        GivesItems I.next_gives R.deref_gives items xs → All T.tells xs →
+        SomeRefuses (λ x. Either (T.header_refuses x) (T.content_refuses x)) xs e →
         IsErr result }
-    ensures uncounted { (e : Error) → All T.tells items.now →
-        SomeRefuses T.count_refuses items.now e → IsErr result }
+    ensures uncounted { (xs : List T) (e : Error) →
+        GivesItems I.next_gives R.deref_gives items xs → All T.tells xs →
+        SomeRefuses T.count_refuses xs e → IsErr result }
 {
     let mut total = 0;
     for item in items {
@@ -265,4 +283,39 @@ pub(crate) fn write_items<T: ToDer, W: DerWrite>(
         total = add_written(total, count)?;
     }
     Ok(total)
+}
+
+/// The encoding of each item.
+pub(crate) fn encode_items<T, R, I>(items: I, alloc: Global) -> SerializeResult<Vec<Vec<u8>>>
+where
+    T: ToDer,
+    R: Deref<Target = T> + Drop,
+    I: Iterator<Item = R> + Drop,
+    requires can { I.can_next items }
+    requires ends { IsFinite (I.remaining items) }
+    ensures each { (xs : List T) → GivesItems I.next_gives R.deref_gives items xs →
+        All T.tells xs →
+        IfOk result (λ os. map (λ v. v.items) os.items ≡ map (λ x. T.header x ++ T.content x) xs) }
+    ensures refused { (xs : List T) → GivesItems I.next_gives R.deref_gives items xs →
+        All T.tells xs →
+        IfErr result (Refuses true (length (flat_map (λ x. T.header x ++ T.content x) xs))
+        (SomeRefuses (λ x. IntoVector (Either (T.header_refuses x) (T.content_refuses x))) xs)) }
+    ensures accepted { (xs : List T) (e : SerializeError) →
+        GivesItems I.next_gives R.deref_gives items xs → All T.tells xs →
+        SomeRefuses (λ x. IntoVector (Either (T.header_refuses x) (T.content_refuses x))) xs e →
+        IsErr result }
+    ensures uncounted { (xs : List T) (e : Error) →
+        GivesItems I.next_gives R.deref_gives items xs → All T.tells xs →
+        SomeRefuses T.count_refuses xs e → IsErr result }
+    ensures memory { IfErr result (λ e. tells_of_io e ≡ false) }
+{
+    let mut strings = Vec::new(alloc);
+    for item in items {
+        let string = item.to_der_vec(alloc)?;
+        match strings.push(string) {
+            Ok(()) => {}
+            Err(_) => return Err(SerializeError::OutOfMemory),
+        }
+    }
+    Ok(strings)
 }

@@ -94,7 +94,7 @@ impl<T: ToDer> ToDer for Vec<T> {
     }
 
     fn der_content_len(&self) -> Result<usize, Error> {
-        count_items(self)
+        count_items(self.iter())
     }
 
     fn der_constructed(&self) -> bool {
@@ -106,7 +106,7 @@ impl<T: ToDer> ToDer for Vec<T> {
     }
 
     fn write_der_content<W: DerWrite>(&self, alloc: Global, w: &mut W) -> SerializeResult<usize> {
-        write_items(self, alloc, w)
+        write_items(self.iter(), alloc, w)
     }
 }
 

@@ -18,33 +18,6 @@ use crate::to_der::ToDer;
 use crate::writer::{DerWrite, put_all};
 use std::alloc::{AllocError, Global};
 
-/// The encoding of each item.
-pub(crate) fn encode_items<T: ToDer>(items: &[T], alloc: Global) -> SerializeResult<Vec<Vec<u8>>>
-    ensures each { All T.tells items.now →
-        IfOk result (λ os. map (λ v. v.items) os.items ≡
-        map (λ x. T.header x ++ T.content x) items.now) }
-    ensures refused { All T.tells items.now →
-        IfErr result (Refuses true (length (flat_map (λ x. T.header x ++ T.content x) items.now))
-        (SomeRefuses (λ x. IntoVector (Either (T.header_refuses x) (T.content_refuses x)))
-        items.now)) }
-    ensures accepted { (e : SerializeError) → All T.tells items.now →
-        SomeRefuses (λ x. IntoVector (Either (T.header_refuses x) (T.content_refuses x))) items.now
-        e → IsErr result }
-    ensures uncounted { (e : Error) → All T.tells items.now →
-        SomeRefuses T.count_refuses items.now e → IsErr result }
-    ensures memory { IfErr result (λ e. tells_of_io e ≡ false) }
-{
-    let mut strings = Vec::new(alloc);
-    for item in items {
-        let string = item.to_der_vec(alloc)?;
-        match strings.push(string) {
-            Ok(()) => {}
-            Err(_) => return Err(SerializeError::OutOfMemory),
-        }
-    }
-    Ok(strings)
-}
-
 /// The strings joined in ascending order.
 fn join_ascending(strings: Vec<Vec<u8>>, alloc: Global) -> Result<Vec<u8>, AllocError>
     ensures { IfOk result (λ v. v.items ≡ joining (arranged (map (λ s. s.items) strings.items))) }

@@ -15,8 +15,8 @@ ghost use Rattle.asn1_rs.specs.Laws.Lists.{takes_some, list_checks};
 ghost use Rattle.asn1_rs.specs.Laws.Set.{permutation_from_multiset, multiset_told, multiset_lawful, set_takes, set_reads, set_form_body, set_takes_class, set_number, set_by_value, set_writes_form, multiset_has_form};
 
 use crate::asn1_types::any::Any;
-use crate::asn1_types::lists::{FromItems, check_list, count_items, list_by_der};
-use crate::asn1_types::set::{encode_items, write_ascending};
+use crate::asn1_types::lists::{FromItems, check_list, count_items, encode_items, list_by_der};
+use crate::asn1_types::set::write_ascending;
 use crate::error::{Error, ParseResult, SerializeResult};
 use crate::header::writing::{element_len, put_counted_header};
 use crate::laws::{
@@ -125,7 +125,7 @@ impl<T: ToDer> ToDer for SetOf<T> {
     }
 
     fn der_content_len(&self) -> Result<usize, Error> {
-        count_items(&self.items)
+        count_items(self.items.iter())
     }
 
     fn der_constructed(&self) -> bool {
@@ -137,7 +137,7 @@ impl<T: ToDer> ToDer for SetOf<T> {
     }
 
     fn write_der_content<W: DerWrite>(&self, alloc: Global, w: &mut W) -> SerializeResult<usize> {
-        let strings = encode_items(&self.items, alloc)?;
+        let strings = encode_items(self.items.iter(), alloc)?;
         write_ascending(strings, alloc, w)
     }
 }
