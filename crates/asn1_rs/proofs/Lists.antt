@@ -9,8 +9,12 @@ use Rattle.asn1_rs.specs.Laws.Lists.{none_refuses}
 use Rattle.std.proofs.Math.Seq.{split_at}
 use Rattle.std.specs.List.{All, flat_map}
 use Rattle.std.specs.Iterator.{Yields, AlwaysYields}
-use Rattle.std.proofs.lemmas.Iterator.{YieldsList}
-use Rattle.std.proofs.lemmas.Iterator.Consumers.{YieldsList-turn, YieldsList-end}
+use Rattle.std.specs.Borrow.{Bor}
+use Rattle.std.specs.Map.Iter.{TakesFirst, deref}
+use Rattle.std.specs.Slice.Iter.{iter_rest}
+use Rattle.std.proofs.iter.Yields.{fronts}
+use Rattle.std.proofs.lemmas.Iterator.{YieldsList, YieldsList-from_slice}
+use Rattle.std.proofs.lemmas.Iterator.Consumers.{YieldsList-turn, YieldsList-end, YieldsList-from_rest}
 use Rattle.x690.specs.Elements.{Parts, IsDerElement}
 use Rattle.x690.specs.Faults.{DerElementFault}
 use Rattle.x690.specs.Rules.{der_rule}
@@ -102,6 +106,13 @@ module _ {X : Type 0} (f : X → List ℕ) (xs : List X) (i : ℕ) (x : X) (h : 
   pub RefusesCount_item : (e : Error) (takes : Bool) (refuses : X → Error → Type 0) → RefusesCount takes (length (f x)) (refuses x) e → RefusesCount takes (length (flat_map f xs)) (SomeRefuses refuses xs) e
   RefusesCount_item e takes refuses (inl m) = inl (MayRefuseCount_item e takes m)
   RefusesCount_item e takes refuses (inr o) = inr (some_refuses refuses e o)
+
+-- a slice's iterator gives its items, and one of a set its members
+pub slice_gives_items : {A : Type 0} {s : _} (xs : List A) → iter_rest s ≡ xs → GivesItems fronts (λ (r : Bor A) (x : A). x ≡ r.now) s xs
+slice_gives_items xs e = record { item = λ r. r.now; only = λ r x h. h; gives = (YieldsList-from_slice xs e).runs }
+
+pub keys_give_items : {A : Type 0} {s : List A} (xs : List A) → s ≡ xs → GivesItems (TakesFirst deref) (λ (r : Bor A) (x : A). x ≡ r.now) s xs
+keys_give_items xs e = record { item = λ r. r.now; only = λ r x h. h; gives = (YieldsList-from_rest xs e).runs }
 
 -- what a `for` over an iterator has seen of its items: in a turn the next one, and all of them where it ends
 module _ {S R T : Type 0} {steps : S → Option R → S → Type 0} {sees : R → T → Type 0} {first : S} {xs : List T} (gives : GivesItems steps sees first xs)

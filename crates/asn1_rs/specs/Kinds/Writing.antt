@@ -1,5 +1,6 @@
 -- What is written for the values of a type.
-use Rattle.std.specs.Prelude.{ℕ, Bool, false, List, length, ◌≡◌, ◌<◌}
+use Rattle.std.specs.Prelude.{ℕ, Bool, true, false, List, ◌++◌, length, ◌≡◌, ◌<◌}
+use Rattle.std.specs.List.{All, flat_map}
 use Rattle.x690.specs.Strict.{header_octets}
 use Rattle.asn1_rs.specs.declared.error.Error.{Error}
 use Rattle.asn1_rs.specs.declared.error.SerializeError.{SerializeError}
@@ -7,6 +8,9 @@ use Rattle.x690.specs.Identifiers.{Identifier}
 use Rattle.asn1_rs.specs.Grammar.Form.{universal}
 use Rattle.asn1_rs.specs.Grammar.{FormTakes}
 use Rattle.asn1_rs.specs.Kinds.{ElementGrammar}
+use Rattle.asn1_rs.specs.Lists.{SomeRefuses}
+use Rattle.asn1_rs.specs.Set.{set_content}
+use Rattle.asn1_rs.specs.ToDer.{Either, IntoVector, WrittenRefusal, some_allocates}
 
 -- For which values it is told, the octets of header and contents, the constructed bit, the refusals that are the value's own, and whether memory is allocated.
 pub record Writing (S : Type 0) : Type 1 where
@@ -36,6 +40,38 @@ primitive_writing number octets = record {
   count_allocates = false;
   content_allocates = false;
   write_allocates = false;
+}
+
+-- lists of items that are written as `item` says: a constructed element with this number, of the items in their order
+abbrev pub list_writing : {S W : Type 0} → ℕ → (W → List S) → Writing S → Writing W
+list_writing number items item = record {
+  tells = λ v. All item.tells (items v);
+  header = λ v. header_octets 0 true number (length (flat_map (λ x. item.header x ++ item.content x) (items v)));
+  content = λ v. flat_map (λ x. item.header x ++ item.content x) (items v);
+  constructed = λ v. true;
+  count_refuses = λ v. SomeRefuses item.count_refuses (items v);
+  header_refuses = λ v. WrittenRefusal (SomeRefuses item.count_refuses (items v));
+  content_refuses = λ v. SomeRefuses (λ x. Either (item.header_refuses x) (item.content_refuses x)) (items v);
+  refuses_first = λ v e. ⊥;
+  count_allocates = item.count_allocates;
+  content_allocates = some_allocates item.write_allocates item.count_allocates item.content_allocates;
+  write_allocates = true;
+}
+
+-- sets of such items: each item is written into a vector, and the vectors are joined in ascending order
+abbrev pub set_writing : {S W : Type 0} → (W → List S) → Writing S → Writing W
+set_writing items item = record {
+  tells = λ v. All item.tells (items v);
+  header = λ v. header_octets 0 true 17 (length (set_content (λ x. item.header x ++ item.content x) (items v)));
+  content = λ v. set_content (λ x. item.header x ++ item.content x) (items v);
+  constructed = λ v. true;
+  count_refuses = λ v. SomeRefuses item.count_refuses (items v);
+  header_refuses = λ v. WrittenRefusal (SomeRefuses item.count_refuses (items v));
+  content_refuses = λ v. SomeRefuses (λ x. IntoVector (Either (item.header_refuses x) (item.content_refuses x))) (items v);
+  refuses_first = λ v e. ⊥;
+  count_allocates = item.count_allocates;
+  content_allocates = true;
+  write_allocates = true;
 }
 
 -- The contents octets of a primitive element follow from the value. Where it has strict parts, they are its content, and the

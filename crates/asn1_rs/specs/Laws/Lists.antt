@@ -172,6 +172,10 @@ module _ {V : Type 0} (Form : V → Identifier → List ℕ → Type 0) (number 
   pub list_number : FormNumber (ListForm number Form) number
   list_number = λ vs i c f. ap (λ (z : Identifier). z.number) f.0
 
+-- a number of the low form is one that an element can have
+pub low_fits : (number : ℕ) → number < 31 → number < 2 ^ 32
+low_fits number small = omega (arith, small)
+
 pub list_body_values : {V : Type 0} (number : ℕ) (G : List ℕ → V → Type 0) (P : V → Type 0) → ((o : List ℕ) (v : V) → G o v → P v) → (p : Parts) (vs : List V) → ListBody number G p vs → All P vs
 list_body_values number G P f p vs b = joined_values G P f p.content vs b.items
 

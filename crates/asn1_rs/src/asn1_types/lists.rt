@@ -1,5 +1,5 @@
 //! Items of lists: how they are read, checked, counted and written.
-ghost use Rattle.std.specs.Prelude.{◌≡◌, ◌≤◌, ◌++◌, ◌||◌, List, true, false, length, map, IfOk, IfErr, IsErr};
+ghost use Rattle.std.specs.Prelude.{◌≡◌, ◌≤◌, ◌<◌, ◌++◌, ◌||◌, List, true, false, length, map, IfOk, IfErr, IsErr};
 ghost use Rattle.std.specs.List.{All, flat_map};
 ghost use Rattle.std.specs.Iterator.{IsFinite};
 ghost use Rattle.asn1_rs.specs.Any.{parts_of};
@@ -62,6 +62,18 @@ fn assert_list(number: u32, any: &Any<'_>) -> Result<(), Error>
 {
     any.header.assert_tag(Tag(number))?;
     any.header.assert_constructed()
+}
+
+/// A list or a set, by its items.
+pub trait Listed: Tagged {
+    /// The items.
+    type Item;
+
+    /// The items in their order; of a set in the order in which it keeps them.
+    ghost items: { Self → List Self.Item };
+
+    /// Its tag number is one of the low form.
+    ghost small: { (Self.mark).0 < 31 };
 }
 
 /// A list: a type that is made of items, which stand in the contents octets of one element.
@@ -221,6 +233,14 @@ pub(crate) fn check_list<T: CheckDerConstraints>(number: u32, any: &Any<'_>) -> 
 {
     assert_list(number, any)?;
     check_items::<T>(any.content)
+}
+
+impl<L: Listed<Item = T>, T: CheckDerConstraints> CheckDerConstraints for L {
+    ghost check_gives = { ListCheckGives (L.mark).0 T.check_gives };
+
+    fn check_constraints(any: &Any<'_>) -> Result<(), Error> {
+        check_list::<T>(L::its_tag().0, any)
+    }
 }
 
 /// How many octets the items are written in.

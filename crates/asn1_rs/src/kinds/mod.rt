@@ -4,6 +4,7 @@
 //! values are ([`LawfulElement`], [`LawfulConversion`]). The traits of [`laws`](crate::laws) follow from these. A type
 //! of another make, as a list, has those traits itself and no kind.
 
+pub(crate) mod collections;
 pub(crate) mod writing;
 
 ghost use Rattle.asn1_rs.specs.Grammar.Item.{ItemGrammar, IsLawfulItem, by_reference};

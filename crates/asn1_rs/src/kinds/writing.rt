@@ -156,7 +156,8 @@ pub trait ToDerBy<K>: DynTagged {
             RefusedAtOnce e (W.told w.old) (W.told w.new) (W.failed w.old)
             (W.failed w.new) result };
 
-    /// `write_der`.
+    /// `write_der`: header and contents octets, where the kind has no better way.
+    #[inline(always)]
     fn put_whole<W: DerWrite>(&self, alloc: Global, w: &mut W) -> SerializeResult<usize>
         ensures wrote { writing.tells self.now →
             Wrote (writing.header self.now ++ writing.content self.now)
@@ -180,7 +181,12 @@ pub trait ToDerBy<K>: DynTagged {
             (W.told w.old) (W.told w.new) (W.failed w.old) (W.failed w.new) result }
         ensures first { (e : SerializeError) → writing.refuses_first self.now e →
             RefusedAtOnce e (W.told w.old) (W.told w.new) (W.failed w.old)
-            (W.failed w.new) result };
+            (W.failed w.new) result }
+    {
+        let before = self.put_header(alloc, w)?;
+        let after = self.put_content(alloc, w)?;
+        add_written(before, after)
+    }
 }
 
 impl<T: WritesPrimitive> ToDerBy<ElementKind> for T {

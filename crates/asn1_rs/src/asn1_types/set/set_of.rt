@@ -1,32 +1,26 @@
 //! Sets in which an item may stand more than once (X.690 8.12).
-ghost use Rattle.std.specs.Prelude.{List, ◌++◌, ◌≡◌, length, true, false, slice_index_or, MatchResult};
-ghost use Rattle.std.specs.List.{All};
+ghost use Rattle.std.specs.Prelude.{◌≡◌, true, slice_index_or, MatchResult};
 ghost use Rattle.std.proofs.Common.{lit<};
-ghost use Rattle.x690.specs.Strict.{header_octets};
 ghost use Rattle.x690.specs.Identifiers.{IsCutIdentifier};
 ghost use Rattle.asn1_rs.specs.Traits.{PassesAll, DerGives, OfParts};
 ghost use Rattle.asn1_rs.specs.Ber.{EndsWithin};
-ghost use Rattle.asn1_rs.specs.Lists.{ListCheckGives, ListReads, SomeRefuses};
-ghost use Rattle.asn1_rs.specs.ToDer.{Either, IsWritable, WrittenRefusal, IntoVector};
-ghost use Rattle.asn1_rs.specs.Set.{multiset, AnyList, SetRow, items_of, HasItems, multiset_grammar, set_content};
+ghost use Rattle.asn1_rs.specs.Lists.{ListReads};
+ghost use Rattle.asn1_rs.specs.ToDer.{IsWritable};
+ghost use Rattle.asn1_rs.specs.Set.{multiset, AnyList, SetRow, items_of, HasItems, multiset_grammar};
 ghost use Rattle.asn1_rs.specs.Laws.Readers.{unchecked_exact};
 ghost use Rattle.asn1_rs.specs.Laws.Forms.{der_strict};
 ghost use Rattle.asn1_rs.specs.Laws.Lists.{takes_some, list_checks};
 ghost use Rattle.asn1_rs.specs.Laws.Set.{permutation_from_multiset, multiset_told, multiset_lawful, set_takes, set_reads, set_form_body, set_takes_class, set_number, set_by_value, set_writes_form, multiset_has_form};
 
-use crate::asn1_types::any::Any;
-use crate::asn1_types::lists::{FromItems, check_list, count_items, encode_items, list_by_der};
-use crate::asn1_types::set::write_ascending;
+use crate::asn1_types::lists::{FromItems, Listed, count_items, encode_items, list_by_der};
 use crate::error::{Error, ParseResult, SerializeResult};
-use crate::header::writing::{element_len, put_counted_header};
-use crate::laws::{
-    Grammar, LawfulBer, LawfulBody, LawfulCheck, LawfulDer, LawfulItem, LawfulTagged, LawfulWrite,
-    TakesClass,
-};
+use crate::kinds::collections::{CountsItems, Repeats, SetKind, WritesAscending};
+use crate::kinds::writing::{LawfulTaggedBy, LawfulWriteBy, TakesClassBy};
+use crate::kinds::{GrammarBy, HasKind, LawfulItemBy};
+use crate::laws::{Grammar, LawfulBer, LawfulBody, LawfulCheck, LawfulDer, LawfulItem, LawfulWrite};
 use crate::tag::Tag;
 use crate::to_der::ToDer;
-use crate::traits::{CheckDerConstraints, FromDer, Tagged};
-use crate::writer::DerWrite;
+use crate::traits::{FromDer, Tagged};
 use std::alloc::{AllocError, Global};
 
 /// A set of items, each as often as it stands in the list that it is made of.
@@ -93,61 +87,36 @@ impl<'a, T: FromDer<'a, E> + Drop, E: From<Error>> FromDer<'a, E> for SetOf<T> {
     }
 }
 
-impl<T: CheckDerConstraints> CheckDerConstraints for SetOf<T> {
-    ghost check_gives = { ListCheckGives 17 T.check_gives };
-
-    fn check_constraints(any: &Any<'_>) -> Result<(), Error> {
-        check_list::<T>(Tag::Set.0, any)
-    }
+impl<T> HasKind for SetOf<T> {
+    type Kind = SetKind<Repeats>;
 }
 
-impl<T: ToDer> ToDer for SetOf<T> {
-    ghost tells = { λ s. All T.tells (items_of s) };
+impl<T> Listed for SetOf<T> {
+    type Item = T;
 
-    ghost header = { λ s. header_octets 0 true 17
-        (length (set_content (λ x. T.header x ++ T.content x) (items_of s))) };
+    ghost items = { items_of };
 
-    ghost content = { λ s. set_content (λ x. T.header x ++ T.content x) (items_of s) };
+    ghost small = { lit< tt };
+}
 
-    ghost constructed = { λ _. true };
-
-    ghost count_refuses = { λ s. SomeRefuses T.count_refuses (items_of s) };
-
-    ghost header_refuses = { λ s. WrittenRefusal (SomeRefuses T.count_refuses (items_of s)) };
-
-    ghost content_refuses = { λ s. SomeRefuses
-        (λ x. IntoVector (Either (T.header_refuses x) (T.content_refuses x))) (items_of s) };
-
-    ghost count_allocates = { T.count_allocates };
-
-    fn to_der_len(&self) -> Result<usize, Error> {
-        element_len(Tag::Set.0, self.der_content_len())
-    }
-
-    fn der_content_len(&self) -> Result<usize, Error> {
+impl<T: ToDer> CountsItems<T> for SetOf<T> {
+    fn count_each(&self) -> Result<usize, Error> {
         count_items(self.items.iter())
     }
+}
 
-    fn der_constructed(&self) -> bool {
-        true
-    }
-
-    fn write_der_header<W: DerWrite>(&self, _alloc: Global, w: &mut W) -> SerializeResult<usize> {
-        put_counted_header(0, true, Tag::Set.0, self.der_content_len(), w)
-    }
-
-    fn write_der_content<W: DerWrite>(&self, alloc: Global, w: &mut W) -> SerializeResult<usize> {
-        let strings = encode_items(self.items.iter(), alloc)?;
-        write_ascending(strings, alloc, w)
+impl<T: ToDer> WritesAscending<T> for SetOf<T> {
+    fn encode_each(&self, alloc: Global) -> SerializeResult<Vec<Vec<u8>>> {
+        encode_items(self.items.iter(), alloc)
     }
 }
 
-impl<T: Grammar> Grammar for SetOf<T> {
-    ghost grammar = { multiset_grammar items_of T.grammar };
+impl<T: Grammar> GrammarBy<SetKind<Repeats>> for SetOf<T> {
+    ghost grammar_by_kind = { multiset_grammar items_of T.grammar };
 }
 
-impl<T: LawfulItem> LawfulItem for SetOf<T> {
-    ghost lawful_item = { multiset_lawful items_of T.grammar T.lawful_item };
+impl<T: LawfulItem> LawfulItemBy<SetKind<Repeats>> for SetOf<T> {
+    ghost lawful_by_kind = { multiset_lawful items_of T.grammar T.lawful_item };
 }
 
 impl<'a, T: LawfulBer<'a, Error> + Drop> LawfulBody<'a, Error> for SetOf<T> {
@@ -181,18 +150,18 @@ impl<T: LawfulCheck> LawfulCheck for SetOf<T> {
     ghost checks = { list_checks 17 T.check_gives T.grammar.Check T.checks };
 }
 
-impl<T: LawfulWrite> LawfulWrite for SetOf<T> {
-    ghost tells_all = { λ s k d h. T.tells_all (slice_index_or (items_of s) k d) };
+impl<T: LawfulWrite> LawfulWriteBy<SetKind<Repeats>> for SetOf<T> {
+    ghost tells_each = { λ s k d h. T.tells_all (slice_index_or (items_of s) k d) };
 
-    ghost by_value = { λ x y e. set_by_value T.grammar.value T.constructed T.header T.content
+    ghost written_by_value = { λ x y e. set_by_value T.grammar.value T.constructed T.header T.content
         T.by_value (items_of x) (items_of y) (permutation_from_multiset _ _ e) };
 
-    ghost form = { λ s i c f.
+    ghost written_form = { λ s i c f.
         set_writes_form T.grammar.value T.grammar.Form T.count_refuses T.header_refuses
         T.content_refuses T.constructed T.header T.content multiset AnyList T.form (items_of s) c _
         f.1 (permutation_from_multiset _ _ f.1.are) i f.0 };
 
-    ghost der_form = { λ s.
+    ghost written_der = { λ s.
         multiset_has_form T.grammar.value T.grammar.IsDer T.grammar.Form T.header T.content
         (der_strict T.grammar.value T.grammar.IsDer T.grammar.Form
         (λ x. IsWritable (T.count_refuses x) (T.header_refuses x) (T.content_refuses x))
@@ -200,13 +169,13 @@ impl<T: LawfulWrite> LawfulWrite for SetOf<T> {
         (items_of s) };
 }
 
-impl<T: LawfulItem> LawfulTagged for SetOf<T> {
-    ghost tag_number = { set_number multiset AnyList T.grammar.Form };
+impl<T: LawfulItem> LawfulTaggedBy<SetKind<Repeats>> for SetOf<T> {
+    ghost number_by_kind = { set_number multiset AnyList T.grammar.Form };
 
-    ghost number_fits = { lit< tt };
+    ghost number_is_small = { lit< tt };
 }
 
-impl<T: LawfulItem, const K: u8> TakesClass<K> for SetOf<T> {
-    ghost takes_class = { set_takes_class multiset AnyList T.grammar.Form T.grammar.Ber
-        T.grammar.Check T.lawful_item.strict_ber T.lawful_item.form_check K };
+impl<T: LawfulItem, const C: u8> TakesClassBy<SetKind<Repeats>, C> for SetOf<T> {
+    ghost takes_this_class = { set_takes_class multiset AnyList T.grammar.Form T.grammar.Ber
+        T.grammar.Check T.lawful_item.strict_ber T.lawful_item.form_check C };
 }

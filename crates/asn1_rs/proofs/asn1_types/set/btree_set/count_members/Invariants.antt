@@ -1,8 +1,0 @@
-use Rattle.std.proofs.Common.{◌≡◌, ◌++◌, take, length}
-use Rattle.std.specs.List.{All, flat_map}
-use Rattle.asn1_rs.specs.ToDer.{HasNone}
-use Rattle.asn1_rs.proofs.asn1_types.set.btree_set.count_members.Given as goal
-
-abbrev pub invariant-loop-item : goal.invariant-loop-item
-invariant-loop-item g l =
-    All g.T.ToDer.tells l.items.keys → (l.total ≡ length (flat_map (λ x. g.T.ToDer.header x ++ g.T.ToDer.content x) (take (length l.yielded) l.items.keys))) × All (λ x. HasNone (g.T.ToDer.count_refuses x)) (take (length l.yielded) l.items.keys)

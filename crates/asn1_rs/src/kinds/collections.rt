@@ -1,0 +1,307 @@
+//! How lists in order and sets come by [`ToDer`](crate::to_der::ToDer) and the law traits: by their items.
+//!
+//! A list or a set says what its items are ([`Listed`]), and how it goes over them ([`WritesInOrder`],
+//! [`WritesAscending`]); a set without repetitions also how it tells its members apart ([`HasMembers`],
+//! [`LawfulMembers`]).
+ghost use Rattle.std.specs.Prelude.{◌≡◌, ◌++◌, Bool, List, true, false, length, map, slice_index_or, IfOk, IfErr, IsErr};
+ghost use Rattle.std.specs.List.{All, flat_map};
+ghost use Rattle.std.proofs.Common.{◌∙◌, sym};
+ghost use Rattle.asn1_rs.specs.declared.error.SerializeError.{SerializeError};
+ghost use Rattle.asn1_rs.specs.declared.error.Error.{Error};
+ghost use Rattle.asn1_rs.specs.Error.{tells_of_io};
+ghost use Rattle.asn1_rs.specs.Lists.{SomeRefuses, list_grammar};
+ghost use Rattle.asn1_rs.specs.Set.{AllDiffer, set_of, member_grammar};
+ghost use Rattle.asn1_rs.specs.ToDer.{Refuses, RefusesCount, Either, IntoVector, IsWritable, some_allocates};
+ghost use Rattle.asn1_rs.specs.Writer.{Wrote};
+ghost use Rattle.asn1_rs.specs.Kinds.Writing.{Writing, list_writing, set_writing};
+ghost use Rattle.asn1_rs.specs.Laws.Forms.{der_strict};
+ghost use Rattle.asn1_rs.specs.Laws.Lists.{list_lawful, list_by_value, list_writes_form, list_has_form, list_takes_class, list_number, low_fits};
+ghost use Rattle.asn1_rs.specs.Laws.Set.{member_lawful, members_moved, members_are, members_have_form, set_by_value, set_writes_form, set_takes_class, set_number};
+
+use crate::asn1_types::lists::Listed;
+use crate::asn1_types::set::write_ascending;
+use crate::error::{Error, SerializeResult};
+use crate::header::writing::{element_len, put_counted_header};
+use crate::kinds::writing::{LawfulTaggedBy, LawfulWriteBy, TakesClassBy, ToDerBy};
+use crate::kinds::{GrammarBy, HasKind, LawfulItemBy};
+use crate::laws::{Grammar, LawfulItem, LawfulWrite};
+use crate::tag::Tag;
+use crate::to_der::ToDer;
+use crate::traits::Tagged;
+use crate::writer::DerWrite;
+use std::alloc::Global;
+use std::marker::PhantomData;
+
+/// The kind of lists that are sequences of their items, in order (X.690 8.10).
+pub struct SequenceKind;
+
+/// The kind of sets, in which the order of the items says nothing (X.690 8.12). `M` is [`Repeats`] or [`Once`].
+pub struct SetKind<M>(PhantomData<M>);
+
+/// Of sets in which an item may stand more than once.
+pub struct Repeats;
+
+/// Of sets in which each item stands once.
+pub struct Once;
+
+/// A list or a set that goes over its items, to count them.
+pub trait CountsItems<T: ToDer>: Listed<Item = T> {
+    /// How many octets the items are written in.
+    fn count_each(&self) -> Result<usize, Error>
+        ensures count { All T.tells (Self.items self.now) →
+            IfOk result (λ n. n ≡
+            length (flat_map (λ x. T.header x ++ T.content x) (Self.items self.now))) }
+        ensures refused { All T.tells (Self.items self.now) →
+            IfErr result (RefusesCount T.count_allocates
+            (length (flat_map (λ x. T.header x ++ T.content x) (Self.items self.now)))
+            (SomeRefuses T.count_refuses (Self.items self.now))) }
+        ensures accepted { (e : Error) → All T.tells (Self.items self.now) →
+            SomeRefuses T.count_refuses (Self.items self.now) e → IsErr result };
+}
+
+/// A list that is written as its items, one after another.
+///
+/// So it has [`ToDer`], and [`LawfulWrite`] where the items have it.
+pub trait WritesInOrder<T: ToDer>: CountsItems<T> {
+    /// Appends the items in their order, and answers the number of octets.
+    fn write_each<W: DerWrite>(&self, alloc: Global, w: &mut W) -> SerializeResult<usize>
+        ensures wrote { All T.tells (Self.items self.now) →
+            Wrote (flat_map (λ x. T.header x ++ T.content x) (Self.items self.now)) (W.told w.old)
+            (W.told w.new) (W.failed w.old) (W.failed w.new) result }
+        ensures refused { All T.tells (Self.items self.now) →
+            IfErr result
+            (Refuses (some_allocates T.write_allocates T.count_allocates T.content_allocates)
+            (length (flat_map (λ x. T.header x ++ T.content x) (Self.items self.now)))
+            (SomeRefuses (λ x. Either (T.header_refuses x) (T.content_refuses x))
+            (Self.items self.now))) }
+        ensures accepted { (e : SerializeError) → All T.tells (Self.items self.now) →
+            SomeRefuses (λ x. Either (T.header_refuses x) (T.content_refuses x))
+            (Self.items self.now) e → IsErr result }
+        ensures uncounted { (e : Error) → All T.tells (Self.items self.now) →
+            SomeRefuses T.count_refuses (Self.items self.now) e → IsErr result };
+}
+
+/// A set that is written as the encodings of its items, in ascending order (X.690 11.6).
+///
+/// So it has [`ToDer`].
+pub trait WritesAscending<T: ToDer>: CountsItems<T> {
+    /// The encoding of each item.
+    fn encode_each(&self, alloc: Global) -> SerializeResult<Vec<Vec<u8>>>
+        ensures each { All T.tells (Self.items self.now) →
+            IfOk result (λ os. map (λ v. v.items) os.items ≡
+            map (λ x. T.header x ++ T.content x) (Self.items self.now)) }
+        ensures refused { All T.tells (Self.items self.now) →
+            IfErr result (Refuses true
+            (length (flat_map (λ x. T.header x ++ T.content x) (Self.items self.now)))
+            (SomeRefuses (λ x. IntoVector (Either (T.header_refuses x) (T.content_refuses x)))
+            (Self.items self.now))) }
+        ensures accepted { (e : SerializeError) → All T.tells (Self.items self.now) →
+            SomeRefuses (λ x. IntoVector (Either (T.header_refuses x) (T.content_refuses x)))
+            (Self.items self.now) e → IsErr result }
+        ensures uncounted { (e : Error) → All T.tells (Self.items self.now) →
+            SomeRefuses T.count_refuses (Self.items self.now) e → IsErr result }
+        ensures memory { IfErr result (λ e. tells_of_io e ≡ false) };
+}
+
+impl<L, T> ToDerBy<SequenceKind> for L
+where
+    L: WritesInOrder<T> + Listed<Item = T>,
+    T: ToDer,
+{
+    ghost writing = { list_writing (L.mark).0 L.items (record {
+      tells = T.tells;
+      header = T.header;
+      content = T.content;
+      constructed = T.constructed;
+      count_refuses = T.count_refuses;
+      header_refuses = T.header_refuses;
+      content_refuses = T.content_refuses;
+      refuses_first = T.refuses_first;
+      count_allocates = T.count_allocates;
+      content_allocates = T.content_allocates;
+      write_allocates = T.write_allocates;
+    }) };
+
+    fn element_count(&self) -> Result<usize, Error> {
+        element_len(L::its_tag().0, ToDerBy::<SequenceKind>::content_count(self))
+    }
+
+    fn content_count(&self) -> Result<usize, Error> {
+        self.count_each()
+    }
+
+    fn is_constructed(&self) -> bool {
+        true
+    }
+
+    fn put_header<W: DerWrite>(&self, _alloc: Global, w: &mut W) -> SerializeResult<usize> {
+        put_counted_header(0, true, L::its_tag().0, ToDerBy::<SequenceKind>::content_count(self), w)
+    }
+
+    fn put_content<W: DerWrite>(&self, alloc: Global, w: &mut W) -> SerializeResult<usize> {
+        self.write_each(alloc, w)
+    }
+}
+
+impl<L, T, M> ToDerBy<SetKind<M>> for L
+where
+    L: WritesAscending<T> + Listed<Item = T>,
+    T: ToDer,
+{
+    ghost writing = { set_writing L.items (record {
+      tells = T.tells;
+      header = T.header;
+      content = T.content;
+      constructed = T.constructed;
+      count_refuses = T.count_refuses;
+      header_refuses = T.header_refuses;
+      content_refuses = T.content_refuses;
+      refuses_first = T.refuses_first;
+      count_allocates = T.count_allocates;
+      content_allocates = T.content_allocates;
+      write_allocates = T.write_allocates;
+    }) };
+
+    fn element_count(&self) -> Result<usize, Error> {
+        element_len(Tag::Set.0, ToDerBy::<SetKind<M>>::content_count(self))
+    }
+
+    fn content_count(&self) -> Result<usize, Error> {
+        self.count_each()
+    }
+
+    fn is_constructed(&self) -> bool {
+        true
+    }
+
+    fn put_header<W: DerWrite>(&self, _alloc: Global, w: &mut W) -> SerializeResult<usize> {
+        put_counted_header(0, true, Tag::Set.0, ToDerBy::<SetKind<M>>::content_count(self), w)
+    }
+
+    fn put_content<W: DerWrite>(&self, alloc: Global, w: &mut W) -> SerializeResult<usize> {
+        let strings = self.encode_each(alloc)?;
+        write_ascending(strings, alloc, w)
+    }
+}
+
+/// A set without repetitions tells its members apart.
+///
+/// So it has [`Grammar`] and [`LawfulItem`] where its members have them.
+pub trait HasMembers: Listed {
+    /// The members stand in a way in which the set keeps them where each passes with each one behind it.
+    ghost test: { Self.Item → Self.Item → Bool };
+
+    /// It has the tag number of sets.
+    ghost is_set: { (Self.mark).0 ≡ 17 };
+}
+
+/// Members that the set tells apart have different values.
+///
+/// So it has [`LawfulWrite`] where its members have it.
+pub trait LawfulMembers<T: LawfulItem>: HasMembers + Listed<Item = T> {
+    /// Two members that pass the test differ in value.
+    ghost apart: { (x y : T) → Self.test x y ≡ true → T.grammar.value x ≡ T.grammar.value y → ⊥ };
+}
+
+impl<L: Listed<Item = T>, T: Grammar> GrammarBy<SequenceKind> for L {
+    ghost grammar_by_kind = { list_grammar (L.mark).0 L.items T.grammar };
+}
+
+impl<L: Listed<Item = T>, T: LawfulItem> LawfulItemBy<SequenceKind> for L {
+    ghost lawful_by_kind = { list_lawful (L.mark).0 L.small L.items T.grammar T.lawful_item };
+}
+
+impl<L: HasMembers + Listed<Item = T>, T: Grammar> GrammarBy<SetKind<Once>> for L {
+    ghost grammar_by_kind = { member_grammar L.test L.items T.grammar };
+}
+
+impl<L: HasMembers + Listed<Item = T>, T: LawfulItem> LawfulItemBy<SetKind<Once>> for L {
+    ghost lawful_by_kind = { member_lawful L.test L.items T.grammar T.lawful_item };
+}
+
+impl<L, T> LawfulWriteBy<SequenceKind> for L
+where
+    L: HasKind<Kind = SequenceKind> + WritesInOrder<T> + Listed<Item = T>,
+    T: LawfulWrite,
+{
+    ghost tells_each = { λ v k d h. T.tells_all (slice_index_or (L.items v) k d) };
+
+    ghost written_by_value = { λ x y. list_by_value (L.mark).0 T.grammar.value T.constructed
+        T.header T.content T.by_value (L.items x) (L.items y) };
+
+    ghost written_form = { λ v.
+        list_writes_form (L.mark).0 T.grammar.value T.grammar.Form T.count_refuses T.header_refuses
+        T.content_refuses T.constructed T.header T.content T.form (L.items v) };
+
+    ghost written_der = { λ v.
+        list_has_form (L.mark).0 T.grammar.value T.grammar.IsDer T.grammar.Form T.header T.content
+        (der_strict T.grammar.value T.grammar.IsDer T.grammar.Form
+        (λ x. IsWritable (T.count_refuses x) (T.header_refuses x) (T.content_refuses x))
+        T.constructed T.header T.content T.form T.der_form T.lawful_item.form_fits)
+        (L.items v) };
+}
+
+impl<L, T> LawfulTaggedBy<SequenceKind> for L
+where
+    L: HasKind<Kind = SequenceKind> + Listed<Item = T>,
+    T: LawfulItem,
+{
+    ghost number_by_kind = { list_number T.grammar.Form (L.mark).0 };
+
+    ghost number_is_small = { low_fits (L.mark).0 L.small };
+}
+
+impl<L, T, const C: u8> TakesClassBy<SequenceKind, C> for L
+where
+    L: HasKind<Kind = SequenceKind> + Listed<Item = T>,
+    T: LawfulItem,
+{
+    ghost takes_this_class = { list_takes_class T.grammar.Form (L.mark).0 T.grammar.Ber
+        T.grammar.Check T.lawful_item.strict_ber T.lawful_item.form_check C };
+}
+
+impl<L, T> LawfulWriteBy<SetKind<Once>> for L
+where
+    L: HasKind<Kind = SetKind<Once>> + WritesAscending<T> + LawfulMembers<T> + Listed<Item = T>,
+    T: LawfulWrite,
+{
+    ghost tells_each = { λ s k d h. T.tells_all (slice_index_or (L.items s) k d) };
+
+    ghost written_by_value = { λ x y e.
+        set_by_value T.grammar.value T.constructed T.header T.content T.by_value (L.items x)
+        (L.items y)
+        (members_moved L.test T.grammar.value L.apart (L.items x) (L.items y) e) };
+
+    ghost written_form = { λ s i c f.
+        set_writes_form T.grammar.value T.grammar.Form T.count_refuses T.header_refuses
+        T.content_refuses T.constructed T.header T.content set_of AllDiffer T.form (L.items s) c _
+        f.1
+        (members_are L.test T.grammar.value L.apart (L.items s) f.1.items f.1.once f.1.are) i
+        f.0 };
+
+    ghost written_der = { λ s. members_have_form T.grammar.value T.grammar.IsDer T.grammar.Form
+        T.header T.content
+        (der_strict T.grammar.value T.grammar.IsDer T.grammar.Form
+        (λ x. IsWritable (T.count_refuses x) (T.header_refuses x) (T.content_refuses x))
+        T.constructed T.header T.content T.form T.der_form T.lawful_item.form_fits) L.test L.apart
+        (L.items s) };
+}
+
+impl<L, T> LawfulTaggedBy<SetKind<Once>> for L
+where
+    L: HasKind<Kind = SetKind<Once>> + HasMembers + Listed<Item = T>,
+    T: LawfulItem,
+{
+    ghost number_by_kind = { λ v i c f. set_number set_of AllDiffer T.grammar.Form v i c f ∙ sym L.is_set };
+
+    ghost number_is_small = { low_fits (L.mark).0 L.small };
+}
+
+impl<L, T, const C: u8> TakesClassBy<SetKind<Once>, C> for L
+where
+    L: HasKind<Kind = SetKind<Once>> + HasMembers + Listed<Item = T>,
+    T: LawfulItem,
+{
+    ghost takes_this_class = { set_takes_class set_of AllDiffer T.grammar.Form T.grammar.Ber
+        T.grammar.Check T.lawful_item.strict_ber T.lawful_item.form_check C };
+}
