@@ -113,6 +113,11 @@ abbrev pub FirstChecked : (Parts → Result (Unit {0}) Error → Type 0) → Lis
 FirstChecked check octets (Ok rest) = (item : Any) × CheckedGives check octets (Ok (rest.now, item))
 FirstChecked check octets (Err e) = (r : Refusal Error) × CheckedGives check octets (Err r) × FlattenedTo (λ x y. y ≡ x) (λ x y. y ≡ x) r e
 
+-- one more item at the end; or the items as they were, and out of memory
+abbrev pub PushesItem : {T : Type 0} → List T → T → List T → Result (Unit {0}) Error → Type 0
+PushesItem old item new (Ok x) = new ≡ old ++ item ∷ []
+PushesItem old item new (Err e) = (new ≡ old) × (e ≡ errors.OutOfMemory)
+
 -- An iterator gives these items, in this order, and nothing more. What it gives is seen as an item by `sees`.
 pub record GivesItems {S R T : Type 0} (steps : S → Option R → S → Type 0) (sees : R → T → Type 0) (s : S) (xs : List T) : Type 0 where
   pub item : R → T

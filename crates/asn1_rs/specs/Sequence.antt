@@ -1,1 +1,2 @@
 pub mod Iterator
+pub mod SequenceOf

@@ -1,5 +1,7 @@
 -- Sets: elements whose contents octets are items in any order, and are written in ascending order (X.690 11.6).
 use Rattle.std.specs.Prelude.{◌≡◌, ◌⊎◌, ◌↔◌, ℕ, Bool, true, false, ◌&&◌, List, [], ◌∷◌, map, Contains, if◌then◌else◌}
+use Rattle.std.specs.Borrow.{Lends, Fml, RattleType, MutBor, Array}
+use Rattle.std.specs.Vec.{with_items}
 use Rattle.std.specs.List.{All, AllZip, list_all}
 use Rattle.std.specs.List.Sorted.{IsSorted, IsPermutation}
 use Rattle.std.specs.Ordering.{nat_cmp, is_lt}
@@ -8,6 +10,7 @@ use Rattle.std.specs.Cmp.Lexicographic.{slice_cmp}
 use Rattle.std.proofs.Common.{inl, inr}
 use Rattle.x690.specs.Identifiers.{Identifier}
 use Rattle.asn1_rs.specs.declared.asn1_types.set.set_of.SetOf.{SetOf}
+use Rattle.asn1_rs.specs.contracts.asn1_types.set.set_of.SetOf.{the_row}
 use Rattle.x690.specs.Elements.{Parts}
 use Rattle.asn1_rs.specs.Grammar.Form.{IsStrict, UniversalForm}
 use Rattle.asn1_rs.specs.Grammar.{BerWord, DerWord, NoCheck}
@@ -131,6 +134,11 @@ items_of s = s.items.items
 -- it is made of these items
 abbrev pub HasItems : {T : Type 0} → List T → SetOf T → Type 0
 HasItems items s = items_of s ≡ items
+
+-- once the borrow r ends, the items are those that r shows last
+module _ (T : RattleType) (s : MutBor (SetOf T.Denot)) where
+  abbrev pub lends_set_items : MutBor (List T.Denot) → Fml
+  lends_set_items r = Lends (the_row T) (Array T 0) s r (λ ws. record { items = with_items s.now.items ws })
 
 -- sets of keys that pass the test, each with each one after it
 abbrev pub member_grammar : {S W : Type 0} → (S → S → Bool) → (W → List S) → ItemGrammar S → ItemGrammar W

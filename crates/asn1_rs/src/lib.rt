@@ -32,6 +32,7 @@ pub use asn1_types::sequence::iterator::{
     ReadsItems, ReadsWords, SequenceIterator, SetIterator, indefinite_contents_are_walked,
     walks_end, walks_take_words,
 };
+pub use asn1_types::sequence::sequence_of::SequenceOf;
 pub use asn1_types::set::set_of::SetOf;
 pub use ber::{MAX_RECURSION, Steps, any_from_ber_counted};
 pub use class::{BerClassFromIntError, Class, classes_are_numbered};

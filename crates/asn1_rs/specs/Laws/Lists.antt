@@ -37,6 +37,8 @@ use Rattle.asn1_rs.specs.Ber.{max_depth}
 use Rattle.asn1_rs.specs.Sequence.Iterator.{IsJoined, IsWalk, TakesItem, EndsItem, TellsNoWord, IsMemory}
 use Rattle.asn1_rs.specs.Laws.Sequence.Iterator.{octets_kept, lawful_walk, items_joined, items_ended}
 use Rattle.asn1_rs.specs.Grammar.Item.{ItemGrammar, IsLawfulItem}
+use Rattle.asn1_rs.specs.declared.asn1_types.sequence.sequence_of.SequenceOf.{SequenceOf}
+use Rattle.asn1_rs.specs.Sequence.SequenceOf.{sequence_items, IsSequenceOf}
 use Rattle.asn1_rs.specs.Lists.{joining, list_grammar, ListBody, ListOf, CheckedElement, ListCheck, StrictWord, ListForm, IsListOr, ItemsGive, ListTakes, ListReads, CheckedGives, ListCheckGives, SomeRefuses, has_items}
 use Rattle.asn1_rs.specs.ToDer.{HasNone, Either, IsWritable, WrittenRefusal}
 use Rattle.asn1_rs.specs.declared.error.SerializeError.{SerializeError}
@@ -429,3 +431,7 @@ same_lists eq value same (x ∷ xs) (y ∷ ys) =
 -- the values of a vector's items
 pub same_values : {T V A : Type 0} (value : T → V) (items : List T) (v : Vec T A) → has_items items v → map value items ≡ map value v.items
 same_values value items v h = ap (map value) (sym h)
+
+-- and those of a sequence's items
+pub sequence_values : {T V : Type 0} (value : T → V) (items : List T) (s : SequenceOf T) → IsSequenceOf items s → map value items ≡ map value (sequence_items s)
+sequence_values value items s h = ap (map value) (sym h)

@@ -1,13 +1,14 @@
 //! Items of lists: how they are read, checked, counted and written.
 ghost use Rattle.std.specs.Prelude.{◌≡◌, ◌≤◌, ◌<◌, ◌++◌, ◌||◌, List, true, false, length, map, IfOk, IfErr, IsErr};
 ghost use Rattle.std.specs.List.{All, flat_map};
-ghost use Rattle.std.specs.Iterator.{IsFinite};
+ghost use Rattle.std.specs.Iterator.{IsFinite, IsFiniteIterable, Drains};
 ghost use Rattle.asn1_rs.specs.Any.{parts_of};
 ghost use Rattle.asn1_rs.specs.Traits.{OfParts, DerGives, PassesAll};
 ghost use Rattle.asn1_rs.specs.Answers.{seen};
-ghost use Rattle.asn1_rs.specs.Lists.{IsListOr, ItemsGive, ListGives, ListTakes, ListReads, ItemsCheckGives, ListCheckGives, FirstChecked, GivesItems, SomeRefuses, listed};
+ghost use Rattle.asn1_rs.specs.Lists.{IsListOr, ItemsGive, ListGives, ListTakes, ListReads, ItemsCheckGives, ListCheckGives, FirstChecked, GivesItems, PushesItem, SomeRefuses, listed};
 ghost use Rattle.asn1_rs.specs.declared.error.SerializeError.{SerializeError};
 ghost use Rattle.asn1_rs.specs.declared.error.Error.{Error};
+ghost use Rattle.asn1_rs.specs.declared.error.Error.TheVariants as errors;
 ghost use Rattle.asn1_rs.specs.Writer.{Wrote};
 ghost use Rattle.asn1_rs.specs.ToDer.{Refuses, RefusesCount, Either, IntoVector, some_allocates};
 ghost use Rattle.asn1_rs.specs.Error.{tells_of_io};
@@ -240,6 +241,32 @@ impl<L: Listed<Item = T>, T: CheckDerConstraints> CheckDerConstraints for L {
 
     fn check_constraints(any: &Any<'_>) -> Result<(), Error> {
         check_list::<T>(L::its_tag().0, any)
+    }
+}
+
+/// Puts the item last. Refused only when out of memory; the item is then dropped.
+pub(crate) fn push_item<T: Drop>(items: &mut Vec<T>, item: T) -> Result<(), Error>
+    ensures { PushesItem items.old.items item items.new.items result }
+{
+    match items.push(item) {
+        Ok(()) => Ok(()),
+        Err(_) => Err(Error::OutOfMemory),
+    }
+}
+
+/// All that an iterator gives, in order. Refused only when out of memory.
+pub(crate) fn items_from_iter<T: Drop, I: IntoIterator<Item = T>>(
+    alloc: Global,
+    items: I,
+) -> Result<Vec<T>, Error>
+    requires { IsFiniteIterable I.into_iter_gives I.IntoIter.can_next I.IntoIter.remaining items }
+    ensures all { IfOk result (λ v. (it : I.IntoIter) × I.into_iter_gives items it ×
+        Drains I.IntoIter.next_gives it v.items) }
+    ensures refused { IfErr result (λ e. e ≡ errors.OutOfMemory) }
+{
+    match Vec::from_iter(alloc, items) {
+        Ok(items) => Ok(items),
+        Err(_) => Err(Error::OutOfMemory),
     }
 }
 

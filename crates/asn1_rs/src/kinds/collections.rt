@@ -135,7 +135,13 @@ where
     }
 
     fn put_header<W: DerWrite>(&self, _alloc: Global, w: &mut W) -> SerializeResult<usize> {
-        put_counted_header(0, true, L::its_tag().0, ToDerBy::<SequenceKind>::content_count(self), w)
+        put_counted_header(
+            0,
+            true,
+            L::its_tag().0,
+            ToDerBy::<SequenceKind>::content_count(self),
+            w,
+        )
     }
 
     fn put_content<W: DerWrite>(&self, alloc: Global, w: &mut W) -> SerializeResult<usize> {
@@ -175,7 +181,13 @@ where
     }
 
     fn put_header<W: DerWrite>(&self, _alloc: Global, w: &mut W) -> SerializeResult<usize> {
-        put_counted_header(0, true, Tag::Set.0, ToDerBy::<SetKind<M>>::content_count(self), w)
+        put_counted_header(
+            0,
+            true,
+            Tag::Set.0,
+            ToDerBy::<SetKind<M>>::content_count(self),
+            w,
+        )
     }
 
     fn put_content<W: DerWrite>(&self, alloc: Global, w: &mut W) -> SerializeResult<usize> {

@@ -1,4 +1,5 @@
 //! Sequences (X.690 8.9, 8.10).
 
 pub mod iterator;
+pub mod sequence_of;
 mod vec;

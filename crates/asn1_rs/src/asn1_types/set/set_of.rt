@@ -1,23 +1,30 @@
 //! Sets in which an item may stand more than once (X.690 8.12).
-ghost use Rattle.std.specs.Prelude.{◌≡◌, true, slice_index_or, MatchResult};
+ghost use Rattle.std.specs.Prelude.{◌≡◌, true, slice_index_or, MatchResult, IfOk, IfErr};
+ghost use Rattle.std.specs.Borrow.{sem};
+ghost use Rattle.std.specs.Iterator.{IsFiniteIterable, Drains};
 ghost use Rattle.std.proofs.Common.{lit<};
 ghost use Rattle.x690.specs.Identifiers.{IsCutIdentifier};
 ghost use Rattle.asn1_rs.specs.Traits.{PassesAll, DerGives, OfParts};
 ghost use Rattle.asn1_rs.specs.Ber.{EndsWithin};
-ghost use Rattle.asn1_rs.specs.Lists.{ListReads};
+ghost use Rattle.asn1_rs.specs.declared.error.Error.TheVariants as errors;
+ghost use Rattle.asn1_rs.specs.Lists.{ListReads, PushesItem};
 ghost use Rattle.asn1_rs.specs.ToDer.{IsWritable};
-ghost use Rattle.asn1_rs.specs.Set.{multiset, AnyList, SetRow, items_of, HasItems, multiset_grammar};
+ghost use Rattle.asn1_rs.specs.Set.{multiset, AnyList, SetRow, items_of, HasItems, lends_set_items, multiset_grammar};
 ghost use Rattle.asn1_rs.specs.Laws.Readers.{unchecked_exact};
 ghost use Rattle.asn1_rs.specs.Laws.Forms.{der_strict};
 ghost use Rattle.asn1_rs.specs.Laws.Lists.{takes_some, list_checks};
 ghost use Rattle.asn1_rs.specs.Laws.Set.{permutation_from_multiset, multiset_told, multiset_lawful, set_takes, set_reads, set_form_body, set_takes_class, set_number, set_by_value, set_writes_form, multiset_has_form};
 
-use crate::asn1_types::lists::{FromItems, Listed, count_items, encode_items, list_by_der};
+use crate::asn1_types::lists::{
+    FromItems, Listed, encode_items, items_from_iter, list_by_der, push_item,
+};
 use crate::error::{Error, ParseResult, SerializeResult};
 use crate::kinds::collections::{CountsItems, Repeats, SetKind, WritesAscending};
 use crate::kinds::writing::{LawfulTaggedBy, LawfulWriteBy, TakesClassBy};
 use crate::kinds::{GrammarBy, HasKind, LawfulItemBy};
-use crate::laws::{Grammar, LawfulBer, LawfulBody, LawfulCheck, LawfulDer, LawfulItem, LawfulWrite};
+use crate::laws::{
+    Grammar, LawfulBer, LawfulBody, LawfulCheck, LawfulDer, LawfulItem, LawfulWrite,
+};
 use crate::tag::Tag;
 use crate::to_der::ToDer;
 use crate::traits::{FromDer, Tagged};
@@ -25,8 +32,9 @@ use std::alloc::{AllocError, Global};
 
 /// A set of items, each as often as it stands in the list that it is made of.
 ///
-/// It is written in ascending order of the items' encodings (X.690 11.6), in whatever order the items stand.
-#[derive(Drop)]
+/// It is written in ascending order of the items' encodings (X.690 11.6), in whatever order the items stand. Two are equal
+/// where their items are, one by one, in the order in hand.
+#[derive(Debug, Drop, PartialEq)]
 pub struct SetOf<T> {
     items: Vec<T>,
 }
@@ -46,11 +54,50 @@ impl<T> SetOf<T> {
         &self.items
     }
 
+    /// The items in their order, to be changed where they stand.
+    pub fn as_mut_slice(&mut self) -> &mut [T]
+        ensures* writes_back { sem 𝓛 (lends_set_items T.row self.entry result) }
+        ensures value { result.now ≡ items_of self.old }
+    {
+        self.items.as_mut_slice()
+    }
+
     /// The items in their order, by value.
     pub fn into_vec(self) -> Vec<T>
         ensures { result.items ≡ items_of self }
     {
         self.items
+    }
+}
+
+impl<T: Drop> SetOf<T> {
+    /// Puts the item last. Refused only when out of memory; the item is then dropped.
+    pub fn push(&mut self, item: T) -> Result<(), Error>
+        ensures { PushesItem (items_of self.old) item (items_of self.new) result }
+    {
+        push_item(&mut self.items, item)
+    }
+
+    /// The set of all that the iterator gives, in order. Refused only when out of memory.
+    pub fn from_iter<I: IntoIterator<Item = T>>(alloc: Global, items: I) -> Result<SetOf<T>, Error>
+        requires { IsFiniteIterable I.into_iter_gives I.IntoIter.can_next I.IntoIter.remaining
+            items }
+        ensures all { IfOk result (λ s. (it : I.IntoIter) × I.into_iter_gives items it ×
+            Drains I.IntoIter.next_gives it (items_of s)) }
+        ensures refused { IfErr result (λ e. e ≡ errors.OutOfMemory) }
+    {
+        match items_from_iter(alloc, items) {
+            Ok(items) => Ok(SetOf { items }),
+            Err(e) => Err(e),
+        }
+    }
+}
+
+impl<T> From<SetOf<T>> for Vec<T> {
+    ghost from_gives = { λ s v. v.items ≡ items_of s };
+
+    fn from(s: SetOf<T>) -> Vec<T> {
+        s.into_vec()
     }
 }
 
@@ -101,7 +148,7 @@ impl<T> Listed for SetOf<T> {
 
 impl<T: ToDer> CountsItems<T> for SetOf<T> {
     fn count_each(&self) -> Result<usize, Error> {
-        count_items(self.items.iter())
+        self.items.count_each()
     }
 }
 

@@ -1,0 +1,184 @@
+//! Sequences of items (X.690 8.10).
+ghost use Rattle.std.specs.Prelude.{◌≡◌, true, MatchResult, IfOk, IfErr};
+ghost use Rattle.std.specs.Borrow.{sem};
+ghost use Rattle.std.specs.Iterator.{IsFiniteIterable, Drains};
+ghost use Rattle.std.proofs.Common.{lit<};
+ghost use Rattle.asn1_rs.specs.declared.error.Error.TheVariants as errors;
+ghost use Rattle.asn1_rs.specs.Traits.{PassesAll, DerGives, OfParts};
+ghost use Rattle.asn1_rs.specs.Ber.{EndsWithin};
+ghost use Rattle.x690.specs.Identifiers.{IsCutIdentifier};
+ghost use Rattle.asn1_rs.specs.Lists.{ListOf, ListReads, PushesItem};
+ghost use Rattle.asn1_rs.specs.Sequence.SequenceOf.{sequence_items, IsSequenceOf, lends_sequence_items};
+ghost use Rattle.asn1_rs.specs.Laws.Readers.{unchecked_exact};
+ghost use Rattle.asn1_rs.specs.Laws.Lists.{takes_some, list_form_body, list_takes, list_reads, list_checks, sequence_values};
+
+use crate::asn1_types::lists::{FromItems, Listed, items_from_iter, list_by_der, push_item};
+use crate::error::{Error, ParseResult, SerializeResult};
+use crate::kinds::HasKind;
+use crate::kinds::collections::{CountsItems, SequenceKind, WritesInOrder};
+use crate::laws::{LawfulBer, LawfulBody, LawfulCheck, LawfulDer};
+use crate::tag::Tag;
+use crate::to_der::ToDer;
+use crate::traits::{FromDer, Tagged};
+use crate::writer::DerWrite;
+use std::alloc::{AllocError, Global};
+
+/// A sequence of items, which are written in their order (X.690 8.10).
+///
+/// Two are equal where their items are, one by one.
+#[derive(Debug, Drop, PartialEq)]
+pub struct SequenceOf<T> {
+    items: Vec<T>,
+}
+
+impl<T> SequenceOf<T> {
+    /// The sequence of the items, in their order.
+    pub fn new(items: Vec<T>) -> SequenceOf<T>
+        ensures { IsSequenceOf items.items result }
+    {
+        SequenceOf { items }
+    }
+
+    /// The items in their order.
+    pub fn as_slice(&self) -> &[T]
+        ensures { result.now ≡ sequence_items self.now }
+    {
+        &self.items
+    }
+
+    /// The items in their order, to be changed where they stand.
+    pub fn as_mut_slice(&mut self) -> &mut [T]
+        ensures* writes_back { sem 𝓛 (lends_sequence_items T.row self.entry result) }
+        ensures value { result.now ≡ sequence_items self.old }
+    {
+        self.items.as_mut_slice()
+    }
+
+    /// The items in their order, by value.
+    pub fn into_vec(self) -> Vec<T>
+        ensures { result.items ≡ sequence_items self }
+    {
+        self.items
+    }
+}
+
+impl<T: Drop> SequenceOf<T> {
+    /// Puts the item last. Refused only when out of memory; the item is then dropped.
+    pub fn push(&mut self, item: T) -> Result<(), Error>
+        ensures { PushesItem (sequence_items self.old) item (sequence_items self.new) result }
+    {
+        push_item(&mut self.items, item)
+    }
+
+    /// The sequence of all that the iterator gives, in order. Refused only when out of memory.
+    pub fn from_iter<I: IntoIterator<Item = T>>(
+        alloc: Global,
+        items: I,
+    ) -> Result<SequenceOf<T>, Error>
+        requires { IsFiniteIterable I.into_iter_gives I.IntoIter.can_next I.IntoIter.remaining
+            items }
+        ensures all { IfOk result (λ s. (it : I.IntoIter) × I.into_iter_gives items it ×
+            Drains I.IntoIter.next_gives it (sequence_items s)) }
+        ensures refused { IfErr result (λ e. e ≡ errors.OutOfMemory) }
+    {
+        match items_from_iter(alloc, items) {
+            Ok(items) => Ok(SequenceOf { items }),
+            Err(e) => Err(e),
+        }
+    }
+}
+
+impl<T> From<SequenceOf<T>> for Vec<T> {
+    ghost from_gives = { λ s v. v.items ≡ sequence_items s };
+
+    fn from(s: SequenceOf<T>) -> Vec<T> {
+        s.into_vec()
+    }
+}
+
+impl<T> Tagged for SequenceOf<T> {
+    const TAG: Tag = Tag::Sequence;
+
+    ghost mark = { record { 0 = 16 } };
+
+    fn its_tag() -> Tag {
+        Tag::Sequence
+    }
+}
+
+impl<T> FromItems for SequenceOf<T> {
+    type Item = T;
+
+    type Refusal = Error;
+
+    ghost holds = { IsSequenceOf };
+
+    fn from_items(_alloc: Global, items: Vec<T>) -> Result<SequenceOf<T>, AllocError>
+        ensures { MatchResult result (IsSequenceOf items.items) (λ _. ⊥) }
+    {
+        Ok(SequenceOf { items })
+    }
+}
+
+impl<'a, T: FromDer<'a, E> + Drop, E: From<Error>> FromDer<'a, E> for SequenceOf<T> {
+    ghost der_gives = { DerGives PassesAll
+        (OfParts (ListReads 16 IsSequenceOf T.der_gives E.from_gives)) E.from_gives };
+
+    fn from_der(alloc: Global, bytes: &'a [u8]) -> ParseResult<'a, SequenceOf<T>, E> {
+        list_by_der::<SequenceOf<T>, T, E>(alloc, bytes)
+    }
+}
+
+impl<T> HasKind for SequenceOf<T> {
+    type Kind = SequenceKind;
+}
+
+impl<T> Listed for SequenceOf<T> {
+    type Item = T;
+
+    ghost items = { sequence_items };
+
+    ghost small = { lit< tt };
+}
+
+impl<T: ToDer> CountsItems<T> for SequenceOf<T> {
+    fn count_each(&self) -> Result<usize, Error> {
+        self.items.count_each()
+    }
+}
+
+impl<T: ToDer> WritesInOrder<T> for SequenceOf<T> {
+    fn write_each<W: DerWrite>(&self, alloc: Global, w: &mut W) -> SerializeResult<usize> {
+        self.items.write_each(alloc, w)
+    }
+}
+
+impl<'a, T: LawfulBer<'a, Error> + Drop> LawfulBody<'a, Error> for SequenceOf<T> {
+    ghost body_exact = { list_takes 16 IsSequenceOf Self.grammar.value T.ber_gives
+        (λ x y. y ≡ x) T.grammar.Ber T.grammar.value T.grammar.allocates EndsWithin
+        (sequence_values T.grammar.value) T.lawful_item.ber_one T.ber_exact };
+
+    ghost body_spares = { λ none p e g. takes_some none };
+
+    ghost form_body = { list_form_body T.grammar.Form 16 T.grammar.Ber T.lawful_item.strict_ber };
+
+    ghost ber_split = { λ o vs w. w };
+
+    ghost ber_join = { λ o vs w. w };
+}
+
+impl<'a, T: LawfulDer<'a, E> + Drop, E: From<Error>> LawfulDer<'a, E> for SequenceOf<T> {
+    ghost der_exact = { λ input answer octets.
+        unchecked_exact (OfParts (ListReads 16 IsSequenceOf T.der_gives E.from_gives)) E.from_gives
+        (ListOf 16 T.grammar.Der) Self.grammar.value true
+        (list_reads 16 IsSequenceOf Self.grammar.value T.der_gives E.from_gives T.grammar.Der
+        T.grammar.value T.grammar.allocates IsCutIdentifier (sequence_values T.grammar.value)
+        T.lawful_item.der_one T.der_exact)
+        input answer };
+
+    ghost der_spares = { λ none input answer g. takes_some none };
+}
+
+impl<T: LawfulCheck> LawfulCheck for SequenceOf<T> {
+    ghost checks = { list_checks 16 T.check_gives T.grammar.Check T.checks };
+}
