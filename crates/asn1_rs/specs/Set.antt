@@ -1,5 +1,5 @@
 -- Sets: elements whose contents octets are items in any order, and are written in ascending order (X.690 11.6).
-use Rattle.std.specs.Prelude.{◌≡◌, ◌⊎◌, ◌↔◌, ℕ, Bool, true, false, ◌&&◌, List, [], ◌∷◌, map, Contains, if◌then◌else◌}
+use Rattle.std.specs.Prelude.{◌≡◌, ◌⊎◌, ◌↔◌, ℕ, Bool, true, false, not, ◌&&◌, List, [], ◌∷◌, map, Contains, if◌then◌else◌}
 use Rattle.std.specs.Borrow.{Lends, Fml, RattleType, MutBor, Array}
 use Rattle.std.specs.Vec.{with_items}
 use Rattle.std.specs.List.{All, AllZip, list_all}
@@ -64,6 +64,10 @@ members test value xs = members_if (pairs_pass test xs) (map value xs)
 -- keys in the order of a `BTreeSet`
 abbrev pub is_below : {S : Type 0} → (S → S → Ordering) → S → S → Bool
 is_below cmp x y = is_lt (cmp x y)
+
+-- keys in the order of a `HashSet`, which is any
+abbrev pub is_other : {S : Type 0} → (S → S → Bool) → S → S → Bool
+is_other eq x y = not (eq x y)
 
 -- no string is before the one in front of it, in dictionary order
 abbrev pub Ascending : List (List ℕ) → Type 0

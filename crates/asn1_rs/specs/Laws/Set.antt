@@ -5,7 +5,7 @@ pub mod Zips
 pub mod Differ
 use Rattle.std.proofs.Common.{arith, ◌≡◌, ◌∙◌, ap, sym, subst, refl, ℕ, ◌<◌, ◌^◌, ◌⊎◌, inl, inr, ⊎_elim, Bool, true, false, List, [], ◌∷◌, ◌++◌, length, map, zero, suc, get_or}
 use Rattle.std.specs.Prelude.{Result, Ok, Err, IsTrue, ◌↔◌, ◌&&◌, ◌||◌, Contains, slice_index_or}
-use Rattle.std.specs.List.{All, AllZip, AllByRecursion, flat_map, list_all, list_any}
+use Rattle.std.specs.List.{All, AllZip, AllByRecursion, IsDistinct, flat_map, list_all, list_any}
 use Rattle.std.specs.List.Sorted.{IsPermutation, IsStrictlySortedBy}
 use Rattle.std.specs.declared.cmp.Ordering.{Ordering}
 use Rattle.std.specs.declared.cmp.Ordering.TheVariants.{Less, Equal, Greater}
@@ -13,6 +13,7 @@ use Rattle.std.specs.Ordering.{eq_by_cmp, is_eq, is_lt, is_gt, ordering_reverse}
 use Rattle.std.specs.Cmp.{IsTotalOrder, Equal-is, alike_right}
 use Rattle.std.specs.Cmp.Lexicographic.{pointwise}
 use Rattle.std.specs.BTreeSet.{BTreeSet, IsFromIterResult}
+use Rattle.std.specs.HashSet.{HashSet, IsFromIterResult as IsHashedOf}
 use Rattle.std.proofs.lemmas.List.Elements.{All-nil, All-cons}
 use Rattle.std.proofs.lemmas.List.Sorted.{IsPermutation-refl, IsPermutation-trans, IsPermutation-sym, All-permutation, Contains-permutation}
 use Rattle.x690.specs.Strict.{header_octets}
@@ -35,7 +36,7 @@ use Rattle.asn1_rs.specs.Any.{parts_of}
 use Rattle.asn1_rs.specs.Traits.{OfParts}
 use Rattle.asn1_rs.specs.Lists.{joining, ListCheck, StrictWord, SomeRefuses, ListTakes, ListReads}
 use Rattle.asn1_rs.specs.ToDer.{HasNone, Either, IsWritable, WrittenRefusal, IntoVector}
-use Rattle.asn1_rs.specs.Set.{Multiset, multiset, ValueSet, value_set, HaveSame, AllDiffer, Members, set_of, pairs_pass, members_if, members, is_below, Ascending, Joins, AnyList, Seen, SetBody, SetRow, SetForm, SetValues, SetInDer, set_grammar, multiset_grammar, member_grammar, items_of, HasItems, arranged, set_content}
+use Rattle.asn1_rs.specs.Set.{Multiset, multiset, ValueSet, value_set, HaveSame, AllDiffer, Members, set_of, pairs_pass, members_if, members, is_below, is_other, Ascending, Joins, AnyList, Seen, SetBody, SetRow, SetForm, SetValues, SetInDer, set_grammar, multiset_grammar, member_grammar, items_of, HasItems, arranged, set_content}
 use Rattle.asn1_rs.specs.Laws.Readers.{der_elements, ber_elements}
 use Rattle.asn1_rs.specs.Laws.Words.{word_one, one_strict, strict_ber_word, strict_der_word}
 use Rattle.asn1_rs.specs.Laws.Forms.{universal_one, universal_value, universal_fits, strict_written}
@@ -45,7 +46,7 @@ use Rattle.asn1_rs.specs.Laws.Set.Ascend.{Ascending-unique}
 use Rattle.asn1_rs.specs.Laws.Set.Zips.{zip_turn, zip_permutation, zip_right}
 use Rattle.asn1_rs.specs.Laws.Set.Differ.{permutation_from_same, AllDiffer-permutation}
 use mathlib.Core.HProp.{HProp}
-use mathlib.Core.Bool.{true≢false, Bool-set}
+use mathlib.Core.Bool.{not, true≢false, Bool-set}
 use mathlib.Core.Logic.{∥∥₁_prop, ∥∥₁_elim, ∥∥₁_map}
 use mathlib.Core.Quot.{lift_prop, sound}
 use mathlib.Core.List.{is_set}
@@ -421,12 +422,24 @@ unfolding IsStrictlySortedBy
 ordered_pass cmp [] h = refl
 ordered_pass cmp (x ∷ xs) h = true_both (list_all (is_below cmp x) xs) (pairs_pass (is_below cmp) xs) (all_below cmp x xs h.0) (ordered_pass cmp xs h.1)
 
+all_other : {S : Type 0} (eq : S → S → Bool) (x : S) (xs : List S) → AllByRecursion (λ y. eq x y ≡ false) xs → list_all (is_other eq x) xs ≡ true
+all_other eq x [] h = refl
+all_other eq x (y ∷ ys) h = true_both (is_other eq x y) (list_all (is_other eq x) ys) (ap not h.0) (all_other eq x ys h.1)
+
+pub distinct_pass : {S : Type 0} (eq : S → S → Bool) (xs : List S) → IsDistinct eq xs → pairs_pass (is_other eq) xs ≡ true
+unfolding IsDistinct
+distinct_pass eq [] h = refl
+distinct_pass eq (x ∷ xs) h = true_both (list_all (is_other eq x) xs) (pairs_pass (is_other eq) xs) (all_other eq x xs h.0) (distinct_pass eq xs h.1)
+
 -- the members of keys that std holds are a set
 pub members_pass : {S V : Type 0} (test : S → S → Bool) (value : S → V) (xs : List S) → pairs_pass test xs ≡ true → members test value xs ≡ set_of (map value xs)
 members_pass test value xs h = ap (λ b. members_if b (map value xs)) h
 
 -- keys that pass differ in value, where their equality is that of their values
 module _ {S V : Type 0} (eq : S → S → Bool) (value : S → V) (same : (x y : S) → IsTrue (eq x y) ↔ (value x ≡ value y)) where
+  pub other_apart : (x y : S) → is_other eq x y ≡ true → value x ≡ value y → ⊥
+  other_apart x y h e = let t : eq x y ≡ true = (same x y).1 e in true≢false (sym h ∙ ap not t)
+
   module _ (cmp : S → S → Ordering) (total : IsTotalOrder cmp) (matches : (x y : S) → eq x y ≡ eq_by_cmp cmp x y) where
     tie : (x y : S) → value x ≡ value y → cmp x y ≡ Equal
     tie x y e = (Equal-is (cmp x y)).0 (sym (matches x y) ∙ (same x y).1 e)
@@ -572,6 +585,10 @@ module _ {T V W M E : Type 0} (holds : List T → W → Type 0) (of : List V →
   set_reads any (Err e) o t = elim (list_reads {W = List T} 17 (λ (xs : List T) (ys : List T). ys ≡ xs) (map value) reads from G value takes IsCut (λ xs ys e. ap (map value) (sym e)) one exact any (Err e) o t) [ inl m ↦ inl m | inr none ↦ inr (λ m b. none b.0 b.2) ]
 
 -- what std collects into a set stands for the values of the items
+module _ {S V : Type 0} (eq : S → S → Bool) (value : S → V) (same : (x y : S) → IsTrue (eq x y) ↔ (value x ≡ value y)) where
+  pub table_told : {H : Type 0} (items : List S) (s : HashSet S H) → IsHashedOf eq items s → set_of (map value items) ≡ members (is_other eq) value s.keys
+  table_told items s h = sym (collected_values eq value same s.keys items h.0) ∙ sym (members_pass (is_other eq) value s.keys (distinct_pass eq s.keys h.1))
+
 module _ {S V : Type 0} (eq : S → S → Bool) (value : S → V) (same : (x y : S) → IsTrue (eq x y) ↔ (value x ≡ value y)) (cmp : S → S → Ordering) (matches : (x y : S) → eq x y ≡ eq_by_cmp cmp x y) where
   ties_same : (x y : S) → IsTrue (eq_by_cmp cmp x y) ↔ (value x ≡ value y)
   ties_same x y = (λ h. (same x y).0 (matches x y ∙ h), λ e. sym (matches x y) ∙ (same x y).1 e)

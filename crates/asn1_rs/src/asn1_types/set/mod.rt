@@ -1,6 +1,7 @@
 //! Items of sets: how they are written, in ascending order (X.690 11.6).
 
 mod btree_set;
+mod hash_set;
 pub mod set_of;
 
 ghost use Rattle.std.specs.Prelude.{◌≡◌, ◌++◌, ◌||◌, List, true, false, length, map, IfOk, IfErr, IsErr};

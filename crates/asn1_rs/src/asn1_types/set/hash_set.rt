@@ -1,0 +1,141 @@
+//! `HashSet` as a set of members (X.690 8.12).
+ghost use Rattle.std.specs.Prelude.{◌≡◌, true, IfOk};
+ghost use Rattle.std.proofs.Common.{lit<, refl};
+ghost use Rattle.std.specs.HashSet.{IsFromIterResult};
+ghost use Rattle.x690.specs.Identifiers.{IsCutIdentifier};
+ghost use Rattle.asn1_rs.specs.Traits.{PassesAll, DerGives, OfParts};
+ghost use Rattle.asn1_rs.specs.Ber.{EndsWithin};
+ghost use Rattle.asn1_rs.specs.Lists.{ListTakes};
+ghost use Rattle.asn1_rs.specs.Set.{set_of, is_other, AllDiffer, SetBody};
+ghost use Rattle.asn1_rs.specs.Laws.Readers.{unchecked_exact};
+ghost use Rattle.asn1_rs.specs.Laws.Lists.{takes_some, list_checks};
+ghost use Rattle.asn1_rs.specs.Laws.Set.{set_takes, set_form_body, table_told, other_apart};
+
+use crate::asn1_types::lists::{
+    FromItems, Listed, constructed_list_by_der, count_items, encode_items,
+};
+use crate::error::{Error, ParseResult, SerializeResult};
+use crate::kinds::HasKind;
+use crate::kinds::collections::{
+    CountsItems, HasMembers, LawfulMembers, Once, SetKind, WritesAscending,
+};
+use crate::laws::{LawfulBer, LawfulBody, LawfulCheck, LawfulDer, LawfulMember};
+use crate::tag::Tag;
+use crate::to_der::ToDer;
+use crate::traits::{FromDer, Tagged};
+use std::alloc::{AllocError, Global};
+use std::collections::HashSet;
+use std::hash::Hash;
+
+impl<T: Eq + Hash> Tagged for HashSet<T> {
+    const TAG: Tag = Tag::Set;
+
+    ghost mark = { record { 0 = 17 } };
+
+    fn its_tag() -> Tag {
+        Tag::Set
+    }
+}
+
+/// The set of the items, of which equal ones collapse.
+fn hashed_set<T: Eq + Hash + Drop>(alloc: Global, items: Vec<T>) -> Result<HashSet<T>, AllocError>
+    ensures { IfOk result (λ s. IsFromIterResult T.eq items.items s) }
+{
+    HashSet::from_iter(alloc, items)
+}
+
+impl<T: Eq + Hash> HasKind for HashSet<T> {
+    type Kind = SetKind<Once>;
+}
+
+impl<T: Eq + Hash> Listed for HashSet<T> {
+    type Item = T;
+
+    ghost items = { λ s. s.keys };
+
+    ghost small = { lit< tt };
+}
+
+impl<T: ToDer + Eq + Hash> CountsItems<T> for HashSet<T> {
+    fn count_each(&self) -> Result<usize, Error> {
+        count_items(self.iter())
+    }
+}
+
+impl<T: ToDer + Eq + Hash> WritesAscending<T> for HashSet<T> {
+    fn encode_each(&self, alloc: Global) -> SerializeResult<Vec<Vec<u8>>> {
+        encode_items(self.iter(), alloc)
+    }
+}
+
+/// No two members are equal.
+impl<T: Eq + Hash> HasMembers for HashSet<T> {
+    ghost test = { is_other T.eq };
+
+    ghost is_set = { refl };
+}
+
+impl<T: LawfulMember + Hash> LawfulMembers<T> for HashSet<T> {
+    ghost apart = { other_apart T.eq T.grammar.value T.same };
+}
+
+impl<T: Eq + Hash + Drop> FromItems for HashSet<T> {
+    type Item = T;
+
+    type Refusal = Error;
+
+    ghost holds = { λ items s. IsFromIterResult T.eq items s };
+
+    fn from_items(alloc: Global, items: Vec<T>) -> Result<HashSet<T>, AllocError>
+        ensures { IfOk result (λ s. IsFromIterResult T.eq items.items s) }
+    {
+        hashed_set(alloc, items)
+    }
+}
+
+impl<'a, T: FromDer<'a, E> + Eq + Hash + Drop, E: From<Error>> FromDer<'a, E> for HashSet<T> {
+    ghost der_gives = { DerGives PassesAll
+        (OfParts
+        (ListTakes 17 (λ items s. IsFromIterResult T.eq items s) T.der_gives E.from_gives))
+        E.from_gives };
+
+    fn from_der(alloc: Global, bytes: &'a [u8]) -> ParseResult<'a, HashSet<T>, E> {
+        constructed_list_by_der::<HashSet<T>, T, E>(alloc, bytes)
+    }
+}
+
+impl<'a, T: LawfulBer<'a, Error> + LawfulMember + Hash + Drop> LawfulBody<'a, Error>
+    for HashSet<T> {
+    ghost body_exact = { set_takes (λ items s. IsFromIterResult T.eq items s) set_of
+        Self.grammar.value T.ber_gives (λ x y. y ≡ x) T.grammar.Ber T.grammar.value
+        T.grammar.allocates EndsWithin (table_told T.eq T.grammar.value T.same)
+        T.lawful_item.ber_one T.ber_exact };
+
+    ghost body_spares = { λ none p e g. takes_some none };
+
+    ghost form_body = { set_form_body set_of AllDiffer T.grammar.Form T.grammar.Ber
+        T.lawful_item.strict_ber };
+
+    ghost ber_split = { λ o m w. w };
+
+    ghost ber_join = { λ o m w. w };
+}
+
+impl<'a, T: LawfulDer<'a, E> + LawfulMember + Hash + Drop, E: From<Error>> LawfulDer<'a, E>
+    for HashSet<T> {
+    ghost der_exact = { λ input answer octets.
+        unchecked_exact
+        (OfParts
+        (ListTakes 17 (λ items s. IsFromIterResult T.eq items s) T.der_gives E.from_gives))
+        E.from_gives (SetBody set_of T.grammar.Der) Self.grammar.value true
+        (set_takes (λ items s. IsFromIterResult T.eq items s) set_of Self.grammar.value T.der_gives
+        E.from_gives T.grammar.Der T.grammar.value T.grammar.allocates IsCutIdentifier
+        (table_told T.eq T.grammar.value T.same) T.lawful_item.der_one
+        T.der_exact) input answer };
+
+    ghost der_spares = { λ none input answer g. takes_some none };
+}
+
+impl<T: LawfulCheck + Eq + Hash> LawfulCheck for HashSet<T> {
+    ghost checks = { list_checks 17 T.check_gives T.grammar.Check T.checks };
+}
