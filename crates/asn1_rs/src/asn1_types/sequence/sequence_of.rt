@@ -58,7 +58,8 @@ impl<T> SequenceOf<T> {
     pub fn into_vec(self) -> Vec<T>
         ensures { result.items ≡ sequence_items self }
     {
-        self.items
+        let SequenceOf { items } = self;
+        items
     }
 }
 

@@ -66,7 +66,8 @@ impl<T> SetOf<T> {
     pub fn into_vec(self) -> Vec<T>
         ensures { result.items ≡ items_of self }
     {
-        self.items
+        let SetOf { items } = self;
+        items
     }
 }
 
