@@ -2,11 +2,13 @@
 
 use crate::calls::{Library, push_debug, push_written};
 use crate::devices::assert_cut;
+use crate::writers::assert_written;
 use asn1_rs::{
-    Any, CheckDerConstraints, Err, Error, FromAny, FromBer, FromDer, SetOf, Tagged, ToDer,
+    Any, CheckDerConstraints, Err, Error, FromAny, FromBer, FromDer, SequenceOf, SetOf, Tagged,
+    ToDer,
 };
 use std::alloc::Global;
-use std::collections::BTreeSet;
+use std::collections::{BTreeSet, HashSet};
 use std::fmt::{Debug, Write};
 use std::test::Fail;
 use test_rows::{assert_rows, assert_shown, push_digits};
@@ -46,6 +48,18 @@ Vec::<Vec<u32>>::from_ber:
 
 Vec::<Any>::from_ber:
 30803080000004000000 = 2 items 300430000400 count 6 4 raw 300430000400
+
+SequenceOf::<u8>::from_der:
+3009020105020101020105 = SequenceOf { items: [5, 1, 5] } rest - written 3009020105020101020105 count 11 9 \
+raw 3009020105020101020105
+1003020105 = SequenceOf { items: [5] } rest - written 3003020105 count 5 3 raw 3003020105
+3103020105 = Error(UnexpectedTag { expected: Some(Tag(16)), actual: Tag(17) })
+3003020205 = Error(Incomplete(Size(1)))
+3005020105 = Incomplete(Size(2))
+
+SequenceOf::<u8>::from_ber:
+30800201050000 = SequenceOf { items: [5] } rest - written 3003020105 count 5 3 raw 3003020105
+1003020105 = Error(ConstructExpected)
 ";
 
 /// Sets: items in the order in which they stand, and the set as it is written, in ascending order.
@@ -85,6 +99,22 @@ raw 310e0201000201ff020200800202012c
 BTreeSet::<BTreeSet<u8>>::from_der:
 310d31060201020201013103020103 = {{1, 2}, {3}} rest - written 310d31030201033106020101020102 count 15 13 \
 raw 310d31030201033106020101020102
+
+HashSet::<u8>::from_der:
+3106020105020105 = {5} rest - written 3103020105 count 5 3 raw 3103020105
+310402020005 = Error(DerConstraintFailed(IntegerLeadingZeroes))
+1103020105 = Error(ConstructExpected)
+1003020105 = Error(UnexpectedTag { expected: Some(Tag(17)), actual: Tag(16) })
+3103020205 = Error(Incomplete(Size(1)))
+3105020105 = Incomplete(Size(2))
+
+HashSet::<u8>::from_ber:
+31800201050000 = {5} rest - written 3103020105 count 5 3 raw 3103020105
+1103020105 = Error(ConstructExpected)
+
+HashSet::<i8>::from_der:
+31060201ff020100 = 2 items 31060201000201ff count 8 6 raw 31060201000201ff
+31090201ff0201000201ff = 2 items 31060201000201ff count 8 6 raw 31060201000201ff
 ";
 
 /// Elements by BER that are checked, and converted.
@@ -104,6 +134,16 @@ BTreeSet::<u8>::check_constraints:
 3103020105 = Ok(())
 1103020105 = Err(ConstructExpected)
 
+SequenceOf::<u8>::check_constraints:
+3003020105 = Ok(())
+1003020105 = Err(ConstructExpected)
+3103020105 = Err(UnexpectedTag { expected: Some(Tag(16)), actual: Tag(17) })
+
+HashSet::<u8>::check_constraints:
+3106020105020105 = Ok(())
+310402020005 = Err(DerConstraintFailed(IntegerLeadingZeroes))
+1103020105 = Err(ConstructExpected)
+
 Vec::<u8>::try_from_any:
 3003020105 = Ok([5])
 300402020005 = Ok([5])
@@ -113,6 +153,10 @@ SetOf::<u8>::try_from_any:
 3106020105020105 = Ok([5, 5])
 
 BTreeSet::<u8>::try_from_any:
+3106020105020105 = Ok({5})
+3003020105 = Err(UnexpectedTag { expected: Some(Tag(17)), actual: Tag(16) })
+
+HashSet::<u8>::try_from_any:
 3106020105020105 = Ok({5})
 3003020105 = Err(UnexpectedTag { expected: Some(Tag(17)), actual: Tag(16) })
 ";
@@ -197,6 +241,12 @@ fn push_sets(text: &mut String, alloc: Global, octets: &[u8]) -> Result<(), Fail
     push_count(text, alloc, count, &SetOf::new(sets))
 }
 
+/// How many members a set has, whose order in hand is any, and how it is written.
+fn push_hashed_set(text: &mut String, alloc: Global, octets: &[u8]) -> Result<(), Fail> {
+    let set = HashSet::<i8>::from_der(alloc, octets)?.1;
+    push_count(text, alloc, set.len(), &set)
+}
+
 /// What the check of the element at the front, by BER, says.
 fn push_checked<T: CheckDerConstraints>(
     text: &mut String,
@@ -235,6 +285,11 @@ fn push_element_call(
 ) -> Result<(), Fail> {
     match name {
         "Vec::<u8>::check_constraints" => push_checked::<Vec<u8>>(text, alloc, octets),
+        "SequenceOf::<u8>::check_constraints" => push_checked::<SequenceOf<u8>>(
+            text, alloc, octets,
+        ),
+        "HashSet::<u8>::check_constraints" => push_checked::<HashSet<u8>>(text, alloc, octets),
+        "HashSet::<u8>::try_from_any" => push_converted::<HashSet<u8>>(text, alloc, octets),
         "SetOf::<u8>::check_constraints" => push_checked::<SetOf<u8>>(text, alloc, octets),
         "BTreeSet::<u8>::check_constraints" => push_checked::<BTreeSet<u8>>(text, alloc, octets),
         "Vec::<u8>::try_from_any" => push_converted::<Vec<u8>>(text, alloc, octets),
@@ -267,6 +322,11 @@ pub(crate) fn push_list_answer(
         "BTreeSet::<BTreeSet<u8>>::from_der" => push_by_der::<BTreeSet<BTreeSet<u8>>>(
             text, alloc, octets,
         ),
+        "SequenceOf::<u8>::from_der" => push_by_der::<SequenceOf<u8>>(text, alloc, octets),
+        "SequenceOf::<u8>::from_ber" => push_by_ber::<SequenceOf<u8>>(text, alloc, octets),
+        "HashSet::<u8>::from_der" => push_by_der::<HashSet<u8>>(text, alloc, octets),
+        "HashSet::<u8>::from_ber" => push_by_ber::<HashSet<u8>>(text, alloc, octets),
+        "HashSet::<i8>::from_der" => push_hashed_set(text, alloc, octets),
         _ => push_element_call(text, alloc, name, octets),
     }
 }
@@ -299,12 +359,48 @@ fn writers_of_sets_are_cut(rt: HostRuntime) -> Result<(), Fail> {
 
 #[test]
 fn lists_and_sets_have_tag_numbers(rt: HostRuntime) -> Result<(), Fail> {
-    let constants = (Vec::<u8>::TAG, SetOf::<u8>::TAG, BTreeSet::<u8>::TAG);
+    let lists = (Vec::<u8>::TAG, SequenceOf::<u8>::TAG);
+    let sets = (SetOf::<u8>::TAG, BTreeSet::<u8>::TAG, HashSet::<u8>::TAG);
     let calls = (
         Vec::<u8>::its_tag(),
+        SequenceOf::<u8>::its_tag(),
         SetOf::<u8>::its_tag(),
         BTreeSet::<u8>::its_tag(),
+        HashSet::<u8>::its_tag(),
     );
-    let expected = "((Tag(16), Tag(17), Tag(17)), (Tag(16), Tag(17), Tag(17)))";
-    assert_shown(rt.alloc(), &(constants, calls), expected)
+    let expected = "((Tag(16), Tag(16)), (Tag(17), Tag(17), Tag(17)), \
+        (Tag(16), Tag(16), Tag(17), Tag(17), Tag(17)))";
+    assert_shown(rt.alloc(), &(lists, sets, calls), expected)
+}
+
+#[test]
+fn sequences_are_made_by_calls(rt: HostRuntime) -> Result<(), Fail> {
+    let mut list = SequenceOf::from_iter(rt.alloc(), 1..3)?;
+    list.push(5_u8)?;
+    list.as_mut_slice().reverse();
+    let same = list == SequenceOf::new(vec![in rt.alloc(); 5, 2, 1]?);
+    assert_shown(rt.alloc(), &(list.as_slice(), same), "([5, 2, 1], true)")
+}
+
+#[test]
+fn sets_are_made_by_calls(rt: HostRuntime) -> Result<(), Fail> {
+    let mut set = SetOf::from_iter(rt.alloc(), 1..2)?;
+    set.push(2_u8)?;
+    set.as_mut_slice().reverse();
+    let same = set == SetOf::new(vec![in rt.alloc(); 1, 2]?);
+    assert_shown(rt.alloc(), &(set.as_slice(), same), "([2, 1], false)")?;
+    assert_written(
+        rt.alloc(),
+        &set,
+        "3106020101020102 count 8 6 raw 3106020101020102",
+    )
+}
+
+#[test]
+fn lists_become_vectors(rt: HostRuntime) -> Result<(), Fail> {
+    let list = SequenceOf::new(vec![in rt.alloc(); 2_u8, 1]?);
+    let items: Vec<u8> = list.into();
+    let set = SetOf::new(items);
+    let items: Vec<u8> = set.into();
+    assert_shown(rt.alloc(), &SequenceOf::new(items).into_vec(), "[2, 1]")
 }

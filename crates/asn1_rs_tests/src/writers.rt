@@ -27,7 +27,11 @@ Any::write_der:
 ";
 
 /// Asserts how a value is written, as [`push_written`] shows it.
-fn assert_written<T: ToDer>(alloc: Global, value: &T, expected: &str) -> Result<(), Fail> {
+pub(crate) fn assert_written<T: ToDer>(
+    alloc: Global,
+    value: &T,
+    expected: &str,
+) -> Result<(), Fail> {
     let mut text = String::new(alloc);
     push_written(&mut text, alloc, value)?;
     assert_text("a value is written", text.as_str(), expected)
