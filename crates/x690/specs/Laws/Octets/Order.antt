@@ -12,7 +12,7 @@ use Rattle.x690.specs.Octets.{dictionary_order, IsBeforeOrSame}
 abbrev is_before : List ℕ → List ℕ → Bool
 is_before one other = is_lt (dictionary_order one other)
 
-strings_rank : IsStrictWeakOrder is_before
+pub strings_rank : IsStrictWeakOrder is_before
 strings_rank = ranks_by nat_list_cmp_total (λ octets. octets)
 
 -- of two strings one is before the other, or they are the same

@@ -1,0 +1,62 @@
+//! The laws of words that are joined, of any grammar whose words show their own end.
+
+ghost use Rattle.std.specs.Prelude.{ℕ, List, [], ◌++◌, ◌≡◌, ◌≢◌, ◌≤◌, length};
+ghost use Rattle.x690.specs.Joined.{IsOneFront, NoFront, IsJoined, BeginsWithWords};
+
+/// A grammar whose words show their own end: a relation between words, which are octets, and their values.
+///
+/// No code calls it: it is what the laws of joined words speak of.
+pub trait Words {
+    /// The values.
+    ghost Value: { Type 0 };
+
+    /// The words, with their values.
+    ghost Word: { List ℕ → Value → Type 0 };
+
+    /// No word is empty, and two words that begin one input are the same and have one value.
+    ghost one: { IsOneFront Self.Word };
+}
+
+/// Octets split in one way into words, with their values. So do octets behind which others follow, where there are as
+/// many words or where no word begins what follows. Else what one splitting has more is joined behind the other one.
+pub fn joinings_split_in_one_way<G: Words>()
+    ensures whole { (input : List ℕ) (words others : List (List ℕ))
+        (values other_values : List G.Value)
+        → BeginsWithWords G.Word input words values []
+        → BeginsWithWords G.Word input others other_values []
+        → (words ≡ others) × (values ≡ other_values) }
+    ensures as_many { (input rest tail : List ℕ) (words others : List (List ℕ))
+        (values other_values : List G.Value)
+        → BeginsWithWords G.Word input words values rest
+        → BeginsWithWords G.Word input others other_values tail
+        → length words ≡ length others
+        → (words ≡ others) × (values ≡ other_values) × (rest ≡ tail) }
+    ensures all { (input rest tail : List ℕ) (words others : List (List ℕ))
+        (values other_values : List G.Value)
+        → BeginsWithWords G.Word input words values rest → NoFront G.Word rest
+        → BeginsWithWords G.Word input others other_values tail → NoFront G.Word tail
+        → (words ≡ others) × (values ≡ other_values) × (rest ≡ tail) }
+    ensures more { (input rest tail : List ℕ) (words others : List (List ℕ))
+        (values other_values : List G.Value)
+        → BeginsWithWords G.Word input words values rest
+        → BeginsWithWords G.Word input others other_values tail
+        → length words ≤ length others
+        → (more : List (List ℕ)) × (more_values : List G.Value)
+        × (others ≡ words ++ more) × (other_values ≡ values ++ more_values)
+        × BeginsWithWords G.Word rest more more_values tail }
+{}
+
+/// Joined octets are words one after the other, and nothing behind them. They have one row of values. Where octets are
+/// left behind words, and no word begins these, the whole is no joining.
+pub fn joined_octets_are_words<G: Words>()
+    ensures words { (octets : List ℕ) (values : List G.Value) → IsJoined G.Word octets values
+        → (words : List (List ℕ)) × BeginsWithWords G.Word octets words values [] }
+    ensures joined { (octets : List ℕ) (words : List (List ℕ)) (values : List G.Value)
+        → BeginsWithWords G.Word octets words values [] → IsJoined G.Word octets values }
+    ensures values { (octets : List ℕ) (values other_values : List G.Value)
+        → IsJoined G.Word octets values → IsJoined G.Word octets other_values
+        → values ≡ other_values }
+    ensures left { (input rest : List ℕ) (words : List (List ℕ)) (values others : List G.Value)
+        → BeginsWithWords G.Word input words values rest → rest ≢ [] → NoFront G.Word rest
+        → IsJoined G.Word input others → ⊥ }
+{}
