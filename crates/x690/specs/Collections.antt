@@ -2,6 +2,8 @@
 use Rattle.std.specs.Prelude.{◌≡◌, ◌↔◌, ℕ, List, [], ◌∷◌, Contains}
 use Rattle.std.specs.List.{AllZip, concat}
 use Rattle.std.specs.List.Sorted.{IsPermutation}
+use Rattle.x690.specs.Identifiers.{Identifier}
+use Rattle.x690.specs.Elements.{IsStrictElement}
 use Rattle.x690.specs.Joined.{IsOneFront, IsJoined}
 use Rattle.x690.specs.Ascending.{Ascending}
 use mathlib.Core.Quot.{Quot, mk}
@@ -41,6 +43,10 @@ AsWords Strict octets v = Strict v octets
 pub record AreEncodings {V : Type 0} (Strict : V → List ℕ → Type 0) : Type 0 where
   pub one_string : (v : V) (o p : List ℕ) → Strict v o → Strict v p → o ≡ p
   pub words : IsOneFront (AsWords Strict)
+
+-- the octets are the strict element of an identifier and contents octets
+abbrev pub IsStrictOf : Identifier × List ℕ → List ℕ → Type 0
+IsStrictOf parts octets = IsStrictElement octets parts.0 parts.1
 
 -- The octets are encodings of a collection's items, joined in ascending order.
 -- `of` says what collection a list of items is, and Each how a list has to stand for it.

@@ -15,3 +15,4 @@ pub mod Signed
 pub mod Joined
 pub mod Ascending
 pub mod Collections
+pub mod Words

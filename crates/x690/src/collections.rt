@@ -3,8 +3,10 @@
 ghost use Rattle.std.specs.Prelude.{ℕ, List, ◌≡◌, ◌↔◌};
 ghost use Rattle.std.specs.List.{AllZip, concat};
 ghost use Rattle.std.specs.List.Sorted.{IsPermutation};
+ghost use Rattle.x690.specs.Identifiers.{Identifier};
 ghost use Rattle.x690.specs.Ascending.{arranged};
-ghost use Rattle.x690.specs.Collections.{Multiset, multiset, HaveSame, ValueSet, value_set, AllDiffer, AreEncodings, IsListContent, IsMultisetContent, IsSetContent};
+ghost use Rattle.x690.specs.Collections.{Multiset, multiset, HaveSame, ValueSet, value_set, AllDiffer, AreEncodings, IsStrictOf, IsListContent, IsMultisetContent, IsSetContent};
+ghost use Rattle.x690.specs.Laws.Words.{strict_encodings};
 
 /// Strict encodings of values: a relation between values and octets.
 ///
@@ -18,6 +20,17 @@ pub trait Encodings {
 
     /// A value has one encoding at most, and an encoding one value; no encoding begins another one, and none is empty.
     ghost are: { AreEncodings Self.Strict };
+}
+
+/// The strict elements, as encodings of an identifier and contents octets (X.690 10.1).
+pub struct StrictElements;
+
+impl Encodings for StrictElements {
+    ghost Value = { Identifier × List ℕ };
+
+    ghost Strict = { IsStrictOf };
+
+    ghost are = { strict_encodings };
 }
 
 /// Two lists are one multiset exactly where they have the same items in some order, and one set exactly where the same

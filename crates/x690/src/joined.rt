@@ -1,7 +1,11 @@
 //! The laws of words that are joined, of any grammar whose words show their own end.
 
 ghost use Rattle.std.specs.Prelude.{ℕ, List, [], ◌++◌, ◌≡◌, ◌≢◌, ◌≤◌, length};
+ghost use Rattle.x690.specs.Rules.{Rule, der_rule};
+ghost use Rattle.x690.specs.Elements.{Parts, IsDefiniteElement, IsDerElement};
+ghost use Rattle.x690.specs.Nested.{IsElement};
 ghost use Rattle.x690.specs.Joined.{IsOneFront, NoFront, IsJoined, BeginsWithWords};
+ghost use Rattle.x690.specs.Laws.Words.{definite_words};
 
 /// A grammar whose words show their own end: a relation between words, which are octets, and their values.
 ///
@@ -16,6 +20,23 @@ pub trait Words {
     /// No word is empty, and two words that begin one input are the same and have one value.
     ghost one: { IsOneFront Self.Word };
 }
+
+/// The elements by DER, as words whose values are their parts.
+pub struct DerElements;
+
+impl Words for DerElements {
+    ghost Value = { Parts };
+
+    ghost Word = { IsDerElement };
+
+    ghost one = { definite_words der_rule };
+}
+
+/// Elements are such words, by each rule and of each depth, with their parts as values (X.690 8.1.1).
+pub fn elements_are_words()
+    ensures definite { (rule : Rule) → IsOneFront (IsDefiniteElement rule) }
+    ensures nested { (depth : ℕ) → IsOneFront (IsElement depth) }
+{}
 
 /// Octets split in one way into words, with their values. So do octets behind which others follow, where there are as
 /// many words or where no word begins what follows. Else what one splitting has more is joined behind the other one.

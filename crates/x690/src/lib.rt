@@ -20,8 +20,8 @@ ghost use Rattle.x690.specs.Laws.Octets.{octets_append};
 
 pub use ascending::{ascending_strings_are_in_order, strings_have_one_ascending_arrangement};
 pub use collections::{
-    collections_are_lists_up_to_order, collections_have_one_content, contents_have_one_collection,
-    contents_of_encodings, Encodings,
+    Encodings, StrictElements, collections_are_lists_up_to_order, collections_have_one_content,
+    contents_have_one_collection, contents_of_encodings,
 };
 pub use elements::{
     beginnings_lack_octets, definite_elements_unique, der_headers_are_ber_headers,
@@ -30,7 +30,9 @@ pub use elements::{
 };
 pub use identifiers::identifiers_unique;
 pub use integers::integers_have_one_content;
-pub use joined::{joined_octets_are_words, joinings_split_in_one_way, Words};
+pub use joined::{
+    DerElements, Words, elements_are_words, joined_octets_are_words, joinings_split_in_one_way,
+};
 pub use lengths::lengths_unique;
 pub use nested::{
     contents_are_determined, contents_split_in_one_way, definite_elements_are_nested,
