@@ -63,6 +63,10 @@ module _ {V : Type 0} (G : List ℕ → V → Type 0) (one : IsOneFront G) where
       let same : (x ≡ y) × (v ≡ w) = one.one x y r s v w a b e in
       (same.0, same.1, append_cancel_left y r s (ap (λ (z : List ℕ). z ++ r) (sym same.0) ∙ e))
 
+  -- a word has one value
+  pub one_value_of : (o : List ℕ) (v w : V) → G o v → G o w → v ≡ w
+  one_value_of o v w a b = (one.one o o [] [] v w a b refl).1
+
   -- no word begins nothing
   pub no_front_of_nothing : NoFront G []
   no_front_of_nothing word rest v e g = one.some v (subst (λ (o : List ℕ). G o v) (empty_front word rest e) g)
