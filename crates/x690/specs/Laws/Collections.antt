@@ -116,8 +116,8 @@ module _ {V : Type 0} (Strict : V → List ℕ → Type 0) (are : AreEncodings S
   content_one_set = joins_one_collection value_set AllDiffer Strict are.words
 
 module _ {V : Type 0} (Strict : V → List ℕ → Type 0) where
-  pub multiset_content : (vs : List V) (os : List (List ℕ)) → AllZip Strict vs os → IsMultisetContent Strict (multiset vs) (concat (arranged os))
-  multiset_content vs os z = joins_arranged multiset AnyList Strict (λ vs ws p h. tt) same_multiset vs os tt z
+  pub multiset_content_made : (vs : List V) (os : List (List ℕ)) → AllZip Strict vs os → IsMultisetContent Strict (multiset vs) (concat (arranged os))
+  multiset_content_made vs os z = joins_arranged multiset AnyList Strict (λ vs ws p h. tt) same_multiset vs os tt z
 
-  pub set_content : (vs : List V) (os : List (List ℕ)) → AllDiffer vs → AllZip Strict vs os → IsSetContent Strict (value_set vs) (concat (arranged os))
-  set_content vs os d z = joins_arranged value_set AllDiffer Strict AllDiffer-permutation (λ vs ws p. same_value_set vs ws (HaveSame-permutation vs ws p)) vs os d z
+  pub set_content_made : (vs : List V) (os : List (List ℕ)) → AllDiffer vs → AllZip Strict vs os → IsSetContent Strict (value_set vs) (concat (arranged os))
+  set_content_made vs os d z = joins_arranged value_set AllDiffer Strict AllDiffer-permutation (λ vs ws p. same_value_set vs ws (HaveSame-permutation vs ws p)) vs os d z
