@@ -48,6 +48,10 @@ pub record AreEncodings {V : Type 0} (Strict : V → List ℕ → Type 0) : Type
 abbrev pub IsStrictOf : Identifier × List ℕ → List ℕ → Type 0
 IsStrictOf parts octets = IsStrictElement octets parts.0 parts.1
 
+-- The octets are the strict element with this identifier whose contents octets say the value.
+abbrev pub IsStrictWith : {M : Type 0} → Identifier → (M → List ℕ → Type 0) → M → List ℕ → Type 0
+IsStrictWith id Content m octets = (content : List ℕ) × Content m content × IsStrictElement octets id content
+
 -- The octets are encodings of a collection's items, joined in ascending order.
 -- `of` says what collection a list of items is, and Each how a list has to stand for it.
 pub record Joins {V M : Type 0} (of : List V → M) (Each : List V → Type 0) (Strict : V → List ℕ → Type 0) (m : M) (c : List ℕ) : Type 0 where

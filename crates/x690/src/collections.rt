@@ -3,9 +3,10 @@
 ghost use Rattle.std.specs.Prelude.{ℕ, List, ◌≡◌, ◌↔◌};
 ghost use Rattle.std.specs.List.{AllZip, concat};
 ghost use Rattle.std.specs.List.Sorted.{IsPermutation};
+ghost use Rattle.x690.specs.Octets.{IsBeforeOrSame, IsBeforeOrSamePadded};
 ghost use Rattle.x690.specs.Identifiers.{Identifier};
 ghost use Rattle.x690.specs.Ascending.{arranged};
-ghost use Rattle.x690.specs.Collections.{Multiset, multiset, HaveSame, ValueSet, value_set, AllDiffer, AreEncodings, IsStrictOf, IsListContent, IsMultisetContent, IsSetContent};
+ghost use Rattle.x690.specs.Collections.{Multiset, multiset, HaveSame, ValueSet, value_set, AllDiffer, AreEncodings, IsStrictOf, IsStrictWith, IsListContent, IsMultisetContent, IsSetContent};
 ghost use Rattle.x690.specs.Laws.Words.{strict_encodings};
 
 /// Strict encodings of values: a relation between values and octets.
@@ -42,6 +43,13 @@ pub fn collections_are_lists_up_to_order<V>()
         → (value_set one ≡ value_set other) ↔ ∥ HaveSame one other ∥₁ }
     ensures once { (one other : List V) → AllDiffer one → AllDiffer other
         → value_set one ≡ value_set other → ∥ IsPermutation one other ∥₁ }
+{}
+
+/// Encodings are compared as X.690 11.6 says, the shorter one padded with zeros, exactly as in the dictionary.
+pub fn encodings_have_one_order<E: Encodings>()
+    ensures { (value another : E.Value) (one other : List ℕ)
+        → E.Strict value one → E.Strict another other
+        → IsBeforeOrSame one other ↔ IsBeforeOrSamePadded one other }
 {}
 
 /// A list, a multiset and a set have one content at most that is made of strict encodings (X.690 10.1, 11.6).
@@ -81,4 +89,13 @@ pub fn contents_of_encodings<E: Encodings>()
     ensures sets { (values : List E.Value) (strings : List (List ℕ))
         → AllDiffer values → AllZip E.Strict values strings
         → IsSetContent E.Strict (value_set values) (concat (arranged strings)) }
+{}
+
+/// The strict element of such a content, under any identifier, is a strict encoding again: so the laws hold of lists of
+/// lists, of sets of lists, and of all that is nested so.
+pub fn collections_are_encoded<E: Encodings>()
+    ensures lists { (id : Identifier) → AreEncodings (IsStrictWith id (IsListContent E.Strict)) }
+    ensures multisets { (id : Identifier)
+        → AreEncodings (IsStrictWith id (IsMultisetContent E.Strict)) }
+    ensures sets { (id : Identifier) → AreEncodings (IsStrictWith id (IsSetContent E.Strict)) }
 {}

@@ -20,8 +20,9 @@ ghost use Rattle.x690.specs.Laws.Octets.{octets_append};
 
 pub use ascending::{ascending_strings_are_in_order, strings_have_one_ascending_arrangement};
 pub use collections::{
-    Encodings, StrictElements, collections_are_lists_up_to_order, collections_have_one_content,
-    contents_have_one_collection, contents_of_encodings,
+    Encodings, StrictElements, collections_are_encoded, collections_are_lists_up_to_order,
+    collections_have_one_content, contents_have_one_collection, contents_of_encodings,
+    encodings_have_one_order,
 };
 pub use elements::{
     beginnings_lack_octets, definite_elements_unique, der_headers_are_ber_headers,
@@ -41,7 +42,7 @@ pub use nested::{
     nested_elements_have_no_fault, nested_elements_last, nested_elements_unique,
     nested_faults_are_complete, nested_faults_are_final, one_nested_fault,
 };
-pub use octets::{dictionary_order_is_total, first_difference_decides};
+pub use octets::{dictionary_order_is_total, first_difference_decides, padding_changes_no_order};
 pub use signed::octets_hold_their_integers;
 
 /// Octet strings, one after the other, are an octet string.

@@ -3,13 +3,13 @@ pub mod Arranged
 use Rattle.std.specs.Prelude.{◌≡◌, ℕ, ◌+◌, ◌<◌, true, false, cond, List, [], ◌∷◌, ◌++◌, bytes_eq}
 use Rattle.std.specs.List.{AllByRecursion}
 use Rattle.std.specs.List.Sorted.{IsPermutation}
-use Rattle.std.proofs.Common.{refl, sym, ◌∙◌, subst, ap, arith, get_or, zero, suc, add-one, inl, inr}
+use Rattle.std.proofs.Common.{refl, sym, ◌∙◌, subst, ap, arith, get_or, zero, suc, add-one}
 use Rattle.std.proofs.lemmas.List.Sorted.{sum_by-IsPermutation}
 use Rattle.std.proofs.lemmas.List.Recursion.{is_sum_by}
 use Rattle.std.proofs.lemmas.Slice.Eq.{bytes_eq-Decides}
 use Rattle.x690.specs.Octets.{dictionary_order, IsBeforeOrSame}
 use Rattle.x690.specs.Ascending.{Ascending}
-use Rattle.x690.specs.Laws.Octets.Order.{before_or_same_antisymmetric, before_or_same_total, before_or_same_transitive}
+use Rattle.x690.specs.Laws.Octets.Order.{before_or_same_antisymmetric, before_or_same_itself, before_or_same_transitive}
 
 pub ascending_none : Ascending []
 ascending_none k d l h = absurd (omega (arith, h))
@@ -35,9 +35,6 @@ ascending_later (f ∷ front) between rest x y up = ascending_later front betwee
 ascending_later [] [] rest x y up = ascending_first x y rest up
 ascending_later [] (b ∷ between) rest x y up =
     before_or_same_transitive x b y (ascending_first x b (between ++ y ∷ rest) up) (ascending_later [] between rest b y (ascending_rest x (b ∷ between ++ y ∷ rest) up))
-
-itself : (x : List ℕ) → IsBeforeOrSame x x
-itself x = elim (before_or_same_total x x) [ inl h ↦ h | inr h ↦ h ]
 
 -- the first is before each one, or the same
 first_lowest : (x : List ℕ) (xs : List (List ℕ)) → Ascending (x ∷ xs) → AllByRecursion (λ y. IsBeforeOrSame x y) xs
@@ -76,8 +73,8 @@ holds_where_occurs P o (p ∷ ps) h k =
 same_heads : (x y : List ℕ) (xs ys : List (List ℕ)) → Ascending (x ∷ xs) → Ascending (y ∷ ys) → ((o : List ℕ) → occurs o (x ∷ xs) ≡ occurs o (y ∷ ys)) → x ≡ y
 same_heads x y xs ys up vp h =
     before_or_same_antisymmetric x y
-    (holds_where_occurs (IsBeforeOrSame x) y (x ∷ xs) (itself x, first_lowest x xs up) (omega (arith, h y, one_itself y)))
-    (holds_where_occurs (IsBeforeOrSame y) x (y ∷ ys) (itself y, first_lowest y ys vp) (omega (arith, h x, one_itself x)))
+    (holds_where_occurs (IsBeforeOrSame x) y (x ∷ xs) (before_or_same_itself x, first_lowest x xs up) (omega (arith, h y, one_itself y)))
+    (holds_where_occurs (IsBeforeOrSame y) x (y ∷ ys) (before_or_same_itself y, first_lowest y ys vp) (omega (arith, h x, one_itself x)))
 
 same_strings : (xs ys : List (List ℕ)) → Ascending xs → Ascending ys → ((o : List ℕ) → occurs o xs ≡ occurs o ys) → xs ≡ ys
 same_strings [] [] up vp h = refl

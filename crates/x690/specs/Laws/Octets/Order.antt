@@ -23,6 +23,9 @@ before_or_same_total one other =
       | false ↦ λ e. inl e
     ] refl
 
+pub before_or_same_itself : (one : List ℕ) → IsBeforeOrSame one one
+before_or_same_itself one = elim (before_or_same_total one one) [ inl h ↦ h | inr h ↦ h ]
+
 pub before_or_same_transitive : (one other third : List ℕ) → IsBeforeOrSame one other → IsBeforeOrSame other third → IsBeforeOrSame one third
 before_or_same_transitive one other third a b = strings_rank.chain third other one b a
 
