@@ -99,3 +99,17 @@ pub fn collections_are_encoded<E: Encodings>()
         → AreEncodings (IsStrictWith id (IsMultisetContent E.Strict)) }
     ensures sets { (id : Identifier) → AreEncodings (IsStrictWith id (IsSetContent E.Strict)) }
 {}
+
+/// So a set of strict elements has one content at most, and that is of no other set: the laws of all encodings, called
+/// at these.
+pub fn sets_of_strict_elements_have_one_content()
+    ensures content { (values : ValueSet (Identifier × List ℕ)) (content other : List ℕ)
+        → IsSetContent IsStrictOf values content → IsSetContent IsStrictOf values other
+        → content ≡ other }
+    ensures set { (values others : ValueSet (Identifier × List ℕ)) (content : List ℕ)
+        → IsSetContent IsStrictOf values content → IsSetContent IsStrictOf others content
+        → values ≡ others }
+{
+    collections_have_one_content::<StrictElements>();
+    contents_have_one_collection::<StrictElements>();
+}

@@ -81,3 +81,13 @@ pub fn joined_octets_are_words<G: Words>()
         → BeginsWithWords G.Word input words values rest → rest ≢ [] → NoFront G.Word rest
         → IsJoined G.Word input others → ⊥ }
 {}
+
+/// So octets split in one way into elements by DER, with their parts: the law of all words, called at these.
+pub fn der_elements_split_in_one_way()
+    ensures { (input : List ℕ) (words others : List (List ℕ)) (parts other_parts : List Parts)
+        → BeginsWithWords IsDerElement input words parts []
+        → BeginsWithWords IsDerElement input others other_parts []
+        → (words ≡ others) × (parts ≡ other_parts) }
+{
+    joinings_split_in_one_way::<DerElements>();
+}

@@ -22,7 +22,7 @@ pub use ascending::{ascending_strings_are_in_order, strings_have_one_ascending_a
 pub use collections::{
     Encodings, StrictElements, collections_are_encoded, collections_are_lists_up_to_order,
     collections_have_one_content, contents_have_one_collection, contents_of_encodings,
-    encodings_have_one_order,
+    encodings_have_one_order, sets_of_strict_elements_have_one_content,
 };
 pub use elements::{
     beginnings_lack_octets, definite_elements_unique, der_headers_are_ber_headers,
@@ -32,7 +32,8 @@ pub use elements::{
 pub use identifiers::identifiers_unique;
 pub use integers::integers_have_one_content;
 pub use joined::{
-    DerElements, Words, elements_are_words, joined_octets_are_words, joinings_split_in_one_way,
+    DerElements, Words, der_elements_split_in_one_way, elements_are_words, joined_octets_are_words,
+    joinings_split_in_one_way,
 };
 pub use lengths::lengths_unique;
 pub use nested::{
