@@ -9,4 +9,7 @@ pub mod Nested
 pub mod Strict
 pub mod Integers
 pub mod Signed
+pub mod Joined
+pub mod Ascending
+pub mod Collections
 pub mod Laws

@@ -1,5 +1,5 @@
 -- Octet strings, beginnings and the dictionary order.
-use Rattle.std.specs.Prelude.{◌≡◌, ℕ, ◌<◌, List, ◌++◌, get_or}
+use Rattle.std.specs.Prelude.{◌≡◌, ℕ, ◌<◌, ◌-◌, List, ◌++◌, length, replicate, get_or}
 use Rattle.std.specs.declared.cmp.Ordering.{Ordering}
 use Rattle.std.specs.Ordering.{nat_cmp, is_lt}
 use Rattle.std.specs.Cmp.Lexicographic.{slice_cmp}
@@ -20,3 +20,11 @@ dictionary_order = slice_cmp nat_cmp
 -- the one comes before the other in dictionary order, or is the same
 abbrev pub IsBeforeOrSame : List ℕ → List ℕ → Type 0
 IsBeforeOrSame one other = is_lt (dictionary_order other one) ≡ false
+
+-- the octets, and zeros behind them where the other string is longer
+abbrev pub padded : List ℕ → List ℕ → List ℕ
+padded octets other = octets ++ replicate (length other - length octets) 0
+
+-- so compared that the shorter string is padded with zeros behind it (X.690 11.6)
+abbrev pub IsBeforeOrSamePadded : List ℕ → List ℕ → Type 0
+IsBeforeOrSamePadded one other = IsBeforeOrSame (padded one other) (padded other one)

@@ -1,10 +1,13 @@
 //! The encoding rules of ITU-T X.690 on lists of octets, and their laws.
 #![tactic(auto)]
 
+pub mod ascending;
+pub mod collections;
 pub mod digits;
 pub mod elements;
 pub mod identifiers;
 pub mod integers;
+pub mod joined;
 pub mod lengths;
 pub mod nested;
 pub mod octets;
@@ -15,6 +18,12 @@ ghost use Rattle.std.specs.Prelude.{ℕ, List, ◌≡◌, ◌++◌};
 ghost use Rattle.x690.specs.Octets.{IsOctets};
 ghost use Rattle.x690.specs.Laws.Octets.{octets_append};
 
+pub use ascending::{ascending_strings_are_in_order, strings_have_one_ascending_arrangement};
+pub use collections::{
+    Encodings, StrictElements, collections_are_encoded, collections_are_lists_up_to_order,
+    collections_have_one_content, contents_have_one_collection, contents_of_encodings,
+    encodings_have_one_order, sets_of_strict_elements_have_one_content,
+};
 pub use elements::{
     beginnings_lack_octets, definite_elements_unique, der_headers_are_ber_headers,
     faults_are_complete, faults_are_final, headers_unique, one_fault, some_octets_are_missing,
@@ -22,6 +31,10 @@ pub use elements::{
 };
 pub use identifiers::identifiers_unique;
 pub use integers::integers_have_one_content;
+pub use joined::{
+    DerElements, Words, der_elements_split_in_one_way, elements_are_words, joined_octets_are_words,
+    joinings_split_in_one_way,
+};
 pub use lengths::lengths_unique;
 pub use nested::{
     contents_are_determined, contents_split_in_one_way, definite_elements_are_nested,
@@ -30,7 +43,7 @@ pub use nested::{
     nested_elements_have_no_fault, nested_elements_last, nested_elements_unique,
     nested_faults_are_complete, nested_faults_are_final, one_nested_fault,
 };
-pub use octets::{dictionary_order_is_total, first_difference_decides};
+pub use octets::{dictionary_order_is_total, first_difference_decides, padding_changes_no_order};
 pub use signed::octets_hold_their_integers;
 
 /// Octet strings, one after the other, are an octet string.

@@ -1,7 +1,7 @@
 //! The laws of octet strings in dictionary order.
 
-ghost use Rattle.std.specs.Prelude.{ℕ, List, [], ◌∷◌, ◌++◌, ◌≡◌, ◌<◌, ◌⊎◌};
-ghost use Rattle.x690.specs.Octets.{IsBeforeOrSame};
+ghost use Rattle.std.specs.Prelude.{ℕ, List, [], ◌∷◌, ◌++◌, ◌≡◌, ◌<◌, ◌⊎◌, ◌↔◌};
+ghost use Rattle.x690.specs.Octets.{BeginsWith, IsBeforeOrSame, IsBeforeOrSamePadded};
 
 /// Any two octet strings have one order in the dictionary (X.690 11.6): one of them comes before the other or they
 /// are the same, and not both but where they are the same.
@@ -21,4 +21,15 @@ pub fn first_difference_decides()
     ensures not_after { (front one other : List ℕ) (lesser greater : ℕ) → lesser < greater
         → IsBeforeOrSame (front ++ greater ∷ other) (front ++ lesser ∷ one) → ⊥ }
     ensures beginning { (front rest : List ℕ) → IsBeforeOrSame front (front ++ rest) }
+{}
+
+/// X.690 11.6 compares strings of which the shorter one is padded with zeros behind it. Where neither string begins the
+/// other one, or they are the same, that is the order of the dictionary.
+///
+/// Strings that begin others are another matter: padded, 01 and 01 00 are the same, and in the dictionary 01 comes first.
+pub fn padding_changes_no_order()
+    ensures { (one other : List ℕ)
+        → ((rest : List ℕ) → BeginsWith one other rest → one ≡ other)
+        → ((rest : List ℕ) → BeginsWith other one rest → one ≡ other)
+        → IsBeforeOrSame one other ↔ IsBeforeOrSamePadded one other }
 {}

@@ -1,5 +1,6 @@
 -- Laws of octet strings.
 pub mod Order
+pub mod Padded
 use Rattle.std.proofs.Common.{ℕ, zero, suc, ◌<◌, List, [], ◌∷◌, ◌++◌, arith}
 use Rattle.std.specs.Int.Digits.{AllBelowBase}
 use Rattle.x690.specs.Octets.{IsOctets}

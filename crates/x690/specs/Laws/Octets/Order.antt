@@ -12,7 +12,7 @@ use Rattle.x690.specs.Octets.{dictionary_order, IsBeforeOrSame}
 abbrev is_before : List ℕ → List ℕ → Bool
 is_before one other = is_lt (dictionary_order one other)
 
-strings_rank : IsStrictWeakOrder is_before
+pub strings_rank : IsStrictWeakOrder is_before
 strings_rank = ranks_by nat_list_cmp_total (λ octets. octets)
 
 -- of two strings one is before the other, or they are the same
@@ -22,6 +22,9 @@ before_or_same_total one other =
       | true ↦ λ e. inr (strings_rank.one_way other one e)
       | false ↦ λ e. inl e
     ] refl
+
+pub before_or_same_itself : (one : List ℕ) → IsBeforeOrSame one one
+before_or_same_itself one = elim (before_or_same_total one one) [ inl h ↦ h | inr h ↦ h ]
 
 pub before_or_same_transitive : (one other third : List ℕ) → IsBeforeOrSame one other → IsBeforeOrSame other third → IsBeforeOrSame one third
 before_or_same_transitive one other third a b = strings_rank.chain third other one b a
