@@ -4,10 +4,9 @@ use Rattle.std.specs.List.Sorted.{IsSortedBy, IsPermutation}
 use Rattle.std.specs.Ordering.{nat_cmp, is_lt}
 use Rattle.std.specs.Cmp.Lexicographic.{slice_cmp}
 use Rattle.std.proofs.Common.{refl, ap, subst, arith, get_or, zero, suc, ◌++◌, length-append}
-use Rattle.std.proofs.lemmas.List.Sorted.{IsPermutation-trans, IsPermutation-sym, IsPermutation-map}
-use Rattle.asn1_rs.specs.Set.{Ascending, arranged}
-use Rattle.asn1_rs.specs.Laws.Set.Ascend.{Ascending-unique}
-use Rattle.asn1_rs.specs.Laws.Set.Arranged.{arranged_ascends, arranged_moves}
+use Rattle.std.proofs.lemmas.List.Sorted.{IsPermutation-map}
+use Rattle.x690.specs.Ascending.{Ascending, arranged}
+use Rattle.x690.specs.Laws.Ascending.Arranged.{only_arranged}
 
 get_or-map_in : {X Y : Type 0} (f : X → Y) (xs : List X) (k : ℕ) (d : Y) (e : X) → k < length xs → get_or (map f xs) k d ≡ f (get_or xs k e)
 get_or-map_in f [] k d e h = absurd (omega (arith, h))
@@ -26,9 +25,7 @@ Ascending-map f (x ∷ xs) up k d l h =
 
 pub sorted_is_arranged : {X : Type 0} (f : X → List ℕ) (xs ys : List X) → IsPermutation xs ys → IsSortedBy (λ x y. is_lt (slice_cmp nat_cmp (f x) (f y))) ys → map f ys ≡ arranged (map f xs)
 sorted_is_arranged f xs ys p up =
-    Ascending-unique (map f ys) (arranged (map f xs))
-    (IsPermutation-trans _ _ _ (IsPermutation-sym _ _ (IsPermutation-map f xs ys p)) (arranged_moves (map f xs)))
-    (Ascending-map f ys up) (arranged_ascends (map f xs))
+    only_arranged (map f xs) (map f ys) (IsPermutation-map f xs ys p) (Ascending-map f ys up)
 
 -- the item that was got at an index
 pub got_at : {X : Type 0} (xs : List X) (i : ℕ) (x : X) → i < length xs → slice_get xs i ≡ Some x → x ≡ get_or xs i x

@@ -1,6 +1,7 @@
 -- What readers answer.
 use Rattle.std.specs.Prelude.{ℕ, Bool, IsTrue, List, [], ◌++◌, ◌≡◌, ◌≢◌, ◌<◌, ◌⊎◌, length, Result, Ok, Err, ◌≤◌, IsErrAnd}
 use Rattle.std.specs.Borrow.{Bor}
+use Rattle.x690.specs.Joined.{NoFront}
 use Rattle.asn1_rs.specs.declared.error.Err.{Err as Refusal}
 use Rattle.asn1_rs.specs.declared.error.Err.TheVariants.{Incomplete as cut, Error as refused, Failure as failed}
 use Rattle.asn1_rs.specs.declared.error.Needed.TheVariants.{Size, Unknown}
@@ -17,10 +18,6 @@ pub record Front {V : Type 0} (G : List ℕ → V → Type 0) (input : List ℕ)
   pub word : List ℕ
   pub fits : G word v
   pub is : input ≡ word ++ rest
-
--- no word of the grammar begins the input
-abbrev pub NoFront : {V : Type 0} → (List ℕ → V → Type 0) → List ℕ → Type 0
-NoFront {V} G input = (word rest : List ℕ) (v : V) → input ≡ word ++ rest → G word v → ⊥
 
 -- What a refusal says of the input with more octets behind it. Where n are missing it says nothing of n or more; where the input ends within an identifier it says nothing of any.
 abbrev pub Speaks : {E : Type 0} → Type 0 → Refusal E → List ℕ → Type 0

@@ -10,11 +10,6 @@ use Rattle.asn1_rs.specs.declared.error.Error.{Error}
 use Rattle.asn1_rs.specs.declared.error.Error.TheVariants.{OutOfMemory}
 use Rattle.asn1_rs.specs.Ber.{max_depth}
 
--- no word is empty, and two words that begin one input are the same and have one value
-pub record IsOneFront {V : Type 0} (G : List ℕ → V → Type 0) : Type 0 where
-  pub one : (x y r s : List ℕ) (v w : V) → G x v → G y w → x ++ r ≡ y ++ s → (x ≡ y) × (v ≡ w)
-  pub some : (v : V) → G [] v → ⊥
-
 -- one element, whose parts meet the check and have the value by the body
 abbrev pub ElementWord : {V : Type 0} → (List ℕ → Parts → Type 0) → (Parts → Type 0) → (Parts → V → Type 0) → List ℕ → V → Type 0
 ElementWord ElementOf Check Body o v = (p : Parts) × ElementOf o p × Check p × Body p v

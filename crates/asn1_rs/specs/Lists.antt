@@ -6,6 +6,8 @@ use Rattle.std.specs.List.{All, Any as HasSome, flat_map}
 use Rattle.std.specs.Iterator.{Yields, AlwaysYields}
 use Rattle.x690.specs.Identifiers.{Identifier}
 use Rattle.x690.specs.Elements.{Parts, IsDerElement}
+use Rattle.x690.specs.Joined.{IsJoined}
+use Rattle.x690.specs.Collections.{AsWords}
 use Rattle.asn1_rs.specs.declared.error.Err.{Err as Refusal}
 use Rattle.asn1_rs.specs.declared.error.Error.{Error}
 use Rattle.asn1_rs.specs.declared.error.Error.TheVariants as errors
@@ -16,11 +18,7 @@ use Rattle.asn1_rs.specs.Grammar.Form.{IsStrict, UniversalForm}
 use Rattle.asn1_rs.specs.Traits.{DerGives}
 use Rattle.asn1_rs.specs.Grammar.{BerWord, DerWord, NoCheck}
 use Rattle.asn1_rs.specs.Grammar.Item.{ItemGrammar}
-use Rattle.asn1_rs.specs.Sequence.Iterator.{TakesItem, IsJoined}
-
--- strings, one after another
-abbrev pub joining : List (List ℕ) → List ℕ
-joining os = flat_map (λ o. o) os
+use Rattle.asn1_rs.specs.Sequence.Iterator.{TakesItem}
 
 -- A constructed element with the tag number, whose contents octets are words joined.
 pub record ListBody {V : Type 0} (number : ℕ) (G : List ℕ → V → Type 0) (p : Parts) (vs : List V) : Type 0 where
@@ -46,7 +44,7 @@ pub record ListCheck (number : ℕ) (Check : Parts → Type 0) (p : Parts) : Typ
 
 -- the strict encodings of a grammar's values, as words
 abbrev pub StrictWord : {V : Type 0} → (V → Identifier → List ℕ → Type 0) → List ℕ → V → Type 0
-StrictWord Form octets v = IsStrict Form v octets
+StrictWord Form = AsWords (IsStrict Form)
 
 -- the strict parts of a list: universal, constructed, and the strict encodings of the items joined in their order
 abbrev pub ListForm : {V : Type 0} → ℕ → (V → Identifier → List ℕ → Type 0) → List V → Identifier → List ℕ → Type 0

@@ -2,44 +2,21 @@
 use Rattle.std.specs.Prelude.{◌≡◌, ◌⊎◌, ◌↔◌, ℕ, Bool, true, false, not, ◌&&◌, List, [], ◌∷◌, map, Contains, if◌then◌else◌}
 use Rattle.std.specs.Borrow.{Lends, Fml, RattleType, MutBor, Array}
 use Rattle.std.specs.Vec.{with_items}
-use Rattle.std.specs.List.{All, AllZip, list_all}
+use Rattle.std.specs.List.{All, AllZip, list_all, concat}
 use Rattle.std.specs.List.Sorted.{IsSorted, IsPermutation}
 use Rattle.std.specs.Ordering.{nat_cmp, is_lt}
 use Rattle.std.specs.declared.cmp.Ordering.{Ordering}
-use Rattle.std.specs.Cmp.Lexicographic.{slice_cmp}
 use Rattle.std.proofs.Common.{inl, inr}
 use Rattle.x690.specs.Identifiers.{Identifier}
 use Rattle.asn1_rs.specs.declared.asn1_types.set.set_of.SetOf.{SetOf}
 use Rattle.asn1_rs.specs.contracts.asn1_types.set.set_of.SetOf.{the_row}
 use Rattle.x690.specs.Elements.{Parts}
+use Rattle.x690.specs.Ascending.{arranged}
+use Rattle.x690.specs.Collections.{multiset, ValueSet, value_set, AllDiffer, AnyList, Joins}
 use Rattle.asn1_rs.specs.Grammar.Form.{IsStrict, UniversalForm}
 use Rattle.asn1_rs.specs.Grammar.{BerWord, DerWord, NoCheck}
 use Rattle.asn1_rs.specs.Grammar.Item.{ItemGrammar}
-use Rattle.asn1_rs.specs.Lists.{joining, ListBody, ListOf, ListCheck}
-use mathlib.Core.Quot.{Quot, mk}
-
--- a multiset is a list up to the order of its items
-abbrev pub Multiset : Type 0 → Type 0
-Multiset V = Quot (IsPermutation {X = V})
-
-abbrev pub multiset : {V : Type 0} → List V → Multiset V
-multiset vs = mk vs
-
--- the same values stand in both
-abbrev pub HaveSame : {V : Type 0} → List V → List V → Type 0
-HaveSame {V} xs ys = (v : V) → Contains xs v ↔ Contains ys v
-
--- a set is a list up to order and repetition
-abbrev pub ValueSet : Type 0 → Type 0
-ValueSet V = Quot (HaveSame {V = V})
-
-abbrev pub value_set : {V : Type 0} → List V → ValueSet V
-value_set vs = mk vs
-
--- no value stands twice
-abbrev pub AllDiffer : {V : Type 0} → List V → Type 0
-AllDiffer [] = Unit {0}
-AllDiffer (v ∷ vs) = (Contains vs v → ⊥) × AllDiffer vs
+use Rattle.asn1_rs.specs.Lists.{ListBody, ListOf, ListCheck}
 
 -- What a row of keys stands for: a set; or, where the keys stand in no way in which a set keeps them, that row itself.
 -- Each set in hand is of the first kind, as its `len` and `iter` tell.
@@ -69,25 +46,6 @@ is_below cmp x y = is_lt (cmp x y)
 abbrev pub is_other : {S : Type 0} → (S → S → Bool) → S → S → Bool
 is_other eq x y = not (eq x y)
 
--- no string is before the one in front of it, in dictionary order
-abbrev pub Ascending : List (List ℕ) → Type 0
-Ascending os = IsSorted (slice_cmp nat_cmp) os
-
--- The octets are the ascending joining of strict encodings of the collection's items.
--- `of` says what collection a list of items is, and Each how a list has to stand for it.
-pub record Joins {V M : Type 0} (of : List V → M) (Each : List V → Type 0) (Form : V → Identifier → List ℕ → Type 0) (m : M) (c : List ℕ) : Type 0 where
-  pub items : List V
-  pub strings : List (List ℕ)
-  pub once : Each items
-  pub are : of items ≡ m
-  pub each : AllZip (IsStrict Form) items strings
-  pub ascend : Ascending strings
-  pub joined : joining strings ≡ c
-
--- any list is a multiset's
-abbrev pub AnyList : {V : Type 0} → List V → Type 0
-AnyList vs = Unit {0}
-
 -- values of one grammar, seen as another's
 abbrev pub Seen : {X V W : Type 0} → (V → W) → (X → V → Type 0) → X → W → Type 0
 Seen {X} {V} f G o w = (v : V) × (f v ≡ w) × G o v
@@ -101,7 +59,7 @@ SetRow of G = Seen of (ListOf 17 G)
 
 -- the strict parts of a set
 abbrev pub SetForm : {V M : Type 0} → (List V → M) → (List V → Type 0) → (V → Identifier → List ℕ → Type 0) → M → Identifier → List ℕ → Type 0
-SetForm of Each Form = UniversalForm true 17 (Joins of Each Form)
+SetForm of Each Form = UniversalForm true 17 (Joins of Each (IsStrict Form))
 
 -- collections of values that hold
 abbrev pub SetValues : {V M : Type 0} → (List V → M) → (V → Type 0) → M → Type 0
@@ -148,20 +106,6 @@ module _ (T : RattleType) (s : MutBor (SetOf T.Denot)) where
 abbrev pub member_grammar : {S W : Type 0} → (S → S → Bool) → (W → List S) → ItemGrammar S → ItemGrammar W
 member_grammar test keys G = set_grammar G set_of (λ w. members test G.value (keys w)) AllDiffer (SetBody set_of G.Der)
 
--- the dictionary order of strings
-abbrev pub lex : List ℕ → List ℕ → Ordering
-lex = slice_cmp nat_cmp
-
--- o at its place among ascending strings
-unfoldable pub put_in : List ℕ → List (List ℕ) → List (List ℕ)
-put_in o [] = o ∷ []
-put_in o (p ∷ ps) = if is_lt (lex p o) then p ∷ put_in o ps else o ∷ p ∷ ps
-
--- the strings in ascending order
-unfoldable pub arranged : List (List ℕ) → List (List ℕ)
-arranged [] = []
-arranged (o ∷ os) = put_in o (arranged os)
-
 -- what is written for the items, in ascending order
 abbrev pub set_content : {S : Type 0} → (S → List ℕ) → List S → List ℕ
-set_content octets xs = joining (arranged (map octets xs))
+set_content octets xs = concat (arranged (map octets xs))

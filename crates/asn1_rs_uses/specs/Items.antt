@@ -1,6 +1,6 @@
 -- Contents octets that are not items alone.
 use Rattle.std.specs.Prelude.{ℕ, List}
-use Rattle.asn1_rs.specs.Answers.{NoFront}
+use Rattle.x690.specs.Joined.{NoFront}
 use Rattle.asn1_rs.specs.Sequence.Iterator.{EndsJoined}
 
 -- no word begins the octets, whatever is told of them

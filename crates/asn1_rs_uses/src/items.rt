@@ -1,9 +1,9 @@
 //! Items in contents octets.
 ghost use Rattle.std.specs.Prelude.{◌≡◌, ◌⊎◌, List, length, map, pos, ℤ, IfOk, IfErr};
+ghost use Rattle.x690.specs.Joined.{IsJoined, AreJoinedWords};
 ghost use Rattle.asn1_rs.specs.declared.error.Error.TheVariants as errors;
 ghost use Rattle.asn1_rs.specs.Any.Value.{ElementBody, element_of};
 ghost use Rattle.asn1_rs.specs.Grammar.{BerWord};
-ghost use Rattle.asn1_rs.specs.Sequence.Iterator.{IsJoined, AreJoinedWords};
 ghost use Rattle.asn1_rs_uses.specs.Items.{EndsBefore};
 ghost use Rattle.asn1_rs_uses.specs.Numbers.{NumberByDer};
 

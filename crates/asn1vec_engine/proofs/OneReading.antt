@@ -5,6 +5,7 @@ use Rattle.x690.specs.Identifiers.{Identifier, IsCutIdentifier}
 use Rattle.x690.specs.Elements.{Parts, IsDerElement}
 use Rattle.x690.specs.Faults.{DerElementFault}
 use Rattle.x690.specs.Nested.{IsElement, ElementFault}
+use Rattle.x690.specs.Joined.{IsOneFront}
 use Rattle.asn1_rs.specs.declared.error.Err.{Err as Refusal}
 use Rattle.asn1_rs.specs.declared.error.Err.TheVariants.{Error as refused}
 use Rattle.asn1_rs.specs.declared.error.Error.{Error}
@@ -17,7 +18,7 @@ use Rattle.asn1_rs.specs.Grammar.Form.{IsOneForm, IsStrict}
 use Rattle.asn1_rs.specs.Writer.{MayRefuse}
 use Rattle.asn1_rs.specs.Error.{tells_of_io}
 use Rattle.asn1_rs.specs.Ber.{max_depth, EndsWithin}
-use Rattle.asn1_rs.specs.Grammar.{IsOneFront, IsOneBody, NoCheck, BerWord, DerWord}
+use Rattle.asn1_rs.specs.Grammar.{IsOneBody, NoCheck, BerWord, DerWord}
 use Rattle.asn1_rs.specs.Traits.{PassesAll, BerGives, DerGives}
 use Rattle.asn1_rs.specs.Laws.Readers.{none_now, der_elements, ber_elements}
 use Rattle.asn1_rs.specs.Laws.Words.{one_strict, word_one}

@@ -3,8 +3,9 @@ use Rattle.std.specs.Prelude.{ℕ, Bool, List}
 use Rattle.std.specs.Borrow.{Bor}
 use Rattle.x690.specs.Identifiers.{Identifier}
 use Rattle.x690.specs.Elements.{Parts, ArePossible}
+use Rattle.x690.specs.Joined.{IsOneFront}
 use Rattle.asn1_rs.specs.Grammar.Form.{IsOneForm, IsOneValue, FitsElement, HasValues, IsStrict}
-use Rattle.asn1_rs.specs.Grammar.{IsOneFront, IsOneBody, FormChecks}
+use Rattle.asn1_rs.specs.Grammar.{IsOneBody, FormChecks}
 
 -- The values of a type, with plain equality; the value of an item in hand; which values are the type's, as the numbers in
 -- its range, and which are in DER form. The words by BER and by DER, with their values. What the conversion finds in an

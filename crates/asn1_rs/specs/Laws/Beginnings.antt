@@ -7,13 +7,13 @@ use Rattle.x690.specs.Elements.{Parts, IsHeader}
 use Rattle.x690.specs.Rules.{Rule}
 use Rattle.x690.specs.Faults.{Breach, Fault}
 use Rattle.x690.specs.Laws.Headers.{header_unique}
+use Rattle.x690.specs.Joined.{IsOneFront}
 use Rattle.asn1_rs.specs.declared.error.Err.{Err as Refusal}
 use Rattle.asn1_rs.specs.declared.error.Error.{Error}
 use Rattle.asn1_rs.specs.declared.header.Header.{Header}
 use Rattle.asn1_rs.specs.declared.asn1_types.any.Any.{Any}
 use Rattle.asn1_rs.specs.Answers.{Front, Exactly, RefusedAsBeginning, RefusedBeforeEnd}
 use Rattle.asn1_rs.specs.Any.{AnyGives, parts_of}
-use Rattle.asn1_rs.specs.Grammar.{IsOneFront}
 use Rattle.asn1_rs.specs.Header.Reading.{refusal_of, HeaderGives}
 use Rattle.asn1_rs.specs.Header.{identifier_of}
 use Rattle.asn1_rs.specs.Length.{form_of}

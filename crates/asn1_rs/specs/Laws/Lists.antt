@@ -1,13 +1,12 @@
 -- Laws of lists.
-use Rattle.std.proofs.Common.{arith, ◌≡◌, ◌≢◌, ◌∙◌, ap, sym, subst, refl, ℕ, ◌+◌, ◌^◌, ◌<◌, ◌⊎◌, inl, inr, Bool, true, false, List, [], ◌∷◌, ◌++◌, length, map, append_assoc, length-append}
-use Rattle.std.proofs.lemmas.List.{append_cancel_left}
+use Rattle.std.proofs.Common.{arith, ◌≡◌, ◌∙◌, ap, sym, subst, refl, ℕ, ◌+◌, ◌^◌, ◌<◌, ◌⊎◌, inl, inr, Bool, true, false, List, [], ◌∷◌, ◌++◌, length, map, length-append}
 use Rattle.std.proofs.lemmas.List.Elements.{All-nil, All-cons, All-head, All-tail}
 use Rattle.std.proofs.lemmas.List.Concat.{flat_map-cons}
 use mathlib.Core.Logic.{∥∥₁_prop, ∥∥₁_elim, ∥∥₁_map}
 use Rattle.std.specs.Prelude.{slice_index_or, Result, Ok, Err, IsTrue, ◌↔◌, ◌&&◌}
 use Rattle.std.specs.Cmp.Lexicographic.{pointwise}
 use Rattle.std.specs.declared.vec.Vec.{Vec}
-use Rattle.std.specs.List.{All, AllZip, flat_map}
+use Rattle.std.specs.List.{All, AllZip, flat_map, concat}
 use Rattle.x690.specs.Strict.{header_octets}
 use Rattle.std.specs.Iterator.{Yields}
 use Rattle.x690.specs.Octets.{IsOctets}
@@ -15,7 +14,6 @@ use Rattle.x690.specs.Identifiers.{Identifier, IsCutIdentifier}
 use Rattle.x690.specs.Elements.{Parts, IsDerElement}
 use Rattle.x690.specs.Faults.{DerElementFault}
 use Rattle.x690.specs.Nested.{IsElement}
-use Rattle.x690.specs.Laws.Octets.{octets_append, below_octets}
 use Rattle.x690.specs.Laws.Elements.{definite_element_two, definite_element_is_octets}
 use Rattle.asn1_rs.specs.declared.error.Err.{Err as Refusal}
 use Rattle.asn1_rs.specs.declared.error.Err.TheVariants.{Incomplete as cut, Error as refused, Failure as failed}
@@ -23,6 +21,9 @@ use Rattle.asn1_rs.specs.declared.error.Error.{Error}
 use Rattle.asn1_rs.specs.declared.error.Error.TheVariants as errors
 use Rattle.x690.specs.Rules.{der_rule}
 use Rattle.x690.specs.Laws.StrictElements.{der_allows_strict}
+use Rattle.x690.specs.Joined.{IsOneFront, IsJoined}
+use Rattle.x690.specs.Laws.Collections.{zip_joined}
+use Rattle.x690.specs.Laws.Joined.{joined_map, joined_values, joined_octets, joined_one, joined_same, ends_unjoined}
 use Rattle.asn1_rs.specs.Header.Reading.{der_breach}
 use Rattle.asn1_rs.specs.declared.asn1_types.any.Any.{Any}
 use Rattle.asn1_rs.specs.Error.{HeldIn, FlattenedTo}
@@ -30,16 +31,16 @@ use Rattle.asn1_rs.specs.Kinds.{IsExactCheck}
 use Rattle.asn1_rs.specs.Any.{parts_of, IsTheElement}
 use Rattle.asn1_rs.specs.Traits.{OfParts}
 use Rattle.asn1_rs.specs.Laws.Any.Value.{the_element_parts}
-use Rattle.asn1_rs.specs.Answers.{NoFront, Exactly, TellsMemory, IsOther}
+use Rattle.asn1_rs.specs.Answers.{Exactly, TellsMemory, IsOther}
 use Rattle.asn1_rs.specs.Grammar.Form.{IsOneForm, IsOneValue, FitsElement, HasValues, IsStrict, universal, header_of, WritesByValue, WritesForm}
-use Rattle.asn1_rs.specs.Grammar.{IsOneFront, IsOneBody, TakesBody, Checks, FormChecks, FormBodies, FormTakes, FormNumber, NoCheck, DerWord, made, of_class}
+use Rattle.asn1_rs.specs.Grammar.{IsOneBody, TakesBody, Checks, FormChecks, FormBodies, FormTakes, FormNumber, NoCheck, DerWord, made, of_class}
 use Rattle.asn1_rs.specs.Ber.{max_depth}
-use Rattle.asn1_rs.specs.Sequence.Iterator.{IsJoined, IsWalk, TakesItem, EndsItem, TellsNoWord, IsMemory}
+use Rattle.asn1_rs.specs.Sequence.Iterator.{IsWalk, TakesItem, EndsItem, TellsNoWord, IsMemory}
 use Rattle.asn1_rs.specs.Laws.Sequence.Iterator.{octets_kept, lawful_walk, items_joined, items_ended}
 use Rattle.asn1_rs.specs.Grammar.Item.{ItemGrammar, IsLawfulItem}
 use Rattle.asn1_rs.specs.declared.asn1_types.sequence.sequence_of.SequenceOf.{SequenceOf}
 use Rattle.asn1_rs.specs.Sequence.SequenceOf.{sequence_items, IsSequenceOf}
-use Rattle.asn1_rs.specs.Lists.{joining, list_grammar, ListBody, ListOf, CheckedElement, ListCheck, StrictWord, ListForm, IsListOr, ItemsGive, ListTakes, ListReads, CheckedGives, ListCheckGives, SomeRefuses, has_items}
+use Rattle.asn1_rs.specs.Lists.{list_grammar, ListBody, ListOf, CheckedElement, ListCheck, StrictWord, ListForm, IsListOr, ItemsGive, ListTakes, ListReads, CheckedGives, ListCheckGives, SomeRefuses, has_items}
 use Rattle.asn1_rs.specs.ToDer.{HasNone, Either, IsWritable, WrittenRefusal}
 use Rattle.asn1_rs.specs.declared.error.SerializeError.{SerializeError}
 use Rattle.asn1_rs.specs.Laws.Readers.{element_exact, element_spares, der_breach_spares, der_elements, ber_elements}
@@ -50,54 +51,12 @@ use Rattle.asn1_rs.specs.Laws.Forms.{universal_one, universal_value, universal_f
 pub takes_some : {A : Type 0} → true ≡ false → A
 takes_some e = cc
 
-empty_front : (w r : List ℕ) → [] ≡ w ++ r → w ≡ []
-empty_front [] r e = refl
-empty_front (a ∷ w) r e = cc
-
--- words of one grammar that are words of another
-pub joined_map : {V : Type 0} (G H : List ℕ → V → Type 0) → ((o : List ℕ) (v : V) → G o v → H o v) → (c : List ℕ) (vs : List V) → IsJoined G c vs → IsJoined H c vs
-joined_map G H f c [] j = j
-joined_map G H f c (v ∷ vs) j = (j.0, j.1, f j.0 v j.2, j.3, joined_map G H f j.1 vs j.4)
-
--- what holds of the value of each word
-pub joined_values : {V : Type 0} (G : List ℕ → V → Type 0) (P : V → Type 0) → ((o : List ℕ) (v : V) → G o v → P v) → (c : List ℕ) (vs : List V) → IsJoined G c vs → All P vs
-joined_values G P f c [] j = All-nil P
-joined_values G P f c (v ∷ vs) j = All-cons P v vs (f j.0 v j.2) (joined_values G P f j.1 vs j.4)
-
-pub joined_octets : {V : Type 0} (G : List ℕ → V → Type 0) → ((o : List ℕ) (v : V) → G o v → IsOctets o) → (c : List ℕ) (vs : List V) → IsJoined G c vs → IsOctets c
-joined_octets G f c [] j = subst IsOctets (sym j) (below_octets [] tt)
-joined_octets G f c (v ∷ vs) j = subst IsOctets (sym j.3) (octets_append j.0 j.1 (f j.0 v j.2) (joined_octets G f j.1 vs j.4))
-
--- where each value has one word, a list has one joining
-pub joined_one : {V : Type 0} (G : List ℕ → V → Type 0) → ((v : V) (o p : List ℕ) → G o v → G p v → o ≡ p) → (vs : List V) (c d : List ℕ) → IsJoined G c vs → IsJoined G d vs → c ≡ d
-joined_one G one [] c d i j = i ∙ sym j
-joined_one G one (v ∷ vs) c d i j =
-    i.3 ∙ (ap (λ (o : List ℕ). o ++ i.1) (one v i.0 j.0 i.2 j.2) ∙ ap (λ (r : List ℕ). j.0 ++ r) (joined_one G one vs i.1 j.1 i.4 j.4)) ∙ sym j.3
-
 module _ {V : Type 0} (G : List ℕ → V → Type 0) (one : IsOneFront G) where
-  no_first : (c word rest : List ℕ) (v : V) → c ≡ [] → G word v → c ≡ word ++ rest → ⊥
-  no_first c word rest v n g e = one.some v (subst (λ (o : List ℕ). G o v) (empty_front word rest (sym n ∙ e)) g)
-
-  -- of words that begin one input the same follows
-  same_rest : (w x r s : List ℕ) (v u : V) → G w v → G x u → w ++ r ≡ x ++ s → (v ≡ u) × (r ≡ s)
-  same_rest w x r s v u g h e =
-      let same = one.one w x r s v u g h e in
-      (same.1, append_cancel_left x r s (ap (λ (ys : List ℕ). ys ++ r) (sym same.0) ∙ e))
-
-  -- octets are joined of words with one row of values
-  pub joined_same : (c d : List ℕ) (vs ws : List V) → c ≡ d → IsJoined G c vs → IsJoined G d ws → vs ≡ ws
-  joined_same c d [] [] e i j = refl
-  joined_same c d [] (w ∷ ws) e i j = absurd (no_first d j.0 j.1 w (sym e ∙ i) j.2 j.3)
-  joined_same c d (v ∷ vs) [] e i j = absurd (no_first c i.0 i.1 v (e ∙ j) i.2 i.3)
-  joined_same c d (v ∷ vs) (w ∷ ws) e i j =
-      let s = same_rest i.0 j.0 i.1 j.1 v w i.2 j.2 (sym i.3 ∙ e ∙ j.3) in
-      ap (λ x. x ∷ vs) s.0 ∙ ap (λ xs. w ∷ xs) (joined_same i.1 j.1 vs ws s.1 i.4 j.4)
-
   pub list_body_one : (number : ℕ) → IsOneBody (ListBody number G)
-  list_body_one number p v w a b = joined_same p.content p.content v w refl a.items b.items
+  list_body_one number p v w a b = joined_same G one p.content p.content v w refl a.items b.items
 
   pub list_of_one : (number : ℕ) → IsOneBody (ListOf number G)
-  list_of_one number p v w a b = joined_same p.content p.content v w refl a.items b.items
+  list_of_one number p v w a b = joined_same G one p.content p.content v w refl a.items b.items
 
 -- strict encodings are words that begin one input in one way
 pub strict_word_one : {V : Type 0} (Form : V → Identifier → List ℕ → Type 0) → IsOneValue Form → IsOneFront (StrictWord Form)
@@ -207,22 +166,6 @@ list_lawful number small items G l = record {
 list_or_refused : (number : ℕ) (p : Parts) (e : Error) → IsListOr number p (Err e) → p.id.number ≡ number → p.id.constructed ≡ true → ⊥
 list_or_refused number p e (inl a) n c = a.0 n
 list_or_refused number p e (inr a) n c = let d = a.1 in cc
-
--- where something follows joined words that begins with no word, no words are joined to the octets
-ends_unjoined : {V : Type 0} (G : List ℕ → V → Type 0) → IsOneFront G → (c front others : List ℕ) (vs ws : List V) → c ≡ front ++ others → others ≢ [] → NoFront G others → IsJoined G front vs → IsJoined G c ws → ⊥
-ends_unjoined G one c front others [] [] e n none i j =
-    let same : front ++ others ≡ others = ap (λ (o : List ℕ). o ++ others) i in
-    n (sym same ∙ (sym e ∙ j))
-ends_unjoined G one c front others [] (w ∷ ws) e n none i j =
-    let same : front ++ others ≡ others = ap (λ (o : List ℕ). o ++ others) i in
-    none j.0 j.1 w (sym same ∙ (sym e ∙ j.3)) j.2
-ends_unjoined G one c front others (v ∷ vs) [] e n none i j =
-    let same : front ++ others ≡ i.0 ++ (i.1 ++ others) = ap (λ (o : List ℕ). o ++ others) i.3 ∙ append_assoc i.0 i.1 others in
-    no_first G one c i.0 (i.1 ++ others) v j i.2 (e ∙ same)
-ends_unjoined G one c front others (v ∷ vs) (w ∷ ws) e n none i j =
-    let same : front ++ others ≡ i.0 ++ (i.1 ++ others) = ap (λ (o : List ℕ). o ++ others) i.3 ∙ append_assoc i.0 i.1 others in
-    let s = same_rest G one i.0 j.0 (i.1 ++ others) j.1 v w i.2 j.2 (sym same ∙ (sym e ∙ j.3)) in
-    ends_unjoined G one j.1 i.1 others vs ws (sym s.1) n none i.4 j.4
 
 -- Items that were taken by an exact reader are joined words; where a refusal ended the walk there are no such words, or it reports out of memory.
 module _ {T V E : Type 0} (reads : List ℕ → Result (List ℕ × T) (Refusal E) → Type 0) (from : Error → E → Type 0) (G : List ℕ → V → Type 0) (value : T → V) (takes : Bool) (IsCut : List ℕ → Type 0)
@@ -388,12 +331,6 @@ module _ {S V : Type 0} (number : ℕ) (value : S → V) (Form : V → Identifie
         ap (λ (z : List ℕ). header_octets 0 true number (length z)) e ∙ ap (λ (z : Identifier). header_of z c) (sym f.0),
       )
 
-pub zip_joined : {V : Type 0} (Form : V → Identifier → List ℕ → Type 0) (vs : List V) (os : List (List ℕ)) → AllZip (IsStrict Form) vs os → IsJoined (StrictWord Form) (joining os) vs
-zip_joined Form [] [] z = refl
-zip_joined Form [] (o ∷ os) z = absurd z
-zip_joined Form (v ∷ vs) [] z = absurd z
-zip_joined Form (v ∷ vs) (o ∷ os) z = (o, joining os, z.0, flat_map-cons (λ x. x) o os, zip_joined Form vs os z.1)
-
 -- items in DER form are written as their strict encodings
 module _ {S V : Type 0} (value : S → V) (IsDer : V → Type 0) (Form : V → Identifier → List ℕ → Type 0) (octets : S → List ℕ)
     (strict : (x : S) → IsDer (value x) → length (octets x) < 2 ^ 64 → ∥ IsStrict Form (value x) (octets x) ∥₁) where
@@ -404,9 +341,9 @@ module _ {S V : Type 0} (value : S → V) (IsDer : V → Type 0) (Form : V → I
       ∥∥₁_elim (strict x (All-head IsDer (value x) (map value xs) a) (omega (arith, both, l))) ∥∥₁_prop (λ s.
       ∥∥₁_map (zip_written xs (All-tail IsDer (value x) (map value xs) a) (omega (arith, both, l))) (λ z. (s, z)))
 
-joined_flat : {S : Type 0} (octets : S → List ℕ) (xs : List S) → joining (map octets xs) ≡ flat_map octets xs
+pub joined_flat : {S : Type 0} (octets : S → List ℕ) (xs : List S) → concat (map octets xs) ≡ flat_map octets xs
 joined_flat octets [] = refl
-joined_flat octets (x ∷ xs) = flat_map-cons (λ o. o) (octets x) (map octets xs) ∙ ap (λ r. octets x ++ r) (joined_flat octets xs) ∙ sym (flat_map-cons octets x xs)
+joined_flat octets (x ∷ xs) = ap (λ r. octets x ++ r) (joined_flat octets xs) ∙ sym (flat_map-cons octets x xs)
 
 -- so a list in DER form has strict parts
 pub list_has_form : {S V : Type 0} (number : ℕ) (value : S → V) (IsDer : V → Type 0) (Form : V → Identifier → List ℕ → Type 0) (header content : S → List ℕ) →
@@ -415,7 +352,7 @@ pub list_has_form : {S V : Type 0} (number : ℕ) (value : S → V) (IsDer : V �
     ∥ ((i : Identifier) × ListForm number Form (map value xs) i (written_items header content xs)) ∥₁
 list_has_form number value IsDer Form header content strict xs a l =
     ∥∥₁_map (zip_written value IsDer Form (λ x. header x ++ content x) strict xs a l) (λ z.
-    (universal true number, (refl, subst (λ c. IsJoined (StrictWord Form) c (map value xs)) (joined_flat (λ x. header x ++ content x) xs) (zip_joined Form (map value xs) (map (λ x. header x ++ content x) xs) z))))
+    (universal true number, (refl, subst (λ c. IsJoined (StrictWord Form) c (map value xs)) (joined_flat (λ x. header x ++ content x) xs) (zip_joined (IsStrict Form) (map value xs) (map (λ x. header x ++ content x) xs) z))))
 
 -- lists of members are equal exactly where their values are
 pub same_lists : {S V : Type 0} (eq : S → S → Bool) (value : S → V) → ((x y : S) → IsTrue (eq x y) ↔ (value x ≡ value y)) → (xs ys : List S) → IsTrue (pointwise eq xs ys) ↔ (map value xs ≡ map value ys)

@@ -7,11 +7,13 @@ use Rattle.x690.specs.Rules.{der_rule}
 use Rattle.x690.specs.Elements.{Parts, IsDerElement, ArePossible}
 use Rattle.x690.specs.Faults.{Breach, Fault, missing, tag_fault, length_fault, rule_fault, depth_fault, DerElementFault, SpeaksOf, IsLackingOrCut}
 use Rattle.x690.specs.Nested.{IsElement, ElementFault}
-use Rattle.x690.specs.Laws.Elements.{definite_element_unique, definite_element_two, definite_possible}
+use Rattle.x690.specs.Laws.Elements.{definite_possible}
 use Rattle.x690.specs.Laws.Faults.{CountsSome, no_der_element, der_fault_counts, one_der_fault}
-use Rattle.x690.specs.Laws.Nested.{nested_element_unique, nested_element_two, nested_possible}
+use Rattle.x690.specs.Laws.Nested.{nested_possible}
 use Rattle.x690.specs.Laws.Nested.Faults.{no_element, element_fault_counts, one_element_fault}
 use Rattle.x690.specs.Laws.Faults.Beginnings.{cut_header_fault, within_fault, der_beginning, element_beginning}
+use Rattle.x690.specs.Laws.Words.{definite_words, nested_words}
+use Rattle.x690.specs.Joined.{NoFront, IsOneFront}
 use Rattle.asn1_rs.specs.declared.asn1_types.any.Any.{Any}
 use Rattle.asn1_rs.specs.declared.error.Err.{Err as Refusal}
 use Rattle.asn1_rs.specs.declared.error.Err.TheVariants.{Error as refused, Incomplete as cut, Failure as failed}
@@ -21,8 +23,8 @@ use Rattle.asn1_rs.specs.declared.error.Error.TheVariants.{OutOfMemory}
 use Rattle.asn1_rs.specs.Error.{Converted, HeldIn}
 use Rattle.asn1_rs.specs.Header.Reading.{refusal_of, der_breach, ber_breach}
 use Rattle.asn1_rs.specs.Any.{parts_of}
-use Rattle.asn1_rs.specs.Answers.{Front, NoFront, IsFinal, Speaks, Exactly, TellsMemory, IsOther}
-use Rattle.asn1_rs.specs.Grammar.{IsOneFront, ElementWord, DerWord, TakesBody, Checks, NoCheck}
+use Rattle.asn1_rs.specs.Answers.{Front, IsFinal, Speaks, Exactly, TellsMemory, IsOther}
+use Rattle.asn1_rs.specs.Grammar.{ElementWord, DerWord, TakesBody, Checks, NoCheck}
 use Rattle.asn1_rs.specs.Traits.{ElementGives, DerGives, PassesAll}
 use Rattle.asn1_rs.specs.Ber.{max_depth, EndsWithin}
 
@@ -38,10 +40,7 @@ pub record AreElements (ElementOf : List ℕ → Parts → Type 0) (FaultOf : Li
 
 pub der_elements : AreElements IsDerElement DerElementFault IsCutIdentifier
 der_elements = record {
-  one = record {
-    one = λ x y r s p q a b e. let u = definite_element_unique der_rule der_rule x y r s p q a b e in (u.0, u.1);
-    some = λ p a. let l = definite_element_two der_rule [] p a in absurd (omega (arith, l));
-  };
+  one = definite_words der_rule;
   final = λ input more o rest p fault f s a e. no_der_element input more o rest p fault f s a e;
   counts = λ input fault f. der_fault_counts input fault f;
   alone = one_der_fault;
@@ -52,10 +51,7 @@ der_elements = record {
 
 pub ber_elements : AreElements (IsElement max_depth) (ElementFault max_depth) EndsWithin
 ber_elements = record {
-  one = record {
-    one = λ x y r s p q a b e. let u = nested_element_unique max_depth x y r s p q a.0 b.0 a.1 b.1 e in (u.0, u.1);
-    some = λ p a. let l = nested_element_two max_depth [] p a.0 a.1 in absurd (omega (arith, l));
-  };
+  one = nested_words max_depth;
   final = λ input more o rest p fault f s a e. no_element max_depth input more o rest p a.0 fault f s a.1 e;
   counts = λ input fault f. element_fault_counts max_depth input fault f;
   alone = one_element_fault max_depth;

@@ -1,11 +1,7 @@
 -- Laws of sets.
-pub mod Ascend
-pub mod Arranged
-pub mod Zips
-pub mod Differ
 use Rattle.std.proofs.Common.{arith, ◌≡◌, ◌∙◌, ap, sym, subst, refl, ℕ, ◌<◌, ◌^◌, ◌⊎◌, inl, inr, ⊎_elim, Bool, true, false, List, [], ◌∷◌, ◌++◌, length, map, zero, suc, get_or}
 use Rattle.std.specs.Prelude.{Result, Ok, Err, IsTrue, ◌↔◌, ◌&&◌, ◌||◌, Contains, slice_index_or}
-use Rattle.std.specs.List.{All, AllZip, AllByRecursion, IsDistinct, flat_map, list_all, list_any}
+use Rattle.std.specs.List.{All, AllZip, AllByRecursion, IsDistinct, flat_map, list_all, list_any, concat}
 use Rattle.std.specs.List.Sorted.{IsPermutation, IsStrictlySortedBy}
 use Rattle.std.specs.declared.cmp.Ordering.{Ordering}
 use Rattle.std.specs.declared.cmp.Ordering.TheVariants.{Less, Equal, Greater}
@@ -15,59 +11,41 @@ use Rattle.std.specs.Cmp.Lexicographic.{pointwise}
 use Rattle.std.specs.BTreeSet.{BTreeSet, IsFromIterResult}
 use Rattle.std.specs.HashSet.{HashSet, IsFromIterResult as IsHashedOf}
 use Rattle.std.proofs.lemmas.List.Elements.{All-nil, All-cons}
-use Rattle.std.proofs.lemmas.List.Sorted.{IsPermutation-refl, IsPermutation-trans, IsPermutation-sym, All-permutation, Contains-permutation}
+use Rattle.std.proofs.lemmas.List.Sorted.{IsPermutation-refl, IsPermutation-sym, All-permutation}
 use Rattle.x690.specs.Strict.{header_octets}
 use Rattle.x690.specs.Octets.{IsOctets}
 use Rattle.x690.specs.Identifiers.{Identifier}
 use Rattle.x690.specs.Elements.{Parts, IsDerElement}
 use Rattle.x690.specs.Nested.{IsElement}
+use Rattle.x690.specs.Collections.{multiset, ValueSet, value_set, AllDiffer, Joins, AnyList}
+use Rattle.x690.specs.Joined.{IsOneFront, IsJoined}
+use Rattle.x690.specs.Laws.Ascending.Arranged.{only_arranged, arranged_same, arranged_length}
+use Rattle.x690.specs.Laws.Collections.{permutation_from_multiset, same_multiset, have_same_from_value_set, same_value_set, HaveSame-permutation, permutation_from_value_set, joins_joined, joins_one_content, joins_one_collection, joins_arranged, strings_set}
+use Rattle.x690.specs.Laws.Collections.Differ.{AllDiffer-permutation}
+use Rattle.x690.specs.Laws.Collections.Zips.{zip_permutation, zip_right}
+use Rattle.x690.specs.Laws.Joined.{joined_map, joined_values, joined_octets}
 use Rattle.asn1_rs.specs.declared.error.Err.{Err as Refusal}
 use Rattle.asn1_rs.specs.declared.error.Error.{Error}
 use Rattle.asn1_rs.specs.declared.asn1_types.set.set_of.SetOf.{SetOf}
 use Rattle.asn1_rs.specs.Answers.{Exactly, TellsMemory}
 use Rattle.asn1_rs.specs.declared.error.SerializeError.{SerializeError}
 use Rattle.asn1_rs.specs.Grammar.Form.{IsOneForm, IsOneValue, FitsElement, HasValues, IsStrict, universal, header_of, WritesByValue, WritesForm}
-use Rattle.asn1_rs.specs.Grammar.{IsOneFront, IsOneBody, TakesBody, FormChecks, FormBodies, FormTakes, FormNumber, NoCheck}
+use Rattle.asn1_rs.specs.Grammar.{IsOneBody, TakesBody, FormChecks, FormBodies, FormTakes, FormNumber, NoCheck}
 use Rattle.asn1_rs.specs.Ber.{max_depth}
 use Rattle.asn1_rs.specs.Grammar.Item.{ItemGrammar, IsLawfulItem}
-use Rattle.asn1_rs.specs.Sequence.Iterator.{IsJoined}
 use Rattle.asn1_rs.specs.declared.asn1_types.any.Any.{Any}
 use Rattle.asn1_rs.specs.Any.{parts_of}
 use Rattle.asn1_rs.specs.Traits.{OfParts}
-use Rattle.asn1_rs.specs.Lists.{joining, ListCheck, StrictWord, SomeRefuses, ListTakes, ListReads}
+use Rattle.asn1_rs.specs.Lists.{ListCheck, StrictWord, SomeRefuses, ListTakes, ListReads}
 use Rattle.asn1_rs.specs.ToDer.{HasNone, Either, IsWritable, WrittenRefusal, IntoVector}
-use Rattle.asn1_rs.specs.Set.{Multiset, multiset, ValueSet, value_set, HaveSame, AllDiffer, Members, set_of, pairs_pass, members_if, members, is_below, is_other, Ascending, Joins, AnyList, Seen, SetBody, SetRow, SetForm, SetValues, SetInDer, set_grammar, multiset_grammar, member_grammar, items_of, HasItems, arranged, set_content}
+use Rattle.asn1_rs.specs.Set.{Members, set_of, pairs_pass, members_if, members, is_below, is_other, Seen, SetBody, SetRow, SetForm, SetValues, SetInDer, set_grammar, multiset_grammar, member_grammar, items_of, HasItems, set_content}
 use Rattle.asn1_rs.specs.Laws.Readers.{der_elements, ber_elements}
 use Rattle.asn1_rs.specs.Laws.Words.{word_one, one_strict, strict_ber_word, strict_der_word}
 use Rattle.asn1_rs.specs.Laws.Forms.{universal_one, universal_value, universal_fits, strict_written}
-use Rattle.asn1_rs.specs.Laws.Lists.{zip_joined, zip_written, joined_map, joined_values, joined_octets, joined_same, strict_word_one, strict_word_octets, list_body_one, list_of_one, list_body_values, list_der_values, list_form_check, list_takes_class, list_takes, list_reads, none_refuses, both_by_value, same_lists}
-use Rattle.asn1_rs.specs.Laws.Set.Arranged.{arranged_ascends, arranged_moves, arranged_length}
-use Rattle.asn1_rs.specs.Laws.Set.Ascend.{Ascending-unique}
-use Rattle.asn1_rs.specs.Laws.Set.Zips.{zip_turn, zip_permutation, zip_right}
-use Rattle.asn1_rs.specs.Laws.Set.Differ.{permutation_from_same, AllDiffer-permutation}
+use Rattle.asn1_rs.specs.Laws.Lists.{zip_written, strict_word_one, strict_word_octets, list_body_one, list_of_one, list_body_values, list_der_values, list_form_check, list_takes_class, list_takes, list_reads, none_refuses, both_by_value, same_lists}
 use mathlib.Core.HProp.{HProp}
 use mathlib.Core.Bool.{not, true≢false, Bool-set}
 use mathlib.Core.Logic.{∥∥₁_prop, ∥∥₁_elim, ∥∥₁_map}
-use mathlib.Core.Quot.{lift_prop, sound}
-use mathlib.Core.List.{is_set}
-use native.Mathlib.Nat.{ℕ_set}
-
--- lists of one multiset have the same items, in some order
-pub permutation_from_multiset : {V : Type 0} (xs ys : List V) → multiset xs ≡ multiset ys → ∥ IsPermutation xs ys ∥₁
-permutation_from_multiset {V} xs ys e =
-    let reaches : Multiset V → HProp {0} = lift_prop (λ zs. (∥ IsPermutation xs zs ∥₁, ∥∥₁_prop)) (λ zs ws p. (λ h. ∥∥₁_map h (λ q. IsPermutation-trans xs zs ws q p), λ h. ∥∥₁_map h (λ q. IsPermutation-trans xs ws zs q (IsPermutation-sym zs ws p)))) in
-    subst (λ m. (reaches m).0) e ∣ IsPermutation-refl xs ∣₁
-
-HaveSame-trans : {V : Type 0} (xs ys zs : List V) → HaveSame xs ys → HaveSame ys zs → HaveSame xs zs
-HaveSame-trans xs ys zs h k v = (λ c. (k v).0 ((h v).0 c), λ c. (h v).1 ((k v).1 c))
-
-HaveSame-sym : {V : Type 0} (xs ys : List V) → HaveSame xs ys → HaveSame ys xs
-HaveSame-sym xs ys h v = ((h v).1, (h v).0)
-
-pub have_same_from_value_set : {V : Type 0} (xs ys : List V) → value_set xs ≡ value_set ys → ∥ HaveSame xs ys ∥₁
-have_same_from_value_set {V} xs ys e =
-    let reaches : ValueSet V → HProp {0} = lift_prop (λ zs. (∥ HaveSame xs zs ∥₁, ∥∥₁_prop)) (λ zs ws p. (λ h. ∥∥₁_map h (λ q. HaveSame-trans xs zs ws q p), λ h. ∥∥₁_map h (λ q. HaveSame-trans xs ws zs q (HaveSame-sym zs ws p)))) in
-    subst (λ m. (reaches m).0) e ∣ (λ v. (λ c. c, λ c. c)) ∣₁
 
 -- the two kinds of rows are apart, and each tells what it is of
 set_inj : {V : Type 0} (a b : ValueSet V) → ◌≡◌ {A = Members V} (inl a) (inl b) → a ≡ b
@@ -93,18 +71,7 @@ unfolding is_set_of
 kinds_apart a b e = absurd (true≢false (ap is_set_of e))
 
 pub permutation_from_set : {V : Type 0} (vs ws : List V) → AllDiffer vs → AllDiffer ws → set_of vs ≡ set_of ws → ∥ IsPermutation vs ws ∥₁
-permutation_from_set vs ws h k e = ∥∥₁_map (have_same_from_value_set vs ws (set_inj (value_set vs) (value_set ws) e)) (λ p. permutation_from_same vs ws h k p)
-
-strings_set : IsSet (List (List ℕ))
-strings_set = is_set (is_set ℕ_set)
-
--- a list of values decides its ascending strings, where each value has one
-module _ {V : Type 0} (R : V → List ℕ → Type 0) (one : (v : V) (o p : List ℕ) → R v o → R v p → o ≡ p) where
-  pub same_strings_of : (vs ws : List V) (os ps : List (List ℕ)) → AllZip R vs os → AllZip R ws ps → Ascending os → Ascending ps → ∥ IsPermutation vs ws ∥₁ → os ≡ ps
-  same_strings_of vs ws os ps h k up vp m = ∥∥₁_elim m (strings_set _ _) (λ p.
-      let t = zip_permutation R vs ws os p h in
-      let e : t.0 ≡ ps = zip_right R one ws t.0 ps t.1 k in
-      Ascending-unique os ps (subst (IsPermutation os) e t.2) up vp)
+permutation_from_set vs ws h k e = permutation_from_value_set vs ws h k (set_inj (value_set vs) (value_set ws) e)
 
 -- what takes lists takes collections
 pub takes_seen : {T V W E : Type 0} (f : V → W) (B : Parts → V → Type 0) (value : T → V) (takes : Bool) (from : Error → E → Type 0) (p : Parts) (answer : Result T E) → TakesBody B value takes from p answer → TakesBody (Seen f B) (λ x. f (value x)) takes from p answer
@@ -117,26 +84,21 @@ body_seen f B one p v w a b = sym a.1 ∙ ap f (one p a.0 b.0 a.2 b.2) ∙ b.1
 
 -- the strict parts of a set
 module _ {V M : Type 0} (of : List V → M) (Each : List V → Type 0) (Form : V → Identifier → List ℕ → Type 0) where
-  pub joins_joined : (m : M) (c : List ℕ) (j : Joins of Each Form m c) → IsJoined (StrictWord Form) c j.items
-  joins_joined m c j = subst (λ d. IsJoined (StrictWord Form) d j.items) j.joined (zip_joined Form j.items j.strings j.each)
-
   pub set_one_form : ((vs ws : List V) → Each vs → Each ws → of vs ≡ of ws → ∥ IsPermutation vs ws ∥₁) → IsOneForm Form → IsOneForm (SetForm of Each Form)
-  set_one_form mixed one = universal_one true 17 (Joins of Each Form) (λ m c d f g.
-      sym f.joined ∙ ap joining (same_strings_of (IsStrict Form) (one_strict Form one) f.items g.items f.strings g.strings f.each g.each f.ascend g.ascend (mixed f.items g.items f.once g.once (f.are ∙ sym g.are))) ∙ g.joined)
+  set_one_form mixed one = universal_one true 17 (Joins of Each (IsStrict Form)) (joins_one_content of Each (IsStrict Form) mixed (one_strict Form one))
 
   pub set_one_value : IsOneValue Form → IsOneValue (SetForm of Each Form)
-  set_one_value one = universal_value true 17 (Joins of Each Form) (λ m n c f g.
-      sym f.are ∙ ap of (joined_same (StrictWord Form) (strict_word_one Form one) c c f.items g.items refl (joins_joined m c f) (joins_joined n c g)) ∙ g.are)
+  set_one_value one = universal_value true 17 (Joins of Each (IsStrict Form)) (joins_one_collection of Each (IsStrict Form) (strict_word_one Form one))
 
   pub set_fits : FitsElement (SetForm of Each Form)
-  set_fits = universal_fits true 17 (Joins of Each Form) (omega arith) (λ m c f. joined_octets (StrictWord Form) (strict_word_octets Form) c f.items (joins_joined m c f))
+  set_fits = universal_fits true 17 (Joins of Each (IsStrict Form)) (omega arith) (λ m c f. joined_octets (StrictWord Form) (strict_word_octets Form) c f.items (joins_joined of Each (IsStrict Form) m c f))
 
   pub set_form_values : (P : V → Type 0) → HasValues Form P → HasValues (SetForm of Each Form) (SetValues of P)
-  set_form_values P h = λ m i c f. (f.1.items, f.1.are, joined_values (StrictWord Form) P (λ o v s. h v s.id s.content s.form) c f.1.items (joins_joined m c f.1))
+  set_form_values P h = λ m i c f. (f.1.items, f.1.are, joined_values (StrictWord Form) P (λ o v s. h v s.id s.content s.form) c f.1.items (joins_joined of Each (IsStrict Form) m c f.1))
 
   module _ (G : List ℕ → V → Type 0) (word : (v : V) (o : List ℕ) → IsStrict Form v o → G o v) where
-    set_joined : (m : M) (c : List ℕ) (f : Joins of Each Form m c) → IsJoined G c f.items
-    set_joined m c f = joined_map (StrictWord Form) G (λ o v s. word v o s) c f.items (joins_joined m c f)
+    set_joined : (m : M) (c : List ℕ) (f : Joins of Each (IsStrict Form) m c) → IsJoined G c f.items
+    set_joined m c f = joined_map (StrictWord Form) G (λ o v s. word v o s) c f.items (joins_joined of Each (IsStrict Form) m c f)
 
     pub set_form_body : FormBodies (SetForm of Each Form) (SetBody of G)
     set_form_body = λ m i c f. (
@@ -160,11 +122,11 @@ module _ {V M : Type 0} (of : List V → M) (Each : List V → Type 0) (Form : V
     )
 
   pub set_form_check : (Check : Parts → Type 0) → FormChecks Form Check → FormChecks (SetForm of Each Form) (ListCheck 17 Check)
-  set_form_check Check checks = λ m i c f. list_form_check Form 17 Check checks f.1.items i c (f.0, joins_joined m c f.1)
+  set_form_check Check checks = λ m i c f. list_form_check Form 17 Check checks f.1.items i c (f.0, joins_joined of Each (IsStrict Form) m c f.1)
 
   pub set_takes_class : (G : List ℕ → V → Type 0) (Check : Parts → Type 0) → ((v : V) (o : List ℕ) → IsStrict Form v o → G o v) → FormChecks Form Check → (class : ℕ) → FormTakes (SetForm of Each Form) (ListCheck 17 Check) (SetBody of G) class
   set_takes_class G Check words checks class = λ m i c f.
-      let t = list_takes_class Form 17 G Check words checks class f.1.items i c (f.0, joins_joined m c f.1) in
+      let t = list_takes_class Form 17 G Check words checks class f.1.items i c (f.0, joins_joined of Each (IsStrict Form) m c f.1) in
       (t.0, (f.1.items, f.1.are, t.1))
 
   pub set_number : FormNumber (SetForm of Each Form) 17
@@ -174,7 +136,7 @@ module _ {V M : Type 0} (of : List V → M) (Each : List V → Type 0) (Form : V
 module _ {S W M : Type 0} (G : ItemGrammar S) (l : IsLawfulItem G) (of : List G.Value → M) (worth : W → M) (Each : List G.Value → Type 0)
     (mixed : (vs ws : List G.Value) → Each vs → Each ws → of vs ≡ of ws → ∥ IsPermutation vs ws ∥₁) where
   set_form_der : HasValues (SetForm of Each G.Form) (SetInDer of Each G.IsDer)
-  set_form_der = λ m i c f. (f.1.items, f.1.once, f.1.are, joined_values (StrictWord G.Form) G.IsDer (λ o v s. l.form_der v s.id s.content s.form) c f.1.items (joins_joined of Each G.Form m c f.1))
+  set_form_der = λ m i c f. (f.1.items, f.1.once, f.1.are, joined_values (StrictWord G.Form) G.IsDer (λ o v s. l.form_der v s.id s.content s.form) c f.1.items (joins_joined of Each (IsStrict G.Form) m c f.1))
 
   pub set_lawful : (DerBody : Parts → M → Type 0) → IsOneBody DerBody → ((p : Parts) (m : M) → DerBody p m → SetValues of G.IsValue m) → FormBodies (SetForm of Each G.Form) DerBody → IsLawfulItem (set_grammar {W = W} G of worth Each DerBody)
   set_lawful DerBody one values bodies = record {
@@ -218,12 +180,6 @@ member_lawful test keys G l =
 abbrev pub Writes : {S V : Type 0} → (S → V) → (S → List ℕ) → V → List ℕ → Type 0
 Writes {S} value octets v o = (x : S) × (value x ≡ v) × (octets x ≡ o)
 
-ascending_same : (os ps : List (List ℕ)) → IsPermutation os ps → arranged os ≡ arranged ps
-ascending_same os ps p =
-    Ascending-unique (arranged os) (arranged ps)
-    (IsPermutation-trans _ _ _ (IsPermutation-sym _ _ (arranged_moves os)) (IsPermutation-trans _ _ _ p (arranged_moves ps)))
-    (arranged_ascends os) (arranged_ascends ps)
-
 module _ {S V : Type 0} (value : S → V) (octets : S → List ℕ) (law : (x y : S) → value x ≡ value y → octets x ≡ octets y) where
   writes_one : (v : V) (o p : List ℕ) → Writes value octets v o → Writes value octets v p → o ≡ p
   writes_one v o p a b = sym a.2 ∙ law a.0 b.0 (a.1 ∙ sym b.1) ∙ b.2
@@ -235,10 +191,10 @@ module _ {S V : Type 0} (value : S → V) (octets : S → List ℕ) (law : (x y 
   -- items with the same values, in any order, are written alike
   pub set_content_same : (xs ys : List S) → ∥ IsPermutation (map value xs) (map value ys) ∥₁ → set_content octets xs ≡ set_content octets ys
   set_content_same xs ys m =
-      ap joining (∥∥₁_elim m (strings_set _ _) (λ h.
+      ap concat (∥∥₁_elim m (strings_set _ _) (λ h.
       let t = zip_permutation (Writes value octets) (map value xs) (map value ys) (map octets xs) h (writes_zip xs) in
       let k : t.0 ≡ map octets ys = zip_right (Writes value octets) writes_one (map value ys) t.0 (map octets ys) t.1 (writes_zip ys) in
-      ascending_same (map octets xs) (map octets ys) (subst (IsPermutation (map octets xs)) k t.2)))
+      arranged_same (map octets xs) (map octets ys) (subst (IsPermutation (map octets xs)) k t.2)))
 
 -- what is written for a set follows from its values
 module _ {S V : Type 0} (value : S → V) (constructed : S → Bool) (header content : S → List ℕ) where
@@ -279,15 +235,13 @@ module _ {S V : Type 0} (value : S → V) (Form : V → Identifier → List ℕ 
   either_none x w e (inl o) = w.1 e o
   either_none x w e (inr o) = w.2 e o
 
-  module _ {M : Type 0} (of : List V → M) (Each : List V → Type 0) (law : Law) (xs : List S) (c : List ℕ) (m : M) (j : Joins of Each Form m c) (moved : ∥ IsPermutation j.items (map value xs) ∥₁) where
+  module _ {M : Type 0} (of : List V → M) (Each : List V → Type 0) (law : Law) (xs : List S) (c : List ℕ) (m : M) (j : Joins of Each (IsStrict Form) m c) (moved : ∥ IsPermutation j.items (map value xs) ∥₁) where
     set_written : set_content (λ x. header x ++ content x) xs ≡ c
     set_written =
-        ap joining (∥∥₁_elim moved (strings_set _ _) (λ p.
+        ap concat (∥∥₁_elim moved (strings_set _ _) (λ p.
         let t = zip_permutation (IsStrict Form) j.items (map value xs) j.strings p j.each in
         let k : map (λ x. header x ++ content x) xs ≡ t.0 = zip_octets law xs t.0 t.1 in
-        Ascending-unique (arranged (map (λ x. header x ++ content x) xs)) j.strings
-        (IsPermutation-trans _ _ _ (IsPermutation-sym _ _ (arranged_moves (map (λ x. header x ++ content x) xs))) (IsPermutation-sym _ _ (subst (IsPermutation j.strings) (sym k) t.2)))
-        (arranged_ascends (map (λ x. header x ++ content x) xs)) j.ascend)) ∙ j.joined
+        sym (only_arranged (map (λ x. header x ++ content x) xs) j.strings (IsPermutation-sym _ _ (subst (IsPermutation j.strings) (sym k) t.2)) j.ascend))) ∙ j.joined
 
     -- that nothing is refused is no datum, so it may be taken out of the quotient
     no_refusal : {E : Type 0} (refuses : S → E → Type 0) → ((x : S) → Writable x → HasNone (refuses x)) → HasNone (SomeRefuses refuses xs)
@@ -324,25 +278,13 @@ module _ {V M : Type 0} (of : List V → M) (Each : List V → Type 0)
       short : length (flat_map octets xs) < 2 ^ 64
       short = omega (arith, arranged_length octets xs, l)
 
-      joins : IsPermutation d.0 (map value xs) → AllZip (IsStrict Form) (map value xs) (map octets xs) → Joins of Each Form m (set_content octets xs)
+      joins : IsPermutation d.0 (map value xs) → AllZip (IsStrict Form) (map value xs) (map octets xs) → Joins of Each (IsStrict Form) m (set_content octets xs)
       joins p z =
-          let t = zip_permutation (λ o v. IsStrict Form v o) (map octets xs) (arranged (map octets xs)) (map value xs) (arranged_moves (map octets xs)) (zip_turn (IsStrict Form) (map value xs) (map octets xs) z) in
-          let q = IsPermutation-trans d.0 (map value xs) t.0 p t.2 in
-          record {
-            items = t.0;
-            strings = arranged (map octets xs);
-            once = stays d.0 t.0 q d.1;
-            are = sym (same d.0 t.0 q) ∙ d.2;
-            each = zip_turn (λ o v. IsStrict Form v o) (arranged (map octets xs)) t.0 t.1;
-            ascend = arranged_ascends (map octets xs);
-            joined = refl;
-          }
-
-pub same_multiset : {V : Type 0} (vs ws : List V) → IsPermutation vs ws → multiset vs ≡ multiset ws
-same_multiset vs ws p = sound p
+          subst (λ n. Joins of Each (IsStrict Form) n (set_content octets xs)) (sym (same d.0 (map value xs) p) ∙ d.2)
+          (joins_arranged of Each (IsStrict Form) stays same (map value xs) (map octets xs) (stays d.0 (map value xs) p d.1) z)
 
 pub same_set : {V : Type 0} (vs ws : List V) → IsPermutation vs ws → set_of vs ≡ set_of ws
-same_set vs ws p = ap inl (sound (λ v. (Contains-permutation vs ws v p, Contains-permutation ws vs v (IsPermutation-sym vs ws p))))
+same_set vs ws p = ap inl (same_value_set vs ws (HaveSame-permutation vs ws p))
 
 both_true : (a b : Bool) → (a && b) ≡ true → (a ≡ true) × (b ≡ true)
 both_true true b h = (refl, h)
@@ -561,7 +503,7 @@ module _ {S V : Type 0} (test : S → S → Bool) (value : S → V) (is : (x y :
       contains_from_in v (map value xs) (subst (λ w. In w (map value xs)) t.1 (any_in t.0 xs (sym (h t.0) ∙ t.2)))
 
   pub collected_values : (ks xs : List S) → ((q : S) → list_any (test q) ks ≡ list_any (test q) xs) → set_of (map value ks) ≡ set_of (map value xs)
-  collected_values ks xs h = ap inl (sound (λ v. (move_values ks xs h v, move_values xs ks (λ q. sym (h q)) v)))
+  collected_values ks xs h = ap inl (same_value_set (map value ks) (map value xs) (λ v. (move_values ks xs h v, move_values xs ks (λ q. sym (h q)) v)))
 
 -- an exact reader of lists is one of what is collected from them
 module _ {T V W M E : Type 0} (holds : List T → W → Type 0) (of : List V → M) (worth : W → M) (reads : List ℕ → Result (List ℕ × T) (Refusal E) → Type 0) (from : Error → E → Type 0) (G : List ℕ → V → Type 0) (value : T → V) (takes : Bool) (IsCut : List ℕ → Type 0)

@@ -1,5 +1,5 @@
 -- Words of element grammars: one alone begins an input, and strict encodings are words that are read back.
-use Rattle.std.proofs.Common.{arith, ◌≡◌, ◌∙◌, ap, sym, subst, refl, ℕ, List, [], ◌++◌, inl, inr}
+use Rattle.std.proofs.Common.{arith, ◌≡◌, ◌∙◌, ap, sym, subst, ℕ, List, ◌++◌, inl, inr}
 use Rattle.std.proofs.lemmas.List.{append_cancel_left}
 use Rattle.std.specs.Prelude.{Result, Ok, Err}
 use Rattle.x690.specs.Identifiers.{Identifier}
@@ -7,10 +7,11 @@ use Rattle.x690.specs.Rules.{Rule, der_rule, ber_rule}
 use Rattle.x690.specs.Elements.{Parts, IsDefiniteElement, IsStrictElement, AllowsStrict}
 use Rattle.x690.specs.Laws.Nested.{definite_is_nested}
 use Rattle.x690.specs.Laws.StrictElements.{der_allows_strict, ber_allows_strict, strict_is_definite, strict_element_one, strict_element_unique}
+use Rattle.x690.specs.Joined.{IsOneFront}
 use Rattle.asn1_rs.specs.declared.error.Err.{Err as Refusal}
 use Rattle.asn1_rs.specs.Answers.{Exactly, ReadsBack}
 use Rattle.asn1_rs.specs.Grammar.Form.{IsOneForm, IsOneValue, IsStrict}
-use Rattle.asn1_rs.specs.Grammar.{IsOneFront, IsOneBody, ElementWord, BerWord, DerWord, FormChecks, FormBodies, made}
+use Rattle.asn1_rs.specs.Grammar.{IsOneBody, ElementWord, BerWord, DerWord, FormChecks, FormBodies, made}
 use Rattle.asn1_rs.specs.Ber.{max_depth}
 use Rattle.asn1_rs.specs.Laws.Readers.{none_now}
 
@@ -57,13 +58,3 @@ read_back IsCut Form G value memory word one input (Ok x) f v w rest s e =
     (same.1, append_cancel_left w x.0 rest (ap (λ (z : List ℕ). z ++ x.0) same.0 ∙ sym f.is ∙ e))
 read_back IsCut Form G value memory word one input (Err r) (inl m) v w rest s e = m
 read_back IsCut Form G value memory word one input (Err r) (inr n) v w rest s e = absurd (none_now (IsCut input) r G input n w rest v e (word v w s))
-
--- octets have one value
-pub one_value_of : {V : Type 0} (G : List ℕ → V → Type 0) → IsOneFront G → (o : List ℕ) (v w : V) → G o v → G o w → v ≡ w
-one_value_of G one o v w a b = (one.one o o [] [] v w a b refl).1
-
--- one word begins an input, with one value and one rest
-pub one_front : {V : Type 0} (G : List ℕ → V → Type 0) → IsOneFront G → (x y r s : List ℕ) (v w : V) → G x v → G y w → x ++ r ≡ y ++ s → (x ≡ y) × (v ≡ w) × (r ≡ s)
-one_front G one x y r s v w a b e =
-    let same : (x ≡ y) × (v ≡ w) = one.one x y r s v w a b e in
-    (same.0, same.1, append_cancel_left y r s (ap (λ (z : List ℕ). z ++ r) (sym same.0) ∙ e))

@@ -8,8 +8,8 @@ use Rattle.asn1_rs.specs.declared.error.Error.TheVariants as errors
 use Rattle.asn1_rs.specs.declared.asn1_types.sequence.iterator.SequenceIterator.{SequenceIterator}
 use Rattle.asn1_rs.specs.Error.{FlattenedTo}
 use Rattle.x690.specs.Octets.{IsOctets}
-use Rattle.asn1_rs.specs.Answers.{NoFront, Exactly}
-use Rattle.asn1_rs.specs.Grammar.{IsOneFront}
+use Rattle.x690.specs.Joined.{NoFront, IsOneFront, IsJoined}
+use Rattle.asn1_rs.specs.Answers.{Exactly}
 use Rattle.asn1_rs.specs.declared.asn1_types.any.Any.{Any}
 use Rattle.asn1_rs.specs.Any.{IsTheElement}
 use Rattle.asn1_rs.specs.Traits.{BerGives}
@@ -61,11 +61,6 @@ pub record IsWalkOf {T F V E : Type 0} {steps : SequenceIterator T F E → Optio
   pub walk : IsWalk G value Tells (octets_left run.from) run.items left
   pub whole : run.whole ≡ true → left ≡ []
 
--- The octets are words of the grammar with these values, joined in their order.
-abbrev pub IsJoined : {V : Type 0} → (List ℕ → V → Type 0) → List ℕ → List V → Type 0
-IsJoined G octets [] = octets ≡ []
-IsJoined G octets (v ∷ vs) = (word : List ℕ) × (rest : List ℕ) × G word v × (octets ≡ word ++ rest) × IsJoined G rest vs
-
 -- Words of the grammar with these values begin the octets, and something is left behind them, of which the refusal tells.
 pub record EndsJoined {V E : Type 0} (G : List ℕ → V → Type 0) (Tells : List ℕ → E → Type 0) (octets : List ℕ) (values : List V) (e : E) : Type 0 where
   pub front : List ℕ
@@ -74,15 +69,6 @@ pub record EndsJoined {V E : Type 0} (G : List ℕ → V → Type 0) (Tells : Li
   pub joined : IsJoined G front values
   pub some : others ≢ []
   pub tells : Tells others e
-
--- each of them is a word of the grammar
-abbrev pub AreWords : {V : Type 0} → (List ℕ → V → Type 0) → List (List ℕ) → Type 0
-AreWords G [] = Unit {0}
-AreWords {V} G (word ∷ words) = ((v : V) × G word v) × AreWords G words
-
--- the octets are a joining of words of the grammar
-abbrev pub AreJoinedWords : {V : Type 0} → (List ℕ → V → Type 0) → List ℕ → Type 0
-AreJoinedWords G octets = (words : List (List ℕ)) × AreWords G words × (octets ≡ concat words)
 
 -- a refusal tells that no word begins what is left, or reports out of memory, where the reader allocates
 abbrev pub TellsNoWord : {V E : Type 0} → (List ℕ → V → Type 0) → (E → Type 0) → List ℕ → E → Type 0

@@ -8,6 +8,7 @@ use Rattle.x690.specs.Elements.{Parts}
 use Rattle.x690.specs.Nested.{IsElement, IsRow, IsWord, ElementFault}
 use Rattle.x690.specs.Laws.Nested.{nested_element_deeper, nested_content_is_octets}
 use Rattle.x690.specs.Laws.Nested.IndefiniteContents.{indefinite_is_row}
+use Rattle.x690.specs.Joined.{AreWords}
 use Rattle.asn1_rs.specs.declared.error.Err.{Err as Refusal}
 use Rattle.asn1_rs.specs.declared.error.Error.{Error}
 use Rattle.asn1_rs.specs.declared.asn1_types.any.Any.{Any}
@@ -17,7 +18,7 @@ use Rattle.asn1_rs.specs.Header.Reading.{ber_breach}
 use Rattle.asn1_rs.specs.Ber.{max_depth, EndsWithin}
 use Rattle.asn1_rs.specs.Traits.{PassesAll}
 use Rattle.asn1_rs.specs.Grammar.{ElementWord, NoCheck, TakesBody}
-use Rattle.asn1_rs.specs.Sequence.Iterator.{TakesItem, IsWalk, AreWords, TellsNothing, TellsMemoryAlone, IsMemory, EndsWalk, ElementsGive, IsSame}
+use Rattle.asn1_rs.specs.Sequence.Iterator.{TakesItem, IsWalk, TellsNothing, TellsMemoryAlone, IsMemory, EndsWalk, ElementsGive, IsSame}
 use Rattle.asn1_rs.specs.Laws.Any.Value.{the_element_parts}
 use Rattle.asn1_rs.specs.Laws.Readers.{ber_elements, element_exact, passes_all}
 use Rattle.asn1_rs.specs.Laws.Sequence.Iterator.{octets_kept, whole_walk}

@@ -5,11 +5,11 @@ mod hash_set;
 pub mod set_of;
 
 ghost use Rattle.std.specs.Prelude.{◌≡◌, ◌++◌, ◌||◌, List, true, false, length, map, IfOk, IfErr, IsErr};
-ghost use Rattle.std.specs.List.{All, flat_map};
+ghost use Rattle.std.specs.List.{All, flat_map, concat};
+ghost use Rattle.x690.specs.Ascending.{arranged};
 ghost use Rattle.asn1_rs.specs.declared.error.SerializeError.{SerializeError};
 ghost use Rattle.asn1_rs.specs.declared.error.Error.{Error};
-ghost use Rattle.asn1_rs.specs.Lists.{SomeRefuses, joining};
-ghost use Rattle.asn1_rs.specs.Set.{arranged};
+ghost use Rattle.asn1_rs.specs.Lists.{SomeRefuses};
 ghost use Rattle.asn1_rs.specs.Writer.{Wrote, MayRefuse};
 ghost use Rattle.asn1_rs.specs.ToDer.{Refuses, Either, IntoVector};
 ghost use Rattle.asn1_rs.specs.Error.{tells_of_io};
@@ -21,7 +21,7 @@ use std::alloc::{AllocError, Global};
 
 /// The strings joined in ascending order.
 fn join_ascending(strings: Vec<Vec<u8>>, alloc: Global) -> Result<Vec<u8>, AllocError>
-    ensures { IfOk result (λ v. v.items ≡ joining (arranged (map (λ s. s.items) strings.items))) }
+    ensures { IfOk result (λ v. v.items ≡ concat (arranged (map (λ s. s.items) strings.items))) }
 {
     let mut strings = strings;
     let mut content = Vec::new(alloc);
@@ -38,10 +38,10 @@ pub(crate) fn write_ascending<W: DerWrite>(
     alloc: Global,
     w: &mut W,
 ) -> SerializeResult<usize>
-    ensures wrote { Wrote (joining (arranged (map (λ s. s.items) strings.items))) (W.told w.old)
+    ensures wrote { Wrote (concat (arranged (map (λ s. s.items) strings.items))) (W.told w.old)
         (W.told w.new) (W.failed w.old) (W.failed w.new) result }
     ensures refused { IfErr result
-        (MayRefuse true (length (joining (arranged (map (λ s. s.items) strings.items))))) }
+        (MayRefuse true (length (concat (arranged (map (λ s. s.items) strings.items))))) }
 {
     match join_ascending(strings, alloc) {
         Ok(content) => put_all(w, &content),

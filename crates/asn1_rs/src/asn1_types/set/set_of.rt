@@ -4,16 +4,18 @@ ghost use Rattle.std.specs.Borrow.{sem};
 ghost use Rattle.std.specs.Iterator.{IsFiniteIterable, Drains};
 ghost use Rattle.std.proofs.Common.{lit<};
 ghost use Rattle.x690.specs.Identifiers.{IsCutIdentifier};
+ghost use Rattle.x690.specs.Collections.{multiset, AnyList};
+ghost use Rattle.x690.specs.Laws.Collections.{permutation_from_multiset};
 ghost use Rattle.asn1_rs.specs.Traits.{PassesAll, DerGives, OfParts};
 ghost use Rattle.asn1_rs.specs.Ber.{EndsWithin};
 ghost use Rattle.asn1_rs.specs.declared.error.Error.TheVariants as errors;
 ghost use Rattle.asn1_rs.specs.Lists.{ListReads, PushesItem};
 ghost use Rattle.asn1_rs.specs.ToDer.{IsWritable};
-ghost use Rattle.asn1_rs.specs.Set.{multiset, AnyList, SetRow, items_of, HasItems, lends_set_items, multiset_grammar};
+ghost use Rattle.asn1_rs.specs.Set.{SetRow, items_of, HasItems, lends_set_items, multiset_grammar};
 ghost use Rattle.asn1_rs.specs.Laws.Readers.{unchecked_exact};
 ghost use Rattle.asn1_rs.specs.Laws.Forms.{der_strict};
 ghost use Rattle.asn1_rs.specs.Laws.Lists.{takes_some, list_checks};
-ghost use Rattle.asn1_rs.specs.Laws.Set.{permutation_from_multiset, multiset_told, multiset_lawful, set_takes, set_reads, set_form_body, set_takes_class, set_number, set_by_value, set_writes_form, multiset_has_form};
+ghost use Rattle.asn1_rs.specs.Laws.Set.{multiset_told, multiset_lawful, set_takes, set_reads, set_form_body, set_takes_class, set_number, set_by_value, set_writes_form, multiset_has_form};
 
 use crate::asn1_types::lists::{
     FromItems, Listed, encode_items, items_from_iter, list_by_der, push_item,

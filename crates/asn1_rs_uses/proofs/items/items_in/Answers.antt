@@ -1,6 +1,7 @@
 use Rattle.std.proofs.Common.{◌≡◌, ◌∙◌, ap, arith, subst, sym, List, ℕ}
 use Rattle.x690.specs.Octets.{IsOctets}
-use Rattle.asn1_rs.specs.Sequence.Iterator.{octets_left, TellsNoWord, TellsMemoryAlone, IsMemory, AreJoinedWords}
+use Rattle.x690.specs.Joined.{AreJoinedWords}
+use Rattle.asn1_rs.specs.Sequence.Iterator.{octets_left, TellsNoWord, TellsMemoryAlone, IsMemory}
 use Rattle.asn1_rs_uses.proofs.Collected.{collected, refused, why_refused}
 use Rattle.asn1_rs_uses.proofs.items.items_in.Goals as goal
 

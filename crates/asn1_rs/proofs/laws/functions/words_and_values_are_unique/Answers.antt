@@ -1,4 +1,5 @@
-use Rattle.asn1_rs.specs.Laws.Words.{one_value_of, one_front, one_strict, strict_apart}
+use Rattle.x690.specs.Laws.Joined.{one_value_of, one_front}
+use Rattle.asn1_rs.specs.Laws.Words.{one_strict, strict_apart}
 use Rattle.asn1_rs.proofs.laws.functions.words_and_values_are_unique.Goals as goal
 
 pub returns : goal.returns

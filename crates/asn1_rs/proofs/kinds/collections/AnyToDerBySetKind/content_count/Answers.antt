@@ -1,5 +1,5 @@
 use Rattle.std.proofs.Common.{◌++◌}
-use Rattle.asn1_rs.specs.Laws.Set.Arranged.{arranged_length}
+use Rattle.x690.specs.Laws.Ascending.Arranged.{arranged_length}
 use Rattle.asn1_rs.proofs.kinds.collections.AnyToDerBySetKind.content_count.Goals as goal
 
 pub returns-clause-count : goal.returns-clause-count

@@ -1,9 +1,9 @@
 use Rattle.std.proofs.Common.{◌++◌, true}
 use Rattle.std.proofs.lemmas.Result.{err_from_is_err_and}
 use Rattle.std.proofs.lemmas.Bool.{false≢true}
+use Rattle.x690.specs.Laws.Ascending.Arranged.{arranged_length}
 use Rattle.asn1_rs.specs.Lists.{SomeRefuses}
 use Rattle.asn1_rs.specs.ToDer.{Either, IntoVector}
-use Rattle.asn1_rs.specs.Laws.Set.Arranged.{arranged_length}
 use Rattle.asn1_rs.proofs.Writing.{Wrote_nothing, only_may}
 use Rattle.asn1_rs.proofs.kinds.collections.AnyToDerBySetKind.put_content.Goals as goal
 
