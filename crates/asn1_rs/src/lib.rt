@@ -41,7 +41,7 @@ pub use error::{
     from_nom_error,
 };
 pub use header::Header;
-pub use kinds::writing::{WritesOctets, WritesPrimitive};
+pub use kinds::writing::{WritesOctets, WritesElement};
 pub use kinds::{ElementKind, HasKind, LawfulConversion, LawfulElement};
 pub use laws::functions::{
     beginnings_are_refused, counts_are_of_the_strict_encoding, leaves_have_one_refusal,
