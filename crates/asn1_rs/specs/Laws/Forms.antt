@@ -1,14 +1,14 @@
 -- Strict parts, and what is written.
-use Rattle.std.specs.Prelude.{◌≡◌, ℕ, ◌<◌, ◌^◌, ◌↔◌, Bool, false, List, ◌++◌, length}
+use Rattle.std.specs.Prelude.{◌≡◌, ℕ, ◌<◌, ◌^◌, ◌↔◌, Bool, List, ◌++◌, length}
 use Rattle.std.proofs.Common.{sym, ap, refl, subst, ◌∙◌, arith, length-append}
 use mathlib.Core.Logic.{∥∥₁_map}
 use Rattle.x690.specs.Octets.{IsOctets}
 use Rattle.x690.specs.Identifiers.{Identifier}
-use Rattle.x690.specs.Strict.{header_octets, element_octets}
+use Rattle.x690.specs.Strict.{element_octets}
 use Rattle.x690.specs.Elements.{IsStrictElement}
 use Rattle.x690.specs.Laws.StrictElements.{strict_element_octets, made_strict_element}
 use Rattle.asn1_rs.specs.ToDer.{IsWritable}
-use Rattle.asn1_rs.specs.Grammar.Form.{IsOneForm, IsOneValue, FitsElement, IsStrict, HasForm, UniversalForm, WritesByValue, WritesForm, header_of, universal}
+use Rattle.asn1_rs.specs.Grammar.Form.{IsOneForm, IsOneValue, FitsElement, IsStrict, HasForm, UniversalForm, WritesByValue, WritesForm, header_of}
 use Rattle.asn1_rs.specs.Grammar.{FormNumber}
 use Rattle.asn1_rs.specs.Kinds.{ElementGrammar}
 use Rattle.asn1_rs.specs.Kinds.Writing.{IsWrittenElement, universal_header, universal_identifier}
