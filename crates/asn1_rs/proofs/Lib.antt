@@ -1,4 +1,5 @@
 mod HeadersAndContents
+mod Kept
 mod Lists
 mod OpenContents
 mod Reading

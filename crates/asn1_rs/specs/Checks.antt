@@ -3,7 +3,7 @@ use Rattle.std.specs.Prelude.{◌≡◌, ◌≢◌, ◌⊎◌, ℕ, true, false,
 use Rattle.x690.specs.Lengths.{definite, indefinite}
 use Rattle.x690.specs.Elements.{Parts}
 use Rattle.asn1_rs.specs.declared.error.Error.{Error}
-use Rattle.asn1_rs.specs.declared.error.Error.TheVariants.{UnexpectedTag, ConstructUnexpected, IndefiniteLengthUnexpected, InvalidLength, OutOfMemory}
+use Rattle.asn1_rs.specs.declared.error.Error.TheVariants.{UnexpectedTag, ConstructExpected, ConstructUnexpected, IndefiniteLengthUnexpected, InvalidLength, OutOfMemory}
 
 -- what a check may answer of the parts of an element
 abbrev pub CheckGives : Type 1
@@ -42,6 +42,9 @@ has_number number = check (λ p. p.id.number ≡ number) (λ p. p.id.number ≢ 
 -- the constructed bit
 abbrev pub is_primitive : CheckGives
 is_primitive = check IsPrimitive (λ p. p.id.constructed ≡ true) (λ p. ConstructUnexpected)
+
+abbrev pub is_constructed : CheckGives
+is_constructed = check (λ p. p.id.constructed ≡ true) IsPrimitive (λ p. ConstructExpected)
 
 -- a definite length
 abbrev pub is_counted : CheckGives

@@ -17,3 +17,4 @@ pub mod Enumerated
 pub mod Sequence
 pub mod Lists
 pub mod Set
+pub mod Kept

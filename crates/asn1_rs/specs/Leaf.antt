@@ -1,11 +1,13 @@
--- Types whose values are primitive elements of the universal class: what such a leaf of an encoding says of itself.
+-- Types whose values are elements of the universal class whose contents octets say them, primitive but for sequences and sets: what such a leaf of an encoding says of itself.
 use Rattle.std.specs.Prelude.{◌≡◌, ◌<◌, ℕ, false, List, Result, Ok, Err}
 use Rattle.x690.specs.Octets.{IsOctets}
 use Rattle.x690.specs.Elements.{Parts, ArePossible}
 use Rattle.asn1_rs.specs.declared.error.Error.{Error}
 use Rattle.asn1_rs.specs.Checks.{CheckGives, IsCheck, ◌before◌, has_number}
 use Rattle.asn1_rs.specs.Grammar.{made, of_class}
-use Rattle.asn1_rs.specs.Grammar.Form.{UniversalForm, universal}
+use Rattle.asn1_rs.specs.Tag.{is_container_number}
+use Rattle.asn1_rs.specs.Kinds.Writing.{universal_identifier}
+use Rattle.asn1_rs.specs.Grammar.Form.{UniversalForm}
 use Rattle.asn1_rs.specs.Kinds.{ElementGrammar}
 
 -- The tag number; the values, the value of an item in hand, which values are the type's, and which are in DER form. The
@@ -48,13 +50,13 @@ leaf_element L = record {
   IsDer = L.IsDer;
   Body = LeafBody L;
   Check = λ p. L.constraints p (Ok tt);
-  Form = UniversalForm false L.number (LeafContent L);
+  Form = UniversalForm (is_container_number L.number) L.number (LeafContent L);
   allocates = false;
 }
 
 -- the parts of the element of a value under some class
 abbrev pub leaf_parts : {S : Type 0} (L : Leaf S) → ℕ → L.Value → Parts
-leaf_parts L class v = made (of_class class (universal false L.number)) (L.octets v)
+leaf_parts L class v = made (of_class class (universal_identifier L.number)) (L.octets v)
 
 -- The tag number is one of the low form. Checks and constraints are such. Contents octets say one value; it is the
 -- type's where the parts meet the checks. A value in DER form is one of the type's: what is written for it are

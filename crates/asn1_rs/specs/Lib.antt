@@ -25,5 +25,6 @@ pub mod Enumerated
 pub mod Sequence
 pub mod Lists
 pub mod Set
+pub mod Kept
 pub mod Laws
 pub mod Texts

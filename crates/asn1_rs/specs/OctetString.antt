@@ -6,23 +6,26 @@ use Rattle.std.specs.declared.alloc.Global.{Global}
 use Rattle.std.specs.declared.borrow.CowSlice.{CowSlice}
 use Rattle.x690.specs.Octets.{IsOctets}
 use Rattle.asn1_rs.specs.declared.asn1_types.octet_string.OctetString.{OctetString}
-use Rattle.asn1_rs.specs.Checks.{nothing, is_primitive}
+use Rattle.asn1_rs.specs.Checks.{CheckGives, nothing, is_primitive}
 use Rattle.asn1_rs.specs.Leaf.{Leaf}
 
--- An element with the tag number, primitive or constructed, whose value is its contents octets (8.7.2). By DER it is
--- primitive (10.2).
-abbrev pub octets_leaf : {S : Type 0} → ℕ → (S → List ℕ) → Leaf S
-octets_leaf number octets = record {
+-- An element with the tag number whose value is its contents octets, with these checks and constraints.
+abbrev pub contents_leaf : {S : Type 0} → ℕ → (S → List ℕ) → CheckGives → CheckGives → Leaf S
+contents_leaf number octets checks constraints = record {
   number = number;
   Value = List ℕ;
   value = octets;
   IsValue = IsOctets;
   IsDer = IsOctets;
-  checks = nothing;
+  checks = checks;
   Says = λ content v. content ≡ v;
-  constraints = is_primitive;
+  constraints = constraints;
   octets = λ v. v;
 }
+
+-- One that is primitive or constructed (8.7.2). By DER it is primitive (10.2).
+abbrev pub octets_leaf : {S : Type 0} → ℕ → (S → List ℕ) → Leaf S
+octets_leaf number octets = contents_leaf number octets nothing is_primitive
 
 -- the number of the tag of octet strings
 abbrev pub octet_string_number : ℕ

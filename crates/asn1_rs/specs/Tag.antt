@@ -22,6 +22,9 @@ number_text number = codes "Tag(" ++ decimal number ++ codes " / 0x" ++ radix_di
 abbrev pub tag_text : ℕ → List ℕ
 tag_text number = text_or (name_of number) (number_text number)
 
--- The tag of sequence or of set, whose elements are constructed.
+-- The tag number of sequences or of sets, whose elements are constructed (X.690 8.9.1, 8.11.1).
+abbrev pub is_container_number : ℕ → Bool
+is_container_number number = nat_eq number 16 || nat_eq number 17
+
 abbrev pub is_container : Tag → Bool
-is_container tag = nat_eq tag.0 16 || nat_eq tag.0 17
+is_container tag = is_container_number tag.0

@@ -14,6 +14,7 @@ mod length;
 mod tag;
 mod texts;
 mod to_der;
+mod to_static;
 mod traits;
 mod writer;
 
@@ -25,6 +26,8 @@ pub use asn1_types::enumerated::Enumerated;
 pub use asn1_types::integer::integers_have_one_refusal;
 pub use asn1_types::integer::machine::MachineInt;
 pub use asn1_types::integer::octets::Integer;
+pub use asn1_types::kept::sequence::Sequence;
+pub use asn1_types::kept::set::Set;
 pub use asn1_types::lists::FromItems;
 pub use asn1_types::null::Null;
 pub use asn1_types::octet_string::OctetString;
@@ -42,7 +45,7 @@ pub use error::{
     from_nom_error,
 };
 pub use header::Header;
-pub use kinds::writing::{WritesOctets, WritesPrimitive};
+pub use kinds::writing::{WritesElement, WritesOctets};
 pub use kinds::{ElementKind, HasKind, LawfulConversion, LawfulElement};
 pub use laws::functions::{
     beginnings_are_refused, counts_are_of_the_strict_encoding, leaves_have_one_refusal,
@@ -57,6 +60,7 @@ pub use laws::{
 pub use length::Length;
 pub use tag::{Tag, universal_types_are_numbered};
 pub use to_der::ToDer;
+pub use to_static::ToStatic;
 pub use traits::{
     ASN1Parser, BerParser, CheckDerConstraints, DerAutoDerive, DerParser, DynTagged, FromAny,
     FromBer, FromDer, Tagged,

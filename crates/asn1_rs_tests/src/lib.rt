@@ -20,6 +20,8 @@ mod integers;
 #[cfg(test)]
 mod iterators;
 #[cfg(test)]
+mod kept;
+#[cfg(test)]
 mod laws;
 #[cfg(test)]
 mod leaves;

@@ -9,4 +9,4 @@ abbrev pub fingerprint_leaf : Leaf Fingerprint
 fingerprint_leaf = octets_leaf octet_string_number (λ x. x.0.now)
 
 pub fingerprint_lawful : IsLawfulLeaf fingerprint_leaf
-fingerprint_lawful = octets_lawful octet_string_number (λ x. x.0.now) (lit< tt)
+fingerprint_lawful = octets_lawful octet_string_number (λ x. x.0.now) (lit< tt) refl

@@ -3,7 +3,7 @@ ghost use Rattle.std.specs.Prelude.{◌≡◌};
 ghost use Rattle.asn1_rs.specs.Any.{parts_of};
 ghost use Rattle.asn1_rs.specs.Checks.{is_primitive};
 ghost use Rattle.asn1_rs.specs.Leaf.{LeafGives, leaf_element};
-ghost use Rattle.asn1_rs.specs.Laws.Leaf.{leaf_lawful, leaf_constraints, leaf_converts, leaf_primitive};
+ghost use Rattle.asn1_rs.specs.Laws.Leaf.{leaf_lawful, leaf_constraints, leaf_converts, leaf_written};
 ghost use Rattle.asn1_rs.specs.OctetString.{octet_string_number};
 ghost use Rattle.asn1_rs.specs.Traits.{OfParts};
 ghost use Rattle.asn1_rs_uses.specs.Fingerprint.{fingerprint_leaf, fingerprint_lawful};
@@ -76,5 +76,5 @@ impl WritesOctets for Fingerprint<'_> {
         self.0
     }
 
-    ghost held_are = { leaf_primitive fingerprint_leaf fingerprint_lawful };
+    ghost held_are = { leaf_written fingerprint_leaf fingerprint_lawful };
 }

@@ -5,13 +5,13 @@ ghost use Rattle.x690.specs.Laws.Integers.Unsigned.{unsigned_octets_content};
 ghost use Rattle.asn1_rs.specs.Traits.{OfParts};
 ghost use Rattle.asn1_rs.specs.Integer.{integer_element, IntegerCheckGives, IsUnsigned, UnsignedGives};
 ghost use Rattle.asn1_rs.specs.Kinds.{holding, HoldingGives};
-ghost use Rattle.asn1_rs.specs.Laws.Integer.{integer_checks, integer_lawful, integer_primitive};
-ghost use Rattle.asn1_rs.specs.Laws.Kinds.{holding_lawful, holding_converts, holding_primitive};
+ghost use Rattle.asn1_rs.specs.Laws.Integer.{integer_checks, integer_lawful, integer_written};
+ghost use Rattle.asn1_rs.specs.Laws.Kinds.{holding_lawful, holding_converts, holding_written};
 ghost use Rattle.asn1_rs.specs.Laws.Integer.Unsigned.{unsigned_converts};
 
 use asn1_rs::{
     Any, CheckDerConstraints, DerAutoDerive, DerWrite, ElementKind, Error, FromAny, HasKind,
-    LawfulConversion, LawfulElement, SerializeResult, Tag, Tagged, WritesPrimitive,
+    LawfulConversion, LawfulElement, SerializeResult, Tag, Tagged, WritesElement,
 };
 use std::alloc::Global;
 
@@ -65,7 +65,7 @@ impl<'a> LawfulConversion<'a> for SerialNumber {
     ghost converts = { holding_converts (λ x. x.0) _ _ (unsigned_converts 8) };
 }
 
-impl WritesPrimitive for SerialNumber {
+impl WritesElement for SerialNumber {
     ghost octets = { λ x. unsigned_octets x.0 };
 
     fn count_octets(&self) -> Result<usize, Error> {
@@ -76,6 +76,6 @@ impl WritesPrimitive for SerialNumber {
         self.0.put_octets(w)
     }
 
-    ghost primitive = { holding_primitive (λ x. x.0) _ 2 unsigned_octets
-        (integer_primitive pos unsigned_octets unsigned_octets_content (IsUnsigned 8)) };
+    ghost written = { holding_written (λ x. x.0) _ 2 unsigned_octets
+        (integer_written pos unsigned_octets unsigned_octets_content (IsUnsigned 8)) };
 }

@@ -7,6 +7,7 @@ use Rattle.asn1_rs.specs.declared.error.SerializeError.{SerializeError}
 use Rattle.x690.specs.Identifiers.{Identifier}
 use Rattle.asn1_rs.specs.Grammar.Form.{universal}
 use Rattle.asn1_rs.specs.Grammar.{FormTakes}
+use Rattle.asn1_rs.specs.Tag.{is_container_number}
 use Rattle.asn1_rs.specs.Kinds.{ElementGrammar}
 use Rattle.asn1_rs.specs.Lists.{SomeRefuses}
 use Rattle.asn1_rs.specs.Set.{set_content}
@@ -26,13 +27,20 @@ pub record Writing (S : Type 0) : Type 1 where
   pub content_allocates : Bool
   pub write_allocates : Bool
 
--- a primitive element of the universal class, with this number and these contents octets, which nothing but its writer and its length refuses
-abbrev pub primitive_writing : {S : Type 0} → ℕ → (S → List ℕ) → Writing S
-primitive_writing number octets = record {
+-- the strict header of an element of the universal class with this number: constructed for sequences and sets, else primitive
+abbrev pub universal_header : ℕ → List ℕ → List ℕ
+universal_header number content = header_octets 0 (is_container_number number) number (length content)
+
+abbrev pub universal_identifier : ℕ → Identifier
+universal_identifier number = universal (is_container_number number) number
+
+-- an element of the universal class, with this number and these contents octets, which nothing but its writer and its length refuses
+abbrev pub universal_writing : {S : Type 0} → ℕ → (S → List ℕ) → Writing S
+universal_writing number octets = record {
   tells = λ x. Unit {0};
-  header = λ x. header_octets 0 false number (length (octets x));
+  header = λ x. universal_header number (octets x);
   content = octets;
-  constructed = λ x. false;
+  constructed = λ x. is_container_number number;
   count_refuses = λ x e. ⊥;
   header_refuses = λ x e. ⊥;
   content_refuses = λ x e. ⊥;
@@ -74,14 +82,14 @@ set_writing items item = record {
   write_allocates = true;
 }
 
--- The contents octets of a primitive element follow from the value. Where it has strict parts, they are its content, and the
+-- The contents octets of such an element follow from the value. Where it has strict parts, they are its content, and the
 -- identifier is the one of the universal class with this number; under any class they meet the check and have the value
 -- all the same. A value in DER form has strict parts. The number is one of the
 -- low form.
-pub record IsPrimitiveElement {S : Type 0} (G : ElementGrammar S) (number : ℕ) (octets : S → List ℕ) : Type 0 where
+pub record IsWrittenElement {S : Type 0} (G : ElementGrammar S) (number : ℕ) (octets : S → List ℕ) : Type 0 where
   pub by_value : (x y : S) → G.value x ≡ G.value y → octets x ≡ octets y
-  pub identifier : (v : G.Value) (i : Identifier) (c : List ℕ) → G.Form v i c → i ≡ universal false number
+  pub identifier : (v : G.Value) (i : Identifier) (c : List ℕ) → G.Form v i c → i ≡ universal_identifier number
   pub form : (x : S) (i : Identifier) (c : List ℕ) → G.Form (G.value x) i c → octets x ≡ c
   pub class : (k : ℕ) → FormTakes G.Form G.Check G.Body k
-  pub der : (x : S) → G.IsDer (G.value x) → G.Form (G.value x) (universal false number) (octets x)
+  pub der : (x : S) → G.IsDer (G.value x) → G.Form (G.value x) (universal_identifier number) (octets x)
   pub small : number < 31

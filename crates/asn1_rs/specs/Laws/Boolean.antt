@@ -12,8 +12,8 @@ use Rattle.asn1_rs.specs.Leaf.{IsLawfulLeaf, leaf_element}
 use Rattle.asn1_rs.specs.declared.asn1_types.boolean.Boolean.{Boolean}
 use Rattle.asn1_rs.specs.Boolean.{boolean_number, boolean_leaf, bool_leaf, truth_octet, says_true, IsStrictTruth, IsOtherTruth, truth_constraints, truth_header, truth_octets}
 use Rattle.asn1_rs.specs.Laws.Checks.{check_is, before_is, has_length_is, has_content_is}
-use Rattle.asn1_rs.specs.Laws.Forms.{NothingRefused, primitive_by_value, primitive_writes_form}
-use Rattle.asn1_rs.specs.Laws.Leaf.{leaf_primitive}
+use Rattle.asn1_rs.specs.Laws.Forms.{NothingRefused, universal_by_value, universal_writes_form}
+use Rattle.asn1_rs.specs.Laws.Leaf.{leaf_written}
 
 one_octet : (n : ℕ) → n < 256 → IsOctets (n ∷ [])
 one_octet n h = below_octets (n ∷ []) (h, tt)
@@ -88,8 +88,8 @@ boolean_equal x y = (λ h. eqb-true x.value y.value h, λ e. eq-eqb x.value y.va
 -- a truth value with its octet is written as one contents octet
 pub boolean_by_value : WritesByValue (leaf_element boolean_leaf).value (λ x. false) (λ x. truth_header) truth_octets
 unfolding header_octets identifier_octets length_octets
-boolean_by_value = primitive_by_value (leaf_element boolean_leaf) boolean_number truth_octets (leaf_primitive boolean_leaf boolean_lawful)
+boolean_by_value = universal_by_value (leaf_element boolean_leaf) boolean_number truth_octets (leaf_written boolean_leaf boolean_lawful)
 
 pub boolean_writes_form : WritesForm (leaf_element boolean_leaf).value (leaf_element boolean_leaf).Form (λ x. NothingRefused) (λ x. false) (λ x. truth_header) truth_octets
 unfolding header_octets identifier_octets length_octets
-boolean_writes_form = primitive_writes_form (leaf_element boolean_leaf) boolean_number truth_octets (leaf_primitive boolean_leaf boolean_lawful)
+boolean_writes_form = universal_writes_form (leaf_element boolean_leaf) boolean_number truth_octets (leaf_written boolean_leaf boolean_lawful)

@@ -4,7 +4,7 @@ use Rattle.std.proofs.Common.{◌∙◌, sym, inl, inr}
 use Rattle.x690.specs.Elements.{Parts}
 use Rattle.asn1_rs.specs.declared.error.Error.{Error}
 use Rattle.asn1_rs.specs.declared.error.Error.TheVariants.{OutOfMemory}
-use Rattle.asn1_rs.specs.Checks.{CheckGives, IsCheck, check, ◌before◌, nothing, IsPrimitive, IsCounted, HasLength, has_number, is_primitive, is_counted, has_length, has_content, content_check}
+use Rattle.asn1_rs.specs.Checks.{CheckGives, IsCheck, check, ◌before◌, nothing, IsPrimitive, IsCounted, HasLength, has_number, is_primitive, is_constructed, is_counted, has_length, has_content, content_check}
 
 -- a check whose parts do not both meet and break it, and whose refusal does not report out of memory
 pub check_is : (Meets Breaks : Parts → Type 0) (refusal : Parts → Error) → ((p : Parts) → Meets p → Breaks p → ⊥) → ((p : Parts) → OutOfMemory ≢ refusal p) → IsCheck (check Meets Breaks refusal)
@@ -39,6 +39,9 @@ has_number_is number = check_is (λ p. p.id.number ≡ number) (λ p. p.id.numbe
 
 pub is_primitive_is : IsCheck is_primitive
 is_primitive_is = check_is IsPrimitive (λ p. p.id.constructed ≡ true) _ (λ p m b. cc) (λ p e. cc)
+
+pub is_constructed_is : IsCheck is_constructed
+is_constructed_is = check_is (λ p. p.id.constructed ≡ true) IsPrimitive _ (λ p m b. cc) (λ p e. cc)
 
 pub is_counted_is : IsCheck is_counted
 is_counted_is = check_is IsCounted _ _ (λ p m b. let e = m.1 in cc) (λ p e. cc)

@@ -1,17 +1,18 @@
 -- Strict parts, and what is written.
-use Rattle.std.specs.Prelude.{◌≡◌, ℕ, ◌<◌, ◌^◌, ◌↔◌, Bool, false, List, ◌++◌, length}
+use Rattle.std.specs.Prelude.{◌≡◌, ℕ, ◌<◌, ◌^◌, ◌↔◌, Bool, List, ◌++◌, length}
 use Rattle.std.proofs.Common.{sym, ap, refl, subst, ◌∙◌, arith, length-append}
 use mathlib.Core.Logic.{∥∥₁_map}
 use Rattle.x690.specs.Octets.{IsOctets}
 use Rattle.x690.specs.Identifiers.{Identifier}
-use Rattle.x690.specs.Strict.{header_octets, element_octets}
+use Rattle.x690.specs.Strict.{element_octets}
 use Rattle.x690.specs.Elements.{IsStrictElement}
 use Rattle.x690.specs.Laws.StrictElements.{strict_element_octets, made_strict_element}
 use Rattle.asn1_rs.specs.ToDer.{IsWritable}
-use Rattle.asn1_rs.specs.Grammar.Form.{IsOneForm, IsOneValue, FitsElement, IsStrict, HasForm, UniversalForm, WritesByValue, WritesForm, header_of, universal}
+use Rattle.asn1_rs.specs.Grammar.Form.{IsOneForm, IsOneValue, FitsElement, IsStrict, HasForm, UniversalForm, WritesByValue, WritesForm, header_of}
 use Rattle.asn1_rs.specs.Grammar.{FormNumber}
 use Rattle.asn1_rs.specs.Kinds.{ElementGrammar}
-use Rattle.asn1_rs.specs.Kinds.Writing.{IsPrimitiveElement}
+use Rattle.asn1_rs.specs.Kinds.Writing.{IsWrittenElement, universal_header, universal_identifier}
+use Rattle.asn1_rs.specs.Tag.{is_container_number}
 
 module _ {V : Type 0} (constructed : Bool) (number : ℕ) (Content : V → List ℕ → Type 0) where
   pub universal_one : ((v : V) (c d : List ℕ) → Content v c → Content v d → c ≡ d) → IsOneForm (UniversalForm constructed number Content)
@@ -81,21 +82,21 @@ pub nothing_refused : NothingRefused
 nothing_refused = (λ e h. h, λ e h. h, λ e h. h)
 
 -- so what is written of such an element is lawful
-module _ {S : Type 0} (G : ElementGrammar S) (number : ℕ) (octets : S → List ℕ) (primitive : IsPrimitiveElement G number octets) where
-  pub primitive_by_value : WritesByValue G.value (λ x. false) (λ x. header_octets 0 false number (length (octets x))) octets
-  primitive_by_value = λ x y e. let s = primitive.by_value x y e in (refl, ap (λ (c : List ℕ). header_octets 0 false number (length c)) s, s)
+module _ {S : Type 0} (G : ElementGrammar S) (number : ℕ) (octets : S → List ℕ) (written : IsWrittenElement G number octets) where
+  pub universal_by_value : WritesByValue G.value (λ x. is_container_number number) (λ x. universal_header number (octets x)) octets
+  universal_by_value = λ x y e. let s = written.by_value x y e in (refl, ap (universal_header number) s, s)
 
-  pub primitive_writes_form : WritesForm G.value G.Form (λ x. NothingRefused) (λ x. false) (λ x. header_octets 0 false number (length (octets x))) octets
-  primitive_writes_form = λ x i c f.
-      let e = primitive.identifier (G.value x) i c f in
-      let s = primitive.form x i c f in
-      (nothing_refused, sym (ap (λ (z : Identifier). z.constructed) e), s, ap (λ (d : List ℕ). header_octets 0 false number (length d)) s ∙ ap (λ (z : Identifier). header_of z c) (sym e))
+  pub universal_writes_form : WritesForm G.value G.Form (λ x. NothingRefused) (λ x. is_container_number number) (λ x. universal_header number (octets x)) octets
+  universal_writes_form = λ x i c f.
+      let e = written.identifier (G.value x) i c f in
+      let s = written.form x i c f in
+      (nothing_refused, sym (ap (λ (z : Identifier). z.constructed) e), s, ap (universal_header number) s ∙ ap (λ (z : Identifier). header_of z c) (sym e))
 
-  pub primitive_has_form : HasForm G.value G.IsDer G.Form octets
-  primitive_has_form = λ x d l. ∣ (universal false number, primitive.der x d) ∣₁
+  pub universal_has_form : HasForm G.value G.IsDer G.Form octets
+  universal_has_form = λ x d l. ∣ (universal_identifier number, written.der x d) ∣₁
 
-  pub primitive_fits : number < 2 ^ 32
-  primitive_fits = let s = primitive.small in omega arith
+  pub universal_number_fits : number < 2 ^ 32
+  universal_number_fits = let s = written.small in omega arith
 
-  pub primitive_number : FormNumber G.Form number
-  primitive_number = λ v i c f. ap (λ (z : Identifier). z.number) (primitive.identifier v i c f)
+  pub universal_number : FormNumber G.Form number
+  universal_number = λ v i c f. ap (λ (z : Identifier). z.number) (written.identifier v i c f)

@@ -20,7 +20,7 @@ use Rattle.asn1_rs.specs.Traits.{OfParts}
 use Rattle.asn1_rs.specs.Grammar.Form.{IsOneForm, IsOneValue, FitsElement}
 use Rattle.asn1_rs.specs.Grammar.{TakesBody, Checks, FormChecks, FormBodies, FormTakes, made, of_class}
 use Rattle.asn1_rs.specs.Kinds.{IsLawfulElement, IsExactCheck, IsExactConversion}
-use Rattle.asn1_rs.specs.Kinds.Writing.{IsPrimitiveElement}
+use Rattle.asn1_rs.specs.Kinds.Writing.{IsWrittenElement}
 use Rattle.asn1_rs.specs.Laws.Forms.{universal_one, universal_value, universal_fits}
 use Rattle.asn1_rs.specs.Integer.{integer_number, IntegerCheck, IntegerCheckRefuses, IntegerCheckGives, IsIntegerOr, IntegerBody, IntegerRefuses, IntegerGives, IntegerContent, IntegerForm, integer_element}
 
@@ -160,8 +160,8 @@ module _ {T : Type 0} (number : T → ℤ) (octets : T → List ℕ) (strict : (
   same_octets : (x : T) (v : ℤ) (c : List ℕ) → number x ≡ v → IsIntegerContent v c → octets x ≡ c
   same_octets x v c e h = integer_content_unique v (octets x) c (subst (λ (z : ℤ). IsIntegerContent z (octets x)) e (strict x)) h
 
-  pub integer_primitive : (Holds : ℤ → Type 0) → IsPrimitiveElement (integer_element number Holds) integer_number octets
-  integer_primitive Holds = record {
+  pub integer_written : (Holds : ℤ → Type 0) → IsWrittenElement (integer_element number Holds) integer_number octets
+  integer_written Holds = record {
     by_value = λ x y e. same_octets x (number y) (octets y) e (strict y);
     identifier = λ v i c f. f.0;
     form = λ x i c f. same_octets x (number x) c refl f.1.1;

@@ -13,7 +13,7 @@ use Rattle.asn1_rs.specs.Grammar.{NoCheck, TakesBody}
 use Rattle.asn1_rs.specs.Ber.{max_depth}
 use Rattle.asn1_rs.specs.Grammar.Item.{ItemGrammar, IsLawfulItem, by_reference}
 use Rattle.asn1_rs.specs.Kinds.{ElementGrammar, IsLawfulElement, IsExactConversion, item_grammar, holding, HoldingGives}
-use Rattle.asn1_rs.specs.Kinds.Writing.{IsPrimitiveElement}
+use Rattle.asn1_rs.specs.Kinds.Writing.{IsWrittenElement}
 use Rattle.asn1_rs.specs.Laws.Readers.{der_elements, ber_elements}
 use Rattle.asn1_rs.specs.Laws.Words.{word_one, strict_ber_word, strict_der_word}
 
@@ -80,8 +80,8 @@ module _ {S T : Type 0} (held : T → S) (G : ElementGrammar S) where
       exact any (Ok x) o h = c.exact any (Ok (held x)) o h
       exact any (Err e) o h = c.exact any (Err e) o h
 
-  pub holding_primitive : (number : ℕ) (octets : S → List ℕ) → IsPrimitiveElement G number octets → IsPrimitiveElement (holding held G) number (λ x. octets (held x))
-  holding_primitive number octets l = record {
+  pub holding_written : (number : ℕ) (octets : S → List ℕ) → IsWrittenElement G number octets → IsWrittenElement (holding held G) number (λ x. octets (held x))
+  holding_written number octets l = record {
     by_value = λ x y e. l.by_value (held x) (held y) e;
     identifier = l.identifier;
     form = λ x i c f. l.form (held x) i c f;

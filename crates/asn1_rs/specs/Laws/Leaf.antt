@@ -1,4 +1,4 @@
--- A lawful leaf is a lawful element, with exact checks and an exact conversion, and is written as a primitive element.
+-- A lawful leaf is a lawful element, with exact checks and an exact conversion, and is written as one element.
 use Rattle.std.specs.Prelude.{◌≡◌, ℕ, false, List, Result, Ok, Err}
 use Rattle.std.proofs.Common.{◌∙◌, ap, sym, subst, refl, inr}
 use Rattle.x690.specs.Octets.{IsOctets}
@@ -9,9 +9,9 @@ use Rattle.asn1_rs.specs.Any.{parts_of}
 use Rattle.asn1_rs.specs.Traits.{OfParts}
 use Rattle.asn1_rs.specs.Checks.{CheckGives, IsCheck, has_number}
 use Rattle.asn1_rs.specs.Grammar.{TakesBody, Checks, made, of_class}
-use Rattle.asn1_rs.specs.Grammar.Form.{universal}
+use Rattle.asn1_rs.specs.Tag.{is_container_number}
 use Rattle.asn1_rs.specs.Kinds.{IsLawfulElement, IsExactCheck, IsExactConversion}
-use Rattle.asn1_rs.specs.Kinds.Writing.{IsPrimitiveElement}
+use Rattle.asn1_rs.specs.Kinds.Writing.{IsWrittenElement, universal_identifier}
 use Rattle.asn1_rs.specs.Leaf.{Leaf, IsLawfulLeaf, LeafBody, LeafGives, LeafContent, leaf_checks, leaf_element, leaf_parts, HasOneRefusal, HaveOneRefusal}
 use Rattle.asn1_rs.specs.Laws.Checks.{before_is, has_number_is}
 use Rattle.asn1_rs.specs.Laws.Forms.{universal_one, universal_value, universal_fits}
@@ -29,14 +29,14 @@ module _ {S : Type 0} (L : Leaf S) (l : IsLawfulLeaf L) where
   all_checks = before_is (has_number L.number) L.checks (has_number_is L.number) l.checks
 
   -- strict parts are those of the value
-  of_form : (v : L.Value) (i : Identifier) (c : List ℕ) (class : ℕ) → i ≡ universal false L.number → LeafContent L v c → made (of_class class i) c ≡ leaf_parts L class v
+  of_form : (v : L.Value) (i : Identifier) (c : List ℕ) (class : ℕ) → i ≡ universal_identifier L.number → LeafContent L v c → made (of_class class i) c ≡ leaf_parts L class v
   of_form v i c class e f = rw (e, f.1) refl
 
-  takes : (class : ℕ) (v : L.Value) (i : Identifier) (c : List ℕ) → i ≡ universal false L.number → LeafContent L v c → L.constraints (made (of_class class i) c) (Ok tt) × LeafBody L (made (of_class class i) c) v
+  takes : (class : ℕ) (v : L.Value) (i : Identifier) (c : List ℕ) → i ≡ universal_identifier L.number → LeafContent L v c → L.constraints (made (of_class class i) c) (Ok tt) × LeafBody L (made (of_class class i) c) v
   takes class v i c e f = subst (λ (p : Parts). L.constraints p (Ok tt) × LeafBody L p v) (sym (of_form v i c class e f))
       (l.der_constraints class v f.0, ((refl, l.der_checks class v f.0), l.der_says v f.0))
 
-  takes_own : (v : L.Value) (i : Identifier) (c : List ℕ) → i ≡ universal false L.number → LeafContent L v c → L.constraints (made i c) (Ok tt) × LeafBody L (made i c) v
+  takes_own : (v : L.Value) (i : Identifier) (c : List ℕ) → i ≡ universal_identifier L.number → LeafContent L v c → L.constraints (made i c) (Ok tt) × LeafBody L (made i c) v
   takes_own v i c e f = takes i.class v i c e f
 
   pub leaf_lawful : IsLawfulElement (leaf_element L)
@@ -44,9 +44,9 @@ module _ {S : Type 0} (L : Leaf S) (l : IsLawfulLeaf L) where
     body_values = λ p v o b. l.says_value p v o b.0.1 b.1;
     form_values = λ v i c f. l.der_value v f.1.0;
     body_one = λ p v w a b. l.one_value p.content v w a.1 b.1;
-    one_form = universal_one false L.number (LeafContent L) (λ v c d f g. f.1 ∙ sym g.1);
-    one_value = universal_value false L.number (LeafContent L) one;
-    form_fits = universal_fits false L.number (LeafContent L) l.small (λ v c f. subst IsOctets (sym f.1) (l.der_octets v f.0));
+    one_form = universal_one (is_container_number L.number) L.number (LeafContent L) (λ v c d f g. f.1 ∙ sym g.1);
+    one_value = universal_value (is_container_number L.number) L.number (LeafContent L) one;
+    form_fits = universal_fits (is_container_number L.number) L.number (LeafContent L) l.small (λ v c f. subst IsOctets (sym f.1) (l.der_octets v f.0));
     form_check = λ v i c f. (takes_own v i c f.0 f.1).0;
     form_der = λ v i c f. f.1.0;
     form_body = λ v i c f. (takes_own v i c f.0 f.1).1;
@@ -74,8 +74,8 @@ module _ {S : Type 0} (L : Leaf S) (l : IsLawfulLeaf L) where
         none = λ p x e g h. c.apart p e (meets p x g) (breaks p e h);
       }
 
-  pub leaf_primitive : IsPrimitiveElement (leaf_element L) L.number (λ x. L.octets (L.value x))
-  leaf_primitive = record {
+  pub leaf_written : IsWrittenElement (leaf_element L) L.number (λ x. L.octets (L.value x))
+  leaf_written = record {
     by_value = λ x y e. ap L.octets e;
     identifier = λ v i c f. f.0;
     form = λ x i c f. sym f.1.1;

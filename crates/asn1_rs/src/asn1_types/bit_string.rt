@@ -5,13 +5,13 @@ ghost use Rattle.asn1_rs.specs.Any.{parts_of};
 ghost use Rattle.asn1_rs.specs.BitString.{bit_string_number, bit_string_leaf, bit_string_constraints, bit_string_octets, data_of, bit_of, IsZeroPadded};
 ghost use Rattle.asn1_rs.specs.Leaf.{LeafGives, leaf_element};
 ghost use Rattle.asn1_rs.specs.Laws.BitString.{bit_string_lawful, bit_string_equal};
-ghost use Rattle.asn1_rs.specs.Laws.Leaf.{leaf_lawful, leaf_constraints, leaf_converts, leaf_primitive};
+ghost use Rattle.asn1_rs.specs.Laws.Leaf.{leaf_lawful, leaf_constraints, leaf_converts, leaf_written};
 ghost use Rattle.asn1_rs.specs.Traits.{OfParts};
 ghost use Rattle.asn1_rs.specs.Writer.{Wrote, MayRefuse};
 
 use crate::asn1_types::any::Any;
 use crate::error::{DerConstraint, Error, SerializeResult};
-use crate::kinds::writing::WritesPrimitive;
+use crate::kinds::writing::WritesElement;
 use crate::kinds::{ElementKind, HasKind, LawfulConversion, LawfulElement};
 use crate::laws::LawfulMember;
 use crate::tag::Tag;
@@ -167,7 +167,7 @@ impl<'a> LawfulConversion<'a> for BitString<'a> {
     ghost converts = { leaf_converts bit_string_leaf bit_string_lawful };
 }
 
-impl WritesPrimitive for BitString<'_> {
+impl WritesElement for BitString<'_> {
     ghost octets = { bit_string_octets };
 
     fn count_octets(&self) -> Result<usize, Error> {
@@ -178,7 +178,7 @@ impl WritesPrimitive for BitString<'_> {
         put_bits(self.unused_bits, self.as_bytes(), w)
     }
 
-    ghost primitive = { leaf_primitive bit_string_leaf bit_string_lawful };
+    ghost written = { leaf_written bit_string_leaf bit_string_lawful };
 }
 
 impl LawfulMember for BitString<'_> {

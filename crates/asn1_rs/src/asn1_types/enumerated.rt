@@ -6,13 +6,13 @@ ghost use Rattle.asn1_rs.specs.Checks.{is_counted};
 ghost use Rattle.asn1_rs.specs.Enumerated.{enumerated_number, enumerated_leaf};
 ghost use Rattle.asn1_rs.specs.Leaf.{LeafGives, leaf_element};
 ghost use Rattle.asn1_rs.specs.Laws.Enumerated.{enumerated_lawful, enumerated_equal};
-ghost use Rattle.asn1_rs.specs.Laws.Leaf.{leaf_lawful, leaf_constraints, leaf_converts, leaf_primitive};
+ghost use Rattle.asn1_rs.specs.Laws.Leaf.{leaf_lawful, leaf_constraints, leaf_converts, leaf_written};
 ghost use Rattle.asn1_rs.specs.Traits.{OfParts};
 
 use crate::asn1_types::any::Any;
 use crate::asn1_types::integer::put_unsigned_content;
 use crate::error::{Error, SerializeResult};
-use crate::kinds::writing::WritesPrimitive;
+use crate::kinds::writing::WritesElement;
 use crate::kinds::{ElementKind, HasKind, LawfulConversion, LawfulElement};
 use crate::laws::LawfulMember;
 use crate::tag::Tag;
@@ -105,7 +105,7 @@ impl<'a> LawfulConversion<'a> for Enumerated {
     ghost converts = { leaf_converts enumerated_leaf enumerated_lawful };
 }
 
-impl WritesPrimitive for Enumerated {
+impl WritesElement for Enumerated {
     ghost octets = { λ x. unsigned_octets x.0 };
 
     fn count_octets(&self) -> Result<usize, Error> {
@@ -116,7 +116,7 @@ impl WritesPrimitive for Enumerated {
         put_unsigned_content(u128::from(self.0), w)
     }
 
-    ghost primitive = { leaf_primitive enumerated_leaf enumerated_lawful };
+    ghost written = { leaf_written enumerated_leaf enumerated_lawful };
 }
 
 impl LawfulMember for Enumerated {

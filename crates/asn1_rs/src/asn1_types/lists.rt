@@ -58,7 +58,7 @@ where
 }
 
 /// Refuses an element that has another tag number than the list, or is primitive.
-fn assert_list(number: u32, any: &Any<'_>) -> Result<(), Error>
+pub(crate) fn assert_list(number: u32, any: &Any<'_>) -> Result<(), Error>
     ensures { IsListOr number (parts_of any.now) result }
 {
     any.header.assert_tag(Tag(number))?;

@@ -6,6 +6,7 @@ pub mod boolean;
 pub mod end_of_content;
 pub mod enumerated;
 pub mod integer;
+pub mod kept;
 pub mod lists;
 pub mod null;
 pub mod octet_string;

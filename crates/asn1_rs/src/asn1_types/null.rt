@@ -5,7 +5,7 @@ ghost use Rattle.asn1_rs.specs.Any.{parts_of};
 ghost use Rattle.asn1_rs.specs.Checks.{nothing};
 ghost use Rattle.asn1_rs.specs.Leaf.{LeafGives, leaf_element};
 ghost use Rattle.asn1_rs.specs.Null.{null_number, null_leaf, unit_leaf};
-ghost use Rattle.asn1_rs.specs.Laws.Leaf.{leaf_lawful, leaf_constraints, leaf_converts, leaf_primitive};
+ghost use Rattle.asn1_rs.specs.Laws.Leaf.{leaf_lawful, leaf_constraints, leaf_converts, leaf_written};
 ghost use Rattle.asn1_rs.specs.Laws.Null.{null_lawful, unit_lawful};
 ghost use Rattle.asn1_rs.specs.Traits.{OfParts};
 
@@ -109,7 +109,7 @@ impl WritesOctets for Null {
         &[]
     }
 
-    ghost held_are = { leaf_primitive null_leaf null_lawful };
+    ghost held_are = { leaf_written null_leaf null_lawful };
 }
 
 impl LawfulMember for Null {
@@ -172,7 +172,7 @@ impl WritesOctets for () {
         &[]
     }
 
-    ghost held_are = { leaf_primitive unit_leaf unit_lawful };
+    ghost held_are = { leaf_written unit_leaf unit_lawful };
 }
 
 impl LawfulMember for () {

@@ -4,7 +4,7 @@ ghost use Rattle.std.specs.Cow.{IsBorrowedSlice};
 ghost use Rattle.asn1_rs.specs.Any.{parts_of};
 ghost use Rattle.asn1_rs.specs.Checks.{is_primitive};
 ghost use Rattle.asn1_rs.specs.Leaf.{LeafGives, leaf_element};
-ghost use Rattle.asn1_rs.specs.Laws.Leaf.{leaf_lawful, leaf_constraints, leaf_converts, leaf_primitive};
+ghost use Rattle.asn1_rs.specs.Laws.Leaf.{leaf_lawful, leaf_constraints, leaf_converts, leaf_written};
 ghost use Rattle.asn1_rs.specs.Laws.OctetString.{octet_string_lawful, octet_string_equal, slice_lawful, slice_equal};
 ghost use Rattle.asn1_rs.specs.OctetString.{octet_string_number, octet_string_leaf, slice_leaf, octets_of, cow_of};
 ghost use Rattle.asn1_rs.specs.Traits.{OfParts};
@@ -149,7 +149,7 @@ impl WritesOctets for OctetString<'_> {
         self.as_bytes()
     }
 
-    ghost held_are = { leaf_primitive octet_string_leaf octet_string_lawful };
+    ghost held_are = { leaf_written octet_string_leaf octet_string_lawful };
 }
 
 impl LawfulMember for OctetString<'_> {
@@ -218,7 +218,7 @@ impl WritesOctets for &[u8] {
         *self
     }
 
-    ghost held_are = { leaf_primitive slice_leaf slice_lawful };
+    ghost held_are = { leaf_written slice_leaf slice_lawful };
 }
 
 impl LawfulMember for &[u8] {

@@ -1,15 +1,14 @@
-//! How types of items come by [`ToDer`] and the laws of it: by the contents octets of a primitive element, or by what
-//! they refer to.
+//! How types of items come by [`ToDer`] and the laws of it: by the contents octets of one element, or by what they
+//! refer to.
 ghost use Rattle.std.specs.Prelude.{◌≡◌, ◌++◌, ◌<◌, ◌^◌, ℕ, false, List, length, IfOk, IfErr, IsErr};
 ghost use Rattle.asn1_rs.specs.Grammar.{FormNumber, FormTakes};
 ghost use Rattle.asn1_rs.specs.Writer.{Wrote, MayRefuse};
-ghost use Rattle.x690.specs.Strict.{header_octets};
 ghost use Rattle.asn1_rs.specs.ToDer.{MayRefuseCount, Refuses, RefusesCount, Either, IsRefusedAtOnce, RefusedAtOnce, IsWritable, some_allocates};
 ghost use Rattle.asn1_rs.specs.declared.error.SerializeError.{SerializeError};
 ghost use Rattle.asn1_rs.specs.declared.error.Error.{Error};
-ghost use Rattle.asn1_rs.specs.Kinds.Writing.{Writing, primitive_writing, IsPrimitiveElement};
+ghost use Rattle.asn1_rs.specs.Kinds.Writing.{Writing, universal_header, universal_writing, IsWrittenElement};
 ghost use Rattle.asn1_rs.specs.Grammar.Form.{WritesByValue, WritesForm, HasForm};
-ghost use Rattle.asn1_rs.specs.Laws.Forms.{primitive_by_value, primitive_writes_form, primitive_has_form, primitive_number, primitive_fits};
+ghost use Rattle.asn1_rs.specs.Laws.Forms.{universal_by_value, universal_writes_form, universal_has_form, universal_number, universal_number_fits};
 
 use crate::error::{Error, SerializeResult};
 use crate::header::writing::{element_len, put_counted_header};
@@ -20,11 +19,11 @@ use crate::traits::{DynTagged, Tagged};
 use crate::writer::{DerWrite, add_written, put_all};
 use std::alloc::Global;
 
-/// A value that is written as a primitive element of the universal class: the tag number of its type, and contents
-/// octets. It does not allocate.
+/// A value that is written as one element of the universal class: the tag number of its type, and contents octets. The
+/// element is constructed exactly for the tags of sequence and set. It does not allocate.
 ///
 /// So it has [`ToDer`], [`LawfulWrite`], [`LawfulTagged`] and [`TakesClass`].
-pub trait WritesPrimitive: LawfulElement + Tagged {
+pub trait WritesElement: LawfulElement + Tagged {
     /// Its contents octets.
     ghost octets: { Self → List ℕ };
 
@@ -44,25 +43,24 @@ pub trait WritesPrimitive: LawfulElement + Tagged {
     /// A type whose contents octets are few can make one piece of header and contents octets.
     #[inline(always)]
     fn put_element<W: DerWrite>(&self, w: &mut W) -> SerializeResult<usize>
-        ensures wrote { Wrote (header_octets 0 false (Self.mark).0 (length (octets self.now))
-            ++ octets self.now) (W.told w.old) (W.told w.new) (W.failed w.old) (W.failed w.new)
-            result }
+        ensures wrote { Wrote (universal_header (Self.mark).0 (octets self.now) ++ octets self.now)
+            (W.told w.old) (W.told w.new) (W.failed w.old) (W.failed w.new) result }
         ensures refused { IfErr result (MayRefuse false
-            (length (header_octets 0 false (Self.mark).0 (length (octets self.now))
-            ++ octets self.now))) }
+            (length (universal_header (Self.mark).0 (octets self.now) ++ octets self.now))) }
     {
-        let before = put_counted_header(0, false, Self::its_tag().0, self.count_octets(), w)?;
+        let tag = Self::its_tag();
+        let before = put_counted_header(0, tag.is_container(), tag.0, self.count_octets(), w)?;
         let after = self.put_octets(w)?;
         add_written(before, after)
     }
 
     /// They follow from the value, and are its strict content where it has one; another class changes nothing.
-    ghost primitive: { IsPrimitiveElement Self.element (Self.mark).0 octets };
+    ghost written: { IsWrittenElement Self.element (Self.mark).0 octets };
 }
 
-/// A value that holds its contents octets, and is written as a primitive element of them.
+/// A value that holds its contents octets, and is written as one element of them.
 ///
-/// So it has [`WritesPrimitive`].
+/// So it has [`WritesElement`].
 pub trait WritesOctets: LawfulElement + Tagged {
     /// The octets that it holds.
     ghost held: { Self → List ℕ };
@@ -72,10 +70,10 @@ pub trait WritesOctets: LawfulElement + Tagged {
         ensures { result.now ≡ held self.now };
 
     /// They follow from the value, and are its strict content where it has one; another class changes nothing.
-    ghost held_are: { IsPrimitiveElement Self.element (Self.mark).0 held };
+    ghost held_are: { IsWrittenElement Self.element (Self.mark).0 held };
 }
 
-impl<T: WritesOctets> WritesPrimitive for T {
+impl<T: WritesOctets> WritesElement for T {
     ghost octets = { T.held };
 
     fn count_octets(&self) -> Result<usize, Error> {
@@ -86,7 +84,7 @@ impl<T: WritesOctets> WritesPrimitive for T {
         put_all(w, self.contents_octets())
     }
 
-    ghost primitive = { T.held_are };
+    ghost written = { T.held_are };
 }
 
 /// The calls of [`ToDer`], for a type of this kind.
@@ -189,8 +187,8 @@ pub trait ToDerBy<K>: DynTagged {
     }
 }
 
-impl<T: WritesPrimitive> ToDerBy<ElementKind> for T {
-    ghost writing = { primitive_writing (T.mark).0 T.octets };
+impl<T: WritesElement> ToDerBy<ElementKind> for T {
+    ghost writing = { universal_writing (T.mark).0 T.octets };
 
     fn element_count(&self) -> Result<usize, Error> {
         element_len(T::its_tag().0, self.count_octets())
@@ -201,12 +199,13 @@ impl<T: WritesPrimitive> ToDerBy<ElementKind> for T {
     }
 
     fn is_constructed(&self) -> bool {
-        false
+        T::its_tag().is_container()
     }
 
     #[inline(always)]
     fn put_header<W: DerWrite>(&self, _alloc: Global, w: &mut W) -> SerializeResult<usize> {
-        put_counted_header(0, false, T::its_tag().0, self.count_octets(), w)
+        let tag = T::its_tag();
+        put_counted_header(0, tag.is_container(), tag.0, self.count_octets(), w)
     }
 
     #[inline(always)]
@@ -332,14 +331,14 @@ pub trait LawfulWriteBy<K>: ToDer + LawfulItem {
         Self.content };
 }
 
-impl<T: WritesPrimitive> LawfulWriteBy<ElementKind> for T {
+impl<T: WritesElement> LawfulWriteBy<ElementKind> for T {
     ghost tells_each = { λ x. tt };
 
-    ghost written_by_value = { primitive_by_value T.element (T.mark).0 T.octets T.primitive };
+    ghost written_by_value = { universal_by_value T.element (T.mark).0 T.octets T.written };
 
-    ghost written_form = { primitive_writes_form T.element (T.mark).0 T.octets T.primitive };
+    ghost written_form = { universal_writes_form T.element (T.mark).0 T.octets T.written };
 
-    ghost written_der = { primitive_has_form T.element (T.mark).0 T.octets T.primitive };
+    ghost written_der = { universal_has_form T.element (T.mark).0 T.octets T.written };
 }
 
 impl<T: LawfulWrite + Tagged> LawfulWriteBy<ReferenceKind> for &T {
@@ -371,10 +370,10 @@ pub trait LawfulTaggedBy<K>: LawfulItem + Tagged {
     ghost number_is_small: { (Self.mark).0 < 2 ^ 32 };
 }
 
-impl<T: WritesPrimitive> LawfulTaggedBy<ElementKind> for T {
-    ghost number_by_kind = { primitive_number T.element (T.mark).0 T.octets T.primitive };
+impl<T: WritesElement> LawfulTaggedBy<ElementKind> for T {
+    ghost number_by_kind = { universal_number T.element (T.mark).0 T.octets T.written };
 
-    ghost number_is_small = { primitive_fits T.element (T.mark).0 T.octets T.primitive };
+    ghost number_is_small = { universal_number_fits T.element (T.mark).0 T.octets T.written };
 }
 
 impl<T: LawfulTagged> LawfulTaggedBy<ReferenceKind> for &T {
@@ -395,8 +394,8 @@ pub trait TakesClassBy<K, const C: u8>: LawfulTagged {
     ghost takes_this_class: { FormTakes Self.grammar.Form Self.grammar.Check Self.grammar.Body C };
 }
 
-impl<T: WritesPrimitive, const C: u8> TakesClassBy<ElementKind, C> for T {
-    ghost takes_this_class = { T.primitive.class C };
+impl<T: WritesElement, const C: u8> TakesClassBy<ElementKind, C> for T {
+    ghost takes_this_class = { T.written.class C };
 }
 
 impl<T: TakesClass<C>, const C: u8> TakesClassBy<ReferenceKind, C> for &T {

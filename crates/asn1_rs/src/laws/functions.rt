@@ -23,6 +23,7 @@ ghost use Rattle.asn1_rs.specs.Boolean.{boolean_leaf, bool_leaf};
 ghost use Rattle.asn1_rs.specs.Null.{null_leaf, unit_leaf};
 ghost use Rattle.asn1_rs.specs.Enumerated.{enumerated_leaf};
 ghost use Rattle.asn1_rs.specs.Integer.Octets.{any_integer_leaf};
+ghost use Rattle.asn1_rs.specs.Kept.{sequence_leaf, set_leaf};
 ghost use Rattle.asn1_rs.specs.EndOfContent.{end_leaf};
 ghost use Rattle.asn1_rs.specs.OctetString.{octet_string_leaf, slice_leaf};
 ghost use Rattle.asn1_rs.specs.BitString.{bit_string_leaf};
@@ -152,4 +153,6 @@ pub fn leaves_have_one_refusal()
     ensures bit_string { HaveOneRefusal bit_string_leaf }
     ensures enumerated { HaveOneRefusal enumerated_leaf }
     ensures integer { HaveOneRefusal any_integer_leaf }
+    ensures sequence { HaveOneRefusal sequence_leaf }
+    ensures set { HaveOneRefusal set_leaf }
 {}

@@ -7,13 +7,13 @@ ghost use Rattle.asn1_rs.specs.Any.{parts_of};
 ghost use Rattle.asn1_rs.specs.Boolean.{boolean_number, boolean_leaf, bool_leaf, says_true, truth_octet, truth_constraints};
 ghost use Rattle.asn1_rs.specs.Leaf.{LeafGives, leaf_element};
 ghost use Rattle.asn1_rs.specs.Laws.Boolean.{boolean_lawful, bool_lawful, boolean_equal, bool_equal};
-ghost use Rattle.asn1_rs.specs.Laws.Leaf.{leaf_lawful, leaf_constraints, leaf_converts, leaf_primitive};
+ghost use Rattle.asn1_rs.specs.Laws.Leaf.{leaf_lawful, leaf_constraints, leaf_converts, leaf_written};
 ghost use Rattle.asn1_rs.specs.Traits.{OfParts};
 ghost use Rattle.asn1_rs.specs.Writer.{Wrote, MayRefuse};
 
 use crate::asn1_types::any::Any;
 use crate::error::{DerConstraint, Error, SerializeResult};
-use crate::kinds::writing::WritesPrimitive;
+use crate::kinds::writing::WritesElement;
 use crate::kinds::{ElementKind, HasKind, LawfulConversion, LawfulElement};
 use crate::laws::LawfulMember;
 use crate::tag::Tag;
@@ -164,7 +164,7 @@ impl<'a> LawfulConversion<'a> for bool {
     ghost converts = { leaf_converts bool_leaf bool_lawful };
 }
 
-impl WritesPrimitive for bool {
+impl WritesElement for bool {
     ghost octets = { λ b. truth_octet b ∷ [] };
 
     fn count_octets(&self) -> Result<usize, Error> {
@@ -175,7 +175,7 @@ impl WritesPrimitive for bool {
         put_truth(*self, w)
     }
 
-    ghost primitive = { leaf_primitive bool_leaf bool_lawful };
+    ghost written = { leaf_written bool_leaf bool_lawful };
 }
 
 impl LawfulMember for bool {

@@ -5,8 +5,8 @@ ghost use Rattle.asn1_rs.specs.Boolean.{boolean_number, boolean_leaf, truth_octe
 ghost use Rattle.asn1_rs.specs.Error.{tells_of_io};
 ghost use Rattle.asn1_rs.specs.Leaf.{leaf_element};
 ghost use Rattle.asn1_rs.specs.Laws.Boolean.{boolean_lawful, boolean_by_value, boolean_writes_form};
-ghost use Rattle.asn1_rs.specs.Laws.Forms.{primitive_has_form, primitive_number, primitive_fits};
-ghost use Rattle.asn1_rs.specs.Laws.Leaf.{leaf_primitive};
+ghost use Rattle.asn1_rs.specs.Laws.Forms.{universal_has_form, universal_number, universal_number_fits};
+ghost use Rattle.asn1_rs.specs.Laws.Leaf.{leaf_written};
 ghost use Rattle.asn1_rs.specs.ToDer.{Refuses, VectorRefuses, Either};
 ghost use Rattle.asn1_rs.specs.Writer.{Wrote, MayRefuse};
 
@@ -100,18 +100,18 @@ impl LawfulWrite for Boolean {
 
     ghost form = { boolean_writes_form };
 
-    ghost der_form = { primitive_has_form (leaf_element boolean_leaf) boolean_number truth_octets
-        (leaf_primitive boolean_leaf boolean_lawful) };
+    ghost der_form = { universal_has_form (leaf_element boolean_leaf) boolean_number truth_octets
+        (leaf_written boolean_leaf boolean_lawful) };
 }
 
 impl LawfulTagged for Boolean {
-    ghost tag_number = { primitive_number (leaf_element boolean_leaf) boolean_number truth_octets
-        (leaf_primitive boolean_leaf boolean_lawful) };
+    ghost tag_number = { universal_number (leaf_element boolean_leaf) boolean_number truth_octets
+        (leaf_written boolean_leaf boolean_lawful) };
 
-    ghost number_fits = { primitive_fits (leaf_element boolean_leaf) boolean_number truth_octets
-        (leaf_primitive boolean_leaf boolean_lawful) };
+    ghost number_fits = { universal_number_fits (leaf_element boolean_leaf) boolean_number truth_octets
+        (leaf_written boolean_leaf boolean_lawful) };
 }
 
 impl<const C: u8> TakesClass<C> for Boolean {
-    ghost takes_class = { (leaf_primitive boolean_leaf boolean_lawful).class C };
+    ghost takes_class = { (leaf_written boolean_leaf boolean_lawful).class C };
 }

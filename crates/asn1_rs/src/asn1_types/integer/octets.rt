@@ -8,7 +8,7 @@ ghost use Rattle.asn1_rs.specs.Integer.Machine.{GivesBack};
 ghost use Rattle.asn1_rs.specs.Integer.Octets.{integer_octets, any_integer_leaf, BorrowsOctets, HoldsOr};
 ghost use Rattle.asn1_rs.specs.Leaf.{LeafGives, leaf_element};
 ghost use Rattle.asn1_rs.specs.Laws.Integer.Octets.{any_integer_lawful, octets_equal};
-ghost use Rattle.asn1_rs.specs.Laws.Leaf.{leaf_lawful, leaf_constraints, leaf_converts, leaf_primitive};
+ghost use Rattle.asn1_rs.specs.Laws.Leaf.{leaf_lawful, leaf_constraints, leaf_converts, leaf_written};
 ghost use Rattle.asn1_rs.specs.Traits.{OfParts};
 ghost use Rattle.asn1_rs.specs.declared.class.Class.TheVariants as classes;
 ghost use Rattle.asn1_rs.specs.declared.length.Length.TheVariants as forms;
@@ -178,7 +178,7 @@ impl WritesOctets for Integer<'_> {
         self.as_bytes()
     }
 
-    ghost held_are = { leaf_primitive any_integer_leaf any_integer_lawful };
+    ghost held_are = { leaf_written any_integer_leaf any_integer_lawful };
 }
 
 impl LawfulMember for Integer<'_> {

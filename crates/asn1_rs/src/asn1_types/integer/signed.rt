@@ -3,13 +3,13 @@ ghost use Rattle.x690.specs.Signed.{IsSigned, signed_octets};
 ghost use Rattle.x690.specs.Laws.Signed.{signed_octets_content};
 ghost use Rattle.asn1_rs.specs.Traits.{OfParts};
 ghost use Rattle.asn1_rs.specs.Integer.{integer_number, integer_element, IntegerCheckGives, SignedGives};
-ghost use Rattle.asn1_rs.specs.Laws.Integer.{integer_checks, integer_lawful, integer_primitive};
+ghost use Rattle.asn1_rs.specs.Laws.Integer.{integer_checks, integer_lawful, integer_written};
 ghost use Rattle.asn1_rs.specs.Laws.Integer.Signed.{signed_converts, signed_equal};
 
 use crate::asn1_types::any::Any;
 use crate::asn1_types::integer::{check_integer, put_signed_content, put_signed_element};
 use crate::error::{Error, SerializeResult};
-use crate::kinds::writing::WritesPrimitive;
+use crate::kinds::writing::WritesElement;
 use crate::kinds::{ElementKind, HasKind, LawfulConversion, LawfulElement};
 use crate::laws::LawfulMember;
 use crate::tag::Tag;
@@ -64,7 +64,7 @@ impl<'a> LawfulConversion<'a> for i8 {
     ghost converts = { signed_converts 1 };
 }
 
-impl WritesPrimitive for i8 {
+impl WritesElement for i8 {
     ghost octets = { signed_octets };
 
     fn count_octets(&self) -> Result<usize, Error> {
@@ -80,7 +80,7 @@ impl WritesPrimitive for i8 {
         put_signed_element(i64::from(*self), w)
     }
 
-    ghost primitive = { integer_primitive (λ n. n) signed_octets signed_octets_content
+    ghost written = { integer_written (λ n. n) signed_octets signed_octets_content
         (IsSigned 1) };
 }
 
@@ -134,7 +134,7 @@ impl<'a> LawfulConversion<'a> for i16 {
     ghost converts = { signed_converts 2 };
 }
 
-impl WritesPrimitive for i16 {
+impl WritesElement for i16 {
     ghost octets = { signed_octets };
 
     fn count_octets(&self) -> Result<usize, Error> {
@@ -150,7 +150,7 @@ impl WritesPrimitive for i16 {
         put_signed_element(i64::from(*self), w)
     }
 
-    ghost primitive = { integer_primitive (λ n. n) signed_octets signed_octets_content
+    ghost written = { integer_written (λ n. n) signed_octets signed_octets_content
         (IsSigned 2) };
 }
 
@@ -204,7 +204,7 @@ impl<'a> LawfulConversion<'a> for i32 {
     ghost converts = { signed_converts 4 };
 }
 
-impl WritesPrimitive for i32 {
+impl WritesElement for i32 {
     ghost octets = { signed_octets };
 
     fn count_octets(&self) -> Result<usize, Error> {
@@ -220,7 +220,7 @@ impl WritesPrimitive for i32 {
         put_signed_element(i64::from(*self), w)
     }
 
-    ghost primitive = { integer_primitive (λ n. n) signed_octets signed_octets_content
+    ghost written = { integer_written (λ n. n) signed_octets signed_octets_content
         (IsSigned 4) };
 }
 
@@ -274,7 +274,7 @@ impl<'a> LawfulConversion<'a> for i64 {
     ghost converts = { signed_converts 8 };
 }
 
-impl WritesPrimitive for i64 {
+impl WritesElement for i64 {
     ghost octets = { signed_octets };
 
     fn count_octets(&self) -> Result<usize, Error> {
@@ -290,7 +290,7 @@ impl WritesPrimitive for i64 {
         put_signed_element(*self, w)
     }
 
-    ghost primitive = { integer_primitive (λ n. n) signed_octets signed_octets_content
+    ghost written = { integer_written (λ n. n) signed_octets signed_octets_content
         (IsSigned 8) };
 }
 
@@ -344,7 +344,7 @@ impl<'a> LawfulConversion<'a> for i128 {
     ghost converts = { signed_converts 16 };
 }
 
-impl WritesPrimitive for i128 {
+impl WritesElement for i128 {
     ghost octets = { signed_octets };
 
     fn count_octets(&self) -> Result<usize, Error> {
@@ -355,7 +355,7 @@ impl WritesPrimitive for i128 {
         put_signed_content(i128::from(*self), w)
     }
 
-    ghost primitive = { integer_primitive (λ n. n) signed_octets signed_octets_content
+    ghost written = { integer_written (λ n. n) signed_octets signed_octets_content
         (IsSigned 16) };
 }
 

@@ -4,13 +4,13 @@ ghost use Rattle.x690.specs.Integers.{unsigned_octets};
 ghost use Rattle.x690.specs.Laws.Integers.Unsigned.{unsigned_octets_content};
 ghost use Rattle.asn1_rs.specs.Traits.{OfParts};
 ghost use Rattle.asn1_rs.specs.Integer.{integer_number, integer_element, IntegerCheckGives, IsUnsigned, UnsignedGives};
-ghost use Rattle.asn1_rs.specs.Laws.Integer.{integer_checks, integer_lawful, integer_primitive};
+ghost use Rattle.asn1_rs.specs.Laws.Integer.{integer_checks, integer_lawful, integer_written};
 ghost use Rattle.asn1_rs.specs.Laws.Integer.Unsigned.{unsigned_converts, unsigned_equal};
 
 use crate::asn1_types::any::Any;
 use crate::asn1_types::integer::{check_integer, put_unsigned_content, put_unsigned_element};
 use crate::error::{Error, SerializeResult};
-use crate::kinds::writing::WritesPrimitive;
+use crate::kinds::writing::WritesElement;
 use crate::kinds::{ElementKind, HasKind, LawfulConversion, LawfulElement};
 use crate::laws::LawfulMember;
 use crate::tag::Tag;
@@ -65,7 +65,7 @@ impl<'a> LawfulConversion<'a> for u8 {
     ghost converts = { unsigned_converts 1 };
 }
 
-impl WritesPrimitive for u8 {
+impl WritesElement for u8 {
     ghost octets = { unsigned_octets };
 
     fn count_octets(&self) -> Result<usize, Error> {
@@ -81,7 +81,7 @@ impl WritesPrimitive for u8 {
         put_unsigned_element(u32::from(*self), w)
     }
 
-    ghost primitive = { integer_primitive pos unsigned_octets unsigned_octets_content
+    ghost written = { integer_written pos unsigned_octets unsigned_octets_content
         (IsUnsigned 1) };
 }
 
@@ -135,7 +135,7 @@ impl<'a> LawfulConversion<'a> for u16 {
     ghost converts = { unsigned_converts 2 };
 }
 
-impl WritesPrimitive for u16 {
+impl WritesElement for u16 {
     ghost octets = { unsigned_octets };
 
     fn count_octets(&self) -> Result<usize, Error> {
@@ -151,7 +151,7 @@ impl WritesPrimitive for u16 {
         put_unsigned_element(u32::from(*self), w)
     }
 
-    ghost primitive = { integer_primitive pos unsigned_octets unsigned_octets_content
+    ghost written = { integer_written pos unsigned_octets unsigned_octets_content
         (IsUnsigned 2) };
 }
 
@@ -205,7 +205,7 @@ impl<'a> LawfulConversion<'a> for u32 {
     ghost converts = { unsigned_converts 4 };
 }
 
-impl WritesPrimitive for u32 {
+impl WritesElement for u32 {
     ghost octets = { unsigned_octets };
 
     fn count_octets(&self) -> Result<usize, Error> {
@@ -221,7 +221,7 @@ impl WritesPrimitive for u32 {
         put_unsigned_element(*self, w)
     }
 
-    ghost primitive = { integer_primitive pos unsigned_octets unsigned_octets_content
+    ghost written = { integer_written pos unsigned_octets unsigned_octets_content
         (IsUnsigned 4) };
 }
 
@@ -275,7 +275,7 @@ impl<'a> LawfulConversion<'a> for u64 {
     ghost converts = { unsigned_converts 8 };
 }
 
-impl WritesPrimitive for u64 {
+impl WritesElement for u64 {
     ghost octets = { unsigned_octets };
 
     fn count_octets(&self) -> Result<usize, Error> {
@@ -286,7 +286,7 @@ impl WritesPrimitive for u64 {
         put_unsigned_content(u128::from(*self), w)
     }
 
-    ghost primitive = { integer_primitive pos unsigned_octets unsigned_octets_content
+    ghost written = { integer_written pos unsigned_octets unsigned_octets_content
         (IsUnsigned 8) };
 }
 
@@ -340,7 +340,7 @@ impl<'a> LawfulConversion<'a> for u128 {
     ghost converts = { unsigned_converts 16 };
 }
 
-impl WritesPrimitive for u128 {
+impl WritesElement for u128 {
     ghost octets = { unsigned_octets };
 
     fn count_octets(&self) -> Result<usize, Error> {
@@ -351,7 +351,7 @@ impl WritesPrimitive for u128 {
         put_unsigned_content(u128::from(*self), w)
     }
 
-    ghost primitive = { integer_primitive pos unsigned_octets unsigned_octets_content
+    ghost written = { integer_written pos unsigned_octets unsigned_octets_content
         (IsUnsigned 16) };
 }
 

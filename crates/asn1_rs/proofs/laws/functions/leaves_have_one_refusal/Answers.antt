@@ -3,6 +3,7 @@ use Rattle.asn1_rs.specs.Laws.Boolean.{boolean_lawful, bool_lawful}
 use Rattle.asn1_rs.specs.Laws.EndOfContent.{end_lawful}
 use Rattle.asn1_rs.specs.Laws.Enumerated.{enumerated_lawful}
 use Rattle.asn1_rs.specs.Laws.Integer.Octets.{any_integer_lawful}
+use Rattle.asn1_rs.specs.Laws.Kept.{sequence_lawful, set_lawful}
 use Rattle.asn1_rs.specs.Laws.Leaf.{leaf_one_refusal}
 use Rattle.asn1_rs.specs.Laws.Null.{null_lawful, unit_lawful}
 use Rattle.asn1_rs.specs.Laws.OctetString.{octet_string_lawful, slice_lawful}
@@ -20,4 +21,6 @@ returns c = record {
   bit_string = leaf_one_refusal _ bit_string_lawful;
   enumerated = leaf_one_refusal _ enumerated_lawful;
   integer = leaf_one_refusal _ any_integer_lawful;
+  sequence = leaf_one_refusal _ sequence_lawful;
+  set = leaf_one_refusal _ set_lawful;
 }

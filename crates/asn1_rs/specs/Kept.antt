@@ -1,0 +1,98 @@
+-- Sequences and sets that are kept as their contents octets, and what their calls answer.
+use Rattle.std.specs.Prelude.{◌≡◌, ◌⊎◌, ℕ, false, List, [], ◌∷◌, length, Result, Ok, Err, IfOk, Option, ◌++◌}
+use Rattle.std.specs.Borrow.{Bor}
+use Rattle.std.specs.Cow.{cow_slice_items, IsBorrowedSlice}
+use Rattle.std.specs.Iterator.{Yields, Drains}
+use Rattle.std.specs.List.{All, AllZip, flat_map}
+use Rattle.std.specs.declared.alloc.Global.{Global}
+use Rattle.std.specs.declared.borrow.CowSlice.{CowSlice}
+use Rattle.std.specs.declared.borrow.CowSlice.TheVariants as held
+use Rattle.x690.specs.Elements.{Parts}
+use Rattle.x690.specs.Faults.{Fault}
+use Rattle.asn1_rs.specs.declared.asn1_types.kept.sequence.Sequence.{Sequence}
+use Rattle.asn1_rs.specs.declared.asn1_types.kept.set.Set.{Set}
+use Rattle.asn1_rs.specs.declared.asn1_types.any.Any.{Any}
+use Rattle.asn1_rs.specs.declared.error.Error.{Error}
+use Rattle.asn1_rs.specs.declared.error.SerializeError.{SerializeError}
+use Rattle.asn1_rs.specs.declared.error.Err.{Err as Refusal}
+use Rattle.asn1_rs.specs.declared.error.Err.TheVariants.{Error as refused}
+use Rattle.asn1_rs.specs.Answers.{Front}
+use Rattle.asn1_rs.specs.Checks.{nothing, is_constructed}
+use Rattle.asn1_rs.specs.Error.{Converted, tells_of_io}
+use Rattle.asn1_rs.specs.Any.{parts_of}
+use Rattle.asn1_rs.specs.Leaf.{Leaf, LeafGives}
+use Rattle.asn1_rs.specs.Lists.{IsListOr, ItemsGive}
+use Rattle.asn1_rs.specs.OctetString.{contents_leaf}
+use Rattle.asn1_rs.specs.ToDer.{HasNone, VectorRefuses}
+
+abbrev pub sequence_number : ℕ
+sequence_number = 16
+
+abbrev pub set_number : ℕ
+set_number = 17
+
+-- the contents octets, borrowed or owned
+abbrev pub sequence_octets : Sequence → List ℕ
+sequence_octets x = cow_slice_items x.content
+
+abbrev pub set_octets : Set → List ℕ
+set_octets x = cow_slice_items x.content
+
+-- An element with the tag number whose value is its contents octets, as they stand: it is constructed (8.9.1, 8.11.1), and
+-- DER asks no more of it.
+abbrev pub kept_leaf : {S : Type 0} → ℕ → (S → List ℕ) → Leaf S
+kept_leaf number octets = contents_leaf number octets is_constructed nothing
+
+abbrev pub sequence_leaf : Leaf Sequence
+sequence_leaf = kept_leaf sequence_number sequence_octets
+
+abbrev pub set_leaf : Leaf Set
+set_leaf = kept_leaf set_number set_octets
+
+-- what the conversion of an element may answer: what holds its contents octets borrowed, or the refusal of the first check
+abbrev pub LendsContent : {S : Type 0} → Leaf S → (S → CowSlice ℕ Global) → Any → Result S Error → Type 0
+LendsContent L content any answer = LeafGives L (parts_of any) answer × IfOk answer (λ x. IsBorrowedSlice (content x))
+
+-- borrowed octets are handed on; owned ones, from which nothing could be lent that outlives them, are refused
+abbrev pub OnLent : {R : Type 0} → (List ℕ → R → Type 0) → (R → Type 0) → CowSlice ℕ Global → R → Type 0
+OnLent lent owned (held.Borrowed r) result = lent r.now result
+OnLent lent owned (held.Owned v) result = owned result
+
+-- the answer is that refusal, by its conversion
+abbrev pub IsRefused : {T E : Type 0} → (Error → E → Type 0) → Error → Result T (Refusal E) → Type 0
+IsRefused {T} {E} from error result = (e : E) × from error e × (result ≡ Err (refused e))
+
+abbrev pub IsErrorOf : {T E : Type 0} → (Error → E → Type 0) → Error → Result T E → Type 0
+IsErrorOf {T} {E} from error result = (e : E) × from error e × (result ≡ Err e)
+
+-- What looking at the tag number of an element and then at its constructed bit, and handing its contents octets to a reader, may
+-- answer. The rest is the element's.
+abbrev pub HandsListOn : {T E : Type 0} → ℕ → (Error → E → Type 0) → (List ℕ → Result (Bor (List ℕ) × T) (Refusal E) → Type 0) → Parts → List ℕ → Result (List ℕ × T) (Refusal E) → Type 0
+HandsListOn number from reads p rest (Ok x) = IsListOr number p (Ok tt) × (x.0 ≡ rest) × ((left : Bor (List ℕ)) × reads p.content (Ok (left, x.1)))
+HandsListOn {T} {E} number from reads p rest (Err r) =
+    ((refusal : Error) × IsListOr number p (Err refusal) × ((e : E) × from refusal e × (r ≡ refused e))) ⊎
+    (IsListOr number p (Ok tt) × reads p.content (Err r))
+
+-- what reading an element and then that may answer: a refusal is that of the element's first fault, or that of what follows
+abbrev pub ListThenGives : {T E : Type 0} → (List ℕ → Parts → Type 0) → (List ℕ → Fault → Type 0) → (Fault → Refusal Error) → ℕ → (Error → E → Type 0) → (List ℕ → Result (Bor (List ℕ) × T) (Refusal E) → Type 0) → List ℕ → Result (List ℕ × T) (Refusal E) → Type 0
+ListThenGives ElementOf FaultOf refusal number from reads input (Ok x) =
+    (p : Parts) × (rest : List ℕ) × Front ElementOf input p rest × HandsListOn number from reads p rest (Ok x)
+ListThenGives ElementOf FaultOf refusal number from reads input (Err r) =
+    ((fault : Fault) × FaultOf input fault × Converted from (refusal fault) r) ⊎ ((p : Parts) × (rest : List ℕ) × Front ElementOf input p rest × HandsListOn number from reads p rest (Err r))
+
+-- copies of the items in contents octets: of all of them, in order; or the refusal of an item, or out of memory
+abbrev pub CopiesGive : {T W E : Type 0} → (T → W → Type 0) → (List ℕ → Result (List ℕ × T) (Refusal E) → Type 0) → (Error → E → Type 0) → List ℕ → Result (List W) E → Type 0
+CopiesGive {T} copies reads from content (Ok ys) = (xs : List T) × ItemsGive reads from content (Ok xs) × AllZip copies xs ys
+CopiesGive copies reads from content (Err e) = ItemsGive reads from content (Err e)
+
+-- The octets of the items that an iterator gives, joined in their order, where none is refused; or the refusal of the last that it
+-- gave, or out of memory, or a length past memory.
+abbrev pub JoinsGiven : {I T : Type 0} → (I → Option T → I → Type 0) → (T → Type 0) → (T → List ℕ) → (T → SerializeError → Type 0) → I → Result (List ℕ) SerializeError → Type 0
+JoinsGiven {I} {T} steps tells octets refuses it (Ok content) = (items : List T) × Drains steps it items × (All tells items → (content ≡ flat_map octets items) × All (λ x. HasNone (refuses x)) items)
+JoinsGiven {I} {T} steps tells octets refuses it (Err e) = (items : List T) × (item : T) × (rest : I) × Yields steps it (items ++ item ∷ []) rest × (tells_of_io e ≡ false) ×
+    (All tells (items ++ item ∷ []) → VectorRefuses (length (flat_map octets (items ++ item ∷ []))) (refuses item) e)
+
+-- the contents octets of what was made
+abbrev pub content_octets : {S E : Type 0} → (S → List ℕ) → Result S E → Result (List ℕ) E
+content_octets octets (Ok x) = Ok (octets x)
+content_octets octets (Err e) = Err e
