@@ -404,7 +404,7 @@ module _ {S V : Type 0} (value : S → V) (IsDer : V → Type 0) (Form : V → I
       ∥∥₁_elim (strict x (All-head IsDer (value x) (map value xs) a) (omega (arith, both, l))) ∥∥₁_prop (λ s.
       ∥∥₁_map (zip_written xs (All-tail IsDer (value x) (map value xs) a) (omega (arith, both, l))) (λ z. (s, z)))
 
-joined_flat : {S : Type 0} (octets : S → List ℕ) (xs : List S) → joining (map octets xs) ≡ flat_map octets xs
+pub joined_flat : {S : Type 0} (octets : S → List ℕ) (xs : List S) → joining (map octets xs) ≡ flat_map octets xs
 joined_flat octets [] = refl
 joined_flat octets (x ∷ xs) = flat_map-cons (λ o. o) (octets x) (map octets xs) ∙ ap (λ r. octets x ++ r) (joined_flat octets xs) ∙ sym (flat_map-cons octets x xs)
 

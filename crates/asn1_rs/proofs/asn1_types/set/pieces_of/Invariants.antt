@@ -1,0 +1,6 @@
+use Rattle.std.proofs.Common.{◌≡◌, ℕ, List, map, take, drop}
+use Rattle.asn1_rs.specs.Lists.{AreEncodings, joining}
+use Rattle.asn1_rs.proofs.asn1_types.set.pieces_of.Given as goal
+
+abbrev pub invariant-loop-length : goal.invariant-loop-length
+invariant-loop-length l = (strings : List (List ℕ)) → AreEncodings strings l.encodings → (map (λ s. s.now) l.pieces.items ≡ take l.length-index strings) × (l.rest ≡ joining (drop l.length-index strings))
