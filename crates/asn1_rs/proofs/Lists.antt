@@ -86,7 +86,7 @@ module _ {X : Type 0} (f : X → List ℕ) (xs : List X) (i : ℕ) (x : X) (h : 
   pub MayRefuseCount_item_sum : {n m : ℕ} (e : Error) (takes : Bool) → n ≡ length (flat_map f (take i xs)) → m ≡ length (f x) → SumsCounts n m (Err e) → MayRefuseCount takes (length (flat_map f xs)) e
   MayRefuseCount_item_sum e takes p q s = rw s.0 (let l = item_le in omega (arith, s.1))
 
-  item_next : flat_map f (take (i + 1) xs) ≡ flat_map f (take i xs) ++ f x
+  pub item_next : flat_map f (take (i + 1) xs) ≡ flat_map f (take i xs) ++ f x
   item_next = ap (λ ys. flat_map f ys) (take_more xs i x h) ∙ flat_map-append f (take i xs) (get_or xs i x ∷ [])
       ∙ ap (λ (z : List ℕ). flat_map f (take i xs) ++ z) (flat_map-cons f (get_or xs i x) [] ∙ append-nil (f (get_or xs i x)) ∙ ap f (sym at))
 

@@ -3,7 +3,11 @@ use Rattle.std.specs.Prelude.{◌≡◌, ℕ, ◌+◌, ◌<◌, List, [], ◌∷
 use Rattle.std.specs.List.Sorted.{IsSortedBy, IsPermutation}
 use Rattle.std.specs.Ordering.{nat_cmp, is_lt}
 use Rattle.std.specs.Cmp.Lexicographic.{slice_cmp}
-use Rattle.std.proofs.Common.{refl, ap, subst, arith, get_or, zero, suc, ◌++◌, length-append}
+use Rattle.std.proofs.Common.{refl, ap, ◌∙◌, subst, arith, get_or, take, drop, zero, suc, ◌++◌, length-append}
+use Rattle.std.specs.Prelude.{min}
+use Rattle.std.specs.List.{concat}
+use Rattle.std.proofs.Math.Nat.{min-eq_left}
+use Rattle.std.proofs.lemmas.List.{take_at, drop_at, drop_more}
 use Rattle.std.proofs.lemmas.List.Sorted.{IsPermutation-map}
 use Rattle.x690.specs.Ascending.{Ascending, arranged}
 use Rattle.x690.specs.Laws.Ascending.Arranged.{only_arranged}
@@ -36,3 +40,20 @@ got_at (y ∷ ys) (suc i) x h e = got_at ys i x (omega (arith, h)) e
 pub if_ok : {W E : Type 0} {P Q : W → Type 0} (r : Result W E) → ((w : W) → P w → Q w) → IfOk r P → IfOk r Q
 if_ok (Ok w) f h = f w h
 if_ok (Err e) f h = h
+
+pub length_at : (strings : List (List ℕ)) (lengths : List ℕ) (i : ℕ) → lengths ≡ map length strings → i < length lengths → (i < length strings) × (get_or lengths i 0 ≡ length (get_or strings i []))
+length_at strings lengths i e lt = let k : i < length strings = subst (λ n. i < n) (ap length e ∙ length-map length strings) lt in (k, ap (λ ls. get_or ls i 0) e ∙ get_or-map_in length strings i 0 [] k)
+
+-- a piece at the front of strings that are joined, and what is left behind it
+module _ (strings : List (List ℕ)) (i : ℕ) (lt : i < length strings) (rest : List ℕ) (left : rest ≡ concat (drop i strings)) (cut : ℕ) (is : cut ≡ min (length (get_or strings i [])) (length rest)) where
+  whole : rest ≡ get_or strings i [] ++ concat (drop (i + 1) strings)
+  whole = left ∙ ap concat (drop_more strings i [] lt)
+
+  long : cut ≡ length (get_or strings i [])
+  long = is ∙ min-eq_left (let l = ap length whole ∙ length-append (get_or strings i []) (concat (drop (i + 1) strings)) in omega (arith, l))
+
+  pub piece_front : take cut rest ≡ get_or strings i []
+  piece_front = rw (whole, long) (take_at (get_or strings i []) (concat (drop (i + 1) strings)) _ refl)
+
+  pub piece_back : drop cut rest ≡ concat (drop (i + 1) strings)
+  piece_back = rw (whole, long) (drop_at (get_or strings i []) (concat (drop (i + 1) strings)) _ refl)

@@ -1,8 +1,8 @@
 -- Lists: elements whose contents octets are items joined in their order (X.690 8.9, 8.10).
-use Rattle.std.specs.Prelude.{◌≡◌, ◌≢◌, ◌⊎◌, ℕ, true, false, List, [], ◌∷◌, ◌++◌, map, Option, Some, Result, Ok, Err}
+use Rattle.std.specs.Prelude.{◌≡◌, ◌≢◌, ◌⊎◌, ℕ, true, false, List, [], ◌∷◌, ◌++◌, length, map, Option, Some, Result, Ok, Err}
 use Rattle.std.specs.Borrow.{Bor}
 use Rattle.std.specs.declared.vec.Vec.{Vec}
-use Rattle.std.specs.List.{All, Any as HasSome, flat_map}
+use Rattle.std.specs.List.{All, Any as HasSome, concat, flat_map}
 use Rattle.std.specs.Iterator.{Yields, AlwaysYields}
 use Rattle.x690.specs.Identifiers.{Identifier}
 use Rattle.x690.specs.Elements.{Parts, IsDerElement}
@@ -12,6 +12,7 @@ use Rattle.asn1_rs.specs.declared.error.Err.{Err as Refusal}
 use Rattle.asn1_rs.specs.declared.error.Error.{Error}
 use Rattle.asn1_rs.specs.declared.error.Error.TheVariants as errors
 use Rattle.asn1_rs.specs.declared.asn1_types.any.Any.{Any}
+use Rattle.asn1_rs.specs.declared.asn1_types.lists.Encodings.{Encodings}
 use Rattle.asn1_rs.specs.Any.{IsTheElement}
 use Rattle.asn1_rs.specs.Error.{FlattenedTo}
 use Rattle.asn1_rs.specs.Grammar.Form.{IsStrict, UniversalForm}
@@ -110,6 +111,10 @@ ListCheckGives number check p (Err e) = IsListOr number p (Err e) ⊎ (IsListOr 
 abbrev pub FirstChecked : (Parts → Result (Unit {0}) Error → Type 0) → List ℕ → Result (Bor (List ℕ)) Error → Type 0
 FirstChecked check octets (Ok rest) = (item : Any) × CheckedGives check octets (Ok (rest.now, item))
 FirstChecked check octets (Err e) = (r : Refusal Error) × CheckedGives check octets (Err r) × FlattenedTo (λ x y. y ≡ x) (λ x y. y ≡ x) r e
+
+-- strings, one after another, with the number of octets of each
+abbrev pub AreEncodings : List (List ℕ) → Encodings → Type 0
+AreEncodings strings e = (e.octets.items ≡ concat strings) × (e.lengths.items ≡ map length strings)
 
 -- one more item at the end; or the items as they were, and out of memory
 abbrev pub PushesItem : {T : Type 0} → List T → T → List T → Result (Unit {0}) Error → Type 0

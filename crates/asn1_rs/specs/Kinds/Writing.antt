@@ -66,7 +66,7 @@ list_writing number items item = record {
   write_allocates = true;
 }
 
--- sets of such items: each item is written into a vector, and the vectors are joined in ascending order
+-- sets of such items: all are written into a vector, from which their encodings are joined in ascending order
 abbrev pub set_writing : {S W : Type 0} → (W → List S) → Writing S → Writing W
 set_writing items item = record {
   tells = λ v. All item.tells (items v);

@@ -5,7 +5,7 @@ ghost use Rattle.std.specs.Iterator.{IsFinite, IsFiniteIterable, Drains};
 ghost use Rattle.asn1_rs.specs.Any.{parts_of};
 ghost use Rattle.asn1_rs.specs.Traits.{OfParts, DerGives, PassesAll};
 ghost use Rattle.asn1_rs.specs.Answers.{seen};
-ghost use Rattle.asn1_rs.specs.Lists.{IsListOr, ItemsGive, ListGives, ListTakes, ListReads, ItemsCheckGives, ListCheckGives, FirstChecked, GivesItems, PushesItem, SomeRefuses, listed};
+ghost use Rattle.asn1_rs.specs.Lists.{IsListOr, ItemsGive, ListGives, ListTakes, ListReads, ItemsCheckGives, ListCheckGives, FirstChecked, GivesItems, PushesItem, AreEncodings, SomeRefuses, listed};
 ghost use Rattle.asn1_rs.specs.declared.error.SerializeError.{SerializeError};
 ghost use Rattle.asn1_rs.specs.declared.error.Error.{Error};
 ghost use Rattle.asn1_rs.specs.declared.error.Error.TheVariants as errors;
@@ -16,12 +16,12 @@ ghost use Rattle.asn1_rs.specs.Error.{tells_of_io};
 use crate::asn1_types::any::Any;
 use crate::asn1_types::sequence::iterator::{ReadsItems, SequenceIterator};
 use crate::der::element_by_der;
-use crate::error::{Err, Error, ParseResult, SerializeError, SerializeResult};
+use crate::error::{Err, Error, ParseResult, SerializeError, SerializeResult, without_io};
 use crate::header::writing::add_counts;
 use crate::tag::Tag;
 use crate::to_der::ToDer;
 use crate::traits::{BerParser, CheckDerConstraints, DerParser, FromAny, FromBer, FromDer, Tagged};
-use crate::writer::{DerWrite, add_written};
+use crate::writer::{DerWrite, Told, add_written};
 use std::alloc::{AllocError, Global};
 use std::ops::Deref;
 
@@ -332,8 +332,15 @@ where
     Ok(total)
 }
 
+/// Encodings, one after another, with the number of octets of each.
+#[derive(Drop)]
+pub struct Encodings {
+    pub(crate) octets: Vec<u8>,
+    pub(crate) lengths: Vec<usize>,
+}
+
 /// The encoding of each item.
-pub(crate) fn encode_items<T, R, I>(items: I, alloc: Global) -> SerializeResult<Vec<Vec<u8>>>
+pub(crate) fn encode_items<T, R, I>(items: I, alloc: Global) -> SerializeResult<Encodings>
 where
     T: ToDer,
     R: Deref<Target = T> + Drop,
@@ -342,7 +349,7 @@ where
     requires ends { IsFinite (I.remaining items) }
     ensures each { (xs : List T) → GivesItems I.next_gives R.deref_gives items xs →
         All T.tells xs →
-        IfOk result (λ os. map (λ v. v.items) os.items ≡ map (λ x. T.header x ++ T.content x) xs) }
+        IfOk result (AreEncodings (map (λ x. T.header x ++ T.content x) xs)) }
     ensures refused { (xs : List T) → GivesItems I.next_gives R.deref_gives items xs →
         All T.tells xs →
         IfErr result (Refuses true (length (flat_map (λ x. T.header x ++ T.content x) xs))
@@ -356,13 +363,17 @@ where
         SomeRefuses T.count_refuses xs e → IsErr result }
     ensures memory { IfErr result (λ e. tells_of_io e ≡ false) }
 {
-    let mut strings = Vec::new(alloc);
+    let mut w = Told::new(Vec::new(alloc));
+    let mut lengths = Vec::new(alloc);
     for item in items {
-        let string = item.to_der_vec(alloc)?;
-        match strings.push(string) {
-            Ok(()) => {}
-            Err(_) => return Err(SerializeError::OutOfMemory),
+        match item.write_der(alloc, &mut w) {
+            Ok(length) => match lengths.push(length) {
+                Ok(()) => {}
+                Err(_) => return Err(SerializeError::OutOfMemory),
+            },
+            Err(e) => return Err(without_io(e)),
         }
     }
-    Ok(strings)
+    let octets = w.into_inner();
+    Ok(Encodings { octets, lengths })
 }

@@ -9,7 +9,7 @@ ghost use Rattle.std.proofs.Common.{◌∙◌, sym};
 ghost use Rattle.asn1_rs.specs.declared.error.SerializeError.{SerializeError};
 ghost use Rattle.asn1_rs.specs.declared.error.Error.{Error};
 ghost use Rattle.asn1_rs.specs.Error.{tells_of_io};
-ghost use Rattle.asn1_rs.specs.Lists.{SomeRefuses, list_grammar};
+ghost use Rattle.asn1_rs.specs.Lists.{SomeRefuses, AreEncodings, list_grammar};
 ghost use Rattle.asn1_rs.specs.Set.{AllDiffer, set_of, member_grammar};
 ghost use Rattle.asn1_rs.specs.ToDer.{Refuses, RefusesCount, Either, IntoVector, IsWritable, some_allocates};
 ghost use Rattle.asn1_rs.specs.Writer.{Wrote};
@@ -18,7 +18,7 @@ ghost use Rattle.asn1_rs.specs.Laws.Forms.{der_strict};
 ghost use Rattle.asn1_rs.specs.Laws.Lists.{list_lawful, list_by_value, list_writes_form, list_has_form, list_takes_class, list_number, low_fits};
 ghost use Rattle.asn1_rs.specs.Laws.Set.{member_lawful, members_moved, members_are, members_have_form, set_by_value, set_writes_form, set_takes_class, set_number};
 
-use crate::asn1_types::lists::Listed;
+use crate::asn1_types::lists::{Encodings, Listed};
 use crate::asn1_types::set::write_ascending;
 use crate::error::{Error, SerializeResult};
 use crate::header::writing::{element_len, put_counted_header};
@@ -86,10 +86,10 @@ pub trait WritesInOrder<T: ToDer>: CountsItems<T> {
 /// So it has [`ToDer`].
 pub trait WritesAscending<T: ToDer>: CountsItems<T> {
     /// The encoding of each item.
-    fn encode_each(&self, alloc: Global) -> SerializeResult<Vec<Vec<u8>>>
+    fn encode_each(&self, alloc: Global) -> SerializeResult<Encodings>
         ensures each { All T.tells (Self.items self.now) →
-            IfOk result (λ os. map (λ v. v.items) os.items ≡
-            map (λ x. T.header x ++ T.content x) (Self.items self.now)) }
+            IfOk result
+            (AreEncodings (map (λ x. T.header x ++ T.content x) (Self.items self.now))) }
         ensures refused { All T.tells (Self.items self.now) →
             IfErr result (Refuses true
             (length (flat_map (λ x. T.header x ++ T.content x) (Self.items self.now)))
@@ -191,8 +191,8 @@ where
     }
 
     fn put_content<W: DerWrite>(&self, alloc: Global, w: &mut W) -> SerializeResult<usize> {
-        let strings = self.encode_each(alloc)?;
-        write_ascending(strings, alloc, w)
+        let encodings = self.encode_each(alloc)?;
+        write_ascending(&encodings, alloc, w)
     }
 }
 

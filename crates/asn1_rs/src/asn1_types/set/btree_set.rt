@@ -17,7 +17,7 @@ ghost use Rattle.asn1_rs.specs.Laws.Lists.{takes_some, list_checks};
 ghost use Rattle.asn1_rs.specs.Laws.Set.{set_takes, set_form_body, tree_told, below_apart, same_members};
 
 use crate::asn1_types::lists::{
-    FromItems, Listed, constructed_list_by_der, count_items, encode_items,
+    Encodings, FromItems, Listed, constructed_list_by_der, count_items, encode_items,
 };
 use crate::error::{Error, ParseResult, SerializeResult};
 use crate::kinds::HasKind;
@@ -67,7 +67,7 @@ impl<T: ToDer + Ord> CountsItems<T> for BTreeSet<T> {
 }
 
 impl<T: ToDer + Ord> WritesAscending<T> for BTreeSet<T> {
-    fn encode_each(&self, alloc: Global) -> SerializeResult<Vec<Vec<u8>>> {
+    fn encode_each(&self, alloc: Global) -> SerializeResult<Encodings> {
         encode_items(self.iter(), alloc)
     }
 }

@@ -12,7 +12,7 @@ ghost use Rattle.asn1_rs.specs.Laws.Lists.{takes_some, list_checks};
 ghost use Rattle.asn1_rs.specs.Laws.Set.{set_takes, set_form_body, table_told, other_apart};
 
 use crate::asn1_types::lists::{
-    FromItems, Listed, constructed_list_by_der, count_items, encode_items,
+    Encodings, FromItems, Listed, constructed_list_by_der, count_items, encode_items,
 };
 use crate::error::{Error, ParseResult, SerializeResult};
 use crate::kinds::HasKind;
@@ -63,7 +63,7 @@ impl<T: ToDer + Eq + Hash> CountsItems<T> for HashSet<T> {
 }
 
 impl<T: ToDer + Eq + Hash> WritesAscending<T> for HashSet<T> {
-    fn encode_each(&self, alloc: Global) -> SerializeResult<Vec<Vec<u8>>> {
+    fn encode_each(&self, alloc: Global) -> SerializeResult<Encodings> {
         encode_items(self.iter(), alloc)
     }
 }

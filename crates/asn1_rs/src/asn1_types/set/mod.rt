@@ -4,46 +4,59 @@ mod btree_set;
 mod hash_set;
 pub mod set_of;
 
-ghost use Rattle.std.specs.Prelude.{◌≡◌, ◌++◌, ◌||◌, List, true, false, length, map, IfOk, IfErr, IsErr};
-ghost use Rattle.std.specs.List.{All, flat_map, concat};
+ghost use Rattle.std.specs.Prelude.{◌≡◌, ℕ, List, true, length, map, IfOk, IfErr};
+ghost use Rattle.std.specs.List.{concat};
 ghost use Rattle.x690.specs.Ascending.{arranged};
-ghost use Rattle.asn1_rs.specs.declared.error.SerializeError.{SerializeError};
-ghost use Rattle.asn1_rs.specs.declared.error.Error.{Error};
-ghost use Rattle.asn1_rs.specs.Lists.{SomeRefuses};
+ghost use Rattle.asn1_rs.specs.Lists.{AreEncodings};
 ghost use Rattle.asn1_rs.specs.Writer.{Wrote, MayRefuse};
-ghost use Rattle.asn1_rs.specs.ToDer.{Refuses, Either, IntoVector};
-ghost use Rattle.asn1_rs.specs.Error.{tells_of_io};
 
+use crate::asn1_types::lists::Encodings;
 use crate::error::{SerializeError, SerializeResult};
-use crate::to_der::ToDer;
 use crate::writer::{DerWrite, put_all};
 use std::alloc::{AllocError, Global};
 
-/// The strings joined in ascending order.
-fn join_ascending(strings: Vec<Vec<u8>>, alloc: Global) -> Result<Vec<u8>, AllocError>
-    ensures { IfOk result (λ v. v.items ≡ concat (arranged (map (λ s. s.items) strings.items))) }
+/// Each of the encodings, where it stands.
+fn pieces_of(encodings: &Encodings, alloc: Global) -> Result<Vec<&[u8]>, AllocError>
+    ensures { (strings : List (List ℕ)) → AreEncodings strings encodings.now →
+        IfOk result (λ v. map (λ s. s.now) v.items ≡ strings) }
 {
-    let mut strings = strings;
-    let mut content = Vec::new(alloc);
-    strings.sort()?;
-    for string in &strings {
-        content.extend_from_slice(string)?;
+    let mut pieces = Vec::with_capacity(alloc, encodings.lengths.len())?;
+    let mut rest: &[u8] = &encodings.octets;
+    for length in &encodings.lengths {
+        let (piece, others) = rest.split_at((*length).min(rest.len()));
+        pieces.push(piece)?;
+        rest = others;
+    }
+    Ok(pieces)
+}
+
+/// The encodings joined in ascending order.
+fn join_ascending(encodings: &Encodings, alloc: Global) -> Result<Vec<u8>, AllocError>
+    ensures { (strings : List (List ℕ)) → AreEncodings strings encodings.now →
+        IfOk result (λ v. v.items ≡ concat (arranged strings)) }
+{
+    let mut pieces = pieces_of(encodings, alloc)?;
+    pieces.sort_unstable();
+    let mut content = Vec::with_capacity(alloc, encodings.octets.len())?;
+    for piece in &pieces {
+        content.extend_from_slice(piece)?;
     }
     Ok(content)
 }
 
-/// Appends the strings in ascending order, and answers the number of octets.
+/// Appends the encodings in ascending order, and answers the number of octets.
 pub(crate) fn write_ascending<W: DerWrite>(
-    strings: Vec<Vec<u8>>,
+    encodings: &Encodings,
     alloc: Global,
     w: &mut W,
 ) -> SerializeResult<usize>
-    ensures wrote { Wrote (concat (arranged (map (λ s. s.items) strings.items))) (W.told w.old)
-        (W.told w.new) (W.failed w.old) (W.failed w.new) result }
-    ensures refused { IfErr result
-        (MayRefuse true (length (concat (arranged (map (λ s. s.items) strings.items))))) }
+    ensures wrote { (strings : List (List ℕ)) → AreEncodings strings encodings.now →
+        Wrote (concat (arranged strings)) (W.told w.old) (W.told w.new) (W.failed w.old)
+        (W.failed w.new) result }
+    ensures refused { (strings : List (List ℕ)) → AreEncodings strings encodings.now →
+        IfErr result (MayRefuse true (length (concat (arranged strings)))) }
 {
-    match join_ascending(strings, alloc) {
+    match join_ascending(encodings, alloc) {
         Ok(content) => put_all(w, &content),
         Err(_) => Err(SerializeError::OutOfMemory),
     }

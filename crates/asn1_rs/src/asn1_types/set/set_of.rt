@@ -18,7 +18,7 @@ ghost use Rattle.asn1_rs.specs.Laws.Lists.{takes_some, list_checks};
 ghost use Rattle.asn1_rs.specs.Laws.Set.{multiset_told, multiset_lawful, set_takes, set_reads, set_form_body, set_takes_class, set_number, set_by_value, set_writes_form, multiset_has_form};
 
 use crate::asn1_types::lists::{
-    FromItems, Listed, encode_items, items_from_iter, list_by_der, push_item,
+    Encodings, FromItems, Listed, encode_items, items_from_iter, list_by_der, push_item,
 };
 use crate::error::{Error, ParseResult, SerializeResult};
 use crate::kinds::collections::{CountsItems, Repeats, SetKind, WritesAscending};
@@ -156,7 +156,7 @@ impl<T: ToDer> CountsItems<T> for SetOf<T> {
 }
 
 impl<T: ToDer> WritesAscending<T> for SetOf<T> {
-    fn encode_each(&self, alloc: Global) -> SerializeResult<Vec<Vec<u8>>> {
+    fn encode_each(&self, alloc: Global) -> SerializeResult<Encodings> {
         encode_items(self.items.iter(), alloc)
     }
 }

@@ -1,18 +1,19 @@
-use Rattle.std.proofs.Common.{◌++◌, ◌∙◌, ap, refl, true, [], ◌∷◌, length, map}
+use Rattle.std.proofs.Common.{◌++◌, ◌∙◌, ap, sym, refl, true, [], ◌∷◌, length, map, take}
+use Rattle.std.specs.List.{flat_map}
 use Rattle.std.proofs.lemmas.Bool.{false≢true}
 use Rattle.std.proofs.lemmas.List.{map_more, map-append, take_all}
-use Rattle.std.proofs.lemmas.Result.{err_from_is_err_and}
 use Rattle.asn1_rs.specs.ToDer.{Either, IntoVector}
+use Rattle.asn1_rs.specs.Laws.Lists.{joined_flat}
 use Rattle.asn1_rs.specs.Laws.Set.{none_into}
-use Rattle.asn1_rs.proofs.Lists.{item_given, all_given, one_longer, item_all, Refuses_item, none_more, none_of_all}
+use Rattle.asn1_rs.proofs.Lists.{item_given, all_given, one_longer, item_all, item_next, Refuses_item, none_more, none_of_all}
+use Rattle.asn1_rs.proofs.Writing.{vector_refuses, neither_refuses}
 use Rattle.asn1_rs.proofs.asn1_types.lists.encode_items.Goals as goal
 
-pub returns-in_err-string-clause-refused : goal.returns-in_err-string-clause-refused
-returns-in_err-string-clause-refused g c = λ xs i t.
-    let p = err_from_is_err_and c.from_residual.result c.from_residual.ensures.1 in
+pub returns-in-Err-clause-refused : goal.returns-in-Err-clause-refused
+returns-in-Err-clause-refused g c = λ xs i t.
     let at = item_given i c.into_iter-item-iterator.result c.loop-item.item-iterator c.next.new.self c.into_iter-item-iterator.ensures.into_iter_gives c.loop-item.yielded c.loop-item.yielded_by c.next.result c.next.ensures.steps c.in-Some.item c.in-Some.is c.deref.result.now c.deref.ensures in
     let told = item_all (λ x. g.T.ToDer.header x ++ g.T.ToDer.content x) xs (length c.loop-item.yielded) c.deref.result.now at.0 at.1 g.T.ToDer.tells t in
-    rw (p.1, p.2) (Refuses_item (λ x. g.T.ToDer.header x ++ g.T.ToDer.content x) xs (length c.loop-item.yielded) c.deref.result.now at.0 at.1 c.in_err-string.field-0.0 true (λ x. IntoVector (Either (g.T.ToDer.header_refuses x) (g.T.ToDer.content_refuses x))) (c.in_err-string.ensures.refused told))
+    Refuses_item (λ x. g.T.ToDer.header x ++ g.T.ToDer.content x) xs (length c.loop-item.yielded) c.deref.result.now at.0 at.1 c.without_io.result true (λ x. IntoVector (Either (g.T.ToDer.header_refuses x) (g.T.ToDer.content_refuses x))) (vector_refuses c.in-Err.e c.without_io.result _ _ (Either (g.T.ToDer.header_refuses c.deref.result.now) (g.T.ToDer.content_refuses c.deref.result.now)) c.without_io.ensures.refused c.without_io.ensures.same (c.in-Err.ensures.refused told))
 
 pub loop-item-preserved : goal.loop-item-preserved
 loop-item-preserved g c = (
@@ -21,18 +22,24 @@ loop-item-preserved g c = (
   λ xs i t.
       let at = item_given i c.into_iter-item-iterator.result c.loop-item.item-iterator c.next.new.self c.into_iter-item-iterator.ensures.into_iter_gives c.loop-item.yielded c.loop-item.yielded_by c.next.result c.next.ensures.steps c.in-Some.item c.in-Some.is c.deref.result.now c.deref.ensures in
       let told = item_all (λ x. g.T.ToDer.header x ++ g.T.ToDer.content x) xs (length c.loop-item.yielded) c.deref.result.now at.0 at.1 g.T.ToDer.tells t in
+      let wrote = (c.in-Ok.ensures.wrote told).ok in
       rw (one_longer c.loop-item.yielded c.in-Some.item) (
-        rw c.in-Ok.ensures.items (rw (map_more (λ x. g.T.ToDer.header x ++ g.T.ToDer.content x) xs (length c.loop-item.yielded) c.deref.result.now at.0) (rw (map-append (λ v. v.items) c.loop-item.strings.items (c.in_ok-string.string ∷ [])) (rw (← at.1) (rw ((c.loop-item.invariant.2 xs i t).0, c.in_ok-string.ensures.wrote told) refl)))),
-        none_more (λ x. IntoVector (Either (g.T.ToDer.header_refuses x) (g.T.ToDer.content_refuses x))) xs (length c.loop-item.yielded) c.deref.result.now at.0 at.1 (c.loop-item.invariant.2 xs i t).1 (none_into _ (λ e o. false≢true (c.in_ok-string.ensures.accepted e told o))),
-        none_more g.T.ToDer.count_refuses xs (length c.loop-item.yielded) c.deref.result.now at.0 at.1 (c.loop-item.invariant.2 xs i t).2 (λ e o. false≢true (c.in_ok-string.ensures.uncounted e told o)),
+        rw (item_next (λ x. g.T.ToDer.header x ++ g.T.ToDer.content x) xs (length c.loop-item.yielded) c.deref.result.now at.0 at.1) (wrote.0 ∙ ap (λ o. o ++ (g.T.ToDer.header c.deref.result.now ++ g.T.ToDer.content c.deref.result.now)) (c.loop-item.invariant.2 xs i t).0),
+        rw c.in-Ok-push.ensures.items (rw (map_more (λ x. g.T.ToDer.header x ++ g.T.ToDer.content x) xs (length c.loop-item.yielded) c.deref.result.now at.0) (rw (map-append length (map (λ x. g.T.ToDer.header x ++ g.T.ToDer.content x) (take (length c.loop-item.yielded) xs)) (_ ∷ [])) (rw (← at.1) (rw ((c.loop-item.invariant.2 xs i t).1, wrote.1) refl)))),
+        none_more (λ x. IntoVector (Either (g.T.ToDer.header_refuses x) (g.T.ToDer.content_refuses x))) xs (length c.loop-item.yielded) c.deref.result.now at.0 at.1 (c.loop-item.invariant.2 xs i t).2 (none_into _ (neither_refuses _ _ (g.T.ToDer.header_refuses c.deref.result.now) (g.T.ToDer.content_refuses c.deref.result.now) _ _ _ _ _ (λ e. c.in-Ok.ensures.at_once e told) (λ e. c.in-Ok.ensures.accepted e told))),
+        none_more g.T.ToDer.count_refuses xs (length c.loop-item.yielded) c.deref.result.now at.0 at.1 (c.loop-item.invariant.2 xs i t).3 (λ e o. false≢true (c.in-Ok.ensures.uncounted e told o)),
       ),
 )
 
 pub returns-clause-each : goal.returns-clause-each
-returns-clause-each g c = λ xs i t. (c.loop-item.invariant.2 xs i t).0 ∙ ap (map (λ x. g.T.ToDer.header x ++ g.T.ToDer.content x)) (take_all (length c.loop-item.yielded) xs (all_given i c.into_iter-item-iterator.result c.loop-item.item-iterator c.next.new.self c.into_iter-item-iterator.ensures.into_iter_gives c.loop-item.yielded c.loop-item.yielded_by c.next.result c.next.ensures.steps c.in-None.is))
+returns-clause-each g c = λ xs i t.
+    let all = take_all (length c.loop-item.yielded) xs (all_given i c.into_iter-item-iterator.result c.loop-item.item-iterator c.next.new.self c.into_iter-item-iterator.ensures.into_iter_gives c.loop-item.yielded c.loop-item.yielded_by c.next.result c.next.ensures.steps c.in-None.is) in (
+      ap (λ v. v.items) c.into_inner-octets.ensures ∙ (c.loop-item.invariant.2 xs i t).0 ∙ ap (flat_map (λ x. g.T.ToDer.header x ++ g.T.ToDer.content x)) all ∙ sym (joined_flat (λ x. g.T.ToDer.header x ++ g.T.ToDer.content x) xs),
+      (c.loop-item.invariant.2 xs i t).1 ∙ ap (λ ks. map length (map (λ x. g.T.ToDer.header x ++ g.T.ToDer.content x) ks)) all,
+    )
 
 pub returns-clause-accepted : goal.returns-clause-accepted
-returns-clause-accepted g c = λ xs e i t o. absurd (none_of_all (λ x. IntoVector (Either (g.T.ToDer.header_refuses x) (g.T.ToDer.content_refuses x))) xs (length c.loop-item.yielded) (all_given i c.into_iter-item-iterator.result c.loop-item.item-iterator c.next.new.self c.into_iter-item-iterator.ensures.into_iter_gives c.loop-item.yielded c.loop-item.yielded_by c.next.result c.next.ensures.steps c.in-None.is) (c.loop-item.invariant.2 xs i t).1 e o)
+returns-clause-accepted g c = λ xs e i t o. absurd (none_of_all (λ x. IntoVector (Either (g.T.ToDer.header_refuses x) (g.T.ToDer.content_refuses x))) xs (length c.loop-item.yielded) (all_given i c.into_iter-item-iterator.result c.loop-item.item-iterator c.next.new.self c.into_iter-item-iterator.ensures.into_iter_gives c.loop-item.yielded c.loop-item.yielded_by c.next.result c.next.ensures.steps c.in-None.is) (c.loop-item.invariant.2 xs i t).2 e o)
 
 pub returns-clause-uncounted : goal.returns-clause-uncounted
-returns-clause-uncounted g c = λ xs e i t o. absurd (none_of_all g.T.ToDer.count_refuses xs (length c.loop-item.yielded) (all_given i c.into_iter-item-iterator.result c.loop-item.item-iterator c.next.new.self c.into_iter-item-iterator.ensures.into_iter_gives c.loop-item.yielded c.loop-item.yielded_by c.next.result c.next.ensures.steps c.in-None.is) (c.loop-item.invariant.2 xs i t).2 e o)
+returns-clause-uncounted g c = λ xs e i t o. absurd (none_of_all g.T.ToDer.count_refuses xs (length c.loop-item.yielded) (all_given i c.into_iter-item-iterator.result c.loop-item.item-iterator c.next.new.self c.into_iter-item-iterator.ensures.into_iter_gives c.loop-item.yielded c.loop-item.yielded_by c.next.result c.next.ensures.steps c.in-None.is) (c.loop-item.invariant.2 xs i t).3 e o)
