@@ -12,8 +12,6 @@ mod point;
 mod refusals;
 mod sequences;
 mod serial_number;
-#[cfg(test)]
-mod tests;
 
 pub use fingerprint::Fingerprint;
 pub use incomplete::{read_element, read_header};
