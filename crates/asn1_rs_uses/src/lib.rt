@@ -3,6 +3,7 @@
 //! A caller names a law at its types, as `reader_is_exact_by_der::<u64, Error>()`, and cites what it says.
 #![tactic(auto)]
 
+mod borrowed;
 mod fingerprint;
 mod incomplete;
 mod items;
@@ -13,6 +14,9 @@ mod refusals;
 mod sequences;
 mod serial_number;
 
+pub use borrowed::{
+    contents_octets, read_bit_string, read_integer, read_octet_string, read_octets,
+};
 pub use fingerprint::Fingerprint;
 pub use incomplete::{read_element, read_header};
 pub use items::{count_of_numbers, elements_in, items_in, numbers_in};

@@ -2,9 +2,10 @@
 
 use asn1_rs::{Error, FromDer, ToDer};
 use asn1_rs_uses::{
-    Fingerprint, Message, Point, SerialNumber, count_number, count_of_numbers, elements_in,
-    is_same_number, is_strict_front, numbers_in, read_element, read_header, read_number,
-    read_number_by_ber, read_numbers, write_number, write_numbers,
+    Fingerprint, Message, Point, SerialNumber, contents_octets, count_number, count_of_numbers,
+    elements_in, is_same_number, is_strict_front, numbers_in, read_bit_string, read_element,
+    read_header, read_integer, read_number, read_number_by_ber, read_numbers, read_octet_string,
+    read_octets, write_number, write_numbers,
 };
 use std::test::Fail;
 use test_rows::assert_shown;
@@ -90,6 +91,21 @@ fn lawful_types_are_read_and_written(rt: HostRuntime) -> Result<(), Fail> {
     );
     let expected =
         "(Ok(([], SerialNumber(5))), Ok([2, 1, 5]), Ok(([], Fingerprint([1, 2]))), Ok([4, 2, 1, 2]))";
+    assert_shown(alloc, &answers, expected)
+}
+
+#[test]
+fn what_borrows_is_read(rt: HostRuntime) -> Result<(), Fail> {
+    let alloc = rt.alloc();
+    let string = [0x04, 0x02, 0x01, 0x02];
+    let answers = (
+        contents_octets(alloc, &string),
+        read_octets(alloc, &string),
+        read_octet_string(alloc, &string).is_ok(),
+        read_bit_string(alloc, &[0x03, 0x02, 0x00, 0x05]).is_ok(),
+        read_integer(alloc, &[0x02, 0x01, 0x05]).is_ok(),
+    );
+    let expected = "(Ok([1, 2]), Ok(([], [1, 2])), true, true, true)";
     assert_shown(alloc, &answers, expected)
 }
 
