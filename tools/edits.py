@@ -1,6 +1,6 @@
 #!/usr/bin/env python3
-"""Looks whether each edit of crates/NAME/must-fail/ and crates/NAME/mutants/ (a folder for each module) applies to
-the sources as they are.
+"""Looks whether each edit of crates/NAME/must-fail/, crates/NAME/mutants/ (a folder for each module) and
+crates/NAME/must-not-compile/ applies to the sources as they are.
 
 An edit has lines 'file: src/NAME.rt', 'old: TEXT' and 'new: TEXT', each TEXT one line, and perhaps further pairs, which
 apply to what the earlier ones made. It applies where each old text stands exactly once in its file, and the edit
@@ -56,7 +56,8 @@ class Edit:
 
 
 def main():
-    paths = sorted([*TOP.glob("crates/*/must-fail/*.edit"), *TOP.glob("crates/*/mutants/**/*.edit")])
+    folders = ["must-fail/*.edit", "mutants/**/*.edit", "must-not-compile/*.edit"]
+    paths = sorted(path for folder in folders for path in TOP.glob(f"crates/*/{folder}"))
     faults = 0
     for path in paths:
         fault = Edit(path).fault(TOP / pathlib.Path(*path.relative_to(TOP).parts[:2]))

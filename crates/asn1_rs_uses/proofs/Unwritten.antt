@@ -1,5 +1,5 @@
 -- Values that are not written.
-use Rattle.std.proofs.Common.{◌≡◌, ◌<◌, ◌^◌, ◌∙◌, ap, refl, subst, inl, inr, ℕ, Bool, false, true, List, [], ◌∷◌, ◌++◌, length, Option, Result, Ok, Err, IfErr, arith}
+use Rattle.std.proofs.Common.{◌≡◌, ◌<◌, ◌^◌, ◌∙◌, ap, refl, inl, inr, ℕ, Bool, false, true, List, [], ◌∷◌, ◌++◌, length, Option, Result, Ok, Err, IfErr, arith}
 use Rattle.std.specs.Prelude.{None, ◌⊎◌, IsErr, IsErrAnd, codes}
 use Rattle.std.specs.declared.borrow.CowStr.TheVariants as cow
 use Rattle.x690.specs.Strict.{header_octets, identifier_octets, length_octets}
@@ -15,7 +15,7 @@ use Rattle.asn1_rs.specs.Header.{HasParts}
 use Rattle.asn1_rs.specs.Lists.{SomeRefuses}
 use Rattle.asn1_rs.specs.Header.Writing.{strict_header}
 use Rattle.asn1_rs.specs.Writer.{MayRefuse}
-use Rattle.asn1_rs.specs.ToDer.{Refuses, RefusesCount, RefusedAtOnce, IsRefusedAtOnce, VectorRefuses, IntoVector, WrittenRefusal, Either}
+use Rattle.asn1_rs.specs.ToDer.{Refuses, RefusesCount, IsRefusedAtOnce, IntoVector, WrittenRefusal, Either}
 use Rattle.asn1_rs.specs.Error.{vector_refusal, tells_of_io}
 use Rattle.asn1_rs_uses.specs.declared.refusals.InClass.{InClass}
 use Rattle.asn1_rs_uses.specs.declared.refusals.NamePart.{NamePart}

@@ -3,6 +3,7 @@
 //! A caller names a law at its types, as `reader_is_exact_by_der::<u64, Error>()`, and cites what it says.
 #![tactic(auto)]
 
+mod borrowed;
 mod fingerprint;
 mod incomplete;
 mod items;
@@ -12,9 +13,10 @@ mod point;
 mod refusals;
 mod sequences;
 mod serial_number;
-#[cfg(test)]
-mod tests;
 
+pub use borrowed::{
+    contents_octets, read_bit_string, read_integer, read_octet_string, read_octets,
+};
 pub use fingerprint::Fingerprint;
 pub use incomplete::{read_element, read_header};
 pub use items::{count_of_numbers, elements_in, items_in, numbers_in};

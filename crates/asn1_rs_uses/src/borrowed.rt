@@ -1,0 +1,55 @@
+//! Values that borrow the octets that they are read from, and last as long as those.
+ghost use Rattle.std.specs.Prelude.{IfOk};
+ghost use Rattle.x690.specs.Identifiers.{IsCutIdentifier};
+ghost use Rattle.asn1_rs.specs.Answers.{seen, Exactly};
+ghost use Rattle.asn1_rs.specs.OctetString.{slice_leaf, octet_string_leaf, octets_of};
+ghost use Rattle.asn1_rs.specs.BitString.{bit_string_leaf, bits_in};
+ghost use Rattle.asn1_rs.specs.Integer.Octets.{any_integer_leaf, integer_octets};
+ghost use Rattle.asn1_rs_uses.specs.Borrowed.{LeafByDer, BeginsWithContents};
+ghost use Rattle.asn1_rs_uses.specs.Numbers.{NoMemory};
+
+use asn1_rs::{Any, BitString, Error, Integer, OctetString, ParseResult, read_ber, read_der};
+use std::alloc::Global;
+
+/// The contents octets of the element at the front of the octets, by BER.
+pub fn contents_octets<'a>(alloc: Global, octets: &'a [u8]) -> Result<&'a [u8], Error>
+    ensures { IfOk result (λ content. BeginsWithContents octets.now content.now) }
+{
+    let (_, element) = read_ber::<Any<'a>, Error>(alloc, octets)?;
+    Ok(element.as_bytes())
+}
+
+/// The octets of the octet string at the front, by DER, and what follows it.
+pub fn read_octets<'a>(alloc: Global, octets: &'a [u8]) -> ParseResult<'a, &'a [u8], Error>
+    ensures { Exactly IsCutIdentifier (LeafByDer slice_leaf) (λ x. x.now) NoMemory
+        octets.now (seen result) }
+{
+    read_der::<&'a [u8], Error>(alloc, octets)
+}
+
+/// The octet string at the front, by DER, and what follows it.
+pub fn read_octet_string<'a>(
+    alloc: Global,
+    octets: &'a [u8],
+) -> ParseResult<'a, OctetString<'a>, Error>
+    ensures { Exactly IsCutIdentifier (LeafByDer octet_string_leaf) octets_of NoMemory
+        octets.now (seen result) }
+{
+    read_der::<OctetString<'a>, Error>(alloc, octets)
+}
+
+/// The bit string at the front, by DER, and what follows it.
+pub fn read_bit_string<'a>(alloc: Global, octets: &'a [u8]) -> ParseResult<'a, BitString<'a>, Error>
+    ensures { Exactly IsCutIdentifier (LeafByDer bit_string_leaf) bits_in NoMemory
+        octets.now (seen result) }
+{
+    read_der::<BitString<'a>, Error>(alloc, octets)
+}
+
+/// The integer of any size at the front, by DER, and what follows it.
+pub fn read_integer<'a>(alloc: Global, octets: &'a [u8]) -> ParseResult<'a, Integer<'a>, Error>
+    ensures { Exactly IsCutIdentifier (LeafByDer any_integer_leaf) integer_octets NoMemory
+        octets.now (seen result) }
+{
+    read_der::<Integer<'a>, Error>(alloc, octets)
+}

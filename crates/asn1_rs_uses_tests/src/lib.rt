@@ -1,0 +1,9 @@
+//! Tests of `asn1_rs_uses`: each caller once, and its types in lists and sets of the library.
+#![tactic(auto)]
+
+#[cfg(test)]
+mod callers;
+#[cfg(test)]
+mod lists;
+#[cfg(test)]
+mod refusals;

@@ -1,0 +1,82 @@
+//! Lists and sets: of items of a caller's, and what the laws of nested ones are worth.
+
+use crate::refusals::three_classes;
+use asn1_rs::{
+    Any, Error, FromItems, LawfulBer, LawfulDer, LawfulWrite, SetOf, ToDer, read_ber, read_der,
+    strict_vec,
+};
+use asn1_rs_uses::InClass;
+use std::alloc::Global;
+use std::collections::BTreeSet;
+use std::test::Fail;
+
+/// Asserts that the strict encoding of a value is this one.
+fn assert_written<T: LawfulWrite>(alloc: Global, value: &T, expected: &[u8]) -> Result<(), Fail> {
+    let written = strict_vec::<T>(alloc, value)?;
+    let written = written.as_slice();
+    if written == expected {
+        return Ok(());
+    }
+    Err(Fail::new(format_args!("{written:?}, and not {expected:?}")))
+}
+
+/// Asserts that the value at the front, by DER, has this strict encoding.
+fn assert_again<'a, T: LawfulDer<'a, Error> + LawfulWrite + Drop>(
+    alloc: Global,
+    octets: &'a [u8],
+    expected: &[u8],
+) -> Result<(), Fail> {
+    let value = read_der::<T, Error>(alloc, octets)?.1;
+    assert_written(alloc, &value, expected)
+}
+
+/// Asserts that the value at the front, by BER, has this strict encoding.
+fn assert_again_by_ber<'a, T: LawfulBer<'a, Error> + LawfulWrite + Drop>(
+    alloc: Global,
+    octets: &'a [u8],
+    expected: &[u8],
+) -> Result<(), Fail> {
+    let value = read_ber::<T, Error>(alloc, octets)?.1;
+    assert_written(alloc, &value, expected)
+}
+
+/// A list of one list, of 2 and 1.
+const LISTS: [u8; 10] = [0x30, 0x08, 0x30, 0x06, 0x02, 0x01, 0x02, 0x02, 0x01, 0x01];
+
+/// A set of one set, of 2 and 1.
+const SETS: [u8; 10] = [0x31, 0x08, 0x31, 0x06, 0x02, 0x01, 0x02, 0x02, 0x01, 0x01];
+
+/// The same set in ascending order.
+const ASCENDING: [u8; 10] = [0x31, 0x08, 0x31, 0x06, 0x02, 0x01, 0x01, 0x02, 0x01, 0x02];
+
+#[test]
+fn laws_reach_nested_lists(rt: HostRuntime) -> Result<(), Fail> {
+    let alloc = rt.alloc();
+    assert_again::<Vec<Vec<u32>>>(alloc, &LISTS, &LISTS)?;
+    assert_again_by_ber::<Vec<Vec<u32>>>(alloc, &LISTS, &LISTS)?;
+    assert_again_by_ber::<Vec<Any<'_>>>(alloc, &LISTS, &LISTS)
+}
+
+#[test]
+fn laws_reach_nested_sets(rt: HostRuntime) -> Result<(), Fail> {
+    let alloc = rt.alloc();
+    assert_again::<SetOf<SetOf<u8>>>(alloc, &SETS, &ASCENDING)?;
+    assert_again_by_ber::<SetOf<SetOf<u8>>>(alloc, &SETS, &ASCENDING)?;
+    assert_again::<BTreeSet<BTreeSet<u8>>>(alloc, &SETS, &ASCENDING)?;
+    assert_again_by_ber::<BTreeSet<BTreeSet<u8>>>(alloc, &SETS, &ASCENDING)
+}
+
+/// How many contents octets the list of three values has.
+fn made<L: FromItems<Item = InClass> + ToDer + Drop>(alloc: Global) -> Result<usize, Fail> {
+    let list = L::from_items(alloc, three_classes(alloc)?)?;
+    Ok(list.der_content_len()?)
+}
+
+#[test]
+fn lists_are_made_of_items(rt: HostRuntime) -> Result<(), Fail> {
+    let alloc = rt.alloc();
+    assert_eq!(rt; made::<Vec<InClass>>(alloc)?, 9);
+    assert_eq!(rt; made::<SetOf<InClass>>(alloc)?, 9);
+    assert_eq!(rt; made::<BTreeSet<InClass>>(alloc)?, 9);
+    Ok(())
+}
