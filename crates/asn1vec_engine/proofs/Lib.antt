@@ -4,6 +4,8 @@ pub mod Hexadecimal
 pub mod LineLaws
 pub mod Moved
 pub mod OneAnswer
+pub mod OneItem
+pub mod OneList
 pub mod OneReading
 pub mod OneRefusal
 pub mod ShownLaws

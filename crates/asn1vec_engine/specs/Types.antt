@@ -1,5 +1,7 @@
 -- The names of types, and what each stands for.
-use Rattle.std.specs.Prelude.{◌≡◌, List, ◌++◌, length, ℕ, ℤ, pos, codes, decimal, true, false, None, Ok}
+use Rattle.std.specs.Prelude.{◌≡◌, Bool as Truth, List, ◌++◌, length, ℕ, ℤ, pos, codes, decimal, true, false, None, Ok}
+use Rattle.std.specs.declared.alloc.Global.{Global}
+use Rattle.std.specs.declared.vec.Vec.{Vec}
 use Rattle.std.specs.Fmt.{signed_decimal}
 use Rattle.x690.specs.Signed.{IsSigned}
 use Rattle.x690.specs.Strict.{header_octets}
@@ -15,15 +17,18 @@ use Rattle.asn1_rs.specs.Leaf.{Leaf, LeafBody, LeafGives}
 use Rattle.asn1_rs.specs.Null.{null_leaf}
 use Rattle.asn1_rs.specs.OctetString.{octet_string_leaf}
 use Rattle.asn1_rs.specs.Any.{IsTheElement, IsDefiniteOr}
-use Rattle.asn1_rs.specs.Traits.{OfParts, BerGives, DerGives}
+use Rattle.asn1_rs.specs.Traits.{OfParts, BerGives, DerGives, PassesAll}
+use Rattle.asn1_rs.specs.Lists.{ListReads, ListTakes, has_items as IsMadeOf, list_grammar}
+use Rattle.asn1_rs.specs.Kinds.{item_grammar}
+use Rattle.asn1_rs.specs.Grammar.Item.{ItemGrammar}
 use Rattle.asn1_rs.specs.Any.Value.{element_of, ElementBody, ElementCheck, ElementForm}
 use Rattle.asn1_rs.specs.Grammar.{BerWord, DerWord}
-use Rattle.asn1_rs.specs.Integer.{IntegerCheck, IntegerCheckGives, IntegerBody, IntegerForm, IntegerGives, IsUnsigned, UnsignedRefuses, SignedRefuses}
+use Rattle.asn1_rs.specs.Integer.{IntegerCheck, IntegerCheckGives, IntegerBody, IntegerForm, integer_element, IntegerGives, IsUnsigned, UnsignedGives, UnsignedRefuses, SignedRefuses}
 use Rattle.asn1vec_engine.specs.declared.request.Rule.{Rule}
 use Rattle.asn1vec_engine.specs.declared.types.TypeName.{TypeName}
-use Rattle.asn1vec_engine.specs.declared.types.TypeName.TheVariants.{U8, U16, U32, U64, U128, I8, I16, I32, I64, I128, Any, Bool, Null, Enumerated, Integer, Octets, Bits, Eoc}
+use Rattle.asn1vec_engine.specs.declared.types.TypeName.TheVariants.{U8, U16, U32, U64, U128, I8, I16, I32, I64, I128, Any, Bool, Null, Enumerated, Integer, Octets, Bits, Eoc, VecU8}
 use Rattle.asn1vec_engine.specs.Meaning.{Meaning, ReadsByEither, is_ber}
-use Rattle.asn1vec_engine.specs.Shown.{IsReadAnswer, IsWritten, ReadsByBer, Same, StrictEncoding, bits_text, element_text, in_hexadecimal, truth_text}
+use Rattle.asn1vec_engine.specs.Shown.{IsReadAnswer, IsWritten, ReadsByBer, Reading, Same, StrictEncoding, StrictEncodingIfAny, bits_text, element_text, in_hexadecimal, list_text, truth_text}
 
 abbrev pub name_of : TypeName → List ℕ
 name_of U8 = codes "u8"
@@ -44,6 +49,7 @@ name_of Integer = codes "integer"
 name_of Octets = codes "octets"
 name_of Bits = codes "bits"
 name_of Eoc = codes "eoc"
+name_of VecU8 = codes "vec.u8"
 
 -- integers, there by either rule: in decimals, with the strict encoding that each has which the type holds
 abbrev pub integers : {T : Type 0} → (T → ℤ) → (ℤ → Type 0) → (List ℕ → Error → Type 0) → Meaning
@@ -109,6 +115,46 @@ ends = record {
   writing_allocates = false;
 }
 
+-- What there is to say of a type of items: its values and grammars, what its readers may answer, and how an item is shown.
+pub record Item : Type 1 where
+  pub T : Type 0
+  pub grammar : ItemGrammar T
+  pub ber_gives : List ℕ → Reading T → Type 0
+  pub der_gives : List ℕ → Reading T → Type 0
+  pub text_of : T → List ℕ
+
+-- the unsigned integers of so many octets
+abbrev pub unsigned_item : ℕ → Item
+unsigned_item size = record {
+  T = ℕ;
+  grammar = item_grammar (integer_element pos (IsUnsigned size));
+  ber_gives = BerGives (OfParts (UnsignedGives size)) Same;
+  der_gives = DerGives IntegerCheckGives (OfParts (UnsignedGives size)) Same;
+  text_of = decimal;
+}
+
+-- vectors of items; by DER the constructed bit is not looked at
+abbrev pub vector : Item → Item
+vector I = record {
+  T = Vec I.T Global;
+  grammar = list_grammar 16 (λ v. v.items) I.grammar;
+  ber_gives = BerGives (OfParts (ListTakes 16 IsMadeOf I.ber_gives Same)) Same;
+  der_gives = DerGives PassesAll (OfParts (ListReads 16 IsMadeOf I.der_gives Same)) Same;
+  text_of = λ v. list_text I.text_of v.items;
+}
+
+-- lists and sets, there by either rule: shown by their items, with the strict encoding of the value, unless that is too long
+abbrev pub collection : Item → Meaning
+collection I = record {
+  T = I.T;
+  is_there = λ rule. true;
+  Reads = ReadsByEither I.grammar.Ber I.grammar.Der I.grammar.value I.grammar.allocates I.ber_gives I.der_gives;
+  text_of = I.text_of;
+  Encodes = λ x. StrictEncodingIfAny I.grammar.Form true (I.grammar.value x);
+  reading_allocates = I.grammar.allocates;
+  writing_allocates = true;
+}
+
 abbrev pub meaning_of : TypeName → Meaning
 meaning_of U8 = unsigned 1
 meaning_of U16 = unsigned 2
@@ -128,6 +174,12 @@ meaning_of Integer = leaf any_integer_leaf in_hexadecimal
 meaning_of Octets = leaf octet_string_leaf in_hexadecimal
 meaning_of Bits = leaf bit_string_leaf bits_text
 meaning_of Eoc = ends
+meaning_of VecU8 = collection (vector (unsigned_item 1))
+
+-- lists and sets, whose readers and writers allocate
+abbrev pub has_items : TypeName → Truth
+has_items VecU8 = true
+has_items _ = false
 
 -- the name is that of the type, and is there by the rule
 abbrev pub Names : Rule → List ℕ → TypeName → Type 0

@@ -1,7 +1,7 @@
 //! The texts of answers.
 ghost use Rattle.std.specs.Prelude.{◌≡◌, ℕ, List, OnOk};
 ghost use Rattle.asn1vec_engine.specs.Answer.{IsAnswer, IsAnswerLine, IsRequestAnswer};
-ghost use Rattle.asn1vec_engine.specs.Memory.{AreAlike, TakesNoMemory};
+ghost use Rattle.asn1vec_engine.specs.Memory.{AreAlike, AsksForNoItems, TakesNoMemory};
 ghost use Rattle.asn1vec_engine.specs.Shown.{Gains, IsReadAnswer};
 ghost use Rattle.asn1vec_engine.specs.Meaning.{ReadsByEither};
 ghost use Rattle.asn1vec_engine.specs.Types.{IsTypeAnswer};
@@ -72,6 +72,7 @@ fn push_by_type(
         TypeName::Octets => push_by_either::<OctetString<'_>>(alloc, rule, octets, buffer, text),
         TypeName::Bits => push_by_either::<BitString<'_>>(alloc, rule, octets, buffer, text),
         TypeName::Eoc => push_by_ber::<EndOfContent>(alloc, octets, buffer, text),
+        TypeName::VecU8 => push_by_either::<Vec<u8>>(alloc, rule, octets, buffer, text),
     }
 }
 
@@ -117,8 +118,7 @@ pub fn one_answer()
         → IsAnswer line text → IsAnswer line other → AreAlike line text other }
     ensures one { (line text other : List ℕ)
         → TakesNoMemory line → IsAnswer line text → IsAnswer line other → text ≡ other }
-    // No name allocates yet.
-    ensures none { (line : List ℕ) → TakesNoMemory line }
+    ensures none { (line : List ℕ) → AsksForNoItems line → TakesNoMemory line }
 {}
 
 /// Makes the text the answer to a line, with its end. The octets that it asks for and the encoding that

@@ -6,6 +6,7 @@ mod any;
 mod digits;
 mod engine;
 mod leaves;
+mod lists;
 mod names;
 mod numbers;
 mod request;

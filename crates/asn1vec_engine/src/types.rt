@@ -26,6 +26,7 @@ pub(crate) enum TypeName {
     Octets,
     Bits,
     Eoc,
+    VecU8,
 }
 
 impl TypeName {
@@ -64,6 +65,7 @@ fn type_of(name: &[u8]) -> Option<TypeName>
         b"octets" => Some(TypeName::Octets),
         b"bits" => Some(TypeName::Bits),
         b"eoc" => Some(TypeName::Eoc),
+        b"vec.u8" => Some(TypeName::VecU8),
         _ => None,
     }
 }

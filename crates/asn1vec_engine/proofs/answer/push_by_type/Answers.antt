@@ -53,3 +53,6 @@ returns-in-Enumerated c = rw c.in-Enumerated.is c.push_by_either-in-Enumerated.e
 
 pub returns-in-Integer : goal.returns-in-Integer
 returns-in-Integer c = rw c.in-Integer.is c.push_by_either-in-Integer.ensures
+
+pub returns-in-VecU8 : goal.returns-in-VecU8
+returns-in-VecU8 c = rw c.in-VecU8.is c.push_by_either-in-VecU8.ensures
