@@ -10,3 +10,4 @@ pub mod OneReading
 pub mod OneRefusal
 pub mod ShownLaws
 pub mod Split
+pub mod Walks

@@ -22,7 +22,20 @@ use Rattle.asn1_rs.specs.Grammar.Item.{IsLawfulItem}
 use Rattle.asn1_rs.specs.Header.Reading.{ber_breach, der_breach}
 use Rattle.asn1_rs.specs.Integer.{IntegerCheckGives, IsUnsigned, UnsignedGives, UnsignedRefuses, integer_element}
 use Rattle.asn1_rs.specs.Kinds.{ElementGrammar, IsExactCheck, IsExactConversion, IsLawfulElement}
+use Rattle.asn1_rs.specs.Leaf.{IsLawfulLeaf, Leaf, LeafGives, leaf_element}
+use Rattle.asn1_rs.specs.Laws.Leaf.{leaf_constraints, leaf_converts, leaf_lawful, leaf_one_refusal}
 use Rattle.asn1_rs.specs.Lists.{has_items}
+use Rattle.asn1_rs.specs.declared.asn1_types.set.set_of.SetOf.{SetOf}
+use Rattle.asn1_rs.specs.Set.{HasItems, is_below, items_of, members, multiset}
+use Rattle.asn1_rs.specs.Laws.Set.{member_lawful, multiset_lawful}
+use Rattle.std.specs.declared.cmp.Ordering.{Ordering}
+use Rattle.std.specs.BTreeSet.{BTreeSet, IsFromIterResult}
+use Rattle.std.proofs.lemmas.Map.Lookups.{CmpEqualImpliesEq, btree_set_from_contains, exact_unsigned}
+use Rattle.std.specs.Ordering.{eq_by_cmp, nat_cmp}
+use Rattle.std.specs.Cmp.{IsTotalOrder}
+use Rattle.std.specs.Set.{is_member}
+use Rattle.std.proofs.lemmas.Cmp.{nat_cmp_total}
+use Rattle.std.proofs.lemmas.List.{map-id}
 use Rattle.asn1_rs.specs.Traits.{BerGives, DerGives, OfParts, PassesAll}
 use Rattle.asn1_rs.specs.Laws.Integer.{integer_checks, integer_lawful, one_integer_check_refusal, one_integer_refusal}
 use Rattle.asn1_rs.specs.Laws.Integer.Unsigned.{one_unsigned_refusal, unsigned_converts}
@@ -33,8 +46,8 @@ use Rattle.asn1_rs.specs.Laws.Words.{one_strict}
 use Rattle.asn1vec_engine.specs.declared.request.Rule.{Rule}
 use Rattle.asn1vec_engine.specs.declared.request.Rule.TheVariants.{Ber, Der}
 use Rattle.asn1vec_engine.specs.Shown.{Encoding, IsUnwritten, IsWritten, Reading, Same, StrictEncodingIfAny, list_text}
-use Rattle.asn1vec_engine.specs.Types.{Item, collection, unsigned_item, vector}
-use Rattle.asn1vec_engine.proofs.OneList.{IsOneReader, read_by_der, taken_by_ber}
+use Rattle.asn1vec_engine.specs.Types.{Item, collection, leaf_item, ordered_set, unordered_set, unsigned_item, vector}
+use Rattle.asn1vec_engine.proofs.OneList.{IsOneReader, read_by_der, taken_by_ber, taken_by_der}
 use Rattle.asn1vec_engine.proofs.OneReading.{HasOneAnswer, SameEncoding, SameReading, ShownAlike, ber_same, der_same, readings_weaker, written_same}
 use Rattle.asn1vec_engine.proofs.OneRefusal.{IsOneRefusal, IsOneRefusalBut, one_of_parts}
 
@@ -85,6 +98,39 @@ module _ (I : Item) (one : IsOneItem I) where
     lawful = list_lawful 16 (lit< tt) (λ v. v.items) I.grammar one.lawful;
   }
 
+  set_held : (xs ys : List I.T) (s t : SetOf I.T) → map one.view xs ≡ map one.view ys → HasItems xs s → HasItems ys t → map one.view (items_of s) ≡ map one.view (items_of t)
+  set_held xs ys s t e h k = ap (map one.view) h ∙ e ∙ sym (ap (map one.view) k)
+
+  -- a set that keeps the order of reading: its items are seen in that order, of which its value says nothing
+  pub unordered_set_once : IsOneItem (unordered_set I)
+  unordered_set_once = record {
+    D = List one.D;
+    view = λ s. map one.view (items_of s);
+    text = λ s t e. texts_same I.text_of (items_of s) (items_of t) (follows one.view I.text_of one.text (items_of s) (items_of t) e);
+    value = λ s t e. ap multiset (follows one.view I.grammar.value one.value (items_of s) (items_of t) e);
+    ber = taken_by_ber one.view I.grammar.allocates I.ber_gives one.ber (λ s. map one.view (items_of s)) HasItems set_held 17;
+    der = read_by_der one.view I.grammar.allocates I.der_gives one.der (λ s. map one.view (items_of s)) HasItems set_held 17;
+    lawful = multiset_lawful items_of I.grammar one.lawful;
+  }
+
+  -- a set whose items ascend, where an item is all that is seen of it: the set that has the items that were read is one
+  module _ (cmp : I.T → I.T → Ordering) (total : IsTotalOrder cmp) (apart : CmpEqualImpliesEq cmp) (all : (x y : I.T) → one.view x ≡ one.view y → x ≡ y) where
+    keys_held : (xs ys : List I.T) (s t : BTreeSet I.T) → map one.view xs ≡ map one.view ys → IsFromIterResult cmp xs s → IsFromIterResult cmp ys t → s.keys ≡ t.keys
+    keys_held xs ys s t e h k =
+        let same : xs ≡ ys = sym (map-id xs) ∙ follows one.view (λ x. x) all xs ys e ∙ map-id ys in
+        btree_set_from_contains total s t h.1 k.1 (λ q. h.0 q ∙ ap (λ (zs : List I.T). is_member (eq_by_cmp cmp) zs q) same ∙ sym (k.0 q)) apart
+
+    pub ordered_set_once : IsOneItem (ordered_set I cmp)
+    ordered_set_once = record {
+      D = List I.T;
+      view = λ s. s.keys;
+      text = λ s t e. ap (list_text I.text_of) e;
+      value = λ s t e. ap (members (is_below cmp) I.grammar.value) e;
+      ber = taken_by_ber one.view I.grammar.allocates I.ber_gives one.ber (λ s. s.keys) (λ items s. IsFromIterResult cmp items s) keys_held 17;
+      der = taken_by_der one.view I.grammar.allocates I.der_gives one.der (λ s. s.keys) (λ items s. IsFromIterResult cmp items s) keys_held 17;
+      lawful = member_lawful (is_below cmp) (λ s. s.keys) I.grammar one.lawful;
+    }
+
 -- ---- items that are one element, checked and converted
 
 module _ {S : Type 0} (G : ElementGrammar S) (lawful : IsLawfulElement G) (convert : Any → Result S Error → Type 0) (converts : IsExactConversion convert G) (one_conversion : IsOneRefusalBut G.allocates convert)
@@ -122,6 +168,26 @@ module _ (size : ℕ) where
         lawful = lawful_item G lawful;
       }
 
+  -- and the sets of these whose items ascend
+  pub ordered_unsigned_once : IsOneItem (ordered_set (unsigned_item size) nat_cmp)
+  unfolding unsigned_once
+  ordered_unsigned_once = ordered_set_once (unsigned_item size) unsigned_once nat_cmp nat_cmp_total exact_unsigned pos_same
+
+-- the values of a leaf type
+pub leaf_item_once : {S : Type 0} (L : Leaf S) (text : L.Value → List ℕ) → IsLawfulLeaf L → IsOneItem (leaf_item L text)
+leaf_item_once L text lawful =
+    let one = leaf_one_refusal L lawful in
+    let conversion = one_of_parts (LeafGives L) one.0.one in
+    record {
+      D = L.Value;
+      view = L.value;
+      text = λ x y e. ap text e;
+      value = λ x y e. e;
+      ber = element_by_ber (leaf_element L) (leaf_lawful L lawful) (OfParts (LeafGives L)) (leaf_converts L lawful) conversion L.constraints (leaf_constraints L lawful) one.1.one;
+      der = element_by_der (leaf_element L) (leaf_lawful L lawful) (OfParts (LeafGives L)) (leaf_converts L lawful) conversion L.constraints (leaf_constraints L lawful) one.1.one;
+      lawful = lawful_item (leaf_element L) (leaf_lawful L lawful);
+    }
+
 -- ---- what a name of lists or sets stands for
 
 both_unwritten : (allocates : Bool) (e f : Encoding) → IsUnwritten allocates e → IsUnwritten allocates f → SameEncoding allocates e f
@@ -147,6 +213,7 @@ collection_once I one rule octets a b p q = readings_weaker (λ x y. one.view x 
   where
     shown : (x y : I.T) → one.view x ≡ one.view y → ShownAlike (collection I) x y
     shown x y same = record { text = one.text x y same; encoding = if_any_same I.grammar.Form one.lawful.one_form true (I.grammar.value x) (I.grammar.value y) (one.value x y same) }
+
     read : (rule : Rule) → (collection I).Reads rule octets a → (collection I).Reads rule octets b → SameReading (λ x y. one.view x ≡ one.view y) I.grammar.allocates a b
     read Ber p q = one.ber octets a b p.1 q.1
     read Der p q = one.der octets a b p.1 q.1

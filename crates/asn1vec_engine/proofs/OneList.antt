@@ -78,8 +78,7 @@ module _ (ElementOf : List ℕ → Parts → Type 0) (FaultOf : List ℕ → Fau
   pub one_element : IsOneReader view allocates Gives
   one_element octets (Ok (rest, x)) (Ok (tail, y)) (any, begins, passes, is) (other, starts, passed, too) =
       let same = same_parts ElementOf FaultOf IsCut elements octets rest tail (parts_of any) (parts_of other) begins.front starts.front in
-      let words = (elements.one.one begins.front.word starts.front.word rest tail (parts_of any) (parts_of other) begins.front.fits starts.front.fits (sym begins.front.is ∙ starts.front.is)).0 in
-      (
+      let words = (elements.one.one begins.front.word starts.front.word rest tail (parts_of any) (parts_of other) begins.front.fits starts.front.fits (sym begins.front.is ∙ starts.front.is)).0 in (
         once (parts_of any) (Ok x) (Ok y) is (subst (λ (p : Parts). convert p (Ok y)) same too),
         append_cancel_left begins.front.word rest tail (sym begins.front.is ∙ starts.front.is ∙ ap (λ (l : List ℕ). l ++ tail) (sym words)),
       )

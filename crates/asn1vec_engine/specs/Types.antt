@@ -2,7 +2,10 @@
 use Rattle.std.specs.Prelude.{◌≡◌, Bool as Truth, List, ◌++◌, length, ℕ, ℤ, pos, codes, decimal, true, false, None, Ok}
 use Rattle.std.specs.declared.alloc.Global.{Global}
 use Rattle.std.specs.declared.vec.Vec.{Vec}
+use Rattle.std.specs.declared.cmp.Ordering.{Ordering}
+use Rattle.std.specs.BTreeSet.{BTreeSet, IsFromIterResult}
 use Rattle.std.specs.Fmt.{signed_decimal}
+use Rattle.std.specs.Ordering.{nat_cmp}
 use Rattle.x690.specs.Signed.{IsSigned}
 use Rattle.x690.specs.Strict.{header_octets}
 use Rattle.asn1_rs.specs.declared.error.Error.{Error}
@@ -13,7 +16,9 @@ use Rattle.asn1_rs.specs.Boolean.{bool_leaf}
 use Rattle.asn1_rs.specs.EndOfContent.{end_leaf}
 use Rattle.asn1_rs.specs.Enumerated.{enumerated_leaf}
 use Rattle.asn1_rs.specs.Integer.Octets.{any_integer_leaf}
-use Rattle.asn1_rs.specs.Leaf.{Leaf, LeafBody, LeafGives}
+use Rattle.asn1_rs.specs.Leaf.{Leaf, LeafBody, LeafGives, leaf_element}
+use Rattle.asn1_rs.specs.declared.asn1_types.set.set_of.SetOf.{SetOf}
+use Rattle.asn1_rs.specs.Set.{HasItems, is_below, items_of, member_grammar, multiset_grammar}
 use Rattle.asn1_rs.specs.Null.{null_leaf}
 use Rattle.asn1_rs.specs.OctetString.{octet_string_leaf}
 use Rattle.asn1_rs.specs.Any.{IsTheElement, IsDefiniteOr}
@@ -26,7 +31,7 @@ use Rattle.asn1_rs.specs.Grammar.{BerWord, DerWord}
 use Rattle.asn1_rs.specs.Integer.{IntegerCheck, IntegerCheckGives, IntegerBody, IntegerForm, integer_element, IntegerGives, IsUnsigned, UnsignedGives, UnsignedRefuses, SignedRefuses}
 use Rattle.asn1vec_engine.specs.declared.request.Rule.{Rule}
 use Rattle.asn1vec_engine.specs.declared.types.TypeName.{TypeName}
-use Rattle.asn1vec_engine.specs.declared.types.TypeName.TheVariants.{U8, U16, U32, U64, U128, I8, I16, I32, I64, I128, Any, Bool, Null, Enumerated, Integer, Octets, Bits, Eoc, VecU8}
+use Rattle.asn1vec_engine.specs.declared.types.TypeName.TheVariants.{U8, U16, U32, U64, U128, I8, I16, I32, I64, I128, Any, Bool, Null, Enumerated, Integer, Octets, Bits, Eoc, VecU8, VecU32, VecBool, VecVecU8, SetOfU8, BTreeSetU8}
 use Rattle.asn1vec_engine.specs.Meaning.{Meaning, ReadsByEither, is_ber}
 use Rattle.asn1vec_engine.specs.Shown.{IsReadAnswer, IsWritten, ReadsByBer, Reading, Same, StrictEncoding, StrictEncodingIfAny, bits_text, element_text, in_hexadecimal, list_text, truth_text}
 
@@ -50,6 +55,11 @@ name_of Octets = codes "octets"
 name_of Bits = codes "bits"
 name_of Eoc = codes "eoc"
 name_of VecU8 = codes "vec.u8"
+name_of VecU32 = codes "vec.u32"
+name_of VecBool = codes "vec.bool"
+name_of VecVecU8 = codes "vec.vec.u8"
+name_of SetOfU8 = codes "setof.u8"
+name_of BTreeSetU8 = codes "btreeset.u8"
 
 -- integers, there by either rule: in decimals, with the strict encoding that each has which the type holds
 abbrev pub integers : {T : Type 0} → (T → ℤ) → (ℤ → Type 0) → (List ℕ → Error → Type 0) → Meaning
@@ -133,6 +143,16 @@ unsigned_item size = record {
   text_of = decimal;
 }
 
+-- the values of a leaf type
+abbrev pub leaf_item : {T : Type 0} (L : Leaf T) → (L.Value → List ℕ) → Item
+leaf_item {T} L text = record {
+  T = T;
+  grammar = item_grammar (leaf_element L);
+  ber_gives = BerGives (OfParts (LeafGives L)) Same;
+  der_gives = DerGives L.constraints (OfParts (LeafGives L)) Same;
+  text_of = λ x. text (L.value x);
+}
+
 -- vectors of items; by DER the constructed bit is not looked at
 abbrev pub vector : Item → Item
 vector I = record {
@@ -141,6 +161,26 @@ vector I = record {
   ber_gives = BerGives (OfParts (ListTakes 16 IsMadeOf I.ber_gives Same)) Same;
   der_gives = DerGives PassesAll (OfParts (ListReads 16 IsMadeOf I.der_gives Same)) Same;
   text_of = λ v. list_text I.text_of v.items;
+}
+
+-- sets in which an item may stand more than once: they keep the order in which they were read, and are equal in any order
+abbrev pub unordered_set : Item → Item
+unordered_set I = record {
+  T = SetOf I.T;
+  grammar = multiset_grammar items_of I.grammar;
+  ber_gives = BerGives (OfParts (ListTakes 17 HasItems I.ber_gives Same)) Same;
+  der_gives = DerGives PassesAll (OfParts (ListReads 17 HasItems I.der_gives Same)) Same;
+  text_of = λ s. list_text I.text_of (items_of s);
+}
+
+-- sets whose items ascend, each once: they have the items that were read, and each item is below those behind it
+abbrev pub ordered_set : (I : Item) → (I.T → I.T → Ordering) → Item
+ordered_set I cmp = record {
+  T = BTreeSet I.T;
+  grammar = member_grammar (is_below cmp) (λ s. s.keys) I.grammar;
+  ber_gives = BerGives (OfParts (ListTakes 17 (λ items s. IsFromIterResult cmp items s) I.ber_gives Same)) Same;
+  der_gives = DerGives PassesAll (OfParts (ListTakes 17 (λ items s. IsFromIterResult cmp items s) I.der_gives Same)) Same;
+  text_of = λ s. list_text I.text_of s.keys;
 }
 
 -- lists and sets, there by either rule: shown by their items, with the strict encoding of the value, unless that is too long
@@ -175,10 +215,20 @@ meaning_of Octets = leaf octet_string_leaf in_hexadecimal
 meaning_of Bits = leaf bit_string_leaf bits_text
 meaning_of Eoc = ends
 meaning_of VecU8 = collection (vector (unsigned_item 1))
+meaning_of VecU32 = collection (vector (unsigned_item 4))
+meaning_of VecBool = collection (vector (leaf_item bool_leaf truth_text))
+meaning_of VecVecU8 = collection (vector (vector (unsigned_item 1)))
+meaning_of SetOfU8 = collection (unordered_set (unsigned_item 1))
+meaning_of BTreeSetU8 = collection (ordered_set (unsigned_item 1) nat_cmp)
 
 -- lists and sets, whose readers and writers allocate
 abbrev pub has_items : TypeName → Truth
 has_items VecU8 = true
+has_items VecU32 = true
+has_items VecBool = true
+has_items VecVecU8 = true
+has_items SetOfU8 = true
+has_items BTreeSetU8 = true
 has_items _ = false
 
 -- the name is that of the type, and is there by the rule

@@ -12,9 +12,10 @@ use crate::text::push_str;
 use crate::types::{TypeName, type_named};
 use asn1_rs::{
     Any, BitString, EndOfContent, Enumerated, Error, Integer, LawfulBer, LawfulDer, Null,
-    OctetString,
+    OctetString, SetOf,
 };
 use std::alloc::{AllocError, Global};
+use std::collections::BTreeSet;
 
 /// The most octets of a line, without its end.
 pub(crate) const LONGEST_LINE: usize = 65_536;
@@ -73,6 +74,11 @@ fn push_by_type(
         TypeName::Bits => push_by_either::<BitString<'_>>(alloc, rule, octets, buffer, text),
         TypeName::Eoc => push_by_ber::<EndOfContent>(alloc, octets, buffer, text),
         TypeName::VecU8 => push_by_either::<Vec<u8>>(alloc, rule, octets, buffer, text),
+        TypeName::VecU32 => push_by_either::<Vec<u32>>(alloc, rule, octets, buffer, text),
+        TypeName::VecBool => push_by_either::<Vec<bool>>(alloc, rule, octets, buffer, text),
+        TypeName::VecVecU8 => push_by_either::<Vec<Vec<u8>>>(alloc, rule, octets, buffer, text),
+        TypeName::SetOfU8 => push_by_either::<SetOf<u8>>(alloc, rule, octets, buffer, text),
+        TypeName::BTreeSetU8 => push_by_either::<BTreeSet<u8>>(alloc, rule, octets, buffer, text),
     }
 }
 

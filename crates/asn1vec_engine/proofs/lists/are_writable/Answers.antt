@@ -1,25 +1,25 @@
-use Rattle.std.proofs.Common.{arith, subst}
-use Rattle.std.proofs.lemmas.List.{take_all}
-use Rattle.std.proofs.lemmas.List.Elements.{All-map, All-more}
+use Rattle.std.proofs.lemmas.List.Elements.{All-map}
 use Rattle.asn1_rs.specs.ToDer.{IsWritable}
+use Rattle.asn1vec_engine.proofs.Walks.{all_more, all_seen}
 use Rattle.asn1vec_engine.proofs.lists.are_writable.Goals as goal
 
 pub loop-item-preserved : goal.loop-item-preserved
 loop-item-preserved g c =
-    let x = c.item-item.result in
-    let der = λ (y : _). g.T.Grammar.grammar.IsDer (g.T.Grammar.grammar.value y) in
-    let writable = λ (y : _). IsWritable (g.T.ToDer.count_refuses y) (g.T.ToDer.header_refuses y) (g.T.ToDer.content_refuses y) in
+    let seen = c.loop-item.invariant in
+    let goes = c.in-Some.ensures.goes.on seen.ends in
     record {
-      der = All-more der c.args.items.now c.loop-item.item-index x c.loop-item-test.true c.loop-item.invariant.der (subst der c.item-item.is c.is_writable.ensures.der);
-      writable = All-more writable c.args.items.now c.loop-item.item-index x c.loop-item-test.true c.loop-item.invariant.writable (subst writable c.item-item.is c.is_writable.ensures.writable);
+      can = goes.0;
+      ends = goes.1;
+      der = all_more (λ x. g.T.Grammar.grammar.IsDer (g.T.Grammar.grammar.value x)) c.loop-item.yielded c.in-Some.item seen.der c.is_writable.ensures.der;
+      writable = all_more (λ x. IsWritable (g.T.ToDer.count_refuses x) (g.T.ToDer.header_refuses x) (g.T.ToDer.content_refuses x)) c.loop-item.yielded c.in-Some.item seen.writable c.is_writable.ensures.writable;
     }
 
 pub returns-clause-der : goal.returns-clause-der
-returns-clause-der g c =
-    let whole = take_all c.loop-item.item-index c.args.items.now (omega arith) in
-    All-map g.T.Grammar.grammar.IsDer g.T.Grammar.grammar.value c.args.items.now (rw whole at c.loop-item.invariant.der)
+returns-clause-der g c = λ xs gives.
+    let whole = all_seen g.I.Iterator.next_gives c.args.items xs gives c.into_iter-item-iterator.result c.loop-item.item-iterator c.next.new.self c.into_iter-item-iterator.ensures.into_iter_gives c.loop-item.yielded c.loop-item.yielded_by c.next.result c.next.ensures.steps c.in-None.is in
+    All-map g.T.Grammar.grammar.IsDer g.T.Grammar.grammar.value xs (rw whole at c.loop-item.invariant.der)
 
 pub returns-clause-writable : goal.returns-clause-writable
-returns-clause-writable g c =
-    let whole = take_all c.loop-item.item-index c.args.items.now (omega arith) in
+returns-clause-writable g c = λ xs gives.
+    let whole = all_seen g.I.Iterator.next_gives c.args.items xs gives c.into_iter-item-iterator.result c.loop-item.item-iterator c.next.new.self c.into_iter-item-iterator.ensures.into_iter_gives c.loop-item.yielded c.loop-item.yielded_by c.next.result c.next.ensures.steps c.in-None.is in
     rw whole at c.loop-item.invariant.writable
