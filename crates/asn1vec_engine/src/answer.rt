@@ -1,10 +1,13 @@
 //! The texts of answers.
-ghost use Rattle.std.specs.Prelude.{◌≡◌, ℕ, List, OnOk};
+ghost use Rattle.std.specs.Prelude.{◌≡◌, ℕ, List, Ok, OnOk, decimal};
+ghost use Rattle.std.specs.BTreeSet.{BTreeSet as SetOfMembers};
+ghost use Rattle.std.specs.List.Sorted.{IsStrictlyIncreasing};
+ghost use Rattle.asn1vec_engine.specs.declared.types.TypeName.TheVariants.{BTreeSetU8};
 ghost use Rattle.asn1vec_engine.specs.Answer.{IsAnswer, IsAnswerLine, IsRequestAnswer};
 ghost use Rattle.asn1vec_engine.specs.Memory.{AreAlike, AsksForNoItems, TakesNoMemory};
-ghost use Rattle.asn1vec_engine.specs.Shown.{Gains, IsReadAnswer};
+ghost use Rattle.asn1vec_engine.specs.Shown.{Gains, IsReadAnswer, list_text};
 ghost use Rattle.asn1vec_engine.specs.Meaning.{ReadsByEither};
-ghost use Rattle.asn1vec_engine.specs.Types.{IsTypeAnswer};
+ghost use Rattle.asn1vec_engine.specs.Types.{IsTypeAnswer, meaning_of};
 
 use crate::request::{Request, Rule, read_request};
 use crate::shown::{Shown, push_by_ber, push_by_der};
@@ -125,6 +128,14 @@ pub fn one_answer()
     ensures one { (line text other : List ℕ)
         → TakesNoMemory line → IsAnswer line text → IsAnswer line other → text ≡ other }
     ensures none { (line : List ℕ) → AsksForNoItems line → TakesNoMemory line }
+{}
+
+/// The items that are shown of a set that was read as `btreeset.u8` ascend.
+pub fn members_ascend()
+    ensures { (rule : Rule) (octets rest : List ℕ) (members : SetOfMembers ℕ)
+        → (meaning_of BTreeSetU8).Reads rule octets (Ok (rest, members))
+        → (meaning_of BTreeSetU8).text_of members ≡ list_text decimal members.keys
+        × IsStrictlyIncreasing members.keys }
 {}
 
 /// Makes the text the answer to a line, with its end. The octets that it asks for and the encoding that
