@@ -4,7 +4,10 @@ pub mod Hexadecimal
 pub mod LineLaws
 pub mod Moved
 pub mod OneAnswer
+pub mod OneItem
+pub mod OneList
 pub mod OneReading
 pub mod OneRefusal
 pub mod ShownLaws
 pub mod Split
+pub mod Walks

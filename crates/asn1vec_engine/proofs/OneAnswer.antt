@@ -36,14 +36,15 @@ use Rattle.asn1_rs.specs.Laws.Integer.Unsigned.{one_unsigned_refusal}
 use Rattle.asn1_rs.specs.Laws.Integer.Signed.{one_signed_refusal}
 use Rattle.asn1vec_engine.specs.declared.request.Rule.{Rule}
 use Rattle.asn1vec_engine.specs.declared.types.TypeName.{TypeName}
-use Rattle.asn1vec_engine.specs.declared.types.TypeName.TheVariants.{U8, U16, U32, U64, U128, I8, I16, I32, I64, I128, Any, Bool, Null, Enumerated, Integer, Octets, Bits, Eoc}
+use Rattle.asn1vec_engine.specs.declared.types.TypeName.TheVariants.{U8, U16, U32, U64, U128, I8, I16, I32, I64, I128, Any, Bool, Null, Enumerated, Integer, Octets, Bits, Eoc, VecU8, VecU32, VecBool, VecVecU8, SetOfU8, BTreeSetU8}
 use Rattle.asn1vec_engine.specs.Request.{IsRequest}
 use Rattle.asn1vec_engine.specs.Shown.{IsWritten, bits_text, element_text, in_hexadecimal, truth_text}
 use Rattle.asn1vec_engine.specs.Meaning.{Meaning}
-use Rattle.asn1vec_engine.specs.Types.{name_of, meaning_of, integers, elements, leaf, leaf_octets, ends, Names, IsTypeAnswer}
+use Rattle.asn1vec_engine.specs.Types.{has_items, name_of, meaning_of, integers, elements, leaf, leaf_octets, ends, Names, IsTypeAnswer}
 use Rattle.asn1vec_engine.specs.Answer.{IsRequestAnswer, IsRefusedLine, IsAnswered, IsAnswer, IsAnswerLine, AreAnswers, BeginAnswers}
-use Rattle.asn1vec_engine.specs.Memory.{DifferByMemory, AreAlike, TakesNoMemory, AllAlike}
+use Rattle.asn1vec_engine.specs.Memory.{AsksForNoItems, DifferByMemory, AreAlike, TakesNoMemory, AllAlike}
 use Rattle.asn1vec_engine.proofs.OneReading.{HasOneAnswer, ShownAlike, answers_alike, readings_weaker, strict_same, written_same, ber_same, either_same}
+use Rattle.asn1vec_engine.proofs.OneItem.{collection_once, leaf_item_once, ordered_unsigned_once, unordered_set_once, unsigned_once, vector_once}
 use Rattle.asn1vec_engine.proofs.OneRefusal.{one_of_parts}
 use Rattle.asn1vec_engine.proofs.Split.{requests_same}
 
@@ -105,15 +106,21 @@ type_once Integer = leaf_once any_integer_leaf in_hexadecimal any_integer_lawful
 type_once Octets = leaf_once octet_string_leaf in_hexadecimal octet_string_lawful
 type_once Bits = leaf_once bit_string_leaf bits_text bit_string_lawful
 type_once Eoc = ends_once
+type_once VecU8 = collection_once _ (vector_once _ (unsigned_once 1))
+type_once VecU32 = collection_once _ (vector_once _ (unsigned_once 4))
+type_once VecBool = collection_once _ (vector_once _ (leaf_item_once bool_leaf truth_text bool_lawful))
+type_once VecVecU8 = collection_once _ (vector_once _ (vector_once _ (unsigned_once 1)))
+type_once SetOfU8 = collection_once _ (unordered_set_once _ (unsigned_once 1))
+type_once BTreeSetU8 = collection_once _ (ordered_unsigned_once 1)
 
-allocates_none : (t : TypeName) → ((meaning_of t).reading_allocates ≡ false) × ((meaning_of t).writing_allocates ≡ false)
-allocates_none t = grind arith
+allocates_none : (t : TypeName) → has_items t ≡ false → ((meaning_of t).reading_allocates ≡ false) × ((meaning_of t).writing_allocates ≡ false)
+allocates_none t none = grind arith
 
 -- ---- a line
 
 -- the type that has a name
 named : List ℕ → Option TypeName
-named name = find (λ t. pointwise eqb name (name_of t)) (U8 ∷ U16 ∷ U32 ∷ U64 ∷ U128 ∷ I8 ∷ I16 ∷ I32 ∷ I64 ∷ I128 ∷ Any ∷ Bool ∷ Null ∷ Enumerated ∷ Integer ∷ Octets ∷ Bits ∷ Eoc ∷ [])
+named name = find (λ t. pointwise eqb name (name_of t)) (U8 ∷ U16 ∷ U32 ∷ U64 ∷ U128 ∷ I8 ∷ I16 ∷ I32 ∷ I64 ∷ I128 ∷ Any ∷ Bool ∷ Null ∷ Enumerated ∷ Integer ∷ Octets ∷ Bits ∷ Eoc ∷ VecU8 ∷ VecU32 ∷ VecBool ∷ VecVecU8 ∷ SetOfU8 ∷ BTreeSetU8 ∷ [])
 
 named_by_its_name : (t : TypeName) → named (name_of t) ≡ Some t
 unfolding named
@@ -162,8 +169,8 @@ answered_once line text other none a b = once (answered_alike line text other a 
     once (inl same) = same
     once (inr (t, asks, memory)) = absurd (no_difference (meaning_of t) text other (none t asks) memory)
 
-pub takes_no_memory : (line : List ℕ) → TakesNoMemory line
-takes_no_memory line t asks = allocates_none t
+pub takes_no_memory : (line : List ℕ) → AsksForNoItems line → TakesNoMemory line
+takes_no_memory line none t asks = allocates_none t (none t asks)
 
 -- ---- an input
 

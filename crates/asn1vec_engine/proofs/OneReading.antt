@@ -116,7 +116,7 @@ readings_weaker P Q allocates weaker (Err q) (Err r) h = h
 -- ---- lawful types
 
 -- writing into a vector is refused only where the encoding is too long, or when out of memory
-only_refusals : (allocates : Bool) (n : ℕ) (e : SerializeError) → MayRefuse allocates n e → tells_of_io e ≡ false → ((e ≡ serialize_errors.InvalidLength) × (2 ^ 64 ≤ n)) ⊎ ((allocates ≡ true) × (e ≡ serialize_errors.OutOfMemory))
+pub only_refusals : (allocates : Bool) (n : ℕ) (e : SerializeError) → MayRefuse allocates n e → tells_of_io e ≡ false → ((e ≡ serialize_errors.InvalidLength) × (2 ^ 64 ≤ n)) ⊎ ((allocates ≡ true) × (e ≡ serialize_errors.OutOfMemory))
 only_refusals allocates n (serialize_errors.ASN1Error e) may other = absurd may
 only_refusals allocates n (serialize_errors.InvalidClass c) may other = absurd may
 only_refusals allocates n serialize_errors.InvalidLength may other = inl (refl, may)
@@ -177,10 +177,10 @@ module _ {T V : Type 0} (IsCut : List ℕ → Type 0) (G : List ℕ → V → Ty
   readings_same octets (Err q) (Err r) p s = one_refusal octets q r p.1 s.1
 
 -- by BER no check refuses
-one_pass : IsOneRefusal PassesAll
+pub one_pass : IsOneRefusal PassesAll
 one_pass p e f h k = cc
 
-passed : (p : Parts) (e : Error) → PassesAll p (Ok tt) → PassesAll p (Err e) → ⊥
+pub passed : (p : Parts) (e : Error) → PassesAll p (Ok tt) → PassesAll p (Err e) → ⊥
 passed p e h k = cc
 
 -- a type that is read as one element and converted, by BER; and, where it is checked, by DER

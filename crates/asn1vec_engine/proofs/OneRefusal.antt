@@ -45,6 +45,16 @@ refused_same allocates q r e f (inl same) is too = inl (is ∙ ap refused same �
 refused_same allocates q r e f (inr (takes, inl memory)) is too = inr (takes, inl (is ∙ ap refused memory))
 refused_same allocates q r e f (inr (takes, inr memory)) is too = inr (takes, inr (too ∙ ap refused memory))
 
+-- one element alone begins octets, and none where there is a fault
+module _ (ElementOf : List ℕ → Parts → Type 0) (FaultOf : List ℕ → Fault → Type 0) (IsCut : List ℕ → Type 0) (elements : AreElements ElementOf FaultOf IsCut) where
+  pub same_parts : (input rest tail : List ℕ) (p o : Parts) → Front ElementOf input p rest → Front ElementOf input o tail → o ≡ p
+  same_parts input rest tail p o f g = (elements.one.one g.word f.word tail rest o p g.fits f.fits (sym g.is ∙ f.is)).1
+
+  pub element_or_fault : (refuses : Breach → Error) (input rest : List ℕ) (p : Parts) (fault : Fault) → Front ElementOf input p rest → FaultOf input fault → ⊥
+  element_or_fault refuses input rest p fault f why =
+      let silent = speaks_itself refuses fault (refusal_of refuses fault) (IsCut input) [] (elements.counts input fault why) refl (speaks_now (IsCut input) (refusal_of refuses fault)) in
+      elements.final input [] f.word rest p fault why silent f.fits (append-nil input ∙ f.is)
+
 module _ {T : Type 0} (allocates : Bool) (check : Parts → Result (Unit {0}) Error → Type 0) (convert : Any → Result T Error → Type 0) where
   -- the check or the conversion refused the element
   abbrev RefusedElement : Any → Refusal Error → Type 0
@@ -61,20 +71,12 @@ module _ {T : Type 0} (allocates : Bool) (check : Parts → Result (Unit {0}) Er
     elements_once a b q r alike (inr (passed, (e, why, is))) (inr (again, (f, also, too))) = refused_same allocates q r e f (one_conversion a b e f alike why also) is too
 
     module _ (ElementOf : List ℕ → Parts → Type 0) (FaultOf : List ℕ → Fault → Type 0) (IsCut : List ℕ → Type 0) (elements : AreElements ElementOf FaultOf IsCut) (refuses : Breach → Error) where
-      same_parts : (input rest tail : List ℕ) (p o : Parts) → Front ElementOf input p rest → Front ElementOf input o tail → o ≡ p
-      same_parts input rest tail p o f g = (elements.one.one g.word f.word tail rest o p g.fits f.fits (sym g.is ∙ f.is)).1
-
-      element_or_fault : (input rest : List ℕ) (p : Parts) (fault : Fault) → Front ElementOf input p rest → FaultOf input fault → ⊥
-      element_or_fault input rest p fault f why =
-          let silent = speaks_itself refuses fault (refusal_of refuses fault) (IsCut input) [] (elements.counts input fault why) refl (speaks_now (IsCut input) (refusal_of refuses fault)) in
-          elements.final input [] f.word rest p fault why silent f.fits (append-nil input ∙ f.is)
-
       abbrev Gives : List ℕ → Result (List ℕ × T) (Refusal Error) → Type 0
       Gives = ElementGives ElementOf FaultOf (refusal_of refuses) check convert Same
 
       pub one_reading_refusal : (input : List ℕ) (q r : Refusal Error) → Gives input (Err q) → Gives input (Err r) → Agree q r
       one_reading_refusal input q r (inl (f, why, c)) (inl (g, also, d)) =
           inl (converted_same (refusal_of refuses f) q c ∙ ap (refusal_of refuses) (elements.alone input f g why also) ∙ sym (converted_same (refusal_of refuses g) r d))
-      one_reading_refusal input q r (inl (f, why, c)) (inr (a, rest, begins, given)) = absurd (element_or_fault input rest (parts_of a) f begins.front why)
-      one_reading_refusal input q r (inr (a, rest, begins, given)) (inl (f, why, c)) = absurd (element_or_fault input rest (parts_of a) f begins.front why)
-      one_reading_refusal input q r (inr (a, rest, begins, given)) (inr (b, tail, other, taken)) = elements_once a b q r (same_parts input rest tail (parts_of a) (parts_of b) begins.front other.front) given taken
+      one_reading_refusal input q r (inl (f, why, c)) (inr (a, rest, begins, given)) = absurd (element_or_fault ElementOf FaultOf IsCut elements refuses input rest (parts_of a) f begins.front why)
+      one_reading_refusal input q r (inr (a, rest, begins, given)) (inl (f, why, c)) = absurd (element_or_fault ElementOf FaultOf IsCut elements refuses input rest (parts_of a) f begins.front why)
+      one_reading_refusal input q r (inr (a, rest, begins, given)) (inr (b, tail, other, taken)) = elements_once a b q r (same_parts ElementOf FaultOf IsCut elements input rest tail (parts_of a) (parts_of b) begins.front other.front) given taken

@@ -4,7 +4,7 @@ use Rattle.asn1vec_engine.specs.declared.request.Rule.{Rule}
 use Rattle.asn1vec_engine.specs.declared.types.TypeName.{TypeName}
 use Rattle.asn1vec_engine.specs.Request.{IsRequest}
 use Rattle.asn1vec_engine.specs.Meaning.{Meaning}
-use Rattle.asn1vec_engine.specs.Types.{meaning_of, Names}
+use Rattle.asn1vec_engine.specs.Types.{has_items, meaning_of, Names}
 
 -- The text tells that memory was refused where the other one goes on: in reading, or, behind the
 -- same value and rest, in writing.
@@ -32,6 +32,10 @@ abbrev pub TakesNoMemory : List ℕ → Type 0
 TakesNoMemory line =
     (t : TypeName) → AsksFor line t →
     ((meaning_of t).reading_allocates ≡ false) × ((meaning_of t).writing_allocates ≡ false)
+
+-- it asks for none that has items
+abbrev pub AsksForNoItems : List ℕ → Type 0
+AsksForNoItems line = (t : TypeName) → AsksFor line t → has_items t ≡ false
 
 -- the same of the answers to lines, each with its end
 abbrev pub AllAlike : List (List ℕ) → List ℕ → List ℕ → Type 0

@@ -1,10 +1,12 @@
 -- How a reading is answered: the value, what follows it and its encoding, or the refusal.
-use Rattle.std.specs.Prelude.{◌≡◌, ℕ, ◌<◌, ◌^◌, Bool, true, false, List, [], ◌∷◌, ◌++◌, length, codes, decimal, Option, None, Some, Result, Ok, Err}
+use Rattle.std.specs.Prelude.{◌≡◌, ℕ, ◌<◌, ◌^◌, Bool, true, false, List, [], ◌∷◌, ◌++◌, length, codes, decimal, Option, None, Some, Result, Ok, Err, ◌⊎◌}
+use Rattle.std.specs.List.{join_by}
 use Rattle.hex.specs.Hex.{encode_lower}
 use Rattle.x690.specs.Identifiers.{Identifier, IsCutIdentifier}
 use Rattle.asn1_rs.specs.declared.error.Err.{Err as Refusal}
 use Rattle.asn1_rs.specs.declared.error.Error.{Error}
 use Rattle.asn1_rs.specs.declared.error.SerializeError.{SerializeError}
+use Rattle.asn1_rs.specs.declared.error.SerializeError.TheVariants as serialize_errors
 use Rattle.asn1_rs.specs.Answers.{Exactly, TellsMemory}
 use Rattle.asn1_rs.specs.Ber.{EndsWithin}
 use Rattle.asn1_rs.specs.Any.Value.{ElementValue}
@@ -39,6 +41,10 @@ abbrev pub element_text : ElementValue → List ℕ
 element_text v =
     decimal v.id.class ++ (codes "." ++ (letter_of v.id.constructed ++ (codes "." ++
     (decimal v.id.number ++ (codes "." ++ in_hexadecimal v.content)))))
+
+-- the texts of items, parted by commas, in brackets
+abbrev pub list_text : {T : Type 0} → (T → List ℕ) → List T → List ℕ
+list_text text_of items = codes "[" ++ (join_by text_of (codes ",") items ++ codes "]")
 
 -- What there is to say of the encoding of a value: nothing, where its type has no writer; the octets
 -- that were written; or why writing it was refused.
@@ -105,6 +111,18 @@ IsWritten allocates octets (Some (Err e)) =
 abbrev pub StrictEncoding : {V : Type 0} → (V → Identifier → List ℕ → Type 0) → Bool → V → Encoding → Type 0
 StrictEncoding Form allocates v encoding =
     (octets : List ℕ) × IsStrict Form v octets × IsWritten allocates octets encoding
+
+-- The same of a value that may have no strict encoding, as that would be too long: writing it is refused then, for its
+-- length or when out of memory.
+abbrev pub IsUnwritten : Bool → Encoding → Type 0
+IsUnwritten allocates encoding =
+    (encoding ≡ Some (Err serialize_errors.InvalidLength)) ⊎
+    ((allocates ≡ true) × (encoding ≡ Some (Err serialize_errors.OutOfMemory)))
+
+abbrev pub StrictEncodingIfAny : {V : Type 0} → (V → Identifier → List ℕ → Type 0) → Bool → V → Encoding → Type 0
+StrictEncodingIfAny Form allocates v encoding =
+    ((octets : List ℕ) × ∥ IsStrict Form v octets ∥₁ × IsWritten allocates octets encoding) ⊎
+    (((octets : List ℕ) → ¬ IsStrict Form v octets) × IsUnwritten allocates encoding)
 
 -- ---- what functions on the way say
 

@@ -1,6 +1,11 @@
 -- The names of types, and what each stands for.
-use Rattle.std.specs.Prelude.{◌≡◌, List, ◌++◌, length, ℕ, ℤ, pos, codes, decimal, true, false, None, Ok}
+use Rattle.std.specs.Prelude.{◌≡◌, Bool as Truth, List, ◌++◌, length, ℕ, ℤ, pos, codes, decimal, true, false, None, Ok}
+use Rattle.std.specs.declared.alloc.Global.{Global}
+use Rattle.std.specs.declared.vec.Vec.{Vec}
+use Rattle.std.specs.declared.cmp.Ordering.{Ordering}
+use Rattle.std.specs.BTreeSet.{BTreeSet, IsFromIterResult}
 use Rattle.std.specs.Fmt.{signed_decimal}
+use Rattle.std.specs.Ordering.{nat_cmp}
 use Rattle.x690.specs.Signed.{IsSigned}
 use Rattle.x690.specs.Strict.{header_octets}
 use Rattle.asn1_rs.specs.declared.error.Error.{Error}
@@ -11,19 +16,24 @@ use Rattle.asn1_rs.specs.Boolean.{bool_leaf}
 use Rattle.asn1_rs.specs.EndOfContent.{end_leaf}
 use Rattle.asn1_rs.specs.Enumerated.{enumerated_leaf}
 use Rattle.asn1_rs.specs.Integer.Octets.{any_integer_leaf}
-use Rattle.asn1_rs.specs.Leaf.{Leaf, LeafBody, LeafGives}
+use Rattle.asn1_rs.specs.Leaf.{Leaf, LeafBody, LeafGives, leaf_element}
+use Rattle.asn1_rs.specs.declared.asn1_types.set.set_of.SetOf.{SetOf}
+use Rattle.asn1_rs.specs.Set.{HasItems, is_below, items_of, member_grammar, multiset_grammar}
 use Rattle.asn1_rs.specs.Null.{null_leaf}
 use Rattle.asn1_rs.specs.OctetString.{octet_string_leaf}
 use Rattle.asn1_rs.specs.Any.{IsTheElement, IsDefiniteOr}
-use Rattle.asn1_rs.specs.Traits.{OfParts, BerGives, DerGives}
+use Rattle.asn1_rs.specs.Traits.{OfParts, BerGives, DerGives, PassesAll}
+use Rattle.asn1_rs.specs.Lists.{ListReads, ListTakes, has_items as IsMadeOf, list_grammar}
+use Rattle.asn1_rs.specs.Kinds.{item_grammar}
+use Rattle.asn1_rs.specs.Grammar.Item.{ItemGrammar}
 use Rattle.asn1_rs.specs.Any.Value.{element_of, ElementBody, ElementCheck, ElementForm}
 use Rattle.asn1_rs.specs.Grammar.{BerWord, DerWord}
-use Rattle.asn1_rs.specs.Integer.{IntegerCheck, IntegerCheckGives, IntegerBody, IntegerForm, IntegerGives, IsUnsigned, UnsignedRefuses, SignedRefuses}
+use Rattle.asn1_rs.specs.Integer.{IntegerCheck, IntegerCheckGives, IntegerBody, IntegerForm, integer_element, IntegerGives, IsUnsigned, UnsignedGives, UnsignedRefuses, SignedRefuses}
 use Rattle.asn1vec_engine.specs.declared.request.Rule.{Rule}
 use Rattle.asn1vec_engine.specs.declared.types.TypeName.{TypeName}
-use Rattle.asn1vec_engine.specs.declared.types.TypeName.TheVariants.{U8, U16, U32, U64, U128, I8, I16, I32, I64, I128, Any, Bool, Null, Enumerated, Integer, Octets, Bits, Eoc}
+use Rattle.asn1vec_engine.specs.declared.types.TypeName.TheVariants.{U8, U16, U32, U64, U128, I8, I16, I32, I64, I128, Any, Bool, Null, Enumerated, Integer, Octets, Bits, Eoc, VecU8, VecU32, VecBool, VecVecU8, SetOfU8, BTreeSetU8}
 use Rattle.asn1vec_engine.specs.Meaning.{Meaning, ReadsByEither, is_ber}
-use Rattle.asn1vec_engine.specs.Shown.{IsReadAnswer, IsWritten, ReadsByBer, Same, StrictEncoding, bits_text, element_text, in_hexadecimal, truth_text}
+use Rattle.asn1vec_engine.specs.Shown.{IsReadAnswer, IsWritten, ReadsByBer, Reading, Same, StrictEncoding, StrictEncodingIfAny, bits_text, element_text, in_hexadecimal, list_text, truth_text}
 
 abbrev pub name_of : TypeName → List ℕ
 name_of U8 = codes "u8"
@@ -44,6 +54,12 @@ name_of Integer = codes "integer"
 name_of Octets = codes "octets"
 name_of Bits = codes "bits"
 name_of Eoc = codes "eoc"
+name_of VecU8 = codes "vec.u8"
+name_of VecU32 = codes "vec.u32"
+name_of VecBool = codes "vec.bool"
+name_of VecVecU8 = codes "vec.vec.u8"
+name_of SetOfU8 = codes "setof.u8"
+name_of BTreeSetU8 = codes "btreeset.u8"
 
 -- integers, there by either rule: in decimals, with the strict encoding that each has which the type holds
 abbrev pub integers : {T : Type 0} → (T → ℤ) → (ℤ → Type 0) → (List ℕ → Error → Type 0) → Meaning
@@ -109,6 +125,76 @@ ends = record {
   writing_allocates = false;
 }
 
+-- What there is to say of a type of items: its values and grammars, what its readers may answer, and how an item is shown.
+pub record Item : Type 1 where
+  pub T : Type 0
+  pub grammar : ItemGrammar T
+  pub ber_gives : List ℕ → Reading T → Type 0
+  pub der_gives : List ℕ → Reading T → Type 0
+  pub text_of : T → List ℕ
+
+-- the unsigned integers of so many octets
+abbrev pub unsigned_item : ℕ → Item
+unsigned_item size = record {
+  T = ℕ;
+  grammar = item_grammar (integer_element pos (IsUnsigned size));
+  ber_gives = BerGives (OfParts (UnsignedGives size)) Same;
+  der_gives = DerGives IntegerCheckGives (OfParts (UnsignedGives size)) Same;
+  text_of = decimal;
+}
+
+-- the values of a leaf type
+abbrev pub leaf_item : {T : Type 0} (L : Leaf T) → (L.Value → List ℕ) → Item
+leaf_item {T} L text = record {
+  T = T;
+  grammar = item_grammar (leaf_element L);
+  ber_gives = BerGives (OfParts (LeafGives L)) Same;
+  der_gives = DerGives L.constraints (OfParts (LeafGives L)) Same;
+  text_of = λ x. text (L.value x);
+}
+
+-- vectors of items; by DER the constructed bit is not looked at
+abbrev pub vector : Item → Item
+vector I = record {
+  T = Vec I.T Global;
+  grammar = list_grammar 16 (λ v. v.items) I.grammar;
+  ber_gives = BerGives (OfParts (ListTakes 16 IsMadeOf I.ber_gives Same)) Same;
+  der_gives = DerGives PassesAll (OfParts (ListReads 16 IsMadeOf I.der_gives Same)) Same;
+  text_of = λ v. list_text I.text_of v.items;
+}
+
+-- sets in which an item may stand more than once: they keep the order in which they were read, and are equal in any order
+abbrev pub unordered_set : Item → Item
+unordered_set I = record {
+  T = SetOf I.T;
+  grammar = multiset_grammar items_of I.grammar;
+  ber_gives = BerGives (OfParts (ListTakes 17 HasItems I.ber_gives Same)) Same;
+  der_gives = DerGives PassesAll (OfParts (ListReads 17 HasItems I.der_gives Same)) Same;
+  text_of = λ s. list_text I.text_of (items_of s);
+}
+
+-- sets whose items ascend, each once: they have the items that were read, and each item is below those behind it
+abbrev pub ordered_set : (I : Item) → (I.T → I.T → Ordering) → Item
+ordered_set I cmp = record {
+  T = BTreeSet I.T;
+  grammar = member_grammar (is_below cmp) (λ s. s.keys) I.grammar;
+  ber_gives = BerGives (OfParts (ListTakes 17 (λ items s. IsFromIterResult cmp items s) I.ber_gives Same)) Same;
+  der_gives = DerGives PassesAll (OfParts (ListTakes 17 (λ items s. IsFromIterResult cmp items s) I.der_gives Same)) Same;
+  text_of = λ s. list_text I.text_of s.keys;
+}
+
+-- lists and sets, there by either rule: shown by their items, with the strict encoding of the value, unless that is too long
+abbrev pub collection : Item → Meaning
+collection I = record {
+  T = I.T;
+  is_there = λ rule. true;
+  Reads = ReadsByEither I.grammar.Ber I.grammar.Der I.grammar.value I.grammar.allocates I.ber_gives I.der_gives;
+  text_of = I.text_of;
+  Encodes = λ x. StrictEncodingIfAny I.grammar.Form true (I.grammar.value x);
+  reading_allocates = I.grammar.allocates;
+  writing_allocates = true;
+}
+
 abbrev pub meaning_of : TypeName → Meaning
 meaning_of U8 = unsigned 1
 meaning_of U16 = unsigned 2
@@ -128,6 +214,22 @@ meaning_of Integer = leaf any_integer_leaf in_hexadecimal
 meaning_of Octets = leaf octet_string_leaf in_hexadecimal
 meaning_of Bits = leaf bit_string_leaf bits_text
 meaning_of Eoc = ends
+meaning_of VecU8 = collection (vector (unsigned_item 1))
+meaning_of VecU32 = collection (vector (unsigned_item 4))
+meaning_of VecBool = collection (vector (leaf_item bool_leaf truth_text))
+meaning_of VecVecU8 = collection (vector (vector (unsigned_item 1)))
+meaning_of SetOfU8 = collection (unordered_set (unsigned_item 1))
+meaning_of BTreeSetU8 = collection (ordered_set (unsigned_item 1) nat_cmp)
+
+-- lists and sets, whose readers and writers allocate
+abbrev pub has_items : TypeName → Truth
+has_items VecU8 = true
+has_items VecU32 = true
+has_items VecBool = true
+has_items VecVecU8 = true
+has_items SetOfU8 = true
+has_items BTreeSetU8 = true
+has_items _ = false
 
 -- the name is that of the type, and is there by the rule
 abbrev pub Names : Rule → List ℕ → TypeName → Type 0

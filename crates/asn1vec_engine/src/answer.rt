@@ -1,10 +1,13 @@
 //! The texts of answers.
-ghost use Rattle.std.specs.Prelude.{◌≡◌, ℕ, List, OnOk};
+ghost use Rattle.std.specs.Prelude.{◌≡◌, ℕ, List, Ok, OnOk, decimal};
+ghost use Rattle.std.specs.BTreeSet.{BTreeSet as SetOfMembers};
+ghost use Rattle.std.specs.List.Sorted.{IsStrictlyIncreasing};
+ghost use Rattle.asn1vec_engine.specs.declared.types.TypeName.TheVariants.{BTreeSetU8};
 ghost use Rattle.asn1vec_engine.specs.Answer.{IsAnswer, IsAnswerLine, IsRequestAnswer};
-ghost use Rattle.asn1vec_engine.specs.Memory.{AreAlike, TakesNoMemory};
-ghost use Rattle.asn1vec_engine.specs.Shown.{Gains, IsReadAnswer};
+ghost use Rattle.asn1vec_engine.specs.Memory.{AreAlike, AsksForNoItems, TakesNoMemory};
+ghost use Rattle.asn1vec_engine.specs.Shown.{Gains, IsReadAnswer, list_text};
 ghost use Rattle.asn1vec_engine.specs.Meaning.{ReadsByEither};
-ghost use Rattle.asn1vec_engine.specs.Types.{IsTypeAnswer};
+ghost use Rattle.asn1vec_engine.specs.Types.{IsTypeAnswer, meaning_of};
 
 use crate::request::{Request, Rule, read_request};
 use crate::shown::{Shown, push_by_ber, push_by_der};
@@ -12,9 +15,10 @@ use crate::text::push_str;
 use crate::types::{TypeName, type_named};
 use asn1_rs::{
     Any, BitString, EndOfContent, Enumerated, Error, Integer, LawfulBer, LawfulDer, Null,
-    OctetString,
+    OctetString, SetOf,
 };
 use std::alloc::{AllocError, Global};
+use std::collections::BTreeSet;
 
 /// The most octets of a line, without its end.
 pub(crate) const LONGEST_LINE: usize = 65_536;
@@ -72,6 +76,12 @@ fn push_by_type(
         TypeName::Octets => push_by_either::<OctetString<'_>>(alloc, rule, octets, buffer, text),
         TypeName::Bits => push_by_either::<BitString<'_>>(alloc, rule, octets, buffer, text),
         TypeName::Eoc => push_by_ber::<EndOfContent>(alloc, octets, buffer, text),
+        TypeName::VecU8 => push_by_either::<Vec<u8>>(alloc, rule, octets, buffer, text),
+        TypeName::VecU32 => push_by_either::<Vec<u32>>(alloc, rule, octets, buffer, text),
+        TypeName::VecBool => push_by_either::<Vec<bool>>(alloc, rule, octets, buffer, text),
+        TypeName::VecVecU8 => push_by_either::<Vec<Vec<u8>>>(alloc, rule, octets, buffer, text),
+        TypeName::SetOfU8 => push_by_either::<SetOf<u8>>(alloc, rule, octets, buffer, text),
+        TypeName::BTreeSetU8 => push_by_either::<BTreeSet<u8>>(alloc, rule, octets, buffer, text),
     }
 }
 
@@ -117,8 +127,15 @@ pub fn one_answer()
         → IsAnswer line text → IsAnswer line other → AreAlike line text other }
     ensures one { (line text other : List ℕ)
         → TakesNoMemory line → IsAnswer line text → IsAnswer line other → text ≡ other }
-    // No name allocates yet.
-    ensures none { (line : List ℕ) → TakesNoMemory line }
+    ensures none { (line : List ℕ) → AsksForNoItems line → TakesNoMemory line }
+{}
+
+/// The items that are shown of a set that was read as `btreeset.u8` ascend.
+pub fn members_ascend()
+    ensures { (rule : Rule) (octets rest : List ℕ) (members : SetOfMembers ℕ)
+        → (meaning_of BTreeSetU8).Reads rule octets (Ok (rest, members))
+        → (meaning_of BTreeSetU8).text_of members ≡ list_text decimal members.keys
+        × IsStrictlyIncreasing members.keys }
 {}
 
 /// Makes the text the answer to a line, with its end. The octets that it asks for and the encoding that

@@ -6,6 +6,7 @@ mod any;
 mod digits;
 mod engine;
 mod leaves;
+mod lists;
 mod names;
 mod numbers;
 mod request;
@@ -13,6 +14,6 @@ mod shown;
 mod text;
 mod types;
 
-pub use answer::one_answer;
+pub use answer::{members_ascend, one_answer};
 pub use engine::{RunError, one_output, run};
 pub use request::{Rule, one_request};

@@ -2,10 +2,10 @@
 ghost use Rattle.std.specs.Prelude.{◌≡◌, ◌++◌, ◌||◌, ℕ, List, Result, Ok, OnOk};
 ghost use Rattle.asn1_rs.specs.Answers.{seen};
 ghost use Rattle.asn1_rs.specs.Grammar.Form.{IsStrict};
-ghost use Rattle.asn1_rs.specs.ToDer.{Either, some_allocates};
+ghost use Rattle.asn1_rs.specs.ToDer.{Either, IsWritable, some_allocates};
 ghost use Rattle.asn1_rs.specs.declared.error.SerializeError.{SerializeError};
 ghost use Rattle.asn1_rs.specs.Error.{tells_of_io};
-ghost use Rattle.asn1vec_engine.specs.Shown.{Encoding, Gains, Says, IsReadAnswer, IsWritten, ReadsByBer, ReadsByDer, StrictEncoding, SaysEncoding, SaysWriting};
+ghost use Rattle.asn1vec_engine.specs.Shown.{Encoding, Gains, Says, IsReadAnswer, IsWritten, ReadsByBer, ReadsByDer, StrictEncoding, StrictEncodingIfAny, SaysEncoding, SaysWriting};
 
 use crate::names::{push_refusal, push_write_refusal};
 use crate::text::{push_hexadecimal, push_str};
@@ -139,6 +139,25 @@ fn push_encoding<T: LawfulWrite>(
     ensures { OnOk result
         (Gains text.old.items text.new.items
         (SaysEncoding (StrictEncoding T.grammar.Form
+        (some_allocates T.write_allocates T.count_allocates T.content_allocates)
+        (T.grammar.value x.now)))) }
+{
+    push_written(alloc, x, buffer, text)
+}
+
+/// Appends the strict encoding of a value in DER form in digits, or why writing it was refused.
+pub(crate) fn push_long_encoding<T: LawfulWrite>(
+    alloc: Global,
+    x: &T,
+    buffer: &mut Vec<u8>,
+    text: &mut Vec<u8>,
+) -> Result<(), AllocError>
+    requires der { T.grammar.IsDer (T.grammar.value x.now) }
+    requires writable { IsWritable (T.count_refuses x.now) (T.header_refuses x.now)
+        (T.content_refuses x.now) }
+    ensures { OnOk result
+        (Gains text.old.items text.new.items
+        (SaysEncoding (StrictEncodingIfAny T.grammar.Form
         (some_allocates T.write_allocates T.count_allocates T.content_allocates)
         (T.grammar.value x.now)))) }
 {

@@ -26,6 +26,12 @@ pub(crate) enum TypeName {
     Octets,
     Bits,
     Eoc,
+    VecU8,
+    VecU32,
+    VecBool,
+    VecVecU8,
+    SetOfU8,
+    BTreeSetU8,
 }
 
 impl TypeName {
@@ -45,6 +51,9 @@ fn type_of(name: &[u8]) -> Option<TypeName>
     ensures { MatchOption result ((t : TypeName) → name.now ≢ name_of t)
         (λ t. name.now ≡ name_of t) }
 {
+    if name == b"btreeset.u8".as_slice() {
+        return Some(TypeName::BTreeSetU8);
+    }
     match name {
         b"u8" => Some(TypeName::U8),
         b"u16" => Some(TypeName::U16),
@@ -64,6 +73,11 @@ fn type_of(name: &[u8]) -> Option<TypeName>
         b"octets" => Some(TypeName::Octets),
         b"bits" => Some(TypeName::Bits),
         b"eoc" => Some(TypeName::Eoc),
+        b"vec.u8" => Some(TypeName::VecU8),
+        b"vec.u32" => Some(TypeName::VecU32),
+        b"vec.bool" => Some(TypeName::VecBool),
+        b"vec.vec.u8" => Some(TypeName::VecVecU8),
+        b"setof.u8" => Some(TypeName::SetOfU8),
         _ => None,
     }
 }

@@ -53,3 +53,21 @@ returns-in-Enumerated c = rw c.in-Enumerated.is c.push_by_either-in-Enumerated.e
 
 pub returns-in-Integer : goal.returns-in-Integer
 returns-in-Integer c = rw c.in-Integer.is c.push_by_either-in-Integer.ensures
+
+pub returns-in-VecU8 : goal.returns-in-VecU8
+returns-in-VecU8 c = rw c.in-VecU8.is c.push_by_either-in-VecU8.ensures
+
+pub returns-in-VecU32 : goal.returns-in-VecU32
+returns-in-VecU32 c = rw c.in-VecU32.is c.push_by_either-in-VecU32.ensures
+
+pub returns-in-VecBool : goal.returns-in-VecBool
+returns-in-VecBool c = rw c.in-VecBool.is c.push_by_either-in-VecBool.ensures
+
+pub returns-in-VecVecU8 : goal.returns-in-VecVecU8
+returns-in-VecVecU8 c = rw c.in-VecVecU8.is c.push_by_either-in-VecVecU8.ensures
+
+pub returns-in-SetOfU8 : goal.returns-in-SetOfU8
+returns-in-SetOfU8 c = rw c.in-SetOfU8.is c.push_by_either-in-SetOfU8.ensures
+
+pub returns-in-BTreeSetU8 : goal.returns-in-BTreeSetU8
+returns-in-BTreeSetU8 c = rw c.in-BTreeSetU8.is c.push_by_either-in-BTreeSetU8.ensures

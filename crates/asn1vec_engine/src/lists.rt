@@ -1,0 +1,151 @@
+//! How lists and sets are shown: the texts of their items, parted by commas, in brackets.
+ghost use Rattle.std.specs.Prelude.{◌≡◌, ◌++◌, List, OnOk, map, true};
+ghost use Rattle.std.specs.Iterator.{AlwaysYields, IsFinite};
+ghost use Rattle.std.specs.List.{All};
+ghost use Rattle.asn1_rs.specs.Lists.{ListForm};
+ghost use Rattle.asn1_rs.specs.Set.{AllDiffer, AnyList, SetForm, is_below, items_of, members, multiset, set_of};
+ghost use Rattle.asn1_rs.specs.ToDer.{IsWritable};
+ghost use Rattle.asn1vec_engine.specs.Shown.{StrictEncodingIfAny, list_text};
+
+use crate::shown::{Encoded, Shown, push_long_encoding};
+use crate::text::push_str;
+use asn1_rs::{LawfulMember, LawfulWrite, SetOf};
+use std::alloc::{AllocError, Global};
+use std::collections::BTreeSet;
+
+/// A type of items. Each of its values is in DER form, and none has a refusal of its own.
+pub(crate) trait Item: Shown + LawfulWrite {
+    /// States this of the item: its body only names what the types say of it.
+    fn is_writable(&self)
+        ensures der { Self.grammar.IsDer (Self.grammar.value self.now) }
+        ensures writable { IsWritable (Self.count_refuses self.now)
+            (Self.header_refuses self.now) (Self.content_refuses self.now) };
+}
+
+impl<T: Encoded> Item for T {
+    fn is_writable(&self) {
+        self.has_encoding();
+    }
+}
+
+impl Item for bool {
+    fn is_writable(&self) {}
+}
+
+/// States of each item that it is in DER form, and has no refusal of its own.
+fn are_writable<'a, T: Item + 'a, I: Iterator<Item = &'a T> + Drop>(items: I)
+    requires can { I.can_next items }
+    requires ends { IsFinite (I.remaining items) }
+    ensures der { (xs : List T) → AlwaysYields I.next_gives (λ r. r.now) items xs →
+        All T.grammar.IsDer (map T.grammar.value xs) }
+    ensures writable { (xs : List T) → AlwaysYields I.next_gives (λ r. r.now) items xs →
+        All (λ x. IsWritable (T.count_refuses x) (T.header_refuses x) (T.content_refuses x)) xs }
+{
+    for item in items {
+        item.is_writable();
+    }
+}
+
+/// Appends items, parted by commas, in brackets.
+fn push_items<'a, T, I>(items: I, text: &mut Vec<u8>) -> Result<(), AllocError>
+where
+    T: Item + 'a,
+    I: Iterator<Item = &'a T> + Drop,
+    requires can { I.can_next items }
+    requires ends { IsFinite (I.remaining items) }
+    ensures { (xs : List T) → AlwaysYields I.next_gives (λ r. r.now) items xs →
+        OnOk result (text.new.items ≡ text.old.items ++ list_text T.text_of xs) }
+{
+    push_str(text, "[")?;
+    let mut mark = "";
+    for item in items {
+        push_str(text, mark)?;
+        item.show(text)?;
+        mark = ",";
+    }
+    push_str(text, "]")
+}
+
+impl<T: Item> Shown for Vec<T> {
+    ghost text_of = { λ v. list_text T.text_of v.items };
+
+    ghost Encodes = { λ v.
+        StrictEncodingIfAny (ListForm 16 T.grammar.Form) true (map T.grammar.value v.items) };
+
+    fn show(&self, text: &mut Vec<u8>) -> Result<(), AllocError> {
+        push_items(self.iter(), text)
+    }
+
+    fn tell_encoding(
+        &self,
+        alloc: Global,
+        buffer: &mut Vec<u8>,
+        text: &mut Vec<u8>,
+    ) -> Result<(), AllocError> {
+        self.is_writable();
+        push_long_encoding(alloc, self, buffer, text)
+    }
+}
+
+impl<T: Item> Item for Vec<T> {
+    fn is_writable(&self) {
+        are_writable(self.iter());
+    }
+}
+
+impl<T: Item> Shown for SetOf<T> {
+    ghost text_of = { λ s. list_text T.text_of (items_of s) };
+
+    ghost Encodes = { λ s.
+        StrictEncodingIfAny (SetForm multiset AnyList T.grammar.Form) true
+        (multiset (map T.grammar.value (items_of s))) };
+
+    fn show(&self, text: &mut Vec<u8>) -> Result<(), AllocError> {
+        push_items(self.as_slice().iter(), text)
+    }
+
+    fn tell_encoding(
+        &self,
+        alloc: Global,
+        buffer: &mut Vec<u8>,
+        text: &mut Vec<u8>,
+    ) -> Result<(), AllocError> {
+        self.is_writable();
+        push_long_encoding(alloc, self, buffer, text)
+    }
+}
+
+impl<T: Item> Item for SetOf<T> {
+    fn is_writable(&self) {
+        are_writable(self.as_slice().iter());
+    }
+}
+
+/// Its members ascend.
+impl<T: Item + LawfulMember + Ord> Shown for BTreeSet<T> {
+    ghost text_of = { λ s. list_text T.text_of s.keys };
+
+    ghost Encodes = { λ s.
+        StrictEncodingIfAny (SetForm set_of AllDiffer T.grammar.Form) true
+        (members (is_below T.cmp) T.grammar.value s.keys) };
+
+    fn show(&self, text: &mut Vec<u8>) -> Result<(), AllocError> {
+        push_items(self.iter(), text)
+    }
+
+    fn tell_encoding(
+        &self,
+        alloc: Global,
+        buffer: &mut Vec<u8>,
+        text: &mut Vec<u8>,
+    ) -> Result<(), AllocError> {
+        self.is_writable();
+        push_long_encoding(alloc, self, buffer, text)
+    }
+}
+
+impl<T: Item + LawfulMember + Ord> Item for BTreeSet<T> {
+    fn is_writable(&self) {
+        are_writable(self.iter());
+    }
+}
