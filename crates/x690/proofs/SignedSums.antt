@@ -45,12 +45,3 @@ sum_is_small negative [] (suc i) o s h l = absurd (omega arith)
 sum_is_small negative (first ∷ others) (suc i) o s h l =
     let front : IsOctets (take (suc i) (first ∷ others)) = octets_front (take (suc i) (first ∷ others)) (drop (suc i) (first ∷ others)) (subst IsOctets (sym (take-append-drop (suc i) (first ∷ others))) o) in
     subst (IsSigned 15) (sym (sum_is_value negative (take (suc i) (first ∷ others)) s)) (octets_say_signed (take (suc i) (first ∷ others)) 15 front (omega (arith, length-take (suc i) (first ∷ others))))
-
--- and smaller where they are few
-pub sum_is_smaller : (negative : Bool) (octets : List ℕ) (i : ℕ) → IsOctets octets → IsSign negative octets → i < length octets → i ≤ 7 → IsSigned 7 (signed_sum negative (take i octets))
-sum_is_smaller false octets zero o s h l = record { least = omega (arith, ints); most = omega (arith, ints) }
-sum_is_smaller true octets zero o s h l = record { least = omega (arith, ints); most = omega (arith, ints) }
-sum_is_smaller negative [] (suc i) o s h l = absurd (omega arith)
-sum_is_smaller negative (first ∷ others) (suc i) o s h l =
-    let front : IsOctets (take (suc i) (first ∷ others)) = octets_front (take (suc i) (first ∷ others)) (drop (suc i) (first ∷ others)) (subst IsOctets (sym (take-append-drop (suc i) (first ∷ others))) o) in
-    subst (IsSigned 7) (sym (sum_is_value negative (take (suc i) (first ∷ others)) s)) (octets_say_signed (take (suc i) (first ∷ others)) 7 front (omega (arith, length-take (suc i) (first ∷ others))))

@@ -31,11 +31,39 @@ fn fewest_digits(octets: &[u8], most: usize) -> &[u8]
     without_leading_zeros(octets)
 }
 
+/// The number whose digits in base 256 the first four octets are.
+#[inline(always)]
+fn first_four(octets: &[u8]) -> u64
+    requires { 4 ≤ length octets.now }
+    ensures { result ≡ base_256_value (take 4 octets.now) }
+{
+    u64::from(octets[0]) * 0x100_0000
+        + u64::from(octets[1]) * 0x1_0000
+        + u64::from(octets[2]) * 0x100
+        + u64::from(octets[3])
+}
+
+/// The number whose digits in base 256 the octets are, four to eight of them: of those before the last four, and of
+/// these. No loop ends at random.
+#[inline(always)]
+fn fours_number(digits: &[u8]) -> u64
+    requires some { 4 ≤ length digits.now }
+    requires few { length digits.now ≤ 8 }
+    ensures { result ≡ base_256_value digits.now }
+{
+    let before = digits.len() - 4;
+    let front = first_four(digits) >> (8 * (4 - before));
+    front * 0x1_0000_0000 + first_four(&digits[before..])
+}
+
 /// The number whose digits in base 256 the octets are, which one machine word holds.
-fn word_number(digits: &[u8]) -> u64
+pub(crate) fn word_number(digits: &[u8]) -> u64
     requires { length digits.now ≤ 8 }
     ensures { result ≡ base_256_value digits.now }
 {
+    if digits.len() >= 4 {
+        return fours_number(digits);
+    }
     let mut number: u64 = 0;
     for octet in digits {
         number = number * 256 + u64::from(*octet);

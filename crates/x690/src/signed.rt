@@ -1,6 +1,6 @@
 //! Contents octets of integers of either sign (X.690 8.3).
 
-ghost use Rattle.std.specs.Prelude.{ℕ, ℤ, List, ◌++◌, false, ◌≡◌, ◌<◌, ◌≤◌, ◌⊎◌, ◌↔◌, length, get_or, map, take, drop, pos, negsuc, IfSome, IfNone, IsTrue};
+ghost use Rattle.std.specs.Prelude.{ℕ, ℤ, List, ◌++◌, ◌+◌, ◌-◌, ◌^◌, ◌-ℤ◌, true, false, ◌≡◌, ◌<◌, ◌≤◌, ◌⊎◌, ◌↔◌, length, get_or, map, take, drop, pos, negsuc, IfSome, IfNone, IsTrue};
 ghost use Rattle.std.specs.Int.{w64, to_be_bytes};
 ghost use Rattle.x690.specs.Octets.{IsOctets};
 ghost use Rattle.x690.specs.Digits.{twos_complement_value};
@@ -8,7 +8,9 @@ ghost use Rattle.x690.specs.Strict.{header_octets};
 ghost use Rattle.x690.specs.Integers.{HasSpareZeros, HasSpareOnes, unsigned_octets};
 ghost use Rattle.x690.specs.Signed.{complement, signed_octets, IsSigned};
 
-use crate::integers::{has_spare_ones, has_spare_zeros, unsigned_into, unsigned_octets_count};
+use crate::integers::{
+    has_spare_ones, has_spare_zeros, unsigned_into, unsigned_octets_count, word_number,
+};
 
 /// The octets behind those in front that could be left out, which say the same integer (X.690 8.3.2).
 fn without_spare_octets(octets: &[u8]) -> &[u8]
@@ -42,17 +44,33 @@ fn is_negative(octets: &[u8]) -> bool
     !octets.is_empty() && octets[0] >= 128
 }
 
+/// The integer of this sign whose two's complement the number is, where `most` has all of its bits set.
+///
+/// Both tests choose between two numbers, so that no branch is guessed: signs come at random.
+#[inline(always)]
+fn with_sign(number: u64, most: u64, negative: bool) -> i64
+    requires within { number ≤ most }
+    requires natural { negative ≡ false → number < 2 ^ 63 }
+    requires turned { negative ≡ true → most - number < 2 ^ 63 }
+    ensures natural { negative ≡ false → result ≡ pos number }
+    ensures turned { negative ≡ true → result ≡ pos number -ℤ pos (most + 1) }
+{
+    let turned = if negative { most - number } else { number } as i64;
+    if negative { -1 - turned } else { turned }
+}
+
 /// The integer of this sign that the octets are, which one machine word holds.
 fn word_signed(octets: &[u8], negative: bool) -> i128
     requires few { length octets.now ≤ 8 }
     requires sign { IsTrue negative ↔ (128 ≤ get_or octets.now 0 0) }
     ensures { result ≡ twos_complement_value octets.now }
 {
-    let mut number: i64 = if negative { -1 } else { 0 };
-    for octet in octets {
-        number = number * 256 + i64::from(*octet);
+    if octets.is_empty() {
+        return 0;
     }
-    i128::from(number)
+    let number = word_number(octets);
+    let most = u64::MAX >> (8 * (8 - octets.len()));
+    i128::from(with_sign(number, most, negative))
 }
 
 /// The integer that the octets are in two's complement: no octet is 0, and octets in front that could be left out

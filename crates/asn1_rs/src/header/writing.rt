@@ -59,6 +59,8 @@ pub(crate) fn element_len(number: u32, counted: Result<usize, Error>) -> Result<
 }
 
 /// Appends the strict header of an element whose contents are so many octets, in one piece, and answers its length.
+///
+/// The test only makes the count known where most headers are copied, so that one store does it and no call.
 #[inline(always)]
 pub(crate) fn put_header<W: DerWrite>(
     class: u8,
@@ -74,6 +76,9 @@ pub(crate) fn put_header<W: DerWrite>(
 {
     let mut octets = [0; 15];
     let count = header_into(class, constructed, number, len, &mut octets);
+    if count == 2 {
+        return put_all(w, &octets[..2]);
+    }
     put_all(w, &octets[..count])
 }
 
