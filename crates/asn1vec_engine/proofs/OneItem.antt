@@ -26,7 +26,7 @@ use Rattle.asn1_rs.specs.Leaf.{IsLawfulLeaf, Leaf, LeafGives, leaf_element}
 use Rattle.asn1_rs.specs.Laws.Leaf.{leaf_constraints, leaf_converts, leaf_lawful, leaf_one_refusal}
 use Rattle.asn1_rs.specs.Lists.{has_items}
 use Rattle.asn1_rs.specs.declared.asn1_types.set.set_of.SetOf.{SetOf}
-use Rattle.asn1_rs.specs.Set.{HasItems, is_below, items_of, members, multiset}
+use Rattle.asn1_rs.specs.Set.{HasItems, is_below, items_of, members}
 use Rattle.asn1_rs.specs.Laws.Set.{member_lawful, multiset_lawful}
 use Rattle.std.specs.declared.cmp.Ordering.{Ordering}
 use Rattle.std.specs.BTreeSet.{BTreeSet, IsFromIterResult}
@@ -36,6 +36,7 @@ use Rattle.std.specs.Cmp.{IsTotalOrder}
 use Rattle.std.specs.Set.{is_member}
 use Rattle.std.proofs.lemmas.Cmp.{nat_cmp_total}
 use Rattle.std.proofs.lemmas.List.{map-id}
+use Rattle.x690.specs.Collections.{multiset}
 use Rattle.asn1_rs.specs.Traits.{BerGives, DerGives, OfParts, PassesAll}
 use Rattle.asn1_rs.specs.Laws.Integer.{integer_checks, integer_lawful, one_integer_check_refusal, one_integer_refusal}
 use Rattle.asn1_rs.specs.Laws.Integer.Unsigned.{one_unsigned_refusal, unsigned_converts}

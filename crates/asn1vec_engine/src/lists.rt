@@ -2,8 +2,9 @@
 ghost use Rattle.std.specs.Prelude.{◌≡◌, ◌++◌, List, OnOk, map, true};
 ghost use Rattle.std.specs.Iterator.{AlwaysYields, IsFinite};
 ghost use Rattle.std.specs.List.{All};
+ghost use Rattle.x690.specs.Collections.{AllDiffer, AnyList, multiset};
 ghost use Rattle.asn1_rs.specs.Lists.{ListForm};
-ghost use Rattle.asn1_rs.specs.Set.{AllDiffer, AnyList, SetForm, is_below, items_of, members, multiset, set_of};
+ghost use Rattle.asn1_rs.specs.Set.{SetForm, is_below, items_of, members, set_of};
 ghost use Rattle.asn1_rs.specs.ToDer.{IsWritable};
 ghost use Rattle.asn1vec_engine.specs.Shown.{StrictEncodingIfAny, list_text};
 

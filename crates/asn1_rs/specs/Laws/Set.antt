@@ -43,7 +43,6 @@ use Rattle.asn1_rs.specs.Laws.Readers.{der_elements, ber_elements}
 use Rattle.asn1_rs.specs.Laws.Words.{word_one, one_strict, strict_ber_word, strict_der_word}
 use Rattle.asn1_rs.specs.Laws.Forms.{universal_one, universal_value, universal_fits, strict_written}
 use Rattle.asn1_rs.specs.Laws.Lists.{zip_written, strict_word_one, strict_word_octets, list_body_one, list_of_one, list_body_values, list_der_values, list_form_check, list_takes_class, list_takes, list_reads, none_refuses, both_by_value, same_lists}
-use mathlib.Core.HProp.{HProp}
 use mathlib.Core.Bool.{not, true≢false, Bool-set}
 use mathlib.Core.Logic.{∥∥₁_prop, ∥∥₁_elim, ∥∥₁_map}
 
