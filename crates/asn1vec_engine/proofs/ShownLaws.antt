@@ -11,7 +11,7 @@ use Rattle.asn1_rs.specs.Class.{class_number}
 use Rattle.asn1_rs.specs.Any.Value.{element_of, ElementForm}
 use Rattle.asn1_rs.specs.Header.{identifier_of}
 use Rattle.asn1_rs.specs.Grammar.Form.{FitsElement, HasForm, IsStrict, WritesForm, universal}
-use Rattle.asn1_rs.specs.Laws.Forms.{strict_made}
+use Rattle.asn1_rs.specs.Laws.Forms.{strict_made, strict_written}
 use Rattle.x690.specs.Laws.StrictLengths.{length_fits}
 use Rattle.asn1_rs.specs.Writer.{MayRefuse}
 use Rattle.asn1_rs.specs.Integer.{integer_number, IntegerForm, IsUnsigned}
@@ -49,9 +49,11 @@ refused_as_any allocates n own none (Ok k) h = tt
 refused_as_any allocates n own none (Err e) (inl h) = h
 refused_as_any allocates n own none (Err e) (inr o) = absurd (none e o)
 
--- what is said of the strict encoding, which is what is written
-pub strict_said : {V : Type 0} (Form : V → Identifier → List ℕ → Type 0) (allocates : Bool) (v : V) (o w : List ℕ) → IsStrict Form v o → w ≡ o → (a c : List ℕ) → Gains a c (SaysEncoding (IsWritten allocates w)) → Gains a c (SaysEncoding (StrictEncoding Form allocates v))
-strict_said Form allocates v o w strict is a c (said, (encoding, written, says), more) = (said, (encoding, (o, strict, subst (λ (l : List ℕ). IsWritten allocates l encoding) is written), says), more)
+-- what is written of a value that has a strict encoding is that one
+pub strict_told : {S V : Type 0} (value : S → V) (Form : V → Identifier → List ℕ → Type 0) (is_writable : S → Type 0) (constructed : S → Bool) (header content : S → List ℕ) → WritesForm value Form is_writable constructed header content →
+    (allocates : Bool) (x : S) (o : List ℕ) → IsStrict Form (value x) o → (encoding : Encoding) → IsWritten allocates (header x ++ content x) encoding → StrictEncoding Form allocates (value x) encoding
+strict_told value Form is_writable constructed header content writes allocates x o strict encoding written =
+    (o, strict, subst (λ (l : List ℕ). IsWritten allocates l encoding) (strict_written value Form is_writable constructed header content writes x o strict).1 written)
 
 -- octets past what 64 bits count are not written
 unwritten : (allocates : Bool) (o : List ℕ) → 2 ^ 64 ≤ length o → (encoding : Encoding) → IsWritten allocates o encoding → IsUnwritten allocates encoding
@@ -76,15 +78,12 @@ module _ {S V : Type 0} (value : S → V) (IsDer : V → Type 0) (Form : V → I
       let few = length_fits (length s.content) s.element.count s.element.count_is.lenient in
       omega (arith, long, few, ap length same)
 
-  strict_if_any : (allocates : Bool) (x : S) → IsDer (value x) → (encoding : Encoding) → IsWritten allocates (header x ++ content x) encoding → StrictEncodingIfAny Form allocates (value x) encoding
+  pub strict_if_any : (allocates : Bool) (x : S) → IsDer (value x) → (encoding : Encoding) → IsWritten allocates (header x ++ content x) encoding → StrictEncodingIfAny Form allocates (value x) encoding
   strict_if_any allocates x der encoding written =
       elim (cases_lt (length (content x)) (2 ^ 64)) [
         | inl few ↦ inl (header x ++ content x, written_strict x der few, written)
         | inr long ↦ inr (too_long x long, unwritten allocates (header x ++ content x) (omega (arith, long, length-append (header x) (content x))) encoding written)
       ]
-
-  pub strict_if_any_said : (allocates : Bool) (x : S) → IsDer (value x) → (a c : List ℕ) → Gains a c (SaysEncoding (IsWritten allocates (header x ++ content x))) → Gains a c (SaysEncoding (StrictEncodingIfAny Form allocates (value x)))
-  strict_if_any_said allocates x der a c (said, (encoding, written, says), more) = (said, (encoding, strict_if_any allocates x der encoding written, says), more)
 
 -- each number that a type holds has a strict encoding, where its contents octets are few
 pub strict_number : (Holds : ℤ → Type 0) (n : ℤ) (octets : List ℕ) → Holds n → IsIntegerContent n octets → length octets < 2 ^ 64 → (o : List ℕ) × IsStrict (IntegerForm Holds) n o
@@ -116,22 +115,20 @@ few_classes ContextSpecific = omega arith
 few_classes Private = omega arith
 
 -- each element in hand has a strict encoding, whatever length its header has
-pub strict_element : (a : Any) → a.header.tag.0 < 2 ^ 32 → IsOctets a.content.now → length a.content.now < 2 ^ 64 → (o : List ℕ) × IsStrict ElementForm (element_of a) o
+pub strict_element : (a : Any) → a.header.tag.0 < 2 ^ 32 → IsOctets a.content.now → length a.content.now < 2 ^ 64 → IsStrict ElementForm (element_of a) (element_octets (identifier_of a.header) a.content.now)
 strict_element a number octets few =
     let id = identifier_of a.header in
-    let class = few_classes a.header.class in (
-      element_octets id a.content.now,
-      record {
-        id = id;
-        content = a.content.now;
-        form = record { is = refl; class = class; number = number; octets = octets };
-        element = made_strict_element id a.content.now class number few octets;
-      },
-    )
+    let class = few_classes a.header.class in
+    record {
+      id = id;
+      content = a.content.now;
+      form = record { is = refl; class = class; number = number; octets = octets };
+      element = made_strict_element id a.content.now class number few octets;
+    }
 
 -- a list has no refusal of its own where its items have none
 module _ {S : Type 0} (counting : S → Error → Type 0) (heading filling : S → SerializeError → Type 0) where
-  either_none : (x : S) → IsWritable (counting x) (heading x) (filling x) → HasNone (Either (heading x) (filling x))
+  pub either_none : (x : S) → IsWritable (counting x) (heading x) (filling x) → HasNone (Either (heading x) (filling x))
   either_none x w e (inl o) = w.1 e o
   either_none x w e (inr o) = w.2 e o
 

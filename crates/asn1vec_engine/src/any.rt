@@ -1,9 +1,9 @@
 //! How elements of any type are shown.
-ghost use Rattle.std.specs.Prelude.{◌≡◌, ◌<◌, ◌^◌, length};
+ghost use Rattle.std.specs.Prelude.{◌≡◌, ◌<◌, ◌^◌, false, length};
 ghost use Rattle.x690.specs.Octets.{IsOctets};
 ghost use Rattle.asn1_rs.specs.Class.{class_number};
-ghost use Rattle.asn1_rs.specs.Any.Value.{element_of};
-ghost use Rattle.asn1vec_engine.specs.Shown.{element_text, letter_of};
+ghost use Rattle.asn1_rs.specs.Any.Value.{element_of, ElementForm};
+ghost use Rattle.asn1vec_engine.specs.Shown.{StrictEncoding, element_text, letter_of};
 
 use crate::shown::Encoded;
 use crate::text::{push_hexadecimal, push_number, push_str};
@@ -33,6 +33,8 @@ fn are_octets(octets: &[u8])
 impl Encoded for Any<'_> {
     ghost text_of = { λ a. element_text (element_of a) };
 
+    ghost Encodes = { λ a. StrictEncoding ElementForm false (element_of a) };
+
     /// The number of the class, the letter of the form, the tag number and the contents octets,
     /// joined by points.
     fn show(&self, text: &mut Vec<u8>) -> Result<(), AllocError> {
@@ -49,7 +51,7 @@ impl Encoded for Any<'_> {
         Ok(())
     }
 
-    fn has_encoding(&self) {
+    fn is_told(&self) {
         let _number = self.tag();
         are_octets(self.content);
     }

@@ -9,12 +9,12 @@ ghost use Rattle.asn1_rs.specs.OctetString.{octet_string_leaf, octets_of};
 ghost use Rattle.asn1vec_engine.specs.Shown.{IsWritten, bits_text, in_hexadecimal, truth_text};
 ghost use Rattle.asn1vec_engine.specs.Types.{leaf_octets};
 
-use crate::shown::{Shown, push_written};
+use crate::shown::{Encoded, Shown};
 use crate::text::{push_hexadecimal, push_number, push_str};
 use asn1_rs::{BitString, EndOfContent, Enumerated, Integer, Null, OctetString};
 use std::alloc::{AllocError, Global};
 
-impl Shown for bool {
+impl Encoded for bool {
     ghost text_of = { truth_text };
 
     ghost Encodes = { λ x. IsWritten false (leaf_octets bool_leaf x) };
@@ -23,17 +23,10 @@ impl Shown for bool {
         push_str(text, if *self { "true" } else { "false" })
     }
 
-    fn tell_encoding(
-        &self,
-        alloc: Global,
-        buffer: &mut Vec<u8>,
-        text: &mut Vec<u8>,
-    ) -> Result<(), AllocError> {
-        push_written(alloc, self, buffer, text)
-    }
+    fn is_told(&self) {}
 }
 
-impl Shown for Null {
+impl Encoded for Null {
     ghost text_of = { λ _. codes "null" };
 
     ghost Encodes = { λ _. IsWritten false (leaf_octets null_leaf tt) };
@@ -42,17 +35,10 @@ impl Shown for Null {
         push_str(text, "null")
     }
 
-    fn tell_encoding(
-        &self,
-        alloc: Global,
-        buffer: &mut Vec<u8>,
-        text: &mut Vec<u8>,
-    ) -> Result<(), AllocError> {
-        push_written(alloc, self, buffer, text)
-    }
+    fn is_told(&self) {}
 }
 
-impl Shown for Enumerated {
+impl Encoded for Enumerated {
     ghost text_of = { λ x. decimal x.0 };
 
     ghost Encodes = { λ x. IsWritten false (leaf_octets enumerated_leaf x.0) };
@@ -61,17 +47,10 @@ impl Shown for Enumerated {
         push_number(text, self.0)
     }
 
-    fn tell_encoding(
-        &self,
-        alloc: Global,
-        buffer: &mut Vec<u8>,
-        text: &mut Vec<u8>,
-    ) -> Result<(), AllocError> {
-        push_written(alloc, self, buffer, text)
-    }
+    fn is_told(&self) {}
 }
 
-impl Shown for Integer<'_> {
+impl Encoded for Integer<'_> {
     ghost text_of = { λ x. in_hexadecimal (integer_octets x) };
 
     ghost Encodes = { λ x. IsWritten false (leaf_octets any_integer_leaf (integer_octets x)) };
@@ -80,17 +59,10 @@ impl Shown for Integer<'_> {
         push_hexadecimal(text, self.as_bytes())
     }
 
-    fn tell_encoding(
-        &self,
-        alloc: Global,
-        buffer: &mut Vec<u8>,
-        text: &mut Vec<u8>,
-    ) -> Result<(), AllocError> {
-        push_written(alloc, self, buffer, text)
-    }
+    fn is_told(&self) {}
 }
 
-impl Shown for OctetString<'_> {
+impl Encoded for OctetString<'_> {
     ghost text_of = { λ x. in_hexadecimal (octets_of x) };
 
     ghost Encodes = { λ x. IsWritten false (leaf_octets octet_string_leaf (octets_of x)) };
@@ -99,17 +71,10 @@ impl Shown for OctetString<'_> {
         push_hexadecimal(text, self.as_bytes())
     }
 
-    fn tell_encoding(
-        &self,
-        alloc: Global,
-        buffer: &mut Vec<u8>,
-        text: &mut Vec<u8>,
-    ) -> Result<(), AllocError> {
-        push_written(alloc, self, buffer, text)
-    }
+    fn is_told(&self) {}
 }
 
-impl Shown for BitString<'_> {
+impl Encoded for BitString<'_> {
     ghost text_of = { λ x. bits_text (bits_in x) };
 
     ghost Encodes = { λ x. IsWritten false (leaf_octets bit_string_leaf (bits_in x)) };
@@ -120,14 +85,7 @@ impl Shown for BitString<'_> {
         push_hexadecimal(text, self.as_bytes())
     }
 
-    fn tell_encoding(
-        &self,
-        alloc: Global,
-        buffer: &mut Vec<u8>,
-        text: &mut Vec<u8>,
-    ) -> Result<(), AllocError> {
-        push_written(alloc, self, buffer, text)
-    }
+    fn is_told(&self) {}
 }
 
 /// It has no writer, so nothing is said of its encoding.

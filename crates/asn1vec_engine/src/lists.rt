@@ -3,19 +3,21 @@ ghost use Rattle.std.specs.Prelude.{◌≡◌, ◌++◌, List, OnOk, map, true};
 ghost use Rattle.std.specs.Iterator.{AlwaysYields, IsFinite};
 ghost use Rattle.std.specs.List.{All};
 ghost use Rattle.x690.specs.Collections.{AllDiffer, AnyList, multiset};
+ghost use Rattle.asn1_rs.specs.declared.error.SerializeError.{SerializeError};
 ghost use Rattle.asn1_rs.specs.Lists.{ListForm};
 ghost use Rattle.asn1_rs.specs.Set.{SetForm, is_below, items_of, members, set_of};
-ghost use Rattle.asn1_rs.specs.ToDer.{IsWritable};
-ghost use Rattle.asn1vec_engine.specs.Shown.{StrictEncodingIfAny, list_text};
+ghost use Rattle.asn1_rs.specs.ToDer.{Either, IsWritable, some_allocates};
+ghost use Rattle.asn1vec_engine.specs.Shown.{Encoding, IsWritten, StrictEncodingIfAny, list_text};
 
-use crate::shown::{Encoded, Shown, push_long_encoding};
+use crate::numbers::Number;
+use crate::shown::Encoded;
 use crate::text::push_str;
 use asn1_rs::{LawfulMember, LawfulWrite, SetOf};
 use std::alloc::{AllocError, Global};
 use std::collections::BTreeSet;
 
 /// A type of items. Each of its values is in DER form, and none has a refusal of its own.
-pub(crate) trait Item: Shown + LawfulWrite {
+pub(crate) trait Item: Encoded {
     /// States this of the item: its body only names what the types say of it.
     fn is_writable(&self)
         ensures der { Self.grammar.IsDer (Self.grammar.value self.now) }
@@ -23,9 +25,9 @@ pub(crate) trait Item: Shown + LawfulWrite {
             (Self.header_refuses self.now) (Self.content_refuses self.now) };
 }
 
-impl<T: Encoded> Item for T {
+impl<T: Number> Item for T {
     fn is_writable(&self) {
-        self.has_encoding();
+        self.is_encoded();
     }
 }
 
@@ -47,6 +49,21 @@ fn are_writable<'a, T: Item + 'a, I: Iterator<Item = &'a T> + Drop>(items: I)
     }
 }
 
+/// States of a value in DER form, with no refusal of its own, what its writing says.
+fn writing_is_strict<T: LawfulWrite>(x: &T)
+    requires der { T.grammar.IsDer (T.grammar.value x.now) }
+    requires writable { IsWritable (T.count_refuses x.now) (T.header_refuses x.now)
+        (T.content_refuses x.now) }
+    ensures own { (e : SerializeError) →
+        Either (T.header_refuses x.now) (T.content_refuses x.now) e → ⊥ }
+    ensures told { (encoding : Encoding) →
+        IsWritten (some_allocates T.write_allocates T.count_allocates T.content_allocates)
+        (T.header x.now ++ T.content x.now) encoding →
+        StrictEncodingIfAny T.grammar.Form
+        (some_allocates T.write_allocates T.count_allocates T.content_allocates)
+        (T.grammar.value x.now) encoding }
+{}
+
 /// Appends items, parted by commas, in brackets.
 fn push_items<'a, T, I>(items: I, text: &mut Vec<u8>) -> Result<(), AllocError>
 where
@@ -67,7 +84,7 @@ where
     push_str(text, "]")
 }
 
-impl<T: Item> Shown for Vec<T> {
+impl<T: Item> Encoded for Vec<T> {
     ghost text_of = { λ v. list_text T.text_of v.items };
 
     ghost Encodes = { λ v.
@@ -77,14 +94,9 @@ impl<T: Item> Shown for Vec<T> {
         push_items(self.iter(), text)
     }
 
-    fn tell_encoding(
-        &self,
-        alloc: Global,
-        buffer: &mut Vec<u8>,
-        text: &mut Vec<u8>,
-    ) -> Result<(), AllocError> {
+    fn is_told(&self) {
         self.is_writable();
-        push_long_encoding(alloc, self, buffer, text)
+        writing_is_strict(self);
     }
 }
 
@@ -94,7 +106,7 @@ impl<T: Item> Item for Vec<T> {
     }
 }
 
-impl<T: Item> Shown for SetOf<T> {
+impl<T: Item> Encoded for SetOf<T> {
     ghost text_of = { λ s. list_text T.text_of (items_of s) };
 
     ghost Encodes = { λ s.
@@ -105,14 +117,9 @@ impl<T: Item> Shown for SetOf<T> {
         push_items(self.as_slice().iter(), text)
     }
 
-    fn tell_encoding(
-        &self,
-        alloc: Global,
-        buffer: &mut Vec<u8>,
-        text: &mut Vec<u8>,
-    ) -> Result<(), AllocError> {
+    fn is_told(&self) {
         self.is_writable();
-        push_long_encoding(alloc, self, buffer, text)
+        writing_is_strict(self);
     }
 }
 
@@ -123,7 +130,7 @@ impl<T: Item> Item for SetOf<T> {
 }
 
 /// Its members ascend.
-impl<T: Item + LawfulMember + Ord> Shown for BTreeSet<T> {
+impl<T: Item + LawfulMember + Ord> Encoded for BTreeSet<T> {
     ghost text_of = { λ s. list_text T.text_of s.keys };
 
     ghost Encodes = { λ s.
@@ -134,14 +141,9 @@ impl<T: Item + LawfulMember + Ord> Shown for BTreeSet<T> {
         push_items(self.iter(), text)
     }
 
-    fn tell_encoding(
-        &self,
-        alloc: Global,
-        buffer: &mut Vec<u8>,
-        text: &mut Vec<u8>,
-    ) -> Result<(), AllocError> {
+    fn is_told(&self) {
         self.is_writable();
-        push_long_encoding(alloc, self, buffer, text)
+        writing_is_strict(self);
     }
 }
 

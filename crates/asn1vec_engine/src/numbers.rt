@@ -3,6 +3,8 @@
 
 ghost use Rattle.std.specs.Prelude.{ℕ, List};
 ghost use Rattle.asn1_rs.specs.Grammar.Form.{IsStrict};
+ghost use Rattle.asn1_rs.specs.ToDer.{some_allocates};
+ghost use Rattle.asn1vec_engine.specs.Shown.{StrictEncoding};
 
 use crate::shown::Encoded;
 use crate::text::push_number;
@@ -20,11 +22,16 @@ pub(crate) trait Number: Integer + LawfulWrite {
 impl<T: Number> Encoded for T {
     ghost text_of = { T.text };
 
+    ghost Encodes = { λ x.
+        StrictEncoding T.grammar.Form
+        (some_allocates T.write_allocates T.count_allocates T.content_allocates)
+        (T.grammar.value x) };
+
     fn show(&self, text: &mut Vec<u8>) -> Result<(), AllocError> {
         push_number(text, *self)
     }
 
-    fn has_encoding(&self) {
+    fn is_told(&self) {
         self.is_encoded();
     }
 }

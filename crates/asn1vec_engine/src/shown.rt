@@ -1,11 +1,10 @@
 //! How a reading is answered: the value, what follows it and its encoding, or the refusal.
 ghost use Rattle.std.specs.Prelude.{◌≡◌, ◌++◌, ◌||◌, ℕ, List, Result, Ok, OnOk};
 ghost use Rattle.asn1_rs.specs.Answers.{seen};
-ghost use Rattle.asn1_rs.specs.Grammar.Form.{IsStrict};
-ghost use Rattle.asn1_rs.specs.ToDer.{Either, IsWritable, some_allocates};
+ghost use Rattle.asn1_rs.specs.ToDer.{Either, some_allocates};
 ghost use Rattle.asn1_rs.specs.declared.error.SerializeError.{SerializeError};
 ghost use Rattle.asn1_rs.specs.Error.{tells_of_io};
-ghost use Rattle.asn1vec_engine.specs.Shown.{Encoding, Gains, Says, IsReadAnswer, IsWritten, ReadsByBer, ReadsByDer, StrictEncoding, StrictEncodingIfAny, SaysEncoding, SaysWriting};
+ghost use Rattle.asn1vec_engine.specs.Shown.{Encoding, Gains, Says, IsReadAnswer, IsWritten, ReadsByBer, ReadsByDer, SaysEncoding, SaysWriting};
 
 use crate::names::{push_refusal, push_write_refusal};
 use crate::text::{push_hexadecimal, push_str};
@@ -16,7 +15,7 @@ use asn1_rs::{
 use std::alloc::{AllocError, Global};
 use std::mem;
 
-/// A type whose values are shown in answers. `Encoded` gives it to all that have a strict encoding.
+/// A type whose values are shown in answers. `Encoded` gives it to all that have a writer.
 pub(crate) trait Shown {
     /// The text of a value.
     ghost text_of: { Self → List ℕ };
@@ -40,26 +39,33 @@ pub(crate) trait Shown {
             (Gains text.old.items text.new.items (SaysEncoding (Encodes self.now))) };
 }
 
-/// A type whose values are shown, each of which has a strict encoding.
+/// A type whose values are shown and have a writer.
 pub(crate) trait Encoded: LawfulWrite {
     /// The text of a value.
     ghost text_of: { Self → List ℕ };
+
+    /// What may be said of the encoding of a value.
+    ghost Encodes: { Self → Encoding → Type 0 };
 
     /// Appends the text of the value.
     fn show(&self, text: &mut Vec<u8>) -> Result<(), AllocError>
         ensures { OnOk result (text.new.items ≡ text.old.items ++ text_of self.now) };
 
-    /// States that the value has a strict encoding: its body only names what its types say of it.
-    fn has_encoding(&self)
-        ensures { (o : List ℕ) × IsStrict Self.grammar.Form (Self.grammar.value self.now) o };
+    /// States that the value has no refusal of its own, and what its writing says: its body only
+    /// names what the types say of it.
+    fn is_told(&self)
+        ensures own { (e : SerializeError) →
+            Either (Self.header_refuses self.now) (Self.content_refuses self.now) e → ⊥ }
+        ensures told { (encoding : Encoding) →
+            IsWritten (some_allocates Self.write_allocates Self.count_allocates
+            Self.content_allocates)
+            (Self.header self.now ++ Self.content self.now) encoding → Encodes self.now encoding };
 }
 
 impl<T: Encoded> Shown for T {
     ghost text_of = { T.text_of };
 
-    ghost Encodes = { λ x. StrictEncoding T.grammar.Form
-        (some_allocates T.write_allocates T.count_allocates T.content_allocates)
-        (T.grammar.value x) };
+    ghost Encodes = { T.Encodes };
 
     fn show(&self, text: &mut Vec<u8>) -> Result<(), AllocError> {
         Encoded::show(self, text)
@@ -71,8 +77,8 @@ impl<T: Encoded> Shown for T {
         buffer: &mut Vec<u8>,
         text: &mut Vec<u8>,
     ) -> Result<(), AllocError> {
-        self.has_encoding();
-        push_encoding(alloc, self, buffer, text)
+        self.is_told();
+        push_written(alloc, self, buffer, text)
     }
 }
 
@@ -106,7 +112,7 @@ fn push_writing(
 }
 
 /// Appends what `write_der` appends for a value in digits, be it in DER form or not, or why writing it was refused.
-pub(crate) fn push_written<T: LawfulWrite>(
+fn push_written<T: LawfulWrite>(
     alloc: Global,
     x: &T,
     buffer: &mut Vec<u8>,
@@ -126,42 +132,6 @@ pub(crate) fn push_written<T: LawfulWrite>(
     push_str(text, " enc ")?;
     push_writing(text, buffer.as_slice(), answer)?;
     Ok(())
-}
-
-/// Appends the strict encoding of a value in digits, or why writing it was refused.
-fn push_encoding<T: LawfulWrite>(
-    alloc: Global,
-    x: &T,
-    buffer: &mut Vec<u8>,
-    text: &mut Vec<u8>,
-) -> Result<(), AllocError>
-    requires { (o : List ℕ) × IsStrict T.grammar.Form (T.grammar.value x.now) o }
-    ensures { OnOk result
-        (Gains text.old.items text.new.items
-        (SaysEncoding (StrictEncoding T.grammar.Form
-        (some_allocates T.write_allocates T.count_allocates T.content_allocates)
-        (T.grammar.value x.now)))) }
-{
-    push_written(alloc, x, buffer, text)
-}
-
-/// Appends the strict encoding of a value in DER form in digits, or why writing it was refused.
-pub(crate) fn push_long_encoding<T: LawfulWrite>(
-    alloc: Global,
-    x: &T,
-    buffer: &mut Vec<u8>,
-    text: &mut Vec<u8>,
-) -> Result<(), AllocError>
-    requires der { T.grammar.IsDer (T.grammar.value x.now) }
-    requires writable { IsWritable (T.count_refuses x.now) (T.header_refuses x.now)
-        (T.content_refuses x.now) }
-    ensures { OnOk result
-        (Gains text.old.items text.new.items
-        (SaysEncoding (StrictEncodingIfAny T.grammar.Form
-        (some_allocates T.write_allocates T.count_allocates T.content_allocates)
-        (T.grammar.value x.now)))) }
-{
-    push_written(alloc, x, buffer, text)
 }
 
 /// Appends the answer that shows a value that was read.
