@@ -99,6 +99,20 @@ module _ (I : Item) (one : IsOneItem I) where
     lawful = list_lawful 16 (lit< tt) (λ v. v.items) I.grammar one.lawful;
   }
 
+  sequence_held : (xs ys : List I.T) (s t : SequenceOf I.T) → map one.view xs ≡ map one.view ys → IsSequenceOf xs s → IsSequenceOf ys t → map one.view (sequence_items s) ≡ map one.view (sequence_items t)
+  sequence_held xs ys s t e h k = ap (map one.view) h ∙ e ∙ sym (ap (map one.view) k)
+
+  pub sequence_once : IsOneItem (sequence_of I)
+  sequence_once = record {
+    D = List one.D;
+    view = λ s. map one.view (sequence_items s);
+    text = λ s t e. texts_same I.text_of (sequence_items s) (sequence_items t) (follows one.view I.text_of one.text (sequence_items s) (sequence_items t) e);
+    value = λ s t e. follows one.view I.grammar.value one.value (sequence_items s) (sequence_items t) e;
+    ber = taken_by_ber one.view I.grammar.allocates I.ber_gives one.ber (λ s. map one.view (sequence_items s)) IsSequenceOf sequence_held 16;
+    der = read_by_der one.view I.grammar.allocates I.der_gives one.der (λ s. map one.view (sequence_items s)) IsSequenceOf sequence_held 16;
+    lawful = list_lawful 16 (lit< tt) sequence_items I.grammar one.lawful;
+  }
+
   set_held : (xs ys : List I.T) (s t : SetOf I.T) → map one.view xs ≡ map one.view ys → HasItems xs s → HasItems ys t → map one.view (items_of s) ≡ map one.view (items_of t)
   set_held xs ys s t e h k = ap (map one.view) h ∙ e ∙ sym (ap (map one.view) k)
 

@@ -7,7 +7,7 @@ use Rattle.std.specs.BTreeSet.{BTreeSet, IsFromIterResult}
 use Rattle.std.specs.Fmt.{signed_decimal}
 use Rattle.std.specs.Ordering.{nat_cmp}
 use Rattle.x690.specs.Signed.{IsSigned}
-use Rattle.x690.specs.Strict.{header_octets}
+use Rattle.asn1_rs.specs.Kinds.Writing.{universal_header}
 use Rattle.asn1_rs.specs.declared.error.Error.{Error}
 use Rattle.asn1_rs.specs.declared.asn1_types.any.Any.{Any as AnyElement}
 use Rattle.asn1_rs.specs.declared.asn1_types.end_of_content.EndOfContent.{EndOfContent}
@@ -21,6 +21,11 @@ use Rattle.asn1_rs.specs.declared.asn1_types.set.set_of.SetOf.{SetOf}
 use Rattle.asn1_rs.specs.Set.{HasItems, is_below, items_of, member_grammar, multiset_grammar}
 use Rattle.asn1_rs.specs.Null.{null_leaf}
 use Rattle.asn1_rs.specs.OctetString.{octet_string_leaf}
+use Rattle.asn1_rs.specs.Kept.{LendsContent, sequence_leaf, set_leaf}
+use Rattle.asn1_rs.specs.declared.asn1_types.sequence.sequence_of.SequenceOf.{SequenceOf}
+use Rattle.asn1_rs.specs.Sequence.SequenceOf.{IsSequenceOf, sequence_items}
+use Rattle.std.specs.Cow.{cow_slice_items}
+use Rattle.std.specs.declared.borrow.CowSlice.{CowSlice}
 use Rattle.asn1_rs.specs.Any.{IsTheElement, IsDefiniteOr}
 use Rattle.asn1_rs.specs.Traits.{OfParts, BerGives, DerGives, PassesAll}
 use Rattle.asn1_rs.specs.Lists.{ListReads, ListTakes, has_items as IsMadeOf, list_grammar}
@@ -31,7 +36,7 @@ use Rattle.asn1_rs.specs.Grammar.{BerWord, DerWord}
 use Rattle.asn1_rs.specs.Integer.{IntegerCheck, IntegerCheckGives, IntegerBody, IntegerForm, integer_element, IntegerGives, IsUnsigned, UnsignedGives, UnsignedRefuses, SignedRefuses}
 use Rattle.asn1vec_engine.specs.declared.request.Rule.{Rule}
 use Rattle.asn1vec_engine.specs.declared.types.TypeName.{TypeName}
-use Rattle.asn1vec_engine.specs.declared.types.TypeName.TheVariants.{U8, U16, U32, U64, U128, I8, I16, I32, I64, I128, Any, Bool, Null, Enumerated, Integer, Octets, Bits, Eoc, VecU8, VecU32, VecBool, VecVecU8, SetOfU8, BTreeSetU8}
+use Rattle.asn1vec_engine.specs.declared.types.TypeName.TheVariants.{U8, U16, U32, U64, U128, I8, I16, I32, I64, I128, Any, Bool, Null, Enumerated, Integer, Octets, Bits, Eoc, VecU8, VecU32, VecBool, VecVecU8, SetOfU8, BTreeSetU8, Sequence, Set, SeqOfU32}
 use Rattle.asn1vec_engine.specs.Meaning.{Meaning, ReadsByEither, is_ber}
 use Rattle.asn1vec_engine.specs.Shown.{IsReadAnswer, IsWritten, ReadsByBer, Reading, Same, StrictEncoding, StrictEncodingIfAny, bits_text, element_text, in_hexadecimal, list_text, truth_text}
 
@@ -60,6 +65,9 @@ name_of VecBool = codes "vec.bool"
 name_of VecVecU8 = codes "vec.vec.u8"
 name_of SetOfU8 = codes "setof.u8"
 name_of BTreeSetU8 = codes "btreeset.u8"
+name_of Sequence = codes "sequence"
+name_of Set = codes "set"
+name_of SeqOfU32 = codes "seqof.u32"
 
 -- integers, there by either rule: in decimals, with the strict encoding that each has which the type holds
 abbrev pub integers : {T : Type 0} → (T → ℤ) → (ℤ → Type 0) → (List ℕ → Error → Type 0) → Meaning
@@ -98,7 +106,7 @@ elements = record {
 
 -- the octets that are written for a value of a leaf type, in DER form or not
 abbrev pub leaf_octets : {T : Type 0} (L : Leaf T) → L.Value → List ℕ
-leaf_octets L v = header_octets 0 false L.number (length (L.octets v)) ++ L.octets v
+leaf_octets L v = universal_header L.number (L.octets v) ++ L.octets v
 
 -- a leaf type, there by either rule: shown by its value, with the octets that are written for it
 abbrev pub leaf : {T : Type 0} (L : Leaf T) → (L.Value → List ℕ) → Meaning
@@ -108,6 +116,19 @@ leaf {T} L text = record {
   Reads = ReadsByEither (BerWord (LeafBody L)) (DerWord (λ p. L.constraints p (Ok tt)) (LeafBody L)) L.value false
       (BerGives (OfParts (LeafGives L)) Same) (DerGives L.constraints (OfParts (LeafGives L)) Same);
   text_of = λ x. text (L.value x);
+  Encodes = λ x. IsWritten false (leaf_octets L (L.value x));
+  reading_allocates = false;
+  writing_allocates = false;
+}
+
+-- a sequence or a set that is kept as its contents octets, there by either rule: shown in hexadecimal, and written as it stands
+abbrev pub kept : {T : Type 0} → Leaf T → (T → CowSlice ℕ Global) → Meaning
+kept {T} L content = record {
+  T = T;
+  is_there = λ rule. true;
+  Reads = ReadsByEither (BerWord (LeafBody L)) (DerWord (λ p. L.constraints p (Ok tt)) (LeafBody L)) L.value false
+      (BerGives (LendsContent L content) Same) (DerGives L.constraints (LendsContent L content) Same);
+  text_of = λ x. in_hexadecimal (cow_slice_items (content x));
   Encodes = λ x. IsWritten false (leaf_octets L (L.value x));
   reading_allocates = false;
   writing_allocates = false;
@@ -161,6 +182,16 @@ vector I = record {
   ber_gives = BerGives (OfParts (ListTakes 16 IsMadeOf I.ber_gives Same)) Same;
   der_gives = DerGives PassesAll (OfParts (ListReads 16 IsMadeOf I.der_gives Same)) Same;
   text_of = λ v. list_text I.text_of v.items;
+}
+
+-- sequences of items, as a type of the library's own; by DER the constructed bit is not looked at
+abbrev pub sequence_of : Item → Item
+sequence_of I = record {
+  T = SequenceOf I.T;
+  grammar = list_grammar 16 sequence_items I.grammar;
+  ber_gives = BerGives (OfParts (ListTakes 16 IsSequenceOf I.ber_gives Same)) Same;
+  der_gives = DerGives PassesAll (OfParts (ListReads 16 IsSequenceOf I.der_gives Same)) Same;
+  text_of = λ s. list_text I.text_of (sequence_items s);
 }
 
 -- sets in which an item may stand more than once: they keep the order in which they were read, and are equal in any order
@@ -220,6 +251,9 @@ meaning_of VecBool = collection (vector (leaf_item bool_leaf truth_text))
 meaning_of VecVecU8 = collection (vector (vector (unsigned_item 1)))
 meaning_of SetOfU8 = collection (unordered_set (unsigned_item 1))
 meaning_of BTreeSetU8 = collection (ordered_set (unsigned_item 1) nat_cmp)
+meaning_of Sequence = kept sequence_leaf (λ x. x.content)
+meaning_of Set = kept set_leaf (λ x. x.content)
+meaning_of SeqOfU32 = collection (sequence_of (unsigned_item 4))
 
 -- lists and sets, whose readers and writers allocate
 abbrev pub has_items : TypeName → Truth
@@ -229,6 +263,7 @@ has_items VecBool = true
 has_items VecVecU8 = true
 has_items SetOfU8 = true
 has_items BTreeSetU8 = true
+has_items SeqOfU32 = true
 has_items _ = false
 
 -- the name is that of the type, and is there by the rule

@@ -15,7 +15,7 @@ use crate::text::push_str;
 use crate::types::{TypeName, type_named};
 use asn1_rs::{
     Any, BitString, EndOfContent, Enumerated, Error, Integer, LawfulBer, LawfulDer, Null,
-    OctetString, SetOf,
+    OctetString, Sequence, SequenceOf, Set, SetOf,
 };
 use std::alloc::{AllocError, Global};
 use std::collections::BTreeSet;
@@ -82,6 +82,9 @@ fn push_by_type(
         TypeName::VecVecU8 => push_by_either::<Vec<Vec<u8>>>(alloc, rule, octets, buffer, text),
         TypeName::SetOfU8 => push_by_either::<SetOf<u8>>(alloc, rule, octets, buffer, text),
         TypeName::BTreeSetU8 => push_by_either::<BTreeSet<u8>>(alloc, rule, octets, buffer, text),
+        TypeName::Sequence => push_by_either::<Sequence<'_>>(alloc, rule, octets, buffer, text),
+        TypeName::Set => push_by_either::<Set<'_>>(alloc, rule, octets, buffer, text),
+        TypeName::SeqOfU32 => push_by_either::<SequenceOf<u32>>(alloc, rule, octets, buffer, text),
     }
 }
 

@@ -4,6 +4,7 @@ ghost use Rattle.asn1_rs.specs.BitString.{bit_string_leaf, bits_in};
 ghost use Rattle.asn1_rs.specs.Boolean.{bool_leaf};
 ghost use Rattle.asn1_rs.specs.Enumerated.{enumerated_leaf};
 ghost use Rattle.asn1_rs.specs.Integer.Octets.{any_integer_leaf, integer_octets};
+ghost use Rattle.asn1_rs.specs.Kept.{sequence_leaf, sequence_octets, set_leaf, set_octets};
 ghost use Rattle.asn1_rs.specs.Null.{null_leaf};
 ghost use Rattle.asn1_rs.specs.OctetString.{octet_string_leaf, octets_of};
 ghost use Rattle.asn1vec_engine.specs.Shown.{IsWritten, bits_text, in_hexadecimal, truth_text};
@@ -11,7 +12,7 @@ ghost use Rattle.asn1vec_engine.specs.Types.{leaf_octets};
 
 use crate::shown::{Encoded, Shown};
 use crate::text::{push_hexadecimal, push_number, push_str};
-use asn1_rs::{BitString, EndOfContent, Enumerated, Integer, Null, OctetString};
+use asn1_rs::{BitString, EndOfContent, Enumerated, Integer, Null, OctetString, Sequence, Set};
 use std::alloc::{AllocError, Global};
 
 impl Encoded for bool {
@@ -82,6 +83,30 @@ impl Encoded for BitString<'_> {
     fn show(&self, text: &mut Vec<u8>) -> Result<(), AllocError> {
         push_number(text, self.unused_bits)?;
         push_str(text, ":")?;
+        push_hexadecimal(text, self.as_bytes())
+    }
+
+    fn is_told(&self) {}
+}
+
+impl Encoded for Sequence<'_> {
+    ghost text_of = { λ x. in_hexadecimal (sequence_octets x) };
+
+    ghost Encodes = { λ x. IsWritten false (leaf_octets sequence_leaf (sequence_octets x)) };
+
+    fn show(&self, text: &mut Vec<u8>) -> Result<(), AllocError> {
+        push_hexadecimal(text, self.as_bytes())
+    }
+
+    fn is_told(&self) {}
+}
+
+impl Encoded for Set<'_> {
+    ghost text_of = { λ x. in_hexadecimal (set_octets x) };
+
+    ghost Encodes = { λ x. IsWritten false (leaf_octets set_leaf (set_octets x)) };
+
+    fn show(&self, text: &mut Vec<u8>) -> Result<(), AllocError> {
         push_hexadecimal(text, self.as_bytes())
     }
 

@@ -6,13 +6,14 @@ ghost use Rattle.x690.specs.Collections.{AllDiffer, AnyList, multiset};
 ghost use Rattle.asn1_rs.specs.declared.error.SerializeError.{SerializeError};
 ghost use Rattle.asn1_rs.specs.Lists.{ListForm};
 ghost use Rattle.asn1_rs.specs.Set.{SetForm, is_below, items_of, members, set_of};
+ghost use Rattle.asn1_rs.specs.Sequence.SequenceOf.{sequence_items};
 ghost use Rattle.asn1_rs.specs.ToDer.{Either, IsWritable, some_allocates};
 ghost use Rattle.asn1vec_engine.specs.Shown.{Encoding, IsWritten, StrictEncodingIfAny, list_text};
 
 use crate::numbers::Number;
 use crate::shown::Encoded;
 use crate::text::push_str;
-use asn1_rs::{LawfulMember, LawfulWrite, SetOf};
+use asn1_rs::{LawfulMember, LawfulWrite, SequenceOf, SetOf};
 use std::alloc::{AllocError, Global};
 use std::collections::BTreeSet;
 
@@ -103,6 +104,29 @@ impl<T: Item> Encoded for Vec<T> {
 impl<T: Item> Item for Vec<T> {
     fn is_writable(&self) {
         are_writable(self.iter());
+    }
+}
+
+impl<T: Item> Encoded for SequenceOf<T> {
+    ghost text_of = { λ s. list_text T.text_of (sequence_items s) };
+
+    ghost Encodes = { λ s.
+        StrictEncodingIfAny (ListForm 16 T.grammar.Form) true
+        (map T.grammar.value (sequence_items s)) };
+
+    fn show(&self, text: &mut Vec<u8>) -> Result<(), AllocError> {
+        push_items(self.as_slice().iter(), text)
+    }
+
+    fn is_told(&self) {
+        self.is_writable();
+        writing_is_strict(self);
+    }
+}
+
+impl<T: Item> Item for SequenceOf<T> {
+    fn is_writable(&self) {
+        are_writable(self.as_slice().iter());
     }
 }
 

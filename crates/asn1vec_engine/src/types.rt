@@ -32,6 +32,9 @@ pub(crate) enum TypeName {
     VecVecU8,
     SetOfU8,
     BTreeSetU8,
+    Sequence,
+    Set,
+    SeqOfU32,
 }
 
 impl TypeName {
@@ -53,6 +56,9 @@ fn type_of(name: &[u8]) -> Option<TypeName>
 {
     if name == b"btreeset.u8".as_slice() {
         return Some(TypeName::BTreeSetU8);
+    }
+    if name == b"seqof.u32".as_slice() {
+        return Some(TypeName::SeqOfU32);
     }
     match name {
         b"u8" => Some(TypeName::U8),
@@ -78,6 +84,8 @@ fn type_of(name: &[u8]) -> Option<TypeName>
         b"vec.bool" => Some(TypeName::VecBool),
         b"vec.vec.u8" => Some(TypeName::VecVecU8),
         b"setof.u8" => Some(TypeName::SetOfU8),
+        b"sequence" => Some(TypeName::Sequence),
+        b"set" => Some(TypeName::Set),
         _ => None,
     }
 }

@@ -71,3 +71,12 @@ returns-in-SetOfU8 c = rw c.in-SetOfU8.is c.push_by_either-in-SetOfU8.ensures
 
 pub returns-in-BTreeSetU8 : goal.returns-in-BTreeSetU8
 returns-in-BTreeSetU8 c = rw c.in-BTreeSetU8.is c.push_by_either-in-BTreeSetU8.ensures
+
+pub returns-in-Sequence : goal.returns-in-Sequence
+returns-in-Sequence c = rw c.in-Sequence.is c.push_by_either-in-Sequence.ensures
+
+pub returns-in-Set : goal.returns-in-Set
+returns-in-Set c = rw c.in-Set.is c.push_by_either-in-Set.ensures
+
+pub returns-in-SeqOfU32 : goal.returns-in-SeqOfU32
+returns-in-SeqOfU32 c = rw c.in-SeqOfU32.is c.push_by_either-in-SeqOfU32.ensures
