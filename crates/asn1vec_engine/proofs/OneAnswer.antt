@@ -1,5 +1,5 @@
 -- A line has one answer, except when out of memory.
-use Rattle.std.proofs.Common.{◌≡◌, ◌∙◌, sym, ap, subst, List, [], ◌∷◌, ◌++◌, ℕ, false, ◌⊎◌, inl, inr, refl, Ok, Err, codes, arith, Option, Some, append_assoc}
+use Rattle.std.proofs.Common.{◌≡◌, ◌∙◌, sym, ap, subst, List, [], ◌∷◌, ◌++◌, ℕ, false, ◌⊎◌, inl, inr, refl, Ok, Err, codes, arith, Option, Some, append_assoc, Result}
 use Rattle.std.specs.Prelude.{ℤ, pos, decimal}
 use Rattle.std.specs.Fmt.{signed_decimal}
 use Rattle.std.proofs.Math.Dec.{eqb}
@@ -40,12 +40,16 @@ use Rattle.asn1vec_engine.specs.declared.types.TypeName.TheVariants.{U8, U16, U3
 use Rattle.asn1vec_engine.specs.Request.{IsRequest}
 use Rattle.asn1vec_engine.specs.Shown.{IsWritten, bits_text, element_text, in_hexadecimal, truth_text}
 use Rattle.asn1vec_engine.specs.Meaning.{Meaning}
-use Rattle.asn1vec_engine.specs.Types.{has_items, name_of, meaning_of, integers, elements, leaf, leaf_octets, ends, Names, IsTypeAnswer}
+use Rattle.asn1vec_engine.specs.Types.{has_items, name_of, meaning_of, integers, elements, leaf, leaf_by, lent_leaf, leaf_octets, ends, Names, IsTypeAnswer}
 use Rattle.asn1vec_engine.specs.Answer.{IsRequestAnswer, IsRefusedLine, IsAnswered, IsAnswer, IsAnswerLine, AreAnswers, BeginAnswers}
 use Rattle.asn1vec_engine.specs.Memory.{AsksForNoItems, DifferByMemory, AreAlike, TakesNoMemory, AllAlike}
 use Rattle.asn1vec_engine.proofs.OneReading.{HasOneAnswer, ShownAlike, answers_alike, readings_weaker, strict_same, written_same, ber_same, either_same}
-use Rattle.asn1vec_engine.proofs.OneItem.{collection_once, leaf_item_once, ordered_unsigned_once, unordered_set_once, unsigned_once, vector_once}
-use Rattle.asn1vec_engine.proofs.OneRefusal.{one_of_parts}
+use Rattle.asn1vec_engine.proofs.OneItem.{collection_once, leaf_item_once, ordered_unsigned_once, sequence_of_once, unordered_set_once, unsigned_once, vector_once}
+use Rattle.asn1vec_engine.proofs.OneRefusal.{IsOneRefusalBut, one_of_parts}
+use Rattle.asn1_rs.specs.Kept.{LendsContent, sequence_leaf, set_leaf}
+use Rattle.asn1_rs.specs.Laws.Kept.{sequence_lawful, set_lawful}
+use Rattle.std.specs.declared.alloc.Global.{Global}
+use Rattle.std.specs.declared.borrow.CowSlice.{CowSlice}
 use Rattle.asn1vec_engine.proofs.Split.{requests_same}
 
 -- ---- what the names stand for has one answer
@@ -68,15 +72,21 @@ elements_once rule octets a b p q =
     shown x y same = record { text = ap element_text same; encoding = strict_same ElementForm element_lawful.one_form false (element_of x) (element_of y) same }
 
 -- a leaf type
-leaf_once : {T : Type 0} (L : Leaf T) (text : L.Value → List ℕ) → IsLawfulLeaf L → HasOneAnswer (leaf L text)
-leaf_once {T} L text l rule octets a b p q =
-    let one = leaf_one_refusal L l in
-    readings_weaker _ (ShownAlike (leaf L text)) false shown a b
-    (either_same (LeafBody L) L.value false (OfParts (LeafGives L)) (leaf_lawful L l).body_one (one_of_parts (LeafGives L) one.0.one)
-    L.constraints (λ p. L.constraints p (Ok tt)) one.1.one (λ p e h k. one.1.none p tt e h k) rule octets a b p q)
+leaf_by_once : {T : Type 0} (L : Leaf T) (converts : AnyElement → Result T Error → Type 0) (text : L.Value → List ℕ) → IsLawfulLeaf L → IsOneRefusalBut false converts → HasOneAnswer (leaf_by L converts text)
+leaf_by_once {T} L converts text l one rule octets a b p q =
+    let check = (leaf_one_refusal L l).1 in
+    readings_weaker _ (ShownAlike (leaf_by L converts text)) false shown a b
+    (either_same (LeafBody L) L.value false converts (leaf_lawful L l).body_one one
+    L.constraints (λ p. L.constraints p (Ok tt)) check.one (λ p e h k. check.none p tt e h k) rule octets a b p q)
   where
-    shown : (x y : T) → L.value x ≡ L.value y → ShownAlike (leaf L text) x y
+    shown : (x y : T) → L.value x ≡ L.value y → ShownAlike (leaf_by L converts text) x y
     shown x y same = record { text = ap text same; encoding = λ e f h k. written_same false (leaf_octets L (L.value y)) e f (subst (λ (v : L.Value). IsWritten false (leaf_octets L v) e) same h) k }
+
+leaf_once : {T : Type 0} (L : Leaf T) (text : L.Value → List ℕ) → IsLawfulLeaf L → HasOneAnswer (leaf L text)
+leaf_once L text l = leaf_by_once L (OfParts (LeafGives L)) text l (one_of_parts (LeafGives L) (leaf_one_refusal L l).0.one)
+
+lent_once : {T : Type 0} (L : Leaf T) (content : T → CowSlice ℕ Global) (text : L.Value → List ℕ) → IsLawfulLeaf L → HasOneAnswer (lent_leaf L content text)
+lent_once L content text l = leaf_by_once L (LendsContent L content) text l (λ a b e f same h k. one_of_parts (LeafGives L) (leaf_one_refusal L l).0.one a b e f same h.0 k.0)
 
 -- the end of contents
 ends_once : HasOneAnswer ends
@@ -112,9 +122,9 @@ type_once VecBool = collection_once _ (vector_once _ (leaf_item_once bool_leaf t
 type_once VecVecU8 = collection_once _ (vector_once _ (vector_once _ (unsigned_once 1)))
 type_once SetOfU8 = collection_once _ (unordered_set_once _ (unsigned_once 1))
 type_once BTreeSetU8 = collection_once _ (ordered_unsigned_once 1)
-type_once Sequence = kept_once sequence_leaf (λ x. x.content) sequence_lawful (λ x. refl)
-type_once Set = kept_once set_leaf (λ x. x.content) set_lawful (λ x. refl)
-type_once SeqOfU32 = collection_once _ (sequence_once _ (unsigned_once 4))
+type_once Sequence = lent_once sequence_leaf (λ x. x.content) in_hexadecimal sequence_lawful
+type_once Set = lent_once set_leaf (λ x. x.content) in_hexadecimal set_lawful
+type_once SeqOfU32 = collection_once _ (sequence_of_once _ (unsigned_once 4))
 
 allocates_none : (t : TypeName) → has_items t ≡ false → ((meaning_of t).reading_allocates ≡ false) × ((meaning_of t).writing_allocates ≡ false)
 allocates_none t none = grind arith

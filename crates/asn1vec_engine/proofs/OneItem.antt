@@ -47,7 +47,9 @@ use Rattle.asn1_rs.specs.Laws.Words.{one_strict}
 use Rattle.asn1vec_engine.specs.declared.request.Rule.{Rule}
 use Rattle.asn1vec_engine.specs.declared.request.Rule.TheVariants.{Ber, Der}
 use Rattle.asn1vec_engine.specs.Shown.{Encoding, IsUnwritten, IsWritten, Reading, Same, StrictEncodingIfAny, list_text}
-use Rattle.asn1vec_engine.specs.Types.{Item, collection, leaf_item, ordered_set, unordered_set, unsigned_item, vector}
+use Rattle.asn1_rs.specs.declared.asn1_types.sequence.sequence_of.SequenceOf.{SequenceOf}
+use Rattle.asn1_rs.specs.Sequence.SequenceOf.{IsSequenceOf, sequence_items}
+use Rattle.asn1vec_engine.specs.Types.{Item, collection, leaf_item, ordered_set, sequence, sequence_of, unordered_set, unsigned_item, vector}
 use Rattle.asn1vec_engine.proofs.OneList.{IsOneReader, read_by_der, taken_by_ber, taken_by_der}
 use Rattle.asn1vec_engine.proofs.OneReading.{HasOneAnswer, SameEncoding, SameReading, ShownAlike, ber_same, der_same, readings_weaker, written_same}
 use Rattle.asn1vec_engine.proofs.OneRefusal.{IsOneRefusal, IsOneRefusalBut, one_of_parts}
@@ -85,33 +87,26 @@ texts_same text_of xs ys e =
     ap (λ (l : List ℕ). codes "[" ++ (l ++ codes "]")) (joined_texts text_of (codes ",") xs ∙ ap (λ (ts : List (List ℕ)). join_by (λ (t : List ℕ). t) (codes ",") ts) e ∙ sym (joined_texts text_of (codes ",") ys))
 
 module _ (I : Item) (one : IsOneItem I) where
-  vector_held : (xs ys : List I.T) (v w : Vec I.T Global) → map one.view xs ≡ map one.view ys → has_items xs v → has_items ys w → map one.view v.items ≡ map one.view w.items
-  vector_held xs ys v w e h k = ap (map one.view) h ∙ e ∙ sym (ap (map one.view) k)
+  module _ {W : Type 0} (items : W → List I.T) (holds : List I.T → W → Type 0) (are : (xs : List I.T) (w : W) → holds xs w → items w ≡ xs) where
+    sequence_held : (xs ys : List I.T) (v w : W) → map one.view xs ≡ map one.view ys → holds xs v → holds ys w → map one.view (items v) ≡ map one.view (items w)
+    sequence_held xs ys v w e h k = ap (map one.view) (are xs v h) ∙ e ∙ sym (ap (map one.view) (are ys w k))
+
+    sequence_once : IsOneItem (sequence I items holds)
+    sequence_once = record {
+      D = List one.D;
+      view = λ v. map one.view (items v);
+      text = λ v w e. texts_same I.text_of (items v) (items w) (follows one.view I.text_of one.text (items v) (items w) e);
+      value = λ v w e. follows one.view I.grammar.value one.value (items v) (items w) e;
+      ber = taken_by_ber one.view I.grammar.allocates I.ber_gives one.ber (λ v. map one.view (items v)) holds sequence_held 16;
+      der = read_by_der one.view I.grammar.allocates I.der_gives one.der (λ v. map one.view (items v)) holds sequence_held 16;
+      lawful = list_lawful 16 (lit< tt) items I.grammar one.lawful;
+    }
 
   pub vector_once : IsOneItem (vector I)
-  vector_once = record {
-    D = List one.D;
-    view = λ v. map one.view v.items;
-    text = λ v w e. texts_same I.text_of v.items w.items (follows one.view I.text_of one.text v.items w.items e);
-    value = λ v w e. follows one.view I.grammar.value one.value v.items w.items e;
-    ber = taken_by_ber one.view I.grammar.allocates I.ber_gives one.ber (λ v. map one.view v.items) has_items vector_held 16;
-    der = read_by_der one.view I.grammar.allocates I.der_gives one.der (λ v. map one.view v.items) has_items vector_held 16;
-    lawful = list_lawful 16 (lit< tt) (λ v. v.items) I.grammar one.lawful;
-  }
+  vector_once = sequence_once {W = Vec I.T Global} (λ v. v.items) has_items (λ xs v h. h)
 
-  sequence_held : (xs ys : List I.T) (s t : SequenceOf I.T) → map one.view xs ≡ map one.view ys → IsSequenceOf xs s → IsSequenceOf ys t → map one.view (sequence_items s) ≡ map one.view (sequence_items t)
-  sequence_held xs ys s t e h k = ap (map one.view) h ∙ e ∙ sym (ap (map one.view) k)
-
-  pub sequence_once : IsOneItem (sequence_of I)
-  sequence_once = record {
-    D = List one.D;
-    view = λ s. map one.view (sequence_items s);
-    text = λ s t e. texts_same I.text_of (sequence_items s) (sequence_items t) (follows one.view I.text_of one.text (sequence_items s) (sequence_items t) e);
-    value = λ s t e. follows one.view I.grammar.value one.value (sequence_items s) (sequence_items t) e;
-    ber = taken_by_ber one.view I.grammar.allocates I.ber_gives one.ber (λ s. map one.view (sequence_items s)) IsSequenceOf sequence_held 16;
-    der = read_by_der one.view I.grammar.allocates I.der_gives one.der (λ s. map one.view (sequence_items s)) IsSequenceOf sequence_held 16;
-    lawful = list_lawful 16 (lit< tt) sequence_items I.grammar one.lawful;
-  }
+  pub sequence_of_once : IsOneItem (sequence_of I)
+  sequence_of_once = sequence_once {W = SequenceOf I.T} sequence_items IsSequenceOf (λ xs s h. h)
 
   set_held : (xs ys : List I.T) (s t : SetOf I.T) → map one.view xs ≡ map one.view ys → HasItems xs s → HasItems ys t → map one.view (items_of s) ≡ map one.view (items_of t)
   set_held xs ys s t e h k = ap (map one.view) h ∙ e ∙ sym (ap (map one.view) k)

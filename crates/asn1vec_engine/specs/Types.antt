@@ -1,5 +1,5 @@
 -- The names of types, and what each stands for.
-use Rattle.std.specs.Prelude.{◌≡◌, Bool as Truth, List, ◌++◌, length, ℕ, ℤ, pos, codes, decimal, true, false, None, Ok}
+use Rattle.std.specs.Prelude.{◌≡◌, Bool as Truth, List, ◌++◌, ℕ, ℤ, pos, codes, decimal, true, false, None, Result, Ok}
 use Rattle.std.specs.declared.alloc.Global.{Global}
 use Rattle.std.specs.declared.vec.Vec.{Vec}
 use Rattle.std.specs.declared.cmp.Ordering.{Ordering}
@@ -24,7 +24,6 @@ use Rattle.asn1_rs.specs.OctetString.{octet_string_leaf}
 use Rattle.asn1_rs.specs.Kept.{LendsContent, sequence_leaf, set_leaf}
 use Rattle.asn1_rs.specs.declared.asn1_types.sequence.sequence_of.SequenceOf.{SequenceOf}
 use Rattle.asn1_rs.specs.Sequence.SequenceOf.{IsSequenceOf, sequence_items}
-use Rattle.std.specs.Cow.{cow_slice_items}
 use Rattle.std.specs.declared.borrow.CowSlice.{CowSlice}
 use Rattle.asn1_rs.specs.Any.{IsTheElement, IsDefiniteOr}
 use Rattle.asn1_rs.specs.Traits.{OfParts, BerGives, DerGives, PassesAll}
@@ -108,31 +107,26 @@ elements = record {
 abbrev pub leaf_octets : {T : Type 0} (L : Leaf T) → L.Value → List ℕ
 leaf_octets L v = universal_header L.number (L.octets v) ++ L.octets v
 
--- a leaf type, there by either rule: shown by its value, with the octets that are written for it
-abbrev pub leaf : {T : Type 0} (L : Leaf T) → (L.Value → List ℕ) → Meaning
-leaf {T} L text = record {
+-- a leaf type, there by either rule, whose conversion may answer so: shown by its value, with the octets that are written for it
+abbrev pub leaf_by : {T : Type 0} (L : Leaf T) → (AnyElement → Result T Error → Type 0) → (L.Value → List ℕ) → Meaning
+leaf_by {T} L converts text = record {
   T = T;
   is_there = λ rule. true;
   Reads = ReadsByEither (BerWord (LeafBody L)) (DerWord (λ p. L.constraints p (Ok tt)) (LeafBody L)) L.value false
-      (BerGives (OfParts (LeafGives L)) Same) (DerGives L.constraints (OfParts (LeafGives L)) Same);
+      (BerGives converts Same) (DerGives L.constraints converts Same);
   text_of = λ x. text (L.value x);
   Encodes = λ x. IsWritten false (leaf_octets L (L.value x));
   reading_allocates = false;
   writing_allocates = false;
 }
 
--- a sequence or a set that is kept as its contents octets, there by either rule: shown in hexadecimal, and written as it stands
-abbrev pub kept : {T : Type 0} → Leaf T → (T → CowSlice ℕ Global) → Meaning
-kept {T} L content = record {
-  T = T;
-  is_there = λ rule. true;
-  Reads = ReadsByEither (BerWord (LeafBody L)) (DerWord (λ p. L.constraints p (Ok tt)) (LeafBody L)) L.value false
-      (BerGives (LendsContent L content) Same) (DerGives L.constraints (LendsContent L content) Same);
-  text_of = λ x. in_hexadecimal (cow_slice_items (content x));
-  Encodes = λ x. IsWritten false (leaf_octets L (L.value x));
-  reading_allocates = false;
-  writing_allocates = false;
-}
+-- one that looks at the parts of an element alone
+abbrev pub leaf : {T : Type 0} (L : Leaf T) → (L.Value → List ℕ) → Meaning
+leaf L = leaf_by L (OfParts (LeafGives L))
+
+-- one that lends its contents octets
+abbrev pub lent_leaf : {T : Type 0} (L : Leaf T) → (T → CowSlice ℕ Global) → (L.Value → List ℕ) → Meaning
+lent_leaf L content = leaf_by L (LendsContent L content)
 
 -- the end of contents, there by BER alone; it has no writer
 abbrev pub ends : Meaning
@@ -174,25 +168,21 @@ leaf_item {T} L text = record {
   text_of = λ x. text (L.value x);
 }
 
--- vectors of items; by DER the constructed bit is not looked at
-abbrev pub vector : Item → Item
-vector I = record {
-  T = Vec I.T Global;
-  grammar = list_grammar 16 (λ v. v.items) I.grammar;
-  ber_gives = BerGives (OfParts (ListTakes 16 IsMadeOf I.ber_gives Same)) Same;
-  der_gives = DerGives PassesAll (OfParts (ListReads 16 IsMadeOf I.der_gives Same)) Same;
-  text_of = λ v. list_text I.text_of v.items;
+-- sequences of items, in whatever holds them; by DER the constructed bit is not looked at
+abbrev pub sequence : {W : Type 0} (I : Item) → (W → List I.T) → (List I.T → W → Type 0) → Item
+sequence {W} I items holds = record {
+  T = W;
+  grammar = list_grammar 16 items I.grammar;
+  ber_gives = BerGives (OfParts (ListTakes 16 holds I.ber_gives Same)) Same;
+  der_gives = DerGives PassesAll (OfParts (ListReads 16 holds I.der_gives Same)) Same;
+  text_of = λ s. list_text I.text_of (items s);
 }
 
--- sequences of items, as a type of the library's own; by DER the constructed bit is not looked at
+abbrev pub vector : Item → Item
+vector I = sequence {W = Vec I.T Global} I (λ v. v.items) IsMadeOf
+
 abbrev pub sequence_of : Item → Item
-sequence_of I = record {
-  T = SequenceOf I.T;
-  grammar = list_grammar 16 sequence_items I.grammar;
-  ber_gives = BerGives (OfParts (ListTakes 16 IsSequenceOf I.ber_gives Same)) Same;
-  der_gives = DerGives PassesAll (OfParts (ListReads 16 IsSequenceOf I.der_gives Same)) Same;
-  text_of = λ s. list_text I.text_of (sequence_items s);
-}
+sequence_of I = sequence {W = SequenceOf I.T} I sequence_items IsSequenceOf
 
 -- sets in which an item may stand more than once: they keep the order in which they were read, and are equal in any order
 abbrev pub unordered_set : Item → Item
@@ -251,8 +241,8 @@ meaning_of VecBool = collection (vector (leaf_item bool_leaf truth_text))
 meaning_of VecVecU8 = collection (vector (vector (unsigned_item 1)))
 meaning_of SetOfU8 = collection (unordered_set (unsigned_item 1))
 meaning_of BTreeSetU8 = collection (ordered_set (unsigned_item 1) nat_cmp)
-meaning_of Sequence = kept sequence_leaf (λ x. x.content)
-meaning_of Set = kept set_leaf (λ x. x.content)
+meaning_of Sequence = lent_leaf sequence_leaf (λ x. x.content) in_hexadecimal
+meaning_of Set = lent_leaf set_leaf (λ x. x.content) in_hexadecimal
 meaning_of SeqOfU32 = collection (sequence_of (unsigned_item 4))
 
 -- lists and sets, whose readers and writers allocate

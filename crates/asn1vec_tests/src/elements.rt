@@ -4,6 +4,7 @@ use crate::runs::assert_lines;
 use std::test::Fail;
 
 const ELEMENTS: &str = "\
+ber any 0000 = ok 0.p.0.- rest - enc 0000
 ber any 020102ffff = ok 0.p.2.02 rest ffff enc 020102
 ber any 0101ff = ok 0.p.1.ff rest - enc 0101ff
 ber any 8f021234 = ok 2.p.15.1234 rest - enc 8f021234

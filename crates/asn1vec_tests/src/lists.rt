@@ -40,6 +40,15 @@ ber vec.vec.vec.u8 3000 = err Type
 
 /// Sets: of items in the order read, which are written in ascending order; and of members that ascend.
 const SETS: &str = "\
+der seqof.u32 3006020103020101 = ok [3,1] rest - enc 3006020103020101
+ber seqof.u32 1003020105 = err ConstructExpected
+der seqof.u32 1003020105 = ok [5] rest - enc 3003020105
+ber sequence 308002030100010000 = ok 0203010001 rest - enc 30050203010001
+der sequence 308111a003020100a10a3081071b054a6f6e6573 = ok a003020100a10a3081071b054a6f6e6573 rest - enc 3011a003020100a10a3081071b054a6f6e6573
+der sequence 1000 = err ConstructExpected
+ber sequence 30801f0000 = err Incomplete(1)
+der set 3106020102020101ff = ok 020102020101 rest ff enc 3106020102020101
+ber set 3000 = err UnexpectedTag
 der setof.u8 3106020102020101 = ok [2,1] rest - enc 3106020101020102
 ber setof.u8 3109020103020101020103 = ok [3,1,3] rest - enc 3109020101020103020103
 der setof.u8 3107020200ff020101 = ok [255,1] rest - enc 3107020101020200ff
