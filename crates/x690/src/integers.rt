@@ -43,8 +43,8 @@ fn first_four(octets: &[u8]) -> u64
         + u64::from(octets[3])
 }
 
-/// The number whose digits in base 256 the octets are, four to eight of them: of those before the last four, and of
-/// these. No loop ends at random.
+/// The number whose digits in base 256 the octets are, four to eight of them, by what those before the last four say
+/// and what the last four say, so that no loop ends at random.
 #[inline(always)]
 fn fours_number(digits: &[u8]) -> u64
     requires some { 4 ≤ length digits.now }

@@ -60,7 +60,7 @@ pub(crate) fn element_len(number: u32, counted: Result<usize, Error>) -> Result<
 
 /// Appends the strict header of an element whose contents are so many octets, in one piece, and answers its length.
 ///
-/// The test only makes the count known where most headers are copied, so that one store does it and no call.
+/// Most headers have two octets: the test makes that number known, so that a store copies them, and no call.
 #[inline(always)]
 pub(crate) fn put_header<W: DerWrite>(
     class: u8,
