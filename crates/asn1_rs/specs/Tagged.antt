@@ -1,6 +1,7 @@
 -- Elements under tags whose number is known only at run time (X.690 8.14).
 pub mod Optional
 pub mod Helpers
+pub mod Parser
 use Rattle.std.specs.Prelude.{◌≡◌, ◌≢◌, ◌⊎◌, ℕ, List, Some, Result, Ok, Err}
 use Rattle.std.specs.Borrow.{Bor}
 use Rattle.std.specs.Fn.{Once}

@@ -2,6 +2,7 @@
 
 pub mod helpers;
 pub mod optional;
+pub mod parser;
 
 /// Marks explicit tags: an element of their own around that of the value (X.690 8.14.2).
 #[derive(Debug, PartialEq, Eq, Drop)]
