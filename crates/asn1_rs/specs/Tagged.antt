@@ -5,8 +5,9 @@ pub mod Parser
 use Rattle.std.specs.Prelude.{◌≡◌, ◌≢◌, ◌⊎◌, ℕ, List, Some, Result, Ok, Err}
 use Rattle.std.specs.Borrow.{Bor}
 use Rattle.std.specs.Fn.{Once}
-use Rattle.x690.specs.Elements.{Parts}
-use Rattle.x690.specs.Faults.{Fault}
+use Rattle.x690.specs.Elements.{Parts, IsDerElement}
+use Rattle.x690.specs.Faults.{Fault, DerElementFault}
+use Rattle.x690.specs.Nested.{IsElement, ElementFault}
 use Rattle.asn1_rs.specs.declared.asn1_types.any.Any.{Any}
 use Rattle.asn1_rs.specs.declared.class.Class.{Class}
 use Rattle.asn1_rs.specs.declared.header.Header.{Header}
@@ -16,8 +17,9 @@ use Rattle.asn1_rs.specs.declared.error.Error.TheVariants.{UnexpectedTag, Unexpe
 use Rattle.asn1_rs.specs.declared.error.Err.{Err as Refusal}
 use Rattle.asn1_rs.specs.declared.error.Err.TheVariants.{Error as refused}
 use Rattle.asn1_rs.specs.Any.{BeginsWithElement}
+use Rattle.asn1_rs.specs.Ber.{max_depth}
 use Rattle.asn1_rs.specs.Error.{Converted}
-use Rattle.asn1_rs.specs.Header.{class_of, tag_of}
+use Rattle.asn1_rs.specs.Header.Reading.{der_refusal, ber_refusal}
 
 -- what a call on an element and the octets behind it may answer
 abbrev pub OfElement : Type 0 → Type 1
@@ -29,6 +31,13 @@ ThenGives ElementOf FaultOf refusal from takes input (Ok x) = (any : Any) × (re
 ThenGives ElementOf FaultOf refusal from takes input (Err r) =
     ((fault : Fault) × FaultOf input fault × Converted from (refusal fault) r) ⊎
     ((any : Any) × (rest : List ℕ) × BeginsWithElement ElementOf input any rest × takes any rest (Err r))
+
+-- the same by DER and by BER
+abbrev pub ThenByDer : {T E : Type 0} → (Error → E → Type 0) → OfElement (Result (List ℕ × T) (Refusal E)) → List ℕ → Result (List ℕ × T) (Refusal E) → Type 0
+ThenByDer = ThenGives IsDerElement DerElementFault der_refusal
+
+abbrev pub ThenByBer : {T E : Type 0} → (Error → E → Type 0) → OfElement (Result (List ℕ × T) (Refusal E)) → List ℕ → Result (List ℕ × T) (Refusal E) → Type 0
+ThenByBer = ThenGives (IsElement max_depth) (ElementFault max_depth) ber_refusal
 
 -- the answer is the refusal of the tag number that an element has in place of this one
 abbrev pub IsOtherTag : {E : Type 0} → (Error → E → Type 0) → Tag → Tag → Refusal E → Type 0

@@ -36,9 +36,10 @@ pub use asn1_types::sequence::iterator::{
     walks_end, walks_take_words,
 };
 pub use asn1_types::set::set_of::SetOf;
-pub use asn1_types::tagged::helpers::{
-    parse_der_tagged_explicit_g, parse_der_tagged_implicit_g,
+pub use asn1_types::tagged::builder::{
+    TaggedParserBuilder, parse_der_tagged_explicit, parse_der_tagged_implicit,
 };
+pub use asn1_types::tagged::helpers::{parse_der_tagged_explicit_g, parse_der_tagged_implicit_g};
 pub use asn1_types::tagged::optional::OptTaggedParser;
 pub use asn1_types::tagged::parser::TaggedParser;
 pub use asn1_types::tagged::{Explicit, Implicit, TagKind};

@@ -1,5 +1,5 @@
 -- Values with the header that they were read under, by tags whose number is known only at run time (X.690 8.14).
-use Rattle.std.specs.Prelude.{◌≡◌, ◌⊎◌, ℕ, List, Result, Ok, Err}
+use Rattle.std.specs.Prelude.{◌≡◌, ◌≢◌, ◌⊎◌, ℕ, List, Some, Result, Ok, Err}
 use Rattle.x690.specs.Elements.{Parts}
 use Rattle.asn1_rs.specs.declared.asn1_types.any.Any.{Any}
 use Rattle.asn1_rs.specs.declared.asn1_types.tagged.parser.TaggedParser.{TaggedParser}
@@ -7,11 +7,12 @@ use Rattle.asn1_rs.specs.declared.class.Class.{Class}
 use Rattle.asn1_rs.specs.declared.header.Header.{Header}
 use Rattle.asn1_rs.specs.declared.tag.Tag.{Tag}
 use Rattle.asn1_rs.specs.declared.error.Error.{Error}
+use Rattle.asn1_rs.specs.declared.error.Error.TheVariants.{UnexpectedTag, UnexpectedClass}
 use Rattle.asn1_rs.specs.declared.error.Err.{Err as Refusal}
 use Rattle.asn1_rs.specs.declared.error.Err.TheVariants.{Error as refused}
 use Rattle.asn1_rs.specs.Any.{parts_of}
 use Rattle.asn1_rs.specs.Header.{class_of, is_constructed_of, tag_of, length_of, raw_tag_of, HasParts}
-use Rattle.asn1_rs.specs.Tagged.{OfElement, IsOtherTag, IsOtherClass}
+use Rattle.asn1_rs.specs.Tagged.{OfElement}
 
 abbrev pub header_of : {K T E : Type 0} → TaggedParser K T E → Header
 header_of t = t.header
@@ -30,23 +31,36 @@ abbrev pub TakesExplicit : {K T E : Type 0} → (List ℕ → Result (List ℕ �
 TakesExplicit reads any rest (Ok x) = (x.0 ≡ rest) × (header_of x.1 ≡ any.header) × ((left : List ℕ) × reads any.content.now (Ok (left, inner_of x.1)))
 TakesExplicit reads any rest (Err r) = reads any.content.now (Err r)
 
--- What checking and converting an element under the tag number of its value's type may answer: the value with the element's own
--- header, or the refusal of the check, or that of the conversion. The rest is the element's.
-abbrev pub TakesImplicit : {K T E : Type 0} → Tag → (Parts → Result (Unit {0}) Error → Type 0) → (Any → Result T E → Type 0) → (Error → E → Type 0) → OfElement (Result (List ℕ × TaggedParser K T E) (Refusal E))
-TakesImplicit mark check convert from any rest (Ok x) = (x.0 ≡ rest) × (header_of x.1 ≡ any.header) ×
-    ((other : Any) × IsUnder mark any other × check (parts_of other) (Ok tt) × convert other (Ok (inner_of x.1)))
-TakesImplicit {K} {T} {E} mark check convert from any rest (Err r) = (other : Any) × IsUnder mark any other ×
-    (((refusal : Error) × check (parts_of other) (Err refusal) × ((e : E) × from refusal e × (r ≡ refused e))) ⊎
-    (check (parts_of other) (Ok tt) × ((e : E) × convert other (Err e) × (r ≡ refused e))))
+-- what checking an element and then converting it may answer: its value, or the refusal of the check, or that of the conversion
+abbrev pub ChecksAndConverts : {T E : Type 0} → (Parts → Result (Unit {0}) Error → Type 0) → (Any → Result T E → Type 0) → (Error → E → Type 0) → Any → Result T E → Type 0
+ChecksAndConverts check convert from any (Ok x) = check (parts_of any) (Ok tt) × convert any (Ok x)
+ChecksAndConverts check convert from any (Err e) = ((refusal : Error) × check (parts_of any) (Err refusal) × from refusal e) ⊎ (check (parts_of any) (Ok tt) × convert any (Err e))
 
--- What a reader of this class and tag number may answer: what was read, which has both; or the refusal of the reading; or that of the
--- class of what was read, and then of its tag number.
-abbrev pub Expects : {K T E : Type 0} → (List ℕ → Result (List ℕ × TaggedParser K T E) (Refusal E) → Type 0) → Class → Tag → (Error → E → Type 0) → List ℕ → Result (List ℕ × TaggedParser K T E) (Refusal E) → Type 0
-Expects reads class tag from input (Ok x) = reads input (Ok x) × (class_of (header_of x.1) ≡ class) × (tag_of (header_of x.1) ≡ tag)
-Expects {K} {T} {E} reads class tag from input (Err r) = reads input (Err r) ⊎ ((x : List ℕ × TaggedParser K T E) × reads input (Ok x) ×
-    (IsOtherClass from class (class_of (header_of x.1)) r ⊎ ((class_of (header_of x.1) ≡ class) × IsOtherTag from tag (tag_of (header_of x.1)) r)))
+-- What converting an element under the tag number of its value's type may answer: the value with the element's own header, or the
+-- refusal. The rest is the element's.
+abbrev pub TakesImplicit : {K T E : Type 0} → Tag → (Any → Result T E → Type 0) → OfElement (Result (List ℕ × TaggedParser K T E) (Refusal E))
+TakesImplicit mark converts any rest (Ok x) = (x.0 ≡ rest) × (header_of x.1 ≡ any.header) × ((other : Any) × IsUnder mark any other × converts other (Ok (inner_of x.1)))
+TakesImplicit {K} {T} {E} mark converts any rest (Err r) = (other : Any) × IsUnder mark any other × ((e : E) × converts other (Err e) × (r ≡ refused e))
 
--- the same of a tag number alone: the class is free
-abbrev pub ExpectsNumber : {K T E : Type 0} → (List ℕ → Result (List ℕ × TaggedParser K T E) (Refusal E) → Type 0) → Tag → (Error → E → Type 0) → List ℕ → Result (List ℕ × TaggedParser K T E) (Refusal E) → Type 0
-ExpectsNumber reads tag from input (Ok x) = reads input (Ok x) × (tag_of (header_of x.1) ≡ tag)
-ExpectsNumber {K} {T} {E} reads tag from input (Err r) = reads input (Err r) ⊎ ((x : List ℕ × TaggedParser K T E) × reads input (Ok x) × IsOtherTag from tag (tag_of (header_of x.1)) r)
+-- what looking at the tag number of a header may answer
+abbrev pub HasNumber : Tag → Header → Result (Unit {0}) Error → Type 0
+HasNumber tag header (Ok x) = tag_of header ≡ tag
+HasNumber tag header (Err e) = (tag_of header ≢ tag) × (e ≡ UnexpectedTag (Some tag) (tag_of header))
+
+-- what looking at the class of a header and then at its tag number may answer
+abbrev pub HasTag : Class → Tag → Header → Result (Unit {0}) Error → Type 0
+HasTag class tag header (Ok x) = (class_of header ≡ class) × (tag_of header ≡ tag)
+HasTag class tag header (Err e) =
+    ((class_of header ≢ class) × (e ≡ UnexpectedClass (Some class) (class_of header))) ⊎
+    ((class_of header ≡ class) × HasNumber tag header (Err e))
+
+-- What asking something of the header of what was read may answer: what was read and the rest, or the refusal.
+abbrev pub Asks : {K T E : Type 0} → (Header → Result (Unit {0}) Error → Type 0) → (Error → E → Type 0) → List ℕ → TaggedParser K T E → Result (List ℕ × TaggedParser K T E) (Refusal E) → Type 0
+Asks asks from rest parser (Ok x) = asks (header_of parser) (Ok tt) × (x.0 ≡ rest) × (x.1 ≡ parser)
+Asks {K} {T} {E} asks from rest parser (Err r) = (refusal : Error) × asks (header_of parser) (Err refusal) × ((e : E) × from refusal e × (r ≡ refused e))
+
+-- what a reader may answer that asks that of what it read: the refusal of the reading comes first
+abbrev pub Expects : {K T E : Type 0} → (List ℕ → Result (List ℕ × TaggedParser K T E) (Refusal E) → Type 0) → (Header → Result (Unit {0}) Error → Type 0) → (Error → E → Type 0) → List ℕ → Result (List ℕ × TaggedParser K T E) (Refusal E) → Type 0
+Expects {K} {T} {E} reads asks from input (Ok x) = (rest : List ℕ) × (parser : TaggedParser K T E) × reads input (Ok (rest, parser)) × Asks asks from rest parser (Ok x)
+Expects {K} {T} {E} reads asks from input (Err r) = reads input (Err r) ⊎
+    ((rest : List ℕ) × (parser : TaggedParser K T E) × reads input (Ok (rest, parser)) × Asks asks from rest parser (Err r))

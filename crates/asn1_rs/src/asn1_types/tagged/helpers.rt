@@ -1,9 +1,6 @@
 //! Elements of a tag number that is given, whose contents octets are handed to a closure.
-ghost use Rattle.x690.specs.Elements.{IsDerElement};
-ghost use Rattle.x690.specs.Faults.{DerElementFault};
 ghost use Rattle.asn1_rs.specs.Answers.{seen};
-ghost use Rattle.asn1_rs.specs.Header.Reading.{der_refusal};
-ghost use Rattle.asn1_rs.specs.Tagged.{ThenGives};
+ghost use Rattle.asn1_rs.specs.Tagged.{ThenByDer};
 ghost use Rattle.asn1_rs.specs.Tagged.Helpers.{TakesNumber, ReturnsOfContent, ReturnsUnder};
 ghost use Rattle.asn1_rs.specs.declared.tag.Tag.{Tag};
 
@@ -28,7 +25,7 @@ where
     E: From<Error>,
     requires { F.IsAlwaysCallable f }
     ensures { (number : Tag) × IntoTag.converts tag number
-        × ThenGives IsDerElement DerElementFault der_refusal E.from_gives
+        × ThenByDer E.from_gives
         (TakesNumber number E.from_gives (ReturnsOfContent F.FnOnce f)) bytes.now (seen result) }
 {
     let tag = tag.into();
@@ -59,7 +56,7 @@ where
     E: From<Error>,
     requires { F.IsAlwaysCallable f }
     ensures { (number : Tag) × IntoTag.converts tag number
-        × ThenGives IsDerElement DerElementFault der_refusal E.from_gives
+        × ThenByDer E.from_gives
         (TakesNumber number E.from_gives (ReturnsUnder F.FnOnce f number T.mark)) bytes.now
         (seen result) }
 {

@@ -1,5 +1,6 @@
 //! Elements under tags whose number is known only at run time, and how a tag stands to that of its value (X.690 8.14).
 
+pub mod builder;
 pub mod helpers;
 pub mod optional;
 pub mod parser;

@@ -1,6 +1,6 @@
 //! Values with the header that they were read under: any tag, which the reader answers (X.690 8.14).
 
-ghost use Rattle.std.specs.Prelude.{◌≡◌, ◌≢◌, true, Some, None, MatchResult};
+ghost use Rattle.std.specs.Prelude.{◌≡◌, ◌≢◌, true, [], Some, None, MatchResult};
 ghost use Rattle.std.specs.Cow.{cow_slice_items};
 ghost use Rattle.std.specs.Option.{option_map};
 ghost use Rattle.std.specs.Fn.{FnOnceReturnsAt};
@@ -10,11 +10,10 @@ ghost use Rattle.x690.specs.Nested.{IsElement, ElementFault};
 ghost use Rattle.asn1_rs.specs.Answers.{seen};
 ghost use Rattle.asn1_rs.specs.Any.{AndThenGives};
 ghost use Rattle.asn1_rs.specs.Ber.{max_depth};
-ghost use Rattle.asn1_rs.specs.Header.{class_of, tag_of, raw_tag_of, HasParts};
+ghost use Rattle.asn1_rs.specs.Header.{class_of, is_constructed_of, tag_of, length_of, raw_tag_of, HasParts};
 ghost use Rattle.asn1_rs.specs.Header.Reading.{der_refusal, ber_refusal, KeepsIdentifier};
-ghost use Rattle.asn1_rs.specs.Tagged.{ThenGives};
-ghost use Rattle.asn1_rs.specs.Tagged.Parser.{IsUnder, TakesExplicit, TakesImplicit, Expects};
-ghost use Rattle.asn1_rs.specs.Traits.{PassesAll};
+ghost use Rattle.asn1_rs.specs.Tagged.{ThenByDer, ThenByBer};
+ghost use Rattle.asn1_rs.specs.Tagged.Parser.{IsUnder, TakesExplicit, TakesImplicit, ChecksAndConverts, HasTag, Asks, Expects};
 ghost use Rattle.asn1_rs.specs.declared.error.Error.TheVariants as errors;
 ghost use Rattle.asn1_rs.specs.declared.length.Length.TheVariants as forms;
 
@@ -75,6 +74,14 @@ impl<'a, Kind, T, E> TaggedParser<'a, Kind, T, E> {
             × (e ≡ errors.UnexpectedTag (Some tag) (tag_of self.now.header))) }
     {
         self.header.assert_tag(tag)
+    }
+
+    /// Refuses another class with `UnexpectedClass`, and then another tag number with `UnexpectedTag`.
+    fn assert_class_and_tag(&self, class: Class, tag: Tag) -> Result<(), Error>
+        ensures { HasTag class tag self.now.header result }
+    {
+        self.assert_class(class)?;
+        self.assert_tag(tag)
     }
 
     /// The class.
@@ -139,8 +146,7 @@ where
     T: FromBer<'a, E>,
     E: From<Error>,
 {
-    ghost ber_gives = { ThenGives (IsElement max_depth) (ElementFault max_depth) ber_refusal
-        E.from_gives (TakesExplicit T.ber_gives) };
+    ghost ber_gives = { ThenByBer E.from_gives (TakesExplicit T.ber_gives) };
 
     fn from_ber(alloc: Global, bytes: &'a [u8]) -> ParseResult<'a, Self, E> {
         let (rest, any) = match element_by_ber(bytes) {
@@ -161,7 +167,7 @@ where
     T: FromDer<'a, E>,
     E: From<Error>,
 {
-    ghost der_gives = { ThenGives IsDerElement DerElementFault der_refusal E.from_gives
+    ghost der_gives = { ThenByDer E.from_gives
         (TakesExplicit T.der_gives) };
 
     fn from_der(alloc: Global, bytes: &'a [u8]) -> ParseResult<'a, Self, E> {
@@ -173,5 +179,224 @@ where
             Ok((_, inner)) => Ok((rest, TaggedParser::new(any.header, inner))),
             Err(e) => Err(e),
         }
+    }
+}
+
+/// The same header, whose identifier octets are borrowed from these octets: those that it was read from.
+fn header_again<'a>(bytes: &'a [u8], header: &Header<'_>) -> Header<'a>
+    requires { KeepsIdentifier bytes.now header.now }
+    ensures { HasParts result (class_of header.now) (is_constructed_of header.now)
+        (tag_of header.now) (length_of header.now) (raw_tag_of header.now) }
+{
+    let again = Header::new(
+        header.class(),
+        header.constructed(),
+        header.tag(),
+        header.length(),
+    );
+    match header.raw_tag() {
+        Some(octets) => again.with_raw_tag(Some(CowSlice::Borrowed(&bytes[..octets.len()]))),
+        None => again,
+    }
+}
+
+/// The same element under another tag number.
+fn under<'a>(bytes: &'a [u8], any: &Any<'a>, tag: Tag) -> Any<'a>
+    requires { KeepsIdentifier bytes.now any.now.header }
+    ensures { IsUnder tag any.now result }
+{
+    Any::new(header_again(bytes, &any.header), any.content).with_tag(tag)
+}
+
+/// Checks the constraints of an element, and converts it.
+fn check_and_convert<'a, T, E>(alloc: Global, any: Any<'a>) -> Result<T, E>
+where
+    T: FromAny<'a, Error = E> + CheckDerConstraints,
+    E: From<Error>,
+    ensures { ChecksAndConverts T.check_gives T.any_gives E.from_gives any.entry result }
+{
+    if let Err(e) = T::check_constraints(&any) {
+        return Err(E::from(e));
+    }
+    T::try_from_any(alloc, any)
+}
+
+/// Reads an element by BER, and converts it under the tag number of the value's type, whatever its own. The header that
+/// is kept is the element's own.
+///
+/// The class is left as it is. A conversion that asks for a constructed bit asks for it in the element that is read.
+impl<'a, T, E> FromBer<'a, E> for TaggedParser<'a, Implicit, T, E>
+where
+    T: FromAny<'a, Error = E> + Tagged,
+    E: From<Error>,
+{
+    ghost ber_gives = { ThenByBer E.from_gives (TakesImplicit T.mark T.any_gives) };
+
+    fn from_ber(alloc: Global, bytes: &'a [u8]) -> ParseResult<'a, Self, E> {
+        let (rest, any) = match element_by_ber(bytes) {
+            Ok(read) => read,
+            Err(e) => return Err(Err::convert(e)),
+        };
+        let other = under(bytes, &any, T::its_tag());
+        match T::try_from_any(alloc, other) {
+            Ok(inner) => Ok((rest, TaggedParser::new(any.header, inner))),
+            Err(e) => Err(Err::Error(e)),
+        }
+    }
+}
+
+/// Reads an element by DER; checks the constraints of the value's type under its tag number, and then converts it so.
+impl<'a, T, E> FromDer<'a, E> for TaggedParser<'a, Implicit, T, E>
+where
+    T: FromAny<'a, Error = E> + CheckDerConstraints + Tagged,
+    E: From<Error>,
+{
+    ghost der_gives = { ThenByDer E.from_gives
+        (TakesImplicit T.mark (ChecksAndConverts T.check_gives T.any_gives E.from_gives)) };
+
+    fn from_der(alloc: Global, bytes: &'a [u8]) -> ParseResult<'a, Self, E> {
+        let (rest, any) = match element_by_der(bytes) {
+            Ok(read) => read,
+            Err(e) => return Err(Err::convert(e)),
+        };
+        let other = under(bytes, &any, T::its_tag());
+        match check_and_convert(alloc, other) {
+            Ok(inner) => Ok((rest, TaggedParser::new(any.header, inner))),
+            Err(e) => Err(Err::Error(e)),
+        }
+    }
+}
+
+/// What was read, where it has this class and this tag number.
+fn with_tag<'a, Kind, T: Drop, E: From<Error>>(
+    rest: &'a [u8],
+    parser: TaggedParser<'a, Kind, T, E>,
+    class: Class,
+    tag: Tag,
+) -> ParseResult<'a, TaggedParser<'a, Kind, T, E>, E>
+    ensures { Asks (HasTag class tag) E.from_gives rest.now parser.entry (seen result) }
+{
+    match parser.assert_class_and_tag(class, tag) {
+        Ok(()) => Ok((rest, parser)),
+        Err(e) => Err(Err::Error(E::from(e))),
+    }
+}
+
+impl<'a, T: Drop, E: From<Error>> TaggedParser<'a, Explicit, T, E> {
+    /// Reads a value by BER, and then looks at its class and at its tag number.
+    ///
+    /// Refused as the reading is; with `UnexpectedClass`; with `UnexpectedTag`.
+    pub fn parse_ber(
+        alloc: Global,
+        class: Class,
+        tag: Tag,
+        bytes: &'a [u8],
+    ) -> ParseResult<'a, Self, E>
+    where
+        T: FromBer<'a, E>,
+        ensures { Expects (ThenByBer E.from_gives
+            (TakesExplicit T.ber_gives)) (HasTag class tag) E.from_gives bytes.now (seen result) }
+    {
+        match Self::from_ber(alloc, bytes) {
+            Ok((rest, parser)) => with_tag(rest, parser, class, tag),
+            Err(e) => Err(e),
+        }
+    }
+
+    /// Reads a value by DER, and goes on as `parse_ber` does.
+    pub fn parse_der(
+        alloc: Global,
+        class: Class,
+        tag: Tag,
+        bytes: &'a [u8],
+    ) -> ParseResult<'a, Self, E>
+    where
+        T: FromDer<'a, E>,
+        ensures { Expects (ThenByDer E.from_gives
+            (TakesExplicit T.der_gives))
+            (HasTag class tag) E.from_gives bytes.now (seen result) }
+    {
+        match Self::from_der(alloc, bytes) {
+            Ok((rest, parser)) => with_tag(rest, parser, class, tag),
+            Err(e) => Err(e),
+        }
+    }
+}
+
+impl<'a, T: Drop, E: From<Error>> TaggedParser<'a, Implicit, T, E> {
+    /// Reads a value by BER, and then looks at its class and at its tag number.
+    ///
+    /// Refused as the reading is; with `UnexpectedClass`; with `UnexpectedTag`.
+    pub fn parse_ber(
+        alloc: Global,
+        class: Class,
+        tag: Tag,
+        bytes: &'a [u8],
+    ) -> ParseResult<'a, Self, E>
+    where
+        T: FromAny<'a, Error = E> + Tagged,
+        ensures { Expects (ThenByBer E.from_gives
+            (TakesImplicit T.mark T.any_gives)) (HasTag class tag) E.from_gives bytes.now (seen result) }
+    {
+        match Self::from_ber(alloc, bytes) {
+            Ok((rest, parser)) => with_tag(rest, parser, class, tag),
+            Err(e) => Err(e),
+        }
+    }
+
+    /// Reads a value by DER, and goes on as `parse_ber` does.
+    pub fn parse_der(
+        alloc: Global,
+        class: Class,
+        tag: Tag,
+        bytes: &'a [u8],
+    ) -> ParseResult<'a, Self, E>
+    where
+        T: FromAny<'a, Error = E> + CheckDerConstraints + Tagged,
+        ensures { Expects (ThenByDer E.from_gives
+            (TakesImplicit T.mark (ChecksAndConverts T.check_gives T.any_gives E.from_gives)))
+            (HasTag class tag) E.from_gives bytes.now (seen result) }
+    {
+        match Self::from_der(alloc, bytes) {
+            Ok((rest, parser)) => with_tag(rest, parser, class, tag),
+            Err(e) => Err(e),
+        }
+    }
+}
+
+impl<'a, T, E: From<Error>> TaggedParser<'a, Explicit, T, E> {
+    /// Reads an element by BER, and goes on as [`Any::from_ber_and_then`] does: the tag number is looked at before the
+    /// class.
+    pub fn from_ber_and_then<F>(
+        class: Class,
+        tag: u32,
+        bytes: &'a [u8],
+        op: F,
+    ) -> ParseResult<'a, T, E>
+    where
+        F: FnOnce(&'a [u8]) -> ParseResult<'a, T, E> + Drop,
+        requires { F.IsAlwaysCallable op }
+        ensures { AndThenGives (IsElement max_depth) (ElementFault max_depth) ber_refusal class
+            (record { 0 = tag }) E.from_gives (FnOnceReturnsAt F.FnOnce op) bytes.now
+            (seen result) }
+    {
+        Any::from_ber_and_then(class, tag, bytes, op)
+    }
+
+    /// Reads an element by DER, and goes on as [`TaggedParser::from_ber_and_then`] does.
+    pub fn from_der_and_then<F>(
+        class: Class,
+        tag: u32,
+        bytes: &'a [u8],
+        op: F,
+    ) -> ParseResult<'a, T, E>
+    where
+        F: FnOnce(&'a [u8]) -> ParseResult<'a, T, E> + Drop,
+        requires { F.IsAlwaysCallable op }
+        ensures { AndThenGives IsDerElement DerElementFault der_refusal class
+            (record { 0 = tag }) E.from_gives (FnOnceReturnsAt F.FnOnce op) bytes.now
+            (seen result) }
+    {
+        Any::from_der_and_then(class, tag, bytes, op)
     }
 }
