@@ -2,8 +2,8 @@
 
 use crate::calls::push_debug;
 use asn1_rs::{
-    Any, Class, Error, Explicit, FromBer, FromDer, Header, Implicit, OptTaggedParser, ParseResult, Tag,
-    TaggedParser, TaggedParserBuilder, parse_der_tagged_explicit, parse_der_tagged_explicit_g,
+    Any, Class, Error, Explicit, FromBer, FromDer, Header, Implicit, OptTaggedParser, ParseResult,
+    Tag, TaggedParser, TaggedParserBuilder, parse_der_tagged_explicit, parse_der_tagged_explicit_g,
     parse_der_tagged_implicit, parse_der_tagged_implicit_g,
 };
 use std::alloc::Global;
@@ -143,7 +143,10 @@ impl Calls for ByClosures {
     fn answer(text: &mut String, alloc: Global, name: &str, octets: &[u8]) -> Result<(), Fail> {
         if name == "from(1) by BER" {
             let parser = OptTaggedParser::from(1u32);
-            return push_debug(text, &parser.parse_ber(octets, |h, c| number_in(alloc, &h, c)));
+            return push_debug(
+                text,
+                &parser.parse_ber(octets, |h, c| number_in(alloc, &h, c)),
+            );
         }
         let parser = match name {
             "from(1) by DER" => OptTaggedParser::from(Tag(1)),
@@ -152,7 +155,11 @@ impl Calls for ByClosures {
             "private(1) by DER" => OptTaggedParser::private(1),
             "tagged(1) by DER" => OptTaggedParser::tagged(1),
             "parse_der_tagged_explicit_g 1" => {
-                let answer = parse_der_tagged_explicit_g(1u32, octets, |c, h| number_in(alloc, &h, c));
+                let answer = parse_der_tagged_explicit_g(
+                    1u32,
+                    octets,
+                    |c, h| number_in(alloc, &h, c),
+                );
                 return push_debug(text, &answer);
             }
             "parse_der_tagged_implicit_g 1" => {
@@ -160,7 +167,10 @@ impl Calls for ByClosures {
             }
             _ => return Ok(text.push_str("no such call")?),
         };
-        push_debug(text, &parser.parse_der(octets, |h, c| number_in(alloc, &h, c)))
+        push_debug(
+            text,
+            &parser.parse_der(octets, |h, c| number_in(alloc, &h, c)),
+        )
     }
 }
 
@@ -172,7 +182,12 @@ fn converted<'a>(content: &'a [u8], _tag: Tag, header: Header<'a>) -> ParseResul
 /// The parts of a value under a tag.
 fn parts<Kind, E>(parser: &TaggedParser<'_, Kind, u8, E>) -> (Class, bool, Tag, u8) {
     let constructed = parser.header.is_constructed();
-    (parser.class(), constructed, parser.tag(), *parser.as_inner())
+    (
+        parser.class(),
+        constructed,
+        parser.tag(),
+        *parser.as_inner(),
+    )
 }
 
 /// Appends what a reader of values under tags answers.
