@@ -2,15 +2,15 @@
 
 use crate::calls::push_debug;
 use asn1_rs::{
-    Any, Class, Error, Explicit, FromBer, FromDer, Header, Implicit, OptTaggedParser, ParseResult,
-    Tag, TaggedParser, TaggedParserBuilder, parse_der_tagged_explicit, parse_der_tagged_explicit_g,
-    parse_der_tagged_implicit, parse_der_tagged_implicit_g,
+    Any, Class, Err, Error, Explicit, FromBer, FromDer, Header, Implicit, OptTaggedParser,
+    ParseResult, Tag, TaggedParser, TaggedParserBuilder, parse_der_tagged_explicit,
+    parse_der_tagged_explicit_g, parse_der_tagged_implicit, parse_der_tagged_implicit_g,
 };
 use std::alloc::Global;
 use std::test::Fail;
 use test_rows::{Calls, assert_rows};
 
-/// An element that may be there or not: `[1]`, and `[APPLICATION 1]`. The closure reads an integer in it.
+/// An element that may be there or not: `[1]`, and `[APPLICATION 1]`. The closure takes its first contents octet.
 const OPTIONS: &str = "\
 from(1) by BER:
 - = Ok(([], None))
@@ -22,7 +22,7 @@ e103020102 = Err(Error(UnexpectedClass { expected: Some(ContextSpecific), actual
 a10302010205 = Ok(([5], Some((2, true))))
 a180020102000005 = Ok(([5], Some((2, true))))
 81030201020500 = Ok(([5, 0], Some((2, false))))
-a100 = Err(Incomplete(Size(1)))
+a100 = Err(Failure(InvalidLength))
 
 from(1) by DER:
 - = Ok(([], None))
@@ -31,7 +31,7 @@ a10302010205 = Ok(([5], Some((2, true))))
 a1800201020000 = Err(Error(DerConstraintFailed(IndefiniteLength)))
 a2800000 = Err(Error(DerConstraintFailed(IndefiniteLength)))
 2103020102 = Err(Error(UnexpectedClass { expected: Some(ContextSpecific), actual: Universal }))
-a10402020002 = Err(Error(DerConstraintFailed(IntegerLeadingZeroes)))
+a1000a = Err(Failure(InvalidLength))
 
 application(1) by DER:
 6103020102 = Ok(([], Some((2, true))))
@@ -47,7 +47,7 @@ tagged(1) by DER:
 a103020102 = Ok(([], Some((2, true))))
 ";
 
-/// Readers of an element of the number 1 that hand it to a closure, which reads an integer in it.
+/// Readers of an element of the number 1 that hand it to a closure, which takes the first contents octet or converts it.
 const HANDED_ON: &str = "\
 parse_der_tagged_explicit_g 1:
 a10302010205 = Ok(([5], (2, true)))
@@ -124,29 +124,27 @@ explicit from_der_and_then:
 6e03020105ff = Ok(([255], 5))
 ";
 
-/// An integer in contents octets, and the constructed bit of the header above it.
-fn number_in<'a>(
-    alloc: Global,
-    header: &Header<'_>,
-    content: &'a [u8],
-) -> ParseResult<'a, (u8, bool), Error> {
-    match u8::from_der(alloc, content) {
-        Ok((rest, number)) => Ok((rest, (number, header.is_constructed()))),
-        Err(e) => Err(e),
+/// The first contents octet, and the constructed bit of the header.
+fn first_octet<'a>(header: Header<'_>, content: &'a [u8]) -> ParseResult<'a, (u8, bool), Error> {
+    match content {
+        [first, rest @ ..] => Ok((rest, (*first, header.is_constructed()))),
+        [] => Err(Err::Failure(Error::InvalidLength)),
     }
+}
+
+/// The same, of the contents octets and the header.
+fn octet_first<'a>(content: &'a [u8], header: Header<'a>) -> ParseResult<'a, (u8, bool), Error> {
+    first_octet(header, content)
 }
 
 /// The calls of the first two tables.
 struct ByClosures;
 
 impl Calls for ByClosures {
-    fn answer(text: &mut String, alloc: Global, name: &str, octets: &[u8]) -> Result<(), Fail> {
+    fn answer(text: &mut String, _alloc: Global, name: &str, octets: &[u8]) -> Result<(), Fail> {
         if name == "from(1) by BER" {
             let parser = OptTaggedParser::from(1u32);
-            return push_debug(
-                text,
-                &parser.parse_ber(octets, |h, c| number_in(alloc, &h, c)),
-            );
+            return push_debug(text, &parser.parse_ber(octets, first_octet));
         }
         let parser = match name {
             "from(1) by DER" => OptTaggedParser::from(Tag(1)),
@@ -155,11 +153,7 @@ impl Calls for ByClosures {
             "private(1) by DER" => OptTaggedParser::private(1),
             "tagged(1) by DER" => OptTaggedParser::tagged(1),
             "parse_der_tagged_explicit_g 1" => {
-                let answer = parse_der_tagged_explicit_g(
-                    1u32,
-                    octets,
-                    |c, h| number_in(alloc, &h, c),
-                );
+                let answer = parse_der_tagged_explicit_g(1u32, octets, octet_first);
                 return push_debug(text, &answer);
             }
             "parse_der_tagged_implicit_g 1" => {
@@ -167,10 +161,7 @@ impl Calls for ByClosures {
             }
             _ => return Ok(text.push_str("no such call")?),
         };
-        push_debug(
-            text,
-            &parser.parse_der(octets, |h, c| number_in(alloc, &h, c)),
-        )
+        push_debug(text, &parser.parse_der(octets, first_octet))
     }
 }
 
