@@ -142,7 +142,8 @@ impl OptTaggedParser {
 
 /// A parser of the context-specific class.
 impl From<Tag> for OptTaggedParser {
-    ghost from_gives = { λ tag parser. parser ≡ record { class = classes.ContextSpecific; tag = tag } };
+    ghost from_gives = { λ tag parser.
+        parser ≡ record { class = classes.ContextSpecific; tag = tag } };
 
     fn from(tag: Tag) -> Self {
         OptTaggedParser::new(Class::ContextSpecific, tag)

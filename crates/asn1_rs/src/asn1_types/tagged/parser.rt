@@ -1,8 +1,6 @@
 //! Values with the header that they were read under: any tag, which the reader answers (X.690 8.14).
 
-ghost use Rattle.std.specs.Prelude.{◌≡◌, ◌≢◌, true, [], Some, None, MatchResult};
-ghost use Rattle.std.specs.Cow.{cow_slice_items};
-ghost use Rattle.std.specs.Option.{option_map};
+ghost use Rattle.std.specs.Prelude.{◌≡◌, ◌≢◌, true, Some, None, MatchResult};
 ghost use Rattle.std.specs.Fn.{FnOnceReturnsAt};
 ghost use Rattle.x690.specs.Elements.{IsDerElement};
 ghost use Rattle.x690.specs.Faults.{DerElementFault};
@@ -336,7 +334,8 @@ impl<'a, T: Drop, E: From<Error>> TaggedParser<'a, Implicit, T, E> {
     where
         T: FromAny<'a, Error = E> + Tagged,
         ensures { Expects (ThenByBer E.from_gives
-            (TakesImplicit T.mark T.any_gives)) (HasTag class tag) E.from_gives bytes.now (seen result) }
+            (TakesImplicit T.mark T.any_gives)) (HasTag class tag) E.from_gives bytes.now
+            (seen result) }
     {
         match Self::from_ber(alloc, bytes) {
             Ok((rest, parser)) => with_tag(rest, parser, class, tag),
