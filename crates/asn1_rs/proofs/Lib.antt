@@ -4,4 +4,5 @@ mod Lists
 mod OpenContents
 mod Reading
 mod Sets
+mod TaggedReaders
 mod Writing

@@ -37,6 +37,13 @@ pub use asn1_types::sequence::iterator::{
 };
 pub use asn1_types::sequence::sequence_of::SequenceOf;
 pub use asn1_types::set::set_of::SetOf;
+pub use asn1_types::tagged::builder::{
+    TaggedParserBuilder, parse_der_tagged_explicit, parse_der_tagged_implicit,
+};
+pub use asn1_types::tagged::helpers::{parse_der_tagged_explicit_g, parse_der_tagged_implicit_g};
+pub use asn1_types::tagged::optional::OptTaggedParser;
+pub use asn1_types::tagged::parser::TaggedParser;
+pub use asn1_types::tagged::{Explicit, Implicit, TagKind};
 pub use ber::{MAX_RECURSION, Steps, any_from_ber_counted};
 pub use class::{BerClassFromIntError, Class, classes_are_numbered};
 pub use content::GetObjectContent;

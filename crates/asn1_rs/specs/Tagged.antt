@@ -1,0 +1,52 @@
+-- Elements under tags whose number is known only at run time (X.690 8.14).
+pub mod Optional
+pub mod Helpers
+pub mod Parser
+use Rattle.std.specs.Prelude.{◌≡◌, ◌≢◌, ◌⊎◌, ℕ, List, Some, Result, Ok, Err}
+use Rattle.std.specs.Borrow.{Bor}
+use Rattle.std.specs.Fn.{Once}
+use Rattle.x690.specs.Elements.{Parts, IsDerElement}
+use Rattle.x690.specs.Faults.{Fault, DerElementFault}
+use Rattle.x690.specs.Nested.{IsElement, ElementFault}
+use Rattle.asn1_rs.specs.declared.asn1_types.any.Any.{Any}
+use Rattle.asn1_rs.specs.declared.class.Class.{Class}
+use Rattle.asn1_rs.specs.declared.header.Header.{Header}
+use Rattle.asn1_rs.specs.declared.tag.Tag.{Tag}
+use Rattle.asn1_rs.specs.declared.error.Error.{Error}
+use Rattle.asn1_rs.specs.declared.error.Error.TheVariants.{UnexpectedTag, UnexpectedClass}
+use Rattle.asn1_rs.specs.declared.error.Err.{Err as Refusal}
+use Rattle.asn1_rs.specs.declared.error.Err.TheVariants.{Error as refused}
+use Rattle.asn1_rs.specs.Any.{BeginsWithElement}
+use Rattle.asn1_rs.specs.Ber.{max_depth}
+use Rattle.asn1_rs.specs.Error.{Converted}
+use Rattle.asn1_rs.specs.Header.Reading.{der_refusal, ber_refusal}
+
+-- what a call on an element and the octets behind it may answer
+abbrev pub OfElement : Type 0 → Type 1
+OfElement R = Any → List ℕ → R → Type 0
+
+-- What reading an element and then calling that on it may answer: its answer, or the refusal of the element's first fault.
+abbrev pub ThenGives : {T E : Type 0} → (List ℕ → Parts → Type 0) → (List ℕ → Fault → Type 0) → (Fault → Refusal Error) → (Error → E → Type 0) → OfElement (Result (List ℕ × T) (Refusal E)) → List ℕ → Result (List ℕ × T) (Refusal E) → Type 0
+ThenGives ElementOf FaultOf refusal from takes input (Ok x) = (any : Any) × (rest : List ℕ) × BeginsWithElement ElementOf input any rest × takes any rest (Ok x)
+ThenGives ElementOf FaultOf refusal from takes input (Err r) =
+    ((fault : Fault) × FaultOf input fault × Converted from (refusal fault) r) ⊎
+    ((any : Any) × (rest : List ℕ) × BeginsWithElement ElementOf input any rest × takes any rest (Err r))
+
+-- the same by DER and by BER
+abbrev pub ThenByDer : {T E : Type 0} → (Error → E → Type 0) → OfElement (Result (List ℕ × T) (Refusal E)) → List ℕ → Result (List ℕ × T) (Refusal E) → Type 0
+ThenByDer = ThenGives IsDerElement DerElementFault der_refusal
+
+abbrev pub ThenByBer : {T E : Type 0} → (Error → E → Type 0) → OfElement (Result (List ℕ × T) (Refusal E)) → List ℕ → Result (List ℕ × T) (Refusal E) → Type 0
+ThenByBer = ThenGives (IsElement max_depth) (ElementFault max_depth) ber_refusal
+
+-- the answer is the refusal of the tag number that an element has in place of this one
+abbrev pub IsOtherTag : {E : Type 0} → (Error → E → Type 0) → Tag → Tag → Refusal E → Type 0
+IsOtherTag {E} from tag actual r = (actual ≢ tag) × ((e : E) × from (UnexpectedTag (Some tag) actual) e × (r ≡ refused e))
+
+-- the answer is the refusal of the class that an element has in place of this one
+abbrev pub IsOtherClass : {E : Type 0} → (Error → E → Type 0) → Class → Class → Refusal E → Type 0
+IsOtherClass {E} from class actual r = (actual ≢ class) × ((e : E) × from (UnexpectedClass (Some class) actual) e × (r ≡ refused e))
+
+-- a closure that is called once may give r at the header and at a reference to the octets
+abbrev pub ReturnsOfHeader : {F R : Type 0} → Once F (Header × (Bor (List ℕ) × Unit {0})) R → F → Header → List ℕ → R → Type 0
+ReturnsOfHeader g f header octets r = (p : Bor (List ℕ)) × g.post f (header, (p, tt)) r × (p.now ≡ octets)
