@@ -10,5 +10,6 @@ pub mod kept;
 pub mod lists;
 pub mod null;
 pub mod octet_string;
+pub mod option;
 pub mod sequence;
 pub mod set;
