@@ -17,11 +17,11 @@ use Rattle.asn1_rs.specs.declared.tag.Tag.{Tag}
 use Rattle.asn1_rs.specs.declared.header.Header.{Header}
 use Rattle.asn1_rs.specs.Answers.{Exactly, ReadsBack}
 use Rattle.asn1_rs.specs.Grammar.Form.{IsStrict}
-use Rattle.asn1_rs.specs.Grammar.{IsOneFront, FormNumber, made}
+use Rattle.asn1_rs.specs.Grammar.{IsOneFront, FormNumber}
 use Rattle.asn1_rs.specs.Header.{identifier_of}
 use Rattle.asn1_rs.specs.Header.Reading.{HeaderGives, refusal_of}
 use Rattle.asn1_rs.specs.Length.{form_of}
-use Rattle.asn1_rs.specs.Optional.{BeginsWithOther, IsLeftOut, OptionGives, in_some}
+use Rattle.asn1_rs.specs.Optional.{IsLeftOut, OptionGives, in_some}
 use Rattle.asn1_rs.specs.Laws.Words.{strict_element, read_back}
 
 -- no header is empty

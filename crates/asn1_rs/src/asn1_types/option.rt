@@ -45,7 +45,7 @@ fn held<'a, T, E>(answer: ParseResult<'a, T, E>) -> ParseResult<'a, Option<T>, E
 {
     match answer {
         Ok((rest, value)) => Ok((rest, Some(value))),
-        Err(e) => Err(e),
+        Err(refusal) => Err(refusal),
     }
 }
 
