@@ -1,5 +1,7 @@
 -- Optional values: how one that is left out is told, what their readers may answer, and what is said of them by what they hold.
 use Rattle.std.specs.Prelude.{◌≡◌, ◌≢◌, ◌⊎◌, ℕ, Bool, true, false, List, [], ◌++◌, Option, Some, None, Result, Ok, Err, if◌then◌else◌}
+use Rattle.std.specs.Option.{option_map}
+use Rattle.x690.specs.Octets.{IsOctets}
 use Rattle.x690.specs.Identifiers.{Identifier}
 use Rattle.x690.specs.Lengths.{LengthForm}
 use Rattle.x690.specs.Rules.{Rule}
@@ -8,6 +10,8 @@ use Rattle.asn1_rs.specs.declared.asn1_types.any.Any.{Any}
 use Rattle.asn1_rs.specs.declared.error.Err.{Err as Refusal}
 use Rattle.asn1_rs.specs.declared.error.Error.{Error}
 use Rattle.asn1_rs.specs.declared.error.Error.TheVariants as errors
+use Rattle.asn1_rs.specs.Answers.{ReadsBack}
+use Rattle.asn1_rs.specs.Grammar.Form.{IsStrict}
 use Rattle.asn1_rs.specs.Header.{class_of, is_constructed_of, tag_of, length_of, HasParts}
 
 -- a header by the rule begins the octets, and has another tag number
@@ -38,6 +42,11 @@ abbrev pub OptionGives : {T E : Type 0} → (List ℕ → Type 0) → (List ℕ 
 OptionGives {T} {E} LeftOut reads octets answer =
     (LeftOut octets × (answer ≡ Ok (octets, None))) ⊎
     ((LeftOut octets → ⊥) × ((its : Result (List ℕ × T) (Refusal E)) × reads octets its × (answer ≡ in_some its)))
+
+-- Of a strict encoding before any rest a reader of optional values answers what is held, in Some, and the rest; or out of memory, as the reader of the value may.
+abbrev pub ReadsHeldBack : {T V E : Type 0} → (List ℕ → Result (List ℕ × Option T) (Refusal E) → Type 0) → (V → Identifier → List ℕ → Type 0) → (T → V) → (Refusal E → Type 0) → Type 0
+ReadsHeldBack {T} {V} {E} reads Form value memory = (octets : List ℕ) (answer : Result (List ℕ × Option T) (Refusal E)) (v : V) (word rest : List ℕ) → IsOctets octets → reads octets answer →
+    IsStrict Form v word → octets ≡ word ++ rest → ReadsBack (option_map value) memory (Some v) rest answer
 
 -- the error tells of another tag number than the one that was expected
 abbrev pub is_of_another_tag : Error → Bool

@@ -4,6 +4,7 @@ use Rattle.std.specs.Prelude.{Result, Ok, Err, ◌↔◌, nat_eq, not}
 use Rattle.std.proofs.lemmas.Bool.{eqb-true, eq-eqb, false≢true}
 use Rattle.std.proofs.lemmas.Bool.Decides.{Decides-not, Decides-eqb}
 use Rattle.std.specs.Option.{option_map}
+use Rattle.x690.specs.Octets.{IsOctets}
 use Rattle.x690.specs.Identifiers.{Identifier}
 use Rattle.x690.specs.Lengths.{LengthForm, definite}
 use Rattle.x690.specs.Rules.{Rule}
@@ -21,7 +22,7 @@ use Rattle.asn1_rs.specs.Grammar.{IsOneFront, FormNumber}
 use Rattle.asn1_rs.specs.Header.{identifier_of}
 use Rattle.asn1_rs.specs.Header.Reading.{HeaderGives, refusal_of}
 use Rattle.asn1_rs.specs.Length.{form_of}
-use Rattle.asn1_rs.specs.Optional.{IsLeftOut, OptionGives, in_some}
+use Rattle.asn1_rs.specs.Optional.{IsLeftOut, OptionGives, ReadsHeldBack, in_some}
 use Rattle.asn1_rs.specs.Laws.Words.{strict_element, read_back}
 
 -- no header is empty
@@ -81,10 +82,10 @@ held_reads_back value memory v rest (Ok x) b = (ap Some b.0, b.1)
 held_reads_back value memory v rest (Err r) b = b
 
 -- The strict encoding of what is held is read back, by a reader of optional values over one that is exact.
-pub option_reads_back : {T V E : Type 0} (rule : Rule) → AllowsStrict rule → (IsCut : List ℕ → Type 0) (Form : V → Identifier → List ℕ → Type 0) (G : List ℕ → V → Type 0) (value : T → V) (memory : Refusal E → Type 0) (number : ℕ)
-    → ((v : V) (o : List ℕ) → IsStrict Form v o → G o v) → IsOneFront G → FormNumber Form number → (reads : List ℕ → Result (List ℕ × T) (Refusal E) → Type 0) (octets : List ℕ)
-    → ((its : Result (List ℕ × T) (Refusal E)) → reads octets its → Exactly IsCut G value memory octets its)
-    → (answer : Result (List ℕ × Option T) (Refusal E)) → OptionGives (IsLeftOut rule number) reads octets answer → (v : V) (w rest : List ℕ) → IsStrict Form v w → octets ≡ w ++ rest → ReadsBack (option_map value) memory (Some v) rest answer
-option_reads_back rule allows IsCut Form G value memory number strict one numbered reads octets exact answer (inl (out, e)) v w rest s is = absurd (strict_stays rule allows Form number numbered v octets w rest s is out)
-option_reads_back rule allows IsCut Form G value memory number strict one numbered reads octets exact answer (inr (stays, (its, gives, e))) v w rest s is =
-    subst (ReadsBack (option_map value) memory (Some v) rest) (sym e) (held_reads_back value memory v rest its (read_back IsCut Form G value memory strict one octets its (exact its gives) v w rest s is))
+pub held_is_read_back : {T V E : Type 0} (rule : Rule) → AllowsStrict rule → (IsCut : List ℕ → Type 0) (Form : V → Identifier → List ℕ → Type 0) (G : List ℕ → V → Type 0) (value : T → V) (memory : Refusal E → Type 0) (number : ℕ)
+    → ((v : V) (o : List ℕ) → IsStrict Form v o → G o v) → IsOneFront G → FormNumber Form number → (reads : List ℕ → Result (List ℕ × T) (Refusal E) → Type 0)
+    → ((octets : List ℕ) (its : Result (List ℕ × T) (Refusal E)) → IsOctets octets → reads octets its → Exactly IsCut G value memory octets its)
+    → ReadsHeldBack (OptionGives (IsLeftOut rule number) reads) Form value memory
+held_is_read_back rule allows IsCut Form G value memory number strict one numbered reads exact octets answer v w rest are (inl (out, e)) s is = absurd (strict_stays rule allows Form number numbered v octets w rest s is out)
+held_is_read_back rule allows IsCut Form G value memory number strict one numbered reads exact octets answer v w rest are (inr (stays, (its, gives, e))) s is =
+    subst (ReadsBack (option_map value) memory (Some v) rest) (sym e) (held_reads_back value memory v rest its (read_back IsCut Form G value memory strict one octets its (exact octets its are gives) v w rest s is))

@@ -1,16 +1,12 @@
 //! Optional values: an element that may be left out, told by its tag number.
-ghost use Rattle.std.specs.Prelude.{◌≡◌, ◌++◌, ◌↔◌, ℕ, List, Option, [], Bool, false, Some, IsTrue, Result};
-ghost use Rattle.std.specs.Option.{option_map};
-ghost use Rattle.x690.specs.Octets.{IsOctets};
+ghost use Rattle.std.specs.Prelude.{◌≡◌, ◌↔◌, [], Bool, false, IsTrue};
 ghost use Rattle.x690.specs.Rules.{Rule, der_rule, ber_rule};
 ghost use Rattle.x690.specs.Faults.{Breach};
-ghost use Rattle.asn1_rs.specs.declared.error.Err.{Err as Refusal};
 ghost use Rattle.asn1_rs.specs.declared.error.Error.{Error};
-ghost use Rattle.asn1_rs.specs.Answers.{seen, ReadsBack, TellsMemory};
+ghost use Rattle.asn1_rs.specs.Answers.{seen, TellsMemory};
 ghost use Rattle.asn1_rs.specs.Any.{IsTheElement, IsDefiniteOr};
-ghost use Rattle.asn1_rs.specs.Grammar.Form.{IsStrict};
 ghost use Rattle.asn1_rs.specs.Header.Reading.{refusal_of, HeaderGives};
-ghost use Rattle.asn1_rs.specs.Optional.{IsLeftOut, IsAtEnd, OptionGives, in_some, held_or, IfHeld, HeldRefuses, is_of_another_tag, IsWithoutRawTag, none_or, NoneOrConverted};
+ghost use Rattle.asn1_rs.specs.Optional.{IsLeftOut, IsAtEnd, OptionGives, ReadsHeldBack, in_some, held_or, IfHeld, HeldRefuses, is_of_another_tag, IsWithoutRawTag, none_or, NoneOrConverted};
 ghost use Rattle.asn1_rs.specs.Traits.{BerGives, DerGives};
 
 use crate::asn1_types::any::Any;
@@ -249,34 +245,16 @@ impl<T: ToDer> ToDer for Option<T> {
     }
 }
 
-/// The strict encoding of what a Some holds is read back as that Some by BER, before any rest.
+/// The strict encoding of what a Some holds is read back as that Some by BER and by DER, before any rest.
 ///
-/// What `Option::<T>::from_ber` may answer is what its `ber_gives` says. Where the type allocates, out of memory may be
-/// reported in its place.
-pub fn options_are_read_back_by_ber<'a, T, E>()
+/// What the readers of `Option<T>` may answer is what its `ber_gives` and `der_gives` say. Where the type allocates, out
+/// of memory may be reported in its place.
+pub fn options_are_read_back<'a, T, E>()
 where
-    T: LawfulBer<'a, E> + LawfulTagged,
+    T: LawfulBer<'a, E> + LawfulDer<'a, E> + LawfulTagged,
     E: From<Error>,
-    ensures { (input : List ℕ) (answer : Result (List ℕ × Option T) (Refusal E))
-        (v : T.grammar.Value) (w rest : List ℕ) → IsOctets input
-        → OptionGives (IsLeftOut ber_rule (T.mark).0) T.ber_gives input answer
-        → IsStrict T.grammar.Form v w → input ≡ w ++ rest
-        → ReadsBack (option_map T.grammar.value)
-        (TellsMemory T.grammar.allocates E.from_gives) (Some v) rest answer }
-{}
-
-/// The strict encoding of what a Some holds is read back as that Some by DER, before any rest.
-///
-/// What `Option::<T>::from_der` may answer is what its `der_gives` says. Where the type allocates, out of memory may be
-/// reported in its place.
-pub fn options_are_read_back_by_der<'a, T, E>()
-where
-    T: LawfulDer<'a, E> + LawfulTagged,
-    E: From<Error>,
-    ensures { (input : List ℕ) (answer : Result (List ℕ × Option T) (Refusal E))
-        (v : T.grammar.Value) (w rest : List ℕ) → IsOctets input
-        → OptionGives (IsLeftOut der_rule (T.mark).0) T.der_gives input answer
-        → IsStrict T.grammar.Form v w → input ≡ w ++ rest
-        → ReadsBack (option_map T.grammar.value)
-        (TellsMemory T.grammar.allocates E.from_gives) (Some v) rest answer }
+    ensures by_ber { ReadsHeldBack (OptionGives (IsLeftOut ber_rule (T.mark).0) T.ber_gives)
+        T.grammar.Form T.grammar.value (TellsMemory T.grammar.allocates E.from_gives) }
+    ensures by_der { ReadsHeldBack (OptionGives (IsLeftOut der_rule (T.mark).0) T.der_gives)
+        T.grammar.Form T.grammar.value (TellsMemory T.grammar.allocates E.from_gives) }
 {}
