@@ -17,6 +17,7 @@ pub mod Boolean
 pub mod Null
 pub mod EndOfContent
 pub mod OctetString
+pub mod Optional
 pub mod BitString
 pub mod Writer
 pub mod ToDer

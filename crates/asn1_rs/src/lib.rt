@@ -31,6 +31,7 @@ pub use asn1_types::kept::set::Set;
 pub use asn1_types::lists::FromItems;
 pub use asn1_types::null::Null;
 pub use asn1_types::octet_string::OctetString;
+pub use asn1_types::option::{TagRefusal, options_are_read_back};
 pub use asn1_types::sequence::iterator::{
     ReadsItems, ReadsWords, SequenceIterator, SetIterator, indefinite_contents_are_walked,
     walks_end, walks_take_words,

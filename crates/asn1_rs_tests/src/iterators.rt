@@ -68,6 +68,7 @@ impl Calls for Walks {
             "NotZero, DerParser" => push_walk::<NotZero, DerParser>(text, alloc, octets),
             "u32, BerParser" => push_walk::<u32, BerParser>(text, alloc, octets),
             "u32, DerParser" => push_walk::<u32, DerParser>(text, alloc, octets),
+            "Option<u8>, BerParser" => push_walk::<Option<u8>, BerParser>(text, alloc, octets),
             "OfNoOctets, BerParser" => push_walk::<OfNoOctets, BerParser>(text, alloc, octets),
             _ => Ok(text.push_str("no such walk")?),
         }
@@ -97,6 +98,10 @@ u32, BerParser:
 u32, DerParser:
 02010502020100 = 5, 256, end, end
 020301000102030100 = 65537, Incomplete(Size(1)), end, end
+
+Option<u8>, BerParser:
+0400 = InvalidLength, end, end, end
+0201050400 = Some(5), InvalidLength, end, end
 
 OfNoOctets, BerParser:
 0400 = InvalidLength, end, end, end

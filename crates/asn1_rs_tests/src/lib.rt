@@ -28,6 +28,8 @@ mod leaves;
 #[cfg(test)]
 mod numbers;
 #[cfg(test)]
+mod options;
+#[cfg(test)]
 mod parsers;
 #[cfg(test)]
 mod reading;

@@ -10,6 +10,7 @@ pub mod kept;
 pub mod lists;
 pub mod null;
 pub mod octet_string;
+pub mod option;
 pub mod sequence;
 pub mod set;
 pub mod tagged;

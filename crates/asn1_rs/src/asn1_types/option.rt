@@ -1,0 +1,260 @@
+//! Optional values: an element that may be left out, told by its tag number.
+ghost use Rattle.std.specs.Prelude.{◌≡◌, ◌↔◌, [], Bool, false, IsTrue};
+ghost use Rattle.x690.specs.Rules.{Rule, der_rule, ber_rule};
+ghost use Rattle.x690.specs.Faults.{Breach};
+ghost use Rattle.asn1_rs.specs.declared.error.Error.{Error};
+ghost use Rattle.asn1_rs.specs.Answers.{seen, TellsMemory};
+ghost use Rattle.asn1_rs.specs.Any.{IsTheElement, IsDefiniteOr};
+ghost use Rattle.asn1_rs.specs.Header.Reading.{refusal_of, HeaderGives};
+ghost use Rattle.asn1_rs.specs.Optional.{IsLeftOut, IsAtEnd, OptionGives, ReadsHeldBack, in_some, held_or, IfHeld, HeldRefuses, is_of_another_tag, IsWithoutRawTag, none_or, NoneOrConverted};
+ghost use Rattle.asn1_rs.specs.Traits.{BerGives, DerGives};
+
+use crate::asn1_types::any::Any;
+use crate::error::{Error, ParseResult, SerializeResult};
+use crate::header::Header;
+use crate::header::reading::{header_by_ber, header_by_der};
+use crate::laws::{LawfulBer, LawfulDer, LawfulTagged};
+use crate::tag::Tag;
+use crate::to_der::ToDer;
+use crate::traits::{CheckDerConstraints, DynTagged, FromAny, FromBer, FromDer, Tagged};
+use crate::writer::DerWrite;
+use std::alloc::Global;
+
+/// Whether a value with this tag number is left out of the octets, at whose front a header was read: there are no octets,
+/// or the header has another tag number.
+#[inline(always)]
+fn is_left_out(tag: Tag, octets: &[u8], read: ParseResult<'_, Header<'_>, Error>) -> bool
+    ensures { (rule : Rule) (refuses : Breach → Error)
+        → HeaderGives rule (refusal_of refuses) octets.now (seen read.entry)
+        → IsTrue result ↔ IsLeftOut rule tag.0 octets.now }
+{
+    match read {
+        Ok((_, header)) => header.tag().0 != tag.0,
+        Err(_) => octets.is_empty(),
+    }
+}
+
+/// The whole answer, an Ok in Some.
+#[inline(always)]
+fn held<'a, T, E>(answer: ParseResult<'a, T, E>) -> ParseResult<'a, Option<T>, E>
+    ensures { seen result ≡ in_some (seen answer.entry) }
+{
+    match answer {
+        Ok((rest, value)) => Ok((rest, Some(value))),
+        Err(refusal) => Err(refusal),
+    }
+}
+
+/// Reads a value, or none where it is left out: where there are no octets, or a header by BER of another tag number
+/// begins them. Nothing is consumed then. The class is not looked at, and octets that no header begins are refused as
+/// the type refuses them.
+impl<'a, T: FromBer<'a, E> + Tagged, E: From<Error>> FromBer<'a, E> for Option<T> {
+    ghost ber_gives = { OptionGives (IsLeftOut ber_rule (T.mark).0) T.ber_gives };
+
+    fn from_ber(alloc: Global, bytes: &'a [u8]) -> ParseResult<'a, Option<T>, E> {
+        if is_left_out(T::its_tag(), bytes, header_by_ber(bytes)) {
+            return Ok((bytes, None));
+        }
+        held(T::from_ber(alloc, bytes))
+    }
+}
+
+/// As by BER, where a header by DER of another tag number begins the octets.
+impl<'a, T: FromDer<'a, E> + Tagged, E: From<Error>> FromDer<'a, E> for Option<T> {
+    ghost der_gives = { OptionGives (IsLeftOut der_rule (T.mark).0) T.der_gives };
+
+    fn from_der(alloc: Global, bytes: &'a [u8]) -> ParseResult<'a, Option<T>, E> {
+        if is_left_out(T::its_tag(), bytes, header_by_der(bytes)) {
+            return Ok((bytes, None));
+        }
+        held(T::from_der(alloc, bytes))
+    }
+}
+
+/// Reads an element of any tag number, or none where there are no octets.
+impl<'a> FromBer<'a, Error> for Option<Any<'a>> {
+    ghost ber_gives = { OptionGives IsAtEnd (BerGives IsTheElement (λ e f. f ≡ e)) };
+
+    fn from_ber(alloc: Global, bytes: &'a [u8]) -> ParseResult<'a, Option<Any<'a>>, Error> {
+        if bytes.is_empty() {
+            return Ok((bytes, None));
+        }
+        held(Any::from_ber(alloc, bytes))
+    }
+}
+
+/// Reads an element of any tag number, or none where there are no octets.
+impl<'a> FromDer<'a, Error> for Option<Any<'a>> {
+    ghost der_gives = { OptionGives IsAtEnd
+        (DerGives IsDefiniteOr IsTheElement (λ e f. f ≡ e)) };
+
+    fn from_der(alloc: Global, bytes: &'a [u8]) -> ParseResult<'a, Option<Any<'a>>, Error> {
+        if bytes.is_empty() {
+            return Ok((bytes, None));
+        }
+        held(Any::from_der(alloc, bytes))
+    }
+}
+
+/// An error that may tell of another tag number than the one that was expected.
+pub trait TagRefusal {
+    /// It tells of that.
+    ghost of_another_tag: { Self → Bool };
+
+    /// Whether it tells of that.
+    fn is_of_another_tag(&self) -> bool
+        ensures { result ≡ of_another_tag self.now };
+}
+
+impl TagRefusal for Error {
+    ghost of_another_tag = { is_of_another_tag };
+
+    fn is_of_another_tag(&self) -> bool {
+        matches!(self, Error::UnexpectedTag { .. })
+    }
+}
+
+/// The same element, whose header keeps no identifier octets.
+fn without_raw_tag<'a>(any: &Any<'a>) -> Any<'a>
+    ensures { IsWithoutRawTag any.now result }
+{
+    let header = &any.header;
+    Any::new(
+        Header::new(
+            header.class(),
+            header.constructed(),
+            header.tag(),
+            header.length(),
+        ),
+        any.content,
+    )
+}
+
+/// None in the place of an error of another tag number, and an Ok in Some.
+fn none_of_another_tag<T, E: TagRefusal + Drop>(answer: Result<T, E>) -> Result<Option<T>, E>
+    ensures { result ≡ none_or E.of_another_tag answer }
+{
+    match answer {
+        Ok(value) => Ok(Some(value)),
+        Err(e) if e.is_of_another_tag() => Ok(None),
+        Err(e) => Err(e),
+    }
+}
+
+impl<'a> Any<'a> {
+    /// The value of an element that stays, or none where its conversion is refused with `UnexpectedTag`: for its own
+    /// tag number, or for that of an item in it. Every other refusal is passed on.
+    ///
+    /// What is converted has the parts of the element and its contents octets, without the identifier octets that its
+    /// header keeps.
+    pub fn as_optional<T, E>(&self, alloc: Global) -> Result<Option<T>, E>
+    where
+        T: FromAny<'a, Error = E>,
+        E: TagRefusal + Drop,
+        ensures { NoneOrConverted T.any_gives E.of_another_tag self.now result }
+    {
+        none_of_another_tag(T::try_from_any(alloc, without_raw_tag(self)))
+    }
+}
+
+impl<T: CheckDerConstraints> CheckDerConstraints for Option<T> {
+    ghost check_gives = { T.check_gives };
+
+    /// The check of the type of the value.
+    fn check_constraints(any: &Any<'_>) -> Result<(), Error> {
+        T::check_constraints(any)
+    }
+}
+
+impl<T: DynTagged> DynTagged for Option<T> {
+    ghost dyn_tag = { held_or (record { 0 = 0 }) T.dyn_tag };
+
+    /// The tag number of the value that is held; 0 where none is.
+    fn tag(&self) -> Tag {
+        match self {
+            Some(x) => x.tag(),
+            None => Tag(0),
+        }
+    }
+}
+
+/// An optional value is counted and written as what it holds. None has no octets. Its raw form is the DER form.
+impl<T: ToDer> ToDer for Option<T> {
+    ghost tells = { IfHeld T.tells };
+
+    ghost header = { held_or [] T.header };
+
+    ghost content = { held_or [] T.content };
+
+    ghost constructed = { held_or false T.constructed };
+
+    ghost count_refuses = { HeldRefuses T.count_refuses };
+
+    ghost header_refuses = { HeldRefuses T.header_refuses };
+
+    ghost content_refuses = { HeldRefuses T.content_refuses };
+
+    ghost refuses_first = { HeldRefuses T.refuses_first };
+
+    ghost count_allocates = { T.count_allocates };
+
+    ghost content_allocates = { T.content_allocates };
+
+    ghost write_allocates = { T.write_allocates };
+
+    fn to_der_len(&self) -> Result<usize, Error> {
+        match self {
+            Some(x) => x.to_der_len(),
+            None => Ok(0),
+        }
+    }
+
+    fn der_content_len(&self) -> Result<usize, Error> {
+        match self {
+            Some(x) => x.der_content_len(),
+            None => Ok(0),
+        }
+    }
+
+    fn der_constructed(&self) -> bool {
+        match self {
+            Some(x) => x.der_constructed(),
+            None => false,
+        }
+    }
+
+    fn write_der_header<W: DerWrite>(&self, alloc: Global, w: &mut W) -> SerializeResult<usize> {
+        match self {
+            Some(x) => x.write_der_header(alloc, w),
+            None => Ok(0),
+        }
+    }
+
+    fn write_der_content<W: DerWrite>(&self, alloc: Global, w: &mut W) -> SerializeResult<usize> {
+        match self {
+            Some(x) => x.write_der_content(alloc, w),
+            None => Ok(0),
+        }
+    }
+
+    fn write_der<W: DerWrite>(&self, alloc: Global, w: &mut W) -> SerializeResult<usize> {
+        match self {
+            Some(x) => x.write_der(alloc, w),
+            None => Ok(0),
+        }
+    }
+}
+
+/// The strict encoding of what a Some holds is read back as that Some by BER and by DER, before any rest.
+///
+/// What the readers of `Option<T>` may answer is what its `ber_gives` and `der_gives` say. Where the type allocates, out
+/// of memory may be reported in its place.
+pub fn options_are_read_back<'a, T, E>()
+where
+    T: LawfulBer<'a, E> + LawfulDer<'a, E> + LawfulTagged,
+    E: From<Error>,
+    ensures by_ber { ReadsHeldBack (OptionGives (IsLeftOut ber_rule (T.mark).0) T.ber_gives)
+        T.grammar.Form T.grammar.value (TellsMemory T.grammar.allocates E.from_gives) }
+    ensures by_der { ReadsHeldBack (OptionGives (IsLeftOut der_rule (T.mark).0) T.der_gives)
+        T.grammar.Form T.grammar.value (TellsMemory T.grammar.allocates E.from_gives) }
+{}
