@@ -18,3 +18,4 @@ pub mod Sequence
 pub mod Lists
 pub mod Set
 pub mod Kept
+pub mod Tagged

@@ -26,5 +26,6 @@ pub mod Sequence
 pub mod Lists
 pub mod Set
 pub mod Kept
+pub mod Tagged
 pub mod Laws
 pub mod Texts

@@ -36,6 +36,10 @@ pub use asn1_types::sequence::iterator::{
     walks_end, walks_take_words,
 };
 pub use asn1_types::set::set_of::SetOf;
+pub use asn1_types::tagged::{
+    ApplicationExplicit, ApplicationImplicit, Explicit, Implicit, OptTaggedExplicit, OptTaggedImplicit,
+    PrivateExplicit, PrivateImplicit, TagKind, TaggedExplicit, TaggedImplicit, TaggedValue,
+};
 pub use ber::{MAX_RECURSION, Steps, any_from_ber_counted};
 pub use class::{BerClassFromIntError, Class, classes_are_numbered};
 pub use content::GetObjectContent;

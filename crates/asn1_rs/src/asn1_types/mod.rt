@@ -12,3 +12,4 @@ pub mod null;
 pub mod octet_string;
 pub mod sequence;
 pub mod set;
+pub mod tagged;

@@ -1,0 +1,1 @@
+-- Laws of values under a tag.
