@@ -4,8 +4,11 @@ ghost use Rattle.x690.specs.Strict.{header_octets};
 ghost use Rattle.asn1_rs.specs.declared.error.SerializeError.TheVariants.{InvalidClass};
 ghost use Rattle.asn1_rs.specs.Answers.{seen};
 ghost use Rattle.asn1_rs.specs.Any.{parts_of};
-ghost use Rattle.asn1_rs.specs.Tagged.Explicit.{ExplicitTakes, ExplicitReads, ExplicitGives, ExplicitCheckGives, InnerTakes, InnerChecked, tag_checks};
-ghost use Rattle.asn1_rs.specs.ToDer.{Either, WrittenRefusal, OfClass, some_allocates};
+ghost use Rattle.asn1_rs.specs.Tagged.Explicit.{ExplicitTakes, ExplicitReads, ExplicitGives, ExplicitCheckGives, InnerTakes, InnerChecked, tag_checks, explicit_grammar};
+ghost use Rattle.asn1_rs.specs.Laws.Forms.{der_strict};
+ghost use Rattle.asn1_rs.specs.Laws.Tagged.{number_fits};
+ghost use Rattle.asn1_rs.specs.Laws.Tagged.Explicit.{explicit_lawful, explicit_number, explicit_by_value, explicit_writes_form, explicit_has_form, explicit_takes_class};
+ghost use Rattle.asn1_rs.specs.ToDer.{Either, WrittenRefusal, OfClass, IsWritable, some_allocates};
 ghost use Rattle.asn1_rs.specs.Traits.{OfParts};
 
 use crate::asn1_types::any::Any;
@@ -14,6 +17,7 @@ use crate::ber::element_by_ber;
 use crate::der::element_by_der;
 use crate::error::{Err, Error, ParseResult, SerializeError, SerializeResult};
 use crate::header::writing::{element_len, put_counted_header};
+use crate::laws::{Grammar, LawfulItem, LawfulTagged, LawfulWrite, TakesClass};
 use crate::tag::Tag;
 use crate::to_der::ToDer;
 use crate::traits::{CheckDerConstraints, FromAny, FromBer, FromDer};
@@ -183,4 +187,46 @@ impl<T: CheckDerConstraints, E, const CLASS: u8, const TAG: u32> CheckDerConstra
         any.header.length().assert_definite()?;
         check_inner::<T>(any)
     }
+}
+
+impl<T: Grammar, E, const CLASS: u8, const TAG: u32> Grammar
+    for TaggedValue<T, E, Explicit, CLASS, TAG> {
+    ghost grammar = { explicit_grammar CLASS TAG (λ t. t.inner) T.grammar };
+}
+
+impl<T: LawfulItem, E, const CLASS: u8, const TAG: u32> LawfulItem
+    for TaggedValue<T, E, Explicit, CLASS, TAG> {
+    ghost lawful_item = { explicit_lawful CLASS TAG (λ t. t.inner) T.grammar T.lawful_item };
+}
+
+impl<T: LawfulWrite, E, const CLASS: u8, const TAG: u32> LawfulWrite
+    for TaggedValue<T, E, Explicit, CLASS, TAG> {
+    ghost tells_all = { λ t. T.tells_all t.inner };
+
+    ghost by_value = { λ x y. explicit_by_value CLASS TAG T.grammar.value T.constructed T.header
+        T.content T.by_value x.inner y.inner };
+
+    ghost form = { λ t. explicit_writes_form CLASS TAG T.grammar.value T.constructed T.header
+        T.content T.grammar.Form T.count_refuses T.header_refuses T.content_refuses T.form
+        t.inner };
+
+    ghost der_form = { λ t. explicit_has_form CLASS TAG T.grammar.value T.constructed T.header
+        T.content T.grammar.Form T.grammar.IsDer
+        (der_strict T.grammar.value T.grammar.IsDer T.grammar.Form
+        (λ x. IsWritable (T.count_refuses x) (T.header_refuses x) (T.content_refuses x))
+        T.constructed T.header T.content T.form T.der_form T.lawful_item.form_fits) t.inner };
+}
+
+impl<T: LawfulItem, E, const CLASS: u8, const TAG: u32> LawfulTagged
+    for TaggedValue<T, E, Explicit, CLASS, TAG> {
+    ghost tag_number = { explicit_number CLASS TAG T.grammar.Form };
+
+    ghost number_fits = { number_fits TAG };
+}
+
+/// It takes its own class alone.
+impl<T: LawfulItem, E, const CLASS: u8, const TAG: u32> TakesClass<CLASS>
+    for TaggedValue<T, E, Explicit, CLASS, TAG> {
+    ghost takes_class = { explicit_takes_class CLASS TAG T.grammar.Form T.grammar.Ber
+        T.grammar.Check T.lawful_item.strict_ber T.lawful_item.form_check };
 }
