@@ -36,7 +36,7 @@ pub has_class_is : (class : ℕ) → IsCheck (has_class class)
 has_class_is class = record {
   apart = λ p e m b. b.0 m;
   one = λ p e f b c. same p e f b c;
-  spares = λ p b. let e = b.1.2.2.2 in cc;
+  spares = λ p b. let e = b.1.4 in cc;
 }
   where
     same : (p : Parts) (e f : Error) → has_class class p (Err e) → has_class class p (Err f) → e ≡ f
