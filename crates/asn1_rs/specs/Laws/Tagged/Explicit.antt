@@ -17,17 +17,17 @@ use Rattle.asn1_rs.specs.declared.error.Err.TheVariants.{Incomplete as cut, Erro
 use Rattle.asn1_rs.specs.declared.error.Error.{Error}
 use Rattle.asn1_rs.specs.declared.error.Error.TheVariants as errors
 use Rattle.asn1_rs.specs.declared.error.SerializeError.{SerializeError}
-use Rattle.asn1_rs.specs.Answers.{Front, NoFront, Exactly, TellsMemory}
+use Rattle.asn1_rs.specs.Answers.{Front, NoFront, Exactly, TellsMemory, IsOther}
 use Rattle.asn1_rs.specs.Ber.{max_depth}
 use Rattle.asn1_rs.specs.Checks.{CheckGives, IsCheck, has_number, is_constructed, is_counted, ◌before◌}
-use Rattle.asn1_rs.specs.Error.{FlattenedTo}
+use Rattle.asn1_rs.specs.Error.{FlattenedTo, HeldIn}
 use Rattle.asn1_rs.specs.Grammar.{IsOneFront, IsOneBody, TakesBody, FormChecks, FormBodies, FormTakes, FormNumber, NoCheck, DerWord, made, of_class}
 use Rattle.asn1_rs.specs.Grammar.Form.{IsOneForm, IsOneValue, FitsElement, HasValues, HasForm, IsStrict, WritesByValue, WritesForm, header_of}
 use Rattle.asn1_rs.specs.Grammar.Item.{ItemGrammar, IsLawfulItem}
 use Rattle.asn1_rs.specs.Header.Reading.{der_breach}
 use Rattle.asn1_rs.specs.Laws.Checks.{before_is, has_number_is, is_constructed_is}
 use Rattle.asn1_rs.specs.Laws.Forms.{strict_written}
-use Rattle.asn1_rs.specs.Laws.Readers.{none_now, front_more, speaks_fault, der_elements, ber_elements}
+use Rattle.asn1_rs.specs.Laws.Readers.{none_now, front_more, speaks_fault, fault_spares, der_breach_spares, der_elements, ber_elements}
 use Rattle.asn1_rs.specs.Laws.Tagged.{has_class_is, number_is}
 use Rattle.asn1_rs.specs.Laws.Words.{word_one, strict_element, one_strict, strict_apart, strict_ber_word, strict_der_word}
 use Rattle.asn1_rs.specs.Tagged.{has_class, number_of}
@@ -146,3 +146,72 @@ module _ {S V : Type 0} (class number : ℕ) (value : S → V) (constructed : S 
     pub explicit_has_form : (IsDer : V → Type 0) → ((x : S) → IsDer (value x) → length (header x ++ content x) < 2 ^ 64 → ∥ IsStrict Form (value x) (header x ++ content x) ∥₁) →
         (x : S) → (class < 4) × (number < 2 ^ 32) × IsDer (value x) → length (header x ++ content x) < 2 ^ 64 → ∥ ((i : Identifier) × ExplicitForm class number Form (value x) i (header x ++ content x)) ∥₁
     explicit_has_form IsDer strict x d l = ∥∥₁_map (strict x d.2 l) (λ s. (explicit_identifier class number, record { is_class = d.0; is_number = d.1; id_is = refl; inner = s }))
+
+-- what tells of refused memory, told as an error
+memory_told : {E : Type 0} (from : Error → E → Type 0) (r : Refusal E) (e f : E) → r ≡ refused f → FlattenedTo (λ x y. y ≡ x) from r e → from errors.OutOfMemory f → from errors.OutOfMemory e
+memory_told from (refused x) e f s t m = let u : e ≡ f = cc in subst (from errors.OutOfMemory) (sym u) m
+memory_told from (cut n) e f s t m = cc
+memory_told from (failed x) e f s t m = cc
+
+module _ {T V W E : Type 0} (class number : ℕ) (inner : W → T) (reads : List ℕ → Result (List ℕ × T) (Refusal E) → Type 0) (from : Error → E → Type 0) (G : List ℕ → V → Type 0) (value : T → V) (takes : Bool) (IsCut : List ℕ → Type 0)
+    (exact : (octets : List ℕ) (answer : Result (List ℕ × T) (Refusal E)) → IsOctets octets → reads octets answer → Exactly IsCut G value (TellsMemory takes from) octets answer) where
+  -- the conversion is exact
+  pub explicit_takes : (p : Parts) (answer : Result W E) → IsOctets p.content → ExplicitTakes class number inner reads from p answer → TakesBody (ExplicitBody class number G) (λ w. value (inner w)) takes from p answer
+  explicit_takes p (Ok w) o t = record { tag = t.0; rest = t.1.0; inner = exact p.content (Ok (t.1.0, inner w)) o t.1.1 }
+  explicit_takes p (Err e) o (inl r) = inr (λ v b. (tag_checks_are class number).apart p r.0 b.tag r.1)
+  explicit_takes p (Err e) o (inr (h, (r, g, f))) =
+      elim (exact p.content (Err r) o g) [
+        | inl m ↦ inl (m.0, memory_told from r e m.1.0 m.1.2 f m.1.1)
+        | inr n ↦ inr (λ v b. none_now (IsCut p.content) r G p.content n b.inner.word b.rest v b.inner.is b.inner.fits)
+      ]
+
+  abbrev Word : List ℕ → V → Type 0
+  Word = DerWord NoCheck (ExplicitBody class number G)
+
+  -- the element that was read is the one of any word at the front
+  word_body : (input more rest w r : List ℕ) (p : Parts) (v : V) → Front IsDerElement input p rest → input ++ more ≡ w ++ r → Word w v → ExplicitBody class number G p v
+  word_body input more rest w r p v f h d =
+      let front = front_more IsDerElement input p rest more f in
+      let same = der_elements.one.one front.word w (rest ++ more) r p d.0 front.fits d.1 (sym front.is ∙ h) in
+      subst (λ (q : Parts). ExplicitBody class number G q v) (sym same.1) d.3
+
+  -- its own reader by DER is exact
+  pub explicit_der_exact : (input : List ℕ) (answer : Result (List ℕ × W) (Refusal E)) → ExplicitGives class number inner reads from input answer → Exactly IsCutIdentifier Word (λ w. value (inner w)) (TellsMemory takes from) input answer
+  explicit_der_exact input (Ok x) (p, f, (left, t)) = record {
+    word = f.word;
+    fits = (p, f.fits, tt, record { tag = t.0; rest = left; inner = exact p.content (Ok (left, inner x.1)) (der_elements.possible f.word p f.fits).content t.1 });
+    is = f.is;
+  }
+  explicit_der_exact input (Err r) (inl (fault, f, c)) = inr (λ more s w rest v e d.
+      der_elements.final input more w rest d.0 fault f (speaks_fault der_breach from fault r (IsCutIdentifier input) more (der_elements.counts input fault f) c s) d.1 e)
+  explicit_der_exact input (Err r) (inr (p, rest, f, inl t)) = inr (λ more s w tail v h d.
+      let b = word_body input more rest w tail p v f h d in
+      (tag_checks_are class number).apart p t.0 b.tag t.1)
+  explicit_der_exact input (Err r) (inr (p, rest, f, inr t)) =
+      elim (exact p.content (Err r) (der_elements.possible f.word p f.fits).content t.1) [
+        | inl m ↦ inl m
+        | inr n ↦ inr (λ more s w tail v h d.
+            let b = word_body input more rest w tail p v f h d in
+            none_now (IsCut p.content) r G p.content n b.inner.word b.rest v b.inner.is b.inner.fits)
+      ]
+
+-- where the value's reader does not allocate, no refusal reports out of memory
+module _ {T W E : Type 0} (class number : ℕ) (inner : W → T) (reads : List ℕ → Result (List ℕ × T) (Refusal E) → Type 0) (from : Error → E → Type 0)
+    (spares : (octets : List ℕ) (answer : Result (List ℕ × T) (Refusal E)) → reads octets answer → IfErr answer (HeldIn (IsOther from))) where
+  tag_spares : (p : Parts) (refusal : Error) (e : E) → tag_checks class number p (Err refusal) → from refusal e → IsOther from e
+  tag_spares p refusal e t m = inl (refusal, λ q. (tag_checks_are class number).spares p (subst (λ (x : Error). tag_checks class number p (Err x)) q t), m)
+
+  told_spares : (r : Refusal E) (e : E) → HeldIn (IsOther from) r → FlattenedTo (λ x y. y ≡ x) from r e → IsOther from e
+  told_spares (cut n) e h f = inl (errors.Incomplete n, λ q. cc, f)
+  told_spares (refused x) e h f = subst (IsOther from) (sym f) h
+  told_spares (failed x) e h f = subst (IsOther from) (sym f) h
+
+  pub explicit_takes_spares : (p : Parts) (e : E) → ExplicitTakes class number inner reads from p (Err e) → IsOther from e
+  explicit_takes_spares p e (inl r) = tag_spares p r.0 e r.1 r.2
+  explicit_takes_spares p e (inr (h, (r, g, f))) = told_spares r e (spares p.content (Err r) g) f
+
+  pub explicit_der_spares : (input : List ℕ) (answer : Result (List ℕ × W) (Refusal E)) → ExplicitGives class number inner reads from input answer → IfErr answer (HeldIn (IsOther from))
+  explicit_der_spares input (Ok x) g = tt
+  explicit_der_spares input (Err r) (inl (fault, f, c)) = fault_spares from der_breach der_breach_spares fault r c
+  explicit_der_spares input (Err r) (inr (p, rest, f, inl t)) = subst (HeldIn (IsOther from)) (sym t.2.2) (tag_spares p t.0 t.2.0 t.1 t.2.1)
+  explicit_der_spares input (Err r) (inr (p, rest, f, inr t)) = spares p.content (Err r) t.1

@@ -7,7 +7,9 @@ ghost use Rattle.asn1_rs.specs.Any.{parts_of};
 ghost use Rattle.asn1_rs.specs.Tagged.Explicit.{ExplicitTakes, ExplicitReads, ExplicitGives, ExplicitCheckGives, InnerTakes, InnerChecked, tag_checks, explicit_grammar};
 ghost use Rattle.asn1_rs.specs.Laws.Forms.{der_strict};
 ghost use Rattle.asn1_rs.specs.Laws.Tagged.{number_fits};
-ghost use Rattle.asn1_rs.specs.Laws.Tagged.Explicit.{explicit_lawful, explicit_number, explicit_by_value, explicit_writes_form, explicit_has_form, explicit_takes_class};
+ghost use Rattle.asn1_rs.specs.Laws.Tagged.Explicit.{explicit_lawful, explicit_number, explicit_by_value, explicit_writes_form, explicit_has_form, explicit_takes_class, explicit_takes, explicit_takes_spares, explicit_form_body, explicit_der_exact, explicit_der_spares};
+ghost use Rattle.asn1_rs.specs.Ber.{EndsWithin};
+ghost use Rattle.x690.specs.Identifiers.{IsCutIdentifier};
 ghost use Rattle.asn1_rs.specs.ToDer.{Either, WrittenRefusal, OfClass, IsWritable, some_allocates};
 ghost use Rattle.asn1_rs.specs.Traits.{OfParts};
 
@@ -17,7 +19,9 @@ use crate::ber::element_by_ber;
 use crate::der::element_by_der;
 use crate::error::{Err, Error, ParseResult, SerializeError, SerializeResult};
 use crate::header::writing::{element_len, put_counted_header};
-use crate::laws::{Grammar, LawfulItem, LawfulTagged, LawfulWrite, TakesClass};
+use crate::laws::{
+    Grammar, LawfulBer, LawfulBody, LawfulDer, LawfulItem, LawfulTagged, LawfulWrite, TakesClass,
+};
 use crate::tag::Tag;
 use crate::to_der::ToDer;
 use crate::traits::{CheckDerConstraints, FromAny, FromBer, FromDer};
@@ -229,4 +233,34 @@ impl<T: LawfulItem, E, const CLASS: u8, const TAG: u32> TakesClass<CLASS>
     for TaggedValue<T, E, Explicit, CLASS, TAG> {
     ghost takes_class = { explicit_takes_class CLASS TAG T.grammar.Form T.grammar.Ber
         T.grammar.Check T.lawful_item.strict_ber T.lawful_item.form_check };
+}
+
+impl<'a, T: LawfulBer<'a, E> + Drop, E: From<Error>, const CLASS: u8, const TAG: u32> LawfulBody<
+    'a,
+    E,
+> for TaggedValue<T, E, Explicit, CLASS, TAG> {
+    ghost body_exact = { λ any. explicit_takes CLASS TAG (λ t. t.inner) T.ber_gives E.from_gives
+        T.grammar.Ber T.grammar.value T.grammar.allocates EndsWithin T.ber_exact (parts_of any) };
+
+    ghost body_spares = { λ none any. explicit_takes_spares {W = Self} CLASS TAG (λ t. t.inner) T.ber_gives
+        E.from_gives (T.ber_spares none) (parts_of any) };
+
+    ghost form_body = { explicit_form_body CLASS TAG T.grammar.Form T.grammar.Ber
+        T.lawful_item.strict_ber };
+
+    ghost ber_split = { λ o v w. w };
+
+    ghost ber_join = { λ o v w. w };
+}
+
+impl<'a, T: LawfulDer<'a, E> + Drop, E: From<Error>, const CLASS: u8, const TAG: u32> LawfulDer<
+    'a,
+    E,
+> for TaggedValue<T, E, Explicit, CLASS, TAG> {
+    ghost der_exact = { λ input answer octets. explicit_der_exact CLASS TAG (λ t. t.inner)
+        T.der_gives E.from_gives T.grammar.Der T.grammar.value T.grammar.allocates IsCutIdentifier
+        T.der_exact input answer };
+
+    ghost der_spares = { λ none. explicit_der_spares CLASS TAG (λ t. t.inner) T.der_gives
+        E.from_gives (T.der_spares none) };
 }
