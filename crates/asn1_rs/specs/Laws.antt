@@ -19,3 +19,4 @@ pub mod Sequence
 pub mod Lists
 pub mod Set
 pub mod Kept
+pub mod Tagged

@@ -1,8 +1,9 @@
--- Elements under tags whose number is known only at run time (X.690 8.14).
+-- Values under tags, and elements under tags whose number is known only at run time (X.690 8.14).
+pub mod Explicit
 pub mod Optional
 pub mod Helpers
 pub mod Parser
-use Rattle.std.specs.Prelude.{◌≡◌, ◌≢◌, ◌⊎◌, ℕ, List, Some, Result, Ok, Err}
+use Rattle.std.specs.Prelude.{◌≡◌, ◌≢◌, ◌⊎◌, ℕ, ◌≤◌, ◌%◌, ◌^◌, List, Option, Some, None, Result, Ok, Err}
 use Rattle.std.specs.Borrow.{Bor}
 use Rattle.std.specs.Fn.{Once}
 use Rattle.x690.specs.Elements.{Parts, IsDerElement}
@@ -19,6 +20,8 @@ use Rattle.asn1_rs.specs.declared.error.Err.TheVariants.{Error as refused}
 use Rattle.asn1_rs.specs.Any.{BeginsWithElement}
 use Rattle.asn1_rs.specs.Ber.{max_depth}
 use Rattle.asn1_rs.specs.Error.{Converted}
+use Rattle.asn1_rs.specs.Class.{class_number}
+use Rattle.asn1_rs.specs.Checks.{CheckGives}
 use Rattle.asn1_rs.specs.Header.Reading.{der_refusal, ber_refusal}
 
 -- what a call on an element and the octets behind it may answer
@@ -50,3 +53,17 @@ IsOtherClass {E} from class actual r = (actual ≢ class) × ((e : E) × from (U
 -- a closure that is called once may give r at the header and at a reference to the octets
 abbrev pub ReturnsOfHeader : {F R : Type 0} → Once F (Header × (Bor (List ℕ) × Unit {0})) R → F → Header → List ℕ → R → Type 0
 ReturnsOfHeader g f header octets r = (p : Bor (List ℕ)) × g.post f (header, (p, tt)) r × (p.now ≡ octets)
+
+-- the number of a tag, as a `u32` holds it: a parameter of this type is it
+abbrev pub number_of : ℕ → ℕ
+number_of number = number % 2 ^ 32
+
+-- the class that a refusal expects, where the number is one of a class
+abbrev pub IsClassOf : ℕ → Option Class → Type 0
+IsClassOf class None = 4 ≤ class
+IsClassOf class (Some c) = class ≡ class_number c
+
+-- the class of this number; a number above 3 is that of none
+abbrev pub has_class : ℕ → CheckGives
+has_class class p (Ok x) = p.id.class ≡ class
+has_class class p (Err e) = (p.id.class ≢ class) × ((expected : Option Class) × (actual : Class) × IsClassOf class expected × (p.id.class ≡ class_number actual) × (e ≡ UnexpectedClass expected actual))

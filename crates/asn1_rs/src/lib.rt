@@ -44,7 +44,11 @@ pub use asn1_types::tagged::builder::{
 pub use asn1_types::tagged::helpers::{parse_der_tagged_explicit_g, parse_der_tagged_implicit_g};
 pub use asn1_types::tagged::optional::OptTaggedParser;
 pub use asn1_types::tagged::parser::TaggedParser;
-pub use asn1_types::tagged::{Explicit, Implicit, TagKind};
+pub use asn1_types::tagged::{
+    ApplicationExplicit, ApplicationImplicit, Explicit, Implicit, OptTaggedExplicit,
+    OptTaggedImplicit, PrivateExplicit, PrivateImplicit, TagKind, TaggedExplicit, TaggedImplicit,
+    TaggedValue,
+};
 pub use ber::{MAX_RECURSION, Steps, any_from_ber_counted};
 pub use class::{BerClassFromIntError, Class, classes_are_numbered};
 pub use content::GetObjectContent;

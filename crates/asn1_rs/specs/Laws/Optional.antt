@@ -12,13 +12,14 @@ use Rattle.x690.specs.Elements.{IsHeader, AllowsStrict}
 use Rattle.x690.specs.Faults.{Breach}
 use Rattle.x690.specs.Laws.Headers.{header_unique, header_two}
 use Rattle.x690.specs.Laws.Faults.{header_or_fault}
+use Rattle.x690.specs.Joined.{IsOneFront}
 use Rattle.asn1_rs.specs.declared.error.Err.{Err as Refusal}
 use Rattle.asn1_rs.specs.declared.error.Error.{Error}
 use Rattle.asn1_rs.specs.declared.tag.Tag.{Tag}
 use Rattle.asn1_rs.specs.declared.header.Header.{Header}
 use Rattle.asn1_rs.specs.Answers.{Exactly, ReadsBack}
 use Rattle.asn1_rs.specs.Grammar.Form.{IsStrict}
-use Rattle.asn1_rs.specs.Grammar.{IsOneFront, FormNumber}
+use Rattle.asn1_rs.specs.Grammar.{FormNumber}
 use Rattle.asn1_rs.specs.Header.{identifier_of}
 use Rattle.asn1_rs.specs.Header.Reading.{HeaderGives, refusal_of}
 use Rattle.asn1_rs.specs.Length.{form_of}

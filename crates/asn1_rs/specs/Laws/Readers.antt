@@ -123,7 +123,7 @@ module _ {T V E : Type 0} (ElementOf : List ℕ → Parts → Type 0) (FaultOf :
       ]
 
 -- no fault reports out of memory
-fault_spares : {E : Type 0} (from : Error → E → Type 0) (refuses : Breach → Error) → ((breach : Breach) → refuses breach ≢ OutOfMemory) → (fault : Fault) (r : Refusal E) → Converted from (refusal_of refuses fault) r → HeldIn (IsOther from) r
+pub fault_spares : {E : Type 0} (from : Error → E → Type 0) (refuses : Breach → Error) → ((breach : Breach) → refuses breach ≢ OutOfMemory) → (fault : Fault) (r : Refusal E) → Converted from (refusal_of refuses fault) r → HeldIn (IsOther from) r
 fault_spares from at other (missing n) r c = subst (HeldIn (IsOther from)) (sym c) tt
 fault_spares from at other tag_fault r c = subst (HeldIn (IsOther from)) (sym c.2) (inl (_, λ q. cc, c.1))
 fault_spares from at other length_fault r c = subst (HeldIn (IsOther from)) (sym c.2) (inl (_, λ q. cc, c.1))

@@ -1,9 +1,21 @@
-//! Elements under tags whose number is known only at run time, and how a tag stands to that of its value (X.690 8.14).
+//! Values under a tag of their own, and elements under tags whose number is known only at run time (X.690 8.14).
 
 pub mod builder;
+mod explicit_value;
 pub mod helpers;
 pub mod optional;
 pub mod parser;
+
+ghost use Rattle.std.specs.Prelude.{◌≡◌};
+ghost use Rattle.asn1_rs.specs.Tagged.{has_class, number_of};
+ghost use Rattle.asn1_rs.specs.Any.{parts_of};
+
+use crate::asn1_types::any::Any;
+use crate::class::Class;
+use crate::error::Error;
+use crate::tag::Tag;
+use crate::traits::Tagged;
+use std::marker::PhantomData;
 
 /// Marks explicit tags: an element of their own around that of the value (X.690 8.14.2).
 #[derive(Debug, PartialEq, Eq, Drop)]
@@ -19,3 +31,115 @@ pub trait TagKind {}
 impl TagKind for Explicit {}
 
 impl TagKind for Implicit {}
+
+/// A value under a tag of this class and number.
+///
+/// Class 0 is universal, 1 application, 2 context-specific, 3 private (X.690 8.1.2.2). A number above 3 is that of no
+/// class: such a value is counted, and refused in writing and reading.
+#[derive(Debug, PartialEq, Eq, Drop)]
+pub struct TaggedValue<T, E, Kind, const CLASS: u8, const TAG: u32> {
+    inner: T,
+    marks: PhantomData<(E, Kind)>,
+}
+
+/// A value under an explicit, context-specific tag.
+pub type TaggedExplicit<T, E, const TAG: u32> = TaggedValue<T, E, Explicit, 2, TAG>;
+
+/// A value under an implicit, context-specific tag.
+pub type TaggedImplicit<T, E, const TAG: u32> = TaggedValue<T, E, Implicit, 2, TAG>;
+
+/// A value under an explicit tag of the application class.
+pub type ApplicationExplicit<T, E, const TAG: u32> = TaggedValue<T, E, Explicit, 1, TAG>;
+
+/// A value under an implicit tag of the application class.
+pub type ApplicationImplicit<T, E, const TAG: u32> = TaggedValue<T, E, Implicit, 1, TAG>;
+
+/// A value under an explicit tag of the private class.
+pub type PrivateExplicit<T, E, const TAG: u32> = TaggedValue<T, E, Explicit, 3, TAG>;
+
+/// A value under an implicit tag of the private class.
+pub type PrivateImplicit<T, E, const TAG: u32> = TaggedValue<T, E, Implicit, 3, TAG>;
+
+/// An optional value under an explicit, context-specific tag.
+pub type OptTaggedExplicit<T, E, const TAG: u32> = Option<TaggedExplicit<T, E, TAG>>;
+
+/// An optional value under an implicit, context-specific tag.
+pub type OptTaggedImplicit<T, E, const TAG: u32> = Option<TaggedImplicit<T, E, TAG>>;
+
+impl<T, E, const CLASS: u8, const TAG: u32> TaggedValue<T, E, Explicit, CLASS, TAG> {
+    /// The value under an explicit tag.
+    pub const fn explicit(inner: T) -> Self
+        ensures { result.inner ≡ inner }
+    {
+        TaggedValue {
+            inner,
+            marks: PhantomData,
+        }
+    }
+}
+
+impl<T, E, const CLASS: u8, const TAG: u32> TaggedValue<T, E, Implicit, CLASS, TAG> {
+    /// The value under an implicit tag.
+    pub const fn implicit(inner: T) -> Self
+        ensures { result.inner ≡ inner }
+    {
+        TaggedValue {
+            inner,
+            marks: PhantomData,
+        }
+    }
+}
+
+impl<T, E, Kind, const CLASS: u8, const TAG: u32> TaggedValue<T, E, Kind, CLASS, TAG> {
+    /// The value, without its tag.
+    pub fn into_inner(self) -> T
+        ensures { result ≡ self.inner }
+    {
+        self.inner
+    }
+
+    /// The value, without its tag.
+    pub const fn as_inner(&self) -> &T
+        ensures { result.now ≡ self.now.inner }
+    {
+        &self.inner
+    }
+
+    /// The tag number.
+    pub const fn tag(&self) -> Tag
+        ensures { result.0 ≡ TAG }
+    {
+        Tag(TAG)
+    }
+
+    /// The number of the class.
+    pub const fn class(&self) -> u8
+        ensures { result ≡ CLASS }
+    {
+        CLASS
+    }
+}
+
+impl<T, E, Kind, const CLASS: u8, const TAG: u32> Tagged for TaggedValue<T, E, Kind, CLASS, TAG> {
+    const TAG: Tag = Tag(TAG);
+
+    ghost mark = { record { 0 = number_of TAG } };
+
+    fn its_tag() -> Tag {
+        Tag(TAG)
+    }
+}
+
+impl Any<'_> {
+    /// Refuses another class than that of this number with `UnexpectedClass`, which expects no class where the number
+    /// is above 3.
+    pub(crate) fn assert_class_number(&self, class: u8) -> Result<(), Error>
+        ensures { has_class class (parts_of self.now) result }
+    {
+        let actual = self.header.class();
+        if actual.number() == class {
+            return Ok(());
+        }
+        Err(Error::unexpected_class(Class::try_from(class).ok(), actual))
+    }
+}

@@ -1,0 +1,53 @@
+-- Laws of tags.
+pub mod Explicit
+use Rattle.std.specs.Prelude.{◌≡◌, ◌≢◌, ℕ, ◌<◌, ◌≤◌, ◌^◌, Option, Some, None, Result, Ok, Err}
+use Rattle.std.proofs.Common.{arith, ◌∙◌, ap, sym, subst, refl}
+use Rattle.x690.specs.Elements.{Parts}
+use Rattle.asn1_rs.specs.declared.class.Class.{Class}
+use Rattle.asn1_rs.specs.declared.class.Class.TheVariants.{Universal, Application, ContextSpecific, Private}
+use Rattle.asn1_rs.specs.declared.error.Error.{Error}
+use Rattle.asn1_rs.specs.declared.error.Error.TheVariants.{OutOfMemory}
+use Rattle.asn1_rs.specs.Class.{class_number}
+use Rattle.asn1_rs.specs.Checks.{IsCheck}
+use Rattle.asn1_rs.specs.Tagged.{has_class, IsClassOf, number_of}
+
+-- classes are told by their numbers
+pub one_class : (a b : Class) → class_number a ≡ class_number b → a ≡ b
+one_class Universal Universal e = refl
+one_class Application Application e = refl
+one_class ContextSpecific ContextSpecific e = refl
+one_class Private Private e = refl
+one_class _ _ e = cc
+
+class_small : (a : Class) → class_number a < 4
+class_small Universal = omega arith
+class_small Application = omega arith
+class_small ContextSpecific = omega arith
+class_small Private = omega arith
+
+-- a number is that of one class, or of none
+one_expected : (class : ℕ) (a b : Option Class) → IsClassOf class a → IsClassOf class b → a ≡ b
+one_expected class None None h k = refl
+one_expected class (Some a) (Some b) h k = ap Some (one_class a b (sym h ∙ k))
+one_expected class None (Some b) h k = let s = class_small b in absurd (omega arith)
+one_expected class (Some a) None h k = let s = class_small a in absurd (omega arith)
+
+pub has_class_is : (class : ℕ) → IsCheck (has_class class)
+has_class_is class = record {
+  apart = λ p e m b. b.0 m;
+  one = λ p e f b c. same p e f b c;
+  spares = λ p b. let e = b.1.4 in cc;
+}
+  where
+    same : (p : Parts) (e f : Error) → has_class class p (Err e) → has_class class p (Err f) → e ≡ f
+    same p e f (n, (expected, actual, is, of, told)) (m, (expected', actual', is', of', told')) =
+        let a : expected ≡ expected' = one_expected class expected expected' is is' in
+        let b : actual ≡ actual' = one_class actual actual' (sym of ∙ of') in
+        cc
+
+-- the number of a tag is one that an element can have, and a number of such is its own
+pub number_fits : (n : ℕ) → number_of n < 2 ^ 32
+number_fits n = omega arith
+
+pub number_is : (n : ℕ) → n < 2 ^ 32 → number_of n ≡ n
+number_is n l = omega arith

@@ -1,0 +1,217 @@
+-- Laws of values under an explicit tag.
+use Rattle.std.specs.Prelude.{◌≡◌, ℕ, ◌<◌, ◌^◌, Bool, true, List, [], ◌++◌, length, Result, Ok, Err, IfErr}
+use Rattle.std.proofs.Common.{arith, ◌∙◌, ap, sym, subst, refl, inl, inr, append-nil}
+use mathlib.Core.Logic.{∥∥₁_map}
+use Rattle.x690.specs.Octets.{IsOctets}
+use Rattle.x690.specs.Identifiers.{Identifier, IsCutIdentifier}
+use Rattle.x690.specs.Rules.{der_rule, ber_rule}
+use Rattle.x690.specs.Elements.{Parts, IsDerElement}
+use Rattle.x690.specs.Nested.{IsElement}
+use Rattle.x690.specs.Strict.{header_octets}
+use Rattle.x690.specs.Laws.Elements.{definite_element_is_octets}
+use Rattle.x690.specs.Laws.Nested.{definite_is_nested}
+use Rattle.x690.specs.Laws.StrictElements.{der_allows_strict, ber_allows_strict}
+use Rattle.x690.specs.Joined.{IsOneFront}
+use Rattle.asn1_rs.specs.declared.error.Err.{Err as Refusal}
+use Rattle.asn1_rs.specs.declared.error.Err.TheVariants.{Incomplete as cut, Error as refused, Failure as failed}
+use Rattle.asn1_rs.specs.declared.error.Error.{Error}
+use Rattle.asn1_rs.specs.declared.error.Error.TheVariants as errors
+use Rattle.asn1_rs.specs.declared.error.SerializeError.{SerializeError}
+use Rattle.asn1_rs.specs.Answers.{Front, Exactly, TellsMemory, IsOther}
+use Rattle.asn1_rs.specs.Ber.{max_depth}
+use Rattle.asn1_rs.specs.Checks.{IsCheck, has_number, is_constructed, ◌before◌}
+use Rattle.asn1_rs.specs.Error.{FlattenedTo, HeldIn}
+use Rattle.asn1_rs.specs.Grammar.{IsOneBody, TakesBody, FormChecks, FormBodies, FormTakes, FormNumber, NoCheck, DerWord, made, of_class}
+use Rattle.asn1_rs.specs.Grammar.Form.{IsOneForm, IsOneValue, FitsElement, HasValues, IsStrict, WritesByValue, WritesForm, header_of}
+use Rattle.asn1_rs.specs.Grammar.Item.{ItemGrammar, IsLawfulItem}
+use Rattle.asn1_rs.specs.Header.Reading.{der_breach}
+use Rattle.asn1_rs.specs.Laws.Checks.{before_is, has_number_is, is_constructed_is}
+use Rattle.asn1_rs.specs.Laws.Forms.{strict_written}
+use Rattle.asn1_rs.specs.Laws.Readers.{none_now, front_more, speaks_fault, fault_spares, der_breach_spares, der_elements, ber_elements}
+use Rattle.asn1_rs.specs.Laws.Tagged.{has_class_is, number_is}
+use Rattle.asn1_rs.specs.Laws.Words.{word_one, strict_element, one_strict, strict_apart, strict_ber_word, strict_der_word}
+use Rattle.asn1_rs.specs.Tagged.{has_class, number_of}
+use Rattle.asn1_rs.specs.Tagged.Explicit.{ExplicitBody, ExplicitCheck, ExplicitForm, ExplicitTakes, ExplicitGives, explicit_grammar, explicit_identifier, tag_checks}
+use Rattle.asn1_rs.specs.ToDer.{HasNone, Either, IsWritable, WrittenRefusal, OfClass}
+
+pub tag_checks_are : (class number : ℕ) → IsCheck (tag_checks class number)
+tag_checks_are class number = before_is (has_number number) (is_constructed before has_class class) (has_number_is number) (before_is is_constructed (has_class class) is_constructed_is (has_class_is class))
+
+module _ {V : Type 0} (class number : ℕ) where
+  explicit_one_body : (G : List ℕ → V → Type 0) → IsOneFront G → IsOneBody (ExplicitBody class number G)
+  explicit_one_body G one p v w a b = (one.one a.inner.word b.inner.word a.rest b.rest v w a.inner.fits b.inner.fits (sym a.inner.is ∙ b.inner.is)).1
+
+  explicit_values : (G : List ℕ → V → Type 0) (P : V → Type 0) → ((o : List ℕ) (v : V) → G o v → P v) → (p : Parts) (v : V) → ExplicitBody class number G p v → P v
+  explicit_values G P h p v b = h b.inner.word v b.inner.fits
+
+  module _ (Form : V → Identifier → List ℕ → Type 0) where
+    explicit_one_form : IsOneForm Form → IsOneForm (ExplicitForm class number Form)
+    explicit_one_form one = λ v i j c d f g. (f.id_is ∙ sym g.id_is, one_strict Form one v c d f.inner g.inner)
+
+    explicit_one_value : IsOneValue Form → IsOneValue (ExplicitForm class number Form)
+    explicit_one_value one = λ v w i c f g. (strict_apart Form one v w c c [] [] f.inner g.inner refl).1
+
+    explicit_fits : FitsElement (ExplicitForm class number Form)
+    explicit_fits = λ v i c f. (
+      let e = ap (λ (z : Identifier). z.class) f.id_is in let l = f.is_class in omega arith,
+      let e = ap (λ (z : Identifier). z.number) f.id_is in let l = f.is_number in omega arith,
+      definite_element_is_octets der_rule c _ (strict_element der_rule der_allows_strict Form v c f.inner),
+    )
+
+    explicit_form_values : (P : V → Type 0) → HasValues Form P → HasValues (ExplicitForm class number Form) P
+    explicit_form_values P h = λ v i c f. h v f.inner.id f.inner.content f.inner.form
+
+    -- the strict parts as an element, of the class of the tag or as it stands
+    explicit_tag : (v : V) (i : Identifier) (c : List ℕ) → ExplicitForm class number Form v i c → tag_checks class number (made i c) (Ok tt)
+    explicit_tag v i c f = (ap (λ (z : Identifier). z.number) f.id_is, (ap (λ (z : Identifier). z.constructed) f.id_is, ap (λ (z : Identifier). z.class) f.id_is))
+
+    own_class : (v : V) (i : Identifier) (c : List ℕ) → ExplicitForm class number Form v i c → made i c ≡ made (of_class class i) c
+    own_class v i c f = rw f.id_is refl
+
+    pub explicit_form_body : (G : List ℕ → V → Type 0) → ((v : V) (o : List ℕ) → IsStrict Form v o → G o v) → FormBodies (ExplicitForm class number Form) (ExplicitBody class number G)
+    explicit_form_body G words = λ v i c f. record {
+      tag = explicit_tag v i c f;
+      rest = [];
+      inner = record { word = c; fits = words v c f.inner; is = sym (append-nil c) };
+    }
+
+    explicit_form_check : (Check : Parts → Type 0) → FormChecks Form Check → FormChecks (ExplicitForm class number Form) (ExplicitCheck Check)
+    explicit_form_check Check checks = λ v i c f. record {
+      counted = (length c, refl);
+      parts = made f.inner.id f.inner.content;
+      rest = [];
+      inner = record { word = c; fits = (1, definite_is_nested ber_rule max_depth c (made f.inner.id f.inner.content) (omega arith) (strict_element ber_rule ber_allows_strict Form v c f.inner)); is = sym (append-nil c) };
+      checked = checks v f.inner.id f.inner.content f.inner.form;
+    }
+
+    pub explicit_number : FormNumber (ExplicitForm class number Form) (number_of number)
+    explicit_number = λ v i c f. ap (λ (z : Identifier). z.number) f.id_is ∙ sym (number_is number f.is_number)
+
+    -- the class of the tag is taken, and is its own
+    pub explicit_takes_class : (G : List ℕ → V → Type 0) (Check : Parts → Type 0) → ((v : V) (o : List ℕ) → IsStrict Form v o → G o v) → FormChecks Form Check → FormTakes (ExplicitForm class number Form) (ExplicitCheck Check) (ExplicitBody class number G) class
+    explicit_takes_class G Check words checks = λ v i c f.
+        subst (λ (p : Parts). ExplicitCheck Check p × ExplicitBody class number G p v) (own_class v i c f) (explicit_form_check Check checks v i c f, explicit_form_body G words v i c f)
+
+pub explicit_lawful : {S T : Type 0} (class number : ℕ) (inner : T → S) (G : ItemGrammar S) → IsLawfulItem G → IsLawfulItem (explicit_grammar class number inner G)
+explicit_lawful class number inner G l = record {
+  ber_values = λ o v w. explicit_values class number G.Ber G.IsValue l.ber_values w.0 v w.3;
+  der_values = λ o v w. explicit_values class number G.Der G.IsValue l.der_values w.0 v w.3;
+  body_values = λ p v o b. explicit_values class number G.Ber G.IsValue l.ber_values p v b;
+  form_values = explicit_form_values class number G.Form G.IsValue l.form_values;
+  ber_one = word_one (IsElement max_depth) NoCheck (ExplicitBody class number G.Ber) ber_elements.one (explicit_one_body class number G.Ber l.ber_one);
+  der_one = word_one IsDerElement NoCheck (ExplicitBody class number G.Der) der_elements.one (explicit_one_body class number G.Der l.der_one);
+  body_one = explicit_one_body class number G.Ber l.ber_one;
+  one_form = explicit_one_form class number G.Form l.one_form;
+  one_value = explicit_one_value class number G.Form l.one_value;
+  form_fits = explicit_fits class number G.Form;
+  form_check = explicit_form_check class number G.Form G.Check l.form_check;
+  form_der = λ v i c f. (f.is_class, f.is_number, explicit_form_values class number G.Form G.IsDer l.form_der v i c f);
+  strict_ber = strict_ber_word (ExplicitForm class number G.Form) (ExplicitBody class number G.Ber) (explicit_form_body class number G.Form G.Ber l.strict_ber);
+  strict_der = strict_der_word (ExplicitForm class number G.Form) NoCheck (ExplicitBody class number G.Der) (λ v i c f. tt) (explicit_form_body class number G.Form G.Der l.strict_der);
+}
+
+both_same : {a b c d : List ℕ} → a ≡ b → c ≡ d → a ++ c ≡ b ++ d
+both_same p q = cc
+
+-- where the class is one of the four, the refusals are those of the value
+of_class_none : (class : ℕ) (own : SerializeError → Type 0) → class < 4 → HasNone own → HasNone (OfClass class own)
+of_class_none class own l n e (inl h) = let k = h.0 in omega arith
+of_class_none class own l n e (inr h) = n e h.1
+
+either_none : (one other : SerializeError → Type 0) → HasNone one → HasNone other → HasNone (Either one other)
+either_none one other a b e (inl o) = a e o
+either_none one other a b e (inr o) = b e o
+
+-- what is written
+module _ {S V : Type 0} (class number : ℕ) (value : S → V) (constructed : S → Bool) (header content : S → List ℕ) where
+  pub explicit_by_value : WritesByValue value constructed header content → (x y : S) → value x ≡ value y →
+      (true ≡ true) × (header_octets class true number (length (header x ++ content x)) ≡ header_octets class true number (length (header y ++ content y))) × (header x ++ content x ≡ header y ++ content y)
+  explicit_by_value law x y e =
+      let l = law x y e in
+      let h : header x ++ content x ≡ header y ++ content y = both_same l.1 l.2 in
+      (refl, ap (λ (c : List ℕ). header_octets class true number (length c)) h, h)
+
+  module _ (Form : V → Identifier → List ℕ → Type 0) where
+    pub explicit_writes_form : (counting : S → Error → Type 0) (heading filling : S → SerializeError → Type 0) → WritesForm value Form (λ x. IsWritable (counting x) (heading x) (filling x)) constructed header content → (x : S) (i : Identifier) (c : List ℕ) → ExplicitForm class number Form (value x) i c →
+        IsWritable (counting x) (OfClass class (WrittenRefusal (counting x))) (OfClass class (Either (heading x) (filling x))) × (true ≡ i.constructed) × (header x ++ content x ≡ c) × (header_octets class true number (length (header x ++ content x)) ≡ header_of i c)
+    explicit_writes_form counting heading filling law x i c f =
+        let w = strict_written value Form (λ x. IsWritable (counting x) (heading x) (filling x)) constructed header content law x c f.inner in (
+          (w.0.0, of_class_none class (WrittenRefusal (counting x)) f.is_class (λ e o. w.0.0 o.0 o.1), of_class_none class (Either (heading x) (filling x)) f.is_class (either_none (heading x) (filling x) w.0.1 w.0.2)),
+          sym (ap (λ (z : Identifier). z.constructed) f.id_is),
+          w.1,
+          ap (λ (z : List ℕ). header_octets class true number (length z)) w.1 ∙ ap (λ (z : Identifier). header_of z c) (sym f.id_is),
+        )
+
+    -- a value in DER form has strict parts, where the value within has a strict encoding
+    pub explicit_has_form : (IsDer : V → Type 0) → ((x : S) → IsDer (value x) → length (header x ++ content x) < 2 ^ 64 → ∥ IsStrict Form (value x) (header x ++ content x) ∥₁) →
+        (x : S) → (class < 4) × (number < 2 ^ 32) × IsDer (value x) → length (header x ++ content x) < 2 ^ 64 → ∥ ((i : Identifier) × ExplicitForm class number Form (value x) i (header x ++ content x)) ∥₁
+    explicit_has_form IsDer strict x d l = ∥∥₁_map (strict x d.2 l) (λ s. (explicit_identifier class number, record { is_class = d.0; is_number = d.1; id_is = refl; inner = s }))
+
+-- what tells of refused memory, told as an error
+memory_told : {E : Type 0} (from : Error → E → Type 0) (r : Refusal E) (e f : E) → r ≡ refused f → FlattenedTo (λ x y. y ≡ x) from r e → from errors.OutOfMemory f → from errors.OutOfMemory e
+memory_told from (refused x) e f s t m = let u : e ≡ f = cc in subst (from errors.OutOfMemory) (sym u) m
+memory_told from (cut n) e f s t m = cc
+memory_told from (failed x) e f s t m = cc
+
+module _ {T V W E : Type 0} (class number : ℕ) (inner : W → T) (reads : List ℕ → Result (List ℕ × T) (Refusal E) → Type 0) (from : Error → E → Type 0) (G : List ℕ → V → Type 0) (value : T → V) (takes : Bool) (IsCut : List ℕ → Type 0)
+    (exact : (octets : List ℕ) (answer : Result (List ℕ × T) (Refusal E)) → IsOctets octets → reads octets answer → Exactly IsCut G value (TellsMemory takes from) octets answer) where
+  -- the conversion is exact
+  pub explicit_takes : (p : Parts) (answer : Result W E) → IsOctets p.content → ExplicitTakes class number inner reads from p answer → TakesBody (ExplicitBody class number G) (λ w. value (inner w)) takes from p answer
+  explicit_takes p (Ok w) o t = record { tag = t.0; rest = t.1.0; inner = exact p.content (Ok (t.1.0, inner w)) o t.1.1 }
+  explicit_takes p (Err e) o (inl r) = inr (λ v b. (tag_checks_are class number).apart p r.0 b.tag r.1)
+  explicit_takes p (Err e) o (inr (h, (r, g, f))) =
+      elim (exact p.content (Err r) o g) [
+        | inl m ↦ inl (m.0, memory_told from r e m.1.0 m.1.2 f m.1.1)
+        | inr n ↦ inr (λ v b. none_now (IsCut p.content) r G p.content n b.inner.word b.rest v b.inner.is b.inner.fits)
+      ]
+
+  abbrev Word : List ℕ → V → Type 0
+  Word = DerWord NoCheck (ExplicitBody class number G)
+
+  -- the element that was read is the one of any word at the front
+  word_body : (input more rest w r : List ℕ) (p : Parts) (v : V) → Front IsDerElement input p rest → input ++ more ≡ w ++ r → Word w v → ExplicitBody class number G p v
+  word_body input more rest w r p v f h d =
+      let front = front_more IsDerElement input p rest more f in
+      let same = der_elements.one.one front.word w (rest ++ more) r p d.0 front.fits d.1 (sym front.is ∙ h) in
+      subst (λ (q : Parts). ExplicitBody class number G q v) (sym same.1) d.3
+
+  -- its own reader by DER is exact
+  pub explicit_der_exact : (input : List ℕ) (answer : Result (List ℕ × W) (Refusal E)) → ExplicitGives class number inner reads from input answer → Exactly IsCutIdentifier Word (λ w. value (inner w)) (TellsMemory takes from) input answer
+  explicit_der_exact input (Ok x) (p, f, (left, t)) = record {
+    word = f.word;
+    fits = (p, f.fits, tt, record { tag = t.0; rest = left; inner = exact p.content (Ok (left, inner x.1)) (der_elements.possible f.word p f.fits).content t.1 });
+    is = f.is;
+  }
+  explicit_der_exact input (Err r) (inl (fault, f, c)) = inr (λ more s w rest v e d.
+      der_elements.final input more w rest d.0 fault f (speaks_fault der_breach from fault r (IsCutIdentifier input) more (der_elements.counts input fault f) c s) d.1 e)
+  explicit_der_exact input (Err r) (inr (p, rest, f, inl t)) = inr (λ more s w tail v h d.
+      let b = word_body input more rest w tail p v f h d in
+      (tag_checks_are class number).apart p t.0 b.tag t.1)
+  explicit_der_exact input (Err r) (inr (p, rest, f, inr t)) =
+      elim (exact p.content (Err r) (der_elements.possible f.word p f.fits).content t.1) [
+        | inl m ↦ inl m
+        | inr n ↦ inr (λ more s w tail v h d.
+            let b = word_body input more rest w tail p v f h d in
+            none_now (IsCut p.content) r G p.content n b.inner.word b.rest v b.inner.is b.inner.fits)
+      ]
+
+-- where the value's reader does not allocate, no refusal reports out of memory
+module _ {T W E : Type 0} (class number : ℕ) (inner : W → T) (reads : List ℕ → Result (List ℕ × T) (Refusal E) → Type 0) (from : Error → E → Type 0)
+    (spares : (octets : List ℕ) (answer : Result (List ℕ × T) (Refusal E)) → reads octets answer → IfErr answer (HeldIn (IsOther from))) where
+  tag_spares : (p : Parts) (refusal : Error) (e : E) → tag_checks class number p (Err refusal) → from refusal e → IsOther from e
+  tag_spares p refusal e t m = inl (refusal, λ q. (tag_checks_are class number).spares p (subst (λ (x : Error). tag_checks class number p (Err x)) q t), m)
+
+  told_spares : (r : Refusal E) (e : E) → HeldIn (IsOther from) r → FlattenedTo (λ x y. y ≡ x) from r e → IsOther from e
+  told_spares (cut n) e h f = inl (errors.Incomplete n, λ q. cc, f)
+  told_spares (refused x) e h f = subst (IsOther from) (sym f) h
+  told_spares (failed x) e h f = subst (IsOther from) (sym f) h
+
+  pub explicit_takes_spares : (p : Parts) (e : E) → ExplicitTakes class number inner reads from p (Err e) → IsOther from e
+  explicit_takes_spares p e (inl r) = tag_spares p r.0 e r.1 r.2
+  explicit_takes_spares p e (inr (h, (r, g, f))) = told_spares r e (spares p.content (Err r) g) f
+
+  pub explicit_der_spares : (input : List ℕ) (answer : Result (List ℕ × W) (Refusal E)) → ExplicitGives class number inner reads from input answer → IfErr answer (HeldIn (IsOther from))
+  explicit_der_spares input (Ok x) g = tt
+  explicit_der_spares input (Err r) (inl (fault, f, c)) = fault_spares from der_breach der_breach_spares fault r c
+  explicit_der_spares input (Err r) (inr (p, rest, f, inl t)) = subst (HeldIn (IsOther from)) (sym t.2.2) (tag_spares p t.0 t.2.0 t.1 t.2.1)
+  explicit_der_spares input (Err r) (inr (p, rest, f, inr t)) = spares p.content (Err r) t.1

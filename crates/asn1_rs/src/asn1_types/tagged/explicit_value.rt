@@ -1,0 +1,266 @@
+//! Values under an explicit tag: an element of its own, constructed, around that of the value (X.690 8.14.2).
+ghost use Rattle.std.specs.Prelude.{◌++◌, ◌≡◌, ◌≤◌, true, length};
+ghost use Rattle.x690.specs.Strict.{header_octets};
+ghost use Rattle.asn1_rs.specs.declared.error.SerializeError.TheVariants.{InvalidClass};
+ghost use Rattle.asn1_rs.specs.Answers.{seen};
+ghost use Rattle.asn1_rs.specs.Any.{parts_of};
+ghost use Rattle.asn1_rs.specs.Tagged.Explicit.{ExplicitTakes, ExplicitReads, ExplicitGives, ExplicitCheckGives, InnerTakes, InnerChecked, tag_checks, explicit_grammar};
+ghost use Rattle.asn1_rs.specs.Laws.Forms.{der_strict};
+ghost use Rattle.asn1_rs.specs.Laws.Tagged.{number_fits};
+ghost use Rattle.asn1_rs.specs.Laws.Tagged.Explicit.{explicit_lawful, explicit_number, explicit_by_value, explicit_writes_form, explicit_has_form, explicit_takes_class, explicit_takes, explicit_takes_spares, explicit_form_body, explicit_der_exact, explicit_der_spares};
+ghost use Rattle.asn1_rs.specs.Ber.{EndsWithin};
+ghost use Rattle.x690.specs.Identifiers.{IsCutIdentifier};
+ghost use Rattle.asn1_rs.specs.ToDer.{Either, WrittenRefusal, OfClass, IsWritable, some_allocates};
+ghost use Rattle.asn1_rs.specs.Traits.{OfParts};
+
+use crate::asn1_types::any::Any;
+use crate::asn1_types::tagged::{Explicit, TaggedValue};
+use crate::ber::element_by_ber;
+use crate::der::element_by_der;
+use crate::error::{Err, Error, ParseResult, SerializeError, SerializeResult};
+use crate::header::writing::{element_len, put_counted_header};
+use crate::laws::{
+    Grammar, LawfulBer, LawfulBody, LawfulDer, LawfulItem, LawfulTagged, LawfulWrite, TakesClass,
+};
+use crate::tag::Tag;
+use crate::to_der::ToDer;
+use crate::traits::{CheckDerConstraints, FromAny, FromBer, FromDer};
+use crate::writer::DerWrite;
+use std::alloc::Global;
+
+/// The header is that of the tag, the contents octets are the encoding of the value. A class above 3 is refused with
+/// `InvalidClass` before anything is counted or appended; counts look at no class.
+impl<T: ToDer, E, const CLASS: u8, const TAG: u32> ToDer
+    for TaggedValue<T, E, Explicit, CLASS, TAG> {
+    ghost tells = { λ t. T.tells t.inner };
+
+    ghost header = { λ t. header_octets CLASS true TAG
+        (length (T.header t.inner ++ T.content t.inner)) };
+
+    ghost content = { λ t. T.header t.inner ++ T.content t.inner };
+
+    ghost constructed = { λ _. true };
+
+    ghost count_refuses = { λ t. T.count_refuses t.inner };
+
+    ghost header_refuses = { λ t. OfClass CLASS (WrittenRefusal (T.count_refuses t.inner)) };
+
+    ghost content_refuses = { λ t. OfClass CLASS
+        (Either (T.header_refuses t.inner) (T.content_refuses t.inner)) };
+
+    ghost refuses_first = { λ t e. (4 ≤ CLASS) × (e ≡ InvalidClass CLASS) };
+
+    ghost count_allocates = { T.count_allocates };
+
+    ghost content_allocates = { some_allocates T.write_allocates T.count_allocates
+        T.content_allocates };
+
+    fn to_der_len(&self) -> Result<usize, Error> {
+        element_len(TAG, self.inner.to_der_len())
+    }
+
+    fn der_content_len(&self) -> Result<usize, Error> {
+        self.inner.to_der_len()
+    }
+
+    fn der_constructed(&self) -> bool {
+        true
+    }
+
+    fn write_der_header<W: DerWrite>(&self, _alloc: Global, w: &mut W) -> SerializeResult<usize> {
+        if CLASS > 3 {
+            return Err(SerializeError::InvalidClass { class: CLASS });
+        }
+        put_counted_header(CLASS, true, TAG, self.inner.to_der_len(), w)
+    }
+
+    fn write_der_content<W: DerWrite>(&self, alloc: Global, w: &mut W) -> SerializeResult<usize> {
+        if CLASS > 3 {
+            return Err(SerializeError::InvalidClass { class: CLASS });
+        }
+        self.inner.write_der(alloc, w)
+    }
+}
+
+/// Refuses an element that has another tag number, is primitive, or has another class, in this order.
+fn assert_tagged(class: u8, number: u32, any: &Any<'_>) -> Result<(), Error>
+    ensures { tag_checks class number (parts_of any.now) result }
+{
+    any.assert_number(Tag(number))?;
+    any.header.assert_constructed()?;
+    any.assert_class_number(class)
+}
+
+/// The value that a reader's answer tells, without what follows it.
+fn inner_value<'a, T: Drop, E: From<Error>>(answer: ParseResult<'a, T, E>) -> Result<T, E>
+    ensures { InnerTakes E.from_gives (seen answer.entry) result }
+{
+    match answer {
+        Ok((_, value)) => Ok(value),
+        Err(Err::Incomplete(needed)) => Err(E::from(Error::Incomplete(needed))),
+        Err(Err::Error(e)) => Err(e),
+        Err(Err::Failure(e)) => Err(e),
+    }
+}
+
+/// The tag number is looked at, then the constructed bit, then the class; then the value is read by BER at the front of
+/// the contents octets. What follows it there is not looked at.
+///
+/// Missing octets of the value are told as `Error::Incomplete`, since no octets can follow the contents octets.
+impl<'a, T, E, const CLASS: u8, const TAG: u32> FromAny<'a>
+    for TaggedValue<T, E, Explicit, CLASS, TAG>
+where
+    T: FromBer<'a, E> + Drop,
+    E: From<Error>,
+{
+    type Error = E;
+
+    ghost any_gives = { OfParts
+        (ExplicitTakes CLASS TAG (λ t. t.inner) T.ber_gives E.from_gives) };
+
+    fn try_from_any(alloc: Global, any: Any<'a>) -> Result<Self, E> {
+        if let Err(e) = assert_tagged(CLASS, TAG, &any) {
+            return Err(E::from(e));
+        }
+        match inner_value(T::from_ber(alloc, any.content)) {
+            Ok(inner) => Ok(TaggedValue::explicit(inner)),
+            Err(e) => Err(e),
+        }
+    }
+}
+
+/// The value in an element under the tag, by DER.
+fn inner_by_der<'a, T, E>(
+    alloc: Global,
+    class: u8,
+    number: u32,
+    any: &Any<'a>,
+) -> ParseResult<'a, T, E>
+where
+    T: FromDer<'a, E> + Drop,
+    E: From<Error>,
+    ensures { ExplicitReads class number T.der_gives E.from_gives (parts_of any.now)
+        (seen result) }
+{
+    match assert_tagged(class, number, any) {
+        Ok(()) => T::from_der(alloc, any.content),
+        Err(e) => Err(Err::Error(E::from(e))),
+    }
+}
+
+/// An element by DER; its tag number, its constructed bit, its class; then the value by DER at the front of the contents
+/// octets, whose refusal is passed on whole. What follows it there is not looked at.
+impl<'a, T, E, const CLASS: u8, const TAG: u32> FromDer<'a, E>
+    for TaggedValue<T, E, Explicit, CLASS, TAG>
+where
+    T: FromDer<'a, E> + Drop,
+    E: From<Error>,
+{
+    ghost der_gives = { ExplicitGives CLASS TAG (λ t. t.inner) T.der_gives
+        E.from_gives };
+
+    fn from_der(alloc: Global, bytes: &'a [u8]) -> ParseResult<'a, Self, E> {
+        let (rest, any) = match element_by_der(bytes) {
+            Ok(read) => read,
+            Err(e) => return Err(Err::convert(e)),
+        };
+        match inner_by_der::<T, E>(alloc, CLASS, TAG, &any) {
+            Ok((_, inner)) => Ok((rest, TaggedValue::explicit(inner))),
+            Err(e) => Err(e),
+        }
+    }
+}
+
+/// Checks the first element in the contents octets, by BER.
+fn check_inner<T: CheckDerConstraints>(any: &Any<'_>) -> Result<(), Error>
+    ensures { InnerChecked T.check_gives (parts_of any.now) result }
+{
+    match element_by_ber(any.content) {
+        Ok((_, inner)) => T::check_constraints(&inner),
+        Err(refusal) => Err(Error::from(refusal)),
+    }
+}
+
+impl<T: CheckDerConstraints, E, const CLASS: u8, const TAG: u32> CheckDerConstraints
+    for TaggedValue<T, E, Explicit, CLASS, TAG> {
+    ghost check_gives = { ExplicitCheckGives T.check_gives };
+
+    /// Refuses an indefinite length with `IndefiniteLengthUnexpected`, and contents octets that do not begin with an
+    /// element by BER that keeps the constraints of the value.
+    fn check_constraints(any: &Any<'_>) -> Result<(), Error> {
+        any.header.length().assert_definite()?;
+        check_inner::<T>(any)
+    }
+}
+
+impl<T: Grammar, E, const CLASS: u8, const TAG: u32> Grammar
+    for TaggedValue<T, E, Explicit, CLASS, TAG> {
+    ghost grammar = { explicit_grammar CLASS TAG (λ t. t.inner) T.grammar };
+}
+
+impl<T: LawfulItem, E, const CLASS: u8, const TAG: u32> LawfulItem
+    for TaggedValue<T, E, Explicit, CLASS, TAG> {
+    ghost lawful_item = { explicit_lawful CLASS TAG (λ t. t.inner) T.grammar T.lawful_item };
+}
+
+impl<T: LawfulWrite, E, const CLASS: u8, const TAG: u32> LawfulWrite
+    for TaggedValue<T, E, Explicit, CLASS, TAG> {
+    ghost tells_all = { λ t. T.tells_all t.inner };
+
+    ghost by_value = { λ x y. explicit_by_value CLASS TAG T.grammar.value T.constructed T.header
+        T.content T.by_value x.inner y.inner };
+
+    ghost form = { λ t. explicit_writes_form CLASS TAG T.grammar.value T.constructed T.header
+        T.content T.grammar.Form T.count_refuses T.header_refuses T.content_refuses T.form
+        t.inner };
+
+    ghost der_form = { λ t. explicit_has_form CLASS TAG T.grammar.value T.constructed T.header
+        T.content T.grammar.Form T.grammar.IsDer
+        (der_strict T.grammar.value T.grammar.IsDer T.grammar.Form
+        (λ x. IsWritable (T.count_refuses x) (T.header_refuses x) (T.content_refuses x))
+        T.constructed T.header T.content T.form T.der_form T.lawful_item.form_fits) t.inner };
+}
+
+impl<T: LawfulItem, E, const CLASS: u8, const TAG: u32> LawfulTagged
+    for TaggedValue<T, E, Explicit, CLASS, TAG> {
+    ghost tag_number = { explicit_number CLASS TAG T.grammar.Form };
+
+    ghost number_fits = { number_fits TAG };
+}
+
+/// It takes its own class alone.
+impl<T: LawfulItem, E, const CLASS: u8, const TAG: u32> TakesClass<CLASS>
+    for TaggedValue<T, E, Explicit, CLASS, TAG> {
+    ghost takes_class = { explicit_takes_class CLASS TAG T.grammar.Form T.grammar.Ber
+        T.grammar.Check T.lawful_item.strict_ber T.lawful_item.form_check };
+}
+
+impl<'a, T: LawfulBer<'a, E> + Drop, E: From<Error>, const CLASS: u8, const TAG: u32> LawfulBody<
+    'a,
+    E,
+> for TaggedValue<T, E, Explicit, CLASS, TAG> {
+    ghost body_exact = { λ any. explicit_takes CLASS TAG (λ t. t.inner) T.ber_gives E.from_gives
+        T.grammar.Ber T.grammar.value T.grammar.allocates EndsWithin T.ber_exact (parts_of any) };
+
+    ghost body_spares = { λ none any. explicit_takes_spares {W = Self} CLASS TAG (λ t. t.inner) T.ber_gives
+        E.from_gives (T.ber_spares none) (parts_of any) };
+
+    ghost form_body = { explicit_form_body CLASS TAG T.grammar.Form T.grammar.Ber
+        T.lawful_item.strict_ber };
+
+    ghost ber_split = { λ o v w. w };
+
+    ghost ber_join = { λ o v w. w };
+}
+
+impl<'a, T: LawfulDer<'a, E> + Drop, E: From<Error>, const CLASS: u8, const TAG: u32> LawfulDer<
+    'a,
+    E,
+> for TaggedValue<T, E, Explicit, CLASS, TAG> {
+    ghost der_exact = { λ input answer octets. explicit_der_exact CLASS TAG (λ t. t.inner)
+        T.der_gives E.from_gives T.grammar.Der T.grammar.value T.grammar.allocates IsCutIdentifier
+        T.der_exact input answer };
+
+    ghost der_spares = { λ none. explicit_der_spares CLASS TAG (λ t. t.inner) T.der_gives
+        E.from_gives (T.der_spares none) };
+}
