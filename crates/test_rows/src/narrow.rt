@@ -13,11 +13,11 @@ pub struct Narrow {
 }
 
 impl Narrow {
-    /// A writer with room for so many octets. Past them it fails so, or takes nothing. Memory for the first octets is
-    /// there from the start.
+    /// A writer with room for so many octets. Past them it fails so, or takes nothing. Memory for the longest answer of
+    /// a row is there from the start, so that a growth that is refused is none of the writer's.
     pub fn new(alloc: Global, room: usize, end: Option<ErrorKind>) -> Result<Narrow, AllocError> {
         Ok(Narrow {
-            held: Vec::with_capacity(alloc, room.min(512))?,
+            held: Vec::with_capacity(alloc, room.min(131_072))?,
             room,
             end,
         })
