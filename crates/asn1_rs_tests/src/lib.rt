@@ -34,4 +34,6 @@ mod parsers;
 #[cfg(test)]
 mod reading;
 #[cfg(test)]
+mod tagged;
+#[cfg(test)]
 mod writers;

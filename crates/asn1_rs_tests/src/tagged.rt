@@ -1,0 +1,99 @@
+//! Values under tags of their own.
+
+use crate::calls::push_debug;
+use crate::collections::{push_by_ber, push_by_der};
+use asn1_rs::{
+    Any, CheckDerConstraints, Error, Explicit, FromBer, TaggedExplicit, TaggedValue, ToDer, Told,
+};
+use std::alloc::Global;
+use std::test::Fail;
+use test_rows::{Calls, Narrow, assert_rows, assert_shown};
+
+/// Explicit tags: the element of the tag, the value within, and how both are written.
+const EXPLICIT: &str = "\
+explicit 0 u32 from_der:
+a003020102 = TaggedValue { inner: 2, marks: PhantomData<_> } rest - written a003020102 count 5 3 raw a003020102
+a005020102ffff = TaggedValue { inner: 2, marks: PhantomData<_> } rest - written a003020102 count 5 3 raw a003020102
+a0020205 = Incomplete(Size(5))
+a003020205 = Incomplete(Size(1))
+a0030401 = Incomplete(Size(1))
+8103020102 = Error(UnexpectedTag { expected: Some(Tag(0)), actual: Tag(1) })
+4003020102 = Error(ConstructExpected)
+e003020102 = Error(UnexpectedClass { expected: Some(ContextSpecific), actual: Private })
+a00402020005 = Error(DerConstraintFailed(IntegerLeadingZeroes))
+a080020102 = Error(DerConstraintFailed(IndefiniteLength))
+
+explicit 0 u32 from_ber:
+a0800201020000 = TaggedValue { inner: 2, marks: PhantomData<_> } rest - written a003020102 count 5 3 raw a003020102
+a00402020005 = TaggedValue { inner: 5, marks: PhantomData<_> } rest - written a003020105 count 5 3 raw a003020105
+a0020205 = Error(Incomplete(Size(5)))
+8103020102 = Error(UnexpectedTag { expected: Some(Tag(0)), actual: Tag(1) })
+4003020102 = Error(ConstructExpected)
+e003020102 = Error(UnexpectedClass { expected: Some(ContextSpecific), actual: Private })
+
+explicit 31 u8 from_der:
+bf1f03020105 = TaggedValue { inner: 5, marks: PhantomData<_> } rest - written bf1f03020105 count 6 3 raw bf1f03020105
+
+Vec of explicit 31 u8 from_der:
+3006bf1f03020105 = [TaggedValue { inner: 5, marks: PhantomData<_> }] rest - written 3006bf1f03020105 count 8 6 raw 3006bf1f03020105
+
+explicit 0 u32 check_constraints:
+a003020102 = Ok(())
+a00402020005 = Err(DerConstraintFailed(IntegerLeadingZeroes))
+a0800201020000 = Err(IndefiniteLengthUnexpected)
+a0020205 = Err(Incomplete(Size(5)))
+";
+
+/// The calls of the table.
+struct Explicits;
+
+/// What the check of the element at the front, by BER, says.
+fn push_checked(text: &mut String, alloc: Global, octets: &[u8]) -> Result<(), Fail> {
+    let (_, any) = Any::from_ber(alloc, octets)?;
+    push_debug(
+        text,
+        &TaggedExplicit::<u32, Error, 0>::check_constraints(&any),
+    )
+}
+
+impl Calls for Explicits {
+    fn answer(text: &mut String, alloc: Global, name: &str, octets: &[u8]) -> Result<(), Fail> {
+        match name {
+            "explicit 0 u32 from_der" => {
+                push_by_der::<TaggedExplicit<u32, Error, 0>>(text, alloc, octets)
+            }
+            "explicit 0 u32 from_ber" => {
+                push_by_ber::<TaggedExplicit<u32, Error, 0>>(text, alloc, octets)
+            }
+            "explicit 31 u8 from_der" => {
+                push_by_der::<TaggedExplicit<u8, Error, 31>>(text, alloc, octets)
+            }
+            "Vec of explicit 31 u8 from_der" => {
+                push_by_der::<Vec<TaggedExplicit<u8, Error, 31>>>(text, alloc, octets)
+            }
+            "explicit 0 u32 check_constraints" => push_checked(text, alloc, octets),
+            _ => Ok(text.push_str("no such call")?),
+        }
+    }
+}
+
+#[test]
+fn explicit_tags_are_read_and_written(rt: HostRuntime) -> Result<(), Fail> {
+    assert_rows::<Explicits>(rt.alloc(), EXPLICIT)
+}
+
+/// A number above 3 is that of no class: the value is counted, and its writing appends nothing.
+#[test]
+fn value_of_no_class_is_counted(rt: HostRuntime) -> Result<(), Fail> {
+    let value = TaggedValue::<u8, Error, Explicit, 4, 0>::TaggedValue { inner: 5, marks: PhantomData<_> };
+    let mut w = Told::new(Narrow::new(rt.alloc(), 304, None)?);
+    let answers = (
+        value.to_der_len(),
+        value.write_der(rt.alloc(), &mut w).is_err(),
+        w.as_inner().held().len(),
+        value.tag(),
+        value.class(),
+        value.into_inner(),
+    );
+    assert_shown(rt.alloc(), &answers, "(Ok(5), true, 0, Tag(0), 4, 5)")
+}
