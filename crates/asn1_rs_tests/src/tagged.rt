@@ -85,7 +85,7 @@ fn explicit_tags_are_read_and_written(rt: HostRuntime) -> Result<(), Fail> {
 /// A number above 3 is that of no class: the value is counted, and its writing appends nothing.
 #[test]
 fn value_of_no_class_is_counted(rt: HostRuntime) -> Result<(), Fail> {
-    let value = TaggedValue::<u8, Error, Explicit, 4, 0>::TaggedValue { inner: 5, marks: PhantomData<_> };
+    let value = TaggedValue::<u8, Error, Explicit, 4, 0>::explicit(5);
     let mut w = Told::new(Narrow::new(rt.alloc(), 304, None)?);
     let answers = (
         value.to_der_len(),
