@@ -20,7 +20,8 @@ mod writer;
 
 pub use asn1_types::any::Any;
 pub use asn1_types::bit_string::BitString;
-pub use asn1_types::boolean::{Boolean, truth_constants_are_octets};
+pub use asn1_types::boolean::Boolean;
+pub use asn1_types::boolean::truth_constants_are_octets;
 pub use asn1_types::end_of_content::EndOfContent;
 pub use asn1_types::enumerated::Enumerated;
 pub use asn1_types::integer::integers_have_one_refusal;
@@ -31,50 +32,100 @@ pub use asn1_types::kept::set::Set;
 pub use asn1_types::lists::FromItems;
 pub use asn1_types::null::Null;
 pub use asn1_types::octet_string::OctetString;
-pub use asn1_types::option::{TagRefusal, options_are_read_back};
-pub use asn1_types::sequence::iterator::{
-    ReadsItems, ReadsWords, SequenceIterator, SetIterator, indefinite_contents_are_walked,
-    walks_end, walks_take_words,
-};
+pub use asn1_types::option::TagRefusal;
+pub use asn1_types::option::options_are_read_back;
+pub use asn1_types::sequence::iterator::ReadsItems;
+pub use asn1_types::sequence::iterator::ReadsWords;
+pub use asn1_types::sequence::iterator::SequenceIterator;
+pub use asn1_types::sequence::iterator::SetIterator;
+pub use asn1_types::sequence::iterator::indefinite_contents_are_walked;
+pub use asn1_types::sequence::iterator::walks_end;
+pub use asn1_types::sequence::iterator::walks_take_words;
 pub use asn1_types::sequence::sequence_of::SequenceOf;
 pub use asn1_types::set::set_of::SetOf;
-pub use asn1_types::tagged::builder::{
-    TaggedParserBuilder, parse_der_tagged_explicit, parse_der_tagged_implicit,
-};
-pub use asn1_types::tagged::helpers::{parse_der_tagged_explicit_g, parse_der_tagged_implicit_g};
+pub use asn1_types::tagged::ApplicationExplicit;
+pub use asn1_types::tagged::ApplicationImplicit;
+pub use asn1_types::tagged::Explicit;
+pub use asn1_types::tagged::Implicit;
+pub use asn1_types::tagged::OptTaggedExplicit;
+pub use asn1_types::tagged::OptTaggedImplicit;
+pub use asn1_types::tagged::PrivateExplicit;
+pub use asn1_types::tagged::PrivateImplicit;
+pub use asn1_types::tagged::TagKind;
+pub use asn1_types::tagged::TaggedExplicit;
+pub use asn1_types::tagged::TaggedImplicit;
+pub use asn1_types::tagged::TaggedValue;
+pub use asn1_types::tagged::builder::TaggedParserBuilder;
+pub use asn1_types::tagged::builder::parse_der_tagged_explicit;
+pub use asn1_types::tagged::builder::parse_der_tagged_implicit;
+pub use asn1_types::tagged::helpers::parse_der_tagged_explicit_g;
+pub use asn1_types::tagged::helpers::parse_der_tagged_implicit_g;
 pub use asn1_types::tagged::optional::OptTaggedParser;
 pub use asn1_types::tagged::parser::TaggedParser;
-pub use asn1_types::tagged::{
-    ApplicationExplicit, ApplicationImplicit, Explicit, Implicit, OptTaggedExplicit,
-    OptTaggedImplicit, PrivateExplicit, PrivateImplicit, TagKind, TaggedExplicit, TaggedImplicit,
-    TaggedValue,
-};
-pub use ber::{MAX_RECURSION, Steps, any_from_ber_counted};
-pub use class::{BerClassFromIntError, Class, classes_are_numbered};
+pub use ber::MAX_RECURSION;
+pub use ber::Steps;
+pub use ber::any_from_ber_counted;
+pub use class::BerClassFromIntError;
+pub use class::Class;
+pub use class::classes_are_numbered;
 pub use content::GetObjectContent;
-pub use error::{
-    DerConstraint, Err, Error, IResult, Needed, ParseResult, SerializeError, SerializeResult,
-    from_nom_error,
-};
+pub use error::DerConstraint;
+pub use error::Err;
+pub use error::Error;
+pub use error::IResult;
+pub use error::Needed;
+pub use error::ParseResult;
+pub use error::SerializeError;
+pub use error::SerializeResult;
+pub use error::from_nom_error;
 pub use header::Header;
-pub use kinds::writing::{WritesElement, WritesOctets};
-pub use kinds::{ElementKind, HasKind, LawfulConversion, LawfulElement};
-pub use laws::functions::{
-    beginnings_are_refused, counts_are_of_the_strict_encoding, leaves_have_one_refusal,
-    reader_is_exact_by_ber, reader_is_exact_by_der, strict_fronts_are_written_again,
-    words_and_values_are_unique,
-};
-pub use laws::{
-    Grammar, LawfulAuto, LawfulBer, LawfulBody, LawfulCheck, LawfulDer, LawfulItem, LawfulMember,
-    LawfulTagged, LawfulWrite, TakesClass, answers_last, any_is_the_element,
-    beginnings_are_incomplete, one_refusal, read_ber, read_der, strict_vec, write_strict,
-};
+pub use kinds::ElementKind;
+pub use kinds::HasKind;
+pub use kinds::LawfulConversion;
+pub use kinds::LawfulElement;
+pub use kinds::writing::WritesElement;
+pub use kinds::writing::WritesOctets;
+pub use laws::Grammar;
+pub use laws::LawfulAuto;
+pub use laws::LawfulBer;
+pub use laws::LawfulBody;
+pub use laws::LawfulCheck;
+pub use laws::LawfulDer;
+pub use laws::LawfulItem;
+pub use laws::LawfulMember;
+pub use laws::LawfulTagged;
+pub use laws::LawfulWrite;
+pub use laws::TakesClass;
+pub use laws::answers_last;
+pub use laws::any_is_the_element;
+pub use laws::beginnings_are_incomplete;
+pub use laws::functions::beginnings_are_refused;
+pub use laws::functions::counts_are_of_the_strict_encoding;
+pub use laws::functions::leaves_have_one_refusal;
+pub use laws::functions::reader_is_exact_by_ber;
+pub use laws::functions::reader_is_exact_by_der;
+pub use laws::functions::strict_fronts_are_written_again;
+pub use laws::functions::words_and_values_are_unique;
+pub use laws::one_refusal;
+pub use laws::read_ber;
+pub use laws::read_der;
+pub use laws::strict_vec;
+pub use laws::write_strict;
 pub use length::Length;
-pub use tag::{Tag, universal_types_are_numbered};
+pub use tag::Tag;
+pub use tag::universal_types_are_numbered;
 pub use to_der::ToDer;
 pub use to_static::ToStatic;
-pub use traits::{
-    ASN1Parser, BerParser, CheckDerConstraints, DerAutoDerive, DerParser, DynTagged, FromAny,
-    FromBer, FromDer, Tagged,
-};
-pub use writer::{DerWrite, Told, put_all};
+pub use traits::ASN1Parser;
+pub use traits::BerParser;
+pub use traits::CheckDerConstraints;
+pub use traits::DerAutoDerive;
+pub use traits::DerParser;
+pub use traits::DynTagged;
+pub use traits::FromAny;
+pub use traits::FromBer;
+pub use traits::FromDer;
+pub use traits::Tagged;
+pub use writer::DerWrite;
+pub use writer::Told;
+pub use writer::put_all;

@@ -1,5 +1,5 @@
 -- Fingerprints: octets under the tag number of octet strings.
-use Rattle.std.proofs.Common.{lit<}
+use Rattle.std.proofs.Common.{lit<, refl}
 use Rattle.asn1_rs.specs.Leaf.{Leaf, IsLawfulLeaf}
 use Rattle.asn1_rs.specs.OctetString.{octets_leaf, octet_string_number}
 use Rattle.asn1_rs.specs.Laws.OctetString.{octets_lawful}

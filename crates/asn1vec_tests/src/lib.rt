@@ -7,6 +7,7 @@ mod elements;
 mod leaves;
 #[cfg(test)]
 mod lines;
+#[cfg(test)]
 mod lists;
 #[cfg(test)]
 mod numbers;
