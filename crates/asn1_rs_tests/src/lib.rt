@@ -26,6 +26,8 @@ mod laws;
 #[cfg(test)]
 mod leaves;
 #[cfg(test)]
+mod nestings;
+#[cfg(test)]
 mod numbers;
 #[cfg(test)]
 mod options;

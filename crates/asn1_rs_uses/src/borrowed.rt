@@ -5,10 +5,14 @@ ghost use Rattle.asn1_rs.specs.Answers.{seen, Exactly};
 ghost use Rattle.asn1_rs.specs.OctetString.{slice_leaf, octet_string_leaf, octets_of};
 ghost use Rattle.asn1_rs.specs.BitString.{bit_string_leaf, bits_in};
 ghost use Rattle.asn1_rs.specs.Integer.Octets.{any_integer_leaf, integer_octets};
+ghost use Rattle.asn1_rs.specs.Kept.{sequence_leaf, sequence_octets};
+ghost use Rattle.asn1_rs.specs.Lists.{ItemsGive, listed};
 ghost use Rattle.asn1_rs_uses.specs.Borrowed.{LeafByDer, BeginsWithContents};
 ghost use Rattle.asn1_rs_uses.specs.Numbers.{NoMemory};
 
-use asn1_rs::{Any, BitString, Error, Integer, OctetString, ParseResult, read_ber, read_der};
+use asn1_rs::{
+    Any, BitString, Error, FromDer, Integer, OctetString, ParseResult, Sequence, read_ber, read_der,
+};
 use std::alloc::Global;
 
 /// The contents octets of the element at the front of the octets, by BER.
@@ -52,4 +56,22 @@ pub fn read_integer<'a>(alloc: Global, octets: &'a [u8]) -> ParseResult<'a, Inte
         octets.now (seen result) }
 {
     read_der::<Integer<'a>, Error>(alloc, octets)
+}
+
+/// The sequence at the front, by DER, kept as its contents octets, and what follows it.
+pub fn read_sequence<'a>(alloc: Global, octets: &'a [u8]) -> ParseResult<'a, Sequence<'a>, Error>
+    ensures { Exactly IsCutIdentifier (LeafByDer sequence_leaf) sequence_octets NoMemory
+        octets.now (seen result) }
+{
+    read_der::<Sequence<'a>, Error>(alloc, octets)
+}
+
+/// The items of a sequence, by DER, which last as long as it does: its contents octets may be its own.
+pub fn items_of<'a, T, E>(alloc: Global, sequence: &'a Sequence<'a>) -> Result<Vec<T>, E>
+where
+    T: FromDer<'a, E> + Drop,
+    E: From<Error>,
+    ensures { ItemsGive T.der_gives E.from_gives (sequence_octets sequence.now) (listed result) }
+{
+    sequence.der_sequence_of(alloc)
 }

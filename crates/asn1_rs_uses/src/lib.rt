@@ -15,7 +15,8 @@ mod sequences;
 mod serial_number;
 
 pub use borrowed::{
-    contents_octets, read_bit_string, read_integer, read_octet_string, read_octets,
+    contents_octets, items_of, read_bit_string, read_integer, read_octet_string, read_octets,
+    read_sequence,
 };
 pub use fingerprint::Fingerprint;
 pub use incomplete::{read_element, read_header};

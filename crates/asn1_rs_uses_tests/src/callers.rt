@@ -3,9 +3,9 @@
 use asn1_rs::{Error, FromDer, ToDer};
 use asn1_rs_uses::{
     Fingerprint, Message, Point, SerialNumber, contents_octets, count_number, count_of_numbers,
-    elements_in, is_same_number, is_strict_front, numbers_in, read_bit_string, read_element,
-    read_header, read_integer, read_number, read_number_by_ber, read_numbers, read_octet_string,
-    read_octets, write_number, write_numbers,
+    elements_in, is_same_number, is_strict_front, items_of, numbers_in, read_bit_string,
+    read_element, read_header, read_integer, read_number, read_number_by_ber, read_numbers,
+    read_octet_string, read_octets, read_sequence, write_number, write_numbers,
 };
 use std::test::Fail;
 use test_rows::assert_shown;
@@ -106,6 +106,22 @@ fn what_borrows_is_read(rt: HostRuntime) -> Result<(), Fail> {
         read_integer(alloc, &[0x02, 0x01, 0x05]).is_ok(),
     );
     let expected = "(Ok([1, 2]), Ok(([], [1, 2])), true, true, true)";
+    assert_shown(alloc, &answers, expected)
+}
+
+#[test]
+fn what_a_sequence_holds_is_read(rt: HostRuntime) -> Result<(), Fail> {
+    let alloc = rt.alloc();
+    let octets = [0x30, 0x06, 0x02, 0x01, 0x05, 0x02, 0x01, 0x06, 0xff];
+    let (rest, sequence) = read_sequence(alloc, &octets)?;
+    let answers = (
+        rest,
+        sequence.as_bytes(),
+        items_of::<u8, Error>(alloc, &sequence),
+        items_of::<bool, Error>(alloc, &sequence),
+    );
+    let expected = "([255], [2, 1, 5, 2, 1, 6], Ok([5, 6]), \
+        Err(UnexpectedTag { expected: Some(Tag(1)), actual: Tag(2) }))";
     assert_shown(alloc, &answers, expected)
 }
 
