@@ -1,9 +1,15 @@
 //! Values under an implicit tag: the value's element, with this class and tag number in place of its own (X.690 8.14.3).
 ghost use Rattle.std.specs.Prelude.{◌≡◌, ◌≤◌, length};
+ghost use Rattle.x690.specs.Elements.{IsDerElement};
+ghost use Rattle.x690.specs.Faults.{DerElementFault};
 ghost use Rattle.x690.specs.Strict.{header_octets};
 ghost use Rattle.asn1_rs.specs.declared.error.SerializeError.TheVariants.{InvalidClass};
 ghost use Rattle.asn1_rs.specs.Any.{parts_of};
-ghost use Rattle.asn1_rs.specs.Tagged.Implicit.{ImplicitTakes, ImplicitCheckGives, ChecksUnder, implicit_checks};
+ghost use Rattle.asn1_rs.specs.Header.Reading.{der_breach};
+ghost use Rattle.asn1_rs.specs.Laws.Readers.{unchecked_exact, element_spares, der_breach_spares, all_pass};
+ghost use Rattle.asn1_rs.specs.Laws.Tagged.{number_fits};
+ghost use Rattle.asn1_rs.specs.Laws.Tagged.Implicit.{implicit_lawful, implicit_number, implicit_by_value, implicit_writes_form, implicit_has_form, implicit_takes_class, implicit_form_body, implicit_takes, implicit_takes_spares, implicit_checked};
+ghost use Rattle.asn1_rs.specs.Tagged.Implicit.{ImplicitBody, ImplicitTakes, ImplicitCheckGives, ChecksUnder, implicit_checks, implicit_grammar};
 ghost use Rattle.asn1_rs.specs.ToDer.{WrittenRefusal, OfClass};
 ghost use Rattle.asn1_rs.specs.Traits.{DerGives, PassesAll};
 
@@ -13,6 +19,9 @@ use crate::der::element_by_der;
 use crate::error::{Err, Error, ParseResult, SerializeError, SerializeResult};
 use crate::header::Header;
 use crate::header::writing::{element_len, put_counted_header};
+use crate::laws::{
+    Grammar, LawfulBody, LawfulCheck, LawfulDer, LawfulItem, LawfulTagged, LawfulWrite, TakesClass,
+};
 use crate::tag::Tag;
 use crate::to_der::ToDer;
 use crate::traits::{CheckDerConstraints, FromAny, FromDer, Tagged};
@@ -148,4 +157,94 @@ where
         any.header.length().assert_definite()?;
         check_under::<T>(any)
     }
+}
+
+impl<T: Grammar + Tagged, E, const CLASS: u8, const TAG: u32> Grammar
+    for TaggedValue<T, E, Implicit, CLASS, TAG> {
+    ghost grammar = { implicit_grammar CLASS TAG (T.mark).0 (λ t. t.inner) T.grammar };
+}
+
+/// Lawful where the strict parts of the value are taken under the class of the tag.
+impl<T: TakesClass<CLASS>, E, const CLASS: u8, const TAG: u32> LawfulItem
+    for TaggedValue<T, E, Implicit, CLASS, TAG> {
+    ghost lawful_item = { implicit_lawful CLASS TAG (T.mark).0 (λ t. t.inner) T.grammar
+        T.lawful_item T.number_fits T.tag_number T.takes_class };
+}
+
+impl<T, E, const CLASS: u8, const TAG: u32> LawfulWrite for TaggedValue<T, E, Implicit, CLASS, TAG>
+where
+    T: LawfulWrite + TakesClass<CLASS>,
+{
+    ghost tells_all = { λ t. T.tells_all t.inner };
+
+    ghost by_value = { λ x y. implicit_by_value CLASS TAG T.grammar.value T.constructed T.header
+        T.content T.by_value x.inner y.inner };
+
+    ghost form = { λ t. implicit_writes_form CLASS TAG T.grammar.value T.constructed T.header
+        T.content T.grammar.Form T.count_refuses T.header_refuses T.content_refuses T.form
+        t.inner };
+
+    ghost der_form = { λ t. implicit_has_form CLASS TAG T.grammar.value T.constructed T.header
+        T.content T.grammar.Form T.grammar.IsDer T.der_form t.inner };
+}
+
+impl<T: TakesClass<CLASS>, E, const CLASS: u8, const TAG: u32> LawfulTagged
+    for TaggedValue<T, E, Implicit, CLASS, TAG> {
+    ghost tag_number = { implicit_number CLASS TAG T.grammar.Form };
+
+    ghost number_fits = { number_fits TAG };
+}
+
+/// It takes its own class alone.
+impl<T: TakesClass<CLASS>, E, const CLASS: u8, const TAG: u32> TakesClass<CLASS>
+    for TaggedValue<T, E, Implicit, CLASS, TAG> {
+    ghost takes_class = { implicit_takes_class CLASS TAG T.grammar.Form (T.mark).0 T.grammar.Check
+        T.grammar.Body T.tag_number T.takes_class };
+}
+
+impl<'a, T, E, const CLASS: u8, const TAG: u32> LawfulBody<'a, E>
+    for TaggedValue<T, E, Implicit, CLASS, TAG>
+where
+    T: LawfulBody<'a, E> + TakesClass<CLASS>,
+    E: From<Error>,
+{
+    ghost body_exact = { implicit_takes CLASS TAG (λ t. t.inner) T.mark T.any_gives E.from_gives
+        T.grammar.Body T.grammar.value T.grammar.allocates T.body_exact };
+
+    ghost body_spares = { λ none. implicit_takes_spares {W = Self} CLASS TAG (λ t. t.inner) T.mark
+        T.any_gives E.from_gives (T.body_spares none) };
+
+    ghost form_body = { implicit_form_body CLASS TAG T.grammar.Form (T.mark).0 T.grammar.Check
+        T.grammar.Body T.tag_number T.takes_class };
+
+    ghost ber_split = { λ o v w. w };
+
+    ghost ber_join = { λ o v w. w };
+}
+
+impl<'a, T, E, const CLASS: u8, const TAG: u32> LawfulDer<'a, E>
+    for TaggedValue<T, E, Implicit, CLASS, TAG>
+where
+    T: LawfulBody<'a, E> + TakesClass<CLASS>,
+    E: From<Error>,
+{
+    ghost der_exact = { λ input answer octets. unchecked_exact
+        (ImplicitTakes CLASS TAG (λ t. t.inner) T.mark T.any_gives E.from_gives) E.from_gives
+        (ImplicitBody CLASS TAG (T.mark).0 T.grammar.Body) (λ t. T.grammar.value t.inner)
+        T.grammar.allocates (implicit_takes CLASS TAG (λ t. t.inner) T.mark T.any_gives
+        E.from_gives T.grammar.Body T.grammar.value T.grammar.allocates T.body_exact) input
+        answer };
+
+    ghost der_spares = { λ none. element_spares IsDerElement DerElementFault der_breach
+        der_breach_spares PassesAll
+        (ImplicitTakes CLASS TAG (λ t. t.inner) T.mark T.any_gives E.from_gives) E.from_gives
+        all_pass (implicit_takes_spares {W = Self} CLASS TAG (λ t. t.inner) T.mark T.any_gives
+        E.from_gives (T.body_spares none)) };
+}
+
+impl<T, E, const CLASS: u8, const TAG: u32> LawfulCheck for TaggedValue<T, E, Implicit, CLASS, TAG>
+where
+    T: LawfulCheck + TakesClass<CLASS>,
+{
+    ghost checks = { implicit_checked (T.mark).0 T.check_gives T.grammar.Check T.checks };
 }
