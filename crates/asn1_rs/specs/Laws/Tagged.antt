@@ -1,7 +1,7 @@
 -- Laws of tags.
 pub mod Explicit
 pub mod Implicit
-use Rattle.std.specs.Prelude.{◌≡◌, ◌≢◌, ℕ, ◌<◌, ◌≤◌, ◌^◌, Option, Some, None, Result, Ok, Err}
+use Rattle.std.specs.Prelude.{◌≡◌, ◌≢◌, ℕ, ◌<◌, ◌≤◌, ◌^◌, Bool, true, false, IsTrue, ◌&&◌, ◌↔◌, Option, Some, None, Result, Ok, Err}
 use Rattle.std.proofs.Common.{arith, ◌∙◌, ap, sym, subst, refl, inl, inr, List}
 use Rattle.x690.specs.Identifiers.{Identifier}
 use Rattle.x690.specs.Elements.{Parts}
@@ -70,3 +70,8 @@ of_class_none class own l n e (inr h) = n e h.1
 -- what the refusal of a check is made into does not report out of memory
 pub check_spares : {E : Type 0} (check : CheckGives) → IsCheck check → (from : Error → E → Type 0) (p : Parts) (refusal : Error) (e : E) → check p (Err refusal) → from refusal e → IsOther from e
 check_spares check is from p refusal e t m = inl (refusal, λ q. is.spares p (subst (λ (x : Error). check p (Err x)) q t), m)
+
+-- a mark beside a value is equal to every other
+pub marked_same : {A : Type 0} (same : Bool) → IsTrue same ↔ A → IsTrue (same && true) ↔ A
+marked_same true h = h
+marked_same false h = h

@@ -7,7 +7,7 @@ ghost use Rattle.asn1_rs.specs.declared.error.SerializeError.TheVariants.{Invali
 ghost use Rattle.asn1_rs.specs.Any.{parts_of};
 ghost use Rattle.asn1_rs.specs.Header.Reading.{der_breach};
 ghost use Rattle.asn1_rs.specs.Laws.Readers.{unchecked_exact, element_spares, der_breach_spares, all_pass};
-ghost use Rattle.asn1_rs.specs.Laws.Tagged.{number_fits};
+ghost use Rattle.asn1_rs.specs.Laws.Tagged.{number_fits, marked_same};
 ghost use Rattle.asn1_rs.specs.Laws.Tagged.Implicit.{implicit_lawful, implicit_number, implicit_by_value, implicit_writes_form, implicit_has_form, implicit_takes_class, implicit_form_body, implicit_takes, implicit_takes_spares, implicit_checked};
 ghost use Rattle.asn1_rs.specs.Tagged.Implicit.{ImplicitBody, ImplicitTakes, ImplicitCheckGives, ChecksUnder, implicit_checks, implicit_grammar};
 ghost use Rattle.asn1_rs.specs.ToDer.{WrittenRefusal, OfClass};
@@ -20,7 +20,8 @@ use crate::error::{Err, Error, ParseResult, SerializeError, SerializeResult};
 use crate::header::Header;
 use crate::header::writing::{element_len, put_counted_header};
 use crate::laws::{
-    Grammar, LawfulBody, LawfulCheck, LawfulDer, LawfulItem, LawfulTagged, LawfulWrite, TakesClass,
+    Grammar, LawfulBody, LawfulCheck, LawfulDer, LawfulItem, LawfulMember, LawfulTagged,
+    LawfulWrite, TakesClass,
 };
 use crate::tag::Tag;
 use crate::to_der::ToDer;
@@ -247,4 +248,12 @@ where
     T: LawfulCheck + TakesClass<CLASS>,
 {
     ghost checks = { implicit_checked (T.mark).0 T.check_gives T.grammar.Check T.checks };
+}
+
+impl<T, E, const CLASS: u8, const TAG: u32> LawfulMember for TaggedValue<T, E, Implicit, CLASS, TAG>
+where
+    T: LawfulMember + TakesClass<CLASS>,
+    E: Eq,
+{
+    ghost same = { λ x y. marked_same (T.eq x.inner y.inner) (T.same x.inner y.inner) };
 }
