@@ -86,7 +86,7 @@ universal 2 Sequence from_der:
 rest - written 2208020212340202560c count 10 8 raw 2208020212340202560c
 
 optional implicit 1 Integer from_der:
-810102 = Some(TaggedValue { inner: Integer { content: [2] }, marks: PhantomData<_> }) rest - written 810102 count 3 1 raw 810102
+810102 = Some(TaggedValue { inner: Integer { octets: [2] }, marks: PhantomData<_> }) rest - written 810102 count 3 1 raw 810102
 820102 = None rest 820102 written - count 0 0 raw -
 ";
 
