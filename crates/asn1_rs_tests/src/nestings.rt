@@ -73,12 +73,7 @@ Vec of Vec of Vec of u8:
 ";
 
 /// Appends the answers to the calls at lists and sets without tags.
-fn push_list_read(
-    text: &mut String,
-    alloc: Global,
-    name: &str,
-    octets: &[u8],
-) -> Result<(), Fail> {
+fn push_list_read(text: &mut String, alloc: Global, name: &str, octets: &[u8]) -> Result<(), Fail> {
     match name {
         "SequenceOf of SetOf of u16" => push_read::<SequenceOf<SetOf<u16>>>(text, alloc, octets),
         "SetOf of SequenceOf of u8" => push_read::<SetOf<SequenceOf<u8>>>(text, alloc, octets),
