@@ -120,8 +120,8 @@ fn what_a_sequence_holds_is_read(rt: HostRuntime) -> Result<(), Fail> {
         items_of::<u8, Error>(alloc, &sequence),
         items_of::<bool, Error>(alloc, &sequence),
     );
-    let expected = "([255], [2, 1, 5, 2, 1, 6], Ok([5, 6]), \
-        Err(UnexpectedTag { expected: Some(Tag(1)), actual: Tag(2) }))";
+    let expected =
+        "([255], [2, 1, 5, 2, 1, 6], Ok([5, 6]), Err(DerConstraintFailed(InvalidBoolean)))";
     assert_shown(alloc, &answers, expected)
 }
 
