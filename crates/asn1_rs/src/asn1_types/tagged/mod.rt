@@ -3,6 +3,7 @@
 pub mod builder;
 mod explicit_value;
 pub mod helpers;
+mod implicit_value;
 pub mod optional;
 pub mod parser;
 
