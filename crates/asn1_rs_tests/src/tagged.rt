@@ -1,10 +1,7 @@
 //! Values under tags of their own.
 
-use crate::calls::push_debug;
-use crate::collections::{push_by_ber, push_by_der};
-use asn1_rs::{
-    Any, CheckDerConstraints, Error, Explicit, FromBer, TaggedExplicit, TaggedValue, ToDer, Told,
-};
+use crate::collections::{push_by_ber, push_by_der, push_checked};
+use asn1_rs::{Error, Explicit, TaggedExplicit, TaggedValue, ToDer, Told};
 use std::alloc::Global;
 use std::test::Fail;
 use test_rows::{Calls, Narrow, assert_rows, assert_shown};
@@ -47,15 +44,6 @@ a0020205 = Err(Incomplete(Size(5)))
 /// The calls of the table.
 struct Explicits;
 
-/// What the check of the element at the front, by BER, says.
-fn push_checked(text: &mut String, alloc: Global, octets: &[u8]) -> Result<(), Fail> {
-    let (_, any) = Any::from_ber(alloc, octets)?;
-    push_debug(
-        text,
-        &TaggedExplicit::<u32, Error, 0>::check_constraints(&any),
-    )
-}
-
 impl Calls for Explicits {
     fn answer(text: &mut String, alloc: Global, name: &str, octets: &[u8]) -> Result<(), Fail> {
         match name {
@@ -71,7 +59,9 @@ impl Calls for Explicits {
             "Vec of explicit 31 u8 from_der" => {
                 push_by_der::<Vec<TaggedExplicit<u8, Error, 31>>>(text, alloc, octets)
             }
-            "explicit 0 u32 check_constraints" => push_checked(text, alloc, octets),
+            "explicit 0 u32 check_constraints" => {
+                push_checked::<TaggedExplicit<u32, Error, 0>>(text, alloc, octets)
+            }
             _ => Ok(text.push_str("no such call")?),
         }
     }

@@ -1,10 +1,11 @@
 //! A lawful type of a caller's that holds a value under a tag, and hands every call on to it.
+ghost use Rattle.std.specs.Prelude.{◌≡◌};
 ghost use Rattle.asn1_rs.specs.Kinds.{HoldingGives, HoldingReads};
 ghost use Rattle.asn1_rs.specs.Laws.Kinds.{held_takes, held_reads, held_spares};
 
 use asn1_rs::{
-    Any, CheckDerConstraints, Error, FromAny, FromDer, HasKind, HolderKind, Holds, LawfulBody,
-    LawfulCheck, LawfulDer, LawfulMember, ParseResult, TaggedExplicit,
+    Any, CheckDerConstraints, Error, FromAny, FromDer, Grammar, HasKind, HolderKind, Holds,
+    LawfulBody, LawfulCheck, LawfulDer, LawfulMember, ParseResult, TaggedExplicit,
 };
 use std::alloc::Global;
 
@@ -43,8 +44,10 @@ impl<'a> FromDer<'a, Error> for Version {
     ghost der_gives = { HoldingReads (λ x. x.0) ⟦<Number as FromDer<'a, Error>>⟧.der_gives };
 
     fn from_der(alloc: Global, bytes: &'a [u8]) -> ParseResult<'a, Version, Error> {
-        let (rest, number) = Number::from_der(alloc, bytes)?;
-        Ok((rest, Version(number)))
+        match Number::from_der(alloc, bytes) {
+            Ok((rest, number)) => Ok((rest, Version(number))),
+            Err(refusal) => Err(refusal),
+        }
     }
 }
 
@@ -56,28 +59,41 @@ impl CheckDerConstraints for Version {
     }
 }
 
-impl<'a> LawfulBody<'a, Error> for Version {
-    ghost body_exact = { held_takes (λ x. x.0) _ _ _ _ _ ⟦<Number as LawfulBody<'a, Error>>⟧.body_exact };
+impl<'a> LawfulBody<'a, Error> for Version
+where
+    Number: LawfulBody<'a, Error>,
+{
+    ghost body_exact = { held_takes (λ x. x.0) ⟦<Number as Grammar>⟧.grammar _ (λ x y. y ≡ x)
+        bound-1.body_exact };
 
-    ghost body_spares = { ⟦<Number as LawfulBody<'a, Error>>⟧.body_spares };
+    ghost body_spares = { bound-1.body_spares };
 
-    ghost form_body = { ⟦<Number as LawfulBody<'a, Error>>⟧.form_body };
+    ghost form_body = { bound-1.form_body };
 
-    ghost ber_split = { ⟦<Number as LawfulBody<'a, Error>>⟧.ber_split };
+    ghost ber_split = { bound-1.ber_split };
 
-    ghost ber_join = { ⟦<Number as LawfulBody<'a, Error>>⟧.ber_join };
+    ghost ber_join = { bound-1.ber_join };
 }
 
-impl<'a> LawfulDer<'a, Error> for Version {
-    ghost der_exact = { held_reads (λ x. x.0) _ _ _ _ _ ⟦<Number as LawfulDer<'a, Error>>⟧.der_exact };
+impl<'a> LawfulDer<'a, Error> for Version
+where
+    Number: LawfulDer<'a, Error>,
+{
+    ghost der_exact = { held_reads (λ x. x.0) _ _ _ _ _ bound-1.der_exact };
 
-    ghost der_spares = { λ none. held_spares (λ x. x.0) _ _ (⟦<Number as LawfulDer<'a, Error>>⟧.der_spares none) };
+    ghost der_spares = { λ none. held_spares (λ x. x.0) _ _ (bound-1.der_spares none) };
 }
 
-impl LawfulCheck for Version {
-    ghost checks = { ⟦<Number as LawfulCheck>⟧.checks };
+impl LawfulCheck for Version
+where
+    Number: LawfulCheck,
+{
+    ghost checks = { bound-1.checks };
 }
 
-impl LawfulMember for Version {
-    ghost same = { λ x y. ⟦<Number as LawfulMember>⟧.same x.0 y.0 };
+impl LawfulMember for Version
+where
+    Number: LawfulMember,
+{
+    ghost same = { λ x y. bound-1.same x.0 y.0 };
 }

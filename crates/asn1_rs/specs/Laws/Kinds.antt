@@ -1,8 +1,8 @@
 -- A type that is read as one element is a lawful item.
-use Rattle.std.specs.Prelude.{ℕ, Bool, List, Result, Ok, Err, IfErr}
+use Rattle.std.specs.Prelude.{ℕ, List, Result, Ok, Err, IfErr}
 use Rattle.x690.specs.Octets.{IsOctets}
 use Rattle.std.proofs.Common.{◌≡◌, refl, subst, inl}
-use Rattle.x690.specs.Elements.{Parts, IsDerElement}
+use Rattle.x690.specs.Elements.{IsDerElement}
 use Rattle.x690.specs.Nested.{IsElement}
 use Rattle.asn1_rs.specs.declared.asn1_types.any.Any.{Any}
 use Rattle.asn1_rs.specs.declared.error.Err.{Err as Refusal}
@@ -56,11 +56,11 @@ lawful_by_held held G l = record {
 }
 
 -- a conversion that answers what holds an item is as exact as that of the item
-pub held_takes : {S T V E : Type 0} (held : T → S) (gives : Any → Result S E → Type 0) (Body : Parts → V → Type 0) (value : S → V) (takes : Bool) (from : Error → E → Type 0) →
-    ((any : Any) (answer : Result S E) → IsOctets any.content.now → gives any answer → TakesBody Body value takes from (parts_of any) answer) →
-    (any : Any) (answer : Result T E) → IsOctets any.content.now → HoldingGives held gives any answer → TakesBody Body (λ x. value (held x)) takes from (parts_of any) answer
-held_takes held gives Body value takes from exact any (Ok x) o h = exact any (Ok (held x)) o h
-held_takes held gives Body value takes from exact any (Err e) o h = exact any (Err e) o h
+pub held_takes : {S T E : Type 0} (held : T → S) (G : ItemGrammar S) (gives : Any → Result S E → Type 0) (from : Error → E → Type 0) →
+    ((any : Any) (answer : Result S E) → IsOctets any.content.now → gives any answer → TakesBody G.Body G.value G.allocates from (parts_of any) answer) →
+    (any : Any) (answer : Result T E) → IsOctets any.content.now → HoldingGives held gives any answer → TakesBody G.Body (λ x. G.value (held x)) G.allocates from (parts_of any) answer
+held_takes held G gives from exact any (Ok x) o h = exact any (Ok (held x)) o h
+held_takes held G gives from exact any (Err e) o h = exact any (Err e) o h
 
 -- and so is a reader
 module _ {S T E : Type 0} (held : T → S) (reads : List ℕ → Result (List ℕ × S) (Refusal E) → Type 0) where
@@ -98,7 +98,7 @@ module _ {S T : Type 0} (held : T → S) (G : ElementGrammar S) where
   holding_converts gives c = record { exact = exact; spares = c.spares }
     where
       exact : (any : Any) (answer : Result T Error) → IsOctets any.content.now → HoldingGives held gives any answer → TakesBody G.Body (λ x. G.value (held x)) G.allocates (λ (x y : Error). y ≡ x) (parts_of any) answer
-      exact = held_takes held gives G.Body G.value G.allocates (λ x y. y ≡ x) c.exact
+      exact = held_takes held (item_grammar G) gives (λ x y. y ≡ x) c.exact
 
   pub holding_written : (number : ℕ) (octets : S → List ℕ) → IsWrittenElement G number octets → IsWrittenElement (holding held G) number (λ x. octets (held x))
   holding_written number octets l = record {
