@@ -1,6 +1,7 @@
 -- Values under tags, and elements under tags whose number is known only at run time (X.690 8.14).
 pub mod Explicit
 pub mod Optional
+pub mod Headed
 pub mod Helpers
 pub mod Parser
 use Rattle.std.specs.Prelude.{◌≡◌, ◌≢◌, ◌⊎◌, ℕ, ◌≤◌, ◌%◌, ◌^◌, List, Option, Some, None, Result, Ok, Err}

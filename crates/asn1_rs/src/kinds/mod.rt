@@ -5,6 +5,7 @@
 //! sets name kinds of their own ([`collections`]). A type of another make has those traits itself and no kind.
 
 pub(crate) mod collections;
+pub(crate) mod tags;
 pub(crate) mod writing;
 
 ghost use Rattle.asn1_rs.specs.Grammar.Item.{ItemGrammar, IsLawfulItem, by_reference};

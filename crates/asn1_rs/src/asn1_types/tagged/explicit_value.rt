@@ -3,7 +3,7 @@ ghost use Rattle.std.specs.Prelude.{◌++◌, ◌≡◌, ◌≤◌, true, length
 ghost use Rattle.x690.specs.Strict.{header_octets};
 ghost use Rattle.asn1_rs.specs.declared.error.SerializeError.TheVariants.{InvalidClass};
 ghost use Rattle.asn1_rs.specs.Answers.{seen};
-ghost use Rattle.asn1_rs.specs.Any.{parts_of};
+ghost use Rattle.asn1_rs.specs.Any.{parts_of, BerElementGives};
 ghost use Rattle.asn1_rs.specs.Tagged.Explicit.{ExplicitTakes, ExplicitReads, ExplicitGives, ExplicitCheckGives, InnerTakes, InnerChecked, tag_checks, explicit_grammar};
 ghost use Rattle.asn1_rs.specs.Laws.Forms.{der_strict};
 ghost use Rattle.asn1_rs.specs.Laws.Tagged.{number_fits};
@@ -173,7 +173,7 @@ where
 
 /// Checks the first element in the contents octets, by BER.
 fn check_inner<T: CheckDerConstraints>(any: &Any<'_>) -> Result<(), Error>
-    ensures { InnerChecked T.check_gives (parts_of any.now) result }
+    ensures { InnerChecked BerElementGives T.check_gives (parts_of any.now) result }
 {
     match element_by_ber(any.content) {
         Ok((_, inner)) => T::check_constraints(&inner),
@@ -183,7 +183,7 @@ fn check_inner<T: CheckDerConstraints>(any: &Any<'_>) -> Result<(), Error>
 
 impl<T: CheckDerConstraints, E, const CLASS: u8, const TAG: u32> CheckDerConstraints
     for TaggedValue<T, E, Explicit, CLASS, TAG> {
-    ghost check_gives = { ExplicitCheckGives T.check_gives };
+    ghost check_gives = { ExplicitCheckGives BerElementGives T.check_gives };
 
     /// Refuses an indefinite length with `IndefiniteLengthUnexpected`, and contents octets that do not begin with an
     /// element by BER that keeps the constraints of the value.

@@ -1,6 +1,7 @@
 //! Values under a tag of their own, and elements under tags whose number is known only at run time (X.690 8.14).
 
 pub mod builder;
+mod explicit_parser;
 mod explicit_value;
 pub mod helpers;
 pub mod optional;

@@ -1,0 +1,129 @@
+//! How values that have the header of their tag in hand come by [`ToDer`](crate::to_der::ToDer) and the law traits: from
+//! the value under the tag, and by the kind of the tag.
+ghost use Rattle.std.specs.Prelude.{◌≡◌, ◌<◌};
+ghost use Rattle.x690.specs.Identifiers.{Identifier};
+ghost use Rattle.asn1_rs.specs.Tagged.Headed.{explicit_writing, implicit_writing};
+
+use crate::asn1_types::tagged::{Explicit, Implicit};
+use crate::error::{Error, SerializeResult};
+use crate::header::writing::{element_len, put_counted_header};
+use crate::kinds::writing::ToDerBy;
+use crate::to_der::ToDer;
+use crate::traits::DynTagged;
+use crate::writer::DerWrite;
+use std::alloc::Global;
+
+/// A value that has the header of its tag in hand. Its kind is [`Explicit`] or [`Implicit`].
+///
+/// So it has [`ToDer`]. Of the header, class and tag number are written: the constructed bit and the length are those of
+/// what is written.
+pub trait Headed: DynTagged {
+    /// The type of the value under the tag.
+    type Inner;
+
+    /// What the identifier octets of the header say.
+    ghost identifier: { Self → Identifier };
+
+    /// The value under the tag.
+    ghost inner: { Self → Self.Inner };
+
+    /// The numbers of its class and of its tag.
+    fn class_and_number(&self) -> (u8, u32)
+        ensures class { result.0 ≡ (identifier self.now).class }
+        ensures known { result.0 < 4 }
+        ensures number { result.1 ≡ (identifier self.now).number };
+
+    /// The value under the tag.
+    fn under(&self) -> &Self::Inner
+        ensures { result.now ≡ inner self.now };
+}
+
+impl<P, T> ToDerBy<Explicit> for P
+where
+    P: Headed<Inner = T>,
+    T: ToDer,
+{
+    ghost writing = { explicit_writing P.identifier P.inner (record {
+      tells = T.tells;
+      header = T.header;
+      content = T.content;
+      constructed = T.constructed;
+      count_refuses = T.count_refuses;
+      header_refuses = T.header_refuses;
+      content_refuses = T.content_refuses;
+      refuses_first = T.refuses_first;
+      count_allocates = T.count_allocates;
+      content_allocates = T.content_allocates;
+      write_allocates = T.write_allocates;
+    }) };
+
+    fn element_count(&self) -> Result<usize, Error> {
+        element_len(self.class_and_number().1, self.under().to_der_len())
+    }
+
+    fn content_count(&self) -> Result<usize, Error> {
+        self.under().to_der_len()
+    }
+
+    fn is_constructed(&self) -> bool {
+        true
+    }
+
+    fn put_header<W: DerWrite>(&self, _alloc: Global, w: &mut W) -> SerializeResult<usize> {
+        let (class, number) = self.class_and_number();
+        put_counted_header(class, true, number, self.under().to_der_len(), w)
+    }
+
+    fn put_content<W: DerWrite>(&self, alloc: Global, w: &mut W) -> SerializeResult<usize> {
+        self.under().write_der(alloc, w)
+    }
+}
+
+/// The constructed bit and the contents octets are those of the value (X.690 8.14.3).
+impl<P, T> ToDerBy<Implicit> for P
+where
+    P: Headed<Inner = T>,
+    T: ToDer,
+{
+    ghost writing = { implicit_writing P.identifier P.inner (record {
+      tells = T.tells;
+      header = T.header;
+      content = T.content;
+      constructed = T.constructed;
+      count_refuses = T.count_refuses;
+      header_refuses = T.header_refuses;
+      content_refuses = T.content_refuses;
+      refuses_first = T.refuses_first;
+      count_allocates = T.count_allocates;
+      content_allocates = T.content_allocates;
+      write_allocates = T.write_allocates;
+    }) };
+
+    fn element_count(&self) -> Result<usize, Error> {
+        element_len(self.class_and_number().1, self.under().der_content_len())
+    }
+
+    fn content_count(&self) -> Result<usize, Error> {
+        self.under().der_content_len()
+    }
+
+    fn is_constructed(&self) -> bool {
+        self.under().der_constructed()
+    }
+
+    fn put_header<W: DerWrite>(&self, _alloc: Global, w: &mut W) -> SerializeResult<usize> {
+        let (class, number) = self.class_and_number();
+        let value = self.under();
+        put_counted_header(
+            class,
+            value.der_constructed(),
+            number,
+            value.der_content_len(),
+            w,
+        )
+    }
+
+    fn put_content<W: DerWrite>(&self, alloc: Global, w: &mut W) -> SerializeResult<usize> {
+        self.under().write_der_content(alloc, w)
+    }
+}
