@@ -1,5 +1,6 @@
 -- Values under tags, and elements under tags whose number is known only at run time (X.690 8.14).
 pub mod Explicit
+pub mod Implicit
 pub mod Optional
 pub mod Headed
 pub mod Helpers

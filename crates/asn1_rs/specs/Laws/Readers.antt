@@ -155,13 +155,13 @@ pub unchecked_exact : {T V E : Type 0} (convert : Any → Result T E → Type 0)
 unchecked_exact convert from Body value takes exact =
     element_exact IsDerElement DerElementFault IsCutIdentifier der_elements der_breach PassesAll convert from NoCheck Body value takes (DerWord NoCheck Body) passes_all exact (λ o v w. w) (λ o v w. w)
 
--- where the refusal of the fault is not converted
+-- a refusal that is not converted is its own
+pub converts_itself : (refuses : Breach → Error) (fault : Fault) → Converted {E = Error} {F = Error} (λ x y. y ≡ x) (refusal_of refuses fault) (refusal_of refuses fault)
+converts_itself at (missing n) = refl
+converts_itself at tag_fault = (_, refl, refl)
+converts_itself at length_fault = (_, refl, refl)
+converts_itself at (rule_fault breach) = (_, refl, refl)
+converts_itself at depth_fault = (_, refl, refl)
+
 pub speaks_itself : (refuses : Breach → Error) (fault : Fault) (r : Refusal Error) (is_cut : Type 0) (more : List ℕ) → CountsSome fault → r ≡ refusal_of refuses fault → Speaks is_cut r more → SpeaksOf is_cut fault more
-speaks_itself at fault r is_cut more some e s = speaks_fault {E = Error} at (λ x y. y ≡ x) fault (refusal_of at fault) is_cut more some (itself at fault) (subst (λ (q : Refusal Error). Speaks is_cut q more) e s)
-  where
-    itself : (at : Breach → Error) (fault : Fault) → Converted {E = Error} {F = Error} (λ x y. y ≡ x) (refusal_of at fault) (refusal_of at fault)
-    itself at (missing n) = refl
-    itself at tag_fault = (_, refl, refl)
-    itself at length_fault = (_, refl, refl)
-    itself at (rule_fault breach) = (_, refl, refl)
-    itself at depth_fault = (_, refl, refl)
+speaks_itself at fault r is_cut more some e s = speaks_fault {E = Error} at (λ x y. y ≡ x) fault (refusal_of at fault) is_cut more some (converts_itself at fault) (subst (λ (q : Refusal Error). Speaks is_cut q more) e s)

@@ -1,15 +1,21 @@
 -- Laws of tags.
 pub mod Explicit
-use Rattle.std.specs.Prelude.{◌≡◌, ◌≢◌, ℕ, ◌<◌, ◌≤◌, ◌^◌, Option, Some, None, Result, Ok, Err}
-use Rattle.std.proofs.Common.{arith, ◌∙◌, ap, sym, subst, refl}
+pub mod Implicit
+use Rattle.std.specs.Prelude.{◌≡◌, ◌≢◌, ℕ, ◌<◌, ◌≤◌, ◌^◌, Bool, true, false, IsTrue, ◌&&◌, ◌↔◌, Option, Some, None, Result, Ok, Err}
+use Rattle.std.proofs.Common.{arith, ◌∙◌, ap, sym, subst, refl, inl, inr, List}
+use Rattle.x690.specs.Identifiers.{Identifier}
 use Rattle.x690.specs.Elements.{Parts}
 use Rattle.asn1_rs.specs.declared.class.Class.{Class}
 use Rattle.asn1_rs.specs.declared.class.Class.TheVariants.{Universal, Application, ContextSpecific, Private}
 use Rattle.asn1_rs.specs.declared.error.Error.{Error}
 use Rattle.asn1_rs.specs.declared.error.Error.TheVariants.{OutOfMemory}
+use Rattle.asn1_rs.specs.declared.error.SerializeError.{SerializeError}
+use Rattle.asn1_rs.specs.Answers.{IsOther}
 use Rattle.asn1_rs.specs.Class.{class_number}
-use Rattle.asn1_rs.specs.Checks.{IsCheck}
+use Rattle.asn1_rs.specs.Checks.{CheckGives, IsCheck}
+use Rattle.asn1_rs.specs.Grammar.{made, of_class}
 use Rattle.asn1_rs.specs.Tagged.{has_class, IsClassOf, number_of}
+use Rattle.asn1_rs.specs.ToDer.{HasNone, OfClass}
 
 -- classes are told by their numbers
 pub one_class : (a b : Class) → class_number a ≡ class_number b → a ≡ b
@@ -51,3 +57,21 @@ number_fits n = omega arith
 
 pub number_is : (n : ℕ) → n < 2 ^ 32 → number_of n ≡ n
 number_is n l = omega arith
+
+-- parts are the same under their own class
+pub own_class : (class : ℕ) (i : Identifier) (c : List ℕ) → i.class ≡ class → made i c ≡ made (of_class class i) c
+own_class class i c e = ap (λ (n : ℕ). made (of_class n i) c) e
+
+-- where the class is one of the four, the refusals are those of the value
+pub of_class_none : (class : ℕ) (own : SerializeError → Type 0) → class < 4 → HasNone own → HasNone (OfClass class own)
+of_class_none class own l n e (inl h) = let k = h.0 in omega arith
+of_class_none class own l n e (inr h) = n e h.1
+
+-- what the refusal of a check is made into does not report out of memory
+pub check_spares : {E : Type 0} (check : CheckGives) → IsCheck check → (from : Error → E → Type 0) (p : Parts) (refusal : Error) (e : E) → check p (Err refusal) → from refusal e → IsOther from e
+check_spares check is from p refusal e t m = inl (refusal, λ q. is.spares p (subst (λ (x : Error). check p (Err x)) q t), m)
+
+-- a mark beside a value is equal to every other
+pub marked_same : {A : Type 0} (same : Bool) → IsTrue same ↔ A → IsTrue (same && true) ↔ A
+marked_same true h = h
+marked_same false h = h

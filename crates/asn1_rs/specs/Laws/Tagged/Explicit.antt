@@ -6,7 +6,7 @@ use Rattle.x690.specs.Octets.{IsOctets}
 use Rattle.x690.specs.Identifiers.{Identifier, IsCutIdentifier}
 use Rattle.x690.specs.Rules.{der_rule, ber_rule}
 use Rattle.x690.specs.Elements.{Parts, IsDerElement}
-use Rattle.x690.specs.Nested.{IsElement}
+use Rattle.x690.specs.Nested.{IsElement, ElementFault}
 use Rattle.x690.specs.Strict.{header_octets}
 use Rattle.x690.specs.Laws.Elements.{definite_element_is_octets}
 use Rattle.x690.specs.Laws.Nested.{definite_is_nested}
@@ -18,20 +18,23 @@ use Rattle.asn1_rs.specs.declared.error.Error.{Error}
 use Rattle.asn1_rs.specs.declared.error.Error.TheVariants as errors
 use Rattle.asn1_rs.specs.declared.error.SerializeError.{SerializeError}
 use Rattle.asn1_rs.specs.Answers.{Front, Exactly, TellsMemory, IsOther}
-use Rattle.asn1_rs.specs.Ber.{max_depth}
-use Rattle.asn1_rs.specs.Checks.{IsCheck, has_number, is_constructed, ◌before◌}
-use Rattle.asn1_rs.specs.Error.{FlattenedTo, HeldIn}
-use Rattle.asn1_rs.specs.Grammar.{IsOneBody, TakesBody, FormChecks, FormBodies, FormTakes, FormNumber, NoCheck, DerWord, made, of_class}
+use Rattle.asn1_rs.specs.Any.{parts_of}
+use Rattle.asn1_rs.specs.Ber.{max_depth, EndsWithin}
+use Rattle.asn1_rs.specs.Checks.{CheckGives, IsCheck, has_number, is_constructed, ◌before◌}
+use Rattle.asn1_rs.specs.Error.{Converted, FlattenedTo, HeldIn}
+use Rattle.asn1_rs.specs.Grammar.{IsOneBody, TakesBody, FormChecks, FormBodies, FormTakes, FormNumber, NoCheck, DerWord, Checks, made}
 use Rattle.asn1_rs.specs.Grammar.Form.{IsOneForm, IsOneValue, FitsElement, HasValues, IsStrict, WritesByValue, WritesForm, header_of}
 use Rattle.asn1_rs.specs.Grammar.Item.{ItemGrammar, IsLawfulItem}
-use Rattle.asn1_rs.specs.Header.Reading.{der_breach}
-use Rattle.asn1_rs.specs.Laws.Checks.{before_is, has_number_is, is_constructed_is}
+use Rattle.asn1_rs.specs.Header.Reading.{der_breach, ber_breach, ber_refusal}
+use Rattle.asn1_rs.specs.Kinds.{IsExactCheck}
+use Rattle.asn1_rs.specs.Laws.Any.{refusal_lasts, element_lasts}
+use Rattle.asn1_rs.specs.Laws.Checks.{before_is, has_number_is, is_constructed_is, is_counted_is}
 use Rattle.asn1_rs.specs.Laws.Forms.{strict_written}
-use Rattle.asn1_rs.specs.Laws.Readers.{none_now, front_more, speaks_fault, fault_spares, der_breach_spares, der_elements, ber_elements}
-use Rattle.asn1_rs.specs.Laws.Tagged.{has_class_is, number_is}
+use Rattle.asn1_rs.specs.Laws.Readers.{none_now, front_more, speaks_fault, fault_spares, speaks_now, converts_itself, der_breach_spares, ber_breach_spares, der_elements, ber_elements}
+use Rattle.asn1_rs.specs.Laws.Tagged.{has_class_is, number_is, own_class, of_class_none, check_spares}
 use Rattle.asn1_rs.specs.Laws.Words.{word_one, strict_element, one_strict, strict_apart, strict_ber_word, strict_der_word}
 use Rattle.asn1_rs.specs.Tagged.{has_class, number_of}
-use Rattle.asn1_rs.specs.Tagged.Explicit.{ExplicitBody, ExplicitCheck, ExplicitForm, ExplicitTakes, ExplicitGives, explicit_grammar, explicit_identifier, tag_checks}
+use Rattle.asn1_rs.specs.Tagged.Explicit.{ExplicitBody, ExplicitCheck, ExplicitForm, ExplicitTakes, ExplicitGives, ExplicitCheckGives, explicit_grammar, explicit_identifier, tag_checks}
 use Rattle.asn1_rs.specs.ToDer.{HasNone, Either, IsWritable, WrittenRefusal, OfClass}
 
 pub tag_checks_are : (class number : ℕ) → IsCheck (tag_checks class number)
@@ -65,9 +68,6 @@ module _ {V : Type 0} (class number : ℕ) where
     explicit_tag : (v : V) (i : Identifier) (c : List ℕ) → ExplicitForm class number Form v i c → tag_checks class number (made i c) (Ok tt)
     explicit_tag v i c f = (ap (λ (z : Identifier). z.number) f.id_is, (ap (λ (z : Identifier). z.constructed) f.id_is, ap (λ (z : Identifier). z.class) f.id_is))
 
-    own_class : (v : V) (i : Identifier) (c : List ℕ) → ExplicitForm class number Form v i c → made i c ≡ made (of_class class i) c
-    own_class v i c f = rw f.id_is refl
-
     pub explicit_form_body : (G : List ℕ → V → Type 0) → ((v : V) (o : List ℕ) → IsStrict Form v o → G o v) → FormBodies (ExplicitForm class number Form) (ExplicitBody class number G)
     explicit_form_body G words = λ v i c f. record {
       tag = explicit_tag v i c f;
@@ -90,7 +90,7 @@ module _ {V : Type 0} (class number : ℕ) where
     -- the class of the tag is taken, and is its own
     pub explicit_takes_class : (G : List ℕ → V → Type 0) (Check : Parts → Type 0) → ((v : V) (o : List ℕ) → IsStrict Form v o → G o v) → FormChecks Form Check → FormTakes (ExplicitForm class number Form) (ExplicitCheck Check) (ExplicitBody class number G) class
     explicit_takes_class G Check words checks = λ v i c f.
-        subst (λ (p : Parts). ExplicitCheck Check p × ExplicitBody class number G p v) (own_class v i c f) (explicit_form_check Check checks v i c f, explicit_form_body G words v i c f)
+        subst (λ (p : Parts). ExplicitCheck Check p × ExplicitBody class number G p v) (own_class class i c (ap (λ (z : Identifier). z.class) f.id_is)) (explicit_form_check Check checks v i c f, explicit_form_body G words v i c f)
 
 pub explicit_lawful : {S T : Type 0} (class number : ℕ) (inner : T → S) (G : ItemGrammar S) → IsLawfulItem G → IsLawfulItem (explicit_grammar class number inner G)
 explicit_lawful class number inner G l = record {
@@ -112,11 +112,6 @@ explicit_lawful class number inner G l = record {
 
 both_same : {a b c d : List ℕ} → a ≡ b → c ≡ d → a ++ c ≡ b ++ d
 both_same p q = cc
-
--- where the class is one of the four, the refusals are those of the value
-of_class_none : (class : ℕ) (own : SerializeError → Type 0) → class < 4 → HasNone own → HasNone (OfClass class own)
-of_class_none class own l n e (inl h) = let k = h.0 in omega arith
-of_class_none class own l n e (inr h) = n e h.1
 
 either_none : (one other : SerializeError → Type 0) → HasNone one → HasNone other → HasNone (Either one other)
 either_none one other a b e (inl o) = a e o
@@ -195,23 +190,52 @@ module _ {T V W E : Type 0} (class number : ℕ) (inner : W → T) (reads : List
             none_now (IsCut p.content) r G p.content n b.inner.word b.rest v b.inner.is b.inner.fits)
       ]
 
+-- what tells of another refusal, told as an error
+told_spares : {E : Type 0} (from : Error → E → Type 0) (r : Refusal E) (e : E) → HeldIn (IsOther from) r → FlattenedTo (λ x y. y ≡ x) from r e → IsOther from e
+told_spares from (cut n) e h f = inl (errors.Incomplete n, λ q. cc, f)
+told_spares from (refused x) e h f = subst (IsOther from) (sym f) h
+told_spares from (failed x) e h f = subst (IsOther from) (sym f) h
+
 -- where the value's reader does not allocate, no refusal reports out of memory
 module _ {T W E : Type 0} (class number : ℕ) (inner : W → T) (reads : List ℕ → Result (List ℕ × T) (Refusal E) → Type 0) (from : Error → E → Type 0)
     (spares : (octets : List ℕ) (answer : Result (List ℕ × T) (Refusal E)) → reads octets answer → IfErr answer (HeldIn (IsOther from))) where
-  tag_spares : (p : Parts) (refusal : Error) (e : E) → tag_checks class number p (Err refusal) → from refusal e → IsOther from e
-  tag_spares p refusal e t m = inl (refusal, λ q. (tag_checks_are class number).spares p (subst (λ (x : Error). tag_checks class number p (Err x)) q t), m)
-
-  told_spares : (r : Refusal E) (e : E) → HeldIn (IsOther from) r → FlattenedTo (λ x y. y ≡ x) from r e → IsOther from e
-  told_spares (cut n) e h f = inl (errors.Incomplete n, λ q. cc, f)
-  told_spares (refused x) e h f = subst (IsOther from) (sym f) h
-  told_spares (failed x) e h f = subst (IsOther from) (sym f) h
-
   pub explicit_takes_spares : (p : Parts) (e : E) → ExplicitTakes class number inner reads from p (Err e) → IsOther from e
-  explicit_takes_spares p e (inl r) = tag_spares p r.0 e r.1 r.2
-  explicit_takes_spares p e (inr (h, (r, g, f))) = told_spares r e (spares p.content (Err r) g) f
+  explicit_takes_spares p e (inl r) = check_spares (tag_checks class number) (tag_checks_are class number) from p r.0 e r.1 r.2
+  explicit_takes_spares p e (inr (h, (r, g, f))) = told_spares from r e (spares p.content (Err r) g) f
 
   pub explicit_der_spares : (input : List ℕ) (answer : Result (List ℕ × W) (Refusal E)) → ExplicitGives class number inner reads from input answer → IfErr answer (HeldIn (IsOther from))
   explicit_der_spares input (Ok x) g = tt
   explicit_der_spares input (Err r) (inl (fault, f, c)) = fault_spares from der_breach der_breach_spares fault r c
-  explicit_der_spares input (Err r) (inr (p, rest, f, inl t)) = subst (HeldIn (IsOther from)) (sym t.2.2) (tag_spares p t.0 t.2.0 t.1 t.2.1)
+  explicit_der_spares input (Err r) (inr (p, rest, f, inl t)) = subst (HeldIn (IsOther from)) (sym t.2.2) (check_spares (tag_checks class number) (tag_checks_are class number) from p t.0 t.2.0 t.1 t.2.1)
   explicit_der_spares input (Err r) (inr (p, rest, f, inr t)) = spares p.content (Err r) t.1
+
+-- memory is not another cause than memory
+none_is_memory : IsOther (λ (x y : Error). y ≡ x) errors.OutOfMemory → ⊥
+none_is_memory (inl (f, other, e)) = other (sym e)
+none_is_memory (inr other) = other refl
+
+-- the check is exact, where that of the value is
+module _ (check : CheckGives) (Check : Parts → Type 0) (inner : IsExactCheck check Check) where
+  pub explicit_checks : IsExactCheck (ExplicitCheckGives check) (ExplicitCheck Check)
+  explicit_checks = record { exact = exact; spares = spares }
+    where
+      exact : (p : Parts) (answer : Result (Unit {0}) Error) → ExplicitCheckGives check p answer → Checks (ExplicitCheck Check) p answer
+      exact p (Ok x) g = record {
+        counted = g.0;
+        parts = parts_of g.1.0;
+        rest = g.1.1;
+        inner = g.1.2.front;
+        checked = inner.exact (parts_of g.1.0) (Ok tt) g.1.3;
+      }
+      exact p (Err e) (inl b) = λ c. is_counted_is.apart p e c.counted b
+      exact p (Err e) (inr (m, inl (r, g, f))) = λ c.
+          refusal_lasts (IsElement max_depth) (ElementFault max_depth) EndsWithin ber_elements ber_breach p.content r g [] c.inner.word c.rest c.parts (speaks_now (EndsWithin p.content) r) c.inner.fits (append-nil p.content ∙ c.inner.is)
+      exact p (Err e) (inr (m, inr (any, rest, g, b))) = λ c.
+          let same = element_lasts (IsElement max_depth) (ElementFault max_depth) EndsWithin ber_elements ber_breach p.content (rest, any) g [] c.inner.word c.rest c.parts c.inner.fits (append-nil p.content ∙ c.inner.is) in
+          inner.exact (parts_of any) (Err e) b (subst Check same.0 c.checked)
+
+      spares : (p : Parts) → ExplicitCheckGives check p (Err errors.OutOfMemory) → ⊥
+      spares p (inl b) = is_counted_is.spares p b
+      spares p (inr (m, inl (r, (fault, f, is), t))) =
+          none_is_memory (told_spares (λ x y. y ≡ x) r errors.OutOfMemory (fault_spares (λ (x y : Error). y ≡ x) ber_breach ber_breach_spares fault r (subst (Converted (λ x y. y ≡ x) (ber_refusal fault)) (sym is) (converts_itself ber_breach fault))) t)
+      spares p (inr (m, inr (any, rest, g, b))) = inner.spares (parts_of any) b

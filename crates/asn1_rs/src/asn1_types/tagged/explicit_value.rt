@@ -6,8 +6,8 @@ ghost use Rattle.asn1_rs.specs.Answers.{seen};
 ghost use Rattle.asn1_rs.specs.Any.{parts_of, BerElementGives};
 ghost use Rattle.asn1_rs.specs.Tagged.Explicit.{ExplicitTakes, ExplicitReads, ExplicitGives, ExplicitCheckGives, InnerTakes, InnerChecked, tag_checks, explicit_grammar};
 ghost use Rattle.asn1_rs.specs.Laws.Forms.{der_strict};
-ghost use Rattle.asn1_rs.specs.Laws.Tagged.{number_fits};
-ghost use Rattle.asn1_rs.specs.Laws.Tagged.Explicit.{explicit_lawful, explicit_number, explicit_by_value, explicit_writes_form, explicit_has_form, explicit_takes_class, explicit_takes, explicit_takes_spares, explicit_form_body, explicit_der_exact, explicit_der_spares};
+ghost use Rattle.asn1_rs.specs.Laws.Tagged.{number_fits, marked_same};
+ghost use Rattle.asn1_rs.specs.Laws.Tagged.Explicit.{explicit_lawful, explicit_number, explicit_by_value, explicit_writes_form, explicit_has_form, explicit_takes_class, explicit_takes, explicit_takes_spares, explicit_form_body, explicit_der_exact, explicit_der_spares, explicit_checks};
 ghost use Rattle.asn1_rs.specs.Ber.{EndsWithin};
 ghost use Rattle.x690.specs.Identifiers.{IsCutIdentifier};
 ghost use Rattle.asn1_rs.specs.ToDer.{Either, WrittenRefusal, OfClass, IsWritable, some_allocates};
@@ -20,7 +20,8 @@ use crate::der::element_by_der;
 use crate::error::{Err, Error, ParseResult, SerializeError, SerializeResult};
 use crate::header::writing::{element_len, put_counted_header};
 use crate::laws::{
-    Grammar, LawfulBer, LawfulBody, LawfulDer, LawfulItem, LawfulTagged, LawfulWrite, TakesClass,
+    Grammar, LawfulBer, LawfulBody, LawfulCheck, LawfulDer, LawfulItem, LawfulMember, LawfulTagged,
+    LawfulWrite, TakesClass,
 };
 use crate::tag::Tag;
 use crate::to_der::ToDer;
@@ -263,4 +264,14 @@ impl<'a, T: LawfulDer<'a, E> + Drop, E: From<Error>, const CLASS: u8, const TAG:
 
     ghost der_spares = { λ none. explicit_der_spares CLASS TAG (λ t. t.inner) T.der_gives
         E.from_gives (T.der_spares none) };
+}
+
+impl<T: LawfulCheck, E, const CLASS: u8, const TAG: u32> LawfulCheck
+    for TaggedValue<T, E, Explicit, CLASS, TAG> {
+    ghost checks = { explicit_checks T.check_gives T.grammar.Check T.checks };
+}
+
+impl<T: LawfulMember, E: Eq, const CLASS: u8, const TAG: u32> LawfulMember
+    for TaggedValue<T, E, Explicit, CLASS, TAG> {
+    ghost same = { λ x y. marked_same (T.eq x.inner y.inner) (T.same x.inner y.inner) };
 }
