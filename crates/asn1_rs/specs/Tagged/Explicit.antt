@@ -29,12 +29,12 @@ pub record ExplicitBody {V : Type 0} (class number : ℕ) (G : List ℕ → V �
   pub rest : List ℕ
   pub inner : Front G p.content v rest
 
--- An element of definite length whose contents octets begin with an element that meets the constraints.
-pub record ExplicitCheck (Check : Parts → Type 0) (p : Parts) : Type 0 where
+-- An element of definite length whose contents octets begin with an element, by that rule, that meets the constraints.
+pub record ExplicitCheck (ElementOf : List ℕ → Parts → Type 0) (Check : Parts → Type 0) (p : Parts) : Type 0 where
   pub counted : IsCounted p
   pub parts : Parts
   pub rest : List ℕ
-  pub inner : Front (IsElement max_depth) p.content parts rest
+  pub inner : Front ElementOf p.content parts rest
   pub checked : Check parts
 
 -- the identifier of the tag
@@ -60,7 +60,7 @@ explicit_grammar class number inner G = record {
   Ber = BerWord (ExplicitBody class number G.Ber);
   Der = DerWord NoCheck (ExplicitBody class number G.Der);
   Body = ExplicitBody class number G.Ber;
-  Check = ExplicitCheck G.Check;
+  Check = ExplicitCheck (IsElement max_depth) G.Check;
   Form = ExplicitForm class number G.Form;
   allocates = G.allocates;
 }

@@ -1,8 +1,13 @@
 -- Values with the header of their tag in hand: its class and its number are told by the value, not by the type (X.690 8.14).
-use Rattle.std.specs.Prelude.{Bool, true, false, List, ◌++◌, length}
+use Rattle.std.specs.Prelude.{◌≡◌, ℕ, ◌<◌, ◌^◌, Bool, true, false, List, ◌++◌, length}
 use Rattle.x690.specs.Identifiers.{Identifier}
+use Rattle.x690.specs.Elements.{Parts, IsDerElement}
 use Rattle.x690.specs.Strict.{header_octets}
+use Rattle.asn1_rs.specs.Answers.{Front}
+use Rattle.asn1_rs.specs.Grammar.{BerWord, DerWord, NoCheck}
+use Rattle.asn1_rs.specs.Grammar.Item.{ItemGrammar}
 use Rattle.asn1_rs.specs.Kinds.Writing.{Writing}
+use Rattle.asn1_rs.specs.Tagged.Explicit.{ExplicitCheck, ExplicitForm}
 use Rattle.asn1_rs.specs.ToDer.{Either, WrittenRefusal, some_allocates}
 
 -- under an explicit tag: a constructed element, whose contents octets are the encoding of the value
@@ -35,4 +40,39 @@ implicit_writing identifier inner value = record {
   count_allocates = value.count_allocates;
   content_allocates = value.content_allocates;
   write_allocates = false;
+}
+
+-- What it is as a value: the identifier of the header, and the value under the tag.
+abbrev pub headed_value : {S T V : Type 0} → (T → Identifier) → (T → S) → (S → V) → T → Identifier × V
+headed_value identifier inner value t = (identifier t, value (inner t))
+
+-- an identifier that an element can have
+pub record IsBorne (i : Identifier) : Type 0 where
+  pub class : i.class < 4
+  pub number : i.number < 2 ^ 32
+
+-- An element of this identifier, whatever it is, whose contents octets begin with a word of the value.
+pub record HeadedBody {V : Type 0} (G : List ℕ → V → Type 0) (p : Parts) (v : Identifier × V) : Type 0 where
+  pub id : v.0 ≡ p.id
+  pub rest : List ℕ
+  pub inner : Front G p.content v.1 rest
+
+-- the strict parts of the value under that explicit tag, of which the header is one
+abbrev pub HeadedForm : {V : Type 0} → (V → Identifier → List ℕ → Type 0) → Identifier × V → Identifier → List ℕ → Type 0
+HeadedForm Form v i c = (v.0 ≡ i) × ExplicitForm (v.0).class (v.0).number Form v.1 i c
+
+-- Words by BER are elements by BER with this body, words by DER the elements of definite length with it. A value is in DER form
+-- where its header is constructed, and the value within in DER form.
+abbrev pub explicit_headed : {S T : Type 0} → (T → Identifier) → (T → S) → ItemGrammar S → ItemGrammar T
+explicit_headed identifier inner G = record {
+  Value = Identifier × G.Value;
+  value = headed_value identifier inner G.value;
+  IsValue = λ v. IsBorne v.0 × G.IsValue v.1;
+  IsDer = λ v. IsBorne v.0 × ((v.0).constructed ≡ true) × G.IsDer v.1;
+  Ber = BerWord (HeadedBody G.Ber);
+  Der = DerWord NoCheck (HeadedBody G.Der);
+  Body = HeadedBody G.Ber;
+  Check = ExplicitCheck IsDerElement G.Check;
+  Form = HeadedForm G.Form;
+  allocates = G.allocates;
 }

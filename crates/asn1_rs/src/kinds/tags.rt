@@ -2,12 +2,17 @@
 //! the value under the tag, and by the kind of the tag.
 ghost use Rattle.std.specs.Prelude.{◌≡◌, ◌<◌};
 ghost use Rattle.x690.specs.Identifiers.{Identifier};
-ghost use Rattle.asn1_rs.specs.Tagged.Headed.{explicit_writing, implicit_writing};
+ghost use Rattle.asn1_rs.specs.Laws.Forms.{der_strict};
+ghost use Rattle.asn1_rs.specs.Laws.Tagged.Headed.{explicit_headed_lawful, explicit_headed_by_value, explicit_headed_writes_form, explicit_headed_has_form};
+ghost use Rattle.asn1_rs.specs.Tagged.Headed.{explicit_headed, explicit_writing, implicit_writing};
+ghost use Rattle.asn1_rs.specs.ToDer.{IsWritable};
 
 use crate::asn1_types::tagged::{Explicit, Implicit};
 use crate::error::{Error, SerializeResult};
 use crate::header::writing::{element_len, put_counted_header};
-use crate::kinds::writing::ToDerBy;
+use crate::kinds::writing::{LawfulWriteBy, ToDerBy};
+use crate::kinds::{GrammarBy, HasKind, LawfulItemBy};
+use crate::laws::{Grammar, LawfulItem, LawfulWrite};
 use crate::to_der::ToDer;
 use crate::traits::DynTagged;
 use crate::writer::DerWrite;
@@ -126,4 +131,35 @@ where
     fn put_content<W: DerWrite>(&self, alloc: Global, w: &mut W) -> SerializeResult<usize> {
         self.under().write_der_content(alloc, w)
     }
+}
+
+/// Its value is that under the tag, with the identifier of the header.
+impl<P: Headed<Inner = T>, T: Grammar> GrammarBy<Explicit> for P {
+    ghost grammar_by_kind = { explicit_headed P.identifier P.inner T.grammar };
+}
+
+impl<P: Headed<Inner = T>, T: LawfulItem> LawfulItemBy<Explicit> for P {
+    ghost lawful_by_kind = { explicit_headed_lawful P.identifier P.inner T.grammar
+        T.lawful_item };
+}
+
+impl<P, T> LawfulWriteBy<Explicit> for P
+where
+    P: HasKind<Kind = Explicit> + Headed<Inner = T>,
+    T: LawfulWrite,
+{
+    ghost tells_each = { λ t. T.tells_all (P.inner t) };
+
+    ghost written_by_value = { explicit_headed_by_value P.identifier P.inner T.grammar.value
+        T.constructed T.header T.content T.by_value };
+
+    ghost written_form = { explicit_headed_writes_form P.identifier P.inner T.grammar.value
+        T.constructed T.header T.content T.grammar.Form T.count_refuses T.header_refuses
+        T.content_refuses T.form };
+
+    ghost written_der = { explicit_headed_has_form P.identifier P.inner T.grammar.value
+        T.constructed T.header T.content T.grammar.Form T.grammar.IsDer
+        (der_strict T.grammar.value T.grammar.IsDer T.grammar.Form
+        (λ x. IsWritable (T.count_refuses x) (T.header_refuses x) (T.content_refuses x))
+        T.constructed T.header T.content T.form T.der_form T.lawful_item.form_fits) };
 }

@@ -1,5 +1,15 @@
 //! Values with the header of their explicit tag: their constraints, and their laws (X.690 8.14.2).
+ghost use Rattle.std.specs.Prelude.{◌≡◌};
+ghost use Rattle.x690.specs.Elements.{IsDerElement};
+ghost use Rattle.x690.specs.Faults.{DerElementFault};
+ghost use Rattle.x690.specs.Identifiers.{IsCutIdentifier};
+ghost use Rattle.x690.specs.Nested.{IsElement, ElementFault};
 ghost use Rattle.asn1_rs.specs.Any.{parts_of, DerElementGives};
+ghost use Rattle.asn1_rs.specs.Ber.{max_depth, EndsWithin};
+ghost use Rattle.asn1_rs.specs.Header.Reading.{der_breach, ber_breach};
+ghost use Rattle.asn1_rs.specs.Laws.Readers.{der_elements, ber_elements, der_breach_spares, ber_breach_spares};
+ghost use Rattle.asn1_rs.specs.Laws.Tagged.Explicit.{explicit_checks};
+ghost use Rattle.asn1_rs.specs.Laws.Tagged.Parser.{explicit_parser_exact, explicit_parser_spares};
 ghost use Rattle.asn1_rs.specs.Tagged.Explicit.{ExplicitCheckGives, InnerChecked};
 
 use crate::asn1_types::any::Any;
@@ -7,6 +17,7 @@ use crate::asn1_types::tagged::Explicit;
 use crate::asn1_types::tagged::parser::TaggedParser;
 use crate::der::element_by_der;
 use crate::error::Error;
+use crate::laws::{LawfulBer, LawfulCheck, LawfulDer};
 use crate::traits::CheckDerConstraints;
 
 /// Checks the first element in the contents octets, by DER.
@@ -30,4 +41,28 @@ impl<T: CheckDerConstraints> CheckDerConstraints for TaggedParser<'_, Explicit, 
         any.header.length().assert_definite()?;
         check_inner::<T>(any)
     }
+}
+
+impl<T: LawfulCheck> LawfulCheck for TaggedParser<'_, Explicit, T, Error> {
+    ghost checks = { explicit_checks IsDerElement DerElementFault IsCutIdentifier der_elements
+        der_breach der_breach_spares T.check_gives T.grammar.Check T.checks };
+}
+
+impl<'a, T: LawfulBer<'a, Error>> LawfulBer<'a, Error> for TaggedParser<'a, Explicit, T, Error> {
+    ghost ber_exact = { λ input answer octets. explicit_parser_exact (IsElement max_depth)
+        (ElementFault max_depth) EndsWithin ber_elements ber_breach T.ber_gives (λ x y. y ≡ x)
+        T.grammar.Ber T.grammar.value T.grammar.allocates T.ber_exact input answer };
+
+    ghost ber_spares = { λ none. explicit_parser_spares (IsElement max_depth)
+        (ElementFault max_depth) ber_breach ber_breach_spares T.ber_gives (λ x y. y ≡ x)
+        (T.ber_spares none) };
+}
+
+impl<'a, T: LawfulDer<'a, Error>> LawfulDer<'a, Error> for TaggedParser<'a, Explicit, T, Error> {
+    ghost der_exact = { λ input answer octets. explicit_parser_exact IsDerElement DerElementFault
+        IsCutIdentifier der_elements der_breach T.der_gives (λ x y. y ≡ x) T.grammar.Der
+        T.grammar.value T.grammar.allocates T.der_exact input answer };
+
+    ghost der_spares = { λ none. explicit_parser_spares IsDerElement DerElementFault der_breach
+        der_breach_spares T.der_gives (λ x y. y ≡ x) (T.der_spares none) };
 }

@@ -8,7 +8,10 @@ ghost use Rattle.asn1_rs.specs.Tagged.Explicit.{ExplicitTakes, ExplicitReads, Ex
 ghost use Rattle.asn1_rs.specs.Laws.Forms.{der_strict};
 ghost use Rattle.asn1_rs.specs.Laws.Tagged.{number_fits, marked_same};
 ghost use Rattle.asn1_rs.specs.Laws.Tagged.Explicit.{explicit_lawful, explicit_number, explicit_by_value, explicit_writes_form, explicit_has_form, explicit_takes_class, explicit_takes, explicit_takes_spares, explicit_form_body, explicit_der_exact, explicit_der_spares, explicit_checks};
-ghost use Rattle.asn1_rs.specs.Ber.{EndsWithin};
+ghost use Rattle.asn1_rs.specs.Ber.{max_depth, EndsWithin};
+ghost use Rattle.asn1_rs.specs.Header.Reading.{ber_breach};
+ghost use Rattle.asn1_rs.specs.Laws.Readers.{ber_elements, ber_breach_spares};
+ghost use Rattle.x690.specs.Nested.{IsElement, ElementFault};
 ghost use Rattle.x690.specs.Identifiers.{IsCutIdentifier};
 ghost use Rattle.asn1_rs.specs.ToDer.{Either, WrittenRefusal, OfClass, IsWritable, some_allocates};
 ghost use Rattle.asn1_rs.specs.Traits.{OfParts};
@@ -268,7 +271,8 @@ impl<'a, T: LawfulDer<'a, E> + Drop, E: From<Error>, const CLASS: u8, const TAG:
 
 impl<T: LawfulCheck, E, const CLASS: u8, const TAG: u32> LawfulCheck
     for TaggedValue<T, E, Explicit, CLASS, TAG> {
-    ghost checks = { explicit_checks T.check_gives T.grammar.Check T.checks };
+    ghost checks = { explicit_checks (IsElement max_depth) (ElementFault max_depth) EndsWithin
+        ber_elements ber_breach ber_breach_spares T.check_gives T.grammar.Check T.checks };
 }
 
 impl<T: LawfulMember, E: Eq, const CLASS: u8, const TAG: u32> LawfulMember
