@@ -1,0 +1,285 @@
+//! Values under implicit tags.
+
+use crate::calls::{push_debug, push_written};
+use crate::collections::{push_by_ber, push_by_der};
+use asn1_rs::{
+    Any, ApplicationExplicit, Boolean, CheckDerConstraints, Error, FromBer, FromDer, Implicit,
+    Integer, OptTaggedImplicit, Sequence, SetOf, TaggedExplicit, TaggedImplicit, TaggedValue,
+    ToDer, Told, read_ber, read_der, write_strict,
+};
+use std::alloc::Global;
+use std::fmt::Debug;
+use std::test::Fail;
+use test_rows::{Calls, Narrow, assert_rows, assert_shown, assert_text, push_digits};
+
+/// The element of the tag is converted as one of the value; it is written with the value's form and contents octets.
+const VALUES: &str = "\
+implicit 1 u8 from_der:
+810105 = TaggedValue { inner: 5, marks: PhantomData<_> } rest - written 810105 count 3 1 raw 810105
+81020005ff = TaggedValue { inner: 5, marks: PhantomData<_> } rest ff written 810105 count 3 1 raw 810105
+8100 = TaggedValue { inner: 0, marks: PhantomData<_> } rest - written 810100 count 3 1 raw 810100
+9f010105 = TaggedValue { inner: 5, marks: PhantomData<_> } rest - written 810105 count 3 1 raw 810105
+820105 = Error(UnexpectedTag { expected: Some(Tag(1)), actual: Tag(2) })
+020105 = Error(UnexpectedTag { expected: Some(Tag(1)), actual: Tag(2) })
+c20105 = Error(UnexpectedTag { expected: Some(Tag(1)), actual: Tag(2) })
+c10105 = Error(UnexpectedClass { expected: Some(ContextSpecific), actual: Private })
+e103020105 = Error(UnexpectedClass { expected: Some(ContextSpecific), actual: Private })
+a103020105 = Error(ConstructUnexpected)
+81020100 = Error(IntegerTooLarge)
+8101 = Incomplete(Size(1))
+a180020105 = Error(DerConstraintFailed(IndefiniteLength))
+
+implicit 1 u8 from_ber:
+81020005 = TaggedValue { inner: 5, marks: PhantomData<_> } rest - written 810105 count 3 1 raw 810105
+c20105 = Error(UnexpectedTag { expected: Some(Tag(1)), actual: Tag(2) })
+c10105 = Error(UnexpectedClass { expected: Some(ContextSpecific), actual: Private })
+a1800201050000 = Error(ConstructUnexpected)
+8101 = Incomplete(Size(1))
+
+implicit 1 Boolean from_der:
+810105 = TaggedValue { inner: Boolean { value: 5 }, marks: PhantomData<_> } rest - written 8101ff count 3 1 raw 8101ff
+
+implicit 31 u8 from_der:
+9f1f0105 = TaggedValue { inner: 5, marks: PhantomData<_> } rest - written 9f1f0105 count 4 1 raw 9f1f0105
+
+implicit 1 of class 4 from_der:
+810105 = Error(UnexpectedClass { expected: None, actual: ContextSpecific })
+
+implicit 1 u8 check_constraints:
+810105 = Ok(())
+820105 = Ok(())
+81020005 = Err(DerConstraintFailed(IntegerLeadingZeroes))
+8100 = Err(DerConstraintFailed(IntegerEmpty))
+a10105 = Err(ConstructUnexpected)
+a1800000 = Err(IndefiniteLengthUnexpected)
+";
+
+/// Lists and sets under the tag, whose items are read by BER by both readers, and lists and sets of values under it.
+const LISTS: &str = "\
+implicit 1 Vec u16 from_der:
+a10402020005 = TaggedValue { inner: [5], marks: PhantomData<_> } rest - written a103020105 count 5 3 raw a103020105
+a100 = TaggedValue { inner: [], marks: PhantomData<_> } rest - written a100 count 2 0 raw a100
+8103020105 = Error(ConstructExpected)
+a1020205 = Error(Incomplete(Size(5)))
+3003020105 = Error(UnexpectedTag { expected: Some(Tag(1)), actual: Tag(16) })
+
+implicit 1 Vec u16 from_ber:
+a1800202000500000101 = TaggedValue { inner: [5], marks: PhantomData<_> } rest 0101 written a103020105 count 5 3 raw a103020105
+a1020205 = Error(Incomplete(Size(5)))
+
+implicit 1 Vec u16 check_constraints:
+a103020105 = Ok(())
+a10402020005 = Err(DerConstraintFailed(IntegerLeadingZeroes))
+8103020105 = Err(ConstructExpected)
+a1020205 = Err(Incomplete(Size(5)))
+
+Vec of implicit 31 u8 from_der:
+30049f1f0105 = [TaggedValue { inner: 5, marks: PhantomData<_> }] rest - written 30049f1f0105 count 6 4 raw 30049f1f0105
+3003020105 = Error(UnexpectedTag { expected: Some(Tag(31)), actual: Tag(2) })
+
+implicit 1 SetOf u8 from_der:
+a106020102020101 = TaggedValue { inner: SetOf { items: [2, 1] }, marks: PhantomData<_> } rest - written a106020101020102 \
+count 8 6 raw a106020101020102
+
+universal 2 Sequence from_der:
+2208020212340202560c = TaggedValue { inner: Sequence { content: [2, 2, 18, 52, 2, 2, 86, 12] }, marks: PhantomData<_> } \
+rest - written 2208020212340202560c count 10 8 raw 2208020212340202560c
+
+optional implicit 1 Integer from_der:
+810102 = Some(TaggedValue { inner: Integer { octets: [2] }, marks: PhantomData<_> }) rest - written 810102 count 3 1 raw 810102
+820102 = None rest 820102 written - count 0 0 raw -
+";
+
+/// Tags over tags: the class of the inner one is that of the outer one, or the element is not read.
+const TAGS: &str = "\
+implicit 1 explicit 0 u8:
+a103020105 = TaggedValue { inner: TaggedValue { inner: 5, marks: PhantomData<_> }, marks: PhantomData<_> } rest - \
+written a103020105 count 5 3 raw a103020105
+8103020105 = Error(ConstructExpected)
+a1020205 = Error(Incomplete(Size(5)))
+
+implicit 1 implicit 2 u8:
+810105 = TaggedValue { inner: TaggedValue { inner: 5, marks: PhantomData<_> }, marks: PhantomData<_> } rest - \
+written 810105 count 3 1 raw 810105
+820105 = Error(UnexpectedTag { expected: Some(Tag(1)), actual: Tag(2) })
+
+implicit 1 application explicit 0 u8:
+a103020105 = Error(UnexpectedClass { expected: Some(Application), actual: ContextSpecific })
+";
+
+/// The calls of the tables.
+struct Implicits;
+
+/// What a check says of the element at the front, by BER.
+fn push_checked<T: CheckDerConstraints>(
+    text: &mut String,
+    alloc: Global,
+    octets: &[u8],
+) -> Result<(), Fail> {
+    let (_, any) = Any::from_ber(alloc, octets)?;
+    push_debug(text, &T::check_constraints(&any))
+}
+
+/// A value under two tags that was read, what follows it, and how it is written.
+fn push_read<T: Debug + ToDer>(
+    text: &mut String,
+    alloc: Global,
+    value: &T,
+    rest: &[u8],
+) -> Result<(), Fail> {
+    push_debug(text, value)?;
+    text.push_str(" rest ")?;
+    push_digits(text, rest)?;
+    text.push_str(" written ")?;
+    push_written(text, alloc, value)
+}
+
+/// An explicit tag under an implicit one.
+fn push_explicit_within(text: &mut String, alloc: Global, octets: &[u8]) -> Result<(), Fail> {
+    match TaggedImplicit::<TaggedExplicit<u8, Error, 0>, Error, 1>::from_der(alloc, octets) {
+        Ok((rest, value)) => push_read(text, alloc, &value, rest),
+        Err(refusal) => push_debug(text, &refusal),
+    }
+}
+
+/// An implicit tag under an implicit one.
+fn push_implicit_within(text: &mut String, alloc: Global, octets: &[u8]) -> Result<(), Fail> {
+    match TaggedImplicit::<TaggedImplicit<u8, Error, 2>, Error, 1>::from_der(alloc, octets) {
+        Ok((rest, value)) => push_read(text, alloc, &value, rest),
+        Err(refusal) => push_debug(text, &refusal),
+    }
+}
+
+/// A tag of another class under an implicit one.
+fn push_other_within(text: &mut String, alloc: Global, octets: &[u8]) -> Result<(), Fail> {
+    match TaggedImplicit::<ApplicationExplicit<u8, Error, 0>, Error, 1>::from_der(alloc, octets) {
+        Ok((rest, value)) => push_read(text, alloc, &value, rest),
+        Err(refusal) => push_debug(text, &refusal),
+    }
+}
+
+/// The answers to calls of lists and sets.
+fn push_list(text: &mut String, alloc: Global, name: &str, octets: &[u8]) -> Result<(), Fail> {
+    match name {
+        "implicit 1 Vec u16 from_der" => {
+            push_by_der::<TaggedImplicit<Vec<u16>, Error, 1>>(text, alloc, octets)
+        }
+        "implicit 1 Vec u16 from_ber" => {
+            push_by_ber::<TaggedImplicit<Vec<u16>, Error, 1>>(text, alloc, octets)
+        }
+        "implicit 1 Vec u16 check_constraints" => {
+            push_checked::<TaggedImplicit<Vec<u16>, Error, 1>>(text, alloc, octets)
+        }
+        "Vec of implicit 31 u8 from_der" => {
+            push_by_der::<Vec<TaggedImplicit<u8, Error, 31>>>(text, alloc, octets)
+        }
+        "implicit 1 SetOf u8 from_der" => {
+            push_by_der::<TaggedImplicit<SetOf<u8>, Error, 1>>(text, alloc, octets)
+        }
+        "universal 2 Sequence from_der" => push_by_der::<
+            TaggedValue<Sequence<'_>, Error, Implicit, 0, 2>,
+        >(text, alloc, octets),
+        "optional implicit 1 Integer from_der" => {
+            push_by_der::<OptTaggedImplicit<Integer<'_>, Error, 1>>(text, alloc, octets)
+        }
+        _ => Ok(text.push_str("no such call")?),
+    }
+}
+
+impl Calls for Implicits {
+    fn answer(text: &mut String, alloc: Global, name: &str, octets: &[u8]) -> Result<(), Fail> {
+        match name {
+            "implicit 1 u8 from_der" => {
+                push_by_der::<TaggedImplicit<u8, Error, 1>>(text, alloc, octets)
+            }
+            "implicit 1 u8 from_ber" => {
+                push_by_ber::<TaggedImplicit<u8, Error, 1>>(text, alloc, octets)
+            }
+            "implicit 1 Boolean from_der" => {
+                push_by_der::<TaggedImplicit<Boolean, Error, 1>>(text, alloc, octets)
+            }
+            "implicit 31 u8 from_der" => {
+                push_by_der::<TaggedImplicit<u8, Error, 31>>(text, alloc, octets)
+            }
+            "implicit 1 of class 4 from_der" => {
+                push_by_der::<TaggedValue<u8, Error, Implicit, 4, 1>>(text, alloc, octets)
+            }
+            "implicit 1 u8 check_constraints" => {
+                push_checked::<TaggedImplicit<u8, Error, 1>>(text, alloc, octets)
+            }
+            "implicit 1 explicit 0 u8" => push_explicit_within(text, alloc, octets),
+            "implicit 1 implicit 2 u8" => push_implicit_within(text, alloc, octets),
+            "implicit 1 application explicit 0 u8" => push_other_within(text, alloc, octets),
+            _ => push_list(text, alloc, name, octets),
+        }
+    }
+}
+
+#[test]
+fn implicit_tags_are_read_and_written(rt: HostRuntime) -> Result<(), Fail> {
+    assert_rows::<Implicits>(rt.alloc(), VALUES)
+}
+
+#[test]
+fn lists_under_implicit_tags(rt: HostRuntime) -> Result<(), Fail> {
+    assert_rows::<Implicits>(rt.alloc(), LISTS)
+}
+
+#[test]
+fn tags_under_implicit_tags(rt: HostRuntime) -> Result<(), Fail> {
+    assert_rows::<Implicits>(rt.alloc(), TAGS)
+}
+
+/// A tag of another class is written as one of the same class is, though it is not read back.
+#[test]
+fn tag_of_another_class_is_written(rt: HostRuntime) -> Result<(), Fail> {
+    let mut text = String::new(rt.alloc());
+    let same = TaggedImplicit::<TaggedExplicit<u8, Error, 0>, Error, 1>::implicit(
+        TaggedExplicit::explicit(5),
+    );
+    push_written(&mut text, rt.alloc(), &same)?;
+    text.push_str(" and ")?;
+    let other = TaggedImplicit::<ApplicationExplicit<u8, Error, 0>, Error, 1>::implicit(
+        ApplicationExplicit::explicit(5),
+    );
+    push_written(&mut text, rt.alloc(), &other)?;
+    assert_text(
+        "tags",
+        text.as_str(),
+        "a103020105 count 5 3 raw a103020105 and a103020105 count 5 3 raw a103020105",
+    )
+}
+
+/// A number above 3 is that of no class: the value is counted, and its writing appends nothing.
+#[test]
+fn value_of_no_class_is_counted(rt: HostRuntime) -> Result<(), Fail> {
+    let value = TaggedValue::<u8, Error, Implicit, 4, 0>::implicit(5);
+    let mut w = Told::new(Narrow::new(rt.alloc(), 304, None)?);
+    let answers = (
+        value.to_der_len(),
+        value.der_content_len(),
+        value.der_constructed(),
+        value.write_der(rt.alloc(), &mut w).is_err(),
+        w.as_inner().held().len(),
+        value.tag(),
+        value.class(),
+        value.into_inner(),
+    );
+    assert_shown(
+        rt.alloc(),
+        &answers,
+        "(Ok(3), Ok(1), false, true, 0, Tag(0), 4, 5)",
+    )
+}
+
+/// Through the calls whose contracts rest on the laws.
+#[test]
+fn implicit_list_is_lawful(rt: HostRuntime) -> Result<(), Fail> {
+    let octets = [0xa1, 0x04, 0x02, 0x02, 0x00, 0x05];
+    let (_, by_der) = read_der::<TaggedImplicit<Vec<u16>, Error, 1>, Error>(rt.alloc(), &octets)?;
+    let (_, by_ber) = read_ber::<TaggedImplicit<Vec<u16>, Error, 1>, Error>(rt.alloc(), &octets)?;
+    let mut w = Told::new(Vec::new(rt.alloc()));
+    let count = write_strict(&by_der, rt.alloc(), &mut w)?;
+    let answers = (by_der == by_ber, count, w.into_inner());
+    assert_shown(rt.alloc(), &answers, "(true, 5, [161, 3, 2, 1, 5])")
+}
