@@ -1,10 +1,11 @@
 //! How values that have the header of their tag in hand come by [`ToDer`](crate::to_der::ToDer) and the law traits: from
 //! the value under the tag, and by the kind of the tag.
-ghost use Rattle.std.specs.Prelude.{◌≡◌, ◌<◌};
+ghost use Rattle.std.specs.Prelude.{ℕ, ◌≡◌, ◌<◌};
 ghost use Rattle.x690.specs.Identifiers.{Identifier};
 ghost use Rattle.asn1_rs.specs.Laws.Forms.{der_strict};
-ghost use Rattle.asn1_rs.specs.Laws.Tagged.Headed.{explicit_headed_lawful, explicit_headed_by_value, explicit_headed_writes_form, explicit_headed_has_form};
-ghost use Rattle.asn1_rs.specs.Tagged.Headed.{explicit_headed, explicit_writing, implicit_writing};
+ghost use Rattle.asn1_rs.specs.Grammar.{FormTakes};
+ghost use Rattle.asn1_rs.specs.Laws.Tagged.Headed.{each_class, explicit_headed_lawful, explicit_headed_by_value, explicit_headed_writes_form, explicit_headed_has_form, implicit_headed_lawful, implicit_headed_by_value, implicit_headed_writes_form, implicit_headed_has_form};
+ghost use Rattle.asn1_rs.specs.Tagged.Headed.{explicit_headed, implicit_headed, explicit_writing, implicit_writing};
 ghost use Rattle.asn1_rs.specs.ToDer.{IsWritable};
 
 use crate::asn1_types::tagged::{Explicit, Implicit};
@@ -12,9 +13,9 @@ use crate::error::{Error, SerializeResult};
 use crate::header::writing::{element_len, put_counted_header};
 use crate::kinds::writing::{LawfulWriteBy, ToDerBy};
 use crate::kinds::{GrammarBy, HasKind, LawfulItemBy};
-use crate::laws::{Grammar, LawfulItem, LawfulWrite};
+use crate::laws::{Grammar, LawfulItem, LawfulTagged, LawfulWrite, TakesClass};
 use crate::to_der::ToDer;
-use crate::traits::DynTagged;
+use crate::traits::{DynTagged, Tagged};
 use crate::writer::DerWrite;
 use std::alloc::Global;
 
@@ -162,4 +163,49 @@ where
         (der_strict T.grammar.value T.grammar.IsDer T.grammar.Form
         (λ x. IsWritable (T.count_refuses x) (T.header_refuses x) (T.content_refuses x))
         T.constructed T.header T.content T.form T.der_form T.lawful_item.form_fits) };
+}
+
+/// A type whose values keep constraints and conversion under an implicit tag of each of the four classes, as those that
+/// bear no tag of their own do.
+pub trait TakesEachClass: LawfulTagged {
+    /// The strict parts of a value meet both under each class.
+    ghost takes_each: { (class : ℕ) → class < 4 →
+        FormTakes Self.grammar.Form Self.grammar.Check Self.grammar.Body class };
+}
+
+impl<T> TakesEachClass for T
+where
+    T: TakesClass<0> + TakesClass<1> + TakesClass<2> + TakesClass<3>,
+{
+    ghost takes_each = { each_class
+        (FormTakes T.grammar.Form T.grammar.Check T.grammar.Body) T.TakesClass-1.takes_class
+        T.TakesClass-2.takes_class T.TakesClass-3.takes_class T.TakesClass-4.takes_class };
+}
+
+/// Its value is that under the tag, with the identifier of the header.
+impl<P: Headed<Inner = T>, T: Grammar + Tagged> GrammarBy<Implicit> for P {
+    ghost grammar_by_kind = { implicit_headed P.identifier (T.mark).0 P.inner T.grammar };
+}
+
+impl<P: Headed<Inner = T>, T: TakesEachClass> LawfulItemBy<Implicit> for P {
+    ghost lawful_by_kind = { implicit_headed_lawful P.identifier (T.mark).0 P.inner T.grammar
+        T.lawful_item T.number_fits T.tag_number T.takes_each };
+}
+
+impl<P, T> LawfulWriteBy<Implicit> for P
+where
+    P: HasKind<Kind = Implicit> + Headed<Inner = T>,
+    T: LawfulWrite + TakesEachClass,
+{
+    ghost tells_each = { λ t. T.tells_all (P.inner t) };
+
+    ghost written_by_value = { implicit_headed_by_value P.identifier P.inner T.grammar.value
+        T.constructed T.header T.content T.by_value };
+
+    ghost written_form = { implicit_headed_writes_form P.identifier P.inner T.grammar.value
+        T.constructed T.header T.content T.grammar.Form T.count_refuses T.header_refuses
+        T.content_refuses T.form };
+
+    ghost written_der = { implicit_headed_has_form P.identifier P.inner T.grammar.value
+        T.constructed T.header T.content T.grammar.Form T.grammar.IsDer T.der_form };
 }

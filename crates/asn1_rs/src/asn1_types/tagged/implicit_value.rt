@@ -137,7 +137,7 @@ where
 }
 
 /// Checks an element under the tag number of the value's type.
-fn check_under<T: CheckDerConstraints + Tagged>(any: &Any<'_>) -> Result<(), Error>
+pub(crate) fn check_under<T: CheckDerConstraints + Tagged>(any: &Any<'_>) -> Result<(), Error>
     ensures { ChecksUnder (T.mark).0 T.check_gives (parts_of any.now) result }
 {
     let constructed = any.header.constructed();
