@@ -19,8 +19,7 @@ use Rattle.asn1_rs.specs.Laws.Readers.{der_elements, ber_elements}
 use Rattle.asn1_rs.specs.Laws.Tagged.Explicit.{explicit_one_form, explicit_fits, explicit_form_check, explicit_by_value, explicit_writes_form, explicit_has_form}
 use Rattle.asn1_rs.specs.Laws.Tagged.Implicit.{implicit_one_form, implicit_fits, implicit_form_body, implicit_form_check, implicit_by_value, implicit_writes_form, implicit_has_form, under_possible}
 use Rattle.asn1_rs.specs.Laws.Words.{word_one, strict_element, strict_apart, strict_ber_word, strict_der_word}
-use Rattle.asn1_rs.specs.Tagged.Explicit.{ExplicitForm}
-use Rattle.asn1_rs.specs.Tagged.Implicit.{under, ImplicitForm}
+use Rattle.asn1_rs.specs.Tagged.Implicit.{under}
 use Rattle.asn1_rs.specs.Tagged.Headed.{HeadedBody, HeadedForm, IsBorne, UnderBody, UnderForm, CheckedBody, HasInnerForm, explicit_headed, implicit_headed, headed_value}
 use Rattle.asn1_rs.specs.ToDer.{HasNone, Either, IsWritable, WrittenRefusal, OfClass}
 
