@@ -17,6 +17,7 @@ ghost use Rattle.asn1_rs.specs.ToDer.{Either, WrittenRefusal, OfClass, IsWritabl
 ghost use Rattle.asn1_rs.specs.Traits.{OfParts};
 
 use crate::asn1_types::any::Any;
+use crate::asn1_types::option::without_raw_tag;
 use crate::asn1_types::tagged::{Explicit, TaggedValue};
 use crate::ber::element_by_ber;
 use crate::der::element_by_der;
@@ -130,6 +131,23 @@ where
             Ok(inner) => Ok(TaggedValue::explicit(inner)),
             Err(e) => Err(e),
         }
+    }
+}
+
+impl<'a> Any<'a> {
+    /// The value under an explicit tag of an element that stays: the tag number is looked at, then the constructed bit,
+    /// then the class; then the value is read by BER.
+    pub fn as_tagged_explicit<T, E, const CLASS: u8, const TAG: u32>(
+        &self,
+        alloc: Global,
+    ) -> Result<TaggedValue<T, E, Explicit, CLASS, TAG>, E>
+    where
+        T: FromBer<'a, E> + Drop,
+        E: From<Error>,
+        ensures { ExplicitTakes CLASS TAG (λ t. t.inner) T.ber_gives E.from_gives
+            (parts_of self.now) result }
+    {
+        TaggedValue::try_from_any(alloc, without_raw_tag(self))
     }
 }
 
