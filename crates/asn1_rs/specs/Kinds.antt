@@ -5,6 +5,7 @@ use Rattle.x690.specs.Octets.{IsOctets}
 use Rattle.x690.specs.Identifiers.{Identifier}
 use Rattle.x690.specs.Elements.{Parts, ArePossible}
 use Rattle.asn1_rs.specs.declared.asn1_types.any.Any.{Any}
+use Rattle.asn1_rs.specs.declared.error.Err.{Err as Refusal}
 use Rattle.asn1_rs.specs.declared.error.Error.{Error}
 use Rattle.asn1_rs.specs.declared.error.Error.TheVariants.{OutOfMemory}
 use Rattle.asn1_rs.specs.Any.{parts_of}
@@ -77,6 +78,11 @@ holding held G = record {
 }
 
 -- a conversion that answers what holds the item that another one answers
-abbrev pub HoldingGives : {S T : Type 0} → (T → S) → (Any → Result S Error → Type 0) → Any → Result T Error → Type 0
+abbrev pub HoldingGives : {S T E : Type 0} → (T → S) → (Any → Result S E → Type 0) → Any → Result T E → Type 0
 HoldingGives held gives any (Ok x) = gives any (Ok (held x))
 HoldingGives held gives any (Err e) = gives any (Err e)
+
+-- a reader that answers it
+abbrev pub HoldingReads : {S T E : Type 0} → (T → S) → (List ℕ → Result (List ℕ × S) (Refusal E) → Type 0) → List ℕ → Result (List ℕ × T) (Refusal E) → Type 0
+HoldingReads held reads input (Ok x) = reads input (Ok (x.0, held x.1))
+HoldingReads held reads input (Err r) = reads input (Err r)

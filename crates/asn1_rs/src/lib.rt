@@ -83,6 +83,8 @@ pub use error::from_nom_error;
 pub use header::Header;
 pub use kinds::ElementKind;
 pub use kinds::HasKind;
+pub use kinds::HolderKind;
+pub use kinds::Holds;
 pub use kinds::LawfulConversion;
 pub use kinds::LawfulElement;
 pub use kinds::writing::WritesElement;

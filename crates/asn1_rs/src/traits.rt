@@ -62,16 +62,6 @@ impl<T: Tagged> DynTagged for T {
     }
 }
 
-impl<T: Tagged> Tagged for &T {
-    const TAG: Tag = T::TAG;
-
-    ghost mark = { T.mark };
-
-    fn its_tag() -> Tag {
-        T::its_tag()
-    }
-}
-
 /// A type that an element converts to.
 ///
 /// A type with this conversion is read by BER; one that checks its constraints too and has [`DerAutoDerive`] is read by

@@ -28,6 +28,8 @@ mod laws;
 #[cfg(test)]
 mod leaves;
 #[cfg(test)]
+mod nested_tags;
+#[cfg(test)]
 mod numbers;
 #[cfg(test)]
 mod options;

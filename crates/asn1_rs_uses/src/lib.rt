@@ -13,6 +13,7 @@ mod point;
 mod refusals;
 mod sequences;
 mod serial_number;
+mod version;
 
 pub use borrowed::{
     contents_octets, read_bit_string, read_integer, read_octet_string, read_octets,
@@ -32,3 +33,4 @@ pub use refusals::{
 };
 pub use sequences::{read_numbers, write_numbers};
 pub use serial_number::SerialNumber;
+pub use version::Version;

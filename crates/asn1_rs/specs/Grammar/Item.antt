@@ -1,6 +1,5 @@
 -- What a type says of its values and grammars, and what makes that lawful.
 use Rattle.std.specs.Prelude.{ℕ, Bool, List}
-use Rattle.std.specs.Borrow.{Bor}
 use Rattle.x690.specs.Identifiers.{Identifier}
 use Rattle.x690.specs.Elements.{Parts, ArePossible}
 use Rattle.x690.specs.Joined.{IsOneFront}
@@ -42,11 +41,11 @@ pub record IsLawfulItem {S : Type 0} (G : ItemGrammar S) : Type 0 where
   pub strict_ber : (v : G.Value) (o : List ℕ) → IsStrict G.Form v o → G.Ber o v
   pub strict_der : (v : G.Value) (o : List ℕ) → IsStrict G.Form v o → G.Der o v
 
--- a reference has the values and grammars of what it refers to
-abbrev pub by_reference : {S : Type 0} → ItemGrammar S → ItemGrammar (Bor S)
-by_reference G = record {
+-- what holds one item, and nothing else, has the values and grammars of that item
+abbrev pub by_held : {S T : Type 0} → (T → S) → ItemGrammar S → ItemGrammar T
+by_held held G = record {
   Value = G.Value;
-  value = λ r. G.value r.now;
+  value = λ x. G.value (held x);
   IsValue = G.IsValue;
   IsDer = G.IsDer;
   Ber = G.Ber;

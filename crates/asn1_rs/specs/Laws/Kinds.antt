@@ -1,18 +1,19 @@
 -- A type that is read as one element is a lawful item.
-use Rattle.std.specs.Prelude.{ℕ, List, Result, Ok, Err}
+use Rattle.std.specs.Prelude.{ℕ, List, Result, Ok, Err, IfErr}
 use Rattle.x690.specs.Octets.{IsOctets}
 use Rattle.std.proofs.Common.{◌≡◌, refl, subst, inl}
 use Rattle.x690.specs.Elements.{IsDerElement}
 use Rattle.x690.specs.Nested.{IsElement}
 use Rattle.asn1_rs.specs.declared.asn1_types.any.Any.{Any}
+use Rattle.asn1_rs.specs.declared.error.Err.{Err as Refusal}
 use Rattle.asn1_rs.specs.declared.error.Error.{Error}
 use Rattle.asn1_rs.specs.declared.error.Error.TheVariants.{OutOfMemory}
 use Rattle.asn1_rs.specs.Any.{parts_of}
-use Rattle.asn1_rs.specs.Answers.{IsOther}
+use Rattle.asn1_rs.specs.Answers.{Exactly, IsOther}
 use Rattle.asn1_rs.specs.Grammar.{NoCheck, TakesBody}
 use Rattle.asn1_rs.specs.Ber.{max_depth}
-use Rattle.asn1_rs.specs.Grammar.Item.{ItemGrammar, IsLawfulItem, by_reference}
-use Rattle.asn1_rs.specs.Kinds.{ElementGrammar, IsLawfulElement, IsExactConversion, item_grammar, holding, HoldingGives}
+use Rattle.asn1_rs.specs.Grammar.Item.{ItemGrammar, IsLawfulItem, by_held}
+use Rattle.asn1_rs.specs.Kinds.{ElementGrammar, IsLawfulElement, IsExactConversion, item_grammar, holding, HoldingGives, HoldingReads}
 use Rattle.asn1_rs.specs.Kinds.Writing.{IsWrittenElement}
 use Rattle.asn1_rs.specs.Laws.Readers.{der_elements, ber_elements}
 use Rattle.asn1_rs.specs.Laws.Words.{word_one, strict_ber_word, strict_der_word}
@@ -35,9 +36,9 @@ lawful_item G l = record {
   strict_der = strict_der_word G.Form G.Check G.Body l.form_check l.form_body;
 }
 
--- a reference is as lawful as what it refers to
-pub lawful_by_reference : {S : Type 0} (G : ItemGrammar S) → IsLawfulItem G → IsLawfulItem (by_reference G)
-lawful_by_reference G l = record {
+-- what holds one item is as lawful as that
+pub lawful_by_held : {S T : Type 0} (held : T → S) (G : ItemGrammar S) → IsLawfulItem G → IsLawfulItem (by_held held G)
+lawful_by_held held G l = record {
   ber_values = l.ber_values;
   der_values = l.der_values;
   body_values = l.body_values;
@@ -53,6 +54,26 @@ lawful_by_reference G l = record {
   strict_ber = l.strict_ber;
   strict_der = l.strict_der;
 }
+
+-- a conversion that answers what holds an item is as exact as that of the item
+pub held_takes : {S T E : Type 0} (held : T → S) (G : ItemGrammar S) (gives : Any → Result S E → Type 0) (from : Error → E → Type 0) →
+    ((any : Any) (answer : Result S E) → IsOctets any.content.now → gives any answer → TakesBody G.Body G.value G.allocates from (parts_of any) answer) →
+    (any : Any) (answer : Result T E) → IsOctets any.content.now → HoldingGives held gives any answer → TakesBody G.Body (λ x. G.value (held x)) G.allocates from (parts_of any) answer
+held_takes held G gives from exact any (Ok x) o h = exact any (Ok (held x)) o h
+held_takes held G gives from exact any (Err e) o h = exact any (Err e) o h
+
+-- and so is a reader
+module _ {S T E : Type 0} (held : T → S) (reads : List ℕ → Result (List ℕ × S) (Refusal E) → Type 0) where
+  pub held_reads : {V : Type 0} (IsCut : List ℕ → Type 0) (G : List ℕ → V → Type 0) (value : S → V) (memory : Refusal E → Type 0) →
+      ((input : List ℕ) (answer : Result (List ℕ × S) (Refusal E)) → IsOctets input → reads input answer → Exactly IsCut G value memory input answer) →
+      (input : List ℕ) (answer : Result (List ℕ × T) (Refusal E)) → IsOctets input → HoldingReads held reads input answer → Exactly IsCut G (λ x. value (held x)) memory input answer
+  held_reads IsCut G value memory exact input (Ok x) o h = exact input (Ok (x.0, held x.1)) o h
+  held_reads IsCut G value memory exact input (Err r) o h = exact input (Err r) o h
+
+  pub held_spares : (P : Refusal E → Type 0) → ((input : List ℕ) (answer : Result (List ℕ × S) (Refusal E)) → reads input answer → IfErr answer P) →
+      (input : List ℕ) (answer : Result (List ℕ × T) (Refusal E)) → HoldingReads held reads input answer → IfErr answer P
+  held_spares P spares input (Ok x) h = tt
+  held_spares P spares input (Err r) h = spares input (Err r) h
 
 -- a refusal that is not out of memory
 pub other_error : {S : Type 0} (gives : Any → Result S Error → Type 0) → ((any : Any) → gives any (Err OutOfMemory) → ⊥) → (any : Any) (e : Error) → gives any (Err e) → IsOther (λ (x y : Error). y ≡ x) e
@@ -77,8 +98,7 @@ module _ {S T : Type 0} (held : T → S) (G : ElementGrammar S) where
   holding_converts gives c = record { exact = exact; spares = c.spares }
     where
       exact : (any : Any) (answer : Result T Error) → IsOctets any.content.now → HoldingGives held gives any answer → TakesBody G.Body (λ x. G.value (held x)) G.allocates (λ (x y : Error). y ≡ x) (parts_of any) answer
-      exact any (Ok x) o h = c.exact any (Ok (held x)) o h
-      exact any (Err e) o h = c.exact any (Err e) o h
+      exact = held_takes held (item_grammar G) gives (λ x y. y ≡ x) c.exact
 
   pub holding_written : (number : ℕ) (octets : S → List ℕ) → IsWrittenElement G number octets → IsWrittenElement (holding held G) number (λ x. octets (held x))
   holding_written number octets l = record {

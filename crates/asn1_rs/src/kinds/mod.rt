@@ -1,4 +1,5 @@
-//! How types of items come by their grammars and laws: by the element that they are read as, or by what they refer to.
+//! How types of items come by their grammars and laws: by the element that they are read as, or by the item that they
+//! hold or refer to.
 //!
 //! A type that is read as one element, checked and converted, names its kind, [`ElementKind`], and says once what its
 //! values are ([`LawfulElement`], [`LawfulConversion`]). The traits of [`laws`](crate::laws) follow from these. Lists and
@@ -8,28 +9,90 @@ pub(crate) mod collections;
 pub(crate) mod tags;
 pub(crate) mod writing;
 
-ghost use Rattle.asn1_rs.specs.Grammar.Item.{ItemGrammar, IsLawfulItem, by_reference};
+ghost use Rattle.std.specs.Prelude.{◌≡◌};
+ghost use Rattle.asn1_rs.specs.declared.tag.Tag.{Tag};
+ghost use Rattle.asn1_rs.specs.Grammar.Item.{ItemGrammar, IsLawfulItem, by_held};
 ghost use Rattle.asn1_rs.specs.Kinds.{ElementGrammar, IsLawfulElement, IsExactCheck, IsExactConversion, item_grammar};
-ghost use Rattle.asn1_rs.specs.Laws.Kinds.{lawful_item, lawful_by_reference, other_error};
+ghost use Rattle.asn1_rs.specs.Laws.Kinds.{lawful_item, lawful_by_held, other_error};
 
 use crate::error::Error;
 use crate::laws::{Grammar, LawfulAuto, LawfulBody, LawfulCheck, LawfulItem};
-use crate::traits::{CheckDerConstraints, DerAutoDerive, FromAny};
+use crate::tag::Tag;
+use crate::traits::{CheckDerConstraints, DerAutoDerive, FromAny, Tagged};
 
 /// A type that has its grammars and laws by its kind.
 pub trait HasKind {
-    /// The kind: [`ElementKind`], or that of references.
+    /// The kind: [`ElementKind`] or [`HolderKind`].
     type Kind;
 }
 
 /// The kind of types that are read as one element, checked and converted.
 pub struct ElementKind;
 
-/// The kind of references.
-pub struct ReferenceKind;
+/// The kind of references, and of other types that hold one item and nothing else.
+pub struct HolderKind;
 
 impl<T> HasKind for &T {
-    type Kind = ReferenceKind;
+    type Kind = HolderKind;
+}
+
+/// A type that holds one item and nothing else, and hands every call on to it.
+///
+/// So it has [`ToDer`](crate::ToDer), [`Grammar`], [`LawfulItem`], and the laws of writing and of tags, where the item
+/// has them.
+pub trait Holds: HasKind<Kind = HolderKind> {
+    /// The type of the item.
+    type Held;
+
+    /// The item.
+    ghost held: { Self → Self.Held };
+
+    /// The item.
+    fn held(&self) -> &Self::Held
+        ensures { result.now ≡ held self.now };
+}
+
+impl<T> Holds for &T {
+    type Held = T;
+
+    ghost held = { λ r. r.now };
+
+    fn held(&self) -> &T {
+        *self
+    }
+}
+
+/// The tag number of a type of this kind.
+pub trait TaggedBy<K> {
+    /// `TAG`.
+    const NUMBER: Tag;
+
+    /// `mark`.
+    ghost mark_by_kind: { Tag };
+
+    /// `its_tag`.
+    fn tag_by_kind() -> Tag
+        ensures { result ≡ mark_by_kind };
+}
+
+impl<H: Holds<Held = T>, T: Tagged> TaggedBy<HolderKind> for H {
+    const NUMBER: Tag = T::TAG;
+
+    ghost mark_by_kind = { T.mark };
+
+    fn tag_by_kind() -> Tag {
+        T::its_tag()
+    }
+}
+
+impl<T: HasKind + TaggedBy<T::Kind>> Tagged for T {
+    const TAG: Tag = T::NUMBER;
+
+    ghost mark = { T.mark_by_kind };
+
+    fn its_tag() -> Tag {
+        T::tag_by_kind()
+    }
 }
 
 /// A type that is read as one element, checked and converted: its values, and that what it says of them is lawful.
@@ -73,13 +136,13 @@ impl<T: LawfulElement> LawfulItemBy<ElementKind> for T {
     ghost lawful_by_kind = { lawful_item T.element T.lawful };
 }
 
-/// A reference has the values and grammars of what it refers to.
-impl<T: Grammar> GrammarBy<ReferenceKind> for &T {
-    ghost grammar_by_kind = { by_reference T.grammar };
+/// What holds an item has its values and grammars.
+impl<H: Holds<Held = T>, T: Grammar> GrammarBy<HolderKind> for H {
+    ghost grammar_by_kind = { by_held H.held T.grammar };
 }
 
-impl<T: LawfulItem> LawfulItemBy<ReferenceKind> for &T {
-    ghost lawful_by_kind = { lawful_by_reference T.grammar T.lawful_item };
+impl<H: Holds<Held = T>, T: LawfulItem> LawfulItemBy<HolderKind> for H {
+    ghost lawful_by_kind = { lawful_by_held H.held T.grammar T.lawful_item };
 }
 
 impl<T: HasKind + GrammarBy<T::Kind>> Grammar for T {

@@ -1,5 +1,5 @@
-//! How types of items come by [`ToDer`] and the laws of it: by the contents octets of one element, or by what they
-//! refer to.
+//! How types of items come by [`ToDer`] and the laws of it: by the contents octets of one element, or by the item
+//! that they hold or refer to.
 ghost use Rattle.std.specs.Prelude.{◌≡◌, ◌++◌, ◌<◌, ◌^◌, ℕ, false, List, length, IfOk, IfErr, IsErr};
 ghost use Rattle.asn1_rs.specs.Grammar.{FormNumber, FormTakes};
 ghost use Rattle.asn1_rs.specs.Writer.{Wrote, MayRefuse};
@@ -12,7 +12,7 @@ ghost use Rattle.asn1_rs.specs.Laws.Forms.{universal_by_value, universal_writes_
 
 use crate::error::{Error, SerializeResult};
 use crate::header::writing::{element_len, put_counted_header};
-use crate::kinds::{ElementKind, HasKind, LawfulElement, ReferenceKind};
+use crate::kinds::{ElementKind, HasKind, HolderKind, Holds, LawfulElement};
 use crate::laws::{LawfulItem, LawfulTagged, LawfulWrite, TakesClass};
 use crate::to_der::ToDer;
 use crate::traits::{DynTagged, Tagged};
@@ -219,45 +219,45 @@ impl<T: WritesElement> ToDerBy<ElementKind> for T {
     }
 }
 
-/// A reference is written as what it refers to. Its raw form is the DER form.
-impl<T: ToDer + Tagged> ToDerBy<ReferenceKind> for &T {
+/// What holds an item is written as that. Its raw form is the DER form.
+impl<H: Holds<Held = T>, T: ToDer + Tagged> ToDerBy<HolderKind> for H {
     ghost writing = { record {
-      tells = λ r. T.tells r.now;
-      header = λ r. T.header r.now;
-      content = λ r. T.content r.now;
-      constructed = λ r. T.constructed r.now;
-      count_refuses = λ r. T.count_refuses r.now;
-      header_refuses = λ r. T.header_refuses r.now;
-      content_refuses = λ r. T.content_refuses r.now;
-      refuses_first = λ r. T.refuses_first r.now;
+      tells = λ x. T.tells (H.held x);
+      header = λ x. T.header (H.held x);
+      content = λ x. T.content (H.held x);
+      constructed = λ x. T.constructed (H.held x);
+      count_refuses = λ x. T.count_refuses (H.held x);
+      header_refuses = λ x. T.header_refuses (H.held x);
+      content_refuses = λ x. T.content_refuses (H.held x);
+      refuses_first = λ x. T.refuses_first (H.held x);
       count_allocates = T.count_allocates;
       content_allocates = T.content_allocates;
       write_allocates = T.write_allocates;
     } };
 
     fn element_count(&self) -> Result<usize, Error> {
-        T::to_der_len(*self)
+        T::to_der_len(self.held())
     }
 
     fn content_count(&self) -> Result<usize, Error> {
-        T::der_content_len(*self)
+        T::der_content_len(self.held())
     }
 
     fn is_constructed(&self) -> bool {
-        T::der_constructed(*self)
+        T::der_constructed(self.held())
     }
 
     fn put_header<W: DerWrite>(&self, alloc: Global, w: &mut W) -> SerializeResult<usize> {
-        T::write_der_header(*self, alloc, w)
+        T::write_der_header(self.held(), alloc, w)
     }
 
     fn put_content<W: DerWrite>(&self, alloc: Global, w: &mut W) -> SerializeResult<usize> {
-        T::write_der_content(*self, alloc, w)
+        T::write_der_content(self.held(), alloc, w)
     }
 
     #[inline(always)]
     fn put_whole<W: DerWrite>(&self, alloc: Global, w: &mut W) -> SerializeResult<usize> {
-        T::write_der(*self, alloc, w)
+        T::write_der(self.held(), alloc, w)
     }
 }
 
@@ -341,14 +341,14 @@ impl<T: WritesElement> LawfulWriteBy<ElementKind> for T {
     ghost written_der = { universal_has_form T.element (T.mark).0 T.octets T.written };
 }
 
-impl<T: LawfulWrite + Tagged> LawfulWriteBy<ReferenceKind> for &T {
-    ghost tells_each = { λ r. T.tells_all r.now };
+impl<H: Holds<Held = T>, T: LawfulWrite + Tagged> LawfulWriteBy<HolderKind> for H {
+    ghost tells_each = { λ x. T.tells_all (H.held x) };
 
-    ghost written_by_value = { λ q r. T.by_value q.now r.now };
+    ghost written_by_value = { λ x y. T.by_value (H.held x) (H.held y) };
 
-    ghost written_form = { λ r. T.form r.now };
+    ghost written_form = { λ x. T.form (H.held x) };
 
-    ghost written_der = { λ r. T.der_form r.now };
+    ghost written_der = { λ x. T.der_form (H.held x) };
 }
 
 impl<T: HasKind + LawfulWriteBy<T::Kind>> LawfulWrite for T {
@@ -376,7 +376,7 @@ impl<T: WritesElement> LawfulTaggedBy<ElementKind> for T {
     ghost number_is_small = { universal_number_fits T.element (T.mark).0 T.octets T.written };
 }
 
-impl<T: LawfulTagged> LawfulTaggedBy<ReferenceKind> for &T {
+impl<H: Holds<Held = T>, T: LawfulTagged> LawfulTaggedBy<HolderKind> for H {
     ghost number_by_kind = { T.tag_number };
 
     ghost number_is_small = { T.number_fits };
@@ -398,7 +398,7 @@ impl<T: WritesElement, const C: u8> TakesClassBy<ElementKind, C> for T {
     ghost takes_this_class = { T.written.class C };
 }
 
-impl<T: TakesClass<C>, const C: u8> TakesClassBy<ReferenceKind, C> for &T {
+impl<H: Holds<Held = T>, T: TakesClass<C>, const C: u8> TakesClassBy<HolderKind, C> for H {
     ghost takes_this_class = { T.takes_class };
 }
 
