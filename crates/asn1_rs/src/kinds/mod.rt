@@ -6,7 +6,6 @@
 //! sets name kinds of their own ([`collections`]). A type of another make has those traits itself and no kind.
 
 pub(crate) mod collections;
-pub(crate) mod tags;
 pub(crate) mod writing;
 
 ghost use Rattle.std.specs.Prelude.{◌≡◌};

@@ -6,18 +6,23 @@ ghost use Rattle.x690.specs.Identifiers.{IsCutIdentifier};
 ghost use Rattle.x690.specs.Nested.{IsElement, ElementFault};
 ghost use Rattle.asn1_rs.specs.Any.{parts_of, DerElementGives};
 ghost use Rattle.asn1_rs.specs.Ber.{max_depth, EndsWithin};
+ghost use Rattle.asn1_rs.specs.Header.{identifier_of};
 ghost use Rattle.asn1_rs.specs.Header.Reading.{der_breach, ber_breach};
+ghost use Rattle.asn1_rs.specs.Laws.Forms.{der_strict};
 ghost use Rattle.asn1_rs.specs.Laws.Readers.{der_elements, ber_elements, der_breach_spares, ber_breach_spares};
 ghost use Rattle.asn1_rs.specs.Laws.Tagged.Explicit.{explicit_checks};
+ghost use Rattle.asn1_rs.specs.Laws.Tagged.Headed.{explicit_headed_lawful, explicit_headed_by_value, explicit_headed_writes_form, explicit_headed_has_form};
 ghost use Rattle.asn1_rs.specs.Laws.Tagged.Parser.{explicit_parser_exact, explicit_parser_spares};
 ghost use Rattle.asn1_rs.specs.Tagged.Explicit.{ExplicitCheckGives, InnerChecked};
+ghost use Rattle.asn1_rs.specs.Tagged.Headed.{explicit_headed};
+ghost use Rattle.asn1_rs.specs.ToDer.{IsWritable};
 
 use crate::asn1_types::any::Any;
 use crate::asn1_types::tagged::Explicit;
 use crate::asn1_types::tagged::parser::TaggedParser;
 use crate::der::element_by_der;
 use crate::error::Error;
-use crate::laws::{LawfulBer, LawfulCheck, LawfulDer};
+use crate::laws::{Grammar, LawfulBer, LawfulCheck, LawfulDer, LawfulItem, LawfulWrite};
 use crate::traits::CheckDerConstraints;
 
 /// Checks the first element in the contents octets, by DER.
@@ -41,6 +46,33 @@ impl<T: CheckDerConstraints> CheckDerConstraints for TaggedParser<'_, Explicit, 
         any.header.length().assert_definite()?;
         check_inner::<T>(any)
     }
+}
+
+/// Its value is that under the tag, with the identifier of the header.
+impl<T: Grammar> Grammar for TaggedParser<'_, Explicit, T, Error> {
+    ghost grammar = { explicit_headed (λ t. identifier_of t.header) (λ t. t.inner) T.grammar };
+}
+
+impl<T: LawfulItem> LawfulItem for TaggedParser<'_, Explicit, T, Error> {
+    ghost lawful_item = { explicit_headed_lawful (λ t. identifier_of t.header) (λ t. t.inner)
+        T.grammar T.lawful_item };
+}
+
+impl<T: LawfulWrite> LawfulWrite for TaggedParser<'_, Explicit, T, Error> {
+    ghost tells_all = { λ t. T.tells_all t.inner };
+
+    ghost by_value = { explicit_headed_by_value (λ t. identifier_of t.header) (λ t. t.inner)
+        T.grammar.value T.constructed T.header T.content T.by_value };
+
+    ghost form = { explicit_headed_writes_form (λ t. identifier_of t.header) (λ t. t.inner)
+        T.grammar.value T.constructed T.header T.content T.grammar.Form T.count_refuses
+        T.header_refuses T.content_refuses T.form };
+
+    ghost der_form = { explicit_headed_has_form (λ t. identifier_of t.header) (λ t. t.inner)
+        T.grammar.value T.constructed T.header T.content T.grammar.Form T.grammar.IsDer
+        (der_strict T.grammar.value T.grammar.IsDer T.grammar.Form
+        (λ x. IsWritable (T.count_refuses x) (T.header_refuses x) (T.content_refuses x))
+        T.constructed T.header T.content T.form T.der_form T.lawful_item.form_fits) };
 }
 
 impl<T: LawfulCheck> LawfulCheck for TaggedParser<'_, Explicit, T, Error> {

@@ -8,6 +8,7 @@ mod implicit_parser;
 mod implicit_value;
 pub mod optional;
 pub mod parser;
+mod parser_writing;
 
 ghost use Rattle.std.specs.Prelude.{◌≡◌};
 ghost use Rattle.asn1_rs.specs.Tagged.{has_class, number_of};

@@ -8,7 +8,7 @@ ghost use Rattle.x690.specs.Nested.{IsElement, ElementFault};
 ghost use Rattle.asn1_rs.specs.Answers.{seen};
 ghost use Rattle.asn1_rs.specs.Any.{AndThenGives};
 ghost use Rattle.asn1_rs.specs.Ber.{max_depth};
-ghost use Rattle.asn1_rs.specs.Header.{class_of, identifier_of, is_constructed_of, tag_of, length_of, raw_tag_of, HasParts};
+ghost use Rattle.asn1_rs.specs.Header.{class_of, is_constructed_of, tag_of, length_of, raw_tag_of, HasParts};
 ghost use Rattle.asn1_rs.specs.Header.Reading.{der_refusal, ber_refusal, KeepsIdentifier};
 ghost use Rattle.asn1_rs.specs.Tagged.{ThenByDer, ThenByBer};
 ghost use Rattle.asn1_rs.specs.Tagged.Parser.{IsUnder, TakesExplicit, TakesImplicit, ChecksAndConverts, HasTag, Asks, Expects};
@@ -22,8 +22,6 @@ use crate::class::Class;
 use crate::der::element_by_der;
 use crate::error::{Err, Error, ParseResult};
 use crate::header::Header;
-use crate::kinds::HasKind;
-use crate::kinds::tags::Headed;
 use crate::length::Length;
 use crate::tag::Tag;
 use crate::traits::{CheckDerConstraints, DynTagged, FromAny, FromBer, FromDer, Tagged};
@@ -176,27 +174,6 @@ impl<Kind, T, E> DynTagged for TaggedParser<'_, Kind, T, E> {
 
     fn tag(&self) -> Tag {
         self.header.tag()
-    }
-}
-
-/// Its kind is its mark, so it is written with the class and the tag number of its header.
-impl<Kind, T> HasKind for TaggedParser<'_, Kind, T, Error> {
-    type Kind = Kind;
-}
-
-impl<Kind, T> Headed for TaggedParser<'_, Kind, T, Error> {
-    type Inner = T;
-
-    ghost identifier = { λ t. identifier_of t.header };
-
-    ghost inner = { λ t. t.inner };
-
-    fn class_and_number(&self) -> (u8, u32) {
-        (self.header.class().number(), self.header.tag().0)
-    }
-
-    fn under(&self) -> &T {
-        &self.inner
     }
 }
 
