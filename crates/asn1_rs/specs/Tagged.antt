@@ -2,6 +2,7 @@
 pub mod Explicit
 pub mod Implicit
 pub mod Optional
+pub mod Headed
 pub mod Helpers
 pub mod Parser
 use Rattle.std.specs.Prelude.{◌≡◌, ◌≢◌, ◌⊎◌, ℕ, ◌≤◌, ◌%◌, ◌^◌, List, Option, Some, None, Result, Ok, Err}

@@ -61,6 +61,8 @@ pub use asn1_types::tagged::builder::parse_der_tagged_implicit;
 pub use asn1_types::tagged::helpers::parse_der_tagged_explicit_g;
 pub use asn1_types::tagged::helpers::parse_der_tagged_implicit_g;
 pub use asn1_types::tagged::optional::OptTaggedParser;
+pub use asn1_types::tagged::parser::AsTaggedExplicit;
+pub use asn1_types::tagged::parser::AsTaggedImplicit;
 pub use asn1_types::tagged::parser::TaggedParser;
 pub use ber::MAX_RECURSION;
 pub use ber::Steps;

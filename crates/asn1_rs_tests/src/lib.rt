@@ -16,6 +16,8 @@ mod errors;
 #[cfg(test)]
 mod growths;
 #[cfg(test)]
+mod headed;
+#[cfg(test)]
 mod implicit;
 #[cfg(test)]
 mod integers;

@@ -1,6 +1,8 @@
 -- Laws of tags.
 pub mod Explicit
+pub mod Headed
 pub mod Implicit
+pub mod Parser
 use Rattle.std.specs.Prelude.{◌≡◌, ◌≢◌, ℕ, ◌<◌, ◌≤◌, ◌^◌, Bool, true, false, IsTrue, ◌&&◌, ◌↔◌, Option, Some, None, Result, Ok, Err}
 use Rattle.std.proofs.Common.{arith, ◌∙◌, ap, sym, subst, refl, inl, inr, List}
 use Rattle.x690.specs.Identifiers.{Identifier}

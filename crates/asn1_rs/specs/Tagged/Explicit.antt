@@ -8,7 +8,7 @@ use Rattle.asn1_rs.specs.declared.error.Err.{Err as Refusal}
 use Rattle.asn1_rs.specs.declared.error.Err.TheVariants.{Error as refused}
 use Rattle.asn1_rs.specs.declared.error.Error.{Error}
 use Rattle.asn1_rs.specs.declared.asn1_types.any.Any.{Any}
-use Rattle.asn1_rs.specs.Any.{parts_of, BerElementGives}
+use Rattle.asn1_rs.specs.Any.{parts_of}
 use Rattle.asn1_rs.specs.Answers.{Front}
 use Rattle.asn1_rs.specs.Ber.{max_depth}
 use Rattle.asn1_rs.specs.Checks.{CheckGives, IsCounted, ◌before◌, has_number, is_constructed, is_counted}
@@ -29,12 +29,12 @@ pub record ExplicitBody {V : Type 0} (class number : ℕ) (G : List ℕ → V �
   pub rest : List ℕ
   pub inner : Front G p.content v rest
 
--- An element of definite length whose contents octets begin with an element that meets the constraints.
-pub record ExplicitCheck (Check : Parts → Type 0) (p : Parts) : Type 0 where
+-- An element of definite length whose contents octets begin with an element, by that rule, that meets the constraints.
+pub record ExplicitCheck (ElementOf : List ℕ → Parts → Type 0) (Check : Parts → Type 0) (p : Parts) : Type 0 where
   pub counted : IsCounted p
   pub parts : Parts
   pub rest : List ℕ
-  pub inner : Front (IsElement max_depth) p.content parts rest
+  pub inner : Front ElementOf p.content parts rest
   pub checked : Check parts
 
 -- the identifier of the tag
@@ -60,7 +60,7 @@ explicit_grammar class number inner G = record {
   Ber = BerWord (ExplicitBody class number G.Ber);
   Der = DerWord NoCheck (ExplicitBody class number G.Der);
   Body = ExplicitBody class number G.Ber;
-  Check = ExplicitCheck G.Check;
+  Check = ExplicitCheck (IsElement max_depth) G.Check;
   Form = ExplicitForm class number G.Form;
   allocates = G.allocates;
 }
@@ -89,13 +89,13 @@ ExplicitGives class number inner reads from input (Ok x) = (p : Parts) × Front 
 ExplicitGives class number inner reads from input (Err r) =
     ((fault : Fault) × DerElementFault input fault × Converted from (der_refusal fault) r) ⊎ ((p : Parts) × (rest : List ℕ) × Front IsDerElement input p rest × ExplicitReads class number reads from p (Err r))
 
--- what checking the first element in the contents octets may answer, by BER
-abbrev pub InnerChecked : CheckGives → CheckGives
-InnerChecked check p (Ok x) = (any : Any) × (rest : List ℕ) × BerElementGives p.content (Ok (rest, any)) × check (parts_of any) (Ok tt)
-InnerChecked check p (Err e) =
-    ((r : Refusal Error) × BerElementGives p.content (Err r) × FlattenedTo (λ x y. y ≡ x) (λ x y. y ≡ x) r e) ⊎
-    ((any : Any) × (rest : List ℕ) × BerElementGives p.content (Ok (rest, any)) × check (parts_of any) (Err e))
+-- what checking the first element in the contents octets may answer, by the reader of elements that gives these answers
+abbrev pub InnerChecked : (List ℕ → Result (List ℕ × Any) (Refusal Error) → Type 0) → CheckGives → CheckGives
+InnerChecked reads check p (Ok x) = (any : Any) × (rest : List ℕ) × reads p.content (Ok (rest, any)) × check (parts_of any) (Ok tt)
+InnerChecked reads check p (Err e) =
+    ((r : Refusal Error) × reads p.content (Err r) × FlattenedTo (λ x y. y ≡ x) (λ x y. y ≡ x) r e) ⊎
+    ((any : Any) × (rest : List ℕ) × reads p.content (Ok (rest, any)) × check (parts_of any) (Err e))
 
 -- what the check of an element under the tag may answer
-abbrev pub ExplicitCheckGives : CheckGives → CheckGives
-ExplicitCheckGives check = is_counted before InnerChecked check
+abbrev pub ExplicitCheckGives : (List ℕ → Result (List ℕ × Any) (Refusal Error) → Type 0) → CheckGives → CheckGives
+ExplicitCheckGives reads check = is_counted before InnerChecked reads check

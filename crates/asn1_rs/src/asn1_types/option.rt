@@ -115,7 +115,7 @@ impl TagRefusal for Error {
 }
 
 /// The same element, whose header keeps no identifier octets.
-fn without_raw_tag<'a>(any: &Any<'a>) -> Any<'a>
+pub(crate) fn without_raw_tag<'a>(any: &Any<'a>) -> Any<'a>
     ensures { IsWithoutRawTag any.now result }
 {
     let header = &any.header;

@@ -1,12 +1,13 @@
 -- Laws of values under an explicit tag.
-use Rattle.std.specs.Prelude.{◌≡◌, ℕ, ◌<◌, ◌^◌, Bool, true, List, [], ◌++◌, length, Result, Ok, Err, IfErr}
+use Rattle.std.specs.Prelude.{◌≡◌, ◌≢◌, ℕ, ◌<◌, ◌^◌, Bool, true, List, [], ◌++◌, length, Result, Ok, Err, IfErr}
 use Rattle.std.proofs.Common.{arith, ◌∙◌, ap, sym, subst, refl, inl, inr, append-nil}
 use mathlib.Core.Logic.{∥∥₁_map}
 use Rattle.x690.specs.Octets.{IsOctets}
 use Rattle.x690.specs.Identifiers.{Identifier, IsCutIdentifier}
 use Rattle.x690.specs.Rules.{der_rule, ber_rule}
 use Rattle.x690.specs.Elements.{Parts, IsDerElement}
-use Rattle.x690.specs.Nested.{IsElement, ElementFault}
+use Rattle.x690.specs.Faults.{Breach, Fault}
+use Rattle.x690.specs.Nested.{IsElement}
 use Rattle.x690.specs.Strict.{header_octets}
 use Rattle.x690.specs.Laws.Elements.{definite_element_is_octets}
 use Rattle.x690.specs.Laws.Nested.{definite_is_nested}
@@ -18,19 +19,19 @@ use Rattle.asn1_rs.specs.declared.error.Error.{Error}
 use Rattle.asn1_rs.specs.declared.error.Error.TheVariants as errors
 use Rattle.asn1_rs.specs.declared.error.SerializeError.{SerializeError}
 use Rattle.asn1_rs.specs.Answers.{Front, Exactly, TellsMemory, IsOther}
-use Rattle.asn1_rs.specs.Any.{parts_of}
-use Rattle.asn1_rs.specs.Ber.{max_depth, EndsWithin}
+use Rattle.asn1_rs.specs.Any.{parts_of, AnyGives}
+use Rattle.asn1_rs.specs.Ber.{max_depth}
 use Rattle.asn1_rs.specs.Checks.{CheckGives, IsCheck, has_number, is_constructed, ◌before◌}
 use Rattle.asn1_rs.specs.Error.{Converted, FlattenedTo, HeldIn}
 use Rattle.asn1_rs.specs.Grammar.{IsOneBody, TakesBody, FormChecks, FormBodies, FormTakes, FormNumber, NoCheck, DerWord, Checks, made}
 use Rattle.asn1_rs.specs.Grammar.Form.{IsOneForm, IsOneValue, FitsElement, HasValues, IsStrict, WritesByValue, WritesForm, header_of}
 use Rattle.asn1_rs.specs.Grammar.Item.{ItemGrammar, IsLawfulItem}
-use Rattle.asn1_rs.specs.Header.Reading.{der_breach, ber_breach, ber_refusal}
+use Rattle.asn1_rs.specs.Header.Reading.{der_breach, refusal_of}
 use Rattle.asn1_rs.specs.Kinds.{IsExactCheck}
 use Rattle.asn1_rs.specs.Laws.Any.{refusal_lasts, element_lasts}
 use Rattle.asn1_rs.specs.Laws.Checks.{before_is, has_number_is, is_constructed_is, is_counted_is}
 use Rattle.asn1_rs.specs.Laws.Forms.{strict_written}
-use Rattle.asn1_rs.specs.Laws.Readers.{none_now, front_more, speaks_fault, fault_spares, speaks_now, converts_itself, der_breach_spares, ber_breach_spares, der_elements, ber_elements}
+use Rattle.asn1_rs.specs.Laws.Readers.{AreElements, none_now, front_more, speaks_fault, fault_spares, speaks_now, converts_itself, der_breach_spares, der_elements, ber_elements}
 use Rattle.asn1_rs.specs.Laws.Tagged.{has_class_is, number_is, own_class, of_class_none, check_spares}
 use Rattle.asn1_rs.specs.Laws.Words.{word_one, strict_element, one_strict, strict_apart, strict_ber_word, strict_der_word}
 use Rattle.asn1_rs.specs.Tagged.{has_class, number_of}
@@ -48,13 +49,13 @@ module _ {V : Type 0} (class number : ℕ) where
   explicit_values G P h p v b = h b.inner.word v b.inner.fits
 
   module _ (Form : V → Identifier → List ℕ → Type 0) where
-    explicit_one_form : IsOneForm Form → IsOneForm (ExplicitForm class number Form)
+    pub explicit_one_form : IsOneForm Form → IsOneForm (ExplicitForm class number Form)
     explicit_one_form one = λ v i j c d f g. (f.id_is ∙ sym g.id_is, one_strict Form one v c d f.inner g.inner)
 
     explicit_one_value : IsOneValue Form → IsOneValue (ExplicitForm class number Form)
     explicit_one_value one = λ v w i c f g. (strict_apart Form one v w c c [] [] f.inner g.inner refl).1
 
-    explicit_fits : FitsElement (ExplicitForm class number Form)
+    pub explicit_fits : FitsElement (ExplicitForm class number Form)
     explicit_fits = λ v i c f. (
       let e = ap (λ (z : Identifier). z.class) f.id_is in let l = f.is_class in omega arith,
       let e = ap (λ (z : Identifier). z.number) f.id_is in let l = f.is_number in omega arith,
@@ -75,12 +76,16 @@ module _ {V : Type 0} (class number : ℕ) where
       inner = record { word = c; fits = words v c f.inner; is = sym (append-nil c) };
     }
 
-    explicit_form_check : (Check : Parts → Type 0) → FormChecks Form Check → FormChecks (ExplicitForm class number Form) (ExplicitCheck Check)
-    explicit_form_check Check checks = λ v i c f. record {
+    -- the strict encoding of the value is an element, by either rule
+    pub strict_nested : (v : V) (o : List ℕ) (s : IsStrict Form v o) → IsElement max_depth o (made s.id s.content)
+    strict_nested v o s = (1, definite_is_nested ber_rule max_depth o (made s.id s.content) (omega arith) (strict_element ber_rule ber_allows_strict Form v o s))
+
+    pub explicit_form_check : (ElementOf : List ℕ → Parts → Type 0) → ((v : V) (o : List ℕ) (s : IsStrict Form v o) → ElementOf o (made s.id s.content)) → (Check : Parts → Type 0) → FormChecks Form Check → FormChecks (ExplicitForm class number Form) (ExplicitCheck ElementOf Check)
+    explicit_form_check ElementOf element Check checks = λ v i c f. record {
       counted = (length c, refl);
       parts = made f.inner.id f.inner.content;
       rest = [];
-      inner = record { word = c; fits = (1, definite_is_nested ber_rule max_depth c (made f.inner.id f.inner.content) (omega arith) (strict_element ber_rule ber_allows_strict Form v c f.inner)); is = sym (append-nil c) };
+      inner = record { word = c; fits = element v c f.inner; is = sym (append-nil c) };
       checked = checks v f.inner.id f.inner.content f.inner.form;
     }
 
@@ -88,9 +93,9 @@ module _ {V : Type 0} (class number : ℕ) where
     explicit_number = λ v i c f. ap (λ (z : Identifier). z.number) f.id_is ∙ sym (number_is number f.is_number)
 
     -- the class of the tag is taken, and is its own
-    pub explicit_takes_class : (G : List ℕ → V → Type 0) (Check : Parts → Type 0) → ((v : V) (o : List ℕ) → IsStrict Form v o → G o v) → FormChecks Form Check → FormTakes (ExplicitForm class number Form) (ExplicitCheck Check) (ExplicitBody class number G) class
+    pub explicit_takes_class : (G : List ℕ → V → Type 0) (Check : Parts → Type 0) → ((v : V) (o : List ℕ) → IsStrict Form v o → G o v) → FormChecks Form Check → FormTakes (ExplicitForm class number Form) (ExplicitCheck (IsElement max_depth) Check) (ExplicitBody class number G) class
     explicit_takes_class G Check words checks = λ v i c f.
-        subst (λ (p : Parts). ExplicitCheck Check p × ExplicitBody class number G p v) (own_class class i c (ap (λ (z : Identifier). z.class) f.id_is)) (explicit_form_check Check checks v i c f, explicit_form_body G words v i c f)
+        subst (λ (p : Parts). ExplicitCheck (IsElement max_depth) Check p × ExplicitBody class number G p v) (own_class class i c (ap (λ (z : Identifier). z.class) f.id_is)) (explicit_form_check (IsElement max_depth) strict_nested Check checks v i c f, explicit_form_body G words v i c f)
 
 pub explicit_lawful : {S T : Type 0} (class number : ℕ) (inner : T → S) (G : ItemGrammar S) → IsLawfulItem G → IsLawfulItem (explicit_grammar class number inner G)
 explicit_lawful class number inner G l = record {
@@ -104,7 +109,7 @@ explicit_lawful class number inner G l = record {
   one_form = explicit_one_form class number G.Form l.one_form;
   one_value = explicit_one_value class number G.Form l.one_value;
   form_fits = explicit_fits class number G.Form;
-  form_check = explicit_form_check class number G.Form G.Check l.form_check;
+  form_check = explicit_form_check class number G.Form (IsElement max_depth) (strict_nested class number G.Form) G.Check l.form_check;
   form_der = λ v i c f. (f.is_class, f.is_number, explicit_form_values class number G.Form G.IsDer l.form_der v i c f);
   strict_ber = strict_ber_word (ExplicitForm class number G.Form) (ExplicitBody class number G.Ber) (explicit_form_body class number G.Form G.Ber l.strict_ber);
   strict_der = strict_der_word (ExplicitForm class number G.Form) NoCheck (ExplicitBody class number G.Der) (λ v i c f. tt) (explicit_form_body class number G.Form G.Der l.strict_der);
@@ -215,11 +220,15 @@ none_is_memory (inl (f, other, e)) = other (sym e)
 none_is_memory (inr other) = other refl
 
 -- the check is exact, where that of the value is
-module _ (check : CheckGives) (Check : Parts → Type 0) (inner : IsExactCheck check Check) where
-  pub explicit_checks : IsExactCheck (ExplicitCheckGives check) (ExplicitCheck Check)
+module _ (ElementOf : List ℕ → Parts → Type 0) (FaultOf : List ℕ → Fault → Type 0) (IsCut : List ℕ → Type 0) (elements : AreElements ElementOf FaultOf IsCut) (refuses : Breach → Error) (other : (breach : Breach) → refuses breach ≢ errors.OutOfMemory)
+    (check : CheckGives) (Check : Parts → Type 0) (inner : IsExactCheck check Check) where
+  abbrev Gives : CheckGives
+  Gives = ExplicitCheckGives (AnyGives ElementOf FaultOf (refusal_of refuses)) check
+
+  pub explicit_checks : IsExactCheck Gives (ExplicitCheck ElementOf Check)
   explicit_checks = record { exact = exact; spares = spares }
     where
-      exact : (p : Parts) (answer : Result (Unit {0}) Error) → ExplicitCheckGives check p answer → Checks (ExplicitCheck Check) p answer
+      exact : (p : Parts) (answer : Result (Unit {0}) Error) → Gives p answer → Checks (ExplicitCheck ElementOf Check) p answer
       exact p (Ok x) g = record {
         counted = g.0;
         parts = parts_of g.1.0;
@@ -229,13 +238,13 @@ module _ (check : CheckGives) (Check : Parts → Type 0) (inner : IsExactCheck c
       }
       exact p (Err e) (inl b) = λ c. is_counted_is.apart p e c.counted b
       exact p (Err e) (inr (m, inl (r, g, f))) = λ c.
-          refusal_lasts (IsElement max_depth) (ElementFault max_depth) EndsWithin ber_elements ber_breach p.content r g [] c.inner.word c.rest c.parts (speaks_now (EndsWithin p.content) r) c.inner.fits (append-nil p.content ∙ c.inner.is)
+          refusal_lasts ElementOf FaultOf IsCut elements refuses p.content r g [] c.inner.word c.rest c.parts (speaks_now (IsCut p.content) r) c.inner.fits (append-nil p.content ∙ c.inner.is)
       exact p (Err e) (inr (m, inr (any, rest, g, b))) = λ c.
-          let same = element_lasts (IsElement max_depth) (ElementFault max_depth) EndsWithin ber_elements ber_breach p.content (rest, any) g [] c.inner.word c.rest c.parts c.inner.fits (append-nil p.content ∙ c.inner.is) in
+          let same = element_lasts ElementOf FaultOf IsCut elements refuses p.content (rest, any) g [] c.inner.word c.rest c.parts c.inner.fits (append-nil p.content ∙ c.inner.is) in
           inner.exact (parts_of any) (Err e) b (subst Check same.0 c.checked)
 
-      spares : (p : Parts) → ExplicitCheckGives check p (Err errors.OutOfMemory) → ⊥
+      spares : (p : Parts) → Gives p (Err errors.OutOfMemory) → ⊥
       spares p (inl b) = is_counted_is.spares p b
       spares p (inr (m, inl (r, (fault, f, is), t))) =
-          none_is_memory (told_spares (λ x y. y ≡ x) r errors.OutOfMemory (fault_spares (λ (x y : Error). y ≡ x) ber_breach ber_breach_spares fault r (subst (Converted (λ x y. y ≡ x) (ber_refusal fault)) (sym is) (converts_itself ber_breach fault))) t)
+          none_is_memory (told_spares (λ x y. y ≡ x) r errors.OutOfMemory (fault_spares (λ (x y : Error). y ≡ x) refuses other fault r (subst (Converted (λ x y. y ≡ x) (refusal_of refuses fault)) (sym is) (converts_itself refuses fault))) t)
       spares p (inr (m, inr (any, rest, g, b))) = inner.spares (parts_of any) b

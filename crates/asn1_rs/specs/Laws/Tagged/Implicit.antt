@@ -35,7 +35,7 @@ implicit_checks_are class number = before_is (has_number number) (has_class clas
 pub parts_under : (own : Tag) (any other : Any) → IsUnder own any other → parts_of other ≡ under own.0 (parts_of any)
 parts_under own any other u = rw u.header.class_is (rw u.header.constructed_is (rw u.header.tag_is (rw u.header.length_is (rw u.content refl))))
 
-under_possible : (own : ℕ) (p : Parts) → own < 2 ^ 32 → ArePossible p → ArePossible (under own p)
+pub under_possible : (own : ℕ) (p : Parts) → own < 2 ^ 32 → ArePossible p → ArePossible (under own p)
 under_possible own p small h = record { class = h.class; number = small; content = h.content }
 
 module _ {V : Type 0} (class number own : ℕ) (Body : Parts → V → Type 0) where
@@ -46,12 +46,12 @@ module _ {V : Type 0} (class number own : ℕ) (Body : Parts → V → Type 0) w
   implicit_values P small h p v a b = h (under own p) v (under_possible own p small a) b.body
 
 module _ {V : Type 0} (class number : ℕ) (Form : V → Identifier → List ℕ → Type 0) where
-  implicit_one_form : IsOneForm Form → IsOneForm (ImplicitForm class number Form)
+  pub implicit_one_form : IsOneForm Form → IsOneForm (ImplicitForm class number Form)
   implicit_one_form one = λ v i j c d f g.
       let same = one v f.own g.own c d f.form g.form in
       (f.id_is ∙ ap (implicit_identifier class number) same.0 ∙ sym g.id_is, same.1)
 
-  implicit_fits : FitsElement Form → FitsElement (ImplicitForm class number Form)
+  pub implicit_fits : FitsElement Form → FitsElement (ImplicitForm class number Form)
   implicit_fits fits = λ v i c f. (
     subst (λ (z : Identifier). z.class < 4) (sym f.id_is) f.is_class,
     subst (λ (z : Identifier). z.number < 2 ^ 32) (sym f.id_is) f.is_number,
@@ -78,7 +78,7 @@ module _ {V : Type 0} (class number : ℕ) (Form : V → Identifier → List ℕ
       body = subst (λ (p : Parts). Body p v) (sym (form_under v i c f)) (takes v f.own c f.form).1;
     }
 
-    implicit_form_check : FormChecks (ImplicitForm class number Form) (ImplicitCheck own Check)
+    pub implicit_form_check : FormChecks (ImplicitForm class number Form) (ImplicitCheck own Check)
     implicit_form_check = λ v i c f. record {
       counted = (length c, refl);
       checked = subst Check (sym (form_under v i c f)) (takes v f.own c f.form).0;

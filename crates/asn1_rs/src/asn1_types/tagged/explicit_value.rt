@@ -3,17 +3,21 @@ ghost use Rattle.std.specs.Prelude.{◌++◌, ◌≡◌, ◌≤◌, true, length
 ghost use Rattle.x690.specs.Strict.{header_octets};
 ghost use Rattle.asn1_rs.specs.declared.error.SerializeError.TheVariants.{InvalidClass};
 ghost use Rattle.asn1_rs.specs.Answers.{seen};
-ghost use Rattle.asn1_rs.specs.Any.{parts_of};
+ghost use Rattle.asn1_rs.specs.Any.{parts_of, BerElementGives};
 ghost use Rattle.asn1_rs.specs.Tagged.Explicit.{ExplicitTakes, ExplicitReads, ExplicitGives, ExplicitCheckGives, InnerTakes, InnerChecked, tag_checks, explicit_grammar};
 ghost use Rattle.asn1_rs.specs.Laws.Forms.{der_strict};
 ghost use Rattle.asn1_rs.specs.Laws.Tagged.{number_fits, marked_same};
 ghost use Rattle.asn1_rs.specs.Laws.Tagged.Explicit.{explicit_lawful, explicit_number, explicit_by_value, explicit_writes_form, explicit_has_form, explicit_takes_class, explicit_takes, explicit_takes_spares, explicit_form_body, explicit_der_exact, explicit_der_spares, explicit_checks};
-ghost use Rattle.asn1_rs.specs.Ber.{EndsWithin};
+ghost use Rattle.asn1_rs.specs.Ber.{max_depth, EndsWithin};
+ghost use Rattle.asn1_rs.specs.Header.Reading.{ber_breach};
+ghost use Rattle.asn1_rs.specs.Laws.Readers.{ber_elements, ber_breach_spares};
+ghost use Rattle.x690.specs.Nested.{IsElement, ElementFault};
 ghost use Rattle.x690.specs.Identifiers.{IsCutIdentifier};
 ghost use Rattle.asn1_rs.specs.ToDer.{Either, WrittenRefusal, OfClass, IsWritable, some_allocates};
 ghost use Rattle.asn1_rs.specs.Traits.{OfParts};
 
 use crate::asn1_types::any::Any;
+use crate::asn1_types::option::without_raw_tag;
 use crate::asn1_types::tagged::{Explicit, TaggedValue};
 use crate::ber::element_by_ber;
 use crate::der::element_by_der;
@@ -130,6 +134,23 @@ where
     }
 }
 
+impl<'a> Any<'a> {
+    /// The value under an explicit tag of an element that stays: the tag number is looked at, then the constructed bit,
+    /// then the class; then the value is read by BER.
+    pub fn as_tagged_explicit<T, E, const CLASS: u8, const TAG: u32>(
+        &self,
+        alloc: Global,
+    ) -> Result<TaggedValue<T, E, Explicit, CLASS, TAG>, E>
+    where
+        T: FromBer<'a, E> + Drop,
+        E: From<Error>,
+        ensures { ExplicitTakes CLASS TAG (λ t. t.inner) T.ber_gives E.from_gives
+            (parts_of self.now) result }
+    {
+        TaggedValue::try_from_any(alloc, without_raw_tag(self))
+    }
+}
+
 /// The value in an element under the tag, by DER.
 fn inner_by_der<'a, T, E>(
     alloc: Global,
@@ -174,7 +195,7 @@ where
 
 /// Checks the first element in the contents octets, by BER.
 fn check_inner<T: CheckDerConstraints>(any: &Any<'_>) -> Result<(), Error>
-    ensures { InnerChecked T.check_gives (parts_of any.now) result }
+    ensures { InnerChecked BerElementGives T.check_gives (parts_of any.now) result }
 {
     match element_by_ber(any.content) {
         Ok((_, inner)) => T::check_constraints(&inner),
@@ -184,7 +205,7 @@ fn check_inner<T: CheckDerConstraints>(any: &Any<'_>) -> Result<(), Error>
 
 impl<T: CheckDerConstraints, E, const CLASS: u8, const TAG: u32> CheckDerConstraints
     for TaggedValue<T, E, Explicit, CLASS, TAG> {
-    ghost check_gives = { ExplicitCheckGives T.check_gives };
+    ghost check_gives = { ExplicitCheckGives BerElementGives T.check_gives };
 
     /// Refuses an indefinite length with `IndefiniteLengthUnexpected`, and contents octets that do not begin with an
     /// element by BER that keeps the constraints of the value.
@@ -268,7 +289,8 @@ impl<'a, T: LawfulDer<'a, E> + Drop, E: From<Error>, const CLASS: u8, const TAG:
 
 impl<T: LawfulCheck, E, const CLASS: u8, const TAG: u32> LawfulCheck
     for TaggedValue<T, E, Explicit, CLASS, TAG> {
-    ghost checks = { explicit_checks T.check_gives T.grammar.Check T.checks };
+    ghost checks = { explicit_checks (IsElement max_depth) (ElementFault max_depth) EndsWithin
+        ber_elements ber_breach ber_breach_spares T.check_gives T.grammar.Check T.checks };
 }
 
 impl<T: LawfulMember, E: Eq, const CLASS: u8, const TAG: u32> LawfulMember

@@ -4,16 +4,19 @@ ghost use Rattle.x690.specs.Elements.{IsDerElement};
 ghost use Rattle.x690.specs.Faults.{DerElementFault};
 ghost use Rattle.x690.specs.Strict.{header_octets};
 ghost use Rattle.asn1_rs.specs.declared.error.SerializeError.TheVariants.{InvalidClass};
+ghost use Rattle.asn1_rs.specs.declared.asn1_types.any.Any.{Any};
 ghost use Rattle.asn1_rs.specs.Any.{parts_of};
 ghost use Rattle.asn1_rs.specs.Header.Reading.{der_breach};
 ghost use Rattle.asn1_rs.specs.Laws.Readers.{unchecked_exact, element_spares, der_breach_spares, all_pass};
 ghost use Rattle.asn1_rs.specs.Laws.Tagged.{number_fits, marked_same};
 ghost use Rattle.asn1_rs.specs.Laws.Tagged.Implicit.{implicit_lawful, implicit_number, implicit_by_value, implicit_writes_form, implicit_has_form, implicit_takes_class, implicit_form_body, implicit_takes, implicit_takes_spares, implicit_checked};
+ghost use Rattle.asn1_rs.specs.Optional.{IsWithoutRawTag};
 ghost use Rattle.asn1_rs.specs.Tagged.Implicit.{ImplicitBody, ImplicitTakes, ImplicitCheckGives, ChecksUnder, implicit_checks, implicit_grammar};
 ghost use Rattle.asn1_rs.specs.ToDer.{WrittenRefusal, OfClass};
 ghost use Rattle.asn1_rs.specs.Traits.{DerGives, PassesAll};
 
 use crate::asn1_types::any::Any;
+use crate::asn1_types::option::without_raw_tag;
 use crate::asn1_types::tagged::{Implicit, TaggedValue};
 use crate::der::element_by_der;
 use crate::error::{Err, Error, ParseResult, SerializeError, SerializeResult};
@@ -114,6 +117,26 @@ where
     }
 }
 
+impl<'a> Any<'a> {
+    /// The value under an implicit tag of an element that stays: the tag number is looked at, then the class; then the
+    /// element is converted under the tag number of the value's type.
+    ///
+    /// What is converted has the parts of the element and its contents octets, without the identifier octets that its
+    /// header keeps.
+    pub fn as_tagged_implicit<T, E, const CLASS: u8, const TAG: u32>(
+        &self,
+        alloc: Global,
+    ) -> Result<TaggedValue<T, E, Implicit, CLASS, TAG>, E>
+    where
+        T: FromAny<'a, Error = E> + Tagged,
+        E: From<Error>,
+        ensures { (bare : Any) × IsWithoutRawTag self.now bare ×
+            ImplicitTakes CLASS TAG (λ t. t.inner) T.mark T.any_gives E.from_gives bare result }
+    {
+        TaggedValue::try_from_any(alloc, without_raw_tag(self))
+    }
+}
+
 /// An element by DER, and then its conversion: no constraints of the value are checked, and items are read by BER.
 impl<'a, T, E, const CLASS: u8, const TAG: u32> FromDer<'a, E>
     for TaggedValue<T, E, Implicit, CLASS, TAG>
@@ -137,7 +160,7 @@ where
 }
 
 /// Checks an element under the tag number of the value's type.
-fn check_under<T: CheckDerConstraints + Tagged>(any: &Any<'_>) -> Result<(), Error>
+pub(crate) fn check_under<T: CheckDerConstraints + Tagged>(any: &Any<'_>) -> Result<(), Error>
     ensures { ChecksUnder (T.mark).0 T.check_gives (parts_of any.now) result }
 {
     let constructed = any.header.constructed();

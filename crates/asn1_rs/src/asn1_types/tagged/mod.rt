@@ -1,11 +1,14 @@
 //! Values under a tag of their own, and elements under tags whose number is known only at run time (X.690 8.14).
 
 pub mod builder;
+mod explicit_parser;
 mod explicit_value;
 pub mod helpers;
+mod implicit_parser;
 mod implicit_value;
 pub mod optional;
 pub mod parser;
+mod parser_writing;
 
 ghost use Rattle.std.specs.Prelude.{◌≡◌};
 ghost use Rattle.asn1_rs.specs.Tagged.{has_class, number_of};

@@ -128,6 +128,46 @@ impl<'a, T, E> TaggedParser<'a, Implicit, T, E> {
     }
 }
 
+/// Every value can be put under an explicit tag.
+pub trait AsTaggedExplicit<'a, E>: Sized {
+    /// The value under an explicit tag: as [`TaggedParser::new_explicit`].
+    fn explicit(self, class: Class, tag: u32) -> TaggedParser<'a, Explicit, Self, E>
+        ensures header { HasParts result.header class true (record { 0 = tag })
+            (forms.Definite 0) None }
+        ensures inner { result.inner ≡ self };
+}
+
+impl<'a, T: 'a, E> AsTaggedExplicit<'a, E> for T {
+    fn explicit(self, class: Class, tag: u32) -> TaggedParser<'a, Explicit, T, E> {
+        TaggedParser::new_explicit(class, tag, self)
+    }
+}
+
+/// Every value can be put under an implicit tag.
+pub trait AsTaggedImplicit<'a, E>: Sized {
+    /// The value under an implicit tag: as [`TaggedParser::new_implicit`].
+    fn implicit(
+        self,
+        class: Class,
+        constructed: bool,
+        tag: u32,
+    ) -> TaggedParser<'a, Implicit, Self, E>
+        ensures header { HasParts result.header class constructed (record { 0 = tag })
+            (forms.Definite 0) None }
+        ensures inner { result.inner ≡ self };
+}
+
+impl<'a, T: 'a, E> AsTaggedImplicit<'a, E> for T {
+    fn implicit(
+        self,
+        class: Class,
+        constructed: bool,
+        tag: u32,
+    ) -> TaggedParser<'a, Implicit, T, E> {
+        TaggedParser::new_implicit(class, constructed, tag, self)
+    }
+}
+
 /// The tag number is that of the header.
 impl<Kind, T, E> DynTagged for TaggedParser<'_, Kind, T, E> {
     ghost dyn_tag = { λ t. tag_of t.header };

@@ -1,0 +1,100 @@
+//! Values with the header of their explicit tag: their constraints, and their laws (X.690 8.14.2).
+ghost use Rattle.std.specs.Prelude.{◌≡◌};
+ghost use Rattle.x690.specs.Elements.{IsDerElement};
+ghost use Rattle.x690.specs.Faults.{DerElementFault};
+ghost use Rattle.x690.specs.Identifiers.{IsCutIdentifier};
+ghost use Rattle.x690.specs.Nested.{IsElement, ElementFault};
+ghost use Rattle.asn1_rs.specs.Any.{parts_of, DerElementGives};
+ghost use Rattle.asn1_rs.specs.Ber.{max_depth, EndsWithin};
+ghost use Rattle.asn1_rs.specs.Header.{identifier_of};
+ghost use Rattle.asn1_rs.specs.Header.Reading.{der_breach, ber_breach};
+ghost use Rattle.asn1_rs.specs.Laws.Forms.{der_strict};
+ghost use Rattle.asn1_rs.specs.Laws.Readers.{der_elements, ber_elements, der_breach_spares, ber_breach_spares};
+ghost use Rattle.asn1_rs.specs.Laws.Tagged.Explicit.{explicit_checks};
+ghost use Rattle.asn1_rs.specs.Laws.Tagged.Headed.{explicit_headed_lawful, explicit_headed_by_value, explicit_headed_writes_form, explicit_headed_has_form};
+ghost use Rattle.asn1_rs.specs.Laws.Tagged.Parser.{explicit_parser_exact, explicit_parser_spares};
+ghost use Rattle.asn1_rs.specs.Tagged.Explicit.{ExplicitCheckGives, InnerChecked};
+ghost use Rattle.asn1_rs.specs.Tagged.Headed.{explicit_headed};
+ghost use Rattle.asn1_rs.specs.ToDer.{IsWritable};
+
+use crate::asn1_types::any::Any;
+use crate::asn1_types::tagged::Explicit;
+use crate::asn1_types::tagged::parser::TaggedParser;
+use crate::der::element_by_der;
+use crate::error::Error;
+use crate::laws::{Grammar, LawfulBer, LawfulCheck, LawfulDer, LawfulItem, LawfulWrite};
+use crate::traits::CheckDerConstraints;
+
+/// Checks the first element in the contents octets, by DER.
+fn check_inner<T: CheckDerConstraints>(any: &Any<'_>) -> Result<(), Error>
+    ensures { InnerChecked DerElementGives T.check_gives (parts_of any.now) result }
+{
+    match element_by_der(any.content) {
+        Ok((_, inner)) => T::check_constraints(&inner),
+        Err(refusal) => Err(Error::from(refusal)),
+    }
+}
+
+impl<T: CheckDerConstraints> CheckDerConstraints for TaggedParser<'_, Explicit, T, Error> {
+    ghost check_gives = { ExplicitCheckGives DerElementGives T.check_gives };
+
+    /// Refuses an indefinite length with `IndefiniteLengthUnexpected`, and contents octets that do not begin with an
+    /// element by DER that keeps the constraints of the value.
+    fn check_constraints(any: &Any<'_>) -> Result<(), Error>
+        ensures { ExplicitCheckGives DerElementGives T.check_gives (parts_of any.now) result }
+    {
+        any.header.length().assert_definite()?;
+        check_inner::<T>(any)
+    }
+}
+
+/// Its value is that under the tag, with the identifier of the header.
+impl<T: Grammar> Grammar for TaggedParser<'_, Explicit, T, Error> {
+    ghost grammar = { explicit_headed (λ t. identifier_of t.header) (λ t. t.inner) T.grammar };
+}
+
+impl<T: LawfulItem> LawfulItem for TaggedParser<'_, Explicit, T, Error> {
+    ghost lawful_item = { explicit_headed_lawful (λ t. identifier_of t.header) (λ t. t.inner)
+        T.grammar T.lawful_item };
+}
+
+impl<T: LawfulWrite> LawfulWrite for TaggedParser<'_, Explicit, T, Error> {
+    ghost tells_all = { λ t. T.tells_all t.inner };
+
+    ghost by_value = { explicit_headed_by_value (λ t. identifier_of t.header) (λ t. t.inner)
+        T.grammar.value T.constructed T.header T.content T.by_value };
+
+    ghost form = { explicit_headed_writes_form (λ t. identifier_of t.header) (λ t. t.inner)
+        T.grammar.value T.constructed T.header T.content T.grammar.Form T.count_refuses
+        T.header_refuses T.content_refuses T.form };
+
+    ghost der_form = { explicit_headed_has_form (λ t. identifier_of t.header) (λ t. t.inner)
+        T.grammar.value T.constructed T.header T.content T.grammar.Form T.grammar.IsDer
+        (der_strict T.grammar.value T.grammar.IsDer T.grammar.Form
+        (λ x. IsWritable (T.count_refuses x) (T.header_refuses x) (T.content_refuses x))
+        T.constructed T.header T.content T.form T.der_form T.lawful_item.form_fits) };
+}
+
+impl<T: LawfulCheck> LawfulCheck for TaggedParser<'_, Explicit, T, Error> {
+    ghost checks = { explicit_checks IsDerElement DerElementFault IsCutIdentifier der_elements
+        der_breach der_breach_spares T.check_gives T.grammar.Check T.checks };
+}
+
+impl<'a, T: LawfulBer<'a, Error>> LawfulBer<'a, Error> for TaggedParser<'a, Explicit, T, Error> {
+    ghost ber_exact = { λ input answer octets. explicit_parser_exact (IsElement max_depth)
+        (ElementFault max_depth) EndsWithin ber_elements ber_breach T.ber_gives (λ x y. y ≡ x)
+        T.grammar.Ber T.grammar.value T.grammar.allocates T.ber_exact input answer };
+
+    ghost ber_spares = { λ none. explicit_parser_spares (IsElement max_depth)
+        (ElementFault max_depth) ber_breach ber_breach_spares T.ber_gives (λ x y. y ≡ x)
+        (T.ber_spares none) };
+}
+
+impl<'a, T: LawfulDer<'a, Error>> LawfulDer<'a, Error> for TaggedParser<'a, Explicit, T, Error> {
+    ghost der_exact = { λ input answer octets. explicit_parser_exact IsDerElement DerElementFault
+        IsCutIdentifier der_elements der_breach T.der_gives (λ x y. y ≡ x) T.grammar.Der
+        T.grammar.value T.grammar.allocates T.der_exact input answer };
+
+    ghost der_spares = { λ none. explicit_parser_spares IsDerElement DerElementFault der_breach
+        der_breach_spares T.der_gives (λ x y. y ≡ x) (T.der_spares none) };
+}

@@ -1,0 +1,124 @@
+//! Values with the header of their implicit tag: their constraints, and their laws (X.690 8.14.3).
+ghost use Rattle.std.specs.Prelude.{ℕ, ◌≡◌, ◌<◌};
+ghost use Rattle.x690.specs.Elements.{IsDerElement};
+ghost use Rattle.x690.specs.Faults.{DerElementFault};
+ghost use Rattle.x690.specs.Identifiers.{IsCutIdentifier};
+ghost use Rattle.x690.specs.Nested.{IsElement, ElementFault};
+ghost use Rattle.asn1_rs.specs.Any.{parts_of};
+ghost use Rattle.asn1_rs.specs.Ber.{max_depth, EndsWithin};
+ghost use Rattle.asn1_rs.specs.Grammar.{FormTakes};
+ghost use Rattle.asn1_rs.specs.Header.{identifier_of};
+ghost use Rattle.asn1_rs.specs.Header.Reading.{der_breach, ber_breach};
+ghost use Rattle.asn1_rs.specs.Laws.Readers.{der_elements, ber_elements, der_breach_spares, ber_breach_spares};
+ghost use Rattle.asn1_rs.specs.Laws.Tagged.Headed.{each_class, implicit_headed_lawful, implicit_headed_by_value, implicit_headed_writes_form, implicit_headed_has_form};
+ghost use Rattle.asn1_rs.specs.Laws.Tagged.Implicit.{implicit_checked};
+ghost use Rattle.asn1_rs.specs.Laws.Tagged.Parser.{checked_exact, checked_spares, implicit_parser_exact, implicit_parser_spares};
+ghost use Rattle.asn1_rs.specs.Tagged.Headed.{CheckedBody, implicit_headed};
+ghost use Rattle.asn1_rs.specs.Tagged.Implicit.{ImplicitCheckGives};
+ghost use Rattle.asn1_rs.specs.Tagged.Parser.{ChecksAndConverts};
+
+use crate::asn1_types::any::Any;
+use crate::asn1_types::tagged::Implicit;
+use crate::asn1_types::tagged::implicit_value::check_under;
+use crate::asn1_types::tagged::parser::TaggedParser;
+use crate::error::Error;
+use crate::laws::{
+    Grammar, LawfulBer, LawfulBody, LawfulCheck, LawfulDer, LawfulItem, LawfulTagged, LawfulWrite,
+    TakesClass,
+};
+use crate::traits::{CheckDerConstraints, Tagged};
+
+/// A type whose values keep constraints and conversion under an implicit tag of each of the four classes, as those that
+/// bear no tag of their own do.
+pub trait TakesEachClass: LawfulTagged {
+    /// The strict parts of a value meet both under each class.
+    ghost takes_each: { (class : ℕ) → class < 4 →
+        FormTakes Self.grammar.Form Self.grammar.Check Self.grammar.Body class };
+}
+
+impl<T> TakesEachClass for T
+where
+    T: TakesClass<0> + TakesClass<1> + TakesClass<2> + TakesClass<3>,
+{
+    ghost takes_each = { each_class
+        (FormTakes T.grammar.Form T.grammar.Check T.grammar.Body) T.TakesClass-1.takes_class
+        T.TakesClass-2.takes_class T.TakesClass-3.takes_class T.TakesClass-4.takes_class };
+}
+
+impl<T> CheckDerConstraints for TaggedParser<'_, Implicit, T, Error>
+where
+    T: CheckDerConstraints + Tagged,
+{
+    ghost check_gives = { ImplicitCheckGives (T.mark).0 T.check_gives };
+
+    /// Refuses an indefinite length with `IndefiniteLengthUnexpected`, and an element that does not keep the constraints
+    /// of the value under the tag number of its type.
+    fn check_constraints(any: &Any<'_>) -> Result<(), Error>
+        ensures { ImplicitCheckGives (T.mark).0 T.check_gives (parts_of any.now) result }
+    {
+        any.header.length().assert_definite()?;
+        check_under::<T>(any)
+    }
+}
+
+/// Its value is that under the tag, with the identifier of the header.
+impl<T: Grammar + Tagged> Grammar for TaggedParser<'_, Implicit, T, Error> {
+    ghost grammar = { implicit_headed (λ t. identifier_of t.header) (T.mark).0 (λ t. t.inner)
+        T.grammar };
+}
+
+impl<T: TakesEachClass> LawfulItem for TaggedParser<'_, Implicit, T, Error> {
+    ghost lawful_item = { implicit_headed_lawful (λ t. identifier_of t.header) (T.mark).0
+        (λ t. t.inner) T.grammar T.lawful_item T.number_fits T.tag_number T.takes_each };
+}
+
+impl<T: LawfulWrite + TakesEachClass> LawfulWrite for TaggedParser<'_, Implicit, T, Error> {
+    ghost tells_all = { λ t. T.tells_all t.inner };
+
+    ghost by_value = { implicit_headed_by_value (λ t. identifier_of t.header) (λ t. t.inner)
+        T.grammar.value T.constructed T.header T.content T.by_value };
+
+    ghost form = { implicit_headed_writes_form (λ t. identifier_of t.header) (λ t. t.inner)
+        T.grammar.value T.constructed T.header T.content T.grammar.Form T.count_refuses
+        T.header_refuses T.content_refuses T.form };
+
+    ghost der_form = { implicit_headed_has_form (λ t. identifier_of t.header) (λ t. t.inner)
+        T.grammar.value T.constructed T.header T.content T.grammar.Form T.grammar.IsDer
+        T.der_form };
+}
+
+impl<T: LawfulCheck + TakesEachClass> LawfulCheck for TaggedParser<'_, Implicit, T, Error> {
+    ghost checks = { implicit_checked (T.mark).0 T.check_gives T.grammar.Check T.checks };
+}
+
+impl<'a, T> LawfulBer<'a, Error> for TaggedParser<'a, Implicit, T, Error>
+where
+    T: LawfulBody<'a, Error> + TakesEachClass,
+{
+    ghost ber_exact = { λ input answer octets. implicit_parser_exact (IsElement max_depth)
+        (ElementFault max_depth) ber_breach T.mark T.any_gives (λ x y. y ≡ x) EndsWithin
+        ber_elements T.grammar.Body T.grammar.value T.grammar.allocates T.body_exact input
+        answer };
+
+    ghost ber_spares = { λ none. implicit_parser_spares (IsElement max_depth)
+        (ElementFault max_depth) ber_breach T.mark T.any_gives (λ x y. y ≡ x) ber_breach_spares
+        (T.body_spares none) };
+}
+
+impl<'a, T> LawfulDer<'a, Error> for TaggedParser<'a, Implicit, T, Error>
+where
+    T: LawfulBody<'a, Error> + LawfulCheck + TakesEachClass,
+{
+    ghost der_exact = { λ input answer octets. implicit_parser_exact IsDerElement DerElementFault
+        der_breach T.mark (ChecksAndConverts T.check_gives T.any_gives (λ x y. y ≡ x))
+        (λ x y. y ≡ x) IsCutIdentifier der_elements (CheckedBody T.grammar.Check T.grammar.Body)
+        T.grammar.value T.grammar.allocates
+        (checked_exact T.check_gives T.grammar.Check T.checks T.any_gives (λ x y. y ≡ x)
+        T.grammar.Body T.grammar.value T.grammar.allocates T.body_exact) input answer };
+
+    ghost der_spares = { λ none. implicit_parser_spares IsDerElement DerElementFault der_breach
+        T.mark (ChecksAndConverts T.check_gives T.any_gives (λ x y. y ≡ x)) (λ x y. y ≡ x)
+        der_breach_spares
+        (checked_spares T.check_gives T.checks.spares T.any_gives (λ x y. y ≡ x)
+        (T.body_spares none)) };
+}
