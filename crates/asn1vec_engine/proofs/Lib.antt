@@ -8,6 +8,7 @@ pub mod OneItem
 pub mod OneList
 pub mod OneReading
 pub mod OneRefusal
+pub mod OneTag
 pub mod ShownLaws
 pub mod Split
 pub mod Walks

@@ -49,7 +49,7 @@ use Rattle.asn1vec_engine.specs.declared.request.Rule.TheVariants.{Ber, Der}
 use Rattle.asn1vec_engine.specs.Shown.{Encoding, IsUnwritten, IsWritten, Reading, Same, StrictEncodingIfAny, list_text}
 use Rattle.asn1_rs.specs.declared.asn1_types.sequence.sequence_of.SequenceOf.{SequenceOf}
 use Rattle.asn1_rs.specs.Sequence.SequenceOf.{IsSequenceOf, sequence_items}
-use Rattle.asn1vec_engine.specs.Types.{Item, collection, leaf_item, ordered_set, sequence, sequence_of, unordered_set, unsigned_item, vector}
+use Rattle.asn1vec_engine.specs.Types.{Item, alone, collection, leaf_item, ordered_set, sequence, sequence_of, unordered_set, unsigned_item, vector}
 use Rattle.asn1vec_engine.proofs.OneList.{IsOneReader, read_by_der, taken_by_ber, taken_by_der}
 use Rattle.asn1vec_engine.proofs.OneReading.{HasOneAnswer, SameEncoding, SameReading, ShownAlike, ber_same, der_same, readings_weaker, written_same}
 use Rattle.asn1vec_engine.proofs.OneRefusal.{IsOneRefusal, IsOneRefusalBut, one_of_parts}
@@ -198,7 +198,7 @@ leaf_item_once L text lawful =
       lawful = lawful_item (leaf_element L) (leaf_lawful L lawful);
     }
 
--- ---- what a name of lists or sets stands for
+-- ---- what a name of items stands for
 
 both_unwritten : (allocates : Bool) (e f : Encoding) → IsUnwritten allocates e → IsUnwritten allocates f → SameEncoding allocates e f
 both_unwritten allocates e f (inl is) (inl too) = rw (is, too) (inl refl)
@@ -218,12 +218,15 @@ module _ {V : Type 0} (Form : V → Identifier → List ℕ → Type 0) (one : I
   if_any_same : (v w : V) → v ≡ w → (e f : Encoding) → StrictEncodingIfAny Form allocates v e → StrictEncodingIfAny Form allocates w f → SameEncoding allocates e f
   if_any_same v w same e f h k = one_if_any w e f (subst (λ (x : V). StrictEncodingIfAny Form allocates x e) same h) k
 
-pub collection_once : (I : Item) → IsOneItem I → HasOneAnswer (collection I)
-collection_once I one rule octets a b p q = readings_weaker (λ x y. one.view x ≡ one.view y) (ShownAlike (collection I)) I.grammar.allocates shown a b (read rule p q)
+pub alone_once : (allocates : Bool) (I : Item) → IsOneItem I → HasOneAnswer (alone allocates I)
+alone_once allocates I one rule octets a b p q = readings_weaker (λ x y. one.view x ≡ one.view y) (ShownAlike (alone allocates I)) I.grammar.allocates shown a b (read rule p q)
   where
-    shown : (x y : I.T) → one.view x ≡ one.view y → ShownAlike (collection I) x y
-    shown x y same = record { text = one.text x y same; encoding = if_any_same I.grammar.Form one.lawful.one_form true (I.grammar.value x) (I.grammar.value y) (one.value x y same) }
+    shown : (x y : I.T) → one.view x ≡ one.view y → ShownAlike (alone allocates I) x y
+    shown x y same = record { text = one.text x y same; encoding = if_any_same I.grammar.Form one.lawful.one_form allocates (I.grammar.value x) (I.grammar.value y) (one.value x y same) }
 
-    read : (rule : Rule) → (collection I).Reads rule octets a → (collection I).Reads rule octets b → SameReading (λ x y. one.view x ≡ one.view y) I.grammar.allocates a b
+    read : (rule : Rule) → (alone allocates I).Reads rule octets a → (alone allocates I).Reads rule octets b → SameReading (λ x y. one.view x ≡ one.view y) I.grammar.allocates a b
     read Ber p q = one.ber octets a b p.1 q.1
     read Der p q = one.der octets a b p.1 q.1
+
+pub collection_once : (I : Item) → IsOneItem I → HasOneAnswer (collection I)
+collection_once = alone_once true

@@ -21,6 +21,9 @@ use Rattle.asn1_rs.specs.declared.asn1_types.set.set_of.SetOf.{SetOf}
 use Rattle.asn1_rs.specs.Set.{HasItems, is_below, items_of, member_grammar, multiset_grammar}
 use Rattle.asn1_rs.specs.Null.{null_leaf}
 use Rattle.asn1_rs.specs.OctetString.{octet_string_leaf}
+use Rattle.asn1_rs.specs.declared.asn1_types.tagged.Explicit.{Explicit}
+use Rattle.asn1_rs.specs.declared.asn1_types.tagged.TaggedValue.{TaggedValue}
+use Rattle.asn1_rs.specs.Tagged.Explicit.{ExplicitGives, ExplicitTakes, explicit_grammar}
 use Rattle.asn1_rs.specs.Kept.{LendsContent, sequence_leaf, set_leaf}
 use Rattle.asn1_rs.specs.declared.asn1_types.sequence.sequence_of.SequenceOf.{SequenceOf}
 use Rattle.asn1_rs.specs.Sequence.SequenceOf.{IsSequenceOf, sequence_items}
@@ -35,7 +38,7 @@ use Rattle.asn1_rs.specs.Grammar.{BerWord, DerWord}
 use Rattle.asn1_rs.specs.Integer.{IntegerCheck, IntegerCheckGives, IntegerBody, IntegerForm, integer_element, IntegerGives, IsUnsigned, UnsignedGives, UnsignedRefuses, SignedRefuses}
 use Rattle.asn1vec_engine.specs.declared.request.Rule.{Rule}
 use Rattle.asn1vec_engine.specs.declared.types.TypeName.{TypeName}
-use Rattle.asn1vec_engine.specs.declared.types.TypeName.TheVariants.{U8, U16, U32, U64, U128, I8, I16, I32, I64, I128, Any, Bool, Null, Enumerated, Integer, Octets, Bits, Eoc, VecU8, VecU32, VecBool, VecVecU8, SetOfU8, BTreeSetU8, Sequence, Set, SeqOfU32}
+use Rattle.asn1vec_engine.specs.declared.types.TypeName.TheVariants.{U8, U16, U32, U64, U128, I8, I16, I32, I64, I128, Any, Bool, Null, Enumerated, Integer, Octets, Bits, Eoc, VecU8, VecU32, VecBool, VecVecU8, SetOfU8, BTreeSetU8, Sequence, Set, SeqOfU32, Explicit0U32, Explicit31U8}
 use Rattle.asn1vec_engine.specs.Meaning.{Meaning, ReadsByEither, is_ber}
 use Rattle.asn1vec_engine.specs.Shown.{IsReadAnswer, IsWritten, ReadsByBer, Reading, Same, StrictEncoding, StrictEncodingIfAny, bits_text, element_text, in_hexadecimal, list_text, truth_text}
 
@@ -67,6 +70,8 @@ name_of BTreeSetU8 = codes "btreeset.u8"
 name_of Sequence = codes "sequence"
 name_of Set = codes "set"
 name_of SeqOfU32 = codes "seqof.u32"
+name_of Explicit0U32 = codes "explicit0.u32"
+name_of Explicit31U8 = codes "explicit31.u8"
 
 -- integers, there by either rule: in decimals, with the strict encoding that each has which the type holds
 abbrev pub integers : {T : Type 0} → (T → ℤ) → (ℤ → Type 0) → (List ℕ → Error → Type 0) → Meaning
@@ -204,17 +209,31 @@ ordered_set I cmp = record {
   text_of = λ s. list_text I.text_of s.keys;
 }
 
--- lists and sets, there by either rule: shown by their items, with the strict encoding of the value, unless that is too long
-abbrev pub collection : Item → Meaning
-collection I = record {
+-- values under an explicit, context-specific tag of this number: shown as without it
+abbrev pub explicit : ℕ → Item → Item
+explicit number I = record {
+  T = TaggedValue I.T Error Explicit 2 number;
+  grammar = explicit_grammar 2 number (λ t. t.inner) I.grammar;
+  ber_gives = BerGives (OfParts (ExplicitTakes 2 number (λ t. t.inner) I.ber_gives Same)) Same;
+  der_gives = ExplicitGives 2 number (λ t. t.inner) I.der_gives Same;
+  text_of = λ t. I.text_of t.inner;
+}
+
+-- items, there by either rule, the writer of which may allocate: with the strict encoding of the value, unless that is too long
+abbrev pub alone : Truth → Item → Meaning
+alone allocates I = record {
   T = I.T;
   is_there = λ rule. true;
   Reads = ReadsByEither I.grammar.Ber I.grammar.Der I.grammar.value I.grammar.allocates I.ber_gives I.der_gives;
   text_of = I.text_of;
-  Encodes = λ x. StrictEncodingIfAny I.grammar.Form true (I.grammar.value x);
+  Encodes = λ x. StrictEncodingIfAny I.grammar.Form allocates (I.grammar.value x);
   reading_allocates = I.grammar.allocates;
-  writing_allocates = true;
+  writing_allocates = allocates;
 }
+
+-- lists and sets: shown by their items
+abbrev pub collection : Item → Meaning
+collection = alone true
 
 abbrev pub meaning_of : TypeName → Meaning
 meaning_of U8 = unsigned 1
@@ -244,6 +263,8 @@ meaning_of BTreeSetU8 = collection (ordered_set (unsigned_item 1) nat_cmp)
 meaning_of Sequence = lent_leaf sequence_leaf (λ x. x.content) in_hexadecimal
 meaning_of Set = lent_leaf set_leaf (λ x. x.content) in_hexadecimal
 meaning_of SeqOfU32 = collection (sequence_of (unsigned_item 4))
+meaning_of Explicit0U32 = alone false (explicit 0 (unsigned_item 4))
+meaning_of Explicit31U8 = alone false (explicit 31 (unsigned_item 1))
 
 -- lists and sets, whose readers and writers allocate
 abbrev pub has_items : TypeName → Truth

@@ -15,7 +15,7 @@ use crate::text::push_str;
 use crate::types::{TypeName, type_named};
 use asn1_rs::{
     Any, BitString, EndOfContent, Enumerated, Error, Integer, LawfulBer, LawfulDer, Null,
-    OctetString, Sequence, SequenceOf, Set, SetOf,
+    OctetString, Sequence, SequenceOf, Set, SetOf, TaggedExplicit,
 };
 use std::alloc::{AllocError, Global};
 use std::collections::BTreeSet;
@@ -85,6 +85,12 @@ fn push_by_type(
         TypeName::Sequence => push_by_either::<Sequence<'_>>(alloc, rule, octets, buffer, text),
         TypeName::Set => push_by_either::<Set<'_>>(alloc, rule, octets, buffer, text),
         TypeName::SeqOfU32 => push_by_either::<SequenceOf<u32>>(alloc, rule, octets, buffer, text),
+        TypeName::Explicit0U32 => {
+            push_by_either::<TaggedExplicit<u32, Error, 0>>(alloc, rule, octets, buffer, text)
+        }
+        TypeName::Explicit31U8 => {
+            push_by_either::<TaggedExplicit<u8, Error, 31>>(alloc, rule, octets, buffer, text)
+        }
     }
 }
 

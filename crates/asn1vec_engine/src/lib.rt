@@ -11,6 +11,7 @@ mod names;
 mod numbers;
 mod request;
 mod shown;
+mod tags;
 mod text;
 mod types;
 

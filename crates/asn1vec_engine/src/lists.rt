@@ -51,7 +51,7 @@ fn are_writable<'a, T: Item + 'a, I: Iterator<Item = &'a T> + Drop>(items: I)
 }
 
 /// States of a value in DER form, with no refusal of its own, what its writing says.
-fn writing_is_strict<T: LawfulWrite>(x: &T)
+pub(crate) fn writing_is_strict<T: LawfulWrite>(x: &T)
     requires der { T.grammar.IsDer (T.grammar.value x.now) }
     requires writable { IsWritable (T.count_refuses x.now) (T.header_refuses x.now)
         (T.content_refuses x.now) }

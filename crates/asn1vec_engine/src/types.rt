@@ -35,6 +35,8 @@ pub(crate) enum TypeName {
     Sequence,
     Set,
     SeqOfU32,
+    Explicit0U32,
+    Explicit31U8,
 }
 
 impl TypeName {
@@ -59,6 +61,12 @@ fn type_of(name: &[u8]) -> Option<TypeName>
     }
     if name == b"seqof.u32".as_slice() {
         return Some(TypeName::SeqOfU32);
+    }
+    if name == b"explicit0.u32".as_slice() {
+        return Some(TypeName::Explicit0U32);
+    }
+    if name == b"explicit31.u8".as_slice() {
+        return Some(TypeName::Explicit31U8);
     }
     match name {
         b"u8" => Some(TypeName::U8),
