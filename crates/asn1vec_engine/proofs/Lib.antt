@@ -1,6 +1,7 @@
 pub mod Appended
 pub mod Gained
 pub mod Hexadecimal
+pub mod InOrder
 pub mod LineLaws
 pub mod Moved
 pub mod OneAnswer

@@ -20,7 +20,7 @@ use Rattle.asn1_rs.specs.Sequence.Iterator.{TakesItem, EndsItem}
 use Rattle.asn1_rs.specs.Traits.{BerGives, DerGives, ElementGives, OfParts, PassesAll}
 use Rattle.asn1_rs.specs.Laws.Readers.{AreElements, ber_elements, der_elements}
 use Rattle.asn1vec_engine.specs.Shown.{Reading, Same}
-use Rattle.asn1vec_engine.proofs.OneRefusal.{IsSameBut, no_memory, one_reading_refusal, same_parts, same_rest, element_or_fault}
+use Rattle.asn1vec_engine.proofs.OneRefusal.{IsSameBut, no_memory, one_reading_refusal, same_parts, same_tail, element_or_fault}
 use Rattle.asn1vec_engine.proofs.OneReading.{SameReading, one_pass, passed}
 
 -- Two answers to the same octets are the same, as far as `view` sees of a value, but that one of them may be out of memory.
@@ -88,7 +88,7 @@ module _ (ElementOf : List ℕ → Parts → Type 0) (FaultOf : List ℕ → Fau
   one_element octets (Ok (rest, x)) (Ok (tail, y)) (any, begins, passes, is) (other, starts, passed, too) =
       let same = same_parts ElementOf FaultOf IsCut elements octets rest tail (parts_of any) (parts_of other) begins.front starts.front in (
         once (parts_of any) (Ok x) (Ok y) is (subst (λ (p : Parts). convert p (Ok y)) same too),
-        same_rest ElementOf FaultOf IsCut elements octets rest tail (parts_of any) (parts_of other) begins.front starts.front,
+        same_tail ElementOf FaultOf IsCut elements octets rest tail (parts_of any) (parts_of other) begins.front starts.front,
       )
   one_element octets (Ok (rest, x)) (Err r) (any, begins, passes, is) h = element_or_refused octets rest any x r begins is h
   one_element octets (Err q) (Ok (tail, y)) h (any, begins, passes, is) = element_or_refused octets tail any y q begins is h

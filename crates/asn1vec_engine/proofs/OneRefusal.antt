@@ -51,8 +51,8 @@ module _ (ElementOf : List ℕ → Parts → Type 0) (FaultOf : List ℕ → Fau
   pub same_parts : (input rest tail : List ℕ) (p o : Parts) → Front ElementOf input p rest → Front ElementOf input o tail → o ≡ p
   same_parts input rest tail p o f g = (elements.one.one g.word f.word tail rest o p g.fits f.fits (sym g.is ∙ f.is)).1
 
-  pub same_rest : (input rest tail : List ℕ) (p o : Parts) → Front ElementOf input p rest → Front ElementOf input o tail → rest ≡ tail
-  same_rest input rest tail p o f g =
+  pub same_tail : (input rest tail : List ℕ) (p o : Parts) → Front ElementOf input p rest → Front ElementOf input o tail → rest ≡ tail
+  same_tail input rest tail p o f g =
       let words = (elements.one.one f.word g.word rest tail p o f.fits g.fits (sym f.is ∙ g.is)).0 in
       append_cancel_left f.word rest tail (sym f.is ∙ g.is ∙ ap (λ (l : List ℕ). l ++ tail) (sym words))
 

@@ -17,7 +17,7 @@ use Rattle.asn1vec_engine.specs.Types.{Item, explicit}
 use Rattle.asn1vec_engine.proofs.OneItem.{IsOneItem}
 use Rattle.asn1vec_engine.proofs.OneList.{IsOneConversion, IsOneReader, flattened_memory, flattened_same, one_element}
 use Rattle.asn1vec_engine.proofs.OneReading.{SameReading}
-use Rattle.asn1vec_engine.proofs.OneRefusal.{converted_same, element_or_fault, same_parts, same_rest}
+use Rattle.asn1vec_engine.proofs.OneRefusal.{converted_same, element_or_fault, same_parts, same_tail}
 
 module _ {T W D : Type 0} (class number : ℕ) (inner : W → T) (view : T → D) (allocates : Bool) (reads : List ℕ → Reading T → Type 0) (once : IsOneReader view allocates reads) where
   -- by BER: the conversion of the element
@@ -61,7 +61,7 @@ module _ {T W D : Type 0} (class number : ℕ) (inner : W → T) (view : T → D
   explicit_by_der : IsOneReader (λ w. view (inner w)) allocates (ExplicitGives class number inner reads Same)
   explicit_by_der octets (Ok (rest, v)) (Ok (tail, w)) (p, f, (left, is)) (o, g, (over, too)) = (
     (in_one_element octets rest tail p o (Ok (left, inner v)) (Ok (over, inner w)) f g is too).0,
-    same_rest IsDerElement DerElementFault IsCutIdentifier der_elements octets rest tail p o f g,
+    same_tail IsDerElement DerElementFault IsCutIdentifier der_elements octets rest tail p o f g,
   )
   explicit_by_der octets (Ok (rest, v)) (Err r) (p, f, given) (inl (fault, why, told)) = absurd (element_or_fault IsDerElement DerElementFault IsCutIdentifier der_elements der_breach octets rest p fault f why)
   explicit_by_der octets (Ok (rest, v)) (Err r) (p, f, (left, is)) (inr (o, tail, g, too)) = in_one_element octets rest tail p o (Ok (left, inner v)) (Err r) f g is too

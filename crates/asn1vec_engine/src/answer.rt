@@ -5,20 +5,22 @@ ghost use Rattle.std.specs.List.Sorted.{IsStrictlyIncreasing};
 ghost use Rattle.asn1vec_engine.specs.declared.types.TypeName.TheVariants.{BTreeSetU8};
 ghost use Rattle.asn1vec_engine.specs.Answer.{IsAnswer, IsAnswerLine, IsRequestAnswer};
 ghost use Rattle.asn1vec_engine.specs.Memory.{AreAlike, AsksForNoItems, TakesNoMemory};
-ghost use Rattle.asn1vec_engine.specs.Shown.{Gains, IsReadAnswer, list_text};
-ghost use Rattle.asn1vec_engine.specs.Meaning.{ReadsByEither};
+ghost use Rattle.asn1vec_engine.specs.Shown.{Gains, HeldEncoding, IsReadAnswer, list_text, option_text};
+ghost use Rattle.asn1vec_engine.specs.Meaning.{ReadsByEither, ReadsOptional};
 ghost use Rattle.asn1vec_engine.specs.Types.{IsTypeAnswer, meaning_of};
 
 use crate::request::{Request, Rule, read_request};
-use crate::shown::{Shown, push_by_ber, push_by_der};
+use crate::options::{optional_by_ber, optional_by_der};
+use crate::shown::{Encoded, Shown, push_by_ber, push_by_der, push_reading};
 use crate::text::push_str;
 use crate::types::{TypeName, type_named};
 use asn1_rs::{
     Any, BitString, EndOfContent, Enumerated, Error, Integer, LawfulBer, LawfulDer, Null,
-    OctetString, Sequence, SequenceOf, Set, SetOf, TaggedExplicit,
+    OctetString, Sequence, SequenceOf, Set, SetOf, Tagged,
+    TaggedExplicit,
 };
 use std::alloc::{AllocError, Global};
-use std::collections::BTreeSet;
+use std::collections::{BTreeSet, HashSet};
 
 /// The most octets of a line, without its end.
 pub(crate) const LONGEST_LINE: usize = 65_536;
@@ -42,6 +44,29 @@ where
     match rule {
         Rule::Ber => push_by_ber::<T>(alloc, octets, buffer, text),
         Rule::Der => push_by_der::<T>(alloc, octets, buffer, text),
+    }
+}
+
+/// Appends the answer to octets that are read by either rule as an optional value.
+fn push_optional<'a, T>(
+    alloc: Global,
+    rule: Rule,
+    octets: &'a [u8],
+    buffer: &mut Vec<u8>,
+    text: &mut Vec<u8>,
+) -> Result<(), AllocError>
+where
+    T: LawfulBer<'a, Error> + LawfulDer<'a, Error> + Tagged + Encoded + Drop,
+    ensures { OnOk result
+        (Gains text.old.items text.new.items
+        (IsReadAnswer
+        (ReadsOptional (T.mark).0
+        (ReadsByEither T.grammar.Ber T.grammar.Der T.grammar.value T.grammar.allocates T.ber_gives
+        T.der_gives) rule) (option_text T.text_of) (HeldEncoding T.Encodes) octets.now)) }
+{
+    match rule {
+        Rule::Ber => push_reading(alloc, optional_by_ber::<T, Error>(alloc, octets), buffer, text),
+        Rule::Der => push_reading(alloc, optional_by_der::<T, Error>(alloc, octets), buffer, text),
     }
 }
 
@@ -91,6 +116,11 @@ fn push_by_type(
         TypeName::Explicit31U8 => {
             push_by_either::<TaggedExplicit<u8, Error, 31>>(alloc, rule, octets, buffer, text)
         }
+        TypeName::VecExplicit31U8 => {
+            push_by_either::<Vec<TaggedExplicit<u8, Error, 31>>>(alloc, rule, octets, buffer, text)
+        }
+        TypeName::OptU8 => push_optional::<u8>(alloc, rule, octets, buffer, text),
+        TypeName::HashSetI8 => push_by_either::<HashSet<i8>>(alloc, rule, octets, buffer, text),
     }
 }
 

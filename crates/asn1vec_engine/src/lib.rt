@@ -9,6 +9,7 @@ mod leaves;
 mod lists;
 mod names;
 mod numbers;
+mod options;
 mod request;
 mod shown;
 mod tags;

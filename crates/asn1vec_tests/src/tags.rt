@@ -36,3 +36,25 @@ der explicit0.u8 a003020105 = err Type
 fn explicit_tags_are_answered(rt: HostRuntime) -> Result<(), Fail> {
     assert_lines(rt.alloc(), EXPLICIT)
 }
+
+/// Optional values: none where no octets or a header of another tag number are at the front.
+const OPTIONAL: &str = "\
+der opt.u8 0400 = ok none rest 0400 enc -
+der opt.u8 - = ok none rest - enc -
+der opt.u8 020107 = ok some 7 rest - enc 020107
+der opt.u8 820105 = ok some 5 rest - enc 020105
+ber opt.u8 0480 = err ConstructExpected
+der opt.u8 0480 = err DerConstraintFailed(IndefiniteLength)
+ber opt.u8 2480 = ok none rest 2480 enc -
+der opt.u8 0405 = ok none rest 0405 enc -
+der opt.u8 04 = err Incomplete(1)
+der opt.u8 0202 = err Incomplete(2)
+der opt.u8 02020005 = err DerConstraintFailed(IntegerLeadingZeroes)
+ber opt.u8 02020005ff = ok some 5 rest ff enc 020105
+der opt.u8 020200ff = ok some 255 rest - enc 020200ff
+";
+
+#[test]
+fn optional_values_are_answered(rt: HostRuntime) -> Result<(), Fail> {
+    assert_lines(rt.alloc(), OPTIONAL)
+}

@@ -86,3 +86,12 @@ returns-in-Explicit0U32 c = rw c.in-Explicit0U32.is c.push_by_either-in-Explicit
 
 pub returns-in-Explicit31U8 : goal.returns-in-Explicit31U8
 returns-in-Explicit31U8 c = rw c.in-Explicit31U8.is c.push_by_either-in-Explicit31U8.ensures
+
+pub returns-in-VecExplicit31U8 : goal.returns-in-VecExplicit31U8
+returns-in-VecExplicit31U8 c = rw c.in-VecExplicit31U8.is c.push_by_either-in-VecExplicit31U8.ensures
+
+pub returns-in-OptU8 : goal.returns-in-OptU8
+returns-in-OptU8 c = rw c.in-OptU8.is c.push_optional.ensures
+
+pub returns-in-HashSetI8 : goal.returns-in-HashSetI8
+returns-in-HashSetI8 c = rw c.in-HashSetI8.is c.push_by_either-in-HashSetI8.ensures
