@@ -1,5 +1,5 @@
 -- What a name stands for has one answer to octets, except when out of memory, where two readings and two encodings are the same but for that.
-use Rattle.std.proofs.Common.{◌≡◌, ◌∙◌, ◌≤◌, ◌^◌, sym, ap, subst, refl, List, ◌++◌, length, ℕ, Bool, true, false, ◌⊎◌, inl, inr, None, Some, Result, Ok, Err, arith, codes, append_assoc}
+use Rattle.std.proofs.Common.{◌≡◌, ◌∙◌, ◌≤◌, ◌^◌, sym, ap, subst, refl, List, [], ◌++◌, length, ℕ, Bool, true, false, ◌⊎◌, inl, inr, None, Some, Result, Ok, Err, arith, codes, append_assoc}
 use Rattle.std.proofs.lemmas.List.{append_cancel_left}
 use Rattle.x690.specs.Identifiers.{Identifier, IsCutIdentifier}
 use Rattle.x690.specs.Elements.{Parts, IsDerElement}
@@ -114,26 +114,6 @@ readings_weaker P Q allocates weaker (Ok x) (Err r) h = h
 readings_weaker P Q allocates weaker (Err q) (Ok y) h = h
 readings_weaker P Q allocates weaker (Err q) (Err r) h = h
 
--- what is held, or nothing, is read and shown once where what is held is
-module _ (number : ℕ) (m : Meaning) where
-  none_alike : ShownAlike (optional number m) None None
-  none_alike = record { text = refl; encoding = λ e f h k. rw (h, k) (inl refl) }
-
-  held_alike : (x y : m.T) → ShownAlike m x y → ShownAlike (optional number m) (Some x) (Some y)
-  held_alike x y same = record { text = ap (λ (l : List ℕ). codes "some " ++ l) same.text; encoding = same.encoding }
-
-  held_same : (a b : Reading m.T) → SameReading (ShownAlike m) m.reading_allocates a b → SameReading (ShownAlike (optional number m)) m.reading_allocates (in_some a) (in_some b)
-  held_same (Ok (rest, x)) (Ok (tail, y)) (same, equal) = (held_alike x y same, equal)
-  held_same (Ok x) (Err r) h = h
-  held_same (Err q) (Ok y) h = h
-  held_same (Err q) (Err r) h = h
-
-  pub optional_once : HasOneAnswer m → HasOneAnswer (optional number m)
-  optional_once one rule octets a b (inl (out, is)) (inl (also, too)) = rw (is, too) (none_alike, refl)
-  optional_once one rule octets a b (inl (out, is)) (inr (there, given)) = absurd (there out)
-  optional_once one rule octets a b (inr (there, given)) (inl (out, is)) = absurd (there out)
-  optional_once one rule octets a b (inr (there, (its, reads, is))) (inr (too, (other, also, equal))) = rw (is, equal) (held_same its other (one rule octets its other reads also))
-
 -- ---- lawful types
 
 -- writing into a vector is refused only where the encoding is too long, or when out of memory
@@ -221,3 +201,25 @@ module _ {T V : Type 0} (Body : Parts → V → Type 0) (value : T → V) (alloc
         → ReadsByEither (BerWord Body) (DerWord Check Body) value allocates (BerGives convert Same) (DerGives check convert Same) rule octets b → SameReading (λ x y. value x ≡ value y) allocates a b
     either_same Ber = ber_same
     either_same Der = der_same
+
+-- ---- optional values
+
+-- what is held, or nothing, is read and shown once where what is held is
+module _ (number : ℕ) (m : Meaning) where
+  none_alike : ShownAlike (optional number m) None None
+  none_alike = record { text = refl; encoding = λ e f h k. written_same m.writing_allocates [] e f h k }
+
+  held_alike : (x y : m.T) → ShownAlike m x y → ShownAlike (optional number m) (Some x) (Some y)
+  held_alike x y same = record { text = ap (λ (l : List ℕ). codes "some " ++ l) same.text; encoding = same.encoding }
+
+  held_same : (a b : Reading m.T) → SameReading (ShownAlike m) m.reading_allocates a b → SameReading (ShownAlike (optional number m)) m.reading_allocates (in_some a) (in_some b)
+  held_same (Ok (rest, x)) (Ok (tail, y)) (same, equal) = (held_alike x y same, equal)
+  held_same (Ok x) (Err r) h = h
+  held_same (Err q) (Ok y) h = h
+  held_same (Err q) (Err r) h = h
+
+  pub optional_once : HasOneAnswer m → HasOneAnswer (optional number m)
+  optional_once one rule octets a b (inl (out, is)) (inl (also, too)) = rw (is, too) (none_alike, refl)
+  optional_once one rule octets a b (inl (out, is)) (inr (there, given)) = absurd (there out)
+  optional_once one rule octets a b (inr (there, given)) (inl (out, is)) = absurd (there out)
+  optional_once one rule octets a b (inr (there, (its, reads, is))) (inr (too, (other, also, equal))) = rw (is, equal) (held_same its other (one rule octets its other reads also))

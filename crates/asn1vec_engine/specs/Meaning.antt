@@ -49,7 +49,7 @@ optional number m = record {
   is_there = m.is_there;
   Reads = ReadsOptional number m.Reads;
   text_of = option_text m.text_of;
-  Encodes = HeldEncoding m.Encodes;
+  Encodes = HeldEncoding m.writing_allocates m.Encodes;
   reading_allocates = m.reading_allocates;
   writing_allocates = m.writing_allocates;
 }

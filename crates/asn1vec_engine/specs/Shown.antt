@@ -137,9 +137,9 @@ StrictEncodingIfAny Form allocates v encoding =
     (((octets : List ℕ) → ¬ IsStrict Form v octets) × IsUnwritten allocates encoding)
 
 -- the encoding of what is held, or no octets
-abbrev pub HeldEncoding : {T : Type 0} → (T → Encoding → Type 0) → Option T → Encoding → Type 0
-HeldEncoding Encodes None encoding = encoding ≡ Some (Ok [])
-HeldEncoding Encodes (Some x) encoding = Encodes x encoding
+abbrev pub HeldEncoding : {T : Type 0} → Bool → (T → Encoding → Type 0) → Option T → Encoding → Type 0
+HeldEncoding allocates Encodes None encoding = IsWritten allocates [] encoding
+HeldEncoding allocates Encodes (Some x) encoding = Encodes x encoding
 
 -- ---- what functions on the way say
 

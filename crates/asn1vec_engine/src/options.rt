@@ -1,5 +1,5 @@
-//! Optional values: how they are read and shown, `none`, or `some` and the value.
-ghost use Rattle.std.specs.Prelude.{◌++◌, []};
+//! Optional values: how they are read, and shown as `none`, or `some` and the value.
+ghost use Rattle.std.specs.Prelude.{◌++◌, [], OnOk};
 ghost use Rattle.x690.specs.Identifiers.{IsCutIdentifier};
 ghost use Rattle.x690.specs.Rules.{ber_rule, der_rule};
 ghost use Rattle.asn1_rs.specs.Answers.{Exactly, TellsMemory, seen};
@@ -7,15 +7,15 @@ ghost use Rattle.asn1_rs.specs.Ber.{EndsWithin};
 ghost use Rattle.asn1_rs.specs.declared.error.SerializeError.{SerializeError};
 ghost use Rattle.asn1_rs.specs.Optional.{HeldRefuses, IsLeftOut, OptionGives, held_or};
 ghost use Rattle.asn1_rs.specs.ToDer.{Either, some_allocates};
-ghost use Rattle.asn1vec_engine.specs.Shown.{Encoding, HeldEncoding, IsWritten, option_text};
+ghost use Rattle.asn1vec_engine.specs.Shown.{Encoding, Gains, HeldEncoding, IsReadAnswer, IsWritten, ReadsByBer, ReadsByDer, option_text};
 
-use crate::shown::{Encoded, Shown, push_written};
+use crate::shown::{Encoded, Shown, push_reading, push_written};
 use crate::text::push_str;
 use asn1_rs::{Error, FromBer, FromDer, LawfulBer, LawfulDer, ParseResult, Tagged};
 use std::alloc::{AllocError, Global};
 
 /// Reads an optional value by BER: where one is there, exactly.
-pub(crate) fn optional_by_ber<'a, T, E>(alloc: Global, octets: &'a [u8]) -> ParseResult<'a, Option<T>, E>
+fn optional_by_ber<'a, T, E>(alloc: Global, octets: &'a [u8]) -> ParseResult<'a, Option<T>, E>
 where
     T: LawfulBer<'a, E> + Tagged,
     E: From<Error>,
@@ -28,7 +28,7 @@ where
 }
 
 /// Reads one by DER.
-pub(crate) fn optional_by_der<'a, T, E>(alloc: Global, octets: &'a [u8]) -> ParseResult<'a, Option<T>, E>
+fn optional_by_der<'a, T, E>(alloc: Global, octets: &'a [u8]) -> ParseResult<'a, Option<T>, E>
 where
     T: LawfulDer<'a, E> + Tagged,
     E: From<Error>,
@@ -40,6 +40,48 @@ where
     Option::<T>::from_der(alloc, octets)
 }
 
+/// Appends the answer to octets that are read by BER as an optional value.
+pub(crate) fn push_optional_by_ber<'a, T>(
+    alloc: Global,
+    octets: &'a [u8],
+    buffer: &mut Vec<u8>,
+    text: &mut Vec<u8>,
+) -> Result<(), AllocError>
+where
+    T: LawfulBer<'a, Error> + Tagged + Encoded + Drop,
+    ensures { OnOk result
+        (Gains text.old.items text.new.items
+        (IsReadAnswer
+        (OptionGives (IsLeftOut ber_rule (T.mark).0)
+        (ReadsByBer T.grammar.Ber T.grammar.value T.grammar.allocates T.ber_gives))
+        (option_text T.text_of)
+        (HeldEncoding (some_allocates T.write_allocates T.count_allocates T.content_allocates)
+        T.Encodes) octets.now)) }
+{
+    push_reading(alloc, optional_by_ber::<T, Error>(alloc, octets), buffer, text)
+}
+
+/// Appends the answer to octets that are read by DER as an optional value.
+pub(crate) fn push_optional_by_der<'a, T>(
+    alloc: Global,
+    octets: &'a [u8],
+    buffer: &mut Vec<u8>,
+    text: &mut Vec<u8>,
+) -> Result<(), AllocError>
+where
+    T: LawfulDer<'a, Error> + Tagged + Encoded + Drop,
+    ensures { OnOk result
+        (Gains text.old.items text.new.items
+        (IsReadAnswer
+        (OptionGives (IsLeftOut der_rule (T.mark).0)
+        (ReadsByDer T.grammar.Der T.grammar.value T.grammar.allocates T.der_gives))
+        (option_text T.text_of)
+        (HeldEncoding (some_allocates T.write_allocates T.count_allocates T.content_allocates)
+        T.Encodes) octets.now)) }
+{
+    push_reading(alloc, optional_by_der::<T, Error>(alloc, octets), buffer, text)
+}
+
 /// States of the value that is held what its type says of its writing.
 fn is_told_if_held<T: Encoded>(x: &Option<T>)
     ensures own { (e : SerializeError) →
@@ -47,7 +89,8 @@ fn is_told_if_held<T: Encoded>(x: &Option<T>)
     ensures told { (encoding : Encoding) →
         IsWritten (some_allocates T.write_allocates T.count_allocates T.content_allocates)
         (held_or [] T.header x.now ++ held_or [] T.content x.now) encoding →
-        HeldEncoding T.Encodes x.now encoding }
+        HeldEncoding (some_allocates T.write_allocates T.count_allocates T.content_allocates)
+        T.Encodes x.now encoding }
 {
     match x {
         Some(value) => value.is_told(),
@@ -55,11 +98,12 @@ fn is_told_if_held<T: Encoded>(x: &Option<T>)
     }
 }
 
-/// None has the empty encoding.
+/// None is written as no octets.
 impl<T: Encoded> Shown for Option<T> {
     ghost text_of = { option_text T.text_of };
 
-    ghost Encodes = { HeldEncoding T.Encodes };
+    ghost Encodes = { HeldEncoding
+        (some_allocates T.write_allocates T.count_allocates T.content_allocates) T.Encodes };
 
     fn show(&self, text: &mut Vec<u8>) -> Result<(), AllocError> {
         match self {
