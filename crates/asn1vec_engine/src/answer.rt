@@ -13,15 +13,14 @@ ghost use Rattle.asn1vec_engine.specs.Shown.{Gains, HeldEncoding, IsReadAnswer, 
 ghost use Rattle.asn1vec_engine.specs.Meaning.{ReadsByEither, ReadsOptional};
 ghost use Rattle.asn1vec_engine.specs.Types.{IsTypeAnswer, meaning_of};
 
+use crate::options::{optional_by_ber, optional_by_der};
 use crate::request::{Request, Rule, read_request};
-use crate::options::{push_optional_by_ber, push_optional_by_der};
-use crate::shown::{Encoded, Shown, push_by_ber, push_by_der};
+use crate::shown::{Encoded, Shown, push_by_ber, push_by_der, push_reading};
 use crate::text::push_str;
 use crate::types::{TypeName, type_named};
 use asn1_rs::{
     Any, BitString, EndOfContent, Enumerated, Error, Integer, LawfulBer, LawfulDer, Null,
-    OctetString, Sequence, SequenceOf, Set, SetOf, Tagged,
-    TaggedExplicit,
+    OctetString, Sequence, SequenceOf, Set, SetOf, Tagged, TaggedExplicit,
 };
 use std::alloc::{AllocError, Global};
 use std::collections::{BTreeSet, HashSet};
@@ -71,8 +70,18 @@ where
         T.Encodes) octets.now)) }
 {
     match rule {
-        Rule::Ber => push_optional_by_ber::<T>(alloc, octets, buffer, text),
-        Rule::Der => push_optional_by_der::<T>(alloc, octets, buffer, text),
+        Rule::Ber => push_reading(
+            alloc,
+            optional_by_ber::<T, Error>(alloc, octets),
+            buffer,
+            text,
+        ),
+        Rule::Der => push_reading(
+            alloc,
+            optional_by_der::<T, Error>(alloc, octets),
+            buffer,
+            text,
+        ),
     }
 }
 

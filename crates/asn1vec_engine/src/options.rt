@@ -1,5 +1,5 @@
 //! Optional values: how they are read, and shown as `none`, or `some` and the value.
-ghost use Rattle.std.specs.Prelude.{◌++◌, [], OnOk};
+ghost use Rattle.std.specs.Prelude.{◌++◌, []};
 ghost use Rattle.x690.specs.Identifiers.{IsCutIdentifier};
 ghost use Rattle.x690.specs.Rules.{ber_rule, der_rule};
 ghost use Rattle.asn1_rs.specs.Answers.{Exactly, TellsMemory, seen};
@@ -7,15 +7,18 @@ ghost use Rattle.asn1_rs.specs.Ber.{EndsWithin};
 ghost use Rattle.asn1_rs.specs.declared.error.SerializeError.{SerializeError};
 ghost use Rattle.asn1_rs.specs.Optional.{HeldRefuses, IsLeftOut, OptionGives, held_or};
 ghost use Rattle.asn1_rs.specs.ToDer.{Either, some_allocates};
-ghost use Rattle.asn1vec_engine.specs.Shown.{Encoding, Gains, HeldEncoding, IsReadAnswer, IsWritten, ReadsByBer, ReadsByDer, option_text};
+ghost use Rattle.asn1vec_engine.specs.Shown.{Encoding, HeldEncoding, IsWritten, option_text};
 
-use crate::shown::{Encoded, Shown, push_reading, push_written};
+use crate::shown::{Encoded, Shown, push_written};
 use crate::text::push_str;
 use asn1_rs::{Error, FromBer, FromDer, LawfulBer, LawfulDer, ParseResult, Tagged};
 use std::alloc::{AllocError, Global};
 
 /// Reads an optional value by BER: where one is there, exactly.
-fn optional_by_ber<'a, T, E>(alloc: Global, octets: &'a [u8]) -> ParseResult<'a, Option<T>, E>
+pub(crate) fn optional_by_ber<'a, T, E>(
+    alloc: Global,
+    octets: &'a [u8],
+) -> ParseResult<'a, Option<T>, E>
 where
     T: LawfulBer<'a, E> + Tagged,
     E: From<Error>,
@@ -28,7 +31,10 @@ where
 }
 
 /// Reads one by DER.
-fn optional_by_der<'a, T, E>(alloc: Global, octets: &'a [u8]) -> ParseResult<'a, Option<T>, E>
+pub(crate) fn optional_by_der<'a, T, E>(
+    alloc: Global,
+    octets: &'a [u8],
+) -> ParseResult<'a, Option<T>, E>
 where
     T: LawfulDer<'a, E> + Tagged,
     E: From<Error>,
@@ -38,48 +44,6 @@ where
         octets.now (seen result) }
 {
     Option::<T>::from_der(alloc, octets)
-}
-
-/// Appends the answer to octets that are read by BER as an optional value.
-pub(crate) fn push_optional_by_ber<'a, T>(
-    alloc: Global,
-    octets: &'a [u8],
-    buffer: &mut Vec<u8>,
-    text: &mut Vec<u8>,
-) -> Result<(), AllocError>
-where
-    T: LawfulBer<'a, Error> + Tagged + Encoded + Drop,
-    ensures { OnOk result
-        (Gains text.old.items text.new.items
-        (IsReadAnswer
-        (OptionGives (IsLeftOut ber_rule (T.mark).0)
-        (ReadsByBer T.grammar.Ber T.grammar.value T.grammar.allocates T.ber_gives))
-        (option_text T.text_of)
-        (HeldEncoding (some_allocates T.write_allocates T.count_allocates T.content_allocates)
-        T.Encodes) octets.now)) }
-{
-    push_reading(alloc, optional_by_ber::<T, Error>(alloc, octets), buffer, text)
-}
-
-/// Appends the answer to octets that are read by DER as an optional value.
-pub(crate) fn push_optional_by_der<'a, T>(
-    alloc: Global,
-    octets: &'a [u8],
-    buffer: &mut Vec<u8>,
-    text: &mut Vec<u8>,
-) -> Result<(), AllocError>
-where
-    T: LawfulDer<'a, Error> + Tagged + Encoded + Drop,
-    ensures { OnOk result
-        (Gains text.old.items text.new.items
-        (IsReadAnswer
-        (OptionGives (IsLeftOut der_rule (T.mark).0)
-        (ReadsByDer T.grammar.Der T.grammar.value T.grammar.allocates T.der_gives))
-        (option_text T.text_of)
-        (HeldEncoding (some_allocates T.write_allocates T.count_allocates T.content_allocates)
-        T.Encodes) octets.now)) }
-{
-    push_reading(alloc, optional_by_der::<T, Error>(alloc, octets), buffer, text)
 }
 
 /// States of the value that is held what its type says of its writing.
