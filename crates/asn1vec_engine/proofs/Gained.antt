@@ -5,7 +5,7 @@ use borrow.Rule.Slice.PartMut.{post_of}
 use Rattle.asn1vec_engine.specs.declared.request.Rule.{Rule}
 use Rattle.asn1vec_engine.specs.Request.{IsRequest}
 use Rattle.asn1vec_engine.specs.Answer.{IsAnswer, IsAnswerLine, IsRequestAnswer}
-use Rattle.asn1vec_engine.specs.Shown.{Encoding, Gains, Says, SaysEncoding, encoding_text, in_hexadecimal}
+use Rattle.asn1vec_engine.specs.Shown.{Encoding, Gains, IsReadAnswer, Reading, Says, SaysEncoding, encoding_text, in_hexadecimal}
 
 pub gains_both : (a b c p q : List ℕ) → b ≡ a ++ p → c ≡ b ++ q → c ≡ a ++ (p ++ q)
 gains_both a b c p q first second = second ∙ ap (λ l. l ++ q) first ∙ append_assoc a p q
@@ -20,6 +20,11 @@ value_said text_of Encodes x rest a b c d e f ok value word hex (said, (encoding
     let three = gains_both c d f (codes " rest ") (in_hexadecimal rest ++ encoding_text encoding) word four in
     let two = gains_both b c f (text_of x) (codes " rest " ++ (in_hexadecimal rest ++ encoding_text encoding)) value three in
     (_, (encoding, is, refl), gains_both a b f (codes "ok ") (text_of x ++ (codes " rest " ++ (in_hexadecimal rest ++ encoding_text encoding))) ok two)
+
+-- what a reader answered
+pub reading_said : {T : Type 0} (Reads : List ℕ → Reading T → Type 0) (text_of : T → List ℕ) (Encodes : T → Encoding → Type 0) (octets : List ℕ) (answer : Reading T) (a b : List ℕ)
+    → Reads octets answer → Gains a b (Says text_of Encodes answer) → Gains a b (IsReadAnswer Reads text_of Encodes octets)
+reading_said Reads text_of Encodes octets answer a b is (gained, says, more) = (gained, record { answer = answer; reads = is; says = says }, more)
 
 -- a line that is not too long was answered
 pub line_answered : (line : List ℕ) (rule : Rule) (name octets asked a b : List ℕ) → length line ≤ 65536 → IsRequest line rule name asked → octets ≡ asked

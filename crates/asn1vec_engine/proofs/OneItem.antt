@@ -1,6 +1,7 @@
 -- What is read once is shown once: items, and lists and sets of them.
-use Rattle.std.proofs.Common.{◌≡◌, ◌∙◌, sym, ap, subst, refl, List, [], ◌∷◌, ◌++◌, map, ℕ, Bool, true, false, inl, inr, lit<, Result, Ok, Err, codes}
-use Rattle.std.specs.Prelude.{pos, decimal}
+use Rattle.std.proofs.Common.{◌≡◌, ◌∙◌, sym, ap, subst, refl, List, [], ◌∷◌, ◌++◌, map, ℕ, Bool, true, false, inl, inr, lit<, Result, Ok, Err, codes, BuildHasherDefault, FoldHasher}
+use Rattle.std.specs.Prelude.{pos, decimal, IsTrue, ◌↔◌}
+use Rattle.std.specs.Fmt.{signed_decimal}
 use Rattle.std.specs.List.{join_by}
 use Rattle.std.proofs.lemmas.List.Folds.{flat_map-map}
 use mathlib.Core.Logic.{∥∥₁_elim}
@@ -20,36 +21,40 @@ use Rattle.asn1_rs.specs.Grammar.{NoCheck, BerWord, DerWord}
 use Rattle.asn1_rs.specs.Grammar.Form.{IsOneForm}
 use Rattle.asn1_rs.specs.Grammar.Item.{IsLawfulItem}
 use Rattle.asn1_rs.specs.Header.Reading.{ber_breach, der_breach}
-use Rattle.asn1_rs.specs.Integer.{IntegerCheckGives, IsUnsigned, UnsignedGives, UnsignedRefuses, integer_element}
+use Rattle.asn1_rs.specs.Integer.{IntegerCheckGives, IsUnsigned, SignedGives, SignedRefuses, UnsignedGives, UnsignedRefuses, integer_element}
 use Rattle.asn1_rs.specs.Kinds.{ElementGrammar, IsExactCheck, IsExactConversion, IsLawfulElement}
 use Rattle.asn1_rs.specs.Leaf.{IsLawfulLeaf, Leaf, LeafGives, leaf_element}
 use Rattle.asn1_rs.specs.Laws.Leaf.{leaf_constraints, leaf_converts, leaf_lawful, leaf_one_refusal}
 use Rattle.asn1_rs.specs.Lists.{has_items}
 use Rattle.asn1_rs.specs.declared.asn1_types.set.set_of.SetOf.{SetOf}
-use Rattle.asn1_rs.specs.Set.{HasItems, is_below, items_of, members}
-use Rattle.asn1_rs.specs.Laws.Set.{member_lawful, multiset_lawful}
+use Rattle.asn1_rs.specs.Set.{HasItems, Members, is_below, is_other, items_of, members, set_of}
+use Rattle.asn1_rs.specs.Laws.Set.{member_lawful, multiset_lawful, table_told}
 use Rattle.std.specs.declared.cmp.Ordering.{Ordering}
 use Rattle.std.specs.BTreeSet.{BTreeSet, IsFromIterResult}
-use Rattle.std.proofs.lemmas.Map.Lookups.{CmpEqualImpliesEq, btree_set_from_contains, exact_unsigned}
-use Rattle.std.specs.Ordering.{eq_by_cmp, nat_cmp}
+use Rattle.std.specs.HashSet.{HashSet, IsFromIterResult as IsHashedOf}
+use Rattle.std.proofs.lemmas.Map.Lookups.{CmpEqualImpliesEq, btree_set_from_contains, exact_signed, exact_unsigned}
+use Rattle.std.specs.Ordering.{eq_by_cmp, int_cmp, nat_cmp}
 use Rattle.std.specs.Cmp.{IsTotalOrder}
 use Rattle.std.specs.Set.{is_member}
-use Rattle.std.proofs.lemmas.Cmp.{nat_cmp_total}
+use Rattle.std.proofs.lemmas.Cmp.{int_cmp_total, nat_cmp_total}
 use Rattle.std.proofs.lemmas.List.{map-id}
 use Rattle.x690.specs.Collections.{multiset}
 use Rattle.asn1_rs.specs.Traits.{BerGives, DerGives, OfParts, PassesAll}
 use Rattle.asn1_rs.specs.Laws.Integer.{integer_checks, integer_lawful, one_integer_check_refusal, one_integer_refusal}
+use Rattle.asn1_rs.specs.Laws.Integer.Signed.{one_signed_refusal, signed_converts, signed_equal}
 use Rattle.asn1_rs.specs.Laws.Integer.Unsigned.{one_unsigned_refusal, unsigned_converts}
+use Rattle.x690.specs.Signed.{IsSigned}
 use Rattle.asn1_rs.specs.Laws.Kinds.{lawful_item}
 use Rattle.asn1_rs.specs.Laws.Lists.{list_lawful}
 use Rattle.asn1_rs.specs.Laws.Readers.{ber_elements, der_elements, element_exact, passes_all}
 use Rattle.asn1_rs.specs.Laws.Words.{one_strict}
 use Rattle.asn1vec_engine.specs.declared.request.Rule.{Rule}
 use Rattle.asn1vec_engine.specs.declared.request.Rule.TheVariants.{Ber, Der}
-use Rattle.asn1vec_engine.specs.Shown.{Encoding, IsUnwritten, IsWritten, Reading, Same, StrictEncodingIfAny, list_text}
+use Rattle.asn1vec_engine.specs.Shown.{Encoding, IsUnwritten, IsWritten, Reading, Same, StrictEncodingIfAny, in_order, list_text}
+use Rattle.asn1vec_engine.proofs.InOrder.{in_order_same}
 use Rattle.asn1_rs.specs.declared.asn1_types.sequence.sequence_of.SequenceOf.{SequenceOf}
 use Rattle.asn1_rs.specs.Sequence.SequenceOf.{IsSequenceOf, sequence_items}
-use Rattle.asn1vec_engine.specs.Types.{Item, collection, leaf_item, ordered_set, sequence, sequence_of, unordered_set, unsigned_item, vector}
+use Rattle.asn1vec_engine.specs.Types.{Item, alone, collection, hashed_set, leaf_item, ordered_set, sequence, sequence_of, signed_item, unordered_set, unsigned_item, vector}
 use Rattle.asn1vec_engine.proofs.OneList.{IsOneReader, read_by_der, taken_by_ber, taken_by_der}
 use Rattle.asn1vec_engine.proofs.OneReading.{HasOneAnswer, SameEncoding, SameReading, ShownAlike, ber_same, der_same, readings_weaker, written_same}
 use Rattle.asn1vec_engine.proofs.OneRefusal.{IsOneRefusal, IsOneRefusalBut, one_of_parts}
@@ -141,6 +146,37 @@ module _ (I : Item) (one : IsOneItem I) where
       lawful = member_lawful (is_below cmp) (λ s. s.keys) I.grammar one.lawful;
     }
 
+  -- a set whose items stand in no order: what is seen are the items in order, and its value
+  module _ (cmp : I.T → I.T → Ordering) (total : IsTotalOrder cmp) (apart : CmpEqualImpliesEq cmp) (same : (x y : I.T) → IsTrue (eq_by_cmp cmp x y) ↔ (I.grammar.value x ≡ I.grammar.value y)) (all : (x y : I.T) → one.view x ≡ one.view y → x ≡ y) where
+    abbrev Hashed : Type 0
+    Hashed = HashSet I.T (BuildHasherDefault FoldHasher)
+
+    seen : Hashed → List I.T × Members I.grammar.Value
+    seen s = (in_order cmp s.keys, members (is_other (eq_by_cmp cmp)) I.grammar.value s.keys)
+
+    both : {A B : Type 0} {a b : A} {c d : B} → a ≡ b → c ≡ d → ◌≡◌ {A = A × B} (a, c) (b, d)
+    both p q = cc
+
+    hashed_held : (xs ys : List I.T) (s t : Hashed) → map one.view xs ≡ map one.view ys → IsHashedOf (eq_by_cmp cmp) xs s → IsHashedOf (eq_by_cmp cmp) ys t → seen s ≡ seen t
+    unfolding seen
+    hashed_held xs ys s t e h k =
+        let equal : xs ≡ ys = sym (map-id xs) ∙ follows one.view (λ x. x) all xs ys e ∙ map-id ys in
+        both
+        (in_order_same cmp total apart s.keys t.keys (λ q. h.0 q ∙ ap (λ (zs : List I.T). is_member (eq_by_cmp cmp) zs q) equal ∙ sym (k.0 q)))
+        (sym (table_told (eq_by_cmp cmp) I.grammar.value same xs s h) ∙ ap (λ (zs : List I.T). set_of (map I.grammar.value zs)) equal ∙ table_told (eq_by_cmp cmp) I.grammar.value same ys t k)
+
+    pub hashed_set_once : IsOneItem (hashed_set I cmp)
+    unfolding seen
+    hashed_set_once = record {
+      D = List I.T × Members I.grammar.Value;
+      view = seen;
+      text = λ s t e. ap (λ z. list_text I.text_of z.0) e;
+      value = λ s t e. ap (λ z. z.1) e;
+      ber = taken_by_ber one.view I.grammar.allocates I.ber_gives one.ber seen (λ items s. IsHashedOf (eq_by_cmp cmp) items s) hashed_held 17;
+      der = taken_by_der one.view I.grammar.allocates I.der_gives one.der seen (λ items s. IsHashedOf (eq_by_cmp cmp) items s) hashed_held 17;
+      lawful = member_lawful (is_other (eq_by_cmp cmp)) (λ s. s.keys) I.grammar one.lawful;
+    }
+
 -- ---- items that are one element, checked and converted
 
 module _ {S : Type 0} (G : ElementGrammar S) (lawful : IsLawfulElement G) (convert : Any → Result S Error → Type 0) (converts : IsExactConversion convert G) (one_conversion : IsOneRefusalBut G.allocates convert)
@@ -183,6 +219,30 @@ module _ (size : ℕ) where
   unfolding unsigned_once
   ordered_unsigned_once = ordered_set_once (unsigned_item size) unsigned_once nat_cmp nat_cmp_total exact_unsigned pos_same
 
+-- the same of signed integers
+module _ (size : ℕ) where
+  signed_conversion : IsOneRefusalBut false (OfParts (SignedGives size))
+  signed_conversion = one_of_parts (SignedGives size) (one_integer_refusal (SignedRefuses size) (one_signed_refusal size))
+
+  pub signed_once : IsOneItem (signed_item size)
+  signed_once =
+      let G = integer_element (λ n. n) (IsSigned size) in
+      let lawful = integer_lawful (IsSigned size) (λ n. n) in
+      record {
+        D = _;
+        view = λ n. n;
+        text = λ x y e. ap signed_decimal e;
+        value = λ x y e. e;
+        ber = element_by_ber G lawful (OfParts (SignedGives size)) (signed_converts size) signed_conversion IntegerCheckGives integer_checks one_integer_check_refusal;
+        der = element_by_der G lawful (OfParts (SignedGives size)) (signed_converts size) signed_conversion IntegerCheckGives integer_checks one_integer_check_refusal;
+        lawful = lawful_item G lawful;
+      }
+
+  -- and the sets of these that have no order
+  pub hashed_signed_once : IsOneItem (hashed_set (signed_item size) int_cmp)
+  unfolding signed_once
+  hashed_signed_once = hashed_set_once (signed_item size) signed_once int_cmp int_cmp_total exact_signed signed_equal (λ x y e. e)
+
 -- the values of a leaf type
 pub leaf_item_once : {S : Type 0} (L : Leaf S) (text : L.Value → List ℕ) → IsLawfulLeaf L → IsOneItem (leaf_item L text)
 leaf_item_once L text lawful =
@@ -198,7 +258,7 @@ leaf_item_once L text lawful =
       lawful = lawful_item (leaf_element L) (leaf_lawful L lawful);
     }
 
--- ---- what a name of lists or sets stands for
+-- ---- what a name of items stands for
 
 both_unwritten : (allocates : Bool) (e f : Encoding) → IsUnwritten allocates e → IsUnwritten allocates f → SameEncoding allocates e f
 both_unwritten allocates e f (inl is) (inl too) = rw (is, too) (inl refl)
@@ -218,12 +278,15 @@ module _ {V : Type 0} (Form : V → Identifier → List ℕ → Type 0) (one : I
   if_any_same : (v w : V) → v ≡ w → (e f : Encoding) → StrictEncodingIfAny Form allocates v e → StrictEncodingIfAny Form allocates w f → SameEncoding allocates e f
   if_any_same v w same e f h k = one_if_any w e f (subst (λ (x : V). StrictEncodingIfAny Form allocates x e) same h) k
 
-pub collection_once : (I : Item) → IsOneItem I → HasOneAnswer (collection I)
-collection_once I one rule octets a b p q = readings_weaker (λ x y. one.view x ≡ one.view y) (ShownAlike (collection I)) I.grammar.allocates shown a b (read rule p q)
+pub alone_once : (allocates : Bool) (I : Item) → IsOneItem I → HasOneAnswer (alone allocates I)
+alone_once allocates I one rule octets a b p q = readings_weaker (λ x y. one.view x ≡ one.view y) (ShownAlike (alone allocates I)) I.grammar.allocates shown a b (read rule p q)
   where
-    shown : (x y : I.T) → one.view x ≡ one.view y → ShownAlike (collection I) x y
-    shown x y same = record { text = one.text x y same; encoding = if_any_same I.grammar.Form one.lawful.one_form true (I.grammar.value x) (I.grammar.value y) (one.value x y same) }
+    shown : (x y : I.T) → one.view x ≡ one.view y → ShownAlike (alone allocates I) x y
+    shown x y same = record { text = one.text x y same; encoding = if_any_same I.grammar.Form one.lawful.one_form allocates (I.grammar.value x) (I.grammar.value y) (one.value x y same) }
 
-    read : (rule : Rule) → (collection I).Reads rule octets a → (collection I).Reads rule octets b → SameReading (λ x y. one.view x ≡ one.view y) I.grammar.allocates a b
+    read : (rule : Rule) → (alone allocates I).Reads rule octets a → (alone allocates I).Reads rule octets b → SameReading (λ x y. one.view x ≡ one.view y) I.grammar.allocates a b
     read Ber p q = one.ber octets a b p.1 q.1
     read Der p q = one.der octets a b p.1 q.1
+
+pub collection_once : (I : Item) → IsOneItem I → HasOneAnswer (collection I)
+collection_once = alone_once true

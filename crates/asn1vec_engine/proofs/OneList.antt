@@ -11,7 +11,6 @@ use Rattle.asn1_rs.specs.declared.error.Err.TheVariants.{Error as refused, Incom
 use Rattle.asn1_rs.specs.declared.error.Error.{Error}
 use Rattle.asn1_rs.specs.declared.error.Error.TheVariants.{OutOfMemory}
 use Rattle.asn1_rs.specs.declared.asn1_types.any.Any.{Any}
-use Rattle.std.proofs.lemmas.List.{append_cancel_left}
 use Rattle.asn1_rs.specs.Any.{BeginsWithElement, parts_of}
 use Rattle.asn1_rs.specs.Ber.{max_depth, EndsWithin}
 use Rattle.asn1_rs.specs.Error.{FlattenedTo}
@@ -21,7 +20,7 @@ use Rattle.asn1_rs.specs.Sequence.Iterator.{TakesItem, EndsItem}
 use Rattle.asn1_rs.specs.Traits.{BerGives, DerGives, ElementGives, OfParts, PassesAll}
 use Rattle.asn1_rs.specs.Laws.Readers.{AreElements, ber_elements, der_elements}
 use Rattle.asn1vec_engine.specs.Shown.{Reading, Same}
-use Rattle.asn1vec_engine.proofs.OneRefusal.{IsSameBut, no_memory, one_reading_refusal, same_parts, element_or_fault}
+use Rattle.asn1vec_engine.proofs.OneRefusal.{IsSameBut, no_memory, one_reading_refusal, same_parts, same_tail, element_or_fault}
 use Rattle.asn1vec_engine.proofs.OneReading.{SameReading, one_pass, passed}
 
 -- Two answers to the same octets are the same, as far as `view` sees of a value, but that one of them may be out of memory.
@@ -29,23 +28,33 @@ abbrev pub IsOneReader : {T D : Type 0} → (T → D) → Bool → (List ℕ →
 IsOneReader {T} view allocates reads = (octets : List ℕ) (a b : Reading T) → reads octets a → reads octets b → SameReading (λ x y. view x ≡ view y) allocates a b
 
 -- the same of conversions
-abbrev SameResult : {T D : Type 0} → (T → D) → Bool → Result T Error → Result T Error → Type 0
+abbrev pub SameResult : {T D : Type 0} → (T → D) → Bool → Result T Error → Result T Error → Type 0
 SameResult view allocates (Ok x) (Ok y) = view x ≡ view y
 SameResult view allocates (Ok x) (Err f) = (allocates ≡ true) × (f ≡ OutOfMemory)
 SameResult view allocates (Err e) (Ok y) = (allocates ≡ true) × (e ≡ OutOfMemory)
 SameResult view allocates (Err e) (Err f) = IsSameBut OutOfMemory allocates e f
 
-abbrev IsOneConversion : {T D : Type 0} → (T → D) → Bool → (Parts → Result T Error → Type 0) → Type 0
+abbrev pub IsOneConversion : {T D : Type 0} → (T → D) → Bool → (Parts → Result T Error → Type 0) → Type 0
 IsOneConversion {T} view allocates convert = (p : Parts) (a b : Result T Error) → convert p a → convert p b → SameResult view allocates a b
 
 -- what tells of refused memory, flattened
-flattened_memory : (r : Refusal Error) (e : Error) → r ≡ no_memory → FlattenedTo (λ x y. y ≡ x) Same r e → e ≡ OutOfMemory
+pub flattened_memory : (r : Refusal Error) (e : Error) → r ≡ no_memory → FlattenedTo (λ x y. y ≡ x) Same r e → e ≡ OutOfMemory
 flattened_memory r e is flat = let same : FlattenedTo (λ x y. y ≡ x) Same no_memory e = subst (λ (q : Refusal Error). FlattenedTo (λ x y. y ≡ x) Same q e) is flat in same
 
 one_flattened : (r : Refusal Error) (e f : Error) → FlattenedTo (λ x y. y ≡ x) Same r e → FlattenedTo (λ x y. y ≡ x) Same r f → e ≡ f
 one_flattened (cut n) e f h k = h ∙ sym k
 one_flattened (refused x) e f h k = h ∙ sym k
 one_flattened (failed x) e f h k = h ∙ sym k
+
+pub flattened_same : (allocates : Bool) (q r : Refusal Error) (e f : Error) → IsSameBut no_memory allocates q r → FlattenedTo (λ x y. y ≡ x) Same q e → FlattenedTo (λ x y. y ≡ x) Same r f → IsSameBut OutOfMemory allocates e f
+flattened_same allocates q r e f (inl same) h k = inl (one_flattened q e f h (subst (λ (x : Refusal Error). FlattenedTo (λ x y. y ≡ x) Same x f) (sym same) k))
+flattened_same allocates q r e f (inr (takes, inl memory)) h k = inr (takes, inl (flattened_memory q e memory h))
+flattened_same allocates q r e f (inr (takes, inr memory)) h k = inr (takes, inr (flattened_memory r f memory k))
+
+-- and where memory may be allocated all the more
+allowed : {A : Type 0} (memory : A) (allocates : Bool) (a b : A) → IsSameBut memory allocates a b → IsSameBut memory true a b
+allowed memory allocates a b (inl same) = inl same
+allowed memory allocates a b (inr (takes, which)) = inr (refl, which)
 
 one_pass_none : (p : Parts) (e : Error) → PassesAll p (Err e) → ⊥
 one_pass_none p e h = cc
@@ -77,10 +86,9 @@ module _ (ElementOf : List ℕ → Parts → Type 0) (FaultOf : List ℕ → Fau
 
   pub one_element : IsOneReader view allocates Gives
   one_element octets (Ok (rest, x)) (Ok (tail, y)) (any, begins, passes, is) (other, starts, passed, too) =
-      let same = same_parts ElementOf FaultOf IsCut elements octets rest tail (parts_of any) (parts_of other) begins.front starts.front in
-      let words = (elements.one.one begins.front.word starts.front.word rest tail (parts_of any) (parts_of other) begins.front.fits starts.front.fits (sym begins.front.is ∙ starts.front.is)).0 in (
+      let same = same_parts ElementOf FaultOf IsCut elements octets rest tail (parts_of any) (parts_of other) begins.front starts.front in (
         once (parts_of any) (Ok x) (Ok y) is (subst (λ (p : Parts). convert p (Ok y)) same too),
-        append_cancel_left begins.front.word rest tail (sym begins.front.is ∙ starts.front.is ∙ ap (λ (l : List ℕ). l ++ tail) (sym words)),
+        same_tail ElementOf FaultOf IsCut elements octets rest tail (parts_of any) (parts_of other) begins.front starts.front,
       )
   one_element octets (Ok (rest, x)) (Err r) (any, begins, passes, is) h = element_or_refused octets rest any x r begins is h
   one_element octets (Err q) (Ok (tail, y)) h (any, begins, passes, is) = element_or_refused octets tail any y q begins is h
@@ -104,12 +112,7 @@ module _ {T D : Type 0} (view : T → D) (takes : Bool) (reads : List ℕ → Re
   ends_same octets (Ok x) (Ok y) e f is too (long, h) (past, k) = inl (h ∙ sym k)
   ends_same octets (Ok x) (Err r) e f is too h k = inr (refl, inr (flattened_memory r f (once octets (Ok x) (Err r) is too).1 k))
   ends_same octets (Err q) (Ok y) e f is too h k = inr (refl, inl (flattened_memory q e (once octets (Err q) (Ok y) is too).1 h))
-  ends_same octets (Err q) (Err r) e f is too h k =
-      elim (once octets (Err q) (Err r) is too) [
-        | inl same ↦ inl (one_flattened q e f h (subst (λ (x : Refusal Error). FlattenedTo (λ x y. y ≡ x) Same x f) (sym same) k))
-        | inr (allocates, inl memory) ↦ inr (refl, inl (flattened_memory q e memory h))
-        | inr (allocates, inr memory) ↦ inr (refl, inr (flattened_memory r f memory k))
-      ]
+  ends_same octets (Err q) (Err r) e f is too h k = allowed OutOfMemory takes e f (flattened_same takes q r e f (once octets (Err q) (Err r) is too) h k)
 
   same_rest : (octets rest tail : List ℕ) (x y : T) → reads octets (Ok (rest, x)) → reads octets (Ok (tail, y)) → (view x ≡ view y) × (tail ≡ rest)
   same_rest octets rest tail x y is too = let same = once octets (Ok (rest, x)) (Ok (tail, y)) is too in (same.0, sym same.1)

@@ -1,5 +1,5 @@
 -- What a name stands for has one answer to octets, except when out of memory, where two readings and two encodings are the same but for that.
-use Rattle.std.proofs.Common.{◌≡◌, ◌∙◌, ◌≤◌, ◌^◌, sym, ap, subst, refl, List, ◌++◌, length, ℕ, Bool, true, false, ◌⊎◌, inl, inr, None, Some, Result, Ok, Err, arith, codes, append_assoc}
+use Rattle.std.proofs.Common.{◌≡◌, ◌∙◌, ◌≤◌, ◌^◌, sym, ap, subst, refl, List, [], ◌++◌, length, ℕ, Bool, true, false, ◌⊎◌, inl, inr, None, Some, Result, Ok, Err, arith, codes, append_assoc}
 use Rattle.std.proofs.lemmas.List.{append_cancel_left}
 use Rattle.x690.specs.Identifiers.{Identifier, IsCutIdentifier}
 use Rattle.x690.specs.Elements.{Parts, IsDerElement}
@@ -15,6 +15,7 @@ use Rattle.asn1_rs.specs.declared.error.SerializeError.{SerializeError}
 use Rattle.asn1_rs.specs.declared.error.SerializeError.TheVariants as serialize_errors
 use Rattle.asn1_rs.specs.Answers.{Exactly, Front, IsFinal, TellsMemory}
 use Rattle.asn1_rs.specs.Grammar.Form.{IsOneForm, IsStrict}
+use Rattle.asn1_rs.specs.Optional.{in_some}
 use Rattle.asn1_rs.specs.Writer.{MayRefuse}
 use Rattle.asn1_rs.specs.Error.{tells_of_io}
 use Rattle.asn1_rs.specs.Ber.{max_depth, EndsWithin}
@@ -26,7 +27,7 @@ use Rattle.asn1vec_engine.specs.declared.request.Rule.{Rule}
 use Rattle.asn1vec_engine.specs.declared.request.Rule.TheVariants.{Ber, Der}
 use Rattle.asn1vec_engine.specs.Names.{name_of_refusal}
 use Rattle.asn1vec_engine.specs.Shown.{in_hexadecimal, Encoding, Reading, written_text, encoding_text, ok_text, Says, Same, IsReadAnswer, ReadsByBer, ReadsByDer, IsWritten, StrictEncoding}
-use Rattle.asn1vec_engine.specs.Meaning.{Meaning, ReadsByEither}
+use Rattle.asn1vec_engine.specs.Meaning.{Meaning, ReadsByEither, optional}
 use Rattle.asn1vec_engine.specs.Memory.{DifferByMemory}
 use Rattle.asn1vec_engine.proofs.OneRefusal.{IsSameBut, no_memory, IsOneRefusal, IsOneRefusalBut, one_reading_refusal}
 
@@ -200,3 +201,25 @@ module _ {T V : Type 0} (Body : Parts → V → Type 0) (value : T → V) (alloc
         → ReadsByEither (BerWord Body) (DerWord Check Body) value allocates (BerGives convert Same) (DerGives check convert Same) rule octets b → SameReading (λ x y. value x ≡ value y) allocates a b
     either_same Ber = ber_same
     either_same Der = der_same
+
+-- ---- optional values
+
+-- what is held, or nothing, is read and shown once where what is held is
+module _ (number : ℕ) (m : Meaning) where
+  none_alike : ShownAlike (optional number m) None None
+  none_alike = record { text = refl; encoding = λ e f h k. written_same m.writing_allocates [] e f h k }
+
+  held_alike : (x y : m.T) → ShownAlike m x y → ShownAlike (optional number m) (Some x) (Some y)
+  held_alike x y same = record { text = ap (λ (l : List ℕ). codes "some " ++ l) same.text; encoding = same.encoding }
+
+  held_same : (a b : Reading m.T) → SameReading (ShownAlike m) m.reading_allocates a b → SameReading (ShownAlike (optional number m)) m.reading_allocates (in_some a) (in_some b)
+  held_same (Ok (rest, x)) (Ok (tail, y)) (same, equal) = (held_alike x y same, equal)
+  held_same (Ok x) (Err r) h = h
+  held_same (Err q) (Ok y) h = h
+  held_same (Err q) (Err r) h = h
+
+  pub optional_once : HasOneAnswer m → HasOneAnswer (optional number m)
+  optional_once one rule octets a b (inl (out, is)) (inl (also, too)) = rw (is, too) (none_alike, refl)
+  optional_once one rule octets a b (inl (out, is)) (inr (there, given)) = absurd (there out)
+  optional_once one rule octets a b (inr (there, given)) (inl (out, is)) = absurd (there out)
+  optional_once one rule octets a b (inr (there, (its, reads, is))) (inr (too, (other, also, equal))) = rw (is, equal) (held_same its other (one rule octets its other reads also))

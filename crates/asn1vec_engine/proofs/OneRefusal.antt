@@ -1,5 +1,6 @@
 -- Octets that are read as one element, checked and converted, have one refusal, except when out of memory.
-use Rattle.std.proofs.Common.{◌≡◌, ◌∙◌, sym, ap, subst, refl, List, [], ℕ, Bool, true, false, append-nil, ◌⊎◌, inl, inr, Result, Ok, Err}
+use Rattle.std.proofs.Common.{◌≡◌, ◌∙◌, sym, ap, subst, refl, List, [], ◌++◌, ℕ, Bool, true, false, append-nil, ◌⊎◌, inl, inr, Result, Ok, Err}
+use Rattle.std.proofs.lemmas.List.{append_cancel_left}
 use Rattle.x690.specs.Elements.{Parts}
 use Rattle.x690.specs.Faults.{Breach, Fault}
 use Rattle.asn1_rs.specs.declared.error.Err.{Err as Refusal}
@@ -15,7 +16,7 @@ use Rattle.asn1_rs.specs.Header.Reading.{refusal_of}
 use Rattle.asn1_rs.specs.Laws.Readers.{AreElements, speaks_itself, speaks_now}
 use Rattle.asn1vec_engine.specs.Shown.{Same}
 
-converted_same : (s r : Refusal Error) → Converted Same s r → r ≡ s
+pub converted_same : (s r : Refusal Error) → Converted Same s r → r ≡ s
 converted_same (cut n) r h = h
 converted_same (refused e) r (f, same, is) = is ∙ ap refused same
 converted_same (failed e) r (f, same, is) = is ∙ ap failed same
@@ -49,6 +50,11 @@ refused_same allocates q r e f (inr (takes, inr memory)) is too = inr (takes, in
 module _ (ElementOf : List ℕ → Parts → Type 0) (FaultOf : List ℕ → Fault → Type 0) (IsCut : List ℕ → Type 0) (elements : AreElements ElementOf FaultOf IsCut) where
   pub same_parts : (input rest tail : List ℕ) (p o : Parts) → Front ElementOf input p rest → Front ElementOf input o tail → o ≡ p
   same_parts input rest tail p o f g = (elements.one.one g.word f.word tail rest o p g.fits f.fits (sym g.is ∙ f.is)).1
+
+  pub same_tail : (input rest tail : List ℕ) (p o : Parts) → Front ElementOf input p rest → Front ElementOf input o tail → rest ≡ tail
+  same_tail input rest tail p o f g =
+      let words = (elements.one.one f.word g.word rest tail p o f.fits g.fits (sym f.is ∙ g.is)).0 in
+      append_cancel_left f.word rest tail (sym f.is ∙ g.is ∙ ap (λ (l : List ℕ). l ++ tail) (sym words))
 
   pub element_or_fault : (refuses : Breach → Error) (input rest : List ℕ) (p : Parts) (fault : Fault) → Front ElementOf input p rest → FaultOf input fault → ⊥
   element_or_fault refuses input rest p fault f why =

@@ -1,6 +1,8 @@
 -- How a reading is answered: the value, what follows it and its encoding, or the refusal.
 use Rattle.std.specs.Prelude.{◌≡◌, ℕ, ◌<◌, ◌^◌, Bool, true, false, List, [], ◌∷◌, ◌++◌, length, codes, decimal, Option, None, Some, Result, Ok, Err, ◌⊎◌}
+use Rattle.std.specs.BTreeSet.{insert_key}
 use Rattle.std.specs.List.{join_by}
+use Rattle.std.specs.declared.cmp.Ordering.{Ordering}
 use Rattle.hex.specs.Hex.{encode_lower}
 use Rattle.x690.specs.Identifiers.{Identifier, IsCutIdentifier}
 use Rattle.asn1_rs.specs.declared.error.Err.{Err as Refusal}
@@ -45,6 +47,16 @@ element_text v =
 -- the texts of items, parted by commas, in brackets
 abbrev pub list_text : {T : Type 0} → (T → List ℕ) → List T → List ℕ
 list_text text_of items = codes "[" ++ (join_by text_of (codes ",") items ++ codes "]")
+
+-- the keys in ascending order, each once
+abbrev pub in_order : {K : Type 0} → (K → K → Ordering) → List K → List K
+in_order cmp [] = []
+in_order cmp (k ∷ ks) = insert_key cmp (in_order cmp ks) k
+
+-- `none`, or `some` and what is held
+abbrev pub option_text : {T : Type 0} → (T → List ℕ) → Option T → List ℕ
+option_text text_of None = codes "none"
+option_text text_of (Some x) = codes "some " ++ text_of x
 
 -- What there is to say of the encoding of a value: nothing, where its type has no writer; the octets
 -- that were written; or why writing it was refused.
@@ -123,6 +135,11 @@ abbrev pub StrictEncodingIfAny : {V : Type 0} → (V → Identifier → List ℕ
 StrictEncodingIfAny Form allocates v encoding =
     ((octets : List ℕ) × ∥ IsStrict Form v octets ∥₁ × IsWritten allocates octets encoding) ⊎
     (((octets : List ℕ) → ¬ IsStrict Form v octets) × IsUnwritten allocates encoding)
+
+-- the encoding of what is held, or no octets
+abbrev pub HeldEncoding : {T : Type 0} → Bool → (T → Encoding → Type 0) → Option T → Encoding → Type 0
+HeldEncoding allocates Encodes None encoding = IsWritten allocates [] encoding
+HeldEncoding allocates Encodes (Some x) encoding = Encodes x encoding
 
 -- ---- what functions on the way say
 

@@ -4,8 +4,10 @@ use Rattle.std.specs.declared.alloc.Global.{Global}
 use Rattle.std.specs.declared.vec.Vec.{Vec}
 use Rattle.std.specs.declared.cmp.Ordering.{Ordering}
 use Rattle.std.specs.BTreeSet.{BTreeSet, IsFromIterResult}
+use Rattle.std.specs.HashSet.{HashSet, IsFromIterResult as IsHashedOf}
+use Rattle.std.proofs.Common.{BuildHasherDefault, FoldHasher}
 use Rattle.std.specs.Fmt.{signed_decimal}
-use Rattle.std.specs.Ordering.{nat_cmp}
+use Rattle.std.specs.Ordering.{eq_by_cmp, int_cmp, nat_cmp}
 use Rattle.x690.specs.Signed.{IsSigned}
 use Rattle.asn1_rs.specs.Kinds.Writing.{universal_header}
 use Rattle.asn1_rs.specs.declared.error.Error.{Error}
@@ -18,9 +20,12 @@ use Rattle.asn1_rs.specs.Enumerated.{enumerated_leaf}
 use Rattle.asn1_rs.specs.Integer.Octets.{any_integer_leaf}
 use Rattle.asn1_rs.specs.Leaf.{Leaf, LeafBody, LeafGives, leaf_element}
 use Rattle.asn1_rs.specs.declared.asn1_types.set.set_of.SetOf.{SetOf}
-use Rattle.asn1_rs.specs.Set.{HasItems, is_below, items_of, member_grammar, multiset_grammar}
+use Rattle.asn1_rs.specs.Set.{HasItems, is_below, is_other, items_of, member_grammar, multiset_grammar}
 use Rattle.asn1_rs.specs.Null.{null_leaf}
 use Rattle.asn1_rs.specs.OctetString.{octet_string_leaf}
+use Rattle.asn1_rs.specs.declared.asn1_types.tagged.Explicit.{Explicit}
+use Rattle.asn1_rs.specs.declared.asn1_types.tagged.TaggedValue.{TaggedValue}
+use Rattle.asn1_rs.specs.Tagged.Explicit.{ExplicitGives, ExplicitTakes, explicit_grammar}
 use Rattle.asn1_rs.specs.Kept.{LendsContent, sequence_leaf, set_leaf}
 use Rattle.asn1_rs.specs.declared.asn1_types.sequence.sequence_of.SequenceOf.{SequenceOf}
 use Rattle.asn1_rs.specs.Sequence.SequenceOf.{IsSequenceOf, sequence_items}
@@ -32,12 +37,12 @@ use Rattle.asn1_rs.specs.Kinds.{item_grammar}
 use Rattle.asn1_rs.specs.Grammar.Item.{ItemGrammar}
 use Rattle.asn1_rs.specs.Any.Value.{element_of, ElementBody, ElementCheck, ElementForm}
 use Rattle.asn1_rs.specs.Grammar.{BerWord, DerWord}
-use Rattle.asn1_rs.specs.Integer.{IntegerCheck, IntegerCheckGives, IntegerBody, IntegerForm, integer_element, IntegerGives, IsUnsigned, UnsignedGives, UnsignedRefuses, SignedRefuses}
+use Rattle.asn1_rs.specs.Integer.{IntegerCheck, IntegerCheckGives, IntegerBody, IntegerForm, integer_element, IntegerGives, IsUnsigned, UnsignedGives, UnsignedRefuses, SignedGives, SignedRefuses}
 use Rattle.asn1vec_engine.specs.declared.request.Rule.{Rule}
 use Rattle.asn1vec_engine.specs.declared.types.TypeName.{TypeName}
-use Rattle.asn1vec_engine.specs.declared.types.TypeName.TheVariants.{U8, U16, U32, U64, U128, I8, I16, I32, I64, I128, Any, Bool, Null, Enumerated, Integer, Octets, Bits, Eoc, VecU8, VecU32, VecBool, VecVecU8, SetOfU8, BTreeSetU8, Sequence, Set, SeqOfU32}
-use Rattle.asn1vec_engine.specs.Meaning.{Meaning, ReadsByEither, is_ber}
-use Rattle.asn1vec_engine.specs.Shown.{IsReadAnswer, IsWritten, ReadsByBer, Reading, Same, StrictEncoding, StrictEncodingIfAny, bits_text, element_text, in_hexadecimal, list_text, truth_text}
+use Rattle.asn1vec_engine.specs.declared.types.TypeName.TheVariants.{U8, U16, U32, U64, U128, I8, I16, I32, I64, I128, Any, Bool, Null, Enumerated, Integer, Octets, Bits, Eoc, VecU8, VecU32, VecBool, VecVecU8, SetOfU8, BTreeSetU8, Sequence, Set, SeqOfU32, Explicit0U32, Explicit31U8, VecExplicit31U8, OptU8, HashSetI8}
+use Rattle.asn1vec_engine.specs.Meaning.{Meaning, ReadsByEither, is_ber, optional}
+use Rattle.asn1vec_engine.specs.Shown.{IsReadAnswer, IsWritten, ReadsByBer, Reading, Same, StrictEncoding, StrictEncodingIfAny, bits_text, element_text, in_hexadecimal, in_order, list_text, truth_text}
 
 abbrev pub name_of : TypeName → List ℕ
 name_of U8 = codes "u8"
@@ -67,6 +72,11 @@ name_of BTreeSetU8 = codes "btreeset.u8"
 name_of Sequence = codes "sequence"
 name_of Set = codes "set"
 name_of SeqOfU32 = codes "seqof.u32"
+name_of Explicit0U32 = codes "explicit0.u32"
+name_of Explicit31U8 = codes "explicit31.u8"
+name_of VecExplicit31U8 = codes "vec.explicit31.u8"
+name_of OptU8 = codes "opt.u8"
+name_of HashSetI8 = codes "hashset.i8"
 
 -- integers, there by either rule: in decimals, with the strict encoding that each has which the type holds
 abbrev pub integers : {T : Type 0} → (T → ℤ) → (ℤ → Type 0) → (List ℕ → Error → Type 0) → Meaning
@@ -158,6 +168,16 @@ unsigned_item size = record {
   text_of = decimal;
 }
 
+-- and the signed ones
+abbrev pub signed_item : ℕ → Item
+signed_item size = record {
+  T = ℤ;
+  grammar = item_grammar (integer_element (λ n. n) (IsSigned size));
+  ber_gives = BerGives (OfParts (SignedGives size)) Same;
+  der_gives = DerGives IntegerCheckGives (OfParts (SignedGives size)) Same;
+  text_of = signed_decimal;
+}
+
 -- the values of a leaf type
 abbrev pub leaf_item : {T : Type 0} (L : Leaf T) → (L.Value → List ℕ) → Item
 leaf_item {T} L text = record {
@@ -204,17 +224,41 @@ ordered_set I cmp = record {
   text_of = λ s. list_text I.text_of s.keys;
 }
 
--- lists and sets, there by either rule: shown by their items, with the strict encoding of the value, unless that is too long
-abbrev pub collection : Item → Meaning
-collection I = record {
+-- sets whose items stand in no order, each once: shown in ascending order
+abbrev pub hashed_set : (I : Item) → (I.T → I.T → Ordering) → Item
+hashed_set I cmp = record {
+  T = HashSet I.T (BuildHasherDefault FoldHasher);
+  grammar = member_grammar (is_other (eq_by_cmp cmp)) (λ s. s.keys) I.grammar;
+  ber_gives = BerGives (OfParts (ListTakes 17 (λ items s. IsHashedOf (eq_by_cmp cmp) items s) I.ber_gives Same)) Same;
+  der_gives = DerGives PassesAll (OfParts (ListTakes 17 (λ items s. IsHashedOf (eq_by_cmp cmp) items s) I.der_gives Same)) Same;
+  text_of = λ s. list_text I.text_of (in_order cmp s.keys);
+}
+
+-- values under an explicit, context-specific tag of this number: shown as without it
+abbrev pub explicit : ℕ → Item → Item
+explicit number I = record {
+  T = TaggedValue I.T Error Explicit 2 number;
+  grammar = explicit_grammar 2 number (λ t. t.inner) I.grammar;
+  ber_gives = BerGives (OfParts (ExplicitTakes 2 number (λ t. t.inner) I.ber_gives Same)) Same;
+  der_gives = ExplicitGives 2 number (λ t. t.inner) I.der_gives Same;
+  text_of = λ t. I.text_of t.inner;
+}
+
+-- items, there by either rule, the writer of which may allocate: with the strict encoding of the value, unless that is too long
+abbrev pub alone : Truth → Item → Meaning
+alone allocates I = record {
   T = I.T;
   is_there = λ rule. true;
   Reads = ReadsByEither I.grammar.Ber I.grammar.Der I.grammar.value I.grammar.allocates I.ber_gives I.der_gives;
   text_of = I.text_of;
-  Encodes = λ x. StrictEncodingIfAny I.grammar.Form true (I.grammar.value x);
+  Encodes = λ x. StrictEncodingIfAny I.grammar.Form allocates (I.grammar.value x);
   reading_allocates = I.grammar.allocates;
-  writing_allocates = true;
+  writing_allocates = allocates;
 }
+
+-- lists and sets: shown by their items
+abbrev pub collection : Item → Meaning
+collection = alone true
 
 abbrev pub meaning_of : TypeName → Meaning
 meaning_of U8 = unsigned 1
@@ -244,6 +288,11 @@ meaning_of BTreeSetU8 = collection (ordered_set (unsigned_item 1) nat_cmp)
 meaning_of Sequence = lent_leaf sequence_leaf (λ x. x.content) in_hexadecimal
 meaning_of Set = lent_leaf set_leaf (λ x. x.content) in_hexadecimal
 meaning_of SeqOfU32 = collection (sequence_of (unsigned_item 4))
+meaning_of Explicit0U32 = alone false (explicit 0 (unsigned_item 4))
+meaning_of Explicit31U8 = alone false (explicit 31 (unsigned_item 1))
+meaning_of VecExplicit31U8 = collection (vector (explicit 31 (unsigned_item 1)))
+meaning_of OptU8 = optional 2 (unsigned 1)
+meaning_of HashSetI8 = collection (hashed_set (signed_item 1) int_cmp)
 
 -- lists and sets, whose readers and writers allocate
 abbrev pub has_items : TypeName → Truth
@@ -254,6 +303,8 @@ has_items VecVecU8 = true
 has_items SetOfU8 = true
 has_items BTreeSetU8 = true
 has_items SeqOfU32 = true
+has_items VecExplicit31U8 = true
+has_items HashSetI8 = true
 has_items _ = false
 
 -- the name is that of the type, and is there by the rule

@@ -1,24 +1,29 @@
 //! The texts of answers.
-ghost use Rattle.std.specs.Prelude.{◌≡◌, ℕ, List, Ok, OnOk, decimal};
+ghost use Rattle.std.specs.Prelude.{◌≡◌, ℕ, ℤ, List, Ok, OnOk, decimal};
+ghost use Rattle.std.specs.Fmt.{signed_decimal};
+ghost use Rattle.std.specs.Set.{is_member};
 ghost use Rattle.std.specs.BTreeSet.{BTreeSet as SetOfMembers};
-ghost use Rattle.std.specs.List.Sorted.{IsStrictlyIncreasing};
-ghost use Rattle.asn1vec_engine.specs.declared.types.TypeName.TheVariants.{BTreeSetU8};
+ghost use Rattle.std.specs.List.Sorted.{IsStrictlyIncreasing, IsStrictlySortedBy};
+ghost use Rattle.std.specs.Ordering.{eq_by_cmp, int_cmp};
+ghost use Rattle.asn1_rs.specs.ToDer.{some_allocates};
+ghost use Rattle.asn1vec_engine.specs.declared.types.TypeName.TheVariants.{BTreeSetU8, HashSetI8};
 ghost use Rattle.asn1vec_engine.specs.Answer.{IsAnswer, IsAnswerLine, IsRequestAnswer};
 ghost use Rattle.asn1vec_engine.specs.Memory.{AreAlike, AsksForNoItems, TakesNoMemory};
-ghost use Rattle.asn1vec_engine.specs.Shown.{Gains, IsReadAnswer, list_text};
-ghost use Rattle.asn1vec_engine.specs.Meaning.{ReadsByEither};
+ghost use Rattle.asn1vec_engine.specs.Shown.{Gains, HeldEncoding, IsReadAnswer, in_order, list_text, option_text};
+ghost use Rattle.asn1vec_engine.specs.Meaning.{ReadsByEither, ReadsOptional};
 ghost use Rattle.asn1vec_engine.specs.Types.{IsTypeAnswer, meaning_of};
 
+use crate::options::{optional_by_ber, optional_by_der};
 use crate::request::{Request, Rule, read_request};
-use crate::shown::{Shown, push_by_ber, push_by_der};
+use crate::shown::{Encoded, Shown, push_by_ber, push_by_der, push_reading};
 use crate::text::push_str;
 use crate::types::{TypeName, type_named};
 use asn1_rs::{
     Any, BitString, EndOfContent, Enumerated, Error, Integer, LawfulBer, LawfulDer, Null,
-    OctetString, Sequence, SequenceOf, Set, SetOf,
+    OctetString, Sequence, SequenceOf, Set, SetOf, Tagged, TaggedExplicit,
 };
 use std::alloc::{AllocError, Global};
-use std::collections::BTreeSet;
+use std::collections::{BTreeSet, HashSet};
 
 /// The most octets of a line, without its end.
 pub(crate) const LONGEST_LINE: usize = 65_536;
@@ -42,6 +47,41 @@ where
     match rule {
         Rule::Ber => push_by_ber::<T>(alloc, octets, buffer, text),
         Rule::Der => push_by_der::<T>(alloc, octets, buffer, text),
+    }
+}
+
+/// Appends the answer to octets that are read by either rule as an optional value.
+fn push_optional<'a, T>(
+    alloc: Global,
+    rule: Rule,
+    octets: &'a [u8],
+    buffer: &mut Vec<u8>,
+    text: &mut Vec<u8>,
+) -> Result<(), AllocError>
+where
+    T: LawfulBer<'a, Error> + LawfulDer<'a, Error> + Tagged + Encoded + Drop,
+    ensures { OnOk result
+        (Gains text.old.items text.new.items
+        (IsReadAnswer
+        (ReadsOptional (T.mark).0
+        (ReadsByEither T.grammar.Ber T.grammar.Der T.grammar.value T.grammar.allocates T.ber_gives
+        T.der_gives) rule) (option_text T.text_of)
+        (HeldEncoding (some_allocates T.write_allocates T.count_allocates T.content_allocates)
+        T.Encodes) octets.now)) }
+{
+    match rule {
+        Rule::Ber => push_reading(
+            alloc,
+            optional_by_ber::<T, Error>(alloc, octets),
+            buffer,
+            text,
+        ),
+        Rule::Der => push_reading(
+            alloc,
+            optional_by_der::<T, Error>(alloc, octets),
+            buffer,
+            text,
+        ),
     }
 }
 
@@ -85,6 +125,17 @@ fn push_by_type(
         TypeName::Sequence => push_by_either::<Sequence<'_>>(alloc, rule, octets, buffer, text),
         TypeName::Set => push_by_either::<Set<'_>>(alloc, rule, octets, buffer, text),
         TypeName::SeqOfU32 => push_by_either::<SequenceOf<u32>>(alloc, rule, octets, buffer, text),
+        TypeName::Explicit0U32 => {
+            push_by_either::<TaggedExplicit<u32, Error, 0>>(alloc, rule, octets, buffer, text)
+        }
+        TypeName::Explicit31U8 => {
+            push_by_either::<TaggedExplicit<u8, Error, 31>>(alloc, rule, octets, buffer, text)
+        }
+        TypeName::VecExplicit31U8 => {
+            push_by_either::<Vec<TaggedExplicit<u8, Error, 31>>>(alloc, rule, octets, buffer, text)
+        }
+        TypeName::OptU8 => push_optional::<u8>(alloc, rule, octets, buffer, text),
+        TypeName::HashSetI8 => push_by_either::<HashSet<i8>>(alloc, rule, octets, buffer, text),
     }
 }
 
@@ -133,12 +184,19 @@ pub fn one_answer()
     ensures none { (line : List ℕ) → AsksForNoItems line → TakesNoMemory line }
 {}
 
-/// The items that are shown of a set that was read as `btreeset.u8` ascend.
+/// The items that are shown of a set that was read as `btreeset.u8` ascend. So do those that are shown of
+/// a set that was read as `hashset.i8`: they are its members, in ascending order.
 pub fn members_ascend()
-    ensures { (rule : Rule) (octets rest : List ℕ) (members : SetOfMembers ℕ)
+    ensures ordered { (rule : Rule) (octets rest : List ℕ) (members : SetOfMembers ℕ)
         → (meaning_of BTreeSetU8).Reads rule octets (Ok (rest, members))
         → (meaning_of BTreeSetU8).text_of members ≡ list_text decimal members.keys
         × IsStrictlyIncreasing members.keys }
+    ensures hashed { (members : (meaning_of HashSetI8).T)
+        → (meaning_of HashSetI8).text_of members ≡
+        list_text signed_decimal (in_order int_cmp members.keys) }
+    ensures in_order { (keys : List ℤ) → IsStrictlySortedBy int_cmp (in_order int_cmp keys)
+        × ((key : ℤ) → is_member (eq_by_cmp int_cmp) (in_order int_cmp keys) key ≡
+        is_member (eq_by_cmp int_cmp) keys key) }
 {}
 
 /// Makes the text the answer to a line, with its end. The octets that it asks for and the encoding that

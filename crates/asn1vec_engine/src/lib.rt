@@ -9,8 +9,10 @@ mod leaves;
 mod lists;
 mod names;
 mod numbers;
+mod options;
 mod request;
 mod shown;
+mod tags;
 mod text;
 mod types;
 

@@ -1,21 +1,25 @@
 //! How lists and sets are shown: the texts of their items, parted by commas, in brackets.
-ghost use Rattle.std.specs.Prelude.{◌≡◌, ◌++◌, List, OnOk, map, true};
+ghost use Rattle.std.specs.Prelude.{◌≡◌, ◌++◌, IfOk, List, OnOk, map, true};
+ghost use Rattle.std.specs.Fmt.{signed_decimal};
+ghost use Rattle.std.specs.Ordering.{int_cmp, int_eq};
+ghost use Rattle.x690.specs.Signed.{IsSigned};
+ghost use Rattle.asn1_rs.specs.Integer.{IntegerForm};
 ghost use Rattle.std.specs.Iterator.{AlwaysYields, IsFinite};
 ghost use Rattle.std.specs.List.{All};
 ghost use Rattle.x690.specs.Collections.{AllDiffer, AnyList, multiset};
 ghost use Rattle.asn1_rs.specs.declared.error.SerializeError.{SerializeError};
 ghost use Rattle.asn1_rs.specs.Lists.{ListForm};
-ghost use Rattle.asn1_rs.specs.Set.{SetForm, is_below, items_of, members, set_of};
+ghost use Rattle.asn1_rs.specs.Set.{SetForm, is_below, is_other, items_of, members, set_of};
 ghost use Rattle.asn1_rs.specs.Sequence.SequenceOf.{sequence_items};
 ghost use Rattle.asn1_rs.specs.ToDer.{Either, IsWritable, some_allocates};
-ghost use Rattle.asn1vec_engine.specs.Shown.{Encoding, IsWritten, StrictEncodingIfAny, list_text};
+ghost use Rattle.asn1vec_engine.specs.Shown.{Encoding, IsWritten, StrictEncodingIfAny, in_order, list_text};
 
 use crate::numbers::Number;
 use crate::shown::Encoded;
 use crate::text::push_str;
 use asn1_rs::{LawfulMember, LawfulWrite, SequenceOf, SetOf};
 use std::alloc::{AllocError, Global};
-use std::collections::BTreeSet;
+use std::collections::{BTreeSet, HashSet};
 
 /// A type of items. Each of its values is in DER form, and none has a refusal of its own.
 pub(crate) trait Item: Encoded {
@@ -51,7 +55,7 @@ fn are_writable<'a, T: Item + 'a, I: Iterator<Item = &'a T> + Drop>(items: I)
 }
 
 /// States of a value in DER form, with no refusal of its own, what its writing says.
-fn writing_is_strict<T: LawfulWrite>(x: &T)
+pub(crate) fn writing_is_strict<T: LawfulWrite>(x: &T)
     requires der { T.grammar.IsDer (T.grammar.value x.now) }
     requires writable { IsWritable (T.count_refuses x.now) (T.header_refuses x.now)
         (T.content_refuses x.now) }
@@ -172,6 +176,38 @@ impl<T: Item + LawfulMember + Ord> Encoded for BTreeSet<T> {
 }
 
 impl<T: Item + LawfulMember + Ord> Item for BTreeSet<T> {
+    fn is_writable(&self) {
+        are_writable(self.iter());
+    }
+}
+
+/// The members in ascending order.
+fn ascending(alloc: Global, set: &HashSet<i8>) -> Result<BTreeSet<i8>, AllocError>
+    ensures { IfOk result (λ ordered. ordered.keys ≡ in_order int_cmp set.now.keys) }
+{
+    BTreeSet::from_iter(alloc, set.iter().copied())
+}
+
+/// Its members stand in no order; they are shown as they ascend.
+impl Encoded for HashSet<i8> {
+    ghost text_of = { λ s. list_text signed_decimal (in_order int_cmp s.keys) };
+
+    ghost Encodes = { λ s.
+        StrictEncodingIfAny (SetForm set_of AllDiffer (IntegerForm (IsSigned 1))) true
+        (members (is_other int_eq) (λ n. n) s.keys) };
+
+    fn show(&self, text: &mut Vec<u8>) -> Result<(), AllocError> {
+        let ordered = ascending(*text.allocator(), self)?;
+        push_items(ordered.iter(), text)
+    }
+
+    fn is_told(&self) {
+        self.is_writable();
+        writing_is_strict(self);
+    }
+}
+
+impl Item for HashSet<i8> {
     fn is_writable(&self) {
         are_writable(self.iter());
     }

@@ -9,8 +9,8 @@ ghost use Rattle.asn1vec_engine.specs.Shown.{Encoding, Gains, Says, IsReadAnswer
 use crate::names::{push_refusal, push_write_refusal};
 use crate::text::{push_hexadecimal, push_str};
 use asn1_rs::{
-    Error, LawfulBer, LawfulDer, LawfulWrite, ParseResult, SerializeError, SerializeResult, Told,
-    read_ber, read_der,
+    Error, LawfulBer, LawfulDer, LawfulWrite, ParseResult, SerializeError, SerializeResult, ToDer,
+    Told, read_ber, read_der,
 };
 use std::alloc::{AllocError, Global};
 use std::mem;
@@ -112,13 +112,14 @@ fn push_writing(
 }
 
 /// Appends what `write_der` appends for a value in digits, be it in DER form or not, or why writing it was refused.
-fn push_written<T: LawfulWrite>(
+pub(crate) fn push_written<T: ToDer>(
     alloc: Global,
     x: &T,
     buffer: &mut Vec<u8>,
     text: &mut Vec<u8>,
 ) -> Result<(), AllocError>
-    requires { (e : SerializeError) → Either (T.header_refuses x.now) (T.content_refuses x.now) e → ⊥ }
+    requires tells { T.tells x.now }
+    requires own { (e : SerializeError) → Either (T.header_refuses x.now) (T.content_refuses x.now) e → ⊥ }
     ensures { OnOk result
         (Gains text.old.items text.new.items
         (SaysEncoding (IsWritten
@@ -154,7 +155,7 @@ fn push_value<T: Shown>(
 }
 
 /// Appends what a reader answered, in words.
-fn push_reading<'a, T: Shown + Drop>(
+pub(crate) fn push_reading<'a, T: Shown + Drop>(
     alloc: Global,
     answer: ParseResult<'a, T, Error>,
     buffer: &mut Vec<u8>,

@@ -35,6 +35,11 @@ pub(crate) enum TypeName {
     Sequence,
     Set,
     SeqOfU32,
+    Explicit0U32,
+    Explicit31U8,
+    VecExplicit31U8,
+    OptU8,
+    HashSetI8,
 }
 
 impl TypeName {
@@ -59,6 +64,15 @@ fn type_of(name: &[u8]) -> Option<TypeName>
     }
     if name == b"seqof.u32".as_slice() {
         return Some(TypeName::SeqOfU32);
+    }
+    if name == b"explicit0.u32".as_slice() {
+        return Some(TypeName::Explicit0U32);
+    }
+    if name == b"explicit31.u8".as_slice() {
+        return Some(TypeName::Explicit31U8);
+    }
+    if name == b"vec.explicit31.u8".as_slice() {
+        return Some(TypeName::VecExplicit31U8);
     }
     match name {
         b"u8" => Some(TypeName::U8),
@@ -86,6 +100,8 @@ fn type_of(name: &[u8]) -> Option<TypeName>
         b"setof.u8" => Some(TypeName::SetOfU8),
         b"sequence" => Some(TypeName::Sequence),
         b"set" => Some(TypeName::Set),
+        b"opt.u8" => Some(TypeName::OptU8),
+        b"hashset.i8" => Some(TypeName::HashSetI8),
         _ => None,
     }
 }

@@ -13,3 +13,5 @@ mod lists;
 mod numbers;
 #[cfg(test)]
 mod runs;
+#[cfg(test)]
+mod tags;

@@ -65,6 +65,15 @@ ber btreeset.u8 31800201010000ff = ok [1] rest ff enc 3103020101
 der btreeset.u8 3100 = ok [] rest - enc 3100
 ber btreeset.u8 310302017f02 = ok [127] rest 02 enc 310302017f
 der btreeset.u8 3005020105 = err Incomplete(2)
+der hashset.i8 31060201000201ff = ok [-1,0] rest - enc 31060201000201ff
+ber hashset.i8 31800201020201fe0201020000 = ok [-2,2] rest - enc 31060201020201fe
+der hashset.i8 1103020105 = err ConstructExpected
+der hashset.i8 31040202ff80 = err DerConstraintFailed(IntegerLeadingFF)
+ber hashset.i8 31040202ff80ff = ok [-128] rest ff enc 3103020180
+der hashset.i8 310402020080 = err IntegerTooLarge
+der hashset.i8 310c02017f02018002010102010a = ok [-128,1,10,127] rest - enc 310c02010102010a02017f020180
+der hashset.i8 3100 = ok [] rest - enc 3100
+der hashset.i8 3000 = err UnexpectedTag
 ";
 
 #[test]

@@ -60,6 +60,8 @@ impl<T: ToDer, E, const CLASS: u8, const TAG: u32> ToDer
     ghost content_allocates = { some_allocates T.write_allocates T.count_allocates
         T.content_allocates };
 
+    ghost write_allocates = { T.write_allocates };
+
     fn to_der_len(&self) -> Result<usize, Error> {
         element_len(TAG, self.inner.to_der_len())
     }

@@ -1,7 +1,9 @@
 use Rattle.std.proofs.Common.{ℕ, List, Ok, refl}
 use Rattle.std.specs.BTreeSet.{BTreeSet}
 use Rattle.std.specs.List.Sorted.{IsStrictlySortedBy}
-use Rattle.std.specs.Ordering.{nat_cmp}
+use Rattle.std.proofs.lemmas.Cmp.{int_cmp_total}
+use Rattle.std.specs.Ordering.{int_cmp, nat_cmp}
+use Rattle.asn1vec_engine.proofs.InOrder.{in_order_member, in_order_sorted}
 use Rattle.std.proofs.lemmas.Map.Keys.{IsStrictlyIncreasing-from_sorted}
 use Rattle.asn1vec_engine.specs.declared.request.Rule.{Rule}
 use Rattle.asn1vec_engine.specs.declared.request.Rule.TheVariants.{Ber, Der}
@@ -14,5 +16,8 @@ ordered : (rule : Rule) (octets rest : List ℕ) (members : BTreeSet ℕ) → (m
 ordered Ber octets rest members h = h.1.3.1.1.1
 ordered Der octets rest members h = h.1.3.1.1.1
 
-pub returns : goal.returns
-returns c = λ rule octets rest members h. (refl, IsStrictlyIncreasing-from_sorted members.keys (ordered rule octets rest members h))
+pub returns-clause-ordered : goal.returns-clause-ordered
+returns-clause-ordered c = λ rule octets rest members h. (refl, IsStrictlyIncreasing-from_sorted members.keys (ordered rule octets rest members h))
+
+pub returns-clause-in_order : goal.returns-clause-in_order
+returns-clause-in_order c = λ keys. (in_order_sorted int_cmp int_cmp_total keys, in_order_member int_cmp int_cmp_total keys)

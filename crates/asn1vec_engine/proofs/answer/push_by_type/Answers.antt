@@ -80,3 +80,18 @@ returns-in-Set c = rw c.in-Set.is c.push_by_either-in-Set.ensures
 
 pub returns-in-SeqOfU32 : goal.returns-in-SeqOfU32
 returns-in-SeqOfU32 c = rw c.in-SeqOfU32.is c.push_by_either-in-SeqOfU32.ensures
+
+pub returns-in-Explicit0U32 : goal.returns-in-Explicit0U32
+returns-in-Explicit0U32 c = rw c.in-Explicit0U32.is c.push_by_either-in-Explicit0U32.ensures
+
+pub returns-in-Explicit31U8 : goal.returns-in-Explicit31U8
+returns-in-Explicit31U8 c = rw c.in-Explicit31U8.is c.push_by_either-in-Explicit31U8.ensures
+
+pub returns-in-VecExplicit31U8 : goal.returns-in-VecExplicit31U8
+returns-in-VecExplicit31U8 c = rw c.in-VecExplicit31U8.is c.push_by_either-in-VecExplicit31U8.ensures
+
+pub returns-in-OptU8 : goal.returns-in-OptU8
+returns-in-OptU8 c = rw c.in-OptU8.is c.push_optional.ensures
+
+pub returns-in-HashSetI8 : goal.returns-in-HashSetI8
+returns-in-HashSetI8 c = rw c.in-HashSetI8.is c.push_by_either-in-HashSetI8.ensures
