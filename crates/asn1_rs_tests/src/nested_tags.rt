@@ -2,9 +2,10 @@
 
 use crate::calls::push_debug;
 use asn1_rs::{
-    ApplicationExplicit, Error, LawfulBer, LawfulCheck, LawfulDer, LawfulMember, LawfulWrite,
-    OctetString, ParseResult, PrivateExplicit, SequenceOf, SetOf, TaggedExplicit, Told, read_ber,
-    read_der, strict_vec, write_strict,
+    ApplicationExplicit, ApplicationImplicit, Error, LawfulBer, LawfulCheck, LawfulDer,
+    LawfulMember, LawfulWrite, OctetString, ParseResult, PrivateExplicit, PrivateImplicit,
+    SequenceOf, SetOf, TaggedExplicit, TaggedImplicit, Told, read_ber, read_der, strict_vec,
+    write_strict,
 };
 use std::alloc::Global;
 use std::collections::BTreeSet;
@@ -46,6 +47,27 @@ by BER Error(UnexpectedClass { expected: Some(Application), actual: ContextSpeci
 [2] [APPLICATION 3] OctetString:
 a209630704054a6f6e6573 = a209630704054a6f6e6573 rest - by BER 11 a209630704054a6f6e6573 rest -
 a209430704054a6f6e6573 = Error(ConstructExpected) by BER Error(ConstructExpected)
+
+[2] [APPLICATION 3] IMPLICIT OctetString:
+a20743054a6f6e6573 = a20743054a6f6e6573 rest - by BER 9 a20743054a6f6e6573 rest -
+a20783054a6f6e6573 = Error(UnexpectedClass { expected: Some(Application), actual: ContextSpecific }) \
+by BER Error(UnexpectedClass { expected: Some(Application), actual: ContextSpecific })
+
+[1] IMPLICIT SetOf of [0] IMPLICIT u8:
+a106800102800101 = a106800101800102 rest - by BER 8 a106800101800102 rest -
+a10480020005 = a103800105 rest - by BER 5 a103800105 rest -
+a103020105 = Error(UnexpectedTag { expected: Some(Tag(0)), actual: Tag(2) }) \
+by BER Error(UnexpectedTag { expected: Some(Tag(0)), actual: Tag(2) })
+
+[1] IMPLICIT [0] u8:
+a103020105 = a103020105 rest - by BER 5 a103020105 rest -
+8103020105 = Error(ConstructExpected) by BER Error(ConstructExpected)
+
+Vec of [PRIVATE 31] IMPLICIT Vec of [0] u16:
+3009ff1f06a00402020100 = 3009ff1f06a00402020100 rest - by BER 11 3009ff1f06a00402020100 rest -
+3080ff1f80a080020201000000 = Error(DerConstraintFailed(IndefiniteLength)) by BER Incomplete(Size(1))
+3080ff1f80a08002020100000000000000 = Error(DerConstraintFailed(IndefiniteLength)) \
+by BER 11 3009ff1f06a00402020100 rest -
 ";
 
 /// The calls of the table.
@@ -95,6 +117,36 @@ fn push_read<'a, T: LawfulBer<'a, Error> + LawfulDer<'a, Error> + LawfulWrite + 
     push_by_ber::<T>(text, alloc, read_ber(alloc, octets))
 }
 
+/// Appends the answer to a call that has an implicit tag.
+fn push_under_implicit(
+    text: &mut String,
+    alloc: Global,
+    name: &str,
+    octets: &[u8],
+) -> Result<(), Fail> {
+    match name {
+        "[2] [APPLICATION 3] IMPLICIT OctetString" => {
+            push_read::<TaggedExplicit<ApplicationImplicit<OctetString<'_>, Error, 3>, Error, 2>>(
+                text, alloc, octets,
+            )
+        }
+        "[1] IMPLICIT SetOf of [0] IMPLICIT u8" => {
+            push_read::<TaggedImplicit<SetOf<TaggedImplicit<u8, Error, 0>>, Error, 1>>(
+                text, alloc, octets,
+            )
+        }
+        "[1] IMPLICIT [0] u8" => {
+            push_read::<TaggedImplicit<TaggedExplicit<u8, Error, 0>, Error, 1>>(text, alloc, octets)
+        }
+        "Vec of [PRIVATE 31] IMPLICIT Vec of [0] u16" => {
+            push_read::<Vec<PrivateImplicit<Vec<TaggedExplicit<u16, Error, 0>>, Error, 31>>>(
+                text, alloc, octets,
+            )
+        }
+        _ => Ok(text.push_str("no such call")?),
+    }
+}
+
 impl Calls for Nested {
     fn answer(text: &mut String, alloc: Global, name: &str, octets: &[u8]) -> Result<(), Fail> {
         match name {
@@ -122,7 +174,7 @@ impl Calls for Nested {
                     TaggedExplicit<ApplicationExplicit<OctetString<'_>, Error, 3>, Error, 2>,
                 >(text, alloc, octets)
             }
-            _ => Ok(text.push_str("no such call")?),
+            _ => push_under_implicit(text, alloc, name, octets),
         }
     }
 }
@@ -142,4 +194,7 @@ fn values_under_a_tag_are_members(rt: HostRuntime) {
     let five = TaggedExplicit::<u8, Error, 0>::explicit(5);
     assert!(rt; are_equal(&five, &TaggedExplicit::explicit(5)));
     assert!(rt; !are_equal(&five, &TaggedExplicit::explicit(6)));
+    let five = TaggedImplicit::<u8, Error, 0>::implicit(5);
+    assert!(rt; are_equal(&five, &TaggedImplicit::implicit(5)));
+    assert!(rt; !are_equal(&five, &TaggedImplicit::implicit(6)));
 }

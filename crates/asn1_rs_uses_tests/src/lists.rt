@@ -3,7 +3,7 @@
 use crate::refusals::three_classes;
 use asn1_rs::{
     Any, Error, FromDer, FromItems, LawfulBer, LawfulCheck, LawfulDer, LawfulMember, LawfulWrite,
-    SetOf, TakesClass, ToDer, read_ber, read_der, strict_vec,
+    SetOf, TaggedImplicit, TakesClass, ToDer, read_ber, read_der, strict_vec,
 };
 use asn1_rs_uses::{InClass, Version};
 use std::alloc::Global;
@@ -83,7 +83,9 @@ fn laws_reach_a_tag_of_a_callers(rt: HostRuntime) -> Result<(), Fail> {
     assert_again_by_ber::<SetOf<Version>>(alloc, &VERSIONS, &ORDERED_VERSIONS)?;
     assert_again::<Version>(alloc, &VERSIONS[2..], &VERSIONS[2..7])?;
     let lenient = [0xa0, 0x80, 0x02, 0x02, 0x00, 0x02, 0x00, 0x00];
-    assert_again_by_ber::<Version>(alloc, &lenient, &VERSIONS[2..7])
+    assert_again_by_ber::<Version>(alloc, &lenient, &VERSIONS[2..7])?;
+    let retagged = [0xa1, 0x03, 0x02, 0x01, 0x02];
+    assert_again::<TaggedImplicit<Version, Error, 1>>(alloc, &retagged, &retagged)
 }
 
 /// Whether two values are equal, of a type that can take another tag and be a member of a set.
