@@ -44,13 +44,13 @@ counted_header a e =
     ap (λ (f : LengthForm). identifier_octets (identifier_of a.header) ++ length_form_octets f) e
     ∙ sym (header_octets_are (class_number a.header.class) a.header.constructed a.header.tag.0 (length a.content.now))
 
-same_parts : (g h : Header) → is_same_identifier g h ≡ true → identifier_of g ≡ identifier_of h
+pub same_parts : (g h : Header) → is_same_identifier g h ≡ true → identifier_of g ≡ identifier_of h
 same_parts g h e = search rules
 
-parts_same : (g h : Header) → identifier_of g ≡ identifier_of h → is_same_identifier g h ≡ true
+pub parts_same : (g h : Header) → identifier_of g ≡ identifier_of h → is_same_identifier g h ≡ true
 parts_same g h e = search rules
 
-both_true : (p q : Bool) → p && q ≡ true → (p ≡ true) × (q ≡ true)
+pub both_true : (p q : Bool) → p && q ≡ true → (p ≡ true) × (q ≡ true)
 both_true true q e = (refl, e)
 both_true false q e = cc
 

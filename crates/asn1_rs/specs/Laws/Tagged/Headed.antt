@@ -1,5 +1,5 @@
 -- Laws of values with the header of their tag in hand.
-use Rattle.std.specs.Prelude.{◌≡◌, ℕ, ◌<◌, ◌^◌, Bool, true, List, [], ◌++◌, length}
+use Rattle.std.specs.Prelude.{◌≡◌, ◌↔◌, ℕ, ◌<◌, ◌^◌, Bool, true, ◌&&◌, IsTrue, List, [], ◌++◌, length}
 use Rattle.std.proofs.Common.{arith, zero, suc, ◌∙◌, ap, sym, subst, refl, inr, append-nil}
 use mathlib.Core.Logic.{∥∥₁_map}
 use Rattle.x690.specs.Identifiers.{Identifier}
@@ -11,10 +11,13 @@ use Rattle.x690.specs.Strict.{header_octets}
 use Rattle.x690.specs.Laws.StrictElements.{der_allows_strict}
 use Rattle.asn1_rs.specs.declared.error.Error.{Error}
 use Rattle.asn1_rs.specs.declared.error.SerializeError.{SerializeError}
+use Rattle.asn1_rs.specs.declared.header.Header.{Header}
 use Rattle.asn1_rs.specs.Ber.{max_depth}
 use Rattle.asn1_rs.specs.Grammar.{IsOneBody, FormBodies, FormNumber, FormTakes, NoCheck, made}
 use Rattle.asn1_rs.specs.Grammar.Form.{IsStrict, HasForm, WritesByValue, WritesForm}
 use Rattle.asn1_rs.specs.Grammar.Item.{ItemGrammar, IsLawfulItem}
+use Rattle.asn1_rs.specs.Header.{identifier_of, is_same_identifier}
+use Rattle.asn1_rs.specs.Laws.Any.Writing.{same_parts, parts_same, both_true}
 use Rattle.asn1_rs.specs.Laws.Readers.{der_elements, ber_elements}
 use Rattle.asn1_rs.specs.Laws.Tagged.Explicit.{explicit_one_form, explicit_fits, explicit_form_check, explicit_by_value, explicit_writes_form, explicit_has_form}
 use Rattle.asn1_rs.specs.Laws.Tagged.Implicit.{implicit_one_form, implicit_fits, implicit_form_body, implicit_form_check, implicit_by_value, implicit_writes_form, implicit_has_form, under_possible}
@@ -33,6 +36,18 @@ by_constructed i b e = ap (λ (c : Bool). let j : Identifier = record { class = 
 -- refusals of a class that is one of the four are those of the value
 of_class_some : (class : ℕ) (own : SerializeError → Type 0) → class < 4 → HasNone (OfClass class own) → HasNone own
 of_class_some class own l n e o = n e (inr (l, o))
+
+-- two values with their headers are equal exactly where what the identifier octets say is, and the values are
+pub headed_same : {V : Type 0} (g h : Header) (same : Bool) (v w : V) → IsTrue same ↔ (v ≡ w) → IsTrue (is_same_identifier g h && (same && true)) ↔ ((identifier_of g, v) ≡ (identifier_of h, w))
+headed_same {V} g h same v w law = (
+  λ t.
+      let b = both_true (is_same_identifier g h) (same && true) t in
+      pair_same (identifier_of g, v) (identifier_of h, w) (same_parts g h b.0) (law.0 (both_true same true b.1).0),
+  λ e.
+      let i : is_same_identifier g h ≡ true = parts_same g h (ap (λ (z : Identifier × V). z.0) e) in
+      let c : same ≡ true = law.1 (ap (λ (z : Identifier × V). z.1) e) in
+      ap (λ b. b && (same && true)) i ∙ ap (λ b. b && true) c,
+)
 
 module _ {V : Type 0} (G : List ℕ → V → Type 0) where
   headed_one_body : IsOneFront G → IsOneBody (HeadedBody G)

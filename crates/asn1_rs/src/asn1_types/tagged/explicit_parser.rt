@@ -11,7 +11,7 @@ ghost use Rattle.asn1_rs.specs.Header.Reading.{der_breach, ber_breach};
 ghost use Rattle.asn1_rs.specs.Laws.Forms.{der_strict};
 ghost use Rattle.asn1_rs.specs.Laws.Readers.{der_elements, ber_elements, der_breach_spares, ber_breach_spares};
 ghost use Rattle.asn1_rs.specs.Laws.Tagged.Explicit.{explicit_checks};
-ghost use Rattle.asn1_rs.specs.Laws.Tagged.Headed.{explicit_headed_lawful, explicit_headed_by_value, explicit_headed_writes_form, explicit_headed_has_form};
+ghost use Rattle.asn1_rs.specs.Laws.Tagged.Headed.{explicit_headed_lawful, explicit_headed_by_value, explicit_headed_writes_form, explicit_headed_has_form, headed_same};
 ghost use Rattle.asn1_rs.specs.Laws.Tagged.Parser.{explicit_parser_exact, explicit_parser_spares};
 ghost use Rattle.asn1_rs.specs.Tagged.Explicit.{ExplicitCheckGives, InnerChecked};
 ghost use Rattle.asn1_rs.specs.Tagged.Headed.{explicit_headed};
@@ -22,7 +22,9 @@ use crate::asn1_types::tagged::Explicit;
 use crate::asn1_types::tagged::parser::TaggedParser;
 use crate::der::element_by_der;
 use crate::error::Error;
-use crate::laws::{Grammar, LawfulBer, LawfulCheck, LawfulDer, LawfulItem, LawfulWrite};
+use crate::laws::{
+    Grammar, LawfulBer, LawfulCheck, LawfulDer, LawfulItem, LawfulMember, LawfulWrite,
+};
 use crate::traits::CheckDerConstraints;
 
 /// Checks the first element in the contents octets, by DER.
@@ -78,6 +80,11 @@ impl<T: LawfulWrite> LawfulWrite for TaggedParser<'_, Explicit, T, Error> {
 impl<T: LawfulCheck> LawfulCheck for TaggedParser<'_, Explicit, T, Error> {
     ghost checks = { explicit_checks IsDerElement DerElementFault IsCutIdentifier der_elements
         der_breach der_breach_spares T.check_gives T.grammar.Check T.checks };
+}
+
+impl<T: LawfulMember> LawfulMember for TaggedParser<'_, Explicit, T, Error> {
+    ghost same = { λ x y. headed_same x.header y.header (T.eq x.inner y.inner)
+        (T.grammar.value x.inner) (T.grammar.value y.inner) (T.same x.inner y.inner) };
 }
 
 impl<'a, T: LawfulBer<'a, Error>> LawfulBer<'a, Error> for TaggedParser<'a, Explicit, T, Error> {

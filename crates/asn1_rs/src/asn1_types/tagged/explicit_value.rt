@@ -1,5 +1,5 @@
 //! Values under an explicit tag: an element of its own, constructed, around that of the value (X.690 8.14.2).
-ghost use Rattle.std.specs.Prelude.{◌++◌, ◌≡◌, ◌≤◌, true, length};
+ghost use Rattle.std.specs.Prelude.{◌++◌, ◌≡◌, ◌≤◌, false, true, length};
 ghost use Rattle.x690.specs.Strict.{header_octets};
 ghost use Rattle.asn1_rs.specs.declared.error.SerializeError.TheVariants.{InvalidClass};
 ghost use Rattle.asn1_rs.specs.Answers.{seen};
@@ -60,7 +60,7 @@ impl<T: ToDer, E, const CLASS: u8, const TAG: u32> ToDer
     ghost content_allocates = { some_allocates T.write_allocates T.count_allocates
         T.content_allocates };
 
-    ghost write_allocates = { T.write_allocates };
+    ghost write_allocates = { false };
 
     fn to_der_len(&self) -> Result<usize, Error> {
         element_len(TAG, self.inner.to_der_len())

@@ -10,7 +10,7 @@ ghost use Rattle.asn1_rs.specs.Grammar.{FormTakes};
 ghost use Rattle.asn1_rs.specs.Header.{identifier_of};
 ghost use Rattle.asn1_rs.specs.Header.Reading.{der_breach, ber_breach};
 ghost use Rattle.asn1_rs.specs.Laws.Readers.{der_elements, ber_elements, der_breach_spares, ber_breach_spares};
-ghost use Rattle.asn1_rs.specs.Laws.Tagged.Headed.{each_class, implicit_headed_lawful, implicit_headed_by_value, implicit_headed_writes_form, implicit_headed_has_form};
+ghost use Rattle.asn1_rs.specs.Laws.Tagged.Headed.{each_class, implicit_headed_lawful, implicit_headed_by_value, implicit_headed_writes_form, implicit_headed_has_form, headed_same};
 ghost use Rattle.asn1_rs.specs.Laws.Tagged.Implicit.{implicit_checked};
 ghost use Rattle.asn1_rs.specs.Laws.Tagged.Parser.{checked_exact, checked_spares, implicit_parser_exact, implicit_parser_spares};
 ghost use Rattle.asn1_rs.specs.Tagged.Headed.{CheckedBody, implicit_headed};
@@ -23,8 +23,8 @@ use crate::asn1_types::tagged::implicit_value::check_under;
 use crate::asn1_types::tagged::parser::TaggedParser;
 use crate::error::Error;
 use crate::laws::{
-    Grammar, LawfulBer, LawfulBody, LawfulCheck, LawfulDer, LawfulItem, LawfulTagged, LawfulWrite,
-    TakesClass,
+    Grammar, LawfulBer, LawfulBody, LawfulCheck, LawfulDer, LawfulItem, LawfulMember, LawfulTagged,
+    LawfulWrite, TakesClass,
 };
 use crate::traits::{CheckDerConstraints, Tagged};
 
@@ -89,6 +89,11 @@ impl<T: LawfulWrite + TakesEachClass> LawfulWrite for TaggedParser<'_, Implicit,
 
 impl<T: LawfulCheck + TakesEachClass> LawfulCheck for TaggedParser<'_, Implicit, T, Error> {
     ghost checks = { implicit_checked (T.mark).0 T.check_gives T.grammar.Check T.checks };
+}
+
+impl<T: LawfulMember + TakesEachClass> LawfulMember for TaggedParser<'_, Implicit, T, Error> {
+    ghost same = { λ x y. headed_same x.header y.header (T.eq x.inner y.inner)
+        (T.grammar.value x.inner) (T.grammar.value y.inner) (T.same x.inner y.inner) };
 }
 
 impl<'a, T> LawfulBer<'a, Error> for TaggedParser<'a, Implicit, T, Error>

@@ -1,5 +1,5 @@
 //! Values under an implicit tag: the value's element, with this class and tag number in place of its own (X.690 8.14.3).
-ghost use Rattle.std.specs.Prelude.{◌≡◌, ◌≤◌, length};
+ghost use Rattle.std.specs.Prelude.{◌≡◌, ◌≤◌, false, length};
 ghost use Rattle.x690.specs.Elements.{IsDerElement};
 ghost use Rattle.x690.specs.Faults.{DerElementFault};
 ghost use Rattle.x690.specs.Strict.{header_octets};
@@ -56,6 +56,8 @@ impl<T: ToDer, E, const CLASS: u8, const TAG: u32> ToDer
     ghost count_allocates = { T.count_allocates };
 
     ghost content_allocates = { T.content_allocates };
+
+    ghost write_allocates = { false };
 
     fn to_der_len(&self) -> Result<usize, Error> {
         element_len(TAG, self.inner.der_content_len())
