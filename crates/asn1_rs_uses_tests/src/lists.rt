@@ -2,10 +2,10 @@
 
 use crate::refusals::three_classes;
 use asn1_rs::{
-    Any, Error, FromItems, LawfulBer, LawfulDer, LawfulWrite, SetOf, ToDer, read_ber, read_der,
-    strict_vec,
+    Any, Error, FromItems, LawfulBer, LawfulCheck, LawfulDer, LawfulMember, LawfulWrite, SetOf,
+    TaggedImplicit, TakesClass, ToDer, read_ber, read_der, strict_vec,
 };
-use asn1_rs_uses::InClass;
+use asn1_rs_uses::{InClass, Version, read_version};
 use std::alloc::Global;
 use std::collections::BTreeSet;
 use std::test::Fail;
@@ -64,6 +64,47 @@ fn laws_reach_nested_sets(rt: HostRuntime) -> Result<(), Fail> {
     assert_again_by_ber::<SetOf<SetOf<u8>>>(alloc, &SETS, &ASCENDING)?;
     assert_again::<BTreeSet<BTreeSet<u8>>>(alloc, &SETS, &ASCENDING)?;
     assert_again_by_ber::<BTreeSet<BTreeSet<u8>>>(alloc, &SETS, &ASCENDING)
+}
+
+/// A set of the versions 2 and 1, each under its tag.
+const VERSIONS: [u8; 12] = [
+    0x31, 0x0a, 0xa0, 0x03, 0x02, 0x01, 0x02, 0xa0, 0x03, 0x02, 0x01, 0x01,
+];
+
+/// The same set in ascending order.
+const ORDERED_VERSIONS: [u8; 12] = [
+    0x31, 0x0a, 0xa0, 0x03, 0x02, 0x01, 0x01, 0xa0, 0x03, 0x02, 0x01, 0x02,
+];
+
+#[test]
+fn laws_reach_sets_of_versions(rt: HostRuntime) -> Result<(), Fail> {
+    let alloc = rt.alloc();
+    assert_again::<SetOf<Version>>(alloc, &VERSIONS, &ORDERED_VERSIONS)?;
+    assert_again_by_ber::<SetOf<Version>>(alloc, &VERSIONS, &ORDERED_VERSIONS)
+}
+
+#[test]
+fn laws_reach_a_version_under_a_further_tag(rt: HostRuntime) -> Result<(), Fail> {
+    let alloc = rt.alloc();
+    let octets = [0xa1, 0x03, 0x02, 0x01, 0x02];
+    assert_again::<TaggedImplicit<Version, Error, 1>>(alloc, &octets, &octets)?;
+    let lenient = [0xa0, 0x80, 0x02, 0x02, 0x00, 0x02, 0x00, 0x00];
+    assert_again_by_ber::<Version>(alloc, &lenient, &VERSIONS[2..7])
+}
+
+/// Whether two values are equal, of a type that can take another tag and be a member of a set.
+fn are_equal<T: LawfulMember + LawfulCheck + TakesClass<2>>(one: &T, other: &T) -> bool {
+    one == other
+}
+
+#[test]
+fn versions_are_compared(rt: HostRuntime) -> Result<(), Fail> {
+    let alloc = rt.alloc();
+    let (rest, two) = read_version(alloc, &VERSIONS[2..])?;
+    let (_, one) = read_version(alloc, rest)?;
+    assert!(rt; are_equal(&one, &one));
+    assert!(rt; !are_equal(&one, &two));
+    Ok(())
 }
 
 /// How many contents octets the list of three values has.
