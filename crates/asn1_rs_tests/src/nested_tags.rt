@@ -117,64 +117,84 @@ fn push_read<'a, T: LawfulBer<'a, Error> + LawfulDer<'a, Error> + LawfulWrite + 
     push_by_ber::<T>(text, alloc, read_ber(alloc, octets))
 }
 
-/// Appends the answer to a call that has an implicit tag.
-fn push_under_implicit(
-    text: &mut String,
-    alloc: Global,
-    name: &str,
-    octets: &[u8],
-) -> Result<(), Fail> {
-    match name {
-        "[2] [APPLICATION 3] IMPLICIT OctetString" => {
-            push_read::<TaggedExplicit<ApplicationImplicit<OctetString<'_>, Error, 3>, Error, 2>>(
-                text, alloc, octets,
-            )
-        }
-        "[1] IMPLICIT SetOf of [0] IMPLICIT u8" => {
-            push_read::<TaggedImplicit<SetOf<TaggedImplicit<u8, Error, 0>>, Error, 1>>(
-                text, alloc, octets,
-            )
-        }
-        "[1] IMPLICIT [0] u8" => {
-            push_read::<TaggedImplicit<TaggedExplicit<u8, Error, 0>, Error, 1>>(text, alloc, octets)
-        }
-        "Vec of [PRIVATE 31] IMPLICIT Vec of [0] u16" => {
-            push_read::<Vec<PrivateImplicit<Vec<TaggedExplicit<u16, Error, 0>>, Error, 31>>>(
-                text, alloc, octets,
-            )
-        }
-        _ => Ok(text.push_str("no such call")?),
-    }
+/// A list of numbers under tags, under a tag.
+fn push_tagged_list(text: &mut String, alloc: Global, octets: &[u8]) -> Result<(), Fail> {
+    push_read::<TaggedExplicit<Vec<TaggedExplicit<u8, Error, 0>>, Error, 1>>(text, alloc, octets)
+}
+
+/// A set of numbers under tags.
+fn push_set_of_tags(text: &mut String, alloc: Global, octets: &[u8]) -> Result<(), Fail> {
+    push_read::<SetOf<TaggedExplicit<u8, Error, 31>>>(text, alloc, octets)
+}
+
+/// A set under a tag.
+fn push_tagged_set(text: &mut String, alloc: Global, octets: &[u8]) -> Result<(), Fail> {
+    push_read::<ApplicationExplicit<BTreeSet<u8>, Error, 2>>(text, alloc, octets)
+}
+
+/// A list of lists under tags.
+fn push_lists_under_tags(text: &mut String, alloc: Global, octets: &[u8]) -> Result<(), Fail> {
+    push_read::<Vec<TaggedExplicit<Vec<u16>, Error, 3>>>(text, alloc, octets)
+}
+
+/// A sequence of numbers under tags, under a tag.
+fn push_private_sequence(text: &mut String, alloc: Global, octets: &[u8]) -> Result<(), Fail> {
+    push_read::<PrivateExplicit<SequenceOf<ApplicationExplicit<u8, Error, 0>>, Error, 7>>(
+        text, alloc, octets,
+    )
+}
+
+/// Octets under a tag, under a tag.
+fn push_tag_in_a_tag(text: &mut String, alloc: Global, octets: &[u8]) -> Result<(), Fail> {
+    push_read::<TaggedExplicit<ApplicationExplicit<OctetString<'_>, Error, 3>, Error, 2>>(
+        text, alloc, octets,
+    )
+}
+
+/// Octets under an implicit tag, under a tag.
+fn push_implicit_in_a_tag(text: &mut String, alloc: Global, octets: &[u8]) -> Result<(), Fail> {
+    push_read::<TaggedExplicit<ApplicationImplicit<OctetString<'_>, Error, 3>, Error, 2>>(
+        text, alloc, octets,
+    )
+}
+
+/// A set under an implicit tag, of numbers under implicit tags.
+fn push_implicit_set(text: &mut String, alloc: Global, octets: &[u8]) -> Result<(), Fail> {
+    push_read::<TaggedImplicit<SetOf<TaggedImplicit<u8, Error, 0>>, Error, 1>>(text, alloc, octets)
+}
+
+/// A number under a tag, under an implicit tag.
+fn push_implicit_over_a_tag(text: &mut String, alloc: Global, octets: &[u8]) -> Result<(), Fail> {
+    push_read::<TaggedImplicit<TaggedExplicit<u8, Error, 0>, Error, 1>>(text, alloc, octets)
+}
+
+/// A list of lists under implicit tags, of numbers under tags.
+fn push_implicit_lists(text: &mut String, alloc: Global, octets: &[u8]) -> Result<(), Fail> {
+    push_read::<Vec<PrivateImplicit<Vec<TaggedExplicit<u16, Error, 0>>, Error, 31>>>(
+        text, alloc, octets,
+    )
 }
 
 impl Calls for Nested {
     fn answer(text: &mut String, alloc: Global, name: &str, octets: &[u8]) -> Result<(), Fail> {
         match name {
-            "[1] Vec of [0] u8" => {
-                push_read::<TaggedExplicit<Vec<TaggedExplicit<u8, Error, 0>>, Error, 1>>(
-                    text, alloc, octets,
-                )
-            }
-            "SetOf of [31] u8" => push_read::<SetOf<TaggedExplicit<u8, Error, 31>>>(
+            "[1] Vec of [0] u8" => push_tagged_list(text, alloc, octets),
+            "SetOf of [31] u8" => push_set_of_tags(text, alloc, octets),
+            "[APPLICATION 2] BTreeSet of u8" => push_tagged_set(text, alloc, octets),
+            "Vec of [3] Vec of u16" => push_lists_under_tags(text, alloc, octets),
+            "[PRIVATE 7] SequenceOf of [APPLICATION 0] u8" => push_private_sequence(
                 text, alloc, octets,
             ),
-            "[APPLICATION 2] BTreeSet of u8" => {
-                push_read::<ApplicationExplicit<BTreeSet<u8>, Error, 2>>(text, alloc, octets)
-            }
-            "Vec of [3] Vec of u16" => push_read::<Vec<TaggedExplicit<Vec<u16>, Error, 3>>>(
+            "[2] [APPLICATION 3] OctetString" => push_tag_in_a_tag(text, alloc, octets),
+            "[2] [APPLICATION 3] IMPLICIT OctetString" => push_implicit_in_a_tag(
                 text, alloc, octets,
             ),
-            "[PRIVATE 7] SequenceOf of [APPLICATION 0] u8" => {
-                push_read::<
-                    PrivateExplicit<SequenceOf<ApplicationExplicit<u8, Error, 0>>, Error, 7>,
-                >(text, alloc, octets)
-            }
-            "[2] [APPLICATION 3] OctetString" => {
-                push_read::<
-                    TaggedExplicit<ApplicationExplicit<OctetString<'_>, Error, 3>, Error, 2>,
-                >(text, alloc, octets)
-            }
-            _ => push_under_implicit(text, alloc, name, octets),
+            "[1] IMPLICIT SetOf of [0] IMPLICIT u8" => push_implicit_set(text, alloc, octets),
+            "[1] IMPLICIT [0] u8" => push_implicit_over_a_tag(text, alloc, octets),
+            "Vec of [PRIVATE 31] IMPLICIT Vec of [0] u16" => push_implicit_lists(
+                text, alloc, octets,
+            ),
+            _ => Ok(text.push_str("no such call")?),
         }
     }
 }
