@@ -248,7 +248,7 @@ fn push_hashed_set(text: &mut String, alloc: Global, octets: &[u8]) -> Result<()
 }
 
 /// What the check of the element at the front, by BER, says.
-fn push_checked<T: CheckDerConstraints>(
+pub(crate) fn push_checked<T: CheckDerConstraints>(
     text: &mut String,
     alloc: Global,
     octets: &[u8],

@@ -1,11 +1,11 @@
 //! Values under implicit tags.
 
 use crate::calls::{push_debug, push_written};
-use crate::collections::{push_by_ber, push_by_der};
+use crate::collections::{push_by_ber, push_by_der, push_checked};
 use asn1_rs::{
-    Any, ApplicationExplicit, Boolean, CheckDerConstraints, Error, FromBer, FromDer, Implicit,
-    Integer, OptTaggedImplicit, Sequence, SetOf, TaggedExplicit, TaggedImplicit, TaggedValue,
-    ToDer, Told, read_ber, read_der, write_strict,
+    ApplicationExplicit, Boolean, Error, FromBer, FromDer, Implicit, Integer, OptTaggedImplicit,
+    Sequence, SetOf, TaggedExplicit, TaggedImplicit, TaggedValue, ToDer, Told, read_ber, read_der,
+    write_strict,
 };
 use std::alloc::Global;
 use std::fmt::Debug;
@@ -109,16 +109,6 @@ a103020105 = Error(UnexpectedClass { expected: Some(Application), actual: Contex
 
 /// The calls of the tables.
 struct Implicits;
-
-/// What a check says of the element at the front, by BER.
-fn push_checked<T: CheckDerConstraints>(
-    text: &mut String,
-    alloc: Global,
-    octets: &[u8],
-) -> Result<(), Fail> {
-    let (_, any) = Any::from_ber(alloc, octets)?;
-    push_debug(text, &T::check_constraints(&any))
-}
 
 /// A value under two tags that was read, what follows it, and how it is written.
 fn push_read<T: Debug + ToDer>(
