@@ -2,10 +2,11 @@
 //! stay, converted to values under tags.
 
 use crate::calls::{push_debug, push_written};
+use crate::collections::push_checked;
 use asn1_rs::{
-    Any, AsTaggedExplicit, AsTaggedImplicit, Boolean, CheckDerConstraints, Class, Error, Explicit,
-    FromBer, FromDer, Implicit, LawfulBer, LawfulCheck, LawfulDer, LawfulWrite, TaggedParser,
-    read_ber, read_der, strict_vec,
+    Any, AsTaggedExplicit, AsTaggedImplicit, Boolean, Class, Error, Explicit, FromBer, FromDer,
+    Implicit, LawfulBer, LawfulCheck, LawfulDer, LawfulMember, LawfulWrite, TaggedParser, read_ber,
+    read_der, strict_vec,
 };
 use std::alloc::Global;
 use std::fmt::Debug;
@@ -179,16 +180,6 @@ impl Calls for Put {
     }
 }
 
-/// What a check says of the element at the front, by BER.
-fn push_checked<T: CheckDerConstraints>(
-    text: &mut String,
-    alloc: Global,
-    octets: &[u8],
-) -> Result<(), Fail> {
-    let (_, any) = Any::from_ber(alloc, octets)?;
-    push_debug(text, &T::check_constraints(&any))
-}
-
 /// The calls of the third table.
 struct Checked;
 
@@ -228,7 +219,7 @@ fn push_again<T: LawfulWrite, E: Debug + Drop>(
 /// What a lawful type is read as by DER, and by BER.
 fn push_lawful<'a, T, E>(text: &mut String, alloc: Global, octets: &'a [u8]) -> Result<(), Fail>
 where
-    T: LawfulBer<'a, E> + LawfulDer<'a, E> + LawfulWrite + LawfulCheck + Drop,
+    T: LawfulBer<'a, E> + LawfulDer<'a, E> + LawfulWrite + LawfulCheck + LawfulMember + Drop,
     E: From<Error> + Debug + Drop,
 {
     push_again(text, alloc, &read_der::<T, E>(alloc, octets))?;

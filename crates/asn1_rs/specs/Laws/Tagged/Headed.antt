@@ -38,7 +38,7 @@ of_class_some : (class : ℕ) (own : SerializeError → Type 0) → class < 4 �
 of_class_some class own l n e o = n e (inr (l, o))
 
 -- two values with their headers are equal exactly where what the identifier octets say is, and the values are
-pub headed_same : {V : Type 0} (g h : Header) (same : Bool) (v w : V) → IsTrue same ↔ (v ≡ w) → IsTrue (is_same_identifier g h && (same && true)) ↔ ((identifier_of g, v) ≡ (identifier_of h, w))
+pub headed_same : {V : Type 0} (g h : Header) (same : Bool) (v w : V) → IsTrue same ↔ (v ≡ w) → IsTrue (is_same_identifier g h && (same && true)) ↔ ◌≡◌ {A = Identifier × V} (identifier_of g, v) (identifier_of h, w)
 headed_same {V} g h same v w law = (
   λ t.
       let b = both_true (is_same_identifier g h) (same && true) t in
