@@ -4,6 +4,8 @@ ghost use Rattle.x690.specs.Identifiers.{IsCutIdentifier};
 ghost use Rattle.asn1_rs.specs.Answers.{Exactly, seen};
 ghost use Rattle.asn1_rs.specs.Kinds.{HoldingGives, HoldingReads};
 ghost use Rattle.asn1_rs.specs.Laws.Kinds.{held_takes, held_reads, held_spares};
+ghost use Rattle.asn1_rs_uses.specs.Numbers.{NoMemory};
+ghost use Rattle.asn1_rs_uses.specs.Version.{VersionByDer};
 
 use asn1_rs::{
     Any, CheckDerConstraints, Error, FromAny, FromDer, HasKind, HolderKind, Holds, LawfulBody,
@@ -91,6 +93,9 @@ impl<T: LawfulMember> LawfulMember for Field<T> {
 }
 
 /// The version at the front of the octets, by DER, and what follows it.
-pub fn read_version(alloc: Global, octets: &[u8]) -> ParseResult<'_, Version, Error> {
+pub fn read_version(alloc: Global, octets: &[u8]) -> ParseResult<'_, Version, Error>
+    ensures { Exactly IsCutIdentifier VersionByDer (λ version. pos version.0.inner) NoMemory
+        octets.now (seen result) }
+{
     read_der::<Version, Error>(alloc, octets)
 }
