@@ -5,7 +5,7 @@ ghost use Rattle.asn1_rs.specs.Answers.{Exactly, seen};
 ghost use Rattle.asn1_rs.specs.Kinds.{HoldingGives, HoldingReads};
 ghost use Rattle.asn1_rs.specs.Laws.Kinds.{held_takes, held_reads, held_spares};
 ghost use Rattle.asn1_rs_uses.specs.Numbers.{NoMemory};
-ghost use Rattle.asn1_rs_uses.specs.Versions.{VersionByDer};
+ghost use Rattle.asn1_rs_uses.specs.Version.{VersionByDer};
 
 use asn1_rs::{
     Any, CheckDerConstraints, Error, FromAny, FromDer, HasKind, HolderKind, Holds, LawfulBody,
