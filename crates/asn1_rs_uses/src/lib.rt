@@ -33,4 +33,4 @@ pub use refusals::{
 };
 pub use sequences::{read_numbers, write_numbers};
 pub use serial_number::SerialNumber;
-pub use version::Version;
+pub use version::{Field, Version, read_version};

@@ -1,99 +1,101 @@
-//! A lawful type of a caller's that holds a value under a tag, and hands every call on to it.
-ghost use Rattle.std.specs.Prelude.{◌≡◌};
+//! A lawful type of a caller's that holds a lawful value, tag and all, and hands every call on to it.
+ghost use Rattle.std.specs.Prelude.{pos};
+ghost use Rattle.x690.specs.Identifiers.{IsCutIdentifier};
+ghost use Rattle.asn1_rs.specs.Answers.{Exactly, seen};
 ghost use Rattle.asn1_rs.specs.Kinds.{HoldingGives, HoldingReads};
 ghost use Rattle.asn1_rs.specs.Laws.Kinds.{held_takes, held_reads, held_spares};
+ghost use Rattle.asn1_rs_uses.specs.Numbers.{NoMemory};
+ghost use Rattle.asn1_rs_uses.specs.Version.{VersionByDer};
 
 use asn1_rs::{
-    Any, CheckDerConstraints, Error, FromAny, FromDer, Grammar, HasKind, HolderKind, Holds,
-    LawfulBody, LawfulCheck, LawfulDer, LawfulMember, ParseResult, TaggedExplicit,
+    Any, CheckDerConstraints, Error, FromAny, FromDer, HasKind, HolderKind, Holds, LawfulBody,
+    LawfulCheck, LawfulDer, LawfulMember, ParseResult, TaggedExplicit, read_der,
 };
 use std::alloc::Global;
 
-/// The number, under its tag.
-type Number = TaggedExplicit<u8, Error, 0>;
-
-/// The version of a certificate.
+/// A field of a certificate, which holds its value.
 #[derive(Debug, PartialEq, Eq, Drop)]
-pub struct Version(Number);
+pub struct Field<T>(pub T);
 
-impl HasKind for Version {
+/// The version of a certificate, a number under an explicit tag.
+pub type Version = Field<TaggedExplicit<u8, Error, 0>>;
+
+impl<T> HasKind for Field<T> {
     type Kind = HolderKind;
 }
 
-impl Holds for Version {
-    type Held = Number;
+impl<T> Holds for Field<T> {
+    type Held = T;
 
     ghost held = { λ x. x.0 };
 
-    fn held(&self) -> &Number {
+    fn held(&self) -> &T {
         &self.0
     }
 }
 
-impl<'a> FromAny<'a> for Version {
-    type Error = Error;
+impl<'a, T: FromAny<'a>> FromAny<'a> for Field<T> {
+    type Error = T::Error;
 
-    ghost any_gives = { HoldingGives (λ x. x.0) ⟦<Number as FromAny<'a>>⟧.any_gives };
+    ghost any_gives = { HoldingGives (λ x. x.0) T.any_gives };
 
-    fn try_from_any(alloc: Global, any: Any<'a>) -> Result<Version, Error> {
-        Ok(Version(Number::try_from_any(alloc, any)?))
+    fn try_from_any(alloc: Global, any: Any<'a>) -> Result<Field<T>, T::Error> {
+        match T::try_from_any(alloc, any) {
+            Ok(value) => Ok(Field(value)),
+            Err(e) => Err(e),
+        }
     }
 }
 
-impl<'a> FromDer<'a, Error> for Version {
-    ghost der_gives = { HoldingReads (λ x. x.0) ⟦<Number as FromDer<'a, Error>>⟧.der_gives };
+impl<'a, T: FromDer<'a, E>, E> FromDer<'a, E> for Field<T> {
+    ghost der_gives = { HoldingReads (λ x. x.0) T.der_gives };
 
-    fn from_der(alloc: Global, bytes: &'a [u8]) -> ParseResult<'a, Version, Error> {
-        match Number::from_der(alloc, bytes) {
-            Ok((rest, number)) => Ok((rest, Version(number))),
+    fn from_der(alloc: Global, bytes: &'a [u8]) -> ParseResult<'a, Field<T>, E> {
+        match T::from_der(alloc, bytes) {
+            Ok((rest, value)) => Ok((rest, Field(value))),
             Err(refusal) => Err(refusal),
         }
     }
 }
 
-impl CheckDerConstraints for Version {
-    ghost check_gives = { ⟦<Number as CheckDerConstraints>⟧.check_gives };
+impl<T: CheckDerConstraints> CheckDerConstraints for Field<T> {
+    ghost check_gives = { T.check_gives };
 
     fn check_constraints(any: &Any<'_>) -> Result<(), Error> {
-        Number::check_constraints(any)
+        T::check_constraints(any)
     }
 }
 
-impl<'a> LawfulBody<'a, Error> for Version
-where
-    Number: LawfulBody<'a, Error>,
-{
-    ghost body_exact = { held_takes (λ x. x.0) ⟦<Number as Grammar>⟧.grammar _ (λ x y. y ≡ x)
-        bound-1.body_exact };
+impl<'a, T: LawfulBody<'a, E>, E: From<Error>> LawfulBody<'a, E> for Field<T> {
+    ghost body_exact = { held_takes (λ x. x.0) T.grammar T.any_gives E.from_gives T.body_exact };
 
-    ghost body_spares = { bound-1.body_spares };
+    ghost body_spares = { T.body_spares };
 
-    ghost form_body = { bound-1.form_body };
+    ghost form_body = { T.form_body };
 
-    ghost ber_split = { bound-1.ber_split };
+    ghost ber_split = { T.ber_split };
 
-    ghost ber_join = { bound-1.ber_join };
+    ghost ber_join = { T.ber_join };
 }
 
-impl<'a> LawfulDer<'a, Error> for Version
-where
-    Number: LawfulDer<'a, Error>,
-{
-    ghost der_exact = { held_reads (λ x. x.0) _ _ _ _ _ bound-1.der_exact };
+impl<'a, T: LawfulDer<'a, E>, E: From<Error>> LawfulDer<'a, E> for Field<T> {
+    ghost der_exact = { held_reads (λ x. x.0) T.der_gives _ _ _ _ T.der_exact };
 
-    ghost der_spares = { λ none. held_spares (λ x. x.0) _ _ (bound-1.der_spares none) };
+    ghost der_spares = { λ none. held_spares (λ x. x.0) T.der_gives _ (T.der_spares none) };
 }
 
-impl LawfulCheck for Version
-where
-    Number: LawfulCheck,
-{
-    ghost checks = { bound-1.checks };
+impl<T: LawfulCheck> LawfulCheck for Field<T> {
+    ghost checks = { T.checks };
 }
 
-impl LawfulMember for Version
-where
-    Number: LawfulMember,
+impl<T: LawfulMember> LawfulMember for Field<T> {
+    ghost same = { λ x y. T.same x.0 y.0 };
+}
+
+/// The version at the front of the octets, by DER, and what follows it.
+pub fn read_version(alloc: Global, octets: &[u8]) -> ParseResult<'_, Version, Error>
+    ensures { Exactly IsCutIdentifier VersionByDer (λ version. pos version.0.inner) NoMemory
+        octets.now (seen result) }
 {
-    ghost same = { λ x y. bound-1.same x.0 y.0 };
+    read_der::<Version, Error>(alloc, octets)
 }
