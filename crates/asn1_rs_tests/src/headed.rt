@@ -5,8 +5,8 @@ use crate::calls::{push_debug, push_written};
 use crate::collections::push_checked;
 use asn1_rs::{
     Any, AsTaggedExplicit, AsTaggedImplicit, Boolean, Class, Error, Explicit, FromBer, FromDer,
-    Implicit, LawfulBer, LawfulCheck, LawfulDer, LawfulMember, LawfulWrite, TaggedParser, read_ber,
-    read_der, strict_vec,
+    Implicit, LawfulBer, LawfulCheck, LawfulDer, LawfulMember, LawfulWrite, TaggedParser, ToDer,
+    Told, read_ber, read_der, strict_vec,
 };
 use std::alloc::Global;
 use std::fmt::Debug;
@@ -36,6 +36,9 @@ a10402020005 = a103020105 count 5 3 raw a103020105
 const PUT: &str = "\
 u32 explicit [1]:
 020102 = a103020102 count 5 3 raw a103020102
+
+calls of u32 explicit [31]:
+020102 = bf1f03020102truebf1f03020102truebf1f03020102
 
 u8 explicit [PRIVATE 4294967295]:
 020105 = ff8fffffff7f03020105 count 10 3 raw ff8fffffff7f03020105
@@ -135,6 +138,21 @@ impl Calls for Written {
     }
 }
 
+/// What the calls of a value of a known type write: into a writer, into a vector, and in its raw form.
+fn push_by_calls(
+    text: &mut String,
+    alloc: Global,
+    value: &TaggedParser<'_, Explicit, u32, Error>,
+) -> Result<(), Fail> {
+    let mut w = Told::new(Vec::new(alloc));
+    let count = value.write_der(alloc, &mut w)?;
+    push_digits(text, w.into_inner().as_slice())?;
+    push_debug(text, &(count == value.to_der_len()?))?;
+    push_digits(text, value.to_der_vec(alloc)?.as_slice())?;
+    push_debug(text, &value.der_constructed())?;
+    push_digits(text, value.to_der_vec_raw(alloc)?.as_slice())
+}
+
 /// The calls of the second table.
 struct Put;
 
@@ -148,6 +166,10 @@ impl Calls for Put {
                     1,
                 );
                 push_written(text, alloc, &put)
+            }
+            "calls of u32 explicit [31]" => {
+                let value = u32::from_der(alloc, octets)?.1;
+                push_by_calls(text, alloc, &value.explicit(Class::ContextSpecific, 31))
             }
             "u8 explicit [PRIVATE 4294967295]" => {
                 let value = u8::from_der(alloc, octets)?.1;

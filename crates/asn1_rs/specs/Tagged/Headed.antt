@@ -23,7 +23,7 @@ pub record HeadedBody {V : Type 0} (G : List ℕ → V → Type 0) (p : Parts) (
   pub rest : List ℕ
   pub inner : Front G p.content v.1 rest
 
--- the strict parts of the value under that explicit tag, of which the header is one
+-- the strict parts of the value under the explicit tag of that class and number, where the identifier is theirs
 abbrev pub HeadedForm : {V : Type 0} → (V → Identifier → List ℕ → Type 0) → Identifier × V → Identifier → List ℕ → Type 0
 HeadedForm Form v i c = (v.0 ≡ i) × ExplicitForm (v.0).class (v.0).number Form v.1 i c
 
@@ -52,7 +52,7 @@ pub record UnderBody {V : Type 0} (own : ℕ) (Body : Parts → V → Type 0) (p
 abbrev pub CheckedBody : {V : Type 0} → (Parts → Type 0) → (Parts → V → Type 0) → Parts → V → Type 0
 CheckedBody Check Body p v = Check p × Body p v
 
--- the strict parts of the value under that implicit tag, of which the header is one
+-- the strict parts of the value under the implicit tag of that class and number, where the identifier is theirs
 abbrev pub UnderForm : {V : Type 0} → (V → Identifier → List ℕ → Type 0) → Identifier × V → Identifier → List ℕ → Type 0
 UnderForm Form v i c = (v.0 ≡ i) × ImplicitForm (v.0).class (v.0).number Form v.1 i c
 
