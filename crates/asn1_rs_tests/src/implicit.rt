@@ -64,7 +64,8 @@ a1020205 = Error(Incomplete(Size(5)))
 3003020105 = Error(UnexpectedTag { expected: Some(Tag(1)), actual: Tag(16) })
 
 implicit 1 Vec u16 from_ber:
-a1800202000500000101 = TaggedValue { inner: [5], marks: PhantomData<_> } rest 0101 written a103020105 count 5 3 raw a103020105
+a1800202000500000101 = TaggedValue { inner: [5], marks: PhantomData<_> } rest 0101 \
+written a103020105 count 5 3 raw a103020105
 a1020205 = Error(Incomplete(Size(5)))
 
 implicit 1 Vec u16 check_constraints:
@@ -78,15 +79,16 @@ Vec of implicit 31 u8 from_der:
 3003020105 = Error(UnexpectedTag { expected: Some(Tag(31)), actual: Tag(2) })
 
 implicit 1 SetOf u8 from_der:
-a106020102020101 = TaggedValue { inner: SetOf { items: [2, 1] }, marks: PhantomData<_> } rest - written a106020101020102 \
-count 8 6 raw a106020101020102
+a106020102020101 = TaggedValue { inner: SetOf { items: [2, 1] }, marks: PhantomData<_> } rest - \
+written a106020101020102 count 8 6 raw a106020101020102
 
 universal 2 Sequence from_der:
-2208020212340202560c = TaggedValue { inner: Sequence { content: [2, 2, 18, 52, 2, 2, 86, 12] }, marks: PhantomData<_> } \
-rest - written 2208020212340202560c count 10 8 raw 2208020212340202560c
+2208020212340202560c = TaggedValue { inner: Sequence { content: [2, 2, 18, 52, 2, 2, 86, 12] }, \
+marks: PhantomData<_> } rest - written 2208020212340202560c count 10 8 raw 2208020212340202560c
 
 optional implicit 1 Integer from_der:
-810102 = Some(TaggedValue { inner: Integer { octets: [2] }, marks: PhantomData<_> }) rest - written 810102 count 3 1 raw 810102
+810102 = Some(TaggedValue { inner: Integer { octets: [2] }, marks: PhantomData<_> }) rest - \
+written 810102 count 3 1 raw 810102
 820102 = None rest 820102 written - count 0 0 raw -
 ";
 

@@ -35,39 +35,19 @@ SetOf of [31] u8:
 a2083106020105020106 = Error(UnexpectedClass { expected: Some(Application), actual: ContextSpecific }) \
 by BER Error(UnexpectedClass { expected: Some(Application), actual: ContextSpecific })
 
-Vec of [3] Vec of u16:
-300ba309300702010502020100 = 300ba309300702010502020100 rest - by BER 13 300ba309300702010502020100 rest -
-3006a3043000ffff = 3004a3023000 rest - by BER 6 3004a3023000 rest -
-
 [PRIVATE 7] SequenceOf of [APPLICATION 0] u8:
 e70730056003020105 = e70730056003020105 rest - by BER 9 e70730056003020105 rest -
 e7073005a003020105 = Error(UnexpectedClass { expected: Some(Application), actual: ContextSpecific }) \
 by BER Error(UnexpectedClass { expected: Some(Application), actual: ContextSpecific })
-
-[2] [APPLICATION 3] OctetString:
-a209630704054a6f6e6573 = a209630704054a6f6e6573 rest - by BER 11 a209630704054a6f6e6573 rest -
-a209430704054a6f6e6573 = Error(ConstructExpected) by BER Error(ConstructExpected)
 
 [2] [APPLICATION 3] IMPLICIT OctetString:
 a20743054a6f6e6573 = a20743054a6f6e6573 rest - by BER 9 a20743054a6f6e6573 rest -
 a20783054a6f6e6573 = Error(UnexpectedClass { expected: Some(Application), actual: ContextSpecific }) \
 by BER Error(UnexpectedClass { expected: Some(Application), actual: ContextSpecific })
 
-[1] IMPLICIT SetOf of [0] IMPLICIT u8:
-a106800102800101 = a106800101800102 rest - by BER 8 a106800101800102 rest -
-a10480020005 = a103800105 rest - by BER 5 a103800105 rest -
-a103020105 = Error(UnexpectedTag { expected: Some(Tag(0)), actual: Tag(2) }) \
-by BER Error(UnexpectedTag { expected: Some(Tag(0)), actual: Tag(2) })
-
 [1] IMPLICIT [0] u8:
 a103020105 = a103020105 rest - by BER 5 a103020105 rest -
 8103020105 = Error(ConstructExpected) by BER Error(ConstructExpected)
-
-Vec of [PRIVATE 31] IMPLICIT Vec of [0] u16:
-3009ff1f06a00402020100 = 3009ff1f06a00402020100 rest - by BER 11 3009ff1f06a00402020100 rest -
-3080ff1f80a080020201000000 = Error(DerConstraintFailed(IndefiniteLength)) by BER Incomplete(Size(1))
-3080ff1f80a08002020100000000000000 = Error(DerConstraintFailed(IndefiniteLength)) \
-by BER 11 3009ff1f06a00402020100 rest -
 ";
 
 /// Lists and sets without tags, likewise. A `BTreeSet` and a `HashSet` have each item once.
@@ -196,21 +176,9 @@ fn push_tagged_set(text: &mut String, alloc: Global, octets: &[u8]) -> Result<()
     push_read::<ApplicationExplicit<BTreeSet<u8>, Error, 2>>(text, alloc, octets)
 }
 
-/// A list of lists under tags.
-fn push_lists_under_tags(text: &mut String, alloc: Global, octets: &[u8]) -> Result<(), Fail> {
-    push_read::<Vec<TaggedExplicit<Vec<u16>, Error, 3>>>(text, alloc, octets)
-}
-
 /// A sequence of numbers under tags, under a tag.
 fn push_private_sequence(text: &mut String, alloc: Global, octets: &[u8]) -> Result<(), Fail> {
     push_read::<PrivateExplicit<SequenceOf<ApplicationExplicit<u8, Error, 0>>, Error, 7>>(
-        text, alloc, octets,
-    )
-}
-
-/// Octets under a tag, under a tag.
-fn push_tag_in_a_tag(text: &mut String, alloc: Global, octets: &[u8]) -> Result<(), Fail> {
-    push_read::<TaggedExplicit<ApplicationExplicit<OctetString<'_>, Error, 3>, Error, 2>>(
         text, alloc, octets,
     )
 }
@@ -222,21 +190,9 @@ fn push_implicit_in_a_tag(text: &mut String, alloc: Global, octets: &[u8]) -> Re
     )
 }
 
-/// A set under an implicit tag, of numbers under implicit tags.
-fn push_implicit_set(text: &mut String, alloc: Global, octets: &[u8]) -> Result<(), Fail> {
-    push_read::<TaggedImplicit<SetOf<TaggedImplicit<u8, Error, 0>>, Error, 1>>(text, alloc, octets)
-}
-
 /// A number under a tag, under an implicit tag.
 fn push_implicit_over_a_tag(text: &mut String, alloc: Global, octets: &[u8]) -> Result<(), Fail> {
     push_read::<TaggedImplicit<TaggedExplicit<u8, Error, 0>, Error, 1>>(text, alloc, octets)
-}
-
-/// A list of lists under implicit tags, of numbers under tags.
-fn push_implicit_lists(text: &mut String, alloc: Global, octets: &[u8]) -> Result<(), Fail> {
-    push_read::<Vec<PrivateImplicit<Vec<TaggedExplicit<u16, Error, 0>>, Error, 31>>>(
-        text, alloc, octets,
-    )
 }
 
 impl Calls for Nested {
@@ -245,19 +201,13 @@ impl Calls for Nested {
             "[1] Vec of [0] u8" => push_tagged_list(text, alloc, octets),
             "SetOf of [31] u8" => push_set_of_tags(text, alloc, octets),
             "[APPLICATION 2] BTreeSet of u8" => push_tagged_set(text, alloc, octets),
-            "Vec of [3] Vec of u16" => push_lists_under_tags(text, alloc, octets),
             "[PRIVATE 7] SequenceOf of [APPLICATION 0] u8" => push_private_sequence(
                 text, alloc, octets,
             ),
-            "[2] [APPLICATION 3] OctetString" => push_tag_in_a_tag(text, alloc, octets),
             "[2] [APPLICATION 3] IMPLICIT OctetString" => push_implicit_in_a_tag(
                 text, alloc, octets,
             ),
-            "[1] IMPLICIT SetOf of [0] IMPLICIT u8" => push_implicit_set(text, alloc, octets),
             "[1] IMPLICIT [0] u8" => push_implicit_over_a_tag(text, alloc, octets),
-            "Vec of [PRIVATE 31] IMPLICIT Vec of [0] u16" => push_implicit_lists(
-                text, alloc, octets,
-            ),
             _ => push_list_read(text, alloc, name, octets),
         }
     }

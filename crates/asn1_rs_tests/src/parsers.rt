@@ -47,7 +47,8 @@ tagged(1) by DER:
 a103020102 = Ok(([], Some((2, true))))
 ";
 
-/// Readers of an element of the number 1 that hand it to a closure, which takes the first contents octet or converts it.
+/// Readers of an element of the number 1 that hand it to a closure, which takes the first contents
+/// octet or converts it.
 const HANDED_ON: &str = "\
 parse_der_tagged_explicit_g 1:
 a10302010205 = Ok(([5], (2, true)))

@@ -28,6 +28,9 @@ a0020205 = Error(Incomplete(Size(5)))
 4003020102 = Error(ConstructExpected)
 e003020102 = Error(UnexpectedClass { expected: Some(ContextSpecific), actual: Private })
 
+explicit 0 of class 4 from_der:
+a003020105 = Error(UnexpectedClass { expected: None, actual: ContextSpecific })
+
 explicit 31 u8 from_der:
 bf1f03020105 = TaggedValue { inner: 5, marks: PhantomData<_> } rest - written bf1f03020105 count 6 3 raw bf1f03020105
 
@@ -52,6 +55,9 @@ impl Calls for Explicits {
             }
             "explicit 0 u32 from_ber" => {
                 push_by_ber::<TaggedExplicit<u32, Error, 0>>(text, alloc, octets)
+            }
+            "explicit 0 of class 4 from_der" => {
+                push_by_der::<TaggedValue<u8, Error, Explicit, 4, 0>>(text, alloc, octets)
             }
             "explicit 31 u8 from_der" => {
                 push_by_der::<TaggedExplicit<u8, Error, 31>>(text, alloc, octets)

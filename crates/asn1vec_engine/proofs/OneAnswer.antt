@@ -36,7 +36,7 @@ use Rattle.asn1_rs.specs.Laws.Integer.Unsigned.{one_unsigned_refusal}
 use Rattle.asn1_rs.specs.Laws.Integer.Signed.{one_signed_refusal}
 use Rattle.asn1vec_engine.specs.declared.request.Rule.{Rule}
 use Rattle.asn1vec_engine.specs.declared.types.TypeName.{TypeName}
-use Rattle.asn1vec_engine.specs.declared.types.TypeName.TheVariants.{U8, U16, U32, U64, U128, I8, I16, I32, I64, I128, Any, Bool, Null, Enumerated, Integer, Octets, Bits, Eoc, VecU8, VecU32, VecBool, VecVecU8, SetOfU8, BTreeSetU8, Sequence, Set, SeqOfU32, Explicit0U32, Explicit31U8, VecExplicit31U8, OptU8, HashSetI8}
+use Rattle.asn1vec_engine.specs.declared.types.TypeName.TheVariants.{U8, U16, U32, U64, U128, I8, I16, I32, I64, I128, Any, Bool, Null, Enumerated, Integer, Octets, Bits, Eoc, VecU8, VecU32, VecBool, VecVecU8, SetOfU8, BTreeSetU8, Sequence, Set, SeqOfU32, Explicit0U32, Explicit31U8, VecExplicit31U8, OptU8, HashSetI8, Implicit1VecU16}
 use Rattle.asn1vec_engine.specs.Request.{IsRequest}
 use Rattle.asn1vec_engine.specs.Shown.{IsWritten, bits_text, element_text, in_hexadecimal, truth_text}
 use Rattle.asn1vec_engine.specs.Meaning.{Meaning}
@@ -46,7 +46,7 @@ use Rattle.asn1vec_engine.specs.Memory.{AsksForNoItems, DifferByMemory, AreAlike
 use Rattle.asn1vec_engine.proofs.OneReading.{HasOneAnswer, ShownAlike, answers_alike, optional_once, readings_weaker, strict_same, written_same, ber_same, either_same}
 use Rattle.asn1vec_engine.proofs.OneItem.{alone_once, collection_once, hashed_signed_once, leaf_item_once, ordered_unsigned_once, sequence_of_once, unordered_set_once, unsigned_once, vector_once}
 use Rattle.asn1vec_engine.proofs.OneRefusal.{IsOneRefusalBut, one_of_parts}
-use Rattle.asn1vec_engine.proofs.OneTag.{explicit_once}
+use Rattle.asn1vec_engine.proofs.OneTag.{explicit_once, implicit_vector_once}
 use Rattle.asn1_rs.specs.Kept.{LendsContent, sequence_leaf, set_leaf}
 use Rattle.asn1_rs.specs.Laws.Kept.{sequence_lawful, set_lawful}
 use Rattle.std.specs.declared.alloc.Global.{Global}
@@ -131,6 +131,7 @@ type_once Explicit31U8 = alone_once false _ (explicit_once 31 _ (unsigned_once 1
 type_once VecExplicit31U8 = collection_once _ (vector_once _ (explicit_once 31 _ (unsigned_once 1)))
 type_once OptU8 = optional_once 2 _ (integers_once pos (IsUnsigned 1) (UnsignedRefuses 1) (one_unsigned_refusal 1))
 type_once HashSetI8 = collection_once _ (hashed_signed_once 1)
+type_once Implicit1VecU16 = collection_once _ (implicit_vector_once 1 _ (unsigned_once 2))
 
 allocates_none : (t : TypeName) → has_items t ≡ false → ((meaning_of t).reading_allocates ≡ false) × ((meaning_of t).writing_allocates ≡ false)
 allocates_none t none = grind arith
@@ -139,7 +140,7 @@ allocates_none t none = grind arith
 
 -- the type that has a name
 named : List ℕ → Option TypeName
-named name = find (λ t. pointwise eqb name (name_of t)) (U8 ∷ U16 ∷ U32 ∷ U64 ∷ U128 ∷ I8 ∷ I16 ∷ I32 ∷ I64 ∷ I128 ∷ Any ∷ Bool ∷ Null ∷ Enumerated ∷ Integer ∷ Octets ∷ Bits ∷ Eoc ∷ VecU8 ∷ VecU32 ∷ VecBool ∷ VecVecU8 ∷ SetOfU8 ∷ BTreeSetU8 ∷ Sequence ∷ Set ∷ SeqOfU32 ∷ Explicit0U32 ∷ Explicit31U8 ∷ VecExplicit31U8 ∷ OptU8 ∷ HashSetI8 ∷ [])
+named name = find (λ t. pointwise eqb name (name_of t)) (U8 ∷ U16 ∷ U32 ∷ U64 ∷ U128 ∷ I8 ∷ I16 ∷ I32 ∷ I64 ∷ I128 ∷ Any ∷ Bool ∷ Null ∷ Enumerated ∷ Integer ∷ Octets ∷ Bits ∷ Eoc ∷ VecU8 ∷ VecU32 ∷ VecBool ∷ VecVecU8 ∷ SetOfU8 ∷ BTreeSetU8 ∷ Sequence ∷ Set ∷ SeqOfU32 ∷ Explicit0U32 ∷ Explicit31U8 ∷ VecExplicit31U8 ∷ OptU8 ∷ HashSetI8 ∷ Implicit1VecU16 ∷ [])
 
 named_by_its_name : (t : TypeName) → named (name_of t) ≡ Some t
 unfolding named

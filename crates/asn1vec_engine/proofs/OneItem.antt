@@ -74,7 +74,7 @@ pub record IsOneItem (I : Item) : Type 1 where
 -- ---- and what follows for lists of them
 
 -- what each element of a list tells, the list does
-follows : {S D A : Type 0} (view : S → D) (tells : S → A) → ((x y : S) → view x ≡ view y → tells x ≡ tells y) → (xs ys : List S) → map view xs ≡ map view ys → map tells xs ≡ map tells ys
+pub follows : {S D A : Type 0} (view : S → D) (tells : S → A) → ((x y : S) → view x ≡ view y → tells x ≡ tells y) → (xs ys : List S) → map view xs ≡ map view ys → map tells xs ≡ map tells ys
 follows view tells law [] [] e = refl
 follows view tells law [] (y ∷ ys) e = cc
 follows view tells law (x ∷ xs) [] e = cc
@@ -87,7 +87,7 @@ joined_texts : {S : Type 0} (text_of : S → List ℕ) (comma : List ℕ) (xs : 
 joined_texts text_of comma [] = refl
 joined_texts text_of comma (x ∷ xs) = ap (λ (l : List ℕ). text_of x ++ l) (sym (flat_map-map (λ (t : List ℕ). comma ++ t) text_of xs))
 
-texts_same : {S : Type 0} (text_of : S → List ℕ) (xs ys : List S) → map text_of xs ≡ map text_of ys → list_text text_of xs ≡ list_text text_of ys
+pub texts_same : {S : Type 0} (text_of : S → List ℕ) (xs ys : List S) → map text_of xs ≡ map text_of ys → list_text text_of xs ≡ list_text text_of ys
 texts_same text_of xs ys e =
     ap (λ (l : List ℕ). codes "[" ++ (l ++ codes "]")) (joined_texts text_of (codes ",") xs ∙ ap (λ (ts : List (List ℕ)). join_by (λ (t : List ℕ). t) (codes ",") ts) e ∙ sym (joined_texts text_of (codes ",") ys))
 

@@ -70,30 +70,37 @@ one_list_refusal number p e f (inl (other, is)) (inr (same, primitive, too)) = a
 one_list_refusal number p e f (inr (same, primitive, is)) (inl (other, too)) = absurd (other same)
 one_list_refusal number p e f (inr (same, primitive, is)) (inr (equal, also, too)) = is ∙ sym too
 
--- An element that is read and converted, where no check refuses and the conversion looks at parts alone.
-module _ (ElementOf : List ℕ → Parts → Type 0) (FaultOf : List ℕ → Fault → Type 0) (IsCut : List ℕ → Type 0) (elements : AreElements ElementOf FaultOf IsCut) (refuses : Breach → Error)
-    {T D : Type 0} (view : T → D) (allocates : Bool) (convert : Parts → Result T Error → Type 0) (once : IsOneConversion view allocates convert) where
-  abbrev Gives : List ℕ → Reading T → Type 0
-  Gives = ElementGives ElementOf FaultOf (refusal_of refuses) PassesAll (OfParts convert) Same
+-- the same of conversions that look at more than the parts of an element
+abbrev pub IsOneTaking : {T D : Type 0} → (T → D) → Bool → (Any → Result T Error → Type 0) → Type 0
+IsOneTaking {T} view allocates convert = (a b : Any) (x y : Result T Error) → parts_of b ≡ parts_of a → convert a x → convert b y → SameResult view allocates x y
 
-  element_or_refused : (octets rest : List ℕ) (any : Any) (x : T) (r : Refusal Error) → BeginsWithElement ElementOf octets any rest → convert (parts_of any) (Ok x) → Gives octets (Err r) → (allocates ≡ true) × (r ≡ no_memory)
+pub one_by_parts : {T D : Type 0} (view : T → D) (allocates : Bool) (convert : Parts → Result T Error → Type 0) → IsOneConversion view allocates convert → IsOneTaking view allocates (OfParts convert)
+one_by_parts view allocates convert once a b x y same h k = once (parts_of a) x y h (subst (λ (p : Parts). convert p y) same k)
+
+-- An element that is read and converted, where no check refuses.
+module _ (ElementOf : List ℕ → Parts → Type 0) (FaultOf : List ℕ → Fault → Type 0) (IsCut : List ℕ → Type 0) (elements : AreElements ElementOf FaultOf IsCut) (refuses : Breach → Error)
+    {T D : Type 0} (view : T → D) (allocates : Bool) (convert : Any → Result T Error → Type 0) (once : IsOneTaking view allocates convert) where
+  abbrev Gives : List ℕ → Reading T → Type 0
+  Gives = ElementGives ElementOf FaultOf (refusal_of refuses) PassesAll convert Same
+
+  element_or_refused : (octets rest : List ℕ) (any : Any) (x : T) (r : Refusal Error) → BeginsWithElement ElementOf octets any rest → convert any (Ok x) → Gives octets (Err r) → (allocates ≡ true) × (r ≡ no_memory)
   element_or_refused octets rest any x r begins is (inl (fault, why, told)) = absurd (element_or_fault ElementOf FaultOf IsCut elements refuses octets rest (parts_of any) fault begins.front why)
   element_or_refused octets rest any x r begins is (inr (other, tail, starts, inl (e, why, told))) = absurd (one_pass_none (parts_of other) e why)
   element_or_refused octets rest any x r begins is (inr (other, tail, starts, inr (passes, (e, why, told)))) =
       let same = same_parts ElementOf FaultOf IsCut elements octets rest tail (parts_of any) (parts_of other) begins.front starts.front in
-      let memory = once (parts_of any) (Ok x) (Err e) is (subst (λ (p : Parts). convert p (Err e)) same why) in
+      let memory = once any other (Ok x) (Err e) same is why in
       (memory.0, told ∙ ap (λ (d : Error). refused d) memory.1)
 
   pub one_element : IsOneReader view allocates Gives
   one_element octets (Ok (rest, x)) (Ok (tail, y)) (any, begins, passes, is) (other, starts, passed, too) =
       let same = same_parts ElementOf FaultOf IsCut elements octets rest tail (parts_of any) (parts_of other) begins.front starts.front in (
-        once (parts_of any) (Ok x) (Ok y) is (subst (λ (p : Parts). convert p (Ok y)) same too),
+        once any other (Ok x) (Ok y) same is too,
         same_tail ElementOf FaultOf IsCut elements octets rest tail (parts_of any) (parts_of other) begins.front starts.front,
       )
   one_element octets (Ok (rest, x)) (Err r) (any, begins, passes, is) h = element_or_refused octets rest any x r begins is h
   one_element octets (Err q) (Ok (tail, y)) h (any, begins, passes, is) = element_or_refused octets tail any y q begins is h
   one_element octets (Err q) (Err r) h k =
-      one_reading_refusal allocates PassesAll (OfParts convert) one_pass passed (λ a b e f same why also. once (parts_of a) (Err e) (Err f) why (subst (λ (p : Parts). convert p (Err f)) same also))
+      one_reading_refusal allocates PassesAll convert one_pass passed (λ a b e f same why also. once a b (Err e) (Err f) same why also)
       ElementOf FaultOf IsCut elements refuses octets q r h k
 
 -- ---- walks
@@ -159,7 +166,7 @@ module _ {T D : Type 0} (view : T → D) (takes : Bool) (reads : List ℕ → Re
 
     -- ---- conversions of elements to lists
 
-    takes_once : (number : ℕ) → IsOneConversion sight true (ListTakes number holds reads Same)
+    pub takes_once : (number : ℕ) → IsOneConversion sight true (ListTakes number holds reads Same)
     takes_once number p (Ok v) (Ok w) h k = list_once p.content (Ok v) (Ok w) h.1 k.1
     takes_once number p (Ok v) (Err f) h (inl (r, other, same)) = absurd (list_or_refused number p r h.0 other)
     takes_once number p (Ok v) (Err f) h (inr k) = list_once p.content (Ok v) (Err f) h.1 k.1
@@ -185,11 +192,11 @@ module _ {T D : Type 0} (view : T → D) (takes : Bool) (reads : List ℕ → Re
 
     -- by BER, and by DER where the constructed bit is looked at
     pub taken_by_ber : (number : ℕ) → IsOneReader sight true (BerGives (OfParts (ListTakes number holds reads Same)) Same)
-    taken_by_ber number = one_element (IsElement max_depth) (ElementFault max_depth) EndsWithin ber_elements ber_breach sight true (ListTakes number holds reads Same) (takes_once number)
+    taken_by_ber number = one_element (IsElement max_depth) (ElementFault max_depth) EndsWithin ber_elements ber_breach sight true (OfParts (ListTakes number holds reads Same)) (one_by_parts sight true (ListTakes number holds reads Same) (takes_once number))
 
     pub taken_by_der : (number : ℕ) → IsOneReader sight true (DerGives PassesAll (OfParts (ListTakes number holds reads Same)) Same)
-    taken_by_der number = one_element IsDerElement DerElementFault IsCutIdentifier der_elements der_breach sight true (ListTakes number holds reads Same) (takes_once number)
+    taken_by_der number = one_element IsDerElement DerElementFault IsCutIdentifier der_elements der_breach sight true (OfParts (ListTakes number holds reads Same)) (one_by_parts sight true (ListTakes number holds reads Same) (takes_once number))
 
     -- by DER where it is not
     pub read_by_der : (number : ℕ) → IsOneReader sight true (DerGives PassesAll (OfParts (ListReads number holds reads Same)) Same)
-    read_by_der number = one_element IsDerElement DerElementFault IsCutIdentifier der_elements der_breach sight true (ListReads number holds reads Same) (reads_once number)
+    read_by_der number = one_element IsDerElement DerElementFault IsCutIdentifier der_elements der_breach sight true (OfParts (ListReads number holds reads Same)) (one_by_parts sight true (ListReads number holds reads Same) (reads_once number))

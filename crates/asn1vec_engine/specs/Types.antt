@@ -24,8 +24,10 @@ use Rattle.asn1_rs.specs.Set.{HasItems, is_below, is_other, items_of, member_gra
 use Rattle.asn1_rs.specs.Null.{null_leaf}
 use Rattle.asn1_rs.specs.OctetString.{octet_string_leaf}
 use Rattle.asn1_rs.specs.declared.asn1_types.tagged.Explicit.{Explicit}
+use Rattle.asn1_rs.specs.declared.asn1_types.tagged.Implicit.{Implicit}
 use Rattle.asn1_rs.specs.declared.asn1_types.tagged.TaggedValue.{TaggedValue}
 use Rattle.asn1_rs.specs.Tagged.Explicit.{ExplicitGives, ExplicitTakes, explicit_grammar}
+use Rattle.asn1_rs.specs.Tagged.Implicit.{ImplicitTakes, implicit_grammar}
 use Rattle.asn1_rs.specs.Kept.{LendsContent, sequence_leaf, set_leaf}
 use Rattle.asn1_rs.specs.declared.asn1_types.sequence.sequence_of.SequenceOf.{SequenceOf}
 use Rattle.asn1_rs.specs.Sequence.SequenceOf.{IsSequenceOf, sequence_items}
@@ -40,7 +42,7 @@ use Rattle.asn1_rs.specs.Grammar.{BerWord, DerWord}
 use Rattle.asn1_rs.specs.Integer.{IntegerCheck, IntegerCheckGives, IntegerBody, IntegerForm, integer_element, IntegerGives, IsUnsigned, UnsignedGives, UnsignedRefuses, SignedGives, SignedRefuses}
 use Rattle.asn1vec_engine.specs.declared.request.Rule.{Rule}
 use Rattle.asn1vec_engine.specs.declared.types.TypeName.{TypeName}
-use Rattle.asn1vec_engine.specs.declared.types.TypeName.TheVariants.{U8, U16, U32, U64, U128, I8, I16, I32, I64, I128, Any, Bool, Null, Enumerated, Integer, Octets, Bits, Eoc, VecU8, VecU32, VecBool, VecVecU8, SetOfU8, BTreeSetU8, Sequence, Set, SeqOfU32, Explicit0U32, Explicit31U8, VecExplicit31U8, OptU8, HashSetI8}
+use Rattle.asn1vec_engine.specs.declared.types.TypeName.TheVariants.{U8, U16, U32, U64, U128, I8, I16, I32, I64, I128, Any, Bool, Null, Enumerated, Integer, Octets, Bits, Eoc, VecU8, VecU32, VecBool, VecVecU8, SetOfU8, BTreeSetU8, Sequence, Set, SeqOfU32, Explicit0U32, Explicit31U8, VecExplicit31U8, OptU8, HashSetI8, Implicit1VecU16}
 use Rattle.asn1vec_engine.specs.Meaning.{Meaning, ReadsByEither, is_ber, optional}
 use Rattle.asn1vec_engine.specs.Shown.{IsReadAnswer, IsWritten, ReadsByBer, Reading, Same, StrictEncoding, StrictEncodingIfAny, bits_text, element_text, in_hexadecimal, in_order, list_text, truth_text}
 
@@ -77,6 +79,7 @@ name_of Explicit31U8 = codes "explicit31.u8"
 name_of VecExplicit31U8 = codes "vec.explicit31.u8"
 name_of OptU8 = codes "opt.u8"
 name_of HashSetI8 = codes "hashset.i8"
+name_of Implicit1VecU16 = codes "implicit1.vec.u16"
 
 -- integers, there by either rule: in decimals, with the strict encoding that each has which the type holds
 abbrev pub integers : {T : Type 0} → (T → ℤ) → (ℤ → Type 0) → (List ℕ → Error → Type 0) → Meaning
@@ -244,6 +247,19 @@ explicit number I = record {
   text_of = λ t. I.text_of t.inner;
 }
 
+-- sequences under an implicit, context-specific tag of this number; by DER too their items are read by BER
+abbrev pub implicit_vector_takes : (number : ℕ) (I : Item) → AnyElement → Result (TaggedValue (Vec I.T Global) Error Implicit 2 number) Error → Type 0
+implicit_vector_takes number I = ImplicitTakes 2 number (λ t. t.inner) (record { 0 = 16 }) (OfParts (ListTakes 16 IsMadeOf I.ber_gives Same)) Same
+
+abbrev pub implicit_vector : ℕ → Item → Item
+implicit_vector number I = record {
+  T = TaggedValue (Vec I.T Global) Error Implicit 2 number;
+  grammar = implicit_grammar 2 number 16 (λ t. t.inner) (vector I).grammar;
+  ber_gives = BerGives (implicit_vector_takes number I) Same;
+  der_gives = DerGives PassesAll (implicit_vector_takes number I) Same;
+  text_of = λ t. (vector I).text_of t.inner;
+}
+
 -- items, there by either rule, the writer of which may allocate: with the strict encoding of the value, unless that is too long
 abbrev pub alone : Truth → Item → Meaning
 alone allocates I = record {
@@ -293,6 +309,7 @@ meaning_of Explicit31U8 = alone false (explicit 31 (unsigned_item 1))
 meaning_of VecExplicit31U8 = collection (vector (explicit 31 (unsigned_item 1)))
 meaning_of OptU8 = optional 2 (unsigned 1)
 meaning_of HashSetI8 = collection (hashed_set (signed_item 1) int_cmp)
+meaning_of Implicit1VecU16 = collection (implicit_vector 1 (unsigned_item 2))
 
 -- lists and sets, whose readers and writers allocate
 abbrev pub has_items : TypeName → Truth
@@ -305,6 +322,7 @@ has_items BTreeSetU8 = true
 has_items SeqOfU32 = true
 has_items VecExplicit31U8 = true
 has_items HashSetI8 = true
+has_items Implicit1VecU16 = true
 has_items _ = false
 
 -- the name is that of the type, and is there by the rule

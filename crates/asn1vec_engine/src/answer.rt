@@ -20,7 +20,7 @@ use crate::text::push_str;
 use crate::types::{TypeName, type_named};
 use asn1_rs::{
     Any, BitString, EndOfContent, Enumerated, Error, Integer, LawfulBer, LawfulDer, Null,
-    OctetString, Sequence, SequenceOf, Set, SetOf, Tagged, TaggedExplicit,
+    OctetString, Sequence, SequenceOf, Set, SetOf, Tagged, TaggedExplicit, TaggedImplicit,
 };
 use std::alloc::{AllocError, Global};
 use std::collections::{BTreeSet, HashSet};
@@ -135,6 +135,9 @@ fn push_by_type(
             push_by_either::<Vec<TaggedExplicit<u8, Error, 31>>>(alloc, rule, octets, buffer, text)
         }
         TypeName::OptU8 => push_optional::<u8>(alloc, rule, octets, buffer, text),
+        TypeName::Implicit1VecU16 => {
+            push_by_either::<TaggedImplicit<Vec<u16>, Error, 1>>(alloc, rule, octets, buffer, text)
+        }
         TypeName::HashSetI8 => push_by_either::<HashSet<i8>>(alloc, rule, octets, buffer, text),
     }
 }

@@ -119,7 +119,8 @@ pub(crate) fn push_written<T: ToDer>(
     text: &mut Vec<u8>,
 ) -> Result<(), AllocError>
     requires tells { T.tells x.now }
-    requires own { (e : SerializeError) → Either (T.header_refuses x.now) (T.content_refuses x.now) e → ⊥ }
+    requires own { (e : SerializeError) →
+        Either (T.header_refuses x.now) (T.content_refuses x.now) e → ⊥ }
     ensures { OnOk result
         (Gains text.old.items text.new.items
         (SaysEncoding (IsWritten

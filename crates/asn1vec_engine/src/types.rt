@@ -40,6 +40,7 @@ pub(crate) enum TypeName {
     VecExplicit31U8,
     OptU8,
     HashSetI8,
+    Implicit1VecU16,
 }
 
 impl TypeName {
@@ -70,6 +71,9 @@ fn type_of(name: &[u8]) -> Option<TypeName>
     }
     if name == b"explicit31.u8".as_slice() {
         return Some(TypeName::Explicit31U8);
+    }
+    if name == b"implicit1.vec.u16".as_slice() {
+        return Some(TypeName::Implicit1VecU16);
     }
     if name == b"vec.explicit31.u8".as_slice() {
         return Some(TypeName::VecExplicit31U8);

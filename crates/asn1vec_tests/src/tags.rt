@@ -37,6 +37,29 @@ fn explicit_tags_are_answered(rt: HostRuntime) -> Result<(), Fail> {
     assert_lines(rt.alloc(), EXPLICIT)
 }
 
+/// Lists under an implicit tag, the items of which are read by BER, by either rule.
+const IMPLICIT: &str = "\
+der implicit1.vec.u16 a10402020005 = ok [5] rest - enc a103020105
+ber implicit1.vec.u16 a10402020005 = ok [5] rest - enc a103020105
+der implicit1.vec.u16 8103020105 = err ConstructExpected
+der implicit1.vec.u16 a1020205 = err Error.Incomplete(5)
+ber implicit1.vec.u16 a1020205 = err Error.Incomplete(5)
+ber implicit1.vec.u16 a1800201050000ff = ok [5] rest ff enc a103020105
+der implicit1.vec.u16 a1800201050000 = err DerConstraintFailed(IndefiniteLength)
+der implicit1.vec.u16 a003020105 = err UnexpectedTag
+der implicit1.vec.u16 e103020105 = err UnexpectedClass
+ber implicit1.vec.u16 6103020105 = err UnexpectedClass
+der implicit1.vec.u16 a1080202ffff020300ffff = err IntegerNegative
+der implicit1.vec.u16 a108020300ffff020100 = ok [65535,0] rest - enc a108020300ffff020100
+der implicit1.vec.u16 a100 = ok [] rest - enc a100
+der implicit1.vec.u16 a1 = err Incomplete(1)
+";
+
+#[test]
+fn implicit_tags_are_answered(rt: HostRuntime) -> Result<(), Fail> {
+    assert_lines(rt.alloc(), IMPLICIT)
+}
+
 /// Optional values: none where no octets or a header of another tag number are at the front.
 const OPTIONAL: &str = "\
 der opt.u8 0400 = ok none rest 0400 enc -

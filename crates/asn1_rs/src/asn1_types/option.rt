@@ -247,8 +247,8 @@ impl<T: ToDer> ToDer for Option<T> {
 
 /// The strict encoding of what a Some holds is read back as that Some by BER and by DER, before any rest.
 ///
-/// What the readers of `Option<T>` may answer is what its `ber_gives` and `der_gives` say. Where the type allocates, out
-/// of memory may be reported in its place.
+/// What the readers of `Option<T>` may answer is what its `ber_gives` and `der_gives` say. Where the
+/// type allocates, out of memory may be reported in its place.
 pub fn options_are_read_back<'a, T, E>()
 where
     T: LawfulBer<'a, E> + LawfulDer<'a, E> + LawfulTagged,

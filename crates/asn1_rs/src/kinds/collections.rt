@@ -46,67 +46,87 @@ pub struct Repeats;
 pub struct Once;
 
 /// A list or a set that goes over its items, to count them.
-pub trait CountsItems<T: ToDer>: Listed<Item = T> {
+pub trait CountsItems: Listed {
     /// How many octets the items are written in.
     fn count_each(&self) -> Result<usize, Error>
-        ensures count { All T.tells (Self.items self.now) →
+    where
+        Self::Item: ToDer,
+        ensures count { All Self.Item.tells (Self.items self.now) →
             IfOk result (λ n. n ≡
-            length (flat_map (λ x. T.header x ++ T.content x) (Self.items self.now))) }
-        ensures refused { All T.tells (Self.items self.now) →
-            IfErr result (RefusesCount T.count_allocates
-            (length (flat_map (λ x. T.header x ++ T.content x) (Self.items self.now)))
-            (SomeRefuses T.count_refuses (Self.items self.now))) }
-        ensures accepted { (e : Error) → All T.tells (Self.items self.now) →
-            SomeRefuses T.count_refuses (Self.items self.now) e → IsErr result };
+            length
+            (flat_map (λ x. Self.Item.header x ++ Self.Item.content x)
+            (Self.items self.now))) }
+        ensures refused { All Self.Item.tells (Self.items self.now) →
+            IfErr result (RefusesCount Self.Item.count_allocates
+            (length
+            (flat_map (λ x. Self.Item.header x ++ Self.Item.content x)
+            (Self.items self.now)))
+            (SomeRefuses Self.Item.count_refuses (Self.items self.now))) }
+        ensures accepted { (e : Error) → All Self.Item.tells (Self.items self.now) →
+            SomeRefuses Self.Item.count_refuses (Self.items self.now) e → IsErr result };
 }
 
 /// A list that is written as its items, one after another.
 ///
 /// So it has [`ToDer`], and [`LawfulWrite`] where the items have it.
-pub trait WritesInOrder<T: ToDer>: CountsItems<T> {
+pub trait WritesInOrder: CountsItems {
     /// Appends the items in their order, and answers the number of octets.
     fn write_each<W: DerWrite>(&self, alloc: Global, w: &mut W) -> SerializeResult<usize>
-        ensures wrote { All T.tells (Self.items self.now) →
-            Wrote (flat_map (λ x. T.header x ++ T.content x) (Self.items self.now)) (W.told w.old)
-            (W.told w.new) (W.failed w.old) (W.failed w.new) result }
-        ensures refused { All T.tells (Self.items self.now) →
+    where
+        Self::Item: ToDer,
+        ensures wrote { All Self.Item.tells (Self.items self.now) →
+            Wrote
+            (flat_map (λ x. Self.Item.header x ++ Self.Item.content x) (Self.items self.now))
+            (W.told w.old) (W.told w.new) (W.failed w.old) (W.failed w.new) result }
+        ensures refused { All Self.Item.tells (Self.items self.now) →
             IfErr result
-            (Refuses (some_allocates T.write_allocates T.count_allocates T.content_allocates)
-            (length (flat_map (λ x. T.header x ++ T.content x) (Self.items self.now)))
-            (SomeRefuses (λ x. Either (T.header_refuses x) (T.content_refuses x))
+            (Refuses
+            (some_allocates Self.Item.write_allocates Self.Item.count_allocates
+            Self.Item.content_allocates)
+            (length
+            (flat_map (λ x. Self.Item.header x ++ Self.Item.content x)
+            (Self.items self.now)))
+            (SomeRefuses (λ x. Either (Self.Item.header_refuses x) (Self.Item.content_refuses x))
             (Self.items self.now))) }
-        ensures accepted { (e : SerializeError) → All T.tells (Self.items self.now) →
-            SomeRefuses (λ x. Either (T.header_refuses x) (T.content_refuses x))
+        ensures accepted { (e : SerializeError) → All Self.Item.tells (Self.items self.now) →
+            SomeRefuses (λ x. Either (Self.Item.header_refuses x) (Self.Item.content_refuses x))
             (Self.items self.now) e → IsErr result }
-        ensures uncounted { (e : Error) → All T.tells (Self.items self.now) →
-            SomeRefuses T.count_refuses (Self.items self.now) e → IsErr result };
+        ensures uncounted { (e : Error) → All Self.Item.tells (Self.items self.now) →
+            SomeRefuses Self.Item.count_refuses (Self.items self.now) e → IsErr result };
 }
 
 /// A set that is written as the encodings of its items, in ascending order (X.690 11.6).
 ///
 /// So it has [`ToDer`].
-pub trait WritesAscending<T: ToDer>: CountsItems<T> {
+pub trait WritesAscending: CountsItems {
     /// The encoding of each item.
     fn encode_each(&self, alloc: Global) -> SerializeResult<Encodings>
-        ensures each { All T.tells (Self.items self.now) →
+    where
+        Self::Item: ToDer,
+        ensures each { All Self.Item.tells (Self.items self.now) →
             IfOk result
-            (AreEncodings (map (λ x. T.header x ++ T.content x) (Self.items self.now))) }
-        ensures refused { All T.tells (Self.items self.now) →
+            (AreEncodings
+            (map (λ x. Self.Item.header x ++ Self.Item.content x) (Self.items self.now))) }
+        ensures refused { All Self.Item.tells (Self.items self.now) →
             IfErr result (Refuses true
-            (length (flat_map (λ x. T.header x ++ T.content x) (Self.items self.now)))
-            (SomeRefuses (λ x. IntoVector (Either (T.header_refuses x) (T.content_refuses x)))
+            (length
+            (flat_map (λ x. Self.Item.header x ++ Self.Item.content x)
+            (Self.items self.now)))
+            (SomeRefuses
+            (λ x. IntoVector (Either (Self.Item.header_refuses x) (Self.Item.content_refuses x)))
             (Self.items self.now))) }
-        ensures accepted { (e : SerializeError) → All T.tells (Self.items self.now) →
-            SomeRefuses (λ x. IntoVector (Either (T.header_refuses x) (T.content_refuses x)))
+        ensures accepted { (e : SerializeError) → All Self.Item.tells (Self.items self.now) →
+            SomeRefuses
+            (λ x. IntoVector (Either (Self.Item.header_refuses x) (Self.Item.content_refuses x)))
             (Self.items self.now) e → IsErr result }
-        ensures uncounted { (e : Error) → All T.tells (Self.items self.now) →
-            SomeRefuses T.count_refuses (Self.items self.now) e → IsErr result }
+        ensures uncounted { (e : Error) → All Self.Item.tells (Self.items self.now) →
+            SomeRefuses Self.Item.count_refuses (Self.items self.now) e → IsErr result }
         ensures memory { IfErr result (λ e. tells_of_io e ≡ false) };
 }
 
 impl<L, T> ToDerBy<SequenceKind> for L
 where
-    L: WritesInOrder<T> + Listed<Item = T>,
+    L: WritesInOrder + Listed<Item = T>,
     T: ToDer,
 {
     ghost writing = { list_writing (L.mark).0 L.items (record {
@@ -152,7 +172,7 @@ where
 
 impl<L, T, M> ToDerBy<SetKind<M>> for L
 where
-    L: WritesAscending<T> + Listed<Item = T>,
+    L: WritesAscending + Listed<Item = T>,
     T: ToDer,
 {
     ghost writing = { set_writing L.items (record {
@@ -234,7 +254,7 @@ impl<L: HasMembers + Listed<Item = T>, T: LawfulItem> LawfulItemBy<SetKind<Once>
 
 impl<L, T> LawfulWriteBy<SequenceKind> for L
 where
-    L: HasKind<Kind = SequenceKind> + WritesInOrder<T> + Listed<Item = T>,
+    L: HasKind<Kind = SequenceKind> + WritesInOrder + Listed<Item = T>,
     T: LawfulWrite,
 {
     ghost tells_each = { λ v k d h. T.tells_all (slice_index_or (L.items v) k d) };
@@ -275,7 +295,7 @@ where
 
 impl<L, T> LawfulWriteBy<SetKind<Once>> for L
 where
-    L: HasKind<Kind = SetKind<Once>> + WritesAscending<T> + LawfulMembers<T> + Listed<Item = T>,
+    L: HasKind<Kind = SetKind<Once>> + WritesAscending + LawfulMembers<T> + Listed<Item = T>,
     T: LawfulWrite,
 {
     ghost tells_each = { λ s k d h. T.tells_all (slice_index_or (L.items s) k d) };

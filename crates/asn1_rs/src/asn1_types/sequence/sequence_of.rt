@@ -142,14 +142,20 @@ impl<T> Listed for SequenceOf<T> {
     ghost small = { lit< tt };
 }
 
-impl<T: ToDer> CountsItems<T> for SequenceOf<T> {
-    fn count_each(&self) -> Result<usize, Error> {
+impl<T> CountsItems for SequenceOf<T> {
+    fn count_each(&self) -> Result<usize, Error>
+    where
+        T: ToDer,
+    {
         self.items.count_each()
     }
 }
 
-impl<T: ToDer> WritesInOrder<T> for SequenceOf<T> {
-    fn write_each<W: DerWrite>(&self, alloc: Global, w: &mut W) -> SerializeResult<usize> {
+impl<T> WritesInOrder for SequenceOf<T> {
+    fn write_each<W: DerWrite>(&self, alloc: Global, w: &mut W) -> SerializeResult<usize>
+    where
+        T: ToDer,
+    {
         self.items.write_each(alloc, w)
     }
 }

@@ -64,14 +64,20 @@ impl<T> Listed for Vec<T> {
     ghost small = { lit< tt };
 }
 
-impl<T: ToDer> CountsItems<T> for Vec<T> {
-    fn count_each(&self) -> Result<usize, Error> {
+impl<T> CountsItems for Vec<T> {
+    fn count_each(&self) -> Result<usize, Error>
+    where
+        T: ToDer,
+    {
         count_items(self.iter())
     }
 }
 
-impl<T: ToDer> WritesInOrder<T> for Vec<T> {
-    fn write_each<W: DerWrite>(&self, alloc: Global, w: &mut W) -> SerializeResult<usize> {
+impl<T> WritesInOrder for Vec<T> {
+    fn write_each<W: DerWrite>(&self, alloc: Global, w: &mut W) -> SerializeResult<usize>
+    where
+        T: ToDer,
+    {
         write_items(self.iter(), alloc, w)
     }
 }

@@ -60,14 +60,20 @@ impl<T: Ord> Listed for BTreeSet<T> {
     ghost small = { lit< tt };
 }
 
-impl<T: ToDer + Ord> CountsItems<T> for BTreeSet<T> {
-    fn count_each(&self) -> Result<usize, Error> {
+impl<T: Ord> CountsItems for BTreeSet<T> {
+    fn count_each(&self) -> Result<usize, Error>
+    where
+        T: ToDer,
+    {
         count_items(self.iter())
     }
 }
 
-impl<T: ToDer + Ord> WritesAscending<T> for BTreeSet<T> {
-    fn encode_each(&self, alloc: Global) -> SerializeResult<Encodings> {
+impl<T: Ord> WritesAscending for BTreeSet<T> {
+    fn encode_each(&self, alloc: Global) -> SerializeResult<Encodings>
+    where
+        T: ToDer,
+    {
         encode_items(self.iter(), alloc)
     }
 }

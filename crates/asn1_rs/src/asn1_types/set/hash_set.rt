@@ -57,14 +57,20 @@ impl<T: Eq + Hash> Listed for HashSet<T> {
     ghost small = { lit< tt };
 }
 
-impl<T: ToDer + Eq + Hash> CountsItems<T> for HashSet<T> {
-    fn count_each(&self) -> Result<usize, Error> {
+impl<T: Eq + Hash> CountsItems for HashSet<T> {
+    fn count_each(&self) -> Result<usize, Error>
+    where
+        T: ToDer,
+    {
         count_items(self.iter())
     }
 }
 
-impl<T: ToDer + Eq + Hash> WritesAscending<T> for HashSet<T> {
-    fn encode_each(&self, alloc: Global) -> SerializeResult<Encodings> {
+impl<T: Eq + Hash> WritesAscending for HashSet<T> {
+    fn encode_each(&self, alloc: Global) -> SerializeResult<Encodings>
+    where
+        T: ToDer,
+    {
         encode_items(self.iter(), alloc)
     }
 }

@@ -149,14 +149,20 @@ impl<T> Listed for SetOf<T> {
     ghost small = { lit< tt };
 }
 
-impl<T: ToDer> CountsItems<T> for SetOf<T> {
-    fn count_each(&self) -> Result<usize, Error> {
+impl<T> CountsItems for SetOf<T> {
+    fn count_each(&self) -> Result<usize, Error>
+    where
+        T: ToDer,
+    {
         self.items.count_each()
     }
 }
 
-impl<T: ToDer> WritesAscending<T> for SetOf<T> {
-    fn encode_each(&self, alloc: Global) -> SerializeResult<Encodings> {
+impl<T> WritesAscending for SetOf<T> {
+    fn encode_each(&self, alloc: Global) -> SerializeResult<Encodings>
+    where
+        T: ToDer,
+    {
         encode_items(self.items.iter(), alloc)
     }
 }

@@ -60,7 +60,7 @@ impl<T: ToDer, E, const CLASS: u8, const TAG: u32> ToDer
     ghost content_allocates = { some_allocates T.write_allocates T.count_allocates
         T.content_allocates };
 
-    ghost write_allocates = { false };
+    ghost write_allocates = { T.write_allocates };
 
     fn to_der_len(&self) -> Result<usize, Error> {
         element_len(TAG, self.inner.to_der_len())
@@ -172,8 +172,9 @@ where
     }
 }
 
-/// An element by DER; its tag number, its constructed bit, its class; then the value by DER at the front of the contents
-/// octets, whose refusal is passed on whole. What follows it there is not looked at.
+/// An element by DER; its tag number, its constructed bit, its class; then the value by DER at the
+/// front of the contents octets, whose refusal is passed on whole. What follows it there is not
+/// looked at.
 impl<'a, T, E, const CLASS: u8, const TAG: u32> FromDer<'a, E>
     for TaggedValue<T, E, Explicit, CLASS, TAG>
 where

@@ -51,8 +51,8 @@ where
 {
     ghost check_gives = { ImplicitCheckGives (T.mark).0 T.check_gives };
 
-    /// Refuses an indefinite length with `IndefiniteLengthUnexpected`, and an element that does not keep the constraints
-    /// of the value under the tag number of its type.
+    /// Refuses an indefinite length with `IndefiniteLengthUnexpected`, and an element that does not
+    /// keep the constraints of the value under the tag number of its type.
     fn check_constraints(any: &Any<'_>) -> Result<(), Error>
         ensures { ImplicitCheckGives (T.mark).0 T.check_gives (parts_of any.now) result }
     {

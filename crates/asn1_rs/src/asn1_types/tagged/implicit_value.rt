@@ -1,4 +1,5 @@
-//! Values under an implicit tag: the value's element, with this class and tag number in place of its own (X.690 8.14.3).
+//! Values under an implicit tag: the value's element, with this class and tag number in place of its
+//! own (X.690 8.14.3).
 ghost use Rattle.std.specs.Prelude.{◌≡◌, ◌≤◌, false, length};
 ghost use Rattle.x690.specs.Elements.{IsDerElement};
 ghost use Rattle.x690.specs.Faults.{DerElementFault};
@@ -57,7 +58,7 @@ impl<T: ToDer, E, const CLASS: u8, const TAG: u32> ToDer
 
     ghost content_allocates = { T.content_allocates };
 
-    ghost write_allocates = { false };
+    ghost write_allocates = { T.write_allocates };
 
     fn to_der_len(&self) -> Result<usize, Error> {
         element_len(TAG, self.inner.der_content_len())
@@ -177,8 +178,8 @@ where
 {
     ghost check_gives = { ImplicitCheckGives (T.mark).0 T.check_gives };
 
-    /// Refuses an indefinite length with `IndefiniteLengthUnexpected`, and an element that does not keep the constraints
-    /// of the value under the tag number of its type.
+    /// Refuses an indefinite length with `IndefiniteLengthUnexpected`, and an element that does not
+    /// keep the constraints of the value under the tag number of its type.
     fn check_constraints(any: &Any<'_>) -> Result<(), Error> {
         any.header.length().assert_definite()?;
         check_under::<T>(any)

@@ -104,8 +104,8 @@ impl<T: ToDer> PutsUnder<T> for Implicit {
     }
 }
 
-/// Of the header in hand, the class and the tag number are written: the length and the constructed bit are those of what
-/// is written. The raw form is the DER form.
+/// Of the header in hand, the class and the tag number are written: the length and the constructed
+/// bit are those of what is written. The raw form is the DER form.
 impl<Kind: PutsUnder<T>, T: ToDer> ToDer for TaggedParser<'_, Kind, T, Error> {
     ghost tells = { λ t. T.tells t.inner };
 
@@ -126,7 +126,7 @@ impl<Kind: PutsUnder<T>, T: ToDer> ToDer for TaggedParser<'_, Kind, T, Error> {
 
     ghost content_allocates = { Kind.allocates };
 
-    ghost write_allocates = { false };
+    ghost write_allocates = { T.write_allocates };
 
     fn to_der_len(&self) -> Result<usize, Error> {
         element_len(self.header.tag().0, Kind::count_octets(&self.inner))

@@ -95,3 +95,6 @@ returns-in-OptU8 c = rw c.in-OptU8.is c.push_optional.ensures
 
 pub returns-in-HashSetI8 : goal.returns-in-HashSetI8
 returns-in-HashSetI8 c = rw c.in-HashSetI8.is c.push_by_either-in-HashSetI8.ensures
+
+pub returns-in-Implicit1VecU16 : goal.returns-in-Implicit1VecU16
+returns-in-Implicit1VecU16 c = rw c.in-Implicit1VecU16.is c.push_by_either-in-Implicit1VecU16.ensures

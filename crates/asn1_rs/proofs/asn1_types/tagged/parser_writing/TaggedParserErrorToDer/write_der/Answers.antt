@@ -1,4 +1,4 @@
-use Rattle.std.proofs.Common.{false, arith, length-append}
+use Rattle.std.proofs.Common.{arith, length-append}
 use Rattle.std.proofs.lemmas.Bool.{false≢true}
 use Rattle.std.proofs.lemmas.Result.{err_from_is_err_and}
 use Rattle.asn1_rs.specs.ToDer.{Either, WrittenRefusal}
@@ -18,14 +18,14 @@ returns-in_err-before-clause-refused g c = λ t.
     let p = err_from_is_err_and c.from_residual.result c.from_residual.ensures.1 in
     let heading = WrittenRefusal (g.T.ToDer.count_refuses c.args.self.now.inner) in
     let filling = g.Kind.PutsUnder.refuses c.args.self.now.inner in
-    rw (p.1, p.2) (refuses_wider c.in_err-before.field-0.0 false _ _ (Either heading filling) (refuses_first c.in_err-before.field-0.0 _ g.Kind.PutsUnder.allocates _ heading filling (c.in_err-before.ensures.refused t)))
+    rw (p.1, p.2) (refuses_wider c.in_err-before.field-0.0 g.T.ToDer.write_allocates _ _ (Either heading filling) (refuses_first c.in_err-before.field-0.0 _ g.Kind.PutsUnder.allocates _ heading filling (c.in_err-before.ensures.refused t)))
 
 pub returns-in_err-after-clause-refused : goal.returns-in_err-after-clause-refused
 returns-in_err-after-clause-refused g c = λ t.
     let p = err_from_is_err_and c.from_residual-in_err-after.result c.from_residual-in_err-after.ensures.1 in
     let heading = WrittenRefusal (g.T.ToDer.count_refuses c.args.self.now.inner) in
     let filling = g.Kind.PutsUnder.refuses c.args.self.now.inner in
-    rw (p.1, p.2) (refuses_wider c.in_err-after.field-0.0 false _ _ (Either heading filling) (refuses_second c.in_err-after.field-0.0 g.T.ToDer.count_allocates _ _ _ heading filling (simp length-append (omega arith)) (c.in_err-after.ensures.refused t)))
+    rw (p.1, p.2) (refuses_wider c.in_err-after.field-0.0 g.T.ToDer.write_allocates _ _ (Either heading filling) (refuses_second c.in_err-after.field-0.0 g.T.ToDer.count_allocates _ _ _ heading filling (simp length-append (omega arith)) (c.in_err-after.ensures.refused t)))
 
 pub returns-clause-refused : goal.returns-clause-refused
 returns-clause-refused g c = λ t. only_may c.add_written.result _ _ (Either (WrittenRefusal (g.T.ToDer.count_refuses c.args.self.now.inner)) (g.Kind.PutsUnder.refuses c.args.self.now.inner)) (MayRefuse_sum _ _ _ _ (c.in_ok-before.ensures.wrote t) (c.in_ok-after.ensures.wrote t) c.add_written.ensures)
@@ -41,7 +41,7 @@ returns-in_err-before-clause-at_once g c = λ e t o.
     let p = err_from_is_err_and c.from_residual.result c.from_residual.ensures.1 in
     let heading = WrittenRefusal (g.T.ToDer.count_refuses c.args.self.now.inner) in
     let filling = g.Kind.PutsUnder.refuses c.args.self.now.inner in
-    rw (p.1, p.2) (header_at_once false _ g.Kind.PutsUnder.allocates _ heading filling _ _ _ _ _ (c.in_err-before.ensures.at_once e t o))
+    rw (p.1, p.2) (header_at_once g.T.ToDer.write_allocates _ g.Kind.PutsUnder.allocates _ heading filling _ _ _ _ _ (c.in_err-before.ensures.at_once e t o))
 
 pub returns-in_err-after-clause-at_once : goal.returns-in_err-after-clause-at_once
 returns-in_err-after-clause-at_once g c = λ e t o. absurd (not_refused _ _ (WrittenRefusal (g.T.ToDer.count_refuses c.args.self.now.inner)) _ _ _ _ _ (c.in_ok-before.ensures.at_once e t o))
