@@ -1,15 +1,4 @@
 pub mod Appended
-pub mod Gained
-pub mod Hexadecimal
-pub mod InOrder
 pub mod LineLaws
 pub mod Moved
-pub mod OneAnswer
-pub mod OneItem
-pub mod OneList
-pub mod OneReading
-pub mod OneRefusal
-pub mod OneTag
-pub mod ShownLaws
-pub mod Split
-pub mod Walks
+pub mod OneOutput

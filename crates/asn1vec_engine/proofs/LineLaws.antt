@@ -2,7 +2,8 @@
 use Rattle.std.proofs.Common.{◌≡◌, ◌≢◌, ℕ, ◌<◌, ◌==◌, cond, List, [], ◌∷◌, ◌++◌, refl, sym, ap, ◌∙◌, append-nil, length, Bool, true, false, arith, rules, inl, inr, subst, length-append}
 use Rattle.std.specs.List.{AllByRecursion}
 use Rattle.asn1vec_engine.specs.Lines.{lines_of, before_first}
-use Rattle.asn1vec_engine.specs.Answer.{IsAnswer, IsAnswerLine, BeginAnswers}
+use Rattle.asn1vec_answers.specs.Answer.{IsAnswer, IsAnswerLine}
+use Rattle.asn1vec_engine.specs.Outputs.{BeginAnswers}
 use Rattle.asn1vec_engine.specs.Engine.{Answers}
 
 -- octets before the first line

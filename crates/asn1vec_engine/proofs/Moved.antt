@@ -6,7 +6,8 @@ use Rattle.std.proofs.lemmas.List.{take-append-drop, take_all, length-take-le}
 use Rattle.std.proofs.lemmas.List.Elements.{All-append, All-drop, All-take, recursion_from_All}
 use Rattle.std.specs.Io.KnownBytes.{Appends, Consumes, IsAtEnd}
 use Rattle.asn1vec_engine.specs.Lines.{lines_of}
-use Rattle.asn1vec_engine.specs.Answer.{IsAnswerLine, BeginsAnswer, AreAnswers, BeginAnswers}
+use Rattle.asn1vec_answers.specs.Answer.{IsAnswerLine}
+use Rattle.asn1vec_engine.specs.Outputs.{BeginsAnswer, AreAnswers, BeginAnswers}
 use Rattle.asn1vec_engine.specs.Engine.{Answers, AnswersTo, BeginsAnswersTo, Moves, Begins}
 use Rattle.asn1vec_engine.proofs.Appended.{appends_none, appends_both}
 use Rattle.asn1vec_engine.proofs.LineLaws.{IsOpen, lines_of_ended, lines_of_last, long_dropped, none_begun, answered_first}

@@ -4,7 +4,7 @@ use Rattle.std.specs.Io.KnownBytes.{Appends}
 use Rattle.asn1vec_engine.specs.declared.engine.RunError.{RunError}
 use Rattle.asn1vec_engine.specs.declared.engine.RunError.TheVariants.{Input, Output, OutOfMemory}
 use Rattle.asn1vec_engine.specs.Lines.{lines_of}
-use Rattle.asn1vec_engine.specs.Answer.{AreAnswers, BeginAnswers}
+use Rattle.asn1vec_engine.specs.Outputs.{AreAnswers, BeginAnswers}
 
 -- all answers to the lines, or a beginning of them
 abbrev pub Answers : Bool → List (List ℕ) → List ℕ → Type 0

@@ -1,9 +1,3 @@
-pub mod Names
-pub mod Shown
-pub mod Request
-pub mod Lines
-pub mod Answer
 pub mod Engine
-pub mod Meaning
-pub mod Memory
-pub mod Types
+pub mod Lines
+pub mod Outputs

@@ -2,15 +2,15 @@
 ghost use Rattle.std.specs.Prelude.{◌≡◌, ◌≢◌, ℕ, ◌++◌, ◌∷◌, [], List, Option, All, OnOk, OnErr, IfSome};
 ghost use Rattle.std.specs.Prelude.{◌⊎◌};
 ghost use Rattle.std.specs.Io.KnownBytes.{Appends};
-ghost use Rattle.asn1vec_engine.specs.Answer.{IsAnswerLine, BeginsAnswer};
+ghost use Rattle.asn1vec_answers.specs.Answer.{IsAnswerLine};
 ghost use Rattle.asn1vec_engine.specs.Lines.{lines_of};
-ghost use Rattle.asn1vec_engine.specs.Memory.{TakesNoMemory, AllAlike};
+ghost use Rattle.asn1vec_answers.specs.Memory.{TakesNoMemory};
+ghost use Rattle.asn1vec_engine.specs.Outputs.{AllAlike, BeginsAnswer};
 ghost use Rattle.asn1vec_engine.specs.Engine.{AnswersTo, BeginsAnswersTo, Moves, Begins, TellsMark};
 ghost use Rattle.asn1vec_engine.specs.declared.engine.RunError.TheVariants.{OutOfMemory};
 
-use crate::answer::{LONGEST_LINE, answer_line};
-use crate::request::split_once;
 use asn1_rs::{DerWrite, put_all};
+use asn1vec_answers::{LONGEST_LINE, answer_line, one_answer, split_once};
 use std::alloc::{AllocError, Global};
 use std::io::Read;
 
@@ -214,4 +214,6 @@ pub fn one_output()
     ensures beginning { (octets front texts : List ℕ) → All TakesNoMemory (lines_of octets)
         → BeginsAnswersTo octets front → AnswersTo octets texts
         → (lost : List ℕ) × (texts ≡ front ++ lost) }
-{}
+{
+    one_answer();
+}

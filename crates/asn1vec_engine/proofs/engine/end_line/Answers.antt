@@ -3,7 +3,8 @@ use Rattle.std.proofs.lemmas.Bool.{eqb-true}
 use Rattle.std.proofs.lemmas.List.Elements.{recursion_from_All}
 use Rattle.std.proofs.lemmas.Result.{on_ok_weaker, on_err_weaker}
 use Rattle.asn1vec_engine.specs.Engine.{Moves}
-use Rattle.asn1vec_engine.specs.Answer.{IsAnswerLine, BeginsAnswer}
+use Rattle.asn1vec_answers.specs.Answer.{IsAnswerLine}
+use Rattle.asn1vec_engine.specs.Outputs.{BeginsAnswer}
 use Rattle.asn1vec_engine.proofs.Appended.{on_err}
 use Rattle.asn1vec_engine.proofs.Moved.{moves_both, moves_more, moves_begins, begins_none, moves_ended, begins_ended, moves_first, begins_first}
 use Rattle.asn1vec_engine.proofs.engine.end_line.Goals as goal

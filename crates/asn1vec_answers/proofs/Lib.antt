@@ -1,0 +1,12 @@
+pub mod Gained
+pub mod Hexadecimal
+pub mod InOrder
+pub mod OneAnswer
+pub mod OneItem
+pub mod OneList
+pub mod OneReading
+pub mod OneRefusal
+pub mod OneTag
+pub mod ShownLaws
+pub mod Split
+pub mod Walks

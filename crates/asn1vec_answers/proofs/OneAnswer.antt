@@ -1,0 +1,193 @@
+-- A line has one answer, except when out of memory.
+use Rattle.std.proofs.Common.{◌≡◌, ◌∙◌, sym, ap, subst, List, [], ◌∷◌, ◌++◌, ℕ, false, ◌⊎◌, inl, inr, refl, Ok, Err, codes, arith, Option, Some, append_assoc, Result}
+use Rattle.std.specs.Prelude.{ℤ, pos, decimal}
+use Rattle.std.specs.Fmt.{signed_decimal}
+use Rattle.std.proofs.Math.Dec.{eqb}
+use Rattle.std.specs.List.{find, All, AllByRecursion}
+use Rattle.std.proofs.lemmas.List.Elements.{recursion_from_All}
+use Rattle.std.specs.Cmp.Lexicographic.{pointwise}
+use Rattle.x690.specs.Signed.{IsSigned}
+use Rattle.asn1_rs.specs.declared.error.Error.{Error}
+use Rattle.asn1_rs.specs.declared.asn1_types.any.Any.{Any as AnyElement}
+use Rattle.asn1_rs.specs.Any.{IsTheElement, IsDefiniteOr}
+use Rattle.asn1_rs.specs.Traits.{OfParts}
+use Rattle.asn1_rs.specs.Any.Value.{element_of, ElementBody, ElementCheck, ElementForm}
+use Rattle.asn1_rs.specs.Integer.{IntegerCheck, IntegerCheckGives, IntegerBody, IntegerForm, IntegerGives, IsUnsigned, UnsignedRefuses, SignedRefuses}
+use Rattle.asn1_rs.specs.declared.asn1_types.end_of_content.EndOfContent.{EndOfContent}
+use Rattle.asn1_rs.specs.BitString.{bit_string_leaf}
+use Rattle.asn1_rs.specs.Boolean.{bool_leaf}
+use Rattle.asn1_rs.specs.EndOfContent.{end_leaf}
+use Rattle.asn1_rs.specs.Enumerated.{enumerated_leaf}
+use Rattle.asn1_rs.specs.Integer.Octets.{any_integer_leaf}
+use Rattle.asn1_rs.specs.Leaf.{Leaf, IsLawfulLeaf, LeafBody, LeafGives}
+use Rattle.asn1_rs.specs.Null.{null_leaf}
+use Rattle.asn1_rs.specs.OctetString.{octet_string_leaf}
+use Rattle.asn1_rs.specs.Laws.BitString.{bit_string_lawful}
+use Rattle.asn1_rs.specs.Laws.Boolean.{bool_lawful}
+use Rattle.asn1_rs.specs.Laws.EndOfContent.{end_lawful}
+use Rattle.asn1_rs.specs.Laws.Enumerated.{enumerated_lawful}
+use Rattle.asn1_rs.specs.Laws.Integer.Octets.{any_integer_lawful}
+use Rattle.asn1_rs.specs.Laws.Leaf.{leaf_lawful, leaf_one_refusal}
+use Rattle.asn1_rs.specs.Laws.Null.{null_lawful}
+use Rattle.asn1_rs.specs.Laws.OctetString.{octet_string_lawful}
+use Rattle.asn1_rs.specs.Laws.Any.Value.{element_lawful, element_checks}
+use Rattle.asn1_rs.specs.Laws.Integer.{one_integer_check_refusal, integer_checks, one_integer_refusal, integer_lawful}
+use Rattle.asn1_rs.specs.Laws.Integer.Unsigned.{one_unsigned_refusal}
+use Rattle.asn1_rs.specs.Laws.Integer.Signed.{one_signed_refusal}
+use Rattle.asn1vec_answers.specs.declared.request.Rule.{Rule}
+use Rattle.asn1vec_answers.specs.declared.types.TypeName.{TypeName}
+use Rattle.asn1vec_answers.specs.declared.types.TypeName.TheVariants.{U8, U16, U32, U64, U128, I8, I16, I32, I64, I128, Any, Bool, Null, Enumerated, Integer, Octets, Bits, Eoc, VecU8, VecU32, VecBool, VecVecU8, SetOfU8, BTreeSetU8, Sequence, Set, SeqOfU32, Explicit0U32, Explicit31U8, VecExplicit31U8, OptU8, HashSetI8, Implicit1VecU16}
+use Rattle.asn1vec_answers.specs.Request.{IsRequest}
+use Rattle.asn1vec_answers.specs.Shown.{IsWritten, bits_text, element_text, in_hexadecimal, truth_text}
+use Rattle.asn1vec_answers.specs.Meaning.{Meaning}
+use Rattle.asn1vec_answers.specs.Types.{has_items, name_of, meaning_of, integers, elements, leaf, leaf_by, lent_leaf, leaf_octets, ends, Names, IsTypeAnswer}
+use Rattle.asn1vec_answers.specs.Answer.{IsRequestAnswer, IsRefusedLine, IsAnswered, IsAnswer}
+use Rattle.asn1vec_answers.specs.Memory.{AsksForNoItems, DifferByMemory, AreAlike, TakesNoMemory}
+use Rattle.asn1vec_answers.proofs.OneReading.{HasOneAnswer, ShownAlike, answers_alike, optional_once, readings_weaker, strict_same, written_same, ber_same, either_same}
+use Rattle.asn1vec_answers.proofs.OneItem.{alone_once, collection_once, hashed_signed_once, leaf_item_once, ordered_unsigned_once, sequence_of_once, unordered_set_once, unsigned_once, vector_once}
+use Rattle.asn1vec_answers.proofs.OneRefusal.{IsOneRefusalBut, one_of_parts}
+use Rattle.asn1vec_answers.proofs.OneTag.{explicit_once, implicit_vector_once}
+use Rattle.asn1_rs.specs.Kept.{LendsContent, sequence_leaf, set_leaf}
+use Rattle.asn1_rs.specs.Laws.Kept.{sequence_lawful, set_lawful}
+use Rattle.std.specs.declared.alloc.Global.{Global}
+use Rattle.std.specs.declared.borrow.CowSlice.{CowSlice}
+use Rattle.asn1vec_answers.proofs.Split.{requests_same}
+
+-- ---- what the names stand for has one answer
+
+integers_once : {T : Type 0} (number : T → ℤ) (Holds : ℤ → Type 0) (refuses : List ℕ → Error → Type 0) → ((c : List ℕ) (e f : Error) → refuses c e → refuses c f → e ≡ f) → HasOneAnswer (integers number Holds refuses)
+integers_once {T} number Holds refuses one rule octets a b p q =
+    readings_weaker _ (ShownAlike (integers number Holds refuses)) false shown a b
+    (either_same (IntegerBody Holds) number false (OfParts (IntegerGives number Holds refuses)) (integer_lawful Holds number).body_one (one_of_parts (IntegerGives number Holds refuses) (one_integer_refusal refuses one))
+    IntegerCheckGives IntegerCheck one_integer_check_refusal (λ p e h k. integer_checks.exact p (Err e) k h) rule octets a b p q)
+  where
+    shown : (x y : T) → number x ≡ number y → ShownAlike (integers number Holds refuses) x y
+    shown x y same = record { text = ap signed_decimal same; encoding = strict_same (IntegerForm Holds) (integer_lawful Holds number).one_form false (number x) (number y) same }
+
+elements_once : HasOneAnswer elements
+elements_once rule octets a b p q =
+    readings_weaker _ (ShownAlike elements) false shown a b
+    (either_same ElementBody element_of false IsTheElement element_lawful.body_one (λ a b e f same h k. absurd h) IsDefiniteOr ElementCheck (λ p e f h k. h.1 ∙ sym k.1) (λ p e h k. element_checks.exact p (Err e) k h) rule octets a b p q)
+  where
+    shown : (x y : AnyElement) → element_of x ≡ element_of y → ShownAlike elements x y
+    shown x y same = record { text = ap element_text same; encoding = strict_same ElementForm element_lawful.one_form false (element_of x) (element_of y) same }
+
+-- a leaf type
+leaf_by_once : {T : Type 0} (L : Leaf T) (converts : AnyElement → Result T Error → Type 0) (text : L.Value → List ℕ) → IsLawfulLeaf L → IsOneRefusalBut false converts → HasOneAnswer (leaf_by L converts text)
+leaf_by_once {T} L converts text l one rule octets a b p q =
+    let check = (leaf_one_refusal L l).1 in
+    readings_weaker _ (ShownAlike (leaf_by L converts text)) false shown a b
+    (either_same (LeafBody L) L.value false converts (leaf_lawful L l).body_one one
+    L.constraints (λ p. L.constraints p (Ok tt)) check.one (λ p e h k. check.none p tt e h k) rule octets a b p q)
+  where
+    shown : (x y : T) → L.value x ≡ L.value y → ShownAlike (leaf_by L converts text) x y
+    shown x y same = record { text = ap text same; encoding = λ e f h k. written_same false (leaf_octets L (L.value y)) e f (subst (λ (v : L.Value). IsWritten false (leaf_octets L v) e) same h) k }
+
+leaf_once : {T : Type 0} (L : Leaf T) (text : L.Value → List ℕ) → IsLawfulLeaf L → HasOneAnswer (leaf L text)
+leaf_once L text l = leaf_by_once L (OfParts (LeafGives L)) text l (one_of_parts (LeafGives L) (leaf_one_refusal L l).0.one)
+
+lent_once : {T : Type 0} (L : Leaf T) (content : T → CowSlice ℕ Global) (text : L.Value → List ℕ) → IsLawfulLeaf L → HasOneAnswer (lent_leaf L content text)
+lent_once L content text l = leaf_by_once L (LendsContent L content) text l (λ a b e f same h k. one_of_parts (LeafGives L) (leaf_one_refusal L l).0.one a b e f same h.0 k.0)
+
+-- the end of contents
+ends_once : HasOneAnswer ends
+ends_once rule octets a b p q =
+    readings_weaker _ (ShownAlike ends) false shown a b
+    (ber_same (LeafBody end_leaf) end_leaf.value false (OfParts (LeafGives end_leaf)) (leaf_lawful end_leaf end_lawful).body_one (one_of_parts (LeafGives end_leaf) (leaf_one_refusal end_leaf end_lawful).0.one) octets a b p q)
+  where
+    shown : (x y : EndOfContent) → end_leaf.value x ≡ end_leaf.value y → ShownAlike ends x y
+    shown x y same = record { text = refl; encoding = λ e f h k. rw (h, k) tt }
+
+type_once : (t : TypeName) → HasOneAnswer (meaning_of t)
+type_once U8 = integers_once pos (IsUnsigned 1) (UnsignedRefuses 1) (one_unsigned_refusal 1)
+type_once U16 = integers_once pos (IsUnsigned 2) (UnsignedRefuses 2) (one_unsigned_refusal 2)
+type_once U32 = integers_once pos (IsUnsigned 4) (UnsignedRefuses 4) (one_unsigned_refusal 4)
+type_once U64 = integers_once pos (IsUnsigned 8) (UnsignedRefuses 8) (one_unsigned_refusal 8)
+type_once U128 = integers_once pos (IsUnsigned 16) (UnsignedRefuses 16) (one_unsigned_refusal 16)
+type_once I8 = integers_once (λ n. n) (IsSigned 1) (SignedRefuses 1) (one_signed_refusal 1)
+type_once I16 = integers_once (λ n. n) (IsSigned 2) (SignedRefuses 2) (one_signed_refusal 2)
+type_once I32 = integers_once (λ n. n) (IsSigned 4) (SignedRefuses 4) (one_signed_refusal 4)
+type_once I64 = integers_once (λ n. n) (IsSigned 8) (SignedRefuses 8) (one_signed_refusal 8)
+type_once I128 = integers_once (λ n. n) (IsSigned 16) (SignedRefuses 16) (one_signed_refusal 16)
+type_once Any = elements_once
+type_once Bool = leaf_once bool_leaf truth_text bool_lawful
+type_once Null = leaf_once null_leaf (λ v. codes "null") null_lawful
+type_once Enumerated = leaf_once enumerated_leaf decimal enumerated_lawful
+type_once Integer = leaf_once any_integer_leaf in_hexadecimal any_integer_lawful
+type_once Octets = leaf_once octet_string_leaf in_hexadecimal octet_string_lawful
+type_once Bits = leaf_once bit_string_leaf bits_text bit_string_lawful
+type_once Eoc = ends_once
+type_once VecU8 = collection_once _ (vector_once _ (unsigned_once 1))
+type_once VecU32 = collection_once _ (vector_once _ (unsigned_once 4))
+type_once VecBool = collection_once _ (vector_once _ (leaf_item_once bool_leaf truth_text bool_lawful))
+type_once VecVecU8 = collection_once _ (vector_once _ (vector_once _ (unsigned_once 1)))
+type_once SetOfU8 = collection_once _ (unordered_set_once _ (unsigned_once 1))
+type_once BTreeSetU8 = collection_once _ (ordered_unsigned_once 1)
+type_once Sequence = lent_once sequence_leaf (λ x. x.content) in_hexadecimal sequence_lawful
+type_once Set = lent_once set_leaf (λ x. x.content) in_hexadecimal set_lawful
+type_once SeqOfU32 = collection_once _ (sequence_of_once _ (unsigned_once 4))
+type_once Explicit0U32 = alone_once false _ (explicit_once 0 _ (unsigned_once 4))
+type_once Explicit31U8 = alone_once false _ (explicit_once 31 _ (unsigned_once 1))
+type_once VecExplicit31U8 = collection_once _ (vector_once _ (explicit_once 31 _ (unsigned_once 1)))
+type_once OptU8 = optional_once 2 _ (integers_once pos (IsUnsigned 1) (UnsignedRefuses 1) (one_unsigned_refusal 1))
+type_once HashSetI8 = collection_once _ (hashed_signed_once 1)
+type_once Implicit1VecU16 = collection_once _ (implicit_vector_once 1 _ (unsigned_once 2))
+
+allocates_none : (t : TypeName) → has_items t ≡ false → ((meaning_of t).reading_allocates ≡ false) × ((meaning_of t).writing_allocates ≡ false)
+allocates_none t none = grind arith
+
+-- ---- a line
+
+-- the type that has a name
+named : List ℕ → Option TypeName
+named name = find (λ t. pointwise eqb name (name_of t)) (U8 ∷ U16 ∷ U32 ∷ U64 ∷ U128 ∷ I8 ∷ I16 ∷ I32 ∷ I64 ∷ I128 ∷ Any ∷ Bool ∷ Null ∷ Enumerated ∷ Integer ∷ Octets ∷ Bits ∷ Eoc ∷ VecU8 ∷ VecU32 ∷ VecBool ∷ VecVecU8 ∷ SetOfU8 ∷ BTreeSetU8 ∷ Sequence ∷ Set ∷ SeqOfU32 ∷ Explicit0U32 ∷ Explicit31U8 ∷ VecExplicit31U8 ∷ OptU8 ∷ HashSetI8 ∷ Implicit1VecU16 ∷ [])
+
+named_by_its_name : (t : TypeName) → named (name_of t) ≡ Some t
+unfolding named
+named_by_its_name t = grind arith
+
+one_type : (name : List ℕ) (t s : TypeName) → name ≡ name_of t → name ≡ name_of s → t ≡ s
+one_type name t s a b = let e : Some t ≡ Some s = sym (named_by_its_name t) ∙ ap named (sym a ∙ b) ∙ named_by_its_name s in cc
+
+asked : (line : List ℕ) (rule : Rule) (name octets text other : List ℕ) (t : TypeName) → IsRequest line rule name octets → Names rule name t → (text ≡ other) ⊎ DifferByMemory (meaning_of t) text other → AreAlike line text other
+asked line rule name octets text other t r n (inl same) = inl same
+asked line rule name octets text other t r n (inr memory) = inr (t, (rule, (name, octets, r, n)), memory)
+
+request_once : (line : List ℕ) (rule : Rule) (name octets text other : List ℕ) → IsRequest line rule name octets → IsRequestAnswer rule name octets text → IsRequestAnswer rule name octets other → AreAlike line text other
+request_once line rule name octets text other r (inl (none, e)) (inl (nor, f)) = inl (e ∙ sym f)
+request_once line rule name octets text other r (inl (none, e)) (inr (t, is, a)) = absurd (none t is)
+request_once line rule name octets text other r (inr (t, is, a)) (inl (none, e)) = absurd (none t is)
+request_once line rule name octets text other r (inr (t, is, a)) (inr (s, too, b)) =
+    asked line rule name octets text other s r too
+    (answers_alike (meaning_of s) (type_once s) rule octets text other (subst (λ (x : TypeName). IsTypeAnswer rule x octets text) (one_type name t s is.0 too.0) a) b)
+
+refused_or_answered : (line text : List ℕ) → IsRefusedLine line → IsAnswered line text → ⊥
+refused_or_answered line text (inl long) a = omega (arith, long, a.short)
+refused_or_answered line text (inr form) a = form a.rule a.name a.octets a.request
+
+pub answered_alike : (line text other : List ℕ) → IsAnswer line text → IsAnswer line other → AreAlike line text other
+answered_alike line text other (inl a) (inl b) = inl (a.1 ∙ sym b.1)
+answered_alike line text other (inl a) (inr b) = absurd (refused_or_answered line other a.0 b)
+answered_alike line text other (inr a) (inl b) = absurd (refused_or_answered line text b.0 a)
+answered_alike line text other (inr a) (inr b) =
+    let one = requests_same line a.name b.name a.octets b.octets a.rule b.rule a.request b.request in
+    request_once line b.rule b.name b.octets text other b.request
+    (subst (λ (x : Rule). IsRequestAnswer x b.name b.octets text) one.0 (subst (λ (x : List ℕ). IsRequestAnswer a.rule x b.octets text) one.1 (subst (λ (x : List ℕ). IsRequestAnswer a.rule a.name x text) one.2 a.answer)))
+    b.answer
+
+-- nothing tells of refused memory where none is taken
+no_difference : (m : Meaning) (text other : List ℕ) → (m.reading_allocates ≡ false) × (m.writing_allocates ≡ false) → DifferByMemory m text other → ⊥
+no_difference m text other (reading, writing) (inl (inl (takes, is))) = cc
+no_difference m text other (reading, writing) (inl (inr (takes, rest))) = cc
+no_difference m text other (reading, writing) (inr (inl (takes, is))) = cc
+no_difference m text other (reading, writing) (inr (inr (takes, rest))) = cc
+
+pub answered_once : (line text other : List ℕ) → TakesNoMemory line → IsAnswer line text → IsAnswer line other → text ≡ other
+answered_once line text other none a b = once (answered_alike line text other a b)
+  where
+    once : AreAlike line text other → text ≡ other
+    once (inl same) = same
+    once (inr (t, asks, memory)) = absurd (no_difference (meaning_of t) text other (none t asks) memory)
+
+pub takes_no_memory : (line : List ℕ) → AsksForNoItems line → TakesNoMemory line
+takes_no_memory line none t asks = allocates_none t (none t asks)

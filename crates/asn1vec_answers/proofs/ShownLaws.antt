@@ -1,0 +1,143 @@
+-- What is said of encodings, and strict encodings of what is shown.
+use Rattle.std.proofs.Common.{◌≡◌, ℕ, Bool, false, List, ◌++◌, length, codes, inl, inr, None, Some, Result, Ok, Err, IfOk, IfErr, subst, refl, sym, ap, arith, length-append, ◌<◌, ◌≤◌, ◌+◌, ◌^◌}
+use Rattle.std.specs.Prelude.{ℤ, pos}
+use Rattle.x690.specs.Identifiers.{Identifier}
+use Rattle.x690.specs.Octets.{IsOctets}
+use Rattle.asn1_rs.specs.declared.asn1_types.any.Any.{Any}
+use Rattle.asn1_rs.specs.declared.class.Class.{Class}
+use Rattle.asn1_rs.specs.declared.class.Class.TheVariants.{Universal, Application, ContextSpecific, Private}
+use Rattle.asn1_rs.specs.declared.error.SerializeError.{SerializeError}
+use Rattle.asn1_rs.specs.Class.{class_number}
+use Rattle.asn1_rs.specs.Any.Value.{element_of, ElementForm}
+use Rattle.asn1_rs.specs.Header.{identifier_of}
+use Rattle.asn1_rs.specs.Grammar.Form.{FitsElement, HasForm, IsStrict, WritesForm, universal}
+use Rattle.asn1_rs.specs.Laws.Forms.{strict_made, strict_written}
+use Rattle.x690.specs.Laws.StrictLengths.{length_fits}
+use Rattle.asn1_rs.specs.Writer.{MayRefuse}
+use Rattle.asn1_rs.specs.Integer.{integer_number, IntegerForm, IsUnsigned}
+use Rattle.x690.specs.Strict.{element_octets}
+use Rattle.x690.specs.Laws.StrictElements.{made_strict_element}
+use Rattle.x690.specs.Laws.Integers.Unsigned.{unsigned_octets_content, unsigned_octets_few}
+use Rattle.x690.specs.Integers.{IsIntegerContent, unsigned_octets}
+use Rattle.x690.specs.Signed.{IsSigned, signed_octets}
+use Rattle.x690.specs.Laws.Signed.{signed_octets_content, signed_octets_few}
+use Rattle.std.specs.List.{All}
+use Rattle.std.specs.Prelude.{slice_index_or}
+use Rattle.asn1_rs.specs.declared.error.Error.{Error}
+use Rattle.asn1_rs.specs.Lists.{SomeRefuses}
+use Rattle.asn1_rs.specs.Laws.Lists.{none_refuses}
+use Rattle.asn1_rs.specs.Laws.Set.{none_into}
+use Rattle.asn1_rs.specs.ToDer.{Either, HasNone, IntoVector, IsWritable, Refuses, WrittenRefusal}
+use Rattle.asn1vec_answers.specs.Shown.{Encoding, Gains, IsUnwritten, IsWritten, SaysEncoding, SaysWriting, StrictEncoding, StrictEncodingIfAny}
+use Rattle.asn1vec_answers.proofs.OneReading.{only_refusals}
+use Rattle.asn1vec_answers.proofs.Gained.{gains_both}
+use Rattle.std.proofs.lemmas.Bool.{cases_lt}
+use mathlib.Core.Logic.{∥∥₁_map}
+
+-- what is said of the writing of octets into a vector
+pub written_said : (allocates : Bool) (o written : List ℕ) → length written < 2 ^ 64 → (answer : Result ℕ SerializeError) → IfOk answer (λ n. written ≡ o) → IfErr answer (MayRefuse allocates (length o))
+    → (a b c : List ℕ) → b ≡ a ++ codes " enc " → Gains b c (SaysWriting written answer) → Gains a c (SaysEncoding (IsWritten allocates o))
+written_said allocates o written few (Ok n) is may a b c e (said, says, more) =
+    let whole : IsWritten allocates o (Some (Ok written)) = (subst (λ (l : List ℕ). length l < 2 ^ 64) is few, is) in
+    (codes " enc " ++ said, (Some (Ok written), whole, ap (λ l. codes " enc " ++ l) says), gains_both a b c (codes " enc ") said e more)
+written_said allocates o written few (Err e) is may a b c same (said, says, more) =
+    (codes " enc " ++ said, (Some (Err e), (may, says.0), ap (λ l. codes " enc " ++ l) says.1), gains_both a b c (codes " enc ") said same more)
+
+-- a writing that the value itself does not refuse
+pub refused_as_any : (allocates : Bool) (n : ℕ) (own : SerializeError → Type 0) → ((e : SerializeError) → own e → ⊥) → (answer : Result ℕ SerializeError) → IfErr answer (Refuses allocates n own) → IfErr answer (MayRefuse allocates n)
+refused_as_any allocates n own none (Ok k) h = tt
+refused_as_any allocates n own none (Err e) (inl h) = h
+refused_as_any allocates n own none (Err e) (inr o) = absurd (none e o)
+
+-- what is written of a value that has a strict encoding is that one
+pub strict_told : {S V : Type 0} (value : S → V) (Form : V → Identifier → List ℕ → Type 0) (is_writable : S → Type 0) (constructed : S → Bool) (header content : S → List ℕ) → WritesForm value Form is_writable constructed header content →
+    (allocates : Bool) (x : S) (o : List ℕ) → IsStrict Form (value x) o → (encoding : Encoding) → IsWritten allocates (header x ++ content x) encoding → StrictEncoding Form allocates (value x) encoding
+strict_told value Form is_writable constructed header content writes allocates x o strict encoding written =
+    (o, strict, subst (λ (l : List ℕ). IsWritten allocates l encoding) (strict_written value Form is_writable constructed header content writes x o strict).1 written)
+
+-- octets past what 64 bits count are not written
+unwritten : (allocates : Bool) (o : List ℕ) → 2 ^ 64 ≤ length o → (encoding : Encoding) → IsWritten allocates o encoding → IsUnwritten allocates encoding
+unwritten allocates o long None h = absurd h
+unwritten allocates o long (Some (Ok written)) (few, is) = absurd (omega (arith, few, long))
+unwritten allocates o long (Some (Err e)) (may, io) =
+    elim (only_refusals allocates (length o) e may io) [
+      | inl past ↦ inl (ap (λ (x : SerializeError). Some (Err x)) past.0)
+      | inr memory ↦ inr (memory.0, ap (λ (x : SerializeError). Some (Err x)) memory.1)
+    ]
+
+-- What is said of the encoding of a value in DER form: its strict encoding, unless the contents octets are too many.
+module _ {S V : Type 0} (value : S → V) (IsDer : V → Type 0) (Form : V → Identifier → List ℕ → Type 0) (is_writable : S → Type 0) (constructed : S → Bool) (header content : S → List ℕ)
+    (writes : WritesForm value Form is_writable constructed header content) (has : HasForm value IsDer Form content) (fits : FitsElement Form) where
+  written_strict : (x : S) → IsDer (value x) → length (content x) < 2 ^ 64 → ∥ IsStrict Form (value x) (header x ++ content x) ∥₁
+  written_strict x der few = ∥∥₁_map (has x der few) (λ f.
+      subst (λ (h : List ℕ). IsStrict Form (value x) (h ++ content x)) (sym (writes x f.0 (content x) f.1).3) (strict_made Form fits (value x) f.0 (content x) f.1 few))
+
+  too_long : (x : S) → 2 ^ 64 ≤ length (content x) → (o : List ℕ) → IsStrict Form (value x) o → ⊥
+  too_long x long o s =
+      let same : content x ≡ s.content = (writes x s.id s.content s.form).2 in
+      let few = length_fits (length s.content) s.element.count s.element.count_is.lenient in
+      omega (arith, long, few, ap length same)
+
+  pub strict_if_any : (allocates : Bool) (x : S) → IsDer (value x) → (encoding : Encoding) → IsWritten allocates (header x ++ content x) encoding → StrictEncodingIfAny Form allocates (value x) encoding
+  strict_if_any allocates x der encoding written =
+      elim (cases_lt (length (content x)) (2 ^ 64)) [
+        | inl few ↦ inl (header x ++ content x, written_strict x der few, written)
+        | inr long ↦ inr (too_long x long, unwritten allocates (header x ++ content x) (omega (arith, long, length-append (header x) (content x))) encoding written)
+      ]
+
+-- each number that a type holds has a strict encoding, where its contents octets are few
+pub strict_number : (Holds : ℤ → Type 0) (n : ℤ) (octets : List ℕ) → Holds n → IsIntegerContent n octets → length octets < 2 ^ 64 → (o : List ℕ) × IsStrict (IntegerForm Holds) n o
+strict_number Holds n octets held content few =
+    let id = universal false integer_number in (
+      element_octets id octets,
+      record {
+        id = id;
+        content = octets;
+        form = (refl, (held, content));
+        element = made_strict_element id octets (omega arith) (omega arith) few content.octets;
+      },
+    )
+
+pub strict_unsigned : (size k : ℕ) → size ≤ 16 → k < 256 ^ size → (o : List ℕ) × IsStrict (IntegerForm (IsUnsigned size)) (pos k) o
+strict_unsigned size k most fits =
+    let few : length (unsigned_octets k) ≤ size + 1 = unsigned_octets_few k size fits in
+    strict_number (IsUnsigned size) (pos k) (unsigned_octets k) (k, refl, fits) (unsigned_octets_content k) (omega (arith, few))
+
+pub strict_signed : (size : ℕ) (n : ℤ) → 1 ≤ size → size ≤ 16 → IsSigned size n → (o : List ℕ) × IsStrict (IntegerForm (IsSigned size)) n o
+strict_signed size n some most held =
+    let few = signed_octets_few n size some held in
+    strict_number (IsSigned size) n (signed_octets n) held (signed_octets_content n) (omega (arith, few))
+
+few_classes : (class : Class) → class_number class < 4
+few_classes Universal = omega arith
+few_classes Application = omega arith
+few_classes ContextSpecific = omega arith
+few_classes Private = omega arith
+
+-- each element in hand has a strict encoding, whatever length its header has
+pub strict_element : (a : Any) → a.header.tag.0 < 2 ^ 32 → IsOctets a.content.now → length a.content.now < 2 ^ 64 → IsStrict ElementForm (element_of a) (element_octets (identifier_of a.header) a.content.now)
+strict_element a number octets few =
+    let id = identifier_of a.header in
+    let class = few_classes a.header.class in
+    record {
+      id = id;
+      content = a.content.now;
+      form = record { is = refl; class = class; number = number; octets = octets };
+      element = made_strict_element id a.content.now class number few octets;
+    }
+
+-- a list has no refusal of its own where its items have none
+module _ {S : Type 0} (counting : S → Error → Type 0) (heading filling : S → SerializeError → Type 0) where
+  pub either_none : (x : S) → IsWritable (counting x) (heading x) (filling x) → HasNone (Either (heading x) (filling x))
+  either_none x w e (inl o) = w.1 e o
+  either_none x w e (inr o) = w.2 e o
+
+  pub list_writable : (xs : List S) → All (λ x. IsWritable (counting x) (heading x) (filling x)) xs → IsWritable (SomeRefuses counting xs) (WrittenRefusal (SomeRefuses counting xs)) (SomeRefuses (λ x. Either (heading x) (filling x)) xs)
+  list_writable xs a =
+      let none = none_refuses counting xs (λ k d h. (a k d h).0) in
+      (none, λ e o. none o.0 o.1, none_refuses (λ x. Either (heading x) (filling x)) xs (λ k d h. either_none (slice_index_or xs k d) (a k d h)))
+
+  pub set_writable : (xs : List S) → All (λ x. IsWritable (counting x) (heading x) (filling x)) xs → IsWritable (SomeRefuses counting xs) (WrittenRefusal (SomeRefuses counting xs)) (SomeRefuses (λ x. IntoVector (Either (heading x) (filling x))) xs)
+  set_writable xs a =
+      let none = none_refuses counting xs (λ k d h. (a k d h).0) in
+      (none, λ e o. none o.0 o.1, none_refuses (λ x. IntoVector (Either (heading x) (filling x))) xs (λ k d h. none_into (Either (heading (slice_index_or xs k d)) (filling (slice_index_or xs k d))) (either_none (slice_index_or xs k d) (a k d h))))

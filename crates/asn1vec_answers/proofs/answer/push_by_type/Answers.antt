@@ -1,0 +1,100 @@
+use Rattle.asn1vec_answers.proofs.answer.push_by_type.Goals as goal
+
+pub returns-in-U8 : goal.returns-in-U8
+returns-in-U8 c = rw c.in-U8.is c.push_by_either.ensures
+
+pub returns-in-U16 : goal.returns-in-U16
+returns-in-U16 c = rw c.in-U16.is c.push_by_either-in-U16.ensures
+
+pub returns-in-U32 : goal.returns-in-U32
+returns-in-U32 c = rw c.in-U32.is c.push_by_either-in-U32.ensures
+
+pub returns-in-U64 : goal.returns-in-U64
+returns-in-U64 c = rw c.in-U64.is c.push_by_either-in-U64.ensures
+
+pub returns-in-U128 : goal.returns-in-U128
+returns-in-U128 c = rw c.in-U128.is c.push_by_either-in-U128.ensures
+
+pub returns-in-I8 : goal.returns-in-I8
+returns-in-I8 c = rw c.in-I8.is c.push_by_either-in-I8.ensures
+
+pub returns-in-I16 : goal.returns-in-I16
+returns-in-I16 c = rw c.in-I16.is c.push_by_either-in-I16.ensures
+
+pub returns-in-I32 : goal.returns-in-I32
+returns-in-I32 c = rw c.in-I32.is c.push_by_either-in-I32.ensures
+
+pub returns-in-I64 : goal.returns-in-I64
+returns-in-I64 c = rw c.in-I64.is c.push_by_either-in-I64.ensures
+
+pub returns-in-I128 : goal.returns-in-I128
+returns-in-I128 c = rw c.in-I128.is c.push_by_either-in-I128.ensures
+
+pub returns-in-Any : goal.returns-in-Any
+returns-in-Any c = rw c.in-Any.is c.push_by_either-in-Any.ensures
+
+pub returns-in-Bool : goal.returns-in-Bool
+returns-in-Bool c = rw c.in-Bool.is c.push_by_either-in-Bool.ensures
+
+pub returns-in-Null : goal.returns-in-Null
+returns-in-Null c = rw c.in-Null.is c.push_by_either-in-Null.ensures
+
+pub returns-in-Eoc : goal.returns-in-Eoc
+returns-in-Eoc c = rw c.in-Eoc.is c.push_by_ber.ensures
+
+pub returns-in-Octets : goal.returns-in-Octets
+returns-in-Octets c = rw c.in-Octets.is c.push_by_either-in-Octets.ensures
+
+pub returns-in-Bits : goal.returns-in-Bits
+returns-in-Bits c = rw c.in-Bits.is c.push_by_either-in-Bits.ensures
+
+pub returns-in-Enumerated : goal.returns-in-Enumerated
+returns-in-Enumerated c = rw c.in-Enumerated.is c.push_by_either-in-Enumerated.ensures
+
+pub returns-in-Integer : goal.returns-in-Integer
+returns-in-Integer c = rw c.in-Integer.is c.push_by_either-in-Integer.ensures
+
+pub returns-in-VecU8 : goal.returns-in-VecU8
+returns-in-VecU8 c = rw c.in-VecU8.is c.push_by_either-in-VecU8.ensures
+
+pub returns-in-VecU32 : goal.returns-in-VecU32
+returns-in-VecU32 c = rw c.in-VecU32.is c.push_by_either-in-VecU32.ensures
+
+pub returns-in-VecBool : goal.returns-in-VecBool
+returns-in-VecBool c = rw c.in-VecBool.is c.push_by_either-in-VecBool.ensures
+
+pub returns-in-VecVecU8 : goal.returns-in-VecVecU8
+returns-in-VecVecU8 c = rw c.in-VecVecU8.is c.push_by_either-in-VecVecU8.ensures
+
+pub returns-in-SetOfU8 : goal.returns-in-SetOfU8
+returns-in-SetOfU8 c = rw c.in-SetOfU8.is c.push_by_either-in-SetOfU8.ensures
+
+pub returns-in-BTreeSetU8 : goal.returns-in-BTreeSetU8
+returns-in-BTreeSetU8 c = rw c.in-BTreeSetU8.is c.push_by_either-in-BTreeSetU8.ensures
+
+pub returns-in-Sequence : goal.returns-in-Sequence
+returns-in-Sequence c = rw c.in-Sequence.is c.push_by_either-in-Sequence.ensures
+
+pub returns-in-Set : goal.returns-in-Set
+returns-in-Set c = rw c.in-Set.is c.push_by_either-in-Set.ensures
+
+pub returns-in-SeqOfU32 : goal.returns-in-SeqOfU32
+returns-in-SeqOfU32 c = rw c.in-SeqOfU32.is c.push_by_either-in-SeqOfU32.ensures
+
+pub returns-in-Explicit0U32 : goal.returns-in-Explicit0U32
+returns-in-Explicit0U32 c = rw c.in-Explicit0U32.is c.push_by_either-in-Explicit0U32.ensures
+
+pub returns-in-Explicit31U8 : goal.returns-in-Explicit31U8
+returns-in-Explicit31U8 c = rw c.in-Explicit31U8.is c.push_by_either-in-Explicit31U8.ensures
+
+pub returns-in-VecExplicit31U8 : goal.returns-in-VecExplicit31U8
+returns-in-VecExplicit31U8 c = rw c.in-VecExplicit31U8.is c.push_by_either-in-VecExplicit31U8.ensures
+
+pub returns-in-OptU8 : goal.returns-in-OptU8
+returns-in-OptU8 c = rw c.in-OptU8.is c.push_optional.ensures
+
+pub returns-in-HashSetI8 : goal.returns-in-HashSetI8
+returns-in-HashSetI8 c = rw c.in-HashSetI8.is c.push_by_either-in-HashSetI8.ensures
+
+pub returns-in-Implicit1VecU16 : goal.returns-in-Implicit1VecU16
+returns-in-Implicit1VecU16 c = rw c.in-Implicit1VecU16.is c.push_by_either-in-Implicit1VecU16.ensures

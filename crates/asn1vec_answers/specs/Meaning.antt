@@ -1,0 +1,55 @@
+-- What a name stands for.
+use Rattle.std.specs.Prelude.{List, ℕ, Bool, true, false, Option}
+use Rattle.x690.specs.Rules.{Rule as HeaderRule, ber_rule, der_rule}
+use Rattle.asn1_rs.specs.Optional.{IsLeftOut, OptionGives}
+use Rattle.asn1vec_answers.specs.declared.request.Rule.{Rule}
+use Rattle.asn1vec_answers.specs.declared.request.Rule.TheVariants.{Ber as ber, Der as der}
+use Rattle.asn1vec_answers.specs.Shown.{Encoding, HeldEncoding, Reading, ReadsByBer, ReadsByDer, option_text}
+
+-- The data of a name.
+pub record Meaning : Type 1 where
+  -- the type of its values
+  pub T : Type 0
+  -- whether the name is there by a rule
+  pub is_there : Rule → Bool
+  -- what reading octets by the rule may answer
+  pub Reads : Rule → List ℕ → Reading T → Type 0
+  -- how a value is shown
+  pub text_of : T → List ℕ
+  -- what may be said of its encoding
+  pub Encodes : T → Encoding → Type 0
+  -- whether out of memory may be answered
+  pub reading_allocates : Bool
+  pub writing_allocates : Bool
+
+-- a name that is there by BER alone
+abbrev pub is_ber : Rule → Bool
+is_ber ber = true
+is_ber der = false
+
+-- read by either rule
+abbrev pub ReadsByEither : {T V : Type 0} → (Ber Der : List ℕ → V → Type 0) → (T → V) → Bool →
+    (ber_gives der_gives : List ℕ → Reading T → Type 0) → Rule → List ℕ → Reading T → Type 0
+ReadsByEither Ber Der value allocates ber_gives der_gives ber = ReadsByBer Ber value allocates ber_gives
+ReadsByEither Ber Der value allocates ber_gives der_gives der = ReadsByDer Der value allocates der_gives
+
+-- how a rule reads headers
+abbrev pub headers_by : Rule → HeaderRule
+headers_by ber = ber_rule
+headers_by der = der_rule
+
+-- None where no octets or a header of another tag number are at the front, and nothing is consumed; else what reading the value answers
+abbrev pub ReadsOptional : {T : Type 0} → ℕ → (Rule → List ℕ → Reading T → Type 0) → Rule → List ℕ → Reading (Option T) → Type 0
+ReadsOptional number Reads rule = OptionGives (IsLeftOut (headers_by rule) number) (Reads rule)
+
+-- optional values of what a name stands for, whose elements have this tag number; None has no octets
+abbrev pub optional : ℕ → Meaning → Meaning
+optional number m = record {
+  T = Option m.T;
+  is_there = m.is_there;
+  Reads = ReadsOptional number m.Reads;
+  text_of = option_text m.text_of;
+  Encodes = HeldEncoding m.writing_allocates m.Encodes;
+  reading_allocates = m.reading_allocates;
+  writing_allocates = m.writing_allocates;
+}

@@ -1,0 +1,157 @@
+-- How a reading is answered: the value, what follows it and its encoding, or the refusal.
+use Rattle.std.specs.Prelude.{◌≡◌, ℕ, ◌<◌, ◌^◌, Bool, true, false, List, [], ◌∷◌, ◌++◌, length, codes, decimal, Option, None, Some, Result, Ok, Err, ◌⊎◌}
+use Rattle.std.specs.BTreeSet.{insert_key}
+use Rattle.std.specs.List.{join_by}
+use Rattle.std.specs.declared.cmp.Ordering.{Ordering}
+use Rattle.hex.specs.Hex.{encode_lower}
+use Rattle.x690.specs.Identifiers.{Identifier, IsCutIdentifier}
+use Rattle.asn1_rs.specs.declared.error.Err.{Err as Refusal}
+use Rattle.asn1_rs.specs.declared.error.Error.{Error}
+use Rattle.asn1_rs.specs.declared.error.SerializeError.{SerializeError}
+use Rattle.asn1_rs.specs.declared.error.SerializeError.TheVariants as serialize_errors
+use Rattle.asn1_rs.specs.Answers.{Exactly, TellsMemory}
+use Rattle.asn1_rs.specs.Ber.{EndsWithin}
+use Rattle.asn1_rs.specs.Any.Value.{ElementValue}
+use Rattle.asn1_rs.specs.BitString.{Bits}
+use Rattle.asn1_rs.specs.Grammar.Form.{IsStrict}
+use Rattle.asn1_rs.specs.Writer.{MayRefuse}
+use Rattle.asn1_rs.specs.Error.{tells_of_io}
+use Rattle.asn1vec_answers.specs.Names.{name_of_refusal, name_of_write_refusal}
+
+-- octets in hexadecimal digits of lower case, `-` for none
+abbrev pub in_hexadecimal : List ℕ → List ℕ
+in_hexadecimal [] = codes "-"
+in_hexadecimal (octet ∷ octets) = encode_lower (octet ∷ octets)
+
+-- `c` for constructed, `p` for primitive
+abbrev pub letter_of : Bool → List ℕ
+letter_of true = codes "c"
+letter_of false = codes "p"
+
+-- a bit string: the number of its unused bits, and the octets that have its bits
+abbrev pub bits_text : Bits → List ℕ
+bits_text v = decimal v.unused ++ (codes ":" ++ in_hexadecimal v.octets)
+
+-- a truth value
+abbrev pub truth_text : Bool → List ℕ
+truth_text true = codes "true"
+truth_text false = codes "false"
+
+-- the number of the class, the letter of the form, the tag number and the contents octets, joined
+-- by points
+abbrev pub element_text : ElementValue → List ℕ
+element_text v =
+    decimal v.id.class ++ (codes "." ++ (letter_of v.id.constructed ++ (codes "." ++
+    (decimal v.id.number ++ (codes "." ++ in_hexadecimal v.content)))))
+
+-- the texts of items, parted by commas, in brackets
+abbrev pub list_text : {T : Type 0} → (T → List ℕ) → List T → List ℕ
+list_text text_of items = codes "[" ++ (join_by text_of (codes ",") items ++ codes "]")
+
+-- the keys in ascending order, each once
+abbrev pub in_order : {K : Type 0} → (K → K → Ordering) → List K → List K
+in_order cmp [] = []
+in_order cmp (k ∷ ks) = insert_key cmp (in_order cmp ks) k
+
+-- `none`, or `some` and what is held
+abbrev pub option_text : {T : Type 0} → (T → List ℕ) → Option T → List ℕ
+option_text text_of None = codes "none"
+option_text text_of (Some x) = codes "some " ++ text_of x
+
+-- What there is to say of the encoding of a value: nothing, where its type has no writer; the octets
+-- that were written; or why writing it was refused.
+abbrev pub Encoding : Type 0
+Encoding = Option (Result (List ℕ) SerializeError)
+
+-- that in words
+abbrev pub written_text : Result (List ℕ) SerializeError → List ℕ
+written_text (Ok octets) = in_hexadecimal octets
+written_text (Err e) = codes "err " ++ name_of_write_refusal e
+
+abbrev pub encoding_text : Encoding → List ℕ
+encoding_text None = []
+encoding_text (Some written) = codes " enc " ++ written_text written
+
+-- a value, what follows it, and its encoding
+abbrev pub ok_text : List ℕ → List ℕ → Encoding → List ℕ
+ok_text value rest encoding =
+    codes "ok " ++ (value ++ (codes " rest " ++ (in_hexadecimal rest ++ encoding_text encoding)))
+
+-- what reading octets answers: a value and the rest, or a refusal
+abbrev pub Reading : Type 0 → Type 0
+Reading T = Result (List ℕ × T) (Refusal Error)
+
+-- that in words: the value, the rest and an encoding that the value may have; or the refusal
+abbrev pub Says : {T : Type 0} → (T → List ℕ) → (T → Encoding → Type 0) → Reading T → List ℕ → Type 0
+Says text_of Encodes (Ok x) text =
+    (encoding : Encoding) × Encodes x.1 encoding × (text ≡ ok_text (text_of x.1) x.0 encoding)
+Says text_of Encodes (Err r) text = text ≡ codes "err " ++ name_of_refusal r
+
+-- The text says what reading the octets may answer.
+pub record IsReadAnswer {T : Type 0} (Reads : List ℕ → Reading T → Type 0) (text_of : T → List ℕ)
+    (Encodes : T → Encoding → Type 0) (octets text : List ℕ) : Type 0 where
+  pub answer : Reading T
+  pub reads : Reads octets answer
+  pub says : Says text_of Encodes answer text
+
+-- ---- readings and encodings of lawful types
+
+-- errors stay as they are
+abbrev pub Same : Error → Error → Type 0
+Same e f = f ≡ e
+
+-- by BER: what is exact by the grammar, and what the reader gives
+abbrev pub ReadsByBer : {T V : Type 0} → (List ℕ → V → Type 0) → (T → V) → Bool → (List ℕ → Reading T → Type 0) →
+    List ℕ → Reading T → Type 0
+ReadsByBer Ber value allocates gives octets answer =
+    Exactly EndsWithin Ber value (TellsMemory allocates Same) octets answer × gives octets answer
+
+-- the same by DER
+abbrev pub ReadsByDer : {T V : Type 0} → (List ℕ → V → Type 0) → (T → V) → Bool → (List ℕ → Reading T → Type 0) →
+    List ℕ → Reading T → Type 0
+ReadsByDer Der value allocates gives octets answer =
+    Exactly IsCutIdentifier Der value (TellsMemory allocates Same) octets answer × gives octets answer
+
+-- these octets, of a length that 64 bits hold, or why writing them was refused
+abbrev pub IsWritten : Bool → List ℕ → Encoding → Type 0
+IsWritten allocates octets None = ⊥
+IsWritten allocates octets (Some (Ok written)) = (length octets < 2 ^ 64) × (written ≡ octets)
+IsWritten allocates octets (Some (Err e)) =
+    MayRefuse allocates (length octets) e × (tells_of_io e ≡ false)
+
+-- the strict encoding of a value, or why writing that was refused
+abbrev pub StrictEncoding : {V : Type 0} → (V → Identifier → List ℕ → Type 0) → Bool → V → Encoding → Type 0
+StrictEncoding Form allocates v encoding =
+    (octets : List ℕ) × IsStrict Form v octets × IsWritten allocates octets encoding
+
+-- The same of a value that may have no strict encoding, as that would be too long: writing it is refused then, for its
+-- length or when out of memory.
+abbrev pub IsUnwritten : Bool → Encoding → Type 0
+IsUnwritten allocates encoding =
+    (encoding ≡ Some (Err serialize_errors.InvalidLength)) ⊎
+    ((allocates ≡ true) × (encoding ≡ Some (Err serialize_errors.OutOfMemory)))
+
+abbrev pub StrictEncodingIfAny : {V : Type 0} → (V → Identifier → List ℕ → Type 0) → Bool → V → Encoding → Type 0
+StrictEncodingIfAny Form allocates v encoding =
+    ((octets : List ℕ) × ∥ IsStrict Form v octets ∥₁ × IsWritten allocates octets encoding) ⊎
+    (((octets : List ℕ) → ¬ IsStrict Form v octets) × IsUnwritten allocates encoding)
+
+-- the encoding of what is held, or no octets
+abbrev pub HeldEncoding : {T : Type 0} → Bool → (T → Encoding → Type 0) → Option T → Encoding → Type 0
+HeldEncoding allocates Encodes None encoding = IsWritten allocates [] encoding
+HeldEncoding allocates Encodes (Some x) encoding = Encodes x encoding
+
+-- ---- what functions on the way say
+
+-- the text grew by what this holds of
+abbrev pub Gains : List ℕ → List ℕ → (List ℕ → Type 0) → Type 0
+Gains old new Is = (gained : List ℕ) × Is gained × (new ≡ old ++ gained)
+
+-- the words say what may be said of an encoding
+abbrev pub SaysEncoding : (Encoding → Type 0) → List ℕ → Type 0
+SaysEncoding Encodes text = (encoding : Encoding) × Encodes encoding × (text ≡ encoding_text encoding)
+
+-- they say what came of a writing that left these octets
+abbrev pub SaysWriting : List ℕ → Result ℕ SerializeError → List ℕ → Type 0
+SaysWriting octets (Ok n) text = text ≡ written_text (Ok octets)
+SaysWriting octets (Err e) text = (tells_of_io e ≡ false) × (text ≡ written_text (Err e))

@@ -1,0 +1,338 @@
+-- The names of types, and what each stands for.
+use Rattle.std.specs.Prelude.{◌≡◌, Bool as Truth, List, ◌++◌, ℕ, ℤ, pos, codes, decimal, true, false, None, Result, Ok}
+use Rattle.std.specs.declared.alloc.Global.{Global}
+use Rattle.std.specs.declared.vec.Vec.{Vec}
+use Rattle.std.specs.declared.cmp.Ordering.{Ordering}
+use Rattle.std.specs.BTreeSet.{BTreeSet, IsFromIterResult}
+use Rattle.std.specs.HashSet.{HashSet, IsFromIterResult as IsHashedOf}
+use Rattle.std.proofs.Common.{BuildHasherDefault, FoldHasher}
+use Rattle.std.specs.Fmt.{signed_decimal}
+use Rattle.std.specs.Ordering.{eq_by_cmp, int_cmp, nat_cmp}
+use Rattle.x690.specs.Signed.{IsSigned}
+use Rattle.asn1_rs.specs.Kinds.Writing.{universal_header}
+use Rattle.asn1_rs.specs.declared.error.Error.{Error}
+use Rattle.asn1_rs.specs.declared.asn1_types.any.Any.{Any as AnyElement}
+use Rattle.asn1_rs.specs.declared.asn1_types.end_of_content.EndOfContent.{EndOfContent}
+use Rattle.asn1_rs.specs.BitString.{bit_string_leaf}
+use Rattle.asn1_rs.specs.Boolean.{bool_leaf}
+use Rattle.asn1_rs.specs.EndOfContent.{end_leaf}
+use Rattle.asn1_rs.specs.Enumerated.{enumerated_leaf}
+use Rattle.asn1_rs.specs.Integer.Octets.{any_integer_leaf}
+use Rattle.asn1_rs.specs.Leaf.{Leaf, LeafBody, LeafGives, leaf_element}
+use Rattle.asn1_rs.specs.declared.asn1_types.set.set_of.SetOf.{SetOf}
+use Rattle.asn1_rs.specs.Set.{HasItems, is_below, is_other, items_of, member_grammar, multiset_grammar}
+use Rattle.asn1_rs.specs.Null.{null_leaf}
+use Rattle.asn1_rs.specs.OctetString.{octet_string_leaf}
+use Rattle.asn1_rs.specs.declared.asn1_types.tagged.Explicit.{Explicit}
+use Rattle.asn1_rs.specs.declared.asn1_types.tagged.Implicit.{Implicit}
+use Rattle.asn1_rs.specs.declared.asn1_types.tagged.TaggedValue.{TaggedValue}
+use Rattle.asn1_rs.specs.Tagged.Explicit.{ExplicitGives, ExplicitTakes, explicit_grammar}
+use Rattle.asn1_rs.specs.Tagged.Implicit.{ImplicitTakes, implicit_grammar}
+use Rattle.asn1_rs.specs.Kept.{LendsContent, sequence_leaf, set_leaf}
+use Rattle.asn1_rs.specs.declared.asn1_types.sequence.sequence_of.SequenceOf.{SequenceOf}
+use Rattle.asn1_rs.specs.Sequence.SequenceOf.{IsSequenceOf, sequence_items}
+use Rattle.std.specs.declared.borrow.CowSlice.{CowSlice}
+use Rattle.asn1_rs.specs.Any.{IsTheElement, IsDefiniteOr}
+use Rattle.asn1_rs.specs.Traits.{OfParts, BerGives, DerGives, PassesAll}
+use Rattle.asn1_rs.specs.Lists.{ListReads, ListTakes, has_items as IsMadeOf, list_grammar}
+use Rattle.asn1_rs.specs.Kinds.{item_grammar}
+use Rattle.asn1_rs.specs.Grammar.Item.{ItemGrammar}
+use Rattle.asn1_rs.specs.Any.Value.{element_of, ElementBody, ElementCheck, ElementForm}
+use Rattle.asn1_rs.specs.Grammar.{BerWord, DerWord}
+use Rattle.asn1_rs.specs.Integer.{IntegerCheck, IntegerCheckGives, IntegerBody, IntegerForm, integer_element, IntegerGives, IsUnsigned, UnsignedGives, UnsignedRefuses, SignedGives, SignedRefuses}
+use Rattle.asn1vec_answers.specs.declared.request.Rule.{Rule}
+use Rattle.asn1vec_answers.specs.declared.types.TypeName.{TypeName}
+use Rattle.asn1vec_answers.specs.declared.types.TypeName.TheVariants.{U8, U16, U32, U64, U128, I8, I16, I32, I64, I128, Any, Bool, Null, Enumerated, Integer, Octets, Bits, Eoc, VecU8, VecU32, VecBool, VecVecU8, SetOfU8, BTreeSetU8, Sequence, Set, SeqOfU32, Explicit0U32, Explicit31U8, VecExplicit31U8, OptU8, HashSetI8, Implicit1VecU16}
+use Rattle.asn1vec_answers.specs.Meaning.{Meaning, ReadsByEither, is_ber, optional}
+use Rattle.asn1vec_answers.specs.Shown.{IsReadAnswer, IsWritten, ReadsByBer, Reading, Same, StrictEncoding, StrictEncodingIfAny, bits_text, element_text, in_hexadecimal, in_order, list_text, truth_text}
+
+abbrev pub name_of : TypeName → List ℕ
+name_of U8 = codes "u8"
+name_of U16 = codes "u16"
+name_of U32 = codes "u32"
+name_of U64 = codes "u64"
+name_of U128 = codes "u128"
+name_of I8 = codes "i8"
+name_of I16 = codes "i16"
+name_of I32 = codes "i32"
+name_of I64 = codes "i64"
+name_of I128 = codes "i128"
+name_of Any = codes "any"
+name_of Bool = codes "bool"
+name_of Null = codes "null"
+name_of Enumerated = codes "enumerated"
+name_of Integer = codes "integer"
+name_of Octets = codes "octets"
+name_of Bits = codes "bits"
+name_of Eoc = codes "eoc"
+name_of VecU8 = codes "vec.u8"
+name_of VecU32 = codes "vec.u32"
+name_of VecBool = codes "vec.bool"
+name_of VecVecU8 = codes "vec.vec.u8"
+name_of SetOfU8 = codes "setof.u8"
+name_of BTreeSetU8 = codes "btreeset.u8"
+name_of Sequence = codes "sequence"
+name_of Set = codes "set"
+name_of SeqOfU32 = codes "seqof.u32"
+name_of Explicit0U32 = codes "explicit0.u32"
+name_of Explicit31U8 = codes "explicit31.u8"
+name_of VecExplicit31U8 = codes "vec.explicit31.u8"
+name_of OptU8 = codes "opt.u8"
+name_of HashSetI8 = codes "hashset.i8"
+name_of Implicit1VecU16 = codes "implicit1.vec.u16"
+
+-- integers, there by either rule: in decimals, with the strict encoding that each has which the type holds
+abbrev pub integers : {T : Type 0} → (T → ℤ) → (ℤ → Type 0) → (List ℕ → Error → Type 0) → Meaning
+integers {T} number Holds refuses = record {
+  T = T;
+  is_there = λ rule. true;
+  Reads = ReadsByEither (BerWord (IntegerBody Holds)) (DerWord IntegerCheck (IntegerBody Holds)) number false
+      (BerGives (OfParts (IntegerGives number Holds refuses)) Same)
+      (DerGives IntegerCheckGives (OfParts (IntegerGives number Holds refuses)) Same);
+  text_of = λ x. signed_decimal (number x);
+  Encodes = λ x. StrictEncoding (IntegerForm Holds) false (number x);
+  reading_allocates = false;
+  writing_allocates = false;
+}
+
+-- the unsigned integers of so many octets
+abbrev pub unsigned : ℕ → Meaning
+unsigned size = integers {T = ℕ} pos (IsUnsigned size) (UnsignedRefuses size)
+
+-- and the signed ones
+abbrev pub signed : ℕ → Meaning
+signed size = integers {T = ℤ} (λ n. n) (IsSigned size) (SignedRefuses size)
+
+-- elements of any type, there by either rule: what they say, with the strict encoding that each of them has
+abbrev pub elements : Meaning
+elements = record {
+  T = AnyElement;
+  is_there = λ rule. true;
+  Reads = ReadsByEither (BerWord ElementBody) (DerWord ElementCheck ElementBody) element_of false
+      (BerGives IsTheElement Same) (DerGives IsDefiniteOr IsTheElement Same);
+  text_of = λ a. element_text (element_of a);
+  Encodes = λ a. StrictEncoding ElementForm false (element_of a);
+  reading_allocates = false;
+  writing_allocates = false;
+}
+
+-- the octets that are written for a value of a leaf type, in DER form or not
+abbrev pub leaf_octets : {T : Type 0} (L : Leaf T) → L.Value → List ℕ
+leaf_octets L v = universal_header L.number (L.octets v) ++ L.octets v
+
+-- a leaf type, there by either rule, whose conversion may answer so: shown by its value, with the octets that are written for it
+abbrev pub leaf_by : {T : Type 0} (L : Leaf T) → (AnyElement → Result T Error → Type 0) → (L.Value → List ℕ) → Meaning
+leaf_by {T} L converts text = record {
+  T = T;
+  is_there = λ rule. true;
+  Reads = ReadsByEither (BerWord (LeafBody L)) (DerWord (λ p. L.constraints p (Ok tt)) (LeafBody L)) L.value false
+      (BerGives converts Same) (DerGives L.constraints converts Same);
+  text_of = λ x. text (L.value x);
+  Encodes = λ x. IsWritten false (leaf_octets L (L.value x));
+  reading_allocates = false;
+  writing_allocates = false;
+}
+
+-- one that looks at the parts of an element alone
+abbrev pub leaf : {T : Type 0} (L : Leaf T) → (L.Value → List ℕ) → Meaning
+leaf L = leaf_by L (OfParts (LeafGives L))
+
+-- one that lends its contents octets
+abbrev pub lent_leaf : {T : Type 0} (L : Leaf T) → (T → CowSlice ℕ Global) → (L.Value → List ℕ) → Meaning
+lent_leaf L content = leaf_by L (LendsContent L content)
+
+-- the end of contents, there by BER alone; it has no writer
+abbrev pub ends : Meaning
+ends = record {
+  T = EndOfContent;
+  is_there = λ rule. is_ber rule;
+  Reads = λ rule. ReadsByBer (BerWord (LeafBody end_leaf)) end_leaf.value false (BerGives (OfParts (LeafGives end_leaf)) Same);
+  text_of = λ x. codes "eoc";
+  Encodes = λ x encoding. encoding ≡ None;
+  reading_allocates = false;
+  writing_allocates = false;
+}
+
+-- What there is to say of a type of items: its values and grammars, what its readers may answer, and how an item is shown.
+pub record Item : Type 1 where
+  pub T : Type 0
+  pub grammar : ItemGrammar T
+  pub ber_gives : List ℕ → Reading T → Type 0
+  pub der_gives : List ℕ → Reading T → Type 0
+  pub text_of : T → List ℕ
+
+-- the unsigned integers of so many octets
+abbrev pub unsigned_item : ℕ → Item
+unsigned_item size = record {
+  T = ℕ;
+  grammar = item_grammar (integer_element pos (IsUnsigned size));
+  ber_gives = BerGives (OfParts (UnsignedGives size)) Same;
+  der_gives = DerGives IntegerCheckGives (OfParts (UnsignedGives size)) Same;
+  text_of = decimal;
+}
+
+-- and the signed ones
+abbrev pub signed_item : ℕ → Item
+signed_item size = record {
+  T = ℤ;
+  grammar = item_grammar (integer_element (λ n. n) (IsSigned size));
+  ber_gives = BerGives (OfParts (SignedGives size)) Same;
+  der_gives = DerGives IntegerCheckGives (OfParts (SignedGives size)) Same;
+  text_of = signed_decimal;
+}
+
+-- the values of a leaf type
+abbrev pub leaf_item : {T : Type 0} (L : Leaf T) → (L.Value → List ℕ) → Item
+leaf_item {T} L text = record {
+  T = T;
+  grammar = item_grammar (leaf_element L);
+  ber_gives = BerGives (OfParts (LeafGives L)) Same;
+  der_gives = DerGives L.constraints (OfParts (LeafGives L)) Same;
+  text_of = λ x. text (L.value x);
+}
+
+-- sequences of items, in whatever holds them; by DER the constructed bit is not looked at
+abbrev pub sequence : {W : Type 0} (I : Item) → (W → List I.T) → (List I.T → W → Type 0) → Item
+sequence {W} I items holds = record {
+  T = W;
+  grammar = list_grammar 16 items I.grammar;
+  ber_gives = BerGives (OfParts (ListTakes 16 holds I.ber_gives Same)) Same;
+  der_gives = DerGives PassesAll (OfParts (ListReads 16 holds I.der_gives Same)) Same;
+  text_of = λ s. list_text I.text_of (items s);
+}
+
+abbrev pub vector : Item → Item
+vector I = sequence {W = Vec I.T Global} I (λ v. v.items) IsMadeOf
+
+abbrev pub sequence_of : Item → Item
+sequence_of I = sequence {W = SequenceOf I.T} I sequence_items IsSequenceOf
+
+-- sets in which an item may stand more than once: they keep the order in which they were read, and are equal in any order
+abbrev pub unordered_set : Item → Item
+unordered_set I = record {
+  T = SetOf I.T;
+  grammar = multiset_grammar items_of I.grammar;
+  ber_gives = BerGives (OfParts (ListTakes 17 HasItems I.ber_gives Same)) Same;
+  der_gives = DerGives PassesAll (OfParts (ListReads 17 HasItems I.der_gives Same)) Same;
+  text_of = λ s. list_text I.text_of (items_of s);
+}
+
+-- sets whose items ascend, each once: they have the items that were read, and each item is below those behind it
+abbrev pub ordered_set : (I : Item) → (I.T → I.T → Ordering) → Item
+ordered_set I cmp = record {
+  T = BTreeSet I.T;
+  grammar = member_grammar (is_below cmp) (λ s. s.keys) I.grammar;
+  ber_gives = BerGives (OfParts (ListTakes 17 (λ items s. IsFromIterResult cmp items s) I.ber_gives Same)) Same;
+  der_gives = DerGives PassesAll (OfParts (ListTakes 17 (λ items s. IsFromIterResult cmp items s) I.der_gives Same)) Same;
+  text_of = λ s. list_text I.text_of s.keys;
+}
+
+-- sets whose items stand in no order, each once: shown in ascending order
+abbrev pub hashed_set : (I : Item) → (I.T → I.T → Ordering) → Item
+hashed_set I cmp = record {
+  T = HashSet I.T (BuildHasherDefault FoldHasher);
+  grammar = member_grammar (is_other (eq_by_cmp cmp)) (λ s. s.keys) I.grammar;
+  ber_gives = BerGives (OfParts (ListTakes 17 (λ items s. IsHashedOf (eq_by_cmp cmp) items s) I.ber_gives Same)) Same;
+  der_gives = DerGives PassesAll (OfParts (ListTakes 17 (λ items s. IsHashedOf (eq_by_cmp cmp) items s) I.der_gives Same)) Same;
+  text_of = λ s. list_text I.text_of (in_order cmp s.keys);
+}
+
+-- values under an explicit, context-specific tag of this number: shown as without it
+abbrev pub explicit : ℕ → Item → Item
+explicit number I = record {
+  T = TaggedValue I.T Error Explicit 2 number;
+  grammar = explicit_grammar 2 number (λ t. t.inner) I.grammar;
+  ber_gives = BerGives (OfParts (ExplicitTakes 2 number (λ t. t.inner) I.ber_gives Same)) Same;
+  der_gives = ExplicitGives 2 number (λ t. t.inner) I.der_gives Same;
+  text_of = λ t. I.text_of t.inner;
+}
+
+-- sequences under an implicit, context-specific tag of this number; by DER too their items are read by BER
+abbrev pub implicit_vector_takes : (number : ℕ) (I : Item) → AnyElement → Result (TaggedValue (Vec I.T Global) Error Implicit 2 number) Error → Type 0
+implicit_vector_takes number I = ImplicitTakes 2 number (λ t. t.inner) (record { 0 = 16 }) (OfParts (ListTakes 16 IsMadeOf I.ber_gives Same)) Same
+
+abbrev pub implicit_vector : ℕ → Item → Item
+implicit_vector number I = record {
+  T = TaggedValue (Vec I.T Global) Error Implicit 2 number;
+  grammar = implicit_grammar 2 number 16 (λ t. t.inner) (vector I).grammar;
+  ber_gives = BerGives (implicit_vector_takes number I) Same;
+  der_gives = DerGives PassesAll (implicit_vector_takes number I) Same;
+  text_of = λ t. (vector I).text_of t.inner;
+}
+
+-- items, there by either rule, the writer of which may allocate: with the strict encoding of the value, unless that is too long
+abbrev pub alone : Truth → Item → Meaning
+alone allocates I = record {
+  T = I.T;
+  is_there = λ rule. true;
+  Reads = ReadsByEither I.grammar.Ber I.grammar.Der I.grammar.value I.grammar.allocates I.ber_gives I.der_gives;
+  text_of = I.text_of;
+  Encodes = λ x. StrictEncodingIfAny I.grammar.Form allocates (I.grammar.value x);
+  reading_allocates = I.grammar.allocates;
+  writing_allocates = allocates;
+}
+
+-- lists and sets: shown by their items
+abbrev pub collection : Item → Meaning
+collection = alone true
+
+abbrev pub meaning_of : TypeName → Meaning
+meaning_of U8 = unsigned 1
+meaning_of U16 = unsigned 2
+meaning_of U32 = unsigned 4
+meaning_of U64 = unsigned 8
+meaning_of U128 = unsigned 16
+meaning_of I8 = signed 1
+meaning_of I16 = signed 2
+meaning_of I32 = signed 4
+meaning_of I64 = signed 8
+meaning_of I128 = signed 16
+meaning_of Any = elements
+meaning_of Bool = leaf bool_leaf truth_text
+meaning_of Null = leaf null_leaf (λ v. codes "null")
+meaning_of Enumerated = leaf enumerated_leaf decimal
+meaning_of Integer = leaf any_integer_leaf in_hexadecimal
+meaning_of Octets = leaf octet_string_leaf in_hexadecimal
+meaning_of Bits = leaf bit_string_leaf bits_text
+meaning_of Eoc = ends
+meaning_of VecU8 = collection (vector (unsigned_item 1))
+meaning_of VecU32 = collection (vector (unsigned_item 4))
+meaning_of VecBool = collection (vector (leaf_item bool_leaf truth_text))
+meaning_of VecVecU8 = collection (vector (vector (unsigned_item 1)))
+meaning_of SetOfU8 = collection (unordered_set (unsigned_item 1))
+meaning_of BTreeSetU8 = collection (ordered_set (unsigned_item 1) nat_cmp)
+meaning_of Sequence = lent_leaf sequence_leaf (λ x. x.content) in_hexadecimal
+meaning_of Set = lent_leaf set_leaf (λ x. x.content) in_hexadecimal
+meaning_of SeqOfU32 = collection (sequence_of (unsigned_item 4))
+meaning_of Explicit0U32 = alone false (explicit 0 (unsigned_item 4))
+meaning_of Explicit31U8 = alone false (explicit 31 (unsigned_item 1))
+meaning_of VecExplicit31U8 = collection (vector (explicit 31 (unsigned_item 1)))
+meaning_of OptU8 = optional 2 (unsigned 1)
+meaning_of HashSetI8 = collection (hashed_set (signed_item 1) int_cmp)
+meaning_of Implicit1VecU16 = collection (implicit_vector 1 (unsigned_item 2))
+
+-- lists and sets, whose readers and writers allocate
+abbrev pub has_items : TypeName → Truth
+has_items VecU8 = true
+has_items VecU32 = true
+has_items VecBool = true
+has_items VecVecU8 = true
+has_items SetOfU8 = true
+has_items BTreeSetU8 = true
+has_items SeqOfU32 = true
+has_items VecExplicit31U8 = true
+has_items HashSetI8 = true
+has_items Implicit1VecU16 = true
+has_items _ = false
+
+-- the name is that of the type, and is there by the rule
+abbrev pub Names : Rule → List ℕ → TypeName → Type 0
+Names rule name t = (name ≡ name_of t) × ((meaning_of t).is_there rule ≡ true)
+
+-- no type has the name by the rule
+abbrev pub NamesNone : Rule → List ℕ → Type 0
+NamesNone rule name = (t : TypeName) → ¬ Names rule name t
+
+-- the text is the answer of the type to octets that are read by the rule
+abbrev pub IsTypeAnswer : Rule → TypeName → List ℕ → List ℕ → Type 0
+IsTypeAnswer rule t = IsReadAnswer ((meaning_of t).Reads rule) (meaning_of t).text_of (meaning_of t).Encodes

@@ -1,0 +1,220 @@
+//! The texts of answers.
+ghost use Rattle.std.specs.Prelude.{◌≡◌, ℕ, ℤ, List, Ok, OnOk, decimal};
+ghost use Rattle.std.specs.Fmt.{signed_decimal};
+ghost use Rattle.std.specs.Set.{is_member};
+ghost use Rattle.std.specs.BTreeSet.{BTreeSet as SetOfMembers};
+ghost use Rattle.std.specs.List.Sorted.{IsStrictlyIncreasing, IsStrictlySortedBy};
+ghost use Rattle.std.specs.Ordering.{eq_by_cmp, int_cmp};
+ghost use Rattle.asn1_rs.specs.ToDer.{some_allocates};
+ghost use Rattle.asn1vec_answers.specs.declared.types.TypeName.TheVariants.{BTreeSetU8, HashSetI8};
+ghost use Rattle.asn1vec_answers.specs.Answer.{IsAnswer, IsAnswerLine, IsRequestAnswer};
+ghost use Rattle.asn1vec_answers.specs.Memory.{AreAlike, AsksForNoItems, TakesNoMemory};
+ghost use Rattle.asn1vec_answers.specs.Shown.{Gains, HeldEncoding, IsReadAnswer, in_order, list_text, option_text};
+ghost use Rattle.asn1vec_answers.specs.Meaning.{ReadsByEither, ReadsOptional};
+ghost use Rattle.asn1vec_answers.specs.Types.{IsTypeAnswer, meaning_of};
+
+use crate::options::{optional_by_ber, optional_by_der};
+use crate::request::{Request, Rule, read_request};
+use crate::shown::{Encoded, Shown, push_by_ber, push_by_der, push_reading};
+use crate::text::push_str;
+use crate::types::{TypeName, type_named};
+use asn1_rs::{
+    Any, BitString, EndOfContent, Enumerated, Error, Integer, LawfulBer, LawfulDer, Null,
+    OctetString, Sequence, SequenceOf, Set, SetOf, Tagged, TaggedExplicit, TaggedImplicit,
+};
+use std::alloc::{AllocError, Global};
+use std::collections::{BTreeSet, HashSet};
+
+/// The most octets of a line, without its end.
+pub const LONGEST_LINE: usize = 65_536;
+
+/// Appends the answer to octets that are read by either rule.
+fn push_by_either<'a, T>(
+    alloc: Global,
+    rule: Rule,
+    octets: &'a [u8],
+    buffer: &mut Vec<u8>,
+    text: &mut Vec<u8>,
+) -> Result<(), AllocError>
+where
+    T: LawfulBer<'a, Error> + LawfulDer<'a, Error> + Shown + Drop,
+    ensures { OnOk result
+        (Gains text.old.items text.new.items
+        (IsReadAnswer
+        (ReadsByEither T.grammar.Ber T.grammar.Der T.grammar.value T.grammar.allocates T.ber_gives
+        T.der_gives rule) T.text_of T.Encodes octets.now)) }
+{
+    match rule {
+        Rule::Ber => push_by_ber::<T>(alloc, octets, buffer, text),
+        Rule::Der => push_by_der::<T>(alloc, octets, buffer, text),
+    }
+}
+
+/// Appends the answer to octets that are read by either rule as an optional value.
+fn push_optional<'a, T>(
+    alloc: Global,
+    rule: Rule,
+    octets: &'a [u8],
+    buffer: &mut Vec<u8>,
+    text: &mut Vec<u8>,
+) -> Result<(), AllocError>
+where
+    T: LawfulBer<'a, Error> + LawfulDer<'a, Error> + Tagged + Encoded + Drop,
+    ensures { OnOk result
+        (Gains text.old.items text.new.items
+        (IsReadAnswer
+        (ReadsOptional (T.mark).0
+        (ReadsByEither T.grammar.Ber T.grammar.Der T.grammar.value T.grammar.allocates T.ber_gives
+        T.der_gives) rule) (option_text T.text_of)
+        (HeldEncoding (some_allocates T.write_allocates T.count_allocates T.content_allocates)
+        T.Encodes) octets.now)) }
+{
+    match rule {
+        Rule::Ber => push_reading(
+            alloc,
+            optional_by_ber::<T, Error>(alloc, octets),
+            buffer,
+            text,
+        ),
+        Rule::Der => push_reading(
+            alloc,
+            optional_by_der::<T, Error>(alloc, octets),
+            buffer,
+            text,
+        ),
+    }
+}
+
+/// Appends the answer to octets that are read as a value of the type.
+fn push_by_type(
+    alloc: Global,
+    rule: Rule,
+    t: TypeName,
+    octets: &[u8],
+    buffer: &mut Vec<u8>,
+    text: &mut Vec<u8>,
+) -> Result<(), AllocError>
+    ensures { OnOk result
+        (Gains text.old.items text.new.items (IsTypeAnswer rule t octets.now)) }
+{
+    match t {
+        TypeName::U8 => push_by_either::<u8>(alloc, rule, octets, buffer, text),
+        TypeName::U16 => push_by_either::<u16>(alloc, rule, octets, buffer, text),
+        TypeName::U32 => push_by_either::<u32>(alloc, rule, octets, buffer, text),
+        TypeName::U64 => push_by_either::<u64>(alloc, rule, octets, buffer, text),
+        TypeName::U128 => push_by_either::<u128>(alloc, rule, octets, buffer, text),
+        TypeName::I8 => push_by_either::<i8>(alloc, rule, octets, buffer, text),
+        TypeName::I16 => push_by_either::<i16>(alloc, rule, octets, buffer, text),
+        TypeName::I32 => push_by_either::<i32>(alloc, rule, octets, buffer, text),
+        TypeName::I64 => push_by_either::<i64>(alloc, rule, octets, buffer, text),
+        TypeName::I128 => push_by_either::<i128>(alloc, rule, octets, buffer, text),
+        TypeName::Any => push_by_either::<Any<'_>>(alloc, rule, octets, buffer, text),
+        TypeName::Bool => push_by_either::<bool>(alloc, rule, octets, buffer, text),
+        TypeName::Null => push_by_either::<Null>(alloc, rule, octets, buffer, text),
+        TypeName::Enumerated => push_by_either::<Enumerated>(alloc, rule, octets, buffer, text),
+        TypeName::Integer => push_by_either::<Integer<'_>>(alloc, rule, octets, buffer, text),
+        TypeName::Octets => push_by_either::<OctetString<'_>>(alloc, rule, octets, buffer, text),
+        TypeName::Bits => push_by_either::<BitString<'_>>(alloc, rule, octets, buffer, text),
+        TypeName::Eoc => push_by_ber::<EndOfContent>(alloc, octets, buffer, text),
+        TypeName::VecU8 => push_by_either::<Vec<u8>>(alloc, rule, octets, buffer, text),
+        TypeName::VecU32 => push_by_either::<Vec<u32>>(alloc, rule, octets, buffer, text),
+        TypeName::VecBool => push_by_either::<Vec<bool>>(alloc, rule, octets, buffer, text),
+        TypeName::VecVecU8 => push_by_either::<Vec<Vec<u8>>>(alloc, rule, octets, buffer, text),
+        TypeName::SetOfU8 => push_by_either::<SetOf<u8>>(alloc, rule, octets, buffer, text),
+        TypeName::BTreeSetU8 => push_by_either::<BTreeSet<u8>>(alloc, rule, octets, buffer, text),
+        TypeName::Sequence => push_by_either::<Sequence<'_>>(alloc, rule, octets, buffer, text),
+        TypeName::Set => push_by_either::<Set<'_>>(alloc, rule, octets, buffer, text),
+        TypeName::SeqOfU32 => push_by_either::<SequenceOf<u32>>(alloc, rule, octets, buffer, text),
+        TypeName::Explicit0U32 => {
+            push_by_either::<TaggedExplicit<u32, Error, 0>>(alloc, rule, octets, buffer, text)
+        }
+        TypeName::Explicit31U8 => {
+            push_by_either::<TaggedExplicit<u8, Error, 31>>(alloc, rule, octets, buffer, text)
+        }
+        TypeName::VecExplicit31U8 => {
+            push_by_either::<Vec<TaggedExplicit<u8, Error, 31>>>(alloc, rule, octets, buffer, text)
+        }
+        TypeName::OptU8 => push_optional::<u8>(alloc, rule, octets, buffer, text),
+        TypeName::Implicit1VecU16 => {
+            push_by_either::<TaggedImplicit<Vec<u16>, Error, 1>>(alloc, rule, octets, buffer, text)
+        }
+        TypeName::HashSetI8 => push_by_either::<HashSet<i8>>(alloc, rule, octets, buffer, text),
+    }
+}
+
+/// Appends the answer to a request to read octets.
+fn push_requested(
+    alloc: Global,
+    request: &Request,
+    octets: &[u8],
+    buffer: &mut Vec<u8>,
+    text: &mut Vec<u8>,
+) -> Result<(), AllocError>
+    ensures { OnOk result (Gains text.old.items text.new.items
+        (IsRequestAnswer request.now.rule request.now.name.now octets.now)) }
+{
+    match type_named(request.rule, request.name) {
+        Some(t) => push_by_type(alloc, request.rule, t, octets, buffer, text),
+        None => push_str(text, "err Type"),
+    }
+}
+
+/// Appends the answer to a line.
+fn push_answer(
+    alloc: Global,
+    line: &[u8],
+    octets: &mut Vec<u8>,
+    buffer: &mut Vec<u8>,
+    text: &mut Vec<u8>,
+) -> Result<(), AllocError>
+    ensures { OnOk result (Gains text.old.items text.new.items (IsAnswer line.now)) }
+{
+    if line.len() > LONGEST_LINE {
+        return push_str(text, "err Line");
+    }
+    match read_request(line, octets)? {
+        Some(request) => push_requested(alloc, &request, octets.as_slice(), buffer, text),
+        None => push_str(text, "err Line"),
+    }
+}
+
+/// A line has one answer, except when out of memory where reading or writing what it names allocates.
+pub fn one_answer()
+    ensures alike { (line text other : List ℕ)
+        → IsAnswer line text → IsAnswer line other → AreAlike line text other }
+    ensures one { (line text other : List ℕ)
+        → TakesNoMemory line → IsAnswer line text → IsAnswer line other → text ≡ other }
+    ensures none { (line : List ℕ) → AsksForNoItems line → TakesNoMemory line }
+{}
+
+/// The items that are shown of a set that was read as `btreeset.u8` ascend. So do those that are shown of
+/// a set that was read as `hashset.i8`: they are its members, in ascending order.
+pub fn members_ascend()
+    ensures ordered { (rule : Rule) (octets rest : List ℕ) (members : SetOfMembers ℕ)
+        → (meaning_of BTreeSetU8).Reads rule octets (Ok (rest, members))
+        → (meaning_of BTreeSetU8).text_of members ≡ list_text decimal members.keys
+        × IsStrictlyIncreasing members.keys }
+    ensures hashed { (members : (meaning_of HashSetI8).T)
+        → (meaning_of HashSetI8).text_of members ≡
+        list_text signed_decimal (in_order int_cmp members.keys) }
+    ensures in_order { (keys : List ℤ) → IsStrictlySortedBy int_cmp (in_order int_cmp keys)
+        × ((key : ℤ) → is_member (eq_by_cmp int_cmp) (in_order int_cmp keys) key ≡
+        is_member (eq_by_cmp int_cmp) keys key) }
+{}
+
+/// Makes the text the answer to a line, with its end. The octets that it asks for and the encoding that
+/// is told are written into buffers first.
+pub fn answer_line(
+    alloc: Global,
+    line: &[u8],
+    octets: &mut Vec<u8>,
+    encoding: &mut Vec<u8>,
+    text: &mut Vec<u8>,
+) -> Result<(), AllocError>
+    ensures { OnOk result (IsAnswerLine line.now text.new.items) }
+{
+    text.clear();
+    push_answer(alloc, line, octets, encoding, text)?;
+    push_str(text, "\n")?;
+    Ok(())
+}

@@ -1,0 +1,19 @@
+//! The answers of the program `asn1vec`: what a line asks for, how it is read, and how it is shown.
+#![tactic(auto)]
+
+mod answer;
+mod any;
+mod digits;
+mod leaves;
+mod lists;
+mod names;
+mod numbers;
+mod options;
+mod request;
+mod shown;
+mod tags;
+mod text;
+mod types;
+
+pub use answer::{LONGEST_LINE, answer_line, members_ascend, one_answer};
+pub use request::{Rule, one_request, split_once};

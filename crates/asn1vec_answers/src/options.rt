@@ -1,0 +1,91 @@
+//! Optional values: how they are read, and shown as `none`, or `some` and the value.
+ghost use Rattle.std.specs.Prelude.{◌++◌, []};
+ghost use Rattle.x690.specs.Identifiers.{IsCutIdentifier};
+ghost use Rattle.x690.specs.Rules.{ber_rule, der_rule};
+ghost use Rattle.asn1_rs.specs.Answers.{Exactly, TellsMemory, seen};
+ghost use Rattle.asn1_rs.specs.Ber.{EndsWithin};
+ghost use Rattle.asn1_rs.specs.declared.error.SerializeError.{SerializeError};
+ghost use Rattle.asn1_rs.specs.Optional.{HeldRefuses, IsLeftOut, OptionGives, held_or};
+ghost use Rattle.asn1_rs.specs.ToDer.{Either, some_allocates};
+ghost use Rattle.asn1vec_answers.specs.Shown.{Encoding, HeldEncoding, IsWritten, option_text};
+
+use crate::shown::{Encoded, Shown, push_written};
+use crate::text::push_str;
+use asn1_rs::{Error, FromBer, FromDer, LawfulBer, LawfulDer, ParseResult, Tagged};
+use std::alloc::{AllocError, Global};
+
+/// Reads an optional value by BER: where one is there, exactly.
+pub(crate) fn optional_by_ber<'a, T, E>(
+    alloc: Global,
+    octets: &'a [u8],
+) -> ParseResult<'a, Option<T>, E>
+where
+    T: LawfulBer<'a, E> + Tagged,
+    E: From<Error>,
+    ensures { OptionGives (IsLeftOut ber_rule (T.mark).0)
+        (λ o answer. Exactly EndsWithin T.grammar.Ber T.grammar.value
+        (TellsMemory T.grammar.allocates E.from_gives) o answer × T.ber_gives o answer)
+        octets.now (seen result) }
+{
+    Option::<T>::from_ber(alloc, octets)
+}
+
+/// Reads one by DER.
+pub(crate) fn optional_by_der<'a, T, E>(
+    alloc: Global,
+    octets: &'a [u8],
+) -> ParseResult<'a, Option<T>, E>
+where
+    T: LawfulDer<'a, E> + Tagged,
+    E: From<Error>,
+    ensures { OptionGives (IsLeftOut der_rule (T.mark).0)
+        (λ o answer. Exactly IsCutIdentifier T.grammar.Der T.grammar.value
+        (TellsMemory T.grammar.allocates E.from_gives) o answer × T.der_gives o answer)
+        octets.now (seen result) }
+{
+    Option::<T>::from_der(alloc, octets)
+}
+
+/// States of the value that is held what its type says of its writing.
+fn is_told_if_held<T: Encoded>(x: &Option<T>)
+    ensures own { (e : SerializeError) →
+        Either (HeldRefuses T.header_refuses x.now) (HeldRefuses T.content_refuses x.now) e → ⊥ }
+    ensures told { (encoding : Encoding) →
+        IsWritten (some_allocates T.write_allocates T.count_allocates T.content_allocates)
+        (held_or [] T.header x.now ++ held_or [] T.content x.now) encoding →
+        HeldEncoding (some_allocates T.write_allocates T.count_allocates T.content_allocates)
+        T.Encodes x.now encoding }
+{
+    match x {
+        Some(value) => value.is_told(),
+        None => {}
+    }
+}
+
+/// None is written as no octets.
+impl<T: Encoded> Shown for Option<T> {
+    ghost text_of = { option_text T.text_of };
+
+    ghost Encodes = { HeldEncoding
+        (some_allocates T.write_allocates T.count_allocates T.content_allocates) T.Encodes };
+
+    fn show(&self, text: &mut Vec<u8>) -> Result<(), AllocError> {
+        match self {
+            Some(value) => {
+                push_str(text, "some ")?;
+                Encoded::show(value, text)
+            }
+            None => push_str(text, "none"),
+        }
+    }
+
+    fn tell_encoding(
+        &self,
+        alloc: Global,
+        buffer: &mut Vec<u8>,
+        text: &mut Vec<u8>,
+    ) -> Result<(), AllocError> {
+        is_told_if_held(self);
+        push_written(alloc, self, buffer, text)
+    }
+}

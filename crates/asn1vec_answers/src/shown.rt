@@ -1,0 +1,208 @@
+//! How a reading is answered: the value, what follows it and its encoding, or the refusal.
+ghost use Rattle.std.specs.Prelude.{◌≡◌, ◌++◌, ◌||◌, ℕ, List, Result, Ok, OnOk};
+ghost use Rattle.asn1_rs.specs.Answers.{seen};
+ghost use Rattle.asn1_rs.specs.ToDer.{Either, some_allocates};
+ghost use Rattle.asn1_rs.specs.declared.error.SerializeError.{SerializeError};
+ghost use Rattle.asn1_rs.specs.Error.{tells_of_io};
+ghost use Rattle.asn1vec_answers.specs.Shown.{Encoding, Gains, Says, IsReadAnswer, IsWritten, ReadsByBer, ReadsByDer, SaysEncoding, SaysWriting};
+
+use crate::names::{push_refusal, push_write_refusal};
+use crate::text::{push_hexadecimal, push_str};
+use asn1_rs::{
+    Error, LawfulBer, LawfulDer, LawfulWrite, ParseResult, SerializeError, SerializeResult, ToDer,
+    Told, read_ber, read_der,
+};
+use std::alloc::{AllocError, Global};
+use std::mem;
+
+/// A type whose values are shown in answers. `Encoded` gives it to all that have a writer.
+pub(crate) trait Shown {
+    /// The text of a value.
+    ghost text_of: { Self → List ℕ };
+
+    /// What may be said of the encoding of a value.
+    ghost Encodes: { Self → Encoding → Type 0 };
+
+    /// Appends the text of the value.
+    fn show(&self, text: &mut Vec<u8>) -> Result<(), AllocError>
+        ensures { OnOk result (text.new.items ≡ text.old.items ++ text_of self.now) };
+
+    /// Appends what is said of the encoding of the value, which is written into a buffer first;
+    /// nothing where its type has no writer.
+    fn tell_encoding(
+        &self,
+        alloc: Global,
+        buffer: &mut Vec<u8>,
+        text: &mut Vec<u8>,
+    ) -> Result<(), AllocError>
+        ensures { OnOk result
+            (Gains text.old.items text.new.items (SaysEncoding (Encodes self.now))) };
+}
+
+/// A type whose values are shown and have a writer.
+pub(crate) trait Encoded: LawfulWrite {
+    /// The text of a value.
+    ghost text_of: { Self → List ℕ };
+
+    /// What may be said of the encoding of a value.
+    ghost Encodes: { Self → Encoding → Type 0 };
+
+    /// Appends the text of the value.
+    fn show(&self, text: &mut Vec<u8>) -> Result<(), AllocError>
+        ensures { OnOk result (text.new.items ≡ text.old.items ++ text_of self.now) };
+
+    /// States that the value has no refusal of its own, and what its writing says: its body only
+    /// names what the types say of it.
+    fn is_told(&self)
+        ensures own { (e : SerializeError) →
+            Either (Self.header_refuses self.now) (Self.content_refuses self.now) e → ⊥ }
+        ensures told { (encoding : Encoding) →
+            IsWritten (some_allocates Self.write_allocates Self.count_allocates
+            Self.content_allocates)
+            (Self.header self.now ++ Self.content self.now) encoding → Encodes self.now encoding };
+}
+
+impl<T: Encoded> Shown for T {
+    ghost text_of = { T.text_of };
+
+    ghost Encodes = { T.Encodes };
+
+    fn show(&self, text: &mut Vec<u8>) -> Result<(), AllocError> {
+        Encoded::show(self, text)
+    }
+
+    fn tell_encoding(
+        &self,
+        alloc: Global,
+        buffer: &mut Vec<u8>,
+        text: &mut Vec<u8>,
+    ) -> Result<(), AllocError> {
+        self.is_told();
+        push_written(alloc, self, buffer, text)
+    }
+}
+
+/// Whether the refusal tells of a writer that failed.
+fn is_io(refusal: &SerializeError) -> bool
+    ensures { result ≡ tells_of_io refusal.now }
+{
+    matches!(refusal, SerializeError::IOError(_))
+}
+
+/// Appends what a writing left in a vector, in digits, or why it was refused. Where the vector could
+/// not grow there is nothing to say.
+fn push_writing(
+    text: &mut Vec<u8>,
+    octets: &[u8],
+    answer: SerializeResult<usize>,
+) -> Result<(), AllocError>
+    ensures { OnOk result (Gains text.old.items text.new.items (SaysWriting octets.now answer)) }
+{
+    match answer {
+        Ok(_) => push_hexadecimal(text, octets),
+        Err(e) => {
+            if is_io(&e) {
+                return Err(AllocError);
+            }
+            push_str(text, "err ")?;
+            push_write_refusal(text, &e)?;
+            Ok(())
+        }
+    }
+}
+
+/// Appends what `write_der` appends for a value in digits, be it in DER form or not, or why writing it was refused.
+pub(crate) fn push_written<T: ToDer>(
+    alloc: Global,
+    x: &T,
+    buffer: &mut Vec<u8>,
+    text: &mut Vec<u8>,
+) -> Result<(), AllocError>
+    requires tells { T.tells x.now }
+    requires own { (e : SerializeError) →
+        Either (T.header_refuses x.now) (T.content_refuses x.now) e → ⊥ }
+    ensures { OnOk result
+        (Gains text.old.items text.new.items
+        (SaysEncoding (IsWritten
+        (some_allocates T.write_allocates T.count_allocates T.content_allocates)
+        (T.header x.now ++ T.content x.now)))) }
+{
+    buffer.clear();
+    let mut output = Told::new(mem::replace(buffer, Vec::new(alloc)));
+    let answer = x.write_der(alloc, &mut output);
+    *buffer = output.into_inner();
+    push_str(text, " enc ")?;
+    push_writing(text, buffer.as_slice(), answer)?;
+    Ok(())
+}
+
+/// Appends the answer that shows a value that was read.
+fn push_value<T: Shown>(
+    alloc: Global,
+    x: &T,
+    rest: &[u8],
+    buffer: &mut Vec<u8>,
+    text: &mut Vec<u8>,
+) -> Result<(), AllocError>
+    ensures { OnOk result (Gains text.old.items text.new.items
+        (Says T.text_of T.Encodes (Ok (rest.now, x.now)))) }
+{
+    push_str(text, "ok ")?;
+    x.show(text)?;
+    push_str(text, " rest ")?;
+    push_hexadecimal(text, rest)?;
+    x.tell_encoding(alloc, buffer, text)?;
+    Ok(())
+}
+
+/// Appends what a reader answered, in words.
+pub(crate) fn push_reading<'a, T: Shown + Drop>(
+    alloc: Global,
+    answer: ParseResult<'a, T, Error>,
+    buffer: &mut Vec<u8>,
+    text: &mut Vec<u8>,
+) -> Result<(), AllocError>
+    ensures { OnOk result (Gains text.old.items text.new.items
+        (Says T.text_of T.Encodes (seen answer.entry))) }
+{
+    match answer {
+        Ok((rest, x)) => push_value(alloc, &x, rest, buffer, text),
+        Err(refusal) => {
+            push_str(text, "err ")?;
+            push_refusal(text, &refusal)?;
+            Ok(())
+        }
+    }
+}
+
+/// Appends the answer to octets that are read by BER.
+pub(crate) fn push_by_ber<'a, T>(
+    alloc: Global,
+    octets: &'a [u8],
+    buffer: &mut Vec<u8>,
+    text: &mut Vec<u8>,
+) -> Result<(), AllocError>
+where
+    T: LawfulBer<'a, Error> + Shown + Drop,
+    ensures { OnOk result (Gains text.old.items text.new.items (IsReadAnswer
+        (ReadsByBer T.grammar.Ber T.grammar.value T.grammar.allocates T.ber_gives)
+        T.text_of T.Encodes octets.now)) }
+{
+    push_reading(alloc, read_ber::<T, Error>(alloc, octets), buffer, text)
+}
+
+/// Appends the answer to octets that are read by DER.
+pub(crate) fn push_by_der<'a, T>(
+    alloc: Global,
+    octets: &'a [u8],
+    buffer: &mut Vec<u8>,
+    text: &mut Vec<u8>,
+) -> Result<(), AllocError>
+where
+    T: LawfulDer<'a, Error> + Shown + Drop,
+    ensures { OnOk result (Gains text.old.items text.new.items (IsReadAnswer
+        (ReadsByDer T.grammar.Der T.grammar.value T.grammar.allocates T.der_gives)
+        T.text_of T.Encodes octets.now)) }
+{
+    push_reading(alloc, read_der::<T, Error>(alloc, octets), buffer, text)
+}

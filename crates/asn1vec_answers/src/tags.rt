@@ -1,0 +1,60 @@
+//! How values under a tag are shown: as they are without it.
+ghost use Rattle.asn1_rs.specs.Tagged.Explicit.{ExplicitForm};
+ghost use Rattle.asn1_rs.specs.Tagged.Implicit.{ImplicitForm};
+ghost use Rattle.asn1_rs.specs.ToDer.{some_allocates};
+ghost use Rattle.asn1vec_answers.specs.Shown.{StrictEncodingIfAny};
+
+use crate::lists::{Item, writing_is_strict};
+use crate::shown::Encoded;
+use asn1_rs::{Error, TaggedExplicit, TaggedImplicit, TakesClass};
+use std::alloc::AllocError;
+
+impl<T: Item, const TAG: u32> Encoded for TaggedExplicit<T, Error, TAG> {
+    ghost text_of = { λ t. T.text_of t.inner };
+
+    ghost Encodes = { λ t.
+        StrictEncodingIfAny (ExplicitForm 2 TAG T.grammar.Form)
+        (some_allocates Self.write_allocates Self.count_allocates Self.content_allocates)
+        (T.grammar.value t.inner) };
+
+    fn show(&self, text: &mut Vec<u8>) -> Result<(), AllocError> {
+        self.as_inner().show(text)
+    }
+
+    fn is_told(&self) {
+        self.is_writable();
+        writing_is_strict(self);
+    }
+}
+
+impl<T: Item, const TAG: u32> Item for TaggedExplicit<T, Error, TAG> {
+    fn is_writable(&self) {
+        let _number = self.tag();
+        self.as_inner().is_writable();
+    }
+}
+
+impl<T: Item + TakesClass<2>, const TAG: u32> Encoded for TaggedImplicit<T, Error, TAG> {
+    ghost text_of = { λ t. T.text_of t.inner };
+
+    ghost Encodes = { λ t.
+        StrictEncodingIfAny (ImplicitForm 2 TAG T.grammar.Form)
+        (some_allocates Self.write_allocates Self.count_allocates Self.content_allocates)
+        (T.grammar.value t.inner) };
+
+    fn show(&self, text: &mut Vec<u8>) -> Result<(), AllocError> {
+        self.as_inner().show(text)
+    }
+
+    fn is_told(&self) {
+        self.is_writable();
+        writing_is_strict(self);
+    }
+}
+
+impl<T: Item + TakesClass<2>, const TAG: u32> Item for TaggedImplicit<T, Error, TAG> {
+    fn is_writable(&self) {
+        let _number = self.tag();
+        self.as_inner().is_writable();
+    }
+}

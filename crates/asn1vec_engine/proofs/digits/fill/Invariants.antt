@@ -1,6 +1,0 @@
-use Rattle.std.proofs.Common.{◌*◌, take}
-use Rattle.asn1vec_engine.specs.Request.{IsHexadecimal}
-use Rattle.asn1vec_engine.proofs.digits.fill.Given as goal
-
-abbrev pub invariant-pairs : goal.invariant-pairs
-invariant-pairs l = IsHexadecimal (take l.i l.octets) (take (2 * l.i) l.digits)

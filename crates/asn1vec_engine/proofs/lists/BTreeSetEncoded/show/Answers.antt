@@ -1,5 +1,0 @@
-use Rattle.asn1vec_engine.proofs.Walks.{keys_yield}
-use Rattle.asn1vec_engine.proofs.lists.BTreeSetEncoded.show.Goals as goal
-
-pub returns : goal.returns
-returns g c = c.push_items.ensures c.args.self.now.keys (keys_yield c.iter.result c.args.self.now.keys c.iter.ensures.rest)

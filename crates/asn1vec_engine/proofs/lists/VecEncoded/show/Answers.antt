@@ -1,5 +1,0 @@
-use Rattle.asn1vec_engine.proofs.Walks.{slice_yields}
-use Rattle.asn1vec_engine.proofs.lists.VecEncoded.show.Goals as goal
-
-pub returns : goal.returns
-returns g c = c.push_items.ensures c.args.self.now.items (slice_yields c.iter.result c.args.self.now.items (cc))
