@@ -5,9 +5,9 @@ use Rattle.std.proofs.lemmas.List.{append-nil}
 use Rattle.std.proofs.lemmas.List.Elements.{All-pop, All-push}
 use Rattle.std.specs.Iterator.{Yields}
 use Rattle.std.specs.List.{All, AllZip, flat_map}
-use Rattle.asn1_rs.specs.declared.error.SerializeError.{SerializeError}
+use Rattle.asn1_headers.specs.declared.error.SerializeError.{SerializeError}
 use Rattle.asn1_rs.specs.ToDer.{HasNone, VectorRefuses}
-use Rattle.asn1_rs.proofs.Writing.{MayRefuse_more}
+use Rattle.asn1_headers.specs.Laws.Writing.{MayRefuse_more}
 
 -- one pair more at the end
 pub zip_push : {X Y : Type 0} (R : X → Y → Type 0) (xs : List X) (ys : List Y) (x : X) (y : Y) → AllZip R xs ys → R x y → AllZip R (xs ++ x ∷ []) (ys ++ y ∷ [])

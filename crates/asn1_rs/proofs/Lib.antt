@@ -1,8 +1,5 @@
-mod HeadersAndContents
 mod Kept
 mod Lists
-mod OpenContents
-mod Reading
 mod Sets
 mod TaggedReaders
 mod Writing

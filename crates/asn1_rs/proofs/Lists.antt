@@ -20,19 +20,19 @@ use Rattle.x690.specs.Faults.{DerElementFault}
 use Rattle.x690.specs.Rules.{der_rule}
 use Rattle.x690.specs.Laws.Elements.{definite_element_two}
 use Rattle.asn1_rs.specs.declared.asn1_types.any.Any.{Any}
-use Rattle.asn1_rs.specs.declared.error.Err.{Err as Refusal}
-use Rattle.asn1_rs.specs.declared.error.Err.TheVariants.{Incomplete as cut, Error as refused, Failure as failed}
-use Rattle.asn1_rs.specs.Error.{Converted, FlattenedTo}
-use Rattle.asn1_rs.specs.Header.Reading.{Refused, der_refusal}
+use Rattle.asn1_headers.specs.declared.error.Err.{Err as Refusal}
+use Rattle.asn1_headers.specs.declared.error.Err.TheVariants.{Incomplete as cut, Error as refused, Failure as failed}
+use Rattle.asn1_headers.specs.Error.{Converted, FlattenedTo}
+use Rattle.asn1_headers.specs.Header.Reading.{Refused, der_refusal}
 use Rattle.asn1_rs.specs.Any.{parts_of, BeginsWithElement}
 use Rattle.asn1_rs.specs.Sequence.Iterator.{TakesItem}
 use Rattle.asn1_rs.specs.Lists.{CheckedGives, EndsItems, GivesItems, SomeRefuses}
-use Rattle.asn1_rs.specs.declared.error.Error.{Error}
-use Rattle.asn1_rs.specs.declared.error.Error.TheVariants as errors
-use Rattle.asn1_rs.specs.declared.error.SerializeError.{SerializeError}
-use Rattle.asn1_rs.specs.Writer.{Wrote, SumsWritten, MayRefuse}
+use Rattle.asn1_headers.specs.declared.error.Error.{Error}
+use Rattle.asn1_headers.specs.declared.error.Error.TheVariants as errors
+use Rattle.asn1_headers.specs.declared.error.SerializeError.{SerializeError}
+use Rattle.asn1_headers.specs.Writer.{Wrote, SumsWritten, MayRefuse}
 use Rattle.asn1_rs.specs.ToDer.{SumsCounts, MayRefuseCount, Refuses, RefusesCount, HasNone}
-use Rattle.asn1_rs.proofs.Writing.{Wrote_front, Wrote_then_err, Wrote_sum, MayRefuse_more}
+use Rattle.asn1_headers.specs.Laws.Writing.{Wrote_front, Wrote_then_err, Wrote_sum, MayRefuse_more}
 
 -- one more item of a walk, and the refusal that ends it
 pub items_push : {S T E : Type 0} (steps : S → Option (Result T E) → S → Type 0) (xs : List T) (s t u : S) (x : T) → Yields steps s (map Ok xs) t → steps t (Some (Ok x)) u → Yields steps s (map Ok (xs ++ x ∷ [])) u

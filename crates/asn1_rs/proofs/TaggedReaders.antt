@@ -1,9 +1,9 @@
 -- Readers that ask something of the header of what they read.
 use Rattle.std.proofs.Common.{inr, ℕ, List, Result, Ok, Err}
 use Rattle.asn1_rs.specs.declared.asn1_types.tagged.parser.TaggedParser.{TaggedParser}
-use Rattle.asn1_rs.specs.declared.header.Header.{Header}
-use Rattle.asn1_rs.specs.declared.error.Error.{Error}
-use Rattle.asn1_rs.specs.declared.error.Err.{Err as Refusal}
+use Rattle.asn1_headers.specs.declared.header.Header.{Header}
+use Rattle.asn1_headers.specs.declared.error.Error.{Error}
+use Rattle.asn1_headers.specs.declared.error.Err.{Err as Refusal}
 use Rattle.asn1_rs.specs.Tagged.Parser.{Asks, Expects}
 
 -- what asking it of what was read answers is what the reader answers

@@ -7,29 +7,27 @@ use Rattle.x690.specs.Lengths.{definite, indefinite}
 use Rattle.x690.specs.Elements.{Parts, IsDerElement}
 use Rattle.x690.specs.Faults.{Fault, DerElementFault}
 use Rattle.asn1_rs.specs.declared.asn1_types.any.Any.{Any}
-use Rattle.asn1_rs.specs.declared.class.Class.{Class}
-use Rattle.asn1_rs.specs.declared.tag.Tag.{Tag}
-use Rattle.asn1_rs.specs.declared.error.Error.{Error}
-use Rattle.asn1_rs.specs.declared.error.Error.TheVariants.{UnexpectedTag, UnexpectedClass, IndefiniteLengthUnexpected}
-use Rattle.asn1_rs.specs.declared.error.Err.{Err as Refusal}
-use Rattle.asn1_rs.specs.declared.error.Err.TheVariants.{Error as refused}
-use Rattle.asn1_rs.specs.Error.{Converted}
-use Rattle.asn1_rs.specs.Class.{class_number}
-use Rattle.asn1_rs.specs.Header.{identifier_of}
-use Rattle.asn1_rs.specs.Header.Reading.{Refused, KeepsIdentifier, der_refusal, ber_refusal}
-use Rattle.asn1_rs.specs.Length.{form_of}
-use Rattle.asn1_rs.specs.Answers.{Front, Speaks}
+use Rattle.asn1_headers.specs.declared.class.Class.{Class}
+use Rattle.asn1_headers.specs.declared.tag.Tag.{Tag}
+use Rattle.asn1_headers.specs.declared.error.Error.{Error}
+use Rattle.asn1_headers.specs.declared.error.Error.TheVariants.{UnexpectedTag, UnexpectedClass, IndefiniteLengthUnexpected}
+use Rattle.asn1_headers.specs.declared.error.Err.{Err as Refusal}
+use Rattle.asn1_headers.specs.declared.error.Err.TheVariants.{Error as refused}
+use Rattle.asn1_headers.specs.Error.{Converted}
+use Rattle.asn1_headers.specs.Class.{class_number}
+use Rattle.asn1_headers.specs.Elements.{element_parts, BeginsWithHeaderAndContents}
+use Rattle.asn1_headers.specs.Header.Reading.{Refused, der_refusal, ber_refusal}
+use Rattle.asn1_headers.specs.Answers.{Front, Speaks}
 use Rattle.x690.specs.Nested.{IsElement, ElementFault}
-use Rattle.asn1_rs.specs.Ber.{max_depth}
+use Rattle.asn1_headers.specs.Ber.{max_depth}
 
 -- what an element in hand is made of, whether it was read or made by hand
 abbrev pub parts_of : Any → Parts
-parts_of a = record { id = identifier_of a.header; form = form_of a.header.length; content = a.content.now }
+parts_of a = element_parts a.header a.content.now
 
 -- The element, with its identifier octets kept, begins the input, and the rest follows.
-pub record BeginsWithElement (ElementOf : List ℕ → Parts → Type 0) (input : List ℕ) (any : Any) (rest : List ℕ) : Type 0 where
-  pub front : Front ElementOf input (parts_of any) rest
-  pub kept : KeepsIdentifier input any.header
+abbrev pub BeginsWithElement : (List ℕ → Parts → Type 0) → List ℕ → Any → List ℕ → Type 0
+BeginsWithElement ElementOf input any rest = BeginsWithHeaderAndContents ElementOf input any.header any.content.now rest
 
 -- what a reader of elements may answer: the element and the rest, or the refusal of the first fault
 abbrev pub AnyGives : (List ℕ → Parts → Type 0) → (List ℕ → Fault → Type 0) → (Fault → Refusal Error) → List ℕ → Result (List ℕ × Any) (Refusal Error) → Type 0

@@ -4,8 +4,8 @@ use Rattle.std.specs.Cow.{cow_slice_items}
 use Rattle.std.specs.Int.{bit_at}
 use Rattle.x690.specs.Octets.{IsOctets}
 use Rattle.asn1_rs.specs.declared.asn1_types.bit_string.BitString.{BitString}
-use Rattle.asn1_rs.specs.declared.error.Error.TheVariants.{InvalidLength, DerConstraintFailed}
-use Rattle.asn1_rs.specs.declared.error.DerConstraint.TheVariants.{UnusedBitsNotZero}
+use Rattle.asn1_headers.specs.declared.error.Error.TheVariants.{InvalidLength, DerConstraintFailed}
+use Rattle.asn1_headers.specs.declared.error.DerConstraint.TheVariants.{UnusedBitsNotZero}
 use Rattle.asn1_rs.specs.Checks.{CheckGives, ◌before◌, is_primitive, has_content, content_check}
 use Rattle.asn1_rs.specs.Leaf.{Leaf}
 

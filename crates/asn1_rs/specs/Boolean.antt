@@ -1,8 +1,8 @@
 -- Truth values (X.690 8.2, 11.1).
 use Rattle.std.specs.Prelude.{◌≡◌, ◌≢◌, ◌⊎◌, ◌<◌, ℕ, Bool, true, false, not, nat_eq, List, [], ◌∷◌, get_or}
 use Rattle.asn1_rs.specs.declared.asn1_types.boolean.Boolean.{Boolean}
-use Rattle.asn1_rs.specs.declared.error.Error.TheVariants.{DerConstraintFailed}
-use Rattle.asn1_rs.specs.declared.error.DerConstraint.TheVariants.{InvalidBoolean}
+use Rattle.asn1_headers.specs.declared.error.Error.TheVariants.{DerConstraintFailed}
+use Rattle.asn1_headers.specs.declared.error.DerConstraint.TheVariants.{InvalidBoolean}
 use Rattle.asn1_rs.specs.Checks.{CheckGives, ◌before◌, check, has_length, has_content}
 use Rattle.asn1_rs.specs.Leaf.{Leaf}
 

@@ -3,7 +3,7 @@ use Rattle.std.specs.Prelude.{◌≡◌, ◌<◌, ◌^◌, ℕ, List}
 use Rattle.x690.specs.Digits.{base_256_value}
 use Rattle.x690.specs.Integers.{unsigned_octets}
 use Rattle.asn1_rs.specs.declared.asn1_types.enumerated.Enumerated.{Enumerated}
-use Rattle.asn1_rs.specs.declared.error.Error.TheVariants.{IntegerTooLarge}
+use Rattle.asn1_headers.specs.declared.error.Error.TheVariants.{IntegerTooLarge}
 use Rattle.asn1_rs.specs.Checks.{◌before◌, is_primitive, is_counted, content_check}
 use Rattle.asn1_rs.specs.Leaf.{Leaf}
 

@@ -6,9 +6,9 @@ use Rattle.x690.specs.Identifiers.{Identifier}
 use Rattle.x690.specs.Lengths.{definite}
 use Rattle.x690.specs.Elements.{Parts, IsDerElement}
 use Rattle.x690.specs.Nested.{IsElement}
-use Rattle.asn1_rs.specs.declared.error.Error.{Error}
-use Rattle.asn1_rs.specs.declared.error.Error.TheVariants.{OutOfMemory}
-use Rattle.asn1_rs.specs.Ber.{max_depth}
+use Rattle.asn1_headers.specs.declared.error.Error.{Error}
+use Rattle.asn1_headers.specs.declared.error.Error.TheVariants.{OutOfMemory}
+use Rattle.asn1_headers.specs.Ber.{max_depth}
 
 -- one element, whose parts meet the check and have the value by the body
 abbrev pub ElementWord : {V : Type 0} → (List ℕ → Parts → Type 0) → (Parts → Type 0) → (Parts → V → Type 0) → List ℕ → V → Type 0

@@ -8,9 +8,9 @@ use Rattle.x690.specs.Lengths.{indefinite}
 use Rattle.x690.specs.Elements.{Parts}
 use Rattle.x690.specs.Integers.{HasSpareZeros, HasSpareOnes, IsShortestInteger, IsIntegerContent}
 use Rattle.x690.specs.Signed.{IsSigned}
-use Rattle.asn1_rs.specs.declared.error.Error.{Error}
-use Rattle.asn1_rs.specs.declared.error.Error.TheVariants.{UnexpectedTag, ConstructUnexpected, IndefiniteLengthUnexpected, IntegerNegative, IntegerTooLarge, DerConstraintFailed}
-use Rattle.asn1_rs.specs.declared.error.DerConstraint.TheVariants.{IntegerEmpty, IntegerLeadingZeroes, IntegerLeadingFF}
+use Rattle.asn1_headers.specs.declared.error.Error.{Error}
+use Rattle.asn1_headers.specs.declared.error.Error.TheVariants.{UnexpectedTag, ConstructUnexpected, IndefiniteLengthUnexpected, IntegerNegative, IntegerTooLarge, DerConstraintFailed}
+use Rattle.asn1_headers.specs.declared.error.DerConstraint.TheVariants.{IntegerEmpty, IntegerLeadingZeroes, IntegerLeadingFF}
 use Rattle.asn1_rs.specs.Checks.{IsPrimitive, IsCounted}
 use Rattle.asn1_rs.specs.Kinds.{ElementGrammar}
 use Rattle.asn1_rs.specs.Grammar.Form.{UniversalForm}

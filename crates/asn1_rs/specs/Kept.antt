@@ -12,13 +12,13 @@ use Rattle.x690.specs.Faults.{Fault}
 use Rattle.asn1_rs.specs.declared.asn1_types.kept.sequence.Sequence.{Sequence}
 use Rattle.asn1_rs.specs.declared.asn1_types.kept.set.Set.{Set}
 use Rattle.asn1_rs.specs.declared.asn1_types.any.Any.{Any}
-use Rattle.asn1_rs.specs.declared.error.Error.{Error}
-use Rattle.asn1_rs.specs.declared.error.SerializeError.{SerializeError}
-use Rattle.asn1_rs.specs.declared.error.Err.{Err as Refusal}
-use Rattle.asn1_rs.specs.declared.error.Err.TheVariants.{Error as refused}
-use Rattle.asn1_rs.specs.Answers.{Front}
+use Rattle.asn1_headers.specs.declared.error.Error.{Error}
+use Rattle.asn1_headers.specs.declared.error.SerializeError.{SerializeError}
+use Rattle.asn1_headers.specs.declared.error.Err.{Err as Refusal}
+use Rattle.asn1_headers.specs.declared.error.Err.TheVariants.{Error as refused}
+use Rattle.asn1_headers.specs.Answers.{Front}
 use Rattle.asn1_rs.specs.Checks.{nothing, is_constructed}
-use Rattle.asn1_rs.specs.Error.{Converted, tells_of_io}
+use Rattle.asn1_headers.specs.Error.{Converted, tells_of_io}
 use Rattle.asn1_rs.specs.Any.{parts_of}
 use Rattle.asn1_rs.specs.Leaf.{Leaf, LeafGives}
 use Rattle.asn1_rs.specs.Lists.{IsListOr, ItemsGive}

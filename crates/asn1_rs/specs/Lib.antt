@@ -1,13 +1,4 @@
-pub mod Error
-pub mod Class
-pub mod Tag
-pub mod Length
-pub mod Header
-pub mod Content
-pub mod Der
-pub mod Ber
 pub mod Any
-pub mod Answers
 pub mod Traits
 pub mod Grammar
 pub mod Checks
@@ -19,7 +10,6 @@ pub mod EndOfContent
 pub mod OctetString
 pub mod Optional
 pub mod BitString
-pub mod Writer
 pub mod ToDer
 pub mod Integer
 pub mod Enumerated
@@ -29,4 +19,3 @@ pub mod Set
 pub mod Kept
 pub mod Tagged
 pub mod Laws
-pub mod Texts

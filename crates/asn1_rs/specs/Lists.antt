@@ -8,13 +8,13 @@ use Rattle.x690.specs.Identifiers.{Identifier}
 use Rattle.x690.specs.Elements.{Parts, IsDerElement}
 use Rattle.x690.specs.Joined.{IsJoined}
 use Rattle.x690.specs.Collections.{AsWords}
-use Rattle.asn1_rs.specs.declared.error.Err.{Err as Refusal}
-use Rattle.asn1_rs.specs.declared.error.Error.{Error}
-use Rattle.asn1_rs.specs.declared.error.Error.TheVariants as errors
+use Rattle.asn1_headers.specs.declared.error.Err.{Err as Refusal}
+use Rattle.asn1_headers.specs.declared.error.Error.{Error}
+use Rattle.asn1_headers.specs.declared.error.Error.TheVariants as errors
 use Rattle.asn1_rs.specs.declared.asn1_types.any.Any.{Any}
 use Rattle.asn1_rs.specs.declared.asn1_types.lists.Encodings.{Encodings}
 use Rattle.asn1_rs.specs.Any.{IsTheElement}
-use Rattle.asn1_rs.specs.Error.{FlattenedTo}
+use Rattle.asn1_headers.specs.Error.{FlattenedTo}
 use Rattle.asn1_rs.specs.Grammar.Form.{IsStrict, UniversalForm}
 use Rattle.asn1_rs.specs.Traits.{DerGives}
 use Rattle.asn1_rs.specs.Grammar.{BerWord, DerWord, NoCheck}

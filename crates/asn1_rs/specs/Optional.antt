@@ -7,12 +7,12 @@ use Rattle.x690.specs.Lengths.{LengthForm}
 use Rattle.x690.specs.Rules.{Rule}
 use Rattle.x690.specs.Elements.{IsHeader}
 use Rattle.asn1_rs.specs.declared.asn1_types.any.Any.{Any}
-use Rattle.asn1_rs.specs.declared.error.Err.{Err as Refusal}
-use Rattle.asn1_rs.specs.declared.error.Error.{Error}
-use Rattle.asn1_rs.specs.declared.error.Error.TheVariants as errors
-use Rattle.asn1_rs.specs.Answers.{ReadsBack}
+use Rattle.asn1_headers.specs.declared.error.Err.{Err as Refusal}
+use Rattle.asn1_headers.specs.declared.error.Error.{Error}
+use Rattle.asn1_headers.specs.declared.error.Error.TheVariants as errors
+use Rattle.asn1_headers.specs.Answers.{ReadsBack}
 use Rattle.asn1_rs.specs.Grammar.Form.{IsStrict}
-use Rattle.asn1_rs.specs.Header.{class_of, is_constructed_of, tag_of, length_of, HasParts}
+use Rattle.asn1_headers.specs.Header.{class_of, is_constructed_of, tag_of, length_of, HasParts}
 
 -- a header by the rule begins the octets, and has another tag number
 pub record BeginsWithOther (rule : Rule) (number : ℕ) (octets : List ℕ) : Type 0 where

@@ -12,19 +12,19 @@ use Rattle.x690.specs.Elements.{Parts, IsDerElement}
 use Rattle.x690.specs.Faults.{Fault, DerElementFault}
 use Rattle.x690.specs.Nested.{IsElement, ElementFault}
 use Rattle.asn1_rs.specs.declared.asn1_types.any.Any.{Any}
-use Rattle.asn1_rs.specs.declared.class.Class.{Class}
-use Rattle.asn1_rs.specs.declared.header.Header.{Header}
-use Rattle.asn1_rs.specs.declared.tag.Tag.{Tag}
-use Rattle.asn1_rs.specs.declared.error.Error.{Error}
-use Rattle.asn1_rs.specs.declared.error.Error.TheVariants.{UnexpectedTag, UnexpectedClass}
-use Rattle.asn1_rs.specs.declared.error.Err.{Err as Refusal}
-use Rattle.asn1_rs.specs.declared.error.Err.TheVariants.{Error as refused}
+use Rattle.asn1_headers.specs.declared.class.Class.{Class}
+use Rattle.asn1_headers.specs.declared.header.Header.{Header}
+use Rattle.asn1_headers.specs.declared.tag.Tag.{Tag}
+use Rattle.asn1_headers.specs.declared.error.Error.{Error}
+use Rattle.asn1_headers.specs.declared.error.Error.TheVariants.{UnexpectedTag, UnexpectedClass}
+use Rattle.asn1_headers.specs.declared.error.Err.{Err as Refusal}
+use Rattle.asn1_headers.specs.declared.error.Err.TheVariants.{Error as refused}
 use Rattle.asn1_rs.specs.Any.{BeginsWithElement}
-use Rattle.asn1_rs.specs.Ber.{max_depth}
-use Rattle.asn1_rs.specs.Error.{Converted}
-use Rattle.asn1_rs.specs.Class.{class_number}
+use Rattle.asn1_headers.specs.Ber.{max_depth}
+use Rattle.asn1_headers.specs.Error.{Converted}
+use Rattle.asn1_headers.specs.Class.{class_number}
 use Rattle.asn1_rs.specs.Checks.{CheckGives}
-use Rattle.asn1_rs.specs.Header.Reading.{der_refusal, ber_refusal}
+use Rattle.asn1_headers.specs.Header.Reading.{der_refusal, ber_refusal}
 
 -- what a call on an element and the octets behind it may answer
 abbrev pub OfElement : Type 0 → Type 1

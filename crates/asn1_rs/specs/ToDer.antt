@@ -1,11 +1,11 @@
 -- Why counting and writing a value are refused.
 use Rattle.std.specs.Prelude.{◌≡◌, ◌⊎◌, ℕ, ◌+◌, ◌<◌, ◌≤◌, ◌^◌, Bool, true, false, ◌||◌, IsTrue, List, Option, Result, Err, MatchResult}
-use Rattle.asn1_rs.specs.declared.error.Error.{Error}
-use Rattle.asn1_rs.specs.declared.error.Error.TheVariants as errors
-use Rattle.asn1_rs.specs.declared.error.SerializeError.{SerializeError}
-use Rattle.asn1_rs.specs.declared.error.SerializeError.TheVariants as serialize_errors
-use Rattle.asn1_rs.specs.Writer.{MayRefuse}
-use Rattle.asn1_rs.specs.Error.{WithoutIo, tells_of_io, written_refusal}
+use Rattle.asn1_headers.specs.declared.error.Error.{Error}
+use Rattle.asn1_headers.specs.declared.error.Error.TheVariants as errors
+use Rattle.asn1_headers.specs.declared.error.SerializeError.{SerializeError}
+use Rattle.asn1_headers.specs.declared.error.SerializeError.TheVariants as serialize_errors
+use Rattle.asn1_headers.specs.Writer.{MayRefuse}
+use Rattle.asn1_headers.specs.Error.{WithoutIo, tells_of_io, written_refusal}
 
 -- why counting n octets may be refused
 abbrev pub MayRefuseCount : Bool → ℕ → Error → Type 0

@@ -1,62 +1,21 @@
-//! Reading elements and their contents octets by DER (X.690 8.1, 10.1).
+//! Reading elements by DER (X.690 8.1, 10.1).
 ghost use Rattle.x690.specs.Elements.{IsDerElement};
 ghost use Rattle.x690.specs.Faults.{DerElementFault};
-ghost use Rattle.asn1_rs.specs.Answers.{seen};
-ghost use Rattle.asn1_rs.specs.Header.{length_of};
-ghost use Rattle.asn1_rs.specs.Header.Reading.{der_refusal};
-ghost use Rattle.asn1_rs.specs.Length.{form_of};
+ghost use Rattle.asn1_headers.specs.Answers.{seen};
+ghost use Rattle.asn1_headers.specs.Header.Reading.{der_refusal};
 ghost use Rattle.asn1_rs.specs.Any.{AnyGives};
-ghost use Rattle.asn1_rs.specs.Der.{DerContentGives};
 
 use crate::asn1_types::any::Any;
-use crate::content::{GetObjectContent, split_content};
-use crate::error::{Error, ParseResult};
-use crate::header::Header;
-use crate::header::reading::{header_by_der, indefinite_length};
-use crate::length::Length;
-use crate::traits::DerParser;
-
-/// The contents octets at the front, of a length of this form, by DER.
-#[inline(always)]
-fn content_by_der(bytes: &[u8], form: Length) -> ParseResult<'_, &[u8], Error>
-    ensures { DerContentGives (form_of form) bytes.now result }
-{
-    match form {
-        Length::Definite(len) => split_content(bytes, len),
-        Length::Indefinite => Err(indefinite_length()),
-    }
-}
+use asn1_headers::der;
+use asn1_headers::error::{Error, ParseResult};
 
 /// The element at the front, by DER. It does not allocate.
 #[inline(always)]
 pub(crate) fn element_by_der(bytes: &[u8]) -> ParseResult<'_, Any<'_>, Error>
     ensures { AnyGives IsDerElement DerElementFault der_refusal bytes.now (seen result) }
 {
-    let (rest, header) = header_by_der(bytes)?;
-    let (rest, content) = content_by_der(rest, header.length())?;
-    Ok((rest, Any::new(header, content)))
-}
-
-impl GetObjectContent for DerParser {
-    ghost content_gives = { λ _ form _ input answer. DerContentGives form input answer };
-
-    fn get_object_content<'a>(
-        i: &'a [u8],
-        hdr: &Header<'_>,
-        _max_depth: usize,
-    ) -> ParseResult<'a, &'a [u8], Error> {
-        content_by_der(i, hdr.length())
-    }
-}
-
-impl Header<'_> {
-    /// The contents octets at the front of the octets that follow this header, by DER, and the rest.
-    ///
-    /// Refused with `DerConstraintFailed(IndefiniteLength)` at an indefinite length, else with `Incomplete(n)` where n
-    /// octets are missing.
-    pub fn parse_der_content<'i>(&self, i: &'i [u8]) -> ParseResult<'i, &'i [u8], Error>
-        ensures { DerContentGives (form_of (length_of self.now)) i.now result }
-    {
-        DerParser::get_object_content(i, self, 0)
+    match der::element_by_der(bytes) {
+        Ok((rest, (header, content))) => Ok((rest, Any::new(header, content))),
+        Err(refusal) => Err(refusal),
     }
 }

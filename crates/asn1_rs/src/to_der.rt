@@ -1,15 +1,15 @@
 //! The trait of values that are written by DER.
 ghost use Rattle.std.specs.Prelude.{◌≡◌, ◌++◌, ℕ, Bool, true, false, List, [], length, Err, IfOk, IfErr, IsErr};
 ghost use Rattle.std.specs.Io.KnownBytes.{Appends};
-ghost use Rattle.asn1_rs.specs.Writer.{Wrote};
+ghost use Rattle.asn1_headers.specs.Writer.{Wrote};
 ghost use Rattle.asn1_rs.specs.ToDer.{Refuses, RefusesCount, VectorRefuses, Either, IsRefusedAtOnce, RefusedAtOnce, some_allocates};
-ghost use Rattle.asn1_rs.specs.Error.{vector_refusal, tells_of_io};
-ghost use Rattle.asn1_rs.specs.declared.error.SerializeError.{SerializeError};
-ghost use Rattle.asn1_rs.specs.declared.error.Error.{Error};
+ghost use Rattle.asn1_headers.specs.Error.{vector_refusal, tells_of_io};
+ghost use Rattle.asn1_headers.specs.declared.error.SerializeError.{SerializeError};
+ghost use Rattle.asn1_headers.specs.declared.error.Error.{Error};
 
-use crate::error::{Error, SerializeResult, without_io};
 use crate::traits::DynTagged;
-use crate::writer::{DerWrite, Told, add_written};
+use asn1_headers::error::{Error, SerializeResult, without_io};
+use asn1_headers::writer::{DerWrite, Told, add_written};
 use std::alloc::Global;
 
 /// A value that is written by DER.

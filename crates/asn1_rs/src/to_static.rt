@@ -1,9 +1,9 @@
 //! Copies that borrow nothing.
 ghost use Rattle.std.specs.Prelude.{◌≡◌, IfOk, IfErr};
-ghost use Rattle.asn1_rs.specs.declared.error.Error.TheVariants as errors;
+ghost use Rattle.asn1_headers.specs.declared.error.Error.TheVariants as errors;
 
 use crate::asn1_types::integer::machine::MachineInt;
-use crate::error::Error;
+use asn1_headers::error::Error;
 use std::alloc::Global;
 
 /// A type whose values have copies that borrow nothing, so that they outlive what they were read from.

@@ -2,27 +2,20 @@
 ghost use Rattle.std.specs.Prelude.{◌≡◌, ℕ, List, Result};
 ghost use Rattle.x690.specs.Elements.{Parts};
 ghost use Rattle.asn1_rs.specs.declared.asn1_types.any.Any.{Any};
-ghost use Rattle.asn1_rs.specs.declared.tag.Tag.{Tag};
-ghost use Rattle.asn1_rs.specs.declared.error.Err.{Err as Refusal};
-ghost use Rattle.asn1_rs.specs.declared.error.Error.{Error};
-ghost use Rattle.asn1_rs.specs.Answers.{seen};
+ghost use Rattle.asn1_headers.specs.declared.tag.Tag.{Tag};
+ghost use Rattle.asn1_headers.specs.declared.error.Err.{Err as Refusal};
+ghost use Rattle.asn1_headers.specs.declared.error.Error.{Error};
+ghost use Rattle.asn1_headers.specs.Answers.{seen};
 ghost use Rattle.asn1_rs.specs.Any.{parts_of};
 ghost use Rattle.asn1_rs.specs.Traits.{BerGives, DerGives};
 
 use crate::asn1_types::any::Any;
 use crate::ber::element_by_ber;
 use crate::der::element_by_der;
-use crate::error::{Err, Error, ParseResult};
-use crate::tag::Tag;
+use asn1_headers::content::{BerParser, DerParser};
+use asn1_headers::error::{Err, Error, ParseResult};
+use asn1_headers::tag::Tag;
 use std::alloc::Global;
-
-/// The reader by BER, as a type.
-#[derive(Debug, Clone, Copy)]
-pub struct BerParser;
-
-/// The reader by DER, as a type.
-#[derive(Debug, Clone, Copy)]
-pub struct DerParser;
 
 /// A reader, as a type.
 pub trait ASN1Parser {}

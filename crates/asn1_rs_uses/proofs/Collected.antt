@@ -6,9 +6,9 @@ use Rattle.std.specs.Iterator.{Yields}
 use Rattle.std.specs.Iterator.Runs.{Run}
 use Rattle.std.proofs.iter.Next.{Yields-more}
 use Rattle.x690.specs.Joined.{IsJoined}
-use Rattle.asn1_rs.specs.declared.error.Err.{Err as Refusal}
-use Rattle.asn1_rs.specs.declared.error.Error.{Error}
-use Rattle.asn1_rs.specs.declared.error.Error.TheVariants as errors
+use Rattle.asn1_headers.specs.declared.error.Err.{Err as Refusal}
+use Rattle.asn1_headers.specs.declared.error.Error.{Error}
+use Rattle.asn1_headers.specs.declared.error.Error.TheVariants as errors
 use Rattle.asn1_rs.specs.declared.asn1_types.sequence.iterator.SequenceIterator.{SequenceIterator}
 use Rattle.asn1_rs.specs.Sequence.Iterator.{octets_left, WalkSteps, EndsWalk, IsWalk, IsWalkOf, EndsJoined, TellsNoWord, TellsMemoryAlone, IsMemory}
 use Rattle.asn1_rs.specs.Laws.Sequence.Iterator.{items_joined, items_ended}

@@ -3,10 +3,10 @@ use Rattle.std.proofs.Common.{◌≡◌, ◌∙◌, ap, sym, refl, ℕ, suc, Boo
 use Rattle.std.proofs.lemmas.Bool.Decides.{nat_tests}
 use Rattle.std.proofs.lemmas.List.{append-nil}
 use Rattle.asn1_rs.specs.declared.asn1_types.any.Any.{Any}
-use Rattle.asn1_rs.specs.declared.tag.Tag.{Tag}
+use Rattle.asn1_headers.specs.declared.tag.Tag.{Tag}
 use Rattle.asn1_rs.specs.Any.{parts_of}
 use Rattle.asn1_rs.specs.Any.Value.{ElementValue, element_of}
-use Rattle.asn1_rs.specs.Answers.{Front}
+use Rattle.asn1_headers.specs.Answers.{Front}
 use Rattle.std.specs.Prelude.{map, pos}
 use Rattle.asn1_rs_uses.specs.declared.message.Message.{Message}
 use Rattle.asn1_rs_uses.specs.Messages.{ShortNumber, ShortNumbers, AnyElement, IsMessage, BeginsWithMessage}

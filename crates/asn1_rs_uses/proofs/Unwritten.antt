@@ -3,20 +3,20 @@ use Rattle.std.proofs.Common.{◌≡◌, ◌<◌, ◌^◌, ◌∙◌, ap, refl, 
 use Rattle.std.specs.Prelude.{None, ◌⊎◌, IsErr, IsErrAnd, codes}
 use Rattle.std.specs.declared.borrow.CowStr.TheVariants as cow
 use Rattle.x690.specs.Strict.{header_octets, identifier_octets, length_octets}
-use Rattle.asn1_rs.specs.declared.class.Class.{Class}
-use Rattle.asn1_rs.specs.declared.header.Header.{Header}
-use Rattle.asn1_rs.specs.declared.length.Length.TheVariants.{Definite}
-use Rattle.asn1_rs.specs.declared.error.Error.{Error}
-use Rattle.asn1_rs.specs.declared.error.Error.TheVariants as errors
-use Rattle.asn1_rs.specs.declared.error.SerializeError.{SerializeError}
-use Rattle.asn1_rs.specs.declared.error.SerializeError.TheVariants as serialize_errors
-use Rattle.asn1_rs.specs.Class.{class_number}
-use Rattle.asn1_rs.specs.Header.{HasParts}
+use Rattle.asn1_headers.specs.declared.class.Class.{Class}
+use Rattle.asn1_headers.specs.declared.header.Header.{Header}
+use Rattle.asn1_headers.specs.declared.length.Length.TheVariants.{Definite}
+use Rattle.asn1_headers.specs.declared.error.Error.{Error}
+use Rattle.asn1_headers.specs.declared.error.Error.TheVariants as errors
+use Rattle.asn1_headers.specs.declared.error.SerializeError.{SerializeError}
+use Rattle.asn1_headers.specs.declared.error.SerializeError.TheVariants as serialize_errors
+use Rattle.asn1_headers.specs.Class.{class_number}
+use Rattle.asn1_headers.specs.Header.{HasParts}
 use Rattle.asn1_rs.specs.Lists.{SomeRefuses}
-use Rattle.asn1_rs.specs.Header.Writing.{strict_header}
-use Rattle.asn1_rs.specs.Writer.{MayRefuse}
+use Rattle.asn1_headers.specs.Header.Writing.{strict_header}
+use Rattle.asn1_headers.specs.Writer.{MayRefuse}
 use Rattle.asn1_rs.specs.ToDer.{Refuses, RefusesCount, IsRefusedAtOnce, IntoVector, WrittenRefusal, Either}
-use Rattle.asn1_rs.specs.Error.{vector_refusal, tells_of_io}
+use Rattle.asn1_headers.specs.Error.{vector_refusal, tells_of_io}
 use Rattle.asn1_rs_uses.specs.declared.refusals.InClass.{InClass}
 use Rattle.asn1_rs_uses.specs.declared.refusals.NamePart.{NamePart}
 use Rattle.asn1_rs_uses.specs.Refusals.{NamesNoClass, TellsOfNoClass, SomeInNoClass, AsAnyWriting, TellsOfEmptyPart, IsEmptyPart, WrittenEmptyPart, IsMemoryOrLength, SomeEmpty}

@@ -1,7 +1,7 @@
 -- Values that borrow the octets that they are read from.
 use Rattle.std.specs.Prelude.{◌≡◌, ℕ, List, Ok}
 use Rattle.asn1_rs.specs.Any.Value.{ElementValue, ElementBody}
-use Rattle.asn1_rs.specs.Answers.{Front}
+use Rattle.asn1_headers.specs.Answers.{Front}
 use Rattle.asn1_rs.specs.Grammar.{BerWord, DerWord}
 use Rattle.asn1_rs.specs.Leaf.{Leaf, LeafBody}
 

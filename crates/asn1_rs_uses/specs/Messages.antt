@@ -4,9 +4,9 @@ use Rattle.std.specs.List.{flat_map}
 use Rattle.x690.specs.Elements.{Parts, IsDerElement}
 use Rattle.x690.specs.Integers.{unsigned_octets}
 use Rattle.x690.specs.Strict.{header_octets}
-use Rattle.asn1_rs.specs.declared.error.Err.{Err as Refusal}
-use Rattle.asn1_rs.specs.declared.error.Error.{Error}
-use Rattle.asn1_rs.specs.Answers.{TellsMemory}
+use Rattle.asn1_headers.specs.declared.error.Err.{Err as Refusal}
+use Rattle.asn1_headers.specs.declared.error.Error.{Error}
+use Rattle.asn1_headers.specs.Answers.{TellsMemory}
 use Rattle.asn1_rs.specs.Any.Value.{ElementValue, ElementBody, ElementCheck, element_of}
 use Rattle.asn1_rs.specs.Any.Writing.{element_header}
 use Rattle.asn1_rs.specs.Grammar.{DerWord, NoCheck}

@@ -1,8 +1,8 @@
 -- Numbers of eight octets, by BER and by DER.
 use Rattle.std.specs.Prelude.{◌≡◌, ℕ, ℤ, List, false, pos}
-use Rattle.asn1_rs.specs.declared.error.Err.{Err as Refusal}
-use Rattle.asn1_rs.specs.declared.error.Error.{Error}
-use Rattle.asn1_rs.specs.Answers.{TellsMemory}
+use Rattle.asn1_headers.specs.declared.error.Err.{Err as Refusal}
+use Rattle.asn1_headers.specs.declared.error.Error.{Error}
+use Rattle.asn1_headers.specs.Answers.{TellsMemory}
 use Rattle.asn1_rs.specs.Grammar.Form.{IsStrict}
 use Rattle.asn1_rs.specs.Grammar.{BerWord, DerWord}
 use Rattle.asn1_rs.specs.Integer.{IntegerBody, IntegerCheck, IntegerForm, IsUnsigned}

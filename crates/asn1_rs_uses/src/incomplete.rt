@@ -4,8 +4,8 @@ ghost use Rattle.x690.specs.Identifiers.{Identifier, IsIdentifier, IsCutIdentifi
 ghost use Rattle.x690.specs.Lengths.{LengthForm};
 ghost use Rattle.x690.specs.Rules.{ber_rule};
 ghost use Rattle.x690.specs.Elements.{Parts, IsHeader, IsDerElement};
-ghost use Rattle.asn1_rs.specs.Answers.{seen, RefusedAsBeginning};
-ghost use Rattle.asn1_rs.specs.Header.{raw_tag_of};
+ghost use Rattle.asn1_headers.specs.Answers.{seen, RefusedAsBeginning};
+ghost use Rattle.asn1_headers.specs.Header.{raw_tag_of};
 
 use asn1_rs::{
     Any, Error, FromBer, FromDer, Header, ParseResult, any_is_the_element, beginnings_are_refused,

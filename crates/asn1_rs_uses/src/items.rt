@@ -1,7 +1,7 @@
 //! Items in contents octets.
 ghost use Rattle.std.specs.Prelude.{◌≡◌, ◌⊎◌, List, length, map, pos, ℤ, IfOk, IfErr};
 ghost use Rattle.x690.specs.Joined.{IsJoined, AreJoinedWords};
-ghost use Rattle.asn1_rs.specs.declared.error.Error.TheVariants as errors;
+ghost use Rattle.asn1_headers.specs.declared.error.Error.TheVariants as errors;
 ghost use Rattle.asn1_rs.specs.Any.Value.{ElementBody, element_of};
 ghost use Rattle.asn1_rs.specs.Grammar.{BerWord};
 ghost use Rattle.asn1_rs_uses.specs.Items.{EndsBefore};

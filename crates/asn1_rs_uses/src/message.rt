@@ -1,6 +1,6 @@
 //! A message in the manner of SNMP: a version, the name of a community, and numbers, in a sequence.
 ghost use Rattle.std.specs.Prelude.{◌≡◌, IfOk};
-ghost use Rattle.asn1_rs.specs.Answers.{seen};
+ghost use Rattle.asn1_headers.specs.Answers.{seen};
 ghost use Rattle.asn1_rs.specs.Any.{parts_of};
 ghost use Rattle.asn1_rs_uses.specs.Messages.{BeginsWithMessage, IsMessage, message_octets};
 

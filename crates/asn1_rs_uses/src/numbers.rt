@@ -1,10 +1,10 @@
 //! Numbers by BER and by DER, with the theorems in words of numbers.
 ghost use Rattle.std.specs.Prelude.{◌≡◌, ◌<◌, ◌≤◌, ◌^◌, ◌++◌, ◌↔◌, ℕ, ℤ, List, length, pos, IfOk, IfErr, IsTrue, MatchResult};
 ghost use Rattle.x690.specs.Identifiers.{Identifier, IsCutIdentifier};
-ghost use Rattle.asn1_rs.specs.Answers.{seen, Exactly, RefusedBeforeEnd};
-ghost use Rattle.asn1_rs.specs.Ber.{EndsWithin};
+ghost use Rattle.asn1_headers.specs.Answers.{seen, Exactly, RefusedBeforeEnd};
+ghost use Rattle.asn1_headers.specs.Ber.{EndsWithin};
 ghost use Rattle.asn1_rs.specs.Integer.{IntegerForm, IsUnsigned};
-ghost use Rattle.asn1_rs.specs.Writer.{IsMemoryOrLength};
+ghost use Rattle.asn1_headers.specs.Writer.{IsMemoryOrLength};
 ghost use Rattle.asn1_rs_uses.specs.Numbers.{IsStrictNumber, NoMemory, NumberByBer, NumberByDer};
 
 use asn1_rs::{

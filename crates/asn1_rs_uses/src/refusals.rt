@@ -1,13 +1,13 @@
 //! Types of a caller's whose values may not be written, alone and in lists and sets.
 ghost use Rattle.std.specs.Prelude.{◌≡◌, ◌≢◌, ◌≤◌, ◌⊎◌, ◌∷◌, [], None, true, false, length, Err, IfErr, OnErr, IsErr, IsErrAnd, MatchResult};
 ghost use Rattle.x690.specs.Strict.{header_octets};
-ghost use Rattle.asn1_rs.specs.declared.class.Class.TheVariants as classes;
-ghost use Rattle.asn1_rs.specs.declared.length.Length.TheVariants as forms;
-ghost use Rattle.asn1_rs.specs.declared.error.Error.TheVariants as errors;
-ghost use Rattle.asn1_rs.specs.declared.error.SerializeError.TheVariants as serialize_errors;
-ghost use Rattle.asn1_rs.specs.Header.{HasParts};
+ghost use Rattle.asn1_headers.specs.declared.class.Class.TheVariants as classes;
+ghost use Rattle.asn1_headers.specs.declared.length.Length.TheVariants as forms;
+ghost use Rattle.asn1_headers.specs.declared.error.Error.TheVariants as errors;
+ghost use Rattle.asn1_headers.specs.declared.error.SerializeError.TheVariants as serialize_errors;
+ghost use Rattle.asn1_headers.specs.Header.{HasParts};
 ghost use Rattle.asn1_rs.specs.Set.{items_of};
-ghost use Rattle.asn1_rs.specs.Writer.{GrewByABeginning, MayRefuse};
+ghost use Rattle.asn1_headers.specs.Writer.{GrewByABeginning, MayRefuse};
 ghost use Rattle.asn1_rs.specs.ToDer.{RefusedAtOnce, WrittenRefusal};
 ghost use Rattle.asn1_rs_uses.specs.Refusals.{NamesNoClass, AsAnyWriting, TellsOfNoClass, SomeInNoClass, octets_in_classes, IsEmptyPart, TellsOfEmptyPart, WrittenEmptyPart, IsMemoryOrLength, SomeEmpty};
 

@@ -1,7 +1,7 @@
 //! Sequences of integers.
 ghost use Rattle.std.specs.Prelude.{◌≡◌, ℤ, List, map, pos, IfOk};
 ghost use Rattle.x690.specs.Identifiers.{IsCutIdentifier};
-ghost use Rattle.asn1_rs.specs.Answers.{seen, Exactly};
+ghost use Rattle.asn1_headers.specs.Answers.{seen, Exactly};
 ghost use Rattle.asn1_rs_uses.specs.Messages.{ShortNumbers, WantsMemory, numbers_octets};
 
 use asn1_rs::{Error, ParseResult, SerializeResult, read_der, strict_vec};

@@ -12,15 +12,15 @@ use Rattle.x690.specs.Elements.{Parts, IsDerElement}
 use Rattle.x690.specs.Faults.{DerElementFault}
 use Rattle.x690.specs.Nested.{IsElement, ElementFault}
 use Rattle.asn1_rs.specs.declared.asn1_types.any.Any.{Any}
-use Rattle.asn1_rs.specs.declared.error.Error.{Error}
-use Rattle.asn1_rs.specs.Answers.{Exactly, TellsMemory}
+use Rattle.asn1_headers.specs.declared.error.Error.{Error}
+use Rattle.asn1_headers.specs.Answers.{Exactly, TellsMemory}
 use Rattle.std.specs.declared.alloc.Global.{Global}
 use Rattle.std.specs.declared.vec.Vec.{Vec}
-use Rattle.asn1_rs.specs.Ber.{max_depth, EndsWithin}
+use Rattle.asn1_headers.specs.Ber.{max_depth, EndsWithin}
 use Rattle.asn1_rs.specs.Grammar.{NoCheck, BerWord, DerWord}
 use Rattle.asn1_rs.specs.Grammar.Form.{IsOneForm}
 use Rattle.asn1_rs.specs.Grammar.Item.{IsLawfulItem}
-use Rattle.asn1_rs.specs.Header.Reading.{ber_breach, der_breach}
+use Rattle.asn1_headers.specs.Header.Reading.{ber_breach, der_breach}
 use Rattle.asn1_rs.specs.Integer.{IntegerCheckGives, IsUnsigned, SignedGives, SignedRefuses, UnsignedGives, UnsignedRefuses, integer_element}
 use Rattle.asn1_rs.specs.Kinds.{ElementGrammar, IsExactCheck, IsExactConversion, IsLawfulElement}
 use Rattle.asn1_rs.specs.Leaf.{IsLawfulLeaf, Leaf, LeafGives, leaf_element}

@@ -6,15 +6,15 @@ use Rattle.x690.specs.Elements.{Parts, IsDerElement}
 use Rattle.x690.specs.Faults.{Breach, Fault, DerElementFault}
 use Rattle.x690.specs.Nested.{IsElement, ElementFault}
 use Rattle.x690.specs.Identifiers.{IsCutIdentifier}
-use Rattle.asn1_rs.specs.declared.error.Err.{Err as Refusal}
-use Rattle.asn1_rs.specs.declared.error.Err.TheVariants.{Error as refused, Incomplete as cut, Failure as failed}
-use Rattle.asn1_rs.specs.declared.error.Error.{Error}
-use Rattle.asn1_rs.specs.declared.error.Error.TheVariants.{OutOfMemory}
+use Rattle.asn1_headers.specs.declared.error.Err.{Err as Refusal}
+use Rattle.asn1_headers.specs.declared.error.Err.TheVariants.{Error as refused, Incomplete as cut, Failure as failed}
+use Rattle.asn1_headers.specs.declared.error.Error.{Error}
+use Rattle.asn1_headers.specs.declared.error.Error.TheVariants.{OutOfMemory}
 use Rattle.asn1_rs.specs.declared.asn1_types.any.Any.{Any}
 use Rattle.asn1_rs.specs.Any.{BeginsWithElement, parts_of}
-use Rattle.asn1_rs.specs.Ber.{max_depth, EndsWithin}
-use Rattle.asn1_rs.specs.Error.{FlattenedTo}
-use Rattle.asn1_rs.specs.Header.Reading.{refusal_of, der_breach, ber_breach}
+use Rattle.asn1_headers.specs.Ber.{max_depth, EndsWithin}
+use Rattle.asn1_headers.specs.Error.{FlattenedTo}
+use Rattle.asn1_headers.specs.Header.Reading.{refusal_of, der_breach, ber_breach}
 use Rattle.asn1_rs.specs.Lists.{IsListOr, ListGives, ListReads, ListTakes}
 use Rattle.asn1_rs.specs.Sequence.Iterator.{TakesItem, EndsItem}
 use Rattle.asn1_rs.specs.Traits.{BerGives, DerGives, ElementGives, OfParts, PassesAll}

@@ -6,19 +6,19 @@ use Rattle.x690.specs.Elements.{Parts, IsDerElement}
 use Rattle.x690.specs.Faults.{DerElementFault}
 use Rattle.x690.specs.Nested.{IsElement, ElementFault}
 use Rattle.x690.specs.Joined.{IsOneFront}
-use Rattle.asn1_rs.specs.declared.error.Err.{Err as Refusal}
-use Rattle.asn1_rs.specs.declared.error.Err.TheVariants.{Error as refused}
-use Rattle.asn1_rs.specs.declared.error.Error.{Error}
+use Rattle.asn1_headers.specs.declared.error.Err.{Err as Refusal}
+use Rattle.asn1_headers.specs.declared.error.Err.TheVariants.{Error as refused}
+use Rattle.asn1_headers.specs.declared.error.Error.{Error}
 use Rattle.asn1_rs.specs.declared.asn1_types.any.Any.{Any}
-use Rattle.asn1_rs.specs.Header.Reading.{der_breach, ber_breach}
-use Rattle.asn1_rs.specs.declared.error.SerializeError.{SerializeError}
-use Rattle.asn1_rs.specs.declared.error.SerializeError.TheVariants as serialize_errors
-use Rattle.asn1_rs.specs.Answers.{Exactly, Front, IsFinal, TellsMemory}
+use Rattle.asn1_headers.specs.Header.Reading.{der_breach, ber_breach}
+use Rattle.asn1_headers.specs.declared.error.SerializeError.{SerializeError}
+use Rattle.asn1_headers.specs.declared.error.SerializeError.TheVariants as serialize_errors
+use Rattle.asn1_headers.specs.Answers.{Exactly, Front, IsFinal, TellsMemory}
 use Rattle.asn1_rs.specs.Grammar.Form.{IsOneForm, IsStrict}
 use Rattle.asn1_rs.specs.Optional.{in_some}
-use Rattle.asn1_rs.specs.Writer.{MayRefuse}
-use Rattle.asn1_rs.specs.Error.{tells_of_io}
-use Rattle.asn1_rs.specs.Ber.{max_depth, EndsWithin}
+use Rattle.asn1_headers.specs.Writer.{MayRefuse}
+use Rattle.asn1_headers.specs.Error.{tells_of_io}
+use Rattle.asn1_headers.specs.Ber.{max_depth, EndsWithin}
 use Rattle.asn1_rs.specs.Grammar.{IsOneBody, NoCheck, BerWord, DerWord}
 use Rattle.asn1_rs.specs.Traits.{PassesAll, BerGives, DerGives}
 use Rattle.asn1_rs.specs.Laws.Readers.{none_now, der_elements, ber_elements}

@@ -10,17 +10,17 @@ use Rattle.asn1_rs.specs.Any.{parts_of}
 use Rattle.asn1_rs.specs.declared.asn1_types.any.Any.{Any}
 use Rattle.asn1_rs.specs.declared.asn1_types.tagged.Implicit.{Implicit}
 use Rattle.asn1_rs.specs.declared.asn1_types.tagged.TaggedValue.{TaggedValue}
-use Rattle.asn1_rs.specs.declared.error.Err.TheVariants.{Error as refused}
-use Rattle.asn1_rs.specs.declared.error.Error.{Error}
-use Rattle.asn1_rs.specs.declared.tag.Tag.{Tag}
+use Rattle.asn1_headers.specs.declared.error.Err.TheVariants.{Error as refused}
+use Rattle.asn1_headers.specs.declared.error.Error.{Error}
+use Rattle.asn1_headers.specs.declared.tag.Tag.{Tag}
 use Rattle.asn1_rs.specs.Lists.{ListTakes, has_items}
 use Rattle.asn1_rs.specs.Laws.Lists.{list_number, list_takes_class}
 use Rattle.asn1_rs.specs.Laws.Tagged.Implicit.{implicit_checks_are, implicit_lawful, parts_under}
 use Rattle.asn1_rs.specs.Tagged.Implicit.{ImplicitTakes, implicit_checks, under}
 use Rattle.asn1_rs.specs.Tagged.Parser.{IsUnder}
-use Rattle.asn1_rs.specs.Answers.{Front}
-use Rattle.asn1_rs.specs.Ber.{max_depth, EndsWithin}
-use Rattle.asn1_rs.specs.Header.Reading.{refusal_of, ber_breach, der_breach}
+use Rattle.asn1_headers.specs.Answers.{Front}
+use Rattle.asn1_headers.specs.Ber.{max_depth, EndsWithin}
+use Rattle.asn1_headers.specs.Header.Reading.{refusal_of, ber_breach, der_breach}
 use Rattle.asn1_rs.specs.Tagged.Explicit.{ExplicitGives, ExplicitReads, ExplicitTakes}
 use Rattle.asn1_rs.specs.Traits.{BerGives, OfParts}
 use Rattle.asn1_rs.specs.Laws.Readers.{ber_elements, der_elements}

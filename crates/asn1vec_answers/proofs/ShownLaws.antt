@@ -4,16 +4,16 @@ use Rattle.std.specs.Prelude.{ℤ, pos}
 use Rattle.x690.specs.Identifiers.{Identifier}
 use Rattle.x690.specs.Octets.{IsOctets}
 use Rattle.asn1_rs.specs.declared.asn1_types.any.Any.{Any}
-use Rattle.asn1_rs.specs.declared.class.Class.{Class}
-use Rattle.asn1_rs.specs.declared.class.Class.TheVariants.{Universal, Application, ContextSpecific, Private}
-use Rattle.asn1_rs.specs.declared.error.SerializeError.{SerializeError}
-use Rattle.asn1_rs.specs.Class.{class_number}
+use Rattle.asn1_headers.specs.declared.class.Class.{Class}
+use Rattle.asn1_headers.specs.declared.class.Class.TheVariants.{Universal, Application, ContextSpecific, Private}
+use Rattle.asn1_headers.specs.declared.error.SerializeError.{SerializeError}
+use Rattle.asn1_headers.specs.Class.{class_number}
 use Rattle.asn1_rs.specs.Any.Value.{element_of, ElementForm}
-use Rattle.asn1_rs.specs.Header.{identifier_of}
+use Rattle.asn1_headers.specs.Header.{identifier_of}
 use Rattle.asn1_rs.specs.Grammar.Form.{FitsElement, HasForm, IsStrict, WritesForm, universal}
 use Rattle.asn1_rs.specs.Laws.Forms.{strict_made, strict_written}
 use Rattle.x690.specs.Laws.StrictLengths.{length_fits}
-use Rattle.asn1_rs.specs.Writer.{MayRefuse}
+use Rattle.asn1_headers.specs.Writer.{MayRefuse}
 use Rattle.asn1_rs.specs.Integer.{integer_number, IntegerForm, IsUnsigned}
 use Rattle.x690.specs.Strict.{element_octets}
 use Rattle.x690.specs.Laws.StrictElements.{made_strict_element}
@@ -23,7 +23,7 @@ use Rattle.x690.specs.Signed.{IsSigned, signed_octets}
 use Rattle.x690.specs.Laws.Signed.{signed_octets_content, signed_octets_few}
 use Rattle.std.specs.List.{All}
 use Rattle.std.specs.Prelude.{slice_index_or}
-use Rattle.asn1_rs.specs.declared.error.Error.{Error}
+use Rattle.asn1_headers.specs.declared.error.Error.{Error}
 use Rattle.asn1_rs.specs.Lists.{SomeRefuses}
 use Rattle.asn1_rs.specs.Laws.Lists.{none_refuses}
 use Rattle.asn1_rs.specs.Laws.Set.{none_into}

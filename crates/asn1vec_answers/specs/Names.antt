@@ -1,15 +1,15 @@
 -- The names of refusals.
 use Rattle.std.specs.Prelude.{ℕ, List, ◌++◌, codes, decimal}
-use Rattle.asn1_rs.specs.declared.error.Err.{Err as Refusal}
-use Rattle.asn1_rs.specs.declared.error.Err.TheVariants.{Incomplete as cut, Error as refused, Failure as failed}
-use Rattle.asn1_rs.specs.declared.error.Needed.{Needed}
-use Rattle.asn1_rs.specs.declared.error.Needed.TheVariants.{Unknown, Size}
-use Rattle.asn1_rs.specs.declared.error.DerConstraint.{DerConstraint}
-use Rattle.asn1_rs.specs.declared.error.DerConstraint.TheVariants as constraints
-use Rattle.asn1_rs.specs.declared.error.Error.{Error}
-use Rattle.asn1_rs.specs.declared.error.Error.TheVariants as errors
-use Rattle.asn1_rs.specs.declared.error.SerializeError.{SerializeError}
-use Rattle.asn1_rs.specs.declared.error.SerializeError.TheVariants as serialize_errors
+use Rattle.asn1_headers.specs.declared.error.Err.{Err as Refusal}
+use Rattle.asn1_headers.specs.declared.error.Err.TheVariants.{Incomplete as cut, Error as refused, Failure as failed}
+use Rattle.asn1_headers.specs.declared.error.Needed.{Needed}
+use Rattle.asn1_headers.specs.declared.error.Needed.TheVariants.{Unknown, Size}
+use Rattle.asn1_headers.specs.declared.error.DerConstraint.{DerConstraint}
+use Rattle.asn1_headers.specs.declared.error.DerConstraint.TheVariants as constraints
+use Rattle.asn1_headers.specs.declared.error.Error.{Error}
+use Rattle.asn1_headers.specs.declared.error.Error.TheVariants as errors
+use Rattle.asn1_headers.specs.declared.error.SerializeError.{SerializeError}
+use Rattle.asn1_headers.specs.declared.error.SerializeError.TheVariants as serialize_errors
 
 -- how many octets are missing
 abbrev pub name_of_needed : Needed → List ℕ

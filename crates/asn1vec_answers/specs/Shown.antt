@@ -5,17 +5,17 @@ use Rattle.std.specs.List.{join_by}
 use Rattle.std.specs.declared.cmp.Ordering.{Ordering}
 use Rattle.hex.specs.Hex.{encode_lower}
 use Rattle.x690.specs.Identifiers.{Identifier, IsCutIdentifier}
-use Rattle.asn1_rs.specs.declared.error.Err.{Err as Refusal}
-use Rattle.asn1_rs.specs.declared.error.Error.{Error}
-use Rattle.asn1_rs.specs.declared.error.SerializeError.{SerializeError}
-use Rattle.asn1_rs.specs.declared.error.SerializeError.TheVariants as serialize_errors
-use Rattle.asn1_rs.specs.Answers.{Exactly, TellsMemory}
-use Rattle.asn1_rs.specs.Ber.{EndsWithin}
+use Rattle.asn1_headers.specs.declared.error.Err.{Err as Refusal}
+use Rattle.asn1_headers.specs.declared.error.Error.{Error}
+use Rattle.asn1_headers.specs.declared.error.SerializeError.{SerializeError}
+use Rattle.asn1_headers.specs.declared.error.SerializeError.TheVariants as serialize_errors
+use Rattle.asn1_headers.specs.Answers.{Exactly, TellsMemory}
+use Rattle.asn1_headers.specs.Ber.{EndsWithin}
 use Rattle.asn1_rs.specs.Any.Value.{ElementValue}
 use Rattle.asn1_rs.specs.BitString.{Bits}
 use Rattle.asn1_rs.specs.Grammar.Form.{IsStrict}
-use Rattle.asn1_rs.specs.Writer.{MayRefuse}
-use Rattle.asn1_rs.specs.Error.{tells_of_io}
+use Rattle.asn1_headers.specs.Writer.{MayRefuse}
+use Rattle.asn1_headers.specs.Error.{tells_of_io}
 use Rattle.asn1vec_answers.specs.Names.{name_of_refusal, name_of_write_refusal}
 
 -- octets in hexadecimal digits of lower case, `-` for none

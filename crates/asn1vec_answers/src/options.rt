@@ -2,9 +2,9 @@
 ghost use Rattle.std.specs.Prelude.{◌++◌, []};
 ghost use Rattle.x690.specs.Identifiers.{IsCutIdentifier};
 ghost use Rattle.x690.specs.Rules.{ber_rule, der_rule};
-ghost use Rattle.asn1_rs.specs.Answers.{Exactly, TellsMemory, seen};
-ghost use Rattle.asn1_rs.specs.Ber.{EndsWithin};
-ghost use Rattle.asn1_rs.specs.declared.error.SerializeError.{SerializeError};
+ghost use Rattle.asn1_headers.specs.Answers.{Exactly, TellsMemory, seen};
+ghost use Rattle.asn1_headers.specs.Ber.{EndsWithin};
+ghost use Rattle.asn1_headers.specs.declared.error.SerializeError.{SerializeError};
 ghost use Rattle.asn1_rs.specs.Optional.{HeldRefuses, IsLeftOut, OptionGives, held_or};
 ghost use Rattle.asn1_rs.specs.ToDer.{Either, some_allocates};
 ghost use Rattle.asn1vec_answers.specs.Shown.{Encoding, HeldEncoding, IsWritten, option_text};

@@ -1,9 +1,9 @@
 //! How a reading is answered: the value, what follows it and its encoding, or the refusal.
 ghost use Rattle.std.specs.Prelude.{◌≡◌, ◌++◌, ◌||◌, ℕ, List, Result, Ok, OnOk};
-ghost use Rattle.asn1_rs.specs.Answers.{seen};
+ghost use Rattle.asn1_headers.specs.Answers.{seen};
 ghost use Rattle.asn1_rs.specs.ToDer.{Either, some_allocates};
-ghost use Rattle.asn1_rs.specs.declared.error.SerializeError.{SerializeError};
-ghost use Rattle.asn1_rs.specs.Error.{tells_of_io};
+ghost use Rattle.asn1_headers.specs.declared.error.SerializeError.{SerializeError};
+ghost use Rattle.asn1_headers.specs.Error.{tells_of_io};
 ghost use Rattle.asn1vec_answers.specs.Shown.{Encoding, Gains, Says, IsReadAnswer, IsWritten, ReadsByBer, ReadsByDer, SaysEncoding, SaysWriting};
 
 use crate::names::{push_refusal, push_write_refusal};

@@ -1,3 +1,4 @@
 pub mod Writes
 pub mod SignedSums
 pub mod Bytes
+mod Sorted

@@ -1,9 +1,16 @@
-//! The laws of strings in ascending order.
+//! Strings in ascending order, and its laws (X.690 11.6).
 
-ghost use Rattle.std.specs.Prelude.{ℕ, List, [], ◌∷◌, ◌++◌, ◌≡◌, ◌↔◌};
+ghost use Rattle.std.specs.Prelude.{ℕ, List, [], ◌∷◌, ◌++◌, ◌≡◌, ◌↔◌, map};
 ghost use Rattle.std.specs.List.Sorted.{IsPermutation};
 ghost use Rattle.x690.specs.Octets.{IsBeforeOrSame};
 ghost use Rattle.x690.specs.Ascending.{Ascending, arranged};
+
+/// Puts the strings into ascending order (X.690 11.6): dictionary order, each string as often as it was there.
+pub fn arrange(strings: &mut [&[u8]])
+    ensures { map (λ s. s.now) strings.new ≡ arranged (map (λ s. s.now) strings.old) }
+{
+    strings.sort_unstable();
+}
 
 /// Strings ascend where each one comes before the next in dictionary order or is the same (X.690 11.6). Then it comes
 /// before each later one or is the same.

@@ -5,7 +5,7 @@ use Rattle.x690.specs.Identifiers.{Identifier}
 use Rattle.x690.specs.Lengths.{definite}
 use Rattle.x690.specs.Elements.{Parts}
 use Rattle.asn1_rs.specs.declared.asn1_types.any.Any.{Any}
-use Rattle.asn1_rs.specs.Header.{identifier_of}
+use Rattle.asn1_headers.specs.Header.{identifier_of}
 use Rattle.asn1_rs.specs.Kinds.{ElementGrammar}
 
 -- what an element says, however its length was written

@@ -1,7 +1,7 @@
 -- Elements of any type, as they are written.
 use Rattle.std.specs.Prelude.{ℕ, List, length}
 use Rattle.x690.specs.Strict.{header_octets}
-use Rattle.asn1_rs.specs.Class.{class_number}
+use Rattle.asn1_headers.specs.Class.{class_number}
 use Rattle.asn1_rs.specs.declared.asn1_types.any.Any.{Any}
 
 abbrev pub content_of : Any → List ℕ

@@ -4,7 +4,7 @@ use Rattle.x690.specs.Octets.{IsOctets}
 use Rattle.x690.specs.Digits.{twos_complement_value}
 use Rattle.x690.specs.Integers.{IsIntegerContent, unsigned_octets}
 use Rattle.x690.specs.Signed.{IsSigned, signed_octets}
-use Rattle.asn1_rs.specs.declared.error.Error.{Error}
+use Rattle.asn1_headers.specs.declared.error.Error.{Error}
 use Rattle.asn1_rs.specs.Integer.{IsUnsigned, UnsignedRefuses, SignedRefuses}
 
 -- The integer that a value is, and its strict contents octets. Which integers the type holds, and how octets of another one are refused.

@@ -4,8 +4,8 @@ use Rattle.std.specs.Cow.{cow_slice_items, IsBorrowedSlice}
 use Rattle.x690.specs.Octets.{IsOctets}
 use Rattle.x690.specs.Integers.{IsShortestInteger, IsIntegerContent}
 use Rattle.asn1_rs.specs.declared.asn1_types.integer.octets.Integer.{Integer}
-use Rattle.asn1_rs.specs.declared.error.Error.{Error}
-use Rattle.asn1_rs.specs.declared.error.Error.TheVariants.{OutOfMemory}
+use Rattle.asn1_headers.specs.declared.error.Error.{Error}
+use Rattle.asn1_headers.specs.declared.error.Error.TheVariants.{OutOfMemory}
 use Rattle.asn1_rs.specs.Checks.{nothing}
 use Rattle.asn1_rs.specs.Integer.{integer_number, IntegerCheckGives}
 use Rattle.asn1_rs.specs.Leaf.{Leaf}

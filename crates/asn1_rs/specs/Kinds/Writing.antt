@@ -2,12 +2,12 @@
 use Rattle.std.specs.Prelude.{ℕ, Bool, true, false, List, ◌++◌, length, ◌≡◌, ◌<◌}
 use Rattle.std.specs.List.{All, flat_map}
 use Rattle.x690.specs.Strict.{header_octets}
-use Rattle.asn1_rs.specs.declared.error.Error.{Error}
-use Rattle.asn1_rs.specs.declared.error.SerializeError.{SerializeError}
+use Rattle.asn1_headers.specs.declared.error.Error.{Error}
+use Rattle.asn1_headers.specs.declared.error.SerializeError.{SerializeError}
 use Rattle.x690.specs.Identifiers.{Identifier}
 use Rattle.asn1_rs.specs.Grammar.Form.{universal}
 use Rattle.asn1_rs.specs.Grammar.{FormTakes}
-use Rattle.asn1_rs.specs.Tag.{is_container_number}
+use Rattle.asn1_headers.specs.Tag.{is_container_number}
 use Rattle.asn1_rs.specs.Kinds.{ElementGrammar}
 use Rattle.asn1_rs.specs.Lists.{SomeRefuses}
 use Rattle.asn1_rs.specs.Set.{set_content}

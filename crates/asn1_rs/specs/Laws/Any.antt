@@ -13,22 +13,22 @@ use Rattle.x690.specs.Faults.{Breach, Fault, tag_fault, IsLackingOrCut}
 use Rattle.x690.specs.Nested.{IsElement}
 use Rattle.x690.specs.Nested.Contents.{IsContent}
 use Rattle.x690.specs.Laws.Nested.Contents.{content_unique, content_extends, one_content_fault, content_or_fault}
-use Rattle.asn1_rs.specs.declared.error.Err.{Err as Refusal}
-use Rattle.asn1_rs.specs.declared.error.Err.TheVariants.{Incomplete as cut, Error as refused, Failure as failed}
-use Rattle.asn1_rs.specs.declared.error.Error.TheVariants.{InvalidTag}
-use Rattle.asn1_rs.specs.Error.{Converted}
-use Rattle.asn1_rs.specs.declared.error.Error.{Error}
+use Rattle.asn1_headers.specs.declared.error.Err.{Err as Refusal}
+use Rattle.asn1_headers.specs.declared.error.Err.TheVariants.{Incomplete as cut, Error as refused, Failure as failed}
+use Rattle.asn1_headers.specs.declared.error.Error.TheVariants.{InvalidTag}
+use Rattle.asn1_headers.specs.Error.{Converted}
+use Rattle.asn1_headers.specs.declared.error.Error.{Error}
 use Rattle.asn1_rs.specs.declared.asn1_types.any.Any.{Any}
-use Rattle.asn1_rs.specs.Answers.{Front, TellsBeginning}
-use Rattle.asn1_rs.specs.declared.header.Header.{Header}
-use Rattle.asn1_rs.specs.Header.Reading.{refusal_of, der_refusal, ber_refusal, KeepsIdentifier}
-use Rattle.asn1_rs.specs.Header.{identifier_of, raw_tag_of}
-use Rattle.asn1_rs.specs.Ber.{BerContentGives, max_depth}
+use Rattle.asn1_headers.specs.Answers.{Front, TellsBeginning}
+use Rattle.asn1_headers.specs.declared.header.Header.{Header}
+use Rattle.asn1_headers.specs.Header.Reading.{refusal_of, der_refusal, ber_refusal, KeepsIdentifier}
+use Rattle.asn1_headers.specs.Header.{identifier_of, raw_tag_of}
+use Rattle.asn1_headers.specs.Ber.{BerContentGives, max_depth}
 use Rattle.asn1_rs.specs.Any.{AnyGives, BeginsWithElement, IsTheElement, IsDefiniteOr, parts_of, BerElementGives, DerElementGives, ElementLasts, RefusalLasts}
 use Rattle.asn1_rs.specs.Laws.Any.Value.{the_element_parts}
 use Rattle.asn1_rs.specs.Traits.{BerGives, DerGives}
 use Rattle.asn1_rs.specs.Laws.Readers.{AreElements, speaks_itself, speaks_now}
-use Rattle.asn1_rs.specs.Content.{ContentStays}
+use Rattle.asn1_headers.specs.Content.{ContentStays}
 
 -- as the fault that it tells of
 pub tells_beginning : (refuses : Breach → Error) (fault : Fault) (r : Refusal Error) (ends_within : Type 0) (more : List ℕ) → r ≡ refusal_of refuses fault → IsLackingOrCut ends_within fault more → TellsBeginning ends_within r more

@@ -8,15 +8,15 @@ use Rattle.x690.specs.Rules.{Rule}
 use Rattle.x690.specs.Faults.{Breach, Fault}
 use Rattle.x690.specs.Laws.Headers.{header_unique}
 use Rattle.x690.specs.Joined.{IsOneFront}
-use Rattle.asn1_rs.specs.declared.error.Err.{Err as Refusal}
-use Rattle.asn1_rs.specs.declared.error.Error.{Error}
-use Rattle.asn1_rs.specs.declared.header.Header.{Header}
+use Rattle.asn1_headers.specs.declared.error.Err.{Err as Refusal}
+use Rattle.asn1_headers.specs.declared.error.Error.{Error}
+use Rattle.asn1_headers.specs.declared.header.Header.{Header}
 use Rattle.asn1_rs.specs.declared.asn1_types.any.Any.{Any}
-use Rattle.asn1_rs.specs.Answers.{Front, Exactly, RefusedAsBeginning, RefusedBeforeEnd}
+use Rattle.asn1_headers.specs.Answers.{Front, Exactly, RefusedAsBeginning, RefusedBeforeEnd}
 use Rattle.asn1_rs.specs.Any.{AnyGives, parts_of}
-use Rattle.asn1_rs.specs.Header.Reading.{refusal_of, HeaderGives}
-use Rattle.asn1_rs.specs.Header.{identifier_of}
-use Rattle.asn1_rs.specs.Length.{form_of}
+use Rattle.asn1_headers.specs.Header.Reading.{refusal_of, HeaderGives}
+use Rattle.asn1_headers.specs.Header.{identifier_of}
+use Rattle.asn1_headers.specs.Length.{form_of}
 use Rattle.asn1_rs.specs.Laws.Any.{beginning_refused}
 use Rattle.asn1_rs.specs.Laws.Readers.{AreElements}
 use Rattle.asn1_rs.specs.Laws.Header.{header_beginning_refused}

@@ -1,7 +1,7 @@
 -- The end of contents is lawful, as far as it is read.
 use Rattle.std.proofs.Common.{refl, lit<}
 use Rattle.x690.specs.Nested.{IsElement}
-use Rattle.asn1_rs.specs.Ber.{max_depth}
+use Rattle.asn1_headers.specs.Ber.{max_depth}
 use Rattle.asn1_rs.specs.EndOfContent.{end_leaf, by_ber_alone}
 use Rattle.asn1_rs.specs.Grammar.{NoCheck}
 use Rattle.asn1_rs.specs.Grammar.Item.{IsLawfulItem}

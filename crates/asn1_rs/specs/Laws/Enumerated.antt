@@ -4,7 +4,7 @@ use Rattle.std.proofs.Common.{◌∙◌, sym, subst, refl, lit<, eqb-true, eq-eq
 use Rattle.x690.specs.Integers.{unsigned_octets}
 use Rattle.x690.specs.Laws.Integers.Unsigned.{unsigned_octets_content, unsigned_octets_value}
 use Rattle.asn1_rs.specs.declared.asn1_types.enumerated.Enumerated.{Enumerated}
-use Rattle.asn1_rs.specs.declared.error.Error.TheVariants.{IntegerTooLarge}
+use Rattle.asn1_headers.specs.declared.error.Error.TheVariants.{IntegerTooLarge}
 use Rattle.asn1_rs.specs.Checks.{is_primitive, content_check}
 use Rattle.asn1_rs.specs.Leaf.{IsLawfulLeaf}
 use Rattle.asn1_rs.specs.Enumerated.{enumerated_leaf, IsWord, SaysWord}

@@ -10,15 +10,15 @@ use Rattle.x690.specs.Faults.{Breach, tag_fault}
 use Rattle.x690.specs.Laws.Headers.{header_unique}
 use Rattle.x690.specs.Laws.Faults.Beginnings.{cut_header_fault, header_beginning}
 use Rattle.x690.specs.Laws.Faults.{no_header, header_or_fault, header_fault_counts, one_header_fault}
-use Rattle.asn1_rs.specs.declared.error.Err.{Err as Refusal}
-use Rattle.asn1_rs.specs.declared.error.Err.TheVariants.{Error as refused}
-use Rattle.asn1_rs.specs.declared.error.Error.{Error}
-use Rattle.asn1_rs.specs.declared.error.Error.TheVariants.{InvalidTag}
-use Rattle.asn1_rs.specs.declared.header.Header.{Header}
-use Rattle.asn1_rs.specs.Answers.{seen, TellsBeginning}
-use Rattle.asn1_rs.specs.Header.{identifier_of}
-use Rattle.asn1_rs.specs.Header.Reading.{refusal_of, HeaderGives, HeaderLasts, HeaderRefusalLasts}
-use Rattle.asn1_rs.specs.Length.{form_of}
+use Rattle.asn1_headers.specs.declared.error.Err.{Err as Refusal}
+use Rattle.asn1_headers.specs.declared.error.Err.TheVariants.{Error as refused}
+use Rattle.asn1_headers.specs.declared.error.Error.{Error}
+use Rattle.asn1_headers.specs.declared.error.Error.TheVariants.{InvalidTag}
+use Rattle.asn1_headers.specs.declared.header.Header.{Header}
+use Rattle.asn1_headers.specs.Answers.{seen, TellsBeginning}
+use Rattle.asn1_headers.specs.Header.{identifier_of}
+use Rattle.asn1_headers.specs.Header.Reading.{refusal_of, HeaderGives, HeaderLasts, HeaderRefusalLasts}
+use Rattle.asn1_headers.specs.Length.{form_of}
 use Rattle.asn1_rs.specs.Laws.Readers.{speaks_itself}
 use Rattle.asn1_rs.specs.Laws.Any.{tells_beginning}
 

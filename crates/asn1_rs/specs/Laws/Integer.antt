@@ -12,9 +12,9 @@ use Rattle.x690.specs.Lengths.{LengthForm, definite, indefinite}
 use Rattle.x690.specs.Elements.{Parts}
 use Rattle.x690.specs.Integers.{HasSpareZeros, HasSpareOnes, IsIntegerContent}
 use Rattle.x690.specs.Laws.Integers.{integer_content_unique, integer_content_one_value}
-use Rattle.asn1_rs.specs.declared.error.Error.{Error}
-use Rattle.asn1_rs.specs.declared.error.Error.TheVariants.{ConstructUnexpected, IndefiniteLengthUnexpected, DerConstraintFailed, OutOfMemory}
-use Rattle.asn1_rs.specs.declared.error.DerConstraint.TheVariants.{IntegerEmpty, IntegerLeadingZeroes, IntegerLeadingFF}
+use Rattle.asn1_headers.specs.declared.error.Error.{Error}
+use Rattle.asn1_headers.specs.declared.error.Error.TheVariants.{ConstructUnexpected, IndefiniteLengthUnexpected, DerConstraintFailed, OutOfMemory}
+use Rattle.asn1_headers.specs.declared.error.DerConstraint.TheVariants.{IntegerEmpty, IntegerLeadingZeroes, IntegerLeadingFF}
 use Rattle.asn1_rs.specs.Any.{parts_of}
 use Rattle.asn1_rs.specs.Traits.{OfParts}
 use Rattle.asn1_rs.specs.Grammar.Form.{IsOneForm, IsOneValue, FitsElement}

@@ -13,7 +13,7 @@ use Rattle.std.specs.declared.alloc.Global.{Global}
 use Rattle.std.specs.declared.borrow.CowSlice.{CowSlice}
 use Rattle.asn1_rs.specs.Laws.Checks.{nothing_is, is_constructed_is}
 use Rattle.asn1_rs.specs.Laws.OctetString.{contents_lawful}
-use Rattle.asn1_rs.specs.Tag.{is_container_number}
+use Rattle.asn1_headers.specs.Tag.{is_container_number}
 
 kept_lawful : {S : Type 0} (number : ℕ) (octets : S → List ℕ) → number < 31 → is_container_number number ≡ true → IsLawfulLeaf (kept_leaf number octets)
 kept_lawful number octets small constructed = contents_lawful number octets is_constructed nothing small is_constructed_is nothing_is (λ p h. (h ∙ constructed, tt))

@@ -5,13 +5,13 @@ use Rattle.std.proofs.Common.{◌≡◌, refl, subst, inl}
 use Rattle.x690.specs.Elements.{IsDerElement}
 use Rattle.x690.specs.Nested.{IsElement}
 use Rattle.asn1_rs.specs.declared.asn1_types.any.Any.{Any}
-use Rattle.asn1_rs.specs.declared.error.Err.{Err as Refusal}
-use Rattle.asn1_rs.specs.declared.error.Error.{Error}
-use Rattle.asn1_rs.specs.declared.error.Error.TheVariants.{OutOfMemory}
+use Rattle.asn1_headers.specs.declared.error.Err.{Err as Refusal}
+use Rattle.asn1_headers.specs.declared.error.Error.{Error}
+use Rattle.asn1_headers.specs.declared.error.Error.TheVariants.{OutOfMemory}
 use Rattle.asn1_rs.specs.Any.{parts_of}
-use Rattle.asn1_rs.specs.Answers.{Exactly, IsOther}
+use Rattle.asn1_headers.specs.Answers.{Exactly, IsOther}
 use Rattle.asn1_rs.specs.Grammar.{NoCheck, TakesBody}
-use Rattle.asn1_rs.specs.Ber.{max_depth}
+use Rattle.asn1_headers.specs.Ber.{max_depth}
 use Rattle.asn1_rs.specs.Grammar.Item.{ItemGrammar, IsLawfulItem, by_held}
 use Rattle.asn1_rs.specs.Kinds.{ElementGrammar, IsLawfulElement, IsExactConversion, item_grammar, holding, HoldingGives, HoldingReads}
 use Rattle.asn1_rs.specs.Kinds.Writing.{IsWrittenElement}

@@ -15,26 +15,26 @@ use Rattle.x690.specs.Elements.{Parts, IsDerElement}
 use Rattle.x690.specs.Faults.{DerElementFault}
 use Rattle.x690.specs.Nested.{IsElement}
 use Rattle.x690.specs.Laws.Elements.{definite_element_two, definite_element_is_octets}
-use Rattle.asn1_rs.specs.declared.error.Err.{Err as Refusal}
-use Rattle.asn1_rs.specs.declared.error.Err.TheVariants.{Incomplete as cut, Error as refused, Failure as failed}
-use Rattle.asn1_rs.specs.declared.error.Error.{Error}
-use Rattle.asn1_rs.specs.declared.error.Error.TheVariants as errors
+use Rattle.asn1_headers.specs.declared.error.Err.{Err as Refusal}
+use Rattle.asn1_headers.specs.declared.error.Err.TheVariants.{Incomplete as cut, Error as refused, Failure as failed}
+use Rattle.asn1_headers.specs.declared.error.Error.{Error}
+use Rattle.asn1_headers.specs.declared.error.Error.TheVariants as errors
 use Rattle.x690.specs.Rules.{der_rule}
 use Rattle.x690.specs.Laws.StrictElements.{der_allows_strict}
 use Rattle.x690.specs.Joined.{IsOneFront, IsJoined}
 use Rattle.x690.specs.Laws.Collections.{zip_joined}
 use Rattle.x690.specs.Laws.Joined.{joined_map, joined_values, joined_octets, joined_one, joined_same, ends_unjoined}
-use Rattle.asn1_rs.specs.Header.Reading.{der_breach}
+use Rattle.asn1_headers.specs.Header.Reading.{der_breach}
 use Rattle.asn1_rs.specs.declared.asn1_types.any.Any.{Any}
-use Rattle.asn1_rs.specs.Error.{HeldIn, FlattenedTo}
+use Rattle.asn1_headers.specs.Error.{HeldIn, FlattenedTo}
 use Rattle.asn1_rs.specs.Kinds.{IsExactCheck}
 use Rattle.asn1_rs.specs.Any.{parts_of, IsTheElement}
 use Rattle.asn1_rs.specs.Traits.{OfParts}
 use Rattle.asn1_rs.specs.Laws.Any.Value.{the_element_parts}
-use Rattle.asn1_rs.specs.Answers.{Exactly, TellsMemory, IsOther}
+use Rattle.asn1_headers.specs.Answers.{Exactly, TellsMemory, IsOther}
 use Rattle.asn1_rs.specs.Grammar.Form.{IsOneForm, IsOneValue, FitsElement, HasValues, IsStrict, universal, header_of, WritesByValue, WritesForm}
 use Rattle.asn1_rs.specs.Grammar.{IsOneBody, TakesBody, Checks, FormChecks, FormBodies, FormTakes, FormNumber, NoCheck, DerWord, made, of_class}
-use Rattle.asn1_rs.specs.Ber.{max_depth}
+use Rattle.asn1_headers.specs.Ber.{max_depth}
 use Rattle.asn1_rs.specs.Sequence.Iterator.{IsWalk, TakesItem, EndsItem, TellsNoWord, IsMemory}
 use Rattle.asn1_rs.specs.Laws.Sequence.Iterator.{octets_kept, lawful_walk, items_joined, items_ended}
 use Rattle.asn1_rs.specs.Grammar.Item.{ItemGrammar, IsLawfulItem}
@@ -42,7 +42,7 @@ use Rattle.asn1_rs.specs.declared.asn1_types.sequence.sequence_of.SequenceOf.{Se
 use Rattle.asn1_rs.specs.Sequence.SequenceOf.{sequence_items, IsSequenceOf}
 use Rattle.asn1_rs.specs.Lists.{list_grammar, ListBody, ListOf, CheckedElement, ListCheck, StrictWord, ListForm, IsListOr, ItemsGive, ListTakes, ListReads, CheckedGives, ListCheckGives, SomeRefuses, has_items}
 use Rattle.asn1_rs.specs.ToDer.{HasNone, Either, IsWritable, WrittenRefusal}
-use Rattle.asn1_rs.specs.declared.error.SerializeError.{SerializeError}
+use Rattle.asn1_headers.specs.declared.error.SerializeError.{SerializeError}
 use Rattle.asn1_rs.specs.Laws.Readers.{element_exact, element_spares, der_breach_spares, der_elements, ber_elements}
 use Rattle.asn1_rs.specs.Laws.Words.{word_one, strict_element, one_strict, strict_apart, strict_ber_word, strict_der_word}
 use Rattle.asn1_rs.specs.Laws.Forms.{universal_one, universal_value, universal_fits, strict_written}

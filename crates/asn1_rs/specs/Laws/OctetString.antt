@@ -8,7 +8,7 @@ use Rattle.x690.specs.Octets.{IsOctets}
 use Rattle.asn1_rs.specs.declared.asn1_types.octet_string.OctetString.{OctetString}
 use Rattle.asn1_rs.specs.Leaf.{IsLawfulLeaf}
 use Rattle.asn1_rs.specs.Checks.{CheckGives, IsCheck, nothing, is_primitive}
-use Rattle.asn1_rs.specs.Tag.{is_container_number}
+use Rattle.asn1_headers.specs.Tag.{is_container_number}
 use Rattle.x690.specs.Elements.{Parts}
 use Rattle.asn1_rs.specs.OctetString.{contents_leaf, octets_leaf, octet_string_number, octet_string_leaf, slice_leaf, octets_of}
 use Rattle.asn1_rs.specs.Laws.Checks.{nothing_is, is_primitive_is}

@@ -13,16 +13,16 @@ use Rattle.x690.specs.Faults.{Breach}
 use Rattle.x690.specs.Laws.Headers.{header_unique, header_two}
 use Rattle.x690.specs.Laws.Faults.{header_or_fault}
 use Rattle.x690.specs.Joined.{IsOneFront}
-use Rattle.asn1_rs.specs.declared.error.Err.{Err as Refusal}
-use Rattle.asn1_rs.specs.declared.error.Error.{Error}
-use Rattle.asn1_rs.specs.declared.tag.Tag.{Tag}
-use Rattle.asn1_rs.specs.declared.header.Header.{Header}
-use Rattle.asn1_rs.specs.Answers.{Exactly, ReadsBack}
+use Rattle.asn1_headers.specs.declared.error.Err.{Err as Refusal}
+use Rattle.asn1_headers.specs.declared.error.Error.{Error}
+use Rattle.asn1_headers.specs.declared.tag.Tag.{Tag}
+use Rattle.asn1_headers.specs.declared.header.Header.{Header}
+use Rattle.asn1_headers.specs.Answers.{Exactly, ReadsBack}
 use Rattle.asn1_rs.specs.Grammar.Form.{IsStrict}
 use Rattle.asn1_rs.specs.Grammar.{FormNumber}
-use Rattle.asn1_rs.specs.Header.{identifier_of}
-use Rattle.asn1_rs.specs.Header.Reading.{HeaderGives, refusal_of}
-use Rattle.asn1_rs.specs.Length.{form_of}
+use Rattle.asn1_headers.specs.Header.{identifier_of}
+use Rattle.asn1_headers.specs.Header.Reading.{HeaderGives, refusal_of}
+use Rattle.asn1_headers.specs.Length.{form_of}
 use Rattle.asn1_rs.specs.Optional.{IsLeftOut, OptionGives, ReadsHeldBack, in_some}
 use Rattle.asn1_rs.specs.Laws.Words.{strict_element, read_back}
 

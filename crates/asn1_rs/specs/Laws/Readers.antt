@@ -15,18 +15,18 @@ use Rattle.x690.specs.Laws.Faults.Beginnings.{cut_header_fault, within_fault, de
 use Rattle.x690.specs.Laws.Words.{definite_words, nested_words}
 use Rattle.x690.specs.Joined.{NoFront, IsOneFront}
 use Rattle.asn1_rs.specs.declared.asn1_types.any.Any.{Any}
-use Rattle.asn1_rs.specs.declared.error.Err.{Err as Refusal}
-use Rattle.asn1_rs.specs.declared.error.Err.TheVariants.{Error as refused, Incomplete as cut, Failure as failed}
-use Rattle.asn1_rs.specs.declared.error.Needed.TheVariants.{Size, Unknown}
-use Rattle.asn1_rs.specs.declared.error.Error.{Error}
-use Rattle.asn1_rs.specs.declared.error.Error.TheVariants.{OutOfMemory}
-use Rattle.asn1_rs.specs.Error.{Converted, HeldIn}
-use Rattle.asn1_rs.specs.Header.Reading.{refusal_of, der_breach, ber_breach}
+use Rattle.asn1_headers.specs.declared.error.Err.{Err as Refusal}
+use Rattle.asn1_headers.specs.declared.error.Err.TheVariants.{Error as refused, Incomplete as cut, Failure as failed}
+use Rattle.asn1_headers.specs.declared.error.Needed.TheVariants.{Size, Unknown}
+use Rattle.asn1_headers.specs.declared.error.Error.{Error}
+use Rattle.asn1_headers.specs.declared.error.Error.TheVariants.{OutOfMemory}
+use Rattle.asn1_headers.specs.Error.{Converted, HeldIn}
+use Rattle.asn1_headers.specs.Header.Reading.{refusal_of, der_breach, ber_breach}
 use Rattle.asn1_rs.specs.Any.{parts_of}
-use Rattle.asn1_rs.specs.Answers.{Front, IsFinal, Speaks, Exactly, TellsMemory, IsOther}
+use Rattle.asn1_headers.specs.Answers.{Front, IsFinal, Speaks, Exactly, TellsMemory, IsOther}
 use Rattle.asn1_rs.specs.Grammar.{ElementWord, DerWord, TakesBody, Checks, NoCheck}
 use Rattle.asn1_rs.specs.Traits.{ElementGives, DerGives, PassesAll}
-use Rattle.asn1_rs.specs.Ber.{max_depth, EndsWithin}
+use Rattle.asn1_headers.specs.Ber.{max_depth, EndsWithin}
 
 -- What the laws ask of elements: one alone begins an input, and a fault is the only one, and final.
 pub record AreElements (ElementOf : List ℕ → Parts → Type 0) (FaultOf : List ℕ → Fault → Type 0) (IsCut : List ℕ → Type 0) : Type 0 where

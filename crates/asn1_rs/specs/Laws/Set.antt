@@ -24,14 +24,14 @@ use Rattle.x690.specs.Laws.Collections.{permutation_from_multiset, same_multiset
 use Rattle.x690.specs.Laws.Collections.Differ.{AllDiffer-permutation}
 use Rattle.x690.specs.Laws.Collections.Zips.{zip_permutation, zip_right}
 use Rattle.x690.specs.Laws.Joined.{joined_map, joined_values, joined_octets}
-use Rattle.asn1_rs.specs.declared.error.Err.{Err as Refusal}
-use Rattle.asn1_rs.specs.declared.error.Error.{Error}
+use Rattle.asn1_headers.specs.declared.error.Err.{Err as Refusal}
+use Rattle.asn1_headers.specs.declared.error.Error.{Error}
 use Rattle.asn1_rs.specs.declared.asn1_types.set.set_of.SetOf.{SetOf}
-use Rattle.asn1_rs.specs.Answers.{Exactly, TellsMemory}
-use Rattle.asn1_rs.specs.declared.error.SerializeError.{SerializeError}
+use Rattle.asn1_headers.specs.Answers.{Exactly, TellsMemory}
+use Rattle.asn1_headers.specs.declared.error.SerializeError.{SerializeError}
 use Rattle.asn1_rs.specs.Grammar.Form.{IsOneForm, IsOneValue, FitsElement, HasValues, IsStrict, universal, header_of, WritesByValue, WritesForm}
 use Rattle.asn1_rs.specs.Grammar.{IsOneBody, TakesBody, FormChecks, FormBodies, FormTakes, FormNumber, NoCheck}
-use Rattle.asn1_rs.specs.Ber.{max_depth}
+use Rattle.asn1_headers.specs.Ber.{max_depth}
 use Rattle.asn1_rs.specs.Grammar.Item.{ItemGrammar, IsLawfulItem}
 use Rattle.asn1_rs.specs.declared.asn1_types.any.Any.{Any}
 use Rattle.asn1_rs.specs.Any.{parts_of}

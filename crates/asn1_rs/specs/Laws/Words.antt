@@ -8,11 +8,11 @@ use Rattle.x690.specs.Elements.{Parts, IsDefiniteElement, IsStrictElement, Allow
 use Rattle.x690.specs.Laws.Nested.{definite_is_nested}
 use Rattle.x690.specs.Laws.StrictElements.{der_allows_strict, ber_allows_strict, strict_is_definite, strict_element_one, strict_element_unique}
 use Rattle.x690.specs.Joined.{IsOneFront}
-use Rattle.asn1_rs.specs.declared.error.Err.{Err as Refusal}
-use Rattle.asn1_rs.specs.Answers.{Exactly, ReadsBack}
+use Rattle.asn1_headers.specs.declared.error.Err.{Err as Refusal}
+use Rattle.asn1_headers.specs.Answers.{Exactly, ReadsBack}
 use Rattle.asn1_rs.specs.Grammar.Form.{IsOneForm, IsOneValue, IsStrict}
 use Rattle.asn1_rs.specs.Grammar.{IsOneBody, ElementWord, BerWord, DerWord, FormChecks, FormBodies, made}
-use Rattle.asn1_rs.specs.Ber.{max_depth}
+use Rattle.asn1_headers.specs.Ber.{max_depth}
 use Rattle.asn1_rs.specs.Laws.Readers.{none_now}
 
 -- words of one body, over elements of which one alone begins an input

@@ -2,14 +2,14 @@
 use Rattle.std.specs.Prelude.{ℕ, Bool, true, IsTrue, ◌≡◌, ◌≢◌, ◌<◌, ◌≤◌, ◌⊎◌, List, [], ◌∷◌, ◌++◌, length, map, Result, Ok, Err, Option, Some, None}
 use Rattle.std.specs.List.{AllZip, concat}
 use Rattle.std.specs.Iterator.Runs.{Run}
-use Rattle.asn1_rs.specs.declared.error.Err.{Err as Refusal}
-use Rattle.asn1_rs.specs.declared.error.Error.{Error}
-use Rattle.asn1_rs.specs.declared.error.Error.TheVariants as errors
+use Rattle.asn1_headers.specs.declared.error.Err.{Err as Refusal}
+use Rattle.asn1_headers.specs.declared.error.Error.{Error}
+use Rattle.asn1_headers.specs.declared.error.Error.TheVariants as errors
 use Rattle.asn1_rs.specs.declared.asn1_types.sequence.iterator.SequenceIterator.{SequenceIterator}
-use Rattle.asn1_rs.specs.Error.{FlattenedTo}
+use Rattle.asn1_headers.specs.Error.{FlattenedTo}
 use Rattle.x690.specs.Octets.{IsOctets}
 use Rattle.x690.specs.Joined.{NoFront, IsOneFront, IsJoined}
-use Rattle.asn1_rs.specs.Answers.{Exactly}
+use Rattle.asn1_headers.specs.Answers.{Exactly}
 use Rattle.asn1_rs.specs.declared.asn1_types.any.Any.{Any}
 use Rattle.asn1_rs.specs.Any.{IsTheElement}
 use Rattle.asn1_rs.specs.Traits.{BerGives}

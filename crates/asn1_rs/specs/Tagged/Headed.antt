@@ -2,7 +2,7 @@
 use Rattle.std.specs.Prelude.{◌≡◌, ℕ, ◌<◌, ◌^◌, Bool, true, List}
 use Rattle.x690.specs.Identifiers.{Identifier}
 use Rattle.x690.specs.Elements.{Parts, IsDerElement}
-use Rattle.asn1_rs.specs.Answers.{Front}
+use Rattle.asn1_headers.specs.Answers.{Front}
 use Rattle.asn1_rs.specs.Grammar.{BerWord, DerWord, NoCheck}
 use Rattle.asn1_rs.specs.Grammar.Item.{ItemGrammar}
 use Rattle.asn1_rs.specs.Tagged.Explicit.{ExplicitCheck, ExplicitForm}

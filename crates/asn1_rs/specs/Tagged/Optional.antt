@@ -3,12 +3,12 @@ use Rattle.std.specs.Prelude.{◌≡◌, ◌≢◌, ◌⊎◌, ℕ, List, [], Op
 use Rattle.std.specs.Borrow.{Bor}
 use Rattle.x690.specs.Elements.{Parts}
 use Rattle.x690.specs.Faults.{Fault}
-use Rattle.asn1_rs.specs.declared.class.Class.{Class}
-use Rattle.asn1_rs.specs.declared.header.Header.{Header}
-use Rattle.asn1_rs.specs.declared.tag.Tag.{Tag}
-use Rattle.asn1_rs.specs.declared.error.Error.{Error}
-use Rattle.asn1_rs.specs.declared.error.Err.{Err as Refusal}
-use Rattle.asn1_rs.specs.Header.{class_of, tag_of}
+use Rattle.asn1_headers.specs.declared.class.Class.{Class}
+use Rattle.asn1_headers.specs.declared.header.Header.{Header}
+use Rattle.asn1_headers.specs.declared.tag.Tag.{Tag}
+use Rattle.asn1_headers.specs.declared.error.Error.{Error}
+use Rattle.asn1_headers.specs.declared.error.Err.{Err as Refusal}
+use Rattle.asn1_headers.specs.Header.{class_of, tag_of}
 use Rattle.asn1_rs.specs.Tagged.{OfElement, ThenGives, IsOtherClass}
 
 -- What looking for an element of this tag number may answer at the one that is there. With another number it is not the one that is

@@ -3,15 +3,15 @@ use Rattle.std.specs.Prelude.{◌≡◌, ◌≢◌, ◌⊎◌, ℕ, List, Some, 
 use Rattle.x690.specs.Elements.{Parts}
 use Rattle.asn1_rs.specs.declared.asn1_types.any.Any.{Any}
 use Rattle.asn1_rs.specs.declared.asn1_types.tagged.parser.TaggedParser.{TaggedParser}
-use Rattle.asn1_rs.specs.declared.class.Class.{Class}
-use Rattle.asn1_rs.specs.declared.header.Header.{Header}
-use Rattle.asn1_rs.specs.declared.tag.Tag.{Tag}
-use Rattle.asn1_rs.specs.declared.error.Error.{Error}
-use Rattle.asn1_rs.specs.declared.error.Error.TheVariants.{UnexpectedTag, UnexpectedClass}
-use Rattle.asn1_rs.specs.declared.error.Err.{Err as Refusal}
-use Rattle.asn1_rs.specs.declared.error.Err.TheVariants.{Error as refused}
+use Rattle.asn1_headers.specs.declared.class.Class.{Class}
+use Rattle.asn1_headers.specs.declared.header.Header.{Header}
+use Rattle.asn1_headers.specs.declared.tag.Tag.{Tag}
+use Rattle.asn1_headers.specs.declared.error.Error.{Error}
+use Rattle.asn1_headers.specs.declared.error.Error.TheVariants.{UnexpectedTag, UnexpectedClass}
+use Rattle.asn1_headers.specs.declared.error.Err.{Err as Refusal}
+use Rattle.asn1_headers.specs.declared.error.Err.TheVariants.{Error as refused}
 use Rattle.asn1_rs.specs.Any.{parts_of}
-use Rattle.asn1_rs.specs.Header.{class_of, is_constructed_of, tag_of, length_of, raw_tag_of, HasParts}
+use Rattle.asn1_headers.specs.Header.{class_of, is_constructed_of, tag_of, length_of, raw_tag_of, HasParts}
 use Rattle.asn1_rs.specs.Tagged.{OfElement}
 
 abbrev pub header_of : {K T E : Type 0} → TaggedParser K T E → Header

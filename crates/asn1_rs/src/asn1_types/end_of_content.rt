@@ -9,10 +9,10 @@ ghost use Rattle.asn1_rs.specs.Laws.Leaf.{leaf_converts};
 ghost use Rattle.asn1_rs.specs.Traits.{OfParts};
 
 use crate::asn1_types::any::Any;
-use crate::error::Error;
 use crate::laws::{Grammar, LawfulBody, LawfulItem, LawfulTagged, TakesClass};
-use crate::tag::Tag;
 use crate::traits::{FromAny, Tagged};
+use asn1_headers::error::Error;
+use asn1_headers::tag::Tag;
 use std::alloc::Global;
 
 /// The end of indefinite contents, an element of tag number 0 without contents octets (X.690 8.1.5).

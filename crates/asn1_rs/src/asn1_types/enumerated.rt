@@ -11,13 +11,13 @@ ghost use Rattle.asn1_rs.specs.Traits.{OfParts};
 
 use crate::asn1_types::any::Any;
 use crate::asn1_types::integer::put_unsigned_content;
-use crate::error::{Error, SerializeResult};
 use crate::kinds::writing::WritesElement;
 use crate::kinds::{ElementKind, HasKind, LawfulConversion, LawfulElement};
 use crate::laws::LawfulMember;
-use crate::tag::Tag;
 use crate::traits::{CheckDerConstraints, DerAutoDerive, FromAny, Tagged};
-use crate::writer::DerWrite;
+use asn1_headers::error::{Error, SerializeResult};
+use asn1_headers::tag::Tag;
+use asn1_headers::writer::DerWrite;
 use std::alloc::Global;
 use x690::integers::{unsigned_number, unsigned_octets_count};
 

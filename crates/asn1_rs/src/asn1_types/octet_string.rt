@@ -10,12 +10,12 @@ ghost use Rattle.asn1_rs.specs.OctetString.{octet_string_number, octet_string_le
 ghost use Rattle.asn1_rs.specs.Traits.{OfParts};
 
 use crate::asn1_types::any::Any;
-use crate::error::Error;
 use crate::kinds::writing::WritesOctets;
 use crate::kinds::{ElementKind, HasKind, LawfulConversion, LawfulElement};
 use crate::laws::LawfulMember;
-use crate::tag::Tag;
 use crate::traits::{CheckDerConstraints, DerAutoDerive, FromAny, Tagged};
+use asn1_headers::error::Error;
+use asn1_headers::tag::Tag;
 use std::alloc::Global;
 use std::borrow::CowSlice;
 

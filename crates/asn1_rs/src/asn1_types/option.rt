@@ -2,22 +2,22 @@
 ghost use Rattle.std.specs.Prelude.{◌≡◌, ◌↔◌, [], Bool, false, IsTrue};
 ghost use Rattle.x690.specs.Rules.{Rule, der_rule, ber_rule};
 ghost use Rattle.x690.specs.Faults.{Breach};
-ghost use Rattle.asn1_rs.specs.declared.error.Error.{Error};
-ghost use Rattle.asn1_rs.specs.Answers.{seen, TellsMemory};
+ghost use Rattle.asn1_headers.specs.declared.error.Error.{Error};
+ghost use Rattle.asn1_headers.specs.Answers.{seen, TellsMemory};
 ghost use Rattle.asn1_rs.specs.Any.{IsTheElement, IsDefiniteOr};
-ghost use Rattle.asn1_rs.specs.Header.Reading.{refusal_of, HeaderGives};
+ghost use Rattle.asn1_headers.specs.Header.Reading.{refusal_of, HeaderGives};
 ghost use Rattle.asn1_rs.specs.Optional.{IsLeftOut, IsAtEnd, OptionGives, ReadsHeldBack, in_some, held_or, IfHeld, HeldRefuses, is_of_another_tag, IsWithoutRawTag, none_or, NoneOrConverted};
 ghost use Rattle.asn1_rs.specs.Traits.{BerGives, DerGives};
 
 use crate::asn1_types::any::Any;
-use crate::error::{Error, ParseResult, SerializeResult};
-use crate::header::Header;
-use crate::header::reading::{header_by_ber, header_by_der};
 use crate::laws::{LawfulBer, LawfulDer, LawfulTagged};
-use crate::tag::Tag;
 use crate::to_der::ToDer;
 use crate::traits::{CheckDerConstraints, DynTagged, FromAny, FromBer, FromDer, Tagged};
-use crate::writer::DerWrite;
+use asn1_headers::error::{Error, ParseResult, SerializeResult};
+use asn1_headers::header::Header;
+use asn1_headers::header::reading::{header_by_ber, header_by_der};
+use asn1_headers::tag::Tag;
+use asn1_headers::writer::DerWrite;
 use std::alloc::Global;
 
 /// Whether a value with this tag number is left out of the octets, at whose front a header was read: there are no octets,

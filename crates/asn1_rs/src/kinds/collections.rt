@@ -7,13 +7,13 @@ ghost use Rattle.std.specs.Prelude.{◌≡◌, ◌++◌, Bool, List, true, false
 ghost use Rattle.std.specs.List.{All, flat_map};
 ghost use Rattle.std.proofs.Common.{◌∙◌, sym};
 ghost use Rattle.x690.specs.Collections.{AllDiffer};
-ghost use Rattle.asn1_rs.specs.declared.error.SerializeError.{SerializeError};
-ghost use Rattle.asn1_rs.specs.declared.error.Error.{Error};
-ghost use Rattle.asn1_rs.specs.Error.{tells_of_io};
+ghost use Rattle.asn1_headers.specs.declared.error.SerializeError.{SerializeError};
+ghost use Rattle.asn1_headers.specs.declared.error.Error.{Error};
+ghost use Rattle.asn1_headers.specs.Error.{tells_of_io};
 ghost use Rattle.asn1_rs.specs.Lists.{SomeRefuses, AreEncodings, list_grammar};
 ghost use Rattle.asn1_rs.specs.Set.{set_of, member_grammar};
 ghost use Rattle.asn1_rs.specs.ToDer.{Refuses, RefusesCount, Either, IntoVector, IsWritable, some_allocates};
-ghost use Rattle.asn1_rs.specs.Writer.{Wrote};
+ghost use Rattle.asn1_headers.specs.Writer.{Wrote};
 ghost use Rattle.asn1_rs.specs.Kinds.Writing.{Writing, list_writing, set_writing};
 ghost use Rattle.asn1_rs.specs.Laws.Forms.{der_strict};
 ghost use Rattle.asn1_rs.specs.Laws.Lists.{list_lawful, list_by_value, list_writes_form, list_has_form, list_takes_class, list_number, low_fits};
@@ -21,15 +21,15 @@ ghost use Rattle.asn1_rs.specs.Laws.Set.{member_lawful, members_moved, members_a
 
 use crate::asn1_types::lists::{Encodings, Listed};
 use crate::asn1_types::set::write_ascending;
-use crate::error::{Error, SerializeResult};
-use crate::header::writing::{element_len, put_counted_header};
+use crate::header::{element_len, put_counted_header};
 use crate::kinds::writing::{LawfulTaggedBy, LawfulWriteBy, TakesClassBy, ToDerBy};
 use crate::kinds::{GrammarBy, HasKind, LawfulItemBy};
 use crate::laws::{Grammar, LawfulItem, LawfulWrite};
-use crate::tag::Tag;
 use crate::to_der::ToDer;
 use crate::traits::Tagged;
-use crate::writer::DerWrite;
+use asn1_headers::error::{Error, SerializeResult};
+use asn1_headers::tag::Tag;
+use asn1_headers::writer::DerWrite;
 use std::alloc::Global;
 use std::marker::PhantomData;
 

@@ -9,15 +9,15 @@ pub(crate) mod collections;
 pub(crate) mod writing;
 
 ghost use Rattle.std.specs.Prelude.{◌≡◌};
-ghost use Rattle.asn1_rs.specs.declared.tag.Tag.{Tag};
+ghost use Rattle.asn1_headers.specs.declared.tag.Tag.{Tag};
 ghost use Rattle.asn1_rs.specs.Grammar.Item.{ItemGrammar, IsLawfulItem, by_held};
 ghost use Rattle.asn1_rs.specs.Kinds.{ElementGrammar, IsLawfulElement, IsExactCheck, IsExactConversion, item_grammar};
 ghost use Rattle.asn1_rs.specs.Laws.Kinds.{lawful_item, lawful_by_held, other_error};
 
-use crate::error::Error;
 use crate::laws::{Grammar, LawfulAuto, LawfulBody, LawfulCheck, LawfulItem};
-use crate::tag::Tag;
 use crate::traits::{CheckDerConstraints, DerAutoDerive, FromAny, Tagged};
+use asn1_headers::error::Error;
+use asn1_headers::tag::Tag;
 
 /// A type that has its grammars and laws by its kind.
 pub trait HasKind {

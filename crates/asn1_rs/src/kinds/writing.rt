@@ -2,21 +2,21 @@
 //! that they hold or refer to.
 ghost use Rattle.std.specs.Prelude.{◌≡◌, ◌++◌, ◌<◌, ◌^◌, ℕ, false, List, length, IfOk, IfErr, IsErr};
 ghost use Rattle.asn1_rs.specs.Grammar.{FormNumber, FormTakes};
-ghost use Rattle.asn1_rs.specs.Writer.{Wrote, MayRefuse};
+ghost use Rattle.asn1_headers.specs.Writer.{Wrote, MayRefuse};
 ghost use Rattle.asn1_rs.specs.ToDer.{MayRefuseCount, Refuses, RefusesCount, Either, IsRefusedAtOnce, RefusedAtOnce, IsWritable, some_allocates};
-ghost use Rattle.asn1_rs.specs.declared.error.SerializeError.{SerializeError};
-ghost use Rattle.asn1_rs.specs.declared.error.Error.{Error};
+ghost use Rattle.asn1_headers.specs.declared.error.SerializeError.{SerializeError};
+ghost use Rattle.asn1_headers.specs.declared.error.Error.{Error};
 ghost use Rattle.asn1_rs.specs.Kinds.Writing.{Writing, universal_header, universal_writing, IsWrittenElement};
 ghost use Rattle.asn1_rs.specs.Grammar.Form.{WritesByValue, WritesForm, HasForm};
 ghost use Rattle.asn1_rs.specs.Laws.Forms.{universal_by_value, universal_writes_form, universal_has_form, universal_number, universal_number_fits};
 
-use crate::error::{Error, SerializeResult};
-use crate::header::writing::{element_len, put_counted_header};
+use crate::header::{element_len, put_counted_header};
 use crate::kinds::{ElementKind, HasKind, HolderKind, Holds, LawfulElement};
 use crate::laws::{LawfulItem, LawfulTagged, LawfulWrite, TakesClass};
 use crate::to_der::ToDer;
 use crate::traits::{DynTagged, Tagged};
-use crate::writer::{DerWrite, add_written, put_all};
+use asn1_headers::error::{Error, SerializeResult};
+use asn1_headers::writer::{DerWrite, add_written, put_all};
 use std::alloc::Global;
 
 /// A value that is written as one element of the universal class: the tag number of its type, and contents octets. The

@@ -9,14 +9,14 @@ ghost use Rattle.x690.specs.Rules.{Rule};
 ghost use Rattle.x690.specs.Elements.{Parts, IsHeader, IsDerElement};
 ghost use Rattle.x690.specs.Faults.{Breach};
 ghost use Rattle.x690.specs.Nested.{IsElement};
-ghost use Rattle.asn1_rs.specs.declared.error.Err.{Err as Refusal};
-ghost use Rattle.asn1_rs.specs.declared.error.Error.{Error};
-ghost use Rattle.asn1_rs.specs.declared.header.Header.{Header};
+ghost use Rattle.asn1_headers.specs.declared.error.Err.{Err as Refusal};
+ghost use Rattle.asn1_headers.specs.declared.error.Error.{Error};
+ghost use Rattle.asn1_headers.specs.declared.header.Header.{Header};
 ghost use Rattle.asn1_rs.specs.declared.asn1_types.any.Any.{Any};
-ghost use Rattle.asn1_rs.specs.Answers.{Exactly, TellsMemory, ReadsBack, RefusedAsBeginning, RefusedBeforeEnd};
+ghost use Rattle.asn1_headers.specs.Answers.{Exactly, TellsMemory, ReadsBack, RefusedAsBeginning, RefusedBeforeEnd};
 ghost use Rattle.asn1_rs.specs.Grammar.Form.{IsStrict};
-ghost use Rattle.asn1_rs.specs.Ber.{max_depth, EndsWithin};
-ghost use Rattle.asn1_rs.specs.Header.Reading.{refusal_of, HeaderGives};
+ghost use Rattle.asn1_headers.specs.Ber.{max_depth, EndsWithin};
+ghost use Rattle.asn1_headers.specs.Header.Reading.{refusal_of, HeaderGives};
 ghost use Rattle.asn1_rs.specs.Any.{DerElementGives, BerElementGives};
 ghost use Rattle.asn1_rs.specs.Leaf.{HaveOneRefusal};
 ghost use Rattle.asn1_rs.specs.Boolean.{boolean_leaf, bool_leaf};
@@ -29,8 +29,8 @@ ghost use Rattle.asn1_rs.specs.OctetString.{octet_string_leaf, slice_leaf};
 ghost use Rattle.asn1_rs.specs.BitString.{bit_string_leaf};
 ghost use Rattle.asn1_rs.specs.ToDer.{IsWritable};
 
-use crate::error::Error;
 use crate::laws::{LawfulBer, LawfulDer, LawfulItem, LawfulWrite};
+use asn1_headers::error::Error;
 
 /// The reader by BER of a lawful type is exact.
 ///

@@ -1,4 +1,4 @@
-use Rattle.asn1_rs.specs.Header.Reading.{der_breach, ber_breach}
+use Rattle.asn1_headers.specs.Header.Reading.{der_breach, ber_breach}
 use Rattle.asn1_rs.specs.Laws.Readers.{der_elements, ber_elements}
 use Rattle.asn1_rs.specs.Laws.Any.{refusal_lasts, element_lasts, content_lasts}
 use Rattle.asn1_rs.specs.Laws.Header.{header_lasts}

@@ -1,4 +1,4 @@
-use Rattle.asn1_rs.specs.Header.Reading.{der_breach, ber_breach}
+use Rattle.asn1_headers.specs.Header.Reading.{der_breach, ber_breach}
 use Rattle.asn1_rs.specs.Laws.Readers.{der_elements, ber_elements}
 use Rattle.asn1_rs.specs.Laws.Any.{beginning_refused, within_refused}
 use Rattle.asn1_rs.specs.Laws.Header.{header_beginning_refused, header_within_refused}

@@ -1,4 +1,4 @@
-use Rattle.asn1_rs.specs.Header.Reading.{der_breach, ber_breach}
+use Rattle.asn1_headers.specs.Header.Reading.{der_breach, ber_breach}
 use Rattle.asn1_rs.specs.Laws.Header.{one_header_refusal, header_or_refusal}
 use Rattle.asn1_rs.specs.Laws.Readers.{der_elements, ber_elements}
 use Rattle.asn1_rs.specs.Laws.Any.{one_element_refusal, element_or_refusal, one_content_refusal, content_or_refusal}

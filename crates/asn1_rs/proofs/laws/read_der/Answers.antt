@@ -1,6 +1,6 @@
 use Rattle.std.proofs.Common.{arith, rules}
 use Rattle.x690.specs.Identifiers.{IsCutIdentifier}
-use Rattle.asn1_rs.specs.Answers.{seen}
+use Rattle.asn1_headers.specs.Answers.{seen}
 use Rattle.asn1_rs.specs.Laws.Words.{read_back}
 use Rattle.asn1_rs.proofs.laws.read_der.Goals as goal
 

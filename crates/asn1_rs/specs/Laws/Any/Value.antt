@@ -5,11 +5,11 @@ use Rattle.x690.specs.Lengths.{definite, indefinite}
 use Rattle.x690.specs.Elements.{Parts}
 use Rattle.x690.specs.Laws.Elements.{same_parts}
 use Rattle.asn1_rs.specs.declared.asn1_types.any.Any.{Any}
-use Rattle.asn1_rs.specs.declared.error.Error.{Error}
-use Rattle.asn1_rs.specs.declared.header.Header.{Header}
+use Rattle.asn1_headers.specs.declared.error.Error.{Error}
+use Rattle.asn1_headers.specs.declared.header.Header.{Header}
 use Rattle.asn1_rs.specs.Any.{parts_of, IsTheElement, IsDefiniteOr}
-use Rattle.asn1_rs.specs.Header.{identifier_of}
-use Rattle.asn1_rs.specs.Length.{form_of}
+use Rattle.asn1_headers.specs.Header.{identifier_of}
+use Rattle.asn1_headers.specs.Length.{form_of}
 use Rattle.asn1_rs.specs.Grammar.{TakesBody, Checks}
 use Rattle.asn1_rs.specs.Kinds.{IsLawfulElement, IsExactCheck, IsExactConversion}
 use Rattle.asn1_rs.specs.Any.Value.{ElementValue, element_of, ElementBody, ElementCheck, ElementForm, IsElementValue, any_element}

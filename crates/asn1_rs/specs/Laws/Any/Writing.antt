@@ -6,14 +6,14 @@ use Rattle.x690.specs.Identifiers.{Identifier}
 use Rattle.x690.specs.Lengths.{LengthForm, definite}
 use Rattle.x690.specs.Strict.{identifier_octets, length_form_octets}
 use Rattle.x690.specs.Laws.StrictHeaders.{header_octets_are}
-use Rattle.asn1_rs.specs.declared.header.Header.{Header}
-use Rattle.asn1_rs.specs.Class.{class_number}
-use Rattle.asn1_rs.specs.Length.{form_of}
-use Rattle.asn1_rs.specs.Header.Writing.{strict_header}
+use Rattle.asn1_headers.specs.declared.header.Header.{Header}
+use Rattle.asn1_headers.specs.Class.{class_number}
+use Rattle.asn1_headers.specs.Length.{form_of}
+use Rattle.asn1_headers.specs.Header.Writing.{strict_header}
 use Rattle.asn1_rs.specs.declared.asn1_types.any.Any.{Any}
 use Rattle.asn1_rs.specs.Any.Value.{ElementValue, element_of, ElementForm}
 use Rattle.asn1_rs.specs.Any.Writing.{content_of, element_header}
-use Rattle.asn1_rs.specs.Header.{identifier_of, is_constructed_of, is_same_identifier}
+use Rattle.asn1_headers.specs.Header.{identifier_of, is_constructed_of, is_same_identifier}
 use Rattle.asn1_rs.specs.Laws.Forms.{NothingRefused, nothing_refused}
 use Rattle.asn1_rs.specs.Grammar.Form.{header_of, WritesByValue, WritesForm, HasForm}
 

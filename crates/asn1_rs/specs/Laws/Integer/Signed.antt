@@ -5,7 +5,7 @@ use Rattle.std.proofs.Common.{◌≡◌, ◌∙◌, sym, ℕ, List, int_eq}
 use Rattle.x690.specs.Octets.{IsOctets}
 use Rattle.x690.specs.Digits.{twos_complement_value}
 use Rattle.x690.specs.Signed.{IsSigned}
-use Rattle.asn1_rs.specs.declared.error.Error.{Error}
+use Rattle.asn1_headers.specs.declared.error.Error.{Error}
 use Rattle.asn1_rs.specs.Traits.{OfParts}
 use Rattle.asn1_rs.specs.Integer.{SignedRefuses, SignedGives, integer_element}
 use Rattle.asn1_rs.specs.Kinds.{IsExactConversion}

@@ -9,13 +9,13 @@ use Rattle.x690.specs.Nested.{IsElement, IsRow, IsWord, ElementFault}
 use Rattle.x690.specs.Laws.Nested.{nested_element_deeper, nested_content_is_octets}
 use Rattle.x690.specs.Laws.Nested.IndefiniteContents.{indefinite_is_row}
 use Rattle.x690.specs.Joined.{AreWords}
-use Rattle.asn1_rs.specs.declared.error.Err.{Err as Refusal}
-use Rattle.asn1_rs.specs.declared.error.Error.{Error}
+use Rattle.asn1_headers.specs.declared.error.Err.{Err as Refusal}
+use Rattle.asn1_headers.specs.declared.error.Error.{Error}
 use Rattle.asn1_rs.specs.declared.asn1_types.any.Any.{Any}
-use Rattle.asn1_rs.specs.Answers.{Exactly, TellsMemory}
+use Rattle.asn1_headers.specs.Answers.{Exactly, TellsMemory}
 use Rattle.asn1_rs.specs.Any.{parts_of, IsTheElement, BerElementGives}
-use Rattle.asn1_rs.specs.Header.Reading.{ber_breach}
-use Rattle.asn1_rs.specs.Ber.{max_depth, EndsWithin}
+use Rattle.asn1_headers.specs.Header.Reading.{ber_breach}
+use Rattle.asn1_headers.specs.Ber.{max_depth, EndsWithin}
 use Rattle.asn1_rs.specs.Traits.{PassesAll}
 use Rattle.asn1_rs.specs.Grammar.{ElementWord, NoCheck, TakesBody}
 use Rattle.asn1_rs.specs.Sequence.Iterator.{TakesItem, IsWalk, TellsNothing, TellsMemoryAlone, IsMemory, EndsWalk, ElementsGive, IsSame}

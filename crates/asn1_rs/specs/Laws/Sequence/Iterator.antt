@@ -8,12 +8,12 @@ use Rattle.std.specs.Iterator.Runs.{Run, YieldsRun}
 use Rattle.x690.specs.Octets.{IsOctets}
 use Rattle.x690.specs.Laws.Octets.{octets_back}
 use Rattle.x690.specs.Joined.{NoFront, IsOneFront, IsJoined, AreJoinedWords}
-use Rattle.asn1_rs.specs.declared.error.Err.{Err as Refusal}
-use Rattle.asn1_rs.specs.declared.error.Err.TheVariants.{Incomplete as cut, Error as refused, Failure as failed}
-use Rattle.asn1_rs.specs.declared.error.Error.{Error}
-use Rattle.asn1_rs.specs.declared.error.Error.TheVariants as errors
-use Rattle.asn1_rs.specs.Error.{FlattenedTo}
-use Rattle.asn1_rs.specs.Answers.{Front, Exactly, TellsMemory}
+use Rattle.asn1_headers.specs.declared.error.Err.{Err as Refusal}
+use Rattle.asn1_headers.specs.declared.error.Err.TheVariants.{Incomplete as cut, Error as refused, Failure as failed}
+use Rattle.asn1_headers.specs.declared.error.Error.{Error}
+use Rattle.asn1_headers.specs.declared.error.Error.TheVariants as errors
+use Rattle.asn1_headers.specs.Error.{FlattenedTo}
+use Rattle.asn1_headers.specs.Answers.{Front, Exactly, TellsMemory}
 use Rattle.asn1_rs.specs.declared.asn1_types.sequence.iterator.SequenceIterator.{SequenceIterator}
 use Rattle.asn1_rs.specs.Sequence.Iterator.{octets_left, EndsItem, TakesItem, WalkSteps, EndsWalk, IsWalk, IsWalkOf, EndsJoined, TellsNoWord, TellsMemoryAlone, IsMemory}
 use Rattle.asn1_rs.specs.Laws.Readers.{none_now}

@@ -9,14 +9,14 @@ use Rattle.x690.specs.Rules.{der_rule}
 use Rattle.x690.specs.Joined.{IsOneFront}
 use Rattle.x690.specs.Strict.{header_octets}
 use Rattle.x690.specs.Laws.StrictElements.{der_allows_strict}
-use Rattle.asn1_rs.specs.declared.error.Error.{Error}
-use Rattle.asn1_rs.specs.declared.error.SerializeError.{SerializeError}
-use Rattle.asn1_rs.specs.declared.header.Header.{Header}
-use Rattle.asn1_rs.specs.Ber.{max_depth}
+use Rattle.asn1_headers.specs.declared.error.Error.{Error}
+use Rattle.asn1_headers.specs.declared.error.SerializeError.{SerializeError}
+use Rattle.asn1_headers.specs.declared.header.Header.{Header}
+use Rattle.asn1_headers.specs.Ber.{max_depth}
 use Rattle.asn1_rs.specs.Grammar.{IsOneBody, FormBodies, FormNumber, FormTakes, NoCheck, made}
 use Rattle.asn1_rs.specs.Grammar.Form.{IsStrict, HasForm, WritesByValue, WritesForm}
 use Rattle.asn1_rs.specs.Grammar.Item.{ItemGrammar, IsLawfulItem}
-use Rattle.asn1_rs.specs.Header.{identifier_of, is_same_identifier}
+use Rattle.asn1_headers.specs.Header.{identifier_of, is_same_identifier}
 use Rattle.asn1_rs.specs.Laws.Any.Writing.{same_parts, parts_same, both_true}
 use Rattle.asn1_rs.specs.Laws.Readers.{der_elements, ber_elements}
 use Rattle.asn1_rs.specs.Laws.Tagged.Explicit.{explicit_one_form, explicit_fits, explicit_form_check, explicit_by_value, explicit_writes_form, explicit_has_form}

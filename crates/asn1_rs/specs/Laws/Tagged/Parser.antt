@@ -8,17 +8,17 @@ use Rattle.x690.specs.Faults.{Breach, Fault}
 use Rattle.x690.specs.Joined.{IsOneFront}
 use Rattle.asn1_rs.specs.declared.asn1_types.any.Any.{Any}
 use Rattle.asn1_rs.specs.declared.asn1_types.tagged.parser.TaggedParser.{TaggedParser}
-use Rattle.asn1_rs.specs.declared.error.Err.{Err as Refusal}
-use Rattle.asn1_rs.specs.declared.error.Error.{Error}
-use Rattle.asn1_rs.specs.declared.error.Error.TheVariants.{OutOfMemory}
-use Rattle.asn1_rs.specs.declared.tag.Tag.{Tag}
-use Rattle.asn1_rs.specs.Answers.{Front, Exactly, TellsMemory, IsOther}
+use Rattle.asn1_headers.specs.declared.error.Err.{Err as Refusal}
+use Rattle.asn1_headers.specs.declared.error.Error.{Error}
+use Rattle.asn1_headers.specs.declared.error.Error.TheVariants.{OutOfMemory}
+use Rattle.asn1_headers.specs.declared.tag.Tag.{Tag}
+use Rattle.asn1_headers.specs.Answers.{Front, Exactly, TellsMemory, IsOther}
 use Rattle.asn1_rs.specs.Any.{parts_of, BeginsWithElement}
 use Rattle.asn1_rs.specs.Checks.{CheckGives}
-use Rattle.asn1_rs.specs.Error.{HeldIn}
+use Rattle.asn1_headers.specs.Error.{HeldIn}
 use Rattle.asn1_rs.specs.Grammar.{ElementWord, NoCheck, TakesBody}
-use Rattle.asn1_rs.specs.Header.{identifier_of}
-use Rattle.asn1_rs.specs.Header.Reading.{refusal_of}
+use Rattle.asn1_headers.specs.Header.{identifier_of}
+use Rattle.asn1_headers.specs.Header.Reading.{refusal_of}
 use Rattle.asn1_rs.specs.Kinds.{IsExactCheck}
 use Rattle.asn1_rs.specs.Laws.Readers.{AreElements, none_now, front_more, speaks_fault, fault_spares, element_exact, element_spares, passes_all, all_pass}
 use Rattle.asn1_rs.specs.Laws.Tagged.Implicit.{parts_under}

@@ -3,9 +3,9 @@ ghost use Rattle.asn1_rs.specs.Any.{parts_of};
 ghost use Rattle.asn1_rs.specs.Checks.{has_length, has_number};
 
 use crate::asn1_types::any::Any;
-use crate::error::Error;
-use crate::length::Length;
-use crate::tag::Tag;
+use asn1_headers::error::Error;
+use asn1_headers::length::Length;
+use asn1_headers::tag::Tag;
 
 impl Any<'_> {
     /// Refuses another tag number with `UnexpectedTag`.

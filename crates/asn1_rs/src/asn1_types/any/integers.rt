@@ -9,7 +9,7 @@ ghost use Rattle.asn1_rs.specs.Integer.{UnsignedGives, SignedGives};
 
 use crate::asn1_types::any::Any;
 use crate::asn1_types::integer::{signed_from_any, unsigned_from_any};
-use crate::error::Error;
+use asn1_headers::error::Error;
 
 impl Any<'_> {
     /// The number as a `u8`.

@@ -2,21 +2,22 @@
 ghost use Rattle.std.specs.Prelude.{◌≡◌, ◌++◌, ℕ, List, Bool, true, false, length, Ok, IfOk, IfErr};
 ghost use Rattle.std.specs.Io.KnownBytes.{Appends};
 ghost use Rattle.x690.specs.Lengths.{definite};
-ghost use Rattle.asn1_rs.specs.Header.{is_constructed_of, length_of};
-ghost use Rattle.asn1_rs.specs.Length.{form_of};
-ghost use Rattle.asn1_rs.specs.Header.Writing.{strict_header};
+ghost use Rattle.asn1_headers.specs.Header.{is_constructed_of, length_of};
+ghost use Rattle.asn1_headers.specs.Length.{form_of};
+ghost use Rattle.asn1_headers.specs.Header.Writing.{strict_header};
 ghost use Rattle.asn1_rs.specs.Any.Writing.{content_of, element_header};
 ghost use Rattle.asn1_rs.specs.Laws.Any.Writing.{element_by_value, element_writes_form, element_has_form, element_same};
-ghost use Rattle.asn1_rs.specs.Writer.{Wrote, MayRefuse};
+ghost use Rattle.asn1_headers.specs.Writer.{Wrote, MayRefuse};
 ghost use Rattle.asn1_rs.specs.ToDer.{Refuses, RefusesCount, VectorRefuses, Either};
-ghost use Rattle.asn1_rs.specs.Error.{tells_of_io};
+ghost use Rattle.asn1_headers.specs.Error.{tells_of_io};
 
 use crate::asn1_types::any::Any;
-use crate::error::{Error, SerializeResult, without_io};
-use crate::header::writing::{element_len, put_header, put_strict_header};
+use crate::header::element_len;
 use crate::laws::{LawfulMember, LawfulWrite};
 use crate::to_der::ToDer;
-use crate::writer::{DerWrite, Told, add_written, put_all};
+use asn1_headers::error::{Error, SerializeResult, without_io};
+use asn1_headers::header::writing::{put_header, put_strict_header};
+use asn1_headers::writer::{DerWrite, Told, add_written, put_all};
 use std::alloc::Global;
 
 /// Appends the strict identifier octets, the length of the header and the contents octets, and answers their number.

@@ -9,16 +9,16 @@ ghost use Rattle.asn1_rs.specs.Leaf.{LeafGives, leaf_element};
 ghost use Rattle.asn1_rs.specs.Laws.Boolean.{boolean_lawful, bool_lawful, boolean_equal, bool_equal};
 ghost use Rattle.asn1_rs.specs.Laws.Leaf.{leaf_lawful, leaf_constraints, leaf_converts, leaf_written};
 ghost use Rattle.asn1_rs.specs.Traits.{OfParts};
-ghost use Rattle.asn1_rs.specs.Writer.{Wrote, MayRefuse};
+ghost use Rattle.asn1_headers.specs.Writer.{Wrote, MayRefuse};
 
 use crate::asn1_types::any::Any;
-use crate::error::{DerConstraint, Error, SerializeResult};
 use crate::kinds::writing::WritesElement;
 use crate::kinds::{ElementKind, HasKind, LawfulConversion, LawfulElement};
 use crate::laws::LawfulMember;
-use crate::tag::Tag;
 use crate::traits::{CheckDerConstraints, DerAutoDerive, FromAny, Tagged};
-use crate::writer::{DerWrite, put_all};
+use asn1_headers::error::{DerConstraint, Error, SerializeResult};
+use asn1_headers::tag::Tag;
+use asn1_headers::writer::{DerWrite, put_all};
 use std::alloc::Global;
 
 /// A truth value with the octet that says it (X.690 8.2.2): 00 is false, every other octet true.

@@ -2,19 +2,19 @@
 ghost use Rattle.std.specs.Prelude.{◌≡◌, ◌++◌, ℕ, List, false, length, Ok, true, IfOk, IfErr};
 ghost use Rattle.std.specs.Io.KnownBytes.{Appends};
 ghost use Rattle.asn1_rs.specs.Boolean.{boolean_number, boolean_leaf, truth_octets, raw_boolean, truth_header, IsStrictTruth};
-ghost use Rattle.asn1_rs.specs.Error.{tells_of_io};
+ghost use Rattle.asn1_headers.specs.Error.{tells_of_io};
 ghost use Rattle.asn1_rs.specs.Leaf.{leaf_element};
 ghost use Rattle.asn1_rs.specs.Laws.Boolean.{boolean_lawful, boolean_by_value, boolean_writes_form};
 ghost use Rattle.asn1_rs.specs.Laws.Forms.{universal_has_form, universal_number, universal_number_fits};
 ghost use Rattle.asn1_rs.specs.Laws.Leaf.{leaf_written};
 ghost use Rattle.asn1_rs.specs.ToDer.{Refuses, VectorRefuses, Either};
-ghost use Rattle.asn1_rs.specs.Writer.{Wrote, MayRefuse};
+ghost use Rattle.asn1_headers.specs.Writer.{Wrote, MayRefuse};
 
 use crate::asn1_types::boolean::{Boolean, put_truth};
-use crate::error::{Error, SerializeResult, without_io};
 use crate::laws::{LawfulTagged, LawfulWrite, TakesClass};
 use crate::to_der::ToDer;
-use crate::writer::{DerWrite, Told, put_all};
+use asn1_headers::error::{Error, SerializeResult, without_io};
+use asn1_headers::writer::{DerWrite, Told, put_all};
 use std::alloc::Global;
 
 /// It is written as 00 or ff; its raw form has the octet that it holds.

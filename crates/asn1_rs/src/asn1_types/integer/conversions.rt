@@ -8,7 +8,7 @@ ghost use Rattle.asn1_rs.specs.Integer.Octets.{HoldsOr, integer_octets};
 
 use crate::asn1_types::integer::machine::MachineInt;
 use crate::asn1_types::integer::octets::Integer;
-use crate::error::Error;
+use asn1_headers::error::Error;
 use std::alloc::Global;
 
 impl Integer<'static> {

@@ -4,7 +4,7 @@ ghost use Rattle.asn1_rs.specs.Integer.Machine.{Machine, IsLawfulMachine, Machin
 ghost use Rattle.asn1_rs.specs.Laws.Integer.Machine.{unsigned_lawful, signed_lawful};
 
 use crate::asn1_types::integer::{signed_from_content, unsigned_from_content};
-use crate::error::Error;
+use asn1_headers::error::Error;
 use x690::integers::unsigned_into;
 use x690::signed::signed_into;
 

@@ -8,19 +8,19 @@ mod unsigned;
 
 ghost use Rattle.std.specs.Prelude.{ℕ, pos, ◌++◌, ◌≡◌, ◌≤◌, false, length, Err, IfOk, IfErr};
 ghost use Rattle.x690.specs.Elements.{Parts};
-ghost use Rattle.asn1_rs.specs.declared.error.Error.{Error};
+ghost use Rattle.asn1_headers.specs.declared.error.Error.{Error};
 ghost use Rattle.x690.specs.Digits.{twos_complement_value};
 ghost use Rattle.x690.specs.Integers.{unsigned_octets};
 ghost use Rattle.x690.specs.Signed.{IsSigned, signed_octets};
 ghost use Rattle.x690.specs.Strict.{header_octets};
 ghost use Rattle.asn1_rs.specs.Any.{parts_of};
 ghost use Rattle.asn1_rs.specs.Integer.{integer_number, IntegerCheckGives, IsUnsigned, UnsignedRefuses, UnsignedGives, SignedGives, SignedRefuses, IsIntegerOr};
-ghost use Rattle.asn1_rs.specs.Writer.{Wrote, MayRefuse};
+ghost use Rattle.asn1_headers.specs.Writer.{Wrote, MayRefuse};
 
 use crate::asn1_types::any::Any;
-use crate::error::{DerConstraint, Error, SerializeResult};
-use crate::tag::Tag;
-use crate::writer::{DerWrite, put_all};
+use asn1_headers::error::{DerConstraint, Error, SerializeResult};
+use asn1_headers::tag::Tag;
+use asn1_headers::writer::{DerWrite, put_all};
 use x690::integers::{has_spare_ones, has_spare_zeros, unsigned_into, unsigned_number};
 use x690::signed::{integer_element, signed_into, signed_number};
 

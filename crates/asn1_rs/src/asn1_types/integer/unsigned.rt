@@ -9,13 +9,13 @@ ghost use Rattle.asn1_rs.specs.Laws.Integer.Unsigned.{unsigned_converts, unsigne
 
 use crate::asn1_types::any::Any;
 use crate::asn1_types::integer::{check_integer, put_unsigned_content, put_unsigned_element};
-use crate::error::{Error, SerializeResult};
 use crate::kinds::writing::WritesElement;
 use crate::kinds::{ElementKind, HasKind, LawfulConversion, LawfulElement};
 use crate::laws::LawfulMember;
-use crate::tag::Tag;
 use crate::traits::{CheckDerConstraints, DerAutoDerive, FromAny, Tagged};
-use crate::writer::DerWrite;
+use asn1_headers::error::{Error, SerializeResult};
+use asn1_headers::tag::Tag;
+use asn1_headers::writer::DerWrite;
 use std::alloc::Global;
 use x690::integers::unsigned_octets_count;
 

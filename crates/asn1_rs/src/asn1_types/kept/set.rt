@@ -6,12 +6,12 @@ ghost use Rattle.std.specs.Iterator.{IsFinite};
 ghost use Rattle.x690.specs.Elements.{IsDerElement};
 ghost use Rattle.x690.specs.Faults.{DerElementFault};
 ghost use Rattle.x690.specs.Nested.{IsElement, ElementFault};
-ghost use Rattle.asn1_rs.specs.declared.error.Error.TheVariants as errors;
-ghost use Rattle.asn1_rs.specs.Answers.{seen};
+ghost use Rattle.asn1_headers.specs.declared.error.Error.TheVariants as errors;
+ghost use Rattle.asn1_headers.specs.Answers.{seen};
 ghost use Rattle.asn1_rs.specs.Any.{parts_of};
-ghost use Rattle.asn1_rs.specs.Ber.{max_depth};
+ghost use Rattle.asn1_headers.specs.Ber.{max_depth};
 ghost use Rattle.asn1_rs.specs.Checks.{nothing};
-ghost use Rattle.asn1_rs.specs.Header.Reading.{der_refusal, ber_refusal};
+ghost use Rattle.asn1_headers.specs.Header.Reading.{der_refusal, ber_refusal};
 ghost use Rattle.asn1_rs.specs.Kept.{set_number, set_leaf, set_octets, OnLent, IsRefused, IsErrorOf, ListThenGives, CopiesGive, JoinsGiven, LendsContent, content_octets};
 ghost use Rattle.asn1_rs.specs.Laws.Kept.{lent_converts, set_lawful};
 ghost use Rattle.asn1_rs.specs.Laws.Leaf.{leaf_lawful, leaf_constraints, leaf_written};
@@ -26,15 +26,14 @@ use crate::asn1_types::kept::{
 };
 use crate::asn1_types::lists::items_by;
 use crate::asn1_types::sequence::iterator::SequenceIterator;
-use crate::error::{Error, ParseResult, SerializeResult};
 use crate::kinds::writing::WritesOctets;
 use crate::kinds::{ElementKind, HasKind, LawfulConversion, LawfulElement};
-use crate::tag::Tag;
 use crate::to_der::ToDer;
 use crate::to_static::ToStatic;
-use crate::traits::{
-    BerParser, CheckDerConstraints, DerAutoDerive, DerParser, FromAny, FromBer, FromDer, Tagged,
-};
+use crate::traits::{CheckDerConstraints, DerAutoDerive, FromAny, FromBer, FromDer, Tagged};
+use asn1_headers::content::{BerParser, DerParser};
+use asn1_headers::error::{Error, ParseResult, SerializeResult};
+use asn1_headers::tag::Tag;
 use std::alloc::Global;
 use std::borrow::CowSlice;
 

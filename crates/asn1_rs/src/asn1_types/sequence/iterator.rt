@@ -8,18 +8,19 @@ ghost use Rattle.x690.specs.Identifiers.{IsCutIdentifier};
 ghost use Rattle.x690.specs.Lengths.{indefinite};
 ghost use Rattle.x690.specs.Nested.{IsElement};
 ghost use Rattle.x690.specs.Joined.{AreJoinedWords};
-ghost use Rattle.asn1_rs.specs.declared.error.Err.{Err as Refusal};
-ghost use Rattle.asn1_rs.specs.declared.traits.BerParser.{BerParser};
-ghost use Rattle.asn1_rs.specs.Answers.{seen, TellsMemory};
-ghost use Rattle.asn1_rs.specs.declared.error.Error.{Error};
+ghost use Rattle.asn1_headers.specs.declared.error.Err.{Err as Refusal};
+ghost use Rattle.asn1_headers.specs.declared.content.BerParser.{BerParser};
+ghost use Rattle.asn1_headers.specs.Answers.{seen, TellsMemory};
+ghost use Rattle.asn1_headers.specs.declared.error.Error.{Error};
 ghost use Rattle.asn1_rs.specs.declared.asn1_types.any.Any.{Any};
 ghost use Rattle.asn1_rs.specs.Any.{parts_of, BerElementGives};
-ghost use Rattle.asn1_rs.specs.Ber.{max_depth, EndsWithin};
+ghost use Rattle.asn1_headers.specs.Ber.{max_depth, EndsWithin};
 ghost use Rattle.asn1_rs.specs.Sequence.Iterator.{octets_left, ReadsExactly, EndsItem, WalkSteps, IsWalk, IsWalkOf, TellsNoWord, TellsMemoryAlone, TellsNothing, IsMemory, ElementsGive};
 
-use crate::error::{Err, Error, ParseResult};
 use crate::laws::{LawfulBer, LawfulDer};
-use crate::traits::{ASN1Parser, BerParser, DerParser, FromBer, FromDer};
+use crate::traits::{ASN1Parser, FromBer, FromDer};
+use asn1_headers::content::{BerParser, DerParser};
+use asn1_headers::error::{Err, Error, ParseResult};
 use std::alloc::Global;
 use std::marker::PhantomData;
 

@@ -3,9 +3,9 @@ ghost use Rattle.std.specs.Prelude.{◌≡◌, true, MatchResult, IfOk, IfErr};
 ghost use Rattle.std.specs.Borrow.{sem};
 ghost use Rattle.std.specs.Iterator.{IsFiniteIterable, Drains};
 ghost use Rattle.std.proofs.Common.{lit<};
-ghost use Rattle.asn1_rs.specs.declared.error.Error.TheVariants as errors;
+ghost use Rattle.asn1_headers.specs.declared.error.Error.TheVariants as errors;
 ghost use Rattle.asn1_rs.specs.Traits.{PassesAll, DerGives, OfParts};
-ghost use Rattle.asn1_rs.specs.Ber.{EndsWithin};
+ghost use Rattle.asn1_headers.specs.Ber.{EndsWithin};
 ghost use Rattle.x690.specs.Identifiers.{IsCutIdentifier};
 ghost use Rattle.asn1_rs.specs.Lists.{ListOf, ListReads, PushesItem};
 ghost use Rattle.asn1_rs.specs.Sequence.SequenceOf.{sequence_items, IsSequenceOf, lends_sequence_items};
@@ -13,14 +13,14 @@ ghost use Rattle.asn1_rs.specs.Laws.Readers.{unchecked_exact};
 ghost use Rattle.asn1_rs.specs.Laws.Lists.{takes_some, list_form_body, list_takes, list_reads, list_checks, sequence_values};
 
 use crate::asn1_types::lists::{FromItems, Listed, items_from_iter, list_by_der, push_item};
-use crate::error::{Error, ParseResult, SerializeResult};
 use crate::kinds::HasKind;
 use crate::kinds::collections::{CountsItems, SequenceKind, WritesInOrder};
 use crate::laws::{LawfulBer, LawfulBody, LawfulCheck, LawfulDer};
-use crate::tag::Tag;
 use crate::to_der::ToDer;
 use crate::traits::{FromDer, Tagged};
-use crate::writer::DerWrite;
+use asn1_headers::error::{Error, ParseResult, SerializeResult};
+use asn1_headers::tag::Tag;
+use asn1_headers::writer::DerWrite;
 use std::alloc::{AllocError, Global};
 
 /// A sequence of items, which are written in their order (X.690 8.10).

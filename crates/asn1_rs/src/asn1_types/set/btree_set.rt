@@ -4,14 +4,14 @@ ghost use Rattle.std.proofs.Common.{lit<, refl};
 ghost use Rattle.std.specs.BTreeSet.{IsFromIterResult};
 ghost use Rattle.x690.specs.Identifiers.{IsCutIdentifier};
 ghost use Rattle.asn1_rs.specs.Traits.{PassesAll, DerGives, OfParts};
-ghost use Rattle.asn1_rs.specs.Ber.{EndsWithin};
+ghost use Rattle.asn1_headers.specs.Ber.{EndsWithin};
 ghost use Rattle.asn1_rs.specs.Lists.{ListTakes, ListCheckGives, SomeRefuses};
 ghost use Rattle.asn1_rs.specs.Set.{set_of, is_below, SetBody, member_grammar, set_content};
 ghost use Rattle.x690.specs.Collections.{AllDiffer};
-ghost use Rattle.asn1_rs.specs.declared.error.SerializeError.{SerializeError};
-ghost use Rattle.asn1_rs.specs.declared.error.Error.{Error};
+ghost use Rattle.asn1_headers.specs.declared.error.SerializeError.{SerializeError};
+ghost use Rattle.asn1_headers.specs.declared.error.Error.{Error};
 ghost use Rattle.asn1_rs.specs.ToDer.{Either, Refuses, RefusesCount, IsWritable, WrittenRefusal, IntoVector};
-ghost use Rattle.asn1_rs.specs.Error.{tells_of_io};
+ghost use Rattle.asn1_headers.specs.Error.{tells_of_io};
 ghost use Rattle.asn1_rs.specs.Laws.Readers.{unchecked_exact};
 ghost use Rattle.asn1_rs.specs.Laws.Lists.{takes_some, list_checks};
 ghost use Rattle.asn1_rs.specs.Laws.Set.{set_takes, set_form_body, tree_told, below_apart, same_members};
@@ -19,15 +19,15 @@ ghost use Rattle.asn1_rs.specs.Laws.Set.{set_takes, set_form_body, tree_told, be
 use crate::asn1_types::lists::{
     Encodings, FromItems, Listed, constructed_list_by_der, count_items, encode_items,
 };
-use crate::error::{Error, ParseResult, SerializeResult};
 use crate::kinds::HasKind;
 use crate::kinds::collections::{
     CountsItems, HasMembers, LawfulMembers, Once, SetKind, WritesAscending,
 };
 use crate::laws::{LawfulBer, LawfulBody, LawfulCheck, LawfulDer, LawfulMember};
-use crate::tag::Tag;
 use crate::to_der::ToDer;
 use crate::traits::{FromDer, Tagged};
+use asn1_headers::error::{Error, ParseResult, SerializeResult};
+use asn1_headers::tag::Tag;
 use std::alloc::{AllocError, Global};
 use std::collections::BTreeSet;
 

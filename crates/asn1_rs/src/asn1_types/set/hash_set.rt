@@ -5,7 +5,7 @@ ghost use Rattle.std.specs.HashSet.{IsFromIterResult};
 ghost use Rattle.x690.specs.Identifiers.{IsCutIdentifier};
 ghost use Rattle.x690.specs.Collections.{AllDiffer};
 ghost use Rattle.asn1_rs.specs.Traits.{PassesAll, DerGives, OfParts};
-ghost use Rattle.asn1_rs.specs.Ber.{EndsWithin};
+ghost use Rattle.asn1_headers.specs.Ber.{EndsWithin};
 ghost use Rattle.asn1_rs.specs.Lists.{ListTakes};
 ghost use Rattle.asn1_rs.specs.Set.{set_of, is_other, SetBody};
 ghost use Rattle.asn1_rs.specs.Laws.Readers.{unchecked_exact};
@@ -15,15 +15,15 @@ ghost use Rattle.asn1_rs.specs.Laws.Set.{set_takes, set_form_body, table_told, o
 use crate::asn1_types::lists::{
     Encodings, FromItems, Listed, constructed_list_by_der, count_items, encode_items,
 };
-use crate::error::{Error, ParseResult, SerializeResult};
 use crate::kinds::HasKind;
 use crate::kinds::collections::{
     CountsItems, HasMembers, LawfulMembers, Once, SetKind, WritesAscending,
 };
 use crate::laws::{LawfulBer, LawfulBody, LawfulCheck, LawfulDer, LawfulMember};
-use crate::tag::Tag;
 use crate::to_der::ToDer;
 use crate::traits::{FromDer, Tagged};
+use asn1_headers::error::{Error, ParseResult, SerializeResult};
+use asn1_headers::tag::Tag;
 use std::alloc::{AllocError, Global};
 use std::collections::HashSet;
 use std::hash::Hash;

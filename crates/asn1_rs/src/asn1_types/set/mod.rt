@@ -8,12 +8,13 @@ ghost use Rattle.std.specs.Prelude.{◌≡◌, ℕ, List, true, length, map, IfO
 ghost use Rattle.std.specs.List.{concat};
 ghost use Rattle.x690.specs.Ascending.{arranged};
 ghost use Rattle.asn1_rs.specs.Lists.{AreEncodings};
-ghost use Rattle.asn1_rs.specs.Writer.{Wrote, MayRefuse};
+ghost use Rattle.asn1_headers.specs.Writer.{Wrote, MayRefuse};
 
 use crate::asn1_types::lists::Encodings;
-use crate::error::{SerializeError, SerializeResult};
-use crate::writer::{DerWrite, put_all};
+use asn1_headers::error::{SerializeError, SerializeResult};
+use asn1_headers::writer::{DerWrite, put_all};
 use std::alloc::{AllocError, Global};
+use x690::ascending::arrange;
 
 /// Each of the encodings, where it stands.
 fn pieces_of(encodings: &Encodings, alloc: Global) -> Result<Vec<&[u8]>, AllocError>
@@ -36,7 +37,7 @@ fn join_ascending(encodings: &Encodings, alloc: Global) -> Result<Vec<u8>, Alloc
         IfOk result (λ v. v.items ≡ concat (arranged strings)) }
 {
     let mut pieces = pieces_of(encodings, alloc)?;
-    pieces.sort_unstable();
+    arrange(&mut pieces);
     let mut content = Vec::with_capacity(alloc, encodings.octets.len())?;
     for piece in &pieces {
         content.extend_from_slice(piece)?;

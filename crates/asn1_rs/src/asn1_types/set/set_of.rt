@@ -7,8 +7,8 @@ ghost use Rattle.x690.specs.Identifiers.{IsCutIdentifier};
 ghost use Rattle.x690.specs.Collections.{multiset, AnyList};
 ghost use Rattle.x690.specs.Laws.Collections.{permutation_from_multiset};
 ghost use Rattle.asn1_rs.specs.Traits.{PassesAll, DerGives, OfParts};
-ghost use Rattle.asn1_rs.specs.Ber.{EndsWithin};
-ghost use Rattle.asn1_rs.specs.declared.error.Error.TheVariants as errors;
+ghost use Rattle.asn1_headers.specs.Ber.{EndsWithin};
+ghost use Rattle.asn1_headers.specs.declared.error.Error.TheVariants as errors;
 ghost use Rattle.asn1_rs.specs.Lists.{ListReads, PushesItem};
 ghost use Rattle.asn1_rs.specs.ToDer.{IsWritable};
 ghost use Rattle.asn1_rs.specs.Set.{SetRow, items_of, HasItems, lends_set_items, multiset_grammar};
@@ -20,16 +20,16 @@ ghost use Rattle.asn1_rs.specs.Laws.Set.{multiset_told, multiset_lawful, set_tak
 use crate::asn1_types::lists::{
     Encodings, FromItems, Listed, encode_items, items_from_iter, list_by_der, push_item,
 };
-use crate::error::{Error, ParseResult, SerializeResult};
 use crate::kinds::collections::{CountsItems, Repeats, SetKind, WritesAscending};
 use crate::kinds::writing::{LawfulTaggedBy, LawfulWriteBy, TakesClassBy};
 use crate::kinds::{GrammarBy, HasKind, LawfulItemBy};
 use crate::laws::{
     Grammar, LawfulBer, LawfulBody, LawfulCheck, LawfulDer, LawfulItem, LawfulWrite,
 };
-use crate::tag::Tag;
 use crate::to_der::ToDer;
 use crate::traits::{FromDer, Tagged};
+use asn1_headers::error::{Error, ParseResult, SerializeResult};
+use asn1_headers::tag::Tag;
 use std::alloc::{AllocError, Global};
 
 /// A set of items, each as often as it stands in the list that it is made of.

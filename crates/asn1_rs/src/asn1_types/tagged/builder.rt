@@ -1,17 +1,17 @@
 //! Builders of the readers of [`TaggedParser`], and readers of one tag number.
 ghost use Rattle.std.specs.Prelude.{◌≡◌};
-ghost use Rattle.asn1_rs.specs.Answers.{seen};
+ghost use Rattle.asn1_headers.specs.Answers.{seen};
 ghost use Rattle.asn1_rs.specs.Tagged.{ThenByDer, ThenByBer};
 ghost use Rattle.asn1_rs.specs.Tagged.Parser.{TakesExplicit, TakesImplicit, ChecksAndConverts, HasNumber, HasTag, Asks, Expects};
-ghost use Rattle.asn1_rs.specs.declared.class.Class.TheVariants as classes;
-ghost use Rattle.asn1_rs.specs.declared.tag.Tag.{Tag};
+ghost use Rattle.asn1_headers.specs.declared.class.Class.TheVariants as classes;
+ghost use Rattle.asn1_headers.specs.declared.tag.Tag.{Tag};
 
 use crate::asn1_types::tagged::parser::TaggedParser;
 use crate::asn1_types::tagged::{Explicit, Implicit};
-use crate::class::Class;
-use crate::error::{Err, Error, ParseResult};
-use crate::tag::Tag;
 use crate::traits::{CheckDerConstraints, FromAny, FromBer, FromDer, Tagged};
+use asn1_headers::class::Class;
+use asn1_headers::error::{Err, Error, ParseResult};
+use asn1_headers::tag::Tag;
 use std::alloc::Global;
 use std::marker::PhantomData;
 

@@ -5,9 +5,9 @@ ghost use Rattle.x690.specs.Faults.{DerElementFault};
 ghost use Rattle.x690.specs.Identifiers.{IsCutIdentifier};
 ghost use Rattle.x690.specs.Nested.{IsElement, ElementFault};
 ghost use Rattle.asn1_rs.specs.Any.{parts_of, DerElementGives};
-ghost use Rattle.asn1_rs.specs.Ber.{max_depth, EndsWithin};
-ghost use Rattle.asn1_rs.specs.Header.{identifier_of};
-ghost use Rattle.asn1_rs.specs.Header.Reading.{der_breach, ber_breach};
+ghost use Rattle.asn1_headers.specs.Ber.{max_depth, EndsWithin};
+ghost use Rattle.asn1_headers.specs.Header.{identifier_of};
+ghost use Rattle.asn1_headers.specs.Header.Reading.{der_breach, ber_breach};
 ghost use Rattle.asn1_rs.specs.Laws.Forms.{der_strict};
 ghost use Rattle.asn1_rs.specs.Laws.Readers.{der_elements, ber_elements, der_breach_spares, ber_breach_spares};
 ghost use Rattle.asn1_rs.specs.Laws.Tagged.Explicit.{explicit_checks};
@@ -21,11 +21,11 @@ use crate::asn1_types::any::Any;
 use crate::asn1_types::tagged::Explicit;
 use crate::asn1_types::tagged::parser::TaggedParser;
 use crate::der::element_by_der;
-use crate::error::Error;
 use crate::laws::{
     Grammar, LawfulBer, LawfulCheck, LawfulDer, LawfulItem, LawfulMember, LawfulWrite,
 };
 use crate::traits::CheckDerConstraints;
+use asn1_headers::error::Error;
 
 /// Checks the first element in the contents octets, by DER.
 fn check_inner<T: CheckDerConstraints>(any: &Any<'_>) -> Result<(), Error>

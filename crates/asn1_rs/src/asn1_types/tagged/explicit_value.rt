@@ -1,15 +1,15 @@
 //! Values under an explicit tag: an element of its own, constructed, around that of the value (X.690 8.14.2).
 ghost use Rattle.std.specs.Prelude.{◌++◌, ◌≡◌, ◌≤◌, false, true, length};
 ghost use Rattle.x690.specs.Strict.{header_octets};
-ghost use Rattle.asn1_rs.specs.declared.error.SerializeError.TheVariants.{InvalidClass};
-ghost use Rattle.asn1_rs.specs.Answers.{seen};
+ghost use Rattle.asn1_headers.specs.declared.error.SerializeError.TheVariants.{InvalidClass};
+ghost use Rattle.asn1_headers.specs.Answers.{seen};
 ghost use Rattle.asn1_rs.specs.Any.{parts_of, BerElementGives};
 ghost use Rattle.asn1_rs.specs.Tagged.Explicit.{ExplicitTakes, ExplicitReads, ExplicitGives, ExplicitCheckGives, InnerTakes, InnerChecked, tag_checks, explicit_grammar};
 ghost use Rattle.asn1_rs.specs.Laws.Forms.{der_strict};
 ghost use Rattle.asn1_rs.specs.Laws.Tagged.{number_fits, marked_same};
 ghost use Rattle.asn1_rs.specs.Laws.Tagged.Explicit.{explicit_lawful, explicit_number, explicit_by_value, explicit_writes_form, explicit_has_form, explicit_takes_class, explicit_takes, explicit_takes_spares, explicit_form_body, explicit_der_exact, explicit_der_spares, explicit_checks};
-ghost use Rattle.asn1_rs.specs.Ber.{max_depth, EndsWithin};
-ghost use Rattle.asn1_rs.specs.Header.Reading.{ber_breach};
+ghost use Rattle.asn1_headers.specs.Ber.{max_depth, EndsWithin};
+ghost use Rattle.asn1_headers.specs.Header.Reading.{ber_breach};
 ghost use Rattle.asn1_rs.specs.Laws.Readers.{ber_elements, ber_breach_spares};
 ghost use Rattle.x690.specs.Nested.{IsElement, ElementFault};
 ghost use Rattle.x690.specs.Identifiers.{IsCutIdentifier};
@@ -21,16 +21,16 @@ use crate::asn1_types::option::without_raw_tag;
 use crate::asn1_types::tagged::{Explicit, TaggedValue};
 use crate::ber::element_by_ber;
 use crate::der::element_by_der;
-use crate::error::{Err, Error, ParseResult, SerializeError, SerializeResult};
-use crate::header::writing::{element_len, put_counted_header};
+use crate::header::{element_len, put_counted_header};
 use crate::laws::{
     Grammar, LawfulBer, LawfulBody, LawfulCheck, LawfulDer, LawfulItem, LawfulMember, LawfulTagged,
     LawfulWrite, TakesClass,
 };
-use crate::tag::Tag;
 use crate::to_der::ToDer;
 use crate::traits::{CheckDerConstraints, FromAny, FromBer, FromDer};
-use crate::writer::DerWrite;
+use asn1_headers::error::{Err, Error, ParseResult, SerializeError, SerializeResult};
+use asn1_headers::tag::Tag;
+use asn1_headers::writer::DerWrite;
 use std::alloc::Global;
 
 /// The header is that of the tag, the contents octets are the encoding of the value. A class above 3 is refused with

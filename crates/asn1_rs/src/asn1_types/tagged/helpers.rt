@@ -1,14 +1,14 @@
 //! Elements of a tag number that is given, whose contents octets are handed to a closure.
-ghost use Rattle.asn1_rs.specs.Answers.{seen};
+ghost use Rattle.asn1_headers.specs.Answers.{seen};
 ghost use Rattle.asn1_rs.specs.Tagged.{ThenByDer};
 ghost use Rattle.asn1_rs.specs.Tagged.Helpers.{TakesNumber, ReturnsOfContent, ReturnsUnder};
-ghost use Rattle.asn1_rs.specs.declared.tag.Tag.{Tag};
+ghost use Rattle.asn1_headers.specs.declared.tag.Tag.{Tag};
 
 use crate::der::element_by_der;
-use crate::error::{Err, Error, ParseResult};
-use crate::header::Header;
-use crate::tag::Tag;
 use crate::traits::Tagged;
+use asn1_headers::error::{Err, Error, ParseResult};
+use asn1_headers::header::Header;
+use asn1_headers::tag::Tag;
 
 /// Reads an element by DER, looks at its tag number, and hands its contents octets and its header to the closure. The
 /// rest is the element's; what the closure leaves over is dropped. The class is not looked at.

@@ -5,10 +5,10 @@ ghost use Rattle.x690.specs.Faults.{DerElementFault};
 ghost use Rattle.x690.specs.Identifiers.{IsCutIdentifier};
 ghost use Rattle.x690.specs.Nested.{IsElement, ElementFault};
 ghost use Rattle.asn1_rs.specs.Any.{parts_of};
-ghost use Rattle.asn1_rs.specs.Ber.{max_depth, EndsWithin};
+ghost use Rattle.asn1_headers.specs.Ber.{max_depth, EndsWithin};
 ghost use Rattle.asn1_rs.specs.Grammar.{FormTakes};
-ghost use Rattle.asn1_rs.specs.Header.{identifier_of};
-ghost use Rattle.asn1_rs.specs.Header.Reading.{der_breach, ber_breach};
+ghost use Rattle.asn1_headers.specs.Header.{identifier_of};
+ghost use Rattle.asn1_headers.specs.Header.Reading.{der_breach, ber_breach};
 ghost use Rattle.asn1_rs.specs.Laws.Readers.{der_elements, ber_elements, der_breach_spares, ber_breach_spares};
 ghost use Rattle.asn1_rs.specs.Laws.Tagged.Headed.{each_class, implicit_headed_lawful, implicit_headed_by_value, implicit_headed_writes_form, implicit_headed_has_form, headed_same};
 ghost use Rattle.asn1_rs.specs.Laws.Tagged.Implicit.{implicit_checked};
@@ -21,12 +21,12 @@ use crate::asn1_types::any::Any;
 use crate::asn1_types::tagged::Implicit;
 use crate::asn1_types::tagged::implicit_value::check_under;
 use crate::asn1_types::tagged::parser::TaggedParser;
-use crate::error::Error;
 use crate::laws::{
     Grammar, LawfulBer, LawfulBody, LawfulCheck, LawfulDer, LawfulItem, LawfulMember, LawfulTagged,
     LawfulWrite, TakesClass,
 };
 use crate::traits::{CheckDerConstraints, Tagged};
+use asn1_headers::error::Error;
 
 /// A type whose values keep constraints and conversion under an implicit tag of each of the four classes, as those that
 /// bear no tag of their own do.

@@ -4,10 +4,10 @@ ghost use Rattle.std.specs.Prelude.{◌≡◌, ◌≤◌, false, length};
 ghost use Rattle.x690.specs.Elements.{IsDerElement};
 ghost use Rattle.x690.specs.Faults.{DerElementFault};
 ghost use Rattle.x690.specs.Strict.{header_octets};
-ghost use Rattle.asn1_rs.specs.declared.error.SerializeError.TheVariants.{InvalidClass};
+ghost use Rattle.asn1_headers.specs.declared.error.SerializeError.TheVariants.{InvalidClass};
 ghost use Rattle.asn1_rs.specs.declared.asn1_types.any.Any.{Any};
 ghost use Rattle.asn1_rs.specs.Any.{parts_of};
-ghost use Rattle.asn1_rs.specs.Header.Reading.{der_breach};
+ghost use Rattle.asn1_headers.specs.Header.Reading.{der_breach};
 ghost use Rattle.asn1_rs.specs.Laws.Readers.{unchecked_exact, element_spares, der_breach_spares, all_pass};
 ghost use Rattle.asn1_rs.specs.Laws.Tagged.{number_fits, marked_same};
 ghost use Rattle.asn1_rs.specs.Laws.Tagged.Implicit.{implicit_lawful, implicit_number, implicit_by_value, implicit_writes_form, implicit_has_form, implicit_takes_class, implicit_form_body, implicit_takes, implicit_takes_spares, implicit_checked};
@@ -20,17 +20,17 @@ use crate::asn1_types::any::Any;
 use crate::asn1_types::option::without_raw_tag;
 use crate::asn1_types::tagged::{Implicit, TaggedValue};
 use crate::der::element_by_der;
-use crate::error::{Err, Error, ParseResult, SerializeError, SerializeResult};
-use crate::header::Header;
-use crate::header::writing::{element_len, put_counted_header};
+use crate::header::{element_len, put_counted_header};
 use crate::laws::{
     Grammar, LawfulBody, LawfulCheck, LawfulDer, LawfulItem, LawfulMember, LawfulTagged,
     LawfulWrite, TakesClass,
 };
-use crate::tag::Tag;
 use crate::to_der::ToDer;
 use crate::traits::{CheckDerConstraints, FromAny, FromDer, Tagged};
-use crate::writer::DerWrite;
+use asn1_headers::error::{Err, Error, ParseResult, SerializeError, SerializeResult};
+use asn1_headers::header::Header;
+use asn1_headers::tag::Tag;
+use asn1_headers::writer::DerWrite;
 use std::alloc::Global;
 
 /// The header is that of the tag, with the constructed bit of the value; the contents octets are the value's. A class

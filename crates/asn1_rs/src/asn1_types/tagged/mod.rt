@@ -15,10 +15,10 @@ ghost use Rattle.asn1_rs.specs.Tagged.{has_class, number_of};
 ghost use Rattle.asn1_rs.specs.Any.{parts_of};
 
 use crate::asn1_types::any::Any;
-use crate::class::Class;
-use crate::error::Error;
-use crate::tag::Tag;
 use crate::traits::Tagged;
+use asn1_headers::class::Class;
+use asn1_headers::error::Error;
+use asn1_headers::tag::Tag;
 use std::marker::PhantomData;
 
 /// Marks explicit tags: an element of their own around that of the value (X.690 8.14.2).

@@ -3,20 +3,20 @@ ghost use Rattle.std.specs.Prelude.{◌≡◌};
 ghost use Rattle.x690.specs.Elements.{IsDerElement};
 ghost use Rattle.x690.specs.Faults.{DerElementFault};
 ghost use Rattle.x690.specs.Nested.{IsElement, ElementFault};
-ghost use Rattle.asn1_rs.specs.Answers.{seen};
-ghost use Rattle.asn1_rs.specs.Ber.{max_depth};
-ghost use Rattle.asn1_rs.specs.Header.Reading.{der_refusal, ber_refusal};
+ghost use Rattle.asn1_headers.specs.Answers.{seen};
+ghost use Rattle.asn1_headers.specs.Ber.{max_depth};
+ghost use Rattle.asn1_headers.specs.Header.Reading.{der_refusal, ber_refusal};
 ghost use Rattle.asn1_rs.specs.Tagged.{ReturnsOfHeader};
 ghost use Rattle.asn1_rs.specs.Tagged.Optional.{TakesOption, OptionGives};
-ghost use Rattle.asn1_rs.specs.declared.class.Class.TheVariants as classes;
+ghost use Rattle.asn1_headers.specs.declared.class.Class.TheVariants as classes;
 
 use crate::asn1_types::any::Any;
 use crate::ber::element_by_ber;
-use crate::class::Class;
 use crate::der::element_by_der;
-use crate::error::{Err, Error, ParseResult};
-use crate::header::Header;
-use crate::tag::Tag;
+use asn1_headers::class::Class;
+use asn1_headers::error::{Err, Error, ParseResult};
+use asn1_headers::header::Header;
+use asn1_headers::tag::Tag;
 
 /// A parser of an element that may be there or not: it is there where the tag number is this one.
 ///

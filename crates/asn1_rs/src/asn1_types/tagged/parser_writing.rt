@@ -1,19 +1,19 @@
 //! Values with the header of their tag, as they are written (X.690 8.14).
 ghost use Rattle.std.specs.Prelude.{ℕ, ◌≡◌, ◌++◌, Bool, List, false, length, true, IfOk, IfErr, IsErr};
 ghost use Rattle.x690.specs.Strict.{header_octets};
-ghost use Rattle.asn1_rs.specs.declared.error.Error.{Error};
-ghost use Rattle.asn1_rs.specs.declared.error.SerializeError.{SerializeError};
-ghost use Rattle.asn1_rs.specs.Class.{class_number};
-ghost use Rattle.asn1_rs.specs.Header.{class_of, tag_of};
+ghost use Rattle.asn1_headers.specs.declared.error.Error.{Error};
+ghost use Rattle.asn1_headers.specs.declared.error.SerializeError.{SerializeError};
+ghost use Rattle.asn1_headers.specs.Class.{class_number};
+ghost use Rattle.asn1_headers.specs.Header.{class_of, tag_of};
 ghost use Rattle.asn1_rs.specs.ToDer.{Either, Refuses, RefusesCount, WrittenRefusal, some_allocates};
-ghost use Rattle.asn1_rs.specs.Writer.{Wrote};
+ghost use Rattle.asn1_headers.specs.Writer.{Wrote};
 
 use crate::asn1_types::tagged::parser::TaggedParser;
 use crate::asn1_types::tagged::{Explicit, Implicit};
-use crate::error::{Error, SerializeResult, without_io};
-use crate::header::writing::{element_len, put_counted_header};
+use crate::header::{element_len, put_counted_header};
 use crate::to_der::ToDer;
-use crate::writer::{DerWrite, Told, add_written};
+use asn1_headers::error::{Error, SerializeResult, without_io};
+use asn1_headers::writer::{DerWrite, Told, add_written};
 use std::alloc::Global;
 
 /// What an element under a tag of this kind has of the value: its contents octets, and its constructed bit.

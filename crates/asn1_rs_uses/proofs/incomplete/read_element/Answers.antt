@@ -1,4 +1,4 @@
-use Rattle.asn1_rs.specs.Answers.{seen}
+use Rattle.asn1_headers.specs.Answers.{seen}
 use Rattle.asn1_rs_uses.proofs.incomplete.read_element.Goals as goal
 
 pub returns : goal.returns

@@ -1,5 +1,5 @@
-use Rattle.asn1_rs.specs.Header.Reading.{ber_breach}
-use Rattle.asn1_rs.specs.Answers.{seen}
+use Rattle.asn1_headers.specs.Header.Reading.{ber_breach}
+use Rattle.asn1_headers.specs.Answers.{seen}
 use Rattle.x690.specs.Rules.{ber_rule}
 use Rattle.asn1_rs_uses.proofs.incomplete.read_header.Goals as goal
 

@@ -1,7 +1,7 @@
 use Rattle.std.proofs.Common.{◌≡◌, ◌∙◌, ap, arith, sym, subst, List, ℕ, pos}
 use Rattle.x690.specs.Octets.{IsOctets}
 use Rattle.x690.specs.Joined.{IsJoined, AreJoinedWords}
-use Rattle.asn1_rs.specs.declared.error.Error.{Error}
+use Rattle.asn1_headers.specs.declared.error.Error.{Error}
 use Rattle.asn1_rs.specs.Traits.{OfParts, DerGives}
 use Rattle.asn1_rs.specs.Grammar.{DerWord}
 use Rattle.asn1_rs.specs.Integer.{IntegerBody, IntegerCheck, IntegerCheckGives, IsUnsigned, UnsignedGives}

@@ -1,5 +1,5 @@
 use Rattle.std.proofs.Common.{arith}
-use Rattle.asn1_rs.specs.Answers.{seen}
+use Rattle.asn1_headers.specs.Answers.{seen}
 use Rattle.asn1_rs_uses.proofs.numbers.read_number.Goals as goal
 
 pub returns-clause-cut : goal.returns-clause-cut

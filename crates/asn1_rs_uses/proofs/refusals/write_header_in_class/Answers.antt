@@ -1,5 +1,5 @@
 use Rattle.std.proofs.Common.{refl}
-use Rattle.asn1_rs.specs.declared.error.SerializeError.TheVariants as serialize_errors
+use Rattle.asn1_headers.specs.declared.error.SerializeError.TheVariants as serialize_errors
 use Rattle.asn1_rs_uses.proofs.refusals.write_header_in_class.Goals as goal
 
 pub returns : goal.returns

@@ -1,5 +1,5 @@
 use Rattle.std.proofs.Common.{refl}
-use Rattle.asn1_rs.specs.Error.{written_refusal}
+use Rattle.asn1_headers.specs.Error.{written_refusal}
 use Rattle.asn1_rs_uses.proofs.Unwritten.{empty_part, name_unwritten}
 use Rattle.asn1_rs_uses.proofs.refusals.write_name.Goals as goal
 

@@ -1,5 +1,5 @@
 use Rattle.std.proofs.lemmas.Result.{err_from_is_err_and}
-use Rattle.asn1_rs.proofs.Writing.{Wrote_front, Wrote_then_err}
+use Rattle.asn1_headers.specs.Laws.Writing.{Wrote_front, Wrote_then_err}
 use Rattle.asn1_rs.proofs.asn1_types.bit_string.put_bits.Goals as goal
 
 pub returns-in_err-before-clause-wrote : goal.returns-in_err-before-clause-wrote

@@ -2,7 +2,7 @@ use Rattle.std.proofs.Common.{◌≡◌, ◌++◌, List, length, map, take}
 use Rattle.std.specs.List.{All, flat_map}
 use Rattle.asn1_rs.specs.ToDer.{HasNone, Either, IntoVector}
 use Rattle.asn1_rs.specs.Lists.{GivesItems}
-use Rattle.asn1_rs.specs.Writer.{wrapped_in}
+use Rattle.asn1_headers.specs.Writer.{wrapped_in}
 use Rattle.asn1_rs.proofs.asn1_types.lists.encode_items.Given as goal
 
 abbrev pub invariant-loop-item : goal.invariant-loop-item

@@ -4,7 +4,7 @@ use Rattle.std.proofs.lemmas.List.{take_all}
 use Rattle.std.proofs.lemmas.Result.{err_from_is_err_and}
 use Rattle.std.specs.List.{flat_map}
 use Rattle.asn1_rs.specs.ToDer.{Either, some_allocates}
-use Rattle.asn1_rs.specs.Writer.{Wrote}
+use Rattle.asn1_headers.specs.Writer.{Wrote}
 use Rattle.asn1_rs.proofs.Lists.{item_given, all_given, one_longer, item_all, Wrote_item_err, Wrote_item_sum, Wrote_next, Refuses_item, MayRefuse_item_sum, none_more, none_of_all}
 use Rattle.asn1_rs.proofs.Writing.{neither_refuses}
 use Rattle.asn1_rs.proofs.asn1_types.lists.write_items.Goals as goal

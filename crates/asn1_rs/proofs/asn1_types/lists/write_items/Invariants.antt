@@ -1,6 +1,6 @@
 use Rattle.std.proofs.Common.{◌++◌, List, Ok, length, take}
 use Rattle.std.specs.List.{All, flat_map}
-use Rattle.asn1_rs.specs.Writer.{Wrote}
+use Rattle.asn1_headers.specs.Writer.{Wrote}
 use Rattle.asn1_rs.specs.ToDer.{HasNone, Either}
 use Rattle.asn1_rs.specs.Lists.{GivesItems}
 use Rattle.asn1_rs.proofs.asn1_types.lists.write_items.Given as goal

@@ -1,7 +1,7 @@
 use Rattle.std.proofs.Common.{ap, subst}
-use Rattle.asn1_rs.specs.declared.tag.Tag.{Tag}
-use Rattle.asn1_rs.specs.Answers.{seen}
-use Rattle.asn1_rs.specs.Header.Reading.{HeaderGives, refusal_of}
+use Rattle.asn1_headers.specs.declared.tag.Tag.{Tag}
+use Rattle.asn1_headers.specs.Answers.{seen}
+use Rattle.asn1_headers.specs.Header.Reading.{HeaderGives, refusal_of}
 use Rattle.asn1_rs.specs.Laws.Optional.{read_tells, refusal_tells}
 use Rattle.asn1_rs.proofs.asn1_types.option.is_left_out.Goals as goal
 

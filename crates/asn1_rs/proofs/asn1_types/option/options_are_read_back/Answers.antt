@@ -2,7 +2,7 @@ use Rattle.std.proofs.Common.{rules}
 use Rattle.x690.specs.Identifiers.{IsCutIdentifier}
 use Rattle.x690.specs.Rules.{ber_rule, der_rule}
 use Rattle.x690.specs.Laws.StrictElements.{ber_allows_strict, der_allows_strict}
-use Rattle.asn1_rs.specs.Ber.{EndsWithin}
+use Rattle.asn1_headers.specs.Ber.{EndsWithin}
 use Rattle.asn1_rs.specs.Laws.Optional.{held_is_read_back}
 use Rattle.asn1_rs.proofs.asn1_types.option.options_are_read_back.Goals as goal
 

@@ -1,4 +1,4 @@
-use Rattle.asn1_rs.specs.Header.Reading.{der_breach, ber_breach}
+use Rattle.asn1_headers.specs.Header.Reading.{der_breach, ber_breach}
 use Rattle.asn1_rs.specs.Laws.Readers.{der_elements, ber_elements}
 use Rattle.asn1_rs.specs.Laws.Beginnings.{beginning_is_refused, header_beginning_is_refused}
 use Rattle.asn1_rs.proofs.laws.functions.beginnings_are_refused.Goals as goal

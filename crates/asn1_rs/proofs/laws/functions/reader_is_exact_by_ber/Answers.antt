@@ -1,5 +1,5 @@
 use Rattle.std.proofs.Common.{rules}
-use Rattle.asn1_rs.specs.Ber.{EndsWithin}
+use Rattle.asn1_headers.specs.Ber.{EndsWithin}
 use Rattle.asn1_rs.specs.Laws.Words.{read_back}
 use Rattle.asn1_rs.specs.Laws.Beginnings.{word_beginning_is_refused}
 use Rattle.asn1_rs.proofs.laws.functions.reader_is_exact_by_ber.Goals as goal

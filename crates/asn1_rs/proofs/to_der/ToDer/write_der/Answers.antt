@@ -2,7 +2,8 @@ use Rattle.std.proofs.Common.{arith, length-append}
 use Rattle.std.proofs.lemmas.Bool.{false≢true}
 use Rattle.std.proofs.lemmas.Result.{err_from_is_err_and}
 use Rattle.asn1_rs.specs.ToDer.{Either}
-use Rattle.asn1_rs.proofs.Writing.{Wrote_then_err, Wrote_sum, MayRefuse_sum, refuses_first, refuses_second, refuses_wider, header_at_once, only_may, not_refused}
+use Rattle.asn1_headers.specs.Laws.Writing.{Wrote_then_err, Wrote_sum, MayRefuse_sum}
+use Rattle.asn1_rs.proofs.Writing.{refuses_first, refuses_second, refuses_wider, header_at_once, only_may, not_refused}
 use Rattle.asn1_rs.proofs.to_der.ToDer.write_der.Goals as goal
 
 pub returns-in_err-after-clause-wrote : goal.returns-in_err-after-clause-wrote

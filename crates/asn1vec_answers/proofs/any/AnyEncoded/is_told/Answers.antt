@@ -1,6 +1,6 @@
 use Rattle.std.proofs.Common.{subst, arith, ◌<◌, ◌^◌}
-use Rattle.asn1_rs.specs.declared.tag.Tag.{Tag}
-use Rattle.asn1_rs.specs.Header.{identifier_of}
+use Rattle.asn1_headers.specs.declared.tag.Tag.{Tag}
+use Rattle.asn1_headers.specs.Header.{identifier_of}
 use Rattle.x690.specs.Strict.{element_octets}
 use Rattle.asn1vec_answers.proofs.ShownLaws.{strict_element}
 use Rattle.asn1vec_answers.proofs.any.AnyEncoded.is_told.Goals as goal

@@ -1,6 +1,6 @@
 use Rattle.std.proofs.lemmas.Result.{err_from_is_err_and}
 use Rattle.asn1_rs.specs.Any.Writing.{content_of}
-use Rattle.asn1_rs.proofs.Writing.{Wrote_front, Wrote_then_err, Wrote_sum, MayRefuse_sum}
+use Rattle.asn1_headers.specs.Laws.Writing.{Wrote_front, Wrote_then_err, Wrote_sum, MayRefuse_sum}
 use Rattle.asn1_rs.proofs.asn1_types.any.writing.put_kept_length.Goals as goal
 
 pub returns-in_err-before-clause-wrote : goal.returns-in_err-before-clause-wrote

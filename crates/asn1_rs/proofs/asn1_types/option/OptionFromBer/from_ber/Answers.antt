@@ -1,6 +1,6 @@
 use Rattle.x690.specs.Rules.{ber_rule}
-use Rattle.asn1_rs.specs.Answers.{seen}
-use Rattle.asn1_rs.specs.Header.Reading.{ber_breach}
+use Rattle.asn1_headers.specs.Answers.{seen}
+use Rattle.asn1_headers.specs.Header.Reading.{ber_breach}
 use Rattle.asn1_rs.specs.Laws.Optional.{answers_none, answers_held}
 use Rattle.asn1_rs.proofs.asn1_types.option.OptionFromBer.from_ber.Goals as goal
 

@@ -1,5 +1,5 @@
 use Rattle.std.proofs.Common.{false}
-use Rattle.asn1_rs.specs.Tag.{is_container_number}
+use Rattle.asn1_headers.specs.Tag.{is_container_number}
 use Rattle.asn1_rs.proofs.Writing.{only_may_count}
 use Rattle.asn1_rs.proofs.kinds.writing.AnyToDerByElementKind.element_count.Goals as goal
 

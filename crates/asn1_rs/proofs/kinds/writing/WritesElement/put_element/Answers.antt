@@ -1,6 +1,6 @@
 use Rattle.std.proofs.Common.{false, length}
 use Rattle.std.proofs.lemmas.Result.{err_from_is_err_and}
-use Rattle.asn1_rs.proofs.Writing.{Wrote_front, Wrote_then_err, Wrote_sum}
+use Rattle.asn1_headers.specs.Laws.Writing.{Wrote_front, Wrote_then_err, Wrote_sum}
 use Rattle.asn1_rs.proofs.kinds.writing.WritesElement.put_element.Goals as goal
 
 pub returns-in_err-before-clause-wrote : goal.returns-in_err-before-clause-wrote

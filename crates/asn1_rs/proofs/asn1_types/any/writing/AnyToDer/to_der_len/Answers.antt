@@ -1,5 +1,5 @@
 use Rattle.std.proofs.Common.{false, refl, ◌++◌, length}
-use Rattle.asn1_rs.specs.Class.{class_number}
+use Rattle.asn1_headers.specs.Class.{class_number}
 use Rattle.asn1_rs.specs.Any.Writing.{content_of, element_header}
 use Rattle.asn1_rs.proofs.Writing.{only_may_count}
 use Rattle.asn1_rs.proofs.asn1_types.any.writing.AnyToDer.to_der_len.Goals as goal

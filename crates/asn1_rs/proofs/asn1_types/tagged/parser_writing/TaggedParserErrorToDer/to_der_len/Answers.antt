@@ -1,7 +1,7 @@
 use Rattle.std.proofs.Common.{◌++◌, ◌≤◌, length, length-append, arith}
 use Rattle.x690.specs.Strict.{header_octets}
-use Rattle.asn1_rs.specs.Class.{class_number}
-use Rattle.asn1_rs.specs.Header.{class_of}
+use Rattle.asn1_headers.specs.Class.{class_number}
+use Rattle.asn1_headers.specs.Header.{class_of}
 use Rattle.asn1_rs.proofs.Lists.{MayRefuseCount_more}
 use Rattle.asn1_rs.proofs.Writing.{element_refused}
 use Rattle.asn1_rs.proofs.asn1_types.tagged.parser_writing.TaggedParserErrorToDer.to_der_len.Goals as goal

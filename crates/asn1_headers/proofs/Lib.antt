@@ -1,0 +1,3 @@
+mod HeadersAndContents
+mod OpenContents
+mod Reading

@@ -1,0 +1,45 @@
+-- Headers.
+pub mod Reading
+pub mod Writing
+use Rattle.std.specs.Prelude.{◌≡◌, ◌&&◌, ℕ, Bool, nat_eq, Option, List}
+use Rattle.std.specs.Option.{option_map}
+use Rattle.std.specs.Ordering.{on}
+use Rattle.std.specs.Bool.{beq}
+use Rattle.std.specs.Cow.{cow_slice_items}
+use Rattle.x690.specs.Identifiers.{Identifier}
+use Rattle.asn1_headers.specs.declared.class.Class.{Class}
+use Rattle.asn1_headers.specs.declared.tag.Tag.{Tag}
+use Rattle.asn1_headers.specs.declared.length.Length.{Length}
+use Rattle.asn1_headers.specs.declared.header.Header.{Header}
+use Rattle.asn1_headers.specs.Class.{class_number}
+
+abbrev pub class_of : Header → Class
+class_of h = h.class
+
+abbrev pub is_constructed_of : Header → Bool
+is_constructed_of h = h.constructed
+
+abbrev pub tag_of : Header → Tag
+tag_of h = h.tag
+
+abbrev pub length_of : Header → Length
+length_of h = h.length
+
+-- the identifier octets that were read, where the header keeps them
+abbrev pub raw_tag_of : Header → Option (List ℕ)
+raw_tag_of h = option_map cow_slice_items h.raw_tag
+
+-- what the header's identifier octets say
+abbrev pub identifier_of : Header → Identifier
+identifier_of h = record { class = class_number h.class; constructed = h.constructed; number = h.tag.0 }
+
+abbrev pub is_same_identifier : Header → Header → Bool
+is_same_identifier g h = on (λ h. class_number h.class) nat_eq g h && (on (λ h. h.constructed) beq g h && on (λ h. h.tag.0) nat_eq g h)
+
+-- the header has these parts
+pub record HasParts (h : Header) (class : Class) (constructed : Bool) (tag : Tag) (length : Length) (raw_tag : Option (List ℕ)) : Type 0 where
+  pub class_is : h.class ≡ class
+  pub constructed_is : h.constructed ≡ constructed
+  pub tag_is : h.tag ≡ tag
+  pub length_is : h.length ≡ length
+  pub raw_tag_is : option_map cow_slice_items h.raw_tag ≡ raw_tag

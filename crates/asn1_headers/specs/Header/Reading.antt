@@ -1,0 +1,97 @@
+-- What reading headers may answer.
+use Rattle.std.specs.Prelude.{◌≡◌, ℕ, true, Some, List, ◌++◌, Result, Ok, Err, length}
+use Rattle.x690.specs.Identifiers.{Identifier, IsIdentifier, IsCutIdentifier}
+use Rattle.x690.specs.Lengths.{IsLengthForm, LengthForm}
+use Rattle.x690.specs.Rules.{Rule, ber_rule}
+use Rattle.x690.specs.Elements.{IsHeader}
+use Rattle.x690.specs.Faults.{Breach, Fault, missing, tag_fault, length_fault, rule_fault, depth_fault, HeaderFault}
+use Rattle.asn1_headers.specs.declared.tag.Tag.{Tag}
+use Rattle.asn1_headers.specs.declared.length.Length.{Length}
+use Rattle.asn1_headers.specs.declared.header.Header.{Header}
+use Rattle.asn1_headers.specs.declared.header.reading.IdentifierOctets.{IdentifierOctets}
+use Rattle.asn1_headers.specs.declared.error.Error.{Error}
+use Rattle.asn1_headers.specs.declared.error.Error.TheVariants.{InvalidTag, InvalidLength, BerMaxDepth, DerConstraintFailed, ConstructExpected}
+use Rattle.asn1_headers.specs.declared.error.DerConstraint.TheVariants.{IndefiniteLength}
+use Rattle.asn1_headers.specs.declared.error.Err.{Err as Refusal}
+use Rattle.asn1_headers.specs.declared.error.Err.TheVariants.{Incomplete as cut, Error as refused}
+use Rattle.asn1_headers.specs.declared.error.Needed.TheVariants.{Size}
+use Rattle.asn1_headers.specs.Class.{class_number}
+use Rattle.asn1_headers.specs.Length.{form_of}
+use Rattle.asn1_headers.specs.Answers.{Speaks}
+use Rattle.asn1_headers.specs.Header.{identifier_of, raw_tag_of}
+
+-- The header, with its identifier octets kept, begins the input, and the rest follows.
+pub record BeginsInput (rule : Rule) (input rest : List ℕ) (h : Header) : Type 0 where
+  pub octets : List ℕ
+  pub header : IsHeader rule octets (identifier_of h) (form_of h.length)
+  pub is : input ≡ octets ++ rest
+  pub raw_tag : raw_tag_of h ≡ Some header.identifier
+
+-- the refusal that tells of a fault, where those of headers that their rule does not allow are given
+abbrev pub refusal_of : (Breach → Error) → Fault → Refusal Error
+refusal_of refuses (missing n) = cut (Size n)
+refusal_of refuses tag_fault = refused InvalidTag
+refusal_of refuses length_fault = refused InvalidLength
+refusal_of refuses (rule_fault breach) = refused (refuses breach)
+refusal_of refuses depth_fault = refused BerMaxDepth
+
+-- of what its rule does not allow in a header, DER refuses 80 always, and BER at a primitive element; there is nothing else today
+abbrev pub der_breach : Breach → Error
+der_breach breach = DerConstraintFailed IndefiniteLength
+
+abbrev pub ber_breach : Breach → Error
+ber_breach breach = ConstructExpected
+
+abbrev pub der_refusal : Fault → Refusal Error
+der_refusal = refusal_of der_breach
+
+abbrev pub ber_refusal : Fault → Refusal Error
+ber_refusal = refusal_of ber_breach
+
+-- the refusal tells of a fault of the octets
+abbrev pub Refused : (List ℕ → Fault → Type 0) → (Fault → Refusal Error) → List ℕ → Refusal Error → Type 0
+Refused FaultOf refusal octets r = (fault : Fault) × FaultOf octets fault × (r ≡ refusal fault)
+
+-- identifier octets that were read, with what they say
+abbrev pub id_read : IdentifierOctets → Identifier
+id_read x = record { class = class_number x.class; constructed = x.constructed; number = x.number }
+
+abbrev pub tag_read : IdentifierOctets → Tag
+tag_read x = record { 0 = x.number }
+
+-- the identifier octets begin the input, and the rest follows
+abbrev pub BeginsWithIdentifier : List ℕ → List ℕ → IdentifierOctets → Type 0
+BeginsWithIdentifier input rest x = IsIdentifier x.octets.now (id_read x) × (input ≡ x.octets.now ++ rest)
+
+-- length octets, or 80, begin the input, and the rest follows
+abbrev pub BeginsWithLength : List ℕ → List ℕ → Length → Type 0
+BeginsWithLength input rest length = (octets : List ℕ) × IsLengthForm octets (form_of length) × (input ≡ octets ++ rest)
+
+-- identifier octets and then length octets, or 80, begin the input, and the rest follows
+abbrev pub BeginsWithBoth : List ℕ → List ℕ → IdentifierOctets → Length → Type 0
+BeginsWithBoth input rest x length = (mid : List ℕ) × BeginsWithIdentifier input mid x × BeginsWithLength mid rest length
+
+-- the rule allows all identifier octets that a reader takes
+abbrev pub AllowsIdentifiers : Rule → Type 0
+AllowsIdentifiers rule = (octets : List ℕ) → rule.allows_identifier octets ≡ true
+
+-- what a reader of headers may answer: the header and the rest, or the refusal of the first fault
+abbrev pub HeaderGives : Rule → (Fault → Refusal Error) → List ℕ → Result (List ℕ × Header) (Refusal Error) → Type 0
+HeaderGives rule refusal input (Ok x) = BeginsInput rule input x.0 x.1
+HeaderGives rule refusal input (Err r) = Refused (HeaderFault rule) refusal input r
+
+-- The header's identifier octets are those at the front of the octets, and it keeps them.
+abbrev pub KeepsIdentifier : List ℕ → Header → Type 0
+KeepsIdentifier input h = (identifier rest : List ℕ) × IsIdentifier identifier (identifier_of h) × (input ≡ identifier ++ rest) × (raw_tag_of h ≡ Some identifier)
+
+-- a header by BER with a length of this form begins the input, and the rest follows
+abbrev pub BeginsWithForm : List ℕ → List ℕ → Length → Type 0
+BeginsWithForm input rest length = (header : List ℕ) × (id : Identifier) × IsHeader ber_rule header id (form_of length) × (input ≡ header ++ rest)
+
+-- no header begins the input after a refusal, nor more octets of which the refusal speaks
+abbrev pub HeaderRefusalLasts : Rule → List ℕ → Refusal Error → Type 0
+HeaderRefusalLasts rule input r = (more front rest : List ℕ) (id : Identifier) (form : LengthForm) → Speaks (IsCutIdentifier input) r more → IsHeader rule front id form → input ++ more ≡ front ++ rest → ⊥
+
+-- a header that is read is the one that begins the input, by each rule and whatever follows
+abbrev pub HeaderLasts : List ℕ → List ℕ → Header → Type 0
+HeaderLasts input rest h = (rule : Rule) (more front tail : List ℕ) (id : Identifier) (form : LengthForm) → IsHeader rule front id form → input ++ more ≡ front ++ tail → (id ≡ identifier_of h) × (form ≡ form_of h.length) × (tail ≡ rest ++ more)

@@ -1,0 +1,13 @@
+pub mod Error
+pub mod Class
+pub mod Tag
+pub mod Length
+pub mod Header
+pub mod Content
+pub mod Der
+pub mod Ber
+pub mod Elements
+pub mod Answers
+pub mod Writer
+pub mod Texts
+pub mod Laws

@@ -1,0 +1,36 @@
+-- What people read of refusals.
+use Rattle.std.specs.Prelude.{ℕ, List, ◌++◌, Option, Some, None, codes, decimal, if◌then◌else◌, nat_eq}
+use Rattle.std.specs.Fmt.{◌++?◌}
+use Rattle.asn1_headers.specs.Tag.{name_of, text_or}
+use Rattle.asn1_headers.specs.declared.class.Class.{Class}
+use Rattle.asn1_headers.specs.declared.class.Class.TheVariants.{Universal, Application, ContextSpecific, Private}
+use Rattle.asn1_headers.specs.declared.error.Err.{Err as Refusal}
+use Rattle.asn1_headers.specs.declared.error.Err.TheVariants.{Incomplete as cut, Error as refused, Failure as failed}
+use Rattle.asn1_headers.specs.declared.error.Needed.{Needed}
+use Rattle.asn1_headers.specs.declared.error.Needed.TheVariants.{Unknown, Size}
+
+-- the name of the universal type with the number, or else the number
+abbrev pub tag_name : ℕ → List ℕ
+tag_name number = text_or (name_of number) (decimal number)
+
+abbrev pub class_name : Class → List ℕ
+class_name Universal = codes "Universal"
+class_name Application = codes "Application"
+class_name ContextSpecific = codes "ContextSpecific"
+class_name Private = codes "Private"
+
+abbrev pub needed_text : Needed → List ℕ
+needed_text Unknown = codes "octets are missing"
+needed_text (Size n) = if nat_eq n 1 then codes "1 octet is missing" else decimal n ++ codes " octets are missing"
+
+-- what is missing, or the text of the error that is held
+abbrev pub refusal_text : {E : Type 0} → (E → Option (List ℕ)) → Refusal E → Option (List ℕ)
+refusal_text text (cut n) = Some (needed_text n)
+refusal_text text (refused e) = text e
+refusal_text text (failed e) = text e
+
+-- which part is expected and which one was found, by their names; or that the part is not expected
+abbrev pub unexpected_text : {T : Type 0} → (T → Option (List ℕ)) → List ℕ → Option T → T → Option (List ℕ)
+unexpected_text name what (Some expected) actual =
+    Some (codes "expected ") ++? Some what ++? Some (codes " ") ++? name expected ++? Some (codes ", found ") ++? name actual
+unexpected_text name what None actual = Some (codes "unexpected ") ++? Some what ++? Some (codes " ") ++? name actual

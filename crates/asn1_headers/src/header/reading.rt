@@ -1,0 +1,172 @@
+//! Reading identifier octets, length octets and headers (X.690 8.1.2, 8.1.3).
+ghost use Rattle.std.specs.Prelude.{◌≡◌, ℕ, Bool, List, ◌+◌, ◌*◌, ◌<◌, ◌≤◌, ◌++◌, length, IfOk, IfErr, Some};
+ghost use Rattle.x690.specs.Identifiers.{Identifier, bit};
+ghost use Rattle.x690.specs.Lengths.{LengthForm};
+ghost use Rattle.x690.specs.Rules.{Rule, der_rule, ber_rule};
+ghost use Rattle.x690.specs.Faults.{Breach, IdentifierFault, LengthFault, HeaderFault};
+ghost use Rattle.asn1_headers.specs.Class.{class_number};
+ghost use Rattle.asn1_headers.specs.Answers.{seen};
+ghost use Rattle.asn1_headers.specs.Header.Reading.{Refused, refusal_of, der_refusal, ber_refusal, HeaderGives, BeginsWithIdentifier, BeginsWithLength, BeginsWithBoth, AllowsIdentifiers, tag_read, BeginsWithForm};
+ghost use Rattle.asn1_headers.specs.Header.{HasParts};
+ghost use Rattle.asn1_headers.specs.declared.error.Error.{Error};
+ghost use Rattle.asn1_headers.specs.declared.error.Err.TheVariants.{Error as refused};
+ghost use Rattle.asn1_headers.specs.declared.error.Error.TheVariants as errors;
+ghost use Rattle.asn1_headers.specs.declared.error.DerConstraint.TheVariants as constraints;
+
+use crate::class::Class;
+use crate::error::{DerConstraint, Err, Error, Needed, ParseResult};
+use crate::header::Header;
+use crate::length::Length;
+use crate::tag::Tag;
+use std::borrow::CowSlice;
+use x690::digits::{base_256_number, tag_number};
+
+/// Identifier octets that were read, with what they say.
+#[derive(Clone, Copy)]
+pub struct IdentifierOctets<'a> {
+    class: Class,
+    constructed: bool,
+    number: u32,
+    octets: &'a [u8],
+}
+
+/// The class, the constructed bit and the low five bits of the first identifier octet (8.1.2.2).
+#[inline(always)]
+fn first_octet(octet: u8) -> (Class, bool, u8)
+    ensures sum { octet ≡ 64 * class_number result.0 + 32 * bit result.1 + result.2 }
+    ensures low { result.2 < 32 }
+{
+    let class = match octet / 64 {
+        0 => Class::Universal,
+        1 => Class::Application,
+        2 => Class::ContextSpecific,
+        _ => Class::Private,
+    };
+    (class, octet / 32 % 2 == 1, octet % 32)
+}
+
+/// The identifier octets at the front.
+#[inline(always)]
+fn read_identifier(bytes: &[u8]) -> ParseResult<'_, IdentifierOctets<'_>, Error>
+    ensures ok { IfOk result (λ x. BeginsWithIdentifier bytes.now x.0.now x.1) }
+    ensures err { (refuses : Breach → Error)
+        → IfErr result (Refused IdentifierFault (refusal_of refuses) bytes.now) }
+{
+    let [first, digits @ ..] = bytes else {
+        return Err(Err::Incomplete(Needed::Size(1)));
+    };
+    let (class, constructed, low) = first_octet(*first);
+    let (number, count) = if low < 31 {
+        (u32::from(low), 1)
+    } else {
+        match tag_number(digits) {
+            Some((number, count)) => (number, count + 1),
+            None => return Err(Err::Error(Error::InvalidTag)),
+        }
+    };
+    let (octets, rest) = bytes.split_at(count);
+    Ok((
+        rest,
+        IdentifierOctets {
+            class,
+            constructed,
+            number,
+            octets,
+        },
+    ))
+}
+
+/// The length octets at the front, or 80.
+#[inline(always)]
+fn read_length(bytes: &[u8]) -> ParseResult<'_, Length, Error>
+    ensures ok { IfOk result (λ x. BeginsWithLength bytes.now x.0.now x.1) }
+    ensures err { (refuses : Breach → Error)
+        → IfErr result (Refused LengthFault (refusal_of refuses) bytes.now) }
+{
+    let [first, rest @ ..] = bytes else {
+        return Err(Err::Incomplete(Needed::Size(1)));
+    };
+    match *first {
+        0..=127 => return Ok((rest, Length::Definite(usize::from(*first)))),
+        128 => return Ok((rest, Length::Indefinite)),
+        255 => return Err(Err::Error(Error::InvalidLength)),
+        _ => {}
+    }
+    let count = usize::from(*first - 128);
+    if rest.len() < count {
+        return Err(Err::Incomplete(Needed::Size(count - rest.len())));
+    }
+    let (octets, rest) = rest.split_at(count);
+    match base_256_number(octets) {
+        Some(length) => Ok((rest, Length::Definite(length))),
+        None => Err(Err::Error(Error::InvalidLength)),
+    }
+}
+
+impl<'a> IdentifierOctets<'a> {
+    /// The header with this identifier, and these octets as its raw tag.
+    #[inline(always)]
+    fn with_length(self, length: Length) -> Header<'a>
+        ensures { HasParts result self.entry.class self.entry.constructed
+            (tag_read self.entry) length (Some self.entry.octets.now) }
+    {
+        Header::new(self.class, self.constructed, Tag(self.number), length).with_raw_tag(Some(
+            CowSlice::Borrowed(self.octets),
+        ))
+    }
+}
+
+/// The identifier octets at the front and the length octets, or 80, that follow them.
+#[inline(always)]
+fn read_parts(bytes: &[u8]) -> ParseResult<'_, (IdentifierOctets<'_>, Length), Error>
+    ensures ok { IfOk result (λ x. BeginsWithBoth bytes.now x.0.now x.1.0 x.1.1) }
+    ensures err { (rule : Rule) (refuses : Breach → Error)
+        → AllowsIdentifiers rule
+        → IfErr result (Refused (HeaderFault rule) (refusal_of refuses) bytes.now) }
+{
+    let (rest, identifier) = read_identifier(bytes)?;
+    let (rest, length) = read_length(rest)?;
+    Ok((rest, (identifier, length)))
+}
+
+/// The refusal of an indefinite length by DER (X.690 10.1).
+pub fn indefinite_length() -> Err<Error>
+    ensures { result ≡ refused (errors.DerConstraintFailed constraints.IndefiniteLength) }
+{
+    Err::Error(Error::DerConstraintFailed(DerConstraint::IndefiniteLength))
+}
+
+/// The header at the front, by DER: an indefinite length is refused.
+#[inline(always)]
+pub fn header_by_der(bytes: &[u8]) -> ParseResult<'_, Header<'_>, Error>
+    ensures { HeaderGives der_rule der_refusal bytes.now (seen result) }
+{
+    let (rest, (identifier, length)) = read_parts(bytes)?;
+    match length {
+        Length::Definite(_) => Ok((rest, identifier.with_length(length))),
+        Length::Indefinite => Err(indefinite_length()),
+    }
+}
+
+/// The header at the front, by BER: an indefinite length is refused at a primitive element.
+#[inline(always)]
+pub fn header_by_ber(bytes: &[u8]) -> ParseResult<'_, Header<'_>, Error>
+    ensures { HeaderGives ber_rule ber_refusal bytes.now (seen result) }
+{
+    let (rest, (identifier, form)) = read_parts(bytes)?;
+    match form {
+        Length::Indefinite if !identifier.constructed => {
+            Err(Err::Error(Error::ConstructExpected))
+        }
+        _ => Ok((rest, identifier.with_length(form))),
+    }
+}
+
+/// The length of the header at the front, by BER, and what follows the header.
+pub fn length_by_ber(bytes: &[u8]) -> ParseResult<'_, Length, Error>
+    ensures ok { IfOk result (λ x. BeginsWithForm bytes.now x.0.now x.1) }
+    ensures err { IfErr result (Refused (HeaderFault ber_rule) ber_refusal bytes.now) }
+{
+    let (rest, header) = header_by_ber(bytes)?;
+    Ok((rest, header.length()))
+}

@@ -1,0 +1,82 @@
+//! Strict headers, as they are written (X.690 8.1.2, 8.1.3, 10.1).
+ghost use Rattle.std.specs.Prelude.{◌≡◌, ◌<◌, ◌++◌, ℕ, Bool, length, IfErr};
+ghost use Rattle.x690.specs.Strict.{identifier_octets, length_form_octets, header_octets};
+ghost use Rattle.asn1_headers.specs.Length.{form_of};
+ghost use Rattle.asn1_headers.specs.Header.Writing.{parts_identifier, strict_header};
+ghost use Rattle.asn1_headers.specs.Writer.{Wrote, MayRefuse};
+
+use crate::class::Class;
+use crate::error::SerializeResult;
+use crate::header::Header;
+use crate::length::Length;
+use crate::length::writing::put_length;
+use crate::tag::Tag;
+use crate::writer::{DerWrite, put_all};
+use x690::digits::{header_into, identifier_into, identifier_octets_count, length_octets_count};
+
+/// How many octets the strict header of an element has whose contents are so many octets.
+pub fn header_len(number: u32, len: usize) -> usize
+    ensures { (class : ℕ) (constructed : Bool) →
+        result ≡ length (header_octets class constructed number len) }
+{
+    identifier_octets_count(number) + length_octets_count(len)
+}
+
+/// Appends the strict header of an element whose contents are so many octets, in one piece, and answers its length.
+///
+/// Most headers have two octets: the test makes that number known, so that a store copies them, and no call.
+#[inline(always)]
+pub fn put_header<W: DerWrite>(
+    class: u8,
+    constructed: bool,
+    number: u32,
+    len: usize,
+    w: &mut W,
+) -> SerializeResult<usize>
+    requires { class < 4 }
+    ensures wrote { Wrote (header_octets class constructed number len) (W.told w.old) (W.told w.new)
+        (W.failed w.old) (W.failed w.new) result }
+    ensures failed { (allocates : Bool) (most : ℕ) → IfErr result (MayRefuse allocates most) }
+{
+    let mut octets = [0; 15];
+    let count = header_into(class, constructed, number, len, &mut octets);
+    if count == 2 {
+        return put_all(w, &octets[..2]);
+    }
+    put_all(w, &octets[..count])
+}
+
+/// Appends the strict identifier octets, in one piece, and answers their number.
+pub fn put_identifier<W: DerWrite>(parts: (Class, bool, Tag), w: &mut W) -> SerializeResult<usize>
+    ensures wrote { Wrote (identifier_octets (parts_identifier parts)) (W.told w.old) (W.told w.new)
+        (W.failed w.old) (W.failed w.new) result }
+    ensures failed { (allocates : Bool) (most : ℕ) → IfErr result (MayRefuse allocates most) }
+{
+    let (class, constructed, tag) = parts;
+    let mut octets = [0; 6];
+    let count = identifier_into(class.number(), constructed, tag.0, &mut octets);
+    put_all(w, &octets[..count])
+}
+
+/// Appends identifier octets and then length octets, and answers their number.
+pub fn put_parts<W: DerWrite>(identifier: &[u8], form: Length, w: &mut W) -> SerializeResult<usize>
+    ensures wrote { Wrote (identifier.now ++ length_form_octets (form_of form)) (W.told w.old)
+        (W.told w.new) (W.failed w.old) (W.failed w.new) result }
+    ensures failed { (allocates : Bool) (most : ℕ) → IfErr result (MayRefuse allocates most) }
+{
+    let before = put_all(w, identifier)?;
+    let after = put_length(form, w)?;
+    Ok(before + after)
+}
+
+/// Appends the strict identifier octets of the header and its length octets, and answers their number.
+pub fn put_strict_header<W: DerWrite>(header: &Header<'_>, w: &mut W) -> SerializeResult<usize>
+    ensures wrote { Wrote (strict_header header.now) (W.told w.old) (W.told w.new) (W.failed w.old)
+        (W.failed w.new) result }
+    ensures failed { (allocates : Bool) (most : ℕ) → IfErr result (MayRefuse allocates most) }
+{
+    let mut octets = [0; 6];
+    let class = header.class().number();
+    let count = identifier_into(class, header.constructed(), header.tag().0, &mut octets);
+    put_parts(&octets[..count], header.length(), w)
+}
