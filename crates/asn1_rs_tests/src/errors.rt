@@ -45,6 +45,7 @@ fn classes_have_numbers(rt: HostRuntime) -> Result<(), Fail> {
         Class::ContextSpecific as u8,
         Class::Private as u8,
     ];
+    let by_call = [Class::Universal.number(), Class::Private.number()];
     let classes = [
         Class::try_from(0),
         Class::try_from(1),
@@ -55,8 +56,8 @@ fn classes_have_numbers(rt: HostRuntime) -> Result<(), Fail> {
     ];
     assert_shown(
         rt.alloc(),
-        &(constants, numbers, classes),
-        "([0, 1, 2, 3], [0, 1, 2, 3], [Ok(Universal), Ok(Application), Ok(ContextSpecific), Ok(Private), \
+        &(constants, numbers, by_call, classes),
+        "([0, 1, 2, 3], [0, 1, 2, 3], [0, 3], [Ok(Universal), Ok(Application), Ok(ContextSpecific), Ok(Private), \
         Err(BerClassFromIntError(())), Err(BerClassFromIntError(()))])",
     )
 }
@@ -119,6 +120,12 @@ Tag(26), Tag(27), Tag(28), Tag(29), Tag(30)]";
 #[test]
 fn tags_have_numbers_and_names(rt: HostRuntime) -> Result<(), Fail> {
     assert_shown(rt.alloc(), &TAGS, NUMBERS)?;
+    let containers = [
+        Tag::OctetString.is_container(),
+        Tag::Sequence.is_container(),
+        Tag::Set.is_container(),
+    ];
+    assert_shown(rt.alloc(), &containers, "[false, true, true]")?;
     let mut text = String::new(rt.alloc());
     for number in 0..32 {
         write!(text, "{} ", Tag::from(number))?;
