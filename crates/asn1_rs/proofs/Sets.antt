@@ -4,16 +4,7 @@ use Rattle.std.proofs.Common.{refl, ap, ◌∙◌, subst, arith, get_or, take, d
 use Rattle.std.specs.Prelude.{min}
 use Rattle.std.specs.List.{concat}
 use Rattle.std.proofs.Math.Nat.{min-eq_left}
-use Rattle.std.proofs.lemmas.List.{take_at, drop_at, drop_more}
-
-get_or-map_in : {X Y : Type 0} (f : X → Y) (xs : List X) (k : ℕ) (d : Y) (e : X) → k < length xs → get_or (map f xs) k d ≡ f (get_or xs k e)
-get_or-map_in f [] k d e h = absurd (omega (arith, h))
-get_or-map_in f (x ∷ xs) zero d e h = refl
-get_or-map_in f (x ∷ xs) (suc k) d e h = get_or-map_in f xs k d e (omega (arith, h))
-
-length-map : {X Y : Type 0} (f : X → Y) (xs : List X) → length (map f xs) ≡ length xs
-length-map f [] = refl
-length-map f (x ∷ xs) = ap suc (length-map f xs)
+use Rattle.std.proofs.lemmas.List.{take_at, drop_at, drop_more, get_or-map, length-map}
 
 -- the item that was got at an index
 pub got_at : {X : Type 0} (xs : List X) (i : ℕ) (x : X) → i < length xs → slice_get xs i ≡ Some x → x ≡ get_or xs i x
@@ -26,7 +17,7 @@ if_ok (Ok w) f h = f w h
 if_ok (Err e) f h = h
 
 pub length_at : (strings : List (List ℕ)) (lengths : List ℕ) (i : ℕ) → lengths ≡ map length strings → i < length lengths → (i < length strings) × (get_or lengths i 0 ≡ length (get_or strings i []))
-length_at strings lengths i e lt = let k : i < length strings = subst (λ n. i < n) (ap length e ∙ length-map length strings) lt in (k, ap (λ ls. get_or ls i 0) e ∙ get_or-map_in length strings i 0 [] k)
+length_at strings lengths i e lt = let k : i < length strings = subst (λ n. i < n) (ap length e ∙ length-map strings length) lt in (k, ap (λ ls. get_or ls i 0) e ∙ get_or-map length strings i [] 0 k)
 
 -- a piece at the front of strings that are joined, and what is left behind it
 module _ (strings : List (List ℕ)) (i : ℕ) (lt : i < length strings) (rest : List ℕ) (left : rest ≡ concat (drop i strings)) (cut : ℕ) (is : cut ≡ min (length (get_or strings i [])) (length rest)) where

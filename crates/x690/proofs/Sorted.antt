@@ -3,25 +3,17 @@ use Rattle.std.specs.Prelude.{◌≡◌, ℕ, ◌+◌, ◌<◌, List, [], ◌∷
 use Rattle.std.specs.List.Sorted.{IsSortedBy, IsPermutation}
 use Rattle.std.specs.Ordering.{nat_cmp, is_lt}
 use Rattle.std.specs.Cmp.Lexicographic.{slice_cmp}
-use Rattle.std.proofs.Common.{refl, ap, subst, arith, get_or, zero, suc}
+use Rattle.std.proofs.Common.{subst, arith}
+use Rattle.std.proofs.lemmas.List.{get_or-map, length-map}
 use Rattle.std.proofs.lemmas.List.Sorted.{IsPermutation-map}
 use Rattle.x690.specs.Ascending.{Ascending, arranged}
 use Rattle.x690.specs.Laws.Ascending.Arranged.{only_arranged}
 
-get_or-map_in : {X Y : Type 0} (f : X → Y) (xs : List X) (k : ℕ) (d : Y) (e : X) → k < length xs → get_or (map f xs) k d ≡ f (get_or xs k e)
-get_or-map_in f [] k d e h = absurd (omega (arith, h))
-get_or-map_in f (x ∷ xs) zero d e h = refl
-get_or-map_in f (x ∷ xs) (suc k) d e h = get_or-map_in f xs k d e (omega (arith, h))
-
-length-map : {X Y : Type 0} (f : X → Y) (xs : List X) → length (map f xs) ≡ length xs
-length-map f [] = refl
-length-map f (x ∷ xs) = ap suc (length-map f xs)
-
 Ascending-map : {X : Type 0} (f : X → List ℕ) (xs : List X) → IsSortedBy (λ x y. is_lt (slice_cmp nat_cmp (f x) (f y))) xs → Ascending (map f xs)
 Ascending-map f [] up k d l h = absurd (omega (arith, h))
 Ascending-map f (x ∷ xs) up k d l h =
-    let m : k + 1 < length (x ∷ xs) = subst (λ n. k + 1 < n) (length-map f (x ∷ xs)) h in
-    rw (get_or-map_in f (x ∷ xs) (k + 1) d x m) (rw (get_or-map_in f (x ∷ xs) k d x (omega (arith, m))) (up k x l m))
+    let m : k + 1 < length (x ∷ xs) = subst (λ n. k + 1 < n) (length-map (x ∷ xs) f) h in
+    rw (get_or-map f (x ∷ xs) (k + 1) x d m) (rw (get_or-map f (x ∷ xs) k x d (omega (arith, m))) (up k x l m))
 
 pub sorted_is_arranged : {X : Type 0} (f : X → List ℕ) (xs ys : List X) → IsPermutation xs ys → IsSortedBy (λ x y. is_lt (slice_cmp nat_cmp (f x) (f y))) ys → map f ys ≡ arranged (map f xs)
 sorted_is_arranged f xs ys p up =
