@@ -1,5 +1,5 @@
 //! Items of lists: how they are read, checked, counted and written.
-ghost use Rattle.std.specs.Prelude.{◌≡◌, ◌≤◌, ◌<◌, ◌++◌, ◌||◌, List, true, false, length, map, IfOk, IfErr, IsErr};
+ghost use Rattle.std.specs.Prelude.{◌≡◌, ◌≤◌, ◌<◌, ◌++◌, ◌||◌, [], List, true, false, length, map, IfOk, IfErr, IsErr};
 ghost use Rattle.std.specs.List.{All, flat_map};
 ghost use Rattle.std.specs.Iterator.{IsFinite, IsFiniteIterable, Drains};
 ghost use Rattle.asn1_rs.specs.Any.{parts_of};
@@ -8,6 +8,7 @@ ghost use Rattle.asn1_headers.specs.Answers.{seen};
 ghost use Rattle.asn1_rs.specs.Lists.{IsListOr, ItemsGive, ListGives, ListTakes, ListReads, ItemsCheckGives, ListCheckGives, FirstChecked, GivesItems, PushesItem, AreEncodings, SomeRefuses, listed};
 ghost use Rattle.asn1_headers.specs.declared.error.SerializeError.{SerializeError};
 ghost use Rattle.asn1_headers.specs.declared.error.Error.{Error};
+ghost use Rattle.asn1_headers.specs.declared.error.SerializeError.TheVariants as serialize_errors;
 ghost use Rattle.asn1_headers.specs.declared.error.Error.TheVariants as errors;
 ghost use Rattle.asn1_headers.specs.Writer.{Wrote};
 ghost use Rattle.asn1_rs.specs.ToDer.{Refuses, RefusesCount, Either, IntoVector, some_allocates};
@@ -340,6 +341,20 @@ pub struct Encodings {
     pub(crate) lengths: Vec<usize>,
 }
 
+/// How many octets the encodings of a set have room for at first, so that a small set asks for them once.
+const FIRST_ROOM_OF_ENCODINGS: usize = 128;
+
+/// No octets, with the first room.
+fn no_encodings(alloc: Global) -> SerializeResult<Vec<u8>>
+    ensures none { IfOk result (λ octets. octets.items ≡ []) }
+    ensures memory { IfErr result (λ e. e ≡ serialize_errors.OutOfMemory) }
+{
+    match Vec::with_capacity(alloc, FIRST_ROOM_OF_ENCODINGS) {
+        Ok(octets) => Ok(octets),
+        Err(_) => Err(SerializeError::OutOfMemory),
+    }
+}
+
 /// The encoding of each item.
 pub(crate) fn encode_items<T, R, I>(items: I, alloc: Global) -> SerializeResult<Encodings>
 where
@@ -364,7 +379,7 @@ where
         SomeRefuses T.count_refuses xs e → IsErr result }
     ensures memory { IfErr result (λ e. tells_of_io e ≡ false) }
 {
-    let mut w = Told::new(Vec::new(alloc));
+    let mut w = Told::new(no_encodings(alloc)?);
     let mut lengths = Vec::new(alloc);
     for item in items {
         match item.write_der(alloc, &mut w) {

@@ -4,9 +4,9 @@ mod btree_set;
 mod hash_set;
 pub mod set_of;
 
-ghost use Rattle.std.specs.Prelude.{◌≡◌, ℕ, List, true, length, map, IfOk, IfErr};
+ghost use Rattle.std.specs.Prelude.{◌≡◌, ℕ, List, true, length, map, IfOk, IfErr, IsTrue};
 ghost use Rattle.std.specs.List.{concat};
-ghost use Rattle.x690.specs.Ascending.{arranged};
+ghost use Rattle.x690.specs.Ascending.{Ascending, arranged};
 ghost use Rattle.asn1_rs.specs.Lists.{AreEncodings};
 ghost use Rattle.asn1_headers.specs.Writer.{Wrote, MayRefuse};
 
@@ -45,6 +45,24 @@ fn join_ascending(encodings: &Encodings, alloc: Global) -> Result<Vec<u8>, Alloc
     Ok(content)
 }
 
+/// Whether no encoding is before the one in front of it, in dictionary order.
+fn are_ascending(encodings: &Encodings) -> bool
+    ensures { (strings : List (List ℕ)) → AreEncodings strings encodings.now →
+        IsTrue result → Ascending strings }
+{
+    let mut last: &[u8] = &[];
+    let mut rest: &[u8] = &encodings.octets;
+    for length in &encodings.lengths {
+        let (piece, others) = rest.split_at((*length).min(rest.len()));
+        if piece.cmp(last).is_lt() {
+            return false;
+        }
+        last = piece;
+        rest = others;
+    }
+    true
+}
+
 /// Appends the encodings in ascending order, and answers the number of octets.
 pub(crate) fn write_ascending<W: DerWrite>(
     encodings: &Encodings,
@@ -57,6 +75,9 @@ pub(crate) fn write_ascending<W: DerWrite>(
     ensures refused { (strings : List (List ℕ)) → AreEncodings strings encodings.now →
         IfErr result (MayRefuse true (length (concat (arranged strings)))) }
 {
+    if are_ascending(encodings) {
+        return put_all(w, &encodings.octets);
+    }
     match join_ascending(encodings, alloc) {
         Ok(content) => put_all(w, &content),
         Err(_) => Err(SerializeError::OutOfMemory),
