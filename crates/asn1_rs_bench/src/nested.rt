@@ -1,5 +1,4 @@
 //! Lists nested deep in one another, as static types.
-ghost use Rattle.std.specs.Prelude.{◌≡◌};
 
 use crate::sums::Summed;
 use asn1_rs::{
