@@ -5,8 +5,10 @@
 //! input is a name, a space and octets in hexadecimal, and is answered by the name and the check, with no time.
 #![tactic(auto)]
 
+mod attribute;
 mod failure;
 mod lines;
+mod nested;
 mod rounds;
 mod rows;
 mod sums;

@@ -1,6 +1,8 @@
 //! The workloads by their names.
 
+use crate::attribute::Attribute;
 use crate::failure::Failure;
+use crate::nested::{EightDeep, SixtyFourDeep, ThirtyTwoDeep};
 use crate::rounds::{Outcome, Rounds};
 use crate::rows::{Kept, read_row, values_of, walk, write_row};
 use crate::sums::Summed;
@@ -75,6 +77,10 @@ impl<'a, C: CpuClock> Bench<'a, C> {
             b"vec_vec_u8" | b"nested_02" => self.read::<Vec<Vec<u8>>, DerParser>(),
             b"setof_u32" => self.read::<SetOf<u32>, DerParser>(),
             b"octets" => self.read::<OctetString<'_>, DerParser>(),
+            b"names" => self.read::<Vec<SetOf<Attribute<'_>>>, DerParser>(),
+            b"nested_08" => self.read::<EightDeep, DerParser>(),
+            b"nested_32" => self.read::<ThirtyTwoDeep, DerParser>(),
+            b"nested_64" => self.read::<SixtyFourDeep, DerParser>(),
             _ => Err(Failure::NoSuchWorkload),
         }
     }
@@ -98,6 +104,10 @@ impl<'a, C: CpuClock> Bench<'a, C> {
             b"vec_vec_u8" | b"nested_02" => self.write::<Vec<Vec<u8>>>(),
             b"setof_u32" => self.write::<SetOf<u32>>(),
             b"octets" => self.write::<OctetString<'_>>(),
+            b"names" => self.write::<Vec<SetOf<Attribute<'_>>>>(),
+            b"nested_08" => self.write::<EightDeep>(),
+            b"nested_32" => self.write::<ThirtyTwoDeep>(),
+            b"nested_64" => self.write::<SixtyFourDeep>(),
             b"certs_any" => self.write::<Any<'_>>(),
             _ => Err(Failure::NoSuchWorkload),
         }

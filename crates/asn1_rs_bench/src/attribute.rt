@@ -1,0 +1,88 @@
+//! Attributes of a name, as a caller's own type.
+ghost use Rattle.std.specs.Prelude.{◌≡◌};
+
+use crate::sums::Summed;
+use asn1_rs::{
+    Any, Class, DerWrite, Error, FromDer, Header, Length, ParseResult, Sequence, SerializeError,
+    SerializeResult, Tag, Tagged, ToDer,
+};
+use std::alloc::Global;
+
+/// An attribute of a name: a sequence of an identifier and a value of any type.
+///
+/// The library has no type of identifiers yet, so the identifier is kept as an element of any type.
+#[derive(Debug, Drop)]
+pub(crate) struct Attribute<'a> {
+    kind: Any<'a>,
+    value: Any<'a>,
+}
+
+impl Attribute<'_> {
+    /// The header of a sequence of so many contents octets.
+    fn header(count: usize) -> Header<'static> {
+        Header::new(
+            Class::Universal,
+            true,
+            Tag::Sequence,
+            Length::Definite(count),
+        )
+    }
+}
+
+/// What follows the two parts is ignored.
+impl<'a> FromDer<'a, Error> for Attribute<'a> {
+    fn from_der(alloc: Global, bytes: &'a [u8]) -> ParseResult<'a, Attribute<'a>, Error> {
+        Sequence::from_der_and_then(bytes, |content| {
+            let (content, kind) = Any::from_der(alloc, content)?;
+            let (content, value) = Any::from_der(alloc, content)?;
+            Ok((content, Attribute { kind, value }))
+        })
+    }
+}
+
+impl Tagged for Attribute<'_> {
+    const TAG: Tag = Tag::Sequence;
+
+    ghost mark = { record { 0 = 16 } };
+
+    fn its_tag() -> Tag
+        ensures { result ≡ record { 0 = 16 } }
+    {
+        Tag::Sequence
+    }
+}
+
+impl ToDer for Attribute<'_> {
+    fn to_der_len(&self) -> Result<usize, Error> {
+        let after = self.der_content_len()?;
+        let before = Self::header(after).to_der_len()?;
+        before.checked_add(after).ok_or(Error::InvalidLength)
+    }
+
+    fn der_content_len(&self) -> Result<usize, Error> {
+        let kind = self.kind.to_der_len()?;
+        let value = self.value.to_der_len()?;
+        kind.checked_add(value).ok_or(Error::InvalidLength)
+    }
+
+    fn der_constructed(&self) -> bool {
+        true
+    }
+
+    fn write_der_header<W: DerWrite>(&self, alloc: Global, w: &mut W) -> SerializeResult<usize> {
+        Self::header(self.der_content_len()?).write_der_header(alloc, w)
+    }
+
+    fn write_der_content<W: DerWrite>(&self, alloc: Global, w: &mut W) -> SerializeResult<usize> {
+        let kind = self.kind.write_der(alloc, w)?;
+        let value = self.value.write_der(alloc, w)?;
+        kind.checked_add(value).ok_or(SerializeError::InvalidLength)
+    }
+}
+
+/// An attribute adds what its two parts add.
+impl Summed for Attribute<'_> {
+    fn sum(&self) -> u64 {
+        self.kind.sum().wrapping_add(self.value.sum())
+    }
+}
