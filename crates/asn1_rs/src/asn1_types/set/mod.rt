@@ -53,12 +53,12 @@ fn are_ascending(encodings: &Encodings) -> bool
     let mut last: &[u8] = &[];
     let mut rest: &[u8] = &encodings.octets;
     for length in &encodings.lengths {
-        let (piece, others) = rest.split_at((*length).min(rest.len()));
+        let (piece, behind) = rest.split_at((*length).min(rest.len()));
         if piece.cmp(last).is_lt() {
             return false;
         }
         last = piece;
-        rest = others;
+        rest = behind;
     }
     true
 }
