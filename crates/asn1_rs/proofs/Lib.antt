@@ -1,5 +1,6 @@
 mod Kept
 mod Lists
+mod OnlyItem
 mod Sets
 mod TaggedReaders
 mod Writing

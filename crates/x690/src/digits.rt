@@ -201,3 +201,19 @@ pub fn header_into(class: u8, constructed: bool, number: u32, n: usize, out: &mu
     let front = write_identifier(class, constructed, number, out);
     front + write_length(n, &mut out[front..])
 }
+
+/// The strict header of an element whose contents are so many octets, where it has two octets alone: a tag number of the
+/// low form and a length of the short form (X.690 8.1.2.2, 8.1.3.4).
+#[inline(always)]
+pub fn short_header(class: u8, constructed: bool, number: u32, len: usize) -> Option<[u8; 2]>
+    requires { class < 4 }
+    ensures some { IfSome result
+        (λ octets. octets ≡ header_octets class constructed number len) }
+    ensures none { IfNone result (number < 31 → len < 128 → ⊥) }
+{
+    if number < 31 && len < 128 {
+        Some([high_bits(class, constructed) + number as u8, len as u8])
+    } else {
+        None
+    }
+}

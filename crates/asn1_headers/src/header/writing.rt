@@ -12,7 +12,9 @@ use crate::length::Length;
 use crate::length::writing::put_length;
 use crate::tag::Tag;
 use crate::writer::{DerWrite, put_all};
-use x690::digits::{header_into, identifier_into, identifier_octets_count, length_octets_count};
+use x690::digits::{
+    header_into, identifier_into, identifier_octets_count, length_octets_count, short_header,
+};
 
 /// How many octets the strict header of an element has whose contents are so many octets.
 pub fn header_len(number: u32, len: usize) -> usize
@@ -24,7 +26,7 @@ pub fn header_len(number: u32, len: usize) -> usize
 
 /// Appends the strict header of an element whose contents are so many octets, in one piece, and answers its length.
 ///
-/// Most headers have two octets: the test makes that number known, so that a store copies them, and no call.
+/// Most headers have two octets: those are made apart, so that their number is known and a store copies them.
 #[inline(always)]
 pub fn put_header<W: DerWrite>(
     class: u8,
@@ -38,11 +40,11 @@ pub fn put_header<W: DerWrite>(
         (W.failed w.old) (W.failed w.new) result }
     ensures failed { (allocates : Bool) (most : ℕ) → IfErr result (MayRefuse allocates most) }
 {
+    if let Some(octets) = short_header(class, constructed, number, len) {
+        return put_all(w, &octets);
+    }
     let mut octets = [0; 15];
     let count = header_into(class, constructed, number, len, &mut octets);
-    if count == 2 {
-        return put_all(w, &octets[..2]);
-    }
     put_all(w, &octets[..count])
 }
 

@@ -27,12 +27,17 @@ use asn1_headers::writer::{DerWrite, Told, add_written};
 use std::alloc::{AllocError, Global};
 use std::ops::Deref;
 
-/// How many items a list has room for before it grows: no more than the contents octets can hold, each of two octets or
-/// more, and few.
+/// How many items a list has room for before it grows: few, and no more than there would be if each other item were half
+/// as long as the first one. The length octet of that one stands behind its identifier octet in most lists.
 fn first_room(content: &[u8]) -> usize
     ensures { result ≤ 8 }
 {
-    (content.len() / 2).min(8)
+    let Some(length) = content.get(1) else {
+        return 0;
+    };
+    let first = usize::from(*length & 0x7f) + 2;
+    let others = content.len().saturating_sub(first);
+    1 + others.div_ceil(first.div_ceil(2)).min(7)
 }
 
 /// Collects the items in contents octets, by the reader `F`.

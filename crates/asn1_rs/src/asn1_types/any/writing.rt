@@ -1,5 +1,5 @@
 //! Elements of any type, as they are written (X.690 8.1.1, 10.1).
-ghost use Rattle.std.specs.Prelude.{◌≡◌, ◌++◌, ℕ, List, Bool, true, false, length, Ok, IfOk, IfErr};
+ghost use Rattle.std.specs.Prelude.{◌≡◌, ◌++◌, ℕ, List, Option, Bool, true, false, length, Ok, IfOk, IfErr};
 ghost use Rattle.std.specs.Io.KnownBytes.{Appends};
 ghost use Rattle.x690.specs.Lengths.{definite};
 ghost use Rattle.asn1_headers.specs.Header.{is_constructed_of, length_of};
@@ -20,15 +20,23 @@ use asn1_headers::header::writing::{put_header, put_strict_header};
 use asn1_headers::writer::{DerWrite, Told, add_written, put_all};
 use std::alloc::Global;
 
-/// Appends the strict identifier octets, the length of the header and the contents octets, and answers their number.
-fn put_kept_length<W: DerWrite>(any: &Any<'_>, w: &mut W) -> SerializeResult<usize>
-    ensures wrote { Wrote (strict_header any.now.header ++ content_of any.now) (W.told w.old)
-        (W.told w.new) (W.failed w.old) (W.failed w.new) result }
-    ensures failed { IfErr result
-        (MayRefuse false (length (strict_header any.now.header ++ content_of any.now))) }
+/// Appends contents octets behind a header, whose writing was answered so, and answers the number of both.
+#[inline(always)]
+fn put_behind<W: DerWrite>(
+    header: SerializeResult<usize>,
+    content: &[u8],
+    w: &mut W,
+) -> SerializeResult<usize>
+    ensures wrote { (octets : List ℕ) (told : Option (List ℕ)) (was : Bool) →
+        Wrote octets told (W.told w.old) was (W.failed w.old) header →
+        Wrote (octets ++ content.now) told (W.told w.new) was (W.failed w.new) result }
+    ensures failed { (octets : List ℕ) (told : Option (List ℕ)) (was : Bool) →
+        Wrote octets told (W.told w.old) was (W.failed w.old) header →
+        IfErr header (MayRefuse false (length (octets ++ content.now))) →
+        IfErr result (MayRefuse false (length (octets ++ content.now))) }
 {
-    let before = put_strict_header(&any.header, w)?;
-    let after = put_all(w, any.content)?;
+    let before = header?;
+    let after = put_all(w, content)?;
     add_written(before, after)
 }
 
@@ -91,6 +99,21 @@ impl ToDer for Any<'_> {
         put_all(w, self.content)
     }
 
+    #[inline(always)]
+    fn write_der<W: DerWrite>(&self, _alloc: Global, w: &mut W) -> SerializeResult<usize>
+        ensures wrote { Wrote (element_header self.now ++ content_of self.now) (W.told w.old)
+            (W.told w.new) (W.failed w.old) (W.failed w.new) result }
+        ensures refused { IfErr result
+            (Refuses false (length (element_header self.now ++ content_of self.now))
+            (Either (λ _. ⊥) (λ _. ⊥))) }
+    {
+        let class = self.header.class().number();
+        let number = self.header.tag().0;
+        let len = self.content.len();
+        let header = put_header(class, self.header.constructed(), number, len, w);
+        put_behind(header, self.content, w)
+    }
+
     /// Appends the strict identifier octets, the length of the header (80 where it is indefinite), and the contents
     /// octets as they stand.
     fn write_der_raw<W: DerWrite>(&self, _alloc: Global, w: &mut W) -> SerializeResult<usize>
@@ -110,7 +133,8 @@ impl ToDer for Any<'_> {
         ensures counted { IfOk result
             (λ n. (raw : List ℕ) × Appends (W.told w.old) (W.told w.new) raw × (n ≡ length raw)) }
     {
-        put_kept_length(self, w)
+        let header = put_strict_header(&self.header, w);
+        put_behind(header, self.content, w)
     }
 
     /// The raw form in a vector.

@@ -70,6 +70,10 @@ impl<T: Ord> CountsItems for BTreeSet<T> {
 }
 
 impl<T: Ord> WritesAscending for BTreeSet<T> {
+    fn only_item(&self) -> Option<&T> {
+        if self.len() == 1 { self.first() } else { None }
+    }
+
     fn encode_each(&self, alloc: Global) -> SerializeResult<Encodings>
     where
         T: ToDer,

@@ -67,6 +67,14 @@ impl<T: Eq + Hash> CountsItems for HashSet<T> {
 }
 
 impl<T: Eq + Hash> WritesAscending for HashSet<T> {
+    fn only_item(&self) -> Option<&T> {
+        if self.len() == 1 {
+            self.iter().next()
+        } else {
+            None
+        }
+    }
+
     fn encode_each(&self, alloc: Global) -> SerializeResult<Encodings>
     where
         T: ToDer,

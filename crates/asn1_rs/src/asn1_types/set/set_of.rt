@@ -159,6 +159,13 @@ impl<T> CountsItems for SetOf<T> {
 }
 
 impl<T> WritesAscending for SetOf<T> {
+    fn only_item(&self) -> Option<&T> {
+        match self.as_slice() {
+            [item] => Some(item),
+            _ => None,
+        }
+    }
+
     fn encode_each(&self, alloc: Global) -> SerializeResult<Encodings>
     where
         T: ToDer,
