@@ -4,8 +4,8 @@ use crate::calls::{Library, push_debug, push_written};
 use crate::devices::assert_cut;
 use crate::writers::assert_written;
 use asn1_rs::{
-    Any, CheckDerConstraints, Err, Error, FromAny, FromBer, FromDer, SequenceOf, SetOf, Tagged,
-    ToDer,
+    Any, Boolean, CheckDerConstraints, Err, Error, FromAny, FromBer, FromDer, SequenceOf, SetOf,
+    Tagged, ToDer,
 };
 use std::alloc::Global;
 use std::collections::{BTreeSet, HashSet};
@@ -393,6 +393,16 @@ fn sets_are_made_by_calls(rt: HostRuntime) -> Result<(), Fail> {
         rt.alloc(),
         &set,
         "3106020101020102 count 8 6 raw 3106020101020102",
+    )
+}
+
+#[test]
+fn sets_of_truth_values_ascend(rt: HostRuntime) -> Result<(), Fail> {
+    let set = SetOf::new(vec![in rt.alloc(); Boolean::new(5), Boolean::new(0)]?);
+    assert_written(
+        rt.alloc(),
+        &set,
+        "31060101000101ff count 8 6 raw 31060101000101ff",
     )
 }
 

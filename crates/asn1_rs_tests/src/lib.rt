@@ -40,6 +40,8 @@ mod parsers;
 #[cfg(test)]
 mod reading;
 #[cfg(test)]
+mod sizes;
+#[cfg(test)]
 mod tagged;
 #[cfg(test)]
 mod writers;
