@@ -209,6 +209,7 @@ impl ToDer for Header<'_> {
         self.tag().is_container()
     }
 
+    #[inline(always)]
     fn write_der_header<W: DerWrite>(&self, _alloc: Global, w: &mut W) -> SerializeResult<usize> {
         put_strict_header(self, w)
     }

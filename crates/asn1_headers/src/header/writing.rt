@@ -1,5 +1,5 @@
 //! Strict headers, as they are written (X.690 8.1.2, 8.1.3, 10.1).
-ghost use Rattle.std.specs.Prelude.{◌≡◌, ◌<◌, ◌++◌, ℕ, Bool, length, IfErr};
+ghost use Rattle.std.specs.Prelude.{◌≡◌, ◌<◌, ◌++◌, ℕ, Bool, [], ◌∷◌, length, IfErr};
 ghost use Rattle.x690.specs.Strict.{identifier_octets, length_form_octets, header_octets};
 ghost use Rattle.asn1_headers.specs.Length.{form_of};
 ghost use Rattle.asn1_headers.specs.Header.Writing.{parts_identifier, strict_header};
@@ -71,14 +71,29 @@ pub fn put_parts<W: DerWrite>(identifier: &[u8], form: Length, w: &mut W) -> Ser
     Ok(before + after)
 }
 
-/// Appends the strict identifier octets of the header and its length octets, and answers their number.
+/// Appends the strict identifier octets, and 80 behind them, and answers their number.
+fn put_indefinite<W: DerWrite>(parts: (Class, bool, Tag), w: &mut W) -> SerializeResult<usize>
+    ensures wrote { Wrote (identifier_octets (parts_identifier parts) ++ 128 ∷ []) (W.told w.old)
+        (W.told w.new) (W.failed w.old) (W.failed w.new) result }
+    ensures failed { (allocates : Bool) (most : ℕ) → IfErr result (MayRefuse allocates most) }
+{
+    let (class, constructed, tag) = parts;
+    let mut octets = [0; 6];
+    let front = identifier_into(class.number(), constructed, tag.0, &mut octets);
+    put_parts(&octets[..front], Length::Indefinite, w)
+}
+
+/// Appends the strict identifier octets of the header and its length octets, and answers their number. Those of a definite
+/// length are one piece.
+#[inline(always)]
 pub fn put_strict_header<W: DerWrite>(header: &Header<'_>, w: &mut W) -> SerializeResult<usize>
     ensures wrote { Wrote (strict_header header.now) (W.told w.old) (W.told w.new) (W.failed w.old)
         (W.failed w.new) result }
     ensures failed { (allocates : Bool) (most : ℕ) → IfErr result (MayRefuse allocates most) }
 {
-    let mut octets = [0; 6];
-    let class = header.class().number();
-    let count = identifier_into(class, header.constructed(), header.tag().0, &mut octets);
-    put_parts(&octets[..count], header.length(), w)
+    let (class, constructed, tag) = (header.class(), header.constructed(), header.tag());
+    match header.length() {
+        Length::Definite(len) => put_header(class.number(), constructed, tag.0, len, w),
+        Length::Indefinite => put_indefinite((class, constructed, tag), w),
+    }
 }

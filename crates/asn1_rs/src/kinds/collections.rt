@@ -11,7 +11,7 @@ ghost use Rattle.asn1_headers.specs.declared.error.SerializeError.{SerializeErro
 ghost use Rattle.asn1_headers.specs.declared.error.Error.{Error};
 ghost use Rattle.asn1_headers.specs.Error.{tells_of_io};
 ghost use Rattle.asn1_rs.specs.Lists.{SomeRefuses, AreEncodings, list_grammar};
-ghost use Rattle.asn1_rs.specs.Set.{set_of, member_grammar};
+ghost use Rattle.asn1_rs.specs.Set.{set_of, member_grammar, set_content};
 ghost use Rattle.asn1_rs.specs.ToDer.{Refuses, RefusesCount, Either, IntoVector, IsWritable, some_allocates};
 ghost use Rattle.asn1_headers.specs.Writer.{Wrote};
 ghost use Rattle.asn1_rs.specs.Kinds.Writing.{Writing, list_writing, set_writing};
@@ -174,6 +174,30 @@ where
     }
 }
 
+/// Collects the encodings of the items, appends them in ascending order, and answers the number of octets.
+fn write_collected<L, T, W>(set: &L, alloc: Global, w: &mut W) -> SerializeResult<usize>
+where
+    L: WritesAscending + Listed<Item = T>,
+    T: ToDer,
+    W: DerWrite,
+    ensures wrote { All T.tells (L.items set.now) →
+        Wrote (set_content (λ x. T.header x ++ T.content x) (L.items set.now)) (W.told w.old)
+        (W.told w.new) (W.failed w.old) (W.failed w.new) result }
+    ensures refused { All T.tells (L.items set.now) →
+        IfErr result
+        (Refuses true (length (set_content (λ x. T.header x ++ T.content x) (L.items set.now)))
+        (SomeRefuses (λ x. IntoVector (Either (T.header_refuses x) (T.content_refuses x)))
+        (L.items set.now))) }
+    ensures accepted { (e : SerializeError) → All T.tells (L.items set.now) →
+        SomeRefuses (λ x. IntoVector (Either (T.header_refuses x) (T.content_refuses x)))
+        (L.items set.now) e → IsErr result }
+    ensures uncounted { (e : Error) → All T.tells (L.items set.now) →
+        SomeRefuses T.count_refuses (L.items set.now) e → IsErr result }
+{
+    let encodings = set.encode_each(alloc)?;
+    write_ascending(&encodings, alloc, w)
+}
+
 impl<L, T, M> ToDerBy<SetKind<M>> for L
 where
     L: WritesAscending + Listed<Item = T>,
@@ -197,6 +221,7 @@ where
         element_len(Tag::Set.0, ToDerBy::<SetKind<M>>::content_count(self))
     }
 
+    #[inline(always)]
     fn content_count(&self) -> Result<usize, Error> {
         self.count_each()
     }
@@ -216,11 +241,10 @@ where
     }
 
     fn put_content<W: DerWrite>(&self, alloc: Global, w: &mut W) -> SerializeResult<usize> {
-        if let Some(item) = self.only_item() {
-            return item.write_der(alloc, w);
+        match self.only_item() {
+            Some(item) => item.write_der(alloc, w),
+            None => write_collected(self, alloc, w),
         }
-        let encodings = self.encode_each(alloc)?;
-        write_ascending(&encodings, alloc, w)
     }
 }
 

@@ -150,6 +150,7 @@ impl<T> Listed for SetOf<T> {
 }
 
 impl<T> CountsItems for SetOf<T> {
+    #[inline(always)]
     fn count_each(&self) -> Result<usize, Error>
     where
         T: ToDer,
