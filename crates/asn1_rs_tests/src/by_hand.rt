@@ -1,11 +1,10 @@
 //! Headers and elements that are made by hand: their parts, and what they are converted to.
 
-use crate::calls::push_debug;
 use asn1_rs::{Any, CheckDerConstraints, Class, DynTagged, FromAny, FromBer, Header, Length, Tag};
 use std::alloc::Global;
 use std::borrow::CowSlice;
 use std::test::Fail;
-use test_rows::{Calls, assert_rows, assert_shown};
+use test_rows::{Calls, assert_rows, assert_shown, push_debug};
 
 #[test]
 fn headers_have_parts(rt: HostRuntime) -> Result<(), Fail> {

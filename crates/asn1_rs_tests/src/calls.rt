@@ -1,16 +1,15 @@
 //! The calls of tables, and the texts of their answers.
 
-use crate::collections::{push_by_ber, push_by_der, push_list_answer};
 use crate::colour::Colour;
 use asn1_rs::{
     Any, BerParser, Class, DerParser, Err, Error, FromBer, FromDer, GetObjectContent, Header,
-    Length, ParseResult, SerializeResult, Steps, Tag, ToDer, any_from_ber_counted, read_ber,
-    read_der,
+    Length, ParseResult, Steps, Tag, any_from_ber_counted, read_ber, read_der,
 };
 use std::alloc::Global;
 use std::fmt::{Debug, Display, Write};
 use std::test::Fail;
-use test_rows::{Calls, push_digits};
+use test_rows::{Calls, push_debug, push_digits};
+use test_values::{push_by_ber, push_by_der, push_written};
 
 /// An error of a caller's own.
 #[derive(Debug, Drop)]
@@ -70,11 +69,6 @@ fn push_header(text: &mut String, header: &Header<'_>) -> Result<(), Fail> {
 fn push_named(text: &mut String, name: &str, octets: &[u8]) -> Result<(), Fail> {
     text.push_str(name)?;
     push_digits(text, octets)
-}
-
-/// Appends the derived text of a value.
-pub(crate) fn push_debug<T: Debug>(text: &mut String, value: &T) -> Result<(), Fail> {
-    Ok(write!(text, "{value:?}")?)
 }
 
 /// Appends a header that was read, and what follows it.
@@ -195,26 +189,6 @@ fn push_inner_number_by_ber(text: &mut String, alloc: Global, octets: &[u8]) -> 
     push_value_answer(text, sequence.parse_ber::<u8, Error>(alloc))
 }
 
-/// Appends the octets of a vector, or why there is none.
-fn push_vector(text: &mut String, vector: SerializeResult<Vec<u8>>) -> Result<(), Fail> {
-    match vector {
-        Ok(octets) => push_digits(text, octets.as_slice()),
-        Err(refusal) => push_debug(text, &refusal),
-    }
-}
-
-/// How a value is written by DER and in its raw form, and its counts.
-pub(crate) fn push_written<T: ToDer>(
-    text: &mut String,
-    alloc: Global,
-    value: &T,
-) -> Result<(), Fail> {
-    push_vector(text, value.to_der_vec(alloc))?;
-    let (count, content) = (value.to_der_len()?, value.der_content_len()?);
-    write!(text, " count {count} {content} raw ")?;
-    push_vector(text, value.to_der_vec_raw(alloc))
-}
-
 /// The element at the front by BER, written again.
 fn push_any_again(text: &mut String, alloc: Global, octets: &[u8]) -> Result<(), Fail> {
     push_written(text, alloc, &Any::from_ber(alloc, octets)?.1)
@@ -281,7 +255,7 @@ impl Calls for Library {
             "Colour::from_der" => push_by_der::<Colour>(text, alloc, octets),
             "Colour::from_ber" => push_by_ber::<Colour>(text, alloc, octets),
             "Vec::<Colour>::from_der" => push_by_der::<Vec<Colour>>(text, alloc, octets),
-            _ => push_list_answer(text, alloc, name, octets),
+            _ => Ok(text.push_str("no such call")?),
         }
     }
 }

@@ -1,8 +1,6 @@
 //! Values with the header of their tag: written, checked, read by what is lawful, and made by a call; and elements that
 //! stay, converted to values under tags.
 
-use crate::calls::{push_debug, push_written};
-use crate::collections::push_checked;
 use asn1_rs::{
     Any, AsTaggedExplicit, AsTaggedImplicit, Boolean, Class, Error, Explicit, FromBer, FromDer,
     Implicit, LawfulBer, LawfulCheck, LawfulDer, LawfulMember, LawfulWrite, TaggedParser, ToDer,
@@ -11,7 +9,8 @@ use asn1_rs::{
 use std::alloc::Global;
 use std::fmt::Debug;
 use std::test::Fail;
-use test_rows::{Calls, assert_rows, push_digits};
+use test_rows::{Calls, assert_rows, push_debug, push_digits};
+use test_values::{push_checked, push_written};
 
 /// What was read with its header is written with the class and the tag number of the header alone.
 const WRITTEN: &str = "\

@@ -1,7 +1,5 @@
 //! Values under implicit tags.
 
-use crate::calls::{push_debug, push_written};
-use crate::collections::{push_by_ber, push_by_der, push_checked};
 use asn1_rs::{
     ApplicationExplicit, Boolean, Error, FromDer, Implicit, Integer, OptTaggedImplicit, Sequence,
     SetOf, TaggedExplicit, TaggedImplicit, TaggedValue, ToDer, Told, read_ber, read_der,
@@ -10,7 +8,8 @@ use asn1_rs::{
 use std::alloc::Global;
 use std::fmt::Debug;
 use std::test::Fail;
-use test_rows::{Calls, Narrow, assert_rows, assert_shown, assert_text, push_digits};
+use test_rows::{Calls, Narrow, assert_rows, assert_shown, assert_text, push_debug, push_digits};
+use test_values::{push_by_ber, push_by_der, push_checked, push_written};
 
 /// The element of the tag is converted as one of the value; it is written with the value's form and contents octets.
 const VALUES: &str = "\

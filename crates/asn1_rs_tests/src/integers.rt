@@ -1,11 +1,10 @@
 //! Integers of any size and enumerated values: how they are read, made, converted and written.
 
-use crate::calls::push_debug;
-use crate::collections::{push_by_ber, push_by_der};
 use asn1_rs::{Any, CheckDerConstraints, Enumerated, Error, FromBer, Integer, ToDer, Told};
 use std::alloc::Global;
 use std::test::Fail;
-use test_rows::{Calls, assert_rows, assert_shown};
+use test_rows::{Calls, assert_rows, assert_shown, push_debug};
+use test_values::{push_by_ber, push_by_der};
 
 /// An integer of any size keeps its octets. By DER they are the fewest. An enumerated value has no sign.
 const READ: &str = "\

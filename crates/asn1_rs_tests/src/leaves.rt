@@ -1,7 +1,5 @@
 //! Truth values, nulls, octet strings and bit strings: how they are read, converted and written.
 
-use crate::calls::push_debug;
-use crate::collections::{push_by_ber, push_by_der};
 use asn1_rs::{
     Any, BitString, Boolean, CheckDerConstraints, Class, EndOfContent, Error, FromBer, Header,
     Length, Null, OctetString, Tag, ToDer, Told, leaves_have_one_refusal,
@@ -9,7 +7,8 @@ use asn1_rs::{
 };
 use std::alloc::Global;
 use std::test::Fail;
-use test_rows::{Calls, Narrow, assert_rows, assert_shown};
+use test_rows::{Calls, Narrow, assert_rows, assert_shown, push_debug};
+use test_values::{push_by_ber, push_by_der};
 
 /// Truth values and nulls. `Boolean` keeps its octet, and its raw form has that.
 const TRUTHS: &str = "\

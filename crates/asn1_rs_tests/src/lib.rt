@@ -6,15 +6,11 @@ mod by_hand;
 #[cfg(test)]
 mod calls;
 #[cfg(test)]
-mod collections;
-#[cfg(test)]
 mod colour;
 #[cfg(test)]
 mod devices;
 #[cfg(test)]
 mod errors;
-#[cfg(test)]
-mod growths;
 #[cfg(test)]
 mod headed;
 #[cfg(test)]
@@ -22,15 +18,9 @@ mod implicit;
 #[cfg(test)]
 mod integers;
 #[cfg(test)]
-mod iterators;
-#[cfg(test)]
-mod kept;
-#[cfg(test)]
 mod laws;
 #[cfg(test)]
 mod leaves;
-#[cfg(test)]
-mod nestings;
 #[cfg(test)]
 mod numbers;
 #[cfg(test)]
@@ -39,8 +29,6 @@ mod options;
 mod parsers;
 #[cfg(test)]
 mod reading;
-#[cfg(test)]
-mod sizes;
 #[cfg(test)]
 mod tagged;
 #[cfg(test)]

@@ -13,6 +13,7 @@ u8::from_der:
 
 u16::from_der:
 0203010000 = Error(IntegerTooLarge)
+ff00 = Incomplete(Size(1))
 
 u8::from_ber:
 020102ffff = 2 rest ffff

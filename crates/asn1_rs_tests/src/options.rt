@@ -1,8 +1,5 @@
 //! Optional values: how they are read, converted, checked and written.
 
-use crate::calls::push_debug;
-use crate::collections::{push_by_ber, push_by_der};
-use crate::devices::assert_cut;
 use asn1_rs::{
     Any, Boolean, CheckDerConstraints, DynTagged, Enumerated, Error, FromBer, FromDer, ParseResult,
     Sequence, ToDer, Told,
@@ -10,7 +7,8 @@ use asn1_rs::{
 use std::alloc::Global;
 use std::io::ErrorKind;
 use std::test::Fail;
-use test_rows::{Calls, Narrow, assert_rows, assert_shown};
+use test_rows::{Calls, Narrow, assert_rows, assert_shown, push_debug};
+use test_values::{assert_cut, push_by_ber, push_by_der};
 
 /// None where there are no octets, or a header of another tag number, which stays. The class is not looked at, and a
 /// header that cannot be read is refused as the type refuses it. What is held is written, in its DER form.

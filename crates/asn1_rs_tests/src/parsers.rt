@@ -1,6 +1,5 @@
 //! Elements under tags whose number is known only at run time.
 
-use crate::calls::push_debug;
 use asn1_rs::{
     Any, Class, Err, Error, Explicit, FromBer, FromDer, Header, Implicit, OptTaggedParser,
     ParseResult, Tag, TaggedParser, TaggedParserBuilder, parse_der_tagged_explicit,
@@ -8,7 +7,7 @@ use asn1_rs::{
 };
 use std::alloc::Global;
 use std::test::Fail;
-use test_rows::{Calls, assert_rows};
+use test_rows::{Calls, assert_rows, push_debug};
 
 /// An element that may be there or not: `[1]`, and `[APPLICATION 1]`. The closure takes its first contents octet.
 const OPTIONS: &str = "\

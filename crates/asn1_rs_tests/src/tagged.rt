@@ -1,10 +1,10 @@
 //! Values under tags of their own.
 
-use crate::collections::{push_by_ber, push_by_der, push_checked};
 use asn1_rs::{Error, Explicit, TaggedExplicit, TaggedValue, ToDer, Told};
 use std::alloc::Global;
 use std::test::Fail;
 use test_rows::{Calls, Narrow, assert_rows, assert_shown};
+use test_values::{push_by_ber, push_by_der, push_checked};
 
 /// Explicit tags: the element of the tag, the value within, and how both are written.
 const EXPLICIT: &str = "\

@@ -1,12 +1,13 @@
 //! How values are written, and writers that take little at a time or fail.
 
-use crate::calls::{Library, push_written};
-use crate::devices::{CallersOwn, Recorder, assert_cut, assert_failed, io_kind};
+use crate::calls::Library;
+use crate::devices::{CallersOwn, Recorder};
 use asn1_rs::{Any, Class, DerWrite, Header, Length, Tag, ToDer, Told, put_all};
 use std::alloc::Global;
 use std::io::ErrorKind;
 use std::test::Fail;
-use test_rows::{Narrow, assert_rows, assert_shown, assert_text};
+use test_rows::{Narrow, assert_rows, assert_shown};
+use test_values::{assert_cut, assert_failed, assert_written, io_kind};
 
 /// Headers and elements that are read by BER, and how they are written: by DER, their counts, and in the raw form.
 /// That of a header has the identifier octets that were read, that of an element the length that was read.
@@ -25,17 +26,6 @@ Any::write_der:
 300a1605536d6974680101ff = 300a1605536d6974680101ff count 12 10 raw 300a1605536d6974680101ff
 308080000000 = 30028000 count 4 2 raw 30808000
 ";
-
-/// Asserts how a value is written, as [`push_written`] shows it.
-pub(crate) fn assert_written<T: ToDer>(
-    alloc: Global,
-    value: &T,
-    expected: &str,
-) -> Result<(), Fail> {
-    let mut text = String::new(alloc);
-    push_written(&mut text, alloc, value)?;
-    assert_text("a value is written", text.as_str(), expected)
-}
 
 #[test]
 fn what_was_read_is_written_again(rt: HostRuntime) -> Result<(), Fail> {

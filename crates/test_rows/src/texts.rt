@@ -36,3 +36,8 @@ pub fn assert_all(what: &str, facts: &[bool]) -> Result<(), Fail> {
     }
     Ok(())
 }
+
+/// Appends the derived text of a value.
+pub fn push_debug<T: Debug>(text: &mut String, value: &T) -> Result<(), Fail> {
+    Ok(write!(text, "{value:?}")?)
+}

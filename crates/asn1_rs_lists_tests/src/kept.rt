@@ -1,16 +1,15 @@
 //! Sequences and sets that are kept as their contents octets.
 
-use crate::calls::push_debug;
-use crate::collections::{push_by_ber, push_by_der};
 use asn1_rs::{
-    Any, Error, FromBer, FromDer, ParseResult, ReadsItems, Sequence, SequenceIterator, Set,
-    ToStatic,
+    Any, Error, FromBer, FromDer, Integer, ParseResult, ReadsItems, Sequence, SequenceIterator,
+    Set, ToDer, ToStatic,
 };
 use std::alloc::Global;
 use std::borrow::CowSlice;
 use std::fmt::Debug;
 use std::test::Fail;
-use test_rows::{Calls, assert_rows, assert_shown};
+use test_rows::{Calls, assert_rows, assert_shown, push_debug};
+use test_values::{assert_written, push_by_ber, push_by_der};
 
 /// As elements.
 const ELEMENTS: &str = "\
@@ -26,6 +25,7 @@ raw 30050203010001
 3081040000 = Incomplete(Size(2))
 
 Sequence::from_ber:
+30050203010001 = Sequence { content: [2, 3, 1, 0, 1] } rest - written 30050203010001 count 7 5 raw 30050203010001
 308002030100010000 = Sequence { content: [2, 3, 1, 0, 1] } rest - written 30050203010001 count 7 5 \
 raw 30050203010001
 b000 = Sequence { content: [] } rest - written 3000 count 2 0 raw 3000
@@ -36,10 +36,12 @@ Set::from_der:
 30050203010001 = Error(UnexpectedTag { expected: Some(Tag(17)), actual: Tag(16) })
 
 Set::from_ber:
+31050203010001 = Set { content: [2, 3, 1, 0, 1] } rest - written 31050203010001 count 7 5 raw 31050203010001
 3180020102020101000000 = Set { content: [2, 1, 2, 2, 1, 1] } rest 00 written 3106020102020101 count 8 6 \
 raw 3106020102020101
 
 Sequence::from_ber_and_then:
+30050203010001 = Ok(([], 65537))
 308002030100010500000005 = Ok(([5], 65537))
 30020205 = Err(Incomplete(Size(5)))
 300102 = Err(Incomplete(Size(1)))
@@ -47,17 +49,46 @@ Sequence::from_ber_and_then:
 1100 = Err(Error(UnexpectedTag { expected: Some(Tag(16)), actual: Tag(17) }))
 
 Sequence::from_der_and_then:
+30050203010001 = Ok(([], 65537))
 3005020301000105 = Ok(([5], 65537))
 30800203010001050000 = Err(Error(DerConstraintFailed(IndefiniteLength)))
 300402020005 = Err(Error(DerConstraintFailed(IntegerLeadingZeroes)))
 
 Set::from_ber_and_then:
+31050203010001 = Ok(([], 65537))
 318002030100010500000005 = Ok(([5], 65537))
 1100 = Err(Error(ConstructExpected))
 
 Set::from_der_and_then:
+31050203010001 = Ok(([], 65537))
 3105020301000105 = Ok(([5], 65537))
 3000 = Err(Error(UnexpectedTag { expected: Some(Tag(17)), actual: Tag(16) }))
+
+Sequence::from_ber, ber_iter:
+300a02030100010203010001 = 65537, 65537, end
+3009020301000102030100 = 65537, Incomplete(Size(1)), end
+
+Sequence::from_der, der_iter:
+300a02030100010203010001 = 65537, 65537, end
+3009020301000102030100 = 65537, Incomplete(Size(1)), end
+
+Sequence::from_der, parse:
+300a02030100010203010001 = Ok(([], (65537, 65537)))
+
+Sequence::from_ber, ber_sequence_of:
+30050203010001 = Ok([65537])
+
+Set::from_ber, ber_iter:
+310a02030100010203010001 = 65537, 65537, end
+
+Set::from_der, der_iter:
+310a02030100010203010001 = 65537, 65537, end
+
+Set::from_ber, ber_set_of:
+31050203010001 = Ok([65537])
+
+Set::from_der, der_set_of:
+31050203010001 = Ok([65537])
 ";
 
 /// By their contents octets, which are the octets of the row.
@@ -128,6 +159,18 @@ fn two_numbers(alloc: Global, octets: &[u8]) -> ParseResult<'_, (u32, u32), Erro
     Ok((rest, (first, second)))
 }
 
+/// An integer that 32 bits hold, by BER.
+fn integer_by_ber(alloc: Global, octets: &[u8]) -> ParseResult<'_, u32, Error> {
+    let (rest, integer) = Integer::from_ber(alloc, octets)?;
+    Ok((rest, integer.as_u32()?))
+}
+
+/// An integer that 32 bits hold, by DER.
+fn integer_by_der(alloc: Global, octets: &[u8]) -> ParseResult<'_, u32, Error> {
+    let (rest, integer) = Integer::from_der(alloc, octets)?;
+    Ok((rest, integer.as_u32()?))
+}
+
 /// The sequence of these contents octets.
 fn sequence(octets: &[u8]) -> Sequence<'_> {
     Sequence::new(CowSlice::Borrowed(octets))
@@ -173,22 +216,66 @@ impl Calls for AsElements {
             "Set::from_ber" => push_by_ber::<Set<'_>>(text, alloc, octets),
             "Sequence::from_ber_and_then" => push_debug(
                 text,
-                &Sequence::from_ber_and_then(octets, |i| u32::from_ber(alloc, i)),
+                &Sequence::from_ber_and_then(octets, |i| integer_by_ber(alloc, i)),
             ),
             "Sequence::from_der_and_then" => push_debug(
                 text,
-                &Sequence::from_der_and_then(octets, |i| u32::from_der(alloc, i)),
+                &Sequence::from_der_and_then(octets, |i| integer_by_der(alloc, i)),
             ),
             "Set::from_ber_and_then" => push_debug(
                 text,
-                &Set::from_ber_and_then(octets, |i| u32::from_ber(alloc, i)),
+                &Set::from_ber_and_then(octets, |i| integer_by_ber(alloc, i)),
             ),
             "Set::from_der_and_then" => push_debug(
                 text,
-                &Set::from_der_and_then(octets, |i| u32::from_der(alloc, i)),
+                &Set::from_der_and_then(octets, |i| integer_by_der(alloc, i)),
             ),
-            _ => Ok(text.push_str("no such call")?),
+            _ => push_of_element(text, alloc, name, octets),
         }
+    }
+}
+
+/// Appends the answer to a call of the sequence or set at the front.
+fn push_of_element(
+    text: &mut String,
+    alloc: Global,
+    name: &str,
+    octets: &[u8],
+) -> Result<(), Fail> {
+    match name.split_once(", ") {
+        Some(("Sequence::from_ber", call)) => {
+            push_sequence(
+                text,
+                alloc,
+                call,
+                Sequence::from_ber(alloc, octets)?.1.as_bytes(),
+            )
+        }
+        Some(("Sequence::from_der", call)) => {
+            push_sequence(
+                text,
+                alloc,
+                call,
+                Sequence::from_der(alloc, octets)?.1.as_bytes(),
+            )
+        }
+        Some(("Set::from_ber", call)) => {
+            push_set(
+                text,
+                alloc,
+                call,
+                Set::from_ber(alloc, octets)?.1.as_bytes(),
+            )
+        }
+        Some(("Set::from_der", call)) => {
+            push_set(
+                text,
+                alloc,
+                call,
+                Set::from_der(alloc, octets)?.1.as_bytes(),
+            )
+        }
+        _ => Ok(text.push_str("no such call")?),
     }
 }
 
@@ -264,11 +351,34 @@ fn owned(alloc: Global) -> Result<Sequence<'static>, Fail> {
     Ok(Sequence::new(CowSlice::Owned(octets)))
 }
 
+/// Whether a sequence is read back from what it is written as.
+fn is_read_back(alloc: Global, kept: &Sequence<'_>) -> Result<bool, Fail> {
+    let octets = kept.to_der_vec(alloc)?;
+    let back = Sequence::from_der(alloc, octets.as_slice())?.1;
+    Ok(back == *kept)
+}
+
 #[test]
-fn encodings_are_joined_as_given(rt: HostRuntime) -> Result<(), Fail> {
+fn encodings_are_joined_in_a_sequence(rt: HostRuntime) -> Result<(), Fail> {
     let alloc = rt.alloc();
-    let three = Sequence::from_iter_to_der(alloc, [2u8, 3, 4].iter())?;
-    assert_shown(alloc, &three.as_bytes(), "[2, 1, 2, 2, 1, 3, 2, 1, 4]")?;
+    let three = Sequence::from_iter_to_der(alloc, [2u32, 3, 4].iter())?;
+    assert_shown(alloc, &is_read_back(alloc, &three)?, "true")?;
+    assert_written(
+        alloc,
+        &three,
+        "3009020102020103020104 count 11 9 raw 3009020102020103020104",
+    )
+}
+
+#[test]
+fn encodings_are_joined_in_a_set_as_given(rt: HostRuntime) -> Result<(), Fail> {
+    let alloc = rt.alloc();
+    let three = Set::from_iter_to_der(alloc, [2u32, 3, 4].iter())?;
+    assert_written(
+        alloc,
+        &three,
+        "3109020102020103020104 count 11 9 raw 3109020102020103020104",
+    )?;
     let two = Set::from_iter_to_der(alloc, [2u8, 1].iter())?;
     assert_shown(alloc, &two.into_content(), "[2, 1, 2, 2, 1, 1]")
 }

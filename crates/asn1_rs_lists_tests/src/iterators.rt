@@ -1,6 +1,5 @@
 //! Walks over the items in contents octets.
 
-use crate::calls::push_debug;
 use asn1_rs::{
     Any, BerParser, DerParser, Err, Error, FromBer, FromDer, Needed, ParseResult, ReadsItems,
     SequenceIterator,
@@ -8,7 +7,7 @@ use asn1_rs::{
 use std::alloc::Global;
 use std::fmt::Debug;
 use std::test::Fail;
-use test_rows::{Calls, assert_rows};
+use test_rows::{Calls, assert_rows, push_debug};
 
 /// An item of no octets: its reader gives back what it got, or, where that begins with 05, more than it got.
 #[derive(Debug, Drop)]

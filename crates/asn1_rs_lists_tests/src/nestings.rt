@@ -1,6 +1,5 @@
 //! Lists, sets and tags in one another, by the calls whose contracts rest on the laws of their types.
 
-use crate::calls::push_debug;
 use asn1_rs::{
     ApplicationExplicit, ApplicationImplicit, Error, LawfulBer, LawfulCheck, LawfulDer,
     LawfulMember, LawfulWrite, OctetString, ParseResult, PrivateExplicit, PrivateImplicit,
@@ -11,7 +10,7 @@ use std::alloc::Global;
 use std::collections::{BTreeSet, HashSet};
 use std::fmt::Write;
 use std::test::Fail;
-use test_rows::{Calls, assert_rows, push_digits};
+use test_rows::{Calls, assert_rows, push_debug, push_digits};
 
 /// What is read by DER, and by BER: the strict encoding and what follows it, or the refusal. In the strict encoding the
 /// items of a set ascend, whatever their order was.

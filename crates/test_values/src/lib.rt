@@ -1,0 +1,11 @@
+//! What the crates of tests share that stands on the library: values as texts, read, checked and written, and writers
+//! that end at each place.
+#![tactic(auto)]
+
+mod cut;
+mod reading;
+mod writing;
+
+pub use cut::{assert_cut, assert_failed, io_kind};
+pub use reading::{push_by_ber, push_by_der, push_checked, push_converted, push_shown};
+pub use writing::{assert_written, push_written};
