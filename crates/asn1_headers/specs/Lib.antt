@@ -8,6 +8,7 @@ pub mod Der
 pub mod Ber
 pub mod Elements
 pub mod Answers
+pub mod Walk
 pub mod Writer
 pub mod Texts
 pub mod Laws

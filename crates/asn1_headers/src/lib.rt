@@ -11,4 +11,5 @@ pub mod header;
 pub mod length;
 pub mod tag;
 mod texts;
+pub mod walk;
 pub mod writer;

@@ -25,7 +25,7 @@ use Rattle.asn1_headers.specs.declared.error.Err.TheVariants.{Incomplete as cut,
 use Rattle.asn1_headers.specs.Error.{Converted, FlattenedTo}
 use Rattle.asn1_headers.specs.Header.Reading.{Refused, der_refusal}
 use Rattle.asn1_rs.specs.Any.{parts_of, BeginsWithElement}
-use Rattle.asn1_rs.specs.Sequence.Iterator.{TakesItem}
+use Rattle.asn1_headers.specs.Walk.{TakesItem}
 use Rattle.asn1_rs.specs.Lists.{CheckedGives, EndsItems, GivesItems, SomeRefuses}
 use Rattle.asn1_headers.specs.declared.error.Error.{Error}
 use Rattle.asn1_headers.specs.declared.error.Error.TheVariants as errors

@@ -19,7 +19,7 @@ use Rattle.asn1_rs.specs.Grammar.Form.{IsStrict, UniversalForm}
 use Rattle.asn1_rs.specs.Traits.{DerGives}
 use Rattle.asn1_rs.specs.Grammar.{BerWord, DerWord, NoCheck}
 use Rattle.asn1_rs.specs.Grammar.Item.{ItemGrammar}
-use Rattle.asn1_rs.specs.Sequence.Iterator.{TakesItem}
+use Rattle.asn1_headers.specs.Walk.{TakesItem}
 
 -- A constructed element with the tag number, whose contents octets are words joined.
 pub record ListBody {V : Type 0} (number : ℕ) (G : List ℕ → V → Type 0) (p : Parts) (vs : List V) : Type 0 where

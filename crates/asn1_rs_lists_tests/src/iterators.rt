@@ -37,12 +37,16 @@ impl<'a> FromDer<'a, Error> for NotZero {
 }
 
 /// Appends what the first four calls of a walk answer: items, refusals and ends.
-fn push_walk<'a, T: Debug + Drop, F: ReadsItems<'a, T, Error>>(
+pub(crate) fn push_walk<'a, T, F, E>(
     text: &mut String,
-    alloc: Global,
-    octets: &'a [u8],
-) -> Result<(), Fail> {
-    let mut items = SequenceIterator::<T, F, Error>::new(alloc, octets);
+    items: SequenceIterator<'a, T, F, E>,
+) -> Result<(), Fail>
+where
+    T: Debug + Drop,
+    F: ReadsItems<'a, T, E>,
+    E: From<Error> + Debug + Drop,
+{
+    let mut items = items;
     for place in 0..4 {
         if place > 0 {
             text.push_str(", ")?;
@@ -56,19 +60,28 @@ fn push_walk<'a, T: Debug + Drop, F: ReadsItems<'a, T, Error>>(
     Ok(())
 }
 
+/// Appends a walk over contents octets.
+fn push_walk_over<'a, T: Debug + Drop, F: ReadsItems<'a, T, Error>>(
+    text: &mut String,
+    alloc: Global,
+    octets: &'a [u8],
+) -> Result<(), Fail> {
+    push_walk(text, SequenceIterator::<T, F, Error>::new(alloc, octets))
+}
+
 /// Walks, by the types of their items and by their rules.
 struct Walks;
 
 impl Calls for Walks {
     fn answer(text: &mut String, alloc: Global, name: &str, octets: &[u8]) -> Result<(), Fail> {
         match name {
-            "Any, BerParser" => push_walk::<Any<'_>, BerParser>(text, alloc, octets),
-            "Any, DerParser" => push_walk::<Any<'_>, DerParser>(text, alloc, octets),
-            "NotZero, DerParser" => push_walk::<NotZero, DerParser>(text, alloc, octets),
-            "u32, BerParser" => push_walk::<u32, BerParser>(text, alloc, octets),
-            "u32, DerParser" => push_walk::<u32, DerParser>(text, alloc, octets),
-            "Option<u8>, BerParser" => push_walk::<Option<u8>, BerParser>(text, alloc, octets),
-            "OfNoOctets, BerParser" => push_walk::<OfNoOctets, BerParser>(text, alloc, octets),
+            "Any, BerParser" => push_walk_over::<Any<'_>, BerParser>(text, alloc, octets),
+            "Any, DerParser" => push_walk_over::<Any<'_>, DerParser>(text, alloc, octets),
+            "NotZero, DerParser" => push_walk_over::<NotZero, DerParser>(text, alloc, octets),
+            "u32, BerParser" => push_walk_over::<u32, BerParser>(text, alloc, octets),
+            "u32, DerParser" => push_walk_over::<u32, DerParser>(text, alloc, octets),
+            "Option<u8>, BerParser" => push_walk_over::<Option<u8>, BerParser>(text, alloc, octets),
+            "OfNoOctets, BerParser" => push_walk_over::<OfNoOctets, BerParser>(text, alloc, octets),
             _ => Ok(text.push_str("no such walk")?),
         }
     }

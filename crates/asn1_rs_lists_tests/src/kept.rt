@@ -1,12 +1,9 @@
 //! Sequences and sets that are kept as their contents octets.
 
-use asn1_rs::{
-    Any, Error, FromBer, FromDer, Integer, ParseResult, ReadsItems, Sequence, SequenceIterator,
-    Set, ToDer, ToStatic,
-};
+use crate::iterators::push_walk;
+use asn1_rs::{Any, Error, FromBer, FromDer, Integer, ParseResult, Sequence, Set, ToDer, ToStatic};
 use std::alloc::Global;
 use std::borrow::CowSlice;
-use std::fmt::Debug;
 use std::test::Fail;
 use test_rows::{Calls, assert_rows, assert_shown, push_debug};
 use test_values::{assert_written, push_by_ber, push_by_der};
@@ -65,12 +62,12 @@ Set::from_der_and_then:
 3000 = Err(Error(UnexpectedTag { expected: Some(Tag(17)), actual: Tag(16) }))
 
 Sequence::from_ber, ber_iter:
-300a02030100010203010001 = 65537, 65537, end
-3009020301000102030100 = 65537, Incomplete(Size(1)), end
+300a02030100010203010001 = 65537, 65537, end, end
+3009020301000102030100 = 65537, Incomplete(Size(1)), end, end
 
 Sequence::from_der, der_iter:
-300a02030100010203010001 = 65537, 65537, end
-3009020301000102030100 = 65537, Incomplete(Size(1)), end
+300a02030100010203010001 = 65537, 65537, end, end
+3009020301000102030100 = 65537, Incomplete(Size(1)), end, end
 
 Sequence::from_der, parse:
 300a02030100010203010001 = Ok(([], (65537, 65537)))
@@ -79,10 +76,10 @@ Sequence::from_ber, ber_sequence_of:
 30050203010001 = Ok([65537])
 
 Set::from_ber, ber_iter:
-310a02030100010203010001 = 65537, 65537, end
+310a02030100010203010001 = 65537, 65537, end, end
 
 Set::from_der, der_iter:
-310a02030100010203010001 = 65537, 65537, end
+310a02030100010203010001 = 65537, 65537, end, end
 
 Set::from_ber, ber_set_of:
 31050203010001 = Ok([65537])
@@ -106,17 +103,17 @@ Set::parse_into:
 02030100010203010002ff = Ok(([255], (65537, 65538)))
 
 Sequence::ber_iter:
-02030100010203010001 = 65537, 65537, end
-020301000102030100 = 65537, Incomplete(Size(1)), end
+02030100010203010001 = 65537, 65537, end, end
+020301000102030100 = 65537, Incomplete(Size(1)), end, end
 
 Sequence::der_iter:
-020301000102020005 = 65537, DerConstraintFailed(IntegerLeadingZeroes), end
+020301000102020005 = 65537, DerConstraintFailed(IntegerLeadingZeroes), end, end
 
 Set::ber_iter:
-020301000102020005 = 65537, 5, end
+020301000102020005 = 65537, 5, end, end
 
 Set::der_iter:
-020301000102030100 = 65537, Incomplete(Size(1)), end
+020301000102030100 = 65537, Incomplete(Size(1)), end, end
 
 Sequence::ber_sequence_of:
 020301000102020005 = Ok([65537, 5])
@@ -159,15 +156,9 @@ fn two_numbers(alloc: Global, octets: &[u8]) -> ParseResult<'_, (u32, u32), Erro
     Ok((rest, (first, second)))
 }
 
-/// An integer that 32 bits hold, by BER.
-fn integer_by_ber(alloc: Global, octets: &[u8]) -> ParseResult<'_, u32, Error> {
-    let (rest, integer) = Integer::from_ber(alloc, octets)?;
-    Ok((rest, integer.as_u32()?))
-}
-
-/// An integer that 32 bits hold, by DER.
-fn integer_by_der(alloc: Global, octets: &[u8]) -> ParseResult<'_, u32, Error> {
-    let (rest, integer) = Integer::from_der(alloc, octets)?;
+/// The number that was read, if 32 bits hold it.
+fn number<'a>(answer: ParseResult<'a, Integer<'a>, Error>) -> ParseResult<'a, u32, Error> {
+    let (rest, integer) = answer?;
     Ok((rest, integer.as_u32()?))
 }
 
@@ -179,29 +170,6 @@ fn sequence(octets: &[u8]) -> Sequence<'_> {
 /// The set of these contents octets.
 fn set(octets: &[u8]) -> Set<'_> {
     Set::new(CowSlice::Borrowed(octets))
-}
-
-/// Appends what the first three calls of a walk answer: items, refusals and ends.
-fn push_walk<'a, F, E>(
-    text: &mut String,
-    items: SequenceIterator<'a, u32, F, E>,
-) -> Result<(), Fail>
-where
-    F: ReadsItems<'a, u32, E>,
-    E: From<Error> + Debug + Drop,
-{
-    let mut items = items;
-    for place in 0..3 {
-        if place > 0 {
-            text.push_str(", ")?;
-        }
-        match items.next() {
-            Some(Ok(item)) => push_debug(text, &item)?,
-            Some(Err(refusal)) => push_debug(text, &refusal)?,
-            None => text.push_str("end")?,
-        }
-    }
-    Ok(())
 }
 
 /// The calls of the first table.
@@ -216,19 +184,19 @@ impl Calls for AsElements {
             "Set::from_ber" => push_by_ber::<Set<'_>>(text, alloc, octets),
             "Sequence::from_ber_and_then" => push_debug(
                 text,
-                &Sequence::from_ber_and_then(octets, |i| integer_by_ber(alloc, i)),
+                &Sequence::from_ber_and_then(octets, |i| number(Integer::from_ber(alloc, i))),
             ),
             "Sequence::from_der_and_then" => push_debug(
                 text,
-                &Sequence::from_der_and_then(octets, |i| integer_by_der(alloc, i)),
+                &Sequence::from_der_and_then(octets, |i| number(Integer::from_der(alloc, i))),
             ),
             "Set::from_ber_and_then" => push_debug(
                 text,
-                &Set::from_ber_and_then(octets, |i| integer_by_ber(alloc, i)),
+                &Set::from_ber_and_then(octets, |i| number(Integer::from_ber(alloc, i))),
             ),
             "Set::from_der_and_then" => push_debug(
                 text,
-                &Set::from_der_and_then(octets, |i| integer_by_der(alloc, i)),
+                &Set::from_der_and_then(octets, |i| number(Integer::from_der(alloc, i))),
             ),
             _ => push_of_element(text, alloc, name, octets),
         }
@@ -242,38 +210,23 @@ fn push_of_element(
     name: &str,
     octets: &[u8],
 ) -> Result<(), Fail> {
-    match name.split_once(", ") {
-        Some(("Sequence::from_ber", call)) => {
-            push_sequence(
-                text,
-                alloc,
-                call,
-                Sequence::from_ber(alloc, octets)?.1.as_bytes(),
-            )
+    let (reader, call) = name.split_once(", ").unwrap_or((name, ""));
+    match reader {
+        "Sequence::from_ber" => {
+            let kept = Sequence::from_ber(alloc, octets)?.1;
+            push_sequence(text, alloc, call, kept.as_bytes())
         }
-        Some(("Sequence::from_der", call)) => {
-            push_sequence(
-                text,
-                alloc,
-                call,
-                Sequence::from_der(alloc, octets)?.1.as_bytes(),
-            )
+        "Sequence::from_der" => {
+            let kept = Sequence::from_der(alloc, octets)?.1;
+            push_sequence(text, alloc, call, kept.as_bytes())
         }
-        Some(("Set::from_ber", call)) => {
-            push_set(
-                text,
-                alloc,
-                call,
-                Set::from_ber(alloc, octets)?.1.as_bytes(),
-            )
+        "Set::from_ber" => {
+            let kept = Set::from_ber(alloc, octets)?.1;
+            push_set(text, alloc, call, kept.as_bytes())
         }
-        Some(("Set::from_der", call)) => {
-            push_set(
-                text,
-                alloc,
-                call,
-                Set::from_der(alloc, octets)?.1.as_bytes(),
-            )
+        "Set::from_der" => {
+            let kept = Set::from_der(alloc, octets)?.1;
+            push_set(text, alloc, call, kept.as_bytes())
         }
         _ => Ok(text.push_str("no such call")?),
     }

@@ -1,13 +1,14 @@
 //! Lists: how they are read, checked, converted and written.
 
-use asn1_rs::{Any, Err, Error, FromBer, FromDer, SequenceOf, SetOf, Tagged};
+use asn1_rs::{Any, FromBer, FromDer, SequenceOf, SetOf, Tagged};
 use std::alloc::Global;
 use std::collections::{BTreeSet, HashSet};
 use std::fmt::Write;
 use std::test::Fail;
-use test_rows::{Calls, assert_rows, assert_shown, push_debug};
+use test_rows::{Calls, assert_rows, assert_shown};
 use test_values::{
-    assert_cut, push_by_ber, push_by_der, push_checked, push_converted, push_written,
+    assert_cut, push_by_ber, push_by_der, push_checked, push_converted, push_read_by_ber,
+    push_read_by_der, push_written,
 };
 
 /// Items, what follows them, and how the list is written. By DER the constructed bit of the list itself is not looked
@@ -99,18 +100,6 @@ fn push_elements(text: &mut String, alloc: Global, octets: &[u8]) -> Result<(), 
     push_written(text, alloc, &list)
 }
 
-/// Appends what a reader by BER answers that refuses.
-fn push_refused_list(text: &mut String, alloc: Global, octets: &[u8]) -> Result<(), Fail> {
-    let answer: Result<(&[u8], Vec<u16>), Err<Error>> = Vec::from_ber(alloc, octets);
-    push_debug(text, &answer)
-}
-
-/// Appends what a reader by DER answers that refuses.
-fn push_refused_truths(text: &mut String, alloc: Global, octets: &[u8]) -> Result<(), Fail> {
-    let answer: Result<(&[u8], Vec<bool>), Err<Error>> = Vec::from_der(alloc, octets);
-    push_debug(text, &answer)
-}
-
 /// The calls of lists.
 struct Lists;
 
@@ -119,8 +108,8 @@ impl Calls for Lists {
         match name {
             "Vec::<u32>::from_der" => push_by_der::<Vec<u32>>(text, alloc, octets),
             "Vec::<u32>::from_ber" => push_by_ber::<Vec<u32>>(text, alloc, octets),
-            "Vec::<u16>::from_ber" => push_refused_list(text, alloc, octets),
-            "Vec::<bool>::from_der" => push_refused_truths(text, alloc, octets),
+            "Vec::<u16>::from_ber" => push_read_by_ber::<Vec<u16>>(text, alloc, octets),
+            "Vec::<bool>::from_der" => push_read_by_der::<Vec<bool>>(text, alloc, octets),
             "Vec::<Vec<u32>>::from_der" => push_by_der::<Vec<Vec<u32>>>(text, alloc, octets),
             "Vec::<Vec<u32>>::from_ber" => push_by_ber::<Vec<Vec<u32>>>(text, alloc, octets),
             "Vec::<Any>::from_ber" => push_elements(text, alloc, octets),

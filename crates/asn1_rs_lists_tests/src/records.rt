@@ -1,7 +1,7 @@
 //! Sequences of fields: types of a caller's own, which are read and written field by field.
 
 use asn1_rs::{
-    Any, Class, DerWrite, Error, FromDer, Header, Length, ParseResult, Sequence, SerializeError,
+    Any, Class, DerWrite, Err, Error, FromDer, Header, Length, ParseResult, Sequence,
     SerializeResult, Tag, Tagged, ToDer,
 };
 use std::alloc::Global;
@@ -137,7 +137,7 @@ impl<'a> Named<'a> {
 fn utf8(content: &[u8]) -> ParseResult<'_, &str, Error> {
     match std::str::from_utf8(content) {
         Ok(text) => Ok((&[], text)),
-        Err(_) => Err(asn1_rs::Err::Error(Error::StringInvalidCharset)),
+        Err(_) => Err(Err::Error(Error::StringInvalidCharset)),
     }
 }
 
@@ -149,9 +149,7 @@ impl Fields for Named<'_> {
     fn write<W: DerWrite>(&self, alloc: Global, w: &mut W) -> SerializeResult<usize> {
         let numbers = self.numbers.write(alloc, w)?;
         let name = self.element().write_der(alloc, w)?;
-        numbers
-            .checked_add(name)
-            .ok_or(SerializeError::InvalidLength)
+        Ok(sum(numbers, name)?)
     }
 }
 

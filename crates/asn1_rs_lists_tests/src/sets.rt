@@ -1,14 +1,14 @@
 //! Sets: how they are read, checked, converted and written.
 
-use asn1_rs::{Any, Boolean, Err, Error, FromAny, FromBer, FromDer, ParseResult, SetOf};
+use asn1_rs::{Any, Boolean, Error, FromAny, FromBer, FromDer, ParseResult, SetOf};
 use std::alloc::Global;
 use std::collections::{BTreeSet, HashSet};
 use std::fmt::Write;
 use std::test::Fail;
 use test_rows::{Calls, assert_rows, assert_shown, push_debug};
 use test_values::{
-    assert_cut, assert_written, push_by_ber, push_by_der, push_checked, push_converted, push_shown,
-    push_written,
+    assert_cut, assert_written, push_by_ber, push_by_der, push_checked, push_converted,
+    push_read_by_der, push_shown, push_written,
 };
 
 /// Items in the order in which they stand, of a `HashSet` their number, and the set as it is written, in ascending
@@ -136,18 +136,6 @@ fn push_sets(text: &mut String, alloc: Global, octets: &[u8]) -> Result<(), Fail
     push_written(text, alloc, &sets)
 }
 
-/// Appends what the reader of a set of octets answers.
-fn push_octets(text: &mut String, alloc: Global, octets: &[u8]) -> Result<(), Fail> {
-    let answer: Result<(&[u8], BTreeSet<u8>), Err<Error>> = BTreeSet::from_der(alloc, octets);
-    push_debug(text, &answer)
-}
-
-/// Appends what the reader of a set of truth values answers.
-fn push_truths(text: &mut String, alloc: Global, octets: &[u8]) -> Result<(), Fail> {
-    let answer: Result<(&[u8], BTreeSet<bool>), Err<Error>> = BTreeSet::from_der(alloc, octets);
-    push_debug(text, &answer)
-}
-
 /// Appends what the element at the front, by BER, is converted to.
 fn push_converted_set(text: &mut String, alloc: Global, octets: &[u8]) -> Result<(), Fail> {
     let (_, any) = Any::from_ber(alloc, octets)?;
@@ -193,8 +181,8 @@ impl Calls for Sets {
             "SetOf::<SetOf<u8>>::from_der" => push_sets(text, alloc, octets),
             "BTreeSet::<u32>::from_der" => push_by_der::<BTreeSet<u32>>(text, alloc, octets),
             "BTreeSet::<u32>::from_ber" => push_by_ber::<BTreeSet<u32>>(text, alloc, octets),
-            "BTreeSet::<u8>::from_der" => push_octets(text, alloc, octets),
-            "BTreeSet::<bool>::from_der" => push_truths(text, alloc, octets),
+            "BTreeSet::<u8>::from_der" => push_read_by_der::<BTreeSet<u8>>(text, alloc, octets),
+            "BTreeSet::<bool>::from_der" => push_read_by_der::<BTreeSet<bool>>(text, alloc, octets),
             "BTreeSet::<BTreeSet<u8>>::from_der" => push_by_der::<BTreeSet<BTreeSet<u8>>>(
                 text, alloc, octets,
             ),

@@ -16,7 +16,7 @@ use Rattle.asn1_headers.specs.Ber.{max_depth, EndsWithin}
 use Rattle.asn1_headers.specs.Error.{FlattenedTo}
 use Rattle.asn1_headers.specs.Header.Reading.{refusal_of, der_breach, ber_breach}
 use Rattle.asn1_rs.specs.Lists.{IsListOr, ListGives, ListReads, ListTakes}
-use Rattle.asn1_rs.specs.Sequence.Iterator.{TakesItem, EndsItem}
+use Rattle.asn1_headers.specs.Walk.{TakesItem, EndsItem}
 use Rattle.asn1_rs.specs.Traits.{BerGives, DerGives, ElementGives, OfParts, PassesAll}
 use Rattle.asn1_rs.specs.Laws.Readers.{AreElements, ber_elements, der_elements}
 use Rattle.asn1vec_answers.specs.Shown.{Reading, Same}

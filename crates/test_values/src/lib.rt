@@ -7,5 +7,8 @@ mod reading;
 mod writing;
 
 pub use cut::{assert_cut, assert_failed, io_kind};
-pub use reading::{push_by_ber, push_by_der, push_checked, push_converted, push_shown};
+pub use reading::{
+    push_by_ber, push_by_der, push_checked, push_converted, push_read_by_ber, push_read_by_der,
+    push_shown,
+};
 pub use writing::{assert_written, push_written};

@@ -51,6 +51,24 @@ pub fn push_by_ber<'a, T: FromBer<'a, Error> + Debug + ToDer + Drop>(
     push_answer(text, alloc, T::from_ber(alloc, octets))
 }
 
+/// Appends what the reader of a type answers by DER, as its derived text.
+pub fn push_read_by_der<'a, T: FromDer<'a, Error> + Debug + Drop>(
+    text: &mut String,
+    alloc: Global,
+    octets: &'a [u8],
+) -> Result<(), Fail> {
+    push_debug(text, &T::from_der(alloc, octets))
+}
+
+/// Appends what the reader of a type answers by BER, as its derived text.
+pub fn push_read_by_ber<'a, T: FromBer<'a, Error> + Debug + Drop>(
+    text: &mut String,
+    alloc: Global,
+    octets: &'a [u8],
+) -> Result<(), Fail> {
+    push_debug(text, &T::from_ber(alloc, octets))
+}
+
 /// Appends what the check of the element at the front, by BER, says.
 pub fn push_checked<T: CheckDerConstraints>(
     text: &mut String,

@@ -35,7 +35,8 @@ use Rattle.asn1_headers.specs.Answers.{Exactly, TellsMemory, IsOther}
 use Rattle.asn1_rs.specs.Grammar.Form.{IsOneForm, IsOneValue, FitsElement, HasValues, IsStrict, universal, header_of, WritesByValue, WritesForm}
 use Rattle.asn1_rs.specs.Grammar.{IsOneBody, TakesBody, Checks, FormChecks, FormBodies, FormTakes, FormNumber, NoCheck, DerWord, made, of_class}
 use Rattle.asn1_headers.specs.Ber.{max_depth}
-use Rattle.asn1_rs.specs.Sequence.Iterator.{IsWalk, TakesItem, EndsItem, TellsNoWord, IsMemory}
+use Rattle.asn1_headers.specs.Walk.{TakesItem, EndsItem}
+use Rattle.asn1_rs.specs.Sequence.Iterator.{IsWalk, TellsNoWord, IsMemory}
 use Rattle.asn1_rs.specs.Laws.Sequence.Iterator.{octets_kept, lawful_walk, items_joined, items_ended}
 use Rattle.asn1_rs.specs.Grammar.Item.{ItemGrammar, IsLawfulItem}
 use Rattle.asn1_rs.specs.declared.asn1_types.sequence.sequence_of.SequenceOf.{SequenceOf}

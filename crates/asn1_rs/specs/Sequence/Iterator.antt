@@ -1,12 +1,12 @@
 -- Walking over the items in contents octets.
-use Rattle.std.specs.Prelude.{ℕ, Bool, true, IsTrue, ◌≡◌, ◌≢◌, ◌<◌, ◌≤◌, ◌⊎◌, List, [], ◌∷◌, ◌++◌, length, map, Result, Ok, Err, Option, Some, None}
+use Rattle.std.specs.Prelude.{ℕ, Bool, true, IsTrue, ◌≡◌, ◌≢◌, ◌⊎◌, List, [], ◌∷◌, ◌++◌, map, Result, Ok, Err, Option}
 use Rattle.std.specs.List.{AllZip, concat}
 use Rattle.std.specs.Iterator.Runs.{Run}
 use Rattle.asn1_headers.specs.declared.error.Err.{Err as Refusal}
 use Rattle.asn1_headers.specs.declared.error.Error.{Error}
 use Rattle.asn1_headers.specs.declared.error.Error.TheVariants as errors
 use Rattle.asn1_rs.specs.declared.asn1_types.sequence.iterator.SequenceIterator.{SequenceIterator}
-use Rattle.asn1_headers.specs.Error.{FlattenedTo}
+use Rattle.asn1_headers.specs.Walk.{TakesItem}
 use Rattle.x690.specs.Octets.{IsOctets}
 use Rattle.x690.specs.Joined.{NoFront, IsOneFront, IsJoined}
 use Rattle.asn1_headers.specs.Answers.{Exactly}
@@ -17,17 +17,6 @@ use Rattle.asn1_rs.specs.Traits.{BerGives}
 -- the octets that are left
 abbrev pub octets_left : {T F E : Type 0} → SequenceIterator T F E → List ℕ
 octets_left s = s.left.now
-
--- The error that a reader's answer ends a walk with: the item's own refusal, or that octets are missing of it; `InvalidLength` where as much is given back as there was, or more.
-abbrev pub EndsItem : {T E : Type 0} → (Error → E → Type 0) → List ℕ → Result (List ℕ × T) (Refusal E) → E → Type 0
-EndsItem from left (Ok read) e = (length left ≤ length read.0) × from errors.InvalidLength e
-EndsItem from left (Err r) e = FlattenedTo (λ x y. y ≡ x) from r e
-
--- What a call of `next` answers where octets are left, and what is left then: the next item and what follows it, fewer octets than before; its refusal, and nothing is left; or nothing, at the end alone.
-abbrev pub TakesItem : {T E : Type 0} → (List ℕ → Result (List ℕ × T) (Refusal E) → Type 0) → (Error → E → Type 0) → List ℕ → Option (Result T E) → List ℕ → Type 0
-TakesItem reads from left None after = (left ≡ []) × (after ≡ [])
-TakesItem reads from left (Some (Ok item)) after = (left ≢ []) × reads left (Ok (after, item)) × (length after < length left)
-TakesItem {T} {E} reads from left (Some (Err e)) after = (left ≢ []) × ((answer : Result (List ℕ × T) (Refusal E)) × reads left answer × EndsItem from left answer e) × (after ≡ [])
 
 -- A reader takes an item exactly where a word of the grammar begins the octets, and one word alone begins an input.
 pub record ReadsExactly {T V E : Type 0} (IsCut : List ℕ → Type 0) (G : List ℕ → V → Type 0) (value : T → V) (memory : Refusal E → Type 0) (reads : List ℕ → Result (List ℕ × T) (Refusal E) → Type 0) : Type 0 where

@@ -18,7 +18,8 @@ use Rattle.asn1_headers.specs.Header.Reading.{ber_breach}
 use Rattle.asn1_headers.specs.Ber.{max_depth, EndsWithin}
 use Rattle.asn1_rs.specs.Traits.{PassesAll}
 use Rattle.asn1_rs.specs.Grammar.{ElementWord, NoCheck, TakesBody}
-use Rattle.asn1_rs.specs.Sequence.Iterator.{TakesItem, IsWalk, TellsNothing, TellsMemoryAlone, IsMemory, EndsWalk, ElementsGive, IsSame}
+use Rattle.asn1_headers.specs.Walk.{TakesItem}
+use Rattle.asn1_rs.specs.Sequence.Iterator.{IsWalk, TellsNothing, TellsMemoryAlone, IsMemory, EndsWalk, ElementsGive, IsSame}
 use Rattle.asn1_rs.specs.Laws.Any.Value.{the_element_parts}
 use Rattle.asn1_rs.specs.Laws.Readers.{ber_elements, element_exact, passes_all}
 use Rattle.asn1_rs.specs.Laws.Sequence.Iterator.{octets_kept, whole_walk}

@@ -15,7 +15,8 @@ use Rattle.asn1_headers.specs.declared.error.Error.TheVariants as errors
 use Rattle.asn1_headers.specs.Error.{FlattenedTo}
 use Rattle.asn1_headers.specs.Answers.{Front, Exactly, TellsMemory}
 use Rattle.asn1_rs.specs.declared.asn1_types.sequence.iterator.SequenceIterator.{SequenceIterator}
-use Rattle.asn1_rs.specs.Sequence.Iterator.{octets_left, EndsItem, TakesItem, WalkSteps, EndsWalk, IsWalk, IsWalkOf, EndsJoined, TellsNoWord, TellsMemoryAlone, IsMemory}
+use Rattle.asn1_headers.specs.Walk.{EndsItem, TakesItem}
+use Rattle.asn1_rs.specs.Sequence.Iterator.{octets_left, WalkSteps, EndsWalk, IsWalk, IsWalkOf, EndsJoined, TellsNoWord, TellsMemoryAlone, IsMemory}
 use Rattle.asn1_rs.specs.Laws.Readers.{none_now}
 
 -- Calls on an iterator are steps over the octets that are left.

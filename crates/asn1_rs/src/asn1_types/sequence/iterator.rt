@@ -1,5 +1,5 @@
 //! Walking over the items in contents octets, as those of a sequence or a set.
-ghost use Rattle.std.specs.Prelude.{◌≡◌, ◌+◌, ◌<◌, ◌≤◌, ℕ, Bool, List, [], ◌∷◌, ◌++◌, Result, Ok, IfOk, IfErr, length};
+ghost use Rattle.std.specs.Prelude.{◌≡◌, ◌+◌, ◌≤◌, ℕ, Bool, List, [], ◌∷◌, ◌++◌, Result, Ok, length};
 ghost use Rattle.std.specs.declared.result.Result.TheVariants as results;
 ghost use Rattle.std.specs.Iterator.{at_most, Yields};
 ghost use Rattle.std.specs.Iterator.Runs.{Run};
@@ -15,12 +15,13 @@ ghost use Rattle.asn1_headers.specs.declared.error.Error.{Error};
 ghost use Rattle.asn1_rs.specs.declared.asn1_types.any.Any.{Any};
 ghost use Rattle.asn1_rs.specs.Any.{parts_of, BerElementGives};
 ghost use Rattle.asn1_headers.specs.Ber.{max_depth, EndsWithin};
-ghost use Rattle.asn1_rs.specs.Sequence.Iterator.{octets_left, ReadsExactly, EndsItem, WalkSteps, IsWalk, IsWalkOf, TellsNoWord, TellsMemoryAlone, TellsNothing, IsMemory, ElementsGive};
+ghost use Rattle.asn1_rs.specs.Sequence.Iterator.{octets_left, ReadsExactly, WalkSteps, IsWalk, IsWalkOf, TellsNoWord, TellsMemoryAlone, TellsNothing, IsMemory, ElementsGive};
 
 use crate::laws::{LawfulBer, LawfulDer};
 use crate::traits::{ASN1Parser, FromBer, FromDer};
 use asn1_headers::content::{BerParser, DerParser};
-use asn1_headers::error::{Err, Error, ParseResult};
+use asn1_headers::error::{Error, ParseResult};
+use asn1_headers::walk::{ReadsNext, next_item};
 use std::alloc::Global;
 use std::marker::PhantomData;
 
@@ -84,22 +85,17 @@ impl<'a, T, F: ASN1Parser, E> SequenceIterator<'a, T, F, E> {
     }
 }
 
-/// The item and what is left behind it, or the refusal that ends the walk.
-#[inline(always)]
-fn item_or_end<'a, T: Drop, E: From<Error>>(
-    octets: &'a [u8],
-    answer: ParseResult<'a, T, E>,
-) -> Result<(&'a [u8], T), E>
-    ensures item { IfOk result (λ x. (seen answer.entry ≡ Ok (x.0.now, x.1))
-        × (length x.0.now < length octets.now)) }
-    ensures end { IfErr result (EndsItem E.from_gives octets.now (seen answer.entry)) }
-{
-    match answer {
-        Ok((rest, item)) if rest.len() < octets.len() => Ok((rest, item)),
-        Ok(_) => Err(E::from(Error::InvalidLength)),
-        Err(Err::Incomplete(needed)) => Err(E::from(Error::Incomplete(needed))),
-        Err(Err::Error(e)) => Err(e),
-        Err(Err::Failure(e)) => Err(e),
+/// The items that the reader `F` reads, as the items of a walk.
+struct ItemsBy<F> {
+    reads: PhantomData<F>,
+}
+
+impl<'a, T, F: ReadsItems<'a, T, E>, E> ReadsNext<'a, T, E> for ItemsBy<F> {
+    ghost next_reads = { F.item_gives };
+
+    #[inline(always)]
+    fn read_next(alloc: Global, octets: &'a [u8]) -> ParseResult<'a, T, E> {
+        F::read_item(alloc, octets)
     }
 }
 
@@ -118,19 +114,9 @@ where
     /// The next item, or the refusal that ends the walk; `None` where nothing is left.
     #[inline(always)]
     fn next(&mut self) -> Option<Result<T, E>> {
-        if self.left.is_empty() {
-            return None;
-        }
-        match item_or_end(self.left, F::read_item(self.alloc, self.left)) {
-            Ok((rest, item)) => {
-                self.left = rest;
-                Some(Ok(item))
-            }
-            Err(e) => {
-                self.left = &[];
-                Some(Err(e))
-            }
-        }
+        let (answer, left) = next_item::<T, E, ItemsBy<F>>(self.alloc, self.left);
+        self.left = left;
+        answer
     }
 }
 

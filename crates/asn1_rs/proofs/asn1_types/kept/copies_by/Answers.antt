@@ -1,6 +1,6 @@
 use Rattle.std.proofs.Common.{◌∷◌, [], ◌++◌, inr}
 use Rattle.std.specs.List.{AllZip}
-use Rattle.asn1_rs.specs.Sequence.Iterator.{TakesItem}
+use Rattle.asn1_headers.specs.Walk.{TakesItem}
 use Rattle.asn1_rs.proofs.Kept.{zip_push}
 use Rattle.asn1_rs.proofs.Lists.{items_push, items_end}
 use Rattle.asn1_rs.proofs.asn1_types.kept.copies_by.Goals as goal

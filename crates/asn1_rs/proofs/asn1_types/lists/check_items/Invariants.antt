@@ -2,7 +2,7 @@ use Rattle.std.proofs.Common.{◌≡◌, List, map, Ok, length}
 use Rattle.std.specs.Iterator.{Yields}
 use Rattle.asn1_rs.specs.declared.asn1_types.any.Any.{Any}
 use Rattle.asn1_headers.specs.declared.error.Error.{Error}
-use Rattle.asn1_rs.specs.Sequence.Iterator.{TakesItem}
+use Rattle.asn1_headers.specs.Walk.{TakesItem}
 use Rattle.asn1_rs.specs.Lists.{CheckedGives}
 use Rattle.asn1_rs.proofs.asn1_types.lists.check_items.Given as goal
 

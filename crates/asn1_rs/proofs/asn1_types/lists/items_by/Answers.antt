@@ -1,6 +1,7 @@
 use Rattle.std.proofs.Common.{List, map, Ok, subst, sym, inr}
 use Rattle.std.specs.Iterator.{Yields}
-use Rattle.asn1_rs.specs.Sequence.Iterator.{TakesItem, octets_left}
+use Rattle.asn1_headers.specs.Walk.{TakesItem}
+use Rattle.asn1_rs.specs.Sequence.Iterator.{octets_left}
 use Rattle.asn1_rs.proofs.Lists.{items_push, items_end}
 use Rattle.asn1_rs.proofs.asn1_types.lists.items_by.Goals as goal
 

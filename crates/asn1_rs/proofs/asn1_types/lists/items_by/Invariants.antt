@@ -1,6 +1,6 @@
 use Rattle.std.proofs.Common.{map, Ok}
 use Rattle.std.specs.Iterator.{Yields}
-use Rattle.asn1_rs.specs.Sequence.Iterator.{TakesItem}
+use Rattle.asn1_headers.specs.Walk.{TakesItem}
 use Rattle.asn1_rs.proofs.asn1_types.lists.items_by.Given as goal
 
 abbrev pub invariant-loop-item : goal.invariant-loop-item

@@ -1,7 +1,8 @@
 use Rattle.std.proofs.Common.{◌++◌, ◌∷◌, subst, List, ℕ}
 use Rattle.std.specs.Prelude.{Err}
 use Rattle.std.specs.Iterator.{Yields}
-use Rattle.asn1_rs.specs.Sequence.Iterator.{octets_left, TakesItem}
+use Rattle.asn1_headers.specs.Walk.{TakesItem}
+use Rattle.asn1_rs.specs.Sequence.Iterator.{octets_left}
 use Rattle.asn1_rs.specs.Laws.Sequence.Iterator.{walk_is_short, refusal_is_last, nothing_follows, octets_walked}
 use Rattle.asn1_rs.proofs.asn1_types.sequence.iterator.walks_end.Goals as goal
 
