@@ -36,23 +36,30 @@ fn item_or_end<'a, T: Drop, E: From<Error>>(
     }
 }
 
-/// Takes the next item of a walk off the front of the octets, and answers it with what is left then.
+/// Takes the next item of a walk off the front of the octets that are left, and answers it.
 ///
 /// `None` where no octets are left, and there alone. A refusal ends the walk, so nothing is left behind it: that of the
 /// reader; `Error::Incomplete` where the item lacks octets; `InvalidLength` where the reader takes no octet.
 #[inline(always)]
-pub fn next_item<'a, T, E, R>(alloc: Global, left: &'a [u8]) -> (Option<Result<T, E>>, &'a [u8])
+pub fn next_item<'a, T, E, R>(alloc: Global, left: &mut &'a [u8]) -> Option<Result<T, E>>
 where
     T: Drop,
     E: From<Error>,
     R: ReadsNext<'a, T, E>,
-    ensures { TakesItem R.next_reads E.from_gives left.now result.0 result.1.now }
+    ensures { TakesItem R.next_reads E.from_gives left.old.now result left.new.now }
 {
-    if left.is_empty() {
-        return (None, left);
+    let octets = *left;
+    if octets.is_empty() {
+        return None;
     }
-    match item_or_end(left, R::read_next(alloc, left)) {
-        Ok((rest, item)) => (Some(Ok(item)), rest),
-        Err(e) => (Some(Err(e)), &[]),
+    match item_or_end(octets, R::read_next(alloc, octets)) {
+        Ok((rest, item)) => {
+            *left = rest;
+            Some(Ok(item))
+        }
+        Err(e) => {
+            *left = &[];
+            Some(Err(e))
+        }
     }
 }

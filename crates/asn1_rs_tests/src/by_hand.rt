@@ -1,84 +1,9 @@
-//! Headers and elements that are made by hand: their parts, and what they are converted to.
+//! Elements that are made by hand: their parts, and what they are converted to.
 
 use asn1_rs::{Any, CheckDerConstraints, Class, DynTagged, FromAny, FromBer, Header, Length, Tag};
 use std::alloc::Global;
-use std::borrow::CowSlice;
 use std::test::Fail;
 use test_rows::{Calls, assert_rows, assert_shown, push_debug};
-
-#[test]
-fn headers_have_parts(rt: HostRuntime) -> Result<(), Fail> {
-    let header = Header::new(Class::Application, false, Tag(9), Length::Definite(7))
-        .with_class(Class::ContextSpecific)
-        .with_constructed(true)
-        .with_tag(Tag(15))
-        .with_length(Length::Indefinite)
-        .with_raw_tag(Some(CowSlice::Borrowed(&[0xbf, 0x0f])));
-    let parts = (
-        header.class(),
-        header.constructed(),
-        header.tag(),
-        header.length(),
-    );
-    assert_shown(
-        rt.alloc(),
-        &(parts, header.raw_tag()),
-        "((ContextSpecific, true, Tag(15), Indefinite), Some([191, 15]))",
-    )
-}
-
-#[test]
-fn headers_assert_their_parts(rt: HostRuntime) -> Result<(), Fail> {
-    let header = Header::new(Class::Private, true, Tag::Null, Length::Indefinite);
-    let answers = [
-        header.assert_class(Class::Private),
-        header.assert_class(Class::Universal),
-        header.assert_tag(Tag::Null),
-        header.assert_tag(Tag::Oid),
-        header.assert_constructed(),
-        header.assert_primitive(),
-        header.assert_definite(),
-    ];
-    assert_shown(
-        rt.alloc(),
-        &answers,
-        "[Ok(()), Err(UnexpectedClass { expected: Some(Universal), actual: Private }), \
-        Ok(()), Err(UnexpectedTag { expected: Some(Tag(6)), actual: Tag(5) }), \
-        Ok(()), Err(ConstructUnexpected), Err(DerConstraintFailed(IndefiniteLength))]",
-    )?;
-    let header = header
-        .with_constructed(false)
-        .with_length(Length::Definite(2));
-    let answers = [
-        header.assert_constructed(),
-        header.assert_primitive(),
-        header.assert_definite(),
-    ];
-    assert_shown(
-        rt.alloc(),
-        &answers,
-        "[Err(ConstructExpected), Ok(()), Ok(())]",
-    )
-}
-
-#[test]
-fn headers_are_equal_by_class_constructed_bit_and_tag(rt: HostRuntime) {
-    // The same tag number in low and in high form.
-    let low = Header::new(Class::ContextSpecific, false, Tag(15), Length::Definite(2));
-    let high = Header::new(Class::ContextSpecific, false, Tag(15), Length::Indefinite).with_raw_tag(
-        Some(CowSlice::Borrowed(&[0x9f, 0x0f])),
-    );
-    let equal = low == high;
-    let high = high.with_constructed(true);
-    let other_form = low == high;
-    let high = high.with_constructed(false).with_tag(Tag(14));
-    let other_tag = low == high;
-    let high = high.with_tag(Tag(15)).with_class(Class::Private);
-    assert_eq!(rt;
-        [equal, other_form, other_tag, low == high],
-        [true, false, false, false]
-    );
-}
 
 #[test]
 fn header_that_was_read_equals_one_by_hand(rt: HostRuntime) -> Result<(), Fail> {

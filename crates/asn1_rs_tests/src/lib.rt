@@ -10,8 +10,6 @@ mod colour;
 #[cfg(test)]
 mod devices;
 #[cfg(test)]
-mod errors;
-#[cfg(test)]
 mod headed;
 #[cfg(test)]
 mod implicit;

@@ -9,4 +9,5 @@ pub mod OneRefusal
 pub mod OneTag
 pub mod ShownLaws
 pub mod Split
+pub mod NamedTypes
 pub mod Walks

@@ -1,5 +1,5 @@
 //! The names of types.
-ghost use Rattle.std.specs.Prelude.{◌≡◌, ◌≢◌, MatchOption};
+ghost use Rattle.std.specs.Prelude.{◌≡◌, ◌≢◌, All, MatchOption};
 ghost use Rattle.asn1vec_answers.specs.declared.types.TypeName.{TypeName};
 ghost use Rattle.asn1vec_answers.specs.Types.{name_of, meaning_of, Names, NamesNone};
 
@@ -43,7 +43,85 @@ pub(crate) enum TypeName {
     Implicit1VecU16,
 }
 
+/// All of them, in this order.
+const TYPES: [TypeName; 33] = [
+    TypeName::U8,
+    TypeName::U16,
+    TypeName::U32,
+    TypeName::U64,
+    TypeName::U128,
+    TypeName::I8,
+    TypeName::I16,
+    TypeName::I32,
+    TypeName::I64,
+    TypeName::I128,
+    TypeName::Any,
+    TypeName::Bool,
+    TypeName::Null,
+    TypeName::Enumerated,
+    TypeName::Integer,
+    TypeName::Octets,
+    TypeName::Bits,
+    TypeName::Eoc,
+    TypeName::VecU8,
+    TypeName::VecU32,
+    TypeName::VecBool,
+    TypeName::VecVecU8,
+    TypeName::SetOfU8,
+    TypeName::BTreeSetU8,
+    TypeName::Sequence,
+    TypeName::Set,
+    TypeName::SeqOfU32,
+    TypeName::Explicit0U32,
+    TypeName::Explicit31U8,
+    TypeName::VecExplicit31U8,
+    TypeName::OptU8,
+    TypeName::HashSetI8,
+    TypeName::Implicit1VecU16,
+];
+
 impl TypeName {
+    /// What a line names the type by.
+    fn name(self) -> &'static [u8]
+        ensures { result.now ≡ name_of self }
+    {
+        match self {
+            TypeName::U8 => b"u8",
+            TypeName::U16 => b"u16",
+            TypeName::U32 => b"u32",
+            TypeName::U64 => b"u64",
+            TypeName::U128 => b"u128",
+            TypeName::I8 => b"i8",
+            TypeName::I16 => b"i16",
+            TypeName::I32 => b"i32",
+            TypeName::I64 => b"i64",
+            TypeName::I128 => b"i128",
+            TypeName::Any => b"any",
+            TypeName::Bool => b"bool",
+            TypeName::Null => b"null",
+            TypeName::Enumerated => b"enumerated",
+            TypeName::Integer => b"integer",
+            TypeName::Octets => b"octets",
+            TypeName::Bits => b"bits",
+            TypeName::Eoc => b"eoc",
+            TypeName::VecU8 => b"vec.u8",
+            TypeName::VecU32 => b"vec.u32",
+            TypeName::VecBool => b"vec.bool",
+            TypeName::VecVecU8 => b"vec.vec.u8",
+            TypeName::SetOfU8 => b"setof.u8",
+            TypeName::BTreeSetU8 => b"btreeset.u8",
+            TypeName::Sequence => b"sequence",
+            TypeName::Set => b"set",
+            TypeName::SeqOfU32 => b"seqof.u32",
+            TypeName::Explicit0U32 => b"explicit0.u32",
+            TypeName::Explicit31U8 => b"explicit31.u8",
+            TypeName::VecExplicit31U8 => b"vec.explicit31.u8",
+            TypeName::OptU8 => b"opt.u8",
+            TypeName::HashSetI8 => b"hashset.i8",
+            TypeName::Implicit1VecU16 => b"implicit1.vec.u16",
+        }
+    }
+
     /// Whether the name is there by the rule.
     fn is_there(self, rule: Rule) -> bool
         ensures { result ≡ (meaning_of self).is_there rule }
@@ -55,59 +133,21 @@ impl TypeName {
     }
 }
 
+/// The first of these types that has the name.
+fn type_among(types: &[TypeName], name: &[u8]) -> Option<TypeName>
+    ensures { MatchOption result (All (λ t. name.now ≢ name_of t) types.now)
+        (λ t. name.now ≡ name_of t) }
+{
+    let place = types.iter().position(|t| name == t.name())?;
+    Some(types[place])
+}
+
 /// The type of a name.
 fn type_of(name: &[u8]) -> Option<TypeName>
     ensures { MatchOption result ((t : TypeName) → name.now ≢ name_of t)
         (λ t. name.now ≡ name_of t) }
 {
-    if name == b"btreeset.u8".as_slice() {
-        return Some(TypeName::BTreeSetU8);
-    }
-    if name == b"seqof.u32".as_slice() {
-        return Some(TypeName::SeqOfU32);
-    }
-    if name == b"explicit0.u32".as_slice() {
-        return Some(TypeName::Explicit0U32);
-    }
-    if name == b"explicit31.u8".as_slice() {
-        return Some(TypeName::Explicit31U8);
-    }
-    if name == b"implicit1.vec.u16".as_slice() {
-        return Some(TypeName::Implicit1VecU16);
-    }
-    if name == b"vec.explicit31.u8".as_slice() {
-        return Some(TypeName::VecExplicit31U8);
-    }
-    match name {
-        b"u8" => Some(TypeName::U8),
-        b"u16" => Some(TypeName::U16),
-        b"u32" => Some(TypeName::U32),
-        b"u64" => Some(TypeName::U64),
-        b"u128" => Some(TypeName::U128),
-        b"i8" => Some(TypeName::I8),
-        b"i16" => Some(TypeName::I16),
-        b"i32" => Some(TypeName::I32),
-        b"i64" => Some(TypeName::I64),
-        b"i128" => Some(TypeName::I128),
-        b"any" => Some(TypeName::Any),
-        b"bool" => Some(TypeName::Bool),
-        b"null" => Some(TypeName::Null),
-        b"enumerated" => Some(TypeName::Enumerated),
-        b"integer" => Some(TypeName::Integer),
-        b"octets" => Some(TypeName::Octets),
-        b"bits" => Some(TypeName::Bits),
-        b"eoc" => Some(TypeName::Eoc),
-        b"vec.u8" => Some(TypeName::VecU8),
-        b"vec.u32" => Some(TypeName::VecU32),
-        b"vec.bool" => Some(TypeName::VecBool),
-        b"vec.vec.u8" => Some(TypeName::VecVecU8),
-        b"setof.u8" => Some(TypeName::SetOfU8),
-        b"sequence" => Some(TypeName::Sequence),
-        b"set" => Some(TypeName::Set),
-        b"opt.u8" => Some(TypeName::OptU8),
-        b"hashset.i8" => Some(TypeName::HashSetI8),
-        _ => None,
-    }
+    type_among(&TYPES, name)
 }
 
 /// The type that has the name by the rule.

@@ -114,9 +114,7 @@ where
     /// The next item, or the refusal that ends the walk; `None` where nothing is left.
     #[inline(always)]
     fn next(&mut self) -> Option<Result<T, E>> {
-        let (answer, left) = next_item::<T, E, ItemsBy<F>>(self.alloc, self.left);
-        self.left = left;
-        answer
+        next_item::<T, E, ItemsBy<F>>(self.alloc, &mut self.left)
     }
 }
 

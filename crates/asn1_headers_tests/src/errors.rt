@@ -1,8 +1,9 @@
 //! Classes, tag numbers, lengths, and the texts and conversions of errors.
 
-use asn1_rs::{
-    Class, DerConstraint, Err, Error, Length, Needed, SerializeError, Tag, from_nom_error,
-};
+use asn1_headers::class::Class;
+use asn1_headers::error::{DerConstraint, Err, Error, Needed, SerializeError, from_nom_error};
+use asn1_headers::length::Length;
+use asn1_headers::tag::Tag;
 use std::alloc::{AllocError, Global};
 use std::borrow::CowStr;
 use std::fmt::{Display, Write};
