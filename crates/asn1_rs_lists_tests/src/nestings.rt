@@ -2,9 +2,8 @@
 
 use asn1_rs::{
     ApplicationExplicit, ApplicationImplicit, Error, LawfulBer, LawfulCheck, LawfulDer,
-    LawfulMember, LawfulWrite, OctetString, ParseResult, PrivateExplicit, PrivateImplicit,
-    SequenceOf, SetOf, TaggedExplicit, TaggedImplicit, Told, read_ber, read_der, strict_vec,
-    write_strict,
+    LawfulMember, LawfulWrite, ParseResult, PrivateExplicit, PrivateImplicit, SequenceOf, SetOf,
+    TaggedExplicit, TaggedImplicit, Told, read_ber, read_der, strict_vec, write_strict,
 };
 use std::alloc::Global;
 use std::collections::{BTreeSet, HashSet};
@@ -39,9 +38,9 @@ e70730056003020105 = e70730056003020105 rest - by BER 9 e70730056003020105 rest 
 e7073005a003020105 = Error(UnexpectedClass { expected: Some(Application), actual: ContextSpecific }) \
 by BER Error(UnexpectedClass { expected: Some(Application), actual: ContextSpecific })
 
-[2] [APPLICATION 3] IMPLICIT OctetString:
-a20743054a6f6e6573 = a20743054a6f6e6573 rest - by BER 9 a20743054a6f6e6573 rest -
-a20783054a6f6e6573 = Error(UnexpectedClass { expected: Some(Application), actual: ContextSpecific }) \
+[2] [APPLICATION 3] IMPLICIT bool:
+a2034301ff = a2034301ff rest - by BER 5 a2034301ff rest -
+a2038301ff = Error(UnexpectedClass { expected: Some(Application), actual: ContextSpecific }) \
 by BER Error(UnexpectedClass { expected: Some(Application), actual: ContextSpecific })
 
 [1] IMPLICIT [0] u8:
@@ -182,11 +181,9 @@ fn push_private_sequence(text: &mut String, alloc: Global, octets: &[u8]) -> Res
     )
 }
 
-/// Octets under an implicit tag, under a tag.
+/// A truth value under an implicit tag, under a tag.
 fn push_implicit_in_a_tag(text: &mut String, alloc: Global, octets: &[u8]) -> Result<(), Fail> {
-    push_read::<TaggedExplicit<ApplicationImplicit<OctetString<'_>, Error, 3>, Error, 2>>(
-        text, alloc, octets,
-    )
+    push_read::<TaggedExplicit<ApplicationImplicit<bool, Error, 3>, Error, 2>>(text, alloc, octets)
 }
 
 /// A number under a tag, under an implicit tag.
@@ -203,9 +200,7 @@ impl Calls for Nested {
             "[PRIVATE 7] SequenceOf of [APPLICATION 0] u8" => push_private_sequence(
                 text, alloc, octets,
             ),
-            "[2] [APPLICATION 3] IMPLICIT OctetString" => push_implicit_in_a_tag(
-                text, alloc, octets,
-            ),
+            "[2] [APPLICATION 3] IMPLICIT bool" => push_implicit_in_a_tag(text, alloc, octets),
             "[1] IMPLICIT [0] u8" => push_implicit_over_a_tag(text, alloc, octets),
             _ => push_list_read(text, alloc, name, octets),
         }

@@ -29,6 +29,9 @@ implicit Boolean:
 
 implicit Vec u16:
 a10402020005 = a103020105 count 5 3 raw a103020105
+
+implicit Vec u16 by DER:
+a103020105 = a103020105 count 5 3 raw a103020105
 ";
 
 /// Values that were put under a tag by a call, whose header has length 0.
@@ -88,10 +91,6 @@ Vec of explicit u8:
 implicit u8:
 810105 = 810105 rest - by BER 810105 rest -
 81020005 = Error(DerConstraintFailed(IntegerLeadingZeroes)) by BER 810105 rest -
-
-implicit Vec u16:
-a103020105 = a103020105 rest - by BER a103020105 rest -
-8103020105 = Error(ConstructExpected) by BER Error(ConstructExpected)
 ";
 
 /// The element at the front by BER, converted.
@@ -130,6 +129,10 @@ impl Calls for Written {
             }
             "implicit Vec u16" => {
                 let read = TaggedParser::<'_, Implicit, Vec<u16>, Error>::from_ber(alloc, octets)?;
+                push_written(text, alloc, &read.1)
+            }
+            "implicit Vec u16 by DER" => {
+                let read = TaggedParser::<'_, Implicit, Vec<u16>, Error>::from_der(alloc, octets)?;
                 push_written(text, alloc, &read.1)
             }
             _ => Ok(text.push_str("no such call")?),
@@ -264,9 +267,6 @@ impl Calls for Lawful {
             "implicit u8" => {
                 push_lawful::<TaggedParser<'_, Implicit, u8, Error>, Error>(text, alloc, octets)
             }
-            "implicit Vec u16" => push_lawful::<TaggedParser<'_, Implicit, Vec<u16>, Error>, Error>(
-                text, alloc, octets,
-            ),
             _ => Ok(text.push_str("no such call")?),
         }
     }

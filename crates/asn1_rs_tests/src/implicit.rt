@@ -1,9 +1,9 @@
 //! Values under implicit tags.
 
 use asn1_rs::{
-    ApplicationExplicit, Boolean, Error, FromDer, Implicit, Integer, OptTaggedImplicit, Sequence,
-    SetOf, TaggedExplicit, TaggedImplicit, TaggedValue, ToDer, Told, read_ber, read_der,
-    write_strict,
+    ApplicationExplicit, ApplicationImplicit, Boolean, Error, FromDer, Implicit, Integer,
+    OctetString, OptTaggedImplicit, Sequence, SetOf, TaggedExplicit, TaggedImplicit, TaggedValue,
+    ToDer, Told, read_ber, read_der, write_strict,
 };
 use std::alloc::Global;
 use std::fmt::Debug;
@@ -106,7 +106,20 @@ written 810105 count 3 1 raw 810105
 
 implicit 1 application explicit 0 u8:
 a103020105 = Error(UnexpectedClass { expected: Some(Application), actual: ContextSpecific })
+
+explicit 2 application implicit 3 OctetString from_der:
+a20743054a6f6e6573 = TaggedValue { inner: TaggedValue { inner: OctetString { octets: [74, 111, 110, 101, 115] }, \
+marks: PhantomData<_> }, marks: PhantomData<_> } rest - written a20743054a6f6e6573 count 9 7 raw a20743054a6f6e6573
+a20783054a6f6e6573 = Error(UnexpectedClass { expected: Some(Application), actual: ContextSpecific })
+
+explicit 2 application implicit 3 OctetString from_ber:
+a28043054a6f6e65730000 = TaggedValue { inner: TaggedValue { inner: OctetString { octets: [74, 111, 110, 101, 115] }, \
+marks: PhantomData<_> }, marks: PhantomData<_> } rest - written a20743054a6f6e6573 count 9 7 raw a20743054a6f6e6573
+a20783054a6f6e6573 = Error(UnexpectedClass { expected: Some(Application), actual: ContextSpecific })
 ";
+
+/// Octets under an implicit tag, under an explicit one (X.690, section 8.14.3).
+type Jones<'a> = TaggedExplicit<ApplicationImplicit<OctetString<'a>, Error, 3>, Error, 2>;
 
 /// The calls of the tables.
 struct Implicits;
@@ -201,6 +214,12 @@ impl Calls for Implicits {
             "implicit 1 explicit 0 u8" => push_explicit_within(text, alloc, octets),
             "implicit 1 implicit 2 u8" => push_implicit_within(text, alloc, octets),
             "implicit 1 application explicit 0 u8" => push_other_within(text, alloc, octets),
+            "explicit 2 application implicit 3 OctetString from_der" => {
+                push_by_der::<Jones<'_>>(text, alloc, octets)
+            }
+            "explicit 2 application implicit 3 OctetString from_ber" => {
+                push_by_ber::<Jones<'_>>(text, alloc, octets)
+            }
             _ => push_list(text, alloc, name, octets),
         }
     }
