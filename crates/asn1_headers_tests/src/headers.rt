@@ -1,6 +1,7 @@
 //! Headers that are made by hand: their parts, what they assert of them, and when two are equal.
 
 use asn1_headers::class::Class;
+use asn1_headers::error::Error;
 use asn1_headers::header::Header;
 use asn1_headers::length::Length;
 use asn1_headers::tag::Tag;
@@ -29,36 +30,38 @@ fn headers_have_parts(rt: HostRuntime) -> Result<(), Fail> {
     )
 }
 
+/// Whether the header is constructed, whether it is primitive and whether its length is definite.
+fn form_answers(header: &Header<'_>) -> [Result<(), Error>; 3] {
+    [
+        header.assert_constructed(),
+        header.assert_primitive(),
+        header.assert_definite(),
+    ]
+}
+
 #[test]
 fn headers_assert_their_parts(rt: HostRuntime) -> Result<(), Fail> {
     let header = Header::new(Class::Private, true, Tag::Null, Length::Indefinite);
-    let answers = [
+    let answers = (
         header.assert_class(Class::Private),
         header.assert_class(Class::Universal),
         header.assert_tag(Tag::Null),
         header.assert_tag(Tag::Oid),
-        header.assert_constructed(),
-        header.assert_primitive(),
-        header.assert_definite(),
-    ];
+        form_answers(&header),
+    );
     assert_shown(
         rt.alloc(),
         &answers,
-        "[Ok(()), Err(UnexpectedClass { expected: Some(Universal), actual: Private }), \
+        "(Ok(()), Err(UnexpectedClass { expected: Some(Universal), actual: Private }), \
         Ok(()), Err(UnexpectedTag { expected: Some(Tag(6)), actual: Tag(5) }), \
-        Ok(()), Err(ConstructUnexpected), Err(DerConstraintFailed(IndefiniteLength))]",
+        [Ok(()), Err(ConstructUnexpected), Err(DerConstraintFailed(IndefiniteLength))])",
     )?;
     let header = header
         .with_constructed(false)
         .with_length(Length::Definite(2));
-    let answers = [
-        header.assert_constructed(),
-        header.assert_primitive(),
-        header.assert_definite(),
-    ];
     assert_shown(
         rt.alloc(),
-        &answers,
+        &form_answers(&header),
         "[Err(ConstructExpected), Ok(()), Ok(())]",
     )
 }

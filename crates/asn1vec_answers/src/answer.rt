@@ -13,42 +13,24 @@ ghost use Rattle.asn1vec_answers.specs.Shown.{Gains, HeldEncoding, IsReadAnswer,
 ghost use Rattle.asn1vec_answers.specs.Meaning.{ReadsByEither, ReadsOptional};
 ghost use Rattle.asn1vec_answers.specs.Types.{IsTypeAnswer, meaning_of};
 
+use crate::holders::{
+    push_btree_set_u8, push_explicit_0_u32, push_explicit_31_u8, push_hash_set_i8,
+    push_implicit_1_vec_u16, push_sequence_of_u32, push_set_of_u8, push_vec_bool,
+    push_vec_explicit_31_u8, push_vec_u8, push_vec_u32, push_vec_vec_u8,
+};
 use crate::options::{optional_by_ber, optional_by_der};
 use crate::request::{Request, Rule, read_request};
-use crate::shown::{Encoded, Shown, push_by_ber, push_by_der, push_reading};
+use crate::shown::{Encoded, push_by_ber, push_by_either, push_reading};
 use crate::text::push_str;
 use crate::types::{TypeName, type_named};
 use asn1_rs::{
     Any, BitString, EndOfContent, Enumerated, Error, Integer, LawfulBer, LawfulDer, Null,
-    OctetString, Sequence, SequenceOf, Set, SetOf, Tagged, TaggedExplicit, TaggedImplicit,
+    OctetString, Sequence, Set, Tagged,
 };
 use std::alloc::{AllocError, Global};
-use std::collections::{BTreeSet, HashSet};
 
 /// The most octets of a line, without its end.
 pub const LONGEST_LINE: usize = 65_536;
-
-/// Appends the answer to octets that are read by either rule.
-fn push_by_either<'a, T>(
-    alloc: Global,
-    rule: Rule,
-    octets: &'a [u8],
-    buffer: &mut Vec<u8>,
-    text: &mut Vec<u8>,
-) -> Result<(), AllocError>
-where
-    T: LawfulBer<'a, Error> + LawfulDer<'a, Error> + Shown + Drop,
-    ensures { OnOk result
-        (Gains text.old.items text.new.items
-        (IsReadAnswer
-        (ReadsByEither T.grammar.Ber T.grammar.Der T.grammar.value T.grammar.allocates T.ber_gives
-        T.der_gives rule) T.text_of T.Encodes octets.now)) }
-{
-    match rule {
-        Rule::Ber => push_by_ber::<T>(alloc, octets, buffer, text),
-        Rule::Der => push_by_der::<T>(alloc, octets, buffer, text),
-    }
-}
 
 /// Appends the answer to octets that are read by either rule as an optional value.
 fn push_optional<'a, T>(
@@ -116,29 +98,21 @@ fn push_by_type(
         TypeName::Octets => push_by_either::<OctetString<'_>>(alloc, rule, octets, buffer, text),
         TypeName::Bits => push_by_either::<BitString<'_>>(alloc, rule, octets, buffer, text),
         TypeName::Eoc => push_by_ber::<EndOfContent>(alloc, octets, buffer, text),
-        TypeName::VecU8 => push_by_either::<Vec<u8>>(alloc, rule, octets, buffer, text),
-        TypeName::VecU32 => push_by_either::<Vec<u32>>(alloc, rule, octets, buffer, text),
-        TypeName::VecBool => push_by_either::<Vec<bool>>(alloc, rule, octets, buffer, text),
-        TypeName::VecVecU8 => push_by_either::<Vec<Vec<u8>>>(alloc, rule, octets, buffer, text),
-        TypeName::SetOfU8 => push_by_either::<SetOf<u8>>(alloc, rule, octets, buffer, text),
-        TypeName::BTreeSetU8 => push_by_either::<BTreeSet<u8>>(alloc, rule, octets, buffer, text),
+        TypeName::VecU8 => push_vec_u8(alloc, rule, octets, buffer, text),
+        TypeName::VecU32 => push_vec_u32(alloc, rule, octets, buffer, text),
+        TypeName::VecBool => push_vec_bool(alloc, rule, octets, buffer, text),
+        TypeName::VecVecU8 => push_vec_vec_u8(alloc, rule, octets, buffer, text),
+        TypeName::SetOfU8 => push_set_of_u8(alloc, rule, octets, buffer, text),
+        TypeName::BTreeSetU8 => push_btree_set_u8(alloc, rule, octets, buffer, text),
         TypeName::Sequence => push_by_either::<Sequence<'_>>(alloc, rule, octets, buffer, text),
         TypeName::Set => push_by_either::<Set<'_>>(alloc, rule, octets, buffer, text),
-        TypeName::SeqOfU32 => push_by_either::<SequenceOf<u32>>(alloc, rule, octets, buffer, text),
-        TypeName::Explicit0U32 => {
-            push_by_either::<TaggedExplicit<u32, Error, 0>>(alloc, rule, octets, buffer, text)
-        }
-        TypeName::Explicit31U8 => {
-            push_by_either::<TaggedExplicit<u8, Error, 31>>(alloc, rule, octets, buffer, text)
-        }
-        TypeName::VecExplicit31U8 => {
-            push_by_either::<Vec<TaggedExplicit<u8, Error, 31>>>(alloc, rule, octets, buffer, text)
-        }
+        TypeName::SeqOfU32 => push_sequence_of_u32(alloc, rule, octets, buffer, text),
+        TypeName::Explicit0U32 => push_explicit_0_u32(alloc, rule, octets, buffer, text),
+        TypeName::Explicit31U8 => push_explicit_31_u8(alloc, rule, octets, buffer, text),
+        TypeName::VecExplicit31U8 => push_vec_explicit_31_u8(alloc, rule, octets, buffer, text),
         TypeName::OptU8 => push_optional::<u8>(alloc, rule, octets, buffer, text),
-        TypeName::Implicit1VecU16 => {
-            push_by_either::<TaggedImplicit<Vec<u16>, Error, 1>>(alloc, rule, octets, buffer, text)
-        }
-        TypeName::HashSetI8 => push_by_either::<HashSet<i8>>(alloc, rule, octets, buffer, text),
+        TypeName::Implicit1VecU16 => push_implicit_1_vec_u16(alloc, rule, octets, buffer, text),
+        TypeName::HashSetI8 => push_hash_set_i8(alloc, rule, octets, buffer, text),
     }
 }
 

@@ -4,6 +4,7 @@
 mod answer;
 mod any;
 mod digits;
+mod holders;
 mod leaves;
 mod lists;
 mod names;

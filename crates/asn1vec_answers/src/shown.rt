@@ -4,9 +4,11 @@ ghost use Rattle.asn1_headers.specs.Answers.{seen};
 ghost use Rattle.asn1_rs.specs.ToDer.{Either, some_allocates};
 ghost use Rattle.asn1_headers.specs.declared.error.SerializeError.{SerializeError};
 ghost use Rattle.asn1_headers.specs.Error.{tells_of_io};
+ghost use Rattle.asn1vec_answers.specs.Meaning.{ReadsByEither};
 ghost use Rattle.asn1vec_answers.specs.Shown.{Encoding, Gains, Says, IsReadAnswer, IsWritten, ReadsByBer, ReadsByDer, SaysEncoding, SaysWriting};
 
 use crate::names::{push_refusal, push_write_refusal};
+use crate::request::Rule;
 use crate::text::{push_hexadecimal, push_str};
 use asn1_rs::{
     Error, LawfulBer, LawfulDer, LawfulWrite, ParseResult, SerializeError, SerializeResult, ToDer,
@@ -205,4 +207,26 @@ where
         T.text_of T.Encodes octets.now)) }
 {
     push_reading(alloc, read_der::<T, Error>(alloc, octets), buffer, text)
+}
+
+/// Appends the answer to octets that are read by either rule.
+pub(crate) fn push_by_either<'a, T>(
+    alloc: Global,
+    rule: Rule,
+    octets: &'a [u8],
+    buffer: &mut Vec<u8>,
+    text: &mut Vec<u8>,
+) -> Result<(), AllocError>
+where
+    T: LawfulBer<'a, Error> + LawfulDer<'a, Error> + Shown + Drop,
+    ensures { OnOk result
+        (Gains text.old.items text.new.items
+        (IsReadAnswer
+        (ReadsByEither T.grammar.Ber T.grammar.Der T.grammar.value T.grammar.allocates T.ber_gives
+        T.der_gives rule) T.text_of T.Encodes octets.now)) }
+{
+    match rule {
+        Rule::Ber => push_by_ber::<T>(alloc, octets, buffer, text),
+        Rule::Der => push_by_der::<T>(alloc, octets, buffer, text),
+    }
 }

@@ -55,22 +55,22 @@ pub returns-in-Integer : goal.returns-in-Integer
 returns-in-Integer c = rw c.in-Integer.is c.push_by_either-in-Integer.ensures
 
 pub returns-in-VecU8 : goal.returns-in-VecU8
-returns-in-VecU8 c = rw c.in-VecU8.is c.push_by_either-in-VecU8.ensures
+returns-in-VecU8 c = rw c.in-VecU8.is c.push_vec_u8.ensures
 
 pub returns-in-VecU32 : goal.returns-in-VecU32
-returns-in-VecU32 c = rw c.in-VecU32.is c.push_by_either-in-VecU32.ensures
+returns-in-VecU32 c = rw c.in-VecU32.is c.push_vec_u32.ensures
 
 pub returns-in-VecBool : goal.returns-in-VecBool
-returns-in-VecBool c = rw c.in-VecBool.is c.push_by_either-in-VecBool.ensures
+returns-in-VecBool c = rw c.in-VecBool.is c.push_vec_bool.ensures
 
 pub returns-in-VecVecU8 : goal.returns-in-VecVecU8
-returns-in-VecVecU8 c = rw c.in-VecVecU8.is c.push_by_either-in-VecVecU8.ensures
+returns-in-VecVecU8 c = rw c.in-VecVecU8.is c.push_vec_vec_u8.ensures
 
 pub returns-in-SetOfU8 : goal.returns-in-SetOfU8
-returns-in-SetOfU8 c = rw c.in-SetOfU8.is c.push_by_either-in-SetOfU8.ensures
+returns-in-SetOfU8 c = rw c.in-SetOfU8.is c.push_set_of_u8.ensures
 
 pub returns-in-BTreeSetU8 : goal.returns-in-BTreeSetU8
-returns-in-BTreeSetU8 c = rw c.in-BTreeSetU8.is c.push_by_either-in-BTreeSetU8.ensures
+returns-in-BTreeSetU8 c = rw c.in-BTreeSetU8.is c.push_btree_set_u8.ensures
 
 pub returns-in-Sequence : goal.returns-in-Sequence
 returns-in-Sequence c = rw c.in-Sequence.is c.push_by_either-in-Sequence.ensures
@@ -79,22 +79,22 @@ pub returns-in-Set : goal.returns-in-Set
 returns-in-Set c = rw c.in-Set.is c.push_by_either-in-Set.ensures
 
 pub returns-in-SeqOfU32 : goal.returns-in-SeqOfU32
-returns-in-SeqOfU32 c = rw c.in-SeqOfU32.is c.push_by_either-in-SeqOfU32.ensures
+returns-in-SeqOfU32 c = rw c.in-SeqOfU32.is c.push_sequence_of_u32.ensures
 
 pub returns-in-Explicit0U32 : goal.returns-in-Explicit0U32
-returns-in-Explicit0U32 c = rw c.in-Explicit0U32.is c.push_by_either-in-Explicit0U32.ensures
+returns-in-Explicit0U32 c = rw c.in-Explicit0U32.is c.push_explicit_0_u32.ensures
 
 pub returns-in-Explicit31U8 : goal.returns-in-Explicit31U8
-returns-in-Explicit31U8 c = rw c.in-Explicit31U8.is c.push_by_either-in-Explicit31U8.ensures
+returns-in-Explicit31U8 c = rw c.in-Explicit31U8.is c.push_explicit_31_u8.ensures
 
 pub returns-in-VecExplicit31U8 : goal.returns-in-VecExplicit31U8
-returns-in-VecExplicit31U8 c = rw c.in-VecExplicit31U8.is c.push_by_either-in-VecExplicit31U8.ensures
+returns-in-VecExplicit31U8 c = rw c.in-VecExplicit31U8.is c.push_vec_explicit_31_u8.ensures
 
 pub returns-in-OptU8 : goal.returns-in-OptU8
 returns-in-OptU8 c = rw c.in-OptU8.is c.push_optional.ensures
 
 pub returns-in-HashSetI8 : goal.returns-in-HashSetI8
-returns-in-HashSetI8 c = rw c.in-HashSetI8.is c.push_by_either-in-HashSetI8.ensures
+returns-in-HashSetI8 c = rw c.in-HashSetI8.is c.push_hash_set_i8.ensures
 
 pub returns-in-Implicit1VecU16 : goal.returns-in-Implicit1VecU16
-returns-in-Implicit1VecU16 c = rw c.in-Implicit1VecU16.is c.push_by_either-in-Implicit1VecU16.ensures
+returns-in-Implicit1VecU16 c = rw c.in-Implicit1VecU16.is c.push_implicit_1_vec_u16.ensures
