@@ -3,7 +3,7 @@
 //! A list or a set says what its items are ([`Listed`]), and how it goes over them ([`WritesInOrder`],
 //! [`WritesAscending`]); a set without repetitions also how it tells its members apart ([`HasMembers`],
 //! [`LawfulMembers`]).
-ghost use Rattle.std.specs.Prelude.{◌≡◌, ◌++◌, Bool, List, true, false, length, map, slice_index_or, [], ◌∷◌, IfSome, IfOk, IfErr, IsErr};
+ghost use Rattle.std.specs.Prelude.{◌≡◌, ◌≢◌, ◌++◌, Bool, List, true, false, length, map, slice_index_or, [], ◌∷◌, MatchOption, IfOk, IfErr, IsErr};
 ghost use Rattle.std.specs.List.{All, flat_map};
 ghost use Rattle.std.proofs.Common.{◌∙◌, sym};
 ghost use Rattle.x690.specs.Collections.{AllDiffer};
@@ -101,7 +101,8 @@ pub trait WritesInOrder: CountsItems {
 pub trait WritesAscending: CountsItems {
     /// The item of a set that has one alone: it is written where it is to stand, with no vector for its encoding.
     fn only_item(&self) -> Option<&Self::Item>
-        ensures { IfSome result (λ item. Self.items self.now ≡ item.now ∷ []) };
+        ensures { MatchOption result ((x : Self.Item) → Self.items self.now ≢ x ∷ [])
+            (λ item. Self.items self.now ≡ item.now ∷ []) };
 
     /// The encoding of each item.
     fn encode_each(&self, alloc: Global) -> SerializeResult<Encodings>
