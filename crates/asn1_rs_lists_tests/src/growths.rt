@@ -14,11 +14,16 @@ fn is_written<T: ToDer>(alloc: Global, value: &T, octets: &[u8]) -> bool {
 }
 
 /// Whether a value is read from its strict encoding and written again, twice, or refused when out of memory.
-fn is_read<'a, T: FromDer<'a, Error> + ToDer + Drop>(alloc: Global, octets: &'a [u8]) -> bool {
+fn is_read_once<'a, T: FromDer<'a, Error> + ToDer + Drop>(alloc: Global, octets: &'a [u8]) -> bool {
     match T::from_der(alloc, octets) {
         Ok((_, value)) => is_written(alloc, &value, octets) && is_written(alloc, &value, octets),
         Err(refusal) => refusal == Err::Error(Error::OutOfMemory),
     }
+}
+
+/// The same twice.
+fn is_read<'a, T: FromDer<'a, Error> + ToDer + Drop>(alloc: Global, octets: &'a [u8]) -> bool {
+    is_read_once::<T>(alloc, octets) && is_read_once::<T>(alloc, octets)
 }
 
 /// Whether an integer was made of these octets, or refused when out of memory.
@@ -51,7 +56,6 @@ fn integers_are_refused_for_want_of_memory(rt: HostRuntime) {
 fn lists_are_refused_for_want_of_memory(rt: HostRuntime) {
     let lists = [0x30, 0x08, 0x30, 0x06, 0x02, 0x01, 0x02, 0x02, 0x01, 0x01];
     assert!(rt; is_read::<Vec<Vec<u32>>>(rt.alloc(), &lists));
-    assert!(rt; is_read::<Vec<Vec<u32>>>(rt.alloc(), &lists));
 }
 
 #[test]
@@ -60,7 +64,6 @@ fn sets_are_refused_for_want_of_memory(rt: HostRuntime) {
         0x31, 0x0d, 0x31, 0x03, 0x02, 0x01, 0x03, 0x31, 0x06, 0x02, 0x01, 0x01, 0x02, 0x01, 0x02,
     ];
     assert!(rt; is_read::<SetOf<SetOf<u8>>>(rt.alloc(), &sets));
-    assert!(rt; is_read::<SetOf<SetOf<u8>>>(rt.alloc(), &sets));
 }
 
 #[test]
@@ -68,6 +71,5 @@ fn ordered_sets_are_refused_for_want_of_memory(rt: HostRuntime) {
     let sets = [
         0x31, 0x0d, 0x31, 0x03, 0x02, 0x01, 0x03, 0x31, 0x06, 0x02, 0x01, 0x01, 0x02, 0x01, 0x02,
     ];
-    assert!(rt; is_read::<BTreeSet<BTreeSet<u8>>>(rt.alloc(), &sets));
     assert!(rt; is_read::<BTreeSet<BTreeSet<u8>>>(rt.alloc(), &sets));
 }

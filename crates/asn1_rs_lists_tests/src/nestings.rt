@@ -1,9 +1,9 @@
-//! Lists, sets and tags in one another, by the calls whose contracts rest on the laws of their types.
+//! Lists, sets and tags in one another; some by the calls whose contracts rest on the laws of their types.
 
 use asn1_rs::{
-    ApplicationExplicit, ApplicationImplicit, Error, LawfulBer, LawfulCheck, LawfulDer,
-    LawfulMember, LawfulWrite, ParseResult, PrivateExplicit, PrivateImplicit, SequenceOf, SetOf,
-    TaggedExplicit, TaggedImplicit, Told, read_ber, read_der, strict_vec, write_strict,
+    ApplicationExplicit, ApplicationImplicit, Error, FromBer, FromDer, LawfulBer, LawfulCheck,
+    LawfulDer, LawfulMember, LawfulWrite, ParseResult, PrivateExplicit, SequenceOf, SetOf,
+    TaggedExplicit, TaggedImplicit, ToDer, Told, read_ber, read_der,
 };
 use std::alloc::Global;
 use std::collections::{BTreeSet, HashSet};
@@ -83,19 +83,19 @@ fn push_value(text: &mut String, strict: &[u8], rest: &[u8]) -> Result<(), Fail>
 }
 
 /// Appends what was read by DER.
-fn push_by_der<T: LawfulWrite + Drop>(
+fn push_by_der<T: ToDer + Drop>(
     text: &mut String,
     alloc: Global,
     answer: ParseResult<'_, T, Error>,
 ) -> Result<(), Fail> {
     match answer {
-        Ok((rest, value)) => push_value(text, strict_vec(alloc, &value)?.as_slice(), rest),
+        Ok((rest, value)) => push_value(text, value.to_der_vec(alloc)?.as_slice(), rest),
         Err(refusal) => push_debug(text, &refusal),
     }
 }
 
 /// Appends what was read by BER, behind the number of octets that are written of it.
-fn push_by_ber<T: LawfulWrite + Drop>(
+fn push_by_ber<T: ToDer + Drop>(
     text: &mut String,
     alloc: Global,
     answer: ParseResult<'_, T, Error>,
@@ -103,7 +103,7 @@ fn push_by_ber<T: LawfulWrite + Drop>(
     match answer {
         Ok((rest, value)) => {
             let mut w = Told::new(Vec::new(alloc));
-            let count = write_strict(&value, alloc, &mut w)?;
+            let count = value.write_der(alloc, &mut w)?;
             write!(text, "{count} ")?;
             push_value(text, w.into_inner().as_slice(), rest)
         }
@@ -112,7 +112,18 @@ fn push_by_ber<T: LawfulWrite + Drop>(
 }
 
 /// Appends both.
-fn push_read<'a, T: LawfulBer<'a, Error> + LawfulDer<'a, Error> + LawfulWrite + Drop>(
+fn push_read<'a, T: FromBer<'a, Error> + FromDer<'a, Error> + ToDer + Drop>(
+    text: &mut String,
+    alloc: Global,
+    octets: &'a [u8],
+) -> Result<(), Fail> {
+    push_by_der::<T>(text, alloc, T::from_der(alloc, octets))?;
+    text.push_str(" by BER ")?;
+    push_by_ber::<T>(text, alloc, T::from_ber(alloc, octets))
+}
+
+/// Appends both, by the calls whose contracts rest on the laws of the type.
+fn push_lawful<'a, T: LawfulBer<'a, Error> + LawfulDer<'a, Error> + LawfulWrite + Drop>(
     text: &mut String,
     alloc: Global,
     octets: &'a [u8],
@@ -129,7 +140,7 @@ fn push_sequence_of_sets(text: &mut String, alloc: Global, octets: &[u8]) -> Res
 
 /// A set of sequences.
 fn push_set_of_sequences(text: &mut String, alloc: Global, octets: &[u8]) -> Result<(), Fail> {
-    push_read::<SetOf<SequenceOf<u8>>>(text, alloc, octets)
+    push_lawful::<SetOf<SequenceOf<u8>>>(text, alloc, octets)
 }
 
 /// A set of lists, each once.
@@ -139,7 +150,7 @@ fn push_lists_once(text: &mut String, alloc: Global, octets: &[u8]) -> Result<()
 
 /// A list of sets of numbers, each once.
 fn push_numbers_once(text: &mut String, alloc: Global, octets: &[u8]) -> Result<(), Fail> {
-    push_read::<Vec<HashSet<i8>>>(text, alloc, octets)
+    push_lawful::<Vec<HashSet<i8>>>(text, alloc, octets)
 }
 
 /// A list of lists of lists.
@@ -161,7 +172,7 @@ fn push_list_read(text: &mut String, alloc: Global, name: &str, octets: &[u8]) -
 
 /// A list of numbers under tags, under a tag.
 fn push_tagged_list(text: &mut String, alloc: Global, octets: &[u8]) -> Result<(), Fail> {
-    push_read::<TaggedExplicit<Vec<TaggedExplicit<u8, Error, 0>>, Error, 1>>(text, alloc, octets)
+    push_lawful::<TaggedExplicit<Vec<TaggedExplicit<u8, Error, 0>>, Error, 1>>(text, alloc, octets)
 }
 
 /// A set of numbers under tags.

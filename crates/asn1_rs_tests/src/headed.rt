@@ -140,12 +140,8 @@ impl Calls for Written {
     }
 }
 
-/// What the calls of a value of a known type write: into a writer, into a vector, and in its raw form.
-fn push_by_calls(
-    text: &mut String,
-    alloc: Global,
-    value: &TaggedParser<'_, Explicit, u32, Error>,
-) -> Result<(), Fail> {
+/// What the calls of a value write: into a writer, into a vector, and in its raw form.
+fn push_by_calls<T: ToDer>(text: &mut String, alloc: Global, value: &T) -> Result<(), Fail> {
     let mut w = Told::new(Vec::new(alloc));
     let count = value.write_der(alloc, &mut w)?;
     push_digits(text, w.into_inner().as_slice())?;
@@ -171,7 +167,11 @@ impl Calls for Put {
             }
             "calls of u32 explicit [31]" => {
                 let value = u32::from_der(alloc, octets)?.1;
-                push_by_calls(text, alloc, &value.explicit(Class::ContextSpecific, 31))
+                let put: TaggedParser<'_, Explicit, u32, Error> = value.explicit(
+                    Class::ContextSpecific,
+                    31,
+                );
+                push_by_calls(text, alloc, &put)
             }
             "u8 explicit [PRIVATE 4294967295]" => {
                 let value = u8::from_der(alloc, octets)?.1;

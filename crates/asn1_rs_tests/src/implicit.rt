@@ -3,13 +3,12 @@
 use asn1_rs::{
     ApplicationExplicit, ApplicationImplicit, Boolean, Error, FromDer, Implicit, Integer,
     OctetString, OptTaggedImplicit, Sequence, SetOf, TaggedExplicit, TaggedImplicit, TaggedValue,
-    ToDer, Told, read_ber, read_der, write_strict,
+    ToDer, Told,
 };
 use std::alloc::Global;
-use std::fmt::Debug;
 use std::test::Fail;
-use test_rows::{Calls, Narrow, assert_rows, assert_shown, assert_text, push_debug, push_digits};
-use test_values::{push_by_ber, push_by_der, push_checked, push_written};
+use test_rows::{Calls, Narrow, assert_rows, assert_text, push_debug};
+use test_values::{assert_written, push_by_ber, push_by_der, push_checked};
 
 /// The element of the tag is converted as one of the value; it is written with the value's form and contents octets.
 const VALUES: &str = "\
@@ -124,41 +123,25 @@ type Jones<'a> = TaggedExplicit<ApplicationImplicit<OctetString<'a>, Error, 3>, 
 /// The calls of the tables.
 struct Implicits;
 
-/// A value under two tags that was read, what follows it, and how it is written.
-fn push_read<T: Debug + ToDer>(
-    text: &mut String,
-    alloc: Global,
-    value: &T,
-    rest: &[u8],
-) -> Result<(), Fail> {
-    push_debug(text, value)?;
-    text.push_str(" rest ")?;
-    push_digits(text, rest)?;
-    text.push_str(" written ")?;
-    push_written(text, alloc, value)
-}
-
-/// An explicit tag under an implicit one.
-fn push_explicit_within(text: &mut String, alloc: Global, octets: &[u8]) -> Result<(), Fail> {
-    match TaggedImplicit::<TaggedExplicit<u8, Error, 0>, Error, 1>::from_der(alloc, octets) {
-        Ok((rest, value)) => push_read(text, alloc, &value, rest),
-        Err(refusal) => push_debug(text, &refusal),
-    }
-}
-
-/// An implicit tag under an implicit one.
-fn push_implicit_within(text: &mut String, alloc: Global, octets: &[u8]) -> Result<(), Fail> {
-    match TaggedImplicit::<TaggedImplicit<u8, Error, 2>, Error, 1>::from_der(alloc, octets) {
-        Ok((rest, value)) => push_read(text, alloc, &value, rest),
-        Err(refusal) => push_debug(text, &refusal),
-    }
-}
-
-/// A tag of another class under an implicit one.
-fn push_other_within(text: &mut String, alloc: Global, octets: &[u8]) -> Result<(), Fail> {
-    match TaggedImplicit::<ApplicationExplicit<u8, Error, 0>, Error, 1>::from_der(alloc, octets) {
-        Ok((rest, value)) => push_read(text, alloc, &value, rest),
-        Err(refusal) => push_debug(text, &refusal),
+/// The answers to calls of tags over tags.
+fn push_tag(text: &mut String, alloc: Global, name: &str, octets: &[u8]) -> Result<(), Fail> {
+    match name {
+        "implicit 1 explicit 0 u8" => push_by_der::<
+            TaggedImplicit<TaggedExplicit<u8, Error, 0>, Error, 1>,
+        >(text, alloc, octets),
+        "implicit 1 implicit 2 u8" => push_by_der::<
+            TaggedImplicit<TaggedImplicit<u8, Error, 2>, Error, 1>,
+        >(text, alloc, octets),
+        "implicit 1 application explicit 0 u8" => push_by_der::<
+            TaggedImplicit<ApplicationExplicit<u8, Error, 0>, Error, 1>,
+        >(text, alloc, octets),
+        "explicit 2 application implicit 3 OctetString from_der" => {
+            push_by_der::<Jones<'_>>(text, alloc, octets)
+        }
+        "explicit 2 application implicit 3 OctetString from_ber" => {
+            push_by_ber::<Jones<'_>>(text, alloc, octets)
+        }
+        _ => Ok(text.push_str("no such call")?),
     }
 }
 
@@ -186,7 +169,7 @@ fn push_list(text: &mut String, alloc: Global, name: &str, octets: &[u8]) -> Res
         "optional implicit 1 Integer from_der" => {
             push_by_der::<OptTaggedImplicit<Integer<'_>, Error, 1>>(text, alloc, octets)
         }
-        _ => Ok(text.push_str("no such call")?),
+        _ => push_tag(text, alloc, name, octets),
     }
 }
 
@@ -211,15 +194,6 @@ impl Calls for Implicits {
             "implicit 1 u8 check_constraints" => {
                 push_checked::<TaggedImplicit<u8, Error, 1>>(text, alloc, octets)
             }
-            "implicit 1 explicit 0 u8" => push_explicit_within(text, alloc, octets),
-            "implicit 1 implicit 2 u8" => push_implicit_within(text, alloc, octets),
-            "implicit 1 application explicit 0 u8" => push_other_within(text, alloc, octets),
-            "explicit 2 application implicit 3 OctetString from_der" => {
-                push_by_der::<Jones<'_>>(text, alloc, octets)
-            }
-            "explicit 2 application implicit 3 OctetString from_ber" => {
-                push_by_ber::<Jones<'_>>(text, alloc, octets)
-            }
             _ => push_list(text, alloc, name, octets),
         }
     }
@@ -240,23 +214,25 @@ fn tags_under_implicit_tags(rt: HostRuntime) -> Result<(), Fail> {
     assert_rows::<Implicits>(rt.alloc(), TAGS)
 }
 
-/// A tag of another class is written as one of the same class is, though it is not read back.
+/// A tag of another class is written as one of the same class is (`a103020105`), though it is not read back.
 #[test]
 fn tag_of_another_class_is_written(rt: HostRuntime) -> Result<(), Fail> {
-    let mut text = String::new(rt.alloc());
-    let same = TaggedImplicit::<TaggedExplicit<u8, Error, 0>, Error, 1>::implicit(
-        TaggedExplicit::explicit(5),
-    );
-    push_written(&mut text, rt.alloc(), &same)?;
-    text.push_str(" and ")?;
     let other = TaggedImplicit::<ApplicationExplicit<u8, Error, 0>, Error, 1>::implicit(
         ApplicationExplicit::explicit(5),
     );
-    push_written(&mut text, rt.alloc(), &other)?;
-    assert_text(
-        "tags",
-        text.as_str(),
-        "a103020105 count 5 3 raw a103020105 and a103020105 count 5 3 raw a103020105",
+    assert_written(rt.alloc(), &other, "a103020105 count 5 3 raw a103020105")
+}
+
+/// Appends the counts of a value and its constructed bit, whether its writing is refused, and how many octets that
+/// appended.
+fn push_counted<T: ToDer>(text: &mut String, alloc: Global, value: &T) -> Result<(), Fail> {
+    let counts = (value.to_der_len(), value.der_content_len());
+    let mut w = Told::new(Narrow::new(alloc, 304, None)?);
+    let is_refused = value.write_der(alloc, &mut w).is_err();
+    let appended = w.as_inner().held().len();
+    push_debug(
+        text,
+        &(counts, value.der_constructed(), is_refused, appended),
     )
 }
 
@@ -264,32 +240,9 @@ fn tag_of_another_class_is_written(rt: HostRuntime) -> Result<(), Fail> {
 #[test]
 fn value_of_no_class_is_counted(rt: HostRuntime) -> Result<(), Fail> {
     let value = TaggedValue::<u8, Error, Implicit, 4, 0>::implicit(5);
-    let mut w = Told::new(Narrow::new(rt.alloc(), 304, None)?);
-    let answers = (
-        value.to_der_len(),
-        value.der_content_len(),
-        value.der_constructed(),
-        value.write_der(rt.alloc(), &mut w).is_err(),
-        w.as_inner().held().len(),
-        value.tag(),
-        value.class(),
-        value.into_inner(),
-    );
-    assert_shown(
-        rt.alloc(),
-        &answers,
-        "(Ok(3), Ok(1), false, true, 0, Tag(0), 4, 5)",
-    )
-}
-
-/// Through the calls whose contracts rest on the laws.
-#[test]
-fn implicit_list_is_lawful(rt: HostRuntime) -> Result<(), Fail> {
-    let octets = [0xa1, 0x04, 0x02, 0x02, 0x00, 0x05];
-    let (_, by_der) = read_der::<TaggedImplicit<Vec<u16>, Error, 1>, Error>(rt.alloc(), &octets)?;
-    let (_, by_ber) = read_ber::<TaggedImplicit<Vec<u16>, Error, 1>, Error>(rt.alloc(), &octets)?;
-    let mut w = Told::new(Vec::new(rt.alloc()));
-    let count = write_strict(&by_der, rt.alloc(), &mut w)?;
-    let answers = (by_der == by_ber, count, w.into_inner());
-    assert_shown(rt.alloc(), &answers, "(true, 5, [161, 3, 2, 1, 5])")
+    let mut text = String::new(rt.alloc());
+    push_counted(&mut text, rt.alloc(), &value)?;
+    push_debug(&mut text, &(value.tag(), value.class(), value.into_inner()))?;
+    let expected = "((Ok(3), Ok(1)), false, true, 0)(Tag(0), 4, 5)";
+    assert_text("counts", text.as_str(), expected)
 }
