@@ -150,7 +150,7 @@ fn push_lists_once(text: &mut String, alloc: Global, octets: &[u8]) -> Result<()
 
 /// A list of sets of numbers, each once.
 fn push_numbers_once(text: &mut String, alloc: Global, octets: &[u8]) -> Result<(), Fail> {
-    push_lawful::<Vec<HashSet<i8>>>(text, alloc, octets)
+    push_read::<Vec<HashSet<i8>>>(text, alloc, octets)
 }
 
 /// A list of lists of lists.

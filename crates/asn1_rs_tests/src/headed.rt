@@ -40,7 +40,7 @@ u32 explicit [1]:
 020102 = a103020102 count 5 3 raw a103020102
 
 calls of u32 explicit [31]:
-020102 = bf1f03020102truebf1f03020102truebf1f03020102
+020102 = (6, true)bf1f03020102bf1f03020102 count 6 3 raw bf1f03020102
 
 u8 explicit [PRIVATE 4294967295]:
 020105 = ff8fffffff7f03020105 count 10 3 raw ff8fffffff7f03020105
@@ -140,15 +140,13 @@ impl Calls for Written {
     }
 }
 
-/// What the calls of a value write: into a writer, into a vector, and in its raw form.
+/// What a value is written as into a writer, with its count and its constructed bit, and by the other calls.
 fn push_by_calls<T: ToDer>(text: &mut String, alloc: Global, value: &T) -> Result<(), Fail> {
     let mut w = Told::new(Vec::new(alloc));
     let count = value.write_der(alloc, &mut w)?;
-    push_digits(text, w.into_inner().as_slice())?;
-    push_debug(text, &(count == value.to_der_len()?))?;
-    push_digits(text, value.to_der_vec(alloc)?.as_slice())?;
-    push_debug(text, &value.der_constructed())?;
-    push_digits(text, value.to_der_vec_raw(alloc)?.as_slice())
+    push_debug(text, &(count, value.der_constructed()))?;
+    push_digits(text, w.as_inner().as_slice())?;
+    push_written(text, alloc, value)
 }
 
 /// The calls of the second table.
