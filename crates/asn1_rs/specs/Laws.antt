@@ -20,3 +20,4 @@ pub mod Lists
 pub mod Set
 pub mod Kept
 pub mod Tagged
+pub mod InHand

@@ -9,8 +9,8 @@ ghost use Rattle.asn1_rs.specs.Traits.{OfParts};
 ghost use Rattle.asn1_rs_uses.specs.Fingerprint.{fingerprint_leaf, fingerprint_lawful};
 
 use asn1_rs::{
-    Any, CheckDerConstraints, DerAutoDerive, ElementKind, Error, FromAny, HasKind,
-    LawfulConversion, LawfulElement, Tag, Tagged, WritesOctets,
+    Any, CheckDerConstraints, DerAutoDerive, DerElement, ElementKind, Error, FromAny, HasKind,
+    LawfulConversion, LawfulElement, Tag, Tagged, WritesOctets, octets_in_hand,
 };
 use std::alloc::Global;
 
@@ -63,6 +63,14 @@ impl LawfulElement for Fingerprint<'_> {
     ghost lawful = { leaf_lawful fingerprint_leaf fingerprint_lawful };
 
     ghost checked = { leaf_constraints fingerprint_leaf fingerprint_lawful };
+
+    fn value_in_hand(&self) {
+        octets_in_hand(self.0);
+    }
+}
+
+impl DerElement for Fingerprint<'_> {
+    ghost each_der = { λ v d. d };
 }
 
 impl<'a> LawfulConversion<'a> for Fingerprint<'a> {

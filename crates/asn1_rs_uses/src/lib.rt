@@ -13,6 +13,7 @@ mod point;
 mod refusals;
 mod sequences;
 mod serial_number;
+mod sets;
 mod version;
 
 pub use borrowed::{
@@ -34,4 +35,8 @@ pub use refusals::{
 };
 pub use sequences::{read_numbers, write_numbers};
 pub use serial_number::SerialNumber;
+pub use sets::{
+    are_same_counted, read_counted, read_distinct, read_signed, write_counted, write_distinct,
+    write_signed,
+};
 pub use version::{Field, Version, read_version};

@@ -1,10 +1,11 @@
 //! Sequences of integers.
-ghost use Rattle.std.specs.Prelude.{◌≡◌, ℤ, List, map, pos, IfOk};
+ghost use Rattle.std.specs.Prelude.{◌≡◌, ℤ, List, map, pos, MatchResult};
 ghost use Rattle.x690.specs.Identifiers.{IsCutIdentifier};
 ghost use Rattle.asn1_headers.specs.Answers.{seen, Exactly};
+ghost use Rattle.asn1_headers.specs.Writer.{IsMemoryOrLength};
 ghost use Rattle.asn1_rs_uses.specs.Messages.{ShortNumbers, WantsMemory, numbers_octets};
 
-use asn1_rs::{Error, ParseResult, SerializeResult, read_der, strict_vec};
+use asn1_rs::{AlwaysDer, Error, ParseResult, SerializeResult, read_der, strict_vec};
 use std::alloc::Global;
 
 /// The numbers of the sequence at the front of the octets, by DER, and what follows it.
@@ -15,9 +16,11 @@ pub fn read_numbers(alloc: Global, octets: &[u8]) -> ParseResult<'_, Vec<u32>, E
     read_der::<Vec<u32>, Error>(alloc, octets)
 }
 
-/// The sequence of the numbers, by DER.
+/// The sequence of the numbers, by DER. Refused only when out of memory, or where the length passes `usize`.
 pub fn write_numbers(alloc: Global, numbers: &Vec<u32>) -> SerializeResult<Vec<u8>>
-    ensures { IfOk result (λ octets. octets.items ≡ numbers_octets numbers.now.items) }
+    ensures { MatchResult result (λ octets. octets.items ≡ numbers_octets numbers.now.items)
+        (IsMemoryOrLength (numbers_octets numbers.now.items)) }
 {
+    numbers.is_der();
     strict_vec(alloc, numbers)
 }

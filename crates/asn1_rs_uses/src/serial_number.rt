@@ -10,8 +10,8 @@ ghost use Rattle.asn1_rs.specs.Laws.Kinds.{holding_lawful, holding_converts, hol
 ghost use Rattle.asn1_rs.specs.Laws.Integer.Unsigned.{unsigned_converts};
 
 use asn1_rs::{
-    Any, CheckDerConstraints, DerAutoDerive, DerWrite, ElementKind, Error, FromAny, HasKind,
-    LawfulConversion, LawfulElement, SerializeResult, Tag, Tagged, WritesElement,
+    Any, CheckDerConstraints, DerAutoDerive, DerElement, DerWrite, ElementKind, Error, FromAny,
+    HasKind, LawfulConversion, LawfulElement, SerializeResult, Tag, Tagged, WritesElement,
 };
 use std::alloc::Global;
 
@@ -59,6 +59,14 @@ impl LawfulElement for SerialNumber {
     ghost lawful = { holding_lawful (λ x. x.0) _ (integer_lawful (IsUnsigned 8) pos) };
 
     ghost checked = { integer_checks };
+
+    fn value_in_hand(&self) {
+        self.0.value_in_hand();
+    }
+}
+
+impl DerElement for SerialNumber {
+    ghost each_der = { λ v d. d };
 }
 
 impl<'a> LawfulConversion<'a> for SerialNumber {

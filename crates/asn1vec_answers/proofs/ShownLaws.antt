@@ -21,13 +21,8 @@ use Rattle.x690.specs.Laws.Integers.Unsigned.{unsigned_octets_content, unsigned_
 use Rattle.x690.specs.Integers.{IsIntegerContent, unsigned_octets}
 use Rattle.x690.specs.Signed.{IsSigned, signed_octets}
 use Rattle.x690.specs.Laws.Signed.{signed_octets_content, signed_octets_few}
-use Rattle.std.specs.List.{All}
-use Rattle.std.specs.Prelude.{slice_index_or}
 use Rattle.asn1_headers.specs.declared.error.Error.{Error}
-use Rattle.asn1_rs.specs.Lists.{SomeRefuses}
-use Rattle.asn1_rs.specs.Laws.Lists.{none_refuses}
-use Rattle.asn1_rs.specs.Laws.Set.{none_into}
-use Rattle.asn1_rs.specs.ToDer.{Either, HasNone, IntoVector, IsWritable, Refuses, WrittenRefusal}
+use Rattle.asn1_rs.specs.ToDer.{Either, HasNone, IsWritable, Refuses}
 use Rattle.asn1vec_answers.specs.Shown.{Encoding, Gains, IsUnwritten, IsWritten, SaysEncoding, SaysWriting, StrictEncoding, StrictEncodingIfAny}
 use Rattle.asn1vec_answers.proofs.OneReading.{only_refusals}
 use Rattle.asn1vec_answers.proofs.Gained.{gains_both}
@@ -126,18 +121,8 @@ strict_element a number octets few =
       element = made_strict_element id a.content.now class number few octets;
     }
 
--- a list has no refusal of its own where its items have none
+-- what is written whole has no refusal of its own where its parts have none
 module _ {S : Type 0} (counting : S → Error → Type 0) (heading filling : S → SerializeError → Type 0) where
   pub either_none : (x : S) → IsWritable (counting x) (heading x) (filling x) → HasNone (Either (heading x) (filling x))
   either_none x w e (inl o) = w.1 e o
   either_none x w e (inr o) = w.2 e o
-
-  pub list_writable : (xs : List S) → All (λ x. IsWritable (counting x) (heading x) (filling x)) xs → IsWritable (SomeRefuses counting xs) (WrittenRefusal (SomeRefuses counting xs)) (SomeRefuses (λ x. Either (heading x) (filling x)) xs)
-  list_writable xs a =
-      let none = none_refuses counting xs (λ k d h. (a k d h).0) in
-      (none, λ e o. none o.0 o.1, none_refuses (λ x. Either (heading x) (filling x)) xs (λ k d h. either_none (slice_index_or xs k d) (a k d h)))
-
-  pub set_writable : (xs : List S) → All (λ x. IsWritable (counting x) (heading x) (filling x)) xs → IsWritable (SomeRefuses counting xs) (WrittenRefusal (SomeRefuses counting xs)) (SomeRefuses (λ x. IntoVector (Either (heading x) (filling x))) xs)
-  set_writable xs a =
-      let none = none_refuses counting xs (λ k d h. (a k d h).0) in
-      (none, λ e o. none o.0 o.1, none_refuses (λ x. IntoVector (Either (heading x) (filling x))) xs (λ k d h. none_into (Either (heading (slice_index_or xs k d)) (filling (slice_index_or xs k d))) (either_none (slice_index_or xs k d) (a k d h))))

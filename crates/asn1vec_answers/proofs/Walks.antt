@@ -45,10 +45,6 @@ all_seen {S} {A} steps first xs gives begin now next start seen led answer step 
     let list : YieldsList steps (λ (r : Bor A). r.now) begin xs = record { runs = subst (λ (z : S). AlwaysYields steps (λ (r : Bor A). r.now) z xs) (sym start) gives } in
     (YieldsList-end list seen now led answer next is step).0
 
--- what holds of each item seen, and of one more
-pub all_more : {A : Type 0} (P : A → Type 0) (seen : List (Bor A)) (r : Bor A) → All P (read_through seen) → P r.now → All P (read_through (seen ++ r ∷ []))
-all_more {A} P seen r a p = subst (All P) (sym (map-append (λ (r : Bor A). r.now) seen (r ∷ []))) (All-append P (read_through seen) (r.now ∷ []) a (All-cons P r.now [] p (All-nil P)))
-
 -- the text of one more item
 pub text_more : {A : Type 0} (text_of : A → List ℕ) (seen : List (Bor A)) (r : Bor A) (front now mark between after : List ℕ) → now ≡ front ++ (codes "[" ++ join_by text_of (codes ",") (read_through seen)) → mark ≡ before_next (codes ",") seen
     → between ≡ now ++ mark → after ≡ between ++ text_of r.now → after ≡ front ++ (codes "[" ++ join_by text_of (codes ",") (read_through (seen ++ r ∷ [])))

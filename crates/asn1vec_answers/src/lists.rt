@@ -5,60 +5,23 @@ ghost use Rattle.std.specs.Ordering.{int_cmp, int_eq};
 ghost use Rattle.x690.specs.Signed.{IsSigned};
 ghost use Rattle.asn1_rs.specs.Integer.{IntegerForm};
 ghost use Rattle.std.specs.Iterator.{AlwaysYields, IsFinite};
-ghost use Rattle.std.specs.List.{All};
 ghost use Rattle.x690.specs.Collections.{AllDiffer, AnyList, multiset};
 ghost use Rattle.asn1_headers.specs.declared.error.SerializeError.{SerializeError};
 ghost use Rattle.asn1_rs.specs.Lists.{ListForm};
 ghost use Rattle.asn1_rs.specs.Set.{SetForm, is_below, is_other, items_of, members, set_of};
 ghost use Rattle.asn1_rs.specs.Sequence.SequenceOf.{sequence_items};
-ghost use Rattle.asn1_rs.specs.ToDer.{Either, IsWritable, some_allocates};
+ghost use Rattle.asn1_rs.specs.ToDer.{Either, some_allocates};
 ghost use Rattle.asn1vec_answers.specs.Shown.{Encoding, IsWritten, StrictEncodingIfAny, in_order, list_text};
 
-use crate::numbers::Number;
 use crate::shown::Encoded;
 use crate::text::push_str;
-use asn1_rs::{LawfulMember, LawfulWrite, SequenceOf, SetOf};
+use asn1_rs::{AlwaysDer, LawfulMember, LawfulWrite, SequenceOf, SetOf};
 use std::alloc::{AllocError, Global};
 use std::collections::{BTreeSet, HashSet};
 
-/// A type of items. Each of its values is in DER form, and none has a refusal of its own.
-pub(crate) trait Item: Encoded {
-    /// States this of the item: its body only names what the types say of it.
-    fn is_writable(&self)
-        ensures der { Self.grammar.IsDer (Self.grammar.value self.now) }
-        ensures writable { IsWritable (Self.count_refuses self.now)
-            (Self.header_refuses self.now) (Self.content_refuses self.now) };
-}
-
-impl<T: Number> Item for T {
-    fn is_writable(&self) {
-        self.is_encoded();
-    }
-}
-
-impl Item for bool {
-    fn is_writable(&self) {}
-}
-
-/// States of each item that it is in DER form, and has no refusal of its own.
-fn are_writable<'a, T: Item + 'a, I: Iterator<Item = &'a T> + Drop>(items: I)
-    requires can { I.can_next items }
-    requires ends { IsFinite (I.remaining items) }
-    ensures der { (xs : List T) → AlwaysYields I.next_gives (λ r. r.now) items xs →
-        All T.grammar.IsDer (map T.grammar.value xs) }
-    ensures writable { (xs : List T) → AlwaysYields I.next_gives (λ r. r.now) items xs →
-        All (λ x. IsWritable (T.count_refuses x) (T.header_refuses x) (T.content_refuses x)) xs }
-{
-    for item in items {
-        item.is_writable();
-    }
-}
-
-/// States of a value in DER form, with no refusal of its own, what its writing says.
+/// States of a value in DER form what its writing says.
 pub(crate) fn writing_is_strict<T: LawfulWrite>(x: &T)
-    requires der { T.grammar.IsDer (T.grammar.value x.now) }
-    requires writable { IsWritable (T.count_refuses x.now) (T.header_refuses x.now)
-        (T.content_refuses x.now) }
+    requires { T.grammar.IsDer (T.grammar.value x.now) }
     ensures own { (e : SerializeError) →
         Either (T.header_refuses x.now) (T.content_refuses x.now) e → ⊥ }
     ensures told { (encoding : Encoding) →
@@ -72,7 +35,7 @@ pub(crate) fn writing_is_strict<T: LawfulWrite>(x: &T)
 /// Appends items, parted by commas, in brackets.
 fn push_items<'a, T, I>(items: I, text: &mut Vec<u8>) -> Result<(), AllocError>
 where
-    T: Item + 'a,
+    T: Encoded + 'a,
     I: Iterator<Item = &'a T> + Drop,
     requires can { I.can_next items }
     requires ends { IsFinite (I.remaining items) }
@@ -89,7 +52,7 @@ where
     push_str(text, "]")
 }
 
-impl<T: Item> Encoded for Vec<T> {
+impl<T: Encoded + AlwaysDer> Encoded for Vec<T> {
     ghost text_of = { λ v. list_text T.text_of v.items };
 
     ghost Encodes = { λ v.
@@ -100,18 +63,12 @@ impl<T: Item> Encoded for Vec<T> {
     }
 
     fn is_told(&self) {
-        self.is_writable();
+        self.is_der();
         writing_is_strict(self);
     }
 }
 
-impl<T: Item> Item for Vec<T> {
-    fn is_writable(&self) {
-        are_writable(self.iter());
-    }
-}
-
-impl<T: Item> Encoded for SequenceOf<T> {
+impl<T: Encoded + AlwaysDer> Encoded for SequenceOf<T> {
     ghost text_of = { λ s. list_text T.text_of (sequence_items s) };
 
     ghost Encodes = { λ s.
@@ -123,18 +80,12 @@ impl<T: Item> Encoded for SequenceOf<T> {
     }
 
     fn is_told(&self) {
-        self.is_writable();
+        self.is_der();
         writing_is_strict(self);
     }
 }
 
-impl<T: Item> Item for SequenceOf<T> {
-    fn is_writable(&self) {
-        are_writable(self.as_slice().iter());
-    }
-}
-
-impl<T: Item> Encoded for SetOf<T> {
+impl<T: Encoded + AlwaysDer> Encoded for SetOf<T> {
     ghost text_of = { λ s. list_text T.text_of (items_of s) };
 
     ghost Encodes = { λ s.
@@ -146,19 +97,13 @@ impl<T: Item> Encoded for SetOf<T> {
     }
 
     fn is_told(&self) {
-        self.is_writable();
+        self.is_der();
         writing_is_strict(self);
     }
 }
 
-impl<T: Item> Item for SetOf<T> {
-    fn is_writable(&self) {
-        are_writable(self.as_slice().iter());
-    }
-}
-
 /// Its members ascend.
-impl<T: Item + LawfulMember + Ord> Encoded for BTreeSet<T> {
+impl<T: Encoded + AlwaysDer + LawfulMember + Ord> Encoded for BTreeSet<T> {
     ghost text_of = { λ s. list_text T.text_of s.keys };
 
     ghost Encodes = { λ s.
@@ -170,14 +115,8 @@ impl<T: Item + LawfulMember + Ord> Encoded for BTreeSet<T> {
     }
 
     fn is_told(&self) {
-        self.is_writable();
+        self.is_der();
         writing_is_strict(self);
-    }
-}
-
-impl<T: Item + LawfulMember + Ord> Item for BTreeSet<T> {
-    fn is_writable(&self) {
-        are_writable(self.iter());
     }
 }
 
@@ -202,13 +141,7 @@ impl Encoded for HashSet<i8> {
     }
 
     fn is_told(&self) {
-        self.is_writable();
+        self.is_der();
         writing_is_strict(self);
-    }
-}
-
-impl Item for HashSet<i8> {
-    fn is_writable(&self) {
-        are_writable(self.iter());
     }
 }

@@ -4,12 +4,12 @@ ghost use Rattle.asn1_rs.specs.Tagged.Implicit.{ImplicitForm};
 ghost use Rattle.asn1_rs.specs.ToDer.{some_allocates};
 ghost use Rattle.asn1vec_answers.specs.Shown.{StrictEncodingIfAny};
 
-use crate::lists::{Item, writing_is_strict};
+use crate::lists::writing_is_strict;
 use crate::shown::Encoded;
-use asn1_rs::{Error, TaggedExplicit, TaggedImplicit, TakesClass};
+use asn1_rs::{AlwaysDer, Error, TaggedExplicit, TaggedImplicit, TakesClass};
 use std::alloc::AllocError;
 
-impl<T: Item, const TAG: u32> Encoded for TaggedExplicit<T, Error, TAG> {
+impl<T: Encoded + AlwaysDer, const TAG: u32> Encoded for TaggedExplicit<T, Error, TAG> {
     ghost text_of = { λ t. T.text_of t.inner };
 
     ghost Encodes = { λ t.
@@ -22,19 +22,13 @@ impl<T: Item, const TAG: u32> Encoded for TaggedExplicit<T, Error, TAG> {
     }
 
     fn is_told(&self) {
-        self.is_writable();
+        self.is_der();
         writing_is_strict(self);
     }
 }
 
-impl<T: Item, const TAG: u32> Item for TaggedExplicit<T, Error, TAG> {
-    fn is_writable(&self) {
-        let _number = self.tag();
-        self.as_inner().is_writable();
-    }
-}
-
-impl<T: Item + TakesClass<2>, const TAG: u32> Encoded for TaggedImplicit<T, Error, TAG> {
+impl<T: Encoded + AlwaysDer + TakesClass<2>, const TAG: u32> Encoded
+    for TaggedImplicit<T, Error, TAG> {
     ghost text_of = { λ t. T.text_of t.inner };
 
     ghost Encodes = { λ t.
@@ -47,14 +41,7 @@ impl<T: Item + TakesClass<2>, const TAG: u32> Encoded for TaggedImplicit<T, Erro
     }
 
     fn is_told(&self) {
-        self.is_writable();
+        self.is_der();
         writing_is_strict(self);
-    }
-}
-
-impl<T: Item + TakesClass<2>, const TAG: u32> Item for TaggedImplicit<T, Error, TAG> {
-    fn is_writable(&self) {
-        let _number = self.tag();
-        self.as_inner().is_writable();
     }
 }

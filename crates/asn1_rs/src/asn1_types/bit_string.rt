@@ -13,6 +13,7 @@ use crate::asn1_types::any::Any;
 use crate::kinds::writing::WritesElement;
 use crate::kinds::{ElementKind, HasKind, LawfulConversion, LawfulElement};
 use crate::laws::LawfulMember;
+use crate::laws::in_hand::octets_in_hand;
 use crate::traits::{CheckDerConstraints, DerAutoDerive, FromAny, Tagged};
 use asn1_headers::error::{DerConstraint, Error, SerializeResult};
 use asn1_headers::tag::Tag;
@@ -161,6 +162,11 @@ impl LawfulElement for BitString<'_> {
     ghost lawful = { leaf_lawful bit_string_leaf bit_string_lawful };
 
     ghost checked = { leaf_constraints bit_string_leaf bit_string_lawful };
+
+    fn value_in_hand(&self) {
+        let _count = self.unused_bits;
+        octets_in_hand(self.as_bytes());
+    }
 }
 
 impl<'a> LawfulConversion<'a> for BitString<'a> {

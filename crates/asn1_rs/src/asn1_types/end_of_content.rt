@@ -73,6 +73,8 @@ impl Grammar for EndOfContent {
 
 impl LawfulItem for EndOfContent {
     ghost lawful_item = { lawful_by_ber_alone end_leaf end_lawful };
+
+    fn has_value(&self) {}
 }
 
 impl<'a> LawfulBody<'a, Error> for EndOfContent {

@@ -11,6 +11,7 @@ ghost use Rattle.asn1_rs.specs.Traits.{OfParts};
 
 use crate::asn1_types::any::Any;
 use crate::asn1_types::integer::put_unsigned_content;
+use crate::kinds::in_hand::DerElement;
 use crate::kinds::writing::WritesElement;
 use crate::kinds::{ElementKind, HasKind, LawfulConversion, LawfulElement};
 use crate::laws::LawfulMember;
@@ -99,6 +100,14 @@ impl LawfulElement for Enumerated {
     ghost lawful = { leaf_lawful enumerated_leaf enumerated_lawful };
 
     ghost checked = { leaf_constraints enumerated_leaf enumerated_lawful };
+
+    fn value_in_hand(&self) {
+        let _number = self.0;
+    }
+}
+
+impl DerElement for Enumerated {
+    ghost each_der = { λ v d. d };
 }
 
 impl<'a> LawfulConversion<'a> for Enumerated {

@@ -18,6 +18,7 @@ use crate::asn1_types::any::Any;
 use crate::asn1_types::sequence::iterator::{ReadsItems, SequenceIterator};
 use crate::der::element_by_der;
 use crate::header::add_counts;
+use crate::laws::in_hand::States;
 use crate::to_der::ToDer;
 use crate::traits::{CheckDerConstraints, FromAny, FromBer, FromDer, Tagged};
 use asn1_headers::content::{BerParser, DerParser};
@@ -79,6 +80,28 @@ pub trait Listed: Tagged {
 
     /// The items in their order; of a set in the order in which it keeps them.
     ghost items: { Self → List Self.Item };
+
+    /// States of each item what `P` states.
+    fn state_each<P: States<Self::Item>>(&self)
+        ensures { All P.says (items self.now) };
+
+    /// How many octets the items are written in.
+    fn count_each(&self) -> Result<usize, Error>
+    where
+        Self::Item: ToDer,
+        ensures count { All Self.Item.tells (items self.now) →
+            IfOk result (λ n. n ≡
+            length
+            (flat_map (λ x. Self.Item.header x ++ Self.Item.content x)
+            (items self.now))) }
+        ensures refused { All Self.Item.tells (items self.now) →
+            IfErr result (RefusesCount Self.Item.count_allocates
+            (length
+            (flat_map (λ x. Self.Item.header x ++ Self.Item.content x)
+            (items self.now)))
+            (SomeRefuses Self.Item.count_refuses (items self.now))) }
+        ensures accepted { (e : Error) → All Self.Item.tells (items self.now) →
+            SomeRefuses Self.Item.count_refuses (items self.now) e → IsErr result };
 
     /// Its tag number is one of the low form.
     ghost small: { (Self.mark).0 < 31 };
@@ -274,6 +297,21 @@ pub(crate) fn items_from_iter<T: Drop, I: IntoIterator<Item = T>>(
     match Vec::from_iter(alloc, items) {
         Ok(items) => Ok(items),
         Err(_) => Err(Error::OutOfMemory),
+    }
+}
+
+/// States of each item what `P` states.
+pub(crate) fn state_items<T, R, I, P>(items: I)
+where
+    P: States<T>,
+    R: Deref<Target = T> + Drop,
+    I: Iterator<Item = R> + Drop,
+    requires can { I.can_next items }
+    requires ends { IsFinite (I.remaining items) }
+    ensures { (xs : List T) → GivesItems I.next_gives R.deref_gives items xs → All P.says xs }
+{
+    for item in items {
+        P::state(item.deref());
     }
 }
 

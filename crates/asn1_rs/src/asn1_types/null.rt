@@ -10,6 +10,7 @@ ghost use Rattle.asn1_rs.specs.Laws.Null.{null_lawful, unit_lawful};
 ghost use Rattle.asn1_rs.specs.Traits.{OfParts};
 
 use crate::asn1_types::any::Any;
+use crate::kinds::in_hand::DerElement;
 use crate::kinds::writing::WritesOctets;
 use crate::kinds::{ElementKind, HasKind, LawfulConversion, LawfulElement};
 use crate::laws::LawfulMember;
@@ -96,6 +97,12 @@ impl LawfulElement for Null {
     ghost lawful = { leaf_lawful null_leaf null_lawful };
 
     ghost checked = { leaf_constraints null_leaf null_lawful };
+
+    fn value_in_hand(&self) {}
+}
+
+impl DerElement for Null {
+    ghost each_der = { λ v d. d };
 }
 
 impl<'a> LawfulConversion<'a> for Null {
@@ -159,6 +166,12 @@ impl LawfulElement for () {
     ghost lawful = { leaf_lawful unit_leaf unit_lawful };
 
     ghost checked = { leaf_constraints unit_leaf unit_lawful };
+
+    fn value_in_hand(&self) {}
+}
+
+impl DerElement for () {
+    ghost each_der = { λ v d. d };
 }
 
 impl<'a> LawfulConversion<'a> for () {

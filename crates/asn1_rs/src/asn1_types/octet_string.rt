@@ -10,9 +10,11 @@ ghost use Rattle.asn1_rs.specs.OctetString.{octet_string_number, octet_string_le
 ghost use Rattle.asn1_rs.specs.Traits.{OfParts};
 
 use crate::asn1_types::any::Any;
+use crate::kinds::in_hand::DerElement;
 use crate::kinds::writing::WritesOctets;
 use crate::kinds::{ElementKind, HasKind, LawfulConversion, LawfulElement};
 use crate::laws::LawfulMember;
+use crate::laws::in_hand::octets_in_hand;
 use crate::traits::{CheckDerConstraints, DerAutoDerive, FromAny, Tagged};
 use asn1_headers::error::Error;
 use asn1_headers::tag::Tag;
@@ -136,6 +138,14 @@ impl LawfulElement for OctetString<'_> {
     ghost lawful = { leaf_lawful octet_string_leaf octet_string_lawful };
 
     ghost checked = { leaf_constraints octet_string_leaf octet_string_lawful };
+
+    fn value_in_hand(&self) {
+        octets_in_hand(self.as_bytes());
+    }
+}
+
+impl DerElement for OctetString<'_> {
+    ghost each_der = { λ v d. d };
 }
 
 impl<'a> LawfulConversion<'a> for OctetString<'a> {
@@ -205,6 +215,14 @@ impl LawfulElement for &[u8] {
     ghost lawful = { leaf_lawful slice_leaf slice_lawful };
 
     ghost checked = { leaf_constraints slice_leaf slice_lawful };
+
+    fn value_in_hand(&self) {
+        octets_in_hand(*self);
+    }
+}
+
+impl DerElement for &[u8] {
+    ghost each_der = { λ v d. d };
 }
 
 impl<'a> LawfulConversion<'a> for &'a [u8] {

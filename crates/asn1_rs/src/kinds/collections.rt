@@ -11,11 +11,12 @@ ghost use Rattle.asn1_headers.specs.declared.error.SerializeError.{SerializeErro
 ghost use Rattle.asn1_headers.specs.declared.error.Error.{Error};
 ghost use Rattle.asn1_headers.specs.Error.{tells_of_io};
 ghost use Rattle.asn1_rs.specs.Lists.{SomeRefuses, AreEncodings, list_grammar};
-ghost use Rattle.asn1_rs.specs.Set.{set_of, member_grammar, set_content};
+ghost use Rattle.asn1_rs.specs.Set.{set_of, member_grammar, pairs_pass, set_content};
 ghost use Rattle.asn1_rs.specs.ToDer.{Refuses, RefusesCount, Either, IntoVector, IsWritable, some_allocates};
 ghost use Rattle.asn1_headers.specs.Writer.{Wrote};
 ghost use Rattle.asn1_rs.specs.Kinds.Writing.{Writing, list_writing, set_writing};
 ghost use Rattle.asn1_rs.specs.Laws.Forms.{der_strict};
+ghost use Rattle.asn1_rs.specs.Laws.InHand.{list_writable, members_writable};
 ghost use Rattle.asn1_rs.specs.Laws.Lists.{list_lawful, list_by_value, list_writes_form, list_has_form, list_takes_class, list_number, low_fits};
 ghost use Rattle.asn1_rs.specs.Laws.Set.{member_lawful, members_moved, members_are, members_have_form, set_by_value, set_writes_form, set_takes_class, set_number};
 
@@ -24,6 +25,7 @@ use crate::asn1_types::set::write_ascending;
 use crate::header::{element_len, put_counted_header};
 use crate::kinds::writing::{LawfulTaggedBy, LawfulWriteBy, TakesClassBy, ToDerBy};
 use crate::kinds::{GrammarBy, HasKind, LawfulItemBy};
+use crate::laws::in_hand::OfValue;
 use crate::laws::{Grammar, LawfulItem, LawfulWrite};
 use crate::to_der::ToDer;
 use crate::traits::Tagged;
@@ -45,31 +47,10 @@ pub struct Repeats;
 /// Of sets in which each item stands once.
 pub struct Once;
 
-/// A list or a set that goes over its items, to count them.
-pub trait CountsItems: Listed {
-    /// How many octets the items are written in.
-    fn count_each(&self) -> Result<usize, Error>
-    where
-        Self::Item: ToDer,
-        ensures count { All Self.Item.tells (Self.items self.now) →
-            IfOk result (λ n. n ≡
-            length
-            (flat_map (λ x. Self.Item.header x ++ Self.Item.content x)
-            (Self.items self.now))) }
-        ensures refused { All Self.Item.tells (Self.items self.now) →
-            IfErr result (RefusesCount Self.Item.count_allocates
-            (length
-            (flat_map (λ x. Self.Item.header x ++ Self.Item.content x)
-            (Self.items self.now)))
-            (SomeRefuses Self.Item.count_refuses (Self.items self.now))) }
-        ensures accepted { (e : Error) → All Self.Item.tells (Self.items self.now) →
-            SomeRefuses Self.Item.count_refuses (Self.items self.now) e → IsErr result };
-}
-
 /// A list that is written as its items, one after another.
 ///
 /// So it has [`ToDer`], and [`LawfulWrite`] where the items have it.
-pub trait WritesInOrder: CountsItems {
+pub trait WritesInOrder: Listed {
     /// Appends the items in their order, and answers the number of octets.
     fn write_each<W: DerWrite>(&self, alloc: Global, w: &mut W) -> SerializeResult<usize>
     where
@@ -98,7 +79,7 @@ pub trait WritesInOrder: CountsItems {
 /// A set that is written as the encodings of its items, in ascending order (X.690 11.6).
 ///
 /// So it has [`ToDer`].
-pub trait WritesAscending: CountsItems {
+pub trait WritesAscending: Listed {
     /// The item of a set that has one alone: it is written where it is to stand, with no vector for its encoding.
     fn only_item(&self) -> Option<&Self::Item>
         ensures { MatchOption result ((x : Self.Item) → Self.items self.now ≢ x ∷ [])
@@ -256,6 +237,10 @@ pub trait HasMembers: Listed {
     /// The members stand in a way in which the set keeps them where each passes with each one behind it.
     ghost test: { Self.Item → Self.Item → Bool };
 
+    /// States of a set in hand that its members pass the test. No member is looked at.
+    fn members_pass(&self)
+        ensures { pairs_pass test (Self.items self.now) ≡ true };
+
     /// It has the tag number of sets.
     ghost is_set: { (Self.mark).0 ≡ 17 };
 }
@@ -274,6 +259,10 @@ impl<L: Listed<Item = T>, T: Grammar> GrammarBy<SequenceKind> for L {
 
 impl<L: Listed<Item = T>, T: LawfulItem> LawfulItemBy<SequenceKind> for L {
     ghost lawful_by_kind = { list_lawful (L.mark).0 L.small L.items T.grammar T.lawful_item };
+
+    fn value_by_kind(&self) {
+        self.state_each::<OfValue>();
+    }
 }
 
 impl<L: HasMembers + Listed<Item = T>, T: Grammar> GrammarBy<SetKind<Once>> for L {
@@ -282,6 +271,11 @@ impl<L: HasMembers + Listed<Item = T>, T: Grammar> GrammarBy<SetKind<Once>> for 
 
 impl<L: HasMembers + Listed<Item = T>, T: LawfulItem> LawfulItemBy<SetKind<Once>> for L {
     ghost lawful_by_kind = { member_lawful L.test L.items T.grammar T.lawful_item };
+
+    fn value_by_kind(&self) {
+        self.state_each::<OfValue>();
+        self.members_pass();
+    }
 }
 
 impl<L, T> LawfulWriteBy<SequenceKind> for L
@@ -304,6 +298,9 @@ where
         (λ x. IsWritable (T.count_refuses x) (T.header_refuses x) (T.content_refuses x))
         T.constructed T.header T.content T.form T.der_form T.lawful_item.form_fits)
         (L.items v) };
+
+    ghost writable_der = { λ v. list_writable T.grammar.value T.grammar.IsDer T.count_refuses
+        T.header_refuses T.content_refuses T.der_writable (L.items v) };
 }
 
 impl<L, T> LawfulTaggedBy<SequenceKind> for L
@@ -350,6 +347,9 @@ where
         (λ x. IsWritable (T.count_refuses x) (T.header_refuses x) (T.content_refuses x))
         T.constructed T.header T.content T.form T.der_form T.lawful_item.form_fits) L.test L.apart
         (L.items s) };
+
+    ghost writable_der = { λ s. members_writable T.grammar.value T.grammar.IsDer T.count_refuses
+        T.header_refuses T.content_refuses T.der_writable L.test L.apart (L.items s) };
 }
 
 impl<L, T> LawfulTaggedBy<SetKind<Once>> for L

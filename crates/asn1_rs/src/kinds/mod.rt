@@ -6,6 +6,7 @@
 //! sets name kinds of their own ([`collections`]). A type of another make has those traits itself and no kind.
 
 pub(crate) mod collections;
+pub(crate) mod in_hand;
 pub(crate) mod writing;
 
 ghost use Rattle.std.specs.Prelude.{◌≡◌};
@@ -101,6 +102,10 @@ pub trait LawfulElement: HasKind<Kind = ElementKind> + CheckDerConstraints + Der
     /// Its values, and what the element of a value is.
     ghost element: { ElementGrammar Self };
 
+    /// States of an item in hand that its value is one of the type's: the body reads what the item holds.
+    fn value_in_hand(&self)
+        ensures { element.IsValue (element.value self.now) };
+
     /// An element has one value, a value one strict element, and this has the value and passes the check.
     ghost lawful: { IsLawfulElement Self.element };
 
@@ -122,6 +127,10 @@ pub trait GrammarBy<K> {
 
 /// The laws of a type of this kind.
 pub trait LawfulItemBy<K>: GrammarBy<K> {
+    /// `has_value`.
+    fn value_by_kind(&self)
+        ensures { Self.grammar_by_kind.IsValue (Self.grammar_by_kind.value self.now) };
+
     /// What [`LawfulItem`] tells.
     ghost lawful_by_kind: { IsLawfulItem Self.grammar_by_kind };
 }
@@ -133,6 +142,10 @@ impl<T: LawfulElement> GrammarBy<ElementKind> for T {
 
 impl<T: LawfulElement> LawfulItemBy<ElementKind> for T {
     ghost lawful_by_kind = { lawful_item T.element T.lawful };
+
+    fn value_by_kind(&self) {
+        self.value_in_hand();
+    }
 }
 
 /// What holds an item has its values and grammars.
@@ -142,6 +155,10 @@ impl<H: Holds<Held = T>, T: Grammar> GrammarBy<HolderKind> for H {
 
 impl<H: Holds<Held = T>, T: LawfulItem> LawfulItemBy<HolderKind> for H {
     ghost lawful_by_kind = { lawful_by_held H.held T.grammar T.lawful_item };
+
+    fn value_by_kind(&self) {
+        self.held().has_value();
+    }
 }
 
 impl<T: HasKind + GrammarBy<T::Kind>> Grammar for T {
@@ -150,6 +167,10 @@ impl<T: HasKind + GrammarBy<T::Kind>> Grammar for T {
 
 impl<T: HasKind + LawfulItemBy<T::Kind>> LawfulItem for T {
     ghost lawful_item = { T.lawful_by_kind };
+
+    fn has_value(&self) {
+        self.value_by_kind();
+    }
 }
 
 impl<'a, T: LawfulConversion<'a>> LawfulBody<'a, Error> for T {

@@ -8,7 +8,7 @@ ghost use Rattle.asn1_headers.specs.declared.error.SerializeError.{SerializeErro
 ghost use Rattle.asn1_headers.specs.declared.error.Error.{Error};
 ghost use Rattle.asn1_rs.specs.Kinds.Writing.{Writing, universal_header, universal_writing, IsWrittenElement};
 ghost use Rattle.asn1_rs.specs.Grammar.Form.{WritesByValue, WritesForm, HasForm};
-ghost use Rattle.asn1_rs.specs.Laws.Forms.{universal_by_value, universal_writes_form, universal_has_form, universal_number, universal_number_fits};
+ghost use Rattle.asn1_rs.specs.Laws.Forms.{nothing_refused, universal_by_value, universal_writes_form, universal_has_form, universal_number, universal_number_fits};
 
 use crate::header::{element_len, put_counted_header};
 use crate::kinds::{ElementKind, HasKind, HolderKind, Holds, LawfulElement};
@@ -329,6 +329,10 @@ pub trait LawfulWriteBy<K>: ToDer + LawfulItem {
     /// `der_form`.
     ghost written_der: { HasForm Self.grammar.value Self.grammar.IsDer Self.grammar.Form
         Self.content };
+
+    /// `der_writable`.
+    ghost writable_der: { (x : Self) → Self.grammar.IsDer (Self.grammar.value x) →
+        IsWritable (Self.count_refuses x) (Self.header_refuses x) (Self.content_refuses x) };
 }
 
 impl<T: WritesElement> LawfulWriteBy<ElementKind> for T {
@@ -339,6 +343,8 @@ impl<T: WritesElement> LawfulWriteBy<ElementKind> for T {
     ghost written_form = { universal_writes_form T.element (T.mark).0 T.octets T.written };
 
     ghost written_der = { universal_has_form T.element (T.mark).0 T.octets T.written };
+
+    ghost writable_der = { λ x d. nothing_refused };
 }
 
 impl<H: Holds<Held = T>, T: LawfulWrite + Tagged> LawfulWriteBy<HolderKind> for H {
@@ -349,6 +355,8 @@ impl<H: Holds<Held = T>, T: LawfulWrite + Tagged> LawfulWriteBy<HolderKind> for 
     ghost written_form = { λ x. T.form (H.held x) };
 
     ghost written_der = { λ x. T.der_form (H.held x) };
+
+    ghost writable_der = { λ x. T.der_writable (H.held x) };
 }
 
 impl<T: HasKind + LawfulWriteBy<T::Kind>> LawfulWrite for T {
@@ -359,6 +367,8 @@ impl<T: HasKind + LawfulWriteBy<T::Kind>> LawfulWrite for T {
     ghost form = { T.written_form };
 
     ghost der_form = { T.written_der };
+
+    ghost der_writable = { T.writable_der };
 }
 
 /// The laws of the tag number, for a type of this kind.

@@ -101,6 +101,8 @@ pub fn counts_are_of_the_strict_encoding<T: LawfulWrite>()
     ensures strict { (x : T) → T.grammar.IsDer (T.grammar.value x)
         → length (T.header x ++ T.content x) < 2 ^ 64
         → ∥ IsStrict T.grammar.Form (T.grammar.value x) (T.header x ++ T.content x) ∥₁ }
+    ensures writable { (x : T) → T.grammar.IsDer (T.grammar.value x)
+        → IsWritable (T.count_refuses x) (T.header_refuses x) (T.content_refuses x) }
     ensures written { (x : T) (o : List ℕ) → IsStrict T.grammar.Form (T.grammar.value x) o
         → IsWritable (T.count_refuses x) (T.header_refuses x) (T.content_refuses x)
         × (T.header x ++ T.content x ≡ o) }

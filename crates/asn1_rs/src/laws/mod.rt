@@ -1,9 +1,11 @@
 //! What a type's values and grammars are, the laws of them, and the calls whose contracts rest on these laws.
 //!
-//! No code calls the law traits: they have no functions. A type whose laws are proved can be read by [`read_ber`] and
-//! [`read_der`] and written by [`write_strict`], alone or nested in lists, sets and tags.
+//! No reader and no writer calls the law traits: what functions they have state something of an item in hand, to those
+//! who prove. A type whose laws are proved can be read by [`read_ber`] and [`read_der`] and written by [`write_strict`],
+//! alone or nested in lists, sets and tags.
 
 pub(crate) mod functions;
+pub(crate) mod in_hand;
 
 ghost use Rattle.std.specs.Prelude.{ℕ, Bool, List, ◌≡◌, ◌++◌, ◌<◌, ◌^◌, ◌↔◌, ◌||◌, false, length, Some, Result, Ok, Err, IsTrue, IfOk, IfErr, MatchResult};
 ghost use Rattle.std.specs.Borrow.{Bor};
@@ -52,6 +54,10 @@ pub trait Grammar {
 
 /// A type whose grammars and strict parts are lawful.
 pub trait LawfulItem: Grammar {
+    /// States of an item in hand that its value is one of the type's. Each item of a list is asked in turn.
+    fn has_value(&self)
+        ensures { Self.grammar.IsValue (Self.grammar.value self.now) };
+
     /// Each part of [`Grammar`] has values of the type; one word alone begins an input; and a value has one strict
     /// encoding, which no other value has, and which is a word.
     ghost lawful_item: { IsLawfulItem Self.grammar };
@@ -142,6 +148,10 @@ pub trait LawfulWrite: ToDer + LawfulItem {
     /// A value in DER form whose contents octets fit in memory has strict parts.
     ghost der_form: { HasForm Self.grammar.value Self.grammar.IsDer Self.grammar.Form
         Self.content };
+
+    /// A value in DER form has no refusal of its own: what refuses it is its length, its writer, or want of memory.
+    ghost der_writable: { (x : Self) → Self.grammar.IsDer (Self.grammar.value x) →
+        IsWritable (Self.count_refuses x) (Self.header_refuses x) (Self.content_refuses x) };
 }
 
 /// The strict parts have the type's tag number.
@@ -266,6 +276,9 @@ pub fn write_strict<T: LawfulWrite, W: DerWrite>(
     ensures refused { (o : List ℕ) → IsStrict T.grammar.Form (T.grammar.value x.now) o →
         IfErr result (MayRefuse
         (some_allocates T.write_allocates T.count_allocates T.content_allocates) (length o)) }
+    ensures der { T.grammar.IsDer (T.grammar.value x.now) → IfErr result (MayRefuse
+        (some_allocates T.write_allocates T.count_allocates T.content_allocates)
+        (length (T.header x.now ++ T.content x.now))) }
     ensures one { (o p : List ℕ) → IsStrict T.grammar.Form (T.grammar.value x.now) o →
         IsStrict T.grammar.Form (T.grammar.value x.now) p → o ≡ p }
     ensures apart { (o p r s : List ℕ) (v w : T.grammar.Value) →
@@ -288,6 +301,9 @@ pub fn strict_vec<T: LawfulWrite>(alloc: Global, x: &T) -> SerializeResult<Vec<u
         (λ e. e ≡ serialize_errors.OutOfMemory) }
     ensures strict { (o : List ℕ) → IsStrict T.grammar.Form (T.grammar.value x.now) o →
         MatchResult result (λ octets. octets.items ≡ o) (IsMemoryOrLength o) }
+    ensures der { T.grammar.IsDer (T.grammar.value x.now) → MatchResult result
+        (λ octets. octets.items ≡ T.header x.now ++ T.content x.now)
+        (IsMemoryOrLength (T.header x.now ++ T.content x.now)) }
     ensures plain { IfOk result (λ octets. octets.items ≡ T.header x.now ++ T.content x.now) }
     ensures one { (o p : List ℕ) → IsStrict T.grammar.Form (T.grammar.value x.now) o →
         IsStrict T.grammar.Form (T.grammar.value x.now) p → o ≡ p }

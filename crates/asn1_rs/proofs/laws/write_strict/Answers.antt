@@ -2,8 +2,7 @@ use Rattle.std.proofs.Common.{◌≡◌, List, ℕ, ◌++◌}
 use Rattle.asn1_rs.specs.Grammar.Form.{IsStrict}
 use Rattle.asn1_rs.specs.Laws.Words.{one_strict, strict_apart}
 use Rattle.asn1_rs.specs.Laws.Forms.{strict_written, der_strict}
-use Rattle.asn1_rs.specs.ToDer.{IsWritable, HasNone}
-use mathlib.Core.Logic.{∥∥₁_elim}
+use Rattle.asn1_rs.specs.ToDer.{IsWritable}
 use Rattle.asn1_rs.proofs.Writing.{writing_done, plain_refusal}
 use Rattle.asn1_rs.proofs.laws.write_strict.Goals as goal
 use Rattle.asn1_rs.proofs.laws.write_strict.Given as given
@@ -24,13 +23,14 @@ returns-clause-one g c = λ o p s t. one_strict g.T.Grammar.grammar.Form g.met.T
 pub returns-clause-apart : goal.returns-clause-apart
 returns-clause-apart g c = λ o p r s v w x y e. strict_apart g.T.Grammar.grammar.Form g.met.T.LawfulItem.lawful_item.one_value v w o p r s x y e
 
+pub returns-clause-der : goal.returns-clause-der
+returns-clause-der g c = λ d.
+    let x = c.args.x.now in
+    let own = g.met.T.LawfulWrite.der_writable x d in
+    plain_refusal c.write_der.result _ _ (g.T.ToDer.header_refuses x) (g.T.ToDer.content_refuses x) own.1 own.2 (c.write_der.ensures.refused (g.met.T.LawfulWrite.tells_all x))
+
 pub returns-clause-headline : goal.returns-clause-headline
 returns-clause-headline g c = λ d fits unmarked.
     let x = c.args.x.now in
-    let heading = g.T.ToDer.header_refuses x in
-    let filling = g.T.ToDer.content_refuses x in
-    let told = g.met.T.LawfulWrite.tells_all x in
     let strict = der_strict g.T.Grammar.grammar.value g.T.Grammar.grammar.IsDer g.T.Grammar.grammar.Form (λ x. IsWritable (g.T.ToDer.count_refuses x) (g.T.ToDer.header_refuses x) (g.T.ToDer.content_refuses x)) g.T.ToDer.constructed g.T.ToDer.header g.T.ToDer.content g.met.T.LawfulWrite.form g.met.T.LawfulWrite.der_form g.met.T.LawfulItem.lawful_item.form_fits x d fits in
-    let no_heading : HasNone heading = λ e o. ∥∥₁_elim strict (λ a. absurd a) (λ s. (written g c _ s).0.1 e o) in
-    let no_filling : HasNone filling = λ e o. ∥∥₁_elim strict (λ a. absurd a) (λ s. (written g c _ s).0.2 e o) in
-    (strict, writing_done _ _ _ _ _ _ _ (c.write_der.ensures.wrote told) (plain_refusal c.write_der.result _ _ heading filling no_heading no_filling (c.write_der.ensures.refused told)) fits unmarked)
+    (strict, writing_done _ _ _ _ _ _ _ (c.write_der.ensures.wrote (g.met.T.LawfulWrite.tells_all x)) (returns-clause-der g c d) fits unmarked)

@@ -18,6 +18,7 @@ ghost use Rattle.asn1_rs.specs.Any.{parts_of, IsTheElement, IsDefiniteOr, AndThe
 ghost use Rattle.asn1_headers.specs.Der.{DerContentGives};
 ghost use Rattle.asn1_headers.specs.Ber.{BerContentGives, max_depth};
 ghost use Rattle.asn1_rs.specs.Any.Value.{any_element};
+ghost use Rattle.asn1_rs.specs.Laws.InHand.{element_each_der};
 ghost use Rattle.asn1_rs.specs.Laws.Any.Value.{element_lawful, element_converts, element_checks};
 ghost use Rattle.asn1_headers.specs.declared.class.Class.TheVariants as classes;
 ghost use Rattle.asn1_headers.specs.declared.length.Length.TheVariants as forms;
@@ -25,7 +26,9 @@ ghost use Rattle.asn1_headers.specs.declared.tag.Tag.{Tag};
 
 use crate::ber::element_by_ber;
 use crate::der::element_by_der;
+use crate::kinds::in_hand::DerElement;
 use crate::kinds::{ElementKind, HasKind, LawfulConversion, LawfulElement};
+use crate::laws::in_hand::octets_in_hand;
 use crate::traits::{CheckDerConstraints, DerAutoDerive, DynTagged, FromAny, FromBer, FromDer};
 use asn1_headers::class::Class;
 use asn1_headers::error::{Err, Error, ParseResult};
@@ -266,8 +269,18 @@ impl LawfulElement for Any<'_> {
     ghost lawful = { element_lawful };
 
     ghost checked = { element_checks };
+
+    fn value_in_hand(&self) {
+        let _number = self.header.tag().0;
+        octets_in_hand(self.content);
+    }
 }
 
 impl<'a> LawfulConversion<'a> for Any<'a> {
     ghost converts = { element_converts };
+}
+
+/// Each element is in DER form: its contents octets stand as they are.
+impl DerElement for Any<'_> {
+    ghost each_der = { element_each_der };
 }

@@ -6,6 +6,7 @@ ghost use Rattle.asn1_headers.specs.Header.{is_constructed_of, length_of};
 ghost use Rattle.asn1_headers.specs.Length.{form_of};
 ghost use Rattle.asn1_headers.specs.Header.Writing.{strict_header};
 ghost use Rattle.asn1_rs.specs.Any.Writing.{content_of, element_header};
+ghost use Rattle.asn1_rs.specs.Laws.Forms.{nothing_refused};
 ghost use Rattle.asn1_rs.specs.Laws.Any.Writing.{element_by_value, element_writes_form, element_has_form, element_same};
 ghost use Rattle.asn1_headers.specs.Writer.{Wrote, MayRefuse};
 ghost use Rattle.asn1_rs.specs.ToDer.{Refuses, RefusesCount, VectorRefuses, Either};
@@ -169,6 +170,8 @@ impl LawfulWrite for Any<'_> {
     ghost form = { element_writes_form };
 
     ghost der_form = { element_has_form };
+
+    ghost der_writable = { λ x d. nothing_refused };
 }
 
 impl LawfulMember for Any<'_> {

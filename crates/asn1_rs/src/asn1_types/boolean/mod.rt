@@ -12,6 +12,7 @@ ghost use Rattle.asn1_rs.specs.Traits.{OfParts};
 ghost use Rattle.asn1_headers.specs.Writer.{Wrote, MayRefuse};
 
 use crate::asn1_types::any::Any;
+use crate::kinds::in_hand::DerElement;
 use crate::kinds::writing::WritesElement;
 use crate::kinds::{ElementKind, HasKind, LawfulConversion, LawfulElement};
 use crate::laws::LawfulMember;
@@ -158,6 +159,12 @@ impl LawfulElement for bool {
     ghost lawful = { leaf_lawful bool_leaf bool_lawful };
 
     ghost checked = { leaf_constraints bool_leaf bool_lawful };
+
+    fn value_in_hand(&self) {}
+}
+
+impl DerElement for bool {
+    ghost each_der = { λ v d. d };
 }
 
 impl<'a> LawfulConversion<'a> for bool {
@@ -222,6 +229,10 @@ impl LawfulElement for Boolean {
     ghost lawful = { leaf_lawful boolean_leaf boolean_lawful };
 
     ghost checked = { leaf_constraints boolean_leaf boolean_lawful };
+
+    fn value_in_hand(&self) {
+        let _octet = self.value;
+    }
 }
 
 impl<'a> LawfulConversion<'a> for Boolean {

@@ -5,7 +5,7 @@ ghost use Rattle.asn1_rs.specs.Boolean.{boolean_number, boolean_leaf, truth_octe
 ghost use Rattle.asn1_headers.specs.Error.{tells_of_io};
 ghost use Rattle.asn1_rs.specs.Leaf.{leaf_element};
 ghost use Rattle.asn1_rs.specs.Laws.Boolean.{boolean_lawful, boolean_by_value, boolean_writes_form};
-ghost use Rattle.asn1_rs.specs.Laws.Forms.{universal_has_form, universal_number, universal_number_fits};
+ghost use Rattle.asn1_rs.specs.Laws.Forms.{nothing_refused, universal_has_form, universal_number, universal_number_fits};
 ghost use Rattle.asn1_rs.specs.Laws.Leaf.{leaf_written};
 ghost use Rattle.asn1_rs.specs.ToDer.{Refuses, VectorRefuses, Either};
 ghost use Rattle.asn1_headers.specs.Writer.{Wrote, MayRefuse};
@@ -102,6 +102,8 @@ impl LawfulWrite for Boolean {
 
     ghost der_form = { universal_has_form (leaf_element boolean_leaf) boolean_number truth_octets
         (leaf_written boolean_leaf boolean_lawful) };
+
+    ghost der_writable = { λ x d. nothing_refused };
 }
 
 impl LawfulTagged for Boolean {

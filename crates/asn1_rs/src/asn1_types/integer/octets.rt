@@ -19,6 +19,7 @@ use crate::asn1_types::integer::machine::MachineInt;
 use crate::kinds::writing::WritesOctets;
 use crate::kinds::{ElementKind, HasKind, LawfulConversion, LawfulElement};
 use crate::laws::LawfulMember;
+use crate::laws::in_hand::octets_in_hand;
 use crate::traits::{CheckDerConstraints, DerAutoDerive, FromAny, Tagged};
 use asn1_headers::error::Error;
 use asn1_headers::tag::Tag;
@@ -165,6 +166,10 @@ impl LawfulElement for Integer<'_> {
     ghost lawful = { leaf_lawful any_integer_leaf any_integer_lawful };
 
     ghost checked = { leaf_constraints any_integer_leaf any_integer_lawful };
+
+    fn value_in_hand(&self) {
+        octets_in_hand(self.as_bytes());
+    }
 }
 
 impl<'a> LawfulConversion<'a> for Integer<'a> {

@@ -8,6 +8,7 @@ ghost use Rattle.asn1_rs.specs.Laws.Integer.Signed.{signed_converts, signed_equa
 
 use crate::asn1_types::any::Any;
 use crate::asn1_types::integer::{check_integer, put_signed_content, put_signed_element};
+use crate::kinds::in_hand::DerElement;
 use crate::kinds::writing::WritesElement;
 use crate::kinds::{ElementKind, HasKind, LawfulConversion, LawfulElement};
 use crate::laws::LawfulMember;
@@ -58,6 +59,14 @@ impl LawfulElement for i8 {
     ghost lawful = { integer_lawful (IsSigned 1) (λ n. n) };
 
     ghost checked = { integer_checks };
+
+    fn value_in_hand(&self) {
+        let _value = *self;
+    }
+}
+
+impl DerElement for i8 {
+    ghost each_der = { λ v d. d };
 }
 
 impl<'a> LawfulConversion<'a> for i8 {
@@ -128,6 +137,14 @@ impl LawfulElement for i16 {
     ghost lawful = { integer_lawful (IsSigned 2) (λ n. n) };
 
     ghost checked = { integer_checks };
+
+    fn value_in_hand(&self) {
+        let _value = *self;
+    }
+}
+
+impl DerElement for i16 {
+    ghost each_der = { λ v d. d };
 }
 
 impl<'a> LawfulConversion<'a> for i16 {
@@ -198,6 +215,14 @@ impl LawfulElement for i32 {
     ghost lawful = { integer_lawful (IsSigned 4) (λ n. n) };
 
     ghost checked = { integer_checks };
+
+    fn value_in_hand(&self) {
+        let _value = *self;
+    }
+}
+
+impl DerElement for i32 {
+    ghost each_der = { λ v d. d };
 }
 
 impl<'a> LawfulConversion<'a> for i32 {
@@ -268,6 +293,14 @@ impl LawfulElement for i64 {
     ghost lawful = { integer_lawful (IsSigned 8) (λ n. n) };
 
     ghost checked = { integer_checks };
+
+    fn value_in_hand(&self) {
+        let _value = *self;
+    }
+}
+
+impl DerElement for i64 {
+    ghost each_der = { λ v d. d };
 }
 
 impl<'a> LawfulConversion<'a> for i64 {
@@ -338,6 +371,14 @@ impl LawfulElement for i128 {
     ghost lawful = { integer_lawful (IsSigned 16) (λ n. n) };
 
     ghost checked = { integer_checks };
+
+    fn value_in_hand(&self) {
+        let _value = *self;
+    }
+}
+
+impl DerElement for i128 {
+    ghost each_der = { λ v d. d };
 }
 
 impl<'a> LawfulConversion<'a> for i128 {

@@ -9,6 +9,7 @@ ghost use Rattle.asn1_rs.specs.Laws.Integer.Unsigned.{unsigned_converts, unsigne
 
 use crate::asn1_types::any::Any;
 use crate::asn1_types::integer::{check_integer, put_unsigned_content, put_unsigned_element};
+use crate::kinds::in_hand::DerElement;
 use crate::kinds::writing::WritesElement;
 use crate::kinds::{ElementKind, HasKind, LawfulConversion, LawfulElement};
 use crate::laws::LawfulMember;
@@ -59,6 +60,14 @@ impl LawfulElement for u8 {
     ghost lawful = { integer_lawful (IsUnsigned 1) pos };
 
     ghost checked = { integer_checks };
+
+    fn value_in_hand(&self) {
+        let _value = *self;
+    }
+}
+
+impl DerElement for u8 {
+    ghost each_der = { λ v d. d };
 }
 
 impl<'a> LawfulConversion<'a> for u8 {
@@ -129,6 +138,14 @@ impl LawfulElement for u16 {
     ghost lawful = { integer_lawful (IsUnsigned 2) pos };
 
     ghost checked = { integer_checks };
+
+    fn value_in_hand(&self) {
+        let _value = *self;
+    }
+}
+
+impl DerElement for u16 {
+    ghost each_der = { λ v d. d };
 }
 
 impl<'a> LawfulConversion<'a> for u16 {
@@ -199,6 +216,14 @@ impl LawfulElement for u32 {
     ghost lawful = { integer_lawful (IsUnsigned 4) pos };
 
     ghost checked = { integer_checks };
+
+    fn value_in_hand(&self) {
+        let _value = *self;
+    }
+}
+
+impl DerElement for u32 {
+    ghost each_der = { λ v d. d };
 }
 
 impl<'a> LawfulConversion<'a> for u32 {
@@ -269,6 +294,14 @@ impl LawfulElement for u64 {
     ghost lawful = { integer_lawful (IsUnsigned 8) pos };
 
     ghost checked = { integer_checks };
+
+    fn value_in_hand(&self) {
+        let _value = *self;
+    }
+}
+
+impl DerElement for u64 {
+    ghost each_der = { λ v d. d };
 }
 
 impl<'a> LawfulConversion<'a> for u64 {
@@ -334,6 +367,14 @@ impl LawfulElement for u128 {
     ghost lawful = { integer_lawful (IsUnsigned 16) pos };
 
     ghost checked = { integer_checks };
+
+    fn value_in_hand(&self) {
+        let _value = *self;
+    }
+}
+
+impl DerElement for u128 {
+    ghost each_der = { λ v d. d };
 }
 
 impl<'a> LawfulConversion<'a> for u128 {

@@ -26,8 +26,10 @@ use crate::asn1_types::kept::{
 };
 use crate::asn1_types::lists::items_by;
 use crate::asn1_types::sequence::iterator::SequenceIterator;
+use crate::kinds::in_hand::DerElement;
 use crate::kinds::writing::WritesOctets;
 use crate::kinds::{ElementKind, HasKind, LawfulConversion, LawfulElement};
+use crate::laws::in_hand::octets_in_hand;
 use crate::to_der::ToDer;
 use crate::to_static::ToStatic;
 use crate::traits::{CheckDerConstraints, DerAutoDerive, FromAny, FromBer, FromDer, Tagged};
@@ -296,6 +298,14 @@ impl LawfulElement for Set<'_> {
     ghost lawful = { leaf_lawful set_leaf set_lawful };
 
     ghost checked = { leaf_constraints set_leaf set_lawful };
+
+    fn value_in_hand(&self) {
+        octets_in_hand(self.as_bytes());
+    }
+}
+
+impl DerElement for Set<'_> {
+    ghost each_der = { λ v d. d };
 }
 
 impl<'a> LawfulConversion<'a> for Set<'a> {

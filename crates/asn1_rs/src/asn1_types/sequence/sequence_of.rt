@@ -14,7 +14,8 @@ ghost use Rattle.asn1_rs.specs.Laws.Lists.{takes_some, list_form_body, list_take
 
 use crate::asn1_types::lists::{FromItems, Listed, items_from_iter, list_by_der, push_item};
 use crate::kinds::HasKind;
-use crate::kinds::collections::{CountsItems, SequenceKind, WritesInOrder};
+use crate::kinds::collections::{SequenceKind, WritesInOrder};
+use crate::laws::in_hand::States;
 use crate::laws::{LawfulBer, LawfulBody, LawfulCheck, LawfulDer};
 use crate::to_der::ToDer;
 use crate::traits::{FromDer, Tagged};
@@ -140,9 +141,11 @@ impl<T> Listed for SequenceOf<T> {
     ghost items = { sequence_items };
 
     ghost small = { lit< tt };
-}
 
-impl<T> CountsItems for SequenceOf<T> {
+    fn state_each<P: States<T>>(&self) {
+        self.items.state_each::<P>();
+    }
+
     fn count_each(&self) -> Result<usize, Error>
     where
         T: ToDer,

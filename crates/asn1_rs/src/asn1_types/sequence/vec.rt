@@ -8,9 +8,12 @@ ghost use Rattle.asn1_rs.specs.Lists.{ListOf, ListReads, has_items};
 ghost use Rattle.asn1_rs.specs.Laws.Readers.{unchecked_exact};
 ghost use Rattle.asn1_rs.specs.Laws.Lists.{takes_some, list_form_body, list_takes, list_reads, list_checks, same_lists, same_values};
 
-use crate::asn1_types::lists::{FromItems, Listed, count_items, list_by_der, write_items};
+use crate::asn1_types::lists::{
+    FromItems, Listed, count_items, list_by_der, state_items, write_items,
+};
 use crate::kinds::HasKind;
-use crate::kinds::collections::{CountsItems, SequenceKind, WritesInOrder};
+use crate::kinds::collections::{SequenceKind, WritesInOrder};
+use crate::laws::in_hand::States;
 use crate::laws::{LawfulBer, LawfulBody, LawfulCheck, LawfulDer, LawfulMember};
 use crate::to_der::ToDer;
 use crate::traits::{FromDer, Tagged};
@@ -62,9 +65,11 @@ impl<T> Listed for Vec<T> {
     ghost items = { λ v. v.items };
 
     ghost small = { lit< tt };
-}
 
-impl<T> CountsItems for Vec<T> {
+    fn state_each<P: States<T>>(&self) {
+        state_items::<T, _, _, P>(self.iter());
+    }
+
     fn count_each(&self) -> Result<usize, Error>
     where
         T: ToDer,

@@ -17,12 +17,11 @@ ghost use Rattle.asn1_rs.specs.Laws.Lists.{takes_some, list_checks};
 ghost use Rattle.asn1_rs.specs.Laws.Set.{set_takes, set_form_body, tree_told, below_apart, same_members};
 
 use crate::asn1_types::lists::{
-    Encodings, FromItems, Listed, constructed_list_by_der, count_items, encode_items,
+    Encodings, FromItems, Listed, constructed_list_by_der, count_items, encode_items, state_items,
 };
 use crate::kinds::HasKind;
-use crate::kinds::collections::{
-    CountsItems, HasMembers, LawfulMembers, Once, SetKind, WritesAscending,
-};
+use crate::kinds::collections::{HasMembers, LawfulMembers, Once, SetKind, WritesAscending};
+use crate::laws::in_hand::States;
 use crate::laws::{LawfulBer, LawfulBody, LawfulCheck, LawfulDer, LawfulMember};
 use crate::to_der::ToDer;
 use crate::traits::{FromDer, Tagged};
@@ -58,9 +57,11 @@ impl<T: Ord> Listed for BTreeSet<T> {
     ghost items = { λ s. s.keys };
 
     ghost small = { lit< tt };
-}
 
-impl<T: Ord> CountsItems for BTreeSet<T> {
+    fn state_each<P: States<T>>(&self) {
+        state_items::<T, _, _, P>(self.iter());
+    }
+
     fn count_each(&self) -> Result<usize, Error>
     where
         T: ToDer,
@@ -87,6 +88,10 @@ impl<T: Ord> HasMembers for BTreeSet<T> {
     ghost test = { is_below T.cmp };
 
     ghost is_set = { refl };
+
+    fn members_pass(&self) {
+        let _count = self.len();
+    }
 }
 
 impl<T: LawfulMember + Ord> LawfulMembers<T> for BTreeSet<T> {

@@ -13,12 +13,11 @@ ghost use Rattle.asn1_rs.specs.Laws.Lists.{takes_some, list_checks};
 ghost use Rattle.asn1_rs.specs.Laws.Set.{set_takes, set_form_body, table_told, other_apart};
 
 use crate::asn1_types::lists::{
-    Encodings, FromItems, Listed, constructed_list_by_der, count_items, encode_items,
+    Encodings, FromItems, Listed, constructed_list_by_der, count_items, encode_items, state_items,
 };
 use crate::kinds::HasKind;
-use crate::kinds::collections::{
-    CountsItems, HasMembers, LawfulMembers, Once, SetKind, WritesAscending,
-};
+use crate::kinds::collections::{HasMembers, LawfulMembers, Once, SetKind, WritesAscending};
+use crate::laws::in_hand::States;
 use crate::laws::{LawfulBer, LawfulBody, LawfulCheck, LawfulDer, LawfulMember};
 use crate::to_der::ToDer;
 use crate::traits::{FromDer, Tagged};
@@ -55,9 +54,11 @@ impl<T: Eq + Hash> Listed for HashSet<T> {
     ghost items = { λ s. s.keys };
 
     ghost small = { lit< tt };
-}
 
-impl<T: Eq + Hash> CountsItems for HashSet<T> {
+    fn state_each<P: States<T>>(&self) {
+        state_items::<T, _, _, P>(self.iter());
+    }
+
     fn count_each(&self) -> Result<usize, Error>
     where
         T: ToDer,
@@ -88,6 +89,10 @@ impl<T: Eq + Hash> HasMembers for HashSet<T> {
     ghost test = { is_other T.eq };
 
     ghost is_set = { refl };
+
+    fn members_pass(&self) {
+        let _count = self.len();
+    }
 }
 
 impl<T: LawfulMember + Hash> LawfulMembers<T> for HashSet<T> {

@@ -14,15 +14,18 @@ ghost use Rattle.asn1_rs.specs.ToDer.{IsWritable};
 ghost use Rattle.asn1_rs.specs.Set.{SetRow, items_of, HasItems, lends_set_items, multiset_grammar};
 ghost use Rattle.asn1_rs.specs.Laws.Readers.{unchecked_exact};
 ghost use Rattle.asn1_rs.specs.Laws.Forms.{der_strict};
+ghost use Rattle.asn1_rs.specs.Laws.InHand.{multiset_writable};
 ghost use Rattle.asn1_rs.specs.Laws.Lists.{takes_some, list_checks};
 ghost use Rattle.asn1_rs.specs.Laws.Set.{multiset_told, multiset_lawful, set_takes, set_reads, set_form_body, set_takes_class, set_number, set_by_value, set_writes_form, multiset_has_form};
 
 use crate::asn1_types::lists::{
     Encodings, FromItems, Listed, encode_items, items_from_iter, list_by_der, push_item,
 };
-use crate::kinds::collections::{CountsItems, Repeats, SetKind, WritesAscending};
+use crate::kinds::collections::{Repeats, SetKind, WritesAscending};
+use crate::kinds::in_hand::AlwaysDerBy;
 use crate::kinds::writing::{LawfulTaggedBy, LawfulWriteBy, TakesClassBy};
 use crate::kinds::{GrammarBy, HasKind, LawfulItemBy};
+use crate::laws::in_hand::{AlwaysDer, OfDer, OfValue, States};
 use crate::laws::{
     Grammar, LawfulBer, LawfulBody, LawfulCheck, LawfulDer, LawfulItem, LawfulWrite,
 };
@@ -147,9 +150,11 @@ impl<T> Listed for SetOf<T> {
     ghost items = { items_of };
 
     ghost small = { lit< tt };
-}
 
-impl<T> CountsItems for SetOf<T> {
+    fn state_each<P: States<T>>(&self) {
+        self.items.state_each::<P>();
+    }
+
     #[inline(always)]
     fn count_each(&self) -> Result<usize, Error>
     where
@@ -181,6 +186,16 @@ impl<T: Grammar> GrammarBy<SetKind<Repeats>> for SetOf<T> {
 
 impl<T: LawfulItem> LawfulItemBy<SetKind<Repeats>> for SetOf<T> {
     ghost lawful_by_kind = { multiset_lawful items_of T.grammar T.lawful_item };
+
+    fn value_by_kind(&self) {
+        self.state_each::<OfValue>();
+    }
+}
+
+impl<T: AlwaysDer> AlwaysDerBy<SetKind<Repeats>> for SetOf<T> {
+    fn der_by_kind(&self) {
+        self.state_each::<OfDer>();
+    }
 }
 
 impl<'a, T: LawfulBer<'a, Error> + Drop> LawfulBody<'a, Error> for SetOf<T> {
@@ -231,6 +246,9 @@ impl<T: LawfulWrite> LawfulWriteBy<SetKind<Repeats>> for SetOf<T> {
         (λ x. IsWritable (T.count_refuses x) (T.header_refuses x) (T.content_refuses x))
         T.constructed T.header T.content T.form T.der_form T.lawful_item.form_fits)
         (items_of s) };
+
+    ghost writable_der = { λ s. multiset_writable T.grammar.value T.grammar.IsDer T.count_refuses
+        T.header_refuses T.content_refuses T.der_writable (items_of s) };
 }
 
 impl<T: LawfulItem> LawfulTaggedBy<SetKind<Repeats>> for SetOf<T> {

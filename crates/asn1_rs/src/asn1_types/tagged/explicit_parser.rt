@@ -10,12 +10,13 @@ ghost use Rattle.asn1_headers.specs.Header.{identifier_of};
 ghost use Rattle.asn1_headers.specs.Header.Reading.{der_breach, ber_breach};
 ghost use Rattle.asn1_rs.specs.Laws.Forms.{der_strict};
 ghost use Rattle.asn1_rs.specs.Laws.Readers.{der_elements, ber_elements, der_breach_spares, ber_breach_spares};
+ghost use Rattle.asn1_rs.specs.Laws.InHand.{behind_header, whole_writable};
 ghost use Rattle.asn1_rs.specs.Laws.Tagged.Explicit.{explicit_checks};
 ghost use Rattle.asn1_rs.specs.Laws.Tagged.Headed.{explicit_headed_lawful, explicit_headed_by_value, explicit_headed_writes_form, explicit_headed_has_form, headed_same};
 ghost use Rattle.asn1_rs.specs.Laws.Tagged.Parser.{explicit_parser_exact, explicit_parser_spares};
 ghost use Rattle.asn1_rs.specs.Tagged.Explicit.{ExplicitCheckGives, InnerChecked};
 ghost use Rattle.asn1_rs.specs.Tagged.Headed.{explicit_headed};
-ghost use Rattle.asn1_rs.specs.ToDer.{IsWritable};
+ghost use Rattle.asn1_rs.specs.ToDer.{Either, IsWritable};
 
 use crate::asn1_types::any::Any;
 use crate::asn1_types::tagged::Explicit;
@@ -58,6 +59,12 @@ impl<T: Grammar> Grammar for TaggedParser<'_, Explicit, T, Error> {
 impl<T: LawfulItem> LawfulItem for TaggedParser<'_, Explicit, T, Error> {
     ghost lawful_item = { explicit_headed_lawful (λ t. identifier_of t.header) (λ t. t.inner)
         T.grammar T.lawful_item };
+
+    fn has_value(&self) {
+        let _class = self.header.class();
+        let _number = self.header.tag().0;
+        self.inner.has_value();
+    }
 }
 
 impl<T: LawfulWrite> LawfulWrite for TaggedParser<'_, Explicit, T, Error> {
@@ -75,6 +82,10 @@ impl<T: LawfulWrite> LawfulWrite for TaggedParser<'_, Explicit, T, Error> {
         (der_strict T.grammar.value T.grammar.IsDer T.grammar.Form
         (λ x. IsWritable (T.count_refuses x) (T.header_refuses x) (T.content_refuses x))
         T.constructed T.header T.content T.form T.der_form T.lawful_item.form_fits) };
+
+    ghost der_writable = { λ t d. behind_header (T.count_refuses t.inner)
+        (Either (T.header_refuses t.inner) (T.content_refuses t.inner))
+        (T.der_writable t.inner d.2).0 (whole_writable _ _ _ (T.der_writable t.inner d.2)) };
 }
 
 impl<T: LawfulCheck> LawfulCheck for TaggedParser<'_, Explicit, T, Error> {

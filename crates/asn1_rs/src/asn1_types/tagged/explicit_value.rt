@@ -6,6 +6,7 @@ ghost use Rattle.asn1_headers.specs.Answers.{seen};
 ghost use Rattle.asn1_rs.specs.Any.{parts_of, BerElementGives};
 ghost use Rattle.asn1_rs.specs.Tagged.Explicit.{ExplicitTakes, ExplicitReads, ExplicitGives, ExplicitCheckGives, InnerTakes, InnerChecked, tag_checks, explicit_grammar};
 ghost use Rattle.asn1_rs.specs.Laws.Forms.{der_strict};
+ghost use Rattle.asn1_rs.specs.Laws.InHand.{under_tag, whole_writable};
 ghost use Rattle.asn1_rs.specs.Laws.Tagged.{number_fits, marked_same};
 ghost use Rattle.asn1_rs.specs.Laws.Tagged.Explicit.{explicit_lawful, explicit_number, explicit_by_value, explicit_writes_form, explicit_has_form, explicit_takes_class, explicit_takes, explicit_takes_spares, explicit_form_body, explicit_der_exact, explicit_der_spares, explicit_checks};
 ghost use Rattle.asn1_headers.specs.Ber.{max_depth, EndsWithin};
@@ -18,10 +19,11 @@ ghost use Rattle.asn1_rs.specs.Traits.{OfParts};
 
 use crate::asn1_types::any::Any;
 use crate::asn1_types::option::without_raw_tag;
-use crate::asn1_types::tagged::{Explicit, TaggedValue};
+use crate::asn1_types::tagged::{Explicit, HasClass, TaggedValue};
 use crate::ber::element_by_ber;
 use crate::der::element_by_der;
 use crate::header::{element_len, put_counted_header};
+use crate::laws::in_hand::AlwaysDer;
 use crate::laws::{
     Grammar, LawfulBer, LawfulBody, LawfulCheck, LawfulDer, LawfulItem, LawfulMember, LawfulTagged,
     LawfulWrite, TakesClass,
@@ -226,6 +228,22 @@ impl<T: Grammar, E, const CLASS: u8, const TAG: u32> Grammar
 impl<T: LawfulItem, E, const CLASS: u8, const TAG: u32> LawfulItem
     for TaggedValue<T, E, Explicit, CLASS, TAG> {
     ghost lawful_item = { explicit_lawful CLASS TAG (λ t. t.inner) T.grammar T.lawful_item };
+
+    fn has_value(&self) {
+        self.inner.has_value();
+    }
+}
+
+/// A value under a tag of one of the four classes.
+impl<T: AlwaysDer, E, const CLASS: u8, const TAG: u32> AlwaysDer
+    for TaggedValue<T, E, Explicit, CLASS, TAG>
+where
+    Explicit: HasClass<CLASS>,
+{
+    fn is_der(&self) {
+        let _number = self.tag().0;
+        self.inner.is_der();
+    }
 }
 
 impl<T: LawfulWrite, E, const CLASS: u8, const TAG: u32> LawfulWrite
@@ -244,6 +262,10 @@ impl<T: LawfulWrite, E, const CLASS: u8, const TAG: u32> LawfulWrite
         (der_strict T.grammar.value T.grammar.IsDer T.grammar.Form
         (λ x. IsWritable (T.count_refuses x) (T.header_refuses x) (T.content_refuses x))
         T.constructed T.header T.content T.form T.der_form T.lawful_item.form_fits) t.inner };
+
+    ghost der_writable = { λ t d. under_tag CLASS (T.count_refuses t.inner)
+        (Either (T.header_refuses t.inner) (T.content_refuses t.inner)) d.0
+        (T.der_writable t.inner d.2).0 (whole_writable _ _ _ (T.der_writable t.inner d.2)) };
 }
 
 impl<T: LawfulItem, E, const CLASS: u8, const TAG: u32> LawfulTagged

@@ -10,6 +10,7 @@ ghost use Rattle.asn1_rs.specs.Grammar.{FormTakes};
 ghost use Rattle.asn1_headers.specs.Header.{identifier_of};
 ghost use Rattle.asn1_headers.specs.Header.Reading.{der_breach, ber_breach};
 ghost use Rattle.asn1_rs.specs.Laws.Readers.{der_elements, ber_elements, der_breach_spares, ber_breach_spares};
+ghost use Rattle.asn1_rs.specs.Laws.InHand.{behind_header};
 ghost use Rattle.asn1_rs.specs.Laws.Tagged.Headed.{each_class, implicit_headed_lawful, implicit_headed_by_value, implicit_headed_writes_form, implicit_headed_has_form, headed_same};
 ghost use Rattle.asn1_rs.specs.Laws.Tagged.Implicit.{implicit_checked};
 ghost use Rattle.asn1_rs.specs.Laws.Tagged.Parser.{checked_exact, checked_spares, implicit_parser_exact, implicit_parser_spares};
@@ -70,6 +71,12 @@ impl<T: Grammar + Tagged> Grammar for TaggedParser<'_, Implicit, T, Error> {
 impl<T: TakesEachClass> LawfulItem for TaggedParser<'_, Implicit, T, Error> {
     ghost lawful_item = { implicit_headed_lawful (λ t. identifier_of t.header) (T.mark).0
         (λ t. t.inner) T.grammar T.lawful_item T.number_fits T.tag_number T.takes_each };
+
+    fn has_value(&self) {
+        let _class = self.header.class();
+        let _number = self.header.tag().0;
+        self.inner.has_value();
+    }
 }
 
 impl<T: LawfulWrite + TakesEachClass> LawfulWrite for TaggedParser<'_, Implicit, T, Error> {
@@ -85,6 +92,10 @@ impl<T: LawfulWrite + TakesEachClass> LawfulWrite for TaggedParser<'_, Implicit,
     ghost der_form = { implicit_headed_has_form (λ t. identifier_of t.header) (λ t. t.inner)
         T.grammar.value T.constructed T.header T.content T.grammar.Form T.grammar.IsDer
         T.der_form };
+
+    ghost der_writable = { λ t d. behind_header (T.count_refuses t.inner)
+        (T.content_refuses t.inner) (T.der_writable t.inner d.2).0
+        (T.der_writable t.inner d.2).2 };
 }
 
 impl<T: LawfulCheck + TakesEachClass> LawfulCheck for TaggedParser<'_, Implicit, T, Error> {

@@ -9,6 +9,7 @@ ghost use Rattle.asn1_rs.specs.declared.asn1_types.any.Any.{Any};
 ghost use Rattle.asn1_rs.specs.Any.{parts_of};
 ghost use Rattle.asn1_headers.specs.Header.Reading.{der_breach};
 ghost use Rattle.asn1_rs.specs.Laws.Readers.{unchecked_exact, element_spares, der_breach_spares, all_pass};
+ghost use Rattle.asn1_rs.specs.Laws.InHand.{under_tag};
 ghost use Rattle.asn1_rs.specs.Laws.Tagged.{number_fits, marked_same};
 ghost use Rattle.asn1_rs.specs.Laws.Tagged.Implicit.{implicit_lawful, implicit_number, implicit_by_value, implicit_writes_form, implicit_has_form, implicit_takes_class, implicit_form_body, implicit_takes, implicit_takes_spares, implicit_checked};
 ghost use Rattle.asn1_rs.specs.Optional.{IsWithoutRawTag};
@@ -18,9 +19,10 @@ ghost use Rattle.asn1_rs.specs.Traits.{DerGives, PassesAll};
 
 use crate::asn1_types::any::Any;
 use crate::asn1_types::option::without_raw_tag;
-use crate::asn1_types::tagged::{Implicit, TaggedValue};
+use crate::asn1_types::tagged::{HasClass, Implicit, TaggedValue};
 use crate::der::element_by_der;
 use crate::header::{element_len, put_counted_header};
+use crate::laws::in_hand::AlwaysDer;
 use crate::laws::{
     Grammar, LawfulBody, LawfulCheck, LawfulDer, LawfulItem, LawfulMember, LawfulTagged,
     LawfulWrite, TakesClass,
@@ -196,6 +198,22 @@ impl<T: TakesClass<CLASS>, E, const CLASS: u8, const TAG: u32> LawfulItem
     for TaggedValue<T, E, Implicit, CLASS, TAG> {
     ghost lawful_item = { implicit_lawful CLASS TAG (T.mark).0 (λ t. t.inner) T.grammar
         T.lawful_item T.number_fits T.tag_number T.takes_class };
+
+    fn has_value(&self) {
+        self.inner.has_value();
+    }
+}
+
+/// A value under a tag of one of the four classes.
+impl<T: AlwaysDer + TakesClass<CLASS>, E, const CLASS: u8, const TAG: u32> AlwaysDer
+    for TaggedValue<T, E, Implicit, CLASS, TAG>
+where
+    Implicit: HasClass<CLASS>,
+{
+    fn is_der(&self) {
+        let _number = self.tag().0;
+        self.inner.is_der();
+    }
 }
 
 impl<T, E, const CLASS: u8, const TAG: u32> LawfulWrite for TaggedValue<T, E, Implicit, CLASS, TAG>
@@ -213,6 +231,10 @@ where
 
     ghost der_form = { λ t. implicit_has_form CLASS TAG T.grammar.value T.constructed T.header
         T.content T.grammar.Form T.grammar.IsDer T.der_form t.inner };
+
+    ghost der_writable = { λ t d. under_tag CLASS (T.count_refuses t.inner)
+        (T.content_refuses t.inner) d.0 (T.der_writable t.inner d.2).0
+        (T.der_writable t.inner d.2).2 };
 }
 
 impl<T: TakesClass<CLASS>, E, const CLASS: u8, const TAG: u32> LawfulTagged

@@ -10,7 +10,8 @@ pub mod optional;
 pub mod parser;
 mod parser_writing;
 
-ghost use Rattle.std.specs.Prelude.{◌≡◌};
+ghost use Rattle.std.specs.Prelude.{◌≡◌, ◌<◌};
+ghost use Rattle.std.proofs.Common.{lit<};
 ghost use Rattle.asn1_rs.specs.Tagged.{has_class, number_of};
 ghost use Rattle.asn1_rs.specs.Any.{parts_of};
 
@@ -35,6 +36,28 @@ pub trait TagKind {}
 impl TagKind for Explicit {}
 
 impl TagKind for Implicit {}
+
+/// A kind of tags under class `K`, as [`Explicit`] and [`Implicit`] are under each of the four.
+pub trait HasClass<const K: u8>: TagKind {
+    /// It is one of the four.
+    ghost is_class: { K < 4 };
+}
+
+impl<Kind: TagKind> HasClass<0> for Kind {
+    ghost is_class = { lit< tt };
+}
+
+impl<Kind: TagKind> HasClass<1> for Kind {
+    ghost is_class = { lit< tt };
+}
+
+impl<Kind: TagKind> HasClass<2> for Kind {
+    ghost is_class = { lit< tt };
+}
+
+impl<Kind: TagKind> HasClass<3> for Kind {
+    ghost is_class = { lit< tt };
+}
 
 /// A value under a tag of this class and number.
 ///

@@ -1,0 +1,88 @@
+//! Sets of small numbers, with the theorems in words of sets.
+ghost use Rattle.std.specs.Prelude.{◌≡◌, ◌↔◌, List, map, pos, IfOk, IsTrue, MatchResult};
+ghost use Rattle.x690.specs.Collections.{multiset, value_set};
+ghost use Rattle.x690.specs.Identifiers.{IsCutIdentifier};
+ghost use Rattle.asn1_headers.specs.Answers.{seen, Exactly};
+ghost use Rattle.asn1_headers.specs.Writer.{IsMemoryOrLength};
+ghost use Rattle.asn1_rs.specs.Set.{items_of, set_of};
+ghost use Rattle.asn1_rs_uses.specs.Messages.{WantsMemory};
+ghost use Rattle.asn1_rs_uses.specs.Sets.{CountedNumbers, DistinctNumbers, DistinctSigned, set_octets, signed_set_octets};
+
+use asn1_rs::{
+    AlwaysDer, Error, ParseResult, SerializeResult, SetOf, members_in_hand, read_der, strict_vec,
+    words_and_values_are_unique,
+};
+use std::alloc::Global;
+use std::collections::{BTreeSet, HashSet};
+
+/// The numbers of the set at the front of the octets, by DER, each as often as it stands there, and what follows it.
+pub fn read_counted(alloc: Global, octets: &[u8]) -> ParseResult<'_, SetOf<u8>, Error>
+    ensures { Exactly IsCutIdentifier CountedNumbers (λ set. multiset (map pos (items_of set)))
+        WantsMemory octets.now (seen result) }
+{
+    read_der::<SetOf<u8>, Error>(alloc, octets)
+}
+
+/// The set of the numbers, by DER: in ascending order of their encodings, whatever order they stand in.
+pub fn write_counted(alloc: Global, numbers: &SetOf<u8>) -> SerializeResult<Vec<u8>>
+    ensures { MatchResult result (λ octets. octets.items ≡ set_octets (items_of numbers.now))
+        (IsMemoryOrLength (set_octets (items_of numbers.now))) }
+{
+    numbers.is_der();
+    strict_vec(alloc, numbers)
+}
+
+/// Whether two sets have the same numbers, each as often, told by their encodings.
+pub fn are_same_counted(alloc: Global, one: &SetOf<u8>, other: &SetOf<u8>) -> SerializeResult<bool>
+    ensures { IfOk result (λ same. IsTrue same ↔
+        (multiset (map pos (items_of one.now)) ≡ multiset (map pos (items_of other.now)))) }
+{
+    one.is_der();
+    other.is_der();
+    words_and_values_are_unique::<SetOf<u8>>();
+    let first = strict_vec(alloc, one)?;
+    let second = strict_vec(alloc, other)?;
+    Ok(first.as_slice() == second.as_slice())
+}
+
+/// The set of distinct numbers at the front of the octets, by DER, and what follows it.
+pub fn read_distinct(alloc: Global, octets: &[u8]) -> ParseResult<'_, BTreeSet<u8>, Error>
+    ensures { Exactly IsCutIdentifier DistinctNumbers (λ set. set_of (map pos set.keys))
+        WantsMemory octets.now (seen result) }
+{
+    let answer = read_der::<BTreeSet<u8>, Error>(alloc, octets);
+    if let Ok((_, set)) = &answer {
+        members_in_hand(set);
+    }
+    answer
+}
+
+/// The set of distinct numbers, by DER.
+pub fn write_distinct(alloc: Global, members: &BTreeSet<u8>) -> SerializeResult<Vec<u8>>
+    ensures { MatchResult result (λ octets. octets.items ≡ set_octets members.now.keys)
+        (IsMemoryOrLength (set_octets members.now.keys)) }
+{
+    members.is_der();
+    strict_vec(alloc, members)
+}
+
+/// The set of distinct signed numbers at the front of the octets, by DER, and what follows it.
+pub fn read_signed(alloc: Global, octets: &[u8]) -> ParseResult<'_, HashSet<i8>, Error>
+    ensures { Exactly IsCutIdentifier DistinctSigned (λ set. set_of set.keys)
+        WantsMemory octets.now (seen result) }
+{
+    let answer = read_der::<HashSet<i8>, Error>(alloc, octets);
+    if let Ok((_, set)) = &answer {
+        members_in_hand(set);
+    }
+    answer
+}
+
+/// The set of distinct signed numbers, by DER: the octets follow from the members alone, whatever order they are kept in.
+pub fn write_signed(alloc: Global, signed: &HashSet<i8>) -> SerializeResult<Vec<u8>>
+    ensures { MatchResult result (λ octets. octets.items ≡ signed_set_octets signed.now.keys)
+        (IsMemoryOrLength (signed_set_octets signed.now.keys)) }
+{
+    signed.is_der();
+    strict_vec(alloc, signed)
+}
