@@ -1,5 +1,7 @@
 -- Refusals.
-use Rattle.std.specs.Prelude.{◌≡◌, ℕ, if◌then◌else◌, nat_eq, Bool, true, false, Result, Ok, Err}
+use Rattle.std.specs.Prelude.{◌≡◌, ℕ, List, if◌then◌else◌, nat_eq, Bool, true, false, Result, Ok, Err}
+use Rattle.asn1_headers.specs.Message.{message_text}
+use Rattle.asn1_headers.specs.declared.tag.Tag.{Tag}
 use Rattle.asn1_headers.specs.declared.error.Err.{Err as Refusal}
 use Rattle.asn1_headers.specs.declared.error.Err.TheVariants.{Incomplete as cut, Error as refused, Failure as failed}
 use Rattle.asn1_headers.specs.declared.error.Needed.{Needed}
@@ -29,6 +31,11 @@ abbrev pub IsCut : {E : Type 0} → Refusal E → Type 0
 IsCut (cut n) = Unit {0}
 IsCut (refused e) = ⊥
 IsCut (failed e) = ⊥
+
+-- the refusal `InvalidValue` of this tag, with this text
+abbrev pub IsInvalidValue : Tag → List ℕ → Error → Type 0
+IsInvalidValue tag text (errors.InvalidValue t msg) = (t ≡ tag) × (message_text msg ≡ text)
+IsInvalidValue tag text _ = ⊥
 
 -- the error that is held, or that octets are missing
 abbrev pub FlattenedTo : {E F : Type 0} → (E → F → Type 0) → (Error → F → Type 0) → Refusal E → F → Type 0

@@ -1,2 +1,3 @@
 -- Laws of what is read and written.
+pub mod Message
 pub mod Writing

@@ -1,4 +1,5 @@
 pub mod Error
+pub mod Message
 pub mod Class
 pub mod Tag
 pub mod Length

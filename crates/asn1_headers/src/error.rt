@@ -7,10 +7,10 @@ ghost use Rattle.asn1_headers.specs.declared.error.SerializeError.TheVariants as
 ghost use Rattle.asn1_headers.specs.Writer.{MayRefuse};
 
 use crate::class::Class;
+use crate::message::Message;
 use crate::tag::Tag;
 use crate::texts::{TagName, write_classes, write_tags};
-use std::alloc::{AllocError, AllocFailed, Global};
-use std::borrow::CowStr;
+use std::alloc::{AllocError, AllocFailed};
 use std::io;
 
 /// How many octets are missing.
@@ -155,7 +155,7 @@ pub enum Error {
     #[error("invalid value of tag {name}: {msg}", name = TagName(*.tag))]
     InvalidValue {
         tag: Tag,
-        msg: CowStr<'static, Global>,
+        msg: Message,
     },
     /// Identifier octets in high form that are cut, too long or too great.
     #[error("invalid tag")]
@@ -218,8 +218,8 @@ pub enum Error {
 
 impl Error {
     /// The refusal `InvalidValue` of these parts.
-    pub fn invalid_value(tag: Tag, msg: CowStr<'static, Global>) -> Error
-        ensures { result ≡ Error.InvalidValue tag msg.entry }
+    pub fn invalid_value(tag: Tag, msg: Message) -> Error
+        ensures { result ≡ Error.InvalidValue tag msg }
     {
         Error::InvalidValue { tag, msg }
     }

@@ -9,6 +9,7 @@ pub mod der;
 pub mod error;
 pub mod header;
 pub mod length;
+pub mod message;
 pub mod tag;
 mod texts;
 pub mod walk;

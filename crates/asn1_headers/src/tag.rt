@@ -1,11 +1,11 @@
 //! Tag numbers (X.690 8.1.2, X.680 8.6).
-ghost use Rattle.std.specs.Prelude.{◌≡◌, ◌≢◌, Some, IfSome, IfNone, MatchResult, []};
+ghost use Rattle.std.specs.Prelude.{◌≡◌, ◌≢◌, ◌≤◌, length, Some, IfSome, IfNone, MatchResult, []};
+ghost use Rattle.asn1_headers.specs.Error.{IsInvalidValue};
 ghost use Rattle.asn1_headers.specs.Tag.{name_of, tag_text, is_container};
 ghost use Rattle.asn1_headers.specs.declared.error.Error.TheVariants as errors;
-ghost use Rattle.std.specs.declared.borrow.CowStr.TheVariants.{Borrowed};
 
 use crate::error::Error;
-use std::borrow::CowStr;
+use crate::message::Message;
 use std::fmt;
 
 /// A tag number.
@@ -114,11 +114,14 @@ impl Tag {
         }
     }
 
-    /// The refusal `InvalidValue` of this tag, with a text borrowed for `'static`.
-    pub fn invalid_value(&self, msg: &'static str) -> Error
-        ensures { result ≡ errors.InvalidValue self.now (Borrowed msg.entry) }
+    /// The refusal `InvalidValue` of this tag, with a short text. This takes no memory.
+    ///
+    /// One with a longer text is made by `Error::invalid_value`.
+    pub fn invalid_value(&self, msg: &str) -> Error
+        requires { length msg.now ≤ Message.CAPACITY }
+        ensures { IsInvalidValue self.now msg.now result }
     {
-        Error::invalid_value(*self, CowStr::Borrowed(msg))
+        Error::invalid_value(*self, Message::short(msg))
     }
 
     /// Whether it is the tag of sequence or of set.

@@ -5,7 +5,6 @@ use asn1_headers::error::{DerConstraint, Err, Error, Needed, SerializeError, fro
 use asn1_headers::length::Length;
 use asn1_headers::tag::Tag;
 use std::alloc::{AllocError, Global};
-use std::borrow::CowStr;
 use std::fmt::{Display, Write};
 use std::io;
 use std::io::ErrorKind;
@@ -245,7 +244,7 @@ fn errors_are_made(rt: HostRuntime) -> Result<(), Fail> {
     let errors = (
         Error::unexpected_tag(None, Tag(4)),
         Error::unexpected_class(None, Class::Application),
-        Error::invalid_value(Tag(0), CowStr::Borrowed("message")),
+        Error::invalid_value(Tag(0), Message::short("message")),
         Tag(0).invalid_value("no"),
     );
     assert_shown(

@@ -30,6 +30,7 @@ pub use asn1_headers::error::SerializeResult;
 pub use asn1_headers::error::from_nom_error;
 pub use asn1_headers::header::Header;
 pub use asn1_headers::length::Length;
+pub use asn1_headers::message::Message;
 pub use asn1_headers::tag::Tag;
 pub use asn1_headers::tag::universal_types_are_numbered;
 pub use asn1_headers::writer::DerWrite;

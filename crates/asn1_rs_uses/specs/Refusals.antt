@@ -1,7 +1,6 @@
 -- Values that are not written: of no class, or empty.
 use Rattle.std.specs.Prelude.{◌≡◌, ◌⊎◌, ◌≤◌, ℕ, true, false, List, [], ◌∷◌, ◌++◌, length, codes}
 use Rattle.std.specs.List.{Any, flat_map}
-use Rattle.std.specs.Cow.{cow_str_bytes}
 use Rattle.x690.specs.Strict.{header_octets}
 use Rattle.asn1_rs_uses.specs.declared.refusals.InClass.{InClass}
 use Rattle.asn1_rs_uses.specs.declared.refusals.NamePart.{NamePart}
@@ -16,8 +15,7 @@ NamesNoClass class e = (4 ≤ class) × (e ≡ serialize_errors.InvalidClass cla
 
 -- the refusal of an empty part, with its tag number and its text
 abbrev pub TellsOfEmptyPart : Error → Type 0
-TellsOfEmptyPart (errors.InvalidValue tag msg) = (tag ≡ record { 0 = 12 }) × (cow_str_bytes msg ≡ codes "empty part")
-TellsOfEmptyPart _ = ⊥
+TellsOfEmptyPart = IsInvalidValue (record { 0 = 12 }) (codes "empty part")
 
 -- a part has no octets, and the refusal tells of that
 abbrev pub IsEmptyPart : List ℕ → Error → Type 0

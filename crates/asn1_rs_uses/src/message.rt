@@ -6,7 +6,6 @@ ghost use Rattle.asn1_rs_uses.specs.Messages.{BeginsWithMessage, IsMessage, mess
 
 use asn1_rs::{Any, Err, Error, ParseResult, SerializeResult, Tag, ToDer, Told, read_der};
 use std::alloc::Global;
-use std::borrow::CowStr;
 
 /// A message. The name of its community is borrowed from the octets that it was read from.
 #[derive(Debug, Drop)]
@@ -39,7 +38,7 @@ impl<'a> Message<'a> {
         let (content, community) = read_der::<Any<'a>, Error>(alloc, content)?;
         let (content, numbers) = read_der::<Vec<u32>, Error>(alloc, content)?;
         if !content.is_empty() {
-            return Err(Error::invalid_value(Tag::Sequence, CowStr::Borrowed("octets left over")));
+            return Err(Tag::Sequence.invalid_value("octets left over"));
         }
         Ok(Message {
             version,

@@ -16,7 +16,6 @@ use asn1_rs::{
     Tag, ToDer, put_all,
 };
 use std::alloc::Global;
-use std::borrow::CowStr;
 use std::collections::BTreeSet;
 
 /// An element of one octet, with tag number 0, under a class that is told by its number.
@@ -176,7 +175,7 @@ impl<'a> NamePart<'a> {
             (IsEmptyPart self.now.0.now) }
     {
         if self.0.is_empty() {
-            return Err(Error::invalid_value(Tag::Utf8String, CowStr::Borrowed("empty part")));
+            return Err(Tag::Utf8String.invalid_value("empty part"));
         }
         Ok(Any::from_tag_and_data(Tag::Utf8String, self.0))
     }

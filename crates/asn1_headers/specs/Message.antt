@@ -1,0 +1,13 @@
+-- Texts of refusals.
+use Rattle.std.specs.Prelude.{ℕ, List, take, string_bytes}
+use Rattle.asn1_headers.specs.declared.message.Held.{Held}
+use Rattle.asn1_headers.specs.declared.message.Held.TheVariants.{Inline, Owned}
+use Rattle.asn1_headers.specs.declared.message.Message.{Message}
+
+abbrev pub text_held : Held → List ℕ
+text_held (Inline text) = take text.len text.octets
+text_held (Owned text) = string_bytes text
+
+-- what a message says, in UTF-8
+abbrev pub message_text : Message → List ℕ
+message_text message = text_held message.held
