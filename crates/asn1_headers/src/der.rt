@@ -25,7 +25,7 @@ fn content_by_der(bytes: &[u8], form: Length) -> ParseResult<'_, &[u8], Error>
     }
 }
 
-/// The header of the element at the front, its contents octets, and the rest, by DER. It does not allocate.
+/// The header of the element at the front, its contents octets, and the rest, by DER. Out of memory is never answered.
 #[inline(always)]
 pub fn element_by_der(bytes: &[u8]) -> ParseResult<'_, (Header<'_>, &[u8]), Error>
     ensures { HeaderAndContentsGive IsDerElement DerElementFault der_refusal bytes.now (seen result) }

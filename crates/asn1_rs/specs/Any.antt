@@ -3,6 +3,7 @@ pub mod Value
 pub mod Writing
 use Rattle.std.specs.Prelude.{◌≡◌, ◌≢◌, ◌⊎◌, ℕ, List, ◌++◌, length, Some, Result, Ok, Err}
 use Rattle.std.specs.Borrow.{Bor}
+use Rattle.std.specs.Fn.{Once, FnOnceTakesAt}
 use Rattle.x690.specs.Lengths.{definite, indefinite}
 use Rattle.x690.specs.Elements.{Parts, IsDerElement}
 use Rattle.x690.specs.Faults.{Fault, DerElementFault}
@@ -53,6 +54,18 @@ HandsOn {T} {E} class tag from reads p rest (Err r) =
     ((p.id.number ≢ tag.0) × ((e : E) × from (UnexpectedTag (Some tag) (record { 0 = p.id.number })) e × (r ≡ refused e))) ⊎
     ((p.id.number ≡ tag.0) × (actual ≢ class) × ((e : E) × from (UnexpectedClass (Some class) actual) e × (r ≡ refused e))) ⊎
     ((p.id.number ≡ tag.0) × (actual ≡ class) × reads p.content (Err r)))
+
+-- this holds of the contents octets of the element that begins the input, where the element is such
+abbrev pub TakesContent : (List ℕ → Parts → Type 0) → (Parts → Type 0) → (List ℕ → Type 0) → List ℕ → Type 0
+TakesContent ElementOf IsSuch Takes input = (p : Parts) (rest : List ℕ) → Front ElementOf input p rest → IsSuch p → Takes p.content
+
+-- its tag number and its class are these
+abbrev pub HasClassAndTag : Class → Tag → Parts → Type 0
+HasClassAndTag class tag p = (p.id.number ≡ tag.0) × (p.id.class ≡ class_number class)
+
+-- a closure that is called once may be called at them, where tag number and class are these
+abbrev pub TakesTagged : {F R : Type 0} → (List ℕ → Parts → Type 0) → Class → Tag → Once F (Bor (List ℕ) × Unit {0}) R → F → List ℕ → Type 0
+TakesTagged ElementOf class tag g f = TakesContent ElementOf (HasClassAndTag class tag) (FnOnceTakesAt g f)
 
 -- what reading an element and then that may answer: a refusal is that of the element's first fault, or that of what follows
 abbrev pub AndThenGives : {T E : Type 0} → (List ℕ → Parts → Type 0) → (List ℕ → Fault → Type 0) → (Fault → Refusal Error) → Class → Tag → (Error → E → Type 0) → (List ℕ → Result (Bor (List ℕ) × T) (Refusal E) → Type 0) → List ℕ → Result (List ℕ × T) (Refusal E) → Type 0

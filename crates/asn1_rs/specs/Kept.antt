@@ -1,7 +1,8 @@
 -- Sequences and sets that are kept as their contents octets, and what their calls answer.
-use Rattle.std.specs.Prelude.{◌≡◌, ◌⊎◌, ℕ, false, List, [], ◌∷◌, length, Result, Ok, Err, IfOk, Option, ◌++◌}
+use Rattle.std.specs.Prelude.{◌≡◌, ◌⊎◌, ℕ, false, List, [], ◌∷◌, length, Result, Ok, Err, Option, ◌++◌}
 use Rattle.std.specs.Borrow.{Bor}
-use Rattle.std.specs.Cow.{cow_slice_items, IsBorrowedSlice}
+use Rattle.std.specs.Cow.{cow_slice_items}
+use Rattle.std.specs.Fn.{Once, FnOnceTakesAt}
 use Rattle.std.specs.Iterator.{Yields, Drains}
 use Rattle.std.specs.List.{All, AllZip, flat_map}
 use Rattle.std.specs.declared.alloc.Global.{Global}
@@ -11,7 +12,6 @@ use Rattle.x690.specs.Elements.{Parts}
 use Rattle.x690.specs.Faults.{Fault}
 use Rattle.asn1_rs.specs.declared.asn1_types.kept.sequence.Sequence.{Sequence}
 use Rattle.asn1_rs.specs.declared.asn1_types.kept.set.Set.{Set}
-use Rattle.asn1_rs.specs.declared.asn1_types.any.Any.{Any}
 use Rattle.asn1_headers.specs.declared.error.Error.{Error}
 use Rattle.asn1_headers.specs.declared.error.SerializeError.{SerializeError}
 use Rattle.asn1_headers.specs.declared.error.Err.{Err as Refusal}
@@ -19,8 +19,8 @@ use Rattle.asn1_headers.specs.declared.error.Err.TheVariants.{Error as refused}
 use Rattle.asn1_headers.specs.Answers.{Front}
 use Rattle.asn1_rs.specs.Checks.{nothing, is_constructed}
 use Rattle.asn1_headers.specs.Error.{Converted, tells_of_io}
-use Rattle.asn1_rs.specs.Any.{parts_of}
-use Rattle.asn1_rs.specs.Leaf.{Leaf, LeafGives}
+use Rattle.asn1_rs.specs.Any.{TakesContent}
+use Rattle.asn1_rs.specs.Leaf.{Leaf}
 use Rattle.asn1_rs.specs.Lists.{IsListOr, ItemsGive}
 use Rattle.asn1_rs.specs.OctetString.{contents_leaf}
 use Rattle.asn1_rs.specs.ToDer.{HasNone, VectorRefuses}
@@ -49,9 +49,9 @@ sequence_leaf = kept_leaf sequence_number sequence_octets
 abbrev pub set_leaf : Leaf Set
 set_leaf = kept_leaf set_number set_octets
 
--- what the conversion of an element may answer: what holds its contents octets borrowed, or the refusal of the first check
-abbrev pub LendsContent : {S : Type 0} → Leaf S → (S → CowSlice ℕ Global) → Any → Result S Error → Type 0
-LendsContent L content any answer = LeafGives L (parts_of any) answer × IfOk answer (λ x. IsBorrowedSlice (content x))
+-- a closure that is called once may be called at the octets, where they are borrowed
+abbrev pub TakesLent : {F R : Type 0} → Once F (Bor (List ℕ) × Unit {0}) R → F → CowSlice ℕ Global → Type 0
+TakesLent g f content = (octets : Bor (List ℕ)) → content ≡ held.Borrowed octets → g.pre f (octets, tt)
 
 -- borrowed octets are handed on; owned ones, from which nothing could be lent that outlives them, are refused
 abbrev pub OnLent : {R : Type 0} → (List ℕ → R → Type 0) → (R → Type 0) → CowSlice ℕ Global → R → Type 0
@@ -72,6 +72,10 @@ HandsListOn number from reads p rest (Ok x) = IsListOr number p (Ok tt) × (x.0 
 HandsListOn {T} {E} number from reads p rest (Err r) =
     ((refusal : Error) × IsListOr number p (Err refusal) × ((e : E) × from refusal e × (r ≡ refused e))) ⊎
     (IsListOr number p (Ok tt) × reads p.content (Err r))
+
+-- it may be called at the contents octets of the element that begins the input, where that is a list with this tag number
+abbrev pub TakesList : {F R : Type 0} → (List ℕ → Parts → Type 0) → ℕ → Once F (Bor (List ℕ) × Unit {0}) R → F → List ℕ → Type 0
+TakesList ElementOf number g f = TakesContent ElementOf (λ p. IsListOr number p (Ok tt)) (FnOnceTakesAt g f)
 
 -- what reading an element and then that may answer: a refusal is that of the element's first fault, or that of what follows
 abbrev pub ListThenGives : {T E : Type 0} → (List ℕ → Parts → Type 0) → (List ℕ → Fault → Type 0) → (Fault → Refusal Error) → ℕ → (Error → E → Type 0) → (List ℕ → Result (Bor (List ℕ) × T) (Refusal E) → Type 0) → List ℕ → Result (List ℕ × T) (Refusal E) → Type 0

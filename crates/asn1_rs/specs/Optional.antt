@@ -48,6 +48,15 @@ abbrev pub ReadsHeldBack : {T V E : Type 0} → (List ℕ → Result (List ℕ �
 ReadsHeldBack {T} {V} {E} reads Form value memory = (octets : List ℕ) (answer : Result (List ℕ × Option T) (Refusal E)) (v : V) (word rest : List ℕ) → IsOctets octets → reads octets answer →
     IsStrict Form v word → octets ≡ word ++ rest → ReadsBack (option_map value) memory (Some v) rest answer
 
+-- Before a strict encoding a reader of optional values answers None, with all octets as the rest.
+abbrev pub ReadsNoneBefore : {T V E : Type 0} → (List ℕ → Result (List ℕ × Option T) (Refusal E) → Type 0) → (V → Identifier → List ℕ → Type 0) → Type 0
+ReadsNoneBefore {T} {V} {E} reads Form = (octets : List ℕ) (answer : Result (List ℕ × Option T) (Refusal E)) (v : V) (word rest : List ℕ) → reads octets answer →
+    IsStrict Form v word → octets ≡ word ++ rest → answer ≡ Ok (octets, None)
+
+-- and so where there are no octets
+abbrev pub ReadsNoneAtEnd : {T E : Type 0} → (List ℕ → Result (List ℕ × Option T) (Refusal E) → Type 0) → Type 0
+ReadsNoneAtEnd {T} {E} reads = (answer : Result (List ℕ × Option T) (Refusal E)) → reads [] answer → answer ≡ Ok ([], None)
+
 -- the error tells of another tag number than the one that was expected
 abbrev pub is_of_another_tag : Error → Bool
 is_of_another_tag (errors.UnexpectedTag expected actual) = true

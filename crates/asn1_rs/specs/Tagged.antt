@@ -23,6 +23,7 @@ use Rattle.asn1_rs.specs.Any.{BeginsWithElement}
 use Rattle.asn1_headers.specs.Ber.{max_depth}
 use Rattle.asn1_headers.specs.Error.{Converted}
 use Rattle.asn1_headers.specs.Class.{class_number}
+use Rattle.asn1_headers.specs.Header.{tag_of}
 use Rattle.asn1_rs.specs.Checks.{CheckGives}
 use Rattle.asn1_headers.specs.Header.Reading.{der_refusal, ber_refusal}
 
@@ -55,6 +56,14 @@ IsOtherClass {E} from class actual r = (actual ≢ class) × ((e : E) × from (U
 -- a closure that is called once may give r at the header and at a reference to the octets
 abbrev pub ReturnsOfHeader : {F R : Type 0} → Once F (Header × (Bor (List ℕ) × Unit {0})) R → F → Header → List ℕ → R → Type 0
 ReturnsOfHeader g f header octets r = (p : Bor (List ℕ)) × g.post f (header, (p, tt)) r × (p.now ≡ octets)
+
+-- and it may be called at these
+abbrev pub TakesOfHeader : {F R : Type 0} → Once F (Header × (Bor (List ℕ) × Unit {0})) R → F → Header → List ℕ → Type 0
+TakesOfHeader g f header octets = (p : Bor (List ℕ)) → p.now ≡ octets → g.pre f (header, (p, tt))
+
+-- this holds of the element that begins the input, where it has this tag number
+abbrev pub HoldsOfNumber : (List ℕ → Parts → Type 0) → Tag → (Any → Type 0) → List ℕ → Type 0
+HoldsOfNumber ElementOf tag Holds input = (any : Any) (rest : List ℕ) → BeginsWithElement ElementOf input any rest → tag_of any.header ≡ tag → Holds any
 
 -- the number of a tag, as a `u32` holds it: a parameter of this type is it
 abbrev pub number_of : ℕ → ℕ

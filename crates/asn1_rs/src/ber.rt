@@ -14,7 +14,7 @@ use asn1_headers::error::{Error, ParseResult};
 /// How deep elements may nest by BER (X.690 8.1.3.6, 8.1.5): 49 of indefinite length at most, one in the other.
 pub const MAX_RECURSION: usize = 50;
 
-/// The element at the front, by BER. It does not allocate.
+/// The element at the front, by BER. Out of memory is never answered.
 #[inline(always)]
 pub(crate) fn element_by_ber(bytes: &[u8]) -> ParseResult<'_, Any<'_>, Error>
     ensures { AnyGives (IsElement max_depth) (ElementFault max_depth) ber_refusal bytes.now

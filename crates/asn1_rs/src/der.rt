@@ -9,7 +9,7 @@ use crate::asn1_types::any::Any;
 use asn1_headers::der;
 use asn1_headers::error::{Error, ParseResult};
 
-/// The element at the front, by DER. It does not allocate.
+/// The element at the front, by DER. Out of memory is never answered.
 #[inline(always)]
 pub(crate) fn element_by_der(bytes: &[u8]) -> ParseResult<'_, Any<'_>, Error>
     ensures { AnyGives IsDerElement DerElementFault der_refusal bytes.now (seen result) }

@@ -98,7 +98,7 @@ pub trait CheckDerConstraints {
     /// What the check may answer at an element of these parts. Left out, nothing is claimed of it.
     ghost check_gives: { Parts → Result (Unit {0}) Error → Type 0 } = { λ _ _. Unit {0} };
 
-    /// Refuses an element that breaks a constraint. It does not allocate.
+    /// Refuses an element that breaks a constraint. Where the type has laws, out of memory is never answered.
     fn check_constraints(any: &Any<'_>) -> Result<(), Error>
         ensures { check_gives (parts_of any.now) result };
 }

@@ -3,9 +3,11 @@
 use asn1_rs::{
     Any, BerParser, DerParser, Error, answers_last, any_is_the_element, beginnings_are_incomplete,
     beginnings_are_refused, classes_are_numbered, counts_are_of_the_strict_encoding,
-    indefinite_contents_are_walked, integers_have_one_refusal, one_refusal, options_are_read_back,
-    reader_is_exact_by_ber, reader_is_exact_by_der, strict_fronts_are_written_again,
-    universal_types_are_numbered, walks_end, walks_take_words, words_and_values_are_unique,
+    indefinite_contents_are_walked, integers_have_one_refusal, one_refusal,
+    options_are_left_out_by_ber, options_are_left_out_by_der, options_are_read_back_by_ber,
+    options_are_read_back_by_der, reader_is_exact_by_ber, reader_is_exact_by_der,
+    strict_fronts_are_written_again, universal_types_are_numbered, walks_end, walks_take_words,
+    words_and_values_are_unique,
 };
 
 #[test]
@@ -13,7 +15,10 @@ fn laws_of_each_type_are_called() {
     reader_is_exact_by_ber::<i16, Error>();
     reader_is_exact_by_der::<i16, Error>();
     words_and_values_are_unique::<i16>();
-    options_are_read_back::<i16, Error>();
+    options_are_read_back_by_ber::<i16, Error>();
+    options_are_read_back_by_der::<i16, Error>();
+    options_are_left_out_by_ber::<i16, bool, Error>();
+    options_are_left_out_by_der::<i16, bool, Error>();
     counts_are_of_the_strict_encoding::<i16>();
     strict_fronts_are_written_again::<i16>();
     walks_end::<Any<'_>, BerParser, Error>();

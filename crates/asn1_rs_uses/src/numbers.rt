@@ -52,7 +52,9 @@ pub fn write_number(alloc: Global, x: u64) -> SerializeResult<Vec<u8>>
 
 /// Whether the octets that a number was read from are its strict encoding.
 pub fn is_strict_front(alloc: Global, x: u64, front: &[u8]) -> SerializeResult<bool>
-    ensures { (id : Identifier) (content : List ℕ) → IntegerForm (IsUnsigned 8) (pos x) id content
+    ensures strict { IfOk result (λ strict. IsTrue strict ↔ ∥ IsStrictNumber x front.now ∥₁) }
+    ensures of_parts { (id : Identifier) (content : List ℕ)
+        → IntegerForm (IsUnsigned 8) (pos x) id content
         → IfOk result (λ strict. IsTrue strict ↔ IsStrictNumber x front.now) }
 {
     strict_fronts_are_written_again::<u64>();

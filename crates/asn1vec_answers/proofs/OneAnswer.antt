@@ -18,10 +18,10 @@ use Rattle.asn1_rs.specs.BitString.{bit_string_leaf}
 use Rattle.asn1_rs.specs.Boolean.{bool_leaf}
 use Rattle.asn1_rs.specs.EndOfContent.{end_leaf}
 use Rattle.asn1_rs.specs.Enumerated.{enumerated_leaf}
-use Rattle.asn1_rs.specs.Integer.Octets.{any_integer_leaf}
-use Rattle.asn1_rs.specs.Leaf.{Leaf, IsLawfulLeaf, LeafBody, LeafGives}
+use Rattle.asn1_rs.specs.Integer.Octets.{any_integer_leaf, octets_held}
+use Rattle.asn1_rs.specs.Leaf.{Leaf, IsLawfulLeaf, LeafBody, LeafGives, LendsContent}
 use Rattle.asn1_rs.specs.Null.{null_leaf}
-use Rattle.asn1_rs.specs.OctetString.{octet_string_leaf}
+use Rattle.asn1_rs.specs.OctetString.{octet_string_leaf, cow_of}
 use Rattle.asn1_rs.specs.Laws.BitString.{bit_string_lawful}
 use Rattle.asn1_rs.specs.Laws.Boolean.{bool_lawful}
 use Rattle.asn1_rs.specs.Laws.EndOfContent.{end_lawful}
@@ -47,7 +47,7 @@ use Rattle.asn1vec_answers.proofs.OneReading.{HasOneAnswer, ShownAlike, answers_
 use Rattle.asn1vec_answers.proofs.OneItem.{alone_once, collection_once, hashed_signed_once, leaf_item_once, ordered_unsigned_once, sequence_of_once, unordered_set_once, unsigned_once, vector_once}
 use Rattle.asn1vec_answers.proofs.OneRefusal.{IsOneRefusalBut, one_of_parts}
 use Rattle.asn1vec_answers.proofs.OneTag.{explicit_once, implicit_vector_once}
-use Rattle.asn1_rs.specs.Kept.{LendsContent, sequence_leaf, set_leaf}
+use Rattle.asn1_rs.specs.Kept.{sequence_leaf, set_leaf}
 use Rattle.asn1_rs.specs.Laws.Kept.{sequence_lawful, set_lawful}
 use Rattle.std.specs.declared.alloc.Global.{Global}
 use Rattle.std.specs.declared.borrow.CowSlice.{CowSlice}
@@ -113,9 +113,9 @@ type_once Any = elements_once
 type_once Bool = leaf_once bool_leaf truth_text bool_lawful
 type_once Null = leaf_once null_leaf (λ v. codes "null") null_lawful
 type_once Enumerated = leaf_once enumerated_leaf decimal enumerated_lawful
-type_once Integer = leaf_once any_integer_leaf in_hexadecimal any_integer_lawful
-type_once Octets = leaf_once octet_string_leaf in_hexadecimal octet_string_lawful
-type_once Bits = leaf_once bit_string_leaf bits_text bit_string_lawful
+type_once Integer = lent_once any_integer_leaf octets_held in_hexadecimal any_integer_lawful
+type_once Octets = lent_once octet_string_leaf cow_of in_hexadecimal octet_string_lawful
+type_once Bits = lent_once bit_string_leaf (λ x. x.content) bits_text bit_string_lawful
 type_once Eoc = ends_once
 type_once VecU8 = collection_once _ (vector_once _ (unsigned_once 1))
 type_once VecU32 = collection_once _ (vector_once _ (unsigned_once 4))

@@ -17,18 +17,18 @@ use Rattle.asn1_rs.specs.BitString.{bit_string_leaf}
 use Rattle.asn1_rs.specs.Boolean.{bool_leaf}
 use Rattle.asn1_rs.specs.EndOfContent.{end_leaf}
 use Rattle.asn1_rs.specs.Enumerated.{enumerated_leaf}
-use Rattle.asn1_rs.specs.Integer.Octets.{any_integer_leaf}
-use Rattle.asn1_rs.specs.Leaf.{Leaf, LeafBody, LeafGives, leaf_element}
+use Rattle.asn1_rs.specs.Integer.Octets.{any_integer_leaf, octets_held}
+use Rattle.asn1_rs.specs.Leaf.{Leaf, LeafBody, LeafGives, LendsContent, leaf_element}
 use Rattle.asn1_rs.specs.declared.asn1_types.set.set_of.SetOf.{SetOf}
 use Rattle.asn1_rs.specs.Set.{HasItems, is_below, is_other, items_of, member_grammar, multiset_grammar}
 use Rattle.asn1_rs.specs.Null.{null_leaf}
-use Rattle.asn1_rs.specs.OctetString.{octet_string_leaf}
+use Rattle.asn1_rs.specs.OctetString.{octet_string_leaf, cow_of}
 use Rattle.asn1_rs.specs.declared.asn1_types.tagged.Explicit.{Explicit}
 use Rattle.asn1_rs.specs.declared.asn1_types.tagged.Implicit.{Implicit}
 use Rattle.asn1_rs.specs.declared.asn1_types.tagged.TaggedValue.{TaggedValue}
 use Rattle.asn1_rs.specs.Tagged.Explicit.{ExplicitGives, ExplicitTakes, explicit_grammar}
 use Rattle.asn1_rs.specs.Tagged.Implicit.{ImplicitTakes, implicit_grammar}
-use Rattle.asn1_rs.specs.Kept.{LendsContent, sequence_leaf, set_leaf}
+use Rattle.asn1_rs.specs.Kept.{sequence_leaf, set_leaf}
 use Rattle.asn1_rs.specs.declared.asn1_types.sequence.sequence_of.SequenceOf.{SequenceOf}
 use Rattle.asn1_rs.specs.Sequence.SequenceOf.{IsSequenceOf, sequence_items}
 use Rattle.std.specs.declared.borrow.CowSlice.{CowSlice}
@@ -291,9 +291,9 @@ meaning_of Any = elements
 meaning_of Bool = leaf bool_leaf truth_text
 meaning_of Null = leaf null_leaf (λ v. codes "null")
 meaning_of Enumerated = leaf enumerated_leaf decimal
-meaning_of Integer = leaf any_integer_leaf in_hexadecimal
-meaning_of Octets = leaf octet_string_leaf in_hexadecimal
-meaning_of Bits = leaf bit_string_leaf bits_text
+meaning_of Integer = lent_leaf any_integer_leaf octets_held in_hexadecimal
+meaning_of Octets = lent_leaf octet_string_leaf cow_of in_hexadecimal
+meaning_of Bits = lent_leaf bit_string_leaf (λ x. x.content) bits_text
 meaning_of Eoc = ends
 meaning_of VecU8 = collection (vector (unsigned_item 1))
 meaning_of VecU32 = collection (vector (unsigned_item 4))

@@ -1,6 +1,8 @@
 -- Integers of any size, by their contents octets (X.690 8.3).
 use Rattle.std.specs.Prelude.{◌≡◌, ℕ, ℤ, List, Result, Ok, Err}
 use Rattle.std.specs.Cow.{cow_slice_items, IsBorrowedSlice}
+use Rattle.std.specs.declared.alloc.Global.{Global}
+use Rattle.std.specs.declared.borrow.CowSlice.{CowSlice}
 use Rattle.x690.specs.Octets.{IsOctets}
 use Rattle.x690.specs.Integers.{IsShortestInteger, IsIntegerContent}
 use Rattle.asn1_rs.specs.declared.asn1_types.integer.octets.Integer.{Integer}
@@ -9,6 +11,10 @@ use Rattle.asn1_headers.specs.declared.error.Error.TheVariants.{OutOfMemory}
 use Rattle.asn1_rs.specs.Checks.{nothing}
 use Rattle.asn1_rs.specs.Integer.{integer_number, IntegerCheckGives}
 use Rattle.asn1_rs.specs.Leaf.{Leaf}
+
+-- the contents octets, as they are held
+abbrev pub octets_held : Integer → CowSlice ℕ Global
+octets_held x = x.octets
 
 -- the contents octets, borrowed or owned
 abbrev pub integer_octets : Integer → List ℕ

@@ -5,12 +5,8 @@ use Rattle.std.specs.Cmp.Lexicographic.{pointwise, pointwise_decides}
 use Rattle.std.proofs.Common.{◌∙◌, refl, lit<}
 use Rattle.asn1_rs.specs.declared.asn1_types.kept.sequence.Sequence.{Sequence}
 use Rattle.asn1_rs.specs.Checks.{nothing, is_constructed}
-use Rattle.asn1_rs.specs.Kept.{kept_leaf, LendsContent, sequence_number, sequence_leaf, sequence_octets, set_number, set_leaf, set_octets}
-use Rattle.asn1_rs.specs.Kinds.{IsExactConversion}
-use Rattle.asn1_rs.specs.Leaf.{Leaf, IsLawfulLeaf, leaf_element}
-use Rattle.asn1_rs.specs.Laws.Leaf.{leaf_converts}
-use Rattle.std.specs.declared.alloc.Global.{Global}
-use Rattle.std.specs.declared.borrow.CowSlice.{CowSlice}
+use Rattle.asn1_rs.specs.Kept.{kept_leaf, sequence_number, sequence_leaf, sequence_octets, set_number, set_leaf, set_octets}
+use Rattle.asn1_rs.specs.Leaf.{IsLawfulLeaf}
 use Rattle.asn1_rs.specs.Laws.Checks.{nothing_is, is_constructed_is}
 use Rattle.asn1_rs.specs.Laws.OctetString.{contents_lawful}
 use Rattle.asn1_headers.specs.Tag.{is_container_number}
@@ -23,14 +19,6 @@ sequence_lawful = kept_lawful sequence_number sequence_octets (lit< tt) refl
 
 pub set_lawful : IsLawfulLeaf set_leaf
 set_lawful = kept_lawful set_number set_octets (lit< tt) refl
-
--- the conversion is exact, and what it answers lends its octets
-module _ {S : Type 0} (L : Leaf S) (l : IsLawfulLeaf L) (content : S → CowSlice ℕ Global) where
-  pub lent_converts : IsExactConversion (LendsContent L content) (leaf_element L)
-  lent_converts = let c = leaf_converts L l in record {
-    exact = λ any answer o g. c.exact any answer o g.0;
-    spares = λ none any g. c.spares none any g.0;
-  }
 
 -- sequences are equal where their contents octets are
 pub sequence_equal : (x y : Sequence) → IsTrue (pointwise nat_eq (sequence_octets x) (sequence_octets y)) ↔ (sequence_octets x ≡ sequence_octets y)

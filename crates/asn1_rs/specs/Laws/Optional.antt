@@ -23,7 +23,7 @@ use Rattle.asn1_rs.specs.Grammar.{FormNumber}
 use Rattle.asn1_headers.specs.Header.{identifier_of}
 use Rattle.asn1_headers.specs.Header.Reading.{HeaderGives, refusal_of}
 use Rattle.asn1_headers.specs.Length.{form_of}
-use Rattle.asn1_rs.specs.Optional.{IsLeftOut, OptionGives, ReadsHeldBack, in_some}
+use Rattle.asn1_rs.specs.Optional.{IsLeftOut, OptionGives, ReadsHeldBack, ReadsNoneBefore, ReadsNoneAtEnd, in_some}
 use Rattle.asn1_rs.specs.Laws.Words.{strict_element, read_back}
 
 -- no header is empty
@@ -76,6 +76,31 @@ strict_stays rule allows Form number numbered v octets w rest s e =
     let element = strict_element rule allows Form v w s in
     not_left_out rule octets element.header (s.content ++ rest) s.id (definite (length s.content)) number element.header_is
     (e ∙ ap (λ (ys : List ℕ). ys ++ rest) element.is ∙ append_assoc element.header s.content rest) (numbered v s.id s.content s.form)
+
+-- before a strict encoding of another tag number the value is left out
+strict_leaves_out : {V : Type 0} (rule : Rule) → AllowsStrict rule → (Form : V → Identifier → List ℕ → Type 0) (number other : ℕ) → FormNumber Form other → other ≢ number → (v : V) (octets w rest : List ℕ) → IsStrict Form v w → octets ≡ w ++ rest → IsLeftOut rule number octets
+strict_leaves_out rule allows Form number other numbered differ v octets w rest s e =
+    let element = strict_element rule allows Form v w s in
+    inr (record {
+      header = element.header;
+      rest = s.content ++ rest;
+      id = s.id;
+      form = definite (length s.content);
+      header_is = element.header_is;
+      is = e ∙ ap (λ (ys : List ℕ). ys ++ rest) element.is ∙ append_assoc element.header s.content rest;
+      other = λ same. differ (sym (numbered v s.id s.content s.form) ∙ same);
+    })
+
+-- where the value is left out, none is answered
+none_is_answered : {T E : Type 0} (LeftOut : List ℕ → Type 0) (reads : List ℕ → Result (List ℕ × T) (Refusal E) → Type 0) (octets : List ℕ) (answer : Result (List ℕ × Option T) (Refusal E)) → OptionGives LeftOut reads octets answer → LeftOut octets → answer ≡ Ok (octets, None)
+none_is_answered LeftOut reads octets answer (inl (out, e)) is = e
+none_is_answered LeftOut reads octets answer (inr (stays, its)) is = absurd (stays is)
+
+pub none_before_others : {T V E : Type 0} (rule : Rule) → AllowsStrict rule → (Form : V → Identifier → List ℕ → Type 0) (number other : ℕ) → FormNumber Form other → (reads : List ℕ → Result (List ℕ × T) (Refusal E) → Type 0) → other ≢ number → ReadsNoneBefore (OptionGives (IsLeftOut rule number) reads) Form
+none_before_others rule allows Form number other numbered reads differ octets answer v w rest g s e = none_is_answered (IsLeftOut rule number) reads octets answer g (strict_leaves_out rule allows Form number other numbered differ v octets w rest s e)
+
+pub none_at_end : {T E : Type 0} (rule : Rule) (number : ℕ) (reads : List ℕ → Result (List ℕ × T) (Refusal E) → Type 0) → ReadsNoneAtEnd (OptionGives (IsLeftOut rule number) reads)
+none_at_end rule number reads answer g = none_is_answered (IsLeftOut rule number) reads [] answer g (inl refl)
 
 -- what is read back is read back in Some
 held_reads_back : {T V E : Type 0} (value : T → V) (memory : Refusal E → Type 0) (v : V) (rest : List ℕ) (its : Result (List ℕ × T) (Refusal E)) → ReadsBack value memory v rest its → ReadsBack (option_map value) memory (Some v) rest (in_some its)

@@ -20,7 +20,16 @@ TakesNumber tag from reads any rest (Err r) = IsOtherTag from tag (tag_of any.he
 abbrev pub ReturnsOfContent : {F R : Type 0} → Once F (Bor (List ℕ) × (Header × Unit {0})) R → F → Any → R → Type 0
 ReturnsOfContent g f any r = (p : Bor (List ℕ)) × g.post f (p, (any.header, tt)) r × (p.now ≡ any.content.now)
 
+-- and it may be called at these
+abbrev pub TakesOfContent : {F R : Type 0} → Once F (Bor (List ℕ) × (Header × Unit {0})) R → F → Any → Type 0
+TakesOfContent g f any = (p : Bor (List ℕ)) → p.now ≡ any.content.now → g.pre f (p, (any.header, tt))
+
 -- the same, at the number besides, and at the header under the number that the type has
 abbrev pub ReturnsUnder : {F R : Type 0} → Once F (Bor (List ℕ) × (Tag × (Header × Unit {0}))) R → F → Tag → Tag → Any → R → Type 0
 ReturnsUnder g f tag mark any r = (p : Bor (List ℕ)) × (header : Header) × g.post f (p, (tag, (header, tt))) r × (p.now ≡ any.content.now) ×
     HasParts header (class_of any.header) (is_constructed_of any.header) mark (length_of any.header) (raw_tag_of any.header)
+
+-- and it may be called so
+abbrev pub TakesUnder : {F R : Type 0} → Once F (Bor (List ℕ) × (Tag × (Header × Unit {0}))) R → F → Tag → Tag → Any → Type 0
+TakesUnder g f tag mark any = (p : Bor (List ℕ)) (header : Header) → p.now ≡ any.content.now →
+    HasParts header (class_of any.header) (is_constructed_of any.header) mark (length_of any.header) (raw_tag_of any.header) → g.pre f (p, (tag, (header, tt)))

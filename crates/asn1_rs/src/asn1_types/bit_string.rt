@@ -1,12 +1,11 @@
 //! Bit strings (X.690 8.6, 11.2).
-ghost use Rattle.std.specs.Prelude.{◌≡◌, ◌∷◌, ◌↔◌, false, length, IsTrue, IfErr};
+ghost use Rattle.std.specs.Prelude.{◌≡◌, ◌∷◌, ◌↔◌, false, length, IsTrue, IfOk, IfErr};
 ghost use Rattle.std.specs.Cow.{IsBorrowedSlice};
 ghost use Rattle.asn1_rs.specs.Any.{parts_of};
 ghost use Rattle.asn1_rs.specs.BitString.{bit_string_number, bit_string_leaf, bit_string_constraints, bit_string_octets, data_of, bit_of, IsZeroPadded};
-ghost use Rattle.asn1_rs.specs.Leaf.{LeafGives, leaf_element};
+ghost use Rattle.asn1_rs.specs.Leaf.{LeafGives, LendsContent, leaf_element};
 ghost use Rattle.asn1_rs.specs.Laws.BitString.{bit_string_lawful, bit_string_equal};
-ghost use Rattle.asn1_rs.specs.Laws.Leaf.{leaf_lawful, leaf_constraints, leaf_converts, leaf_written};
-ghost use Rattle.asn1_rs.specs.Traits.{OfParts};
+ghost use Rattle.asn1_rs.specs.Laws.Leaf.{leaf_lawful, leaf_constraints, lent_converts, leaf_written};
 ghost use Rattle.asn1_headers.specs.Writer.{Wrote, MayRefuse};
 
 use crate::asn1_types::any::Any;
@@ -66,10 +65,11 @@ impl<'a> BitString<'a> {
 
 impl<'a> Any<'a> {
     /// The bit string of the contents octets, whether the element is primitive or constructed: the first octet is the
-    /// count of unused bits, whatever it is. Refused at another tag number with `UnexpectedTag`, and where there are no
-    /// contents octets with `InvalidLength`.
+    /// count of unused bits, whatever it is, and the others are borrowed. Refused at another tag number with
+    /// `UnexpectedTag`, and where there are no contents octets with `InvalidLength`.
     pub fn bitstring(self) -> Result<BitString<'a>, Error>
-        ensures { LeafGives bit_string_leaf (parts_of self.entry) result }
+        ensures gives { LeafGives bit_string_leaf (parts_of self.entry) result }
+        ensures borrowed { IfOk result (λ s. IsBorrowedSlice s.content) }
     {
         self.as_bitstring()
     }
@@ -77,7 +77,8 @@ impl<'a> Any<'a> {
     /// The bit string, of an element that stays.
     #[inline(always)]
     pub fn as_bitstring(&self) -> Result<BitString<'a>, Error>
-        ensures { LeafGives bit_string_leaf (parts_of self.now) result }
+        ensures gives { LeafGives bit_string_leaf (parts_of self.now) result }
+        ensures borrowed { IfOk result (λ s. IsBorrowedSlice s.content) }
     {
         self.assert_number(Tag::BitString)?;
         match self.content.split_first() {
@@ -125,7 +126,7 @@ impl Tagged for BitString<'_> {
 impl<'a> FromAny<'a> for BitString<'a> {
     type Error = Error;
 
-    ghost any_gives = { OfParts (LeafGives bit_string_leaf) };
+    ghost any_gives = { LendsContent bit_string_leaf (λ s. s.content) };
 
     fn try_from_any(_alloc: Global, any: Any<'a>) -> Result<BitString<'a>, Error> {
         any.as_bitstring()
@@ -170,7 +171,7 @@ impl LawfulElement for BitString<'_> {
 }
 
 impl<'a> LawfulConversion<'a> for BitString<'a> {
-    ghost converts = { leaf_converts bit_string_leaf bit_string_lawful };
+    ghost converts = { lent_converts bit_string_leaf bit_string_lawful (λ s. s.content) };
 }
 
 impl WritesElement for BitString<'_> {

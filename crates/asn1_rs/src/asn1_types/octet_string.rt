@@ -1,10 +1,10 @@
 //! Octet strings (X.690 8.7).
-ghost use Rattle.std.specs.Prelude.{◌≡◌};
+ghost use Rattle.std.specs.Prelude.{◌≡◌, IfOk};
 ghost use Rattle.std.specs.Cow.{IsBorrowedSlice};
 ghost use Rattle.asn1_rs.specs.Any.{parts_of};
 ghost use Rattle.asn1_rs.specs.Checks.{is_primitive};
-ghost use Rattle.asn1_rs.specs.Leaf.{LeafGives, leaf_element};
-ghost use Rattle.asn1_rs.specs.Laws.Leaf.{leaf_lawful, leaf_constraints, leaf_converts, leaf_written};
+ghost use Rattle.asn1_rs.specs.Leaf.{LeafGives, LendsContent, leaf_element};
+ghost use Rattle.asn1_rs.specs.Laws.Leaf.{leaf_lawful, leaf_constraints, leaf_converts, lent_converts, leaf_written};
 ghost use Rattle.asn1_rs.specs.Laws.OctetString.{octet_string_lawful, octet_string_equal, slice_lawful, slice_equal};
 ghost use Rattle.asn1_rs.specs.OctetString.{octet_string_number, octet_string_leaf, slice_leaf, octets_of, cow_of};
 ghost use Rattle.asn1_rs.specs.Traits.{OfParts};
@@ -75,10 +75,11 @@ impl<'a> From<&'a [u8]> for OctetString<'a> {
 }
 
 impl<'a> Any<'a> {
-    /// The octet string of the contents octets, whether the element is primitive or constructed. Refused at another
-    /// tag number with `UnexpectedTag`.
+    /// The octet string of the contents octets, which are borrowed, whether the element is primitive or constructed.
+    /// Refused at another tag number with `UnexpectedTag`.
     pub fn octetstring(self) -> Result<OctetString<'a>, Error>
-        ensures { LeafGives octet_string_leaf (parts_of self.entry) result }
+        ensures gives { LeafGives octet_string_leaf (parts_of self.entry) result }
+        ensures borrowed { IfOk result (λ s. IsBorrowedSlice (cow_of s)) }
     {
         self.as_octetstring()
     }
@@ -86,7 +87,8 @@ impl<'a> Any<'a> {
     /// The octet string, of an element that stays.
     #[inline(always)]
     pub fn as_octetstring(&self) -> Result<OctetString<'a>, Error>
-        ensures { LeafGives octet_string_leaf (parts_of self.now) result }
+        ensures gives { LeafGives octet_string_leaf (parts_of self.now) result }
+        ensures borrowed { IfOk result (λ s. IsBorrowedSlice (cow_of s)) }
     {
         self.assert_number(Tag::OctetString)?;
         Ok(OctetString::new(self.content))
@@ -108,7 +110,7 @@ impl Tagged for OctetString<'_> {
 impl<'a> FromAny<'a> for OctetString<'a> {
     type Error = Error;
 
-    ghost any_gives = { OfParts (LeafGives octet_string_leaf) };
+    ghost any_gives = { LendsContent octet_string_leaf cow_of };
 
     fn try_from_any(_alloc: Global, any: Any<'a>) -> Result<OctetString<'a>, Error> {
         any.as_octetstring()
@@ -149,7 +151,7 @@ impl DerElement for OctetString<'_> {
 }
 
 impl<'a> LawfulConversion<'a> for OctetString<'a> {
-    ghost converts = { leaf_converts octet_string_leaf octet_string_lawful };
+    ghost converts = { lent_converts octet_string_leaf octet_string_lawful cow_of };
 }
 
 impl WritesOctets for OctetString<'_> {

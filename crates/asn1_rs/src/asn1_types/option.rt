@@ -1,12 +1,12 @@
 //! Optional values: an element that may be left out, told by its tag number.
-ghost use Rattle.std.specs.Prelude.{◌≡◌, ◌↔◌, [], Bool, false, IsTrue};
+ghost use Rattle.std.specs.Prelude.{◌≡◌, ◌≢◌, ◌↔◌, [], Bool, false, IsTrue};
 ghost use Rattle.x690.specs.Rules.{Rule, der_rule, ber_rule};
 ghost use Rattle.x690.specs.Faults.{Breach};
 ghost use Rattle.asn1_headers.specs.declared.error.Error.{Error};
 ghost use Rattle.asn1_headers.specs.Answers.{seen, TellsMemory};
 ghost use Rattle.asn1_rs.specs.Any.{IsTheElement, IsDefiniteOr};
 ghost use Rattle.asn1_headers.specs.Header.Reading.{refusal_of, HeaderGives};
-ghost use Rattle.asn1_rs.specs.Optional.{IsLeftOut, IsAtEnd, OptionGives, ReadsHeldBack, in_some, held_or, IfHeld, HeldRefuses, is_of_another_tag, IsWithoutRawTag, none_or, NoneOrConverted};
+ghost use Rattle.asn1_rs.specs.Optional.{IsLeftOut, IsAtEnd, OptionGives, ReadsHeldBack, ReadsNoneBefore, ReadsNoneAtEnd, in_some, held_or, IfHeld, HeldRefuses, is_of_another_tag, IsWithoutRawTag, none_or, NoneOrConverted};
 ghost use Rattle.asn1_rs.specs.Traits.{BerGives, DerGives};
 
 use crate::asn1_types::any::Any;
@@ -245,16 +245,47 @@ impl<T: ToDer> ToDer for Option<T> {
     }
 }
 
-/// The strict encoding of what a Some holds is read back as that Some by BER and by DER, before any rest.
+/// The strict encoding of what a Some holds is read back as that Some by BER, before any rest.
 ///
-/// What the readers of `Option<T>` may answer is what its `ber_gives` and `der_gives` say. Where the
-/// type allocates, out of memory may be reported in its place.
-pub fn options_are_read_back<'a, T, E>()
+/// What the reader of `Option<T>` may answer is what its `ber_gives` says. Where the type allocates, out of memory may
+/// be reported in its place. The reader by DER is not asked for.
+pub fn options_are_read_back_by_ber<'a, T, E>()
 where
-    T: LawfulBer<'a, E> + LawfulDer<'a, E> + LawfulTagged,
+    T: LawfulBer<'a, E> + LawfulTagged,
     E: From<Error>,
-    ensures by_ber { ReadsHeldBack (OptionGives (IsLeftOut ber_rule (T.mark).0) T.ber_gives)
+    ensures { ReadsHeldBack (OptionGives (IsLeftOut ber_rule (T.mark).0) T.ber_gives)
         T.grammar.Form T.grammar.value (TellsMemory T.grammar.allocates E.from_gives) }
-    ensures by_der { ReadsHeldBack (OptionGives (IsLeftOut der_rule (T.mark).0) T.der_gives)
+{}
+
+/// The strict encoding of what a Some holds is read back as that Some by DER, before any rest. The reader by BER is not
+/// asked for.
+pub fn options_are_read_back_by_der<'a, T, E>()
+where
+    T: LawfulDer<'a, E> + LawfulTagged,
+    E: From<Error>,
+    ensures { ReadsHeldBack (OptionGives (IsLeftOut der_rule (T.mark).0) T.der_gives)
         T.grammar.Form T.grammar.value (TellsMemory T.grammar.allocates E.from_gives) }
+{}
+
+/// By BER None is read, and nothing consumed, before the strict encoding of a `U` whose tag number is another one, and
+/// where there are no octets.
+pub fn options_are_left_out_by_ber<'a, T, U, E>()
+where
+    T: FromBer<'a, E> + Tagged,
+    U: LawfulTagged,
+    E: From<Error>,
+    ensures before { (U.mark).0 ≢ (T.mark).0 →
+        ReadsNoneBefore (OptionGives (IsLeftOut ber_rule (T.mark).0) T.ber_gives) U.grammar.Form }
+    ensures at_end { ReadsNoneAtEnd (OptionGives (IsLeftOut ber_rule (T.mark).0) T.ber_gives) }
+{}
+
+/// By DER None is read so.
+pub fn options_are_left_out_by_der<'a, T, U, E>()
+where
+    T: FromDer<'a, E> + Tagged,
+    U: LawfulTagged,
+    E: From<Error>,
+    ensures before { (U.mark).0 ≢ (T.mark).0 →
+        ReadsNoneBefore (OptionGives (IsLeftOut der_rule (T.mark).0) T.der_gives) U.grammar.Form }
+    ensures at_end { ReadsNoneAtEnd (OptionGives (IsLeftOut der_rule (T.mark).0) T.der_gives) }
 {}

@@ -109,7 +109,7 @@ pub trait LawfulElement: HasKind<Kind = ElementKind> + CheckDerConstraints + Der
     /// An element has one value, a value one strict element, and this has the value and passes the check.
     ghost lawful: { IsLawfulElement Self.element };
 
-    /// The check passes exactly the parts that meet the constraints, and does not allocate.
+    /// The check passes exactly the parts that meet the constraints, and never answers out of memory.
     ghost checked: { IsExactCheck Self.check_gives Self.element.Check };
 }
 

@@ -20,7 +20,7 @@ use asn1_headers::writer::{DerWrite, add_written, put_all};
 use std::alloc::Global;
 
 /// A value that is written as one element of the universal class: the tag number of its type, and contents octets. The
-/// element is constructed exactly for the tags of sequence and set. It does not allocate.
+/// element is constructed exactly for the tags of sequence and set. Out of memory is never answered.
 ///
 /// So it has [`ToDer`], [`LawfulWrite`], [`LawfulTagged`] and [`TakesClass`].
 pub trait WritesElement: LawfulElement + Tagged {

@@ -113,10 +113,14 @@ pub fn counts_are_of_the_strict_encoding<T: LawfulWrite>()
 
 /// A front that a value was read from was its strict encoding exactly where writing the value gives the same octets.
 ///
-/// It speaks of values in DER form, those that have a strict identifier and strict contents octets. No octets are
-/// strict for another value, and yet it may be written as it was read.
+/// It speaks of values in DER form. No octets are strict for another value, and yet it may be written as it was read.
+/// Of a set that there is a strict encoding is all that is known; where the strict parts of a value are in hand, so is
+/// its strict encoding.
 pub fn strict_fronts_are_written_again<T: LawfulWrite>()
-    ensures { (x : T) (id : Identifier) (content front : List ℕ) →
+    ensures again { (x : T) (front : List ℕ) → T.grammar.IsDer (T.grammar.value x) →
+        length front < 2 ^ 64 → ∥ IsStrict T.grammar.Form (T.grammar.value x) front ∥₁
+        ↔ (front ≡ T.header x ++ T.content x) }
+    ensures of_parts { (x : T) (id : Identifier) (content front : List ℕ) →
         T.grammar.Form (T.grammar.value x) id content → length front < 2 ^ 64 →
         IsStrict T.grammar.Form (T.grammar.value x) front ↔ (front ≡ T.header x ++ T.content x) }
 {}

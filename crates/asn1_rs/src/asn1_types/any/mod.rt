@@ -5,7 +5,7 @@ mod integers;
 mod writing;
 
 ghost use Rattle.std.specs.Prelude.{◌≡◌, ℕ, false, length, None, Ok};
-ghost use Rattle.std.specs.Fn.{FnOnceReturnsAt};
+ghost use Rattle.std.specs.Fn.{FnOnceReturnsAt, FnOnceTakesAt};
 ghost use Rattle.x690.specs.Elements.{IsDerElement};
 ghost use Rattle.x690.specs.Faults.{DerElementFault};
 ghost use Rattle.x690.specs.Nested.{IsElement, ElementFault};
@@ -14,7 +14,7 @@ ghost use Rattle.asn1_headers.specs.Header.{class_of, is_constructed_of, tag_of,
 ghost use Rattle.asn1_headers.specs.Header.Reading.{der_refusal, ber_refusal};
 ghost use Rattle.asn1_headers.specs.Length.{form_of};
 ghost use Rattle.asn1_headers.specs.Tag.{is_container};
-ghost use Rattle.asn1_rs.specs.Any.{parts_of, IsTheElement, IsDefiniteOr, AndThenGives, HandsOn};
+ghost use Rattle.asn1_rs.specs.Any.{parts_of, IsTheElement, IsDefiniteOr, HasClassAndTag, TakesTagged, AndThenGives, HandsOn};
 ghost use Rattle.asn1_headers.specs.Der.{DerContentGives};
 ghost use Rattle.asn1_headers.specs.Ber.{BerContentGives, max_depth};
 ghost use Rattle.asn1_rs.specs.Any.Value.{any_element};
@@ -164,7 +164,7 @@ impl<'a> Any<'a> {
     where
         F: FnOnce(&'a [u8]) -> ParseResult<'a, T, E> + Drop,
         E: From<Error>,
-        requires { F.IsAlwaysCallable op }
+        requires { TakesTagged IsDerElement class (record { 0 = tag }) F.FnOnce op bytes.now }
         ensures { AndThenGives IsDerElement DerElementFault der_refusal class
             (record { 0 = tag }) E.from_gives (FnOnceReturnsAt F.FnOnce op) bytes.now
             (seen result) }
@@ -185,7 +185,8 @@ impl<'a> Any<'a> {
     where
         F: FnOnce(&'a [u8]) -> ParseResult<'a, T, E> + Drop,
         E: From<Error>,
-        requires { F.IsAlwaysCallable op }
+        requires { TakesTagged (IsElement max_depth) class (record { 0 = tag }) F.FnOnce op
+            bytes.now }
         ensures { AndThenGives (IsElement max_depth) (ElementFault max_depth) ber_refusal class
             (record { 0 = tag }) E.from_gives (FnOnceReturnsAt F.FnOnce op) bytes.now
             (seen result) }
@@ -208,7 +209,8 @@ fn hand_on<'a, F, T, E>(
 where
     F: FnOnce(&'a [u8]) -> ParseResult<'a, T, E> + Drop,
     E: From<Error>,
-    requires { F.IsAlwaysCallable op }
+    requires { HasClassAndTag class (record { 0 = tag }) (parts_of any) →
+        FnOnceTakesAt F.FnOnce op any.content.now }
     ensures { HandsOn class (record { 0 = tag }) E.from_gives (FnOnceReturnsAt F.FnOnce op)
         (parts_of any.entry) rest.now (seen result) }
 {

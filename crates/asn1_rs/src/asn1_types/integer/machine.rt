@@ -1,5 +1,5 @@
 //! The machine integers, which hold the integers of one to sixteen octets (X.690 8.3).
-ghost use Rattle.std.specs.Prelude.{◌≡◌, ◌≤◌, ◌<◌, drop, length};
+ghost use Rattle.std.specs.Prelude.{◌≡◌, ◌≤◌, ◌<◌, take, drop, length};
 ghost use Rattle.asn1_rs.specs.Integer.Machine.{Machine, IsLawfulMachine, MachineGives, unsigned_machine, signed_machine};
 ghost use Rattle.asn1_rs.specs.Laws.Integer.Machine.{unsigned_lawful, signed_lawful};
 
@@ -17,8 +17,10 @@ pub trait MachineInt: Copy {
     ghost lawful_machine: { IsLawfulMachine Self.machine };
 
     /// Writes the strict contents octets to the end of the array, and says where they begin (X.690 8.3.2, 8.3.3).
+    /// What stands before them stays.
     fn octets_into(self, out: &mut [u8; 17]) -> usize
         ensures octets { drop result out.new ≡ machine.octets self }
+        ensures kept { take result out.new ≡ take result out.old }
         ensures within { result ≤ 16 }
         ensures held { machine.Holds (machine.number self) };
 

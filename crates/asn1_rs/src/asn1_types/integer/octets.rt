@@ -5,11 +5,10 @@ ghost use Rattle.asn1_rs.specs.Any.{parts_of};
 ghost use Rattle.asn1_headers.specs.Header.{HasParts};
 ghost use Rattle.asn1_rs.specs.Integer.{integer_number, IntegerCheckGives};
 ghost use Rattle.asn1_rs.specs.Integer.Machine.{GivesBack};
-ghost use Rattle.asn1_rs.specs.Integer.Octets.{integer_octets, any_integer_leaf, BorrowsOctets, HoldsOr};
-ghost use Rattle.asn1_rs.specs.Leaf.{LeafGives, leaf_element};
+ghost use Rattle.asn1_rs.specs.Integer.Octets.{octets_held, integer_octets, any_integer_leaf, BorrowsOctets, HoldsOr};
+ghost use Rattle.asn1_rs.specs.Leaf.{LeafGives, LendsContent, leaf_element};
 ghost use Rattle.asn1_rs.specs.Laws.Integer.Octets.{any_integer_lawful, octets_equal};
-ghost use Rattle.asn1_rs.specs.Laws.Leaf.{leaf_lawful, leaf_constraints, leaf_converts, leaf_written};
-ghost use Rattle.asn1_rs.specs.Traits.{OfParts};
+ghost use Rattle.asn1_rs.specs.Laws.Leaf.{leaf_lawful, leaf_constraints, lent_converts, leaf_written};
 ghost use Rattle.asn1_headers.specs.declared.class.Class.TheVariants as classes;
 ghost use Rattle.asn1_headers.specs.declared.length.Length.TheVariants as forms;
 
@@ -137,7 +136,7 @@ impl Tagged for Integer<'_> {
 impl<'a> FromAny<'a> for Integer<'a> {
     type Error = Error;
 
-    ghost any_gives = { OfParts (LeafGives any_integer_leaf) };
+    ghost any_gives = { LendsContent any_integer_leaf octets_held };
 
     fn try_from_any(_alloc: Global, any: Any<'a>) -> Result<Integer<'a>, Error> {
         any.as_integer()
@@ -173,7 +172,7 @@ impl LawfulElement for Integer<'_> {
 }
 
 impl<'a> LawfulConversion<'a> for Integer<'a> {
-    ghost converts = { leaf_converts any_integer_leaf any_integer_lawful };
+    ghost converts = { lent_converts any_integer_leaf any_integer_lawful octets_held };
 }
 
 impl WritesOctets for Integer<'_> {

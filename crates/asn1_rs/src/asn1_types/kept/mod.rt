@@ -5,7 +5,7 @@ pub mod set;
 
 ghost use Rattle.std.specs.Prelude.{◌≡◌, ◌++◌, false, IfOk, IfErr, IsErr, length};
 ghost use Rattle.std.specs.Borrow.{Bor};
-ghost use Rattle.std.specs.Fn.{FnOnceReturnsAt};
+ghost use Rattle.std.specs.Fn.{FnOnceReturnsAt, FnOnceTakesAt};
 ghost use Rattle.std.specs.Iterator.{IsFinite};
 ghost use Rattle.x690.specs.Elements.{IsDerElement};
 ghost use Rattle.x690.specs.Faults.{DerElementFault};
@@ -15,8 +15,8 @@ ghost use Rattle.asn1_headers.specs.Answers.{seen};
 ghost use Rattle.asn1_rs.specs.Any.{parts_of};
 ghost use Rattle.asn1_headers.specs.Ber.{max_depth};
 ghost use Rattle.asn1_headers.specs.Header.Reading.{der_refusal, ber_refusal};
-ghost use Rattle.asn1_rs.specs.Kept.{OnLent, IsRefused, IsErrorOf, HandsListOn, ListThenGives, CopiesGive, JoinsGiven};
-ghost use Rattle.asn1_rs.specs.Lists.{ItemsGive, listed};
+ghost use Rattle.asn1_rs.specs.Kept.{TakesLent, TakesList, OnLent, IsRefused, IsErrorOf, HandsListOn, ListThenGives, CopiesGive, JoinsGiven};
+ghost use Rattle.asn1_rs.specs.Lists.{IsListOr, ItemsGive, listed};
 ghost use Rattle.asn1_rs.specs.ToDer.{Either, VectorRefuses};
 ghost use Rattle.asn1_headers.specs.Error.{tells_of_io};
 ghost use Rattle.asn1_headers.specs.declared.error.SerializeError.{SerializeError};
@@ -41,7 +41,7 @@ pub(crate) fn parse_lent<'a, F, T, E>(
 where
     F: FnOnce(&'a [u8]) -> ParseResult<'a, T, E> + Drop,
     E: From<Error>,
-    requires { F.IsAlwaysCallable f }
+    requires { TakesLent F.FnOnce f content }
     ensures { OnLent (FnOnceReturnsAt F.FnOnce f) (IsRefused E.from_gives errors.LifetimeError)
         content.entry result }
 {
@@ -79,7 +79,8 @@ fn list_handed_on<'a, F, T, E>(
 where
     F: FnOnce(&'a [u8]) -> ParseResult<'a, T, E> + Drop,
     E: From<Error>,
-    requires { F.IsAlwaysCallable op }
+    requires { IsListOr number (parts_of any) (Ok tt) →
+        FnOnceTakesAt F.FnOnce op any.content.now }
     ensures { HandsListOn number E.from_gives (FnOnceReturnsAt F.FnOnce op) (parts_of any.entry)
         rest.now (seen result) }
 {
@@ -101,7 +102,7 @@ pub(crate) fn ber_list_and_then<'a, F, T, E>(
 where
     F: FnOnce(&'a [u8]) -> ParseResult<'a, T, E> + Drop,
     E: From<Error>,
-    requires { F.IsAlwaysCallable op }
+    requires { TakesList (IsElement max_depth) number F.FnOnce op bytes.now }
     ensures { ListThenGives (IsElement max_depth) (ElementFault max_depth) ber_refusal number
         E.from_gives (FnOnceReturnsAt F.FnOnce op) bytes.now (seen result) }
 {
@@ -120,7 +121,7 @@ pub(crate) fn der_list_and_then<'a, F, T, E>(
 where
     F: FnOnce(&'a [u8]) -> ParseResult<'a, T, E> + Drop,
     E: From<Error>,
-    requires { F.IsAlwaysCallable op }
+    requires { TakesList IsDerElement number F.FnOnce op bytes.now }
     ensures { ListThenGives IsDerElement DerElementFault der_refusal number E.from_gives
         (FnOnceReturnsAt F.FnOnce op) bytes.now (seen result) }
 {

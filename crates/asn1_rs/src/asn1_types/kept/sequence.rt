@@ -12,10 +12,10 @@ ghost use Rattle.asn1_rs.specs.Any.{parts_of};
 ghost use Rattle.asn1_headers.specs.Ber.{max_depth};
 ghost use Rattle.asn1_rs.specs.Checks.{nothing};
 ghost use Rattle.asn1_headers.specs.Header.Reading.{der_refusal, ber_refusal};
-ghost use Rattle.asn1_rs.specs.Kept.{sequence_number, sequence_leaf, sequence_octets, OnLent, IsRefused, IsErrorOf, ListThenGives, CopiesGive, JoinsGiven, LendsContent, content_octets};
-ghost use Rattle.asn1_rs.specs.Laws.Kept.{lent_converts, sequence_lawful, sequence_equal};
-ghost use Rattle.asn1_rs.specs.Laws.Leaf.{leaf_lawful, leaf_constraints, leaf_written};
-ghost use Rattle.asn1_rs.specs.Leaf.{LeafGives, leaf_element};
+ghost use Rattle.asn1_rs.specs.Kept.{sequence_number, sequence_leaf, sequence_octets, TakesLent, TakesList, OnLent, IsRefused, IsErrorOf, ListThenGives, CopiesGive, JoinsGiven, content_octets};
+ghost use Rattle.asn1_rs.specs.Laws.Kept.{sequence_lawful, sequence_equal};
+ghost use Rattle.asn1_rs.specs.Laws.Leaf.{leaf_lawful, leaf_constraints, lent_converts, leaf_written};
+ghost use Rattle.asn1_rs.specs.Leaf.{LeafGives, LendsContent, leaf_element};
 ghost use Rattle.asn1_rs.specs.Lists.{ItemsGive, listed};
 ghost use Rattle.asn1_rs.specs.Sequence.Iterator.{octets_left};
 ghost use Rattle.asn1_rs.specs.ToDer.{Either};
@@ -92,7 +92,7 @@ impl<'a> Sequence<'a> {
     where
         F: FnOnce(&'a [u8]) -> ParseResult<'a, U, E> + Drop,
         E: From<Error>,
-        requires { F.IsAlwaysCallable op }
+        requires { TakesList (IsElement max_depth) sequence_number F.FnOnce op bytes.now }
         ensures { ListThenGives (IsElement max_depth) (ElementFault max_depth) ber_refusal
             sequence_number E.from_gives (FnOnceReturnsAt F.FnOnce op) bytes.now (seen result) }
     {
@@ -104,7 +104,7 @@ impl<'a> Sequence<'a> {
     where
         F: FnOnce(&'a [u8]) -> ParseResult<'a, U, E> + Drop,
         E: From<Error>,
-        requires { F.IsAlwaysCallable op }
+        requires { TakesList IsDerElement sequence_number F.FnOnce op bytes.now }
         ensures { ListThenGives IsDerElement DerElementFault der_refusal sequence_number
             E.from_gives (FnOnceReturnsAt F.FnOnce op) bytes.now (seen result) }
     {
@@ -129,7 +129,7 @@ impl<'a> Sequence<'a> {
     where
         F: FnOnce(&'a [u8]) -> ParseResult<'a, T, E> + Drop,
         E: From<Error>,
-        requires { F.IsAlwaysCallable f }
+        requires { TakesLent F.FnOnce f self.content }
         ensures { OnLent (FnOnceReturnsAt F.FnOnce f) (IsRefused E.from_gives errors.LifetimeError)
             self.entry.content result }
     {

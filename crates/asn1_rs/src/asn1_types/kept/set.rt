@@ -12,10 +12,10 @@ ghost use Rattle.asn1_rs.specs.Any.{parts_of};
 ghost use Rattle.asn1_headers.specs.Ber.{max_depth};
 ghost use Rattle.asn1_rs.specs.Checks.{nothing};
 ghost use Rattle.asn1_headers.specs.Header.Reading.{der_refusal, ber_refusal};
-ghost use Rattle.asn1_rs.specs.Kept.{set_number, set_leaf, set_octets, OnLent, IsRefused, IsErrorOf, ListThenGives, CopiesGive, JoinsGiven, LendsContent, content_octets};
-ghost use Rattle.asn1_rs.specs.Laws.Kept.{lent_converts, set_lawful};
-ghost use Rattle.asn1_rs.specs.Laws.Leaf.{leaf_lawful, leaf_constraints, leaf_written};
-ghost use Rattle.asn1_rs.specs.Leaf.{LeafGives, leaf_element};
+ghost use Rattle.asn1_rs.specs.Kept.{set_number, set_leaf, set_octets, TakesLent, TakesList, OnLent, IsRefused, IsErrorOf, ListThenGives, CopiesGive, JoinsGiven, content_octets};
+ghost use Rattle.asn1_rs.specs.Laws.Kept.{set_lawful};
+ghost use Rattle.asn1_rs.specs.Laws.Leaf.{leaf_lawful, leaf_constraints, lent_converts, leaf_written};
+ghost use Rattle.asn1_rs.specs.Leaf.{LeafGives, LendsContent, leaf_element};
 ghost use Rattle.asn1_rs.specs.Lists.{ItemsGive, listed};
 ghost use Rattle.asn1_rs.specs.Sequence.Iterator.{octets_left};
 ghost use Rattle.asn1_rs.specs.ToDer.{Either};
@@ -91,7 +91,7 @@ impl<'a> Set<'a> {
     where
         F: FnOnce(&'a [u8]) -> ParseResult<'a, U, E> + Drop,
         E: From<Error>,
-        requires { F.IsAlwaysCallable op }
+        requires { TakesList (IsElement max_depth) set_number F.FnOnce op bytes.now }
         ensures { ListThenGives (IsElement max_depth) (ElementFault max_depth) ber_refusal
             set_number E.from_gives (FnOnceReturnsAt F.FnOnce op) bytes.now (seen result) }
     {
@@ -103,7 +103,7 @@ impl<'a> Set<'a> {
     where
         F: FnOnce(&'a [u8]) -> ParseResult<'a, U, E> + Drop,
         E: From<Error>,
-        requires { F.IsAlwaysCallable op }
+        requires { TakesList IsDerElement set_number F.FnOnce op bytes.now }
         ensures { ListThenGives IsDerElement DerElementFault der_refusal set_number
             E.from_gives (FnOnceReturnsAt F.FnOnce op) bytes.now (seen result) }
     {
@@ -128,7 +128,7 @@ impl<'a> Set<'a> {
     where
         F: FnOnce(&'a [u8]) -> ParseResult<'a, T, E> + Drop,
         E: From<Error>,
-        requires { F.IsAlwaysCallable f }
+        requires { TakesLent F.FnOnce f self.content }
         ensures { OnLent (FnOnceReturnsAt F.FnOnce f) (IsRefused E.from_gives errors.LifetimeError)
             self.entry.content result }
     {

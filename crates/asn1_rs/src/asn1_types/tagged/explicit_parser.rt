@@ -1,5 +1,4 @@
 //! Values with the header of their explicit tag: their constraints, and their laws (X.690 8.14.2).
-ghost use Rattle.std.specs.Prelude.{◌≡◌};
 ghost use Rattle.x690.specs.Elements.{IsDerElement};
 ghost use Rattle.x690.specs.Faults.{DerElementFault};
 ghost use Rattle.x690.specs.Identifiers.{IsCutIdentifier};
@@ -52,11 +51,11 @@ impl<T: CheckDerConstraints> CheckDerConstraints for TaggedParser<'_, Explicit, 
 }
 
 /// Its value is that under the tag, with the identifier of the header.
-impl<T: Grammar> Grammar for TaggedParser<'_, Explicit, T, Error> {
+impl<T: Grammar, E> Grammar for TaggedParser<'_, Explicit, T, E> {
     ghost grammar = { explicit_headed (λ t. identifier_of t.header) (λ t. t.inner) T.grammar };
 }
 
-impl<T: LawfulItem> LawfulItem for TaggedParser<'_, Explicit, T, Error> {
+impl<T: LawfulItem, E> LawfulItem for TaggedParser<'_, Explicit, T, E> {
     ghost lawful_item = { explicit_headed_lawful (λ t. identifier_of t.header) (λ t. t.inner)
         T.grammar T.lawful_item };
 
@@ -93,26 +92,34 @@ impl<T: LawfulCheck> LawfulCheck for TaggedParser<'_, Explicit, T, Error> {
         der_breach der_breach_spares T.check_gives T.grammar.Check T.checks };
 }
 
-impl<T: LawfulMember> LawfulMember for TaggedParser<'_, Explicit, T, Error> {
+impl<T: LawfulMember, E> LawfulMember for TaggedParser<'_, Explicit, T, E> {
     ghost same = { λ x y. headed_same x.header y.header (T.eq x.inner y.inner)
         (T.grammar.value x.inner) (T.grammar.value y.inner) (T.same x.inner y.inner) };
 }
 
-impl<'a, T: LawfulBer<'a, Error>> LawfulBer<'a, Error> for TaggedParser<'a, Explicit, T, Error> {
+impl<'a, T, E> LawfulBer<'a, E> for TaggedParser<'a, Explicit, T, E>
+where
+    T: LawfulBer<'a, E>,
+    E: From<Error>,
+{
     ghost ber_exact = { λ input answer octets. explicit_parser_exact (IsElement max_depth)
-        (ElementFault max_depth) EndsWithin ber_elements ber_breach T.ber_gives (λ x y. y ≡ x)
+        (ElementFault max_depth) EndsWithin ber_elements ber_breach T.ber_gives E.from_gives
         T.grammar.Ber T.grammar.value T.grammar.allocates T.ber_exact input answer };
 
     ghost ber_spares = { λ none. explicit_parser_spares (IsElement max_depth)
-        (ElementFault max_depth) ber_breach ber_breach_spares T.ber_gives (λ x y. y ≡ x)
+        (ElementFault max_depth) ber_breach ber_breach_spares T.ber_gives E.from_gives
         (T.ber_spares none) };
 }
 
-impl<'a, T: LawfulDer<'a, Error>> LawfulDer<'a, Error> for TaggedParser<'a, Explicit, T, Error> {
+impl<'a, T, E> LawfulDer<'a, E> for TaggedParser<'a, Explicit, T, E>
+where
+    T: LawfulDer<'a, E>,
+    E: From<Error>,
+{
     ghost der_exact = { λ input answer octets. explicit_parser_exact IsDerElement DerElementFault
-        IsCutIdentifier der_elements der_breach T.der_gives (λ x y. y ≡ x) T.grammar.Der
+        IsCutIdentifier der_elements der_breach T.der_gives E.from_gives T.grammar.Der
         T.grammar.value T.grammar.allocates T.der_exact input answer };
 
     ghost der_spares = { λ none. explicit_parser_spares IsDerElement DerElementFault der_breach
-        der_breach_spares T.der_gives (λ x y. y ≡ x) (T.der_spares none) };
+        der_breach_spares T.der_gives E.from_gives (T.der_spares none) };
 }

@@ -318,7 +318,7 @@ impl<T: LawfulCheck, E, const CLASS: u8, const TAG: u32> LawfulCheck
         ber_elements ber_breach ber_breach_spares T.check_gives T.grammar.Check T.checks };
 }
 
-impl<T: LawfulMember, E: Eq, const CLASS: u8, const TAG: u32> LawfulMember
+impl<T: LawfulMember, E, const CLASS: u8, const TAG: u32> LawfulMember
     for TaggedValue<T, E, Explicit, CLASS, TAG> {
     ghost same = { λ x y. marked_same (T.eq x.inner y.inner) (T.same x.inner y.inner) };
 }

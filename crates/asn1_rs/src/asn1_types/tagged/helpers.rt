@@ -1,7 +1,8 @@
 //! Elements of a tag number that is given, whose contents octets are handed to a closure.
+ghost use Rattle.x690.specs.Elements.{IsDerElement};
 ghost use Rattle.asn1_headers.specs.Answers.{seen};
-ghost use Rattle.asn1_rs.specs.Tagged.{ThenByDer};
-ghost use Rattle.asn1_rs.specs.Tagged.Helpers.{TakesNumber, ReturnsOfContent, ReturnsUnder};
+ghost use Rattle.asn1_rs.specs.Tagged.{ThenByDer, HoldsOfNumber};
+ghost use Rattle.asn1_rs.specs.Tagged.Helpers.{TakesNumber, TakesOfContent, ReturnsOfContent, TakesUnder, ReturnsUnder};
 ghost use Rattle.asn1_headers.specs.declared.tag.Tag.{Tag};
 
 use crate::der::element_by_der;
@@ -23,7 +24,8 @@ where
     IntoTag: Into<Tag>,
     F: FnOnce(&'a [u8], Header<'a>) -> ParseResult<'a, T, E> + Drop,
     E: From<Error>,
-    requires { F.IsAlwaysCallable f }
+    requires { (number : Tag) → IntoTag.converts tag number →
+        HoldsOfNumber IsDerElement number (TakesOfContent F.FnOnce f) bytes.now }
     ensures { (number : Tag) × IntoTag.converts tag number
         × ThenByDer E.from_gives
         (TakesNumber number E.from_gives (ReturnsOfContent F.FnOnce f)) bytes.now (seen result) }
@@ -54,7 +56,8 @@ where
     T: Tagged,
     F: FnOnce(&'a [u8], Tag, Header<'a>) -> ParseResult<'a, T, E> + Drop,
     E: From<Error>,
-    requires { F.IsAlwaysCallable f }
+    requires { (number : Tag) → IntoTag.converts tag number →
+        HoldsOfNumber IsDerElement number (TakesUnder F.FnOnce f number T.mark) bytes.now }
     ensures { (number : Tag) × IntoTag.converts tag number
         × ThenByDer E.from_gives
         (TakesNumber number E.from_gives (ReturnsUnder F.FnOnce f number T.mark)) bytes.now

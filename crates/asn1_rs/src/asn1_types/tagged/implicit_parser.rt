@@ -63,12 +63,12 @@ where
 }
 
 /// Its value is that under the tag, with the identifier of the header.
-impl<T: Grammar + Tagged> Grammar for TaggedParser<'_, Implicit, T, Error> {
+impl<T: Grammar + Tagged, E> Grammar for TaggedParser<'_, Implicit, T, E> {
     ghost grammar = { implicit_headed (λ t. identifier_of t.header) (T.mark).0 (λ t. t.inner)
         T.grammar };
 }
 
-impl<T: TakesEachClass> LawfulItem for TaggedParser<'_, Implicit, T, Error> {
+impl<T: TakesEachClass, E> LawfulItem for TaggedParser<'_, Implicit, T, E> {
     ghost lawful_item = { implicit_headed_lawful (λ t. identifier_of t.header) (T.mark).0
         (λ t. t.inner) T.grammar T.lawful_item T.number_fits T.tag_number T.takes_each };
 
@@ -102,39 +102,41 @@ impl<T: LawfulCheck + TakesEachClass> LawfulCheck for TaggedParser<'_, Implicit,
     ghost checks = { implicit_checked (T.mark).0 T.check_gives T.grammar.Check T.checks };
 }
 
-impl<T: LawfulMember + TakesEachClass> LawfulMember for TaggedParser<'_, Implicit, T, Error> {
+impl<T: LawfulMember + TakesEachClass, E> LawfulMember for TaggedParser<'_, Implicit, T, E> {
     ghost same = { λ x y. headed_same x.header y.header (T.eq x.inner y.inner)
         (T.grammar.value x.inner) (T.grammar.value y.inner) (T.same x.inner y.inner) };
 }
 
-impl<'a, T> LawfulBer<'a, Error> for TaggedParser<'a, Implicit, T, Error>
+impl<'a, T, E> LawfulBer<'a, E> for TaggedParser<'a, Implicit, T, E>
 where
-    T: LawfulBody<'a, Error> + TakesEachClass,
+    T: LawfulBody<'a, E> + TakesEachClass,
+    E: From<Error>,
 {
     ghost ber_exact = { λ input answer octets. implicit_parser_exact (IsElement max_depth)
-        (ElementFault max_depth) ber_breach T.mark T.any_gives (λ x y. y ≡ x) EndsWithin
+        (ElementFault max_depth) ber_breach T.mark T.any_gives E.from_gives EndsWithin
         ber_elements T.grammar.Body T.grammar.value T.grammar.allocates T.body_exact input
         answer };
 
     ghost ber_spares = { λ none. implicit_parser_spares (IsElement max_depth)
-        (ElementFault max_depth) ber_breach T.mark T.any_gives (λ x y. y ≡ x) ber_breach_spares
+        (ElementFault max_depth) ber_breach T.mark T.any_gives E.from_gives ber_breach_spares
         (T.body_spares none) };
 }
 
-impl<'a, T> LawfulDer<'a, Error> for TaggedParser<'a, Implicit, T, Error>
+impl<'a, T, E> LawfulDer<'a, E> for TaggedParser<'a, Implicit, T, E>
 where
-    T: LawfulBody<'a, Error> + LawfulCheck + TakesEachClass,
+    T: LawfulBody<'a, E> + LawfulCheck + TakesEachClass,
+    E: From<Error>,
 {
     ghost der_exact = { λ input answer octets. implicit_parser_exact IsDerElement DerElementFault
-        der_breach T.mark (ChecksAndConverts T.check_gives T.any_gives (λ x y. y ≡ x))
-        (λ x y. y ≡ x) IsCutIdentifier der_elements (CheckedBody T.grammar.Check T.grammar.Body)
+        der_breach T.mark (ChecksAndConverts T.check_gives T.any_gives E.from_gives)
+        E.from_gives IsCutIdentifier der_elements (CheckedBody T.grammar.Check T.grammar.Body)
         T.grammar.value T.grammar.allocates
-        (checked_exact T.check_gives T.grammar.Check T.checks T.any_gives (λ x y. y ≡ x)
+        (checked_exact T.check_gives T.grammar.Check T.checks T.any_gives E.from_gives
         T.grammar.Body T.grammar.value T.grammar.allocates T.body_exact) input answer };
 
     ghost der_spares = { λ none. implicit_parser_spares IsDerElement DerElementFault der_breach
-        T.mark (ChecksAndConverts T.check_gives T.any_gives (λ x y. y ≡ x)) (λ x y. y ≡ x)
+        T.mark (ChecksAndConverts T.check_gives T.any_gives E.from_gives) E.from_gives
         der_breach_spares
-        (checked_spares T.check_gives T.checks.spares T.any_gives (λ x y. y ≡ x)
+        (checked_spares T.check_gives T.checks.spares T.any_gives E.from_gives
         (T.body_spares none)) };
 }

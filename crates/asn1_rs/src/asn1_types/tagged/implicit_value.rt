@@ -301,7 +301,6 @@ where
 impl<T, E, const CLASS: u8, const TAG: u32> LawfulMember for TaggedValue<T, E, Implicit, CLASS, TAG>
 where
     T: LawfulMember + TakesClass<CLASS>,
-    E: Eq,
 {
     ghost same = { λ x y. marked_same (T.eq x.inner y.inner) (T.same x.inner y.inner) };
 }

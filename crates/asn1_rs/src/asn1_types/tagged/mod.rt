@@ -63,7 +63,8 @@ impl<Kind: TagKind> HasClass<3> for Kind {
 ///
 /// Class 0 is universal, 1 application, 2 context-specific, 3 private (X.690 8.1.2.2). A number above 3 is that of no
 /// class: such a value is counted, and refused in writing and reading.
-#[derive(Debug, PartialEq, Eq, Drop)]
+#[derive(Drop)]
+#[derive_where(Debug, PartialEq, Eq; T)]
 pub struct TaggedValue<T, E, Kind, const CLASS: u8, const TAG: u32> {
     inner: T,
     marks: PhantomData<(E, Kind)>,

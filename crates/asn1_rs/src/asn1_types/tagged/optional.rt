@@ -5,9 +5,10 @@ ghost use Rattle.x690.specs.Faults.{DerElementFault};
 ghost use Rattle.x690.specs.Nested.{IsElement, ElementFault};
 ghost use Rattle.asn1_headers.specs.Answers.{seen};
 ghost use Rattle.asn1_headers.specs.Ber.{max_depth};
+ghost use Rattle.asn1_headers.specs.Header.{class_of, tag_of};
 ghost use Rattle.asn1_headers.specs.Header.Reading.{der_refusal, ber_refusal};
-ghost use Rattle.asn1_rs.specs.Tagged.{ReturnsOfHeader};
-ghost use Rattle.asn1_rs.specs.Tagged.Optional.{TakesOption, OptionGives};
+ghost use Rattle.asn1_rs.specs.Tagged.{TakesOfHeader, ReturnsOfHeader};
+ghost use Rattle.asn1_rs.specs.Tagged.Optional.{TakesFound, TakesOption, OptionGives};
 ghost use Rattle.asn1_headers.specs.declared.class.Class.TheVariants as classes;
 
 use crate::asn1_types::any::Any;
@@ -79,7 +80,8 @@ impl OptTaggedParser {
     where
         F: FnOnce(Header<'_>, &'a [u8]) -> ParseResult<'a, T, E> + Drop,
         E: From<Error>,
-        requires { F.IsAlwaysCallable f }
+        requires { TakesFound (IsElement max_depth) self.now.class self.now.tag F.FnOnce f
+            bytes.now }
         ensures { OptionGives (IsElement max_depth) (ElementFault max_depth) ber_refusal
             self.now.class self.now.tag E.from_gives (ReturnsOfHeader F.FnOnce f) bytes.now
             (seen result) }
@@ -98,7 +100,7 @@ impl OptTaggedParser {
     where
         F: FnOnce(Header<'_>, &'a [u8]) -> ParseResult<'a, T, E> + Drop,
         E: From<Error>,
-        requires { F.IsAlwaysCallable f }
+        requires { TakesFound IsDerElement self.now.class self.now.tag F.FnOnce f bytes.now }
         ensures { OptionGives IsDerElement DerElementFault der_refusal self.now.class
             self.now.tag E.from_gives (ReturnsOfHeader F.FnOnce f) bytes.now (seen result) }
     {
@@ -123,7 +125,8 @@ impl OptTaggedParser {
     where
         F: FnOnce(Header<'_>, &'a [u8]) -> ParseResult<'a, T, E> + Drop,
         E: From<Error>,
-        requires { F.IsAlwaysCallable f }
+        requires { tag_of any.header ≡ self.now.tag → class_of any.header ≡ self.now.class →
+            TakesOfHeader F.FnOnce f any.header any.content.now }
         ensures { TakesOption self.now.class self.now.tag E.from_gives
             (ReturnsOfHeader F.FnOnce f) bytes.now any.entry rest.now (seen result) }
     {

@@ -6,7 +6,7 @@ ghost use Rattle.x690.specs.Elements.{IsDerElement};
 ghost use Rattle.x690.specs.Faults.{DerElementFault};
 ghost use Rattle.x690.specs.Nested.{IsElement, ElementFault};
 ghost use Rattle.asn1_headers.specs.Answers.{seen};
-ghost use Rattle.asn1_rs.specs.Any.{AndThenGives};
+ghost use Rattle.asn1_rs.specs.Any.{TakesTagged, AndThenGives};
 ghost use Rattle.asn1_headers.specs.Ber.{max_depth};
 ghost use Rattle.asn1_headers.specs.Header.{class_of, is_constructed_of, tag_of, length_of, raw_tag_of, HasParts};
 ghost use Rattle.asn1_headers.specs.Header.Reading.{der_refusal, ber_refusal, KeepsIdentifier};
@@ -414,7 +414,8 @@ impl<'a, T, E: From<Error>> TaggedParser<'a, Explicit, T, E> {
     ) -> ParseResult<'a, T, E>
     where
         F: FnOnce(&'a [u8]) -> ParseResult<'a, T, E> + Drop,
-        requires { F.IsAlwaysCallable op }
+        requires { TakesTagged (IsElement max_depth) class (record { 0 = tag }) F.FnOnce op
+            bytes.now }
         ensures { AndThenGives (IsElement max_depth) (ElementFault max_depth) ber_refusal class
             (record { 0 = tag }) E.from_gives (FnOnceReturnsAt F.FnOnce op) bytes.now
             (seen result) }
@@ -431,7 +432,7 @@ impl<'a, T, E: From<Error>> TaggedParser<'a, Explicit, T, E> {
     ) -> ParseResult<'a, T, E>
     where
         F: FnOnce(&'a [u8]) -> ParseResult<'a, T, E> + Drop,
-        requires { F.IsAlwaysCallable op }
+        requires { TakesTagged IsDerElement class (record { 0 = tag }) F.FnOnce op bytes.now }
         ensures { AndThenGives IsDerElement DerElementFault der_refusal class
             (record { 0 = tag }) E.from_gives (FnOnceReturnsAt F.FnOnce op) bytes.now
             (seen result) }

@@ -1,5 +1,8 @@
-use Rattle.asn1_rs.specs.Laws.Forms.{strict_where_written}
+use Rattle.asn1_rs.specs.Laws.Forms.{strict_where_written, der_where_written}
 use Rattle.asn1_rs.proofs.laws.functions.strict_fronts_are_written_again.Goals as goal
 
-pub returns : goal.returns
-returns g c = strict_where_written g.T.Grammar.grammar.value g.T.Grammar.grammar.Form _ g.T.ToDer.constructed g.T.ToDer.header g.T.ToDer.content g.met.T.LawfulItem.lawful_item.form_fits g.met.T.LawfulWrite.form
+pub returns-clause-again : goal.returns-clause-again
+returns-clause-again g c = der_where_written g.T.Grammar.grammar.value g.T.Grammar.grammar.IsDer g.T.Grammar.grammar.Form _ g.T.ToDer.constructed g.T.ToDer.header g.T.ToDer.content g.met.T.LawfulWrite.form g.met.T.LawfulWrite.der_form g.met.T.LawfulItem.lawful_item.form_fits
+
+pub returns-clause-of_parts : goal.returns-clause-of_parts
+returns-clause-of_parts g c = strict_where_written g.T.Grammar.grammar.value g.T.Grammar.grammar.Form _ g.T.ToDer.constructed g.T.ToDer.header g.T.ToDer.content g.met.T.LawfulItem.lawful_item.form_fits g.met.T.LawfulWrite.form
