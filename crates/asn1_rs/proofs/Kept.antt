@@ -6,7 +6,7 @@ use Rattle.std.proofs.lemmas.List.Elements.{All-pop, All-push}
 use Rattle.std.specs.Iterator.{Yields}
 use Rattle.std.specs.List.{All, AllZip, flat_map}
 use Rattle.asn1_headers.specs.declared.error.SerializeError.{SerializeError}
-use Rattle.asn1_rs.specs.ToDer.{HasNone, VectorRefuses}
+use Rattle.asn1_rs.specs.ToDer.{VectorRefuses}
 use Rattle.asn1_headers.specs.Laws.Writing.{MayRefuse_more}
 
 -- one pair more at the end
@@ -25,15 +25,15 @@ module _ {X : Type 0} (octets : X → List ℕ) (xs : List X) (x : X) where
   last_octets : flat_map octets (xs ++ x ∷ []) ≡ flat_map octets xs ++ octets x
   last_octets = flat_map-append octets xs (x ∷ []) ∙ ap (λ (o : List ℕ). flat_map octets xs ++ o) (append-nil (octets x))
 
-  -- the octets of one item more, which is not refused
-  pub joined_next : (tells : X → Type 0) (refuses : X → SerializeError → Type 0) (front next : List ℕ) →
-      (All tells xs → (front ≡ flat_map octets xs) × All (λ y. HasNone (refuses y)) xs) → (tells x → (next ≡ front ++ octets x) × HasNone (refuses x)) →
-      All tells (xs ++ x ∷ []) → (next ≡ flat_map octets (xs ++ x ∷ [])) × All (λ y. HasNone (refuses y)) (xs ++ x ∷ [])
-  joined_next tells refuses front next before now t =
+  -- the octets of one item more, of which a fact holds as of those before it
+  pub joined_next : (tells P : X → Type 0) (front next : List ℕ) →
+      (All tells xs → (front ≡ flat_map octets xs) × All P xs) → (tells x → (next ≡ front ++ octets x) × P x) →
+      All tells (xs ++ x ∷ []) → (next ≡ flat_map octets (xs ++ x ∷ [])) × All P (xs ++ x ∷ [])
+  joined_next tells P front next before now t =
       let told = All-pop tells (xs ++ x ∷ []) xs (Some x) refl t in
       let done = before told.0 in
       let last = now told.1 in
-      (last.0 ∙ ap (λ (o : List ℕ). o ++ octets x) done.0 ∙ sym last_octets, All-push (λ y. HasNone (refuses y)) xs x done.1 last.1)
+      (last.0 ∙ ap (λ (o : List ℕ). o ++ octets x) done.0 ∙ sym last_octets, All-push P xs x done.1 last.1)
 
   -- the refusal of the last item
   pub joined_end : (tells : X → Type 0) (refuses : X → SerializeError → Type 0) (e : SerializeError) → (tells x → VectorRefuses (length (octets x)) (refuses x) e) →

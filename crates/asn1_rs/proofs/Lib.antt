@@ -1,3 +1,4 @@
+mod JoinedItems
 mod Kept
 mod Lists
 mod OnlyItem

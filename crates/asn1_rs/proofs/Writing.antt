@@ -4,8 +4,8 @@ use Rattle.std.proofs.lemmas.Bool.{false≢true}
 use Rattle.std.specs.Io.KnownBytes.{Appends}
 use Rattle.std.specs.declared.vec.Vec.{Vec}
 use Rattle.asn1_headers.specs.Writer.{Wrote, IsMemoryOrLength, MayRefuse}
-use Rattle.asn1_headers.specs.Error.{is_io, WithoutIo, written_refusal, tells_of_io}
-use Rattle.asn1_rs.specs.ToDer.{SumsCounts, MayRefuseCount, Refuses, RefusesCount, RefusesAtOnce, IsRefusedAtOnce, RefusedAtOnce, Either, some_allocates, HasNone, VectorRefuses, WrittenRefusal, OfClass}
+use Rattle.asn1_headers.specs.Error.{is_io, WithoutIo, written_refusal, tells_of_io, vector_refusal}
+use Rattle.asn1_rs.specs.ToDer.{SumsCounts, MayRefuseCount, Refuses, RefusesCount, RefusesAtOnce, IsRefusedAtOnce, RefusedAtOnce, Either, some_allocates, HasNone, IntoVector, IsWritable, VectorRefuses, WrittenRefusal, OfClass}
 use Rattle.std.specs.Prelude.{IsErr}
 use Rattle.asn1_headers.specs.Laws.Writing.{Appends_none, MayRefuse_more, MayRefuse_either, MayRefuse_other}
 use Rattle.asn1_headers.specs.declared.error.Error.{Error}
@@ -186,3 +186,12 @@ pub vector_fits : {A : Type 0} (P : A → Type 0) (o : List ℕ) (r : Result A S
 vector_fits P o (Ok v) l h = h
 vector_fits P o (Err e) l (inl m) = m
 vector_fits P o (Err e) l (inr h) = absurd (omega (arith, h.1, l))
+
+-- what was refused at once, from a writing into a vector
+pub at_once_into : (takes : Bool) (n : ℕ) (own : SerializeError → Type 0) (old new : Option (List ℕ)) (was is : Bool) (e f : SerializeError) → WithoutIo e f → IsRefusedAtOnce takes n own old new was is (Err e) → IntoVector (RefusesAtOnce takes n own) f
+at_once_into takes n own old new was is e f same at =
+    let one : e ≡ at.0 = (let h = at.2.refused in cc) in (at.0, at.1, same ∙ ap vector_refusal one)
+
+-- a value that was written has no refusals of its own, neither of its counts
+pub is_writable : (counting : Error → Type 0) (heading filling : SerializeError → Type 0) → HasNone counting → HasNone (Either heading filling) → IsWritable counting heading filling
+is_writable counting heading filling n m = (n, λ e o. m e (inl o), λ e o. m e (inr o))

@@ -21,6 +21,10 @@ use Rattle.asn1_rs.specs.Grammar.{BerWord, DerWord, NoCheck}
 use Rattle.asn1_rs.specs.Grammar.Item.{ItemGrammar}
 use Rattle.asn1_headers.specs.Walk.{TakesItem}
 
+-- the octets are no joining of words of the grammar
+abbrev pub HasNoJoining : {V : Type 0} → (List ℕ → V → Type 0) → List ℕ → Type 0
+HasNoJoining {V} G octets = (values : List V) → IsJoined G octets values → ⊥
+
 -- A constructed element with the tag number, whose contents octets are words joined.
 pub record ListBody {V : Type 0} (number : ℕ) (G : List ℕ → V → Type 0) (p : Parts) (vs : List V) : Type 0 where
   pub number_is : p.id.number ≡ number
@@ -88,6 +92,10 @@ ListReads number holds reads from p (Ok w) = (p.id.number ≡ number) × ListGiv
 ListReads number holds reads from p (Err e) =
     ((p.id.number ≢ number) × from (errors.UnexpectedTag (Some (record { 0 = number })) (record { 0 = p.id.number })) e) ⊎
     ((p.id.number ≡ number) × ListGives holds reads from p.content (Err e))
+
+-- a list that was made of items whose values stand in the element's contents octets
+abbrev pub MadeOf : {T V W : Type 0} → (Parts → List V → Type 0) → (T → V) → (List T → W → Type 0) → Parts → W → Type 0
+MadeOf {T} Body value holds p w = (items : List T) × holds items w × Body p (map value items)
 
 -- a vector has these items
 abbrev pub has_items : {T A : Type 0} → List T → Vec T A → Type 0

@@ -1,21 +1,24 @@
 //! Items of lists: how they are read, checked, counted and written.
-ghost use Rattle.std.specs.Prelude.{◌≡◌, ◌≤◌, ◌<◌, ◌++◌, ◌||◌, [], List, true, false, length, map, IfOk, IfErr, IsErr};
+ghost use Rattle.std.specs.Prelude.{◌≡◌, ◌⊎◌, ◌≤◌, ◌<◌, ◌++◌, ◌||◌, ℕ, [], List, true, false, length, map, IfOk, IfErr, IsErr};
+ghost use Rattle.std.specs.declared.result.Result.TheVariants as results;
 ghost use Rattle.std.specs.List.{All, flat_map};
 ghost use Rattle.std.specs.Iterator.{IsFinite, IsFiniteIterable, Drains};
+ghost use Rattle.x690.specs.Octets.{IsOctets};
+ghost use Rattle.x690.specs.Elements.{Parts};
 ghost use Rattle.asn1_rs.specs.Any.{parts_of};
 ghost use Rattle.asn1_rs.specs.Traits.{OfParts, DerGives, PassesAll};
 ghost use Rattle.asn1_headers.specs.Answers.{seen};
-ghost use Rattle.asn1_rs.specs.Lists.{IsListOr, ItemsGive, ListGives, ListTakes, ListReads, ItemsCheckGives, ListCheckGives, FirstChecked, GivesItems, PushesItem, AreEncodings, SomeRefuses, listed};
+ghost use Rattle.asn1_rs.specs.Lists.{IsListOr, ItemsGive, ListGives, ListTakes, ListReads, ItemsCheckGives, ListCheckGives, FirstChecked, GivesItems, PushesItem, AreEncodings, SomeRefuses, ListBody, ListOf, MadeOf, listed};
 ghost use Rattle.asn1_headers.specs.declared.error.SerializeError.{SerializeError};
 ghost use Rattle.asn1_headers.specs.declared.error.Error.{Error};
 ghost use Rattle.asn1_headers.specs.declared.error.SerializeError.TheVariants as serialize_errors;
 ghost use Rattle.asn1_headers.specs.declared.error.Error.TheVariants as errors;
 ghost use Rattle.asn1_headers.specs.Writer.{Wrote};
-ghost use Rattle.asn1_rs.specs.ToDer.{Refuses, RefusesCount, Either, IntoVector, some_allocates};
+ghost use Rattle.asn1_rs.specs.ToDer.{Refuses, RefusesCount, Either, IntoVector, HasNone, some_allocates};
 ghost use Rattle.asn1_headers.specs.Error.{tells_of_io};
 
 use crate::asn1_types::any::Any;
-use crate::asn1_types::sequence::iterator::{ReadsItems, SequenceIterator};
+use crate::asn1_types::sequence::iterator::{ReadsItems, ReadsWords, SequenceIterator};
 use crate::der::element_by_der;
 use crate::header::add_counts;
 use crate::laws::in_hand::States;
@@ -436,3 +439,27 @@ where
     let octets = w.into_inner();
     Ok(Encodings { octets, lengths })
 }
+
+/// What an element is read as by a list or a set is made of the values of words of the reader's grammar, whose joining
+/// its contents octets are, in their order. A refusal comes only where it is no such element, or when out of memory.
+///
+/// `taken` speaks of the conversion of an element, which looks at its constructed bit, and `read` of a reader by DER
+/// that does not. What the list holds, `L.holds` says: a vector and a `SetOf` the items in the order of the words.
+pub fn lists_are_joined_words<'a, L, T, F, E>()
+where
+    L: FromItems<Item = T>,
+    F: ReadsWords<'a, T, E>,
+    E: From<Error>,
+    ensures taken { (number : ℕ) (p : Parts) (list : L) → IsOctets p.content →
+        ListTakes number L.holds F.item_gives E.from_gives p (results.Ok list) →
+        MadeOf (ListBody number F.Words) F.value L.holds p list }
+    ensures not_taken { (number : ℕ) (p : Parts) (e : E) → IsOctets p.content →
+        ListTakes number L.holds F.item_gives E.from_gives p (results.Err e) →
+        E.from_gives errors.OutOfMemory e ⊎ HasNone (ListBody number F.Words p) }
+    ensures read { (number : ℕ) (p : Parts) (list : L) → IsOctets p.content →
+        ListReads number L.holds F.item_gives E.from_gives p (results.Ok list) →
+        MadeOf (ListOf number F.Words) F.value L.holds p list }
+    ensures not_read { (number : ℕ) (p : Parts) (e : E) → IsOctets p.content →
+        ListReads number L.holds F.item_gives E.from_gives p (results.Err e) →
+        E.from_gives errors.OutOfMemory e ⊎ HasNone (ListOf number F.Words p) }
+{}

@@ -1,7 +1,7 @@
 //! Laws that a caller names at a concrete type, as `reader_is_exact_by_der::<u64, Error>()`.
 //!
 //! Their contracts are the statements, and nothing runs in them: a caller calls one where it needs the law.
-ghost use Rattle.std.specs.Prelude.{◌≡◌, ◌++◌, ◌<◌, ◌^◌, ◌↔◌, ℕ, Bool, List, length, Result};
+ghost use Rattle.std.specs.Prelude.{◌≡◌, ◌++◌, ◌<◌, ◌^◌, ◌↔◌, ℕ, Bool, false, List, length, Result, IfErr};
 ghost use Rattle.x690.specs.Octets.{IsOctets};
 ghost use Rattle.x690.specs.Identifiers.{Identifier, IsCutIdentifier};
 ghost use Rattle.x690.specs.Lengths.{LengthForm};
@@ -13,7 +13,8 @@ ghost use Rattle.asn1_headers.specs.declared.error.Err.{Err as Refusal};
 ghost use Rattle.asn1_headers.specs.declared.error.Error.{Error};
 ghost use Rattle.asn1_headers.specs.declared.header.Header.{Header};
 ghost use Rattle.asn1_rs.specs.declared.asn1_types.any.Any.{Any};
-ghost use Rattle.asn1_headers.specs.Answers.{Exactly, TellsMemory, ReadsBack, RefusedAsBeginning, RefusedBeforeEnd};
+ghost use Rattle.asn1_headers.specs.Error.{HeldIn};
+ghost use Rattle.asn1_headers.specs.Answers.{Exactly, TellsMemory, IsOther, ReadsBack, RefusedAsBeginning, RefusedBeforeEnd};
 ghost use Rattle.asn1_rs.specs.Grammar.Form.{IsStrict};
 ghost use Rattle.asn1_headers.specs.Ber.{max_depth, EndsWithin};
 ghost use Rattle.asn1_headers.specs.Header.Reading.{refusal_of, HeaderGives};
@@ -36,7 +37,8 @@ use asn1_headers::error::Error;
 ///
 /// What `T::from_ber` may answer, `T.ber_gives`, is an Ok exactly where a word by BER begins the octets, with its value
 /// and the rest, and a final refusal else. The strict encoding of a value is read back before any rest. Octets that are
-/// shorter than a word that more of them make them begin with are refused.
+/// shorter than a word that more of them make them begin with are refused. Of a type that does not allocate no refusal
+/// reports out of memory.
 pub fn reader_is_exact_by_ber<'a, T: LawfulBer<'a, E>, E: From<Error>>()
     ensures exact { (input : List ℕ) (answer : Result (List ℕ × T) (Refusal E)) → IsOctets input →
         T.ber_gives input answer →
@@ -51,6 +53,9 @@ pub fn reader_is_exact_by_ber<'a, T: LawfulBer<'a, E>, E: From<Error>>()
         → T.grammar.Ber word v → input ++ more ≡ word ++ rest → length input < length word
         → RefusedBeforeEnd (TellsMemory T.grammar.allocates E.from_gives)
         (EndsWithin input) more answer }
+    ensures spares { (input : List ℕ) (answer : Result (List ℕ × T) (Refusal E)) →
+        T.grammar.allocates ≡ false → T.ber_gives input answer →
+        IfErr answer (HeldIn (IsOther E.from_gives)) }
 {}
 
 /// The reader by DER of a lawful type is exact: what `T::from_der` may answer, `T.der_gives`, is what
@@ -69,6 +74,9 @@ pub fn reader_is_exact_by_der<'a, T: LawfulDer<'a, E>, E: From<Error>>()
         → T.grammar.Der word v → input ++ more ≡ word ++ rest → length input < length word
         → RefusedBeforeEnd (TellsMemory T.grammar.allocates E.from_gives)
         (IsCutIdentifier input) more answer }
+    ensures spares { (input : List ℕ) (answer : Result (List ℕ × T) (Refusal E)) →
+        T.grammar.allocates ≡ false → T.der_gives input answer →
+        IfErr answer (HeldIn (IsOther E.from_gives)) }
 {}
 
 /// An octet string has at most one value, and a value at most one strict encoding.

@@ -4,6 +4,7 @@ pub mod sequence;
 pub mod set;
 
 ghost use Rattle.std.specs.Prelude.{◌≡◌, ◌++◌, false, IfOk, IfErr, IsErr, length};
+ghost use Rattle.std.specs.declared.result.Result.TheVariants as results;
 ghost use Rattle.std.specs.Borrow.{Bor};
 ghost use Rattle.std.specs.Fn.{FnOnceReturnsAt, FnOnceTakesAt};
 ghost use Rattle.std.specs.Iterator.{IsFinite};
@@ -17,8 +18,9 @@ ghost use Rattle.asn1_headers.specs.Ber.{max_depth};
 ghost use Rattle.asn1_headers.specs.Header.Reading.{der_refusal, ber_refusal};
 ghost use Rattle.asn1_rs.specs.Kept.{TakesLent, TakesList, OnLent, IsRefused, IsErrorOf, HandsListOn, ListThenGives, CopiesGive, JoinsGiven};
 ghost use Rattle.asn1_rs.specs.Lists.{IsListOr, ItemsGive, listed};
-ghost use Rattle.asn1_rs.specs.ToDer.{Either, VectorRefuses};
-ghost use Rattle.asn1_headers.specs.Error.{tells_of_io};
+ghost use Rattle.asn1_rs.specs.ToDer.{Either, VectorRefuses, IntoVector, RefusesAtOnce, some_allocates};
+ghost use Rattle.asn1_headers.specs.Error.{tells_of_io, vector_refusal};
+ghost use Rattle.asn1_headers.specs.declared.error.Error.{Error};
 ghost use Rattle.asn1_headers.specs.declared.error.SerializeError.{SerializeError};
 
 use crate::asn1_types::any::Any;
@@ -165,7 +167,15 @@ fn with_encoding<T: ToDer>(octets: Vec<u8>, item: &T, alloc: Global) -> Serializ
         (Either (T.header_refuses item.now) (T.content_refuses item.now))) }
     ensures accepted { (e : SerializeError) → T.tells item.now →
         Either (T.header_refuses item.now) (T.content_refuses item.now) e → IsErr result }
+    ensures uncounted { (e : Error) → T.tells item.now → T.count_refuses item.now e → IsErr result }
+    ensures at_once { (e : SerializeError) → T.tells item.now → T.header_refuses item.now e →
+        IfErr result (IntoVector (RefusesAtOnce
+        (some_allocates T.write_allocates T.count_allocates T.content_allocates)
+        (length (T.header item.now ++ T.content item.now))
+        (Either (T.header_refuses item.now) (T.content_refuses item.now)))) }
     ensures memory { IfErr result (λ e. tells_of_io e ≡ false) }
+    ensures first { (e : SerializeError) → T.refuses_first item.now e →
+        result ≡ results.Err (vector_refusal e) }
 {
     let mut w = Told::new(octets);
     match item.write_der(alloc, &mut w) {
@@ -174,14 +184,17 @@ fn with_encoding<T: ToDer>(octets: Vec<u8>, item: &T, alloc: Global) -> Serializ
     }
 }
 
-/// The encodings of the items, joined in the order in which the iterator gives them.
+/// The encodings of the items, joined in the order in which the iterator gives them. The first item that is refused ends
+/// that.
 pub(crate) fn joined_encodings<T, I>(alloc: Global, items: I) -> SerializeResult<Vec<u8>>
 where
     T: ToDer + Drop,
     I: Iterator<Item = T> + Drop,
     requires can { I.can_next items × IsFinite (I.remaining items) }
-    ensures { JoinsGiven I.next_gives T.tells (λ x. T.header x ++ T.content x)
-        (λ x. Either (T.header_refuses x) (T.content_refuses x)) items (listed result) }
+    ensures { JoinsGiven I.next_gives
+        (some_allocates T.write_allocates T.count_allocates T.content_allocates) T.tells
+        (λ x. T.header x ++ T.content x) T.count_refuses T.header_refuses T.content_refuses
+        T.refuses_first items (listed result) }
 {
     let mut octets = Vec::new(alloc);
     for item in items {

@@ -18,7 +18,7 @@ ghost use Rattle.asn1_rs.specs.Laws.Leaf.{leaf_lawful, leaf_constraints, lent_co
 ghost use Rattle.asn1_rs.specs.Leaf.{LeafGives, LendsContent, leaf_element};
 ghost use Rattle.asn1_rs.specs.Lists.{ItemsGive, listed};
 ghost use Rattle.asn1_rs.specs.Sequence.Iterator.{octets_left};
-ghost use Rattle.asn1_rs.specs.ToDer.{Either};
+ghost use Rattle.asn1_rs.specs.ToDer.{some_allocates};
 
 use crate::asn1_types::any::Any;
 use crate::asn1_types::kept::{
@@ -221,9 +221,10 @@ impl Sequence<'static> {
         T: ToDer + Tagged + Drop,
         I: Iterator<Item = T> + Drop,
         requires can { I.can_next items × IsFinite (I.remaining items) }
-        ensures { JoinsGiven I.next_gives T.tells (λ x. T.header x ++ T.content x)
-            (λ x. Either (T.header_refuses x) (T.content_refuses x)) items
-            (content_octets sequence_octets result) }
+        ensures { JoinsGiven I.next_gives
+            (some_allocates T.write_allocates T.count_allocates T.content_allocates) T.tells
+            (λ x. T.header x ++ T.content x) T.count_refuses T.header_refuses T.content_refuses
+            T.refuses_first items (content_octets sequence_octets result) }
     {
         match joined_encodings(alloc, items) {
             Ok(content) => Ok(Sequence::new(CowSlice::Owned(content))),

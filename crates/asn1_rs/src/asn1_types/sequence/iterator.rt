@@ -1,5 +1,6 @@
 //! Walking over the items in contents octets, as those of a sequence or a set.
-ghost use Rattle.std.specs.Prelude.{◌≡◌, ◌+◌, ◌≤◌, ℕ, Bool, List, [], ◌∷◌, ◌++◌, Result, Ok, length};
+ghost use Rattle.std.specs.Prelude.{◌≡◌, ◌⊎◌, ◌+◌, ◌≤◌, ℕ, Bool, false, List, [], ◌∷◌, ◌++◌, Result, Ok, IfErr, length, map};
+ghost use Rattle.std.specs.List.{All};
 ghost use Rattle.std.specs.declared.result.Result.TheVariants as results;
 ghost use Rattle.std.specs.Iterator.{at_most, Yields};
 ghost use Rattle.std.specs.Iterator.Runs.{Run};
@@ -7,11 +8,14 @@ ghost use Rattle.x690.specs.Octets.{IsOctets};
 ghost use Rattle.x690.specs.Identifiers.{IsCutIdentifier};
 ghost use Rattle.x690.specs.Lengths.{indefinite};
 ghost use Rattle.x690.specs.Nested.{IsElement};
-ghost use Rattle.x690.specs.Joined.{AreJoinedWords};
+ghost use Rattle.x690.specs.Joined.{AreJoinedWords, IsJoined};
 ghost use Rattle.asn1_headers.specs.declared.error.Err.{Err as Refusal};
 ghost use Rattle.asn1_headers.specs.declared.content.BerParser.{BerParser};
-ghost use Rattle.asn1_headers.specs.Answers.{seen, TellsMemory};
+ghost use Rattle.asn1_headers.specs.Answers.{seen, TellsMemory, IsOther};
+ghost use Rattle.asn1_headers.specs.Error.{HeldIn};
 ghost use Rattle.asn1_headers.specs.declared.error.Error.{Error};
+ghost use Rattle.asn1_headers.specs.declared.error.Error.TheVariants as errors;
+ghost use Rattle.asn1_rs.specs.Lists.{ItemsGive, HasNoJoining};
 ghost use Rattle.asn1_rs.specs.declared.asn1_types.any.Any.{Any};
 ghost use Rattle.asn1_rs.specs.Any.{parts_of, BerElementGives};
 ghost use Rattle.asn1_headers.specs.Ber.{max_depth, EndsWithin};
@@ -140,6 +144,11 @@ pub trait ReadsWords<'a, T, E: From<Error>>: ReadsItems<'a, T, E> {
     /// It takes exactly the words, and one word alone begins an input.
     ghost exact: { ReadsExactly Self.IsCut Self.Words Self.value
         (TellsMemory Self.allocates E.from_gives) Self.item_gives };
+
+    /// Where reading does not allocate, no refusal reports out of memory.
+    ghost spares: { Self.allocates ≡ false → (octets : List ℕ)
+        (answer : Result (List ℕ × T) (Refusal E)) → Self.item_gives octets answer →
+        IfErr answer (HeldIn (IsOther E.from_gives)) };
 }
 
 impl<'a, T: LawfulBer<'a, E>, E: From<Error>> ReadsWords<'a, T, E> for BerParser {
@@ -154,6 +163,8 @@ impl<'a, T: LawfulBer<'a, E>, E: From<Error>> ReadsWords<'a, T, E> for BerParser
     ghost allocates = { T.grammar.allocates };
 
     ghost exact = { record { one_word = T.lawful_item.ber_one; takes = T.ber_exact } };
+
+    ghost spares = { T.ber_spares };
 }
 
 impl<'a, T: LawfulDer<'a, E>, E: From<Error>> ReadsWords<'a, T, E> for DerParser {
@@ -168,6 +179,8 @@ impl<'a, T: LawfulDer<'a, E>, E: From<Error>> ReadsWords<'a, T, E> for DerParser
     ghost allocates = { T.grammar.allocates };
 
     ghost exact = { record { one_word = T.lawful_item.der_one; takes = T.der_exact } };
+
+    ghost spares = { T.der_spares };
 }
 
 /// A walk ends, whatever the items are. Each answer takes an octet at least, so there are no more answers than octets;
@@ -188,10 +201,10 @@ pub fn walks_end<'a, T, F: ReadsItems<'a, T, E>, E: From<Error>>()
 
 /// A walk over contents octets gives the values of words of the reader's grammar, whose joining begins the contents
 /// octets, and then perhaps one refusal, where no word begins what is left. Over a joining of words nothing is refused.
-/// Where reading allocates, a refusal may report out of memory.
+/// Where reading allocates, a refusal may report out of memory; else none does.
 ///
 /// The calls are those of `next` or of a `for`, from an iterator `s` to an
-/// iterator `t`; `run` and `whole_run` say the same of the calls that std's consumers make.
+/// iterator `t`; `run`, `whole_run` and `spares_run` say the same of the calls that std's consumers make.
 pub fn walks_take_words<'a, T, F: ReadsWords<'a, T, E>, E: From<Error>>()
     ensures calls { (s t : SequenceIterator T F E) (answers : List (Result T E))
         → IsOctets (octets_left s) → Yields (WalkSteps F.item_gives E.from_gives) s answers t
@@ -210,6 +223,30 @@ pub fn walks_take_words<'a, T, F: ReadsWords<'a, T, E>, E: From<Error>>()
         (WalkSteps F.item_gives E.from_gives))
         → IsOctets (octets_left p.from) → AreJoinedWords F.Words (octets_left p.from)
         → IsWalkOf F.Words F.value (TellsMemoryAlone (IsMemory F.allocates E.from_gives)) p }
+    ensures spares { (s t : SequenceIterator T F E) (answers : List (Result T E))
+        → F.allocates ≡ false → Yields (WalkSteps F.item_gives E.from_gives) s answers t
+        → All (λ answer. IfErr answer (IsOther E.from_gives)) answers }
+    ensures spares_run { (p : Run {S = SequenceIterator T F E} {A = Result T E}
+        (WalkSteps F.item_gives E.from_gives))
+        → F.allocates ≡ false → All (λ answer. IfErr answer (IsOther E.from_gives)) p.items }
+{}
+
+/// What collecting the items in contents octets answers is the values of words of the reader's grammar, whose joining
+/// the contents octets are, in their order, and no others. A refusal comes only where they are no joining of words, or
+/// when out of memory.
+///
+/// It speaks of the items that `der_sequence_of` of a [`Sequence`](crate::Sequence) and its like answer, by `F` over
+/// the parser that they read by.
+pub fn items_are_joined_words<'a, T, F: ReadsWords<'a, T, E>, E: From<Error>>()
+    ensures joined { (content : List ℕ) (items : List T) → IsOctets content →
+        ItemsGive F.item_gives E.from_gives content (results.Ok items) →
+        IsJoined F.Words content (map F.value items) }
+    ensures alone { (content : List ℕ) (items : List T) (values : List F.Value) →
+        IsOctets content → ItemsGive F.item_gives E.from_gives content (results.Ok items) →
+        IsJoined F.Words content values → values ≡ map F.value items }
+    ensures refused { (content : List ℕ) (e : E) → IsOctets content →
+        ItemsGive {T = T} F.item_gives E.from_gives content (results.Err e) →
+        E.from_gives errors.OutOfMemory e ⊎ HasNoJoining F.Words content }
 {}
 
 /// A walk by BER over the contents octets of an element of indefinite length that [`Any`](crate::Any) was read from

@@ -16,3 +16,6 @@ pub returns-clause-beginning : goal.returns-clause-beginning
 returns-clause-beginning g c = λ input answer more word rest v o gives d e l.
     word_beginning_is_refused EndsWithin g.T.Grammar.grammar.Ber g.T.Grammar.grammar.value _ g.met.T.LawfulItem.lawful_item.ber_one input answer
     ((g.met.T.LawfulBer c.lifetimes (search rules)).ber_exact input answer o gives) more word rest v d e l
+
+pub returns-clause-spares : goal.returns-clause-spares
+returns-clause-spares g c = λ input answer none gives. (g.met.T.LawfulBer c.lifetimes (search rules)).ber_spares none input answer gives

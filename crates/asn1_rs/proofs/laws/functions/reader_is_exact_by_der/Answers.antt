@@ -16,3 +16,6 @@ pub returns-clause-beginning : goal.returns-clause-beginning
 returns-clause-beginning g c = λ input answer more word rest v o gives d e l.
     word_beginning_is_refused IsCutIdentifier g.T.Grammar.grammar.Der g.T.Grammar.grammar.value _ g.met.T.LawfulItem.lawful_item.der_one input answer
     ((g.met.T.LawfulDer c.lifetimes (search rules)).der_exact input answer o gives) more word rest v d e l
+
+pub returns-clause-spares : goal.returns-clause-spares
+returns-clause-spares g c = λ input answer none gives. (g.met.T.LawfulDer c.lifetimes (search rules)).der_spares none input answer gives

@@ -2,6 +2,7 @@ use Rattle.std.proofs.Common.{rules}
 use Rattle.asn1_rs.specs.Sequence.Iterator.{octets_left}
 use Rattle.x690.specs.Octets.{IsOctets}
 use Rattle.asn1_rs.specs.Laws.Sequence.Iterator.{octets_kept, lawful_walk, whole_walk, octets_walked, run_walked}
+use Rattle.asn1_rs.proofs.JoinedItems.{walk_spares, run_spares}
 use Rattle.asn1_rs.proofs.asn1_types.sequence.iterator.walks_take_words.Goals as goal
 
 pub returns-clause-calls : goal.returns-clause-calls
@@ -23,3 +24,10 @@ pub returns-clause-whole_run : goal.returns-clause-whole_run
 returns-clause-whole_run g c = λ p o j.
     run_walked g.F.ReadsItems.item_gives g.E.From.from_gives g.F.ReadsWords.Words g.F.ReadsWords.value _ p
     (λ left. whole_walk _ g.E.From.from_gives g.F.ReadsWords.Words g.F.ReadsWords.value g.F.ReadsWords.allocates g.F.ReadsWords.IsCut (g.met.F.ReadsWords c.lifetimes (search rules)).exact.one_word IsOctets octets_kept (g.met.F.ReadsWords c.lifetimes (search rules)).exact.takes p.items (octets_left p.from) left o j)
+
+pub returns-clause-spares : goal.returns-clause-spares
+returns-clause-spares g c = λ s t answers none y.
+    walk_spares g.F.ReadsItems.item_gives g.E.From.from_gives ((g.met.F.ReadsWords c.lifetimes (search rules)).spares none) answers (octets_left s) (octets_left t) (octets_walked g.F.ReadsItems.item_gives g.E.From.from_gives s t answers y)
+
+pub returns-clause-spares_run : goal.returns-clause-spares_run
+returns-clause-spares_run g c = λ p none. run_spares g.F.ReadsItems.item_gives g.E.From.from_gives ((g.met.F.ReadsWords c.lifetimes (search rules)).spares none) p
