@@ -7,3 +7,5 @@ mod callers;
 mod lists;
 #[cfg(test)]
 mod refusals;
+#[cfg(test)]
+mod sets;
