@@ -22,7 +22,7 @@ fn main(rt: HostRuntime) -> ExitCode {
     match answer_input(&rt) {
         Ok(()) => ExitCode::SUCCESS,
         Err(e) => {
-            let _ = eprintln!(rt; "asn1vec: {e}");
+            let _ = eprintln!(rt; "{e}");
             ExitCode::FAILURE
         }
     }

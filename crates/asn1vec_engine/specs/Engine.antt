@@ -1,5 +1,5 @@
 -- What the engine has written on its way.
-use Rattle.std.specs.Prelude.{◌≡◌, ℕ, List, ◌++◌, Option, Bool, true, false, IsTrue, Result, Ok, Err}
+use Rattle.std.specs.Prelude.{◌≡◌, ℕ, List, ◌++◌, Option, Bool, true, false, IsTrue, Result, Ok, Err, codes}
 use Rattle.std.specs.Io.KnownBytes.{Appends}
 use Rattle.asn1vec_engine.specs.declared.engine.RunError.{RunError}
 use Rattle.asn1vec_engine.specs.declared.engine.RunError.TheVariants.{Input, Output, OutOfMemory}
@@ -37,3 +37,9 @@ TellsMark was is (Ok x) = is ≡ was
 TellsMark was is (Err Input) = is ≡ was
 TellsMark was is (Err Output) = IsTrue is
 TellsMark was is (Err OutOfMemory) = is ≡ was
+
+-- the line by which the program says why it ended
+abbrev pub last_line : RunError → List ℕ
+last_line Input = codes "asn1vec: input failed"
+last_line Output = codes "asn1vec: output failed"
+last_line OutOfMemory = codes "asn1vec: out of memory"

@@ -1,32 +1,44 @@
 //! The run over an input: an answer for each line.
-ghost use Rattle.std.specs.Prelude.{◌≡◌, ◌≢◌, ℕ, ◌++◌, ◌∷◌, [], List, Option, All, OnOk, OnErr, IfSome};
+ghost use Rattle.std.specs.Prelude.{◌≡◌, ◌≢◌, ℕ, ◌++◌, ◌∷◌, [], List, Option, Some, All, OnOk, OnErr, IfSome};
 ghost use Rattle.std.specs.Prelude.{◌⊎◌};
 ghost use Rattle.std.specs.Io.KnownBytes.{Appends};
 ghost use Rattle.asn1vec_answers.specs.Answer.{IsAnswerLine};
 ghost use Rattle.asn1vec_engine.specs.Lines.{lines_of};
 ghost use Rattle.asn1vec_answers.specs.Memory.{TakesNoMemory};
 ghost use Rattle.asn1vec_engine.specs.Outputs.{AllAlike, BeginsAnswer};
-ghost use Rattle.asn1vec_engine.specs.Engine.{AnswersTo, BeginsAnswersTo, Moves, Begins, TellsMark};
+ghost use Rattle.asn1vec_engine.specs.Engine.{AnswersTo, BeginsAnswersTo, Moves, Begins, TellsMark, last_line};
 ghost use Rattle.asn1vec_engine.specs.declared.engine.RunError.TheVariants.{OutOfMemory};
 
 use asn1_rs::{DerWrite, put_all};
 use asn1vec_answers::{LONGEST_LINE, answer_line, one_answer, split_once};
 use std::alloc::{AllocError, Global};
+use std::fmt;
 use std::io::Read;
 
-/// Why a run ended before its input.
-#[derive(Clone, Copy, Debug, PartialEq, Eq, thiserror::Error)]
+/// Why a run ended before its input. Its text is the last line of the program.
+#[derive(Clone, Copy, Debug, PartialEq, Eq)]
 pub enum RunError {
     /// The reader answered an Err, or gave octets 2^64 - 1 times and was not at its end.
-    #[error("the input could not be read")]
     Input,
     /// The writer failed, or was marked before.
-    #[error("the output could not be written")]
     Output,
     /// A buffer of the run could not grow.
-    #[error("out of memory")]
     OutOfMemory,
 }
+
+impl fmt::Display for RunError {
+    ghost output = { λ e. Some (last_line e) };
+
+    fn fmt<W: fmt::Write>(&self, f: &mut fmt::Formatter<W>) -> fmt::Result {
+        match self {
+            RunError::Input => write!(f, "asn1vec: input failed"),
+            RunError::Output => write!(f, "asn1vec: output failed"),
+            RunError::OutOfMemory => write!(f, "asn1vec: out of memory"),
+        }
+    }
+}
+
+impl std::error::Error for RunError {}
 
 impl From<AllocError> for RunError {
     ghost from_gives = { λ _ e. e ≡ OutOfMemory };

@@ -3,8 +3,10 @@
 use crate::runs::{
     SmallReads, assert_answered, assert_input_fails, assert_lines, assert_output_fails,
 };
+use asn1vec_engine::RunError;
 use std::io::ErrorKind;
 use std::test::Fail;
+use test_rows::assert_texts;
 
 /// A line, and its answer.
 const LINES: &str = "\
@@ -79,4 +81,11 @@ fn writer_of_answers_ends_at_each_place(rt: HostRuntime) -> Result<(), Fail> {
         assert_output_fails(rt.alloc(), lines, room, None, front)?;
     }
     Ok(())
+}
+
+#[test]
+fn failures_have_last_lines(rt: HostRuntime) -> Result<(), Fail> {
+    let failures = [RunError::Input, RunError::Output, RunError::OutOfMemory];
+    let lines = "asn1vec: input failed\nasn1vec: output failed\nasn1vec: out of memory\n";
+    assert_texts(rt.alloc(), &failures, lines)
 }
