@@ -40,7 +40,8 @@ impl Needed {
 /// The library makes no `Failure`; one that a caller's reader makes is passed on.
 #[derive(Debug, Clone, Drop, PartialEq, Eq)]
 pub enum Err<E> {
-    /// Octets are missing at the end of the input.
+    /// Octets are missing at the end of the input; or, at a value under an explicit tag and at what a
+    /// closure reads, at the end of a part that is whole itself, where more input does not help.
     Incomplete(Needed),
     /// The input is refused, whatever follows.
     Error(E),

@@ -81,6 +81,7 @@ pub use asn1_types::tagged::TaggedValue;
 pub use asn1_types::tagged::builder::TaggedParserBuilder;
 pub use asn1_types::tagged::builder::parse_der_tagged_explicit;
 pub use asn1_types::tagged::builder::parse_der_tagged_implicit;
+pub use asn1_types::tagged::classes_of_tags;
 pub use asn1_types::tagged::helpers::parse_der_tagged_explicit_g;
 pub use asn1_types::tagged::helpers::parse_der_tagged_implicit_g;
 pub use asn1_types::tagged::optional::OptTaggedParser;

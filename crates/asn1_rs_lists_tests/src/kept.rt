@@ -350,8 +350,28 @@ fn contents_are_handed_on(rt: HostRuntime) -> Result<(), Fail> {
 
 #[test]
 fn copies_are_equal(rt: HostRuntime) -> Result<(), Fail> {
-    let copies = ((-5i16).to_static(rt.alloc()), true.to_static(rt.alloc()));
-    assert_shown(rt.alloc(), &copies, "(Ok(-5), Ok(true))")
+    let unsigned = (
+        1u8.to_static(rt.alloc()),
+        2u16.to_static(rt.alloc()),
+        3u32.to_static(rt.alloc()),
+        4u64.to_static(rt.alloc()),
+        5u128.to_static(rt.alloc()),
+    );
+    let signed = (
+        (-1i8).to_static(rt.alloc()),
+        (-2i16).to_static(rt.alloc()),
+        (-3i32).to_static(rt.alloc()),
+        (-4i64).to_static(rt.alloc()),
+        (-5i128).to_static(rt.alloc()),
+    );
+    let expected =
+        "((Ok(1), Ok(2), Ok(3), Ok(4), Ok(5)), (Ok(-1), Ok(-2), Ok(-3), Ok(-4), Ok(-5)), \
+        Ok(true))";
+    assert_shown(
+        rt.alloc(),
+        &(unsigned, signed, true.to_static(rt.alloc())),
+        expected,
+    )
 }
 
 /// An element that stays, as a sequence and as a set.

@@ -1,6 +1,6 @@
 //! Sets: how they are read, checked, converted and written.
 
-use asn1_rs::{Any, Boolean, Error, FromAny, FromBer, FromDer, ParseResult, SetOf};
+use asn1_rs::{Any, Boolean, Error, FromAny, FromBer, FromDer, ParseResult, SetOf, strict_vec};
 use std::alloc::Global;
 use std::collections::{BTreeSet, HashSet};
 use std::fmt::Write;
@@ -266,4 +266,12 @@ fn members_are_written_by_their_encodings(rt: HostRuntime) -> Result<(), Fail> {
         &ordered,
         "310e0201000201ff020200800202012c count 16 14 raw 310e0201000201ff020200800202012c",
     )
+}
+
+/// By the call whose contract rests on the laws of the set, and so on those of its members.
+#[test]
+fn set_of_references_is_written(rt: HostRuntime) -> Result<(), Fail> {
+    let set = BTreeSet::from_array(rt.alloc(), [&5_u8, &1])?;
+    let octets = strict_vec(rt.alloc(), &set)?;
+    assert_shown(rt.alloc(), &octets, "[49, 6, 2, 1, 1, 2, 1, 5]")
 }

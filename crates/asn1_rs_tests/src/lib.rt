@@ -2,6 +2,8 @@
 #![tactic(auto)]
 
 #[cfg(test)]
+mod aliases;
+#[cfg(test)]
 mod by_hand;
 #[cfg(test)]
 mod calls;

@@ -15,7 +15,7 @@ ghost use Rattle.asn1_rs.specs.Grammar.Item.{ItemGrammar, IsLawfulItem, by_held}
 ghost use Rattle.asn1_rs.specs.Kinds.{ElementGrammar, IsLawfulElement, IsExactCheck, IsExactConversion, item_grammar};
 ghost use Rattle.asn1_rs.specs.Laws.Kinds.{lawful_item, lawful_by_held, other_error};
 
-use crate::laws::{Grammar, LawfulAuto, LawfulBody, LawfulCheck, LawfulItem};
+use crate::laws::{Grammar, LawfulAuto, LawfulBody, LawfulCheck, LawfulItem, LawfulMember};
 use crate::traits::{CheckDerConstraints, DerAutoDerive, FromAny, Tagged};
 use asn1_headers::error::Error;
 use asn1_headers::tag::Tag;
@@ -193,4 +193,9 @@ impl<T: LawfulElement> LawfulAuto for T {
     ghost der_split = { λ o v w. w };
 
     ghost der_join = { λ o v w. w };
+}
+
+/// References are equal where what they refer to is.
+impl<T: LawfulMember> LawfulMember for &T {
+    ghost same = { λ x y. T.same x.now y.now };
 }

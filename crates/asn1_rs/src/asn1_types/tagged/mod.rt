@@ -10,7 +10,7 @@ pub mod optional;
 pub mod parser;
 mod parser_writing;
 
-ghost use Rattle.std.specs.Prelude.{◌≡◌, ◌<◌};
+ghost use Rattle.std.specs.Prelude.{◌≡◌, ◌<◌, ◌∷◌, []};
 ghost use Rattle.std.proofs.Common.{lit<};
 ghost use Rattle.asn1_rs.specs.Tagged.{has_class, number_of};
 ghost use Rattle.asn1_rs.specs.Any.{parts_of};
@@ -170,4 +170,23 @@ impl Any<'_> {
         }
         Err(Error::unexpected_class(Class::try_from(class).ok(), actual))
     }
+}
+
+/// The numbers of the classes of a tag of each name: explicit and implicit context-specific ones, of the application
+/// class, of the private class, and optional context-specific ones.
+pub fn classes_of_tags() -> [u8; 8]
+    ensures { result ≡ 2 ∷ 2 ∷ 1 ∷ 1 ∷ 3 ∷ 3 ∷ 2 ∷ 2 ∷ [] }
+{
+    let explicit: OptTaggedExplicit<(), (), 0> = None;
+    let implicit: OptTaggedImplicit<(), (), 0> = None;
+    [
+        TaggedExplicit::<(), (), 0>::explicit(()).class(),
+        TaggedImplicit::<(), (), 0>::implicit(()).class(),
+        ApplicationExplicit::<(), (), 0>::explicit(()).class(),
+        ApplicationImplicit::<(), (), 0>::implicit(()).class(),
+        PrivateExplicit::<(), (), 0>::explicit(()).class(),
+        PrivateImplicit::<(), (), 0>::implicit(()).class(),
+        explicit.unwrap_or(TaggedValue::explicit(())).class(),
+        implicit.unwrap_or(TaggedValue::implicit(())).class(),
+    ]
 }
