@@ -26,6 +26,8 @@ mod numbers;
 #[cfg(test)]
 mod options;
 #[cfg(test)]
+mod own_errors;
+#[cfg(test)]
 mod parsers;
 #[cfg(test)]
 mod reading;

@@ -7,6 +7,7 @@ mod borrowed;
 mod fingerprint;
 mod incomplete;
 mod items;
+mod levels;
 mod message;
 mod numbers;
 mod point;
@@ -23,6 +24,7 @@ pub use borrowed::{
 pub use fingerprint::Fingerprint;
 pub use incomplete::{read_element, read_header};
 pub use items::{count_of_numbers, elements_in, items_in, numbers_in};
+pub use levels::{Level, LevelError, levels_under_tags_are_exact};
 pub use message::Message;
 pub use numbers::{
     count_number, is_same_number, is_strict_front, read_number, read_number_by_ber, write_number,
