@@ -86,6 +86,10 @@ impl LawfulElement for Level {
     ghost lawful = { holding_lawful level_number _ (integer_lawful (IsUnsigned 1) pos) };
 
     ghost checked = { integer_checks };
+
+    fn value_in_hand(&self) {
+        self.0.value_in_hand();
+    }
 }
 
 impl<'a> LawfulBody<'a, LevelError> for Level {
