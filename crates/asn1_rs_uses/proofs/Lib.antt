@@ -1,3 +1,4 @@
 pub mod Collected
+pub mod JoinedNumbers
 pub mod Messages
 pub mod Unwritten

@@ -7,6 +7,7 @@ mod borrowed;
 mod fingerprint;
 mod incomplete;
 mod items;
+mod joined;
 mod message;
 mod numbers;
 mod point;
@@ -22,6 +23,7 @@ pub use borrowed::{
 pub use fingerprint::Fingerprint;
 pub use incomplete::{read_element, read_header};
 pub use items::{count_of_numbers, elements_in, items_in, numbers_in};
+pub use joined::{check_numbers, numbers_of, set_of_numbers};
 pub use message::Message;
 pub use numbers::{
     count_number, is_same_number, is_strict_front, read_number, read_number_by_ber, write_number,
