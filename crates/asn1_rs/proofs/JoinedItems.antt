@@ -6,10 +6,10 @@ use Rattle.std.specs.List.{All}
 use Rattle.std.specs.Iterator.{Yields}
 use Rattle.std.specs.Iterator.Runs.{Run, YieldsRun}
 use Rattle.x690.specs.Elements.{Parts}
-use Rattle.x690.specs.Joined.{IsJoined, IsOneFront}
+use Rattle.x690.specs.Joined.{IsJoined}
 use Rattle.x690.specs.Laws.Joined.{joined_same}
 use Rattle.x690.specs.Octets.{IsOctets}
-use Rattle.asn1_headers.specs.Answers.{Exactly, IsOther, TellsMemory}
+use Rattle.asn1_headers.specs.Answers.{IsOther, TellsMemory}
 use Rattle.asn1_headers.specs.Error.{FlattenedTo, HeldIn}
 use Rattle.asn1_headers.specs.Walk.{EndsItem, TakesItem}
 use Rattle.asn1_headers.specs.declared.error.Err.{Err as Refusal}
@@ -17,7 +17,7 @@ use Rattle.asn1_headers.specs.declared.error.Err.TheVariants.{Incomplete as cut,
 use Rattle.asn1_headers.specs.declared.error.Error.{Error}
 use Rattle.asn1_headers.specs.declared.error.Error.TheVariants as errors
 use Rattle.asn1_rs.specs.declared.asn1_types.sequence.iterator.SequenceIterator.{SequenceIterator}
-use Rattle.asn1_rs.specs.Lists.{HasNoJoining, IsListOr, ItemsGive, ListBody, ListGives, ListOf, ListReads, ListTakes, MadeOf}
+use Rattle.asn1_rs.specs.Lists.{HasNoJoining, IsListOr, ItemsGive, ListBody, ListOf, ListReads, ListTakes, MadeOf}
 use Rattle.asn1_rs.specs.ToDer.{HasNone}
 use Rattle.asn1_rs.specs.Laws.Lists.{taken_joined, taken_none}
 use Rattle.asn1_rs.specs.Laws.Sequence.Iterator.{octets_kept, octets_walked}

@@ -1,9 +1,9 @@
 -- Items, one after another.
-use Rattle.std.proofs.Common.{◌≡◌, ◌≢◌, inl, inr, ℕ, ◌+◌, ◌<◌, ◌≤◌, suc, Bool, true, false, ◌==◌, List, [], ◌∷◌, ◌++◌, length, take, drop, get_or, map, Option, Some, None, Result, Ok, Err, refl, sym, ap, ◌∙◌, append_assoc, length-append, arith, subst}
+use Rattle.std.proofs.Common.{◌≡◌, ◌≢◌, inl, inr, ℕ, ◌+◌, ◌<◌, ◌≤◌, zero, suc, Bool, true, false, ◌==◌, List, [], ◌∷◌, ◌++◌, length, take, drop, get_or, map, Option, Some, None, Result, Ok, Err, refl, sym, ap, ◌∙◌, append_assoc, length-append, arith, subst}
 use Rattle.std.proofs.lemmas.Bool.Decides.{nat_tests}
 use Rattle.std.proofs.lemmas.Grind.{flat_map-append}
 use Rattle.std.proofs.lemmas.List.Concat.{flat_map-cons}
-use Rattle.std.proofs.lemmas.List.Elements.{All-more}
+use Rattle.std.proofs.lemmas.List.Elements.{All-head, All-more}
 use Rattle.std.proofs.lemmas.List.{take_all, take_more, append-nil}
 use Rattle.asn1_rs.specs.Laws.Lists.{none_refuses}
 use Rattle.std.proofs.Math.Seq.{split_at}
@@ -177,3 +177,8 @@ no_octets (x ∷ xs) b f e = let k : suc (length xs) ≡ 0 = grind (arith, nat_t
 -- all were checked
 pub checked_all : (check : Parts → Result (Unit {0}) Error → Type 0) (content left : List ℕ) (b : Bool) → b ≡ true → b ≡ (length left == 0) → (items : List Any) × Yields (TakesItem (CheckedGives check) (λ (x y : Error). y ≡ x)) content (map Ok items) left → (items : List Any) × Yields (TakesItem (CheckedGives check) (λ (x y : Error). y ≡ x)) content (map Ok items) []
 checked_all check content left b t e y = subst (λ (z : List ℕ). (items : List Any) × Yields (TakesItem (CheckedGives check) (λ (x y : Error). y ≡ x)) content (map Ok items) z) (no_octets left b t e) y
+
+-- An item is the first one, where those before it have what that one has not.
+pub only_first : {X : Type 0} (Q : X → Type 0) (x : X) (xs : List X) (i : ℕ) (y : X) → y ≡ get_or (x ∷ xs) i y → All Q (take i (x ∷ xs)) → (Q x → ⊥) → y ≡ x
+only_first Q x xs zero y at all none = at
+only_first Q x xs (suc i) y at all none = absurd (none (All-head Q x (take i xs) all))

@@ -1,4 +1,5 @@
-//! A type of a caller's own, without what it tells in contracts: read, checked and written alone and in a list.
+//! A type of a caller's own, without what it tells in contracts and with a raw form of its own: read, checked and written
+//! alone and in a list.
 
 use crate::calls::Library;
 use asn1_rs::{
@@ -68,17 +69,23 @@ impl ToDer for Colour {
     fn write_der_content<W: DerWrite>(&self, _alloc: Global, w: &mut W) -> SerializeResult<usize> {
         put_all(w, &self.0)
     }
+
+    /// The length octets in the long form. `to_der_vec_raw` is the trait's, and gives this form.
+    fn write_der_raw<W: DerWrite>(&self, _alloc: Global, w: &mut W) -> SerializeResult<usize> {
+        let [red, green, blue] = self.0;
+        put_all(w, &[0x04, 0x81, 0x03, red, green, blue])
+    }
 }
 
 const COLOURS: &str = "\
 Colour::from_der:
-0403010203ff = Colour([1, 2, 3]) rest ff written 0403010203 count 5 3 raw 0403010203
+0403010203ff = Colour([1, 2, 3]) rest ff written 0403010203 count 5 3 raw 048103010203
 2403010203 = Error(ConstructUnexpected)
 040101 = Error(InvalidLength)
 040301 = Incomplete(Size(2))
 
 Colour::from_ber:
-2403010203 = Colour([1, 2, 3]) rest - written 0403010203 count 5 3 raw 0403010203
+2403010203 = Colour([1, 2, 3]) rest - written 0403010203 count 5 3 raw 048103010203
 
 Vec::<Colour>::from_der:
 300a04030102030403040506 = [Colour([1, 2, 3]), Colour([4, 5, 6])] rest - written 300a04030102030403040506 count 12 10 \

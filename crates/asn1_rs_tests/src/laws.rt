@@ -1,13 +1,13 @@
 //! The laws: each can be called, at a type where it has one.
 
 use asn1_rs::{
-    Any, BerParser, DerParser, Error, answers_last, any_is_the_element, beginnings_are_incomplete,
-    beginnings_are_refused, classes_are_numbered, counts_are_of_the_strict_encoding,
-    indefinite_contents_are_walked, integers_have_one_refusal, one_refusal,
-    options_are_left_out_by_ber, options_are_left_out_by_der, options_are_read_back_by_ber,
-    options_are_read_back_by_der, reader_is_exact_by_ber, reader_is_exact_by_der,
-    strict_fronts_are_written_again, universal_types_are_numbered, walks_end, walks_take_words,
-    words_and_values_are_unique,
+    Any, BerParser, DerParser, Error, SetOf, answers_last, any_is_the_element,
+    beginnings_are_incomplete, beginnings_are_refused, classes_are_numbered,
+    counts_are_of_the_strict_encoding, indefinite_contents_are_walked, integers_have_one_refusal,
+    items_are_joined_words, lists_are_joined_words, one_refusal, options_are_left_out_by_ber,
+    options_are_left_out_by_der, options_are_read_back_by_ber, options_are_read_back_by_der,
+    reader_is_exact_by_ber, reader_is_exact_by_der, strict_fronts_are_written_again,
+    universal_types_are_numbered, walks_end, walks_take_words, words_and_values_are_unique,
 };
 
 #[test]
@@ -23,6 +23,8 @@ fn laws_of_each_type_are_called() {
     strict_fronts_are_written_again::<i16>();
     walks_end::<Any<'_>, BerParser, Error>();
     walks_take_words::<Any<'_>, DerParser, Error>();
+    items_are_joined_words::<i16, BerParser, Error>();
+    lists_are_joined_words::<SetOf<i16>, i16, DerParser, Error>();
 }
 
 #[test]

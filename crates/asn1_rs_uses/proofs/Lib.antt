@@ -1,4 +1,5 @@
 pub mod Collected
+pub mod JoinedNumbers
 pub mod Messages
 pub mod Principals
 pub mod TaggedOctets

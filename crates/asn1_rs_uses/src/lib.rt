@@ -8,6 +8,7 @@ mod by_bounds;
 mod fingerprint;
 mod incomplete;
 mod items;
+mod joined;
 mod labels;
 mod levels;
 mod message;
@@ -29,6 +30,7 @@ pub use by_bounds::{count_all, read_by_bound};
 pub use fingerprint::Fingerprint;
 pub use incomplete::{read_element, read_header};
 pub use items::{count_of_numbers, elements_in, items_in, numbers_in};
+pub use joined::{check_numbers, numbers_of, set_of_numbers};
 pub use labels::{
     Directory, GeneralString, Headed, Label, Labels, count_directory, count_headed, count_label,
     count_labels, directory_strict, directory_vec, headed_strict, headed_vec, label_vec,

@@ -1,8 +1,10 @@
 //! Numbers by BER and by DER, with the theorems in words of numbers.
-ghost use Rattle.std.specs.Prelude.{◌≡◌, ◌<◌, ◌≤◌, ◌^◌, ◌++◌, ◌↔◌, ℕ, ℤ, List, length, pos, IfOk, IfErr, IsTrue, MatchResult};
+ghost use Rattle.std.specs.Prelude.{◌≡◌, ◌≢◌, ◌<◌, ◌≤◌, ◌^◌, ◌++◌, ◌↔◌, ℕ, ℤ, List, length, pos, IfOk, IfErr, IsTrue, MatchResult};
 ghost use Rattle.x690.specs.Identifiers.{Identifier, IsCutIdentifier};
 ghost use Rattle.asn1_headers.specs.Answers.{seen, Exactly, RefusedBeforeEnd};
 ghost use Rattle.asn1_headers.specs.Ber.{EndsWithin};
+ghost use Rattle.asn1_headers.specs.Error.{HeldIn};
+ghost use Rattle.asn1_headers.specs.declared.error.Error.TheVariants as errors;
 ghost use Rattle.asn1_rs.specs.Integer.{IntegerForm, IsUnsigned};
 ghost use Rattle.asn1_headers.specs.Writer.{IsMemoryOrLength};
 ghost use Rattle.asn1_rs_uses.specs.Numbers.{IsStrictNumber, NoMemory, NumberByBer, NumberByDer};
@@ -20,6 +22,7 @@ pub fn read_number(alloc: Global, octets: &[u8]) -> ParseResult<'_, u64, Error>
     ensures cut { (more word rest : List ℕ) (n : ℤ) → NumberByDer word n
         → octets.now ++ more ≡ word ++ rest → length octets.now < length word
         → RefusedBeforeEnd NoMemory (IsCutIdentifier octets.now) more (seen result) }
+    ensures spares { IfErr (seen result) (HeldIn (λ e. e ≢ errors.OutOfMemory)) }
 {
     reader_is_exact_by_der::<u64, Error>();
     u64::from_der(alloc, octets)
@@ -28,6 +31,7 @@ pub fn read_number(alloc: Global, octets: &[u8]) -> ParseResult<'_, u64, Error>
 /// The number at the front of the octets, by BER, and what follows it.
 pub fn read_number_by_ber(alloc: Global, octets: &[u8]) -> ParseResult<'_, u64, Error>
     ensures exact { Exactly EndsWithin NumberByBer pos NoMemory octets.now (seen result) }
+    ensures spares { IfErr (seen result) (HeldIn (λ e. e ≢ errors.OutOfMemory)) }
 {
     reader_is_exact_by_ber::<u64, Error>();
     u64::from_ber(alloc, octets)

@@ -2,10 +2,11 @@
 
 use asn1_rs::{Error, FromDer, ToDer};
 use asn1_rs_uses::{
-    Fingerprint, Message, Point, SerialNumber, contents_octets, count_number, count_of_numbers,
-    elements_in, is_same_number, is_strict_front, items_of, numbers_in, read_bit_string,
-    read_element, read_header, read_integer, read_number, read_number_by_ber, read_numbers,
-    read_octet_string, read_octets, read_sequence, write_number, write_numbers,
+    Fingerprint, Message, Point, SerialNumber, check_numbers, contents_octets, count_number,
+    count_of_numbers, elements_in, is_same_number, is_strict_front, items_of, numbers_in,
+    numbers_of, read_bit_string, read_element, read_header, read_integer, read_number,
+    read_number_by_ber, read_numbers, read_octet_string, read_octets, read_sequence,
+    set_of_numbers, write_number, write_numbers,
 };
 use std::test::Fail;
 use test_rows::assert_shown;
@@ -149,5 +150,21 @@ fn what_is_cut_is_refused(rt: HostRuntime) -> Result<(), Fail> {
         read_element(alloc, &octets),
     );
     let expected = "(true, Err(Incomplete(Size(1))), Err(Incomplete(Size(1))))";
+    assert_shown(alloc, &answers, expected)
+}
+
+/// The numbers 5 and 4 in a set, and one octet behind it.
+const SET: [u8; 9] = [0x31, 0x06, 0x02, 0x01, 0x05, 0x02, 0x01, 0x04, 0xff];
+
+#[test]
+fn joined_numbers_are_read(rt: HostRuntime) -> Result<(), Fail> {
+    let alloc = rt.alloc();
+    let answers = (
+        numbers_of(alloc, &SET[2..8]),
+        check_numbers(alloc, &SET[2..8]),
+        check_numbers(alloc, &SET[2..]),
+        set_of_numbers(alloc, &SET),
+    );
+    let expected = "(Ok([5, 4]), Ok(()), Err(InvalidTag), Ok(([255], SetOf { items: [5, 4] })))";
     assert_shown(alloc, &answers, expected)
 }

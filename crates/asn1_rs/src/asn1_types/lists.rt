@@ -1,5 +1,5 @@
 //! Items of lists: how they are read, checked, counted and written.
-ghost use Rattle.std.specs.Prelude.{◌≡◌, ◌⊎◌, ◌≤◌, ◌<◌, ◌++◌, ◌||◌, ℕ, [], List, true, false, length, map, IfOk, IfErr, IsErr};
+ghost use Rattle.std.specs.Prelude.{◌≡◌, ◌⊎◌, ◌∷◌, Some, ◌≤◌, ◌<◌, ◌++◌, ◌||◌, ℕ, [], List, true, false, length, map, IfOk, IfErr, IsErr};
 ghost use Rattle.std.specs.declared.result.Result.TheVariants as results;
 ghost use Rattle.std.specs.List.{All, flat_map};
 ghost use Rattle.std.specs.Iterator.{IsFinite, IsFiniteIterable, Drains};
@@ -14,7 +14,7 @@ ghost use Rattle.asn1_headers.specs.declared.error.Error.{Error};
 ghost use Rattle.asn1_headers.specs.declared.error.SerializeError.TheVariants as serialize_errors;
 ghost use Rattle.asn1_headers.specs.declared.error.Error.TheVariants as errors;
 ghost use Rattle.asn1_headers.specs.Writer.{Wrote};
-ghost use Rattle.asn1_rs.specs.ToDer.{Refuses, RefusesCount, Either, IntoVector, HasNone, some_allocates};
+ghost use Rattle.asn1_rs.specs.ToDer.{Refuses, RefusesCount, Either, IntoVector, HasNone, RefusesAtOnce, some_allocates};
 ghost use Rattle.asn1_headers.specs.Error.{tells_of_io};
 
 use crate::asn1_types::any::Any;
@@ -29,6 +29,8 @@ use asn1_headers::error::{Err, Error, ParseResult, SerializeError, SerializeResu
 use asn1_headers::tag::Tag;
 use asn1_headers::writer::{DerWrite, Told, add_written};
 use std::alloc::{AllocError, Global};
+use std::io;
+use std::io::Write;
 use std::ops::Deref;
 
 /// How many items a list has room for before it grows: few, and no more than there would be if each other item were half
@@ -387,21 +389,32 @@ pub struct Encodings {
     pub(crate) lengths: Vec<usize>,
 }
 
-/// How many octets the encodings of a set have room for at first, so that a small set asks for them once.
+/// How many octets the encodings of a set have room for at first, so that a small set asks for that once.
 const FIRST_ROOM_OF_ENCODINGS: usize = 128;
 
-/// No octets, with the first room.
-fn no_encodings(alloc: Global) -> SerializeResult<Vec<u8>>
-    ensures none { IfOk result (λ octets. octets.items ≡ []) }
-    ensures memory { IfErr result (λ e. e ≡ serialize_errors.OutOfMemory) }
-{
-    match Vec::with_capacity(alloc, FIRST_ROOM_OF_ENCODINGS) {
-        Ok(octets) => Ok(octets),
-        Err(_) => Err(SerializeError::OutOfMemory),
+/// Octets that ask for their first room once the first of them come: an item that is refused before that asks for none.
+#[derive(Drop)]
+struct WithFirstRoom {
+    octets: Vec<u8>,
+}
+
+impl Write for WithFirstRoom {
+    ghost contents = { λ w. Some w.octets.items };
+
+    #[inline(always)]
+    fn write(&mut self, octets: &[u8]) -> io::Result<usize> {
+        if self.octets.capacity() == 0 {
+            self.octets.reserve(FIRST_ROOM_OF_ENCODINGS)?;
+        }
+        self.octets.write(octets)
+    }
+
+    fn flush(&mut self) -> io::Result<()> {
+        Ok(())
     }
 }
 
-/// The encoding of each item.
+/// The encoding of each item. Nothing asks for memory before the first item does.
 pub(crate) fn encode_items<T, R, I>(items: I, alloc: Global) -> SerializeResult<Encodings>
 where
     T: ToDer,
@@ -423,9 +436,17 @@ where
     ensures uncounted { (xs : List T) (e : Error) →
         GivesItems I.next_gives R.deref_gives items xs → All T.tells xs →
         SomeRefuses T.count_refuses xs e → IsErr result }
+    ensures at_once { (x : T) (xs : List T) (e : SerializeError) →
+        GivesItems I.next_gives R.deref_gives items (x ∷ xs) → All T.tells (x ∷ xs) →
+        T.header_refuses x e → IfErr result (IntoVector (RefusesAtOnce
+        (some_allocates T.write_allocates T.count_allocates T.content_allocates)
+        (length (T.header x ++ T.content x))
+        (Either (T.header_refuses x) (T.content_refuses x)))) }
     ensures memory { IfErr result (λ e. tells_of_io e ≡ false) }
 {
-    let mut w = Told::new(no_encodings(alloc)?);
+    let mut w = Told::new(WithFirstRoom {
+        octets: Vec::new(alloc),
+    });
     let mut lengths = Vec::new(alloc);
     for item in items {
         match item.write_der(alloc, &mut w) {
@@ -436,7 +457,7 @@ where
             Err(e) => return Err(without_io(e)),
         }
     }
-    let octets = w.into_inner();
+    let WithFirstRoom { octets } = w.into_inner();
     Ok(Encodings { octets, lengths })
 }
 

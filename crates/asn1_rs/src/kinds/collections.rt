@@ -12,7 +12,7 @@ ghost use Rattle.asn1_headers.specs.declared.error.Error.{Error};
 ghost use Rattle.asn1_headers.specs.Error.{tells_of_io};
 ghost use Rattle.asn1_rs.specs.Lists.{SomeRefuses, AreEncodings, list_grammar};
 ghost use Rattle.asn1_rs.specs.Set.{set_of, member_grammar, pairs_pass, set_content};
-ghost use Rattle.asn1_rs.specs.ToDer.{Refuses, RefusesCount, Either, IntoVector, IsWritable, some_allocates};
+ghost use Rattle.asn1_rs.specs.ToDer.{Refuses, RefusesCount, Either, IntoVector, IsWritable, some_allocates, RefusesAtOnce};
 ghost use Rattle.asn1_headers.specs.Writer.{Wrote};
 ghost use Rattle.asn1_rs.specs.Kinds.Writing.{Writing, list_writing, set_writing};
 ghost use Rattle.asn1_rs.specs.Laws.Forms.{der_strict};
@@ -107,6 +107,13 @@ pub trait WritesAscending: Listed {
             (Self.items self.now) e → IsErr result }
         ensures uncounted { (e : Error) → All Self.Item.tells (Self.items self.now) →
             SomeRefuses Self.Item.count_refuses (Self.items self.now) e → IsErr result }
+        ensures at_once { (x : Self.Item) (xs : List Self.Item) (e : SerializeError) →
+            Self.items self.now ≡ x ∷ xs → All Self.Item.tells (x ∷ xs) →
+            Self.Item.header_refuses x e → IfErr result (IntoVector (RefusesAtOnce
+            (some_allocates Self.Item.write_allocates Self.Item.count_allocates
+            Self.Item.content_allocates)
+            (length (Self.Item.header x ++ Self.Item.content x))
+            (Either (Self.Item.header_refuses x) (Self.Item.content_refuses x)))) }
         ensures memory { IfErr result (λ e. tells_of_io e ≡ false) };
 }
 
@@ -175,6 +182,11 @@ where
         (L.items set.now) e → IsErr result }
     ensures uncounted { (e : Error) → All T.tells (L.items set.now) →
         SomeRefuses T.count_refuses (L.items set.now) e → IsErr result }
+    ensures at_once { (x : T) (xs : List T) (e : SerializeError) → L.items set.now ≡ x ∷ xs →
+        All T.tells (x ∷ xs) → T.header_refuses x e → IfErr result (IntoVector (RefusesAtOnce
+        (some_allocates T.write_allocates T.count_allocates T.content_allocates)
+        (length (T.header x ++ T.content x))
+        (Either (T.header_refuses x) (T.content_refuses x)))) }
 {
     let encodings = set.encode_each(alloc)?;
     write_ascending(&encodings, alloc, w)

@@ -1,12 +1,13 @@
-use Rattle.std.proofs.Common.{◌++◌, ◌∙◌, ap, sym, refl, true, [], ◌∷◌, length, map, take}
+use Rattle.std.proofs.Common.{◌≡◌, ◌++◌, ◌∙◌, ap, sym, subst, refl, inl, true, [], ◌∷◌, length, map, take}
 use Rattle.std.specs.List.{flat_map}
 use Rattle.std.proofs.lemmas.Bool.{false≢true}
 use Rattle.std.proofs.lemmas.List.{map_more, map-append, take_all}
-use Rattle.asn1_rs.specs.ToDer.{Either, IntoVector}
+use Rattle.asn1_rs.specs.ToDer.{Either, HasNone, IntoVector, RefusesAtOnce, some_allocates}
+use Rattle.asn1_headers.specs.Error.{vector_refusal}
 use Rattle.asn1_rs.specs.Laws.Lists.{joined_flat}
 use Rattle.asn1_rs.specs.Laws.Set.{none_into}
-use Rattle.asn1_rs.proofs.Lists.{item_given, all_given, one_longer, item_all, item_next, Refuses_item, none_more, none_of_all}
-use Rattle.asn1_rs.proofs.Writing.{vector_refuses, neither_refuses}
+use Rattle.asn1_rs.proofs.Lists.{item_given, all_given, one_longer, item_all, item_next, only_first, Refuses_item, none_more, none_of_all}
+use Rattle.asn1_rs.proofs.Writing.{vector_refuses, neither_refuses, at_once_into}
 use Rattle.asn1_rs.proofs.asn1_types.lists.encode_items.Goals as goal
 
 pub returns-in-Err-clause-refused : goal.returns-in-Err-clause-refused
@@ -34,7 +35,7 @@ loop-item-preserved g c = (
 pub returns-clause-each : goal.returns-clause-each
 returns-clause-each g c = λ xs i t.
     let all = take_all (length c.loop-item.yielded) xs (all_given i c.into_iter-item-iterator.result c.loop-item.item-iterator c.next.new.self c.into_iter-item-iterator.ensures.into_iter_gives c.loop-item.yielded c.loop-item.yielded_by c.next.result c.next.ensures.steps c.in-None.is) in (
-      ap (λ v. v.items) c.into_inner-octets.ensures ∙ (c.loop-item.invariant.2 xs i t).0 ∙ ap (flat_map (λ x. g.T.ToDer.header x ++ g.T.ToDer.content x)) all ∙ sym (joined_flat (λ x. g.T.ToDer.header x ++ g.T.ToDer.content x) xs),
+      ap (λ w. w.octets.items) c.into_inner-octets.ensures ∙ (c.loop-item.invariant.2 xs i t).0 ∙ ap (flat_map (λ x. g.T.ToDer.header x ++ g.T.ToDer.content x)) all ∙ sym (joined_flat (λ x. g.T.ToDer.header x ++ g.T.ToDer.content x) xs),
       (c.loop-item.invariant.2 xs i t).1 ∙ ap (λ ks. map length (map (λ x. g.T.ToDer.header x ++ g.T.ToDer.content x) ks)) all,
     )
 
@@ -43,3 +44,18 @@ returns-clause-accepted g c = λ xs e i t o. absurd (none_of_all (λ x. IntoVect
 
 pub returns-clause-uncounted : goal.returns-clause-uncounted
 returns-clause-uncounted g c = λ xs e i t o. absurd (none_of_all g.T.ToDer.count_refuses xs (length c.loop-item.yielded) (all_given i c.into_iter-item-iterator.result c.loop-item.item-iterator c.next.new.self c.into_iter-item-iterator.ensures.into_iter_gives c.loop-item.yielded c.loop-item.yielded_by c.next.result c.next.ensures.steps c.in-None.is) (c.loop-item.invariant.2 xs i t).3 e o)
+
+pub returns-in-Err-clause-at_once : goal.returns-in-Err-clause-at_once
+returns-in-Err-clause-at_once g c = λ x xs e i t o.
+    let at = item_given i c.into_iter-item-iterator.result c.loop-item.item-iterator c.next.new.self c.into_iter-item-iterator.ensures.into_iter_gives c.loop-item.yielded c.loop-item.yielded_by c.next.result c.next.ensures.steps c.in-Some.item c.in-Some.is c.deref.result.now c.deref.ensures in
+    let told = item_all (λ x. g.T.ToDer.header x ++ g.T.ToDer.content x) (x ∷ xs) (length c.loop-item.yielded) c.deref.result.now at.0 at.1 g.T.ToDer.tells t in
+    let one : c.deref.result.now ≡ x = only_first (λ z. HasNone (IntoVector (Either (g.T.ToDer.header_refuses z) (g.T.ToDer.content_refuses z)))) x xs (length c.loop-item.yielded) c.deref.result.now at.1 (c.loop-item.invariant.2 (x ∷ xs) i t).2 (λ n. n (vector_refusal e) (e, inl o, refl)) in
+    subst (λ z. IntoVector (RefusesAtOnce (some_allocates g.T.ToDer.write_allocates g.T.ToDer.count_allocates g.T.ToDer.content_allocates) (length (g.T.ToDer.header z ++ g.T.ToDer.content z)) (Either (g.T.ToDer.header_refuses z) (g.T.ToDer.content_refuses z))) c.without_io.result) one
+    (at_once_into _ _ _ _ _ _ _ c.in-Err.e c.without_io.result c.without_io.ensures.same (c.in-Err.ensures.at_once e told (subst (λ z. g.T.ToDer.header_refuses z e) (sym one) o)))
+
+pub returns-in-Err-push-clause-at_once : goal.returns-in-Err-push-clause-at_once
+returns-in-Err-push-clause-at_once g c = λ x xs e i t o.
+    let at = item_given i c.into_iter-item-iterator.result c.loop-item.item-iterator c.next.new.self c.into_iter-item-iterator.ensures.into_iter_gives c.loop-item.yielded c.loop-item.yielded_by c.next.result c.next.ensures.steps c.in-Some.item c.in-Some.is c.deref.result.now c.deref.ensures in
+    let told = item_all (λ x. g.T.ToDer.header x ++ g.T.ToDer.content x) (x ∷ xs) (length c.loop-item.yielded) c.deref.result.now at.0 at.1 g.T.ToDer.tells t in
+    let one : c.deref.result.now ≡ x = only_first (λ z. HasNone (IntoVector (Either (g.T.ToDer.header_refuses z) (g.T.ToDer.content_refuses z)))) x xs (length c.loop-item.yielded) c.deref.result.now at.1 (c.loop-item.invariant.2 (x ∷ xs) i t).2 (λ n. n (vector_refusal e) (e, inl o, refl)) in
+    absurd (neither_refuses _ _ (g.T.ToDer.header_refuses c.deref.result.now) (g.T.ToDer.content_refuses c.deref.result.now) _ _ _ _ _ (λ f. c.in-Ok.ensures.at_once f told) (λ f. c.in-Ok.ensures.accepted f told) e (inl (subst (λ z. g.T.ToDer.header_refuses z e) (sym one) o)))

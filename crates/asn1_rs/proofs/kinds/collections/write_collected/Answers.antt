@@ -1,8 +1,10 @@
-use Rattle.std.proofs.Common.{◌++◌, true}
+use Rattle.std.proofs.Common.{◌++◌, ◌∷◌, ◌<◌, arith, inl, length, refl, subst, sym, true}
 use Rattle.std.proofs.lemmas.Result.{err_from_is_err_and}
 use Rattle.std.proofs.lemmas.Bool.{false≢true}
 use Rattle.x690.specs.Laws.Ascending.Arranged.{arranged_length}
 use Rattle.asn1_rs.specs.Lists.{SomeRefuses}
+use Rattle.std.specs.List.{All}
+use Rattle.asn1_headers.specs.Error.{vector_refusal}
 use Rattle.asn1_rs.specs.ToDer.{Either, IntoVector}
 use Rattle.asn1_rs.proofs.Writing.{Wrote_nothing, only_may}
 use Rattle.asn1_rs.proofs.kinds.collections.write_collected.Goals as goal
@@ -30,3 +32,14 @@ returns-clause-accepted g c = λ e t o. absurd (false≢true (c.in_ok-encodings.
 
 pub returns-clause-uncounted : goal.returns-clause-uncounted
 returns-clause-uncounted g c = λ e t o. absurd (false≢true (c.in_ok-encodings.ensures.uncounted e t o))
+
+pub returns-in_err-encodings-clause-at_once : goal.returns-in_err-encodings-clause-at_once
+returns-in_err-encodings-clause-at_once g c = λ x xs e is t o.
+    let p = err_from_is_err_and c.from_residual.result c.from_residual.ensures.1 in
+    rw (p.1, p.2) (c.in_err-encodings.ensures.at_once x xs e is t o)
+
+pub returns-clause-at_once : goal.returns-clause-at_once
+returns-clause-at_once g c = λ x xs e is t o.
+    let some : 0 < length (x ∷ xs) = omega arith in
+    absurd (false≢true (c.in_ok-encodings.ensures.accepted (vector_refusal e) (subst (All g.T.ToDer.tells) (sym is) t)
+    (subst (λ ys. SomeRefuses (λ x. IntoVector (Either (g.T.ToDer.header_refuses x) (g.T.ToDer.content_refuses x))) ys (vector_refusal e)) (sym is) (0, x, some, refl, (e, inl o, refl)))))

@@ -1,0 +1,53 @@
+//! Items of sequences and sets, as the words that contents octets are joined of.
+ghost use Rattle.std.specs.Prelude.{◌≡◌, ◌≢◌, ◌⊎◌, ℤ, List, map, pos, IfOk, IfErr};
+ghost use Rattle.x690.specs.Joined.{IsJoined};
+ghost use Rattle.asn1_headers.specs.Answers.{seen};
+ghost use Rattle.asn1_headers.specs.declared.error.Error.TheVariants as errors;
+ghost use Rattle.asn1_rs.specs.Lists.{HasNoJoining};
+ghost use Rattle.asn1_rs.specs.Set.{items_of};
+ghost use Rattle.asn1_rs_uses.specs.Items.{EndsBefore, BeginsWithNumbers};
+ghost use Rattle.asn1_rs_uses.specs.Numbers.{NumberByDer};
+
+use asn1_rs::{
+    DerParser, Error, FromDer, ParseResult, Sequence, SequenceIterator, SetOf,
+    items_are_joined_words, lists_are_joined_words, walks_take_words,
+};
+use std::alloc::Global;
+use std::borrow::CowSlice;
+
+/// The numbers of the sequence that has these contents octets, by DER.
+pub fn numbers_of(alloc: Global, content: &[u8]) -> Result<Vec<u64>, Error>
+    ensures joined { IfOk result
+        (λ numbers. IsJoined NumberByDer content.now (map pos numbers.items)) }
+    ensures refused { IfErr result (λ e. (e ≡ errors.OutOfMemory)
+        ⊎ HasNoJoining NumberByDer content.now) }
+{
+    items_are_joined_words::<u64, DerParser, Error>();
+    let sequence = Sequence::new(CowSlice::Borrowed(content));
+    sequence.into_der_sequence_of_ref(alloc)
+}
+
+/// The set of numbers at the front of the octets, by DER, and what follows it. It keeps the numbers in the order of the
+/// words.
+pub fn set_of_numbers(alloc: Global, octets: &[u8]) -> ParseResult<'_, SetOf<u64>, Error>
+    ensures { IfOk (seen result) (λ x. BeginsWithNumbers octets.now (items_of x.1) x.0) }
+{
+    lists_are_joined_words::<SetOf<u64>, u64, DerParser, Error>();
+    SetOf::from_der(alloc, octets)
+}
+
+/// Refuses contents octets that are not numbers by DER, joined. No memory is taken, so it is not told to be out.
+pub fn check_numbers(alloc: Global, content: &[u8]) -> Result<(), Error>
+    ensures joined { IfOk result (λ _. (numbers : List ℤ) × IsJoined NumberByDer content.now numbers) }
+    ensures refused { IfErr result (EndsBefore NumberByDer content.now) }
+    ensures spares { IfErr result (λ e. e ≢ errors.OutOfMemory) }
+{
+    walks_take_words::<u64, DerParser, Error>();
+    for number in SequenceIterator::<u64, DerParser, Error>::new(alloc, content) {
+        match number {
+            Ok(_) => {}
+            Err(e) => return Err(e),
+        }
+    }
+    Ok(())
+}
