@@ -3,6 +3,7 @@
 use asn1_headers::class::Class;
 use asn1_headers::error::{DerConstraint, Err, Error, Needed, SerializeError, from_nom_error};
 use asn1_headers::length::Length;
+use asn1_headers::message::Message;
 use asn1_headers::tag::Tag;
 use std::alloc::{AllocError, Global};
 use std::fmt::{Display, Write};
@@ -253,6 +254,30 @@ fn errors_are_made(rt: HostRuntime) -> Result<(), Fail> {
         "(UnexpectedTag { expected: None, actual: Tag(4) }, \
         UnexpectedClass { expected: None, actual: Application }, \
         InvalidValue { tag: Tag(0), msg: \"message\" }, InvalidValue { tag: Tag(0), msg: \"no\" })",
+    )
+}
+
+#[test]
+fn messages_are_made_of_texts(rt: HostRuntime) -> Result<(), Fail> {
+    let alloc = rt.alloc();
+    let long = "a text of more than thirty octets";
+    let owned = Message::from(String::from_str(alloc, "short")?);
+    let copied = Message::copied(alloc, long)?;
+    let facts = [
+        Message::short("short") == owned,
+        owned.clone()? == Message::copied(alloc, "short")?,
+        copied.clone()? == copied,
+        copied == owned,
+        Message::short("").as_str().is_empty(),
+        Message::short(&long[..30]).as_str() == &long[..30],
+        Message::copied(alloc, &long[..30])?.as_str() == &long[..30],
+    ];
+    assert_shown(alloc, &facts, "[true, true, true, false, true, true, true]")?;
+    assert_shown(alloc, &copied, "\"a text of more than thirty octets\"")?;
+    assert_texts(
+        alloc,
+        &[owned, copied],
+        "short\na text of more than thirty octets\n",
     )
 }
 

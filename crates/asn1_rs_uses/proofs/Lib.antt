@@ -1,3 +1,5 @@
 pub mod Collected
 pub mod Messages
+pub mod Principals
+pub mod TaggedOctets
 pub mod Unwritten

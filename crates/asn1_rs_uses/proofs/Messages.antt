@@ -11,7 +11,7 @@ use Rattle.std.specs.Prelude.{map, pos}
 use Rattle.asn1_rs_uses.specs.declared.message.Message.{Message}
 use Rattle.asn1_rs_uses.specs.Messages.{ShortNumber, ShortNumbers, AnyElement, IsMessage, BeginsWithMessage}
 
-no_octets : (octets : List ℕ) (b : Bool) → b ≡ true → b ≡ (length octets == 0) → octets ≡ []
+pub no_octets : (octets : List ℕ) (b : Bool) → b ≡ true → b ≡ (length octets == 0) → octets ≡ []
 no_octets [] b f e = refl
 no_octets (x ∷ xs) b f e = let k : suc (length xs) ≡ 0 = grind (arith, nat_tests) in absurd (omega arith)
 

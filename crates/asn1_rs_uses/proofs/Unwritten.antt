@@ -1,7 +1,6 @@
 -- Values that are not written.
-use Rattle.std.proofs.Common.{◌≡◌, ◌<◌, ◌^◌, ◌∙◌, ap, refl, inl, inr, ℕ, Bool, false, true, List, [], ◌∷◌, ◌++◌, length, Option, Result, Ok, Err, IfErr, arith}
+use Rattle.std.proofs.Common.{◌≡◌, ◌<◌, ◌^◌, ◌∙◌, ap, refl, inl, inr, ℕ, Bool, false, true, List, [], ◌∷◌, ◌++◌, length, Option, Result, Ok, Err, IfErr, arith, lit≤}
 use Rattle.std.specs.Prelude.{None, ◌⊎◌, IsErr, IsErrAnd, codes}
-use Rattle.std.specs.declared.borrow.CowStr.TheVariants as cow
 use Rattle.x690.specs.Strict.{header_octets, identifier_octets, length_octets}
 use Rattle.asn1_headers.specs.declared.class.Class.{Class}
 use Rattle.asn1_headers.specs.declared.header.Header.{Header}
@@ -17,6 +16,7 @@ use Rattle.asn1_headers.specs.Header.Writing.{strict_header}
 use Rattle.asn1_headers.specs.Writer.{MayRefuse}
 use Rattle.asn1_rs.specs.ToDer.{Refuses, RefusesCount, IsRefusedAtOnce, IntoVector, WrittenRefusal, Either}
 use Rattle.asn1_headers.specs.Error.{vector_refusal, tells_of_io}
+use Rattle.asn1_headers.specs.Laws.Message.{short_message}
 use Rattle.asn1_rs_uses.specs.declared.refusals.InClass.{InClass}
 use Rattle.asn1_rs_uses.specs.declared.refusals.NamePart.{NamePart}
 use Rattle.asn1_rs_uses.specs.Refusals.{NamesNoClass, TellsOfNoClass, SomeInNoClass, AsAnyWriting, TellsOfEmptyPart, IsEmptyPart, WrittenEmptyPart, IsMemoryOrLength, SomeEmpty}
@@ -77,8 +77,9 @@ set_refused takes n xs (Err e) (inr (inr (k, x, lt, at, (f, own, is)))) =
 -- an empty part has a refusal
 pub empty_part : (parts : List NamePart) → SomeEmpty parts → (e : Error) × SomeRefuses (λ p. IsEmptyPart p.0.now) parts e × TellsOfEmptyPart e
 empty_part parts (k, p, lt, at, empty) =
-    let e = errors.InvalidValue (record { 0 = 12 }) (cow.Borrowed (record { ref_ptr = p.0.ref_ptr; now = codes "empty part" })) in
-    (e, (k, p, lt, at, (empty, (refl, refl))), (refl, refl))
+    let text = short_message (codes "empty part") (lit≤ tt) refl in
+    let e = errors.InvalidValue (record { 0 = 12 }) text.0 in
+    (e, (k, p, lt, at, (empty, (refl, text.1))), (refl, text.1))
 
 -- a name with an empty part is not counted
 pub name_uncounted : (n : ℕ) (parts : List NamePart) (r : Result ℕ Error) → IsErr r → IfErr r (RefusesCount false n (SomeRefuses (λ p. IsEmptyPart p.0.now) parts)) → IsErrAnd r (λ e. TellsOfEmptyPart e ⊎ (e ≡ errors.InvalidLength))

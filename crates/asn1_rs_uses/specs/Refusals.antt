@@ -4,6 +4,7 @@ use Rattle.std.specs.List.{Any, flat_map}
 use Rattle.x690.specs.Strict.{header_octets}
 use Rattle.asn1_rs_uses.specs.declared.refusals.InClass.{InClass}
 use Rattle.asn1_rs_uses.specs.declared.refusals.NamePart.{NamePart}
+use Rattle.asn1_headers.specs.Error.{IsInvalidValue}
 use Rattle.asn1_headers.specs.declared.error.Error.{Error}
 use Rattle.asn1_headers.specs.declared.error.Error.TheVariants as errors
 use Rattle.asn1_headers.specs.declared.error.SerializeError.{SerializeError}

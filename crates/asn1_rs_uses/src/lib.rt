@@ -4,29 +4,41 @@
 #![tactic(auto)]
 
 mod borrowed;
+mod by_bounds;
 mod fingerprint;
 mod incomplete;
 mod items;
+mod labels;
 mod message;
 mod numbers;
 mod point;
+mod principal;
 mod refusals;
 mod sequences;
 mod serial_number;
+mod tagged_octets;
 mod version;
 
 pub use borrowed::{
     contents_octets, items_of, read_bit_string, read_integer, read_octet_string, read_octets,
     read_sequence,
 };
+pub use by_bounds::{count_all, read_by_bound};
 pub use fingerprint::Fingerprint;
 pub use incomplete::{read_element, read_header};
 pub use items::{count_of_numbers, elements_in, items_in, numbers_in};
+pub use labels::{
+    Directory, GeneralString, Headed, Label, Labels, count_directory, count_headed, count_label,
+    count_labels, directory_strict, directory_vec, headed_strict, headed_vec, label_vec,
+    labels_strict, labels_vec, write_directory, write_directory_strict, write_headed,
+    write_headed_strict, write_label, write_labels, write_labels_strict,
+};
 pub use message::Message;
 pub use numbers::{
     count_number, is_same_number, is_strict_front, read_number, read_number_by_ber, write_number,
 };
 pub use point::Point;
+pub use principal::{Kind, Names, Principal, Realm};
 pub use refusals::{
     InClass, NamePart, count_name, vector_in_class, write_header_in_class, write_in_class,
     write_list_in_classes, write_name, write_ordered_set_in_classes, write_raw_in_class,
@@ -34,4 +46,7 @@ pub use refusals::{
 };
 pub use sequences::{read_numbers, write_numbers};
 pub use serial_number::SerialNumber;
+pub use tagged_octets::{
+    octets_handed_on, octets_handed_under, octets_under, optional_octets, string_under,
+};
 pub use version::{Field, Version, read_version};

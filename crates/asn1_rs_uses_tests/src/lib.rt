@@ -4,6 +4,10 @@
 #[cfg(test)]
 mod callers;
 #[cfg(test)]
+mod labels;
+#[cfg(test)]
 mod lists;
+#[cfg(test)]
+mod principals;
 #[cfg(test)]
 mod refusals;

@@ -1,0 +1,45 @@
+-- What is written for borrowed octet strings under tags.
+use Rattle.std.specs.Prelude.{ℕ, List, ◌++◌, length, true, false, Option}
+use Rattle.std.specs.List.{flat_map}
+use Rattle.std.specs.declared.alloc.Global.{Global}
+use Rattle.std.specs.declared.vec.Vec.{Vec}
+use Rattle.x690.specs.Strict.{header_octets}
+use Rattle.asn1_headers.specs.Class.{class_number}
+use Rattle.asn1_headers.specs.Header.{class_of, tag_of}
+use Rattle.asn1_headers.specs.declared.error.Error.{Error}
+use Rattle.asn1_rs.specs.OctetString.{octets_of}
+use Rattle.asn1_rs.specs.declared.asn1_types.octet_string.OctetString.{OctetString}
+use Rattle.asn1_rs.specs.declared.asn1_types.tagged.Explicit.{Explicit}
+use Rattle.asn1_rs.specs.declared.asn1_types.tagged.Implicit.{Implicit}
+use Rattle.asn1_rs.specs.declared.asn1_types.tagged.TaggedValue.{TaggedValue}
+use Rattle.asn1_rs.specs.declared.asn1_types.tagged.parser.TaggedParser.{TaggedParser}
+use Rattle.asn1_rs_uses.specs.Messages.{in_sequence}
+use Rattle.asn1_rs_uses.specs.Principals.{under_tag, or_nothing, string_element}
+
+-- the types, since antt has no names for aliases
+abbrev pub Label : Type 0
+Label = TaggedValue OctetString Error Explicit 2 1
+
+abbrev pub GeneralString : Type 0
+GeneralString = TaggedValue OctetString Error Implicit 0 27
+
+abbrev pub Labels : Type 0
+Labels = TaggedValue (Vec GeneralString Global) Error Explicit 2 0
+
+abbrev pub Headed : Type 0
+Headed = TaggedParser Explicit OctetString Error
+
+abbrev pub label_octets : Option Label → List ℕ
+label_octets = or_nothing (λ t. under_tag 1 (string_element t.inner))
+
+abbrev pub general_string_octets : GeneralString → List ℕ
+general_string_octets t = header_octets 0 false 27 (length (octets_of t.inner)) ++ octets_of t.inner
+
+abbrev pub labels_octets : Labels → List ℕ
+labels_octets t = under_tag 0 (in_sequence (flat_map general_string_octets t.inner.items))
+
+-- the class and the tag number are those of the header in hand
+abbrev pub headed_octets : Headed → List ℕ
+headed_octets t =
+    let inner = string_element t.inner in
+    header_octets (class_number (class_of t.header)) true (tag_of t.header).0 (length inner) ++ inner

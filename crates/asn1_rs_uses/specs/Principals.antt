@@ -1,0 +1,81 @@
+-- Names of principals: a number, octet strings, and a realm that may be left out, each under a tag, in a sequence.
+use Rattle.std.specs.Prelude.{◌≡◌, ℕ, ℤ, List, [], ◌++◌, length, map, true, false, Option, None, Some}
+use Rattle.std.specs.List.{flat_map}
+use Rattle.x690.specs.Elements.{Parts, IsDerElement}
+use Rattle.x690.specs.Signed.{IsSigned, signed_octets}
+use Rattle.x690.specs.Strict.{header_octets}
+use Rattle.asn1_rs.specs.Grammar.{DerWord, NoCheck}
+use Rattle.asn1_rs.specs.Integer.{IntegerBody, IntegerCheck}
+use Rattle.asn1_rs.specs.Lists.{ListOf}
+use Rattle.asn1_rs.specs.OctetString.{octet_string_leaf, octets_of}
+use Rattle.asn1_rs.specs.Tagged.Explicit.{ExplicitBody}
+use Rattle.asn1_rs.specs.declared.asn1_types.octet_string.OctetString.{OctetString}
+use Rattle.asn1_rs_uses.specs.Borrowed.{LeafByDer}
+use Rattle.asn1_rs_uses.specs.Messages.{in_sequence}
+use Rattle.asn1_rs_uses.specs.declared.principal.Principal.{Principal}
+
+-- words by DER under the explicit, context-specific tag of this number
+abbrev pub UnderTag : {V : Type 0} → ℕ → (List ℕ → V → Type 0) → List ℕ → V → Type 0
+UnderTag number G = DerWord NoCheck (ExplicitBody 2 number G)
+
+-- the words of the three parts, by DER
+abbrev pub KindByDer : List ℕ → ℤ → Type 0
+KindByDer = UnderTag 0 (DerWord IntegerCheck (IntegerBody (IsSigned 4)))
+
+abbrev pub StringByDer : List ℕ → List ℕ → Type 0
+StringByDer = LeafByDer octet_string_leaf
+
+abbrev pub NamesByDer : List ℕ → List (List ℕ) → Type 0
+NamesByDer = UnderTag 1 (DerWord NoCheck (ListOf 16 StringByDer))
+
+abbrev pub RealmByDer : List ℕ → List ℕ → Type 0
+RealmByDer = UnderTag 2 StringByDer
+
+-- a word of the value, or no octets where it is left out
+abbrev pub OptionalWord : {T : Type 0} → (List ℕ → T → Type 0) → List ℕ → Option T → Type 0
+OptionalWord Word octets None = octets ≡ []
+OptionalWord Word octets (Some x) = Word octets x
+
+-- A principal: a sequence whose contents octets are its parts by DER, one after another, and nothing else.
+pub record IsPrincipal (p : Parts) (x : Principal) : Type 0 where
+  pub class : p.id.class ≡ 0
+  pub constructed : p.id.constructed ≡ true
+  pub number : p.id.number ≡ 16
+  pub first : List ℕ
+  pub second : List ℕ
+  pub third : List ℕ
+  pub joined : p.content ≡ first ++ (second ++ third)
+  pub kind_is : KindByDer first x.kind.inner
+  pub names_are : NamesByDer second (map octets_of x.names.inner.items)
+  pub realm_is : OptionalWord (λ o t. RealmByDer o (octets_of t.inner)) third x.realm
+
+-- a principal begins the octets, and the rest follows
+pub record BeginsWithPrincipal (octets : List ℕ) (x : Principal) (rest : List ℕ) : Type 0 where
+  pub word : List ℕ
+  pub parts : Parts
+  pub element : IsDerElement word parts
+  pub is : octets ≡ word ++ rest
+  pub principal : IsPrincipal parts x
+
+-- what is written under the explicit, context-specific tag of this number
+abbrev pub under_tag : ℕ → List ℕ → List ℕ
+under_tag number octets = header_octets 2 true number (length octets) ++ octets
+
+-- the strict encoding of an integer, and of an octet string
+abbrev pub integer_element : ℤ → List ℕ
+integer_element n = header_octets 0 false 2 (length (signed_octets n)) ++ signed_octets n
+
+abbrev pub string_element : OctetString → List ℕ
+string_element s = header_octets 0 false 4 (length (octets_of s)) ++ octets_of s
+
+-- what is written for what is held, or no octets
+abbrev pub or_nothing : {T : Type 0} → (T → List ℕ) → Option T → List ℕ
+or_nothing octets None = []
+or_nothing octets (Some x) = octets x
+
+-- what is written for a principal
+abbrev pub principal_octets : Principal → List ℕ
+principal_octets x = in_sequence (
+    under_tag 0 (integer_element x.kind.inner) ++
+    under_tag 1 (in_sequence (flat_map string_element x.names.inner.items)) ++
+    or_nothing (λ t. under_tag 2 (string_element t.inner)) x.realm)

@@ -1,0 +1,32 @@
+//! Calls by a bound that names a lifetime, in functions that answer the library's own errors.
+ghost use Rattle.std.specs.Iterator.{IsFinite};
+ghost use Rattle.asn1_headers.specs.Answers.{seen};
+
+use asn1_rs::{Error, FromBer, ParseResult, ToDer};
+use std::alloc::Global;
+
+/// The value at the front of the octets, by the reader by BER of its type.
+pub fn read_by_bound<'a, T: FromBer<'a, Error>>(
+    alloc: Global,
+    octets: &'a [u8],
+) -> ParseResult<'a, T, Error>
+    ensures { T.ber_gives octets.now (seen result) }
+{
+    T::from_ber(alloc, octets)
+}
+
+/// How many octets all the values have that an iterator gives. Refused where one is, and where the sum passes `usize`.
+pub fn count_all<'s, T, I>(items: I) -> Result<usize, Error>
+where
+    T: ToDer + 's,
+    I: Iterator<Item = &'s T> + Drop,
+    requires { I.can_next items × IsFinite (I.remaining items) }
+{
+    let mut all: usize = 0;
+    for item in items {
+        all = all
+            .checked_add(item.to_der_len()?)
+            .ok_or(Error::InvalidLength)?;
+    }
+    Ok(all)
+}

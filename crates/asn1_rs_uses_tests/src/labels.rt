@@ -1,0 +1,143 @@
+//! Borrowed octet strings under tags: read, counted and written by each call.
+
+use asn1_rs::{Class, Error, OctetString, ParseResult, TaggedParser, Told};
+use asn1_rs_uses::{
+    Directory, GeneralString, Headed, Label, Labels, count_directory, count_headed, count_label,
+    count_labels, directory_strict, directory_vec, headed_strict, headed_vec, label_vec,
+    labels_strict, labels_vec, octets_handed_on, octets_handed_under, octets_under,
+    optional_octets, string_under, write_directory, write_directory_strict, write_headed,
+    write_headed_strict, write_label, write_labels, write_labels_strict,
+};
+use std::alloc::Global;
+use std::test::Fail;
+use test_rows::{Calls, assert_rows, assert_shown, push_debug};
+
+#[test]
+fn an_optional_label_is_counted_and_written(rt: HostRuntime) -> Result<(), Fail> {
+    let alloc = rt.alloc();
+    let label = Some(Label::explicit(OctetString::new(&[7])));
+    let mut w = Told::new(Vec::new(alloc));
+    let answers = (
+        count_label(&label),
+        write_label(&label, alloc, &mut w),
+        write_label(&None, alloc, &mut w),
+        label_vec(alloc, &label),
+    );
+    let expected = "((Ok(5), Ok(5), Ok(0), Ok([161, 3, 4, 1, 7])), [161, 3, 4, 1, 7])";
+    assert_shown(alloc, &(answers, w.as_inner().as_slice()), expected)
+}
+
+/// Two general strings in a sequence under a tag.
+const LABELS: &str = "[160, 9, 48, 7, 27, 1, 107, 27, 2, 97, 98]";
+
+/// These.
+fn two_labels(alloc: Global) -> Result<Labels<'static>, Fail> {
+    let mut strings = Vec::new(alloc);
+    strings.push(GeneralString::implicit(OctetString::new(&[107])))?;
+    strings.push(GeneralString::implicit(OctetString::new(&[97, 98])))?;
+    Ok(Labels::explicit(strings))
+}
+
+#[test]
+fn labels_are_counted_and_written(rt: HostRuntime) -> Result<(), Fail> {
+    let alloc = rt.alloc();
+    let labels = two_labels(alloc)?;
+    let mut w = Told::new(Vec::new(alloc));
+    let answers = (
+        count_labels(&labels),
+        write_labels(&labels, alloc, &mut w),
+        write_labels_strict(&labels, alloc, &mut w),
+    );
+    assert_shown(alloc, &answers, "(Ok(11), Ok(11), Ok(11))")?;
+    assert_shown(alloc, &&w.as_inner().as_slice()[11..], LABELS)?;
+    assert_shown(alloc, &labels_vec(alloc, &labels)?, LABELS)?;
+    assert_shown(alloc, &labels_strict(alloc, &labels)?, LABELS)
+}
+
+#[test]
+fn a_directory_is_written_as_its_labels(rt: HostRuntime) -> Result<(), Fail> {
+    let alloc = rt.alloc();
+    let directory = Directory(two_labels(alloc)?);
+    let mut w = Told::new(Vec::new(alloc));
+    let answers = (
+        count_directory(&directory),
+        write_directory(&directory, alloc, &mut w),
+        write_directory_strict(&directory, alloc, &mut w),
+    );
+    assert_shown(alloc, &answers, "(Ok(11), Ok(11), Ok(11))")?;
+    assert_shown(alloc, &&w.as_inner().as_slice()[11..], LABELS)?;
+    assert_shown(alloc, &directory_vec(alloc, &directory)?, LABELS)?;
+    assert_shown(alloc, &directory_strict(alloc, &directory)?, LABELS)
+}
+
+#[test]
+fn a_string_is_written_under_the_tag_of_its_header(rt: HostRuntime) -> Result<(), Fail> {
+    let alloc = rt.alloc();
+    let headed = Headed::new_explicit(Class::Application, 14, OctetString::new(&[7]));
+    let mut w = Told::new(Vec::new(alloc));
+    let answers = (
+        count_headed(&headed),
+        write_headed(&headed, alloc, &mut w),
+        write_headed_strict(&headed, alloc, &mut w),
+        headed_vec(alloc, &headed),
+        headed_strict(alloc, &headed),
+    );
+    let expected = "(Ok(5), Ok(5), Ok(5), Ok([110, 3, 4, 1, 7]), Ok([110, 3, 4, 1, 7]))";
+    assert_shown(alloc, &answers, expected)
+}
+
+/// Octets under the tag 1, by the readers of a tag that is given.
+const UNDER_TAGS: &str = "\
+optional_octets:
+81010700 = Ok(([0], Some(OctetString { octets: [7] })))
+820107 = Ok(([130, 1, 7], None))
+- = Ok(([], None))
+410107 = Err(Error(UnexpectedClass { expected: Some(ContextSpecific), actual: Application }))
+
+string_under:
+610304010700 = ([0], Tag(1), OctetString { octets: [7] })
+a203040107 = Error(UnexpectedTag { expected: Some(Tag(1)), actual: Tag(2) })
+
+octets_under:
+81010700 = ([0], Tag(1), OctetString { octets: [7] })
+a10107 = Error(ConstructUnexpected)
+
+octets_handed_on:
+a1030401 = Err(Incomplete(Size(1)))
+a10304010700 = Ok(([0], OctetString { octets: [4, 1, 7] }))
+
+octets_handed_under:
+81010700 = Ok(([0], OctetString { octets: [7] }))
+";
+
+/// The rest, the tag number and the value, or the refusal.
+fn push_parsed<Kind>(
+    text: &mut String,
+    answer: ParseResult<'_, TaggedParser<'_, Kind, OctetString<'_>, Error>, Error>,
+) -> Result<(), Fail> {
+    match answer {
+        Ok((rest, parser)) => push_debug(text, &(rest, parser.tag(), &parser.inner)),
+        Err(e) => push_debug(text, &e),
+    }
+}
+
+/// The calls of the table.
+struct UnderTags;
+
+impl Calls for UnderTags {
+    fn answer(text: &mut String, alloc: Global, name: &str, octets: &[u8]) -> Result<(), Fail> {
+        match name {
+            "optional_octets" => push_debug(text, &optional_octets(1, octets)),
+            "string_under" => push_parsed(text, string_under(alloc, 1, octets)),
+            "octets_under" => push_parsed(text, octets_under(alloc, 1, octets)),
+            "octets_handed_on" => push_debug(text, &octets_handed_on(1, octets)),
+            "octets_handed_under" => push_debug(text, &octets_handed_under(1, octets)),
+            _ => Ok(text.push_str("no such call")?),
+        }
+    }
+}
+
+#[test]
+fn octets_under_tags_are_read(rt: HostRuntime) -> Result<(), Fail> {
+    assert_rows::<UnderTags>(rt.alloc(), UNDER_TAGS)
+}

@@ -1,0 +1,53 @@
+//! Names of principals: read, refused, and written again.
+
+use asn1_rs_uses::Principal;
+use std::alloc::Global;
+use std::test::Fail;
+use test_rows::{Calls, assert_rows, push_debug};
+
+/// Read: the rest, the parts, and whether the same octets are written. Without a realm too.
+///
+/// Refused: octets left over, another tag number in the place of the realm, a length and a string by BER alone, a
+/// primitive sequence, one of another class or number, a part that is cut, and a sequence that is.
+const PRINCIPALS: &str = "\
+principal:
+3016a003020101a10a300804036b7262040161a203040178ff = ([255], 1)[107, 114, 98][97][120]true
+3011a003020101a10a300804036b7262040161 = ([], 1)[107, 114, 98][97]true
+3009a003020180a1023000 = ([], -128)true
+3013a003020101a10a300804036b72620401610500 = Error(InvalidValue { tag: Tag(16), msg: \"octets left over\" })
+3016a003020101a10a300804036b7262040161a303040178 = Error(InvalidValue { tag: Tag(16), msg: \"octets left over\" })
+3013a003020101a180300804036b72620401610000 = Error(DerConstraintFailed(IndefiniteLength))
+3018a003020101a10a300804036b7262040161a2052403040178 = Error(ConstructUnexpected)
+1009a003020180a1023000 = Error(ConstructExpected)
+7009a003020180a1023000 = Error(UnexpectedClass { expected: Some(Universal), actual: Application })
+3109a003020180a1023000 = Error(UnexpectedTag { expected: Some(Tag(16)), actual: Tag(17) })
+3007a003020180a102 = Error(Incomplete(Size(2)))
+3009a003020180a10230 = Incomplete(Size(1))
+";
+
+/// The calls of the table.
+struct Principals;
+
+impl Calls for Principals {
+    fn answer(text: &mut String, alloc: Global, _name: &str, octets: &[u8]) -> Result<(), Fail> {
+        let (rest, principal) = match Principal::from_der(alloc, octets) {
+            Ok(read) => read,
+            Err(e) => return push_debug(text, &e),
+        };
+        push_debug(text, &(rest, principal.kind.as_inner()))?;
+        for name in principal.names.as_inner() {
+            push_debug(text, &name.as_bytes())?;
+        }
+        if let Some(realm) = &principal.realm {
+            push_debug(text, &realm.as_inner().as_bytes())?;
+        }
+        let written = principal.to_der(alloc)?;
+        let read = &octets[..octets.len() - rest.len()];
+        push_debug(text, &(written.as_slice() == read))
+    }
+}
+
+#[test]
+fn principals_are_read_and_written(rt: HostRuntime) -> Result<(), Fail> {
+    assert_rows::<Principals>(rt.alloc(), PRINCIPALS)
+}
