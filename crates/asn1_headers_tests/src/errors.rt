@@ -274,7 +274,11 @@ fn messages_are_made_of_texts(rt: HostRuntime) -> Result<(), Fail> {
     ];
     assert_shown(alloc, &facts, "[true, true, true, false, true, true, true]")?;
     assert_shown(alloc, &copied, "\"a text of more than thirty octets\"")?;
-    assert_texts(alloc, &[owned, copied], "short\na text of more than thirty octets\n")
+    assert_texts(
+        alloc,
+        &[owned, copied],
+        "short\na text of more than thirty octets\n",
+    )
 }
 
 const ERRORS: &str = "\

@@ -1,9 +1,8 @@
 -- Parts of a principal, one after another.
-use Rattle.std.proofs.Common.{◌≡◌, ◌∙◌, ap, sym, subst, refl, ℕ, Bool, true, ◌==◌, List, [], ◌++◌, length, inl, inr, Option, None, Some}
+use Rattle.std.proofs.Common.{◌≡◌, ◌∙◌, ap, sym, subst, ℕ, Bool, true, ◌==◌, List, [], ◌++◌, length, inl, inr, Option, None, Some}
 use Rattle.std.specs.Prelude.{Result, Ok, Err, map, unwrap_or}
 use Rattle.std.proofs.lemmas.List.{append-nil}
 use Rattle.x690.specs.Identifiers.{IsCutIdentifier}
-use Rattle.asn1_headers.specs.declared.class.Class.{Class}
 use Rattle.asn1_headers.specs.declared.class.Class.TheVariants.{Universal}
 use Rattle.asn1_headers.specs.declared.error.Err.{Err as Refusal}
 use Rattle.asn1_headers.specs.declared.error.Error.{Error}
@@ -23,11 +22,11 @@ use Rattle.asn1_rs_uses.specs.Principals.{KindByDer, NamesByDer, RealmByDer, Opt
 use Rattle.asn1_rs_uses.proofs.Messages.{no_octets}
 
 -- the parts of an answer of an optional value
-pub rest_of : {T : Type 0} → Result (List ℕ × Option T) (Refusal Error) → List ℕ
+rest_of : {T : Type 0} → Result (List ℕ × Option T) (Refusal Error) → List ℕ
 rest_of (Ok x) = x.0
 rest_of (Err e) = []
 
-pub value_of : {T : Type 0} → Result (List ℕ × Option T) (Refusal Error) → Option T
+value_of : {T : Type 0} → Result (List ℕ × Option T) (Refusal Error) → Option T
 value_of (Ok x) = x.1
 value_of (Err e) = None
 

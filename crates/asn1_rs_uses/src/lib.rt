@@ -56,6 +56,6 @@ pub use sets::{
     write_signed,
 };
 pub use tagged_octets::{
-    octets_handed_on, octets_under, optional_string, string_handed_on, string_under,
+    octets_handed_on, octets_handed_under, octets_under, optional_octets, string_under,
 };
 pub use version::{Field, Version, read_version};

@@ -4,9 +4,9 @@ use asn1_rs::{Class, Error, OctetString, ParseResult, TaggedParser, Told};
 use asn1_rs_uses::{
     Directory, GeneralString, Headed, Label, Labels, count_directory, count_headed, count_label,
     count_labels, directory_strict, directory_vec, headed_strict, headed_vec, label_vec,
-    labels_strict, labels_vec, octets_handed_on, octets_under, optional_string, string_handed_on,
-    string_under, write_directory, write_directory_strict, write_headed, write_headed_strict,
-    write_label, write_labels, write_labels_strict,
+    labels_strict, labels_vec, octets_handed_on, octets_handed_under, octets_under,
+    optional_octets, string_under, write_directory, write_directory_strict, write_headed,
+    write_headed_strict, write_label, write_labels, write_labels_strict,
 };
 use std::alloc::Global;
 use std::test::Fail;
@@ -88,11 +88,11 @@ fn a_string_is_written_under_the_tag_of_its_header(rt: HostRuntime) -> Result<()
 
 /// Octets under the tag 1, by the readers of a tag that is given.
 const UNDER_TAGS: &str = "\
-optional_string:
-a10304010700 = Ok(([0], Some(OctetString { octets: [7] })))
-a203040107 = Ok(([162, 3, 4, 1, 7], None))
+optional_octets:
+81010700 = Ok(([0], Some(OctetString { octets: [7] })))
+820107 = Ok(([130, 1, 7], None))
 - = Ok(([], None))
-610304010700 = Err(Error(UnexpectedClass { expected: Some(ContextSpecific), actual: Application }))
+410107 = Err(Error(UnexpectedClass { expected: Some(ContextSpecific), actual: Application }))
 
 string_under:
 610304010700 = ([0], Tag(1), OctetString { octets: [7] })
@@ -102,10 +102,11 @@ octets_under:
 81010700 = ([0], Tag(1), OctetString { octets: [7] })
 a10107 = Error(ConstructUnexpected)
 
-string_handed_on:
-a10304010700 = Ok(([0], OctetString { octets: [7] }))
-
 octets_handed_on:
+a1030401 = Err(Incomplete(Size(1)))
+a10304010700 = Ok(([0], OctetString { octets: [4, 1, 7] }))
+
+octets_handed_under:
 81010700 = Ok(([0], OctetString { octets: [7] }))
 ";
 
@@ -126,11 +127,11 @@ struct UnderTags;
 impl Calls for UnderTags {
     fn answer(text: &mut String, alloc: Global, name: &str, octets: &[u8]) -> Result<(), Fail> {
         match name {
-            "optional_string" => push_debug(text, &optional_string(alloc, 1, octets)),
+            "optional_octets" => push_debug(text, &optional_octets(1, octets)),
             "string_under" => push_parsed(text, string_under(alloc, 1, octets)),
             "octets_under" => push_parsed(text, octets_under(alloc, 1, octets)),
-            "string_handed_on" => push_debug(text, &string_handed_on(alloc, 1, octets)),
             "octets_handed_on" => push_debug(text, &octets_handed_on(1, octets)),
+            "octets_handed_under" => push_debug(text, &octets_handed_under(1, octets)),
             _ => Ok(text.push_str("no such call")?),
         }
     }
