@@ -3,7 +3,6 @@ use Rattle.std.proofs.lemmas.Slice.Eq.{bytes_eq-Decides}
 use mathlib.Core.Logic.{∥∥₁_elim}
 use mathlib.Core.Quot.{Quot-set}
 use mathlib.Core.List.{is_set}
-use mathlib.Core.HLevel.{IsSet}
 use native.Mathlib.Nat.{ℕ_set}
 use Rattle.x690.specs.Collections.{multiset, AnyList}
 use Rattle.asn1_rs.specs.Grammar.Form.{IsStrict}

@@ -2,14 +2,14 @@ use Rattle.std.proofs.Common.{◌≡◌, ap, Ok}
 use Rattle.asn1_headers.specs.Answers.{seen}
 use Rattle.asn1_headers.specs.declared.tag.Tag.{Tag}
 use Rattle.asn1_rs.specs.Checks.{is_primitive}
-use Rattle.asn1_rs.specs.Leaf.{LeafGives}
-use Rattle.asn1_rs.specs.OctetString.{octet_string_leaf, octets_of}
-use Rattle.asn1_rs.specs.Traits.{DerGives, OfParts}
+use Rattle.asn1_rs.specs.Leaf.{LendsContent}
+use Rattle.asn1_rs.specs.OctetString.{cow_of, octet_string_leaf, octets_of}
+use Rattle.asn1_rs.specs.Traits.{DerGives}
 use Rattle.asn1_rs_uses.proofs.TaggedOctets.{string_found}
 use Rattle.asn1_rs_uses.proofs.tagged_octets.string_under.Goals as goal
 
 pub returns : goal.returns
 returns c =
     let told = c.parse_der_tagged_explicit.ensures in
-    string_found octets_of told.0 c.args.number (DerGives is_primitive (OfParts (LeafGives octet_string_leaf)) (λ e f. f ≡ e)) (ap (λ (z : Tag). z.0) told.1)
+    string_found octets_of told.0 c.args.number (DerGives is_primitive (LendsContent octet_string_leaf cow_of) (λ e f. f ≡ e)) (ap (λ (z : Tag). z.0) told.1)
     (λ o left x are reads. c.reader_is_exact_by_der.ensures.exact o (Ok (left, x)) are reads) c.args.octets.now (seen c.parse_der_tagged_explicit.result) told.2
