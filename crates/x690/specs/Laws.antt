@@ -12,6 +12,7 @@ pub mod StrictHeaders
 pub mod StrictElements
 pub mod Integers
 pub mod Signed
+pub mod Arcs
 pub mod Joined
 pub mod Ascending
 pub mod Collections

@@ -9,6 +9,7 @@ pub mod Nested
 pub mod Strict
 pub mod Integers
 pub mod Signed
+pub mod Arcs
 pub mod Joined
 pub mod Ascending
 pub mod Collections

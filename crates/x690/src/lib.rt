@@ -1,6 +1,7 @@
 //! The encoding rules of ITU-T X.690 on lists of octets, and their laws.
 #![tactic(auto)]
 
+pub mod arcs;
 pub mod ascending;
 pub mod collections;
 pub mod digits;
@@ -18,6 +19,10 @@ ghost use Rattle.std.specs.Prelude.{ℕ, List, ◌≡◌, ◌++◌};
 ghost use Rattle.x690.specs.Octets.{IsOctets};
 ghost use Rattle.x690.specs.Laws.Octets.{octets_append};
 
+pub use arcs::{
+    arcs_come_back, arcs_have_one_text, beginnings_have_the_first_arcs, contents_are_pieces,
+    few_octets_have_small_arcs, first_pairs_are_unique, shortest_contents_are_determined,
+};
 pub use ascending::{ascending_strings_are_in_order, strings_have_one_ascending_arrangement};
 pub use collections::{
     Encodings, StrictElements, collections_are_encoded, collections_are_lists_up_to_order,

@@ -51,7 +51,8 @@ low_below : (ds : List ℕ) → AllBelowBase 128 (map low_seven_bits ds)
 low_below [] = tt
 low_below (d ∷ ds) = (omega arith, low_below ds)
 
-value_lt : (ds : List ℕ) → base_128_value ds < 128 ^ length ds
+-- octets say a number below 128 to the power of their number
+pub value_lt : (ds : List ℕ) → base_128_value ds < 128 ^ length ds
 value_lt ds =
     let w = weighted_sum_lt 128 (map low_seven_bits ds) (low_below ds) in
     subst (λ (k : ℕ). base_128_value ds < 128 ^ k) (length-map ds low_seven_bits) w
@@ -66,7 +67,8 @@ abbrev StartsWell : List ℕ → Type 0
 StartsWell [] = ⊥
 StartsWell (d ∷ ds) = d ≡ 128 → ⊥
 
-power_le : (k m : ℕ) → m ≤ k → 128 ^ m ≤ 128 ^ k
+-- powers of 128 in their order
+pub power_le : (k m : ℕ) → m ≤ k → 128 ^ m ≤ 128 ^ k
 power_le k m h = pow-le-pow_right {n = 128} (lit≤ tt) h
 
 some_low : (d : ℕ) → 128 ≤ d → d < 256 → (d ≡ 128 → ⊥) → 1 ≤ d % 128
