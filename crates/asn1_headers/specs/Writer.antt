@@ -10,6 +10,11 @@ use Rattle.asn1_headers.specs.declared.error.SerializeError.{SerializeError}
 use Rattle.asn1_headers.specs.declared.error.SerializeError.TheVariants as serialize_errors
 use Rattle.asn1_headers.specs.Error.{is_io}
 
+-- What contracts see of a writer: the octets that it holds, where it tells them, and whether it has failed.
+pub record WriterState : Type 0 where
+  pub told : Option (List ℕ)
+  pub failed : Bool
+
 -- the writer that is wrapped, and its mark
 abbrev pub wrapped_in : {W : Type 0} → Told W → W
 wrapped_in t = t.inner
@@ -33,11 +38,11 @@ pub record GrewByABeginning (old new : Option (List ℕ)) (octets : List ℕ) : 
 -- On `Ok` the octets were appended, and their number is the answer; else a beginning of them was.
 -- The mark is set exactly where the answer is an `IOError`, and is never taken off. A writer that was marked takes no
 -- octets, and for no octets none is asked, so that the answer is no `IOError`.
-pub record Wrote (octets : List ℕ) (old new : Option (List ℕ)) (was is : Bool) (answer : Result ℕ SerializeError) : Type 0 where
-  pub ok : IfOk answer (λ n. Appends old new octets × (n ≡ length octets))
-  pub err : OnErr answer (GrewByABeginning old new octets)
-  pub mark : is ≡ (is_io answer || was)
-  pub marked : IsTrue was → OnOk answer (octets ≡ [])
+pub record Wrote (octets : List ℕ) (old new : WriterState) (answer : Result ℕ SerializeError) : Type 0 where
+  pub ok : IfOk answer (λ n. Appends old.told new.told octets × (n ≡ length octets))
+  pub err : OnErr answer (GrewByABeginning old.told new.told octets)
+  pub mark : new.failed ≡ (is_io answer || old.failed)
+  pub marked : IsTrue old.failed → OnOk answer (octets ≡ [])
   pub nothing : octets ≡ [] → is_io answer ≡ false
 
 -- Why a writing of n octets may be refused: its writer failed, their number is past what 64 bits hold, or, where it allocates, an allocation was refused.
@@ -93,8 +98,8 @@ PutInCalls {W} puts piece old new answer = MatchResult answer
     (λ e. (rest : List ℕ) × (before : W) × TookAllBut puts piece old rest before × PutRefused puts rest before new e)
 
 -- one call of `put`: what it took, at least one octet of a writer that was not marked, or a refusal that took none
-pub record PutOnce (piece : List ℕ) (old new : Option (List ℕ)) (was is : Bool) (answer : Result ℕ SerializeError) : Type 0 where
-  pub took : IfOk answer (λ n. (1 ≤ n) × (n ≤ length piece) × Appends old new (take n piece) × (was ≡ false))
-  pub kept : OnErr answer (Appends old new [])
-  pub mark : is ≡ (is_io answer || was)
+pub record PutOnce (piece : List ℕ) (old new : WriterState) (answer : Result ℕ SerializeError) : Type 0 where
+  pub took : IfOk answer (λ n. (1 ≤ n) × (n ≤ length piece) × Appends old.told new.told (take n piece) × (old.failed ≡ false))
+  pub kept : OnErr answer (Appends old.told new.told [])
+  pub mark : new.failed ≡ (is_io answer || old.failed)
   pub refused : IfErr answer (MayRefuse false 0)

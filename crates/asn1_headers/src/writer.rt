@@ -1,8 +1,8 @@
 //! Writers that tell what they took and whether they failed.
-ghost use Rattle.std.specs.Prelude.{◌≡◌, ◌≢◌, [], ◌||◌, Bool, ℕ, List, Option, None, false, IsTrue, IsErr, IfOk, IfErr, Ok};
+ghost use Rattle.std.specs.Prelude.{◌≡◌, ◌≢◌, [], ◌||◌, false, IsTrue, IsErr, IfOk, IfErr, Ok};
 ghost use Rattle.std.specs.Io.{WritesAtMost};
 ghost use Rattle.std.specs.Io.KnownBytes.{WriteAppends};
-ghost use Rattle.asn1_headers.specs.Writer.{wrapped_in, mark_of, put_fails, Wrote, MayRefuse, Calls, ToldPut, PutOnce, PutRefused, PutInCalls, SumsWritten};
+ghost use Rattle.asn1_headers.specs.Writer.{WriterState, wrapped_in, mark_of, put_fails, Wrote, MayRefuse, Calls, ToldPut, PutOnce, PutRefused, PutInCalls, SumsWritten};
 
 use crate::error::{SerializeError, SerializeResult};
 use std::io;
@@ -38,11 +38,9 @@ impl<W: Write> TellsWrites for W {
 ///
 /// Contracts see the octets that it holds, where it tells them, and the mark.
 pub trait DerWrite {
-    /// The octets that it holds, where it tells them.
-    ghost told: { Self → Option (List ℕ) } = { λ _. None };
-
-    /// A `put` was refused, or took no octet of a piece that has some.
-    ghost failed: { Self → Bool };
+    /// The octets that it holds, where it tells them, and whether it has failed: a `put` was refused, or took no octet
+    /// of a piece that has some.
+    ghost state: { Self → WriterState };
 
     /// What a call of `put` may come to. A writer that leaves it out claims nothing of which answer a call has.
     ghost puts: { Calls Self } = { λ _ _ _ _. Unit {0} };
@@ -52,9 +50,10 @@ pub trait DerWrite {
     /// A writer that is marked answers an Err.
     fn put(&mut self, octets: &[u8]) -> io::Result<usize>
         ensures bound { WritesAtMost result octets.now }
-        ensures bytes { WriteAppends (told self.old) (told self.new) result octets.now }
-        ensures mark { failed self.new ≡ (put_fails result octets.now || failed self.old) }
-        ensures marked { IsTrue (failed self.old) → IsErr result }
+        ensures bytes { WriteAppends (state self.old).told (state self.new).told result octets.now }
+        ensures mark { (state self.new).failed ≡
+            (put_fails result octets.now || (state self.old).failed) }
+        ensures marked { IsTrue (state self.old).failed → IsErr result }
         ensures call { puts self.old octets.now result self.new };
 }
 
@@ -101,9 +100,7 @@ impl<W> Told<W> {
 }
 
 impl<W: TellsWrites> DerWrite for Told<W> {
-    ghost told = { λ t. W.contents (wrapped_in t) };
-
-    ghost failed = { mark_of };
+    ghost state = { λ t. record { told = W.contents (wrapped_in t); failed = mark_of t } };
 
     ghost puts = { ToldPut W.writes };
 
@@ -134,8 +131,7 @@ fn put_some<W: DerWrite>(w: &mut W, piece: &[u8]) -> SerializeResult<usize>
     requires { piece.now ≢ [] }
     ensures took { IfOk result (λ n. W.puts w.old piece.now (Ok n) w.new) }
     ensures refused { IfErr result (PutRefused W.puts piece.now w.old w.new) }
-    ensures once { PutOnce piece.now (W.told w.old) (W.told w.new) (W.failed w.old)
-        (W.failed w.new) result }
+    ensures once { PutOnce piece.now (W.state w.old) (W.state w.new) result }
 {
     match w.put(piece) {
         Ok(0) => Err(SerializeError::IOError(io::Error::from(ErrorKind::WriteZero))),
@@ -150,8 +146,7 @@ fn put_some<W: DerWrite>(w: &mut W, piece: &[u8]) -> SerializeResult<usize>
 /// octets asks for no call.
 #[inline(always)]
 pub fn put_all<W: DerWrite>(w: &mut W, piece: &[u8]) -> SerializeResult<usize>
-    ensures wrote { Wrote piece.now (W.told w.old) (W.told w.new) (W.failed w.old)
-        (W.failed w.new) result }
+    ensures wrote { Wrote piece.now (W.state w.old) (W.state w.new) result }
     ensures failed { IfErr result (MayRefuse false 0) }
     ensures calls { PutInCalls W.puts piece.now w.old w.new result }
     ensures nothing { piece.now ≡ [] → (result ≡ Ok 0) × (w.new ≡ w.old) }

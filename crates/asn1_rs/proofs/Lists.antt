@@ -30,7 +30,7 @@ use Rattle.asn1_rs.specs.Lists.{CheckedGives, EndsItems, GivesItems, SomeRefuses
 use Rattle.asn1_headers.specs.declared.error.Error.{Error}
 use Rattle.asn1_headers.specs.declared.error.Error.TheVariants as errors
 use Rattle.asn1_headers.specs.declared.error.SerializeError.{SerializeError}
-use Rattle.asn1_headers.specs.Writer.{Wrote, SumsWritten, MayRefuse}
+use Rattle.asn1_headers.specs.Writer.{Wrote, SumsWritten, MayRefuse, WriterState}
 use Rattle.asn1_rs.specs.ToDer.{SumsCounts, MayRefuseCount, Refuses, RefusesCount, HasNone}
 use Rattle.asn1_headers.specs.Laws.Writing.{Wrote_front, Wrote_then_err, Wrote_sum, MayRefuse_more}
 
@@ -67,17 +67,17 @@ module _ {X : Type 0} (f : X → List ℕ) (xs : List X) (i : ℕ) (x : X) (h : 
   item_le = rw item_at (simp length-append (omega arith))
 
   -- an item's writing was refused
-  pub Wrote_item_err : {n : ℕ} {e : SerializeError} {a b c : Option (List ℕ)} {was mid is : Bool} → Wrote (flat_map f (take i xs)) a b was mid (Ok n) → Wrote (f x) b c mid is (Err e) → Wrote (flat_map f xs) a c was is (Err e)
+  pub Wrote_item_err : {n : ℕ} {e : SerializeError} {a b c : WriterState} → Wrote (flat_map f (take i xs)) a b (Ok n) → Wrote (f x) b c (Err e) → Wrote (flat_map f xs) a c (Err e)
   Wrote_item_err p q = rw item_at (Wrote_front (flat_map f (drop (suc i) xs)) (Wrote_then_err p q))
 
   -- the item was written, and the sum was refused
-  pub Wrote_item_sum : {n m : ℕ} {e : SerializeError} {a b c : Option (List ℕ)} {was mid is : Bool} → Wrote (flat_map f (take i xs)) a b was mid (Ok n) → Wrote (f x) b c mid is (Ok m) → SumsWritten n m (Err e) → Wrote (flat_map f xs) a c was is (Err e)
+  pub Wrote_item_sum : {n m : ℕ} {e : SerializeError} {a b c : WriterState} → Wrote (flat_map f (take i xs)) a b (Ok n) → Wrote (f x) b c (Ok m) → SumsWritten n m (Err e) → Wrote (flat_map f xs) a c (Err e)
   Wrote_item_sum {n} {m} {e} p q s = rw item_at (Wrote_front (flat_map f (drop (suc i) xs)) (Wrote_sum (Err e) p q s))
 
   pub MayRefuse_item : (e : SerializeError) (takes : Bool) → MayRefuse takes (length (f x)) e → MayRefuse takes (length (flat_map f xs)) e
   MayRefuse_item e takes p = MayRefuse_more e takes _ _ (let l = item_le in omega arith) p
 
-  pub MayRefuse_item_sum : {n m : ℕ} (e : SerializeError) (takes : Bool) {a b c : Option (List ℕ)} {was mid is : Bool} → Wrote (flat_map f (take i xs)) a b was mid (Ok n) → Wrote (f x) b c mid is (Ok m) → SumsWritten n m (Err e) → MayRefuse takes (length (flat_map f xs)) e
+  pub MayRefuse_item_sum : {n m : ℕ} (e : SerializeError) (takes : Bool) {a b c : WriterState} → Wrote (flat_map f (take i xs)) a b (Ok n) → Wrote (f x) b c (Ok m) → SumsWritten n m (Err e) → MayRefuse takes (length (flat_map f xs)) e
   MayRefuse_item_sum e takes p q s = rw s.0 (let l = item_le in omega (arith, p.ok.1, q.ok.1, s.1))
 
   pub MayRefuseCount_item : (e : Error) (takes : Bool) → MayRefuseCount takes (length (f x)) e → MayRefuseCount takes (length (flat_map f xs)) e
@@ -93,7 +93,7 @@ module _ {X : Type 0} (f : X → List ℕ) (xs : List X) (i : ℕ) (x : X) (h : 
   pub count_next : (n m k : ℕ) → n ≡ length (flat_map f (take i xs)) → m ≡ length (f x) → SumsCounts n m (Ok k) → k ≡ length (flat_map f (take (i + 1) xs))
   count_next n m k p q s = rw item_next (simp length-append (omega (arith, p, q, s)))
 
-  pub Wrote_next : {n m k : ℕ} {a b c : Option (List ℕ)} {was mid is : Bool} → Wrote (flat_map f (take i xs)) a b was mid (Ok n) → Wrote (f x) b c mid is (Ok m) → SumsWritten n m (Ok k) → Wrote (flat_map f (take (i + 1) xs)) a c was is (Ok k)
+  pub Wrote_next : {n m k : ℕ} {a b c : WriterState} → Wrote (flat_map f (take i xs)) a b (Ok n) → Wrote (f x) b c (Ok m) → SumsWritten n m (Ok k) → Wrote (flat_map f (take (i + 1) xs)) a c (Ok k)
   Wrote_next {n} {m} {k} p q s = rw item_next (Wrote_sum (Ok k) p q s)
 
   pub some_refuses : {E : Type 0} (refuses : X → E → Type 0) (e : E) → refuses x e → SomeRefuses refuses xs e

@@ -1,11 +1,12 @@
 -- One writing after another.
-use Rattle.std.proofs.Common.{◌≡◌, inl, inr, ℕ, Bool, true, false, ◌||◌, List, [], ◌++◌, length, ◌≤◌, length-append, Option, IfErr, IsTrue, MatchResult, ◌^◌, ◌<◌, IfOk, Result, Ok, Err, refl, sym, ap, ◌∙◌, arith}
+use Rattle.std.proofs.Common.{◌≡◌, inl, inr, ℕ, Bool, true, false, ◌||◌, List, [], ◌++◌, length, ◌≤◌, length-append, IfErr, IsTrue, MatchResult, ◌^◌, ◌<◌, IfOk, Result, Ok, Err, refl, sym, ap, ◌∙◌, arith}
 use Rattle.std.proofs.lemmas.Bool.{false≢true}
 use Rattle.std.specs.Io.KnownBytes.{Appends}
 use Rattle.std.specs.declared.vec.Vec.{Vec}
-use Rattle.asn1_headers.specs.Writer.{Wrote, IsMemoryOrLength, MayRefuse}
+use Rattle.asn1_headers.specs.Writer.{WriterState, Wrote, IsMemoryOrLength, MayRefuse}
 use Rattle.asn1_headers.specs.Error.{is_io, WithoutIo, written_refusal, tells_of_io, vector_refusal}
-use Rattle.asn1_rs.specs.ToDer.{SumsCounts, MayRefuseCount, Refuses, RefusesCount, RefusesAtOnce, IsRefusedAtOnce, RefusedAtOnce, Either, some_allocates, HasNone, IntoVector, IsWritable, VectorRefuses, WrittenRefusal, OfClass}
+use Rattle.asn1_rs.specs.ToDer.{SumsCounts, MayRefuseCount, Refuses, RefusesCount, RefusesAtOnce, IsRefusedAtOnce, RefusedAtOnce, Either, HasNone, IntoVector, IsWritable, VectorRefuses, WrittenRefusal, Writing, whole_refuses}
+use Rattle.asn1_rs.specs.Tagged.Writing.{UnderClass}
 use Rattle.std.specs.Prelude.{IsErr}
 use Rattle.asn1_headers.specs.Laws.Writing.{Appends_none, MayRefuse_more, MayRefuse_either, MayRefuse_other}
 use Rattle.asn1_headers.specs.declared.error.Error.{Error}
@@ -22,14 +23,14 @@ SumsCounts_refused takes xs ys n m (Ok k) p q s = tt
 SumsCounts_refused takes xs ys n m (Err e) p q s = rw s.0 (simp length-append (omega (arith, s.1)))
 
 -- A writing whose length fits and whose writer is not marked is done, except when out of memory.
-pub writing_done : (r : Result ℕ SerializeError) (takes : Bool) (o : List ℕ) (old new : Option (List ℕ)) (was is : Bool) → Wrote o old new was is r → IfErr r (MayRefuse takes (length o)) → length o < 2 ^ 64 → is ≡ false
-    → MatchResult r (λ n. Appends old new o × (n ≡ length o)) (λ e. (e ≡ serialize_errors.OutOfMemory) × IsTrue takes)
-writing_done (Ok n) takes o old new was is w m fits free = w.ok
-writing_done (Err (serialize_errors.ASN1Error e)) takes o old new was is w m fits free = absurd m
-writing_done (Err (serialize_errors.InvalidClass c)) takes o old new was is w m fits free = absurd m
-writing_done (Err serialize_errors.InvalidLength) takes o old new was is w m fits free = absurd (omega arith)
-writing_done (Err (serialize_errors.IOError e)) takes o old new was is w m fits free = let k : is ≡ true = w.mark in cc
-writing_done (Err serialize_errors.OutOfMemory) takes o old new was is w m fits free = (refl, m)
+pub writing_done : (r : Result ℕ SerializeError) (takes : Bool) (o : List ℕ) (old new : WriterState) → Wrote o old new r → IfErr r (MayRefuse takes (length o)) → length o < 2 ^ 64 → new.failed ≡ false
+    → MatchResult r (λ n. Appends old.told new.told o × (n ≡ length o)) (λ e. (e ≡ serialize_errors.OutOfMemory) × IsTrue takes)
+writing_done (Ok n) takes o old new w m fits free = w.ok
+writing_done (Err (serialize_errors.ASN1Error e)) takes o old new w m fits free = absurd m
+writing_done (Err (serialize_errors.InvalidClass c)) takes o old new w m fits free = absurd m
+writing_done (Err serialize_errors.InvalidLength) takes o old new w m fits free = absurd (omega arith)
+writing_done (Err (serialize_errors.IOError e)) takes o old new w m fits free = let k : new.failed ≡ true = w.mark in cc
+writing_done (Err serialize_errors.OutOfMemory) takes o old new w m fits free = (refl, m)
 
 -- a writing that has no refusals of its own, or is not refused by them
 pub only_may : (r : Result ℕ SerializeError) (takes : Bool) (n : ℕ) (own : SerializeError → Type 0) → IfErr r (MayRefuse takes n) → IfErr r (Refuses takes n own)
@@ -69,10 +70,10 @@ refuses_wider e write takes n own (inl m) = inl (MayRefuse_other e write takes n
 refuses_wider e write takes n own (inr o) = inr o
 
 -- a header that was refused at once refuses the whole at once
-pub header_at_once : (write takes gives : Bool) (n : ℕ) (one other : SerializeError → Type 0) (old new : Option (List ℕ)) (was is : Bool) (r : Result ℕ SerializeError) → IsRefusedAtOnce takes n one old new was is r → IsRefusedAtOnce (some_allocates write takes gives) n (Either one other) old new was is r
-header_at_once write takes gives n one other old new was is r at = (at.0, of at.1, at.2)
+pub header_at_once : (write takes gives : Bool) (n : ℕ) (one other : SerializeError → Type 0) (old new : WriterState) (r : Result ℕ SerializeError) → IsRefusedAtOnce takes n one old new r → IsRefusedAtOnce (write || (takes || gives)) n (Either one other) old new r
+header_at_once write takes gives n one other old new r at = (at.0, of at.1, at.2)
   where
-    of : RefusesAtOnce takes n one at.0 → RefusesAtOnce (some_allocates write takes gives) n (Either one other) at.0
+    of : RefusesAtOnce takes n one at.0 → RefusesAtOnce (write || (takes || gives)) n (Either one other) at.0
     of (inl m) = inl (MayRefuse_other at.0 write (takes || gives) n (MayRefuse_either at.0 takes gives n m.0), m.1)
     of (inr o) = inr (inl o)
 
@@ -82,8 +83,8 @@ neither_own e (inl o) = o
 neither_own e (inr o) = o
 
 -- what is refused at once is not Ok
-pub not_refused : (takes : Bool) (n : ℕ) (own : SerializeError → Type 0) (old new : Option (List ℕ)) (was is : Bool) (k : ℕ) → IsRefusedAtOnce takes n own old new was is (Ok k) → ⊥
-not_refused takes n own old new was is k r = let e = r.2.refused in cc
+pub not_refused : (takes : Bool) (n : ℕ) (own : SerializeError → Type 0) (old new : WriterState) (k : ℕ) → IsRefusedAtOnce takes n own old new (Ok k) → ⊥
+not_refused takes n own old new k r = let e = r.2.refused in cc
 
 -- the refusal of a writing into a vector
 pub vector_refuses : (e f : SerializeError) (takes : Bool) (n : ℕ) (own : SerializeError → Type 0) → ((n : ℕ) (takes : Bool) → MayRefuse takes n e → MayRefuse true n f) → WithoutIo e f → Refuses takes n own e → VectorRefuses n own f
@@ -115,13 +116,13 @@ module _ (takes : Bool) (header content : List ℕ) (own : Error → Type 0) whe
   at_once_refused e (inl h) = inl h.0
   at_once_refused e (inr o) = inr o
 
-  pub counted_refused : (counted : Result ℕ Error) (r : Result ℕ SerializeError) (old new : Option (List ℕ)) (was is : Bool) → IfErr counted (RefusesCount takes m own) → (IfErr counted (MayRefuseCount takes m) → IfErr r (MayRefuse takes n)) → IfErr counted (λ e. RefusedAtOnce (written_refusal e) old new was is r) → IfErr r (Refuses takes n (WrittenRefusal own))
-  counted_refused (Ok k) r old new was is h put at = only_may r takes n (WrittenRefusal own) (put tt)
-  counted_refused (Err c) r old new was is h put at = rw at.refused (at_once_refused (written_refusal c) (header_refusal c h))
+  pub counted_refused : (counted : Result ℕ Error) (r : Result ℕ SerializeError) (old new : WriterState) → IfErr counted (RefusesCount takes m own) → (IfErr counted (MayRefuseCount takes m) → IfErr r (MayRefuse takes n)) → IfErr counted (λ e. RefusedAtOnce (written_refusal e) old new r) → IfErr r (Refuses takes n (WrittenRefusal own))
+  counted_refused (Ok k) r old new h put at = only_may r takes n (WrittenRefusal own) (put tt)
+  counted_refused (Err c) r old new h put at = rw at.refused (at_once_refused (written_refusal c) (header_refusal c h))
 
-  pub counted_at_once : (counted : Result ℕ Error) (r : Result ℕ SerializeError) (old new : Option (List ℕ)) (was is : Bool) → IfErr counted (RefusesCount takes m own) → ((e : Error) → own e → IsErr counted) → IfErr counted (λ e. RefusedAtOnce (written_refusal e) old new was is r) → (e : SerializeError) → WrittenRefusal own e → IsRefusedAtOnce takes n (WrittenRefusal own) old new was is r
-  counted_at_once (Ok k) r old new was is h none at e o = absurd (false≢true (none o.0 o.1))
-  counted_at_once (Err c) r old new was is h none at e o = (written_refusal c, header_refusal c h, at)
+  pub counted_at_once : (counted : Result ℕ Error) (r : Result ℕ SerializeError) (old new : WriterState) → IfErr counted (RefusesCount takes m own) → ((e : Error) → own e → IsErr counted) → IfErr counted (λ e. RefusedAtOnce (written_refusal e) old new r) → (e : SerializeError) → WrittenRefusal own e → IsRefusedAtOnce takes n (WrittenRefusal own) old new r
+  counted_at_once (Ok k) r old new h none at e o = absurd (false≢true (none o.0 o.1))
+  counted_at_once (Err c) r old new h none at e o = (written_refusal c, header_refusal c h, at)
 
 -- an element is counted whose contents octets were counted
 pub element_refused : (takes : Bool) (m n : ℕ) (own : Error → Type 0) (counted r : Result ℕ Error) → IfErr counted (RefusesCount takes m own) → (IfErr counted (MayRefuseCount takes m) → IfErr r (MayRefuseCount takes n)) → ((e : Error) → MayRefuseCount takes m e → MayRefuseCount takes n e) → IfErr counted (λ e. r ≡ Err e) → IfErr r (RefusesCount takes n own)
@@ -134,30 +135,30 @@ element_accepted own (Ok k) r none at e o = absurd (false≢true (none e o))
 element_accepted own (Err c) r none at e o = rw at refl
 
 -- a value that was written has no refusals of its own
-pub neither_refuses : (takes : Bool) (n : ℕ) (one other : SerializeError → Type 0) (old new : Option (List ℕ)) (was is : Bool) (k : ℕ) → ((e : SerializeError) → one e → IsRefusedAtOnce takes n (Either one other) old new was is (Ok k)) → ((e : SerializeError) → other e → IsErr {T = ℕ} {E = SerializeError} (Ok k)) → HasNone (Either one other)
-neither_refuses takes n one other old new was is k a b e (inl o) = not_refused takes n (Either one other) old new was is k (a e o)
-neither_refuses takes n one other old new was is k a b e (inr o) = false≢true (b e o)
+pub neither_refuses : (takes : Bool) (n : ℕ) (one other : SerializeError → Type 0) (old new : WriterState) (k : ℕ) → ((e : SerializeError) → one e → IsRefusedAtOnce takes n (Either one other) old new (Ok k)) → ((e : SerializeError) → other e → IsErr {T = ℕ} {E = SerializeError} (Ok k)) → HasNone (Either one other)
+neither_refuses takes n one other old new k a b e (inl o) = not_refused takes n (Either one other) old new k (a e o)
+neither_refuses takes n one other old new k a b e (inr o) = false≢true (b e o)
 
 -- the refusals of a value under a tag whose class is one of four
-pub class_refused : (class : ℕ) (takes : Bool) (n : ℕ) (own : SerializeError → Type 0) (r : Result ℕ SerializeError) → class < 4 → IfErr r (Refuses takes n own) → IfErr r (Refuses takes n (OfClass class own))
+pub class_refused : (class : ℕ) (takes : Bool) (n : ℕ) (own : SerializeError → Type 0) (r : Result ℕ SerializeError) → class < 4 → IfErr r (Refuses takes n own) → IfErr r (Refuses takes n (UnderClass class own))
 class_refused class takes n own (Ok k) l h = tt
 class_refused class takes n own (Err e) l (inl m) = inl m
 class_refused class takes n own (Err e) l (inr o) = inr (inr (l, o))
 
-pub class_at_once : (class : ℕ) (takes : Bool) (n : ℕ) (own : SerializeError → Type 0) (old new : Option (List ℕ)) (was is : Bool) (r : Result ℕ SerializeError) → class < 4 → ((e : SerializeError) → own e → IsRefusedAtOnce takes n own old new was is r) → (e : SerializeError) → OfClass class own e → IsRefusedAtOnce takes n (OfClass class own) old new was is r
-class_at_once class takes n own old new was is r l at e (inl h) = let k = h.0 in absurd (omega arith)
-class_at_once class takes n own old new was is r l at e (inr h) = let a = at e h.1 in (a.0, one_of a.0 a.1, a.2)
+pub class_at_once : (class : ℕ) (takes : Bool) (n : ℕ) (own : SerializeError → Type 0) (old new : WriterState) (r : Result ℕ SerializeError) → class < 4 → ((e : SerializeError) → own e → IsRefusedAtOnce takes n own old new r) → (e : SerializeError) → UnderClass class own e → IsRefusedAtOnce takes n (UnderClass class own) old new r
+class_at_once class takes n own old new r l at e (inl h) = let k = h.0 in absurd (omega arith)
+class_at_once class takes n own old new r l at e (inr h) = let a = at e h.1 in (a.0, one_of a.0 a.1, a.2)
   where
-    one_of : (f : SerializeError) → RefusesAtOnce takes n own f → RefusesAtOnce takes n (OfClass class own) f
+    one_of : (f : SerializeError) → RefusesAtOnce takes n own f → RefusesAtOnce takes n (UnderClass class own) f
     one_of f (inl m) = inl m
     one_of f (inr o) = inr (inr (l, o))
 
 -- refused before anything was appended
-pub Wrote_nothing : {e : SerializeError} (xs : List ℕ) (a : Option (List ℕ)) (was : Bool) → is_io {A = ℕ} (Err e) ≡ false → Wrote xs a a was was (Err e)
-Wrote_nothing {e} xs a was h = record {
+pub Wrote_nothing : {e : SerializeError} (xs : List ℕ) (a : WriterState) → is_io {A = ℕ} (Err e) ≡ false → Wrote xs a a (Err e)
+Wrote_nothing {e} xs a h = record {
   ok = tt;
-  err = record { front = []; rest = xs; parts = refl; grown = Appends_none a };
-  mark = ap (λ m. m || was) (sym h);
+  err = record { front = []; rest = xs; parts = refl; grown = Appends_none a.told };
+  mark = ap (λ m. m || a.failed) (sym h);
   marked = λ _. tt;
   nothing = λ _. h;
 }
@@ -188,10 +189,10 @@ vector_fits P o (Err e) l (inl m) = m
 vector_fits P o (Err e) l (inr h) = absurd (omega (arith, h.1, l))
 
 -- what was refused at once, from a writing into a vector
-pub at_once_into : (takes : Bool) (n : ℕ) (own : SerializeError → Type 0) (old new : Option (List ℕ)) (was is : Bool) (e f : SerializeError) → WithoutIo e f → IsRefusedAtOnce takes n own old new was is (Err e) → IntoVector (RefusesAtOnce takes n own) f
-at_once_into takes n own old new was is e f same at =
+pub at_once_into : (takes : Bool) (n : ℕ) (own : SerializeError → Type 0) (old new : WriterState) (e f : SerializeError) → WithoutIo e f → IsRefusedAtOnce takes n own old new (Err e) → IntoVector (RefusesAtOnce takes n own) f
+at_once_into takes n own old new e f same at =
     let one : e ≡ at.0 = (let h = at.2.refused in cc) in (at.0, at.1, same ∙ ap vector_refusal one)
 
 -- a value that was written has no refusals of its own, neither of its counts
-pub is_writable : (counting : Error → Type 0) (heading filling : SerializeError → Type 0) → HasNone counting → HasNone (Either heading filling) → IsWritable counting heading filling
-is_writable counting heading filling n m = (n, λ e o. m e (inl o), λ e o. m e (inr o))
+pub is_writable : {S : Type 0} (w : Writing S) (x : S) → HasNone (w.count_refuses x) → HasNone (whole_refuses w x) → IsWritable w x
+is_writable w x n m = (n, λ e o. m e (inl o), λ e o. m e (inr o))

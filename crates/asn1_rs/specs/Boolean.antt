@@ -5,6 +5,7 @@ use Rattle.asn1_headers.specs.declared.error.Error.TheVariants.{DerConstraintFai
 use Rattle.asn1_headers.specs.declared.error.DerConstraint.TheVariants.{InvalidBoolean}
 use Rattle.asn1_rs.specs.Checks.{CheckGives, ◌before◌, check, has_length, has_content}
 use Rattle.asn1_rs.specs.Leaf.{Leaf}
+use Rattle.asn1_rs.specs.ToDer.{Writing, plain_writing}
 
 -- the number of the tag of truth values
 abbrev pub boolean_number : ℕ
@@ -68,3 +69,7 @@ truth_octets x = truth_octet (says_true x.value) ∷ []
 
 abbrev pub raw_boolean : Boolean → List ℕ
 raw_boolean x = 1 ∷ 1 ∷ x.value ∷ []
+
+-- It is written as 00 or ff, behind its header.
+abbrev pub truth_writing : Writing Boolean
+truth_writing = plain_writing (λ x. truth_header) truth_octets (λ x. false)

@@ -2,7 +2,6 @@
 use Rattle.std.specs.Prelude.{◌≡◌, ℕ, false, []}
 use Rattle.asn1_rs.specs.declared.asn1_types.end_of_content.EndOfContent.{EndOfContent}
 use Rattle.asn1_rs.specs.Checks.{nothing, has_length}
-use Rattle.asn1_rs.specs.Grammar.{BerWord}
 use Rattle.asn1_rs.specs.Grammar.Item.{ItemGrammar}
 use Rattle.asn1_rs.specs.Leaf.{Leaf, LeafBody}
 
@@ -31,7 +30,6 @@ by_ber_alone L = record {
   value = L.value;
   IsValue = L.IsValue;
   IsDer = λ v. ⊥;
-  Ber = BerWord (LeafBody L);
   Der = λ o v. ⊥;
   Body = LeafBody L;
   Check = λ p. ⊥;

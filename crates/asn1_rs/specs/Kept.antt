@@ -1,5 +1,5 @@
 -- Sequences and sets that are kept as their contents octets, and what their calls answer.
-use Rattle.std.specs.Prelude.{◌≡◌, ◌⊎◌, ℕ, false, List, [], ◌∷◌, length, Result, Ok, Err, Option, ◌++◌, Bool, IfOk}
+use Rattle.std.specs.Prelude.{◌≡◌, ◌⊎◌, ℕ, false, List, [], ◌∷◌, length, Result, Ok, Err, Option, ◌++◌}
 use Rattle.std.specs.Borrow.{Bor}
 use Rattle.std.specs.Cow.{cow_slice_items}
 use Rattle.std.specs.Fn.{Once, FnOnceTakesAt}
@@ -19,11 +19,11 @@ use Rattle.asn1_headers.specs.declared.error.Err.TheVariants.{Error as refused}
 use Rattle.asn1_headers.specs.Answers.{Front}
 use Rattle.asn1_rs.specs.Checks.{nothing, is_constructed}
 use Rattle.asn1_headers.specs.Error.{Converted, tells_of_io, vector_refusal}
-use Rattle.asn1_rs.specs.Any.{TakesContent, parts_of}
-use Rattle.asn1_rs.specs.Leaf.{Leaf, LeafGives}
+use Rattle.asn1_rs.specs.Any.{TakesContent}
+use Rattle.asn1_rs.specs.Leaf.{Leaf}
 use Rattle.asn1_rs.specs.Lists.{IsListOr, ItemsGive}
 use Rattle.asn1_rs.specs.OctetString.{contents_leaf}
-use Rattle.asn1_rs.specs.ToDer.{Either, IntoVector, IsWritable, RefusesAtOnce, VectorRefuses}
+use Rattle.asn1_rs.specs.ToDer.{IntoVector, IsWritable, RefusesAtOnce, VectorRefuses, Writing, whole_allocates, whole_octets, whole_refuses}
 
 abbrev pub sequence_number : ℕ
 sequence_number = 16
@@ -91,18 +91,18 @@ CopiesGive copies reads from content (Err e) = ItemsGive reads from content (Err
 
 -- Why joining ends at this item. Those before it have no refusal of their own. An item that is refused for its header asks
 -- for no memory but its own.
-pub record EndsJoining {T : Type 0} (takes : Bool) (tells : T → Type 0) (octets : T → List ℕ) (counting : T → Error → Type 0) (heading filling soonest : T → SerializeError → Type 0) (items : List T) (item : T) (e : SerializeError) : Type 0 where
-  pub before : All tells items → All (λ x. IsWritable (counting x) (heading x) (filling x)) items
-  pub refused : All tells (items ++ item ∷ []) → VectorRefuses (length (flat_map octets (items ++ item ∷ []))) (Either (heading item) (filling item)) e
-  pub at_once : (f : SerializeError) → tells item → heading item f → IntoVector (RefusesAtOnce takes (length (octets item)) (Either (heading item) (filling item))) e
-  pub first : (f : SerializeError) → soonest item f → e ≡ vector_refusal f
+pub record EndsJoining {T : Type 0} (w : Writing T) (items : List T) (item : T) (e : SerializeError) : Type 0 where
+  pub before : All w.tells items → All (IsWritable w) items
+  pub refused : All w.tells (items ++ item ∷ []) → VectorRefuses (length (flat_map (whole_octets w) (items ++ item ∷ []))) (whole_refuses w item) e
+  pub at_once : (f : SerializeError) → w.tells item → w.header_refuses item f → IntoVector (RefusesAtOnce (whole_allocates w) (length (whole_octets w item)) (whole_refuses w item)) e
+  pub first : (f : SerializeError) → w.refuses_first item f → e ≡ vector_refusal f
   pub no_io : tells_of_io e ≡ false
 
 -- The octets of the items that an iterator gives, joined in their order, where none is refused; or the refusal of the first that
 -- is, which is the last that it gave, or out of memory, or a length past memory.
-abbrev pub JoinsGiven : {I T : Type 0} → (I → Option T → I → Type 0) → Bool → (T → Type 0) → (T → List ℕ) → (T → Error → Type 0) → (T → SerializeError → Type 0) → (T → SerializeError → Type 0) → (T → SerializeError → Type 0) → I → Result (List ℕ) SerializeError → Type 0
-JoinsGiven {I} {T} steps takes tells octets counting heading filling soonest it (Ok content) = (items : List T) × Drains steps it items × (All tells items → (content ≡ flat_map octets items) × All (λ x. IsWritable (counting x) (heading x) (filling x)) items)
-JoinsGiven {I} {T} steps takes tells octets counting heading filling soonest it (Err e) = (items : List T) × (item : T) × (rest : I) × Yields steps it (items ++ item ∷ []) rest × EndsJoining takes tells octets counting heading filling soonest items item e
+abbrev pub JoinsGiven : {I T : Type 0} → (I → Option T → I → Type 0) → Writing T → I → Result (List ℕ) SerializeError → Type 0
+JoinsGiven {I} {T} steps w it (Ok content) = (items : List T) × Drains steps it items × (All w.tells items → (content ≡ flat_map (whole_octets w) items) × All (IsWritable w) items)
+JoinsGiven {I} {T} steps w it (Err e) = (items : List T) × (item : T) × (rest : I) × Yields steps it (items ++ item ∷ []) rest × EndsJoining w items item e
 
 -- the contents octets of what was made
 abbrev pub content_octets : {S E : Type 0} → (S → List ℕ) → Result S E → Result (List ℕ) E

@@ -10,7 +10,7 @@ use Rattle.asn1_headers.specs.declared.error.Error.{Error}
 use Rattle.asn1_headers.specs.declared.error.Error.TheVariants.{OutOfMemory}
 use Rattle.asn1_rs.specs.Any.{parts_of}
 use Rattle.asn1_rs.specs.Grammar.Form.{IsOneForm, IsOneValue, FitsElement, HasValues}
-use Rattle.asn1_rs.specs.Grammar.{IsOneBody, BerWord, DerWord, TakesBody, Checks, FormChecks, FormBodies}
+use Rattle.asn1_rs.specs.Grammar.{IsOneBody, DerWord, TakesBody, Checks, FormChecks, FormBodies}
 use Rattle.asn1_rs.specs.Grammar.Item.{ItemGrammar}
 
 -- Its values, and which are in DER form; the value of a body, what the check asks, and the strict parts of a value.
@@ -44,7 +44,6 @@ item_grammar G = record {
   value = G.value;
   IsValue = G.IsValue;
   IsDer = G.IsDer;
-  Ber = BerWord G.Body;
   Der = DerWord G.Check G.Body;
   Body = G.Body;
   Check = G.Check;

@@ -21,3 +21,4 @@ pub mod Set
 pub mod Kept
 pub mod Tagged
 pub mod InHand
+pub mod Writing

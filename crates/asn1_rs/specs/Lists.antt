@@ -12,13 +12,13 @@ use Rattle.asn1_headers.specs.declared.error.Err.{Err as Refusal}
 use Rattle.asn1_headers.specs.declared.error.Error.{Error}
 use Rattle.asn1_headers.specs.declared.error.Error.TheVariants as errors
 use Rattle.asn1_rs.specs.declared.asn1_types.any.Any.{Any}
-use Rattle.asn1_rs.specs.declared.asn1_types.lists.Encodings.{Encodings}
+use Rattle.asn1_rs.specs.declared.asn1_types.lists.PackedEncodings.{PackedEncodings}
 use Rattle.asn1_rs.specs.Any.{IsTheElement}
 use Rattle.asn1_headers.specs.Error.{FlattenedTo}
 use Rattle.asn1_rs.specs.Grammar.Form.{IsStrict, UniversalForm}
 use Rattle.asn1_rs.specs.Traits.{DerGives}
-use Rattle.asn1_rs.specs.Grammar.{BerWord, DerWord, NoCheck}
-use Rattle.asn1_rs.specs.Grammar.Item.{ItemGrammar}
+use Rattle.asn1_rs.specs.Grammar.{DerWord, NoCheck}
+use Rattle.asn1_rs.specs.Grammar.Item.{ItemGrammar, ber_words}
 use Rattle.asn1_headers.specs.Walk.{TakesItem}
 
 -- the octets are no joining of words of the grammar
@@ -121,8 +121,8 @@ FirstChecked check octets (Ok rest) = (item : Any) × CheckedGives check octets 
 FirstChecked check octets (Err e) = (r : Refusal Error) × CheckedGives check octets (Err r) × FlattenedTo (λ x y. y ≡ x) (λ x y. y ≡ x) r e
 
 -- strings, one after another, with the number of octets of each
-abbrev pub AreEncodings : List (List ℕ) → Encodings → Type 0
-AreEncodings strings e = (e.octets.items ≡ concat strings) × (e.lengths.items ≡ map length strings)
+abbrev pub ArePacked : List (List ℕ) → PackedEncodings → Type 0
+ArePacked strings e = (e.octets.items ≡ concat strings) × (e.lengths.items ≡ map length strings)
 
 -- one more item at the end; or the items as they were, and out of memory
 abbrev pub PushesItem : {T : Type 0} → List T → T → List T → Result (Unit {0}) Error → Type 0
@@ -146,9 +146,8 @@ list_grammar number items G = record {
   value = λ w. map G.value (items w);
   IsValue = All G.IsValue;
   IsDer = All G.IsDer;
-  Ber = BerWord (ListBody number G.Ber);
   Der = DerWord NoCheck (ListOf number G.Der);
-  Body = ListBody number G.Ber;
+  Body = ListBody number (ber_words G);
   Check = ListCheck number G.Check;
   Form = ListForm number G.Form;
   allocates = true;

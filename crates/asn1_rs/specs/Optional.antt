@@ -13,6 +13,7 @@ use Rattle.asn1_headers.specs.declared.error.Error.TheVariants as errors
 use Rattle.asn1_headers.specs.Answers.{ReadsBack}
 use Rattle.asn1_rs.specs.Grammar.Form.{IsStrict}
 use Rattle.asn1_headers.specs.Header.{class_of, is_constructed_of, tag_of, length_of, HasParts}
+use Rattle.asn1_rs.specs.ToDer.{Writing}
 
 -- a header by the rule begins the octets, and has another tag number
 pub record BeginsWithOther (rule : Rule) (number : ℕ) (octets : List ℕ) : Type 0 where
@@ -90,3 +91,19 @@ IfHeld Holds (Some x) = Holds x
 abbrev pub HeldRefuses : {T E : Type 0} → (T → E → Type 0) → Option T → E → Type 0
 HeldRefuses refuses None e = ⊥
 HeldRefuses refuses (Some x) e = refuses x e
+
+-- An optional value is written as what it holds; none has no octets.
+abbrev pub option_writing : {T : Type 0} → Writing T → Writing (Option T)
+option_writing w = record {
+  tells = IfHeld w.tells;
+  header = held_or [] w.header;
+  content = held_or [] w.content;
+  constructed = held_or false w.constructed;
+  count_refuses = HeldRefuses w.count_refuses;
+  header_refuses = HeldRefuses w.header_refuses;
+  content_refuses = HeldRefuses w.content_refuses;
+  refuses_first = HeldRefuses w.refuses_first;
+  count_allocates = w.count_allocates;
+  content_allocates = w.content_allocates;
+  write_allocates = w.write_allocates;
+}

@@ -13,8 +13,8 @@ use Rattle.x690.specs.Elements.{Parts}
 use Rattle.x690.specs.Ascending.{arranged}
 use Rattle.x690.specs.Collections.{multiset, ValueSet, value_set, AllDiffer, AnyList, Joins}
 use Rattle.asn1_rs.specs.Grammar.Form.{IsStrict, UniversalForm}
-use Rattle.asn1_rs.specs.Grammar.{BerWord, DerWord, NoCheck}
-use Rattle.asn1_rs.specs.Grammar.Item.{ItemGrammar}
+use Rattle.asn1_rs.specs.Grammar.{DerWord, NoCheck}
+use Rattle.asn1_rs.specs.Grammar.Item.{ItemGrammar, ber_words}
 use Rattle.asn1_rs.specs.Lists.{ListBody, ListOf, ListCheck}
 
 -- What a row of keys stands for: a set; or, where the keys stand in no way in which a set keeps them, that row itself.
@@ -76,9 +76,8 @@ set_grammar {S} {W} {M} G of worth Each DerBody = record {
   value = worth;
   IsValue = SetValues of G.IsValue;
   IsDer = SetInDer of Each G.IsDer;
-  Ber = BerWord (SetBody of G.Ber);
   Der = DerWord NoCheck DerBody;
-  Body = SetBody of G.Ber;
+  Body = SetBody of (ber_words G);
   Check = ListCheck 17 G.Check;
   Form = SetForm of Each G.Form;
   allocates = true;

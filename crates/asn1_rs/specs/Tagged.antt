@@ -5,6 +5,7 @@ pub mod Optional
 pub mod Headed
 pub mod Helpers
 pub mod Parser
+pub mod Writing
 use Rattle.std.specs.Prelude.{◌≡◌, ◌≢◌, ◌⊎◌, ℕ, ◌≤◌, ◌%◌, ◌^◌, List, Option, Some, None, Result, Ok, Err}
 use Rattle.std.specs.Borrow.{Bor}
 use Rattle.std.specs.Fn.{Once}

@@ -1,10 +1,9 @@
 -- Why counting and writing a value are refused.
-use Rattle.std.specs.Prelude.{◌≡◌, ◌⊎◌, ℕ, ◌+◌, ◌<◌, ◌≤◌, ◌^◌, Bool, true, false, ◌||◌, IsTrue, List, Option, Result, Err, MatchResult}
+use Rattle.std.specs.Prelude.{◌≡◌, ◌⊎◌, ℕ, ◌+◌, ◌≤◌, ◌^◌, Bool, true, false, ◌||◌, IsTrue, List, [], ◌++◌, Result, Err, MatchResult}
 use Rattle.asn1_headers.specs.declared.error.Error.{Error}
 use Rattle.asn1_headers.specs.declared.error.Error.TheVariants as errors
 use Rattle.asn1_headers.specs.declared.error.SerializeError.{SerializeError}
-use Rattle.asn1_headers.specs.declared.error.SerializeError.TheVariants as serialize_errors
-use Rattle.asn1_headers.specs.Writer.{MayRefuse}
+use Rattle.asn1_headers.specs.Writer.{WriterState, MayRefuse}
 use Rattle.asn1_headers.specs.Error.{WithoutIo, tells_of_io, written_refusal}
 
 -- why counting n octets may be refused
@@ -12,10 +11,6 @@ abbrev pub MayRefuseCount : Bool → ℕ → Error → Type 0
 MayRefuseCount allocates n errors.InvalidLength = 2 ^ 64 ≤ n
 MayRefuseCount allocates n errors.OutOfMemory = IsTrue allocates
 MayRefuseCount allocates n _ = ⊥
-
--- writing allocates itself, or where it counts, or for the contents octets
-abbrev pub some_allocates : Bool → Bool → Bool → Bool
-some_allocates write count content = write || (count || content)
 
 -- a refusal that one of the two has
 abbrev pub Either : {E : Type 0} → (E → Type 0) → (E → Type 0) → E → Type 0
@@ -36,23 +31,97 @@ RefusesAtOnce allocates n own e = (MayRefuse allocates n e × (tells_of_io e ≡
 abbrev pub HasNone : {E : Type 0} → (E → Type 0) → Type 0
 HasNone {E} own = (e : E) → own e → ⊥
 
+-- What is written for the values of a type: for which of them that is told, the octets of header and contents, the
+-- constructed bit, the refusals that are the value's own, and whether memory is allocated for counts and header, for the
+-- contents octets, and for the whole beside these.
+pub record Writing (S : Type 0) : Type 1 where
+  pub tells : S → Type 0
+  pub header : S → List ℕ
+  pub content : S → List ℕ
+  pub constructed : S → Bool
+  pub count_refuses : S → Error → Type 0
+  pub header_refuses : S → SerializeError → Type 0
+  pub content_refuses : S → SerializeError → Type 0
+  pub refuses_first : S → SerializeError → Type 0
+  pub count_allocates : Bool
+  pub content_allocates : Bool
+  pub write_allocates : Bool
+
+-- the whole: its octets, the refusals that are the value's own, and whether memory is allocated for it
+abbrev pub whole_octets : {S : Type 0} → Writing S → S → List ℕ
+whole_octets w x = w.header x ++ w.content x
+
+abbrev pub whole_refuses : {S : Type 0} → Writing S → S → SerializeError → Type 0
+whole_refuses w x = Either (w.header_refuses x) (w.content_refuses x)
+
+abbrev pub whole_allocates : {S : Type 0} → Writing S → Bool
+whole_allocates w = w.write_allocates || (w.count_allocates || w.content_allocates)
+
 -- neither its counts nor its header nor its contents octets have a refusal of their own
-abbrev pub IsWritable : (Error → Type 0) → (SerializeError → Type 0) → (SerializeError → Type 0) → Type 0
-IsWritable count header content = HasNone count × HasNone header × HasNone content
+abbrev pub IsWritable : {S : Type 0} → Writing S → S → Type 0
+IsWritable w x = HasNone (w.count_refuses x) × HasNone (w.header_refuses x) × HasNone (w.content_refuses x)
+
+-- nothing is told of any value
+abbrev pub untold : {S : Type 0} → Writing S
+untold = record {
+  tells = λ _. ⊥;
+  header = λ _. [];
+  content = λ _. [];
+  constructed = λ _. false;
+  count_refuses = λ _ _. ⊥;
+  header_refuses = λ _ _. ⊥;
+  content_refuses = λ _ _. ⊥;
+  refuses_first = λ _ _. ⊥;
+  count_allocates = true;
+  content_allocates = true;
+  write_allocates = true;
+}
+
+-- each value has this header, these contents octets and this constructed bit; only its writer and its length refuse it,
+-- and no memory is allocated
+abbrev pub plain_writing : {S : Type 0} → (S → List ℕ) → (S → List ℕ) → (S → Bool) → Writing S
+plain_writing header content constructed = record {
+  tells = λ _. Unit {0};
+  header = header;
+  content = content;
+  constructed = constructed;
+  count_refuses = λ _ _. ⊥;
+  header_refuses = λ _ _. ⊥;
+  content_refuses = λ _ _. ⊥;
+  refuses_first = λ _ _. ⊥;
+  count_allocates = false;
+  content_allocates = false;
+  write_allocates = false;
+}
+
+-- what holds one item, and nothing else, is written as that
+abbrev pub held_writing : {S T : Type 0} → (T → S) → Writing S → Writing T
+held_writing held w = record {
+  tells = λ x. w.tells (held x);
+  header = λ x. w.header (held x);
+  content = λ x. w.content (held x);
+  constructed = λ x. w.constructed (held x);
+  count_refuses = λ x. w.count_refuses (held x);
+  header_refuses = λ x. w.header_refuses (held x);
+  content_refuses = λ x. w.content_refuses (held x);
+  refuses_first = λ x. w.refuses_first (held x);
+  count_allocates = w.count_allocates;
+  content_allocates = w.content_allocates;
+  write_allocates = w.write_allocates;
+}
 
 abbrev pub SumsCounts : ℕ → ℕ → Result ℕ Error → Type 0
 SumsCounts a b r = MatchResult r (λ n. n ≡ a + b) (λ e. (e ≡ errors.InvalidLength) × (2 ^ 64 ≤ a + b))
 
--- refused, with nothing appended and the mark as it was
-pub record RefusedAtOnce (e : SerializeError) (old new : Option (List ℕ)) (was is : Bool) (answer : Result ℕ SerializeError) : Type 0 where
+-- refused, with the writer as it was: nothing appended, and its mark the same
+pub record RefusedAtOnce (e : SerializeError) (old new : WriterState) (answer : Result ℕ SerializeError) : Type 0 where
   pub refused : answer ≡ Err e
   pub kept : new ≡ old
-  pub mark : is ≡ was
 
--- Refused by one of the value's own, by its length or when out of memory, with nothing appended and the mark as it was.
+-- Refused by one of the value's own, by its length or when out of memory, with the writer as it was.
 -- The refusal is tied by the answer.
-abbrev pub IsRefusedAtOnce : Bool → ℕ → (SerializeError → Type 0) → Option (List ℕ) → Option (List ℕ) → Bool → Bool → Result ℕ SerializeError → Type 0
-IsRefusedAtOnce allocates n own old new was is answer = (e : SerializeError) × RefusesAtOnce allocates n own e × RefusedAtOnce e old new was is answer
+abbrev pub IsRefusedAtOnce : Bool → ℕ → (SerializeError → Type 0) → WriterState → WriterState → Result ℕ SerializeError → Type 0
+IsRefusedAtOnce allocates n own old new answer = (e : SerializeError) × RefusesAtOnce allocates n own e × RefusedAtOnce e old new answer
 
 -- A refusal of the value's own, from a writing into a vector. The value's own is tied by the one that it comes out as.
 abbrev pub IntoVector : (SerializeError → Type 0) → SerializeError → Type 0
@@ -64,7 +133,3 @@ VectorRefuses n own f = MayRefuse true n f ⊎ ((e : SerializeError) × own e ×
 -- The refusals of a header whose contents octets are counted. The refusal of the count is tied by the one that it comes out as.
 abbrev pub WrittenRefusal : (Error → Type 0) → SerializeError → Type 0
 WrittenRefusal own e = (f : Error) × own f × (e ≡ written_refusal f)
-
--- a class past 3 is the refusal, before all others
-abbrev pub OfClass : ℕ → (SerializeError → Type 0) → SerializeError → Type 0
-OfClass class own e = ((4 ≤ class) × (e ≡ serialize_errors.InvalidClass class)) ⊎ ((class < 4) × own e)

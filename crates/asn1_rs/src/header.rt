@@ -10,7 +10,7 @@ ghost use Rattle.asn1_headers.specs.Header.Reading.{HeaderGives, HeaderRefusalLa
 ghost use Rattle.asn1_headers.specs.Header.Writing.{parts_identifier, strict_header, kept_header};
 ghost use Rattle.asn1_headers.specs.Writer.{Wrote, MayRefuse};
 ghost use Rattle.asn1_headers.specs.Error.{written_refusal, tells_of_io};
-ghost use Rattle.asn1_rs.specs.ToDer.{MayRefuseCount, Refuses, RefusesCount, VectorRefuses, Either, RefusedAtOnce, SumsCounts};
+ghost use Rattle.asn1_rs.specs.ToDer.{MayRefuseCount, Refuses, RefusesCount, VectorRefuses, Either, RefusedAtOnce, SumsCounts, plain_writing};
 
 use crate::to_der::ToDer;
 use crate::traits::{DynTagged, FromBer, FromDer};
@@ -73,7 +73,7 @@ pub fn element_len(number: u32, counted: Result<usize, Error>) -> Result<usize, 
         IfOk counted (λ n. n ≡ length content) →
         IfOk result
         (λ n. n ≡ length (header_octets class constructed number (length content) ++ content)) }
-    ensures writable { (allocates : Bool) (class : ℕ) (constructed : Bool) (content : List ℕ) →
+    ensures why { (allocates : Bool) (class : ℕ) (constructed : Bool) (content : List ℕ) →
         IfOk counted (λ n. n ≡ length content) →
         IfErr counted (MayRefuseCount allocates (length content)) →
         IfErr result
@@ -100,14 +100,12 @@ pub fn put_counted_header<W: DerWrite>(
 ) -> SerializeResult<usize>
     requires { class < 4 }
     ensures wrote { (len : ℕ) → IfOk counted (λ n. n ≡ len) →
-        Wrote (header_octets class constructed number len) (W.told w.old) (W.told w.new)
-        (W.failed w.old) (W.failed w.new) result }
-    ensures writable { (allocates : Bool) (front content : List ℕ) →
+        Wrote (header_octets class constructed number len) (W.state w.old) (W.state w.new) result }
+    ensures why { (allocates : Bool) (front content : List ℕ) →
         IfErr counted (MayRefuseCount allocates (length content)) →
         IfErr result (MayRefuse allocates (length (front ++ content))) }
     ensures refused { IfErr counted
-        (λ e. RefusedAtOnce (written_refusal e) (W.told w.old) (W.told w.new) (W.failed w.old)
-        (W.failed w.new) result) }
+        (λ e. RefusedAtOnce (written_refusal e) (W.state w.old) (W.state w.new) result) }
 {
     match counted {
         Ok(len) => put_header(class, constructed, number, len, w),
@@ -124,19 +122,8 @@ impl DynTagged for (Class, bool, Tag) {
 }
 
 impl ToDer for (Class, bool, Tag) {
-    ghost tells = { λ _. Unit {0} };
-
-    ghost header = { λ parts. identifier_octets (parts_identifier parts) };
-
-    ghost content = { λ _. [] };
-
-    ghost constructed = { λ parts. is_container parts.2 };
-
-    ghost count_allocates = { false };
-
-    ghost content_allocates = { false };
-
-    ghost write_allocates = { false };
+    ghost writing = { plain_writing (λ parts. identifier_octets (parts_identifier parts)) (λ _. [])
+        (λ parts. is_container parts.2) };
 
     fn to_der_len(&self) -> Result<usize, Error>
         ensures { result ≡ Ok (length (identifier_octets (parts_identifier self.now))) }
@@ -172,21 +159,9 @@ impl DynTagged for Header<'_> {
 }
 
 impl ToDer for Header<'_> {
-    ghost tells = { λ _. Unit {0} };
-
-    ghost header = { strict_header };
-
-    ghost content = { λ _. [] };
-
-    ghost constructed = { λ h. is_container (tag_of h) };
+    ghost writing = { plain_writing strict_header (λ _. []) (λ h. is_container (tag_of h)) };
 
     ghost raw_is_der = { λ h. raw_tag_of h ≡ None };
-
-    ghost count_allocates = { false };
-
-    ghost content_allocates = { false };
-
-    ghost write_allocates = { false };
 
     fn to_der_len(&self) -> Result<usize, Error>
         ensures count { IfOk result (λ n. n ≡ length (strict_header self.now ++ [])) }
@@ -220,17 +195,16 @@ impl ToDer for Header<'_> {
 
     /// Appends the identifier octets that were read, where the header keeps them, and then the length octets.
     fn write_der_raw<W: DerWrite>(&self, _alloc: Global, w: &mut W) -> SerializeResult<usize>
-        ensures raw { Wrote (kept_header self.now) (W.told w.old) (W.told w.new) (W.failed w.old)
-            (W.failed w.new) result }
+        ensures raw { Wrote (kept_header self.now) (W.state w.old) (W.state w.new) result }
         ensures failed { (allocates : Bool) (most : ℕ) → IfErr result (MayRefuse allocates most) }
         ensures der { raw_tag_of self.now ≡ None →
-            Wrote (strict_header self.now ++ []) (W.told w.old) (W.told w.new) (W.failed w.old)
-            (W.failed w.new) result }
+            Wrote (strict_header self.now ++ []) (W.state w.old) (W.state w.new) result }
         ensures refused { raw_tag_of self.now ≡ None →
             IfErr result
             (Refuses false (length (strict_header self.now ++ [])) (Either (λ _. ⊥) (λ _. ⊥))) }
         ensures counted { IfOk result
-            (λ n. (raw : List ℕ) × Appends (W.told w.old) (W.told w.new) raw × (n ≡ length raw)) }
+            (λ n. (raw : List ℕ) × Appends (W.state w.old).told (W.state w.new).told raw ×
+            (n ≡ length raw)) }
     {
         match self.raw_tag() {
             Some(octets) => put_parts(octets, self.length(), w),

@@ -1,7 +1,8 @@
 //! Lengths as values that are written: their length octets are their header (X.690 8.1.3, 10.1).
-ghost use Rattle.std.specs.Prelude.{◌≡◌, ℕ, Bool, false, [], length, Ok};
+ghost use Rattle.std.specs.Prelude.{◌≡◌, false, [], length, Ok};
 ghost use Rattle.x690.specs.Strict.{length_form_octets};
 ghost use Rattle.asn1_headers.specs.Length.{form_of};
+ghost use Rattle.asn1_rs.specs.ToDer.{plain_writing};
 
 use crate::to_der::ToDer;
 use crate::traits::DynTagged;
@@ -21,19 +22,8 @@ impl DynTagged for Length {
 }
 
 impl ToDer for Length {
-    ghost tells = { λ _. Unit {0} };
-
-    ghost header = { λ form. length_form_octets (form_of form) };
-
-    ghost content = { λ _. [] };
-
-    ghost constructed = { λ _. false };
-
-    ghost count_allocates = { false };
-
-    ghost content_allocates = { false };
-
-    ghost write_allocates = { false };
+    ghost writing = { plain_writing (λ form. length_form_octets (form_of form)) (λ _. [])
+        (λ _. false) };
 
     fn to_der_len(&self) -> Result<usize, Error>
         ensures { result ≡ Ok (length (length_form_octets (form_of self.now))) }

@@ -1,10 +1,8 @@
 //! Attributes of a name, as a caller's own type.
-ghost use Rattle.std.specs.Prelude.{◌≡◌};
-
 use crate::sums::Summed;
 use asn1_rs::{
-    Any, Class, DerWrite, Error, FromDer, Header, Length, ParseResult, Sequence, SerializeError,
-    SerializeResult, Tag, Tagged, ToDer,
+    Any, Class, DerWrite, ElementKind, Error, FromDer, HasKind, Header, Length, ParseResult,
+    Sequence, SerializeError, SerializeResult, Tag, TagNumber, TaggedAs, ToDer,
 };
 use std::alloc::Global;
 
@@ -40,16 +38,12 @@ impl<'a> FromDer<'a, Error> for Attribute<'a> {
     }
 }
 
-impl Tagged for Attribute<'_> {
-    const TAG: Tag = Tag::Sequence;
+impl HasKind for Attribute<'_> {
+    type Kind = ElementKind;
+}
 
-    ghost mark = { record { 0 = 16 } };
-
-    fn its_tag() -> Tag
-        ensures { result ≡ record { 0 = 16 } }
-    {
-        Tag::Sequence
-    }
+impl TaggedAs for Attribute<'_> {
+    type Number = TagNumber<16>;
 }
 
 impl ToDer for Attribute<'_> {

@@ -36,11 +36,7 @@ impl<'a, T: FromDer<'a, E> + Drop, E: From<Error>> FromDer<'a, E> for FourLists<
 impl<T> Tagged for FourLists<T> {
     const TAG: Tag = Tag::Sequence;
 
-    ghost mark = { record { 0 = 16 } };
-
-    fn its_tag() -> Tag {
-        Tag::Sequence
-    }
+    ghost TAG = { record { 0 = 16 } };
 }
 
 impl<T: ToDer> ToDer for FourLists<T> {
@@ -85,11 +81,7 @@ impl<'a, T: FromDer<'a, E> + Drop, E: From<Error>> FromDer<'a, E> for SixteenLis
 impl<T> Tagged for SixteenLists<T> {
     const TAG: Tag = Tag::Sequence;
 
-    ghost mark = { record { 0 = 16 } };
-
-    fn its_tag() -> Tag {
-        Tag::Sequence
-    }
+    ghost TAG = { record { 0 = 16 } };
 }
 
 impl<T: ToDer> ToDer for SixteenLists<T> {

@@ -33,11 +33,7 @@ impl<F: Fields> Record<F> {
 impl<F> Tagged for Record<F> {
     const TAG: Tag = Tag::Sequence;
 
-    ghost mark = { record { 0 = 16 } };
-
-    fn its_tag() -> Tag {
-        Tag::Sequence
-    }
+    ghost TAG = { record { 0 = 16 } };
 }
 
 impl<F: Fields> ToDer for Record<F> {

@@ -12,11 +12,7 @@ struct Vast;
 impl Tagged for Vast {
     const TAG: Tag = Tag::OctetString;
 
-    ghost mark = { record { 0 = 4 } };
-
-    fn its_tag() -> Tag {
-        Tag::OctetString
-    }
+    ghost TAG = { record { 0 = 4 } };
 }
 
 impl ToDer for Vast {

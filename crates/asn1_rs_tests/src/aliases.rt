@@ -103,7 +103,6 @@ fn tags_of_each_name_are_read_and_written(rt: HostRuntime) -> Result<(), Fail> {
     assert_rows::<Aliases>(rt.alloc(), ALIASES)
 }
 
-/// Constants that no clause ties to what `its_tag` answers.
 #[test]
 fn tags_have_numbers_and_classes(rt: HostRuntime) -> Result<(), Fail> {
     let constants = (

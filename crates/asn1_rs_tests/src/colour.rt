@@ -17,11 +17,7 @@ pub(crate) struct Colour([u8; 3]);
 impl Tagged for Colour {
     const TAG: Tag = Tag::OctetString;
 
-    ghost mark = { record { 0 = 4 } };
-
-    fn its_tag() -> Tag {
-        Tag::OctetString
-    }
+    ghost TAG = { record { 0 = 4 } };
 }
 
 impl<'a> FromAny<'a> for Colour {

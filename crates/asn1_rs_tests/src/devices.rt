@@ -78,7 +78,7 @@ impl CallersOwn {
 }
 
 impl DerWrite for CallersOwn {
-    ghost failed = { λ w. w.is_failed };
+    ghost state = { λ w. record { told = None; failed = w.is_failed } };
 
     fn put(&mut self, octets: &[u8]) -> io::Result<usize> {
         let [first, ..] = octets else {

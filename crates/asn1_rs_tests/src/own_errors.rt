@@ -33,11 +33,7 @@ struct Volume(u8);
 impl Tagged for Volume {
     const TAG: Tag = Tag::Integer;
 
-    ghost mark = { record { 0 = 2 } };
-
-    fn its_tag() -> Tag {
-        Tag::Integer
-    }
+    ghost TAG = { record { 0 = 2 } };
 }
 
 /// The volume of this number.

@@ -1,6 +1,12 @@
 pub mod Collected
+pub mod CountedItems
 pub mod JoinedNumbers
 pub mod Messages
+pub mod NoPrincipals
+pub mod PrincipalWords
 pub mod Principals
+pub mod PrincipalsAlone
+pub mod PrincipalsBack
+pub mod PrincipalsUnwritten
 pub mod TaggedOctets
 pub mod Unwritten

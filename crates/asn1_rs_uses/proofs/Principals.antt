@@ -2,7 +2,8 @@
 use Rattle.std.proofs.Common.{◌≡◌, ◌∙◌, ap, sym, subst, ℕ, Bool, true, ◌==◌, List, [], ◌++◌, length, inl, inr, Option, None, Some}
 use Rattle.std.specs.Prelude.{Result, Ok, Err, map, unwrap_or}
 use Rattle.std.proofs.lemmas.List.{append-nil}
-use Rattle.x690.specs.Identifiers.{IsCutIdentifier}
+use Rattle.x690.specs.Identifiers.{Identifier, IsCutIdentifier}
+use Rattle.x690.specs.Elements.{Parts}
 use Rattle.asn1_headers.specs.declared.class.Class.TheVariants.{Universal}
 use Rattle.asn1_headers.specs.declared.error.Err.{Err as Refusal}
 use Rattle.asn1_headers.specs.declared.error.Error.{Error}
@@ -22,7 +23,7 @@ use Rattle.asn1_rs_uses.specs.Principals.{KindByDer, NamesByDer, RealmByDer, Opt
 use Rattle.asn1_rs_uses.proofs.Messages.{no_octets}
 
 -- the parts of an answer of an optional value
-rest_of : {T : Type 0} → Result (List ℕ × Option T) (Refusal Error) → List ℕ
+abbrev pub rest_of : {T : Type 0} → Result (List ℕ × Option T) (Refusal Error) → List ℕ
 rest_of (Ok x) = x.0
 rest_of (Err e) = []
 
@@ -32,7 +33,7 @@ value_of (Err e) = None
 
 -- an optional value that no octets follow is a word, or nothing
 pub optional_last : {T V : Type 0} (LeftOut : List ℕ → Type 0) (G : List ℕ → V → Type 0) (value : T → V) (octets left : List ℕ) (x : Option T) → OptionGives LeftOut (Exactly IsCutIdentifier G value NoMemory) octets (Ok (left, x)) → left ≡ [] → OptionalWord (λ o t. G o (value t)) octets x
-unfolding rest_of value_of
+unfolding value_of
 optional_last LeftOut G value octets left None (inl (out, e)) none = sym (ap rest_of e) ∙ none
 optional_last LeftOut G value octets left None (inr (stays, (Ok y, gives, e))) none = let clash : None ≡ Some y.1 = ap value_of e in cc
 optional_last LeftOut G value octets left None (inr (stays, (Err r, gives, e))) none = cc
@@ -61,6 +62,21 @@ principal_parts LeftOut any x after later left b class constructed tag kind name
   realm_is = optional_last LeftOut RealmByDer (λ t. octets_of t.inner) later left x.realm realm (no_octets left b t e);
 }
 
+-- what is said of a principal says its identifier and its contents octets alone
+pub principal_of : (p q : Parts) (x : Principal) → p.id ≡ q.id → p.content ≡ q.content → IsPrincipal p x → IsPrincipal q x
+principal_of p q x i c s = record {
+  class = sym (ap (λ (z : Identifier). z.class) i) ∙ s.class;
+  constructed = sym (ap (λ (z : Identifier). z.constructed) i) ∙ s.constructed;
+  number = sym (ap (λ (z : Identifier). z.number) i) ∙ s.number;
+  first = s.first;
+  second = s.second;
+  third = s.third;
+  joined = sym c ∙ s.joined;
+  kind_is = s.kind_is;
+  names_are = s.names_are;
+  realm_is = s.realm_is;
+}
+
 -- an element that was read has the same identifier and the same contents octets as the word that it was read from
 pub principal_begins : (octets rest : List ℕ) (any : Any) (x : Principal) → Front AnyElement octets (element_of any) rest → IsPrincipal (parts_of any) x → BeginsWithPrincipal octets x rest
 principal_begins octets rest any x f s = record {
@@ -68,16 +84,5 @@ principal_begins octets rest any x f s = record {
   parts = f.fits.0;
   element = f.fits.1;
   is = f.is;
-  principal = record {
-    class = sym (ap (λ (z : ElementValue). z.id.class) f.fits.3) ∙ s.class;
-    constructed = sym (ap (λ (z : ElementValue). z.id.constructed) f.fits.3) ∙ s.constructed;
-    number = sym (ap (λ (z : ElementValue). z.id.number) f.fits.3) ∙ s.number;
-    first = s.first;
-    second = s.second;
-    third = s.third;
-    joined = sym (ap (λ (z : ElementValue). z.content) f.fits.3) ∙ s.joined;
-    kind_is = s.kind_is;
-    names_are = s.names_are;
-    realm_is = s.realm_is;
-  };
+  principal = principal_of (parts_of any) f.fits.0 x (ap (λ (z : ElementValue). z.id) f.fits.3) (ap (λ (z : ElementValue). z.content) f.fits.3) s;
 }

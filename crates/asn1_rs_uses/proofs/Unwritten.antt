@@ -1,5 +1,5 @@
 -- Values that are not written.
-use Rattle.std.proofs.Common.{◌≡◌, ◌<◌, ◌^◌, ◌∙◌, ap, refl, inl, inr, ℕ, Bool, false, true, List, [], ◌∷◌, ◌++◌, length, Option, Result, Ok, Err, IfErr, arith, lit≤}
+use Rattle.std.proofs.Common.{◌≡◌, ◌<◌, ◌^◌, ◌∙◌, ap, refl, inl, inr, ℕ, Bool, false, true, List, [], ◌∷◌, ◌++◌, length, Result, Ok, Err, IfErr, arith, lit≤}
 use Rattle.std.specs.Prelude.{None, ◌⊎◌, IsErr, IsErrAnd, codes}
 use Rattle.x690.specs.Strict.{header_octets, identifier_octets, length_octets}
 use Rattle.asn1_headers.specs.declared.class.Class.{Class}
@@ -13,7 +13,7 @@ use Rattle.asn1_headers.specs.Class.{class_number}
 use Rattle.asn1_headers.specs.Header.{HasParts}
 use Rattle.asn1_rs.specs.Lists.{SomeRefuses}
 use Rattle.asn1_headers.specs.Header.Writing.{strict_header}
-use Rattle.asn1_headers.specs.Writer.{MayRefuse}
+use Rattle.asn1_headers.specs.Writer.{MayRefuse, WriterState}
 use Rattle.asn1_rs.specs.ToDer.{Refuses, RefusesCount, IsRefusedAtOnce, IntoVector, WrittenRefusal, Either}
 use Rattle.asn1_headers.specs.Error.{vector_refusal, tells_of_io}
 use Rattle.asn1_headers.specs.Laws.Message.{short_message}
@@ -105,10 +105,10 @@ own_unwritten : (parts : List NamePart) (e : SerializeError) → Either (Written
 own_unwritten parts e (inl (f, (k, p, lt, at, own), is)) = written_empty p.0.now e (f, own, is)
 own_unwritten parts e (inr (k, p, lt, at, own)) = written_empty p.0.now e (either_same (WrittenRefusal (IsEmptyPart p.0.now)) e own)
 
-pub name_unwritten : (n : ℕ) (parts : List NamePart) (old new : Option (List ℕ)) (was is : Bool) (r : Result ℕ SerializeError) → IsRefusedAtOnce true n (Either (WrittenRefusal (SomeRefuses (λ p. IsEmptyPart p.0.now) parts)) (SomeRefuses (λ p. Either (WrittenRefusal (IsEmptyPart p.0.now)) (WrittenRefusal (IsEmptyPart p.0.now))) parts)) old new was is r → IsErrAnd r (λ e. WrittenEmptyPart e ⊎ IsMemoryOrLength e) × (new ≡ old) × (is ≡ was)
-name_unwritten n parts old new was is r (e, why, at) =
+pub name_unwritten : (n : ℕ) (parts : List NamePart) (old new : WriterState) (r : Result ℕ SerializeError) → IsRefusedAtOnce true n (Either (WrittenRefusal (SomeRefuses (λ p. IsEmptyPart p.0.now) parts)) (SomeRefuses (λ p. Either (WrittenRefusal (IsEmptyPart p.0.now)) (WrittenRefusal (IsEmptyPart p.0.now))) parts)) old new r → IsErrAnd r (λ e. WrittenEmptyPart e ⊎ IsMemoryOrLength e) × (new ≡ old)
+name_unwritten n parts old new r (e, why, at) =
     let telling : WrittenEmptyPart e ⊎ IsMemoryOrLength e = elim why [ inl may ↦ inr (may_at_once n e may.0 may.1) | inr own ↦ inl (own_unwritten parts e own) ] in
-    (rw at.refused telling, at.kept, at.mark)
+    (rw at.refused telling, at.kept)
 
 -- so few octets has the header of an element of one
 pub two_octets : (h : Header) (class : Class) (n : ℕ) → n ≡ class_number class → HasParts h class false (record { 0 = 0 }) (Definite 1) None → length (strict_header h ++ []) ≡ 2

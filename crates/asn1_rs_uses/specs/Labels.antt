@@ -1,5 +1,5 @@
 -- What is written for borrowed octet strings under tags.
-use Rattle.std.specs.Prelude.{ℕ, List, ◌++◌, length, true, false, Option}
+use Rattle.std.specs.Prelude.{◌≡◌, ℕ, List, ◌++◌, length, true, false, Option, IfOk}
 use Rattle.std.specs.List.{flat_map}
 use Rattle.std.specs.declared.alloc.Global.{Global}
 use Rattle.std.specs.declared.vec.Vec.{Vec}
@@ -7,12 +7,14 @@ use Rattle.x690.specs.Strict.{header_octets}
 use Rattle.asn1_headers.specs.Class.{class_number}
 use Rattle.asn1_headers.specs.Header.{class_of, tag_of}
 use Rattle.asn1_headers.specs.declared.error.Error.{Error}
+use Rattle.asn1_headers.specs.Writer.{Wrote, WriterState}
 use Rattle.asn1_rs.specs.OctetString.{octets_of}
 use Rattle.asn1_rs.specs.declared.asn1_types.octet_string.OctetString.{OctetString}
 use Rattle.asn1_rs.specs.declared.asn1_types.tagged.Explicit.{Explicit}
 use Rattle.asn1_rs.specs.declared.asn1_types.tagged.Implicit.{Implicit}
 use Rattle.asn1_rs.specs.declared.asn1_types.tagged.TaggedValue.{TaggedValue}
 use Rattle.asn1_rs.specs.declared.asn1_types.tagged.parser.TaggedParser.{TaggedParser}
+use Rattle.asn1_rs_uses.specs.declared.labels.EachCall.{EachCall}
 use Rattle.asn1_rs_uses.specs.Messages.{in_sequence}
 use Rattle.asn1_rs_uses.specs.Principals.{under_tag, or_nothing, string_element}
 
@@ -43,3 +45,12 @@ abbrev pub headed_octets : Headed → List ℕ
 headed_octets t =
     let inner = string_element t.inner in
     header_octets (class_number (class_of t.header)) true (tag_of t.header).0 (length inner) ++ inner
+
+-- What each call answers of a value with these octets: their number, that they were written into one writer and into
+-- another, or a beginning of them, and vectors of them.
+pub record AreEachCall (octets : List ℕ) (old new other_old other_new : WriterState) (answers : EachCall) : Type 0 where
+  pub counted : IfOk answers.counted (λ n. n ≡ length octets)
+  pub written : Wrote octets old new answers.written
+  pub strictly : Wrote octets other_old other_new answers.strictly
+  pub vector : IfOk answers.vector (λ v. v.items ≡ octets)
+  pub strict : IfOk answers.strict (λ v. v.items ≡ octets)

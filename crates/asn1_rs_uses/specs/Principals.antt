@@ -1,9 +1,14 @@
 -- Names of principals: a number, octet strings, and a realm that may be left out, each under a tag, in a sequence.
-use Rattle.std.specs.Prelude.{◌≡◌, ℕ, ℤ, List, [], ◌++◌, length, map, true, false, Option, None, Some}
+use Rattle.std.specs.Prelude.{◌≡◌, ◌⊎◌, ℕ, ℤ, List, [], ◌++◌, length, map, true, false, Option, None, Some, Result, MatchResult}
 use Rattle.std.specs.List.{flat_map}
+use Rattle.std.specs.Option.{option_map}
 use Rattle.x690.specs.Elements.{Parts, IsDerElement}
+use Rattle.x690.specs.Identifiers.{IsCutIdentifier}
 use Rattle.x690.specs.Signed.{IsSigned, signed_octets}
 use Rattle.x690.specs.Strict.{header_octets}
+use Rattle.asn1_headers.specs.declared.error.Err.{Err as Refusal}
+use Rattle.asn1_headers.specs.declared.error.Error.{Error}
+use Rattle.asn1_headers.specs.Answers.{Speaks}
 use Rattle.asn1_rs.specs.Grammar.{DerWord, NoCheck}
 use Rattle.asn1_rs.specs.Integer.{IntegerBody, IntegerCheck}
 use Rattle.asn1_rs.specs.Lists.{ListOf}
@@ -11,7 +16,7 @@ use Rattle.asn1_rs.specs.OctetString.{octet_string_leaf, octets_of}
 use Rattle.asn1_rs.specs.Tagged.Explicit.{ExplicitBody}
 use Rattle.asn1_rs.specs.declared.asn1_types.octet_string.OctetString.{OctetString}
 use Rattle.asn1_rs_uses.specs.Borrowed.{LeafByDer}
-use Rattle.asn1_rs_uses.specs.Messages.{in_sequence}
+use Rattle.asn1_rs_uses.specs.Messages.{in_sequence, WantsMemory}
 use Rattle.asn1_rs_uses.specs.declared.principal.Principal.{Principal}
 
 -- words by DER under the explicit, context-specific tag of this number
@@ -56,6 +61,29 @@ pub record BeginsWithPrincipal (octets : List ℕ) (x : Principal) (rest : List 
   pub element : IsDerElement word parts
   pub is : octets ≡ word ++ rest
   pub principal : IsPrincipal parts x
+
+-- the parts are those of no principal
+abbrev pub IsNoPrincipal : Parts → Type 0
+IsNoPrincipal p = (x : Principal) → IsPrincipal p x → ⊥
+
+-- no principal begins the octets
+abbrev pub BeginsWithNoPrincipal : List ℕ → Type 0
+BeginsWithNoPrincipal octets = (x : Principal) (rest : List ℕ) → BeginsWithPrincipal octets x rest → ⊥
+
+-- Out of memory, or a refusal that is final: no principal begins the octets, whatever follows of which the refusal speaks.
+abbrev pub RefusesPrincipal : List ℕ → Refusal Error → Type 0
+RefusesPrincipal octets r =
+    WantsMemory r ⊎ ((more : List ℕ) → Speaks (IsCutIdentifier octets) r more → BeginsWithNoPrincipal (octets ++ more))
+
+-- principals with the same parts
+pub record IsSamePrincipal (x y : Principal) : Type 0 where
+  pub kind : x.kind.inner ≡ y.kind.inner
+  pub names : map octets_of x.names.inner.items ≡ map octets_of y.names.inner.items
+  pub realm : option_map (λ t. octets_of t.inner) x.realm ≡ option_map (λ t. octets_of t.inner) y.realm
+
+-- where a principal begins the octets, that one is the answer, with what follows it; or memory is out
+abbrev pub ReadsPrincipalBack : List ℕ → Result (List ℕ × Principal) (Refusal Error) → Type 0
+ReadsPrincipalBack octets answer = (x : Principal) (rest : List ℕ) → BeginsWithPrincipal octets x rest → MatchResult answer (λ y. IsSamePrincipal x y.1 × (y.0 ≡ rest)) WantsMemory
 
 -- what is written under the explicit, context-specific tag of this number
 abbrev pub under_tag : ℕ → List ℕ → List ℕ

@@ -6,9 +6,9 @@ use Rattle.asn1_rs_uses.specs.declared.refusals.InClass.{InClass}
 use Rattle.asn1_rs_uses.specs.declared.refusals.NamePart.{NamePart}
 use Rattle.asn1_headers.specs.Error.{IsInvalidValue}
 use Rattle.asn1_headers.specs.declared.error.Error.{Error}
-use Rattle.asn1_headers.specs.declared.error.Error.TheVariants as errors
 use Rattle.asn1_headers.specs.declared.error.SerializeError.{SerializeError}
 use Rattle.asn1_headers.specs.declared.error.SerializeError.TheVariants as serialize_errors
+use Rattle.asn1_rs.specs.ToDer.{Writing, WrittenRefusal, plain_writing, whole_octets}
 
 -- no class has the number, and the refusal names it
 abbrev pub NamesNoClass : ℕ → SerializeError → Type 0
@@ -27,6 +27,22 @@ abbrev pub WrittenEmptyPart : SerializeError → Type 0
 WrittenEmptyPart (serialize_errors.ASN1Error e) = TellsOfEmptyPart e
 WrittenEmptyPart _ = ⊥
 
+-- an element of one octet, with tag number 0, under the class that the value names; a class past 3 is the refusal
+abbrev pub in_class_writing : Writing InClass
+in_class_writing = record (plain_writing (λ x. header_octets x.class false 0 1) (λ x. x.octet ∷ []) (λ _. false)) {
+  header_refuses = λ x. NamesNoClass x.class;
+  content_refuses = λ x. NamesNoClass x.class;
+  refuses_first = λ x. NamesNoClass x.class;
+}
+
+-- a string of the part's octets; an empty part is the refusal
+abbrev pub part_writing : Writing NamePart
+part_writing = record (plain_writing (λ p. header_octets 0 false 12 (length p.0.now)) (λ p. p.0.now) (λ _. false)) {
+  count_refuses = λ p. IsEmptyPart p.0.now;
+  header_refuses = λ p. WrittenRefusal (IsEmptyPart p.0.now);
+  content_refuses = λ p. WrittenRefusal (IsEmptyPart p.0.now);
+}
+
 -- the refusal names the class of one of the items, which is none
 abbrev pub TellsOfNoClass : List InClass → SerializeError → Type 0
 TellsOfNoClass xs e = Any (λ x. NamesNoClass x.class e) xs
@@ -35,9 +51,9 @@ TellsOfNoClass xs e = Any (λ x. NamesNoClass x.class e) xs
 abbrev pub SomeInNoClass : List InClass → Type 0
 SomeInNoClass xs = Any (λ x. 4 ≤ x.class) xs
 
--- an element of one octet, with tag number 0, under the class
+-- what is written for one
 abbrev pub octets_in_class : InClass → List ℕ
-octets_in_class x = header_octets x.class false 0 1 ++ x.octet ∷ []
+octets_in_class = whole_octets in_class_writing
 
 -- the items as a list
 abbrev pub octets_in_classes : List InClass → List ℕ

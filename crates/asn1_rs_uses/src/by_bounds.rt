@@ -1,6 +1,10 @@
 //! Calls by a bound that names a lifetime, in functions that answer the library's own errors.
+ghost use Rattle.std.specs.Prelude.{◌≡◌, List, length, IfOk};
 ghost use Rattle.std.specs.Iterator.{IsFinite};
+ghost use Rattle.std.specs.List.{All, flat_map};
 ghost use Rattle.asn1_headers.specs.Answers.{seen};
+ghost use Rattle.asn1_rs.specs.Lists.{GivesItems};
+ghost use Rattle.asn1_rs.specs.ToDer.{whole_octets};
 
 use asn1_rs::{Error, FromBer, ParseResult, ToDer};
 use std::alloc::Global;
@@ -21,6 +25,9 @@ where
     T: ToDer + 's,
     I: Iterator<Item = &'s T> + Drop,
     requires { I.can_next items × IsFinite (I.remaining items) }
+    ensures { (xs : List T) → GivesItems I.next_gives (λ r x. x ≡ r.now) items xs →
+        All T.writing.tells xs →
+        IfOk result (λ n. n ≡ length (flat_map (whole_octets T.writing) xs)) }
 {
     let mut all: usize = 0;
     for item in items {

@@ -4,13 +4,13 @@ ghost use Rattle.asn1_rs.specs.Any.{parts_of};
 ghost use Rattle.asn1_rs.specs.Checks.{is_primitive};
 ghost use Rattle.asn1_rs.specs.Leaf.{LeafGives, leaf_element};
 ghost use Rattle.asn1_rs.specs.Laws.Leaf.{leaf_lawful, leaf_constraints, leaf_converts, leaf_written};
-ghost use Rattle.asn1_rs.specs.OctetString.{octet_string_number};
 ghost use Rattle.asn1_rs.specs.Traits.{OfParts};
 ghost use Rattle.asn1_rs_uses.specs.Fingerprint.{fingerprint_leaf, fingerprint_lawful};
 
 use asn1_rs::{
     Any, CheckDerConstraints, DerAutoDerive, DerElement, ElementKind, Error, FromAny, HasKind,
-    LawfulConversion, LawfulElement, Tag, Tagged, WritesOctets, octets_in_hand,
+    LawfulConversion, LawfulElement, Tag, TagNumber, Tagged, TaggedAs, WritesOctets,
+    octets_in_hand,
 };
 use std::alloc::Global;
 
@@ -18,16 +18,15 @@ use std::alloc::Global;
 #[derive(Debug, Clone, Copy)]
 pub struct Fingerprint<'a>(pub &'a [u8]);
 
-impl Tagged for Fingerprint<'_> {
-    const TAG: Tag = Tag::OctetString;
+impl TaggedAs for Fingerprint<'_> {
+    type Number = TagNumber<4>;
+}
 
-    ghost mark = { record { 0 = octet_string_number } };
-
-    fn its_tag() -> Tag
-        ensures { result ≡ record { 0 = octet_string_number } }
-    {
-        Self::TAG
-    }
+/// The tag number of a fingerprint.
+pub fn number_of_fingerprints() -> u32
+    ensures { result ≡ 4 }
+{
+    Fingerprint::TAG.0
 }
 
 impl<'a> FromAny<'a> for Fingerprint<'a> {

@@ -1,12 +1,13 @@
 //! Borrowed octet strings under tags, counted and written: optional ones, lists of them, one with its header in hand, and
-//! one that a type of a caller's holds.
+//! a list that a type of a caller's holds.
 ghost use Rattle.std.specs.Prelude.{◌≡◌, length, IfOk};
 ghost use Rattle.asn1_headers.specs.Writer.{Wrote};
-ghost use Rattle.asn1_rs_uses.specs.Labels.{label_octets, labels_octets, headed_octets};
+ghost use Rattle.asn1_rs_uses.specs.Labels.{label_octets, labels_octets, headed_octets, AreEachCall};
+ghost use Rattle.asn1_rs.specs.ToDer.{whole_octets};
 
 use asn1_rs::{
-    DerWrite, Error, Explicit, HasKind, HolderKind, Holds, Implicit, OctetString, SerializeResult,
-    TaggedExplicit, TaggedParser, TaggedValue, ToDer, strict_vec, write_strict,
+    DerWrite, Error, Explicit, HasKind, HolderKind, Holds, Implicit, LawfulWrite, OctetString,
+    SerializeResult, TaggedExplicit, TaggedParser, TaggedValue, ToDer, strict_vec, write_strict,
 };
 use std::alloc::Global;
 
@@ -35,8 +36,7 @@ pub fn write_label<W: DerWrite>(
     alloc: Global,
     w: &mut W,
 ) -> SerializeResult<usize>
-    ensures { Wrote (label_octets label.now) (W.told w.old) (W.told w.new) (W.failed w.old)
-        (W.failed w.new) result }
+    ensures { Wrote (label_octets label.now) (W.state w.old) (W.state w.new) result }
 {
     label.write_der(alloc, w)
 }
@@ -48,94 +48,64 @@ pub fn label_vec(alloc: Global, label: &Option<Label<'_>>) -> SerializeResult<Ve
     label.to_der_vec(alloc)
 }
 
-/// How many octets the labels have.
-pub fn count_labels(labels: &Labels<'_>) -> Result<usize, Error>
-    ensures { IfOk result (λ n. n ≡ length (labels_octets labels.now)) }
-{
-    labels.to_der_len()
+/// What each call answered that counts or writes a value.
+#[derive(Debug, Drop)]
+pub struct EachCall {
+    /// `to_der_len`.
+    pub counted: Result<usize, Error>,
+    /// `write_der`, into one writer.
+    pub written: SerializeResult<usize>,
+    /// `write_strict`, into another.
+    pub strictly: SerializeResult<usize>,
+    /// `to_der_vec`.
+    pub vector: SerializeResult<Vec<u8>>,
+    /// `strict_vec`.
+    pub strict: SerializeResult<Vec<u8>>,
 }
 
-/// Appends the labels.
-pub fn write_labels<W: DerWrite>(
+/// Counts a value and writes it, by each call.
+pub fn by_each_call<T: LawfulWrite, W: DerWrite>(
+    x: &T,
+    alloc: Global,
+    w: &mut W,
+    v: &mut W,
+) -> EachCall
+    ensures { AreEachCall (whole_octets T.writing x.now) (W.state w.old) (W.state w.new)
+        (W.state v.old) (W.state v.new) result }
+{
+    EachCall {
+        counted: x.to_der_len(),
+        written: x.write_der(alloc, w),
+        strictly: write_strict(x, alloc, v),
+        vector: x.to_der_vec(alloc),
+        strict: strict_vec(alloc, x),
+    }
+}
+
+/// The labels, by each call.
+pub fn labels_by_each_call<W: DerWrite>(
     labels: &Labels<'_>,
     alloc: Global,
     w: &mut W,
-) -> SerializeResult<usize>
-    ensures { Wrote (labels_octets labels.now) (W.told w.old) (W.told w.new) (W.failed w.old)
-        (W.failed w.new) result }
+    v: &mut W,
+) -> EachCall
+    ensures { AreEachCall (labels_octets labels.now) (W.state w.old) (W.state w.new) (W.state v.old)
+        (W.state v.new) result }
 {
-    labels.write_der(alloc, w)
+    by_each_call(labels, alloc, w, v)
 }
 
-/// The same by `write_strict`.
-pub fn write_labels_strict<W: DerWrite>(
-    labels: &Labels<'_>,
-    alloc: Global,
-    w: &mut W,
-) -> SerializeResult<usize>
-    ensures { Wrote (labels_octets labels.now) (W.told w.old) (W.told w.new) (W.failed w.old)
-        (W.failed w.new) result }
-{
-    write_strict(labels, alloc, w)
-}
-
-/// The labels in a vector.
-pub fn labels_vec(alloc: Global, labels: &Labels<'_>) -> SerializeResult<Vec<u8>>
-    ensures { IfOk result (λ octets. octets.items ≡ labels_octets labels.now) }
-{
-    labels.to_der_vec(alloc)
-}
-
-/// The same by `strict_vec`.
-pub fn labels_strict(alloc: Global, labels: &Labels<'_>) -> SerializeResult<Vec<u8>>
-    ensures { IfOk result (λ octets. octets.items ≡ labels_octets labels.now) }
-{
-    strict_vec(alloc, labels)
-}
-
-/// How many octets an octet string has under the tag that its header tells.
-pub fn count_headed(headed: &Headed<'_>) -> Result<usize, Error>
-    ensures { IfOk result (λ n. n ≡ length (headed_octets headed.now)) }
-{
-    headed.to_der_len()
-}
-
-/// Appends it.
-pub fn write_headed<W: DerWrite>(
+/// An octet string under the tag that its header tells, by each call.
+pub fn headed_by_each_call<W: DerWrite>(
     headed: &Headed<'_>,
     alloc: Global,
     w: &mut W,
-) -> SerializeResult<usize>
-    ensures { Wrote (headed_octets headed.now) (W.told w.old) (W.told w.new) (W.failed w.old)
-        (W.failed w.new) result }
+    v: &mut W,
+) -> EachCall
+    ensures { AreEachCall (headed_octets headed.now) (W.state w.old) (W.state w.new) (W.state v.old)
+        (W.state v.new) result }
 {
-    headed.write_der(alloc, w)
-}
-
-/// The same by `write_strict`.
-pub fn write_headed_strict<W: DerWrite>(
-    headed: &Headed<'_>,
-    alloc: Global,
-    w: &mut W,
-) -> SerializeResult<usize>
-    ensures { Wrote (headed_octets headed.now) (W.told w.old) (W.told w.new) (W.failed w.old)
-        (W.failed w.new) result }
-{
-    write_strict(headed, alloc, w)
-}
-
-/// It in a vector.
-pub fn headed_vec(alloc: Global, headed: &Headed<'_>) -> SerializeResult<Vec<u8>>
-    ensures { IfOk result (λ octets. octets.items ≡ headed_octets headed.now) }
-{
-    headed.to_der_vec(alloc)
-}
-
-/// The same by `strict_vec`.
-pub fn headed_strict(alloc: Global, headed: &Headed<'_>) -> SerializeResult<Vec<u8>>
-    ensures { IfOk result (λ octets. octets.items ≡ headed_octets headed.now) }
-{
-    strict_vec(alloc, headed)
+    by_each_call(headed, alloc, w, v)
 }
 
 /// A list of names, which holds its labels and nothing else, so that it is counted and written as they are.
@@ -156,47 +126,15 @@ impl<'a> Holds for Directory<'a> {
     }
 }
 
-/// How many octets the directory has.
-pub fn count_directory(directory: &Directory<'_>) -> Result<usize, Error>
-    ensures { IfOk result (λ n. n ≡ length (labels_octets directory.now.0)) }
-{
-    directory.to_der_len()
-}
-
-/// Appends the directory.
-pub fn write_directory<W: DerWrite>(
+/// The directory, by each call.
+pub fn directory_by_each_call<W: DerWrite>(
     directory: &Directory<'_>,
     alloc: Global,
     w: &mut W,
-) -> SerializeResult<usize>
-    ensures { Wrote (labels_octets directory.now.0) (W.told w.old) (W.told w.new)
-        (W.failed w.old) (W.failed w.new) result }
+    v: &mut W,
+) -> EachCall
+    ensures { AreEachCall (labels_octets directory.now.0) (W.state w.old) (W.state w.new)
+        (W.state v.old) (W.state v.new) result }
 {
-    directory.write_der(alloc, w)
-}
-
-/// The same by `write_strict`.
-pub fn write_directory_strict<W: DerWrite>(
-    directory: &Directory<'_>,
-    alloc: Global,
-    w: &mut W,
-) -> SerializeResult<usize>
-    ensures { Wrote (labels_octets directory.now.0) (W.told w.old) (W.told w.new)
-        (W.failed w.old) (W.failed w.new) result }
-{
-    write_strict(directory, alloc, w)
-}
-
-/// The directory in a vector.
-pub fn directory_vec(alloc: Global, directory: &Directory<'_>) -> SerializeResult<Vec<u8>>
-    ensures { IfOk result (λ octets. octets.items ≡ labels_octets directory.now.0) }
-{
-    directory.to_der_vec(alloc)
-}
-
-/// The same by `strict_vec`.
-pub fn directory_strict(alloc: Global, directory: &Directory<'_>) -> SerializeResult<Vec<u8>>
-    ensures { IfOk result (λ octets. octets.items ≡ labels_octets directory.now.0) }
-{
-    strict_vec(alloc, directory)
+    by_each_call(directory, alloc, w, v)
 }

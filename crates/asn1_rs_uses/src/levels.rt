@@ -46,11 +46,7 @@ pub struct Level(pub u8);
 impl Tagged for Level {
     const TAG: Tag = Tag::Integer;
 
-    ghost mark = { record { 0 = 2 } };
-
-    fn its_tag() -> Tag {
-        Self::TAG
-    }
+    ghost TAG = { record { 0 = 2 } };
 }
 
 impl<'a> FromAny<'a> for Level {
@@ -96,12 +92,6 @@ impl<'a> LawfulBody<'a, LevelError> for Level {
     ghost body_exact = { refused_as_takes Octets LevelConverts level_element level_converts };
 
     ghost body_spares = { refused_as_spares Octets LevelConverts level_element level_converts };
-
-    ghost form_body = { (integer_lawful (IsUnsigned 1) pos).form_body };
-
-    ghost ber_split = { λ o v w. w };
-
-    ghost ber_join = { λ o v w. w };
 }
 
 /// What reading a level by DER answers under a tag of any class and number is exact.

@@ -6,6 +6,7 @@
 mod borrowed;
 mod by_bounds;
 mod fingerprint;
+mod handle;
 mod incomplete;
 mod items;
 mod joined;
@@ -27,15 +28,14 @@ pub use borrowed::{
     read_sequence,
 };
 pub use by_bounds::{count_all, read_by_bound};
-pub use fingerprint::Fingerprint;
+pub use fingerprint::{Fingerprint, number_of_fingerprints};
+pub use handle::{Handle, Place, read_handle};
 pub use incomplete::{read_element, read_header};
 pub use items::{count_of_numbers, elements_in, items_in, numbers_in};
 pub use joined::{check_numbers, numbers_of, set_of_numbers};
 pub use labels::{
-    Directory, GeneralString, Headed, Label, Labels, count_directory, count_headed, count_label,
-    count_labels, directory_strict, directory_vec, headed_strict, headed_vec, label_vec,
-    labels_strict, labels_vec, write_directory, write_directory_strict, write_headed,
-    write_headed_strict, write_label, write_labels, write_labels_strict,
+    Directory, EachCall, GeneralString, Headed, Label, Labels, by_each_call, count_label,
+    directory_by_each_call, headed_by_each_call, label_vec, labels_by_each_call, write_label,
 };
 pub use levels::{Level, LevelError, levels_under_tags_are_exact};
 pub use message::Message;
@@ -58,4 +58,4 @@ pub use sets::{
 pub use tagged_octets::{
     octets_handed_on, octets_handed_under, octets_under, optional_octets, string_under,
 };
-pub use version::{Field, Version, read_version};
+pub use version::{Field, Version, numbers_of_versions, read_version};

@@ -1,5 +1,5 @@
 //! Numbers by BER and by DER, with the theorems in words of numbers.
-ghost use Rattle.std.specs.Prelude.{◌≡◌, ◌≢◌, ◌<◌, ◌≤◌, ◌^◌, ◌++◌, ◌↔◌, ℕ, ℤ, List, length, pos, IfOk, IfErr, IsTrue, MatchResult};
+ghost use Rattle.std.specs.Prelude.{◌≡◌, ◌≢◌, ◌<◌, ◌≤◌, ◌^◌, ◌++◌, ◌↔◌, ◌⊎◌, ℕ, ℤ, List, length, pos, IfOk, IfErr, IsTrue, MatchResult};
 ghost use Rattle.x690.specs.Identifiers.{Identifier, IsCutIdentifier};
 ghost use Rattle.asn1_headers.specs.Answers.{seen, Exactly, RefusedBeforeEnd};
 ghost use Rattle.asn1_headers.specs.Ber.{EndsWithin};
@@ -60,6 +60,7 @@ pub fn is_strict_front(alloc: Global, x: u64, front: &[u8]) -> SerializeResult<b
     ensures of_parts { (id : Identifier) (content : List ℕ)
         → IntegerForm (IsUnsigned 8) (pos x) id content
         → IfOk result (λ strict. IsTrue strict ↔ IsStrictNumber x front.now) }
+    ensures refused { (o : List ℕ) → IsStrictNumber x o → IfErr result (IsMemoryOrLength o) }
 {
     strict_fronts_are_written_again::<u64>();
     let written = strict_vec::<u64>(alloc, &x)?;
@@ -68,8 +69,10 @@ pub fn is_strict_front(alloc: Global, x: u64, front: &[u8]) -> SerializeResult<b
 
 /// Whether two numbers have one strict encoding, and so are the same.
 pub fn is_same_number(alloc: Global, x: u64, y: u64) -> SerializeResult<bool>
-    ensures { (o p : List ℕ) → IsStrictNumber x o → IsStrictNumber y p
+    ensures same { (o p : List ℕ) → IsStrictNumber x o → IsStrictNumber y p
         → IfOk result (λ same. IsTrue same ↔ (x ≡ y)) }
+    ensures refused { (o p : List ℕ) → IsStrictNumber x o → IsStrictNumber y p
+        → IfErr result (λ e. IsMemoryOrLength o e ⊎ IsMemoryOrLength p e) }
 {
     words_and_values_are_unique::<u64>();
     let first = strict_vec::<u64>(alloc, &x)?;

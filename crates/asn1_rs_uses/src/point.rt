@@ -23,11 +23,7 @@ impl Point {
 impl Tagged for Point {
     const TAG: Tag = Tag::Sequence;
 
-    ghost mark = { record { 0 = 16 } };
-
-    fn its_tag() -> Tag {
-        Self::TAG
-    }
+    ghost TAG = { record { 0 = 16 } };
 }
 
 impl<'a> FromAny<'a> for Point {

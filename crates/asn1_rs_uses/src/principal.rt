@@ -1,17 +1,23 @@
 //! A message that borrows, with an optional field: the name of a principal, in the manner of Kerberos.
-ghost use Rattle.std.specs.Prelude.{◌≡◌, IfOk};
+ghost use Rattle.std.specs.Prelude.{◌≡◌, ◌⊎◌, ◌++◌, ℕ, List, length, map, true, IfOk, IfErr};
+ghost use Rattle.std.specs.List.{All};
+ghost use Rattle.x690.specs.Octets.{IsOctets};
 ghost use Rattle.x690.specs.Identifiers.{IsCutIdentifier};
 ghost use Rattle.x690.specs.Rules.{der_rule};
+ghost use Rattle.x690.specs.Signed.{IsSigned};
+ghost use Rattle.asn1_headers.specs.declared.error.Error.TheVariants as errors;
 ghost use Rattle.asn1_headers.specs.Answers.{seen, Exactly};
+ghost use Rattle.asn1_headers.specs.Writer.{MayRefuse};
 ghost use Rattle.asn1_rs.specs.Any.{parts_of};
 ghost use Rattle.asn1_rs.specs.OctetString.{octets_of};
-ghost use Rattle.asn1_rs.specs.Optional.{IsLeftOut, OptionGives};
+ghost use Rattle.asn1_rs.specs.Optional.{IsLeftOut, OptionGives, IfHeld};
 ghost use Rattle.asn1_rs_uses.specs.Numbers.{NoMemory};
 ghost use Rattle.asn1_rs_uses.specs.Principals.{RealmByDer};
 
 use asn1_rs::{
-    Any, Class, Err, Error, FromDer, OctetString, ParseResult, SerializeResult, Tag,
-    TaggedExplicit, ToDer, Told, read_der, reader_is_exact_by_der,
+    AlwaysDer, Any, Class, Err, Error, FromDer, OctetString, ParseResult, SerializeResult, Tag,
+    TaggedExplicit, ToDer, Told, counts_are_of_the_strict_encoding, read_der,
+    reader_is_exact_by_der,
 };
 use std::alloc::Global;
 
@@ -48,13 +54,15 @@ fn read_realm<'a>(alloc: Global, octets: &'a [u8]) -> ParseResult<'a, Option<Rea
 }
 
 impl<'a> Principal<'a> {
-    ghost use Rattle.asn1_rs_uses.specs.Principals.{BeginsWithPrincipal, IsPrincipal, principal_octets};
+    ghost use Rattle.asn1_rs_uses.specs.Principals.{BeginsWithPrincipal, IsPrincipal, IsNoPrincipal, RefusesPrincipal, ReadsPrincipalBack, principal_octets};
 
     /// The principal at the front of the octets, by DER, and what follows it.
     ///
     /// Refused as `Incomplete` only where the sequence itself is cut.
     pub fn from_der(alloc: Global, octets: &'a [u8]) -> ParseResult<'a, Principal<'a>, Error>
-        ensures { IfOk (seen result) (λ x. BeginsWithPrincipal octets.now x.1 x.0) }
+        ensures begins { IfOk (seen result) (λ x. BeginsWithPrincipal octets.now x.1 x.0) }
+        ensures refused { IfErr (seen result) (RefusesPrincipal octets.now) }
+        ensures back { ReadsPrincipalBack octets.now (seen result) }
     {
         let (rest, sequence) = read_der::<Any<'a>, Error>(alloc, octets)?;
         match Principal::from_element(alloc, &sequence) {
@@ -66,7 +74,9 @@ impl<'a> Principal<'a> {
     /// The principal that an element is: its class, its constructed bit and its tag number are looked at, and then what
     /// it holds.
     fn from_element(alloc: Global, element: &Any<'a>) -> Result<Principal<'a>, Error>
-        ensures { IfOk result (IsPrincipal (parts_of element.now)) }
+        ensures parts { IfOk result (IsPrincipal (parts_of element.now)) }
+        ensures refused { IfErr result
+            (λ e. (e ≡ errors.OutOfMemory) ⊎ IsNoPrincipal (parts_of element.now)) }
     {
         element.header.assert_class(Class::Universal)?;
         element.header.assert_constructed()?;
@@ -80,10 +90,32 @@ impl<'a> Principal<'a> {
         Ok(Principal { kind, names, realm })
     }
 
-    /// The octets of the principal, by DER.
-    pub fn to_der(&self, alloc: Global) -> SerializeResult<Vec<u8>>
-        ensures { IfOk result (λ octets. octets.items ≡ principal_octets self.now) }
+    /// States of a principal in hand that its parts are in DER form.
+    fn parts_are_der(&self)
+        ensures kind { IsSigned 4 self.now.kind.inner }
+        ensures names { All IsOctets (map octets_of self.now.names.inner.items) }
+        ensures realm { IfHeld (λ t. IsOctets (octets_of t.inner)) self.now.realm }
     {
+        self.kind.is_der();
+        self.names.is_der();
+        if let Some(realm) = &self.realm {
+            realm.is_der();
+        }
+    }
+
+    /// The octets of the principal, by DER, which are read back as the same principal, whatever follows.
+    ///
+    /// Refused only where they could not be kept, or their number passes `usize`.
+    pub fn to_der(&self, alloc: Global) -> SerializeResult<Vec<u8>>
+        ensures octets { IfOk result (λ octets. octets.items ≡ principal_octets self.now) }
+        ensures back { IfOk result (λ octets. (rest : List ℕ) →
+            BeginsWithPrincipal (octets.items ++ rest) self.now rest) }
+        ensures refused { IfErr result (MayRefuse true (length (principal_octets self.now))) }
+    {
+        self.parts_are_der();
+        counts_are_of_the_strict_encoding::<Kind>();
+        counts_are_of_the_strict_encoding::<Names<'a>>();
+        counts_are_of_the_strict_encoding::<Realm<'a>>();
         let mut content = Told::new(Vec::new(alloc));
         self.kind.write_der(alloc, &mut content)?;
         self.names.write_der(alloc, &mut content)?;

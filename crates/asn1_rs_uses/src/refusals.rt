@@ -1,6 +1,5 @@
 //! Types of a caller's whose values may not be written, alone and in lists and sets.
-ghost use Rattle.std.specs.Prelude.{◌≡◌, ◌≢◌, ◌≤◌, ◌⊎◌, ◌∷◌, [], None, true, false, length, Err, IfErr, OnErr, IsErr, IsErrAnd, MatchResult};
-ghost use Rattle.x690.specs.Strict.{header_octets};
+ghost use Rattle.std.specs.Prelude.{◌≡◌, ◌≢◌, ◌≤◌, ◌⊎◌, [], None, true, false, length, Err, IfErr, OnErr, IsErr, IsErrAnd, MatchResult};
 ghost use Rattle.asn1_headers.specs.declared.class.Class.TheVariants as classes;
 ghost use Rattle.asn1_headers.specs.declared.length.Length.TheVariants as forms;
 ghost use Rattle.asn1_headers.specs.declared.error.Error.TheVariants as errors;
@@ -8,8 +7,8 @@ ghost use Rattle.asn1_headers.specs.declared.error.SerializeError.TheVariants as
 ghost use Rattle.asn1_headers.specs.Header.{HasParts};
 ghost use Rattle.asn1_rs.specs.Set.{items_of};
 ghost use Rattle.asn1_headers.specs.Writer.{GrewByABeginning, MayRefuse};
-ghost use Rattle.asn1_rs.specs.ToDer.{RefusedAtOnce, WrittenRefusal};
-ghost use Rattle.asn1_rs_uses.specs.Refusals.{NamesNoClass, AsAnyWriting, TellsOfNoClass, SomeInNoClass, octets_in_classes, IsEmptyPart, TellsOfEmptyPart, WrittenEmptyPart, IsMemoryOrLength, SomeEmpty};
+ghost use Rattle.asn1_rs.specs.ToDer.{RefusedAtOnce};
+ghost use Rattle.asn1_rs_uses.specs.Refusals.{AsAnyWriting, TellsOfNoClass, SomeInNoClass, octets_in_classes, IsEmptyPart, TellsOfEmptyPart, WrittenEmptyPart, IsMemoryOrLength, SomeEmpty, in_class_writing, part_writing};
 
 use asn1_rs::{
     Any, Class, DerWrite, DynTagged, Error, Header, Length, SerializeError, SerializeResult, SetOf,
@@ -36,23 +35,7 @@ impl DynTagged for InClass {
 }
 
 impl ToDer for InClass {
-    ghost tells = { λ _. Unit {0} };
-
-    ghost header = { λ x. header_octets x.class false 0 1 };
-
-    ghost content = { λ x. x.octet ∷ [] };
-
-    ghost header_refuses = { λ x. NamesNoClass x.class };
-
-    ghost content_refuses = { λ x. NamesNoClass x.class };
-
-    ghost refuses_first = { λ x. NamesNoClass x.class };
-
-    ghost count_allocates = { false };
-
-    ghost content_allocates = { false };
-
-    ghost write_allocates = { false };
+    ghost writing = { in_class_writing };
 
     fn to_der_len(&self) -> Result<usize, Error> {
         Ok(3)
@@ -86,7 +69,7 @@ impl ToDer for InClass {
 /// Appends the element. A value of no class is refused, with nothing appended.
 pub fn write_in_class<W: DerWrite>(x: &InClass, alloc: Global, w: &mut W) -> SerializeResult<usize>
     ensures { 4 ≤ x.now.class → RefusedAtOnce (serialize_errors.InvalidClass x.now.class)
-        (W.told w.old) (W.told w.new) (W.failed w.old) (W.failed w.new) result }
+        (W.state w.old) (W.state w.new) result }
 {
     x.write_der(alloc, w)
 }
@@ -98,7 +81,7 @@ pub fn write_header_in_class<W: DerWrite>(
     w: &mut W,
 ) -> SerializeResult<usize>
     ensures { 4 ≤ x.now.class → RefusedAtOnce (serialize_errors.InvalidClass x.now.class)
-        (W.told w.old) (W.told w.new) (W.failed w.old) (W.failed w.new) result }
+        (W.state w.old) (W.state w.new) result }
 {
     x.write_der_header(alloc, w)
 }
@@ -110,7 +93,7 @@ pub fn write_raw_in_class<W: DerWrite>(
     w: &mut W,
 ) -> SerializeResult<usize>
     ensures { 4 ≤ x.now.class → RefusedAtOnce (serialize_errors.InvalidClass x.now.class)
-        (W.told w.old) (W.told w.new) (W.failed w.old) (W.failed w.new) result }
+        (W.state w.old) (W.state w.new) result }
 {
     x.write_der_raw(alloc, w)
 }
@@ -132,7 +115,8 @@ pub fn write_list_in_classes<W: DerWrite>(
     ensures why { IfErr result (λ e. MayRefuse true (length (octets_in_classes xs.now.items)) e
         ⊎ TellsOfNoClass xs.now.items e) }
     ensures begun { OnErr result
-        (GrewByABeginning (W.told w.old) (W.told w.new) (octets_in_classes xs.now.items)) }
+        (GrewByABeginning (W.state w.old).told (W.state w.new).told
+        (octets_in_classes xs.now.items)) }
 {
     xs.write_der(alloc, w)
 }
@@ -190,23 +174,7 @@ impl DynTagged for NamePart<'_> {
 }
 
 impl ToDer for NamePart<'_> {
-    ghost tells = { λ _. Unit {0} };
-
-    ghost header = { λ p. header_octets 0 false 12 (length p.0.now) };
-
-    ghost content = { λ p. p.0.now };
-
-    ghost count_refuses = { λ p. IsEmptyPart p.0.now };
-
-    ghost header_refuses = { λ p. WrittenRefusal (IsEmptyPart p.0.now) };
-
-    ghost content_refuses = { λ p. WrittenRefusal (IsEmptyPart p.0.now) };
-
-    ghost count_allocates = { false };
-
-    ghost content_allocates = { false };
-
-    ghost write_allocates = { false };
+    ghost writing = { part_writing };
 
     fn to_der_len(&self) -> Result<usize, Error> {
         self.element()?.to_der_len()
@@ -247,7 +215,7 @@ pub fn write_name<W: DerWrite>(
     ensures why { SomeEmpty parts.now.items →
         IsErrAnd result (λ e. WrittenEmptyPart e ⊎ IsMemoryOrLength e) }
     ensures nothing { SomeEmpty parts.now.items →
-        (W.told w.new ≡ W.told w.old) × (W.failed w.new ≡ W.failed w.old) }
+        W.state w.new ≡ W.state w.old }
 {
     parts.write_der(alloc, w)
 }

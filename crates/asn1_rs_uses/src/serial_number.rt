@@ -22,11 +22,7 @@ pub struct SerialNumber(pub u64);
 impl Tagged for SerialNumber {
     const TAG: Tag = Tag::Integer;
 
-    ghost mark = { record { 0 = 2 } };
-
-    fn its_tag() -> Tag {
-        Self::TAG
-    }
+    ghost TAG = { record { 0 = 2 } };
 }
 
 impl<'a> FromAny<'a> for SerialNumber {

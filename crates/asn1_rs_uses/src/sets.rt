@@ -1,5 +1,5 @@
 //! Sets of small numbers, with the theorems in words of sets.
-ghost use Rattle.std.specs.Prelude.{◌≡◌, ◌↔◌, List, map, pos, IfOk, IsTrue, MatchResult};
+ghost use Rattle.std.specs.Prelude.{◌≡◌, ◌↔◌, ◌⊎◌, List, map, pos, IfOk, IfErr, IsTrue, MatchResult};
 ghost use Rattle.x690.specs.Collections.{multiset, value_set};
 ghost use Rattle.x690.specs.Identifiers.{IsCutIdentifier};
 ghost use Rattle.asn1_headers.specs.Answers.{seen, Exactly};
@@ -32,10 +32,12 @@ pub fn write_counted(alloc: Global, numbers: &SetOf<u8>) -> SerializeResult<Vec<
     strict_vec(alloc, numbers)
 }
 
-/// Whether two sets have the same numbers, each as often, told by their encodings.
+/// Whether two sets have the same numbers, each as often, told by their encodings. Refused as the writing of one of them.
 pub fn are_same_counted(alloc: Global, one: &SetOf<u8>, other: &SetOf<u8>) -> SerializeResult<bool>
-    ensures { IfOk result (λ same. IsTrue same ↔
+    ensures same { IfOk result (λ same. IsTrue same ↔
         (multiset (map pos (items_of one.now)) ≡ multiset (map pos (items_of other.now)))) }
+    ensures refused { IfErr result (λ e. IsMemoryOrLength (set_octets (items_of one.now)) e
+        ⊎ IsMemoryOrLength (set_octets (items_of other.now)) e) }
 {
     one.is_der();
     other.is_der();

@@ -1,5 +1,5 @@
 //! A lawful type of a caller's that holds a lawful value, tag and all, and hands every call on to it.
-ghost use Rattle.std.specs.Prelude.{pos};
+ghost use Rattle.std.specs.Prelude.{◌≡◌, pos};
 ghost use Rattle.x690.specs.Identifiers.{IsCutIdentifier};
 ghost use Rattle.asn1_headers.specs.Answers.{Exactly, seen};
 ghost use Rattle.asn1_rs.specs.Kinds.{HoldingGives, HoldingReads};
@@ -9,7 +9,7 @@ ghost use Rattle.asn1_rs_uses.specs.Version.{VersionByDer};
 
 use asn1_rs::{
     Any, CheckDerConstraints, Error, FromAny, FromDer, HasKind, HolderKind, Holds, LawfulBody,
-    LawfulCheck, LawfulDer, LawfulMember, ParseResult, TaggedExplicit, read_der,
+    LawfulCheck, LawfulDer, LawfulMember, ParseResult, Tagged, TaggedExplicit, read_der,
 };
 use std::alloc::Global;
 
@@ -70,12 +70,6 @@ impl<'a, T: LawfulBody<'a, E>, E: From<Error>> LawfulBody<'a, E> for Field<T> {
     ghost body_exact = { held_takes (λ x. x.0) T.grammar T.any_gives E.from_gives T.body_exact };
 
     ghost body_spares = { T.body_spares };
-
-    ghost form_body = { T.form_body };
-
-    ghost ber_split = { T.ber_split };
-
-    ghost ber_join = { T.ber_join };
 }
 
 impl<'a, T: LawfulDer<'a, E>, E: From<Error>> LawfulDer<'a, E> for Field<T> {
@@ -98,4 +92,11 @@ pub fn read_version(alloc: Global, octets: &[u8]) -> ParseResult<'_, Version, Er
         octets.now (seen result) }
 {
     read_der::<Version, Error>(alloc, octets)
+}
+
+/// The tag numbers of a version and of a reference to one: that of what it holds.
+pub fn numbers_of_versions() -> (u32, u32)
+    ensures { result ≡ (0, 0) }
+{
+    (Version::TAG.0, <&Version as Tagged>::TAG.0)
 }

@@ -2,11 +2,9 @@
 
 use asn1_rs::{Class, Error, OctetString, ParseResult, TaggedParser, Told};
 use asn1_rs_uses::{
-    Directory, GeneralString, Headed, Label, Labels, count_directory, count_headed, count_label,
-    count_labels, directory_strict, directory_vec, headed_strict, headed_vec, label_vec,
-    labels_strict, labels_vec, octets_handed_on, octets_handed_under, octets_under,
-    optional_octets, string_under, write_directory, write_directory_strict, write_headed,
-    write_headed_strict, write_label, write_labels, write_labels_strict,
+    Directory, GeneralString, Headed, Label, Labels, count_label, directory_by_each_call,
+    headed_by_each_call, label_vec, labels_by_each_call, octets_handed_on, octets_handed_under,
+    octets_under, optional_octets, string_under, write_label,
 };
 use std::alloc::Global;
 use std::test::Fail;
@@ -30,6 +28,12 @@ fn an_optional_label_is_counted_and_written(rt: HostRuntime) -> Result<(), Fail>
 /// Two general strings in a sequence under a tag.
 const LABELS: &str = "[160, 9, 48, 7, 27, 1, 107, 27, 2, 97, 98]";
 
+/// These, by each call.
+const EACH_OF_LABELS: &str = "\
+EachCall { counted: Ok(11), written: Ok(11), strictly: Ok(11), \
+vector: Ok([160, 9, 48, 7, 27, 1, 107, 27, 2, 97, 98]), \
+strict: Ok([160, 9, 48, 7, 27, 1, 107, 27, 2, 97, 98]) }";
+
 /// These.
 fn two_labels(alloc: Global) -> Result<Labels<'static>, Fail> {
     let mut strings = Vec::new(alloc);
@@ -41,18 +45,12 @@ fn two_labels(alloc: Global) -> Result<Labels<'static>, Fail> {
 #[test]
 fn labels_are_counted_and_written(rt: HostRuntime) -> Result<(), Fail> {
     let alloc = rt.alloc();
-    let labels = two_labels(alloc)?;
     let mut w = Told::new(Vec::new(alloc));
-    let answers = (
-        count_labels(&labels),
-        write_labels(&labels, alloc, &mut w),
-        write_labels_strict(&labels, alloc, &mut w),
-    );
-    assert_shown(alloc, &answers, "(Ok(11), Ok(11), Ok(11))")?;
-    let (_, again) = w.as_inner().split_at(w.as_inner().len().min(11));
-    assert_shown(alloc, &again, LABELS)?;
-    assert_shown(alloc, &labels_vec(alloc, &labels)?, LABELS)?;
-    assert_shown(alloc, &labels_strict(alloc, &labels)?, LABELS)
+    let mut v = Told::new(Vec::new(alloc));
+    let answers = labels_by_each_call(&two_labels(alloc)?, alloc, &mut w, &mut v);
+    assert_shown(alloc, &answers, EACH_OF_LABELS)?;
+    assert_shown(alloc, w.as_inner(), LABELS)?;
+    assert_shown(alloc, v.as_inner(), LABELS)
 }
 
 #[test]
@@ -60,16 +58,11 @@ fn a_directory_is_written_as_its_labels(rt: HostRuntime) -> Result<(), Fail> {
     let alloc = rt.alloc();
     let directory = Directory(two_labels(alloc)?);
     let mut w = Told::new(Vec::new(alloc));
-    let answers = (
-        count_directory(&directory),
-        write_directory(&directory, alloc, &mut w),
-        write_directory_strict(&directory, alloc, &mut w),
-    );
-    assert_shown(alloc, &answers, "(Ok(11), Ok(11), Ok(11))")?;
-    let (_, again) = w.as_inner().split_at(w.as_inner().len().min(11));
-    assert_shown(alloc, &again, LABELS)?;
-    assert_shown(alloc, &directory_vec(alloc, &directory)?, LABELS)?;
-    assert_shown(alloc, &directory_strict(alloc, &directory)?, LABELS)
+    let mut v = Told::new(Vec::new(alloc));
+    let answers = directory_by_each_call(&directory, alloc, &mut w, &mut v);
+    assert_shown(alloc, &answers, EACH_OF_LABELS)?;
+    assert_shown(alloc, w.as_inner(), LABELS)?;
+    assert_shown(alloc, v.as_inner(), LABELS)
 }
 
 #[test]
@@ -77,15 +70,14 @@ fn a_string_is_written_under_the_tag_of_its_header(rt: HostRuntime) -> Result<()
     let alloc = rt.alloc();
     let headed = Headed::new_explicit(Class::Application, 14, OctetString::new(&[7]));
     let mut w = Told::new(Vec::new(alloc));
-    let answers = (
-        count_headed(&headed),
-        write_headed(&headed, alloc, &mut w),
-        write_headed_strict(&headed, alloc, &mut w),
-        headed_vec(alloc, &headed),
-        headed_strict(alloc, &headed),
-    );
-    let expected = "(Ok(5), Ok(5), Ok(5), Ok([110, 3, 4, 1, 7]), Ok([110, 3, 4, 1, 7]))";
-    assert_shown(alloc, &answers, expected)
+    let mut v = Told::new(Vec::new(alloc));
+    let answers = headed_by_each_call(&headed, alloc, &mut w, &mut v);
+    let expected = "\
+EachCall { counted: Ok(5), written: Ok(5), strictly: Ok(5), \
+vector: Ok([110, 3, 4, 1, 7]), strict: Ok([110, 3, 4, 1, 7]) }";
+    assert_shown(alloc, &answers, expected)?;
+    assert_shown(alloc, w.as_inner(), "[110, 3, 4, 1, 7]")?;
+    assert_shown(alloc, v.as_inner(), "[110, 3, 4, 1, 7]")
 }
 
 /// Octets under the tag 1, by the readers of a tag that is given.

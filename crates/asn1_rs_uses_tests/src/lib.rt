@@ -4,7 +4,11 @@
 #[cfg(test)]
 mod callers;
 #[cfg(test)]
+mod handles;
+#[cfg(test)]
 mod labels;
+#[cfg(test)]
+mod levels;
 #[cfg(test)]
 mod lists;
 #[cfg(test)]

@@ -31,6 +31,8 @@ use Rattle.asn1vec_answers.proofs.OneItem.{IsOneItem, follows, texts_same, vecto
 use Rattle.asn1vec_answers.proofs.OneList.{IsOneConversion, IsOneReader, IsOneTaking, flattened_memory, flattened_same, one_by_parts, one_element, takes_once as list_takes_once}
 use Rattle.asn1vec_answers.proofs.OneReading.{SameReading}
 use Rattle.asn1vec_answers.proofs.OneRefusal.{converted_same, element_or_fault, same_parts, same_tail}
+use Rattle.asn1_rs.specs.Grammar.Item.{ber_words}
+use Rattle.asn1_rs.specs.Laws.Words.{strict_ber}
 
 module _ {T W D : Type 0} (class number : ℕ) (inner : W → T) (view : T → D) (allocates : Bool) (reads : List ℕ → Reading T → Type 0) (once : IsOneReader view allocates reads) where
   -- by BER: the conversion of the element
@@ -142,5 +144,5 @@ module _ (number : ℕ) (I : Item) (one : IsOneItem I) where
     value = λ s t e. follows one.view I.grammar.value one.value s.inner.items t.inner.items e;
     ber = one_element (IsElement max_depth) (ElementFault max_depth) EndsWithin ber_elements ber_breach view_of true (implicit_vector_takes number I) taken;
     der = one_element IsDerElement DerElementFault IsCutIdentifier der_elements der_breach view_of true (implicit_vector_takes number I) taken;
-    lawful = implicit_lawful 2 number 16 (λ t. t.inner) (vector I).grammar (vector_once I one).lawful (lit< tt) (list_number I.grammar.Form 16) (list_takes_class I.grammar.Form 16 I.grammar.Ber I.grammar.Check one.lawful.strict_ber one.lawful.form_check 2);
+    lawful = implicit_lawful 2 number 16 (λ t. t.inner) (vector I).grammar (vector_once I one).lawful (lit< tt) (list_number I.grammar.Form 16) (list_takes_class I.grammar.Form 16 (ber_words I.grammar) I.grammar.Check (strict_ber I.grammar one.lawful) one.lawful.form_check 2);
   }

@@ -21,8 +21,7 @@ use Rattle.x690.specs.Laws.Integers.Unsigned.{unsigned_octets_content, unsigned_
 use Rattle.x690.specs.Integers.{IsIntegerContent, unsigned_octets}
 use Rattle.x690.specs.Signed.{IsSigned, signed_octets}
 use Rattle.x690.specs.Laws.Signed.{signed_octets_content, signed_octets_few}
-use Rattle.asn1_headers.specs.declared.error.Error.{Error}
-use Rattle.asn1_rs.specs.ToDer.{Either, HasNone, IsWritable, Refuses}
+use Rattle.asn1_rs.specs.ToDer.{Refuses, Writing, whole_octets}
 use Rattle.asn1vec_answers.specs.Shown.{Encoding, Gains, IsUnwritten, IsWritten, SaysEncoding, SaysWriting, StrictEncoding, StrictEncodingIfAny}
 use Rattle.asn1vec_answers.proofs.OneReading.{only_refusals}
 use Rattle.asn1vec_answers.proofs.Gained.{gains_both}
@@ -45,10 +44,10 @@ refused_as_any allocates n own none (Err e) (inl h) = h
 refused_as_any allocates n own none (Err e) (inr o) = absurd (none e o)
 
 -- what is written of a value that has a strict encoding is that one
-pub strict_told : {S V : Type 0} (value : S → V) (Form : V → Identifier → List ℕ → Type 0) (is_writable : S → Type 0) (constructed : S → Bool) (header content : S → List ℕ) → WritesForm value Form is_writable constructed header content →
-    (allocates : Bool) (x : S) (o : List ℕ) → IsStrict Form (value x) o → (encoding : Encoding) → IsWritten allocates (header x ++ content x) encoding → StrictEncoding Form allocates (value x) encoding
-strict_told value Form is_writable constructed header content writes allocates x o strict encoding written =
-    (o, strict, subst (λ (l : List ℕ). IsWritten allocates l encoding) (strict_written value Form is_writable constructed header content writes x o strict).1 written)
+pub strict_told : {S V : Type 0} (value : S → V) (Form : V → Identifier → List ℕ → Type 0) (w : Writing S) → WritesForm value Form w →
+    (allocates : Bool) (x : S) (o : List ℕ) → IsStrict Form (value x) o → (encoding : Encoding) → IsWritten allocates (whole_octets w x) encoding → StrictEncoding Form allocates (value x) encoding
+strict_told value Form w writes allocates x o strict encoding written =
+    (o, strict, subst (λ (l : List ℕ). IsWritten allocates l encoding) (strict_written value Form w writes x o strict).1 written)
 
 -- octets past what 64 bits count are not written
 unwritten : (allocates : Bool) (o : List ℕ) → 2 ^ 64 ≤ length o → (encoding : Encoding) → IsWritten allocates o encoding → IsUnwritten allocates encoding
@@ -61,23 +60,23 @@ unwritten allocates o long (Some (Err e)) (may, io) =
     ]
 
 -- What is said of the encoding of a value in DER form: its strict encoding, unless the contents octets are too many.
-module _ {S V : Type 0} (value : S → V) (IsDer : V → Type 0) (Form : V → Identifier → List ℕ → Type 0) (is_writable : S → Type 0) (constructed : S → Bool) (header content : S → List ℕ)
-    (writes : WritesForm value Form is_writable constructed header content) (has : HasForm value IsDer Form content) (fits : FitsElement Form) where
-  written_strict : (x : S) → IsDer (value x) → length (content x) < 2 ^ 64 → ∥ IsStrict Form (value x) (header x ++ content x) ∥₁
+module _ {S V : Type 0} (value : S → V) (IsDer : V → Type 0) (Form : V → Identifier → List ℕ → Type 0) (w : Writing S)
+    (writes : WritesForm value Form w) (has : HasForm value IsDer Form w) (fits : FitsElement Form) where
+  written_strict : (x : S) → IsDer (value x) → length (w.content x) < 2 ^ 64 → ∥ IsStrict Form (value x) (whole_octets w x) ∥₁
   written_strict x der few = ∥∥₁_map (has x der few) (λ f.
-      subst (λ (h : List ℕ). IsStrict Form (value x) (h ++ content x)) (sym (writes x f.0 (content x) f.1).3) (strict_made Form fits (value x) f.0 (content x) f.1 few))
+      subst (λ (h : List ℕ). IsStrict Form (value x) (h ++ w.content x)) (sym (writes x f.0 (w.content x) f.1).3) (strict_made Form fits (value x) f.0 (w.content x) f.1 few))
 
-  too_long : (x : S) → 2 ^ 64 ≤ length (content x) → (o : List ℕ) → IsStrict Form (value x) o → ⊥
+  too_long : (x : S) → 2 ^ 64 ≤ length (w.content x) → (o : List ℕ) → IsStrict Form (value x) o → ⊥
   too_long x long o s =
-      let same : content x ≡ s.content = (writes x s.id s.content s.form).2 in
+      let same : w.content x ≡ s.content = (writes x s.id s.content s.form).2 in
       let few = length_fits (length s.content) s.element.count s.element.count_is.lenient in
       omega (arith, long, few, ap length same)
 
-  pub strict_if_any : (allocates : Bool) (x : S) → IsDer (value x) → (encoding : Encoding) → IsWritten allocates (header x ++ content x) encoding → StrictEncodingIfAny Form allocates (value x) encoding
+  pub strict_if_any : (allocates : Bool) (x : S) → IsDer (value x) → (encoding : Encoding) → IsWritten allocates (whole_octets w x) encoding → StrictEncodingIfAny Form allocates (value x) encoding
   strict_if_any allocates x der encoding written =
-      elim (cases_lt (length (content x)) (2 ^ 64)) [
-        | inl few ↦ inl (header x ++ content x, written_strict x der few, written)
-        | inr long ↦ inr (too_long x long, unwritten allocates (header x ++ content x) (omega (arith, long, length-append (header x) (content x))) encoding written)
+      elim (cases_lt (length (w.content x)) (2 ^ 64)) [
+        | inl few ↦ inl (whole_octets w x, written_strict x der few, written)
+        | inr long ↦ inr (too_long x long, unwritten allocates (whole_octets w x) (omega (arith, long, length-append (w.header x) (w.content x))) encoding written)
       ]
 
 -- each number that a type holds has a strict encoding, where its contents octets are few
@@ -120,9 +119,3 @@ strict_element a number octets few =
       form = record { is = refl; class = class; number = number; octets = octets };
       element = made_strict_element id a.content.now class number few octets;
     }
-
--- what is written whole has no refusal of its own where its parts have none
-module _ {S : Type 0} (counting : S → Error → Type 0) (heading filling : S → SerializeError → Type 0) where
-  pub either_none : (x : S) → IsWritable (counting x) (heading x) (filling x) → HasNone (Either (heading x) (filling x))
-  either_none x w e (inl o) = w.1 e o
-  either_none x w e (inr o) = w.2 e o

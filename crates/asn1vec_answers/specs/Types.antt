@@ -36,7 +36,7 @@ use Rattle.asn1_rs.specs.Any.{IsTheElement, IsDefiniteOr}
 use Rattle.asn1_rs.specs.Traits.{OfParts, BerGives, DerGives, PassesAll}
 use Rattle.asn1_rs.specs.Lists.{ListReads, ListTakes, has_items as IsMadeOf, list_grammar}
 use Rattle.asn1_rs.specs.Kinds.{item_grammar}
-use Rattle.asn1_rs.specs.Grammar.Item.{ItemGrammar}
+use Rattle.asn1_rs.specs.Grammar.Item.{ItemGrammar, ber_words}
 use Rattle.asn1_rs.specs.Any.Value.{element_of, ElementBody, ElementCheck, ElementForm}
 use Rattle.asn1_rs.specs.Grammar.{BerWord, DerWord}
 use Rattle.asn1_rs.specs.Integer.{IntegerCheck, IntegerCheckGives, IntegerBody, IntegerForm, integer_element, IntegerGives, IsUnsigned, UnsignedGives, UnsignedRefuses, SignedGives, SignedRefuses}
@@ -265,7 +265,7 @@ abbrev pub alone : Truth → Item → Meaning
 alone allocates I = record {
   T = I.T;
   is_there = λ rule. true;
-  Reads = ReadsByEither I.grammar.Ber I.grammar.Der I.grammar.value I.grammar.allocates I.ber_gives I.der_gives;
+  Reads = ReadsByEither (ber_words I.grammar) I.grammar.Der I.grammar.value I.grammar.allocates I.ber_gives I.der_gives;
   text_of = I.text_of;
   Encodes = λ x. StrictEncodingIfAny I.grammar.Form allocates (I.grammar.value x);
   reading_allocates = I.grammar.allocates;

@@ -5,13 +5,14 @@ ghost use Rattle.std.specs.Set.{is_member};
 ghost use Rattle.std.specs.BTreeSet.{BTreeSet as SetOfMembers};
 ghost use Rattle.std.specs.List.Sorted.{IsStrictlyIncreasing, IsStrictlySortedBy};
 ghost use Rattle.std.specs.Ordering.{eq_by_cmp, int_cmp};
-ghost use Rattle.asn1_rs.specs.ToDer.{some_allocates};
 ghost use Rattle.asn1vec_answers.specs.declared.types.TypeName.TheVariants.{BTreeSetU8, HashSetI8};
 ghost use Rattle.asn1vec_answers.specs.Answer.{IsAnswer, IsAnswerLine, IsRequestAnswer};
 ghost use Rattle.asn1vec_answers.specs.Memory.{AreAlike, AsksForNoItems, TakesNoMemory};
 ghost use Rattle.asn1vec_answers.specs.Shown.{Gains, HeldEncoding, IsReadAnswer, in_order, list_text, option_text};
 ghost use Rattle.asn1vec_answers.specs.Meaning.{ReadsByEither, ReadsOptional};
 ghost use Rattle.asn1vec_answers.specs.Types.{IsTypeAnswer, meaning_of};
+ghost use Rattle.asn1_rs.specs.ToDer.{whole_allocates};
+ghost use Rattle.asn1_rs.specs.Grammar.Item.{ber_words};
 
 use crate::holders::{
     push_btree_set_u8, push_explicit_0_u32, push_explicit_31_u8, push_hash_set_i8,
@@ -45,10 +46,11 @@ where
     ensures { OnOk result
         (Gains text.old.items text.new.items
         (IsReadAnswer
-        (ReadsOptional (T.mark).0
-        (ReadsByEither T.grammar.Ber T.grammar.Der T.grammar.value T.grammar.allocates T.ber_gives
+        (ReadsOptional (T.TAG).0
+        (ReadsByEither (ber_words T.grammar) T.grammar.Der T.grammar.value T.grammar.allocates
+        T.ber_gives
         T.der_gives) rule) (option_text T.text_of)
-        (HeldEncoding (some_allocates T.write_allocates T.count_allocates T.content_allocates)
+        (HeldEncoding (whole_allocates T.writing)
         T.Encodes) octets.now)) }
 {
     match rule {

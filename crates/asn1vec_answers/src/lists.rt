@@ -10,8 +10,8 @@ ghost use Rattle.asn1_headers.specs.declared.error.SerializeError.{SerializeErro
 ghost use Rattle.asn1_rs.specs.Lists.{ListForm};
 ghost use Rattle.asn1_rs.specs.Set.{SetForm, is_below, is_other, items_of, members, set_of};
 ghost use Rattle.asn1_rs.specs.Sequence.SequenceOf.{sequence_items};
-ghost use Rattle.asn1_rs.specs.ToDer.{Either, some_allocates};
 ghost use Rattle.asn1vec_answers.specs.Shown.{Encoding, IsWritten, StrictEncodingIfAny, in_order, list_text};
+ghost use Rattle.asn1_rs.specs.ToDer.{whole_allocates, whole_octets, whole_refuses};
 
 use crate::shown::Encoded;
 use crate::text::push_str;
@@ -23,12 +23,12 @@ use std::collections::{BTreeSet, HashSet};
 pub(crate) fn writing_is_strict<T: LawfulWrite>(x: &T)
     requires { T.grammar.IsDer (T.grammar.value x.now) }
     ensures own { (e : SerializeError) →
-        Either (T.header_refuses x.now) (T.content_refuses x.now) e → ⊥ }
+        whole_refuses T.writing x.now e → ⊥ }
     ensures told { (encoding : Encoding) →
-        IsWritten (some_allocates T.write_allocates T.count_allocates T.content_allocates)
-        (T.header x.now ++ T.content x.now) encoding →
+        IsWritten (whole_allocates T.writing)
+        (whole_octets T.writing x.now) encoding →
         StrictEncodingIfAny T.grammar.Form
-        (some_allocates T.write_allocates T.count_allocates T.content_allocates)
+        (whole_allocates T.writing)
         (T.grammar.value x.now) encoding }
 {}
 

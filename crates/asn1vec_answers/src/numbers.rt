@@ -1,10 +1,11 @@
 //! How integers are shown: in decimals.
-#![tactic(auto, using(crate::proofs::ShownLaws::strict_unsigned, crate::proofs::ShownLaws::strict_signed))]
+#![tactic(auto, using(crate::proofs::ShownLaws::strict_unsigned,
+crate::proofs::ShownLaws::strict_signed))]
 
 ghost use Rattle.std.specs.Prelude.{ℕ, List};
 ghost use Rattle.asn1_rs.specs.Grammar.Form.{IsStrict};
-ghost use Rattle.asn1_rs.specs.ToDer.{some_allocates};
 ghost use Rattle.asn1vec_answers.specs.Shown.{StrictEncoding};
+ghost use Rattle.asn1_rs.specs.ToDer.{whole_allocates};
 
 use crate::shown::Encoded;
 use crate::text::push_number;
@@ -24,7 +25,7 @@ impl<T: Number> Encoded for T {
 
     ghost Encodes = { λ x.
         StrictEncoding T.grammar.Form
-        (some_allocates T.write_allocates T.count_allocates T.content_allocates)
+        (whole_allocates T.writing)
         (T.grammar.value x) };
 
     fn show(&self, text: &mut Vec<u8>) -> Result<(), AllocError> {

@@ -1,13 +1,13 @@
 //! Optional values: how they are read, and shown as `none`, or `some` and the value.
-ghost use Rattle.std.specs.Prelude.{◌++◌, []};
 ghost use Rattle.x690.specs.Identifiers.{IsCutIdentifier};
 ghost use Rattle.x690.specs.Rules.{ber_rule, der_rule};
 ghost use Rattle.asn1_headers.specs.Answers.{Exactly, TellsMemory, seen};
 ghost use Rattle.asn1_headers.specs.Ber.{EndsWithin};
 ghost use Rattle.asn1_headers.specs.declared.error.SerializeError.{SerializeError};
-ghost use Rattle.asn1_rs.specs.Optional.{HeldRefuses, IsLeftOut, OptionGives, held_or};
-ghost use Rattle.asn1_rs.specs.ToDer.{Either, some_allocates};
+ghost use Rattle.asn1_rs.specs.Optional.{IsLeftOut, OptionGives, option_writing};
 ghost use Rattle.asn1vec_answers.specs.Shown.{Encoding, HeldEncoding, IsWritten, option_text};
+ghost use Rattle.asn1_rs.specs.ToDer.{whole_allocates, whole_octets, whole_refuses};
+ghost use Rattle.asn1_rs.specs.Grammar.Item.{ber_words};
 
 use crate::shown::{Encoded, Shown, push_written};
 use crate::text::push_str;
@@ -22,8 +22,8 @@ pub(crate) fn optional_by_ber<'a, T, E>(
 where
     T: LawfulBer<'a, E> + Tagged,
     E: From<Error>,
-    ensures { OptionGives (IsLeftOut ber_rule (T.mark).0)
-        (λ o answer. Exactly EndsWithin T.grammar.Ber T.grammar.value
+    ensures { OptionGives (IsLeftOut ber_rule (T.TAG).0)
+        (λ o answer. Exactly EndsWithin (ber_words T.grammar) T.grammar.value
         (TellsMemory T.grammar.allocates E.from_gives) o answer × T.ber_gives o answer)
         octets.now (seen result) }
 {
@@ -38,7 +38,7 @@ pub(crate) fn optional_by_der<'a, T, E>(
 where
     T: LawfulDer<'a, E> + Tagged,
     E: From<Error>,
-    ensures { OptionGives (IsLeftOut der_rule (T.mark).0)
+    ensures { OptionGives (IsLeftOut der_rule (T.TAG).0)
         (λ o answer. Exactly IsCutIdentifier T.grammar.Der T.grammar.value
         (TellsMemory T.grammar.allocates E.from_gives) o answer × T.der_gives o answer)
         octets.now (seen result) }
@@ -49,11 +49,11 @@ where
 /// States of the value that is held what its type says of its writing.
 fn is_told_if_held<T: Encoded>(x: &Option<T>)
     ensures own { (e : SerializeError) →
-        Either (HeldRefuses T.header_refuses x.now) (HeldRefuses T.content_refuses x.now) e → ⊥ }
+        whole_refuses (option_writing T.writing) x.now e → ⊥ }
     ensures told { (encoding : Encoding) →
-        IsWritten (some_allocates T.write_allocates T.count_allocates T.content_allocates)
-        (held_or [] T.header x.now ++ held_or [] T.content x.now) encoding →
-        HeldEncoding (some_allocates T.write_allocates T.count_allocates T.content_allocates)
+        IsWritten (whole_allocates T.writing)
+        (whole_octets (option_writing T.writing) x.now) encoding →
+        HeldEncoding (whole_allocates T.writing)
         T.Encodes x.now encoding }
 {
     match x {
@@ -67,7 +67,7 @@ impl<T: Encoded> Shown for Option<T> {
     ghost text_of = { option_text T.text_of };
 
     ghost Encodes = { HeldEncoding
-        (some_allocates T.write_allocates T.count_allocates T.content_allocates) T.Encodes };
+        (whole_allocates T.writing) T.Encodes };
 
     fn show(&self, text: &mut Vec<u8>) -> Result<(), AllocError> {
         match self {

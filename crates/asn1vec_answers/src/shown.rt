@@ -1,11 +1,12 @@
 //! How a reading is answered: the value, what follows it and its encoding, or the refusal.
-ghost use Rattle.std.specs.Prelude.{◌≡◌, ◌++◌, ◌||◌, ℕ, List, Result, Ok, OnOk};
+ghost use Rattle.std.specs.Prelude.{◌≡◌, ◌++◌, ℕ, List, Result, Ok, OnOk};
 ghost use Rattle.asn1_headers.specs.Answers.{seen};
-ghost use Rattle.asn1_rs.specs.ToDer.{Either, some_allocates};
 ghost use Rattle.asn1_headers.specs.declared.error.SerializeError.{SerializeError};
 ghost use Rattle.asn1_headers.specs.Error.{tells_of_io};
 ghost use Rattle.asn1vec_answers.specs.Meaning.{ReadsByEither};
 ghost use Rattle.asn1vec_answers.specs.Shown.{Encoding, Gains, Says, IsReadAnswer, IsWritten, ReadsByBer, ReadsByDer, SaysEncoding, SaysWriting};
+ghost use Rattle.asn1_rs.specs.ToDer.{whole_allocates, whole_octets, whole_refuses};
+ghost use Rattle.asn1_rs.specs.Grammar.Item.{ber_words};
 
 use crate::names::{push_refusal, push_write_refusal};
 use crate::request::Rule;
@@ -57,11 +58,10 @@ pub(crate) trait Encoded: LawfulWrite {
     /// names what the types say of it.
     fn is_told(&self)
         ensures own { (e : SerializeError) →
-            Either (Self.header_refuses self.now) (Self.content_refuses self.now) e → ⊥ }
+            whole_refuses Self.writing self.now e → ⊥ }
         ensures told { (encoding : Encoding) →
-            IsWritten (some_allocates Self.write_allocates Self.count_allocates
-            Self.content_allocates)
-            (Self.header self.now ++ Self.content self.now) encoding → Encodes self.now encoding };
+            IsWritten (whole_allocates Self.writing)
+            (whole_octets Self.writing self.now) encoding → Encodes self.now encoding };
 }
 
 impl<T: Encoded> Shown for T {
@@ -120,14 +120,14 @@ pub(crate) fn push_written<T: ToDer>(
     buffer: &mut Vec<u8>,
     text: &mut Vec<u8>,
 ) -> Result<(), AllocError>
-    requires tells { T.tells x.now }
+    requires tells { T.writing.tells x.now }
     requires own { (e : SerializeError) →
-        Either (T.header_refuses x.now) (T.content_refuses x.now) e → ⊥ }
+        whole_refuses T.writing x.now e → ⊥ }
     ensures { OnOk result
         (Gains text.old.items text.new.items
         (SaysEncoding (IsWritten
-        (some_allocates T.write_allocates T.count_allocates T.content_allocates)
-        (T.header x.now ++ T.content x.now)))) }
+        (whole_allocates T.writing)
+        (whole_octets T.writing x.now)))) }
 {
     buffer.clear();
     let mut output = Told::new(mem::replace(buffer, Vec::new(alloc)));
@@ -187,7 +187,7 @@ pub(crate) fn push_by_ber<'a, T>(
 where
     T: LawfulBer<'a, Error> + Shown + Drop,
     ensures { OnOk result (Gains text.old.items text.new.items (IsReadAnswer
-        (ReadsByBer T.grammar.Ber T.grammar.value T.grammar.allocates T.ber_gives)
+        (ReadsByBer (ber_words T.grammar) T.grammar.value T.grammar.allocates T.ber_gives)
         T.text_of T.Encodes octets.now)) }
 {
     push_reading(alloc, read_ber::<T, Error>(alloc, octets), buffer, text)
@@ -222,7 +222,8 @@ where
     ensures { OnOk result
         (Gains text.old.items text.new.items
         (IsReadAnswer
-        (ReadsByEither T.grammar.Ber T.grammar.Der T.grammar.value T.grammar.allocates T.ber_gives
+        (ReadsByEither (ber_words T.grammar) T.grammar.Der T.grammar.value T.grammar.allocates
+        T.ber_gives
         T.der_gives rule) T.text_of T.Encodes octets.now)) }
 {
     match rule {

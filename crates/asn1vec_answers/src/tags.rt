@@ -1,8 +1,8 @@
 //! How values under a tag are shown: as they are without it.
 ghost use Rattle.asn1_rs.specs.Tagged.Explicit.{ExplicitForm};
 ghost use Rattle.asn1_rs.specs.Tagged.Implicit.{ImplicitForm};
-ghost use Rattle.asn1_rs.specs.ToDer.{some_allocates};
 ghost use Rattle.asn1vec_answers.specs.Shown.{StrictEncodingIfAny};
+ghost use Rattle.asn1_rs.specs.ToDer.{whole_allocates};
 
 use crate::lists::writing_is_strict;
 use crate::shown::Encoded;
@@ -14,7 +14,7 @@ impl<T: Encoded + AlwaysDer, const TAG: u32> Encoded for TaggedExplicit<T, Error
 
     ghost Encodes = { λ t.
         StrictEncodingIfAny (ExplicitForm 2 TAG T.grammar.Form)
-        (some_allocates Self.write_allocates Self.count_allocates Self.content_allocates)
+        (whole_allocates Self.writing)
         (T.grammar.value t.inner) };
 
     fn show(&self, text: &mut Vec<u8>) -> Result<(), AllocError> {
@@ -33,7 +33,7 @@ impl<T: Encoded + AlwaysDer + TakesClass<2>, const TAG: u32> Encoded
 
     ghost Encodes = { λ t.
         StrictEncodingIfAny (ImplicitForm 2 TAG T.grammar.Form)
-        (some_allocates Self.write_allocates Self.count_allocates Self.content_allocates)
+        (whole_allocates Self.writing)
         (T.grammar.value t.inner) };
 
     fn show(&self, text: &mut Vec<u8>) -> Result<(), AllocError> {

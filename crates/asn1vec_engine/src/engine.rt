@@ -79,11 +79,12 @@ fn write_answer<W: DerWrite>(
     output: &mut W,
 ) -> Result<(), RunError>
     ensures ok { OnOk result ((ended : List ℕ)
-        × IsAnswerLine line.now ended × Appends (W.told output.old) (W.told output.new) ended) }
+        × IsAnswerLine line.now ended ×
+        Appends (W.state output.old).told (W.state output.new).told ended) }
     ensures err { OnErr result ((front : List ℕ)
         × ((front ≡ []) ⊎ BeginsAnswer line.now front)
-        × Appends (W.told output.old) (W.told output.new) front) }
-    ensures mark { TellsMark (W.failed output.old) (W.failed output.new) result }
+        × Appends (W.state output.old).told (W.state output.new).told front) }
+    ensures mark { TellsMark (W.state output.old).failed (W.state output.new).failed result }
 {
     let Buffers {
         octets,
@@ -122,11 +123,11 @@ fn end_line<W: DerWrite>(
     requires open { All (λ x. x ≢ 10) line.old.items }
     requires last { All (λ x. x ≢ 10) last.now }
     ensures open { OnOk result (All (λ x. x ≢ 10) line.new.items) }
-    ensures ok { OnOk result (Moves (W.told output.old) (W.told output.new)
+    ensures ok { OnOk result (Moves (W.state output.old).told (W.state output.new).told
         ((line.old.items ++ last.now) ++ 10 ∷ []) line.new.items) }
-    ensures err { OnErr result (Begins (W.told output.old) (W.told output.new)
+    ensures err { OnErr result (Begins (W.state output.old).told (W.state output.new).told
         ((line.old.items ++ last.now) ++ 10 ∷ [])) }
-    ensures mark { TellsMark (W.failed output.old) (W.failed output.new) result }
+    ensures mark { TellsMark (W.state output.old).failed (W.state output.new).failed result }
 {
     if line.is_empty() {
         return write_answer(alloc, last, buffers, output);
@@ -147,11 +148,11 @@ fn take_octets<W: DerWrite>(
 ) -> Result<(), RunError>
     requires { All (λ x. x ≢ 10) line.old.items }
     ensures open { OnOk result (All (λ x. x ≢ 10) line.new.items) }
-    ensures ok { OnOk result (Moves (W.told output.old) (W.told output.new)
+    ensures ok { OnOk result (Moves (W.state output.old).told (W.state output.new).told
         (line.old.items ++ octets.now) line.new.items) }
-    ensures err { OnErr result (Begins (W.told output.old) (W.told output.new)
+    ensures err { OnErr result (Begins (W.state output.old).told (W.state output.new).told
         (line.old.items ++ octets.now)) }
-    ensures mark { TellsMark (W.failed output.old) (W.failed output.new) result }
+    ensures mark { TellsMark (W.state output.old).failed (W.state output.new).failed result }
 {
     let mut rest = octets;
     'lines: while let Some((last, after)) = split_once(rest, b'\n') {
@@ -171,10 +172,12 @@ fn finish<W: DerWrite>(
 ) -> Result<(), RunError>
     requires { All (λ x. x ≢ 10) line.now }
     ensures ok { OnOk result ((texts : List ℕ)
-        × AnswersTo line.now texts × Appends (W.told output.old) (W.told output.new) texts) }
+        × AnswersTo line.now texts ×
+        Appends (W.state output.old).told (W.state output.new).told texts) }
     ensures err { OnErr result ((texts : List ℕ)
-        × BeginsAnswersTo line.now texts × Appends (W.told output.old) (W.told output.new) texts) }
-    ensures mark { TellsMark (W.failed output.old) (W.failed output.new) result }
+        × BeginsAnswersTo line.now texts ×
+        Appends (W.state output.old).told (W.state output.new).told texts) }
+    ensures mark { TellsMark (W.state output.old).failed (W.state output.new).failed result }
 {
     if line.is_empty() {
         return Ok(());
@@ -194,11 +197,13 @@ pub fn run<R: Read, W: DerWrite>(
 ) -> Result<(), RunError>
     // All lines are answered, where the reader tells its octets.
     ensures ok { OnOk result (IfSome (R.remaining input.old) (λ octets. (texts : List ℕ)
-        × AnswersTo octets texts × Appends (W.told output.old) (W.told output.new) texts)) }
+        × AnswersTo octets texts ×
+        Appends (W.state output.old).told (W.state output.new).told texts)) }
     // After a failure the writer has gained a beginning of the answers.
     ensures err { OnErr result (IfSome (R.remaining input.old) (λ octets. (texts : List ℕ)
-        × BeginsAnswersTo octets texts × Appends (W.told output.old) (W.told output.new) texts)) }
-    ensures mark { TellsMark (W.failed output.old) (W.failed output.new) result }
+        × BeginsAnswersTo octets texts ×
+        Appends (W.state output.old).told (W.state output.new).told texts)) }
+    ensures mark { TellsMark (W.state output.old).failed (W.state output.new).failed result }
 {
     let mut line = Vec::new(alloc);
     let mut buffers = Buffers::new(alloc);

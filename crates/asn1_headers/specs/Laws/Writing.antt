@@ -4,7 +4,7 @@ use Rattle.std.proofs.lemmas.List.{append-nil}
 use Rattle.std.proofs.lemmas.Fn.{FoldsTo-push}
 use Rattle.std.proofs.lemmas.Grind.{common_steps}
 use Rattle.std.specs.Io.KnownBytes.{Appends}
-use Rattle.asn1_headers.specs.Writer.{Wrote, Calls, Took, TookAllBut, SumsWritten, MayRefuse}
+use Rattle.asn1_headers.specs.Writer.{WriterState, Wrote, Calls, Took, TookAllBut, SumsWritten, MayRefuse}
 use Rattle.asn1_headers.specs.Error.{is_io}
 use Rattle.asn1_headers.specs.declared.error.SerializeError.TheVariants as serialize_errors
 use Rattle.asn1_headers.specs.declared.error.SerializeError.{SerializeError}
@@ -42,14 +42,14 @@ none_took puts old rest new ([], e) = (ap (λ (p : _ × List ℕ). p.1) (sym e),
 none_took puts old rest new (n ∷ counts, call) = absurd (omega (arith, call.1.1, call.1.2))
 
 -- a refusal after a part that was written
-pub Wrote_then_err : {e : SerializeError} {n : ℕ} {xs ys : List ℕ} {a b c : Option (List ℕ)} {was mid is : Bool} → Wrote xs a b was mid (Ok n) → Wrote ys b c mid is (Err e) → Wrote (xs ++ ys) a c was is (Err e)
-Wrote_then_err {e} {n} {xs} {ys} {a} {b} {c} {was} {mid} {is} p q = record {
+pub Wrote_then_err : {e : SerializeError} {n : ℕ} {xs ys : List ℕ} {a b c : WriterState} → Wrote xs a b (Ok n) → Wrote ys b c (Err e) → Wrote (xs ++ ys) a c (Err e)
+Wrote_then_err {e} {n} {xs} {ys} {a} {b} {c} p q = record {
   ok = tt;
   err = let r = q.err in record {
     front = xs ++ r.front;
     rest = r.rest;
     parts = ap (λ z. xs ++ z) r.parts ∙ sym (append_assoc xs r.front r.rest);
-    grown = Appends_more a b c xs r.front p.ok.0 r.grown;
+    grown = Appends_more a.told b.told c.told xs r.front p.ok.0 r.grown;
   };
   mark = q.mark ∙ ap (λ m. is_io {A = ℕ} (Err e) || m) p.mark;
   marked = λ _. tt;
@@ -57,9 +57,9 @@ Wrote_then_err {e} {n} {xs} {ys} {a} {b} {c} {was} {mid} {is} p q = record {
 }
 
 -- both parts were written
-pub Wrote_then : {n m : ℕ} {xs ys : List ℕ} {a b c : Option (List ℕ)} {was mid is : Bool} → Wrote xs a b was mid (Ok n) → Wrote ys b c mid is (Ok m) → Wrote (xs ++ ys) a c was is (Ok (n + m))
+pub Wrote_then : {n m : ℕ} {xs ys : List ℕ} {a b c : WriterState} → Wrote xs a b (Ok n) → Wrote ys b c (Ok m) → Wrote (xs ++ ys) a c (Ok (n + m))
 Wrote_then {n} {m} {xs} {ys} {a} {b} {c} p q = record {
-  ok = (Appends_more a b c xs ys p.ok.0 q.ok.0, simp length-append (omega (arith, p.ok.1, q.ok.1)));
+  ok = (Appends_more a.told b.told c.told xs ys p.ok.0 q.ok.0, simp length-append (omega (arith, p.ok.1, q.ok.1)));
   err = tt;
   mark = q.mark ∙ p.mark;
   marked = λ h. ap (λ z. z ++ ys) (p.marked h) ∙ q.marked (subst IsTrue (sym p.mark) h);
@@ -67,25 +67,25 @@ Wrote_then {n} {m} {xs} {ys} {a} {b} {c} p q = record {
 }
 
 -- all was written, and the answer is still a refusal
-pub Wrote_refused : {e : SerializeError} {n : ℕ} {xs : List ℕ} {a b : Option (List ℕ)} {was is : Bool} → Wrote xs a b was is (Ok n) → is_io {A = ℕ} (Err e) ≡ false → Wrote xs a b was is (Err e)
-Wrote_refused {e} {n} {xs} {a} {b} {was} {is} p h = record {
+pub Wrote_refused : {e : SerializeError} {n : ℕ} {xs : List ℕ} {a b : WriterState} → Wrote xs a b (Ok n) → is_io {A = ℕ} (Err e) ≡ false → Wrote xs a b (Err e)
+Wrote_refused {e} {n} {xs} {a} {b} p h = record {
   ok = tt;
   err = record { front = xs; rest = []; parts = sym (append-nil xs); grown = p.ok.0 };
-  mark = p.mark ∙ ap (λ m. m || was) (sym h);
+  mark = p.mark ∙ ap (λ m. m || a.failed) (sym h);
   marked = λ _. tt;
   nothing = λ _. h;
 }
 
-pub Wrote_sum : {n m : ℕ} {xs ys : List ℕ} {a b c : Option (List ℕ)} {was mid is : Bool} (r : Result ℕ SerializeError) → Wrote xs a b was mid (Ok n) → Wrote ys b c mid is (Ok m) → SumsWritten n m r → Wrote (xs ++ ys) a c was is r
+pub Wrote_sum : {n m : ℕ} {xs ys : List ℕ} {a b c : WriterState} (r : Result ℕ SerializeError) → Wrote xs a b (Ok n) → Wrote ys b c (Ok m) → SumsWritten n m r → Wrote (xs ++ ys) a c r
 Wrote_sum (Ok k) p q h = rw h (Wrote_then p q)
 Wrote_sum (Err e) p q h = rw h.0 (Wrote_refused (Wrote_then p q) refl)
 
-pub MayRefuse_sum : {n m : ℕ} (takes : Bool) (xs ys : List ℕ) {a b c d : Option (List ℕ)} {was mid is : Bool} (r : Result ℕ SerializeError) → Wrote xs a b was mid (Ok n) → Wrote ys c d mid is (Ok m) → SumsWritten n m r → IfErr r (MayRefuse takes (length (xs ++ ys)))
+pub MayRefuse_sum : {n m : ℕ} (takes : Bool) (xs ys : List ℕ) {a b c d : WriterState} (r : Result ℕ SerializeError) → Wrote xs a b (Ok n) → Wrote ys c d (Ok m) → SumsWritten n m r → IfErr r (MayRefuse takes (length (xs ++ ys)))
 MayRefuse_sum takes xs ys (Ok k) p q h = tt
 MayRefuse_sum takes xs ys (Err e) p q h = rw h.0 (simp length-append (omega (arith, p.ok.1, q.ok.1, h.1)))
 
 -- a refusal within the first part
-pub Wrote_front : {e : SerializeError} {xs : List ℕ} {a b : Option (List ℕ)} {was is : Bool} (zs : List ℕ) → Wrote xs a b was is (Err e) → Wrote (xs ++ zs) a b was is (Err e)
+pub Wrote_front : {e : SerializeError} {xs : List ℕ} {a b : WriterState} (zs : List ℕ) → Wrote xs a b (Err e) → Wrote (xs ++ zs) a b (Err e)
 Wrote_front {e} {xs} zs p = record {
   ok = tt;
   err = let r = p.err in record {

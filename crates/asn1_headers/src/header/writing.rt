@@ -36,8 +36,8 @@ pub fn put_header<W: DerWrite>(
     w: &mut W,
 ) -> SerializeResult<usize>
     requires { class < 4 }
-    ensures wrote { Wrote (header_octets class constructed number len) (W.told w.old) (W.told w.new)
-        (W.failed w.old) (W.failed w.new) result }
+    ensures wrote { Wrote (header_octets class constructed number len) (W.state w.old)
+        (W.state w.new) result }
     ensures failed { (allocates : Bool) (most : ℕ) → IfErr result (MayRefuse allocates most) }
 {
     if let Some(octets) = short_header(class, constructed, number, len) {
@@ -50,8 +50,8 @@ pub fn put_header<W: DerWrite>(
 
 /// Appends the strict identifier octets, in one piece, and answers their number.
 pub fn put_identifier<W: DerWrite>(parts: (Class, bool, Tag), w: &mut W) -> SerializeResult<usize>
-    ensures wrote { Wrote (identifier_octets (parts_identifier parts)) (W.told w.old) (W.told w.new)
-        (W.failed w.old) (W.failed w.new) result }
+    ensures wrote { Wrote (identifier_octets (parts_identifier parts)) (W.state w.old)
+        (W.state w.new) result }
     ensures failed { (allocates : Bool) (most : ℕ) → IfErr result (MayRefuse allocates most) }
 {
     let (class, constructed, tag) = parts;
@@ -62,8 +62,8 @@ pub fn put_identifier<W: DerWrite>(parts: (Class, bool, Tag), w: &mut W) -> Seri
 
 /// Appends identifier octets and then length octets, and answers their number.
 pub fn put_parts<W: DerWrite>(identifier: &[u8], form: Length, w: &mut W) -> SerializeResult<usize>
-    ensures wrote { Wrote (identifier.now ++ length_form_octets (form_of form)) (W.told w.old)
-        (W.told w.new) (W.failed w.old) (W.failed w.new) result }
+    ensures wrote { Wrote (identifier.now ++ length_form_octets (form_of form)) (W.state w.old)
+        (W.state w.new) result }
     ensures failed { (allocates : Bool) (most : ℕ) → IfErr result (MayRefuse allocates most) }
 {
     let before = put_all(w, identifier)?;
@@ -73,8 +73,8 @@ pub fn put_parts<W: DerWrite>(identifier: &[u8], form: Length, w: &mut W) -> Ser
 
 /// Appends the strict identifier octets, and 80 behind them, and answers their number.
 fn put_indefinite<W: DerWrite>(parts: (Class, bool, Tag), w: &mut W) -> SerializeResult<usize>
-    ensures wrote { Wrote (identifier_octets (parts_identifier parts) ++ 128 ∷ []) (W.told w.old)
-        (W.told w.new) (W.failed w.old) (W.failed w.new) result }
+    ensures wrote { Wrote (identifier_octets (parts_identifier parts) ++ 128 ∷ []) (W.state w.old)
+        (W.state w.new) result }
     ensures failed { (allocates : Bool) (most : ℕ) → IfErr result (MayRefuse allocates most) }
 {
     let (class, constructed, tag) = parts;
@@ -87,8 +87,7 @@ fn put_indefinite<W: DerWrite>(parts: (Class, bool, Tag), w: &mut W) -> Serializ
 /// length are one piece.
 #[inline(always)]
 pub fn put_strict_header<W: DerWrite>(header: &Header<'_>, w: &mut W) -> SerializeResult<usize>
-    ensures wrote { Wrote (strict_header header.now) (W.told w.old) (W.told w.new) (W.failed w.old)
-        (W.failed w.new) result }
+    ensures wrote { Wrote (strict_header header.now) (W.state w.old) (W.state w.new) result }
     ensures failed { (allocates : Bool) (most : ℕ) → IfErr result (MayRefuse allocates most) }
 {
     let (class, constructed, tag) = (header.class(), header.constructed(), header.tag());

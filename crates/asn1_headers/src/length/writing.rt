@@ -22,8 +22,8 @@ pub fn length_len(form: Length) -> usize
 
 /// Appends the octets that say this length, in one piece, and answers their number.
 pub fn put_length<W: DerWrite>(form: Length, w: &mut W) -> SerializeResult<usize>
-    ensures wrote { Wrote (length_form_octets (form_of form)) (W.told w.old) (W.told w.new)
-        (W.failed w.old) (W.failed w.new) result }
+    ensures wrote { Wrote (length_form_octets (form_of form)) (W.state w.old)
+        (W.state w.new) result }
     ensures few { IfOk result (λ n. n ≤ 9) }
     ensures failed { (allocates : Bool) (most : ℕ) → IfErr result (MayRefuse allocates most) }
 {

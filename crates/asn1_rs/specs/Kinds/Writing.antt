@@ -1,9 +1,7 @@
 -- What is written for the values of a type.
-use Rattle.std.specs.Prelude.{ℕ, Bool, true, false, List, ◌++◌, length, ◌≡◌, ◌<◌}
+use Rattle.std.specs.Prelude.{ℕ, true, List, length, ◌≡◌, ◌<◌}
 use Rattle.std.specs.List.{All, flat_map}
 use Rattle.x690.specs.Strict.{header_octets}
-use Rattle.asn1_headers.specs.declared.error.Error.{Error}
-use Rattle.asn1_headers.specs.declared.error.SerializeError.{SerializeError}
 use Rattle.x690.specs.Identifiers.{Identifier}
 use Rattle.asn1_rs.specs.Grammar.Form.{universal}
 use Rattle.asn1_rs.specs.Grammar.{FormTakes}
@@ -11,21 +9,7 @@ use Rattle.asn1_headers.specs.Tag.{is_container_number}
 use Rattle.asn1_rs.specs.Kinds.{ElementGrammar}
 use Rattle.asn1_rs.specs.Lists.{SomeRefuses}
 use Rattle.asn1_rs.specs.Set.{set_content}
-use Rattle.asn1_rs.specs.ToDer.{Either, IntoVector, WrittenRefusal, some_allocates}
-
--- For which values it is told, the octets of header and contents, the constructed bit, the refusals that are the value's own, and whether memory is allocated.
-pub record Writing (S : Type 0) : Type 1 where
-  pub tells : S → Type 0
-  pub header : S → List ℕ
-  pub content : S → List ℕ
-  pub constructed : S → Bool
-  pub count_refuses : S → Error → Type 0
-  pub header_refuses : S → SerializeError → Type 0
-  pub content_refuses : S → SerializeError → Type 0
-  pub refuses_first : S → SerializeError → Type 0
-  pub count_allocates : Bool
-  pub content_allocates : Bool
-  pub write_allocates : Bool
+use Rattle.asn1_rs.specs.ToDer.{Writing, IntoVector, WrittenRefusal, plain_writing, whole_octets, whole_refuses, whole_allocates}
 
 -- the strict header of an element of the universal class with this number: constructed for sequences and sets, else primitive
 abbrev pub universal_header : ℕ → List ℕ → List ℕ
@@ -36,33 +20,21 @@ universal_identifier number = universal (is_container_number number) number
 
 -- an element of the universal class, with this number and these contents octets, which nothing but its writer and its length refuses
 abbrev pub universal_writing : {S : Type 0} → ℕ → (S → List ℕ) → Writing S
-universal_writing number octets = record {
-  tells = λ x. Unit {0};
-  header = λ x. universal_header number (octets x);
-  content = octets;
-  constructed = λ x. is_container_number number;
-  count_refuses = λ x e. ⊥;
-  header_refuses = λ x e. ⊥;
-  content_refuses = λ x e. ⊥;
-  refuses_first = λ x e. ⊥;
-  count_allocates = false;
-  content_allocates = false;
-  write_allocates = false;
-}
+universal_writing number octets = plain_writing (λ x. universal_header number (octets x)) octets (λ x. is_container_number number)
 
 -- lists of items that are written as `item` says: a constructed element with this number, of the items in their order
 abbrev pub list_writing : {S W : Type 0} → ℕ → (W → List S) → Writing S → Writing W
 list_writing number items item = record {
   tells = λ v. All item.tells (items v);
-  header = λ v. header_octets 0 true number (length (flat_map (λ x. item.header x ++ item.content x) (items v)));
-  content = λ v. flat_map (λ x. item.header x ++ item.content x) (items v);
+  header = λ v. header_octets 0 true number (length (flat_map (whole_octets item) (items v)));
+  content = λ v. flat_map (whole_octets item) (items v);
   constructed = λ v. true;
   count_refuses = λ v. SomeRefuses item.count_refuses (items v);
   header_refuses = λ v. WrittenRefusal (SomeRefuses item.count_refuses (items v));
-  content_refuses = λ v. SomeRefuses (λ x. Either (item.header_refuses x) (item.content_refuses x)) (items v);
+  content_refuses = λ v. SomeRefuses (whole_refuses item) (items v);
   refuses_first = λ v e. ⊥;
   count_allocates = item.count_allocates;
-  content_allocates = some_allocates item.write_allocates item.count_allocates item.content_allocates;
+  content_allocates = whole_allocates item;
   write_allocates = true;
 }
 
@@ -70,12 +42,12 @@ list_writing number items item = record {
 abbrev pub set_writing : {S W : Type 0} → (W → List S) → Writing S → Writing W
 set_writing items item = record {
   tells = λ v. All item.tells (items v);
-  header = λ v. header_octets 0 true 17 (length (set_content (λ x. item.header x ++ item.content x) (items v)));
-  content = λ v. set_content (λ x. item.header x ++ item.content x) (items v);
+  header = λ v. header_octets 0 true 17 (length (set_content (whole_octets item) (items v)));
+  content = λ v. set_content (whole_octets item) (items v);
   constructed = λ v. true;
   count_refuses = λ v. SomeRefuses item.count_refuses (items v);
   header_refuses = λ v. WrittenRefusal (SomeRefuses item.count_refuses (items v));
-  content_refuses = λ v. SomeRefuses (λ x. IntoVector (Either (item.header_refuses x) (item.content_refuses x))) (items v);
+  content_refuses = λ v. SomeRefuses (λ x. IntoVector (whole_refuses item x)) (items v);
   refuses_first = λ v e. ⊥;
   count_allocates = item.count_allocates;
   content_allocates = true;

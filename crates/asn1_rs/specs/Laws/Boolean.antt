@@ -7,13 +7,14 @@ use Rattle.x690.specs.Octets.{IsOctets}
 use Rattle.x690.specs.Laws.Octets.{below_octets}
 use Rattle.asn1_rs.specs.Checks.{IsCheck, has_content}
 use Rattle.x690.specs.Strict.{header_octets, identifier_octets, length_octets}
-use Rattle.asn1_rs.specs.Grammar.Form.{WritesByValue, WritesForm}
 use Rattle.asn1_rs.specs.Leaf.{IsLawfulLeaf, leaf_element}
 use Rattle.asn1_rs.specs.declared.asn1_types.boolean.Boolean.{Boolean}
-use Rattle.asn1_rs.specs.Boolean.{boolean_number, boolean_leaf, bool_leaf, truth_octet, says_true, IsStrictTruth, IsOtherTruth, truth_constraints, truth_header, truth_octets}
+use Rattle.asn1_rs.specs.Boolean.{boolean_number, boolean_leaf, bool_leaf, truth_octet, says_true, IsStrictTruth, IsOtherTruth, truth_constraints, truth_octets, truth_writing}
 use Rattle.asn1_rs.specs.Laws.Checks.{check_is, before_is, has_length_is, has_content_is}
-use Rattle.asn1_rs.specs.Laws.Forms.{NothingRefused, universal_by_value, universal_writes_form}
 use Rattle.asn1_rs.specs.Laws.Leaf.{leaf_written}
+use Rattle.asn1_rs.specs.Grammar.Item.{IsLawfulWriting}
+use Rattle.asn1_rs.specs.Kinds.{item_grammar}
+use Rattle.asn1_rs.specs.Laws.Forms.{universal_lawful_writing}
 
 one_octet : (n : ℕ) → n < 256 → IsOctets (n ∷ [])
 one_octet n h = below_octets (n ∷ []) (h, tt)
@@ -86,10 +87,6 @@ pub boolean_equal : (x y : Boolean) → IsTrue (nat_eq x.value y.value) ↔ (x.v
 boolean_equal x y = (λ h. eqb-true x.value y.value h, λ e. eq-eqb x.value y.value e)
 
 -- a truth value with its octet is written as one contents octet
-pub boolean_by_value : WritesByValue (leaf_element boolean_leaf).value (λ x. false) (λ x. truth_header) truth_octets
+pub boolean_lawful_writing : IsLawfulWriting (item_grammar (leaf_element boolean_leaf)) truth_writing
 unfolding header_octets identifier_octets length_octets
-boolean_by_value = universal_by_value (leaf_element boolean_leaf) boolean_number truth_octets (leaf_written boolean_leaf boolean_lawful)
-
-pub boolean_writes_form : WritesForm (leaf_element boolean_leaf).value (leaf_element boolean_leaf).Form (λ x. NothingRefused) (λ x. false) (λ x. truth_header) truth_octets
-unfolding header_octets identifier_octets length_octets
-boolean_writes_form = universal_writes_form (leaf_element boolean_leaf) boolean_number truth_octets (leaf_written boolean_leaf boolean_lawful)
+boolean_lawful_writing = universal_lawful_writing (leaf_element boolean_leaf) boolean_number truth_octets (leaf_written boolean_leaf boolean_lawful)

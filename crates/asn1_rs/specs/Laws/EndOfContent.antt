@@ -1,14 +1,9 @@
 -- The end of contents is lawful, as far as it is read.
 use Rattle.std.proofs.Common.{refl, lit<}
-use Rattle.x690.specs.Nested.{IsElement}
-use Rattle.asn1_headers.specs.Ber.{max_depth}
 use Rattle.asn1_rs.specs.EndOfContent.{end_leaf, by_ber_alone}
-use Rattle.asn1_rs.specs.Grammar.{NoCheck}
 use Rattle.asn1_rs.specs.Grammar.Item.{IsLawfulItem}
-use Rattle.asn1_rs.specs.Leaf.{Leaf, IsLawfulLeaf, LeafBody}
+use Rattle.asn1_rs.specs.Leaf.{Leaf, IsLawfulLeaf}
 use Rattle.asn1_rs.specs.Laws.Checks.{has_length_is, nothing_is}
-use Rattle.asn1_rs.specs.Laws.Readers.{ber_elements}
-use Rattle.asn1_rs.specs.Laws.Words.{word_one}
 
 pub end_lawful : IsLawfulLeaf end_leaf
 end_lawful = record {
@@ -26,11 +21,9 @@ end_lawful = record {
 
 pub lawful_by_ber_alone : {S : Type 0} (L : Leaf S) → IsLawfulLeaf L → IsLawfulItem (by_ber_alone L)
 lawful_by_ber_alone L l = record {
-  ber_values = λ o v w. l.says_value w.0 v (ber_elements.possible o w.0 w.1) w.3.0.1 w.3.1;
   der_values = λ o v w. absurd w;
   body_values = λ p v o b. l.says_value p v o b.0.1 b.1;
   form_values = λ v i c f. absurd f;
-  ber_one = word_one (IsElement max_depth) NoCheck (LeafBody L) ber_elements.one (λ p v w a b. l.one_value p.content v w a.1 b.1);
   der_one = record { one = λ x y r s v w a b e. absurd a; some = λ v a. a };
   body_one = λ p v w a b. l.one_value p.content v w a.1 b.1;
   one_form = λ v i j c d f g. absurd f;
@@ -38,6 +31,6 @@ lawful_by_ber_alone L l = record {
   form_fits = λ v i c f. absurd f;
   form_check = λ v i c f. f;
   form_der = λ v i c f. f;
-  strict_ber = λ v o s. absurd s.form;
+  form_body = λ v i c f. absurd f;
   strict_der = λ v o s. s.form;
 }

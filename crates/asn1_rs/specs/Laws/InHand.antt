@@ -1,5 +1,5 @@
 -- Values in hand: what they are made of, and that one in DER form has no refusal of its own.
-use Rattle.std.proofs.Common.{◌≡◌, ℕ, ◌<◌, ◌^◌, Bool, true, refl, List, [], ◌∷◌, map, sym, subst, inl, inr}
+use Rattle.std.proofs.Common.{◌≡◌, ℕ, Bool, true, refl, List, [], ◌∷◌, map, sym}
 use Rattle.std.specs.Prelude.{slice_index_or}
 use Rattle.std.proofs.lemmas.List.Elements.{All-nil, All-cons, All-head, All-tail, All-map}
 use Rattle.std.proofs.lemmas.List.Sorted.{All-permutation}
@@ -7,66 +7,56 @@ use Rattle.std.specs.List.{All}
 use Rattle.std.specs.List.Sorted.{IsPermutation}
 use mathlib.Core.Logic.{∥∥₁_elim}
 use Rattle.x690.specs.Collections.{AllDiffer, AnyList, multiset}
-use Rattle.asn1_headers.specs.declared.error.Error.{Error}
-use Rattle.asn1_headers.specs.declared.error.SerializeError.{SerializeError}
 use Rattle.asn1_rs.specs.Any.Value.{ElementForm, ElementValue, IsElementValue}
 use Rattle.asn1_rs.specs.Lists.{SomeRefuses}
 use Rattle.x690.specs.Laws.Collections.{permutation_from_multiset}
 use Rattle.asn1_rs.specs.Laws.Lists.{none_refuses}
 use Rattle.asn1_rs.specs.Laws.Set.{members_are, members_pass, none_into, pairs_differ}
-use Rattle.asn1_rs.specs.Laws.Tagged.{of_class_none}
-use Rattle.asn1_rs.specs.Set.{Members, SetInDer, SetValues, members, pairs_pass, set_of}
-use Rattle.asn1_rs.specs.ToDer.{Either, HasNone, IntoVector, IsWritable, OfClass, WrittenRefusal}
+use Rattle.asn1_rs.specs.Set.{SetInDer, SetValues, members, pairs_pass, set_of}
+use Rattle.asn1_rs.specs.ToDer.{IntoVector, IsWritable, Writing, whole_refuses}
+use Rattle.asn1_rs.specs.Kinds.Writing.{list_writing, set_writing}
+use Rattle.asn1_rs.specs.Laws.Forms.{behind_header, whole_writable}
 
 -- each element is in DER form
 pub element_each_der : (v : ElementValue) → IsElementValue v → ElementForm v v.id v.content
 element_each_der v h = record { is = refl; class = h.class; number = h.number; octets = h.content }
 
--- what is written whole has no refusal where its parts have none
-pub whole_writable : (counting : Error → Type 0) (heading filling : SerializeError → Type 0) → IsWritable counting heading filling → HasNone (Either heading filling)
-whole_writable counting heading filling w e (inl o) = w.1 e o
-whole_writable counting heading filling w e (inr o) = w.2 e o
-
--- nor what is written behind a header, where its counts have none
-pub behind_header : (counting : Error → Type 0) (own : SerializeError → Type 0) → HasNone counting → HasNone own → IsWritable counting (WrittenRefusal counting) own
-behind_header counting own n o = (n, λ e r. n r.0 r.1, o)
-
--- nor what is written under a tag of one of the four classes
-pub under_tag : (class : ℕ) (counting : Error → Type 0) (own : SerializeError → Type 0) → class < 4 → HasNone counting → HasNone own → IsWritable counting (OfClass class (WrittenRefusal counting)) (OfClass class own)
-under_tag class counting own few n o =
-    (n, of_class_none class (WrittenRefusal counting) few (λ e r. n r.0 r.1), of_class_none class own few o)
-
 -- lists and sets of items in DER form
-module _ {S V : Type 0} (value : S → V) (IsDer : V → Type 0) (counting : S → Error → Type 0) (heading filling : S → SerializeError → Type 0)
-    (law : (x : S) → IsDer (value x) → IsWritable (counting x) (heading x) (filling x)) where
-  all_writable : (xs : List S) → All IsDer (map value xs) → All (λ x. IsWritable (counting x) (heading x) (filling x)) xs
-  all_writable [] a = All-nil (λ x. IsWritable (counting x) (heading x) (filling x))
-  all_writable (x ∷ xs) a = All-cons (λ x. IsWritable (counting x) (heading x) (filling x)) x xs (law x (All-head IsDer (value x) (map value xs) a)) (all_writable xs (All-tail IsDer (value x) (map value xs) a))
+module _ {S V : Type 0} (value : S → V) (IsDer : V → Type 0) (w : Writing S) (law : (x : S) → IsDer (value x) → IsWritable w x) where
+  all_writable : (xs : List S) → All IsDer (map value xs) → All (IsWritable w) xs
+  all_writable [] a = All-nil (IsWritable w)
+  all_writable (x ∷ xs) a = All-cons (IsWritable w) x xs (law x (All-head IsDer (value x) (map value xs) a)) (all_writable xs (All-tail IsDer (value x) (map value xs) a))
 
-  pub list_writable : (xs : List S) → All IsDer (map value xs) → IsWritable (SomeRefuses counting xs) (WrittenRefusal (SomeRefuses counting xs)) (SomeRefuses (λ x. Either (heading x) (filling x)) xs)
-  list_writable xs a =
-      let w = all_writable xs a in
-      behind_header (SomeRefuses counting xs) _ (none_refuses counting xs (λ k d h. (w k d h).0))
-      (none_refuses (λ x. Either (heading x) (filling x)) xs (λ k d h. whole_writable _ _ _ (w k d h)))
+  pub list_writable : {W : Type 0} (number : ℕ) (items : W → List S) (l : W) → All IsDer (map value (items l)) → IsWritable (list_writing number items w) l
+  list_writable number items l a =
+      let xs = items l in
+      let k = all_writable xs a in
+      let n = none_refuses w.count_refuses xs (λ i d h. (k i d h).0) in
+      (n, behind_header (SomeRefuses w.count_refuses xs) n, none_refuses (whole_refuses w) xs (λ i d h. whole_writable w (slice_index_or xs i d) (k i d h)))
 
-  set_writable : (xs : List S) → All IsDer (map value xs) → IsWritable (SomeRefuses counting xs) (WrittenRefusal (SomeRefuses counting xs)) (SomeRefuses (λ x. IntoVector (Either (heading x) (filling x))) xs)
-  set_writable xs a =
-      let w = all_writable xs a in
-      behind_header (SomeRefuses counting xs) _ (none_refuses counting xs (λ k d h. (w k d h).0))
-      (none_refuses (λ x. IntoVector (Either (heading x) (filling x))) xs (λ k d h. none_into _ (whole_writable _ _ _ (w k d h))))
+  module _ {W : Type 0} (items : W → List S) where
+    set_writable : (s : W) → All IsDer (map value (items s)) → IsWritable (set_writing items w) s
+    set_writable s a =
+        let xs = items s in
+        let k = all_writable xs a in
+        let n = none_refuses w.count_refuses xs (λ i d h. (k i d h).0) in
+        (n, behind_header (SomeRefuses w.count_refuses xs) n, none_refuses (λ x. IntoVector (whole_refuses w x)) xs (λ i d h. none_into _ (whole_writable w (slice_index_or xs i d) (k i d h))))
 
-  moved_writable : (xs : List S) (vs : List V) → ∥ IsPermutation vs (map value xs) ∥₁ → All IsDer vs → IsWritable (SomeRefuses counting xs) (WrittenRefusal (SomeRefuses counting xs)) (SomeRefuses (λ x. IntoVector (Either (heading x) (filling x))) xs)
-  moved_writable xs vs moved a = (
-    λ e o. ∥∥₁_elim moved (λ x y. absurd x) (λ p. (set_writable xs (All-permutation IsDer vs (map value xs) p a)).0 e o),
-    λ e o. ∥∥₁_elim moved (λ x y. absurd x) (λ p. (set_writable xs (All-permutation IsDer vs (map value xs) p a)).1 e o),
-    λ e o. ∥∥₁_elim moved (λ x y. absurd x) (λ p. (set_writable xs (All-permutation IsDer vs (map value xs) p a)).2 e o),
-  )
+    moved_writable : (s : W) (vs : List V) → ∥ IsPermutation vs (map value (items s)) ∥₁ → All IsDer vs → IsWritable (set_writing items w) s
+    moved_writable s vs moved a = (
+      λ e o. ∥∥₁_elim moved (λ x y. absurd x) (λ p. (free p).0 e o),
+      λ e o. ∥∥₁_elim moved (λ x y. absurd x) (λ p. (free p).1 e o),
+      λ e o. ∥∥₁_elim moved (λ x y. absurd x) (λ p. (free p).2 e o),
+    )
+      where
+        free : IsPermutation vs (map value (items s)) → IsWritable (set_writing items w) s
+        free p = set_writable s (All-permutation IsDer vs (map value (items s)) p a)
 
-  pub multiset_writable : (xs : List S) → SetInDer multiset AnyList IsDer (multiset (map value xs)) → IsWritable (SomeRefuses counting xs) (WrittenRefusal (SomeRefuses counting xs)) (SomeRefuses (λ x. IntoVector (Either (heading x) (filling x))) xs)
-  multiset_writable xs d = moved_writable xs d.0 (permutation_from_multiset d.0 (map value xs) d.2) d.3
+    pub multiset_writable : (s : W) → SetInDer multiset AnyList IsDer (multiset (map value (items s))) → IsWritable (set_writing items w) s
+    multiset_writable s d = moved_writable s d.0 (permutation_from_multiset d.0 (map value (items s)) d.2) d.3
 
-  pub members_writable : (test : S → S → Bool) → ((x y : S) → test x y ≡ true → value x ≡ value y → ⊥) → (xs : List S) → SetInDer set_of AllDiffer IsDer (members test value xs) → IsWritable (SomeRefuses counting xs) (WrittenRefusal (SomeRefuses counting xs)) (SomeRefuses (λ x. IntoVector (Either (heading x) (filling x))) xs)
-  members_writable test apart xs d = moved_writable xs d.0 (members_are test value apart xs d.0 d.1 d.2) d.3
+    pub members_writable : (test : S → S → Bool) → ((x y : S) → test x y ≡ true → value x ≡ value y → ⊥) → (s : W) → SetInDer set_of AllDiffer IsDer (members test value (items s)) → IsWritable (set_writing items w) s
+    members_writable test apart s d = moved_writable s d.0 (members_are test value apart (items s) d.0 d.1 d.2) d.3
 
 -- what is told of the members of a set in hand
 module _ {S V : Type 0} (test : S → S → Bool) (value : S → V) where

@@ -3,28 +3,24 @@ use Rattle.std.specs.Prelude.{ℕ, List, Result, Ok, Err, IfErr}
 use Rattle.x690.specs.Octets.{IsOctets}
 use Rattle.std.proofs.Common.{◌≡◌, refl, subst, inl}
 use Rattle.x690.specs.Elements.{IsDerElement}
-use Rattle.x690.specs.Nested.{IsElement}
 use Rattle.asn1_rs.specs.declared.asn1_types.any.Any.{Any}
 use Rattle.asn1_headers.specs.declared.error.Err.{Err as Refusal}
 use Rattle.asn1_headers.specs.declared.error.Error.{Error}
 use Rattle.asn1_headers.specs.declared.error.Error.TheVariants.{OutOfMemory}
 use Rattle.asn1_rs.specs.Any.{parts_of}
 use Rattle.asn1_headers.specs.Answers.{Exactly, IsOther}
-use Rattle.asn1_rs.specs.Grammar.{NoCheck, TakesBody}
-use Rattle.asn1_headers.specs.Ber.{max_depth}
+use Rattle.asn1_rs.specs.Grammar.{TakesBody}
 use Rattle.asn1_rs.specs.Grammar.Item.{ItemGrammar, IsLawfulItem, by_held}
 use Rattle.asn1_rs.specs.Kinds.{ElementGrammar, IsLawfulElement, IsExactConversion, item_grammar, holding, HoldingGives, HoldingReads}
 use Rattle.asn1_rs.specs.Kinds.Writing.{IsWrittenElement}
-use Rattle.asn1_rs.specs.Laws.Readers.{der_elements, ber_elements}
-use Rattle.asn1_rs.specs.Laws.Words.{word_one, strict_ber_word, strict_der_word}
+use Rattle.asn1_rs.specs.Laws.Readers.{der_elements}
+use Rattle.asn1_rs.specs.Laws.Words.{word_one, strict_der_word}
 
 pub lawful_item : {S : Type 0} (G : ElementGrammar S) → IsLawfulElement G → IsLawfulItem (item_grammar G)
 lawful_item G l = record {
-  ber_values = λ o v w. l.body_values w.0 v (ber_elements.possible o w.0 w.1) w.3;
   der_values = λ o v w. l.body_values w.0 v (der_elements.possible o w.0 w.1) w.3;
   body_values = l.body_values;
   form_values = l.form_values;
-  ber_one = word_one (IsElement max_depth) NoCheck G.Body ber_elements.one l.body_one;
   der_one = word_one IsDerElement G.Check G.Body der_elements.one l.body_one;
   body_one = l.body_one;
   one_form = l.one_form;
@@ -32,18 +28,16 @@ lawful_item G l = record {
   form_fits = l.form_fits;
   form_check = l.form_check;
   form_der = l.form_der;
-  strict_ber = strict_ber_word G.Form G.Body l.form_body;
+  form_body = l.form_body;
   strict_der = strict_der_word G.Form G.Check G.Body l.form_check l.form_body;
 }
 
 -- what holds one item is as lawful as that
 pub lawful_by_held : {S T : Type 0} (held : T → S) (G : ItemGrammar S) → IsLawfulItem G → IsLawfulItem (by_held held G)
 lawful_by_held held G l = record {
-  ber_values = l.ber_values;
   der_values = l.der_values;
   body_values = l.body_values;
   form_values = l.form_values;
-  ber_one = l.ber_one;
   der_one = l.der_one;
   body_one = l.body_one;
   one_form = l.one_form;
@@ -51,7 +45,7 @@ lawful_by_held held G l = record {
   form_fits = l.form_fits;
   form_check = l.form_check;
   form_der = l.form_der;
-  strict_ber = l.strict_ber;
+  form_body = l.form_body;
   strict_der = l.strict_der;
 }
 

@@ -13,7 +13,6 @@ use Rattle.x690.specs.Octets.{IsOctets}
 use Rattle.x690.specs.Identifiers.{Identifier, IsCutIdentifier}
 use Rattle.x690.specs.Elements.{Parts, IsDerElement}
 use Rattle.x690.specs.Faults.{DerElementFault}
-use Rattle.x690.specs.Nested.{IsElement}
 use Rattle.x690.specs.Laws.Elements.{definite_element_two, definite_element_is_octets}
 use Rattle.asn1_headers.specs.declared.error.Err.{Err as Refusal}
 use Rattle.asn1_headers.specs.declared.error.Err.TheVariants.{Incomplete as cut, Error as refused, Failure as failed}
@@ -32,21 +31,20 @@ use Rattle.asn1_rs.specs.Any.{parts_of, IsTheElement}
 use Rattle.asn1_rs.specs.Traits.{OfParts}
 use Rattle.asn1_rs.specs.Laws.Any.Value.{the_element_parts}
 use Rattle.asn1_headers.specs.Answers.{Exactly, TellsMemory, IsOther}
-use Rattle.asn1_rs.specs.Grammar.Form.{IsOneForm, IsOneValue, FitsElement, HasValues, IsStrict, universal, header_of, WritesByValue, WritesForm}
+use Rattle.asn1_rs.specs.Grammar.Form.{IsOneForm, IsOneValue, FitsElement, HasValues, IsStrict, universal, header_of, WritesByValue, WritesForm, HasForm}
 use Rattle.asn1_rs.specs.Grammar.{IsOneBody, TakesBody, Checks, FormChecks, FormBodies, FormTakes, FormNumber, NoCheck, DerWord, made, of_class}
-use Rattle.asn1_headers.specs.Ber.{max_depth}
 use Rattle.asn1_headers.specs.Walk.{TakesItem, EndsItem}
 use Rattle.asn1_rs.specs.Sequence.Iterator.{IsWalk, TellsNoWord, IsMemory}
 use Rattle.asn1_rs.specs.Laws.Sequence.Iterator.{octets_kept, lawful_walk, items_joined, items_ended}
-use Rattle.asn1_rs.specs.Grammar.Item.{ItemGrammar, IsLawfulItem}
+use Rattle.asn1_rs.specs.Grammar.Item.{ItemGrammar, IsLawfulItem, ber_words}
 use Rattle.asn1_rs.specs.declared.asn1_types.sequence.sequence_of.SequenceOf.{SequenceOf}
 use Rattle.asn1_rs.specs.Sequence.SequenceOf.{sequence_items, IsSequenceOf}
 use Rattle.asn1_rs.specs.Lists.{list_grammar, ListBody, ListOf, CheckedElement, ListCheck, StrictWord, ListForm, IsListOr, ItemsGive, ListTakes, ListReads, CheckedGives, ListCheckGives, SomeRefuses, has_items}
-use Rattle.asn1_rs.specs.ToDer.{HasNone, Either, IsWritable, WrittenRefusal}
-use Rattle.asn1_headers.specs.declared.error.SerializeError.{SerializeError}
-use Rattle.asn1_rs.specs.Laws.Readers.{element_exact, element_spares, der_breach_spares, der_elements, ber_elements}
-use Rattle.asn1_rs.specs.Laws.Words.{word_one, strict_element, one_strict, strict_apart, strict_ber_word, strict_der_word}
-use Rattle.asn1_rs.specs.Laws.Forms.{universal_one, universal_value, universal_fits, strict_written}
+use Rattle.asn1_rs.specs.ToDer.{HasNone, IsWritable, Writing, whole_octets, whole_refuses}
+use Rattle.asn1_rs.specs.Laws.Readers.{element_exact, element_spares, der_breach_spares, der_elements}
+use Rattle.asn1_rs.specs.Laws.Words.{word_one, strict_element, one_strict, strict_apart, strict_der_word, ber_one, ber_values, strict_ber}
+use Rattle.asn1_rs.specs.Laws.Forms.{universal_one, universal_value, universal_fits, strict_written, behind_header, both_by_value, whole_writable}
+use Rattle.asn1_rs.specs.Kinds.Writing.{list_writing}
 
 -- what allocates may report out of memory
 pub takes_some : {A : Type 0} → true ≡ false → A
@@ -147,19 +145,17 @@ list_der_values number G P f p vs b = joined_values G P f p.content vs b.items
 -- lists of lawful items are lawful
 pub list_lawful : {S W : Type 0} (number : ℕ) → number < 31 → (items : W → List S) (G : ItemGrammar S) → IsLawfulItem G → IsLawfulItem (list_grammar number items G)
 list_lawful number small items G l = record {
-  ber_values = λ o vs w. list_body_values number G.Ber G.IsValue l.ber_values w.0 vs w.3;
   der_values = λ o vs w. list_der_values number G.Der G.IsValue l.der_values w.0 vs w.3;
-  body_values = λ p vs o b. list_body_values number G.Ber G.IsValue l.ber_values p vs b;
+  body_values = λ p vs o b. list_body_values number (ber_words G) G.IsValue (ber_values G l) p vs b;
   form_values = list_form_values G.Form number G.IsValue l.form_values;
-  ber_one = word_one (IsElement max_depth) NoCheck (ListBody number G.Ber) ber_elements.one (list_body_one G.Ber l.ber_one number);
   der_one = word_one IsDerElement NoCheck (ListOf number G.Der) der_elements.one (list_of_one G.Der l.der_one number);
-  body_one = list_body_one G.Ber l.ber_one number;
+  body_one = list_body_one (ber_words G) (ber_one G l) number;
   one_form = list_one_form G.Form number l.one_form;
   one_value = list_one_value G.Form number l.one_value;
   form_fits = list_fits G.Form number small;
   form_check = list_form_check G.Form number G.Check l.form_check;
   form_der = list_form_values G.Form number G.IsDer l.form_der;
-  strict_ber = strict_ber_word (ListForm number G.Form) (ListBody number G.Ber) (list_form_body G.Form number G.Ber l.strict_ber);
+  form_body = list_form_body G.Form number (ber_words G) (strict_ber G l);
   strict_der = strict_der_word (ListForm number G.Form) NoCheck (ListOf number G.Der) (λ v i c f. tt) (list_form_of G.Form number G.Der l.strict_der);
 }
 
@@ -269,10 +265,6 @@ list_checks number check Check c = record {
     spared p (inl (inr a)) = let e = a.2 in cc
     spared p (inr h) = walk_spared h.1.0 p.content h.1.1 h.1.2
 
--- what the items of a list are written in
-abbrev pub written_items : {S : Type 0} → (S → List ℕ) → (S → List ℕ) → List S → List ℕ
-written_items header content = flat_map (λ x. header x ++ content x)
-
 module _ {S V : Type 0} (value : S → V) (octets : S → List ℕ) (law : (x y : S) → value x ≡ value y → octets x ≡ octets y) where
   items_by_value : (xs ys : List S) → map value xs ≡ map value ys → flat_map octets xs ≡ flat_map octets ys
   items_by_value [] [] e = refl
@@ -283,50 +275,35 @@ module _ {S V : Type 0} (value : S → V) (octets : S → List ℕ) (law : (x y 
       let tail : map value xs ≡ map value ys = cc in
       ap (λ (a : List ℕ). a ++ flat_map octets xs) (law x y head) ∙ ap (λ (b : List ℕ). octets y ++ b) (items_by_value xs ys tail)
 
-pub both_by_value : {a b c d : List ℕ} → a ≡ b → c ≡ d → a ++ c ≡ b ++ d
-both_by_value p q = cc
-
-module _ {S V : Type 0} (number : ℕ) (value : S → V) (constructed : S → Bool) (header content : S → List ℕ) where
-  -- what is written for a list follows from its values
-  pub list_by_value : WritesByValue value constructed header content → (xs ys : List S) → map value xs ≡ map value ys →
-      (true ≡ true) × (header_octets 0 true number (length (written_items header content xs)) ≡ header_octets 0 true number (length (written_items header content ys))) × (written_items header content xs ≡ written_items header content ys)
-  list_by_value law xs ys e =
-      let h = items_by_value value (λ x. header x ++ content x) (λ x y e. let l = law x y e in both_by_value l.1 l.2) xs ys e in
-      (refl, ap (λ (c : List ℕ). header_octets 0 true number (length c)) h, h)
+-- what is written for a list follows from its values
+pub list_by_value : {S V W : Type 0} (number : ℕ) (items : W → List S) (value : S → V) (w : Writing S) → WritesByValue value w → WritesByValue (λ l. map value (items l)) (list_writing number items w)
+list_by_value number items value w law x y e =
+    let h = items_by_value value (whole_octets w) (λ x y e. let l = law x y e in both_by_value l.1 l.2) (items x) (items y) e in
+    (refl, ap (λ (c : List ℕ). header_octets 0 true number (length c)) h, h)
 
 -- where no item has a refusal, the list has none
 pub none_refuses : {S E : Type 0} (refuses : S → E → Type 0) (xs : List S) → All (λ x. HasNone (refuses x)) xs → HasNone (SomeRefuses refuses xs)
 none_refuses refuses xs a e o = subst (λ x. HasNone (refuses x)) o.3 (a o.0 o.1 o.2) e o.4
 
-module _ {S V : Type 0} (number : ℕ) (value : S → V) (Form : V → Identifier → List ℕ → Type 0) (counting : S → Error → Type 0) (heading filling : S → SerializeError → Type 0) (constructed : S → Bool) (header content : S → List ℕ) where
-  abbrev Writable : S → Type 0
-  Writable x = IsWritable (counting x) (heading x) (filling x)
+module _ {S V : Type 0} (number : ℕ) (value : S → V) (Form : V → Identifier → List ℕ → Type 0) (w : Writing S) (law : WritesForm value Form w) where
+  joined_writable : (xs : List S) (c : List ℕ) → IsJoined (StrictWord Form) c (map value xs) → All (IsWritable w) xs
+  joined_writable [] c j = All-nil (IsWritable w)
+  joined_writable (x ∷ xs) c j = All-cons (IsWritable w) x xs (strict_written value Form w law x j.0 j.2).0 (joined_writable xs j.1 j.4)
 
-  abbrev Law : Type 0
-  Law = WritesForm value Form Writable constructed header content
-
-  joined_writable : Law → (xs : List S) (c : List ℕ) → IsJoined (StrictWord Form) c (map value xs) → All Writable xs
-  joined_writable law [] c j = All-nil Writable
-  joined_writable law (x ∷ xs) c j = All-cons Writable x xs (strict_written value Form Writable constructed header content law x j.0 j.2).0 (joined_writable law xs j.1 j.4)
-
-  joined_written : Law → (xs : List S) (c : List ℕ) → IsJoined (StrictWord Form) c (map value xs) → written_items header content xs ≡ c
-  joined_written law [] c j = sym j
-  joined_written law (x ∷ xs) c j =
-      ap (λ (a : List ℕ). a ++ written_items header content xs) (strict_written value Form Writable constructed header content law x j.0 j.2).1
-      ∙ ap (λ (b : List ℕ). j.0 ++ b) (joined_written law xs j.1 j.4) ∙ sym j.3
-
-  either_none : (x : S) → Writable x → HasNone (Either (heading x) (filling x))
-  either_none x w e (inl o) = w.1 e o
-  either_none x w e (inr o) = w.2 e o
+  joined_written : (xs : List S) (c : List ℕ) → IsJoined (StrictWord Form) c (map value xs) → flat_map (whole_octets w) xs ≡ c
+  joined_written [] c j = sym j
+  joined_written (x ∷ xs) c j =
+      ap (λ (a : List ℕ). a ++ flat_map (whole_octets w) xs) (strict_written value Form w law x j.0 j.2).1
+      ∙ ap (λ (b : List ℕ). j.0 ++ b) (joined_written xs j.1 j.4) ∙ sym j.3
 
   -- a list in DER form is written as its strict parts
-  pub list_writes_form : Law → (xs : List S) (i : Identifier) (c : List ℕ) → ListForm number Form (map value xs) i c →
-      IsWritable (SomeRefuses counting xs) (WrittenRefusal (SomeRefuses counting xs)) (SomeRefuses (λ x. Either (heading x) (filling x)) xs) × (true ≡ i.constructed) × (written_items header content xs ≡ c) × (header_octets 0 true number (length (written_items header content xs)) ≡ header_of i c)
-  list_writes_form law xs i c f =
-      let e = joined_written law xs c f.1 in
-      let a : All Writable xs = joined_writable law xs c f.1 in
-      let n : HasNone (SomeRefuses counting xs) = none_refuses counting xs (λ k d h. (a k d h).0) in (
-        (n, λ e o. n o.0 o.1, none_refuses (λ x. Either (heading x) (filling x)) xs (λ k d h. either_none (slice_index_or xs k d) (a k d h))),
+  pub list_writes_form : {W : Type 0} (items : W → List S) → WritesForm (λ l. map value (items l)) (ListForm number Form) (list_writing number items w)
+  list_writes_form items l i c f =
+      let xs = items l in
+      let e = joined_written xs c f.1 in
+      let a : All (IsWritable w) xs = joined_writable xs c f.1 in
+      let n : HasNone (SomeRefuses w.count_refuses xs) = none_refuses w.count_refuses xs (λ k d h. (a k d h).0) in (
+        (n, behind_header (SomeRefuses w.count_refuses xs) n, none_refuses (whole_refuses w) xs (λ k d h. whole_writable w (slice_index_or xs k d) (a k d h))),
         sym (ap (λ (z : Identifier). z.constructed) f.0),
         e,
         ap (λ (z : List ℕ). header_octets 0 true number (length z)) e ∙ ap (λ (z : Identifier). header_of z c) (sym f.0),
@@ -347,13 +324,13 @@ joined_flat octets [] = refl
 joined_flat octets (x ∷ xs) = ap (λ r. octets x ++ r) (joined_flat octets xs) ∙ sym (flat_map-cons octets x xs)
 
 -- so a list in DER form has strict parts
-pub list_has_form : {S V : Type 0} (number : ℕ) (value : S → V) (IsDer : V → Type 0) (Form : V → Identifier → List ℕ → Type 0) (header content : S → List ℕ) →
-    ((x : S) → IsDer (value x) → length (header x ++ content x) < 2 ^ 64 → ∥ IsStrict Form (value x) (header x ++ content x) ∥₁) →
-    (xs : List S) → All IsDer (map value xs) → length (written_items header content xs) < 2 ^ 64 →
-    ∥ ((i : Identifier) × ListForm number Form (map value xs) i (written_items header content xs)) ∥₁
-list_has_form number value IsDer Form header content strict xs a l =
-    ∥∥₁_map (zip_written value IsDer Form (λ x. header x ++ content x) strict xs a l) (λ z.
-    (universal true number, (refl, subst (λ c. IsJoined (StrictWord Form) c (map value xs)) (joined_flat (λ x. header x ++ content x) xs) (zip_joined (IsStrict Form) (map value xs) (map (λ x. header x ++ content x) xs) z))))
+pub list_has_form : {S V W : Type 0} (number : ℕ) (items : W → List S) (value : S → V) (IsDer : V → Type 0) (Form : V → Identifier → List ℕ → Type 0) (w : Writing S) →
+    ((x : S) → IsDer (value x) → length (whole_octets w x) < 2 ^ 64 → ∥ IsStrict Form (value x) (whole_octets w x) ∥₁) →
+    HasForm (λ l. map value (items l)) (All IsDer) (ListForm number Form) (list_writing number items w)
+list_has_form number items value IsDer Form w strict l a fits =
+    let xs = items l in
+    ∥∥₁_map (zip_written value IsDer Form (whole_octets w) strict xs a fits) (λ z.
+    (universal true number, (refl, subst (λ c. IsJoined (StrictWord Form) c (map value xs)) (joined_flat (whole_octets w) xs) (zip_joined (IsStrict Form) (map value xs) (map (whole_octets w) xs) z))))
 
 -- lists of members are equal exactly where their values are
 pub same_lists : {S V : Type 0} (eq : S → S → Bool) (value : S → V) → ((x y : S) → IsTrue (eq x y) ↔ (value x ≡ value y)) → (xs ys : List S) → IsTrue (pointwise eq xs ys) ↔ (map value xs ≡ map value ys)

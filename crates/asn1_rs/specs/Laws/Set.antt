@@ -1,5 +1,5 @@
 -- Laws of sets.
-use Rattle.std.proofs.Common.{arith, ◌≡◌, ◌∙◌, ap, sym, subst, refl, ℕ, ◌<◌, ◌^◌, ◌⊎◌, inl, inr, ⊎_elim, Bool, true, false, List, [], ◌∷◌, ◌++◌, length, map, zero, suc, get_or}
+use Rattle.std.proofs.Common.{arith, ◌≡◌, ◌∙◌, ap, sym, subst, refl, ℕ, ◌<◌, ◌^◌, ◌⊎◌, inl, inr, ⊎_elim, Bool, true, false, List, [], ◌∷◌, length, map, zero, suc, get_or}
 use Rattle.std.specs.Prelude.{Result, Ok, Err, IsTrue, ◌↔◌, ◌&&◌, ◌||◌, Contains, slice_index_or}
 use Rattle.std.specs.List.{All, AllZip, AllByRecursion, IsDistinct, flat_map, list_all, list_any, concat}
 use Rattle.std.specs.List.Sorted.{IsPermutation, IsStrictlySortedBy}
@@ -16,7 +16,6 @@ use Rattle.x690.specs.Strict.{header_octets}
 use Rattle.x690.specs.Octets.{IsOctets}
 use Rattle.x690.specs.Identifiers.{Identifier}
 use Rattle.x690.specs.Elements.{Parts, IsDerElement}
-use Rattle.x690.specs.Nested.{IsElement}
 use Rattle.x690.specs.Collections.{multiset, ValueSet, value_set, AllDiffer, Joins, AnyList}
 use Rattle.x690.specs.Joined.{IsOneFront, IsJoined}
 use Rattle.x690.specs.Laws.Ascending.Arranged.{only_arranged, arranged_same, arranged_length}
@@ -29,20 +28,20 @@ use Rattle.asn1_headers.specs.declared.error.Error.{Error}
 use Rattle.asn1_rs.specs.declared.asn1_types.set.set_of.SetOf.{SetOf}
 use Rattle.asn1_headers.specs.Answers.{Exactly, TellsMemory}
 use Rattle.asn1_headers.specs.declared.error.SerializeError.{SerializeError}
-use Rattle.asn1_rs.specs.Grammar.Form.{IsOneForm, IsOneValue, FitsElement, HasValues, IsStrict, universal, header_of, WritesByValue, WritesForm}
+use Rattle.asn1_rs.specs.Grammar.Form.{IsOneForm, IsOneValue, FitsElement, HasValues, IsStrict, universal, header_of, WritesByValue, WritesForm, HasForm}
 use Rattle.asn1_rs.specs.Grammar.{IsOneBody, TakesBody, FormChecks, FormBodies, FormTakes, FormNumber, NoCheck}
-use Rattle.asn1_headers.specs.Ber.{max_depth}
-use Rattle.asn1_rs.specs.Grammar.Item.{ItemGrammar, IsLawfulItem}
+use Rattle.asn1_rs.specs.Grammar.Item.{ItemGrammar, IsLawfulItem, ber_words}
 use Rattle.asn1_rs.specs.declared.asn1_types.any.Any.{Any}
 use Rattle.asn1_rs.specs.Any.{parts_of}
 use Rattle.asn1_rs.specs.Traits.{OfParts}
 use Rattle.asn1_rs.specs.Lists.{ListCheck, StrictWord, SomeRefuses, ListTakes, ListReads}
-use Rattle.asn1_rs.specs.ToDer.{HasNone, Either, IsWritable, WrittenRefusal, IntoVector}
+use Rattle.asn1_rs.specs.ToDer.{HasNone, IsWritable, IntoVector, Writing, whole_octets, whole_refuses}
 use Rattle.asn1_rs.specs.Set.{Members, set_of, pairs_pass, members_if, members, is_below, is_other, Seen, SetBody, SetRow, SetForm, SetValues, SetInDer, set_grammar, multiset_grammar, member_grammar, items_of, HasItems, set_content}
-use Rattle.asn1_rs.specs.Laws.Readers.{der_elements, ber_elements}
-use Rattle.asn1_rs.specs.Laws.Words.{word_one, one_strict, strict_ber_word, strict_der_word}
-use Rattle.asn1_rs.specs.Laws.Forms.{universal_one, universal_value, universal_fits, strict_written}
-use Rattle.asn1_rs.specs.Laws.Lists.{zip_written, strict_word_one, strict_word_octets, list_body_one, list_of_one, list_body_values, list_der_values, list_form_check, list_takes_class, list_takes, list_reads, none_refuses, both_by_value, same_lists}
+use Rattle.asn1_rs.specs.Laws.Readers.{der_elements}
+use Rattle.asn1_rs.specs.Laws.Words.{word_one, one_strict, strict_der_word, ber_one, ber_values, strict_ber}
+use Rattle.asn1_rs.specs.Laws.Forms.{universal_one, universal_value, universal_fits, strict_written, behind_header, both_by_value, whole_writable}
+use Rattle.asn1_rs.specs.Laws.Lists.{zip_written, strict_word_one, strict_word_octets, list_body_one, list_of_one, list_body_values, list_der_values, list_form_check, list_takes_class, list_takes, list_reads, none_refuses, same_lists}
+use Rattle.asn1_rs.specs.Kinds.Writing.{set_writing}
 use mathlib.Core.Bool.{not, true≢false, Bool-set}
 use mathlib.Core.Logic.{∥∥₁_prop, ∥∥₁_elim, ∥∥₁_map}
 
@@ -139,11 +138,9 @@ module _ {S W M : Type 0} (G : ItemGrammar S) (l : IsLawfulItem G) (of : List G.
 
   pub set_lawful : (DerBody : Parts → M → Type 0) → IsOneBody DerBody → ((p : Parts) (m : M) → DerBody p m → SetValues of G.IsValue m) → FormBodies (SetForm of Each G.Form) DerBody → IsLawfulItem (set_grammar {W = W} G of worth Each DerBody)
   set_lawful DerBody one values bodies = record {
-    ber_values = λ o m w. body_values_of w.0 m w.3;
     der_values = λ o m w. values w.0 m w.3;
     body_values = λ p m o b. body_values_of p m b;
     form_values = set_form_values of Each G.Form G.IsValue l.form_values;
-    ber_one = word_one (IsElement max_depth) NoCheck (SetBody of G.Ber) ber_elements.one body_one;
     der_one = word_one IsDerElement NoCheck DerBody der_elements.one one;
     body_one = body_one;
     one_form = set_one_form of Each G.Form mixed l.one_form;
@@ -151,15 +148,15 @@ module _ {S W M : Type 0} (G : ItemGrammar S) (l : IsLawfulItem G) (of : List G.
     form_fits = set_fits of Each G.Form;
     form_check = set_form_check of Each G.Form G.Check l.form_check;
     form_der = set_form_der;
-    strict_ber = strict_ber_word (SetForm of Each G.Form) (SetBody of G.Ber) (set_form_body of Each G.Form G.Ber l.strict_ber);
+    form_body = set_form_body of Each G.Form (ber_words G) (strict_ber G l);
     strict_der = strict_der_word (SetForm of Each G.Form) NoCheck DerBody (λ v i c f. tt) bodies;
   }
     where
-      body_one : IsOneBody (SetBody of G.Ber)
-      body_one = body_seen of _ (list_body_one G.Ber l.ber_one 17)
+      body_one : IsOneBody (SetBody of (ber_words G))
+      body_one = body_seen of _ (list_body_one (ber_words G) (ber_one G l) 17)
 
-      body_values_of : (p : Parts) (m : M) → SetBody of G.Ber p m → SetValues of G.IsValue m
-      body_values_of p m b = (b.0, b.1, list_body_values 17 G.Ber G.IsValue l.ber_values p b.0 b.2)
+      body_values_of : (p : Parts) (m : M) → SetBody of (ber_words G) p m → SetValues of G.IsValue m
+      body_values_of p m b = (b.0, b.1, list_body_values 17 (ber_words G) G.IsValue (ber_values G l) p b.0 b.2)
 
 pub multiset_lawful : {S W : Type 0} (items : W → List S) (G : ItemGrammar S) → IsLawfulItem G → IsLawfulItem (multiset_grammar items G)
 multiset_lawful items G l =
@@ -196,65 +193,48 @@ module _ {S V : Type 0} (value : S → V) (octets : S → List ℕ) (law : (x y 
       arranged_same (map octets xs) (map octets ys) (subst (IsPermutation (map octets xs)) k t.2)))
 
 -- what is written for a set follows from its values
-module _ {S V : Type 0} (value : S → V) (constructed : S → Bool) (header content : S → List ℕ) where
-  abbrev pub SetWritten : List S → List ℕ
-  SetWritten = set_content (λ x. header x ++ content x)
-
-  pub set_by_value : WritesByValue value constructed header content → (xs ys : List S) → ∥ IsPermutation (map value xs) (map value ys) ∥₁ →
-      (true ≡ true) × (header_octets 0 true 17 (length (SetWritten xs)) ≡ header_octets 0 true 17 (length (SetWritten ys))) × (SetWritten xs ≡ SetWritten ys)
-  set_by_value law xs ys m =
-      let h = set_content_same value (λ x. header x ++ content x) (λ x y e. let l = law x y e in both_by_value l.1 l.2) xs ys m in
-      (refl, ap (λ (c : List ℕ). header_octets 0 true 17 (length c)) h, h)
+pub set_by_value : {S V W : Type 0} (items : W → List S) (value : S → V) (w : Writing S) → WritesByValue value w → (x y : W) → ∥ IsPermutation (map value (items x)) (map value (items y)) ∥₁ →
+    (true ≡ true) × ((set_writing items w).header x ≡ (set_writing items w).header y) × ((set_writing items w).content x ≡ (set_writing items w).content y)
+set_by_value items value w law x y m =
+    let h = set_content_same value (whole_octets w) (λ x y e. let l = law x y e in both_by_value l.1 l.2) (items x) (items y) m in
+    (refl, ap (λ (c : List ℕ). header_octets 0 true 17 (length c)) h, h)
 
 pub none_into : (own : SerializeError → Type 0) → HasNone own → HasNone (IntoVector own)
 none_into own n e o = n o.0 o.1
 
-module _ {S V : Type 0} (value : S → V) (Form : V → Identifier → List ℕ → Type 0) (counting : S → Error → Type 0) (heading filling : S → SerializeError → Type 0) (constructed : S → Bool) (header content : S → List ℕ) where
-  abbrev Writable : S → Type 0
-  Writable x = IsWritable (counting x) (heading x) (filling x)
+module _ {S V : Type 0} (value : S → V) (Form : V → Identifier → List ℕ → Type 0) (w : Writing S) (law : WritesForm value Form w) where
+  zip_octets : (xs : List S) (os : List (List ℕ)) → AllZip (IsStrict Form) (map value xs) os → map (whole_octets w) xs ≡ os
+  zip_octets [] [] z = refl
+  zip_octets [] (o ∷ os) z = absurd z
+  zip_octets (x ∷ xs) [] z = absurd z
+  zip_octets (x ∷ xs) (o ∷ os) z = ap (λ y. y ∷ map (whole_octets w) xs) (strict_written value Form w law x o z.0).1 ∙ ap (λ ys. o ∷ ys) (zip_octets xs os z.1)
 
-  abbrev Law : Type 0
-  Law = WritesForm value Form Writable constructed header content
+  zip_writable : (xs : List S) (os : List (List ℕ)) → AllZip (IsStrict Form) (map value xs) os → All (IsWritable w) xs
+  zip_writable [] os z = All-nil (IsWritable w)
+  zip_writable (x ∷ xs) [] z = absurd z
+  zip_writable (x ∷ xs) (o ∷ os) z = All-cons (IsWritable w) x xs (strict_written value Form w law x o z.0).0 (zip_writable xs os z.1)
 
-  octets_of : S → List ℕ
-  octets_of x = header x ++ content x
-
-  zip_octets : Law → (xs : List S) (os : List (List ℕ)) → AllZip (IsStrict Form) (map value xs) os → map (λ x. header x ++ content x) xs ≡ os
-  zip_octets law [] [] z = refl
-  zip_octets law [] (o ∷ os) z = absurd z
-  zip_octets law (x ∷ xs) [] z = absurd z
-  zip_octets law (x ∷ xs) (o ∷ os) z = ap (λ y. y ∷ map (λ x. header x ++ content x) xs) (strict_written value Form Writable constructed header content law x o z.0).1 ∙ ap (λ ys. o ∷ ys) (zip_octets law xs os z.1)
-
-  zip_writable : Law → (xs : List S) (os : List (List ℕ)) → AllZip (IsStrict Form) (map value xs) os → All Writable xs
-  zip_writable law [] os z = All-nil Writable
-  zip_writable law (x ∷ xs) [] z = absurd z
-  zip_writable law (x ∷ xs) (o ∷ os) z = All-cons Writable x xs (strict_written value Form Writable constructed header content law x o z.0).0 (zip_writable law xs os z.1)
-
-  either_none : (x : S) → Writable x → HasNone (Either (heading x) (filling x))
-  either_none x w e (inl o) = w.1 e o
-  either_none x w e (inr o) = w.2 e o
-
-  module _ {M : Type 0} (of : List V → M) (Each : List V → Type 0) (law : Law) (xs : List S) (c : List ℕ) (m : M) (j : Joins of Each (IsStrict Form) m c) (moved : ∥ IsPermutation j.items (map value xs) ∥₁) where
-    set_written : set_content (λ x. header x ++ content x) xs ≡ c
+  module _ {M : Type 0} (of : List V → M) (Each : List V → Type 0) (xs : List S) (c : List ℕ) (m : M) (j : Joins of Each (IsStrict Form) m c) (moved : ∥ IsPermutation j.items (map value xs) ∥₁) where
+    set_written : set_content (whole_octets w) xs ≡ c
     set_written =
         ap concat (∥∥₁_elim moved (strings_set _ _) (λ p.
         let t = zip_permutation (IsStrict Form) j.items (map value xs) j.strings p j.each in
-        let k : map (λ x. header x ++ content x) xs ≡ t.0 = zip_octets law xs t.0 t.1 in
-        sym (only_arranged (map (λ x. header x ++ content x) xs) j.strings (IsPermutation-sym _ _ (subst (IsPermutation j.strings) (sym k) t.2)) j.ascend))) ∙ j.joined
+        let k : map (whole_octets w) xs ≡ t.0 = zip_octets xs t.0 t.1 in
+        sym (only_arranged (map (whole_octets w) xs) j.strings (IsPermutation-sym _ _ (subst (IsPermutation j.strings) (sym k) t.2)) j.ascend))) ∙ j.joined
 
     -- that nothing is refused is no datum, so it may be taken out of the quotient
-    no_refusal : {E : Type 0} (refuses : S → E → Type 0) → ((x : S) → Writable x → HasNone (refuses x)) → HasNone (SomeRefuses refuses xs)
+    no_refusal : {E : Type 0} (refuses : S → E → Type 0) → ((x : S) → IsWritable w x → HasNone (refuses x)) → HasNone (SomeRefuses refuses xs)
     no_refusal refuses none e o = ∥∥₁_elim moved (λ a. absurd a) (λ p.
         let t = zip_permutation (IsStrict Form) j.items (map value xs) j.strings p j.each in
-        let a : All Writable xs = zip_writable law xs t.0 t.1 in
+        let a : All (IsWritable w) xs = zip_writable xs t.0 t.1 in
         none_refuses refuses xs (λ k d h. none (slice_index_or xs k d) (a k d h)) e o)
 
     -- a set in DER form is written as its strict parts
     pub set_writes_form : (i : Identifier) → i ≡ universal true 17 →
-        IsWritable (SomeRefuses counting xs) (WrittenRefusal (SomeRefuses counting xs)) (SomeRefuses (λ x. IntoVector (Either (heading x) (filling x))) xs) × (true ≡ i.constructed) × (set_content (λ x. header x ++ content x) xs ≡ c) × (header_octets 0 true 17 (length (set_content (λ x. header x ++ content x) xs)) ≡ header_of i c)
+        IsWritable (set_writing (λ (l : List S). l) w) xs × (true ≡ i.constructed) × (set_content (whole_octets w) xs ≡ c) × (header_octets 0 true 17 (length (set_content (whole_octets w) xs)) ≡ header_of i c)
     set_writes_form i f =
-        let n : HasNone (SomeRefuses counting xs) = no_refusal counting (λ x w. w.0) in (
-          (n, λ e o. n o.0 o.1, no_refusal (λ x. IntoVector (Either (heading x) (filling x))) (λ x w. none_into (Either (heading x) (filling x)) (either_none x w))),
+        let n : HasNone (SomeRefuses w.count_refuses xs) = no_refusal w.count_refuses (λ x k. k.0) in (
+          (n, behind_header (SomeRefuses w.count_refuses xs) n, no_refusal (λ x. IntoVector (whole_refuses w x)) (λ x k. none_into (whole_refuses w x) (whole_writable w x k))),
           sym (ap (λ (z : Identifier). z.constructed) f),
           set_written,
           ap (λ (z : List ℕ). header_octets 0 true 17 (length z)) set_written ∙ ap (λ (z : Identifier). header_of z c) (sym f),
@@ -264,16 +244,13 @@ module _ {S V : Type 0} (value : S → V) (Form : V → Identifier → List ℕ 
 module _ {V M : Type 0} (of : List V → M) (Each : List V → Type 0)
     (stays : (vs ws : List V) → IsPermutation vs ws → Each vs → Each ws) (same : (vs ws : List V) → IsPermutation vs ws → of vs ≡ of ws) where
   -- so a set in DER form has strict parts
-  pub set_has_form : {S : Type 0} (value : S → V) (IsDer : V → Type 0) (Form : V → Identifier → List ℕ → Type 0) (header content : S → List ℕ) →
-      ((x : S) → IsDer (value x) → length (header x ++ content x) < 2 ^ 64 → ∥ IsStrict Form (value x) (header x ++ content x) ∥₁) →
-      (xs : List S) (m : M) (d : SetInDer of Each IsDer m) → ∥ IsPermutation d.0 (map value xs) ∥₁ → length (set_content (λ x. header x ++ content x) xs) < 2 ^ 64 →
-      ∥ ((i : Identifier) × SetForm of Each Form m i (set_content (λ x. header x ++ content x) xs)) ∥₁
-  set_has_form {S} value IsDer Form header content strict xs m d moved l =
+  pub set_has_form : {S : Type 0} (value : S → V) (IsDer : V → Type 0) (Form : V → Identifier → List ℕ → Type 0) (octets : S → List ℕ) →
+      ((x : S) → IsDer (value x) → length (octets x) < 2 ^ 64 → ∥ IsStrict Form (value x) (octets x) ∥₁) →
+      (xs : List S) (m : M) (d : SetInDer of Each IsDer m) → ∥ IsPermutation d.0 (map value xs) ∥₁ → length (set_content octets xs) < 2 ^ 64 →
+      ∥ ((i : Identifier) × SetForm of Each Form m i (set_content octets xs)) ∥₁
+  set_has_form {S} value IsDer Form octets strict xs m d moved l =
       ∥∥₁_elim moved ∥∥₁_prop (λ p. ∥∥₁_map (zip_written value IsDer Form octets strict xs (All-permutation IsDer d.0 (map value xs) p d.3) short) (λ z. (universal true 17, (refl, joins p z))))
     where
-      octets : S → List ℕ
-      octets x = header x ++ content x
-
       short : length (flat_map octets xs) < 2 ^ 64
       short = omega (arith, arranged_length octets xs, l)
 
@@ -538,19 +515,17 @@ module _ {S V : Type 0} (eq : S → S → Bool) (value : S → V) (same : (x y :
   tree_told items s h = sym (collected_values (eq_by_cmp cmp) value ties_same s.keys items h.0) ∙ sym (members_pass (is_below cmp) value s.keys (ordered_pass cmp s.keys h.1))
 
 -- so each of the two kinds of sets has strict parts where it is in DER form
-module _ {S V : Type 0} (value : S → V) (IsDer : V → Type 0) (Form : V → Identifier → List ℕ → Type 0) (header content : S → List ℕ)
-    (strict : (x : S) → IsDer (value x) → length (header x ++ content x) < 2 ^ 64 → ∥ IsStrict Form (value x) (header x ++ content x) ∥₁) where
-  pub multiset_has_form : (xs : List S) → SetInDer multiset AnyList IsDer (multiset (map value xs)) →
-      length (set_content (λ x. header x ++ content x) xs) < 2 ^ 64 →
-      ∥ ((i : Identifier) × SetForm multiset AnyList Form (multiset (map value xs)) i (set_content (λ x. header x ++ content x) xs)) ∥₁
-  multiset_has_form xs d l =
-      set_has_form multiset AnyList (λ vs ws p h. tt) same_multiset value IsDer Form header content strict xs (multiset (map value xs)) d (permutation_from_multiset d.0 (map value xs) d.2) l
+module _ {S V W : Type 0} (items : W → List S) (value : S → V) (IsDer : V → Type 0) (Form : V → Identifier → List ℕ → Type 0) (w : Writing S)
+    (strict : (x : S) → IsDer (value x) → length (whole_octets w x) < 2 ^ 64 → ∥ IsStrict Form (value x) (whole_octets w x) ∥₁) where
+  pub multiset_has_form : HasForm (λ s. multiset (map value (items s))) (SetInDer multiset AnyList IsDer) (SetForm multiset AnyList Form) (set_writing items w)
+  multiset_has_form s d l =
+      let xs = items s in
+      set_has_form multiset AnyList (λ vs ws p h. tt) same_multiset value IsDer Form (whole_octets w) strict xs (multiset (map value xs)) d (permutation_from_multiset d.0 (map value xs) d.2) l
 
-  pub members_have_form : (test : S → S → Bool) → ((x y : S) → test x y ≡ true → value x ≡ value y → ⊥) → (xs : List S) → SetInDer set_of AllDiffer IsDer (members test value xs) →
-      length (set_content (λ x. header x ++ content x) xs) < 2 ^ 64 →
-      ∥ ((i : Identifier) × SetForm set_of AllDiffer Form (members test value xs) i (set_content (λ x. header x ++ content x) xs)) ∥₁
-  members_have_form test apart xs d l =
-      set_has_form set_of AllDiffer AllDiffer-permutation same_set value IsDer Form header content strict xs (members test value xs) d (members_are test value apart xs d.0 d.1 d.2) l
+  pub members_have_form : (test : S → S → Bool) → ((x y : S) → test x y ≡ true → value x ≡ value y → ⊥) → HasForm (λ s. members test value (items s)) (SetInDer set_of AllDiffer IsDer) (SetForm set_of AllDiffer Form) (set_writing items w)
+  members_have_form test apart s d l =
+      let xs = items s in
+      set_has_form set_of AllDiffer AllDiffer-permutation same_set value IsDer Form (whole_octets w) strict xs (members test value xs) d (members_are test value apart xs d.0 d.1 d.2) l
 
 -- the values of a set of the library's own
 pub multiset_told : {T V : Type 0} (value : T → V) (items : List T) (s : SetOf T) → HasItems items s → multiset (map value items) ≡ multiset (map value (items_of s))

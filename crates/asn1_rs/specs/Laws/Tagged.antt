@@ -3,21 +3,22 @@ pub mod Explicit
 pub mod Headed
 pub mod Implicit
 pub mod Parser
-use Rattle.std.specs.Prelude.{◌≡◌, ◌≢◌, ℕ, ◌<◌, ◌≤◌, ◌^◌, Bool, true, false, IsTrue, ◌&&◌, ◌↔◌, Option, Some, None, Result, Ok, Err}
+use Rattle.std.specs.Prelude.{◌≡◌, ℕ, ◌<◌, ◌^◌, Bool, true, false, IsTrue, ◌&&◌, ◌↔◌, Option, Some, None, Err}
 use Rattle.std.proofs.Common.{arith, ◌∙◌, ap, sym, subst, refl, inl, inr, List}
 use Rattle.x690.specs.Identifiers.{Identifier}
 use Rattle.x690.specs.Elements.{Parts}
 use Rattle.asn1_headers.specs.declared.class.Class.{Class}
 use Rattle.asn1_headers.specs.declared.class.Class.TheVariants.{Universal, Application, ContextSpecific, Private}
 use Rattle.asn1_headers.specs.declared.error.Error.{Error}
-use Rattle.asn1_headers.specs.declared.error.Error.TheVariants.{OutOfMemory}
 use Rattle.asn1_headers.specs.declared.error.SerializeError.{SerializeError}
 use Rattle.asn1_headers.specs.Answers.{IsOther}
 use Rattle.asn1_headers.specs.Class.{class_number}
 use Rattle.asn1_rs.specs.Checks.{CheckGives, IsCheck}
 use Rattle.asn1_rs.specs.Grammar.{made, of_class}
 use Rattle.asn1_rs.specs.Tagged.{has_class, IsClassOf, number_of}
-use Rattle.asn1_rs.specs.ToDer.{HasNone, OfClass}
+use Rattle.asn1_rs.specs.ToDer.{HasNone, WrittenRefusal}
+use Rattle.asn1_rs.specs.Tagged.Writing.{UnderClass}
+use Rattle.asn1_rs.specs.Laws.Forms.{behind_header}
 
 -- classes are told by their numbers
 pub one_class : (a b : Class) → class_number a ≡ class_number b → a ≡ b
@@ -65,9 +66,13 @@ pub own_class : (class : ℕ) (i : Identifier) (c : List ℕ) → i.class ≡ cl
 own_class class i c e = ap (λ (n : ℕ). made (of_class n i) c) e
 
 -- where the class is one of the four, the refusals are those of the value
-pub of_class_none : (class : ℕ) (own : SerializeError → Type 0) → class < 4 → HasNone own → HasNone (OfClass class own)
+pub of_class_none : (class : ℕ) (own : SerializeError → Type 0) → class < 4 → HasNone own → HasNone (UnderClass class own)
 of_class_none class own l n e (inl h) = let k = h.0 in omega arith
 of_class_none class own l n e (inr h) = n e h.1
+
+-- what is written under a tag of one of the four classes has no refusal, where its counts and its contents octets have none
+pub under_tag : (class : ℕ) (counting : Error → Type 0) (own : SerializeError → Type 0) → class < 4 → HasNone counting → HasNone own → HasNone (UnderClass class (WrittenRefusal counting)) × HasNone (UnderClass class own)
+under_tag class counting own few n o = (of_class_none class (WrittenRefusal counting) few (behind_header counting n), of_class_none class own few o)
 
 -- what the refusal of a check is made into does not report out of memory
 pub check_spares : {E : Type 0} (check : CheckGives) → IsCheck check → (from : Error → E → Type 0) (p : Parts) (refusal : Error) (e : E) → check p (Err refusal) → from refusal e → IsOther from e

@@ -11,9 +11,11 @@ use Rattle.x690.specs.Joined.{IsOneFront}
 use Rattle.asn1_headers.specs.declared.error.Err.{Err as Refusal}
 use Rattle.asn1_headers.specs.Answers.{Exactly, ReadsBack}
 use Rattle.asn1_rs.specs.Grammar.Form.{IsOneForm, IsOneValue, IsStrict}
-use Rattle.asn1_rs.specs.Grammar.{IsOneBody, ElementWord, BerWord, DerWord, FormChecks, FormBodies, made}
+use Rattle.asn1_rs.specs.Grammar.{IsOneBody, NoCheck, ElementWord, BerWord, DerWord, FormChecks, FormBodies, made}
 use Rattle.asn1_headers.specs.Ber.{max_depth}
-use Rattle.asn1_rs.specs.Laws.Readers.{none_now}
+use Rattle.asn1_rs.specs.Grammar.Item.{ItemGrammar, IsLawfulItem, ber_words}
+use Rattle.asn1_rs.specs.Laws.Readers.{ber_elements, none_now}
+use Rattle.x690.specs.Nested.{IsElement}
 
 -- words of one body, over elements of which one alone begins an input
 pub word_one : {V : Type 0} (ElementOf : List ℕ → Parts → Type 0) (Check : Parts → Type 0) (Body : Parts → V → Type 0) → IsOneFront ElementOf → IsOneBody Body → IsOneFront (ElementWord ElementOf Check Body)
@@ -36,6 +38,17 @@ strict_der_word Form Check Body checks bodies v o s = (made s.id s.content, stri
 pub strict_ber_word : {V : Type 0} (Form : V → Identifier → List ℕ → Type 0) (Body : Parts → V → Type 0) → FormBodies Form Body → (v : V) (o : List ℕ) → IsStrict Form v o → BerWord Body o v
 strict_ber_word Form Body bodies v o s =
     (made s.id s.content, (1, definite_is_nested ber_rule max_depth o (made s.id s.content) (omega arith) (strict_element ber_rule ber_allows_strict Form v o s)), tt, bodies v s.id s.content s.form)
+
+-- Words by BER of a lawful item have values of the type, one alone begins an input, and strict encodings are such words.
+module _ {S : Type 0} (G : ItemGrammar S) (l : IsLawfulItem G) where
+  pub ber_values : (o : List ℕ) (v : G.Value) → ber_words G o v → G.IsValue v
+  ber_values o v w = l.body_values w.0 v (ber_elements.possible o w.0 w.1) w.3
+
+  pub ber_one : IsOneFront (ber_words G)
+  ber_one = word_one (IsElement max_depth) NoCheck G.Body ber_elements.one l.body_one
+
+  pub strict_ber : (v : G.Value) (o : List ℕ) → IsStrict G.Form v o → ber_words G o v
+  strict_ber = strict_ber_word G.Form G.Body l.form_body
 
 -- a value has one strict encoding where it has one form
 pub one_strict : {V : Type 0} (Form : V → Identifier → List ℕ → Type 0) → IsOneForm Form → (v : V) (o p : List ℕ) → IsStrict Form v o → IsStrict Form v p → o ≡ p

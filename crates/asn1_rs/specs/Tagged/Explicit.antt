@@ -13,9 +13,9 @@ use Rattle.asn1_headers.specs.Answers.{Front}
 use Rattle.asn1_headers.specs.Ber.{max_depth}
 use Rattle.asn1_rs.specs.Checks.{CheckGives, IsCounted, ◌before◌, has_number, is_constructed, is_counted}
 use Rattle.asn1_headers.specs.Error.{FlattenedTo, Converted}
-use Rattle.asn1_rs.specs.Grammar.{BerWord, DerWord, NoCheck}
+use Rattle.asn1_rs.specs.Grammar.{DerWord, NoCheck}
 use Rattle.asn1_rs.specs.Grammar.Form.{IsStrict}
-use Rattle.asn1_rs.specs.Grammar.Item.{ItemGrammar}
+use Rattle.asn1_rs.specs.Grammar.Item.{ItemGrammar, ber_words}
 use Rattle.asn1_headers.specs.Header.Reading.{der_refusal}
 use Rattle.asn1_rs.specs.Tagged.{has_class}
 
@@ -57,9 +57,8 @@ explicit_grammar class number inner G = record {
   value = λ t. G.value (inner t);
   IsValue = G.IsValue;
   IsDer = λ v. (class < 4) × (number < 2 ^ 32) × G.IsDer v;
-  Ber = BerWord (ExplicitBody class number G.Ber);
   Der = DerWord NoCheck (ExplicitBody class number G.Der);
-  Body = ExplicitBody class number G.Ber;
+  Body = ExplicitBody class number (ber_words G);
   Check = ExplicitCheck (IsElement max_depth) G.Check;
   Form = ExplicitForm class number G.Form;
   allocates = G.allocates;

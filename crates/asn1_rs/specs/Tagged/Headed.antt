@@ -3,8 +3,8 @@ use Rattle.std.specs.Prelude.{◌≡◌, ℕ, ◌<◌, ◌^◌, Bool, true, List
 use Rattle.x690.specs.Identifiers.{Identifier}
 use Rattle.x690.specs.Elements.{Parts, IsDerElement}
 use Rattle.asn1_headers.specs.Answers.{Front}
-use Rattle.asn1_rs.specs.Grammar.{BerWord, DerWord, NoCheck}
-use Rattle.asn1_rs.specs.Grammar.Item.{ItemGrammar}
+use Rattle.asn1_rs.specs.Grammar.{DerWord, NoCheck}
+use Rattle.asn1_rs.specs.Grammar.Item.{ItemGrammar, ber_words}
 use Rattle.asn1_rs.specs.Tagged.Explicit.{ExplicitCheck, ExplicitForm}
 use Rattle.asn1_rs.specs.Tagged.Implicit.{under, ImplicitCheck, ImplicitForm}
 
@@ -35,9 +35,8 @@ explicit_headed identifier inner G = record {
   value = headed_value identifier inner G.value;
   IsValue = λ v. IsBorne v.0 × G.IsValue v.1;
   IsDer = λ v. IsBorne v.0 × ((v.0).constructed ≡ true) × G.IsDer v.1;
-  Ber = BerWord (HeadedBody G.Ber);
   Der = DerWord NoCheck (HeadedBody G.Der);
-  Body = HeadedBody G.Ber;
+  Body = HeadedBody (ber_words G);
   Check = ExplicitCheck IsDerElement G.Check;
   Form = HeadedForm G.Form;
   allocates = G.allocates;
@@ -68,7 +67,6 @@ implicit_headed identifier own inner G = record {
   value = headed_value identifier inner G.value;
   IsValue = λ v. IsBorne v.0 × G.IsValue v.1;
   IsDer = λ v. IsBorne v.0 × HasInnerForm G.Form (v.0).constructed v.1 × G.IsDer v.1;
-  Ber = BerWord (UnderBody own G.Body);
   Der = DerWord NoCheck (UnderBody own (CheckedBody G.Check G.Body));
   Body = UnderBody own G.Body;
   Check = ImplicitCheck own G.Check;

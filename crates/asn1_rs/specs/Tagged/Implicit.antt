@@ -6,7 +6,7 @@ use Rattle.asn1_rs.specs.declared.asn1_types.any.Any.{Any}
 use Rattle.asn1_headers.specs.declared.error.Error.{Error}
 use Rattle.asn1_headers.specs.declared.tag.Tag.{Tag}
 use Rattle.asn1_rs.specs.Checks.{CheckGives, IsCounted, ◌before◌, has_number, is_counted}
-use Rattle.asn1_rs.specs.Grammar.{BerWord, DerWord, NoCheck}
+use Rattle.asn1_rs.specs.Grammar.{DerWord, NoCheck}
 use Rattle.asn1_rs.specs.Grammar.Item.{ItemGrammar}
 use Rattle.asn1_rs.specs.Tagged.{has_class}
 use Rattle.asn1_rs.specs.Tagged.Parser.{IsUnder, ChecksAndConverts}
@@ -50,7 +50,6 @@ implicit_grammar class number own inner G = record {
   value = λ t. G.value (inner t);
   IsValue = G.IsValue;
   IsDer = λ v. (class < 4) × (number < 2 ^ 32) × G.IsDer v;
-  Ber = BerWord (ImplicitBody class number own G.Body);
   Der = DerWord NoCheck (ImplicitBody class number own G.Body);
   Body = ImplicitBody class number own G.Body;
   Check = ImplicitCheck own G.Check;

@@ -27,7 +27,7 @@ abbrev pub TakesFound : {F R : Type 0} → (List ℕ → Parts → Type 0) → C
 TakesFound ElementOf class tag g f = HoldsOfNumber ElementOf tag (λ any. class_of any.header ≡ class → TakesOfHeader g f any.header any.content.now)
 
 -- what looking for it at the front of an input may answer: no element, where the input is empty; else what is said of the element that is read
-abbrev pub OptionGives : {T E : Type 0} → (List ℕ → Parts → Type 0) → (List ℕ → Fault → Type 0) → (Fault → Refusal Error) → Class → Tag → (Error → E → Type 0) → (Header → List ℕ → Result (Bor (List ℕ) × T) (Refusal E) → Type 0) → List ℕ → Result (List ℕ × Option T) (Refusal E) → Type 0
-OptionGives ElementOf FaultOf refusal class tag from reads input answer =
+abbrev pub OptTaggedGives : {T E : Type 0} → (List ℕ → Parts → Type 0) → (List ℕ → Fault → Type 0) → (Fault → Refusal Error) → Class → Tag → (Error → E → Type 0) → (Header → List ℕ → Result (Bor (List ℕ) × T) (Refusal E) → Type 0) → List ℕ → Result (List ℕ × Option T) (Refusal E) → Type 0
+OptTaggedGives ElementOf FaultOf refusal class tag from reads input answer =
     ((input ≡ []) × (answer ≡ Ok ([], None))) ⊎
     ((input ≢ []) × ThenGives ElementOf FaultOf refusal from (TakesOption class tag from reads input) input answer)

@@ -2,7 +2,7 @@
 ghost use Rattle.std.specs.Prelude.{◌≡◌, ◌∷◌, ◌↔◌, false, length, IsTrue, IfOk, IfErr};
 ghost use Rattle.std.specs.Cow.{IsBorrowedSlice};
 ghost use Rattle.asn1_rs.specs.Any.{parts_of};
-ghost use Rattle.asn1_rs.specs.BitString.{bit_string_number, bit_string_leaf, bit_string_constraints, bit_string_octets, data_of, bit_of, IsZeroPadded};
+ghost use Rattle.asn1_rs.specs.BitString.{bit_string_leaf, bit_string_constraints, bit_string_octets, data_of, bit_of, IsZeroPadded};
 ghost use Rattle.asn1_rs.specs.Leaf.{LeafGives, LendsContent, leaf_element};
 ghost use Rattle.asn1_rs.specs.Laws.BitString.{bit_string_lawful, bit_string_equal};
 ghost use Rattle.asn1_rs.specs.Laws.Leaf.{leaf_lawful, leaf_constraints, lent_converts, leaf_written};
@@ -10,10 +10,10 @@ ghost use Rattle.asn1_headers.specs.Writer.{Wrote, MayRefuse};
 
 use crate::asn1_types::any::Any;
 use crate::kinds::writing::WritesElement;
-use crate::kinds::{ElementKind, HasKind, LawfulConversion, LawfulElement};
+use crate::kinds::{ElementKind, HasKind, LawfulConversion, LawfulElement, TagNumber, TaggedAs};
 use crate::laws::LawfulMember;
 use crate::laws::in_hand::octets_in_hand;
-use crate::traits::{CheckDerConstraints, DerAutoDerive, FromAny, Tagged};
+use crate::traits::{CheckDerConstraints, DerAutoDerive, FromAny};
 use asn1_headers::error::{DerConstraint, Error, SerializeResult};
 use asn1_headers::tag::Tag;
 use asn1_headers::writer::{DerWrite, add_written, put_all};
@@ -102,8 +102,7 @@ fn is_zero_padded(unused_bits: u8, octets: &[u8]) -> bool
 /// Appends the count of unused bits, and then the octets.
 #[inline(always)]
 fn put_bits<W: DerWrite>(unused_bits: u8, octets: &[u8], w: &mut W) -> SerializeResult<usize>
-    ensures wrote { Wrote (unused_bits ∷ octets.now) (W.told w.old) (W.told w.new) (W.failed w.old)
-        (W.failed w.new) result }
+    ensures wrote { Wrote (unused_bits ∷ octets.now) (W.state w.old) (W.state w.new) result }
     ensures refused { IfErr result (MayRefuse false (length (unused_bits ∷ octets.now))) }
 {
     let before = put_all(w, &[unused_bits])?;
@@ -111,16 +110,8 @@ fn put_bits<W: DerWrite>(unused_bits: u8, octets: &[u8], w: &mut W) -> Serialize
     add_written(before, after)
 }
 
-impl Tagged for BitString<'_> {
-    const TAG: Tag = Tag::BitString;
-
-    ghost mark = { record { 0 = bit_string_number } };
-
-    fn its_tag() -> Tag
-        ensures { result ≡ record { 0 = bit_string_number } }
-    {
-        Self::TAG
-    }
+impl TaggedAs for BitString<'_> {
+    type Number = TagNumber<3>;
 }
 
 impl<'a> FromAny<'a> for BitString<'a> {

@@ -50,11 +50,7 @@ impl Any<'_> {
 impl Tagged for EndOfContent {
     const TAG: Tag = Tag::EndOfContent;
 
-    ghost mark = { record { 0 = end_number } };
-
-    fn its_tag() -> Tag {
-        Self::TAG
-    }
+    ghost TAG = { record { 0 = end_number } };
 }
 
 impl<'a> FromAny<'a> for EndOfContent {
@@ -81,13 +77,8 @@ impl<'a> LawfulBody<'a, Error> for EndOfContent {
     ghost body_exact = { (leaf_converts end_leaf end_lawful).exact };
 
     ghost body_spares = { λ none.
-        other_error (OfParts (LeafGives end_leaf)) ((leaf_converts end_leaf end_lawful).spares none) };
-
-    ghost form_body = { λ v i c f. absurd f };
-
-    ghost ber_split = { λ o v w. w };
-
-    ghost ber_join = { λ o v w. w };
+        other_error (OfParts (LeafGives end_leaf))
+        ((leaf_converts end_leaf end_lawful).spares none) };
 }
 
 impl LawfulTagged for EndOfContent {

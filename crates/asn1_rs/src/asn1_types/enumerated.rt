@@ -62,11 +62,7 @@ impl Any<'_> {
 impl Tagged for Enumerated {
     const TAG: Tag = Tag::Enumerated;
 
-    ghost mark = { record { 0 = enumerated_number } };
-
-    fn its_tag() -> Tag {
-        Self::TAG
-    }
+    ghost TAG = { record { 0 = enumerated_number } };
 }
 
 impl<'a> FromAny<'a> for Enumerated {

@@ -1,5 +1,5 @@
 //! Items of lists: how they are read, checked, counted and written.
-ghost use Rattle.std.specs.Prelude.{◌≡◌, ◌⊎◌, ◌∷◌, Some, ◌≤◌, ◌<◌, ◌++◌, ◌||◌, ℕ, [], List, true, false, length, map, IfOk, IfErr, IsErr};
+ghost use Rattle.std.specs.Prelude.{◌≡◌, ◌⊎◌, ◌∷◌, Some, ◌≤◌, ◌<◌, ℕ, List, true, false, length, map, IfOk, IfErr, IsErr};
 ghost use Rattle.std.specs.declared.result.Result.TheVariants as results;
 ghost use Rattle.std.specs.List.{All, flat_map};
 ghost use Rattle.std.specs.Iterator.{IsFinite, IsFiniteIterable, Drains};
@@ -8,13 +8,13 @@ ghost use Rattle.x690.specs.Elements.{Parts};
 ghost use Rattle.asn1_rs.specs.Any.{parts_of};
 ghost use Rattle.asn1_rs.specs.Traits.{OfParts, DerGives, PassesAll};
 ghost use Rattle.asn1_headers.specs.Answers.{seen};
-ghost use Rattle.asn1_rs.specs.Lists.{IsListOr, ItemsGive, ListGives, ListTakes, ListReads, ItemsCheckGives, ListCheckGives, FirstChecked, GivesItems, PushesItem, AreEncodings, SomeRefuses, ListBody, ListOf, MadeOf, listed};
+ghost use Rattle.asn1_rs.specs.Lists.{IsListOr, ItemsGive, ListGives, ListTakes, ListReads, ItemsCheckGives, ListCheckGives, FirstChecked, GivesItems, PushesItem, ArePacked, SomeRefuses, ListBody, ListOf, MadeOf, listed};
 ghost use Rattle.asn1_headers.specs.declared.error.SerializeError.{SerializeError};
 ghost use Rattle.asn1_headers.specs.declared.error.Error.{Error};
 ghost use Rattle.asn1_headers.specs.declared.error.SerializeError.TheVariants as serialize_errors;
 ghost use Rattle.asn1_headers.specs.declared.error.Error.TheVariants as errors;
 ghost use Rattle.asn1_headers.specs.Writer.{Wrote};
-ghost use Rattle.asn1_rs.specs.ToDer.{Refuses, RefusesCount, Either, IntoVector, HasNone, RefusesAtOnce, some_allocates};
+ghost use Rattle.asn1_rs.specs.ToDer.{Refuses, RefusesCount, IntoVector, HasNone, RefusesAtOnce, whole_allocates, whole_octets, whole_refuses};
 ghost use Rattle.asn1_headers.specs.Error.{tells_of_io};
 
 use crate::asn1_types::any::Any;
@@ -23,7 +23,7 @@ use crate::der::element_by_der;
 use crate::header::add_counts;
 use crate::laws::in_hand::States;
 use crate::to_der::ToDer;
-use crate::traits::{CheckDerConstraints, FromAny, FromBer, FromDer, Tagged};
+use crate::traits::{CheckDerConstraints, FromAny, FromBer, FromDer, Tagged, converted};
 use asn1_headers::content::{BerParser, DerParser};
 use asn1_headers::error::{Err, Error, ParseResult, SerializeError, SerializeResult, without_io};
 use asn1_headers::tag::Tag;
@@ -94,22 +94,22 @@ pub trait Listed: Tagged {
     fn count_each(&self) -> Result<usize, Error>
     where
         Self::Item: ToDer,
-        ensures count { All Self.Item.tells (items self.now) →
+        ensures count { All Self.Item.writing.tells (items self.now) →
             IfOk result (λ n. n ≡
             length
-            (flat_map (λ x. Self.Item.header x ++ Self.Item.content x)
+            (flat_map (whole_octets Self.Item.writing)
             (items self.now))) }
-        ensures refused { All Self.Item.tells (items self.now) →
-            IfErr result (RefusesCount Self.Item.count_allocates
+        ensures refused { All Self.Item.writing.tells (items self.now) →
+            IfErr result (RefusesCount Self.Item.writing.count_allocates
             (length
-            (flat_map (λ x. Self.Item.header x ++ Self.Item.content x)
+            (flat_map (whole_octets Self.Item.writing)
             (items self.now)))
-            (SomeRefuses Self.Item.count_refuses (items self.now))) }
-        ensures accepted { (e : Error) → All Self.Item.tells (items self.now) →
-            SomeRefuses Self.Item.count_refuses (items self.now) e → IsErr result };
+            (SomeRefuses Self.Item.writing.count_refuses (items self.now))) }
+        ensures accepted { (e : Error) → All Self.Item.writing.tells (items self.now) →
+            SomeRefuses Self.Item.writing.count_refuses (items self.now) e → IsErr result };
 
     /// Its tag number is one of the low form.
-    ghost small: { (Self.mark).0 < 31 };
+    ghost small: { (Self.TAG).0 < 31 };
 }
 
 /// A list: a type that is made of items, which stand in the contents octets of one element.
@@ -138,10 +138,10 @@ where
 {
     type Error = E;
 
-    ghost any_gives = { OfParts (ListTakes (L.mark).0 L.holds T.ber_gives E.from_gives) };
+    ghost any_gives = { OfParts (ListTakes (L.TAG).0 L.holds T.ber_gives E.from_gives) };
 
     fn try_from_any(alloc: Global, any: Any<'a>) -> Result<L, E> {
-        if let Err(e) = assert_list(L::its_tag().0, &any) {
+        if let Err(e) = assert_list(L::TAG.0, &any) {
             return Err(E::from(e));
         }
         list_of_content::<L, T, BerParser, E>(alloc, any.content)
@@ -173,9 +173,9 @@ where
     L: FromItems<Item = T>,
     T: FromDer<'a, E> + Drop,
     E: From<Error>,
-    ensures { ListReads (L.mark).0 L.holds T.der_gives E.from_gives (parts_of any.now) result }
+    ensures { ListReads (L.TAG).0 L.holds T.der_gives E.from_gives (parts_of any.now) result }
 {
-    if let Err(e) = any.header.assert_tag(L::its_tag()) {
+    if let Err(e) = any.header.assert_tag(L::TAG) {
         return Err(E::from(e));
     }
     list_of_content::<L, T, DerParser, E>(alloc, any.content)
@@ -187,9 +187,9 @@ where
     L: FromItems<Item = T>,
     T: FromDer<'a, E> + Drop,
     E: From<Error>,
-    ensures { ListTakes (L.mark).0 L.holds T.der_gives E.from_gives (parts_of any.now) result }
+    ensures { ListTakes (L.TAG).0 L.holds T.der_gives E.from_gives (parts_of any.now) result }
 {
-    if let Err(e) = assert_list(L::its_tag().0, any) {
+    if let Err(e) = assert_list(L::TAG.0, any) {
         return Err(E::from(e));
     }
     list_of_content::<L, T, DerParser, E>(alloc, any.content)
@@ -201,13 +201,10 @@ where
     L: FromItems<Item = T>,
     T: FromDer<'a, E> + Drop,
     E: From<Error>,
-    ensures { DerGives PassesAll (OfParts (ListReads (L.mark).0 L.holds T.der_gives E.from_gives))
+    ensures { DerGives PassesAll (OfParts (ListReads (L.TAG).0 L.holds T.der_gives E.from_gives))
         E.from_gives bytes.now (seen result) }
 {
-    let (rest, any) = match element_by_der(bytes) {
-        Ok(read) => read,
-        Err(e) => return Err(Err::convert(e)),
-    };
+    let (rest, any) = converted(element_by_der(bytes))?;
     match list_of_element::<L, T, E>(alloc, &any) {
         Ok(list) => Ok((rest, list)),
         Err(e) => Err(Err::Error(e)),
@@ -223,13 +220,10 @@ where
     L: FromItems<Item = T>,
     T: FromDer<'a, E> + Drop,
     E: From<Error>,
-    ensures { DerGives PassesAll (OfParts (ListTakes (L.mark).0 L.holds T.der_gives E.from_gives))
+    ensures { DerGives PassesAll (OfParts (ListTakes (L.TAG).0 L.holds T.der_gives E.from_gives))
         E.from_gives bytes.now (seen result) }
 {
-    let (rest, any) = match element_by_der(bytes) {
-        Ok(read) => read,
-        Err(e) => return Err(Err::convert(e)),
-    };
+    let (rest, any) = converted(element_by_der(bytes))?;
     match constructed_list_of_element::<L, T, E>(alloc, &any) {
         Ok(list) => Ok((rest, list)),
         Err(e) => Err(Err::Error(e)),
@@ -272,10 +266,10 @@ pub(crate) fn check_list<T: CheckDerConstraints>(number: u32, any: &Any<'_>) -> 
 }
 
 impl<L: Listed<Item = T>, T: CheckDerConstraints> CheckDerConstraints for L {
-    ghost check_gives = { ListCheckGives (L.mark).0 T.check_gives };
+    ghost check_gives = { ListCheckGives (L.TAG).0 T.check_gives };
 
     fn check_constraints(any: &Any<'_>) -> Result<(), Error> {
-        check_list::<T>(L::its_tag().0, any)
+        check_list::<T>(L::TAG.0, any)
     }
 }
 
@@ -329,15 +323,15 @@ where
     requires can { I.can_next items }
     requires ends { IsFinite (I.remaining items) }
     ensures count { (xs : List T) → GivesItems I.next_gives R.deref_gives items xs →
-        All T.tells xs →
-        IfOk result (λ n. n ≡ length (flat_map (λ x. T.header x ++ T.content x) xs)) }
+        All T.writing.tells xs →
+        IfOk result (λ n. n ≡ length (flat_map (whole_octets T.writing) xs)) }
     ensures refused { (xs : List T) → GivesItems I.next_gives R.deref_gives items xs →
-        All T.tells xs →
-        IfErr result (RefusesCount T.count_allocates
-        (length (flat_map (λ x. T.header x ++ T.content x) xs)) (SomeRefuses T.count_refuses xs)) }
+        All T.writing.tells xs →
+        IfErr result (RefusesCount T.writing.count_allocates
+        (length (flat_map (whole_octets T.writing) xs)) (SomeRefuses T.writing.count_refuses xs)) }
     ensures accepted { (xs : List T) (e : Error) →
-        GivesItems I.next_gives R.deref_gives items xs → All T.tells xs →
-        SomeRefuses T.count_refuses xs e → IsErr result }
+        GivesItems I.next_gives R.deref_gives items xs → All T.writing.tells xs →
+        SomeRefuses T.writing.count_refuses xs e → IsErr result }
 {
     let mut total = 0;
     for item in items {
@@ -357,22 +351,21 @@ where
     requires can { I.can_next items }
     requires ends { IsFinite (I.remaining items) }
     ensures wrote { (xs : List T) → GivesItems I.next_gives R.deref_gives items xs →
-        All T.tells xs →
-        Wrote (flat_map (λ x. T.header x ++ T.content x) xs) (W.told w.old) (W.told w.new)
-        (W.failed w.old) (W.failed w.new) result }
+        All T.writing.tells xs →
+        Wrote (flat_map (whole_octets T.writing) xs) (W.state w.old) (W.state w.new) result }
     ensures refused { (xs : List T) → GivesItems I.next_gives R.deref_gives items xs →
-        All T.tells xs →
+        All T.writing.tells xs →
         IfErr result
-        (Refuses (some_allocates T.write_allocates T.count_allocates T.content_allocates)
-        (length (flat_map (λ x. T.header x ++ T.content x) xs))
-        (SomeRefuses (λ x. Either (T.header_refuses x) (T.content_refuses x)) xs)) }
+        (Refuses (whole_allocates T.writing)
+        (length (flat_map (whole_octets T.writing) xs))
+        (SomeRefuses (whole_refuses T.writing) xs)) }
     ensures accepted { (xs : List T) (e : SerializeError) →
-        GivesItems I.next_gives R.deref_gives items xs → All T.tells xs →
-        SomeRefuses (λ x. Either (T.header_refuses x) (T.content_refuses x)) xs e →
+        GivesItems I.next_gives R.deref_gives items xs → All T.writing.tells xs →
+        SomeRefuses (whole_refuses T.writing) xs e →
         IsErr result }
     ensures uncounted { (xs : List T) (e : Error) →
-        GivesItems I.next_gives R.deref_gives items xs → All T.tells xs →
-        SomeRefuses T.count_refuses xs e → IsErr result }
+        GivesItems I.next_gives R.deref_gives items xs → All T.writing.tells xs →
+        SomeRefuses T.writing.count_refuses xs e → IsErr result }
 {
     let mut total = 0;
     for item in items {
@@ -384,7 +377,7 @@ where
 
 /// Encodings, one after another, with the number of octets of each.
 #[derive(Drop)]
-pub struct Encodings {
+pub struct PackedEncodings {
     pub(crate) octets: Vec<u8>,
     pub(crate) lengths: Vec<usize>,
 }
@@ -415,7 +408,7 @@ impl Write for WithFirstRoom {
 }
 
 /// The encoding of each item. Nothing asks for memory before the first item does.
-pub(crate) fn encode_items<T, R, I>(items: I, alloc: Global) -> SerializeResult<Encodings>
+pub(crate) fn encode_items<T, R, I>(items: I, alloc: Global) -> SerializeResult<PackedEncodings>
 where
     T: ToDer,
     R: Deref<Target = T> + Drop,
@@ -423,25 +416,25 @@ where
     requires can { I.can_next items }
     requires ends { IsFinite (I.remaining items) }
     ensures each { (xs : List T) → GivesItems I.next_gives R.deref_gives items xs →
-        All T.tells xs →
-        IfOk result (AreEncodings (map (λ x. T.header x ++ T.content x) xs)) }
+        All T.writing.tells xs →
+        IfOk result (ArePacked (map (whole_octets T.writing) xs)) }
     ensures refused { (xs : List T) → GivesItems I.next_gives R.deref_gives items xs →
-        All T.tells xs →
-        IfErr result (Refuses true (length (flat_map (λ x. T.header x ++ T.content x) xs))
-        (SomeRefuses (λ x. IntoVector (Either (T.header_refuses x) (T.content_refuses x))) xs)) }
+        All T.writing.tells xs →
+        IfErr result (Refuses true (length (flat_map (whole_octets T.writing) xs))
+        (SomeRefuses (λ x. IntoVector (whole_refuses T.writing x)) xs)) }
     ensures accepted { (xs : List T) (e : SerializeError) →
-        GivesItems I.next_gives R.deref_gives items xs → All T.tells xs →
-        SomeRefuses (λ x. IntoVector (Either (T.header_refuses x) (T.content_refuses x))) xs e →
+        GivesItems I.next_gives R.deref_gives items xs → All T.writing.tells xs →
+        SomeRefuses (λ x. IntoVector (whole_refuses T.writing x)) xs e →
         IsErr result }
     ensures uncounted { (xs : List T) (e : Error) →
-        GivesItems I.next_gives R.deref_gives items xs → All T.tells xs →
-        SomeRefuses T.count_refuses xs e → IsErr result }
+        GivesItems I.next_gives R.deref_gives items xs → All T.writing.tells xs →
+        SomeRefuses T.writing.count_refuses xs e → IsErr result }
     ensures at_once { (x : T) (xs : List T) (e : SerializeError) →
-        GivesItems I.next_gives R.deref_gives items (x ∷ xs) → All T.tells (x ∷ xs) →
-        T.header_refuses x e → IfErr result (IntoVector (RefusesAtOnce
-        (some_allocates T.write_allocates T.count_allocates T.content_allocates)
-        (length (T.header x ++ T.content x))
-        (Either (T.header_refuses x) (T.content_refuses x)))) }
+        GivesItems I.next_gives R.deref_gives items (x ∷ xs) → All T.writing.tells (x ∷ xs) →
+        T.writing.header_refuses x e → IfErr result (IntoVector (RefusesAtOnce
+        (whole_allocates T.writing)
+        (length (whole_octets T.writing x))
+        (whole_refuses T.writing x))) }
     ensures memory { IfErr result (λ e. tells_of_io e ≡ false) }
 {
     let mut w = Told::new(WithFirstRoom {
@@ -458,7 +451,7 @@ where
         }
     }
     let WithFirstRoom { octets } = w.into_inner();
-    Ok(Encodings { octets, lengths })
+    Ok(PackedEncodings { octets, lengths })
 }
 
 /// What an element is read as by a list or a set is made of the values of words of the reader's grammar, whose joining

@@ -59,11 +59,7 @@ impl Any<'_> {
 impl Tagged for Null {
     const TAG: Tag = Tag::Null;
 
-    ghost mark = { record { 0 = null_number } };
-
-    fn its_tag() -> Tag {
-        Self::TAG
-    }
+    ghost TAG = { record { 0 = null_number } };
 }
 
 impl<'a> FromAny<'a> for Null {
@@ -126,11 +122,7 @@ impl LawfulMember for Null {
 impl Tagged for () {
     const TAG: Tag = Tag::Null;
 
-    ghost mark = { record { 0 = null_number } };
-
-    fn its_tag() -> Tag {
-        Self::TAG
-    }
+    ghost TAG = { record { 0 = null_number } };
 }
 
 impl<'a> FromAny<'a> for () {

@@ -6,16 +6,16 @@ ghost use Rattle.asn1_rs.specs.Checks.{is_primitive};
 ghost use Rattle.asn1_rs.specs.Leaf.{LeafGives, LendsContent, leaf_element};
 ghost use Rattle.asn1_rs.specs.Laws.Leaf.{leaf_lawful, leaf_constraints, leaf_converts, lent_converts, leaf_written};
 ghost use Rattle.asn1_rs.specs.Laws.OctetString.{octet_string_lawful, octet_string_equal, slice_lawful, slice_equal};
-ghost use Rattle.asn1_rs.specs.OctetString.{octet_string_number, octet_string_leaf, slice_leaf, octets_of, cow_of};
+ghost use Rattle.asn1_rs.specs.OctetString.{octet_string_leaf, slice_leaf, octets_of, cow_of};
 ghost use Rattle.asn1_rs.specs.Traits.{OfParts};
 
 use crate::asn1_types::any::Any;
 use crate::kinds::in_hand::DerElement;
 use crate::kinds::writing::WritesOctets;
-use crate::kinds::{ElementKind, HasKind, LawfulConversion, LawfulElement};
+use crate::kinds::{ElementKind, HasKind, LawfulConversion, LawfulElement, TagNumber, TaggedAs};
 use crate::laws::LawfulMember;
 use crate::laws::in_hand::octets_in_hand;
-use crate::traits::{CheckDerConstraints, DerAutoDerive, FromAny, Tagged};
+use crate::traits::{CheckDerConstraints, DerAutoDerive, FromAny};
 use asn1_headers::error::Error;
 use asn1_headers::tag::Tag;
 use std::alloc::Global;
@@ -95,16 +95,8 @@ impl<'a> Any<'a> {
     }
 }
 
-impl Tagged for OctetString<'_> {
-    const TAG: Tag = Tag::OctetString;
-
-    ghost mark = { record { 0 = octet_string_number } };
-
-    fn its_tag() -> Tag
-        ensures { result ≡ record { 0 = octet_string_number } }
-    {
-        Self::TAG
-    }
+impl TaggedAs for OctetString<'_> {
+    type Number = TagNumber<4>;
 }
 
 impl<'a> FromAny<'a> for OctetString<'a> {
@@ -168,16 +160,8 @@ impl LawfulMember for OctetString<'_> {
     ghost same = { octet_string_equal };
 }
 
-impl Tagged for &[u8] {
-    const TAG: Tag = Tag::OctetString;
-
-    ghost mark = { record { 0 = octet_string_number } };
-
-    fn its_tag() -> Tag
-        ensures { result ≡ record { 0 = octet_string_number } }
-    {
-        Self::TAG
-    }
+impl TaggedAs for &[u8] {
+    type Number = TagNumber<4>;
 }
 
 impl<'a> FromAny<'a> for &'a [u8] {

@@ -1,12 +1,12 @@
 //! Optional values: an element that may be left out, told by its tag number.
-ghost use Rattle.std.specs.Prelude.{◌≡◌, ◌≢◌, ◌↔◌, [], Bool, false, IsTrue};
+ghost use Rattle.std.specs.Prelude.{◌≡◌, ◌≢◌, ◌↔◌, Bool, false, IsTrue};
 ghost use Rattle.x690.specs.Rules.{Rule, der_rule, ber_rule};
 ghost use Rattle.x690.specs.Faults.{Breach};
 ghost use Rattle.asn1_headers.specs.declared.error.Error.{Error};
 ghost use Rattle.asn1_headers.specs.Answers.{seen, TellsMemory};
 ghost use Rattle.asn1_rs.specs.Any.{IsTheElement, IsDefiniteOr};
 ghost use Rattle.asn1_headers.specs.Header.Reading.{refusal_of, HeaderGives};
-ghost use Rattle.asn1_rs.specs.Optional.{IsLeftOut, IsAtEnd, OptionGives, ReadsHeldBack, ReadsNoneBefore, ReadsNoneAtEnd, in_some, held_or, IfHeld, HeldRefuses, is_of_another_tag, IsWithoutRawTag, none_or, NoneOrConverted};
+ghost use Rattle.asn1_rs.specs.Optional.{IsLeftOut, IsAtEnd, OptionGives, ReadsHeldBack, ReadsNoneBefore, ReadsNoneAtEnd, in_some, held_or, is_of_another_tag, IsWithoutRawTag, none_or, NoneOrConverted, option_writing};
 ghost use Rattle.asn1_rs.specs.Traits.{BerGives, DerGives};
 
 use crate::asn1_types::any::Any;
@@ -49,10 +49,10 @@ fn held<'a, T, E>(answer: ParseResult<'a, T, E>) -> ParseResult<'a, Option<T>, E
 /// begins them. Nothing is consumed then. The class is not looked at, and octets that no header begins are refused as
 /// the type refuses them.
 impl<'a, T: FromBer<'a, E> + Tagged, E: From<Error>> FromBer<'a, E> for Option<T> {
-    ghost ber_gives = { OptionGives (IsLeftOut ber_rule (T.mark).0) T.ber_gives };
+    ghost ber_gives = { OptionGives (IsLeftOut ber_rule (T.TAG).0) T.ber_gives };
 
     fn from_ber(alloc: Global, bytes: &'a [u8]) -> ParseResult<'a, Option<T>, E> {
-        if is_left_out(T::its_tag(), bytes, header_by_ber(bytes)) {
+        if is_left_out(T::TAG, bytes, header_by_ber(bytes)) {
             return Ok((bytes, None));
         }
         held(T::from_ber(alloc, bytes))
@@ -61,10 +61,10 @@ impl<'a, T: FromBer<'a, E> + Tagged, E: From<Error>> FromBer<'a, E> for Option<T
 
 /// As by BER, where a header by DER of another tag number begins the octets.
 impl<'a, T: FromDer<'a, E> + Tagged, E: From<Error>> FromDer<'a, E> for Option<T> {
-    ghost der_gives = { OptionGives (IsLeftOut der_rule (T.mark).0) T.der_gives };
+    ghost der_gives = { OptionGives (IsLeftOut der_rule (T.TAG).0) T.der_gives };
 
     fn from_der(alloc: Global, bytes: &'a [u8]) -> ParseResult<'a, Option<T>, E> {
-        if is_left_out(T::its_tag(), bytes, header_by_der(bytes)) {
+        if is_left_out(T::TAG, bytes, header_by_der(bytes)) {
             return Ok((bytes, None));
         }
         held(T::from_der(alloc, bytes))
@@ -180,27 +180,7 @@ impl<T: DynTagged> DynTagged for Option<T> {
 
 /// An optional value is counted and written as what it holds. None has no octets. Its raw form is the DER form.
 impl<T: ToDer> ToDer for Option<T> {
-    ghost tells = { IfHeld T.tells };
-
-    ghost header = { held_or [] T.header };
-
-    ghost content = { held_or [] T.content };
-
-    ghost constructed = { held_or false T.constructed };
-
-    ghost count_refuses = { HeldRefuses T.count_refuses };
-
-    ghost header_refuses = { HeldRefuses T.header_refuses };
-
-    ghost content_refuses = { HeldRefuses T.content_refuses };
-
-    ghost refuses_first = { HeldRefuses T.refuses_first };
-
-    ghost count_allocates = { T.count_allocates };
-
-    ghost content_allocates = { T.content_allocates };
-
-    ghost write_allocates = { T.write_allocates };
+    ghost writing = { option_writing T.writing };
 
     fn to_der_len(&self) -> Result<usize, Error> {
         match self {
@@ -253,7 +233,7 @@ pub fn options_are_read_back_by_ber<'a, T, E>()
 where
     T: LawfulBer<'a, E> + LawfulTagged,
     E: From<Error>,
-    ensures { ReadsHeldBack (OptionGives (IsLeftOut ber_rule (T.mark).0) T.ber_gives)
+    ensures { ReadsHeldBack (OptionGives (IsLeftOut ber_rule (T.TAG).0) T.ber_gives)
         T.grammar.Form T.grammar.value (TellsMemory T.grammar.allocates E.from_gives) }
 {}
 
@@ -263,7 +243,7 @@ pub fn options_are_read_back_by_der<'a, T, E>()
 where
     T: LawfulDer<'a, E> + LawfulTagged,
     E: From<Error>,
-    ensures { ReadsHeldBack (OptionGives (IsLeftOut der_rule (T.mark).0) T.der_gives)
+    ensures { ReadsHeldBack (OptionGives (IsLeftOut der_rule (T.TAG).0) T.der_gives)
         T.grammar.Form T.grammar.value (TellsMemory T.grammar.allocates E.from_gives) }
 {}
 
@@ -274,9 +254,9 @@ where
     T: FromBer<'a, E> + Tagged,
     U: LawfulTagged,
     E: From<Error>,
-    ensures before { (U.mark).0 ≢ (T.mark).0 →
-        ReadsNoneBefore (OptionGives (IsLeftOut ber_rule (T.mark).0) T.ber_gives) U.grammar.Form }
-    ensures at_end { ReadsNoneAtEnd (OptionGives (IsLeftOut ber_rule (T.mark).0) T.ber_gives) }
+    ensures before { (U.TAG).0 ≢ (T.TAG).0 →
+        ReadsNoneBefore (OptionGives (IsLeftOut ber_rule (T.TAG).0) T.ber_gives) U.grammar.Form }
+    ensures at_end { ReadsNoneAtEnd (OptionGives (IsLeftOut ber_rule (T.TAG).0) T.ber_gives) }
 {}
 
 /// By DER None is read so.
@@ -285,7 +265,7 @@ where
     T: FromDer<'a, E> + Tagged,
     U: LawfulTagged,
     E: From<Error>,
-    ensures before { (U.mark).0 ≢ (T.mark).0 →
-        ReadsNoneBefore (OptionGives (IsLeftOut der_rule (T.mark).0) T.der_gives) U.grammar.Form }
-    ensures at_end { ReadsNoneAtEnd (OptionGives (IsLeftOut der_rule (T.mark).0) T.der_gives) }
+    ensures before { (U.TAG).0 ≢ (T.TAG).0 →
+        ReadsNoneBefore (OptionGives (IsLeftOut der_rule (T.TAG).0) T.der_gives) U.grammar.Form }
+    ensures at_end { ReadsNoneAtEnd (OptionGives (IsLeftOut der_rule (T.TAG).0) T.der_gives) }
 {}

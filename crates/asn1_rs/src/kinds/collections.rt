@@ -3,24 +3,25 @@
 //! A list or a set says what its items are ([`Listed`]), and how it goes over them ([`WritesInOrder`],
 //! [`WritesAscending`]); a set without repetitions also how it tells its members apart ([`HasMembers`],
 //! [`LawfulMembers`]).
-ghost use Rattle.std.specs.Prelude.{◌≡◌, ◌≢◌, ◌++◌, Bool, List, true, false, length, map, slice_index_or, [], ◌∷◌, MatchOption, IfOk, IfErr, IsErr};
+ghost use Rattle.std.specs.Prelude.{◌≡◌, ◌≢◌, Bool, List, true, false, length, map, [], ◌∷◌, MatchOption, IfOk, IfErr, IsErr};
 ghost use Rattle.std.specs.List.{All, flat_map};
 ghost use Rattle.std.proofs.Common.{◌∙◌, sym};
 ghost use Rattle.x690.specs.Collections.{AllDiffer};
 ghost use Rattle.asn1_headers.specs.declared.error.SerializeError.{SerializeError};
 ghost use Rattle.asn1_headers.specs.declared.error.Error.{Error};
 ghost use Rattle.asn1_headers.specs.Error.{tells_of_io};
-ghost use Rattle.asn1_rs.specs.Lists.{SomeRefuses, AreEncodings, list_grammar};
+ghost use Rattle.asn1_rs.specs.Lists.{SomeRefuses, ArePacked, list_grammar};
 ghost use Rattle.asn1_rs.specs.Set.{set_of, member_grammar, pairs_pass, set_content};
-ghost use Rattle.asn1_rs.specs.ToDer.{Refuses, RefusesCount, Either, IntoVector, IsWritable, some_allocates, RefusesAtOnce};
+ghost use Rattle.asn1_rs.specs.ToDer.{Refuses, IntoVector, RefusesAtOnce, whole_allocates, whole_octets, whole_refuses};
 ghost use Rattle.asn1_headers.specs.Writer.{Wrote};
-ghost use Rattle.asn1_rs.specs.Kinds.Writing.{Writing, list_writing, set_writing};
-ghost use Rattle.asn1_rs.specs.Laws.Forms.{der_strict};
-ghost use Rattle.asn1_rs.specs.Laws.InHand.{list_writable, members_writable};
-ghost use Rattle.asn1_rs.specs.Laws.Lists.{list_lawful, list_by_value, list_writes_form, list_has_form, list_takes_class, list_number, low_fits};
-ghost use Rattle.asn1_rs.specs.Laws.Set.{member_lawful, members_moved, members_are, members_have_form, set_by_value, set_writes_form, set_takes_class, set_number};
+ghost use Rattle.asn1_rs.specs.Kinds.Writing.{list_writing, set_writing};
+ghost use Rattle.asn1_rs.specs.Laws.Lists.{list_lawful, list_takes_class, list_number, low_fits};
+ghost use Rattle.asn1_rs.specs.Laws.Set.{member_lawful, set_takes_class, set_number};
+ghost use Rattle.asn1_rs.specs.Laws.Writing.{list_lawful_writing, member_lawful_writing};
+ghost use Rattle.asn1_rs.specs.Grammar.Item.{ber_words};
+ghost use Rattle.asn1_rs.specs.Laws.Words.{strict_ber};
 
-use crate::asn1_types::lists::{Encodings, Listed};
+use crate::asn1_types::lists::{Listed, PackedEncodings};
 use crate::asn1_types::set::write_ascending;
 use crate::header::{element_len, put_counted_header};
 use crate::kinds::writing::{LawfulTaggedBy, LawfulWriteBy, TakesClassBy, ToDerBy};
@@ -55,25 +56,25 @@ pub trait WritesInOrder: Listed {
     fn write_each<W: DerWrite>(&self, alloc: Global, w: &mut W) -> SerializeResult<usize>
     where
         Self::Item: ToDer,
-        ensures wrote { All Self.Item.tells (Self.items self.now) →
+        ensures wrote { All Self.Item.writing.tells (Self.items self.now) →
             Wrote
-            (flat_map (λ x. Self.Item.header x ++ Self.Item.content x) (Self.items self.now))
-            (W.told w.old) (W.told w.new) (W.failed w.old) (W.failed w.new) result }
-        ensures refused { All Self.Item.tells (Self.items self.now) →
+            (flat_map (whole_octets Self.Item.writing) (Self.items self.now))
+            (W.state w.old) (W.state w.new) result }
+        ensures refused { All Self.Item.writing.tells (Self.items self.now) →
             IfErr result
             (Refuses
-            (some_allocates Self.Item.write_allocates Self.Item.count_allocates
-            Self.Item.content_allocates)
+            (whole_allocates Self.Item.writing)
             (length
-            (flat_map (λ x. Self.Item.header x ++ Self.Item.content x)
+            (flat_map (whole_octets Self.Item.writing)
             (Self.items self.now)))
-            (SomeRefuses (λ x. Either (Self.Item.header_refuses x) (Self.Item.content_refuses x))
+            (SomeRefuses (whole_refuses Self.Item.writing)
             (Self.items self.now))) }
-        ensures accepted { (e : SerializeError) → All Self.Item.tells (Self.items self.now) →
-            SomeRefuses (λ x. Either (Self.Item.header_refuses x) (Self.Item.content_refuses x))
+        ensures accepted { (e : SerializeError) →
+            All Self.Item.writing.tells (Self.items self.now) →
+            SomeRefuses (whole_refuses Self.Item.writing)
             (Self.items self.now) e → IsErr result }
-        ensures uncounted { (e : Error) → All Self.Item.tells (Self.items self.now) →
-            SomeRefuses Self.Item.count_refuses (Self.items self.now) e → IsErr result };
+        ensures uncounted { (e : Error) → All Self.Item.writing.tells (Self.items self.now) →
+            SomeRefuses Self.Item.writing.count_refuses (Self.items self.now) e → IsErr result };
 }
 
 /// A set that is written as the encodings of its items, in ascending order (X.690 11.6).
@@ -86,34 +87,34 @@ pub trait WritesAscending: Listed {
             (λ item. Self.items self.now ≡ item.now ∷ []) };
 
     /// The encoding of each item.
-    fn encode_each(&self, alloc: Global) -> SerializeResult<Encodings>
+    fn encode_each(&self, alloc: Global) -> SerializeResult<PackedEncodings>
     where
         Self::Item: ToDer,
-        ensures each { All Self.Item.tells (Self.items self.now) →
+        ensures each { All Self.Item.writing.tells (Self.items self.now) →
             IfOk result
-            (AreEncodings
-            (map (λ x. Self.Item.header x ++ Self.Item.content x) (Self.items self.now))) }
-        ensures refused { All Self.Item.tells (Self.items self.now) →
+            (ArePacked
+            (map (whole_octets Self.Item.writing) (Self.items self.now))) }
+        ensures refused { All Self.Item.writing.tells (Self.items self.now) →
             IfErr result (Refuses true
             (length
-            (flat_map (λ x. Self.Item.header x ++ Self.Item.content x)
+            (flat_map (whole_octets Self.Item.writing)
             (Self.items self.now)))
             (SomeRefuses
-            (λ x. IntoVector (Either (Self.Item.header_refuses x) (Self.Item.content_refuses x)))
+            (λ x. IntoVector (whole_refuses Self.Item.writing x))
             (Self.items self.now))) }
-        ensures accepted { (e : SerializeError) → All Self.Item.tells (Self.items self.now) →
+        ensures accepted { (e : SerializeError) →
+            All Self.Item.writing.tells (Self.items self.now) →
             SomeRefuses
-            (λ x. IntoVector (Either (Self.Item.header_refuses x) (Self.Item.content_refuses x)))
+            (λ x. IntoVector (whole_refuses Self.Item.writing x))
             (Self.items self.now) e → IsErr result }
-        ensures uncounted { (e : Error) → All Self.Item.tells (Self.items self.now) →
-            SomeRefuses Self.Item.count_refuses (Self.items self.now) e → IsErr result }
+        ensures uncounted { (e : Error) → All Self.Item.writing.tells (Self.items self.now) →
+            SomeRefuses Self.Item.writing.count_refuses (Self.items self.now) e → IsErr result }
         ensures at_once { (x : Self.Item) (xs : List Self.Item) (e : SerializeError) →
-            Self.items self.now ≡ x ∷ xs → All Self.Item.tells (x ∷ xs) →
-            Self.Item.header_refuses x e → IfErr result (IntoVector (RefusesAtOnce
-            (some_allocates Self.Item.write_allocates Self.Item.count_allocates
-            Self.Item.content_allocates)
-            (length (Self.Item.header x ++ Self.Item.content x))
-            (Either (Self.Item.header_refuses x) (Self.Item.content_refuses x)))) }
+            Self.items self.now ≡ x ∷ xs → All Self.Item.writing.tells (x ∷ xs) →
+            Self.Item.writing.header_refuses x e → IfErr result (IntoVector (RefusesAtOnce
+            (whole_allocates Self.Item.writing)
+            (length (whole_octets Self.Item.writing x))
+            (whole_refuses Self.Item.writing x))) }
         ensures memory { IfErr result (λ e. tells_of_io e ≡ false) };
 }
 
@@ -122,22 +123,10 @@ where
     L: WritesInOrder + Listed<Item = T>,
     T: ToDer,
 {
-    ghost writing = { list_writing (L.mark).0 L.items (record {
-      tells = T.tells;
-      header = T.header;
-      content = T.content;
-      constructed = T.constructed;
-      count_refuses = T.count_refuses;
-      header_refuses = T.header_refuses;
-      content_refuses = T.content_refuses;
-      refuses_first = T.refuses_first;
-      count_allocates = T.count_allocates;
-      content_allocates = T.content_allocates;
-      write_allocates = T.write_allocates;
-    }) };
+    ghost writing = { list_writing (L.TAG).0 L.items T.writing };
 
     fn element_count(&self) -> Result<usize, Error> {
-        element_len(L::its_tag().0, ToDerBy::<SequenceKind>::content_count(self))
+        element_len(L::TAG.0, ToDerBy::<SequenceKind>::content_count(self))
     }
 
     fn content_count(&self) -> Result<usize, Error> {
@@ -152,7 +141,7 @@ where
         put_counted_header(
             0,
             true,
-            L::its_tag().0,
+            L::TAG.0,
             ToDerBy::<SequenceKind>::content_count(self),
             w,
         )
@@ -169,24 +158,25 @@ where
     L: WritesAscending + Listed<Item = T>,
     T: ToDer,
     W: DerWrite,
-    ensures wrote { All T.tells (L.items set.now) →
-        Wrote (set_content (λ x. T.header x ++ T.content x) (L.items set.now)) (W.told w.old)
-        (W.told w.new) (W.failed w.old) (W.failed w.new) result }
-    ensures refused { All T.tells (L.items set.now) →
+    ensures wrote { All T.writing.tells (L.items set.now) →
+        Wrote (set_content (whole_octets T.writing) (L.items set.now)) (W.state w.old)
+        (W.state w.new) result }
+    ensures refused { All T.writing.tells (L.items set.now) →
         IfErr result
-        (Refuses true (length (set_content (λ x. T.header x ++ T.content x) (L.items set.now)))
-        (SomeRefuses (λ x. IntoVector (Either (T.header_refuses x) (T.content_refuses x)))
+        (Refuses true (length (set_content (whole_octets T.writing) (L.items set.now)))
+        (SomeRefuses (λ x. IntoVector (whole_refuses T.writing x))
         (L.items set.now))) }
-    ensures accepted { (e : SerializeError) → All T.tells (L.items set.now) →
-        SomeRefuses (λ x. IntoVector (Either (T.header_refuses x) (T.content_refuses x)))
+    ensures accepted { (e : SerializeError) → All T.writing.tells (L.items set.now) →
+        SomeRefuses (λ x. IntoVector (whole_refuses T.writing x))
         (L.items set.now) e → IsErr result }
-    ensures uncounted { (e : Error) → All T.tells (L.items set.now) →
-        SomeRefuses T.count_refuses (L.items set.now) e → IsErr result }
+    ensures uncounted { (e : Error) → All T.writing.tells (L.items set.now) →
+        SomeRefuses T.writing.count_refuses (L.items set.now) e → IsErr result }
     ensures at_once { (x : T) (xs : List T) (e : SerializeError) → L.items set.now ≡ x ∷ xs →
-        All T.tells (x ∷ xs) → T.header_refuses x e → IfErr result (IntoVector (RefusesAtOnce
-        (some_allocates T.write_allocates T.count_allocates T.content_allocates)
-        (length (T.header x ++ T.content x))
-        (Either (T.header_refuses x) (T.content_refuses x)))) }
+        All T.writing.tells (x ∷ xs) → T.writing.header_refuses x e →
+        IfErr result (IntoVector (RefusesAtOnce
+        (whole_allocates T.writing)
+        (length (whole_octets T.writing x))
+        (whole_refuses T.writing x))) }
 {
     let encodings = set.encode_each(alloc)?;
     write_ascending(&encodings, alloc, w)
@@ -197,19 +187,7 @@ where
     L: WritesAscending + Listed<Item = T>,
     T: ToDer,
 {
-    ghost writing = { set_writing L.items (record {
-      tells = T.tells;
-      header = T.header;
-      content = T.content;
-      constructed = T.constructed;
-      count_refuses = T.count_refuses;
-      header_refuses = T.header_refuses;
-      content_refuses = T.content_refuses;
-      refuses_first = T.refuses_first;
-      count_allocates = T.count_allocates;
-      content_allocates = T.content_allocates;
-      write_allocates = T.write_allocates;
-    }) };
+    ghost writing = { set_writing L.items T.writing };
 
     fn element_count(&self) -> Result<usize, Error> {
         element_len(Tag::Set.0, ToDerBy::<SetKind<M>>::content_count(self))
@@ -254,7 +232,7 @@ pub trait HasMembers: Listed {
         ensures { pairs_pass test (Self.items self.now) ≡ true };
 
     /// It has the tag number of sets.
-    ghost is_set: { (Self.mark).0 ≡ 17 };
+    ghost is_set: { (Self.TAG).0 ≡ 17 };
 }
 
 /// Members that the set tells apart have different values.
@@ -266,11 +244,11 @@ pub trait LawfulMembers<T: LawfulItem>: HasMembers + Listed<Item = T> {
 }
 
 impl<L: Listed<Item = T>, T: Grammar> GrammarBy<SequenceKind> for L {
-    ghost grammar_by_kind = { list_grammar (L.mark).0 L.items T.grammar };
+    ghost grammar_by_kind = { list_grammar (L.TAG).0 L.items T.grammar };
 }
 
 impl<L: Listed<Item = T>, T: LawfulItem> LawfulItemBy<SequenceKind> for L {
-    ghost lawful_by_kind = { list_lawful (L.mark).0 L.small L.items T.grammar T.lawful_item };
+    ghost lawful_by_kind = { list_lawful (L.TAG).0 L.small L.items T.grammar T.lawful_item };
 
     fn value_by_kind(&self) {
         self.state_each::<OfValue>();
@@ -295,24 +273,8 @@ where
     L: HasKind<Kind = SequenceKind> + WritesInOrder + Listed<Item = T>,
     T: LawfulWrite,
 {
-    ghost tells_each = { λ v k d h. T.tells_all (slice_index_or (L.items v) k d) };
-
-    ghost written_by_value = { λ x y. list_by_value (L.mark).0 T.grammar.value T.constructed
-        T.header T.content T.by_value (L.items x) (L.items y) };
-
-    ghost written_form = { λ v.
-        list_writes_form (L.mark).0 T.grammar.value T.grammar.Form T.count_refuses T.header_refuses
-        T.content_refuses T.constructed T.header T.content T.form (L.items v) };
-
-    ghost written_der = { λ v.
-        list_has_form (L.mark).0 T.grammar.value T.grammar.IsDer T.grammar.Form T.header T.content
-        (der_strict T.grammar.value T.grammar.IsDer T.grammar.Form
-        (λ x. IsWritable (T.count_refuses x) (T.header_refuses x) (T.content_refuses x))
-        T.constructed T.header T.content T.form T.der_form T.lawful_item.form_fits)
-        (L.items v) };
-
-    ghost writable_der = { λ v. list_writable T.grammar.value T.grammar.IsDer T.count_refuses
-        T.header_refuses T.content_refuses T.der_writable (L.items v) };
+    ghost lawful_writing_by_kind = { list_lawful_writing (L.TAG).0 L.items T.grammar T.writing
+        T.lawful_item T.lawful_writing };
 }
 
 impl<L, T> LawfulTaggedBy<SequenceKind> for L
@@ -320,9 +282,9 @@ where
     L: HasKind<Kind = SequenceKind> + Listed<Item = T>,
     T: LawfulItem,
 {
-    ghost number_by_kind = { list_number T.grammar.Form (L.mark).0 };
+    ghost number_by_kind = { list_number T.grammar.Form (L.TAG).0 };
 
-    ghost number_is_small = { low_fits (L.mark).0 L.small };
+    ghost number_is_small = { low_fits (L.TAG).0 L.small };
 }
 
 impl<L, T, const C: u8> TakesClassBy<SequenceKind, C> for L
@@ -330,8 +292,8 @@ where
     L: HasKind<Kind = SequenceKind> + Listed<Item = T>,
     T: LawfulItem,
 {
-    ghost takes_this_class = { list_takes_class T.grammar.Form (L.mark).0 T.grammar.Ber
-        T.grammar.Check T.lawful_item.strict_ber T.lawful_item.form_check C };
+    ghost takes_this_class = { list_takes_class T.grammar.Form (L.TAG).0 (ber_words T.grammar)
+        T.grammar.Check (strict_ber T.grammar T.lawful_item) T.lawful_item.form_check C };
 }
 
 impl<L, T> LawfulWriteBy<SetKind<Once>> for L
@@ -339,29 +301,9 @@ where
     L: HasKind<Kind = SetKind<Once>> + WritesAscending + LawfulMembers<T> + Listed<Item = T>,
     T: LawfulWrite,
 {
-    ghost tells_each = { λ s k d h. T.tells_all (slice_index_or (L.items s) k d) };
-
-    ghost written_by_value = { λ x y e.
-        set_by_value T.grammar.value T.constructed T.header T.content T.by_value (L.items x)
-        (L.items y)
-        (members_moved L.test T.grammar.value L.apart (L.items x) (L.items y) e) };
-
-    ghost written_form = { λ s i c f.
-        set_writes_form T.grammar.value T.grammar.Form T.count_refuses T.header_refuses
-        T.content_refuses T.constructed T.header T.content set_of AllDiffer T.form (L.items s) c _
-        f.1
-        (members_are L.test T.grammar.value L.apart (L.items s) f.1.items f.1.once f.1.are) i
-        f.0 };
-
-    ghost written_der = { λ s. members_have_form T.grammar.value T.grammar.IsDer T.grammar.Form
-        T.header T.content
-        (der_strict T.grammar.value T.grammar.IsDer T.grammar.Form
-        (λ x. IsWritable (T.count_refuses x) (T.header_refuses x) (T.content_refuses x))
-        T.constructed T.header T.content T.form T.der_form T.lawful_item.form_fits) L.test L.apart
-        (L.items s) };
-
-    ghost writable_der = { λ s. members_writable T.grammar.value T.grammar.IsDer T.count_refuses
-        T.header_refuses T.content_refuses T.der_writable L.test L.apart (L.items s) };
+    ghost lawful_writing_by_kind = { member_lawful_writing L.test L.items T.grammar T.writing
+        L.apart
+        T.lawful_item T.lawful_writing };
 }
 
 impl<L, T> LawfulTaggedBy<SetKind<Once>> for L
@@ -369,9 +311,10 @@ where
     L: HasKind<Kind = SetKind<Once>> + HasMembers + Listed<Item = T>,
     T: LawfulItem,
 {
-    ghost number_by_kind = { λ v i c f. set_number set_of AllDiffer T.grammar.Form v i c f ∙ sym L.is_set };
+    ghost number_by_kind = { λ v i c f. set_number set_of AllDiffer T.grammar.Form v i c f ∙ sym
+        L.is_set };
 
-    ghost number_is_small = { low_fits (L.mark).0 L.small };
+    ghost number_is_small = { low_fits (L.TAG).0 L.small };
 }
 
 impl<L, T, const C: u8> TakesClassBy<SetKind<Once>, C> for L
@@ -379,6 +322,6 @@ where
     L: HasKind<Kind = SetKind<Once>> + HasMembers + Listed<Item = T>,
     T: LawfulItem,
 {
-    ghost takes_this_class = { set_takes_class set_of AllDiffer T.grammar.Form T.grammar.Ber
-        T.grammar.Check T.lawful_item.strict_ber T.lawful_item.form_check C };
+    ghost takes_this_class = { set_takes_class set_of AllDiffer T.grammar.Form (ber_words T.grammar)
+        T.grammar.Check (strict_ber T.grammar T.lawful_item) T.lawful_item.form_check C };
 }

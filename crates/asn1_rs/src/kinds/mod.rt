@@ -67,32 +67,43 @@ pub trait TaggedBy<K> {
     /// `TAG`.
     const NUMBER: Tag;
 
-    /// `mark`.
-    ghost mark_by_kind: { Tag };
-
-    /// `its_tag`.
-    fn tag_by_kind() -> Tag
-        ensures { result ≡ mark_by_kind };
+    /// The constant, as contracts name it.
+    ghost NUMBER: { Tag };
 }
 
 impl<H: Holds<Held = T>, T: Tagged> TaggedBy<HolderKind> for H {
     const NUMBER: Tag = T::TAG;
 
-    ghost mark_by_kind = { T.mark };
+    ghost NUMBER = { T.TAG };
+}
 
-    fn tag_by_kind() -> Tag {
-        T::its_tag()
-    }
+/// A type that has the tag number of another one, as each type with a lifetime.
+///
+/// So it has [`Tagged`].
+pub trait TaggedAs: HasKind<Kind = ElementKind> {
+    /// The other type: a [`TagNumber`], where none has the number.
+    type Number: Tagged;
+}
+
+/// A tag number, as a type.
+pub struct TagNumber<const N: u32>;
+
+impl<const N: u32> Tagged for TagNumber<N> {
+    const TAG: Tag = Tag(N);
+
+    ghost TAG = { record { 0 = N } };
+}
+
+impl<T: TaggedAs> TaggedBy<ElementKind> for T {
+    const NUMBER: Tag = T::Number::TAG;
+
+    ghost NUMBER = { T.Number.TAG };
 }
 
 impl<T: HasKind + TaggedBy<T::Kind>> Tagged for T {
     const TAG: Tag = T::NUMBER;
 
-    ghost mark = { T.mark_by_kind };
-
-    fn its_tag() -> Tag {
-        T::tag_by_kind()
-    }
+    ghost TAG = { T.NUMBER };
 }
 
 /// A type that is read as one element, checked and converted: its values, and that what it says of them is lawful.
@@ -177,12 +188,6 @@ impl<'a, T: LawfulConversion<'a>> LawfulBody<'a, Error> for T {
     ghost body_exact = { T.converts.exact };
 
     ghost body_spares = { λ none. other_error T.any_gives (T.converts.spares none) };
-
-    ghost form_body = { T.lawful.form_body };
-
-    ghost ber_split = { λ o v w. w };
-
-    ghost ber_join = { λ o v w. w };
 }
 
 impl<T: LawfulElement> LawfulCheck for T {

@@ -3,12 +3,13 @@
 ghost use Rattle.std.specs.Prelude.{◌≡◌, ◌++◌, ◌<◌, ◌^◌, ℕ, false, List, length, IfOk, IfErr, IsErr};
 ghost use Rattle.asn1_rs.specs.Grammar.{FormNumber, FormTakes};
 ghost use Rattle.asn1_headers.specs.Writer.{Wrote, MayRefuse};
-ghost use Rattle.asn1_rs.specs.ToDer.{MayRefuseCount, Refuses, RefusesCount, Either, IsRefusedAtOnce, RefusedAtOnce, IsWritable, some_allocates};
+ghost use Rattle.asn1_rs.specs.ToDer.{Writing, MayRefuseCount, Refuses, RefusesCount, IsRefusedAtOnce, RefusedAtOnce, held_writing, whole_allocates, whole_octets, whole_refuses};
 ghost use Rattle.asn1_headers.specs.declared.error.SerializeError.{SerializeError};
 ghost use Rattle.asn1_headers.specs.declared.error.Error.{Error};
-ghost use Rattle.asn1_rs.specs.Kinds.Writing.{Writing, universal_header, universal_writing, IsWrittenElement};
-ghost use Rattle.asn1_rs.specs.Grammar.Form.{WritesByValue, WritesForm, HasForm};
-ghost use Rattle.asn1_rs.specs.Laws.Forms.{nothing_refused, universal_by_value, universal_writes_form, universal_has_form, universal_number, universal_number_fits};
+ghost use Rattle.asn1_rs.specs.Kinds.Writing.{universal_header, universal_writing, IsWrittenElement};
+ghost use Rattle.asn1_rs.specs.Laws.Forms.{universal_number, universal_number_fits, universal_lawful_writing};
+ghost use Rattle.asn1_rs.specs.Grammar.Item.{IsLawfulWriting};
+ghost use Rattle.asn1_rs.specs.Laws.Writing.{held_lawful_writing};
 
 use crate::header::{element_len, put_counted_header};
 use crate::kinds::{ElementKind, HasKind, HolderKind, Holds, LawfulElement};
@@ -34,8 +35,7 @@ pub trait WritesElement: LawfulElement + Tagged {
 
     /// Appends the contents octets, and answers their number.
     fn put_octets<W: DerWrite>(&self, w: &mut W) -> SerializeResult<usize>
-        ensures wrote { Wrote (octets self.now) (W.told w.old) (W.told w.new) (W.failed w.old)
-            (W.failed w.new) result }
+        ensures wrote { Wrote (octets self.now) (W.state w.old) (W.state w.new) result }
         ensures refused { IfErr result (MayRefuse false (length (octets self.now))) };
 
     /// Appends the whole element, and answers its length.
@@ -43,19 +43,19 @@ pub trait WritesElement: LawfulElement + Tagged {
     /// A type whose contents octets are few can make one piece of header and contents octets.
     #[inline(always)]
     fn put_element<W: DerWrite>(&self, w: &mut W) -> SerializeResult<usize>
-        ensures wrote { Wrote (universal_header (Self.mark).0 (octets self.now) ++ octets self.now)
-            (W.told w.old) (W.told w.new) (W.failed w.old) (W.failed w.new) result }
+        ensures wrote { Wrote (universal_header (Self.TAG).0 (octets self.now) ++ octets self.now)
+            (W.state w.old) (W.state w.new) result }
         ensures refused { IfErr result (MayRefuse false
-            (length (universal_header (Self.mark).0 (octets self.now) ++ octets self.now))) }
+            (length (universal_header (Self.TAG).0 (octets self.now) ++ octets self.now))) }
     {
-        let tag = Self::its_tag();
+        let tag = Self::TAG;
         let before = put_counted_header(0, tag.is_container(), tag.0, self.count_octets(), w)?;
         let after = self.put_octets(w)?;
         add_written(before, after)
     }
 
     /// They follow from the value, and are its strict content where it has one; another class changes nothing.
-    ghost written: { IsWrittenElement Self.element (Self.mark).0 octets };
+    ghost written: { IsWrittenElement Self.element (Self.TAG).0 octets };
 }
 
 /// A value that holds its contents octets, and is written as one element of them.
@@ -70,7 +70,7 @@ pub trait WritesOctets: LawfulElement + Tagged {
         ensures { result.now ≡ held self.now };
 
     /// They follow from the value, and are its strict content where it has one; another class changes nothing.
-    ghost held_are: { IsWrittenElement Self.element (Self.mark).0 held };
+    ghost held_are: { IsWrittenElement Self.element (Self.TAG).0 held };
 }
 
 impl<T: WritesOctets> WritesElement for T {
@@ -95,11 +95,11 @@ pub trait ToDerBy<K>: DynTagged {
     /// `to_der_len`.
     fn element_count(&self) -> Result<usize, Error>
         ensures count { writing.tells self.now →
-            IfOk result (λ n. n ≡ length (writing.header self.now ++ writing.content self.now)) }
+            IfOk result (λ n. n ≡ length (whole_octets writing self.now)) }
         ensures refused { writing.tells self.now →
             IfErr result
             (RefusesCount writing.count_allocates
-            (length (writing.header self.now ++ writing.content self.now))
+            (length (whole_octets writing self.now))
             (writing.count_refuses self.now)) }
         ensures accepted { (e : Error) → writing.tells self.now →
             writing.count_refuses self.now e → IsErr result };
@@ -121,28 +121,24 @@ pub trait ToDerBy<K>: DynTagged {
     /// `write_der_header`.
     fn put_header<W: DerWrite>(&self, alloc: Global, w: &mut W) -> SerializeResult<usize>
         ensures wrote { writing.tells self.now →
-            Wrote (writing.header self.now) (W.told w.old) (W.told w.new) (W.failed w.old)
-            (W.failed w.new) result }
+            Wrote (writing.header self.now) (W.state w.old) (W.state w.new) result }
         ensures refused { writing.tells self.now →
             IfErr result
             (Refuses writing.count_allocates
-            (length (writing.header self.now ++ writing.content self.now))
+            (length (whole_octets writing self.now))
             (writing.header_refuses self.now)) }
         ensures at_once { (e : SerializeError) → writing.tells self.now →
             writing.header_refuses self.now e →
             IsRefusedAtOnce writing.count_allocates
-            (length (writing.header self.now ++ writing.content self.now))
-            (writing.header_refuses self.now) (W.told w.old) (W.told w.new) (W.failed w.old)
-            (W.failed w.new) result }
+            (length (whole_octets writing self.now))
+            (writing.header_refuses self.now) (W.state w.old) (W.state w.new) result }
         ensures first { (e : SerializeError) → writing.refuses_first self.now e →
-            RefusedAtOnce e (W.told w.old) (W.told w.new) (W.failed w.old)
-            (W.failed w.new) result };
+            RefusedAtOnce e (W.state w.old) (W.state w.new) result };
 
     /// `write_der_content`.
     fn put_content<W: DerWrite>(&self, alloc: Global, w: &mut W) -> SerializeResult<usize>
         ensures wrote { writing.tells self.now →
-            Wrote (writing.content self.now) (W.told w.old) (W.told w.new) (W.failed w.old)
-            (W.failed w.new) result }
+            Wrote (writing.content self.now) (W.state w.old) (W.state w.new) result }
         ensures refused { writing.tells self.now →
             IfErr result (Refuses writing.content_allocates
             (length (writing.content self.now)) (writing.content_refuses self.now)) }
@@ -151,35 +147,31 @@ pub trait ToDerBy<K>: DynTagged {
         ensures uncounted { (e : Error) → writing.tells self.now →
             writing.count_refuses self.now e → IsErr result }
         ensures first { (e : SerializeError) → writing.refuses_first self.now e →
-            RefusedAtOnce e (W.told w.old) (W.told w.new) (W.failed w.old)
-            (W.failed w.new) result };
+            RefusedAtOnce e (W.state w.old) (W.state w.new) result };
 
     /// `write_der`: header and contents octets, where the kind has no better way.
     #[inline(always)]
     fn put_whole<W: DerWrite>(&self, alloc: Global, w: &mut W) -> SerializeResult<usize>
         ensures wrote { writing.tells self.now →
-            Wrote (writing.header self.now ++ writing.content self.now)
-            (W.told w.old) (W.told w.new) (W.failed w.old) (W.failed w.new) result }
+            Wrote (whole_octets writing self.now)
+            (W.state w.old) (W.state w.new) result }
         ensures refused { writing.tells self.now →
             IfErr result
-            (Refuses (some_allocates writing.write_allocates writing.count_allocates
-            writing.content_allocates)
-            (length (writing.header self.now ++ writing.content self.now))
-            (Either (writing.header_refuses self.now) (writing.content_refuses self.now))) }
+            (Refuses (whole_allocates writing)
+            (length (whole_octets writing self.now))
+            (whole_refuses writing self.now)) }
         ensures accepted { (e : SerializeError) → writing.tells self.now →
             writing.content_refuses self.now e → IsErr result }
         ensures uncounted { (e : Error) → writing.tells self.now →
             writing.count_refuses self.now e → IsErr result }
         ensures at_once { (e : SerializeError) → writing.tells self.now →
             writing.header_refuses self.now e →
-            IsRefusedAtOnce (some_allocates writing.write_allocates writing.count_allocates
-            writing.content_allocates)
-            (length (writing.header self.now ++ writing.content self.now))
-            (Either (writing.header_refuses self.now) (writing.content_refuses self.now))
-            (W.told w.old) (W.told w.new) (W.failed w.old) (W.failed w.new) result }
+            IsRefusedAtOnce (whole_allocates writing)
+            (length (whole_octets writing self.now))
+            (whole_refuses writing self.now)
+            (W.state w.old) (W.state w.new) result }
         ensures first { (e : SerializeError) → writing.refuses_first self.now e →
-            RefusedAtOnce e (W.told w.old) (W.told w.new) (W.failed w.old)
-            (W.failed w.new) result }
+            RefusedAtOnce e (W.state w.old) (W.state w.new) result }
     {
         let before = self.put_header(alloc, w)?;
         let after = self.put_content(alloc, w)?;
@@ -188,10 +180,10 @@ pub trait ToDerBy<K>: DynTagged {
 }
 
 impl<T: WritesElement> ToDerBy<ElementKind> for T {
-    ghost writing = { universal_writing (T.mark).0 T.octets };
+    ghost writing = { universal_writing (T.TAG).0 T.octets };
 
     fn element_count(&self) -> Result<usize, Error> {
-        element_len(T::its_tag().0, self.count_octets())
+        element_len(T::TAG.0, self.count_octets())
     }
 
     fn content_count(&self) -> Result<usize, Error> {
@@ -199,12 +191,12 @@ impl<T: WritesElement> ToDerBy<ElementKind> for T {
     }
 
     fn is_constructed(&self) -> bool {
-        T::its_tag().is_container()
+        T::TAG.is_container()
     }
 
     #[inline(always)]
     fn put_header<W: DerWrite>(&self, _alloc: Global, w: &mut W) -> SerializeResult<usize> {
-        let tag = T::its_tag();
+        let tag = T::TAG;
         put_counted_header(0, tag.is_container(), tag.0, self.count_octets(), w)
     }
 
@@ -221,19 +213,7 @@ impl<T: WritesElement> ToDerBy<ElementKind> for T {
 
 /// What holds an item is written as that. Its raw form is the DER form.
 impl<H: Holds<Held = T>, T: ToDer + Tagged> ToDerBy<HolderKind> for H {
-    ghost writing = { record {
-      tells = λ x. T.tells (H.held x);
-      header = λ x. T.header (H.held x);
-      content = λ x. T.content (H.held x);
-      constructed = λ x. T.constructed (H.held x);
-      count_refuses = λ x. T.count_refuses (H.held x);
-      header_refuses = λ x. T.header_refuses (H.held x);
-      content_refuses = λ x. T.content_refuses (H.held x);
-      refuses_first = λ x. T.refuses_first (H.held x);
-      count_allocates = T.count_allocates;
-      content_allocates = T.content_allocates;
-      write_allocates = T.write_allocates;
-    } };
+    ghost writing = { held_writing H.held T.writing };
 
     fn element_count(&self) -> Result<usize, Error> {
         T::to_der_len(self.held())
@@ -262,27 +242,7 @@ impl<H: Holds<Held = T>, T: ToDer + Tagged> ToDerBy<HolderKind> for H {
 }
 
 impl<T: HasKind + ToDerBy<T::Kind>> ToDer for T {
-    ghost tells = { T.writing.tells };
-
-    ghost header = { T.writing.header };
-
-    ghost content = { T.writing.content };
-
-    ghost constructed = { T.writing.constructed };
-
-    ghost count_refuses = { T.writing.count_refuses };
-
-    ghost header_refuses = { T.writing.header_refuses };
-
-    ghost content_refuses = { T.writing.content_refuses };
-
-    ghost refuses_first = { T.writing.refuses_first };
-
-    ghost count_allocates = { T.writing.count_allocates };
-
-    ghost content_allocates = { T.writing.content_allocates };
-
-    ghost write_allocates = { T.writing.write_allocates };
+    ghost writing = { T.writing };
 
     fn to_der_len(&self) -> Result<usize, Error> {
         self.element_count()
@@ -314,76 +274,37 @@ impl<T: HasKind + ToDerBy<T::Kind>> ToDer for T {
 
 /// The laws of what is written, for a type of this kind.
 pub trait LawfulWriteBy<K>: ToDer + LawfulItem {
-    /// `tells_all`.
-    ghost tells_each: { (x : Self) → Self.tells x };
-
-    /// `by_value`.
-    ghost written_by_value: { WritesByValue Self.grammar.value Self.constructed Self.header
-        Self.content };
-
-    /// `form`.
-    ghost written_form: { WritesForm Self.grammar.value Self.grammar.Form
-        (λ x. IsWritable (Self.count_refuses x) (Self.header_refuses x) (Self.content_refuses x))
-        Self.constructed Self.header Self.content };
-
-    /// `der_form`.
-    ghost written_der: { HasForm Self.grammar.value Self.grammar.IsDer Self.grammar.Form
-        Self.content };
-
-    /// `der_writable`.
-    ghost writable_der: { (x : Self) → Self.grammar.IsDer (Self.grammar.value x) →
-        IsWritable (Self.count_refuses x) (Self.header_refuses x) (Self.content_refuses x) };
+    /// `lawful_writing`.
+    ghost lawful_writing_by_kind: { IsLawfulWriting Self.grammar Self.writing };
 }
 
 impl<T: WritesElement> LawfulWriteBy<ElementKind> for T {
-    ghost tells_each = { λ x. tt };
-
-    ghost written_by_value = { universal_by_value T.element (T.mark).0 T.octets T.written };
-
-    ghost written_form = { universal_writes_form T.element (T.mark).0 T.octets T.written };
-
-    ghost written_der = { universal_has_form T.element (T.mark).0 T.octets T.written };
-
-    ghost writable_der = { λ x d. nothing_refused };
+    ghost lawful_writing_by_kind = { universal_lawful_writing T.element
+        (T.TAG).0 T.octets T.written };
 }
 
 impl<H: Holds<Held = T>, T: LawfulWrite + Tagged> LawfulWriteBy<HolderKind> for H {
-    ghost tells_each = { λ x. T.tells_all (H.held x) };
-
-    ghost written_by_value = { λ x y. T.by_value (H.held x) (H.held y) };
-
-    ghost written_form = { λ x. T.form (H.held x) };
-
-    ghost written_der = { λ x. T.der_form (H.held x) };
-
-    ghost writable_der = { λ x. T.der_writable (H.held x) };
+    ghost lawful_writing_by_kind = { held_lawful_writing H.held T.grammar T.writing
+        T.lawful_writing };
 }
 
 impl<T: HasKind + LawfulWriteBy<T::Kind>> LawfulWrite for T {
-    ghost tells_all = { T.tells_each };
-
-    ghost by_value = { T.written_by_value };
-
-    ghost form = { T.written_form };
-
-    ghost der_form = { T.written_der };
-
-    ghost der_writable = { T.writable_der };
+    ghost lawful_writing = { T.lawful_writing_by_kind };
 }
 
 /// The laws of the tag number, for a type of this kind.
 pub trait LawfulTaggedBy<K>: LawfulItem + Tagged {
     /// `tag_number`.
-    ghost number_by_kind: { FormNumber Self.grammar.Form (Self.mark).0 };
+    ghost number_by_kind: { FormNumber Self.grammar.Form (Self.TAG).0 };
 
     /// `number_fits`.
-    ghost number_is_small: { (Self.mark).0 < 2 ^ 32 };
+    ghost number_is_small: { (Self.TAG).0 < 2 ^ 32 };
 }
 
 impl<T: WritesElement> LawfulTaggedBy<ElementKind> for T {
-    ghost number_by_kind = { universal_number T.element (T.mark).0 T.octets T.written };
+    ghost number_by_kind = { universal_number T.element (T.TAG).0 T.octets T.written };
 
-    ghost number_is_small = { universal_number_fits T.element (T.mark).0 T.octets T.written };
+    ghost number_is_small = { universal_number_fits T.element (T.TAG).0 T.octets T.written };
 }
 
 impl<H: Holds<Held = T>, T: LawfulTagged> LawfulTaggedBy<HolderKind> for H {

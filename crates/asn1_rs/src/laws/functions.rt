@@ -1,7 +1,7 @@
 //! Laws that a caller names at a concrete type, as `reader_is_exact_by_der::<u64, Error>()`.
 //!
 //! Their contracts are the statements, and nothing runs in them: a caller calls one where it needs the law.
-ghost use Rattle.std.specs.Prelude.{◌≡◌, ◌++◌, ◌<◌, ◌^◌, ◌↔◌, ℕ, Bool, false, List, length, Result, IfErr};
+ghost use Rattle.std.specs.Prelude.{◌≡◌, ◌++◌, ◌<◌, ◌^◌, ◌↔◌, ℕ, false, List, length, Result, IfErr};
 ghost use Rattle.x690.specs.Octets.{IsOctets};
 ghost use Rattle.x690.specs.Identifiers.{Identifier, IsCutIdentifier};
 ghost use Rattle.x690.specs.Lengths.{LengthForm};
@@ -28,7 +28,8 @@ ghost use Rattle.asn1_rs.specs.Kept.{sequence_leaf, set_leaf};
 ghost use Rattle.asn1_rs.specs.EndOfContent.{end_leaf};
 ghost use Rattle.asn1_rs.specs.OctetString.{octet_string_leaf, slice_leaf};
 ghost use Rattle.asn1_rs.specs.BitString.{bit_string_leaf};
-ghost use Rattle.asn1_rs.specs.ToDer.{IsWritable};
+ghost use Rattle.asn1_rs.specs.ToDer.{IsWritable, whole_octets};
+ghost use Rattle.asn1_rs.specs.Grammar.Item.{ber_words};
 
 use crate::laws::{LawfulBer, LawfulDer, LawfulItem, LawfulWrite};
 use asn1_headers::error::Error;
@@ -42,7 +43,7 @@ use asn1_headers::error::Error;
 pub fn reader_is_exact_by_ber<'a, T: LawfulBer<'a, E>, E: From<Error>>()
     ensures exact { (input : List ℕ) (answer : Result (List ℕ × T) (Refusal E)) → IsOctets input →
         T.ber_gives input answer →
-        Exactly EndsWithin T.grammar.Ber T.grammar.value
+        Exactly EndsWithin (ber_words T.grammar) T.grammar.value
         (TellsMemory T.grammar.allocates E.from_gives) input answer }
     ensures back { (input : List ℕ) (answer : Result (List ℕ × T) (Refusal E)) (v : T.grammar.Value)
         (w rest : List ℕ) → IsOctets input → T.ber_gives input answer → IsStrict T.grammar.Form v w
@@ -50,7 +51,7 @@ pub fn reader_is_exact_by_ber<'a, T: LawfulBer<'a, E>, E: From<Error>>()
         → ReadsBack T.grammar.value (TellsMemory T.grammar.allocates E.from_gives) v rest answer }
     ensures beginning { (input : List ℕ) (answer : Result (List ℕ × T) (Refusal E))
         (more word rest : List ℕ) (v : T.grammar.Value) → IsOctets input → T.ber_gives input answer
-        → T.grammar.Ber word v → input ++ more ≡ word ++ rest → length input < length word
+        → (ber_words T.grammar) word v → input ++ more ≡ word ++ rest → length input < length word
         → RefusedBeforeEnd (TellsMemory T.grammar.allocates E.from_gives)
         (EndsWithin input) more answer }
     ensures spares { (input : List ℕ) (answer : Result (List ℕ × T) (Refusal E)) →
@@ -84,16 +85,16 @@ pub fn reader_is_exact_by_der<'a, T: LawfulDer<'a, E>, E: From<Error>>()
 /// One word begins an input, by BER and by DER, with one value and one rest. The strict encoding of a value is a word
 /// by BER and by DER with this value; no other value has it, and it begins no other strict encoding.
 pub fn words_and_values_are_unique<T: LawfulItem>()
-    ensures ber_value { (o : List ℕ) (v w : T.grammar.Value) → T.grammar.Ber o v →
-        T.grammar.Ber o w → v ≡ w }
+    ensures ber_value { (o : List ℕ) (v w : T.grammar.Value) → (ber_words T.grammar) o v →
+        (ber_words T.grammar) o w → v ≡ w }
     ensures der_value { (o : List ℕ) (v w : T.grammar.Value) → T.grammar.Der o v →
         T.grammar.Der o w → v ≡ w }
-    ensures ber_front { (x y r s : List ℕ) (v w : T.grammar.Value) → T.grammar.Ber x v →
-        T.grammar.Ber y w → x ++ r ≡ y ++ s → (x ≡ y) × (v ≡ w) × (r ≡ s) }
+    ensures ber_front { (x y r s : List ℕ) (v w : T.grammar.Value) → (ber_words T.grammar) x v →
+        (ber_words T.grammar) y w → x ++ r ≡ y ++ s → (x ≡ y) × (v ≡ w) × (r ≡ s) }
     ensures der_front { (x y r s : List ℕ) (v w : T.grammar.Value) → T.grammar.Der x v →
         T.grammar.Der y w → x ++ r ≡ y ++ s → (x ≡ y) × (v ≡ w) × (r ≡ s) }
     ensures strict_word { (v : T.grammar.Value) (o : List ℕ) → IsStrict T.grammar.Form v o →
-        T.grammar.Ber o v × T.grammar.Der o v }
+        (ber_words T.grammar) o v × T.grammar.Der o v }
     ensures strict { (v : T.grammar.Value) (o p : List ℕ) → IsStrict T.grammar.Form v o →
         IsStrict T.grammar.Form v p → o ≡ p }
     ensures apart { (o p r s : List ℕ) (v w : T.grammar.Value) → IsStrict T.grammar.Form v o →
@@ -102,21 +103,22 @@ pub fn words_and_values_are_unique<T: LawfulItem>()
 
 /// What a lawful type writes and counts of a value in DER form is its strict encoding.
 ///
-/// `T.header` and `T.content` are what the contracts of [`ToDer`](crate::ToDer) say that `write_der`, `to_der_len` and
-/// `der_content_len` append and count, and `T.constructed` what `der_constructed` answers.
+/// `T.writing.header` and `T.writing.content` are what the contracts of [`ToDer`](crate::ToDer) say that `write_der`, `to_der_len` and
+/// `der_content_len` append and count, and `T.writing.constructed` what `der_constructed` answers.
 pub fn counts_are_of_the_strict_encoding<T: LawfulWrite>()
-    ensures tells { (x : T) → T.tells x }
+    ensures tells { (x : T) → T.writing.tells x }
     ensures strict { (x : T) → T.grammar.IsDer (T.grammar.value x)
-        → length (T.header x ++ T.content x) < 2 ^ 64
-        → ∥ IsStrict T.grammar.Form (T.grammar.value x) (T.header x ++ T.content x) ∥₁ }
+        → length (whole_octets T.writing x) < 2 ^ 64
+        → ∥ IsStrict T.grammar.Form (T.grammar.value x) (whole_octets T.writing x) ∥₁ }
     ensures writable { (x : T) → T.grammar.IsDer (T.grammar.value x)
-        → IsWritable (T.count_refuses x) (T.header_refuses x) (T.content_refuses x) }
+        → IsWritable T.writing x }
     ensures written { (x : T) (o : List ℕ) → IsStrict T.grammar.Form (T.grammar.value x) o
-        → IsWritable (T.count_refuses x) (T.header_refuses x) (T.content_refuses x)
-        × (T.header x ++ T.content x ≡ o) }
+        → IsWritable T.writing x
+        × (whole_octets T.writing x ≡ o) }
     ensures counted { (x : T) (o : List ℕ) (s : IsStrict T.grammar.Form (T.grammar.value x) o)
-        → (length (T.header x ++ T.content x) ≡ length o)
-        × (length (T.content x) ≡ length s.content) × (T.constructed x ≡ s.id.constructed) }
+        → (length (whole_octets T.writing x) ≡ length o)
+        × (length (T.writing.content x) ≡ length s.content) ×
+        (T.writing.constructed x ≡ s.id.constructed) }
 {}
 
 /// A front that a value was read from was its strict encoding exactly where writing the value gives the same octets.
@@ -127,10 +129,10 @@ pub fn counts_are_of_the_strict_encoding<T: LawfulWrite>()
 pub fn strict_fronts_are_written_again<T: LawfulWrite>()
     ensures again { (x : T) (front : List ℕ) → T.grammar.IsDer (T.grammar.value x) →
         length front < 2 ^ 64 → ∥ IsStrict T.grammar.Form (T.grammar.value x) front ∥₁
-        ↔ (front ≡ T.header x ++ T.content x) }
+        ↔ (front ≡ whole_octets T.writing x) }
     ensures of_parts { (x : T) (id : Identifier) (content front : List ℕ) →
         T.grammar.Form (T.grammar.value x) id content → length front < 2 ^ 64 →
-        IsStrict T.grammar.Form (T.grammar.value x) front ↔ (front ≡ T.header x ++ T.content x) }
+        IsStrict T.grammar.Form (T.grammar.value x) front ↔ (front ≡ whole_octets T.writing x) }
 {}
 
 /// Octets that are shorter than a header or an element, and that more of them make begin with it, are refused: with

@@ -7,14 +7,14 @@
 pub(crate) mod functions;
 pub(crate) mod in_hand;
 
-ghost use Rattle.std.specs.Prelude.{ℕ, Bool, List, ◌≡◌, ◌++◌, ◌<◌, ◌^◌, ◌↔◌, ◌||◌, false, length, Some, Result, Ok, Err, IsTrue, IfOk, IfErr, MatchResult};
+ghost use Rattle.std.specs.Prelude.{ℕ, Bool, List, ◌≡◌, ◌++◌, ◌<◌, ◌^◌, ◌↔◌, false, length, Some, Result, Ok, Err, IsTrue, IfOk, IfErr, MatchResult};
 ghost use Rattle.std.specs.Borrow.{Bor};
 ghost use Rattle.std.specs.Io.KnownBytes.{Appends};
 ghost use Rattle.x690.specs.Octets.{IsOctets};
 ghost use Rattle.x690.specs.Identifiers.{Identifier, IsIdentifier, IsCutIdentifier};
 ghost use Rattle.x690.specs.Lengths.{LengthForm};
 ghost use Rattle.x690.specs.Rules.{Rule};
-ghost use Rattle.x690.specs.Elements.{Parts, ArePossible, IsHeader, IsDerElement};
+ghost use Rattle.x690.specs.Elements.{Parts, IsHeader, IsDerElement};
 ghost use Rattle.x690.specs.Faults.{Breach, DerElementFault};
 ghost use Rattle.x690.specs.Nested.{IsElement, ElementFault};
 ghost use Rattle.asn1_headers.specs.declared.error.Err.{Err as Refusal};
@@ -23,15 +23,14 @@ ghost use Rattle.asn1_headers.specs.declared.error.Error.{Error};
 ghost use Rattle.asn1_headers.specs.declared.error.Error.TheVariants as errors;
 ghost use Rattle.asn1_headers.specs.declared.error.SerializeError.TheVariants as serialize_errors;
 ghost use Rattle.asn1_headers.specs.Answers.{seen, Exactly, TellsMemory, IsOther, ReadsBack, TellsBeginning};
-ghost use Rattle.asn1_rs.specs.Grammar.Form.{IsStrict, WritesByValue, WritesForm, HasForm};
+ghost use Rattle.asn1_rs.specs.Grammar.Form.{IsStrict};
 ghost use Rattle.asn1_headers.specs.Ber.{max_depth, EndsWithin, BerContentGives};
-ghost use Rattle.asn1_rs.specs.Grammar.{NoCheck, BerWord, DerWord, TakesBody, FormBodies, FormTakes, FormNumber};
+ghost use Rattle.asn1_rs.specs.Grammar.{NoCheck, DerWord, TakesBody, FormTakes, FormNumber};
 ghost use Rattle.asn1_rs.specs.Traits.{PassesAll, BerGives, DerGives};
-ghost use Rattle.asn1_rs.specs.Grammar.Item.{ItemGrammar, IsLawfulItem};
+ghost use Rattle.asn1_rs.specs.Grammar.Item.{ItemGrammar, IsLawfulItem, IsLawfulWriting, ber_words};
 ghost use Rattle.asn1_rs.specs.Kinds.{IsExactCheck};
 ghost use Rattle.asn1_headers.specs.Error.{HeldIn};
 ghost use Rattle.asn1_headers.specs.Writer.{Wrote, MayRefuse, IsMemoryOrLength};
-ghost use Rattle.asn1_rs.specs.ToDer.{IsWritable, some_allocates};
 ghost use Rattle.asn1_headers.specs.declared.header.Header.{Header};
 ghost use Rattle.asn1_rs.specs.declared.asn1_types.any.Any.{Any};
 ghost use Rattle.asn1_headers.specs.Header.Reading.{refusal_of, der_breach, ber_breach, HeaderGives, HeaderLasts};
@@ -39,6 +38,7 @@ ghost use Rattle.asn1_headers.specs.Header.{raw_tag_of};
 ghost use Rattle.asn1_rs.specs.Any.{parts_of, IsTheElement, IsDefiniteOr, DerElementGives, BerElementGives, RefusalLasts, ElementLasts};
 ghost use Rattle.asn1_headers.specs.Content.{ContentStays};
 ghost use Rattle.asn1_rs.specs.Laws.Readers.{element_exact, element_spares, der_breach_spares, ber_breach_spares, der_elements, ber_elements, passes_all, all_pass};
+ghost use Rattle.asn1_rs.specs.ToDer.{whole_allocates, whole_octets};
 
 use crate::to_der::ToDer;
 use crate::traits::{CheckDerConstraints, DerAutoDerive, FromAny, FromBer, FromDer, Tagged};
@@ -74,17 +74,6 @@ pub trait LawfulBody<'a, E: From<Error>>: FromAny<'a, Error = E> + LawfulItem {
     /// Where the type does not allocate, no refusal of the conversion reports out of memory.
     ghost body_spares: { Self.grammar.allocates ≡ false → (any : Any) (e : E) →
         Self.any_gives any (Err e) → IsOther E.from_gives e };
-
-    /// The strict parts of a value have it as their body.
-    ghost form_body: { FormBodies Self.grammar.Form Self.grammar.Body };
-
-    /// Each word by BER is an element by BER that has a body with this value.
-    ghost ber_split: { (o : List ℕ) (v : Self.grammar.Value) →
-        Self.grammar.Ber o v → BerWord Self.grammar.Body o v };
-
-    /// And each such element is a word by BER.
-    ghost ber_join: { (o : List ℕ) (v : Self.grammar.Value) →
-        BerWord Self.grammar.Body o v → Self.grammar.Ber o v };
 }
 
 /// The check of an element is exact.
@@ -109,7 +98,7 @@ pub trait LawfulBer<'a, E: From<Error>>: FromBer<'a, E> + LawfulItem {
     /// What the reader may answer is exact by the grammar by BER.
     ghost ber_exact: { (input : List ℕ) (answer : Result (List ℕ × Self) (Refusal E)) →
         IsOctets input → Self.ber_gives input answer →
-        Exactly EndsWithin Self.grammar.Ber Self.grammar.value
+        Exactly EndsWithin (ber_words Self.grammar) Self.grammar.value
         (TellsMemory Self.grammar.allocates E.from_gives) input answer };
 
     /// Where the type does not allocate, no refusal reports out of memory.
@@ -134,24 +123,10 @@ pub trait LawfulDer<'a, E: From<Error>>: FromDer<'a, E> + LawfulItem {
 
 /// What is written follows from the value, and is its strict encoding where it has one.
 pub trait LawfulWrite: ToDer + LawfulItem {
-    /// The ghost members of [`ToDer`] tell what is written, for each item.
-    ghost tells_all: { (x : Self) → Self.tells x };
-
-    /// Items of one value have one header, one content and one constructed bit.
-    ghost by_value: { WritesByValue Self.grammar.value Self.constructed Self.header Self.content };
-
-    /// A value that has strict parts is written as its strict encoding, and can be written.
-    ghost form: { WritesForm Self.grammar.value Self.grammar.Form
-        (λ x. IsWritable (Self.count_refuses x) (Self.header_refuses x) (Self.content_refuses x))
-        Self.constructed Self.header Self.content };
-
-    /// A value in DER form whose contents octets fit in memory has strict parts.
-    ghost der_form: { HasForm Self.grammar.value Self.grammar.IsDer Self.grammar.Form
-        Self.content };
-
-    /// A value in DER form has no refusal of its own: what refuses it is its length, its writer, or want of memory.
-    ghost der_writable: { (x : Self) → Self.grammar.IsDer (Self.grammar.value x) →
-        IsWritable (Self.count_refuses x) (Self.header_refuses x) (Self.content_refuses x) };
+    /// What is written is told of each item, and follows from its value. A value that has strict parts is written as its
+    /// strict encoding. One in DER form whose contents octets fit in memory has such parts, and no refusal of its own:
+    /// what refuses it is its length, its writer, or want of memory.
+    ghost lawful_writing: { IsLawfulWriting Self.grammar Self.writing };
 }
 
 /// The strict parts have the type's tag number.
@@ -159,10 +134,10 @@ pub trait LawfulWrite: ToDer + LawfulItem {
 /// So an optional value of the type is told by its tag number.
 pub trait LawfulTagged: LawfulItem + Tagged {
     /// Strict parts have the tag number of the type.
-    ghost tag_number: { FormNumber Self.grammar.Form (Self.mark).0 };
+    ghost tag_number: { FormNumber Self.grammar.Form (Self.TAG).0 };
 
     /// And an element can have it.
-    ghost number_fits: { (Self.mark).0 < 2 ^ 32 };
+    ghost number_fits: { (Self.TAG).0 < 2 ^ 32 };
 }
 
 /// The strict parts pass check and body with class `K` in place of their own.
@@ -204,8 +179,9 @@ where
     ghost ber_exact = { λ input answer octets.
         element_exact (IsElement max_depth) (ElementFault max_depth) EndsWithin ber_elements
         ber_breach PassesAll T.any_gives E.from_gives NoCheck T.grammar.Body
-        T.grammar.value T.grammar.allocates T.grammar.Ber passes_all T.body_exact T.ber_split
-        T.ber_join input answer };
+        T.grammar.value T.grammar.allocates (ber_words T.grammar) passes_all T.body_exact
+        (λ o v w. w)
+        (λ o v w. w) input answer };
 
     ghost ber_spares = { λ none.
         element_spares (IsElement max_depth) (ElementFault max_depth) ber_breach
@@ -220,7 +196,7 @@ pub fn read_ber<'a, T: LawfulBer<'a, E>, E: From<Error>>(
     alloc: Global,
     input: &'a [u8],
 ) -> ParseResult<'a, T, E>
-    ensures exact { Exactly EndsWithin T.grammar.Ber T.grammar.value
+    ensures exact { Exactly EndsWithin (ber_words T.grammar) T.grammar.value
         (TellsMemory T.grammar.allocates E.from_gives) input.now (seen result) }
     ensures back { (v : T.grammar.Value) (w rest : List ℕ) → IsStrict T.grammar.Form v w →
         input.now ≡ w ++ rest → ReadsBack T.grammar.value
@@ -262,23 +238,23 @@ pub fn write_strict<T: LawfulWrite, W: DerWrite>(
     w: &mut W,
 ) -> SerializeResult<usize>
     ensures headline { T.grammar.IsDer (T.grammar.value x.now) →
-        length (T.header x.now ++ T.content x.now) < 2 ^ 64 → W.failed w.new ≡ false →
-        ∥ IsStrict T.grammar.Form (T.grammar.value x.now) (T.header x.now ++ T.content x.now) ∥₁ ×
+        length (whole_octets T.writing x.now) < 2 ^ 64 → (W.state w.new).failed ≡ false →
+        ∥ IsStrict T.grammar.Form (T.grammar.value x.now) (whole_octets T.writing x.now) ∥₁ ×
         MatchResult result
-        (λ n. Appends (W.told w.old) (W.told w.new) (T.header x.now ++ T.content x.now) ×
-        (n ≡ length (T.header x.now ++ T.content x.now)))
+        (λ n. Appends (W.state w.old).told (W.state w.new).told (whole_octets T.writing x.now) ×
+        (n ≡ length (whole_octets T.writing x.now)))
         (λ e. (e ≡ serialize_errors.OutOfMemory) ×
-        IsTrue (some_allocates T.write_allocates T.count_allocates T.content_allocates)) }
+        IsTrue (whole_allocates T.writing)) }
     ensures wrote { (o : List ℕ) → IsStrict T.grammar.Form (T.grammar.value x.now) o →
-        Wrote o (W.told w.old) (W.told w.new) (W.failed w.old) (W.failed w.new) result }
-    ensures plain { Wrote (T.header x.now ++ T.content x.now)
-        (W.told w.old) (W.told w.new) (W.failed w.old) (W.failed w.new) result }
+        Wrote o (W.state w.old) (W.state w.new) result }
+    ensures plain { Wrote (whole_octets T.writing x.now)
+        (W.state w.old) (W.state w.new) result }
     ensures refused { (o : List ℕ) → IsStrict T.grammar.Form (T.grammar.value x.now) o →
         IfErr result (MayRefuse
-        (some_allocates T.write_allocates T.count_allocates T.content_allocates) (length o)) }
+        (whole_allocates T.writing) (length o)) }
     ensures der { T.grammar.IsDer (T.grammar.value x.now) → IfErr result (MayRefuse
-        (some_allocates T.write_allocates T.count_allocates T.content_allocates)
-        (length (T.header x.now ++ T.content x.now))) }
+        (whole_allocates T.writing)
+        (length (whole_octets T.writing x.now))) }
     ensures one { (o p : List ℕ) → IsStrict T.grammar.Form (T.grammar.value x.now) o →
         IsStrict T.grammar.Form (T.grammar.value x.now) p → o ≡ p }
     ensures apart { (o p r s : List ℕ) (v w : T.grammar.Value) →
@@ -294,17 +270,17 @@ pub fn write_strict<T: LawfulWrite, W: DerWrite>(
 /// `usize`. For other values too the vector has the octets of header and contents, as [`ToDer::to_der_vec`] gives them.
 pub fn strict_vec<T: LawfulWrite>(alloc: Global, x: &T) -> SerializeResult<Vec<u8>>
     ensures headline { T.grammar.IsDer (T.grammar.value x.now) →
-        length (T.header x.now ++ T.content x.now) < 2 ^ 64 →
-        ∥ IsStrict T.grammar.Form (T.grammar.value x.now) (T.header x.now ++ T.content x.now) ∥₁ ×
+        length (whole_octets T.writing x.now) < 2 ^ 64 →
+        ∥ IsStrict T.grammar.Form (T.grammar.value x.now) (whole_octets T.writing x.now) ∥₁ ×
         MatchResult result
-        (λ octets. octets.items ≡ T.header x.now ++ T.content x.now)
+        (λ octets. octets.items ≡ whole_octets T.writing x.now)
         (λ e. e ≡ serialize_errors.OutOfMemory) }
     ensures strict { (o : List ℕ) → IsStrict T.grammar.Form (T.grammar.value x.now) o →
         MatchResult result (λ octets. octets.items ≡ o) (IsMemoryOrLength o) }
     ensures der { T.grammar.IsDer (T.grammar.value x.now) → MatchResult result
-        (λ octets. octets.items ≡ T.header x.now ++ T.content x.now)
-        (IsMemoryOrLength (T.header x.now ++ T.content x.now)) }
-    ensures plain { IfOk result (λ octets. octets.items ≡ T.header x.now ++ T.content x.now) }
+        (λ octets. octets.items ≡ whole_octets T.writing x.now)
+        (IsMemoryOrLength (whole_octets T.writing x.now)) }
+    ensures plain { IfOk result (λ octets. octets.items ≡ whole_octets T.writing x.now) }
     ensures one { (o p : List ℕ) → IsStrict T.grammar.Form (T.grammar.value x.now) o →
         IsStrict T.grammar.Form (T.grammar.value x.now) p → o ≡ p }
     ensures apart { (o p r s : List ℕ) (v w : T.grammar.Value) →

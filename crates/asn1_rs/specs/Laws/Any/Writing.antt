@@ -11,32 +11,38 @@ use Rattle.asn1_headers.specs.Class.{class_number}
 use Rattle.asn1_headers.specs.Length.{form_of}
 use Rattle.asn1_headers.specs.Header.Writing.{strict_header}
 use Rattle.asn1_rs.specs.declared.asn1_types.any.Any.{Any}
-use Rattle.asn1_rs.specs.Any.Value.{ElementValue, element_of, ElementForm}
-use Rattle.asn1_rs.specs.Any.Writing.{content_of, element_header}
+use Rattle.asn1_rs.specs.Kinds.{item_grammar}
+use Rattle.asn1_rs.specs.Any.Value.{any_element, ElementValue, element_of}
+use Rattle.asn1_rs.specs.Any.Writing.{content_of, element_header, element_writing}
 use Rattle.asn1_headers.specs.Header.{identifier_of, is_constructed_of, is_same_identifier}
-use Rattle.asn1_rs.specs.Laws.Forms.{NothingRefused, nothing_refused}
-use Rattle.asn1_rs.specs.Grammar.Form.{header_of, WritesByValue, WritesForm, HasForm}
+use Rattle.asn1_rs.specs.Laws.Forms.{nothing_refused}
+use Rattle.asn1_rs.specs.Grammar.Form.{header_of}
+use Rattle.asn1_rs.specs.Grammar.Item.{IsLawfulWriting}
+use Rattle.asn1_rs.specs.ToDer.{IsWritable}
 
 header_by : (i j : Identifier) (c d : List ℕ) → i ≡ j → c ≡ d → header_of i c ≡ header_of j d
 header_by i j c d p q = ap (λ (z : Identifier). header_of z c) p ∙ ap (λ (z : List ℕ). header_of j z) q
 
-pub element_by_value : WritesByValue element_of (λ any. is_constructed_of any.header) element_header content_of
-element_by_value x y e = (
-  ap (λ (z : ElementValue). z.id.constructed) e,
-  header_by (identifier_of x.header) (identifier_of y.header) x.content.now y.content.now (ap (λ (z : ElementValue). z.id) e) (ap (λ (z : ElementValue). z.content) e),
-  ap (λ (z : ElementValue). z.content) e,
-)
-
-pub element_writes_form : WritesForm element_of ElementForm (λ _. NothingRefused) (λ any. is_constructed_of any.header) element_header content_of
-element_writes_form x i c f = (
-  nothing_refused,
-  ap (λ (z : ElementValue). z.id.constructed) f.is,
-  ap (λ (z : ElementValue). z.content) f.is,
-  header_by (identifier_of x.header) i x.content.now c (ap (λ (z : ElementValue). z.id) f.is) (ap (λ (z : ElementValue). z.content) f.is),
-)
-
-pub element_has_form : HasForm element_of (λ v. ElementForm v v.id v.content) ElementForm content_of
-element_has_form = λ x d l. ∣ (identifier_of x.header, d) ∣₁
+pub element_lawful_writing : IsLawfulWriting (item_grammar any_element) element_writing
+element_lawful_writing = record {
+  tells_all = λ x. tt;
+  by_value = λ x y e. (
+    ap (λ (z : ElementValue). z.id.constructed) e,
+    header_by (identifier_of x.header) (identifier_of y.header) x.content.now y.content.now (ap (λ (z : ElementValue). z.id) e) (ap (λ (z : ElementValue). z.content) e),
+    ap (λ (z : ElementValue). z.content) e,
+  );
+  form = λ x i c f. (
+    free x,
+    ap (λ (z : ElementValue). z.id.constructed) f.is,
+    ap (λ (z : ElementValue). z.content) f.is,
+    header_by (identifier_of x.header) i x.content.now c (ap (λ (z : ElementValue). z.id) f.is) (ap (λ (z : ElementValue). z.content) f.is),
+  );
+  der_form = λ x d l. ∣ (identifier_of x.header, d) ∣₁;
+  der_writable = λ x d. free x;
+}
+  where
+    free : (x : Any) → IsWritable element_writing x
+    free = nothing_refused element_header content_of (λ any. is_constructed_of any.header)
 
 -- the strict header where the header counts the contents octets
 pub counted_header : (a : Any) → form_of a.header.length ≡ definite (length a.content.now) → strict_header a.header ≡ element_header a

@@ -17,26 +17,26 @@ use Rattle.asn1_headers.specs.declared.error.Err.{Err as Refusal}
 use Rattle.asn1_headers.specs.declared.error.Err.TheVariants.{Incomplete as cut, Error as refused, Failure as failed}
 use Rattle.asn1_headers.specs.declared.error.Error.{Error}
 use Rattle.asn1_headers.specs.declared.error.Error.TheVariants as errors
-use Rattle.asn1_headers.specs.declared.error.SerializeError.{SerializeError}
 use Rattle.asn1_headers.specs.Answers.{Front, Exactly, TellsMemory, IsOther}
 use Rattle.asn1_rs.specs.Any.{parts_of, AnyGives}
 use Rattle.asn1_headers.specs.Ber.{max_depth}
 use Rattle.asn1_rs.specs.Checks.{CheckGives, IsCheck, has_number, is_constructed, ◌before◌}
 use Rattle.asn1_headers.specs.Error.{Converted, FlattenedTo, HeldIn}
 use Rattle.asn1_rs.specs.Grammar.{IsOneBody, TakesBody, FormChecks, FormBodies, FormTakes, FormNumber, NoCheck, DerWord, Checks, made}
-use Rattle.asn1_rs.specs.Grammar.Form.{IsOneForm, IsOneValue, FitsElement, HasValues, IsStrict, WritesByValue, WritesForm, header_of}
-use Rattle.asn1_rs.specs.Grammar.Item.{ItemGrammar, IsLawfulItem}
+use Rattle.asn1_rs.specs.Grammar.Form.{IsOneForm, IsOneValue, FitsElement, HasValues, IsStrict, WritesByValue, WritesForm, header_of, HasForm}
+use Rattle.asn1_rs.specs.Grammar.Item.{ItemGrammar, IsLawfulItem, ber_words}
 use Rattle.asn1_headers.specs.Header.Reading.{der_breach, refusal_of}
 use Rattle.asn1_rs.specs.Kinds.{IsExactCheck}
 use Rattle.asn1_rs.specs.Laws.Any.{refusal_lasts, element_lasts}
 use Rattle.asn1_rs.specs.Laws.Checks.{before_is, has_number_is, is_constructed_is, is_counted_is}
-use Rattle.asn1_rs.specs.Laws.Forms.{strict_written}
-use Rattle.asn1_rs.specs.Laws.Readers.{AreElements, none_now, front_more, speaks_fault, fault_spares, speaks_now, converts_itself, der_breach_spares, der_elements, ber_elements}
-use Rattle.asn1_rs.specs.Laws.Tagged.{has_class_is, number_is, own_class, of_class_none, check_spares}
-use Rattle.asn1_rs.specs.Laws.Words.{word_one, strict_element, one_strict, strict_apart, strict_ber_word, strict_der_word}
+use Rattle.asn1_rs.specs.Laws.Forms.{strict_written, both_by_value, whole_writable}
+use Rattle.asn1_rs.specs.Laws.Readers.{AreElements, none_now, front_more, speaks_fault, fault_spares, speaks_now, converts_itself, der_breach_spares, der_elements}
+use Rattle.asn1_rs.specs.Laws.Tagged.{has_class_is, number_is, own_class, check_spares, under_tag}
+use Rattle.asn1_rs.specs.Laws.Words.{word_one, strict_element, one_strict, strict_apart, strict_der_word, ber_one, ber_values, strict_ber}
 use Rattle.asn1_rs.specs.Tagged.{has_class, number_of}
 use Rattle.asn1_rs.specs.Tagged.Explicit.{ExplicitBody, ExplicitCheck, ExplicitForm, ExplicitTakes, ExplicitGives, ExplicitCheckGives, explicit_grammar, explicit_identifier, tag_checks}
-use Rattle.asn1_rs.specs.ToDer.{HasNone, Either, IsWritable, WrittenRefusal, OfClass}
+use Rattle.asn1_rs.specs.ToDer.{Writing, whole_octets, whole_refuses}
+use Rattle.asn1_rs.specs.Tagged.Writing.{explicit_under, tag_writing}
 
 pub tag_checks_are : (class number : ℕ) → IsCheck (tag_checks class number)
 tag_checks_are class number = before_is (has_number number) (is_constructed before has_class class) (has_number_is number) (before_is is_constructed (has_class class) is_constructed_is (has_class_is class))
@@ -99,53 +99,46 @@ module _ {V : Type 0} (class number : ℕ) where
 
 pub explicit_lawful : {S T : Type 0} (class number : ℕ) (inner : T → S) (G : ItemGrammar S) → IsLawfulItem G → IsLawfulItem (explicit_grammar class number inner G)
 explicit_lawful class number inner G l = record {
-  ber_values = λ o v w. explicit_values class number G.Ber G.IsValue l.ber_values w.0 v w.3;
   der_values = λ o v w. explicit_values class number G.Der G.IsValue l.der_values w.0 v w.3;
-  body_values = λ p v o b. explicit_values class number G.Ber G.IsValue l.ber_values p v b;
+  body_values = λ p v o b. explicit_values class number (ber_words G) G.IsValue (ber_values G l) p v b;
   form_values = explicit_form_values class number G.Form G.IsValue l.form_values;
-  ber_one = word_one (IsElement max_depth) NoCheck (ExplicitBody class number G.Ber) ber_elements.one (explicit_one_body class number G.Ber l.ber_one);
   der_one = word_one IsDerElement NoCheck (ExplicitBody class number G.Der) der_elements.one (explicit_one_body class number G.Der l.der_one);
-  body_one = explicit_one_body class number G.Ber l.ber_one;
+  body_one = explicit_one_body class number (ber_words G) (ber_one G l);
   one_form = explicit_one_form class number G.Form l.one_form;
   one_value = explicit_one_value class number G.Form l.one_value;
   form_fits = explicit_fits class number G.Form;
   form_check = explicit_form_check class number G.Form (IsElement max_depth) (strict_nested class number G.Form) G.Check l.form_check;
   form_der = λ v i c f. (f.is_class, f.is_number, explicit_form_values class number G.Form G.IsDer l.form_der v i c f);
-  strict_ber = strict_ber_word (ExplicitForm class number G.Form) (ExplicitBody class number G.Ber) (explicit_form_body class number G.Form G.Ber l.strict_ber);
+  form_body = explicit_form_body class number G.Form (ber_words G) (strict_ber G l);
   strict_der = strict_der_word (ExplicitForm class number G.Form) NoCheck (ExplicitBody class number G.Der) (λ v i c f. tt) (explicit_form_body class number G.Form G.Der l.strict_der);
 }
 
-both_same : {a b c d : List ℕ} → a ≡ b → c ≡ d → a ++ c ≡ b ++ d
-both_same p q = cc
-
-either_none : (one other : SerializeError → Type 0) → HasNone one → HasNone other → HasNone (Either one other)
-either_none one other a b e (inl o) = a e o
-either_none one other a b e (inr o) = b e o
-
 -- what is written
-module _ {S V : Type 0} (class number : ℕ) (value : S → V) (constructed : S → Bool) (header content : S → List ℕ) where
-  pub explicit_by_value : WritesByValue value constructed header content → (x y : S) → value x ≡ value y →
-      (true ≡ true) × (header_octets class true number (length (header x ++ content x)) ≡ header_octets class true number (length (header y ++ content y))) × (header x ++ content x ≡ header y ++ content y)
+module _ {S T V : Type 0} (class number : ℕ) (inner : T → S) (value : S → V) (w : Writing S) where
+  abbrev Under : Writing T
+  Under = tag_writing class number inner (explicit_under w) w
+
+  pub explicit_by_value : WritesByValue value w → WritesByValue (λ t. value (inner t)) Under
   explicit_by_value law x y e =
-      let l = law x y e in
-      let h : header x ++ content x ≡ header y ++ content y = both_same l.1 l.2 in
+      let l = law (inner x) (inner y) e in
+      let h = both_by_value l.1 l.2 in
       (refl, ap (λ (c : List ℕ). header_octets class true number (length c)) h, h)
 
   module _ (Form : V → Identifier → List ℕ → Type 0) where
-    pub explicit_writes_form : (counting : S → Error → Type 0) (heading filling : S → SerializeError → Type 0) → WritesForm value Form (λ x. IsWritable (counting x) (heading x) (filling x)) constructed header content → (x : S) (i : Identifier) (c : List ℕ) → ExplicitForm class number Form (value x) i c →
-        IsWritable (counting x) (OfClass class (WrittenRefusal (counting x))) (OfClass class (Either (heading x) (filling x))) × (true ≡ i.constructed) × (header x ++ content x ≡ c) × (header_octets class true number (length (header x ++ content x)) ≡ header_of i c)
-    explicit_writes_form counting heading filling law x i c f =
-        let w = strict_written value Form (λ x. IsWritable (counting x) (heading x) (filling x)) constructed header content law x c f.inner in (
-          (w.0.0, of_class_none class (WrittenRefusal (counting x)) f.is_class (λ e o. w.0.0 o.0 o.1), of_class_none class (Either (heading x) (filling x)) f.is_class (either_none (heading x) (filling x) w.0.1 w.0.2)),
+    pub explicit_writes_form : WritesForm value Form w → WritesForm (λ t. value (inner t)) (ExplicitForm class number Form) Under
+    explicit_writes_form law t i c f =
+        let k = strict_written value Form w law (inner t) c f.inner in
+        let own = under_tag class (w.count_refuses (inner t)) (whole_refuses w (inner t)) f.is_class k.0.0 (whole_writable w (inner t) k.0) in (
+          (k.0.0, own.0, own.1),
           sym (ap (λ (z : Identifier). z.constructed) f.id_is),
-          w.1,
-          ap (λ (z : List ℕ). header_octets class true number (length z)) w.1 ∙ ap (λ (z : Identifier). header_of z c) (sym f.id_is),
+          k.1,
+          ap (λ (z : List ℕ). header_octets class true number (length z)) k.1 ∙ ap (λ (z : Identifier). header_of z c) (sym f.id_is),
         )
 
     -- a value in DER form has strict parts, where the value within has a strict encoding
-    pub explicit_has_form : (IsDer : V → Type 0) → ((x : S) → IsDer (value x) → length (header x ++ content x) < 2 ^ 64 → ∥ IsStrict Form (value x) (header x ++ content x) ∥₁) →
-        (x : S) → (class < 4) × (number < 2 ^ 32) × IsDer (value x) → length (header x ++ content x) < 2 ^ 64 → ∥ ((i : Identifier) × ExplicitForm class number Form (value x) i (header x ++ content x)) ∥₁
-    explicit_has_form IsDer strict x d l = ∥∥₁_map (strict x d.2 l) (λ s. (explicit_identifier class number, record { is_class = d.0; is_number = d.1; id_is = refl; inner = s }))
+    pub explicit_has_form : (IsDer : V → Type 0) → ((x : S) → IsDer (value x) → length (whole_octets w x) < 2 ^ 64 → ∥ IsStrict Form (value x) (whole_octets w x) ∥₁) →
+        HasForm (λ t. value (inner t)) (λ v. (class < 4) × (number < 2 ^ 32) × IsDer v) (ExplicitForm class number Form) Under
+    explicit_has_form IsDer strict t d l = ∥∥₁_map (strict (inner t) d.2 l) (λ s. (explicit_identifier class number, record { is_class = d.0; is_number = d.1; id_is = refl; inner = s }))
 
 -- what tells of refused memory, told as an error
 memory_told : {E : Type 0} (from : Error → E → Type 0) (r : Refusal E) (e f : E) → r ≡ refused f → FlattenedTo (λ x y. y ≡ x) from r e → from errors.OutOfMemory f → from errors.OutOfMemory e

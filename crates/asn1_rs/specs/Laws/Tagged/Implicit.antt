@@ -5,28 +5,26 @@ use mathlib.Core.Logic.{∥∥₁_map}
 use Rattle.x690.specs.Octets.{IsOctets}
 use Rattle.x690.specs.Identifiers.{Identifier}
 use Rattle.x690.specs.Elements.{Parts, ArePossible, IsDerElement}
-use Rattle.x690.specs.Nested.{IsElement}
 use Rattle.x690.specs.Strict.{header_octets}
 use Rattle.asn1_rs.specs.declared.asn1_types.any.Any.{Any}
 use Rattle.asn1_headers.specs.declared.error.Error.{Error}
-use Rattle.asn1_headers.specs.declared.error.SerializeError.{SerializeError}
 use Rattle.asn1_headers.specs.declared.tag.Tag.{Tag}
 use Rattle.asn1_headers.specs.Answers.{IsOther}
 use Rattle.asn1_rs.specs.Any.{parts_of}
-use Rattle.asn1_headers.specs.Ber.{max_depth}
 use Rattle.asn1_rs.specs.Checks.{CheckGives, IsCheck, has_number}
 use Rattle.asn1_rs.specs.Grammar.{IsOneBody, TakesBody, Checks, FormChecks, FormBodies, FormTakes, FormNumber, NoCheck, made, of_class}
 use Rattle.asn1_rs.specs.Grammar.Form.{IsOneForm, IsOneValue, FitsElement, HasValues, WritesByValue, WritesForm, HasForm, header_of}
 use Rattle.asn1_rs.specs.Grammar.Item.{ItemGrammar, IsLawfulItem}
 use Rattle.asn1_rs.specs.Kinds.{IsExactCheck}
 use Rattle.asn1_rs.specs.Laws.Checks.{before_is, has_number_is, is_counted_is}
-use Rattle.asn1_rs.specs.Laws.Readers.{der_elements, ber_elements}
-use Rattle.asn1_rs.specs.Laws.Tagged.{has_class_is, number_is, own_class, of_class_none, check_spares}
-use Rattle.asn1_rs.specs.Laws.Words.{word_one, strict_ber_word, strict_der_word}
+use Rattle.asn1_rs.specs.Laws.Readers.{der_elements}
+use Rattle.asn1_rs.specs.Laws.Tagged.{has_class_is, number_is, own_class, check_spares, under_tag}
+use Rattle.asn1_rs.specs.Laws.Words.{word_one, strict_der_word}
 use Rattle.asn1_rs.specs.Tagged.{has_class, number_of}
 use Rattle.asn1_rs.specs.Tagged.Parser.{IsUnder}
 use Rattle.asn1_rs.specs.Tagged.Implicit.{under, implicit_checks, ImplicitBody, ImplicitCheck, ImplicitForm, ImplicitTakes, ImplicitCheckGives, implicit_grammar, implicit_identifier}
-use Rattle.asn1_rs.specs.ToDer.{IsWritable, WrittenRefusal, OfClass}
+use Rattle.asn1_rs.specs.ToDer.{Writing}
+use Rattle.asn1_rs.specs.Tagged.Writing.{implicit_under, tag_writing}
 
 pub implicit_checks_are : (class number : ℕ) → IsCheck (implicit_checks class number)
 implicit_checks_are class number = before_is (has_number number) (has_class class) (has_number_is number) (has_class_is class)
@@ -95,11 +93,9 @@ module _ {V : Type 0} (class number : ℕ) (Form : V → Identifier → List ℕ
 -- lawful over a type whose strict parts are taken under the class of the tag
 pub implicit_lawful : {S T : Type 0} (class number own : ℕ) (inner : T → S) (G : ItemGrammar S) → IsLawfulItem G → own < 2 ^ 32 → FormNumber G.Form own → FormTakes G.Form G.Check G.Body class → IsLawfulItem (implicit_grammar class number own inner G)
 implicit_lawful class number own inner G l small numbered takes = record {
-  ber_values = λ o v w. implicit_values class number own G.Body G.IsValue small l.body_values w.0 v (ber_elements.possible o w.0 w.1) w.3;
   der_values = λ o v w. implicit_values class number own G.Body G.IsValue small l.body_values w.0 v (der_elements.possible o w.0 w.1) w.3;
   body_values = implicit_values class number own G.Body G.IsValue small l.body_values;
   form_values = implicit_form_values class number G.Form G.IsValue l.form_values;
-  ber_one = word_one (IsElement max_depth) NoCheck (ImplicitBody class number own G.Body) ber_elements.one one_body;
   der_one = word_one IsDerElement NoCheck (ImplicitBody class number own G.Body) der_elements.one one_body;
   body_one = one_body;
   one_form = implicit_one_form class number G.Form l.one_form;
@@ -107,7 +103,7 @@ implicit_lawful class number own inner G l small numbered takes = record {
   form_fits = implicit_fits class number G.Form l.form_fits;
   form_check = implicit_form_check class number G.Form own G.Check G.Body numbered takes;
   form_der = λ v i c f. (f.is_class, f.is_number, implicit_form_values class number G.Form G.IsDer l.form_der v i c f);
-  strict_ber = strict_ber_word (ImplicitForm class number G.Form) (ImplicitBody class number own G.Body) form_body;
+  form_body = form_body;
   strict_der = strict_der_word (ImplicitForm class number G.Form) NoCheck (ImplicitBody class number own G.Body) (λ v i c f. tt) form_body;
 }
   where
@@ -118,28 +114,30 @@ implicit_lawful class number own inner G l small numbered takes = record {
     form_body = implicit_form_body class number G.Form own G.Check G.Body numbered takes
 
 -- what is written
-module _ {S V : Type 0} (class number : ℕ) (value : S → V) (constructed : S → Bool) (header content : S → List ℕ) where
-  pub implicit_by_value : WritesByValue value constructed header content → (x y : S) → value x ≡ value y →
-      (constructed x ≡ constructed y) × (header_octets class (constructed x) number (length (content x)) ≡ header_octets class (constructed y) number (length (content y))) × (content x ≡ content y)
+module _ {S T V : Type 0} (class number : ℕ) (inner : T → S) (value : S → V) (w : Writing S) where
+  abbrev Under : Writing T
+  Under = tag_writing class number inner (implicit_under w) w
+
+  pub implicit_by_value : WritesByValue value w → WritesByValue (λ t. value (inner t)) Under
   implicit_by_value law x y e =
-      let l = law x y e in
-      (l.0, ap (λ (b : Bool). header_octets class b number (length (content x))) l.0 ∙ ap (λ (c : List ℕ). header_octets class (constructed y) number (length c)) l.2, l.2)
+      let l = law (inner x) (inner y) e in
+      (l.0, ap (λ (b : Bool). header_octets class b number (length (w.content (inner x)))) l.0 ∙ ap (λ (c : List ℕ). header_octets class (w.constructed (inner y)) number (length c)) l.2, l.2)
 
   module _ (Form : V → Identifier → List ℕ → Type 0) where
-    pub implicit_writes_form : (counting : S → Error → Type 0) (heading filling : S → SerializeError → Type 0) → WritesForm value Form (λ x. IsWritable (counting x) (heading x) (filling x)) constructed header content → (x : S) (i : Identifier) (c : List ℕ) → ImplicitForm class number Form (value x) i c →
-        IsWritable (counting x) (OfClass class (WrittenRefusal (counting x))) (OfClass class (filling x)) × (constructed x ≡ i.constructed) × (content x ≡ c) × (header_octets class (constructed x) number (length (content x)) ≡ header_of i c)
-    implicit_writes_form counting heading filling law x i c f =
-        let w = law x f.own c f.form in (
-          (w.0.0, of_class_none class (WrittenRefusal (counting x)) f.is_class (λ e o. w.0.0 o.0 o.1), of_class_none class (filling x) f.is_class w.0.2),
-          w.1 ∙ sym (ap (λ (z : Identifier). z.constructed) f.id_is),
-          w.2,
-          ap (λ (b : Bool). header_octets class b number (length (content x))) w.1 ∙ ap (λ (z : List ℕ). header_octets class f.own.constructed number (length z)) w.2 ∙ ap (λ (z : Identifier). header_of z c) (sym f.id_is),
+    pub implicit_writes_form : WritesForm value Form w → WritesForm (λ t. value (inner t)) (ImplicitForm class number Form) Under
+    implicit_writes_form law t i c f =
+        let x = inner t in
+        let k = law x f.own c f.form in
+        let own = under_tag class (w.count_refuses x) (w.content_refuses x) f.is_class k.0.0 k.0.2 in (
+          (k.0.0, own.0, own.1),
+          k.1 ∙ sym (ap (λ (z : Identifier). z.constructed) f.id_is),
+          k.2,
+          ap (λ (b : Bool). header_octets class b number (length (w.content x))) k.1 ∙ ap (λ (z : List ℕ). header_octets class f.own.constructed number (length z)) k.2 ∙ ap (λ (z : Identifier). header_of z c) (sym f.id_is),
         )
 
     -- a value in DER form has strict parts, as the value within has
-    pub implicit_has_form : (IsDer : V → Type 0) → HasForm value IsDer Form content →
-        (x : S) → (class < 4) × (number < 2 ^ 32) × IsDer (value x) → length (content x) < 2 ^ 64 → ∥ ((i : Identifier) × ImplicitForm class number Form (value x) i (content x)) ∥₁
-    implicit_has_form IsDer has x d l = ∥∥₁_map (has x d.2 l) (λ f. (implicit_identifier class number f.0, record { is_class = d.0; is_number = d.1; own = f.0; id_is = refl; form = f.1 }))
+    pub implicit_has_form : (IsDer : V → Type 0) → HasForm value IsDer Form w → HasForm (λ t. value (inner t)) (λ v. (class < 4) × (number < 2 ^ 32) × IsDer v) (ImplicitForm class number Form) Under
+    implicit_has_form IsDer has t d l = ∥∥₁_map (has (inner t) d.2 l) (λ f. (implicit_identifier class number f.0, record { is_class = d.0; is_number = d.1; own = f.0; id_is = refl; form = f.1 }))
 
 -- the conversion is exact where the value's is
 pub implicit_takes : {T V W E : Type 0} (class number : ℕ) (inner : W → T) (own : Tag) (converts : Any → Result T E → Type 0) (from : Error → E → Type 0) (Body : Parts → V → Type 0) (value : T → V) (takes : Bool) →

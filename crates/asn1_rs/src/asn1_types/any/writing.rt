@@ -1,14 +1,13 @@
 //! Elements of any type, as they are written (X.690 8.1.1, 10.1).
-ghost use Rattle.std.specs.Prelude.{◌≡◌, ◌++◌, ℕ, List, Option, Bool, true, false, length, Ok, IfOk, IfErr};
+ghost use Rattle.std.specs.Prelude.{◌≡◌, ◌++◌, ℕ, List, true, false, length, Ok, IfOk, IfErr};
 ghost use Rattle.std.specs.Io.KnownBytes.{Appends};
 ghost use Rattle.x690.specs.Lengths.{definite};
-ghost use Rattle.asn1_headers.specs.Header.{is_constructed_of, length_of};
+ghost use Rattle.asn1_headers.specs.Header.{length_of};
 ghost use Rattle.asn1_headers.specs.Length.{form_of};
 ghost use Rattle.asn1_headers.specs.Header.Writing.{strict_header};
-ghost use Rattle.asn1_rs.specs.Any.Writing.{content_of, element_header};
-ghost use Rattle.asn1_rs.specs.Laws.Forms.{nothing_refused};
-ghost use Rattle.asn1_rs.specs.Laws.Any.Writing.{element_by_value, element_writes_form, element_has_form, element_same};
-ghost use Rattle.asn1_headers.specs.Writer.{Wrote, MayRefuse};
+ghost use Rattle.asn1_rs.specs.Any.Writing.{content_of, element_header, element_writing};
+ghost use Rattle.asn1_rs.specs.Laws.Any.Writing.{element_same, element_lawful_writing};
+ghost use Rattle.asn1_headers.specs.Writer.{Wrote, MayRefuse, WriterState};
 ghost use Rattle.asn1_rs.specs.ToDer.{Refuses, RefusesCount, VectorRefuses, Either};
 ghost use Rattle.asn1_headers.specs.Error.{tells_of_io};
 
@@ -28,11 +27,11 @@ fn put_behind<W: DerWrite>(
     content: &[u8],
     w: &mut W,
 ) -> SerializeResult<usize>
-    ensures wrote { (octets : List ℕ) (told : Option (List ℕ)) (was : Bool) →
-        Wrote octets told (W.told w.old) was (W.failed w.old) header →
-        Wrote (octets ++ content.now) told (W.told w.new) was (W.failed w.new) result }
-    ensures failed { (octets : List ℕ) (told : Option (List ℕ)) (was : Bool) →
-        Wrote octets told (W.told w.old) was (W.failed w.old) header →
+    ensures wrote { (octets : List ℕ) (before : WriterState) →
+        Wrote octets before (W.state w.old) header →
+        Wrote (octets ++ content.now) before (W.state w.new) result }
+    ensures failed { (octets : List ℕ) (before : WriterState) →
+        Wrote octets before (W.state w.old) header →
         IfErr header (MayRefuse false (length (octets ++ content.now))) →
         IfErr result (MayRefuse false (length (octets ++ content.now))) }
 {
@@ -44,22 +43,10 @@ fn put_behind<W: DerWrite>(
 /// An element is written with the strict identifier of its header and the length of its contents octets, whatever
 /// length its header has.
 impl ToDer for Any<'_> {
-    ghost tells = { λ _. Unit {0} };
-
-    ghost header = { element_header };
-
-    ghost content = { content_of };
-
-    ghost constructed = { λ any. is_constructed_of any.header };
+    ghost writing = { element_writing };
 
     ghost raw_is_der = { λ any. form_of (length_of any.header) ≡
         definite (length (content_of any)) };
-
-    ghost count_allocates = { false };
-
-    ghost content_allocates = { false };
-
-    ghost write_allocates = { false };
 
     fn to_der_len(&self) -> Result<usize, Error>
         ensures count { IfOk result
@@ -102,8 +89,8 @@ impl ToDer for Any<'_> {
 
     #[inline(always)]
     fn write_der<W: DerWrite>(&self, _alloc: Global, w: &mut W) -> SerializeResult<usize>
-        ensures wrote { Wrote (element_header self.now ++ content_of self.now) (W.told w.old)
-            (W.told w.new) (W.failed w.old) (W.failed w.new) result }
+        ensures wrote { Wrote (element_header self.now ++ content_of self.now) (W.state w.old)
+            (W.state w.new) result }
         ensures refused { IfErr result
             (Refuses false (length (element_header self.now ++ content_of self.now))
             (Either (λ _. ⊥) (λ _. ⊥))) }
@@ -118,21 +105,22 @@ impl ToDer for Any<'_> {
     /// Appends the strict identifier octets, the length of the header (80 where it is indefinite), and the contents
     /// octets as they stand.
     fn write_der_raw<W: DerWrite>(&self, _alloc: Global, w: &mut W) -> SerializeResult<usize>
-        ensures raw { Wrote (strict_header self.now.header ++ content_of self.now) (W.told w.old)
-            (W.told w.new) (W.failed w.old) (W.failed w.new) result }
+        ensures raw { Wrote (strict_header self.now.header ++ content_of self.now) (W.state w.old)
+            (W.state w.new) result }
         ensures failed { IfErr result
             (MayRefuse false (length (strict_header self.now.header ++ content_of self.now))) }
         ensures der { form_of (length_of self.now.header) ≡
             definite (length (content_of self.now)) →
-            Wrote (element_header self.now ++ content_of self.now) (W.told w.old) (W.told w.new)
-            (W.failed w.old) (W.failed w.new) result }
+            Wrote (element_header self.now ++ content_of self.now) (W.state w.old)
+            (W.state w.new) result }
         ensures refused { form_of (length_of self.now.header) ≡
             definite (length (content_of self.now)) →
             IfErr result
             (Refuses false (length (element_header self.now ++ content_of self.now))
             (Either (λ _. ⊥) (λ _. ⊥))) }
         ensures counted { IfOk result
-            (λ n. (raw : List ℕ) × Appends (W.told w.old) (W.told w.new) raw × (n ≡ length raw)) }
+            (λ n. (raw : List ℕ) × Appends (W.state w.old).told (W.state w.new).told raw ×
+            (n ≡ length raw)) }
     {
         let header = put_strict_header(&self.header, w);
         put_behind(header, self.content, w)
@@ -163,15 +151,7 @@ impl ToDer for Any<'_> {
 }
 
 impl LawfulWrite for Any<'_> {
-    ghost tells_all = { λ x. tt };
-
-    ghost by_value = { element_by_value };
-
-    ghost form = { element_writes_form };
-
-    ghost der_form = { element_has_form };
-
-    ghost der_writable = { λ x d. nothing_refused };
+    ghost lawful_writing = { element_lawful_writing };
 }
 
 impl LawfulMember for Any<'_> {

@@ -112,8 +112,7 @@ fn check_truth(any: &Any<'_>) -> Result<(), Error>
 /// Appends 00 or ff.
 #[inline(always)]
 fn put_truth<W: DerWrite>(truth: bool, w: &mut W) -> SerializeResult<usize>
-    ensures wrote { Wrote (truth_octet truth ∷ []) (W.told w.old) (W.told w.new) (W.failed w.old)
-        (W.failed w.new) result }
+    ensures wrote { Wrote (truth_octet truth ∷ []) (W.state w.old) (W.state w.new) result }
     ensures refused { IfErr result (MayRefuse false 1) }
 {
     put_all(w, &[if truth { 0xff } else { 0 }])
@@ -122,11 +121,7 @@ fn put_truth<W: DerWrite>(truth: bool, w: &mut W) -> SerializeResult<usize>
 impl Tagged for bool {
     const TAG: Tag = Tag::Boolean;
 
-    ghost mark = { record { 0 = boolean_number } };
-
-    fn its_tag() -> Tag {
-        Self::TAG
-    }
+    ghost TAG = { record { 0 = boolean_number } };
 }
 
 impl<'a> FromAny<'a> for bool {
@@ -192,11 +187,7 @@ impl LawfulMember for bool {
 impl Tagged for Boolean {
     const TAG: Tag = Tag::Boolean;
 
-    ghost mark = { record { 0 = boolean_number } };
-
-    fn its_tag() -> Tag {
-        Self::TAG
-    }
+    ghost TAG = { record { 0 = boolean_number } };
 }
 
 impl<'a> FromAny<'a> for Boolean {

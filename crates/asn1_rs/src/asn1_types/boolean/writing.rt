@@ -1,11 +1,11 @@
 //! Truth values with their octet, as they are written (X.690 8.2.2, 11.1).
 ghost use Rattle.std.specs.Prelude.{◌≡◌, ◌++◌, ℕ, List, false, length, Ok, true, IfOk, IfErr};
 ghost use Rattle.std.specs.Io.KnownBytes.{Appends};
-ghost use Rattle.asn1_rs.specs.Boolean.{boolean_number, boolean_leaf, truth_octets, raw_boolean, truth_header, IsStrictTruth};
+ghost use Rattle.asn1_rs.specs.Boolean.{boolean_number, boolean_leaf, truth_octets, raw_boolean, truth_header, IsStrictTruth, truth_writing};
 ghost use Rattle.asn1_headers.specs.Error.{tells_of_io};
 ghost use Rattle.asn1_rs.specs.Leaf.{leaf_element};
-ghost use Rattle.asn1_rs.specs.Laws.Boolean.{boolean_lawful, boolean_by_value, boolean_writes_form};
-ghost use Rattle.asn1_rs.specs.Laws.Forms.{nothing_refused, universal_has_form, universal_number, universal_number_fits};
+ghost use Rattle.asn1_rs.specs.Laws.Boolean.{boolean_lawful, boolean_lawful_writing};
+ghost use Rattle.asn1_rs.specs.Laws.Forms.{universal_number, universal_number_fits};
 ghost use Rattle.asn1_rs.specs.Laws.Leaf.{leaf_written};
 ghost use Rattle.asn1_rs.specs.ToDer.{Refuses, VectorRefuses, Either};
 ghost use Rattle.asn1_headers.specs.Writer.{Wrote, MayRefuse};
@@ -19,19 +19,9 @@ use std::alloc::Global;
 
 /// It is written as 00 or ff; its raw form has the octet that it holds.
 impl ToDer for Boolean {
-    ghost tells = { λ _. Unit {0} };
-
-    ghost header = { λ _. truth_header };
-
-    ghost content = { truth_octets };
+    ghost writing = { truth_writing };
 
     ghost raw_is_der = { λ x. IsStrictTruth x.value };
-
-    ghost count_allocates = { false };
-
-    ghost content_allocates = { false };
-
-    ghost write_allocates = { false };
 
     fn to_der_len(&self) -> Result<usize, Error>
         ensures { result ≡ Ok 3 }
@@ -59,17 +49,16 @@ impl ToDer for Boolean {
 
     /// Appends 01, 01 and the octet that it holds.
     fn write_der_raw<W: DerWrite>(&self, _alloc: Global, w: &mut W) -> SerializeResult<usize>
-        ensures raw { Wrote (raw_boolean self.now) (W.told w.old) (W.told w.new)
-            (W.failed w.old) (W.failed w.new) result }
+        ensures raw { Wrote (raw_boolean self.now) (W.state w.old) (W.state w.new) result }
         ensures failed { IfErr result (MayRefuse false 3) }
         ensures der { IsStrictTruth self.now.value →
-            Wrote (truth_header ++ truth_octets self.now) (W.told w.old) (W.told w.new)
-            (W.failed w.old) (W.failed w.new) result }
+            Wrote (truth_header ++ truth_octets self.now) (W.state w.old) (W.state w.new) result }
         ensures refused { IsStrictTruth self.now.value →
             IfErr result (Refuses false (length (truth_header ++ truth_octets self.now))
             (Either (λ _. ⊥) (λ _. ⊥))) }
         ensures counted { IfOk result
-            (λ n. (raw : List ℕ) × Appends (W.told w.old) (W.told w.new) raw × (n ≡ length raw)) }
+            (λ n. (raw : List ℕ) × Appends (W.state w.old).told (W.state w.new).told raw ×
+            (n ≡ length raw)) }
     {
         put_all(w, &[0x01, 0x01, self.value])
     }
@@ -94,23 +83,15 @@ impl ToDer for Boolean {
 }
 
 impl LawfulWrite for Boolean {
-    ghost tells_all = { λ x. tt };
-
-    ghost by_value = { boolean_by_value };
-
-    ghost form = { boolean_writes_form };
-
-    ghost der_form = { universal_has_form (leaf_element boolean_leaf) boolean_number truth_octets
-        (leaf_written boolean_leaf boolean_lawful) };
-
-    ghost der_writable = { λ x d. nothing_refused };
+    ghost lawful_writing = { boolean_lawful_writing };
 }
 
 impl LawfulTagged for Boolean {
     ghost tag_number = { universal_number (leaf_element boolean_leaf) boolean_number truth_octets
         (leaf_written boolean_leaf boolean_lawful) };
 
-    ghost number_fits = { universal_number_fits (leaf_element boolean_leaf) boolean_number truth_octets
+    ghost number_fits = { universal_number_fits (leaf_element boolean_leaf) boolean_number
+        truth_octets
         (leaf_written boolean_leaf boolean_lawful) };
 }
 

@@ -80,8 +80,7 @@ pub(crate) fn unsigned_from_any(any: &Any<'_>, size: usize) -> Result<u128, Erro
 /// Appends the strict contents octets of a natural number, and answers their number.
 #[inline(always)]
 pub(crate) fn put_unsigned_content<W: DerWrite>(n: u128, w: &mut W) -> SerializeResult<usize>
-    ensures wrote { Wrote (unsigned_octets n) (W.told w.old) (W.told w.new) (W.failed w.old)
-        (W.failed w.new) result }
+    ensures wrote { Wrote (unsigned_octets n) (W.state w.old) (W.state w.new) result }
     ensures refused { IfErr result (MayRefuse false (length (unsigned_octets n))) }
 {
     let mut octets = [0; 17];
@@ -115,8 +114,7 @@ pub(crate) fn signed_from_any(any: &Any<'_>, size: usize) -> Result<i128, Error>
 /// Appends the strict contents octets of an integer, and answers their number.
 #[inline(always)]
 pub(crate) fn put_signed_content<W: DerWrite>(n: i128, w: &mut W) -> SerializeResult<usize>
-    ensures wrote { Wrote (signed_octets n) (W.told w.old) (W.told w.new) (W.failed w.old)
-        (W.failed w.new) result }
+    ensures wrote { Wrote (signed_octets n) (W.state w.old) (W.state w.new) result }
     ensures refused { IfErr result (MayRefuse false (length (signed_octets n))) }
 {
     let mut octets = [0; 17];
@@ -128,7 +126,7 @@ pub(crate) fn put_signed_content<W: DerWrite>(n: i128, w: &mut W) -> SerializeRe
 #[inline(always)]
 pub(crate) fn put_signed_element<W: DerWrite>(n: i64, w: &mut W) -> SerializeResult<usize>
     ensures wrote { Wrote (header_octets 0 false integer_number (length (signed_octets n))
-        ++ signed_octets n) (W.told w.old) (W.told w.new) (W.failed w.old) (W.failed w.new) result }
+        ++ signed_octets n) (W.state w.old) (W.state w.new) result }
     ensures refused { IfErr result (MayRefuse false
         (length (header_octets 0 false integer_number (length (signed_octets n))
         ++ signed_octets n))) }
@@ -141,7 +139,7 @@ pub(crate) fn put_signed_element<W: DerWrite>(n: i64, w: &mut W) -> SerializeRes
 #[inline(always)]
 pub(crate) fn put_unsigned_element<W: DerWrite>(n: u32, w: &mut W) -> SerializeResult<usize>
     ensures wrote { Wrote (header_octets 0 false integer_number (length (unsigned_octets n))
-        ++ unsigned_octets n) (W.told w.old) (W.told w.new) (W.failed w.old) (W.failed w.new)
+        ++ unsigned_octets n) (W.state w.old) (W.state w.new)
         result }
     ensures refused { IfErr result (MayRefuse false
         (length (header_octets 0 false integer_number (length (unsigned_octets n))

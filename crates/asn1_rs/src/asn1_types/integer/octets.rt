@@ -16,10 +16,10 @@ use crate::asn1_types::any::Any;
 use crate::asn1_types::integer::check_integer;
 use crate::asn1_types::integer::machine::MachineInt;
 use crate::kinds::writing::WritesOctets;
-use crate::kinds::{ElementKind, HasKind, LawfulConversion, LawfulElement};
+use crate::kinds::{ElementKind, HasKind, LawfulConversion, LawfulElement, TagNumber, TaggedAs};
 use crate::laws::LawfulMember;
 use crate::laws::in_hand::octets_in_hand;
-use crate::traits::{CheckDerConstraints, DerAutoDerive, FromAny, Tagged};
+use crate::traits::{CheckDerConstraints, DerAutoDerive, FromAny};
 use asn1_headers::error::Error;
 use asn1_headers::tag::Tag;
 use std::alloc::Global;
@@ -121,16 +121,8 @@ impl<'a> Any<'a> {
     }
 }
 
-impl Tagged for Integer<'_> {
-    const TAG: Tag = Tag::Integer;
-
-    ghost mark = { record { 0 = integer_number } };
-
-    fn its_tag() -> Tag
-        ensures { result ≡ record { 0 = integer_number } }
-    {
-        Self::TAG
-    }
+impl TaggedAs for Integer<'_> {
+    type Number = TagNumber<2>;
 }
 
 impl<'a> FromAny<'a> for Integer<'a> {

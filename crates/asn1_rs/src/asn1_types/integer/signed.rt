@@ -22,11 +22,7 @@ use x690::signed::signed_octets_count;
 impl Tagged for i8 {
     const TAG: Tag = Tag::Integer;
 
-    ghost mark = { record { 0 = integer_number } };
-
-    fn its_tag() -> Tag {
-        Self::TAG
-    }
+    ghost TAG = { record { 0 = integer_number } };
 }
 
 impl<'a> FromAny<'a> for i8 {
@@ -100,11 +96,7 @@ impl LawfulMember for i8 {
 impl Tagged for i16 {
     const TAG: Tag = Tag::Integer;
 
-    ghost mark = { record { 0 = integer_number } };
-
-    fn its_tag() -> Tag {
-        Self::TAG
-    }
+    ghost TAG = { record { 0 = integer_number } };
 }
 
 impl<'a> FromAny<'a> for i16 {
@@ -178,11 +170,7 @@ impl LawfulMember for i16 {
 impl Tagged for i32 {
     const TAG: Tag = Tag::Integer;
 
-    ghost mark = { record { 0 = integer_number } };
-
-    fn its_tag() -> Tag {
-        Self::TAG
-    }
+    ghost TAG = { record { 0 = integer_number } };
 }
 
 impl<'a> FromAny<'a> for i32 {
@@ -256,11 +244,7 @@ impl LawfulMember for i32 {
 impl Tagged for i64 {
     const TAG: Tag = Tag::Integer;
 
-    ghost mark = { record { 0 = integer_number } };
-
-    fn its_tag() -> Tag {
-        Self::TAG
-    }
+    ghost TAG = { record { 0 = integer_number } };
 }
 
 impl<'a> FromAny<'a> for i64 {
@@ -334,11 +318,7 @@ impl LawfulMember for i64 {
 impl Tagged for i128 {
     const TAG: Tag = Tag::Integer;
 
-    ghost mark = { record { 0 = integer_number } };
-
-    fn its_tag() -> Tag {
-        Self::TAG
-    }
+    ghost TAG = { record { 0 = integer_number } };
 }
 
 impl<'a> FromAny<'a> for i128 {

@@ -23,11 +23,7 @@ use x690::integers::unsigned_octets_count;
 impl Tagged for u8 {
     const TAG: Tag = Tag::Integer;
 
-    ghost mark = { record { 0 = integer_number } };
-
-    fn its_tag() -> Tag {
-        Self::TAG
-    }
+    ghost TAG = { record { 0 = integer_number } };
 }
 
 impl<'a> FromAny<'a> for u8 {
@@ -101,11 +97,7 @@ impl LawfulMember for u8 {
 impl Tagged for u16 {
     const TAG: Tag = Tag::Integer;
 
-    ghost mark = { record { 0 = integer_number } };
-
-    fn its_tag() -> Tag {
-        Self::TAG
-    }
+    ghost TAG = { record { 0 = integer_number } };
 }
 
 impl<'a> FromAny<'a> for u16 {
@@ -179,11 +171,7 @@ impl LawfulMember for u16 {
 impl Tagged for u32 {
     const TAG: Tag = Tag::Integer;
 
-    ghost mark = { record { 0 = integer_number } };
-
-    fn its_tag() -> Tag {
-        Self::TAG
-    }
+    ghost TAG = { record { 0 = integer_number } };
 }
 
 impl<'a> FromAny<'a> for u32 {
@@ -257,11 +245,7 @@ impl LawfulMember for u32 {
 impl Tagged for u64 {
     const TAG: Tag = Tag::Integer;
 
-    ghost mark = { record { 0 = integer_number } };
-
-    fn its_tag() -> Tag {
-        Self::TAG
-    }
+    ghost TAG = { record { 0 = integer_number } };
 }
 
 impl<'a> FromAny<'a> for u64 {
@@ -330,11 +314,7 @@ impl LawfulMember for u64 {
 impl Tagged for u128 {
     const TAG: Tag = Tag::Integer;
 
-    ghost mark = { record { 0 = integer_number } };
-
-    fn its_tag() -> Tag {
-        Self::TAG
-    }
+    ghost TAG = { record { 0 = integer_number } };
 }
 
 impl<'a> FromAny<'a> for u128 {

@@ -3,9 +3,8 @@
 pub mod sequence;
 pub mod set;
 
-ghost use Rattle.std.specs.Prelude.{◌≡◌, ◌++◌, false, IfOk, IfErr, IsErr, length};
+ghost use Rattle.std.specs.Prelude.{◌≡◌, ◌++◌, false, IfOk, IfErr, IsErr, length, Ok};
 ghost use Rattle.std.specs.declared.result.Result.TheVariants as results;
-ghost use Rattle.std.specs.Borrow.{Bor};
 ghost use Rattle.std.specs.Fn.{FnOnceReturnsAt, FnOnceTakesAt};
 ghost use Rattle.std.specs.Iterator.{IsFinite};
 ghost use Rattle.x690.specs.Elements.{IsDerElement};
@@ -18,7 +17,7 @@ ghost use Rattle.asn1_headers.specs.Ber.{max_depth};
 ghost use Rattle.asn1_headers.specs.Header.Reading.{der_refusal, ber_refusal};
 ghost use Rattle.asn1_rs.specs.Kept.{TakesLent, TakesList, OnLent, IsRefused, IsErrorOf, HandsListOn, ListThenGives, CopiesGive, JoinsGiven};
 ghost use Rattle.asn1_rs.specs.Lists.{IsListOr, ItemsGive, listed};
-ghost use Rattle.asn1_rs.specs.ToDer.{Either, VectorRefuses, IntoVector, RefusesAtOnce, some_allocates};
+ghost use Rattle.asn1_rs.specs.ToDer.{VectorRefuses, IntoVector, RefusesAtOnce, whole_allocates, whole_octets, whole_refuses};
 ghost use Rattle.asn1_headers.specs.Error.{tells_of_io, vector_refusal};
 ghost use Rattle.asn1_headers.specs.declared.error.Error.{Error};
 ghost use Rattle.asn1_headers.specs.declared.error.SerializeError.{SerializeError};
@@ -160,21 +159,23 @@ where
 
 /// The octets with the encoding of the item behind them.
 fn with_encoding<T: ToDer>(octets: Vec<u8>, item: &T, alloc: Global) -> SerializeResult<Vec<u8>>
-    ensures wrote { T.tells item.now →
-        IfOk result (λ v. v.items ≡ octets.items ++ (T.header item.now ++ T.content item.now)) }
-    ensures refused { T.tells item.now →
-        IfErr result (VectorRefuses (length (T.header item.now ++ T.content item.now))
-        (Either (T.header_refuses item.now) (T.content_refuses item.now))) }
-    ensures accepted { (e : SerializeError) → T.tells item.now →
-        Either (T.header_refuses item.now) (T.content_refuses item.now) e → IsErr result }
-    ensures uncounted { (e : Error) → T.tells item.now → T.count_refuses item.now e → IsErr result }
-    ensures at_once { (e : SerializeError) → T.tells item.now → T.header_refuses item.now e →
+    ensures wrote { T.writing.tells item.now →
+        IfOk result (λ v. v.items ≡ octets.items ++ (whole_octets T.writing item.now)) }
+    ensures refused { T.writing.tells item.now →
+        IfErr result (VectorRefuses (length (whole_octets T.writing item.now))
+        (whole_refuses T.writing item.now)) }
+    ensures accepted { (e : SerializeError) → T.writing.tells item.now →
+        whole_refuses T.writing item.now e → IsErr result }
+    ensures uncounted { (e : Error) → T.writing.tells item.now →
+        T.writing.count_refuses item.now e → IsErr result }
+    ensures at_once { (e : SerializeError) → T.writing.tells item.now →
+        T.writing.header_refuses item.now e →
         IfErr result (IntoVector (RefusesAtOnce
-        (some_allocates T.write_allocates T.count_allocates T.content_allocates)
-        (length (T.header item.now ++ T.content item.now))
-        (Either (T.header_refuses item.now) (T.content_refuses item.now)))) }
+        (whole_allocates T.writing)
+        (length (whole_octets T.writing item.now))
+        (whole_refuses T.writing item.now))) }
     ensures memory { IfErr result (λ e. tells_of_io e ≡ false) }
-    ensures first { (e : SerializeError) → T.refuses_first item.now e →
+    ensures first { (e : SerializeError) → T.writing.refuses_first item.now e →
         result ≡ results.Err (vector_refusal e) }
 {
     let mut w = Told::new(octets);
@@ -191,10 +192,7 @@ where
     T: ToDer + Drop,
     I: Iterator<Item = T> + Drop,
     requires can { I.can_next items × IsFinite (I.remaining items) }
-    ensures { JoinsGiven I.next_gives
-        (some_allocates T.write_allocates T.count_allocates T.content_allocates) T.tells
-        (λ x. T.header x ++ T.content x) T.count_refuses T.header_refuses T.content_refuses
-        T.refuses_first items (listed result) }
+    ensures { JoinsGiven I.next_gives T.writing items (listed result) }
 {
     let mut octets = Vec::new(alloc);
     for item in items {

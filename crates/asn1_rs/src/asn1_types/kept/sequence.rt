@@ -1,5 +1,5 @@
 //! Sequences that are kept as their contents octets (X.690 8.9, 8.10).
-ghost use Rattle.std.specs.Prelude.{◌≡◌, ◌++◌, IfOk};
+ghost use Rattle.std.specs.Prelude.{◌≡◌, IfOk};
 ghost use Rattle.std.specs.Cow.{IsBorrowedSlice};
 ghost use Rattle.std.specs.Fn.{FnOnceReturnsAt, FnOnceTakesAt};
 ghost use Rattle.std.specs.Iterator.{IsFinite};
@@ -18,7 +18,6 @@ ghost use Rattle.asn1_rs.specs.Laws.Leaf.{leaf_lawful, leaf_constraints, lent_co
 ghost use Rattle.asn1_rs.specs.Leaf.{LeafGives, LendsContent, leaf_element};
 ghost use Rattle.asn1_rs.specs.Lists.{ItemsGive, listed};
 ghost use Rattle.asn1_rs.specs.Sequence.Iterator.{octets_left};
-ghost use Rattle.asn1_rs.specs.ToDer.{some_allocates};
 
 use crate::asn1_types::any::Any;
 use crate::asn1_types::kept::{
@@ -28,7 +27,7 @@ use crate::asn1_types::lists::items_by;
 use crate::asn1_types::sequence::iterator::SequenceIterator;
 use crate::kinds::in_hand::DerElement;
 use crate::kinds::writing::WritesOctets;
-use crate::kinds::{ElementKind, HasKind, LawfulConversion, LawfulElement};
+use crate::kinds::{ElementKind, HasKind, LawfulConversion, LawfulElement, TagNumber, TaggedAs};
 use crate::laws::LawfulMember;
 use crate::laws::in_hand::octets_in_hand;
 use crate::to_der::ToDer;
@@ -221,10 +220,7 @@ impl Sequence<'static> {
         T: ToDer + Tagged + Drop,
         I: Iterator<Item = T> + Drop,
         requires can { I.can_next items × IsFinite (I.remaining items) }
-        ensures { JoinsGiven I.next_gives
-            (some_allocates T.write_allocates T.count_allocates T.content_allocates) T.tells
-            (λ x. T.header x ++ T.content x) T.count_refuses T.header_refuses T.content_refuses
-            T.refuses_first items (content_octets sequence_octets result) }
+        ensures { JoinsGiven I.next_gives T.writing items (content_octets sequence_octets result) }
     {
         match joined_encodings(alloc, items) {
             Ok(content) => Ok(Sequence::new(CowSlice::Owned(content))),
@@ -255,16 +251,8 @@ impl<'a> Any<'a> {
     }
 }
 
-impl Tagged for Sequence<'_> {
-    const TAG: Tag = Tag::Sequence;
-
-    ghost mark = { record { 0 = sequence_number } };
-
-    fn its_tag() -> Tag
-        ensures { result ≡ record { 0 = sequence_number } }
-    {
-        Self::TAG
-    }
+impl TaggedAs for Sequence<'_> {
+    type Number = TagNumber<16>;
 }
 
 impl<'a> FromAny<'a> for Sequence<'a> {

@@ -20,6 +20,8 @@ ghost use Rattle.asn1_rs.specs.declared.asn1_types.any.Any.{Any};
 ghost use Rattle.asn1_rs.specs.Any.{parts_of, BerElementGives};
 ghost use Rattle.asn1_headers.specs.Ber.{max_depth, EndsWithin};
 ghost use Rattle.asn1_rs.specs.Sequence.Iterator.{octets_left, ReadsExactly, WalkSteps, IsWalk, IsWalkOf, TellsNoWord, TellsMemoryAlone, TellsNothing, IsMemory, ElementsGive};
+ghost use Rattle.asn1_rs.specs.Laws.Words.{ber_one};
+ghost use Rattle.asn1_rs.specs.Grammar.Item.{ber_words};
 
 use crate::laws::{LawfulBer, LawfulDer};
 use crate::traits::{ASN1Parser, FromBer, FromDer};
@@ -156,13 +158,13 @@ impl<'a, T: LawfulBer<'a, E>, E: From<Error>> ReadsWords<'a, T, E> for BerParser
 
     ghost value = { T.grammar.value };
 
-    ghost Words = { T.grammar.Ber };
+    ghost Words = { ber_words T.grammar };
 
     ghost IsCut = { EndsWithin };
 
     ghost allocates = { T.grammar.allocates };
 
-    ghost exact = { record { one_word = T.lawful_item.ber_one; takes = T.ber_exact } };
+    ghost exact = { record { one_word = ber_one T.grammar T.lawful_item; takes = T.ber_exact } };
 
     ghost spares = { T.ber_spares };
 }

@@ -10,7 +10,9 @@ ghost use Rattle.x690.specs.Identifiers.{IsCutIdentifier};
 ghost use Rattle.asn1_rs.specs.Lists.{ListOf, ListReads, PushesItem};
 ghost use Rattle.asn1_rs.specs.Sequence.SequenceOf.{sequence_items, IsSequenceOf, lends_sequence_items};
 ghost use Rattle.asn1_rs.specs.Laws.Readers.{unchecked_exact};
-ghost use Rattle.asn1_rs.specs.Laws.Lists.{takes_some, list_form_body, list_takes, list_reads, list_checks, sequence_values};
+ghost use Rattle.asn1_rs.specs.Laws.Lists.{takes_some, list_takes, list_reads, list_checks, sequence_values};
+ghost use Rattle.asn1_rs.specs.Laws.Words.{ber_one};
+ghost use Rattle.asn1_rs.specs.Grammar.Item.{ber_words};
 
 use crate::asn1_types::lists::{FromItems, Listed, items_from_iter, list_by_der, push_item};
 use crate::kinds::HasKind;
@@ -101,11 +103,7 @@ impl<T> From<SequenceOf<T>> for Vec<T> {
 impl<T> Tagged for SequenceOf<T> {
     const TAG: Tag = Tag::Sequence;
 
-    ghost mark = { record { 0 = 16 } };
-
-    fn its_tag() -> Tag {
-        Tag::Sequence
-    }
+    ghost TAG = { record { 0 = 16 } };
 }
 
 impl<T> FromItems for SequenceOf<T> {
@@ -165,16 +163,10 @@ impl<T> WritesInOrder for SequenceOf<T> {
 
 impl<'a, T: LawfulBer<'a, Error> + Drop> LawfulBody<'a, Error> for SequenceOf<T> {
     ghost body_exact = { list_takes 16 IsSequenceOf Self.grammar.value T.ber_gives
-        (λ x y. y ≡ x) T.grammar.Ber T.grammar.value T.grammar.allocates EndsWithin
-        (sequence_values T.grammar.value) T.lawful_item.ber_one T.ber_exact };
+        (λ x y. y ≡ x) (ber_words T.grammar) T.grammar.value T.grammar.allocates EndsWithin
+        (sequence_values T.grammar.value) (ber_one T.grammar T.lawful_item) T.ber_exact };
 
     ghost body_spares = { λ none p e g. takes_some none };
-
-    ghost form_body = { list_form_body T.grammar.Form 16 T.grammar.Ber T.lawful_item.strict_ber };
-
-    ghost ber_split = { λ o vs w. w };
-
-    ghost ber_join = { λ o vs w. w };
 }
 
 impl<'a, T: LawfulDer<'a, E> + Drop, E: From<Error>> LawfulDer<'a, E> for SequenceOf<T> {

@@ -6,7 +6,9 @@ ghost use Rattle.asn1_headers.specs.Ber.{EndsWithin};
 ghost use Rattle.x690.specs.Identifiers.{IsCutIdentifier};
 ghost use Rattle.asn1_rs.specs.Lists.{ListOf, ListReads, has_items};
 ghost use Rattle.asn1_rs.specs.Laws.Readers.{unchecked_exact};
-ghost use Rattle.asn1_rs.specs.Laws.Lists.{takes_some, list_form_body, list_takes, list_reads, list_checks, same_lists, same_values};
+ghost use Rattle.asn1_rs.specs.Laws.Lists.{takes_some, list_takes, list_reads, list_checks, same_lists, same_values};
+ghost use Rattle.asn1_rs.specs.Laws.Words.{ber_one};
+ghost use Rattle.asn1_rs.specs.Grammar.Item.{ber_words};
 
 use crate::asn1_types::lists::{
     FromItems, Listed, count_items, list_by_der, state_items, write_items,
@@ -25,11 +27,7 @@ use std::alloc::{AllocError, Global};
 impl<T> Tagged for Vec<T> {
     const TAG: Tag = Tag::Sequence;
 
-    ghost mark = { record { 0 = 16 } };
-
-    fn its_tag() -> Tag {
-        Tag::Sequence
-    }
+    ghost TAG = { record { 0 = 16 } };
 }
 
 impl<T> FromItems for Vec<T> {
@@ -89,16 +87,10 @@ impl<T> WritesInOrder for Vec<T> {
 
 impl<'a, T: LawfulBer<'a, Error> + Drop> LawfulBody<'a, Error> for Vec<T> {
     ghost body_exact = { list_takes 16 has_items Self.grammar.value T.ber_gives
-        (λ x y. y ≡ x) T.grammar.Ber T.grammar.value T.grammar.allocates EndsWithin
-        (same_values T.grammar.value) T.lawful_item.ber_one T.ber_exact };
+        (λ x y. y ≡ x) (ber_words T.grammar) T.grammar.value T.grammar.allocates EndsWithin
+        (same_values T.grammar.value) (ber_one T.grammar T.lawful_item) T.ber_exact };
 
     ghost body_spares = { λ none p e g. takes_some none };
-
-    ghost form_body = { list_form_body T.grammar.Form 16 T.grammar.Ber T.lawful_item.strict_ber };
-
-    ghost ber_split = { λ o vs w. w };
-
-    ghost ber_join = { λ o vs w. w };
 }
 
 impl<'a, T: LawfulDer<'a, E> + Drop, E: From<Error>> LawfulDer<'a, E> for Vec<T> {

@@ -5,19 +5,18 @@ ghost use Rattle.std.specs.BTreeSet.{IsFromIterResult};
 ghost use Rattle.x690.specs.Identifiers.{IsCutIdentifier};
 ghost use Rattle.asn1_rs.specs.Traits.{PassesAll, DerGives, OfParts};
 ghost use Rattle.asn1_headers.specs.Ber.{EndsWithin};
-ghost use Rattle.asn1_rs.specs.Lists.{ListTakes, ListCheckGives, SomeRefuses};
-ghost use Rattle.asn1_rs.specs.Set.{set_of, is_below, SetBody, member_grammar, set_content};
-ghost use Rattle.x690.specs.Collections.{AllDiffer};
-ghost use Rattle.asn1_headers.specs.declared.error.SerializeError.{SerializeError};
+ghost use Rattle.asn1_rs.specs.Lists.{ListTakes};
+ghost use Rattle.asn1_rs.specs.Set.{set_of, is_below, SetBody};
 ghost use Rattle.asn1_headers.specs.declared.error.Error.{Error};
-ghost use Rattle.asn1_rs.specs.ToDer.{Either, Refuses, RefusesCount, IsWritable, WrittenRefusal, IntoVector};
-ghost use Rattle.asn1_headers.specs.Error.{tells_of_io};
 ghost use Rattle.asn1_rs.specs.Laws.Readers.{unchecked_exact};
 ghost use Rattle.asn1_rs.specs.Laws.Lists.{takes_some, list_checks};
-ghost use Rattle.asn1_rs.specs.Laws.Set.{set_takes, set_form_body, tree_told, below_apart, same_members};
+ghost use Rattle.asn1_rs.specs.Laws.Set.{set_takes, tree_told, below_apart, same_members};
+ghost use Rattle.asn1_rs.specs.Laws.Words.{ber_one};
+ghost use Rattle.asn1_rs.specs.Grammar.Item.{ber_words};
 
 use crate::asn1_types::lists::{
-    Encodings, FromItems, Listed, constructed_list_by_der, count_items, encode_items, state_items,
+    FromItems, Listed, PackedEncodings, constructed_list_by_der, count_items, encode_items,
+    state_items,
 };
 use crate::kinds::HasKind;
 use crate::kinds::collections::{HasMembers, LawfulMembers, Once, SetKind, WritesAscending};
@@ -33,11 +32,7 @@ use std::collections::BTreeSet;
 impl<T: Ord> Tagged for BTreeSet<T> {
     const TAG: Tag = Tag::Set;
 
-    ghost mark = { record { 0 = 17 } };
-
-    fn its_tag() -> Tag {
-        Tag::Set
-    }
+    ghost TAG = { record { 0 = 17 } };
 }
 
 /// The set of the items.
@@ -75,7 +70,7 @@ impl<T: Ord> WritesAscending for BTreeSet<T> {
         if self.len() == 1 { self.first() } else { None }
     }
 
-    fn encode_each(&self, alloc: Global) -> SerializeResult<Encodings>
+    fn encode_each(&self, alloc: Global) -> SerializeResult<PackedEncodings>
     where
         T: ToDer,
     {
@@ -126,18 +121,11 @@ impl<'a, T: FromDer<'a, E> + Ord + Drop, E: From<Error>> FromDer<'a, E> for BTre
 impl<'a, T: LawfulBer<'a, Error> + LawfulMember + Ord + Drop> LawfulBody<'a, Error>
     for BTreeSet<T> {
     ghost body_exact = { set_takes (λ items s. IsFromIterResult T.cmp items s) set_of
-        Self.grammar.value T.ber_gives (λ x y. y ≡ x) T.grammar.Ber T.grammar.value
+        Self.grammar.value T.ber_gives (λ x y. y ≡ x) (ber_words T.grammar) T.grammar.value
         T.grammar.allocates EndsWithin (tree_told T.eq T.grammar.value T.same T.cmp T.matches_eq)
-        T.lawful_item.ber_one T.ber_exact };
+        (ber_one T.grammar T.lawful_item) T.ber_exact };
 
     ghost body_spares = { λ none p e g. takes_some none };
-
-    ghost form_body = { set_form_body set_of AllDiffer T.grammar.Form T.grammar.Ber
-        T.lawful_item.strict_ber };
-
-    ghost ber_split = { λ o m w. w };
-
-    ghost ber_join = { λ o m w. w };
 }
 
 impl<'a, T: LawfulDer<'a, E> + LawfulMember + Ord + Drop, E: From<Error>> LawfulDer<'a, E>

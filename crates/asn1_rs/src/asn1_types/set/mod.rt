@@ -7,18 +7,18 @@ pub mod set_of;
 ghost use Rattle.std.specs.Prelude.{◌≡◌, ℕ, List, true, length, map, IfOk, IfErr, IsTrue};
 ghost use Rattle.std.specs.List.{concat};
 ghost use Rattle.x690.specs.Ascending.{Ascending, arranged};
-ghost use Rattle.asn1_rs.specs.Lists.{AreEncodings};
+ghost use Rattle.asn1_rs.specs.Lists.{ArePacked};
 ghost use Rattle.asn1_headers.specs.Writer.{Wrote, MayRefuse};
 
-use crate::asn1_types::lists::Encodings;
+use crate::asn1_types::lists::PackedEncodings;
 use asn1_headers::error::{SerializeError, SerializeResult};
 use asn1_headers::writer::{DerWrite, put_all};
 use std::alloc::{AllocError, Global};
 use x690::ascending::arrange;
 
 /// Each of the encodings, where it stands.
-fn pieces_of(encodings: &Encodings, alloc: Global) -> Result<Vec<&[u8]>, AllocError>
-    ensures { (strings : List (List ℕ)) → AreEncodings strings encodings.now →
+fn pieces_of(encodings: &PackedEncodings, alloc: Global) -> Result<Vec<&[u8]>, AllocError>
+    ensures { (strings : List (List ℕ)) → ArePacked strings encodings.now →
         IfOk result (λ v. map (λ s. s.now) v.items ≡ strings) }
 {
     let mut pieces = Vec::with_capacity(alloc, encodings.lengths.len())?;
@@ -32,8 +32,8 @@ fn pieces_of(encodings: &Encodings, alloc: Global) -> Result<Vec<&[u8]>, AllocEr
 }
 
 /// The encodings joined in ascending order.
-fn join_ascending(encodings: &Encodings, alloc: Global) -> Result<Vec<u8>, AllocError>
-    ensures { (strings : List (List ℕ)) → AreEncodings strings encodings.now →
+fn join_ascending(encodings: &PackedEncodings, alloc: Global) -> Result<Vec<u8>, AllocError>
+    ensures { (strings : List (List ℕ)) → ArePacked strings encodings.now →
         IfOk result (λ v. v.items ≡ concat (arranged strings)) }
 {
     let mut pieces = pieces_of(encodings, alloc)?;
@@ -46,8 +46,8 @@ fn join_ascending(encodings: &Encodings, alloc: Global) -> Result<Vec<u8>, Alloc
 }
 
 /// Whether no encoding is before the one in front of it, in dictionary order.
-fn are_ascending(encodings: &Encodings) -> bool
-    ensures { (strings : List (List ℕ)) → AreEncodings strings encodings.now →
+fn are_ascending(encodings: &PackedEncodings) -> bool
+    ensures { (strings : List (List ℕ)) → ArePacked strings encodings.now →
         IsTrue result → Ascending strings }
 {
     let mut last: &[u8] = &[];
@@ -65,14 +65,13 @@ fn are_ascending(encodings: &Encodings) -> bool
 
 /// Appends the encodings in ascending order, and answers the number of octets.
 pub(crate) fn write_ascending<W: DerWrite>(
-    encodings: &Encodings,
+    encodings: &PackedEncodings,
     alloc: Global,
     w: &mut W,
 ) -> SerializeResult<usize>
-    ensures wrote { (strings : List (List ℕ)) → AreEncodings strings encodings.now →
-        Wrote (concat (arranged strings)) (W.told w.old) (W.told w.new) (W.failed w.old)
-        (W.failed w.new) result }
-    ensures refused { (strings : List (List ℕ)) → AreEncodings strings encodings.now →
+    ensures wrote { (strings : List (List ℕ)) → ArePacked strings encodings.now →
+        Wrote (concat (arranged strings)) (W.state w.old) (W.state w.new) result }
+    ensures refused { (strings : List (List ℕ)) → ArePacked strings encodings.now →
         IfErr result (MayRefuse true (length (concat (arranged strings)))) }
 {
     if are_ascending(encodings) {

@@ -1,25 +1,24 @@
 //! Sets in which an item may stand more than once (X.690 8.12).
-ghost use Rattle.std.specs.Prelude.{◌≡◌, true, slice_index_or, MatchResult, IfOk, IfErr};
+ghost use Rattle.std.specs.Prelude.{◌≡◌, true, MatchResult, IfOk, IfErr};
 ghost use Rattle.std.specs.Borrow.{sem};
 ghost use Rattle.std.specs.Iterator.{IsFiniteIterable, Drains};
 ghost use Rattle.std.proofs.Common.{lit<};
 ghost use Rattle.x690.specs.Identifiers.{IsCutIdentifier};
 ghost use Rattle.x690.specs.Collections.{multiset, AnyList};
-ghost use Rattle.x690.specs.Laws.Collections.{permutation_from_multiset};
 ghost use Rattle.asn1_rs.specs.Traits.{PassesAll, DerGives, OfParts};
 ghost use Rattle.asn1_headers.specs.Ber.{EndsWithin};
 ghost use Rattle.asn1_headers.specs.declared.error.Error.TheVariants as errors;
 ghost use Rattle.asn1_rs.specs.Lists.{ListReads, PushesItem};
-ghost use Rattle.asn1_rs.specs.ToDer.{IsWritable};
 ghost use Rattle.asn1_rs.specs.Set.{SetRow, items_of, HasItems, lends_set_items, multiset_grammar};
 ghost use Rattle.asn1_rs.specs.Laws.Readers.{unchecked_exact};
-ghost use Rattle.asn1_rs.specs.Laws.Forms.{der_strict};
-ghost use Rattle.asn1_rs.specs.Laws.InHand.{multiset_writable};
 ghost use Rattle.asn1_rs.specs.Laws.Lists.{takes_some, list_checks};
-ghost use Rattle.asn1_rs.specs.Laws.Set.{multiset_told, multiset_lawful, set_takes, set_reads, set_form_body, set_takes_class, set_number, set_by_value, set_writes_form, multiset_has_form};
+ghost use Rattle.asn1_rs.specs.Laws.Set.{multiset_told, multiset_lawful, set_takes, set_reads, set_takes_class, set_number};
+ghost use Rattle.asn1_rs.specs.Laws.Writing.{multiset_lawful_writing};
+ghost use Rattle.asn1_rs.specs.Laws.Words.{ber_one, strict_ber};
+ghost use Rattle.asn1_rs.specs.Grammar.Item.{ber_words};
 
 use crate::asn1_types::lists::{
-    Encodings, FromItems, Listed, encode_items, items_from_iter, list_by_der, push_item,
+    FromItems, Listed, PackedEncodings, encode_items, items_from_iter, list_by_der, push_item,
 };
 use crate::kinds::collections::{Repeats, SetKind, WritesAscending};
 use crate::kinds::in_hand::AlwaysDerBy;
@@ -110,11 +109,7 @@ impl<T> From<SetOf<T>> for Vec<T> {
 impl<T> Tagged for SetOf<T> {
     const TAG: Tag = Tag::Set;
 
-    ghost mark = { record { 0 = 17 } };
-
-    fn its_tag() -> Tag {
-        Tag::Set
-    }
+    ghost TAG = { record { 0 = 17 } };
 }
 
 impl<T> FromItems for SetOf<T> {
@@ -172,7 +167,7 @@ impl<T> WritesAscending for SetOf<T> {
         }
     }
 
-    fn encode_each(&self, alloc: Global) -> SerializeResult<Encodings>
+    fn encode_each(&self, alloc: Global) -> SerializeResult<PackedEncodings>
     where
         T: ToDer,
     {
@@ -200,17 +195,10 @@ impl<T: AlwaysDer> AlwaysDerBy<SetKind<Repeats>> for SetOf<T> {
 
 impl<'a, T: LawfulBer<'a, Error> + Drop> LawfulBody<'a, Error> for SetOf<T> {
     ghost body_exact = { set_takes HasItems multiset Self.grammar.value T.ber_gives
-        (λ x y. y ≡ x) T.grammar.Ber T.grammar.value T.grammar.allocates EndsWithin
-        (multiset_told T.grammar.value) T.lawful_item.ber_one T.ber_exact };
+        (λ x y. y ≡ x) (ber_words T.grammar) T.grammar.value T.grammar.allocates EndsWithin
+        (multiset_told T.grammar.value) (ber_one T.grammar T.lawful_item) T.ber_exact };
 
     ghost body_spares = { λ none p e g. takes_some none };
-
-    ghost form_body = { set_form_body multiset AnyList T.grammar.Form T.grammar.Ber
-        T.lawful_item.strict_ber };
-
-    ghost ber_split = { λ o m w. w };
-
-    ghost ber_join = { λ o m w. w };
 }
 
 impl<'a, T: LawfulDer<'a, E> + Drop, E: From<Error>> LawfulDer<'a, E> for SetOf<T> {
@@ -230,25 +218,8 @@ impl<T: LawfulCheck> LawfulCheck for SetOf<T> {
 }
 
 impl<T: LawfulWrite> LawfulWriteBy<SetKind<Repeats>> for SetOf<T> {
-    ghost tells_each = { λ s k d h. T.tells_all (slice_index_or (items_of s) k d) };
-
-    ghost written_by_value = { λ x y e. set_by_value T.grammar.value T.constructed T.header T.content
-        T.by_value (items_of x) (items_of y) (permutation_from_multiset _ _ e) };
-
-    ghost written_form = { λ s i c f.
-        set_writes_form T.grammar.value T.grammar.Form T.count_refuses T.header_refuses
-        T.content_refuses T.constructed T.header T.content multiset AnyList T.form (items_of s) c _
-        f.1 (permutation_from_multiset _ _ f.1.are) i f.0 };
-
-    ghost written_der = { λ s.
-        multiset_has_form T.grammar.value T.grammar.IsDer T.grammar.Form T.header T.content
-        (der_strict T.grammar.value T.grammar.IsDer T.grammar.Form
-        (λ x. IsWritable (T.count_refuses x) (T.header_refuses x) (T.content_refuses x))
-        T.constructed T.header T.content T.form T.der_form T.lawful_item.form_fits)
-        (items_of s) };
-
-    ghost writable_der = { λ s. multiset_writable T.grammar.value T.grammar.IsDer T.count_refuses
-        T.header_refuses T.content_refuses T.der_writable (items_of s) };
+    ghost lawful_writing_by_kind = { multiset_lawful_writing items_of T.grammar T.writing
+        T.lawful_item T.lawful_writing };
 }
 
 impl<T: LawfulItem> LawfulTaggedBy<SetKind<Repeats>> for SetOf<T> {
@@ -258,6 +229,6 @@ impl<T: LawfulItem> LawfulTaggedBy<SetKind<Repeats>> for SetOf<T> {
 }
 
 impl<T: LawfulItem, const C: u8> TakesClassBy<SetKind<Repeats>, C> for SetOf<T> {
-    ghost takes_this_class = { set_takes_class multiset AnyList T.grammar.Form T.grammar.Ber
-        T.grammar.Check T.lawful_item.strict_ber T.lawful_item.form_check C };
+    ghost takes_this_class = { set_takes_class multiset AnyList T.grammar.Form (ber_words T.grammar)
+        T.grammar.Check (strict_ber T.grammar T.lawful_item) T.lawful_item.form_check C };
 }

@@ -132,7 +132,7 @@ impl<E: From<Error>> TaggedParserBuilder<Implicit, E> {
     where
         T: FromAny<'a, Error = E> + Tagged + Drop,
         ensures { Expects (ThenByBer E.from_gives
-            (TakesImplicit T.mark T.any_gives)) (HasTag self.class self.tag) E.from_gives
+            (TakesImplicit T.TAG T.any_gives)) (HasTag self.class self.tag) E.from_gives
             bytes.now (seen result) }
     {
         TaggedParser::<'a, Implicit, T, E>::parse_ber(alloc, self.class, self.tag, bytes)
@@ -147,7 +147,7 @@ impl<E: From<Error>> TaggedParserBuilder<Implicit, E> {
     where
         T: FromAny<'a, Error = E> + CheckDerConstraints + Tagged + Drop,
         ensures { Expects (ThenByDer E.from_gives
-            (TakesImplicit T.mark (ChecksAndConverts T.check_gives T.any_gives E.from_gives)))
+            (TakesImplicit T.TAG (ChecksAndConverts T.check_gives T.any_gives E.from_gives)))
             (HasTag self.class self.tag) E.from_gives bytes.now (seen result) }
     {
         TaggedParser::<'a, Implicit, T, E>::parse_der(alloc, self.class, self.tag, bytes)
@@ -204,7 +204,7 @@ where
     E: From<Error>,
     ensures { (number : Tag) × IntoTag.converts tag number
         × Expects (ThenByDer E.from_gives
-        (TakesImplicit T.mark (ChecksAndConverts T.check_gives T.any_gives E.from_gives)))
+        (TakesImplicit T.TAG (ChecksAndConverts T.check_gives T.any_gives E.from_gives)))
         (HasNumber number) E.from_gives bytes.now (seen result) }
 {
     let tag = tag.into();

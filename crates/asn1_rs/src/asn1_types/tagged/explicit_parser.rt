@@ -7,15 +7,14 @@ ghost use Rattle.asn1_rs.specs.Any.{parts_of, DerElementGives};
 ghost use Rattle.asn1_headers.specs.Ber.{max_depth, EndsWithin};
 ghost use Rattle.asn1_headers.specs.Header.{identifier_of};
 ghost use Rattle.asn1_headers.specs.Header.Reading.{der_breach, ber_breach};
-ghost use Rattle.asn1_rs.specs.Laws.Forms.{der_strict};
 ghost use Rattle.asn1_rs.specs.Laws.Readers.{der_elements, ber_elements, der_breach_spares, ber_breach_spares};
-ghost use Rattle.asn1_rs.specs.Laws.InHand.{behind_header, whole_writable};
 ghost use Rattle.asn1_rs.specs.Laws.Tagged.Explicit.{explicit_checks};
-ghost use Rattle.asn1_rs.specs.Laws.Tagged.Headed.{explicit_headed_lawful, explicit_headed_by_value, explicit_headed_writes_form, explicit_headed_has_form, headed_same};
+ghost use Rattle.asn1_rs.specs.Laws.Tagged.Headed.{explicit_headed_lawful, headed_same};
 ghost use Rattle.asn1_rs.specs.Laws.Tagged.Parser.{explicit_parser_exact, explicit_parser_spares};
 ghost use Rattle.asn1_rs.specs.Tagged.Explicit.{ExplicitCheckGives, InnerChecked};
 ghost use Rattle.asn1_rs.specs.Tagged.Headed.{explicit_headed};
-ghost use Rattle.asn1_rs.specs.ToDer.{Either, IsWritable};
+ghost use Rattle.asn1_rs.specs.Laws.Writing.{explicit_headed_lawful_writing};
+ghost use Rattle.asn1_rs.specs.Grammar.Item.{ber_words};
 
 use crate::asn1_types::any::Any;
 use crate::asn1_types::tagged::Explicit;
@@ -67,24 +66,9 @@ impl<T: LawfulItem, E> LawfulItem for TaggedParser<'_, Explicit, T, E> {
 }
 
 impl<T: LawfulWrite> LawfulWrite for TaggedParser<'_, Explicit, T, Error> {
-    ghost tells_all = { λ t. T.tells_all t.inner };
-
-    ghost by_value = { explicit_headed_by_value (λ t. identifier_of t.header) (λ t. t.inner)
-        T.grammar.value T.constructed T.header T.content T.by_value };
-
-    ghost form = { explicit_headed_writes_form (λ t. identifier_of t.header) (λ t. t.inner)
-        T.grammar.value T.constructed T.header T.content T.grammar.Form T.count_refuses
-        T.header_refuses T.content_refuses T.form };
-
-    ghost der_form = { explicit_headed_has_form (λ t. identifier_of t.header) (λ t. t.inner)
-        T.grammar.value T.constructed T.header T.content T.grammar.Form T.grammar.IsDer
-        (der_strict T.grammar.value T.grammar.IsDer T.grammar.Form
-        (λ x. IsWritable (T.count_refuses x) (T.header_refuses x) (T.content_refuses x))
-        T.constructed T.header T.content T.form T.der_form T.lawful_item.form_fits) };
-
-    ghost der_writable = { λ t d. behind_header (T.count_refuses t.inner)
-        (Either (T.header_refuses t.inner) (T.content_refuses t.inner))
-        (T.der_writable t.inner d.2).0 (whole_writable _ _ _ (T.der_writable t.inner d.2)) };
+    ghost lawful_writing = { explicit_headed_lawful_writing (λ t. identifier_of t.header)
+        (λ t. t.inner)
+        T.grammar T.writing T.lawful_item T.lawful_writing };
 }
 
 impl<T: LawfulCheck> LawfulCheck for TaggedParser<'_, Explicit, T, Error> {
@@ -104,7 +88,7 @@ where
 {
     ghost ber_exact = { λ input answer octets. explicit_parser_exact (IsElement max_depth)
         (ElementFault max_depth) EndsWithin ber_elements ber_breach T.ber_gives E.from_gives
-        T.grammar.Ber T.grammar.value T.grammar.allocates T.ber_exact input answer };
+        (ber_words T.grammar) T.grammar.value T.grammar.allocates T.ber_exact input answer };
 
     ghost ber_spares = { λ none. explicit_parser_spares (IsElement max_depth)
         (ElementFault max_depth) ber_breach ber_breach_spares T.ber_gives E.from_gives

@@ -1,21 +1,21 @@
 //! Values under an explicit tag: an element of its own, constructed, around that of the value (X.690 8.14.2).
-ghost use Rattle.std.specs.Prelude.{◌++◌, ◌≡◌, ◌≤◌, false, true, length};
-ghost use Rattle.x690.specs.Strict.{header_octets};
+ghost use Rattle.std.specs.Prelude.{true};
 ghost use Rattle.asn1_headers.specs.declared.error.SerializeError.TheVariants.{InvalidClass};
 ghost use Rattle.asn1_headers.specs.Answers.{seen};
 ghost use Rattle.asn1_rs.specs.Any.{parts_of, BerElementGives};
 ghost use Rattle.asn1_rs.specs.Tagged.Explicit.{ExplicitTakes, ExplicitReads, ExplicitGives, ExplicitCheckGives, InnerTakes, InnerChecked, tag_checks, explicit_grammar};
-ghost use Rattle.asn1_rs.specs.Laws.Forms.{der_strict};
-ghost use Rattle.asn1_rs.specs.Laws.InHand.{under_tag, whole_writable};
 ghost use Rattle.asn1_rs.specs.Laws.Tagged.{number_fits, marked_same};
-ghost use Rattle.asn1_rs.specs.Laws.Tagged.Explicit.{explicit_lawful, explicit_number, explicit_by_value, explicit_writes_form, explicit_has_form, explicit_takes_class, explicit_takes, explicit_takes_spares, explicit_form_body, explicit_der_exact, explicit_der_spares, explicit_checks};
+ghost use Rattle.asn1_rs.specs.Laws.Tagged.Explicit.{explicit_lawful, explicit_number, explicit_takes_class, explicit_takes, explicit_takes_spares, explicit_der_exact, explicit_der_spares, explicit_checks};
 ghost use Rattle.asn1_headers.specs.Ber.{max_depth, EndsWithin};
 ghost use Rattle.asn1_headers.specs.Header.Reading.{ber_breach};
 ghost use Rattle.asn1_rs.specs.Laws.Readers.{ber_elements, ber_breach_spares};
 ghost use Rattle.x690.specs.Nested.{IsElement, ElementFault};
 ghost use Rattle.x690.specs.Identifiers.{IsCutIdentifier};
-ghost use Rattle.asn1_rs.specs.ToDer.{Either, WrittenRefusal, OfClass, IsWritable, some_allocates};
 ghost use Rattle.asn1_rs.specs.Traits.{OfParts};
+ghost use Rattle.asn1_rs.specs.Laws.Writing.{explicit_lawful_writing};
+ghost use Rattle.asn1_rs.specs.Tagged.Writing.{explicit_under, tag_writing};
+ghost use Rattle.asn1_rs.specs.Grammar.Item.{ber_words};
+ghost use Rattle.asn1_rs.specs.Laws.Words.{strict_ber};
 
 use crate::asn1_types::any::Any;
 use crate::asn1_types::option::without_raw_tag;
@@ -29,7 +29,7 @@ use crate::laws::{
     LawfulWrite, TakesClass,
 };
 use crate::to_der::ToDer;
-use crate::traits::{CheckDerConstraints, FromAny, FromBer, FromDer};
+use crate::traits::{CheckDerConstraints, FromAny, FromBer, FromDer, converted};
 use asn1_headers::error::{Err, Error, ParseResult, SerializeError, SerializeResult};
 use asn1_headers::tag::Tag;
 use asn1_headers::writer::DerWrite;
@@ -39,30 +39,7 @@ use std::alloc::Global;
 /// `InvalidClass` before anything is counted or appended; counts look at no class.
 impl<T: ToDer, E, const CLASS: u8, const TAG: u32> ToDer
     for TaggedValue<T, E, Explicit, CLASS, TAG> {
-    ghost tells = { λ t. T.tells t.inner };
-
-    ghost header = { λ t. header_octets CLASS true TAG
-        (length (T.header t.inner ++ T.content t.inner)) };
-
-    ghost content = { λ t. T.header t.inner ++ T.content t.inner };
-
-    ghost constructed = { λ _. true };
-
-    ghost count_refuses = { λ t. T.count_refuses t.inner };
-
-    ghost header_refuses = { λ t. OfClass CLASS (WrittenRefusal (T.count_refuses t.inner)) };
-
-    ghost content_refuses = { λ t. OfClass CLASS
-        (Either (T.header_refuses t.inner) (T.content_refuses t.inner)) };
-
-    ghost refuses_first = { λ t e. (4 ≤ CLASS) × (e ≡ InvalidClass CLASS) };
-
-    ghost count_allocates = { T.count_allocates };
-
-    ghost content_allocates = { some_allocates T.write_allocates T.count_allocates
-        T.content_allocates };
-
-    ghost write_allocates = { T.write_allocates };
+    ghost writing = { tag_writing CLASS TAG (λ t. t.inner) (explicit_under T.writing) T.writing };
 
     fn to_der_len(&self) -> Result<usize, Error> {
         element_len(TAG, self.inner.to_der_len())
@@ -187,10 +164,7 @@ where
         E.from_gives };
 
     fn from_der(alloc: Global, bytes: &'a [u8]) -> ParseResult<'a, Self, E> {
-        let (rest, any) = match element_by_der(bytes) {
-            Ok(read) => read,
-            Err(e) => return Err(Err::convert(e)),
-        };
+        let (rest, any) = converted(element_by_der(bytes))?;
         match inner_by_der::<T, E>(alloc, CLASS, TAG, &any) {
             Ok((_, inner)) => Ok((rest, TaggedValue::explicit(inner))),
             Err(e) => Err(e),
@@ -248,24 +222,8 @@ where
 
 impl<T: LawfulWrite, E, const CLASS: u8, const TAG: u32> LawfulWrite
     for TaggedValue<T, E, Explicit, CLASS, TAG> {
-    ghost tells_all = { λ t. T.tells_all t.inner };
-
-    ghost by_value = { λ x y. explicit_by_value CLASS TAG T.grammar.value T.constructed T.header
-        T.content T.by_value x.inner y.inner };
-
-    ghost form = { λ t. explicit_writes_form CLASS TAG T.grammar.value T.constructed T.header
-        T.content T.grammar.Form T.count_refuses T.header_refuses T.content_refuses T.form
-        t.inner };
-
-    ghost der_form = { λ t. explicit_has_form CLASS TAG T.grammar.value T.constructed T.header
-        T.content T.grammar.Form T.grammar.IsDer
-        (der_strict T.grammar.value T.grammar.IsDer T.grammar.Form
-        (λ x. IsWritable (T.count_refuses x) (T.header_refuses x) (T.content_refuses x))
-        T.constructed T.header T.content T.form T.der_form T.lawful_item.form_fits) t.inner };
-
-    ghost der_writable = { λ t d. under_tag CLASS (T.count_refuses t.inner)
-        (Either (T.header_refuses t.inner) (T.content_refuses t.inner)) d.0
-        (T.der_writable t.inner d.2).0 (whole_writable _ _ _ (T.der_writable t.inner d.2)) };
+    ghost lawful_writing = { explicit_lawful_writing CLASS TAG (λ t. t.inner) T.grammar T.writing
+        T.lawful_item T.lawful_writing };
 }
 
 impl<T: LawfulItem, E, const CLASS: u8, const TAG: u32> LawfulTagged
@@ -278,8 +236,8 @@ impl<T: LawfulItem, E, const CLASS: u8, const TAG: u32> LawfulTagged
 /// It takes its own class alone.
 impl<T: LawfulItem, E, const CLASS: u8, const TAG: u32> TakesClass<CLASS>
     for TaggedValue<T, E, Explicit, CLASS, TAG> {
-    ghost takes_class = { explicit_takes_class CLASS TAG T.grammar.Form T.grammar.Ber
-        T.grammar.Check T.lawful_item.strict_ber T.lawful_item.form_check };
+    ghost takes_class = { explicit_takes_class CLASS TAG T.grammar.Form (ber_words T.grammar)
+        T.grammar.Check (strict_ber T.grammar T.lawful_item) T.lawful_item.form_check };
 }
 
 impl<'a, T: LawfulBer<'a, E> + Drop, E: From<Error>, const CLASS: u8, const TAG: u32> LawfulBody<
@@ -287,17 +245,12 @@ impl<'a, T: LawfulBer<'a, E> + Drop, E: From<Error>, const CLASS: u8, const TAG:
     E,
 > for TaggedValue<T, E, Explicit, CLASS, TAG> {
     ghost body_exact = { λ any. explicit_takes CLASS TAG (λ t. t.inner) T.ber_gives E.from_gives
-        T.grammar.Ber T.grammar.value T.grammar.allocates EndsWithin T.ber_exact (parts_of any) };
+        (ber_words T.grammar) T.grammar.value T.grammar.allocates EndsWithin T.ber_exact
+        (parts_of any) };
 
-    ghost body_spares = { λ none any. explicit_takes_spares {W = Self} CLASS TAG (λ t. t.inner) T.ber_gives
+    ghost body_spares = { λ none any. explicit_takes_spares {W = Self} CLASS TAG
+        (λ t. t.inner) T.ber_gives
         E.from_gives (T.ber_spares none) (parts_of any) };
-
-    ghost form_body = { explicit_form_body CLASS TAG T.grammar.Form T.grammar.Ber
-        T.lawful_item.strict_ber };
-
-    ghost ber_split = { λ o v w. w };
-
-    ghost ber_join = { λ o v w. w };
 }
 
 impl<'a, T: LawfulDer<'a, E> + Drop, E: From<Error>, const CLASS: u8, const TAG: u32> LawfulDer<

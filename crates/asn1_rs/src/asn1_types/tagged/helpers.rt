@@ -57,10 +57,10 @@ where
     F: FnOnce(&'a [u8], Tag, Header<'a>) -> ParseResult<'a, T, E> + Drop,
     E: From<Error>,
     requires { (number : Tag) → IntoTag.converts tag number →
-        HoldsOfNumber IsDerElement number (TakesUnder F.FnOnce f number T.mark) bytes.now }
+        HoldsOfNumber IsDerElement number (TakesUnder F.FnOnce f number T.TAG) bytes.now }
     ensures { (number : Tag) × IntoTag.converts tag number
         × ThenByDer E.from_gives
-        (TakesNumber number E.from_gives (ReturnsUnder F.FnOnce f number T.mark)) bytes.now
+        (TakesNumber number E.from_gives (ReturnsUnder F.FnOnce f number T.TAG)) bytes.now
         (seen result) }
 {
     let tag = tag.into();
@@ -71,7 +71,7 @@ where
     if let Err(e) = any.header.assert_tag(tag) {
         return Err(Err::Error(E::from(e)));
     }
-    match f(any.content, tag, any.header.with_tag(T::its_tag())) {
+    match f(any.content, tag, any.header.with_tag(T::TAG)) {
         Ok((_, value)) => Ok((rest, value)),
         Err(e) => Err(e),
     }

@@ -1,5 +1,5 @@
 //! Values with the header of their implicit tag: their constraints, and their laws (X.690 8.14.3).
-ghost use Rattle.std.specs.Prelude.{ℕ, ◌≡◌, ◌<◌};
+ghost use Rattle.std.specs.Prelude.{ℕ, ◌<◌};
 ghost use Rattle.x690.specs.Elements.{IsDerElement};
 ghost use Rattle.x690.specs.Faults.{DerElementFault};
 ghost use Rattle.x690.specs.Identifiers.{IsCutIdentifier};
@@ -10,13 +10,13 @@ ghost use Rattle.asn1_rs.specs.Grammar.{FormTakes};
 ghost use Rattle.asn1_headers.specs.Header.{identifier_of};
 ghost use Rattle.asn1_headers.specs.Header.Reading.{der_breach, ber_breach};
 ghost use Rattle.asn1_rs.specs.Laws.Readers.{der_elements, ber_elements, der_breach_spares, ber_breach_spares};
-ghost use Rattle.asn1_rs.specs.Laws.InHand.{behind_header};
-ghost use Rattle.asn1_rs.specs.Laws.Tagged.Headed.{each_class, implicit_headed_lawful, implicit_headed_by_value, implicit_headed_writes_form, implicit_headed_has_form, headed_same};
+ghost use Rattle.asn1_rs.specs.Laws.Tagged.Headed.{each_class, implicit_headed_lawful, headed_same};
 ghost use Rattle.asn1_rs.specs.Laws.Tagged.Implicit.{implicit_checked};
 ghost use Rattle.asn1_rs.specs.Laws.Tagged.Parser.{checked_exact, checked_spares, implicit_parser_exact, implicit_parser_spares};
 ghost use Rattle.asn1_rs.specs.Tagged.Headed.{CheckedBody, implicit_headed};
 ghost use Rattle.asn1_rs.specs.Tagged.Implicit.{ImplicitCheckGives};
 ghost use Rattle.asn1_rs.specs.Tagged.Parser.{ChecksAndConverts};
+ghost use Rattle.asn1_rs.specs.Laws.Writing.{implicit_headed_lawful_writing};
 
 use crate::asn1_types::any::Any;
 use crate::asn1_types::tagged::Implicit;
@@ -50,12 +50,12 @@ impl<T> CheckDerConstraints for TaggedParser<'_, Implicit, T, Error>
 where
     T: CheckDerConstraints + Tagged,
 {
-    ghost check_gives = { ImplicitCheckGives (T.mark).0 T.check_gives };
+    ghost check_gives = { ImplicitCheckGives (T.TAG).0 T.check_gives };
 
     /// Refuses an indefinite length with `IndefiniteLengthUnexpected`, and an element that does not
     /// keep the constraints of the value under the tag number of its type.
     fn check_constraints(any: &Any<'_>) -> Result<(), Error>
-        ensures { ImplicitCheckGives (T.mark).0 T.check_gives (parts_of any.now) result }
+        ensures { ImplicitCheckGives (T.TAG).0 T.check_gives (parts_of any.now) result }
     {
         any.header.length().assert_definite()?;
         check_under::<T>(any)
@@ -64,12 +64,12 @@ where
 
 /// Its value is that under the tag, with the identifier of the header.
 impl<T: Grammar + Tagged, E> Grammar for TaggedParser<'_, Implicit, T, E> {
-    ghost grammar = { implicit_headed (λ t. identifier_of t.header) (T.mark).0 (λ t. t.inner)
+    ghost grammar = { implicit_headed (λ t. identifier_of t.header) (T.TAG).0 (λ t. t.inner)
         T.grammar };
 }
 
 impl<T: TakesEachClass, E> LawfulItem for TaggedParser<'_, Implicit, T, E> {
-    ghost lawful_item = { implicit_headed_lawful (λ t. identifier_of t.header) (T.mark).0
+    ghost lawful_item = { implicit_headed_lawful (λ t. identifier_of t.header) (T.TAG).0
         (λ t. t.inner) T.grammar T.lawful_item T.number_fits T.tag_number T.takes_each };
 
     fn has_value(&self) {
@@ -80,26 +80,13 @@ impl<T: TakesEachClass, E> LawfulItem for TaggedParser<'_, Implicit, T, E> {
 }
 
 impl<T: LawfulWrite + TakesEachClass> LawfulWrite for TaggedParser<'_, Implicit, T, Error> {
-    ghost tells_all = { λ t. T.tells_all t.inner };
-
-    ghost by_value = { implicit_headed_by_value (λ t. identifier_of t.header) (λ t. t.inner)
-        T.grammar.value T.constructed T.header T.content T.by_value };
-
-    ghost form = { implicit_headed_writes_form (λ t. identifier_of t.header) (λ t. t.inner)
-        T.grammar.value T.constructed T.header T.content T.grammar.Form T.count_refuses
-        T.header_refuses T.content_refuses T.form };
-
-    ghost der_form = { implicit_headed_has_form (λ t. identifier_of t.header) (λ t. t.inner)
-        T.grammar.value T.constructed T.header T.content T.grammar.Form T.grammar.IsDer
-        T.der_form };
-
-    ghost der_writable = { λ t d. behind_header (T.count_refuses t.inner)
-        (T.content_refuses t.inner) (T.der_writable t.inner d.2).0
-        (T.der_writable t.inner d.2).2 };
+    ghost lawful_writing = { implicit_headed_lawful_writing (λ t. identifier_of t.header)
+        (λ t. t.inner)
+        T.grammar T.writing T.lawful_item T.lawful_writing (T.TAG).0 };
 }
 
 impl<T: LawfulCheck + TakesEachClass> LawfulCheck for TaggedParser<'_, Implicit, T, Error> {
-    ghost checks = { implicit_checked (T.mark).0 T.check_gives T.grammar.Check T.checks };
+    ghost checks = { implicit_checked (T.TAG).0 T.check_gives T.grammar.Check T.checks };
 }
 
 impl<T: LawfulMember + TakesEachClass, E> LawfulMember for TaggedParser<'_, Implicit, T, E> {
@@ -113,12 +100,12 @@ where
     E: From<Error>,
 {
     ghost ber_exact = { λ input answer octets. implicit_parser_exact (IsElement max_depth)
-        (ElementFault max_depth) ber_breach T.mark T.any_gives E.from_gives EndsWithin
+        (ElementFault max_depth) ber_breach T.TAG T.any_gives E.from_gives EndsWithin
         ber_elements T.grammar.Body T.grammar.value T.grammar.allocates T.body_exact input
         answer };
 
     ghost ber_spares = { λ none. implicit_parser_spares (IsElement max_depth)
-        (ElementFault max_depth) ber_breach T.mark T.any_gives E.from_gives ber_breach_spares
+        (ElementFault max_depth) ber_breach T.TAG T.any_gives E.from_gives ber_breach_spares
         (T.body_spares none) };
 }
 
@@ -128,14 +115,14 @@ where
     E: From<Error>,
 {
     ghost der_exact = { λ input answer octets. implicit_parser_exact IsDerElement DerElementFault
-        der_breach T.mark (ChecksAndConverts T.check_gives T.any_gives E.from_gives)
+        der_breach T.TAG (ChecksAndConverts T.check_gives T.any_gives E.from_gives)
         E.from_gives IsCutIdentifier der_elements (CheckedBody T.grammar.Check T.grammar.Body)
         T.grammar.value T.grammar.allocates
         (checked_exact T.check_gives T.grammar.Check T.checks T.any_gives E.from_gives
         T.grammar.Body T.grammar.value T.grammar.allocates T.body_exact) input answer };
 
     ghost der_spares = { λ none. implicit_parser_spares IsDerElement DerElementFault der_breach
-        T.mark (ChecksAndConverts T.check_gives T.any_gives E.from_gives) E.from_gives
+        T.TAG (ChecksAndConverts T.check_gives T.any_gives E.from_gives) E.from_gives
         der_breach_spares
         (checked_spares T.check_gives T.checks.spares T.any_gives E.from_gives
         (T.body_spares none)) };

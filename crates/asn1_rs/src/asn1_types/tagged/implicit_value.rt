@@ -1,21 +1,19 @@
 //! Values under an implicit tag: the value's element, with this class and tag number in place of its
 //! own (X.690 8.14.3).
-ghost use Rattle.std.specs.Prelude.{◌≡◌, ◌≤◌, false, length};
 ghost use Rattle.x690.specs.Elements.{IsDerElement};
 ghost use Rattle.x690.specs.Faults.{DerElementFault};
-ghost use Rattle.x690.specs.Strict.{header_octets};
 ghost use Rattle.asn1_headers.specs.declared.error.SerializeError.TheVariants.{InvalidClass};
 ghost use Rattle.asn1_rs.specs.declared.asn1_types.any.Any.{Any};
 ghost use Rattle.asn1_rs.specs.Any.{parts_of};
 ghost use Rattle.asn1_headers.specs.Header.Reading.{der_breach};
 ghost use Rattle.asn1_rs.specs.Laws.Readers.{unchecked_exact, element_spares, der_breach_spares, all_pass};
-ghost use Rattle.asn1_rs.specs.Laws.InHand.{under_tag};
 ghost use Rattle.asn1_rs.specs.Laws.Tagged.{number_fits, marked_same};
-ghost use Rattle.asn1_rs.specs.Laws.Tagged.Implicit.{implicit_lawful, implicit_number, implicit_by_value, implicit_writes_form, implicit_has_form, implicit_takes_class, implicit_form_body, implicit_takes, implicit_takes_spares, implicit_checked};
+ghost use Rattle.asn1_rs.specs.Laws.Tagged.Implicit.{implicit_lawful, implicit_number, implicit_takes_class, implicit_takes, implicit_takes_spares, implicit_checked};
 ghost use Rattle.asn1_rs.specs.Optional.{IsWithoutRawTag};
 ghost use Rattle.asn1_rs.specs.Tagged.Implicit.{ImplicitBody, ImplicitTakes, ImplicitCheckGives, ChecksUnder, implicit_checks, implicit_grammar};
-ghost use Rattle.asn1_rs.specs.ToDer.{WrittenRefusal, OfClass};
 ghost use Rattle.asn1_rs.specs.Traits.{DerGives, PassesAll};
+ghost use Rattle.asn1_rs.specs.Laws.Writing.{implicit_lawful_writing};
+ghost use Rattle.asn1_rs.specs.Tagged.Writing.{implicit_under, tag_writing};
 
 use crate::asn1_types::any::Any;
 use crate::asn1_types::option::without_raw_tag;
@@ -28,7 +26,7 @@ use crate::laws::{
     LawfulWrite, TakesClass,
 };
 use crate::to_der::ToDer;
-use crate::traits::{CheckDerConstraints, FromAny, FromDer, Tagged};
+use crate::traits::{CheckDerConstraints, FromAny, FromDer, Tagged, converted};
 use asn1_headers::error::{Err, Error, ParseResult, SerializeError, SerializeResult};
 use asn1_headers::header::Header;
 use asn1_headers::tag::Tag;
@@ -39,28 +37,7 @@ use std::alloc::Global;
 /// above 3 is refused with `InvalidClass` before anything is counted or appended; counts look at no class.
 impl<T: ToDer, E, const CLASS: u8, const TAG: u32> ToDer
     for TaggedValue<T, E, Implicit, CLASS, TAG> {
-    ghost tells = { λ t. T.tells t.inner };
-
-    ghost header = { λ t. header_octets CLASS (T.constructed t.inner) TAG
-        (length (T.content t.inner)) };
-
-    ghost content = { λ t. T.content t.inner };
-
-    ghost constructed = { λ t. T.constructed t.inner };
-
-    ghost count_refuses = { λ t. T.count_refuses t.inner };
-
-    ghost header_refuses = { λ t. OfClass CLASS (WrittenRefusal (T.count_refuses t.inner)) };
-
-    ghost content_refuses = { λ t. OfClass CLASS (T.content_refuses t.inner) };
-
-    ghost refuses_first = { λ t e. (4 ≤ CLASS) × (e ≡ InvalidClass CLASS) };
-
-    ghost count_allocates = { T.count_allocates };
-
-    ghost content_allocates = { T.content_allocates };
-
-    ghost write_allocates = { T.write_allocates };
+    ghost writing = { tag_writing CLASS TAG (λ t. t.inner) (implicit_under T.writing) T.writing };
 
     fn to_der_len(&self) -> Result<usize, Error> {
         element_len(TAG, self.inner.der_content_len())
@@ -108,14 +85,14 @@ where
 {
     type Error = E;
 
-    ghost any_gives = { ImplicitTakes CLASS TAG (λ t. t.inner) T.mark T.any_gives
+    ghost any_gives = { ImplicitTakes CLASS TAG (λ t. t.inner) T.TAG T.any_gives
         E.from_gives };
 
     fn try_from_any(alloc: Global, any: Any<'a>) -> Result<Self, E> {
         if let Err(e) = assert_in_place(CLASS, TAG, &any) {
             return Err(E::from(e));
         }
-        match T::try_from_any(alloc, any.with_tag(T::its_tag())) {
+        match T::try_from_any(alloc, any.with_tag(T::TAG)) {
             Ok(inner) => Ok(TaggedValue::implicit(inner)),
             Err(e) => Err(e),
         }
@@ -136,7 +113,7 @@ impl<'a> Any<'a> {
         T: FromAny<'a, Error = E> + Tagged,
         E: From<Error>,
         ensures { (bare : Any) × IsWithoutRawTag self.now bare ×
-            ImplicitTakes CLASS TAG (λ t. t.inner) T.mark T.any_gives E.from_gives bare result }
+            ImplicitTakes CLASS TAG (λ t. t.inner) T.TAG T.any_gives E.from_gives bare result }
     {
         TaggedValue::try_from_any(alloc, without_raw_tag(self))
     }
@@ -149,14 +126,11 @@ where
     T: FromAny<'a, Error = E> + Tagged,
     E: From<Error>,
 {
-    ghost der_gives = { DerGives PassesAll (ImplicitTakes CLASS TAG (λ t. t.inner) T.mark
+    ghost der_gives = { DerGives PassesAll (ImplicitTakes CLASS TAG (λ t. t.inner) T.TAG
         T.any_gives E.from_gives) E.from_gives };
 
     fn from_der(alloc: Global, bytes: &'a [u8]) -> ParseResult<'a, Self, E> {
-        let (rest, any) = match element_by_der(bytes) {
-            Ok(read) => read,
-            Err(e) => return Err(Err::convert(e)),
-        };
+        let (rest, any) = converted(element_by_der(bytes))?;
         match Self::try_from_any(alloc, any) {
             Ok(value) => Ok((rest, value)),
             Err(e) => Err(Err::Error(e)),
@@ -166,10 +140,10 @@ where
 
 /// Checks an element under the tag number of the value's type.
 pub(crate) fn check_under<T: CheckDerConstraints + Tagged>(any: &Any<'_>) -> Result<(), Error>
-    ensures { ChecksUnder (T.mark).0 T.check_gives (parts_of any.now) result }
+    ensures { ChecksUnder (T.TAG).0 T.check_gives (parts_of any.now) result }
 {
     let constructed = any.header.constructed();
-    let header = Header::new(any.class(), constructed, T::its_tag(), any.header.length());
+    let header = Header::new(any.class(), constructed, T::TAG, any.header.length());
     T::check_constraints(&Any::new(header, any.content))
 }
 
@@ -178,7 +152,7 @@ impl<T, E, const CLASS: u8, const TAG: u32> CheckDerConstraints
 where
     T: CheckDerConstraints + Tagged,
 {
-    ghost check_gives = { ImplicitCheckGives (T.mark).0 T.check_gives };
+    ghost check_gives = { ImplicitCheckGives (T.TAG).0 T.check_gives };
 
     /// Refuses an indefinite length with `IndefiniteLengthUnexpected`, and an element that does not
     /// keep the constraints of the value under the tag number of its type.
@@ -190,13 +164,13 @@ where
 
 impl<T: Grammar + Tagged, E, const CLASS: u8, const TAG: u32> Grammar
     for TaggedValue<T, E, Implicit, CLASS, TAG> {
-    ghost grammar = { implicit_grammar CLASS TAG (T.mark).0 (λ t. t.inner) T.grammar };
+    ghost grammar = { implicit_grammar CLASS TAG (T.TAG).0 (λ t. t.inner) T.grammar };
 }
 
 /// Lawful where the strict parts of the value are taken under the class of the tag.
 impl<T: TakesClass<CLASS>, E, const CLASS: u8, const TAG: u32> LawfulItem
     for TaggedValue<T, E, Implicit, CLASS, TAG> {
-    ghost lawful_item = { implicit_lawful CLASS TAG (T.mark).0 (λ t. t.inner) T.grammar
+    ghost lawful_item = { implicit_lawful CLASS TAG (T.TAG).0 (λ t. t.inner) T.grammar
         T.lawful_item T.number_fits T.tag_number T.takes_class };
 
     fn has_value(&self) {
@@ -220,21 +194,8 @@ impl<T, E, const CLASS: u8, const TAG: u32> LawfulWrite for TaggedValue<T, E, Im
 where
     T: LawfulWrite + TakesClass<CLASS>,
 {
-    ghost tells_all = { λ t. T.tells_all t.inner };
-
-    ghost by_value = { λ x y. implicit_by_value CLASS TAG T.grammar.value T.constructed T.header
-        T.content T.by_value x.inner y.inner };
-
-    ghost form = { λ t. implicit_writes_form CLASS TAG T.grammar.value T.constructed T.header
-        T.content T.grammar.Form T.count_refuses T.header_refuses T.content_refuses T.form
-        t.inner };
-
-    ghost der_form = { λ t. implicit_has_form CLASS TAG T.grammar.value T.constructed T.header
-        T.content T.grammar.Form T.grammar.IsDer T.der_form t.inner };
-
-    ghost der_writable = { λ t d. under_tag CLASS (T.count_refuses t.inner)
-        (T.content_refuses t.inner) d.0 (T.der_writable t.inner d.2).0
-        (T.der_writable t.inner d.2).2 };
+    ghost lawful_writing = { implicit_lawful_writing CLASS TAG (λ t. t.inner) T.grammar T.writing
+        T.lawful_item T.lawful_writing (T.TAG).0 };
 }
 
 impl<T: TakesClass<CLASS>, E, const CLASS: u8, const TAG: u32> LawfulTagged
@@ -247,7 +208,7 @@ impl<T: TakesClass<CLASS>, E, const CLASS: u8, const TAG: u32> LawfulTagged
 /// It takes its own class alone.
 impl<T: TakesClass<CLASS>, E, const CLASS: u8, const TAG: u32> TakesClass<CLASS>
     for TaggedValue<T, E, Implicit, CLASS, TAG> {
-    ghost takes_class = { implicit_takes_class CLASS TAG T.grammar.Form (T.mark).0 T.grammar.Check
+    ghost takes_class = { implicit_takes_class CLASS TAG T.grammar.Form (T.TAG).0 T.grammar.Check
         T.grammar.Body T.tag_number T.takes_class };
 }
 
@@ -257,18 +218,11 @@ where
     T: LawfulBody<'a, E> + TakesClass<CLASS>,
     E: From<Error>,
 {
-    ghost body_exact = { implicit_takes CLASS TAG (λ t. t.inner) T.mark T.any_gives E.from_gives
+    ghost body_exact = { implicit_takes CLASS TAG (λ t. t.inner) T.TAG T.any_gives E.from_gives
         T.grammar.Body T.grammar.value T.grammar.allocates T.body_exact };
 
-    ghost body_spares = { λ none. implicit_takes_spares {W = Self} CLASS TAG (λ t. t.inner) T.mark
+    ghost body_spares = { λ none. implicit_takes_spares {W = Self} CLASS TAG (λ t. t.inner) T.TAG
         T.any_gives E.from_gives (T.body_spares none) };
-
-    ghost form_body = { implicit_form_body CLASS TAG T.grammar.Form (T.mark).0 T.grammar.Check
-        T.grammar.Body T.tag_number T.takes_class };
-
-    ghost ber_split = { λ o v w. w };
-
-    ghost ber_join = { λ o v w. w };
 }
 
 impl<'a, T, E, const CLASS: u8, const TAG: u32> LawfulDer<'a, E>
@@ -278,16 +232,16 @@ where
     E: From<Error>,
 {
     ghost der_exact = { λ input answer octets. unchecked_exact
-        (ImplicitTakes CLASS TAG (λ t. t.inner) T.mark T.any_gives E.from_gives) E.from_gives
-        (ImplicitBody CLASS TAG (T.mark).0 T.grammar.Body) (λ t. T.grammar.value t.inner)
-        T.grammar.allocates (implicit_takes CLASS TAG (λ t. t.inner) T.mark T.any_gives
+        (ImplicitTakes CLASS TAG (λ t. t.inner) T.TAG T.any_gives E.from_gives) E.from_gives
+        (ImplicitBody CLASS TAG (T.TAG).0 T.grammar.Body) (λ t. T.grammar.value t.inner)
+        T.grammar.allocates (implicit_takes CLASS TAG (λ t. t.inner) T.TAG T.any_gives
         E.from_gives T.grammar.Body T.grammar.value T.grammar.allocates T.body_exact) input
         answer };
 
     ghost der_spares = { λ none. element_spares IsDerElement DerElementFault der_breach
         der_breach_spares PassesAll
-        (ImplicitTakes CLASS TAG (λ t. t.inner) T.mark T.any_gives E.from_gives) E.from_gives
-        all_pass (implicit_takes_spares {W = Self} CLASS TAG (λ t. t.inner) T.mark T.any_gives
+        (ImplicitTakes CLASS TAG (λ t. t.inner) T.TAG T.any_gives E.from_gives) E.from_gives
+        all_pass (implicit_takes_spares {W = Self} CLASS TAG (λ t. t.inner) T.TAG T.any_gives
         E.from_gives (T.body_spares none)) };
 }
 
@@ -295,7 +249,7 @@ impl<T, E, const CLASS: u8, const TAG: u32> LawfulCheck for TaggedValue<T, E, Im
 where
     T: LawfulCheck + TakesClass<CLASS>,
 {
-    ghost checks = { implicit_checked (T.mark).0 T.check_gives T.grammar.Check T.checks };
+    ghost checks = { implicit_checked (T.TAG).0 T.check_gives T.grammar.Check T.checks };
 }
 
 impl<T, E, const CLASS: u8, const TAG: u32> LawfulMember for TaggedValue<T, E, Implicit, CLASS, TAG>

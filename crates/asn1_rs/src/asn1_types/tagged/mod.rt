@@ -151,11 +151,7 @@ impl<T, E, Kind, const CLASS: u8, const TAG: u32> TaggedValue<T, E, Kind, CLASS,
 impl<T, E, Kind, const CLASS: u8, const TAG: u32> Tagged for TaggedValue<T, E, Kind, CLASS, TAG> {
     const TAG: Tag = Tag(TAG);
 
-    ghost mark = { record { 0 = number_of TAG } };
-
-    fn its_tag() -> Tag {
-        Tag(TAG)
-    }
+    ghost TAG = { record { 0 = number_of TAG } };
 }
 
 impl Any<'_> {

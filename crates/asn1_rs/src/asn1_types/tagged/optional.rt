@@ -8,7 +8,7 @@ ghost use Rattle.asn1_headers.specs.Ber.{max_depth};
 ghost use Rattle.asn1_headers.specs.Header.{class_of, tag_of};
 ghost use Rattle.asn1_headers.specs.Header.Reading.{der_refusal, ber_refusal};
 ghost use Rattle.asn1_rs.specs.Tagged.{TakesOfHeader, ReturnsOfHeader};
-ghost use Rattle.asn1_rs.specs.Tagged.Optional.{TakesFound, TakesOption, OptionGives};
+ghost use Rattle.asn1_rs.specs.Tagged.Optional.{TakesFound, TakesOption, OptTaggedGives};
 ghost use Rattle.asn1_headers.specs.declared.class.Class.TheVariants as classes;
 
 use crate::asn1_types::any::Any;
@@ -82,7 +82,7 @@ impl OptTaggedParser {
         E: From<Error>,
         requires { TakesFound (IsElement max_depth) self.now.class self.now.tag F.FnOnce f
             bytes.now }
-        ensures { OptionGives (IsElement max_depth) (ElementFault max_depth) ber_refusal
+        ensures { OptTaggedGives (IsElement max_depth) (ElementFault max_depth) ber_refusal
             self.now.class self.now.tag E.from_gives (ReturnsOfHeader F.FnOnce f) bytes.now
             (seen result) }
     {
@@ -101,7 +101,7 @@ impl OptTaggedParser {
         F: FnOnce(Header<'_>, &'a [u8]) -> ParseResult<'a, T, E> + Drop,
         E: From<Error>,
         requires { TakesFound IsDerElement self.now.class self.now.tag F.FnOnce f bytes.now }
-        ensures { OptionGives IsDerElement DerElementFault der_refusal self.now.class
+        ensures { OptTaggedGives IsDerElement DerElementFault der_refusal self.now.class
             self.now.tag E.from_gives (ReturnsOfHeader F.FnOnce f) bytes.now (seen result) }
     {
         if bytes.is_empty() {

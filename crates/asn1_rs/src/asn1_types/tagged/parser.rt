@@ -19,7 +19,7 @@ use crate::asn1_types::any::Any;
 use crate::asn1_types::tagged::{Explicit, Implicit};
 use crate::ber::element_by_ber;
 use crate::der::element_by_der;
-use crate::traits::{CheckDerConstraints, DynTagged, FromAny, FromBer, FromDer, Tagged};
+use crate::traits::{CheckDerConstraints, DynTagged, FromAny, FromBer, FromDer, Tagged, converted};
 use asn1_headers::class::Class;
 use asn1_headers::error::{Err, Error, ParseResult};
 use asn1_headers::header::Header;
@@ -187,10 +187,7 @@ where
     ghost ber_gives = { ThenByBer E.from_gives (TakesExplicit T.ber_gives) };
 
     fn from_ber(alloc: Global, bytes: &'a [u8]) -> ParseResult<'a, Self, E> {
-        let (rest, any) = match element_by_ber(bytes) {
-            Ok(read) => read,
-            Err(e) => return Err(Err::convert(e)),
-        };
+        let (rest, any) = converted(element_by_ber(bytes))?;
         match T::from_ber(alloc, any.content) {
             Ok((_, inner)) => Ok((rest, TaggedParser::new(any.header, inner))),
             Err(e) => Err(e),
@@ -209,10 +206,7 @@ where
         (TakesExplicit T.der_gives) };
 
     fn from_der(alloc: Global, bytes: &'a [u8]) -> ParseResult<'a, Self, E> {
-        let (rest, any) = match element_by_der(bytes) {
-            Ok(read) => read,
-            Err(e) => return Err(Err::convert(e)),
-        };
+        let (rest, any) = converted(element_by_der(bytes))?;
         match T::from_der(alloc, any.content) {
             Ok((_, inner)) => Ok((rest, TaggedParser::new(any.header, inner))),
             Err(e) => Err(e),
@@ -268,14 +262,11 @@ where
     T: FromAny<'a, Error = E> + Tagged,
     E: From<Error>,
 {
-    ghost ber_gives = { ThenByBer E.from_gives (TakesImplicit T.mark T.any_gives) };
+    ghost ber_gives = { ThenByBer E.from_gives (TakesImplicit T.TAG T.any_gives) };
 
     fn from_ber(alloc: Global, bytes: &'a [u8]) -> ParseResult<'a, Self, E> {
-        let (rest, any) = match element_by_ber(bytes) {
-            Ok(read) => read,
-            Err(e) => return Err(Err::convert(e)),
-        };
-        let other = under(bytes, &any, T::its_tag());
+        let (rest, any) = converted(element_by_ber(bytes))?;
+        let other = under(bytes, &any, T::TAG);
         match T::try_from_any(alloc, other) {
             Ok(inner) => Ok((rest, TaggedParser::new(any.header, inner))),
             Err(e) => Err(Err::Error(e)),
@@ -290,14 +281,11 @@ where
     E: From<Error>,
 {
     ghost der_gives = { ThenByDer E.from_gives
-        (TakesImplicit T.mark (ChecksAndConverts T.check_gives T.any_gives E.from_gives)) };
+        (TakesImplicit T.TAG (ChecksAndConverts T.check_gives T.any_gives E.from_gives)) };
 
     fn from_der(alloc: Global, bytes: &'a [u8]) -> ParseResult<'a, Self, E> {
-        let (rest, any) = match element_by_der(bytes) {
-            Ok(read) => read,
-            Err(e) => return Err(Err::convert(e)),
-        };
-        let other = under(bytes, &any, T::its_tag());
+        let (rest, any) = converted(element_by_der(bytes))?;
+        let other = under(bytes, &any, T::TAG);
         match check_and_convert(alloc, other) {
             Ok(inner) => Ok((rest, TaggedParser::new(any.header, inner))),
             Err(e) => Err(Err::Error(e)),
@@ -374,7 +362,7 @@ impl<'a, T: Drop, E: From<Error>> TaggedParser<'a, Implicit, T, E> {
     where
         T: FromAny<'a, Error = E> + Tagged,
         ensures { Expects (ThenByBer E.from_gives
-            (TakesImplicit T.mark T.any_gives)) (HasTag class tag) E.from_gives bytes.now
+            (TakesImplicit T.TAG T.any_gives)) (HasTag class tag) E.from_gives bytes.now
             (seen result) }
     {
         match Self::from_ber(alloc, bytes) {
@@ -393,7 +381,7 @@ impl<'a, T: Drop, E: From<Error>> TaggedParser<'a, Implicit, T, E> {
     where
         T: FromAny<'a, Error = E> + CheckDerConstraints + Tagged,
         ensures { Expects (ThenByDer E.from_gives
-            (TakesImplicit T.mark (ChecksAndConverts T.check_gives T.any_gives E.from_gives)))
+            (TakesImplicit T.TAG (ChecksAndConverts T.check_gives T.any_gives E.from_gives)))
             (HasTag class tag) E.from_gives bytes.now (seen result) }
     {
         match Self::from_der(alloc, bytes) {

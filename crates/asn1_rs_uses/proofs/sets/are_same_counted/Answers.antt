@@ -1,4 +1,4 @@
-use Rattle.std.proofs.Common.{◌≡◌, ◌∙◌, sym, ap, subst, ℕ, List, [], ◌++◌, map, pos, arith, length}
+use Rattle.std.proofs.Common.{◌≡◌, ◌∙◌, sym, ap, subst, ℕ, List, [], ◌++◌, arith, length}
 use Rattle.std.proofs.lemmas.Slice.Eq.{bytes_eq-Decides}
 use mathlib.Core.Logic.{∥∥₁_elim}
 use mathlib.Core.Quot.{Quot-set}
@@ -14,8 +14,8 @@ use Rattle.asn1_rs_uses.proofs.sets.are_same_counted.Goals as goal
 octets_set : IsSet (List ℕ)
 octets_set = is_set ℕ_set
 
-pub returns : goal.returns
-returns c =
+pub returns-clause-same : goal.returns-clause-same
+returns-clause-same c =
     let first : c.as_slice.result.now ≡ set_octets (items_of c.args.one.now) = c.as_slice.ensures.value ∙ c.in_ok-first.ensures.plain in
     let second : c.as_slice-2.result.now ≡ set_octets (items_of c.args.other.now) = c.as_slice-2.ensures.value ∙ c.in_ok-second.ensures.plain in
     let strict = (c.in_ok-first.ensures.headline c.is_der.ensures (omega (arith, ap length first, c.as_slice.type_inv.0))).0 in

@@ -35,6 +35,6 @@ returns-clause-ok g c =
     let kept = c.keep.new.line.items in
     let h = c.in_ok-write_answer.ensures.ok in
     let a = subst (λ (l : List ℕ). IsAnswerLine l h.0) c.as_slice.ensures.value h.1 in
-    let told = g.W.DerWrite.told in
+    let told = λ (w : _). (g.W.DerWrite.state w).told in
     subst (λ (l : List ℕ). Moves (told c.args.output.now) (told c.write_answer-2.new.output) ((c.args.line.now.items ++ c.args.last.now) ++ 10 ∷ []) l) (sym c.clear.ensures.items)
     (moves_both (moves_more (10 ∷ []) (c.in_ok-keep.ensures.moves _)) (moves_ended kept h.0 (recursion_from_All _ _ c.in_ok-keep.ensures.«open») a h.2))

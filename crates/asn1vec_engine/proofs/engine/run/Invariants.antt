@@ -7,7 +7,7 @@ use Rattle.asn1vec_engine.proofs.engine.run.Given as goal
 abbrev pub invariant-loop : goal.invariant-loop
 invariant-loop g l = record {
   open_line : All (λ x. x ≢ 10) l.line.items;
-  mark : g.W.DerWrite.failed l.output ≡ g.W.DerWrite.failed l.initial.output;
+  mark : (g.W.DerWrite.state l.output).failed ≡ (g.W.DerWrite.state l.initial.output).failed;
   so_far : (read : List ℕ) × Consumes (g.R.Read.remaining l.initial.input) (g.R.Read.remaining l.input) read
-      × Moves (g.W.DerWrite.told l.initial.output) (g.W.DerWrite.told l.output) read l.line.items;
+      × Moves (g.W.DerWrite.state l.initial.output).told (g.W.DerWrite.state l.output).told read l.line.items;
 }

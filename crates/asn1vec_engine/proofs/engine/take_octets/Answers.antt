@@ -22,7 +22,7 @@ pub lines-init : goal.lines-init
 lines-init g c = record {
   open_line = c.requires;
   mark = refl;
-  moved = moves_start (g.W.DerWrite.told c.args.output.now) c.args.line.now.items c.args.octets.now;
+  moved = moves_start (g.W.DerWrite.state c.args.output.now).told c.args.line.now.items c.args.octets.now;
 }
 
 pub lines-preserved : goal.lines-preserved

@@ -1,11 +1,11 @@
-use Rattle.std.proofs.Common.{◌≡◌, ◌++◌, List, length, take}
+use Rattle.std.proofs.Common.{◌≡◌, List, length, take}
 use Rattle.std.specs.List.{All, flat_map}
-use Rattle.asn1_rs.specs.ToDer.{HasNone}
+use Rattle.asn1_rs.specs.ToDer.{HasNone, whole_octets}
 use Rattle.asn1_rs.specs.Lists.{GivesItems}
 use Rattle.asn1_rs.proofs.asn1_types.lists.count_items.Given as goal
 
 abbrev pub invariant-loop-item : goal.invariant-loop-item
 invariant-loop-item g l =
     (goal.iterator-loop-item g).can_next l.item-iterator × (goal.iterator-loop-item g).is_finite l.item-iterator
-    × ((xs : List _) → GivesItems g.I.Iterator.next_gives g.R.Deref.deref_gives l.fn.items xs → All g.T.ToDer.tells xs →
-    (l.total ≡ length (flat_map (λ x. g.T.ToDer.header x ++ g.T.ToDer.content x) (take (length l.yielded) xs))) × All (λ x. HasNone (g.T.ToDer.count_refuses x)) (take (length l.yielded) xs))
+    × ((xs : List _) → GivesItems g.I.Iterator.next_gives g.R.Deref.deref_gives l.fn.items xs → All g.T.ToDer.writing.tells xs →
+    (l.total ≡ length (flat_map (whole_octets g.T.ToDer.writing) (take (length l.yielded) xs))) × All (λ x. HasNone (g.T.ToDer.writing.count_refuses x)) (take (length l.yielded) xs))

@@ -1,7 +1,7 @@
 use Rattle.std.proofs.Common.{◌≡◌, ℕ, List, map, take, drop}
 use Rattle.std.specs.List.{concat}
-use Rattle.asn1_rs.specs.Lists.{AreEncodings}
+use Rattle.asn1_rs.specs.Lists.{ArePacked}
 use Rattle.asn1_rs.proofs.asn1_types.set.pieces_of.Given as goal
 
 abbrev pub invariant-loop-length : goal.invariant-loop-length
-invariant-loop-length l = (strings : List (List ℕ)) → AreEncodings strings l.encodings → (map (λ s. s.now) l.pieces.items ≡ take l.length-index strings) × (l.rest ≡ concat (drop l.length-index strings))
+invariant-loop-length l = (strings : List (List ℕ)) → ArePacked strings l.encodings → (map (λ s. s.now) l.pieces.items ≡ take l.length-index strings) × (l.rest ≡ concat (drop l.length-index strings))

@@ -1,7 +1,7 @@
 use Rattle.std.proofs.Common.{arith, length-append}
 use Rattle.std.proofs.lemmas.Bool.{false≢true}
 use Rattle.std.proofs.lemmas.Result.{err_from_is_err_and}
-use Rattle.asn1_rs.specs.ToDer.{Either}
+use Rattle.asn1_rs.specs.ToDer.{Either, whole_refuses}
 use Rattle.asn1_headers.specs.Laws.Writing.{Wrote_then_err, Wrote_sum, MayRefuse_sum}
 use Rattle.asn1_rs.proofs.Writing.{refuses_first, refuses_second, refuses_wider, header_at_once, only_may, not_refused}
 use Rattle.asn1_rs.proofs.to_der.ToDer.write_der.Goals as goal
@@ -17,19 +17,19 @@ returns-clause-wrote g c = λ t. Wrote_sum _ (c.in_ok-before.ensures.wrote t) (c
 pub returns-in_err-before-clause-refused : goal.returns-in_err-before-clause-refused
 returns-in_err-before-clause-refused g c = λ t.
     let p = err_from_is_err_and c.from_residual.result c.from_residual.ensures.1 in
-    let heading = g.Self.ToDer.header_refuses c.args.self.now in
-    let filling = g.Self.ToDer.content_refuses c.args.self.now in
-    rw (p.1, p.2) (refuses_wider c.in_err-before.field-0.0 g.Self.ToDer.write_allocates _ _ (Either heading filling) (refuses_first c.in_err-before.field-0.0 _ g.Self.ToDer.content_allocates _ heading filling (c.in_err-before.ensures.refused t)))
+    let heading = g.Self.ToDer.writing.header_refuses c.args.self.now in
+    let filling = g.Self.ToDer.writing.content_refuses c.args.self.now in
+    rw (p.1, p.2) (refuses_wider c.in_err-before.field-0.0 g.Self.ToDer.writing.write_allocates _ _ (Either heading filling) (refuses_first c.in_err-before.field-0.0 _ g.Self.ToDer.writing.content_allocates _ heading filling (c.in_err-before.ensures.refused t)))
 
 pub returns-in_err-after-clause-refused : goal.returns-in_err-after-clause-refused
 returns-in_err-after-clause-refused g c = λ t.
     let p = err_from_is_err_and c.from_residual-in_err-after.result c.from_residual-in_err-after.ensures.1 in
-    let heading = g.Self.ToDer.header_refuses c.args.self.now in
-    let filling = g.Self.ToDer.content_refuses c.args.self.now in
-    rw (p.1, p.2) (refuses_wider c.in_err-after.field-0.0 g.Self.ToDer.write_allocates _ _ (Either heading filling) (refuses_second c.in_err-after.field-0.0 g.Self.ToDer.count_allocates _ _ _ heading filling (simp length-append (omega arith)) (c.in_err-after.ensures.refused t)))
+    let heading = g.Self.ToDer.writing.header_refuses c.args.self.now in
+    let filling = g.Self.ToDer.writing.content_refuses c.args.self.now in
+    rw (p.1, p.2) (refuses_wider c.in_err-after.field-0.0 g.Self.ToDer.writing.write_allocates _ _ (Either heading filling) (refuses_second c.in_err-after.field-0.0 g.Self.ToDer.writing.count_allocates _ _ _ heading filling (simp length-append (omega arith)) (c.in_err-after.ensures.refused t)))
 
 pub returns-clause-refused : goal.returns-clause-refused
-returns-clause-refused g c = λ t. only_may c.add_written.result _ _ (Either (g.Self.ToDer.header_refuses c.args.self.now) (g.Self.ToDer.content_refuses c.args.self.now)) (MayRefuse_sum _ _ _ _ (c.in_ok-before.ensures.wrote t) (c.in_ok-after.ensures.wrote t) c.add_written.ensures)
+returns-clause-refused g c = λ t. only_may c.add_written.result _ _ (whole_refuses g.Self.ToDer.writing c.args.self.now) (MayRefuse_sum _ _ _ _ (c.in_ok-before.ensures.wrote t) (c.in_ok-after.ensures.wrote t) c.add_written.ensures)
 
 pub returns-clause-accepted : goal.returns-clause-accepted
 returns-clause-accepted g c = λ e t o. absurd (false≢true (c.in_ok-after.ensures.accepted e t o))
@@ -40,12 +40,12 @@ returns-clause-uncounted g c = λ e t o. absurd (false≢true (c.in_ok-after.ens
 pub returns-in_err-before-clause-at_once : goal.returns-in_err-before-clause-at_once
 returns-in_err-before-clause-at_once g c = λ e t o.
     let p = err_from_is_err_and c.from_residual.result c.from_residual.ensures.1 in
-    let heading = g.Self.ToDer.header_refuses c.args.self.now in
-    let filling = g.Self.ToDer.content_refuses c.args.self.now in
-    rw (p.1, p.2) (header_at_once g.Self.ToDer.write_allocates _ g.Self.ToDer.content_allocates _ heading filling _ _ _ _ _ (c.in_err-before.ensures.at_once e t o))
+    let heading = g.Self.ToDer.writing.header_refuses c.args.self.now in
+    let filling = g.Self.ToDer.writing.content_refuses c.args.self.now in
+    rw (p.1, p.2) (header_at_once g.Self.ToDer.writing.write_allocates _ g.Self.ToDer.writing.content_allocates _ heading filling _ _ _ (c.in_err-before.ensures.at_once e t o))
 
 pub returns-in_err-after-clause-at_once : goal.returns-in_err-after-clause-at_once
-returns-in_err-after-clause-at_once g c = λ e t o. absurd (not_refused _ _ (g.Self.ToDer.header_refuses c.args.self.now) _ _ _ _ _ (c.in_ok-before.ensures.at_once e t o))
+returns-in_err-after-clause-at_once g c = λ e t o. absurd (not_refused _ _ (g.Self.ToDer.writing.header_refuses c.args.self.now) _ _ _ (c.in_ok-before.ensures.at_once e t o))
 
 pub returns-clause-at_once : goal.returns-clause-at_once
-returns-clause-at_once g c = λ e t o. absurd (not_refused _ _ (g.Self.ToDer.header_refuses c.args.self.now) _ _ _ _ _ (c.in_ok-before.ensures.at_once e t o))
+returns-clause-at_once g c = λ e t o. absurd (not_refused _ _ (g.Self.ToDer.writing.header_refuses c.args.self.now) _ _ _ (c.in_ok-before.ensures.at_once e t o))

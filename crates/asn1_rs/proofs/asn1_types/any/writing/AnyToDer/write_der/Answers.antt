@@ -13,13 +13,13 @@ same_header any class number constructed a b d = cc
 
 pub returns-clause-wrote : goal.returns-clause-wrote
 returns-clause-wrote g c =
-    subst (λ h. Wrote (h ++ content_of c.args.self.now) (g.W.DerWrite.told c.args.w.now) (g.W.DerWrite.told c.put_behind.new.w) (g.W.DerWrite.failed c.args.w.now) (g.W.DerWrite.failed c.put_behind.new.w) c.put_behind.result)
+    subst (λ h. Wrote (h ++ content_of c.args.self.now) (g.W.DerWrite.state c.args.w.now) (g.W.DerWrite.state c.put_behind.new.w) c.put_behind.result)
     (same_header c.args.self.now _ _ _ (c.number-class.ensures ∙ ap class_number c.class.ensures) c.constructed.ensures (ap (λ t. t.0) c.tag-number.ensures))
-    (c.put_behind.ensures.wrote _ _ _ c.put_header-header.ensures.wrote)
+    (c.put_behind.ensures.wrote _ _ c.put_header-header.ensures.wrote)
 
 pub returns-clause-refused : goal.returns-clause-refused
 returns-clause-refused g c =
     only_may c.put_behind.result false (length (element_header c.args.self.now ++ content_of c.args.self.now)) (Either (λ _. ⊥) (λ _. ⊥))
     (subst (λ h. IfErr c.put_behind.result (MayRefuse false (length (h ++ content_of c.args.self.now))))
     (same_header c.args.self.now _ _ _ (c.number-class.ensures ∙ ap class_number c.class.ensures) c.constructed.ensures (ap (λ t. t.0) c.tag-number.ensures))
-    (c.put_behind.ensures.failed _ _ _ c.put_header-header.ensures.wrote (c.put_header-header.ensures.failed _ _)))
+    (c.put_behind.ensures.failed _ _ c.put_header-header.ensures.wrote (c.put_header-header.ensures.failed _ _)))
