@@ -1,6 +1,5 @@
 //! How integers are shown: in decimals.
-#![tactic(auto, using(crate::proofs::ShownLaws::strict_unsigned,
-crate::proofs::ShownLaws::strict_signed))]
+#![tactic(auto, using(crate::proofs::ShownLaws::strict_unsigned, crate::proofs::ShownLaws::strict_signed))]
 
 ghost use Rattle.std.specs.Prelude.{ℕ, List};
 ghost use Rattle.asn1_rs.specs.Grammar.Form.{IsStrict};
