@@ -1,4 +1,5 @@
 //! Writers that take little at a time, and that fail.
+ghost use Rattle.std.specs.Prelude.{None};
 
 use asn1_rs::DerWrite;
 use std::alloc::{AllocError, Global};
