@@ -8,7 +8,7 @@ ghost use Rattle.asn1_headers.specs.Tag.{is_container};
 ghost use Rattle.asn1_headers.specs.Header.{tag_of, raw_tag_of};
 ghost use Rattle.asn1_headers.specs.Header.Reading.{HeaderGives, HeaderRefusalLasts, der_refusal, ber_refusal};
 ghost use Rattle.asn1_headers.specs.Header.Writing.{parts_identifier, strict_header, kept_header};
-ghost use Rattle.asn1_headers.specs.Writer.{Wrote, MayRefuse};
+ghost use Rattle.asn1_headers.specs.Writer.{Wrote, MayRefuse, WriterState};
 ghost use Rattle.asn1_headers.specs.Error.{written_refusal, tells_of_io};
 ghost use Rattle.asn1_rs.specs.ToDer.{MayRefuseCount, Refuses, RefusesCount, VectorRefuses, Either, RefusedAtOnce, SumsCounts, plain_writing};
 
@@ -23,7 +23,7 @@ use asn1_headers::header::writing::{
 };
 use asn1_headers::length::writing::length_len;
 use asn1_headers::tag::Tag;
-use asn1_headers::writer::{DerWrite, Told};
+use asn1_headers::writer::{DerWrite, Told, add_written, put_all};
 use std::alloc::Global;
 use x690::digits::identifier_octets_count;
 
@@ -111,6 +111,26 @@ pub fn put_counted_header<W: DerWrite>(
         Ok(len) => put_header(class, constructed, number, len, w),
         Err(e) => Err(refusal_of_count(e)),
     }
+}
+
+/// Appends contents octets behind a header, whose writing was answered so, and answers the number of both.
+#[inline(always)]
+pub(crate) fn put_behind<W: DerWrite>(
+    header: SerializeResult<usize>,
+    content: &[u8],
+    w: &mut W,
+) -> SerializeResult<usize>
+    ensures wrote { (octets : List ℕ) (before : WriterState) →
+        Wrote octets before (W.state w.old) header →
+        Wrote (octets ++ content.now) before (W.state w.new) result }
+    ensures failed { (octets : List ℕ) (before : WriterState) →
+        Wrote octets before (W.state w.old) header →
+        IfErr header (MayRefuse false (length (octets ++ content.now))) →
+        IfErr result (MayRefuse false (length (octets ++ content.now))) }
+{
+    let before = header?;
+    let after = put_all(w, content)?;
+    add_written(before, after)
 }
 
 impl DynTagged for (Class, bool, Tag) {

@@ -11,6 +11,7 @@ pub mod kept;
 pub mod lists;
 pub mod null;
 pub mod octet_string;
+pub mod oid;
 pub mod option;
 pub mod sequence;
 pub mod set;

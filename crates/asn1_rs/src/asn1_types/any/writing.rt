@@ -7,38 +7,18 @@ ghost use Rattle.asn1_headers.specs.Length.{form_of};
 ghost use Rattle.asn1_headers.specs.Header.Writing.{strict_header};
 ghost use Rattle.asn1_rs.specs.Any.Writing.{content_of, element_header, element_writing};
 ghost use Rattle.asn1_rs.specs.Laws.Any.Writing.{element_same, element_lawful_writing};
-ghost use Rattle.asn1_headers.specs.Writer.{Wrote, MayRefuse, WriterState};
+ghost use Rattle.asn1_headers.specs.Writer.{Wrote, MayRefuse};
 ghost use Rattle.asn1_rs.specs.ToDer.{Refuses, RefusesCount, VectorRefuses, Either};
 ghost use Rattle.asn1_headers.specs.Error.{tells_of_io};
 
 use crate::asn1_types::any::Any;
-use crate::header::element_len;
+use crate::header::{element_len, put_behind};
 use crate::laws::{LawfulMember, LawfulWrite};
 use crate::to_der::ToDer;
 use asn1_headers::error::{Error, SerializeResult, without_io};
 use asn1_headers::header::writing::{put_header, put_strict_header};
-use asn1_headers::writer::{DerWrite, Told, add_written, put_all};
+use asn1_headers::writer::{DerWrite, Told, put_all};
 use std::alloc::Global;
-
-/// Appends contents octets behind a header, whose writing was answered so, and answers the number of both.
-#[inline(always)]
-fn put_behind<W: DerWrite>(
-    header: SerializeResult<usize>,
-    content: &[u8],
-    w: &mut W,
-) -> SerializeResult<usize>
-    ensures wrote { (octets : List ℕ) (before : WriterState) →
-        Wrote octets before (W.state w.old) header →
-        Wrote (octets ++ content.now) before (W.state w.new) result }
-    ensures failed { (octets : List ℕ) (before : WriterState) →
-        Wrote octets before (W.state w.old) header →
-        IfErr header (MayRefuse false (length (octets ++ content.now))) →
-        IfErr result (MayRefuse false (length (octets ++ content.now))) }
-{
-    let before = header?;
-    let after = put_all(w, content)?;
-    add_written(before, after)
-}
 
 /// An element is written with the strict identifier of its header and the length of its contents octets, whatever
 /// length its header has.

@@ -2,7 +2,7 @@ use Rattle.std.proofs.Common.{◌++◌, length, subst, IfErr, false}
 use Rattle.std.proofs.lemmas.Result.{err_from_is_err_and}
 use Rattle.asn1_headers.specs.Writer.{Wrote, MayRefuse}
 use Rattle.asn1_headers.specs.Laws.Writing.{Wrote_front, Wrote_then_err, Wrote_sum, MayRefuse_sum}
-use Rattle.asn1_rs.proofs.asn1_types.any.writing.put_behind.Goals as goal
+use Rattle.asn1_rs.proofs.header.put_behind.Goals as goal
 
 pub returns-in_err-before-clause-wrote : goal.returns-in_err-before-clause-wrote
 returns-in_err-before-clause-wrote g c = λ octets before wrote.

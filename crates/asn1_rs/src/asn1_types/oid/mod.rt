@@ -1,0 +1,184 @@
+//! Object identifiers, absolute and relative (X.690 8.19, 8.20).
+
+mod relative;
+mod writing;
+
+ghost use Rattle.std.specs.Prelude.{◌≡◌, ◌++◌, ◌↔◌, ℕ, List, true, false, IfOk, IfErr};
+ghost use Rattle.std.specs.Cow.{IsBorrowedSlice};
+ghost use Rattle.x690.specs.Arcs.{arcs_of, AreComplete};
+ghost use Rattle.x690.specs.Octets.{BeginsWith};
+ghost use Rattle.asn1_headers.specs.declared.error.Error.TheVariants as errors;
+ghost use Rattle.asn1_rs.specs.Any.{parts_of};
+ghost use Rattle.asn1_rs.specs.Oid.{OidGives, absolute, is_relative, oid_constraints, oid_cow, oid_element, oid_octets, oid_value};
+ghost use Rattle.asn1_rs.specs.Laws.Oid.{arcs_begin_by_test, begins_by_test, oid_checked, oid_converts, oid_equal, oid_lawful};
+
+use crate::asn1_types::any::Any;
+use crate::kinds::{ElementKind, HasKind, LawfulConversion, LawfulElement, TagNumber, TaggedAs};
+use crate::laws::LawfulMember;
+use crate::laws::in_hand::octets_in_hand;
+use crate::traits::{CheckDerConstraints, DerAutoDerive, FromAny};
+use asn1_headers::error::Error;
+use std::alloc::Global;
+use std::borrow::CowSlice;
+
+/// An object identifier, or a relative one, by its contents octets, which are borrowed or owned (X.690 8.19, 8.20).
+///
+/// The contents octets are kept as they are given, padded, cut or empty. Two are equal where their octets are, and both
+/// or neither is relative.
+#[derive(Clone, Drop, PartialEq, Eq, Hash)]
+pub struct Oid<'a> {
+    octets: CowSlice<'a, u8, Global>,
+    relative: bool,
+}
+
+impl<'a> Oid<'a> {
+    /// The object identifier of these contents octets, as they are held.
+    pub const fn new(octets: CowSlice<'a, u8, Global>) -> Self
+        ensures octets { oid_cow result ≡ octets.entry }
+        ensures kind { is_relative result ≡ false }
+    {
+        Oid {
+            octets,
+            relative: false,
+        }
+    }
+
+    /// The relative object identifier of these contents octets, as they are held.
+    pub const fn new_relative(octets: CowSlice<'a, u8, Global>) -> Self
+        ensures octets { oid_cow result ≡ octets.entry }
+        ensures kind { is_relative result ≡ true }
+    {
+        Oid {
+            octets,
+            relative: true,
+        }
+    }
+
+    /// The contents octets, as they are held.
+    pub fn into_cow(self) -> CowSlice<'a, u8, Global>
+        ensures { result ≡ oid_cow self.entry }
+    {
+        self.octets
+    }
+
+    /// The contents octets.
+    #[inline(always)]
+    pub fn as_bytes(&self) -> &[u8]
+        ensures { result.now ≡ oid_octets self.now }
+    {
+        self.octets.as_slice()
+    }
+
+    /// The contents octets, as [`Oid::as_bytes`] gives them, which is the name to use.
+    pub fn bytes(&self) -> &[u8]
+        ensures { result.now ≡ oid_octets self.now }
+    {
+        self.as_bytes()
+    }
+
+    /// Whether the contents octets of the needle begin these, whatever the kinds of the two.
+    ///
+    /// Where the two are of one kind and each subidentifier of the needle has its last octet, its arcs begin the arcs.
+    pub fn starts_with(&self, needle: &Oid<'_>) -> bool
+        ensures octets { result ≡ true ↔ (rest : List ℕ) ×
+            BeginsWith (oid_octets self.now) (oid_octets needle.now) rest }
+        ensures arcs { result ≡ true → is_relative self.now ≡ is_relative needle.now →
+            AreComplete (oid_octets needle.now) → (more : List ℕ) ×
+            BeginsWith (arcs_of (is_relative self.now) (oid_octets self.now))
+            (arcs_of (is_relative needle.now) (oid_octets needle.now)) more }
+    {
+        self.as_bytes().starts_with(needle.as_bytes())
+    }
+
+    /// A copy that owns its octets, of the same kind. Refused only when out of memory, with `OutOfMemory`.
+    pub fn to_owned(&self, alloc: Global) -> Result<Oid<'static>, Error>
+        ensures copied { IfOk result (λ copy. oid_value copy ≡ oid_value self.now) }
+        ensures refused { IfErr result (λ e. e ≡ errors.OutOfMemory) }
+    {
+        let octets = self.as_bytes().to_vec(alloc)?;
+        Ok(Oid {
+            octets: CowSlice::Owned(octets),
+            relative: self.relative,
+        })
+    }
+}
+
+impl<'a> Any<'a> {
+    /// The object identifier of the contents octets, which are borrowed. Nothing is refused: neither class nor tag
+    /// number, nor the constructed bit is looked at.
+    pub fn oid(self) -> Result<Oid<'a>, Error>
+        ensures { OidGives self.entry result }
+    {
+        self.as_oid()
+    }
+
+    /// The object identifier, of an element that stays.
+    #[inline(always)]
+    pub fn as_oid(&self) -> Result<Oid<'a>, Error>
+        ensures { OidGives self.now result }
+    {
+        Ok(Oid::new(CowSlice::Borrowed(self.content)))
+    }
+}
+
+/// Refuses a constructed element with `ConstructUnexpected`, then one of indefinite length with
+/// `IndefiniteLengthUnexpected` (X.690 8.19.1, 10.1).
+#[inline(always)]
+fn check_primitive_and_counted(any: &Any<'_>) -> Result<(), Error>
+    ensures { oid_constraints (parts_of any.now) result }
+{
+    any.header.assert_primitive()?;
+    any.header.length().assert_definite()
+}
+
+impl TaggedAs for Oid<'_> {
+    type Number = TagNumber<6>;
+}
+
+impl<'a> FromAny<'a> for Oid<'a> {
+    type Error = Error;
+
+    ghost any_gives = { OidGives };
+
+    fn try_from_any(_alloc: Global, any: Any<'a>) -> Result<Oid<'a>, Error> {
+        any.as_oid()
+    }
+}
+
+impl CheckDerConstraints for Oid<'_> {
+    ghost check_gives = { oid_constraints };
+
+    /// Refuses a constructed element with `ConstructUnexpected`, then one of indefinite length with
+    /// `IndefiniteLengthUnexpected` (X.690 8.19.1, 10.1).
+    fn check_constraints(any: &Any<'_>) -> Result<(), Error>
+        ensures { oid_constraints (parts_of any.now) result }
+    {
+        check_primitive_and_counted(any)
+    }
+}
+
+impl DerAutoDerive for Oid<'_> {}
+
+impl HasKind for Oid<'_> {
+    type Kind = ElementKind;
+}
+
+impl LawfulElement for Oid<'_> {
+    ghost element = { oid_element };
+
+    ghost lawful = { oid_lawful };
+
+    ghost checked = { oid_checked };
+
+    fn value_in_hand(&self) {
+        octets_in_hand(self.as_bytes());
+    }
+}
+
+impl<'a> LawfulConversion<'a> for Oid<'a> {
+    ghost converts = { oid_converts };
+}
+
+impl LawfulMember for Oid<'_> {
+    ghost same = { oid_equal };
+}
