@@ -33,3 +33,8 @@ PassesAll p answer = answer ≡ Ok tt
 
 abbrev pub BerGives : {T E : Type 0} → (Any → Result T E → Type 0) → (Error → E → Type 0) → List ℕ → Result (List ℕ × T) (Refusal E) → Type 0
 BerGives convert from = ElementGives (IsElement max_depth) (ElementFault max_depth) ber_refusal PassesAll convert from
+
+-- the answer is that one, with a refusal made into one of another error type
+abbrev pub HasConverted : {T E : Type 0} → (Error → E → Type 0) → Result T (Refusal Error) → Result T (Refusal E) → Type 0
+HasConverted from answer (Ok x) = answer ≡ Ok x
+HasConverted from answer (Err r) = (q : Refusal Error) × (answer ≡ Err q) × Converted from q r

@@ -7,7 +7,7 @@ ghost use Rattle.asn1_headers.specs.declared.error.Err.{Err as Refusal};
 ghost use Rattle.asn1_headers.specs.declared.error.Error.{Error};
 ghost use Rattle.asn1_headers.specs.Answers.{seen};
 ghost use Rattle.asn1_rs.specs.Any.{parts_of};
-ghost use Rattle.asn1_rs.specs.Traits.{BerGives, DerGives};
+ghost use Rattle.asn1_rs.specs.Traits.{BerGives, DerGives, HasConverted};
 
 use crate::asn1_types::any::Any;
 use crate::ber::element_by_ber;
@@ -102,6 +102,19 @@ pub trait CheckDerConstraints {
 /// Marks a type that is read by DER as an element that is checked and then converted.
 pub trait DerAutoDerive {}
 
+/// The answer, with a refusal made into one of another error type.
+#[inline(always)]
+pub(crate) fn converted<'a, T, E: From<Error>>(
+    answer: ParseResult<'a, T, Error>,
+) -> ParseResult<'a, T, E>
+    ensures { HasConverted E.from_gives answer.entry result }
+{
+    match answer {
+        Ok(read) => Ok(read),
+        Err(e) => Err(Err::convert(e)),
+    }
+}
+
 /// Reads an element by DER, checks its constraints, and converts it, in this order; what refuses first names the
 /// refusal.
 impl<'a, T, E> FromDer<'a, E> for T
@@ -113,10 +126,7 @@ where
 
     #[inline(always)]
     fn from_der(alloc: Global, bytes: &'a [u8]) -> ParseResult<'a, T, E> {
-        let (rest, any) = match element_by_der(bytes) {
-            Ok(read) => read,
-            Err(e) => return Err(Err::convert(e)),
-        };
+        let (rest, any) = converted(element_by_der(bytes))?;
         if let Err(e) = T::check_constraints(&any) {
             return Err(Err::Error(E::from(e)));
         }
@@ -138,10 +148,7 @@ where
 
     #[inline(always)]
     fn from_ber(alloc: Global, bytes: &'a [u8]) -> ParseResult<'a, T, E> {
-        let (rest, any) = match element_by_ber(bytes) {
-            Ok(read) => read,
-            Err(e) => return Err(Err::convert(e)),
-        };
+        let (rest, any) = converted(element_by_ber(bytes))?;
         match T::try_from_any(alloc, any) {
             Ok(item) => Ok((rest, item)),
             Err(refusal) => Err(Err::Error(refusal)),

@@ -23,7 +23,7 @@ use crate::der::element_by_der;
 use crate::header::add_counts;
 use crate::laws::in_hand::States;
 use crate::to_der::ToDer;
-use crate::traits::{CheckDerConstraints, FromAny, FromBer, FromDer, Tagged};
+use crate::traits::{CheckDerConstraints, FromAny, FromBer, FromDer, Tagged, converted};
 use asn1_headers::content::{BerParser, DerParser};
 use asn1_headers::error::{Err, Error, ParseResult, SerializeError, SerializeResult, without_io};
 use asn1_headers::tag::Tag;
@@ -204,10 +204,7 @@ where
     ensures { DerGives PassesAll (OfParts (ListReads (L.TAG).0 L.holds T.der_gives E.from_gives))
         E.from_gives bytes.now (seen result) }
 {
-    let (rest, any) = match element_by_der(bytes) {
-        Ok(read) => read,
-        Err(e) => return Err(Err::convert(e)),
-    };
+    let (rest, any) = converted(element_by_der(bytes))?;
     match list_of_element::<L, T, E>(alloc, &any) {
         Ok(list) => Ok((rest, list)),
         Err(e) => Err(Err::Error(e)),
@@ -226,10 +223,7 @@ where
     ensures { DerGives PassesAll (OfParts (ListTakes (L.TAG).0 L.holds T.der_gives E.from_gives))
         E.from_gives bytes.now (seen result) }
 {
-    let (rest, any) = match element_by_der(bytes) {
-        Ok(read) => read,
-        Err(e) => return Err(Err::convert(e)),
-    };
+    let (rest, any) = converted(element_by_der(bytes))?;
     match constructed_list_of_element::<L, T, E>(alloc, &any) {
         Ok(list) => Ok((rest, list)),
         Err(e) => Err(Err::Error(e)),

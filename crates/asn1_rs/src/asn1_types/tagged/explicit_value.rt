@@ -29,7 +29,7 @@ use crate::laws::{
     LawfulWrite, TakesClass,
 };
 use crate::to_der::ToDer;
-use crate::traits::{CheckDerConstraints, FromAny, FromBer, FromDer};
+use crate::traits::{CheckDerConstraints, FromAny, FromBer, FromDer, converted};
 use asn1_headers::error::{Err, Error, ParseResult, SerializeError, SerializeResult};
 use asn1_headers::tag::Tag;
 use asn1_headers::writer::DerWrite;
@@ -164,10 +164,7 @@ where
         E.from_gives };
 
     fn from_der(alloc: Global, bytes: &'a [u8]) -> ParseResult<'a, Self, E> {
-        let (rest, any) = match element_by_der(bytes) {
-            Ok(read) => read,
-            Err(e) => return Err(Err::convert(e)),
-        };
+        let (rest, any) = converted(element_by_der(bytes))?;
         match inner_by_der::<T, E>(alloc, CLASS, TAG, &any) {
             Ok((_, inner)) => Ok((rest, TaggedValue::explicit(inner))),
             Err(e) => Err(e),

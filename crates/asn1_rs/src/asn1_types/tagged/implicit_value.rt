@@ -26,7 +26,7 @@ use crate::laws::{
     LawfulWrite, TakesClass,
 };
 use crate::to_der::ToDer;
-use crate::traits::{CheckDerConstraints, FromAny, FromDer, Tagged};
+use crate::traits::{CheckDerConstraints, FromAny, FromDer, Tagged, converted};
 use asn1_headers::error::{Err, Error, ParseResult, SerializeError, SerializeResult};
 use asn1_headers::header::Header;
 use asn1_headers::tag::Tag;
@@ -130,10 +130,7 @@ where
         T.any_gives E.from_gives) E.from_gives };
 
     fn from_der(alloc: Global, bytes: &'a [u8]) -> ParseResult<'a, Self, E> {
-        let (rest, any) = match element_by_der(bytes) {
-            Ok(read) => read,
-            Err(e) => return Err(Err::convert(e)),
-        };
+        let (rest, any) = converted(element_by_der(bytes))?;
         match Self::try_from_any(alloc, any) {
             Ok(value) => Ok((rest, value)),
             Err(e) => Err(Err::Error(e)),

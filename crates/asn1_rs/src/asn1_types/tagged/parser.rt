@@ -19,7 +19,7 @@ use crate::asn1_types::any::Any;
 use crate::asn1_types::tagged::{Explicit, Implicit};
 use crate::ber::element_by_ber;
 use crate::der::element_by_der;
-use crate::traits::{CheckDerConstraints, DynTagged, FromAny, FromBer, FromDer, Tagged};
+use crate::traits::{CheckDerConstraints, DynTagged, FromAny, FromBer, FromDer, Tagged, converted};
 use asn1_headers::class::Class;
 use asn1_headers::error::{Err, Error, ParseResult};
 use asn1_headers::header::Header;
@@ -187,10 +187,7 @@ where
     ghost ber_gives = { ThenByBer E.from_gives (TakesExplicit T.ber_gives) };
 
     fn from_ber(alloc: Global, bytes: &'a [u8]) -> ParseResult<'a, Self, E> {
-        let (rest, any) = match element_by_ber(bytes) {
-            Ok(read) => read,
-            Err(e) => return Err(Err::convert(e)),
-        };
+        let (rest, any) = converted(element_by_ber(bytes))?;
         match T::from_ber(alloc, any.content) {
             Ok((_, inner)) => Ok((rest, TaggedParser::new(any.header, inner))),
             Err(e) => Err(e),
@@ -209,10 +206,7 @@ where
         (TakesExplicit T.der_gives) };
 
     fn from_der(alloc: Global, bytes: &'a [u8]) -> ParseResult<'a, Self, E> {
-        let (rest, any) = match element_by_der(bytes) {
-            Ok(read) => read,
-            Err(e) => return Err(Err::convert(e)),
-        };
+        let (rest, any) = converted(element_by_der(bytes))?;
         match T::from_der(alloc, any.content) {
             Ok((_, inner)) => Ok((rest, TaggedParser::new(any.header, inner))),
             Err(e) => Err(e),
@@ -271,10 +265,7 @@ where
     ghost ber_gives = { ThenByBer E.from_gives (TakesImplicit T.TAG T.any_gives) };
 
     fn from_ber(alloc: Global, bytes: &'a [u8]) -> ParseResult<'a, Self, E> {
-        let (rest, any) = match element_by_ber(bytes) {
-            Ok(read) => read,
-            Err(e) => return Err(Err::convert(e)),
-        };
+        let (rest, any) = converted(element_by_ber(bytes))?;
         let other = under(bytes, &any, T::TAG);
         match T::try_from_any(alloc, other) {
             Ok(inner) => Ok((rest, TaggedParser::new(any.header, inner))),
@@ -293,10 +284,7 @@ where
         (TakesImplicit T.TAG (ChecksAndConverts T.check_gives T.any_gives E.from_gives)) };
 
     fn from_der(alloc: Global, bytes: &'a [u8]) -> ParseResult<'a, Self, E> {
-        let (rest, any) = match element_by_der(bytes) {
-            Ok(read) => read,
-            Err(e) => return Err(Err::convert(e)),
-        };
+        let (rest, any) = converted(element_by_der(bytes))?;
         let other = under(bytes, &any, T::TAG);
         match check_and_convert(alloc, other) {
             Ok(inner) => Ok((rest, TaggedParser::new(any.header, inner))),
