@@ -119,6 +119,7 @@ impl<'a> FromAny<'a> for BitString<'a> {
 
     ghost any_gives = { LendsContent bit_string_leaf (λ s. s.content) };
 
+    #[inline(always)]
     fn try_from_any(_alloc: Global, any: Any<'a>) -> Result<BitString<'a>, Error> {
         any.as_bitstring()
     }

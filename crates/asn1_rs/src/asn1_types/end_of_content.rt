@@ -58,6 +58,7 @@ impl<'a> FromAny<'a> for EndOfContent {
 
     ghost any_gives = { OfParts (LeafGives end_leaf) };
 
+    #[inline(always)]
     fn try_from_any(_alloc: Global, any: Any<'a>) -> Result<EndOfContent, Error> {
         any.as_endofcontent()
     }

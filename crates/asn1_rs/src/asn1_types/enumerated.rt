@@ -70,6 +70,7 @@ impl<'a> FromAny<'a> for Enumerated {
 
     ghost any_gives = { OfParts (LeafGives enumerated_leaf) };
 
+    #[inline(always)]
     fn try_from_any(_alloc: Global, any: Any<'a>) -> Result<Enumerated, Error> {
         any.as_enumerated()
     }

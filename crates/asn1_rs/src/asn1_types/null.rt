@@ -67,6 +67,7 @@ impl<'a> FromAny<'a> for Null {
 
     ghost any_gives = { OfParts (LeafGives null_leaf) };
 
+    #[inline(always)]
     fn try_from_any(_alloc: Global, any: Any<'a>) -> Result<Null, Error> {
         any.null()
     }
@@ -130,6 +131,7 @@ impl<'a> FromAny<'a> for () {
 
     ghost any_gives = { OfParts (LeafGives unit_leaf) };
 
+    #[inline(always)]
     fn try_from_any(_alloc: Global, any: Any<'a>) -> Result<(), Error> {
         any.assert_number(Tag::Null)?;
         any.header.assert_primitive()?;

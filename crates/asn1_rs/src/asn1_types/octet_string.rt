@@ -104,6 +104,7 @@ impl<'a> FromAny<'a> for OctetString<'a> {
 
     ghost any_gives = { LendsContent octet_string_leaf cow_of };
 
+    #[inline(always)]
     fn try_from_any(_alloc: Global, any: Any<'a>) -> Result<OctetString<'a>, Error> {
         any.as_octetstring()
     }
@@ -171,6 +172,7 @@ impl<'a> FromAny<'a> for &'a [u8] {
 
     /// The contents octets, whether the element is primitive or constructed. Refused at another tag number with
     /// `UnexpectedTag`.
+    #[inline(always)]
     fn try_from_any(_alloc: Global, any: Any<'a>) -> Result<&'a [u8], Error> {
         any.assert_number(Tag::OctetString)?;
         Ok(any.content)

@@ -240,6 +240,7 @@ impl<'a> FromAny<'a> for Any<'a> {
     ghost any_gives = { IsTheElement };
 
     /// The element itself, with the identifier octets that it keeps.
+    #[inline(always)]
     fn try_from_any(_alloc: Global, any: Any<'a>) -> Result<Any<'a>, Error>
         ensures gives { IsTheElement any.entry result }
         ensures same { result ≡ Ok any.entry }

@@ -129,6 +129,7 @@ impl<'a> FromAny<'a> for bool {
 
     ghost any_gives = { OfParts (LeafGives bool_leaf) };
 
+    #[inline(always)]
     fn try_from_any(_alloc: Global, any: Any<'a>) -> Result<bool, Error> {
         any.as_bool()
     }
@@ -195,6 +196,7 @@ impl<'a> FromAny<'a> for Boolean {
 
     ghost any_gives = { OfParts (LeafGives boolean_leaf) };
 
+    #[inline(always)]
     fn try_from_any(_alloc: Global, any: Any<'a>) -> Result<Boolean, Error> {
         any.as_boolean()
     }

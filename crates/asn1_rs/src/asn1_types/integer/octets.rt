@@ -130,6 +130,7 @@ impl<'a> FromAny<'a> for Integer<'a> {
 
     ghost any_gives = { LendsContent any_integer_leaf octets_held };
 
+    #[inline(always)]
     fn try_from_any(_alloc: Global, any: Any<'a>) -> Result<Integer<'a>, Error> {
         any.as_integer()
     }

@@ -30,6 +30,7 @@ impl<'a> FromAny<'a> for i8 {
 
     ghost any_gives = { OfParts (SignedGives 1) };
 
+    #[inline(always)]
     fn try_from_any(_alloc: Global, any: Any<'a>) -> Result<i8, Error> {
         any.as_i8()
     }
@@ -104,6 +105,7 @@ impl<'a> FromAny<'a> for i16 {
 
     ghost any_gives = { OfParts (SignedGives 2) };
 
+    #[inline(always)]
     fn try_from_any(_alloc: Global, any: Any<'a>) -> Result<i16, Error> {
         any.as_i16()
     }
@@ -178,6 +180,7 @@ impl<'a> FromAny<'a> for i32 {
 
     ghost any_gives = { OfParts (SignedGives 4) };
 
+    #[inline(always)]
     fn try_from_any(_alloc: Global, any: Any<'a>) -> Result<i32, Error> {
         any.as_i32()
     }
@@ -252,6 +255,7 @@ impl<'a> FromAny<'a> for i64 {
 
     ghost any_gives = { OfParts (SignedGives 8) };
 
+    #[inline(always)]
     fn try_from_any(_alloc: Global, any: Any<'a>) -> Result<i64, Error> {
         any.as_i64()
     }
@@ -326,6 +330,7 @@ impl<'a> FromAny<'a> for i128 {
 
     ghost any_gives = { OfParts (SignedGives 16) };
 
+    #[inline(always)]
     fn try_from_any(_alloc: Global, any: Any<'a>) -> Result<i128, Error> {
         any.as_i128()
     }

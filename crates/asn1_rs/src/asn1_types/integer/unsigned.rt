@@ -31,6 +31,7 @@ impl<'a> FromAny<'a> for u8 {
 
     ghost any_gives = { OfParts (UnsignedGives 1) };
 
+    #[inline(always)]
     fn try_from_any(_alloc: Global, any: Any<'a>) -> Result<u8, Error> {
         any.as_u8()
     }
@@ -105,6 +106,7 @@ impl<'a> FromAny<'a> for u16 {
 
     ghost any_gives = { OfParts (UnsignedGives 2) };
 
+    #[inline(always)]
     fn try_from_any(_alloc: Global, any: Any<'a>) -> Result<u16, Error> {
         any.as_u16()
     }
@@ -179,6 +181,7 @@ impl<'a> FromAny<'a> for u32 {
 
     ghost any_gives = { OfParts (UnsignedGives 4) };
 
+    #[inline(always)]
     fn try_from_any(_alloc: Global, any: Any<'a>) -> Result<u32, Error> {
         any.as_u32()
     }
@@ -253,6 +256,7 @@ impl<'a> FromAny<'a> for u64 {
 
     ghost any_gives = { OfParts (UnsignedGives 8) };
 
+    #[inline(always)]
     fn try_from_any(_alloc: Global, any: Any<'a>) -> Result<u64, Error> {
         any.as_u64()
     }
@@ -322,6 +326,7 @@ impl<'a> FromAny<'a> for u128 {
 
     ghost any_gives = { OfParts (UnsignedGives 16) };
 
+    #[inline(always)]
     fn try_from_any(_alloc: Global, any: Any<'a>) -> Result<u128, Error> {
         any.as_u128()
     }

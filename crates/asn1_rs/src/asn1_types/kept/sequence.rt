@@ -260,6 +260,7 @@ impl<'a> FromAny<'a> for Sequence<'a> {
 
     ghost any_gives = { LendsContent sequence_leaf (λ s. s.content) };
 
+    #[inline(always)]
     fn try_from_any(_alloc: Global, any: Any<'a>) -> Result<Sequence<'a>, Error> {
         any.as_sequence()
     }

@@ -259,6 +259,7 @@ impl<'a> FromAny<'a> for Set<'a> {
 
     ghost any_gives = { LendsContent set_leaf (λ s. s.content) };
 
+    #[inline(always)]
     fn try_from_any(_alloc: Global, any: Any<'a>) -> Result<Set<'a>, Error> {
         any.as_set()
     }

@@ -140,6 +140,7 @@ impl<'a> FromAny<'a> for Oid<'a> {
 
     ghost any_gives = { OidGives };
 
+    #[inline(always)]
     fn try_from_any(_alloc: Global, any: Any<'a>) -> Result<Oid<'a>, Error> {
         any.as_oid()
     }
