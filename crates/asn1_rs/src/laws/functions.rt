@@ -31,8 +31,9 @@ ghost use Rattle.asn1_rs.specs.BitString.{bit_string_leaf};
 ghost use Rattle.asn1_rs.specs.ToDer.{IsWritable, whole_octets};
 ghost use Rattle.asn1_rs.specs.Grammar.Item.{ber_words};
 
-use crate::laws::{LawfulBer, LawfulDer, LawfulItem, LawfulWrite};
+use crate::laws::{LawfulBer, LawfulDer, LawfulItem, LawfulMember, LawfulWrite};
 use asn1_headers::error::Error;
+use std::hash::Hash;
 
 /// The reader by BER of a lawful type is exact.
 ///
@@ -171,4 +172,10 @@ pub fn leaves_have_one_refusal()
     ensures integer { HaveOneRefusal any_integer_leaf }
     ensures sequence { HaveOneRefusal sequence_leaf }
     ensures set { HaveOneRefusal set_leaf }
+{}
+
+/// Items with one value are hashed alike: what `Hash` writes of them is the same. So they are one member of a set that
+/// goes by hashes, and one key of a map.
+pub fn equal_items_are_hashed_alike<T: LawfulMember + Hash>()
+    ensures { (x y : T) → T.grammar.value x ≡ T.grammar.value y → T.hash_input x ≡ T.hash_input y }
 {}

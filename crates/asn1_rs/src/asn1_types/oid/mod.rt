@@ -1,6 +1,9 @@
 //! Object identifiers, absolute and relative (X.690 8.19, 8.20).
 
+mod arcs;
+pub mod iterator;
 mod relative;
+mod text;
 mod writing;
 
 ghost use Rattle.std.specs.Prelude.{◌≡◌, ◌++◌, ◌↔◌, ℕ, List, true, false, IfOk, IfErr};
