@@ -1,5 +1,5 @@
 -- A line has one answer, except when out of memory.
-use Rattle.std.proofs.Common.{◌≡◌, ◌∙◌, sym, ap, subst, List, [], ◌∷◌, ◌++◌, ℕ, false, ◌⊎◌, inl, inr, refl, Ok, Err, codes, arith, Option, Some, append_assoc, Result}
+use Rattle.std.proofs.Common.{◌≡◌, ◌∙◌, sym, ap, subst, List, [], ◌∷◌, ◌++◌, length, ℕ, false, ◌⊎◌, inl, inr, refl, Ok, Err, codes, arith, Option, Some, append_assoc, Result}
 use Rattle.std.specs.Prelude.{ℤ, pos, decimal}
 use Rattle.std.specs.Fmt.{signed_decimal}
 use Rattle.std.proofs.Math.Dec.{eqb}
@@ -28,6 +28,10 @@ use Rattle.asn1_rs.specs.Laws.EndOfContent.{end_lawful}
 use Rattle.asn1_rs.specs.Laws.Enumerated.{enumerated_lawful}
 use Rattle.asn1_rs.specs.Laws.Integer.Octets.{any_integer_lawful}
 use Rattle.asn1_rs.specs.Laws.Leaf.{leaf_lawful, leaf_one_refusal}
+use Rattle.x690.specs.Strict.{header_octets}
+use Rattle.asn1_rs.specs.declared.asn1_types.oid.Oid.{Oid as Identifier}
+use Rattle.asn1_rs.specs.Oid.{OidValue, OidGives, oid_constraints, oid_element, oid_value, written_number}
+use Rattle.asn1_rs.specs.Laws.Oid.{oid_constraints_are, oid_lawful}
 use Rattle.asn1_rs.specs.Laws.Null.{null_lawful}
 use Rattle.asn1_rs.specs.Laws.OctetString.{octet_string_lawful}
 use Rattle.asn1_rs.specs.Laws.Any.Value.{element_lawful, element_checks}
@@ -36,11 +40,11 @@ use Rattle.asn1_rs.specs.Laws.Integer.Unsigned.{one_unsigned_refusal}
 use Rattle.asn1_rs.specs.Laws.Integer.Signed.{one_signed_refusal}
 use Rattle.asn1vec_answers.specs.declared.request.Rule.{Rule}
 use Rattle.asn1vec_answers.specs.declared.types.TypeName.{TypeName}
-use Rattle.asn1vec_answers.specs.declared.types.TypeName.TheVariants.{U8, U16, U32, U64, U128, I8, I16, I32, I64, I128, Any, Bool, Null, Enumerated, Integer, Octets, Bits, Eoc, VecU8, VecU32, VecBool, VecVecU8, SetOfU8, BTreeSetU8, Sequence, Set, SeqOfU32, Explicit0U32, Explicit31U8, VecExplicit31U8, OptU8, HashSetI8, Implicit1VecU16}
+use Rattle.asn1vec_answers.specs.declared.types.TypeName.TheVariants.{U8, U16, U32, U64, U128, I8, I16, I32, I64, I128, Any, Bool, Null, Enumerated, Integer, Octets, Bits, Eoc, VecU8, VecU32, VecBool, VecVecU8, SetOfU8, BTreeSetU8, Sequence, Set, SeqOfU32, Explicit0U32, Explicit31U8, VecExplicit31U8, OptU8, HashSetI8, Implicit1VecU16, Oid}
 use Rattle.asn1vec_answers.specs.Request.{IsRequest}
-use Rattle.asn1vec_answers.specs.Shown.{IsWritten, bits_text, element_text, in_hexadecimal, truth_text}
+use Rattle.asn1vec_answers.specs.Shown.{IsWritten, bits_text, element_text, identifier_text, in_hexadecimal, truth_text}
 use Rattle.asn1vec_answers.specs.Meaning.{Meaning}
-use Rattle.asn1vec_answers.specs.Types.{has_items, name_of, meaning_of, integers, elements, leaf, leaf_by, lent_leaf, leaf_octets, ends, Names, IsTypeAnswer}
+use Rattle.asn1vec_answers.specs.Types.{has_items, name_of, meaning_of, integers, elements, identifiers, leaf, leaf_by, lent_leaf, leaf_octets, ends, Names, IsTypeAnswer}
 use Rattle.asn1vec_answers.specs.Answer.{IsRequestAnswer, IsRefusedLine, IsAnswered, IsAnswer}
 use Rattle.asn1vec_answers.specs.Memory.{AsksForNoItems, DifferByMemory, AreAlike, TakesNoMemory}
 use Rattle.asn1vec_answers.proofs.OneReading.{HasOneAnswer, ShownAlike, answers_alike, optional_once, readings_weaker, strict_same, written_same, ber_same, either_same}
@@ -71,6 +75,17 @@ elements_once rule octets a b p q =
   where
     shown : (x y : AnyElement) → element_of x ≡ element_of y → ShownAlike elements x y
     shown x y same = record { text = ap element_text same; encoding = strict_same ElementForm element_lawful.one_form false (element_of x) (element_of y) same }
+
+identifiers_once : HasOneAnswer identifiers
+identifiers_once rule octets a b p q =
+    readings_weaker _ (ShownAlike identifiers) false shown a b
+    (either_same oid_element.Body oid_value false OidGives oid_lawful.body_one (λ a b e f same h k. absurd h) oid_constraints oid_element.Check oid_constraints_are.one (λ p e h k. oid_constraints_are.apart p e h k) rule octets a b p q)
+  where
+    written : OidValue → List ℕ
+    written v = header_octets 0 false (written_number v.relative) (length v.octets) ++ v.octets
+
+    shown : (x y : Identifier) → oid_value x ≡ oid_value y → ShownAlike identifiers x y
+    shown x y same = record { text = ap identifier_text same; encoding = λ e f h k. written_same false (written (oid_value y)) e f (subst (λ (v : OidValue). IsWritten false (written v) e) same h) k }
 
 -- a leaf type
 leaf_by_once : {T : Type 0} (L : Leaf T) (converts : AnyElement → Result T Error → Type 0) (text : L.Value → List ℕ) → IsLawfulLeaf L → IsOneRefusalBut false converts → HasOneAnswer (leaf_by L converts text)
@@ -132,6 +147,7 @@ type_once VecExplicit31U8 = collection_once _ (vector_once _ (explicit_once 31 _
 type_once OptU8 = optional_once 2 _ (integers_once pos (IsUnsigned 1) (UnsignedRefuses 1) (one_unsigned_refusal 1))
 type_once HashSetI8 = collection_once _ (hashed_signed_once 1)
 type_once Implicit1VecU16 = collection_once _ (implicit_vector_once 1 _ (unsigned_once 2))
+type_once Oid = identifiers_once
 
 allocates_none : (t : TypeName) → has_items t ≡ false → ((meaning_of t).reading_allocates ≡ false) × ((meaning_of t).writing_allocates ≡ false)
 allocates_none t none = grind arith
@@ -140,7 +156,7 @@ allocates_none t none = grind arith
 
 -- the type that has a name
 named : List ℕ → Option TypeName
-named name = find (λ t. pointwise eqb name (name_of t)) (U8 ∷ U16 ∷ U32 ∷ U64 ∷ U128 ∷ I8 ∷ I16 ∷ I32 ∷ I64 ∷ I128 ∷ Any ∷ Bool ∷ Null ∷ Enumerated ∷ Integer ∷ Octets ∷ Bits ∷ Eoc ∷ VecU8 ∷ VecU32 ∷ VecBool ∷ VecVecU8 ∷ SetOfU8 ∷ BTreeSetU8 ∷ Sequence ∷ Set ∷ SeqOfU32 ∷ Explicit0U32 ∷ Explicit31U8 ∷ VecExplicit31U8 ∷ OptU8 ∷ HashSetI8 ∷ Implicit1VecU16 ∷ [])
+named name = find (λ t. pointwise eqb name (name_of t)) (U8 ∷ U16 ∷ U32 ∷ U64 ∷ U128 ∷ I8 ∷ I16 ∷ I32 ∷ I64 ∷ I128 ∷ Any ∷ Bool ∷ Null ∷ Enumerated ∷ Integer ∷ Octets ∷ Bits ∷ Eoc ∷ VecU8 ∷ VecU32 ∷ VecBool ∷ VecVecU8 ∷ SetOfU8 ∷ BTreeSetU8 ∷ Sequence ∷ Set ∷ SeqOfU32 ∷ Explicit0U32 ∷ Explicit31U8 ∷ VecExplicit31U8 ∷ OptU8 ∷ HashSetI8 ∷ Implicit1VecU16 ∷ Oid ∷ [])
 
 named_by_its_name : (t : TypeName) → named (name_of t) ≡ Some t
 unfolding named

@@ -13,6 +13,8 @@ use Rattle.asn1_headers.specs.Answers.{Exactly, TellsMemory}
 use Rattle.asn1_headers.specs.Ber.{EndsWithin}
 use Rattle.asn1_rs.specs.Any.Value.{ElementValue}
 use Rattle.asn1_rs.specs.BitString.{Bits}
+use Rattle.asn1_rs.specs.Oid.{OidValue}
+use Rattle.asn1_rs.specs.Oid.Text.{shown_text}
 use Rattle.asn1_rs.specs.Grammar.Form.{IsStrict}
 use Rattle.asn1_headers.specs.Writer.{MayRefuse}
 use Rattle.asn1_headers.specs.Error.{tells_of_io}
@@ -43,6 +45,15 @@ abbrev pub element_text : ElementValue → List ℕ
 element_text v =
     decimal v.id.class ++ (codes "." ++ (letter_of v.id.constructed ++ (codes "." ++
     (decimal v.id.number ++ (codes "." ++ in_hexadecimal v.content)))))
+
+-- a text of octets, `-` for none
+abbrev pub text_or_dash : List ℕ → List ℕ → List ℕ
+text_or_dash [] text = codes "-"
+text_or_dash (octet ∷ octets) text = text
+
+-- an object identifier: its arcs, or its octets where one is 2^64 or more; `-` for no octets
+abbrev pub identifier_text : OidValue → List ℕ
+identifier_text v = text_or_dash v.octets (shown_text v.relative v.octets)
 
 -- the texts of items, parted by commas, in brackets
 abbrev pub list_text : {T : Type 0} → (T → List ℕ) → List T → List ℕ

@@ -23,6 +23,8 @@ use Rattle.asn1_rs.specs.declared.asn1_types.set.set_of.SetOf.{SetOf}
 use Rattle.asn1_rs.specs.Set.{HasItems, is_below, is_other, items_of, member_grammar, multiset_grammar}
 use Rattle.asn1_rs.specs.Null.{null_leaf}
 use Rattle.asn1_rs.specs.OctetString.{octet_string_leaf, cow_of}
+use Rattle.asn1_rs.specs.declared.asn1_types.oid.Oid.{Oid as Identifier}
+use Rattle.asn1_rs.specs.Oid.{OidGives, oid_constraints, oid_element, oid_header, oid_octets, oid_value}
 use Rattle.asn1_rs.specs.declared.asn1_types.tagged.Explicit.{Explicit}
 use Rattle.asn1_rs.specs.declared.asn1_types.tagged.Implicit.{Implicit}
 use Rattle.asn1_rs.specs.declared.asn1_types.tagged.TaggedValue.{TaggedValue}
@@ -42,9 +44,9 @@ use Rattle.asn1_rs.specs.Grammar.{BerWord, DerWord}
 use Rattle.asn1_rs.specs.Integer.{IntegerCheck, IntegerCheckGives, IntegerBody, IntegerForm, integer_element, IntegerGives, IsUnsigned, UnsignedGives, UnsignedRefuses, SignedGives, SignedRefuses}
 use Rattle.asn1vec_answers.specs.declared.request.Rule.{Rule}
 use Rattle.asn1vec_answers.specs.declared.types.TypeName.{TypeName}
-use Rattle.asn1vec_answers.specs.declared.types.TypeName.TheVariants.{U8, U16, U32, U64, U128, I8, I16, I32, I64, I128, Any, Bool, Null, Enumerated, Integer, Octets, Bits, Eoc, VecU8, VecU32, VecBool, VecVecU8, SetOfU8, BTreeSetU8, Sequence, Set, SeqOfU32, Explicit0U32, Explicit31U8, VecExplicit31U8, OptU8, HashSetI8, Implicit1VecU16}
+use Rattle.asn1vec_answers.specs.declared.types.TypeName.TheVariants.{U8, U16, U32, U64, U128, I8, I16, I32, I64, I128, Any, Bool, Null, Enumerated, Integer, Octets, Bits, Eoc, VecU8, VecU32, VecBool, VecVecU8, SetOfU8, BTreeSetU8, Sequence, Set, SeqOfU32, Explicit0U32, Explicit31U8, VecExplicit31U8, OptU8, HashSetI8, Implicit1VecU16, Oid}
 use Rattle.asn1vec_answers.specs.Meaning.{Meaning, ReadsByEither, is_ber, optional}
-use Rattle.asn1vec_answers.specs.Shown.{IsReadAnswer, IsWritten, ReadsByBer, Reading, Same, StrictEncoding, StrictEncodingIfAny, bits_text, element_text, in_hexadecimal, in_order, list_text, truth_text}
+use Rattle.asn1vec_answers.specs.Shown.{IsReadAnswer, IsWritten, ReadsByBer, Reading, Same, StrictEncoding, StrictEncodingIfAny, bits_text, element_text, identifier_text, in_hexadecimal, in_order, list_text, truth_text}
 
 abbrev pub name_of : TypeName → List ℕ
 name_of U8 = codes "u8"
@@ -80,6 +82,7 @@ name_of VecExplicit31U8 = codes "vec.explicit31.u8"
 name_of OptU8 = codes "opt.u8"
 name_of HashSetI8 = codes "hashset.i8"
 name_of Implicit1VecU16 = codes "implicit1.vec.u16"
+name_of Oid = codes "oid"
 
 -- integers, there by either rule: in decimals, with the strict encoding that each has which the type holds
 abbrev pub integers : {T : Type 0} → (T → ℤ) → (ℤ → Type 0) → (List ℕ → Error → Type 0) → Meaning
@@ -140,6 +143,19 @@ leaf L = leaf_by L (OfParts (LeafGives L))
 -- one that lends its contents octets
 abbrev pub lent_leaf : {T : Type 0} (L : Leaf T) → (T → CowSlice ℕ Global) → (L.Value → List ℕ) → Meaning
 lent_leaf L content = leaf_by L (LendsContent L content)
+
+-- object identifiers, there by either rule: with the octets that are written for each, in DER form or not
+abbrev pub identifiers : Meaning
+identifiers = record {
+  T = Identifier;
+  is_there = λ rule. true;
+  Reads = ReadsByEither (BerWord oid_element.Body) (DerWord oid_element.Check oid_element.Body) oid_value false
+      (BerGives OidGives Same) (DerGives oid_constraints OidGives Same);
+  text_of = λ x. identifier_text (oid_value x);
+  Encodes = λ x. IsWritten false (oid_header x ++ oid_octets x);
+  reading_allocates = false;
+  writing_allocates = false;
+}
 
 -- the end of contents, there by BER alone; it has no writer
 abbrev pub ends : Meaning
@@ -310,6 +326,7 @@ meaning_of VecExplicit31U8 = collection (vector (explicit 31 (unsigned_item 1)))
 meaning_of OptU8 = optional 2 (unsigned 1)
 meaning_of HashSetI8 = collection (hashed_set (signed_item 1) int_cmp)
 meaning_of Implicit1VecU16 = collection (implicit_vector 1 (unsigned_item 2))
+meaning_of Oid = identifiers
 
 -- lists and sets, whose readers and writers allocate
 abbrev pub has_items : TypeName → Truth

@@ -26,7 +26,7 @@ use crate::text::push_str;
 use crate::types::{TypeName, type_named};
 use asn1_rs::{
     Any, BitString, EndOfContent, Enumerated, Error, Integer, LawfulBer, LawfulDer, Null,
-    OctetString, Sequence, Set, Tagged,
+    OctetString, Oid, Sequence, Set, Tagged,
 };
 use std::alloc::{AllocError, Global};
 
@@ -115,6 +115,7 @@ fn push_by_type(
         TypeName::OptU8 => push_optional::<u8>(alloc, rule, octets, buffer, text),
         TypeName::Implicit1VecU16 => push_implicit_1_vec_u16(alloc, rule, octets, buffer, text),
         TypeName::HashSetI8 => push_hash_set_i8(alloc, rule, octets, buffer, text),
+        TypeName::Oid => push_by_either::<Oid<'_>>(alloc, rule, octets, buffer, text),
     }
 }
 

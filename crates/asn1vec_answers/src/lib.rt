@@ -5,6 +5,7 @@ mod answer;
 mod any;
 mod digits;
 mod holders;
+mod identifiers;
 mod leaves;
 mod lists;
 mod names;

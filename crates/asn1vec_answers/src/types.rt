@@ -41,10 +41,11 @@ pub(crate) enum TypeName {
     OptU8,
     HashSetI8,
     Implicit1VecU16,
+    Oid,
 }
 
 /// All of them, in this order.
-const TYPES: [TypeName; 33] = [
+const TYPES: [TypeName; 34] = [
     TypeName::U8,
     TypeName::U16,
     TypeName::U32,
@@ -78,6 +79,7 @@ const TYPES: [TypeName; 33] = [
     TypeName::OptU8,
     TypeName::HashSetI8,
     TypeName::Implicit1VecU16,
+    TypeName::Oid,
 ];
 
 impl TypeName {
@@ -119,6 +121,7 @@ impl TypeName {
             TypeName::OptU8 => b"opt.u8",
             TypeName::HashSetI8 => b"hashset.i8",
             TypeName::Implicit1VecU16 => b"implicit1.vec.u16",
+            TypeName::Oid => b"oid",
         }
     }
 

@@ -98,3 +98,6 @@ returns-in-HashSetI8 c = rw c.in-HashSetI8.is c.push_hash_set_i8.ensures
 
 pub returns-in-Implicit1VecU16 : goal.returns-in-Implicit1VecU16
 returns-in-Implicit1VecU16 c = rw c.in-Implicit1VecU16.is c.push_implicit_1_vec_u16.ensures
+
+pub returns-in-Oid : goal.returns-in-Oid
+returns-in-Oid c = rw c.in-Oid.is c.push_by_either-in-Oid.ensures
