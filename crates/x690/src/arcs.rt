@@ -108,7 +108,7 @@ pub fn count_subidentifiers(octets: &[u8]) -> usize
 }
 
 /// The first subidentifier where it may have more than one octet, and how many octets it has (X.690 8.19.2).
-#[inline(never)]
+#[inline(always)]
 fn long_subidentifier(octets: &[u8]) -> (u64, usize)
     requires some { 0 < length octets.now }
     requires small { first_subidentifier octets.now < 2 ^ 64 }
