@@ -1,5 +1,5 @@
 -- Arcs: what the contents octets of object identifiers say, and those of relative ones (X.690 8.19, 8.20).
-use Rattle.std.specs.Prelude.{◌≡◌, ◌≢◌, ℕ, ◌+◌, ◌-◌, ◌*◌, ◌<◌, ◌≤◌, Bool, true, false, List, [], ◌∷◌, map, flat_map, decimal, nat_lt, if◌then◌else◌}
+use Rattle.std.specs.Prelude.{◌≡◌, ◌≢◌, ℕ, ◌+◌, ◌-◌, ◌*◌, ◌<◌, ◌≤◌, Bool, true, false, List, [], ◌∷◌, map, get_or, flat_map, decimal, nat_lt, if◌then◌else◌}
 use Rattle.std.specs.List.{All, join_with_byte}
 use Rattle.x690.specs.Digits.{base_128_value}
 use Rattle.x690.specs.Identifiers.{AreTagDigits}
@@ -18,6 +18,10 @@ pieces_of (octet ∷ octets) = if nat_lt octet 128 then (octet ∷ []) ∷ piece
 -- the number of each piece (8.19.2)
 abbrev pub subidentifiers : List ℕ → List ℕ
 subidentifiers content = map base_128_value (pieces_of content)
+
+-- the first of them, and 0 where there are no octets
+abbrev pub first_subidentifier : List ℕ → ℕ
+first_subidentifier content = get_or (subidentifiers content) 0 0
 
 -- X and Y of the first subidentifier 40 * X + Y, where X is 2 from 80 on (8.19.4)
 abbrev pub first_arc : ℕ → ℕ

@@ -1,10 +1,11 @@
 //! The contents octets of object identifiers and of relative ones: their pieces, their arcs, and the laws of these.
 
-ghost use Rattle.std.specs.Prelude.{ℕ, ◌≡◌, ◌≢◌, ◌+◌, ◌*◌, ◌^◌, ◌<◌, ◌≤◌, Bool, true, false, List, [], ◌∷◌, ◌++◌, length, take, drop};
+ghost use Rattle.std.specs.Prelude.{ℕ, ◌≡◌, ◌≢◌, ◌+◌, ◌*◌, ◌^◌, ◌<◌, ◌≤◌, ◌↔◌, Bool, true, false, List, [], ◌∷◌, ◌++◌, length, take, drop, IsTrue};
 ghost use Rattle.std.specs.List.{All, concat};
 ghost use Rattle.x690.specs.Octets.{BeginsWith};
+ghost use Rattle.x690.specs.Digits.{base_128_value};
 ghost use Rattle.x690.specs.Identifiers.{AreTagDigits};
-ghost use Rattle.x690.specs.Arcs.{pieces_of, first_arc, second_arc, IsFirstPair, arcs_of, AreShortest, AreComplete, AreAbsoluteArcs, arcs_octets, arcs_text};
+ghost use Rattle.x690.specs.Arcs.{pieces_of, subidentifiers, first_subidentifier, first_arc, second_arc, IsFirstPair, arcs_of, AreShortest, AreComplete, AreAbsoluteArcs, arcs_octets, arcs_text};
 
 /// Contents octets are their pieces, one after the other. Digits that are complete are a piece at the front, whatever
 /// follows, and octets that all have bit 8 are one piece (X.690 8.19.2).
@@ -88,4 +89,181 @@ pub fn first_piece_len(octets: &[u8]) -> usize
         }
     }
     octets.len()
+}
+
+/// How many subidentifiers contents octets have; what is left behind the last octet without bit 8 is one too
+/// (X.690 8.19.2).
+pub fn count_subidentifiers(octets: &[u8]) -> usize
+    ensures count { result ≡ length (pieces_of octets.now) }
+    ensures within { result ≤ length octets.now }
+{
+    let mut count = 0;
+    for octet in octets {
+        count += usize::from(*octet < 128);
+    }
+    match octets.last() {
+        Some(last) if *last >= 128 => count + 1,
+        _ => count,
+    }
+}
+
+/// The first subidentifier where it may have more than one octet, and how many octets it has (X.690 8.19.2).
+#[inline(never)]
+fn long_subidentifier(octets: &[u8]) -> (u64, usize)
+    requires some { 0 < length octets.now }
+    requires small { first_subidentifier octets.now < 2 ^ 64 }
+    ensures value { result.0 ≡ first_subidentifier octets.now }
+    ensures some { 0 < result.1 }
+    ensures within { result.1 ≤ length octets.now }
+    ensures piece { pieces_of octets.now ≡
+        take result.1 octets.now ∷ pieces_of (drop result.1 octets.now) }
+{
+    let mut number: u64 = 0;
+    for (i, digit) in octets.iter().enumerate() {
+        number = number * 128 + u64::from(*digit % 128);
+        if *digit < 128 {
+            return (number, i + 1);
+        }
+    }
+    (number, octets.len())
+}
+
+/// The first subidentifier, where it is below 2^64, and how many octets it has, leading octets 80 among them. One
+/// without its last octet counts with the digits that are there (X.690 8.19.2). It looks at no octet behind them.
+#[inline(always)]
+pub fn subidentifier(octets: &[u8]) -> (u64, usize)
+    requires some { 0 < length octets.now }
+    requires small { first_subidentifier octets.now < 2 ^ 64 }
+    ensures value { result.0 ≡ first_subidentifier octets.now }
+    ensures some { 0 < result.1 }
+    ensures within { result.1 ≤ length octets.now }
+    ensures piece { pieces_of octets.now ≡
+        take result.1 octets.now ∷ pieces_of (drop result.1 octets.now) }
+    ensures numbers { subidentifiers octets.now ≡
+        result.0 ∷ subidentifiers (drop result.1 octets.now) }
+{
+    let first = octets[0];
+    if first < 128 {
+        (u64::from(first), 1)
+    } else {
+        long_subidentifier(octets)
+    }
+}
+
+/// The first subidentifier, which may be 2^64 or more, and how many octets it has (X.690 8.19.2).
+fn wide_subidentifier(octets: &[u8]) -> (u128, usize)
+    requires some { 0 < length octets.now }
+    requires small { first_subidentifier octets.now < 2 ^ 64 + 80 }
+    ensures value { result.0 ≡ first_subidentifier octets.now }
+    ensures some { 0 < result.1 }
+    ensures within { result.1 ≤ length octets.now }
+    ensures piece { pieces_of octets.now ≡
+        take result.1 octets.now ∷ pieces_of (drop result.1 octets.now) }
+{
+    let mut number: u128 = 0;
+    for (i, digit) in octets.iter().enumerate() {
+        number = number * 128 + u128::from(*digit % 128);
+        if *digit < 128 {
+            return (number, i + 1);
+        }
+    }
+    (number, octets.len())
+}
+
+/// X of a first subidentifier 40 * X + Y (X.690 8.19.4).
+#[inline(always)]
+fn first_arc_of(number: u8) -> u8
+    ensures value { result ≡ first_arc number }
+    ensures few { result ≤ 2 }
+{
+    if number < 40 {
+        0
+    } else if number < 80 {
+        1
+    } else {
+        2
+    }
+}
+
+/// The first two arcs where their subidentifier may have more than one octet, and how many it has (X.690 8.19.4).
+#[inline(never)]
+fn split_long_subidentifier(octets: &[u8]) -> (u64, u64, usize)
+    requires some { 0 < length octets.now }
+    requires small { first_subidentifier octets.now < 2 ^ 64 + 80 }
+    ensures first { result.0 ≡ first_arc (first_subidentifier octets.now) }
+    ensures second { result.1 ≡ second_arc (first_subidentifier octets.now) }
+    ensures some { 0 < result.2 }
+    ensures within { result.2 ≤ length octets.now }
+    ensures piece { pieces_of octets.now ≡
+        take result.2 octets.now ∷ pieces_of (drop result.2 octets.now) }
+{
+    let (number, len) = wide_subidentifier(octets);
+    let low = if number < 80 { number as u8 } else { 80 };
+    let first = first_arc_of(low);
+    let second = (number - u128::from(40 * first)) as u64;
+    (u64::from(first), second, len)
+}
+
+/// The first two arcs of an object identifier, where the second is below 2^64, and how many octets their subidentifier
+/// has, leading octets 80 among them (X.690 8.19.4). It looks at no octet behind them.
+#[inline(always)]
+pub fn split_subidentifier(octets: &[u8]) -> (u64, u64, usize)
+    requires some { 0 < length octets.now }
+    requires small { first_subidentifier octets.now < 2 ^ 64 + 80 }
+    ensures first { result.0 ≡ first_arc (first_subidentifier octets.now) }
+    ensures second { result.1 ≡ second_arc (first_subidentifier octets.now) }
+    ensures some { 0 < result.2 }
+    ensures within { result.2 ≤ length octets.now }
+    ensures piece { pieces_of octets.now ≡
+        take result.2 octets.now ∷ pieces_of (drop result.2 octets.now) }
+    ensures numbers { subidentifiers octets.now ≡
+        first_subidentifier octets.now ∷ subidentifiers (drop result.2 octets.now) }
+{
+    let number = octets[0];
+    if number < 128 {
+        let first = first_arc_of(number);
+        (u64::from(first), u64::from(number - 40 * first), 1)
+    } else {
+        split_long_subidentifier(octets)
+    }
+}
+
+/// Whether the number whose digits in base 128 the octets are is below the bound.
+fn is_below(octets: &[u8], bound: u128) -> bool
+    requires { bound ≤ 2 ^ 65 }
+    ensures { IsTrue result ↔ base_128_value octets.now < bound }
+{
+    let mut number: u128 = 0;
+    for octet in octets {
+        if number >= bound {
+            return false;
+        }
+        number = number * 128 + u128::from(*octet % 128);
+    }
+    number < bound
+}
+
+/// Whether each arc of the contents octets is below 2^64, of a relative identifier or of another one. Leading octets 80
+/// do not count, and nine octets or fewer are not looked at (X.690 8.19, 8.20).
+pub fn arcs_fit(relative: bool, octets: &[u8]) -> bool
+    ensures { IsTrue result ↔ All (λ arc. arc < 2 ^ 64) (arcs_of relative octets.now) }
+{
+    if octets.len() < 10 {
+        return true;
+    }
+    let mut bound: u128 = if relative {
+        0x1_0000_0000_0000_0000
+    } else {
+        0x1_0000_0000_0000_0050
+    };
+    let mut rest = octets;
+    while !rest.is_empty() {
+        let len = first_piece_len(rest);
+        if len >= 10 && !is_below(&rest[..len], bound) {
+            return false;
+        }
+        bound = 0x1_0000_0000_0000_0000;
+        rest = &rest[len..];
+    }
+    true
 }

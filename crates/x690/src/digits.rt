@@ -4,7 +4,7 @@ ghost use Rattle.std.specs.Prelude.{ℕ, ◌≡◌, ◌+◌, ◌*◌, ◌<◌, �
 ghost use Rattle.std.specs.Int.Digits.{digits_of};
 ghost use Rattle.x690.specs.Digits.{base_256_value, base_128_value};
 ghost use Rattle.x690.specs.Identifiers.{AreTagDigits, bit};
-ghost use Rattle.x690.specs.Strict.{identifier_octets, length_octets, header_octets};
+ghost use Rattle.x690.specs.Strict.{tag_digits, identifier_octets, length_octets, header_octets};
 
 /// The number whose digits in base 256 the octets are, with any leading zeros. There is none exactly where it is
 /// 2^64 or more (X.690 8.1.3.5).
@@ -216,4 +216,19 @@ pub fn short_header(class: u8, constructed: bool, number: u32, len: usize) -> Op
     } else {
         None
     }
+}
+
+/// Writes the digits of the number in base 128 at the front, with bit 8 on all but the last, and says how many they
+/// are: one to ten (X.690 8.19.2). What stands behind them stays.
+pub fn subidentifier_into(number: u128, out: &mut [u8; 10]) -> usize
+    requires { number < 2 ^ 70 }
+    ensures written { take result out.new ≡ tag_digits number }
+    ensures kept { drop result out.new ≡ drop result out.old }
+    ensures few { result ≤ 10 }
+{
+    let high = (number / 128) as usize;
+    let count = count_digits::<128>(high);
+    write_digits::<128>(high, 128, &mut out[..count]);
+    out[count] = (number % 128) as u8;
+    count + 1
 }

@@ -1,5 +1,6 @@
 -- Laws of pieces, subidentifiers and arcs.
 pub mod Beginnings
+pub mod Fronts
 pub mod Texts
 use Rattle.std.proofs.Common.{◌≡◌, ◌≢◌, ℕ, suc, zero, ◌+◌, ◌*◌, ◌<◌, ◌≤◌, Bool, true, false, List, [], ◌∷◌, ◌++◌, ◌⊎◌, map, length-append, subst, length, take, drop, get_or, refl, ap, sym, ◌∙◌, arith, inl, inr}
 use Rattle.std.specs.List.{All, concat}
@@ -15,10 +16,10 @@ use Rattle.x690.specs.Arcs.{in_front, pieces_of, subidentifiers, first_arc, seco
 
 -- ---- pieces
 
-last_piece : (last : ℕ) (rest : List ℕ) → last < 128 → pieces_of (last ∷ rest) ≡ (last ∷ []) ∷ pieces_of rest
+pub last_piece : (last : ℕ) (rest : List ℕ) → last < 128 → pieces_of (last ∷ rest) ≡ (last ∷ []) ∷ pieces_of rest
 last_piece last rest h = grind (arith, nat_tests)
 
-more_piece : (digit : ℕ) (rest : List ℕ) → 128 ≤ digit → pieces_of (digit ∷ rest) ≡ in_front digit (pieces_of rest)
+pub more_piece : (digit : ℕ) (rest : List ℕ) → 128 ≤ digit → pieces_of (digit ∷ rest) ≡ in_front digit (pieces_of rest)
 more_piece digit rest h = grind (arith, nat_tests)
 
 -- complete digits at the front are the first piece
@@ -27,7 +28,7 @@ first_piece [] rest d = absurd d
 first_piece (last ∷ []) rest d = last_piece last rest d
 first_piece (digit ∷ next ∷ digits) rest d = more_piece digit (next ∷ digits ++ rest) d.0 ∙ ap (in_front digit) (first_piece (next ∷ digits) rest d.2)
 
-tail_bits : (i octet : ℕ) (octets : List ℕ) → HaveBit8To (suc i) (octet ∷ octets) → HaveBit8To i octets
+pub tail_bits : (i octet : ℕ) (octets : List ℕ) → HaveBit8To (suc i) (octet ∷ octets) → HaveBit8To i octets
 tail_bits i octet octets h = λ k l. h (suc k) (omega arith)
 
 -- the first piece ends with the first octet without bit 8

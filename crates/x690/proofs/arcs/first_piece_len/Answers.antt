@@ -1,18 +1,8 @@
-use Rattle.std.proofs.Common.{◌≡◌, ◌<◌, List, ℕ, [], ◌∷◌, length, take, drop, arith, below_more, add-one, ap, sym, ◌∙◌, subst}
-use Rattle.std.proofs.lemmas.List.{take_all, drop_all}
-use Rattle.x690.specs.Arcs.{pieces_of}
-use Rattle.x690.specs.Laws.Arcs.{piece_ends, piece_is_cut}
+use Rattle.std.proofs.Common.{◌≡◌, ℕ, length, arith, below_more, add-one, subst}
+use Rattle.x690.specs.Laws.Arcs.{piece_ends}
+use Rattle.x690.specs.Laws.Arcs.Fronts.{whole_piece}
 use Rattle.x690.specs.Laws.Digits.{HaveBit8To}
 use Rattle.x690.proofs.arcs.first_piece_len.Goals as goal
-
--- the octets are one piece where bit 8 is set on each
-whole : (octets : List ℕ) → 0 < length octets → HaveBit8To (length octets) octets → pieces_of octets ≡ take (length octets) octets ∷ pieces_of (drop (length octets) octets)
-whole [] some high = absurd (omega arith)
-whole (octet ∷ octets) some high =
-    let all = octet ∷ octets in
-    piece_is_cut octet octets high
-    ∙ ap (λ (piece : List ℕ). piece ∷ []) (sym (take_all (length all) all (omega arith)))
-    ∙ ap (λ (rest : List ℕ). take (length all) all ∷ pieces_of rest) (sym (drop_all (length all) all (omega arith)))
 
 pub returns-then-octet-lt128-clause-piece : goal.returns-then-octet-lt128-clause-piece
 returns-then-octet-lt128-clause-piece c =
@@ -25,4 +15,4 @@ pub returns-clause-piece : goal.returns-clause-piece
 returns-clause-piece c =
     let octets = c.args.octets.now in
     let all : c.loop-i.i ≡ length octets = omega arith in
-    whole octets c.requires (subst (λ (n : ℕ). HaveBit8To n octets) all c.loop-i.invariant)
+    whole_piece octets c.requires (subst (λ (n : ℕ). HaveBit8To n octets) all c.loop-i.invariant)
