@@ -1,4 +1,5 @@
 -- Object identifiers, absolute and relative (X.690 8.19, 8.20).
+pub mod Making
 use Rattle.std.specs.Prelude.{◌≡◌, ◌≢◌, ℕ, Bool, true, false, List, [], length, Result, Ok, Err}
 use Rattle.std.specs.Cow.{cow_slice_items, IsBorrowedSlice}
 use Rattle.std.specs.declared.alloc.Global.{Global}

@@ -1,5 +1,6 @@
 //! Object identifiers, absolute and relative (X.690 8.19, 8.20).
 
+pub(crate) mod making;
 mod relative;
 mod writing;
 
