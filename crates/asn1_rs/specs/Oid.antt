@@ -1,5 +1,6 @@
 -- Object identifiers, absolute and relative (X.690 8.19, 8.20).
 pub mod Arcs
+pub mod Making
 pub mod Text
 use Rattle.std.specs.Prelude.{◌≡◌, ◌≢◌, ℕ, Bool, true, false, List, [], length, Result, Ok, Err}
 use Rattle.std.specs.Cow.{cow_slice_items, IsBorrowedSlice}

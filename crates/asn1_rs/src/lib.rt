@@ -54,6 +54,7 @@ pub use asn1_types::numbers_of_borrowed_types;
 pub use asn1_types::octet_string::OctetString;
 pub use asn1_types::oid::Oid;
 pub use asn1_types::oid::iterator::SubIdentifierIterator;
+pub use asn1_types::oid::making::OidParseError;
 pub use asn1_types::option::TagRefusal;
 pub use asn1_types::option::options_are_left_out_by_ber;
 pub use asn1_types::option::options_are_left_out_by_der;

@@ -1,4 +1,5 @@
 -- Object identifiers are lawful elements, and are written so.
+pub mod Making
 pub mod Text
 use Rattle.std.specs.Prelude.{◌≡◌, ◌<◌, ◌^◌, ℕ, Bool, true, false, List, ◌++◌, length, take, drop, Result, Ok, Err, ◌↔◌, IsTrue, nat_eq, ◌&&◌}
 use Rattle.std.specs.List.{starts_with}

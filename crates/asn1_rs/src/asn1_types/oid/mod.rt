@@ -2,6 +2,7 @@
 
 mod arcs;
 pub mod iterator;
+pub(crate) mod making;
 mod relative;
 mod text;
 mod writing;
