@@ -1,17 +1,15 @@
 //! Attributes of a name, as a caller's own type.
 use crate::sums::Summed;
 use asn1_rs::{
-    Any, Class, DerWrite, ElementKind, Error, FromDer, HasKind, Header, Length, ParseResult,
+    Any, Class, DerWrite, ElementKind, Error, FromDer, HasKind, Header, Length, Oid, ParseResult,
     Sequence, SerializeError, SerializeResult, Tag, TagNumber, TaggedAs, ToDer,
 };
 use std::alloc::Global;
 
 /// An attribute of a name: a sequence of an identifier and a value of any type.
-///
-/// The library has no type of identifiers yet, so the identifier is kept as an element of any type.
 #[derive(Debug, Drop)]
 pub(crate) struct Attribute<'a> {
-    kind: Any<'a>,
+    kind: Oid<'a>,
     value: Any<'a>,
 }
 
@@ -31,7 +29,7 @@ impl Attribute<'_> {
 impl<'a> FromDer<'a, Error> for Attribute<'a> {
     fn from_der(alloc: Global, bytes: &'a [u8]) -> ParseResult<'a, Attribute<'a>, Error> {
         Sequence::from_der_and_then(bytes, |content| {
-            let (content, kind) = Any::from_der(alloc, content)?;
+            let (content, kind) = Oid::from_der(alloc, content)?;
             let (content, value) = Any::from_der(alloc, content)?;
             Ok((content, Attribute { kind, value }))
         })

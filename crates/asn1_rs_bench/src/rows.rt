@@ -3,7 +3,9 @@ ghost use Rattle.std.specs.Prelude.{◌<◌, length, IfOk};
 
 use crate::failure::Failure;
 use crate::sums::Summed;
-use asn1_rs::{ASN1Parser, Any, BerParser, DerParser, Error, ParseResult, ReadsItems, ToDer, Told};
+use asn1_rs::{
+    ASN1Parser, Any, BerParser, DerParser, Error, Oid, ParseResult, ReadsItems, ToDer, Told,
+};
 use std::alloc::Global;
 use std::marker::PhantomData;
 use std::mem;
@@ -87,6 +89,42 @@ pub(crate) fn write_row<T: ToDer>(
         total = total.wrapping_add(count as u64);
     }
     *output = writer.into_inner();
+    Ok(total)
+}
+
+/// The check with each arc of the identifier.
+#[inline(always)]
+fn with_arcs(oid: &Oid<'_>, check: u64) -> Result<u64, Failure> {
+    let Some(arcs) = oid.iter() else {
+        return Err(Failure::Refused);
+    };
+    let mut total = check;
+    for arc in arcs {
+        total = total.wrapping_mul(31).wrapping_add(arc);
+    }
+    Ok(total)
+}
+
+/// Goes over the arcs of all identifiers: 31 times what was so far, and each arc.
+#[inline(never)]
+pub(crate) fn arcs_of_row(oids: &[Oid<'_>]) -> Result<u64, Failure> {
+    let mut total: u64 = 0;
+    for oid in oids {
+        total = with_arcs(oid, total)?;
+    }
+    Ok(total)
+}
+
+/// Makes the text of each identifier, and sums their octets.
+#[inline(never)]
+pub(crate) fn texts_of_row(alloc: Global, oids: &[Oid<'_>]) -> Result<u64, Failure> {
+    let mut total: u64 = 0;
+    for oid in oids {
+        let Ok(text) = oid.to_id_string(alloc) else {
+            return Err(Failure::OutOfMemory);
+        };
+        total = total.wrapping_add(text.len() as u64);
+    }
     Ok(total)
 }
 

@@ -1,6 +1,6 @@
 //! What a value adds to the check of a workload.
 
-use asn1_rs::{Any, OctetString, SetOf};
+use asn1_rs::{Any, OctetString, Oid, SetOf};
 
 /// A value that adds to a check.
 pub(crate) trait Summed {
@@ -35,6 +35,13 @@ impl Summed for Any<'_> {
 
 /// An octet string adds how many octets it has.
 impl Summed for OctetString<'_> {
+    fn sum(&self) -> u64 {
+        self.as_bytes().len() as u64
+    }
+}
+
+/// An identifier adds how many contents octets it has.
+impl Summed for Oid<'_> {
     fn sum(&self) -> u64 {
         self.as_bytes().len() as u64
     }

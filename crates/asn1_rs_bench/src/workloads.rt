@@ -4,9 +4,9 @@ use crate::attribute::Attribute;
 use crate::failure::Failure;
 use crate::nested::{EightDeep, SixtyFourDeep, ThirtyTwoDeep};
 use crate::rounds::{Outcome, Rounds};
-use crate::rows::{Kept, read_row, values_of, walk, write_row};
+use crate::rows::{Kept, arcs_of_row, read_row, texts_of_row, values_of, walk, write_row};
 use crate::sums::Summed;
-use asn1_rs::{Any, BerParser, DerParser, Error, OctetString, ReadsItems, SetOf, ToDer};
+use asn1_rs::{Any, BerParser, DerParser, Error, OctetString, Oid, ReadsItems, SetOf, ToDer};
 use std::alloc::Global;
 use std::time::CpuClock;
 
@@ -54,6 +54,19 @@ impl<'a, C: CpuClock> Bench<'a, C> {
         Ok(outcome)
     }
 
+    /// Goes over the arcs of identifiers, which are read beforehand and kept.
+    fn arcs(&self) -> Result<Outcome, Failure> {
+        let values = values_of::<Oid<'_>, DerParser>(self.alloc, self.octets)?;
+        self.rounds.time(|| arcs_of_row(&values))
+    }
+
+    /// Makes the texts of identifiers, which are read beforehand and kept.
+    fn texts(&self) -> Result<Outcome, Failure> {
+        let alloc = self.alloc;
+        let values = values_of::<Oid<'_>, DerParser>(alloc, self.octets)?;
+        self.rounds.time(|| texts_of_row(alloc, &values))
+    }
+
     /// Walks through a row of elements by DER.
     fn walk_by_der(&self) -> Result<Outcome, Failure> {
         let alloc = self.alloc;
@@ -77,6 +90,7 @@ impl<'a, C: CpuClock> Bench<'a, C> {
             b"vec_vec_u8" | b"nested_02" => self.read::<Vec<Vec<u8>>, DerParser>(),
             b"setof_u32" => self.read::<SetOf<u32>, DerParser>(),
             b"octets" => self.read::<OctetString<'_>, DerParser>(),
+            b"oid" => self.read::<Oid<'_>, DerParser>(),
             b"names" => self.read::<Vec<SetOf<Attribute<'_>>>, DerParser>(),
             b"nested_08" => self.read::<EightDeep, DerParser>(),
             b"nested_32" => self.read::<ThirtyTwoDeep, DerParser>(),
@@ -104,6 +118,7 @@ impl<'a, C: CpuClock> Bench<'a, C> {
             b"vec_vec_u8" | b"nested_02" => self.write::<Vec<Vec<u8>>>(),
             b"setof_u32" => self.write::<SetOf<u32>>(),
             b"octets" => self.write::<OctetString<'_>>(),
+            b"oid" => self.write::<Oid<'_>>(),
             b"names" => self.write::<Vec<SetOf<Attribute<'_>>>>(),
             b"nested_08" => self.write::<EightDeep>(),
             b"nested_32" => self.write::<ThirtyTwoDeep>(),
@@ -139,6 +154,8 @@ pub(crate) fn run_workload<C: CpuClock>(
         b"walk_der" => bench.walk_by_der(),
         b"walk_ber" => bench.walk_by_ber(),
         b"write" => bench.write_kind(kind.as_bytes()),
+        b"arcs" => bench.arcs(),
+        b"text" => bench.texts(),
         _ => Err(Failure::NoSuchWorkload),
     }
 }
