@@ -7,6 +7,7 @@ mod borrowed;
 mod by_bounds;
 mod fingerprint;
 mod handle;
+mod identifiers;
 mod incomplete;
 mod items;
 mod joined;
@@ -30,6 +31,7 @@ pub use borrowed::{
 pub use by_bounds::{count_all, read_by_bound};
 pub use fingerprint::{Fingerprint, number_of_fingerprints};
 pub use handle::{Handle, Place, read_handle};
+pub use identifiers::{identifiers_are_hashed_alike, is_of_rsa, read_oid};
 pub use incomplete::{read_element, read_header};
 pub use items::{count_of_numbers, elements_in, items_in, numbers_in};
 pub use joined::{check_numbers, numbers_of, set_of_numbers};

@@ -1,0 +1,39 @@
+//! Object identifiers: read, written from arcs, compared.
+ghost use Rattle.std.specs.Prelude.{◌≡◌, ◌↔◌, ℕ, List, true};
+ghost use Rattle.x690.specs.Identifiers.{IsCutIdentifier};
+ghost use Rattle.x690.specs.Octets.{BeginsWith};
+ghost use Rattle.asn1_headers.specs.Answers.{seen, Exactly};
+ghost use Rattle.asn1_rs.specs.declared.asn1_types.oid.Oid.{Oid};
+ghost use Rattle.asn1_rs.specs.Oid.{oid_octets, oid_value};
+ghost use Rattle.asn1_rs_uses.specs.Identifiers.{OidByDer, rsa_octets};
+ghost use Rattle.asn1_rs_uses.specs.Numbers.{NoMemory};
+
+use asn1_rs::{Error, Oid, ParseResult, equal_items_are_hashed_alike, read_der};
+use std::alloc::Global;
+use std::borrow::CowSlice;
+use std::hash::Hash;
+
+/// The object identifier at the front, by DER, and what follows it.
+pub fn read_oid<'a>(alloc: Global, octets: &'a [u8]) -> ParseResult<'a, Oid<'a>, Error>
+    ensures { Exactly IsCutIdentifier OidByDer oid_value NoMemory octets.now (seen result) }
+{
+    read_der::<Oid<'a>, Error>(alloc, octets)
+}
+
+/// Whether an object identifier is 1.2.840.113549.1.1 or one under it: of RSA keys and signatures.
+pub fn is_of_rsa(oid: &Oid<'_>) -> bool
+    ensures { result ≡ true ↔ (rest : List ℕ) ×
+        BeginsWith (oid_octets oid.now) rsa_octets rest }
+{
+    let octets = [0x2a, 0x86, 0x48, 0x86, 0xf7, 0x0d, 0x01, 0x01];
+    let rsa = Oid::new(CowSlice::Borrowed(&octets));
+    oid.starts_with(&rsa)
+}
+
+/// Object identifiers with one value are hashed alike, so that one finds the other in a map.
+pub fn identifiers_are_hashed_alike()
+    ensures { (x y : Oid) → oid_value x ≡ oid_value y →
+        ⟦<Oid<'static> as Hash>⟧.hash_input x ≡ ⟦<Oid<'static> as Hash>⟧.hash_input y }
+{
+    equal_items_are_hashed_alike::<Oid<'static>>();
+}
