@@ -4,7 +4,7 @@ ghost use Rattle.std.specs.List.{All};
 ghost use Rattle.x690.specs.Arcs.{subidentifiers};
 
 /// Which of the two arcs of the first subidentifier are still to come.
-#[derive(Debug, Clone, Copy, PartialEq, Eq)]
+#[derive(Debug, Clone, Copy)]
 pub(crate) enum Pending {
     /// None of them.
     Nothing,

@@ -1,7 +1,5 @@
-use Rattle.std.proofs.Common.{◌≡◌, ◌≢◌, ℕ, ◌^◌, ◌<◌, Bool, true, false, List, [], ◌∷◌, length, get_or, ap, sym, subst, rules}
-use Rattle.std.specs.List.{All}
+use Rattle.std.proofs.Common.{◌≡◌, ◌≢◌, ℕ, Bool, true, false, List, [], ◌∷◌, length, get_or, ap, sym, subst}
 use Rattle.std.proofs.lemmas.List.{take_rest}
-use Rattle.x690.specs.Arcs.{arcs_of}
 use Rattle.x690.specs.Laws.Arcs.Fronts.{first_fits_absolute, rest_fits_absolute}
 use Rattle.asn1_rs.specs.Oid.Arcs.{ArcsFit}
 use Rattle.asn1_rs.proofs.asn1_types.oid.arcs.arcs_from.Goals as goal
