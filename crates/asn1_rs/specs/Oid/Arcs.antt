@@ -1,22 +1,14 @@
 -- The arcs of object identifiers, as an iterator gives them (X.690 8.19, 8.20).
-use Rattle.std.specs.Prelude.{◌≡◌, ℕ, ◌<◌, ◌^◌, Bool, List, [], ◌∷◌, ◌++◌, Option, Some, None}
-use Rattle.std.specs.List.{All}
-use Rattle.x690.specs.Arcs.{arcs_of, subidentifiers}
+use Rattle.std.specs.Prelude.{◌≡◌, ℕ, ◌<◌, ◌^◌, Bool, List, Option, Some, None}
+use Rattle.std.specs.List.{All, cons_option}
+use Rattle.x690.specs.Arcs.{arcs_of}
 use Rattle.asn1_rs.specs.declared.asn1_types.oid.Oid.{Oid}
-use Rattle.asn1_rs.specs.declared.asn1_types.oid.iterator.Pending.{Pending}
-use Rattle.asn1_rs.specs.declared.asn1_types.oid.iterator.Pending.TheVariants.{Nothing, Second, Both}
 use Rattle.asn1_rs.specs.declared.asn1_types.oid.iterator.SubIdentifierIterator.{SubIdentifierIterator}
 use Rattle.asn1_rs.specs.Oid.{is_relative, oid_octets}
 
--- which of the arcs x and y are still to come
-abbrev pub pair_left : Pending → ℕ → ℕ → List ℕ
-pair_left Nothing x y = []
-pair_left Second x y = y ∷ []
-pair_left Both x y = x ∷ y ∷ []
-
--- the arcs that are left: those of the first subidentifier, where they are still to come, and each subidentifier of the octets left
+-- the arcs that are left: the second of a pair, where it is still to come, and those of the octets left
 abbrev pub arcs_left : SubIdentifierIterator → List ℕ
-arcs_left s = pair_left s.pending s.first s.second ++ subidentifiers s.left.now
+arcs_left s = cons_option s.second (arcs_of s.relative s.left.now)
 
 -- each arc of the contents octets is below 2^64
 abbrev pub ArcsFit : Bool → List ℕ → Type 0

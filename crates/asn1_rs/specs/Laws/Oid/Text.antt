@@ -1,7 +1,7 @@
 -- The texts of object identifiers, piece by piece.
-use Rattle.std.specs.Prelude.{◌≡◌, ◌≢◌, ℕ, ◌<◌, ◌^◌, Bool, true, false, List, [], ◌∷◌, ◌++◌, length, map, nat_lt, decimal, if◌then◌else◌}
-use Rattle.std.specs.List.{All, flat_map, join_with_byte, list_all}
-use Rattle.std.proofs.Common.{ap, refl, sym, ◌∙◌, append-nil, drop, get_or, ◌+◌, add-one, drop-cons, arith}
+use Rattle.std.specs.Prelude.{◌≡◌, ℕ, ◌<◌, ◌^◌, Bool, true, false, List, [], ◌∷◌, ◌++◌, length, map, nat_lt, decimal, if◌then◌else◌}
+use Rattle.std.specs.List.{All, flat_map, join_with_byte}
+use Rattle.std.proofs.Common.{ap, refl, sym, append-nil, drop, get_or, ◌+◌, add-one, drop-cons, arith}
 use Rattle.std.proofs.lemmas.Bool.{false≢true}
 use Rattle.std.proofs.lemmas.Bool.Decides.{nat_tests}
 use Rattle.std.proofs.lemmas.List.Sums.{AllPass-from_list_all, list_all-from_AllPass}

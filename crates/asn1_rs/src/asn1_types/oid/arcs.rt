@@ -1,11 +1,11 @@
 //! The arcs of an object identifier, one by one (X.690 8.19, 8.20).
-ghost use Rattle.std.specs.Prelude.{◌≡◌};
+ghost use Rattle.std.specs.Prelude.{◌≡◌, ℕ, ◌+◌, ◌<◌, ◌≤◌, ◌∷◌, false, length, None};
 ghost use Rattle.std.specs.Iterator.{YieldsFirst, item_count};
 ghost use Rattle.x690.specs.Arcs.{arcs_of};
-ghost use Rattle.asn1_rs.specs.Oid.Arcs.{ArcsFit, GivesArcs, arcs_left};
+ghost use Rattle.asn1_rs.specs.Oid.Arcs.{arcs_left, GivesArcs};
 
 use crate::asn1_types::oid::Oid;
-use crate::asn1_types::oid::iterator::{Pending, SubIdentifierIterator};
+use crate::asn1_types::oid::iterator::SubIdentifierIterator;
 use std::iter::FusedIterator;
 use x690::arcs::{arcs_fit, count_subidentifiers, split_subidentifier, subidentifier};
 
@@ -18,43 +18,56 @@ impl Oid<'_> {
     pub fn iter(&self) -> Option<SubIdentifierIterator<'_>>
         ensures { GivesArcs self.now result }
     {
-        let octets = self.as_bytes();
-        if arcs_fit(self.relative, octets) {
-            Some(arcs_from(self.relative, octets))
+        let left = self.as_bytes();
+        if arcs_fit(self.relative, left) {
+            Some(SubIdentifierIterator {
+                left,
+                relative: self.relative,
+                second: None,
+            })
         } else {
             None
         }
     }
 }
 
-/// The arcs of contents octets, of a relative identifier or of another one: the octet 00 alone is the one arc 0.
-#[inline(always)]
-fn arcs_from(relative: bool, octets: &[u8]) -> SubIdentifierIterator<'_>
-    requires { ArcsFit relative octets.now }
-    ensures { arcs_left result ≡ arcs_of relative octets.now }
+/// How many arcs the contents octets have, of a relative identifier or of another one.
+fn count_arcs(relative: bool, octets: &[u8]) -> usize
+    ensures count { result ≡ length (arcs_of relative octets.now) }
+    ensures few { result ≤ length octets.now + 1 }
 {
-    if relative || octets.is_empty() {
-        return SubIdentifierIterator {
-            pending: Pending::Nothing,
-            first: 0,
-            second: 0,
-            left: octets,
-        };
+    let count = count_subidentifiers(octets);
+    if relative || octets.is_empty() || (octets.len() == 1 && octets[0] == 0) {
+        count
+    } else {
+        count + 1
     }
-    if octets.len() == 1 && octets[0] == 0 {
-        return SubIdentifierIterator {
-            pending: Pending::Second,
-            first: 0,
-            second: 0,
-            left: &octets[1..],
+}
+
+impl SubIdentifierIterator<'_> {
+    /// The first arc of an object identifier; the second one is still to come.
+    fn split_first(&mut self) -> u64
+        requires some { 0 < length self.old.left.now }
+        requires first { self.old.relative ≡ false }
+        requires none { self.old.second ≡ None }
+        ensures { arcs_left self.old ≡ result ∷ arcs_left self.new }
+    {
+        let left = self.left;
+        if left.len() == 1 && left[0] == 0 {
+            *self = SubIdentifierIterator {
+                left: &left[1..],
+                relative: true,
+                second: None,
+            };
+            return 0;
+        }
+        let (first, second, len) = split_subidentifier(left);
+        *self = SubIdentifierIterator {
+            left: &left[len..],
+            relative: true,
+            second: Some(second),
         };
-    }
-    let (first, second, len) = split_subidentifier(octets);
-    SubIdentifierIterator {
-        pending: Pending::Both,
-        first,
-        second,
-        left: &octets[len..],
+        first
     }
 }
 
@@ -67,19 +80,15 @@ impl Iterator for SubIdentifierIterator<'_> {
 
     #[inline(always)]
     fn next(&mut self) -> Option<u64> {
-        match self.pending {
-            Pending::Nothing => {}
-            Pending::Second => {
-                self.pending = Pending::Nothing;
-                return Some(self.second);
-            }
-            Pending::Both => {
-                self.pending = Pending::Second;
-                return Some(self.first);
-            }
+        if let Some(second) = self.second {
+            self.second = None;
+            return Some(second);
         }
         if self.left.is_empty() {
             return None;
+        }
+        if !self.relative {
+            return Some(self.split_first());
         }
         let (arc, len) = subidentifier(self.left);
         self.left = &self.left[len..];
@@ -95,12 +104,8 @@ impl Iterator for SubIdentifierIterator<'_> {
 
 impl ExactSizeIterator for SubIdentifierIterator<'_> {
     fn len(&self) -> usize {
-        let pair = match self.pending {
-            Pending::Nothing => 0,
-            Pending::Second => 1,
-            Pending::Both => 2,
-        };
-        pair + count_subidentifiers(self.left)
+        let pending = usize::from(self.second.is_some());
+        pending + count_arcs(self.relative, self.left)
     }
 }
 

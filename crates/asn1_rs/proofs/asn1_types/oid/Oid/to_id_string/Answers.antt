@@ -1,4 +1,4 @@
-use Rattle.std.proofs.Common.{◌≡◌, ℕ, List, ◌++◌, string_bytes, ap, ◌∙◌, rules}
+use Rattle.std.proofs.Common.{ℕ, List, ◌++◌, string_bytes, ap, ◌∙◌, rules}
 use Rattle.std.proofs.Output.{contents_after_writes}
 use Rattle.asn1_rs.specs.Oid.{is_relative, oid_octets}
 use Rattle.asn1_rs.specs.Oid.Text.{id_text}

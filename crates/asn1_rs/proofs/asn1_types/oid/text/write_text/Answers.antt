@@ -1,4 +1,4 @@
-use Rattle.std.proofs.Common.{ℕ, List, ap, sym, ◌∙◌}
+use Rattle.std.proofs.Common.{ap, sym, ◌∙◌}
 use Rattle.std.proofs.Output.{has_written_of_eq}
 use Rattle.x690.specs.Arcs.{arcs_text}
 use Rattle.asn1_rs.specs.Oid.{is_relative, oid_octets}
