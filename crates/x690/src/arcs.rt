@@ -243,9 +243,22 @@ fn is_below(octets: &[u8], bound: u128) -> bool
     number < bound
 }
 
-/// Whether each arc of the contents octets is below 2^64, of a relative identifier or of another one. Leading octets 80
-/// do not count, and nine octets or fewer are not looked at (X.690 8.19, 8.20).
-pub fn arcs_fit(relative: bool, octets: &[u8]) -> bool
+/// Whether no nine octets in a row have bit 8, so that no piece has more than nine octets (X.690 8.19.2).
+fn has_short_pieces(octets: &[u8]) -> bool
+    ensures { IsTrue result → All (λ piece. length piece < 10) (pieces_of octets.now) }
+{
+    let mut run: usize = 0;
+    let mut short = true;
+    for octet in octets {
+        run = if *octet < 128 { 0 } else { run + 1 };
+        short &= run < 9;
+    }
+    short
+}
+
+/// Whether each arc of the contents octets is below 2^64, judged piece by piece (X.690 8.19, 8.20).
+#[inline(never)]
+fn arcs_fit_by_piece(relative: bool, octets: &[u8]) -> bool
     ensures { IsTrue result ↔ All (λ arc. arc < 2 ^ 64) (arcs_of relative octets.now) }
 {
     if octets.len() < 10 {
@@ -266,4 +279,13 @@ pub fn arcs_fit(relative: bool, octets: &[u8]) -> bool
         rest = &rest[len..];
     }
     true
+}
+
+/// Whether each arc of the contents octets is below 2^64, of a relative identifier or of another one. Leading octets 80
+/// do not count, and nine octets or fewer are not looked at (X.690 8.19, 8.20).
+#[inline]
+pub fn arcs_fit(relative: bool, octets: &[u8]) -> bool
+    ensures { IsTrue result ↔ All (λ arc. arc < 2 ^ 64) (arcs_of relative octets.now) }
+{
+    octets.len() < 10 || has_short_pieces(octets) || arcs_fit_by_piece(relative, octets)
 }

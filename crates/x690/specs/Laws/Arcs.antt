@@ -1,6 +1,7 @@
 -- Laws of pieces, subidentifiers and arcs.
 pub mod Beginnings
 pub mod Fronts
+pub mod Runs
 pub mod Texts
 use Rattle.std.proofs.Common.{◌≡◌, ◌≢◌, ℕ, suc, zero, ◌+◌, ◌*◌, ◌<◌, ◌≤◌, Bool, true, false, List, [], ◌∷◌, ◌++◌, ◌⊎◌, map, length-append, subst, length, take, drop, get_or, refl, ap, sym, ◌∙◌, arith, inl, inr}
 use Rattle.std.specs.List.{All, concat}

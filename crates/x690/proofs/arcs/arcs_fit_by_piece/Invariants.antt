@@ -2,7 +2,7 @@ use Rattle.std.proofs.Common.{◌^◌, ◌<◌, ◌≤◌, length}
 use Rattle.std.specs.List.{All}
 use Rattle.x690.specs.Arcs.{subidentifiers, arcs_of}
 use Rattle.x690.specs.Laws.Arcs.Fronts.{AreBelow}
-use Rattle.x690.proofs.arcs.arcs_fit.Given as goal
+use Rattle.x690.proofs.arcs.arcs_fit_by_piece.Given as goal
 
 abbrev pub invariant-loop-rest : goal.invariant-loop-rest
 invariant-loop-rest l = record {
