@@ -24,6 +24,8 @@ mod leaves;
 #[cfg(test)]
 mod numbers;
 #[cfg(test)]
+mod oids;
+#[cfg(test)]
 mod options;
 #[cfg(test)]
 mod own_errors;
