@@ -339,13 +339,9 @@ fn identifiers_are_read_and_shown(rt: HostRuntime) -> Result<(), Fail> {
 
 #[test]
 fn what_is_made_equals_what_is_read(rt: HostRuntime) -> Result<(), Fail> {
-    let made = Oid::from_relative(rt.alloc(), &[8571, 3, 2]);
-    let read = Oid::from_ber_relative(&[0x0d, 0x04, 0xc2, 0x7b, 0x03, 0x02]);
-    let equal = match (&made, &read) {
-        (Ok(made), Ok((_, read))) => *made == *read,
-        _ => false,
-    };
-    assert_shown(rt.alloc(), &equal, "true")
+    let made = Oid::from_relative(rt.alloc(), &[8571, 3, 2])?;
+    let read = Oid::from_ber_relative(&[0x0d, 0x04, 0xc2, 0x7b, 0x03, 0x02])?.1;
+    assert_shown(rt.alloc(), &(made == read), "true")
 }
 
 /// The hash of an identifier.
