@@ -12,6 +12,8 @@ mod colour;
 #[cfg(test)]
 mod devices;
 #[cfg(test)]
+mod growths;
+#[cfg(test)]
 mod headed;
 #[cfg(test)]
 mod implicit;
@@ -23,6 +25,10 @@ mod laws;
 mod leaves;
 #[cfg(test)]
 mod numbers;
+#[cfg(test)]
+mod oid_table;
+#[cfg(test)]
+mod oids;
 #[cfg(test)]
 mod options;
 #[cfg(test)]

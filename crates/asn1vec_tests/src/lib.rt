@@ -12,6 +12,8 @@ mod lists;
 #[cfg(test)]
 mod numbers;
 #[cfg(test)]
+mod oids;
+#[cfg(test)]
 mod runs;
 #[cfg(test)]
 mod tags;

@@ -1,0 +1,70 @@
+//! Calls that allocate, each twice. Where one growth is refused, as `tools/refused_growths` has it, one call tells of
+//! out of memory, and the other answers as ever.
+
+use asn1_rs::{Error, Oid, OidParseError};
+use std::alloc::Global;
+use std::borrow::CowSlice;
+
+/// Whether an identifier was made of these octets, or refused when out of memory.
+fn is_made(made: Result<Oid<'static>, OidParseError>, octets: &[u8]) -> bool {
+    match made {
+        Ok(oid) => oid.as_bytes() == octets,
+        Err(refusal) => refusal == OidParseError::OutOfMemory,
+    }
+}
+
+/// Whether a copy has the octets and the kind of this one, or was refused when out of memory.
+fn is_copied(alloc: Global, oid: &Oid<'_>) -> bool {
+    match oid.to_owned(alloc) {
+        Ok(copy) => copy == *oid,
+        Err(refusal) => refusal == Error::OutOfMemory,
+    }
+}
+
+/// Whether an identifier has this text, or none when out of memory.
+fn has_text(alloc: Global, oid: &Oid<'_>, expected: &str) -> bool {
+    match oid.to_id_string(alloc) {
+        Ok(text) => text.as_str() == expected,
+        Err(refusal) => refusal == Error::OutOfMemory,
+    }
+}
+
+/// The contents octets of 2.18446744073709551615, which are more than two, the number of its arcs.
+const LONG: [u8; 10] = [0x82, 0x80, 0x80, 0x80, 0x80, 0x80, 0x80, 0x80, 0x80, 0x4f];
+
+#[test]
+fn identifiers_are_refused_for_want_of_memory(rt: HostRuntime) {
+    let arcs = [2, u64::MAX];
+    assert!(rt; is_made(Oid::from(rt.alloc(), &arcs), &LONG));
+    assert!(rt; is_made(Oid::from(rt.alloc(), &arcs), &LONG));
+}
+
+#[test]
+fn relative_identifiers_are_refused_for_want_of_memory(rt: HostRuntime) {
+    let (arcs, octets) = ([8571, 3, 2], [0xc2, 0x7b, 0x03, 0x02]);
+    assert!(rt; is_made(Oid::from_relative(rt.alloc(), &arcs), &octets));
+    assert!(rt; is_made(Oid::from_relative(rt.alloc(), &arcs), &octets));
+}
+
+#[test]
+fn texts_are_refused_for_want_of_memory(rt: HostRuntime) {
+    let octets = [0x2a, 0x86, 0x48, 0x86, 0xf7, 0x0d, 0x01, 0x01, 0x0b];
+    assert!(rt; is_made(Oid::from_str(rt.alloc(), "1.2.840.113549.1.1.11"), &octets));
+    assert!(rt; is_made(Oid::from_str(rt.alloc(), "1.2.840.113549.1.1.11"), &octets));
+}
+
+#[test]
+fn copies_and_texts_are_refused_for_want_of_memory(rt: HostRuntime) {
+    let oid = Oid::new_relative(CowSlice::Borrowed(&[0xc2, 0x7b, 0x03, 0x02]));
+    assert!(rt; is_copied(rt.alloc(), &oid));
+    assert!(rt; is_copied(rt.alloc(), &oid));
+    assert!(rt; has_text(rt.alloc(), &oid, "8571.3.2"));
+    assert!(rt; has_text(rt.alloc(), &oid, "8571.3.2"));
+}
+
+#[test]
+fn hexadecimal_texts_are_refused_for_want_of_memory(rt: HostRuntime) {
+    let oid = Oid::new_relative(CowSlice::Borrowed(&[0xff; 10]));
+    assert!(rt; has_text(rt.alloc(), &oid, "ff ff ff ff ff ff ff ff ff ff"));
+    assert!(rt; has_text(rt.alloc(), &oid, "ff ff ff ff ff ff ff ff ff ff"));
+}
