@@ -14,6 +14,7 @@ pub mod nested;
 pub mod octets;
 pub mod signed;
 pub mod strict;
+pub mod times;
 
 ghost use Rattle.std.specs.Prelude.{ℕ, List, ◌≡◌, ◌++◌};
 ghost use Rattle.x690.specs.Octets.{IsOctets};
