@@ -17,4 +17,5 @@ pub mod Characters
 pub mod Joined
 pub mod Ascending
 pub mod Collections
+pub mod TimeTexts
 pub mod Words

@@ -1,6 +1,7 @@
 //! Times as texts (X.680 46, 47; X.690 11.7, 11.8): their fields, which texts say them, and their strict texts.
 
 pub mod reading;
+pub mod shown;
 pub mod writing;
 
 /// The zone of a time: none that is defined, Z (that of UTC), or hours and minutes that it is ahead.
