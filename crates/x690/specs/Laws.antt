@@ -16,4 +16,5 @@ pub mod Arcs
 pub mod Joined
 pub mod Ascending
 pub mod Collections
+pub mod Sets
 pub mod Words
