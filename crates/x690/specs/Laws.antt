@@ -17,5 +17,6 @@ pub mod Characters
 pub mod Joined
 pub mod Ascending
 pub mod Collections
+pub mod Sets
 pub mod TimeTexts
 pub mod Words

@@ -14,5 +14,6 @@ pub mod Characters
 pub mod Joined
 pub mod Ascending
 pub mod Collections
+pub mod Sets
 pub mod Times
 pub mod Laws

@@ -13,6 +13,7 @@ pub mod joined;
 pub mod lengths;
 pub mod nested;
 pub mod octets;
+pub mod sets;
 pub mod signed;
 pub mod strict;
 pub mod times;
@@ -52,6 +53,7 @@ pub use nested::{
     nested_faults_are_complete, nested_faults_are_final, one_nested_fault,
 };
 pub use octets::{dictionary_order_is_total, first_difference_decides, padding_changes_no_order};
+pub use sets::characters_are_octets;
 pub use signed::octets_hold_their_integers;
 
 /// Octet strings, one after the other, are an octet string.
