@@ -1,13 +1,13 @@
 -- Laws of the strict texts of times.
-use Rattle.std.proofs.Common.{◌≡◌, ◌≢◌, ℕ, zero, suc, ◌+◌, ◌-◌, ◌*◌, ◌/◌, ◌%◌, ◌^◌, ◌<◌, ◌≤◌, ◌==◌, Bool, true, false, ◌&&◌, List, [], ◌∷◌, ◌++◌, ◌⊎◌, inl, inr, length, length-append, decimal, Option, Some, None, IsTrue, if◌then◌else◌, cond, nat_lt, refl, ap, subst, sym, ◌∙◌, arith}
+use Rattle.std.proofs.Common.{◌≡◌, ◌≢◌, ℕ, zero, suc, ◌+◌, ◌/◌, ◌%◌, ◌<◌, ◌≤◌, ◌==◌, Bool, true, false, List, [], ◌∷◌, ◌++◌, inl, inr, length, length-append, decimal, Option, Some, None, IsTrue, if◌then◌else◌, nat_lt, refl, ap, subst, sym, arith}
 use Rattle.std.specs.List.{list_all}
 use Rattle.std.specs.Int.{is_in_range}
 use Rattle.std.specs.Fmt.{digits_onto, digit_glyph, digits}
-use Rattle.std.proofs.lemmas.Bool.{cases_eq}
+use Rattle.std.proofs.lemmas.Bool.{and_parts, cases_eq}
 use Rattle.std.proofs.lemmas.Bool.Decides.{nat_tests}
 use Rattle.std.proofs.lemmas.List.Folds.{list_all-append}
 use Rattle.x690.specs.Octets.{IsOctets}
-use Rattle.x690.specs.Times.{z_text, to_minute, SaysFraction, SaysUtcTime, SaysGeneralizedTime, fraction_text, utc_time_text, generalized_time_text, MostMilliseconds, FitsText, FitsUtcTime, FitsGeneralizedTime, IsStrictMoment, IsStrictUtcTime, IsStrictGeneralizedTime}
+use Rattle.x690.specs.Times.{z_text, SaysFraction, SaysUtcTime, SaysGeneralizedTime, fraction_text, utc_time_text, generalized_time_text, MostMilliseconds, FitsText, FitsUtcTime, FitsGeneralizedTime, IsStrictMoment, IsStrictUtcTime, IsStrictGeneralizedTime}
 use Rattle.x690.specs.Times.{digits as decimal_digits}
 use Rattle.x690.specs.declared.times.Moment.{Moment}
 
@@ -22,13 +22,14 @@ utc_says m s = record {
   says = inr (z_text, refl, inl (refl, s.0.zone), s.2);
 }
 
-one_digit : (n : ℕ) → n ≢ 0 → n ≤ 999 → n % 100 ≡ 0 → fraction_text (Some n) ≡ 46 ∷ decimal_digits 1 (n / 100)
+-- milliseconds in one digit, in two and in three
+pub one_digit : (n : ℕ) → n ≢ 0 → n ≤ 999 → n % 100 ≡ 0 → fraction_text (Some n) ≡ 46 ∷ decimal_digits 1 (n / 100)
 one_digit n s h e = grind (arith, nat_tests)
 
-two_digits : (n : ℕ) → n ≢ 0 → n ≤ 999 → n % 100 ≢ 0 → n % 10 ≡ 0 → fraction_text (Some n) ≡ 46 ∷ decimal_digits 2 (n / 10)
+pub two_digits : (n : ℕ) → n ≢ 0 → n ≤ 999 → n % 100 ≢ 0 → n % 10 ≡ 0 → fraction_text (Some n) ≡ 46 ∷ decimal_digits 2 (n / 10)
 two_digits n s h d e = grind (arith, nat_tests)
 
-three_digits : (n : ℕ) → n ≢ 0 → n ≤ 999 → n % 100 ≢ 0 → n % 10 ≢ 0 → fraction_text (Some n) ≡ 46 ∷ decimal_digits 3 n
+pub three_digits : (n : ℕ) → n ≢ 0 → n ≤ 999 → n % 100 ≢ 0 → n % 10 ≢ 0 → fraction_text (Some n) ≡ 46 ∷ decimal_digits 3 n
 three_digits n s h d e = grind (arith, nat_tests)
 
 fraction_says : (m : Option ℕ) → MostMilliseconds 999 m → m ≢ Some 0 → SaysFraction (fraction_text m) m
@@ -55,7 +56,7 @@ generalized_says m s = record {
 -- ---- strict fields fit
 
 moment_fits : (greatest_year : ℕ) (m : Moment) → IsStrictMoment m → m.year ≤ greatest_year → MostMilliseconds 999 m.millisecond → FitsText greatest_year m
-moment_fits greatest_year m s y f = let r = s.range in record {
+moment_fits greatest_year m s y f = record {
   year = y;
   month = omega (arith, s.range.month);
   day = omega (arith, s.range.day);
@@ -122,14 +123,10 @@ generalized_visible m = simp digit_visible (visible_append (fraction_text m.mill
 visible_octet : (n : ℕ) → is_visible n ≡ true → n < 256
 visible_octet n h = grind (arith, nat_tests)
 
-both_true : (a b : Bool) → (a && b) ≡ true → (a ≡ true) × (b ≡ true)
-both_true true b h = (refl, h)
-both_true false b h = cc
-
 visible_octets : (octets : List ℕ) → AreVisible octets → IsOctets octets
 visible_octets [] a k = omega arith
-visible_octets (x ∷ octets) a zero = visible_octet x (both_true (is_visible x) (list_all is_visible octets) a).0
-visible_octets (x ∷ octets) a (suc k) = visible_octets octets (both_true (is_visible x) (list_all is_visible octets) a).1 k
+visible_octets (x ∷ octets) a zero = visible_octet x (and_parts (is_visible x) (list_all is_visible octets) a).0
+visible_octets (x ∷ octets) a (suc k) = visible_octets octets (and_parts (is_visible x) (list_all is_visible octets) a).1 k
 
 pub utc_octets : (m : Moment) → IsOctets (utc_time_text m)
 utc_octets m = visible_octets (utc_time_text m) (utc_visible m)

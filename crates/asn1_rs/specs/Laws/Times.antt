@@ -1,0 +1,118 @@
+-- Times are lawful leaves; those that are strict are written.
+use Rattle.std.specs.Prelude.{◌≡◌, ◌<◌, ◌↔◌, ◌≤◌, ◌⊎◌, ℕ, List, Bool, true, false, ◌&&◌, not, nat_le, Some, None, Option, IsTrue, codes}
+use Rattle.std.proofs.Common.{◌∙◌, ap, sym, refl, lit<, inl, inr}
+use Rattle.std.proofs.lemmas.Bool.{le-leb, leb-true}
+use Rattle.x690.specs.Octets.{IsOctets}
+use Rattle.x690.specs.Elements.{Parts}
+use Rattle.x690.specs.Sets.{AllIn, is_visible}
+use Rattle.x690.specs.Times.{SaysUtcTime, IsStrictUtcTime, FitsText, MostMilliseconds, utc_time_text}
+use Rattle.x690.specs.declared.times.Moment.{Moment}
+use Rattle.x690.specs.declared.times.TimeZone.{TimeZone}
+use Rattle.x690.specs.declared.times.TimeZone.TheVariants.{Undefined, Z, Offset}
+use Rattle.asn1_headers.specs.Error.{IsInvalidValue}
+use Rattle.asn1_headers.specs.declared.error.Error.{Error}
+use Rattle.asn1_headers.specs.declared.error.Error.TheVariants as errors
+use Rattle.asn1_headers.specs.declared.tag.Tag.{Tag}
+use Rattle.asn1_rs.specs.declared.asn1_types.times.utc_time.UtcTime.{UtcTime}
+use Rattle.asn1_rs.specs.Checks.{CheckGives, IsCheck, IsCheckUpTo, but_text, nothing}
+use Rattle.asn1_rs.specs.Leaf.{IsLawfulLeafUpTo, leaf_parts}
+use Rattle.asn1_rs.specs.Times.{IsMoment, IsNoTime, moment_of, time_leaf, has_visible_octets, says_time, utc_time_leaf, utc_time_number, fits_text, has_place, has_three_digits, utc_time_refused}
+use Rattle.asn1_rs.specs.Laws.Checks.{up_to, before_is, content_check_is, telling_check_is, nothing_is}
+
+-- refusals of one tag with one text are told apart by nothing
+same_text : (tag : Tag) (text : List ℕ) (e f : Error) → IsInvalidValue tag text e → IsInvalidValue tag text f → but_text e ≡ but_text f
+same_text tag text (errors.InvalidValue t m) (errors.InvalidValue u n) a b = rw (a.0, a.1, b.0, b.1) refl
+same_text tag text (errors.InvalidValue t m) _ a b = absurd b
+same_text tag text _ f a b = absurd a
+
+says_time_is : (number : ℕ) (Says : List ℕ → Moment → Type 0) → IsCheckUpTo but_text (says_time number Says)
+says_time_is number Says = telling_check_is but_text _ (IsNoTime number) (same_text _ (codes "not a time")) (λ h. h)
+
+-- What is asked of a text: it says one time, which an item may hold; a strict time's is such, of octets 20 to 7f, and says it.
+pub record AreTimeTexts (Says : List ℕ → Moment → Type 0) (IsStrict : Moment → Type 0) (octets : Moment → List ℕ) : Type 0 where
+  pub one : (text : List ℕ) (m n : Moment) → Says text m → Says text n → m ≡ n
+  pub holds : (text : List ℕ) (m : Moment) → Says text m → IsMoment m
+  pub strict : (m : Moment) → IsStrict m → Says (octets m) m
+  pub visible : (m : Moment) → AllIn is_visible (octets m)
+  pub are : (m : Moment) → IsOctets (octets m)
+
+module _ {S : Type 0} (number : ℕ) (value : S → Moment) (Says : List ℕ → Moment → Type 0) (IsStrict : Moment → Type 0) (constraints : CheckGives) (octets : Moment → List ℕ) where
+  pub time_lawful : number < 31 → AreTimeTexts Says IsStrict octets → IsCheck constraints →
+      ((class : ℕ) (m : Moment) → IsStrict m → constraints (leaf_parts (time_leaf number value Says IsStrict constraints octets) class m) (Ok tt)) →
+      IsLawfulLeafUpTo but_text (time_leaf number value Says IsStrict constraints octets)
+  time_lawful small texts are meets = record {
+    small = small;
+    checks = before_is has_visible_octets (says_time number Says) (up_to but_text has_visible_octets (content_check_is (AllIn is_visible) _ (λ e. cc))) (says_time_is number Says);
+    constraints = up_to but_text constraints are;
+    one_value = texts.one;
+    says_value = λ p v o m s. texts.holds p.content v s;
+    der_value = λ v d. texts.holds (octets v) v (texts.strict v d);
+    der_octets = λ v d. texts.are v;
+    der_says = texts.strict;
+    der_checks = λ k v d. (texts.visible v, (v, texts.strict v d));
+    der_constraints = meets;
+  }
+
+-- ---- which fit their text
+
+of_both : (x y : Bool) → (x && y) ≡ true → (x ≡ true) × (y ≡ true)
+of_both true y e = (refl, e)
+of_both false y e = absurd (let n = e in cc)
+
+to_both : (x y : Bool) → x ≡ true → y ≡ true → (x && y) ≡ true
+to_both true y e f = f
+to_both false y e f = absurd (let n = e in cc)
+
+fits_milliseconds : (o : Option ℕ) → MostMilliseconds 999 o → has_three_digits o ≡ true
+fits_milliseconds None h = refl
+fits_milliseconds (Some m) h = le-leb m 999 h
+
+are_milliseconds : (o : Option ℕ) → has_three_digits o ≡ true → MostMilliseconds 999 o
+are_milliseconds None h = tt
+are_milliseconds (Some m) h = leb-true m 999 h
+
+fits_zone : (z : TimeZone) → (z ≡ Z) ⊎ (z ≡ Undefined) → has_place z ≡ true
+fits_zone Undefined h = refl
+fits_zone Z h = refl
+fits_zone (Offset hours minutes) (inl e) = absurd (let n = e in cc)
+fits_zone (Offset hours minutes) (inr e) = absurd (let n = e in cc)
+
+is_zone : (z : TimeZone) → has_place z ≡ true → (z ≡ Z) ⊎ (z ≡ Undefined)
+is_zone Undefined h = inr refl
+is_zone Z h = inl refl
+is_zone (Offset hours minutes) h = absurd (let n = h in cc)
+
+-- fields fit their text exactly where the test says so
+pub fits_where_tested : (greatest : ℕ) (m : Moment) → fits_text greatest m ≡ true → FitsText greatest m
+fits_where_tested greatest m h =
+    let year = of_both (nat_le m.year greatest) _ h in
+    let month = of_both (nat_le m.month 99) _ year.1 in
+    let day = of_both (nat_le m.day 99) _ month.1 in
+    let hour = of_both (nat_le m.hour 99) _ day.1 in
+    let minute = of_both (nat_le m.minute 99) _ hour.1 in
+    let second = of_both (nat_le m.second 99) _ minute.1 in
+    let rest = of_both (has_three_digits m.millisecond) (has_place m.zone) second.1 in
+    record {
+      year = leb-true m.year greatest year.0;
+      month = leb-true m.month 99 month.0;
+      day = leb-true m.day 99 day.0;
+      hour = leb-true m.hour 99 hour.0;
+      minute = leb-true m.minute 99 minute.0;
+      second = leb-true m.second 99 second.0;
+      millisecond = are_milliseconds m.millisecond rest.0;
+      zone = is_zone m.zone rest.1;
+    }
+
+pub tested_where_fits : (greatest : ℕ) (m : Moment) → FitsText greatest m → fits_text greatest m ≡ true
+tested_where_fits greatest m f =
+    to_both (nat_le m.year greatest) _ (le-leb m.year greatest f.year) (
+    to_both (nat_le m.month 99) _ (le-leb m.month 99 f.month) (
+    to_both (nat_le m.day 99) _ (le-leb m.day 99 f.day) (
+    to_both (nat_le m.hour 99) _ (le-leb m.hour 99 f.hour) (
+    to_both (nat_le m.minute 99) _ (le-leb m.minute 99 f.minute) (
+    to_both (nat_le m.second 99) _ (le-leb m.second 99 f.second) (
+    to_both (has_three_digits m.millisecond) _ (fits_milliseconds m.millisecond f.millisecond) (fits_zone m.zone f.zone)))))))
+
+-- so no time is refused whose fields fit
+pub accepted : (greatest : ℕ) (m : Moment) → FitsText greatest m → not (fits_text greatest m) ≡ false
+accepted greatest m f = ap not (tested_where_fits greatest m f)

@@ -1,0 +1,118 @@
+//! Times (X.690 8.25, 8.26, 11.7, 11.8).
+ghost use Rattle.std.specs.Prelude.{◌≡◌};
+ghost use Rattle.asn1_rs.specs.Times.{moment_of, IsMoment};
+
+pub mod utc_time;
+
+use x690::times::{Moment, TimeZone};
+
+/// The fields of a time. A caller may make any; which of them are read and written, the types of times say. The year of a
+/// UTCTime is that in its century.
+#[derive(Clone, Debug, Drop, PartialEq, Eq, PartialOrd, Ord)]
+pub struct ASN1DateTime {
+    /// The year.
+    pub year: u32,
+    /// The month, from 1 on.
+    pub month: u8,
+    /// The day of the month, from 1 on.
+    pub day: u8,
+    /// The hour.
+    pub hour: u8,
+    /// The minute.
+    pub minute: u8,
+    /// The second.
+    pub second: u8,
+    /// The milliseconds, where there are some.
+    pub millisecond: Option<u16>,
+    /// The zone.
+    pub tz: ASN1TimeZone,
+}
+
+/// The zone of a time.
+pub type ASN1TimeZone = TimeZone;
+
+impl ASN1DateTime {
+    /// The time of these fields. None of them is judged.
+    #[inline(always)]
+    pub const fn new(
+        year: u32,
+        month: u8,
+        day: u8,
+        hour: u8,
+        minute: u8,
+        second: u8,
+        millisecond: Option<u16>,
+        tz: ASN1TimeZone,
+    ) -> Self
+        ensures year { result.year ≡ year }
+        ensures month { result.month ≡ month }
+        ensures day { result.day ≡ day }
+        ensures hour { result.hour ≡ hour }
+        ensures minute { result.minute ≡ minute }
+        ensures second { result.second ≡ second }
+        ensures millisecond { result.millisecond ≡ millisecond }
+        ensures zone { result.tz ≡ tz }
+    {
+        ASN1DateTime {
+            year,
+            month,
+            day,
+            hour,
+            minute,
+            second,
+            millisecond,
+            tz,
+        }
+    }
+
+    /// The fields, as texts of times are told of.
+    #[inline(always)]
+    pub(crate) const fn moment(&self) -> Moment
+        ensures { result ≡ moment_of self.now }
+    {
+        Moment {
+            year: self.year,
+            month: self.month,
+            day: self.day,
+            hour: self.hour,
+            minute: self.minute,
+            second: self.second,
+            millisecond: self.millisecond,
+            zone: self.tz,
+        }
+    }
+}
+
+impl ASN1DateTime {
+    /// States of fields in hand that they are such as an item may hold.
+    pub(crate) fn fields_in_hand(&self)
+        ensures { IsMoment (moment_of self.now) }
+    {
+        let _year = self.year;
+        let _month = self.month;
+        let _day = self.day;
+        let _hour = self.hour;
+        let _minute = self.minute;
+        let _second = self.second;
+        let _millisecond = self.millisecond;
+        let _zone = self.tz;
+    }
+}
+
+impl From<Moment> for ASN1DateTime {
+    ghost from_gives = { λ m d. moment_of d ≡ m };
+
+    #[inline(always)]
+    fn from(m: Moment) -> ASN1DateTime {
+        ASN1DateTime {
+            year: m.year,
+            month: m.month,
+            day: m.day,
+            hour: m.hour,
+            minute: m.minute,
+            second: m.second,
+            millisecond: m.millisecond,
+            tz: m.zone,
+        }
+    }
+}

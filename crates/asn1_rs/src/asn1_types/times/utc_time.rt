@@ -1,0 +1,151 @@
+//! UTCTime (X.690 8.25, 11.8; X.680 47).
+ghost use Rattle.std.specs.Prelude.{◌≡◌, ◌≤◌, length};
+ghost use Rattle.x690.specs.Times.{utc_time_text};
+ghost use Rattle.asn1_rs.specs.Any.{parts_of};
+ghost use Rattle.asn1_rs.specs.Checks.{nothing};
+ghost use Rattle.asn1_rs.specs.Leaf.{LeafGives, leaf_element};
+ghost use Rattle.asn1_rs.specs.Laws.Leaf.{leaf_lawful, leaf_constraints, leaf_converts, refusing_written};
+ghost use Rattle.asn1_rs.specs.Laws.Times.{utc_time_lawful, utc_time_accepted, utc_time_equal};
+ghost use Rattle.asn1_rs.specs.Times.{utc_time_leaf, utc_time_number, UtcTextGives, moment_of, utc_time_refused, IsInvalidDateTime};
+ghost use Rattle.asn1_rs.specs.Traits.{OfParts};
+
+use super::ASN1DateTime;
+use crate::asn1_types::any::Any;
+use crate::kinds::writing::WritesElement;
+use crate::kinds::{ElementKind, HasKind, LawfulConversion, LawfulElement};
+use crate::laws::LawfulMember;
+use crate::traits::{CheckDerConstraints, DerAutoDerive, FromAny, Tagged};
+use asn1_headers::error::{Error, SerializeError, SerializeResult};
+use asn1_headers::tag::Tag;
+use asn1_headers::writer::{DerWrite, put_all};
+use std::alloc::Global;
+use x690::sets::{Visible, all_in};
+use x690::times::reading::read_utc_time;
+use x690::times::writing::write_utc_time;
+
+/// A time of the type UTCTime, whose year is that in its century: from 0 to 99, as it was read (X.680 47).
+#[derive(Debug, Drop, PartialEq, Eq, PartialOrd, Ord)]
+pub struct UtcTime(pub ASN1DateTime);
+
+impl UtcTime {
+    /// The time of these fields. None of them is judged.
+    pub const fn new(datetime: ASN1DateTime) -> Self
+        ensures { result.0 ≡ datetime }
+    {
+        UtcTime(datetime)
+    }
+
+    /// The time that a text says: `YYMMDDhhmm` and `Z`, or `YYMMDDhhmmss` and a zone, which is `Z` or a sign and `hhmm`.
+    /// Refused with `InvalidValue` where the text says none.
+    #[inline(always)]
+    pub fn from_bytes(bytes: &[u8]) -> Result<Self, Error>
+        ensures { UtcTextGives bytes.now result }
+    {
+        match read_utc_time(bytes) {
+            Some(moment) => Ok(UtcTime(ASN1DateTime::from(moment))),
+            None => Err(Tag::UtcTime.invalid_value("not a time")),
+        }
+    }
+}
+
+impl<'a> Any<'a> {
+    /// The time that the contents octets say, whether the element is primitive or constructed. Refused at another tag
+    /// number with `UnexpectedTag`, at octets outside 20 to 7f with `StringInvalidCharset`, and at another text with
+    /// `InvalidValue`.
+    pub fn utctime(self) -> Result<UtcTime, Error>
+        ensures { LeafGives utc_time_leaf (parts_of self.entry) result }
+    {
+        self.as_utctime()
+    }
+
+    /// The time, of an element that stays.
+    #[inline(always)]
+    pub fn as_utctime(&self) -> Result<UtcTime, Error>
+        ensures { LeafGives utc_time_leaf (parts_of self.now) result }
+    {
+        self.assert_number(Tag::UtcTime)?;
+        if !all_in::<Visible>(self.content) {
+            return Err(Error::StringInvalidCharset);
+        }
+        UtcTime::from_bytes(self.content)
+    }
+}
+
+impl Tagged for UtcTime {
+    const TAG: Tag = Tag::UtcTime;
+
+    ghost TAG = { record { 0 = utc_time_number } };
+}
+
+impl<'a> FromAny<'a> for UtcTime {
+    type Error = Error;
+
+    ghost any_gives = { OfParts (LeafGives utc_time_leaf) };
+
+    #[inline(always)]
+    fn try_from_any(_alloc: Global, any: Any<'a>) -> Result<UtcTime, Error> {
+        any.as_utctime()
+    }
+}
+
+impl CheckDerConstraints for UtcTime {
+    ghost check_gives = { nothing };
+
+    /// Refuses nothing.
+    fn check_constraints(_any: &Any<'_>) -> Result<(), Error> {
+        Ok(())
+    }
+}
+
+impl DerAutoDerive for UtcTime {}
+
+impl HasKind for UtcTime {
+    type Kind = ElementKind;
+}
+
+impl LawfulElement for UtcTime {
+    ghost element = { leaf_element utc_time_leaf };
+
+    ghost lawful = { leaf_lawful utc_time_leaf utc_time_lawful };
+
+    ghost checked = { leaf_constraints utc_time_leaf utc_time_lawful };
+
+    fn value_in_hand(&self) {
+        self.0.fields_in_hand();
+    }
+}
+
+impl<'a> LawfulConversion<'a> for UtcTime {
+    ghost converts = { leaf_converts utc_time_leaf utc_time_lawful };
+}
+
+impl WritesElement for UtcTime {
+    ghost octets = { λ t. utc_time_text (moment_of t.0) };
+
+    ghost is_refused = { λ t. utc_time_refused (moment_of t.0) };
+
+    ghost refusal = { λ _. IsInvalidDateTime };
+
+    /// Refused with `InvalidDateTime` where the fields don't fit the text: an offset, a year past 99, another component
+    /// past 99, milliseconds past 999.
+    fn count_octets(&self) -> Result<usize, Error> {
+        match write_utc_time(&self.0.moment()) {
+            Some(_) => Ok(13),
+            None => Err(Error::InvalidDateTime),
+        }
+    }
+
+    fn put_octets<W: DerWrite>(&self, w: &mut W) -> SerializeResult<usize> {
+        match write_utc_time(&self.0.moment()) {
+            Some(text) => put_all(w, &text),
+            None => Err(SerializeError::ASN1Error(Error::InvalidDateTime)),
+        }
+    }
+
+    ghost written = { refusing_written utc_time_leaf utc_time_lawful
+        (λ t. utc_time_refused (moment_of t.0)) utc_time_accepted };
+}
+
+impl LawfulMember for UtcTime {
+    ghost same = { utc_time_equal };
+}
