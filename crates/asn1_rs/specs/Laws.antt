@@ -16,6 +16,7 @@ pub mod Optional
 pub mod BitString
 pub mod Integer
 pub mod Enumerated
+pub mod Times
 pub mod Sequence
 pub mod Lists
 pub mod Set

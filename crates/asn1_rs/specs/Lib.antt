@@ -14,6 +14,7 @@ pub mod BitString
 pub mod ToDer
 pub mod Integer
 pub mod Enumerated
+pub mod Times
 pub mod Sequence
 pub mod Lists
 pub mod Set

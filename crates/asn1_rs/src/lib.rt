@@ -55,6 +55,8 @@ pub use asn1_types::octet_string::OctetString;
 pub use asn1_types::oid::Oid;
 pub use asn1_types::oid::iterator::SubIdentifierIterator;
 pub use asn1_types::oid::making::OidParseError;
+pub use asn1_types::times::utc_time::UtcTime;
+pub use asn1_types::times::{ASN1DateTime, ASN1TimeZone};
 pub use asn1_types::option::TagRefusal;
 pub use asn1_types::option::options_are_left_out_by_ber;
 pub use asn1_types::option::options_are_left_out_by_der;

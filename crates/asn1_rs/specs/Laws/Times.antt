@@ -1,11 +1,13 @@
 -- Times are lawful leaves; those that are strict are written.
-use Rattle.std.specs.Prelude.{◌≡◌, ◌<◌, ◌↔◌, ◌≤◌, ◌⊎◌, ℕ, List, Bool, true, false, ◌&&◌, not, nat_le, Some, None, Option, IsTrue, codes}
-use Rattle.std.proofs.Common.{◌∙◌, ap, sym, refl, lit<, inl, inr}
+use Rattle.std.specs.Prelude.{◌≡◌, ◌<◌, ◌↔◌, ◌≤◌, ◌⊎◌, ℕ, zero, suc, ◌+◌, ◌-◌, ◌*◌, ◌^◌, ℤ, pos, negsuc, neg_ℤ, ◌≤ℤ◌, List, Bool, true, false, ◌&&◌, not, nat_le, Some, None, Option, IsTrue, codes}
+use Rattle.std.proofs.Common.{◌∙◌, ap, sym, subst, refl, lit<, inl, inr, arith, ints}
 use Rattle.std.proofs.lemmas.Bool.{le-leb, leb-true}
 use Rattle.x690.specs.Octets.{IsOctets}
 use Rattle.x690.specs.Elements.{Parts}
 use Rattle.x690.specs.Sets.{AllIn, is_visible}
-use Rattle.x690.specs.Times.{SaysUtcTime, IsStrictUtcTime, FitsText, MostMilliseconds, utc_time_text}
+use Rattle.x690.specs.Times.{InRange, west, SaysZone, SaysZoneOrNone, SaysFraction, SaysMinutes, SaysUtcEnd, SaysGeneralizedEnd, SaysUtcTime, SaysGeneralizedTime, IsStrictUtcTime, FitsText, MostMilliseconds, utc_time_text}
+use Rattle.x690.specs.Laws.TimeTexts.{utc_says, utc_visible, utc_octets, utc_fits}
+use Rattle.x690.specs.Laws.Times.{utc_times_unique}
 use Rattle.x690.specs.declared.times.Moment.{Moment}
 use Rattle.x690.specs.declared.times.TimeZone.{TimeZone}
 use Rattle.x690.specs.declared.times.TimeZone.TheVariants.{Undefined, Z, Offset}
@@ -16,7 +18,7 @@ use Rattle.asn1_headers.specs.declared.tag.Tag.{Tag}
 use Rattle.asn1_rs.specs.declared.asn1_types.times.utc_time.UtcTime.{UtcTime}
 use Rattle.asn1_rs.specs.Checks.{CheckGives, IsCheck, IsCheckUpTo, but_text, nothing}
 use Rattle.asn1_rs.specs.Leaf.{IsLawfulLeafUpTo, leaf_parts}
-use Rattle.asn1_rs.specs.Times.{IsMoment, IsNoTime, moment_of, time_leaf, has_visible_octets, says_time, utc_time_leaf, utc_time_number, fits_text, has_place, has_three_digits, utc_time_refused}
+use Rattle.asn1_rs.specs.Times.{IsMoment, IsZone, IsNoTime, moment_of, time_leaf, has_visible_octets, says_time, utc_time_leaf, utc_time_number, fits_text, has_place, has_three_digits, utc_time_refused}
 use Rattle.asn1_rs.specs.Laws.Checks.{up_to, before_is, content_check_is, telling_check_is, nothing_is}
 
 -- refusals of one tag with one text are told apart by nothing
@@ -116,3 +118,81 @@ tested_where_fits greatest m f =
 -- so no time is refused whose fields fit
 pub accepted : (greatest : ℕ) (m : Moment) → FitsText greatest m → not (fits_text greatest m) ≡ false
 accepted greatest m f = ap not (tested_where_fits greatest m f)
+
+-- ---- what a text says is such as an item may hold
+
+few : (n : ℕ) → n < 100 → (negsuc 127 ≤ℤ pos n) × (pos n ≤ℤ pos 127)
+few n h = (omega (arith, ints), omega (arith, ints))
+
+few_west : (n : ℕ) → n < 100 → (negsuc 127 ≤ℤ neg_ℤ (pos n)) × (neg_ℤ (pos n) ≤ℤ pos 127)
+few_west n h = (omega (arith, ints), omega (arith, ints))
+
+west_holds : (hours minutes : ℕ) → hours < 100 → minutes < 100 → IsZone (west hours minutes)
+west_holds zero minutes h m = ((few 0 h).0, (few 0 h).1, (few_west minutes m).0, (few_west minutes m).1)
+west_holds (suc hours) minutes h m = ((few_west (suc hours) h).0, (few_west (suc hours) h).1, (few minutes m).0, (few minutes m).1)
+
+zone_holds : (text : List ℕ) (z : TimeZone) → SaysZone text z → IsZone z
+zone_holds text z (inl a) = subst IsZone (sym a.1) tt
+zone_holds text z (inr (hours, minutes, h, m, inl a)) = subst IsZone (sym a.1) ((few hours h).0, (few hours h).1, (few minutes m).0, (few minutes m).1)
+zone_holds text z (inr (hours, minutes, h, m, inr a)) = subst IsZone (sym a.1) (west_holds hours minutes h m)
+
+zone_or_none_holds : (text : List ℕ) (z : TimeZone) → SaysZoneOrNone text z → IsZone z
+zone_or_none_holds text z (inl a) = subst IsZone (sym a.1) tt
+zone_or_none_holds text z (inr a) = zone_holds text z a
+
+fraction_holds : (text : List ℕ) (o : Option ℕ) → SaysFraction text o → MostMilliseconds 65535 o
+fraction_holds text None h = tt
+fraction_holds text (Some m) (point, count, n, p, c, l, t, e) = of count c l e
+  where
+    of : (count : ℕ) → count < 3 → n < 10 ^ (1 + count) → m ≡ n * 10 ^ (2 - count) → m ≤ 65535
+    of zero c l e = omega (arith, l, e)
+    of (suc zero) c l e = omega (arith, l, e)
+    of (suc (suc zero)) c l e = omega (arith, l, e)
+    of (suc (suc (suc k))) c l e = omega arith
+
+minutes_hold : (text : List ℕ) (m : Moment) → SaysMinutes text m → MostMilliseconds 65535 m.millisecond × IsZone m.zone
+minutes_hold text m s = (subst (MostMilliseconds 65535) (sym s.millisecond) tt, subst IsZone (sym s.zone) tt)
+
+moment_holds : (m : Moment) → m.year < 2 ^ 32 → InRange m → MostMilliseconds 65535 m.millisecond × IsZone m.zone → IsMoment m
+moment_holds m y r p =
+    let month = r.month in let day = r.day in let hour = r.hour in let minute = r.minute in let second = r.second in record {
+      year = y;
+      month = omega arith;
+      day = omega arith;
+      hour = omega arith;
+      minute = omega arith;
+      second = omega arith;
+      millisecond = p.0;
+      zone = p.1;
+    }
+
+utc_holds : (text : List ℕ) (m : Moment) → SaysUtcTime text m → IsMoment m
+utc_holds text m s = let y = s.year in moment_holds m (omega arith) s.range (of s.says)
+  where
+    of : SaysUtcEnd s.end m → MostMilliseconds 65535 m.millisecond × IsZone m.zone
+    of (inl a) = minutes_hold s.end m a
+    of (inr (zone, t, z, n)) = (subst (MostMilliseconds 65535) (sym n) tt, zone_holds zone m.zone z)
+
+generalized_holds : (text : List ℕ) (m : Moment) → SaysGeneralizedTime text m → IsMoment m
+generalized_holds text m s = let y = s.year in moment_holds m (omega arith) s.range (of s.says)
+  where
+    of : SaysGeneralizedEnd s.end m → MostMilliseconds 65535 m.millisecond × IsZone m.zone
+    of (inl a) = minutes_hold s.end m a
+    of (inr (fraction, zone, t, f, z)) = (fraction_holds fraction m.millisecond f, zone_or_none_holds zone m.zone z)
+
+-- ---- UTCTime
+
+pub utc_time_lawful : IsLawfulLeafUpTo but_text utc_time_leaf
+utc_time_lawful = time_lawful utc_time_number (λ t. moment_of t.0) SaysUtcTime IsStrictUtcTime nothing utc_time_text (lit< tt) texts nothing_is (λ k m d. tt)
+  where
+    texts : AreTimeTexts SaysUtcTime IsStrictUtcTime utc_time_text
+    texts = record {
+      one = utc_times_unique;
+      holds = utc_holds;
+      strict = utc_says;
+      visible = utc_visible;
+      are = utc_octets;
+    }
+
+pub utc_time_accepted : (x : UtcTime) → IsStrictUtcTime (moment_of x.0) → utc_time_refused (moment_of x.0) ≡ false
+utc_time_accepted x d = accepted 99 (moment_of x.0) (utc_fits (moment_of x.0) d)

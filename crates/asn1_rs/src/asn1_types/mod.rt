@@ -16,6 +16,7 @@ pub mod option;
 pub mod sequence;
 pub mod set;
 pub mod tagged;
+pub mod times;
 
 use crate::traits::Tagged;
 use bit_string::BitString;
