@@ -17,3 +17,4 @@ pub mod Joined
 pub mod Ascending
 pub mod Collections
 pub mod Words
+pub mod Times
