@@ -20,3 +20,4 @@ pub mod Collections
 pub mod Sets
 pub mod TimeTexts
 pub mod Words
+pub mod Times
