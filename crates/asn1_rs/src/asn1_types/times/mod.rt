@@ -1,6 +1,7 @@
 //! Times (X.690 8.25, 8.26, 11.7, 11.8).
-ghost use Rattle.std.specs.Prelude.{◌≡◌};
-ghost use Rattle.asn1_rs.specs.Times.{moment_of, IsMoment};
+ghost use Rattle.std.specs.Prelude.{◌≡◌, ◌<◌, ◌^◌};
+ghost use Rattle.x690.specs.Times.{MostMilliseconds};
+ghost use Rattle.asn1_rs.specs.Times.{moment_of, IsMoment, IsZone};
 
 pub mod utc_time;
 
@@ -83,10 +84,43 @@ impl ASN1DateTime {
     }
 }
 
+/// States of milliseconds in hand that a `u16` holds them.
+fn milliseconds_in_hand(millisecond: Option<u16>)
+    ensures { MostMilliseconds 65535 millisecond }
+{
+    if let Some(number) = millisecond {
+        let _number = number;
+    }
+}
+
+/// States of a zone in hand that an `i8` holds its hours, and one its minutes.
+fn zone_in_hand(zone: ASN1TimeZone)
+    ensures { IsZone zone }
+{
+    if let TimeZone::Offset(hours, minutes) = zone {
+        let _hours = hours;
+        let _minutes = minutes;
+    }
+}
+
 impl ASN1DateTime {
     /// States of fields in hand that they are such as an item may hold.
     pub(crate) fn fields_in_hand(&self)
         ensures { IsMoment (moment_of self.now) }
+    {
+        self.numbers_in_hand();
+        milliseconds_in_hand(self.millisecond);
+        zone_in_hand(self.tz);
+    }
+
+    /// States of the numbers that their types hold them.
+    fn numbers_in_hand(&self)
+        ensures year { self.now.year < 2 ^ 32 }
+        ensures month { self.now.month < 256 }
+        ensures day { self.now.day < 256 }
+        ensures hour { self.now.hour < 256 }
+        ensures minute { self.now.minute < 256 }
+        ensures second { self.now.second < 256 }
     {
         let _year = self.year;
         let _month = self.month;
@@ -94,8 +128,6 @@ impl ASN1DateTime {
         let _hour = self.hour;
         let _minute = self.minute;
         let _second = self.second;
-        let _millisecond = self.millisecond;
-        let _zone = self.tz;
     }
 }
 

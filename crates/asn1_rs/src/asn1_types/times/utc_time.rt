@@ -5,7 +5,7 @@ ghost use Rattle.asn1_rs.specs.Any.{parts_of};
 ghost use Rattle.asn1_rs.specs.Checks.{nothing};
 ghost use Rattle.asn1_rs.specs.Leaf.{LeafGives, leaf_element};
 ghost use Rattle.asn1_rs.specs.Laws.Leaf.{leaf_lawful, leaf_constraints, leaf_converts, refusing_written};
-ghost use Rattle.asn1_rs.specs.Laws.Times.{utc_time_lawful, utc_time_accepted, utc_time_equal};
+ghost use Rattle.asn1_rs.specs.Laws.Times.{utc_time_lawful, utc_time_accepted};
 ghost use Rattle.asn1_rs.specs.Times.{utc_time_leaf, utc_time_number, UtcTextGives, moment_of, utc_time_refused, IsInvalidDateTime};
 ghost use Rattle.asn1_rs.specs.Traits.{OfParts};
 
@@ -147,5 +147,5 @@ impl WritesElement for UtcTime {
 }
 
 impl LawfulMember for UtcTime {
-    ghost same = { utc_time_equal };
+    ghost same = { λ x y. (λ h. ?, λ e. ?) };
 }
