@@ -4,4 +4,5 @@ mod Lists
 mod OnlyItem
 mod Sets
 mod TaggedReaders
+mod Refused
 mod Writing

@@ -80,6 +80,6 @@ impl WritesElement for SerialNumber {
         self.0.put_octets(w)
     }
 
-    ghost written = { holding_written (λ x. x.0) _ 2 unsigned_octets
+    ghost written = { holding_written (λ x. x.0) _ 2 unsigned_octets (λ _. false)
         (integer_written pos unsigned_octets unsigned_octets_content (IsUnsigned 8)) };
 }

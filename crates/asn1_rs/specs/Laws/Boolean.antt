@@ -89,4 +89,4 @@ boolean_equal x y = (λ h. eqb-true x.value y.value h, λ e. eq-eqb x.value y.va
 -- a truth value with its octet is written as one contents octet
 pub boolean_lawful_writing : IsLawfulWriting (item_grammar (leaf_element boolean_leaf)) truth_writing
 unfolding header_octets identifier_octets length_octets
-boolean_lawful_writing = universal_lawful_writing (leaf_element boolean_leaf) boolean_number truth_octets (leaf_written boolean_leaf boolean_lawful)
+boolean_lawful_writing = universal_lawful_writing (leaf_element boolean_leaf) boolean_number truth_octets (λ _. false) (leaf_written boolean_leaf boolean_lawful) (λ _ _. ⊥)

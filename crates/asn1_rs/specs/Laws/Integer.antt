@@ -3,7 +3,7 @@ pub mod Unsigned
 pub mod Signed
 pub mod Machine
 pub mod Octets
-use Rattle.std.specs.Prelude.{Result, Ok, Err, ℤ, nat_eq, if◌then◌else◌}
+use Rattle.std.specs.Prelude.{Result, Ok, Err, false, ℤ, nat_eq, if◌then◌else◌}
 use Rattle.std.proofs.Common.{arith, lit<, ◌≡◌, ◌∙◌, ap, sym, refl, subst, ℕ, inl, inr, Bool, true, false, List, [], ◌∷◌, length}
 use Rattle.x690.specs.Octets.{IsOctets}
 use Rattle.x690.specs.Digits.{twos_complement_value}
@@ -160,12 +160,13 @@ module _ {T : Type 0} (number : T → ℤ) (octets : T → List ℕ) (strict : (
   same_octets : (x : T) (v : ℤ) (c : List ℕ) → number x ≡ v → IsIntegerContent v c → octets x ≡ c
   same_octets x v c e h = integer_content_unique v (octets x) c (subst (λ (z : ℤ). IsIntegerContent z (octets x)) e (strict x)) h
 
-  pub integer_written : (Holds : ℤ → Type 0) → IsWrittenElement (integer_element number Holds) integer_number octets
+  pub integer_written : (Holds : ℤ → Type 0) → IsWrittenElement (integer_element number Holds) integer_number octets (λ x. false)
   integer_written Holds = record {
     by_value = λ x y e. same_octets x (number y) (octets y) e (strict y);
     identifier = λ v i c f. f.0;
     form = λ x i c f. same_octets x (number x) c refl f.1.1;
     class = integer_takes_class Holds;
     der = λ x h. (refl, (h, strict x));
+    accepted = λ x i c f. refl;
     small = lit< tt;
   }

@@ -1,5 +1,5 @@
 -- A type that is read as one element is a lawful item.
-use Rattle.std.specs.Prelude.{ℕ, List, Result, Ok, Err, IfErr}
+use Rattle.std.specs.Prelude.{ℕ, Bool, List, Result, Ok, Err, IfErr}
 use Rattle.x690.specs.Octets.{IsOctets}
 use Rattle.std.proofs.Common.{◌≡◌, refl, subst, inl}
 use Rattle.x690.specs.Elements.{IsDerElement}
@@ -94,12 +94,14 @@ module _ {S T : Type 0} (held : T → S) (G : ElementGrammar S) where
       exact : (any : Any) (answer : Result T Error) → IsOctets any.content.now → HoldingGives held gives any answer → TakesBody G.Body (λ x. G.value (held x)) G.allocates (λ (x y : Error). y ≡ x) (parts_of any) answer
       exact = held_takes held (item_grammar G) gives (λ x y. y ≡ x) c.exact
 
-  pub holding_written : (number : ℕ) (octets : S → List ℕ) → IsWrittenElement G number octets → IsWrittenElement (holding held G) number (λ x. octets (held x))
-  holding_written number octets l = record {
+  pub holding_written : (number : ℕ) (octets : S → List ℕ) (is_refused : S → Bool) → IsWrittenElement G number octets is_refused →
+      IsWrittenElement (holding held G) number (λ x. octets (held x)) (λ x. is_refused (held x))
+  holding_written number octets is_refused l = record {
     by_value = λ x y e. l.by_value (held x) (held y) e;
     identifier = l.identifier;
     form = λ x i c f. l.form (held x) i c f;
     class = l.class;
     der = λ x d. l.der (held x) d;
+    accepted = λ x i c f. l.accepted (held x) i c f;
     small = l.small;
   }

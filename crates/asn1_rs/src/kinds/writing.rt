@@ -1,12 +1,12 @@
 //! How types of items come by [`ToDer`] and the laws of it: by the contents octets of one element, or by the item
 //! that they hold or refer to.
-ghost use Rattle.std.specs.Prelude.{◌≡◌, ◌++◌, ◌<◌, ◌^◌, ℕ, false, List, length, IfOk, IfErr, IsErr};
+ghost use Rattle.std.specs.Prelude.{◌≡◌, ◌++◌, ◌<◌, ◌^◌, ℕ, Bool, false, List, length, IfOk, IfErr, IsErr};
 ghost use Rattle.asn1_rs.specs.Grammar.{FormNumber, FormTakes};
 ghost use Rattle.asn1_headers.specs.Writer.{Wrote, MayRefuse};
 ghost use Rattle.asn1_rs.specs.ToDer.{Writing, MayRefuseCount, Refuses, RefusesCount, IsRefusedAtOnce, RefusedAtOnce, held_writing, whole_allocates, whole_octets, whole_refuses};
 ghost use Rattle.asn1_headers.specs.declared.error.SerializeError.{SerializeError};
 ghost use Rattle.asn1_headers.specs.declared.error.Error.{Error};
-ghost use Rattle.asn1_rs.specs.Kinds.Writing.{universal_header, universal_writing, IsWrittenElement};
+ghost use Rattle.asn1_rs.specs.Kinds.Writing.{universal_header, universal_writing, CountRefused, PutRefused, IsWrittenElement};
 ghost use Rattle.asn1_rs.specs.Laws.Forms.{universal_number, universal_number_fits, universal_lawful_writing};
 ghost use Rattle.asn1_rs.specs.Grammar.Item.{IsLawfulWriting};
 ghost use Rattle.asn1_rs.specs.Laws.Writing.{held_lawful_writing};
@@ -23,20 +23,31 @@ use std::alloc::Global;
 /// A value that is written as one element of the universal class: the tag number of its type, and contents octets. The
 /// element is constructed exactly for the tags of sequence and set. Out of memory is never answered.
 ///
+/// A type some of whose values can't be written says which, and how they are refused. Such a value is refused in
+/// counting too, and nothing of it is appended.
+///
 /// So it has [`ToDer`], [`LawfulWrite`], [`LawfulTagged`] and [`TakesClass`].
 pub trait WritesElement: LawfulElement + Tagged {
     /// Its contents octets.
     ghost octets: { Self → List ℕ };
 
+    /// Whether it is refused for what it is.
+    ghost is_refused: { Self → Bool } = { λ _. false };
+
+    /// With what it is refused then.
+    ghost refusal: { Self → Error → Type 0 } = { λ _ _. ⊥ };
+
     /// How many contents octets are appended.
     fn count_octets(&self) -> Result<usize, Error>
         ensures count { IfOk result (λ n. n ≡ length (octets self.now)) }
-        ensures refused { IfErr result (MayRefuseCount false (length (octets self.now))) };
+        ensures refused { CountRefused (is_refused self.now) (refusal self.now)
+            (length (octets self.now)) result };
 
     /// Appends the contents octets, and answers their number.
     fn put_octets<W: DerWrite>(&self, w: &mut W) -> SerializeResult<usize>
         ensures wrote { Wrote (octets self.now) (W.state w.old) (W.state w.new) result }
-        ensures refused { IfErr result (MayRefuse false (length (octets self.now))) };
+        ensures refused { PutRefused (is_refused self.now) (refusal self.now)
+            (length (octets self.now)) (W.state w.old) (W.state w.new) result };
 
     /// Appends the whole element, and answers its length.
     ///
@@ -45,8 +56,9 @@ pub trait WritesElement: LawfulElement + Tagged {
     fn put_element<W: DerWrite>(&self, w: &mut W) -> SerializeResult<usize>
         ensures wrote { Wrote (universal_header (Self.TAG).0 (octets self.now) ++ octets self.now)
             (W.state w.old) (W.state w.new) result }
-        ensures refused { IfErr result (MayRefuse false
-            (length (universal_header (Self.TAG).0 (octets self.now) ++ octets self.now))) }
+        ensures refused { PutRefused (is_refused self.now) (refusal self.now)
+            (length (universal_header (Self.TAG).0 (octets self.now) ++ octets self.now))
+            (W.state w.old) (W.state w.new) result }
     {
         let tag = Self::TAG;
         let before = put_counted_header(0, tag.is_container(), tag.0, self.count_octets(), w)?;
@@ -54,8 +66,9 @@ pub trait WritesElement: LawfulElement + Tagged {
         add_written(before, after)
     }
 
-    /// They follow from the value, and are its strict content where it has one; another class changes nothing.
-    ghost written: { IsWrittenElement Self.element (Self.TAG).0 octets };
+    /// They follow from the value, and are its strict content where it has one, which is not refused; another class
+    /// changes nothing.
+    ghost written: { IsWrittenElement Self.element (Self.TAG).0 octets is_refused };
 }
 
 /// A value that holds its contents octets, and is written as one element of them.
@@ -70,7 +83,7 @@ pub trait WritesOctets: LawfulElement + Tagged {
         ensures { result.now ≡ held self.now };
 
     /// They follow from the value, and are its strict content where it has one; another class changes nothing.
-    ghost held_are: { IsWrittenElement Self.element (Self.TAG).0 held };
+    ghost held_are: { IsWrittenElement Self.element (Self.TAG).0 held (λ _. false) };
 }
 
 impl<T: WritesOctets> WritesElement for T {
@@ -180,7 +193,7 @@ pub trait ToDerBy<K>: DynTagged {
 }
 
 impl<T: WritesElement> ToDerBy<ElementKind> for T {
-    ghost writing = { universal_writing (T.TAG).0 T.octets };
+    ghost writing = { universal_writing (T.TAG).0 T.octets T.is_refused T.refusal };
 
     fn element_count(&self) -> Result<usize, Error> {
         element_len(T::TAG.0, self.count_octets())
@@ -280,7 +293,7 @@ pub trait LawfulWriteBy<K>: ToDer + LawfulItem {
 
 impl<T: WritesElement> LawfulWriteBy<ElementKind> for T {
     ghost lawful_writing_by_kind = { universal_lawful_writing T.element
-        (T.TAG).0 T.octets T.written };
+        (T.TAG).0 T.octets T.is_refused T.written T.refusal };
 }
 
 impl<H: Holds<Held = T>, T: LawfulWrite + Tagged> LawfulWriteBy<HolderKind> for H {
@@ -302,9 +315,11 @@ pub trait LawfulTaggedBy<K>: LawfulItem + Tagged {
 }
 
 impl<T: WritesElement> LawfulTaggedBy<ElementKind> for T {
-    ghost number_by_kind = { universal_number T.element (T.TAG).0 T.octets T.written };
+    ghost number_by_kind = { universal_number T.element (T.TAG).0 T.octets T.is_refused
+        T.written };
 
-    ghost number_is_small = { universal_number_fits T.element (T.TAG).0 T.octets T.written };
+    ghost number_is_small = { universal_number_fits T.element (T.TAG).0 T.octets T.is_refused
+        T.written };
 }
 
 impl<H: Holds<Held = T>, T: LawfulTagged> LawfulTaggedBy<HolderKind> for H {

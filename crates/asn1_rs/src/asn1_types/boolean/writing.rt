@@ -88,11 +88,11 @@ impl LawfulWrite for Boolean {
 
 impl LawfulTagged for Boolean {
     ghost tag_number = { universal_number (leaf_element boolean_leaf) boolean_number truth_octets
-        (leaf_written boolean_leaf boolean_lawful) };
+        (λ _. false) (leaf_written boolean_leaf boolean_lawful) };
 
     ghost number_fits = { universal_number_fits (leaf_element boolean_leaf) boolean_number
         truth_octets
-        (leaf_written boolean_leaf boolean_lawful) };
+        (λ _. false) (leaf_written boolean_leaf boolean_lawful) };
 }
 
 impl<const C: u8> TakesClass<C> for Boolean {
