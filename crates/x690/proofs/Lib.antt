@@ -1,4 +1,5 @@
 pub mod Writes
 pub mod SignedSums
 pub mod Bytes
+pub mod CodedTexts
 mod Sorted

@@ -13,6 +13,7 @@ pub mod StrictElements
 pub mod Integers
 pub mod Signed
 pub mod Arcs
+pub mod Characters
 pub mod Joined
 pub mod Ascending
 pub mod Collections

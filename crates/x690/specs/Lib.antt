@@ -10,6 +10,7 @@ pub mod Strict
 pub mod Integers
 pub mod Signed
 pub mod Arcs
+pub mod Characters
 pub mod Joined
 pub mod Ascending
 pub mod Collections
