@@ -15,6 +15,7 @@ pub mod oid;
 pub mod option;
 pub mod sequence;
 pub mod set;
+pub mod strings;
 pub mod tagged;
 pub mod times;
 
