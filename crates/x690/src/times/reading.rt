@@ -74,9 +74,9 @@ fn four_digits(text: &[u8]) -> Option<(u32, &[u8])>
     ensures none { IsNone result →
         (n : ℕ) (rest : List ℕ) → n < 10 ^ 4 → text.now ≢ digits 4 n ++ rest }
 {
-    let (hundreds, rest) = two_digits(text, 99)?;
-    let (units, rest) = two_digits(rest, 99)?;
-    Some((100 * u32::from(hundreds) + u32::from(units), rest))
+    let (first_two, rest) = two_digits(text, 99)?;
+    let (last_two, rest) = two_digits(rest, 99)?;
+    Some((100 * u32::from(first_two) + u32::from(last_two), rest))
 }
 
 /// A time of this year to its minute, whose text is in front, and what follows it.
