@@ -105,6 +105,12 @@ abbrev pub MostMilliseconds : ℕ → Option ℕ → Type 0
 MostMilliseconds most None = Unit {0}
 MostMilliseconds most (Some m) = m ≤ most
 
+-- an offset of at most so many hours and minutes to either side, where there is one
+abbrev pub MostOffset : ℕ → TimeZone → Type 0
+MostOffset most Undefined = Unit {0}
+MostOffset most Z = Unit {0}
+MostOffset most (Offset hours minutes) = (unsigned_abs hours ≤ most) × (unsigned_abs minutes ≤ most)
+
 -- Fields that fit their places in the text, whose year is at most the greatest: two digits for each other part, three for milliseconds, and
 -- no offset, for which there is no place.
 pub record FitsText (greatest_year : ℕ) (m : Moment) : Type 0 where

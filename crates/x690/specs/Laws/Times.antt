@@ -5,9 +5,9 @@ pub mod Ends
 use Rattle.std.proofs.Common.{◌≡◌, ◌⊎◌, ℕ, suc, ◌+◌, ◌-◌, ◌*◌, ◌^◌, ◌<◌, ◌≤◌, List, ◌++◌, Option, Some, None, append_assoc, inl, inr, refl, sym, ap, subst, ◌∙◌, arith}
 use Rattle.x690.specs.declared.times.Moment.{Moment}
 use Rattle.x690.specs.declared.times.TimeZone.{TimeZone}
-use Rattle.x690.specs.Times.{digits, to_minute, InRange, SaysTime, SaysUtcEnd, SaysGeneralizedEnd, SaysUtcTime, SaysGeneralizedTime}
+use Rattle.x690.specs.Times.{digits, to_minute, InRange, SaysTime, SaysUtcEnd, SaysGeneralizedEnd, SaysUtcTime, SaysGeneralizedTime, MostOffset, MostMilliseconds}
 use Rattle.x690.specs.Laws.Times.Digits.{digits_front}
-use Rattle.x690.specs.Laws.Times.Ends.{SameMinute, SameEnd, minutes_front, utc_ends_unique, generalized_ends_unique}
+use Rattle.x690.specs.Laws.Times.Ends.{SameMinute, SameEnd, minutes_front, utc_ends_unique, utc_end_most, generalized_end_most, generalized_ends_unique}
 
 -- a time by its fields
 made : (year month day hour minute second : ℕ) → Option ℕ → TimeZone → Moment
@@ -46,3 +46,15 @@ utc_times_unique = times_unique 2 SaysUtcEnd utc_ends_unique
 
 pub generalized_times_unique : (text : List ℕ) (m n : Moment) → SaysGeneralizedTime text m → SaysGeneralizedTime text n → m ≡ n
 generalized_times_unique = times_unique 4 SaysGeneralizedEnd generalized_ends_unique
+
+-- ---- what a text says is in range
+
+pub utc_time_in_range : (text : List ℕ) (m : Moment) → SaysUtcTime text m → InRange m × (m.year ≤ 99) × (m.millisecond ≡ None) × MostOffset 99 m.zone
+utc_time_in_range text m said =
+    let end = utc_end_most said.end m said.says in
+    (said.range, omega (arith, said.year), end.0, end.1)
+
+pub generalized_time_in_range : (text : List ℕ) (m : Moment) → SaysGeneralizedTime text m → InRange m × (m.year ≤ 9999) × MostMilliseconds 999 m.millisecond × MostOffset 99 m.zone
+generalized_time_in_range text m said =
+    let end = generalized_end_most said.end m said.says in
+    (said.range, omega (arith, said.year), end.0, end.1)

@@ -1,6 +1,6 @@
 //! The reading of times (X.680 46, 47).
-ghost use Rattle.std.specs.Prelude.{◌≡◌, ◌≢◌, ◌<◌, ◌≤◌, ◌∷◌, ◌++◌, ◌⊎◌, ◌^◌, ℕ, List, ◌+◌, ◌-◌, ◌*◌, IsTrue, ◌↔◌, IsNone, IsSomeAnd, IfSome, Option};
-ghost use Rattle.x690.specs.Times.{digits, z_text, to_minute, InRange, east, west, SaysZone, SaysZoneOrNone, SaysFraction, SaysUtcEnd, SaysGeneralizedEnd, SaysUtcTime, SaysGeneralizedTime};
+ghost use Rattle.std.specs.Prelude.{◌≡◌, ◌≢◌, ◌<◌, ◌≤◌, ◌∷◌, ◌++◌, ◌⊎◌, ◌^◌, ℕ, List, ◌+◌, ◌-◌, ◌*◌, IsTrue, ◌↔◌, IsNone, IsSomeAnd, IfSome, Option, None};
+ghost use Rattle.x690.specs.Times.{digits, z_text, to_minute, InRange, east, west, SaysZone, SaysZoneOrNone, SaysFraction, SaysUtcEnd, SaysGeneralizedEnd, SaysUtcTime, SaysGeneralizedTime, MostMilliseconds, MostOffset};
 ghost use Rattle.x690.specs.declared.times.Moment.{Moment};
 ghost use Rattle.x690.specs.declared.times.TimeZone.{TimeZone};
 
@@ -12,6 +12,15 @@ pub fn texts_say_one_time()
         SaysUtcTime text m → SaysUtcTime text n → m ≡ n }
     ensures generalized { (text : List ℕ) (m n : Moment) →
         SaysGeneralizedTime text m → SaysGeneralizedTime text n → m ≡ n }
+{}
+
+/// The fields that a text says are in range: the year as its digits, at most 999 milliseconds, and of an offset at most
+/// 99 hours and 99 minutes (X.680 46, 47).
+pub fn said_times_are_in_range()
+    ensures utc { (text : List ℕ) (m : Moment) → SaysUtcTime text m →
+        InRange m × (m.year ≤ 99) × (m.millisecond ≡ None) × MostOffset 99 m.zone }
+    ensures generalized { (text : List ℕ) (m : Moment) → SaysGeneralizedTime text m →
+        InRange m × (m.year ≤ 9999) × MostMilliseconds 999 m.millisecond × MostOffset 99 m.zone }
 {}
 
 /// The digit in front, and what follows it.
@@ -42,8 +51,13 @@ fn two_digits(text: &[u8], most: u8) -> Option<(u8, &[u8])>
     ensures none { IsNone result →
         (n : ℕ) (rest : List ℕ) → n ≤ most → text.now ≢ digits 2 n ++ rest }
 {
-    let (tens, rest) = digit(text)?;
-    let (units, rest) = digit(rest)?;
+    let [tens, units, rest @ ..] = text else {
+        return None;
+    };
+    let (tens, units) = (tens.wrapping_sub(b'0'), units.wrapping_sub(b'0'));
+    if tens.max(units) >= 10 {
+        return None;
+    }
     let number = 10 * tens + units;
     if number <= most {
         Some((number, rest))
@@ -60,9 +74,9 @@ fn four_digits(text: &[u8]) -> Option<(u32, &[u8])>
     ensures none { IsNone result →
         (n : ℕ) (rest : List ℕ) → n < 10 ^ 4 → text.now ≢ digits 4 n ++ rest }
 {
-    let (hundreds, rest) = two_digits(text, 99)?;
-    let (units, rest) = two_digits(rest, 99)?;
-    Some((100 * u32::from(hundreds) + u32::from(units), rest))
+    let (first_two, rest) = two_digits(text, 99)?;
+    let (last_two, rest) = two_digits(rest, 99)?;
+    Some((100 * u32::from(first_two) + u32::from(last_two), rest))
 }
 
 /// A time of this year to its minute, whose text is in front, and what follows it.

@@ -1,9 +1,9 @@
 -- Laws of what stands before and behind the minutes of a time.
-use Rattle.std.proofs.Common.{◌≡◌, ◌≢◌, ℕ, ◌≤◌, List, ◌++◌, inl, inr, sym, subst, ◌∙◌, arith}
+use Rattle.std.proofs.Common.{◌≡◌, ◌≢◌, ℕ, ◌≤◌, List, ◌++◌, None, inl, inr, sym, subst, ◌∙◌, arith}
 use Rattle.x690.specs.declared.times.Moment.{Moment}
-use Rattle.x690.specs.Times.{digits, z_text, to_minute, InRange, SaysZone, SaysZoneOrNone, SaysFraction, SaysUtcEnd, SaysGeneralizedEnd}
+use Rattle.x690.specs.Times.{digits, z_text, to_minute, InRange, SaysZone, SaysZoneOrNone, SaysFraction, SaysUtcEnd, SaysGeneralizedEnd, MostOffset, MostMilliseconds}
 use Rattle.x690.specs.Laws.Times.Digits.{digits_front}
-use Rattle.x690.specs.Laws.Times.Zones.{zones_unique, fractions_front, zones_or_none_unique}
+use Rattle.x690.specs.Laws.Times.Zones.{zones_unique, fractions_front, zones_or_none_unique, zone_or_none_most, fraction_most}
 
 -- the same month, day, hour and minute
 pub record SameMinute (m n : Moment) : Type 0 where
@@ -62,3 +62,12 @@ generalized_ends_unique text m n h k (inr (fraction, zone, is, part, said)) (inr
     let r = digits_front 2 m.second n.second (fraction ++ zone) (other ++ rest) (omega arith) (omega arith) (sym is ∙ it) in
     let f = fractions_front fraction other zone rest m.millisecond n.millisecond m.zone n.zone part piece said told r.1 in
     record { second = r.0; millisecond = f.0; zone = zones_or_none_unique zone m.zone n.zone said (subst (λ (z : List ℕ). SaysZoneOrNone z n.zone) (sym f.1) told) }
+
+-- how much an end says
+pub utc_end_most : (text : List ℕ) (m : Moment) → SaysUtcEnd text m → (m.millisecond ≡ None) × MostOffset 99 m.zone
+utc_end_most text m (inl z) = (z.millisecond, subst (MostOffset 99) (sym z.zone) tt)
+utc_end_most text m (inr (zone, is, said, nothing)) = (nothing, zone_or_none_most zone m.zone (inr said))
+
+pub generalized_end_most : (text : List ℕ) (m : Moment) → SaysGeneralizedEnd text m → MostMilliseconds 999 m.millisecond × MostOffset 99 m.zone
+generalized_end_most text m (inl z) = (subst (MostMilliseconds 999) (sym z.millisecond) tt, subst (MostOffset 99) (sym z.zone) tt)
+generalized_end_most text m (inr (fraction, zone, is, part, said)) = (fraction_most fraction m.millisecond part, zone_or_none_most zone m.zone said)

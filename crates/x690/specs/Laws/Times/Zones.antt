@@ -1,8 +1,9 @@
 -- Laws of the zones and the fractions that texts say.
-use Rattle.std.proofs.Common.{◌≡◌, ◌≢◌, ◌⊎◌, ℕ, ◌+◌, ◌-◌, ◌*◌, ◌%◌, ◌^◌, ◌<◌, List, [], ◌∷◌, ◌++◌, Option, Some, None, inl, inr, refl, sym, ap, subst, ◌∙◌, arith}
+use Rattle.std.proofs.Common.{◌≡◌, ◌≢◌, ◌⊎◌, ℕ, zero, suc, ◌+◌, ◌-◌, ◌*◌, ◌%◌, ◌^◌, ◌<◌, ◌≤◌, List, [], ◌∷◌, ◌++◌, pos, neg_ℤ, unsigned_abs, Bool, true, false, nat_lt, if◌then◌else◌, Option, Some, None, inl, inr, refl, sym, ap, subst, ◌∙◌, arith}
 use Rattle.std.proofs.lemmas.Bool.{cases_order}
 use Rattle.x690.specs.declared.times.TimeZone.{TimeZone}
-use Rattle.x690.specs.Times.{digits, east, west, SaysZone, SaysZoneOrNone, SaysFraction}
+use Rattle.x690.specs.declared.times.TimeZone.TheVariants.{Offset}
+use Rattle.x690.specs.Times.{digits, east, west, SaysZone, SaysZoneOrNone, SaysFraction, MostOffset, MostMilliseconds}
 use Rattle.x690.specs.Laws.Times.Digits.{same_first, HasNoDigit, digits_front, more_digits}
 
 -- ---- zones
@@ -92,3 +93,33 @@ fractions_front x y zone rest (Some m) (Some l) said told (point, count, n, p, h
     let whole : point ∷ digits (1 + count) n ++ zone ≡ sign ∷ digits (1 + other) k ++ rest = ap (λ (ys : List ℕ). ys ++ zone) (sym f) ∙ e ∙ ap (λ (ys : List ℕ). ys ++ rest) g in
     let r = fraction_digits_front count n other k zone rest told i few j (λ _. zone_has_no_digit zone said a) b (cc (whole)) in
     (ap Some (is ∙ r.0 ∙ sym it), r.1)
+
+-- ---- how large they are
+
+neg_most : (n : ℕ) → n < 100 → unsigned_abs (neg_ℤ (pos n)) ≤ 99
+neg_most zero h = omega arith
+neg_most (suc n) h = omega arith
+
+zone_most : (text : List ℕ) (said : TimeZone) → SaysZone text said → MostOffset 99 said
+zone_most text said (inl z) = subst (MostOffset 99) (sym z.1) tt
+zone_most text said (inr (hours, minutes, h, m, inl plus)) = subst (MostOffset 99) (sym plus.1) (omega arith, omega arith)
+zone_most text said (inr (hours, minutes, h, m, inr minus)) = subst (MostOffset 99) (sym minus.1) (to_west (nat_lt 0 hours))
+  where
+    to_west : (some : Bool) → MostOffset 99 (if some then Offset (neg_ℤ (pos hours)) (pos minutes) else Offset (pos 0) (neg_ℤ (pos minutes)))
+    to_west true = (neg_most hours h, omega arith)
+    to_west false = (omega arith, neg_most minutes m)
+
+pub zone_or_none_most : (text : List ℕ) (said : TimeZone) → SaysZoneOrNone text said → MostOffset 99 said
+zone_or_none_most text said (inl none) = subst (MostOffset 99) (sym none.1) tt
+zone_or_none_most text said (inr zone) = zone_most text said zone
+
+-- the digits, filled with zeros to three
+filled_most : (count n : ℕ) → count < 3 → n < 10 ^ (1 + count) → n * 10 ^ (2 - count) ≤ 999
+filled_most zero n few h = omega arith
+filled_most (suc zero) n few h = omega arith
+filled_most (suc (suc zero)) n few h = omega arith
+filled_most (suc (suc (suc count))) n few h = absurd (omega arith)
+
+pub fraction_most : (text : List ℕ) (milliseconds : Option ℕ) → SaysFraction text milliseconds → MostMilliseconds 999 milliseconds
+fraction_most text None part = tt
+fraction_most text (Some m) (point, count, n, p, few, h, is, value) = omega (arith, filled_most count n few h)
