@@ -55,12 +55,13 @@ impl TimeText {
     }
 }
 
-/// The last digit of the tens, of a number of any size.
+/// The first of two digits.
 #[inline(always)]
 fn tens(n: u8) -> u8
+    requires { n ≤ 99 }
     ensures { result ≡ 48 + n / 10 % 10 }
 {
-    b'0' + n / 10 % 10
+    b'0' + n / 10
 }
 
 /// The last digit.
