@@ -1,8 +1,9 @@
 //! Codes of characters in octets: UTF-16 and UCS-4, and what is said once of both (X.690 8.23.7, 8.23.8; X.680 41).
 
-ghost use Rattle.std.specs.Prelude.{ℕ, ◌≡◌, ◌+◌, ◌*◌, ◌<◌, ◌≤◌, ◌^◌, List, [], ◌++◌, length, get_or, take, IfSome, IfNone, IfOk, IsUtf8, encode_utf8_all, string_bytes};
+ghost use Rattle.std.specs.Prelude.{ℕ, ◌≡◌, ◌+◌, ◌*◌, ◌<◌, ◌≤◌, ◌^◌, List, [], ◌++◌, length, get_or, take, IfSome, IfNone, IfOk, IsUtf8, encode_utf8_all, string_bytes, string_capacity};
 ghost use Rattle.std.specs.Str.{chars};
 ghost use Rattle.x690.specs.Octets.{IsOctets};
+ghost use Rattle.x690.specs.Digits.{base_256_value};
 ghost use Rattle.x690.specs.Characters.{utf16_octets_of, ucs4_octets_of, unit_octets, code_of, utf16_octets, ucs4_octets, Codes, IsCode, BeginsWithCharacter, IsCharacterCode};
 ghost use Rattle.x690.specs.Laws.Characters.{utf16_code, ucs4_code};
 
@@ -170,8 +171,9 @@ pub fn decoded<C: CharacterCode>(
     octets: &[u8],
     capacity: usize,
 ) -> Result<String, AllocError>
-    ensures { IfOk result (λ text. (cs : List ℕ) → Codes (code_of C.octets_of) octets.now cs →
-        string_bytes text ≡ encode_utf8_all cs) }
+    ensures text { IfOk result (λ text. (cs : List ℕ) →
+        Codes (code_of C.octets_of) octets.now cs → string_bytes text ≡ encode_utf8_all cs) }
+    ensures room { IfOk result (λ text. capacity ≤ string_capacity text) }
 {
     let mut text = String::with_capacity(alloc, capacity)?;
     let mut rest = octets;
@@ -214,6 +216,15 @@ pub fn fill<'a, C: CharacterCode>(text: &'a str, buffer: &mut [u8; 256]) -> (usi
     }
     (at, rest.as_str())
 }
+
+/// A character below 10000 is the two octets of its number in UTF-16, and any character the four of it in UCS-4
+/// (X.690 8.23.7, 8.23.8).
+pub fn octets_are_numbers_of_characters()
+    ensures utf16 { (c : ℕ) → c < 65536 →
+        (length (utf16_octets_of c) ≡ 2) × (base_256_value (utf16_octets_of c) ≡ c) }
+    ensures ucs4 { (c : ℕ) →
+        (length (ucs4_octets_of c) ≡ 4) × (base_256_value (ucs4_octets_of c) ≡ c) }
+{}
 
 /// A text is told apart from any other by its octets in a code of characters, and these are octets.
 pub fn texts_are_told_apart<C: CharacterCode>()
