@@ -11,7 +11,7 @@ use Rattle.x690.specs.Laws.Octets.{below_octets, octets_append}
 use Rattle.x690.specs.Digits.{base_256_value}
 use Rattle.x690.specs.Characters.{unit_octets, utf16_octets_of, ucs4_octets_of, code_of, utf16_octets, ucs4_octets, IsCode, IsCharacterCode}
 
-pub scalar_below : (c : ℕ) → IsScalar c → c < 1114112
+scalar_below : (c : ℕ) → IsScalar c → c < 1114112
 scalar_below c s = elim (scalar_cases c s) [ inl h ↦ omega arith | inr h ↦ h.1 ]
 
 -- ---- texts in a code of characters
@@ -53,7 +53,7 @@ code_empty octets_of (octet ∷ text) e = absurd (omega arith)
 one_unit : (c : ℕ) → c < 65536 → utf16_octets_of c ≡ unit_octets c
 one_unit c h = grind (arith, nat_tests)
 
--- the units of a pair (X.680 41)
+-- the units of a pair
 abbrev high_unit : ℕ → ℕ
 high_unit c = 55296 + (c - 65536) / 1024
 
