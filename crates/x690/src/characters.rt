@@ -17,8 +17,8 @@ pub trait CharacterCode {
     /// They are four at most, and no character's octets begin another's.
     ghost is: { IsCharacterCode octets_of };
 
-    /// The character that begins the octets, and the octets behind it. There is none exactly where no character's octets
-    /// begin them.
+    /// The character that begins the octets, and the octets behind it. There is none exactly where no character's
+    /// octets begin them.
     fn first(octets: &[u8]) -> Option<(char, &[u8])>
         ensures some { IfSome result (λ found.
             BeginsWithCharacter octets_of octets.now found.0 found.1.now) }
@@ -29,8 +29,8 @@ pub trait CharacterCode {
     fn count(character: char) -> usize
         ensures { result ≡ length (octets_of character) };
 
-    /// Writes the octets of a character into the buffer at a place, and says which place is behind them. The octets before
-    /// that place stay; those behind what is written may be others.
+    /// Writes the octets of a character into the buffer at a place, and says which place is behind them. The octets
+    /// before that place stay; those behind what is written may be others.
     fn put(character: char, buffer: &mut [u8], at: usize) -> usize
         requires { at + 4 ≤ length buffer.old }
         ensures octets { take result buffer.new ≡ take at buffer.old ++ octets_of character }
@@ -197,8 +197,8 @@ pub fn coded_len<C: CharacterCode>(text: &str) -> Option<usize>
 }
 
 /// Writes characters from the front of the text into the buffer while any character fits, and says how many octets they
-/// are, and what text is left. A text that is not empty becomes shorter, and where a text is left, the buffer has no room
-/// for four octets more.
+/// are, and what text is left. A text that is not empty becomes shorter, and where a text is left, the buffer has no
+/// room for four octets more.
 pub fn fill<'a, C: CharacterCode>(text: &'a str, buffer: &mut [u8; 256]) -> (usize, &'a str)
     ensures octets { code_of C.octets_of (chars text.now) ≡
         take result.0 buffer.new ++ code_of C.octets_of (chars result.1.now) }
