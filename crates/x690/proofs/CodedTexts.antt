@@ -4,7 +4,7 @@ use Rattle.std.specs.Char.{encode_utf8, IsScalar}
 use Rattle.std.specs.Str.{IsUtf8, all_scalars, chars}
 use Rattle.std.proofs.lemmas.Bool.{and_parts}
 use Rattle.std.proofs.lemmas.List.Concat.{flat_map-append}
-use Rattle.std.proofs.lemmas.Str.{encodes-append, chars-nil, chars_past_char}
+use Rattle.std.proofs.lemmas.Str.{encodes-append, chars_past_char}
 use lib.Utf8.{scalar}
 use Rattle.x690.specs.Octets.{BeginsWith}
 use Rattle.x690.specs.Characters.{code_of, Codes, BeginsWithCharacter, IsCharacterCode}
@@ -79,10 +79,6 @@ module _ (octets_of : ℕ → List ℕ) (is : IsCharacterCode octets_of) where
   -- the first character of a text, and then the others
   pub code_past : (text rest : List ℕ) (c : ℕ) → IsUtf8 text → text ≡ encode_utf8 c ++ rest → code_of octets_of (chars text) ≡ octets_of c ++ code_of octets_of (chars rest)
   code_past text rest c u e = ap (code_of octets_of) (chars_past_char text rest c u e)
-
-  pub code_empty : (text : List ℕ) → length text ≡ 0 → code_of octets_of (chars text) ≡ []
-  code_empty [] e = ap (code_of octets_of) chars-nil
-  code_empty (b ∷ text) e = absurd (omega arith)
 
   pub code_len_past : (text rest : List ℕ) (c : ℕ) → IsUtf8 text → text ≡ encode_utf8 c ++ rest → length (code_of octets_of (chars text)) ≡ length (octets_of c) + length (code_of octets_of (chars rest))
   code_len_past text rest c u e = ap length (code_past text rest c u e) ∙ length-append (octets_of c) (code_of octets_of (chars rest))

@@ -1,8 +1,9 @@
 //! Codes of characters in octets: UTF-16 and UCS-4, and what is said once of both (X.690 8.23.7, 8.23.8; X.680 41).
 
-ghost use Rattle.std.specs.Prelude.{ℕ, ◌≡◌, ◌+◌, ◌*◌, ◌<◌, ◌≤◌, ◌^◌, List, [], ◌++◌, length, get_or, take, IfSome, IfNone, IfOk, IsUtf8, encode_utf8_all, string_bytes};
+ghost use Rattle.std.specs.Prelude.{ℕ, ◌≡◌, ◌+◌, ◌*◌, ◌<◌, ◌≤◌, ◌^◌, List, [], ◌++◌, length, get_or, take, IfSome, IfNone, IfOk, IsUtf8, encode_utf8_all, string_bytes, string_capacity};
 ghost use Rattle.std.specs.Str.{chars};
 ghost use Rattle.x690.specs.Octets.{IsOctets};
+ghost use Rattle.x690.specs.Digits.{base_256_value};
 ghost use Rattle.x690.specs.Characters.{utf16_octets_of, ucs4_octets_of, unit_octets, code_of, utf16_octets, ucs4_octets, Codes, IsCode, BeginsWithCharacter, IsCharacterCode};
 ghost use Rattle.x690.specs.Laws.Characters.{utf16_code, ucs4_code};
 
@@ -16,8 +17,8 @@ pub trait CharacterCode {
     /// They are four at most, and no character's octets begin another's.
     ghost is: { IsCharacterCode octets_of };
 
-    /// The character that begins the octets, and the octets behind it. There is none exactly where no character's octets
-    /// begin them.
+    /// The character that begins the octets, and the octets behind it. There is none exactly where no character's
+    /// octets begin them.
     fn first(octets: &[u8]) -> Option<(char, &[u8])>
         ensures some { IfSome result (λ found.
             BeginsWithCharacter octets_of octets.now found.0 found.1.now) }
@@ -28,8 +29,8 @@ pub trait CharacterCode {
     fn count(character: char) -> usize
         ensures { result ≡ length (octets_of character) };
 
-    /// Writes the octets of a character into the buffer at a place, and says which place is behind them. The octets before
-    /// that place stay; those behind what is written may be others.
+    /// Writes the octets of a character into the buffer at a place, and says which place is behind them. The octets
+    /// before that place stay; those behind what is written may be others.
     fn put(character: char, buffer: &mut [u8], at: usize) -> usize
         requires { at + 4 ≤ length buffer.old }
         ensures octets { take result buffer.new ≡ take at buffer.old ++ octets_of character }
@@ -170,8 +171,9 @@ pub fn decoded<C: CharacterCode>(
     octets: &[u8],
     capacity: usize,
 ) -> Result<String, AllocError>
-    ensures { IfOk result (λ text. (cs : List ℕ) → Codes (code_of C.octets_of) octets.now cs →
-        string_bytes text ≡ encode_utf8_all cs) }
+    ensures text { IfOk result (λ text. (cs : List ℕ) →
+        Codes (code_of C.octets_of) octets.now cs → string_bytes text ≡ encode_utf8_all cs) }
+    ensures room { IfOk result (λ text. capacity ≤ string_capacity text) }
 {
     let mut text = String::with_capacity(alloc, capacity)?;
     let mut rest = octets;
@@ -195,8 +197,8 @@ pub fn coded_len<C: CharacterCode>(text: &str) -> Option<usize>
 }
 
 /// Writes characters from the front of the text into the buffer while any character fits, and says how many octets they
-/// are, and what text is left. A text that is not empty becomes shorter, and where a text is left, the buffer has no room
-/// for four octets more.
+/// are, and what text is left. A text that is not empty becomes shorter, and where a text is left, the buffer has no
+/// room for four octets more.
 pub fn fill<'a, C: CharacterCode>(text: &'a str, buffer: &mut [u8; 256]) -> (usize, &'a str)
     ensures octets { code_of C.octets_of (chars text.now) ≡
         take result.0 buffer.new ++ code_of C.octets_of (chars result.1.now) }
@@ -214,6 +216,15 @@ pub fn fill<'a, C: CharacterCode>(text: &'a str, buffer: &mut [u8; 256]) -> (usi
     }
     (at, rest.as_str())
 }
+
+/// A character below 10000 is the two octets of its number in UTF-16, and any character the four of it in UCS-4
+/// (X.690 8.23.7, 8.23.8).
+pub fn octets_are_numbers_of_characters()
+    ensures utf16 { (c : ℕ) → c < 65536 →
+        (length (utf16_octets_of c) ≡ 2) × (base_256_value (utf16_octets_of c) ≡ c) }
+    ensures ucs4 { (c : ℕ) →
+        (length (ucs4_octets_of c) ≡ 4) × (base_256_value (ucs4_octets_of c) ≡ c) }
+{}
 
 /// A text is told apart from any other by its octets in a code of characters, and these are octets.
 pub fn texts_are_told_apart<C: CharacterCode>()

@@ -27,7 +27,10 @@ pub use arcs::{
     few_octets_have_small_arcs, first_pairs_are_unique, shortest_contents_are_determined,
 };
 pub use ascending::{ascending_strings_are_in_order, strings_have_one_ascending_arrangement};
-pub use characters::{texts_are_told_apart, utf8_texts_are_octets, utf16_and_ucs4_are_codes};
+pub use characters::{
+    octets_are_numbers_of_characters, texts_are_told_apart, utf8_texts_are_octets,
+    utf16_and_ucs4_are_codes,
+};
 pub use collections::{
     Encodings, StrictElements, collections_are_encoded, collections_are_lists_up_to_order,
     collections_have_one_content, contents_have_one_collection, contents_of_encodings,

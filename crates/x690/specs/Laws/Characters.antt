@@ -1,16 +1,17 @@
 -- Laws of characters in octets: UTF-16 and UCS-4 are codes of characters, and these are codes of texts, as UTF-8 is.
 use Rattle.std.proofs.Common.{◌≡◌, ℕ, ◌+◌, ◌-◌, ◌*◌, ◌/◌, ◌%◌, ◌<◌, ◌≤◌, true, List, [], ◌∷◌, ◌++◌, ◌⊎◌, length, length-append, get_or, drop, encode_utf8_all, refl, ap, ap₂, sym, ◌∙◌, subst, arith, inl, inr}
 use Rattle.std.specs.Char.{encode_utf8, IsScalar, len_utf8}
-use Rattle.std.specs.Str.{IsUtf8, all_scalars}
+use Rattle.std.specs.Str.{IsUtf8, all_scalars, chars}
 use Rattle.std.proofs.lemmas.Bool.{and_parts, cases_lt}
 use Rattle.std.proofs.lemmas.Bool.Decides.{nat_tests}
-use Rattle.std.proofs.lemmas.Str.{length-encode, len_utf8_bounds, encode_same, encodes_same}
+use Rattle.std.proofs.lemmas.Str.{chars-nil, length-encode, len_utf8_bounds, encode_same, encodes_same}
 use lib.Utf8.{scalar, scalar_cases, encode, next}
 use Rattle.x690.specs.Octets.{IsOctets}
 use Rattle.x690.specs.Laws.Octets.{below_octets, octets_append}
+use Rattle.x690.specs.Digits.{base_256_value}
 use Rattle.x690.specs.Characters.{unit_octets, utf16_octets_of, ucs4_octets_of, code_of, utf16_octets, ucs4_octets, IsCode, IsCharacterCode}
 
-pub scalar_below : (c : ℕ) → IsScalar c → c < 1114112
+scalar_below : (c : ℕ) → IsScalar c → c < 1114112
 scalar_below c s = elim (scalar_cases c s) [ inl h ↦ omega arith | inr h ↦ h.1 ]
 
 -- ---- texts in a code of characters
@@ -42,12 +43,17 @@ module _ (octets_of : ℕ → List ℕ) (is : IsCharacterCode octets_of) where
   pub text_code : IsCode (code_of octets_of)
   text_code = record { one = text_one; octets = text_octets }
 
+-- a text that is empty has no octets
+pub code_empty : (octets_of : ℕ → List ℕ) (text : List ℕ) → length text ≡ 0 → code_of octets_of (chars text) ≡ []
+code_empty octets_of [] e = ap (code_of octets_of) chars-nil
+code_empty octets_of (octet ∷ text) e = absurd (omega arith)
+
 -- ---- UTF-16
 
 one_unit : (c : ℕ) → c < 65536 → utf16_octets_of c ≡ unit_octets c
 one_unit c h = grind (arith, nat_tests)
 
--- the units of a pair (X.680 41)
+-- the units of a pair
 abbrev high_unit : ℕ → ℕ
 high_unit c = 55296 + (c - 65536) / 1024
 
@@ -199,3 +205,11 @@ utf8_is_code = record {
 -- a text in UTF-8 is octets
 pub utf8_octets : (octets : List ℕ) → IsUtf8 octets → IsOctets octets
 utf8_octets octets u = subst IsOctets u.1.1 (utf8_is_code.octets u.0 u.1.0)
+
+-- ---- the numbers that octets are
+
+pub utf16_number : (c : ℕ) → c < 65536 → (length (utf16_octets_of c) ≡ 2) × (base_256_value (utf16_octets_of c) ≡ c)
+utf16_number c h = subst (λ (xs : List ℕ). (length xs ≡ 2) × (base_256_value xs ≡ c)) (sym (one_unit c h)) (refl, omega arith)
+
+pub ucs4_number : (c : ℕ) → (length (ucs4_octets_of c) ≡ 4) × (base_256_value (ucs4_octets_of c) ≡ c)
+ucs4_number c = (refl, omega arith)

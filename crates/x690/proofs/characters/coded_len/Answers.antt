@@ -1,7 +1,8 @@
 use Rattle.std.proofs.Common.{arith, ap, length}
 use Rattle.std.specs.Str.Iter.{chars_rest}
 use Rattle.std.proofs.lemmas.Str.{IsUtf8-past_char}
-use Rattle.x690.proofs.CodedTexts.{code_empty, code_len_past}
+use Rattle.x690.specs.Laws.Characters.{code_empty}
+use Rattle.x690.proofs.CodedTexts.{code_len_past}
 use Rattle.x690.proofs.characters.coded_len.Goals as goal
 
 pub returns-in_err-len-clause-none : goal.returns-in_err-len-clause-none
@@ -22,4 +23,4 @@ loop-character-preserved g c =
 pub returns-clause-some : goal.returns-clause-some
 returns-clause-some g c =
     let inv = c.loop-character.invariant in
-    omega (arith, inv.counted, ap length (code_empty g.C.CharacterCode.octets_of g.C.CharacterCode.is (chars_rest c.loop-character.character-iterator) c.in-None.ensures.steps.0.0))
+    omega (arith, inv.counted, ap length (code_empty g.C.CharacterCode.octets_of (chars_rest c.loop-character.character-iterator) c.in-None.ensures.steps.0.0))
