@@ -1,6 +1,7 @@
 -- Times are lawful leaves; those that are strict are written.
-use Rattle.std.specs.Prelude.{◌≡◌, ◌<◌, ◌↔◌, ◌≤◌, ◌⊎◌, ℕ, zero, suc, ◌+◌, ◌-◌, ◌*◌, ◌^◌, ℤ, pos, negsuc, neg_ℤ, ◌≤ℤ◌, List, Bool, true, false, ◌&&◌, not, nat_le, Some, None, Option, IsTrue, codes}
-use Rattle.std.proofs.Common.{◌∙◌, ap, sym, subst, refl, lit<, inl, inr, arith, ints}
+use Rattle.std.specs.Prelude.{◌≡◌, ◌<◌, ◌↔◌, ◌≤◌, ◌⊎◌, ℕ, zero, suc, ◌+◌, ◌-◌, ◌*◌, ◌^◌, ℤ, pos, negsuc, neg_ℤ, ◌≤ℤ◌, List, Bool, true, false, ◌&&◌, not, nat_le, nat_lt, if◌then◌else◌, Some, None, Option, IsTrue, codes, Result, Ok, Err}
+use Rattle.std.proofs.Common.{◌∙◌, ap, sym, subst, refl, lit<, inl, inr, arith}
+use Rattle.std.proofs.lemmas.Int.{ints}
 use Rattle.std.proofs.lemmas.Bool.{le-leb, leb-true}
 use Rattle.x690.specs.Octets.{IsOctets}
 use Rattle.x690.specs.Elements.{Parts}
@@ -17,8 +18,8 @@ use Rattle.asn1_headers.specs.declared.error.Error.TheVariants as errors
 use Rattle.asn1_headers.specs.declared.tag.Tag.{Tag}
 use Rattle.asn1_rs.specs.declared.asn1_types.times.utc_time.UtcTime.{UtcTime}
 use Rattle.asn1_rs.specs.Checks.{CheckGives, IsCheck, IsCheckUpTo, but_text, nothing}
-use Rattle.asn1_rs.specs.Leaf.{IsLawfulLeafUpTo, leaf_parts}
-use Rattle.asn1_rs.specs.Times.{IsMoment, IsZone, IsNoTime, moment_of, time_leaf, has_visible_octets, says_time, utc_time_leaf, utc_time_number, fits_text, has_place, has_three_digits, utc_time_refused}
+use Rattle.asn1_rs.specs.Leaf.{IsLawfulLeafUpTo, LeafGives, leaf_parts}
+use Rattle.asn1_rs.specs.Times.{IsMoment, IsZone, IsNoTime, TextGives, moment_of, time_leaf, has_visible_octets, says_time, utc_time_leaf, utc_time_number, fits_text, has_place, has_three_digits, utc_time_refused}
 use Rattle.asn1_rs.specs.Laws.Checks.{up_to, before_is, content_check_is, telling_check_is, nothing_is}
 
 -- refusals of one tag with one text are told apart by nothing
@@ -54,6 +55,12 @@ module _ {S : Type 0} (number : ℕ) (value : S → Moment) (Says : List ℕ →
     der_checks = λ k v d. (texts.visible v, (v, texts.strict v d));
     der_constraints = meets;
   }
+
+  -- a conversion that asks the tag number and the octets, and then reads the text
+  pub text_converts : (p : Parts) (answer : Result S Error) → p.id.number ≡ number → AllIn is_visible p.content → TextGives number value Says p.content answer →
+      LeafGives (time_leaf number value Says IsStrict constraints octets) p answer
+  text_converts p (Ok x) n v g = ((n, (v, (value x, g))), g)
+  text_converts p (Err e) n v g = inr (n, inr (v, ((λ m. g.0 m.0 m.1), g.1)))
 
 -- ---- which fit their text
 
@@ -127,9 +134,15 @@ few n h = (omega (arith, ints), omega (arith, ints))
 few_west : (n : ℕ) → n < 100 → (negsuc 127 ≤ℤ neg_ℤ (pos n)) × (neg_ℤ (pos n) ≤ℤ pos 127)
 few_west n h = (omega (arith, ints), omega (arith, ints))
 
+either_holds : (b : Bool) (x y : TimeZone) → IsZone x → IsZone y → IsZone (if b then x else y)
+either_holds true x y p q = p
+either_holds false x y p q = q
+
 west_holds : (hours minutes : ℕ) → hours < 100 → minutes < 100 → IsZone (west hours minutes)
-west_holds zero minutes h m = ((few 0 h).0, (few 0 h).1, (few_west minutes m).0, (few_west minutes m).1)
-west_holds (suc hours) minutes h m = ((few_west (suc hours) h).0, (few_west (suc hours) h).1, (few minutes m).0, (few minutes m).1)
+west_holds hours minutes h m =
+    either_holds (nat_lt 0 hours) (Offset (neg_ℤ (pos hours)) (pos minutes)) (Offset (pos 0) (neg_ℤ (pos minutes)))
+    ((few_west hours h).0, (few_west hours h).1, (few minutes m).0, (few minutes m).1)
+    ((few 0 (omega arith)).0, (few 0 (omega arith)).1, (few_west minutes m).0, (few_west minutes m).1)
 
 zone_holds : (text : List ℕ) (z : TimeZone) → SaysZone text z → IsZone z
 zone_holds text z (inl a) = subst IsZone (sym a.1) tt

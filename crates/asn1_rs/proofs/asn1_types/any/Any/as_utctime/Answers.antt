@@ -1,0 +1,9 @@
+use Rattle.x690.specs.Times.{SaysUtcTime, IsStrictUtcTime, utc_time_text}
+use Rattle.asn1_rs.specs.Any.{parts_of}
+use Rattle.asn1_rs.specs.Checks.{nothing}
+use Rattle.asn1_rs.specs.Times.{moment_of, utc_time_number}
+use Rattle.asn1_rs.specs.Laws.Times.{text_converts}
+use Rattle.asn1_rs.proofs.asn1_types.any.Any.as_utctime.Goals as goal
+
+pub returns : goal.returns
+returns c = text_converts utc_time_number (λ t. moment_of t.0) SaysUtcTime IsStrictUtcTime nothing utc_time_text (parts_of c.args.self.now) c.from_bytes.result (c.in_ok-assert_number.ensures tt) (c.all_in.ensures.0 c.if-not-all_in.false) c.from_bytes.ensures
