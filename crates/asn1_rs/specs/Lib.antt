@@ -9,6 +9,7 @@ pub mod Null
 pub mod EndOfContent
 pub mod OctetString
 pub mod Strings
+pub mod CodedStrings
 pub mod Oid
 pub mod Optional
 pub mod BitString

@@ -4,6 +4,7 @@ ghost use Rattle.std.specs.Prelude.{◌≡◌, ◌∷◌, []};
 pub mod any;
 pub mod bit_string;
 pub mod boolean;
+pub mod coded_strings;
 pub mod end_of_content;
 pub mod enumerated;
 pub mod integer;

@@ -1,5 +1,5 @@
-//! Values in hand: which are in DER form whatever they are, and what is said of sets and of octets.
-ghost use Rattle.std.specs.Prelude.{◌≡◌, map};
+//! Values in hand: which are in DER form whatever they are, and what is said of sets, of octets and of texts.
+ghost use Rattle.std.specs.Prelude.{◌≡◌, map, IsUtf8};
 ghost use Rattle.std.specs.List.{All};
 ghost use Rattle.x690.specs.Octets.{IsOctets};
 ghost use Rattle.x690.specs.Collections.{AllDiffer};
@@ -52,6 +52,11 @@ impl<T: AlwaysDer> States<T> for OfDer {
 /// Octets in hand are octets: each is below 256.
 pub fn octets_in_hand(octets: &[u8])
     ensures { IsOctets octets.now }
+{}
+
+/// A text in hand is in UTF-8.
+pub fn text_in_hand(text: &str)
+    ensures { IsUtf8 text.now }
 {}
 
 /// The value of a `BTreeSet` or a `HashSet` in hand, which is `members` of its keys, is the set of their values; it is in

@@ -1,0 +1,66 @@
+//! Elements as strings whose text is decoded.
+ghost use Rattle.x690.specs.Characters.{utf16_octets_of, ucs4_octets_of};
+ghost use Rattle.asn1_rs.specs.Any.{parts_of};
+ghost use Rattle.asn1_rs.specs.CodedStrings.{coded_string_leaf};
+ghost use Rattle.asn1_rs.specs.Leaf.{LeafTakes};
+
+use crate::asn1_types::any::Any;
+use crate::asn1_types::coded_strings::CodedString;
+use crate::asn1_types::coded_strings::kinds::{BmpString, CodedKind, UniversalString};
+use crate::traits::Tagged;
+use asn1_headers::error::Error;
+use std::alloc::Global;
+use x690::characters::{decoded, text_len};
+
+impl Any<'_> {
+    /// The string of a type, of an element that stays.
+    pub(crate) fn as_coded_string<K: CodedKind>(
+        &self,
+        alloc: Global,
+    ) -> Result<CodedString<'static, K>, Error>
+        ensures { LeafTakes (coded_string_leaf (K.Number.TAG).0 K.Code.octets_of)
+            (parts_of self.now) result }
+    {
+        self.assert_number(K::Number::TAG)?;
+        let Some(len) = text_len::<K::Code>(self.content) else {
+            return Err(Error::StringInvalidCharset);
+        };
+        match decoded::<K::Code>(alloc, self.content, len) {
+            Ok(text) => Ok(CodedString::from(text)),
+            Err(_) => Err(Error::OutOfMemory),
+        }
+    }
+}
+
+/// The text is decoded from the contents octets, whether the element is primitive or constructed. Refused at another tag
+/// number with `UnexpectedTag`, then with `StringInvalidCharset` where the octets are no text in the code, then where
+/// memory is, with `OutOfMemory`.
+impl Any<'_> {
+    /// The `BmpString`.
+    pub fn bmpstring(self, alloc: Global) -> Result<BmpString<'static>, Error>
+        ensures { LeafTakes (coded_string_leaf 30 utf16_octets_of) (parts_of self.entry) result }
+    {
+        self.as_bmpstring(alloc)
+    }
+
+    /// The `BmpString`, of an element that stays.
+    pub fn as_bmpstring(&self, alloc: Global) -> Result<BmpString<'static>, Error>
+        ensures { LeafTakes (coded_string_leaf 30 utf16_octets_of) (parts_of self.now) result }
+    {
+        self.as_coded_string(alloc)
+    }
+
+    /// The `UniversalString`.
+    pub fn universalstring(self, alloc: Global) -> Result<UniversalString<'static>, Error>
+        ensures { LeafTakes (coded_string_leaf 28 ucs4_octets_of) (parts_of self.entry) result }
+    {
+        self.as_universalstring(alloc)
+    }
+
+    /// The `UniversalString`, of an element that stays.
+    pub fn as_universalstring(&self, alloc: Global) -> Result<UniversalString<'static>, Error>
+        ensures { LeafTakes (coded_string_leaf 28 ucs4_octets_of) (parts_of self.now) result }
+    {
+        self.as_coded_string(alloc)
+    }
+}

@@ -1,0 +1,48 @@
+//! Texts in a code of characters, as they are written.
+ghost use Rattle.std.specs.Prelude.{◌≡◌, false, length, chars, IfErr};
+ghost use Rattle.x690.specs.Characters.{code_of};
+ghost use Rattle.asn1_headers.specs.Writer.{Wrote, MayRefuse};
+ghost use Rattle.asn1_rs.specs.CodedStrings.{coded_string_leaf, coded_octets};
+ghost use Rattle.asn1_rs.specs.Laws.CodedStrings.{coded_string_lawful};
+ghost use Rattle.asn1_rs.specs.Laws.Leaf.{copying_written};
+
+use crate::asn1_types::coded_strings::CodedString;
+use crate::asn1_types::coded_strings::kinds::CodedKind;
+use crate::kinds::writing::WritesElement;
+use asn1_headers::error::{Error, SerializeResult};
+use asn1_headers::writer::{DerWrite, add_written, put_all};
+use x690::characters::{CharacterCode, coded_len, fill};
+
+/// Appends the text in a code, by pieces of 256 octets at most, and answers the number of octets. No memory is asked for.
+fn put_text<C: CharacterCode, W: DerWrite>(text: &str, w: &mut W) -> SerializeResult<usize>
+    ensures wrote { Wrote (code_of C.octets_of (chars text.now)) (W.state w.old) (W.state w.new)
+        result }
+    ensures refused { IfErr result
+        (MayRefuse false (length (code_of C.octets_of (chars text.now)))) }
+{
+    let mut piece = [0; 256];
+    let mut rest = text;
+    let mut written = 0;
+    while !rest.is_empty() {
+        let (len, others) = fill::<C>(rest, &mut piece);
+        let count = put_all(w, &piece[..len])?;
+        written = add_written(written, count)?;
+        rest = others;
+    }
+    Ok(written)
+}
+
+impl<K: CodedKind> WritesElement for CodedString<'_, K> {
+    ghost octets = { coded_octets K.Code.octets_of };
+
+    fn count_octets(&self) -> Result<usize, Error> {
+        coded_len::<K::Code>(self.as_str()).ok_or(Error::InvalidLength)
+    }
+
+    fn put_octets<W: DerWrite>(&self, w: &mut W) -> SerializeResult<usize> {
+        put_text::<K::Code, W>(self.as_str(), w)
+    }
+
+    ghost written = { copying_written (coded_string_leaf (K.Number.TAG).0 K.Code.octets_of)
+        (coded_string_lawful (K.Number.TAG).0 K.Code.octets_of K.small K.primitive K.Code.is) };
+}
