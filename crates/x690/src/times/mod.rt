@@ -11,7 +11,8 @@ pub enum TimeZone {
     Undefined,
     /// UTC.
     Z,
-    /// Hours and minutes ahead of UTC, both with the sign of the hours; where these are 0, the minutes have a sign.
+    /// Hours and minutes ahead of UTC. The sign is that of the hours, and the minutes have none; where the hours are 0, it is
+    /// that of the minutes.
     Offset(i8, i8),
 }
 

@@ -13,7 +13,6 @@ use super::ASN1DateTime;
 use crate::asn1_types::any::Any;
 use crate::kinds::writing::WritesElement;
 use crate::kinds::{ElementKind, HasKind, LawfulConversion, LawfulElement};
-use crate::laws::LawfulMember;
 use crate::traits::{CheckDerConstraints, DerAutoDerive, FromAny, Tagged};
 use asn1_headers::error::{Error, SerializeError, SerializeResult};
 use asn1_headers::tag::Tag;
@@ -144,8 +143,4 @@ impl WritesElement for UtcTime {
 
     ghost written = { refusing_written utc_time_leaf utc_time_lawful
         (λ t. utc_time_refused (moment_of t.0)) utc_time_accepted };
-}
-
-impl LawfulMember for UtcTime {
-    ghost same = { λ x y. (λ h. ?, λ e. ?) };
 }

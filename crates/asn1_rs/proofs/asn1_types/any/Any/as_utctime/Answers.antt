@@ -6,4 +6,4 @@ use Rattle.asn1_rs.specs.Laws.Times.{text_converts}
 use Rattle.asn1_rs.proofs.asn1_types.any.Any.as_utctime.Goals as goal
 
 pub returns : goal.returns
-returns c = text_converts utc_time_number (λ t. moment_of t.0) SaysUtcTime IsStrictUtcTime nothing utc_time_text (parts_of c.args.self.now) c.from_bytes.result (c.in_ok-assert_number.ensures tt) (c.all_in.ensures.0 c.if-not-all_in.false) c.from_bytes.ensures
+returns c = text_converts utc_time_number (λ t. moment_of t.0) SaysUtcTime IsStrictUtcTime nothing utc_time_text (parts_of c.args.self.now) c.from_bytes.result c.in_ok-assert_number.ensures (c.all_in.ensures.0 c.if-not-all_in.false) c.from_bytes.ensures
