@@ -2,7 +2,7 @@
 pub mod Digits
 pub mod Zones
 pub mod Ends
-use Rattle.std.proofs.Common.{◌≡◌, ◌⊎◌, ℕ, suc, ◌+◌, ◌-◌, ◌*◌, ◌^◌, ◌<◌, ◌≤◌, List, ◌++◌, Option, Some, None, append_assoc, inl, inr, refl, sym, ap, subst, ◌∙◌, arith}
+use Rattle.std.proofs.Common.{◌≡◌, ℕ, ◌^◌, ◌<◌, ◌≤◌, List, ◌++◌, Option, None, append_assoc, refl, sym, subst, ◌∙◌, arith}
 use Rattle.x690.specs.declared.times.Moment.{Moment}
 use Rattle.x690.specs.declared.times.TimeZone.{TimeZone}
 use Rattle.x690.specs.Times.{digits, to_minute, InRange, SaysTime, SaysUtcEnd, SaysGeneralizedEnd, SaysUtcTime, SaysGeneralizedTime, MostOffset, MostMilliseconds}
