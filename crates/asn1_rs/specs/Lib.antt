@@ -8,6 +8,7 @@ pub mod Boolean
 pub mod Null
 pub mod EndOfContent
 pub mod OctetString
+pub mod Strings
 pub mod CodedStrings
 pub mod Oid
 pub mod Optional

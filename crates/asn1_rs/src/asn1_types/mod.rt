@@ -16,6 +16,7 @@ pub mod oid;
 pub mod option;
 pub mod sequence;
 pub mod set;
+pub mod strings;
 pub mod tagged;
 
 use crate::traits::Tagged;
