@@ -18,6 +18,7 @@ pub mod sequence;
 pub mod set;
 pub mod strings;
 pub mod tagged;
+pub mod texts;
 
 use crate::traits::Tagged;
 use bit_string::BitString;
