@@ -13,6 +13,7 @@ pub mod EndOfContent
 pub mod OctetString
 pub mod Strings
 pub mod CodedStrings
+pub mod Texts
 pub mod Oid
 pub mod Optional
 pub mod BitString

@@ -127,6 +127,7 @@ pub use asn1_types::tagged::optional::OptTaggedParser;
 pub use asn1_types::tagged::parser::AsTaggedExplicit;
 pub use asn1_types::tagged::parser::AsTaggedImplicit;
 pub use asn1_types::tagged::parser::TaggedParser;
+pub use asn1_types::texts::numbers_of_texts;
 pub use ber::MAX_RECURSION;
 pub use ber::any_from_ber_counted;
 pub use kinds::ElementKind;

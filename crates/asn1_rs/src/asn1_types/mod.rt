@@ -19,6 +19,7 @@ pub mod set;
 pub mod strings;
 pub mod tagged;
 pub mod times;
+pub mod texts;
 
 use crate::traits::Tagged;
 use bit_string::BitString;

@@ -1,16 +1,19 @@
 //! Elements as strings whose text is decoded.
-ghost use Rattle.x690.specs.Characters.{utf16_octets_of, ucs4_octets_of};
+ghost use Rattle.std.specs.Prelude.{◌≡◌, ◌↔◌, IsOk, IfErr};
+ghost use Rattle.x690.specs.Characters.{utf16_octets, utf16_octets_of, ucs4_octets_of};
+ghost use Rattle.asn1_headers.specs.declared.error.Error.TheVariants as errors;
 ghost use Rattle.asn1_rs.specs.Any.{parts_of};
-ghost use Rattle.asn1_rs.specs.CodedStrings.{coded_string_leaf};
+ghost use Rattle.asn1_rs.specs.CodedStrings.{IsCoded, coded_string_leaf};
 ghost use Rattle.asn1_rs.specs.Leaf.{LeafTakes};
 
 use crate::asn1_types::any::Any;
 use crate::asn1_types::coded_strings::CodedString;
 use crate::asn1_types::coded_strings::kinds::{BmpString, CodedKind, UniversalString};
+use crate::asn1_types::strings::TestValidCharset;
 use crate::traits::Tagged;
 use asn1_headers::error::Error;
 use std::alloc::Global;
-use x690::characters::{decoded, text_len};
+use x690::characters::{Utf16, decoded, text_len};
 
 impl Any<'_> {
     /// The string of a type, of an element that stays.
@@ -62,5 +65,20 @@ impl Any<'_> {
         ensures { LeafTakes (coded_string_leaf 28 ucs4_octets_of) (parts_of self.now) result }
     {
         self.as_coded_string(alloc)
+    }
+}
+
+/// A `BmpString` has each text, and no other octets than those of texts in UTF-16.
+impl TestValidCharset for BmpString<'_> {
+    ghost IsText = { IsCoded utf16_octets };
+
+    fn test_valid_charset(i: &[u8]) -> Result<(), Error>
+        ensures valid { IsOk result ↔ IsCoded utf16_octets i.now }
+        ensures refused { IfErr result (λ e. e ≡ errors.StringInvalidCharset) }
+    {
+        match text_len::<Utf16>(i) {
+            Some(_) => Ok(()),
+            None => Err(Error::StringInvalidCharset),
+        }
     }
 }

@@ -3,7 +3,7 @@
 pub mod conversions;
 pub mod kinds;
 
-ghost use Rattle.std.specs.Prelude.{◌≡◌, ◌↔◌, ℕ, List, IsOk, IfOk, IfErr, IsUtf8, string_bytes};
+ghost use Rattle.std.specs.Prelude.{◌≡◌, ◌↔◌, ℕ, List, IsOk, IfOk, IfErr, string_bytes};
 ghost use Rattle.std.specs.Cow.{IsBorrowedStr, IsOwnedStr};
 ghost use Rattle.asn1_headers.specs.declared.error.Error.TheVariants as errors;
 ghost use Rattle.asn1_rs.specs.Any.{parts_of};
@@ -19,6 +19,7 @@ use crate::kinds::in_hand::DerElement;
 use crate::kinds::writing::WritesOctets;
 use crate::kinds::{ElementKind, HasKind, LawfulConversion, LawfulElement, TaggedAs};
 use crate::laws::LawfulMember;
+use crate::laws::in_hand::text_in_hand;
 use crate::traits::{CheckDerConstraints, DerAutoDerive, FromAny};
 use asn1_headers::error::Error;
 use kinds::{Repertoire, StringKind, Utf8Kind};
@@ -159,11 +160,6 @@ impl<K: StringKind> DerAutoDerive for RestrictedString<'_, K> {}
 impl<K: StringKind> HasKind for RestrictedString<'_, K> {
     type Kind = ElementKind;
 }
-
-/// States of a text in hand that it is in UTF-8.
-fn text_in_hand(text: &str)
-    ensures { IsUtf8 text.now }
-{}
 
 impl<K: StringKind> LawfulElement for RestrictedString<'_, K> {
     ghost element = { leaf_element (string_leaf (K.Number.TAG).0 K.Repertoire.IsText) };
