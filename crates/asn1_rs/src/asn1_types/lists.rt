@@ -27,7 +27,7 @@ use crate::traits::{CheckDerConstraints, FromAny, FromBer, FromDer, Tagged, conv
 use asn1_headers::content::{BerParser, DerParser};
 use asn1_headers::error::{Err, Error, ParseResult, SerializeError, SerializeResult, without_io};
 use asn1_headers::tag::Tag;
-use asn1_headers::writer::{DerWrite, Told, add_written};
+use asn1_headers::writer::{DerWrite, Told};
 use std::alloc::{AllocError, Global};
 use std::io;
 use std::io::Write;
@@ -367,10 +367,16 @@ where
         GivesItems I.next_gives R.deref_gives items xs → All T.writing.tells xs →
         SomeRefuses T.writing.count_refuses xs e → IsErr result }
 {
-    let mut total = 0;
+    let mut total: usize = 0;
+    // Matches, and no `?`: each copy of an answer copies its refusal, which has 96 octets.
     for item in items {
-        let count = item.write_der(alloc, w)?;
-        total = add_written(total, count)?;
+        match item.write_der(alloc, w) {
+            Ok(count) => match total.checked_add(count) {
+                Some(sum) => total = sum,
+                None => return Err(SerializeError::InvalidLength),
+            },
+            Err(e) => return Err(e),
+        }
     }
     Ok(total)
 }

@@ -6,7 +6,7 @@ pub(crate) mod octets;
 mod signed;
 mod unsigned;
 
-ghost use Rattle.std.specs.Prelude.{ℕ, pos, ◌++◌, ◌≡◌, ◌≤◌, false, length, Err, IfOk, IfErr};
+ghost use Rattle.std.specs.Prelude.{ℕ, pos, ◌++◌, ◌≡◌, ◌≤◌, false, length, take, Err, IfOk, IfErr};
 ghost use Rattle.x690.specs.Elements.{Parts};
 ghost use Rattle.asn1_headers.specs.declared.error.Error.{Error};
 ghost use Rattle.x690.specs.Digits.{twos_complement_value};
@@ -122,30 +122,14 @@ pub(crate) fn put_signed_content<W: DerWrite>(n: i128, w: &mut W) -> SerializeRe
     put_all(w, &octets[first..])
 }
 
-/// Appends the strict element of an integer in one piece, and answers its length.
+/// The strict element of a natural number, at the front of the array, and how many octets it has.
 #[inline(always)]
-pub(crate) fn put_signed_element<W: DerWrite>(n: i64, w: &mut W) -> SerializeResult<usize>
-    ensures wrote { Wrote (header_octets 0 false integer_number (length (signed_octets n))
-        ++ signed_octets n) (W.state w.old) (W.state w.new) result }
-    ensures refused { IfErr result (MayRefuse false
-        (length (header_octets 0 false integer_number (length (signed_octets n))
-        ++ signed_octets n))) }
+fn unsigned_element(n: u32) -> ([u8; 16], usize)
+    ensures element { take result.1 result.0 ≡
+        header_octets 0 false integer_number (length (unsigned_octets n)) ++ unsigned_octets n }
+    ensures few { result.1 ≤ 10 }
 {
-    let (octets, count) = integer_element(Tag::Integer.0, n);
-    put_all(w, &octets[..count])
-}
-
-/// Appends the strict element of a natural number in one piece, and answers its length.
-#[inline(always)]
-pub(crate) fn put_unsigned_element<W: DerWrite>(n: u32, w: &mut W) -> SerializeResult<usize>
-    ensures wrote { Wrote (header_octets 0 false integer_number (length (unsigned_octets n))
-        ++ unsigned_octets n) (W.state w.old) (W.state w.new)
-        result }
-    ensures refused { IfErr result (MayRefuse false
-        (length (header_octets 0 false integer_number (length (unsigned_octets n))
-        ++ unsigned_octets n))) }
-{
-    put_signed_element(i64::from(n), w)
+    integer_element(Tag::Integer.0, i64::from(n))
 }
 
 /// The check of an integer allows one refusal for one element, and so does the conversion to a natural number,

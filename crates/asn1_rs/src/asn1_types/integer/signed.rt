@@ -7,7 +7,7 @@ ghost use Rattle.asn1_rs.specs.Laws.Integer.{integer_checks, integer_lawful, int
 ghost use Rattle.asn1_rs.specs.Laws.Integer.Signed.{signed_converts, signed_equal};
 
 use crate::asn1_types::any::Any;
-use crate::asn1_types::integer::{check_integer, put_signed_content, put_signed_element};
+use crate::asn1_types::integer::{check_integer, put_signed_content};
 use crate::kinds::in_hand::DerElement;
 use crate::kinds::writing::WritesElement;
 use crate::kinds::{ElementKind, HasKind, LawfulConversion, LawfulElement};
@@ -15,9 +15,9 @@ use crate::laws::LawfulMember;
 use crate::traits::{CheckDerConstraints, DerAutoDerive, FromAny, Tagged};
 use asn1_headers::error::{Error, SerializeResult};
 use asn1_headers::tag::Tag;
-use asn1_headers::writer::DerWrite;
+use asn1_headers::writer::{DerWrite, put_all};
 use std::alloc::Global;
-use x690::signed::signed_octets_count;
+use x690::signed::{integer_element, signed_octets_count};
 
 impl Tagged for i8 {
     const TAG: Tag = Tag::Integer;
@@ -83,7 +83,8 @@ impl WritesElement for i8 {
 
     #[inline(always)]
     fn put_element<W: DerWrite>(&self, w: &mut W) -> SerializeResult<usize> {
-        put_signed_element(i64::from(*self), w)
+        let (octets, count) = integer_element(Tag::Integer.0, i64::from(*self));
+        put_all(w, &octets[..count])
     }
 
     ghost written = { integer_written (λ n. n) signed_octets signed_octets_content
@@ -158,7 +159,8 @@ impl WritesElement for i16 {
 
     #[inline(always)]
     fn put_element<W: DerWrite>(&self, w: &mut W) -> SerializeResult<usize> {
-        put_signed_element(i64::from(*self), w)
+        let (octets, count) = integer_element(Tag::Integer.0, i64::from(*self));
+        put_all(w, &octets[..count])
     }
 
     ghost written = { integer_written (λ n. n) signed_octets signed_octets_content
@@ -233,7 +235,8 @@ impl WritesElement for i32 {
 
     #[inline(always)]
     fn put_element<W: DerWrite>(&self, w: &mut W) -> SerializeResult<usize> {
-        put_signed_element(i64::from(*self), w)
+        let (octets, count) = integer_element(Tag::Integer.0, i64::from(*self));
+        put_all(w, &octets[..count])
     }
 
     ghost written = { integer_written (λ n. n) signed_octets signed_octets_content
@@ -308,7 +311,8 @@ impl WritesElement for i64 {
 
     #[inline(always)]
     fn put_element<W: DerWrite>(&self, w: &mut W) -> SerializeResult<usize> {
-        put_signed_element(*self, w)
+        let (octets, count) = integer_element(Tag::Integer.0, *self);
+        put_all(w, &octets[..count])
     }
 
     ghost written = { integer_written (λ n. n) signed_octets signed_octets_content

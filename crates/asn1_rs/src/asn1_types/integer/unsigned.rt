@@ -8,7 +8,7 @@ ghost use Rattle.asn1_rs.specs.Laws.Integer.{integer_checks, integer_lawful, int
 ghost use Rattle.asn1_rs.specs.Laws.Integer.Unsigned.{unsigned_converts, unsigned_equal};
 
 use crate::asn1_types::any::Any;
-use crate::asn1_types::integer::{check_integer, put_unsigned_content, put_unsigned_element};
+use crate::asn1_types::integer::{check_integer, put_unsigned_content, unsigned_element};
 use crate::kinds::in_hand::DerElement;
 use crate::kinds::writing::WritesElement;
 use crate::kinds::{ElementKind, HasKind, LawfulConversion, LawfulElement};
@@ -16,7 +16,7 @@ use crate::laws::LawfulMember;
 use crate::traits::{CheckDerConstraints, DerAutoDerive, FromAny, Tagged};
 use asn1_headers::error::{Error, SerializeResult};
 use asn1_headers::tag::Tag;
-use asn1_headers::writer::DerWrite;
+use asn1_headers::writer::{DerWrite, put_all};
 use std::alloc::Global;
 use x690::integers::unsigned_octets_count;
 
@@ -84,7 +84,8 @@ impl WritesElement for u8 {
 
     #[inline(always)]
     fn put_element<W: DerWrite>(&self, w: &mut W) -> SerializeResult<usize> {
-        put_unsigned_element(u32::from(*self), w)
+        let (octets, count) = unsigned_element(u32::from(*self));
+        put_all(w, &octets[..count])
     }
 
     ghost written = { integer_written pos unsigned_octets unsigned_octets_content
@@ -159,7 +160,8 @@ impl WritesElement for u16 {
 
     #[inline(always)]
     fn put_element<W: DerWrite>(&self, w: &mut W) -> SerializeResult<usize> {
-        put_unsigned_element(u32::from(*self), w)
+        let (octets, count) = unsigned_element(u32::from(*self));
+        put_all(w, &octets[..count])
     }
 
     ghost written = { integer_written pos unsigned_octets unsigned_octets_content
@@ -234,7 +236,8 @@ impl WritesElement for u32 {
 
     #[inline(always)]
     fn put_element<W: DerWrite>(&self, w: &mut W) -> SerializeResult<usize> {
-        put_unsigned_element(*self, w)
+        let (octets, count) = unsigned_element(*self);
+        put_all(w, &octets[..count])
     }
 
     ghost written = { integer_written pos unsigned_octets unsigned_octets_content
