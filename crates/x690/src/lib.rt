@@ -58,6 +58,8 @@ pub use nested::{
 pub use octets::{dictionary_order_is_total, first_difference_decides, padding_changes_no_order};
 pub use sets::characters_are_octets;
 pub use signed::octets_hold_their_integers;
+pub use times::reading::{said_times_are_in_range, texts_say_one_time};
+pub use times::writing::{strict_texts_are_short, strict_texts_read_back};
 
 /// Octet strings, one after the other, are an octet string.
 pub fn octets_join()

@@ -18,8 +18,8 @@ pub mod sequence;
 pub mod set;
 pub mod strings;
 pub mod tagged;
-pub mod times;
 pub mod texts;
+pub mod times;
 
 use crate::traits::Tagged;
 use bit_string::BitString;

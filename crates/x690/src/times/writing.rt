@@ -14,6 +14,16 @@ pub fn strict_texts_read_back()
     ensures utc { (m : Moment) → IsStrictUtcTime m → SaysUtcTime (utc_time_text m) m }
     ensures generalized { (m : Moment) → IsStrictGeneralizedTime m →
         SaysGeneralizedTime (generalized_time_text m) m }
+    ensures utc_alone { (m n : Moment)
+        → IsStrictUtcTime m
+        → IsStrictUtcTime n
+        → utc_time_text m ≡ utc_time_text n
+        → m ≡ n }
+    ensures generalized_alone { (m n : Moment)
+        → IsStrictGeneralizedTime m
+        → IsStrictGeneralizedTime n
+        → generalized_time_text m ≡ generalized_time_text n
+        → m ≡ n }
     ensures fits { (m : Moment) → IsStrictUtcTime m → FitsUtcTime m }
     ensures fits_generalized { (m : Moment) → IsStrictGeneralizedTime m → FitsGeneralizedTime m }
 {}
