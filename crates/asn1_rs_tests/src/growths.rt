@@ -1,7 +1,10 @@
 //! Calls that allocate, each twice. Where one growth is refused, as `tools/refused_growths` has it, one call tells of
 //! out of memory, and the other answers as ever.
 
-use asn1_rs::{Error, Oid, OidParseError};
+use asn1_rs::{
+    BmpString, CodedString, Err, Error, FromBer, Oid, OidParseError, ParseResult, UniversalString,
+    Utf8String,
+};
 use std::alloc::Global;
 use std::borrow::CowSlice;
 
@@ -67,4 +70,38 @@ fn hexadecimal_texts_are_refused_for_want_of_memory(rt: HostRuntime) {
     let oid = Oid::new_relative(CowSlice::Borrowed(&[0xff; 10]));
     assert!(rt; has_text(rt.alloc(), &oid, "ff ff ff ff ff ff ff ff ff ff"));
     assert!(rt; has_text(rt.alloc(), &oid, "ff ff ff ff ff ff ff ff ff ff"));
+}
+
+/// Whether a string was read with this text, or refused when out of memory.
+fn is_decoded<K>(read: ParseResult<'_, CodedString<'static, K>, Error>, expected: &str) -> bool {
+    match read {
+        Ok((_, string)) => string.as_str() == expected,
+        Err(refusal) => refusal == Err::Error(Error::OutOfMemory),
+    }
+}
+
+/// Whether a text was copied, or refused when out of memory.
+fn is_text(copied: Result<String, Error>, expected: &str) -> bool {
+    match copied {
+        Ok(text) => text.as_str() == expected,
+        Err(refusal) => refusal == Error::OutOfMemory,
+    }
+}
+
+#[test]
+fn decoded_strings_are_refused_for_want_of_memory(rt: HostRuntime) {
+    let octets = [0x1e, 0x08, 0, 0x55, 0, 0x73, 0, 0x65, 0, 0x72];
+    assert!(rt; is_decoded(BmpString::from_ber(rt.alloc(), &octets), "User"));
+    assert!(rt; is_decoded(BmpString::from_ber(rt.alloc(), &octets), "User"));
+    let octets = [0x1c, 0x08, 0, 0, 0, 0x61, 0, 0, 0, 0x62];
+    assert!(rt; is_decoded(UniversalString::from_ber(rt.alloc(), &octets), "ab"));
+    assert!(rt; is_decoded(UniversalString::from_ber(rt.alloc(), &octets), "ab"));
+}
+
+#[test]
+fn texts_of_strings_are_refused_for_want_of_memory(rt: HostRuntime) {
+    assert!(rt; is_text(BmpString::new("User").string(rt.alloc()), "User"));
+    assert!(rt; is_text(BmpString::new("User").string(rt.alloc()), "User"));
+    assert!(rt; is_text(UniversalString::new("ab").string(rt.alloc()), "ab"));
+    assert!(rt; is_text(Utf8String::new("ab").string(rt.alloc()), "ab"));
 }

@@ -38,6 +38,12 @@ mod parsers;
 #[cfg(test)]
 mod reading;
 #[cfg(test)]
+mod strings;
+#[cfg(test)]
+mod strings_table;
+#[cfg(test)]
 mod tagged;
+#[cfg(test)]
+mod times;
 #[cfg(test)]
 mod writers;

@@ -1,0 +1,318 @@
+//! Times: how they are made, read, converted, compared and written (X.690 8.25, 11.8; X.680 47).
+
+use asn1_rs::{
+    ASN1DateTime, ASN1TimeZone, Any, Err, Error, FromBer, FromDer, ParseResult, ToDer, Told,
+    UtcTime,
+};
+use std::alloc::Global;
+use std::fmt::Write;
+use std::test::Fail;
+use test_rows::{Calls, assert_all, assert_rows, assert_text, push_debug, push_digits, sides};
+
+/// Texts as contents octets of a UTCTime, by BER and by DER: the fields that X.680 47 says of them, how many octets are
+/// written, and which (X.690 11.8): identifier and length octets, and the text. An offset is not written.
+const SAID: &str = "\
+910625062345Z = 91 6 25 6 23 45 None Z count Ok(15) written Ok(15) 170d 910625062345Z
+9106250623Z = 91 6 25 6 23 0 None Z count Ok(15) written Ok(15) 170d 910625062300Z
+910625062345-0030 = 91 6 25 6 23 45 None Offset(0, -30) count Err(InvalidDateTime) \
+written Err(ASN1Error(InvalidDateTime)) -
+910625062345-0000 = 91 6 25 6 23 45 None Offset(0, 0) count Err(InvalidDateTime) \
+written Err(ASN1Error(InvalidDateTime)) -
+910625062345+9999 = 91 6 25 6 23 45 None Offset(99, 99) count Err(InvalidDateTime) \
+written Err(ASN1Error(InvalidDateTime)) -
+9106250623+0530 = InvalidValue of Tag(23)
+910625062345.3Z = InvalidValue of Tag(23)
+910625062345 = InvalidValue of Tag(23)
+";
+
+/// Elements that are read. Octets outside 20 to 7f are none of VisibleString (X.680 47), which is looked at before the
+/// text, and the tag number before both. The encoding may be constructed.
+const READ: &str = "\
+UtcTime::from_der:
+370d3931303632353036323334355a = 91 6 25 6 23 45 None Z count Ok(15) written Ok(15) 170d 910625062345Z
+170d39313036323530363233343580 = Error(StringInvalidCharset)
+170180 = Error(StringInvalidCharset)
+170d3931303632353036323334357f = InvalidValue of Tag(23)
+17017f = InvalidValue of Tag(23)
+1700 = InvalidValue of Tag(23)
+180180 = Error(UnexpectedTag { expected: Some(Tag(23)), actual: Tag(24) })
+
+UtcTime::from_ber:
+370d3931303632353036323334355a = 91 6 25 6 23 45 None Z count Ok(15) written Ok(15) 170d 910625062345Z
+170d39313036323530363233343580 = Error(StringInvalidCharset)
+170d3931303632353036323334357f = InvalidValue of Tag(23)
+1700 = InvalidValue of Tag(23)
+170d39 = Incomplete(Size(12))
+180180 = Error(UnexpectedTag { expected: Some(Tag(23)), actual: Tag(24) })
+
+UtcTime::from_bytes:
+3931303632353036323334355a = 91 6 25 6 23 45 None Z count Ok(15) written Ok(15) 170d 910625062345Z
+39313036323530363233343580 = InvalidValue of Tag(23)
+80 = InvalidValue of Tag(23)
+- = InvalidValue of Tag(23)
+
+Any::utctime:
+170b393130363235303632335a = 91 6 25 6 23 0 None Z count Ok(15) written Ok(15) 170d 910625062300Z
+170180 = Error(StringInvalidCharset)
+1700 = InvalidValue of Tag(23)
+180180 = Error(UnexpectedTag { expected: Some(Tag(23)), actual: Tag(24) })
+
+Any::as_utctime:
+170b393130363235303632335a = 91 6 25 6 23 0 None Z count Ok(15) written Ok(15) 170d 910625062300Z
+170180 = Error(StringInvalidCharset)
+1700 = InvalidValue of Tag(23)
+180180 = Error(UnexpectedTag { expected: Some(Tag(23)), actual: Tag(24) })
+";
+
+/// Appends the fields, each behind the last.
+fn push_fields(text: &mut String, time: &ASN1DateTime) -> Result<(), Fail> {
+    write!(text, "{} {} {} ", time.year, time.month, time.day)?;
+    write!(text, "{} {} {} ", time.hour, time.minute, time.second)?;
+    Ok(write!(text, "{:?} {:?}", time.millisecond, time.tz)?)
+}
+
+/// Appends the octets of an element: the first two in hexadecimal digits, and the contents octets as a text.
+fn push_element(text: &mut String, octets: &[u8]) -> Result<(), Fail> {
+    let [identifier, length, content @ ..] = octets else {
+        return push_digits(text, octets);
+    };
+    push_digits(text, &[*identifier, *length])?;
+    text.push(' ')?;
+    Ok(text.push_str(str::from_utf8(content)?)?)
+}
+
+/// Appends the count of a value, what its writing answers, and what it appended.
+fn push_writing<T: ToDer>(text: &mut String, alloc: Global, value: &T) -> Result<(), Fail> {
+    let mut w = Told::new(Vec::with_capacity(alloc, 64)?);
+    write!(text, "count {:?} ", value.to_der_len())?;
+    write!(text, "written {:?} ", value.write_der(alloc, &mut w))?;
+    push_element(text, w.as_inner().as_slice())
+}
+
+/// Appends a time: its fields, and how it is written.
+fn push_time(text: &mut String, alloc: Global, time: &UtcTime) -> Result<(), Fail> {
+    push_fields(text, &time.0)?;
+    text.push(' ')?;
+    push_writing(text, alloc, time)
+}
+
+/// Appends a refusal. Of an invalid value the message is left out.
+fn push_refusal(text: &mut String, refusal: &Err<Error>) -> Result<(), Fail> {
+    match refusal {
+        Err::Error(Error::InvalidValue { tag, .. }) => Ok(write!(text, "InvalidValue of {tag:?}")?),
+        _ => push_debug(text, refusal),
+    }
+}
+
+/// Appends what a reader of times answers.
+fn push_answer(
+    text: &mut String,
+    alloc: Global,
+    answer: ParseResult<'_, UtcTime, Error>,
+) -> Result<(), Fail> {
+    match answer {
+        Ok((_, time)) => push_time(text, alloc, &time),
+        Err(refusal) => push_refusal(text, &refusal),
+    }
+}
+
+/// Appends what a conversion answers.
+fn push_converted(
+    text: &mut String,
+    alloc: Global,
+    answer: Result<UtcTime, Error>,
+) -> Result<(), Fail> {
+    match answer {
+        Ok(time) => push_time(text, alloc, &time),
+        Err(refusal) => push_refusal(text, &Err::Error(refusal)),
+    }
+}
+
+/// The element at the front, by BER, as a time.
+fn push_by_value(text: &mut String, alloc: Global, octets: &[u8]) -> Result<(), Fail> {
+    let any = Any::from_ber(alloc, octets)?.1;
+    push_converted(text, alloc, any.utctime())
+}
+
+/// The same, of an element that stays.
+fn push_kept(text: &mut String, alloc: Global, octets: &[u8]) -> Result<(), Fail> {
+    let any = Any::from_ber(alloc, octets)?.1;
+    push_converted(text, alloc, any.as_utctime())
+}
+
+/// The calls of the table.
+struct Times;
+
+impl Calls for Times {
+    fn answer(text: &mut String, alloc: Global, name: &str, octets: &[u8]) -> Result<(), Fail> {
+        match name {
+            "UtcTime::from_der" => push_answer(text, alloc, UtcTime::from_der(alloc, octets)),
+            "UtcTime::from_ber" => push_answer(text, alloc, UtcTime::from_ber(alloc, octets)),
+            "UtcTime::from_bytes" => push_converted(text, alloc, UtcTime::from_bytes(octets)),
+            "Any::utctime" => push_by_value(text, alloc, octets),
+            "Any::as_utctime" => push_kept(text, alloc, octets),
+            _ => Ok(text.push_str("no such call")?),
+        }
+    }
+}
+
+#[test]
+fn times_are_read_and_written(rt: HostRuntime) -> Result<(), Fail> {
+    assert_rows::<Times>(rt.alloc(), READ)
+}
+
+/// The element of a UTCTime with this text, of fewer than 128 octets.
+fn element_of(alloc: Global, text: &str) -> Result<Vec<u8>, Fail> {
+    let mut octets = Vec::new(alloc);
+    octets.push(0x17)?;
+    octets.push(u8::try_from(text.len())?)?;
+    octets.extend_from_slice(text.as_bytes())?;
+    Ok(octets)
+}
+
+/// Asserts what a call answers at an element.
+fn assert_answer(alloc: Global, name: &str, octets: &[u8], expected: &str) -> Result<(), Fail> {
+    let mut text = String::new(alloc);
+    Times::answer(&mut text, alloc, name, octets)?;
+    assert_text(name, text.as_str(), expected)
+}
+
+#[test]
+fn texts_say_times(rt: HostRuntime) -> Result<(), Fail> {
+    for row in SAID.lines() {
+        let (said, expected) = sides(row)?;
+        let octets = element_of(rt.alloc(), said)?;
+        assert_answer(rt.alloc(), "UtcTime::from_der", octets.as_slice(), expected)?;
+        assert_answer(rt.alloc(), "UtcTime::from_ber", octets.as_slice(), expected)?;
+    }
+    Ok(())
+}
+
+/// Asserts how the time of these fields is written.
+fn assert_writing(alloc: Global, time: ASN1DateTime, expected: &str) -> Result<(), Fail> {
+    let mut text = String::new(alloc);
+    push_writing(&mut text, alloc, &UtcTime::new(time))?;
+    assert_text("a time is written", text.as_str(), expected)
+}
+
+/// How a time is refused that the text does not hold.
+const REFUSED: &str = "count Err(InvalidDateTime) written Err(ASN1Error(InvalidDateTime)) -";
+
+#[test]
+fn times_by_hand_are_written(rt: HostRuntime) -> Result<(), Fail> {
+    let (alloc, z) = (rt.alloc(), ASN1TimeZone::Z);
+    let written = "count Ok(15) written Ok(15) 170d 910625062345Z";
+    assert_writing(
+        alloc,
+        ASN1DateTime::new(91, 6, 25, 6, 23, 45, Some(999), z),
+        written,
+    )?;
+    let undefined = ASN1TimeZone::Undefined;
+    assert_writing(
+        alloc,
+        ASN1DateTime::new(91, 6, 25, 6, 23, 45, None, undefined),
+        written,
+    )?;
+    let written = "count Ok(15) written Ok(15) 170d 910025062345Z";
+    assert_writing(
+        alloc,
+        ASN1DateTime::new(91, 0, 25, 6, 23, 45, None, z),
+        written,
+    )
+}
+
+#[test]
+fn times_by_hand_are_refused(rt: HostRuntime) -> Result<(), Fail> {
+    let z = ASN1TimeZone::Z;
+    let table = [
+        ASN1DateTime::new(100, 6, 25, 6, 23, 45, None, z),
+        ASN1DateTime::new(91, 100, 25, 6, 23, 45, None, z),
+        ASN1DateTime::new(91, 6, 100, 6, 23, 45, None, z),
+        ASN1DateTime::new(91, 6, 25, 100, 23, 45, None, z),
+        ASN1DateTime::new(91, 6, 25, 6, 100, 45, None, z),
+        ASN1DateTime::new(91, 6, 25, 6, 23, 100, None, z),
+        ASN1DateTime::new(91, 6, 25, 6, 23, 45, Some(1000), z),
+        ASN1DateTime::new(91, 6, 25, 6, 23, 45, None, ASN1TimeZone::Offset(0, 0)),
+    ];
+    for time in table {
+        assert_writing(rt.alloc(), time, REFUSED)?;
+    }
+    Ok(())
+}
+
+/// A list with a time that is not written appends nothing.
+#[test]
+fn list_with_an_offset_is_refused(rt: HostRuntime) -> Result<(), Fail> {
+    let alloc = rt.alloc();
+    let mut times = Vec::new(alloc);
+    times.push(UtcTime::from_bytes(b"910625062345Z")?)?;
+    times.push(UtcTime::from_bytes(b"910625062345-0030")?)?;
+    let mut text = String::new(alloc);
+    push_writing(&mut text, alloc, &times)?;
+    assert_text("a list", text.as_str(), REFUSED)
+}
+
+#[test]
+fn time_has_its_fields(rt: HostRuntime) -> Result<(), Fail> {
+    let zone = ASN1TimeZone::Offset(-8, 9);
+    let mut text = String::new(rt.alloc());
+    let time = ASN1DateTime::new(1, 2, 3, 4, 5, 6, Some(7), zone);
+    push_fields(&mut text, &time)?;
+    assert_text("fields", text.as_str(), "1 2 3 4 5 6 Some(7) Offset(-8, 9)")?;
+    let same = UtcTime::new(time) == UtcTime(ASN1DateTime::new(1, 2, 3, 4, 5, 6, Some(7), zone));
+    assert_all("equal", &[same])
+}
+
+/// Whether the first is less than the second, by each comparison.
+fn is_less<T: Ord>(one: &T, other: &T) -> bool {
+    let by_order = one.cmp(other).is_lt() && other.cmp(one).is_gt();
+    by_order && *one < *other && *one <= *other && *other > *one && *one != *other
+}
+
+#[test]
+fn zones_are_ordered(rt: HostRuntime) -> Result<(), Fail> {
+    let zones = [
+        ASN1TimeZone::Undefined,
+        ASN1TimeZone::Z,
+        ASN1TimeZone::Offset(-1, 9),
+        ASN1TimeZone::Offset(0, -1),
+        ASN1TimeZone::Offset(0, 0),
+        ASN1TimeZone::Offset(1, -9),
+    ];
+    for place in 1..zones.len() {
+        assert_all("a zone", &[is_less(&zones[place - 1], &zones[place])])?;
+    }
+    Ok(())
+}
+
+/// Two times of which the first is less in one field, and greater in all that follow it.
+#[test]
+fn fields_are_compared_in_their_order(rt: HostRuntime) -> Result<(), Fail> {
+    let (none, offset) = (ASN1TimeZone::Undefined, ASN1TimeZone::Offset(0, 0));
+    let times = [
+        ASN1DateTime::new(1, 9, 9, 9, 9, 9, Some(9), offset),
+        ASN1DateTime::new(2, 1, 9, 9, 9, 9, Some(9), offset),
+        ASN1DateTime::new(2, 2, 1, 9, 9, 9, Some(9), offset),
+        ASN1DateTime::new(2, 2, 2, 1, 9, 9, Some(9), offset),
+        ASN1DateTime::new(2, 2, 2, 2, 1, 9, Some(9), offset),
+        ASN1DateTime::new(2, 2, 2, 2, 2, 1, Some(9), offset),
+        ASN1DateTime::new(2, 2, 2, 2, 2, 2, None, offset),
+        ASN1DateTime::new(2, 2, 2, 2, 2, 2, Some(0), none),
+        ASN1DateTime::new(2, 2, 2, 2, 2, 2, Some(0), offset),
+    ];
+    for place in 1..times.len() {
+        assert_all("a time", &[is_less(&times[place - 1], &times[place])])?;
+    }
+    Ok(())
+}
+
+#[test]
+fn utc_times_are_ordered_as_their_fields(rt: HostRuntime) -> Result<(), Fail> {
+    let one = UtcTime::from_bytes(b"910625062345Z")?;
+    let facts = [
+        is_less(&UtcTime::from_bytes(b"910625062344Z")?, &one),
+        is_less(&one, &UtcTime::from_bytes(b"910625062345-0030")?),
+        one == UtcTime::from_bytes(b"910625062345Z")?,
+    ];
+    assert_all("UTCTime", &facts)
+}
