@@ -4,9 +4,10 @@ use asn1_rs::{
     Any, BmpString, CodedString, Error, FromBer, FromDer, GeneralString, GraphicString, Ia5String,
     NumericString, ObjectDescriptor, ParseResult, PrintableString, RestrictedString, TeletexString,
     TestValidCharset, ToDer, UniversalString, Utf8String, VideotexString, VisibleString,
-    numbers_of_coded_strings, numbers_of_strings,
+    numbers_of_coded_strings, numbers_of_strings, numbers_of_texts,
 };
 use std::alloc::Global;
+use std::fmt::Write;
 use std::test::Fail;
 use test_rows::{Calls, assert_rows, assert_shown, push_debug, push_digits};
 use test_values::{assert_cut, assert_written, push_written};
@@ -16,7 +17,6 @@ use test_values::{assert_cut, assert_written, push_written};
 const DECODED: &str = "\
 BmpString::from_der:
 1e080055007300650072 = 55736572 rest - written 1e080055007300650072 count 10 8 raw 1e080055007300650072
-1e820200+256*0061 = 256*61 rest - written 1e820200+256*0061 count 516 512 raw 1e820200+256*0061
 1e04d83dde00 = f09f9880 rest - written 1e04d83dde00 count 6 4 raw 1e04d83dde00
 1e0005 = - rest 05 written 1e00 count 2 0 raw 1e00
 3e020041 = Error(ConstructUnexpected)
@@ -37,7 +37,6 @@ BmpString::from_ber:
 
 UniversalString::from_der:
 1c04000000e9 = c3a9 rest - written 1c04000000e9 count 6 4 raw 1c04000000e9
-1c820400+256*00000061 = 256*61 rest - written 1c820400+256*00000061 count 1028 1024 raw 1c820400+256*00000061
 1c040000d800 = Error(StringInvalidCharset)
 1c0400110000 = Error(StringInvalidCharset)
 1c03000000 = Error(StringInvalidCharset)
@@ -50,6 +49,15 @@ UniversalString::from_ber:
 1c0400110000 = Error(StringInvalidCharset)
 1c03000000 = Error(StringInvalidCharset)
 0401ff = Error(UnexpectedTag { expected: Some(Tag(28)), actual: Tag(4) })
+";
+
+/// Strings of 256 letters, which are written by more than one piece. Where octets come from: see `DECODED`.
+const LONG: &str = "\
+BmpString:
+1e820200+256*0061 = 516 octets, the same
+
+UniversalString:
+1c820400+256*00000061 = 1028 octets, the same
 ";
 
 /// Elements as strings whose contents octets are the text. Those of UTF8String are of UTF-8 (RFC 3629), which has no
@@ -69,6 +77,24 @@ Utf8String::from_ber:
 0c02c080 = Error(StringInvalidCharset)
 0c03eda080 = Error(StringInvalidCharset)
 0401ff = Error(UnexpectedTag { expected: Some(Tag(12)), actual: Tag(4) })
+
+&str::from_der:
+0c02c3a9 = c3a9 rest - written 0c02c3a9 count 4 2 raw 0c02c3a9
+2c03040141 = Error(ConstructUnexpected)
+0c02c080 = Error(StringInvalidCharset)
+1301ff = Error(UnexpectedTag { expected: Some(Tag(12)), actual: Tag(19) })
+
+&str::from_ber:
+2c03040141 = 040141 rest - written 0c03040141 count 5 3 raw 0c03040141
+
+String::from_der:
+0c02c3a9 = c3a9 rest - written 0c02c3a9 count 4 2 raw 0c02c3a9
+2c03040141 = Error(ConstructUnexpected)
+0c02c080 = Error(StringInvalidCharset)
+1301ff = Error(UnexpectedTag { expected: Some(Tag(12)), actual: Tag(19) })
+
+String::from_ber:
+2c03040141 = 040141 rest - written 0c03040141 count 5 3 raw 0c03040141
 
 NumericString::from_der:
 1203313233 = 313233 rest - written 1203313233 count 5 3 raw 1203313233
@@ -122,6 +148,14 @@ Any::objectdescriptor:
 Any::utf8string:
 0c02c3a9 = c3a9 c3a9
 
+Any::str:
+2c02c3a9 = c3a9 c3a9
+0c01ff = StringInvalidCharset StringInvalidCharset
+
+Any::string:
+2c02c3a9 = c3a9 c3a9
+0c01ff = StringInvalidCharset StringInvalidCharset
+
 Any::numericstring:
 120131 = 31 31
 130131 = UnexpectedTag { expected: Some(Tag(18)), actual: Tag(19) } \
@@ -172,6 +206,18 @@ impl<K> Text for RestrictedString<'_, K> {
 }
 
 impl<K> Text for CodedString<'_, K> {
+    fn text(&self) -> &str {
+        self.as_str()
+    }
+}
+
+impl Text for &str {
+    fn text(&self) -> &str {
+        *self
+    }
+}
+
+impl Text for String {
     fn text(&self) -> &str {
         self.as_str()
     }
@@ -233,6 +279,10 @@ impl Calls for Readers {
             "UniversalString::from_ber" => push_by_ber::<UniversalString<'_>>(text, alloc, octets),
             "Utf8String::from_der" => push_by_der::<Utf8String<'_>>(text, alloc, octets),
             "Utf8String::from_ber" => push_by_ber::<Utf8String<'_>>(text, alloc, octets),
+            "&str::from_der" => push_by_der::<&str>(text, alloc, octets),
+            "&str::from_ber" => push_by_ber::<&str>(text, alloc, octets),
+            "String::from_der" => push_by_der::<String>(text, alloc, octets),
+            "String::from_ber" => push_by_ber::<String>(text, alloc, octets),
             "NumericString::from_der" => push_by_der::<NumericString<'_>>(text, alloc, octets),
             "PrintableString::from_der" => push_by_der::<PrintableString<'_>>(text, alloc, octets),
             "TeletexString::from_der" => push_by_der::<TeletexString<'_>>(text, alloc, octets),
@@ -247,6 +297,41 @@ impl Calls for Readers {
             _ => Ok(text.push_str("no such call")?),
         }
     }
+}
+
+/// How many octets are counted of what was read, and whether the same are written.
+fn push_count<'a, T: FromDer<'a, Error> + ToDer + Drop>(
+    text: &mut String,
+    alloc: Global,
+    octets: &'a [u8],
+) -> Result<(), Fail> {
+    let string = T::from_der(alloc, octets)?.1;
+    let len = string.to_der_len()?;
+    let written = string.to_der_vec(alloc)?;
+    let same = if written.as_slice() == octets {
+        "the same"
+    } else {
+        "others"
+    };
+    Ok(write!(text, "{len} octets, {same}")?)
+}
+
+/// The types of long strings.
+struct Long;
+
+impl Calls for Long {
+    fn answer(text: &mut String, alloc: Global, name: &str, octets: &[u8]) -> Result<(), Fail> {
+        match name {
+            "BmpString" => push_count::<BmpString<'_>>(text, alloc, octets),
+            "UniversalString" => push_count::<UniversalString<'_>>(text, alloc, octets),
+            _ => Ok(text.push_str("no such type")?),
+        }
+    }
+}
+
+#[test]
+fn long_strings_are_written(rt: HostRuntime) -> Result<(), Fail> {
+    assert_rows::<Long>(rt.alloc(), LONG)
 }
 
 #[test]
@@ -285,6 +370,8 @@ impl Calls for Conversions {
                 push_both(text, any.as_objectdescriptor(), any.objectdescriptor())
             }
             "Any::utf8string" => push_both(text, any.as_utf8string(), any.utf8string()),
+            "Any::str" => push_both(text, any.as_str(), any.str()),
+            "Any::string" => push_both(text, any.as_string(alloc), any.string(alloc)),
             "Any::numericstring" => push_both(text, any.as_numericstring(), any.numericstring()),
             "Any::printablestring" => {
                 push_both(text, any.as_printablestring(), any.printablestring())
@@ -375,12 +462,15 @@ fn any_text_is_written(rt: HostRuntime) -> Result<(), Fail> {
 #[test]
 fn characters_are_tested(rt: HostRuntime) -> Result<(), Fail> {
     let answers = (
+        BmpString::test_valid_charset(&[0xd8, 0x3d, 0xde, 0x00]),
+        BmpString::test_valid_charset(&[0xd8, 0x3d]),
         PrintableString::test_valid_charset(&[0x2a]),
         PrintableString::test_valid_charset(&[0x2b]),
         Utf8String::test_valid_charset(&[0xc0, 0x80]),
         Utf8String::test_valid_charset(&[0xc3, 0xa9]),
     );
-    let expected = "(Err(StringInvalidCharset), Ok(()), Err(StringInvalidCharset), Ok(()))";
+    let expected = "(Ok(()), Err(StringInvalidCharset), Err(StringInvalidCharset), Ok(()), \
+        Err(StringInvalidCharset), Ok(()))";
     assert_shown(rt.alloc(), &answers, expected)
 }
 
@@ -389,8 +479,12 @@ fn characters_are_tested(rt: HostRuntime) -> Result<(), Fail> {
 fn types_of_strings_are_numbered(rt: HostRuntime) -> Result<(), Fail> {
     assert_shown(
         rt.alloc(),
-        &(numbers_of_strings(), numbers_of_coded_strings()),
-        "([7, 12, 18, 19, 20, 21, 22, 25, 26, 27], [28, 30])",
+        &(
+            numbers_of_strings(),
+            numbers_of_coded_strings(),
+            numbers_of_texts(),
+        ),
+        "([7, 12, 18, 19, 20, 21, 22, 25, 26, 27], [28, 30], [12, 12])",
     )
 }
 
