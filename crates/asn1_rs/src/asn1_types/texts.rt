@@ -149,7 +149,7 @@ impl CheckDerConstraints for String {
     fn check_constraints(any: &Any<'_>) -> Result<(), Error>
         ensures { is_primitive (parts_of any.now) result }
     {
-        any.header.assert_primitive()
+        <&str as CheckDerConstraints>::check_constraints(any)
     }
 }
 
@@ -183,7 +183,7 @@ impl WritesOctets for String {
     ghost held = { string_bytes };
 
     fn contents_octets(&self) -> &[u8] {
-        self.as_bytes()
+        self.as_str().as_bytes()
     }
 
     ghost held_are = { copying_written owned_text_leaf owned_text_lawful };
