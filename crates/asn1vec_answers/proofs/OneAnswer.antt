@@ -1,10 +1,9 @@
 -- A line has one answer, except when out of memory.
-use Rattle.std.proofs.Common.{◌≡◌, ◌∙◌, sym, ap, subst, List, [], ◌∷◌, ◌++◌, length, ℕ, false, ◌⊎◌, inl, inr, refl, Ok, Err, codes, arith, Option, Some, append_assoc, Result}
-use Rattle.std.specs.Prelude.{ℤ, pos, decimal}
+use Rattle.std.proofs.Common.{◌≡◌, ◌∙◌, sym, ap, subst, List, [], ◌∷◌, ◌++◌, length, ℕ, true, false, ◌⊎◌, inl, inr, refl, Ok, Err, codes, arith, Option, Some, Result}
+use Rattle.std.specs.Prelude.{ℤ, pos, decimal, Bool as Truth}
 use Rattle.std.specs.Fmt.{signed_decimal}
 use Rattle.std.proofs.Math.Dec.{eqb}
-use Rattle.std.specs.List.{find, All, AllByRecursion}
-use Rattle.std.proofs.lemmas.List.Elements.{recursion_from_All}
+use Rattle.std.specs.List.{find}
 use Rattle.std.specs.Cmp.Lexicographic.{pointwise}
 use Rattle.x690.specs.Signed.{IsSigned}
 use Rattle.asn1_headers.specs.declared.error.Error.{Error}
@@ -19,7 +18,7 @@ use Rattle.asn1_rs.specs.Boolean.{bool_leaf}
 use Rattle.asn1_rs.specs.EndOfContent.{end_leaf}
 use Rattle.asn1_rs.specs.Enumerated.{enumerated_leaf}
 use Rattle.asn1_rs.specs.Integer.Octets.{any_integer_leaf, octets_held}
-use Rattle.asn1_rs.specs.Leaf.{Leaf, IsLawfulLeaf, LeafBody, LeafGives, LendsContent}
+use Rattle.asn1_rs.specs.Leaf.{Leaf, IsLawfulLeafUpTo, LeafBody, LeafGives, LeafTakes, LendsContent}
 use Rattle.asn1_rs.specs.Null.{null_leaf}
 use Rattle.asn1_rs.specs.OctetString.{octet_string_leaf, cow_of}
 use Rattle.asn1_rs.specs.Laws.BitString.{bit_string_lawful}
@@ -42,14 +41,14 @@ use Rattle.asn1vec_answers.specs.declared.request.Rule.{Rule}
 use Rattle.asn1vec_answers.specs.declared.types.TypeName.{TypeName}
 use Rattle.asn1vec_answers.specs.declared.types.TypeName.TheVariants.{U8, U16, U32, U64, U128, I8, I16, I32, I64, I128, Any, Bool, Null, Enumerated, Integer, Octets, Bits, Eoc, VecU8, VecU32, VecBool, VecVecU8, SetOfU8, BTreeSetU8, Sequence, Set, SeqOfU32, Explicit0U32, Explicit31U8, VecExplicit31U8, OptU8, HashSetI8, Implicit1VecU16, Oid}
 use Rattle.asn1vec_answers.specs.Request.{IsRequest}
-use Rattle.asn1vec_answers.specs.Shown.{IsWritten, bits_text, element_text, identifier_text, in_hexadecimal, truth_text}
+use Rattle.asn1vec_answers.specs.Shown.{Encoding, IsWritten, IsWrittenUnless, bits_text, element_text, identifier_text, in_hexadecimal, truth_text}
 use Rattle.asn1vec_answers.specs.Meaning.{Meaning}
-use Rattle.asn1vec_answers.specs.Types.{has_items, name_of, meaning_of, integers, elements, identifiers, leaf, leaf_by, lent_leaf, leaf_octets, ends, Names, IsTypeAnswer}
+use Rattle.asn1vec_answers.specs.Types.{name_allocates, name_of, meaning_of, integers, elements, identifiers, LeafEncoding, copying_leaf, leaf, leaf_by, lent_leaf, leaf_octets, refusing_leaf, ends, Names, IsTypeAnswer}
 use Rattle.asn1vec_answers.specs.Answer.{IsRequestAnswer, IsRefusedLine, IsAnswered, IsAnswer}
-use Rattle.asn1vec_answers.specs.Memory.{AsksForNoItems, DifferByMemory, AreAlike, TakesNoMemory}
-use Rattle.asn1vec_answers.proofs.OneReading.{HasOneAnswer, ShownAlike, answers_alike, optional_once, readings_weaker, strict_same, written_same, ber_same, either_same}
+use Rattle.asn1vec_answers.specs.Memory.{AsksForNoneThatAllocates, DifferByMemory, AreAlike, TakesNoMemory}
+use Rattle.asn1vec_answers.proofs.OneReading.{HasOneAnswer, SameEncoding, ShownAlike, answers_alike, optional_once, readings_weaker, strict_same, unless_same, written_same, ber_same, either_same}
 use Rattle.asn1vec_answers.proofs.OneItem.{alone_once, collection_once, hashed_signed_once, leaf_item_once, ordered_unsigned_once, sequence_of_once, unordered_set_once, unsigned_once, vector_once}
-use Rattle.asn1vec_answers.proofs.OneRefusal.{IsOneRefusalBut, one_of_parts}
+use Rattle.asn1vec_answers.proofs.OneRefusal.{IsOneRefusal, IsOneRefusalBut, KeepsNames, one_name, one_of_copied, one_of_parts, whole_keeps}
 use Rattle.asn1vec_answers.proofs.OneTag.{explicit_once, implicit_vector_once}
 use Rattle.asn1_rs.specs.Kept.{sequence_leaf, set_leaf}
 use Rattle.asn1_rs.specs.Laws.Kept.{sequence_lawful, set_lawful}
@@ -62,8 +61,8 @@ use Rattle.asn1vec_answers.proofs.Split.{requests_same}
 integers_once : {T : Type 0} (number : T → ℤ) (Holds : ℤ → Type 0) (refuses : List ℕ → Error → Type 0) → ((c : List ℕ) (e f : Error) → refuses c e → refuses c f → e ≡ f) → HasOneAnswer (integers number Holds refuses)
 integers_once {T} number Holds refuses one rule octets a b p q =
     readings_weaker _ (ShownAlike (integers number Holds refuses)) false shown a b
-    (either_same (IntegerBody Holds) number false (OfParts (IntegerGives number Holds refuses)) (integer_lawful Holds number).body_one (one_of_parts (IntegerGives number Holds refuses) (one_integer_refusal refuses one))
-    IntegerCheckGives IntegerCheck one_integer_check_refusal (λ p e h k. integer_checks.exact p (Err e) k h) rule octets a b p q)
+    (either_same (IntegerBody Holds) number false (OfParts (IntegerGives number Holds refuses)) (integer_lawful Holds number).body_one (one_of_parts (IntegerGives number Holds refuses) (one_name whole_keeps (IntegerGives number Holds refuses) (one_integer_refusal refuses one)))
+    IntegerCheckGives IntegerCheck (one_name whole_keeps IntegerCheckGives one_integer_check_refusal) (λ p e h k. integer_checks.exact p (Err e) k h) rule octets a b p q)
   where
     shown : (x y : T) → number x ≡ number y → ShownAlike (integers number Holds refuses) x y
     shown x y same = record { text = ap signed_decimal same; encoding = strict_same (IntegerForm Holds) (integer_lawful Holds number).one_form false (number x) (number y) same }
@@ -71,7 +70,7 @@ integers_once {T} number Holds refuses one rule octets a b p q =
 elements_once : HasOneAnswer elements
 elements_once rule octets a b p q =
     readings_weaker _ (ShownAlike elements) false shown a b
-    (either_same ElementBody element_of false IsTheElement element_lawful.body_one (λ a b e f same h k. absurd h) IsDefiniteOr ElementCheck (λ p e f h k. h.1 ∙ sym k.1) (λ p e h k. element_checks.exact p (Err e) k h) rule octets a b p q)
+    (either_same ElementBody element_of false IsTheElement element_lawful.body_one (λ a b e f same h k. absurd h) IsDefiniteOr ElementCheck (one_name whole_keeps IsDefiniteOr (λ p e f h k. h.1 ∙ sym k.1)) (λ p e h k. element_checks.exact p (Err e) k h) rule octets a b p q)
   where
     shown : (x y : AnyElement) → element_of x ≡ element_of y → ShownAlike elements x y
     shown x y same = record { text = ap element_text same; encoding = strict_same ElementForm element_lawful.one_form false (element_of x) (element_of y) same }
@@ -79,7 +78,7 @@ elements_once rule octets a b p q =
 identifiers_once : HasOneAnswer identifiers
 identifiers_once rule octets a b p q =
     readings_weaker _ (ShownAlike identifiers) false shown a b
-    (either_same oid_element.Body oid_value false OidGives oid_lawful.body_one (λ a b e f same h k. absurd h) oid_constraints oid_element.Check oid_constraints_are.one (λ p e h k. oid_constraints_are.apart p e h k) rule octets a b p q)
+    (either_same oid_element.Body oid_value false OidGives oid_lawful.body_one (λ a b e f same h k. absurd h) oid_constraints oid_element.Check (one_name whole_keeps oid_constraints oid_constraints_are.one) (λ p e h k. oid_constraints_are.apart p e h k) rule octets a b p q)
   where
     written : OidValue → List ℕ
     written v = header_octets 0 false (written_number v.relative) (length v.octets) ++ v.octets
@@ -87,28 +86,40 @@ identifiers_once rule octets a b p q =
     shown : (x y : Identifier) → oid_value x ≡ oid_value y → ShownAlike identifiers x y
     shown x y same = record { text = ap identifier_text same; encoding = λ e f h k. written_same false (written (oid_value y)) e f (subst (λ (v : OidValue). IsWritten false (written v) e) same h) k }
 
--- a leaf type
-leaf_by_once : {T : Type 0} (L : Leaf T) (converts : AnyElement → Result T Error → Type 0) (text : L.Value → List ℕ) → IsLawfulLeaf L → IsOneRefusalBut false converts → HasOneAnswer (leaf_by L converts text)
-leaf_by_once {T} L converts text l one rule octets a b p q =
-    let check = (leaf_one_refusal L l).1 in
-    readings_weaker _ (ShownAlike (leaf_by L converts text)) false shown a b
-    (either_same (LeafBody L) L.value false converts (leaf_lawful L l).body_one one
-    L.constraints (λ p. L.constraints p (Ok tt)) check.one (λ p e h k. check.none p tt e h k) rule octets a b p q)
-  where
-    shown : (x y : T) → L.value x ≡ L.value y → ShownAlike (leaf_by L converts text) x y
-    shown x y same = record { text = ap text same; encoding = λ e f h k. written_same false (leaf_octets L (L.value y)) e f (subst (λ (v : L.Value). IsWritten false (leaf_octets L v) e) same h) k }
+-- a leaf type, whose refusals have one name where `key` does not tell them apart
+module _ {K : Type 0} {key : Error → K} (keeps : KeepsNames key) {T : Type 0} (L : Leaf T) (l : IsLawfulLeafUpTo key L) where
+  conversion_once : IsOneRefusal (LeafGives L)
+  conversion_once = one_name keeps (LeafGives L) (leaf_one_refusal L l).0.one
 
-leaf_once : {T : Type 0} (L : Leaf T) (text : L.Value → List ℕ) → IsLawfulLeaf L → HasOneAnswer (leaf L text)
-leaf_once L text l = leaf_by_once L (OfParts (LeafGives L)) text l (one_of_parts (LeafGives L) (leaf_one_refusal L l).0.one)
+  leaf_by_once : (allocates : Truth) (converts : AnyElement → Result T Error → Type 0) (Encodes : L.Value → Encoding → Type 0) (text : L.Value → List ℕ) → IsOneRefusalBut allocates converts
+      → ((v : L.Value) (e f : Encoding) → Encodes v e → Encodes v f → SameEncoding false e f) → HasOneAnswer (leaf_by allocates L converts Encodes text)
+  leaf_by_once allocates converts Encodes text one encoding rule octets a b p q =
+      let check = (leaf_one_refusal L l).1 in
+      readings_weaker _ (ShownAlike (leaf_by allocates L converts Encodes text)) allocates shown a b
+      (either_same (LeafBody L) L.value allocates converts (leaf_lawful L l).body_one one
+      L.constraints (λ p. L.constraints p (Ok tt)) (one_name keeps L.constraints check.one) (λ p e h k. check.none p tt e h k) rule octets a b p q)
+    where
+      shown : (x y : T) → L.value x ≡ L.value y → ShownAlike (leaf_by allocates L converts Encodes text) x y
+      shown x y same = record { text = ap text same; encoding = λ e f h k. encoding (L.value y) e f (subst (λ (v : L.Value). Encodes v e) same h) k }
 
-lent_once : {T : Type 0} (L : Leaf T) (content : T → CowSlice ℕ Global) (text : L.Value → List ℕ) → IsLawfulLeaf L → HasOneAnswer (lent_leaf L content text)
-lent_once L content text l = leaf_by_once L (LendsContent L content) text l (λ a b e f same h k. one_of_parts (LeafGives L) (leaf_one_refusal L l).0.one a b e f same h.0 k.0)
+  leaf_once : (text : L.Value → List ℕ) → HasOneAnswer (leaf L text)
+  leaf_once text = leaf_by_once false (OfParts (LeafGives L)) (LeafEncoding L) text (one_of_parts (LeafGives L) conversion_once) (λ v. written_same false (leaf_octets L v))
+
+  lent_once : (content : T → CowSlice ℕ Global) (text : L.Value → List ℕ) → HasOneAnswer (lent_leaf L content text)
+  lent_once content text = leaf_by_once false (LendsContent L content) (LeafEncoding L) text (λ a b e f same h k. one_of_parts (LeafGives L) conversion_once a b e f same h.0 k.0) (λ v. written_same false (leaf_octets L v))
+
+  copying_once : (text : L.Value → List ℕ) → HasOneAnswer (copying_leaf L text)
+  copying_once text = leaf_by_once true (OfParts (LeafTakes L)) (LeafEncoding L) text (one_of_copied L conversion_once) (λ v. written_same false (leaf_octets L v))
+
+  refusing_once : (is_refused : L.Value → Truth) (refusal : Error) (text : L.Value → List ℕ) → HasOneAnswer (refusing_leaf L is_refused refusal text)
+  refusing_once is_refused refusal text =
+      leaf_by_once false (OfParts (LeafGives L)) (λ v. IsWrittenUnless (is_refused v) refusal (leaf_octets L v)) text (one_of_parts (LeafGives L) conversion_once) (λ v. unless_same (is_refused v) refusal (leaf_octets L v))
 
 -- the end of contents
 ends_once : HasOneAnswer ends
 ends_once rule octets a b p q =
     readings_weaker _ (ShownAlike ends) false shown a b
-    (ber_same (LeafBody end_leaf) end_leaf.value false (OfParts (LeafGives end_leaf)) (leaf_lawful end_leaf end_lawful).body_one (one_of_parts (LeafGives end_leaf) (leaf_one_refusal end_leaf end_lawful).0.one) octets a b p q)
+    (ber_same (LeafBody end_leaf) end_leaf.value false (OfParts (LeafGives end_leaf)) (leaf_lawful end_leaf end_lawful).body_one (one_of_parts (LeafGives end_leaf) (conversion_once whole_keeps end_leaf end_lawful)) octets a b p q)
   where
     shown : (x y : EndOfContent) → end_leaf.value x ≡ end_leaf.value y → ShownAlike ends x y
     shown x y same = record { text = refl; encoding = λ e f h k. rw (h, k) tt }
@@ -125,21 +136,21 @@ type_once I32 = integers_once (λ n. n) (IsSigned 4) (SignedRefuses 4) (one_sign
 type_once I64 = integers_once (λ n. n) (IsSigned 8) (SignedRefuses 8) (one_signed_refusal 8)
 type_once I128 = integers_once (λ n. n) (IsSigned 16) (SignedRefuses 16) (one_signed_refusal 16)
 type_once Any = elements_once
-type_once Bool = leaf_once bool_leaf truth_text bool_lawful
-type_once Null = leaf_once null_leaf (λ v. codes "null") null_lawful
-type_once Enumerated = leaf_once enumerated_leaf decimal enumerated_lawful
-type_once Integer = lent_once any_integer_leaf octets_held in_hexadecimal any_integer_lawful
-type_once Octets = lent_once octet_string_leaf cow_of in_hexadecimal octet_string_lawful
-type_once Bits = lent_once bit_string_leaf (λ x. x.content) bits_text bit_string_lawful
+type_once Bool = leaf_once whole_keeps bool_leaf bool_lawful truth_text
+type_once Null = leaf_once whole_keeps null_leaf null_lawful (λ v. codes "null")
+type_once Enumerated = leaf_once whole_keeps enumerated_leaf enumerated_lawful decimal
+type_once Integer = lent_once whole_keeps any_integer_leaf any_integer_lawful octets_held in_hexadecimal
+type_once Octets = lent_once whole_keeps octet_string_leaf octet_string_lawful cow_of in_hexadecimal
+type_once Bits = lent_once whole_keeps bit_string_leaf bit_string_lawful (λ x. x.content) bits_text
 type_once Eoc = ends_once
 type_once VecU8 = collection_once _ (vector_once _ (unsigned_once 1))
 type_once VecU32 = collection_once _ (vector_once _ (unsigned_once 4))
-type_once VecBool = collection_once _ (vector_once _ (leaf_item_once bool_leaf truth_text bool_lawful))
+type_once VecBool = collection_once _ (vector_once _ (leaf_item_once whole_keeps bool_leaf truth_text bool_lawful))
 type_once VecVecU8 = collection_once _ (vector_once _ (vector_once _ (unsigned_once 1)))
 type_once SetOfU8 = collection_once _ (unordered_set_once _ (unsigned_once 1))
 type_once BTreeSetU8 = collection_once _ (ordered_unsigned_once 1)
-type_once Sequence = lent_once sequence_leaf (λ x. x.content) in_hexadecimal sequence_lawful
-type_once Set = lent_once set_leaf (λ x. x.content) in_hexadecimal set_lawful
+type_once Sequence = lent_once whole_keeps sequence_leaf sequence_lawful (λ x. x.content) in_hexadecimal
+type_once Set = lent_once whole_keeps set_leaf set_lawful (λ x. x.content) in_hexadecimal
 type_once SeqOfU32 = collection_once _ (sequence_of_once _ (unsigned_once 4))
 type_once Explicit0U32 = alone_once false _ (explicit_once 0 _ (unsigned_once 4))
 type_once Explicit31U8 = alone_once false _ (explicit_once 31 _ (unsigned_once 1))
@@ -149,7 +160,7 @@ type_once HashSetI8 = collection_once _ (hashed_signed_once 1)
 type_once Implicit1VecU16 = collection_once _ (implicit_vector_once 1 _ (unsigned_once 2))
 type_once Oid = identifiers_once
 
-allocates_none : (t : TypeName) → has_items t ≡ false → ((meaning_of t).reading_allocates ≡ false) × ((meaning_of t).writing_allocates ≡ false)
+allocates_none : (t : TypeName) → name_allocates t ≡ false → ((meaning_of t).reading_allocates ≡ false) × ((meaning_of t).writing_allocates ≡ false)
 allocates_none t none = grind arith
 
 -- ---- a line
@@ -205,5 +216,5 @@ answered_once line text other none a b = once (answered_alike line text other a 
     once (inl same) = same
     once (inr (t, asks, memory)) = absurd (no_difference (meaning_of t) text other (none t asks) memory)
 
-pub takes_no_memory : (line : List ℕ) → AsksForNoItems line → TakesNoMemory line
+pub takes_no_memory : (line : List ℕ) → AsksForNoneThatAllocates line → TakesNoMemory line
 takes_no_memory line none t asks = allocates_none t (none t asks)

@@ -23,7 +23,7 @@ use Rattle.asn1_rs.specs.Grammar.Item.{IsLawfulItem}
 use Rattle.asn1_headers.specs.Header.Reading.{ber_breach, der_breach}
 use Rattle.asn1_rs.specs.Integer.{IntegerCheckGives, IsUnsigned, SignedGives, SignedRefuses, UnsignedGives, UnsignedRefuses, integer_element}
 use Rattle.asn1_rs.specs.Kinds.{ElementGrammar, IsExactCheck, IsExactConversion, IsLawfulElement}
-use Rattle.asn1_rs.specs.Leaf.{IsLawfulLeaf, Leaf, LeafGives, leaf_element}
+use Rattle.asn1_rs.specs.Leaf.{IsLawfulLeafUpTo, Leaf, LeafGives, leaf_element}
 use Rattle.asn1_rs.specs.Laws.Leaf.{leaf_constraints, leaf_converts, leaf_lawful, leaf_one_refusal}
 use Rattle.asn1_rs.specs.Lists.{has_items}
 use Rattle.asn1_rs.specs.declared.asn1_types.set.set_of.SetOf.{SetOf}
@@ -57,7 +57,7 @@ use Rattle.asn1_rs.specs.Sequence.SequenceOf.{IsSequenceOf, sequence_items}
 use Rattle.asn1vec_answers.specs.Types.{Item, alone, collection, hashed_set, leaf_item, ordered_set, sequence, sequence_of, signed_item, unordered_set, unsigned_item, vector}
 use Rattle.asn1vec_answers.proofs.OneList.{IsOneReader, read_by_der, taken_by_ber, taken_by_der}
 use Rattle.asn1vec_answers.proofs.OneReading.{HasOneAnswer, SameEncoding, SameReading, ShownAlike, ber_same, der_same, readings_weaker, written_same}
-use Rattle.asn1vec_answers.proofs.OneRefusal.{IsOneRefusal, IsOneRefusalBut, one_of_parts}
+use Rattle.asn1vec_answers.proofs.OneRefusal.{IsOneRefusal, IsOneRefusalBut, KeepsNames, one_name, one_of_parts, whole_keeps}
 
 -- ---- what there is to show of a type of items
 
@@ -193,12 +193,15 @@ module _ {S : Type 0} (G : ElementGrammar S) (lawful : IsLawfulElement G) (conve
       exact : (octets : List ℕ) (answer : Reading S) → DerGives check convert Same octets answer → Exactly IsCutIdentifier (DerWord G.Check G.Body) G.value (TellsMemory G.allocates Same) octets answer
       exact = element_exact IsDerElement DerElementFault IsCutIdentifier der_elements der_breach check convert Same G.Check G.Body G.value G.allocates (DerWord G.Check G.Body) checks.exact converts.exact (λ o v w. w) (λ o v w. w)
 
+integer_check : IsOneRefusal IntegerCheckGives
+integer_check = one_name whole_keeps IntegerCheckGives one_integer_check_refusal
+
 pos_same : (x y : ℕ) → pos x ≡ pos y → x ≡ y
 pos_same x y e = cc
 
 module _ (size : ℕ) where
   unsigned_conversion : IsOneRefusalBut false (OfParts (UnsignedGives size))
-  unsigned_conversion = one_of_parts (UnsignedGives size) (one_integer_refusal (UnsignedRefuses size) (one_unsigned_refusal size))
+  unsigned_conversion = one_of_parts (UnsignedGives size) (one_name whole_keeps (UnsignedGives size) (one_integer_refusal (UnsignedRefuses size) (one_unsigned_refusal size)))
 
   pub unsigned_once : IsOneItem (unsigned_item size)
   unsigned_once =
@@ -209,8 +212,8 @@ module _ (size : ℕ) where
         view = pos;
         text = λ x y e. ap decimal (pos_same x y e);
         value = λ x y e. e;
-        ber = element_by_ber G lawful (OfParts (UnsignedGives size)) (unsigned_converts size) unsigned_conversion IntegerCheckGives integer_checks one_integer_check_refusal;
-        der = element_by_der G lawful (OfParts (UnsignedGives size)) (unsigned_converts size) unsigned_conversion IntegerCheckGives integer_checks one_integer_check_refusal;
+        ber = element_by_ber G lawful (OfParts (UnsignedGives size)) (unsigned_converts size) unsigned_conversion IntegerCheckGives integer_checks integer_check;
+        der = element_by_der G lawful (OfParts (UnsignedGives size)) (unsigned_converts size) unsigned_conversion IntegerCheckGives integer_checks integer_check;
         lawful = lawful_item G lawful;
       }
 
@@ -222,7 +225,7 @@ module _ (size : ℕ) where
 -- the same of signed integers
 module _ (size : ℕ) where
   signed_conversion : IsOneRefusalBut false (OfParts (SignedGives size))
-  signed_conversion = one_of_parts (SignedGives size) (one_integer_refusal (SignedRefuses size) (one_signed_refusal size))
+  signed_conversion = one_of_parts (SignedGives size) (one_name whole_keeps (SignedGives size) (one_integer_refusal (SignedRefuses size) (one_signed_refusal size)))
 
   pub signed_once : IsOneItem (signed_item size)
   signed_once =
@@ -233,8 +236,8 @@ module _ (size : ℕ) where
         view = λ n. n;
         text = λ x y e. ap signed_decimal e;
         value = λ x y e. e;
-        ber = element_by_ber G lawful (OfParts (SignedGives size)) (signed_converts size) signed_conversion IntegerCheckGives integer_checks one_integer_check_refusal;
-        der = element_by_der G lawful (OfParts (SignedGives size)) (signed_converts size) signed_conversion IntegerCheckGives integer_checks one_integer_check_refusal;
+        ber = element_by_ber G lawful (OfParts (SignedGives size)) (signed_converts size) signed_conversion IntegerCheckGives integer_checks integer_check;
+        der = element_by_der G lawful (OfParts (SignedGives size)) (signed_converts size) signed_conversion IntegerCheckGives integer_checks integer_check;
         lawful = lawful_item G lawful;
       }
 
@@ -244,17 +247,18 @@ module _ (size : ℕ) where
   hashed_signed_once = hashed_set_once (signed_item size) signed_once int_cmp int_cmp_total exact_signed signed_equal (λ x y e. e)
 
 -- the values of a leaf type
-pub leaf_item_once : {S : Type 0} (L : Leaf S) (text : L.Value → List ℕ) → IsLawfulLeaf L → IsOneItem (leaf_item L text)
-leaf_item_once L text lawful =
+pub leaf_item_once : {K : Type 0} {key : Error → K} → KeepsNames key → {S : Type 0} (L : Leaf S) (text : L.Value → List ℕ) → IsLawfulLeafUpTo key L → IsOneItem (leaf_item L text)
+leaf_item_once keeps L text lawful =
     let one = leaf_one_refusal L lawful in
-    let conversion = one_of_parts (LeafGives L) one.0.one in
+    let conversion = one_of_parts (LeafGives L) (one_name keeps (LeafGives L) one.0.one) in
+    let check = one_name keeps L.constraints one.1.one in
     record {
       D = L.Value;
       view = L.value;
       text = λ x y e. ap text e;
       value = λ x y e. e;
-      ber = element_by_ber (leaf_element L) (leaf_lawful L lawful) (OfParts (LeafGives L)) (leaf_converts L lawful) conversion L.constraints (leaf_constraints L lawful) one.1.one;
-      der = element_by_der (leaf_element L) (leaf_lawful L lawful) (OfParts (LeafGives L)) (leaf_converts L lawful) conversion L.constraints (leaf_constraints L lawful) one.1.one;
+      ber = element_by_ber (leaf_element L) (leaf_lawful L lawful) (OfParts (LeafGives L)) (leaf_converts L lawful) conversion L.constraints (leaf_constraints L lawful) check;
+      der = element_by_der (leaf_element L) (leaf_lawful L lawful) (OfParts (LeafGives L)) (leaf_converts L lawful) conversion L.constraints (leaf_constraints L lawful) check;
       lawful = lawful_item (leaf_element L) (leaf_lawful L lawful);
     }
 

@@ -9,7 +9,7 @@ use Rattle.x690.specs.Identifiers.{IsCutIdentifier}
 use Rattle.asn1_headers.specs.declared.error.Err.{Err as Refusal}
 use Rattle.asn1_headers.specs.declared.error.Err.TheVariants.{Error as refused, Incomplete as cut, Failure as failed}
 use Rattle.asn1_headers.specs.declared.error.Error.{Error}
-use Rattle.asn1_headers.specs.declared.error.Error.TheVariants.{OutOfMemory}
+use Rattle.asn1_headers.specs.declared.error.Error.TheVariants.{Incomplete, OutOfMemory}
 use Rattle.asn1_rs.specs.declared.asn1_types.any.Any.{Any}
 use Rattle.asn1_rs.specs.Any.{BeginsWithElement, parts_of}
 use Rattle.asn1_headers.specs.Ber.{max_depth, EndsWithin}
@@ -19,8 +19,9 @@ use Rattle.asn1_rs.specs.Lists.{IsListOr, ListGives, ListReads, ListTakes}
 use Rattle.asn1_headers.specs.Walk.{TakesItem, EndsItem}
 use Rattle.asn1_rs.specs.Traits.{BerGives, DerGives, ElementGives, OfParts, PassesAll}
 use Rattle.asn1_rs.specs.Laws.Readers.{AreElements, ber_elements, der_elements}
+use Rattle.asn1vec_answers.specs.Names.{name_of_error}
 use Rattle.asn1vec_answers.specs.Shown.{Reading, Same}
-use Rattle.asn1vec_answers.proofs.OneRefusal.{IsSameBut, no_memory, one_reading_refusal, same_parts, same_tail, element_or_fault}
+use Rattle.asn1vec_answers.proofs.OneRefusal.{SameError, SameRefusal, named, no_memory, one_reading_refusal, same_parts, same_tail, element_or_fault}
 use Rattle.asn1vec_answers.proofs.OneReading.{SameReading, one_pass, passed}
 
 -- Two answers to the same octets are the same, as far as `view` sees of a value, but that one of them may be out of memory.
@@ -32,7 +33,7 @@ abbrev pub SameResult : {T D : Type 0} → (T → D) → Bool → Result T Error
 SameResult view allocates (Ok x) (Ok y) = view x ≡ view y
 SameResult view allocates (Ok x) (Err f) = (allocates ≡ true) × (f ≡ OutOfMemory)
 SameResult view allocates (Err e) (Ok y) = (allocates ≡ true) × (e ≡ OutOfMemory)
-SameResult view allocates (Err e) (Err f) = IsSameBut OutOfMemory allocates e f
+SameResult view allocates (Err e) (Err f) = SameError allocates e f
 
 abbrev pub IsOneConversion : {T D : Type 0} → (T → D) → Bool → (Parts → Result T Error → Type 0) → Type 0
 IsOneConversion {T} view allocates convert = (p : Parts) (a b : Result T Error) → convert p a → convert p b → SameResult view allocates a b
@@ -41,20 +42,28 @@ IsOneConversion {T} view allocates convert = (p : Parts) (a b : Result T Error) 
 pub flattened_memory : (r : Refusal Error) (e : Error) → r ≡ no_memory → FlattenedTo (λ x y. y ≡ x) Same r e → e ≡ OutOfMemory
 flattened_memory r e is flat = let same : FlattenedTo (λ x y. y ≡ x) Same no_memory e = subst (λ (q : Refusal Error). FlattenedTo (λ x y. y ≡ x) Same q e) is flat in same
 
-one_flattened : (r : Refusal Error) (e f : Error) → FlattenedTo (λ x y. y ≡ x) Same r e → FlattenedTo (λ x y. y ≡ x) Same r f → e ≡ f
-one_flattened (cut n) e f h k = h ∙ sym k
-one_flattened (refused x) e f h k = h ∙ sym k
-one_flattened (failed x) e f h k = h ∙ sym k
+named_flattened : (q r : Refusal Error) (e f : Error) → named q ≡ named r → FlattenedTo (λ x y. y ≡ x) Same q e → FlattenedTo (λ x y. y ≡ x) Same r f → name_of_error e ≡ name_of_error f
+named_flattened q r e f same h k = flat q e h ∙ ap name same ∙ sym (flat r f k)
+  where
+    name : Refusal (List ℕ) → List ℕ
+    name (cut n) = name_of_error (Incomplete n)
+    name (refused word) = word
+    name (failed word) = word
 
-pub flattened_same : (allocates : Bool) (q r : Refusal Error) (e f : Error) → IsSameBut no_memory allocates q r → FlattenedTo (λ x y. y ≡ x) Same q e → FlattenedTo (λ x y. y ≡ x) Same r f → IsSameBut OutOfMemory allocates e f
-flattened_same allocates q r e f (inl same) h k = inl (one_flattened q e f h (subst (λ (x : Refusal Error). FlattenedTo (λ x y. y ≡ x) Same x f) (sym same) k))
+    flat : (r : Refusal Error) (e : Error) → FlattenedTo (λ x y. y ≡ x) Same r e → name_of_error e ≡ name (named r)
+    flat (cut n) e h = ap name_of_error h
+    flat (refused x) e h = ap name_of_error h
+    flat (failed x) e h = ap name_of_error h
+
+pub flattened_same : (allocates : Bool) (q r : Refusal Error) (e f : Error) → SameRefusal allocates q r → FlattenedTo (λ x y. y ≡ x) Same q e → FlattenedTo (λ x y. y ≡ x) Same r f → SameError allocates e f
+flattened_same allocates q r e f (inl same) h k = inl (named_flattened q r e f same h k)
 flattened_same allocates q r e f (inr (takes, inl memory)) h k = inr (takes, inl (flattened_memory q e memory h))
 flattened_same allocates q r e f (inr (takes, inr memory)) h k = inr (takes, inr (flattened_memory r f memory k))
 
 -- and where memory may be allocated all the more
-allowed : {A : Type 0} (memory : A) (allocates : Bool) (a b : A) → IsSameBut memory allocates a b → IsSameBut memory true a b
-allowed memory allocates a b (inl same) = inl same
-allowed memory allocates a b (inr (takes, which)) = inr (refl, which)
+allowed : (allocates : Bool) (e f : Error) → SameError allocates e f → SameError true e f
+allowed allocates e f (inl same) = inl same
+allowed allocates e f (inr (takes, which)) = inr (refl, which)
 
 one_pass_none : (p : Parts) (e : Error) → PassesAll p (Err e) → ⊥
 one_pass_none p e h = cc
@@ -115,11 +124,11 @@ module _ {T D : Type 0} (view : T → D) (takes : Bool) (reads : List ℕ → Re
   item_or_end octets rest x (Err r) e less is too flat = flattened_memory r e (once octets (Ok (rest, x)) (Err r) is too).1 flat
 
   -- two refusals
-  ends_same : (octets : List ℕ) (a b : Reading T) (e f : Error) → reads octets a → reads octets b → EndsItem Same octets a e → EndsItem Same octets b f → IsSameBut OutOfMemory true e f
-  ends_same octets (Ok x) (Ok y) e f is too (long, h) (past, k) = inl (h ∙ sym k)
+  ends_same : (octets : List ℕ) (a b : Reading T) (e f : Error) → reads octets a → reads octets b → EndsItem Same octets a e → EndsItem Same octets b f → SameError true e f
+  ends_same octets (Ok x) (Ok y) e f is too (long, h) (past, k) = inl (ap name_of_error (h ∙ sym k))
   ends_same octets (Ok x) (Err r) e f is too h k = inr (refl, inr (flattened_memory r f (once octets (Ok x) (Err r) is too).1 k))
   ends_same octets (Err q) (Ok y) e f is too h k = inr (refl, inl (flattened_memory q e (once octets (Err q) (Ok y) is too).1 h))
-  ends_same octets (Err q) (Err r) e f is too h k = allowed OutOfMemory takes e f (flattened_same takes q r e f (once octets (Err q) (Err r) is too) h k)
+  ends_same octets (Err q) (Err r) e f is too h k = allowed takes e f (flattened_same takes q r e f (once octets (Err q) (Err r) is too) h k)
 
   same_rest : (octets rest tail : List ℕ) (x y : T) → reads octets (Ok (rest, x)) → reads octets (Ok (tail, y)) → (view x ≡ view y) × (tail ≡ rest)
   same_rest octets rest tail x y is too = let same = once octets (Ok (rest, x)) (Ok (tail, y)) is too in (same.0, sym same.1)
@@ -143,7 +152,7 @@ module _ {T D : Type 0} (view : T → D) (takes : Bool) (reads : List ℕ → Re
       walk_or_end j left xs ys e more (subst (λ (l : List ℕ). Takes l (map Ok ys ++ Err e ∷ []) left) same.1 after)
 
   -- two walks that refusals ended
-  ended_same : (octets left last : List ℕ) (xs ys : List T) (e f : Error) → Takes octets (map Ok xs ++ Err e ∷ []) left → Takes octets (map Ok ys ++ Err f ∷ []) last → IsSameBut OutOfMemory true e f
+  ended_same : (octets left last : List ℕ) (xs ys : List T) (e f : Error) → Takes octets (map Ok xs ++ Err e ∷ []) left → Takes octets (map Ok ys ++ Err f ∷ []) last → SameError true e f
   ended_same octets left last [] [] e f (j, (some, (a, is, ends), none), rest) (k, (full, (b, too, end), nothing), tail) = ends_same octets a b e f is too ends end
   ended_same octets left last [] (y ∷ ys) e f (j, (some, (a, is, ends), none), rest) (k, (full, too, few), after) = inr (refl, inl (item_or_end octets k y a e few too is ends))
   ended_same octets left last (x ∷ xs) [] e f (j, (some, is, less), more) (k, (full, (b, too, end), nothing), tail) = inr (refl, inr (item_or_end octets j x b f less is too end))
@@ -172,7 +181,7 @@ module _ {T D : Type 0} (view : T → D) (takes : Bool) (reads : List ℕ → Re
     takes_once number p (Ok v) (Err f) h (inr k) = list_once p.content (Ok v) (Err f) h.1 k.1
     takes_once number p (Err e) (Ok w) (inl (r, other, same)) k = absurd (list_or_refused number p r k.0 other)
     takes_once number p (Err e) (Ok w) (inr h) k = list_once p.content (Err e) (Ok w) h.1 k.1
-    takes_once number p (Err e) (Err f) (inl (q, other, same)) (inl (r, another, equal)) = inl (same ∙ one_list_refusal number p q r other another ∙ sym equal)
+    takes_once number p (Err e) (Err f) (inl (q, other, same)) (inl (r, another, equal)) = inl (ap name_of_error (same ∙ one_list_refusal number p q r other another ∙ sym equal))
     takes_once number p (Err e) (Err f) (inl (q, other, same)) (inr k) = absurd (list_or_refused number p q k.0 other)
     takes_once number p (Err e) (Err f) (inr h) (inl (r, other, same)) = absurd (list_or_refused number p r h.0 other)
     takes_once number p (Err e) (Err f) (inr h) (inr k) = list_once p.content (Err e) (Err f) h.1 k.1
@@ -183,7 +192,7 @@ module _ {T D : Type 0} (view : T → D) (takes : Bool) (reads : List ℕ → Re
     reads_once number p (Ok v) (Err f) h (inr k) = list_once p.content (Ok v) (Err f) h.1 k.1
     reads_once number p (Err e) (Ok w) (inl (other, is)) k = absurd (other k.0)
     reads_once number p (Err e) (Ok w) (inr h) k = list_once p.content (Err e) (Ok w) h.1 k.1
-    reads_once number p (Err e) (Err f) (inl (other, is)) (inl (another, too)) = inl (is ∙ sym too)
+    reads_once number p (Err e) (Err f) (inl (other, is)) (inl (another, too)) = inl (ap name_of_error (is ∙ sym too))
     reads_once number p (Err e) (Err f) (inl (other, is)) (inr k) = absurd (other k.0)
     reads_once number p (Err e) (Err f) (inr h) (inl (other, is)) = absurd (other h.0)
     reads_once number p (Err e) (Err f) (inr h) (inr k) = list_once p.content (Err e) (Err f) h.1 k.1

@@ -26,26 +26,30 @@ use Rattle.asn1_rs.specs.Laws.Words.{one_strict, word_one}
 use Rattle.asn1vec_answers.specs.declared.request.Rule.{Rule}
 use Rattle.asn1vec_answers.specs.declared.request.Rule.TheVariants.{Ber, Der}
 use Rattle.asn1vec_answers.specs.Names.{name_of_refusal}
-use Rattle.asn1vec_answers.specs.Shown.{in_hexadecimal, Encoding, Reading, written_text, encoding_text, ok_text, Says, Same, IsReadAnswer, ReadsByBer, ReadsByDer, IsWritten, StrictEncoding}
+use Rattle.asn1vec_answers.specs.Shown.{in_hexadecimal, Encoding, Reading, written_text, encoding_text, ok_text, Says, Same, IsReadAnswer, ReadsByBer, ReadsByDer, IsWritten, IsWrittenUnless, StrictEncoding}
 use Rattle.asn1vec_answers.specs.Meaning.{Meaning, ReadsByEither, optional}
 use Rattle.asn1vec_answers.specs.Memory.{DifferByMemory}
-use Rattle.asn1vec_answers.proofs.OneRefusal.{IsSameBut, no_memory, IsOneRefusal, IsOneRefusalBut, one_reading_refusal}
+use Rattle.asn1vec_answers.proofs.OneRefusal.{IsSameBut, SameRefusal, same_name, no_memory, IsOneRefusal, IsOneRefusalBut, one_reading_refusal}
 
 -- ---- what is to be shown of a meaning
 
--- the same, but that one of them may say that memory was refused, where something is said of both
+-- the same, but that one of them may say that memory was refused
+abbrev SameWriting : Bool → Result (List ℕ) SerializeError → Result (List ℕ) SerializeError → Type 0
+SameWriting = IsSameBut (λ (w : Result (List ℕ) SerializeError). w) (Err serialize_errors.OutOfMemory)
+
+-- so where something is said of both
 abbrev pub SameEncoding : Bool → Encoding → Encoding → Type 0
 SameEncoding allocates None None = Unit {0}
 SameEncoding allocates None (Some v) = ⊥
 SameEncoding allocates (Some w) None = ⊥
-SameEncoding allocates (Some w) (Some v) = IsSameBut (Err serialize_errors.OutOfMemory) allocates w v
+SameEncoding allocates (Some w) (Some v) = SameWriting allocates w v
 
--- the same, but that one of them may be a refusal when out of memory; values are compared by a relation
+-- the same, but that one of them may be a refusal when out of memory; values are compared by a relation, refusals by their names
 abbrev pub SameReading : {T : Type 0} → (T → T → Type 0) → Bool → Reading T → Reading T → Type 0
 SameReading Agree allocates (Ok x) (Ok y) = Agree x.1 y.1 × (x.0 ≡ y.0)
 SameReading Agree allocates (Ok x) (Err r) = (allocates ≡ true) × (r ≡ no_memory)
 SameReading Agree allocates (Err q) (Ok y) = (allocates ≡ true) × (q ≡ no_memory)
-SameReading Agree allocates (Err q) (Err r) = IsSameBut no_memory allocates q r
+SameReading Agree allocates (Err q) (Err r) = SameRefusal allocates q r
 
 -- values that are shown alike
 pub record ShownAlike (m : Meaning) (x y : m.T) : Type 0 where
@@ -90,8 +94,8 @@ module _ (m : Meaning) where
   encodings_same front text other (Some w) (Some v) (inr (takes, inl memory)) is too = inr (inl (inr (refused_writing front text other w v takes memory is too)))
   encodings_same front text other (Some w) (Some v) (inr (takes, inr memory)) is too = inr (inr (inr (refused_writing front other text v w takes memory too is)))
 
-  refusals_same : (q r : Refusal Error) (text other : List ℕ) → IsSameBut no_memory m.reading_allocates q r → text ≡ codes "err " ++ name_of_refusal q → other ≡ codes "err " ++ name_of_refusal r → Alike text other
-  refusals_same q r text other (inl same) is too = inl (is ∙ ap (λ (x : Refusal Error). codes "err " ++ name_of_refusal x) same ∙ sym too)
+  refusals_same : (q r : Refusal Error) (text other : List ℕ) → SameRefusal m.reading_allocates q r → text ≡ codes "err " ++ name_of_refusal q → other ≡ codes "err " ++ name_of_refusal r → Alike text other
+  refusals_same q r text other (inl same) is too = inl (is ∙ ap (λ (name : List ℕ). codes "err " ++ name) (same_name q r same) ∙ sym too)
   refusals_same q r text other (inr (takes, inl memory)) is too = inr (inl (inl (takes, is ∙ ap (λ (x : Refusal Error). codes "err " ++ name_of_refusal x) memory)))
   refusals_same q r text other (inr (takes, inr memory)) is too = inr (inr (inl (takes, too ∙ ap (λ (x : Refusal Error). codes "err " ++ name_of_refusal x) memory)))
 
@@ -124,9 +128,6 @@ only_refusals allocates n serialize_errors.InvalidLength may other = inl (refl, 
 only_refusals allocates n (serialize_errors.IOError e) may other = cc
 only_refusals allocates n serialize_errors.OutOfMemory may other = inr (may, refl)
 
-abbrev SameWriting : Bool → Result (List ℕ) SerializeError → Result (List ℕ) SerializeError → Type 0
-SameWriting allocates w v = IsSameBut (Err serialize_errors.OutOfMemory) allocates w v
-
 refused_writing_same : (allocates : Bool) (n : ℕ) (q r : SerializeError) → ((q ≡ serialize_errors.InvalidLength) × (2 ^ 64 ≤ n)) ⊎ ((allocates ≡ true) × (q ≡ serialize_errors.OutOfMemory)) → ((r ≡ serialize_errors.InvalidLength) × (2 ^ 64 ≤ n)) ⊎ ((allocates ≡ true) × (r ≡ serialize_errors.OutOfMemory)) → SameWriting allocates (Err q) (Err r)
 refused_writing_same allocates n q r (inl (long, past)) (inl (too, also)) = inl (ap (λ (x : SerializeError). Err x) (long ∙ sym too))
 refused_writing_same allocates n q r h (inr (takes, memory)) = inr (takes, inr (ap (λ (x : SerializeError). Err x) memory))
@@ -150,6 +151,11 @@ written_same allocates o (Some (Err q)) (Some (Ok y)) (may, io) (few, f) =
 written_same allocates o (Some (Err q)) (Some (Err r)) (may, io) (might, too) =
     refused_writing_same allocates (length o) q r (only_refusals allocates (length o) q may io) (only_refusals allocates (length o) r might too)
 
+-- and of a value of these octets, which may be refused for what it is
+pub unless_same : (is_refused : Bool) (refusal : Error) (o : List ℕ) (e f : Encoding) → IsWrittenUnless is_refused refusal o e → IsWrittenUnless is_refused refusal o f → SameEncoding false e f
+unless_same false refusal o e f h k = written_same false o e f h k
+unless_same true refusal o e f h k = rw (h, k) (inl refl)
+
 -- and of the same value
 pub strict_same : {V : Type 0} (Form : V → Identifier → List ℕ → Type 0) → IsOneForm Form → (allocates : Bool) (v w : V) → v ≡ w → (e f : Encoding) → StrictEncoding Form allocates v e → StrictEncoding Form allocates w f → SameEncoding allocates e f
 strict_same {V} Form one allocates v w same e f (o, s, written) (p, t, also) =
@@ -160,7 +166,7 @@ tells_no_memory allocates r (takes, (e, same, is)) = (takes, is ∙ ap (λ (x : 
 
 -- a reader that is exact by a grammar with one word at a front
 module _ {T V : Type 0} (IsCut : List ℕ → Type 0) (G : List ℕ → V → Type 0) (value : T → V) (allocates : Bool) (gives : List ℕ → Reading T → Type 0) (one_word : IsOneFront G)
-    (one_refusal : (octets : List ℕ) (q r : Refusal Error) → gives octets (Err q) → gives octets (Err r) → IsSameBut no_memory allocates q r) where
+    (one_refusal : (octets : List ℕ) (q r : Refusal Error) → gives octets (Err q) → gives octets (Err r) → SameRefusal allocates q r) where
   one_front : (octets rest tail : List ℕ) (v w : V) → Front G octets v rest → Front G octets w tail → (v ≡ w) × (rest ≡ tail)
   one_front octets rest tail v w f g =
       let one = one_word.one f.word g.word rest tail v w f.fits g.fits (sym f.is ∙ g.is) in

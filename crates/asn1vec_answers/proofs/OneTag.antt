@@ -25,12 +25,13 @@ use Rattle.asn1_rs.specs.Tagged.Explicit.{ExplicitGives, ExplicitReads, Explicit
 use Rattle.asn1_rs.specs.Traits.{BerGives, OfParts}
 use Rattle.asn1_rs.specs.Laws.Readers.{ber_elements, der_elements}
 use Rattle.asn1_rs.specs.Laws.Tagged.Explicit.{explicit_lawful, tag_checks_are}
+use Rattle.asn1vec_answers.specs.Names.{name_of_error}
 use Rattle.asn1vec_answers.specs.Shown.{Reading, Same}
 use Rattle.asn1vec_answers.specs.Types.{Item, explicit, implicit_vector, implicit_vector_takes, vector}
 use Rattle.asn1vec_answers.proofs.OneItem.{IsOneItem, follows, texts_same, vector_once}
 use Rattle.asn1vec_answers.proofs.OneList.{IsOneConversion, IsOneReader, IsOneTaking, flattened_memory, flattened_same, one_by_parts, one_element, takes_once as list_takes_once}
 use Rattle.asn1vec_answers.proofs.OneReading.{SameReading}
-use Rattle.asn1vec_answers.proofs.OneRefusal.{converted_same, element_or_fault, same_parts, same_tail}
+use Rattle.asn1vec_answers.proofs.OneRefusal.{converted_same, element_or_fault, named, same_parts, same_tail}
 use Rattle.asn1_rs.specs.Grammar.Item.{ber_words}
 use Rattle.asn1_rs.specs.Laws.Words.{strict_ber}
 
@@ -46,7 +47,7 @@ module _ {T W D : Type 0} (class number : ℕ) (inner : W → T) (view : T → D
   takes_once p (Err e) (Ok w) (inr (also, (r, too, flat))) (tag, (rest, is)) =
       let memory = once p.content (Err r) (Ok (rest, inner w)) too is in
       (memory.0, flattened_memory r e memory.1 flat)
-  takes_once p (Err e) (Err f) (inl (q, other, same)) (inl (r, another, equal)) = inl (same ∙ (tag_checks_are class number).one p q r other another ∙ sym equal)
+  takes_once p (Err e) (Err f) (inl (q, other, same)) (inl (r, another, equal)) = inl (ap name_of_error (same ∙ (tag_checks_are class number).one p q r other another ∙ sym equal))
   takes_once p (Err e) (Err f) (inl (q, other, same)) (inr (tag, given)) = absurd ((tag_checks_are class number).apart p q tag other)
   takes_once p (Err e) (Err f) (inr (tag, given)) (inl (r, other, same)) = absurd ((tag_checks_are class number).apart p r tag other)
   takes_once p (Err e) (Err f) (inr (tag, (q, is, flat))) (inr (also, (r, too, level))) = flattened_same allocates q r e f (once p.content (Err q) (Err r) is too) flat level
@@ -64,7 +65,7 @@ module _ {T W D : Type 0} (class number : ℕ) (inner : W → T) (view : T → D
   reads_once p (Ok x) (Err r) (tag, is) (inr (also, too)) = once p.content (Ok x) (Err r) is too
   reads_once p (Err q) (Ok y) (inl (e, other, given)) (tag, is) = absurd ((tag_checks_are class number).apart p e tag other)
   reads_once p (Err q) (Ok y) (inr (also, too)) (tag, is) = once p.content (Err q) (Ok y) too is
-  reads_once p (Err q) (Err r) (inl (e, other, (d, same, is))) (inl (f, another, (c, equal, too))) = inl (is ∙ ap refused (same ∙ (tag_checks_are class number).one p e f other another ∙ sym equal) ∙ sym too)
+  reads_once p (Err q) (Err r) (inl (e, other, (d, same, is))) (inl (f, another, (c, equal, too))) = inl (ap named (is ∙ ap refused (same ∙ (tag_checks_are class number).one p e f other another ∙ sym equal) ∙ sym too))
   reads_once p (Err q) (Err r) (inl (e, other, given)) (inr (tag, is)) = absurd ((tag_checks_are class number).apart p e tag other)
   reads_once p (Err q) (Err r) (inr (tag, is)) (inl (f, other, given)) = absurd ((tag_checks_are class number).apart p f tag other)
   reads_once p (Err q) (Err r) (inr (tag, is)) (inr (also, too)) = once p.content (Err q) (Err r) is too
@@ -83,7 +84,7 @@ module _ {T W D : Type 0} (class number : ℕ) (inner : W → T) (view : T → D
   explicit_by_der octets (Err q) (Ok (tail, w)) (inl (fault, why, told)) (o, g, given) = absurd (element_or_fault IsDerElement DerElementFault IsCutIdentifier der_elements der_breach octets tail o fault g why)
   explicit_by_der octets (Err q) (Ok (tail, w)) (inr (p, rest, f, is)) (o, g, (over, too)) = in_one_element octets rest tail p o (Err q) (Ok (over, inner w)) f g is too
   explicit_by_der octets (Err q) (Err r) (inl (fault, why, told)) (inl (other, also, said)) =
-      inl (converted_same (refusal_of der_breach fault) q told ∙ ap (refusal_of der_breach) (der_elements.alone octets fault other why also) ∙ sym (converted_same (refusal_of der_breach other) r said))
+      inl (ap named (converted_same (refusal_of der_breach fault) q told ∙ ap (refusal_of der_breach) (der_elements.alone octets fault other why also) ∙ sym (converted_same (refusal_of der_breach other) r said)))
   explicit_by_der octets (Err q) (Err r) (inl (fault, why, told)) (inr (o, tail, g, too)) = absurd (element_or_fault IsDerElement DerElementFault IsCutIdentifier der_elements der_breach octets tail o fault g why)
   explicit_by_der octets (Err q) (Err r) (inr (p, rest, f, is)) (inl (fault, why, told)) = absurd (element_or_fault IsDerElement DerElementFault IsCutIdentifier der_elements der_breach octets rest p fault f why)
   explicit_by_der octets (Err q) (Err r) (inr (p, rest, f, is)) (inr (o, tail, g, too)) = in_one_element octets rest tail p o (Err q) (Err r) f g is too
@@ -117,7 +118,7 @@ module _ {T W D : Type 0} (class number : ℕ) (inner : W → T) (own : Tag) (vi
   implicit_takes_once a b (Ok v) (Err f) same (tag, (c, one, is)) (inr (also, (d, other, too))) = once c d (Ok (inner v)) (Err f) (same_under a b c d same one other) is too
   implicit_takes_once a b (Err e) (Ok w) same (inl (f, broken, told)) (also, given) = absurd ((implicit_checks_are class number).apart (parts_of a) f (moved a b (Ok tt) same also) broken)
   implicit_takes_once a b (Err e) (Ok w) same (inr (tag, (c, one, is))) (also, (d, other, too)) = once c d (Err e) (Ok (inner w)) (same_under a b c d same one other) is too
-  implicit_takes_once a b (Err e) (Err f) same (inl (q, broken, told)) (inl (r, too, said)) = inl (told ∙ (implicit_checks_are class number).one (parts_of a) q r broken (moved a b (Err r) same too) ∙ sym said)
+  implicit_takes_once a b (Err e) (Err f) same (inl (q, broken, told)) (inl (r, too, said)) = inl (ap name_of_error (told ∙ (implicit_checks_are class number).one (parts_of a) q r broken (moved a b (Err r) same too) ∙ sym said))
   implicit_takes_once a b (Err e) (Err f) same (inl (q, broken, told)) (inr (also, given)) = absurd ((implicit_checks_are class number).apart (parts_of a) q (moved a b (Ok tt) same also) broken)
   implicit_takes_once a b (Err e) (Err f) same (inr (tag, given)) (inl (r, broken, said)) = absurd ((implicit_checks_are class number).apart (parts_of a) r tag (moved a b (Err r) same broken))
   implicit_takes_once a b (Err e) (Err f) same (inr (tag, (c, one, is))) (inr (also, (d, other, too))) = once c d (Err e) (Err f) (same_under a b c d same one other) is too

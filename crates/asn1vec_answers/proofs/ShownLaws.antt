@@ -1,19 +1,21 @@
 -- What is said of encodings, and strict encodings of what is shown.
-use Rattle.std.proofs.Common.{◌≡◌, ℕ, Bool, false, List, ◌++◌, length, codes, inl, inr, None, Some, Result, Ok, Err, IfOk, IfErr, subst, refl, sym, ap, arith, length-append, ◌<◌, ◌≤◌, ◌+◌, ◌^◌}
-use Rattle.std.specs.Prelude.{ℤ, pos}
+use Rattle.std.proofs.Common.{◌≡◌, ◌∙◌, ℕ, Bool, true, false, List, ◌++◌, length, codes, inl, inr, None, Some, Result, Ok, Err, IfOk, IfErr, subst, refl, sym, ap, arith, length-append, ◌<◌, ◌≤◌, ◌+◌, ◌^◌}
+use Rattle.std.specs.Prelude.{ℤ, pos, IsErr}
 use Rattle.x690.specs.Identifiers.{Identifier}
 use Rattle.x690.specs.Octets.{IsOctets}
 use Rattle.asn1_rs.specs.declared.asn1_types.any.Any.{Any}
 use Rattle.asn1_headers.specs.declared.class.Class.{Class}
 use Rattle.asn1_headers.specs.declared.class.Class.TheVariants.{Universal, Application, ContextSpecific, Private}
+use Rattle.asn1_headers.specs.declared.error.Error.{Error}
 use Rattle.asn1_headers.specs.declared.error.SerializeError.{SerializeError}
+use Rattle.asn1_headers.specs.Error.{written_refusal}
 use Rattle.asn1_headers.specs.Class.{class_number}
 use Rattle.asn1_rs.specs.Any.Value.{element_of, ElementForm}
 use Rattle.asn1_headers.specs.Header.{identifier_of}
 use Rattle.asn1_rs.specs.Grammar.Form.{FitsElement, HasForm, IsStrict, WritesForm, universal}
 use Rattle.asn1_rs.specs.Laws.Forms.{strict_made, strict_written}
 use Rattle.x690.specs.Laws.StrictLengths.{length_fits}
-use Rattle.asn1_headers.specs.Writer.{MayRefuse}
+use Rattle.asn1_headers.specs.Writer.{MayRefuse, WriterState}
 use Rattle.asn1_rs.specs.Integer.{integer_number, IntegerForm, IsUnsigned}
 use Rattle.x690.specs.Strict.{element_octets}
 use Rattle.x690.specs.Laws.StrictElements.{made_strict_element}
@@ -21,27 +23,64 @@ use Rattle.x690.specs.Laws.Integers.Unsigned.{unsigned_octets_content, unsigned_
 use Rattle.x690.specs.Integers.{IsIntegerContent, unsigned_octets}
 use Rattle.x690.specs.Signed.{IsSigned, signed_octets}
 use Rattle.x690.specs.Laws.Signed.{signed_octets_content, signed_octets_few}
-use Rattle.asn1_rs.specs.ToDer.{Refuses, Writing, whole_octets}
-use Rattle.asn1vec_answers.specs.Shown.{Encoding, Gains, IsUnwritten, IsWritten, SaysEncoding, SaysWriting, StrictEncoding, StrictEncodingIfAny}
+use Rattle.asn1_rs.specs.ToDer.{Either, HasNone, IsRefusedAtOnce, Refuses, Writing, whole_allocates, whole_octets, whole_refuses}
+use Rattle.asn1_rs.specs.Kinds.Writing.{OwnWritten}
+use Rattle.asn1vec_answers.specs.Shown.{AllowsOctets, AllowsRefusals, CameOfWriting, Encoding, Gains, IsUnwritten, IsWritten, IsWrittenUnless, SaysEncoding, SaysWriting, StrictEncoding, StrictEncodingIfAny}
 use Rattle.asn1vec_answers.proofs.OneReading.{only_refusals}
 use Rattle.asn1vec_answers.proofs.Gained.{gains_both}
 use Rattle.std.proofs.lemmas.Bool.{cases_lt}
 use mathlib.Core.Logic.{∥∥₁_map}
 
--- what is said of the writing of octets into a vector
-pub written_said : (allocates : Bool) (o written : List ℕ) → length written < 2 ^ 64 → (answer : Result ℕ SerializeError) → IfOk answer (λ n. written ≡ o) → IfErr answer (MayRefuse allocates (length o))
-    → (a b c : List ℕ) → b ≡ a ++ codes " enc " → Gains b c (SaysWriting written answer) → Gains a c (SaysEncoding (IsWritten allocates o))
-written_said allocates o written few (Ok n) is may a b c e (said, says, more) =
-    let whole : IsWritten allocates o (Some (Ok written)) = (subst (λ (l : List ℕ). length l < 2 ^ 64) is few, is) in
+-- what is said of the writing of a value of these octets into a vector
+pub written_said : (allocates : Bool) (o written : List ℕ) (own : SerializeError → Type 0) → length written < 2 ^ 64 → (answer : Result ℕ SerializeError) → IfOk answer (λ n. written ≡ o)
+    → IfErr answer (Refuses allocates (length o) own) → ((e : SerializeError) → own e → IsErr answer)
+    → (a b c : List ℕ) → b ≡ a ++ codes " enc " → Gains b c (SaysWriting written answer) → Gains a c (SaysEncoding (CameOfWriting allocates o own))
+written_said allocates o written own few (Ok n) is may refuses a b c e (said, says, more) =
+    let none : HasNone own = λ r has. (let h = refuses r has in cc) in
+    let whole : CameOfWriting allocates o own (Some (Ok written)) = (subst (λ (l : List ℕ). length l < 2 ^ 64) is few, is, none) in
     (codes " enc " ++ said, (Some (Ok written), whole, ap (λ l. codes " enc " ++ l) says), gains_both a b c (codes " enc ") said e more)
-written_said allocates o written few (Err e) is may a b c same (said, says, more) =
+written_said allocates o written own few (Err e) is may refuses a b c same (said, says, more) =
     (codes " enc " ++ said, (Some (Err e), (may, says.0), ap (λ l. codes " enc " ++ l) says.1), gains_both a b c (codes " enc ") said same more)
 
--- a writing that the value itself does not refuse
-pub refused_as_any : (allocates : Bool) (n : ℕ) (own : SerializeError → Type 0) → ((e : SerializeError) → own e → ⊥) → (answer : Result ℕ SerializeError) → IfErr answer (Refuses allocates n own) → IfErr answer (MayRefuse allocates n)
-refused_as_any allocates n own none (Ok k) h = tt
-refused_as_any allocates n own none (Err e) (inl h) = h
-refused_as_any allocates n own none (Err e) (inr o) = absurd (none e o)
+-- a refusal of header or contents octets refuses the whole
+pub whole_refused : {S : Type 0} (w : Writing S) (x : S) (allocates : Bool) (n : ℕ) (old new : WriterState) (answer : Result ℕ SerializeError)
+    → ((e : SerializeError) → w.header_refuses x e → IsRefusedAtOnce allocates n (whole_refuses w x) old new answer) → ((e : SerializeError) → w.content_refuses x e → IsErr answer)
+    → (e : SerializeError) → whole_refuses w x e → IsErr answer
+whole_refused w x allocates n old new answer header content e (inl h) = rw (header e h).2.refused refl
+whole_refused w x allocates n old new answer header content e (inr h) = content e h
+
+-- what may be said of an encoding is said where it allows all that may come of the writing
+module _ {S : Type 0} (w : Writing S) (x : S) (Encodes : Encoding → Type 0) where
+  came_allowed : AllowsOctets w x Encodes → AllowsRefusals (MayRefuse (whole_allocates w) (length (whole_octets w x))) Encodes → AllowsRefusals (whole_refuses w x) Encodes
+      → (encoding : Encoding) → CameOfWriting (whole_allocates w) (whole_octets w x) (whole_refuses w x) encoding → Encodes encoding
+  came_allowed written refused own None h = absurd h
+  came_allowed written refused own (Some (Ok octets)) (few, is, none) = subst (λ (l : List ℕ). Encodes (Some (Ok l))) (sym is) (written none few)
+  came_allowed written refused own (Some (Err e)) (inl may, io) = refused e may io
+  came_allowed written refused own (Some (Err e)) (inr has, io) = own e has io
+
+  pub encoding_said : AllowsOctets w x Encodes → AllowsRefusals (MayRefuse (whole_allocates w) (length (whole_octets w x))) Encodes → AllowsRefusals (whole_refuses w x) Encodes
+      → (a b : List ℕ) → Gains a b (SaysEncoding (CameOfWriting (whole_allocates w) (whole_octets w x) (whole_refuses w x))) → Gains a b (SaysEncoding Encodes)
+  encoding_said written refused own a b (said, (encoding, came, is), more) = (said, (encoding, came_allowed written refused own encoding came, is), more)
+
+-- what is written of a value in one element, unless it is refused for what it is
+pub unless_octets : (is_refused : Bool) (refusal : Error) (own : Error → Type 0) (octets : List ℕ) → own refusal → HasNone (Either (OwnWritten is_refused own) (OwnWritten is_refused own)) → length octets < 2 ^ 64 → IsWrittenUnless is_refused refusal octets (Some (Ok octets))
+unless_octets false refusal own octets its none few = (few, refl)
+unless_octets true refusal own octets its none few = absurd (none (written_refusal refusal) (inl (refusal, its, refl)))
+
+-- no length refuses it where it is, since its octets are few then
+pub unless_refused : (is_refused : Bool) (refusal : Error) (octets : List ℕ) → (is_refused ≡ true → length octets < 2 ^ 64) → AllowsRefusals (MayRefuse false (length octets)) (IsWrittenUnless is_refused refusal octets)
+unless_refused false refusal octets few e may io = (may, io)
+unless_refused true refusal octets few e may io =
+    elim (only_refusals false (length octets) e may io) [
+      | inl long ↦ absurd (let short = few refl in omega (arith, short, long.1))
+      | inr memory ↦ absurd (let h = memory.0 in cc)
+    ]
+
+pub unless_own : (is_refused : Bool) (refusal : Error) (own : Error → Type 0) (octets : List ℕ) → ((e : Error) → own e → e ≡ refusal) → AllowsRefusals (Either (OwnWritten is_refused own) (OwnWritten is_refused own)) (IsWrittenUnless is_refused refusal octets)
+unless_own false refusal own octets only e (inl h) io = absurd h
+unless_own false refusal own octets only e (inr h) io = absurd h
+unless_own true refusal own octets only e (inl (f, has, is)) io = ap (λ (r : SerializeError). Some (Err r)) (is ∙ ap written_refusal (only f has))
+unless_own true refusal own octets only e (inr (f, has, is)) io = ap (λ (r : SerializeError). Some (Err r)) (is ∙ ap written_refusal (only f has))
 
 -- what is written of a value that has a strict encoding is that one
 pub strict_told : {S V : Type 0} (value : S → V) (Form : V → Identifier → List ℕ → Type 0) (w : Writing S) → WritesForm value Form w →

@@ -1,10 +1,10 @@
 -- In what two answers to one line may differ: one of them may tell that memory was refused.
-use Rattle.std.specs.Prelude.{◌≡◌, ℕ, List, [], ◌∷◌, ◌++◌, codes, true, false, ◌⊎◌}
+use Rattle.std.specs.Prelude.{◌≡◌, ℕ, List, ◌++◌, codes, true, false, ◌⊎◌}
 use Rattle.asn1vec_answers.specs.declared.request.Rule.{Rule}
 use Rattle.asn1vec_answers.specs.declared.types.TypeName.{TypeName}
 use Rattle.asn1vec_answers.specs.Request.{IsRequest}
 use Rattle.asn1vec_answers.specs.Meaning.{Meaning}
-use Rattle.asn1vec_answers.specs.Types.{has_items, meaning_of, Names}
+use Rattle.asn1vec_answers.specs.Types.{name_allocates, meaning_of, Names}
 
 -- The text tells that memory was refused where the other one goes on: in reading, or, behind the
 -- same value and rest, in writing.
@@ -33,6 +33,6 @@ TakesNoMemory line =
     (t : TypeName) → AsksFor line t →
     ((meaning_of t).reading_allocates ≡ false) × ((meaning_of t).writing_allocates ≡ false)
 
--- it asks for none that has items
-abbrev pub AsksForNoItems : List ℕ → Type 0
-AsksForNoItems line = (t : TypeName) → AsksFor line t → has_items t ≡ false
+-- it asks for none whose name allocates
+abbrev pub AsksForNoneThatAllocates : List ℕ → Type 0
+AsksForNoneThatAllocates line = (t : TypeName) → AsksFor line t → name_allocates t ≡ false

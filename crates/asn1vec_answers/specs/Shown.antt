@@ -16,8 +16,9 @@ use Rattle.asn1_rs.specs.BitString.{Bits}
 use Rattle.asn1_rs.specs.Oid.{OidValue}
 use Rattle.asn1_rs.specs.Oid.Text.{shown_text}
 use Rattle.asn1_rs.specs.Grammar.Form.{IsStrict}
+use Rattle.asn1_rs.specs.ToDer.{HasNone, Refuses, Writing, whole_octets, whole_refuses}
 use Rattle.asn1_headers.specs.Writer.{MayRefuse}
-use Rattle.asn1_headers.specs.Error.{tells_of_io}
+use Rattle.asn1_headers.specs.Error.{tells_of_io, written_refusal}
 use Rattle.asn1vec_answers.specs.Names.{name_of_refusal, name_of_write_refusal}
 
 -- octets in hexadecimal digits of lower case, `-` for none
@@ -130,6 +131,11 @@ IsWritten allocates octets (Some (Ok written)) = (length octets < 2 ^ 64) × (wr
 IsWritten allocates octets (Some (Err e)) =
     MayRefuse allocates (length octets) e × (tells_of_io e ≡ false)
 
+-- the same, or, of a value that is refused for what it is, how this refusal comes out of a writing
+abbrev pub IsWrittenUnless : Bool → Error → List ℕ → Encoding → Type 0
+IsWrittenUnless false refusal octets encoding = IsWritten false octets encoding
+IsWrittenUnless true refusal octets encoding = encoding ≡ Some (Err (written_refusal refusal))
+
 -- the strict encoding of a value, or why writing that was refused
 abbrev pub StrictEncoding : {V : Type 0} → (V → Identifier → List ℕ → Type 0) → Bool → V → Encoding → Type 0
 StrictEncoding Form allocates v encoding =
@@ -161,6 +167,24 @@ Gains old new Is = (gained : List ℕ) × Is gained × (new ≡ old ++ gained)
 -- the words say what may be said of an encoding
 abbrev pub SaysEncoding : (Encoding → Type 0) → List ℕ → Type 0
 SaysEncoding Encodes text = (encoding : Encoding) × Encodes encoding × (text ≡ encoding_text encoding)
+
+-- What came of writing a value of these octets, with these refusals of its own: the octets, of a length that 64 bits
+-- hold, and then it has no such refusal; or why it was refused.
+abbrev pub CameOfWriting : Bool → List ℕ → (SerializeError → Type 0) → Encoding → Type 0
+CameOfWriting allocates octets own None = ⊥
+CameOfWriting allocates octets own (Some (Ok written)) =
+    (length octets < 2 ^ 64) × (written ≡ octets) × HasNone own
+CameOfWriting allocates octets own (Some (Err e)) =
+    Refuses allocates (length octets) own e × (tells_of_io e ≡ false)
+
+-- what may be said of the encoding of a value allows its octets, where it has no refusal of its own
+abbrev pub AllowsOctets : {S : Type 0} → Writing S → S → (Encoding → Type 0) → Type 0
+AllowsOctets w x Encodes =
+    HasNone (whole_refuses w x) → length (whole_octets w x) < 2 ^ 64 → Encodes (Some (Ok (whole_octets w x)))
+
+-- and it allows such refusals, but for the writer's failure
+abbrev pub AllowsRefusals : (SerializeError → Type 0) → (Encoding → Type 0) → Type 0
+AllowsRefusals Is Encodes = (e : SerializeError) → Is e → tells_of_io e ≡ false → Encodes (Some (Err e))
 
 -- they say what came of a writing that left these octets
 abbrev pub SaysWriting : List ℕ → Result ℕ SerializeError → List ℕ → Type 0

@@ -18,7 +18,7 @@ use Rattle.asn1_rs.specs.Boolean.{bool_leaf}
 use Rattle.asn1_rs.specs.EndOfContent.{end_leaf}
 use Rattle.asn1_rs.specs.Enumerated.{enumerated_leaf}
 use Rattle.asn1_rs.specs.Integer.Octets.{any_integer_leaf, octets_held}
-use Rattle.asn1_rs.specs.Leaf.{Leaf, LeafBody, LeafGives, LendsContent, leaf_element}
+use Rattle.asn1_rs.specs.Leaf.{Leaf, LeafBody, LeafGives, LeafTakes, LendsContent, leaf_element}
 use Rattle.asn1_rs.specs.declared.asn1_types.set.set_of.SetOf.{SetOf}
 use Rattle.asn1_rs.specs.Set.{HasItems, is_below, is_other, items_of, member_grammar, multiset_grammar}
 use Rattle.asn1_rs.specs.Null.{null_leaf}
@@ -46,7 +46,7 @@ use Rattle.asn1vec_answers.specs.declared.request.Rule.{Rule}
 use Rattle.asn1vec_answers.specs.declared.types.TypeName.{TypeName}
 use Rattle.asn1vec_answers.specs.declared.types.TypeName.TheVariants.{U8, U16, U32, U64, U128, I8, I16, I32, I64, I128, Any, Bool, Null, Enumerated, Integer, Octets, Bits, Eoc, VecU8, VecU32, VecBool, VecVecU8, SetOfU8, BTreeSetU8, Sequence, Set, SeqOfU32, Explicit0U32, Explicit31U8, VecExplicit31U8, OptU8, HashSetI8, Implicit1VecU16, Oid}
 use Rattle.asn1vec_answers.specs.Meaning.{Meaning, ReadsByEither, is_ber, optional}
-use Rattle.asn1vec_answers.specs.Shown.{IsReadAnswer, IsWritten, ReadsByBer, Reading, Same, StrictEncoding, StrictEncodingIfAny, bits_text, element_text, identifier_text, in_hexadecimal, in_order, list_text, truth_text}
+use Rattle.asn1vec_answers.specs.Shown.{Encoding, IsReadAnswer, IsWritten, IsWrittenUnless, ReadsByBer, Reading, Same, StrictEncoding, StrictEncodingIfAny, bits_text, element_text, identifier_text, in_hexadecimal, in_order, list_text, truth_text}
 
 abbrev pub name_of : TypeName → List ℕ
 name_of U8 = codes "u8"
@@ -123,26 +123,38 @@ elements = record {
 abbrev pub leaf_octets : {T : Type 0} (L : Leaf T) → L.Value → List ℕ
 leaf_octets L v = universal_header L.number (L.octets v) ++ L.octets v
 
--- a leaf type, there by either rule, whose conversion may answer so: shown by its value, with the octets that are written for it
-abbrev pub leaf_by : {T : Type 0} (L : Leaf T) → (AnyElement → Result T Error → Type 0) → (L.Value → List ℕ) → Meaning
-leaf_by {T} L converts text = record {
+-- what may be said of its encoding: those octets, or why writing them was refused
+abbrev pub LeafEncoding : {T : Type 0} (L : Leaf T) → L.Value → Encoding → Type 0
+LeafEncoding L v = IsWritten false (leaf_octets L v)
+
+-- a leaf type, there by either rule, whose reading may allocate, and whose conversion may answer so: shown by its value, of the encoding of which this may be said
+abbrev pub leaf_by : {T : Type 0} (allocates : Truth) (L : Leaf T) → (AnyElement → Result T Error → Type 0) → (L.Value → Encoding → Type 0) → (L.Value → List ℕ) → Meaning
+leaf_by {T} allocates L converts Encodes text = record {
   T = T;
   is_there = λ rule. true;
-  Reads = ReadsByEither (BerWord (LeafBody L)) (DerWord (λ p. L.constraints p (Ok tt)) (LeafBody L)) L.value false
+  Reads = ReadsByEither (BerWord (LeafBody L)) (DerWord (λ p. L.constraints p (Ok tt)) (LeafBody L)) L.value allocates
       (BerGives converts Same) (DerGives L.constraints converts Same);
   text_of = λ x. text (L.value x);
-  Encodes = λ x. IsWritten false (leaf_octets L (L.value x));
-  reading_allocates = false;
+  Encodes = λ x. Encodes (L.value x);
+  reading_allocates = allocates;
   writing_allocates = false;
 }
 
 -- one that looks at the parts of an element alone
 abbrev pub leaf : {T : Type 0} (L : Leaf T) → (L.Value → List ℕ) → Meaning
-leaf L = leaf_by L (OfParts (LeafGives L))
+leaf L = leaf_by false L (OfParts (LeafGives L)) (LeafEncoding L)
 
 -- one that lends its contents octets
 abbrev pub lent_leaf : {T : Type 0} (L : Leaf T) → (T → CowSlice ℕ Global) → (L.Value → List ℕ) → Meaning
-lent_leaf L content = leaf_by L (LendsContent L content)
+lent_leaf L content = leaf_by false L (LendsContent L content) (LeafEncoding L)
+
+-- one that copies what it answers
+abbrev pub copying_leaf : {T : Type 0} (L : Leaf T) → (L.Value → List ℕ) → Meaning
+copying_leaf L = leaf_by true L (OfParts (LeafTakes L)) (LeafEncoding L)
+
+-- one some of whose values are refused in writing for what they are, with this refusal
+abbrev pub refusing_leaf : {T : Type 0} (L : Leaf T) → (L.Value → Truth) → Error → (L.Value → List ℕ) → Meaning
+refusing_leaf L is_refused refusal = leaf_by false L (OfParts (LeafGives L)) (λ v. IsWrittenUnless (is_refused v) refusal (leaf_octets L v))
 
 -- object identifiers, there by either rule: with the octets that are written for each, in DER form or not
 abbrev pub identifiers : Meaning
@@ -328,19 +340,19 @@ meaning_of HashSetI8 = collection (hashed_set (signed_item 1) int_cmp)
 meaning_of Implicit1VecU16 = collection (implicit_vector 1 (unsigned_item 2))
 meaning_of Oid = identifiers
 
--- lists and sets, whose readers and writers allocate
-abbrev pub has_items : TypeName → Truth
-has_items VecU8 = true
-has_items VecU32 = true
-has_items VecBool = true
-has_items VecVecU8 = true
-has_items SetOfU8 = true
-has_items BTreeSetU8 = true
-has_items SeqOfU32 = true
-has_items VecExplicit31U8 = true
-has_items HashSetI8 = true
-has_items Implicit1VecU16 = true
-has_items _ = false
+-- the names whose readers or writers allocate: those of lists and sets
+abbrev pub name_allocates : TypeName → Truth
+name_allocates VecU8 = true
+name_allocates VecU32 = true
+name_allocates VecBool = true
+name_allocates VecVecU8 = true
+name_allocates SetOfU8 = true
+name_allocates BTreeSetU8 = true
+name_allocates SeqOfU32 = true
+name_allocates VecExplicit31U8 = true
+name_allocates HashSetI8 = true
+name_allocates Implicit1VecU16 = true
+name_allocates _ = false
 
 -- the name is that of the type, and is there by the rule
 abbrev pub Names : Rule → List ℕ → TypeName → Type 0

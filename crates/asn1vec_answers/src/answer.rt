@@ -7,7 +7,7 @@ ghost use Rattle.std.specs.List.Sorted.{IsStrictlyIncreasing, IsStrictlySortedBy
 ghost use Rattle.std.specs.Ordering.{eq_by_cmp, int_cmp};
 ghost use Rattle.asn1vec_answers.specs.declared.types.TypeName.TheVariants.{BTreeSetU8, HashSetI8};
 ghost use Rattle.asn1vec_answers.specs.Answer.{IsAnswer, IsAnswerLine, IsRequestAnswer};
-ghost use Rattle.asn1vec_answers.specs.Memory.{AreAlike, AsksForNoItems, TakesNoMemory};
+ghost use Rattle.asn1vec_answers.specs.Memory.{AreAlike, AsksForNoneThatAllocates, TakesNoMemory};
 ghost use Rattle.asn1vec_answers.specs.Shown.{Gains, HeldEncoding, IsReadAnswer, in_order, list_text, option_text};
 ghost use Rattle.asn1vec_answers.specs.Meaning.{ReadsByEither, ReadsOptional};
 ghost use Rattle.asn1vec_answers.specs.Types.{IsTypeAnswer, meaning_of};
@@ -161,7 +161,7 @@ pub fn one_answer()
         → IsAnswer line text → IsAnswer line other → AreAlike line text other }
     ensures one { (line text other : List ℕ)
         → TakesNoMemory line → IsAnswer line text → IsAnswer line other → text ≡ other }
-    ensures none { (line : List ℕ) → AsksForNoItems line → TakesNoMemory line }
+    ensures none { (line : List ℕ) → AsksForNoneThatAllocates line → TakesNoMemory line }
 {}
 
 /// The items that are shown of a set that was read as `btreeset.u8` ascend. So do those that are shown of

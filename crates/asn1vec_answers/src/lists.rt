@@ -1,16 +1,16 @@
 //! How lists and sets are shown: the texts of their items, parted by commas, in brackets.
-ghost use Rattle.std.specs.Prelude.{◌≡◌, ◌++◌, IfOk, List, OnOk, map, true};
+ghost use Rattle.std.specs.Prelude.{◌≡◌, ◌++◌, IfOk, List, OnOk, length, map, true};
 ghost use Rattle.std.specs.Fmt.{signed_decimal};
 ghost use Rattle.std.specs.Ordering.{int_cmp, int_eq};
 ghost use Rattle.x690.specs.Signed.{IsSigned};
 ghost use Rattle.asn1_rs.specs.Integer.{IntegerForm};
 ghost use Rattle.std.specs.Iterator.{AlwaysYields, IsFinite};
 ghost use Rattle.x690.specs.Collections.{AllDiffer, AnyList, multiset};
-ghost use Rattle.asn1_headers.specs.declared.error.SerializeError.{SerializeError};
+ghost use Rattle.asn1_headers.specs.Writer.{MayRefuse};
 ghost use Rattle.asn1_rs.specs.Lists.{ListForm};
 ghost use Rattle.asn1_rs.specs.Set.{SetForm, is_below, is_other, items_of, members, set_of};
 ghost use Rattle.asn1_rs.specs.Sequence.SequenceOf.{sequence_items};
-ghost use Rattle.asn1vec_answers.specs.Shown.{Encoding, IsWritten, StrictEncodingIfAny, in_order, list_text};
+ghost use Rattle.asn1vec_answers.specs.Shown.{AllowsOctets, AllowsRefusals, StrictEncodingIfAny, in_order, list_text};
 ghost use Rattle.asn1_rs.specs.ToDer.{whole_allocates, whole_octets, whole_refuses};
 
 use crate::shown::Encoded;
@@ -19,17 +19,17 @@ use asn1_rs::{AlwaysDer, LawfulMember, LawfulWrite, SequenceOf, SetOf};
 use std::alloc::{AllocError, Global};
 use std::collections::{BTreeSet, HashSet};
 
-/// States of a value in DER form what its writing says.
+/// States of a value in DER form what may come of writing it.
 pub(crate) fn writing_is_strict<T: LawfulWrite>(x: &T)
     requires { T.grammar.IsDer (T.grammar.value x.now) }
-    ensures own { (e : SerializeError) →
-        whole_refuses T.writing x.now e → ⊥ }
-    ensures told { (encoding : Encoding) →
-        IsWritten (whole_allocates T.writing)
-        (whole_octets T.writing x.now) encoding →
-        StrictEncodingIfAny T.grammar.Form
-        (whole_allocates T.writing)
-        (T.grammar.value x.now) encoding }
+    ensures written { AllowsOctets T.writing x.now (StrictEncodingIfAny T.grammar.Form
+        (whole_allocates T.writing) (T.grammar.value x.now)) }
+    ensures refused { AllowsRefusals (MayRefuse (whole_allocates T.writing)
+        (length (whole_octets T.writing x.now))) (StrictEncodingIfAny T.grammar.Form
+        (whole_allocates T.writing) (T.grammar.value x.now)) }
+    ensures own { AllowsRefusals (whole_refuses T.writing x.now)
+        (StrictEncodingIfAny T.grammar.Form
+        (whole_allocates T.writing) (T.grammar.value x.now)) }
 {}
 
 /// Appends items, parted by commas, in brackets.

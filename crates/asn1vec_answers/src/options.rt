@@ -1,11 +1,12 @@
 //! Optional values: how they are read, and shown as `none`, or `some` and the value.
+ghost use Rattle.std.specs.Prelude.{length};
 ghost use Rattle.x690.specs.Identifiers.{IsCutIdentifier};
 ghost use Rattle.x690.specs.Rules.{ber_rule, der_rule};
 ghost use Rattle.asn1_headers.specs.Answers.{Exactly, TellsMemory, seen};
 ghost use Rattle.asn1_headers.specs.Ber.{EndsWithin};
-ghost use Rattle.asn1_headers.specs.declared.error.SerializeError.{SerializeError};
+ghost use Rattle.asn1_headers.specs.Writer.{MayRefuse};
 ghost use Rattle.asn1_rs.specs.Optional.{IsLeftOut, OptionGives, option_writing};
-ghost use Rattle.asn1vec_answers.specs.Shown.{Encoding, HeldEncoding, IsWritten, option_text};
+ghost use Rattle.asn1vec_answers.specs.Shown.{AllowsOctets, AllowsRefusals, HeldEncoding, option_text};
 ghost use Rattle.asn1_rs.specs.ToDer.{whole_allocates, whole_octets, whole_refuses};
 ghost use Rattle.asn1_rs.specs.Grammar.Item.{ber_words};
 
@@ -48,13 +49,13 @@ where
 
 /// States of the value that is held what its type says of its writing.
 fn is_told_if_held<T: Encoded>(x: &Option<T>)
-    ensures own { (e : SerializeError) →
-        whole_refuses (option_writing T.writing) x.now e → ⊥ }
-    ensures told { (encoding : Encoding) →
-        IsWritten (whole_allocates T.writing)
-        (whole_octets (option_writing T.writing) x.now) encoding →
-        HeldEncoding (whole_allocates T.writing)
-        T.Encodes x.now encoding }
+    ensures written { AllowsOctets (option_writing T.writing) x.now
+        (HeldEncoding (whole_allocates T.writing) T.Encodes x.now) }
+    ensures refused { AllowsRefusals (MayRefuse (whole_allocates T.writing)
+        (length (whole_octets (option_writing T.writing) x.now)))
+        (HeldEncoding (whole_allocates T.writing) T.Encodes x.now) }
+    ensures own { AllowsRefusals (whole_refuses (option_writing T.writing) x.now)
+        (HeldEncoding (whole_allocates T.writing) T.Encodes x.now) }
 {
     match x {
         Some(value) => value.is_told(),

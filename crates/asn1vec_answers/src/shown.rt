@@ -1,10 +1,11 @@
 //! How a reading is answered: the value, what follows it and its encoding, or the refusal.
-ghost use Rattle.std.specs.Prelude.{◌≡◌, ◌++◌, ℕ, List, Result, Ok, OnOk};
+ghost use Rattle.std.specs.Prelude.{◌≡◌, ◌++◌, ℕ, List, Result, Ok, OnOk, length};
 ghost use Rattle.asn1_headers.specs.Answers.{seen};
 ghost use Rattle.asn1_headers.specs.declared.error.SerializeError.{SerializeError};
 ghost use Rattle.asn1_headers.specs.Error.{tells_of_io};
+ghost use Rattle.asn1_headers.specs.Writer.{MayRefuse};
 ghost use Rattle.asn1vec_answers.specs.Meaning.{ReadsByEither};
-ghost use Rattle.asn1vec_answers.specs.Shown.{Encoding, Gains, Says, IsReadAnswer, IsWritten, ReadsByBer, ReadsByDer, SaysEncoding, SaysWriting};
+ghost use Rattle.asn1vec_answers.specs.Shown.{AllowsOctets, AllowsRefusals, CameOfWriting, Encoding, Gains, Says, IsReadAnswer, ReadsByBer, ReadsByDer, SaysEncoding, SaysWriting};
 ghost use Rattle.asn1_rs.specs.ToDer.{whole_allocates, whole_octets, whole_refuses};
 ghost use Rattle.asn1_rs.specs.Grammar.Item.{ber_words};
 
@@ -54,14 +55,14 @@ pub(crate) trait Encoded: LawfulWrite {
     fn show(&self, text: &mut Vec<u8>) -> Result<(), AllocError>
         ensures { OnOk result (text.new.items ≡ text.old.items ++ text_of self.now) };
 
-    /// States that the value has no refusal of its own, and what its writing says: its body only
-    /// names what the types say of it.
+    /// States that what may come of writing the value may be said of its encoding: its octets,
+    /// where it has no refusal of its own; the refusals of any such writing; and its own. Its body
+    /// only names what the types say of it.
     fn is_told(&self)
-        ensures own { (e : SerializeError) →
-            whole_refuses Self.writing self.now e → ⊥ }
-        ensures told { (encoding : Encoding) →
-            IsWritten (whole_allocates Self.writing)
-            (whole_octets Self.writing self.now) encoding → Encodes self.now encoding };
+        ensures written { AllowsOctets Self.writing self.now (Encodes self.now) }
+        ensures refused { AllowsRefusals (MayRefuse (whole_allocates Self.writing)
+            (length (whole_octets Self.writing self.now))) (Encodes self.now) }
+        ensures own { AllowsRefusals (whole_refuses Self.writing self.now) (Encodes self.now) };
 }
 
 impl<T: Encoded> Shown for T {
@@ -120,14 +121,13 @@ pub(crate) fn push_written<T: ToDer>(
     buffer: &mut Vec<u8>,
     text: &mut Vec<u8>,
 ) -> Result<(), AllocError>
-    requires tells { T.writing.tells x.now }
-    requires own { (e : SerializeError) →
-        whole_refuses T.writing x.now e → ⊥ }
+    requires { T.writing.tells x.now }
     ensures { OnOk result
         (Gains text.old.items text.new.items
-        (SaysEncoding (IsWritten
+        (SaysEncoding (CameOfWriting
         (whole_allocates T.writing)
-        (whole_octets T.writing x.now)))) }
+        (whole_octets T.writing x.now)
+        (whole_refuses T.writing x.now)))) }
 {
     buffer.clear();
     let mut output = Told::new(mem::replace(buffer, Vec::new(alloc)));

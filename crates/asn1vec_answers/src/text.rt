@@ -1,10 +1,12 @@
 //! Texts of answers, to the end of which more is written. They are octets, since digits are written
 //! into them in place.
-ghost use Rattle.std.specs.Prelude.{◌≡◌, ◌++◌, OnOk};
+ghost use Rattle.std.specs.Prelude.{◌≡◌, ◌++◌, IfSome, OnOk};
 ghost use Rattle.asn1vec_answers.specs.Shown.{in_hexadecimal};
 
 use itoa::{Buffer, Integer};
-use std::alloc::AllocError;
+use std::alloc::{AllocError, Global};
+use std::fmt::{self, Display, Write};
+use std::mem;
 
 /// Appends a text.
 pub(crate) fn push_str(text: &mut Vec<u8>, part: &str) -> Result<(), AllocError>
@@ -37,6 +39,44 @@ pub(crate) fn push_hexadecimal(text: &mut Vec<u8>, octets: &[u8]) -> Result<(), 
     };
     text.resize(end, 0)?;
     match hex::encode_to_slice(octets, &mut text.as_mut_slice()[start..]) {
+        Ok(()) => Ok(()),
+        Err(_) => Err(AllocError),
+    }
+}
+
+/// Octets, to the end of which texts are written.
+#[derive(Drop)]
+struct Growing {
+    octets: Vec<u8>,
+}
+
+impl Write for Growing {
+    ghost write_str_gives = { λ before part after.
+        after.octets.items ≡ before.octets.items ++ part };
+
+    fn write_str(&mut self, part: &str) -> fmt::Result {
+        match self.octets.extend_from_slice(part.as_bytes()) {
+            Ok(()) => Ok(()),
+            Err(_) => Err(fmt::Error),
+        }
+    }
+}
+
+/// Appends what `Display` prints.
+pub(crate) fn push_displayed<T: Display>(
+    alloc: Global,
+    text: &mut Vec<u8>,
+    shown: &T,
+) -> Result<(), AllocError>
+    ensures { OnOk result
+        (IfSome (T.output shown.now) (λ part. text.new.items ≡ text.old.items ++ part)) }
+{
+    let mut growing = Growing {
+        octets: mem::replace(text, Vec::new(alloc)),
+    };
+    let answer = growing.write(shown);
+    *text = growing.octets;
+    match answer {
         Ok(()) => Ok(()),
         Err(_) => Err(AllocError),
     }

@@ -1,7 +1,7 @@
 use Rattle.std.proofs.Common.{◌≡◌, ◌++◌, ◌∙◌, ap, List, ℕ, IfSome, Option, None, Some}
 use Rattle.std.proofs.lemmas.Fmt.{contents_after_writes}
-use Rattle.asn1vec_answers.specs.declared.identifiers.Growing.{Growing}
-use Rattle.asn1vec_answers.proofs.identifiers.push_displayed.Goals as goal
+use Rattle.asn1vec_answers.specs.declared.text.Growing.{Growing}
+use Rattle.asn1vec_answers.proofs.text.push_displayed.Goals as goal
 
 weaken : (o : Option (List ℕ)) (P Q : List ℕ → Type 0) → ((part : List ℕ) → P part → Q part) → IfSome o P → IfSome o Q
 weaken None P Q k x = tt
