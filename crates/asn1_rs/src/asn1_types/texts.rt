@@ -183,7 +183,7 @@ impl WritesOctets for String {
     ghost held = { string_bytes };
 
     fn contents_octets(&self) -> &[u8] {
-        self.as_str().as_bytes()
+        String::as_bytes(self)
     }
 
     ghost held_are = { copying_written owned_text_leaf owned_text_lawful };
