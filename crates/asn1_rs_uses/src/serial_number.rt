@@ -1,5 +1,5 @@
 //! A lawful type of a caller's that holds a number.
-ghost use Rattle.std.specs.Prelude.{pos};
+ghost use Rattle.std.specs.Prelude.{false, pos};
 ghost use Rattle.x690.specs.Integers.{unsigned_octets};
 ghost use Rattle.x690.specs.Laws.Integers.Unsigned.{unsigned_octets_content};
 ghost use Rattle.asn1_rs.specs.Traits.{OfParts};
