@@ -22,5 +22,6 @@ pub mod Sequence
 pub mod Lists
 pub mod Set
 pub mod Kept
+pub mod Copies
 pub mod Tagged
 pub mod Laws

@@ -2,6 +2,9 @@
 ghost use Rattle.std.specs.Prelude.{◌≡◌, Bool, IsTrue, true, false, IfOk, IfErr};
 ghost use Rattle.asn1_headers.specs.declared.error.Error.TheVariants as errors;
 
+mod holders;
+mod octets;
+
 use asn1_headers::error::Error;
 use std::alloc::Global;
 
@@ -139,6 +142,30 @@ impl ToStatic for i128 {
     ghost copy_allocates = { false };
 
     fn to_static(&self, _alloc: Global) -> Result<i128, Error> {
+        Ok(*self)
+    }
+}
+
+impl ToStatic for usize {
+    type Owned = usize;
+
+    ghost copies = { λ source copy. copy ≡ source };
+
+    ghost copy_allocates = { false };
+
+    fn to_static(&self, _alloc: Global) -> Result<usize, Error> {
+        Ok(*self)
+    }
+}
+
+impl ToStatic for isize {
+    type Owned = isize;
+
+    ghost copies = { λ source copy. copy ≡ source };
+
+    ghost copy_allocates = { false };
+
+    fn to_static(&self, _alloc: Global) -> Result<isize, Error> {
         Ok(*self)
     }
 }

@@ -1,0 +1,14 @@
+-- Copies that borrow nothing.
+use Rattle.std.specs.Prelude.{◌≡◌, Option, Some, None, List}
+use Rattle.asn1_headers.specs.declared.header.Header.{Header}
+use Rattle.asn1_headers.specs.Header.{HasParts, class_of, is_constructed_of, tag_of, length_of, raw_tag_of}
+
+-- a copy of what may be there: of nothing nothing, of a value its copy
+abbrev pub CopiesHeld : {T S : Type 0} → (T → S → Type 0) → Option T → Option S → Type 0
+CopiesHeld copies None None = Unit {0}
+CopiesHeld copies (Some source) (Some copy) = copies source copy
+CopiesHeld copies _ _ = ⊥
+
+-- a header with the same parts, its length and the identifier octets that it keeps among them
+abbrev pub IsCopyOfHeader : Header → Header → Type 0
+IsCopyOfHeader source copy = HasParts copy (class_of source) (is_constructed_of source) (tag_of source) (length_of source) (raw_tag_of source)

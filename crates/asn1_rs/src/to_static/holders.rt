@@ -1,0 +1,90 @@
+//! Copies of what holds values that have copies.
+ghost use Rattle.std.specs.Prelude.{◌≡◌, IfOk, IfErr, true};
+ghost use Rattle.std.specs.List.{AllZip};
+ghost use Rattle.asn1_headers.specs.declared.error.Error.TheVariants as errors;
+ghost use Rattle.asn1_rs.specs.Copies.{CopiesHeld};
+
+use super::ToStatic;
+use asn1_headers::error::Error;
+use std::alloc::Global;
+
+/// The copy of a reference is that of what it refers to.
+impl<T: ToStatic> ToStatic for &T {
+    type Owned = T::Owned;
+
+    ghost copies = { λ source copy. T.copies source.now copy };
+
+    ghost copy_allocates = { T.copy_allocates };
+
+    fn to_static(&self, alloc: Global) -> Result<T::Owned, Error> {
+        T::to_static(*self, alloc)
+    }
+}
+
+impl<T: ToStatic> ToStatic for Option<T> {
+    type Owned = Option<T::Owned>;
+
+    ghost copies = { CopiesHeld T.copies };
+
+    ghost copy_allocates = { T.copy_allocates };
+
+    fn to_static(&self, alloc: Global) -> Result<Option<T::Owned>, Error> {
+        match self {
+            Some(source) => Ok(Some(source.to_static(alloc)?)),
+            None => Ok(None),
+        }
+    }
+}
+
+/// The copy is in a box of its own.
+impl<T> ToStatic for Box<T>
+where
+    T: ToStatic,
+    T::Owned: Drop,
+{
+    type Owned = Box<T::Owned>;
+
+    ghost copies = { λ source copy. T.copies source.value copy.value };
+
+    fn to_static(&self, alloc: Global) -> Result<Box<T::Owned>, Error> {
+        let copy = self.as_ref().to_static(alloc)?;
+        match Box::new(alloc, copy) {
+            Ok(held) => Ok(held),
+            Err(_) => Err(Error::OutOfMemory),
+        }
+    }
+}
+
+/// Copies of the items, in their order.
+fn copied_items<T>(alloc: Global, items: &[T]) -> Result<Vec<T::Owned>, Error>
+where
+    T: ToStatic,
+    T::Owned: Drop,
+    ensures copied { IfOk result (λ copies. AllZip T.copies items.now copies.items) }
+    ensures refused { IfErr result (λ e. e ≡ errors.OutOfMemory) }
+{
+    let mut copies = Vec::new(alloc);
+    for item in items {
+        let copy = item.to_static(alloc)?;
+        match copies.push(copy) {
+            Ok(()) => {}
+            Err(_) => return Err(Error::OutOfMemory),
+        }
+    }
+    Ok(copies)
+}
+
+/// The items of the copy are copies of the items, in their order.
+impl<T> ToStatic for Vec<T>
+where
+    T: ToStatic,
+    T::Owned: Drop,
+{
+    type Owned = Vec<T::Owned>;
+
+    ghost copies = { λ source copy. AllZip T.copies source.items copy.items };
+
+    fn to_static(&self, alloc: Global) -> Result<Vec<T::Owned>, Error> {
+        copied_items(alloc, self.as_slice())
+    }
+}

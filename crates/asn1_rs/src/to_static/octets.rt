@@ -1,0 +1,116 @@
+//! Copies of texts and of octets, and of what is made of them.
+ghost use Rattle.std.specs.Prelude.{◌≡◌, string_bytes, IfOk, IfErr, option_copied, option_map};
+ghost use Rattle.std.specs.Cow.{cow_slice_items, cow_str_bytes};
+ghost use Rattle.asn1_headers.specs.declared.error.Error.TheVariants as errors;
+ghost use Rattle.asn1_rs.specs.Copies.{IsCopyOfHeader};
+ghost use Rattle.asn1_rs.specs.Kept.{sequence_octets, set_octets};
+
+use super::ToStatic;
+use crate::asn1_types::kept::sequence::Sequence;
+use crate::asn1_types::kept::set::Set;
+use asn1_headers::error::Error;
+use asn1_headers::header::Header;
+use std::alloc::Global;
+use std::borrow::{CowSlice, CowStr};
+
+/// A copy of the text that is owned.
+fn owned_text(alloc: Global, text: &str) -> Result<String, Error>
+    ensures copied { IfOk result (λ copy. string_bytes copy ≡ text.now) }
+    ensures refused { IfErr result (λ e. e ≡ errors.OutOfMemory) }
+{
+    match String::from_str(alloc, text) {
+        Ok(copy) => Ok(copy),
+        Err(_) => Err(Error::OutOfMemory),
+    }
+}
+
+/// A copy of the octets that is owned.
+fn owned_octets(alloc: Global, octets: &[u8]) -> Result<CowSlice<'static, u8, Global>, Error>
+    ensures copied { IfOk result (λ copy. cow_slice_items copy ≡ octets.now) }
+    ensures refused { IfErr result (λ e. e ≡ errors.OutOfMemory) }
+{
+    match Vec::from_slice(alloc, octets) {
+        Ok(copy) => Ok(CowSlice::Owned(copy)),
+        Err(_) => Err(Error::OutOfMemory),
+    }
+}
+
+/// The copy of a text is owned.
+impl ToStatic for &str {
+    type Owned = String;
+
+    ghost copies = { λ source copy. string_bytes copy ≡ source.now };
+
+    fn to_static(&self, alloc: Global) -> Result<String, Error> {
+        owned_text(alloc, *self)
+    }
+}
+
+impl ToStatic for String {
+    type Owned = String;
+
+    ghost copies = { λ source copy. string_bytes copy ≡ string_bytes source };
+
+    fn to_static(&self, alloc: Global) -> Result<String, Error> {
+        owned_text(alloc, self.as_str())
+    }
+}
+
+impl ToStatic for CowStr<'_, Global> {
+    type Owned = CowStr<'static, Global>;
+
+    ghost copies = { λ source copy. cow_str_bytes copy ≡ cow_str_bytes source };
+
+    fn to_static(&self, alloc: Global) -> Result<CowStr<'static, Global>, Error> {
+        Ok(CowStr::Owned(owned_text(alloc, self.as_str())?))
+    }
+}
+
+/// The copy of octets is owned.
+impl ToStatic for CowSlice<'_, u8, Global> {
+    type Owned = CowSlice<'static, u8, Global>;
+
+    ghost copies = { λ source copy. cow_slice_items copy ≡ cow_slice_items source };
+
+    fn to_static(&self, alloc: Global) -> Result<CowSlice<'static, u8, Global>, Error> {
+        owned_octets(alloc, self.as_slice())
+    }
+}
+
+/// The copy owns the identifier octets that the header keeps.
+impl ToStatic for Header<'_> {
+    type Owned = Header<'static>;
+
+    ghost copies = { IsCopyOfHeader };
+
+    fn to_static(&self, alloc: Global) -> Result<Header<'static>, Error> {
+        let raw_tag = match self.raw_tag() {
+            Some(octets) => Some(owned_octets(alloc, octets)?),
+            None => None,
+        };
+        let copy = Header::new(self.class(), self.constructed(), self.tag(), self.length());
+        Ok(copy.with_raw_tag(raw_tag))
+    }
+}
+
+/// The copy owns its contents octets.
+impl ToStatic for Sequence<'_> {
+    type Owned = Sequence<'static>;
+
+    ghost copies = { λ source copy. sequence_octets copy ≡ sequence_octets source };
+
+    fn to_static(&self, alloc: Global) -> Result<Sequence<'static>, Error> {
+        Ok(Sequence::new(owned_octets(alloc, self.as_bytes())?))
+    }
+}
+
+/// The copy owns its contents octets.
+impl ToStatic for Set<'_> {
+    type Owned = Set<'static>;
+
+    ghost copies = { λ source copy. set_octets copy ≡ set_octets source };
+
+    fn to_static(&self, alloc: Global) -> Result<Set<'static>, Error> {
+        Ok(Set::new(owned_octets(alloc, self.as_bytes())?))
+    }
+}
