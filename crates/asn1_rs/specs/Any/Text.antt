@@ -1,5 +1,5 @@
 -- The text of an element of any of several types of strings.
-use Rattle.std.specs.Prelude.{◌≡◌, ◌≢◌, ◌⊎◌, ◌×◌, ℕ, Bool, true, false, List, ◌||◌, nat_eq, None, Result, Ok, Err, IsUtf8}
+use Rattle.std.specs.Prelude.{◌≡◌, ◌≢◌, ◌⊎◌, ℕ, Bool, true, false, List, ◌||◌, nat_eq, None, Result, Ok, Err, IsUtf8}
 use Rattle.std.specs.Borrow.{Bor}
 use Rattle.std.specs.Cow.{cow_str_bytes, IsBorrowedStr, IsOwnedStr}
 use Rattle.std.specs.declared.alloc.Global.{Global}
