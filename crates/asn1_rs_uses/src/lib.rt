@@ -25,8 +25,8 @@ mod tagged_octets;
 mod version;
 
 pub use borrowed::{
-    any_text, contents_octets, items_of, read_bit_string, read_integer, read_octet_string,
-    read_octets, read_sequence, read_utf8_string,
+    contents_octets, items_of, read_bit_string, read_integer, read_octet_string, read_octets,
+    read_sequence,
 };
 pub use by_bounds::{count_all, read_by_bound};
 pub use fingerprint::{Fingerprint, number_of_fingerprints};
