@@ -12,6 +12,7 @@ use crate::tag::Tag;
 use crate::texts::{TagName, write_classes, write_tags};
 use std::alloc::{AllocError, AllocFailed};
 use std::io;
+use std::str::Utf8Error;
 
 /// How many octets are missing.
 #[derive(Debug, Clone, Copy, PartialEq, Eq)]
@@ -257,6 +258,15 @@ impl From<Err<Error>> for Error {
             Err::Error(e) => e,
             Err::Failure(e) => e,
         }
+    }
+}
+
+/// Octets that are not UTF-8 are outside the character set, wherever the fault is.
+impl From<Utf8Error> for Error {
+    ghost from_gives = { λ _ e. e ≡ errors.StringInvalidCharset };
+
+    fn from(_e: Utf8Error) -> Error {
+        Error::StringInvalidCharset
     }
 }
 

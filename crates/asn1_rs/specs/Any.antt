@@ -1,4 +1,5 @@
 -- Elements in hand, and what reading one may answer.
+pub mod Text
 pub mod Value
 pub mod Writing
 use Rattle.std.specs.Prelude.{◌≡◌, ◌≢◌, ◌⊎◌, ℕ, List, ◌++◌, length, Some, Result, Ok, Err}

@@ -2,11 +2,11 @@
 //! out of memory, and the other answers as ever.
 
 use asn1_rs::{
-    BmpString, CodedString, Err, Error, FromBer, Oid, OidParseError, ParseResult, UniversalString,
-    Utf8String,
+    Any, BmpString, CodedString, Err, Error, FromBer, Oid, OidParseError, ParseResult, Tag,
+    UniversalString, Utf8String,
 };
 use std::alloc::Global;
-use std::borrow::CowSlice;
+use std::borrow::{CowSlice, CowStr};
 
 /// Whether an identifier was made of these octets, or refused when out of memory.
 fn is_made(made: Result<Oid<'static>, OidParseError>, octets: &[u8]) -> bool {
@@ -104,4 +104,28 @@ fn texts_of_strings_are_refused_for_want_of_memory(rt: HostRuntime) {
     assert!(rt; is_text(BmpString::new("User").string(rt.alloc()), "User"));
     assert!(rt; is_text(UniversalString::new("ab").string(rt.alloc()), "ab"));
     assert!(rt; is_text(Utf8String::new("ab").string(rt.alloc()), "ab"));
+}
+
+/// Whether the text of an element was decoded, or refused when out of memory.
+fn is_any_text(alloc: Global, any: &Any<'_>, expected: &str) -> bool {
+    match any.as_any_str(alloc) {
+        Ok(text) => text.as_str() == expected,
+        Err(refusal) => refusal == Error::OutOfMemory,
+    }
+}
+
+#[test]
+fn texts_of_elements_are_refused_for_want_of_memory(rt: HostRuntime) {
+    let any = Any::from_tag_and_data(Tag::UniversalString, &[0, 0, 0, 0x61, 0, 0, 0, 0x62]);
+    assert!(rt; is_any_text(rt.alloc(), &any, "ab"));
+    assert!(rt; is_any_text(rt.alloc(), &any, "ab"));
+}
+
+/// Octets that are no text are refused for that, and those of another type are lent, whatever memory there is.
+#[test]
+fn no_memory_is_asked_for_other_texts(rt: HostRuntime) {
+    let any = Any::from_tag_and_data(Tag::UniversalString, &[0, 0, 0, 0x61, 0, 0, 0xd8, 0]);
+    assert!(rt; any.as_any_str(rt.alloc()) == Err(Error::StringInvalidCharset));
+    let any = Any::from_tag_and_data(Tag::Ia5String, &[0x61, 0x62]);
+    assert!(rt; any.as_any_str(rt.alloc()) == Ok(CowStr::Borrowed("ab")));
 }

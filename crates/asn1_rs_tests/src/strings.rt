@@ -7,6 +7,7 @@ use asn1_rs::{
     numbers_of_coded_strings, numbers_of_strings, numbers_of_texts,
 };
 use std::alloc::Global;
+use std::borrow::CowStr;
 use std::fmt::Write;
 use std::test::Fail;
 use test_rows::{Calls, assert_rows, assert_shown, push_debug, push_digits};
@@ -191,6 +192,43 @@ Any::universalstring:
 1c04000000e9 = c3a9 c3a9
 1e04000000e9 = UnexpectedTag { expected: Some(Tag(28)), actual: Tag(30) } \
 UnexpectedTag { expected: Some(Tag(28)), actual: Tag(30) }
+";
+
+/// The element at the front, by BER, as a text: that of `as_any_str`, whether it is borrowed or owned, and that of
+/// `as_any_string`. Class and constructed bit are not looked at.
+const ANY_TEXT: &str = "\
+Any::as_any_str:
+0c02c3a9 = c3a9 borrowed, c3a9
+2c02c3a9 = c3a9 borrowed, c3a9
+8c02c3a9 = c3a9 borrowed, c3a9
+120141 = 41 borrowed, 41
+13012a = 2a borrowed, 2a
+140100 = 00 borrowed, 00
+1502c3a9 = c3a9 borrowed, c3a9
+1600 = - borrowed, -
+190141 = 41 borrowed, 41
+1a017f = 7f borrowed, 7f
+1b0141 = 41 borrowed, 41
+0c01ff = StringInvalidCharset, StringInvalidCharset
+1202c080 = StringInvalidCharset, StringInvalidCharset
+1303eda080 = StringInvalidCharset, StringInvalidCharset
+140180 = StringInvalidCharset, StringInvalidCharset
+1601ff = StringInvalidCharset, StringInvalidCharset
+1901ff = StringInvalidCharset, StringInvalidCharset
+1a01ff = StringInvalidCharset, StringInvalidCharset
+1b01ff = StringInvalidCharset, StringInvalidCharset
+1c04000000e9 = c3a9 owned, UnexpectedTag { expected: None, actual: Tag(28) }
+3c800000 = - owned, UnexpectedTag { expected: None, actual: Tag(28) }
+1c040000d800 = StringInvalidCharset, UnexpectedTag { expected: None, actual: Tag(28) }
+1c03000000 = StringInvalidCharset, UnexpectedTag { expected: None, actual: Tag(28) }
+020105 = UnexpectedTag { expected: None, actual: Tag(2) }, UnexpectedTag { expected: None, actual: Tag(2) }
+070141 = UnexpectedTag { expected: None, actual: Tag(7) }, UnexpectedTag { expected: None, actual: Tag(7) }
+0701ff = UnexpectedTag { expected: None, actual: Tag(7) }, UnexpectedTag { expected: None, actual: Tag(7) }
+1e020041 = UnexpectedTag { expected: None, actual: Tag(30) }, \
+UnexpectedTag { expected: None, actual: Tag(30) }
+170141 = UnexpectedTag { expected: None, actual: Tag(23) }, UnexpectedTag { expected: None, actual: Tag(23) }
+1d0141 = UnexpectedTag { expected: None, actual: Tag(29) }, UnexpectedTag { expected: None, actual: Tag(29) }
+1f2c0141 = UnexpectedTag { expected: None, actual: Tag(44) }, UnexpectedTag { expected: None, actual: Tag(44) }
 ";
 
 /// A string, by its text.
@@ -393,6 +431,43 @@ impl Calls for Conversions {
             _ => Ok(text.push_str("no such call")?),
         }
     }
+}
+
+/// Appends a text that may be borrowed or owned, and which it is, or why there is none.
+fn push_cow(text: &mut String, made: Result<CowStr<'_>, Error>) -> Result<(), Fail> {
+    match made {
+        Ok(CowStr::Borrowed(lent)) => {
+            push_digits(text, lent.as_bytes())?;
+            Ok(text.push_str(" borrowed")?)
+        }
+        Ok(CowStr::Owned(own)) => {
+            push_digits(text, own.as_str().as_bytes())?;
+            Ok(text.push_str(" owned")?)
+        }
+        Err(refusal) => push_debug(text, &refusal),
+    }
+}
+
+/// The calls that take elements of several types.
+struct AnyText;
+
+impl Calls for AnyText {
+    fn answer(text: &mut String, alloc: Global, name: &str, octets: &[u8]) -> Result<(), Fail> {
+        let any = Any::from_ber(alloc, octets)?.1;
+        match name {
+            "Any::as_any_str" => {
+                push_cow(text, any.as_any_str(alloc))?;
+                text.push_str(", ")?;
+                push_text(text, any.as_any_string())
+            }
+            _ => Ok(text.push_str("no such call")?),
+        }
+    }
+}
+
+#[test]
+fn elements_of_several_types_are_texts(rt: HostRuntime) -> Result<(), Fail> {
+    assert_rows::<AnyText>(rt.alloc(), ANY_TEXT)
 }
 
 #[test]

@@ -1,9 +1,9 @@
 //! Elements as strings whose text is decoded.
-ghost use Rattle.std.specs.Prelude.{◌≡◌, ◌↔◌, IsOk, IfErr};
-ghost use Rattle.x690.specs.Characters.{utf16_octets, utf16_octets_of, ucs4_octets_of};
+ghost use Rattle.std.specs.Prelude.{◌≡◌, ◌↔◌, IsOk, IfErr, string_bytes};
+ghost use Rattle.x690.specs.Characters.{code_of, utf16_octets, utf16_octets_of, ucs4_octets_of};
 ghost use Rattle.asn1_headers.specs.declared.error.Error.TheVariants as errors;
 ghost use Rattle.asn1_rs.specs.Any.{parts_of};
-ghost use Rattle.asn1_rs.specs.CodedStrings.{IsCoded, coded_string_leaf};
+ghost use Rattle.asn1_rs.specs.CodedStrings.{IsCoded, coded_leaf, coded_string_leaf};
 ghost use Rattle.asn1_rs.specs.Leaf.{LeafTakes};
 
 use crate::asn1_types::any::Any;
@@ -16,6 +16,22 @@ use std::alloc::Global;
 use x690::characters::{Utf16, decoded, text_len};
 
 impl Any<'_> {
+    /// The text of a string of a type, of an element that stays.
+    #[inline(always)]
+    pub(crate) fn coded_text<K: CodedKind>(&self, alloc: Global) -> Result<String, Error>
+        ensures { LeafTakes (coded_leaf (K.Number.TAG).0 (code_of K.Code.octets_of) string_bytes)
+            (parts_of self.now) result }
+    {
+        self.assert_number(K::Number::TAG)?;
+        let Some(len) = text_len::<K::Code>(self.content) else {
+            return Err(Error::StringInvalidCharset);
+        };
+        match decoded::<K::Code>(alloc, self.content, len) {
+            Ok(text) => Ok(text),
+            Err(_) => Err(Error::OutOfMemory),
+        }
+    }
+
     /// The string of a type, of an element that stays.
     pub(crate) fn as_coded_string<K: CodedKind>(
         &self,
@@ -24,14 +40,8 @@ impl Any<'_> {
         ensures { LeafTakes (coded_string_leaf (K.Number.TAG).0 K.Code.octets_of)
             (parts_of self.now) result }
     {
-        self.assert_number(K::Number::TAG)?;
-        let Some(len) = text_len::<K::Code>(self.content) else {
-            return Err(Error::StringInvalidCharset);
-        };
-        match decoded::<K::Code>(alloc, self.content, len) {
-            Ok(text) => Ok(CodedString::from(text)),
-            Err(_) => Err(Error::OutOfMemory),
-        }
+        let text = self.coded_text::<K>(alloc)?;
+        Ok(CodedString::from(text))
     }
 }
 
