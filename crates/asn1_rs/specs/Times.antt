@@ -1,6 +1,5 @@
 -- Times as elements (X.690 8.25, 8.26, 11.7, 11.8).
-use Rattle.std.specs.Prelude.{◌≡◌, ℕ, ◌<◌, ◌≤◌, ◌^◌, ℤ, pos, negsuc, ◌≤ℤ◌, List, Bool, ◌&&◌, not, nat_le, IsTrue, Option, Some, None, true, false, codes, Result, Ok, Err}
-use Rattle.x690.specs.Elements.{Parts}
+use Rattle.std.specs.Prelude.{◌≡◌, ℕ, ◌<◌, ◌^◌, pos, negsuc, ◌≤ℤ◌, List, Bool, ◌&&◌, not, nat_le, Option, Some, None, true, false, codes, Result, Ok, Err}
 use Rattle.x690.specs.Sets.{AllIn, is_visible}
 use Rattle.x690.specs.Times.{SaysUtcTime, SaysGeneralizedTime, IsStrictUtcTime, IsStrictGeneralizedTime, MostMilliseconds, EndsInZ, HasComma, utc_time_text, generalized_time_text}
 use Rattle.x690.specs.declared.times.Moment.{Moment}

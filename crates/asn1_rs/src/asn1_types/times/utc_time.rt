@@ -1,5 +1,5 @@
 //! UTCTime (X.690 8.25, 11.8; X.680 47).
-ghost use Rattle.std.specs.Prelude.{◌≡◌, ◌≤◌, Some, length};
+ghost use Rattle.std.specs.Prelude.{◌≡◌, Some};
 ghost use Rattle.x690.specs.Times.{utc_time_shown, utc_time_text};
 ghost use Rattle.asn1_rs.specs.Any.{parts_of};
 ghost use Rattle.asn1_rs.specs.Checks.{nothing};
