@@ -1,15 +1,13 @@
 -- Values that are refused for what they are: their counts and writings.
-use Rattle.std.proofs.Common.{◌≡◌, ◌≤◌, inl, inr, ℕ, Bool, true, false, List, ◌++◌, length, length-append, IfErr, IfOk, Result, Ok, Err, refl, arith}
+use Rattle.std.proofs.Common.{◌≡◌, ◌≤◌, inl, inr, ℕ, Bool, true, false, IfErr, Result, Ok, Err, refl}
 use Rattle.std.specs.Prelude.{IsErr}
-use Rattle.std.proofs.lemmas.Bool.{false≢true}
-use Rattle.asn1_headers.specs.Writer.{WriterState, Wrote, MayRefuse}
+use Rattle.asn1_headers.specs.Writer.{WriterState, MayRefuse}
 use Rattle.asn1_headers.specs.Error.{written_refusal}
 use Rattle.asn1_headers.specs.declared.error.Error.{Error}
 use Rattle.asn1_headers.specs.declared.error.SerializeError.{SerializeError}
 use Rattle.asn1_headers.specs.Laws.Writing.{MayRefuse_more}
 use Rattle.asn1_rs.specs.ToDer.{MayRefuseCount, Refuses, RefusesCount, IsRefusedAtOnce, RefusedAtOnce, Either}
 use Rattle.asn1_rs.specs.Kinds.Writing.{CountRefused, PutRefused, OwnRefusal, OwnWritten}
-use Rattle.asn1_rs.proofs.Lists.{MayRefuseCount_more}
 
 module _ (own : Error → Type 0) where
   -- ---- counts

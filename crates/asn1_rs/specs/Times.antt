@@ -1,17 +1,18 @@
 -- Times as elements (X.690 8.25, 8.26, 11.7, 11.8).
-use Rattle.std.specs.Prelude.{◌≡◌, ℕ, ◌<◌, ◌≤◌, ◌^◌, ℤ, pos, negsuc, ◌≤ℤ◌, List, Bool, ◌&&◌, not, nat_le, IsTrue, Option, Some, None, true, false, codes, Result, Ok, Err}
-use Rattle.x690.specs.Elements.{Parts}
+use Rattle.std.specs.Prelude.{◌≡◌, ℕ, ◌<◌, ◌^◌, pos, negsuc, ◌≤ℤ◌, List, Bool, ◌&&◌, not, nat_le, Option, Some, None, true, false, codes, Result, Ok, Err}
 use Rattle.x690.specs.Sets.{AllIn, is_visible}
-use Rattle.x690.specs.Times.{SaysUtcTime, IsStrictUtcTime, MostMilliseconds, utc_time_text}
+use Rattle.x690.specs.Times.{SaysUtcTime, SaysGeneralizedTime, IsStrictUtcTime, IsStrictGeneralizedTime, MostMilliseconds, EndsInZ, HasComma, utc_time_text, generalized_time_text}
 use Rattle.x690.specs.declared.times.Moment.{Moment}
 use Rattle.x690.specs.declared.times.TimeZone.{TimeZone}
 use Rattle.x690.specs.declared.times.TimeZone.TheVariants.{Undefined, Z, Offset}
 use Rattle.asn1_headers.specs.Error.{IsInvalidValue}
 use Rattle.asn1_headers.specs.declared.error.Error.{Error}
-use Rattle.asn1_headers.specs.declared.error.Error.TheVariants.{StringInvalidCharset, InvalidDateTime}
+use Rattle.asn1_headers.specs.declared.error.Error.TheVariants.{StringInvalidCharset, DerConstraintFailed, InvalidDateTime}
+use Rattle.asn1_headers.specs.declared.error.DerConstraint.TheVariants.{MissingTimeZone, MissingSeconds}
 use Rattle.asn1_rs.specs.declared.asn1_types.times.ASN1DateTime.{ASN1DateTime}
 use Rattle.asn1_rs.specs.declared.asn1_types.times.utc_time.UtcTime.{UtcTime}
-use Rattle.asn1_rs.specs.Checks.{CheckGives, content_check, telling_check, nothing, ◌before◌}
+use Rattle.asn1_rs.specs.declared.asn1_types.times.generalized_time.GeneralizedTime.{GeneralizedTime}
+use Rattle.asn1_rs.specs.Checks.{CheckGives, check, content_check, telling_check, nothing, ◌before◌}
 use Rattle.asn1_rs.specs.Leaf.{Leaf}
 
 -- the fields of a time
@@ -78,6 +79,18 @@ utc_time_number = 23
 abbrev pub utc_time_leaf : Leaf UtcTime
 utc_time_leaf = time_leaf utc_time_number (λ t. moment_of t.0) SaysUtcTime IsStrictUtcTime nothing utc_time_text
 
+-- the number of the tag of GeneralizedTime
+abbrev pub generalized_time_number : ℕ
+generalized_time_number = 24
+
+-- What the constraints of GeneralizedTime ask: Z at the end of the contents octets (11.7.1), and no comma among them (11.7.4).
+abbrev pub generalized_time_constraints : CheckGives
+generalized_time_constraints = content_check EndsInZ (DerConstraintFailed MissingTimeZone) before
+    check (λ p. ¬ HasComma p.content) (λ p. HasComma p.content) (λ p. DerConstraintFailed MissingSeconds)
+
+abbrev pub generalized_time_leaf : Leaf GeneralizedTime
+generalized_time_leaf = time_leaf generalized_time_number (λ t. moment_of t.0) SaysGeneralizedTime IsStrictGeneralizedTime generalized_time_constraints generalized_time_text
+
 -- What reading a text may answer: the time that it says, or the refusal where it says none.
 abbrev pub TextGives : {S : Type 0} → ℕ → (S → Moment) → (List ℕ → Moment → Type 0) → List ℕ → Result S Error → Type 0
 TextGives number value Says text (Ok x) = Says text (value x)
@@ -85,6 +98,9 @@ TextGives number value Says text (Err e) = ((m : Moment) → ¬ Says text m) × 
 
 abbrev pub UtcTextGives : List ℕ → Result UtcTime Error → Type 0
 UtcTextGives = TextGives utc_time_number (λ t. moment_of t.0) SaysUtcTime
+
+abbrev pub GeneralizedTextGives : List ℕ → Result GeneralizedTime Error → Type 0
+GeneralizedTextGives = TextGives generalized_time_number (λ t. moment_of t.0) SaysGeneralizedTime
 
 -- ---- which are written
 
@@ -109,3 +125,6 @@ fits_text greatest_year m = nat_le m.year greatest_year && (nat_le m.month 99 &&
 
 abbrev pub utc_time_refused : Moment → Bool
 utc_time_refused m = not (fits_text 99 m)
+
+abbrev pub generalized_time_refused : Moment → Bool
+generalized_time_refused m = not (fits_text 9999 m)

@@ -128,6 +128,7 @@ pub use asn1_types::tagged::parser::TaggedParser;
 pub use asn1_types::texts::numbers_of_texts;
 pub use asn1_types::times::ASN1DateTime;
 pub use asn1_types::times::ASN1TimeZone;
+pub use asn1_types::times::generalized_time::GeneralizedTime;
 pub use asn1_types::times::utc_time::UtcTime;
 pub use ber::MAX_RECURSION;
 pub use ber::any_from_ber_counted;

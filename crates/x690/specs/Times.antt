@@ -1,5 +1,6 @@
 -- Times as texts: which texts say which fields, the strict text of fields, and how they are shown (X.680 46, 47; X.690 11.7, 11.8).
-use Rattle.std.specs.Prelude.{◌≡◌, ◌≢◌, ◌⊎◌, ℕ, zero, suc, ◌+◌, ◌-◌, ◌*◌, ◌/◌, ◌%◌, ◌^◌, ◌<◌, ◌≤◌, ◌==◌, List, [], ◌∷◌, ◌++◌, length, replicate, decimal, ℤ, pos, neg_ℤ, unsigned_abs, int_lt, Bool, not, ◌&&◌, ◌||◌, codes, nat_lt, Option, Some, None, if◌then◌else◌}
+use Rattle.std.specs.Prelude.{◌≡◌, ◌≢◌, ◌⊎◌, ℕ, zero, suc, ◌+◌, ◌-◌, ◌*◌, ◌/◌, ◌%◌, ◌^◌, ◌<◌, ◌≤◌, ◌==◌, List, [], ◌∷◌, ◌++◌, length, replicate, decimal, ℤ, pos, neg_ℤ, unsigned_abs, int_lt, Bool, not, ◌&&◌, ◌||◌, codes, nat_lt, nat_eq, Option, Some, None, if◌then◌else◌, IsTrue, slice_get}
+use Rattle.std.specs.List.{list_any}
 use Rattle.x690.specs.declared.times.Moment.{Moment}
 use Rattle.x690.specs.declared.times.TimeZone.{TimeZone}
 use Rattle.x690.specs.declared.times.TimeZone.TheVariants.{Undefined, Z, Offset}
@@ -99,6 +100,14 @@ utc_time_text m = digits 2 m.year ++ to_minute m ++ digits 2 m.second ++ z_text
 
 abbrev pub generalized_time_text : Moment → List ℕ
 generalized_time_text m = digits 4 m.year ++ to_minute m ++ digits 2 m.second ++ fraction_text m.millisecond ++ z_text
+
+-- the last octet of a text is the letter Z
+abbrev pub EndsInZ : List ℕ → Type 0
+EndsInZ text = slice_get text (length text - 1) ≡ Some 90
+
+-- one of its octets is the comma
+abbrev pub HasComma : List ℕ → Type 0
+HasComma text = IsTrue (list_any (λ octet. nat_eq octet 44) text)
 
 -- at most so many milliseconds, where there are some
 abbrev pub MostMilliseconds : ℕ → Option ℕ → Type 0

@@ -1,14 +1,19 @@
 -- Times are lawful leaves; those that are strict are written.
-use Rattle.std.specs.Prelude.{◌≡◌, ◌<◌, ◌↔◌, ◌≤◌, ◌⊎◌, ℕ, zero, suc, ◌+◌, ◌-◌, ◌*◌, ◌^◌, ℤ, pos, negsuc, neg_ℤ, ◌≤ℤ◌, List, Bool, true, false, ◌&&◌, not, nat_le, nat_lt, if◌then◌else◌, Some, None, Option, IsTrue, codes, Result, Ok, Err}
-use Rattle.std.proofs.Common.{◌∙◌, ap, sym, subst, refl, lit<, inl, inr, arith}
+use Rattle.std.specs.Prelude.{◌≡◌, ◌<◌, ◌↔◌, ◌≤◌, ◌⊎◌, ℕ, zero, suc, ◌+◌, ◌-◌, ◌*◌, ◌^◌, pos, negsuc, neg_ℤ, ◌≤ℤ◌, List, Bool, true, false, ◌&&◌, not, nat_eq, nat_le, nat_lt, if◌then◌else◌, Some, None, Option, IsTrue, codes, Result, Ok, Err}
+use Rattle.std.specs.Bool.{Decides}
+use Rattle.std.specs.Cmp.{unsigned_Decides, signed_Decides}
+use Rattle.std.specs.Option.{option_eq}
+use Rattle.std.specs.Ordering.{int_eq}
+use Rattle.std.proofs.Common.{ap, sym, subst, refl, lit<, inl, inr, arith}
 use Rattle.std.proofs.lemmas.Int.{ints}
 use Rattle.std.proofs.lemmas.Bool.{le-leb, leb-true}
 use Rattle.x690.specs.Octets.{IsOctets}
 use Rattle.x690.specs.Elements.{Parts}
 use Rattle.x690.specs.Sets.{AllIn, is_visible}
-use Rattle.x690.specs.Times.{InRange, west, SaysZone, SaysZoneOrNone, SaysFraction, SaysMinutes, SaysUtcEnd, SaysGeneralizedEnd, SaysUtcTime, SaysGeneralizedTime, IsStrictUtcTime, FitsText, MostMilliseconds, utc_time_text}
-use Rattle.x690.specs.Laws.TimeTexts.{utc_says, utc_visible, utc_octets, utc_fits}
-use Rattle.x690.specs.Laws.Times.{utc_times_unique}
+use Rattle.x690.specs.Times.{InRange, west, SaysZone, SaysZoneOrNone, SaysFraction, SaysMinutes, SaysUtcEnd, SaysGeneralizedEnd, SaysUtcTime, SaysGeneralizedTime, IsStrictUtcTime, IsStrictGeneralizedTime, FitsText, MostMilliseconds, EndsInZ, HasComma, utc_time_text, generalized_time_text}
+use Rattle.x690.specs.Laws.TimeTexts.{utc_says, utc_visible, utc_octets, utc_fits, generalized_says, generalized_visible, generalized_octets, generalized_fits, generalized_ends_in_z, generalized_no_comma}
+use Rattle.x690.specs.Laws.Times.{same_moment, utc_times_unique, generalized_times_unique}
+use Rattle.x690.specs.contracts.times.TimeZonePartialEq.TheImpl as zones
 use Rattle.x690.specs.declared.times.Moment.{Moment}
 use Rattle.x690.specs.declared.times.TimeZone.{TimeZone}
 use Rattle.x690.specs.declared.times.TimeZone.TheVariants.{Undefined, Z, Offset}
@@ -16,11 +21,13 @@ use Rattle.asn1_headers.specs.Error.{IsInvalidValue}
 use Rattle.asn1_headers.specs.declared.error.Error.{Error}
 use Rattle.asn1_headers.specs.declared.error.Error.TheVariants as errors
 use Rattle.asn1_headers.specs.declared.tag.Tag.{Tag}
+use Rattle.asn1_rs.specs.declared.asn1_types.times.ASN1DateTime.{ASN1DateTime}
 use Rattle.asn1_rs.specs.declared.asn1_types.times.utc_time.UtcTime.{UtcTime}
+use Rattle.asn1_rs.specs.declared.asn1_types.times.generalized_time.GeneralizedTime.{GeneralizedTime}
 use Rattle.asn1_rs.specs.Checks.{CheckGives, IsCheck, IsCheckUpTo, but_text, nothing}
 use Rattle.asn1_rs.specs.Leaf.{IsLawfulLeafUpTo, LeafGives, leaf_parts}
-use Rattle.asn1_rs.specs.Times.{IsMoment, IsZone, IsNoTime, TextGives, moment_of, time_leaf, has_visible_octets, says_time, utc_time_leaf, utc_time_number, fits_text, has_place, has_three_digits, utc_time_refused}
-use Rattle.asn1_rs.specs.Laws.Checks.{up_to, before_is, content_check_is, telling_check_is, nothing_is}
+use Rattle.asn1_rs.specs.Times.{IsMoment, IsZone, IsNoTime, TextGives, moment_of, time_leaf, has_visible_octets, says_time, utc_time_leaf, utc_time_number, generalized_time_leaf, generalized_time_number, generalized_time_constraints, fits_text, has_place, has_three_digits, utc_time_refused, generalized_time_refused}
+use Rattle.asn1_rs.specs.Laws.Checks.{up_to, before_is, check_is, content_check_is, telling_check_is, nothing_is}
 
 -- refusals of one tag with one text are told apart by nothing
 same_text : (tag : Tag) (text : List ℕ) (e f : Error) → IsInvalidValue tag text e → IsInvalidValue tag text f → but_text e ≡ but_text f
@@ -209,3 +216,91 @@ utc_time_lawful = time_lawful utc_time_number (λ t. moment_of t.0) SaysUtcTime 
 
 pub utc_time_accepted : (x : UtcTime) → IsStrictUtcTime (moment_of x.0) → utc_time_refused (moment_of x.0) ≡ false
 utc_time_accepted x d = accepted 99 (moment_of x.0) (utc_fits (moment_of x.0) d)
+
+-- ---- GeneralizedTime
+
+generalized_time_constraints_are : IsCheck generalized_time_constraints
+generalized_time_constraints_are = before_is _ _ (content_check_is EndsInZ _ (λ e. cc)) (check_is (λ p. ¬ HasComma p.content) (λ p. HasComma p.content) _ (λ p m b. m b) (λ p e. cc))
+
+pub generalized_time_lawful : IsLawfulLeafUpTo but_text generalized_time_leaf
+generalized_time_lawful = time_lawful generalized_time_number (λ t. moment_of t.0) SaysGeneralizedTime IsStrictGeneralizedTime generalized_time_constraints generalized_time_text (lit< tt) texts generalized_time_constraints_are (λ k m d. (generalized_ends_in_z m, generalized_no_comma m))
+  where
+    texts : AreTimeTexts SaysGeneralizedTime IsStrictGeneralizedTime generalized_time_text
+    texts = record {
+      one = generalized_times_unique;
+      holds = generalized_holds;
+      strict = generalized_says;
+      visible = generalized_visible;
+      are = generalized_octets;
+    }
+
+pub generalized_time_accepted : (x : GeneralizedTime) → IsStrictGeneralizedTime (moment_of x.0) → generalized_time_refused (moment_of x.0) ≡ false
+generalized_time_accepted x d = accepted 9999 (moment_of x.0) (generalized_fits (moment_of x.0) d)
+
+-- ---- times are equal where their fields are
+
+milliseconds_decide : (o p : Option ℕ) → Decides (option_eq nat_eq o p) (o ≡ p)
+milliseconds_decide None None = (λ h. refl, λ e. refl)
+milliseconds_decide None (Some n) = (λ h. absurd (let e = h in cc), λ e. cc)
+milliseconds_decide (Some m) None = (λ h. absurd (let e = h in cc), λ e. cc)
+milliseconds_decide (Some m) (Some n) = (λ h. ap Some ((unsigned_Decides m n).0 h), λ e. (unsigned_Decides m n).1 (let f : m ≡ n = cc in f))
+
+-- what `==` answers of zones
+abbrev zone_eq : TimeZone → TimeZone → Bool
+zone_eq = zones.ghosts.eq
+
+zones_decide : (a b : TimeZone) → Decides (zone_eq a b) (a ≡ b)
+zones_decide Undefined Undefined = (λ h. refl, λ e. refl)
+zones_decide Undefined Z = (λ h. absurd (let e = h in cc), λ e. cc)
+zones_decide Undefined (Offset i n) = (λ h. absurd (let e = h in cc), λ e. cc)
+zones_decide Z Undefined = (λ h. absurd (let e = h in cc), λ e. cc)
+zones_decide Z Z = (λ h. refl, λ e. refl)
+zones_decide Z (Offset i n) = (λ h. absurd (let e = h in cc), λ e. cc)
+zones_decide (Offset h m) Undefined = (λ h. absurd (let e = h in cc), λ e. cc)
+zones_decide (Offset h m) Z = (λ h. absurd (let e = h in cc), λ e. cc)
+zones_decide (Offset h m) (Offset i n) = (to, from)
+  where
+    to : (int_eq h i && int_eq m n) ≡ true → Offset h m ≡ Offset i n
+    to t = let both = of_both (int_eq h i) (int_eq m n) t in let hours = (signed_Decides h i).0 both.0 in let minutes = (signed_Decides m n).0 both.1 in cc
+
+    from : Offset h m ≡ Offset i n → (int_eq h i && int_eq m n) ≡ true
+    from e = let hours : h ≡ i = cc in let minutes : m ≡ n = cc in to_both (int_eq h i) (int_eq m n) ((signed_Decides h i).1 hours) ((signed_Decides m n).1 minutes)
+
+pub times_equal : (x y : ASN1DateTime) → IsTrue (nat_eq x.year y.year && (nat_eq x.month y.month && (nat_eq x.day y.day && (nat_eq x.hour y.hour && (nat_eq x.minute y.minute && (nat_eq x.second y.second &&
+    (option_eq nat_eq x.millisecond y.millisecond && zone_eq x.tz y.tz))))))) ↔ (moment_of x ≡ moment_of y)
+times_equal x y = (to, from)
+  where
+    to : (nat_eq x.year y.year && (nat_eq x.month y.month && (nat_eq x.day y.day && (nat_eq x.hour y.hour && (nat_eq x.minute y.minute && (nat_eq x.second y.second &&
+        (option_eq nat_eq x.millisecond y.millisecond && zone_eq x.tz y.tz))))))) ≡ true → moment_of x ≡ moment_of y
+    to h =
+        let year = of_both (nat_eq x.year y.year) _ h in
+        let month = of_both (nat_eq x.month y.month) _ year.1 in
+        let day = of_both (nat_eq x.day y.day) _ month.1 in
+        let hour = of_both (nat_eq x.hour y.hour) _ day.1 in
+        let minute = of_both (nat_eq x.minute y.minute) _ hour.1 in
+        let second = of_both (nat_eq x.second y.second) _ minute.1 in
+        let rest = of_both (option_eq nat_eq x.millisecond y.millisecond) (zone_eq x.tz y.tz) second.1 in
+        same_moment (moment_of x) (moment_of y) ((unsigned_Decides x.year y.year).0 year.0)
+        (record {
+          month = (unsigned_Decides x.month y.month).0 month.0;
+          day = (unsigned_Decides x.day y.day).0 day.0;
+          hour = (unsigned_Decides x.hour y.hour).0 hour.0;
+          minute = (unsigned_Decides x.minute y.minute).0 minute.0;
+        })
+        (record {
+          second = (unsigned_Decides x.second y.second).0 second.0;
+          millisecond = (milliseconds_decide x.millisecond y.millisecond).0 rest.0;
+          zone = (zones_decide x.tz y.tz).0 rest.1;
+        })
+
+    from : moment_of x ≡ moment_of y → (nat_eq x.year y.year && (nat_eq x.month y.month && (nat_eq x.day y.day && (nat_eq x.hour y.hour && (nat_eq x.minute y.minute && (nat_eq x.second y.second &&
+        (option_eq nat_eq x.millisecond y.millisecond && zone_eq x.tz y.tz))))))) ≡ true
+    from e =
+        to_both (nat_eq x.year y.year) _ ((unsigned_Decides x.year y.year).1 (ap (λ (m : Moment). m.year) e)) (
+        to_both (nat_eq x.month y.month) _ ((unsigned_Decides x.month y.month).1 (ap (λ (m : Moment). m.month) e)) (
+        to_both (nat_eq x.day y.day) _ ((unsigned_Decides x.day y.day).1 (ap (λ (m : Moment). m.day) e)) (
+        to_both (nat_eq x.hour y.hour) _ ((unsigned_Decides x.hour y.hour).1 (ap (λ (m : Moment). m.hour) e)) (
+        to_both (nat_eq x.minute y.minute) _ ((unsigned_Decides x.minute y.minute).1 (ap (λ (m : Moment). m.minute) e)) (
+        to_both (nat_eq x.second y.second) _ ((unsigned_Decides x.second y.second).1 (ap (λ (m : Moment). m.second) e)) (
+        to_both (option_eq nat_eq x.millisecond y.millisecond) (zone_eq x.tz y.tz) ((milliseconds_decide x.millisecond y.millisecond).1 (ap (λ (m : Moment). m.millisecond) e))
+        ((zones_decide x.tz y.tz).1 (ap (λ (m : Moment). m.zone) e))))))))

@@ -1,13 +1,15 @@
 -- Laws of the strict texts of times.
-use Rattle.std.proofs.Common.{◌≡◌, ◌≢◌, ℕ, zero, suc, ◌+◌, ◌/◌, ◌%◌, ◌<◌, ◌≤◌, ◌==◌, Bool, true, false, List, [], ◌∷◌, ◌++◌, inl, inr, length, length-append, decimal, Option, Some, None, IsTrue, if◌then◌else◌, nat_lt, refl, ap, subst, sym, arith}
-use Rattle.std.specs.List.{list_all}
+use Rattle.std.proofs.Common.{◌≡◌, ◌≢◌, ℕ, zero, suc, ◌+◌, ◌-◌, ◌/◌, ◌%◌, ◌<◌, ◌≤◌, ◌==◌, Bool, true, false, List, [], ◌∷◌, ◌++◌, inl, inr, length, length-append, decimal, Option, Some, None, IsTrue, if◌then◌else◌, nat_lt, nat_eq, get_or, refl, ap, subst, sym, arith}
+use Rattle.std.specs.List.{list_all, list_any}
 use Rattle.std.specs.Int.{is_in_range}
 use Rattle.std.specs.Fmt.{digits_onto, digit_glyph, digits}
 use Rattle.std.proofs.lemmas.Bool.{and_parts, cases_eq}
 use Rattle.std.proofs.lemmas.Bool.Decides.{nat_tests}
 use Rattle.std.proofs.lemmas.List.Folds.{list_all-append}
+use Rattle.std.proofs.lemmas.Option.{slice_get_read}
+use Rattle.std.proofs.Math.Seq.{get_or-append_seam}
 use Rattle.x690.specs.Octets.{IsOctets}
-use Rattle.x690.specs.Times.{z_text, SaysFraction, SaysUtcTime, SaysGeneralizedTime, fraction_text, utc_time_text, generalized_time_text, MostMilliseconds, FitsText, FitsUtcTime, FitsGeneralizedTime, IsStrictMoment, IsStrictUtcTime, IsStrictGeneralizedTime}
+use Rattle.x690.specs.Times.{z_text, to_minute, EndsInZ, HasComma, SaysFraction, SaysUtcTime, SaysGeneralizedTime, fraction_text, utc_time_text, generalized_time_text, MostMilliseconds, FitsText, FitsUtcTime, FitsGeneralizedTime, IsStrictMoment, IsStrictUtcTime, IsStrictGeneralizedTime}
 use Rattle.x690.specs.Times.{digits as decimal_digits}
 use Rattle.x690.specs.declared.times.Moment.{Moment}
 
@@ -73,7 +75,55 @@ utc_fits m s = moment_fits 99 m s.0 s.1 (subst (MostMilliseconds 999) (sym s.2) 
 pub generalized_fits : (m : Moment) → IsStrictGeneralizedTime m → FitsGeneralizedTime m
 generalized_fits m s = moment_fits 9999 m s.0 s.1 s.2
 
--- ---- they are octets from the space to 7f
+-- ---- they are octets from the point to Z
+
+-- so there is no comma among them, which is the octet before the minus
+abbrev is_inner : ℕ → Bool
+is_inner = is_in_range 46 90
+
+abbrev AreInner : List ℕ → Type 0
+AreInner octets = IsTrue (list_all is_inner octets)
+
+digit_inner : (n : ℕ) → is_inner (48 + n % 10) ≡ true
+digit_inner n = grind (arith, nat_tests)
+
+glyph_inner : (n : ℕ) → is_inner (digit_glyph false (n % 10)) ≡ true
+glyph_inner n = grind (arith, nat_tests)
+
+inner_append : (x y : List ℕ) → AreInner x → AreInner y → AreInner (x ++ y)
+inner_append x y a b = rw (list_all-append, a) b
+
+onto_inner : (k n : ℕ) (behind : List ℕ) → AreInner behind → AreInner (digits_onto k 10 false n behind)
+onto_inner zero n behind a = a
+onto_inner (suc k) n behind a =
+    let more : AreInner (digit_glyph false (n % 10) ∷ behind) = rw (glyph_inner n) a in
+    elim (n / 10 == 0) as (λ b. AreInner (if b then digit_glyph false (n % 10) ∷ behind else digits_onto k 10 false (n / 10) (digit_glyph false (n % 10) ∷ behind))) [
+      | true ↦ more
+      | false ↦ onto_inner k (n / 10) (digit_glyph false (n % 10) ∷ behind) more
+    ]
+
+decimal_inner : (n : ℕ) → AreInner (decimal n)
+unfolding digits
+decimal_inner n = onto_inner 64 n [] refl
+
+fraction_inner : (m : Option ℕ) → AreInner (fraction_text m)
+fraction_inner None = refl
+fraction_inner (Some n) =
+    chosen (n == 0) [] _ refl (chosen (nat_lt 999 n) (46 ∷ decimal n) _ (decimal_inner n)
+    (chosen (n % 100 == 0) (46 ∷ decimal_digits 1 (n / 100)) _ (simp digit_inner)
+    (chosen (n % 10 == 0) (46 ∷ decimal_digits 2 (n / 10)) (46 ∷ decimal_digits 3 n) (simp digit_inner) (simp digit_inner))))
+  where
+    chosen : (b : Bool) (x y : List ℕ) → AreInner x → AreInner y → AreInner (if b then x else y)
+    chosen true x y a b = a
+    chosen false x y a b = b
+
+utc_inner : (m : Moment) → AreInner (utc_time_text m)
+utc_inner m = simp digit_inner
+
+generalized_inner : (m : Moment) → AreInner (generalized_time_text m)
+generalized_inner m = simp digit_inner (inner_append (fraction_text m.millisecond) z_text (fraction_inner m.millisecond) refl)
+
+-- ---- such octets are from the space to 7f
 
 abbrev is_visible : ℕ → Bool
 is_visible = is_in_range 0x20 0x7f
@@ -81,58 +131,56 @@ is_visible = is_in_range 0x20 0x7f
 abbrev AreVisible : List ℕ → Type 0
 AreVisible octets = IsTrue (list_all is_visible octets)
 
-digit_visible : (n : ℕ) → is_visible (48 + n % 10) ≡ true
-digit_visible n = grind (arith, nat_tests)
+inner_is_visible : (n : ℕ) → is_inner n ≡ true → is_visible n ≡ true
+inner_is_visible n h = grind (arith, nat_tests)
 
-glyph_visible : (n : ℕ) → is_visible (digit_glyph false (n % 10)) ≡ true
-glyph_visible n = grind (arith, nat_tests)
-
-visible_append : (x y : List ℕ) → AreVisible x → AreVisible y → AreVisible (x ++ y)
-visible_append x y a b = rw (list_all-append, a) b
-
-onto_visible : (k n : ℕ) (behind : List ℕ) → AreVisible behind → AreVisible (digits_onto k 10 false n behind)
-onto_visible zero n behind a = a
-onto_visible (suc k) n behind a =
-    let more : AreVisible (digit_glyph false (n % 10) ∷ behind) = rw (glyph_visible n) a in
-    elim (n / 10 == 0) as (λ b. AreVisible (if b then digit_glyph false (n % 10) ∷ behind else digits_onto k 10 false (n / 10) (digit_glyph false (n % 10) ∷ behind))) [
-      | true ↦ more
-      | false ↦ onto_visible k (n / 10) (digit_glyph false (n % 10) ∷ behind) more
-    ]
-
-decimal_visible : (n : ℕ) → AreVisible (decimal n)
-unfolding digits
-decimal_visible n = onto_visible 64 n [] refl
-
-fraction_visible : (m : Option ℕ) → AreVisible (fraction_text m)
-fraction_visible None = refl
-fraction_visible (Some n) =
-    chosen (n == 0) [] _ refl (chosen (nat_lt 999 n) (46 ∷ decimal n) _ (decimal_visible n)
-    (chosen (n % 100 == 0) (46 ∷ decimal_digits 1 (n / 100)) _ (simp digit_visible)
-    (chosen (n % 10 == 0) (46 ∷ decimal_digits 2 (n / 10)) (46 ∷ decimal_digits 3 n) (simp digit_visible) (simp digit_visible))))
-  where
-    chosen : (b : Bool) (x y : List ℕ) → AreVisible x → AreVisible y → AreVisible (if b then x else y)
-    chosen true x y a b = a
-    chosen false x y a b = b
+are_visible : (octets : List ℕ) → AreInner octets → AreVisible octets
+are_visible [] a = refl
+are_visible (x ∷ octets) a = let parts = and_parts (is_inner x) (list_all is_inner octets) a in rw (inner_is_visible x parts.0) (are_visible octets parts.1)
 
 pub utc_visible : (m : Moment) → AreVisible (utc_time_text m)
-utc_visible m = simp digit_visible
+utc_visible m = are_visible (utc_time_text m) (utc_inner m)
 
 pub generalized_visible : (m : Moment) → AreVisible (generalized_time_text m)
-generalized_visible m = simp digit_visible (visible_append (fraction_text m.millisecond) z_text (fraction_visible m.millisecond) refl)
+generalized_visible m = are_visible (generalized_time_text m) (generalized_inner m)
 
-visible_octet : (n : ℕ) → is_visible n ≡ true → n < 256
-visible_octet n h = grind (arith, nat_tests)
+inner_is_octet : (n : ℕ) → is_inner n ≡ true → n < 256
+inner_is_octet n h = grind (arith, nat_tests)
 
-visible_octets : (octets : List ℕ) → AreVisible octets → IsOctets octets
-visible_octets [] a k = omega arith
-visible_octets (x ∷ octets) a zero = visible_octet x (and_parts (is_visible x) (list_all is_visible octets) a).0
-visible_octets (x ∷ octets) a (suc k) = visible_octets octets (and_parts (is_visible x) (list_all is_visible octets) a).1 k
+are_octets : (octets : List ℕ) → AreInner octets → IsOctets octets
+are_octets [] a k = omega arith
+are_octets (x ∷ octets) a zero = inner_is_octet x (and_parts (is_inner x) (list_all is_inner octets) a).0
+are_octets (x ∷ octets) a (suc k) = are_octets octets (and_parts (is_inner x) (list_all is_inner octets) a).1 k
 
 pub utc_octets : (m : Moment) → IsOctets (utc_time_text m)
-utc_octets m = visible_octets (utc_time_text m) (utc_visible m)
+utc_octets m = are_octets (utc_time_text m) (utc_inner m)
 
 pub generalized_octets : (m : Moment) → IsOctets (generalized_time_text m)
-generalized_octets m = visible_octets (generalized_time_text m) (generalized_visible m)
+generalized_octets m = are_octets (generalized_time_text m) (generalized_inner m)
+
+-- ---- and none of them is a comma
+
+inner_is_no_comma : (n : ℕ) → is_inner n ≡ true → nat_eq n 44 ≡ false
+inner_is_no_comma n h = grind (arith, nat_tests)
+
+have_no_comma : (octets : List ℕ) → AreInner octets → list_any (λ octet. nat_eq octet 44) octets ≡ false
+have_no_comma [] a = refl
+have_no_comma (x ∷ octets) a = let parts = and_parts (is_inner x) (list_all is_inner octets) a in rw (inner_is_no_comma x parts.0) (have_no_comma octets parts.1)
+
+pub generalized_no_comma : (m : Moment) → ¬ HasComma (generalized_time_text m)
+generalized_no_comma m h = let e = have_no_comma (generalized_time_text m) (generalized_inner m) in cc
+
+-- ---- they end in Z
+
+ends_in_z : (front : List ℕ) → EndsInZ (front ++ z_text)
+ends_in_z front =
+    let len = length-append front z_text in
+    let last : length (front ++ z_text) - 1 ≡ length front = omega (arith, len) in
+    slice_get_read (front ++ z_text) (length (front ++ z_text)) (length (front ++ z_text) - 1) 90 refl (omega (arith, len))
+    (subst (λ (i : ℕ). 90 ≡ get_or (front ++ z_text) i 90) (sym last) (sym (get_or-append_seam front 90 [] 90)))
+
+pub generalized_ends_in_z : (m : Moment) → EndsInZ (generalized_time_text m)
+generalized_ends_in_z m = ends_in_z (decimal_digits 4 m.year ++ to_minute m ++ decimal_digits 2 m.second ++ fraction_text m.millisecond)
 
 -- ---- they are short
 

@@ -17,7 +17,8 @@ made_same : (m n : Moment) → m.year ≡ n.year → SameMinute m n → SameEnd 
     made m.year m.month m.day m.hour m.minute m.second m.millisecond m.zone ≡ made n.year n.month n.day n.hour n.minute n.second n.millisecond n.zone
 made_same m n year minute end = cc
 
-same_moment : (m n : Moment) → m.year ≡ n.year → SameMinute m n → SameEnd m n → m ≡ n
+-- fields that are the same are of the same time
+pub same_moment : (m n : Moment) → m.year ≡ n.year → SameMinute m n → SameEnd m n → m ≡ n
 unfolding made
 same_moment m n = made_same m n
 

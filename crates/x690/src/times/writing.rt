@@ -3,7 +3,7 @@ ghost use Rattle.std.specs.Prelude.{ℕ, ◌≡◌, ◌+◌, ◌/◌, ◌%◌, �
 ghost use Rattle.std.specs.List.{list_all};
 ghost use Rattle.std.specs.Int.{is_in_range};
 ghost use Rattle.x690.specs.Octets.{IsOctets};
-ghost use Rattle.x690.specs.Times.{SaysUtcTime, SaysGeneralizedTime, z_text, fraction_text, utc_time_text, generalized_time_text, MostMilliseconds, FitsText, FitsUtcTime, FitsGeneralizedTime, IsStrictUtcTime, IsStrictGeneralizedTime};
+ghost use Rattle.x690.specs.Times.{SaysUtcTime, SaysGeneralizedTime, z_text, fraction_text, utc_time_text, generalized_time_text, EndsInZ, HasComma, MostMilliseconds, FitsText, FitsUtcTime, FitsGeneralizedTime, IsStrictUtcTime, IsStrictGeneralizedTime};
 ghost use Rattle.x690.specs.declared.times.Moment.{Moment};
 
 use super::{Moment, TimeZone};
@@ -39,6 +39,12 @@ pub fn strict_texts_are_short()
     ensures utc_length { (m : Moment) → length (utc_time_text m) ≡ 13 }
     ensures generalized_length { (m : Moment) → MostMilliseconds 999 m.millisecond →
         (15 ≤ length (generalized_time_text m)) × (length (generalized_time_text m) ≤ 19) }
+{}
+
+/// The strict text of a GeneralizedTime ends in Z, and has no comma (X.690 11.7.1, 11.7.4).
+pub fn generalized_texts_end_in_z()
+    ensures zone { (m : Moment) → EndsInZ (generalized_time_text m) }
+    ensures point { (m : Moment) → ¬ HasComma (generalized_time_text m) }
 {}
 
 /// The strict text of a GeneralizedTime.

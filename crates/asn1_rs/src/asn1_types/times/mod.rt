@@ -1,10 +1,12 @@
 //! Times (X.690 8.25, 8.26, 11.7, 11.8).
-ghost use Rattle.std.specs.Prelude.{◌≡◌, ◌<◌, ◌^◌};
-ghost use Rattle.x690.specs.Times.{MostMilliseconds};
+ghost use Rattle.std.specs.Prelude.{◌≡◌, ◌<◌, ◌^◌, Some};
+ghost use Rattle.x690.specs.Times.{MostMilliseconds, moment_text};
 ghost use Rattle.asn1_rs.specs.Times.{moment_of, IsMoment, IsZone};
 
+pub mod generalized_time;
 pub mod utc_time;
 
+use std::fmt;
 use x690::times::{Moment, TimeZone};
 
 /// The fields of a time. A caller may make any; which of them are read and written, the types of times say. The year of a
@@ -81,6 +83,15 @@ impl ASN1DateTime {
             millisecond: self.millisecond,
             zone: self.tz,
         }
+    }
+}
+
+/// The fields alone: `YYYYMMDDhhmmss`, the milliseconds as a fraction without zeros at its end, and `Z`, whatever the zone is.
+impl fmt::Display for ASN1DateTime {
+    ghost output = { λ d. Some (moment_text (moment_of d)) };
+
+    fn fmt<W: fmt::Write>(&self, f: &mut fmt::Formatter<W>) -> fmt::Result {
+        self.moment().fmt(f)
     }
 }
 

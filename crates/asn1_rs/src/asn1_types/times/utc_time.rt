@@ -1,11 +1,11 @@
 //! UTCTime (X.690 8.25, 11.8; X.680 47).
-ghost use Rattle.std.specs.Prelude.{◌≡◌, ◌≤◌, length};
-ghost use Rattle.x690.specs.Times.{utc_time_text};
+ghost use Rattle.std.specs.Prelude.{◌≡◌, Some};
+ghost use Rattle.x690.specs.Times.{utc_time_shown, utc_time_text};
 ghost use Rattle.asn1_rs.specs.Any.{parts_of};
 ghost use Rattle.asn1_rs.specs.Checks.{nothing};
 ghost use Rattle.asn1_rs.specs.Leaf.{LeafGives, leaf_element};
 ghost use Rattle.asn1_rs.specs.Laws.Leaf.{leaf_lawful, leaf_constraints, leaf_converts, refusing_written};
-ghost use Rattle.asn1_rs.specs.Laws.Times.{utc_time_lawful, utc_time_accepted};
+ghost use Rattle.asn1_rs.specs.Laws.Times.{utc_time_lawful, utc_time_accepted, times_equal};
 ghost use Rattle.asn1_rs.specs.Times.{utc_time_leaf, utc_time_number, UtcTextGives, moment_of, utc_time_refused, IsInvalidDateTime};
 ghost use Rattle.asn1_rs.specs.Traits.{OfParts};
 
@@ -13,13 +13,16 @@ use super::ASN1DateTime;
 use crate::asn1_types::any::Any;
 use crate::kinds::writing::WritesElement;
 use crate::kinds::{ElementKind, HasKind, LawfulConversion, LawfulElement};
+use crate::laws::LawfulMember;
 use crate::traits::{CheckDerConstraints, DerAutoDerive, FromAny, Tagged};
 use asn1_headers::error::{Error, SerializeError, SerializeResult};
 use asn1_headers::tag::Tag;
 use asn1_headers::writer::{DerWrite, put_all};
 use std::alloc::Global;
+use std::fmt;
 use x690::sets::{Visible, all_in};
 use x690::times::reading::read_utc_time;
+use x690::times::shown::ShownUtcTime;
 use x690::times::writing::write_utc_time;
 
 /// A time of the type UTCTime, whose year is that in its century: from 0 to 99, as it was read (X.680 47).
@@ -44,6 +47,15 @@ impl UtcTime {
             Some(moment) => Ok(UtcTime(ASN1DateTime::from(moment))),
             None => Err(Tag::UtcTime.invalid_value("not a time")),
         }
+    }
+}
+
+/// `YYYY-MM-DD hh:mm:ss` and the zone: `Z`, also where none is defined, or the offset.
+impl fmt::Display for UtcTime {
+    ghost output = { λ t. Some (utc_time_shown (moment_of t.0)) };
+
+    fn fmt<W: fmt::Write>(&self, f: &mut fmt::Formatter<W>) -> fmt::Result {
+        ShownUtcTime(&self.0.moment()).fmt(f)
     }
 }
 
@@ -143,4 +155,8 @@ impl WritesElement for UtcTime {
 
     ghost written = { refusing_written utc_time_leaf utc_time_lawful
         (λ t. utc_time_refused (moment_of t.0)) utc_time_accepted };
+}
+
+impl LawfulMember for UtcTime {
+    ghost same = { λ x y. times_equal x.0 y.0 };
 }

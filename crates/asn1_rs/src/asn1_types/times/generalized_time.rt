@@ -1,0 +1,170 @@
+//! GeneralizedTime (X.690 8.25, 11.7; X.680 46).
+ghost use Rattle.std.specs.Prelude.{◌≡◌, Some};
+ghost use Rattle.x690.specs.Times.{generalized_time_shown, generalized_time_text};
+ghost use Rattle.asn1_rs.specs.Any.{parts_of};
+ghost use Rattle.asn1_rs.specs.Leaf.{LeafGives, leaf_element};
+ghost use Rattle.asn1_rs.specs.Laws.Leaf.{leaf_lawful, leaf_constraints, leaf_converts, refusing_written};
+ghost use Rattle.asn1_rs.specs.Laws.Times.{generalized_time_lawful, generalized_time_accepted, times_equal};
+ghost use Rattle.asn1_rs.specs.Times.{generalized_time_leaf, generalized_time_number, generalized_time_constraints, GeneralizedTextGives, moment_of, generalized_time_refused, IsInvalidDateTime};
+ghost use Rattle.asn1_rs.specs.Traits.{OfParts};
+
+use super::ASN1DateTime;
+use crate::asn1_types::any::Any;
+use crate::kinds::writing::WritesElement;
+use crate::kinds::{ElementKind, HasKind, LawfulConversion, LawfulElement};
+use crate::laws::LawfulMember;
+use crate::traits::{CheckDerConstraints, DerAutoDerive, FromAny, Tagged};
+use asn1_headers::error::{DerConstraint, Error, SerializeError, SerializeResult};
+use asn1_headers::tag::Tag;
+use asn1_headers::writer::{DerWrite, put_all};
+use std::alloc::Global;
+use std::fmt;
+use x690::sets::{Visible, all_in};
+use x690::times::reading::read_generalized_time;
+use x690::times::shown::ShownGeneralizedTime;
+use x690::times::writing::write_generalized_time;
+
+/// A time of the type GeneralizedTime (X.680 46).
+#[derive(Debug, Drop, PartialEq, Eq, PartialOrd, Ord)]
+pub struct GeneralizedTime(pub ASN1DateTime);
+
+impl GeneralizedTime {
+    /// The time of these fields. None of them is judged.
+    pub const fn new(datetime: ASN1DateTime) -> Self
+        ensures { result.0 ≡ datetime }
+    {
+        GeneralizedTime(datetime)
+    }
+
+    /// The time that a text says: `YYYYMMDDhhmm` and `Z`, or `YYYYMMDDhhmmss`, then a fraction or none, then a zone or none.
+    /// A fraction is a point or a comma and one to three digits, a zone `Z` or a sign and `hhmm`. Refused with
+    /// `InvalidValue` where the text says none.
+    #[inline(always)]
+    pub fn from_bytes(bytes: &[u8]) -> Result<Self, Error>
+        ensures { GeneralizedTextGives bytes.now result }
+    {
+        match read_generalized_time(bytes) {
+            Some(moment) => Ok(GeneralizedTime(ASN1DateTime::from(moment))),
+            None => Err(Tag::GeneralizedTime.invalid_value("not a time")),
+        }
+    }
+}
+
+/// `YYYY-MM-DD hh:mm:ss`, the milliseconds as a fraction without zeros at its end, and the zone: `Z`, an offset, or none where
+/// none is defined.
+impl fmt::Display for GeneralizedTime {
+    ghost output = { λ t. Some (generalized_time_shown (moment_of t.0)) };
+
+    fn fmt<W: fmt::Write>(&self, f: &mut fmt::Formatter<W>) -> fmt::Result {
+        ShownGeneralizedTime(&self.0.moment()).fmt(f)
+    }
+}
+
+impl<'a> Any<'a> {
+    /// The time that the contents octets say, whether the element is primitive or constructed. Refused at another tag
+    /// number with `UnexpectedTag`, at octets outside 20 to 7f with `StringInvalidCharset`, and at another text with
+    /// `InvalidValue`.
+    pub fn generalizedtime(self) -> Result<GeneralizedTime, Error>
+        ensures { LeafGives generalized_time_leaf (parts_of self.entry) result }
+    {
+        self.as_generalizedtime()
+    }
+
+    /// The time, of an element that stays.
+    #[inline(always)]
+    pub fn as_generalizedtime(&self) -> Result<GeneralizedTime, Error>
+        ensures { LeafGives generalized_time_leaf (parts_of self.now) result }
+    {
+        self.assert_number(Tag::GeneralizedTime)?;
+        if !all_in::<Visible>(self.content) {
+            return Err(Error::StringInvalidCharset);
+        }
+        GeneralizedTime::from_bytes(self.content)
+    }
+}
+
+impl Tagged for GeneralizedTime {
+    const TAG: Tag = Tag::GeneralizedTime;
+
+    ghost TAG = { record { 0 = generalized_time_number } };
+}
+
+impl<'a> FromAny<'a> for GeneralizedTime {
+    type Error = Error;
+
+    ghost any_gives = { OfParts (LeafGives generalized_time_leaf) };
+
+    #[inline(always)]
+    fn try_from_any(_alloc: Global, any: Any<'a>) -> Result<GeneralizedTime, Error> {
+        any.as_generalizedtime()
+    }
+}
+
+impl CheckDerConstraints for GeneralizedTime {
+    ghost check_gives = { generalized_time_constraints };
+
+    /// Refuses contents octets that do not end in `Z` (X.690 11.7.1), then those with a comma (11.7.4), with
+    /// `DerConstraintFailed`.
+    fn check_constraints(any: &Any<'_>) -> Result<(), Error> {
+        if any.content.last() != Some(&b'Z') {
+            return Err(Error::DerConstraintFailed(DerConstraint::MissingTimeZone));
+        }
+        if any.content.contains(&b',') {
+            return Err(Error::DerConstraintFailed(DerConstraint::MissingSeconds));
+        }
+        Ok(())
+    }
+}
+
+impl DerAutoDerive for GeneralizedTime {}
+
+impl HasKind for GeneralizedTime {
+    type Kind = ElementKind;
+}
+
+impl LawfulElement for GeneralizedTime {
+    ghost element = { leaf_element generalized_time_leaf };
+
+    ghost lawful = { leaf_lawful generalized_time_leaf generalized_time_lawful };
+
+    ghost checked = { leaf_constraints generalized_time_leaf generalized_time_lawful };
+
+    fn value_in_hand(&self) {
+        self.0.fields_in_hand();
+    }
+}
+
+impl<'a> LawfulConversion<'a> for GeneralizedTime {
+    ghost converts = { leaf_converts generalized_time_leaf generalized_time_lawful };
+}
+
+impl WritesElement for GeneralizedTime {
+    ghost octets = { λ t. generalized_time_text (moment_of t.0) };
+
+    ghost is_refused = { λ t. generalized_time_refused (moment_of t.0) };
+
+    ghost refusal = { λ _. IsInvalidDateTime };
+
+    /// Refused with `InvalidDateTime` where the fields don't fit the text: an offset, a year past 9999, another component
+    /// past 99, milliseconds past 999.
+    fn count_octets(&self) -> Result<usize, Error> {
+        match write_generalized_time(&self.0.moment()) {
+            Some(text) => Ok(text.as_bytes().len()),
+            None => Err(Error::InvalidDateTime),
+        }
+    }
+
+    fn put_octets<W: DerWrite>(&self, w: &mut W) -> SerializeResult<usize> {
+        match write_generalized_time(&self.0.moment()) {
+            Some(text) => put_all(w, text.as_bytes()),
+            None => Err(SerializeError::ASN1Error(Error::InvalidDateTime)),
+        }
+    }
+
+    ghost written = { refusing_written generalized_time_leaf generalized_time_lawful
+        (λ t. generalized_time_refused (moment_of t.0)) generalized_time_accepted };
+}
+
+impl LawfulMember for GeneralizedTime {
+    ghost same = { λ x y. times_equal x.0 y.0 };
+}
