@@ -3,6 +3,7 @@ ghost use Rattle.std.specs.Prelude.{◌≡◌, ◌<◌, ◌^◌};
 ghost use Rattle.x690.specs.Times.{MostMilliseconds};
 ghost use Rattle.asn1_rs.specs.Times.{moment_of, IsMoment, IsZone};
 
+pub mod civil;
 pub mod utc_time;
 
 use x690::times::{Moment, TimeZone};
