@@ -18,6 +18,7 @@ pub mod ToDer
 pub mod Integer
 pub mod Enumerated
 pub mod Times
+pub mod CivilTimes
 pub mod Sequence
 pub mod Lists
 pub mod Set

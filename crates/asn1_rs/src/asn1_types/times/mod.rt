@@ -3,6 +3,7 @@ ghost use Rattle.std.specs.Prelude.{◌≡◌, ◌<◌, ◌^◌, Some};
 ghost use Rattle.x690.specs.Times.{MostMilliseconds, moment_text};
 ghost use Rattle.asn1_rs.specs.Times.{moment_of, IsMoment, IsZone};
 
+pub mod civil;
 pub mod generalized_time;
 pub mod utc_time;
 
