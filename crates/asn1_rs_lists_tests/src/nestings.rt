@@ -3,7 +3,7 @@
 use asn1_rs::{
     ApplicationExplicit, ApplicationImplicit, Error, FromBer, FromDer, LawfulBer, LawfulCheck,
     LawfulDer, LawfulMember, LawfulWrite, ParseResult, PrivateExplicit, SequenceOf, SetOf,
-    TaggedExplicit, TaggedImplicit, ToDer, Told, read_ber, read_der,
+    TaggedExplicit, TaggedImplicit, ToDer, Told, UtcTime, read_ber, read_der,
 };
 use std::alloc::Global;
 use std::collections::{BTreeSet, HashSet};
@@ -64,6 +64,11 @@ SetOf of SequenceOf of u8:
 BTreeSet of Vec of bool:
 310c30030101ff+3000+30030101ff = 3107300030030101ff rest - by BER 9 3107300030030101ff rest -
 31053003010101 = Error(DerConstraintFailed(InvalidBoolean)) by BER 7 310530030101ff rest -
+
+BTreeSet of UtcTime:
+312d+170d3931303632353036323334355a+170d3931303632353036323334345a+170d3931303632353036323334355a = \
+311e170d3931303632353036323334345a170d3931303632353036323334355a rest - \
+by BER 32 311e170d3931303632353036323334345a170d3931303632353036323334355a rest -
 
 Vec of HashSet of i8:
 300b31090201ff020100+0201ff = 300831060201000201ff rest - by BER 10 300831060201000201ff rest -
@@ -148,6 +153,11 @@ fn push_lists_once(text: &mut String, alloc: Global, octets: &[u8]) -> Result<()
     push_read::<BTreeSet<Vec<bool>>>(text, alloc, octets)
 }
 
+/// A set of times, each once.
+fn push_times_once(text: &mut String, alloc: Global, octets: &[u8]) -> Result<(), Fail> {
+    push_lawful::<BTreeSet<UtcTime>>(text, alloc, octets)
+}
+
 /// A list of sets of numbers, each once.
 fn push_numbers_once(text: &mut String, alloc: Global, octets: &[u8]) -> Result<(), Fail> {
     push_read::<Vec<HashSet<i8>>>(text, alloc, octets)
@@ -164,6 +174,7 @@ fn push_list_read(text: &mut String, alloc: Global, name: &str, octets: &[u8]) -
         "SequenceOf of SetOf of u16" => push_sequence_of_sets(text, alloc, octets),
         "SetOf of SequenceOf of u8" => push_set_of_sequences(text, alloc, octets),
         "BTreeSet of Vec of bool" => push_lists_once(text, alloc, octets),
+        "BTreeSet of UtcTime" => push_times_once(text, alloc, octets),
         "Vec of HashSet of i8" => push_numbers_once(text, alloc, octets),
         "Vec of Vec of Vec of u8" => push_lists_in_lists(text, alloc, octets),
         _ => Ok(text.push_str("no such call")?),

@@ -1,25 +1,27 @@
-//! Times: how they are made, read, converted, compared and written (X.690 8.25, 11.8; X.680 47).
+//! Times: how they are made, read, converted, compared, shown and written (X.690 8.25, 11.8; X.680 47).
 
 use asn1_rs::{
     ASN1DateTime, ASN1TimeZone, Any, Err, Error, FromBer, FromDer, ParseResult, ToDer, Told,
     UtcTime,
 };
 use std::alloc::Global;
-use std::fmt::Write;
+use std::fmt::{Display, Write};
 use std::test::Fail;
-use test_rows::{Calls, assert_all, assert_rows, assert_text, push_debug, push_digits, sides};
+use test_rows::{
+    Calls, assert_all, assert_rows, assert_text, assert_texts, push_debug, push_digits, sides,
+};
 
-/// Texts as contents octets of a UTCTime, by BER and by DER: the fields that X.680 47 says of them, how many octets are
-/// written, and which (X.690 11.8): identifier and length octets, and the text. An offset is not written.
+/// Texts as contents octets of a UTCTime, by BER and by DER: the fields that X.680 47 says of them, how they are shown, how
+/// many octets are written, and which (X.690 11.8): identifier and length octets, and the text. An offset is not written.
 const SAID: &str = "\
-910625062345Z = 91 6 25 6 23 45 None Z count Ok(15) written Ok(15) 170d 910625062345Z
-9106250623Z = 91 6 25 6 23 0 None Z count Ok(15) written Ok(15) 170d 910625062300Z
-910625062345-0030 = 91 6 25 6 23 45 None Offset(0, -30) count Err(InvalidDateTime) \
-written Err(ASN1Error(InvalidDateTime)) -
-910625062345-0000 = 91 6 25 6 23 45 None Offset(0, 0) count Err(InvalidDateTime) \
-written Err(ASN1Error(InvalidDateTime)) -
-910625062345+9999 = 91 6 25 6 23 45 None Offset(99, 99) count Err(InvalidDateTime) \
-written Err(ASN1Error(InvalidDateTime)) -
+910625062345Z = 91 6 25 6 23 45 None Z shown 0091-06-25 06:23:45Z count Ok(15) written Ok(15) 170d 910625062345Z
+9106250623Z = 91 6 25 6 23 0 None Z shown 0091-06-25 06:23:00Z count Ok(15) written Ok(15) 170d 910625062300Z
+910625062345-0030 = 91 6 25 6 23 45 None Offset(0, -30) shown 0091-06-25 06:23:45-0030 \
+count Err(InvalidDateTime) written Err(ASN1Error(InvalidDateTime)) -
+910625062345-0000 = 91 6 25 6 23 45 None Offset(0, 0) shown 0091-06-25 06:23:45+0000 \
+count Err(InvalidDateTime) written Err(ASN1Error(InvalidDateTime)) -
+910625062345+9999 = 91 6 25 6 23 45 None Offset(99, 99) shown 0091-06-25 06:23:45+9999 \
+count Err(InvalidDateTime) written Err(ASN1Error(InvalidDateTime)) -
 9106250623+0530 = InvalidValue of Tag(23)
 910625062345.3Z = InvalidValue of Tag(23)
 910625062345 = InvalidValue of Tag(23)
@@ -29,7 +31,8 @@ written Err(ASN1Error(InvalidDateTime)) -
 /// text, and the tag number before both. The encoding may be constructed.
 const READ: &str = "\
 UtcTime::from_der:
-370d3931303632353036323334355a = 91 6 25 6 23 45 None Z count Ok(15) written Ok(15) 170d 910625062345Z
+370d3931303632353036323334355a = 91 6 25 6 23 45 None Z shown 0091-06-25 06:23:45Z \
+count Ok(15) written Ok(15) 170d 910625062345Z
 170d39313036323530363233343580 = Error(StringInvalidCharset)
 170180 = Error(StringInvalidCharset)
 170d3931303632353036323334357f = InvalidValue of Tag(23)
@@ -38,7 +41,8 @@ UtcTime::from_der:
 180180 = Error(UnexpectedTag { expected: Some(Tag(23)), actual: Tag(24) })
 
 UtcTime::from_ber:
-370d3931303632353036323334355a = 91 6 25 6 23 45 None Z count Ok(15) written Ok(15) 170d 910625062345Z
+370d3931303632353036323334355a = 91 6 25 6 23 45 None Z shown 0091-06-25 06:23:45Z \
+count Ok(15) written Ok(15) 170d 910625062345Z
 170d39313036323530363233343580 = Error(StringInvalidCharset)
 170d3931303632353036323334357f = InvalidValue of Tag(23)
 1700 = InvalidValue of Tag(23)
@@ -46,19 +50,22 @@ UtcTime::from_ber:
 180180 = Error(UnexpectedTag { expected: Some(Tag(23)), actual: Tag(24) })
 
 UtcTime::from_bytes:
-3931303632353036323334355a = 91 6 25 6 23 45 None Z count Ok(15) written Ok(15) 170d 910625062345Z
+3931303632353036323334355a = 91 6 25 6 23 45 None Z shown 0091-06-25 06:23:45Z \
+count Ok(15) written Ok(15) 170d 910625062345Z
 39313036323530363233343580 = InvalidValue of Tag(23)
 80 = InvalidValue of Tag(23)
 - = InvalidValue of Tag(23)
 
 Any::utctime:
-170b393130363235303632335a = 91 6 25 6 23 0 None Z count Ok(15) written Ok(15) 170d 910625062300Z
+170b393130363235303632335a = 91 6 25 6 23 0 None Z shown 0091-06-25 06:23:00Z \
+count Ok(15) written Ok(15) 170d 910625062300Z
 170180 = Error(StringInvalidCharset)
 1700 = InvalidValue of Tag(23)
 180180 = Error(UnexpectedTag { expected: Some(Tag(23)), actual: Tag(24) })
 
 Any::as_utctime:
-170b393130363235303632335a = 91 6 25 6 23 0 None Z count Ok(15) written Ok(15) 170d 910625062300Z
+170b393130363235303632335a = 91 6 25 6 23 0 None Z shown 0091-06-25 06:23:00Z \
+count Ok(15) written Ok(15) 170d 910625062300Z
 170180 = Error(StringInvalidCharset)
 1700 = InvalidValue of Tag(23)
 180180 = Error(UnexpectedTag { expected: Some(Tag(23)), actual: Tag(24) })
@@ -89,10 +96,22 @@ fn push_writing<T: ToDer>(text: &mut String, alloc: Global, value: &T) -> Result
     push_element(text, w.as_inner().as_slice())
 }
 
-/// Appends a time: its fields, and how it is written.
-fn push_time(text: &mut String, alloc: Global, time: &UtcTime) -> Result<(), Fail> {
-    push_fields(text, &time.0)?;
-    text.push(' ')?;
+/// A type of times.
+pub(crate) trait Time: ToDer + Display + Drop {
+    /// The fields.
+    fn fields(&self) -> &ASN1DateTime;
+}
+
+impl Time for UtcTime {
+    fn fields(&self) -> &ASN1DateTime {
+        &self.0
+    }
+}
+
+/// Appends a time: its fields, how it is shown, and how it is written.
+fn push_time<T: Time>(text: &mut String, alloc: Global, time: &T) -> Result<(), Fail> {
+    push_fields(text, time.fields())?;
+    write!(text, " shown {time} ")?;
     push_writing(text, alloc, time)
 }
 
@@ -105,10 +124,10 @@ fn push_refusal(text: &mut String, refusal: &Err<Error>) -> Result<(), Fail> {
 }
 
 /// Appends what a reader of times answers.
-fn push_answer(
+pub(crate) fn push_answer<T: Time>(
     text: &mut String,
     alloc: Global,
-    answer: ParseResult<'_, UtcTime, Error>,
+    answer: ParseResult<'_, T, Error>,
 ) -> Result<(), Fail> {
     match answer {
         Ok((_, time)) => push_time(text, alloc, &time),
@@ -117,10 +136,10 @@ fn push_answer(
 }
 
 /// Appends what a conversion answers.
-fn push_converted(
+pub(crate) fn push_converted<T: Time>(
     text: &mut String,
     alloc: Global,
-    answer: Result<UtcTime, Error>,
+    answer: Result<T, Error>,
 ) -> Result<(), Fail> {
     match answer {
         Ok(time) => push_time(text, alloc, &time),
@@ -128,16 +147,9 @@ fn push_converted(
     }
 }
 
-/// The element at the front, by BER, as a time.
-fn push_by_value(text: &mut String, alloc: Global, octets: &[u8]) -> Result<(), Fail> {
-    let any = Any::from_ber(alloc, octets)?.1;
-    push_converted(text, alloc, any.utctime())
-}
-
-/// The same, of an element that stays.
-fn push_kept(text: &mut String, alloc: Global, octets: &[u8]) -> Result<(), Fail> {
-    let any = Any::from_ber(alloc, octets)?.1;
-    push_converted(text, alloc, any.as_utctime())
+/// The element at the front, by BER.
+pub(crate) fn element(alloc: Global, octets: &[u8]) -> Result<Any<'_>, Fail> {
+    Ok(Any::from_ber(alloc, octets)?.1)
 }
 
 /// The calls of the table.
@@ -149,8 +161,8 @@ impl Calls for Times {
             "UtcTime::from_der" => push_answer(text, alloc, UtcTime::from_der(alloc, octets)),
             "UtcTime::from_ber" => push_answer(text, alloc, UtcTime::from_ber(alloc, octets)),
             "UtcTime::from_bytes" => push_converted(text, alloc, UtcTime::from_bytes(octets)),
-            "Any::utctime" => push_by_value(text, alloc, octets),
-            "Any::as_utctime" => push_kept(text, alloc, octets),
+            "Any::utctime" => push_converted(text, alloc, element(alloc, octets)?.utctime()),
+            "Any::as_utctime" => push_converted(text, alloc, element(alloc, octets)?.as_utctime()),
             _ => Ok(text.push_str("no such call")?),
         }
     }
@@ -161,64 +173,65 @@ fn times_are_read_and_written(rt: HostRuntime) -> Result<(), Fail> {
     assert_rows::<Times>(rt.alloc(), READ)
 }
 
-/// The element of a UTCTime with this text, of fewer than 128 octets.
-fn element_of(alloc: Global, text: &str) -> Result<Vec<u8>, Fail> {
+/// The element with this identifier octet and this text, of fewer than 128 octets.
+fn element_of(alloc: Global, identifier: u8, text: &str) -> Result<Vec<u8>, Fail> {
     let mut octets = Vec::new(alloc);
-    octets.push(0x17)?;
+    octets.push(identifier)?;
     octets.push(u8::try_from(text.len())?)?;
     octets.extend_from_slice(text.as_bytes())?;
     Ok(octets)
 }
 
-/// Asserts what a call answers at an element.
-fn assert_answer(alloc: Global, name: &str, octets: &[u8], expected: &str) -> Result<(), Fail> {
-    let mut text = String::new(alloc);
-    Times::answer(&mut text, alloc, name, octets)?;
-    assert_text(name, text.as_str(), expected)
-}
-
-#[test]
-fn texts_say_times(rt: HostRuntime) -> Result<(), Fail> {
-    for row in SAID.lines() {
+/// Asserts what a reader answers at the elements with this identifier octet and the texts of a table.
+pub(crate) fn assert_said<C: Calls>(
+    alloc: Global,
+    reader: &str,
+    identifier: u8,
+    table: &str,
+) -> Result<(), Fail> {
+    for row in table.lines() {
         let (said, expected) = sides(row)?;
-        let octets = element_of(rt.alloc(), said)?;
-        assert_answer(rt.alloc(), "UtcTime::from_der", octets.as_slice(), expected)?;
-        assert_answer(rt.alloc(), "UtcTime::from_ber", octets.as_slice(), expected)?;
+        let octets = element_of(alloc, identifier, said)?;
+        let mut text = String::new(alloc);
+        C::answer(&mut text, alloc, reader, octets.as_slice())?;
+        assert_text(said, text.as_str(), expected)?;
     }
     Ok(())
 }
 
-/// Asserts how the time of these fields is written.
-fn assert_writing(alloc: Global, time: ASN1DateTime, expected: &str) -> Result<(), Fail> {
+#[test]
+fn texts_say_times(rt: HostRuntime) -> Result<(), Fail> {
+    assert_said::<Times>(rt.alloc(), "UtcTime::from_der", 0x17, SAID)?;
+    assert_said::<Times>(rt.alloc(), "UtcTime::from_ber", 0x17, SAID)
+}
+
+/// Asserts how a value is written.
+pub(crate) fn assert_writing<T: ToDer>(
+    alloc: Global,
+    value: &T,
+    expected: &str,
+) -> Result<(), Fail> {
     let mut text = String::new(alloc);
-    push_writing(&mut text, alloc, &UtcTime::new(time))?;
-    assert_text("a time is written", text.as_str(), expected)
+    push_writing(&mut text, alloc, value)?;
+    assert_text("a value is written", text.as_str(), expected)
 }
 
 /// How a time is refused that the text does not hold.
-const REFUSED: &str = "count Err(InvalidDateTime) written Err(ASN1Error(InvalidDateTime)) -";
+pub(crate) const REFUSED: &str =
+    "count Err(InvalidDateTime) written Err(ASN1Error(InvalidDateTime)) -";
 
 #[test]
 fn times_by_hand_are_written(rt: HostRuntime) -> Result<(), Fail> {
     let (alloc, z) = (rt.alloc(), ASN1TimeZone::Z);
     let written = "count Ok(15) written Ok(15) 170d 910625062345Z";
-    assert_writing(
-        alloc,
-        ASN1DateTime::new(91, 6, 25, 6, 23, 45, Some(999), z),
-        written,
-    )?;
+    let time = UtcTime::new(ASN1DateTime::new(91, 6, 25, 6, 23, 45, Some(999), z));
+    assert_writing(alloc, &time, written)?;
     let undefined = ASN1TimeZone::Undefined;
-    assert_writing(
-        alloc,
-        ASN1DateTime::new(91, 6, 25, 6, 23, 45, None, undefined),
-        written,
-    )?;
+    let time = UtcTime::new(ASN1DateTime::new(91, 6, 25, 6, 23, 45, None, undefined));
+    assert_writing(alloc, &time, written)?;
     let written = "count Ok(15) written Ok(15) 170d 910025062345Z";
-    assert_writing(
-        alloc,
-        ASN1DateTime::new(91, 0, 25, 6, 23, 45, None, z),
-        written,
-    )
+    let time = UtcTime::new(ASN1DateTime::new(91, 0, 25, 6, 23, 45, None, z));
+    assert_writing(alloc, &time, written)
 }
 
 #[test]
@@ -235,9 +248,36 @@ fn times_by_hand_are_refused(rt: HostRuntime) -> Result<(), Fail> {
         ASN1DateTime::new(91, 6, 25, 6, 23, 45, None, ASN1TimeZone::Offset(0, 0)),
     ];
     for time in table {
-        assert_writing(rt.alloc(), time, REFUSED)?;
+        assert_writing(rt.alloc(), &UtcTime::new(time), REFUSED)?;
     }
     Ok(())
+}
+
+/// The hours of an offset from -128 on have a magnitude, and numbers past their width are whole.
+#[test]
+fn times_by_hand_are_shown(rt: HostRuntime) -> Result<(), Fail> {
+    let west = ASN1TimeZone::Offset(-128, 0);
+    let times = [
+        UtcTime::new(ASN1DateTime::new(91, 6, 25, 6, 23, 45, Some(999), west)),
+        UtcTime::new(ASN1DateTime::new(12345, 6, 25, 100, 23, 45, None, ASN1TimeZone::Undefined)),
+    ];
+    let expected = "0091-06-25 06:23:45-12800\n12345-06-25 100:23:45Z\n";
+    assert_texts(rt.alloc(), &times, expected)
+}
+
+/// Fields alone end in Z, whatever their zone is.
+#[test]
+fn fields_are_shown(rt: HostRuntime) -> Result<(), Fail> {
+    let (z, offset) = (ASN1TimeZone::Z, ASN1TimeZone::Offset(5, 30));
+    let times = [
+        ASN1DateTime::new(1985, 11, 6, 21, 6, 27, None, ASN1TimeZone::Undefined),
+        ASN1DateTime::new(1985, 11, 6, 21, 6, 27, Some(0), z),
+        ASN1DateTime::new(91, 1, 2, 3, 4, 5, Some(30), offset),
+        ASN1DateTime::new(12345, 11, 6, 100, 6, 27, Some(1000), z),
+    ];
+    let expected = "19851106210627Z\n19851106210627Z\n00910102030405.03Z\n123451106100\
+0627.1000Z\n";
+    assert_texts(rt.alloc(), &times, expected)
 }
 
 /// A list with a time that is not written appends nothing.
@@ -247,9 +287,7 @@ fn list_with_an_offset_is_refused(rt: HostRuntime) -> Result<(), Fail> {
     let mut times = Vec::new(alloc);
     times.push(UtcTime::from_bytes(b"910625062345Z")?)?;
     times.push(UtcTime::from_bytes(b"910625062345-0030")?)?;
-    let mut text = String::new(alloc);
-    push_writing(&mut text, alloc, &times)?;
-    assert_text("a list", text.as_str(), REFUSED)
+    assert_writing(alloc, &times, REFUSED)
 }
 
 #[test]
@@ -264,7 +302,7 @@ fn time_has_its_fields(rt: HostRuntime) -> Result<(), Fail> {
 }
 
 /// Whether the first is less than the second, by each comparison.
-fn is_less<T: Ord>(one: &T, other: &T) -> bool {
+pub(crate) fn is_less<T: Ord>(one: &T, other: &T) -> bool {
     let by_order = one.cmp(other).is_lt() && other.cmp(one).is_gt();
     by_order && *one < *other && *one <= *other && *other > *one && *one != *other
 }
