@@ -103,6 +103,7 @@ pub use asn1_types::strings::kinds::VideotexString;
 pub use asn1_types::strings::kinds::VisibleKind;
 pub use asn1_types::strings::kinds::VisibleString;
 pub use asn1_types::strings::kinds::numbers_of_strings;
+pub use asn1_types::strings::strings_have_one_refusal;
 pub use asn1_types::tagged::ApplicationExplicit;
 pub use asn1_types::tagged::ApplicationImplicit;
 pub use asn1_types::tagged::Explicit;

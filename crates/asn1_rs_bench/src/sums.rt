@@ -1,6 +1,9 @@
 //! What a value adds to the check of a workload.
 
-use asn1_rs::{Any, OctetString, Oid, SetOf};
+use asn1_rs::{
+    ASN1DateTime, Any, CodedKind, CodedString, GeneralizedTime, OctetString, Oid, RestrictedString,
+    SetOf, StringKind, UtcTime,
+};
 
 /// A value that adds to a check.
 pub(crate) trait Summed {
@@ -44,6 +47,41 @@ impl Summed for OctetString<'_> {
 impl Summed for Oid<'_> {
     fn sum(&self) -> u64 {
         self.as_bytes().len() as u64
+    }
+}
+
+/// A string adds how many octets its text has in UTF-8.
+impl<K: StringKind> Summed for RestrictedString<'_, K> {
+    fn sum(&self) -> u64 {
+        self.as_str().len() as u64
+    }
+}
+
+impl<K: CodedKind> Summed for CodedString<'_, K> {
+    fn sum(&self) -> u64 {
+        self.as_str().len() as u64
+    }
+}
+
+/// A time adds its year, its day, its second and its milliseconds, none being 0.
+impl Summed for ASN1DateTime {
+    fn sum(&self) -> u64 {
+        u64::from(self.year)
+            .wrapping_add(u64::from(self.day))
+            .wrapping_add(u64::from(self.second))
+            .wrapping_add(u64::from(self.millisecond.unwrap_or(0)))
+    }
+}
+
+impl Summed for UtcTime {
+    fn sum(&self) -> u64 {
+        self.0.sum()
+    }
+}
+
+impl Summed for GeneralizedTime {
+    fn sum(&self) -> u64 {
+        self.0.sum()
     }
 }
 

@@ -6,7 +6,11 @@ use crate::nested::{EightDeep, SixtyFourDeep, ThirtyTwoDeep};
 use crate::rounds::{Outcome, Rounds};
 use crate::rows::{Kept, arcs_of_row, read_row, texts_of_row, values_of, walk, write_row};
 use crate::sums::Summed;
-use asn1_rs::{Any, BerParser, DerParser, Error, OctetString, Oid, ReadsItems, SetOf, ToDer};
+use asn1_rs::{
+    Any, BerParser, BmpString, DerParser, Error, GeneralizedTime, Ia5String, NumericString,
+    OctetString, Oid, PrintableString, ReadsItems, SetOf, ToDer, UniversalString, UtcTime,
+    Utf8String,
+};
 use std::alloc::Global;
 use std::time::CpuClock;
 
@@ -91,10 +95,25 @@ impl<'a, C: CpuClock> Bench<'a, C> {
             b"setof_u32" => self.read::<SetOf<u32>, DerParser>(),
             b"octets" => self.read::<OctetString<'_>, DerParser>(),
             b"oid" => self.read::<Oid<'_>, DerParser>(),
+            b"utctime" => self.read::<UtcTime, DerParser>(),
+            b"gentime" => self.read::<GeneralizedTime, DerParser>(),
             b"names" => self.read::<Vec<SetOf<Attribute<'_>>>, DerParser>(),
             b"nested_08" => self.read::<EightDeep, DerParser>(),
             b"nested_32" => self.read::<ThirtyTwoDeep, DerParser>(),
             b"nested_64" => self.read::<SixtyFourDeep, DerParser>(),
+            _ => self.read_text(kind),
+        }
+    }
+
+    /// Reads a row of strings of the kind of this name.
+    fn read_text(&self, kind: &[u8]) -> Result<Outcome, Failure> {
+        match kind {
+            b"printable" => self.read::<PrintableString<'_>, DerParser>(),
+            b"ia5" => self.read::<Ia5String<'_>, DerParser>(),
+            b"numeric" => self.read::<NumericString<'_>, DerParser>(),
+            b"utf8" => self.read::<Utf8String<'_>, DerParser>(),
+            b"bmp" => self.read::<BmpString<'_>, DerParser>(),
+            b"universal" => self.read::<UniversalString<'_>, DerParser>(),
             _ => Err(Failure::NoSuchWorkload),
         }
     }
@@ -119,11 +138,26 @@ impl<'a, C: CpuClock> Bench<'a, C> {
             b"setof_u32" => self.write::<SetOf<u32>>(),
             b"octets" => self.write::<OctetString<'_>>(),
             b"oid" => self.write::<Oid<'_>>(),
+            b"utctime" => self.write::<UtcTime>(),
+            b"gentime" => self.write::<GeneralizedTime>(),
             b"names" => self.write::<Vec<SetOf<Attribute<'_>>>>(),
             b"nested_08" => self.write::<EightDeep>(),
             b"nested_32" => self.write::<ThirtyTwoDeep>(),
             b"nested_64" => self.write::<SixtyFourDeep>(),
             b"certs_any" => self.write::<Any<'_>>(),
+            _ => self.write_text(kind),
+        }
+    }
+
+    /// Writes the values of a row of strings of the kind of this name.
+    fn write_text(&self, kind: &[u8]) -> Result<Outcome, Failure> {
+        match kind {
+            b"printable" => self.write::<PrintableString<'_>>(),
+            b"ia5" => self.write::<Ia5String<'_>>(),
+            b"numeric" => self.write::<NumericString<'_>>(),
+            b"utf8" => self.write::<Utf8String<'_>>(),
+            b"bmp" => self.write::<BmpString<'_>>(),
+            b"universal" => self.write::<UniversalString<'_>>(),
             _ => Err(Failure::NoSuchWorkload),
         }
     }

@@ -8,6 +8,7 @@ pub mod OneReading
 pub mod OneRefusal
 pub mod OneTag
 pub mod ShownLaws
+pub mod WrittenTimes
 pub mod Split
 pub mod NamedTypes
 pub mod Walks

@@ -1,14 +1,16 @@
 -- A line has one answer, except when out of memory.
-use Rattle.std.proofs.Common.{◌≡◌, ◌∙◌, sym, ap, subst, List, [], ◌∷◌, ◌++◌, length, ℕ, true, false, ◌⊎◌, inl, inr, refl, Ok, Err, codes, arith, Option, Some, Result}
-use Rattle.std.specs.Prelude.{ℤ, pos, decimal, Bool as Truth}
+use Rattle.std.proofs.Common.{◌≡◌, ◌<◌, ◌∙◌, lit<, sym, ap, subst, List, [], ◌∷◌, ◌++◌, length, ℕ, true, false, ◌⊎◌, inl, inr, refl, Ok, Err, codes, arith, Option, Some, Result}
+use Rattle.std.specs.Prelude.{ℤ, pos, decimal, Bool as Truth, IsUtf8}
 use Rattle.std.specs.Fmt.{signed_decimal}
 use Rattle.std.proofs.Math.Dec.{eqb}
 use Rattle.std.specs.List.{find}
 use Rattle.std.specs.Cmp.Lexicographic.{pointwise}
 use Rattle.x690.specs.Signed.{IsSigned}
+use Rattle.x690.specs.Times.{utc_time_shown, generalized_time_shown}
 use Rattle.asn1_headers.specs.declared.error.Error.{Error}
+use Rattle.asn1_headers.specs.declared.error.Error.TheVariants.{InvalidDateTime}
 use Rattle.asn1_rs.specs.declared.asn1_types.any.Any.{Any as AnyElement}
-use Rattle.asn1_rs.specs.Any.{IsTheElement, IsDefiniteOr}
+use Rattle.asn1_rs.specs.Any.{IsTheElement, IsDefiniteOr, parts_of}
 use Rattle.asn1_rs.specs.Traits.{OfParts}
 use Rattle.asn1_rs.specs.Any.Value.{element_of, ElementBody, ElementCheck, ElementForm}
 use Rattle.asn1_rs.specs.Integer.{IntegerCheck, IntegerCheckGives, IntegerBody, IntegerForm, IntegerGives, IsUnsigned, UnsignedRefuses, SignedRefuses}
@@ -33,22 +35,35 @@ use Rattle.asn1_rs.specs.Oid.{OidValue, OidGives, oid_constraints, oid_element, 
 use Rattle.asn1_rs.specs.Laws.Oid.{oid_constraints_are, oid_lawful}
 use Rattle.asn1_rs.specs.Laws.Null.{null_lawful}
 use Rattle.asn1_rs.specs.Laws.OctetString.{octet_string_lawful}
+use Rattle.asn1_rs.specs.Strings.{StringGives, string_leaf}
+use Rattle.asn1_rs.specs.CodedStrings.{coded_string_leaf}
+use Rattle.asn1_rs.specs.Laws.Strings.{string_lawful}
+use Rattle.asn1_rs.specs.Laws.CodedStrings.{coded_string_lawful}
+use Rattle.asn1_rs.specs.Times.{utc_time_leaf, utc_time_refused, generalized_time_leaf, generalized_time_refused}
+use Rattle.asn1_rs.specs.Laws.Times.{utc_time_lawful, generalized_time_lawful}
+use Rattle.asn1_headers.specs.Tag.{is_container_number}
+use Rattle.x690.specs.Characters.{IsCharacterCode, ucs4_octets_of, utf16_octets_of}
+use Rattle.x690.specs.Laws.Characters.{ucs4_code, utf16_code}
+use Rattle.x690.specs.Sets.{AllIn, is_numeric, is_printable, is_visible}
+use Rattle.x690.specs.Laws.Sets.{ascii_ascii, in_set_utf8, numeric_ascii, printable_ascii, visible_ascii}
+use Rattle.std.specs.Char.{is_ascii}
 use Rattle.asn1_rs.specs.Laws.Any.Value.{element_lawful, element_checks}
 use Rattle.asn1_rs.specs.Laws.Integer.{one_integer_check_refusal, integer_checks, one_integer_refusal, integer_lawful}
 use Rattle.asn1_rs.specs.Laws.Integer.Unsigned.{one_unsigned_refusal}
 use Rattle.asn1_rs.specs.Laws.Integer.Signed.{one_signed_refusal}
 use Rattle.asn1vec_answers.specs.declared.request.Rule.{Rule}
 use Rattle.asn1vec_answers.specs.declared.types.TypeName.{TypeName}
-use Rattle.asn1vec_answers.specs.declared.types.TypeName.TheVariants.{U8, U16, U32, U64, U128, I8, I16, I32, I64, I128, Any, Bool, Null, Enumerated, Integer, Octets, Bits, Eoc, VecU8, VecU32, VecBool, VecVecU8, SetOfU8, BTreeSetU8, Sequence, Set, SeqOfU32, Explicit0U32, Explicit31U8, VecExplicit31U8, OptU8, HashSetI8, Implicit1VecU16, Oid}
+use Rattle.asn1vec_answers.specs.declared.types.TypeName.TheVariants.{U8, U16, U32, U64, U128, I8, I16, I32, I64, I128, Any, Bool, Null, Enumerated, Integer, Octets, Bits, Eoc, VecU8, VecU32, VecBool, VecVecU8, SetOfU8, BTreeSetU8, Sequence, Set, SeqOfU32, Explicit0U32, Explicit31U8, VecExplicit31U8, OptU8, HashSetI8, Implicit1VecU16, Oid, Utf8, Numeric, Printable, Teletex, Videotex, Ia5, Graphic, Visible, General, Descriptor, Universal, Bmp, UtcTime, GenTime}
+use Rattle.asn1vec_answers.proofs.NamedTypes.{types}
 use Rattle.asn1vec_answers.specs.Request.{IsRequest}
 use Rattle.asn1vec_answers.specs.Shown.{Encoding, IsWritten, IsWrittenUnless, bits_text, element_text, identifier_text, in_hexadecimal, truth_text}
 use Rattle.asn1vec_answers.specs.Meaning.{Meaning}
-use Rattle.asn1vec_answers.specs.Types.{name_allocates, name_of, meaning_of, integers, elements, identifiers, LeafEncoding, copying_leaf, leaf, leaf_by, lent_leaf, leaf_octets, refusing_leaf, ends, Names, IsTypeAnswer}
+use Rattle.asn1vec_answers.specs.Types.{name_allocates, name_of, meaning_of, integers, elements, identifiers, LeafEncoding, copying_leaf, coded_strings, leaf, leaf_by, lent_leaf, leaf_octets, refusing_leaf, strings, ends, Names, IsTypeAnswer}
 use Rattle.asn1vec_answers.specs.Answer.{IsRequestAnswer, IsRefusedLine, IsAnswered, IsAnswer}
 use Rattle.asn1vec_answers.specs.Memory.{AsksForNoneThatAllocates, DifferByMemory, AreAlike, TakesNoMemory}
 use Rattle.asn1vec_answers.proofs.OneReading.{HasOneAnswer, SameEncoding, ShownAlike, answers_alike, optional_once, readings_weaker, strict_same, unless_same, written_same, ber_same, either_same}
 use Rattle.asn1vec_answers.proofs.OneItem.{alone_once, collection_once, hashed_signed_once, leaf_item_once, ordered_unsigned_once, sequence_of_once, unordered_set_once, unsigned_once, vector_once}
-use Rattle.asn1vec_answers.proofs.OneRefusal.{IsOneRefusal, IsOneRefusalBut, KeepsNames, one_name, one_of_copied, one_of_parts, whole_keeps}
+use Rattle.asn1vec_answers.proofs.OneRefusal.{IsOneRefusal, IsOneRefusalBut, KeepsNames, one_name, one_of_copied, one_of_parts, but_text_keeps, whole_keeps}
 use Rattle.asn1vec_answers.proofs.OneTag.{explicit_once, implicit_vector_once}
 use Rattle.asn1_rs.specs.Kept.{sequence_leaf, set_leaf}
 use Rattle.asn1_rs.specs.Laws.Kept.{sequence_lawful, set_lawful}
@@ -102,11 +117,16 @@ module _ {K : Type 0} {key : Error → K} (keeps : KeepsNames key) {T : Type 0} 
       shown : (x y : T) → L.value x ≡ L.value y → ShownAlike (leaf_by allocates L converts Encodes text) x y
       shown x y same = record { text = ap text same; encoding = λ e f h k. encoding (L.value y) e f (subst (λ (v : L.Value). Encodes v e) same h) k }
 
+  -- one whose conversion refuses only as the leaf does, and that copies nothing
+  leaf_as_once : (converts : AnyElement → Result T Error → Type 0) (text : L.Value → List ℕ) → ((a : AnyElement) (e : Error) → converts a (Err e) → LeafGives L (parts_of a) (Err e)) → HasOneAnswer (leaf_by false L converts (LeafEncoding L) text)
+  leaf_as_once converts text refuses =
+      leaf_by_once false converts (LeafEncoding L) text (λ a b e f same h k. one_of_parts (LeafGives L) conversion_once a b e f same (refuses a e h) (refuses b f k)) (λ v. written_same false (leaf_octets L v))
+
   leaf_once : (text : L.Value → List ℕ) → HasOneAnswer (leaf L text)
-  leaf_once text = leaf_by_once false (OfParts (LeafGives L)) (LeafEncoding L) text (one_of_parts (LeafGives L) conversion_once) (λ v. written_same false (leaf_octets L v))
+  leaf_once text = leaf_as_once (OfParts (LeafGives L)) text (λ a e h. h)
 
   lent_once : (content : T → CowSlice ℕ Global) (text : L.Value → List ℕ) → HasOneAnswer (lent_leaf L content text)
-  lent_once content text = leaf_by_once false (LendsContent L content) (LeafEncoding L) text (λ a b e f same h k. one_of_parts (LeafGives L) conversion_once a b e f same h.0 k.0) (λ v. written_same false (leaf_octets L v))
+  lent_once content text = leaf_as_once (LendsContent L content) text (λ a e h. h.0)
 
   copying_once : (text : L.Value → List ℕ) → HasOneAnswer (copying_leaf L text)
   copying_once text = leaf_by_once true (OfParts (LeafTakes L)) (LeafEncoding L) text (one_of_copied L conversion_once) (λ v. written_same false (leaf_octets L v))
@@ -114,6 +134,13 @@ module _ {K : Type 0} {key : Error → K} (keeps : KeepsNames key) {T : Type 0} 
   refusing_once : (is_refused : L.Value → Truth) (refusal : Error) (text : L.Value → List ℕ) → HasOneAnswer (refusing_leaf L is_refused refusal text)
   refusing_once is_refused refusal text =
       leaf_by_once false (OfParts (LeafGives L)) (λ v. IsWrittenUnless (is_refused v) refusal (leaf_octets L v)) text (one_of_parts (LeafGives L) conversion_once) (λ v. unless_same (is_refused v) refusal (leaf_octets L v))
+
+-- strings
+strings_once : {K : Type 0} (number : ℕ) (IsText : List ℕ → Type 0) → number < 31 → is_container_number number ≡ false → ((octets : List ℕ) → IsText octets → IsUtf8 octets) → HasOneAnswer (strings K number IsText)
+strings_once {K} number IsText small primitive utf8 = leaf_as_once whole_keeps (string_leaf {K = K} number IsText) (string_lawful number IsText small primitive utf8) (StringGives number IsText) in_hexadecimal (λ a e h. h.0)
+
+coded_strings_once : {K : Type 0} (number : ℕ) (octets_of : ℕ → List ℕ) → number < 31 → is_container_number number ≡ false → IsCharacterCode octets_of → HasOneAnswer (coded_strings K number octets_of)
+coded_strings_once {K} number octets_of small primitive is = copying_once whole_keeps (coded_string_leaf {K = K} number octets_of) (coded_string_lawful number octets_of small primitive is) in_hexadecimal
 
 -- the end of contents
 ends_once : HasOneAnswer ends
@@ -159,6 +186,20 @@ type_once OptU8 = optional_once 2 _ (integers_once pos (IsUnsigned 1) (UnsignedR
 type_once HashSetI8 = collection_once _ (hashed_signed_once 1)
 type_once Implicit1VecU16 = collection_once _ (implicit_vector_once 1 _ (unsigned_once 2))
 type_once Oid = identifiers_once
+type_once Utf8 = strings_once 12 IsUtf8 (lit< tt) refl (λ octets is. is)
+type_once Numeric = strings_once 18 (AllIn is_numeric) (lit< tt) refl (in_set_utf8 is_numeric numeric_ascii)
+type_once Printable = strings_once 19 (AllIn is_printable) (lit< tt) refl (in_set_utf8 is_printable printable_ascii)
+type_once Teletex = strings_once 20 (AllIn is_visible) (lit< tt) refl (in_set_utf8 is_visible visible_ascii)
+type_once Videotex = strings_once 21 (AllIn is_visible) (lit< tt) refl (in_set_utf8 is_visible visible_ascii)
+type_once Ia5 = strings_once 22 (AllIn is_ascii) (lit< tt) refl (in_set_utf8 is_ascii ascii_ascii)
+type_once Graphic = strings_once 25 (AllIn is_ascii) (lit< tt) refl (in_set_utf8 is_ascii ascii_ascii)
+type_once Visible = strings_once 26 (AllIn is_visible) (lit< tt) refl (in_set_utf8 is_visible visible_ascii)
+type_once General = strings_once 27 (AllIn is_ascii) (lit< tt) refl (in_set_utf8 is_ascii ascii_ascii)
+type_once Descriptor = strings_once 7 (AllIn is_ascii) (lit< tt) refl (in_set_utf8 is_ascii ascii_ascii)
+type_once Universal = coded_strings_once 28 ucs4_octets_of (lit< tt) refl ucs4_code
+type_once Bmp = coded_strings_once 30 utf16_octets_of (lit< tt) refl utf16_code
+type_once UtcTime = refusing_once but_text_keeps utc_time_leaf utc_time_lawful utc_time_refused InvalidDateTime utc_time_shown
+type_once GenTime = refusing_once but_text_keeps generalized_time_leaf generalized_time_lawful generalized_time_refused InvalidDateTime generalized_time_shown
 
 allocates_none : (t : TypeName) → name_allocates t ≡ false → ((meaning_of t).reading_allocates ≡ false) × ((meaning_of t).writing_allocates ≡ false)
 allocates_none t none = grind arith
@@ -167,7 +208,7 @@ allocates_none t none = grind arith
 
 -- the type that has a name
 named : List ℕ → Option TypeName
-named name = find (λ t. pointwise eqb name (name_of t)) (U8 ∷ U16 ∷ U32 ∷ U64 ∷ U128 ∷ I8 ∷ I16 ∷ I32 ∷ I64 ∷ I128 ∷ Any ∷ Bool ∷ Null ∷ Enumerated ∷ Integer ∷ Octets ∷ Bits ∷ Eoc ∷ VecU8 ∷ VecU32 ∷ VecBool ∷ VecVecU8 ∷ SetOfU8 ∷ BTreeSetU8 ∷ Sequence ∷ Set ∷ SeqOfU32 ∷ Explicit0U32 ∷ Explicit31U8 ∷ VecExplicit31U8 ∷ OptU8 ∷ HashSetI8 ∷ Implicit1VecU16 ∷ Oid ∷ [])
+named name = find (λ t. pointwise eqb name (name_of t)) types
 
 named_by_its_name : (t : TypeName) → named (name_of t) ≡ Some t
 unfolding named

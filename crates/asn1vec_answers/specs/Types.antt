@@ -1,5 +1,6 @@
 -- The names of types, and what each stands for.
-use Rattle.std.specs.Prelude.{◌≡◌, Bool as Truth, List, ◌++◌, ℕ, ℤ, pos, codes, decimal, true, false, None, Result, Ok}
+use Rattle.std.specs.Prelude.{◌≡◌, Bool as Truth, List, ◌++◌, ℕ, ℤ, pos, codes, decimal, true, false, None, Result, Ok, IsUtf8}
+use Rattle.std.specs.Char.{is_ascii}
 use Rattle.std.specs.declared.alloc.Global.{Global}
 use Rattle.std.specs.declared.vec.Vec.{Vec}
 use Rattle.std.specs.declared.cmp.Ordering.{Ordering}
@@ -8,9 +9,13 @@ use Rattle.std.specs.HashSet.{HashSet, IsFromIterResult as IsHashedOf}
 use Rattle.std.proofs.Common.{BuildHasherDefault, FoldHasher}
 use Rattle.std.specs.Fmt.{signed_decimal}
 use Rattle.std.specs.Ordering.{eq_by_cmp, int_cmp, nat_cmp}
+use Rattle.x690.specs.Characters.{ucs4_octets_of, utf16_octets_of}
+use Rattle.x690.specs.Sets.{AllIn, is_numeric, is_printable, is_visible}
 use Rattle.x690.specs.Signed.{IsSigned}
+use Rattle.x690.specs.Times.{utc_time_shown, generalized_time_shown}
 use Rattle.asn1_rs.specs.Kinds.Writing.{universal_header}
 use Rattle.asn1_headers.specs.declared.error.Error.{Error}
+use Rattle.asn1_headers.specs.declared.error.Error.TheVariants.{InvalidDateTime}
 use Rattle.asn1_rs.specs.declared.asn1_types.any.Any.{Any as AnyElement}
 use Rattle.asn1_rs.specs.declared.asn1_types.end_of_content.EndOfContent.{EndOfContent}
 use Rattle.asn1_rs.specs.BitString.{bit_string_leaf}
@@ -25,6 +30,21 @@ use Rattle.asn1_rs.specs.Null.{null_leaf}
 use Rattle.asn1_rs.specs.OctetString.{octet_string_leaf, cow_of}
 use Rattle.asn1_rs.specs.declared.asn1_types.oid.Oid.{Oid as Identifier}
 use Rattle.asn1_rs.specs.Oid.{OidGives, oid_constraints, oid_element, oid_header, oid_octets, oid_value}
+use Rattle.asn1_rs.specs.declared.asn1_types.strings.kinds.DescriptorKind.{DescriptorKind}
+use Rattle.asn1_rs.specs.declared.asn1_types.strings.kinds.Utf8Kind.{Utf8Kind}
+use Rattle.asn1_rs.specs.declared.asn1_types.strings.kinds.NumericKind.{NumericKind}
+use Rattle.asn1_rs.specs.declared.asn1_types.strings.kinds.PrintableKind.{PrintableKind}
+use Rattle.asn1_rs.specs.declared.asn1_types.strings.kinds.TeletexKind.{TeletexKind}
+use Rattle.asn1_rs.specs.declared.asn1_types.strings.kinds.VideotexKind.{VideotexKind}
+use Rattle.asn1_rs.specs.declared.asn1_types.strings.kinds.Ia5Kind.{Ia5Kind}
+use Rattle.asn1_rs.specs.declared.asn1_types.strings.kinds.GraphicKind.{GraphicKind}
+use Rattle.asn1_rs.specs.declared.asn1_types.strings.kinds.VisibleKind.{VisibleKind}
+use Rattle.asn1_rs.specs.declared.asn1_types.strings.kinds.GeneralKind.{GeneralKind}
+use Rattle.asn1_rs.specs.declared.asn1_types.coded_strings.kinds.UniversalKind.{UniversalKind}
+use Rattle.asn1_rs.specs.declared.asn1_types.coded_strings.kinds.BmpKind.{BmpKind}
+use Rattle.asn1_rs.specs.Strings.{StringGives, string_leaf}
+use Rattle.asn1_rs.specs.CodedStrings.{coded_string_leaf}
+use Rattle.asn1_rs.specs.Times.{utc_time_leaf, utc_time_refused, generalized_time_leaf, generalized_time_refused}
 use Rattle.asn1_rs.specs.declared.asn1_types.tagged.Explicit.{Explicit}
 use Rattle.asn1_rs.specs.declared.asn1_types.tagged.Implicit.{Implicit}
 use Rattle.asn1_rs.specs.declared.asn1_types.tagged.TaggedValue.{TaggedValue}
@@ -44,7 +64,7 @@ use Rattle.asn1_rs.specs.Grammar.{BerWord, DerWord}
 use Rattle.asn1_rs.specs.Integer.{IntegerCheck, IntegerCheckGives, IntegerBody, IntegerForm, integer_element, IntegerGives, IsUnsigned, UnsignedGives, UnsignedRefuses, SignedGives, SignedRefuses}
 use Rattle.asn1vec_answers.specs.declared.request.Rule.{Rule}
 use Rattle.asn1vec_answers.specs.declared.types.TypeName.{TypeName}
-use Rattle.asn1vec_answers.specs.declared.types.TypeName.TheVariants.{U8, U16, U32, U64, U128, I8, I16, I32, I64, I128, Any, Bool, Null, Enumerated, Integer, Octets, Bits, Eoc, VecU8, VecU32, VecBool, VecVecU8, SetOfU8, BTreeSetU8, Sequence, Set, SeqOfU32, Explicit0U32, Explicit31U8, VecExplicit31U8, OptU8, HashSetI8, Implicit1VecU16, Oid}
+use Rattle.asn1vec_answers.specs.declared.types.TypeName.TheVariants.{U8, U16, U32, U64, U128, I8, I16, I32, I64, I128, Any, Bool, Null, Enumerated, Integer, Octets, Bits, Eoc, VecU8, VecU32, VecBool, VecVecU8, SetOfU8, BTreeSetU8, Sequence, Set, SeqOfU32, Explicit0U32, Explicit31U8, VecExplicit31U8, OptU8, HashSetI8, Implicit1VecU16, Oid, Utf8, Numeric, Printable, Teletex, Videotex, Ia5, Graphic, Visible, General, Descriptor, Universal, Bmp, UtcTime, GenTime}
 use Rattle.asn1vec_answers.specs.Meaning.{Meaning, ReadsByEither, is_ber, optional}
 use Rattle.asn1vec_answers.specs.Shown.{Encoding, IsReadAnswer, IsWritten, IsWrittenUnless, ReadsByBer, Reading, Same, StrictEncoding, StrictEncodingIfAny, bits_text, element_text, identifier_text, in_hexadecimal, in_order, list_text, truth_text}
 
@@ -83,6 +103,20 @@ name_of OptU8 = codes "opt.u8"
 name_of HashSetI8 = codes "hashset.i8"
 name_of Implicit1VecU16 = codes "implicit1.vec.u16"
 name_of Oid = codes "oid"
+name_of Utf8 = codes "utf8"
+name_of Numeric = codes "numeric"
+name_of Printable = codes "printable"
+name_of Teletex = codes "teletex"
+name_of Videotex = codes "videotex"
+name_of Ia5 = codes "ia5"
+name_of Graphic = codes "graphic"
+name_of Visible = codes "visible"
+name_of General = codes "general"
+name_of Descriptor = codes "descriptor"
+name_of Universal = codes "universal"
+name_of Bmp = codes "bmp"
+name_of UtcTime = codes "utctime"
+name_of GenTime = codes "gentime"
 
 -- integers, there by either rule: in decimals, with the strict encoding that each has which the type holds
 abbrev pub integers : {T : Type 0} → (T → ℤ) → (ℤ → Type 0) → (List ℕ → Error → Type 0) → Meaning
@@ -155,6 +189,18 @@ copying_leaf L = leaf_by true L (OfParts (LeafTakes L)) (LeafEncoding L)
 -- one some of whose values are refused in writing for what they are, with this refusal
 abbrev pub refusing_leaf : {T : Type 0} (L : Leaf T) → (L.Value → Truth) → Error → (L.Value → List ℕ) → Meaning
 refusing_leaf L is_refused refusal = leaf_by false L (OfParts (LeafGives L)) (λ v. IsWrittenUnless (is_refused v) refusal (leaf_octets L v))
+
+-- strings with this tag number whose contents octets are their text, which the conversion lends, and which the type has: shown by the octets of the text in UTF-8
+abbrev pub strings : Type 0 → ℕ → (List ℕ → Type 0) → Meaning
+strings K number IsText = let L = string_leaf {K = K} number IsText in leaf_by false L (StringGives number IsText) (LeafEncoding L) in_hexadecimal
+
+-- the same of those whose text is decoded, by the octets of a character
+abbrev pub coded_strings : Type 0 → ℕ → (ℕ → List ℕ) → Meaning
+coded_strings K number octets_of = copying_leaf (coded_string_leaf {K = K} number octets_of) in_hexadecimal
+
+-- times, those of which are refused in writing whose fields have no strict text: shown by such a text of their fields
+abbrev pub times : {T : Type 0} (L : Leaf T) → (L.Value → Truth) → (L.Value → List ℕ) → Meaning
+times L is_refused = refusing_leaf L is_refused InvalidDateTime
 
 -- object identifiers, there by either rule: with the octets that are written for each, in DER form or not
 abbrev pub identifiers : Meaning
@@ -339,8 +385,22 @@ meaning_of OptU8 = optional 2 (unsigned 1)
 meaning_of HashSetI8 = collection (hashed_set (signed_item 1) int_cmp)
 meaning_of Implicit1VecU16 = collection (implicit_vector 1 (unsigned_item 2))
 meaning_of Oid = identifiers
+meaning_of Utf8 = strings Utf8Kind 12 IsUtf8
+meaning_of Numeric = strings NumericKind 18 (AllIn is_numeric)
+meaning_of Printable = strings PrintableKind 19 (AllIn is_printable)
+meaning_of Teletex = strings TeletexKind 20 (AllIn is_visible)
+meaning_of Videotex = strings VideotexKind 21 (AllIn is_visible)
+meaning_of Ia5 = strings Ia5Kind 22 (AllIn is_ascii)
+meaning_of Graphic = strings GraphicKind 25 (AllIn is_ascii)
+meaning_of Visible = strings VisibleKind 26 (AllIn is_visible)
+meaning_of General = strings GeneralKind 27 (AllIn is_ascii)
+meaning_of Descriptor = strings DescriptorKind 7 (AllIn is_ascii)
+meaning_of Universal = coded_strings UniversalKind 28 ucs4_octets_of
+meaning_of Bmp = coded_strings BmpKind 30 utf16_octets_of
+meaning_of UtcTime = times utc_time_leaf utc_time_refused utc_time_shown
+meaning_of GenTime = times generalized_time_leaf generalized_time_refused generalized_time_shown
 
--- the names whose readers or writers allocate: those of lists and sets
+-- the names whose readers or writers allocate: those of lists and sets, and of strings whose text is decoded
 abbrev pub name_allocates : TypeName → Truth
 name_allocates VecU8 = true
 name_allocates VecU32 = true
@@ -352,6 +412,8 @@ name_allocates SeqOfU32 = true
 name_allocates VecExplicit31U8 = true
 name_allocates HashSetI8 = true
 name_allocates Implicit1VecU16 = true
+name_allocates Universal = true
+name_allocates Bmp = true
 name_allocates _ = false
 
 -- the name is that of the type, and is there by the rule

@@ -25,8 +25,10 @@ use crate::shown::{Encoded, push_by_ber, push_by_either, push_reading};
 use crate::text::push_str;
 use crate::types::{TypeName, type_named};
 use asn1_rs::{
-    Any, BitString, EndOfContent, Enumerated, Error, Integer, LawfulBer, LawfulDer, Null,
-    OctetString, Oid, Sequence, Set, Tagged,
+    Any, BitString, BmpString, EndOfContent, Enumerated, Error, GeneralString, GeneralizedTime,
+    GraphicString, Ia5String, Integer, LawfulBer, LawfulDer, Null, NumericString, ObjectDescriptor,
+    OctetString, Oid, PrintableString, Sequence, Set, Tagged, TeletexString, UniversalString,
+    UtcTime, Utf8String, VideotexString, VisibleString,
 };
 use std::alloc::{AllocError, Global};
 
@@ -116,6 +118,28 @@ fn push_by_type(
         TypeName::Implicit1VecU16 => push_implicit_1_vec_u16(alloc, rule, octets, buffer, text),
         TypeName::HashSetI8 => push_hash_set_i8(alloc, rule, octets, buffer, text),
         TypeName::Oid => push_by_either::<Oid<'_>>(alloc, rule, octets, buffer, text),
+        TypeName::Utf8 => push_by_either::<Utf8String<'_>>(alloc, rule, octets, buffer, text),
+        TypeName::Numeric => push_by_either::<NumericString<'_>>(alloc, rule, octets, buffer, text),
+        TypeName::Printable => push_by_either::<PrintableString<'_>>(
+            alloc, rule, octets, buffer, text,
+        ),
+        TypeName::Teletex => push_by_either::<TeletexString<'_>>(alloc, rule, octets, buffer, text),
+        TypeName::Videotex => push_by_either::<VideotexString<'_>>(
+            alloc, rule, octets, buffer, text,
+        ),
+        TypeName::Ia5 => push_by_either::<Ia5String<'_>>(alloc, rule, octets, buffer, text),
+        TypeName::Graphic => push_by_either::<GraphicString<'_>>(alloc, rule, octets, buffer, text),
+        TypeName::Visible => push_by_either::<VisibleString<'_>>(alloc, rule, octets, buffer, text),
+        TypeName::General => push_by_either::<GeneralString<'_>>(alloc, rule, octets, buffer, text),
+        TypeName::Descriptor => push_by_either::<ObjectDescriptor<'_>>(
+            alloc, rule, octets, buffer, text,
+        ),
+        TypeName::Universal => push_by_either::<UniversalString<'_>>(
+            alloc, rule, octets, buffer, text,
+        ),
+        TypeName::Bmp => push_by_either::<BmpString<'_>>(alloc, rule, octets, buffer, text),
+        TypeName::UtcTime => push_by_either::<UtcTime>(alloc, rule, octets, buffer, text),
+        TypeName::GenTime => push_by_either::<GeneralizedTime>(alloc, rule, octets, buffer, text),
     }
 }
 

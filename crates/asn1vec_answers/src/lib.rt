@@ -13,8 +13,10 @@ mod numbers;
 mod options;
 mod request;
 mod shown;
+mod strings;
 mod tags;
 mod text;
+mod times;
 mod types;
 
 pub use answer::{LONGEST_LINE, answer_line, members_ascend, one_answer};

@@ -42,10 +42,24 @@ pub(crate) enum TypeName {
     HashSetI8,
     Implicit1VecU16,
     Oid,
+    Utf8,
+    Numeric,
+    Printable,
+    Teletex,
+    Videotex,
+    Ia5,
+    Graphic,
+    Visible,
+    General,
+    Descriptor,
+    Universal,
+    Bmp,
+    UtcTime,
+    GenTime,
 }
 
 /// All of them, in this order.
-const TYPES: [TypeName; 34] = [
+const TYPES: [TypeName; 48] = [
     TypeName::U8,
     TypeName::U16,
     TypeName::U32,
@@ -80,6 +94,20 @@ const TYPES: [TypeName; 34] = [
     TypeName::HashSetI8,
     TypeName::Implicit1VecU16,
     TypeName::Oid,
+    TypeName::Utf8,
+    TypeName::Numeric,
+    TypeName::Printable,
+    TypeName::Teletex,
+    TypeName::Videotex,
+    TypeName::Ia5,
+    TypeName::Graphic,
+    TypeName::Visible,
+    TypeName::General,
+    TypeName::Descriptor,
+    TypeName::Universal,
+    TypeName::Bmp,
+    TypeName::UtcTime,
+    TypeName::GenTime,
 ];
 
 impl TypeName {
@@ -122,6 +150,20 @@ impl TypeName {
             TypeName::HashSetI8 => b"hashset.i8",
             TypeName::Implicit1VecU16 => b"implicit1.vec.u16",
             TypeName::Oid => b"oid",
+            TypeName::Utf8 => b"utf8",
+            TypeName::Numeric => b"numeric",
+            TypeName::Printable => b"printable",
+            TypeName::Teletex => b"teletex",
+            TypeName::Videotex => b"videotex",
+            TypeName::Ia5 => b"ia5",
+            TypeName::Graphic => b"graphic",
+            TypeName::Visible => b"visible",
+            TypeName::General => b"general",
+            TypeName::Descriptor => b"descriptor",
+            TypeName::Universal => b"universal",
+            TypeName::Bmp => b"bmp",
+            TypeName::UtcTime => b"utctime",
+            TypeName::GenTime => b"gentime",
         }
     }
 

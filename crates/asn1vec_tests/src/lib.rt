@@ -16,4 +16,8 @@ mod oids;
 #[cfg(test)]
 mod runs;
 #[cfg(test)]
+mod strings;
+#[cfg(test)]
 mod tags;
+#[cfg(test)]
+mod times;

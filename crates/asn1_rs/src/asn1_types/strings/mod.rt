@@ -8,7 +8,7 @@ ghost use Rattle.std.specs.Cow.{IsBorrowedStr, IsOwnedStr};
 ghost use Rattle.asn1_headers.specs.declared.error.Error.TheVariants as errors;
 ghost use Rattle.asn1_rs.specs.Any.{parts_of};
 ghost use Rattle.asn1_rs.specs.Checks.{is_primitive};
-ghost use Rattle.asn1_rs.specs.Leaf.{leaf_element};
+ghost use Rattle.asn1_rs.specs.Leaf.{leaf_element, HaveOneRefusal};
 ghost use Rattle.asn1_rs.specs.Laws.Checks.{is_primitive_is};
 ghost use Rattle.asn1_rs.specs.Laws.Leaf.{exact_check, leaf_lawful, leaf_written};
 ghost use Rattle.asn1_rs.specs.Laws.Strings.{string_lawful, string_converts, string_equal};
@@ -200,3 +200,9 @@ impl DerElement for RestrictedString<'_, Utf8Kind> {
 impl<K: StringKind> LawfulMember for RestrictedString<'_, K> {
     ghost same = { string_equal };
 }
+
+/// An element has one refusal by the conversion to a type of strings and one by its check, and none where it has a value, or
+/// meets the constraints.
+pub fn strings_have_one_refusal<K: StringKind>()
+    ensures { HaveOneRefusal (string_leaf {K = K} (K.Number.TAG).0 K.Repertoire.IsText) }
+{}

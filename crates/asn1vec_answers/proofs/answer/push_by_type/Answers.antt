@@ -101,3 +101,45 @@ returns-in-Implicit1VecU16 c = rw c.in-Implicit1VecU16.is c.push_implicit_1_vec_
 
 pub returns-in-Oid : goal.returns-in-Oid
 returns-in-Oid c = rw c.in-Oid.is c.push_by_either-in-Oid.ensures
+
+pub returns-in-Utf8 : goal.returns-in-Utf8
+returns-in-Utf8 c = rw c.in-Utf8.is c.push_by_either-in-Utf8.ensures
+
+pub returns-in-Numeric : goal.returns-in-Numeric
+returns-in-Numeric c = rw c.in-Numeric.is c.push_by_either-in-Numeric.ensures
+
+pub returns-in-Printable : goal.returns-in-Printable
+returns-in-Printable c = rw c.in-Printable.is c.push_by_either-in-Printable.ensures
+
+pub returns-in-Teletex : goal.returns-in-Teletex
+returns-in-Teletex c = rw c.in-Teletex.is c.push_by_either-in-Teletex.ensures
+
+pub returns-in-Videotex : goal.returns-in-Videotex
+returns-in-Videotex c = rw c.in-Videotex.is c.push_by_either-in-Videotex.ensures
+
+pub returns-in-Ia5 : goal.returns-in-Ia5
+returns-in-Ia5 c = rw c.in-Ia5.is c.push_by_either-in-Ia5.ensures
+
+pub returns-in-Graphic : goal.returns-in-Graphic
+returns-in-Graphic c = rw c.in-Graphic.is c.push_by_either-in-Graphic.ensures
+
+pub returns-in-Visible : goal.returns-in-Visible
+returns-in-Visible c = rw c.in-Visible.is c.push_by_either-in-Visible.ensures
+
+pub returns-in-General : goal.returns-in-General
+returns-in-General c = rw c.in-General.is c.push_by_either-in-General.ensures
+
+pub returns-in-Descriptor : goal.returns-in-Descriptor
+returns-in-Descriptor c = rw c.in-Descriptor.is c.push_by_either-in-Descriptor.ensures
+
+pub returns-in-Universal : goal.returns-in-Universal
+returns-in-Universal c = rw c.in-Universal.is c.push_by_either-in-Universal.ensures
+
+pub returns-in-Bmp : goal.returns-in-Bmp
+returns-in-Bmp c = rw c.in-Bmp.is c.push_by_either-in-Bmp.ensures
+
+pub returns-in-UtcTime : goal.returns-in-UtcTime
+returns-in-UtcTime c = rw c.in-UtcTime.is c.push_by_either-in-UtcTime.ensures
+
+pub returns-in-GenTime : goal.returns-in-GenTime
+returns-in-GenTime c = rw c.in-GenTime.is c.push_by_either-in-GenTime.ensures
