@@ -8,6 +8,8 @@ mod by_hand;
 #[cfg(test)]
 mod calls;
 #[cfg(test)]
+mod civil_times;
+#[cfg(test)]
 mod colour;
 #[cfg(test)]
 mod devices;
