@@ -1,15 +1,12 @@
 //! Lines of times, which are shown as `Display` prints them.
 
-use crate::runs::assert_lines;
+use crate::runs::{SmallReads, assert_answered, assert_lines};
 use std::test::Fail;
 
 /// UTCTime. Neither rule asks whether it is primitive; what has no strict text is refused in writing (X.690 8.26, 11.8).
 const UTC_TIMES: &str = "\
 ber utctime 170d3931303632353036323334355a = ok 0091-06-25 06:23:45Z rest - enc 170d3931303632353036323334355a
 ber utctime 17113931303632353036323334352d30303330 = ok 0091-06-25 06:23:45-0030 rest - enc err InvalidDateTime
-ber utctime 17113931303632353036323334352d30303030 = ok 0091-06-25 06:23:45+0000 rest - enc err InvalidDateTime
-ber utctime 17113931303632353036323334352b39393939 = ok 0091-06-25 06:23:45+9999 rest - enc err InvalidDateTime
-der utctime 17113931303632353036323334352b30353330 = ok 0091-06-25 06:23:45+0530 rest - enc err InvalidDateTime
 ber utctime 170b393130363235303632335aff = ok 0091-06-25 06:23:00Z rest ff enc 170d3931303632353036323330305a
 ber utctime 170f393130363235303632332b30353330 = err InvalidValue
 ber utctime 170f3931303632353036323334352e335a = err InvalidValue
@@ -44,8 +41,26 @@ der gentime 380f31393835313130363231303632375a00 = ok 1985-11-06 21:06:27Z rest 
 ber gentime 170d3931303632353036323334355a = err UnexpectedTag
 ";
 
+/// Offsets to the east, whose sign would join words in a row.
+const OFFSETS_TO_THE_EAST: &[u8] = b"\
+ber utctime 17113931303632353036323334352d30303030\n\
+ber utctime 17113931303632353036323334352b39393939\n\
+der utctime 17113931303632353036323334352b30353330\n";
+
+/// What is answered to these.
+const SHOWN_TO_THE_EAST: &[u8] = b"\
+ok 0091-06-25 06:23:45+0000 rest - enc err InvalidDateTime\n\
+ok 0091-06-25 06:23:45+9999 rest - enc err InvalidDateTime\n\
+ok 0091-06-25 06:23:45+0530 rest - enc err InvalidDateTime\n";
+
 #[test]
 fn times_are_answered(rt: HostRuntime) -> Result<(), Fail> {
     assert_lines(rt.alloc(), UTC_TIMES)?;
     assert_lines(rt.alloc(), GENERALIZED_TIMES)
+}
+
+#[test]
+fn offsets_to_the_east_are_shown(rt: HostRuntime) -> Result<(), Fail> {
+    let input = SmallReads::new(OFFSETS_TO_THE_EAST, 4096, None);
+    assert_answered(rt.alloc(), input, SHOWN_TO_THE_EAST)
 }
