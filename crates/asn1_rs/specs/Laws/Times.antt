@@ -1,6 +1,6 @@
 -- Times are lawful leaves; those that are strict are written.
-use Rattle.std.specs.Prelude.{◌≡◌, ◌<◌, ◌↔◌, ◌≤◌, ◌⊎◌, ℕ, zero, suc, ◌+◌, ◌-◌, ◌*◌, ◌^◌, ℤ, pos, negsuc, neg_ℤ, ◌≤ℤ◌, List, Bool, true, false, ◌&&◌, not, nat_le, nat_lt, if◌then◌else◌, Some, None, Option, IsTrue, codes, Result, Ok, Err}
-use Rattle.std.proofs.Common.{◌∙◌, ap, sym, subst, refl, lit<, inl, inr, arith}
+use Rattle.std.specs.Prelude.{◌≡◌, ◌<◌, ◌≤◌, ◌⊎◌, ℕ, zero, suc, ◌+◌, ◌-◌, ◌*◌, ◌^◌, pos, negsuc, neg_ℤ, ◌≤ℤ◌, List, Bool, true, false, ◌&&◌, not, nat_le, nat_lt, if◌then◌else◌, Some, None, Option, codes, Result, Ok, Err}
+use Rattle.std.proofs.Common.{ap, sym, subst, refl, lit<, inl, inr, arith}
 use Rattle.std.proofs.lemmas.Int.{ints}
 use Rattle.std.proofs.lemmas.Bool.{le-leb, leb-true}
 use Rattle.x690.specs.Octets.{IsOctets}
@@ -23,7 +23,7 @@ use Rattle.asn1_rs.specs.Times.{IsMoment, IsZone, IsNoTime, TextGives, moment_of
 use Rattle.asn1_rs.specs.Laws.Checks.{up_to, before_is, content_check_is, telling_check_is, nothing_is}
 
 -- refusals of one tag with one text are told apart by nothing
-same_text : (tag : Tag) (text : List ℕ) (e f : Error) → IsInvalidValue tag text e → IsInvalidValue tag text f → but_text e ≡ but_text f
+pub same_text : (tag : Tag) (text : List ℕ) (e f : Error) → IsInvalidValue tag text e → IsInvalidValue tag text f → but_text e ≡ but_text f
 same_text tag text (errors.InvalidValue t m) (errors.InvalidValue u n) a b = rw (a.0, a.1, b.0, b.1) refl
 same_text tag text (errors.InvalidValue t m) _ a b = absurd b
 same_text tag text _ f a b = absurd a
