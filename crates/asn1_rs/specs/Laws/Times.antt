@@ -1,6 +1,6 @@
 -- Times are lawful leaves; those that are strict are written.
-use Rattle.std.specs.Prelude.{◌≡◌, ◌<◌, ◌≤◌, ◌⊎◌, ℕ, zero, suc, ◌+◌, ◌-◌, ◌*◌, ◌^◌, pos, negsuc, neg_ℤ, ◌≤ℤ◌, List, Bool, true, false, ◌&&◌, not, nat_le, nat_lt, if◌then◌else◌, Some, None, Option, codes, Result, Ok, Err}
-use Rattle.std.proofs.Common.{ap, sym, subst, refl, lit<, inl, inr, arith}
+use Rattle.std.specs.Prelude.{◌≡◌, ◌<◌, ◌↔◌, ◌≤◌, ◌⊎◌, ℕ, zero, suc, ◌+◌, ◌-◌, ◌*◌, ◌^◌, ℤ, pos, negsuc, neg_ℤ, ◌≤ℤ◌, List, Bool, true, false, ◌&&◌, not, nat_le, nat_lt, if◌then◌else◌, Some, None, Option, IsTrue, codes, Result, Ok, Err}
+use Rattle.std.proofs.Common.{◌∙◌, ap, sym, subst, refl, lit<, inl, inr, arith}
 use Rattle.std.proofs.lemmas.Int.{ints}
 use Rattle.std.proofs.lemmas.Bool.{le-leb, leb-true}
 use Rattle.x690.specs.Octets.{IsOctets}
