@@ -1,4 +1,5 @@
 -- Embedded presentation data values are lawful, as far as they are read, and have one refusal.
+pub mod Equal
 use Rattle.std.specs.Prelude.{◌≡◌, ◌⊎◌, ℕ, zero, suc, false, List, [], ◌++◌, Option, Result, Ok, Err, codes, IfSome, IsUtf8}
 use Rattle.std.proofs.Common.{◌∙◌, ap, sym, subst, refl, inl, inr, arith, append-nil}
 use Rattle.std.proofs.lemmas.List.{append_cancel_left}

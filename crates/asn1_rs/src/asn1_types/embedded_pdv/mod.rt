@@ -3,6 +3,7 @@
 mod reading;
 
 ghost use Rattle.asn1_headers.specs.declared.error.Error.{Error};
+ghost use Rattle.asn1_rs.specs.Laws.EmbeddedPdv.Equal.{pdv_equal};
 ghost use Rattle.asn1_rs.specs.Any.{parts_of};
 ghost use Rattle.asn1_rs.specs.Checks.{but_text};
 ghost use Rattle.asn1_rs.specs.EmbeddedPdv.{AreParts, PdvGives, identification_of, pdv_constraints, pdv_element};
@@ -15,6 +16,7 @@ use crate::asn1_types::integer::octets::Integer;
 use crate::asn1_types::oid::Oid;
 use crate::asn1_types::strings::kinds::ObjectDescriptor;
 use crate::kinds::{ElementKind, HasKind, LawfulConversion, LawfulElement};
+use crate::laws::LawfulMember;
 use crate::laws::in_hand::{octets_in_hand, text_in_hand};
 use crate::traits::{CheckDerConstraints, DerAutoDerive, FromAny};
 use asn1_headers::error::Error;
@@ -134,6 +136,10 @@ fn parts_in_hand(identification: &PdvIdentification<'_>)
 
 impl<'a> LawfulConversion<'a> for EmbeddedPdv<'a> {
     ghost converts = { pdv_converts };
+}
+
+impl LawfulMember for EmbeddedPdv<'_> {
+    ghost same = { pdv_equal };
 }
 
 /// An element has one refusal by the conversion to an embedded presentation data value and one by its check, and none
