@@ -12,6 +12,8 @@ mod colour;
 #[cfg(test)]
 mod devices;
 #[cfg(test)]
+mod embedded_pdv;
+#[cfg(test)]
 mod growths;
 #[cfg(test)]
 mod headed;
