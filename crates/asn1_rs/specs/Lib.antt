@@ -12,6 +12,7 @@ pub mod Strings
 pub mod CodedStrings
 pub mod Texts
 pub mod Oid
+pub mod EmbeddedPdv
 pub mod Optional
 pub mod BitString
 pub mod ToDer

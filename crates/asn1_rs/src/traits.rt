@@ -1,5 +1,5 @@
 //! The traits of readers, and of types with a tag.
-ghost use Rattle.std.specs.Prelude.{◌≡◌, ℕ, List, Result};
+ghost use Rattle.std.specs.Prelude.{◌≡◌, ◌↔◌, ℕ, List, Result, true};
 ghost use Rattle.x690.specs.Elements.{Parts};
 ghost use Rattle.asn1_rs.specs.declared.asn1_types.any.Any.{Any};
 ghost use Rattle.asn1_headers.specs.declared.tag.Tag.{Tag};
@@ -50,6 +50,32 @@ impl<T: Tagged> DynTagged for T {
         T::TAG
     }
 }
+
+/// A type that is told by tag numbers: a type with one, or a choice of several (X.690 8.13).
+///
+/// A caller's choice has an impl of its own, which names its tag numbers.
+pub trait Choice {
+    /// Its values have this tag number.
+    ghost HasTag: { Tag → Type 0 };
+
+    /// Whether it has values of this tag number. The class is not looked at.
+    fn can_decode(tag: Tag) -> bool
+        ensures { result ≡ true ↔ HasTag tag };
+}
+
+impl<T: Tagged> Choice for T {
+    ghost HasTag = { λ tag. tag ≡ T.TAG };
+
+    fn can_decode(tag: Tag) -> bool {
+        tag.0 == T::TAG.0
+    }
+}
+
+/// A choice that is read by BER.
+pub trait BerChoice<'a>: Choice + FromBer<'a, Error> {}
+
+/// A choice that is read by DER.
+pub trait DerChoice<'a>: Choice + FromDer<'a, Error> {}
 
 /// A type that an element converts to.
 ///

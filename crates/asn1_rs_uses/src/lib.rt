@@ -5,6 +5,7 @@
 
 mod borrowed;
 mod by_bounds;
+mod choice;
 mod fingerprint;
 mod handle;
 mod identifiers;
@@ -29,6 +30,7 @@ pub use borrowed::{
     read_sequence,
 };
 pub use by_bounds::{count_all, read_by_bound};
+pub use choice::{DirectoryName, has_tag_of, is_directory_name};
 pub use fingerprint::{Fingerprint, number_of_fingerprints};
 pub use handle::{Handle, Place, read_handle};
 pub use identifiers::{identifiers_are_hashed_alike, is_of_rsa, read_oid};

@@ -30,7 +30,7 @@ use Rattle.asn1_rs.specs.Times.{IsMoment, IsZone, IsNoTime, TextGives, moment_of
 use Rattle.asn1_rs.specs.Laws.Checks.{up_to, before_is, check_is, content_check_is, telling_check_is, nothing_is}
 
 -- refusals of one tag with one text are told apart by nothing
-same_text : (tag : Tag) (text : List ℕ) (e f : Error) → IsInvalidValue tag text e → IsInvalidValue tag text f → but_text e ≡ but_text f
+pub same_text : (tag : Tag) (text : List ℕ) (e f : Error) → IsInvalidValue tag text e → IsInvalidValue tag text f → but_text e ≡ but_text f
 same_text tag text (errors.InvalidValue t m) (errors.InvalidValue u n) a b = rw (a.0, a.1, b.0, b.1) refl
 same_text tag text (errors.InvalidValue t m) _ a b = absurd b
 same_text tag text _ f a b = absurd a

@@ -5,6 +5,7 @@ pub mod any;
 pub mod bit_string;
 pub mod boolean;
 pub mod coded_strings;
+pub mod embedded_pdv;
 pub mod end_of_content;
 pub mod enumerated;
 pub mod integer;

@@ -1,0 +1,150 @@
+//! Embedded presentation data values (X.690 8.18): a value of any type and encoding, and what identifies these.
+
+mod reading;
+
+ghost use Rattle.asn1_headers.specs.declared.error.Error.{Error};
+ghost use Rattle.asn1_rs.specs.Laws.EmbeddedPdv.Equal.{pdv_equal};
+ghost use Rattle.asn1_rs.specs.Any.{parts_of};
+ghost use Rattle.asn1_rs.specs.Checks.{but_text};
+ghost use Rattle.asn1_rs.specs.EmbeddedPdv.{AreParts, PdvGives, identification_of, pdv_constraints, pdv_element};
+ghost use Rattle.asn1_rs.specs.Laws.EmbeddedPdv.{pdv_checked, pdv_converts, pdv_lawful};
+ghost use Rattle.asn1_rs.specs.Leaf.{HasOneRefusalUpTo};
+ghost use Rattle.asn1_rs.specs.Traits.{OfParts};
+
+use crate::asn1_types::any::Any;
+use crate::asn1_types::integer::octets::Integer;
+use crate::asn1_types::oid::Oid;
+use crate::asn1_types::strings::kinds::ObjectDescriptor;
+use crate::kinds::{ElementKind, HasKind, LawfulConversion, LawfulElement};
+use crate::laws::LawfulMember;
+use crate::laws::in_hand::{octets_in_hand, text_in_hand};
+use crate::traits::{CheckDerConstraints, DerAutoDerive, FromAny};
+use asn1_headers::error::Error;
+use std::alloc::Global;
+
+/// How the abstract and the transfer syntax of a data value are identified.
+#[derive(Debug, Drop, PartialEq, Eq)]
+pub enum PdvIdentification<'a> {
+    /// By an identifier of each.
+    Syntaxes {
+        /// The abstract syntax.
+        s_abstract: Oid<'a>,
+        /// The transfer syntax.
+        s_transfer: Oid<'a>,
+    },
+    /// By one identifier of both.
+    Syntax(Oid<'a>),
+    /// By the number of a presentation context.
+    PresentationContextId(Integer<'a>),
+    /// By the number of a context that is not settled yet, and the transfer syntax.
+    ContextNegotiation {
+        /// The number of the presentation context.
+        presentation_context_id: Integer<'a>,
+        /// The transfer syntax.
+        presentation_syntax: Oid<'a>,
+    },
+    /// By the transfer syntax, where the abstract one is known.
+    TransferSyntax(Oid<'a>),
+    /// By nothing, where both are known.
+    Fixed,
+}
+
+/// An embedded presentation data value (X.690 8.18): the octets of a data value, and what identifies its syntaxes.
+///
+/// It is read, and not written. It is read at any tag: its elements are told by their contents octets alone.
+#[derive(Debug, Drop, PartialEq, Eq)]
+pub struct EmbeddedPdv<'a> {
+    /// What identifies the syntaxes of the data value.
+    pub identification: PdvIdentification<'a>,
+    /// A text that describes the data value; none where it is read.
+    pub data_value_descriptor: Option<ObjectDescriptor<'a>>,
+    /// The octets of the data value.
+    pub data_value: &'a [u8],
+}
+
+impl<'a> FromAny<'a> for EmbeddedPdv<'a> {
+    type Error = Error;
+
+    ghost any_gives = { OfParts PdvGives };
+
+    #[inline(always)]
+    fn try_from_any(_alloc: Global, any: Any<'a>) -> Result<EmbeddedPdv<'a>, Error> {
+        any.as_embedded_pdv()
+    }
+}
+
+impl CheckDerConstraints for EmbeddedPdv<'_> {
+    ghost check_gives = { pdv_constraints };
+
+    /// Refuses an indefinite length with `IndefiniteLengthUnexpected`, and then a primitive element with
+    /// `ConstructExpected`.
+    fn check_constraints(any: &Any<'_>) -> Result<(), Error>
+        ensures { pdv_constraints (parts_of any.now) result }
+    {
+        any.header.length().assert_definite()?;
+        any.header.assert_constructed()
+    }
+}
+
+impl DerAutoDerive for EmbeddedPdv<'_> {}
+
+impl HasKind for EmbeddedPdv<'_> {
+    type Kind = ElementKind;
+}
+
+impl LawfulElement for EmbeddedPdv<'_> {
+    ghost element = { pdv_element };
+
+    ghost lawful = { pdv_lawful };
+
+    ghost checked = { pdv_checked };
+
+    fn value_in_hand(&self) {
+        parts_in_hand(&self.identification);
+        if let Some(descriptor) = &self.data_value_descriptor {
+            text_in_hand(descriptor.as_str());
+        }
+        octets_in_hand(self.data_value);
+    }
+}
+
+/// What an identification in hand holds are octets.
+fn parts_in_hand(identification: &PdvIdentification<'_>)
+    ensures { AreParts (identification_of identification.now) }
+{
+    match identification {
+        PdvIdentification::Syntaxes {
+            s_abstract,
+            s_transfer,
+        } => {
+            octets_in_hand(s_abstract.as_bytes());
+            octets_in_hand(s_transfer.as_bytes());
+        }
+        PdvIdentification::Syntax(syntax) => octets_in_hand(syntax.as_bytes()),
+        PdvIdentification::PresentationContextId(id) => octets_in_hand(id.as_bytes()),
+        PdvIdentification::ContextNegotiation {
+            presentation_context_id,
+            presentation_syntax,
+        } => {
+            octets_in_hand(presentation_context_id.as_bytes());
+            octets_in_hand(presentation_syntax.as_bytes());
+        }
+        PdvIdentification::TransferSyntax(syntax) => octets_in_hand(syntax.as_bytes()),
+        PdvIdentification::Fixed => {}
+    }
+}
+
+impl<'a> LawfulConversion<'a> for EmbeddedPdv<'a> {
+    ghost converts = { pdv_converts };
+}
+
+impl LawfulMember for EmbeddedPdv<'_> {
+    ghost same = { pdv_equal };
+}
+
+/// An element has one refusal by the conversion to an embedded presentation data value and one by its check, and none
+/// where it has a value, or meets the constraints. Texts of refusals are told apart by their octets.
+pub fn pdvs_have_one_refusal()
+    ensures value { HasOneRefusalUpTo but_text PdvGives }
+    ensures constraints { HasOneRefusalUpTo (λ (e : Error). e) pdv_constraints }
+{}
