@@ -1,13 +1,20 @@
 -- Values that borrow the octets that they are read from.
-use Rattle.std.specs.Prelude.{◌≡◌, ℕ, List, Ok}
+use Rattle.std.specs.Prelude.{◌≡◌, ℕ, List, Ok, IsUtf8}
 use Rattle.asn1_rs.specs.Any.Value.{ElementValue, ElementBody}
 use Rattle.asn1_headers.specs.Answers.{Front}
 use Rattle.asn1_rs.specs.Grammar.{BerWord, DerWord}
 use Rattle.asn1_rs.specs.Leaf.{Leaf, LeafBody}
+use Rattle.asn1_rs.specs.Strings.{string_leaf}
+use Rattle.asn1_rs.specs.declared.asn1_types.strings.RestrictedString.{RestrictedString}
+use Rattle.asn1_rs.specs.declared.asn1_types.strings.kinds.Utf8Kind.{Utf8Kind}
 
 -- the words of a type by DER, with their values
 abbrev pub LeafByDer : {S : Type 0} (L : Leaf S) → List ℕ → L.Value → Type 0
 LeafByDer L = DerWord (λ p. L.constraints p (Ok tt)) (LeafBody L)
+
+-- the strings of the tag number of UTF8String
+abbrev pub utf8_string_leaf : Leaf (RestrictedString Utf8Kind)
+utf8_string_leaf = string_leaf 12 IsUtf8
 
 -- an element by BER begins the octets, and these are its contents octets
 pub record BeginsWithContents (octets content : List ℕ) : Type 0 where

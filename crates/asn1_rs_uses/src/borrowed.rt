@@ -7,11 +7,13 @@ ghost use Rattle.asn1_rs.specs.BitString.{bit_string_leaf, bits_in};
 ghost use Rattle.asn1_rs.specs.Integer.Octets.{any_integer_leaf, integer_octets};
 ghost use Rattle.asn1_rs.specs.Kept.{sequence_leaf, sequence_octets};
 ghost use Rattle.asn1_rs.specs.Lists.{ItemsGive, listed};
-ghost use Rattle.asn1_rs_uses.specs.Borrowed.{LeafByDer, BeginsWithContents};
+ghost use Rattle.asn1_rs.specs.Strings.{text_of};
+ghost use Rattle.asn1_rs_uses.specs.Borrowed.{LeafByDer, BeginsWithContents, utf8_string_leaf};
 ghost use Rattle.asn1_rs_uses.specs.Numbers.{NoMemory};
 
 use asn1_rs::{
-    Any, BitString, Error, FromDer, Integer, OctetString, ParseResult, Sequence, read_ber, read_der,
+    Any, BitString, Error, FromDer, Integer, OctetString, ParseResult, Sequence, Utf8String,
+    read_ber, read_der,
 };
 use std::alloc::Global;
 
@@ -40,6 +42,25 @@ pub fn read_octet_string<'a>(
         octets.now (seen result) }
 {
     read_der::<OctetString<'a>, Error>(alloc, octets)
+}
+
+/// The text at the front, by DER, as a string that borrows it, and what follows it.
+pub fn read_utf8_string<'a>(
+    alloc: Global,
+    octets: &'a [u8],
+) -> ParseResult<'a, Utf8String<'a>, Error>
+    ensures { Exactly IsCutIdentifier (LeafByDer utf8_string_leaf) text_of NoMemory
+        octets.now (seen result) }
+{
+    read_der::<Utf8String<'a>, Error>(alloc, octets)
+}
+
+/// The text of the element at the front, by BER: that of a string of any of the types that are read as UTF-8.
+pub fn any_text<'a>(alloc: Global, octets: &'a [u8]) -> Result<&'a str, Error>
+    ensures { IfOk result (λ text. BeginsWithContents octets.now text.now) }
+{
+    let (_, any) = read_ber::<Any<'a>, Error>(alloc, octets)?;
+    any.as_any_string()
 }
 
 /// The bit string at the front, by DER, and what follows it.

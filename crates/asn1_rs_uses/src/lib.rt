@@ -26,8 +26,8 @@ mod tagged_octets;
 mod version;
 
 pub use borrowed::{
-    contents_octets, items_of, read_bit_string, read_integer, read_octet_string, read_octets,
-    read_sequence,
+    any_text, contents_octets, items_of, read_bit_string, read_integer, read_octet_string,
+    read_octets, read_sequence, read_utf8_string,
 };
 pub use by_bounds::{count_all, read_by_bound};
 pub use choice::{DirectoryName, has_tag_of, is_directory_name};

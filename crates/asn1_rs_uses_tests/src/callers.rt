@@ -2,11 +2,11 @@
 
 use asn1_rs::{Error, FromDer, ToDer};
 use asn1_rs_uses::{
-    Fingerprint, Message, Point, SerialNumber, check_numbers, contents_octets, count_number,
-    count_of_numbers, elements_in, is_same_number, is_strict_front, items_of, numbers_in,
-    numbers_of, read_bit_string, read_element, read_header, read_integer, read_number,
+    Fingerprint, Message, Point, SerialNumber, any_text, check_numbers, contents_octets,
+    count_number, count_of_numbers, elements_in, is_same_number, is_strict_front, items_of,
+    numbers_in, numbers_of, read_bit_string, read_element, read_header, read_integer, read_number,
     read_number_by_ber, read_numbers, read_octet_string, read_octets, read_sequence,
-    set_of_numbers, write_number, write_numbers,
+    read_utf8_string, set_of_numbers, write_number, write_numbers,
 };
 use std::test::Fail;
 use test_rows::assert_shown;
@@ -107,6 +107,19 @@ fn what_borrows_is_read(rt: HostRuntime) -> Result<(), Fail> {
         read_integer(alloc, &[0x02, 0x01, 0x05]).is_ok(),
     );
     let expected = "(Ok([1, 2]), Ok(([], [1, 2])), true, true, true)";
+    assert_shown(alloc, &answers, expected)
+}
+
+#[test]
+fn texts_that_borrow_are_read(rt: HostRuntime) -> Result<(), Fail> {
+    let alloc = rt.alloc();
+    let answers = (
+        read_utf8_string(alloc, &[0x0c, 0x01, 0x41, 0xff]),
+        any_text(alloc, &[0x16, 0x02, 0x61, 0x62]),
+        any_text(alloc, &[0x07, 0x01, 0x61]),
+    );
+    let expected = "(Ok(([255], Utf8String { text: \"A\" })), Ok(\"ab\"), \
+        Err(UnexpectedTag { expected: None, actual: Tag(7) }))";
     assert_shown(alloc, &answers, expected)
 }
 
