@@ -1,5 +1,5 @@
 -- Copies that borrow nothing.
-use Rattle.std.specs.Prelude.{◌≡◌, Option, Some, None, List}
+use Rattle.std.specs.Prelude.{Option, Some, None}
 use Rattle.asn1_headers.specs.declared.header.Header.{Header}
 use Rattle.asn1_headers.specs.Header.{HasParts, class_of, is_constructed_of, tag_of, length_of, raw_tag_of}
 

@@ -1,5 +1,5 @@
 -- A line has one answer, except when out of memory.
-use Rattle.std.proofs.Common.{◌≡◌, ◌<◌, ◌∙◌, lit<, sym, ap, subst, List, [], ◌∷◌, ◌++◌, length, ℕ, true, false, ◌⊎◌, inl, inr, refl, Ok, Err, codes, arith, Option, Some, Result}
+use Rattle.std.proofs.Common.{◌≡◌, ◌<◌, ◌∙◌, lit<, sym, ap, subst, List, ◌++◌, length, ℕ, true, false, ◌⊎◌, inl, inr, refl, Ok, Err, codes, arith, Option, Some, Result}
 use Rattle.std.specs.Prelude.{ℤ, pos, decimal, Bool as Truth, IsUtf8}
 use Rattle.std.specs.Fmt.{signed_decimal}
 use Rattle.std.proofs.Math.Dec.{eqb}

@@ -1,10 +1,9 @@
 -- Items in turn, and the text of a list of them.
 use Rattle.std.proofs.Common.{◌≡◌, ◌∙◌, sym, ap, refl, subst, ℕ, List, [], ◌∷◌, ◌++◌, map, Option, None, append_assoc, append-nil, codes}
-use Rattle.std.proofs.lemmas.List.Elements.{All-append, All-cons, All-nil}
 use Rattle.asn1vec_answers.specs.Shown.{list_text}
 use Rattle.std.specs.Borrow.{Bor}
 use Rattle.std.specs.Iterator.{AlwaysYields, Yields}
-use Rattle.std.specs.List.{All, flat_map, join_by}
+use Rattle.std.specs.List.{flat_map, join_by}
 use Rattle.std.specs.Map.Iter.{TakesFirst, deref}
 use Rattle.std.specs.declared.slice.Iter.{Iter}
 use Rattle.std.specs.Slice.Iter.{iter_rest}

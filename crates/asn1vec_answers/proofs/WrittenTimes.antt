@@ -1,5 +1,5 @@
 -- What is written of a time has few octets, whatever its fields.
-use Rattle.std.proofs.Common.{◌≡◌, ◌≤◌, ◌<◌, ◌+◌, ◌++◌, ◌^◌, arith, refl, length, length-append, Option, Some, None, ℕ, List}
+use Rattle.std.proofs.Common.{◌≡◌, ◌≤◌, ◌<◌, ◌++◌, ◌^◌, arith, refl, length, length-append, Option, Some, None, ℕ, List}
 use Rattle.std.proofs.lemmas.Bool.Decides.{nat_tests}
 use Rattle.std.proofs.lemmas.Fmt.{length-decimal-le}
 use Rattle.asn1_headers.specs.Tag.{is_container_number}

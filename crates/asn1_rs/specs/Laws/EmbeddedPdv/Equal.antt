@@ -10,7 +10,7 @@ use Rattle.asn1_rs.specs.declared.asn1_types.embedded_pdv.PdvIdentification.{Pdv
 use Rattle.asn1_rs.specs.declared.asn1_types.embedded_pdv.PdvIdentification.TheVariants as parts
 use Rattle.asn1_rs.specs.declared.asn1_types.strings.RestrictedString.{RestrictedString}
 use Rattle.asn1_rs.specs.Strings.{text_of}
-use Rattle.asn1_rs.specs.EmbeddedPdv.{Identification, descriptor_text, syntaxes, syntax, context, negotiation, transfer, fixed, PdvValue, identification_of, pdv_value}
+use Rattle.asn1_rs.specs.EmbeddedPdv.{Identification, descriptor_text, syntax, context, transfer, PdvValue, identification_of, pdv_value}
 use Rattle.asn1_rs.specs.Laws.Integer.Octets.{octets_equal}
 use Rattle.asn1_rs.specs.Laws.Oid.{oid_equal}
 use Rattle.asn1_rs.specs.Laws.OctetString.{slice_equal}

@@ -1,6 +1,6 @@
 use Rattle.std.proofs.Common.{false, ◌≤◌, ◌++◌, length, length-append, arith}
 use Rattle.asn1_headers.specs.Tag.{is_container_number}
-use Rattle.asn1_rs.specs.Kinds.Writing.{universal_header, CountRefused}
+use Rattle.asn1_rs.specs.Kinds.Writing.{universal_header}
 use Rattle.asn1_rs.proofs.Refused.{element_count_refused, count_refuses, count_accepted}
 use Rattle.asn1_rs.proofs.kinds.writing.AnyToDerByElementKind.element_count.Goals as goal
 
