@@ -2,12 +2,12 @@
 use Rattle.std.proofs.Common.{◌≡◌, ◌≢◌, ◌<◌, lit<, All, MatchOption, ℕ, List, [], ◌∷◌, get_or, length, Option, Some, None}
 use Rattle.std.proofs.lemmas.List.Elements.{All-get_or}
 use Rattle.asn1vec_answers.specs.declared.types.TypeName.{TypeName}
-use Rattle.asn1vec_answers.specs.declared.types.TypeName.TheVariants.{U8, U16, U32, U64, U128, I8, I16, I32, I64, I128, Any, Bool, Null, Enumerated, Integer, Octets, Bits, Eoc, VecU8, VecU32, VecBool, VecVecU8, SetOfU8, BTreeSetU8, Sequence, Set, SeqOfU32, Explicit0U32, Explicit31U8, VecExplicit31U8, OptU8, HashSetI8, Implicit1VecU16, Oid, Utf8, Numeric, Printable, Teletex, Videotex, Ia5, Graphic, Visible, General, Descriptor, Universal, Bmp, UtcTime, GenTime}
+use Rattle.asn1vec_answers.specs.declared.types.TypeName.TheVariants.{U8, U16, U32, U64, U128, I8, I16, I32, I64, I128, Any, Bool, Null, Enumerated, Integer, Octets, Bits, Eoc, VecU8, VecU32, VecBool, VecVecU8, SetOfU8, BTreeSetU8, Sequence, Set, SeqOfU32, Explicit0U32, Explicit31U8, VecExplicit31U8, OptU8, HashSetI8, Implicit1VecU16, Oid, Utf8, Numeric, Printable, Teletex, Videotex, Ia5, Graphic, Visible, General, Descriptor, Universal, Bmp, UtcTime, GenTime, Pdv}
 use Rattle.asn1vec_answers.specs.Types.{name_of}
 
 -- all of them, in the order of the program
 abbrev pub types : List TypeName
-types = U8 ∷ U16 ∷ U32 ∷ U64 ∷ U128 ∷ I8 ∷ I16 ∷ I32 ∷ I64 ∷ I128 ∷ Any ∷ Bool ∷ Null ∷ Enumerated ∷ Integer ∷ Octets ∷ Bits ∷ Eoc ∷ VecU8 ∷ VecU32 ∷ VecBool ∷ VecVecU8 ∷ SetOfU8 ∷ BTreeSetU8 ∷ Sequence ∷ Set ∷ SeqOfU32 ∷ Explicit0U32 ∷ Explicit31U8 ∷ VecExplicit31U8 ∷ OptU8 ∷ HashSetI8 ∷ Implicit1VecU16 ∷ Oid ∷ Utf8 ∷ Numeric ∷ Printable ∷ Teletex ∷ Videotex ∷ Ia5 ∷ Graphic ∷ Visible ∷ General ∷ Descriptor ∷ Universal ∷ Bmp ∷ UtcTime ∷ GenTime ∷ []
+types = U8 ∷ U16 ∷ U32 ∷ U64 ∷ U128 ∷ I8 ∷ I16 ∷ I32 ∷ I64 ∷ I128 ∷ Any ∷ Bool ∷ Null ∷ Enumerated ∷ Integer ∷ Octets ∷ Bits ∷ Eoc ∷ VecU8 ∷ VecU32 ∷ VecBool ∷ VecVecU8 ∷ SetOfU8 ∷ BTreeSetU8 ∷ Sequence ∷ Set ∷ SeqOfU32 ∷ Explicit0U32 ∷ Explicit31U8 ∷ VecExplicit31U8 ∷ OptU8 ∷ HashSetI8 ∷ Implicit1VecU16 ∷ Oid ∷ Utf8 ∷ Numeric ∷ Printable ∷ Teletex ∷ Videotex ∷ Ia5 ∷ Graphic ∷ Visible ∷ General ∷ Descriptor ∷ Universal ∷ Bmp ∷ UtcTime ∷ GenTime ∷ Pdv ∷ []
 
 module _ (P : TypeName → Type 0) (all : All P types) where
   at : (place : ℕ) → place < length types → P (get_or types place U8)
@@ -63,6 +63,7 @@ module _ (P : TypeName → Type 0) (all : All P types) where
   each Bmp = at 45 (lit< tt)
   each UtcTime = at 46 (lit< tt)
   each GenTime = at 47 (lit< tt)
+  each Pdv = at 48 (lit< tt)
 
 -- a name that is none of theirs is of no type
 pub named : (name : List ℕ) (result : Option TypeName) → MatchOption result (All (λ t. name ≢ name_of t) types) (λ t. name ≡ name_of t) → MatchOption result ((t : TypeName) → name ≢ name_of t) (λ t. name ≡ name_of t)

@@ -39,6 +39,9 @@ use Rattle.asn1_rs.specs.Strings.{StringGives, string_leaf}
 use Rattle.asn1_rs.specs.CodedStrings.{coded_string_leaf}
 use Rattle.asn1_rs.specs.Laws.Strings.{string_lawful}
 use Rattle.asn1_rs.specs.Laws.CodedStrings.{coded_string_lawful}
+use Rattle.asn1_rs.specs.declared.asn1_types.embedded_pdv.EmbeddedPdv.{EmbeddedPdv}
+use Rattle.asn1_rs.specs.EmbeddedPdv.{PdvGives, pdv_constraints, pdv_element, pdv_value}
+use Rattle.asn1_rs.specs.Laws.EmbeddedPdv.{pdv_constraints_are, pdv_lawful, pdv_one_refusal}
 use Rattle.asn1_rs.specs.Times.{utc_time_leaf, utc_time_refused, generalized_time_leaf, generalized_time_refused}
 use Rattle.asn1_rs.specs.Laws.Times.{utc_time_lawful, generalized_time_lawful}
 use Rattle.asn1_headers.specs.Tag.{is_container_number}
@@ -53,12 +56,12 @@ use Rattle.asn1_rs.specs.Laws.Integer.Unsigned.{one_unsigned_refusal}
 use Rattle.asn1_rs.specs.Laws.Integer.Signed.{one_signed_refusal}
 use Rattle.asn1vec_answers.specs.declared.request.Rule.{Rule}
 use Rattle.asn1vec_answers.specs.declared.types.TypeName.{TypeName}
-use Rattle.asn1vec_answers.specs.declared.types.TypeName.TheVariants.{U8, U16, U32, U64, U128, I8, I16, I32, I64, I128, Any, Bool, Null, Enumerated, Integer, Octets, Bits, Eoc, VecU8, VecU32, VecBool, VecVecU8, SetOfU8, BTreeSetU8, Sequence, Set, SeqOfU32, Explicit0U32, Explicit31U8, VecExplicit31U8, OptU8, HashSetI8, Implicit1VecU16, Oid, Utf8, Numeric, Printable, Teletex, Videotex, Ia5, Graphic, Visible, General, Descriptor, Universal, Bmp, UtcTime, GenTime}
+use Rattle.asn1vec_answers.specs.declared.types.TypeName.TheVariants.{U8, U16, U32, U64, U128, I8, I16, I32, I64, I128, Any, Bool, Null, Enumerated, Integer, Octets, Bits, Eoc, VecU8, VecU32, VecBool, VecVecU8, SetOfU8, BTreeSetU8, Sequence, Set, SeqOfU32, Explicit0U32, Explicit31U8, VecExplicit31U8, OptU8, HashSetI8, Implicit1VecU16, Oid, Utf8, Numeric, Printable, Teletex, Videotex, Ia5, Graphic, Visible, General, Descriptor, Universal, Bmp, UtcTime, GenTime, Pdv}
 use Rattle.asn1vec_answers.proofs.NamedTypes.{types}
 use Rattle.asn1vec_answers.specs.Request.{IsRequest}
-use Rattle.asn1vec_answers.specs.Shown.{Encoding, IsWritten, IsWrittenUnless, bits_text, element_text, identifier_text, in_hexadecimal, truth_text}
+use Rattle.asn1vec_answers.specs.Shown.{Encoding, IsWritten, IsWrittenUnless, bits_text, element_text, identifier_text, in_hexadecimal, pdv_text, truth_text}
 use Rattle.asn1vec_answers.specs.Meaning.{Meaning}
-use Rattle.asn1vec_answers.specs.Types.{name_allocates, name_of, meaning_of, integers, elements, identifiers, LeafEncoding, copying_leaf, coded_strings, leaf, leaf_by, lent_leaf, leaf_octets, refusing_leaf, strings, ends, Names, IsTypeAnswer}
+use Rattle.asn1vec_answers.specs.Types.{name_allocates, name_of, meaning_of, integers, elements, identifiers, LeafEncoding, copying_leaf, coded_strings, data_values, leaf, leaf_by, lent_leaf, leaf_octets, refusing_leaf, strings, ends, Names, IsTypeAnswer}
 use Rattle.asn1vec_answers.specs.Answer.{IsRequestAnswer, IsRefusedLine, IsAnswered, IsAnswer}
 use Rattle.asn1vec_answers.specs.Memory.{AsksForNoneThatAllocates, DifferByMemory, AreAlike, TakesNoMemory}
 use Rattle.asn1vec_answers.proofs.OneReading.{HasOneAnswer, SameEncoding, ShownAlike, answers_alike, optional_once, readings_weaker, strict_same, unless_same, written_same, ber_same, either_same}
@@ -142,6 +145,15 @@ strings_once {K} number IsText small primitive utf8 = leaf_as_once whole_keeps (
 coded_strings_once : {K : Type 0} (number : ℕ) (octets_of : ℕ → List ℕ) → number < 31 → is_container_number number ≡ false → IsCharacterCode octets_of → HasOneAnswer (coded_strings K number octets_of)
 coded_strings_once {K} number octets_of small primitive is = copying_once whole_keeps (coded_string_leaf {K = K} number octets_of) (coded_string_lawful number octets_of small primitive is) in_hexadecimal
 
+-- embedded presentation data values
+data_values_once : HasOneAnswer data_values
+data_values_once rule octets a b p q =
+    readings_weaker _ (ShownAlike data_values) false shown a b
+    (either_same pdv_element.Body pdv_value false (OfParts PdvGives) pdv_lawful.body_one (one_of_parts PdvGives (one_name but_text_keeps PdvGives pdv_one_refusal.one)) pdv_constraints pdv_element.Check (one_name whole_keeps pdv_constraints pdv_constraints_are.one) (λ p e h k. pdv_constraints_are.apart p e h k) rule octets a b p q)
+  where
+    shown : (x y : EmbeddedPdv) → pdv_value x ≡ pdv_value y → ShownAlike data_values x y
+    shown x y same = record { text = ap pdv_text same; encoding = λ e f h k. rw (h, k) tt }
+
 -- the end of contents
 ends_once : HasOneAnswer ends
 ends_once rule octets a b p q =
@@ -199,6 +211,7 @@ type_once Descriptor = strings_once 7 (AllIn is_ascii) (lit< tt) refl (in_set_ut
 type_once Universal = coded_strings_once 28 ucs4_octets_of (lit< tt) refl ucs4_code
 type_once Bmp = coded_strings_once 30 utf16_octets_of (lit< tt) refl utf16_code
 type_once UtcTime = refusing_once but_text_keeps utc_time_leaf utc_time_lawful utc_time_refused InvalidDateTime utc_time_shown
+type_once Pdv = data_values_once
 type_once GenTime = refusing_once but_text_keeps generalized_time_leaf generalized_time_lawful generalized_time_refused InvalidDateTime generalized_time_shown
 
 allocates_none : (t : TypeName) → name_allocates t ≡ false → ((meaning_of t).reading_allocates ≡ false) × ((meaning_of t).writing_allocates ≡ false)

@@ -13,6 +13,7 @@ use Rattle.asn1_headers.specs.Answers.{Exactly, TellsMemory}
 use Rattle.asn1_headers.specs.Ber.{EndsWithin}
 use Rattle.asn1_rs.specs.Any.Value.{ElementValue}
 use Rattle.asn1_rs.specs.BitString.{Bits}
+use Rattle.asn1_rs.specs.EmbeddedPdv.{Identification, PdvValue, syntaxes, syntax, context, negotiation, transfer, fixed}
 use Rattle.asn1_rs.specs.Oid.{OidValue}
 use Rattle.asn1_rs.specs.Oid.Text.{shown_text}
 use Rattle.asn1_rs.specs.Grammar.Form.{IsStrict}
@@ -55,6 +56,19 @@ text_or_dash (octet ∷ octets) text = text
 -- an object identifier: its arcs, or its octets where one is 2^64 or more; `-` for no octets
 abbrev pub identifier_text : OidValue → List ℕ
 identifier_text v = text_or_dash v.octets (shown_text v.relative v.octets)
+
+-- how the syntaxes of an embedded presentation data value are identified: a word, and identifiers, or the contents octets of an integer
+abbrev pub identification_text : Identification → List ℕ
+identification_text (syntaxes first second) = codes "syntaxes:" ++ (identifier_text first ++ (codes ":" ++ identifier_text second))
+identification_text (syntax s) = codes "syntax:" ++ identifier_text s
+identification_text (context id) = codes "context:" ++ in_hexadecimal id
+identification_text (negotiation id s) = codes "negotiation:" ++ (in_hexadecimal id ++ (codes ":" ++ identifier_text s))
+identification_text (transfer s) = codes "transfer:" ++ identifier_text s
+identification_text fixed = codes "fixed"
+
+-- that, a stroke, and the octets of the data value
+abbrev pub pdv_text : PdvValue → List ℕ
+pdv_text v = identification_text v.identification ++ (codes "/" ++ in_hexadecimal v.octets)
 
 -- the texts of items, parted by commas, in brackets
 abbrev pub list_text : {T : Type 0} → (T → List ℕ) → List T → List ℕ

@@ -29,6 +29,8 @@ use Rattle.asn1_rs.specs.Set.{HasItems, is_below, is_other, items_of, member_gra
 use Rattle.asn1_rs.specs.Null.{null_leaf}
 use Rattle.asn1_rs.specs.OctetString.{octet_string_leaf, cow_of}
 use Rattle.asn1_rs.specs.declared.asn1_types.oid.Oid.{Oid as Identifier}
+use Rattle.asn1_rs.specs.declared.asn1_types.embedded_pdv.EmbeddedPdv.{EmbeddedPdv}
+use Rattle.asn1_rs.specs.EmbeddedPdv.{PdvGives, pdv_constraints, pdv_element, pdv_value}
 use Rattle.asn1_rs.specs.Oid.{OidGives, oid_constraints, oid_element, oid_header, oid_octets, oid_value}
 use Rattle.asn1_rs.specs.declared.asn1_types.strings.kinds.DescriptorKind.{DescriptorKind}
 use Rattle.asn1_rs.specs.declared.asn1_types.strings.kinds.Utf8Kind.{Utf8Kind}
@@ -64,9 +66,9 @@ use Rattle.asn1_rs.specs.Grammar.{BerWord, DerWord}
 use Rattle.asn1_rs.specs.Integer.{IntegerCheck, IntegerCheckGives, IntegerBody, IntegerForm, integer_element, IntegerGives, IsUnsigned, UnsignedGives, UnsignedRefuses, SignedGives, SignedRefuses}
 use Rattle.asn1vec_answers.specs.declared.request.Rule.{Rule}
 use Rattle.asn1vec_answers.specs.declared.types.TypeName.{TypeName}
-use Rattle.asn1vec_answers.specs.declared.types.TypeName.TheVariants.{U8, U16, U32, U64, U128, I8, I16, I32, I64, I128, Any, Bool, Null, Enumerated, Integer, Octets, Bits, Eoc, VecU8, VecU32, VecBool, VecVecU8, SetOfU8, BTreeSetU8, Sequence, Set, SeqOfU32, Explicit0U32, Explicit31U8, VecExplicit31U8, OptU8, HashSetI8, Implicit1VecU16, Oid, Utf8, Numeric, Printable, Teletex, Videotex, Ia5, Graphic, Visible, General, Descriptor, Universal, Bmp, UtcTime, GenTime}
+use Rattle.asn1vec_answers.specs.declared.types.TypeName.TheVariants.{U8, U16, U32, U64, U128, I8, I16, I32, I64, I128, Any, Bool, Null, Enumerated, Integer, Octets, Bits, Eoc, VecU8, VecU32, VecBool, VecVecU8, SetOfU8, BTreeSetU8, Sequence, Set, SeqOfU32, Explicit0U32, Explicit31U8, VecExplicit31U8, OptU8, HashSetI8, Implicit1VecU16, Oid, Utf8, Numeric, Printable, Teletex, Videotex, Ia5, Graphic, Visible, General, Descriptor, Universal, Bmp, UtcTime, GenTime, Pdv}
 use Rattle.asn1vec_answers.specs.Meaning.{Meaning, ReadsByEither, is_ber, optional}
-use Rattle.asn1vec_answers.specs.Shown.{Encoding, IsReadAnswer, IsWritten, IsWrittenUnless, ReadsByBer, Reading, Same, StrictEncoding, StrictEncodingIfAny, bits_text, element_text, identifier_text, in_hexadecimal, in_order, list_text, truth_text}
+use Rattle.asn1vec_answers.specs.Shown.{Encoding, IsReadAnswer, IsWritten, IsWrittenUnless, ReadsByBer, Reading, Same, StrictEncoding, StrictEncodingIfAny, bits_text, element_text, identifier_text, in_hexadecimal, in_order, list_text, pdv_text, truth_text}
 
 abbrev pub name_of : TypeName → List ℕ
 name_of U8 = codes "u8"
@@ -117,6 +119,7 @@ name_of Universal = codes "universal"
 name_of Bmp = codes "bmp"
 name_of UtcTime = codes "utctime"
 name_of GenTime = codes "gentime"
+name_of Pdv = codes "pdv"
 
 -- integers, there by either rule: in decimals, with the strict encoding that each has which the type holds
 abbrev pub integers : {T : Type 0} → (T → ℤ) → (ℤ → Type 0) → (List ℕ → Error → Type 0) → Meaning
@@ -211,6 +214,19 @@ identifiers = record {
       (BerGives OidGives Same) (DerGives oid_constraints OidGives Same);
   text_of = λ x. identifier_text (oid_value x);
   Encodes = λ x. IsWritten false (oid_header x ++ oid_octets x);
+  reading_allocates = false;
+  writing_allocates = false;
+}
+
+-- embedded presentation data values, there by either rule; they have no writer
+abbrev pub data_values : Meaning
+data_values = record {
+  T = EmbeddedPdv;
+  is_there = λ rule. true;
+  Reads = ReadsByEither (BerWord pdv_element.Body) (DerWord pdv_element.Check pdv_element.Body) pdv_value false
+      (BerGives (OfParts PdvGives) Same) (DerGives pdv_constraints (OfParts PdvGives) Same);
+  text_of = λ x. pdv_text (pdv_value x);
+  Encodes = λ x encoding. encoding ≡ None;
   reading_allocates = false;
   writing_allocates = false;
 }
@@ -399,6 +415,7 @@ meaning_of Universal = coded_strings UniversalKind 28 ucs4_octets_of
 meaning_of Bmp = coded_strings BmpKind 30 utf16_octets_of
 meaning_of UtcTime = times utc_time_leaf utc_time_refused utc_time_shown
 meaning_of GenTime = times generalized_time_leaf generalized_time_refused generalized_time_shown
+meaning_of Pdv = data_values
 
 -- the names whose readers or writers allocate: those of lists and sets, and of strings whose text is decoded
 abbrev pub name_allocates : TypeName → Truth

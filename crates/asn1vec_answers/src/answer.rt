@@ -25,10 +25,10 @@ use crate::shown::{Encoded, push_by_ber, push_by_either, push_reading};
 use crate::text::push_str;
 use crate::types::{TypeName, type_named};
 use asn1_rs::{
-    Any, BitString, BmpString, EndOfContent, Enumerated, Error, GeneralString, GeneralizedTime,
-    GraphicString, Ia5String, Integer, LawfulBer, LawfulDer, Null, NumericString, ObjectDescriptor,
-    OctetString, Oid, PrintableString, Sequence, Set, Tagged, TeletexString, UniversalString,
-    UtcTime, Utf8String, VideotexString, VisibleString,
+    Any, BitString, BmpString, EmbeddedPdv, EndOfContent, Enumerated, Error, GeneralString,
+    GeneralizedTime, GraphicString, Ia5String, Integer, LawfulBer, LawfulDer, Null, NumericString,
+    ObjectDescriptor, OctetString, Oid, PrintableString, Sequence, Set, Tagged, TeletexString,
+    UniversalString, UtcTime, Utf8String, VideotexString, VisibleString,
 };
 use std::alloc::{AllocError, Global};
 
@@ -140,6 +140,7 @@ fn push_by_type(
         TypeName::Bmp => push_by_either::<BmpString<'_>>(alloc, rule, octets, buffer, text),
         TypeName::UtcTime => push_by_either::<UtcTime>(alloc, rule, octets, buffer, text),
         TypeName::GenTime => push_by_either::<GeneralizedTime>(alloc, rule, octets, buffer, text),
+        TypeName::Pdv => push_by_either::<EmbeddedPdv<'_>>(alloc, rule, octets, buffer, text),
     }
 }
 

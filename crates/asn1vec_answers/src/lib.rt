@@ -11,6 +11,7 @@ mod lists;
 mod names;
 mod numbers;
 mod options;
+mod pdv;
 mod request;
 mod shown;
 mod strings;

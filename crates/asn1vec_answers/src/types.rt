@@ -56,10 +56,11 @@ pub(crate) enum TypeName {
     Bmp,
     UtcTime,
     GenTime,
+    Pdv,
 }
 
 /// All of them, in this order.
-const TYPES: [TypeName; 48] = [
+const TYPES: [TypeName; 49] = [
     TypeName::U8,
     TypeName::U16,
     TypeName::U32,
@@ -108,6 +109,7 @@ const TYPES: [TypeName; 48] = [
     TypeName::Bmp,
     TypeName::UtcTime,
     TypeName::GenTime,
+    TypeName::Pdv,
 ];
 
 impl TypeName {
@@ -164,6 +166,7 @@ impl TypeName {
             TypeName::Bmp => b"bmp",
             TypeName::UtcTime => b"utctime",
             TypeName::GenTime => b"gentime",
+            TypeName::Pdv => b"pdv",
         }
     }
 

@@ -14,6 +14,8 @@ mod numbers;
 #[cfg(test)]
 mod oids;
 #[cfg(test)]
+mod pdvs;
+#[cfg(test)]
 mod runs;
 #[cfg(test)]
 mod strings;

@@ -143,3 +143,6 @@ returns-in-UtcTime c = rw c.in-UtcTime.is c.push_by_either-in-UtcTime.ensures
 
 pub returns-in-GenTime : goal.returns-in-GenTime
 returns-in-GenTime c = rw c.in-GenTime.is c.push_by_either-in-GenTime.ensures
+
+pub returns-in-Pdv : goal.returns-in-Pdv
+returns-in-Pdv c = rw c.in-Pdv.is c.push_by_either-in-Pdv.ensures
