@@ -1,0 +1,119 @@
+#!/usr/bin/env python3
+"""Prints what the files of the crates say of themselves, so that no page has to say it again.
+
+tools/pages.py modules [CRATE]         each crate, and in it each module with its `//!` lines, and each file of definitions
+                                       with its first comment; a module stands behind those that it uses
+tools/pages.py definitions [WORD ..]   each definition in specs/ (outside specs/Laws) whose name or comment holds one of the
+                                       words: its file, its comment, the calls and ghost members whose contracts name it,
+                                       and the definitions that do
+
+A word is looked for anywhere, in either case; `=Exactly` is that name alone. A name counts where its file has it by `use` or
+`ghost use`. Functions that are not `pub`, and tests, are left out.
+"""
+import functools
+import pathlib
+import re
+import signal
+import sys
+
+TOP = pathlib.Path(__file__).resolve().parent.parent
+read = functools.partial(pathlib.Path.read_text, encoding="utf-8")
+CRATES = dict(line.split(":") for line in read(TOP / "crates.txt").splitlines() if not line.startswith("#"))
+HEAD = re.compile(r"^(?:(?:abbrev|unfoldable|pub|record|data) )+([\w'◌]+)(?: [^=\n]*)? : ", re.M)
+USE = re.compile(r"^(?:ghost )?use Rattle\.([\w.]+?)\.\{([^}]*)\}", re.M)
+CLAUSE = re.compile(r"\s*(?:ensures|requires|ghost (?!use )(\w+))\b")
+CALL = re.compile(r"\s*(pub )?(?:pub\(crate\) )?(?:const |unsafe )*fn (\w+)")
+OWNER = re.compile(r"(pub )?(?:pub\(crate\) )?(impl|trait)\b(.*)")
+
+
+def bottom_up(texts):
+    """The modules, each behind those that it uses, as far as these do not use it."""
+    order = []
+
+    def visit(name, above):
+        if name in texts and name not in above and name not in order:
+            for used in re.findall(r"^use crate::([\w:]+)", texts[name], re.M):
+                parts = used.split("::")
+                fronts = ("/".join(parts[:n]) for n in range(len(parts), 0, -1))
+                visit(next((m for m in fronts if m in texts), ""), above | {name})
+            order.append(name)
+
+    for name in sorted(texts, key=lambda m: (m == "lib", m)):
+        visit(name, set())
+    return order
+
+
+def spec_files(crate):
+    """The files of definitions, each with its path as `use` has it."""
+    folder = TOP / "crates" / crate / "specs"
+    for path in sorted(folder.rglob("*.antt")):
+        parts = path.relative_to(folder).with_suffix("").parts
+        if parts[0] not in ("Laws", "Lib"):
+            yield path, ".".join([crate, "specs", *parts])
+
+
+def modules(names):
+    for crate in (crate for crate in CRATES if not names or crate in names):
+        source = TOP / "crates" / crate / "src"
+        texts = {re.sub(r"(/mod)?\.rt$", "", str(path.relative_to(source))): read(path) for path in source.rglob("*.rt")}
+        print(f"{crate}, on{CRATES[crate] or ' std alone'}")
+        for name in bottom_up(texts):
+            said = [line[3:].strip() for line in texts[name].splitlines() if line.startswith("//!")]
+            print(f"  {name}: {' '.join(filter(None, said))}")
+        for path in (path for path, _ in spec_files(crate) if read(path).startswith("-- ")):
+            print(f"  {path.relative_to(source.parent)}: {read(path).splitlines()[0][3:]}")
+
+
+def names_from(text):
+    """What the names of a text stand for: the file that each is from, and its name there."""
+    pairs = [(path, item.split(" as ")) for path, items in USE.findall(text) for item in items.split(",")]
+    return {item[-1].strip(" \n◌"): (path, item[0].strip()) for path, item in pairs}
+
+
+def contracts(text):
+    """The clauses of a source file, and its ghost members, each with what it belongs to."""
+    owner, public, call, lines = "", False, "", text.splitlines()
+    for i, line in enumerate(lines):
+        head, function, clause = OWNER.match(line), CALL.match(line), CLAUSE.match(line)
+        if head:
+            public = " for " in line or line.startswith("pub ")
+            owner = re.sub(r"<[^<>]*>", "", re.sub(r"<[^<>]*>", "", head[3]))
+            owner = re.split(r" where| \{|:", owner.replace("::", "."))[0].strip() + " "
+        elif line == "}":
+            owner, public = "", False
+        call = call if not function else function[2] if function[1] or public else ""
+        if clause and (clause[1] or call):
+            ends = (j for j in range(i + 1, len(lines)) if lines[j].strip() in ("", "{") or CLAUSE.match(lines[j]))
+            yield owner + (clause[1] or call), " ".join(lines[i:next(ends, len(lines))])
+
+
+def definitions(words):
+    found, callers, citers = [], {}, {}
+    for crate in (crate for crate in CRATES if not crate.endswith("_tests")):
+        for path, place in spec_files(crate):
+            text = read(path)
+            heads = list(HEAD.finditer(text))
+            known = {**names_from(text), **{head[1].strip("◌"): (place, head[1]) for head in heads}}
+            for head, after in zip(heads, [*[h.start() for h in heads[1:]], len(text)]):
+                comment = re.search(r"(?:^-- .*\n)*\Z", text[:head.start()], re.M)[0]
+                found.append((path, place, head[1], comment.replace("-- ", "").replace("\n", " ").strip() or "(no comment)"))
+                for name in known.keys() & set(re.findall(r"[\w']+", text[head.end():after])) - {head[1]}:
+                    citers.setdefault(known[name], []).append(head[1])
+        for path in sorted((TOP / "crates" / crate / "src").rglob("*.rt")):
+            known = names_from(read(path))
+            for call, clause in contracts(read(path)):
+                for name in known.keys() & set(re.findall(r"[\w']+", clause)):
+                    callers.setdefault(known[name], []).append(f"{crate} {call}")
+    for path, place, name, comment in found:
+        if not words or any(w[1:] == name if w[0] == "=" else w.lower() in f"{name} {comment}".lower() for w in words):
+            print(f"{path.relative_to(TOP)}: {name}\n  {comment}")
+            for title, names in (("in contracts of", callers), ("in", citers)):
+                if (place, name) in names:
+                    print(f"  {title} {', '.join(dict.fromkeys(names[place, name]))}")
+
+
+if __name__ == "__main__":
+    signal.signal(signal.SIGPIPE, signal.SIG_DFL)
+    if sys.argv[1:2] not in (["modules"], ["definitions"]):
+        sys.exit(__doc__)
+    globals()[sys.argv[1]](sys.argv[2:])
