@@ -91,7 +91,7 @@ class Claim:
         self.name = row.get("Name", row.get("Law"))
         self.tried = [name for names in MUST_FAIL.findall(" ".join(row.values())) for name in QUOTED.findall(names)]
         self.clauses = QUOTED.findall(MUST_FAIL.sub("", clause))
-        self.may_have_none = "Law" in row or bool(MARKS.search(row["Claim"]))
+        self.may_have_none = "Law" in row or bool(MARKS.search(row.get("Claim", "")))
 
 
 def claims():
@@ -105,14 +105,16 @@ def claims():
     return found
 
 
+def folder_of(path):
+    """Returns the name of the folder of a crate that an edit stands in."""
+    return path.relative_to(TOP).parts[2]
+
+
 def edits_of(found, edits):
     """Returns the paths of the edits under the name of each claim."""
     of = {claim.name: [path for path, edit in edits.items() if claim.name in edit.claims] for claim in found}
-    for path in edits:
-        if path.parent.name == "must-fail":
-            for claim in found:
-                if path.stem in claim.tried:
-                    of[claim.name].append(path)
+    for claim in found:
+        of[claim.name] += [path for path in edits if folder_of(path) == "must-fail" and path.stem in claim.tried]
     return of
 
 
@@ -121,7 +123,7 @@ def wrong_names(found, edits):
     texts = ((file, words) for folder, words in NAMED.items() for file in TOP.glob(f"crates/*/{folder}"))
     known = {name for file, words in texts for name in re.findall(words, file.read_text(encoding="utf-8"), re.M)}
     names, tried = [claim.name for claim in found], {name for claim in found for name in claim.tried}
-    of, must_fail = edits_of(found, edits), {path.stem for path in edits if path.parent.name == "must-fail"}
+    of, must_fail = edits_of(found, edits), {path.stem for path in edits if folder_of(path) == "must-fail"}
     for claim in found:
         if not CLAIM.fullmatch(claim.name) or names.count(claim.name) > 1:
             yield f"{claim.place}: {claim.name} is no name of a claim, or that of two"
@@ -133,12 +135,12 @@ def wrong_names(found, edits):
             if name.split("::")[-1] not in known:
                 yield f"{claim.place}: there is no clause {name}"
     for path, edit in edits.items():
-        if path.parent.name == "must-fail" and path.stem not in tried:
+        if folder_of(path) == "must-fail" and path.stem not in tried:
             yield f"{path.relative_to(TOP)}: docs/CLAIMS.md names it in no row"
-        if "mutants" in path.parts and not edit.claims:
+        if folder_of(path) == "mutants" and not edit.claims:
             yield f"{path.relative_to(TOP)}: it has no line 'claim: ..'"
         for name in edit.claims:
-            if "mutants" not in path.parts:
+            if folder_of(path) != "mutants":
                 yield f"{path.relative_to(TOP)}: only an edit of mutants/ has a line 'claim: ..'"
             elif name not in names:
                 yield f"{path.relative_to(TOP)}: docs/CLAIMS.md has no claim {name}"
