@@ -1,13 +1,20 @@
 #!/usr/bin/env python3
-"""Looks whether each edit of crates/NAME/must-fail/, crates/NAME/mutants/ (a folder for each module) and
-crates/NAME/must-not-compile/ applies to the sources as they are, and whether each edit and each clause that
-docs/CLAIMS.md names is there.
+"""Looks whether the edits apply to the sources, and whether they and docs/CLAIMS.md name one another.
 
-An edit has lines 'file: src/NAME.rt', 'old: TEXT' and 'new: TEXT', each TEXT one line, and perhaps further pairs, which
-apply to what the earlier ones made. It applies where each old text stands exactly once in its file, and the edit
-changes something. A claim names an edit by its file name, with its folder where two modules have one of the name, or by
-the front of several and '..'; in the column of clauses, a clause, or what one cites: a ghost member, a definition, a
-trait, a function. Each edit that does not apply and each name of nothing has a line, and then this ends with status 1.
+  tools/edits.py                     checks
+  tools/edits.py --claims [WORD ..]  prints the edits of each claim, or of those whose names hold one of the words
+
+An edit of crates/NAME/must-fail/, crates/NAME/mutants/ (a folder for each module) or crates/NAME/must-not-compile/ has
+lines 'file: src/NAME.rt', 'old: TEXT' and 'new: TEXT', each TEXT one line, and perhaps further pairs, which apply to
+what the earlier ones made. It applies where each old text stands exactly once in its file, and the edit changes
+something. One of mutants/ has a line 'claim: NAME' too, or 'claim: NAME, NAME', with the claims that it turns. `rt`
+reads those of must-fail/ and knows no such line, so their names stand in the page, behind the clause: (must-fail:
+`NAME`).
+
+A row of docs/CLAIMS.md has the name of its claim in its first column. It has an edit, or says with one of MARKS why
+there is none; the rows of a table that is headed 'Law' need neither. Its column of clauses names clauses, or what one
+cites: a ghost member, a definition, a trait, a function. Each edit that does not apply and each name of nothing has a
+line, and then this ends with status 1.
 """
 import pathlib
 import re
@@ -17,13 +24,15 @@ TOP = pathlib.Path(__file__).resolve().parent.parent
 
 
 class Edit:
-    """One file of edits: its name, the file that it changes (the first, of several), and its pairs of texts."""
+    """One file of edits: its name, its claims, the file that it changes (the first, of several), its pairs of texts."""
 
     def __init__(self, path):
-        self.name, self.changes, self.functions = path.stem, [], set()
+        self.name, self.claims, self.changes, self.functions = path.stem, [], [], set()
         file = old = None
         for line in path.read_text(encoding="utf-8").split("\n"):
-            if line.startswith("file: "):
+            if line.startswith("claim:"):
+                self.claims = [claim.strip() for claim in line[len("claim:"):].split(",")]
+            elif line.startswith("file: "):
                 file = line[len("file: "):].strip()
             elif line.startswith("old: "):
                 old = line[len("old: "):]
@@ -66,46 +75,107 @@ NAMED = {
 }
 
 
-def claimed():
-    """Yields the number of each row of docs/CLAIMS.md, and its cells under the names of their columns."""
-    columns = None
+# Why a claim has no edit: there is no code to turn.
+MARKS = re.compile(r"\((?:law|condition|derived|one body)\)")
+MUST_FAIL = re.compile(r"\(must-fail: ([^)]*)\)")
+QUOTED = re.compile(r"`([^`]+)`")
+CLAIM = re.compile(r"[a-z0-9]+(?:-[a-z0-9]+)*")
+
+
+class Claim:
+    """One row of docs/CLAIMS.md."""
+
+    def __init__(self, number, row):
+        clause = row.get("Clause", "")
+        self.place = f"docs/CLAIMS.md:{number}"
+        self.name = row.get("Name", row.get("Law"))
+        self.tried = [name for names in MUST_FAIL.findall(" ".join(row.values())) for name in QUOTED.findall(names)]
+        self.clauses = QUOTED.findall(MUST_FAIL.sub("", clause))
+        self.may_have_none = "Law" in row or bool(MARKS.search(row.get("Claim", "")))
+
+
+def claims():
+    """Returns the rows of docs/CLAIMS.md that are claims."""
+    found, columns = [], None
     for number, line in enumerate((TOP / "docs/CLAIMS.md").read_text(encoding="utf-8").split("\n"), 1):
         cells = [cell.strip() for cell in line.strip("|").split("|")] if line.startswith("|") else None
-        if cells and columns:
-            yield number, dict(zip(columns, cells))
+        if cells and columns and "Claim" in columns and set(line) - set("|-"):
+            found.append(Claim(number, dict(zip(columns, cells))))
         columns = (columns or cells) if cells else None
+    return found
 
 
-def unknown_names(paths):
-    """Yields what is wrong with each edit and each clause that docs/CLAIMS.md names and that is not there."""
-    edits = {path.stem for path in paths} | {f"{path.parent.name}/{path.stem}" for path in paths}
+def folder_of(path):
+    """Returns the name of the folder of a crate that an edit stands in."""
+    return path.relative_to(TOP).parts[2]
+
+
+def edits_of(found, edits):
+    """Returns the paths of the edits under the name of each claim."""
+    of = {claim.name: [path for path, edit in edits.items() if claim.name in edit.claims] for claim in found}
+    for claim in found:
+        of[claim.name] += [path for path in edits if folder_of(path) == "must-fail" and path.stem in claim.tried]
+    return of
+
+
+def wrong_names(found, edits):
+    """Yields what is wrong with the names by which the edits and docs/CLAIMS.md cite one another and the sources."""
     texts = ((file, words) for folder, words in NAMED.items() for file in TOP.glob(f"crates/*/{folder}"))
     known = {name for file, words in texts for name in re.findall(words, file.read_text(encoding="utf-8"), re.M)}
-    for number, row in claimed():
-        for name in re.findall(r"`([^`]+)`", row.get("Edit", "")):
-            front = name.removesuffix("..")
-            if name not in edits and not (front != name and any(edit.startswith(front) for edit in edits)):
-                yield f"docs/CLAIMS.md:{number}: there is no edit {name}"
-        for name in re.findall(r"`([^`]+)`", row.get("Clause", "")):
+    names, tried = [claim.name for claim in found], {name for claim in found for name in claim.tried}
+    of, must_fail = edits_of(found, edits), {path.stem for path in edits if folder_of(path) == "must-fail"}
+    for claim in found:
+        if not CLAIM.fullmatch(claim.name) or names.count(claim.name) > 1:
+            yield f"{claim.place}: {claim.name} is no name of a claim, or that of two"
+        if not of[claim.name] and not claim.may_have_none:
+            yield f"{claim.place}: no edit turns {claim.name}, and it does not say that there is no code to turn"
+        for name in set(claim.tried) - must_fail:
+            yield f"{claim.place}: there is no edit {name} in must-fail/"
+        for name in claim.clauses:
             if name.split("::")[-1] not in known:
-                yield f"docs/CLAIMS.md:{number}: there is no clause {name}"
+                yield f"{claim.place}: there is no clause {name}"
+    for path, edit in edits.items():
+        if folder_of(path) == "must-fail" and path.stem not in tried:
+            yield f"{path.relative_to(TOP)}: docs/CLAIMS.md names it in no row"
+        if folder_of(path) == "mutants" and not edit.claims:
+            yield f"{path.relative_to(TOP)}: it has no line 'claim: ..'"
+        for name in edit.claims:
+            if folder_of(path) != "mutants":
+                yield f"{path.relative_to(TOP)}: only an edit of mutants/ has a line 'claim: ..'"
+            elif name not in names:
+                yield f"{path.relative_to(TOP)}: docs/CLAIMS.md has no claim {name}"
 
 
-def main():
+def print_claims(found, edits, words):
+    """Prints the names of the claims and, below each, where its edits stand."""
+    of = edits_of(found, edits)
+    for claim in found:
+        if not words or any(word in claim.name for word in words):
+            print(claim.name)
+            for path in of[claim.name]:
+                print(f"  {path.relative_to(TOP / 'crates').with_suffix('')}")
+
+
+def main(*words):
     folders = ["must-fail/*.edit", "mutants/**/*.edit", "must-not-compile/*.edit"]
-    paths = sorted(path for folder in folders for path in TOP.glob(f"crates/*/{folder}"))
+    edits = {path: Edit(path) for path in sorted(path for it in folders for path in TOP.glob(f"crates/*/{it}"))}
+    found = claims()
+    if words:
+        if words[0] != "--claims":
+            sys.exit(__doc__)
+        return print_claims(found, edits, words[1:])
     faults = 0
-    for path in paths:
-        fault = Edit(path).fault(TOP / pathlib.Path(*path.relative_to(TOP).parts[:2]))
+    for path, edit in edits.items():
+        fault = edit.fault(TOP / pathlib.Path(*path.relative_to(TOP).parts[:2]))
         if fault:
             faults += 1
             print(f"{path.relative_to(TOP)}: does not apply: {fault}")
-    print(f"{faults} of {len(paths)} edits do not apply" if faults else f"{len(paths)} edits apply")
-    unknown = list(unknown_names(paths))
-    for fault in unknown:
+    print(f"{faults} of {len(edits)} edits do not apply" if faults else f"{len(edits)} edits apply")
+    wrong = list(wrong_names(found, edits))
+    for fault in wrong:
         print(fault)
-    return 1 if faults or unknown else 0
+    return 1 if faults or wrong else 0
 
 
 if __name__ == "__main__":
-    sys.exit(main())
+    sys.exit(main(*sys.argv[1:]))
