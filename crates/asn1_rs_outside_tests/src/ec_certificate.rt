@@ -1,0 +1,133 @@
+//! A certificate of an elliptic curve's key (RFC 5280), signed by itself, with names in UTF-8, a set of two
+//! attributes, a year before 1970, and a serial number whose first bit is set.
+//!
+//! By `openssl ecparam -name prime256v1 -genkey -noout`, `openssl req -new -utf8 -key KEY -config CNF` with
+//! `string_mask = utf8only` and the subject DC = tests, O = Zürich, CN = Leaf + serialNumber = 12 34, emailAddress =
+//! leaf@example.org, and `openssl ca -selfsign -preserveDN -config CNF -keyfile KEY -in REQUEST -startdate
+//! 500101000000Z -enddate 20491231235959Z` with the serial number 80ff and the extensions basicConstraints =
+//! CA:FALSE, keyUsage = critical, digitalSignature and subjectAltName = DNS:leaf.example.org,IP:192.0.2.1.
+
+use crate::walk::assert_both;
+use std::test::Fail;
+
+/// The certificate.
+const OCTETS: &str = "\
+3082021e308201c4a00302010202030080ff300a06082a8648ce3d040302306731153013060a0992268993f22c6401191605\
+74657374733110300e060355040a0c075ac3bc72696368311b300b06035504030c044c656166300c06035504051305313220\
+3334311f301d06092a864886f70d01090116106c656166406578616d706c652e6f7267301e170d3530303130313030303030\
+305a170d3439313233313233353935395a306731153013060a0992268993f22c640119160574657374733110300e06035504\
+0a0c075ac3bc72696368311b300b06035504030c044c656166300c060355040513053132203334311f301d06092a864886f7\
+0d01090116106c656166406578616d706c652e6f72673059301306072a8648ce3d020106082a8648ce3d03010703420004f9\
+a7474190777533e37c9547a17c7bd628aba7610f6ae682d067c3d232f209b9926ff5f1ffb352ab73b7230582f4f4392063cb\
+83b6068bc61ee54d05016cec4da35f305d30090603551d1304023000300e0603551d0f0101ff04040302078030210603551d\
+11041a301882106c6561662e6578616d706c652e6f72678704c0000201301d0603551d0e04160414db3afd648f09817cc634\
+4c0f771198dfaa24a57d300a06082a8648ce3d04030203480030450220490c40e08fc634b0ea6cb230fa5c54ba6324e07f90\
+8e34fcc7ed461dc43dcb6f022100d6a8a0c6bb9627c5675a7ac26a35cdaf8c1759eba8fd04652ac92fee03464f9a";
+
+/// Its tree, by `openssl asn1parse`.
+const TREE: &str = "\
+0 0.c.16 542 SEQUENCE
+1 0.c.16 452 SEQUENCE
+2 2.c.0 3 -
+3 0.p.2 1 INTEGER
+2 0.p.2 3 INTEGER
+2 0.c.16 10 SEQUENCE
+3 0.p.6 8 OBJECT
+2 0.c.16 103 SEQUENCE
+3 0.c.17 21 SET
+4 0.c.16 19 SEQUENCE
+5 0.p.6 10 OBJECT
+5 0.p.22 5 IA5STRING
+3 0.c.17 16 SET
+4 0.c.16 14 SEQUENCE
+5 0.p.6 3 OBJECT
+5 0.p.12 7 UTF8STRING
+3 0.c.17 27 SET
+4 0.c.16 11 SEQUENCE
+5 0.p.6 3 OBJECT
+5 0.p.12 4 UTF8STRING
+4 0.c.16 12 SEQUENCE
+5 0.p.6 3 OBJECT
+5 0.p.19 5 PRINTABLESTRING
+3 0.c.17 31 SET
+4 0.c.16 29 SEQUENCE
+5 0.p.6 9 OBJECT
+5 0.p.22 16 IA5STRING
+2 0.c.16 30 SEQUENCE
+3 0.p.23 13 UTCTIME
+3 0.p.23 13 UTCTIME
+2 0.c.16 103 SEQUENCE
+3 0.c.17 21 SET
+4 0.c.16 19 SEQUENCE
+5 0.p.6 10 OBJECT
+5 0.p.22 5 IA5STRING
+3 0.c.17 16 SET
+4 0.c.16 14 SEQUENCE
+5 0.p.6 3 OBJECT
+5 0.p.12 7 UTF8STRING
+3 0.c.17 27 SET
+4 0.c.16 11 SEQUENCE
+5 0.p.6 3 OBJECT
+5 0.p.12 4 UTF8STRING
+4 0.c.16 12 SEQUENCE
+5 0.p.6 3 OBJECT
+5 0.p.19 5 PRINTABLESTRING
+3 0.c.17 31 SET
+4 0.c.16 29 SEQUENCE
+5 0.p.6 9 OBJECT
+5 0.p.22 16 IA5STRING
+2 0.c.16 89 SEQUENCE
+3 0.c.16 19 SEQUENCE
+4 0.p.6 7 OBJECT
+4 0.p.6 8 OBJECT
+3 0.p.3 66 BIT STRING
+2 2.c.3 95 -
+3 0.c.16 93 SEQUENCE
+4 0.c.16 9 SEQUENCE
+5 0.p.6 3 OBJECT
+5 0.p.4 2 OCTET STRING
+4 0.c.16 14 SEQUENCE
+5 0.p.6 3 OBJECT
+5 0.p.1 1 BOOLEAN
+5 0.p.4 4 OCTET STRING
+4 0.c.16 33 SEQUENCE
+5 0.p.6 3 OBJECT
+5 0.p.4 26 OCTET STRING
+4 0.c.16 29 SEQUENCE
+5 0.p.6 3 OBJECT
+5 0.p.4 22 OCTET STRING
+1 0.c.16 10 SEQUENCE
+2 0.p.6 8 OBJECT
+1 0.p.3 72 BIT STRING
+73 elements, 71 with a name
+";
+
+/// What stands in the values of the extensions and the signature, one behind another, by `tools/outside.py held`.
+const HELD_OCTETS: &str = "\
+300003020780301882106c6561662e6578616d706c652e6f72678704c00002010414db3afd648f09817cc6344c0f771198df\
+aa24a57d30450220490c40e08fc634b0ea6cb230fa5c54ba6324e07f908e34fcc7ed461dc43dcb6f022100d6a8a0c6bb9627\
+c5675a7ac26a35cdaf8c1759eba8fd04652ac92fee03464f9a";
+
+/// Its tree, by `openssl asn1parse`.
+const HELD_TREE: &str = "\
+0 0.c.16 0 SEQUENCE
+0 0.p.3 2 BIT STRING
+0 0.c.16 24 SEQUENCE
+1 2.p.2 16 -
+1 2.p.7 4 -
+0 0.p.4 20 OCTET STRING
+0 0.c.16 69 SEQUENCE
+1 0.p.2 32 INTEGER
+1 0.p.2 33 INTEGER
+9 elements, 7 with a name
+";
+
+#[test]
+fn ec_certificate_is_walked(rt: HostRuntime) -> Result<(), Fail> {
+    assert_both(rt.alloc(), OCTETS, TREE)
+}
+
+#[test]
+fn what_ec_certificate_holds_is_walked(rt: HostRuntime) -> Result<(), Fail> {
+    assert_both(rt.alloc(), HELD_OCTETS, HELD_TREE)
+}
