@@ -39,6 +39,7 @@ impl Steps {
 }
 
 /// What follows 00 00, if the octets begin with it.
+// They end an indefinite content alone: at the start of an input they are an element, also by BER.
 fn after_end(bytes: &[u8]) -> Option<&[u8]>
     ensures some { IfSome result (λ rest. bytes.now ≡ end_of_contents ++ rest.now) }
     ensures none { IfNone result ((rest : List ℕ) → bytes.now ≡ end_of_contents ++ rest → ⊥) }

@@ -1,5 +1,7 @@
 //! Headers of elements and their contents octets (ITU-T X.690 8.1): how they are read, how they are written, and why
 //! both may be refused. It is the layer below `asn1_rs`, which has what a caller needs of it under its own name.
+//!
+//! `Class::number` and `Tag::is_container` are public since `asn1_rs` calls them.
 #![tactic(auto)]
 
 pub mod ber;

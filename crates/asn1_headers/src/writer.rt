@@ -12,6 +12,9 @@ use std::io::{ErrorKind, Write};
 ///
 /// Contracts of [`Told`] speak of its calls through this trait, as those of std's `Write` tell of a call only how many
 /// octets were taken, and which.
+// Under the bound `Write` no clause can say that a call was made once, with these octets, and that its failure is the
+// one answered. The smallest call with no such clause is the one line of `write_once` in the impl. Nobody can write an
+// impl of this trait, so it is not exported.
 pub trait TellsWrites: Write {
     /// What a call of `write` may come to.
     ghost writes: { Calls Self };
@@ -43,6 +46,8 @@ pub trait DerWrite {
     ghost state: { Self → WriterState };
 
     /// What a call of `put` may come to. A writer that leaves it out claims nothing of which answer a call has.
+    // `put` alone ensures it. A clause that spoke of some call, and of some writer before it, would hold of any refusal
+    // once the writer is marked.
     ghost puts: { Calls Self } = { λ _ _ _ _. Unit {0} };
 
     /// Takes a beginning of the octets and answers its length; on an Err it takes none.
@@ -144,6 +149,7 @@ fn put_some<W: DerWrite>(w: &mut W, piece: &[u8]) -> SerializeResult<usize>
 ///
 /// Refused with `IOError` alone: with what `put` failed with, or of kind `WriteZero` where it took none. A piece of no
 /// octets asks for no call.
+// Public, since every writer of a caller's type needs it, and so does the program.
 #[inline(always)]
 pub fn put_all<W: DerWrite>(w: &mut W, piece: &[u8]) -> SerializeResult<usize>
     ensures wrote { Wrote piece.now (W.state w.old) (W.state w.new) result }

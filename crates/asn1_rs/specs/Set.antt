@@ -19,6 +19,8 @@ use Rattle.asn1_rs.specs.Lists.{ListBody, ListOf, ListCheck}
 
 -- What a row of keys stands for: a set; or, where the keys stand in no way in which a set keeps them, that row itself.
 -- Each set in hand is of the first kind, as its `len` and `iter` tell.
+-- Std's model of a `BTreeSet` is any row of keys, and the laws range over all of them: with sets alone as values they
+-- would be false of [1, 1] and [2, 1].
 abbrev pub Members : Type 0 → Type 0
 Members V = ValueSet V ⊎ List V
 

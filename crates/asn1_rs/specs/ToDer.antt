@@ -34,6 +34,9 @@ HasNone {E} own = (e : E) → own e → ⊥
 -- What is written for the values of a type: for which of them that is told, the octets of header and contents, the
 -- constructed bit, the refusals that are the value's own, and whether memory is allocated for counts and header, for the
 -- contents octets, and for the whole beside these.
+-- They are relations, and not one refusal each: of a list whose items are refused for several causes one of these
+-- comes, and in a set out of memory may come first. What refuses a header leaves open which comes, so that a writer may
+-- begin at the end; so a refusal before all others, as that of a class, has a relation of its own.
 pub record Writing (S : Type 0) : Type 1 where
   pub tells : S → Type 0
   pub header : S → List ℕ

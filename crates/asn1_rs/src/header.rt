@@ -141,6 +141,8 @@ impl DynTagged for (Class, bool, Tag) {
     }
 }
 
+// `der_constructed` goes by the tag, as that of a type does, here and of a `Header`. The bit that is written is their
+// own.
 impl ToDer for (Class, bool, Tag) {
     ghost writing = { plain_writing (λ parts. identifier_octets (parts_identifier parts)) (λ _. [])
         (λ parts. is_container parts.2) };

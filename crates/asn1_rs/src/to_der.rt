@@ -49,6 +49,7 @@ pub trait ToDer: DynTagged {
             IsErr result };
 
     /// The constructed bit of the encoding. Most types answer whether their tag is that of sequence or set.
+    // No body here could carry the clause.
     fn der_constructed(&self) -> bool
         ensures { writing.tells self.now → result ≡ writing.constructed self.now };
 
@@ -116,6 +117,8 @@ pub trait ToDer: DynTagged {
     }
 
     /// Appends the encoding as it was read, where the type keeps that; else as `write_der`.
+    // A type with another raw form adds a clause that names its octets. Callers at that type see it; generic callers
+    // see that an Ok(n) appended n octets.
     fn write_der_raw<W: DerWrite>(&self, alloc: Global, w: &mut W) -> SerializeResult<usize>
         ensures der { writing.tells self.now → raw_is_der self.now →
             Wrote (whole_octets writing self.now)

@@ -30,6 +30,10 @@ pub trait Tagged {
     const TAG: Tag;
 
     /// The constant, as contracts name it.
+    // Each impl gives both, and the check proves them equal. Of
+    // `impl Tagged for A<'_> { const TAG: u32 = 4; ghost TAG = { 4 }; }` the checker says "cannot give this method the
+    // clauses of its trait yet", and a constant has no clauses to write. So a type with a lifetime names another type
+    // that has the number (`TaggedAs`).
     ghost TAG: { Tag };
 }
 
@@ -56,6 +60,7 @@ impl<T: Tagged> DynTagged for T {
 /// A caller's choice has an impl of its own, which names its tag numbers.
 pub trait Choice {
     /// Its values have this tag number.
+    // A relation and no function: an impl says which numbers, and the contract that they alone are.
     ghost HasTag: { Tag → Type 0 };
 
     /// Whether it has values of this tag number. The class is not looked at.
@@ -88,6 +93,9 @@ pub trait FromAny<'a>: Sized {
     /// What the conversion may answer to this element. Left out, nothing is claimed of it.
     ///
     /// A type that looks at the parts of the element alone says `OfParts` of a relation of these.
+    // It is told the element, since an answer may hang on the identifier octets that this keeps. These follow from the
+    // parts and the input, so a relation of parts and octets would say no more, and each type would name an argument
+    // that it does not look at.
     ghost any_gives: { Any → Result Self Self.Error → Type 0 } = { λ _ _. Unit {0} };
 
     /// The value of the element.
@@ -121,6 +129,10 @@ pub trait CheckDerConstraints {
     ghost check_gives: { Parts → Result (Unit {0}) Error → Type 0 } = { λ _ _. Unit {0} };
 
     /// Refuses an element that breaks a constraint. Where the type has laws, out of memory is never answered.
+    // The impl of a type with a lifetime writes this clause again: the checker hands a trait's clause on to a function
+    // of such an impl only where it takes `self`, and else says "write its clauses". The smallest input is
+    // `trait Checked { ghost gives: { ℕ }; fn check() -> u32 ensures { result ≡ gives }; }` with an impl for an
+    // `A<'_>`.
     fn check_constraints(any: &Any<'_>) -> Result<(), Error>
         ensures { check_gives (parts_of any.now) result };
 }
@@ -129,6 +141,10 @@ pub trait CheckDerConstraints {
 pub trait DerAutoDerive {}
 
 /// The answer, with a refusal made into one of another error type.
+// `answer.map_err(Err::convert)` is refused in its place: "passes a function whose result names a lifetime or a type
+// parameter that neither what it captures nor its arguments name". The smallest input is
+// `fn f<T, E: From<Error>>(a: Result<T, Err<Error>>) -> Result<T, Err<E>> { a.map_err(Err::convert) }`. Where a closure
+// is called behind the match, the match stays: with this function it is not proved that the closure may be called.
 #[inline(always)]
 pub(crate) fn converted<'a, T, E: From<Error>>(
     answer: ParseResult<'a, T, Error>,

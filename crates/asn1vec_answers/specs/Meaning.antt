@@ -7,6 +7,8 @@ use Rattle.asn1vec_answers.specs.declared.request.Rule.TheVariants.{Ber as ber, 
 use Rattle.asn1vec_answers.specs.Shown.{Encoding, HeldEncoding, Reading, ReadsByBer, ReadsByDer, option_text}
 
 -- The data of a name.
+-- A name that is read by one rule, has no writer or no laws, has values that are not in DER form, or allocates, changes
+-- nothing of what an answer is.
 pub record Meaning : Type 1 where
   -- the type of its values
   pub T : Type 0

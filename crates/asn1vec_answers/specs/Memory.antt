@@ -1,4 +1,5 @@
 -- In what two answers to one line may differ: one of them may tell that memory was refused.
+-- That a buffer of the engine could not grow is in no answer: it ends the run.
 use Rattle.std.specs.Prelude.{◌≡◌, ℕ, List, ◌++◌, codes, true, false, ◌⊎◌}
 use Rattle.asn1vec_answers.specs.declared.request.Rule.{Rule}
 use Rattle.asn1vec_answers.specs.declared.types.TypeName.{TypeName}

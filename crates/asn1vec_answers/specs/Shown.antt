@@ -162,6 +162,8 @@ IsUnwritten allocates encoding =
     (encoding ≡ Some (Err serialize_errors.InvalidLength)) ⊎
     ((allocates ≡ true) × (encoding ≡ Some (Err serialize_errors.OutOfMemory)))
 
+-- A list may be too long for length octets of 64 bits, and has no strict encoding then. That none that fits in a line
+-- is, is not said.
 abbrev pub StrictEncodingIfAny : {V : Type 0} → (V → Identifier → List ℕ → Type 0) → Bool → V → Encoding → Type 0
 StrictEncodingIfAny Form allocates v encoding =
     ((octets : List ℕ) × ∥ IsStrict Form v octets ∥₁ × IsWritten allocates octets encoding) ⊎

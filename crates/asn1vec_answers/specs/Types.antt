@@ -418,6 +418,7 @@ meaning_of GenTime = times generalized_time_leaf generalized_time_refused genera
 meaning_of Pdv = data_values
 
 -- the names whose readers or writers allocate: those of lists and sets, and of strings whose text is decoded
+-- by their own word: that `vec.u8` is written with no memory of its own is not said by the library
 abbrev pub name_allocates : TypeName → Truth
 name_allocates VecU8 = true
 name_allocates VecU32 = true

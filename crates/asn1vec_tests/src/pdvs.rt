@@ -3,7 +3,8 @@
 use crate::runs::assert_lines;
 use std::test::Fail;
 
-/// The contents octets are read by BER by either rule; by DER the element is constructed, of a definite length (X.690 8.18).
+/// The contents octets are read by BER by either rule; by DER the element is constructed, of a definite length (X.690
+/// 8.18).
 const DATA_VALUES: &str = "\
 ber pdv 2b0da00781052a030405068202aaa0 = ok syntax:1.2.3.4.5.6/aaa0 rest -
 der pdv 2b0da00781052a030405068202aaa0 = ok syntax:1.2.3.4.5.6/aaa0 rest -

@@ -3,8 +3,8 @@
 use crate::runs::assert_lines;
 use std::test::Fail;
 
-/// Strings whose contents octets are their text, by BER. The constructed bit and the class are not looked at, so the contents
-/// octets of a constructed one are its text (X.690 8.23.1).
+/// Strings whose contents octets are their text, by BER. The constructed bit and the class are not looked at, so the
+/// contents octets of a constructed one are its text (X.690 8.23.1).
 const TEXTS_BY_BER: &str = "\
 ber utf8 0c02c3a9 = ok c3a9 rest - enc 0c02c3a9
 ber numeric 120431322033 = ok 31322033 rest - enc 120431322033

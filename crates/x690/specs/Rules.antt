@@ -14,6 +14,8 @@ abbrev pub ber_rule : Rule
 ber_rule = record { allows_identifier = λ octets. true; allows_length = λ octets. true; allows_indefinite = λ id. id.constructed }
 
 -- by DER all of them, also those that are not the shortest, and no indefinite form
+-- a reader that takes the shortest octets alone changes this rule, `rules_allow_strict`, `header_by_der` and
+-- `der_breach`: with a rule that asks for these, no other body was refused than that of `header_by_der`
 abbrev pub der_rule : Rule
 der_rule = record { allows_identifier = λ octets. true; allows_length = λ octets. true; allows_indefinite = λ id. false }
 

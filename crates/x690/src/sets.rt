@@ -32,6 +32,7 @@ pub struct Ascii;
 
 /// The octets from 20 to 7f: the set of `VisibleString` with 7f beside it, and here also of `TeletexString` and
 /// `VideotexString` (X.680 41.1).
+// X.680 leaves 7f out; it is there as in asn1-rs.
 pub struct Visible;
 
 impl CharacterSet for Numeric {

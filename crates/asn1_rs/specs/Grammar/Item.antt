@@ -11,6 +11,7 @@ use Rattle.asn1_rs.specs.ToDer.{Writing, IsWritable}
 -- its range, and which are in DER form. The words by DER, with their values. What the conversion finds in an
 -- element's parts, and what the constraints ask of them. The identifier and the contents octets of a value in DER form.
 -- Whether reading may allocate.
+-- It is one record, and so are its laws: a list says `list_grammar 16 items T.grammar` in place of a dozen members.
 pub record ItemGrammar (S : Type 0) : Type 1 where
   pub Value : Type 0
   pub value : S → Value
@@ -29,6 +30,8 @@ ber_words G = BerWord G.Body
 -- Words, bodies and strict parts have values of the type. One word alone begins an input, and a body has one value. A
 -- value has one strict identifier and content; these fit an element, meet the constraints and have one value, which is in
 -- DER form; and the strict encoding that they make is a word by BER and by DER.
+-- `form_check` is asked of a type without a check too: an implicit tag over a list asks it of the list, whatever its
+-- items are.
 pub record IsLawfulItem {S : Type 0} (G : ItemGrammar S) : Type 0 where
   pub der_values : (o : List ℕ) (v : G.Value) → G.Der o v → G.IsValue v
   pub body_values : (p : Parts) (v : G.Value) → ArePossible p → G.Body p v → G.IsValue v

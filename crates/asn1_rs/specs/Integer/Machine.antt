@@ -8,6 +8,7 @@ use Rattle.asn1_headers.specs.declared.error.Error.{Error}
 use Rattle.asn1_rs.specs.Integer.{IsUnsigned, UnsignedRefuses, SignedRefuses}
 
 -- The integer that a value is, and its strict contents octets. Which integers the type holds, and how octets of another one are refused.
+-- Of types without a sign too it is an integer, so that one grammar and one set of laws serve both kinds.
 pub record Machine (T : Type 0) : Type 1 where
   pub number : T → ℤ
   pub octets : T → List ℕ

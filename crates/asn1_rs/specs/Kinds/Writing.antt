@@ -51,6 +51,8 @@ universal_writing number octets is_refused refusal = record (plain_writing (λ x
 }
 
 -- lists of items that are written as `item` says: a constructed element with this number, of the items in their order
+-- writing one takes no memory but its items' today; by `write_allocates` a writer that fills a buffer from its end
+-- changes no clause
 abbrev pub list_writing : {S W : Type 0} → ℕ → (W → List S) → Writing S → Writing W
 list_writing number items item = record {
   tells = λ v. All item.tells (items v);
@@ -67,6 +69,7 @@ list_writing number items item = record {
 }
 
 -- sets of such items: all are written into a vector, from which their encodings are joined in ascending order
+-- one of a single item takes no vector; the marks are of the type, and allow the refusal of each set
 abbrev pub set_writing : {S W : Type 0} → (W → List S) → Writing S → Writing W
 set_writing items item = record {
   tells = λ v. All item.tells (items v);

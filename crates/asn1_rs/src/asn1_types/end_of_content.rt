@@ -64,6 +64,7 @@ impl<'a> FromAny<'a> for EndOfContent {
     }
 }
 
+// It has no kind: a type with one is read by DER.
 impl Grammar for EndOfContent {
     ghost grammar = { by_ber_alone end_leaf };
 }

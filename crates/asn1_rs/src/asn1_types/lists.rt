@@ -79,6 +79,9 @@ pub(crate) fn assert_list(number: u32, any: &Any<'_>) -> Result<(), Error>
 }
 
 /// A list or a set, by its items.
+// Each collection gives its own iterator to the walks below, since an impl can't ask that one is given at every
+// lifetime, as `for<'s> &'s L: IntoIterator` does in Rust. Items are seen through `Deref`: `Iterator<Item = &'s T>` had
+// no proof while `Error` named `'static`, and has one now (`count_all` of `asn1_rs_uses`).
 pub trait Listed: Tagged {
     /// The items.
     type Item;
@@ -113,6 +116,9 @@ pub trait Listed: Tagged {
 }
 
 /// A list: a type that is made of items, which stand in the contents octets of one element.
+// So one conversion serves all lists, a caller's too. One of `Vec<T>` itself calls by the bound
+// `T: FromBer<'a, Error>`, which had no proof while `Error` named `'static`, and has one now (`read_by_bound` of
+// `asn1_rs_uses`).
 pub trait FromItems: Tagged + Sized {
     /// The items.
     type Item;

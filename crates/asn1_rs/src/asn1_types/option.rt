@@ -1,4 +1,7 @@
 //! Optional values: an element that may be left out, told by its tag number.
+//!
+//! An `Option` is no lawful item: its word would be empty where it holds nothing, so items of a list could not be told
+//! apart. Its laws, two for each rule, speak of the value that it holds and of what stands in its place.
 ghost use Rattle.std.specs.Prelude.{◌≡◌, ◌≢◌, ◌↔◌, Bool, false, IsTrue};
 ghost use Rattle.x690.specs.Rules.{Rule, der_rule, ber_rule};
 ghost use Rattle.x690.specs.Faults.{Breach};
@@ -48,6 +51,8 @@ fn held<'a, T, E>(answer: ParseResult<'a, T, E>) -> ParseResult<'a, Option<T>, E
 /// Reads a value, or none where it is left out: where there are no octets, or a header by BER of another tag number
 /// begins them. Nothing is consumed then. The class is not looked at, and octets that no header begins are refused as
 /// the type refuses them.
+// A reader of its own and no conversion: the header before it tells whether a value is left out, and no element has the
+// value None. At `Error` alone the call by the bound had no proof, as in lists.
 impl<'a, T: FromBer<'a, E> + Tagged, E: From<Error>> FromBer<'a, E> for Option<T> {
     ghost ber_gives = { OptionGives (IsLeftOut ber_rule (T.TAG).0) T.ber_gives };
 
@@ -97,6 +102,7 @@ impl<'a> FromDer<'a, Error> for Option<Any<'a>> {
 }
 
 /// An error that may tell of another tag number than the one that was expected.
+// So `as_optional` can have each error type that a conversion has.
 pub trait TagRefusal {
     /// It tells of that.
     ghost of_another_tag: { Self → Bool };
@@ -115,6 +121,7 @@ impl TagRefusal for Error {
 }
 
 /// The same element, whose header keeps no identifier octets.
+// They may be owned, and a copy may be refused memory.
 pub(crate) fn without_raw_tag<'a>(any: &Any<'a>) -> Any<'a>
     ensures { IsWithoutRawTag any.now result }
 {
@@ -179,6 +186,7 @@ impl<T: DynTagged> DynTagged for Option<T> {
 }
 
 /// An optional value is counted and written as what it holds. None has no octets. Its raw form is the DER form.
+// That is so of a `Boolean` too: a raw form is the DER form where a type does not say another.
 impl<T: ToDer> ToDer for Option<T> {
     ghost writing = { option_writing T.writing };
 

@@ -3,6 +3,9 @@
 //! A list or a set says what its items are ([`Listed`]), and how it goes over them ([`WritesInOrder`],
 //! [`WritesAscending`]); a set without repetitions also how it tells its members apart ([`HasMembers`],
 //! [`LawfulMembers`]).
+//!
+//! Readers, and the laws of these and of the check, stand with each type: `FromDer`, `LawfulDer` and `LawfulCheck` have
+//! an impl over all types that are read as one element, beside which one over all lists can't stand.
 ghost use Rattle.std.specs.Prelude.{◌≡◌, ◌≢◌, Bool, List, true, false, length, map, [], ◌∷◌, MatchOption, IfOk, IfErr, IsErr};
 ghost use Rattle.std.specs.List.{All, flat_map};
 ghost use Rattle.std.proofs.Common.{◌∙◌, sym};
@@ -53,6 +56,8 @@ pub struct Once;
 /// So it has [`ToDer`], and [`LawfulWrite`] where the items have it.
 pub trait WritesInOrder: Listed {
     /// Appends the items in their order, and answers the number of octets.
+    // The method asks for the items' writer. Where the trait does, as `WritesInOrder<T: ToDer>`, an impl over a list
+    // asks for it by four ways, and the search grows fourfold with each list in a list.
     fn write_each<W: DerWrite>(&self, alloc: Global, w: &mut W) -> SerializeResult<usize>
     where
         Self::Item: ToDer,

@@ -21,6 +21,9 @@ use asn1_headers::error::Error;
 use asn1_headers::tag::Tag;
 
 /// A type that has its grammars and laws by its kind.
+// Two plain impls, over elements and over what holds one, conflict, since a crate above could give a reference to its
+// own type the trait of the first. The smallest pair is `impl<T: Leaf> Grammar for T` beside
+// `impl<T: Grammar> Grammar for &T`.
 pub trait HasKind {
     /// The kind: [`ElementKind`] or [`HolderKind`].
     type Kind;
@@ -40,6 +43,8 @@ impl<T> HasKind for &T {
 ///
 /// So it has [`ToDer`](crate::ToDer), [`Grammar`], [`LawfulItem`], and the laws of writing and of tags, where the item
 /// has them.
+// Its conversion, its own reader by DER and its check it hands on itself, with the item's laws under one lemma each:
+// beside the impls over lists and over types that are read as one element no further one can stand.
 pub trait Holds: HasKind<Kind = HolderKind> {
     /// The type of the item.
     type Held;
@@ -94,6 +99,7 @@ impl<const N: u32> Tagged for TagNumber<N> {
     ghost TAG = { record { 0 = N } };
 }
 
+// This impl names no lifetime, so it may have the constant.
 impl<T: TaggedAs> TaggedBy<ElementKind> for T {
     const NUMBER: Tag = T::Number::TAG;
 

@@ -225,6 +225,8 @@ impl<T: WritesElement> ToDerBy<ElementKind> for T {
 }
 
 /// What holds an item is written as that. Its raw form is the DER form.
+// A reference has its tag number by its type alone, so the item is asked for `Tagged`. A reference to an `Any` or a
+// `Header` is not written; the value itself is.
 impl<H: Holds<Held = T>, T: ToDer + Tagged> ToDerBy<HolderKind> for H {
     ghost writing = { held_writing H.held T.writing };
 

@@ -1,6 +1,8 @@
 //! Laws that a caller names at a concrete type, as `reader_is_exact_by_der::<u64, Error>()`.
 //!
 //! Their contracts are the statements, and nothing runs in them: a caller calls one where it needs the law.
+//!
+//! A law of a trait reaches a caller only through a bound.
 ghost use Rattle.std.specs.Prelude.{◌≡◌, ◌++◌, ◌<◌, ◌^◌, ◌↔◌, ℕ, false, List, length, Result, IfErr};
 ghost use Rattle.x690.specs.Octets.{IsOctets};
 ghost use Rattle.x690.specs.Identifiers.{Identifier, IsCutIdentifier};
@@ -159,6 +161,7 @@ pub fn beginnings_are_refused()
 /// meets the constraints.
 ///
 /// A clause for each type, with its conversion and its check.
+// A law over all leaf types would range over records of types, which a clause can't.
 pub fn leaves_have_one_refusal()
     ensures boolean { HaveOneRefusal boolean_leaf }
     ensures bool { HaveOneRefusal bool_leaf }

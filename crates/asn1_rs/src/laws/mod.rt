@@ -55,6 +55,8 @@ pub trait Grammar {
 /// A type whose grammars and strict parts are lawful.
 pub trait LawfulItem: Grammar {
     /// States of an item in hand that its value is one of the type's. Each item of a list is asked in turn.
+    // No law can say it: there a number ranges over all numbers, and only code that reads an item learns that it is in
+    // the range of its type. So the call of a list goes through its items, and does nothing else.
     fn has_value(&self)
         ensures { Self.grammar.IsValue (Self.grammar.value self.now) };
 
@@ -83,6 +85,8 @@ pub trait LawfulCheck: CheckDerConstraints + LawfulItem {
 }
 
 /// The words by DER are the elements of definite length that pass the check and have a body.
+// Its one impl is the identity. In a generic function the grammar of a bound is any grammar, so it can't be told there
+// that its words are these; by BER no type has other words.
 pub trait LawfulAuto: LawfulCheck + DerAutoDerive {
     /// Each word by DER is such an element, with this value.
     ghost der_split: { (o : List ℕ) (v : Self.grammar.Value) →
@@ -137,6 +141,7 @@ pub trait LawfulTagged: LawfulItem + Tagged {
     ghost tag_number: { FormNumber Self.grammar.Form (Self.TAG).0 };
 
     /// And an element can have it.
+    // A value under a tag asks for it.
     ghost number_fits: { (Self.TAG).0 < 2 ^ 32 };
 }
 

@@ -14,6 +14,7 @@ pub trait ToStatic {
     type Owned: 'static;
 
     /// The copy is equal to its source.
+    // A relation, since the type of the copy may be another one.
     ghost copies: { Self → Self.Owned → Type 0 };
 
     /// Whether copying may allocate.
@@ -26,6 +27,8 @@ pub trait ToStatic {
 }
 
 /// A machine integer is its own copy.
+// One impl over `MachineInt` conflicts with those for `&T` and `Box<T>`. A kind would take three lines for each type in
+// place of ten, but two public traits more, and `&T` and `Box<T>` would name a kind too.
 impl ToStatic for u8 {
     type Owned = u8;
 

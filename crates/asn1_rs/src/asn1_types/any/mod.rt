@@ -117,6 +117,8 @@ impl<'a> Any<'a> {
     }
 
     /// Reads a value by DER at the front of the contents octets, and answers what follows it there.
+    // It reads, and so does `parse_ber`, at each error type that the reader has. At `Error` alone the call by a bound
+    // with a lifetime had no proof while `Error` named `'static`; it has one now (`read_by_bound` of `asn1_rs_uses`).
     pub fn parse_der<T: FromDer<'a, E>, E>(&self, alloc: Global) -> ParseResult<'a, T, E>
         ensures { T.der_gives self.now.content.now (seen result) }
     {
@@ -235,6 +237,9 @@ impl DynTagged for Any<'_> {
     }
 }
 
+// By this conversion `Any` has both readers by the blanket impls, with which one of its own would conflict, and the
+// laws of every type that is read as one element. A blanket reader can't call itself, so both stand on `element_by_der`
+// and `element_by_ber`.
 impl<'a> FromAny<'a> for Any<'a> {
     type Error = Error;
 
@@ -254,6 +259,7 @@ impl CheckDerConstraints for Any<'_> {
     ghost check_gives = { IsDefiniteOr };
 
     /// Refuses an indefinite length with `IndefiniteLengthUnexpected`.
+    // It can't fail on what was read by DER.
     fn check_constraints(any: &Any<'_>) -> Result<(), Error>
         ensures { IsDefiniteOr (parts_of any.now) result }
     {

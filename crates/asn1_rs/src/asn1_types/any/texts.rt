@@ -32,11 +32,11 @@ fn is_read_as_utf8(tag: Tag) -> bool
 
 impl<'a> Any<'a> {
     /// The contents octets as UTF-8, of a `Utf8String`, `NumericString`, `PrintableString`, `TeletexString`,
-    /// `VideotexString`, `Ia5String`, `GraphicString`, `VisibleString` or `GeneralString`. Whether the type has the text
-    /// is not looked at.
+    /// `VideotexString`, `Ia5String`, `GraphicString`, `VisibleString` or `GeneralString`. Whether the type has the
+    /// text is not looked at.
     ///
-    /// Refused at another tag number with `UnexpectedTag`, which expects none, then with `StringInvalidCharset` where the
-    /// octets are not UTF-8.
+    /// Refused at another tag number with `UnexpectedTag`, which expects none, then with `StringInvalidCharset` where
+    /// the octets are not UTF-8.
     pub fn as_any_string(&self) -> Result<&'a str, Error>
         ensures { LendsAnyText (parts_of self.now) result }
     {
@@ -47,10 +47,11 @@ impl<'a> Any<'a> {
         Ok(str::from_utf8(self.content)?)
     }
 
-    /// The text as by [`Any::as_any_string`], which is borrowed; or that of a `UniversalString`, which is decoded and owned.
+    /// The text as by [`Any::as_any_string`], which is borrowed; or that of a `UniversalString`, which is decoded and
+    /// owned.
     ///
-    /// Refused as by `as_any_string`; for a `UniversalString` with `StringInvalidCharset` where the octets are no text in
-    /// four octets a character, then where memory is, with `OutOfMemory`.
+    /// Refused as by `as_any_string`; for a `UniversalString` with `StringInvalidCharset` where the octets are no
+    /// text in four octets a character, then where memory is, with `OutOfMemory`.
     pub fn as_any_str(&self, alloc: Global) -> Result<CowStr<'a, Global>, Error>
         ensures { GivesAnyText (parts_of self.now) result }
     {

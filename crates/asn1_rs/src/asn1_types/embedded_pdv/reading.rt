@@ -13,6 +13,7 @@ use asn1_headers::tag::Tag;
 use std::borrow::CowSlice;
 
 /// The element at the front of contents octets, by BER, and what follows it there.
+// Each may nest as deep as any.
 fn element_within(octets: &[u8]) -> Result<(&[u8], Any<'_>), Error>
     ensures { MatchResult result
         (λ x. BeginsWithParts octets.now (parts_of x.1) x.0.now)

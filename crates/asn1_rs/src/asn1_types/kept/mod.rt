@@ -35,6 +35,8 @@ use std::alloc::Global;
 use std::borrow::CowSlice;
 
 /// Hands borrowed octets to the closure. Owned ones are refused with `LifetimeError`.
+// Of each closure it is asked that it may be called at what it is handed, and not at all octets: one that takes few
+// octets alone can be handed on where the octets are few.
 pub(crate) fn parse_lent<'a, F, T, E>(
     content: CowSlice<'a, u8, Global>,
     f: F,

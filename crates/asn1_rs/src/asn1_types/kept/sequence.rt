@@ -258,6 +258,7 @@ impl TaggedAs for Sequence<'_> {
 impl<'a> FromAny<'a> for Sequence<'a> {
     type Error = Error;
 
+    // So `parse_into` and its like, at what was read, can't answer `LifetimeError`.
     ghost any_gives = { LendsContent sequence_leaf (λ s. s.content) };
 
     #[inline(always)]

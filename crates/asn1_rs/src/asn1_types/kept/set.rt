@@ -257,6 +257,7 @@ impl TaggedAs for Set<'_> {
 impl<'a> FromAny<'a> for Set<'a> {
     type Error = Error;
 
+    // So `parse_into` and its like, at what was read, can't answer `LifetimeError`.
     ghost any_gives = { LendsContent set_leaf (λ s. s.content) };
 
     #[inline(always)]

@@ -6,6 +6,8 @@ ghost use Rattle.x690.specs.Arcs.{arcs_of};
 /// The arcs of an object identifier, or of a relative one, each of which is below 2^64 (X.690 8.19, 8.20).
 ///
 /// They are read from the contents octets one by one, so no memory is asked for.
+// By its ghost field `next` needs no condition. It has no `Clone`: the checker refuses
+// `#[derive(Clone, Drop)] struct G { v: u8, ghost ok: { v < 9 } }`.
 #[derive(Debug, Drop)]
 pub struct SubIdentifierIterator<'a> {
     /// The contents octets that are left.

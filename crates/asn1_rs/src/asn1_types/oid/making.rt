@@ -77,6 +77,7 @@ fn push_subidentifiers(octets: &mut Vec<u8>, numbers: &[u64]) -> Result<(), Allo
 }
 
 /// The arcs that a text has between its points. Each part is read, also where there is no memory for all of them.
+// So a text with a part that is no number is `ParseIntError` whatever memory there is.
 fn arcs_of_text(alloc: Global, s: &str) -> Result<Vec<u64>, OidParseError>
     ensures { ArcsRead s.now result }
 {

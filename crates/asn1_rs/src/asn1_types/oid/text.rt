@@ -19,6 +19,8 @@ impl Oid<'_> {
     /// with spaces between them.
     ///
     /// Refused only when out of memory, with `OutOfMemory`.
+    // The writer of `Display` over one `String`, whose room is found beforehand: so both have one text, and `Display`
+    // asks for no memory.
     pub fn to_id_string(&self, alloc: Global) -> Result<String, Error>
         ensures text { IfOk result (λ text.
             string_bytes text ≡ id_text (is_relative self.now) (oid_octets self.now)) }

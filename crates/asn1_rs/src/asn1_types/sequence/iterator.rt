@@ -34,6 +34,7 @@ use std::marker::PhantomData;
 /// A reader that reads items of a type.
 ///
 /// [`BerParser`] reads items of each type that is read by BER, [`DerParser`] those of each type that is read by DER.
+// By this trait one `next` and one set of laws serve both readers.
 pub trait ReadsItems<'a, T, E>: ASN1Parser {
     /// What the reader may answer to these octets.
     ghost item_gives: { List ℕ → Result (List ℕ × T) (Refusal E) → Type 0 };
@@ -67,6 +68,7 @@ impl<'a, T: FromDer<'a, E>, E> ReadsItems<'a, T, E> for DerParser {
 /// the walk: its refusal is told once, and `None` from then on. An item that lacks octets is told as
 /// `Error::Incomplete`, since no octets can follow its contents octets. An item of no octets is told as
 /// `InvalidLength`, so that each walk ends.
+// After a refusal no octets are left, so that "at the end" and "after a refusal" are one state.
 #[derive(Drop)]
 #[derive_where(Debug)]
 pub struct SequenceIterator<'a, T, F, E> {
@@ -92,6 +94,7 @@ impl<'a, T, F: ASN1Parser, E> SequenceIterator<'a, T, F, E> {
 }
 
 /// The items that the reader `F` reads, as the items of a walk.
+// From `next` to the reader lead two traits, `ReadsNext` and `ReadsItems`. Each step is one line, and is inlined.
 struct ItemsBy<F> {
     reads: PhantomData<F>,
 }
@@ -127,6 +130,8 @@ where
 /// A reader that is exact by a grammar: it takes an item exactly where a word of the grammar begins the octets.
 ///
 /// For a lawful type [`BerParser`] is one by the type's grammar by BER, [`DerParser`] by that by DER.
+// It has its own values and words, so one law of walks serves both readers, and a reader of a caller's own. The laws
+// lead from one iterator to another, since a `for` and std's consumers say so what they did.
 pub trait ReadsWords<'a, T, E: From<Error>>: ReadsItems<'a, T, E> {
     /// The values of the items.
     ghost Value: { Type 0 };

@@ -1,4 +1,6 @@
 //! `HashSet` as a set of members (X.690 8.12).
+//!
+//! It is no member of a set itself: it has no order, and std no hash of it.
 ghost use Rattle.std.specs.Prelude.{◌≡◌, true, IfOk};
 ghost use Rattle.std.proofs.Common.{lit<, refl};
 ghost use Rattle.std.specs.HashSet.{IsFromIterResult};

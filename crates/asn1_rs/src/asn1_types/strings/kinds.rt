@@ -24,6 +24,7 @@ pub trait Repertoire {
 }
 
 /// The texts of octets of a set.
+// These octets are below 80, so a text is judged once, and not as UTF-8 again.
 impl<S: CharacterSet> Repertoire for S {
     ghost IsText = { AllIn S.in_set };
 

@@ -201,8 +201,8 @@ impl<K: StringKind> LawfulMember for RestrictedString<'_, K> {
     ghost same = { string_equal };
 }
 
-/// An element has one refusal by the conversion to a type of strings and one by its check, and none where it has a value, or
-/// meets the constraints.
+/// An element has one refusal by the conversion to a type of strings and one by its check, and none where it has a
+/// value, or meets the constraints.
 pub fn strings_have_one_refusal<K: StringKind>()
     ensures { HaveOneRefusal (string_leaf {K = K} (K.Number.TAG).0 K.Repertoire.IsText) }
 {}

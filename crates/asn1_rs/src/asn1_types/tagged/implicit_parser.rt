@@ -31,6 +31,8 @@ use asn1_headers::error::Error;
 
 /// A type whose values keep constraints and conversion under an implicit tag of each of the four classes, as those that
 /// bear no tag of their own do.
+// The class is known at run time alone, so all four are asked for, by one bound. So is the number: a `TaggedParser` has
+// no law of it and takes no class, and an implicit tag over one has no laws.
 pub trait TakesEachClass: LawfulTagged {
     /// The strict parts of a value meet both under each class.
     ghost takes_each: { (class : ℕ) → class < 4 →

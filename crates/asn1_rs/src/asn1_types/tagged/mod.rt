@@ -38,6 +38,7 @@ impl TagKind for Explicit {}
 impl TagKind for Implicit {}
 
 /// A kind of tags under class `K`, as [`Explicit`] and [`Implicit`] are under each of the four.
+// A const parameter can be any number, so `AlwaysDer` of a value under a tag has this bound.
 pub trait HasClass<const K: u8>: TagKind {
     /// It is one of the four.
     ghost is_class: { K < 4 };
@@ -148,6 +149,8 @@ impl<T, E, Kind, const CLASS: u8, const TAG: u32> TaggedValue<T, E, Kind, CLASS,
     }
 }
 
+// `number_fits` is asked of the ghost `TAG`, and a ghost member knows no bound of a parameter. So it is the number
+// modulo 2^32, which the constant proves to be the number.
 impl<T, E, Kind, const CLASS: u8, const TAG: u32> Tagged for TaggedValue<T, E, Kind, CLASS, TAG> {
     const TAG: Tag = Tag(TAG);
 
