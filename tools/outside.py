@@ -3,16 +3,16 @@
 
 tools/outside.py                   asks openssl again for the tree of each input of crates/asn1_rs_outside_tests
 tools/outside.py tree FILE         prints the tree of a file of octets, as the tests have it
-tools/outside.py held FILE         prints, in hexadecimal, what stands in the octet strings and bit strings of a file, one
-                                   behind another, of those that openssl walks through as elements
+tools/outside.py held FILE         prints, in hexadecimal, what stands in the octet strings and bit strings of a file,
+                                   one behind another, of those that openssl walks through as elements
 tools/outside.py indefinite FILE   prints, in hexadecimal, the octets of a file with each constructed element in
                                    indefinite length, and each octet string of more than 200 octets in parts
 
-A line of a tree is of one element: its depth, the number of its class, `c` for constructed or `p` for primitive, and its
-tag number, as `3 0.p.2`; its count of contents octets, behind `inf` where the length is indefinite; and the name that
-openssl has for its type, or `-` where it stands under another tag or is a string in parts. `contents` is behind the name
-where its length octets are not the shortest, so that its contents octets alone are written as they were read. The last
-line counts the elements, and those with a name.
+A line of a tree is of one element: its depth, the number of its class, `c` for constructed or `p` for primitive, and
+its tag number, as `3 0.p.2`; its count of contents octets, behind `inf` where the length is indefinite; and the name
+that openssl has for its type, or `-` where it stands under another tag or is a string in parts. `contents` is behind
+the name where its length octets are not the shortest, so that its contents octets alone are written as they were read.
+The last line counts the elements, and those with a name.
 """
 import pathlib
 import re
@@ -27,7 +27,10 @@ NAMES = {
     "UNIVERSALSTRING": 28, "BMPSTRING": 30,
 }
 CLASSES = {"appl": 1, "cont": 2, "priv": 3}
-LINE = re.compile(r" *(\d+):d=(\d+) +hl=(\d+) +l= *(\d+|inf) +(prim|cons): (?:(\w+) \[ (\d+) \]|([A-Z0-9 ]+?) *(?:[:[].*)?$)")
+LINE = re.compile(
+    r" *(\d+):d=(\d+) +hl=(\d+) +l= *(\d+|inf) +(prim|cons): "
+    r"(?:(\w+) \[ (\d+) \]|([A-Z0-9 ]+?) *(?:[:[].*)?$)"
+)
 CONSTANTS = re.compile(r'const (\w*)OCTETS: &str = "(.*?)";.*?const \1TREE: &str = "(.*?)";', re.S)
 
 

@@ -1,14 +1,14 @@
 #!/usr/bin/env python3
 """Prints what the files of the crates say of themselves, so that no page has to say it again.
 
-tools/pages.py modules [CRATE]         each crate, and in it each module with its `//!` lines, and each file of definitions
-                                       with its first comment; a module stands behind those that it uses
-tools/pages.py definitions [WORD ..]   each definition in specs/ (outside specs/Laws) whose name or comment holds one of the
-                                       words: its file, its comment, the calls and ghost members whose contracts name it,
-                                       and the definitions that do
+tools/pages.py modules [CRATE]         each crate, and in it each module with its `//!` lines, and each file of
+                                       definitions with its first comment; a module stands behind those it uses
+tools/pages.py definitions [WORD ..]   each definition in specs/ (outside specs/Laws) whose name or comment holds
+                                       one of the words: its file, its comment, the calls and ghost members whose
+                                       contracts name it, and the definitions that do
 
-A word is looked for anywhere, in either case; `=Exactly` is that name alone. A name counts where its file has it by `use` or
-`ghost use`. Functions that are not `pub`, and tests, are left out.
+A word is looked for anywhere, in either case; `=Exactly` is that name alone. A name counts where its file has it by
+`use` or `ghost use`. Functions that are not `pub`, and tests, are left out.
 """
 import functools
 import pathlib
@@ -55,7 +55,8 @@ def spec_files(crate):
 def modules(names):
     for crate in (crate for crate in CRATES if not names or crate in names):
         source = TOP / "crates" / crate / "src"
-        texts = {re.sub(r"(/mod)?\.rt$", "", str(path.relative_to(source))): read(path) for path in source.rglob("*.rt")}
+        paths = source.rglob("*.rt")
+        texts = {re.sub(r"(/mod)?\.rt$", "", str(path.relative_to(source))): read(path) for path in paths}
         print(f"{crate}, on{CRATES[crate] or ' std alone'}")
         for name in bottom_up(texts):
             said = [line[3:].strip() for line in texts[name].splitlines() if line.startswith("//!")]
@@ -96,7 +97,8 @@ def definitions(words):
             known = {**names_from(text), **{head[1].strip("◌"): (place, head[1]) for head in heads}}
             for head, after in zip(heads, [*[h.start() for h in heads[1:]], len(text)]):
                 comment = re.search(r"(?:^-- .*\n)*\Z", text[:head.start()], re.M)[0]
-                found.append((path, place, head[1], comment.replace("-- ", "").replace("\n", " ").strip() or "(no comment)"))
+                said = comment.replace("-- ", "").replace("\n", " ").strip() or "(no comment)"
+                found.append((path, place, head[1], said))
                 for name in known.keys() & set(re.findall(r"[\w']+", text[head.end():after])) - {head[1]}:
                     citers.setdefault(known[name], []).append(head[1])
         for path in sorted((TOP / "crates" / crate / "src").rglob("*.rt")):
