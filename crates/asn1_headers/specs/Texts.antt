@@ -1,7 +1,7 @@
 -- What people read of refusals.
-use Rattle.std.specs.Prelude.{ℕ, List, ◌++◌, Option, Some, None, codes, decimal, if◌then◌else◌, nat_eq}
+use Rattle.std.specs.Prelude.{ℕ, List, [], ◌∷◌, ◌++◌, Option, Some, None, codes, decimal, if◌then◌else◌, nat_eq}
 use Rattle.std.specs.Fmt.{◌++?◌}
-use Rattle.asn1_headers.specs.Tag.{name_of, text_or}
+use Rattle.asn1_headers.specs.Tag.{name_of}
 use Rattle.asn1_headers.specs.declared.class.Class.{Class}
 use Rattle.asn1_headers.specs.declared.class.Class.TheVariants.{Universal, Application, ContextSpecific, Private}
 use Rattle.asn1_headers.specs.declared.error.Err.{Err as Refusal}
@@ -9,9 +9,14 @@ use Rattle.asn1_headers.specs.declared.error.Err.TheVariants.{Incomplete as cut,
 use Rattle.asn1_headers.specs.declared.error.Needed.{Needed}
 use Rattle.asn1_headers.specs.declared.error.Needed.TheVariants.{Unknown, Size}
 
--- the name of the universal type with the number, or else the number
+-- a name in brackets, and nothing for no name
+abbrev pub in_brackets : List ℕ → List ℕ
+in_brackets [] = []
+in_brackets (x ∷ name) = codes " (" ++ (x ∷ name ++ codes ")")
+
+-- the number, and behind it in brackets the name of the universal type that has it; no type has 0
 abbrev pub tag_name : ℕ → List ℕ
-tag_name number = text_or (name_of number) (decimal number)
+tag_name number = if nat_eq number 0 then decimal number else decimal number ++ in_brackets (name_of number)
 
 abbrev pub class_name : Class → List ℕ
 class_name Universal = codes "Universal"

@@ -211,7 +211,7 @@ pub enum Error {
     #[error("not supported")]
     Unsupported,
     /// Octets are missing in a part of the input that is whole itself.
-    #[error("{0}")]
+    #[error("within the contents octets {0}")]
     Incomplete(Needed),
     /// An allocation was refused.
     #[error("out of memory")]

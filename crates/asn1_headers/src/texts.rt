@@ -1,4 +1,5 @@
-//! What people read of refusals: in lower case, without a full stop, tags and classes by their names.
+//! What people read of refusals: in lower case, without a full stop, tags by their numbers and names, classes by
+//! their names.
 ghost use Rattle.std.specs.Prelude.{Some, codes};
 ghost use Rattle.asn1_headers.specs.Texts.{class_name, needed_text, refusal_text, tag_name, unexpected_text};
 
@@ -43,7 +44,7 @@ impl fmt::Display for BerClassFromIntError {
 
 impl std::error::Error for BerClassFromIntError {}
 
-/// The name of a tag: that of the universal type with its number, or else the number.
+/// A tag number, and behind it the name of the universal type that has it: the class is not known where it is told of.
 #[derive(Drop)]
 pub(crate) struct TagName(pub(crate) Tag);
 
@@ -54,8 +55,8 @@ impl fmt::Display for TagName {
         let tag = self.0;
         let number = tag.0;
         match tag.name() {
-            Some(name) => write!(f, "{name}"),
-            None => write!(f, "{number}"),
+            Some(name) if number > 0 => write!(f, "{number} ({name})"),
+            _ => write!(f, "{number}"),
         }
     }
 }
@@ -105,7 +106,7 @@ pub(crate) fn write_tags<W: fmt::Write>(
     f: &mut fmt::Formatter<W>,
 ) -> fmt::Result {
     let text = Unexpected {
-        what: "tag",
+        what: "tag number",
         expected: expected.map(TagName),
         actual: TagName(*actual),
     };

@@ -285,12 +285,12 @@ const ERRORS: &str = "\
 invalid type
 invalid value
 invalid length
-invalid value of tag Utf8String: empty part
+invalid value of tag 12 (Utf8String): empty part
 invalid tag
 unknown tag 99
-expected tag Integer, found OctetString
-expected tag Integer, found 31
-unexpected tag Null
+expected tag number 2 (Integer), found 4 (OctetString)
+expected tag number 2 (Integer), found 31
+unexpected tag number 5 (Null)
 expected class Universal, found ContextSpecific
 expected class Application, found Private
 unexpected class Private
@@ -305,7 +305,7 @@ invalid date or time
 rule of DER broken: empty integer
 owned octets cannot be borrowed so long
 not supported
-5 octets are missing
+within the contents octets 5 octets are missing
 out of memory
 ";
 
@@ -375,7 +375,7 @@ const REFUSALS: &str = "\
 1 octet is missing
 5 octets are missing
 octets are missing
-expected tag Set, found Sequence
+expected tag number 17 (Set), found 16 (Sequence)
 not supported
 ";
 
@@ -392,7 +392,7 @@ fn refusals_have_texts(rt: HostRuntime) -> Result<(), Fail> {
 }
 
 const WRITING: &str = "\
-ASN.1 error: unexpected tag OctetString
+ASN.1 error: unexpected tag number 4 (OctetString)
 invalid class 4
 invalid length
 I/O error: broken pipe
