@@ -1,5 +1,9 @@
 -- Times as elements (X.690 8.25, 8.26, 11.7, 11.8).
-use Rattle.std.specs.Prelude.{◌≡◌, ℕ, ◌<◌, ◌^◌, pos, negsuc, ◌≤ℤ◌, List, Bool, ◌&&◌, not, nat_le, Option, Some, None, true, false, codes, Result, Ok, Err}
+use Rattle.std.specs.Prelude.{◌≡◌, ◌⊎◌, ℕ, ◌<◌, ◌^◌, pos, negsuc, ◌≤ℤ◌, List, Bool, ◌&&◌, not, nat_le, Option, Some, None, true, false, codes, Result, Ok, Err}
+use Rattle.std.specs.Option.{option_cmp}
+use Rattle.std.specs.Ordering.{int_cmp, nat_cmp, ordering_then}
+use Rattle.std.specs.declared.cmp.Ordering.{Ordering}
+use Rattle.std.specs.declared.cmp.Ordering.TheVariants.{Less, Equal, Greater}
 use Rattle.x690.specs.Sets.{AllIn, is_visible}
 use Rattle.x690.specs.Times.{SaysUtcTime, SaysGeneralizedTime, IsStrictUtcTime, IsStrictGeneralizedTime, MostMilliseconds, EndsInZ, HasComma, utc_time_text, generalized_time_text}
 use Rattle.x690.specs.declared.times.Moment.{Moment}
@@ -102,6 +106,10 @@ UtcTextGives = TextGives utc_time_number (λ t. moment_of t.0) SaysUtcTime
 abbrev pub GeneralizedTextGives : List ℕ → Result GeneralizedTime Error → Type 0
 GeneralizedTextGives = TextGives generalized_time_number (λ t. moment_of t.0) SaysGeneralizedTime
 
+-- Why contents octets say no time: an octet outside 20 to 7f, or, where there is none, the text.
+abbrev pub RefusesText : ℕ → List ℕ → Error → Type 0
+RefusesText number octets e = ((¬ AllIn is_visible octets) × (e ≡ StringInvalidCharset)) ⊎ (AllIn is_visible octets × IsNoTime number e)
+
 -- ---- which are written
 
 abbrev pub IsInvalidDateTime : Error → Type 0
@@ -128,3 +136,21 @@ utc_time_refused m = not (fits_text 99 m)
 
 abbrev pub generalized_time_refused : Moment → Bool
 generalized_time_refused m = not (fits_text 9999 m)
+
+-- ---- their order
+
+-- none defined is before Z, and Z before an offset; offsets go by their hours, and then by their minutes
+abbrev pub zone_cmp : TimeZone → TimeZone → Ordering
+zone_cmp Undefined Undefined = Equal
+zone_cmp Undefined _ = Less
+zone_cmp Z Undefined = Greater
+zone_cmp Z Z = Equal
+zone_cmp Z (Offset hours minutes) = Less
+zone_cmp (Offset hours minutes) (Offset others rest) = ordering_then (int_cmp hours others) (int_cmp minutes rest)
+zone_cmp (Offset hours minutes) _ = Greater
+
+-- by the year, then the month, and so on; no milliseconds are before some
+abbrev pub moment_cmp : Moment → Moment → Ordering
+moment_cmp m n = ordering_then (ordering_then (ordering_then (ordering_then (ordering_then (ordering_then (ordering_then
+    (nat_cmp m.year n.year) (nat_cmp m.month n.month)) (nat_cmp m.day n.day)) (nat_cmp m.hour n.hour)) (nat_cmp m.minute n.minute)) (nat_cmp m.second n.second))
+    (option_cmp nat_cmp m.millisecond n.millisecond)) (zone_cmp m.zone n.zone)

@@ -133,6 +133,7 @@ pub use asn1_types::texts::numbers_of_texts;
 pub use asn1_types::times::ASN1DateTime;
 pub use asn1_types::times::ASN1TimeZone;
 pub use asn1_types::times::generalized_time::GeneralizedTime;
+pub use asn1_types::times::order_of_times;
 pub use asn1_types::times::utc_time::UtcTime;
 pub use ber::MAX_RECURSION;
 pub use ber::any_from_ber_counted;

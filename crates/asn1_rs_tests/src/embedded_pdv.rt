@@ -16,13 +16,15 @@ const READ: &str = "\
 EmbeddedPdv::from_ber:
 2b0da00781052a030405068202aaa0 = Ok(([], EmbeddedPdv { identification: Syntax(OID(1.2.3.4.5.6)), \
 data_value_descriptor: None, data_value: [170, 160] }))
-2b11a00ca00a80022a0381042a030405820100 = Ok(([], EmbeddedPdv { identification: Syntaxes { s_abstract: OID(1.2.3), s_transfer: OID(1.2.3.4.5) }, \
+2b11a00ca00a80022a0381042a030405820100 = Ok(([], EmbeddedPdv { identification: Syntaxes { \
+s_abstract: OID(1.2.3), s_transfer: OID(1.2.3.4.5) }, \
 data_value_descriptor: None, data_value: [0] }))
 2b09a00481022a03820100 = Ok(([], EmbeddedPdv { identification: Syntax(OID(1.2.3)), \
 data_value_descriptor: None, data_value: [0] }))
 2b08a003820102820100 = Ok(([], EmbeddedPdv { identification: PresentationContextId(Integer { octets: [2] }), \
 data_value_descriptor: None, data_value: [0] }))
-2b10a00ba30980012a81042a030405820100 = Ok(([], EmbeddedPdv { identification: ContextNegotiation { presentation_context_id: Integer { octets: [42] }, \
+2b10a00ba30980012a81042a030405820100 = Ok(([], EmbeddedPdv { identification: ContextNegotiation { \
+presentation_context_id: Integer { octets: [42] }, \
 presentation_syntax: OID(1.2.3.4.5) }, \
 data_value_descriptor: None, data_value: [0] }))
 2b0ba00684042a030405820100 = Ok(([], EmbeddedPdv { identification: TransferSyntax(OID(1.2.3.4.5)), \

@@ -2,7 +2,7 @@
 
 use asn1_rs::{
     ASN1DateTime, ASN1TimeZone, Any, Err, Error, FromBer, FromDer, ParseResult, ToDer, Told,
-    UtcTime,
+    UtcTime, order_of_times,
 };
 use std::alloc::Global;
 use std::fmt::{Display, Write};
@@ -11,8 +11,9 @@ use test_rows::{
     Calls, assert_all, assert_rows, assert_text, assert_texts, push_debug, push_digits, sides,
 };
 
-/// Texts as contents octets of a UTCTime, by BER and by DER: the fields that X.680 47 says of them, how they are shown, how
-/// many octets are written, and which (X.690 11.8): identifier and length octets, and the text. An offset is not written.
+/// Texts as contents octets of a UTCTime, by BER and by DER: the fields that X.680 47 says of them, how they are
+/// shown, how many octets are written, and which (X.690 11.8): identifier and length octets, and the text. An offset
+/// is not written.
 const SAID: &str = "\
 910625062345Z = 91 6 25 6 23 45 None Z shown 0091-06-25 06:23:45Z count Ok(15) written Ok(15) 170d 910625062345Z
 9106250623Z = 91 6 25 6 23 0 None Z shown 0091-06-25 06:23:00Z count Ok(15) written Ok(15) 170d 910625062300Z
@@ -353,4 +354,18 @@ fn utc_times_are_ordered_as_their_fields(rt: HostRuntime) -> Result<(), Fail> {
         one == UtcTime::from_bytes(b"910625062345Z")?,
     ];
     assert_all("UTCTime", &facts)
+}
+
+/// The order of the fields is that of the type's declaration, with the zone last (derived; no clock is asked).
+#[test]
+fn times_are_ordered_by_their_fields(rt: HostRuntime) {
+    let time = |month: u8, day: u8, millisecond: Option<u16>, tz: ASN1TimeZone| {
+        ASN1DateTime::new(1999, month, day, 0, 0, 0, millisecond, tz)
+    };
+    let first = time(1, 31, None, ASN1TimeZone::Z);
+    assert!(rt; order_of_times(&first, &time(2, 1, None, ASN1TimeZone::Undefined)).is_lt());
+    assert!(rt; order_of_times(&first, &time(1, 31, Some(0), ASN1TimeZone::Undefined)).is_lt());
+    assert!(rt; order_of_times(&first, &time(1, 31, None, ASN1TimeZone::Undefined)).is_gt());
+    assert!(rt; order_of_times(&first, &time(1, 31, None, ASN1TimeZone::Offset(-1, 0))).is_lt());
+    assert!(rt; order_of_times(&first, &time(1, 31, None, ASN1TimeZone::Z)).is_eq());
 }

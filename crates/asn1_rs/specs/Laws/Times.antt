@@ -26,7 +26,7 @@ use Rattle.asn1_rs.specs.declared.asn1_types.times.utc_time.UtcTime.{UtcTime}
 use Rattle.asn1_rs.specs.declared.asn1_types.times.generalized_time.GeneralizedTime.{GeneralizedTime}
 use Rattle.asn1_rs.specs.Checks.{CheckGives, IsCheck, IsCheckUpTo, but_text, nothing}
 use Rattle.asn1_rs.specs.Leaf.{IsLawfulLeafUpTo, LeafGives, leaf_parts}
-use Rattle.asn1_rs.specs.Times.{IsMoment, IsZone, IsNoTime, TextGives, moment_of, time_leaf, has_visible_octets, says_time, utc_time_leaf, utc_time_number, generalized_time_leaf, generalized_time_number, generalized_time_constraints, fits_text, has_place, has_three_digits, utc_time_refused, generalized_time_refused}
+use Rattle.asn1_rs.specs.Times.{IsMoment, IsZone, IsNoTime, RefusesText, moment_of, time_leaf, has_visible_octets, says_time, utc_time_leaf, utc_time_number, generalized_time_leaf, generalized_time_number, generalized_time_constraints, fits_text, has_place, has_three_digits, utc_time_refused, generalized_time_refused}
 use Rattle.asn1_rs.specs.Laws.Checks.{up_to, before_is, check_is, content_check_is, telling_check_is, nothing_is}
 
 -- refusals of one tag with one text are told apart by nothing
@@ -63,11 +63,15 @@ module _ {S : Type 0} (number : ℕ) (value : S → Moment) (Says : List ℕ →
     der_constraints = meets;
   }
 
-  -- a conversion that asks the tag number and the octets, and then reads the text
-  pub text_converts : (p : Parts) (answer : Result S Error) → p.id.number ≡ number → AllIn is_visible p.content → TextGives number value Says p.content answer →
-      LeafGives (time_leaf number value Says IsStrict constraints octets) p answer
-  text_converts p (Ok x) n v g = ((n, (v, (value x, g))), g)
-  text_converts p (Err e) n v g = inr (n, inr (v, ((λ m. g.0 m.0 m.1), g.1)))
+  -- a conversion that asks the tag number, and then reads the text: of one that says a time the octets need not be looked at
+  pub said_converts : ((text : List ℕ) (m : Moment) → Says text m → AllIn is_visible text) → (p : Parts) (x : S) → p.id.number ≡ number → Says p.content (value x) →
+      LeafGives (time_leaf number value Says IsStrict constraints octets) p (Ok x)
+  said_converts visible p x n s = ((n, (visible p.content (value x) s, (value x, s))), s)
+
+  pub unsaid_converts : (p : Parts) (e : Error) → p.id.number ≡ number → ((m : Moment) → ¬ Says p.content m) → RefusesText number p.content e →
+      LeafGives (time_leaf number value Says IsStrict constraints octets) p (Err e)
+  unsaid_converts p e n none (inl a) = inr (n, inl a)
+  unsaid_converts p e n none (inr a) = inr (n, inr (a.0, ((λ m. none m.0 m.1), a.1)))
 
 -- ---- which fit their text
 

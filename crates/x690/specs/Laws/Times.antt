@@ -2,6 +2,7 @@
 pub mod Digits
 pub mod Zones
 pub mod Ends
+pub mod Visible
 use Rattle.std.proofs.Common.{◌≡◌, ℕ, ◌^◌, ◌<◌, ◌≤◌, List, ◌++◌, Option, None, append_assoc, refl, sym, subst, ◌∙◌, arith}
 use Rattle.x690.specs.declared.times.Moment.{Moment}
 use Rattle.x690.specs.declared.times.TimeZone.{TimeZone}

@@ -1,5 +1,6 @@
 //! The reading of times (X.680 46, 47).
 ghost use Rattle.std.specs.Prelude.{◌≡◌, ◌≢◌, ◌<◌, ◌≤◌, ◌∷◌, ◌++◌, ◌⊎◌, ◌^◌, ℕ, List, ◌+◌, ◌-◌, ◌*◌, IsTrue, ◌↔◌, IsNone, IsSomeAnd, IfSome, Option, None};
+ghost use Rattle.x690.specs.Sets.{AllIn, is_visible};
 ghost use Rattle.x690.specs.Times.{digits, z_text, to_minute, InRange, east, west, SaysZone, SaysZoneOrNone, SaysFraction, SaysUtcEnd, SaysGeneralizedEnd, SaysUtcTime, SaysGeneralizedTime, MostMilliseconds, MostOffset};
 ghost use Rattle.x690.specs.declared.times.Moment.{Moment};
 ghost use Rattle.x690.specs.declared.times.TimeZone.{TimeZone};
@@ -21,6 +22,13 @@ pub fn said_times_are_in_range()
         InRange m × (m.year ≤ 99) × (m.millisecond ≡ None) × MostOffset 99 m.zone }
     ensures generalized { (text : List ℕ) (m : Moment) → SaysGeneralizedTime text m →
         InRange m × (m.year ≤ 9999) × MostMilliseconds 999 m.millisecond × MostOffset 99 m.zone }
+{}
+
+/// A text that says a time has octets from 20 to 7f alone.
+pub fn said_times_are_visible()
+    ensures utc { (text : List ℕ) (m : Moment) → SaysUtcTime text m → AllIn is_visible text }
+    ensures generalized { (text : List ℕ) (m : Moment) →
+        SaysGeneralizedTime text m → AllIn is_visible text }
 {}
 
 /// The digit in front, and what follows it.
@@ -303,6 +311,7 @@ fn generalized_end(start: Moment, text: &[u8]) -> Option<Moment>
 }
 
 /// The fields that the text of a UTCTime says (X.680 47). It takes no text that says none.
+#[inline(always)]
 pub fn read_utc_time(text: &[u8]) -> Option<Moment>
     ensures says { IfSome result (λ m. SaysUtcTime text.now m) }
     ensures none { IsNone result → (m : Moment) → ¬ SaysUtcTime text.now m }
@@ -313,6 +322,7 @@ pub fn read_utc_time(text: &[u8]) -> Option<Moment>
 }
 
 /// The fields that the text of a GeneralizedTime says (X.680 46). It takes no text that says none.
+#[inline(always)]
 pub fn read_generalized_time(text: &[u8]) -> Option<Moment>
     ensures says { IfSome result (λ m. SaysGeneralizedTime text.now m) }
     ensures none { IsNone result → (m : Moment) → ¬ SaysGeneralizedTime text.now m }

@@ -40,8 +40,8 @@ impl fmt::Display for Fraction {
     }
 }
 
-/// Whether an offset is shown with the sign minus.
-fn is_west(hours: i8, minutes: i8) -> bool
+/// Whether an offset is to the west, and so shown with the sign minus.
+pub fn is_west(hours: i8, minutes: i8) -> bool
     ensures { result ≡ is_west hours minutes }
 {
     hours < 0 || (hours == 0 && minutes < 0)

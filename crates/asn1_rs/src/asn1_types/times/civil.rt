@@ -1,7 +1,10 @@
 //! Times on the calendar: as a civil date-time and an offset of `jiff`, and as seconds since 1970.
+//!
+//! A date-time is a date and a time of day, each made behind its bounds and then joined: `civil::DateTime::new`, of
+//! seven fields at once, was not proved to be exact. The seconds come by the day number of the date, as
+//! `jiff::Timestamp` ends before 9999-12-31.
 ghost use Rattle.std.specs.Prelude.{◌≡◌, ◌↔◌, ◌+◌, ◌*◌, ◌≤◌, pos, ◌+ℤ◌, ◌-ℤ◌, ◌*ℤ◌, IsSome, IfSome, IsOk, IfOk, IfErr};
 ghost use Rattle.jiff.specs.Words.{epoch_day, IsBetween};
-ghost use Rattle.x690.specs.Times.{is_west};
 ghost use Rattle.asn1_rs.specs.Times.{moment_of, IsInvalidDateTime};
 ghost use Rattle.asn1_rs.specs.CivilTimes.{IsDay, IsTimeOfDay, IsWithinDay, IsCivil, IsCivilOf, offset_length, zone_seconds, adjusted_year, adjusted, IsNoAdjustedDate, seconds_since_1970};
 
@@ -12,6 +15,7 @@ use asn1_headers::error::Error;
 use asn1_headers::tag::Tag;
 use jiff::civil::{Date, DateTime, Time};
 use jiff::tz::Offset;
+use x690::times::shown::is_west;
 use x690::times::{Moment, TimeZone};
 
 /// The date of these fields, where the calendar has it and its year is at most 9999.
@@ -43,13 +47,6 @@ fn time_of(hour: u8, minute: u8, second: u8, millisecond: u16) -> Option<Time>
         Ok(time) => Some(time),
         Err(_) => None,
     }
-}
-
-/// Whether an offset is to the west.
-fn is_west(hours: i8, minutes: i8) -> bool
-    ensures { result ≡ is_west hours minutes }
-{
-    hours < 0 || (hours == 0 && minutes < 0)
 }
 
 /// The seconds of so many hours and minutes of either sign, where they are less than a day.
@@ -106,7 +103,8 @@ fn civil_of(m: &Moment) -> Option<(DateTime, Offset)>
 
 /// The second of the day.
 fn second_of_day(civil: DateTime) -> i64
-    ensures value { result ≡ pos (civil.time.hour * 3600 + civil.time.minute * 60 + civil.time.second) }
+    ensures value { result ≡
+        pos (civil.time.hour * 3600 + civil.time.minute * 60 + civil.time.second) }
     ensures bound { IsBetween (pos 0) (pos 86399) result }
 {
     let (hour, minute) = (i64::from(civil.hour()), i64::from(civil.minute()));
@@ -131,10 +129,10 @@ fn adjusted_year(year: u32) -> u32
 }
 
 impl ASN1DateTime {
-    /// The civil date-time, and the offset from UTC, which is 0 where no zone is defined. The sign of an offset is that of
-    /// its hours, else of its minutes. Refused with `InvalidDateTime` where there is no such date of a year up to 9999,
-    /// where no clock shows the time of day, at more than 999 milliseconds, and at an offset of more than 23 hours or 59
-    /// minutes.
+    /// The civil date-time, and the offset from UTC, which is 0 where no zone is defined. The sign of an offset is
+    /// that of its hours, else of its minutes. Refused with `InvalidDateTime` where there is no such date of a year
+    /// up to 9999, where no clock shows the time of day, at more than 999 milliseconds, and at an offset of more than
+    /// 23 hours or 59 minutes.
     pub fn to_datetime(&self) -> Result<(DateTime, Offset), Error>
         ensures exact { IsOk result ↔ IsCivil (moment_of self.now) }
         ensures value { IfOk result (λ found. IsCivilOf (moment_of self.now) found.0 found.1) }
@@ -170,8 +168,8 @@ impl UtcTime {
     }
 
     /// The same at the year that the two digits stand for: from 50 on 1900 more, else 2000 more (RFC 5280 4.1.2.5.1). A
-    /// year of more digits is moved as far. First the fields are refused with `InvalidDateTime`, as `utc_datetime` refuses
-    /// them; then with `InvalidValue` where that year has no such date, or is past 9999.
+    /// year of more digits is moved as far. First the fields are refused with `InvalidDateTime`, as `utc_datetime`
+    /// refuses them; then with `InvalidValue` where that year has no such date, or is past 9999.
     pub fn utc_adjusted_datetime(&self) -> Result<(DateTime, Offset), Error>
         ensures exact { IsOk result
             ↔ (IsCivil (moment_of self.now.0) × IsCivil (adjusted (moment_of self.now.0))) }

@@ -8,18 +8,19 @@ ghost use Rattle.asn1_rs.specs.Laws.Times.{generalized_time_lawful, generalized_
 ghost use Rattle.asn1_rs.specs.Times.{generalized_time_leaf, generalized_time_number, generalized_time_constraints, GeneralizedTextGives, moment_of, generalized_time_refused, IsInvalidDateTime};
 ghost use Rattle.asn1_rs.specs.Traits.{OfParts};
 
-use super::ASN1DateTime;
+use super::{ASN1DateTime, no_time};
 use crate::asn1_types::any::Any;
+use crate::header::put_behind;
 use crate::kinds::writing::WritesElement;
 use crate::kinds::{ElementKind, HasKind, LawfulConversion, LawfulElement};
 use crate::laws::LawfulMember;
 use crate::traits::{CheckDerConstraints, DerAutoDerive, FromAny, Tagged};
 use asn1_headers::error::{DerConstraint, Error, SerializeError, SerializeResult};
+use asn1_headers::header::writing::put_header;
 use asn1_headers::tag::Tag;
 use asn1_headers::writer::{DerWrite, put_all};
 use std::alloc::Global;
 use std::fmt;
-use x690::sets::{Visible, all_in};
 use x690::times::reading::read_generalized_time;
 use x690::times::shown::ShownGeneralizedTime;
 use x690::times::writing::write_generalized_time;
@@ -36,9 +37,9 @@ impl GeneralizedTime {
         GeneralizedTime(datetime)
     }
 
-    /// The time that a text says: `YYYYMMDDhhmm` and `Z`, or `YYYYMMDDhhmmss`, then a fraction or none, then a zone or none.
-    /// A fraction is a point or a comma and one to three digits, a zone `Z` or a sign and `hhmm`. Refused with
-    /// `InvalidValue` where the text says none.
+    /// The time that a text says: `YYYYMMDDhhmm` and `Z`, or `YYYYMMDDhhmmss`, then a fraction or none, then a zone
+    /// or none. A fraction is a point or a comma and one to three digits, a zone `Z` or a sign and `hhmm`. Refused
+    /// with `InvalidValue` where the text says none.
     #[inline(always)]
     pub fn from_bytes(bytes: &[u8]) -> Result<Self, Error>
         ensures { GeneralizedTextGives bytes.now result }
@@ -50,8 +51,8 @@ impl GeneralizedTime {
     }
 }
 
-/// `YYYY-MM-DD hh:mm:ss`, the milliseconds as a fraction without zeros at its end, and the zone: `Z`, an offset, or none where
-/// none is defined.
+/// `YYYY-MM-DD hh:mm:ss`, the milliseconds as a fraction without zeros at its end, and the zone: `Z`, an offset, or
+/// none where none is defined.
 impl fmt::Display for GeneralizedTime {
     ghost output = { λ t. Some (generalized_time_shown (moment_of t.0)) };
 
@@ -76,10 +77,10 @@ impl<'a> Any<'a> {
         ensures { LeafGives generalized_time_leaf (parts_of self.now) result }
     {
         self.assert_number(Tag::GeneralizedTime)?;
-        if !all_in::<Visible>(self.content) {
-            return Err(Error::StringInvalidCharset);
+        match read_generalized_time(self.content) {
+            Some(moment) => Ok(GeneralizedTime(ASN1DateTime::from(moment))),
+            None => Err(no_time(self.content, Tag::GeneralizedTime)),
         }
-        GeneralizedTime::from_bytes(self.content)
     }
 }
 
@@ -145,8 +146,8 @@ impl WritesElement for GeneralizedTime {
 
     ghost refusal = { λ _. IsInvalidDateTime };
 
-    /// Refused with `InvalidDateTime` where the fields don't fit the text: an offset, a year past 9999, another component
-    /// past 99, milliseconds past 999.
+    /// Refused with `InvalidDateTime` where the fields don't fit the text: an offset, a year past 9999, another
+    /// component past 99, milliseconds past 999.
     fn count_octets(&self) -> Result<usize, Error> {
         match write_generalized_time(&self.0.moment()) {
             Some(text) => Ok(text.as_bytes().len()),
@@ -159,6 +160,16 @@ impl WritesElement for GeneralizedTime {
             Some(text) => put_all(w, text.as_bytes()),
             None => Err(SerializeError::ASN1Error(Error::InvalidDateTime)),
         }
+    }
+
+    #[inline(always)]
+    fn put_element<W: DerWrite>(&self, w: &mut W) -> SerializeResult<usize> {
+        let Some(text) = write_generalized_time(&self.0.moment()) else {
+            return Err(SerializeError::ASN1Error(Error::InvalidDateTime));
+        };
+        let octets = text.as_bytes();
+        let header = put_header(0, false, Tag::GeneralizedTime.0, octets.len(), w);
+        put_behind(header, octets, w)
     }
 
     ghost written = { refusing_written generalized_time_leaf generalized_time_lawful

@@ -1,13 +1,17 @@
 //! Times (X.690 8.25, 8.26, 11.7, 11.8).
 ghost use Rattle.std.specs.Prelude.{◌≡◌, ◌<◌, ◌^◌, Some};
 ghost use Rattle.x690.specs.Times.{MostMilliseconds, moment_text};
-ghost use Rattle.asn1_rs.specs.Times.{moment_of, IsMoment, IsZone};
+ghost use Rattle.asn1_rs.specs.Times.{moment_cmp, moment_of, IsMoment, IsZone, RefusesText};
 
 pub mod civil;
 pub mod generalized_time;
 pub mod utc_time;
 
+use asn1_headers::error::Error;
+use asn1_headers::tag::Tag;
+use std::cmp::Ordering;
 use std::fmt;
+use x690::sets::{Visible, all_in};
 use x690::times::{Moment, TimeZone};
 
 /// The fields of a time. A caller may make any; which of them are read and written, the types of times say. The year of a
@@ -87,7 +91,8 @@ impl ASN1DateTime {
     }
 }
 
-/// The fields alone: `YYYYMMDDhhmmss`, the milliseconds as a fraction without zeros at its end, and `Z`, whatever the zone is.
+/// The fields alone: `YYYYMMDDhhmmss`, the milliseconds as a fraction without zeros at its end, and `Z`, whatever the
+/// zone is.
 impl fmt::Display for ASN1DateTime {
     ghost output = { λ d. Some (moment_text (moment_of d)) };
 
@@ -159,4 +164,24 @@ impl From<Moment> for ASN1DateTime {
             tz: m.zone,
         }
     }
+}
+
+/// Why contents octets say no time: an octet outside 20 to 7f, or else the text. A text that says a time has no such
+/// octet, so they are looked at here alone.
+fn no_time(octets: &[u8], tag: Tag) -> Error
+    ensures { RefusesText tag.0 octets.now result }
+{
+    if all_in::<Visible>(octets) {
+        tag.invalid_value("not a time")
+    } else {
+        Error::StringInvalidCharset
+    }
+}
+
+/// Which of two times comes first by their fields, from the year to the zone: the order that `cmp` answers. Where
+/// they are equal so, `==` tells so too. A zone is the last field, so this is not the order on a clock.
+pub fn order_of_times(a: &ASN1DateTime, b: &ASN1DateTime) -> Ordering
+    ensures order { result ≡ moment_cmp (moment_of a.now) (moment_of b.now) }
+{
+    a.cmp(b)
 }

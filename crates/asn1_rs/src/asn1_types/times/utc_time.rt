@@ -9,7 +9,7 @@ ghost use Rattle.asn1_rs.specs.Laws.Times.{utc_time_lawful, utc_time_accepted, t
 ghost use Rattle.asn1_rs.specs.Times.{utc_time_leaf, utc_time_number, UtcTextGives, moment_of, utc_time_refused, IsInvalidDateTime};
 ghost use Rattle.asn1_rs.specs.Traits.{OfParts};
 
-use super::ASN1DateTime;
+use super::{ASN1DateTime, no_time};
 use crate::asn1_types::any::Any;
 use crate::kinds::writing::WritesElement;
 use crate::kinds::{ElementKind, HasKind, LawfulConversion, LawfulElement};
@@ -20,7 +20,6 @@ use asn1_headers::tag::Tag;
 use asn1_headers::writer::{DerWrite, put_all};
 use std::alloc::Global;
 use std::fmt;
-use x690::sets::{Visible, all_in};
 use x690::times::reading::read_utc_time;
 use x690::times::shown::ShownUtcTime;
 use x690::times::writing::write_utc_time;
@@ -75,10 +74,10 @@ impl<'a> Any<'a> {
         ensures { LeafGives utc_time_leaf (parts_of self.now) result }
     {
         self.assert_number(Tag::UtcTime)?;
-        if !all_in::<Visible>(self.content) {
-            return Err(Error::StringInvalidCharset);
+        match read_utc_time(self.content) {
+            Some(moment) => Ok(UtcTime(ASN1DateTime::from(moment))),
+            None => Err(no_time(self.content, Tag::UtcTime)),
         }
-        UtcTime::from_bytes(self.content)
     }
 }
 
