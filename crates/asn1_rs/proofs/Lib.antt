@@ -2,6 +2,7 @@ mod JoinedItems
 mod Kept
 mod Lists
 mod OnlyItem
+mod PutFields
 mod Sets
 mod TaggedReaders
 mod Refused

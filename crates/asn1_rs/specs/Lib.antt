@@ -16,6 +16,7 @@ pub mod EmbeddedPdv
 pub mod Optional
 pub mod BitString
 pub mod ToDer
+pub mod Fields
 pub mod Integer
 pub mod Enumerated
 pub mod Times

@@ -6,6 +6,7 @@
 //! sets name kinds of their own ([`collections`]). A type of another make has those traits itself and no kind.
 
 pub(crate) mod collections;
+pub(crate) mod fields;
 pub(crate) mod in_hand;
 pub(crate) mod writing;
 

@@ -1,0 +1,112 @@
+-- Fields that are put one after another: what is taken of them, and why they are refused.
+use Rattle.std.proofs.Common.{◌≡◌, ◌+◌, ◌≤◌, refl, sym, ap, subst, ◌∙◌, inl, inr, ℕ, true, List, [], ◌++◌, length, length-append, append-nil, Result, Ok, Err, IfErr, IsErr, MatchResult, arith}
+use Rattle.std.proofs.lemmas.Bool.{false≢true}
+use Rattle.std.proofs.lemmas.List.{append_assoc}
+use Rattle.asn1_headers.specs.declared.error.Error.{Error}
+use Rattle.asn1_headers.specs.declared.error.SerializeError.{SerializeError}
+use Rattle.asn1_headers.specs.Laws.Writing.{MayRefuse_more}
+use Rattle.asn1_rs.proofs.Lists.{MayRefuseCount_more}
+use Rattle.asn1_rs.specs.Fields.{TakenFields, counted, collected, takes, FieldRefusal, WritingRefuses, PutsField, FieldList, untold_fields, no_fields, field, TellsFields, fields_octets, FieldsRefuse, FieldsRefuseCount, Puts}
+use Rattle.asn1_rs.specs.ToDer.{Either, RefusesCount, VectorRefuses, whole_octets, whole_refuses}
+use Rattle.asn1_headers.specs.declared.error.SerializeError.TheVariants as serialize_errors
+use Rattle.asn1_headers.specs.Error.{vector_refusal}
+use Rattle.asn1_headers.specs.Writer.{MayRefuse}
+
+-- ---- what was taken
+
+takes_none : (s : TakenFields) → s ≡ takes [] s
+takes_none (counted n) = ap counted (omega arith)
+takes_none (collected o) = ap collected (sym (append-nil o))
+
+takes_both : (a b : List ℕ) (s : TakenFields) → takes b (takes a s) ≡ takes (a ++ b) s
+takes_both a b (counted n) = ap counted (simp length-append (omega arith))
+takes_both a b (collected o) = ap collected (append_assoc o a b)
+
+-- ---- refusals, of one field among several
+
+module _ (a b : List ℕ) (count others : Error → Type 0) (own other : SerializeError → Type 0) where
+  before_is_less : length a ≤ length (a ++ b)
+  before_is_less = simp length-append (omega arith)
+
+  behind_is_less : length b ≤ length (a ++ b)
+  behind_is_less = simp length-append (omega arith)
+
+  refused_first : (s : TakenFields) (e : SerializeError) → FieldRefusal s (length a) count own e → FieldRefusal s (length (a ++ b)) (Either count others) (Either own other) e
+  refused_first (counted n) e (f, inl m, is) =
+      let more : n + length a ≤ n + length (a ++ b) = simp length-append (omega arith) in
+      (f, inl (MayRefuseCount_more f true _ _ more m), is)
+  refused_first (counted n) e (f, inr o, is) = (f, inr (inl o), is)
+  refused_first (collected o) e (inl m) = inl (MayRefuse_more e true _ _ before_is_less m)
+  refused_first (collected o) e (inr (f, w, is)) = inr (f, inl w, is)
+
+  refused_behind : (s : TakenFields) (e : SerializeError) → FieldRefusal (takes a s) (length b) others other e → FieldRefusal s (length (a ++ b)) (Either count others) (Either own other) e
+  refused_behind (counted n) e (f, inl m, is) =
+      let more : n + length a + length b ≤ n + length (a ++ b) = simp length-append (omega arith) in
+      (f, inl (MayRefuseCount_more f true _ _ more m), is)
+  refused_behind (counted n) e (f, inr o, is) = (f, inr (inr o), is)
+  refused_behind (collected o) e (inl m) = inl (MayRefuse_more e true _ _ behind_is_less m)
+  refused_behind (collected o) e (inr (f, w, is)) = inr (f, inr w, is)
+
+-- ---- all fields
+
+abbrev done : Result (Unit {0}) SerializeError
+done = Ok tt
+
+done_or_not : (e : SerializeError) → done ≡ Err e → ⊥
+done_or_not e is = cc
+
+module _ {S : Type 0} where
+  pub puts_taken : (fields : FieldList S) (x : S) (old new : TakenFields) → TellsFields fields x → Puts fields x old new (Ok tt) → new ≡ takes (fields_octets fields x) old
+  puts_taken untold_fields x old new t p = absurd t
+  puts_taken no_fields x old new t p = p.1 ∙ takes_none old
+  puts_taken (field w of rest) x old new t (mid, Ok u, put, then) =
+      puts_taken rest x mid new t.1 then
+      ∙ (ap (takes (fields_octets rest x)) (put.taken t.0)
+      ∙ takes_both (whole_octets w (of x)) (fields_octets rest x) old)
+  puts_taken (field w of rest) x old new t (mid, Err e, put, then) = absurd (done_or_not e then)
+
+  pub puts_refused : (fields : FieldList S) (x : S) (old new : TakenFields) (e : SerializeError) → TellsFields fields x → Puts fields x old new (Err e) → FieldRefusal old (length (fields_octets fields x)) (FieldsRefuseCount fields x) (FieldsRefuse fields x) e
+  puts_refused untold_fields x old new e t p = absurd t
+  puts_refused no_fields x old new e t p = absurd (done_or_not e (sym p.0))
+  puts_refused (field w of rest) x old new e t (mid, Ok u, put, then) =
+      refused_behind (whole_octets w (of x)) (fields_octets rest x) (w.count_refuses (of x)) (FieldsRefuseCount rest x) (whole_refuses w (of x)) (FieldsRefuse rest x) old e
+      (subst (λ s. FieldRefusal s (length (fields_octets rest x)) (FieldsRefuseCount rest x) (FieldsRefuse rest x) e) (put.taken t.0) (puts_refused rest x mid new e t.1 then))
+  puts_refused (field w of rest) x old new e t (mid, Err f, put, then) =
+      let same : f ≡ e = cc in
+      refused_first (whole_octets w (of x)) (fields_octets rest x) (w.count_refuses (of x)) (FieldsRefuseCount rest x) (whole_refuses w (of x)) (FieldsRefuse rest x) old e
+      (subst (λ r. FieldRefusal old (length (whole_octets w (of x))) (w.count_refuses (of x)) (whole_refuses w (of x)) r) same (put.refused t.0))
+
+  pub puts_uncounted : (fields : FieldList S) (x : S) (old new : TakenFields) (e : Error) → TellsFields fields x → FieldsRefuseCount fields x e → Puts fields x old new (Ok tt) → ⊥
+  puts_uncounted untold_fields x old new e t o p = t
+  puts_uncounted no_fields x old new e t o p = o
+  puts_uncounted (field w of rest) x old new e t (inl o) (mid, Ok u, put, then) = false≢true (put.uncounted e t.0 o)
+  puts_uncounted (field w of rest) x old new e t (inr o) (mid, Ok u, put, then) = puts_uncounted rest x mid new e t.1 o then
+  puts_uncounted (field w of rest) x old new e t o (mid, Err f, put, then) = done_or_not f then
+
+  pub puts_accepted : (fields : FieldList S) (x : S) (o : List ℕ) (new : TakenFields) (e : SerializeError) → TellsFields fields x → FieldsRefuse fields x e → Puts fields x (collected o) new (Ok tt) → ⊥
+  puts_accepted untold_fields x o new e t r p = t
+  puts_accepted no_fields x o new e t r p = r
+  puts_accepted (field w of rest) x o new e t (inl r) (mid, Ok u, put, then) = false≢true (put.accepted e t.0 r)
+  puts_accepted (field w of rest) x o new e t (inr r) (mid, Ok u, put, then) =
+      puts_accepted rest x (o ++ whole_octets w (of x)) new e t.1 r (subst (λ s. Puts rest x s new (Ok tt)) (put.taken t.0) then)
+  puts_accepted (field w of rest) x o new e t r (mid, Err f, put, then) = done_or_not f then
+
+-- ---- from the first field to the answer
+
+pub from_none_counted : (len : ℕ) (counts : Error → Type 0) (f : Error) → RefusesCount true (0 + len) counts f → RefusesCount true len counts f
+from_none_counted len counts f r = subst (λ n. RefusesCount true n counts f) (omega arith) r
+
+pub from_none_collected : {S : Type 0} (fields : FieldList S) (x : S) (o : List ℕ) (new : TakenFields) → o ≡ [] → TellsFields fields x → Puts fields x (collected o) new (Ok tt) → new ≡ collected (fields_octets fields x)
+from_none_collected fields x o new none t p = puts_taken fields x (collected o) new t p ∙ ap (λ l. collected (l ++ fields_octets fields x)) none
+
+vector_twice : (e : SerializeError) → vector_refusal (vector_refusal e) ≡ vector_refusal e
+vector_twice (serialize_errors.ASN1Error e) = refl
+vector_twice (serialize_errors.InvalidClass c) = refl
+vector_twice serialize_errors.InvalidLength = refl
+vector_twice (serialize_errors.IOError e) = refl
+vector_twice serialize_errors.OutOfMemory = refl
+
+-- what refuses a writing into a vector refuses it without the writer's failure too
+pub vector_refuses_again : (e f : SerializeError) (n : ℕ) (own : SerializeError → Type 0) → (MayRefuse true n e → MayRefuse true n f) → f ≡ vector_refusal e → VectorRefuses n own e → VectorRefuses n own f
+vector_refuses_again e f n own may same (inl m) = inl (may m)
+vector_refuses_again e f n own may same (inr (c, o, is)) = inr (c, o, same ∙ (ap vector_refusal is ∙ vector_twice c))

@@ -1,0 +1,94 @@
+-- Values that are written as their fields, one after another, under one header (X.690 8.9, 8.11).
+use Rattle.std.specs.Prelude.{◌≡◌, ℕ, ◌+◌, true, List, [], ◌++◌, length, Result, Ok, Err, IfOk, IfErr, IsErr, MatchResult}
+use Rattle.x690.specs.Strict.{header_octets}
+use Rattle.asn1_headers.specs.declared.error.Error.{Error}
+use Rattle.asn1_headers.specs.declared.error.SerializeError.{SerializeError}
+use Rattle.asn1_headers.specs.Error.{written_refusal}
+use Rattle.asn1_rs.specs.declared.kinds.fields.Fields.{Fields}
+use Rattle.asn1_rs.specs.declared.kinds.fields.Taken.TheVariants as taken
+use Rattle.asn1_rs.specs.ToDer.{Writing, Either, IntoVector, RefusesCount, VectorRefuses, WrittenRefusal, whole_octets, whole_refuses}
+
+-- what was taken of fields so far: the number of their octets, or the octets
+pub data TakenFields : Type 0 where
+  counted : ℕ → TakenFields
+  collected : List ℕ → TakenFields
+
+abbrev pub taken_in : Fields → TakenFields
+taken_in x = elim x.taken as (λ _. TakenFields) [ taken.Counted n ↦ counted n | taken.Collected a w ↦ collected w.inner.items ]
+
+-- the octets of one more field behind those before
+abbrev pub takes : List ℕ → TakenFields → TakenFields
+takes o (counted n) = counted (n + length o)
+takes o (collected p) = collected (p ++ o)
+
+-- Why a field of so many octets is refused: by its count, or since the sum of the counts is too long; or as a writing
+-- into a vector is.
+abbrev pub FieldRefusal : TakenFields → ℕ → (Error → Type 0) → (SerializeError → Type 0) → SerializeError → Type 0
+FieldRefusal (counted n) len counts writes e = WrittenRefusal (RefusesCount true (n + len) counts) e
+FieldRefusal (collected o) len counts writes e = VectorRefuses len writes e
+
+-- what refuses a field that is written: nothing in counting
+abbrev pub WritingRefuses : TakenFields → (SerializeError → Type 0) → SerializeError → Type 0
+WritingRefuses (counted n) writes e = ⊥
+WritingRefuses (collected o) writes e = writes e
+
+-- One field was put, or refused.
+pub record PutsField {S : Type 0} (w : Writing S) (x : S) (old new : TakenFields) (answer : Result (Unit {0}) SerializeError) : Type 0 where
+  pub taken : w.tells x → IfOk answer (λ _. new ≡ takes (whole_octets w x) old)
+  pub refused : w.tells x → IfErr answer (FieldRefusal old (length (whole_octets w x)) (w.count_refuses x) (whole_refuses w x))
+  pub uncounted : (e : Error) → w.tells x → w.count_refuses x e → IsErr answer
+  pub accepted : (e : SerializeError) → w.tells x → WritingRefuses old (whole_refuses w x) e → IsErr answer
+
+-- The fields of a type, in their order: how each is written, and how it is had of a value. Of untold fields nothing is
+-- said.
+pub data FieldList (S : Type 0) : Type 1 where
+  untold_fields : FieldList S
+  no_fields : FieldList S
+  field : {T : Type 0} → Writing T → (S → T) → FieldList S → FieldList S
+
+-- what is written is told of each field
+abbrev pub TellsFields : {S : Type 0} → FieldList S → S → Type 0
+TellsFields untold_fields x = ⊥
+TellsFields no_fields x = Unit {0}
+TellsFields (field w of rest) x = w.tells (of x) × TellsFields rest x
+
+-- the encodings of the fields, one after another
+abbrev pub fields_octets : {S : Type 0} → FieldList S → S → List ℕ
+fields_octets untold_fields x = []
+fields_octets no_fields x = []
+fields_octets (field w of rest) x = whole_octets w (of x) ++ fields_octets rest x
+
+-- the refusals of the fields' own, in counts and in writing
+abbrev pub FieldsRefuseCount : {S : Type 0} → FieldList S → S → Error → Type 0
+FieldsRefuseCount untold_fields x e = ⊥
+FieldsRefuseCount no_fields x e = ⊥
+FieldsRefuseCount (field w of rest) x e = Either (w.count_refuses (of x)) (FieldsRefuseCount rest x) e
+
+abbrev pub FieldsRefuse : {S : Type 0} → FieldList S → S → SerializeError → Type 0
+FieldsRefuse untold_fields x e = ⊥
+FieldsRefuse no_fields x e = ⊥
+FieldsRefuse (field w of rest) x e = Either (whole_refuses w (of x)) (FieldsRefuse rest x) e
+
+-- The fields were put in their order; or those before one that was refused, and that refusal is the answer. What was
+-- taken in between is tied by the puts.
+abbrev pub Puts : {S : Type 0} → FieldList S → S → TakenFields → TakenFields → Result (Unit {0}) SerializeError → Type 0
+Puts untold_fields x old new answer = Unit {0}
+Puts no_fields x old new answer = (answer ≡ Ok tt) × (new ≡ old)
+Puts (field w of rest) x old new answer = (mid : TakenFields) × (first : Result (Unit {0}) SerializeError) ×
+    PutsField w (of x) old mid first × MatchResult first (λ _. Puts rest x mid new answer) (λ e. answer ≡ Err e)
+
+-- A constructed element of the universal class, with this number, of the fields. They are collected in a vector first.
+abbrev pub fields_writing : {S : Type 0} → ℕ → FieldList S → Writing S
+fields_writing number fields = record {
+  tells = TellsFields fields;
+  header = λ x. header_octets 0 true number (length (fields_octets fields x));
+  content = fields_octets fields;
+  constructed = λ _. true;
+  count_refuses = FieldsRefuseCount fields;
+  header_refuses = λ x. WrittenRefusal (FieldsRefuseCount fields x);
+  content_refuses = λ x. IntoVector (FieldsRefuse fields x);
+  refuses_first = λ _ _. ⊥;
+  count_allocates = true;
+  content_allocates = true;
+  write_allocates = true;
+}
