@@ -6,7 +6,7 @@ use Rattle.asn1_headers.specs.declared.error.Error.{Error}
 use Rattle.asn1_headers.specs.declared.error.SerializeError.{SerializeError}
 use Rattle.asn1_headers.specs.Laws.Writing.{MayRefuse_more}
 use Rattle.asn1_rs.proofs.Lists.{MayRefuseCount_more}
-use Rattle.asn1_rs.specs.Fields.{TakenFields, counted, collected, takes, FieldRefusal, WritingRefuses, PutsField, FieldList, untold_fields, no_fields, field, TellsFields, fields_octets, FieldsRefuse, FieldsRefuseCount, Puts}
+use Rattle.asn1_rs.specs.Fields.{TakenFields, counted, collected, takes, FieldRefusal, WritingRefuses, PutsField, FieldList, untold_fields, no_fields, field, TellsFields, fields_octets, FieldsRefuse, FieldsRefuseCount, PutsEach, Puts}
 use Rattle.asn1_rs.specs.ToDer.{Either, RefusesCount, VectorRefuses, whole_octets, whole_refuses}
 use Rattle.asn1_headers.specs.declared.error.SerializeError.TheVariants as serialize_errors
 use Rattle.asn1_headers.specs.Error.{vector_refusal}
@@ -56,40 +56,63 @@ done_or_not : (e : SerializeError) → done ≡ Err e → ⊥
 done_or_not e is = cc
 
 module _ {S : Type 0} where
-  pub puts_taken : (fields : FieldList S) (x : S) (old new : TakenFields) → TellsFields fields x → Puts fields x old new (Ok tt) → new ≡ takes (fields_octets fields x) old
-  puts_taken untold_fields x old new t p = absurd t
-  puts_taken no_fields x old new t p = p.1 ∙ takes_none old
-  puts_taken (field w of rest) x old new t (mid, Ok u, put, then) =
-      puts_taken rest x mid new t.1 then
+  each_taken : (fields : FieldList S) (x : S) (old new : TakenFields) → TellsFields fields x → PutsEach fields x old new (Ok tt) → new ≡ takes (fields_octets fields x) old
+  unfolding PutsEach
+  each_taken untold_fields x old new t p = absurd t
+  each_taken no_fields x old new t p = p.1 ∙ takes_none old
+  each_taken (field w of rest) x old new t (mid, Ok u, put, then) =
+      each_taken rest x mid new t.1 then
       ∙ (ap (takes (fields_octets rest x)) (put.taken t.0)
       ∙ takes_both (whole_octets w (of x)) (fields_octets rest x) old)
-  puts_taken (field w of rest) x old new t (mid, Err e, put, then) = absurd (done_or_not e then)
+  each_taken (field w of rest) x old new t (mid, Err e, put, then) = absurd (done_or_not e then)
 
-  pub puts_refused : (fields : FieldList S) (x : S) (old new : TakenFields) (e : SerializeError) → TellsFields fields x → Puts fields x old new (Err e) → FieldRefusal old (length (fields_octets fields x)) (FieldsRefuseCount fields x) (FieldsRefuse fields x) e
-  puts_refused untold_fields x old new e t p = absurd t
-  puts_refused no_fields x old new e t p = absurd (done_or_not e (sym p.0))
-  puts_refused (field w of rest) x old new e t (mid, Ok u, put, then) =
+  each_refused : (fields : FieldList S) (x : S) (old new : TakenFields) (e : SerializeError) → TellsFields fields x → PutsEach fields x old new (Err e) → FieldRefusal old (length (fields_octets fields x)) (FieldsRefuseCount fields x) (FieldsRefuse fields x) e
+  unfolding PutsEach
+  each_refused untold_fields x old new e t p = absurd t
+  each_refused no_fields x old new e t p = absurd (done_or_not e (sym p.0))
+  each_refused (field w of rest) x old new e t (mid, Ok u, put, then) =
       refused_behind (whole_octets w (of x)) (fields_octets rest x) (w.count_refuses (of x)) (FieldsRefuseCount rest x) (whole_refuses w (of x)) (FieldsRefuse rest x) old e
-      (subst (λ s. FieldRefusal s (length (fields_octets rest x)) (FieldsRefuseCount rest x) (FieldsRefuse rest x) e) (put.taken t.0) (puts_refused rest x mid new e t.1 then))
-  puts_refused (field w of rest) x old new e t (mid, Err f, put, then) =
+      (subst (λ s. FieldRefusal s (length (fields_octets rest x)) (FieldsRefuseCount rest x) (FieldsRefuse rest x) e) (put.taken t.0) (each_refused rest x mid new e t.1 then))
+  each_refused (field w of rest) x old new e t (mid, Err f, put, then) =
       let same : f ≡ e = cc in
       refused_first (whole_octets w (of x)) (fields_octets rest x) (w.count_refuses (of x)) (FieldsRefuseCount rest x) (whole_refuses w (of x)) (FieldsRefuse rest x) old e
       (subst (λ r. FieldRefusal old (length (whole_octets w (of x))) (w.count_refuses (of x)) (whole_refuses w (of x)) r) same (put.refused t.0))
 
+  each_uncounted : (fields : FieldList S) (x : S) (old new : TakenFields) (e : Error) → TellsFields fields x → FieldsRefuseCount fields x e → PutsEach fields x old new (Ok tt) → ⊥
+  unfolding PutsEach
+  each_uncounted untold_fields x old new e t o p = t
+  each_uncounted no_fields x old new e t o p = o
+  each_uncounted (field w of rest) x old new e t (inl o) (mid, Ok u, put, then) = false≢true (put.uncounted e t.0 o)
+  each_uncounted (field w of rest) x old new e t (inr o) (mid, Ok u, put, then) = each_uncounted rest x mid new e t.1 o then
+  each_uncounted (field w of rest) x old new e t o (mid, Err f, put, then) = done_or_not f then
+
+  each_accepted : (fields : FieldList S) (x : S) (o : List ℕ) (new : TakenFields) (e : SerializeError) → TellsFields fields x → FieldsRefuse fields x e → PutsEach fields x (collected o) new (Ok tt) → ⊥
+  unfolding PutsEach
+  each_accepted untold_fields x o new e t r p = t
+  each_accepted no_fields x o new e t r p = r
+  each_accepted (field w of rest) x o new e t (inl r) (mid, Ok u, put, then) = false≢true (put.accepted e t.0 r)
+  each_accepted (field w of rest) x o new e t (inr r) (mid, Ok u, put, then) =
+      each_accepted rest x (o ++ whole_octets w (of x)) new e t.1 r (subst (λ s. PutsEach rest x s new (Ok tt)) (put.taken t.0) then)
+  each_accepted (field w of rest) x o new e t r (mid, Err f, put, then) = done_or_not f then
+
+  -- ---- where they are told
+
+  each_of : (fields : FieldList S) (x : S) (old new : TakenFields) (r : Result (Unit {0}) SerializeError) → TellsFields fields x → Puts fields x old new r → PutsEach fields x old new r
+  each_of untold_fields x old new r t p = absurd t
+  each_of no_fields x old new r t p = p
+  each_of (field w of rest) x old new r t p = p
+
+  pub puts_taken : (fields : FieldList S) (x : S) (old new : TakenFields) → TellsFields fields x → Puts fields x old new (Ok tt) → new ≡ takes (fields_octets fields x) old
+  puts_taken fields x old new t p = each_taken fields x old new t (each_of fields x old new (Ok tt) t p)
+
+  pub puts_refused : (fields : FieldList S) (x : S) (old new : TakenFields) (e : SerializeError) → TellsFields fields x → Puts fields x old new (Err e) → FieldRefusal old (length (fields_octets fields x)) (FieldsRefuseCount fields x) (FieldsRefuse fields x) e
+  puts_refused fields x old new e t p = each_refused fields x old new e t (each_of fields x old new (Err e) t p)
+
   pub puts_uncounted : (fields : FieldList S) (x : S) (old new : TakenFields) (e : Error) → TellsFields fields x → FieldsRefuseCount fields x e → Puts fields x old new (Ok tt) → ⊥
-  puts_uncounted untold_fields x old new e t o p = t
-  puts_uncounted no_fields x old new e t o p = o
-  puts_uncounted (field w of rest) x old new e t (inl o) (mid, Ok u, put, then) = false≢true (put.uncounted e t.0 o)
-  puts_uncounted (field w of rest) x old new e t (inr o) (mid, Ok u, put, then) = puts_uncounted rest x mid new e t.1 o then
-  puts_uncounted (field w of rest) x old new e t o (mid, Err f, put, then) = done_or_not f then
+  puts_uncounted fields x old new e t o p = each_uncounted fields x old new e t o (each_of fields x old new (Ok tt) t p)
 
   pub puts_accepted : (fields : FieldList S) (x : S) (o : List ℕ) (new : TakenFields) (e : SerializeError) → TellsFields fields x → FieldsRefuse fields x e → Puts fields x (collected o) new (Ok tt) → ⊥
-  puts_accepted untold_fields x o new e t r p = t
-  puts_accepted no_fields x o new e t r p = r
-  puts_accepted (field w of rest) x o new e t (inl r) (mid, Ok u, put, then) = false≢true (put.accepted e t.0 r)
-  puts_accepted (field w of rest) x o new e t (inr r) (mid, Ok u, put, then) =
-      puts_accepted rest x (o ++ whole_octets w (of x)) new e t.1 r (subst (λ s. Puts rest x s new (Ok tt)) (put.taken t.0) then)
-  puts_accepted (field w of rest) x o new e t r (mid, Err f, put, then) = done_or_not f then
+  puts_accepted fields x o new e t r p = each_accepted fields x o new e t r (each_of fields x (collected o) new (Ok tt) t p)
 
 -- ---- from the first field to the answer
 

@@ -71,11 +71,17 @@ FieldsRefuse (field w of rest) x e = Either (whole_refuses w (of x)) (FieldsRefu
 
 -- The fields were put in their order; or those before one that was refused, and that refusal is the answer. What was
 -- taken in between is tied by the puts.
+unfoldable pub PutsEach : {S : Type 0} → FieldList S → S → TakenFields → TakenFields → Result (Unit {0}) SerializeError → Type 0
+PutsEach untold_fields x old new answer = Unit {0}
+PutsEach no_fields x old new answer = (answer ≡ Ok tt) × (new ≡ old)
+PutsEach (field w of rest) x old new answer = (mid : TakenFields) × (first : Result (Unit {0}) SerializeError) ×
+    PutsField w (of x) old mid first × MatchResult first (λ _. PutsEach rest x mid new answer) (λ e. answer ≡ Err e)
+
+-- the same; of untold fields nothing is said
 abbrev pub Puts : {S : Type 0} → FieldList S → S → TakenFields → TakenFields → Result (Unit {0}) SerializeError → Type 0
 Puts untold_fields x old new answer = Unit {0}
-Puts no_fields x old new answer = (answer ≡ Ok tt) × (new ≡ old)
-Puts (field w of rest) x old new answer = (mid : TakenFields) × (first : Result (Unit {0}) SerializeError) ×
-    PutsField w (of x) old mid first × MatchResult first (λ _. Puts rest x mid new answer) (λ e. answer ≡ Err e)
+Puts no_fields x old new answer = PutsEach no_fields x old new answer
+Puts (field w of rest) x old new answer = PutsEach (field w of rest) x old new answer
 
 -- A constructed element of the universal class, with this number, of the fields. They are collected in a vector first.
 abbrev pub fields_writing : {S : Type 0} → ℕ → FieldList S → Writing S

@@ -3,6 +3,7 @@ pub mod Any
 pub mod Readers
 pub mod Beginnings
 pub mod Words
+pub mod Fields
 pub mod Forms
 pub mod Kinds
 pub mod Checks
