@@ -2,7 +2,7 @@
 ghost use Rattle.std.specs.Prelude.{◌≡◌, ◌∷◌, [], string_bytes};
 ghost use Rattle.asn1_rs.specs.Any.{parts_of};
 ghost use Rattle.asn1_rs.specs.Checks.{is_primitive};
-ghost use Rattle.asn1_rs.specs.Leaf.{LeafGives, LeafTakes, copying, leaf_element};
+ghost use Rattle.asn1_rs.specs.Leaf.{HaveOneRefusal, LeafGives, LeafTakes, copying, leaf_element};
 ghost use Rattle.asn1_rs.specs.Laws.Leaf.{copying_converts, copying_lawful, copying_written, leaf_constraints, leaf_converts, leaf_lawful, leaf_written};
 ghost use Rattle.asn1_rs.specs.Laws.Texts.{lent_text_lawful, lent_text_equal, owned_text_lawful, owned_text_equal};
 ghost use Rattle.asn1_rs.specs.Texts.{lent_text_leaf, owned_text_leaf};
@@ -199,3 +199,10 @@ pub fn numbers_of_texts() -> [u32; 2]
 {
     [<&str as Tagged>::TAG.0, String::TAG.0]
 }
+
+/// An element has one refusal by the conversion to `&str` and one by its check, and so to `String`, but for out of
+/// memory; and none where it has a value, or meets the constraints.
+pub fn texts_have_one_refusal()
+    ensures lent { HaveOneRefusal lent_text_leaf }
+    ensures owned { HaveOneRefusal owned_text_leaf }
+{}

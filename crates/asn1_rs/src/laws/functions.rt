@@ -3,7 +3,7 @@
 //! Their contracts are the statements, and nothing runs in them: a caller calls one where it needs the law.
 //!
 //! A law of a trait reaches a caller only through a bound.
-ghost use Rattle.std.specs.Prelude.{◌≡◌, ◌++◌, ◌<◌, ◌^◌, ◌↔◌, ℕ, false, List, length, Result, IfErr};
+ghost use Rattle.std.specs.Prelude.{◌≡◌, [], ◌++◌, ◌<◌, ◌^◌, ◌↔◌, ℕ, false, List, length, Result, IfErr};
 ghost use Rattle.x690.specs.Octets.{IsOctets};
 ghost use Rattle.x690.specs.Identifiers.{Identifier, IsCutIdentifier};
 ghost use Rattle.x690.specs.Lengths.{LengthForm};
@@ -17,7 +17,8 @@ ghost use Rattle.asn1_headers.specs.declared.header.Header.{Header};
 ghost use Rattle.asn1_rs.specs.declared.asn1_types.any.Any.{Any};
 ghost use Rattle.asn1_headers.specs.Error.{HeldIn};
 ghost use Rattle.asn1_headers.specs.Answers.{Exactly, TellsMemory, IsOther, ReadsBack, RefusedAsBeginning, RefusedBeforeEnd};
-ghost use Rattle.asn1_rs.specs.Grammar.Form.{IsStrict};
+ghost use Rattle.asn1_rs.specs.Grammar.{FormBodies, FormChecks, FormNumber, FormTakes};
+ghost use Rattle.asn1_rs.specs.Grammar.Form.{IsStrict, WritesByValue};
 ghost use Rattle.asn1_headers.specs.Ber.{max_depth, EndsWithin};
 ghost use Rattle.asn1_headers.specs.Header.Reading.{refusal_of, HeaderGives};
 ghost use Rattle.asn1_rs.specs.Any.{DerElementGives, BerElementGives};
@@ -33,7 +34,9 @@ ghost use Rattle.asn1_rs.specs.BitString.{bit_string_leaf};
 ghost use Rattle.asn1_rs.specs.ToDer.{IsWritable, whole_octets};
 ghost use Rattle.asn1_rs.specs.Grammar.Item.{ber_words};
 
-use crate::laws::{LawfulBer, LawfulDer, LawfulItem, LawfulMember, LawfulWrite};
+use crate::laws::{
+    LawfulBer, LawfulDer, LawfulItem, LawfulMember, LawfulTagged, LawfulWrite, TakesClass,
+};
 use asn1_headers::error::Error;
 use std::hash::Hash;
 
@@ -85,7 +88,7 @@ pub fn reader_is_exact_by_der<'a, T: LawfulDer<'a, E>, E: From<Error>>()
 
 /// An octet string has at most one value, and a value at most one strict encoding.
 ///
-/// One word begins an input, by BER and by DER, with one value and one rest. The strict encoding of a value is a word
+/// One word begins an input, by BER and by DER, with one value and one rest; and no word is empty. The strict encoding of a value is a word
 /// by BER and by DER with this value; no other value has it, and it begins no other strict encoding.
 pub fn words_and_values_are_unique<T: LawfulItem>()
     ensures ber_value { (o : List ℕ) (v w : T.grammar.Value) → (ber_words T.grammar) o v →
@@ -96,6 +99,8 @@ pub fn words_and_values_are_unique<T: LawfulItem>()
         (ber_words T.grammar) y w → x ++ r ≡ y ++ s → (x ≡ y) × (v ≡ w) × (r ≡ s) }
     ensures der_front { (x y r s : List ℕ) (v w : T.grammar.Value) → T.grammar.Der x v →
         T.grammar.Der y w → x ++ r ≡ y ++ s → (x ≡ y) × (v ≡ w) × (r ≡ s) }
+    ensures ber_some { (v : T.grammar.Value) → (ber_words T.grammar) [] v → ⊥ }
+    ensures der_some { (v : T.grammar.Value) → T.grammar.Der [] v → ⊥ }
     ensures strict_word { (v : T.grammar.Value) (o : List ℕ) → IsStrict T.grammar.Form v o →
         (ber_words T.grammar) o v × T.grammar.Der o v }
     ensures strict { (v : T.grammar.Value) (o p : List ℕ) → IsStrict T.grammar.Form v o →
@@ -104,12 +109,14 @@ pub fn words_and_values_are_unique<T: LawfulItem>()
         IsStrict T.grammar.Form w p → o ++ r ≡ p ++ s → (o ≡ p) × (v ≡ w) × (r ≡ s) }
 {}
 
-/// What a lawful type writes and counts of a value in DER form is its strict encoding.
+/// What a lawful type writes and counts of a value in DER form is its strict encoding; and what it writes of any value
+/// follows from the value.
 ///
 /// `T.writing.header` and `T.writing.content` are what the contracts of [`ToDer`](crate::ToDer) say that `write_der`, `to_der_len` and
 /// `der_content_len` append and count, and `T.writing.constructed` what `der_constructed` answers.
 pub fn counts_are_of_the_strict_encoding<T: LawfulWrite>()
     ensures tells { (x : T) → T.writing.tells x }
+    ensures by_value { WritesByValue T.grammar.value T.writing }
     ensures strict { (x : T) → T.grammar.IsDer (T.grammar.value x)
         → length (whole_octets T.writing x) < 2 ^ 64
         → ∥ IsStrict T.grammar.Form (T.grammar.value x) (whole_octets T.writing x) ∥₁ }
@@ -122,6 +129,24 @@ pub fn counts_are_of_the_strict_encoding<T: LawfulWrite>()
         → (length (whole_octets T.writing x) ≡ length o)
         × (length (T.writing.content x) ≡ length s.content) ×
         (T.writing.constructed x ≡ s.id.constructed) }
+{}
+
+/// The strict parts of a value meet the constraints of the type, and its conversion finds this value in them.
+pub fn strict_parts_are_read<T: LawfulItem>()
+    ensures check { FormChecks T.grammar.Form T.grammar.Check }
+    ensures body { FormBodies T.grammar.Form T.grammar.Body }
+{}
+
+/// The strict parts of a value have the tag number of the type, so that an optional value is told by it.
+pub fn strict_parts_have_the_number<T: LawfulTagged>()
+    ensures number { FormNumber T.grammar.Form (T.TAG).0 }
+    ensures fits { (T.TAG).0 < 2 ^ 32 }
+{}
+
+/// The strict parts of a value with class `K` in place of their own meet the constraints, and the conversion finds the
+/// value in them, so that an implicit tag of this class stands over the type.
+pub fn strict_parts_take_the_class<T: TakesClass<K>, const K: u8>()
+    ensures { FormTakes T.grammar.Form T.grammar.Check T.grammar.Body K }
 {}
 
 /// A front that a value was read from was its strict encoding exactly where writing the value gives the same octets.

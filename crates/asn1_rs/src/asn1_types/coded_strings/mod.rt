@@ -13,7 +13,7 @@ ghost use Rattle.asn1_rs.specs.CodedStrings.{coded_string_leaf, held_text, text_
 ghost use Rattle.asn1_rs.specs.Laws.CodedStrings.{coded_string_lawful, coded_string_equal};
 ghost use Rattle.asn1_rs.specs.Laws.Checks.{is_primitive_is};
 ghost use Rattle.asn1_rs.specs.Laws.Leaf.{exact_check, copying_lawful, copying_converts};
-ghost use Rattle.asn1_rs.specs.Leaf.{LeafTakes, copying, leaf_element};
+ghost use Rattle.asn1_rs.specs.Leaf.{HaveOneRefusal, LeafTakes, copying, leaf_element};
 ghost use Rattle.asn1_rs.specs.Traits.{OfParts};
 
 use crate::asn1_types::any::Any;
@@ -162,3 +162,10 @@ impl<'a, K: CodedKind> LawfulConversion<'a> for CodedString<'_, K> {
 impl<K: CodedKind> LawfulMember for CodedString<'_, K> {
     ghost same = { coded_string_equal };
 }
+
+/// An element has one refusal by the conversion to a decoded string, but for out of memory, and one by its check, and
+/// none where it has a value, or meets the constraints.
+pub fn coded_strings_have_one_refusal<K: CodedKind>()
+    ensures { HaveOneRefusal
+        (coded_string_leaf {K = K} (K.Number.TAG).0 K.Code.octets_of) }
+{}

@@ -1,12 +1,16 @@
 //! Times (X.690 8.25, 8.26, 11.7, 11.8).
 ghost use Rattle.std.specs.Prelude.{◌≡◌, ◌<◌, ◌^◌, Some};
 ghost use Rattle.x690.specs.Times.{MostMilliseconds, moment_text};
-ghost use Rattle.asn1_rs.specs.Times.{moment_cmp, moment_of, IsMoment, IsZone, RefusesText};
+ghost use Rattle.asn1_rs.specs.Checks.{but_text};
+ghost use Rattle.asn1_rs.specs.Leaf.{HaveOneRefusalUpTo};
+ghost use Rattle.asn1_rs.specs.Times.{moment_cmp, moment_of, IsMoment, IsZone, RefusesText, utc_time_leaf, generalized_time_leaf};
 
 pub mod civil;
 pub mod generalized_time;
 pub mod utc_time;
 
+use self::generalized_time::GeneralizedTime;
+use self::utc_time::UtcTime;
 use asn1_headers::error::Error;
 use asn1_headers::tag::Tag;
 use std::cmp::Ordering;
@@ -185,3 +189,24 @@ pub fn order_of_times(a: &ASN1DateTime, b: &ASN1DateTime) -> Ordering
 {
     a.cmp(b)
 }
+
+/// Which of two UTCTimes comes first: the order of their fields.
+pub fn order_of_utc_times(a: &UtcTime, b: &UtcTime) -> Ordering
+    ensures order { result ≡ moment_cmp (moment_of a.now.0) (moment_of b.now.0) }
+{
+    a.cmp(b)
+}
+
+/// Which of two GeneralizedTimes comes first: the order of their fields.
+pub fn order_of_generalized_times(a: &GeneralizedTime, b: &GeneralizedTime) -> Ordering
+    ensures order { result ≡ moment_cmp (moment_of a.now.0) (moment_of b.now.0) }
+{
+    a.cmp(b)
+}
+
+/// An element has one refusal by the conversion to a type of times and one by its check, and none where it has a value,
+/// or meets the constraints. Texts of refusals are told apart by their octets.
+pub fn times_have_one_refusal()
+    ensures utc_time { HaveOneRefusalUpTo but_text utc_time_leaf }
+    ensures generalized_time { HaveOneRefusalUpTo but_text generalized_time_leaf }
+{}
