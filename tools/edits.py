@@ -8,13 +8,12 @@ An edit of crates/NAME/must-fail/, crates/NAME/mutants/ (a folder for each modul
 lines 'file: src/NAME.rt', 'old: TEXT' and 'new: TEXT', each TEXT one line, and perhaps further pairs, which apply to
 what the earlier ones made. It applies where each old text stands exactly once in its file, and the edit changes
 something. One of mutants/ has a line 'claim: NAME' too, or 'claim: NAME, NAME', with the claims that it turns. `rt`
-reads those of must-fail/ and knows no such line, so their names stand in the page, behind the clause: (must-fail:
-`NAME`).
+reads those of must-fail/ and knows no such line, so their names stand in the page, behind the clauses.
 
-A row of docs/CLAIMS.md has the name of its claim in its first column. It has an edit, or says with one of MARKS why
-there is none; the rows of a table that is headed 'Law' need neither. Its column of clauses names clauses, or what one
-cites: a ghost member, a definition, a trait, a function. Each edit that does not apply and each name of nothing has a
-line, and then this ends with status 1.
+A claim of docs/CLAIMS.md is a name in bold, or several with commas between; behind it, in brackets, stand clauses, or
+what one cites (a ghost member, a definition, a trait, a function), and then perhaps 'must-fail' and names of edits. It
+has an edit, or says behind its name with one of MARKS why there is none; those below the line 'Laws:' need neither.
+Each edit that does not apply and each name of nothing has a line, and then this ends with status 1.
 """
 import pathlib
 import re
@@ -76,32 +75,30 @@ NAMED = {
 
 
 # Why a claim has no edit: there is no code to turn.
-MARKS = re.compile(r"\((?:law|condition|derived|one body)\)")
-MUST_FAIL = re.compile(r"\(must-fail: ([^)]*)\)")
+MARK = re.compile(r" \((?:law|condition|derived|one body)\)$")
+BOLD = re.compile(r"\*\*([^*]+)\*\*(?: \(([^()]*)\))?")
 QUOTED = re.compile(r"`([^`]+)`")
 CLAIM = re.compile(r"[a-z0-9]+(?:-[a-z0-9]+)*")
 
 
 class Claim:
-    """One row of docs/CLAIMS.md."""
+    """One claim of docs/CLAIMS.md."""
 
-    def __init__(self, number, row):
-        clause = row.get("Clause", "")
+    def __init__(self, number, name, brackets, is_law):
         self.place = f"docs/CLAIMS.md:{number}"
-        self.name = row.get("Name", row.get("Law"))
-        self.tried = [name for names in MUST_FAIL.findall(" ".join(row.values())) for name in QUOTED.findall(names)]
-        self.clauses = QUOTED.findall(MUST_FAIL.sub("", clause))
-        self.may_have_none = "Law" in row or bool(MARKS.search(row.get("Claim", "")))
+        self.name = MARK.sub("", name)
+        clauses, _, tried = brackets.partition("must-fail")
+        self.clauses, self.tried = QUOTED.findall(clauses), QUOTED.findall(tried)
+        self.may_have_none = is_law or bool(MARK.search(name))
 
 
 def claims():
-    """Returns the rows of docs/CLAIMS.md that are claims."""
-    found, columns = [], None
+    """Returns the claims of docs/CLAIMS.md."""
+    found, is_law = [], False
     for number, line in enumerate((TOP / "docs/CLAIMS.md").read_text(encoding="utf-8").split("\n"), 1):
-        cells = [cell.strip() for cell in line.strip("|").split("|")] if line.startswith("|") else None
-        if cells and columns and "Claim" in columns and set(line) - set("|-"):
-            found.append(Claim(number, dict(zip(columns, cells))))
-        columns = (columns or cells) if cells else None
+        is_law = line == "Laws:" or is_law and not line.startswith("#")
+        for names, brackets in BOLD.findall(line):
+            found += [Claim(number, name, brackets, is_law) for name in names.split(", ")]
     return found
 
 

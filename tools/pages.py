@@ -6,6 +6,8 @@ tools/pages.py modules [CRATE]         each crate, and in it each module with it
 tools/pages.py definitions [WORD ..]   each definition in specs/ (outside specs/Laws) whose name or comment holds
                                        one of the words: its file, its comment, the calls and ghost members whose
                                        contracts name it, and the definitions that do
+tools/pages.py functions [CRATE ..]    each public function outside impls and traits, with the names of its clauses and
+                                       its comment
 
 A word is looked for anywhere, in either case; `=Exactly` is that name alone. A name counts where its file has it by
 `use` or `ghost use`. Functions that are not `pub`, and tests, are left out.
@@ -114,8 +116,21 @@ def definitions(words):
                     print(f"  {title} {', '.join(dict.fromkeys(names[place, name]))}")
 
 
+FUNCTION = re.compile(r"((?:^/// ?.*\n)*)(?:^(?://|#\[).*\n)*^pub (?:const )?fn (\w+)((?:.*\n)+?)(?:.*\{\}|\{)$", re.M)
+
+
+def functions(names):
+    for crate in (crate for crate in CRATES if not names or crate in names):
+        source = TOP / "crates" / crate / "src"
+        for path in sorted(source.rglob("*.rt")):
+            for said, name, head in FUNCTION.findall(read(path)):
+                clauses = re.findall(r"^    ensures (\w+) \{", head, re.M)
+                print(f"{crate}/{path.relative_to(source).with_suffix('')}: {name} ({', '.join(clauses) or 'one clause'})")
+                print(f"  {' '.join(said.replace('///', '').split())}")
+
+
 if __name__ == "__main__":
     signal.signal(signal.SIGPIPE, signal.SIG_DFL)
-    if sys.argv[1:2] not in (["modules"], ["definitions"]):
+    if sys.argv[1:2] not in (["modules"], ["definitions"], ["functions"]):
         sys.exit(__doc__)
     globals()[sys.argv[1]](sys.argv[2:])
