@@ -1,5 +1,6 @@
 -- Arcs: what the contents octets of object identifiers say, and those of relative ones (X.690 8.19, 8.20).
-use Rattle.std.specs.Prelude.{◌≡◌, ◌≢◌, ℕ, ◌+◌, ◌-◌, ◌*◌, ◌<◌, ◌≤◌, Bool, true, false, List, [], ◌∷◌, map, get_or, flat_map, decimal, nat_lt, if◌then◌else◌}
+use Rattle.std.specs.Prelude.{◌≡◌, ◌≢◌, ℕ, ◌+◌, ◌-◌, ◌*◌, ◌<◌, ◌≤◌, Bool, true, false, List, [], ◌∷◌, map, get_or}
+use Rattle.std.specs.Prelude.{flat_map, decimal, nat_lt, if◌then◌else◌}
 use Rattle.std.specs.List.{All, join_with_byte}
 use Rattle.x690.specs.Digits.{base_128_value}
 use Rattle.x690.specs.Identifiers.{AreTagDigits}
@@ -13,7 +14,8 @@ in_front octet (piece ∷ pieces) = (octet ∷ piece) ∷ pieces
 -- The octets, cut behind each one whose bit 8 is not set. What is left behind the last of these is a piece too.
 abbrev pub pieces_of : List ℕ → List (List ℕ)
 pieces_of [] = []
-pieces_of (octet ∷ octets) = if nat_lt octet 128 then (octet ∷ []) ∷ pieces_of octets else in_front octet (pieces_of octets)
+pieces_of (octet ∷ octets) =
+    if nat_lt octet 128 then (octet ∷ []) ∷ pieces_of octets else in_front octet (pieces_of octets)
 
 -- the number of each piece (8.19.2)
 abbrev pub subidentifiers : List ℕ → List ℕ
@@ -44,7 +46,8 @@ absolute_arcs [] = []
 absolute_arcs (octet ∷ []) = if nat_lt 0 octet then with_first_split (subidentifiers (octet ∷ [])) else 0 ∷ []
 absolute_arcs (octet ∷ next ∷ octets) = with_first_split (subidentifiers (octet ∷ next ∷ octets))
 
--- The arcs that contents octets say, where `true` is of a relative identifier: its arcs are the subidentifiers (8.20.2).
+-- The arcs that contents octets say, where `true` is of a relative identifier:
+-- its arcs are the subidentifiers (8.20.2).
 abbrev pub arcs_of : Bool → List ℕ → List ℕ
 arcs_of true content = subidentifiers content
 arcs_of false content = absolute_arcs content

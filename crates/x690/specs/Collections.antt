@@ -54,7 +54,8 @@ IsStrictWith id Content m octets = (content : List ℕ) × Content m content × 
 
 -- The octets are encodings of a collection's items, joined in ascending order.
 -- `of` says what collection a list of items is, and Each how a list has to stand for it.
-pub record Joins {V M : Type 0} (of : List V → M) (Each : List V → Type 0) (Strict : V → List ℕ → Type 0) (m : M) (c : List ℕ) : Type 0 where
+pub record Joins {V M : Type 0} (of : List V → M) (Each : List V → Type 0) (Strict : V → List ℕ → Type 0) (m : M)
+    (c : List ℕ) : Type 0 where
   pub items : List V
   pub strings : List (List ℕ)
   pub once : Each items

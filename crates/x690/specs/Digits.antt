@@ -20,4 +20,5 @@ base_128_value octets = weighted_sum 128 (map low_seven_bits octets)
 abbrev pub twos_complement_value : List ℕ → ℤ
 twos_complement_value [] = pos 0
 twos_complement_value (first ∷ others) =
-    if nat_lt first 128 then pos (base_256_value (first ∷ others)) else pos (base_256_value (first ∷ others)) -ℤ pos (256 ^ length (first ∷ others))
+    if nat_lt first 128 then pos (base_256_value (first ∷ others))
+    else pos (base_256_value (first ∷ others)) -ℤ pos (256 ^ length (first ∷ others))

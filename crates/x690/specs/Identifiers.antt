@@ -24,12 +24,15 @@ IsLowForm low following number = (low ≡ number) × (number ≤ 30) × (followi
 
 -- the low five bits announce one to five octets, whose digits in base 128 are the number
 abbrev pub IsHighForm : ℕ → List ℕ → ℕ → Type 0
-IsHighForm low following number = (low ≡ 31) × AreTagDigits following × (length following ≤ 5) × (base_128_value following ≡ number) × (number < 2 ^ 32)
+IsHighForm low following number = (low ≡ 31) × AreTagDigits following × (length following ≤ 5) ×
+    (base_128_value following ≡ number) × (number < 2 ^ 32)
 
 -- Identifier octets as a reader takes them: the first one has class, constructed bit and five low bits.
 abbrev pub IsIdentifier : List ℕ → Identifier → Type 0
 IsIdentifier [] id = ⊥
-IsIdentifier (first ∷ following) id = (low : ℕ) × (id.class < 4) × (low < 32) × (first ≡ 64 * id.class + 32 * bit id.constructed + low) × (IsLowForm low following id.number ⊎ IsHighForm low following id.number)
+IsIdentifier (first ∷ following) id =
+    (low : ℕ) × (id.class < 4) × (low < 32) × (first ≡ 64 * id.class + 32 * bit id.constructed + low) ×
+    (IsLowForm low following id.number ⊎ IsHighForm low following id.number)
 
 -- the high form is there for numbers from 31 on alone, and its first digit is not 0
 abbrev pub NeedsItsDigits : ℕ → List ℕ → Type 0

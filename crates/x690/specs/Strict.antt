@@ -28,7 +28,8 @@ length_form_octets indefinite = 128 ∷ []
 
 -- the strict header of an element whose contents are n octets
 unfoldable pub header_octets : ℕ → Bool → ℕ → ℕ → List ℕ
-header_octets class constructed number n = identifier_octets (record { class = class; constructed = constructed; number = number }) ++ length_octets n
+header_octets class constructed number n =
+    identifier_octets (record { class = class; constructed = constructed; number = number }) ++ length_octets n
 
 -- the strict element, as a function
 abbrev pub element_octets : Identifier → List ℕ → List ℕ
