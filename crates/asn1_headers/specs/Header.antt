@@ -34,10 +34,12 @@ abbrev pub identifier_of : Header → Identifier
 identifier_of h = record { class = class_number h.class; constructed = h.constructed; number = h.tag.0 }
 
 abbrev pub is_same_identifier : Header → Header → Bool
-is_same_identifier g h = on (λ h. class_number h.class) nat_eq g h && (on (λ h. h.constructed) beq g h && on (λ h. h.tag.0) nat_eq g h)
+is_same_identifier g h =
+    on (λ h. class_number h.class) nat_eq g h && (on (λ h. h.constructed) beq g h && on (λ h. h.tag.0) nat_eq g h)
 
 -- the header has these parts
-pub record HasParts (h : Header) (class : Class) (constructed : Bool) (tag : Tag) (length : Length) (raw_tag : Option (List ℕ)) : Type 0 where
+pub record HasParts (h : Header) (class : Class) (constructed : Bool) (tag : Tag) (length : Length)
+    (raw_tag : Option (List ℕ)) : Type 0 where
   pub class_is : h.class ≡ class
   pub constructed_is : h.constructed ≡ constructed
   pub tag_is : h.tag ≡ tag
