@@ -29,7 +29,8 @@ IsOtherTruth octet = (octet ≢ 0) × (octet ≢ 255)
 
 -- What the constraints ask: some contents octets, whose first is 00 or ff.
 abbrev pub truth_constraints : CheckGives
-truth_constraints = has_content before check (λ p. IsStrictTruth (get_or p.content 0 0)) (λ p. IsOtherTruth (get_or p.content 0 0)) (λ p. DerConstraintFailed InvalidBoolean)
+truth_constraints = has_content before check (λ p. IsStrictTruth (get_or p.content 0 0))
+    (λ p. IsOtherTruth (get_or p.content 0 0)) (λ p. DerConstraintFailed InvalidBoolean)
 
 -- one octet, which is the value
 abbrev pub boolean_leaf : Leaf Boolean

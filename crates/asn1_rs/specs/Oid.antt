@@ -81,7 +81,8 @@ oid_element = record {
 -- what taking the contents octets of an element as an identifier may answer, absolute or relative, behind a check: it
 -- borrows them
 abbrev pub LendsOid : Bool → CheckGives → Parts → Result Oid Error → Type 0
-LendsOid relative check p (Ok x) = check p (Ok tt) × (oid_value x ≡ record { relative = relative; octets = p.content }) × IsBorrowedSlice (oid_cow x)
+LendsOid relative check p (Ok x) =
+    check p (Ok tt) × (oid_value x ≡ record { relative = relative; octets = p.content }) × IsBorrowedSlice (oid_cow x)
 LendsOid relative check p (Err e) = check p (Err e)
 
 -- so of the conversion, which refuses nothing

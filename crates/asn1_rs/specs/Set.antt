@@ -59,7 +59,8 @@ abbrev pub SetRow : {V M : Type 0} → (List V → M) → (List ℕ → V → Ty
 SetRow of G = Seen of (ListOf 17 G)
 
 -- the strict parts of a set
-abbrev pub SetForm : {V M : Type 0} → (List V → M) → (List V → Type 0) → (V → Identifier → List ℕ → Type 0) → M → Identifier → List ℕ → Type 0
+abbrev pub SetForm : {V M : Type 0} → (List V → M) → (List V → Type 0) → (V → Identifier → List ℕ → Type 0) → M →
+    Identifier → List ℕ → Type 0
 SetForm of Each Form = UniversalForm true 17 (Joins of Each (IsStrict Form))
 
 -- collections of values that hold
@@ -70,9 +71,10 @@ SetValues {V} of P m = (vs : List V) × (of vs ≡ m) × All P vs
 abbrev pub SetInDer : {V M : Type 0} → (List V → M) → (List V → Type 0) → (V → Type 0) → M → Type 0
 SetInDer {V} of Each IsDer m = (vs : List V) × Each vs × (of vs ≡ m) × All IsDer vs
 
--- Collections of items of a type. `of` says what collection a list of values is, `worth` what one in hand is, Each how a
--- list has to stand for it, and DerBody what a reader by DER finds in an element's parts.
-abbrev pub set_grammar : {S W M : Type 0} (G : ItemGrammar S) → (List G.Value → M) → (W → M) → (List G.Value → Type 0) → (Parts → M → Type 0) → ItemGrammar W
+-- Collections of items of a type. `of` says what collection a list of values is, `worth` what one in hand is, Each how
+-- a list has to stand for it, and DerBody what a reader by DER finds in an element's parts.
+abbrev pub set_grammar : {S W M : Type 0} (G : ItemGrammar S) → (List G.Value → M) → (W → M) → (List G.Value → Type 0) →
+    (Parts → M → Type 0) → ItemGrammar W
 set_grammar {S} {W} {M} G of worth Each DerBody = record {
   Value = M;
   value = worth;
@@ -87,7 +89,8 @@ set_grammar {S} {W} {M} G of worth Each DerBody = record {
 
 -- sets in which an item may stand more than once; by DER the constructed bit is not looked at
 abbrev pub multiset_grammar : {S W : Type 0} → (W → List S) → ItemGrammar S → ItemGrammar W
-multiset_grammar items G = set_grammar G multiset (λ w. multiset (map G.value (items w))) AnyList (SetRow multiset G.Der)
+multiset_grammar items G =
+    set_grammar G multiset (λ w. multiset (map G.value (items w))) AnyList (SetRow multiset G.Der)
 
 -- the items of a set of the library's own
 abbrev pub items_of : {T : Type 0} → SetOf T → List T

@@ -9,7 +9,8 @@ use Rattle.asn1_rs.specs.Checks.{IsCheck, has_content}
 use Rattle.x690.specs.Strict.{header_octets, identifier_octets, length_octets}
 use Rattle.asn1_rs.specs.Leaf.{IsLawfulLeaf, leaf_element}
 use Rattle.asn1_rs.specs.declared.asn1_types.boolean.Boolean.{Boolean}
-use Rattle.asn1_rs.specs.Boolean.{boolean_number, boolean_leaf, bool_leaf, truth_octet, says_true, IsStrictTruth, IsOtherTruth, truth_constraints, truth_octets, truth_writing}
+use Rattle.asn1_rs.specs.Boolean.{boolean_number, boolean_leaf, bool_leaf, truth_octet, says_true, IsStrictTruth}
+use Rattle.asn1_rs.specs.Boolean.{IsOtherTruth, truth_constraints, truth_octets, truth_writing}
 use Rattle.asn1_rs.specs.Laws.Checks.{check_is, before_is, has_length_is, has_content_is}
 use Rattle.asn1_rs.specs.Laws.Leaf.{leaf_written}
 use Rattle.asn1_rs.specs.Grammar.Item.{IsLawfulWriting}
@@ -40,7 +41,8 @@ boolean_lawful = record {
   one_value = λ c v w a b. let e : v ∷ [] ≡ w ∷ [] = sym a ∙ b in cc;
   says_value = λ p v o m s. subst IsOctets s o.content 0;
   der_value = λ v d. small v d;
-  der_octets = λ v d. one_octet (truth_octet (says_true v)) (subst (λ (n : ℕ). n < 256) (sym (strict_truth v d)) (small v d));
+  der_octets =
+      λ v d. one_octet (truth_octet (says_true v)) (subst (λ (n : ℕ). n < 256) (sym (strict_truth v d)) (small v d));
   der_says = λ v d. ap (λ (n : ℕ). n ∷ []) (strict_truth v d);
   der_checks = λ k v d. (refl, refl);
   der_constraints = λ k v d. ((λ e. cc), subst IsStrictTruth (sym (strict_truth v d)) d);
@@ -89,4 +91,5 @@ boolean_equal x y = (λ h. eqb-true x.value y.value h, λ e. eq-eqb x.value y.va
 -- a truth value with its octet is written as one contents octet
 pub boolean_lawful_writing : IsLawfulWriting (item_grammar (leaf_element boolean_leaf)) truth_writing
 unfolding header_octets identifier_octets length_octets
-boolean_lawful_writing = universal_lawful_writing (leaf_element boolean_leaf) boolean_number truth_octets (λ _. false) (leaf_written boolean_leaf boolean_lawful) (λ _ _. ⊥)
+boolean_lawful_writing = universal_lawful_writing (leaf_element boolean_leaf) boolean_number truth_octets (λ _. false)
+    (leaf_written boolean_leaf boolean_lawful) (λ _ _. ⊥)

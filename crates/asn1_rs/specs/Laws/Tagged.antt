@@ -66,17 +66,24 @@ pub own_class : (class : ℕ) (i : Identifier) (c : List ℕ) → i.class ≡ cl
 own_class class i c e = ap (λ (n : ℕ). made (of_class n i) c) e
 
 -- where the class is one of the four, the refusals are those of the value
-pub of_class_none : (class : ℕ) (own : SerializeError → Type 0) → class < 4 → HasNone own → HasNone (UnderClass class own)
+pub of_class_none : (class : ℕ) (own : SerializeError → Type 0) → class < 4 → HasNone own →
+    HasNone (UnderClass class own)
 of_class_none class own l n e (inl h) = let k = h.0 in omega arith
 of_class_none class own l n e (inr h) = n e h.1
 
--- what is written under a tag of one of the four classes has no refusal, where its counts and its contents octets have none
-pub under_tag : (class : ℕ) (counting : Error → Type 0) (own : SerializeError → Type 0) → class < 4 → HasNone counting → HasNone own → HasNone (UnderClass class (WrittenRefusal counting)) × HasNone (UnderClass class own)
-under_tag class counting own few n o = (of_class_none class (WrittenRefusal counting) few (behind_header counting n), of_class_none class own few o)
+-- what is written under a tag of one of the four classes has no refusal,
+-- where its counts and its contents octets have none
+pub under_tag : (class : ℕ) (counting : Error → Type 0) (own : SerializeError → Type 0) → class < 4 → HasNone counting →
+    HasNone own → HasNone (UnderClass class (WrittenRefusal counting)) × HasNone (UnderClass class own)
+under_tag class counting own few n o =
+    (of_class_none class (WrittenRefusal counting) few (behind_header counting n), of_class_none class own few o)
 
 -- what the refusal of a check is made into does not report out of memory
-pub check_spares : {E : Type 0} (check : CheckGives) → IsCheck check → (from : Error → E → Type 0) (p : Parts) (refusal : Error) (e : E) → check p (Err refusal) → from refusal e → IsOther from e
-check_spares check is from p refusal e t m = inl (refusal, λ q. is.spares p (subst (λ (x : Error). check p (Err x)) q t), m)
+pub check_spares : {E : Type 0} (check : CheckGives) → IsCheck check →
+    (from : Error → E → Type 0) (p : Parts) (refusal : Error) (e : E) → check p (Err refusal) → from refusal e →
+    IsOther from e
+check_spares check is from p refusal e t m =
+    inl (refusal, λ q. is.spares p (subst (λ (x : Error). check p (Err x)) q t), m)
 
 -- a mark beside a value is equal to every other
 pub marked_same : {A : Type 0} (same : Bool) → IsTrue same ↔ A → IsTrue (same && true) ↔ A

@@ -20,5 +20,6 @@ owned_text_lawful = text_lawful utf8_string_number _ string_bytes (lit< tt) refl
 pub lent_text_equal : (x y : Bor (List ℕ)) → IsTrue (pointwise nat_eq x.now y.now) ↔ (x.now ≡ y.now)
 lent_text_equal x y = pointwise_decides unsigned_Decides x.now y.now
 
-pub owned_text_equal : (x y : String Global) → IsTrue (pointwise nat_eq (string_bytes x) (string_bytes y)) ↔ (string_bytes x ≡ string_bytes y)
+pub owned_text_equal : (x y : String Global) →
+    IsTrue (pointwise nat_eq (string_bytes x) (string_bytes y)) ↔ (string_bytes x ≡ string_bytes y)
 owned_text_equal x y = pointwise_decides unsigned_Decides (string_bytes x) (string_bytes y)

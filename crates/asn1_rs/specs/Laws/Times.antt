@@ -1,5 +1,7 @@
 -- Times are lawful leaves; those that are strict are written.
-use Rattle.std.specs.Prelude.{◌≡◌, ◌<◌, ◌↔◌, ◌≤◌, ◌⊎◌, ℕ, zero, suc, ◌+◌, ◌-◌, ◌*◌, ◌^◌, pos, negsuc, neg_ℤ, ◌≤ℤ◌, List, Bool, true, false, ◌&&◌, not, nat_eq, nat_le, nat_lt, if◌then◌else◌, Some, None, Option, IsTrue, codes, Result, Ok, Err}
+use Rattle.std.specs.Prelude.{◌≡◌, ◌<◌, ◌↔◌, ◌≤◌, ◌⊎◌, ℕ, zero, suc, ◌+◌, ◌-◌, ◌*◌, ◌^◌, pos, negsuc, neg_ℤ, ◌≤ℤ◌, List}
+use Rattle.std.specs.Prelude.{Bool, true, false, ◌&&◌, not, nat_eq, nat_le, nat_lt, if◌then◌else◌, Some, None, Option}
+use Rattle.std.specs.Prelude.{IsTrue, codes, Result, Ok, Err}
 use Rattle.std.specs.Bool.{Decides}
 use Rattle.std.specs.Cmp.{unsigned_Decides, signed_Decides}
 use Rattle.std.specs.Option.{option_eq}
@@ -10,8 +12,13 @@ use Rattle.std.proofs.lemmas.Bool.{le-leb, leb-true}
 use Rattle.x690.specs.Octets.{IsOctets}
 use Rattle.x690.specs.Elements.{Parts}
 use Rattle.x690.specs.Sets.{AllIn, is_visible}
-use Rattle.x690.specs.Times.{InRange, west, SaysZone, SaysZoneOrNone, SaysFraction, SaysMinutes, SaysUtcEnd, SaysGeneralizedEnd, SaysUtcTime, SaysGeneralizedTime, IsStrictUtcTime, IsStrictGeneralizedTime, FitsText, MostMilliseconds, EndsInZ, HasComma, utc_time_text, generalized_time_text}
-use Rattle.x690.specs.Laws.TimeTexts.{utc_says, utc_visible, utc_octets, utc_fits, generalized_says, generalized_visible, generalized_octets, generalized_fits, generalized_ends_in_z, generalized_no_comma}
+use Rattle.x690.specs.Times.{InRange, west, SaysZone, SaysZoneOrNone, SaysFraction, SaysMinutes, SaysUtcEnd}
+use Rattle.x690.specs.Times.{SaysGeneralizedEnd, SaysUtcTime, SaysGeneralizedTime, IsStrictUtcTime}
+use Rattle.x690.specs.Times.{IsStrictGeneralizedTime, FitsText, MostMilliseconds, EndsInZ, HasComma, utc_time_text}
+use Rattle.x690.specs.Times.{generalized_time_text}
+use Rattle.x690.specs.Laws.TimeTexts.{utc_says, utc_visible, utc_octets, utc_fits, generalized_says}
+use Rattle.x690.specs.Laws.TimeTexts.{generalized_visible, generalized_octets, generalized_fits, generalized_ends_in_z}
+use Rattle.x690.specs.Laws.TimeTexts.{generalized_no_comma}
 use Rattle.x690.specs.Laws.Times.{same_moment, utc_times_unique, generalized_times_unique}
 use Rattle.x690.specs.contracts.times.TimeZonePartialEq.TheImpl as zones
 use Rattle.x690.specs.declared.times.Moment.{Moment}
@@ -26,11 +33,15 @@ use Rattle.asn1_rs.specs.declared.asn1_types.times.utc_time.UtcTime.{UtcTime}
 use Rattle.asn1_rs.specs.declared.asn1_types.times.generalized_time.GeneralizedTime.{GeneralizedTime}
 use Rattle.asn1_rs.specs.Checks.{CheckGives, IsCheck, IsCheckUpTo, but_text, nothing}
 use Rattle.asn1_rs.specs.Leaf.{IsLawfulLeafUpTo, LeafGives, leaf_parts}
-use Rattle.asn1_rs.specs.Times.{IsMoment, IsZone, IsNoTime, RefusesText, moment_of, time_leaf, has_visible_octets, says_time, utc_time_leaf, utc_time_number, generalized_time_leaf, generalized_time_number, generalized_time_constraints, fits_text, has_place, has_three_digits, utc_time_refused, generalized_time_refused}
+use Rattle.asn1_rs.specs.Times.{IsMoment, IsZone, IsNoTime, RefusesText, moment_of, time_leaf, has_visible_octets}
+use Rattle.asn1_rs.specs.Times.{says_time, utc_time_leaf, utc_time_number, generalized_time_leaf}
+use Rattle.asn1_rs.specs.Times.{generalized_time_number, generalized_time_constraints, fits_text, has_place}
+use Rattle.asn1_rs.specs.Times.{has_three_digits, utc_time_refused, generalized_time_refused}
 use Rattle.asn1_rs.specs.Laws.Checks.{up_to, before_is, check_is, content_check_is, telling_check_is, nothing_is}
 
 -- refusals of one tag with one text are told apart by nothing
-pub same_text : (tag : Tag) (text : List ℕ) (e f : Error) → IsInvalidValue tag text e → IsInvalidValue tag text f → but_text e ≡ but_text f
+pub same_text : (tag : Tag) (text : List ℕ) (e f : Error) → IsInvalidValue tag text e → IsInvalidValue tag text f →
+    but_text e ≡ but_text f
 same_text tag text (errors.InvalidValue t m) (errors.InvalidValue u n) a b = rw (a.0, a.1, b.0, b.1) refl
 same_text tag text (errors.InvalidValue t m) _ a b = absurd b
 same_text tag text _ f a b = absurd a
@@ -38,21 +49,27 @@ same_text tag text _ f a b = absurd a
 says_time_is : (number : ℕ) (Says : List ℕ → Moment → Type 0) → IsCheckUpTo but_text (says_time number Says)
 says_time_is number Says = telling_check_is but_text _ (IsNoTime number) (same_text _ (codes "not a time")) (λ h. h)
 
--- What is asked of a text: it says one time, which an item may hold; a strict time's is such, of octets 20 to 7f, and says it.
-pub record AreTimeTexts (Says : List ℕ → Moment → Type 0) (IsStrict : Moment → Type 0) (octets : Moment → List ℕ) : Type 0 where
+-- What is asked of a text: it says one time, which an item may hold;
+-- a strict time's is such, of octets 20 to 7f, and says it.
+pub record AreTimeTexts (Says : List ℕ → Moment → Type 0) (IsStrict : Moment → Type 0)
+    (octets : Moment → List ℕ) : Type 0 where
   pub one : (text : List ℕ) (m n : Moment) → Says text m → Says text n → m ≡ n
   pub holds : (text : List ℕ) (m : Moment) → Says text m → IsMoment m
   pub strict : (m : Moment) → IsStrict m → Says (octets m) m
   pub visible : (m : Moment) → AllIn is_visible (octets m)
   pub are : (m : Moment) → IsOctets (octets m)
 
-module _ {S : Type 0} (number : ℕ) (value : S → Moment) (Says : List ℕ → Moment → Type 0) (IsStrict : Moment → Type 0) (constraints : CheckGives) (octets : Moment → List ℕ) where
+module _ {S : Type 0} (number : ℕ) (value : S → Moment) (Says : List ℕ → Moment → Type 0) (IsStrict : Moment → Type 0)
+    (constraints : CheckGives) (octets : Moment → List ℕ) where
   pub time_lawful : number < 31 → AreTimeTexts Says IsStrict octets → IsCheck constraints →
-      ((class : ℕ) (m : Moment) → IsStrict m → constraints (leaf_parts (time_leaf number value Says IsStrict constraints octets) class m) (Ok tt)) →
+      ((class : ℕ) (m : Moment) → IsStrict m →
+      constraints (leaf_parts (time_leaf number value Says IsStrict constraints octets) class m) (Ok tt)) →
       IsLawfulLeafUpTo but_text (time_leaf number value Says IsStrict constraints octets)
   time_lawful small texts are meets = record {
     small = small;
-    checks = before_is has_visible_octets (says_time number Says) (up_to but_text has_visible_octets (content_check_is (AllIn is_visible) _ (λ e. cc))) (says_time_is number Says);
+    checks = before_is has_visible_octets (says_time number Says)
+        (up_to but_text has_visible_octets (content_check_is (AllIn is_visible) _ (λ e. cc)))
+        (says_time_is number Says);
     constraints = up_to but_text constraints are;
     one_value = texts.one;
     says_value = λ p v o m s. texts.holds p.content v s;
@@ -63,12 +80,15 @@ module _ {S : Type 0} (number : ℕ) (value : S → Moment) (Says : List ℕ →
     der_constraints = meets;
   }
 
-  -- a conversion that asks the tag number, and then reads the text: of one that says a time the octets need not be looked at
-  pub said_converts : ((text : List ℕ) (m : Moment) → Says text m → AllIn is_visible text) → (p : Parts) (x : S) → p.id.number ≡ number → Says p.content (value x) →
+  -- a conversion that asks the tag number, and then reads the text:
+  -- of one that says a time the octets need not be looked at
+  pub said_converts : ((text : List ℕ) (m : Moment) → Says text m → AllIn is_visible text) → (p : Parts) (x : S) →
+      p.id.number ≡ number → Says p.content (value x) →
       LeafGives (time_leaf number value Says IsStrict constraints octets) p (Ok x)
   said_converts visible p x n s = ((n, (visible p.content (value x) s, (value x, s))), s)
 
-  pub unsaid_converts : (p : Parts) (e : Error) → p.id.number ≡ number → ((m : Moment) → ¬ Says p.content m) → RefusesText number p.content e →
+  pub unsaid_converts : (p : Parts) (e : Error) → p.id.number ≡ number → ((m : Moment) → ¬ Says p.content m) →
+      RefusesText number p.content e →
       LeafGives (time_leaf number value Says IsStrict constraints octets) p (Err e)
   unsaid_converts p e n none (inl a) = inr (n, inl a)
   unsaid_converts p e n none (inr a) = inr (n, inr (a.0, ((λ m. none m.0 m.1), a.1)))
@@ -131,7 +151,8 @@ tested_where_fits greatest m f =
     to_both (nat_le m.hour 99) _ (le-leb m.hour 99 f.hour) (
     to_both (nat_le m.minute 99) _ (le-leb m.minute 99 f.minute) (
     to_both (nat_le m.second 99) _ (le-leb m.second 99 f.second) (
-    to_both (has_three_digits m.millisecond) _ (fits_milliseconds m.millisecond f.millisecond) (fits_zone m.zone f.zone)))))))
+    to_both (has_three_digits m.millisecond) _ (fits_milliseconds m.millisecond f.millisecond)
+    (fits_zone m.zone f.zone)))))))
 
 -- so no time is refused whose fields fit
 pub accepted : (greatest : ℕ) (m : Moment) → FitsText greatest m → not (fits_text greatest m) ≡ false
@@ -157,7 +178,8 @@ west_holds hours minutes h m =
 
 zone_holds : (text : List ℕ) (z : TimeZone) → SaysZone text z → IsZone z
 zone_holds text z (inl a) = subst IsZone (sym a.1) tt
-zone_holds text z (inr (hours, minutes, h, m, inl a)) = subst IsZone (sym a.1) ((few hours h).0, (few hours h).1, (few minutes m).0, (few minutes m).1)
+zone_holds text z (inr (hours, minutes, h, m, inl a)) =
+    subst IsZone (sym a.1) ((few hours h).0, (few hours h).1, (few minutes m).0, (few minutes m).1)
 zone_holds text z (inr (hours, minutes, h, m, inr a)) = subst IsZone (sym a.1) (west_holds hours minutes h m)
 
 zone_or_none_holds : (text : List ℕ) (z : TimeZone) → SaysZoneOrNone text z → IsZone z
@@ -177,9 +199,15 @@ fraction_holds text (Some m) (point, count, n, p, c, l, t, e) = of count c l e
 minutes_hold : (text : List ℕ) (m : Moment) → SaysMinutes text m → MostMilliseconds 65535 m.millisecond × IsZone m.zone
 minutes_hold text m s = (subst (MostMilliseconds 65535) (sym s.millisecond) tt, subst IsZone (sym s.zone) tt)
 
-moment_holds : (m : Moment) → m.year < 2 ^ 32 → InRange m → MostMilliseconds 65535 m.millisecond × IsZone m.zone → IsMoment m
+moment_holds : (m : Moment) → m.year < 2 ^ 32 → InRange m →
+    MostMilliseconds 65535 m.millisecond × IsZone m.zone → IsMoment m
 moment_holds m y r p =
-    let month = r.month in let day = r.day in let hour = r.hour in let minute = r.minute in let second = r.second in record {
+    let month = r.month in
+    let day = r.day in
+    let hour = r.hour in
+    let minute = r.minute in
+    let second = r.second in
+    record {
       year = y;
       month = omega arith;
       day = omega arith;
@@ -207,7 +235,8 @@ generalized_holds text m s = let y = s.year in moment_holds m (omega arith) s.ra
 -- ---- UTCTime
 
 pub utc_time_lawful : IsLawfulLeafUpTo but_text utc_time_leaf
-utc_time_lawful = time_lawful utc_time_number (λ t. moment_of t.0) SaysUtcTime IsStrictUtcTime nothing utc_time_text (lit< tt) texts nothing_is (λ k m d. tt)
+utc_time_lawful = time_lawful utc_time_number (λ t. moment_of t.0) SaysUtcTime IsStrictUtcTime nothing utc_time_text
+    (lit< tt) texts nothing_is (λ k m d. tt)
   where
     texts : AreTimeTexts SaysUtcTime IsStrictUtcTime utc_time_text
     texts = record {
@@ -224,10 +253,13 @@ utc_time_accepted x d = accepted 99 (moment_of x.0) (utc_fits (moment_of x.0) d)
 -- ---- GeneralizedTime
 
 generalized_time_constraints_are : IsCheck generalized_time_constraints
-generalized_time_constraints_are = before_is _ _ (content_check_is EndsInZ _ (λ e. cc)) (check_is (λ p. ¬ HasComma p.content) (λ p. HasComma p.content) _ (λ p m b. m b) (λ p e. cc))
+generalized_time_constraints_are = before_is _ _ (content_check_is EndsInZ _ (λ e. cc))
+    (check_is (λ p. ¬ HasComma p.content) (λ p. HasComma p.content) _ (λ p m b. m b) (λ p e. cc))
 
 pub generalized_time_lawful : IsLawfulLeafUpTo but_text generalized_time_leaf
-generalized_time_lawful = time_lawful generalized_time_number (λ t. moment_of t.0) SaysGeneralizedTime IsStrictGeneralizedTime generalized_time_constraints generalized_time_text (lit< tt) texts generalized_time_constraints_are (λ k m d. (generalized_ends_in_z m, generalized_no_comma m))
+generalized_time_lawful = time_lawful generalized_time_number
+    (λ t. moment_of t.0) SaysGeneralizedTime IsStrictGeneralizedTime generalized_time_constraints generalized_time_text
+    (lit< tt) texts generalized_time_constraints_are (λ k m d. (generalized_ends_in_z m, generalized_no_comma m))
   where
     texts : AreTimeTexts SaysGeneralizedTime IsStrictGeneralizedTime generalized_time_text
     texts = record {
@@ -238,7 +270,8 @@ generalized_time_lawful = time_lawful generalized_time_number (λ t. moment_of t
       are = generalized_octets;
     }
 
-pub generalized_time_accepted : (x : GeneralizedTime) → IsStrictGeneralizedTime (moment_of x.0) → generalized_time_refused (moment_of x.0) ≡ false
+pub generalized_time_accepted : (x : GeneralizedTime) → IsStrictGeneralizedTime (moment_of x.0) →
+    generalized_time_refused (moment_of x.0) ≡ false
 generalized_time_accepted x d = accepted 9999 (moment_of x.0) (generalized_fits (moment_of x.0) d)
 
 -- ---- times are equal where their fields are
@@ -247,7 +280,8 @@ milliseconds_decide : (o p : Option ℕ) → Decides (option_eq nat_eq o p) (o �
 milliseconds_decide None None = (λ h. refl, λ e. refl)
 milliseconds_decide None (Some n) = (λ h. absurd (let e = h in cc), λ e. cc)
 milliseconds_decide (Some m) None = (λ h. absurd (let e = h in cc), λ e. cc)
-milliseconds_decide (Some m) (Some n) = (λ h. ap Some ((unsigned_Decides m n).0 h), λ e. (unsigned_Decides m n).1 (let f : m ≡ n = cc in f))
+milliseconds_decide (Some m) (Some n) =
+    (λ h. ap Some ((unsigned_Decides m n).0 h), λ e. (unsigned_Decides m n).1 (let f : m ≡ n = cc in f))
 
 -- what `==` answers of zones
 abbrev zone_eq : TimeZone → TimeZone → Bool
@@ -265,16 +299,25 @@ zones_decide (Offset h m) Z = (λ h. absurd (let e = h in cc), λ e. cc)
 zones_decide (Offset h m) (Offset i n) = (to, from)
   where
     to : (int_eq h i && int_eq m n) ≡ true → Offset h m ≡ Offset i n
-    to t = let both = of_both (int_eq h i) (int_eq m n) t in let hours = (signed_Decides h i).0 both.0 in let minutes = (signed_Decides m n).0 both.1 in cc
+    to t =
+        let both = of_both (int_eq h i) (int_eq m n) t in
+        let hours = (signed_Decides h i).0 both.0 in
+        let minutes = (signed_Decides m n).0 both.1 in
+        cc
 
     from : Offset h m ≡ Offset i n → (int_eq h i && int_eq m n) ≡ true
-    from e = let hours : h ≡ i = cc in let minutes : m ≡ n = cc in to_both (int_eq h i) (int_eq m n) ((signed_Decides h i).1 hours) ((signed_Decides m n).1 minutes)
+    from e =
+        let hours : h ≡ i = cc in
+        let minutes : m ≡ n = cc in
+        to_both (int_eq h i) (int_eq m n) ((signed_Decides h i).1 hours) ((signed_Decides m n).1 minutes)
 
-pub times_equal : (x y : ASN1DateTime) → IsTrue (nat_eq x.year y.year && (nat_eq x.month y.month && (nat_eq x.day y.day && (nat_eq x.hour y.hour && (nat_eq x.minute y.minute && (nat_eq x.second y.second &&
+pub times_equal : (x y : ASN1DateTime) → IsTrue (nat_eq x.year y.year && (nat_eq x.month y.month &&
+    (nat_eq x.day y.day && (nat_eq x.hour y.hour && (nat_eq x.minute y.minute && (nat_eq x.second y.second &&
     (option_eq nat_eq x.millisecond y.millisecond && zone_eq x.tz y.tz))))))) ↔ (moment_of x ≡ moment_of y)
 times_equal x y = (to, from)
   where
-    to : (nat_eq x.year y.year && (nat_eq x.month y.month && (nat_eq x.day y.day && (nat_eq x.hour y.hour && (nat_eq x.minute y.minute && (nat_eq x.second y.second &&
+    to : (nat_eq x.year y.year && (nat_eq x.month y.month &&
+        (nat_eq x.day y.day && (nat_eq x.hour y.hour && (nat_eq x.minute y.minute && (nat_eq x.second y.second &&
         (option_eq nat_eq x.millisecond y.millisecond && zone_eq x.tz y.tz))))))) ≡ true → moment_of x ≡ moment_of y
     to h =
         let year = of_both (nat_eq x.year y.year) _ h in
@@ -297,14 +340,18 @@ times_equal x y = (to, from)
           zone = (zones_decide x.tz y.tz).0 rest.1;
         })
 
-    from : moment_of x ≡ moment_of y → (nat_eq x.year y.year && (nat_eq x.month y.month && (nat_eq x.day y.day && (nat_eq x.hour y.hour && (nat_eq x.minute y.minute && (nat_eq x.second y.second &&
+    from : moment_of x ≡ moment_of y → (nat_eq x.year y.year && (nat_eq x.month y.month &&
+        (nat_eq x.day y.day && (nat_eq x.hour y.hour && (nat_eq x.minute y.minute && (nat_eq x.second y.second &&
         (option_eq nat_eq x.millisecond y.millisecond && zone_eq x.tz y.tz))))))) ≡ true
     from e =
         to_both (nat_eq x.year y.year) _ ((unsigned_Decides x.year y.year).1 (ap (λ (m : Moment). m.year) e)) (
         to_both (nat_eq x.month y.month) _ ((unsigned_Decides x.month y.month).1 (ap (λ (m : Moment). m.month) e)) (
         to_both (nat_eq x.day y.day) _ ((unsigned_Decides x.day y.day).1 (ap (λ (m : Moment). m.day) e)) (
         to_both (nat_eq x.hour y.hour) _ ((unsigned_Decides x.hour y.hour).1 (ap (λ (m : Moment). m.hour) e)) (
-        to_both (nat_eq x.minute y.minute) _ ((unsigned_Decides x.minute y.minute).1 (ap (λ (m : Moment). m.minute) e)) (
-        to_both (nat_eq x.second y.second) _ ((unsigned_Decides x.second y.second).1 (ap (λ (m : Moment). m.second) e)) (
-        to_both (option_eq nat_eq x.millisecond y.millisecond) (zone_eq x.tz y.tz) ((milliseconds_decide x.millisecond y.millisecond).1 (ap (λ (m : Moment). m.millisecond) e))
+        to_both (nat_eq x.minute y.minute) _
+        ((unsigned_Decides x.minute y.minute).1 (ap (λ (m : Moment). m.minute) e)) (
+        to_both (nat_eq x.second y.second) _
+        ((unsigned_Decides x.second y.second).1 (ap (λ (m : Moment). m.second) e)) (
+        to_both (option_eq nat_eq x.millisecond y.millisecond) (zone_eq x.tz y.tz)
+        ((milliseconds_decide x.millisecond y.millisecond).1 (ap (λ (m : Moment). m.millisecond) e))
         ((zones_decide x.tz y.tz).1 (ap (λ (m : Moment). m.zone) e))))))))

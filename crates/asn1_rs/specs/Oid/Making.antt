@@ -7,7 +7,8 @@ use Rattle.std.specs.declared.vec.Vec.{Vec}
 use Rattle.x690.specs.Arcs.{AreAbsoluteArcs, AreShortest, IsFirstPair, arcs_octets, arcs_of}
 use Rattle.asn1_rs.specs.declared.asn1_types.oid.Oid.{Oid}
 use Rattle.asn1_rs.specs.declared.asn1_types.oid.making.OidParseError.{OidParseError}
-use Rattle.asn1_rs.specs.declared.asn1_types.oid.making.OidParseError.TheVariants.{TooShort, FirstComponentsTooLarge, ParseIntError, OutOfMemory}
+use Rattle.asn1_rs.specs.declared.asn1_types.oid.making.OidParseError.TheVariants.{TooShort, FirstComponentsTooLarge}
+use Rattle.asn1_rs.specs.declared.asn1_types.oid.making.OidParseError.TheVariants.{ParseIntError, OutOfMemory}
 use Rattle.asn1_rs.specs.Oid.{IsStrictOid, is_relative, oid_octets, oid_value}
 
 -- ---- of arcs, where `true` is of a relative identifier
@@ -92,6 +93,7 @@ ArcsRead text (Err OutOfMemory) = SaysArcs text
 abbrev pub OidReadFrom : List ℕ → Result Oid OidParseError → Type 0
 OidReadFrom text (Ok x) = SaysArcs text × OidMade false (arcs_said text) (Ok x)
 OidReadFrom text (Err TooShort) = SaysArcs text × OidMade false (arcs_said text) (Err TooShort)
-OidReadFrom text (Err FirstComponentsTooLarge) = SaysArcs text × OidMade false (arcs_said text) (Err FirstComponentsTooLarge)
+OidReadFrom text (Err FirstComponentsTooLarge) =
+    SaysArcs text × OidMade false (arcs_said text) (Err FirstComponentsTooLarge)
 OidReadFrom text (Err ParseIntError) = ¬ (SaysArcs text)
 OidReadFrom text (Err OutOfMemory) = SaysArcs text

@@ -34,5 +34,6 @@ any_integer_lawful = record {
 }
 
 -- integers are equal where their octets are the same
-pub octets_equal : (x y : Integer) → IsTrue (pointwise nat_eq (integer_octets x) (integer_octets y)) ↔ (integer_octets x ≡ integer_octets y)
+pub octets_equal : (x y : Integer) →
+    IsTrue (pointwise nat_eq (integer_octets x) (integer_octets y)) ↔ (integer_octets x ≡ integer_octets y)
 octets_equal x y = bytes_decides (integer_octets x) (integer_octets y)

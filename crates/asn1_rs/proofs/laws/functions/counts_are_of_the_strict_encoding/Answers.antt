@@ -4,8 +4,12 @@ use Rattle.asn1_rs.proofs.laws.functions.counts_are_of_the_strict_encoding.Goals
 pub returns : goal.returns
 returns g c = record {
   tells = g.met.T.LawfulWrite.lawful_writing.tells_all;
-  strict = der_strict g.T.Grammar.grammar.value g.T.Grammar.grammar.IsDer g.T.Grammar.grammar.Form g.T.ToDer.writing g.met.T.LawfulWrite.lawful_writing.form g.met.T.LawfulWrite.lawful_writing.der_form g.met.T.LawfulItem.lawful_item.form_fits;
+  strict = der_strict g.T.Grammar.grammar.value g.T.Grammar.grammar.IsDer g.T.Grammar.grammar.Form g.T.ToDer.writing
+      g.met.T.LawfulWrite.lawful_writing.form g.met.T.LawfulWrite.lawful_writing.der_form
+      g.met.T.LawfulItem.lawful_item.form_fits;
   writable = g.met.T.LawfulWrite.lawful_writing.der_writable;
-  written = strict_written g.T.Grammar.grammar.value g.T.Grammar.grammar.Form g.T.ToDer.writing g.met.T.LawfulWrite.lawful_writing.form;
-  counted = strict_counted g.T.Grammar.grammar.value g.T.Grammar.grammar.Form g.T.ToDer.writing g.met.T.LawfulWrite.lawful_writing.form;
+  written = strict_written g.T.Grammar.grammar.value g.T.Grammar.grammar.Form g.T.ToDer.writing
+      g.met.T.LawfulWrite.lawful_writing.form;
+  counted = strict_counted g.T.Grammar.grammar.value g.T.Grammar.grammar.Form g.T.ToDer.writing
+      g.met.T.LawfulWrite.lawful_writing.form;
 }

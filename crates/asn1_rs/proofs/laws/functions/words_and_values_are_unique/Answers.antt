@@ -9,7 +9,11 @@ returns g c = record {
   der_value = one_value_of g.T.Grammar.grammar.Der g.met.T.LawfulItem.lawful_item.der_one;
   ber_front = one_front (ber_words g.T.Grammar.grammar) (ber_one g.T.Grammar.grammar g.met.T.LawfulItem.lawful_item);
   der_front = one_front g.T.Grammar.grammar.Der g.met.T.LawfulItem.lawful_item.der_one;
-  strict_word = λ v o s. ((strict_ber g.T.Grammar.grammar g.met.T.LawfulItem.lawful_item) v o s, g.met.T.LawfulItem.lawful_item.strict_der v o s);
+  strict_word = λ v o s. (
+    (strict_ber g.T.Grammar.grammar g.met.T.LawfulItem.lawful_item) v o s,
+    g.met.T.LawfulItem.lawful_item.strict_der v o s,
+  );
   strict = one_strict g.T.Grammar.grammar.Form g.met.T.LawfulItem.lawful_item.one_form;
-  apart = λ o p r s v w x y e. strict_apart g.T.Grammar.grammar.Form g.met.T.LawfulItem.lawful_item.one_value v w o p r s x y e;
+  apart = λ o p r s v w x y e.
+      strict_apart g.T.Grammar.grammar.Form g.met.T.LawfulItem.lawful_item.one_value v w o p r s x y e;
 }
