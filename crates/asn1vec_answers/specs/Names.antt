@@ -57,7 +57,8 @@ in_brackets word part = word ++ (codes "(" ++ (part ++ codes ")"))
 
 -- an error with the constraint that was broken, or the number of octets that are missing
 abbrev pub name_of_error : Error → List ℕ
-name_of_error (errors.DerConstraintFailed constraint) = in_brackets (codes "DerConstraintFailed") (name_of_constraint constraint)
+name_of_error (errors.DerConstraintFailed constraint) =
+    in_brackets (codes "DerConstraintFailed") (name_of_constraint constraint)
 name_of_error (errors.Incomplete needed) = in_brackets (codes "Error.Incomplete") (name_of_needed needed)
 name_of_error error = word_of_error error
 

@@ -1,5 +1,6 @@
 -- How a reading is answered: the value, what follows it and its encoding, or the refusal.
-use Rattle.std.specs.Prelude.{◌≡◌, ℕ, ◌<◌, ◌^◌, Bool, true, false, List, [], ◌∷◌, ◌++◌, length, codes, decimal, Option, None, Some, Result, Ok, Err, ◌⊎◌}
+use Rattle.std.specs.Prelude.{◌≡◌, ℕ, ◌<◌, ◌^◌, Bool, true, false, List, [], ◌∷◌, ◌++◌, length, codes, decimal, Option}
+use Rattle.std.specs.Prelude.{None, Some, Result, Ok, Err, ◌⊎◌}
 use Rattle.std.specs.BTreeSet.{insert_key}
 use Rattle.std.specs.List.{join_by}
 use Rattle.std.specs.declared.cmp.Ordering.{Ordering}
@@ -57,9 +58,11 @@ text_or_dash (octet ∷ octets) text = text
 abbrev pub identifier_text : OidValue → List ℕ
 identifier_text v = text_or_dash v.octets (shown_text v.relative v.octets)
 
--- how the syntaxes of an embedded presentation data value are identified: a word, and identifiers, or the contents octets of an integer
+-- how the syntaxes of an embedded presentation data value are identified:
+-- a word, and identifiers, or the contents octets of an integer
 abbrev pub identification_text : Identification → List ℕ
-identification_text (syntaxes first second) = codes "syntaxes:" ++ (identifier_text first ++ (codes ":" ++ identifier_text second))
+identification_text (syntaxes first second) =
+    codes "syntaxes:" ++ (identifier_text first ++ (codes ":" ++ identifier_text second))
 identification_text (syntax s) = codes "syntax:" ++ identifier_text s
 identification_text (context id) = codes "context:" ++ in_hexadecimal id
 identification_text (negotiation id s) = codes "negotiation:" ++ (in_hexadecimal id ++ (codes ":" ++ identifier_text s))
