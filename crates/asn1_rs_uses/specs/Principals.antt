@@ -1,5 +1,6 @@
 -- Names of principals: a number, octet strings, and a realm that may be left out, each under a tag, in a sequence.
-use Rattle.std.specs.Prelude.{◌≡◌, ◌⊎◌, ℕ, ℤ, List, [], ◌++◌, length, map, true, false, Option, None, Some, Result, MatchResult}
+use Rattle.std.specs.Prelude.{◌≡◌, ◌⊎◌, ℕ, ℤ, List, [], ◌++◌, length, map, true, false, Option, None, Some, Result}
+use Rattle.std.specs.Prelude.{MatchResult}
 use Rattle.std.specs.List.{flat_map}
 use Rattle.std.specs.Option.{option_map}
 use Rattle.x690.specs.Elements.{Parts, IsDerElement}
@@ -70,7 +71,8 @@ IsNoPrincipal p = (x : Principal) → IsPrincipal p x → ⊥
 abbrev pub BeginsWithNoPrincipal : List ℕ → Type 0
 BeginsWithNoPrincipal octets = (x : Principal) (rest : List ℕ) → BeginsWithPrincipal octets x rest → ⊥
 
--- Out of memory, or a refusal that is final: no principal begins the octets, whatever follows of which the refusal speaks.
+-- Out of memory, or a refusal that is final: no principal begins the octets,
+-- whatever follows of which the refusal speaks.
 abbrev pub RefusesPrincipal : List ℕ → Refusal Error → Type 0
 RefusesPrincipal octets r =
     WantsMemory r ⊎ ((more : List ℕ) → Speaks (IsCutIdentifier octets) r more → BeginsWithNoPrincipal (octets ++ more))
@@ -83,7 +85,8 @@ pub record IsSamePrincipal (x y : Principal) : Type 0 where
 
 -- where a principal begins the octets, that one is the answer, with what follows it; or memory is out
 abbrev pub ReadsPrincipalBack : List ℕ → Result (List ℕ × Principal) (Refusal Error) → Type 0
-ReadsPrincipalBack octets answer = (x : Principal) (rest : List ℕ) → BeginsWithPrincipal octets x rest → MatchResult answer (λ y. IsSamePrincipal x y.1 × (y.0 ≡ rest)) WantsMemory
+ReadsPrincipalBack octets answer = (x : Principal) (rest : List ℕ) → BeginsWithPrincipal octets x rest →
+    MatchResult answer (λ y. IsSamePrincipal x y.1 × (y.0 ≡ rest)) WantsMemory
 
 -- what is written under the explicit, context-specific tag of this number
 abbrev pub under_tag : ℕ → List ℕ → List ℕ

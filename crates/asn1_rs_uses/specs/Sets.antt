@@ -15,7 +15,8 @@ SmallNumber = DerWord IntegerCheck (IntegerBody (IsUnsigned 1))
 abbrev pub SmallSigned : List ℕ → ℤ → Type 0
 SmallSigned = DerWord IntegerCheck (IntegerBody (IsSigned 1))
 
--- The words of sets of such numbers: the number's words, joined in any order. Of the first kind a number may stand more than once.
+-- The words of sets of such numbers: the number's words, joined in any order.
+-- Of the first kind a number may stand more than once.
 abbrev pub CountedNumbers : List ℕ → Multiset ℤ → Type 0
 CountedNumbers = DerWord NoCheck (SetRow multiset SmallNumber)
 
