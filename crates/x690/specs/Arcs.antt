@@ -29,6 +29,7 @@ first_subidentifier content = get_or (subidentifiers content) 0 0
 abbrev pub first_arc : ℕ → ℕ
 first_arc n = if nat_lt n 40 then 0 else if nat_lt n 80 then 1 else 2
 
+-- the second arc that the first subidentifier says (8.19.4)
 abbrev pub second_arc : ℕ → ℕ
 second_arc n = n - 40 * first_arc n
 
@@ -36,6 +37,7 @@ second_arc n = n - 40 * first_arc n
 abbrev pub IsFirstPair : ℕ → ℕ → Type 0
 IsFirstPair x y = (x ≤ 2) × (x < 2 → y < 40)
 
+-- the subidentifiers with two arcs in the place of the first of them
 abbrev pub with_first_split : List ℕ → List ℕ
 with_first_split [] = []
 with_first_split (n ∷ ns) = first_arc n ∷ second_arc n ∷ ns
@@ -75,6 +77,7 @@ AreAbsoluteArcs (x ∷ y ∷ arcs) = IsFirstPair x y
 abbrev pub subidentifier_octets : List ℕ → List ℕ
 subidentifier_octets ns = flat_map tag_digits ns
 
+-- the arcs with one subidentifier in the place of the first two
 abbrev pub with_first_joined : List ℕ → List ℕ
 with_first_joined [] = []
 with_first_joined (x ∷ []) = x ∷ []

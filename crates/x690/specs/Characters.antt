@@ -21,9 +21,11 @@ ucs4_octets_of c = (c / 16777216) ∷ (c / 65536 % 256) ∷ (c / 256 % 256) ∷ 
 abbrev pub code_of : (ℕ → List ℕ) → List ℕ → List ℕ
 code_of octets_of cs = flat_map octets_of cs
 
+-- the text in UTF-16
 abbrev pub utf16_octets : List ℕ → List ℕ
 utf16_octets cs = code_of utf16_octets_of cs
 
+-- the text in UCS-4
 abbrev pub ucs4_octets : List ℕ → List ℕ
 ucs4_octets cs = code_of ucs4_octets_of cs
 

@@ -12,6 +12,7 @@ use mathlib.Core.Quot.{Quot, mk}
 abbrev pub Multiset : Type 0 → Type 0
 Multiset V = Quot (IsPermutation {X = V})
 
+-- the multiset of these values
 abbrev pub multiset : {V : Type 0} → List V → Multiset V
 multiset vs = mk vs
 
@@ -23,6 +24,7 @@ HaveSame {V} xs ys = (v : V) → Contains xs v ↔ Contains ys v
 abbrev pub ValueSet : Type 0 → Type 0
 ValueSet V = Quot (HaveSame {V = V})
 
+-- the set of these values
 abbrev pub value_set : {V : Type 0} → List V → ValueSet V
 value_set vs = mk vs
 

@@ -6,9 +6,11 @@ abbrev pub weighted_sum : ℕ → List ℕ → ℕ
 weighted_sum base [] = 0
 weighted_sum base (digit ∷ digits) = digit * base ^ length digits + weighted_sum base digits
 
+-- the number that octets say as digits of base 256
 abbrev pub base_256_value : List ℕ → ℕ
 base_256_value octets = weighted_sum 256 octets
 
+-- what bits 7 to 1 of an octet say
 abbrev pub low_seven_bits : ℕ → ℕ
 low_seven_bits octet = octet % 128
 

@@ -44,6 +44,7 @@ LengthFault octets (missing n) = IsCutLength octets n
 LengthFault octets length_fault = ((others : List ℕ) × (octets ≡ 255 ∷ others)) ⊎ IsHugeLength octets
 LengthFault octets _ = ⊥
 
+-- what a length that the rule does not allow breaches: its octets where it is definite, else the form
 abbrev pub breach_of : LengthForm → Breach
 breach_of (definite n) = length_breach
 breach_of indefinite = form_breach

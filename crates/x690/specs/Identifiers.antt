@@ -8,6 +8,7 @@ pub record Identifier : Type 0 where
   pub constructed : Bool
   pub number : ℕ
 
+-- a truth value as a bit
 abbrev pub bit : Bool → ℕ
 bit true = 1
 bit false = 0
@@ -39,6 +40,7 @@ abbrev pub NeedsItsDigits : ℕ → List ℕ → Type 0
 NeedsItsDigits number [] = Unit {0}
 NeedsItsDigits number (digit ∷ digits) = (31 ≤ number) × (digit ≢ 128)
 
+-- the digits that say the number are no more than it needs
 abbrev pub HasNoSpareDigits : List ℕ → ℕ → Type 0
 HasNoSpareDigits [] number = ⊥
 HasNoSpareDigits (first ∷ following) number = NeedsItsDigits number following

@@ -35,6 +35,7 @@ pub record InRange (m : Moment) : Type 0 where
 abbrev pub east : ℕ → ℕ → TimeZone
 east hours minutes = Offset (pos hours) (pos minutes)
 
+-- the zone that is so many hours and minutes behind UTC
 abbrev pub west : ℕ → ℕ → TimeZone
 west hours minutes =
     if nat_lt 0 hours then Offset (neg_ℤ (pos hours)) (pos minutes) else Offset (pos 0) (neg_ℤ (pos minutes))
@@ -45,9 +46,11 @@ SaysOffset text zone = (hours minutes : ℕ) × (hours < 100) × (minutes < 100)
     (((text ≡ 43 ∷ digits 2 hours ++ digits 2 minutes) × (zone ≡ east hours minutes)) ⊎
     ((text ≡ 45 ∷ digits 2 hours ++ digits 2 minutes) × (zone ≡ west hours minutes)))
 
+-- `Z`, or an offset
 abbrev pub SaysZone : List ℕ → TimeZone → Type 0
 SaysZone text zone = ((text ≡ z_text) × (zone ≡ Z)) ⊎ SaysOffset text zone
 
+-- a zone, or none where the text is empty
 abbrev pub SaysZoneOrNone : List ℕ → TimeZone → Type 0
 SaysZoneOrNone text zone = ((text ≡ []) × (zone ≡ Undefined)) ⊎ SaysZone text zone
 
@@ -107,6 +110,7 @@ fraction_text (Some m) = if m == 0 then [] else if nat_lt 999 m then 46 ∷ deci
 abbrev pub utc_time_text : Moment → List ℕ
 utc_time_text m = digits 2 m.year ++ to_minute m ++ digits 2 m.second ++ z_text
 
+-- the text that is written for a GeneralizedTime, which ends in Z
 abbrev pub generalized_time_text : Moment → List ℕ
 generalized_time_text m = digits 4 m.year ++ to_minute m ++ digits 2 m.second ++ fraction_text m.millisecond ++ z_text
 
@@ -141,9 +145,11 @@ pub record FitsText (greatest_year : ℕ) (m : Moment) : Type 0 where
   pub millisecond : MostMilliseconds 999 m.millisecond
   pub zone : (m.zone ≡ Z) ⊎ (m.zone ≡ Undefined)
 
+-- the fields have a place in the text of a UTCTime
 abbrev pub FitsUtcTime : Moment → Type 0
 FitsUtcTime = FitsText 99
 
+-- the fields have a place in the text of a GeneralizedTime
 abbrev pub FitsGeneralizedTime : Moment → Type 0
 FitsGeneralizedTime = FitsText 9999
 
@@ -159,6 +165,7 @@ pub record IsStrictMoment (m : Moment) : Type 0 where
 abbrev pub IsStrictUtcTime : Moment → Type 0
 IsStrictUtcTime m = IsStrictMoment m × (m.year ≤ 99) × (m.millisecond ≡ None)
 
+-- the fields are in range, fit the text, and have no fraction of zero (11.7.3)
 abbrev pub IsStrictGeneralizedTime : Moment → Type 0
 IsStrictGeneralizedTime m =
     IsStrictMoment m × (m.year ≤ 9999) × MostMilliseconds 999 m.millisecond × (m.millisecond ≢ Some 0)
@@ -173,6 +180,7 @@ filled width n = replicate (width - length (decimal n)) 48 ++ decimal n
 abbrev pub is_west : ℤ → ℤ → Bool
 is_west hours minutes = int_lt hours (pos 0) || (not (int_lt (pos 0) hours) && int_lt minutes (pos 0))
 
+-- a sign, then hours and minutes of two digits each
 abbrev pub offset_text : ℤ → ℤ → List ℕ
 offset_text hours minutes =
     (if is_west hours minutes then 45 else 43) ∷ filled 2 (unsigned_abs hours) ++ filled 2 (unsigned_abs minutes)
@@ -188,9 +196,11 @@ abbrev pub calendar_text : Moment → List ℕ
 calendar_text m = filled 4 m.year ++ codes "-" ++ filled 2 m.month ++ codes "-" ++ filled 2 m.day ++ codes " " ++
     filled 2 m.hour ++ codes ":" ++ filled 2 m.minute ++ codes ":" ++ filled 2 m.second
 
+-- how a UTCTime is shown: its calendar and its zone
 abbrev pub utc_time_shown : Moment → List ℕ
 utc_time_shown m = calendar_text m ++ zone_text z_text m.zone
 
+-- how a GeneralizedTime is shown: its calendar, its fraction and its zone
 abbrev pub generalized_time_shown : Moment → List ℕ
 generalized_time_shown m = calendar_text m ++ fraction_text m.millisecond ++ zone_text [] m.zone
 
