@@ -12,6 +12,7 @@ universal_names = codes "EndOfContent" ∷ codes "Boolean" ∷ codes "Integer" �
     "Ia5String" ∷ codes "UtcTime" ∷ codes "GeneralizedTime" ∷ codes "GraphicString" ∷ codes "VisibleString" ∷ codes
     "GeneralString" ∷ codes "UniversalString" ∷ codes "CharacterString" ∷ codes "BmpString" ∷ []
 
+-- the name of a tag number of the universal class, empty where it has none
 abbrev pub name_of : ℕ → List ℕ
 name_of number = get_or universal_names number []
 
@@ -24,6 +25,7 @@ text_or (first ∷ more) other = first ∷ more
 abbrev pub number_text : ℕ → List ℕ
 number_text number = codes "Tag(" ++ decimal number ++ codes " / 0x" ++ radix_digits 16 false number ++ codes ")"
 
+-- how a tag number is shown: by its name, or else as a number
 abbrev pub tag_text : ℕ → List ℕ
 tag_text number = text_or (name_of number) (number_text number)
 
@@ -31,5 +33,6 @@ tag_text number = text_or (name_of number) (number_text number)
 abbrev pub is_container_number : ℕ → Bool
 is_container_number number = nat_eq number 16 || nat_eq number 17
 
+-- whether the tag number is that of sequences or sets
 abbrev pub is_container : Tag → Bool
 is_container tag = is_container_number tag.0

@@ -18,12 +18,14 @@ in_brackets (x ∷ name) = codes " (" ++ (x ∷ name ++ codes ")")
 abbrev pub tag_name : ℕ → List ℕ
 tag_name number = if nat_eq number 0 then decimal number else decimal number ++ in_brackets (name_of number)
 
+-- the name of a class in the texts of refusals
 abbrev pub class_name : Class → List ℕ
 class_name Universal = codes "Universal"
 class_name Application = codes "Application"
 class_name ContextSpecific = codes "ContextSpecific"
 class_name Private = codes "Private"
 
+-- how the text of a refusal says how many octets are missing
 abbrev pub needed_text : Needed → List ℕ
 needed_text Unknown = codes "octets are missing"
 needed_text (Size n) = if nat_eq n 1 then codes "1 octet is missing" else decimal n ++ codes " octets are missing"

@@ -21,6 +21,7 @@ pub record WriterState : Type 0 where
 abbrev pub wrapped_in : {W : Type 0} → Told W → W
 wrapped_in t = t.inner
 
+-- whether a call of the writer has failed
 abbrev pub mark_of : {W : Type 0} → Told W → Bool
 mark_of t = t.is_failed
 

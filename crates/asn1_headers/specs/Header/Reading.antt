@@ -41,12 +41,15 @@ refusal_of refuses depth_fault = refused BerMaxDepth
 abbrev pub der_breach : Breach → Error
 der_breach breach = DerConstraintFailed IndefiniteLength
 
+-- by BER a header is refused only where a primitive element has the indefinite form
 abbrev pub ber_breach : Breach → Error
 ber_breach breach = ConstructExpected
 
+-- how a fault is refused by DER
 abbrev pub der_refusal : Fault → Refusal Error
 der_refusal = refusal_of der_breach
 
+-- how a fault is refused by BER
 abbrev pub ber_refusal : Fault → Refusal Error
 ber_refusal = refusal_of ber_breach
 
@@ -58,6 +61,7 @@ Refused FaultOf refusal octets r = (fault : Fault) × FaultOf octets fault × (r
 abbrev pub id_read : IdentifierOctets → Identifier
 id_read x = record { class = class_number x.class; constructed = x.constructed; number = x.number }
 
+-- the tag number that was read
 abbrev pub tag_read : IdentifierOctets → Tag
 tag_read x = record { 0 = x.number }
 

@@ -11,12 +11,14 @@ use Rattle.asn1_headers.specs.Error.{is_io}
 use Rattle.asn1_headers.specs.declared.error.SerializeError.TheVariants as serialize_errors
 use Rattle.asn1_headers.specs.declared.error.SerializeError.{SerializeError}
 
+-- What is appended in two steps is appended.
 pub Appends_more : (a b c : Option (List ℕ)) (xs ys : List ℕ) → Appends a b xs → Appends b c ys → Appends a c (xs ++ ys)
 Appends_more None b c xs ys p q = tt
 Appends_more (Some a) (Some b) (Some c) xs ys p q = q ∙ ap (λ z. z ++ ys) p ∙ append_assoc a xs ys
 Appends_more (Some a) None c xs ys p q = absurd p
 Appends_more (Some a) (Some b) None xs ys p q = absurd q
 
+-- Nothing is appended where nothing changes.
 pub Appends_none : (a : Option (List ℕ)) → Appends a a []
 Appends_none None = tt
 Appends_none (Some a) = sym (append-nil a)
@@ -89,11 +91,13 @@ Wrote_refused {e} {n} {xs} {a} {b} p h = record {
   nothing = λ _. h;
 }
 
+-- Where two pieces are written and their numbers added, both were written, or the sum passes what a length may be.
 pub Wrote_sum : {n m : ℕ} {xs ys : List ℕ} {a b c : WriterState} (r : Result ℕ SerializeError) → Wrote xs a b (Ok n) →
     Wrote ys b c (Ok m) → SumsWritten n m r → Wrote (xs ++ ys) a c r
 Wrote_sum (Ok k) p q h = rw h (Wrote_then p q)
 Wrote_sum (Err e) p q h = rw h.0 (Wrote_refused (Wrote_then p q) refl)
 
+-- A sum of two counts is refused only where the length of both pieces allows it.
 pub MayRefuse_sum : {n m : ℕ} (takes : Bool) (xs ys : List ℕ) {a b c d : WriterState} (r : Result ℕ SerializeError) →
     Wrote xs a b (Ok n) → Wrote ys c d (Ok m) → SumsWritten n m r → IfErr r (MayRefuse takes (length (xs ++ ys)))
 MayRefuse_sum takes xs ys (Ok k) p q h = tt
@@ -115,6 +119,7 @@ Wrote_front {e} {xs} zs p = record {
   nothing = λ h. p.nothing (none_of_both xs zs h).0;
 }
 
+-- What may refuse a length may refuse a greater one.
 pub MayRefuse_more : (e : SerializeError) (takes : Bool) (m n : ℕ) → m ≤ n → MayRefuse takes m e → MayRefuse takes n e
 MayRefuse_more (serialize_errors.ASN1Error e) takes m n h p = absurd p
 MayRefuse_more (serialize_errors.InvalidClass c) takes m n h p = absurd p
@@ -122,6 +127,7 @@ MayRefuse_more serialize_errors.InvalidLength takes m n h p = omega arith
 MayRefuse_more (serialize_errors.IOError e) takes m n h p = tt
 MayRefuse_more serialize_errors.OutOfMemory takes m n h p = p
 
+-- What may refuse one of two writings may refuse both together.
 pub MayRefuse_either : (e : SerializeError) (takes gives : Bool) (n : ℕ) → MayRefuse takes n e →
     MayRefuse (takes || gives) n e
 MayRefuse_either (serialize_errors.ASN1Error e) takes gives n p = absurd p
@@ -131,6 +137,7 @@ MayRefuse_either (serialize_errors.IOError e) takes gives n p = tt
 MayRefuse_either serialize_errors.OutOfMemory true gives n p = refl
 MayRefuse_either serialize_errors.OutOfMemory false gives n p = cc
 
+-- What may refuse the other of two writings may refuse both together.
 pub MayRefuse_other : (e : SerializeError) (takes gives : Bool) (n : ℕ) → MayRefuse gives n e →
     MayRefuse (takes || gives) n e
 MayRefuse_other (serialize_errors.ASN1Error e) takes gives n p = absurd p
