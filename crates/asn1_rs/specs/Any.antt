@@ -94,6 +94,7 @@ AndThenGives ElementOf FaultOf refusal class tag from reads input (Err r) =
 abbrev pub DerElementGives : List ℕ → Result (List ℕ × Any) (Refusal Error) → Type 0
 DerElementGives = AnyGives IsDerElement DerElementFault der_refusal
 
+-- What reading an element by BER may answer.
 abbrev pub BerElementGives : List ℕ → Result (List ℕ × Any) (Refusal Error) → Type 0
 BerElementGives = AnyGives (IsElement max_depth) (ElementFault max_depth) ber_refusal
 

@@ -24,6 +24,7 @@ truth_octet false = 0
 abbrev pub IsStrictTruth : ℕ → Type 0
 IsStrictTruth octet = (octet ≡ 0) ⊎ (octet ≡ 255)
 
+-- an octet that BER takes as true and DER refuses
 abbrev pub IsOtherTruth : ℕ → Type 0
 IsOtherTruth octet = (octet ≢ 0) × (octet ≢ 255)
 
@@ -68,6 +69,7 @@ truth_header = 1 ∷ 1 ∷ []
 abbrev pub truth_octets : Boolean → List ℕ
 truth_octets x = truth_octet (says_true x.value) ∷ []
 
+-- the raw form of a `Boolean`: its octet as it was read
 abbrev pub raw_boolean : Boolean → List ℕ
 raw_boolean x = 1 ∷ 1 ∷ x.value ∷ []
 

@@ -40,6 +40,7 @@ pub record PdvValue : Type 0 where
   pub descriptor : Option (List ℕ)
   pub octets : List ℕ
 
+-- what the identification in hand says
 abbrev pub identification_of : PdvIdentification → Identification
 identification_of (parts.Syntaxes a t) = syntaxes (oid_value a) (oid_value t)
 identification_of (parts.Syntax s) = syntax (oid_value s)
@@ -48,10 +49,12 @@ identification_of (parts.ContextNegotiation c s) = negotiation (integer_octets c
 identification_of (parts.TransferSyntax s) = transfer (oid_value s)
 identification_of parts.Fixed = fixed
 
+-- the text of a descriptor, where there is one
 abbrev pub descriptor_text : {K : Type 0} → Option (RestrictedString K) → Option (List ℕ)
 descriptor_text (Some x) = Some (text_of x)
 descriptor_text None = None
 
+-- the value of what is in hand
 abbrev pub pdv_value : EmbeddedPdv → PdvValue
 pdv_value x = record {
   identification = identification_of x.identification;
@@ -68,6 +71,7 @@ AreParts (negotiation c s) = IsOctets c × IsOctets s.octets
 AreParts (transfer s) = IsOctets s.octets
 AreParts fixed = Unit {0}
 
+-- the parts of a data value are such as an element can say
 pub record IsPdv (v : PdvValue) : Type 0 where
   pub identification : AreParts v.identification
   pub descriptor : IfSome v.descriptor IsUtf8

@@ -15,9 +15,11 @@ abbrev pub ElementWord : {V : Type 0} → (List ℕ → Parts → Type 0) → (P
     List ℕ → V → Type 0
 ElementWord ElementOf Check Body o v = (p : Parts) × ElementOf o p × Check p × Body p v
 
+-- a check that every element meets
 abbrev pub NoCheck : Parts → Type 0
 NoCheck p = Unit {0}
 
+-- The words by BER of a type with this body.
 abbrev pub BerWord : {V : Type 0} → (Parts → V → Type 0) → List ℕ → V → Type 0
 BerWord Body = ElementWord (IsElement max_depth) NoCheck Body
 

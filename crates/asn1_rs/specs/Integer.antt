@@ -39,6 +39,7 @@ IntegerCheckRefuses p (DerConstraintFailed IntegerLeadingZeroes) = IsPrimitive p
 IntegerCheckRefuses p (DerConstraintFailed IntegerLeadingFF) = IsPrimitive p × IsCounted p × HasSpareOnes p.content
 IntegerCheckRefuses p _ = ⊥
 
+-- What the constraints of an integer may answer.
 abbrev pub IntegerCheckGives : Parts → Result (Unit {0}) Error → Type 0
 IntegerCheckGives p (Ok x) = IntegerCheck p
 IntegerCheckGives p (Err e) = IntegerCheckRefuses p e
@@ -63,6 +64,7 @@ IsIntegerOr p (Err e) =
 abbrev pub IntegerRefuses : (List ℕ → Error → Type 0) → Parts → Error → Type 0
 IntegerRefuses content_refuses p e = IsIntegerOr p (Err e) ⊎ (IsIntegerOr p (Ok tt) × content_refuses p.content e)
 
+-- What the conversion to an integer may answer, for the integers that the type holds.
 abbrev pub IntegerGives : {T : Type 0} → (T → ℤ) → (ℤ → Type 0) → (List ℕ → Error → Type 0) → Parts →
     Result T Error → Type 0
 IntegerGives number Holds content_refuses p (Ok x) = IntegerBody Holds p (number x)
@@ -72,6 +74,7 @@ IntegerGives number Holds content_refuses p (Err e) = IntegerRefuses content_ref
 abbrev pub IntegerContent : (ℤ → Type 0) → ℤ → List ℕ → Type 0
 IntegerContent Holds n c = Holds n × IsIntegerContent n c
 
+-- The strict parts of an integer that the type holds.
 abbrev pub IntegerForm : (ℤ → Type 0) → ℤ → Identifier → List ℕ → Type 0
 IntegerForm Holds = UniversalForm false integer_number (IntegerContent Holds)
 

@@ -26,9 +26,11 @@ use Rattle.asn1_rs.specs.OctetString.{contents_leaf}
 use Rattle.asn1_rs.specs.ToDer.{IntoVector, IsWritable, RefusesAtOnce, VectorRefuses, Writing, whole_allocates}
 use Rattle.asn1_rs.specs.ToDer.{whole_octets, whole_refuses}
 
+-- the tag number of sequences
 abbrev pub sequence_number : ℕ
 sequence_number = 16
 
+-- the tag number of sets
 abbrev pub set_number : ℕ
 set_number = 17
 
@@ -36,6 +38,7 @@ set_number = 17
 abbrev pub sequence_octets : Sequence → List ℕ
 sequence_octets x = cow_slice_items x.content
 
+-- the contents octets that a set keeps
 abbrev pub set_octets : Set → List ℕ
 set_octets x = cow_slice_items x.content
 
@@ -44,9 +47,11 @@ set_octets x = cow_slice_items x.content
 abbrev pub kept_leaf : {S : Type 0} → ℕ → (S → List ℕ) → Leaf S
 kept_leaf number octets = contents_leaf number octets is_constructed nothing
 
+-- Sequences that are kept as their contents octets.
 abbrev pub sequence_leaf : Leaf Sequence
 sequence_leaf = kept_leaf sequence_number sequence_octets
 
+-- Sets that are kept as their contents octets.
 abbrev pub set_leaf : Leaf Set
 set_leaf = kept_leaf set_number set_octets
 
@@ -63,6 +68,7 @@ OnLent lent owned (held.Owned v) result = owned result
 abbrev pub IsRefused : {T E : Type 0} → (Error → E → Type 0) → Error → Result T (Refusal E) → Type 0
 IsRefused {T} {E} from error result = (e : E) × from error e × (result ≡ Err (refused e))
 
+-- the result is that refusal of the library, as the conversion makes it
 abbrev pub IsErrorOf : {T E : Type 0} → (Error → E → Type 0) → Error → Result T E → Type 0
 IsErrorOf {T} {E} from error result = (e : E) × from error e × (result ≡ Err e)
 

@@ -23,6 +23,7 @@ use Rattle.asn1_rs.specs.ToDer.{Writing, plain_writing}
 abbrev pub oid_number : ℕ
 oid_number = 6
 
+-- the tag number of relative object identifiers
 abbrev pub relative_number : ℕ
 relative_number = 13
 
@@ -44,9 +45,11 @@ oid_cow x = x.octets
 abbrev pub oid_octets : Oid → List ℕ
 oid_octets x = cow_slice_items x.octets
 
+-- whether the object identifier is relative
 abbrev pub is_relative : Oid → Bool
 is_relative x = x.relative
 
+-- the value of an object identifier: whether it is relative, and its contents octets
 abbrev pub oid_value : Oid → OidValue
 oid_value x = record { relative = x.relative; octets = cow_slice_items x.octets }
 
@@ -94,6 +97,7 @@ OidGives any (Err e) = ⊥
 abbrev pub ber_relative_check : CheckGives
 ber_relative_check = is_primitive before has_number relative_number
 
+-- the checks of a relative object identifier by DER
 abbrev pub der_relative_check : CheckGives
 der_relative_check = has_number relative_number before oid_constraints
 

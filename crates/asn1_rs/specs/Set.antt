@@ -24,6 +24,7 @@ use Rattle.asn1_rs.specs.Lists.{ListBody, ListOf, ListCheck}
 abbrev pub Members : Type 0 → Type 0
 Members V = ValueSet V ⊎ List V
 
+-- the set of values that a list in hand stands for
 abbrev pub set_of : {V : Type 0} → List V → Members V
 set_of vs = inl (value_set vs)
 
@@ -32,10 +33,12 @@ abbrev pub pairs_pass : {S : Type 0} → (S → S → Bool) → List S → Bool
 pairs_pass test [] = true
 pairs_pass test (x ∷ xs) = list_all (test x) xs && pairs_pass test xs
 
+-- the set of these values where they all differ, else the list of them
 abbrev pub members_if : {V : Type 0} → Bool → List V → Members V
 members_if true vs = set_of vs
 members_if false vs = inr vs
 
+-- what the members in hand are: a set where no two are equal by the test
 abbrev pub members : {S V : Type 0} → (S → S → Bool) → (S → V) → List S → Members V
 members test value xs = members_if (pairs_pass test xs) (map value xs)
 
@@ -55,6 +58,7 @@ Seen {X} {V} f G o w = (v : V) × (f v ≡ w) × G o v
 abbrev pub SetBody : {V M : Type 0} → (List V → M) → (List ℕ → V → Type 0) → Parts → M → Type 0
 SetBody of G = Seen of (ListBody 17 G)
 
+-- the contents octets of a set: words of its items, in any order
 abbrev pub SetRow : {V M : Type 0} → (List V → M) → (List ℕ → V → Type 0) → Parts → M → Type 0
 SetRow of G = Seen of (ListOf 17 G)
 
@@ -102,6 +106,7 @@ HasItems items s = items_of s ≡ items
 
 -- once the borrow r ends, the items are those that r shows last
 module _ (T : RattleType) (s : MutBor (SetOf T.Denot)) where
+  -- the items of a set are lent, and what comes back takes their place
   abbrev pub lends_set_items : MutBor (List T.Denot) → Fml
   lends_set_items r = Lends (the_row T) (Array T 0) s r (λ ws. record { items = with_items s.now.items ws })
 

@@ -35,6 +35,7 @@ held_text x = x.text
 abbrev pub text_of : {K : Type 0} → RestrictedString K → List ℕ
 text_of x = cow_str_bytes x.text
 
+-- Strings of a type with this tag number and these texts.
 abbrev pub string_leaf : {K : Type 0} → ℕ → (List ℕ → Type 0) → Leaf (RestrictedString K)
 string_leaf number IsText = text_leaf number IsText text_of
 

@@ -48,6 +48,7 @@ abbrev pub ThenByDer : {T E : Type 0} → (Error → E → Type 0) → OfElement
     Result (List ℕ × T) (Refusal E) → Type 0
 ThenByDer = ThenGives IsDerElement DerElementFault der_refusal
 
+-- What reading an element by BER, and then what it holds, may answer.
 abbrev pub ThenByBer : {T E : Type 0} → (Error → E → Type 0) → OfElement (Result (List ℕ × T) (Refusal E)) → List ℕ →
     Result (List ℕ × T) (Refusal E) → Type 0
 ThenByBer = ThenGives (IsElement max_depth) (ElementFault max_depth) ber_refusal

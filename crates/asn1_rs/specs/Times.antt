@@ -85,6 +85,7 @@ time_leaf number value Says IsStrict constraints octets = record {
 abbrev pub utc_time_number : ℕ
 utc_time_number = 23
 
+-- UTCTimes as elements.
 abbrev pub utc_time_leaf : Leaf UtcTime
 utc_time_leaf = time_leaf utc_time_number (λ t. moment_of t.0) SaysUtcTime IsStrictUtcTime nothing utc_time_text
 
@@ -98,6 +99,7 @@ abbrev pub generalized_time_constraints : CheckGives
 generalized_time_constraints = content_check EndsInZ (DerConstraintFailed MissingTimeZone) before
     check (λ p. ¬ HasComma p.content) (λ p. HasComma p.content) (λ p. DerConstraintFailed MissingSeconds)
 
+-- GeneralizedTimes as elements.
 abbrev pub generalized_time_leaf : Leaf GeneralizedTime
 generalized_time_leaf = time_leaf generalized_time_number
     (λ t. moment_of t.0) SaysGeneralizedTime IsStrictGeneralizedTime generalized_time_constraints generalized_time_text
@@ -107,9 +109,11 @@ abbrev pub TextGives : {S : Type 0} → ℕ → (S → Moment) → (List ℕ →
 TextGives number value Says text (Ok x) = Says text (value x)
 TextGives number value Says text (Err e) = ((m : Moment) → ¬ Says text m) × IsNoTime number e
 
+-- What reading the text of a UTCTime may answer.
 abbrev pub UtcTextGives : List ℕ → Result UtcTime Error → Type 0
 UtcTextGives = TextGives utc_time_number (λ t. moment_of t.0) SaysUtcTime
 
+-- What reading the text of a GeneralizedTime may answer.
 abbrev pub GeneralizedTextGives : List ℕ → Result GeneralizedTime Error → Type 0
 GeneralizedTextGives = TextGives generalized_time_number (λ t. moment_of t.0) SaysGeneralizedTime
 
@@ -120,6 +124,7 @@ RefusesText number octets e =
 
 -- ---- which are written
 
+-- the refusal of a time that has no place in its text
 abbrev pub IsInvalidDateTime : Error → Type 0
 IsInvalidDateTime e = e ≡ InvalidDateTime
 
@@ -140,9 +145,11 @@ fits_text greatest_year m = nat_le m.year greatest_year &&
     (nat_le m.month 99 && (nat_le m.day 99 && (nat_le m.hour 99 && (nat_le m.minute 99 && (nat_le m.second 99 &&
     (has_three_digits m.millisecond && has_place m.zone))))))
 
+-- whether writing a UTCTime is refused for its fields
 abbrev pub utc_time_refused : Moment → Bool
 utc_time_refused m = not (fits_text 99 m)
 
+-- whether writing a GeneralizedTime is refused for its fields
 abbrev pub generalized_time_refused : Moment → Bool
 generalized_time_refused m = not (fits_text 9999 m)
 

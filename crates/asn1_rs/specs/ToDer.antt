@@ -21,6 +21,7 @@ Either one other e = one e ⊎ other e
 abbrev pub Refuses : Bool → ℕ → (SerializeError → Type 0) → SerializeError → Type 0
 Refuses allocates n own e = MayRefuse allocates n e ⊎ own e
 
+-- Why counting a value may be refused: its length, want of memory, or what is the value's own.
 abbrev pub RefusesCount : Bool → ℕ → (Error → Type 0) → Error → Type 0
 RefusesCount allocates n own e = MayRefuseCount allocates n e ⊎ own e
 
@@ -55,9 +56,11 @@ pub record Writing (S : Type 0) : Type 1 where
 abbrev pub whole_octets : {S : Type 0} → Writing S → S → List ℕ
 whole_octets w x = w.header x ++ w.content x
 
+-- why the header or the contents octets are refused
 abbrev pub whole_refuses : {S : Type 0} → Writing S → S → SerializeError → Type 0
 whole_refuses w x = Either (w.header_refuses x) (w.content_refuses x)
 
+-- whether writing the whole asks for memory
 abbrev pub whole_allocates : {S : Type 0} → Writing S → Bool
 whole_allocates w = w.write_allocates || (w.count_allocates || w.content_allocates)
 
@@ -114,6 +117,7 @@ held_writing held w = record {
   write_allocates = w.write_allocates;
 }
 
+-- Two counts are added, or their sum passes what a length may be.
 abbrev pub SumsCounts : ℕ → ℕ → Result ℕ Error → Type 0
 SumsCounts a b r = MatchResult r (λ n. n ≡ a + b) (λ e. (e ≡ errors.InvalidLength) × (2 ^ 64 ≤ a + b))
 
@@ -133,6 +137,7 @@ IsRefusedAtOnce allocates n own old new answer =
 abbrev pub IntoVector : (SerializeError → Type 0) → SerializeError → Type 0
 IntoVector own f = (e : SerializeError) × own e × WithoutIo e f
 
+-- Why writing into a vector may be refused: its length, want of memory, or what is the value's own.
 abbrev pub VectorRefuses : ℕ → (SerializeError → Type 0) → SerializeError → Type 0
 VectorRefuses n own f = MayRefuse true n f ⊎ ((e : SerializeError) × own e × WithoutIo e f)
 

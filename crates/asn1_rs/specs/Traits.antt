@@ -29,6 +29,7 @@ ElementGives {T} {E} ElementOf FaultOf refusal check convert from input (Err r) 
     (((e : Error) × check (parts_of any) (Err e) × ((f : E) × from e f × (r ≡ refused f))) ⊎
     (check (parts_of any) (Ok tt) × ((e : E) × convert any (Err e) × (r ≡ refused e)))))
 
+-- What reading by DER may answer, for a type with this check and this conversion.
 abbrev pub DerGives : {T E : Type 0} → (Parts → Result (Unit {0}) Error → Type 0) → (Any → Result T E → Type 0) →
     (Error → E → Type 0) → List ℕ → Result (List ℕ × T) (Refusal E) → Type 0
 DerGives check convert from = ElementGives IsDerElement DerElementFault der_refusal check convert from
@@ -37,6 +38,7 @@ DerGives check convert from = ElementGives IsDerElement DerElementFault der_refu
 abbrev pub PassesAll : Parts → Result (Unit {0}) Error → Type 0
 PassesAll p answer = answer ≡ Ok tt
 
+-- What reading by BER may answer, for a type with this conversion.
 abbrev pub BerGives : {T E : Type 0} → (Any → Result T E → Type 0) → (Error → E → Type 0) → List ℕ →
     Result (List ℕ × T) (Refusal E) → Type 0
 BerGives convert from = ElementGives (IsElement max_depth) (ElementFault max_depth) ber_refusal PassesAll convert from

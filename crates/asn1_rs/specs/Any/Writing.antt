@@ -6,6 +6,7 @@ use Rattle.asn1_rs.specs.declared.asn1_types.any.Any.{Any}
 use Rattle.asn1_rs.specs.ToDer.{Writing, plain_writing}
 use Rattle.asn1_headers.specs.Header.{is_constructed_of}
 
+-- the contents octets of an element in hand
 abbrev pub content_of : Any → List ℕ
 content_of a = a.content.now
 

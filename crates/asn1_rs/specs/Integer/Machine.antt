@@ -21,6 +21,7 @@ abbrev pub unsigned_machine : ℕ → Machine ℕ
 unsigned_machine size =
     record { number = pos; octets = unsigned_octets; Holds = IsUnsigned size; refuses = UnsignedRefuses size }
 
+-- machine integers with a sign, of so many octets
 abbrev pub signed_machine : ℕ → Machine ℤ
 signed_machine size =
     record { number = λ n. n; octets = signed_octets; Holds = IsSigned size; refuses = SignedRefuses size }

@@ -21,6 +21,7 @@ use Rattle.asn1_rs.specs.ToDer.{whole_octets, whole_refuses, whole_allocates}
 abbrev pub universal_header : ℕ → List ℕ → List ℕ
 universal_header number content = header_octets 0 (is_container_number number) number (length content)
 
+-- the strict identifier of the universal class with this number, constructed for sequences and sets alone
 abbrev pub universal_identifier : ℕ → Identifier
 universal_identifier number = universal (is_container_number number) number
 
@@ -40,6 +41,7 @@ abbrev pub OwnRefusal : Bool → (Error → Type 0) → Error → Type 0
 OwnRefusal false own e = ⊥
 OwnRefusal true own e = own e
 
+-- a refusal of the value's own, where its kind has such
 abbrev pub OwnWritten : Bool → (Error → Type 0) → SerializeError → Type 0
 OwnWritten false own e = ⊥
 OwnWritten true own e = WrittenRefusal own e

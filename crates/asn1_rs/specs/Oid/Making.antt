@@ -71,6 +71,7 @@ parts_between_points text = slice_split (λ b. b == 46) text
 abbrev pub SaysArc : List ℕ → Type 0
 SaysArc part = IsNumeral 10 (without_leading_plus part) × (digits_value 10 (without_leading_plus part) < 2 ^ 64)
 
+-- the number that one part of the text says
 abbrev pub arc_said : List ℕ → ℕ
 arc_said part = digits_value 10 (without_leading_plus part)
 
@@ -78,6 +79,7 @@ arc_said part = digits_value 10 (without_leading_plus part)
 abbrev pub SaysArcs : List ℕ → Type 0
 SaysArcs text = All SaysArc (parts_between_points text)
 
+-- the numbers that the parts of the text say
 abbrev pub arcs_said : List ℕ → List ℕ
 arcs_said text = map arc_said (parts_between_points text)
 

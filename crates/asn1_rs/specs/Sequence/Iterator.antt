@@ -85,6 +85,7 @@ IsMemory takes from e = IsTrue takes × from errors.OutOfMemory e
 abbrev pub TellsNothing : {E : Type 0} → List ℕ → E → Type 0
 TellsNothing octets e = ⊥
 
+-- the library's refusal itself, where a reader makes no other of it
 abbrev pub IsSame : Error → Error → Type 0
 IsSame e f = f ≡ e
 

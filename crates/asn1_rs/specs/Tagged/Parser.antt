@@ -14,9 +14,11 @@ use Rattle.asn1_rs.specs.Any.{parts_of}
 use Rattle.asn1_headers.specs.Header.{class_of, is_constructed_of, tag_of, length_of, raw_tag_of, HasParts}
 use Rattle.asn1_rs.specs.Tagged.{OfElement}
 
+-- the header that the value was read under
 abbrev pub header_of : {K T E : Type 0} → TaggedParser K T E → Header
 header_of t = t.header
 
+-- the value under the header
 abbrev pub inner_of : {K T E : Type 0} → TaggedParser K T E → T
 inner_of t = t.inner
 
