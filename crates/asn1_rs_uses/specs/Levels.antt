@@ -39,6 +39,7 @@ module _ {T E : Type 0} (own : Error → E) (converts : Any → Result T Error �
   refused_as_spares none any r (e, c, is) =
       inl (e, λ q. exact.spares none any (subst (λ (x : Error). converts any (Err x)) q c), is)
 
+-- the number that a level is
 abbrev pub level_number : Level → ℕ
 level_number x = x.0
 
@@ -50,6 +51,7 @@ level_element = holding level_number (integer_element pos (IsUnsigned 1))
 abbrev pub LevelConverts : Any → Result Level Error → Type 0
 LevelConverts = HoldingGives level_number (OfParts (UnsignedGives 1))
 
+-- The conversion to a level is exact.
 pub level_converts : IsExactConversion LevelConverts level_element
 level_converts = holding_converts level_number _ _ (unsigned_converts 1)
 

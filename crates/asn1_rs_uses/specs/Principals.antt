@@ -28,12 +28,15 @@ UnderTag number G = DerWord NoCheck (ExplicitBody 2 number G)
 abbrev pub KindByDer : List ℕ → ℤ → Type 0
 KindByDer = UnderTag 0 (DerWord IntegerCheck (IntegerBody (IsSigned 4)))
 
+-- an octet string, by DER
 abbrev pub StringByDer : List ℕ → List ℕ → Type 0
 StringByDer = LeafByDer octet_string_leaf
 
+-- a sequence of octet strings under the explicit tag 1, by DER
 abbrev pub NamesByDer : List ℕ → List (List ℕ) → Type 0
 NamesByDer = UnderTag 1 (DerWord NoCheck (ListOf 16 StringByDer))
 
+-- an octet string under the explicit tag 2, by DER
 abbrev pub RealmByDer : List ℕ → List ℕ → Type 0
 RealmByDer = UnderTag 2 StringByDer
 
@@ -96,6 +99,7 @@ under_tag number octets = header_octets 2 true number (length octets) ++ octets
 abbrev pub integer_element : ℤ → List ℕ
 integer_element n = header_octets 0 false 2 (length (signed_octets n)) ++ signed_octets n
 
+-- the strict encoding of an octet string
 abbrev pub string_element : OctetString → List ℕ
 string_element s = header_octets 0 false 4 (length (octets_of s)) ++ octets_of s
 
