@@ -16,6 +16,7 @@ abbrev pub name_of_needed : Needed → List ℕ
 name_of_needed Unknown = codes "Unknown"
 name_of_needed (Size n) = decimal n
 
+-- the name of a constraint of DER
 abbrev pub name_of_constraint : DerConstraint → List ℕ
 name_of_constraint constraints.IndefiniteLength = codes "IndefiniteLength"
 name_of_constraint constraints.Constructed = codes "Constructed"
@@ -52,6 +53,7 @@ word_of_error errors.Unsupported = codes "Unsupported"
 word_of_error (errors.Incomplete needed) = codes "Error.Incomplete"
 word_of_error errors.OutOfMemory = codes "OutOfMemory"
 
+-- a word, and a part of it in brackets
 abbrev pub in_brackets : List ℕ → List ℕ → List ℕ
 in_brackets word part = word ++ (codes "(" ++ (part ++ codes ")"))
 

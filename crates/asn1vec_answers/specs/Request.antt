@@ -41,5 +41,6 @@ IsOtherForm line = (rule : Rule) (name octets : List ℕ) → ¬ IsRequest line 
 abbrev pub BeginsWithRule : List ℕ → Rule → List ℕ → Type 0
 BeginsWithRule line rule rest = line ≡ word_of rule ++ (codes " " ++ rest)
 
+-- the line begins with no rule
 abbrev pub IsOtherRule : List ℕ → Type 0
 IsOtherRule line = (rule : Rule) (rest : List ℕ) → ¬ BeginsWithRule line rule rest

@@ -97,6 +97,7 @@ abbrev pub written_text : Result (List ℕ) SerializeError → List ℕ
 written_text (Ok octets) = in_hexadecimal octets
 written_text (Err e) = codes "err " ++ name_of_write_refusal e
 
+-- how the answer tells the encoding, where it tells one
 abbrev pub encoding_text : Encoding → List ℕ
 encoding_text None = []
 encoding_text (Some written) = codes " enc " ++ written_text written

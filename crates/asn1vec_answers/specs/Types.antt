@@ -82,6 +82,7 @@ use Rattle.asn1vec_answers.specs.Shown.{Encoding, IsReadAnswer, IsWritten, IsWri
 use Rattle.asn1vec_answers.specs.Shown.{StrictEncoding, StrictEncodingIfAny, bits_text, element_text, identifier_text}
 use Rattle.asn1vec_answers.specs.Shown.{in_hexadecimal, in_order, list_text, pdv_text, truth_text}
 
+-- the name of a type as a line has it
 abbrev pub name_of : TypeName → List ℕ
 name_of U8 = codes "u8"
 name_of U16 = codes "u16"
@@ -311,9 +312,11 @@ sequence {W} I items holds = record {
   text_of = λ s. list_text I.text_of (items s);
 }
 
+-- vectors of items
 abbrev pub vector : Item → Item
 vector I = sequence {W = Vec I.T Global} I (λ v. v.items) IsMadeOf
 
+-- `SequenceOf` of items
 abbrev pub sequence_of : Item → Item
 sequence_of I = sequence {W = SequenceOf I.T} I sequence_items IsSequenceOf
 
@@ -366,6 +369,7 @@ abbrev pub implicit_vector_takes : (number : ℕ) (I : Item) → AnyElement →
 implicit_vector_takes number I =
     ImplicitTakes 2 number (λ t. t.inner) (record { 0 = 16 }) (OfParts (ListTakes 16 IsMadeOf I.ber_gives Same)) Same
 
+-- vectors of items under an implicit tag
 abbrev pub implicit_vector : ℕ → Item → Item
 implicit_vector number I = record {
   T = TaggedValue (Vec I.T Global) Error Implicit 2 number;
@@ -392,6 +396,7 @@ alone allocates I = record {
 abbrev pub collection : Item → Meaning
 collection = alone true
 
+-- what the name of a type stands for
 abbrev pub meaning_of : TypeName → Meaning
 meaning_of U8 = unsigned 1
 meaning_of U16 = unsigned 2
