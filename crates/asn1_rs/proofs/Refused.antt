@@ -10,7 +10,7 @@ use Rattle.asn1_rs.specs.ToDer.{MayRefuseCount, Refuses, RefusesCount, IsRefused
 use Rattle.asn1_rs.specs.Kinds.Writing.{CountRefused, PutRefused, OwnRefusal, OwnWritten}
 
 module _ (own : Error → Type 0) where
-  -- ---- counts
+  -- Counts.
   pub count_refuses : (b : Bool) (n : ℕ) (r : Result ℕ Error) → CountRefused b own n r →
       IfErr r (RefusesCount false n (OwnRefusal b own))
   count_refuses false n (Ok k) h = tt
@@ -33,7 +33,7 @@ module _ (own : Error → Type 0) where
       of (Ok k) p at = absurd (let q = p in cc)
       of (Err e) p at = let q = p in cc
 
-  -- ---- writing
+  -- Writing.
   -- a header, or a whole, whose contents octets were counted
   pub counted_put : (b : Bool) (m n : ℕ) (old new : WriterState) (counted : Result ℕ Error)
       (r : Result ℕ SerializeError) → CountRefused b own m counted →

@@ -22,7 +22,7 @@ use Rattle.asn1_rs.specs.Strings.{text_of}
 use Rattle.asn1_rs.specs.Tagged.{has_class}
 use Rattle.std.specs.Cow.{IsBorrowedSlice}
 
--- ---- values
+-- Values.
 
 -- how the syntaxes of a data value are identified: by identifiers, by the contents octets of the integer that numbers a
 -- context, by both, or by nothing, where they are known
@@ -86,7 +86,7 @@ BorrowsParts (parts.ContextNegotiation c s) = BorrowsOctets c × IsBorrowedSlice
 BorrowsParts (parts.TransferSyntax s) = IsBorrowedSlice (oid_cow s)
 BorrowsParts parts.Fixed = Unit {0}
 
--- ---- what contents octets say, and why they are refused
+-- What contents octets say, and why they are refused.
 
 -- an element by BER begins the octets, and the rest follows
 abbrev pub BeginsWithParts : List ℕ → Parts → List ℕ → Type 0

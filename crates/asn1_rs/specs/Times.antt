@@ -122,7 +122,7 @@ abbrev pub RefusesText : ℕ → List ℕ → Error → Type 0
 RefusesText number octets e =
     ((¬ AllIn is_visible octets) × (e ≡ StringInvalidCharset)) ⊎ (AllIn is_visible octets × IsNoTime number e)
 
--- ---- which are written
+-- Times that are written.
 
 -- the refusal of a time that has no place in its text
 abbrev pub IsInvalidDateTime : Error → Type 0
@@ -153,7 +153,7 @@ utc_time_refused m = not (fits_text 99 m)
 abbrev pub generalized_time_refused : Moment → Bool
 generalized_time_refused m = not (fits_text 9999 m)
 
--- ---- their order
+-- The order of times.
 
 -- none defined is before Z, and Z before an offset; offsets go by their hours, and then by their minutes
 abbrev pub zone_cmp : TimeZone → TimeZone → Ordering

@@ -31,6 +31,8 @@ use Rattle.asn1_rs.specs.Traits.{BerGives, DerGives}
 use Rattle.asn1_rs.specs.Laws.Readers.{AreElements, speaks_itself, speaks_now}
 use Rattle.asn1_headers.specs.Content.{ContentStays}
 
+-- Readers of elements.
+
 -- as the fault that it tells of
 pub tells_beginning : (refuses : Breach → Error) (fault : Fault) (r : Refusal Error) (ends_within : Type 0)
     (more : List ℕ) → r ≡ refusal_of refuses fault → IsLackingOrCut ends_within fault more →
@@ -40,14 +42,17 @@ tells_beginning at fault r ends_within more e (inr c) = inr (e ∙ ap (refusal_o
 
 module _ (ElementOf : List ℕ → Parts → Type 0) (FaultOf : List ℕ → Fault → Type 0) (IsCut : List ℕ → Type 0)
     (elements : AreElements ElementOf FaultOf IsCut) (refuses : Breach → Error) where
+  -- what such a reader may answer
   abbrev Gives : List ℕ → Result (List ℕ × Any) (Refusal Error) → Type 0
   Gives = AnyGives ElementOf FaultOf (refusal_of refuses)
 
+  -- What a refusal says of more octets holds of them.
   pub refusal_lasts : (input : List ℕ) (r : Refusal Error) → Gives input (Err r) → RefusalLasts ElementOf IsCut input r
   refusal_lasts input r g = λ more word rest p s a e.
       elements.final input more word rest p g.0 g.1
       (speaks_itself refuses g.0 r (IsCut input) more (elements.counts input g.0 g.1) g.2 s) a e
 
+  -- An element that was read is read with more octets behind it, too.
   pub element_lasts : (input : List ℕ) (x : List ℕ × Any) → Gives input (Ok x) → ElementLasts ElementOf input x.0 x.1
   element_lasts input x g = λ more word tail p a e.
       let f = g.front in
@@ -59,11 +64,13 @@ module _ (ElementOf : List ℕ → Parts → Type 0) (FaultOf : List ℕ → Fau
         sym (append_cancel_left word (x.0 ++ more) tail (ap (λ (ys : List ℕ). ys ++ (x.0 ++ more)) (sym same.0) ∙ s)),
       )
 
+  -- Octets that more of them make begin with an element are refused as its beginning.
   pub beginning_refused : (input more word rest : List ℕ) (p : Parts) (r : Refusal Error) → Gives input (Err r) →
       ElementOf word p → input ++ more ≡ word ++ rest → TellsBeginning (IsCut input) r more
   beginning_refused input more word rest p r g a e =
       tells_beginning refuses g.0 r (IsCut input) more g.2 (elements.beginning input more word rest p g.0 g.1 a e)
 
+  -- Octets that end within identifier octets are refused with `InvalidTag`.
   pub within_refused : (input : List ℕ) (answer : Result (List ℕ × Any) (Refusal Error)) → IsCut input →
       Gives input answer → answer ≡ Err (refused InvalidTag)
   within_refused input (Ok x) c g = absurd (elements.final input [] g.front.word x.0 (parts_of x.1) tag_fault
@@ -80,6 +87,8 @@ module _ (ElementOf : List ℕ → Parts → Type 0) (FaultOf : List ℕ → Fau
       Gives input (Err r) → ⊥
   element_or_refusal input x r f g = refusal_lasts input r g [] f.front.word x.0 (parts_of x.1)
       (speaks_now (IsCut input) r) f.front.fits (append-nil input ∙ f.front.is)
+
+-- Readers of contents octets.
 
 -- contents octets by BER have one refusal
 pub one_content_refusal : (constructed : Bool) (form : LengthForm) (depth : ℕ) (input : List ℕ) (q r : Refusal Error) →
@@ -117,12 +126,14 @@ content_stays form depth input more x f (Err r) g =
     content_or_fault form depth (input ++ more) x.1.now (x.0.now ++ more) f.0 g.0
     (content_extends form depth input x.1.now x.0.now more f.0 f.1) g.1
 
+-- Contents octets of a definite length are read alike whatever the constructed bit.
 either_bit : (n depth : ℕ) (input : List ℕ) (answer : Result (Bor (List ℕ) × Bor (List ℕ)) (Refusal Error)) →
     BerContentGives false (definite n) (suc depth) input answer →
     BerContentGives true (definite n) (suc depth) input answer
 either_bit n depth input (Ok x) g = g
 either_bit n depth input (Err r) g = g
 
+-- Contents octets that were read stay what they are with more octets behind them.
 pub content_lasts : (constructed : Bool) (form : LengthForm) (depth : ℕ) (input more : List ℕ)
     (x : Bor (List ℕ) × Bor (List ℕ)) (answer : Result (Bor (List ℕ) × Bor (List ℕ)) (Refusal Error)) →
     BerContentGives constructed form depth input (Ok x) →
@@ -134,12 +145,15 @@ content_lasts false (definite n) (suc depth) input more x answer f g =
     content_stays (definite n) depth input more x f answer (either_bit n depth (input ++ more) answer g)
 content_lasts true form (suc depth) input more x answer f g = content_stays form depth input more x f answer g
 
+-- Identifier octets that are kept.
+
 -- a header that keeps the identifier octets at the front of the input keeps these, since one string of them begins it
 raw_tag_kept : (input identifier more : List ℕ) (id : Identifier) (h : Header) → IsIdentifier identifier id →
     input ≡ identifier ++ more → KeepsIdentifier input h → raw_tag_of h ≡ Some identifier
 raw_tag_kept input identifier more id h i e (octets, rest, j, f, kept) =
     kept ∙ ap Some (identifier_unique octets identifier rest more (identifier_of h) id j i (sym f ∙ e)).0
 
+-- An element that was read keeps the identifier octets at the front of the input.
 pub raw_tag_told : (ElementOf : List ℕ → Parts → Type 0) (FaultOf : List ℕ → Fault → Type 0)
     (refusal : Fault → Refusal Error) (input identifier more : List ℕ) (id : Identifier)
     (answer : Result (List ℕ × Any) (Refusal Error)) →
@@ -148,6 +162,8 @@ pub raw_tag_told : (ElementOf : List ℕ → Parts → Type 0) (FaultOf : List �
 raw_tag_told ElementOf FaultOf refusal input identifier more id (Ok x) i e g =
     raw_tag_kept input identifier more id x.1.header i e g.kept
 raw_tag_told ElementOf FaultOf refusal input identifier more id (Err r) i e g = tt
+
+-- The blanket readers at an element.
 
 -- errors that stay as they are keep the refusal
 same_refusal : (q r : Refusal Error) → Converted (λ (e f : Error). f ≡ e) q r → r ≡ q
@@ -177,6 +193,7 @@ der_any input (Err r) (inr (any, rest, begins, inl (e, check, from))) =
     absurd (not_indefinite begins.front.word (parts_of any) begins.front.fits check.0)
 der_any input (Err r) (inr (any, rest, begins, inr (check, (e, convert, is)))) = absurd convert
 
+-- So it is by BER.
 pub ber_any : (input : List ℕ) (answer : Result (List ℕ × Any) (Refusal Error)) →
     BerGives IsTheElement (λ e f. f ≡ e) input answer → BerElementGives input answer
 ber_any input (Ok x) (any, begins, check, same) = same_begins (IsElement max_depth) input x.0 any x.1 same begins

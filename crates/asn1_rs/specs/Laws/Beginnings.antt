@@ -34,6 +34,7 @@ moved : (input more front left word rest : List ℕ) → input ≡ front ++ left
 moved input more front left word rest e h =
     sym (append_assoc front left more) ∙ ap (λ (ys : List ℕ). ys ++ more) (sym e) ∙ h
 
+-- No word begins octets that are shorter than a word that more of them make.
 pub no_front_of_beginning : {V : Type 0} (G : List ℕ → V → Type 0) → IsOneFront G →
     (input more word rest left : List ℕ) (v w : V) → Front G input v left → G word w → input ++ more ≡ word ++ rest →
     length input < length word → ⊥
@@ -42,6 +43,7 @@ no_front_of_beginning G one input more word rest left v w f g e l =
     one.one f.word word (left ++ more) rest v w f.fits g (moved input more f.word left word rest f.is e) in
     no_longer input more f.word left word rest f.is same.0 l
 
+-- Octets shorter than an element that more of them make are refused as its beginning.
 pub beginning_is_refused : (ElementOf : List ℕ → Parts → Type 0) (FaultOf : List ℕ → Fault → Type 0)
     (IsCut : List ℕ → Type 0) → AreElements ElementOf FaultOf IsCut → (refuses : Breach → Error) →
     (input more word rest : List ℕ) (p : Parts) (answer : Result (List ℕ × Any) (Refusal Error)) →
@@ -52,6 +54,7 @@ beginning_is_refused ElementOf FaultOf IsCut elements at input more word rest p 
 beginning_is_refused ElementOf FaultOf IsCut elements at input more word rest p (Err r) g a e l =
     beginning_refused ElementOf FaultOf IsCut elements at input more word rest p r g a e
 
+-- Octets shorter than a header that more of them make are refused as its beginning.
 pub header_beginning_is_refused : (rule : Rule) (refuses : Breach → Error) (input more front rest : List ℕ)
     (id : Identifier) (form : LengthForm) (answer : Result (List ℕ × Header) (Refusal Error)) →
     HeaderGives rule (refusal_of refuses) input answer → IsHeader rule front id form → input ++ more ≡ front ++ rest →

@@ -18,7 +18,7 @@ use Rattle.asn1_rs.specs.BitString.{Bits, bit_of, bits_of, bits_in, data_of, Has
 use Rattle.asn1_rs.specs.BitString.{bit_string_constraints, bit_string_leaf}
 use Rattle.asn1_rs.specs.Laws.Checks.{before_is, has_content_is, is_primitive_is, content_check_is}
 
--- ---- the unused bits
+-- The unused bits.
 
 -- the bits below the lowest one that is set
 low_bit : (octet j : ℕ) → octet < 256 → j < trailing_zeros w8 octet → bit_at octet j ≡ 0
@@ -45,6 +45,7 @@ last_bit octets j some h =
 
 module _ (unused : ℕ) (octets : List ℕ) (some : 0 < length octets) (few : unused ≤ 7)
     (small : last_octet octets < 256) where
+  -- Where the last octet ends with as many zeros, an unused bit is zero.
   bit_is_zero : unused ≤ trailing_zeros w8 (last_octet octets) → (i : ℕ) → 8 * length octets ≤ i + unused →
       (i < 8 * length octets) ⊎ (8 * length octets ≤ i) → bit_of octets i ≡ 0
   bit_is_zero zeros i s (inl h) =
@@ -56,6 +57,7 @@ module _ (unused : ℕ) (octets : List ℕ) (some : 0 < length octets) (few : un
       ap (λ (octet : ℕ). bit_at octet (7 - i % 8)) (get_or_past octets (i / 8) 0 (omega arith))
       ∙ bit_at-zero (7 - i % 8)
 
+  -- Where the unused bits are zero, the last octet ends with as many zeros.
   ends_with_zeros : HasZeroUnused (record { unused = unused; octets = octets }) →
       (trailing_zeros w8 (last_octet octets) < unused) ⊎ (unused ≤ trailing_zeros w8 (last_octet octets)) →
       unused ≤ trailing_zeros w8 (last_octet octets)
@@ -75,18 +77,20 @@ module _ (unused : ℕ) (octets : List ℕ) (some : 0 < length octets) (few : un
     λ zeros i s. bit_is_zero zeros i s (cases_lt i (8 * length octets)),
   )
 
--- ---- the laws
+-- The laws.
 
 -- a count of unused bits and then octets
 counted_octets : (n : ℕ) (c : List ℕ) → n < 256 → IsOctets c → IsOctets (n ∷ c)
 counted_octets n c h o zero = h
 counted_octets n c h o (suc k) = o k
 
+-- The constraints of a bit string are a check.
 constraints_are : IsCheck bit_string_constraints
 constraints_are = before_is is_primitive _ is_primitive_is
     (before_is has_content _ has_content_is
     (before_is _ _ (content_check_is _ _ (λ e. cc)) (content_check_is _ _ (λ e. cc))))
 
+-- Bit strings are lawful.
 pub bit_string_lawful : IsLawfulLeaf bit_string_leaf
 bit_string_lawful = record {
   small = lit< tt;

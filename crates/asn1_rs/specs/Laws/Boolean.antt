@@ -17,6 +17,9 @@ use Rattle.asn1_rs.specs.Grammar.Item.{IsLawfulWriting}
 use Rattle.asn1_rs.specs.Kinds.{item_grammar}
 use Rattle.asn1_rs.specs.Laws.Forms.{universal_lawful_writing}
 
+-- The constraints.
+
+-- A number below 256 is an octet.
 one_octet : (n : ℕ) → n < 256 → IsOctets (n ∷ [])
 one_octet n h = below_octets (n ∷ []) (h, tt)
 
@@ -25,14 +28,18 @@ truth_apart : (octet : ℕ) → IsStrictTruth octet → IsOtherTruth octet → �
 truth_apart octet (inl a) b = b.0 a
 truth_apart octet (inr a) b = b.1 a
 
+-- The constraints of a truth value are a check.
 truth_constraints_are : IsCheck truth_constraints
 truth_constraints_are = before_is has_content _ has_content_is (check_is _ _ _ (λ p. truth_apart _) (λ p e. cc))
+
+-- The laws.
 
 -- the strict octet of what a strict octet says is that octet
 pub strict_truth : (octet : ℕ) → IsStrictTruth octet → truth_octet (says_true octet) ≡ octet
 strict_truth octet (inl a) = rw a refl
 strict_truth octet (inr a) = rw a refl
 
+-- `Boolean` is lawful.
 pub boolean_lawful : IsLawfulLeaf boolean_leaf
 boolean_lawful = record {
   small = lit< tt;
@@ -52,6 +59,7 @@ boolean_lawful = record {
     small v (inl e) = omega (arith, e)
     small v (inr e) = omega (arith, e)
 
+-- `bool` is lawful.
 pub bool_lawful : IsLawfulLeaf bool_leaf
 bool_lawful = record {
   small = lit< tt;
@@ -81,12 +89,17 @@ bool_lawful = record {
     strict true = inr refl
     strict false = inl refl
 
+-- Equality.
+
 -- truth values are equal where they are the same
 pub bool_equal : (x y : Bool) → IsTrue (beq x y) ↔ (x ≡ y)
 bool_equal x y = booleans_Decides x y
 
+-- Two of `Boolean` are equal exactly where their octets are.
 pub boolean_equal : (x y : Boolean) → IsTrue (nat_eq x.value y.value) ↔ (x.value ≡ y.value)
 boolean_equal x y = (λ h. eqb-true x.value y.value h, λ e. eq-eqb x.value y.value e)
+
+-- Writing.
 
 -- a truth value with its octet is written as one contents octet
 pub boolean_lawful_writing : IsLawfulWriting (item_grammar (leaf_element boolean_leaf)) truth_writing

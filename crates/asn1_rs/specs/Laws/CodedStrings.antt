@@ -12,6 +12,7 @@ use Rattle.asn1_rs.specs.CodedStrings.{IsCoded, coded_leaf, coded_string_leaf, t
 use Rattle.asn1_rs.specs.Laws.Checks.{content_check_is, is_primitive_is}
 use Rattle.asn1_rs.specs.Leaf.{IsLawfulLeaf}
 
+-- A leaf whose text stands in a code is lawful.
 pub coded_lawful : {S : Type 0} (number : ℕ) (code : List ℕ → List ℕ) (text : S → List ℕ) → number < 31 →
     is_container_number number ≡ false → IsCode code → IsLawfulLeaf (coded_leaf number code text)
 coded_lawful number code text small primitive is = record {
@@ -27,6 +28,7 @@ coded_lawful number code text small primitive is = record {
   der_constraints = λ k v d. primitive;
 }
 
+-- Strings whose characters stand in a code are lawful.
 pub coded_string_lawful : {K : Type 0} (number : ℕ) (octets_of : ℕ → List ℕ) → number < 31 →
     is_container_number number ≡ false → IsCharacterCode octets_of →
     IsLawfulLeaf (coded_string_leaf {K = K} number octets_of)

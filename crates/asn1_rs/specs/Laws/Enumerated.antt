@@ -10,6 +10,7 @@ use Rattle.asn1_rs.specs.Leaf.{IsLawfulLeaf}
 use Rattle.asn1_rs.specs.Enumerated.{enumerated_leaf, IsWord, SaysWord}
 use Rattle.asn1_rs.specs.Laws.Checks.{before_is, is_primitive_is, is_counted_is, content_check_is}
 
+-- Enumerated values are lawful.
 pub enumerated_lawful : IsLawfulLeaf enumerated_leaf
 enumerated_lawful = record {
   small = lit< tt;

@@ -22,6 +22,9 @@ use Rattle.asn1_headers.specs.Length.{form_of}
 use Rattle.asn1_rs.specs.Laws.Readers.{speaks_itself}
 use Rattle.asn1_rs.specs.Laws.Any.{tells_beginning}
 
+-- Refusals of headers.
+
+-- What a refusal of a header says of more octets holds of them.
 pub header_refusal_lasts : (rule : Rule) (refuses : Breach → Error) (input : List ℕ)
     (answer : Result (Bor (List ℕ) × Header) (Refusal Error)) →
     HeaderGives rule (refusal_of refuses) input (seen answer) → IfErr answer (HeaderRefusalLasts rule input)
@@ -43,6 +46,9 @@ pub header_or_refusal : (rule : Rule) (refuses : Breach → Error) (input : List
 header_or_refusal rule at input x r f g =
     header_or_fault rule input f.octets x.0 (identifier_of x.1) (form_of x.1.length) g.0 g.1 f.header f.is
 
+-- More octets behind a header, and fewer of it.
+
+-- A header that was read is read with more octets behind it, too.
 pub header_lasts : (rule : Rule) (refuses : Breach → Error) (input : List ℕ) (x : List ℕ × Header) →
     HeaderGives rule (refusal_of refuses) input (Ok x) → HeaderLasts input x.0 x.1
 header_lasts rule at input x g = λ other more front tail id form h e.
@@ -59,6 +65,7 @@ pub header_beginning_refused : (rule : Rule) (refuses : Breach → Error) (input
 header_beginning_refused rule at input more front rest id form r g h e = tells_beginning at g.0 r
     (IsCutIdentifier input) more g.2 (header_beginning rule input more front rest id form g.0 g.1 h e)
 
+-- Octets that end within identifier octets are refused with `InvalidTag`.
 pub header_within_refused : (rule : Rule) (refuses : Breach → Error) (input : List ℕ)
     (answer : Result (List ℕ × Header) (Refusal Error)) → IsCutIdentifier input →
     HeaderGives rule (refusal_of refuses) input answer → answer ≡ Err (refused InvalidTag)

@@ -29,6 +29,8 @@ use Rattle.asn1_rs.specs.Integer.{integer_number, IntegerCheck, IntegerCheckRefu
 use Rattle.asn1_rs.specs.Integer.{IntegerBody, IntegerRefuses, IntegerGives, IntegerContent, IntegerForm}
 use Rattle.asn1_rs.specs.Integer.{integer_element}
 
+-- The constraints.
+
 -- the refusal of the check, where it refuses
 check_refusal : Bool → LengthForm → List ℕ → Error
 check_refusal true form content = ConstructUnexpected
@@ -37,6 +39,7 @@ check_refusal false (definite n) [] = DerConstraintFailed IntegerEmpty
 check_refusal false (definite n) (first ∷ others) =
     if nat_eq first 0 then DerConstraintFailed IntegerLeadingZeroes else DerConstraintFailed IntegerLeadingFF
 
+-- A leading octet of zeros that is spare is refused as such.
 spare_zeros_refused : (n : ℕ) (c : List ℕ) → HasSpareZeros c →
     check_refusal false (definite n) c ≡ DerConstraintFailed IntegerLeadingZeroes
 unfolding check_refusal
@@ -44,6 +47,7 @@ spare_zeros_refused n [] h = absurd h
 spare_zeros_refused n (x ∷ []) h = absurd h
 spare_zeros_refused n (x ∷ y ∷ c) h = rw h.0 refl
 
+-- A leading octet of ones that is spare is refused as such.
 spare_ones_refused : (n : ℕ) (c : List ℕ) → HasSpareOnes c →
     check_refusal false (definite n) c ≡ DerConstraintFailed IntegerLeadingFF
 unfolding check_refusal
@@ -51,6 +55,7 @@ spare_ones_refused n [] h = absurd h
 spare_ones_refused n (x ∷ []) h = absurd h
 spare_ones_refused n (x ∷ y ∷ c) h = rw h.0 refl
 
+-- Each refusal of the check is that one.
 check_refusal_is : (p : Parts) (e : Error) → IntegerCheckRefuses p e →
     check_refusal p.id.constructed p.form p.content ≡ e
 unfolding check_refusal
@@ -81,14 +86,18 @@ integer_check_exact p (Err e) h = λ k. refuses e h k
     refuses (DerConstraintFailed IntegerLeadingFF) h k = k.shortest.2 h.2
     refuses _ h k = h
 
+-- The constraints are exact, and do not allocate.
 pub integer_checks : IsExactCheck IntegerCheckGives IntegerCheck
 integer_checks = record { exact = integer_check_exact; spares = λ p h. h }
+
+-- The conversion.
 
 -- no element is both an integer and refused as none
 integer_or_refused : (p : Parts) (e : Error) → IsIntegerOr p (Err e) → IsIntegerOr p (Ok tt) → ⊥
 integer_or_refused p e (inl a) b = a.0 b.0
 integer_or_refused p e (inr a) b = let c = a.1 in let d = b.1 in cc
 
+-- An element that is refused as no integer has one refusal.
 one_header_refusal : (p : Parts) (e f : Error) → IsIntegerOr p (Err e) → IsIntegerOr p (Err f) → e ≡ f
 one_header_refusal p e f (inl a) (inl b) = a.1 ∙ sym b.1
 one_header_refusal p e f (inl a) (inr b) = absurd (a.0 b.0)
@@ -117,6 +126,7 @@ module _ (Holds : ℤ → Type 0) where
       refuses (inl a) v b = integer_or_refused p e a (b.number, b.primitive)
       refuses (inr a) v b = refused p.content e o a.1 (subst Holds b.value b.held)
 
+  -- It is exact, and does not allocate, where no contents octets are both held and refused.
   pub integer_converts : {T : Type 0} (number : T → ℤ) (content_refuses : List ℕ → Error → Type 0) →
       ((c : List ℕ) (e : Error) → IsOctets c → content_refuses c e → Holds (twos_complement_value c) → ⊥) →
       ((c : List ℕ) → content_refuses c OutOfMemory → ⊥) →
@@ -131,38 +141,49 @@ module _ (Holds : ℤ → Type 0) where
       spared p (inl (inr a)) = let e = a.2 in cc
       spared p (inr a) = spares p.content a.1
 
+  -- Strict parts.
+
+  -- An integer has one strict form.
   integer_one_form : IsOneForm (IntegerForm Holds)
   integer_one_form =
       universal_one false integer_number (IntegerContent Holds) (λ v c d f g. integer_content_unique v c d f.1 g.1)
 
+  -- Strict parts have one integer.
   integer_one_value : IsOneValue (IntegerForm Holds)
   integer_one_value =
       universal_value false integer_number (IntegerContent Holds) (λ v w c f g. integer_content_one_value v w c f.1 g.1)
 
+  -- They fit an element.
   integer_fits : FitsElement (IntegerForm Holds)
   integer_fits = universal_fits false integer_number (IntegerContent Holds) (omega arith) (λ v c f. f.1.octets)
 
+  -- Strict contents octets in a primitive element meet the constraints.
   made_checks : (v : ℤ) (i : Identifier) (c : List ℕ) → i.constructed ≡ false → IsIntegerContent v c →
       IntegerCheck (made i c)
   made_checks v i c e h = record { primitive = e; counted = (length c, refl); shortest = h.shortest }
 
+  -- In a primitive element of the tag number they have their integer.
   made_has_body : (v : ℤ) (i : Identifier) (c : List ℕ) → i.number ≡ integer_number → i.constructed ≡ false →
       IntegerContent Holds v c → IntegerBody Holds (made i c) v
   made_has_body v i c n e h = record { number = n; primitive = e; value = sym h.1.value; held = h.0 }
 
+  -- Strict parts meet the constraints.
   integer_form_check : FormChecks (IntegerForm Holds) IntegerCheck
   integer_form_check = λ v i c f. made_checks v i c (ap (λ (z : Identifier). z.constructed) f.0) f.1.1
 
+  -- Strict parts have their integer.
   integer_form_body : FormBodies (IntegerForm Holds) (IntegerBody Holds)
   integer_form_body = λ v i c f.
       made_has_body v i c (ap (λ (z : Identifier). z.number) f.0) (ap (λ (z : Identifier). z.constructed) f.0) f.1
 
+  -- Both are so under any class.
   integer_takes_class : (class : ℕ) → FormTakes (IntegerForm Holds) IntegerCheck (IntegerBody Holds) class
   integer_takes_class class = λ v i c f.
       let n : i.number ≡ integer_number = ap (λ (z : Identifier). z.number) f.0 in
       let e : i.constructed ≡ false = ap (λ (z : Identifier). z.constructed) f.0 in
       (made_checks v (of_class class i) c e f.1.1, made_has_body v (of_class class i) c n e f.1)
 
+  -- Integers that a type holds are lawful.
   pub integer_lawful : {S : Type 0} (number : S → ℤ) → IsLawfulElement (integer_element number Holds)
   integer_lawful number = record {
     body_values = λ p v o b. b.held;
@@ -176,13 +197,17 @@ module _ (Holds : ℤ → Type 0) where
     form_body = integer_form_body;
   }
 
+-- Writing.
+
 -- what is written follows from the number, and is its strict encoding
 module _ {T : Type 0} (number : T → ℤ) (octets : T → List ℕ)
     (strict : (x : T) → IsIntegerContent (number x) (octets x)) where
+  -- What is written for an integer is its strict contents octets.
   same_octets : (x : T) (v : ℤ) (c : List ℕ) → number x ≡ v → IsIntegerContent v c → octets x ≡ c
   same_octets x v c e h =
       integer_content_unique v (octets x) c (subst (λ (z : ℤ). IsIntegerContent z (octets x)) e (strict x)) h
 
+  -- An integer is written as one element of the universal class.
   pub integer_written : (Holds : ℤ → Type 0) →
       IsWrittenElement (integer_element number Holds) integer_number octets (λ x. false)
   integer_written Holds = record {

@@ -17,6 +17,9 @@ use Rattle.asn1_rs.specs.Kinds.Writing.{IsWrittenElement}
 use Rattle.asn1_rs.specs.Laws.Readers.{der_elements}
 use Rattle.asn1_rs.specs.Laws.Words.{word_one, strict_der_word}
 
+-- Elements as items.
+
+-- A lawful element is a lawful item.
 pub lawful_item : {S : Type 0} (G : ElementGrammar S) → IsLawfulElement G → IsLawfulItem (item_grammar G)
 lawful_item G l = record {
   der_values = λ o v w. l.body_values w.0 v (der_elements.possible o w.0 w.1) w.3;
@@ -32,6 +35,8 @@ lawful_item G l = record {
   form_body = l.form_body;
   strict_der = strict_der_word G.Form G.Check G.Body l.form_check l.form_body;
 }
+
+-- What holds an item.
 
 -- what holds one item is as lawful as that
 pub lawful_by_held : {S T : Type 0} (held : T → S) (G : ItemGrammar S) → IsLawfulItem G → IsLawfulItem (by_held held G)
@@ -62,6 +67,7 @@ held_takes held G gives from exact any (Err e) o h = exact any (Err e) o h
 
 -- and so is a reader
 module _ {S T E : Type 0} (held : T → S) (reads : List ℕ → Result (List ℕ × S) (Refusal E) → Type 0) where
+  -- A reader that answers what holds an item is as exact as that of the item.
   pub held_reads : {V : Type 0} (IsCut : List ℕ → Type 0) (G : List ℕ → V → Type 0) (value : S → V)
       (memory : Refusal E → Type 0) →
       ((input : List ℕ) (answer : Result (List ℕ × S) (Refusal E)) → IsOctets input → reads input answer →
@@ -71,12 +77,15 @@ module _ {S T E : Type 0} (held : T → S) (reads : List ℕ → Result (List �
   held_reads IsCut G value memory exact input (Ok x) o h = exact input (Ok (x.0, held x.1)) o h
   held_reads IsCut G value memory exact input (Err r) o h = exact input (Err r) o h
 
+  -- What is so of each refusal of the item's reader is so of each of its refusals.
   pub held_spares : (P : Refusal E → Type 0) →
       ((input : List ℕ) (answer : Result (List ℕ × S) (Refusal E)) → reads input answer → IfErr answer P) →
       (input : List ℕ) (answer : Result (List ℕ × T) (Refusal E)) → HoldingReads held reads input answer →
       IfErr answer P
   held_spares P spares input (Ok x) h = tt
   held_spares P spares input (Err r) h = spares input (Err r) h
+
+-- What holds an element.
 
 -- a refusal that is not out of memory
 pub other_error : {S : Type 0} (gives : Any → Result S Error → Type 0) →
@@ -86,6 +95,7 @@ other_error gives spares any e g = inl (e, λ q. spares any (subst (λ (x : Erro
 
 -- a type that holds one item is as lawful as that
 module _ {S T : Type 0} (held : T → S) (G : ElementGrammar S) where
+  -- What holds an element is as lawful as that.
   pub holding_lawful : IsLawfulElement G → IsLawfulElement (holding held G)
   holding_lawful l = record {
     body_values = l.body_values;
@@ -99,6 +109,7 @@ module _ {S T : Type 0} (held : T → S) (G : ElementGrammar S) where
     form_body = l.form_body;
   }
 
+  -- Its conversion is as exact.
   pub holding_converts : (gives : Any → Result S Error → Type 0) → IsExactConversion gives G →
       IsExactConversion (HoldingGives held gives) (holding held G)
   holding_converts gives c = record { exact = exact; spares = c.spares }
@@ -107,6 +118,7 @@ module _ {S T : Type 0} (held : T → S) (G : ElementGrammar S) where
           TakesBody G.Body (λ x. G.value (held x)) G.allocates (λ (x y : Error). y ≡ x) (parts_of any) answer
       exact = held_takes held (item_grammar G) gives (λ x y. y ≡ x) c.exact
 
+  -- It is written as what it holds.
   pub holding_written : (number : ℕ) (octets : S → List ℕ) (is_refused : S → Bool) →
       IsWrittenElement G number octets is_refused →
       IsWrittenElement (holding held G) number (λ x. octets (held x)) (λ x. is_refused (held x))

@@ -53,14 +53,18 @@ use Rattle.asn1_rs.specs.Laws.Forms.{universal_one, universal_value, universal_f
 use Rattle.asn1_rs.specs.Laws.Forms.{both_by_value, whole_writable}
 use Rattle.asn1_rs.specs.Kinds.Writing.{list_writing}
 
+-- Lists have one value, and one word.
+
 -- what allocates may report out of memory
 pub takes_some : {A : Type 0} → true ≡ false → A
 takes_some e = cc
 
 module _ {V : Type 0} (G : List ℕ → V → Type 0) (one : IsOneFront G) where
+  -- An element has one list, by BER, where one word of an item alone begins an input.
   pub list_body_one : (number : ℕ) → IsOneBody (ListBody number G)
   list_body_one number p v w a b = joined_same G one p.content p.content v w refl a.items b.items
 
+  -- So it has by DER.
   pub list_of_one : (number : ℕ) → IsOneBody (ListOf number G)
   list_of_one number p v w a b = joined_same G one p.content p.content v w refl a.items b.items
 
@@ -74,31 +78,38 @@ strict_word_one Form one = record {
       absurd (omega (arith, l));
 }
 
+-- Strict encodings are octets.
 pub strict_word_octets : {V : Type 0} (Form : V → Identifier → List ℕ → Type 0) (o : List ℕ) (v : V) →
     StrictWord Form o v → IsOctets o
 strict_word_octets Form o v s =
     definite_element_is_octets der_rule o _ (strict_element der_rule der_allows_strict Form v o s)
 
+-- One checked element alone begins an input.
 pub checked_one : (Check : Parts → Type 0) → IsOneFront (CheckedElement Check)
 checked_one Check = record {
   one = λ x y r s p q a b e. der_elements.one.one x y r s p q a.0 b.0 e;
   some = λ p a. der_elements.one.some p a.0;
 }
 
--- the strict parts of a list
+-- Strict parts of lists.
+
 module _ {V : Type 0} (Form : V → Identifier → List ℕ → Type 0) (number : ℕ) where
+  -- A list has one strict form where its items have.
   pub list_one_form : IsOneForm Form → IsOneForm (ListForm number Form)
   list_one_form one = universal_one true number (λ vs c. IsJoined (StrictWord Form) c vs)
       (λ vs c d i j. joined_one (StrictWord Form) (one_strict Form one) vs c d i j)
 
+  -- Strict parts have one list where the items' have one value.
   pub list_one_value : IsOneValue Form → IsOneValue (ListForm number Form)
   list_one_value one = universal_value true number (λ vs c. IsJoined (StrictWord Form) c vs)
       (λ vs ws c i j. joined_same (StrictWord Form) (strict_word_one Form one) c c vs ws refl i j)
 
+  -- They fit an element.
   pub list_fits : number < 31 → FitsElement (ListForm number Form)
   list_fits small = universal_fits true number (λ vs c. IsJoined (StrictWord Form) c vs) small
       (λ vs c j. joined_octets (StrictWord Form) (strict_word_octets Form) c vs j)
 
+  -- They are those of lists of the type's values alone.
   pub list_form_values : (P : V → Type 0) → HasValues Form P → HasValues (ListForm number Form) (All P)
   list_form_values P h = λ vs i c f. joined_values (StrictWord Form) P (λ o v s. h v s.id s.content s.form) c vs f.1
 
@@ -112,6 +123,7 @@ module _ {V : Type 0} (Form : V → Identifier → List ℕ → Type 0) (number 
     items = joined_map (StrictWord Form) G (λ o v s. words v o s) c vs f.1;
   }
 
+  -- They have the list by BER, where strict encodings of items are words.
   pub list_form_body : (G : List ℕ → V → Type 0) → ((v : V) (o : List ℕ) → IsStrict Form v o → G o v) →
       FormBodies (ListForm number Form) (ListBody number G)
   list_form_body G words = λ vs i c f. record {
@@ -120,6 +132,7 @@ module _ {V : Type 0} (Form : V → Identifier → List ℕ → Type 0) (number 
     items = joined_map (StrictWord Form) G (λ o v s. words v o s) c vs f.1;
   }
 
+  -- So they have by DER.
   pub list_form_of : (G : List ℕ → V → Type 0) → ((v : V) (o : List ℕ) → IsStrict Form v o → G o v) →
       FormBodies (ListForm number Form) (ListOf number G)
   list_form_of G words = λ vs i c f. record {
@@ -127,6 +140,7 @@ module _ {V : Type 0} (Form : V → Identifier → List ℕ → Type 0) (number 
     items = joined_map (StrictWord Form) G (λ o v s. words v o s) c vs f.1;
   }
 
+  -- Joined strict encodings are joined elements that meet the items' check.
   joined_checked : (Check : Parts → Type 0) → FormChecks Form Check → (vs : List V) (c : List ℕ) →
       IsJoined (StrictWord Form) c vs → (ps : List Parts) × IsJoined (CheckedElement Check) c ps
   joined_checked Check checks [] c j = ([], j)
@@ -137,6 +151,7 @@ module _ {V : Type 0} (Form : V → Identifier → List ℕ → Type 0) (number 
         (j.0, j.1, (strict_element der_rule der_allows_strict Form v j.0 s, checks v s.id s.content s.form), j.3, t.1),
       )
 
+  -- Under any class they meet the check of the list.
   pub list_form_check_under : (Check : Parts → Type 0) → FormChecks Form Check →
       (vs : List V) (i : Identifier) (c : List ℕ) (class : ℕ) → ListForm number Form vs i c →
       ListCheck number Check (made (of_class class i) c)
@@ -149,6 +164,7 @@ module _ {V : Type 0} (Form : V → Identifier → List ℕ → Type 0) (number 
         checked = t.1;
       }
 
+  -- They meet it under their own class.
   pub list_form_check : (Check : Parts → Type 0) → FormChecks Form Check →
       FormChecks (ListForm number Form) (ListCheck number Check)
   list_form_check Check checks = λ vs i c f.
@@ -160,23 +176,29 @@ module _ {V : Type 0} (Form : V → Identifier → List ℕ → Type 0) (number 
         checked = t.1;
       }
 
+  -- Under any class they meet the check, and have the list.
   pub list_takes_class : (G : List ℕ → V → Type 0) (Check : Parts → Type 0) →
       ((v : V) (o : List ℕ) → IsStrict Form v o → G o v) → FormChecks Form Check → (class : ℕ) →
       FormTakes (ListForm number Form) (ListCheck number Check) (ListBody number G) class
   list_takes_class G Check words checks class = λ vs i c f.
       (list_form_check_under Check checks vs i c class f, list_form_body_under G words vs i c class f)
 
+  -- They have the tag number of the list.
   pub list_number : FormNumber (ListForm number Form) number
   list_number = λ vs i c f. ap (λ (z : Identifier). z.number) f.0
+
+-- Lists of lawful items are lawful.
 
 -- a number of the low form is one that an element can have
 pub low_fits : (number : ℕ) → number < 31 → number < 2 ^ 32
 low_fits number small = omega (arith, small)
 
+-- The items of a list by BER are values of the type.
 pub list_body_values : {V : Type 0} (number : ℕ) (G : List ℕ → V → Type 0) (P : V → Type 0) →
     ((o : List ℕ) (v : V) → G o v → P v) → (p : Parts) (vs : List V) → ListBody number G p vs → All P vs
 list_body_values number G P f p vs b = joined_values G P f p.content vs b.items
 
+-- So are those of a list by DER.
 pub list_der_values : {V : Type 0} (number : ℕ) (G : List ℕ → V → Type 0) (P : V → Type 0) →
     ((o : List ℕ) (v : V) → G o v → P v) → (p : Parts) (vs : List V) → ListOf number G p vs → All P vs
 list_der_values number G P f p vs b = joined_values G P f p.content vs b.items
@@ -200,6 +222,8 @@ list_lawful number small items G l = record {
       (list_form_of G.Form number G.Der l.strict_der);
 }
 
+-- Reading.
+
 -- An element is a list, or is refused as none.
 list_or_refused : (number : ℕ) (p : Parts) (e : Error) → IsListOr number p (Err e) → p.id.number ≡ number →
     p.id.constructed ≡ true → ⊥
@@ -214,16 +238,19 @@ module _ {T V E : Type 0} (reads : List ℕ → Result (List ℕ × T) (Refusal 
     (kept : (octets word rest : List ℕ) → Keeps octets → octets ≡ word ++ rest → Keeps rest)
     (exact : (octets : List ℕ) (answer : Result (List ℕ × T) (Refusal E)) → Keeps octets → reads octets answer →
     Exactly IsCut G value (TellsMemory takes from) octets answer) where
+  -- A walk of a reader that is exact is one over the words.
   walked : (answers : List (Result T E)) (content left : List ℕ) → Keeps content →
       Yields (TakesItem reads from) content answers left →
       IsWalk G value (TellsNoWord G (IsMemory takes from)) content answers left
   walked = lawful_walk reads from G value takes IsCut one Keeps kept exact
 
+  -- Items that were taken to the end of the contents octets are their joined words.
   pub taken_joined : (items : List T) (content left : List ℕ) → Keeps content → left ≡ [] →
       Yields (TakesItem reads from) content (map Ok items) left → IsJoined G content (map value items)
   taken_joined items content left k n y = items_joined G value (TellsNoWord G (IsMemory takes from)) content items left
       (walked (map Ok items) content left k y) n
 
+  -- Where a refusal ended that, there are no joined words, or memory was wanting.
   pub taken_none : (items : List T) (e : E) (content left : List ℕ) → Keeps content →
       Yields (TakesItem reads from) content (map Ok items ++ Err e ∷ []) left →
       IsMemory takes from e ⊎ ((vs : List V) → IsJoined G content vs → ⊥)
@@ -244,11 +271,13 @@ module _ {T V W E : Type 0} (number : ℕ) (holds : List T → W → Type 0) (va
     (one : IsOneFront G)
     (exact : (octets : List ℕ) (answer : Result (List ℕ × T) (Refusal E)) → IsOctets octets → reads octets answer →
     Exactly IsCut G value (TellsMemory takes from) octets answer) where
+  -- Items that were taken from all of the contents octets are joined words.
   all_joined : (items : List T) (w : W) (content : List ℕ) → IsOctets content → holds items w →
       Yields (TakesItem reads from) content (map Ok items) [] → IsJoined G content (values w)
   all_joined items w content o h y = subst (IsJoined G content) (valued items w h)
       (taken_joined reads from G value takes IsCut one IsOctets octets_kept exact items content [] o refl y)
 
+  -- Where they were refused there are no joined words, or memory was wanting.
   none_taken : (e : E) (content : List ℕ) → IsOctets content → ItemsGive {T = T} reads from content (Err e) →
       from errors.OutOfMemory e ⊎ ((vs : List V) → IsJoined G content vs → ⊥)
   none_taken e content o (inl m) = inl m
@@ -258,6 +287,7 @@ module _ {T V W E : Type 0} (number : ℕ) (holds : List T → W → Type 0) (va
         | inr none ↦ inr none
       ]
 
+  -- The conversion to a list by BER is exact.
   pub list_takes : (any : Any) (answer : Result W E) → IsOctets any.content.now →
       OfParts (ListTakes number holds reads from) any answer →
       TakesBody (ListBody number G) values true from (parts_of any) answer
@@ -271,6 +301,7 @@ module _ {T V W E : Type 0} (number : ℕ) (holds : List T → W → Type 0) (va
   list_takes any (Err e) o (inr (h, s)) =
       elim (none_taken e any.content.now o s) [ inl m ↦ inl (refl, m) | inr none ↦ inr (λ vs b. none vs b.items) ]
 
+  -- So it is by DER.
   pub list_reads : (any : Any) (answer : Result W E) → IsOctets any.content.now →
       OfParts (ListReads number holds reads from) any answer →
       TakesBody (ListOf number G) values true from (parts_of any) answer
@@ -279,20 +310,26 @@ module _ {T V W E : Type 0} (number : ℕ) (holds : List T → W → Type 0) (va
   list_reads any (Err e) o (inr (h, s)) =
       elim (none_taken e any.content.now o s) [ inl m ↦ inl (refl, m) | inr none ↦ inr (λ vs b. none vs b.items) ]
 
+-- Checking.
+
 -- the check of a list is exact
 module _ (number : ℕ) (check : Parts → Result (Unit {0}) Error → Type 0) (Check : Parts → Type 0)
     (check_exact : (p : Parts) (answer : Result (Unit {0}) Error) → check p answer → Checks Check p answer) where
+  -- the value of an element is its parts
   abbrev IsParts : Parts → Parts → Type 0
   IsParts p q = q ≡ p
 
+  -- The conversion of an element to itself is exact.
   any_body : (any : Any) (answer : Result Any Error) → IsOctets any.content.now → IsTheElement any answer →
       TakesBody IsParts parts_of false (λ (x y : Error). y ≡ x) (parts_of any) answer
   any_body any (Ok x) o h = the_element_parts any x h
   any_body any (Err e) o h = absurd h
 
+  -- A word by DER whose value is its parts is a checked element.
   to_checked : (o : List ℕ) (p : Parts) → DerWord Check IsParts o p → CheckedElement Check o p
   to_checked o p w = (subst (λ (q : Parts). IsDerElement o q) (sym w.3) w.1, subst Check (sym w.3) w.2)
 
+  -- Reading one element and checking it is exact.
   element_checked : (octets : List ℕ) (answer : Result (List ℕ × Any) (Refusal Error)) → Unit {0} →
       CheckedGives check octets answer →
       Exactly IsCutIdentifier (CheckedElement Check) parts_of (TellsMemory false (λ x y. y ≡ x)) octets answer
@@ -301,6 +338,7 @@ module _ (number : ℕ) (check : Parts → Result (Unit {0}) Error → Type 0) (
       (λ (x y : Error). y ≡ x) Check IsParts parts_of false (CheckedElement Check) check_exact any_body
       (λ o p c. (p, c.0, c.1, refl)) to_checked octets answer g
 
+  -- Checking a list is exact.
   pub list_check_exact : (p : Parts) (answer : Result (Unit {0}) Error) → ListCheckGives number check p answer →
       Checks (ListCheck number Check) p answer
   list_check_exact p (Ok x) t = record {
@@ -351,8 +389,11 @@ list_checks number check Check c = record {
     spared p (inl (inr a)) = let e = a.2 in cc
     spared p (inr h) = walk_spared h.1.0 p.content h.1.1 h.1.2
 
+-- What a list writes.
+
 module _ {S V : Type 0} (value : S → V) (octets : S → List ℕ)
     (law : (x y : S) → value x ≡ value y → octets x ≡ octets y) where
+  -- The octets of items follow from their values, joined.
   items_by_value : (xs ys : List S) → map value xs ≡ map value ys → flat_map octets xs ≡ flat_map octets ys
   items_by_value [] [] e = refl
   items_by_value [] (y ∷ ys) e = cc
@@ -378,11 +419,13 @@ none_refuses refuses xs a e o = subst (λ x. HasNone (refuses x)) o.3 (a o.0 o.1
 
 module _ {S V : Type 0} (number : ℕ) (value : S → V) (Form : V → Identifier → List ℕ → Type 0) (w : Writing S)
     (law : WritesForm value Form w) where
+  -- Items whose joined strict encodings are there have no refusal of their own.
   joined_writable : (xs : List S) (c : List ℕ) → IsJoined (StrictWord Form) c (map value xs) → All (IsWritable w) xs
   joined_writable [] c j = All-nil (IsWritable w)
   joined_writable (x ∷ xs) c j =
       All-cons (IsWritable w) x xs (strict_written value Form w law x j.0 j.2).0 (joined_writable xs j.1 j.4)
 
+  -- What is written for them is these strict encodings.
   joined_written : (xs : List S) (c : List ℕ) → IsJoined (StrictWord Form) c (map value xs) →
       flat_map (whole_octets w) xs ≡ c
   joined_written [] c j = sym j
@@ -409,10 +452,13 @@ module _ {S V : Type 0} (number : ℕ) (value : S → V) (Form : V → Identifie
             ∙ ap (λ (z : Identifier). header_of z c) (sym f.0),
       )
 
+-- Lists in DER form.
+
 -- items in DER form are written as their strict encodings
 module _ {S V : Type 0} (value : S → V) (IsDer : V → Type 0) (Form : V → Identifier → List ℕ → Type 0)
     (octets : S → List ℕ)
     (strict : (x : S) → IsDer (value x) → length (octets x) < 2 ^ 64 → ∥ IsStrict Form (value x) (octets x) ∥₁) where
+  -- Items in DER form whose octets fit in memory are written as their strict encodings, one by one.
   pub zip_written : (xs : List S) → All IsDer (map value xs) → length (flat_map octets xs) < 2 ^ 64 →
       ∥ AllZip (IsStrict Form) (map value xs) (map octets xs) ∥₁
   zip_written [] a l = ∣ tt ∣₁
@@ -422,6 +468,7 @@ module _ {S V : Type 0} (value : S → V) (IsDer : V → Type 0) (Form : V → I
       ∥∥₁_elim (strict x (All-head IsDer (value x) (map value xs) a) (omega (arith, both, l))) ∥∥₁_prop (λ s.
       ∥∥₁_map (zip_written xs (All-tail IsDer (value x) (map value xs) a) (omega (arith, both, l))) (λ z. (s, z)))
 
+-- The octets of each item, joined, are the octets of the items.
 pub joined_flat : {S : Type 0} (octets : S → List ℕ) (xs : List S) → concat (map octets xs) ≡ flat_map octets xs
 joined_flat octets [] = refl
 joined_flat octets (x ∷ xs) = ap (λ r. octets x ++ r) (joined_flat octets xs) ∙ sym (flat_map-cons octets x xs)
@@ -441,6 +488,8 @@ list_has_form number items value IsDer Form w strict l a fits =
             (zip_joined (IsStrict Form) (map value xs) (map (whole_octets w) xs) z),
       ),
     ))
+
+-- Equality, and values of items.
 
 -- lists of members are equal exactly where their values are
 pub same_lists : {S V : Type 0} (eq : S → S → Bool) (value : S → V) →

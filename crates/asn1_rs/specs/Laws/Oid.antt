@@ -32,18 +32,27 @@ use Rattle.asn1_rs.specs.Oid.{OidValue, IsStrictOid, OidGives, absolute, oid_con
 use Rattle.asn1_rs.specs.Oid.{oid_number, oid_octets, oid_value, oid_writing, written_number}
 use Rattle.asn1_rs.specs.ToDer.{IsWritable}
 
+-- The value.
+
+-- strict contents octets of an absolute identifier, which is their value
 abbrev Content : OidValue → List ℕ → Type 0
 Content v c = IsStrictOid v × (v ≡ absolute c)
 
+-- Absolute identifiers that are the same have the same octets.
 same_octets : (c d : List ℕ) → absolute c ≡ absolute d → c ≡ d
 same_octets c d e = ap (λ (v : OidValue). v.octets) e
 
+-- A primitive element meets the constraints.
 checked : (i : Identifier) (c : List ℕ) → i.constructed ≡ false → oid_constraints (made i c) (Ok tt)
 checked i c e = (e, (_, refl))
 
+-- The identifier octets of an object identifier say the primitive form.
 primitive : (i : Identifier) → i ≡ universal false oid_number → i.constructed ≡ false
 primitive i e = ap (λ (z : Identifier). z.constructed) e
 
+-- The laws.
+
+-- Object identifiers are lawful.
 pub oid_lawful : IsLawfulElement oid_element
 oid_lawful = record {
   body_values = λ p v o b. subst (λ (w : OidValue). IsOctets w.octets) (sym b) o.content;
@@ -58,12 +67,15 @@ oid_lawful = record {
   form_body = λ v i c f. f.1.1;
 }
 
+-- Their constraints are a check.
 pub oid_constraints_are : IsCheck oid_constraints
 oid_constraints_are = before_is is_primitive is_counted is_primitive_is is_counted_is
 
+-- The constraints are exact.
 pub oid_checked : IsExactCheck oid_constraints oid_element.Check
 oid_checked = exact_check oid_constraints oid_constraints_are
 
+-- The conversion is exact.
 pub oid_converts : IsExactConversion OidGives oid_element
 oid_converts = record { exact = exact; spares = λ none any g. g }
   where
@@ -72,18 +84,23 @@ oid_converts = record { exact = exact; spares = λ none any g. g }
     exact any (Ok x) o g = g.0
     exact any (Err e) o g = absurd g
 
+-- Writing.
+
 -- what is written of one with a given value is written of each with that value
 header_by_value : (x y : Oid) → oid_value x ≡ oid_value y → oid_header x ≡ oid_header y
 header_by_value x y e = ap (λ (v : OidValue). header_octets 0 false (written_number v.relative) (length v.octets)) e
 
+-- The header that is written for an absolute identifier is the strict one.
 strict_header : (x : Oid) (i : Identifier) (c : List ℕ) → i ≡ universal false oid_number → oid_value x ≡ absolute c →
     oid_header x ≡ header_of i c
 strict_header x i c f e = ap (λ (v : OidValue). header_octets 0 false (written_number v.relative) (length v.octets)) e
     ∙ sym (ap (λ (z : Identifier). header_of z c) f)
 
+-- An identifier that is not relative is the absolute one of its octets.
 made_of : (v : OidValue) → v.relative ≡ false → v ≡ absolute v.octets
 made_of v e = ap (λ (b : Bool). record { relative = b; octets = v.octets }) e
 
+-- What is written for object identifiers is lawful.
 pub oid_lawful_writing : IsLawfulWriting (item_grammar oid_element) oid_writing
 oid_lawful_writing = record {
   tells_all = λ x. tt;
@@ -101,9 +118,13 @@ oid_lawful_writing = record {
     free : (x : Oid) → IsWritable oid_writing x
     free = nothing_refused oid_header oid_octets (λ x. false)
 
+-- Under tags.
+
+-- Their strict parts have their tag number.
 pub oid_form_number : FormNumber oid_element.Form oid_number
 oid_form_number = λ v i c f. ap (λ (z : Identifier). z.number) f.0
 
+-- Their tag number is one that an element can have.
 pub oid_number_fits : oid_number < 2 ^ 32
 oid_number_fits = lit< tt
 
@@ -111,6 +132,9 @@ oid_number_fits = lit< tt
 pub oid_takes_class : (class : ℕ) → FormTakes oid_element.Form oid_element.Check oid_element.Body class
 oid_takes_class class = λ v i c f. (checked (of_class class i) c (primitive i f.0), f.1.1)
 
+-- Equality.
+
+-- Identifiers with the same octets, both relative or both not, have one value.
 same_value : (x y : Oid) → oid_octets x ≡ oid_octets y → x.relative ≡ y.relative → oid_value x ≡ oid_value y
 same_value x y p q = ap (λ (o : List ℕ). record { relative = x.relative; octets = o }) p
     ∙ ap (λ (b : Bool). record { relative = b; octets = oid_octets y }) q
@@ -136,6 +160,8 @@ oid_equal x y = (
     both_are true q a b = b
     both_are false q a b = absurd (false≢true a)
 
+-- Identifiers that begin others.
+
 -- octets begin octets where the slice of their number does
 begins_with_front : (octets front : List ℕ) → front ≡ take (length front) octets →
     (rest : List ℕ) × BeginsWith octets front rest
@@ -144,9 +170,11 @@ begins_with_front octets front e = (
   sym (take-append-drop (length front) octets) ∙ sym (ap (λ (xs : List ℕ). xs ++ drop (length front) octets) e),
 )
 
+-- Octets that begin others are as many of those, taken from the front.
 front_taken : (octets front rest : List ℕ) → octets ≡ front ++ rest → front ≡ take (length front) octets
 front_taken octets front rest e = sym (ap (take (length front)) e ∙ take_at front rest (length front) refl)
 
+-- The test says exactly whether octets begin others.
 pub begins_by_test : (octets front : List ℕ) →
     starts_with nat_eq octets front ≡ true ↔ ((rest : List ℕ) × BeginsWith octets front rest)
 begins_by_test octets front =

@@ -27,6 +27,8 @@ use Rattle.asn1_headers.specs.Length.{form_of}
 use Rattle.asn1_rs.specs.Optional.{IsLeftOut, OptionGives, ReadsHeldBack, ReadsNoneBefore, ReadsNoneAtEnd, in_some}
 use Rattle.asn1_rs.specs.Laws.Words.{strict_element, read_back}
 
+-- Whether a value is left out.
+
 -- no header is empty
 header_is_some : (rule : Rule) (header rest : List ℕ) (id : Identifier) (form : LengthForm) →
     IsHeader rule header id form → header ++ rest ≢ []
@@ -79,6 +81,8 @@ refusal_tells rule refuses octets r number g = (λ told. inl (none octets (eqb-t
     ended (inr other) = absurd
         (header_or_fault rule octets other.header other.rest other.id other.form g.0 g.1 other.header_is other.is)
 
+-- What is answered.
+
 -- none is answered where the value is told to be left out
 pub answers_none : {T E : Type 0} (rule : Rule) (reads : List ℕ → Result (List ℕ × T) (Refusal E) → Type 0)
     (octets : List ℕ) (tag mark : Tag) (told : Bool) → tag ≡ mark → IsTrue told ↔ IsLeftOut rule tag.0 octets →
@@ -97,6 +101,8 @@ answers_held rule reads octets tag mark told e tells stays its gives answer is =
       λ out. absurd (false≢true (sym stays ∙ tells.1 (subst (λ (t : Tag). IsLeftOut rule t.0 octets) (sym e) out))),
       (its, gives, is),
     )
+
+-- Strict encodings are read back.
 
 -- strict encodings begin with a header of their tag number
 strict_stays : {V : Type 0} (rule : Rule) → AllowsStrict rule → (Form : V → Identifier → List ℕ → Type 0) (number : ℕ) →
@@ -133,6 +139,7 @@ none_is_answered : {T E : Type 0} (LeftOut : List ℕ → Type 0)
 none_is_answered LeftOut reads octets answer (inl (out, e)) is = e
 none_is_answered LeftOut reads octets answer (inr (stays, its)) is = absurd (stays is)
 
+-- None is read before a strict encoding of another tag number.
 pub none_before_others : {T V E : Type 0} (rule : Rule) → AllowsStrict rule →
     (Form : V → Identifier → List ℕ → Type 0) (number other : ℕ) → FormNumber Form other →
     (reads : List ℕ → Result (List ℕ × T) (Refusal E) → Type 0) → other ≢ number →
@@ -141,6 +148,7 @@ none_before_others rule allows Form number other numbered reads differ octets an
     none_is_answered (IsLeftOut rule number) reads octets answer g
     (strict_leaves_out rule allows Form number other numbered differ v octets w rest s e)
 
+-- None is read where no octets are left.
 pub none_at_end : {T E : Type 0} (rule : Rule) (number : ℕ)
     (reads : List ℕ → Result (List ℕ × T) (Refusal E) → Type 0) →
     ReadsNoneAtEnd (OptionGives (IsLeftOut rule number) reads)

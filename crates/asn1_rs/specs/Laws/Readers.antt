@@ -30,6 +30,8 @@ use Rattle.asn1_rs.specs.Grammar.{ElementWord, DerWord, TakesBody, Checks, NoChe
 use Rattle.asn1_rs.specs.Traits.{ElementGives, DerGives, PassesAll}
 use Rattle.asn1_headers.specs.Ber.{max_depth, EndsWithin}
 
+-- Elements.
+
 -- What the laws ask of elements: one alone begins an input, and a fault is the only one, and final.
 pub record AreElements (ElementOf : List ℕ → Parts → Type 0) (FaultOf : List ℕ → Fault → Type 0)
     (IsCut : List ℕ → Type 0) : Type 0 where
@@ -43,6 +45,7 @@ pub record AreElements (ElementOf : List ℕ → Parts → Type 0) (FaultOf : Li
       input ++ more ≡ o ++ rest → IsLackingOrCut (IsCut input) fault more
   pub within : (input : List ℕ) → IsCut input → FaultOf input tag_fault
 
+-- Elements by DER are such.
 pub der_elements : AreElements IsDerElement DerElementFault IsCutIdentifier
 der_elements = record {
   one = definite_words der_rule;
@@ -54,6 +57,7 @@ der_elements = record {
   within = λ input c. inl (cut_header_fault der_rule input c);
 }
 
+-- Elements by BER are such.
 pub ber_elements : AreElements (IsElement max_depth) (ElementFault max_depth) EndsWithin
 ber_elements = record {
   one = nested_words max_depth;
@@ -65,14 +69,20 @@ ber_elements = record {
   within = within_fault max_depth;
 }
 
+-- Checks that refuse nothing.
+
 -- a check that refuses nothing asks nothing
 pub passes_all : (p : Parts) (answer : Result (Unit {0}) Error) → PassesAll p answer → Checks NoCheck p answer
 passes_all p (Ok x) h = tt
 passes_all p (Err e) h = cc
 
+-- It does not report out of memory.
 pub all_pass : (p : Parts) → PassesAll p (Err OutOfMemory) → ⊥
 all_pass p h = cc
 
+-- What refusals say of more octets.
+
+-- A refusal that tells of missing octets speaks of fewer more than these.
 speaks_missing : (E : Type 0) (is_cut : Type 0) (n : ℕ) (more : List ℕ) → 1 ≤ n →
     Speaks {E = E} is_cut (cut (Size n)) more → length more < n
 speaks_missing E is_cut n more some (inl e) = let l = ap length e in omega (arith, l)
@@ -89,20 +99,25 @@ speaks_fault at from length_fault r is_cut more some c s = tt
 speaks_fault at from (rule_fault breach) r is_cut more some c s = tt
 speaks_fault at from depth_fault r is_cut more some c s = tt
 
+-- A refusal speaks of the octets as they are.
 pub speaks_now : {E : Type 0} (is_cut : Type 0) (r : Refusal E) → Speaks is_cut r []
 speaks_now is_cut (cut (Size n)) = inl refl
 speaks_now is_cut (cut Unknown) = refl
 speaks_now is_cut (refused x) = inl refl
 speaks_now is_cut (failed x) = inl refl
 
+-- What a final refusal rules out begins the octets as they are neither.
 pub none_now : {V E : Type 0} (is_cut : Type 0) (r : Refusal E) (G : List ℕ → V → Type 0) (input : List ℕ) →
     IsFinal is_cut r G input → NoFront G input
 none_now is_cut r G input f w rest v e g = f [] (speaks_now is_cut r) w rest v (append-nil input ∙ e) g
 
+-- A word at the front stays one with more octets behind.
 pub front_more : {V : Type 0} (G : List ℕ → V → Type 0) (input : List ℕ) (v : V) (rest more : List ℕ) →
     Front G input v rest → Front G (input ++ more) v (rest ++ more)
 front_more G input v rest more f =
     record { word = f.word; fits = f.fits; is = ap (λ (x : List ℕ). x ++ more) f.is ∙ append_assoc f.word rest more }
+
+-- Readers are exact.
 
 module _ {T V E : Type 0} (ElementOf : List ℕ → Parts → Type 0) (FaultOf : List ℕ → Fault → Type 0)
     (IsCut : List ℕ → Type 0) (elements : AreElements ElementOf FaultOf IsCut) (refuses : Breach → Error)
@@ -122,6 +137,7 @@ module _ {T V E : Type 0} (ElementOf : List ℕ → Parts → Type 0) (FaultOf :
       elements.one.one front.word w rest r p a.0 front.fits a.1 (sym front.is ∙ e) in
       (subst Check (sym same.1) a.2, subst (λ (q : Parts). Body q v) (sym same.1) a.3)
 
+  -- A reader that reads one element, checks it and converts it is exact.
   pub element_exact : (input : List ℕ) (answer : Result (List ℕ × T) (Refusal E)) →
       ElementGives ElementOf FaultOf (refusal_of refuses) check convert from input answer →
       Exactly IsCut G value (TellsMemory takes from) input answer
@@ -180,11 +196,15 @@ element_spares ElementOf FaultOf at other check convert from checked converted i
     (inr (any, rest, begins, inr (c, (e, v, is)))) =
     subst (HeldIn (IsOther from)) (sym is) (converted any e v)
 
+-- What is not allowed by DER is not refused as out of memory.
 pub der_breach_spares : (breach : Breach) → der_breach breach ≢ OutOfMemory
 der_breach_spares breach q = cc
 
+-- What is not allowed by BER is not refused as out of memory.
 pub ber_breach_spares : (breach : Breach) → ber_breach breach ≢ OutOfMemory
 ber_breach_spares breach q = cc
+
+-- Readers that check nothing, and refusals that stay.
 
 -- a reader by DER that reads an element, checks nothing and converts it is exact
 pub unchecked_exact : {T V E : Type 0} (convert : Any → Result T E → Type 0) (from : Error → E → Type 0)
@@ -206,6 +226,7 @@ converts_itself at length_fault = (_, refl, refl)
 converts_itself at (rule_fault breach) = (_, refl, refl)
 converts_itself at depth_fault = (_, refl, refl)
 
+-- What a refusal that tells of a fault speaks of, the fault speaks of, where the refusal is as it was.
 pub speaks_itself : (refuses : Breach → Error) (fault : Fault) (r : Refusal Error) (is_cut : Type 0) (more : List ℕ) →
     CountsSome fault → r ≡ refusal_of refuses fault → Speaks is_cut r more → SpeaksOf is_cut fault more
 speaks_itself at fault r is_cut more some e s = speaks_fault {E = Error} at (λ x y. y ≡ x) fault (refusal_of at fault)

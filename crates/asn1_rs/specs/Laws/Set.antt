@@ -54,6 +54,8 @@ use Rattle.asn1_rs.specs.Kinds.Writing.{set_writing}
 use mathlib.Core.Bool.{not, true≢false, Bool-set}
 use mathlib.Core.Logic.{∥∥₁_prop, ∥∥₁_elim, ∥∥₁_map}
 
+-- Sets of values, and rows that are none.
+
 -- the two kinds of rows are apart, and each tells what it is of
 set_inj : {V : Type 0} (a b : ValueSet V) → ◌≡◌ {A = Members V} (inl a) (inl b) → a ≡ b
 set_inj {V} a b e = ap first e
@@ -62,6 +64,7 @@ set_inj {V} a b e = ap first e
     first (inl s) = s
     first (inr vs) = a
 
+-- Rows that stand for the same are the same.
 row_inj : {V : Type 0} (a b : List V) → ◌≡◌ {A = Members V} (inr a) (inr b) → a ≡ b
 row_inj {V} a b e = ap second e
   where
@@ -69,17 +72,22 @@ row_inj {V} a b e = ap second e
     second (inl s) = a
     second (inr vs) = vs
 
+-- whether it is a set
 is_set_of : {V : Type 0} → Members V → Bool
 is_set_of (inl s) = true
 is_set_of (inr vs) = false
 
+-- No set is a row.
 kinds_apart : {V : Type 0} {P : Type 0} (a : ValueSet V) (b : List V) → ◌≡◌ {A = Members V} (inl a) (inr b) → P
 unfolding is_set_of
 kinds_apart a b e = absurd (true≢false (ap is_set_of e))
 
+-- Lists of values that differ, which stand for one set, have the same values in some order.
 pub permutation_from_set : {V : Type 0} (vs ws : List V) → AllDiffer vs → AllDiffer ws → set_of vs ≡ set_of ws →
     ∥ IsPermutation vs ws ∥₁
 permutation_from_set vs ws h k e = permutation_from_value_set vs ws h k (set_inj (value_set vs) (value_set ws) e)
+
+-- Bodies of sets.
 
 -- what takes lists takes collections
 pub takes_seen : {T V W E : Type 0} (f : V → W) (B : Parts → V → Type 0) (value : T → V) (takes : Bool)
@@ -89,24 +97,30 @@ takes_seen f B value takes from p (Ok x) h = (value x, refl, h)
 takes_seen f B value takes from p (Err e) (inl m) = inl m
 takes_seen f B value takes from p (Err e) (inr n) = inr (λ v g. n g.0 g.2)
 
+-- An element has one collection where it has one list.
 pub body_seen : {V W : Type 0} (f : V → W) (B : Parts → V → Type 0) → IsOneBody B → IsOneBody (Seen f B)
 body_seen f B one p v w a b = sym a.1 ∙ ap f (one p a.0 b.0 a.2 b.2) ∙ b.1
 
--- the strict parts of a set
+-- Strict parts of sets.
+
 module _ {V M : Type 0} (of : List V → M) (Each : List V → Type 0) (Form : V → Identifier → List ℕ → Type 0) where
+  -- A collection has one strict form, where lists that stand for it differ in order alone.
   pub set_one_form : ((vs ws : List V) → Each vs → Each ws → of vs ≡ of ws → ∥ IsPermutation vs ws ∥₁) →
       IsOneForm Form → IsOneForm (SetForm of Each Form)
   set_one_form mixed one = universal_one true 17 (Joins of Each (IsStrict Form))
       (joins_one_content of Each (IsStrict Form) mixed (one_strict Form one))
 
+  -- Strict parts have one collection.
   pub set_one_value : IsOneValue Form → IsOneValue (SetForm of Each Form)
   set_one_value one = universal_value true 17 (Joins of Each (IsStrict Form))
       (joins_one_collection of Each (IsStrict Form) (strict_word_one Form one))
 
+  -- They fit an element.
   pub set_fits : FitsElement (SetForm of Each Form)
   set_fits = universal_fits true 17 (Joins of Each (IsStrict Form)) (omega arith) (λ m c f.
       joined_octets (StrictWord Form) (strict_word_octets Form) c f.items (joins_joined of Each (IsStrict Form) m c f))
 
+  -- They are those of collections of the type's values alone.
   pub set_form_values : (P : V → Type 0) → HasValues Form P → HasValues (SetForm of Each Form) (SetValues of P)
   set_form_values P h = λ m i c f. (
     f.1.items,
@@ -116,10 +130,12 @@ module _ {V M : Type 0} (of : List V → M) (Each : List V → Type 0) (Form : V
   )
 
   module _ (G : List ℕ → V → Type 0) (word : (v : V) (o : List ℕ) → IsStrict Form v o → G o v) where
+    -- Strict contents octets are joined words of the items.
     set_joined : (m : M) (c : List ℕ) (f : Joins of Each (IsStrict Form) m c) → IsJoined G c f.items
     set_joined m c f =
         joined_map (StrictWord Form) G (λ o v s. word v o s) c f.items (joins_joined of Each (IsStrict Form) m c f)
 
+    -- Strict parts have the collection by BER.
     pub set_form_body : FormBodies (SetForm of Each Form) (SetBody of G)
     set_form_body = λ m i c f. (
       f.1.items,
@@ -131,6 +147,7 @@ module _ {V M : Type 0} (of : List V → M) (Each : List V → Type 0) (Form : V
       },
     )
 
+    -- So they have by DER.
     pub set_form_row : FormBodies (SetForm of Each Form) (SetRow of G)
     set_form_row = λ m i c f. (
       f.1.items,
@@ -141,11 +158,13 @@ module _ {V M : Type 0} (of : List V → M) (Each : List V → Type 0) (Form : V
       },
     )
 
+  -- They meet the check of a list.
   pub set_form_check : (Check : Parts → Type 0) → FormChecks Form Check →
       FormChecks (SetForm of Each Form) (ListCheck 17 Check)
   set_form_check Check checks =
       λ m i c f. list_form_check Form 17 Check checks f.1.items i c (f.0, joins_joined of Each (IsStrict Form) m c f.1)
 
+  -- Under any class they meet the check, and have the collection.
   pub set_takes_class : (G : List ℕ → V → Type 0) (Check : Parts → Type 0) →
       ((v : V) (o : List ℕ) → IsStrict Form v o → G o v) → FormChecks Form Check → (class : ℕ) →
       FormTakes (SetForm of Each Form) (ListCheck 17 Check) (SetBody of G) class
@@ -156,13 +175,16 @@ module _ {V M : Type 0} (of : List V → M) (Each : List V → Type 0) (Form : V
       ) in
       (t.0, (f.1.items, f.1.are, t.1))
 
+  -- They have the tag number of sets.
   pub set_number : FormNumber (SetForm of Each Form) 17
   set_number = λ m i c f. ap (λ (z : Identifier). z.number) f.0
 
--- sets of lawful items are lawful
+-- Sets of lawful items are lawful.
+
 module _ {S W M : Type 0} (G : ItemGrammar S) (l : IsLawfulItem G) (of : List G.Value → M) (worth : W → M)
     (Each : List G.Value → Type 0)
     (mixed : (vs ws : List G.Value) → Each vs → Each ws → of vs ≡ of ws → ∥ IsPermutation vs ws ∥₁) where
+  -- Strict parts are those of collections in DER form.
   set_form_der : HasValues (SetForm of Each G.Form) (SetInDer of Each G.IsDer)
   set_form_der = λ m i c f. (
     f.1.items,
@@ -172,6 +194,7 @@ module _ {S W M : Type 0} (G : ItemGrammar S) (l : IsLawfulItem G) (of : List G.
         (joins_joined of Each (IsStrict G.Form) m c f.1),
   )
 
+  -- A collection of lawful items is lawful, with what a reader by DER finds.
   pub set_lawful : (DerBody : Parts → M → Type 0) → IsOneBody DerBody →
       ((p : Parts) (m : M) → DerBody p m → SetValues of G.IsValue m) → FormBodies (SetForm of Each G.Form) DerBody →
       IsLawfulItem (set_grammar {W = W} G of worth Each DerBody)
@@ -196,6 +219,7 @@ module _ {S W M : Type 0} (G : ItemGrammar S) (l : IsLawfulItem G) (of : List G.
       body_values_of : (p : Parts) (m : M) → SetBody of (ber_words G) p m → SetValues of G.IsValue m
       body_values_of p m b = (b.0, b.1, list_body_values 17 (ber_words G) G.IsValue (ber_values G l) p b.0 b.2)
 
+-- So is one in which a member may stand more than once.
 pub multiset_lawful : {S W : Type 0} (items : W → List S) (G : ItemGrammar S) → IsLawfulItem G →
     IsLawfulItem (multiset_grammar items G)
 multiset_lawful items G l =
@@ -205,6 +229,7 @@ multiset_lawful items G l =
     (λ p m b. (b.0, b.1, list_der_values 17 G.Der G.IsValue l.der_values p b.0 b.2))
     (set_form_row multiset AnyList G.Form G.Der l.strict_der)
 
+-- So is one whose members differ.
 pub member_lawful : {S W : Type 0} (test : S → S → Bool) (keys : W → List S) (G : ItemGrammar S) → IsLawfulItem G →
     IsLawfulItem (member_grammar test keys G)
 member_lawful test keys G l =
@@ -213,15 +238,19 @@ member_lawful test keys G l =
     (λ p m b. (b.0, b.1, list_body_values 17 G.Der G.IsValue l.der_values p b.0 b.2))
     (set_form_body set_of AllDiffer G.Form G.Der l.strict_der)
 
+-- What a set writes.
+
 -- a value beside what is written for an item that has it
 abbrev pub Writes : {S V : Type 0} → (S → V) → (S → List ℕ) → V → List ℕ → Type 0
 Writes {S} value octets v o = (x : S) × (value x ≡ v) × (octets x ≡ o)
 
 module _ {S V : Type 0} (value : S → V) (octets : S → List ℕ)
     (law : (x y : S) → value x ≡ value y → octets x ≡ octets y) where
+  -- One value is written in one way.
   writes_one : (v : V) (o p : List ℕ) → Writes value octets v o → Writes value octets v p → o ≡ p
   writes_one v o p a b = sym a.2 ∙ law a.0 b.0 (a.1 ∙ sym b.1) ∙ b.2
 
+  -- The values of items stand beside what is written for them.
   writes_zip : (xs : List S) → AllZip (Writes value octets) (map value xs) (map octets xs)
   writes_zip [] = tt
   writes_zip (x ∷ xs) = ((x, refl, refl), writes_zip xs)
@@ -246,11 +275,13 @@ set_by_value items value w law x y m =
     (items y) m in
     (refl, ap (λ (c : List ℕ). header_octets 0 true 17 (length c)) h, h)
 
+-- Where there is no refusal of a value's own, there is none from a vector.
 pub none_into : (own : SerializeError → Type 0) → HasNone own → HasNone (IntoVector own)
 none_into own n e o = n o.0 o.1
 
 module _ {S V : Type 0} (value : S → V) (Form : V → Identifier → List ℕ → Type 0) (w : Writing S)
     (law : WritesForm value Form w) where
+  -- Items that have these strict encodings, one by one, are written as them.
   zip_octets : (xs : List S) (os : List (List ℕ)) → AllZip (IsStrict Form) (map value xs) os →
       map (whole_octets w) xs ≡ os
   zip_octets [] [] z = refl
@@ -259,6 +290,7 @@ module _ {S V : Type 0} (value : S → V) (Form : V → Identifier → List ℕ 
   zip_octets (x ∷ xs) (o ∷ os) z = ap (λ y. y ∷ map (whole_octets w) xs) (strict_written value Form w law x o z.0).1
       ∙ ap (λ ys. o ∷ ys) (zip_octets xs os z.1)
 
+  -- Such items have no refusal of their own.
   zip_writable : (xs : List S) (os : List (List ℕ)) → AllZip (IsStrict Form) (map value xs) os → All (IsWritable w) xs
   zip_writable [] os z = All-nil (IsWritable w)
   zip_writable (x ∷ xs) [] z = absurd z
@@ -267,6 +299,7 @@ module _ {S V : Type 0} (value : S → V) (Form : V → Identifier → List ℕ 
 
   module _ {M : Type 0} (of : List V → M) (Each : List V → Type 0) (xs : List S) (c : List ℕ) (m : M)
       (j : Joins of Each (IsStrict Form) m c) (moved : ∥ IsPermutation j.items (map value xs) ∥₁) where
+    -- The strict contents octets of a set are what is written.
     set_written : set_content (whole_octets w) xs ≡ c
     set_written =
         ap concat (∥∥₁_elim moved (strings_set _ _) (λ p.
@@ -302,6 +335,8 @@ module _ {S V : Type 0} (value : S → V) (Form : V → Identifier → List ℕ 
               ∙ ap (λ (z : Identifier). header_of z c) (sym f),
         )
 
+-- Sets in DER form.
+
 -- Each way to stand for a collection is kept in another order, and so is the collection.
 module _ {V M : Type 0} (of : List V → M) (Each : List V → Type 0)
     (stays : (vs ws : List V) → IsPermutation vs ws → Each vs → Each ws)
@@ -330,13 +365,18 @@ module _ {V M : Type 0} (of : List V → M) (Each : List V → Type 0)
           (joins_arranged of Each (IsStrict Form) stays same (map value xs) (map octets xs)
           (stays d.0 (map value xs) p d.1) z)
 
+-- Lists with the same values in some order stand for one set.
 pub same_set : {V : Type 0} (vs ws : List V) → IsPermutation vs ws → set_of vs ≡ set_of ws
 same_set vs ws p = ap inl (same_value_set vs ws (HaveSame-permutation vs ws p))
 
+-- Tests of pairs, and members that differ.
+
+-- Both parts of a test that holds hold.
 both_true : (a b : Bool) → (a && b) ≡ true → (a ≡ true) × (b ≡ true)
 both_true true b h = (refl, h)
 both_true false b h = absurd (true≢false (sym h))
 
+-- A test of two parts holds where both hold.
 true_both : (a b : Bool) → a ≡ true → b ≡ true → (a && b) ≡ true
 true_both true b h k = k
 true_both false b h k = h
@@ -347,6 +387,7 @@ In v [] = ⊥
 In v (x ∷ xs) = (x ≡ v) ⊎ In v xs
 
 module _ {V : Type 0} where
+  -- What a list contains stands in it.
   in_from_contains : (v : V) (xs : List V) → Contains xs v → In v xs
   in_from_contains v xs c = at xs c.0 c.1 c.2
     where
@@ -355,11 +396,13 @@ module _ {V : Type 0} where
       at (x ∷ xs) zero l e = inl e
       at (x ∷ xs) (suc k) l e = inr (at xs k (omega (arith, l)) e)
 
+  -- What stands in a list is contained in it.
   contains_from_in : (v : V) (xs : List V) → In v xs → Contains xs v
   contains_from_in v [] h = absurd h
   contains_from_in v (x ∷ xs) (inl e) = (0, omega arith, e)
   contains_from_in v (x ∷ xs) (inr h) = let c = contains_from_in v xs h in (suc c.0, omega (arith, c.1), c.2)
 
+-- An order that the test calls less is `Less`.
 is_less : (r : Ordering) → is_lt r ≡ true → r ≡ Less
 is_less Less h = refl
 is_less Equal h = absurd (true≢false (sym h))
@@ -368,6 +411,7 @@ is_less Greater h = absurd (true≢false (sym h))
 -- rows of keys as members of a set
 module _ {S V : Type 0} (test : S → S → Bool) (value : S → V)
     (apart : (x y : S) → test x y ≡ true → value x ≡ value y → ⊥) where
+  -- Where an item passes the test with each other one, none of these has its value.
   first_apart : (x : S) (xs : List S) → list_all (test x) xs ≡ true → Contains (map value xs) (value x) → ⊥
   first_apart x xs h c = at xs h c.0 c.1 c.2
     where
@@ -377,6 +421,7 @@ module _ {S V : Type 0} (test : S → S → Bool) (value : S → V)
       at (y ∷ ys) h zero l e = apart x y (both_true (test x y) (list_all (test x) ys) h).0 (sym e)
       at (y ∷ ys) h (suc i) l e = at ys (both_true (test x y) (list_all (test x) ys) h).1 i (omega (arith, l)) e
 
+  -- Items that pass the test in pairs have values that differ.
   pub pairs_differ : (xs : List S) → pairs_pass test xs ≡ true → AllDiffer (map value xs)
   pairs_differ [] h = tt
   pairs_differ (x ∷ xs) h =
@@ -413,6 +458,8 @@ module _ {S V : Type 0} (test : S → S → Bool) (value : S → V)
         | false ↦ λ p e. kinds_apart (value_set vs) (map value xs) e
       ] refl
 
+-- Keys that std holds.
+
 -- what std tells of the keys of a set in hand
 all_below : {S : Type 0} (cmp : S → S → Ordering) (x : S) (xs : List S) → AllByRecursion (λ y. cmp x y ≡ Less) xs →
     list_all (is_below cmp x) xs ≡ true
@@ -420,6 +467,7 @@ all_below cmp x [] h = refl
 all_below cmp x (y ∷ ys) h =
     true_both (is_below cmp x y) (list_all (is_below cmp x) ys) (ap is_lt h.0) (all_below cmp x ys h.1)
 
+-- Keys in strictly ascending order pass the test in pairs.
 pub ordered_pass : {S : Type 0} (cmp : S → S → Ordering) (xs : List S) → IsStrictlySortedBy cmp xs →
     pairs_pass (is_below cmp) xs ≡ true
 unfolding IsStrictlySortedBy
@@ -427,12 +475,14 @@ ordered_pass cmp [] h = refl
 ordered_pass cmp (x ∷ xs) h = true_both (list_all (is_below cmp x) xs) (pairs_pass (is_below cmp) xs)
     (all_below cmp x xs h.0) (ordered_pass cmp xs h.1)
 
+-- A key that equals none of the others passes the test with each.
 all_other : {S : Type 0} (eq : S → S → Bool) (x : S) (xs : List S) → AllByRecursion (λ y. eq x y ≡ false) xs →
     list_all (is_other eq x) xs ≡ true
 all_other eq x [] h = refl
 all_other eq x (y ∷ ys) h =
     true_both (is_other eq x y) (list_all (is_other eq x) ys) (ap not h.0) (all_other eq x ys h.1)
 
+-- Keys of which no two are equal pass the test in pairs.
 pub distinct_pass : {S : Type 0} (eq : S → S → Bool) (xs : List S) → IsDistinct eq xs →
     pairs_pass (is_other eq) xs ≡ true
 unfolding IsDistinct
@@ -445,16 +495,21 @@ pub members_pass : {S V : Type 0} (test : S → S → Bool) (value : S → V) (x
     members test value xs ≡ set_of (map value xs)
 members_pass test value xs h = ap (λ b. members_if b (map value xs)) h
 
+-- Keys in ascending order.
+
 -- keys that pass differ in value, where their equality is that of their values
 module _ {S V : Type 0} (eq : S → S → Bool) (value : S → V)
     (same : (x y : S) → IsTrue (eq x y) ↔ (value x ≡ value y)) where
+  -- Keys that are not equal have other values.
   pub other_apart : (x y : S) → is_other eq x y ≡ true → value x ≡ value y → ⊥
   other_apart x y h e = let t : eq x y ≡ true = (same x y).1 e in true≢false (sym h ∙ ap not t)
 
   module _ (cmp : S → S → Ordering) (total : IsTotalOrder cmp) (matches : (x y : S) → eq x y ≡ eq_by_cmp cmp x y) where
+    -- Keys of one value are in neither order.
     tie : (x y : S) → value x ≡ value y → cmp x y ≡ Equal
     tie x y e = (Equal-is (cmp x y)).0 (sym (matches x y) ∙ (same x y).1 e)
 
+    -- A key below another has another value.
     pub below_apart : (x y : S) → is_below cmp x y ≡ true → value x ≡ value y → ⊥
     below_apart x y h e = true≢false (sym h ∙ ap is_lt (tie x y e))
 
@@ -462,6 +517,7 @@ module _ {S V : Type 0} (eq : S → S → Bool) (value : S → V)
     cmp_by_value : (x y a b : S) → value x ≡ value a → value y ≡ value b → cmp x y ≡ cmp a b
     cmp_by_value x y a b e f = total.congr x a y (tie x a e) ∙ alike_right total y b a (tie y b f)
 
+    -- Whether a key is below all others follows from the values.
     all_by_value : (x a : S) (ys bs : List S) → value x ≡ value a → map value ys ≡ map value bs →
         list_all (is_below cmp x) ys ≡ list_all (is_below cmp a) bs
     all_by_value x a [] [] e f = refl
@@ -473,6 +529,7 @@ module _ {S V : Type 0} (eq : S → S → Bool) (value : S → V)
         ap (λ o. is_lt o && list_all (is_below cmp x) ys) (cmp_by_value x y a b e head)
         ∙ ap (λ p. is_below cmp a b && p) (all_by_value x a ys bs e tail)
 
+    -- Whether keys ascend follows from their values.
     pass_by_value : (xs ys : List S) → map value xs ≡ map value ys →
         pairs_pass (is_below cmp) xs ≡ pairs_pass (is_below cmp) ys
     pass_by_value [] [] e = refl
@@ -493,6 +550,7 @@ module _ {S V : Type 0} (eq : S → S → Bool) (value : S → V)
     key_above v x (k ∷ ks) a (inr i) =
         key_above v x ks (both_true (is_below cmp x k) (list_all (is_below cmp x) ks) a).1 i
 
+    -- Ascending keys with the same values begin with the same value.
     same_first : (x y : S) (xs ys : List S) → list_all (is_below cmp x) xs ≡ true →
         list_all (is_below cmp y) ys ≡ true → In (value x) (map value (y ∷ ys)) → In (value y) (map value (x ∷ xs)) →
         value x ≡ value y
@@ -505,6 +563,7 @@ module _ {S V : Type 0} (eq : S → S → Bool) (value : S → V)
         let down : cmp y x ≡ Less = alike_right total x s.0 y (tie x s.0 (sym s.1)) ∙ s.2 in
         absurd (true≢false (ap is_gt (ap ordering_reverse (sym down) ∙ sym (total.antisymm x y) ∙ up)))
 
+    -- A key below all others has a value that none of them has.
     not_again : (x : S) (xs : List S) → list_all (is_below cmp x) xs ≡ true → In (value x) (map value xs) → ⊥
     not_again x xs a i =
         let s = key_above (value x) x xs a i in
@@ -534,6 +593,7 @@ module _ {S V : Type 0} (eq : S → S → Bool) (value : S → V)
         e : value x ≡ value y
         e = same_first x y xs ys p.0 q.0 (f (value x) (inl refl)) (g (value y) (inl refl))
 
+    -- Keys with the same row of values are equal one by one.
     pointwise_from_values : (xs ys : List S) → ∥ map value xs ≡ map value ys ∥₁ → IsTrue (pointwise eq xs ys)
     pointwise_from_values xs ys m = ∥∥₁_elim m (Bool-set _ _) (λ e. (same_lists eq value same xs ys).1 e)
 
@@ -566,9 +626,12 @@ module _ {S V : Type 0} (eq : S → S → Bool) (value : S → V)
                   ]
             ] refl
 
+-- Keys that were collected.
+
 -- what is collected from items has their values
 module _ {S V : Type 0} (test : S → S → Bool) (value : S → V)
     (is : (x y : S) → IsTrue (test x y) ↔ (value x ≡ value y)) where
+  -- An item that one of the keys equals has a value among theirs.
   any_in : (x : S) (ks : List S) → list_any (test x) ks ≡ true → In (value x) (map value ks)
   any_in x [] h = absurd (true≢false (sym h))
   any_in x (k ∷ ks) h =
@@ -578,6 +641,7 @@ module _ {S V : Type 0} (test : S → S → Bool) (value : S → V)
         | false ↦ λ q r. inr (any_in x ks r)
       ] refl h
 
+  -- For a value among theirs one of the keys is equal to an item that has it.
   in_any : (v : V) (ks : List S) → In v (map value ks) → (x : S) × (value x ≡ v) × (list_any (test x) ks ≡ true)
   in_any v [] i = absurd i
   in_any v (k ∷ ks) (inl e) =
@@ -588,18 +652,22 @@ module _ {S V : Type 0} (test : S → S → Bool) (value : S → V)
       later true b h = refl
       later false b h = h
 
+  -- Where the same items equal a key of either row, a value of the one is a value of the other.
   move_values : (ks xs : List S) → ((q : S) → list_any (test q) ks ≡ list_any (test q) xs) → (v : V) →
       Contains (map value ks) v → Contains (map value xs) v
   move_values ks xs h v c =
       let t = in_any v ks (in_from_contains v (map value ks) c) in
       contains_from_in v (map value xs) (subst (λ w. In w (map value xs)) t.1 (any_in t.0 xs (sym (h t.0) ∙ t.2)))
 
+  -- So both rows have one set of values.
   pub collected_values : (ks xs : List S) → ((q : S) → list_any (test q) ks ≡ list_any (test q) xs) →
       set_of (map value ks) ≡ set_of (map value xs)
   collected_values ks xs h = ap inl (same_value_set (map value ks) (map value xs) (λ v. (
     move_values ks xs h v,
     move_values xs ks (λ q. sym (h q)) v,
   )))
+
+-- Reading.
 
 -- an exact reader of lists is one of what is collected from them
 module _ {T V W M E : Type 0} (holds : List T → W → Type 0) (of : List V → M) (worth : W → M)
@@ -609,6 +677,7 @@ module _ {T V W M E : Type 0} (holds : List T → W → Type 0) (of : List V →
     (one : IsOneFront G)
     (exact : (octets : List ℕ) (answer : Result (List ℕ × T) (Refusal E)) → IsOctets octets → reads octets answer →
     Exactly IsCut G value (TellsMemory takes from) octets answer) where
+  -- The conversion to a set by BER is exact.
   pub set_takes : (any : Any) (answer : Result W E) → IsOctets any.content.now →
       OfParts (ListTakes 17 holds reads from) any answer →
       TakesBody (SetBody of G) worth true from (parts_of any) answer
@@ -624,6 +693,7 @@ module _ {T V W M E : Type 0} (holds : List T → W → Type 0) (of : List V →
         | inr none ↦ inr (λ m b. none b.0 b.2)
       ]
 
+  -- So it is by DER.
   pub set_reads : (any : Any) (answer : Result W E) → IsOctets any.content.now →
       OfParts (ListReads 17 holds reads from) any answer → TakesBody (SetRow of G) worth true from (parts_of any) answer
   set_reads any (Ok w) o t = (
@@ -638,9 +708,12 @@ module _ {T V W M E : Type 0} (holds : List T → W → Type 0) (of : List V →
         | inr none ↦ inr (λ m b. none b.0 b.2)
       ]
 
+-- What is told of sets in hand.
+
 -- what std collects into a set stands for the values of the items
 module _ {S V : Type 0} (eq : S → S → Bool) (value : S → V)
     (same : (x y : S) → IsTrue (eq x y) ↔ (value x ≡ value y)) where
+  -- A `HashSet` of items is the set of their values.
   pub table_told : {H : Type 0} (items : List S) (s : HashSet S H) → IsHashedOf eq items s →
       set_of (map value items) ≡ members (is_other eq) value s.keys
   table_told items s h = sym (collected_values eq value same s.keys items h.0)
@@ -648,9 +721,11 @@ module _ {S V : Type 0} (eq : S → S → Bool) (value : S → V)
 
 module _ {S V : Type 0} (eq : S → S → Bool) (value : S → V) (same : (x y : S) → IsTrue (eq x y) ↔ (value x ≡ value y))
     (cmp : S → S → Ordering) (matches : (x y : S) → eq x y ≡ eq_by_cmp cmp x y) where
+  -- Items are in neither order exactly where their values are the same.
   ties_same : (x y : S) → IsTrue (eq_by_cmp cmp x y) ↔ (value x ≡ value y)
   ties_same x y = (λ h. (same x y).0 (matches x y ∙ h), λ e. sym (matches x y) ∙ (same x y).1 e)
 
+  -- A `BTreeSet` of items is the set of their values.
   pub tree_told : (items : List S) (s : BTreeSet S) → IsFromIterResult cmp items s →
       set_of (map value items) ≡ members (is_below cmp) value s.keys
   tree_told items s h = sym (collected_values (eq_by_cmp cmp) value ties_same s.keys items h.0)
@@ -661,6 +736,7 @@ module _ {S V W : Type 0} (items : W → List S) (value : S → V) (IsDer : V �
     (Form : V → Identifier → List ℕ → Type 0) (w : Writing S)
     (strict : (x : S) → IsDer (value x) → length (whole_octets w x) < 2 ^ 64 →
     ∥ IsStrict Form (value x) (whole_octets w x) ∥₁) where
+  -- A set of the library's own in DER form has strict parts.
   pub multiset_has_form : HasForm (λ s. multiset (map value (items s))) (SetInDer multiset AnyList IsDer)
       (SetForm multiset AnyList Form) (set_writing items w)
   multiset_has_form s d l =
@@ -668,6 +744,7 @@ module _ {S V W : Type 0} (items : W → List S) (value : S → V) (IsDer : V �
       set_has_form multiset AnyList (λ vs ws p h. tt) same_multiset value IsDer Form (whole_octets w) strict xs
       (multiset (map value xs)) d (permutation_from_multiset d.0 (map value xs) d.2) l
 
+  -- A set in DER form whose members differ has strict parts.
   pub members_have_form : (test : S → S → Bool) → ((x y : S) → test x y ≡ true → value x ≡ value y → ⊥) →
       HasForm (λ s. members test value (items s)) (SetInDer set_of AllDiffer IsDer) (SetForm set_of AllDiffer Form)
       (set_writing items w)

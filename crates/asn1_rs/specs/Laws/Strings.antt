@@ -12,6 +12,7 @@ use Rattle.asn1_rs.specs.Strings.{text_leaf, string_leaf, StringGives, text_of}
 use Rattle.asn1_rs.specs.Laws.Checks.{content_check_is, is_primitive_is}
 use Rattle.asn1_rs.specs.Laws.Leaf.{leaf_converts}
 
+-- A leaf whose contents octets are a text in UTF-8 is lawful.
 pub text_lawful : {S : Type 0} (number : ℕ) (IsText : List ℕ → Type 0) (text : S → List ℕ) → number < 31 →
     is_container_number number ≡ false →
     ((octets : List ℕ) → IsText octets → IsUtf8 octets) → IsLawfulLeaf (text_leaf number IsText text)
@@ -30,6 +31,7 @@ text_lawful number IsText text small primitive utf8 = record {
 
 module _ {K : Type 0} (number : ℕ) (IsText : List ℕ → Type 0) (small : number < 31)
     (primitive : is_container_number number ≡ false) (utf8 : (octets : List ℕ) → IsText octets → IsUtf8 octets) where
+  -- Strings whose contents octets are their text are lawful.
   pub string_lawful : IsLawfulLeaf (string_leaf {K = K} number IsText)
   string_lawful = text_lawful number IsText text_of small primitive utf8
 

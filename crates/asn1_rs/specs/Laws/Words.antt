@@ -18,6 +18,8 @@ use Rattle.asn1_rs.specs.Grammar.Item.{ItemGrammar, IsLawfulItem, ber_words}
 use Rattle.asn1_rs.specs.Laws.Readers.{ber_elements, none_now}
 use Rattle.x690.specs.Nested.{IsElement}
 
+-- Words over elements.
+
 -- words of one body, over elements of which one alone begins an input
 pub word_one : {V : Type 0} (ElementOf : List ℕ → Parts → Type 0) (Check : Parts → Type 0) (Body : Parts → V → Type 0) →
     IsOneFront ElementOf → IsOneBody Body → IsOneFront (ElementWord ElementOf Check Body)
@@ -27,6 +29,8 @@ word_one ElementOf Check Body elements one = record {
       (same.0, one b.0 v w (subst (λ (q : Parts). Body q v) same.1 a.3) b.3);
   some = λ v a. elements.some a.0 a.1;
 }
+
+-- Strict encodings are words.
 
 -- a strict encoding is one element of definite length by each rule that allows it
 pub strict_element : {V : Type 0} (rule : Rule) → AllowsStrict rule →
@@ -59,17 +63,24 @@ strict_ber_word Form Body bodies v o s = (
   bodies v s.id s.content s.form,
 )
 
+-- Words of a lawful type.
+
 -- Words by BER of a lawful item have values of the type, one alone begins an input,
 -- and strict encodings are such words.
 module _ {S : Type 0} (G : ItemGrammar S) (l : IsLawfulItem G) where
+  -- A word by BER has a value of the type.
   pub ber_values : (o : List ℕ) (v : G.Value) → ber_words G o v → G.IsValue v
   ber_values o v w = l.body_values w.0 v (ber_elements.possible o w.0 w.1) w.3
 
+  -- One word by BER alone begins an input.
   pub ber_one : IsOneFront (ber_words G)
   ber_one = word_one (IsElement max_depth) NoCheck G.Body ber_elements.one l.body_one
 
+  -- A strict encoding is a word by BER.
   pub strict_ber : (v : G.Value) (o : List ℕ) → IsStrict G.Form v o → ber_words G o v
   strict_ber = strict_ber_word G.Form G.Body l.form_body
+
+-- One strict encoding, and its reading.
 
 -- a value has one strict encoding where it has one form
 pub one_strict : {V : Type 0} (Form : V → Identifier → List ℕ → Type 0) → IsOneForm Form → (v : V) (o p : List ℕ) →

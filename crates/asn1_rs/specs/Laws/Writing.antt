@@ -26,6 +26,8 @@ use Rattle.asn1_rs.specs.Laws.Tagged.Headed.{explicit_headed_writes_form, implic
 use Rattle.asn1_rs.specs.Laws.Tagged.Headed.{implicit_headed_has_form, implicit_headed_writes_form}
 use Rattle.asn1_rs.specs.Laws.Tagged.Implicit.{implicit_by_value, implicit_has_form, implicit_writes_form}
 
+-- What holds an item.
+
 -- what holds one item, and nothing else
 pub held_lawful_writing : {S T : Type 0} (held : T → S) (G : ItemGrammar S) (w : Writing S) → IsLawfulWriting G w →
     IsLawfulWriting (by_held held G) (held_writing held w)
@@ -36,6 +38,8 @@ held_lawful_writing held G w l = record {
   der_form = λ x. l.der_form (held x);
   der_writable = λ x. l.der_writable (held x);
 }
+
+-- Lists and sets.
 
 module _ {S : Type 0} (G : ItemGrammar S) (w : Writing S) (item : IsLawfulItem G) (l : IsLawfulWriting G w) where
   -- an item in DER form whose octets fit in memory is written as its strict encoding
@@ -80,9 +84,12 @@ multiset_lawful_writing items G w item l = record {
   der_writable = multiset_writable G.value G.IsDer w l.der_writable items;
 }
 
+-- Under a tag.
+
 -- values under a tag of this class and number
 module _ {S T : Type 0} (class number : ℕ) (inner : T → S) (G : ItemGrammar S) (w : Writing S) (item : IsLawfulItem G)
     (l : IsLawfulWriting G w) where
+  -- an item under an explicit tag
   pub explicit_lawful_writing : IsLawfulWriting (explicit_grammar class number inner G)
       (tag_writing class number inner (explicit_under w) w)
   explicit_lawful_writing = record {
@@ -97,6 +104,7 @@ module _ {S T : Type 0} (class number : ℕ) (inner : T → S) (G : ItemGrammar 
         (own.0, under.0, under.1);
   }
 
+  -- an item under an implicit tag
   pub implicit_lawful_writing : (own : ℕ) →
       IsLawfulWriting (implicit_grammar class number own inner G) (tag_writing class number inner (implicit_under w) w)
   implicit_lawful_writing own = record {
@@ -110,9 +118,12 @@ module _ {S T : Type 0} (class number : ℕ) (inner : T → S) (G : ItemGrammar 
         (own.0, under.0, under.1);
   }
 
+-- With the header in hand.
+
 -- values with the header of their tag in hand
 module _ {S T : Type 0} (identifier : T → Identifier) (inner : T → S) (G : ItemGrammar S) (w : Writing S)
     (item : IsLawfulItem G) (l : IsLawfulWriting G w) where
+  -- an item with the header of its explicit tag
   pub explicit_headed_lawful_writing : IsLawfulWriting (explicit_headed identifier inner G)
       (headed_writing identifier inner (explicit_under w) w)
   explicit_headed_lawful_writing = record {
@@ -125,6 +136,7 @@ module _ {S T : Type 0} (identifier : T → Identifier) (inner : T → S) (G : I
         (own.0, behind_header (w.count_refuses (inner t)) own.0, whole_writable w (inner t) own);
   }
 
+  -- an item with the header of its implicit tag
   pub implicit_headed_lawful_writing : (own : ℕ) →
       IsLawfulWriting (implicit_headed identifier own inner G) (headed_writing identifier inner (implicit_under w) w)
   implicit_headed_lawful_writing own = record {

@@ -11,7 +11,7 @@ use Rattle.asn1_rs.specs.declared.asn1_types.oid.making.OidParseError.TheVariant
 use Rattle.asn1_rs.specs.declared.asn1_types.oid.making.OidParseError.TheVariants.{ParseIntError, OutOfMemory}
 use Rattle.asn1_rs.specs.Oid.{IsStrictOid, is_relative, oid_octets, oid_value}
 
--- ---- of arcs, where `true` is of a relative identifier
+-- Of arcs, where `true` is of a relative identifier.
 
 -- the arcs of an identifier: one or more of a relative one; else the one arc 0, or a first pair and any more
 abbrev pub AreArcs : Bool → List ℕ → Type 0
@@ -61,7 +61,7 @@ OidMade relative arcs (Err FirstComponentsTooLarge) = RefusesArcs relative arcs 
 OidMade relative arcs (Err ParseIntError) = ⊥
 OidMade relative arcs (Err OutOfMemory) = AreArcs relative arcs
 
--- ---- of text
+-- Of text.
 
 -- the parts of a text between its points: one where there is none
 abbrev pub parts_between_points : List ℕ → List (List ℕ)

@@ -15,6 +15,9 @@ use Rattle.asn1_rs.specs.Kinds.{IsLawfulElement, IsExactCheck, IsExactConversion
 use Rattle.asn1_rs.specs.Any.Value.{ElementValue, element_of, ElementBody, ElementCheck, ElementForm, IsElementValue}
 use Rattle.asn1_rs.specs.Any.Value.{any_element}
 
+-- The value.
+
+-- Elements of any type are lawful.
 pub element_lawful : IsLawfulElement any_element
 element_lawful = record {
   body_values =
@@ -33,28 +36,36 @@ element_lawful = record {
   form_body = λ v i c f. f.is;
 }
 
+-- The conversion.
+
 -- it has the parts of what it was converted from
 pub the_element_parts : (any same : Any) → IsTheElement any (Ok same) → parts_of same ≡ parts_of any
 the_element_parts any same (h, c) = same_parts (identifier_of same.header) (identifier_of any.header)
     (form_of same.header.length) (form_of any.header.length) same.content.now any.content.now
     (ap identifier_of h) (ap (λ (x : Header). form_of x.length) h) c
 
+-- The conversion of an element to itself is exact.
 element_body_exact : (any : Any) (answer : Result Any Error) → IsTheElement any answer →
     TakesBody ElementBody element_of false (λ (x y : Error). y ≡ x) (parts_of any) answer
 element_body_exact any (Ok x) h = ap
     (λ (q : Parts). let e : ElementValue = record { id = q.id; content = q.content } in e) (the_element_parts any x h)
 element_body_exact any (Err e) h = absurd h
 
+-- It is exact, and does not allocate.
 pub element_converts : IsExactConversion IsTheElement any_element
 element_converts = record {
   exact = λ any answer octets h. element_body_exact any answer h;
   spares = λ none any h. h;
 }
 
+-- The constraints.
+
+-- The constraints ask a definite length, exactly.
 element_check_exact : (p : Parts) (answer : Result (Unit {0}) Error) → IsDefiniteOr p answer →
     Checks ElementCheck p answer
 element_check_exact p (Ok x) h = h
 element_check_exact p (Err e) h = λ c. let k : definite c.0 ≡ indefinite = sym c.1 ∙ h.0 in cc
 
+-- They are exact, and do not allocate.
 pub element_checks : IsExactCheck IsDefiniteOr ElementCheck
 element_checks = record { exact = element_check_exact; spares = λ p h. let e = h.1 in cc }

@@ -20,9 +20,13 @@ use Rattle.asn1_rs.specs.Grammar.Form.{header_of}
 use Rattle.asn1_rs.specs.Grammar.Item.{IsLawfulWriting}
 use Rattle.asn1_rs.specs.ToDer.{IsWritable}
 
+-- What is written.
+
+-- The strict header follows from identifier and contents octets.
 header_by : (i j : Identifier) (c d : List ℕ) → i ≡ j → c ≡ d → header_of i c ≡ header_of j d
 header_by i j c d p q = ap (λ (z : Identifier). header_of z c) p ∙ ap (λ (z : List ℕ). header_of j z) q
 
+-- What is written for elements of any type is lawful.
 pub element_lawful_writing : IsLawfulWriting (item_grammar any_element) element_writing
 element_lawful_writing = record {
   tells_all = λ x. tt;
@@ -53,12 +57,17 @@ counted_header a e =
     ap (λ (f : LengthForm). identifier_octets (identifier_of a.header) ++ length_form_octets f) e
     ∙ sym (header_octets_are (class_number a.header.class) a.header.constructed a.header.tag.0 (length a.content.now))
 
+-- Equality.
+
+-- Headers that the test calls the same say one identifier.
 pub same_parts : (g h : Header) → is_same_identifier g h ≡ true → identifier_of g ≡ identifier_of h
 same_parts g h e = search rules
 
+-- Headers that say one identifier are called the same by the test.
 pub parts_same : (g h : Header) → identifier_of g ≡ identifier_of h → is_same_identifier g h ≡ true
 parts_same g h e = search rules
 
+-- Both parts of a test that holds hold.
 pub both_true : (p q : Bool) → p && q ≡ true → (p ≡ true) × (q ≡ true)
 both_true true q e = (refl, e)
 both_true false q e = cc

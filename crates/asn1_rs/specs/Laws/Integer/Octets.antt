@@ -19,6 +19,7 @@ integer_check_is = record {
   spares = integer_checks.spares;
 }
 
+-- Integers of any size are lawful.
 pub any_integer_lawful : IsLawfulLeaf any_integer_leaf
 any_integer_lawful = record {
   small = lit< tt;

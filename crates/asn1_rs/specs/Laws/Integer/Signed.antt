@@ -26,5 +26,6 @@ signed_converts size =
 pub one_signed_refusal : (size : ℕ) (c : List ℕ) (e f : Error) → SignedRefuses size c e → SignedRefuses size c f → e ≡ f
 one_signed_refusal size c e f h k = h.1 ∙ sym k.1
 
+-- Integers with a sign are equal exactly where they are the same.
 pub signed_equal : (x y : ℤ) → IsTrue (int_eq x y) ↔ (x ≡ y)
 signed_equal x y = signed_Decides x y

@@ -14,6 +14,8 @@ use Rattle.asn1_rs.specs.declared.asn1_types.oid.Oid.{Oid}
 use Rattle.asn1_rs.specs.Oid.{is_relative, oid_octets}
 use Rattle.asn1_rs.specs.Oid.Making.{IsOidOf, arcs_back}
 
+-- The arcs come back.
+
 -- which arcs an object identifier has that was made of arcs
 absolute_arcs_back : (arcs : List ℕ) → AreAbsoluteArcs arcs →
     arcs_of false (arcs_octets false arcs) ≡ arcs_back false arcs
@@ -25,6 +27,7 @@ absolute_arcs_back (zero ∷ zero ∷ z ∷ arcs) a = absolute_back (zero ∷ ze
 absolute_arcs_back (zero ∷ suc y ∷ arcs) a = absolute_back (zero ∷ suc y ∷ arcs) a (λ e. cc)
 absolute_arcs_back (suc x ∷ y ∷ arcs) a = absolute_back (suc x ∷ y ∷ arcs) a (λ e. cc)
 
+-- They are not none.
 some_back : (arcs : List ℕ) → AreAbsoluteArcs arcs → arcs_back false arcs ≢ []
 some_back [] a = absurd a
 some_back (zero ∷ []) a = λ e. cc
@@ -34,12 +37,15 @@ some_back (zero ∷ zero ∷ z ∷ arcs) a = λ e. cc
 some_back (zero ∷ suc y ∷ arcs) a = λ e. cc
 some_back (suc x ∷ y ∷ arcs) a = λ e. cc
 
+-- What is made.
+
 -- the digits of numbers are octets
 digits_below : (digits : List ℕ) → AreTagDigits digits → AllBelowBase 256 digits
 digits_below [] d = tt
 digits_below (last ∷ []) d = (omega arith, tt)
 digits_below (digit ∷ next ∷ digits) d = (d.1, digits_below (next ∷ digits) d.2)
 
+-- The digits of subidentifiers are octets.
 numbers_octets : (ns : List ℕ) → IsOctets (subidentifier_octets ns)
 numbers_octets [] = below_octets [] tt
 numbers_octets (n ∷ ns) = octets_append (tag_digits n) (subidentifier_octets ns)

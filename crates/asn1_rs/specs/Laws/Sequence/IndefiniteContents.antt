@@ -25,28 +25,37 @@ use Rattle.asn1_rs.specs.Laws.Any.Value.{the_element_parts}
 use Rattle.asn1_rs.specs.Laws.Readers.{ber_elements, element_exact, passes_all}
 use Rattle.asn1_rs.specs.Laws.Sequence.Iterator.{octets_kept, whole_walk}
 
+-- Reading one element.
+
+-- the value of an element is its parts
 abbrev HasParts : Parts → Parts → Type 0
 HasParts p v = v ≡ p
 
+-- The conversion of an element to itself is exact.
 element_taken : (any : Any) (answer : Result Any Error) → IsOctets any.content.now → IsTheElement any answer →
     TakesBody HasParts parts_of false IsSame (parts_of any) answer
 element_taken any (Ok same) o g = the_element_parts any same g
 element_taken any (Err e) o g = absurd g
 
+-- An element by BER is a word whose value is its parts.
 element_split : (o : List ℕ) (v : Parts) → IsElement max_depth o v →
     ElementWord (IsElement max_depth) NoCheck HasParts o v
 element_split o v a = (v, a, tt, refl)
 
+-- Such a word is an element by BER.
 element_join : (o : List ℕ) (v : Parts) → ElementWord (IsElement max_depth) NoCheck HasParts o v →
     IsElement max_depth o v
 element_join o v a = subst (λ (p : Parts). IsElement max_depth o p) (sym a.3) a.1
 
+-- The reader of elements is exact.
 elements_exact : (octets : List ℕ) (answer : Result (List ℕ × Any) (Refusal Error)) → IsOctets octets →
     ElementsGive octets answer →
     Exactly EndsWithin (IsElement max_depth) parts_of (TellsMemory false IsSame) octets answer
 elements_exact octets answer o = element_exact (IsElement max_depth) (ElementFault max_depth) EndsWithin ber_elements
     ber_breach PassesAll IsTheElement IsSame NoCheck HasParts parts_of false
     (IsElement max_depth) passes_all element_taken element_split element_join octets answer
+
+-- The walk.
 
 -- elements of a lesser depth are elements by BER
 row_words : (within : ℕ) (words : List (List ℕ)) (headers : ℕ) → within ≤ max_depth →
@@ -63,6 +72,7 @@ no_end octets (Err e ∷ []) left w = let untold = w.1.0 in cc
 no_end octets (Err e ∷ (a ∷ others)) left w = w
 no_end octets (Ok x ∷ others) left w = w
 
+-- A walk over the contents octets of an element of indefinite length gives its elements, and tells no refusal.
 pub indefinite_walk : (input : List ℕ) (x : List ℕ × Any) (content : List ℕ) (answers : List (Result Any Error))
     (left : List ℕ) → BerElementGives input (Ok x) → (parts_of x.1).form ≡ indefinite →
     content ≡ (parts_of x.1).content → Yields (TakesItem ElementsGive IsSame) content answers left →

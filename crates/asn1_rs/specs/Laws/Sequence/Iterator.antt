@@ -21,6 +21,8 @@ use Rattle.asn1_rs.specs.Sequence.Iterator.{octets_left, WalkSteps, EndsWalk, Is
 use Rattle.asn1_rs.specs.Sequence.Iterator.{TellsMemoryAlone, IsMemory}
 use Rattle.asn1_rs.specs.Laws.Readers.{none_now}
 
+-- Calls as steps.
+
 -- Calls on an iterator are steps over the octets that are left.
 pub octets_walked : {T F E : Type 0} (reads : List ℕ → Result (List ℕ × T) (Refusal E) → Type 0)
     (from : Error → E → Type 0) (s t : SequenceIterator T F E) (answers : List (Result T E)) →
@@ -28,11 +30,15 @@ pub octets_walked : {T F E : Type 0} (reads : List ℕ → Result (List ℕ × T
 octets_walked reads from s t [] y = ap octets_left y
 octets_walked reads from s t (x ∷ answers) (j, step, y) = (octets_left j, step, octets_walked reads from j t answers y)
 
+-- Octets that are not none are one at least.
 some_length : (octets : List ℕ) → octets ≢ [] → 1 ≤ length octets
 some_length [] n = absurd (n refl)
 some_length (x ∷ xs) n = omega arith
 
+-- Any walk.
+
 module _ {T E : Type 0} (reads : List ℕ → Result (List ℕ × T) (Refusal E) → Type 0) (from : Error → E → Type 0) where
+  -- one call as a step over the octets that are left
   abbrev Steps : List ℕ → Option (Result T E) → List ℕ → Type 0
   Steps = TakesItem reads from
 
@@ -71,6 +77,7 @@ module _ {T E : Type 0} (reads : List ℕ → Result (List ℕ × T) (Refusal E)
       Front G octets (value item) rest × Keeps rest)
       (tells : (octets : List ℕ) (answer : Result (List ℕ × T) (Refusal E)) (e : E) → Keeps octets → octets ≢ [] →
       reads octets answer → EndsItem from octets answer e → Tells octets e) where
+    -- A walk each of whose items is a word, and whose refusal tells what it has to, is a walk over the words.
     pub walk_made : (answers : List (Result T E)) (content left : List ℕ) → Keeps content →
         Yields Steps content answers left → IsWalk G value Tells content answers left
     walk_made [] content left k y = record {
@@ -113,6 +120,8 @@ module _ {T E : Type 0} (reads : List ℕ → Result (List ℕ × T) (Refusal E)
         let n = nothing_follows (a ∷ answers) left (subst (λ (k : List ℕ). Yields Steps k (a ∷ answers) left) s.2 y) in
         cc
 
+-- Walks of a reader that is exact.
+
 -- what follows the front of octets are octets
 pub octets_kept : (octets word rest : List ℕ) → IsOctets octets → octets ≡ word ++ rest → IsOctets rest
 octets_kept octets word rest o e = octets_back word rest (subst IsOctets e o)
@@ -149,6 +158,7 @@ module _ {T V E : Type 0} (reads : List ℕ → Result (List ℕ × T) (Refusal 
       memory_told (cut n) f s t m = cc
       memory_told (failed x) f s t m = cc
 
+  -- A walk gives the words at the front in turn; a refusal tells that no word follows, or of want of memory.
   pub lawful_walk : (answers : List (Result T E)) (content left : List ℕ) → Keeps content →
       Yields (TakesItem reads from) content answers left →
       IsWalk G value (TellsNoWord G (IsMemory takes from)) content answers left
@@ -156,6 +166,9 @@ module _ {T V E : Type 0} (reads : List ℕ → Result (List ℕ × T) (Refusal 
       (λ octets rest item o n g. let f = exact octets (Ok (rest, item)) o g in (f, kept octets f.word rest o f.is))
       (λ octets answer e o n g w. end_tells octets answer e o g w)
 
+  -- Walks over joined words.
+
+  -- octets of the kind that is kept, which are joined words
   abbrev KeepsJoined : List ℕ → Type 0
   KeepsJoined octets = Keeps octets × AreJoinedWords G octets
 
@@ -177,6 +190,7 @@ module _ {T V E : Type 0} (reads : List ℕ → Result (List ℕ × T) (Refusal 
   begins_joined octets n ([], a, e) none = n e
   begins_joined octets n (w ∷ words, a, e) none = none w (concat words) a.0.0 e a.0.1
 
+  -- A walk over joined words gives them in turn, and tells no refusal but want of memory.
   pub whole_walk : (answers : List (Result T E)) (content left : List ℕ) → Keeps content → AreJoinedWords G content →
       Yields (TakesItem reads from) content answers left →
       IsWalk G value (TellsMemoryAlone (IsMemory takes from)) content answers left
@@ -192,6 +206,8 @@ module _ {T V E : Type 0} (reads : List ℕ → Result (List ℕ × T) (Refusal 
       ])
       answers content left (o, a)
 
+-- Runs of std's consumers.
+
 -- What holds of a walk over octets holds of the runs of std's consumers.
 pub run_walked : {T F V E : Type 0} (reads : List ℕ → Result (List ℕ × T) (Refusal E) → Type 0)
     (from : Error → E → Type 0) (G : List ℕ → V → Type 0) (value : T → V) (Tells : List ℕ → E → Type 0)
@@ -206,6 +222,7 @@ run_walked reads from G value Tells p walks = let y = p.gave.0 in record {
 }
 
 module _ {T V : Type 0} (G : List ℕ → V → Type 0) (value : T → V) where
+  -- Octets that words make one behind another are joined words with the values of the items.
   joined_words : (words : List (List ℕ)) (items : List T) (octets : List ℕ) →
       AllZip (λ word item. G word (value item)) words items → octets ≡ concat words →
       IsJoined G octets (map value items)

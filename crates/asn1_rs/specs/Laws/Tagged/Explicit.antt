@@ -43,26 +43,36 @@ use Rattle.asn1_rs.specs.Tagged.Explicit.{ExplicitCheckGives, explicit_grammar, 
 use Rattle.asn1_rs.specs.ToDer.{Writing, whole_octets, whole_refuses}
 use Rattle.asn1_rs.specs.Tagged.Writing.{explicit_under, tag_writing}
 
+-- The tag, and the body.
+
+-- The checks of an explicit tag are a check.
 pub tag_checks_are : (class number : ℕ) → IsCheck (tag_checks class number)
 tag_checks_are class number = before_is (has_number number) (is_constructed before has_class class)
     (has_number_is number) (before_is is_constructed (has_class class) is_constructed_is (has_class_is class))
 
 module _ {V : Type 0} (class number : ℕ) where
+  -- An element has one value under the tag, where one word alone begins its contents octets.
   explicit_one_body : (G : List ℕ → V → Type 0) → IsOneFront G → IsOneBody (ExplicitBody class number G)
   explicit_one_body G one p v w a b =
       (one.one a.inner.word b.inner.word a.rest b.rest v w a.inner.fits b.inner.fits (sym a.inner.is ∙ b.inner.is)).1
 
+  -- Its value is one of the type's where each word has such.
   explicit_values : (G : List ℕ → V → Type 0) (P : V → Type 0) → ((o : List ℕ) (v : V) → G o v → P v) →
       (p : Parts) (v : V) → ExplicitBody class number G p v → P v
   explicit_values G P h p v b = h b.inner.word v b.inner.fits
 
+  -- Strict parts.
+
   module _ (Form : V → Identifier → List ℕ → Type 0) where
+    -- A value has one strict form under the tag where it has one without.
     pub explicit_one_form : IsOneForm Form → IsOneForm (ExplicitForm class number Form)
     explicit_one_form one = λ v i j c d f g. (f.id_is ∙ sym g.id_is, one_strict Form one v c d f.inner g.inner)
 
+    -- Strict parts have one value where the value's have.
     explicit_one_value : IsOneValue Form → IsOneValue (ExplicitForm class number Form)
     explicit_one_value one = λ v w i c f g. (strict_apart Form one v w c c [] [] f.inner g.inner refl).1
 
+    -- They fit an element.
     pub explicit_fits : FitsElement (ExplicitForm class number Form)
     explicit_fits = λ v i c f. (
       let e = ap (λ (z : Identifier). z.class) f.id_is in let l = f.is_class in omega arith,
@@ -70,6 +80,7 @@ module _ {V : Type 0} (class number : ℕ) where
       definite_element_is_octets der_rule c _ (strict_element der_rule der_allows_strict Form v c f.inner),
     )
 
+    -- They are those of the type's values alone.
     explicit_form_values : (P : V → Type 0) → HasValues Form P → HasValues (ExplicitForm class number Form) P
     explicit_form_values P h = λ v i c f. h v f.inner.id f.inner.content f.inner.form
 
@@ -81,6 +92,7 @@ module _ {V : Type 0} (class number : ℕ) where
       (ap (λ (z : Identifier). z.constructed) f.id_is, ap (λ (z : Identifier). z.class) f.id_is),
     )
 
+    -- They have the value.
     pub explicit_form_body : (G : List ℕ → V → Type 0) → ((v : V) (o : List ℕ) → IsStrict Form v o → G o v) →
         FormBodies (ExplicitForm class number Form) (ExplicitBody class number G)
     explicit_form_body G words = λ v i c f. record {
@@ -97,6 +109,7 @@ module _ {V : Type 0} (class number : ℕ) where
           (strict_element ber_rule ber_allows_strict Form v o s),
     )
 
+    -- They meet the check of the value within.
     pub explicit_form_check : (ElementOf : List ℕ → Parts → Type 0) →
         ((v : V) (o : List ℕ) (s : IsStrict Form v o) → ElementOf o (made s.id s.content)) → (Check : Parts → Type 0) →
         FormChecks Form Check → FormChecks (ExplicitForm class number Form) (ExplicitCheck ElementOf Check)
@@ -108,8 +121,11 @@ module _ {V : Type 0} (class number : ℕ) where
       checked = checks v f.inner.id f.inner.content f.inner.form;
     }
 
+    -- They have the number of the tag.
     pub explicit_number : FormNumber (ExplicitForm class number Form) (number_of number)
     explicit_number = λ v i c f. ap (λ (z : Identifier). z.number) f.id_is ∙ sym (number_is number f.is_number)
+
+    -- Lawful over a lawful type.
 
     -- the class of the tag is taken, and is its own
     pub explicit_takes_class : (G : List ℕ → V → Type 0) (Check : Parts → Type 0) →
@@ -122,6 +138,7 @@ module _ {V : Type 0} (class number : ℕ) where
           explicit_form_body G words v i c f,
         )
 
+-- Values under an explicit tag are lawful over a lawful type.
 pub explicit_lawful : {S T : Type 0} (class number : ℕ) (inner : T → S) (G : ItemGrammar S) → IsLawfulItem G →
     IsLawfulItem (explicit_grammar class number inner G)
 explicit_lawful class number inner G l = record {
@@ -142,11 +159,14 @@ explicit_lawful class number inner G l = record {
       (λ v i c f. tt) (explicit_form_body class number G.Form G.Der l.strict_der);
 }
 
--- what is written
+-- What is written.
+
 module _ {S T V : Type 0} (class number : ℕ) (inner : T → S) (value : S → V) (w : Writing S) where
+  -- what is written under the tag
   abbrev Under : Writing T
   Under = tag_writing class number inner (explicit_under w) w
 
+  -- It follows from the value.
   pub explicit_by_value : WritesByValue value w → WritesByValue (λ t. value (inner t)) Under
   explicit_by_value law x y e =
       let l = law (inner x) (inner y) e in
@@ -154,6 +174,7 @@ module _ {S T V : Type 0} (class number : ℕ) (inner : T → S) (value : S → 
       (refl, ap (λ (c : List ℕ). header_octets class true number (length c)) h, h)
 
   module _ (Form : V → Identifier → List ℕ → Type 0) where
+    -- It is the strict parts, where a value has such.
     pub explicit_writes_form : WritesForm value Form w →
         WritesForm (λ t. value (inner t)) (ExplicitForm class number Form) Under
     explicit_writes_form law t i c f =
@@ -174,6 +195,8 @@ module _ {S T V : Type 0} (class number : ℕ) (inner : T → S) (value : S → 
         (ExplicitForm class number Form) Under
     explicit_has_form IsDer strict t d l = ∥∥₁_map (strict (inner t) d.2 l)
         (λ s. (explicit_identifier class number, record { is_class = d.0; is_number = d.1; id_is = refl; inner = s }))
+
+-- Reading.
 
 -- what tells of refused memory, told as an error
 memory_told : {E : Type 0} (from : Error → E → Type 0) (r : Refusal E) (e f : E) → r ≡ refused f →
@@ -200,6 +223,7 @@ module _ {T V W E : Type 0} (class number : ℕ) (inner : W → T)
         | inr n ↦ inr (λ v b. none_now (IsCut p.content) r G p.content n b.inner.word b.rest v b.inner.is b.inner.fits)
       ]
 
+  -- the words by DER of a value under the tag
   abbrev Word : List ℕ → V → Type 0
   Word = DerWord NoCheck (ExplicitBody class number G)
 
@@ -256,12 +280,14 @@ module _ {T W E : Type 0} (class number : ℕ) (inner : W → T) (reads : List �
     (from : Error → E → Type 0)
     (spares : (octets : List ℕ) (answer : Result (List ℕ × T) (Refusal E)) → reads octets answer →
     IfErr answer (HeldIn (IsOther from))) where
+  -- Where the value's reader does not report out of memory, the conversion does not.
   pub explicit_takes_spares : (p : Parts) (e : E) → ExplicitTakes class number inner reads from p (Err e) →
       IsOther from e
   explicit_takes_spares p e (inl r) =
       check_spares (tag_checks class number) (tag_checks_are class number) from p r.0 e r.1 r.2
   explicit_takes_spares p e (inr (h, (r, g, f))) = told_spares from r e (spares p.content (Err r) g) f
 
+  -- Nor does the reader by DER.
   pub explicit_der_spares : (input : List ℕ) (answer : Result (List ℕ × W) (Refusal E)) →
       ExplicitGives class number inner reads from input answer → IfErr answer (HeldIn (IsOther from))
   explicit_der_spares input (Ok x) g = tt
@@ -269,6 +295,8 @@ module _ {T W E : Type 0} (class number : ℕ) (inner : W → T) (reads : List �
   explicit_der_spares input (Err r) (inr (p, rest, f, inl t)) = subst (HeldIn (IsOther from)) (sym t.2.2)
       (check_spares (tag_checks class number) (tag_checks_are class number) from p t.0 t.2.0 t.1 t.2.1)
   explicit_der_spares input (Err r) (inr (p, rest, f, inr t)) = spares p.content (Err r) t.1
+
+-- Checking.
 
 -- memory is not another cause than memory
 none_is_memory : IsOther (λ (x y : Error). y ≡ x) errors.OutOfMemory → ⊥
@@ -280,9 +308,11 @@ module _ (ElementOf : List ℕ → Parts → Type 0) (FaultOf : List ℕ → Fau
     (elements : AreElements ElementOf FaultOf IsCut) (refuses : Breach → Error)
     (other : (breach : Breach) → refuses breach ≢ errors.OutOfMemory)
     (check : CheckGives) (Check : Parts → Type 0) (inner : IsExactCheck check Check) where
+  -- what the check of the value under the tag may answer
   abbrev Gives : CheckGives
   Gives = ExplicitCheckGives (AnyGives ElementOf FaultOf (refusal_of refuses)) check
 
+  -- It is exact where the value's check is.
   pub explicit_checks : IsExactCheck Gives (ExplicitCheck ElementOf Check)
   explicit_checks = record { exact = exact; spares = spares }
     where

@@ -29,6 +29,9 @@ use Rattle.asn1_rs.specs.ToDer.{Writing, whole_octets}
 use Rattle.asn1_rs.specs.Tagged.Writing.{explicit_under, headed_writing, implicit_under}
 use Rattle.asn1_rs.specs.Laws.Forms.{strict_written, behind_header, whole_writable}
 
+-- Identifiers beside values.
+
+-- Pairs are the same where both parts are.
 pair_same : {A B : Type 0} (x y : A × B) → x.0 ≡ y.0 → x.1 ≡ y.1 → x ≡ y
 pair_same x y p q = ap (λ z. (z, x.1)) p ∙ ap (λ z. (y.0, z)) q
 
@@ -52,16 +55,21 @@ headed_same {V} g h same v w law = (
       ap (λ b. b && (same && true)) i ∙ ap (λ b. b && true) c,
 )
 
+-- Explicit tags: what is read.
+
 module _ {V : Type 0} (G : List ℕ → V → Type 0) where
+  -- An element has one value with its header, where one word alone begins its contents octets.
   headed_one_body : IsOneFront G → IsOneBody (HeadedBody G)
   headed_one_body one p v w a b = pair_same v w (a.id ∙ sym b.id) (one.one a.inner.word b.inner.word a.rest b.rest v.1
       w.1 a.inner.fits b.inner.fits (sym a.inner.is ∙ b.inner.is)).1
 
+  -- Its identifier is one that an element can have, and the value within one of the type's.
   headed_values : (P : V → Type 0) → ((o : List ℕ) (v : V) → G o v → P v) → (p : Parts) (v : Identifier × V) →
       ArePossible p → HeadedBody G p v → IsBorne v.0 × P v.1
   headed_values P h p v a b =
       (subst IsBorne (sym b.id) (record { class = a.class; number = a.number }), h b.inner.word v.1 b.inner.fits)
 
+  -- Strict parts have the value with its header.
   headed_form_body : (Form : V → Identifier → List ℕ → Type 0) → ((v : V) (o : List ℕ) → IsStrict Form v o → G o v) →
       FormBodies (HeadedForm Form) (HeadedBody G)
   headed_form_body Form words = λ v i c f. record {
@@ -70,6 +78,7 @@ module _ {V : Type 0} (G : List ℕ → V → Type 0) where
     inner = record { word = c; fits = words v.1 c f.1.inner; is = sym (append-nil c) };
   }
 
+-- Values with the header of their explicit tag are lawful over a lawful type.
 pub explicit_headed_lawful : {S T : Type 0} (identifier : T → Identifier) (inner : T → S) (G : ItemGrammar S) →
     IsLawfulItem G → IsLawfulItem (explicit_headed identifier inner G)
 explicit_headed_lawful identifier inner G l = record {
@@ -97,11 +106,15 @@ explicit_headed_lawful identifier inner G l = record {
       (headed_form_body G.Der G.Form l.strict_der);
 }
 
+-- Explicit tags: what is written.
+
 -- what is written under an explicit tag is what is written under one of the header's class and number
 module _ {S T V : Type 0} (identifier : T → Identifier) (inner : T → S) (value : S → V) (w : Writing S) where
+  -- what is written under the header in hand
   abbrev Explicitly : Writing T
   Explicitly = headed_writing identifier inner (explicit_under w) w
 
+  -- It follows from the header and the value.
   pub explicit_headed_by_value : WritesByValue value w → WritesByValue (headed_value identifier inner value) Explicitly
   explicit_headed_by_value law = λ x y e.
       let l = explicit_by_value (identifier x).class (identifier x).number inner value w law x y
@@ -112,6 +125,7 @@ module _ {S T V : Type 0} (identifier : T → Identifier) (inner : T → S) (val
         l.2,
       )
 
+  -- It is the strict parts, where a value has such.
   pub explicit_headed_writes_form : (Form : V → Identifier → List ℕ → Type 0) → WritesForm value Form w →
       WritesForm (headed_value identifier inner value) (HeadedForm Form) Explicitly
   explicit_headed_writes_form Form law = λ t i c f.
@@ -119,6 +133,7 @@ module _ {S T V : Type 0} (identifier : T → Identifier) (inner : T → S) (val
       let free = strict_written value Form w law (inner t) c f.1.inner in
       ((k.0.0, behind_header (w.count_refuses (inner t)) k.0.0, whole_writable w (inner t) free.0), k.1, k.2, k.3)
 
+  -- A value in DER form under a constructed header has strict parts.
   pub explicit_headed_has_form : (Form : V → Identifier → List ℕ → Type 0) (IsDer : V → Type 0) → ((x : S) →
       IsDer (value x) → length (whole_octets w x) < 2 ^ 64 → ∥ IsStrict Form (value x) (whole_octets w x) ∥₁) →
       HasForm (headed_value identifier inner value) (λ v. IsBorne v.0 × ((v.0).constructed ≡ true) × IsDer v.1)
@@ -127,6 +142,8 @@ module _ {S T V : Type 0} (identifier : T → Identifier) (inner : T → S) (val
       ∥∥₁_map (explicit_has_form (identifier t).class (identifier t).number inner value w Form IsDer strict t
       (d.0.class, d.0.number, d.2) l)
       (λ s. (s.0, (by_constructed (identifier t) true d.1 ∙ sym s.1.id_is, s.1)))
+
+-- Implicit tags: what is read.
 
 -- what one says of each of the four classes holds of a class
 pub each_class : (P : ℕ → Type 0) → P 0 → P 1 → P 2 → P 3 → (class : ℕ) → class < 4 → P class
@@ -137,9 +154,11 @@ each_class P a b c d (suc (suc (suc zero))) l = d
 each_class P a b c d (suc (suc (suc (suc n)))) l = absurd (omega arith)
 
 module _ {V : Type 0} (own : ℕ) (Body : Parts → V → Type 0) where
+  -- An element has one value with its header, where it has one by the value's own number.
   under_one_body : IsOneBody Body → IsOneBody (UnderBody own Body)
   under_one_body one p v w a b = pair_same v w (a.id ∙ sym b.id) (one (under own p) v.1 w.1 a.body b.body)
 
+  -- Its identifier is one that an element can have, and the value within one of the type's.
   under_values : (P : V → Type 0) → own < 2 ^ 32 → ((p : Parts) (v : V) → ArePossible p → Body p v → P v) →
       (p : Parts) (v : Identifier × V) → ArePossible p → UnderBody own Body p v → IsBorne v.0 × P v.1
   under_values P small h p v a b = (
@@ -188,11 +207,15 @@ implicit_headed_lawful identifier own inner G l small numbered takes = record {
     check v i c f = (implicit_form_check (v.0).class (v.0).number G.Form own G.Check G.Body numbered
         (takes (v.0).class f.1.is_class) v.1 i c f.1).checked
 
+-- Implicit tags: what is written.
+
 -- what is written under an implicit tag is what is written under one of the header's class and number
 module _ {S T V : Type 0} (identifier : T → Identifier) (inner : T → S) (value : S → V) (w : Writing S) where
+  -- what is written under the header in hand
   abbrev Implicitly : Writing T
   Implicitly = headed_writing identifier inner (implicit_under w) w
 
+  -- It follows from the header and the value.
   pub implicit_headed_by_value : WritesByValue value w → WritesByValue (headed_value identifier inner value) Implicitly
   implicit_headed_by_value law = λ x y e.
       let l = implicit_by_value (identifier x).class (identifier x).number inner value w law x y
@@ -203,6 +226,7 @@ module _ {S T V : Type 0} (identifier : T → Identifier) (inner : T → S) (val
         l.2,
       )
 
+  -- It is the strict parts, where a value has such.
   pub implicit_headed_writes_form : (Form : V → Identifier → List ℕ → Type 0) → WritesForm value Form w →
       WritesForm (headed_value identifier inner value) (UnderForm Form) Implicitly
   implicit_headed_writes_form Form law = λ t i c f.
@@ -210,6 +234,7 @@ module _ {S T V : Type 0} (identifier : T → Identifier) (inner : T → S) (val
       let free = law (inner t) f.1.own c f.1.form in
       ((k.0.0, behind_header (w.count_refuses (inner t)) k.0.0, free.0.2), k.1, k.2, k.3)
 
+  -- A value in DER form, under a header with the constructed bit of its form, has strict parts.
   pub implicit_headed_has_form : (Form : V → Identifier → List ℕ → Type 0) (IsDer : V → Type 0) →
       HasForm value IsDer Form w →
       HasForm (headed_value identifier inner value)

@@ -29,6 +29,9 @@ use Rattle.asn1_rs.specs.Tagged.Implicit.{ImplicitTakes, ImplicitCheckGives, imp
 use Rattle.asn1_rs.specs.ToDer.{Writing}
 use Rattle.asn1_rs.specs.Tagged.Writing.{implicit_under, tag_writing}
 
+-- Elements under another tag number.
+
+-- The checks of an implicit tag are a check.
 pub implicit_checks_are : (class number : ℕ) → IsCheck (implicit_checks class number)
 implicit_checks_are class number =
     before_is (has_number number) (has_class class) (has_number_is number) (has_class_is class)
@@ -38,23 +41,32 @@ pub parts_under : (own : Tag) (any other : Any) → IsUnder own any other → pa
 parts_under own any other u =
     rw u.header.class_is (rw u.header.constructed_is (rw u.header.tag_is (rw u.header.length_is (rw u.content refl))))
 
+-- An element can have the other number, too.
 pub under_possible : (own : ℕ) (p : Parts) → own < 2 ^ 32 → ArePossible p → ArePossible (under own p)
 under_possible own p small h = record { class = h.class; number = small; content = h.content }
 
+-- The body.
+
 module _ {V : Type 0} (class number own : ℕ) (Body : Parts → V → Type 0) where
+  -- An element has one value under the tag where it has one by the value's own number.
   implicit_one_body : IsOneBody Body → IsOneBody (ImplicitBody class number own Body)
   implicit_one_body one p v w a b = one (under own p) v w a.body b.body
 
+  -- Its value is one of the type's where the value within is.
   implicit_values : (P : V → Type 0) → own < 2 ^ 32 → ((p : Parts) (v : V) → ArePossible p → Body p v → P v) →
       (p : Parts) (v : V) → ArePossible p → ImplicitBody class number own Body p v → P v
   implicit_values P small h p v a b = h (under own p) v (under_possible own p small a) b.body
 
+-- Strict parts.
+
 module _ {V : Type 0} (class number : ℕ) (Form : V → Identifier → List ℕ → Type 0) where
+  -- A value has one strict form under the tag where it has one without.
   pub implicit_one_form : IsOneForm Form → IsOneForm (ImplicitForm class number Form)
   implicit_one_form one = λ v i j c d f g.
       let same = one v f.own g.own c d f.form g.form in
       (f.id_is ∙ ap (implicit_identifier class number) same.0 ∙ sym g.id_is, same.1)
 
+  -- Its strict parts fit an element where the value's do.
   pub implicit_fits : FitsElement Form → FitsElement (ImplicitForm class number Form)
   implicit_fits fits = λ v i c f. (
     subst (λ (z : Identifier). z.class < 4) (sym f.id_is) f.is_class,
@@ -62,9 +74,11 @@ module _ {V : Type 0} (class number : ℕ) (Form : V → Identifier → List ℕ
     (fits v f.own c f.form).2,
   )
 
+  -- They are those of the type's values alone.
   implicit_form_values : (P : V → Type 0) → HasValues Form P → HasValues (ImplicitForm class number Form) P
   implicit_form_values P h = λ v i c f. h v f.own c f.form
 
+  -- They have the number of the tag.
   pub implicit_number : FormNumber (ImplicitForm class number Form) (number_of number)
   implicit_number = λ v i c f. ap (λ (z : Identifier). z.number) f.id_is ∙ sym (number_is number f.is_number)
 
@@ -79,21 +93,26 @@ module _ {V : Type 0} (class number : ℕ) (Form : V → Identifier → List ℕ
         ap (λ (n : ℕ). made (record { class = class; constructed = f.own.constructed; number = n }) c)
         (sym (numbered v f.own c f.form))
 
+    -- They have the value.
     pub implicit_form_body : FormBodies (ImplicitForm class number Form) (ImplicitBody class number own Body)
     implicit_form_body = λ v i c f. record {
       tag = (ap (λ (z : Identifier). z.number) f.id_is, ap (λ (z : Identifier). z.class) f.id_is);
       body = subst (λ (p : Parts). Body p v) (sym (form_under v i c f)) (takes v f.own c f.form).1;
     }
 
+    -- They meet the value's check.
     pub implicit_form_check : FormChecks (ImplicitForm class number Form) (ImplicitCheck own Check)
     implicit_form_check = λ v i c f. record {
       counted = (length c, refl);
       checked = subst Check (sym (form_under v i c f)) (takes v f.own c f.form).0;
     }
 
+    -- They have one value.
     implicit_one_value : IsOneBody Body → IsOneValue (ImplicitForm class number Form)
     implicit_one_value one = λ v w i c f g.
         one (under own (made i c)) v w (implicit_form_body v i c f).body (implicit_form_body w i c g).body
+
+    -- Lawful over a lawful type.
 
     -- the class of the tag is taken, and is its own
     pub implicit_takes_class : FormTakes (ImplicitForm class number Form) (ImplicitCheck own Check)
@@ -132,11 +151,14 @@ implicit_lawful class number own inner G l small numbered takes = record {
     form_body : FormBodies (ImplicitForm class number G.Form) (ImplicitBody class number own G.Body)
     form_body = implicit_form_body class number G.Form own G.Check G.Body numbered takes
 
--- what is written
+-- What is written.
+
 module _ {S T V : Type 0} (class number : ℕ) (inner : T → S) (value : S → V) (w : Writing S) where
+  -- what is written under the tag
   abbrev Under : Writing T
   Under = tag_writing class number inner (implicit_under w) w
 
+  -- It follows from the value.
   pub implicit_by_value : WritesByValue value w → WritesByValue (λ t. value (inner t)) Under
   implicit_by_value law x y e =
       let l = law (inner x) (inner y) e in (
@@ -147,6 +169,7 @@ module _ {S T V : Type 0} (class number : ℕ) (inner : T → S) (value : S → 
       )
 
   module _ (Form : V → Identifier → List ℕ → Type 0) where
+    -- It is the strict parts, where a value has such.
     pub implicit_writes_form : WritesForm value Form w →
         WritesForm (λ t. value (inner t)) (ImplicitForm class number Form) Under
     implicit_writes_form law t i c f =
@@ -168,6 +191,8 @@ module _ {S T V : Type 0} (class number : ℕ) (inner : T → S) (value : S → 
       implicit_identifier class number f.0,
       record { is_class = d.0; is_number = d.1; own = f.0; id_is = refl; form = f.1 },
     ))
+
+-- Reading, and checking.
 
 -- the conversion is exact where the value's is
 pub implicit_takes : {T V W E : Type 0} (class number : ℕ) (inner : W → T) (own : Tag)

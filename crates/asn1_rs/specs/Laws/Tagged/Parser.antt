@@ -28,6 +28,9 @@ use Rattle.asn1_rs.specs.Tagged.Headed.{HeadedBody, UnderBody, CheckedBody, head
 use Rattle.asn1_rs.specs.Tagged.Parser.{IsUnder, TakesExplicit, TakesImplicit, ChecksAndConverts, header_of, inner_of}
 use Rattle.asn1_rs.specs.Traits.{ElementGives, PassesAll}
 
+-- Explicit tags.
+
+-- the identifier of the header in hand, and the value within
 abbrev parser_value : {K T V E : Type 0} → (T → V) → TaggedParser K T E → Identifier × V
 parser_value value = headed_value (λ t. identifier_of (header_of t)) inner_of value
 
@@ -47,6 +50,7 @@ module _ {K T V E : Type 0} (ElementOf : List ℕ → Parts → Type 0) (FaultOf
     (value : T → V) (takes : Bool)
     (exact : (octets : List ℕ) (answer : Result (List ℕ × T) (Refusal E)) → IsOctets octets → reads octets answer →
     Exactly IsCut G value (TellsMemory takes from) octets answer) where
+  -- A reader of values with the header of an explicit tag is exact where the value's reader is.
   pub explicit_parser_exact : (input : List ℕ) (answer : Result (List ℕ × TaggedParser K T E) (Refusal E)) →
       ThenGives ElementOf FaultOf (refusal_of refuses) from (TakesExplicit reads) input answer → Exactly IsCut
       (ElementWord ElementOf NoCheck (HeadedBody G)) (parser_value value) (TellsMemory takes from) input answer
@@ -92,6 +96,8 @@ explicit_parser_spares ElementOf FaultOf refuses other reads from spares input (
 explicit_parser_spares ElementOf FaultOf refuses other reads from spares input (Err r) (inr (any, rest, begins, read)) =
     spares any.content.now (Err r) read
 
+-- Implicit tags.
+
 -- what converting an element under that tag number may answer: the value with the element's own header, or the refusal
 abbrev ConvertsToHeaded : {K T E : Type 0} → Tag → (Any → Result T E → Type 0) → Any →
     Result (TaggedParser K T E) E → Type 0
@@ -134,6 +140,7 @@ checked_exact check Check l converts from Body value takes exact any (Err e) o (
       | inr none ↦ inr (λ v b. none v b.1)
     ]
 
+-- Where check and conversion do not report out of memory, both together do not.
 pub checked_spares : {T E : Type 0} (check : CheckGives) → ((p : Parts) → check p (Err OutOfMemory) → ⊥) →
     (converts : Any → Result T E → Type 0) (from : Error → E → Type 0) →
     ((any : Any) (e : E) → converts any (Err e) → IsOther from e) →
@@ -148,6 +155,7 @@ module _ {K T E : Type 0} (ElementOf : List ℕ → Parts → Type 0) (FaultOf :
       (Body : Parts → V → Type 0) (value : T → V) (takes : Bool)
       (exact : (any : Any) (answer : Result T E) → IsOctets any.content.now → converts any answer →
       TakesBody Body value takes from (parts_of any) answer) where
+    -- The conversion under that tag number is exact where the value's is.
     under_exact : (any : Any) (answer : Result (TaggedParser K T E) E) → IsOctets any.content.now →
         ConvertsToHeaded own converts any answer →
         TakesBody (UnderBody own.0 Body) (parser_value value) takes from (parts_of any) answer
@@ -163,6 +171,7 @@ module _ {K T E : Type 0} (ElementOf : List ℕ → Parts → Type 0) (FaultOf :
               inr (λ v b. none v.1 (subst (λ (p : Parts). Body p v.1) (sym (parts_under own any other u)) b.body))
         ]
 
+    -- A reader of values with the header of an implicit tag is exact where the value's conversion is.
     pub implicit_parser_exact : (input : List ℕ) (answer : Result (List ℕ × TaggedParser K T E) (Refusal E)) →
         ThenGives ElementOf FaultOf (refusal_of refuses) from (TakesImplicit own converts) input answer →
         Exactly IsCut (ElementWord ElementOf NoCheck (UnderBody own.0 Body)) (parser_value value)
@@ -173,6 +182,7 @@ module _ {K T E : Type 0} (ElementOf : List ℕ → Parts → Type 0) (FaultOf :
         passes_all under_exact (λ o v w. w) (λ o v w. w) input answer
         (as_conversion ElementOf FaultOf (refusal_of refuses) own converts from input answer g)
 
+  -- Where the value's conversion does not allocate, no refusal reports out of memory.
   pub implicit_parser_spares : ((breach : Breach) → refuses breach ≢ OutOfMemory) →
       ((any : Any) (e : E) → converts any (Err e) → IsOther from e) →
       (input : List ℕ) (answer : Result (List ℕ × TaggedParser K T E) (Refusal E)) →
