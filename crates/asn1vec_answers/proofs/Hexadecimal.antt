@@ -9,7 +9,7 @@ use Rattle.hex.specs.Hex.{hex_digit_value}
 use Rattle.hex.proofs.HexLemmas.{IsDigits-lower_digits, IsDigits-upper_digits}
 use Rattle.asn1vec_answers.specs.Request.{IsDigit, IsHexadecimal, StandsFor}
 
--- ---- the table
+-- The table.
 
 abbrev pub lower : ℕ → ℕ
 lower d = slice_index (codes "0123456789abcdef") d
@@ -58,7 +58,7 @@ number_in table h d c (small, inl e) = ap (slice_index table) e
 number_in table h d c (small, inr e) = ap (slice_index table) e
     ∙ eqb-true _ _ (and_parts (slice_index table (lower d) == d) _ (passes (has_its_number table) 16 d h small)).1
 
--- ---- digits of octets
+-- Digits of octets.
 
 -- one more octet, behind the others
 one_more : (octets digits : List ℕ) (octet high low : ℕ) → IsHexadecimal octets digits → IsDigit (octet / 16) high →
@@ -112,7 +112,7 @@ digits_at (octet ∷ octets) digits (suc i) (high, low, rest, a, b, more, e) lt 
     let second : 2 * suc i + 1 ≡ suc (suc (2 * i + 1)) = omega arith in
     rw (e, second, first) (digits_at octets rest i more (omega (arith, n)))
 
--- ---- one meaning
+-- One meaning.
 
 value_of_digit : (d c : ℕ) → IsDigit d c → hex_digit_value c ≡ Some d
 value_of_digit d c (small, inl e) = ap hex_digit_value e ∙ IsDigits-lower_digits d small
@@ -150,7 +150,7 @@ one_meaning [] (x ∷ others) digits h k = absurd (not_digits x others digits k 
 one_meaning (x ∷ octets) [] digits h k = absurd (not_digits x octets digits h k)
 one_meaning (x ∷ octets) (y ∷ others) digits h k = same_octets (x ∷ octets) (y ∷ others) digits h k
 
--- ---- what digits stand for
+-- What digits stand for.
 
 -- digits of octets stand for them, where there are some
 pub stands : (octets digits : List ℕ) → false ≡ (length digits == 0) → IsHexadecimal octets digits →

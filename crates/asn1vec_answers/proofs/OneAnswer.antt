@@ -92,7 +92,7 @@ use Rattle.std.specs.declared.alloc.Global.{Global}
 use Rattle.std.specs.declared.borrow.CowSlice.{CowSlice}
 use Rattle.asn1vec_answers.proofs.Split.{requests_same}
 
--- ---- what the names stand for has one answer
+-- What the names stand for has one answer.
 
 integers_once : {T : Type 0} (number : T → ℤ) (Holds : ℤ → Type 0) (refuses : List ℕ → Error → Type 0) →
     ((c : List ℕ) (e f : Error) → refuses c e → refuses c f → e ≡ f) → HasOneAnswer (integers number Holds refuses)
@@ -281,7 +281,7 @@ allocates_none : (t : TypeName) → name_allocates t ≡ false →
     ((meaning_of t).reading_allocates ≡ false) × ((meaning_of t).writing_allocates ≡ false)
 allocates_none t none = grind arith
 
--- ---- a line
+-- A line.
 
 -- the type that has a name
 named : List ℕ → Option TypeName

@@ -65,7 +65,7 @@ use Rattle.asn1vec_answers.proofs.OneReading.{readings_weaker, written_same}
 use Rattle.asn1vec_answers.proofs.OneRefusal.{IsOneRefusal, IsOneRefusalBut, KeepsNames, one_name, one_of_parts}
 use Rattle.asn1vec_answers.proofs.OneRefusal.{whole_keeps}
 
--- ---- what there is to show of a type of items
+-- What there is to show of a type of items.
 
 -- What is seen of an item tells its text and its value, and two readings of the same octets give the same to see.
 pub record IsOneItem (I : Item) : Type 1 where
@@ -77,7 +77,7 @@ pub record IsOneItem (I : Item) : Type 1 where
   pub der : IsOneReader view I.grammar.allocates I.der_gives
   pub lawful : IsLawfulItem I.grammar
 
--- ---- and what follows for lists of them
+-- What follows for lists of them.
 
 -- what each element of a list tells, the list does
 pub follows : {S D A : Type 0} (view : S → D) (tells : S → A) → ((x y : S) → view x ≡ view y → tells x ≡ tells y) →
@@ -211,7 +211,7 @@ module _ (I : Item) (one : IsOneItem I) where
       lawful = member_lawful (is_other (eq_by_cmp cmp)) (λ s. s.keys) I.grammar one.lawful;
     }
 
--- ---- items that are one element, checked and converted
+-- Items that are one element, checked and converted.
 
 module _ {S : Type 0} (G : ElementGrammar S) (lawful : IsLawfulElement G) (convert : Any → Result S Error → Type 0)
     (converts : IsExactConversion convert G) (one_conversion : IsOneRefusalBut G.allocates convert)
@@ -318,7 +318,7 @@ leaf_item_once keeps L text lawful =
       lawful = lawful_item (leaf_element L) (leaf_lawful L lawful);
     }
 
--- ---- what a name of items stands for
+-- What a name of items stands for.
 
 both_unwritten : (allocates : Bool) (e f : Encoding) → IsUnwritten allocates e → IsUnwritten allocates f →
     SameEncoding allocates e f

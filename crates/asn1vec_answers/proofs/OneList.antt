@@ -139,7 +139,7 @@ module _ (ElementOf : List ℕ → Parts → Type 0) (FaultOf : List ℕ → Fau
       (λ a b e f same why also. once a b (Err e) (Err f) same why also)
       ElementOf FaultOf IsCut elements refuses octets q r h k
 
--- ---- walks
+-- Walks.
 
 module _ {T D : Type 0} (view : T → D) (takes : Bool) (reads : List ℕ → Reading T → Type 0)
     (once : IsOneReader view takes reads) where
@@ -207,7 +207,7 @@ module _ {T D : Type 0} (view : T → D) (takes : Bool) (reads : List ℕ → Re
       ended_same j left last xs ys e f more
       (subst (λ (l : List ℕ). Takes l (map Ok ys ++ Err f ∷ []) last) same.1 after)
 
-  -- ---- lists of the items
+  -- Lists of the items.
 
   module _ {W L : Type 0} (sight : W → L) (holds : List T → W → Type 0) (held : (xs ys : List T) (v w : W) →
       map view xs ≡ map view ys → holds xs v → holds ys w → sight v ≡ sight w) where
@@ -226,7 +226,7 @@ module _ {T D : Type 0} (view : T → D) (takes : Bool) (reads : List ℕ → Re
     list_once content (Err e) (Err f) (inr (xs, left, ends)) (inr (ys, last, end)) =
         ended_same content left last xs ys e f ends end
 
-    -- ---- conversions of elements to lists
+    -- Conversions of elements to lists.
 
     pub takes_once : (number : ℕ) → IsOneConversion sight true (ListTakes number holds reads Same)
     takes_once number p (Ok v) (Ok w) h k = list_once p.content (Ok v) (Ok w) h.1 k.1
@@ -251,7 +251,7 @@ module _ {T D : Type 0} (view : T → D) (takes : Bool) (reads : List ℕ → Re
     reads_once number p (Err e) (Err f) (inr h) (inl (other, is)) = absurd (other h.0)
     reads_once number p (Err e) (Err f) (inr h) (inr k) = list_once p.content (Err e) (Err f) h.1 k.1
 
-    -- ---- and readers of lists
+    -- Readers of lists.
 
     -- by BER, and by DER where the constructed bit is looked at
     pub taken_by_ber : (number : ℕ) →

@@ -36,7 +36,7 @@ use Rattle.asn1vec_answers.specs.Memory.{DifferByMemory}
 use Rattle.asn1vec_answers.proofs.OneRefusal.{IsSameBut, SameRefusal, same_name, no_memory, IsOneRefusal}
 use Rattle.asn1vec_answers.proofs.OneRefusal.{IsOneRefusalBut, one_reading_refusal}
 
--- ---- what is to be shown of a meaning
+-- What is to be shown of a meaning.
 
 -- the same, but that one of them may say that memory was refused
 abbrev SameWriting : Bool → Result (List ℕ) SerializeError → Result (List ℕ) SerializeError → Type 0
@@ -66,7 +66,7 @@ abbrev pub HasOneAnswer : Meaning → Type 0
 HasOneAnswer m = (rule : Rule) (octets : List ℕ) (a b : Reading m.T) → m.Reads rule octets a → m.Reads rule octets b →
     SameReading (ShownAlike m) m.reading_allocates a b
 
--- ---- and what follows
+-- What follows.
 
 ok_front : List ℕ → List ℕ → List ℕ
 ok_front value rest = codes "ok " ++ (value ++ (codes " rest " ++ in_hexadecimal rest))
@@ -147,7 +147,7 @@ readings_weaker P Q allocates weaker (Ok x) (Err r) h = h
 readings_weaker P Q allocates weaker (Err q) (Ok y) h = h
 readings_weaker P Q allocates weaker (Err q) (Err r) h = h
 
--- ---- lawful types
+-- Lawful types.
 
 -- writing into a vector is refused only where the encoding is too long, or when out of memory
 pub only_refusals : (allocates : Bool) (n : ℕ) (e : SerializeError) → MayRefuse allocates n e → tells_of_io e ≡ false →
@@ -271,7 +271,7 @@ module _ {T V : Type 0} (Body : Parts → V → Type 0) (value : T → V) (alloc
     either_same Ber = ber_same
     either_same Der = der_same
 
--- ---- optional values
+-- Optional values.
 
 -- what is held, or nothing, is read and shown once where what is held is
 module _ (number : ℕ) (m : Meaning) where

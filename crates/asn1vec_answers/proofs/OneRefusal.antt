@@ -30,7 +30,7 @@ converted_same (failed e) r (f, same, is) = is ∙ ap failed same
 abbrev pub IsSameBut : {A K : Type 0} → (A → K) → A → Bool → A → A → Type 0
 IsSameBut key memory allocates a b = (key a ≡ key b) ⊎ ((allocates ≡ true) × ((a ≡ memory) ⊎ (b ≡ memory)))
 
--- ---- refusals are told apart by their names, which are all that an answer shows of them
+-- Refusals are told apart by their names, which are all that an answer shows of them.
 
 -- a refusal with the name of its error in the place of the error
 abbrev pub named : Refusal Error → Refusal (List ℕ)

@@ -124,7 +124,7 @@ pub record IsReadAnswer {T : Type 0} (Reads : List ℕ → Reading T → Type 0)
   pub reads : Reads octets answer
   pub says : Says text_of Encodes answer text
 
--- ---- readings and encodings of lawful types
+-- Readings and encodings of lawful types.
 
 -- errors stay as they are
 abbrev pub Same : Error → Error → Type 0
@@ -178,7 +178,7 @@ abbrev pub HeldEncoding : {T : Type 0} → Bool → (T → Encoding → Type 0) 
 HeldEncoding allocates Encodes None encoding = IsWritten allocates [] encoding
 HeldEncoding allocates Encodes (Some x) encoding = Encodes x encoding
 
--- ---- what functions on the way say
+-- What functions on the way say.
 
 -- the text grew by what this holds of
 abbrev pub Gains : List ℕ → List ℕ → (List ℕ → Type 0) → Type 0

@@ -17,7 +17,7 @@ digits (suc width) n = digits width (n / 10) ++ (48 + n % 10) ∷ []
 abbrev pub z_text : List ℕ
 z_text = 90 ∷ []
 
--- ---- what texts say
+-- What texts say.
 
 -- month, day, hour and minute, in two digits each
 abbrev pub to_minute : Moment → List ℕ
@@ -95,7 +95,7 @@ SaysUtcTime = SaysTime 2 SaysUtcEnd
 abbrev pub SaysGeneralizedTime : List ℕ → Moment → Type 0
 SaysGeneralizedTime = SaysTime 4 SaysGeneralizedEnd
 
--- ---- what is written
+-- What is written.
 
 -- Milliseconds: a point and three digits, with no zeros at the end;
 -- more digits where they need more, and nothing for none.
@@ -170,7 +170,7 @@ abbrev pub IsStrictGeneralizedTime : Moment → Type 0
 IsStrictGeneralizedTime m =
     IsStrictMoment m × (m.year ≤ 9999) × MostMilliseconds 999 m.millisecond × (m.millisecond ≢ Some 0)
 
--- ---- how they are shown
+-- How they are shown.
 
 -- the number, filled with zeros to the width, and longer where it needs more
 abbrev pub filled : ℕ → ℕ → List ℕ

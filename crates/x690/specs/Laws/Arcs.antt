@@ -20,7 +20,7 @@ use Rattle.x690.specs.Arcs.{in_front, pieces_of, subidentifiers, first_arc, seco
 use Rattle.x690.specs.Arcs.{absolute_arcs, arcs_of, IsShortestPiece, AreShortest, AreAbsoluteArcs, subidentifier_octets}
 use Rattle.x690.specs.Arcs.{with_first_joined, arcs_octets}
 
--- ---- pieces
+-- Pieces.
 
 pub last_piece : (last : ℕ) (rest : List ℕ) → last < 128 → pieces_of (last ∷ rest) ≡ (last ∷ []) ∷ pieces_of rest
 last_piece last rest h = grind (arith, nat_tests)
@@ -90,7 +90,7 @@ pieces_some : (content : List ℕ) → All IsSome (pieces_of content)
 pieces_some [] = All-nil IsSome
 pieces_some (octet ∷ octets) = some_more octet octets (pieces_some octets) (cases_lt octet 128)
 
--- ---- subidentifiers
+-- Subidentifiers.
 
 -- numbers are the subidentifiers of their digits
 pub subidentifiers_back : (ns : List ℕ) → subidentifiers (subidentifier_octets ns) ≡ ns
@@ -163,7 +163,7 @@ subidentifiers_few : (content : List ℕ) → length (subidentifier_octets (subi
 subidentifiers_few content = subst (λ (xs : List ℕ). length (subidentifier_octets (subidentifiers content)) ≤ length xs)
     (pieces_joined content) (pieces_few (pieces_of content) (pieces_some content))
 
--- ---- the first pair
+-- The first pair.
 
 -- a first pair is split off again
 pub first_pair_back : (x y : ℕ) → IsFirstPair x y → (x ≡ first_arc (40 * x + y)) × (y ≡ second_arc (40 * x + y))
@@ -183,7 +183,7 @@ joined_back : (ns : List ℕ) → with_first_joined (with_first_split ns) ≡ ns
 joined_back [] = refl
 joined_back (n ∷ ns) = ap (λ (m : ℕ). m ∷ ns) (first_pair_is n).1
 
--- ---- arcs
+-- Arcs.
 
 -- but for 00 alone the first subidentifier is split
 pub split_but_zero : (content : List ℕ) → content ≢ 0 ∷ [] →

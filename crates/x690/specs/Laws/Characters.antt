@@ -17,7 +17,7 @@ use Rattle.x690.specs.Characters.{IsCode, IsCharacterCode}
 scalar_below : (c : ℕ) → IsScalar c → c < 1114112
 scalar_below c s = elim (scalar_cases c s) [ inl h ↦ omega arith | inr h ↦ h.1 ]
 
--- ---- texts in a code of characters
+-- Texts in a code of characters.
 
 module _ (octets_of : ℕ → List ℕ) (is : IsCharacterCode octets_of) where
   -- each character has octets
@@ -52,7 +52,7 @@ pub code_empty : (octets_of : ℕ → List ℕ) (text : List ℕ) → length tex
 code_empty octets_of [] e = ap (code_of octets_of) chars-nil
 code_empty octets_of (octet ∷ text) e = absurd (omega arith)
 
--- ---- UTF-16
+-- UTF-16.
 
 one_unit : (c : ℕ) → c < 65536 → utf16_octets_of c ≡ unit_octets c
 one_unit c h = grind (arith, nat_tests)
@@ -138,7 +138,7 @@ utf16_code = record { one = utf16_one; octets = utf16_are; few = utf16_few; utf8
 pub utf16_is_code : IsCode utf16_octets
 utf16_is_code = text_code utf16_octets_of utf16_code
 
--- ---- UCS-4
+-- UCS-4.
 
 same_number : (c d : ℕ) → c / 16777216 ≡ d / 16777216 → c / 65536 % 256 ≡ d / 65536 % 256 →
     c / 256 % 256 ≡ d / 256 % 256 → c % 256 ≡ d % 256 → c ≡ d
@@ -164,7 +164,7 @@ ucs4_code = record { one = ucs4_one; octets = ucs4_are; few = λ c. omega arith;
 pub ucs4_is_code : IsCode ucs4_octets
 ucs4_is_code = text_code ucs4_octets_of ucs4_code
 
--- ---- UTF-8
+-- UTF-8.
 
 one_octet : (c : ℕ) → c < 128 → encode c ≡ c ∷ []
 unfolding encode
@@ -228,7 +228,7 @@ utf8_is_code = record {
 pub utf8_octets : (octets : List ℕ) → IsUtf8 octets → IsOctets octets
 utf8_octets octets u = subst IsOctets u.1.1 (utf8_is_code.octets u.0 u.1.0)
 
--- ---- the numbers that octets are
+-- The numbers that octets are.
 
 pub utf16_number : (c : ℕ) → c < 65536 → (length (utf16_octets_of c) ≡ 2) × (base_256_value (utf16_octets_of c) ≡ c)
 utf16_number c h =

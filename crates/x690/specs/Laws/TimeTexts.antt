@@ -17,7 +17,7 @@ use Rattle.x690.specs.Times.{FitsUtcTime, FitsGeneralizedTime, IsStrictMoment, I
 use Rattle.x690.specs.Times.{digits as decimal_digits}
 use Rattle.x690.specs.declared.times.Moment.{Moment}
 
--- ---- they say their fields
+-- Strict texts say their fields.
 
 pub utc_says : (m : Moment) → IsStrictUtcTime m → SaysUtcTime (utc_time_text m) m
 utc_says m s = record {
@@ -62,7 +62,7 @@ generalized_says m s = record {
       inr (fraction_text m.millisecond, z_text, refl, fraction_says m.millisecond s.2 s.3, inr (inl (refl, s.0.zone)));
 }
 
--- ---- strict fields fit
+-- Strict fields fit.
 
 moment_fits : (greatest_year : ℕ) (m : Moment) → IsStrictMoment m → m.year ≤ greatest_year →
     MostMilliseconds 999 m.millisecond → FitsText greatest_year m
@@ -83,7 +83,7 @@ utc_fits m s = moment_fits 99 m s.0 s.1 (subst (MostMilliseconds 999) (sym s.2) 
 pub generalized_fits : (m : Moment) → IsStrictGeneralizedTime m → FitsGeneralizedTime m
 generalized_fits m s = moment_fits 9999 m s.0 s.1 s.2
 
--- ---- they are octets from the point to Z
+-- Strict texts are octets from the point to Z.
 
 -- so there is no comma among them, which is the octet before the minus
 abbrev is_inner : ℕ → Bool
@@ -134,7 +134,7 @@ generalized_inner : (m : Moment) → AreInner (generalized_time_text m)
 generalized_inner m =
     simp digit_inner (inner_append (fraction_text m.millisecond) z_text (fraction_inner m.millisecond) refl)
 
--- ---- such octets are from the space to 7f
+-- Such octets are from the space to 7f.
 
 abbrev is_visible : ℕ → Bool
 is_visible = is_in_range 0x20 0x7f
@@ -171,7 +171,7 @@ utc_octets m = are_octets (utc_time_text m) (utc_inner m)
 pub generalized_octets : (m : Moment) → IsOctets (generalized_time_text m)
 generalized_octets m = are_octets (generalized_time_text m) (generalized_inner m)
 
--- ---- and none of them is a comma
+-- None of their octets is a comma.
 
 inner_is_no_comma : (n : ℕ) → is_inner n ≡ true → nat_eq n 44 ≡ false
 inner_is_no_comma n h = grind (arith, nat_tests)
@@ -185,7 +185,7 @@ have_no_comma (x ∷ octets) a =
 pub generalized_no_comma : (m : Moment) → ¬ HasComma (generalized_time_text m)
 generalized_no_comma m h = let e = have_no_comma (generalized_time_text m) (generalized_inner m) in cc
 
--- ---- they end in Z
+-- Strict texts end in Z.
 
 ends_in_z : (front : List ℕ) → EndsInZ (front ++ z_text)
 ends_in_z front =
@@ -199,7 +199,7 @@ pub generalized_ends_in_z : (m : Moment) → EndsInZ (generalized_time_text m)
 generalized_ends_in_z m =
     ends_in_z (decimal_digits 4 m.year ++ to_minute m ++ decimal_digits 2 m.second ++ fraction_text m.millisecond)
 
--- ---- they are short
+-- Strict texts are short.
 
 pub utc_length : (m : Moment) → length (utc_time_text m) ≡ 13
 utc_length m = refl

@@ -63,7 +63,7 @@ pub generalized_times_unique : (text : List ℕ) (m n : Moment) → SaysGenerali
     SaysGeneralizedTime text n → m ≡ n
 generalized_times_unique = times_unique 4 SaysGeneralizedEnd generalized_ends_unique
 
--- ---- what a text says is in range
+-- What a text says is in range.
 
 pub utc_time_in_range : (text : List ℕ) (m : Moment) → SaysUtcTime text m →
     InRange m × (m.year ≤ 99) × (m.millisecond ≡ None) × MostOffset 99 m.zone

@@ -12,7 +12,7 @@ use Rattle.x690.specs.Arcs.{pieces_of, subidentifiers, first_arc, second_arc, wi
 use Rattle.x690.specs.Arcs.{AreComplete}
 use Rattle.x690.specs.Laws.Arcs.{first_piece, pieces_joined, first_pair_is, split_but_zero}
 
--- ---- beginnings
+-- Beginnings.
 
 words_are_pieces : (words : List (List ℕ)) (rest : List ℕ) → All AreTagDigits words →
     pieces_of (concat words ++ rest) ≡ words ++ pieces_of rest
@@ -77,7 +77,7 @@ pub arcs_begin : (relative : Bool) (front rest : List ℕ) → AreComplete front
 arcs_begin true front rest a = (subidentifiers rest, subidentifiers_follow front rest a)
 arcs_begin false front rest a = absolute_begin front rest a
 
--- ---- how great arcs are
+-- How great arcs are.
 
 abbrev AreBelow : ℕ → List ℕ → Type 0
 AreBelow bound ns = All (λ n. n < bound) ns

@@ -14,7 +14,7 @@ use Rattle.x690.specs.Arcs.{in_front, pieces_of, subidentifiers, first_subidenti
 use Rattle.x690.specs.Arcs.{with_first_split, arcs_of}
 use Rattle.x690.specs.Laws.Arcs.{last_piece, more_piece, tail_bits, piece_is_cut, first_pair_is, split_but_zero}
 
--- ---- the first piece
+-- The first piece.
 
 -- octets are one piece where bit 8 is set on each
 pub whole_piece : (octets : List ℕ) → 0 < length octets → HaveBit8To (length octets) octets →
@@ -85,7 +85,7 @@ first_step i number octets high within e =
       omega (arith, e, more, front, value_of_front (i + 1) piece, value_of_first (pieces_of octets)),
     )
 
--- ---- arcs below 2^64
+-- Arcs below 2^64.
 
 abbrev AreSmall : List ℕ → Type 0
 AreSmall arcs = All (λ arc. arc < 2 ^ 64) arcs
@@ -137,7 +137,7 @@ first_below : (bound : ℕ) (ns : List ℕ) → 0 < bound → AreBelow bound ns 
 first_below bound [] some b = some
 first_below bound (n ∷ ns) some b = b.0
 
--- ---- walks over arcs below 2^64
+-- Walks over arcs below 2^64.
 
 -- the first arc of a relative identifier is small
 pub first_fits : (octets : List ℕ) → AreSmall (arcs_of true octets) → first_subidentifier octets < 2 ^ 64

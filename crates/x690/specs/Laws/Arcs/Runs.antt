@@ -13,7 +13,7 @@ use Rattle.x690.specs.Arcs.{in_front, pieces_of, subidentifiers, arcs_of}
 use Rattle.x690.specs.Laws.Arcs.{last_piece, more_piece, split_but_zero}
 use Rattle.x690.specs.Laws.Arcs.Fronts.{AreBelow, below_split}
 
--- ---- runs
+-- Runs.
 
 -- how many octets in a row have bit 8, with one octet more
 abbrev pub next_run : ℕ → ℕ → ℕ
@@ -28,7 +28,7 @@ HasShortRuns run (octet ∷ octets) = (next_run run octet < 9) × HasShortRuns (
 pub no_run_more : (run i : ℕ) (octets : List ℕ) → length octets ≤ i → HasShortRuns run (drop i octets)
 no_run_more run i octets all = subst (HasShortRuns run) (sym (drop_all i octets all)) tt
 
--- ---- pieces
+-- Pieces.
 
 abbrev IsShort : List ℕ → Type 0
 IsShort piece = length piece < 10
@@ -77,7 +77,7 @@ short_pieces_after run (octet ∷ octets) few s =
 pub short_pieces : (octets : List ℕ) → HasShortRuns 0 octets → All (λ piece. length piece < 10) (pieces_of octets)
 short_pieces octets s = short_after (pieces_of octets) (short_pieces_after 0 octets (omega arith) s)
 
--- ---- arcs
+-- Arcs.
 
 abbrev AreSmall : List ℕ → Type 0
 AreSmall arcs = All (λ arc. arc < 2 ^ 64) arcs

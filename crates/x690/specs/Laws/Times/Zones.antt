@@ -8,7 +8,7 @@ use Rattle.x690.specs.declared.times.TimeZone.TheVariants.{Offset}
 use Rattle.x690.specs.Times.{digits, east, west, SaysZone, SaysZoneOrNone, SaysFraction, MostOffset, MostMilliseconds}
 use Rattle.x690.specs.Laws.Times.Digits.{same_first, HasNoDigit, digits_front, more_digits}
 
--- ---- zones
+-- Zones.
 
 -- what a zone begins with: its sign
 pub zone_front : (text : List ℕ) (said : TimeZone) → SaysZone text said →
@@ -71,7 +71,7 @@ zones_or_none_unique text one other (inl a) (inr b) = let front = zone_front tex
 zones_or_none_unique text one other (inr a) (inl b) = let front = zone_front text one a in cc (b.0, front.2)
 zones_or_none_unique text one other (inr a) (inr b) = zones_unique text one other a b
 
--- ---- fractions
+-- Fractions.
 
 -- The digits behind a point say one number of milliseconds, where those of one split are three or no digit follows
 -- them, and those of the other stand before a zone.
@@ -127,7 +127,7 @@ fractions_front x y zone rest (Some m) (Some l) said told (point, count, n, p, h
     (cc (whole)) in
     (ap Some (is ∙ r.0 ∙ sym it), r.1)
 
--- ---- how large they are
+-- How large zones and fractions are.
 
 neg_most : (n : ℕ) → n < 100 → unsigned_abs (neg_ℤ (pos n)) ≤ 99
 neg_most zero h = omega arith
