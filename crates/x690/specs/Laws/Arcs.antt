@@ -22,9 +22,11 @@ use Rattle.x690.specs.Arcs.{with_first_joined, arcs_octets}
 
 -- Pieces.
 
+-- An octet whose bit 8 is 0 is a piece of its own.
 pub last_piece : (last : ℕ) (rest : List ℕ) → last < 128 → pieces_of (last ∷ rest) ≡ (last ∷ []) ∷ pieces_of rest
 last_piece last rest h = grind (arith, nat_tests)
 
+-- One whose bit 8 is 1 stands in front of the piece behind it.
 pub more_piece : (digit : ℕ) (rest : List ℕ) → 128 ≤ digit → pieces_of (digit ∷ rest) ≡ in_front digit (pieces_of rest)
 more_piece digit rest h = grind (arith, nat_tests)
 
@@ -35,6 +37,7 @@ first_piece (last ∷ []) rest d = last_piece last rest d
 first_piece (digit ∷ next ∷ digits) rest d =
     more_piece digit (next ∷ digits ++ rest) d.0 ∙ ap (in_front digit) (first_piece (next ∷ digits) rest d.2)
 
+-- Where octets have bit 8 up to a place, those behind the first have it up to one place less.
 pub tail_bits : (i octet : ℕ) (octets : List ℕ) → HaveBit8To (suc i) (octet ∷ octets) → HaveBit8To i octets
 tail_bits i octet octets h = λ k l. h (suc k) (omega arith)
 
@@ -132,6 +135,7 @@ tag_digits_shortest n = elim (cases_lt n 31) [
   | inr h ↦ digits_shortest n (tag_digits n) (tag_digits_are n) (tag_digits_needed n h)
 ]
 
+-- The octets of subidentifiers are pieces of the fewest octets.
 pub subidentifiers_shortest : (ns : List ℕ) → AreShortest (subidentifier_octets ns)
 subidentifiers_shortest [] = All-nil IsShortestPiece
 subidentifiers_shortest (n ∷ ns) =
@@ -224,6 +228,7 @@ arcs_octets_are false (suc octet ∷ []) = ap (arcs_octets false) (split_but_zer
 arcs_octets_are false (octet ∷ next ∷ octets) =
     ap subidentifier_octets (joined_back (subidentifiers (octet ∷ next ∷ octets)))
 
+-- So are those of arcs.
 pub arcs_octets_shortest : (relative : Bool) (arcs : List ℕ) → AreShortest (arcs_octets relative arcs)
 arcs_octets_shortest true arcs = subidentifiers_shortest arcs
 arcs_octets_shortest false arcs = subidentifiers_shortest (with_first_joined arcs)

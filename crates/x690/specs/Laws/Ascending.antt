@@ -11,24 +11,29 @@ use Rattle.x690.specs.Octets.{dictionary_order, IsBeforeOrSame}
 use Rattle.x690.specs.Ascending.{Ascending}
 use Rattle.x690.specs.Laws.Octets.Order.{before_or_same_antisymmetric, before_or_same_itself, before_or_same_transitive}
 
+-- No strings are in ascending order.
 pub ascending_none : Ascending []
 ascending_none k d l h = absurd (omega (arith, h))
 
+-- One string is.
 pub ascending_one : (x : List ℕ) → Ascending (x ∷ [])
 ascending_one x k d l h = absurd (omega (arith, h))
 
+-- A string before ascending strings, and not behind the first of them, ascends with them.
 pub ascending_cons : (x y : List ℕ) (ys : List (List ℕ)) → IsBeforeOrSame x y → Ascending (y ∷ ys) →
     Ascending (x ∷ y ∷ ys)
 ascending_cons x y ys h up zero d l k = h
 ascending_cons x y ys h up (suc k) d l m = rw add-one (let u : IsBeforeOrSame (get_or (y ∷ ys) k d)
     (get_or (y ∷ ys) (k + 1) d) = up k d (omega arith) (omega (arith, m)) in rw add-one at u)
 
+-- Ascending strings ascend behind the first of them.
 pub ascending_rest : (x : List ℕ) (xs : List (List ℕ)) → Ascending (x ∷ xs) → Ascending xs
 ascending_rest x xs up k d l h =
     let u : IsBeforeOrSame (get_or (x ∷ xs) (suc k) d) (get_or (x ∷ xs) (suc k + 1) d) =
     up (suc k) d (omega arith) (omega (arith, h)) in
     rw add-one (rw add-one at u)
 
+-- The first of ascending strings is not behind the second.
 pub ascending_first : (x y : List ℕ) (ys : List (List ℕ)) → Ascending (x ∷ y ∷ ys) → IsBeforeOrSame x y
 ascending_first x y ys up = up 0 [] (omega arith) (omega arith)
 

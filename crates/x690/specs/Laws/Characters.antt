@@ -44,6 +44,7 @@ module _ (octets_of : ℕ → List ℕ) (is : IsCharacterCode octets_of) where
       let p = and_parts (scalar c) (all_scalars cs) s in
       octets_append (octets_of c) (code_of octets_of cs) (is.octets c p.0) (text_octets cs p.1)
 
+  -- A code of characters makes a code of texts.
   pub text_code : IsCode (code_of octets_of)
   text_code = record { one = text_one; octets = text_octets }
 
@@ -132,9 +133,11 @@ utf16_utf8 c = elim (cases_lt c 65536) [
   | inr h ↦ let l = len_utf8_bounds c in omega (arith, ap length (two_units c h), length-encode c, l.1)
 ]
 
+-- UTF-16 is a code of characters.
 pub utf16_code : IsCharacterCode utf16_octets_of
 utf16_code = record { one = utf16_one; octets = utf16_are; few = utf16_few; utf8 = utf16_utf8 }
 
+-- It is a code of texts.
 pub utf16_is_code : IsCode utf16_octets
 utf16_is_code = text_code utf16_octets_of utf16_code
 
@@ -158,9 +161,11 @@ ucs4_are c s =
 ucs4_utf8 : (c : ℕ) → 2 * length (encode_utf8 c) ≤ 3 * length (ucs4_octets_of c)
 ucs4_utf8 c = let l = len_utf8_bounds c in omega (arith, length-encode c, l.1)
 
+-- UCS-4 is a code of characters.
 pub ucs4_code : IsCharacterCode ucs4_octets_of
 ucs4_code = record { one = ucs4_one; octets = ucs4_are; few = λ c. omega arith; utf8 = ucs4_utf8 }
 
+-- It is a code of texts.
 pub ucs4_is_code : IsCode ucs4_octets
 ucs4_is_code = text_code ucs4_octets_of ucs4_code
 
@@ -218,6 +223,7 @@ utf8_code_of : (cs : List ℕ) → code_of encode_utf8 cs ≡ encode_utf8_all cs
 utf8_code_of [] = refl
 utf8_code_of (c ∷ cs) = ap (λ (xs : List ℕ). encode_utf8 c ++ xs) (utf8_code_of cs)
 
+-- UTF-8 is a code of texts.
 pub utf8_is_code : IsCode encode_utf8_all
 utf8_is_code = record {
   one = λ cs ds s t e. encodes_same cs ds e;
@@ -230,9 +236,11 @@ utf8_octets octets u = subst IsOctets u.1.1 (utf8_is_code.octets u.0 u.1.0)
 
 -- The numbers that octets are.
 
+-- Below 2^16 the two octets of a character by UTF-16 are its number.
 pub utf16_number : (c : ℕ) → c < 65536 → (length (utf16_octets_of c) ≡ 2) × (base_256_value (utf16_octets_of c) ≡ c)
 utf16_number c h =
     subst (λ (xs : List ℕ). (length xs ≡ 2) × (base_256_value xs ≡ c)) (sym (one_unit c h)) (refl, omega arith)
 
+-- The four octets of a character by UCS-4 are its number.
 pub ucs4_number : (c : ℕ) → (length (ucs4_octets_of c) ≡ 4) × (base_256_value (ucs4_octets_of c) ≡ c)
 ucs4_number c = (refl, omega arith)

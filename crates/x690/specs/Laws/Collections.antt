@@ -34,6 +34,7 @@ permutation_from_multiset {V} xs ys e =
     )) in
     subst (λ m. (reaches m).0) e ∣ IsPermutation-refl xs ∣₁
 
+-- Lists with the same values in some order are one multiset.
 pub same_multiset : {V : Type 0} (xs ys : List V) → IsPermutation xs ys → multiset xs ≡ multiset ys
 same_multiset xs ys p = sound p
 
@@ -43,6 +44,7 @@ HaveSame-trans xs ys zs h k v = (λ c. (k v).0 ((h v).0 c), λ c. (h v).1 ((k v)
 HaveSame-sym : {V : Type 0} (xs ys : List V) → HaveSame xs ys → HaveSame ys xs
 HaveSame-sym xs ys h v = ((h v).1, (h v).0)
 
+-- Lists that are one set have the same values.
 pub have_same_from_value_set : {V : Type 0} (xs ys : List V) → value_set xs ≡ value_set ys → ∥ HaveSame xs ys ∥₁
 have_same_from_value_set {V} xs ys e =
     let reaches : ValueSet V → HProp {0} = lift_prop (λ zs. (
@@ -54,9 +56,11 @@ have_same_from_value_set {V} xs ys e =
     )) in
     subst (λ m. (reaches m).0) e ∣ (λ v. (λ c. c, λ c. c)) ∣₁
 
+-- Lists that have the same values are one set.
 pub same_value_set : {V : Type 0} (xs ys : List V) → HaveSame xs ys → value_set xs ≡ value_set ys
 same_value_set xs ys h = sound h
 
+-- Lists with the same values in some order have the same values.
 pub HaveSame-permutation : {V : Type 0} (xs ys : List V) → IsPermutation xs ys → HaveSame xs ys
 HaveSame-permutation xs ys p v =
     (Contains-permutation xs ys v p, Contains-permutation ys xs v (IsPermutation-sym xs ys p))
@@ -67,9 +71,11 @@ pub permutation_from_value_set : {V : Type 0} (xs ys : List V) → AllDiffer xs 
 permutation_from_value_set xs ys h k e =
     ∥∥₁_map (have_same_from_value_set xs ys e) (λ s. permutation_from_same xs ys h k s)
 
+-- Lists of strings are the same in at most one way.
 pub strings_set : IsSet (List (List ℕ))
 strings_set = is_set (is_set ℕ_set)
 
+-- The strings of values, joined, are joined words of these.
 pub zip_joined : {V : Type 0} (Strict : V → List ℕ → Type 0) (vs : List V) (os : List (List ℕ)) → AllZip Strict vs os →
     IsJoined (AsWords Strict) (concat os) vs
 zip_joined Strict [] [] z = refl
@@ -79,6 +85,7 @@ zip_joined Strict (v ∷ vs) (o ∷ os) z = (o, concat os, z.0, refl, zip_joined
 
 -- a list of values decides its ascending strings, where each value has one
 module _ {V : Type 0} (R : V → List ℕ → Type 0) (one : (v : V) (o p : List ℕ) → R v o → R v p → o ≡ p) where
+  -- Ascending strings of the same values, in whatever order, are the same strings.
   pub same_strings_of : (vs ws : List V) (os ps : List (List ℕ)) → AllZip R vs os → AllZip R ws ps → Ascending os →
       Ascending ps → ∥ IsPermutation vs ws ∥₁ → os ≡ ps
   same_strings_of vs ws os ps h k up vp m = ∥∥₁_elim m (strings_set _ _) (λ p.
@@ -88,6 +95,7 @@ module _ {V : Type 0} (R : V → List ℕ → Type 0) (one : (v : V) (o p : List
 
 -- the contents octets of collections of one kind
 module _ {V M : Type 0} (of : List V → M) (Each : List V → Type 0) (Strict : V → List ℕ → Type 0) where
+  -- The contents octets of a collection are joined words of its items.
   pub joins_joined : (m : M) (c : List ℕ) (j : Joins of Each Strict m c) → IsJoined (AsWords Strict) c j.items
   joins_joined m c j =
       subst (λ d. IsJoined (AsWords Strict) d j.items) j.joined (zip_joined Strict j.items j.strings j.each)
@@ -125,32 +133,40 @@ module _ {V M : Type 0} (of : List V → M) (Each : List V → Type 0) (Strict :
       }
 
 module _ {V : Type 0} (Strict : V → List ℕ → Type 0) (are : AreEncodings Strict) where
+  -- A list has one content.
   pub list_one_content : (vs : List V) (c d : List ℕ) → IsListContent Strict vs c → IsListContent Strict vs d → c ≡ d
   list_one_content = joined_one (AsWords Strict) are.one_string
 
+  -- So has a multiset.
   pub multiset_one_content : (m : Multiset V) (c d : List ℕ) → IsMultisetContent Strict m c →
       IsMultisetContent Strict m d → c ≡ d
   multiset_one_content =
       joins_one_content multiset AnyList Strict (λ vs ws h k e. permutation_from_multiset vs ws e) are.one_string
 
+  -- So has a set.
   pub set_one_content : (s : ValueSet V) (c d : List ℕ) → IsSetContent Strict s c → IsSetContent Strict s d → c ≡ d
   set_one_content = joins_one_content value_set AllDiffer Strict permutation_from_value_set are.one_string
 
+  -- A content is that of one list.
   pub content_one_list : (vs ws : List V) (c : List ℕ) → IsListContent Strict vs c → IsListContent Strict ws c → vs ≡ ws
   content_one_list vs ws c i j = joined_same (AsWords Strict) are.words c c vs ws refl i j
 
+  -- It is that of one multiset.
   pub content_one_multiset : (m n : Multiset V) (c : List ℕ) → IsMultisetContent Strict m c →
       IsMultisetContent Strict n c → m ≡ n
   content_one_multiset = joins_one_collection multiset AnyList Strict are.words
 
+  -- It is that of one set.
   pub content_one_set : (s t : ValueSet V) (c : List ℕ) → IsSetContent Strict s c → IsSetContent Strict t c → s ≡ t
   content_one_set = joins_one_collection value_set AllDiffer Strict are.words
 
 module _ {V : Type 0} (Strict : V → List ℕ → Type 0) where
+  -- The strings of values in ascending order are the content of their multiset.
   pub multiset_content_made : (vs : List V) (os : List (List ℕ)) → AllZip Strict vs os →
       IsMultisetContent Strict (multiset vs) (concat (arranged os))
   multiset_content_made vs os z = joins_arranged multiset AnyList Strict (λ vs ws p h. tt) same_multiset vs os tt z
 
+  -- Those of values that differ are the content of their set.
   pub set_content_made : (vs : List V) (os : List (List ℕ)) → AllDiffer vs → AllZip Strict vs os →
       IsSetContent Strict (value_set vs) (concat (arranged os))
   set_content_made vs os d z = joins_arranged value_set AllDiffer Strict AllDiffer-permutation

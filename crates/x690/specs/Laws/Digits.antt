@@ -20,6 +20,7 @@ weighted_sum_after base start (digit ∷ digits) =
 pub weighted_sum_is_number : (base : ℕ) (digits : List ℕ) → number_from_digits base digits ≡ weighted_sum base digits
 weighted_sum_is_number base digits = weighted_sum_after base 0 digits ∙ omega arith
 
+-- One more digit at the end multiplies the sum by the base, and is added.
 pub weighted_sum_push : (base : ℕ) (digits : List ℕ) (last : ℕ) →
     weighted_sum base (digits ++ last ∷ []) ≡ weighted_sum base digits * base + last
 weighted_sum_push base digits last =
@@ -33,6 +34,7 @@ weighted_sum_more base digits i within =
     sym (weighted_sum_is_number base (take (i + 1) digits)) ∙ number_more base digits i within
     ∙ ap (λ n. n * base + get_or digits i 0) (weighted_sum_is_number base (take i digits))
 
+-- The sum of digits that follow others.
 pub weighted_sum_append : (base : ℕ) (front back : List ℕ) →
     weighted_sum base (front ++ back) ≡ weighted_sum base front * base ^ length back + weighted_sum base back
 weighted_sum_append base front back =

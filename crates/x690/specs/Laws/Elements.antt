@@ -11,6 +11,7 @@ use Rattle.x690.specs.Laws.Identifiers.{identifier_bounds}
 use Rattle.x690.specs.Laws.Lengths.{same_front}
 use Rattle.x690.specs.Laws.Headers.{header_peel, header_two, header_is_octets, definite_same}
 
+-- Elements with the same identifier, form and contents octets have the same parts.
 pub same_parts : (i j : Identifier) (f g : LengthForm) (c e : List ℕ) → i ≡ j → f ≡ g → c ≡ e →
     ◌≡◌ {A = Parts} (record { id = i; form = f; content = c }) (record { id = j; form = g; content = e })
 same_parts i j f g c e p q r = cc
@@ -36,6 +37,7 @@ pub definite_element_two : (rule : Rule) (o : List ℕ) (p : Parts) → IsDefini
 definite_element_two rule o p a =
     omega (arith, header_two rule a.header p.id p.form a.header_is, ap length a.is, length-append a.header p.content)
 
+-- An element of definite length is octets.
 pub definite_element_is_octets : (rule : Rule) (o : List ℕ) (p : Parts) → IsDefiniteElement rule o p → IsOctets o
 definite_element_is_octets rule o p a =
     subst IsOctets (sym a.is)

@@ -204,6 +204,7 @@ length_fault_counts octets length_fault why = tt
 length_fault_counts octets (rule_fault b) why = tt
 length_fault_counts octets depth_fault why = tt
 
+-- A fault of a header does so.
 pub header_fault_counts : (rule : Rule) (octets : List ℕ) (fault : Fault) → HeaderFault rule octets fault →
     CountsSome fault
 header_fault_counts rule octets fault (inl why) = identifier_fault_counts octets fault why
@@ -213,10 +214,12 @@ header_fault_counts rule octets fault (inr why) = elim why.why [
   | inr (allowed, inr p) ↦ subst CountsSome (sym p.fault_is) tt
 ]
 
+-- One of contents octets that are cut does.
 pub cut_content_counts : (rule : Rule) (octets : List ℕ) (fault : Fault) → IsCutContent rule octets fault →
     CountsSome fault
 cut_content_counts rule octets fault why = subst CountsSome (sym why.fault_is) why.some
 
+-- One of an element by DER does.
 pub der_fault_counts : (octets : List ℕ) (fault : Fault) → DerElementFault octets fault → CountsSome fault
 der_fault_counts octets fault (inl why) = header_fault_counts der_rule octets fault why
 der_fault_counts octets fault (inr why) = cut_content_counts der_rule octets fault why
@@ -334,6 +337,7 @@ one_header_fault rule octets f g (inr p) (inr q) =
     one_fault_from rule p.identifier p.id p.rest f g p.why
     (subst (λ (z : List ℕ). FaultFrom rule p.identifier p.id z g) u.2 b)
 
+-- Contents octets that are cut have one fault.
 pub one_cut_content : (rule : Rule) (octets : List ℕ) (f g : Fault) → IsCutContent rule octets f →
     IsCutContent rule octets g → f ≡ g
 one_cut_content rule octets f g p q =

@@ -45,6 +45,7 @@ header_two rule o id form h =
       length-append h.identifier h.count,
     )
 
+-- A header is octets.
 pub header_is_octets : (rule : Rule) (o : List ℕ) (id : Identifier) (form : LengthForm) →
     IsHeader rule o id form → IsOctets o
 header_is_octets rule o id form h =
@@ -77,8 +78,10 @@ pub der_header_definite : (o : List ℕ) (id : Identifier) (form : LengthForm) �
 der_header_definite o id (definite m) h = (m, refl)
 der_header_definite o id indefinite h = let e : false ≡ true = h.count_allowed in cc
 
+-- Two definite lengths that are the same are of one number.
 pub definite_same : (m n : ℕ) → definite m ≡ definite n → m ≡ n
 definite_same m n e = cc
 
+-- No length is both definite and indefinite.
 pub not_both_forms : (n : ℕ) (f g : LengthForm) → f ≡ definite n → g ≡ indefinite → f ≡ g → ⊥
 not_both_forms n f g a b c = let e : definite n ≡ indefinite = sym a ∙ c ∙ b in cc

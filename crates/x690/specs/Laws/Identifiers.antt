@@ -16,6 +16,7 @@ first_octet_unique c d false false l m p q h = (omega arith, refl, omega arith)
 first_octet_unique c d true false l m p q h = absurd (omega arith)
 first_octet_unique c d false true l m p q h = absurd (omega arith)
 
+-- Two digits of tag numbers that begin one input are the same.
 pub tag_digits_unique : (ds es x y : List ℕ) → AreTagDigits ds → AreTagDigits es → ds ++ x ≡ es ++ y → ds ≡ es
 tag_digits_unique [] es x y p q h = absurd p
 tag_digits_unique (d ∷ ds) [] x y p q h = absurd q

@@ -24,6 +24,7 @@ first_below bound first others o h =
     let m : suc first * 256 ^ length others ≤ bound * 256 ^ length others = mul-le-mul_right (256 ^ length others) h in
     omega (arith, m)
 
+-- A first octet from a bound on makes a number from as many times its place on.
 pub first_above : (bound first : ℕ) (others : List ℕ) → bound ≤ first →
     bound * 256 ^ length others ≤ base_256_value (first ∷ others)
 first_above bound first others h =
@@ -35,6 +36,7 @@ pub value_low : (first : ℕ) (others : List ℕ) → first < 128 →
     twos_complement_value (first ∷ others) ≡ pos (base_256_value (first ∷ others))
 value_low first others h = grind (arith, nat_tests)
 
+-- Where bit 8 of the first octet is 1, the integer is the number less 256 to the number of octets.
 pub value_high : (first : ℕ) (others : List ℕ) → 128 ≤ first →
     twos_complement_value (first ∷ others) +ℤ pos (256 ^ length (first ∷ others)) ≡
     pos (base_256_value (first ∷ others))
@@ -56,6 +58,7 @@ shortest_low first second others h =
       ]
     ]
 
+-- Where no leading ones are spare, a negative integer is too low for one octet less.
 pub shortest_high : (first second : ℕ) (others : List ℕ) → IsOctets (first ∷ second ∷ others) →
     ¬ HasSpareOnes (first ∷ second ∷ others) →
     base_256_value (first ∷ second ∷ others) + 128 * 256 ^ length others < 256 ^ length (first ∷ second ∷ others)

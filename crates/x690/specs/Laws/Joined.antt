@@ -20,6 +20,7 @@ pub joined_values : {V : Type 0} (G : List ℕ → V → Type 0) (P : V → Type
 joined_values G P f c [] j = All-nil P
 joined_values G P f c (v ∷ vs) j = All-cons P v vs (f j.0 v j.2) (joined_values G P f j.1 vs j.4)
 
+-- Joined words are octets where the words are.
 pub joined_octets : {V : Type 0} (G : List ℕ → V → Type 0) → ((o : List ℕ) (v : V) → G o v → IsOctets o) →
     (c : List ℕ) (vs : List V) → IsJoined G c vs → IsOctets c
 joined_octets G f c [] j = subst IsOctets (sym j) (below_octets [] tt)
@@ -43,6 +44,7 @@ module _ {V : Type 0} (G : List ℕ → V → Type 0) where
       let t = words_of j.1 vs j.4 in
       (j.0 ∷ t.0, (j.2, t.1), j.3 ∙ ap (λ (r : List ℕ). j.0 ++ r) t.2)
 
+  -- Words in turn, joined, are joined words of their values.
   pub words_joined : (words : List (List ℕ)) (vs : List V) (c : List ℕ) → AllZip G words vs → c ≡ concat words →
       IsJoined G c vs
   words_joined [] [] c a e = e
@@ -50,12 +52,14 @@ module _ {V : Type 0} (G : List ℕ → V → Type 0) where
   words_joined (w ∷ words) [] c a e = absurd a
   words_joined (w ∷ words) (v ∷ vs) c a e = (w, concat words, a.0, e, words_joined words vs (concat words) a.1 refl)
 
+  -- Joined words begin with words that leave nothing.
   pub joined_words : (c : List ℕ) (vs : List V) → IsJoined G c vs →
       (words : List (List ℕ)) × BeginsWithWords G c words vs []
   joined_words c vs j =
       let t = words_of c vs j in
       (t.0, record { each = t.1; is = t.2 ∙ sym (append-nil (concat t.0)) })
 
+  -- Words that leave nothing are joined words.
   pub joined_from_words : (c : List ℕ) (words : List (List ℕ)) (vs : List V) → BeginsWithWords G c words vs [] →
       IsJoined G c vs
   joined_from_words c words vs b = words_joined words vs c b.each (b.is ∙ append-nil (concat words))

@@ -26,6 +26,7 @@ long_first : (o x y : List ℕ) (m n : ℕ) → m < 128 → IsLongLength o n →
 long_first [] x y m n p j h = j
 long_first (k ∷ os) x y m n p j h = let s : m ≡ k = cc in omega (arith, j.2)
 
+-- Two octets that begin one input are the same.
 pub same_octet : (m n : ℕ) (x y : List ℕ) → (m ∷ []) ++ x ≡ (n ∷ []) ++ y → m ≡ n
 same_octet m n x y h = cc
 
@@ -105,6 +106,7 @@ pub length_is_octets : (o : List ℕ) (n : ℕ) → IsLength o n → IsOctets o
 length_is_octets o n (inl i) = subst IsOctets (sym i.1) (one_octet n (omega (arith, i.0)))
 length_is_octets o n (inr i) = long_is_octets o n i
 
+-- Length octets are octets.
 pub length_form_is_octets : (o : List ℕ) (form : LengthForm) → IsLengthForm o form → IsOctets o
 length_form_is_octets o (definite n) i = length_is_octets o n i
 length_form_is_octets o indefinite i = subst IsOctets (sym i) (one_octet 128 (omega arith))

@@ -27,6 +27,7 @@ use Rattle.x690.specs.Laws.Nested.Rows.{AreWordsUnique, IsEndWhole, rows_unique,
 abbrev pub end_identifier : Identifier
 end_identifier = record { class = 0; constructed = false; number = 0 }
 
+-- The end of contents is a header of no contents octets.
 pub end_header : IsHeader ber_rule end_of_contents end_identifier (definite 0)
 end_header = record {
   identifier = 0 ∷ [];
@@ -38,6 +39,7 @@ end_header = record {
   count_allowed = refl;
 }
 
+-- the parts of the end of contents
 abbrev pub end_parts : Parts
 end_parts = record { id = end_identifier; form = definite 0; content = [] }
 
@@ -144,6 +146,7 @@ nested_element_unique depth o q x y p r g h a b e =
     let u = nested_same depth o q x y p r g h a b e in
     (u.0, u.1, u.2, append_cancel_left q x y (ap (λ (ys : List ℕ). ys ++ x) (sym u.0) ∙ e))
 
+-- Two words that begin one input are the same.
 pub words_are_unique : (depth : ℕ) → AreWordsUnique (IsWord depth)
 words_are_unique depth o q x y g h a b e = let u = nested_same depth o q x y a.0 b.0 g h a.1 b.1 e in (u.0, u.2)
 
@@ -240,6 +243,7 @@ nested_element_unique_deep depth other o q x y p r g h a b e =
     (nested_element_deeper depth (depth + other) o p g (omega arith) a)
     (nested_element_deeper other (depth + other) q r h (omega arith) b) e
 
+-- An element by BER is octets.
 pub nested_element_is_octets : (depth : ℕ) (o : List ℕ) (p : Parts) (h : ℕ) → IsNestedElement depth o p h → IsOctets o
 unfolding IsNestedElement
 nested_element_is_octets zero o p h a = absurd a
@@ -253,6 +257,7 @@ nested_element_is_octets (suc depth) o p h (inr b) =
     subst IsOctets (sym a.is) (octets_append a.header (p.content ++ end_of_contents)
     (header_is_octets ber_rule a.header p.id p.form a.header_is) (octets_append p.content end_of_contents c t))
 
+-- So are its contents octets.
 pub nested_content_is_octets : (depth : ℕ) (o : List ℕ) (p : Parts) (h : ℕ) → IsNestedElement depth o p h →
     IsOctets p.content
 unfolding IsNestedElement
@@ -262,6 +267,7 @@ nested_content_is_octets (suc depth) o p h (inr n) =
     let all = subst IsOctets n.1.is (nested_element_is_octets (suc depth) o p h (inr n)) in
     octets_front p.content end_of_contents (octets_back n.1.header (p.content ++ end_of_contents) all)
 
+-- Its parts are such as an element can have.
 pub nested_possible : (depth : ℕ) (o : List ℕ) (p : Parts) (h : ℕ) → IsNestedElement depth o p h → ArePossible p
 nested_possible depth o p h n =
     let w = nested_header depth o p h n in

@@ -125,11 +125,13 @@ signed_octets_few n size some s =
     signed_needs_few (signed_octets n) size i.octets i.shortest.1 i.shortest.2 some
     (subst (IsSigned size) (sym i.value) s)
 
+-- An integer whose strict contents octets are so many at most is one of as many octets.
 pub signed_octets_fit : (n : ℤ) (size : ℕ) → length (signed_octets n) ≤ size → IsSigned size n
 signed_octets_fit n size l =
     let i = signed_octets_content n in
     subst (IsSigned size) i.value (octets_say_signed (signed_octets n) size i.octets l)
 
+-- An integer is one of so many octets exactly where its strict contents octets are no more.
 pub signed_octets_count : (n : ℤ) (size : ℕ) → 1 ≤ size → IsSigned size n ↔ (length (signed_octets n) ≤ size)
 signed_octets_count n size some = (signed_octets_few n size some, signed_octets_fit n size)
 
@@ -142,6 +144,7 @@ spare_zeros_say_nothing (first ∷ second ∷ others) h =
     let m = ap (λ (n : ℕ). n * 256 ^ suc (length others)) h.0 in
     omega (arith, ints, value_low first (second ∷ others) (omega (arith, h.0)), value_low second others h.1, m)
 
+-- Leading ones that are spare say nothing.
 pub spare_ones_say_nothing : (octets : List ℕ) → HasSpareOnes octets →
     twos_complement_value (drop 1 octets) ≡ twos_complement_value octets
 spare_ones_say_nothing [] h = absurd h

@@ -10,6 +10,7 @@ use Rattle.x690.specs.Laws.StrictLengths.{strict_length, only_strict_length}
 use Rattle.x690.specs.Laws.StrictHeaders.{header_octets_are}
 use Rattle.x690.specs.Laws.Elements.{definite_element_unique}
 
+-- A strict element is the octets that are written.
 pub strict_element_octets : (o : List ℕ) (i : Identifier) (c : List ℕ) → IsStrictElement o i c → o ≡ element_octets i c
 strict_element_octets o i c s =
     let e = only_strict_identifier i s.identifier s.identifier_is in
@@ -18,6 +19,7 @@ strict_element_octets o i c s =
     ∙ ap (λ (z : List ℕ). (identifier_octets i ++ z) ++ c) f
     ∙ ap (λ (z : List ℕ). z ++ c) (sym (header_octets_are i.class i.constructed i.number (length c)))
 
+-- The octets that are written are a strict element.
 pub made_strict_element : (i : Identifier) (c : List ℕ) → i.class < 4 → i.number < 2 ^ 32 → length c < 2 ^ 64 →
     IsOctets c → IsStrictElement (element_octets i c) i c
 made_strict_element i c k n l o = record {
@@ -30,12 +32,15 @@ made_strict_element i c k n l o = record {
       ∙ append_assoc (identifier_octets i) (length_octets (length c)) c;
 }
 
+-- DER allows what a writer writes.
 pub der_allows_strict : AllowsStrict der_rule
 der_allows_strict = record { identifier = λ octets id i. refl; length = λ octets n l. refl }
 
+-- So does BER.
 pub ber_allows_strict : AllowsStrict ber_rule
 ber_allows_strict = record { identifier = λ octets id i. refl; length = λ octets n l. refl }
 
+-- A strict element is one of definite length by a rule that allows it.
 pub strict_is_definite : (rule : Rule) → AllowsStrict rule → (o : List ℕ) (i : Identifier) (c : List ℕ) →
     IsStrictElement o i c → IsDefiniteElement rule o (definite_parts i c)
 strict_is_definite rule allows o i c s = record {
@@ -54,10 +59,12 @@ strict_is_definite rule allows o i c s = record {
   is = s.is ∙ sym (append_assoc s.identifier s.count c);
 }
 
+-- An identifier and contents octets have one strict element.
 pub strict_element_one : (o p : List ℕ) (i : Identifier) (c : List ℕ) → IsStrictElement o i c →
     IsStrictElement p i c → o ≡ p
 strict_element_one o p i c s t = strict_element_octets o i c s ∙ sym (strict_element_octets p i c t)
 
+-- Two strict elements that begin one input are the same.
 pub strict_element_unique : (o p r s : List ℕ) (i j : Identifier) (c d : List ℕ) → IsStrictElement o i c →
     IsStrictElement p j d → o ++ r ≡ p ++ s → (o ≡ p) × (i ≡ j) × (c ≡ d) × (r ≡ s)
 strict_element_unique o p r s i j c d x y e =

@@ -36,9 +36,11 @@ low_digits (a ∷ hs) last h l =
     let r = low_digits hs last h.1 l in
     cc
 
+-- The digits of a tag number are such.
 pub tag_digits_are : (number : ℕ) → AreTagDigits (tag_digits number)
 tag_digits_are number = are_digits (marked number) (number % 128) (below number) (omega arith)
 
+-- They say the number.
 pub tag_digits_value : (number : ℕ) → base_128_value (tag_digits number) ≡ number
 tag_digits_value number =
     let e = ap (weighted_sum 128) (low_digits (marked number) (number % 128) (below number) (omega arith)) in
@@ -49,6 +51,7 @@ tag_digits_value number =
       weighted_sum_digits 128 (number / 128) (omega arith),
     )
 
+-- How many they are.
 pub tag_digits_count : (number : ℕ) → length (tag_digits number) ≡ length (digits_of 128 (number / 128)) + 1
 tag_digits_count number = omega (
   arith,
@@ -56,6 +59,7 @@ tag_digits_count number = omega (
   length-map (marked number) with_bit_8,
 )
 
+-- A number below 128^k has k digits at most.
 pub tag_digits_few : (number k : ℕ) → number < 128 ^ suc k → length (tag_digits number) ≤ suc k
 tag_digits_few number k h =
     let p : number < 128 ^ k * 128 = subst (λ (n : ℕ). number < n) (pow-suc 128 k) h in
@@ -156,16 +160,19 @@ marked_first number some = elim (cases_lt 0 (number / 128)) [
 pub tag_digits_needed : (number : ℕ) → 31 ≤ number → NeedsItsDigits number (tag_digits number)
 tag_digits_needed number h = no_spare number h (marked number) (number % 128) (omega arith) (marked_first number)
 
+-- The strict identifier octets of a number below 31 are one.
 pub identifier_octets_low : (id : Identifier) → id.number < 31 →
     identifier_octets id ≡ (64 * id.class + 32 * bit id.constructed + id.number) ∷ []
 unfolding identifier_octets
 identifier_octets_low id h = grind (arith, nat_tests)
 
+-- Those of a number from 31 on are one, and the digits.
 pub identifier_octets_high : (id : Identifier) → 31 ≤ id.number →
     identifier_octets id ≡ (64 * id.class + 32 * bit id.constructed + 31) ∷ tag_digits id.number
 unfolding identifier_octets
 identifier_octets_high id h = grind (arith, nat_tests)
 
+-- A bit is 1 at most.
 pub bit_le : (b : Bool) → bit b ≤ 1
 bit_le true = omega arith
 bit_le false = omega arith
@@ -244,18 +251,21 @@ fewest_identifier id q i = elim (cases_lt id.number 31) [
 pub identifier_octets_count_low : (id : Identifier) → id.number < 31 → length (identifier_octets id) ≡ 1
 identifier_octets_count_low id h = ap length (identifier_octets_low id h)
 
+-- How many octets the high form has.
 pub identifier_octets_count_high : (id : Identifier) → 31 ≤ id.number →
     length (identifier_octets id) ≡ 2 + length (digits_of 128 (id.number / 128))
 identifier_octets_count_high id h =
     let e = ap length (identifier_octets_high id h) in
     omega (arith, tag_digits_count id.number)
 
+-- They are one octet at least.
 pub identifier_octets_some : (id : Identifier) → 1 ≤ length (identifier_octets id)
 identifier_octets_some id = elim (cases_lt id.number 31) [
   | inl h ↦ omega (arith, identifier_octets_count_low id h)
   | inr h ↦ omega (arith, identifier_octets_count_high id h)
 ]
 
+-- They are 6 at most.
 pub identifier_octets_few : (id : Identifier) → id.number < 2 ^ 32 → length (identifier_octets id) ≤ 6
 identifier_octets_few id n = elim (cases_lt id.number 31) [
   | inl h ↦ omega (arith, identifier_octets_count_low id h)

@@ -36,10 +36,12 @@ digits_some n h = elim (cases_lt 0 (length (others_of n))) [
   ))
 ]
 
+-- The strict length octets of a number below 128 are one.
 pub length_octets_low : (n : ℕ) → n < 128 → length_octets n ≡ n ∷ []
 unfolding length_octets
 length_octets_low n h = grind (arith, nat_tests)
 
+-- Those of a number from 128 on are their count, and the digits.
 pub length_octets_high : (n : ℕ) → 128 ≤ n → length_octets n ≡ (128 + length (digits_of 256 n)) ∷ digits_of 256 n
 unfolding length_octets
 length_octets_high n h = grind (arith, nat_tests)
@@ -114,15 +116,18 @@ fewest_length n q l = (strict_length n (length_fits n q l)).fewest q l
 pub length_octets_count_low : (n : ℕ) → n < 128 → length (length_octets n) ≡ 1
 length_octets_count_low n h = ap length (length_octets_low n h)
 
+-- How many octets the long form has.
 pub length_octets_count_high : (n : ℕ) → 128 ≤ n → length (length_octets n) ≡ 1 + length (digits_of 256 n)
 length_octets_count_high n h = let e = ap length (length_octets_high n h) in omega arith
 
+-- They are one octet at least.
 pub length_octets_some : (n : ℕ) → 1 ≤ length (length_octets n)
 length_octets_some n = elim (cases_lt n 128) [
   | inl h ↦ omega (arith, length_octets_count_low n h)
   | inr h ↦ omega (arith, length_octets_count_high n h)
 ]
 
+-- They are 9 at most.
 pub length_octets_few : (n : ℕ) → n < 2 ^ 64 → length (length_octets n) ≤ 9
 length_octets_few n f = elim (cases_lt n 128) [
   | inl h ↦ omega (arith, length_octets_count_low n h)

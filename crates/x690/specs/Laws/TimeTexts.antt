@@ -19,6 +19,7 @@ use Rattle.x690.specs.declared.times.Moment.{Moment}
 
 -- Strict texts say their fields.
 
+-- The text of a strict UTCTime says its fields.
 pub utc_says : (m : Moment) → IsStrictUtcTime m → SaysUtcTime (utc_time_text m) m
 utc_says m s = record {
   year = omega (arith, s.1);
@@ -32,10 +33,12 @@ utc_says m s = record {
 pub one_digit : (n : ℕ) → n ≢ 0 → n ≤ 999 → n % 100 ≡ 0 → fraction_text (Some n) ≡ 46 ∷ decimal_digits 1 (n / 100)
 one_digit n s h e = grind (arith, nat_tests)
 
+-- A fraction whose last digit alone is 0 is written in two digits.
 pub two_digits : (n : ℕ) → n ≢ 0 → n ≤ 999 → n % 100 ≢ 0 → n % 10 ≡ 0 →
     fraction_text (Some n) ≡ 46 ∷ decimal_digits 2 (n / 10)
 two_digits n s h d e = grind (arith, nat_tests)
 
+-- One whose last digit is not 0 is written in three.
 pub three_digits : (n : ℕ) → n ≢ 0 → n ≤ 999 → n % 100 ≢ 0 → n % 10 ≢ 0 →
     fraction_text (Some n) ≡ 46 ∷ decimal_digits 3 n
 three_digits n s h d e = grind (arith, nat_tests)
@@ -52,6 +55,7 @@ fraction_says (Some n) most some =
       ]
     ]
 
+-- The text of a strict GeneralizedTime says its fields.
 pub generalized_says : (m : Moment) → IsStrictGeneralizedTime m → SaysGeneralizedTime (generalized_time_text m) m
 generalized_says m s = record {
   year = omega (arith, s.1);
@@ -77,9 +81,11 @@ moment_fits greatest_year m s y f = record {
   zone = inl s.zone;
 }
 
+-- The fields of a strict UTCTime fit its text.
 pub utc_fits : (m : Moment) → IsStrictUtcTime m → FitsUtcTime m
 utc_fits m s = moment_fits 99 m s.0 s.1 (subst (MostMilliseconds 999) (sym s.2) tt)
 
+-- Those of a strict GeneralizedTime fit its text.
 pub generalized_fits : (m : Moment) → IsStrictGeneralizedTime m → FitsGeneralizedTime m
 generalized_fits m s = moment_fits 9999 m s.0 s.1 s.2
 
@@ -151,9 +157,11 @@ are_visible (x ∷ octets) a =
     let parts = and_parts (is_inner x) (list_all is_inner octets) a in
     rw (inner_is_visible x parts.0) (are_visible octets parts.1)
 
+-- The text of a UTCTime is visible characters.
 pub utc_visible : (m : Moment) → AreVisible (utc_time_text m)
 utc_visible m = are_visible (utc_time_text m) (utc_inner m)
 
+-- So is that of a GeneralizedTime.
 pub generalized_visible : (m : Moment) → AreVisible (generalized_time_text m)
 generalized_visible m = are_visible (generalized_time_text m) (generalized_inner m)
 
@@ -165,9 +173,11 @@ are_octets [] a k = omega arith
 are_octets (x ∷ octets) a zero = inner_is_octet x (and_parts (is_inner x) (list_all is_inner octets) a).0
 are_octets (x ∷ octets) a (suc k) = are_octets octets (and_parts (is_inner x) (list_all is_inner octets) a).1 k
 
+-- The text of a UTCTime is octets.
 pub utc_octets : (m : Moment) → IsOctets (utc_time_text m)
 utc_octets m = are_octets (utc_time_text m) (utc_inner m)
 
+-- So is that of a GeneralizedTime.
 pub generalized_octets : (m : Moment) → IsOctets (generalized_time_text m)
 generalized_octets m = are_octets (generalized_time_text m) (generalized_inner m)
 
@@ -182,6 +192,7 @@ have_no_comma (x ∷ octets) a =
     let parts = and_parts (is_inner x) (list_all is_inner octets) a in
     rw (inner_is_no_comma x parts.0) (have_no_comma octets parts.1)
 
+-- The text of a GeneralizedTime has no comma.
 pub generalized_no_comma : (m : Moment) → ¬ HasComma (generalized_time_text m)
 generalized_no_comma m h = let e = have_no_comma (generalized_time_text m) (generalized_inner m) in cc
 
@@ -195,12 +206,14 @@ ends_in_z front =
     (omega (arith, len))
     (subst (λ (i : ℕ). 90 ≡ get_or (front ++ z_text) i 90) (sym last) (sym (get_or-append_seam front 90 [] 90)))
 
+-- It ends in Z.
 pub generalized_ends_in_z : (m : Moment) → EndsInZ (generalized_time_text m)
 generalized_ends_in_z m =
     ends_in_z (decimal_digits 4 m.year ++ to_minute m ++ decimal_digits 2 m.second ++ fraction_text m.millisecond)
 
 -- Strict texts are short.
 
+-- The text of a UTCTime has 13 octets.
 pub utc_length : (m : Moment) → length (utc_time_text m) ≡ 13
 utc_length m = refl
 
@@ -208,6 +221,7 @@ fraction_length : (m : Option ℕ) → MostMilliseconds 999 m → length (fracti
 fraction_length None h = omega arith
 fraction_length (Some n) h = grind (arith, nat_tests)
 
+-- That of a GeneralizedTime has 15 to 19.
 pub generalized_length : (m : Moment) → MostMilliseconds 999 m.millisecond →
     (15 ≤ length (generalized_time_text m)) × (length (generalized_time_text m) ≤ 19)
 generalized_length m h =

@@ -56,21 +56,25 @@ times_unique width SaysEnd ends text m n said told =
     let minute = time_behind_minute width SaysEnd text behind said.end m.year m n said.year is said.range refl told in
     same_moment m n year.0 minute.0 (ends said.end m n said.range.second told.range.second said.says minute.1)
 
+-- A text says one UTCTime.
 pub utc_times_unique : (text : List ℕ) (m n : Moment) → SaysUtcTime text m → SaysUtcTime text n → m ≡ n
 utc_times_unique = times_unique 2 SaysUtcEnd utc_ends_unique
 
+-- A text says one GeneralizedTime.
 pub generalized_times_unique : (text : List ℕ) (m n : Moment) → SaysGeneralizedTime text m →
     SaysGeneralizedTime text n → m ≡ n
 generalized_times_unique = times_unique 4 SaysGeneralizedEnd generalized_ends_unique
 
 -- What a text says is in range.
 
+-- What the text of a UTCTime says is in range, of a year to 99, with no milliseconds, and an offset to 99.
 pub utc_time_in_range : (text : List ℕ) (m : Moment) → SaysUtcTime text m →
     InRange m × (m.year ≤ 99) × (m.millisecond ≡ None) × MostOffset 99 m.zone
 utc_time_in_range text m said =
     let end = utc_end_most said.end m said.says in
     (said.range, omega (arith, said.year), end.0, end.1)
 
+-- What that of a GeneralizedTime says is, of a year to 9999, with milliseconds to 999.
 pub generalized_time_in_range : (text : List ℕ) (m : Moment) → SaysGeneralizedTime text m →
     InRange m × (m.year ≤ 9999) × MostMilliseconds 999 m.millisecond × MostOffset 99 m.zone
 generalized_time_in_range text m said =

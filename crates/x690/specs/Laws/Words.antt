@@ -12,12 +12,14 @@ use Rattle.x690.specs.Laws.Nested.{nested_element_unique, nested_element_two}
 use Rattle.x690.specs.Laws.StrictElements.{ber_allows_strict, strict_is_definite, strict_element_one}
 use Rattle.x690.specs.Laws.StrictElements.{strict_element_unique}
 
+-- One element of definite length alone begins an input.
 pub definite_words : (rule : Rule) → IsOneFront (IsDefiniteElement rule)
 definite_words rule = record {
   one = λ x y r s p q a b e. let u = definite_element_unique rule rule x y r s p q a b e in (u.0, u.1);
   some = λ p a. let l = definite_element_two rule [] p a in absurd (omega (arith, l));
 }
 
+-- So of an element by BER.
 pub nested_words : (depth : ℕ) → IsOneFront (IsElement depth)
 nested_words depth = record {
   one = λ x y r s p q a b e. let u = nested_element_unique depth x y r s p q a.0 b.0 a.1 b.1 e in (u.0, u.1);
@@ -30,6 +32,7 @@ strict_some i c a =
     (strict_is_definite ber_rule ber_allows_strict [] i c a) in
     omega (arith, l)
 
+-- Strict elements are encodings.
 pub strict_encodings : AreEncodings IsStrictOf
 strict_encodings = record {
   one_string = λ v o p s t. strict_element_one o p v.0 v.1 s t;

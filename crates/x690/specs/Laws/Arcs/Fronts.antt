@@ -31,6 +31,7 @@ pub first_and_rest : (octets : List ℕ) (n : ℕ) → pieces_of octets ≡ take
     subidentifiers octets ≡ base_128_value (take n octets) ∷ subidentifiers (drop n octets)
 first_and_rest octets n e = ap (map base_128_value) e
 
+-- The first subidentifier is what the first piece says.
 pub first_is : (octets : List ℕ) (n : ℕ) → pieces_of octets ≡ take n octets ∷ pieces_of (drop n octets) →
     first_subidentifier octets ≡ base_128_value (take n octets)
 first_is octets n e = ap (λ (ns : List ℕ). get_or ns 0 0) (first_and_rest octets n e)
@@ -95,10 +96,12 @@ abbrev pub AreBelow : ℕ → List ℕ → Type 0
 AreBelow bound [] = Unit {0}
 AreBelow bound (n ∷ ns) = (n < bound) × AreSmall ns
 
+-- Subidentifiers each of which is below 2^64 are so, the first and the others.
 pub small_below : (ns : List ℕ) → AreSmall ns → AreBelow (2 ^ 64) ns
 small_below [] a = tt
 small_below (n ∷ ns) a = (a 0 0 (omega arith), λ k d h. a (suc k) d (omega arith))
 
+-- And the other way round.
 pub below_small : (ns : List ℕ) → AreBelow (2 ^ 64) ns → AreSmall ns
 below_small [] b = All-nil (λ n. n < 2 ^ 64)
 below_small (n ∷ ns) b = All-cons (λ m. m < 2 ^ 64) n ns b.0 b.1
@@ -106,6 +109,7 @@ below_small (n ∷ ns) b = All-cons (λ m. m < 2 ^ 64) n ns b.0 b.1
 second_fits : (n : ℕ) → n < 2 ^ 64 + 80 → second_arc n < 2 ^ 64
 second_fits n h = grind (arith, nat_tests)
 
+-- Where all arcs are below 2^64, the first subidentifier is below 2^64 + 80, and the others below 2^64.
 pub split_below : (ns : List ℕ) → AreSmall (with_first_split ns) → AreBelow (2 ^ 64 + 80) ns
 split_below [] a = tt
 split_below (n ∷ ns) a =
@@ -113,6 +117,7 @@ split_below (n ∷ ns) a =
     let second : second_arc n < 2 ^ 64 = a 1 0 (omega arith) in
     (omega (arith, pair.0.0, pair.1, second), λ k d h. a (suc (suc k)) d (omega arith))
 
+-- And the other way round.
 pub below_split : (ns : List ℕ) → AreBelow (2 ^ 64 + 80) ns → AreSmall (with_first_split ns)
 below_split [] b = All-nil (λ n. n < 2 ^ 64)
 below_split (n ∷ ns) b =
@@ -127,6 +132,7 @@ pub below_more : (bound n : ℕ) (octets : List ℕ) → pieces_of octets ≡ ta
 below_more bound n octets e less b =
     subst (AreBelow bound) (sym (first_and_rest octets n e)) (less, below_small (subidentifiers (drop n octets)) b)
 
+-- Where the first is below its bound and the others below 2^64, those behind the first piece are.
 pub below_rest : (bound n : ℕ) (octets : List ℕ) → pieces_of octets ≡ take n octets ∷ pieces_of (drop n octets) →
     AreBelow bound (subidentifiers octets) → AreBelow (2 ^ 64) (subidentifiers (drop n octets))
 below_rest bound n octets e b =

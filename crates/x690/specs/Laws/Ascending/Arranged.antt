@@ -47,11 +47,13 @@ put_in_moves o (p ∷ ps) =
       | false ↦ IsPermutation-refl (o ∷ p ∷ ps)
     ]
 
+-- The arrangement ascends.
 pub arranged_ascends : (os : List (List ℕ)) → Ascending (arranged os)
 unfolding arranged
 arranged_ascends [] = ascending_none
 arranged_ascends (o ∷ os) = put_in_ascends o (arranged os) (arranged_ascends os)
 
+-- It has the same strings.
 pub arranged_moves : (os : List (List ℕ)) → IsPermutation os (arranged os)
 unfolding arranged
 arranged_moves [] = IsPermutation-refl []
@@ -82,6 +84,7 @@ put_in_length o (p ∷ ps) =
       | false ↦ length-append o (concat (p ∷ ps))
     ]
 
+-- The strings of values have as many octets in this arrangement as in theirs.
 pub arranged_length : {X : Type 0} (f : X → List ℕ) (xs : List X) →
     length (concat (arranged (map f xs))) ≡ length (flat_map f xs)
 unfolding arranged

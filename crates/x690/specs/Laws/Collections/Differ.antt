@@ -74,6 +74,7 @@ module _ {V : Type 0} where
       ⊎_elim (λ k. k) (λ ne. absurd (images_differ a b i j u.0 v.0 ne u.3 u.4 u.5 v.3 v.4 v.5 same))
       (same_or_not i j)) ys p
 
+  -- Values that all differ do so in any order.
   pub AllDiffer-permutation : (xs ys : List V) → IsPermutation xs ys → AllDiffer xs → AllDiffer ys
   AllDiffer-permutation xs ys p h = differ_from_Apart ys (Apart-permutation xs ys p (Apart-from_differ xs h))
 

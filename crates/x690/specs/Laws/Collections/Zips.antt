@@ -8,12 +8,14 @@ use Rattle.std.proofs.lemmas.List.Sorted.{IsPermutation-swap}
 use Rattle.std.proofs.lemmas.Slice.Zip.{AllZip-long}
 
 module _ {A B : Type 0} (R : A → B → Type 0) where
+  -- What relates two lists one by one relates them the other way round.
   pub zip_turn : (xs : List A) (ys : List B) → AllZip R xs ys → AllZip (λ y x. R x y) ys xs
   zip_turn [] [] h = tt
   zip_turn [] (y ∷ ys) h = absurd h
   zip_turn (x ∷ xs) [] h = absurd h
   zip_turn (x ∷ xs) (y ∷ ys) h = (h.0, zip_turn xs ys h.1)
 
+  -- It relates what stands at one place.
   pub zip_get : (xs : List A) (ys : List B) (i : ℕ) (d : A) (e : B) → AllZip R xs ys → i < length xs →
       R (get_or xs i d) (get_or ys i e)
   zip_get [] [] i d e h l = absurd (omega (arith, l))
@@ -22,6 +24,7 @@ module _ {A B : Type 0} (R : A → B → Type 0) where
   zip_get (x ∷ xs) (y ∷ ys) zero d e h l = h.0
   zip_get (x ∷ xs) (y ∷ ys) (suc i) d e h l = zip_get xs ys i d e h.1 (omega (arith, l))
 
+  -- It stays where related items are put at one place of both.
   pub zip_set : (xs : List A) (ys : List B) (i : ℕ) (x : A) (y : B) → AllZip R xs ys → R x y →
       AllZip R (set xs i x) (set ys i y)
   zip_set [] [] i x y h r = tt
@@ -30,6 +33,7 @@ module _ {A B : Type 0} (R : A → B → Type 0) where
   zip_set (a ∷ xs) (b ∷ ys) zero x y h r = (r, h.1)
   zip_set (a ∷ xs) (b ∷ ys) (suc i) x y h r = (h.0, zip_set xs ys i x y h.1 r)
 
+  -- It stays where the items at two places of both change these.
   pub zip_swap : (xs : List A) (ys : List B) (i j : ℕ) → i < length xs → j < length xs → AllZip R xs ys →
       AllZip R (swap xs i j) (swap ys i j)
   zip_swap [] [] i j k l h = tt
@@ -56,6 +60,7 @@ module _ {A B : Type 0} (R : A → B → Type 0) where
       ))
       ws p
 
+  -- A list has one list beside it where each item has one item.
   pub zip_right : ((x : A) (y z : B) → R x y → R x z → y ≡ z) → (xs : List A) (ys zs : List B) → AllZip R xs ys →
       AllZip R xs zs → ys ≡ zs
   zip_right one [] [] [] h k = refl

@@ -29,6 +29,7 @@ cut_identifier_fault octets c = (
     no_more [] more e = e
     no_more (x ∷ rest) more e = cc
 
+-- Octets that end within an identifier have that fault as a header.
 pub cut_header_fault : (rule : Rule) (octets : List ℕ) → IsCutIdentifier octets → HeaderFault rule octets tag_fault
 cut_header_fault rule octets c = inl (cut_identifier_fault octets c)
 
@@ -128,12 +129,14 @@ header_beginning rule octets x o y id form fault why h e =
     lacking_or_cut (IsCutIdentifier octets) fault x (λ s. no_header rule octets x o y id form fault why s h e)
     (λ t. header_is_cut rule octets x o y id form (subst (λ (f : Fault). HeaderFault rule octets f) t why) h e)
 
+-- The fault of octets that more of them make begin with an element by DER lacks these, or is of a cut identifier.
 pub der_beginning : (octets x o y : List ℕ) (p : Parts) (fault : Fault) → DerElementFault octets fault →
     IsDerElement o p → octets ++ x ≡ o ++ y → IsLackingOrCut (IsCutIdentifier octets) fault x
 der_beginning octets x o y p fault why b e =
     lacking_or_cut (IsCutIdentifier octets) fault x (λ s. no_der_element octets x o y p fault why s b e)
     (λ t. der_is_cut octets x o y p (subst (λ (f : Fault). DerElementFault octets f) t why) b e)
 
+-- So of an element by BER, whose fault may be of a cut identifier within it.
 pub element_beginning : (depth : ℕ) (octets x o y : List ℕ) (p : Parts) (h : ℕ) (fault : Fault) →
     ElementFault depth octets fault → IsNestedElement depth o p h → octets ++ x ≡ o ++ y →
     IsLackingOrCut (EndsInIdentifier depth octets) fault x

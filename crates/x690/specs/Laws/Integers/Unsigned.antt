@@ -108,6 +108,7 @@ unfolding unsigned_octets
 unsigned_octets_few n k h =
     omega (arith, with_sign_count (digits_of 256 n), length-digits_of-le 256 k n (omega arith) h)
 
+-- They are one octet at least.
 pub unsigned_octets_some : (n : ℕ) → 1 ≤ length (unsigned_octets n)
 unsigned_octets_some n = some (unsigned_octets n) (unsigned_octets_content n).shortest.0
   where
@@ -158,9 +159,11 @@ unsigned_octets_step n h = elim (cases_lt n 256) [
       ∙ with_sign_push (digits_of 256 (n / 256)) (n % 256) s
 ]
 
+-- A number below 128 has one.
 pub unsigned_octets_count_low : (n : ℕ) → n < 128 → length (unsigned_octets n) ≡ 1
 unsigned_octets_count_low n h = ap length (unsigned_octets_low n h)
 
+-- A number from 128 on has one more than its 256th part.
 pub unsigned_octets_count_step : (n : ℕ) → 128 ≤ n → length (unsigned_octets n) ≡ length (unsigned_octets (n / 256)) + 1
 unsigned_octets_count_step n h =
     let e = ap length (unsigned_octets_step n h) in

@@ -98,6 +98,7 @@ no_element (suc depth) octets x o y p h fault (inr (inr why)) s (inr b) e =
       | inr z ↦ no_element depth why.0 x z.word z.rest z.word_is.0 z.headers fault why.2 r z.word_is.1 z.is
     ]
 
+-- A fault of an element by BER that says how many octets are missing counts one at least.
 pub element_fault_counts : (depth : ℕ) (octets : List ℕ) (fault : Fault) → ElementFault depth octets fault →
     CountsSome fault
 unfolding ElementFault
@@ -115,16 +116,19 @@ element_or_fault depth octets o y p h fault why b e =
     (speaks_now (EndsInIdentifier depth octets) fault (element_fault_counts depth octets fault why)) b
     (append-nil octets ∙ e)
 
+-- Octets with a fault of their header have no contents octets that are cut.
 pub header_not_cut : (octets : List ℕ) (f g : Fault) → HeaderFault ber_rule octets f →
     IsCutContent ber_rule octets g → ⊥
 header_not_cut octets f g p q =
     header_or_fault ber_rule octets q.header q.rest q.id (definite q.counted) f p q.header_is q.is
 
+-- They have no header of the indefinite form.
 pub header_not_opened : (depth : ℕ) (octets rest : List ℕ) (f : Fault) → HeaderFault ber_rule octets f →
     IsOpened depth octets rest → ⊥
 header_not_opened depth octets rest f p q =
     header_or_fault ber_rule octets q.header (concat q.words ++ rest) q.id indefinite f p q.header_is q.is
 
+-- Octets whose contents octets are cut have no header of the indefinite form.
 pub cut_not_opened : (depth : ℕ) (octets rest : List ℕ) (f : Fault) → IsCutContent ber_rule octets f →
     IsOpened depth octets rest → ⊥
 cut_not_opened depth octets rest f p q =
@@ -145,6 +149,7 @@ opened_compared depth octets rest other p q =
       | inr r ↦ inr r
     ]
 
+-- Where a word begins the octets there is no fault.
 pub no_fault_at_word : (depth : ℕ) (octets : List ℕ) (f : Fault) → ElementFault depth octets f →
     BeginsWithWord (IsWord depth) octets → ⊥
 no_fault_at_word depth octets f why b =

@@ -83,6 +83,7 @@ row_goes_on Word unique whole ws vs x y g h a b e =
       | inr (inr r) ↦ absurd (no_word_at_end Word whole y r)
     ]
 
+-- Rows are as long as twice their headers at least, where the words are.
 pub row_half : (Word : List ℕ → ℕ → Type 0) → ((w : List ℕ) (g : ℕ) → Word w g → 2 * g ≤ length w) →
     (ws : List (List ℕ)) (h : ℕ) → IsRow Word ws h → 2 * h ≤ length (concat ws)
 row_half Word half [] h r = omega arith
@@ -95,6 +96,7 @@ pub row_map : (Word Other : List ℕ → ℕ → Type 0) → ((w : List ℕ) (g 
 row_map Word Other f [] h r = r
 row_map Word Other f (w ∷ ws) h r = (r.0, r.1, f w r.0 r.2, r.3, row_map Word Other f ws r.1 r.4, r.5)
 
+-- Rows are octets where the words are.
 pub row_is_octets : (Word : List ℕ → ℕ → Type 0) → ((w : List ℕ) (g : ℕ) → Word w g → IsOctets w) →
     (ws : List (List ℕ)) (h : ℕ) → IsRow Word ws h → IsOctets (concat ws)
 row_is_octets Word octets [] h r = below_octets [] tt

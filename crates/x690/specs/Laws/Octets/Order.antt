@@ -12,6 +12,7 @@ use Rattle.x690.specs.Octets.{dictionary_order, IsBeforeOrSame}
 abbrev is_before : List ℕ → List ℕ → Bool
 is_before one other = is_lt (dictionary_order one other)
 
+-- Strings stand in a strict order.
 pub strings_rank : IsStrictWeakOrder is_before
 strings_rank = ranks_by nat_list_cmp_total (λ octets. octets)
 
@@ -24,9 +25,11 @@ before_or_same_total one other =
       | false ↦ λ e. inl e
     ] refl
 
+-- A string is not behind itself.
 pub before_or_same_itself : (one : List ℕ) → IsBeforeOrSame one one
 before_or_same_itself one = elim (before_or_same_total one one) [ inl h ↦ h | inr h ↦ h ]
 
+-- What is not behind a string is not behind what that one is not behind.
 pub before_or_same_transitive : (one other third : List ℕ) → IsBeforeOrSame one other → IsBeforeOrSame other third →
     IsBeforeOrSame one third
 before_or_same_transitive one other third a b = strings_rank.chain third other one b a

@@ -27,6 +27,7 @@ digits_part (suc width) a b x y e =
       cc (r.1),
     )
 
+-- Numbers with the same digits, as many as hold them, are the same.
 pub same_from_digits : (width a b : ℕ) → a < 10 ^ width → b < 10 ^ width → digits width a ≡ digits width b → a ≡ b
 same_from_digits zero a b h k e = omega (arith, pow-zero 10)
 same_from_digits (suc width) a b h k e =

@@ -80,6 +80,7 @@ utc_ends_unique text m n h k (inr (zone, is, said, none)) (inr (other, it, told,
       zone = zones_unique zone m.zone n.zone said (subst (λ (z : List ℕ). SaysZone z n.zone) (sym r.1) told);
     }
 
+-- What stands behind the minutes of a GeneralizedTime says one thing.
 pub generalized_ends_unique : (text : List ℕ) (m n : Moment) → m.second ≤ 59 → n.second ≤ 59 →
     SaysGeneralizedEnd text m → SaysGeneralizedEnd text n → SameEnd m n
 generalized_ends_unique text m n h k (inl a) (inl b) = record {
@@ -108,6 +109,7 @@ pub utc_end_most : (text : List ℕ) (m : Moment) → SaysUtcEnd text m → (m.m
 utc_end_most text m (inl z) = (z.millisecond, subst (MostOffset 99) (sym z.zone) tt)
 utc_end_most text m (inr (zone, is, said, nothing)) = (nothing, zone_or_none_most zone m.zone (inr said))
 
+-- It says milliseconds to 999, and an offset to 99.
 pub generalized_end_most : (text : List ℕ) (m : Moment) → SaysGeneralizedEnd text m →
     MostMilliseconds 999 m.millisecond × MostOffset 99 m.zone
 generalized_end_most text m (inl z) =

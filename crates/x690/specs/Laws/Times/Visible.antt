@@ -67,8 +67,10 @@ time_visible width SaysEnd ends text m s = subst AreVisible (sym s.text_is)
     (both (digits width m.year ++ to_minute m) s.end (both (digits width m.year) (to_minute m)
     (digits_visible width m.year) (to_minute_visible m)) (ends s.end m s.says))
 
+-- A text that says a UTCTime is visible characters.
 pub utc_said_visible : (text : List ℕ) (m : Moment) → SaysUtcTime text m → AllIn is_visible text
 utc_said_visible = time_visible 2 SaysUtcEnd utc_end_visible
 
+-- So is one that says a GeneralizedTime.
 pub generalized_said_visible : (text : List ℕ) (m : Moment) → SaysGeneralizedTime text m → AllIn is_visible text
 generalized_said_visible = time_visible 4 SaysGeneralizedEnd generalized_end_visible

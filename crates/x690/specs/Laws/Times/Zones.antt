@@ -26,6 +26,7 @@ zone_begins text rest said first (inr zone) e =
     let front = zone_front text said zone in
     subst (λ (x : ℕ). (x ≡ 43) ⊎ ((x ≡ 45) ⊎ (x ≡ 90))) (same_first text front.1 rest front.0 first front.2 e) front.3
 
+-- A zone begins with no digit.
 pub zone_has_no_digit : (text : List ℕ) (said : TimeZone) → SaysZoneOrNone text said → HasNoDigit text
 zone_has_no_digit text said zone d rest h e = omega (arith, zone_begins text rest said (48 + d % 10) zone e)
 
@@ -64,6 +65,7 @@ zones_unique text one other (inr (h, m, a, b, inr p)) (inr (i, n, k, l, inr q)) 
     let same = offset_front h m i n a b k l (cc (p.0, q.0)) in
     p.1 ∙ ap (λ (x : ℕ). west x m) same.0 ∙ ap (west i) same.1 ∙ sym q.1
 
+-- A text says one zone, or none.
 pub zones_or_none_unique : (text : List ℕ) (one other : TimeZone) → SaysZoneOrNone text one →
     SaysZoneOrNone text other → one ≡ other
 zones_or_none_unique text one other (inl a) (inl b) = a.1 ∙ sym b.1
@@ -145,6 +147,7 @@ zone_most text said (inr (hours, minutes, h, m, inr minus)) =
     to_west true = (neg_most hours h, omega arith)
     to_west false = (omega arith, neg_most minutes m)
 
+-- A zone that may be left out has an offset to 99.
 pub zone_or_none_most : (text : List ℕ) (said : TimeZone) → SaysZoneOrNone text said → MostOffset 99 said
 zone_or_none_most text said (inl none) = subst (MostOffset 99) (sym none.1) tt
 zone_or_none_most text said (inr zone) = zone_most text said zone
@@ -156,6 +159,7 @@ filled_most (suc zero) n few h = omega arith
 filled_most (suc (suc zero)) n few h = omega arith
 filled_most (suc (suc (suc count))) n few h = absurd (omega arith)
 
+-- A fraction says milliseconds to 999.
 pub fraction_most : (text : List ℕ) (milliseconds : Option ℕ) → SaysFraction text milliseconds →
     MostMilliseconds 999 milliseconds
 fraction_most text None part = tt
