@@ -58,7 +58,7 @@ Seen {X} {V} f G o w = (v : V) × (f v ≡ w) × G o v
 abbrev pub SetBody : {V M : Type 0} → (List V → M) → (List ℕ → V → Type 0) → Parts → M → Type 0
 SetBody of G = Seen of (ListBody 17 G)
 
--- the contents octets of a set: words of its items, in any order
+-- the same, where the constructed bit is not looked at
 abbrev pub SetRow : {V M : Type 0} → (List V → M) → (List ℕ → V → Type 0) → Parts → M → Type 0
 SetRow of G = Seen of (ListOf 17 G)
 

@@ -60,11 +60,11 @@ pub takes_some : {A : Type 0} → true ≡ false → A
 takes_some e = cc
 
 module _ {V : Type 0} (G : List ℕ → V → Type 0) (one : IsOneFront G) where
-  -- An element has one list, by BER, where one word of an item alone begins an input.
+  -- An element has one list, where one word of an item alone begins an input.
   pub list_body_one : (number : ℕ) → IsOneBody (ListBody number G)
   list_body_one number p v w a b = joined_same G one p.content p.content v w refl a.items b.items
 
-  -- So it has by DER.
+  -- So it has where the constructed bit is not looked at.
   pub list_of_one : (number : ℕ) → IsOneBody (ListOf number G)
   list_of_one number p v w a b = joined_same G one p.content p.content v w refl a.items b.items
 
@@ -123,7 +123,7 @@ module _ {V : Type 0} (Form : V → Identifier → List ℕ → Type 0) (number 
     items = joined_map (StrictWord Form) G (λ o v s. words v o s) c vs f.1;
   }
 
-  -- They have the list by BER, where strict encodings of items are words.
+  -- They have the list, where strict encodings of items are words.
   pub list_form_body : (G : List ℕ → V → Type 0) → ((v : V) (o : List ℕ) → IsStrict Form v o → G o v) →
       FormBodies (ListForm number Form) (ListBody number G)
   list_form_body G words = λ vs i c f. record {
@@ -132,7 +132,7 @@ module _ {V : Type 0} (Form : V → Identifier → List ℕ → Type 0) (number 
     items = joined_map (StrictWord Form) G (λ o v s. words v o s) c vs f.1;
   }
 
-  -- So they have by DER.
+  -- So they have where the constructed bit is not looked at.
   pub list_form_of : (G : List ℕ → V → Type 0) → ((v : V) (o : List ℕ) → IsStrict Form v o → G o v) →
       FormBodies (ListForm number Form) (ListOf number G)
   list_form_of G words = λ vs i c f. record {
@@ -193,12 +193,12 @@ module _ {V : Type 0} (Form : V → Identifier → List ℕ → Type 0) (number 
 pub low_fits : (number : ℕ) → number < 31 → number < 2 ^ 32
 low_fits number small = omega (arith, small)
 
--- The items of a list by BER are values of the type.
+-- The items of a list are values of the type.
 pub list_body_values : {V : Type 0} (number : ℕ) (G : List ℕ → V → Type 0) (P : V → Type 0) →
     ((o : List ℕ) (v : V) → G o v → P v) → (p : Parts) (vs : List V) → ListBody number G p vs → All P vs
 list_body_values number G P f p vs b = joined_values G P f p.content vs b.items
 
--- So are those of a list by DER.
+-- So are they where the constructed bit is not looked at.
 pub list_der_values : {V : Type 0} (number : ℕ) (G : List ℕ → V → Type 0) (P : V → Type 0) →
     ((o : List ℕ) (v : V) → G o v → P v) → (p : Parts) (vs : List V) → ListOf number G p vs → All P vs
 list_der_values number G P f p vs b = joined_values G P f p.content vs b.items
@@ -287,7 +287,7 @@ module _ {T V W E : Type 0} (number : ℕ) (holds : List T → W → Type 0) (va
         | inr none ↦ inr none
       ]
 
-  -- The conversion to a list by BER is exact.
+  -- The conversion to a list is exact.
   pub list_takes : (any : Any) (answer : Result W E) → IsOctets any.content.now →
       OfParts (ListTakes number holds reads from) any answer →
       TakesBody (ListBody number G) values true from (parts_of any) answer
@@ -301,7 +301,7 @@ module _ {T V W E : Type 0} (number : ℕ) (holds : List T → W → Type 0) (va
   list_takes any (Err e) o (inr (h, s)) =
       elim (none_taken e any.content.now o s) [ inl m ↦ inl (refl, m) | inr none ↦ inr (λ vs b. none vs b.items) ]
 
-  -- So it is by DER.
+  -- So is that of a list's own reader by DER, which does not look at the constructed bit.
   pub list_reads : (any : Any) (answer : Result W E) → IsOctets any.content.now →
       OfParts (ListReads number holds reads from) any answer →
       TakesBody (ListOf number G) values true from (parts_of any) answer

@@ -135,7 +135,7 @@ module _ {V M : Type 0} (of : List V → M) (Each : List V → Type 0) (Form : V
     set_joined m c f =
         joined_map (StrictWord Form) G (λ o v s. word v o s) c f.items (joins_joined of Each (IsStrict Form) m c f)
 
-    -- Strict parts have the collection by BER.
+    -- Strict parts have the collection.
     pub set_form_body : FormBodies (SetForm of Each Form) (SetBody of G)
     set_form_body = λ m i c f. (
       f.1.items,
@@ -147,7 +147,7 @@ module _ {V M : Type 0} (of : List V → M) (Each : List V → Type 0) (Form : V
       },
     )
 
-    -- So they have by DER.
+    -- So they have where the constructed bit is not looked at.
     pub set_form_row : FormBodies (SetForm of Each Form) (SetRow of G)
     set_form_row = λ m i c f. (
       f.1.items,
@@ -677,7 +677,7 @@ module _ {T V W M E : Type 0} (holds : List T → W → Type 0) (of : List V →
     (one : IsOneFront G)
     (exact : (octets : List ℕ) (answer : Result (List ℕ × T) (Refusal E)) → IsOctets octets → reads octets answer →
     Exactly IsCut G value (TellsMemory takes from) octets answer) where
-  -- The conversion to a set by BER is exact.
+  -- The conversion to a set is exact.
   pub set_takes : (any : Any) (answer : Result W E) → IsOctets any.content.now →
       OfParts (ListTakes 17 holds reads from) any answer →
       TakesBody (SetBody of G) worth true from (parts_of any) answer
@@ -693,7 +693,7 @@ module _ {T V W M E : Type 0} (holds : List T → W → Type 0) (of : List V →
         | inr none ↦ inr (λ m b. none b.0 b.2)
       ]
 
-  -- So it is by DER.
+  -- So is that of a set's own reader by DER, which does not look at the constructed bit.
   pub set_reads : (any : Any) (answer : Result W E) → IsOctets any.content.now →
       OfParts (ListReads 17 holds reads from) any answer → TakesBody (SetRow of G) worth true from (parts_of any) answer
   set_reads any (Ok w) o t = (

@@ -34,7 +34,7 @@ weighted_sum_more base digits i within =
     sym (weighted_sum_is_number base (take (i + 1) digits)) ∙ number_more base digits i within
     ∙ ap (λ n. n * base + get_or digits i 0) (weighted_sum_is_number base (take i digits))
 
--- The sum of digits that follow others.
+-- The sum of digits is that of the front at its place, and that of the back.
 pub weighted_sum_append : (base : ℕ) (front back : List ℕ) →
     weighted_sum base (front ++ back) ≡ weighted_sum base front * base ^ length back + weighted_sum base back
 weighted_sum_append base front back =

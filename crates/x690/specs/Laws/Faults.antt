@@ -204,7 +204,7 @@ length_fault_counts octets length_fault why = tt
 length_fault_counts octets (rule_fault b) why = tt
 length_fault_counts octets depth_fault why = tt
 
--- A fault of a header does so.
+-- A fault of a header counts one at least.
 pub header_fault_counts : (rule : Rule) (octets : List ℕ) (fault : Fault) → HeaderFault rule octets fault →
     CountsSome fault
 header_fault_counts rule octets fault (inl why) = identifier_fault_counts octets fault why
@@ -214,12 +214,12 @@ header_fault_counts rule octets fault (inr why) = elim why.why [
   | inr (allowed, inr p) ↦ subst CountsSome (sym p.fault_is) tt
 ]
 
--- One of contents octets that are cut does.
+-- So does one of contents octets that are cut.
 pub cut_content_counts : (rule : Rule) (octets : List ℕ) (fault : Fault) → IsCutContent rule octets fault →
     CountsSome fault
 cut_content_counts rule octets fault why = subst CountsSome (sym why.fault_is) why.some
 
--- One of an element by DER does.
+-- So does one of an element by DER.
 pub der_fault_counts : (octets : List ℕ) (fault : Fault) → DerElementFault octets fault → CountsSome fault
 der_fault_counts octets fault (inl why) = header_fault_counts der_rule octets fault why
 der_fault_counts octets fault (inr why) = cut_content_counts der_rule octets fault why

@@ -24,7 +24,7 @@ first_below bound first others o h =
     let m : suc first * 256 ^ length others ≤ bound * 256 ^ length others = mul-le-mul_right (256 ^ length others) h in
     omega (arith, m)
 
--- A first octet from a bound on makes a number from as many times its place on.
+-- Where the first octet reaches a bound, the number reaches that bound at the place of the first.
 pub first_above : (bound first : ℕ) (others : List ℕ) → bound ≤ first →
     bound * 256 ^ length others ≤ base_256_value (first ∷ others)
 first_above bound first others h =

@@ -23,7 +23,7 @@ numeric_ascii octet h = grind (arith, nat_tests)
 pub printable_ascii : IsAsciiSet is_printable
 printable_ascii octet h = grind (arith, nat_tests)
 
--- So are all that are called so.
+-- So are those of the set of all that are.
 pub ascii_ascii : IsAsciiSet is_ascii
 ascii_ascii octet h = grind (arith, nat_tests)
 

@@ -36,7 +36,7 @@ low_digits (a ∷ hs) last h l =
     let r = low_digits hs last h.1 l in
     cc
 
--- The digits of a tag number are such.
+-- The digits of a tag number have bit 8 set on all octets but the last.
 pub tag_digits_are : (number : ℕ) → AreTagDigits (tag_digits number)
 tag_digits_are number = are_digits (marked number) (number % 128) (below number) (omega arith)
 

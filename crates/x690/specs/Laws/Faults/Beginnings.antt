@@ -29,7 +29,7 @@ cut_identifier_fault octets c = (
     no_more [] more e = e
     no_more (x ∷ rest) more e = cc
 
--- Octets that end within an identifier have that fault as a header.
+-- Octets that end within an identifier have its fault by any rule.
 pub cut_header_fault : (rule : Rule) (octets : List ℕ) → IsCutIdentifier octets → HeaderFault rule octets tag_fault
 cut_header_fault rule octets c = inl (cut_identifier_fault octets c)
 
