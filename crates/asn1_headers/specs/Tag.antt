@@ -5,12 +5,12 @@ use Rattle.asn1_headers.specs.declared.tag.Tag.{Tag}
 
 -- the names of the universal types by their numbers, empty where there is none
 abbrev pub universal_names : List (List ℕ)
-universal_names = codes "EndOfContent" ∷ codes "Boolean" ∷ codes "Integer" ∷ codes "BitString" ∷ codes
-    "OctetString" ∷ codes "Null" ∷ codes "Oid" ∷ codes "ObjectDescriptor" ∷ codes "External" ∷ codes "RealType" ∷ codes
-    "Enumerated" ∷ codes "EmbeddedPdv" ∷ codes "Utf8String" ∷ codes "RelativeOid" ∷ [] ∷ [] ∷ codes "Sequence" ∷ codes
-    "Set" ∷ codes "NumericString" ∷ codes "PrintableString" ∷ codes "TeletexString" ∷ codes "VideotexString" ∷ codes
-    "Ia5String" ∷ codes "UtcTime" ∷ codes "GeneralizedTime" ∷ codes "GraphicString" ∷ codes "VisibleString" ∷ codes
-    "GeneralString" ∷ codes "UniversalString" ∷ codes "CharacterString" ∷ codes "BmpString" ∷ []
+universal_names = codes "EndOfContent" ∷ codes "Boolean" ∷ codes "Integer" ∷ codes "BitString" ∷ codes "OctetString" ∷
+    codes "Null" ∷ codes "Oid" ∷ codes "ObjectDescriptor" ∷ codes "External" ∷ codes "RealType" ∷ codes "Enumerated" ∷
+    codes "EmbeddedPdv" ∷ codes "Utf8String" ∷ codes "RelativeOid" ∷ [] ∷ [] ∷ codes "Sequence" ∷ codes "Set" ∷
+    codes "NumericString" ∷ codes "PrintableString" ∷ codes "TeletexString" ∷ codes "VideotexString" ∷
+    codes "Ia5String" ∷ codes "UtcTime" ∷ codes "GeneralizedTime" ∷ codes "GraphicString" ∷ codes "VisibleString" ∷
+    codes "GeneralString" ∷ codes "UniversalString" ∷ codes "CharacterString" ∷ codes "BmpString" ∷ []
 
 -- the name of a tag number of the universal class, empty where it has none
 abbrev pub name_of : ℕ → List ℕ

@@ -39,6 +39,6 @@ refusal_text text (failed e) = text e
 -- which part is expected and which one was found, by their names; or that the part is not expected
 abbrev pub unexpected_text : {T : Type 0} → (T → Option (List ℕ)) → List ℕ → Option T → T → Option (List ℕ)
 unexpected_text name what (Some expected) actual =
-    Some (codes "expected ") ++? Some what ++? Some (codes " ") ++? name expected ++? Some
-    (codes ", found ") ++? name actual
+    Some (codes "expected ") ++? Some what ++? Some (codes " ") ++? name expected ++?
+    Some (codes ", found ") ++? name actual
 unexpected_text name what None actual = Some (codes "unexpected ") ++? Some what ++? Some (codes " ") ++? name actual

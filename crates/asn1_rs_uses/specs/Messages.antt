@@ -60,8 +60,8 @@ numbers_octets numbers = in_sequence (flat_map number_octets numbers)
 -- what is written for a message
 abbrev pub message_octets : Message → List ℕ
 message_octets m =
-    in_sequence (number_octets m.version ++ (element_header m.community ++ m.community.content.now) ++ numbers_octets
-    m.numbers.items)
+    in_sequence (number_octets m.version ++ (element_header m.community ++ m.community.content.now) ++
+    numbers_octets m.numbers.items)
 
 -- reading numbers allocates, and out of memory may be reported
 abbrev pub WantsMemory : Refusal Error → Type 0

@@ -206,6 +206,6 @@ generalized_time_shown m = calendar_text m ++ fraction_text m.millisecond ++ zon
 
 -- fields alone: `YYYYMMDDhhmmss`, milliseconds and Z
 abbrev pub moment_text : Moment → List ℕ
-moment_text m = filled 4 m.year ++ filled 2 m.month ++ filled 2 m.day ++ filled 2 m.hour ++ filled 2 m.minute ++ filled
-    2 m.second ++
+moment_text m = filled 4 m.year ++ filled 2 m.month ++ filled 2 m.day ++ filled 2 m.hour ++ filled 2 m.minute ++
+    filled 2 m.second ++
     fraction_text m.millisecond ++ z_text

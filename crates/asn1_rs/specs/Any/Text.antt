@@ -15,8 +15,8 @@ use Rattle.asn1_rs.specs.Leaf.{Leaf, LeafGives, LeafTakes}
 -- The tag numbers of the types of strings whose contents octets are taken as UTF-8: of Utf8String, NumericString,
 -- PrintableString, TeletexString, VideotexString, Ia5String, GraphicString, VisibleString and GeneralString.
 abbrev pub is_utf8_number : ℕ → Bool
-is_utf8_number n = nat_eq n 12 || nat_eq n 18 || nat_eq n 19 || nat_eq n 20 || nat_eq n 21 || nat_eq n 22 || nat_eq n 25
-    || nat_eq n 26 || nat_eq n 27
+is_utf8_number n = nat_eq n 12 || nat_eq n 18 || nat_eq n 19 || nat_eq n 20 || nat_eq n 21 || nat_eq n 22 ||
+    nat_eq n 25 || nat_eq n 26 || nat_eq n 27
 
 -- the tag number is one of them; no one number is expected
 abbrev pub has_utf8_number : CheckGives
