@@ -30,7 +30,8 @@ def main():
             blocks += 1
             if not any(block[2] in source for source in texts[block[1]]):
                 line = text.count("\n", 0, block.start()) + 1
-                print(f"{page.relative_to(TOP)}:{line}: this block stands in no {PLACES[block[1]]} of {' or '.join(CRATES)}")
+                place = f"{PLACES[block[1]]} of {' or '.join(CRATES)}"
+                print(f"{page.relative_to(TOP)}:{line}: this block stands in no {place}")
                 faults += 1
     print(f"{blocks - faults} of {blocks} blocks of the guides stand in the crates")
     sys.exit(1 if faults else 0)

@@ -64,7 +64,8 @@ def modules(names):
             said = [line[3:].strip() for line in texts[name].splitlines() if line.startswith("//!")]
             print(f"  {name}: {' '.join(filter(None, said))}")
         for path in (path for path, _ in spec_files(crate) if read(path).startswith("-- ")):
-            print(f"  {path.relative_to(source.parent)}: {read(path).splitlines()[0][3:]}")
+            first = re.match(r"(?:-- .*\n)+", read(path))[0]
+            print(f"  {path.relative_to(source.parent)}: {first.replace('-- ', '').replace(chr(10), ' ').strip()}")
 
 
 def names_from(text):

@@ -1,5 +1,6 @@
 -- What readers answer.
-use Rattle.std.specs.Prelude.{ℕ, Bool, IsTrue, List, [], ◌++◌, ◌≡◌, ◌≢◌, ◌<◌, ◌⊎◌, length, Result, Ok, Err, ◌≤◌, IsErrAnd}
+use Rattle.std.specs.Prelude.{ℕ, Bool, IsTrue, List, [], ◌++◌, ◌≡◌, ◌≢◌, ◌<◌, ◌⊎◌, length, Result, Ok, Err, ◌≤◌}
+use Rattle.std.specs.Prelude.{IsErrAnd}
 use Rattle.std.specs.Borrow.{Bor}
 use Rattle.x690.specs.Joined.{NoFront}
 use Rattle.asn1_headers.specs.declared.error.Err.{Err as Refusal}
@@ -19,7 +20,8 @@ pub record Front {V : Type 0} (G : List ℕ → V → Type 0) (input : List ℕ)
   pub fits : G word v
   pub is : input ≡ word ++ rest
 
--- What a refusal says of the input with more octets behind it. Where n are missing it says nothing of n or more; where the input ends within an identifier it says nothing of any.
+-- What a refusal says of the input with more octets behind it. Where n are missing it says nothing of n or more; where
+-- the input ends within an identifier it says nothing of any.
 abbrev pub Speaks : {E : Type 0} → Type 0 → Refusal E → List ℕ → Type 0
 Speaks is_cut (cut (Size n)) more = (more ≡ []) ⊎ (length more < n)
 Speaks is_cut (cut Unknown) more = more ≡ []
@@ -38,19 +40,24 @@ TellsMemory {E} takes gives r = IsTrue takes × ((e : E) × gives OutOfMemory e 
 abbrev pub IsOther : {E : Type 0} → (Error → E → Type 0) → E → Type 0
 IsOther {E} gives e = ((f : Error) × (f ≢ OutOfMemory) × gives f e) ⊎ (gives OutOfMemory e → ⊥)
 
--- The answer is Ok exactly where a word of the grammar begins the input, with its value and the rest. Where the reader allocates, out of memory may be reported.
-abbrev pub Exactly : {T V E : Type 0} → (List ℕ → Type 0) → (List ℕ → V → Type 0) → (T → V) → (Refusal E → Type 0) → List ℕ → Result (List ℕ × T) (Refusal E) → Type 0
+-- The answer is Ok exactly where a word of the grammar begins the input, with its value and the rest. Where the reader
+-- allocates, out of memory may be reported.
+abbrev pub Exactly : {T V E : Type 0} → (List ℕ → Type 0) → (List ℕ → V → Type 0) → (T → V) → (Refusal E → Type 0) →
+    List ℕ → Result (List ℕ × T) (Refusal E) → Type 0
 Exactly IsCut G value memory input (Ok x) = Front G input (value x.1) x.0
 Exactly IsCut G value memory input (Err r) = memory r ⊎ IsFinal (IsCut input) r G input
 
 -- the answer is this value before this rest, except when out of memory
-abbrev pub ReadsBack : {T V E : Type 0} → (T → V) → (Refusal E → Type 0) → V → List ℕ → Result (List ℕ × T) (Refusal E) → Type 0
+abbrev pub ReadsBack : {T V E : Type 0} → (T → V) → (Refusal E → Type 0) → V → List ℕ →
+    Result (List ℕ × T) (Refusal E) → Type 0
 ReadsBack value memory v rest (Ok x) = (v ≡ value x.1) × (x.0 ≡ rest)
 ReadsBack value memory v rest (Err r) = memory r
 
--- the refusal of octets that more of them make whole: it tells as many missing octets as these or fewer, or `InvalidTag`, where they end within an identifier
+-- the refusal of octets that more of them make whole: it tells as many missing octets as these or fewer, or
+-- `InvalidTag`, where they end within an identifier
 abbrev pub TellsBeginning : Type 0 → Refusal Error → List ℕ → Type 0
-TellsBeginning ends_within r more = ((n : ℕ) × (r ≡ cut (Size n)) × (n ≤ length more)) ⊎ ((r ≡ refused InvalidTag) × ends_within)
+TellsBeginning ends_within r more =
+    ((n : ℕ) × (r ≡ cut (Size n)) × (n ≤ length more)) ⊎ ((r ≡ refused InvalidTag) × ends_within)
 
 -- The answer is an `Err` that tells of octets that more of them make whole.
 abbrev pub RefusedAsBeginning : {A : Type 0} → Type 0 → List ℕ → Result A (Refusal Error) → Type 0

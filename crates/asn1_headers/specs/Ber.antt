@@ -25,11 +25,14 @@ pub record CountedElement (depth : ℕ) (input rest : List ℕ) (parts : Parts) 
   pub counted : after ≡ before + headers
   pub half : 2 * headers ≤ length word
 
--- What a reader of contents octets by BER may answer, behind a header with this constructed bit and this form of length, at a depth. The indefinite form is refused at a primitive header, which none that is read has.
-abbrev pub BerContentGives : Bool → LengthForm → ℕ → List ℕ → Result (Bor (List ℕ) × Bor (List ℕ)) (Refusal Error) → Type 0
+-- What a reader of contents octets by BER may answer, behind a header with this constructed bit and this form of
+-- length, at a depth. The indefinite form is refused at a primitive header, which none that is read has.
+abbrev pub BerContentGives : Bool → LengthForm → ℕ → List ℕ →
+    Result (Bor (List ℕ) × Bor (List ℕ)) (Refusal Error) → Type 0
 BerContentGives constructed form zero input answer = answer ≡ Err (refused BerMaxDepth)
 BerContentGives false indefinite (suc depth) input answer = answer ≡ Err (refused ConstructExpected)
-BerContentGives constructed form (suc depth) input (Ok x) = (headers : ℕ) × IsContent form depth input x.1.now x.0.now headers
+BerContentGives constructed form (suc depth) input (Ok x) =
+    (headers : ℕ) × IsContent form depth input x.1.now x.0.now headers
 BerContentGives constructed form (suc depth) input (Err r) = Refused (ContentFault form depth) ber_refusal input r
 
 -- as many headers of the input were counted as the relation says of it

@@ -3,12 +3,14 @@ use Rattle.std.specs.Prelude.{◌≡◌, ◌≤◌, ℕ, List, codes, Result, Ok
 use Rattle.asn1_headers.specs.declared.class.Class.{Class}
 use Rattle.asn1_headers.specs.declared.class.Class.TheVariants.{Universal, Application, ContextSpecific, Private}
 
+-- the number that bits 8 and 7 of the identifier octets say
 abbrev pub class_number : Class → ℕ
 class_number Universal = 0
 class_number Application = 1
 class_number ContextSpecific = 2
 class_number Private = 3
 
+-- the name of a class as it is shown
 abbrev pub class_text : Class → List ℕ
 class_text Universal = codes "UNIVERSAL"
 class_text Application = codes "APPLICATION"

@@ -12,6 +12,7 @@ Splits n input (Ok x) = (length x.1.now ≡ n) × (input ≡ x.1.now ++ x.0.now)
 Splits n input (Err r) = (lacking : ℕ) × (1 ≤ lacking) × (length input + lacking ≡ n) × (r ≡ cut (Size lacking))
 
 -- with more octets behind them the contents octets are answered too, and the rest with these
-abbrev pub ContentStays : Bor (List ℕ) × Bor (List ℕ) → List ℕ → Result (Bor (List ℕ) × Bor (List ℕ)) (Refusal Error) → Type 0
+abbrev pub ContentStays : Bor (List ℕ) × Bor (List ℕ) → List ℕ →
+    Result (Bor (List ℕ) × Bor (List ℕ)) (Refusal Error) → Type 0
 ContentStays x more (Ok y) = (y.1.now ≡ x.1.now) × (y.0.now ≡ x.0.now ++ more)
 ContentStays x more (Err r) = ⊥

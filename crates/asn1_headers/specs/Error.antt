@@ -11,6 +11,7 @@ use Rattle.asn1_headers.specs.declared.error.Error.TheVariants as errors
 use Rattle.asn1_headers.specs.declared.error.SerializeError.{SerializeError}
 use Rattle.asn1_headers.specs.declared.error.SerializeError.TheVariants as serialize_errors
 
+-- how many octets a refusal says are missing, where 0 stands for a number that is not known
 abbrev pub needed_of : ℕ → Needed
 needed_of n = if nat_eq n 0 then Unknown else Size n
 
@@ -52,6 +53,7 @@ is_io (Err serialize_errors.InvalidLength) = false
 is_io (Err (serialize_errors.IOError e)) = true
 is_io (Err serialize_errors.OutOfMemory) = false
 
+-- whether the refusal is one of the writer
 abbrev pub tells_of_io : SerializeError → Bool
 tells_of_io e = is_io {A = ℕ} (Err e)
 
@@ -66,5 +68,6 @@ abbrev pub vector_refusal : SerializeError → SerializeError
 vector_refusal (serialize_errors.IOError e) = serialize_errors.OutOfMemory
 vector_refusal e = e
 
+-- the second refusal is the first, as writing into a vector tells it
 abbrev pub WithoutIo : SerializeError → SerializeError → Type 0
 WithoutIo e f = f ≡ vector_refusal e

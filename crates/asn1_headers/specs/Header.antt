@@ -13,15 +13,19 @@ use Rattle.asn1_headers.specs.declared.length.Length.{Length}
 use Rattle.asn1_headers.specs.declared.header.Header.{Header}
 use Rattle.asn1_headers.specs.Class.{class_number}
 
+-- the class that a header says
 abbrev pub class_of : Header → Class
 class_of h = h.class
 
+-- whether a header says the constructed form
 abbrev pub is_constructed_of : Header → Bool
 is_constructed_of h = h.constructed
 
+-- the tag number that a header says
 abbrev pub tag_of : Header → Tag
 tag_of h = h.tag
 
+-- the length that a header says
 abbrev pub length_of : Header → Length
 length_of h = h.length
 
@@ -33,11 +37,14 @@ raw_tag_of h = option_map cow_slice_items h.raw_tag
 abbrev pub identifier_of : Header → Identifier
 identifier_of h = record { class = class_number h.class; constructed = h.constructed; number = h.tag.0 }
 
+-- whether two headers have one class, one form and one tag number
 abbrev pub is_same_identifier : Header → Header → Bool
-is_same_identifier g h = on (λ h. class_number h.class) nat_eq g h && (on (λ h. h.constructed) beq g h && on (λ h. h.tag.0) nat_eq g h)
+is_same_identifier g h =
+    on (λ h. class_number h.class) nat_eq g h && (on (λ h. h.constructed) beq g h && on (λ h. h.tag.0) nat_eq g h)
 
 -- the header has these parts
-pub record HasParts (h : Header) (class : Class) (constructed : Bool) (tag : Tag) (length : Length) (raw_tag : Option (List ℕ)) : Type 0 where
+pub record HasParts (h : Header) (class : Class) (constructed : Bool) (tag : Tag) (length : Length)
+    (raw_tag : Option (List ℕ)) : Type 0 where
   pub class_is : h.class ≡ class
   pub constructed_is : h.constructed ≡ constructed
   pub tag_is : h.tag ≡ tag

@@ -4,6 +4,7 @@ use Rattle.asn1_headers.specs.declared.message.Held.{Held}
 use Rattle.asn1_headers.specs.declared.message.Held.TheVariants.{Inline, Owned}
 use Rattle.asn1_headers.specs.declared.message.Message.{Message}
 
+-- the text of a message, whether it is held inline or in memory of its own
 abbrev pub text_held : Held → List ℕ
 text_held (Inline text) = take text.len text.octets
 text_held (Owned text) = string_bytes text

@@ -5,8 +5,14 @@ use Rattle.asn1_headers.specs.declared.tag.Tag.{Tag}
 
 -- the names of the universal types by their numbers, empty where there is none
 abbrev pub universal_names : List (List ℕ)
-universal_names = codes "EndOfContent" ∷ codes "Boolean" ∷ codes "Integer" ∷ codes "BitString" ∷ codes "OctetString" ∷ codes "Null" ∷ codes "Oid" ∷ codes "ObjectDescriptor" ∷ codes "External" ∷ codes "RealType" ∷ codes "Enumerated" ∷ codes "EmbeddedPdv" ∷ codes "Utf8String" ∷ codes "RelativeOid" ∷ [] ∷ [] ∷ codes "Sequence" ∷ codes "Set" ∷ codes "NumericString" ∷ codes "PrintableString" ∷ codes "TeletexString" ∷ codes "VideotexString" ∷ codes "Ia5String" ∷ codes "UtcTime" ∷ codes "GeneralizedTime" ∷ codes "GraphicString" ∷ codes "VisibleString" ∷ codes "GeneralString" ∷ codes "UniversalString" ∷ codes "CharacterString" ∷ codes "BmpString" ∷ []
+universal_names = codes "EndOfContent" ∷ codes "Boolean" ∷ codes "Integer" ∷ codes "BitString" ∷ codes "OctetString" ∷
+    codes "Null" ∷ codes "Oid" ∷ codes "ObjectDescriptor" ∷ codes "External" ∷ codes "RealType" ∷ codes "Enumerated" ∷
+    codes "EmbeddedPdv" ∷ codes "Utf8String" ∷ codes "RelativeOid" ∷ [] ∷ [] ∷ codes "Sequence" ∷ codes "Set" ∷
+    codes "NumericString" ∷ codes "PrintableString" ∷ codes "TeletexString" ∷ codes "VideotexString" ∷
+    codes "Ia5String" ∷ codes "UtcTime" ∷ codes "GeneralizedTime" ∷ codes "GraphicString" ∷ codes "VisibleString" ∷
+    codes "GeneralString" ∷ codes "UniversalString" ∷ codes "CharacterString" ∷ codes "BmpString" ∷ []
 
+-- the name of a tag number of the universal class, empty where it has none
 abbrev pub name_of : ℕ → List ℕ
 name_of number = get_or universal_names number []
 
@@ -19,6 +25,7 @@ text_or (first ∷ more) other = first ∷ more
 abbrev pub number_text : ℕ → List ℕ
 number_text number = codes "Tag(" ++ decimal number ++ codes " / 0x" ++ radix_digits 16 false number ++ codes ")"
 
+-- how a tag number is shown: by its name, or else as a number
 abbrev pub tag_text : ℕ → List ℕ
 tag_text number = text_or (name_of number) (number_text number)
 
@@ -26,5 +33,6 @@ tag_text number = text_or (name_of number) (number_text number)
 abbrev pub is_container_number : ℕ → Bool
 is_container_number number = nat_eq number 16 || nat_eq number 17
 
+-- whether the tag number is that of sequences or sets
 abbrev pub is_container : Tag → Bool
 is_container tag = is_container_number tag.0

@@ -18,12 +18,14 @@ in_brackets (x ∷ name) = codes " (" ++ (x ∷ name ++ codes ")")
 abbrev pub tag_name : ℕ → List ℕ
 tag_name number = if nat_eq number 0 then decimal number else decimal number ++ in_brackets (name_of number)
 
+-- the name of a class in the texts of refusals
 abbrev pub class_name : Class → List ℕ
 class_name Universal = codes "Universal"
 class_name Application = codes "Application"
 class_name ContextSpecific = codes "ContextSpecific"
 class_name Private = codes "Private"
 
+-- how the text of a refusal says how many octets are missing
 abbrev pub needed_text : Needed → List ℕ
 needed_text Unknown = codes "octets are missing"
 needed_text (Size n) = if nat_eq n 1 then codes "1 octet is missing" else decimal n ++ codes " octets are missing"
@@ -37,5 +39,6 @@ refusal_text text (failed e) = text e
 -- which part is expected and which one was found, by their names; or that the part is not expected
 abbrev pub unexpected_text : {T : Type 0} → (T → Option (List ℕ)) → List ℕ → Option T → T → Option (List ℕ)
 unexpected_text name what (Some expected) actual =
-    Some (codes "expected ") ++? Some what ++? Some (codes " ") ++? name expected ++? Some (codes ", found ") ++? name actual
+    Some (codes "expected ") ++? Some what ++? Some (codes " ") ++? name expected ++?
+    Some (codes ", found ") ++? name actual
 unexpected_text name what None actual = Some (codes "unexpected ") ++? Some what ++? Some (codes " ") ++? name actual

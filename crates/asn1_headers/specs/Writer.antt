@@ -1,5 +1,7 @@
 -- What a writing leaves in a writer, and why it is refused.
-use Rattle.std.specs.Prelude.{◌≡◌, ◌⊎◌, ℕ, ◌+◌, ◌≤◌, ◌^◌, Bool, true, false, ◌||◌, ◌&&◌, ◌==◌, nat_lt, IsTrue, List, ◌++◌, length, Option, Result, Ok, Err, IfOk, IfErr, OnOk, OnErr, IsErrAnd, MatchResult, ⊤, ◌≢◌, [], take, drop}
+use Rattle.std.specs.Prelude.{◌≡◌, ◌⊎◌, ℕ, ◌+◌, ◌≤◌, ◌^◌, Bool, true, false, ◌||◌, ◌&&◌, ◌==◌, nat_lt, IsTrue, List}
+use Rattle.std.specs.Prelude.{◌++◌, length, Option, Result, Ok, Err, IfOk, IfErr, OnOk, OnErr, IsErrAnd, MatchResult, ⊤}
+use Rattle.std.specs.Prelude.{◌≢◌, [], take, drop}
 use Rattle.std.specs.List.{FoldsTo}
 use Rattle.std.specs.Io.KnownBytes.{Appends}
 use Rattle.std.specs.IoError.{error_kind}
@@ -19,6 +21,7 @@ pub record WriterState : Type 0 where
 abbrev pub wrapped_in : {W : Type 0} → Told W → W
 wrapped_in t = t.inner
 
+-- whether a call of the writer has failed
 abbrev pub mark_of : {W : Type 0} → Told W → Bool
 mark_of t = t.is_failed
 
@@ -27,8 +30,8 @@ abbrev pub put_fails : {E : Type 0} → Result ℕ E → List ℕ → Bool
 put_fails (Ok n) piece = n == 0 && nat_lt 0 (length piece)
 put_fails (Err e) piece = true
 
--- The known octets grew by a beginning of the octets. The beginning is tied by what the writer held before and holds now;
--- of a writer that does not tell it nothing is said.
+-- The known octets grew by a beginning of the octets. The beginning is tied by what the writer held before and holds
+-- now; of a writer that does not tell it nothing is said.
 pub record GrewByABeginning (old new : Option (List ℕ)) (octets : List ℕ) : Type 0 where
   pub front : List ℕ
   pub rest : List ℕ
@@ -45,7 +48,8 @@ pub record Wrote (octets : List ℕ) (old new : WriterState) (answer : Result �
   pub marked : IsTrue old.failed → OnOk answer (octets ≡ [])
   pub nothing : octets ≡ [] → is_io answer ≡ false
 
--- Why a writing of n octets may be refused: its writer failed, their number is past what 64 bits hold, or, where it allocates, an allocation was refused.
+-- Why a writing of n octets may be refused: its writer failed, their number is past what 64 bits hold, or,
+-- where it allocates, an allocation was refused.
 abbrev pub MayRefuse : Bool → ℕ → SerializeError → Type 0
 MayRefuse allocates n (serialize_errors.ASN1Error e) = ⊥
 MayRefuse allocates n (serialize_errors.InvalidClass c) = ⊥
@@ -55,28 +59,34 @@ MayRefuse allocates n serialize_errors.OutOfMemory = IsTrue allocates
 
 -- out of memory, or a length past what 64 bits hold
 abbrev pub IsMemoryOrLength : List ℕ → SerializeError → Type 0
-IsMemoryOrLength octets e = (e ≡ serialize_errors.OutOfMemory) ⊎ ((e ≡ serialize_errors.InvalidLength) × (2 ^ 64 ≤ length octets))
+IsMemoryOrLength octets e =
+    (e ≡ serialize_errors.OutOfMemory) ⊎ ((e ≡ serialize_errors.InvalidLength) × (2 ^ 64 ≤ length octets))
 
 -- the sum, where it fits
 abbrev pub SumsWritten : ℕ → ℕ → Result ℕ SerializeError → Type 0
 SumsWritten a b r = MatchResult r (λ n. n ≡ a + b) (λ e. (e ≡ serialize_errors.InvalidLength) × (2 ^ 64 ≤ a + b))
 
--- What a call of `put`, or of a std writer's `write`, may come to: the writer before it, the octets, the answer and the writer after it.
+-- What a call of `put`, or of a std writer's `write`, may come to:
+-- the writer before it, the octets, the answer and the writer after it.
 abbrev pub Calls : Type 0 → Type 1
 Calls W = W → List ℕ → Result ℕ Failure → W → Type 0
 
 -- A call of `Told`. Marked, it asks nobody, answers an Err of kind `WriteZero`, and stays as it was; else its answer is
 -- that of one call of the wrapped writer, with these octets.
-pub record ToldPut {W : Type 0} (writes : Calls W) (old : Told W) (octets : List ℕ) (answer : Result ℕ Failure) (new : Told W) : Type 0 where
+pub record ToldPut {W : Type 0} (writes : Calls W) (old : Told W) (octets : List ℕ) (answer : Result ℕ Failure)
+    (new : Told W) : Type 0 where
   pub refused : IsTrue (mark_of old) → IsErrAnd answer (λ e. error_kind e ≡ WriteZero) × (new ≡ old)
   pub asked : mark_of old ≡ false → writes (wrapped_in old) octets answer (wrapped_in new)
   pub mark : mark_of new ≡ (put_fails answer octets || mark_of old)
 
--- A call of `put` took n octets, at least one, of all that was left. It is tied to the writer by `puts`, which `put` alone ensures.
+-- A call of `put` took n octets, at least one, of all that was left.
+-- It is tied to the writer by `puts`, which `put` alone ensures.
 abbrev pub Took : {W : Type 0} → Calls W → W × List ℕ → ℕ → W × List ℕ → Type 0
-Took puts before n after = puts before.0 before.1 (Ok n) after.0 × (1 ≤ n) × (n ≤ length before.1) × (after.1 ≡ drop n before.1)
+Took puts before n after =
+    puts before.0 before.1 (Ok n) after.0 × (1 ≤ n) × (n ≤ length before.1) × (after.1 ≡ drop n before.1)
 
--- Calls of `put` took the piece down to the rest. The numbers that they took are tied by the calls, from the first writer to the last.
+-- Calls of `put` took the piece down to the rest. The numbers that they took are tied by the calls,
+-- from the first writer to the last.
 abbrev pub TookAllBut : {W : Type 0} → Calls W → List ℕ → W → List ℕ → W → Type 0
 TookAllBut puts piece old rest new = (counts : List ℕ) × FoldsTo (Took puts) (old, piece) counts (new, rest)
 
@@ -86,12 +96,14 @@ PutRefusal (Ok n) (serialize_errors.IOError e) = (n ≡ 0) × (error_kind e ≡ 
 PutRefusal (Err f) (serialize_errors.IOError e) = e ≡ f
 PutRefusal _ _ = ⊥
 
--- One call of `put`, with octets, is the refusal. Its answer is tied by `puts`, to the writer before it and the one after it.
+-- One call of `put`, with octets, is the refusal. Its answer is tied by `puts`,
+-- to the writer before it and the one after it.
 abbrev pub PutRefused : {W : Type 0} → Calls W → List ℕ → W → W → SerializeError → Type 0
-PutRefused puts octets old new e = (octets ≢ []) × ((put : Result ℕ Failure) × puts old octets put new × PutRefusal put e)
+PutRefused puts octets old new e =
+    (octets ≢ []) × ((put : Result ℕ Failure) × puts old octets put new × PutRefusal put e)
 
--- Calls of `put`, each with all that was left, took the whole piece, or the last of them is the refusal. No octets ask for no call.
--- The writer before that last call, and what was left then, are tied by the calls that led there.
+-- Calls of `put`, each with all that was left, took the whole piece, or the last of them is the refusal. No octets ask
+-- for no call. The writer before that last call, and what was left then, are tied by the calls that led there.
 abbrev pub PutInCalls : {W : Type 0} → Calls W → List ℕ → W → W → Result ℕ SerializeError → Type 0
 PutInCalls {W} puts piece old new answer = MatchResult answer
     (λ n. TookAllBut puts piece old [] new)
@@ -99,7 +111,8 @@ PutInCalls {W} puts piece old new answer = MatchResult answer
 
 -- one call of `put`: what it took, at least one octet of a writer that was not marked, or a refusal that took none
 pub record PutOnce (piece : List ℕ) (old new : WriterState) (answer : Result ℕ SerializeError) : Type 0 where
-  pub took : IfOk answer (λ n. (1 ≤ n) × (n ≤ length piece) × Appends old.told new.told (take n piece) × (old.failed ≡ false))
+  pub took : IfOk answer
+      (λ n. (1 ≤ n) × (n ≤ length piece) × Appends old.told new.told (take n piece) × (old.failed ≡ false))
   pub kept : OnErr answer (Appends old.told new.told [])
   pub mark : new.failed ≡ (is_io answer || old.failed)
   pub refused : IfErr answer (MayRefuse false 0)

@@ -1,5 +1,6 @@
 //! Reading elements and their contents octets by BER (X.690 8.1).
-ghost use Rattle.std.specs.Prelude.{◌≡◌, ℕ, ◌+◌, ◌-◌, ◌*◌, ◌^◌, ◌<◌, ◌≤◌, List, ◌++◌, length, Result, IfOk, IfErr, IfSome, IfNone, OnErr};
+ghost use Rattle.std.specs.Prelude.{◌≡◌, ℕ, ◌+◌, ◌-◌, ◌*◌, ◌^◌, ◌<◌, ◌≤◌, List, ◌++◌, length, Result, IfOk, IfErr};
+ghost use Rattle.std.specs.Prelude.{IfSome, IfNone, OnErr};
 ghost use Rattle.x690.specs.Nested.{IsElement, ElementFault, end_of_contents};
 ghost use Rattle.x690.specs.Nested.Contents.{IsEndedContent, EndFault, IsContent, ContentFault};
 ghost use Rattle.x690.specs.Nested.FaultHeaders.{FaultHeaders, EndFaultHeaders, ContentFaultHeaders};

@@ -1,6 +1,7 @@
 //! Why a reading or a writing is refused.
 ghost use Rattle.std.specs.Prelude.{◌≡◌, ◌↔◌, IsTrue, ℕ, Bool, true, false};
-ghost use Rattle.asn1_headers.specs.Error.{Converted, HeldIn, FlattenedTo, IsCut, needed_of, tells_of_io, written_refusal, vector_refusal};
+ghost use Rattle.asn1_headers.specs.Error.{Converted, HeldIn, FlattenedTo, IsCut, needed_of, tells_of_io};
+ghost use Rattle.asn1_headers.specs.Error.{written_refusal, vector_refusal};
 ghost use Rattle.asn1_headers.specs.declared.error.Err.TheVariants.{Error as refused};
 ghost use Rattle.asn1_headers.specs.declared.error.Error.TheVariants as errors;
 ghost use Rattle.asn1_headers.specs.declared.error.SerializeError.TheVariants as serialize_errors;

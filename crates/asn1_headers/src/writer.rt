@@ -2,7 +2,8 @@
 ghost use Rattle.std.specs.Prelude.{◌≡◌, ◌≢◌, [], ◌||◌, false, IsTrue, IsErr, IfOk, IfErr, Ok};
 ghost use Rattle.std.specs.Io.{WritesAtMost};
 ghost use Rattle.std.specs.Io.KnownBytes.{WriteAppends};
-ghost use Rattle.asn1_headers.specs.Writer.{WriterState, wrapped_in, mark_of, put_fails, Wrote, MayRefuse, Calls, ToldPut, PutOnce, PutRefused, PutInCalls, SumsWritten};
+ghost use Rattle.asn1_headers.specs.Writer.{WriterState, wrapped_in, mark_of, put_fails, Wrote, MayRefuse, Calls};
+ghost use Rattle.asn1_headers.specs.Writer.{ToldPut, PutOnce, PutRefused, PutInCalls, SumsWritten};
 
 use crate::error::{SerializeError, SerializeResult};
 use std::io;

@@ -23,42 +23,61 @@ use Rattle.asn1_rs.specs.Laws.Lists.{taken_joined, taken_none}
 use Rattle.asn1_rs.specs.Laws.Sequence.Iterator.{octets_kept, octets_walked}
 use Rattle.asn1_rs.specs.Sequence.Iterator.{octets_left, WalkSteps, ReadsExactly}
 
-module _ {T V E : Type 0} (reads : List ℕ → Result (List ℕ × T) (Refusal E) → Type 0) (from : Error → E → Type 0) (G : List ℕ → V → Type 0) (value : T → V) (takes : Bool) (IsCut : List ℕ → Type 0)
+module _ {T V E : Type 0} (reads : List ℕ → Result (List ℕ × T) (Refusal E) → Type 0) (from : Error → E → Type 0)
+    (G : List ℕ → V → Type 0) (value : T → V) (takes : Bool) (IsCut : List ℕ → Type 0)
     (exact : ReadsExactly IsCut G value (TellsMemory takes from) reads) where
-  pub all_joined : (content : List ℕ) (items : List T) → IsOctets content → ItemsGive reads from content (Ok items) → IsJoined G content (map value items)
-  all_joined content items o y = taken_joined reads from G value takes IsCut exact.one_word IsOctets octets_kept exact.takes items content [] o refl y
+  pub all_joined : (content : List ℕ) (items : List T) → IsOctets content → ItemsGive reads from content (Ok items) →
+      IsJoined G content (map value items)
+  all_joined content items o y = taken_joined reads from G value takes IsCut exact.one_word IsOctets octets_kept
+      exact.takes items content [] o refl y
 
-  pub alone_joined : (content : List ℕ) (items : List T) (values : List V) → IsOctets content → ItemsGive reads from content (Ok items) → IsJoined G content values → values ≡ map value items
-  alone_joined content items values o y j = joined_same G exact.one_word content content values (map value items) refl j (all_joined content items o y)
+  pub alone_joined : (content : List ℕ) (items : List T) (values : List V) → IsOctets content →
+      ItemsGive reads from content (Ok items) → IsJoined G content values → values ≡ map value items
+  alone_joined content items values o y j =
+      joined_same G exact.one_word content content values (map value items) refl j (all_joined content items o y)
 
-  pub none_joined : (content : List ℕ) (e : E) → IsOctets content → ItemsGive {T = T} reads from content (Err e) → from errors.OutOfMemory e ⊎ HasNoJoining G content
+  pub none_joined : (content : List ℕ) (e : E) → IsOctets content → ItemsGive {T = T} reads from content (Err e) →
+      from errors.OutOfMemory e ⊎ HasNoJoining G content
   none_joined content e o (inl m) = inl m
   none_joined content e o (inr s) =
-      elim (taken_none reads from G value takes IsCut exact.one_word IsOctets octets_kept exact.takes s.0 e content s.1 o s.2) [ inl m ↦ inl m.1 | inr none ↦ inr none ]
+      elim (taken_none reads from G value takes IsCut exact.one_word IsOctets octets_kept exact.takes s.0 e content
+      s.1 o s.2) [
+        | inl m ↦ inl m.1
+        | inr none ↦ inr none
+      ]
 
   -- of the lists that are made of such items
   module _ {W : Type 0} (holds : List T → W → Type 0) (number : ℕ) (p : Parts) (o : IsOctets p.content) where
-    pub element_taken : (w : W) → ListTakes number holds reads from p (Ok w) → MadeOf (ListBody number G) value holds p w
-    element_taken w (is, (items, held, y)) = (items, held, record { number_is = is.0; constructed = is.1; items = all_joined p.content items o y })
+    pub element_taken : (w : W) → ListTakes number holds reads from p (Ok w) →
+        MadeOf (ListBody number G) value holds p w
+    element_taken w (is, (items, held, y)) =
+        (items, held, record { number_is = is.0; constructed = is.1; items = all_joined p.content items o y })
 
     pub element_read : (w : W) → ListReads number holds reads from p (Ok w) → MadeOf (ListOf number G) value holds p w
-    element_read w (is, (items, held, y)) = (items, held, record { number_is = is; items = all_joined p.content items o y })
+    element_read w (is, (items, held, y)) =
+        (items, held, record { number_is = is; items = all_joined p.content items o y })
 
     no_list : (e : Error) → IsListOr number p (Err e) → HasNone (ListBody number G p)
     no_list e (inl a) vs b = a.0 b.number_is
     no_list e (inr a) vs b = let c = a.1 in let d = b.constructed in cc
 
-    pub element_not_taken : (e : E) → ListTakes {W = W} number holds reads from p (Err e) → from errors.OutOfMemory e ⊎ HasNone (ListBody number G p)
+    pub element_not_taken : (e : E) → ListTakes {W = W} number holds reads from p (Err e) →
+        from errors.OutOfMemory e ⊎ HasNone (ListBody number G p)
     element_not_taken e (inl r) = inr (no_list r.0 r.1)
-    element_not_taken e (inr (is, y)) = elim (none_joined p.content e o y) [ inl m ↦ inl m | inr none ↦ inr (λ vs b. none vs b.items) ]
+    element_not_taken e (inr (is, y)) =
+        elim (none_joined p.content e o y) [ inl m ↦ inl m | inr none ↦ inr (λ vs b. none vs b.items) ]
 
-    pub element_not_read : (e : E) → ListReads {W = W} number holds reads from p (Err e) → from errors.OutOfMemory e ⊎ HasNone (ListOf number G p)
+    pub element_not_read : (e : E) → ListReads {W = W} number holds reads from p (Err e) →
+        from errors.OutOfMemory e ⊎ HasNone (ListOf number G p)
     element_not_read e (inl r) = inr (λ vs b. r.0 b.number_is)
-    element_not_read e (inr (is, y)) = elim (none_joined p.content e o y) [ inl m ↦ inl m | inr none ↦ inr (λ vs b. none vs b.items) ]
+    element_not_read e (inr (is, y)) =
+        elim (none_joined p.content e o y) [ inl m ↦ inl m | inr none ↦ inr (λ vs b. none vs b.items) ]
 
 module _ {T E : Type 0} (reads : List ℕ → Result (List ℕ × T) (Refusal E) → Type 0) (from : Error → E → Type 0)
-    (spares : (octets : List ℕ) (answer : Result (List ℕ × T) (Refusal E)) → reads octets answer → IfErr answer (HeldIn (IsOther from))) where
-  end_spares : (octets : List ℕ) (answer : Result (List ℕ × T) (Refusal E)) (e : E) → reads octets answer → EndsItem from octets answer e → IsOther from e
+    (spares : (octets : List ℕ) (answer : Result (List ℕ × T) (Refusal E)) → reads octets answer →
+    IfErr answer (HeldIn (IsOther from))) where
+  end_spares : (octets : List ℕ) (answer : Result (List ℕ × T) (Refusal E)) (e : E) → reads octets answer →
+      EndsItem from octets answer e → IsOther from e
   end_spares octets (Ok x) e g w = inl (errors.InvalidLength, (λ h. cc), w.1)
   end_spares octets (Err r) e g w = told r (spares octets (Err r) g) w
     where
@@ -70,11 +89,16 @@ module _ {T E : Type 0} (reads : List ℕ → Result (List ℕ × T) (Refusal E)
   abbrev Spared : Result T E → Type 0
   Spared answer = IfErr answer (IsOther from)
 
-  pub walk_spares : (answers : List (Result T E)) (content left : List ℕ) → Yields (TakesItem reads from) content answers left → All Spared answers
+  pub walk_spares : (answers : List (Result T E)) (content left : List ℕ) →
+      Yields (TakesItem reads from) content answers left → All Spared answers
   walk_spares [] content left y = All-nil Spared
   walk_spares (Ok x ∷ answers) content left (j, s, y) = All-cons Spared (Ok x) answers tt (walk_spares answers j left y)
-  walk_spares (Err e ∷ answers) content left (j, s, y) = All-cons Spared (Err e) answers (end_spares content s.1.0 e s.1.1 s.1.2) (walk_spares answers j left y)
+  walk_spares (Err e ∷ answers) content left (j, s, y) =
+      All-cons Spared (Err e) answers (end_spares content s.1.0 e s.1.1 s.1.2) (walk_spares answers j left y)
 
-  pub run_spares : {F : Type 0} (p : Run {S = SequenceIterator T F E} {A = Result T E} (WalkSteps reads from)) → All Spared p.items
+  pub run_spares : {F : Type 0} (p : Run {S = SequenceIterator T F E} {A = Result T E} (WalkSteps reads from)) →
+      All Spared p.items
   unfolding YieldsRun
-  run_spares p = let y = p.gave.0 in walk_spares p.items (octets_left p.from) (octets_left y.0) (octets_walked reads from p.from y.0 p.items y.1)
+  run_spares p =
+      let y = p.gave.0 in
+      walk_spares p.items (octets_left p.from) (octets_left y.0) (octets_walked reads from p.from y.0 p.items y.1)

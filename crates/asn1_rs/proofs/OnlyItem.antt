@@ -1,5 +1,6 @@
 -- Sets of one item.
-use Rattle.std.proofs.Common.{◌≡◌, ◌<◌, refl, ap, subst, sym, ◌∙◌, inl, inr, ℕ, Bool, true, List, [], ◌∷◌, get_or, length, append-nil, Result, Ok, Err, IfErr, arith}
+use Rattle.std.proofs.Common.{◌≡◌, ◌<◌, refl, ap, subst, sym, ◌∙◌, inl, inr, ℕ, Bool, true, List, [], ◌∷◌, get_or}
+use Rattle.std.proofs.Common.{length, append-nil, Result, Ok, Err, IfErr, arith}
 use Rattle.std.specs.List.{All}
 use Rattle.x690.specs.Ascending.{put_in, arranged}
 use Rattle.asn1_headers.specs.declared.error.SerializeError.{SerializeError}
@@ -9,7 +10,8 @@ use Rattle.asn1_rs.specs.Set.{set_content}
 use Rattle.asn1_rs.specs.ToDer.{Refuses, IntoVector}
 
 -- a refusal of a writing, as one of a writing that may allocate into a vector
-into_vector : (e : SerializeError) (takes : Bool) (n : ℕ) (own : SerializeError → Type 0) → Refuses takes n own e → Refuses true n (IntoVector own) e
+into_vector : (e : SerializeError) (takes : Bool) (n : ℕ) (own : SerializeError → Type 0) → Refuses takes n own e →
+    Refuses true n (IntoVector own) e
 into_vector (serialize_errors.ASN1Error a) takes n own (inl m) = absurd m
 into_vector (serialize_errors.InvalidClass k) takes n own (inl m) = absurd m
 into_vector serialize_errors.InvalidLength takes n own (inl m) = inl m
@@ -35,10 +37,14 @@ module _ {X : Type 0} (xs : List X) (x : X) (is : xs ≡ x ∷ []) where
     unfolding put_in arranged
     only_content = ap (set_content octets) is ∙ append-nil (octets x)
 
-    own_of_some : (own : X → SerializeError → Type 0) (e : SerializeError) → Refuses true (length (octets x)) (IntoVector (own x)) e → Refuses true (length (set_content octets xs)) (SomeRefuses (λ y. IntoVector (own y)) xs) e
+    own_of_some : (own : X → SerializeError → Type 0) (e : SerializeError) →
+        Refuses true (length (octets x)) (IntoVector (own x)) e →
+        Refuses true (length (set_content octets xs)) (SomeRefuses (λ y. IntoVector (own y)) xs) e
     own_of_some own e (inl m) = inl (rw only_content m)
     own_of_some own e (inr o) = inr (0, x, some_stand, sym it_is_first, o)
 
-    pub only_refused : (own : X → SerializeError → Type 0) (takes : Bool) (r : Result ℕ SerializeError) → IfErr r (Refuses takes (length (octets x)) (own x)) → IfErr r (Refuses true (length (set_content octets xs)) (SomeRefuses (λ y. IntoVector (own y)) xs))
+    pub only_refused : (own : X → SerializeError → Type 0) (takes : Bool) (r : Result ℕ SerializeError) →
+        IfErr r (Refuses takes (length (octets x)) (own x)) →
+        IfErr r (Refuses true (length (set_content octets xs)) (SomeRefuses (λ y. IntoVector (own y)) xs))
     only_refused own takes (Ok n) h = tt
     only_refused own takes (Err e) h = own_of_some own e (into_vector e takes (length (octets x)) (own x) h)

@@ -10,18 +10,22 @@ use Rattle.asn1_rs.specs.ToDer.{MayRefuseCount, Refuses, RefusesCount, IsRefused
 use Rattle.asn1_rs.specs.Kinds.Writing.{CountRefused, PutRefused, OwnRefusal, OwnWritten}
 
 module _ (own : Error → Type 0) where
-  -- ---- counts
-  pub count_refuses : (b : Bool) (n : ℕ) (r : Result ℕ Error) → CountRefused b own n r → IfErr r (RefusesCount false n (OwnRefusal b own))
+  -- Counts.
+  pub count_refuses : (b : Bool) (n : ℕ) (r : Result ℕ Error) → CountRefused b own n r →
+      IfErr r (RefusesCount false n (OwnRefusal b own))
   count_refuses false n (Ok k) h = tt
   count_refuses false n (Err e) h = inl h
   count_refuses true n r h = rw h.2 (inr h.1)
 
-  pub count_accepted : (b : Bool) (n : ℕ) (r : Result ℕ Error) → CountRefused b own n r → (e : Error) → OwnRefusal b own e → IsErr r
+  pub count_accepted : (b : Bool) (n : ℕ) (r : Result ℕ Error) → CountRefused b own n r → (e : Error) →
+      OwnRefusal b own e → IsErr r
   count_accepted false n r h e o = absurd o
   count_accepted true n r h e o = rw h.2 refl
 
   -- of an element whose contents octets were counted
-  pub element_count_refused : (b : Bool) (m n : ℕ) (counted r : Result ℕ Error) → m ≤ n → CountRefused b own m counted → (IfErr counted (MayRefuseCount false m) → IfErr r (MayRefuseCount false n)) → IfErr counted (λ e. r ≡ Err e) → CountRefused b own n r
+  pub element_count_refused : (b : Bool) (m n : ℕ) (counted r : Result ℕ Error) → m ≤ n → CountRefused b own m counted →
+      (IfErr counted (MayRefuseCount false m) → IfErr r (MayRefuseCount false n)) → IfErr counted (λ e. r ≡ Err e) →
+      CountRefused b own n r
   element_count_refused false m n counted r l h sum at = sum h
   element_count_refused true m n counted r l h sum at = (h.0, h.1, of counted h.2 at)
     where
@@ -29,13 +33,18 @@ module _ (own : Error → Type 0) where
       of (Ok k) p at = absurd (let q = p in cc)
       of (Err e) p at = let q = p in cc
 
-  -- ---- writing
+  -- Writing.
   -- a header, or a whole, whose contents octets were counted
-  pub counted_put : (b : Bool) (m n : ℕ) (old new : WriterState) (counted : Result ℕ Error) (r : Result ℕ SerializeError) → CountRefused b own m counted → (IfErr counted (MayRefuseCount false m) → IfErr r (MayRefuse false n)) → IfErr counted (λ e. RefusedAtOnce (written_refusal e) old new r) → PutRefused b own n old new r
+  pub counted_put : (b : Bool) (m n : ℕ) (old new : WriterState) (counted : Result ℕ Error)
+      (r : Result ℕ SerializeError) → CountRefused b own m counted →
+      (IfErr counted (MayRefuseCount false m) → IfErr r (MayRefuse false n)) →
+      IfErr counted (λ e. RefusedAtOnce (written_refusal e) old new r) → PutRefused b own n old new r
   counted_put false m n old new counted r h put at = put h
   counted_put true m n old new counted r h put at = (h.0, h.1, of counted h.2 at)
     where
-      of : (counted : Result ℕ Error) → counted ≡ Err h.0 → IfErr counted (λ e. RefusedAtOnce (written_refusal e) old new r) → RefusedAtOnce (written_refusal h.0) old new r
+      of : (counted : Result ℕ Error) → counted ≡ Err h.0 →
+          IfErr counted (λ e. RefusedAtOnce (written_refusal e) old new r) →
+          RefusedAtOnce (written_refusal h.0) old new r
       of (Ok k) p at = absurd (let q = p in cc)
       of (Err e) p at = let q : e ≡ h.0 = cc in rw (← q) at
 
@@ -45,38 +54,48 @@ module _ (own : Error → Type 0) where
   put_not_refused true n k old new h = absurd (let e = h.2.refused in cc)
 
   -- contents octets that are refused behind a header that was written
-  pub put_behind_header : (b : Bool) (m n : ℕ) (old mid new : WriterState) (r : Result ℕ SerializeError) → m ≤ n → b ≡ false → PutRefused b own m mid new r → PutRefused b own n old new r
+  pub put_behind_header : (b : Bool) (m n : ℕ) (old mid new : WriterState) (r : Result ℕ SerializeError) → m ≤ n →
+      b ≡ false → PutRefused b own m mid new r → PutRefused b own n old new r
   put_behind_header false m n old mid new (Ok k) l e h = tt
   put_behind_header false m n old mid new (Err f) l e h = MayRefuse_more f false m n l h
   put_behind_header true m n old mid new r l e h = cc
 
-  pub put_plain : (b : Bool) (n : ℕ) (old new : WriterState) (r : Result ℕ SerializeError) → b ≡ false → IfErr r (MayRefuse false n) → PutRefused b own n old new r
+  pub put_plain : (b : Bool) (n : ℕ) (old new : WriterState) (r : Result ℕ SerializeError) → b ≡ false →
+      IfErr r (MayRefuse false n) → PutRefused b own n old new r
   put_plain false n old new r e h = h
   put_plain true n old new r e h = cc
 
-  pub put_refuses : (b : Bool) (n : ℕ) (old new : WriterState) (r : Result ℕ SerializeError) → PutRefused b own n old new r → IfErr r (Refuses false n (OwnWritten b own))
+  pub put_refuses : (b : Bool) (n : ℕ) (old new : WriterState) (r : Result ℕ SerializeError) →
+      PutRefused b own n old new r → IfErr r (Refuses false n (OwnWritten b own))
   put_refuses false n old new (Ok k) h = tt
   put_refuses false n old new (Err e) h = inl h
   put_refuses true n old new r h = rw h.2.refused (inr (h.0, h.1, refl))
 
-  pub put_accepted : (b : Bool) (n : ℕ) (old new : WriterState) (r : Result ℕ SerializeError) → PutRefused b own n old new r → (e : SerializeError) → OwnWritten b own e → IsErr r
+  pub put_accepted : (b : Bool) (n : ℕ) (old new : WriterState) (r : Result ℕ SerializeError) →
+      PutRefused b own n old new r → (e : SerializeError) → OwnWritten b own e → IsErr r
   put_accepted false n old new r h e o = absurd o
   put_accepted true n old new r h e o = rw h.2.refused refl
 
-  pub put_uncounted : (b : Bool) (n : ℕ) (old new : WriterState) (r : Result ℕ SerializeError) → PutRefused b own n old new r → (e : Error) → OwnRefusal b own e → IsErr r
+  pub put_uncounted : (b : Bool) (n : ℕ) (old new : WriterState) (r : Result ℕ SerializeError) →
+      PutRefused b own n old new r → (e : Error) → OwnRefusal b own e → IsErr r
   put_uncounted false n old new r h e o = absurd o
   put_uncounted true n old new r h e o = rw h.2.refused refl
 
-  pub put_at_once : (b : Bool) (n : ℕ) (old new : WriterState) (r : Result ℕ SerializeError) → PutRefused b own n old new r → (e : SerializeError) → OwnWritten b own e → IsRefusedAtOnce false n (OwnWritten b own) old new r
+  pub put_at_once : (b : Bool) (n : ℕ) (old new : WriterState) (r : Result ℕ SerializeError) →
+      PutRefused b own n old new r → (e : SerializeError) → OwnWritten b own e →
+      IsRefusedAtOnce false n (OwnWritten b own) old new r
   put_at_once false n old new r h e o = absurd o
   put_at_once true n old new r h e o = (written_refusal h.0, inr (h.0, h.1, refl), h.2)
 
   -- the whole, whose header and contents octets have the same refusals
-  pub whole_put_refuses : (b : Bool) (n : ℕ) (old new : WriterState) (r : Result ℕ SerializeError) → PutRefused b own n old new r → IfErr r (Refuses false n (Either (OwnWritten b own) (OwnWritten b own)))
+  pub whole_put_refuses : (b : Bool) (n : ℕ) (old new : WriterState) (r : Result ℕ SerializeError) →
+      PutRefused b own n old new r → IfErr r (Refuses false n (Either (OwnWritten b own) (OwnWritten b own)))
   whole_put_refuses false n old new (Ok k) h = tt
   whole_put_refuses false n old new (Err e) h = inl h
   whole_put_refuses true n old new r h = rw h.2.refused (inr (inl (h.0, h.1, refl)))
 
-  pub whole_put_at_once : (b : Bool) (n : ℕ) (old new : WriterState) (r : Result ℕ SerializeError) → PutRefused b own n old new r → (e : SerializeError) → OwnWritten b own e → IsRefusedAtOnce false n (Either (OwnWritten b own) (OwnWritten b own)) old new r
+  pub whole_put_at_once : (b : Bool) (n : ℕ) (old new : WriterState) (r : Result ℕ SerializeError) →
+      PutRefused b own n old new r → (e : SerializeError) → OwnWritten b own e →
+      IsRefusedAtOnce false n (Either (OwnWritten b own) (OwnWritten b own)) old new r
   whole_put_at_once false n old new r h e o = absurd o
   whole_put_at_once true n old new r h e o = (written_refusal h.0, inr (inl (h.0, h.1, refl)), h.2)

@@ -16,16 +16,23 @@ pub if_ok : {W E : Type 0} {P Q : W → Type 0} (r : Result W E) → ((w : W) �
 if_ok (Ok w) f h = f w h
 if_ok (Err e) f h = h
 
-pub length_at : (strings : List (List ℕ)) (lengths : List ℕ) (i : ℕ) → lengths ≡ map length strings → i < length lengths → (i < length strings) × (get_or lengths i 0 ≡ length (get_or strings i []))
-length_at strings lengths i e lt = let k : i < length strings = subst (λ n. i < n) (ap length e ∙ length-map strings length) lt in (k, ap (λ ls. get_or ls i 0) e ∙ get_or-map length strings i [] 0 k)
+pub length_at : (strings : List (List ℕ)) (lengths : List ℕ) (i : ℕ) → lengths ≡ map length strings →
+    i < length lengths → (i < length strings) × (get_or lengths i 0 ≡ length (get_or strings i []))
+length_at strings lengths i e lt =
+    let k : i < length strings = subst (λ n. i < n) (ap length e ∙ length-map strings length) lt in
+    (k, ap (λ ls. get_or ls i 0) e ∙ get_or-map length strings i [] 0 k)
 
 -- a piece at the front of strings that are joined, and what is left behind it
-module _ (strings : List (List ℕ)) (i : ℕ) (lt : i < length strings) (rest : List ℕ) (left : rest ≡ concat (drop i strings)) (cut : ℕ) (is : cut ≡ min (length (get_or strings i [])) (length rest)) where
+module _ (strings : List (List ℕ)) (i : ℕ) (lt : i < length strings) (rest : List ℕ)
+    (left : rest ≡ concat (drop i strings)) (cut : ℕ)
+    (is : cut ≡ min (length (get_or strings i [])) (length rest)) where
   whole : rest ≡ get_or strings i [] ++ concat (drop (i + 1) strings)
   whole = left ∙ ap concat (drop_more strings i [] lt)
 
   long : cut ≡ length (get_or strings i [])
-  long = is ∙ min-eq_left (let l = ap length whole ∙ length-append (get_or strings i []) (concat (drop (i + 1) strings)) in omega (arith, l))
+  long =
+      is ∙ min-eq_left (let l = ap length whole ∙ length-append (get_or strings i []) (concat (drop (i + 1) strings)) in
+      omega (arith, l))
 
   pub piece_front : take cut rest ≡ get_or strings i []
   piece_front = rw (whole, long) (take_at (get_or strings i []) (concat (drop (i + 1) strings)) _ refl)

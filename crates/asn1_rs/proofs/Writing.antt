@@ -1,11 +1,14 @@
 -- One writing after another.
-use Rattle.std.proofs.Common.{◌≡◌, inl, inr, ℕ, Bool, true, false, ◌||◌, List, [], ◌++◌, length, ◌≤◌, length-append, IfErr, IsTrue, MatchResult, ◌^◌, ◌<◌, IfOk, Result, Ok, Err, refl, sym, ap, ◌∙◌, arith}
+use Rattle.std.proofs.Common.{◌≡◌, inl, inr, ℕ, Bool, true, false, ◌||◌, List, [], ◌++◌, length, ◌≤◌, length-append}
+use Rattle.std.proofs.Common.{IfErr, IsTrue, MatchResult, ◌^◌, ◌<◌, IfOk, Result, Ok, Err, refl, sym, ap, ◌∙◌, arith}
 use Rattle.std.proofs.lemmas.Bool.{false≢true}
 use Rattle.std.specs.Io.KnownBytes.{Appends}
 use Rattle.std.specs.declared.vec.Vec.{Vec}
 use Rattle.asn1_headers.specs.Writer.{WriterState, Wrote, IsMemoryOrLength, MayRefuse}
 use Rattle.asn1_headers.specs.Error.{is_io, WithoutIo, written_refusal, tells_of_io, vector_refusal}
-use Rattle.asn1_rs.specs.ToDer.{SumsCounts, MayRefuseCount, Refuses, RefusesCount, RefusesAtOnce, IsRefusedAtOnce, RefusedAtOnce, Either, HasNone, IntoVector, IsWritable, VectorRefuses, WrittenRefusal, Writing, whole_refuses}
+use Rattle.asn1_rs.specs.ToDer.{SumsCounts, MayRefuseCount, Refuses, RefusesCount, RefusesAtOnce, IsRefusedAtOnce}
+use Rattle.asn1_rs.specs.ToDer.{RefusedAtOnce, Either, HasNone, IntoVector, IsWritable, VectorRefuses, WrittenRefusal}
+use Rattle.asn1_rs.specs.ToDer.{Writing, whole_refuses}
 use Rattle.asn1_rs.specs.Tagged.Writing.{UnderClass}
 use Rattle.std.specs.Prelude.{IsErr}
 use Rattle.asn1_headers.specs.Laws.Writing.{Appends_none, MayRefuse_more, MayRefuse_either, MayRefuse_other}
@@ -14,17 +17,21 @@ use Rattle.asn1_headers.specs.declared.error.Error.TheVariants as errors
 use Rattle.asn1_headers.specs.declared.error.SerializeError.TheVariants as serialize_errors
 use Rattle.asn1_headers.specs.declared.error.SerializeError.{SerializeError}
 
-pub SumsCounts_count : (xs ys : List ℕ) (n m : ℕ) (r : Result ℕ Error) → n ≡ length xs → m ≡ length ys → SumsCounts n m r → IfOk r (λ k. k ≡ length (xs ++ ys))
+pub SumsCounts_count : (xs ys : List ℕ) (n m : ℕ) (r : Result ℕ Error) → n ≡ length xs → m ≡ length ys →
+    SumsCounts n m r → IfOk r (λ k. k ≡ length (xs ++ ys))
 SumsCounts_count xs ys n m (Ok k) p q s = simp length-append (omega (arith, s))
 SumsCounts_count xs ys n m (Err e) p q s = tt
 
-pub SumsCounts_refused : (takes : Bool) (xs ys : List ℕ) (n m : ℕ) (r : Result ℕ Error) → n ≡ length xs → m ≡ length ys → SumsCounts n m r → IfErr r (MayRefuseCount takes (length (xs ++ ys)))
+pub SumsCounts_refused : (takes : Bool) (xs ys : List ℕ) (n m : ℕ) (r : Result ℕ Error) → n ≡ length xs →
+    m ≡ length ys → SumsCounts n m r → IfErr r (MayRefuseCount takes (length (xs ++ ys)))
 SumsCounts_refused takes xs ys n m (Ok k) p q s = tt
 SumsCounts_refused takes xs ys n m (Err e) p q s = rw s.0 (simp length-append (omega (arith, s.1)))
 
 -- A writing whose length fits and whose writer is not marked is done, except when out of memory.
-pub writing_done : (r : Result ℕ SerializeError) (takes : Bool) (o : List ℕ) (old new : WriterState) → Wrote o old new r → IfErr r (MayRefuse takes (length o)) → length o < 2 ^ 64 → new.failed ≡ false
-    → MatchResult r (λ n. Appends old.told new.told o × (n ≡ length o)) (λ e. (e ≡ serialize_errors.OutOfMemory) × IsTrue takes)
+pub writing_done : (r : Result ℕ SerializeError) (takes : Bool) (o : List ℕ) (old new : WriterState) →
+    Wrote o old new r → IfErr r (MayRefuse takes (length o)) → length o < 2 ^ 64 → new.failed ≡ false
+    → MatchResult r (λ n. Appends old.told new.told o × (n ≡ length o))
+    (λ e. (e ≡ serialize_errors.OutOfMemory) × IsTrue takes)
 writing_done (Ok n) takes o old new w m fits free = w.ok
 writing_done (Err (serialize_errors.ASN1Error e)) takes o old new w m fits free = absurd m
 writing_done (Err (serialize_errors.InvalidClass c)) takes o old new w m fits free = absurd m
@@ -33,15 +40,18 @@ writing_done (Err (serialize_errors.IOError e)) takes o old new w m fits free = 
 writing_done (Err serialize_errors.OutOfMemory) takes o old new w m fits free = (refl, m)
 
 -- a writing that has no refusals of its own, or is not refused by them
-pub only_may : (r : Result ℕ SerializeError) (takes : Bool) (n : ℕ) (own : SerializeError → Type 0) → IfErr r (MayRefuse takes n) → IfErr r (Refuses takes n own)
+pub only_may : (r : Result ℕ SerializeError) (takes : Bool) (n : ℕ) (own : SerializeError → Type 0) →
+    IfErr r (MayRefuse takes n) → IfErr r (Refuses takes n own)
 only_may (Ok k) takes n own h = tt
 only_may (Err e) takes n own h = inl h
 
-pub only_may_count : (r : Result ℕ Error) (takes : Bool) (n : ℕ) (own : Error → Type 0) → IfErr r (MayRefuseCount takes n) → IfErr r (RefusesCount takes n own)
+pub only_may_count : (r : Result ℕ Error) (takes : Bool) (n : ℕ) (own : Error → Type 0) →
+    IfErr r (MayRefuseCount takes n) → IfErr r (RefusesCount takes n own)
 only_may_count (Ok k) takes n own h = tt
 only_may_count (Err e) takes n own h = inl h
 
-pub only_put : (r : Result ℕ SerializeError) (takes : Bool) (n : ℕ) (own : SerializeError → Type 0) → IfErr r (MayRefuse false 0) → IfErr r (Refuses takes n own)
+pub only_put : (r : Result ℕ SerializeError) (takes : Bool) (n : ℕ) (own : SerializeError → Type 0) →
+    IfErr r (MayRefuse false 0) → IfErr r (Refuses takes n own)
 only_put (Ok k) takes n own h = tt
 only_put (Err (serialize_errors.ASN1Error e)) takes n own h = absurd h
 only_put (Err (serialize_errors.InvalidClass c)) takes n own h = absurd h
@@ -49,28 +59,35 @@ only_put (Err serialize_errors.InvalidLength) takes n own h = absurd (omega (ari
 only_put (Err (serialize_errors.IOError e)) takes n own h = inl tt
 only_put (Err serialize_errors.OutOfMemory) takes n own h = cc
 
-pub plain_refusal : (r : Result ℕ SerializeError) (takes : Bool) (n : ℕ) (one other : SerializeError → Type 0) → HasNone one → HasNone other → IfErr r (Refuses takes n (Either one other)) → IfErr r (MayRefuse takes n)
+pub plain_refusal : (r : Result ℕ SerializeError) (takes : Bool) (n : ℕ) (one other : SerializeError → Type 0) →
+    HasNone one → HasNone other → IfErr r (Refuses takes n (Either one other)) → IfErr r (MayRefuse takes n)
 plain_refusal (Ok k) takes n one other a b h = tt
 plain_refusal (Err e) takes n one other a b (inl m) = m
 plain_refusal (Err e) takes n one other a b (inr (inl o)) = absurd (a e o)
 plain_refusal (Err e) takes n one other a b (inr (inr o)) = absurd (b e o)
 
 -- a refusal of the first of two parts, and of the second
-pub refuses_first : (e : SerializeError) (takes gives : Bool) (n : ℕ) (one other : SerializeError → Type 0) → Refuses takes n one e → Refuses (takes || gives) n (Either one other) e
+pub refuses_first : (e : SerializeError) (takes gives : Bool) (n : ℕ) (one other : SerializeError → Type 0) →
+    Refuses takes n one e → Refuses (takes || gives) n (Either one other) e
 refuses_first e takes gives n one other (inl m) = inl (MayRefuse_either e takes gives n m)
 refuses_first e takes gives n one other (inr o) = inr (inl o)
 
-pub refuses_second : (e : SerializeError) (takes gives : Bool) (m n : ℕ) (one other : SerializeError → Type 0) → m ≤ n → Refuses gives m other e → Refuses (takes || gives) n (Either one other) e
-refuses_second e takes gives m n one other l (inl h) = inl (MayRefuse_other e takes gives n (MayRefuse_more e gives m n l h))
+pub refuses_second : (e : SerializeError) (takes gives : Bool) (m n : ℕ) (one other : SerializeError → Type 0) → m ≤ n →
+    Refuses gives m other e → Refuses (takes || gives) n (Either one other) e
+refuses_second e takes gives m n one other l (inl h) =
+    inl (MayRefuse_other e takes gives n (MayRefuse_more e gives m n l h))
 refuses_second e takes gives m n one other l (inr o) = inr (inr o)
 
 -- a writing whose own memory is counted too
-pub refuses_wider : (e : SerializeError) (write takes : Bool) (n : ℕ) (own : SerializeError → Type 0) → Refuses takes n own e → Refuses (write || takes) n own e
+pub refuses_wider : (e : SerializeError) (write takes : Bool) (n : ℕ) (own : SerializeError → Type 0) →
+    Refuses takes n own e → Refuses (write || takes) n own e
 refuses_wider e write takes n own (inl m) = inl (MayRefuse_other e write takes n m)
 refuses_wider e write takes n own (inr o) = inr o
 
 -- a header that was refused at once refuses the whole at once
-pub header_at_once : (write takes gives : Bool) (n : ℕ) (one other : SerializeError → Type 0) (old new : WriterState) (r : Result ℕ SerializeError) → IsRefusedAtOnce takes n one old new r → IsRefusedAtOnce (write || (takes || gives)) n (Either one other) old new r
+pub header_at_once : (write takes gives : Bool) (n : ℕ) (one other : SerializeError → Type 0) (old new : WriterState)
+    (r : Result ℕ SerializeError) → IsRefusedAtOnce takes n one old new r →
+    IsRefusedAtOnce (write || (takes || gives)) n (Either one other) old new r
 header_at_once write takes gives n one other old new r at = (at.0, of at.1, at.2)
   where
     of : RefusesAtOnce takes n one at.0 → RefusesAtOnce (write || (takes || gives)) n (Either one other) at.0
@@ -83,16 +100,20 @@ neither_own e (inl o) = o
 neither_own e (inr o) = o
 
 -- what is refused at once is not Ok
-pub not_refused : (takes : Bool) (n : ℕ) (own : SerializeError → Type 0) (old new : WriterState) (k : ℕ) → IsRefusedAtOnce takes n own old new (Ok k) → ⊥
+pub not_refused : (takes : Bool) (n : ℕ) (own : SerializeError → Type 0) (old new : WriterState) (k : ℕ) →
+    IsRefusedAtOnce takes n own old new (Ok k) → ⊥
 not_refused takes n own old new k r = let e = r.2.refused in cc
 
 -- the refusal of a writing into a vector
-pub vector_refuses : (e f : SerializeError) (takes : Bool) (n : ℕ) (own : SerializeError → Type 0) → ((n : ℕ) (takes : Bool) → MayRefuse takes n e → MayRefuse true n f) → WithoutIo e f → Refuses takes n own e → VectorRefuses n own f
+pub vector_refuses : (e f : SerializeError) (takes : Bool) (n : ℕ) (own : SerializeError → Type 0) →
+    ((n : ℕ) (takes : Bool) → MayRefuse takes n e → MayRefuse true n f) → WithoutIo e f → Refuses takes n own e →
+    VectorRefuses n own f
 vector_refuses e f takes n own may same (inl m) = inl (may n takes m)
 vector_refuses e f takes n own may same (inr o) = inr (e, o, same)
 
 -- how a refused count comes out
-pub written_may : (e : Error) (takes : Bool) (m n : ℕ) → m ≤ n → MayRefuseCount takes m e → MayRefuse takes n (written_refusal e) × (tells_of_io (written_refusal e) ≡ false)
+pub written_may : (e : Error) (takes : Bool) (m n : ℕ) → m ≤ n → MayRefuseCount takes m e →
+    MayRefuse takes n (written_refusal e) × (tells_of_io (written_refusal e) ≡ false)
 written_may errors.InvalidLength takes m n l h = (omega arith, refl)
 written_may errors.OutOfMemory takes m n l h = (h, refl)
 written_may _ takes m n l h = absurd h
@@ -108,44 +129,62 @@ module _ (takes : Bool) (header content : List ℕ) (own : Error → Type 0) whe
   shorter : m ≤ n
   shorter = simp length-append (omega arith)
 
-  header_refusal : (c : Error) → RefusesCount takes m own c → RefusesAtOnce takes n (WrittenRefusal own) (written_refusal c)
+  header_refusal : (c : Error) → RefusesCount takes m own c →
+      RefusesAtOnce takes n (WrittenRefusal own) (written_refusal c)
   header_refusal c (inl h) = inl (written_may c takes m n shorter h)
   header_refusal c (inr o) = inr (c, o, refl)
 
-  at_once_refused : (e : SerializeError) → RefusesAtOnce takes n (WrittenRefusal own) e → Refuses takes n (WrittenRefusal own) e
+  at_once_refused : (e : SerializeError) → RefusesAtOnce takes n (WrittenRefusal own) e →
+      Refuses takes n (WrittenRefusal own) e
   at_once_refused e (inl h) = inl h.0
   at_once_refused e (inr o) = inr o
 
-  pub counted_refused : (counted : Result ℕ Error) (r : Result ℕ SerializeError) (old new : WriterState) → IfErr counted (RefusesCount takes m own) → (IfErr counted (MayRefuseCount takes m) → IfErr r (MayRefuse takes n)) → IfErr counted (λ e. RefusedAtOnce (written_refusal e) old new r) → IfErr r (Refuses takes n (WrittenRefusal own))
+  pub counted_refused : (counted : Result ℕ Error) (r : Result ℕ SerializeError) (old new : WriterState) →
+      IfErr counted (RefusesCount takes m own) →
+      (IfErr counted (MayRefuseCount takes m) → IfErr r (MayRefuse takes n)) →
+      IfErr counted (λ e. RefusedAtOnce (written_refusal e) old new r) → IfErr r (Refuses takes n (WrittenRefusal own))
   counted_refused (Ok k) r old new h put at = only_may r takes n (WrittenRefusal own) (put tt)
   counted_refused (Err c) r old new h put at = rw at.refused (at_once_refused (written_refusal c) (header_refusal c h))
 
-  pub counted_at_once : (counted : Result ℕ Error) (r : Result ℕ SerializeError) (old new : WriterState) → IfErr counted (RefusesCount takes m own) → ((e : Error) → own e → IsErr counted) → IfErr counted (λ e. RefusedAtOnce (written_refusal e) old new r) → (e : SerializeError) → WrittenRefusal own e → IsRefusedAtOnce takes n (WrittenRefusal own) old new r
+  pub counted_at_once : (counted : Result ℕ Error) (r : Result ℕ SerializeError) (old new : WriterState) →
+      IfErr counted (RefusesCount takes m own) → ((e : Error) → own e → IsErr counted) →
+      IfErr counted (λ e. RefusedAtOnce (written_refusal e) old new r) → (e : SerializeError) → WrittenRefusal own e →
+      IsRefusedAtOnce takes n (WrittenRefusal own) old new r
   counted_at_once (Ok k) r old new h none at e o = absurd (false≢true (none o.0 o.1))
   counted_at_once (Err c) r old new h none at e o = (written_refusal c, header_refusal c h, at)
 
 -- an element is counted whose contents octets were counted
-pub element_refused : (takes : Bool) (m n : ℕ) (own : Error → Type 0) (counted r : Result ℕ Error) → IfErr counted (RefusesCount takes m own) → (IfErr counted (MayRefuseCount takes m) → IfErr r (MayRefuseCount takes n)) → ((e : Error) → MayRefuseCount takes m e → MayRefuseCount takes n e) → IfErr counted (λ e. r ≡ Err e) → IfErr r (RefusesCount takes n own)
+pub element_refused : (takes : Bool) (m n : ℕ) (own : Error → Type 0) (counted r : Result ℕ Error) →
+    IfErr counted (RefusesCount takes m own) →
+    (IfErr counted (MayRefuseCount takes m) → IfErr r (MayRefuseCount takes n)) →
+    ((e : Error) → MayRefuseCount takes m e → MayRefuseCount takes n e) → IfErr counted (λ e. r ≡ Err e) →
+    IfErr r (RefusesCount takes n own)
 element_refused takes m n own (Ok k) r h sum more at = only_may_count r takes n own (sum tt)
 element_refused takes m n own (Err c) r (inl h) sum more at = rw at (inl (more c h))
 element_refused takes m n own (Err c) r (inr o) sum more at = rw at (inr o)
 
-pub element_accepted : (own : Error → Type 0) (counted r : Result ℕ Error) → ((e : Error) → own e → IsErr counted) → IfErr counted (λ e. r ≡ Err e) → (e : Error) → own e → IsErr r
+pub element_accepted : (own : Error → Type 0) (counted r : Result ℕ Error) → ((e : Error) → own e → IsErr counted) →
+    IfErr counted (λ e. r ≡ Err e) → (e : Error) → own e → IsErr r
 element_accepted own (Ok k) r none at e o = absurd (false≢true (none e o))
 element_accepted own (Err c) r none at e o = rw at refl
 
 -- a value that was written has no refusals of its own
-pub neither_refuses : (takes : Bool) (n : ℕ) (one other : SerializeError → Type 0) (old new : WriterState) (k : ℕ) → ((e : SerializeError) → one e → IsRefusedAtOnce takes n (Either one other) old new (Ok k)) → ((e : SerializeError) → other e → IsErr {T = ℕ} {E = SerializeError} (Ok k)) → HasNone (Either one other)
+pub neither_refuses : (takes : Bool) (n : ℕ) (one other : SerializeError → Type 0) (old new : WriterState) (k : ℕ) →
+    ((e : SerializeError) → one e → IsRefusedAtOnce takes n (Either one other) old new (Ok k)) →
+    ((e : SerializeError) → other e → IsErr {T = ℕ} {E = SerializeError} (Ok k)) → HasNone (Either one other)
 neither_refuses takes n one other old new k a b e (inl o) = not_refused takes n (Either one other) old new k (a e o)
 neither_refuses takes n one other old new k a b e (inr o) = false≢true (b e o)
 
 -- the refusals of a value under a tag whose class is one of four
-pub class_refused : (class : ℕ) (takes : Bool) (n : ℕ) (own : SerializeError → Type 0) (r : Result ℕ SerializeError) → class < 4 → IfErr r (Refuses takes n own) → IfErr r (Refuses takes n (UnderClass class own))
+pub class_refused : (class : ℕ) (takes : Bool) (n : ℕ) (own : SerializeError → Type 0) (r : Result ℕ SerializeError) →
+    class < 4 → IfErr r (Refuses takes n own) → IfErr r (Refuses takes n (UnderClass class own))
 class_refused class takes n own (Ok k) l h = tt
 class_refused class takes n own (Err e) l (inl m) = inl m
 class_refused class takes n own (Err e) l (inr o) = inr (inr (l, o))
 
-pub class_at_once : (class : ℕ) (takes : Bool) (n : ℕ) (own : SerializeError → Type 0) (old new : WriterState) (r : Result ℕ SerializeError) → class < 4 → ((e : SerializeError) → own e → IsRefusedAtOnce takes n own old new r) → (e : SerializeError) → UnderClass class own e → IsRefusedAtOnce takes n (UnderClass class own) old new r
+pub class_at_once : (class : ℕ) (takes : Bool) (n : ℕ) (own : SerializeError → Type 0) (old new : WriterState)
+    (r : Result ℕ SerializeError) → class < 4 → ((e : SerializeError) → own e → IsRefusedAtOnce takes n own old new r) →
+    (e : SerializeError) → UnderClass class own e → IsRefusedAtOnce takes n (UnderClass class own) old new r
 class_at_once class takes n own old new r l at e (inl h) = let k = h.0 in absurd (omega arith)
 class_at_once class takes n own old new r l at e (inr h) = let a = at e h.1 in (a.0, one_of a.0 a.1, a.2)
   where
@@ -154,7 +193,8 @@ class_at_once class takes n own old new r l at e (inr h) = let a = at e h.1 in (
     one_of f (inr o) = inr (inr (l, o))
 
 -- refused before anything was appended
-pub Wrote_nothing : {e : SerializeError} (xs : List ℕ) (a : WriterState) → is_io {A = ℕ} (Err e) ≡ false → Wrote xs a a (Err e)
+pub Wrote_nothing : {e : SerializeError} (xs : List ℕ) (a : WriterState) → is_io {A = ℕ} (Err e) ≡ false →
+    Wrote xs a a (Err e)
 Wrote_nothing {e} xs a h = record {
   ok = tt;
   err = record { front = []; rest = xs; parts = refl; grown = Appends_none a.told };
@@ -163,12 +203,15 @@ Wrote_nothing {e} xs a h = record {
   nothing = λ _. h;
 }
 
-pub vector_refuses_neither : (one other : SerializeError → Type 0) → HasNone one → HasNone other → HasNone (Either one other)
+pub vector_refuses_neither : (one other : SerializeError → Type 0) → HasNone one → HasNone other →
+    HasNone (Either one other)
 vector_refuses_neither one other n m e (inl o) = n e o
 vector_refuses_neither one other n m e (inr o) = m e o
 
 -- a vector of the octets, or a refusal that is none of a writer
-pub vector_done : {A : Type 0} (written o : List ℕ) → written ≡ o → (r : Result (Vec ℕ A) SerializeError) → IfOk r (λ v. v.items ≡ written) → IfErr r (MayRefuse true (length written)) → IfErr r (λ e. tells_of_io e ≡ false) → MatchResult r (λ v. v.items ≡ o) (IsMemoryOrLength o)
+pub vector_done : {A : Type 0} (written o : List ℕ) → written ≡ o → (r : Result (Vec ℕ A) SerializeError) →
+    IfOk r (λ v. v.items ≡ written) → IfErr r (MayRefuse true (length written)) → IfErr r (λ e. tells_of_io e ≡ false) →
+    MatchResult r (λ v. v.items ≡ o) (IsMemoryOrLength o)
 vector_done written o e (Ok v) w m io = w ∙ e
 vector_done written o e (Err (serialize_errors.ASN1Error f)) w m io = absurd m
 vector_done written o e (Err (serialize_errors.InvalidClass k)) w m io = absurd m
@@ -176,23 +219,28 @@ vector_done written o e (Err serialize_errors.InvalidLength) w m io = inr (refl,
 vector_done written o e (Err (serialize_errors.IOError f)) w m io = cc
 vector_done written o e (Err serialize_errors.OutOfMemory) w m io = inl refl
 
-pub plain_vector : {A : Type 0} (r : Result A SerializeError) (n : ℕ) (one other : SerializeError → Type 0) → HasNone one → HasNone other → IfErr r (VectorRefuses n (Either one other)) → IfErr r (MayRefuse true n)
+pub plain_vector : {A : Type 0} (r : Result A SerializeError) (n : ℕ) (one other : SerializeError → Type 0) →
+    HasNone one → HasNone other → IfErr r (VectorRefuses n (Either one other)) → IfErr r (MayRefuse true n)
 plain_vector (Ok v) n one other a b h = tt
 plain_vector (Err e) n one other a b (inl m) = m
 plain_vector (Err e) n one other a b (inr (f, inl o, w)) = absurd (a f o)
 plain_vector (Err e) n one other a b (inr (f, inr o, w)) = absurd (b f o)
 
 -- a vector of octets that fit in memory is refused only when out of memory
-pub vector_fits : {A : Type 0} (P : A → Type 0) (o : List ℕ) (r : Result A SerializeError) → length o < 2 ^ 64 → MatchResult r P (IsMemoryOrLength o) → MatchResult r P (λ e. e ≡ serialize_errors.OutOfMemory)
+pub vector_fits : {A : Type 0} (P : A → Type 0) (o : List ℕ) (r : Result A SerializeError) → length o < 2 ^ 64 →
+    MatchResult r P (IsMemoryOrLength o) → MatchResult r P (λ e. e ≡ serialize_errors.OutOfMemory)
 vector_fits P o (Ok v) l h = h
 vector_fits P o (Err e) l (inl m) = m
 vector_fits P o (Err e) l (inr h) = absurd (omega (arith, h.1, l))
 
 -- what was refused at once, from a writing into a vector
-pub at_once_into : (takes : Bool) (n : ℕ) (own : SerializeError → Type 0) (old new : WriterState) (e f : SerializeError) → WithoutIo e f → IsRefusedAtOnce takes n own old new (Err e) → IntoVector (RefusesAtOnce takes n own) f
+pub at_once_into : (takes : Bool) (n : ℕ) (own : SerializeError → Type 0) (old new : WriterState)
+    (e f : SerializeError) → WithoutIo e f → IsRefusedAtOnce takes n own old new (Err e) →
+    IntoVector (RefusesAtOnce takes n own) f
 at_once_into takes n own old new e f same at =
     let one : e ≡ at.0 = (let h = at.2.refused in cc) in (at.0, at.1, same ∙ ap vector_refusal one)
 
 -- a value that was written has no refusals of its own, neither of its counts
-pub is_writable : {S : Type 0} (w : Writing S) (x : S) → HasNone (w.count_refuses x) → HasNone (whole_refuses w x) → IsWritable w x
+pub is_writable : {S : Type 0} (w : Writing S) (x : S) → HasNone (w.count_refuses x) → HasNone (whole_refuses w x) →
+    IsWritable w x
 is_writable w x n m = (n, λ e o. m e (inl o), λ e o. m e (inr o))

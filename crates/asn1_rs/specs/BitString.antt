@@ -18,7 +18,8 @@ pub record Bits : Type 0 where
   pub unused : ℕ
   pub octets : List ℕ
 
--- Bit i of the octets, counted from the highest bit of the first octet, which is bit 0 (8.6.2.1). It is 0 past their end.
+-- Bit i of the octets, counted from the highest bit of the first octet, which is bit 0 (8.6.2.1).
+-- It is 0 past their end.
 abbrev pub bit_of : List ℕ → ℕ → ℕ
 bit_of octets i = bit_at (get_or octets (i / 8) 0) (7 - i % 8)
 
@@ -44,8 +45,8 @@ pub record AreStrictBits (v : Bits) : Type 0 where
   pub empty : IsEmptyOrCounts v
   pub padded : IsZeroPadded v
 
--- What the constraints ask: a primitive element (10.2), with a count of unused bits, which is 0 where no bit follows, and
--- else at most 7, of bits that are zero.
+-- What the constraints ask: a primitive element (10.2), with a count of unused bits, which is 0 where no bit follows,
+-- and else at most 7, of bits that are zero.
 abbrev pub bit_string_constraints : CheckGives
 bit_string_constraints = is_primitive
     before has_content
@@ -60,8 +61,8 @@ data_of x = cow_slice_items x.content
 abbrev pub bits_in : BitString → Bits
 bits_in x = record { unused = x.unused_bits; octets = data_of x }
 
--- An element with the tag number, primitive or constructed, whose first contents octet is the count of unused bits, also
--- one above 7, and whose others have the bits.
+-- An element with the tag number, primitive or constructed, whose first contents octet is the count of unused bits,
+-- also one above 7, and whose others have the bits.
 abbrev pub bit_string_leaf : Leaf BitString
 bit_string_leaf = record {
   number = bit_string_number;

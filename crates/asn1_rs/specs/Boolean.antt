@@ -24,12 +24,14 @@ truth_octet false = 0
 abbrev pub IsStrictTruth : ℕ → Type 0
 IsStrictTruth octet = (octet ≡ 0) ⊎ (octet ≡ 255)
 
+-- an octet that BER takes as true and DER refuses
 abbrev pub IsOtherTruth : ℕ → Type 0
 IsOtherTruth octet = (octet ≢ 0) × (octet ≢ 255)
 
 -- What the constraints ask: some contents octets, whose first is 00 or ff.
 abbrev pub truth_constraints : CheckGives
-truth_constraints = has_content before check (λ p. IsStrictTruth (get_or p.content 0 0)) (λ p. IsOtherTruth (get_or p.content 0 0)) (λ p. DerConstraintFailed InvalidBoolean)
+truth_constraints = has_content before check (λ p. IsStrictTruth (get_or p.content 0 0))
+    (λ p. IsOtherTruth (get_or p.content 0 0)) (λ p. DerConstraintFailed InvalidBoolean)
 
 -- one octet, which is the value
 abbrev pub boolean_leaf : Leaf Boolean
@@ -67,6 +69,7 @@ truth_header = 1 ∷ 1 ∷ []
 abbrev pub truth_octets : Boolean → List ℕ
 truth_octets x = truth_octet (says_true x.value) ∷ []
 
+-- the raw form of a `Boolean`: its octet as it was read
 abbrev pub raw_boolean : Boolean → List ℕ
 raw_boolean x = 1 ∷ 1 ∷ x.value ∷ []
 

@@ -1,5 +1,6 @@
 -- Times on the calendar: a civil date and a time of day, and an offset from UTC.
-use Rattle.std.specs.Prelude.{◌≡◌, ℕ, ◌+◌, ◌*◌, ◌≤◌, ℤ, pos, neg_ℤ, ◌+ℤ◌, ◌-ℤ◌, ◌*ℤ◌, unsigned_abs, Option, Some, None, nat_lt, if◌then◌else◌, codes}
+use Rattle.std.specs.Prelude.{◌≡◌, ℕ, ◌+◌, ◌*◌, ◌≤◌, ℤ, pos, neg_ℤ, ◌+ℤ◌, ◌-ℤ◌, ◌*ℤ◌, unsigned_abs, Option, Some, None}
+use Rattle.std.specs.Prelude.{nat_lt, if◌then◌else◌, codes}
 use Rattle.x690.specs.Times.{MostMilliseconds, is_west}
 use Rattle.x690.specs.declared.times.Moment.{Moment}
 use Rattle.x690.specs.declared.times.TimeZone.{TimeZone}
@@ -42,11 +43,13 @@ milliseconds (Some n) = n
 abbrev pub offset_length : ℤ → ℤ → ℕ
 offset_length hours minutes = unsigned_abs hours * 3600 + unsigned_abs minutes * 60
 
--- The seconds that a zone is ahead of UTC. The sign of an offset is that of its hours, else of its minutes; no zone is as UTC.
+-- The seconds that a zone is ahead of UTC. The sign of an offset is that of its hours, else of its minutes;
+-- no zone is as UTC.
 abbrev pub zone_seconds : TimeZone → ℤ
 zone_seconds Undefined = pos 0
 zone_seconds Z = pos 0
-zone_seconds (offset_by hours minutes) = if is_west hours minutes then neg_ℤ (pos (offset_length hours minutes)) else pos (offset_length hours minutes)
+zone_seconds (offset_by hours minutes) =
+    if is_west hours minutes then neg_ℤ (pos (offset_length hours minutes)) else pos (offset_length hours minutes)
 
 -- the civil date and time of these fields, and their offset
 pub record IsCivilOf (m : Moment) (civil : DateTime) (offset : Offset) : Type 0 where
@@ -73,4 +76,6 @@ IsNoAdjustedDate = IsInvalidValue (record { 0 = utc_time_number }) (codes "Inval
 
 -- seconds from the beginning of 1970 of UTC on, of a year as it stands; milliseconds are dropped
 abbrev pub seconds_since_1970 : Moment → ℤ
-seconds_since_1970 m = (days_from_civil (pos m.year) m.month m.day *ℤ pos 86400 +ℤ pos (m.hour * 3600 + m.minute * 60 + m.second)) -ℤ zone_seconds m.zone
+seconds_since_1970 m =
+    (days_from_civil (pos m.year) m.month m.day *ℤ pos 86400 +ℤ pos (m.hour * 3600 + m.minute * 60 + m.second)) -ℤ
+    zone_seconds m.zone

@@ -13,8 +13,8 @@ use Rattle.asn1_rs.specs.Leaf.{Leaf}
 abbrev pub IsCoded : (List ℕ → List ℕ) → List ℕ → Type 0
 IsCoded code octets = (cs : List ℕ) × Codes code octets cs
 
--- An element with the tag number whose value is a text in UTF-8, and whose contents octets are the text's characters in a code. It is
--- primitive or constructed (8.23.1); by DER it is primitive (10.2).
+-- An element with the tag number whose value is a text in UTF-8, and whose contents octets are the text's characters in
+-- a code. It is primitive or constructed (8.23.1); by DER it is primitive (10.2).
 abbrev pub coded_leaf : {S : Type 0} → ℕ → (List ℕ → List ℕ) → (S → List ℕ) → Leaf S
 coded_leaf number code text = record {
   number = number;

@@ -11,4 +11,5 @@ CopiesHeld copies _ _ = ⊥
 
 -- a header with the same parts, its length and the identifier octets that it keeps among them
 abbrev pub IsCopyOfHeader : Header → Header → Type 0
-IsCopyOfHeader source copy = HasParts copy (class_of source) (is_constructed_of source) (tag_of source) (length_of source) (raw_tag_of source)
+IsCopyOfHeader source copy =
+    HasParts copy (class_of source) (is_constructed_of source) (tag_of source) (length_of source) (raw_tag_of source)

@@ -1,5 +1,5 @@
--- Embedded presentation data values (X.690 8.18): a data value, and what identifies its syntaxes. The contents octets are read by BER,
--- and no tag or form of the element itself is looked at.
+-- Embedded presentation data values (X.690 8.18): a data value, and what identifies its syntaxes. The contents octets
+-- are read by BER, and no tag or form of the element itself is looked at.
 use Rattle.std.specs.Prelude.{◌≡◌, ◌⊎◌, ◌<◌, ℕ, false, List, Option, Some, None, Result, Ok, Err, IfSome, IsUtf8, codes}
 use Rattle.x690.specs.Octets.{IsOctets}
 use Rattle.x690.specs.Elements.{Parts}
@@ -22,10 +22,10 @@ use Rattle.asn1_rs.specs.Strings.{text_of}
 use Rattle.asn1_rs.specs.Tagged.{has_class}
 use Rattle.std.specs.Cow.{IsBorrowedSlice}
 
--- ---- values
+-- Values.
 
--- how the syntaxes of a data value are identified: by identifiers, by the contents octets of the integer that numbers a context, by both,
--- or by nothing, where they are known
+-- how the syntaxes of a data value are identified: by identifiers, by the contents octets of the integer that numbers a
+-- context, by both, or by nothing, where they are known
 pub data Identification : Type 0 where
   syntaxes : OidValue → OidValue → Identification
   syntax : OidValue → Identification
@@ -40,6 +40,7 @@ pub record PdvValue : Type 0 where
   pub descriptor : Option (List ℕ)
   pub octets : List ℕ
 
+-- what the identification in hand says
 abbrev pub identification_of : PdvIdentification → Identification
 identification_of (parts.Syntaxes a t) = syntaxes (oid_value a) (oid_value t)
 identification_of (parts.Syntax s) = syntax (oid_value s)
@@ -48,12 +49,18 @@ identification_of (parts.ContextNegotiation c s) = negotiation (integer_octets c
 identification_of (parts.TransferSyntax s) = transfer (oid_value s)
 identification_of parts.Fixed = fixed
 
+-- the text of a descriptor, where there is one
 abbrev pub descriptor_text : {K : Type 0} → Option (RestrictedString K) → Option (List ℕ)
 descriptor_text (Some x) = Some (text_of x)
 descriptor_text None = None
 
+-- the value of what is in hand
 abbrev pub pdv_value : EmbeddedPdv → PdvValue
-pdv_value x = record { identification = identification_of x.identification; descriptor = descriptor_text x.data_value_descriptor; octets = x.data_value.now }
+pdv_value x = record {
+  identification = identification_of x.identification;
+  descriptor = descriptor_text x.data_value_descriptor;
+  octets = x.data_value.now;
+}
 
 -- what an item may hold: octets, and a text
 abbrev pub AreParts : Identification → Type 0
@@ -64,6 +71,7 @@ AreParts (negotiation c s) = IsOctets c × IsOctets s.octets
 AreParts (transfer s) = IsOctets s.octets
 AreParts fixed = Unit {0}
 
+-- the parts of a data value are such as an element can say
 pub record IsPdv (v : PdvValue) : Type 0 where
   pub identification : AreParts v.identification
   pub descriptor : IfSome v.descriptor IsUtf8
@@ -78,15 +86,17 @@ BorrowsParts (parts.ContextNegotiation c s) = BorrowsOctets c × IsBorrowedSlice
 BorrowsParts (parts.TransferSyntax s) = IsBorrowedSlice (oid_cow s)
 BorrowsParts parts.Fixed = Unit {0}
 
--- ---- what contents octets say, and why they are refused
+-- What contents octets say, and why they are refused.
 
 -- an element by BER begins the octets, and the rest follows
 abbrev pub BeginsWithParts : List ℕ → Parts → List ℕ → Type 0
 BeginsWithParts = Front (IsElement max_depth)
 
--- None does: the refusal of the first fault. Octets that are missing are told as an error, since no more can follow contents octets.
+-- None does: the refusal of the first fault. Octets that are missing are told as an error,
+-- since no more can follow contents octets.
 abbrev pub NoElement : List ℕ → Error → Type 0
-NoElement octets e = (fault : Fault) × ElementFault max_depth octets fault × FlattenedTo (λ x y. y ≡ x) (λ x y. y ≡ x) (ber_refusal fault) e
+NoElement octets e = (fault : Fault) × ElementFault max_depth octets fault ×
+    FlattenedTo (λ x y. y ≡ x) (λ x y. y ≡ x) (ber_refusal fault) e
 
 -- two elements in turn begin the octets
 pub record BeginsWithTwo (octets : List ℕ) (one other : Parts) : Type 0 where
@@ -97,15 +107,18 @@ pub record BeginsWithTwo (octets : List ℕ) (one other : Parts) : Type 0 where
 
 -- they do not: the refusal of the first that is none
 abbrev pub NotTwo : List ℕ → Error → Type 0
-NotTwo octets e = NoElement octets e ⊎ ((one : Parts) × (between : List ℕ) × BeginsWithParts octets one between × NoElement between e)
+NotTwo octets e =
+    NoElement octets e ⊎ ((one : Parts) × (between : List ℕ) × BeginsWithParts octets one between × NoElement between e)
 
--- The identification that an element says, by its tag number alone: its class is not looked at, nor is it whether it is primitive. What
--- follows two elements in turn is not looked at.
+-- The identification that an element says, by its tag number alone: its class is not looked at, nor is it whether it is
+-- primitive. What follows two elements in turn is not looked at.
 abbrev pub Identifies : Parts → Identification → Type 0
-Identifies p (syntaxes a t) = (p.id.number ≡ 0) × ((one other : Parts) × BeginsWithTwo p.content one other × (a ≡ absolute one.content) × (t ≡ absolute other.content))
+Identifies p (syntaxes a t) = (p.id.number ≡ 0) × ((one other : Parts) × BeginsWithTwo p.content one other ×
+    (a ≡ absolute one.content) × (t ≡ absolute other.content))
 Identifies p (syntax s) = (p.id.number ≡ 1) × (s ≡ absolute p.content)
 Identifies p (context c) = (p.id.number ≡ 2) × (c ≡ p.content)
-Identifies p (negotiation c s) = (p.id.number ≡ 3) × ((one other : Parts) × BeginsWithTwo p.content one other × (c ≡ one.content) × (s ≡ absolute other.content))
+Identifies p (negotiation c s) = (p.id.number ≡ 3) ×
+    ((one other : Parts) × BeginsWithTwo p.content one other × (c ≡ one.content) × (s ≡ absolute other.content))
 Identifies p (transfer s) = (p.id.number ≡ 4) × (s ≡ absolute p.content)
 Identifies p fixed = p.id.number ≡ 5
 
@@ -127,7 +140,8 @@ pub record HasInner (outer inner : Parts) : Type 0 where
 
 -- its contents octets begin with none; or its class, and then its number, is another
 abbrev pub HasNoInner : Parts → Error → Type 0
-HasNoInner outer e = NoElement outer.content e ⊎ ((inner : Parts) × (rest : List ℕ) × BeginsWithParts outer.content inner rest × has_tag 0 outer (Err e))
+HasNoInner outer e = NoElement outer.content e ⊎
+    ((inner : Parts) × (rest : List ℕ) × BeginsWithParts outer.content inner rest × has_tag 0 outer (Err e))
 
 -- the first element is such
 pub record HoldsElement (content : List ℕ) (inner : Parts) (behind : List ℕ) : Type 0 where
@@ -137,7 +151,8 @@ pub record HoldsElement (content : List ℕ) (inner : Parts) (behind : List ℕ)
 
 -- there is none, or it is no such
 abbrev pub HoldsNone : List ℕ → Error → Type 0
-HoldsNone content e = NoElement content e ⊎ ((outer : Parts) × (behind : List ℕ) × BeginsWithParts content outer behind × HasNoInner outer e)
+HoldsNone content e = NoElement content e ⊎
+    ((outer : Parts) × (behind : List ℕ) × BeginsWithParts content outer behind × HasNoInner outer e)
 
 -- what the first element holds says the identification
 pub record IsIdentified (content : List ℕ) (i : Identification) (behind : List ℕ) : Type 0 where
@@ -147,7 +162,8 @@ pub record IsIdentified (content : List ℕ) (i : Identification) (behind : List
 
 -- it holds nothing, or what says nothing
 abbrev pub NotIdentified : List ℕ → Error → Type 0
-NotIdentified content e = HoldsNone content e ⊎ ((inner : Parts) × (behind : List ℕ) × HoldsElement content inner behind × SaysNone inner e)
+NotIdentified content e =
+    HoldsNone content e ⊎ ((inner : Parts) × (behind : List ℕ) × HoldsElement content inner behind × SaysNone inner e)
 
 -- the next element has the number 2 in its class, and its contents octets are the data value
 pub record IsData (octets value : List ℕ) : Type 0 where
@@ -159,7 +175,8 @@ pub record IsData (octets value : List ℕ) : Type 0 where
 
 -- there is none, or its class or its number is another
 abbrev pub NoData : List ℕ → Error → Type 0
-NoData octets e = NoElement octets e ⊎ ((p : Parts) × (rest : List ℕ) × BeginsWithParts octets p rest × has_tag 2 p (Err e))
+NoData octets e =
+    NoElement octets e ⊎ ((p : Parts) × (rest : List ℕ) × BeginsWithParts octets p rest × has_tag 2 p (Err e))
 
 -- The contents octets begin with an identification, and then a data value. What follows is not looked at.
 pub record HasParts (content : List ℕ) (i : Identification) (value : List ℕ) : Type 0 where
@@ -169,13 +186,15 @@ pub record HasParts (content : List ℕ) (i : Identification) (value : List ℕ)
 
 -- they begin with no identification, or there is no data value behind it
 abbrev pub LacksPart : List ℕ → Error → Type 0
-LacksPart content e = NotIdentified content e ⊎ ((i : Identification) × (behind : List ℕ) × IsIdentified content i behind × NoData behind e)
+LacksPart content e = NotIdentified content e ⊎
+    ((i : Identification) × (behind : List ℕ) × IsIdentified content i behind × NoData behind e)
 
 -- The value that the contents octets say. No text that describes it is read.
 abbrev pub PdvBody : Parts → PdvValue → Type 0
 PdvBody p v = HasParts p.content v.identification v.octets × (v.descriptor ≡ None)
 
--- what the conversion may answer: the value, whose parts are borrowed, or the refusal of the first part that is not there
+-- what the conversion may answer: the value, whose parts are borrowed,
+-- or the refusal of the first part that is not there
 abbrev pub PdvGives : Parts → Result EmbeddedPdv Error → Type 0
 PdvGives p (Ok x) = PdvBody p (pdv_value x) × BorrowsParts x.identification
 PdvGives p (Err e) = LacksPart p.content e

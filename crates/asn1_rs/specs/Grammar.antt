@@ -11,12 +11,15 @@ use Rattle.asn1_headers.specs.declared.error.Error.TheVariants.{OutOfMemory}
 use Rattle.asn1_headers.specs.Ber.{max_depth}
 
 -- one element, whose parts meet the check and have the value by the body
-abbrev pub ElementWord : {V : Type 0} → (List ℕ → Parts → Type 0) → (Parts → Type 0) → (Parts → V → Type 0) → List ℕ → V → Type 0
+abbrev pub ElementWord : {V : Type 0} → (List ℕ → Parts → Type 0) → (Parts → Type 0) → (Parts → V → Type 0) →
+    List ℕ → V → Type 0
 ElementWord ElementOf Check Body o v = (p : Parts) × ElementOf o p × Check p × Body p v
 
+-- a check that every element meets
 abbrev pub NoCheck : Parts → Type 0
 NoCheck p = Unit {0}
 
+-- The words by BER of a type with this body.
 abbrev pub BerWord : {V : Type 0} → (Parts → V → Type 0) → List ℕ → V → Type 0
 BerWord Body = ElementWord (IsElement max_depth) NoCheck Body
 
@@ -24,8 +27,10 @@ BerWord Body = ElementWord (IsElement max_depth) NoCheck Body
 abbrev pub DerWord : {V : Type 0} → (Parts → Type 0) → (Parts → V → Type 0) → List ℕ → V → Type 0
 DerWord Check Body = ElementWord IsDerElement Check Body
 
--- The conversion takes an element exactly where the body has a value, and gives it. Where it allocates, out of memory may be reported.
-abbrev pub TakesBody : {T V E : Type 0} → (Parts → V → Type 0) → (T → V) → Bool → (Error → E → Type 0) → Parts → Result T E → Type 0
+-- The conversion takes an element exactly where the body has a value, and gives it.
+-- Where it allocates, out of memory may be reported.
+abbrev pub TakesBody : {T V E : Type 0} → (Parts → V → Type 0) → (T → V) → Bool → (Error → E → Type 0) → Parts →
+    Result T E → Type 0
 TakesBody Body value takes from p (Ok x) = Body p (value x)
 TakesBody {T} {V} Body value takes from p (Err e) = (IsTrue takes × from OutOfMemory e) ⊎ ((v : V) → Body p v → ⊥)
 
@@ -55,8 +60,10 @@ abbrev pub FormBodies : {V : Type 0} → (V → Identifier → List ℕ → Type
 FormBodies {V} Form Body = (v : V) (i : Identifier) (c : List ℕ) → Form v i c → Body (made i c) v
 
 -- and they meet both with this class in place of their own
-abbrev pub FormTakes : {V : Type 0} → (V → Identifier → List ℕ → Type 0) → (Parts → Type 0) → (Parts → V → Type 0) → ℕ → Type 0
-FormTakes {V} Form Check Body class = (v : V) (i : Identifier) (c : List ℕ) → Form v i c → Check (made (of_class class i) c) × Body (made (of_class class i) c) v
+abbrev pub FormTakes : {V : Type 0} → (V → Identifier → List ℕ → Type 0) → (Parts → Type 0) →
+    (Parts → V → Type 0) → ℕ → Type 0
+FormTakes {V} Form Check Body class = (v : V) (i : Identifier) (c : List ℕ) → Form v i c →
+    Check (made (of_class class i) c) × Body (made (of_class class i) c) v
 
 -- they have this tag number
 abbrev pub FormNumber : {V : Type 0} → (V → Identifier → List ℕ → Type 0) → ℕ → Type 0

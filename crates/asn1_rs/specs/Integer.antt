@@ -1,7 +1,8 @@
 -- Integers as elements (X.690 8.3).
 pub mod Machine
 pub mod Octets
-use Rattle.std.specs.Prelude.{◌≡◌, ◌≢◌, ◌⊎◌, ℕ, ℤ, ◌<◌, ◌≤◌, ◌^◌, true, false, List, [], get_or, pos, Some, Result, Ok, Err}
+use Rattle.std.specs.Prelude.{◌≡◌, ◌≢◌, ◌⊎◌, ℕ, ℤ, ◌<◌, ◌≤◌, ◌^◌, true, false, List, [], get_or, pos, Some, Result, Ok}
+use Rattle.std.specs.Prelude.{Err}
 use Rattle.x690.specs.Digits.{base_256_value, twos_complement_value}
 use Rattle.x690.specs.Identifiers.{Identifier}
 use Rattle.x690.specs.Lengths.{indefinite}
@@ -9,8 +10,11 @@ use Rattle.x690.specs.Elements.{Parts}
 use Rattle.x690.specs.Integers.{HasSpareZeros, HasSpareOnes, IsShortestInteger, IsIntegerContent}
 use Rattle.x690.specs.Signed.{IsSigned}
 use Rattle.asn1_headers.specs.declared.error.Error.{Error}
-use Rattle.asn1_headers.specs.declared.error.Error.TheVariants.{UnexpectedTag, ConstructUnexpected, IndefiniteLengthUnexpected, IntegerNegative, IntegerTooLarge, DerConstraintFailed}
-use Rattle.asn1_headers.specs.declared.error.DerConstraint.TheVariants.{IntegerEmpty, IntegerLeadingZeroes, IntegerLeadingFF}
+use Rattle.asn1_headers.specs.declared.error.Error.TheVariants.{UnexpectedTag, ConstructUnexpected}
+use Rattle.asn1_headers.specs.declared.error.Error.TheVariants.{IndefiniteLengthUnexpected, IntegerNegative}
+use Rattle.asn1_headers.specs.declared.error.Error.TheVariants.{IntegerTooLarge, DerConstraintFailed}
+use Rattle.asn1_headers.specs.declared.error.DerConstraint.TheVariants.{IntegerEmpty, IntegerLeadingZeroes}
+use Rattle.asn1_headers.specs.declared.error.DerConstraint.TheVariants.{IntegerLeadingFF}
 use Rattle.asn1_rs.specs.Checks.{IsPrimitive, IsCounted}
 use Rattle.asn1_rs.specs.Kinds.{ElementGrammar}
 use Rattle.asn1_rs.specs.Grammar.Form.{UniversalForm}
@@ -19,7 +23,8 @@ use Rattle.asn1_rs.specs.Grammar.Form.{UniversalForm}
 abbrev pub integer_number : ℕ
 integer_number = 2
 
--- What the constraints ask of an integer: a primitive element of definite length, whose contents octets are the fewest (X.690 8.3.1, 8.3.2, 10.1).
+-- What the constraints ask of an integer: a primitive element of definite length,
+-- whose contents octets are the fewest (X.690 8.3.1, 8.3.2, 10.1).
 pub record IntegerCheck (p : Parts) : Type 0 where
   pub primitive : IsPrimitive p
   pub counted : IsCounted p
@@ -34,11 +39,13 @@ IntegerCheckRefuses p (DerConstraintFailed IntegerLeadingZeroes) = IsPrimitive p
 IntegerCheckRefuses p (DerConstraintFailed IntegerLeadingFF) = IsPrimitive p × IsCounted p × HasSpareOnes p.content
 IntegerCheckRefuses p _ = ⊥
 
+-- What the constraints of an integer may answer.
 abbrev pub IntegerCheckGives : Parts → Result (Unit {0}) Error → Type 0
 IntegerCheckGives p (Ok x) = IntegerCheck p
 IntegerCheckGives p (Err e) = IntegerCheckRefuses p e
 
--- The number of a primitive element with the tag number of integers, in two's complement, where the type holds it. No octets say 0, and octets that could be left out say nothing.
+-- The number of a primitive element with the tag number of integers, in two's complement, where the type holds it. No
+-- octets say 0, and octets that could be left out say nothing.
 pub record IntegerBody (Holds : ℤ → Type 0) (p : Parts) (n : ℤ) : Type 0 where
   pub number : p.id.number ≡ integer_number
   pub primitive : IsPrimitive p
@@ -49,14 +56,17 @@ pub record IntegerBody (Holds : ℤ → Type 0) (p : Parts) (n : ℤ) : Type 0 w
 abbrev pub IsIntegerOr : Parts → Result (Unit {0}) Error → Type 0
 IsIntegerOr p (Ok x) = (p.id.number ≡ integer_number) × IsPrimitive p
 IsIntegerOr p (Err e) =
-    ((p.id.number ≢ integer_number) × (e ≡ UnexpectedTag (Some (record { 0 = integer_number })) (record { 0 = p.id.number }))) ⊎
+    ((p.id.number ≢ integer_number) ×
+    (e ≡ UnexpectedTag (Some (record { 0 = integer_number })) (record { 0 = p.id.number }))) ⊎
     ((p.id.number ≡ integer_number) × (p.id.constructed ≡ true) × (e ≡ ConstructUnexpected))
 
 -- the refusal of the first of these that fails; of a number that the type does not hold, that of its contents octets
 abbrev pub IntegerRefuses : (List ℕ → Error → Type 0) → Parts → Error → Type 0
 IntegerRefuses content_refuses p e = IsIntegerOr p (Err e) ⊎ (IsIntegerOr p (Ok tt) × content_refuses p.content e)
 
-abbrev pub IntegerGives : {T : Type 0} → (T → ℤ) → (ℤ → Type 0) → (List ℕ → Error → Type 0) → Parts → Result T Error → Type 0
+-- What the conversion to an integer may answer, for the integers that the type holds.
+abbrev pub IntegerGives : {T : Type 0} → (T → ℤ) → (ℤ → Type 0) → (List ℕ → Error → Type 0) → Parts →
+    Result T Error → Type 0
 IntegerGives number Holds content_refuses p (Ok x) = IntegerBody Holds p (number x)
 IntegerGives number Holds content_refuses p (Err e) = IntegerRefuses content_refuses p e
 
@@ -64,6 +74,7 @@ IntegerGives number Holds content_refuses p (Err e) = IntegerRefuses content_ref
 abbrev pub IntegerContent : (ℤ → Type 0) → ℤ → List ℕ → Type 0
 IntegerContent Holds n c = Holds n × IsIntegerContent n c
 
+-- The strict parts of an integer that the type holds.
 abbrev pub IntegerForm : (ℤ → Type 0) → ℤ → Identifier → List ℕ → Type 0
 IntegerForm Holds = UniversalForm false integer_number (IntegerContent Holds)
 

@@ -23,11 +23,14 @@ use Rattle.asn1_rs.specs.Any.{TakesContent}
 use Rattle.asn1_rs.specs.Leaf.{Leaf}
 use Rattle.asn1_rs.specs.Lists.{IsListOr, ItemsGive}
 use Rattle.asn1_rs.specs.OctetString.{contents_leaf}
-use Rattle.asn1_rs.specs.ToDer.{IntoVector, IsWritable, RefusesAtOnce, VectorRefuses, Writing, whole_allocates, whole_octets, whole_refuses}
+use Rattle.asn1_rs.specs.ToDer.{IntoVector, IsWritable, RefusesAtOnce, VectorRefuses, Writing, whole_allocates}
+use Rattle.asn1_rs.specs.ToDer.{whole_octets, whole_refuses}
 
+-- the tag number of sequences
 abbrev pub sequence_number : ℕ
 sequence_number = 16
 
+-- the tag number of sets
 abbrev pub set_number : ℕ
 set_number = 17
 
@@ -35,17 +38,20 @@ set_number = 17
 abbrev pub sequence_octets : Sequence → List ℕ
 sequence_octets x = cow_slice_items x.content
 
+-- the contents octets that a set keeps
 abbrev pub set_octets : Set → List ℕ
 set_octets x = cow_slice_items x.content
 
--- An element with the tag number whose value is its contents octets, as they stand: it is constructed (8.9.1, 8.11.1), and
--- DER asks no more of it.
+-- An element with the tag number whose value is its contents octets, as they stand:
+-- it is constructed (8.9.1, 8.11.1), and DER asks no more of it.
 abbrev pub kept_leaf : {S : Type 0} → ℕ → (S → List ℕ) → Leaf S
 kept_leaf number octets = contents_leaf number octets is_constructed nothing
 
+-- Sequences that are kept as their contents octets.
 abbrev pub sequence_leaf : Leaf Sequence
 sequence_leaf = kept_leaf sequence_number sequence_octets
 
+-- Sets that are kept as their contents octets.
 abbrev pub set_leaf : Leaf Set
 set_leaf = kept_leaf set_number set_octets
 
@@ -62,47 +68,64 @@ OnLent lent owned (held.Owned v) result = owned result
 abbrev pub IsRefused : {T E : Type 0} → (Error → E → Type 0) → Error → Result T (Refusal E) → Type 0
 IsRefused {T} {E} from error result = (e : E) × from error e × (result ≡ Err (refused e))
 
+-- the result is that refusal of the library, as the conversion makes it
 abbrev pub IsErrorOf : {T E : Type 0} → (Error → E → Type 0) → Error → Result T E → Type 0
 IsErrorOf {T} {E} from error result = (e : E) × from error e × (result ≡ Err e)
 
--- What looking at the tag number of an element and then at its constructed bit, and handing its contents octets to a reader, may
--- answer. The rest is the element's.
-abbrev pub HandsListOn : {T E : Type 0} → ℕ → (Error → E → Type 0) → (List ℕ → Result (Bor (List ℕ) × T) (Refusal E) → Type 0) → Parts → List ℕ → Result (List ℕ × T) (Refusal E) → Type 0
-HandsListOn number from reads p rest (Ok x) = IsListOr number p (Ok tt) × (x.0 ≡ rest) × ((left : Bor (List ℕ)) × reads p.content (Ok (left, x.1)))
+-- What looking at the tag number of an element and then at its constructed bit, and handing its contents octets to a
+-- reader, may answer. The rest is the element's.
+abbrev pub HandsListOn : {T E : Type 0} → ℕ → (Error → E → Type 0) →
+    (List ℕ → Result (Bor (List ℕ) × T) (Refusal E) → Type 0) → Parts → List ℕ →
+    Result (List ℕ × T) (Refusal E) → Type 0
+HandsListOn number from reads p rest (Ok x) =
+    IsListOr number p (Ok tt) × (x.0 ≡ rest) × ((left : Bor (List ℕ)) × reads p.content (Ok (left, x.1)))
 HandsListOn {T} {E} number from reads p rest (Err r) =
     ((refusal : Error) × IsListOr number p (Err refusal) × ((e : E) × from refusal e × (r ≡ refused e))) ⊎
     (IsListOr number p (Ok tt) × reads p.content (Err r))
 
--- it may be called at the contents octets of the element that begins the input, where that is a list with this tag number
-abbrev pub TakesList : {F R : Type 0} → (List ℕ → Parts → Type 0) → ℕ → Once F (Bor (List ℕ) × Unit {0}) R → F → List ℕ → Type 0
+-- it may be called at the contents octets of the element that begins the input,
+-- where that is a list with this tag number
+abbrev pub TakesList : {F R : Type 0} → (List ℕ → Parts → Type 0) → ℕ → Once F (Bor (List ℕ) × Unit {0}) R → F →
+    List ℕ → Type 0
 TakesList ElementOf number g f = TakesContent ElementOf (λ p. IsListOr number p (Ok tt)) (FnOnceTakesAt g f)
 
--- what reading an element and then that may answer: a refusal is that of the element's first fault, or that of what follows
-abbrev pub ListThenGives : {T E : Type 0} → (List ℕ → Parts → Type 0) → (List ℕ → Fault → Type 0) → (Fault → Refusal Error) → ℕ → (Error → E → Type 0) → (List ℕ → Result (Bor (List ℕ) × T) (Refusal E) → Type 0) → List ℕ → Result (List ℕ × T) (Refusal E) → Type 0
+-- what reading an element and then that may answer: a refusal is that of the element's first fault,
+-- or that of what follows
+abbrev pub ListThenGives : {T E : Type 0} → (List ℕ → Parts → Type 0) → (List ℕ → Fault → Type 0) →
+    (Fault → Refusal Error) → ℕ → (Error → E → Type 0) → (List ℕ → Result (Bor (List ℕ) × T) (Refusal E) → Type 0) →
+    List ℕ → Result (List ℕ × T) (Refusal E) → Type 0
 ListThenGives ElementOf FaultOf refusal number from reads input (Ok x) =
     (p : Parts) × (rest : List ℕ) × Front ElementOf input p rest × HandsListOn number from reads p rest (Ok x)
 ListThenGives ElementOf FaultOf refusal number from reads input (Err r) =
-    ((fault : Fault) × FaultOf input fault × Converted from (refusal fault) r) ⊎ ((p : Parts) × (rest : List ℕ) × Front ElementOf input p rest × HandsListOn number from reads p rest (Err r))
+    ((fault : Fault) × FaultOf input fault × Converted from (refusal fault) r) ⊎
+    ((p : Parts) × (rest : List ℕ) × Front ElementOf input p rest × HandsListOn number from reads p rest (Err r))
 
 -- copies of the items in contents octets: of all of them, in order; or the refusal of an item, or out of memory
-abbrev pub CopiesGive : {T W E : Type 0} → (T → W → Type 0) → (List ℕ → Result (List ℕ × T) (Refusal E) → Type 0) → (Error → E → Type 0) → List ℕ → Result (List W) E → Type 0
-CopiesGive {T} copies reads from content (Ok ys) = (xs : List T) × ItemsGive reads from content (Ok xs) × AllZip copies xs ys
+abbrev pub CopiesGive : {T W E : Type 0} → (T → W → Type 0) → (List ℕ → Result (List ℕ × T) (Refusal E) → Type 0) →
+    (Error → E → Type 0) → List ℕ → Result (List W) E → Type 0
+CopiesGive {T} copies reads from content (Ok ys) =
+    (xs : List T) × ItemsGive reads from content (Ok xs) × AllZip copies xs ys
 CopiesGive copies reads from content (Err e) = ItemsGive reads from content (Err e)
 
--- Why joining ends at this item. Those before it have no refusal of their own. An item that is refused for its header asks
--- for no memory but its own.
+-- Why joining ends at this item. Those before it have no refusal of their own.
+-- An item that is refused for its header asks for no memory but its own.
 pub record EndsJoining {T : Type 0} (w : Writing T) (items : List T) (item : T) (e : SerializeError) : Type 0 where
   pub before : All w.tells items → All (IsWritable w) items
-  pub refused : All w.tells (items ++ item ∷ []) → VectorRefuses (length (flat_map (whole_octets w) (items ++ item ∷ []))) (whole_refuses w item) e
-  pub at_once : (f : SerializeError) → w.tells item → w.header_refuses item f → IntoVector (RefusesAtOnce (whole_allocates w) (length (whole_octets w item)) (whole_refuses w item)) e
+  pub refused : All w.tells (items ++ item ∷ []) →
+      VectorRefuses (length (flat_map (whole_octets w) (items ++ item ∷ []))) (whole_refuses w item) e
+  pub at_once : (f : SerializeError) → w.tells item → w.header_refuses item f →
+      IntoVector (RefusesAtOnce (whole_allocates w) (length (whole_octets w item)) (whole_refuses w item)) e
   pub first : (f : SerializeError) → w.refuses_first item f → e ≡ vector_refusal f
   pub no_io : tells_of_io e ≡ false
 
--- The octets of the items that an iterator gives, joined in their order, where none is refused; or the refusal of the first that
--- is, which is the last that it gave, or out of memory, or a length past memory.
-abbrev pub JoinsGiven : {I T : Type 0} → (I → Option T → I → Type 0) → Writing T → I → Result (List ℕ) SerializeError → Type 0
-JoinsGiven {I} {T} steps w it (Ok content) = (items : List T) × Drains steps it items × (All w.tells items → (content ≡ flat_map (whole_octets w) items) × All (IsWritable w) items)
-JoinsGiven {I} {T} steps w it (Err e) = (items : List T) × (item : T) × (rest : I) × Yields steps it (items ++ item ∷ []) rest × EndsJoining w items item e
+-- The octets of the items that an iterator gives, joined in their order, where none is refused; or the refusal of the
+-- first that is, which is the last that it gave, or out of memory, or a length past memory.
+abbrev pub JoinsGiven : {I T : Type 0} → (I → Option T → I → Type 0) → Writing T → I →
+    Result (List ℕ) SerializeError → Type 0
+JoinsGiven {I} {T} steps w it (Ok content) = (items : List T) × Drains steps it items ×
+    (All w.tells items → (content ≡ flat_map (whole_octets w) items) × All (IsWritable w) items)
+JoinsGiven {I} {T} steps w it (Err e) =
+    (items : List T) × (item : T) × (rest : I) × Yields steps it (items ++ item ∷ []) rest × EndsJoining w items item e
 
 -- the contents octets of what was made
 abbrev pub content_octets : {S E : Type 0} → (S → List ℕ) → Result S E → Result (List ℕ) E

@@ -56,8 +56,8 @@ pub record IsExactCheck (check : Parts → Result (Unit {0}) Error → Type 0) (
   pub exact : (p : Parts) (answer : Result (Unit {0}) Error) → check p answer → Checks Check p answer
   pub spares : (p : Parts) → check p (Err OutOfMemory) → ⊥
 
--- The conversion takes exactly the elements whose parts have a body, with its value. Where it does not allocate, no refusal of it
--- reports out of memory.
+-- The conversion takes exactly the elements whose parts have a body, with its value.
+-- Where it does not allocate, no refusal of it reports out of memory.
 pub record IsExactConversion {S : Type 0} (gives : Any → Result S Error → Type 0) (G : ElementGrammar S) : Type 0 where
   pub exact : (any : Any) (answer : Result S Error) → IsOctets any.content.now → gives any answer →
       TakesBody G.Body G.value G.allocates (λ (x y : Error). y ≡ x) (parts_of any) answer
@@ -82,6 +82,7 @@ HoldingGives held gives any (Ok x) = gives any (Ok (held x))
 HoldingGives held gives any (Err e) = gives any (Err e)
 
 -- a reader that answers it
-abbrev pub HoldingReads : {S T E : Type 0} → (T → S) → (List ℕ → Result (List ℕ × S) (Refusal E) → Type 0) → List ℕ → Result (List ℕ × T) (Refusal E) → Type 0
+abbrev pub HoldingReads : {S T E : Type 0} → (T → S) → (List ℕ → Result (List ℕ × S) (Refusal E) → Type 0) → List ℕ →
+    Result (List ℕ × T) (Refusal E) → Type 0
 HoldingReads held reads input (Ok x) = reads input (Ok (x.0, held x.1))
 HoldingReads held reads input (Err r) = reads input (Err r)

@@ -1,3 +1,4 @@
+-- Laws of readers and writers: what stands in the law traits, and what their contracts rest on.
 pub mod Header
 pub mod Any
 pub mod Readers

@@ -1,5 +1,6 @@
 -- Lists: elements whose contents octets are items joined in their order (X.690 8.9, 8.10).
-use Rattle.std.specs.Prelude.{◌≡◌, ◌≢◌, ◌⊎◌, ℕ, true, false, List, [], ◌∷◌, ◌++◌, length, map, Option, Some, Result, Ok, Err}
+use Rattle.std.specs.Prelude.{◌≡◌, ◌≢◌, ◌⊎◌, ℕ, true, false, List, [], ◌∷◌, ◌++◌, length, map, Option, Some, Result, Ok}
+use Rattle.std.specs.Prelude.{Err}
 use Rattle.std.specs.Borrow.{Bor}
 use Rattle.std.specs.declared.vec.Vec.{Vec}
 use Rattle.std.specs.List.{All, Any as HasSome, concat}
@@ -40,7 +41,8 @@ pub record ListOf {V : Type 0} (number : ℕ) (G : List ℕ → V → Type 0) (p
 abbrev pub CheckedElement : (Parts → Type 0) → List ℕ → Parts → Type 0
 CheckedElement Check octets p = IsDerElement octets p × Check p
 
--- A constructed element with the tag number, whose contents octets are elements of definite length that meet the constraints of an item.
+-- A constructed element with the tag number, whose contents octets are elements of definite length that meet the
+-- constraints of an item.
 pub record ListCheck (number : ℕ) (Check : Parts → Type 0) (p : Parts) : Type 0 where
   pub number_is : p.id.number ≡ number
   pub constructed : p.id.constructed ≡ true
@@ -63,11 +65,14 @@ IsListOr number p (Err e) =
     ((p.id.number ≡ number) × (p.id.constructed ≡ false) × (e ≡ errors.ConstructExpected))
 
 -- a walk gave items, and then this refusal
-abbrev pub EndsItems : {T E : Type 0} → (List ℕ → Result (List ℕ × T) (Refusal E) → Type 0) → (Error → E → Type 0) → List ℕ → E → Type 0
-EndsItems {T} {E} reads from content e = (items : List T) × (left : List ℕ) × Yields (TakesItem reads from) content (map Ok items ++ Err e ∷ []) left
+abbrev pub EndsItems : {T E : Type 0} → (List ℕ → Result (List ℕ × T) (Refusal E) → Type 0) → (Error → E → Type 0) →
+    List ℕ → E → Type 0
+EndsItems {T} {E} reads from content e =
+    (items : List T) × (left : List ℕ) × Yields (TakesItem reads from) content (map Ok items ++ Err e ∷ []) left
 
 -- What collecting the items of a walk may answer: all of them, or the refusal that ended the walk, or out of memory.
-abbrev pub ItemsGive : {T E : Type 0} → (List ℕ → Result (List ℕ × T) (Refusal E) → Type 0) → (Error → E → Type 0) → List ℕ → Result (List T) E → Type 0
+abbrev pub ItemsGive : {T E : Type 0} → (List ℕ → Result (List ℕ × T) (Refusal E) → Type 0) → (Error → E → Type 0) →
+    List ℕ → Result (List T) E → Type 0
 ItemsGive reads from content (Ok items) = Yields (TakesItem reads from) content (map Ok items) []
 ItemsGive reads from content (Err e) = from errors.OutOfMemory e ⊎ EndsItems reads from content e
 
@@ -76,21 +81,29 @@ abbrev pub listed : {T E A : Type 0} → Result (Vec T A) E → Result (List T) 
 listed (Ok v) = Ok v.items
 listed (Err e) = Err e
 
--- What making a list of the items of a walk may answer: what holds the items; or the refusal that ended the walk, or out of memory.
-abbrev pub ListGives : {T W E : Type 0} → (List T → W → Type 0) → (List ℕ → Result (List ℕ × T) (Refusal E) → Type 0) → (Error → E → Type 0) → List ℕ → Result W E → Type 0
-ListGives {T} holds reads from content (Ok w) = (items : List T) × holds items w × ItemsGive reads from content (Ok items)
+-- What making a list of the items of a walk may answer: what holds the items;
+-- or the refusal that ended the walk, or out of memory.
+abbrev pub ListGives : {T W E : Type 0} → (List T → W → Type 0) → (List ℕ → Result (List ℕ × T) (Refusal E) → Type 0) →
+    (Error → E → Type 0) → List ℕ → Result W E → Type 0
+ListGives {T} holds reads from content (Ok w) =
+    (items : List T) × holds items w × ItemsGive reads from content (Ok items)
 ListGives holds reads from content (Err e) = ItemsGive reads from content (Err e)
 
--- What the conversion of an element to a list may answer: the list of its items; or the refusal of the tag number, that of the constructed bit, or that of the items.
-abbrev pub ListTakes : {T W E : Type 0} → ℕ → (List T → W → Type 0) → (List ℕ → Result (List ℕ × T) (Refusal E) → Type 0) → (Error → E → Type 0) → Parts → Result W E → Type 0
+-- What the conversion of an element to a list may answer: the list of its items; or the refusal of the tag number, that
+-- of the constructed bit, or that of the items.
+abbrev pub ListTakes : {T W E : Type 0} → ℕ → (List T → W → Type 0) →
+    (List ℕ → Result (List ℕ × T) (Refusal E) → Type 0) → (Error → E → Type 0) → Parts → Result W E → Type 0
 ListTakes number holds reads from p (Ok w) = IsListOr number p (Ok tt) × ListGives holds reads from p.content (Ok w)
-ListTakes number holds reads from p (Err e) = ((refusal : Error) × IsListOr number p (Err refusal) × from refusal e) ⊎ (IsListOr number p (Ok tt) × ListGives holds reads from p.content (Err e))
+ListTakes number holds reads from p (Err e) = ((refusal : Error) × IsListOr number p (Err refusal) × from refusal e) ⊎
+    (IsListOr number p (Ok tt) × ListGives holds reads from p.content (Err e))
 
 -- what a list's own reader by DER may answer to an element: the same, but the constructed bit is not looked at
-abbrev pub ListReads : {T W E : Type 0} → ℕ → (List T → W → Type 0) → (List ℕ → Result (List ℕ × T) (Refusal E) → Type 0) → (Error → E → Type 0) → Parts → Result W E → Type 0
+abbrev pub ListReads : {T W E : Type 0} → ℕ → (List T → W → Type 0) →
+    (List ℕ → Result (List ℕ × T) (Refusal E) → Type 0) → (Error → E → Type 0) → Parts → Result W E → Type 0
 ListReads number holds reads from p (Ok w) = (p.id.number ≡ number) × ListGives holds reads from p.content (Ok w)
 ListReads number holds reads from p (Err e) =
-    ((p.id.number ≢ number) × from (errors.UnexpectedTag (Some (record { 0 = number })) (record { 0 = p.id.number })) e) ⊎
+    ((p.id.number ≢ number) ×
+    from (errors.UnexpectedTag (Some (record { 0 = number })) (record { 0 = p.id.number })) e) ⊎
     ((p.id.number ≡ number) × ListGives holds reads from p.content (Err e))
 
 -- a list that was made of items whose values stand in the element's contents octets
@@ -102,23 +115,28 @@ abbrev pub has_items : {T A : Type 0} → List T → Vec T A → Type 0
 has_items items v = v.items ≡ items
 
 -- what reading an element by DER and checking its constraints may answer
-abbrev pub CheckedGives : (Parts → Result (Unit {0}) Error → Type 0) → List ℕ → Result (List ℕ × Any) (Refusal Error) → Type 0
+abbrev pub CheckedGives : (Parts → Result (Unit {0}) Error → Type 0) → List ℕ →
+    Result (List ℕ × Any) (Refusal Error) → Type 0
 CheckedGives check = DerGives check IsTheElement (λ x y. y ≡ x)
 
--- what checking the constraints of all items may answer: each passes; or the refusal of the first that is none, or does not
+-- what checking the constraints of all items may answer: each passes;
+-- or the refusal of the first that is none, or does not
 abbrev pub ItemsCheckGives : (Parts → Result (Unit {0}) Error → Type 0) → List ℕ → Result (Unit {0}) Error → Type 0
-ItemsCheckGives check content (Ok x) = (items : List Any) × Yields (TakesItem (CheckedGives check) (λ x y. y ≡ x)) content (map Ok items) []
+ItemsCheckGives check content (Ok x) =
+    (items : List Any) × Yields (TakesItem (CheckedGives check) (λ x y. y ≡ x)) content (map Ok items) []
 ItemsCheckGives check content (Err e) = EndsItems (CheckedGives check) (λ x y. y ≡ x) content e
 
 -- what the check of a list may answer
 abbrev pub ListCheckGives : ℕ → (Parts → Result (Unit {0}) Error → Type 0) → Parts → Result (Unit {0}) Error → Type 0
 ListCheckGives number check p (Ok x) = IsListOr number p (Ok tt) × ItemsCheckGives check p.content (Ok tt)
-ListCheckGives number check p (Err e) = IsListOr number p (Err e) ⊎ (IsListOr number p (Ok tt) × ItemsCheckGives check p.content (Err e))
+ListCheckGives number check p (Err e) =
+    IsListOr number p (Err e) ⊎ (IsListOr number p (Ok tt) × ItemsCheckGives check p.content (Err e))
 
 -- what reading the first element and checking it may answer: what follows it, or its refusal
 abbrev pub FirstChecked : (Parts → Result (Unit {0}) Error → Type 0) → List ℕ → Result (Bor (List ℕ)) Error → Type 0
 FirstChecked check octets (Ok rest) = (item : Any) × CheckedGives check octets (Ok (rest.now, item))
-FirstChecked check octets (Err e) = (r : Refusal Error) × CheckedGives check octets (Err r) × FlattenedTo (λ x y. y ≡ x) (λ x y. y ≡ x) r e
+FirstChecked check octets (Err e) =
+    (r : Refusal Error) × CheckedGives check octets (Err r) × FlattenedTo (λ x y. y ≡ x) (λ x y. y ≡ x) r e
 
 -- strings, one after another, with the number of octets of each
 abbrev pub ArePacked : List (List ℕ) → PackedEncodings → Type 0
@@ -130,7 +148,8 @@ PushesItem old item new (Ok x) = new ≡ old ++ item ∷ []
 PushesItem old item new (Err e) = (new ≡ old) × (e ≡ errors.OutOfMemory)
 
 -- An iterator gives these items, in this order, and nothing more. What it gives is seen as an item by `sees`.
-pub record GivesItems {S R T : Type 0} (steps : S → Option R → S → Type 0) (sees : R → T → Type 0) (s : S) (xs : List T) : Type 0 where
+pub record GivesItems {S R T : Type 0} (steps : S → Option R → S → Type 0) (sees : R → T → Type 0) (s : S)
+    (xs : List T) : Type 0 where
   pub item : R → T
   pub only : (r : R) (x : T) → sees r x → x ≡ item r
   pub gives : AlwaysYields steps item s xs

@@ -26,5 +26,6 @@ one_value_leaf S checks = record {
 abbrev pub null_leaf : Leaf Null
 null_leaf = one_value_leaf Null (has_length 0)
 
+-- `()` as the null value: an element of no contents octets.
 abbrev pub unit_leaf : Leaf (Unit {0})
 unit_leaf = one_value_leaf (Unit {0}) (is_primitive before has_length 0)

@@ -39,6 +39,7 @@ cow_of x = x.octets
 abbrev pub octets_of : OctetString → List ℕ
 octets_of x = cow_slice_items x.octets
 
+-- Octet strings that are owned or borrowed.
 abbrev pub octet_string_leaf : Leaf OctetString
 octet_string_leaf = octets_leaf octet_string_number octets_of
 

@@ -23,6 +23,7 @@ use Rattle.asn1_rs.specs.ToDer.{Writing, plain_writing}
 abbrev pub oid_number : ℕ
 oid_number = 6
 
+-- the tag number of relative object identifiers
 abbrev pub relative_number : ℕ
 relative_number = 13
 
@@ -44,9 +45,11 @@ oid_cow x = x.octets
 abbrev pub oid_octets : Oid → List ℕ
 oid_octets x = cow_slice_items x.octets
 
+-- whether the object identifier is relative
 abbrev pub is_relative : Oid → Bool
 is_relative x = x.relative
 
+-- the value of an object identifier: whether it is relative, and its contents octets
 abbrev pub oid_value : Oid → OidValue
 oid_value x = record { relative = x.relative; octets = cow_slice_items x.octets }
 
@@ -81,7 +84,8 @@ oid_element = record {
 -- what taking the contents octets of an element as an identifier may answer, absolute or relative, behind a check: it
 -- borrows them
 abbrev pub LendsOid : Bool → CheckGives → Parts → Result Oid Error → Type 0
-LendsOid relative check p (Ok x) = check p (Ok tt) × (oid_value x ≡ record { relative = relative; octets = p.content }) × IsBorrowedSlice (oid_cow x)
+LendsOid relative check p (Ok x) =
+    check p (Ok tt) × (oid_value x ≡ record { relative = relative; octets = p.content }) × IsBorrowedSlice (oid_cow x)
 LendsOid relative check p (Err e) = check p (Err e)
 
 -- so of the conversion, which refuses nothing
@@ -93,6 +97,7 @@ OidGives any (Err e) = ⊥
 abbrev pub ber_relative_check : CheckGives
 ber_relative_check = is_primitive before has_number relative_number
 
+-- the checks of a relative object identifier by DER
 abbrev pub der_relative_check : CheckGives
 der_relative_check = has_number relative_number before oid_constraints
 

@@ -1,5 +1,7 @@
--- Optional values: how one that is left out is told, what their readers may answer, and what is said of them by what they hold.
-use Rattle.std.specs.Prelude.{◌≡◌, ◌≢◌, ◌⊎◌, ℕ, Bool, true, false, List, [], ◌++◌, Option, Some, None, Result, Ok, Err, if◌then◌else◌}
+-- Optional values: how one that is left out is told, what their readers may answer,
+-- and what is said of them by what they hold.
+use Rattle.std.specs.Prelude.{◌≡◌, ◌≢◌, ◌⊎◌, ℕ, Bool, true, false, List, [], ◌++◌, Option, Some, None, Result, Ok, Err}
+use Rattle.std.specs.Prelude.{if◌then◌else◌}
 use Rattle.std.specs.Option.{option_map}
 use Rattle.x690.specs.Octets.{IsOctets}
 use Rattle.x690.specs.Identifiers.{Identifier}
@@ -25,7 +27,8 @@ pub record BeginsWithOther (rule : Rule) (number : ℕ) (octets : List ℕ) : Ty
   pub is : octets ≡ header ++ rest
   pub other : id.number ≢ number
 
--- A value of this tag number is left out: there are no octets, or they begin with a header of another tag number. Octets that no header begins do not tell that.
+-- A value of this tag number is left out: there are no octets, or they begin with a header of another tag number.
+-- Octets that no header begins do not tell that.
 abbrev pub IsLeftOut : Rule → ℕ → List ℕ → Type 0
 IsLeftOut rule number octets = (octets ≡ []) ⊎ BeginsWithOther rule number octets
 
@@ -38,25 +41,35 @@ abbrev pub in_some : {T E : Type 0} → Result (List ℕ × T) E → Result (Lis
 in_some (Ok x) = Ok (x.0, Some x.1)
 in_some (Err e) = Err e
 
--- What a reader of optional values may answer: exactly where the value is left out None, with all octets as the rest; else the whole answer of the reader of the value.
-abbrev pub OptionGives : {T E : Type 0} → (List ℕ → Type 0) → (List ℕ → Result (List ℕ × T) (Refusal E) → Type 0) → List ℕ → Result (List ℕ × Option T) (Refusal E) → Type 0
+-- What a reader of optional values may answer: exactly where the value is left out None, with all octets as the rest;
+-- else the whole answer of the reader of the value.
+abbrev pub OptionGives : {T E : Type 0} → (List ℕ → Type 0) → (List ℕ → Result (List ℕ × T) (Refusal E) → Type 0) →
+    List ℕ → Result (List ℕ × Option T) (Refusal E) → Type 0
 OptionGives {T} {E} LeftOut reads octets answer =
     (LeftOut octets × (answer ≡ Ok (octets, None))) ⊎
     ((LeftOut octets → ⊥) × ((its : Result (List ℕ × T) (Refusal E)) × reads octets its × (answer ≡ in_some its)))
 
--- Of a strict encoding before any rest a reader of optional values answers what is held, in Some, and the rest; or out of memory, as the reader of the value may.
-abbrev pub ReadsHeldBack : {T V E : Type 0} → (List ℕ → Result (List ℕ × Option T) (Refusal E) → Type 0) → (V → Identifier → List ℕ → Type 0) → (T → V) → (Refusal E → Type 0) → Type 0
-ReadsHeldBack {T} {V} {E} reads Form value memory = (octets : List ℕ) (answer : Result (List ℕ × Option T) (Refusal E)) (v : V) (word rest : List ℕ) → IsOctets octets → reads octets answer →
+-- Of a strict encoding before any rest a reader of optional values answers what is held, in Some, and the rest; or out
+-- of memory, as the reader of the value may.
+abbrev pub ReadsHeldBack : {T V E : Type 0} → (List ℕ → Result (List ℕ × Option T) (Refusal E) → Type 0) →
+    (V → Identifier → List ℕ → Type 0) → (T → V) → (Refusal E → Type 0) → Type 0
+ReadsHeldBack {T} {V} {E} reads Form value memory =
+    (octets : List ℕ) (answer : Result (List ℕ × Option T) (Refusal E)) (v : V) (word rest : List ℕ) → IsOctets octets →
+    reads octets answer →
     IsStrict Form v word → octets ≡ word ++ rest → ReadsBack (option_map value) memory (Some v) rest answer
 
 -- Before a strict encoding a reader of optional values answers None, with all octets as the rest.
-abbrev pub ReadsNoneBefore : {T V E : Type 0} → (List ℕ → Result (List ℕ × Option T) (Refusal E) → Type 0) → (V → Identifier → List ℕ → Type 0) → Type 0
-ReadsNoneBefore {T} {V} {E} reads Form = (octets : List ℕ) (answer : Result (List ℕ × Option T) (Refusal E)) (v : V) (word rest : List ℕ) → reads octets answer →
+abbrev pub ReadsNoneBefore : {T V E : Type 0} → (List ℕ → Result (List ℕ × Option T) (Refusal E) → Type 0) →
+    (V → Identifier → List ℕ → Type 0) → Type 0
+ReadsNoneBefore {T} {V} {E} reads Form =
+    (octets : List ℕ) (answer : Result (List ℕ × Option T) (Refusal E)) (v : V) (word rest : List ℕ) →
+    reads octets answer →
     IsStrict Form v word → octets ≡ word ++ rest → answer ≡ Ok (octets, None)
 
 -- and so where there are no octets
 abbrev pub ReadsNoneAtEnd : {T E : Type 0} → (List ℕ → Result (List ℕ × Option T) (Refusal E) → Type 0) → Type 0
-ReadsNoneAtEnd {T} {E} reads = (answer : Result (List ℕ × Option T) (Refusal E)) → reads [] answer → answer ≡ Ok ([], None)
+ReadsNoneAtEnd {T} {E} reads =
+    (answer : Result (List ℕ × Option T) (Refusal E)) → reads [] answer → answer ≡ Ok ([], None)
 
 -- the error tells of another tag number than the one that was expected
 abbrev pub is_of_another_tag : Error → Bool
@@ -65,7 +78,8 @@ is_of_another_tag e = false
 
 -- the same element, whose header keeps no identifier octets
 pub record IsWithoutRawTag (any bare : Any) : Type 0 where
-  pub header : HasParts bare.header (class_of any.header) (is_constructed_of any.header) (tag_of any.header) (length_of any.header) None
+  pub header : HasParts bare.header (class_of any.header) (is_constructed_of any.header) (tag_of any.header)
+      (length_of any.header) None
   pub content : bare.content.now ≡ any.content.now
 
 -- none in the place of an error of another tag number, and an Ok in Some
@@ -73,9 +87,12 @@ abbrev pub none_or : {T E : Type 0} → (E → Bool) → Result T E → Result (
 none_or of_tag (Ok x) = Ok (Some x)
 none_or of_tag (Err e) = if of_tag e then Ok None else Err e
 
--- What a conversion to an optional value may answer: none exactly where the conversion to the value tells of another tag number; else its whole answer, an Ok in Some.
-abbrev pub NoneOrConverted : {T E : Type 0} → (Any → Result T E → Type 0) → (E → Bool) → Any → Result (Option T) E → Type 0
-NoneOrConverted {T} {E} converts of_tag any answer = (bare : Any) × IsWithoutRawTag any bare × ((its : Result T E) × converts bare its × (answer ≡ none_or of_tag its))
+-- What a conversion to an optional value may answer: none exactly where the conversion to the value tells of another
+-- tag number; else its whole answer, an Ok in Some.
+abbrev pub NoneOrConverted : {T E : Type 0} → (Any → Result T E → Type 0) → (E → Bool) → Any →
+    Result (Option T) E → Type 0
+NoneOrConverted {T} {E} converts of_tag any answer =
+    (bare : Any) × IsWithoutRawTag any bare × ((its : Result T E) × converts bare its × (answer ≡ none_or of_tag its))
 
 -- what the value that is held says, or else this
 abbrev pub held_or : {T A : Type 0} → A → (T → A) → Option T → A

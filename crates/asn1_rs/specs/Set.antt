@@ -24,6 +24,7 @@ use Rattle.asn1_rs.specs.Lists.{ListBody, ListOf, ListCheck}
 abbrev pub Members : Type 0 → Type 0
 Members V = ValueSet V ⊎ List V
 
+-- the set of values that a list in hand stands for
 abbrev pub set_of : {V : Type 0} → List V → Members V
 set_of vs = inl (value_set vs)
 
@@ -32,10 +33,12 @@ abbrev pub pairs_pass : {S : Type 0} → (S → S → Bool) → List S → Bool
 pairs_pass test [] = true
 pairs_pass test (x ∷ xs) = list_all (test x) xs && pairs_pass test xs
 
+-- the set of these values where they all differ, else the list of them
 abbrev pub members_if : {V : Type 0} → Bool → List V → Members V
 members_if true vs = set_of vs
 members_if false vs = inr vs
 
+-- what the members in hand are: a set where no two are equal by the test
 abbrev pub members : {S V : Type 0} → (S → S → Bool) → (S → V) → List S → Members V
 members test value xs = members_if (pairs_pass test xs) (map value xs)
 
@@ -55,11 +58,13 @@ Seen {X} {V} f G o w = (v : V) × (f v ≡ w) × G o v
 abbrev pub SetBody : {V M : Type 0} → (List V → M) → (List ℕ → V → Type 0) → Parts → M → Type 0
 SetBody of G = Seen of (ListBody 17 G)
 
+-- the same, where the constructed bit is not looked at
 abbrev pub SetRow : {V M : Type 0} → (List V → M) → (List ℕ → V → Type 0) → Parts → M → Type 0
 SetRow of G = Seen of (ListOf 17 G)
 
 -- the strict parts of a set
-abbrev pub SetForm : {V M : Type 0} → (List V → M) → (List V → Type 0) → (V → Identifier → List ℕ → Type 0) → M → Identifier → List ℕ → Type 0
+abbrev pub SetForm : {V M : Type 0} → (List V → M) → (List V → Type 0) → (V → Identifier → List ℕ → Type 0) → M →
+    Identifier → List ℕ → Type 0
 SetForm of Each Form = UniversalForm true 17 (Joins of Each (IsStrict Form))
 
 -- collections of values that hold
@@ -70,9 +75,10 @@ SetValues {V} of P m = (vs : List V) × (of vs ≡ m) × All P vs
 abbrev pub SetInDer : {V M : Type 0} → (List V → M) → (List V → Type 0) → (V → Type 0) → M → Type 0
 SetInDer {V} of Each IsDer m = (vs : List V) × Each vs × (of vs ≡ m) × All IsDer vs
 
--- Collections of items of a type. `of` says what collection a list of values is, `worth` what one in hand is, Each how a
--- list has to stand for it, and DerBody what a reader by DER finds in an element's parts.
-abbrev pub set_grammar : {S W M : Type 0} (G : ItemGrammar S) → (List G.Value → M) → (W → M) → (List G.Value → Type 0) → (Parts → M → Type 0) → ItemGrammar W
+-- Collections of items of a type. `of` says what collection a list of values is, `worth` what one in hand is, Each how
+-- a list has to stand for it, and DerBody what a reader by DER finds in an element's parts.
+abbrev pub set_grammar : {S W M : Type 0} (G : ItemGrammar S) → (List G.Value → M) → (W → M) → (List G.Value → Type 0) →
+    (Parts → M → Type 0) → ItemGrammar W
 set_grammar {S} {W} {M} G of worth Each DerBody = record {
   Value = M;
   value = worth;
@@ -87,7 +93,8 @@ set_grammar {S} {W} {M} G of worth Each DerBody = record {
 
 -- sets in which an item may stand more than once; by DER the constructed bit is not looked at
 abbrev pub multiset_grammar : {S W : Type 0} → (W → List S) → ItemGrammar S → ItemGrammar W
-multiset_grammar items G = set_grammar G multiset (λ w. multiset (map G.value (items w))) AnyList (SetRow multiset G.Der)
+multiset_grammar items G =
+    set_grammar G multiset (λ w. multiset (map G.value (items w))) AnyList (SetRow multiset G.Der)
 
 -- the items of a set of the library's own
 abbrev pub items_of : {T : Type 0} → SetOf T → List T
@@ -99,6 +106,7 @@ HasItems items s = items_of s ≡ items
 
 -- once the borrow r ends, the items are those that r shows last
 module _ (T : RattleType) (s : MutBor (SetOf T.Denot)) where
+  -- the items of a set are lent, and what comes back takes their place
   abbrev pub lends_set_items : MutBor (List T.Denot) → Fml
   lends_set_items r = Lends (the_row T) (Array T 0) s r (λ ws. record { items = with_items s.now.items ws })
 

@@ -11,9 +11,9 @@ use Rattle.asn1_rs.specs.Any.{parts_of}
 use Rattle.asn1_rs.specs.Checks.{content_check, is_primitive}
 use Rattle.asn1_rs.specs.Leaf.{Leaf, LeafGives}
 
--- An element with the tag number whose value is the UTF-8 of a text, which is its contents octets: a text that the type has, though items
--- may hold others. It is primitive or constructed (8.23.1); by DER it is primitive (10.2). What is written for a text that the type does
--- not have is no strict encoding.
+-- An element with the tag number whose value is the UTF-8 of a text, which is its contents octets: a text that the type
+-- has, though items may hold others. It is primitive or constructed (8.23.1); by DER it is primitive (10.2). What is
+-- written for a text that the type does not have is no strict encoding.
 abbrev pub text_leaf : {S : Type 0} → ℕ → (List ℕ → Type 0) → (S → List ℕ) → Leaf S
 text_leaf number IsText text = record {
   number = number;
@@ -35,9 +35,12 @@ held_text x = x.text
 abbrev pub text_of : {K : Type 0} → RestrictedString K → List ℕ
 text_of x = cow_str_bytes x.text
 
+-- Strings of a type with this tag number and these texts.
 abbrev pub string_leaf : {K : Type 0} → ℕ → (List ℕ → Type 0) → Leaf (RestrictedString K)
 string_leaf number IsText = text_leaf number IsText text_of
 
--- what the conversion of an element may answer: its contents octets as a text, which is borrowed, or the refusal of the first check that is broken
+-- what the conversion of an element may answer: its contents octets as a text, which is borrowed,
+-- or the refusal of the first check that is broken
 abbrev pub StringGives : {K : Type 0} → ℕ → (List ℕ → Type 0) → Any → Result (RestrictedString K) Error → Type 0
-StringGives number IsText any answer = LeafGives (string_leaf number IsText) (parts_of any) answer × IfOk answer (λ x. IsBorrowedStr (held_text x))
+StringGives number IsText any answer =
+    LeafGives (string_leaf number IsText) (parts_of any) answer × IfOk answer (λ x. IsBorrowedStr (held_text x))

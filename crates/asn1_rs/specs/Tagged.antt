@@ -32,30 +32,40 @@ use Rattle.asn1_headers.specs.Header.Reading.{der_refusal, ber_refusal}
 abbrev pub OfElement : Type 0 → Type 1
 OfElement R = Any → List ℕ → R → Type 0
 
--- What reading an element and then calling that on it may answer: its answer, or the refusal of the element's first fault.
-abbrev pub ThenGives : {T E : Type 0} → (List ℕ → Parts → Type 0) → (List ℕ → Fault → Type 0) → (Fault → Refusal Error) → (Error → E → Type 0) → OfElement (Result (List ℕ × T) (Refusal E)) → List ℕ → Result (List ℕ × T) (Refusal E) → Type 0
-ThenGives ElementOf FaultOf refusal from takes input (Ok x) = (any : Any) × (rest : List ℕ) × BeginsWithElement ElementOf input any rest × takes any rest (Ok x)
+-- What reading an element and then calling that on it may answer:
+-- its answer, or the refusal of the element's first fault.
+abbrev pub ThenGives : {T E : Type 0} → (List ℕ → Parts → Type 0) → (List ℕ → Fault → Type 0) →
+    (Fault → Refusal Error) → (Error → E → Type 0) → OfElement (Result (List ℕ × T) (Refusal E)) → List ℕ →
+    Result (List ℕ × T) (Refusal E) → Type 0
+ThenGives ElementOf FaultOf refusal from takes input (Ok x) =
+    (any : Any) × (rest : List ℕ) × BeginsWithElement ElementOf input any rest × takes any rest (Ok x)
 ThenGives ElementOf FaultOf refusal from takes input (Err r) =
     ((fault : Fault) × FaultOf input fault × Converted from (refusal fault) r) ⊎
     ((any : Any) × (rest : List ℕ) × BeginsWithElement ElementOf input any rest × takes any rest (Err r))
 
 -- the same by DER and by BER
-abbrev pub ThenByDer : {T E : Type 0} → (Error → E → Type 0) → OfElement (Result (List ℕ × T) (Refusal E)) → List ℕ → Result (List ℕ × T) (Refusal E) → Type 0
+abbrev pub ThenByDer : {T E : Type 0} → (Error → E → Type 0) → OfElement (Result (List ℕ × T) (Refusal E)) → List ℕ →
+    Result (List ℕ × T) (Refusal E) → Type 0
 ThenByDer = ThenGives IsDerElement DerElementFault der_refusal
 
-abbrev pub ThenByBer : {T E : Type 0} → (Error → E → Type 0) → OfElement (Result (List ℕ × T) (Refusal E)) → List ℕ → Result (List ℕ × T) (Refusal E) → Type 0
+-- What reading an element by BER, and then what it holds, may answer.
+abbrev pub ThenByBer : {T E : Type 0} → (Error → E → Type 0) → OfElement (Result (List ℕ × T) (Refusal E)) → List ℕ →
+    Result (List ℕ × T) (Refusal E) → Type 0
 ThenByBer = ThenGives (IsElement max_depth) (ElementFault max_depth) ber_refusal
 
 -- the answer is the refusal of the tag number that an element has in place of this one
 abbrev pub IsOtherTag : {E : Type 0} → (Error → E → Type 0) → Tag → Tag → Refusal E → Type 0
-IsOtherTag {E} from tag actual r = (actual ≢ tag) × ((e : E) × from (UnexpectedTag (Some tag) actual) e × (r ≡ refused e))
+IsOtherTag {E} from tag actual r =
+    (actual ≢ tag) × ((e : E) × from (UnexpectedTag (Some tag) actual) e × (r ≡ refused e))
 
 -- the answer is the refusal of the class that an element has in place of this one
 abbrev pub IsOtherClass : {E : Type 0} → (Error → E → Type 0) → Class → Class → Refusal E → Type 0
-IsOtherClass {E} from class actual r = (actual ≢ class) × ((e : E) × from (UnexpectedClass (Some class) actual) e × (r ≡ refused e))
+IsOtherClass {E} from class actual r =
+    (actual ≢ class) × ((e : E) × from (UnexpectedClass (Some class) actual) e × (r ≡ refused e))
 
 -- a closure that is called once may give r at the header and at a reference to the octets
-abbrev pub ReturnsOfHeader : {F R : Type 0} → Once F (Header × (Bor (List ℕ) × Unit {0})) R → F → Header → List ℕ → R → Type 0
+abbrev pub ReturnsOfHeader : {F R : Type 0} → Once F (Header × (Bor (List ℕ) × Unit {0})) R → F → Header →
+    List ℕ → R → Type 0
 ReturnsOfHeader g f header octets r = (p : Bor (List ℕ)) × g.post f (header, (p, tt)) r × (p.now ≡ octets)
 
 -- and it may be called at these
@@ -64,7 +74,8 @@ TakesOfHeader g f header octets = (p : Bor (List ℕ)) → p.now ≡ octets → 
 
 -- this holds of the element that begins the input, where it has this tag number
 abbrev pub HoldsOfNumber : (List ℕ → Parts → Type 0) → Tag → (Any → Type 0) → List ℕ → Type 0
-HoldsOfNumber ElementOf tag Holds input = (any : Any) (rest : List ℕ) → BeginsWithElement ElementOf input any rest → tag_of any.header ≡ tag → Holds any
+HoldsOfNumber ElementOf tag Holds input =
+    (any : Any) (rest : List ℕ) → BeginsWithElement ElementOf input any rest → tag_of any.header ≡ tag → Holds any
 
 -- the number of a tag, as a `u32` holds it: a parameter of this type is it
 abbrev pub number_of : ℕ → ℕ
@@ -78,4 +89,5 @@ IsClassOf class (Some c) = class ≡ class_number c
 -- the class of this number; a number above 3 is that of none
 abbrev pub has_class : ℕ → CheckGives
 has_class class p (Ok x) = p.id.class ≡ class
-has_class class p (Err e) = (p.id.class ≢ class) × ((expected : Option Class) × (actual : Class) × IsClassOf class expected × (p.id.class ≡ class_number actual) × (e ≡ UnexpectedClass expected actual))
+has_class class p (Err e) = (p.id.class ≢ class) × ((expected : Option Class) × (actual : Class) ×
+    IsClassOf class expected × (p.id.class ≡ class_number actual) × (e ≡ UnexpectedClass expected actual))

@@ -1,17 +1,20 @@
 -- Times as elements (X.690 8.25, 8.26, 11.7, 11.8).
-use Rattle.std.specs.Prelude.{◌≡◌, ◌⊎◌, ℕ, ◌<◌, ◌^◌, pos, negsuc, ◌≤ℤ◌, List, Bool, ◌&&◌, not, nat_le, Option, Some, None, true, false, codes, Result, Ok, Err}
+use Rattle.std.specs.Prelude.{◌≡◌, ◌⊎◌, ℕ, ◌<◌, ◌^◌, pos, negsuc, ◌≤ℤ◌, List, Bool, ◌&&◌, not, nat_le, Option, Some}
+use Rattle.std.specs.Prelude.{None, true, false, codes, Result, Ok, Err}
 use Rattle.std.specs.Option.{option_cmp}
 use Rattle.std.specs.Ordering.{int_cmp, nat_cmp, ordering_then}
 use Rattle.std.specs.declared.cmp.Ordering.{Ordering}
 use Rattle.std.specs.declared.cmp.Ordering.TheVariants.{Less, Equal, Greater}
 use Rattle.x690.specs.Sets.{AllIn, is_visible}
-use Rattle.x690.specs.Times.{SaysUtcTime, SaysGeneralizedTime, IsStrictUtcTime, IsStrictGeneralizedTime, MostMilliseconds, EndsInZ, HasComma, utc_time_text, generalized_time_text}
+use Rattle.x690.specs.Times.{SaysUtcTime, SaysGeneralizedTime, IsStrictUtcTime, IsStrictGeneralizedTime}
+use Rattle.x690.specs.Times.{MostMilliseconds, EndsInZ, HasComma, utc_time_text, generalized_time_text}
 use Rattle.x690.specs.declared.times.Moment.{Moment}
 use Rattle.x690.specs.declared.times.TimeZone.{TimeZone}
 use Rattle.x690.specs.declared.times.TimeZone.TheVariants.{Undefined, Z, Offset}
 use Rattle.asn1_headers.specs.Error.{IsInvalidValue}
 use Rattle.asn1_headers.specs.declared.error.Error.{Error}
-use Rattle.asn1_headers.specs.declared.error.Error.TheVariants.{StringInvalidCharset, DerConstraintFailed, InvalidDateTime}
+use Rattle.asn1_headers.specs.declared.error.Error.TheVariants.{StringInvalidCharset, DerConstraintFailed}
+use Rattle.asn1_headers.specs.declared.error.Error.TheVariants.{InvalidDateTime}
 use Rattle.asn1_headers.specs.declared.error.DerConstraint.TheVariants.{MissingTimeZone, MissingSeconds}
 use Rattle.asn1_rs.specs.declared.asn1_types.times.ASN1DateTime.{ASN1DateTime}
 use Rattle.asn1_rs.specs.declared.asn1_types.times.utc_time.UtcTime.{UtcTime}
@@ -36,7 +39,8 @@ moment_of d = record {
 abbrev pub IsZone : TimeZone → Type 0
 IsZone Undefined = Unit {0}
 IsZone Z = Unit {0}
-IsZone (Offset hours minutes) = (negsuc 127 ≤ℤ hours) × (hours ≤ℤ pos 127) × (negsuc 127 ≤ℤ minutes) × (minutes ≤ℤ pos 127)
+IsZone (Offset hours minutes) =
+    (negsuc 127 ≤ℤ hours) × (hours ≤ℤ pos 127) × (negsuc 127 ≤ℤ minutes) × (minutes ≤ℤ pos 127)
 
 -- fields that an item may hold
 pub record IsMoment (m : Moment) : Type 0 where
@@ -61,9 +65,10 @@ IsNoTime number = IsInvalidValue (record { 0 = number }) (codes "not a time")
 abbrev pub says_time : ℕ → (List ℕ → Moment → Type 0) → CheckGives
 says_time number Says = telling_check (λ p. (m : Moment) × Says p.content m) (IsNoTime number)
 
--- An element with the tag number whose contents octets are a text that says a time. It is looked at neither whether it is primitive
--- nor, but for `constraints`, whether the text is strict.
-abbrev pub time_leaf : {S : Type 0} → ℕ → (S → Moment) → (List ℕ → Moment → Type 0) → (Moment → Type 0) → CheckGives → (Moment → List ℕ) → Leaf S
+-- An element with the tag number whose contents octets are a text that says a time. It is looked at neither whether it
+-- is primitive nor, but for `constraints`, whether the text is strict.
+abbrev pub time_leaf : {S : Type 0} → ℕ → (S → Moment) → (List ℕ → Moment → Type 0) → (Moment → Type 0) → CheckGives →
+    (Moment → List ℕ) → Leaf S
 time_leaf number value Says IsStrict constraints octets = record {
   number = number;
   Value = Moment;
@@ -80,6 +85,7 @@ time_leaf number value Says IsStrict constraints octets = record {
 abbrev pub utc_time_number : ℕ
 utc_time_number = 23
 
+-- UTCTimes as elements.
 abbrev pub utc_time_leaf : Leaf UtcTime
 utc_time_leaf = time_leaf utc_time_number (λ t. moment_of t.0) SaysUtcTime IsStrictUtcTime nothing utc_time_text
 
@@ -87,31 +93,38 @@ utc_time_leaf = time_leaf utc_time_number (λ t. moment_of t.0) SaysUtcTime IsSt
 abbrev pub generalized_time_number : ℕ
 generalized_time_number = 24
 
--- What the constraints of GeneralizedTime ask: Z at the end of the contents octets (11.7.1), and no comma among them (11.7.4).
+-- What the constraints of GeneralizedTime ask: Z at the end of the contents octets (11.7.1),
+-- and no comma among them (11.7.4).
 abbrev pub generalized_time_constraints : CheckGives
 generalized_time_constraints = content_check EndsInZ (DerConstraintFailed MissingTimeZone) before
     check (λ p. ¬ HasComma p.content) (λ p. HasComma p.content) (λ p. DerConstraintFailed MissingSeconds)
 
+-- GeneralizedTimes as elements.
 abbrev pub generalized_time_leaf : Leaf GeneralizedTime
-generalized_time_leaf = time_leaf generalized_time_number (λ t. moment_of t.0) SaysGeneralizedTime IsStrictGeneralizedTime generalized_time_constraints generalized_time_text
+generalized_time_leaf = time_leaf generalized_time_number
+    (λ t. moment_of t.0) SaysGeneralizedTime IsStrictGeneralizedTime generalized_time_constraints generalized_time_text
 
 -- What reading a text may answer: the time that it says, or the refusal where it says none.
 abbrev pub TextGives : {S : Type 0} → ℕ → (S → Moment) → (List ℕ → Moment → Type 0) → List ℕ → Result S Error → Type 0
 TextGives number value Says text (Ok x) = Says text (value x)
 TextGives number value Says text (Err e) = ((m : Moment) → ¬ Says text m) × IsNoTime number e
 
+-- What reading the text of a UTCTime may answer.
 abbrev pub UtcTextGives : List ℕ → Result UtcTime Error → Type 0
 UtcTextGives = TextGives utc_time_number (λ t. moment_of t.0) SaysUtcTime
 
+-- What reading the text of a GeneralizedTime may answer.
 abbrev pub GeneralizedTextGives : List ℕ → Result GeneralizedTime Error → Type 0
 GeneralizedTextGives = TextGives generalized_time_number (λ t. moment_of t.0) SaysGeneralizedTime
 
 -- Why contents octets say no time: an octet outside 20 to 7f, or, where there is none, the text.
 abbrev pub RefusesText : ℕ → List ℕ → Error → Type 0
-RefusesText number octets e = ((¬ AllIn is_visible octets) × (e ≡ StringInvalidCharset)) ⊎ (AllIn is_visible octets × IsNoTime number e)
+RefusesText number octets e =
+    ((¬ AllIn is_visible octets) × (e ≡ StringInvalidCharset)) ⊎ (AllIn is_visible octets × IsNoTime number e)
 
--- ---- which are written
+-- Times that are written.
 
+-- the refusal of a time that has no place in its text
 abbrev pub IsInvalidDateTime : Error → Type 0
 IsInvalidDateTime e = e ≡ InvalidDateTime
 
@@ -128,16 +141,19 @@ has_three_digits (Some m) = nat_le m 999
 
 -- the fields fit the places that a strict text has, whose year is at most the greatest
 abbrev pub fits_text : ℕ → Moment → Bool
-fits_text greatest_year m = nat_le m.year greatest_year && (nat_le m.month 99 && (nat_le m.day 99 && (nat_le m.hour 99 && (nat_le m.minute 99 && (nat_le m.second 99 &&
+fits_text greatest_year m = nat_le m.year greatest_year &&
+    (nat_le m.month 99 && (nat_le m.day 99 && (nat_le m.hour 99 && (nat_le m.minute 99 && (nat_le m.second 99 &&
     (has_three_digits m.millisecond && has_place m.zone))))))
 
+-- whether writing a UTCTime is refused for its fields
 abbrev pub utc_time_refused : Moment → Bool
 utc_time_refused m = not (fits_text 99 m)
 
+-- whether writing a GeneralizedTime is refused for its fields
 abbrev pub generalized_time_refused : Moment → Bool
 generalized_time_refused m = not (fits_text 9999 m)
 
--- ---- their order
+-- The order of times.
 
 -- none defined is before Z, and Z before an offset; offsets go by their hours, and then by their minutes
 abbrev pub zone_cmp : TimeZone → TimeZone → Ordering
@@ -152,5 +168,6 @@ zone_cmp (Offset hours minutes) _ = Greater
 -- by the year, then the month, and so on; no milliseconds are before some
 abbrev pub moment_cmp : Moment → Moment → Ordering
 moment_cmp m n = ordering_then (ordering_then (ordering_then (ordering_then (ordering_then (ordering_then (ordering_then
-    (nat_cmp m.year n.year) (nat_cmp m.month n.month)) (nat_cmp m.day n.day)) (nat_cmp m.hour n.hour)) (nat_cmp m.minute n.minute)) (nat_cmp m.second n.second))
+    (nat_cmp m.year n.year) (nat_cmp m.month n.month)) (nat_cmp m.day n.day)) (nat_cmp m.hour n.hour))
+    (nat_cmp m.minute n.minute)) (nat_cmp m.second n.second))
     (option_cmp nat_cmp m.millisecond n.millisecond)) (zone_cmp m.zone n.zone)

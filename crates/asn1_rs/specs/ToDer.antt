@@ -1,5 +1,6 @@
 -- Why counting and writing a value are refused.
-use Rattle.std.specs.Prelude.{◌≡◌, ◌⊎◌, ℕ, ◌+◌, ◌≤◌, ◌^◌, Bool, true, false, ◌||◌, IsTrue, List, [], ◌++◌, Result, Err, MatchResult}
+use Rattle.std.specs.Prelude.{◌≡◌, ◌⊎◌, ℕ, ◌+◌, ◌≤◌, ◌^◌, Bool, true, false, ◌||◌, IsTrue, List, [], ◌++◌, Result, Err}
+use Rattle.std.specs.Prelude.{MatchResult}
 use Rattle.asn1_headers.specs.declared.error.Error.{Error}
 use Rattle.asn1_headers.specs.declared.error.Error.TheVariants as errors
 use Rattle.asn1_headers.specs.declared.error.SerializeError.{SerializeError}
@@ -20,6 +21,7 @@ Either one other e = one e ⊎ other e
 abbrev pub Refuses : Bool → ℕ → (SerializeError → Type 0) → SerializeError → Type 0
 Refuses allocates n own e = MayRefuse allocates n e ⊎ own e
 
+-- Why counting a value may be refused: its length, want of memory, or what is the value's own.
 abbrev pub RefusesCount : Bool → ℕ → (Error → Type 0) → Error → Type 0
 RefusesCount allocates n own e = MayRefuseCount allocates n e ⊎ own e
 
@@ -32,11 +34,11 @@ abbrev pub HasNone : {E : Type 0} → (E → Type 0) → Type 0
 HasNone {E} own = (e : E) → own e → ⊥
 
 -- What is written for the values of a type: for which of them that is told, the octets of header and contents, the
--- constructed bit, the refusals that are the value's own, and whether memory is allocated for counts and header, for the
--- contents octets, and for the whole beside these.
--- They are relations, and not one refusal each: of a list whose items are refused for several causes one of these
--- comes, and in a set out of memory may come first. What refuses a header leaves open which comes, so that a writer may
--- begin at the end; so a refusal before all others, as that of a class, has a relation of its own.
+-- constructed bit, the refusals that are the value's own, and whether memory is allocated for counts and header, for
+-- the contents octets, and for the whole beside these. They are relations, and not one refusal each: of a list whose
+-- items are refused for several causes one of these comes, and in a set out of memory may come first. What refuses a
+-- header leaves open which comes, so that a writer may begin at the end; so a refusal before all others, as that of a
+-- class, has a relation of its own.
 pub record Writing (S : Type 0) : Type 1 where
   pub tells : S → Type 0
   pub header : S → List ℕ
@@ -54,9 +56,11 @@ pub record Writing (S : Type 0) : Type 1 where
 abbrev pub whole_octets : {S : Type 0} → Writing S → S → List ℕ
 whole_octets w x = w.header x ++ w.content x
 
+-- why the header or the contents octets are refused
 abbrev pub whole_refuses : {S : Type 0} → Writing S → S → SerializeError → Type 0
 whole_refuses w x = Either (w.header_refuses x) (w.content_refuses x)
 
+-- whether writing the whole asks for memory
 abbrev pub whole_allocates : {S : Type 0} → Writing S → Bool
 whole_allocates w = w.write_allocates || (w.count_allocates || w.content_allocates)
 
@@ -113,6 +117,7 @@ held_writing held w = record {
   write_allocates = w.write_allocates;
 }
 
+-- Two counts are added, or their sum passes what a length may be.
 abbrev pub SumsCounts : ℕ → ℕ → Result ℕ Error → Type 0
 SumsCounts a b r = MatchResult r (λ n. n ≡ a + b) (λ e. (e ≡ errors.InvalidLength) × (2 ^ 64 ≤ a + b))
 
@@ -123,16 +128,20 @@ pub record RefusedAtOnce (e : SerializeError) (old new : WriterState) (answer : 
 
 -- Refused by one of the value's own, by its length or when out of memory, with the writer as it was.
 -- The refusal is tied by the answer.
-abbrev pub IsRefusedAtOnce : Bool → ℕ → (SerializeError → Type 0) → WriterState → WriterState → Result ℕ SerializeError → Type 0
-IsRefusedAtOnce allocates n own old new answer = (e : SerializeError) × RefusesAtOnce allocates n own e × RefusedAtOnce e old new answer
+abbrev pub IsRefusedAtOnce : Bool → ℕ → (SerializeError → Type 0) → WriterState → WriterState →
+    Result ℕ SerializeError → Type 0
+IsRefusedAtOnce allocates n own old new answer =
+    (e : SerializeError) × RefusesAtOnce allocates n own e × RefusedAtOnce e old new answer
 
 -- A refusal of the value's own, from a writing into a vector. The value's own is tied by the one that it comes out as.
 abbrev pub IntoVector : (SerializeError → Type 0) → SerializeError → Type 0
 IntoVector own f = (e : SerializeError) × own e × WithoutIo e f
 
+-- Why writing into a vector may be refused: its length, want of memory, or what is the value's own.
 abbrev pub VectorRefuses : ℕ → (SerializeError → Type 0) → SerializeError → Type 0
 VectorRefuses n own f = MayRefuse true n f ⊎ ((e : SerializeError) × own e × WithoutIo e f)
 
--- The refusals of a header whose contents octets are counted. The refusal of the count is tied by the one that it comes out as.
+-- The refusals of a header whose contents octets are counted.
+-- The refusal of the count is tied by the one that it comes out as.
 abbrev pub WrittenRefusal : (Error → Type 0) → SerializeError → Type 0
 WrittenRefusal own e = (f : Error) × own f × (e ≡ written_refusal f)

@@ -16,25 +16,35 @@ use Rattle.asn1_headers.specs.Ber.{max_depth}
 abbrev pub OfParts : {T E : Type 0} → (Parts → Result T E → Type 0) → Any → Result T E → Type 0
 OfParts gives any answer = gives (parts_of any) answer
 
--- What a reader may answer that reads an element, checks it and converts it: the value; or else the refusal of the element's first fault, that of the check, or that of the conversion, in this order.
-abbrev pub ElementGives : {T E : Type 0} → (List ℕ → Parts → Type 0) → (List ℕ → Fault → Type 0) → (Fault → Refusal Error) → (Parts → Result (Unit {0}) Error → Type 0) → (Any → Result T E → Type 0) → (Error → E → Type 0) → List ℕ → Result (List ℕ × T) (Refusal E) → Type 0
-ElementGives ElementOf FaultOf refusal check convert from input (Ok x) = (any : Any) × BeginsWithElement ElementOf input any x.0 × check (parts_of any) (Ok tt) × convert any (Ok x.1)
+-- What a reader may answer that reads an element, checks it and converts it: the value; or else the refusal of the
+-- element's first fault, that of the check, or that of the conversion, in this order.
+abbrev pub ElementGives : {T E : Type 0} → (List ℕ → Parts → Type 0) → (List ℕ → Fault → Type 0) →
+    (Fault → Refusal Error) → (Parts → Result (Unit {0}) Error → Type 0) → (Any → Result T E → Type 0) →
+    (Error → E → Type 0) → List ℕ → Result (List ℕ × T) (Refusal E) → Type 0
+ElementGives ElementOf FaultOf refusal check convert from input (Ok x) =
+    (any : Any) × BeginsWithElement ElementOf input any x.0 × check (parts_of any) (Ok tt) × convert any (Ok x.1)
 ElementGives {T} {E} ElementOf FaultOf refusal check convert from input (Err r) =
     ((fault : Fault) × FaultOf input fault × Converted from (refusal fault) r) ⊎
     ((any : Any) × (rest : List ℕ) × BeginsWithElement ElementOf input any rest ×
-    (((e : Error) × check (parts_of any) (Err e) × ((f : E) × from e f × (r ≡ refused f))) ⊎ (check (parts_of any) (Ok tt) × ((e : E) × convert any (Err e) × (r ≡ refused e)))))
+    (((e : Error) × check (parts_of any) (Err e) × ((f : E) × from e f × (r ≡ refused f))) ⊎
+    (check (parts_of any) (Ok tt) × ((e : E) × convert any (Err e) × (r ≡ refused e)))))
 
-abbrev pub DerGives : {T E : Type 0} → (Parts → Result (Unit {0}) Error → Type 0) → (Any → Result T E → Type 0) → (Error → E → Type 0) → List ℕ → Result (List ℕ × T) (Refusal E) → Type 0
+-- What reading by DER may answer, for a type with this check and this conversion.
+abbrev pub DerGives : {T E : Type 0} → (Parts → Result (Unit {0}) Error → Type 0) → (Any → Result T E → Type 0) →
+    (Error → E → Type 0) → List ℕ → Result (List ℕ × T) (Refusal E) → Type 0
 DerGives check convert from = ElementGives IsDerElement DerElementFault der_refusal check convert from
 
 -- a check that refuses nothing
 abbrev pub PassesAll : Parts → Result (Unit {0}) Error → Type 0
 PassesAll p answer = answer ≡ Ok tt
 
-abbrev pub BerGives : {T E : Type 0} → (Any → Result T E → Type 0) → (Error → E → Type 0) → List ℕ → Result (List ℕ × T) (Refusal E) → Type 0
+-- What reading by BER may answer, for a type with this conversion.
+abbrev pub BerGives : {T E : Type 0} → (Any → Result T E → Type 0) → (Error → E → Type 0) → List ℕ →
+    Result (List ℕ × T) (Refusal E) → Type 0
 BerGives convert from = ElementGives (IsElement max_depth) (ElementFault max_depth) ber_refusal PassesAll convert from
 
 -- the answer is that one, with a refusal made into one of another error type
-abbrev pub HasConverted : {T E : Type 0} → (Error → E → Type 0) → Result T (Refusal Error) → Result T (Refusal E) → Type 0
+abbrev pub HasConverted : {T E : Type 0} → (Error → E → Type 0) → Result T (Refusal Error) →
+    Result T (Refusal E) → Type 0
 HasConverted from answer (Ok x) = answer ≡ Ok x
 HasConverted from answer (Err r) = (q : Refusal Error) × (answer ≡ Err q) × Converted from q r

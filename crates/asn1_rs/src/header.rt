@@ -10,7 +10,8 @@ ghost use Rattle.asn1_headers.specs.Header.Reading.{HeaderGives, HeaderRefusalLa
 ghost use Rattle.asn1_headers.specs.Header.Writing.{parts_identifier, strict_header, kept_header};
 ghost use Rattle.asn1_headers.specs.Writer.{Wrote, MayRefuse, WriterState};
 ghost use Rattle.asn1_headers.specs.Error.{written_refusal, tells_of_io};
-ghost use Rattle.asn1_rs.specs.ToDer.{MayRefuseCount, Refuses, RefusesCount, VectorRefuses, Either, RefusedAtOnce, SumsCounts, plain_writing};
+ghost use Rattle.asn1_rs.specs.ToDer.{MayRefuseCount, Refuses, RefusesCount, VectorRefuses, Either, RefusedAtOnce};
+ghost use Rattle.asn1_rs.specs.ToDer.{SumsCounts, plain_writing};
 
 use crate::to_der::ToDer;
 use crate::traits::{DynTagged, FromBer, FromDer};

@@ -2,7 +2,8 @@
 ghost use Rattle.std.specs.Prelude.{◌≡◌, ℕ, false, List, length, Err, IfOk, IfErr, IsErr};
 ghost use Rattle.std.specs.Io.KnownBytes.{Appends};
 ghost use Rattle.asn1_headers.specs.Writer.{Wrote};
-ghost use Rattle.asn1_rs.specs.ToDer.{untold, Refuses, RefusesCount, VectorRefuses, IsRefusedAtOnce, RefusedAtOnce, Writing, whole_allocates, whole_octets, whole_refuses};
+ghost use Rattle.asn1_rs.specs.ToDer.{untold, Refuses, RefusesCount, VectorRefuses, IsRefusedAtOnce, RefusedAtOnce};
+ghost use Rattle.asn1_rs.specs.ToDer.{Writing, whole_allocates, whole_octets, whole_refuses};
 ghost use Rattle.asn1_headers.specs.Error.{vector_refusal, tells_of_io};
 ghost use Rattle.asn1_headers.specs.declared.error.SerializeError.{SerializeError};
 ghost use Rattle.asn1_headers.specs.declared.error.Error.{Error};

@@ -1,5 +1,5 @@
-//! A type of a caller's own, without what it tells in contracts and with a raw form of its own: read, checked and written
-//! alone and in a list.
+//! A type of a caller's own, without what it tells in contracts and with a raw form of its own:
+//! read, checked and written alone and in a list.
 
 use crate::calls::Library;
 use asn1_rs::{

@@ -7,8 +7,8 @@ use std::test::Fail;
 use test_rows::{Calls, assert_rows};
 
 /// Of X.509: attribute types (X.520, PKCS #9, RFC 4519), extensions and their values (RFC 5280), what PKIX names
-/// (RFC 5280, RFC 6960), and algorithms and curves (RFC 3279, RFC 3565, RFC 4055, RFC 5480, RFC 5754, RFC 5758, RFC 8017,
-/// RFC 8410).
+/// (RFC 5280, RFC 6960), and algorithms and curves (RFC 3279, RFC 3565, RFC 4055, RFC 5480, RFC 5754, RFC 5758,
+/// RFC 8017, RFC 8410).
 const X509: &str = "\
 Oid::from_der:
 0603550403 = 2.5.4.3

@@ -14,7 +14,8 @@ use test_rows::{Calls, assert_rows, assert_shown, push_debug, push_digits};
 use test_values::{assert_cut, assert_written, push_written};
 
 /// Elements as strings whose text is decoded: the text in UTF-8, and how it is written. The octets are those of UTF-16
-/// and UCS-4 (ISO/IEC 10646), the highest first (X.690 8.23.7, 8.23.8), and a primitive encoding is written (X.690 10.2).
+/// and UCS-4 (ISO/IEC 10646), the highest first (X.690 8.23.7, 8.23.8),
+/// and a primitive encoding is written (X.690 10.2).
 const DECODED: &str = "\
 BmpString::from_der:
 1e080055007300650072 = 55736572 rest - written 1e080055007300650072 count 10 8 raw 1e080055007300650072

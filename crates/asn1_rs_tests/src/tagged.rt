@@ -35,7 +35,8 @@ explicit 31 u8 from_der:
 bf1f03020105 = TaggedValue { inner: 5, marks: PhantomData<_> } rest - written bf1f03020105 count 6 3 raw bf1f03020105
 
 Vec of explicit 31 u8 from_der:
-3006bf1f03020105 = [TaggedValue { inner: 5, marks: PhantomData<_> }] rest - written 3006bf1f03020105 count 8 6 raw 3006bf1f03020105
+3006bf1f03020105 = [TaggedValue { inner: 5, marks: PhantomData<_> }] rest - written 3006bf1f03020105 count 8 6 \
+    raw 3006bf1f03020105
 
 explicit 0 u32 check_constraints:
 a003020102 = Ok(())

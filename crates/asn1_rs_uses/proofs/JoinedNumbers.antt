@@ -27,19 +27,26 @@ abbrev pub same : Error → Error → Type 0
 same e f = f ≡ e
 
 -- what collecting items answers, by what the law says of it
-module _ {T E : Type 0} (reads : List ℕ → Result (List ℕ × T) (Refusal E) → Type 0) (from : Error → E → Type 0) (content : List ℕ) where
-  pub when_taken : {A : Type 0} (P : List T → Type 0) → ((items : List T) → ItemsGive reads from content (Ok items) → P items) → (r : Result (Vec T A) E) → ItemsGive reads from content (listed r) → IfOk r (λ v. P v.items)
+module _ {T E : Type 0} (reads : List ℕ → Result (List ℕ × T) (Refusal E) → Type 0) (from : Error → E → Type 0)
+    (content : List ℕ) where
+  pub when_taken : {A : Type 0} (P : List T → Type 0) →
+      ((items : List T) → ItemsGive reads from content (Ok items) → P items) → (r : Result (Vec T A) E) →
+      ItemsGive reads from content (listed r) → IfOk r (λ v. P v.items)
   when_taken P law (Ok v) g = law v.items g
   when_taken P law (Err e) g = tt
 
-  pub when_refused : {A : Type 0} (P : E → Type 0) → ((e : E) → ItemsGive {T = T} reads from content (Err e) → P e) → (r : Result (Vec T A) E) → ItemsGive reads from content (listed r) → IfErr r P
+  pub when_refused : {A : Type 0} (P : E → Type 0) → ((e : E) → ItemsGive {T = T} reads from content (Err e) → P e) →
+      (r : Result (Vec T A) E) → ItemsGive reads from content (listed r) → IfErr r P
   when_refused P law (Ok v) g = tt
   when_refused P law (Err e) g = law e g
 
 -- a set of numbers that was read, by what the law says of the element
 pub set_begins : (reads : List ℕ → Result (List ℕ × ℕ) (Refusal Error) → Type 0) (octets : List ℕ) →
-    ((number : ℕ) (p : Parts) (list : SetOf ℕ) → IsOctets p.content → ListReads number HasItems reads same p (Ok list) → MadeOf (ListOf number NumberByDer) pos HasItems p list) →
-    (r : Result (List ℕ × SetOf ℕ) (Refusal Error)) → DerGives PassesAll (OfParts (ListReads 17 HasItems reads same)) same octets r → IfOk r (λ x. BeginsWithNumbers octets (items_of x.1) x.0)
+    ((number : ℕ) (p : Parts) (list : SetOf ℕ) → IsOctets p.content → ListReads number HasItems reads same p (Ok list) →
+    MadeOf (ListOf number NumberByDer) pos HasItems p list) →
+    (r : Result (List ℕ × SetOf ℕ) (Refusal Error)) →
+    DerGives PassesAll (OfParts (ListReads 17 HasItems reads same)) same octets r →
+    IfOk r (λ x. BeginsWithNumbers octets (items_of x.1) x.0)
 set_begins reads octets law (Err e) g = tt
 set_begins reads octets law (Ok x) g =
     let front = g.1.front in
@@ -50,7 +57,8 @@ set_begins reads octets law (Ok x) g =
       element = front.fits;
       is = front.is;
       set = made.2.number_is;
-      joined = subst (λ (xs : List ℕ). IsJoined NumberByDer (parts_of g.0).content (map pos xs)) (sym made.1) made.2.items;
+      joined =
+          subst (λ (xs : List ℕ). IsJoined NumberByDer (parts_of g.0).content (map pos xs)) (sym made.1) made.2.items;
     }
 
 -- a refusal that is made of another cause
@@ -58,21 +66,29 @@ other_cause : (e : Error) → IsOther same e → e ≢ errors.OutOfMemory
 other_cause e (inl o) = λ m. o.1 (sym o.2 ∙ m)
 other_cause e (inr o) = o
 
-pub no_memory : {A : Type 0} (answer : Result A (Refusal Error)) → IfErr answer (HeldIn (IsOther same)) → IfErr answer (HeldIn (λ e. e ≢ errors.OutOfMemory))
+pub no_memory : {A : Type 0} (answer : Result A (Refusal Error)) → IfErr answer (HeldIn (IsOther same)) →
+    IfErr answer (HeldIn (λ e. e ≢ errors.OutOfMemory))
 no_memory (Ok x) h = tt
 no_memory (Err (cut n)) h = tt
 no_memory (Err (refused e)) h = other_cause e h
 no_memory (Err (failed e)) h = other_cause e h
 
 -- the one refusal of a call of `next`
-pub no_memory_next : {S T : Type 0} (steps : S → Option (Result T Error) → S → Type 0) (s t : S) (e : Error) → steps s (Some (Err e)) t →
-    ((answers : List (Result T Error)) → Yields steps s answers t → All (λ answer. IfErr answer (IsOther same)) answers) → e ≢ errors.OutOfMemory
-no_memory_next {S} {T} steps s t e step law = other_cause e (All-head (λ (answer : Result T Error). IfErr answer (IsOther same)) (Err e) [] (law (Err e ∷ []) (t, step, refl)))
+pub no_memory_next : {S T : Type 0} (steps : S → Option (Result T Error) → S → Type 0) (s t : S) (e : Error) →
+    steps s (Some (Err e)) t →
+    ((answers : List (Result T Error)) → Yields steps s answers t →
+    All (λ answer. IfErr answer (IsOther same)) answers) → e ≢ errors.OutOfMemory
+no_memory_next {S} {T} steps s t e step law = other_cause e
+    (All-head (λ (answer : Result T Error). IfErr answer (IsOther same)) (Err e) [] (law (Err e ∷ []) (t, step, refl)))
 
 -- where no memory is taken, no word begins what is left
-pub no_word : {V : Type 0} (G : List ℕ → V → Type 0) (content : List ℕ) (values : List V) (e : Error) → EndsJoined G (TellsNoWord G (IsMemory false same)) content values e → EndsBefore G content e
+pub no_word : {V : Type 0} (G : List ℕ → V → Type 0) (content : List ℕ) (values : List V) (e : Error) →
+    EndsJoined G (TellsNoWord G (IsMemory false same)) content values e → EndsBefore G content e
 no_word G content values e j =
     elim j.tells [
       | inl m ↦ (let untold = m.0 in cc)
-      | inr none ↦ (values, record { front = j.front; others = j.others; is = j.is; joined = j.joined; some = j.some; tells = none })
+      | inr none ↦ (
+        values,
+        record { front = j.front; others = j.others; is = j.is; joined = j.joined; some = j.some; tells = none },
+      )
     ]

@@ -16,8 +16,10 @@ no_octets [] b f e = refl
 no_octets (x ∷ xs) b f e = let k : suc (length xs) ≡ 0 = grind (arith, nat_tests) in absurd (omega arith)
 
 -- the parts of an element that is a sequence
-pub three_parts : (any : Any) (m : Message) (content after later left : List ℕ) (b : Bool) → any.header.tag ≡ record { 0 = 16 } → content ≡ any.content.now →
-    Front ShortNumber content (pos m.version) after → Front AnyElement after (element_of m.community) later → Front ShortNumbers later (map pos m.numbers.items) left →
+pub three_parts : (any : Any) (m : Message) (content after later left : List ℕ) (b : Bool) →
+    any.header.tag ≡ record { 0 = 16 } → content ≡ any.content.now →
+    Front ShortNumber content (pos m.version) after → Front AnyElement after (element_of m.community) later →
+    Front ShortNumbers later (map pos m.numbers.items) left →
     b ≡ true → b ≡ (length left == 0) → IsMessage (parts_of any) m
 three_parts any m content after later left b tag same f g h t e =
     let ends : later ≡ h.word = h.is ∙ ap (λ (o : List ℕ). h.word ++ o) (no_octets left b t e) ∙ append-nil h.word in
@@ -33,7 +35,8 @@ three_parts any m content after later left b tag same f g h t e =
     }
 
 -- an element that was read has the same number and the same contents octets as the word that it was read from
-pub message_begins : (octets rest : List ℕ) (any : Any) (m : Message) → Front AnyElement octets (element_of any) rest → IsMessage (parts_of any) m → BeginsWithMessage octets m rest
+pub message_begins : (octets rest : List ℕ) (any : Any) (m : Message) → Front AnyElement octets (element_of any) rest →
+    IsMessage (parts_of any) m → BeginsWithMessage octets m rest
 message_begins octets rest any m f s = record {
   word = f.word;
   parts = f.fits.0;

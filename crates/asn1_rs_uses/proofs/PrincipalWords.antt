@@ -40,11 +40,13 @@ pub lists_lawful : IsLawfulItem lists
 lists_lawful = list_lawful 16 (lit< tt) (λ xs. xs) strings strings_lawful
 
 -- and these under the explicit, context-specific tag of this number
-pub under_lawful : {S : Type 0} (number : ℕ) (G : ItemGrammar S) → IsLawfulItem G → IsLawfulItem (explicit_grammar 2 number (λ (x : S). x) G)
+pub under_lawful : {S : Type 0} (number : ℕ) (G : ItemGrammar S) → IsLawfulItem G →
+    IsLawfulItem (explicit_grammar 2 number (λ (x : S). x) G)
 under_lawful {S} number G l = explicit_lawful 2 number (λ (x : S). x) G l
 
 -- what follows the one word at the front is what follows any
-pub same_rest : {V : Type 0} (G : List ℕ → V → Type 0) → IsOneFront G → (input word after rest : List ℕ) (v w : V) → Front G input v after → G word w → input ≡ word ++ rest → after ≡ rest
+pub same_rest : {V : Type 0} (G : List ℕ → V → Type 0) → IsOneFront G → (input word after rest : List ℕ) (v w : V) →
+    Front G input v after → G word w → input ≡ word ++ rest → after ≡ rest
 same_rest G one input word after rest v w f g e =
     let same : (f.word ≡ word) × (v ≡ w) = one.one f.word word after rest v w f.fits g (sym f.is ∙ e) in
     append_cancel_left word after rest (ap (λ (z : List ℕ). z ++ after) (sym same.0) ∙ sym f.is ∙ e)

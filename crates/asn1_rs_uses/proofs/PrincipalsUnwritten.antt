@@ -1,5 +1,6 @@
 -- Why a principal is not written.
-use Rattle.std.proofs.Common.{arith, ◌≡◌, ◌+◌, ◌≤◌, ◌⊎◌, ap, refl, inl, inr, ℕ, Bool, true, List, [], ◌++◌, length, length-append, Option, None, Some}
+use Rattle.std.proofs.Common.{arith, ◌≡◌, ◌+◌, ◌≤◌, ◌⊎◌, ap, refl, inl, inr, ℕ, Bool, true, List, [], ◌++◌, length}
+use Rattle.std.proofs.Common.{length-append, Option, None, Some}
 use Rattle.std.specs.List.{flat_map}
 use Rattle.x690.specs.Octets.{IsOctets}
 use Rattle.x690.specs.Strict.{header_octets}
@@ -28,12 +29,14 @@ may_more a n m (serialize_errors.IOError e) le p = tt
 may_more a n m serialize_errors.OutOfMemory le p = refl
 
 -- a part that has no refusal of its own is refused as the whole may be
-pub part_refused : (a : Bool) (n m : ℕ) (e : SerializeError) {own : Type 0} → n ≤ m → (own → ⊥) → MayRefuse a n e ⊎ own → MayRefuse true m e
+pub part_refused : (a : Bool) (n m : ℕ) (e : SerializeError) {own : Type 0} → n ≤ m → (own → ⊥) →
+    MayRefuse a n e ⊎ own → MayRefuse true m e
 part_refused a n m e le none (inl p) = may_more a n m e le p
 part_refused a n m e le none (inr o) = absurd (none o)
 
 -- a part has no refusal of its own, where its header and its contents octets have none
-pub part_writable : {Counted : Type 0} (heading filling : SerializeError → Type 0) → Counted × HasNone heading × HasNone filling → HasNone (Either heading filling)
+pub part_writable : {Counted : Type 0} (heading filling : SerializeError → Type 0) →
+    Counted × HasNone heading × HasNone filling → HasNone (Either heading filling)
 part_writable heading filling none e (inl o) = none.1 e o
 part_writable heading filling none e (inr o) = none.2 e o
 
@@ -42,7 +45,10 @@ pub each_held : (P : Realm → Type 0) → ((t : Realm) → P t) → (r : Option
 each_held P each None = tt
 each_held P each (Some t) = each t
 
-pub none_held : (heading filling : Realm → SerializeError → Type 0) (r : Option Realm) → IfHeld (λ t. IsOctets (octets_of t.inner)) r → ((t : Realm) → IsOctets (octets_of t.inner) → HasNone (Either (heading t) (filling t))) → HasNone (Either (HeldRefuses heading r) (HeldRefuses filling r))
+pub none_held : (heading filling : Realm → SerializeError → Type 0) (r : Option Realm) →
+    IfHeld (λ t. IsOctets (octets_of t.inner)) r →
+    ((t : Realm) → IsOctets (octets_of t.inner) → HasNone (Either (heading t) (filling t))) →
+    HasNone (Either (HeldRefuses heading r) (HeldRefuses filling r))
 none_held heading filling None h none e (inl o) = o
 none_held heading filling None h none e (inr o) = o
 none_held heading filling (Some t) h none e o = none t h e o
@@ -59,7 +65,12 @@ module _ (x : Principal) where
   Third = or_nothing (λ (t : Realm). under_tag 2 (string_element t.inner)) x.realm
 
   whole : length First + length Second + length Third ≤ length (principal_octets x)
-  whole = omega (arith, length-append (header_octets 0 true 16 (length (First ++ Second ++ Third))) (First ++ Second ++ Third), length-append (First ++ Second) Third, length-append First Second)
+  whole = omega (
+    arith,
+    length-append (header_octets 0 true 16 (length (First ++ Second ++ Third))) (First ++ Second ++ Third),
+    length-append (First ++ Second) Third,
+    length-append First Second,
+  )
 
   pub kind_within : length First ≤ length (principal_octets x)
   kind_within = omega (arith, whole)
@@ -67,9 +78,12 @@ module _ (x : Principal) where
   pub names_within : length Second ≤ length (principal_octets x)
   names_within = omega (arith, whole)
 
-  pub realm_within : length (held_or [] (λ (t : Realm). header_octets 2 true 2 (length (string_element t.inner))) x.realm ++ held_or [] (λ (t : Realm). string_element t.inner) x.realm) ≤ length (principal_octets x)
+  pub realm_within : length (held_or [] (λ (t : Realm). header_octets 2 true 2 (length (string_element t.inner)))
+      x.realm ++ held_or [] (λ (t : Realm). string_element t.inner) x.realm) ≤ length (principal_octets x)
   realm_within = omega (arith, whole, ap length (same x.realm))
     where
-      same : (r : Option Realm) → held_or [] (λ (t : Realm). header_octets 2 true 2 (length (string_element t.inner))) r ++ held_or [] (λ (t : Realm). string_element t.inner) r ≡ or_nothing (λ (t : Realm). under_tag 2 (string_element t.inner)) r
+      same : (r : Option Realm) →
+          held_or [] (λ (t : Realm). header_octets 2 true 2 (length (string_element t.inner))) r ++ held_or []
+          (λ (t : Realm). string_element t.inner) r ≡ or_nothing (λ (t : Realm). under_tag 2 (string_element t.inner)) r
       same None = refl
       same (Some t) = refl

@@ -15,17 +15,25 @@ use Rattle.asn1_rs_uses.specs.Principals.{StringByDer}
 use Rattle.asn1_rs_uses.specs.TaggedOctets.{BeginsUnderNumber}
 
 -- a string that was read under an explicit tag of the number
-pub string_found : {K T : Type 0} (value : T → List ℕ) (number : Tag) (n : ℕ) (reads : List ℕ → Result (List ℕ × T) (Refusal Error) → Type 0) → number.0 ≡ n → ((o left : List ℕ) (x : T) → IsOctets o → reads o (Ok (left, x)) → Front StringByDer o (value x) left)
-    → (octets : List ℕ) (answer : Result (List ℕ × TaggedParser K T Error) (Refusal Error)) → Expects (ThenByDer (λ e f. f ≡ e) (TakesExplicit reads)) (HasNumber number) (λ e f. f ≡ e) octets answer
+pub string_found : {K T : Type 0} (value : T → List ℕ) (number : Tag) (n : ℕ)
+    (reads : List ℕ → Result (List ℕ × T) (Refusal Error) → Type 0) → number.0 ≡ n →
+    ((o left : List ℕ) (x : T) → IsOctets o → reads o (Ok (left, x)) → Front StringByDer o (value x) left)
+    → (octets : List ℕ) (answer : Result (List ℕ × TaggedParser K T Error) (Refusal Error)) →
+    Expects (ThenByDer (λ e f. f ≡ e) (TakesExplicit reads)) (HasNumber number) (λ e f. f ≡ e) octets answer
     → IfOk answer (λ x. BeginsUnderNumber n octets (value x.1.inner) x.0)
 string_found value number n reads is front octets (Err e) gives = tt
-string_found {K} {T} value number n reads is front octets (Ok (rest, parser)) (after, read, (any, tail, begins, (ends, head, (left, r))), (asks, same_rest, same)) = (
-  parts_of any,
-  record {
-    word = begins.front.word;
-    element = begins.front.fits;
-    is = begins.front.is ∙ ap (λ (o : List ℕ). begins.front.word ++ o) (sym (same_rest ∙ ends));
-    number_is = ap (λ (z : Tag). z.0) (ap tag_of (sym head) ∙ asks) ∙ is;
-  },
-  (left, subst (λ (p : TaggedParser K T Error). Front StringByDer any.content.now (value p.inner) left) (sym same) (front any.content.now left read.inner begins.front.fits.content_octets r)),
-)
+string_found {K} {T} value number n reads is front octets (Ok (rest, parser))
+    (after, read, (any, tail, begins, (ends, head, (left, r))), (asks, same_rest, same)) = (
+      parts_of any,
+      record {
+        word = begins.front.word;
+        element = begins.front.fits;
+        is = begins.front.is ∙ ap (λ (o : List ℕ). begins.front.word ++ o) (sym (same_rest ∙ ends));
+        number_is = ap (λ (z : Tag). z.0) (ap tag_of (sym head) ∙ asks) ∙ is;
+      },
+      (
+        left,
+        subst (λ (p : TaggedParser K T Error). Front StringByDer any.content.now (value p.inner) left) (sym same)
+            (front any.content.now left read.inner begins.front.fits.content_octets r),
+      ),
+    )

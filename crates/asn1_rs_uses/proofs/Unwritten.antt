@@ -1,5 +1,6 @@
 -- Values that are not written.
-use Rattle.std.proofs.Common.{◌≡◌, ◌<◌, ◌^◌, ◌∙◌, ap, refl, inl, inr, ℕ, Bool, false, true, List, [], ◌∷◌, ◌++◌, length, Result, Ok, Err, IfErr, arith, lit≤}
+use Rattle.std.proofs.Common.{◌≡◌, ◌<◌, ◌^◌, ◌∙◌, ap, refl, inl, inr, ℕ, Bool, false, true, List, [], ◌∷◌, ◌++◌, length}
+use Rattle.std.proofs.Common.{Result, Ok, Err, IfErr, arith, lit≤}
 use Rattle.std.specs.Prelude.{None, ◌⊎◌, IsErr, IsErrAnd, codes}
 use Rattle.x690.specs.Strict.{header_octets, identifier_octets, length_octets}
 use Rattle.asn1_headers.specs.declared.class.Class.{Class}
@@ -19,12 +20,19 @@ use Rattle.asn1_headers.specs.Error.{vector_refusal, tells_of_io}
 use Rattle.asn1_headers.specs.Laws.Message.{short_message}
 use Rattle.asn1_rs_uses.specs.declared.refusals.InClass.{InClass}
 use Rattle.asn1_rs_uses.specs.declared.refusals.NamePart.{NamePart}
-use Rattle.asn1_rs_uses.specs.Refusals.{NamesNoClass, TellsOfNoClass, SomeInNoClass, AsAnyWriting, TellsOfEmptyPart, IsEmptyPart, WrittenEmptyPart, IsMemoryOrLength, SomeEmpty}
+use Rattle.asn1_rs_uses.specs.Refusals.{NamesNoClass, TellsOfNoClass, SomeInNoClass, AsAnyWriting, TellsOfEmptyPart}
+use Rattle.asn1_rs_uses.specs.Refusals.{IsEmptyPart, WrittenEmptyPart, IsMemoryOrLength, SomeEmpty}
 
 -- the header of an element of one octet, with tag number 0
-pub header_of_one : (h : Header) (class : Class) (n : ℕ) → n ≡ class_number class → HasParts h class false (record { 0 = 0 }) (Definite 1) None → strict_header h ≡ header_octets n false 0 1
+pub header_of_one : (h : Header) (class : Class) (n : ℕ) → n ≡ class_number class →
+    HasParts h class false (record { 0 = 0 }) (Definite 1) None → strict_header h ≡ header_octets n false 0 1
 unfolding header_octets
-header_of_one h class n e p = let is = p.class_is in let of = p.constructed_is in let tag = p.tag_is in let form = p.length_is in rw (e, is, of, tag, form) refl
+header_of_one h class n e p =
+    let is = p.class_is in
+    let of = p.constructed_is in
+    let tag = p.tag_is in
+    let form = p.length_is in
+    rw (e, is, of, tag, form) refl
 
 -- Of few octets, where no memory is allocated, the writer's failure is the only refusal.
 few_may : (n m : ℕ) → n < 2 ^ 64 → (e : SerializeError) → MayRefuse false n e → MayRefuse false m e
@@ -34,7 +42,8 @@ few_may n m few serialize_errors.InvalidLength p = absurd (omega arith)
 few_may n m few (serialize_errors.IOError e) p = tt
 few_may n m few serialize_errors.OutOfMemory p = p
 
-pub few_refused : (n m : ℕ) (own : SerializeError → Type 0) (r : Result ℕ SerializeError) → n < 2 ^ 64 → IfErr r (Refuses false n (λ e. ⊥)) → IfErr r (Refuses false m own)
+pub few_refused : (n m : ℕ) (own : SerializeError → Type 0) (r : Result ℕ SerializeError) → n < 2 ^ 64 →
+    IfErr r (Refuses false n (λ e. ⊥)) → IfErr r (Refuses false m own)
 few_refused n m own (Ok k) few p = tt
 few_refused n m own (Err e) few p = elim p [ inl may ↦ inl (few_may n m few e may) | inr none ↦ absurd none ]
 
@@ -48,11 +57,18 @@ unfolding header_octets identifier_octets length_octets
 three_octets n o = refl
 
 -- an item of no class is refused with the class
-pub names_some : (xs : List InClass) → SomeInNoClass xs → (e : SerializeError) × SomeRefuses (λ x. Either (NamesNoClass x.class) (NamesNoClass x.class)) xs e × SomeRefuses (λ x. IntoVector (Either (NamesNoClass x.class) (NamesNoClass x.class))) xs e
-names_some xs (k, x, lt, at, h) = let e = serialize_errors.InvalidClass x.class in (e, (k, x, lt, at, inl (h, refl)), (k, x, lt, at, (e, inl (h, refl), refl)))
+pub names_some : (xs : List InClass) → SomeInNoClass xs →
+    (e : SerializeError) × SomeRefuses (λ x. Either (NamesNoClass x.class) (NamesNoClass x.class)) xs e ×
+    SomeRefuses (λ x. IntoVector (Either (NamesNoClass x.class) (NamesNoClass x.class))) xs e
+names_some xs (k, x, lt, at, h) =
+    let e = serialize_errors.InvalidClass x.class in
+    (e, (k, x, lt, at, inl (h, refl)), (k, x, lt, at, (e, inl (h, refl), refl)))
 
 -- a list is refused as any writing, or with the class of an item
-pub list_refused : (n : ℕ) (xs : List InClass) (r : Result ℕ SerializeError) → IfErr r (Refuses true n (Either (WrittenRefusal (SomeRefuses (λ (x : InClass) e. ⊥) xs)) (SomeRefuses (λ x. Either (NamesNoClass x.class) (NamesNoClass x.class)) xs))) → IfErr r (λ e. MayRefuse true n e ⊎ TellsOfNoClass xs e)
+pub list_refused : (n : ℕ) (xs : List InClass) (r : Result ℕ SerializeError) →
+    IfErr r (Refuses true n (Either (WrittenRefusal (SomeRefuses (λ (x : InClass) e. ⊥) xs))
+    (SomeRefuses (λ x. Either (NamesNoClass x.class) (NamesNoClass x.class)) xs))) →
+    IfErr r (λ e. MayRefuse true n e ⊎ TellsOfNoClass xs e)
 list_refused n xs (Ok k) why = tt
 list_refused n xs (Err e) (inl may) = inl may
 list_refused n xs (Err e) (inr (inl (f, (k, x, lt, at, none), is))) = absurd none
@@ -66,7 +82,10 @@ may_as_any takes n (serialize_errors.IOError e) p = tt
 may_as_any takes n serialize_errors.OutOfMemory p = tt
 
 -- and so is a set, where memory may be wanted first
-pub set_refused : (takes : Bool) (n : ℕ) (xs : List InClass) (r : Result ℕ SerializeError) → IfErr r (Refuses takes n (Either (WrittenRefusal (SomeRefuses (λ (x : InClass) e. ⊥) xs)) (SomeRefuses (λ x. IntoVector (Either (NamesNoClass x.class) (NamesNoClass x.class))) xs))) → IfErr r (λ e. AsAnyWriting e ⊎ TellsOfNoClass xs e)
+pub set_refused : (takes : Bool) (n : ℕ) (xs : List InClass) (r : Result ℕ SerializeError) →
+    IfErr r (Refuses takes n (Either (WrittenRefusal (SomeRefuses (λ (x : InClass) e. ⊥) xs))
+    (SomeRefuses (λ x. IntoVector (Either (NamesNoClass x.class) (NamesNoClass x.class))) xs))) →
+    IfErr r (λ e. AsAnyWriting e ⊎ TellsOfNoClass xs e)
 set_refused takes n xs (Ok k) why = tt
 set_refused takes n xs (Err e) (inl may) = inl (may_as_any takes n e may)
 set_refused takes n xs (Err e) (inr (inl (f, (k, x, lt, at, none), is))) = absurd none
@@ -75,14 +94,17 @@ set_refused takes n xs (Err e) (inr (inr (k, x, lt, at, (f, own, is)))) =
     inr (k, x, lt, at, (named.0, is ∙ ap vector_refusal named.1))
 
 -- an empty part has a refusal
-pub empty_part : (parts : List NamePart) → SomeEmpty parts → (e : Error) × SomeRefuses (λ p. IsEmptyPart p.0.now) parts e × TellsOfEmptyPart e
+pub empty_part : (parts : List NamePart) → SomeEmpty parts →
+    (e : Error) × SomeRefuses (λ p. IsEmptyPart p.0.now) parts e × TellsOfEmptyPart e
 empty_part parts (k, p, lt, at, empty) =
     let text = short_message (codes "empty part") (lit≤ tt) refl in
     let e = errors.InvalidValue (record { 0 = 12 }) text.0 in
     (e, (k, p, lt, at, (empty, (refl, text.1))), (refl, text.1))
 
 -- a name with an empty part is not counted
-pub name_uncounted : (n : ℕ) (parts : List NamePart) (r : Result ℕ Error) → IsErr r → IfErr r (RefusesCount false n (SomeRefuses (λ p. IsEmptyPart p.0.now) parts)) → IsErrAnd r (λ e. TellsOfEmptyPart e ⊎ (e ≡ errors.InvalidLength))
+pub name_uncounted : (n : ℕ) (parts : List NamePart) (r : Result ℕ Error) → IsErr r →
+    IfErr r (RefusesCount false n (SomeRefuses (λ p. IsEmptyPart p.0.now) parts)) →
+    IsErrAnd r (λ e. TellsOfEmptyPart e ⊎ (e ≡ errors.InvalidLength))
 name_uncounted n parts (Ok k) refused why = cc
 name_uncounted n parts (Err e) refused (inr (k, p, lt, at, own)) = inl own.1
 name_uncounted n parts (Err errors.InvalidLength) refused (inl may) = inr refl
@@ -101,16 +123,25 @@ may_at_once n serialize_errors.InvalidLength p h = inr refl
 may_at_once n (serialize_errors.IOError e) p h = cc
 may_at_once n serialize_errors.OutOfMemory p h = inl refl
 
-own_unwritten : (parts : List NamePart) (e : SerializeError) → Either (WrittenRefusal (SomeRefuses (λ p. IsEmptyPart p.0.now) parts)) (SomeRefuses (λ p. Either (WrittenRefusal (IsEmptyPart p.0.now)) (WrittenRefusal (IsEmptyPart p.0.now))) parts) e → WrittenEmptyPart e
+own_unwritten : (parts : List NamePart) (e : SerializeError) →
+    Either (WrittenRefusal (SomeRefuses (λ p. IsEmptyPart p.0.now) parts))
+    (SomeRefuses (λ p. Either (WrittenRefusal (IsEmptyPart p.0.now)) (WrittenRefusal (IsEmptyPart p.0.now))) parts) e →
+    WrittenEmptyPart e
 own_unwritten parts e (inl (f, (k, p, lt, at, own), is)) = written_empty p.0.now e (f, own, is)
-own_unwritten parts e (inr (k, p, lt, at, own)) = written_empty p.0.now e (either_same (WrittenRefusal (IsEmptyPart p.0.now)) e own)
+own_unwritten parts e (inr (k, p, lt, at, own)) =
+    written_empty p.0.now e (either_same (WrittenRefusal (IsEmptyPart p.0.now)) e own)
 
-pub name_unwritten : (n : ℕ) (parts : List NamePart) (old new : WriterState) (r : Result ℕ SerializeError) → IsRefusedAtOnce true n (Either (WrittenRefusal (SomeRefuses (λ p. IsEmptyPart p.0.now) parts)) (SomeRefuses (λ p. Either (WrittenRefusal (IsEmptyPart p.0.now)) (WrittenRefusal (IsEmptyPart p.0.now))) parts)) old new r → IsErrAnd r (λ e. WrittenEmptyPart e ⊎ IsMemoryOrLength e) × (new ≡ old)
+pub name_unwritten : (n : ℕ) (parts : List NamePart) (old new : WriterState) (r : Result ℕ SerializeError) →
+    IsRefusedAtOnce true n (Either (WrittenRefusal (SomeRefuses (λ p. IsEmptyPart p.0.now) parts))
+    (SomeRefuses (λ p. Either (WrittenRefusal (IsEmptyPart p.0.now)) (WrittenRefusal (IsEmptyPart p.0.now))) parts)) old
+    new r → IsErrAnd r (λ e. WrittenEmptyPart e ⊎ IsMemoryOrLength e) × (new ≡ old)
 name_unwritten n parts old new r (e, why, at) =
-    let telling : WrittenEmptyPart e ⊎ IsMemoryOrLength e = elim why [ inl may ↦ inr (may_at_once n e may.0 may.1) | inr own ↦ inl (own_unwritten parts e own) ] in
+    let telling : WrittenEmptyPart e ⊎ IsMemoryOrLength e =
+    elim why [ inl may ↦ inr (may_at_once n e may.0 may.1) | inr own ↦ inl (own_unwritten parts e own) ] in
     (rw at.refused telling, at.kept)
 
 -- so few octets has the header of an element of one
-pub two_octets : (h : Header) (class : Class) (n : ℕ) → n ≡ class_number class → HasParts h class false (record { 0 = 0 }) (Definite 1) None → length (strict_header h ++ []) ≡ 2
+pub two_octets : (h : Header) (class : Class) (n : ℕ) → n ≡ class_number class →
+    HasParts h class false (record { 0 = 0 }) (Definite 1) None → length (strict_header h ++ []) ≡ 2
 unfolding header_octets identifier_octets length_octets
 two_octets h class n e p = rw (header_of_one h class n e p) refl

@@ -13,8 +13,8 @@ NoWord G octets e = NoFront G octets
 abbrev pub EndsBefore : {V E : Type 0} → (List ℕ → V → Type 0) → List ℕ → E → Type 0
 EndsBefore {V} G octets e = (values : List V) × EndsJoined G (NoWord G) octets values e
 
--- a set of numbers begins the octets, and the rest follows: its contents octets are the words of these numbers, joined in
--- their order
+-- a set of numbers begins the octets, and the rest follows:
+-- its contents octets are the words of these numbers, joined in their order
 pub record BeginsWithNumbers (octets numbers rest : List ℕ) : Type 0 where
   pub word : List ℕ
   pub parts : Parts

@@ -22,21 +22,27 @@ use Rattle.asn1_rs_uses.specs.Principals.{under_tag, or_nothing, string_element}
 abbrev pub Label : Type 0
 Label = TaggedValue OctetString Error Explicit 2 1
 
+-- octets under the implicit tag 27 of the universal class
 abbrev pub GeneralString : Type 0
 GeneralString = TaggedValue OctetString Error Implicit 0 27
 
+-- a list of these under the explicit tag 0
 abbrev pub Labels : Type 0
 Labels = TaggedValue (Vec GeneralString Global) Error Explicit 2 0
 
+-- an octet string with the header of its explicit tag
 abbrev pub Headed : Type 0
 Headed = TaggedParser Explicit OctetString Error
 
+-- what is written for a label that may be left out
 abbrev pub label_octets : Option Label → List ℕ
 label_octets = or_nothing (λ t. under_tag 1 (string_element t.inner))
 
+-- what is written for one of the list
 abbrev pub general_string_octets : GeneralString → List ℕ
 general_string_octets t = header_octets 0 false 27 (length (octets_of t.inner)) ++ octets_of t.inner
 
+-- what is written for the list under its tag
 abbrev pub labels_octets : Labels → List ℕ
 labels_octets t = under_tag 0 (in_sequence (flat_map general_string_octets t.inner.items))
 

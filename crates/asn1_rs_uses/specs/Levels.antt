@@ -21,9 +21,11 @@ abbrev pub RefusedAs : {T E : Type 0} → (Error → E) → (Any → Result T Er
 RefusedAs own converts any (Ok x) = converts any (Ok x)
 RefusedAs own converts any (Err r) = (e : Error) × converts any (Err e) × (r ≡ own e)
 
-module _ {T E : Type 0} (own : Error → E) (converts : Any → Result T Error → Type 0) (G : ElementGrammar T) (exact : IsExactConversion converts G) where
+module _ {T E : Type 0} (own : Error → E) (converts : Any → Result T Error → Type 0) (G : ElementGrammar T)
+    (exact : IsExactConversion converts G) where
   -- such a conversion is as exact as the library's
-  pub refused_as_takes : (any : Any) (answer : Result T E) → IsOctets any.content.now → RefusedAs own converts any answer → TakesBody G.Body G.value G.allocates (λ x y. y ≡ own x) (parts_of any) answer
+  pub refused_as_takes : (any : Any) (answer : Result T E) → IsOctets any.content.now →
+      RefusedAs own converts any answer → TakesBody G.Body G.value G.allocates (λ x y. y ≡ own x) (parts_of any) answer
   refused_as_takes any (Ok x) o h = exact.exact any (Ok x) o h
   refused_as_takes any (Err r) o (e, c, is) =
       elim (exact.exact any (Err e) o c) [
@@ -32,9 +34,12 @@ module _ {T E : Type 0} (own : Error → E) (converts : Any → Result T Error �
       ]
 
   -- and reports out of memory where that does
-  pub refused_as_spares : G.allocates ≡ false → (any : Any) (r : E) → RefusedAs own converts any (Err r) → IsOther (λ x y. y ≡ own x) r
-  refused_as_spares none any r (e, c, is) = inl (e, λ q. exact.spares none any (subst (λ (x : Error). converts any (Err x)) q c), is)
+  pub refused_as_spares : G.allocates ≡ false → (any : Any) (r : E) → RefusedAs own converts any (Err r) →
+      IsOther (λ x y. y ≡ own x) r
+  refused_as_spares none any r (e, c, is) =
+      inl (e, λ q. exact.spares none any (subst (λ (x : Error). converts any (Err x)) q c), is)
 
+-- the number that a level is
 abbrev pub level_number : Level → ℕ
 level_number x = x.0
 
@@ -46,6 +51,7 @@ level_element = holding level_number (integer_element pos (IsUnsigned 1))
 abbrev pub LevelConverts : Any → Result Level Error → Type 0
 LevelConverts = HoldingGives level_number (OfParts (UnsignedGives 1))
 
+-- The conversion to a level is exact.
 pub level_converts : IsExactConversion LevelConverts level_element
 level_converts = holding_converts level_number _ _ (unsigned_converts 1)
 

@@ -18,9 +18,11 @@ use Rattle.asn1_rs_uses.specs.declared.message.Message.{Message}
 abbrev pub ShortNumber : List ℕ → ℤ → Type 0
 ShortNumber = DerWord IntegerCheck (IntegerBody (IsUnsigned 4))
 
+-- an element of any type, by DER
 abbrev pub AnyElement : List ℕ → ElementValue → Type 0
 AnyElement = DerWord ElementCheck ElementBody
 
+-- a sequence of short numbers, by DER
 abbrev pub ShortNumbers : List ℕ → List ℤ → Type 0
 ShortNumbers = DerWord NoCheck (ListOf 16 ShortNumber)
 
@@ -47,16 +49,19 @@ pub record BeginsWithMessage (octets : List ℕ) (m : Message) (rest : List ℕ)
 abbrev pub number_octets : ℕ → List ℕ
 number_octets n = header_octets 0 false 2 (length (unsigned_octets n)) ++ unsigned_octets n
 
+-- the strict encoding of a sequence with these contents octets
 abbrev pub in_sequence : List ℕ → List ℕ
 in_sequence content = header_octets 0 true 16 (length content) ++ content
 
+-- the strict encoding of a sequence of numbers
 abbrev pub numbers_octets : List ℕ → List ℕ
 numbers_octets numbers = in_sequence (flat_map number_octets numbers)
 
 -- what is written for a message
 abbrev pub message_octets : Message → List ℕ
 message_octets m =
-    in_sequence (number_octets m.version ++ (element_header m.community ++ m.community.content.now) ++ numbers_octets m.numbers.items)
+    in_sequence (number_octets m.version ++ (element_header m.community ++ m.community.content.now) ++
+    numbers_octets m.numbers.items)
 
 -- reading numbers allocates, and out of memory may be reported
 abbrev pub WantsMemory : Refusal Error → Type 0

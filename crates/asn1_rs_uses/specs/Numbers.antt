@@ -11,6 +11,7 @@ use Rattle.asn1_rs.specs.Integer.{IntegerBody, IntegerCheck, IntegerForm, IsUnsi
 abbrev pub NumberByBer : List ℕ → ℤ → Type 0
 NumberByBer = BerWord (IntegerBody (IsUnsigned 8))
 
+-- a number of eight octets at most, by DER
 abbrev pub NumberByDer : List ℕ → ℤ → Type 0
 NumberByDer = DerWord IntegerCheck (IntegerBody (IsUnsigned 8))
 

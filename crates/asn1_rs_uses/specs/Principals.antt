@@ -1,5 +1,6 @@
 -- Names of principals: a number, octet strings, and a realm that may be left out, each under a tag, in a sequence.
-use Rattle.std.specs.Prelude.{◌≡◌, ◌⊎◌, ℕ, ℤ, List, [], ◌++◌, length, map, true, false, Option, None, Some, Result, MatchResult}
+use Rattle.std.specs.Prelude.{◌≡◌, ◌⊎◌, ℕ, ℤ, List, [], ◌++◌, length, map, true, false, Option, None, Some, Result}
+use Rattle.std.specs.Prelude.{MatchResult}
 use Rattle.std.specs.List.{flat_map}
 use Rattle.std.specs.Option.{option_map}
 use Rattle.x690.specs.Elements.{Parts, IsDerElement}
@@ -27,12 +28,15 @@ UnderTag number G = DerWord NoCheck (ExplicitBody 2 number G)
 abbrev pub KindByDer : List ℕ → ℤ → Type 0
 KindByDer = UnderTag 0 (DerWord IntegerCheck (IntegerBody (IsSigned 4)))
 
+-- an octet string, by DER
 abbrev pub StringByDer : List ℕ → List ℕ → Type 0
 StringByDer = LeafByDer octet_string_leaf
 
+-- a sequence of octet strings under the explicit tag 1, by DER
 abbrev pub NamesByDer : List ℕ → List (List ℕ) → Type 0
 NamesByDer = UnderTag 1 (DerWord NoCheck (ListOf 16 StringByDer))
 
+-- an octet string under the explicit tag 2, by DER
 abbrev pub RealmByDer : List ℕ → List ℕ → Type 0
 RealmByDer = UnderTag 2 StringByDer
 
@@ -70,7 +74,8 @@ IsNoPrincipal p = (x : Principal) → IsPrincipal p x → ⊥
 abbrev pub BeginsWithNoPrincipal : List ℕ → Type 0
 BeginsWithNoPrincipal octets = (x : Principal) (rest : List ℕ) → BeginsWithPrincipal octets x rest → ⊥
 
--- Out of memory, or a refusal that is final: no principal begins the octets, whatever follows of which the refusal speaks.
+-- Out of memory, or a refusal that is final: no principal begins the octets,
+-- whatever follows of which the refusal speaks.
 abbrev pub RefusesPrincipal : List ℕ → Refusal Error → Type 0
 RefusesPrincipal octets r =
     WantsMemory r ⊎ ((more : List ℕ) → Speaks (IsCutIdentifier octets) r more → BeginsWithNoPrincipal (octets ++ more))
@@ -83,7 +88,8 @@ pub record IsSamePrincipal (x y : Principal) : Type 0 where
 
 -- where a principal begins the octets, that one is the answer, with what follows it; or memory is out
 abbrev pub ReadsPrincipalBack : List ℕ → Result (List ℕ × Principal) (Refusal Error) → Type 0
-ReadsPrincipalBack octets answer = (x : Principal) (rest : List ℕ) → BeginsWithPrincipal octets x rest → MatchResult answer (λ y. IsSamePrincipal x y.1 × (y.0 ≡ rest)) WantsMemory
+ReadsPrincipalBack octets answer = (x : Principal) (rest : List ℕ) → BeginsWithPrincipal octets x rest →
+    MatchResult answer (λ y. IsSamePrincipal x y.1 × (y.0 ≡ rest)) WantsMemory
 
 -- what is written under the explicit, context-specific tag of this number
 abbrev pub under_tag : ℕ → List ℕ → List ℕ
@@ -93,6 +99,7 @@ under_tag number octets = header_octets 2 true number (length octets) ++ octets
 abbrev pub integer_element : ℤ → List ℕ
 integer_element n = header_octets 0 false 2 (length (signed_octets n)) ++ signed_octets n
 
+-- the strict encoding of an octet string
 abbrev pub string_element : OctetString → List ℕ
 string_element s = header_octets 0 false 4 (length (octets_of s)) ++ octets_of s
 

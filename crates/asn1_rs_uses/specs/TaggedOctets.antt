@@ -13,12 +13,15 @@ pub record BeginsWithNumber (number : ℕ) (octets : List ℕ) (parts : Parts) (
 
 -- its contents octets begin with an octet string by DER
 abbrev pub BeginsUnderNumber : ℕ → List ℕ → List ℕ → List ℕ → Type 0
-BeginsUnderNumber number octets string rest = (parts : Parts) × BeginsWithNumber number octets parts rest × ((left : List ℕ) × Front StringByDer parts.content string left)
+BeginsUnderNumber number octets string rest = (parts : Parts) × BeginsWithNumber number octets parts rest ×
+    ((left : List ℕ) × Front StringByDer parts.content string left)
 
 -- these are its contents octets
 abbrev pub BeginsWithContentsUnder : ℕ → List ℕ → List ℕ → List ℕ → Type 0
-BeginsWithContentsUnder number octets content rest = (parts : Parts) × BeginsWithNumber number octets parts rest × (parts.content ≡ content)
+BeginsWithContentsUnder number octets content rest =
+    (parts : Parts) × BeginsWithNumber number octets parts rest × (parts.content ≡ content)
 
 -- and it is of the context-specific class
 abbrev pub BeginsUnderTag : ℕ → List ℕ → List ℕ → List ℕ → Type 0
-BeginsUnderTag number octets content rest = (parts : Parts) × BeginsWithNumber number octets parts rest × (parts.id.class ≡ 2) × (parts.content ≡ content)
+BeginsUnderTag number octets content rest =
+    (parts : Parts) × BeginsWithNumber number octets parts rest × (parts.id.class ≡ 2) × (parts.content ≡ content)

@@ -2,7 +2,8 @@
 ghost use Rattle.std.specs.Prelude.{pos};
 ghost use Rattle.x690.specs.Identifiers.{IsCutIdentifier};
 ghost use Rattle.asn1_headers.specs.Answers.{Exactly, seen};
-ghost use Rattle.asn1_rs_uses.specs.Handles.{HandleByDer, HandleTakes, HandleCheckGives, handle_element, handle_lawful, handle_checked, handle_converts};
+ghost use Rattle.asn1_rs_uses.specs.Handles.{HandleByDer, HandleTakes, HandleCheckGives, handle_element, handle_lawful};
+ghost use Rattle.asn1_rs_uses.specs.Handles.{handle_checked, handle_converts};
 ghost use Rattle.asn1_rs_uses.specs.Numbers.{NoMemory};
 
 use asn1_rs::{

@@ -1,5 +1,5 @@
-//! Borrowed octet strings under tags, counted and written: optional ones, lists of them, one with its header in hand, and
-//! a list that a type of a caller's holds.
+//! Borrowed octet strings under tags, counted and written: optional ones, lists of them, one with its header in hand,
+//! and a list that a type of a caller's holds.
 ghost use Rattle.std.specs.Prelude.{◌≡◌, length, IfOk};
 ghost use Rattle.asn1_headers.specs.Writer.{Wrote};
 ghost use Rattle.asn1_rs_uses.specs.Labels.{label_octets, labels_octets, headed_octets, AreEachCall};

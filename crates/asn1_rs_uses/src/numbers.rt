@@ -1,5 +1,6 @@
 //! Numbers by BER and by DER, with the theorems in words of numbers.
-ghost use Rattle.std.specs.Prelude.{◌≡◌, ◌≢◌, ◌<◌, ◌≤◌, ◌^◌, ◌++◌, ◌↔◌, ◌⊎◌, ℕ, ℤ, List, length, pos, IfOk, IfErr, IsTrue, MatchResult};
+ghost use Rattle.std.specs.Prelude.{◌≡◌, ◌≢◌, ◌<◌, ◌≤◌, ◌^◌, ◌++◌, ◌↔◌, ◌⊎◌, ℕ, ℤ, List, length, pos, IfOk, IfErr};
+ghost use Rattle.std.specs.Prelude.{IsTrue, MatchResult};
 ghost use Rattle.x690.specs.Identifiers.{Identifier, IsCutIdentifier};
 ghost use Rattle.asn1_headers.specs.Answers.{seen, Exactly, RefusedBeforeEnd};
 ghost use Rattle.asn1_headers.specs.Ber.{EndsWithin};

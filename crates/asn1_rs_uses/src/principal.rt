@@ -54,7 +54,8 @@ fn read_realm<'a>(alloc: Global, octets: &'a [u8]) -> ParseResult<'a, Option<Rea
 }
 
 impl<'a> Principal<'a> {
-    ghost use Rattle.asn1_rs_uses.specs.Principals.{BeginsWithPrincipal, IsPrincipal, IsNoPrincipal, RefusesPrincipal, ReadsPrincipalBack, principal_octets};
+    ghost use Rattle.asn1_rs_uses.specs.Principals.{BeginsWithPrincipal, IsPrincipal, IsNoPrincipal, RefusesPrincipal};
+    ghost use Rattle.asn1_rs_uses.specs.Principals.{ReadsPrincipalBack, principal_octets};
 
     /// The principal at the front of the octets, by DER, and what follows it.
     ///

@@ -1,5 +1,6 @@
 //! Types of a caller's whose values may not be written, alone and in lists and sets.
-ghost use Rattle.std.specs.Prelude.{◌≡◌, ◌≢◌, ◌≤◌, ◌⊎◌, [], None, true, false, length, Err, IfErr, OnErr, IsErr, IsErrAnd, MatchResult};
+ghost use Rattle.std.specs.Prelude.{◌≡◌, ◌≢◌, ◌≤◌, ◌⊎◌, [], None, true, false, length, Err, IfErr, OnErr, IsErr};
+ghost use Rattle.std.specs.Prelude.{IsErrAnd, MatchResult};
 ghost use Rattle.asn1_headers.specs.declared.class.Class.TheVariants as classes;
 ghost use Rattle.asn1_headers.specs.declared.length.Length.TheVariants as forms;
 ghost use Rattle.asn1_headers.specs.declared.error.Error.TheVariants as errors;
@@ -8,7 +9,9 @@ ghost use Rattle.asn1_headers.specs.Header.{HasParts};
 ghost use Rattle.asn1_rs.specs.Set.{items_of};
 ghost use Rattle.asn1_headers.specs.Writer.{GrewByABeginning, MayRefuse};
 ghost use Rattle.asn1_rs.specs.ToDer.{RefusedAtOnce};
-ghost use Rattle.asn1_rs_uses.specs.Refusals.{AsAnyWriting, TellsOfNoClass, SomeInNoClass, octets_in_classes, IsEmptyPart, TellsOfEmptyPart, WrittenEmptyPart, IsMemoryOrLength, SomeEmpty, in_class_writing, part_writing};
+ghost use Rattle.asn1_rs_uses.specs.Refusals.{AsAnyWriting, TellsOfNoClass, SomeInNoClass, octets_in_classes};
+ghost use Rattle.asn1_rs_uses.specs.Refusals.{IsEmptyPart, TellsOfEmptyPart, WrittenEmptyPart, IsMemoryOrLength};
+ghost use Rattle.asn1_rs_uses.specs.Refusals.{SomeEmpty, in_class_writing, part_writing};
 
 use asn1_rs::{
     Any, Class, DerWrite, DynTagged, Error, Header, Length, SerializeError, SerializeResult, SetOf,

@@ -6,7 +6,8 @@ ghost use Rattle.asn1_headers.specs.Answers.{seen, Exactly};
 ghost use Rattle.asn1_headers.specs.Writer.{IsMemoryOrLength};
 ghost use Rattle.asn1_rs.specs.Set.{items_of, set_of};
 ghost use Rattle.asn1_rs_uses.specs.Messages.{WantsMemory};
-ghost use Rattle.asn1_rs_uses.specs.Sets.{CountedNumbers, DistinctNumbers, DistinctSigned, set_octets, signed_set_octets};
+ghost use Rattle.asn1_rs_uses.specs.Sets.{CountedNumbers, DistinctNumbers, DistinctSigned, set_octets};
+ghost use Rattle.asn1_rs_uses.specs.Sets.{signed_set_octets};
 
 use asn1_rs::{
     AlwaysDer, Error, ParseResult, SerializeResult, SetOf, members_in_hand, read_der, strict_vec,
@@ -32,7 +33,8 @@ pub fn write_counted(alloc: Global, numbers: &SetOf<u8>) -> SerializeResult<Vec<
     strict_vec(alloc, numbers)
 }
 
-/// Whether two sets have the same numbers, each as often, told by their encodings. Refused as the writing of one of them.
+/// Whether two sets have the same numbers, each as often, told by their encodings.
+/// Refused as the writing of one of them.
 pub fn are_same_counted(alloc: Global, one: &SetOf<u8>, other: &SetOf<u8>) -> SerializeResult<bool>
     ensures same { IfOk result (λ same. IsTrue same ↔
         (multiset (map pos (items_of one.now)) ≡ multiset (map pos (items_of other.now)))) }
@@ -80,7 +82,8 @@ pub fn read_signed(alloc: Global, octets: &[u8]) -> ParseResult<'_, HashSet<i8>,
     answer
 }
 
-/// The set of distinct signed numbers, by DER: the octets follow from the members alone, whatever order they are kept in.
+/// The set of distinct signed numbers, by DER: the octets follow from the members alone,
+/// whatever order they are kept in.
 pub fn write_signed(alloc: Global, signed: &HashSet<i8>) -> SerializeResult<Vec<u8>>
     ensures { MatchResult result (λ octets. octets.items ≡ signed_set_octets signed.now.keys)
         (IsMemoryOrLength (signed_set_octets signed.now.keys)) }

@@ -95,8 +95,8 @@ fn ordered_sets_with_a_value_of_no_class_are_refused(rt: HostRuntime) -> Result<
 }
 
 /// How an empty part is refused.
-const EMPTY_PART: &str =
-    "(Err(InvalidValue { tag: Tag(12), msg: \"empty part\" }), Err(ASN1Error(InvalidValue { tag: Tag(12), msg: \"empty part\" })), [])";
+const EMPTY_PART: &str = "(Err(InvalidValue { tag: Tag(12), msg: \"empty part\" }), \
+    Err(ASN1Error(InvalidValue { tag: Tag(12), msg: \"empty part\" })), [])";
 
 #[test]
 fn names_of_parts_are_written(rt: HostRuntime) -> Result<(), Fail> {

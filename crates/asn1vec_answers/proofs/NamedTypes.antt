@@ -1,13 +1,25 @@
 -- Each type that a line can name stands among all of them.
-use Rattle.std.proofs.Common.{◌≡◌, ◌≢◌, ◌<◌, lit<, All, MatchOption, ℕ, List, [], ◌∷◌, get_or, length, Option, Some, None}
+use Rattle.std.proofs.Common.{◌≡◌, ◌≢◌, ◌<◌, lit<, All, MatchOption, ℕ, List, [], ◌∷◌, get_or, length, Option, Some}
+use Rattle.std.proofs.Common.{None}
 use Rattle.std.proofs.lemmas.List.Elements.{All-get_or}
 use Rattle.asn1vec_answers.specs.declared.types.TypeName.{TypeName}
-use Rattle.asn1vec_answers.specs.declared.types.TypeName.TheVariants.{U8, U16, U32, U64, U128, I8, I16, I32, I64, I128, Any, Bool, Null, Enumerated, Integer, Octets, Bits, Eoc, VecU8, VecU32, VecBool, VecVecU8, SetOfU8, BTreeSetU8, Sequence, Set, SeqOfU32, Explicit0U32, Explicit31U8, VecExplicit31U8, OptU8, HashSetI8, Implicit1VecU16, Oid, Utf8, Numeric, Printable, Teletex, Videotex, Ia5, Graphic, Visible, General, Descriptor, Universal, Bmp, UtcTime, GenTime, Pdv}
+use Rattle.asn1vec_answers.specs.declared.types.TypeName.TheVariants.{U8, U16, U32, U64, U128, I8, I16, I32, I64, I128}
+use Rattle.asn1vec_answers.specs.declared.types.TypeName.TheVariants.{Any, Bool, Null, Enumerated, Integer, Octets}
+use Rattle.asn1vec_answers.specs.declared.types.TypeName.TheVariants.{Bits, Eoc, VecU8, VecU32, VecBool, VecVecU8}
+use Rattle.asn1vec_answers.specs.declared.types.TypeName.TheVariants.{SetOfU8, BTreeSetU8, Sequence, Set, SeqOfU32}
+use Rattle.asn1vec_answers.specs.declared.types.TypeName.TheVariants.{Explicit0U32, Explicit31U8, VecExplicit31U8}
+use Rattle.asn1vec_answers.specs.declared.types.TypeName.TheVariants.{OptU8, HashSetI8, Implicit1VecU16, Oid, Utf8}
+use Rattle.asn1vec_answers.specs.declared.types.TypeName.TheVariants.{Numeric, Printable, Teletex, Videotex, Ia5}
+use Rattle.asn1vec_answers.specs.declared.types.TypeName.TheVariants.{Graphic, Visible, General, Descriptor, Universal}
+use Rattle.asn1vec_answers.specs.declared.types.TypeName.TheVariants.{Bmp, UtcTime, GenTime, Pdv}
 use Rattle.asn1vec_answers.specs.Types.{name_of}
 
 -- all of them, in the order of the program
 abbrev pub types : List TypeName
-types = U8 ∷ U16 ∷ U32 ∷ U64 ∷ U128 ∷ I8 ∷ I16 ∷ I32 ∷ I64 ∷ I128 ∷ Any ∷ Bool ∷ Null ∷ Enumerated ∷ Integer ∷ Octets ∷ Bits ∷ Eoc ∷ VecU8 ∷ VecU32 ∷ VecBool ∷ VecVecU8 ∷ SetOfU8 ∷ BTreeSetU8 ∷ Sequence ∷ Set ∷ SeqOfU32 ∷ Explicit0U32 ∷ Explicit31U8 ∷ VecExplicit31U8 ∷ OptU8 ∷ HashSetI8 ∷ Implicit1VecU16 ∷ Oid ∷ Utf8 ∷ Numeric ∷ Printable ∷ Teletex ∷ Videotex ∷ Ia5 ∷ Graphic ∷ Visible ∷ General ∷ Descriptor ∷ Universal ∷ Bmp ∷ UtcTime ∷ GenTime ∷ Pdv ∷ []
+types = U8 ∷ U16 ∷ U32 ∷ U64 ∷ U128 ∷ I8 ∷ I16 ∷ I32 ∷ I64 ∷ I128 ∷ Any ∷ Bool ∷ Null ∷ Enumerated ∷ Integer ∷ Octets ∷
+    Bits ∷ Eoc ∷ VecU8 ∷ VecU32 ∷ VecBool ∷ VecVecU8 ∷ SetOfU8 ∷ BTreeSetU8 ∷ Sequence ∷ Set ∷ SeqOfU32 ∷ Explicit0U32 ∷
+    Explicit31U8 ∷ VecExplicit31U8 ∷ OptU8 ∷ HashSetI8 ∷ Implicit1VecU16 ∷ Oid ∷ Utf8 ∷ Numeric ∷ Printable ∷ Teletex ∷
+    Videotex ∷ Ia5 ∷ Graphic ∷ Visible ∷ General ∷ Descriptor ∷ Universal ∷ Bmp ∷ UtcTime ∷ GenTime ∷ Pdv ∷ []
 
 module _ (P : TypeName → Type 0) (all : All P types) where
   at : (place : ℕ) → place < length types → P (get_or types place U8)
@@ -66,6 +78,8 @@ module _ (P : TypeName → Type 0) (all : All P types) where
   each Pdv = at 48 (lit< tt)
 
 -- a name that is none of theirs is of no type
-pub named : (name : List ℕ) (result : Option TypeName) → MatchOption result (All (λ t. name ≢ name_of t) types) (λ t. name ≡ name_of t) → MatchOption result ((t : TypeName) → name ≢ name_of t) (λ t. name ≡ name_of t)
+pub named : (name : List ℕ) (result : Option TypeName) →
+    MatchOption result (All (λ t. name ≢ name_of t) types) (λ t. name ≡ name_of t) →
+    MatchOption result ((t : TypeName) → name ≢ name_of t) (λ t. name ≡ name_of t)
 named name None none = each (λ t. name ≢ name_of t) none
 named name (Some t) same = same

@@ -15,7 +15,8 @@ first [] = 0
 first (x ∷ xs) = x
 
 -- a line begins with one rule
-pub one_rule : (line rest other : List ℕ) (a b : Rule) → BeginsWithRule line a rest → BeginsWithRule line b other → (a ≡ b) × (rest ≡ other)
+pub one_rule : (line rest other : List ℕ) (a b : Rule) → BeginsWithRule line a rest → BeginsWithRule line b other →
+    (a ≡ b) × (rest ≡ other)
 one_rule line rest other Ber Ber h k = (refl, let e = sym h ∙ k in cc)
 one_rule line rest other Ber Der h k = absurd (omega (arith, ap first (sym h ∙ k)))
 one_rule line rest other Der Ber h k = absurd (omega (arith, ap first (sym h ∙ k)))
@@ -39,21 +40,27 @@ one_word (x ∷ a) b (y ∷ c) d (n, v) (m, w) e =
     (cc, r.1)
 
 -- no request is in a line whose part after the rule has no space
-pub without_space : (line rest : List ℕ) (a : Rule) → BeginsWithRule line a rest → All (λ x. x ≢ 32) rest → IsOtherForm line
+pub without_space : (line rest : List ℕ) (a : Rule) → BeginsWithRule line a rest → All (λ x. x ≢ 32) rest →
+    IsOtherForm line
 without_space line rest a begins spaceless rule name octets r =
     let same = one_rule line rest (name ++ 32 ∷ r.digits) a rule begins r.parts in
     no_space rest name r.digits (recursion_from_All _ _ spaceless) same.1
 
 -- nor in one whose digits stand for no octets
-pub without_octets : (line rest word digits : List ℕ) (a : Rule) → BeginsWithRule line a rest → rest ≡ word ++ 32 ∷ digits → All (λ x. x ≢ 32) word → ((octets : List ℕ) → StandsFor octets digits → ⊥) → IsOtherForm line
+pub without_octets : (line rest word digits : List ℕ) (a : Rule) → BeginsWithRule line a rest →
+    rest ≡ word ++ 32 ∷ digits → All (λ x. x ≢ 32) word → ((octets : List ℕ) → StandsFor octets digits → ⊥) →
+    IsOtherForm line
 without_octets line rest word digits a begins split spaceless none rule name octets r =
     let same = one_rule line rest (name ++ 32 ∷ r.digits) a rule begins r.parts in
-    let parts = one_word word digits name r.digits (recursion_from_All _ _ spaceless) (recursion_from_All _ _ r.one_word) (sym split ∙ same.1) in
+    let parts = one_word word digits name r.digits (recursion_from_All _ _ spaceless)
+    (recursion_from_All _ _ r.one_word) (sym split ∙ same.1) in
     none octets (subst (StandsFor octets) (sym parts.1) r.stands)
 
 -- a line asks for one thing
-pub requests_same : (line name other octets others : List ℕ) (rule second : Rule) → IsRequest line rule name octets → IsRequest line second other others → (rule ≡ second) × (name ≡ other) × (octets ≡ others)
+pub requests_same : (line name other octets others : List ℕ) (rule second : Rule) → IsRequest line rule name octets →
+    IsRequest line second other others → (rule ≡ second) × (name ≡ other) × (octets ≡ others)
 requests_same line name other octets others rule second r s =
     let begins = one_rule line (name ++ 32 ∷ r.digits) (other ++ 32 ∷ s.digits) rule second r.parts s.parts in
-    let parts = one_word name r.digits other s.digits (recursion_from_All _ _ r.one_word) (recursion_from_All _ _ s.one_word) begins.1 in
+    let parts = one_word name r.digits other s.digits (recursion_from_All _ _ r.one_word)
+    (recursion_from_All _ _ s.one_word) begins.1 in
     (begins.0, parts.0, one_meaning octets others s.digits (subst (StandsFor octets) parts.1 r.stands) s.stands)

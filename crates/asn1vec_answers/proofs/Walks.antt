@@ -1,5 +1,6 @@
 -- Items in turn, and the text of a list of them.
-use Rattle.std.proofs.Common.{◌≡◌, ◌∙◌, sym, ap, refl, subst, ℕ, List, [], ◌∷◌, ◌++◌, map, Option, None, append_assoc, append-nil, codes}
+use Rattle.std.proofs.Common.{◌≡◌, ◌∙◌, sym, ap, refl, subst, ℕ, List, [], ◌∷◌, ◌++◌, map, Option, None, append_assoc}
+use Rattle.std.proofs.Common.{append-nil, codes}
 use Rattle.asn1vec_answers.specs.Shown.{list_text}
 use Rattle.std.specs.Borrow.{Bor}
 use Rattle.std.specs.Iterator.{AlwaysYields, Yields}
@@ -19,15 +20,18 @@ before_next comma [] = []
 before_next comma (x ∷ xs) = comma
 
 -- one more item behind those there
-pub joined_more : {X : Type 0} (text_of : X → List ℕ) (comma : List ℕ) (xs : List X) (x : X) → join_by text_of comma (xs ++ x ∷ []) ≡ (join_by text_of comma xs ++ before_next comma xs) ++ text_of x
+pub joined_more : {X : Type 0} (text_of : X → List ℕ) (comma : List ℕ) (xs : List X) (x : X) →
+    join_by text_of comma (xs ++ x ∷ []) ≡ (join_by text_of comma xs ++ before_next comma xs) ++ text_of x
 joined_more text_of comma [] x = append-nil (text_of x)
 joined_more text_of comma (y ∷ xs) x =
-    ap (λ (l : List ℕ). text_of y ++ l) (flat_map-append (λ z. comma ++ text_of z) xs (x ∷ []) ∙ ap (λ (l : List ℕ). flat_map (λ z. comma ++ text_of z) xs ++ l) (append-nil (comma ++ text_of x)))
+    ap (λ (l : List ℕ). text_of y ++ l) (flat_map-append (λ z. comma ++ text_of z) xs (x ∷ [])
+    ∙ ap (λ (l : List ℕ). flat_map (λ z. comma ++ text_of z) xs ++ l) (append-nil (comma ++ text_of x)))
     ∙ sym (append_assoc (text_of y) (flat_map (λ z. comma ++ text_of z) xs) (comma ++ text_of x))
     ∙ sym (append_assoc (text_of y ++ flat_map (λ z. comma ++ text_of z) xs) comma (text_of x))
 
 -- a slice's iterator gives its items, and one of a set its members
-pub slice_yields : {A : Type 0} (s : Iter A) (xs : List A) → iter_rest s ≡ xs → AlwaysYields fronts (λ (r : Bor A). r.now) s xs
+pub slice_yields : {A : Type 0} (s : Iter A) (xs : List A) → iter_rest s ≡ xs →
+    AlwaysYields fronts (λ (r : Bor A). r.now) s xs
 slice_yields s xs e = (YieldsList-from_slice xs e).runs
 
 pub keys_yield : {A : Type 0} (s xs : List A) → s ≡ xs → AlwaysYields (TakesFirst deref) (λ (r : Bor A). r.now) s xs
@@ -38,22 +42,31 @@ abbrev pub read_through : {A : Type 0} → List (Bor A) → List A
 read_through rs = map (λ (r : Bor _). r.now) rs
 
 -- all items that an iterator gives, where it is at its end
-pub all_seen : {S A : Type 0} (steps : S → Option (Bor A) → S → Type 0) (first : S) (xs : List A) → AlwaysYields steps (λ r. r.now) first xs
-    → (begin now next : S) → begin ≡ first → (seen : List (Bor A)) → Yields steps begin seen now → (answer : Option (Bor A)) → steps now answer next → answer ≡ None → read_through seen ≡ xs
+pub all_seen : {S A : Type 0} (steps : S → Option (Bor A) → S → Type 0) (first : S) (xs : List A) →
+    AlwaysYields steps (λ r. r.now) first xs
+    → (begin now next : S) → begin ≡ first → (seen : List (Bor A)) → Yields steps begin seen now →
+    (answer : Option (Bor A)) → steps now answer next → answer ≡ None → read_through seen ≡ xs
 all_seen {S} {A} steps first xs gives begin now next start seen led answer step is =
-    let list : YieldsList steps (λ (r : Bor A). r.now) begin xs = record { runs = subst (λ (z : S). AlwaysYields steps (λ (r : Bor A). r.now) z xs) (sym start) gives } in
+    let list : YieldsList steps (λ (r : Bor A). r.now) begin xs =
+    record { runs = subst (λ (z : S). AlwaysYields steps (λ (r : Bor A). r.now) z xs) (sym start) gives } in
     (YieldsList-end list seen now led answer next is step).0
 
 -- the text of one more item
-pub text_more : {A : Type 0} (text_of : A → List ℕ) (seen : List (Bor A)) (r : Bor A) (front now mark between after : List ℕ) → now ≡ front ++ (codes "[" ++ join_by text_of (codes ",") (read_through seen)) → mark ≡ before_next (codes ",") seen
-    → between ≡ now ++ mark → after ≡ between ++ text_of r.now → after ≡ front ++ (codes "[" ++ join_by text_of (codes ",") (read_through (seen ++ r ∷ [])))
+pub text_more : {A : Type 0} (text_of : A → List ℕ) (seen : List (Bor A)) (r : Bor A)
+    (front now mark between after : List ℕ) →
+    now ≡ front ++ (codes "[" ++ join_by text_of (codes ",") (read_through seen)) → mark ≡ before_next (codes ",") seen
+    → between ≡ now ++ mark → after ≡ between ++ text_of r.now →
+    after ≡ front ++ (codes "[" ++ join_by text_of (codes ",") (read_through (seen ++ r ∷ [])))
 text_more {A} text_of seen r front now mark between after is marks grown more =
     let joined = join_by text_of (codes ",") (read_through seen) in
     let longer : join_by text_of (codes ",") (read_through (seen ++ r ∷ [])) ≡ (joined ++ mark) ++ text_of r.now =
-    ap (λ (xs : List A). join_by text_of (codes ",") xs) (map-append (λ (r : Bor A). r.now) seen (r ∷ [])) ∙ joined_more text_of (codes ",") (read_through seen) r.now
+    ap (λ (xs : List A). join_by text_of (codes ",") xs) (map-append (λ (r : Bor A). r.now) seen (r ∷ []))
+    ∙ joined_more text_of (codes ",") (read_through seen) r.now
     ∙ ap (λ (l : List ℕ). (joined ++ l) ++ text_of r.now) (before_same seen ∙ sym marks) in
-    let all : after ≡ ((front ++ (codes "[" ++ joined)) ++ mark) ++ text_of r.now = more ∙ ap (λ (l : List ℕ). l ++ text_of r.now) (grown ∙ ap (λ (l : List ℕ). l ++ mark) is) in
-    all ∙ append_assoc (front ++ (codes "[" ++ joined)) mark (text_of r.now) ∙ append_assoc front (codes "[" ++ joined) (mark ++ text_of r.now)
+    let all : after ≡ ((front ++ (codes "[" ++ joined)) ++ mark) ++ text_of r.now =
+    more ∙ ap (λ (l : List ℕ). l ++ text_of r.now) (grown ∙ ap (λ (l : List ℕ). l ++ mark) is) in
+    all ∙ append_assoc (front ++ (codes "[" ++ joined)) mark (text_of r.now)
+    ∙ append_assoc front (codes "[" ++ joined) (mark ++ text_of r.now)
     ∙ ap (λ (l : List ℕ). front ++ (codes "[" ++ l)) (sym (append_assoc joined mark (text_of r.now)) ∙ sym longer)
   where
     before_same : (seen : List (Bor A)) → before_next (codes ",") (read_through seen) ≡ before_next (codes ",") seen
@@ -65,6 +78,10 @@ before_more comma [] x = refl
 before_more comma (y ∷ xs) x = refl
 
 -- and of all of them
-pub text_whole : {A : Type 0} (text_of : A → List ℕ) (ys xs : List A) (front now after : List ℕ) → now ≡ front ++ (codes "[" ++ join_by text_of (codes ",") ys) → ys ≡ xs → after ≡ now ++ codes "]" → after ≡ front ++ list_text text_of xs
+pub text_whole : {A : Type 0} (text_of : A → List ℕ) (ys xs : List A) (front now after : List ℕ) →
+    now ≡ front ++ (codes "[" ++ join_by text_of (codes ",") ys) → ys ≡ xs → after ≡ now ++ codes "]" →
+    after ≡ front ++ list_text text_of xs
 text_whole text_of ys xs front now after is whole more =
-    more ∙ ap (λ (l : List ℕ). l ++ codes "]") is ∙ append_assoc front (codes "[" ++ join_by text_of (codes ",") ys) (codes "]") ∙ ap (λ (zs : List _). front ++ list_text text_of zs) whole
+    more ∙ ap (λ (l : List ℕ). l ++ codes "]") is
+    ∙ append_assoc front (codes "[" ++ join_by text_of (codes ",") ys) (codes "]")
+    ∙ ap (λ (zs : List _). front ++ list_text text_of zs) whole

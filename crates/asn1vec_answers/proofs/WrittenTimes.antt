@@ -16,7 +16,8 @@ module _ (number : ℕ) (content : List ℕ) where
   abbrev header : List ℕ
   header = header_octets 0 (is_container_number number) number (length content)
 
-  few_octets : length (identifier_octets (identifier_of 0 (is_container_number number) number)) ≡ 1 → length content ≤ 21 → length (header ++ content) < 2 ^ 64
+  few_octets : length (identifier_octets (identifier_of 0 (is_container_number number) number)) ≡ 1 →
+      length content ≤ 21 → length (header ++ content) < 2 ^ 64
   few_octets one short =
       let parts = header_octets_count 0 (is_container_number number) number (length content) in
       let count = length_octets_few (length content) (omega (arith, short)) in
@@ -33,7 +34,8 @@ fraction_few (Some m) h =
     let digits = length-decimal-le 5 m (omega arith) (omega (arith, h)) (omega (arith, h)) in
     grind (arith, nat_tests, digits)
 
-pub generalized_few : (m : Moment) → MostMilliseconds 65535 m.millisecond → length (leaf_octets generalized_time_leaf m) < 2 ^ 64
+pub generalized_few : (m : Moment) → MostMilliseconds 65535 m.millisecond →
+    length (leaf_octets generalized_time_leaf m) < 2 ^ 64
 unfolding identifier_octets
 generalized_few m h =
     let fraction = fraction_few m.millisecond h in

@@ -40,8 +40,10 @@ abbrev pub headers_by : Rule → HeaderRule
 headers_by ber = ber_rule
 headers_by der = der_rule
 
--- None where no octets or a header of another tag number are at the front, and nothing is consumed; else what reading the value answers
-abbrev pub ReadsOptional : {T : Type 0} → ℕ → (Rule → List ℕ → Reading T → Type 0) → Rule → List ℕ → Reading (Option T) → Type 0
+-- None where no octets or a header of another tag number are at the front, and nothing is consumed;
+-- else what reading the value answers
+abbrev pub ReadsOptional : {T : Type 0} → ℕ → (Rule → List ℕ → Reading T → Type 0) → Rule → List ℕ →
+    Reading (Option T) → Type 0
 ReadsOptional number Reads rule = OptionGives (IsLeftOut (headers_by rule) number) (Reads rule)
 
 -- optional values of what a name stands for, whose elements have this tag number; None has no octets

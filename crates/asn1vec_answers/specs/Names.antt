@@ -16,6 +16,7 @@ abbrev pub name_of_needed : Needed → List ℕ
 name_of_needed Unknown = codes "Unknown"
 name_of_needed (Size n) = decimal n
 
+-- the name of a constraint of DER
 abbrev pub name_of_constraint : DerConstraint → List ℕ
 name_of_constraint constraints.IndefiniteLength = codes "IndefiniteLength"
 name_of_constraint constraints.Constructed = codes "Constructed"
@@ -52,12 +53,14 @@ word_of_error errors.Unsupported = codes "Unsupported"
 word_of_error (errors.Incomplete needed) = codes "Error.Incomplete"
 word_of_error errors.OutOfMemory = codes "OutOfMemory"
 
+-- a word, and a part of it in brackets
 abbrev pub in_brackets : List ℕ → List ℕ → List ℕ
 in_brackets word part = word ++ (codes "(" ++ (part ++ codes ")"))
 
 -- an error with the constraint that was broken, or the number of octets that are missing
 abbrev pub name_of_error : Error → List ℕ
-name_of_error (errors.DerConstraintFailed constraint) = in_brackets (codes "DerConstraintFailed") (name_of_constraint constraint)
+name_of_error (errors.DerConstraintFailed constraint) =
+    in_brackets (codes "DerConstraintFailed") (name_of_constraint constraint)
 name_of_error (errors.Incomplete needed) = in_brackets (codes "Error.Incomplete") (name_of_needed needed)
 name_of_error error = word_of_error error
 

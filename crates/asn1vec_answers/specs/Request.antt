@@ -10,12 +10,14 @@ word_of Der = codes "der"
 
 -- c is the hexadecimal digit d, in either case
 abbrev pub IsDigit : ℕ → ℕ → Type 0
-IsDigit d c = (d < 16) × ((c ≡ slice_index (codes "0123456789abcdef") d) ⊎ (c ≡ slice_index (codes "0123456789ABCDEF") d))
+IsDigit d c =
+    (d < 16) × ((c ≡ slice_index (codes "0123456789abcdef") d) ⊎ (c ≡ slice_index (codes "0123456789ABCDEF") d))
 
 -- two digits for each octet, first that of its high four bits
 abbrev pub IsHexadecimal : List ℕ → List ℕ → Type 0
 IsHexadecimal [] digits = digits ≡ []
-IsHexadecimal (octet ∷ octets) digits = (high low : ℕ) × (rest : List ℕ) × IsDigit (octet / 16) high × IsDigit (octet % 16) low × IsHexadecimal octets rest × (digits ≡ high ∷ low ∷ rest)
+IsHexadecimal (octet ∷ octets) digits = (high low : ℕ) × (rest : List ℕ) × IsDigit (octet / 16) high ×
+    IsDigit (octet % 16) low × IsHexadecimal octets rest × (digits ≡ high ∷ low ∷ rest)
 
 -- `-` for no octets, else hexadecimal digits
 abbrev pub StandsFor : List ℕ → List ℕ → Type 0
@@ -39,5 +41,6 @@ IsOtherForm line = (rule : Rule) (name octets : List ℕ) → ¬ IsRequest line 
 abbrev pub BeginsWithRule : List ℕ → Rule → List ℕ → Type 0
 BeginsWithRule line rule rest = line ≡ word_of rule ++ (codes " " ++ rest)
 
+-- the line begins with no rule
 abbrev pub IsOtherRule : List ℕ → Type 0
 IsOtherRule line = (rule : Rule) (rest : List ℕ) → ¬ BeginsWithRule line rule rest

@@ -1,5 +1,6 @@
 -- How a reading is answered: the value, what follows it and its encoding, or the refusal.
-use Rattle.std.specs.Prelude.{◌≡◌, ℕ, ◌<◌, ◌^◌, Bool, true, false, List, [], ◌∷◌, ◌++◌, length, codes, decimal, Option, None, Some, Result, Ok, Err, ◌⊎◌}
+use Rattle.std.specs.Prelude.{◌≡◌, ℕ, ◌<◌, ◌^◌, Bool, true, false, List, [], ◌∷◌, ◌++◌, length, codes, decimal, Option}
+use Rattle.std.specs.Prelude.{None, Some, Result, Ok, Err, ◌⊎◌}
 use Rattle.std.specs.BTreeSet.{insert_key}
 use Rattle.std.specs.List.{join_by}
 use Rattle.std.specs.declared.cmp.Ordering.{Ordering}
@@ -57,9 +58,11 @@ text_or_dash (octet ∷ octets) text = text
 abbrev pub identifier_text : OidValue → List ℕ
 identifier_text v = text_or_dash v.octets (shown_text v.relative v.octets)
 
--- how the syntaxes of an embedded presentation data value are identified: a word, and identifiers, or the contents octets of an integer
+-- how the syntaxes of an embedded presentation data value are identified:
+-- a word, and identifiers, or the contents octets of an integer
 abbrev pub identification_text : Identification → List ℕ
-identification_text (syntaxes first second) = codes "syntaxes:" ++ (identifier_text first ++ (codes ":" ++ identifier_text second))
+identification_text (syntaxes first second) =
+    codes "syntaxes:" ++ (identifier_text first ++ (codes ":" ++ identifier_text second))
 identification_text (syntax s) = codes "syntax:" ++ identifier_text s
 identification_text (context id) = codes "context:" ++ in_hexadecimal id
 identification_text (negotiation id s) = codes "negotiation:" ++ (in_hexadecimal id ++ (codes ":" ++ identifier_text s))
@@ -94,6 +97,7 @@ abbrev pub written_text : Result (List ℕ) SerializeError → List ℕ
 written_text (Ok octets) = in_hexadecimal octets
 written_text (Err e) = codes "err " ++ name_of_write_refusal e
 
+-- how the answer tells the encoding, where it tells one
 abbrev pub encoding_text : Encoding → List ℕ
 encoding_text None = []
 encoding_text (Some written) = codes " enc " ++ written_text written
@@ -120,7 +124,7 @@ pub record IsReadAnswer {T : Type 0} (Reads : List ℕ → Reading T → Type 0)
   pub reads : Reads octets answer
   pub says : Says text_of Encodes answer text
 
--- ---- readings and encodings of lawful types
+-- Readings and encodings of lawful types.
 
 -- errors stay as they are
 abbrev pub Same : Error → Error → Type 0
@@ -174,7 +178,7 @@ abbrev pub HeldEncoding : {T : Type 0} → Bool → (T → Encoding → Type 0) 
 HeldEncoding allocates Encodes None encoding = IsWritten allocates [] encoding
 HeldEncoding allocates Encodes (Some x) encoding = Encodes x encoding
 
--- ---- what functions on the way say
+-- What functions on the way say.
 
 -- the text grew by what this holds of
 abbrev pub Gains : List ℕ → List ℕ → (List ℕ → Type 0) → Type 0

@@ -1,5 +1,6 @@
 -- The names of types, and what each stands for.
-use Rattle.std.specs.Prelude.{◌≡◌, Bool as Truth, List, ◌++◌, ℕ, ℤ, pos, codes, decimal, true, false, None, Result, Ok, IsUtf8}
+use Rattle.std.specs.Prelude.{◌≡◌, Bool as Truth, List, ◌++◌, ℕ, ℤ, pos, codes, decimal, true, false, None, Result, Ok}
+use Rattle.std.specs.Prelude.{IsUtf8}
 use Rattle.std.specs.Char.{is_ascii}
 use Rattle.std.specs.declared.alloc.Global.{Global}
 use Rattle.std.specs.declared.vec.Vec.{Vec}
@@ -63,13 +64,25 @@ use Rattle.asn1_rs.specs.Kinds.{item_grammar}
 use Rattle.asn1_rs.specs.Grammar.Item.{ItemGrammar, ber_words}
 use Rattle.asn1_rs.specs.Any.Value.{element_of, ElementBody, ElementCheck, ElementForm}
 use Rattle.asn1_rs.specs.Grammar.{BerWord, DerWord}
-use Rattle.asn1_rs.specs.Integer.{IntegerCheck, IntegerCheckGives, IntegerBody, IntegerForm, integer_element, IntegerGives, IsUnsigned, UnsignedGives, UnsignedRefuses, SignedGives, SignedRefuses}
+use Rattle.asn1_rs.specs.Integer.{IntegerCheck, IntegerCheckGives, IntegerBody, IntegerForm, integer_element}
+use Rattle.asn1_rs.specs.Integer.{IntegerGives, IsUnsigned, UnsignedGives, UnsignedRefuses, SignedGives, SignedRefuses}
 use Rattle.asn1vec_answers.specs.declared.request.Rule.{Rule}
 use Rattle.asn1vec_answers.specs.declared.types.TypeName.{TypeName}
-use Rattle.asn1vec_answers.specs.declared.types.TypeName.TheVariants.{U8, U16, U32, U64, U128, I8, I16, I32, I64, I128, Any, Bool, Null, Enumerated, Integer, Octets, Bits, Eoc, VecU8, VecU32, VecBool, VecVecU8, SetOfU8, BTreeSetU8, Sequence, Set, SeqOfU32, Explicit0U32, Explicit31U8, VecExplicit31U8, OptU8, HashSetI8, Implicit1VecU16, Oid, Utf8, Numeric, Printable, Teletex, Videotex, Ia5, Graphic, Visible, General, Descriptor, Universal, Bmp, UtcTime, GenTime, Pdv}
+use Rattle.asn1vec_answers.specs.declared.types.TypeName.TheVariants.{U8, U16, U32, U64, U128, I8, I16, I32, I64, I128}
+use Rattle.asn1vec_answers.specs.declared.types.TypeName.TheVariants.{Any, Bool, Null, Enumerated, Integer, Octets}
+use Rattle.asn1vec_answers.specs.declared.types.TypeName.TheVariants.{Bits, Eoc, VecU8, VecU32, VecBool, VecVecU8}
+use Rattle.asn1vec_answers.specs.declared.types.TypeName.TheVariants.{SetOfU8, BTreeSetU8, Sequence, Set, SeqOfU32}
+use Rattle.asn1vec_answers.specs.declared.types.TypeName.TheVariants.{Explicit0U32, Explicit31U8, VecExplicit31U8}
+use Rattle.asn1vec_answers.specs.declared.types.TypeName.TheVariants.{OptU8, HashSetI8, Implicit1VecU16, Oid, Utf8}
+use Rattle.asn1vec_answers.specs.declared.types.TypeName.TheVariants.{Numeric, Printable, Teletex, Videotex, Ia5}
+use Rattle.asn1vec_answers.specs.declared.types.TypeName.TheVariants.{Graphic, Visible, General, Descriptor, Universal}
+use Rattle.asn1vec_answers.specs.declared.types.TypeName.TheVariants.{Bmp, UtcTime, GenTime, Pdv}
 use Rattle.asn1vec_answers.specs.Meaning.{Meaning, ReadsByEither, is_ber, optional}
-use Rattle.asn1vec_answers.specs.Shown.{Encoding, IsReadAnswer, IsWritten, IsWrittenUnless, ReadsByBer, Reading, Same, StrictEncoding, StrictEncodingIfAny, bits_text, element_text, identifier_text, in_hexadecimal, in_order, list_text, pdv_text, truth_text}
+use Rattle.asn1vec_answers.specs.Shown.{Encoding, IsReadAnswer, IsWritten, IsWrittenUnless, ReadsByBer, Reading, Same}
+use Rattle.asn1vec_answers.specs.Shown.{StrictEncoding, StrictEncodingIfAny, bits_text, element_text, identifier_text}
+use Rattle.asn1vec_answers.specs.Shown.{in_hexadecimal, in_order, list_text, pdv_text, truth_text}
 
+-- the name of a type as a line has it
 abbrev pub name_of : TypeName → List ℕ
 name_of U8 = codes "u8"
 name_of U16 = codes "u16"
@@ -164,8 +177,10 @@ leaf_octets L v = universal_header L.number (L.octets v) ++ L.octets v
 abbrev pub LeafEncoding : {T : Type 0} (L : Leaf T) → L.Value → Encoding → Type 0
 LeafEncoding L v = IsWritten false (leaf_octets L v)
 
--- a leaf type, there by either rule, whose reading may allocate, and whose conversion may answer so: shown by its value, of the encoding of which this may be said
-abbrev pub leaf_by : {T : Type 0} (allocates : Truth) (L : Leaf T) → (AnyElement → Result T Error → Type 0) → (L.Value → Encoding → Type 0) → (L.Value → List ℕ) → Meaning
+-- a leaf type, there by either rule, whose reading may allocate, and whose conversion may answer so: shown by its
+-- value, of the encoding of which this may be said
+abbrev pub leaf_by : {T : Type 0} (allocates : Truth) (L : Leaf T) → (AnyElement → Result T Error → Type 0) →
+    (L.Value → Encoding → Type 0) → (L.Value → List ℕ) → Meaning
 leaf_by {T} allocates L converts Encodes text = record {
   T = T;
   is_there = λ rule. true;
@@ -191,11 +206,15 @@ copying_leaf L = leaf_by true L (OfParts (LeafTakes L)) (LeafEncoding L)
 
 -- one some of whose values are refused in writing for what they are, with this refusal
 abbrev pub refusing_leaf : {T : Type 0} (L : Leaf T) → (L.Value → Truth) → Error → (L.Value → List ℕ) → Meaning
-refusing_leaf L is_refused refusal = leaf_by false L (OfParts (LeafGives L)) (λ v. IsWrittenUnless (is_refused v) refusal (leaf_octets L v))
+refusing_leaf L is_refused refusal =
+    leaf_by false L (OfParts (LeafGives L)) (λ v. IsWrittenUnless (is_refused v) refusal (leaf_octets L v))
 
--- strings with this tag number whose contents octets are their text, which the conversion lends, and which the type has: shown by the octets of the text in UTF-8
+-- strings with this tag number whose contents octets are their text, which the conversion lends, and which the type
+-- has: shown by the octets of the text in UTF-8
 abbrev pub strings : Type 0 → ℕ → (List ℕ → Type 0) → Meaning
-strings K number IsText = let L = string_leaf {K = K} number IsText in leaf_by false L (StringGives number IsText) (LeafEncoding L) in_hexadecimal
+strings K number IsText =
+    let L = string_leaf {K = K} number IsText in
+    leaf_by false L (StringGives number IsText) (LeafEncoding L) in_hexadecimal
 
 -- the same of those whose text is decoded, by the octets of a character
 abbrev pub coded_strings : Type 0 → ℕ → (ℕ → List ℕ) → Meaning
@@ -236,14 +255,16 @@ abbrev pub ends : Meaning
 ends = record {
   T = EndOfContent;
   is_there = λ rule. is_ber rule;
-  Reads = λ rule. ReadsByBer (BerWord (LeafBody end_leaf)) end_leaf.value false (BerGives (OfParts (LeafGives end_leaf)) Same);
+  Reads = λ rule.
+      ReadsByBer (BerWord (LeafBody end_leaf)) end_leaf.value false (BerGives (OfParts (LeafGives end_leaf)) Same);
   text_of = λ x. codes "eoc";
   Encodes = λ x encoding. encoding ≡ None;
   reading_allocates = false;
   writing_allocates = false;
 }
 
--- What there is to say of a type of items: its values and grammars, what its readers may answer, and how an item is shown.
+-- What there is to say of a type of items: its values and grammars, what its readers may answer,
+-- and how an item is shown.
 pub record Item : Type 1 where
   pub T : Type 0
   pub grammar : ItemGrammar T
@@ -291,13 +312,16 @@ sequence {W} I items holds = record {
   text_of = λ s. list_text I.text_of (items s);
 }
 
+-- vectors of items
 abbrev pub vector : Item → Item
 vector I = sequence {W = Vec I.T Global} I (λ v. v.items) IsMadeOf
 
+-- `SequenceOf` of items
 abbrev pub sequence_of : Item → Item
 sequence_of I = sequence {W = SequenceOf I.T} I sequence_items IsSequenceOf
 
--- sets in which an item may stand more than once: they keep the order in which they were read, and are equal in any order
+-- sets in which an item may stand more than once: they keep the order in which they were read,
+-- and are equal in any order
 abbrev pub unordered_set : Item → Item
 unordered_set I = record {
   T = SetOf I.T;
@@ -313,7 +337,8 @@ ordered_set I cmp = record {
   T = BTreeSet I.T;
   grammar = member_grammar (is_below cmp) (λ s. s.keys) I.grammar;
   ber_gives = BerGives (OfParts (ListTakes 17 (λ items s. IsFromIterResult cmp items s) I.ber_gives Same)) Same;
-  der_gives = DerGives PassesAll (OfParts (ListTakes 17 (λ items s. IsFromIterResult cmp items s) I.der_gives Same)) Same;
+  der_gives =
+      DerGives PassesAll (OfParts (ListTakes 17 (λ items s. IsFromIterResult cmp items s) I.der_gives Same)) Same;
   text_of = λ s. list_text I.text_of s.keys;
 }
 
@@ -323,7 +348,8 @@ hashed_set I cmp = record {
   T = HashSet I.T (BuildHasherDefault FoldHasher);
   grammar = member_grammar (is_other (eq_by_cmp cmp)) (λ s. s.keys) I.grammar;
   ber_gives = BerGives (OfParts (ListTakes 17 (λ items s. IsHashedOf (eq_by_cmp cmp) items s) I.ber_gives Same)) Same;
-  der_gives = DerGives PassesAll (OfParts (ListTakes 17 (λ items s. IsHashedOf (eq_by_cmp cmp) items s) I.der_gives Same)) Same;
+  der_gives =
+      DerGives PassesAll (OfParts (ListTakes 17 (λ items s. IsHashedOf (eq_by_cmp cmp) items s) I.der_gives Same)) Same;
   text_of = λ s. list_text I.text_of (in_order cmp s.keys);
 }
 
@@ -338,9 +364,12 @@ explicit number I = record {
 }
 
 -- sequences under an implicit, context-specific tag of this number; by DER too their items are read by BER
-abbrev pub implicit_vector_takes : (number : ℕ) (I : Item) → AnyElement → Result (TaggedValue (Vec I.T Global) Error Implicit 2 number) Error → Type 0
-implicit_vector_takes number I = ImplicitTakes 2 number (λ t. t.inner) (record { 0 = 16 }) (OfParts (ListTakes 16 IsMadeOf I.ber_gives Same)) Same
+abbrev pub implicit_vector_takes : (number : ℕ) (I : Item) → AnyElement →
+    Result (TaggedValue (Vec I.T Global) Error Implicit 2 number) Error → Type 0
+implicit_vector_takes number I =
+    ImplicitTakes 2 number (λ t. t.inner) (record { 0 = 16 }) (OfParts (ListTakes 16 IsMadeOf I.ber_gives Same)) Same
 
+-- vectors of items under an implicit tag
 abbrev pub implicit_vector : ℕ → Item → Item
 implicit_vector number I = record {
   T = TaggedValue (Vec I.T Global) Error Implicit 2 number;
@@ -350,7 +379,8 @@ implicit_vector number I = record {
   text_of = λ t. (vector I).text_of t.inner;
 }
 
--- items, there by either rule, the writer of which may allocate: with the strict encoding of the value, unless that is too long
+-- items, there by either rule, the writer of which may allocate:
+-- with the strict encoding of the value, unless that is too long
 abbrev pub alone : Truth → Item → Meaning
 alone allocates I = record {
   T = I.T;
@@ -366,6 +396,7 @@ alone allocates I = record {
 abbrev pub collection : Item → Meaning
 collection = alone true
 
+-- what the name of a type stands for
 abbrev pub meaning_of : TypeName → Meaning
 meaning_of U8 = unsigned 1
 meaning_of U16 = unsigned 2

@@ -5,7 +5,8 @@ ghost use Rattle.asn1_headers.specs.declared.error.SerializeError.{SerializeErro
 ghost use Rattle.asn1_headers.specs.Error.{tells_of_io};
 ghost use Rattle.asn1_headers.specs.Writer.{MayRefuse};
 ghost use Rattle.asn1vec_answers.specs.Meaning.{ReadsByEither};
-ghost use Rattle.asn1vec_answers.specs.Shown.{AllowsOctets, AllowsRefusals, CameOfWriting, Encoding, Gains, Says, IsReadAnswer, ReadsByBer, ReadsByDer, SaysEncoding, SaysWriting};
+ghost use Rattle.asn1vec_answers.specs.Shown.{AllowsOctets, AllowsRefusals, CameOfWriting, Encoding, Gains, Says};
+ghost use Rattle.asn1vec_answers.specs.Shown.{IsReadAnswer, ReadsByBer, ReadsByDer, SaysEncoding, SaysWriting};
 ghost use Rattle.asn1_rs.specs.ToDer.{whole_allocates, whole_octets, whole_refuses};
 ghost use Rattle.asn1_rs.specs.Grammar.Item.{ber_words};
 

@@ -1,7 +1,8 @@
 //! How times are shown: as `Display` prints them.
 ghost use Rattle.x690.specs.Times.{generalized_time_shown, utc_time_shown};
 ghost use Rattle.asn1_headers.specs.declared.error.Error.TheVariants.{InvalidDateTime};
-ghost use Rattle.asn1_rs.specs.Times.{generalized_time_leaf, generalized_time_refused, moment_of, utc_time_leaf, utc_time_refused};
+ghost use Rattle.asn1_rs.specs.Times.{generalized_time_leaf, generalized_time_refused, moment_of, utc_time_leaf};
+ghost use Rattle.asn1_rs.specs.Times.{utc_time_refused};
 ghost use Rattle.asn1vec_answers.specs.Shown.{IsWrittenUnless};
 ghost use Rattle.asn1vec_answers.specs.Types.{leaf_octets};
 

@@ -1,5 +1,6 @@
 -- What is appended in turn.
-use Rattle.std.proofs.Common.{ℕ, List, [], ◌++◌, None, Some, Option, sym, ap, ◌∙◌, append_assoc, append-nil, Result, Ok, Err, OnErr}
+use Rattle.std.proofs.Common.{ℕ, List, [], ◌++◌, None, Some, Option, sym, ap, ◌∙◌, append_assoc, append-nil, Result, Ok}
+use Rattle.std.proofs.Common.{Err, OnErr}
 use Rattle.std.specs.Io.KnownBytes.{Appends}
 
 pub appends_none : (a : Option (List ℕ)) → Appends a a []

@@ -1,5 +1,7 @@
 -- Steps of the engine.
-use Rattle.std.proofs.Common.{◌≡◌, ◌≢◌, ℕ, ◌<◌, List, [], ◌∷◌, ◌++◌, Bool, false, Option, None, Some, IfSome, refl, sym, ap, ◌∙◌, append_assoc, append-nil, length, subst, take, drop, ◌⊎◌, inl, inr, ◌-◌, min, arith, length-append}
+use Rattle.std.proofs.Common.{◌≡◌, ◌≢◌, ℕ, ◌<◌, List, [], ◌∷◌, ◌++◌, Bool, false, Option, None, Some, IfSome, refl, sym}
+use Rattle.std.proofs.Common.{ap, ◌∙◌, append_assoc, append-nil, length, subst, take, drop, ◌⊎◌, inl, inr, ◌-◌, min}
+use Rattle.std.proofs.Common.{arith, length-append}
 use Rattle.std.specs.List.{All}
 use Rattle.std.proofs.lemmas.Bool.{cases_lt}
 use Rattle.std.proofs.lemmas.List.{take-append-drop, take_all, length-take-le}
@@ -10,20 +12,23 @@ use Rattle.asn1vec_answers.specs.Answer.{IsAnswerLine}
 use Rattle.asn1vec_engine.specs.Outputs.{BeginsAnswer, AreAnswers, BeginAnswers}
 use Rattle.asn1vec_engine.specs.Engine.{Answers, AnswersTo, BeginsAnswersTo, Moves, Begins}
 use Rattle.asn1vec_engine.proofs.Appended.{appends_none, appends_both}
-use Rattle.asn1vec_engine.proofs.LineLaws.{IsOpen, lines_of_ended, lines_of_last, long_dropped, none_begun, answered_first}
+use Rattle.asn1vec_engine.proofs.LineLaws.{IsOpen, lines_of_ended, lines_of_last, long_dropped, none_begun}
+use Rattle.asn1vec_engine.proofs.LineLaws.{answered_first}
 
 pub moves_both : {a b c : Option (List ℕ)} {xs ys zs : List ℕ} → Moves a b xs ys → Moves b c ys zs → Moves a c xs zs
 moves_both {a} {b} {c} {xs} {ys} {zs} p q = record {
   gained = p.gained ++ q.gained;
   told = appends_both _ _ _ _ _ p.told q.told;
-  joins = λ all rest texts h. subst (Answers all (lines_of (xs ++ rest))) (sym (append_assoc p.gained q.gained texts)) (p.joins all rest (q.gained ++ texts) (q.joins all rest texts h));
+  joins = λ all rest texts h. subst (Answers all (lines_of (xs ++ rest))) (sym (append_assoc p.gained q.gained texts))
+      (p.joins all rest (q.gained ++ texts) (q.joins all rest texts h));
 }
 
 pub moves_none : (a : Option (List ℕ)) (xs : List ℕ) → Moves a a xs xs
 moves_none a xs = record { gained = []; told = appends_none a; joins = λ all rest texts h. h }
 
 -- more octets after both
-pub moves_more : {a b : Option (List ℕ)} {xs ys : List ℕ} (more : List ℕ) → Moves a b xs ys → Moves a b (xs ++ more) (ys ++ more)
+pub moves_more : {a b : Option (List ℕ)} {xs ys : List ℕ} (more : List ℕ) → Moves a b xs ys →
+    Moves a b (xs ++ more) (ys ++ more)
 moves_more {a} {b} {xs} {ys} more p = record {
   gained = p.gained;
   told = p.told;
@@ -54,75 +59,95 @@ ended_lines : (line rest : List ℕ) → IsOpen line → lines_of ((line ++ 10 �
 ended_lines line rest o = ap lines_of (append_assoc line (10 ∷ []) rest) ∙ lines_of_ended line rest o
 
 -- a whole line was answered
-pub moves_ended : {a b : Option (List ℕ)} (line ended : List ℕ) → IsOpen line → IsAnswerLine line ended → Appends a b ended → Moves a b (line ++ 10 ∷ []) []
+pub moves_ended : {a b : Option (List ℕ)} (line ended : List ℕ) → IsOpen line → IsAnswerLine line ended →
+    Appends a b ended → Moves a b (line ++ 10 ∷ []) []
 moves_ended line ended o a t = record {
   gained = ended;
   told = t;
-  joins = λ all rest texts h. subst (λ l. Answers all l (ended ++ texts)) (sym (ended_lines line rest o)) (answered_first all line ended (lines_of rest) texts a h);
+  joins = λ all rest texts h. subst (λ l. Answers all l (ended ++ texts)) (sym (ended_lines line rest o))
+      (answered_first all line ended (lines_of rest) texts a h);
 }
 
 -- nothing or a beginning of an answer
-begun_first : (line front : List ℕ) (lines : List (List ℕ)) → (front ≡ []) ⊎ BeginsAnswer line front → BeginAnswers (line ∷ lines) front
+begun_first : (line front : List ℕ) (lines : List (List ℕ)) → (front ≡ []) ⊎ BeginsAnswer line front →
+    BeginAnswers (line ∷ lines) front
 begun_first line front lines (inl e) = inl e
 begun_first line front lines (inr h) = inr (inl h)
 
 -- a beginning of its answer was written
-pub begins_ended : {a b : Option (List ℕ)} (line front : List ℕ) → IsOpen line → (front ≡ []) ⊎ BeginsAnswer line front → Appends a b front → Begins a b (line ++ 10 ∷ [])
+pub begins_ended : {a b : Option (List ℕ)} (line front : List ℕ) → IsOpen line →
+    (front ≡ []) ⊎ BeginsAnswer line front → Appends a b front → Begins a b (line ++ 10 ∷ [])
 begins_ended line front o h t = record {
   gained = front;
   told = t;
-  front = λ rest. subst (λ l. BeginAnswers l front) (sym (ended_lines line rest o)) (begun_first line front (lines_of rest) h);
+  front = λ rest.
+      subst (λ l. BeginAnswers l front) (sym (ended_lines line rest o)) (begun_first line front (lines_of rest) h);
 }
 
 -- an octet of a line that is too long already was dropped
-pub moves_dropped : (a : Option (List ℕ)) (line : List ℕ) (x : ℕ) → IsOpen line → x ≢ 10 → 65536 < length line → Moves a a (line ++ x ∷ []) line
+pub moves_dropped : (a : Option (List ℕ)) (line : List ℕ) (x : ℕ) → IsOpen line → x ≢ 10 → 65536 < length line →
+    Moves a a (line ++ x ∷ []) line
 moves_dropped a line x o n h = record {
   gained = [];
   told = appends_none a;
-  joins = λ all rest texts t. subst (λ l. Answers all (lines_of l) texts) (sym (append_assoc line (x ∷ []) rest)) (long_dropped all x line rest texts o n h t);
+  joins = λ all rest texts t. subst (λ l. Answers all (lines_of l) texts) (sym (append_assoc line (x ∷ []) rest))
+      (long_dropped all x line rest texts o n h t);
 }
 
 -- so were any octets
-pub moves_cut : (a : Option (List ℕ)) (line more : List ℕ) → IsOpen line → IsOpen more → 65536 < length line → Moves a a (line ++ more) line
+pub moves_cut : (a : Option (List ℕ)) (line more : List ℕ) → IsOpen line → IsOpen more → 65536 < length line →
+    Moves a a (line ++ more) line
 moves_cut a line [] o p h = subst (λ l. Moves a a l line) (sym (append-nil line)) (moves_none a line)
 moves_cut a line (x ∷ more) o (n, p) h =
-    subst (λ l. Moves a a l line) (append_assoc line (x ∷ []) more) (moves_both (moves_more more (moves_dropped a line x o n h)) (moves_cut a line more o p h))
+    subst (λ l. Moves a a l line) (append_assoc line (x ∷ []) more)
+    (moves_both (moves_more more (moves_dropped a line x o n h)) (moves_cut a line more o p h))
 
 -- as many octets are kept as make the line too long, or all
-pub moves_kept : (a : Option (List ℕ)) (line octets : List ℕ) (n : ℕ) → All (λ x. x ≢ 10) line → All (λ x. x ≢ 10) octets → n ≡ min (length octets) (65537 - length line)
+pub moves_kept : (a : Option (List ℕ)) (line octets : List ℕ) (n : ℕ) → All (λ x. x ≢ 10) line →
+    All (λ x. x ≢ 10) octets → n ≡ min (length octets) (65537 - length line)
     → Moves a a (line ++ octets) (line ++ take n octets)
 moves_kept a line octets n o p e = elim (cases_lt n (length octets)) [
   | inl cut ↦
       let kept : length (take n octets) ≡ n = length-take-le n octets (omega (arith, cut)) in
       let size : 65536 < length (line ++ take n octets) = simp length-append (omega (arith, kept, cut, e)) in
-      let whole : (line ++ take n octets) ++ drop n octets ≡ line ++ octets = append_assoc line (take n octets) (drop n octets) ∙ ap (λ l. line ++ l) (take-append-drop n octets) in
-      let front : IsOpen (line ++ take n octets) = recursion_from_All _ _ (All-append (λ x. x ≢ 10) line (take n octets) o (All-take (λ x. x ≢ 10) n octets p)) in
-      subst (λ l. Moves a a l (line ++ take n octets)) whole (moves_cut a (line ++ take n octets) (drop n octets) front (recursion_from_All _ _ (All-drop (λ x. x ≢ 10) n octets p)) size)
-  | inr all ↦ subst (λ l. Moves a a (line ++ octets) (line ++ l)) (sym (take_all n octets all)) (moves_none a (line ++ octets))
+      let whole : (line ++ take n octets) ++ drop n octets ≡ line ++ octets =
+      append_assoc line (take n octets) (drop n octets) ∙ ap (λ l. line ++ l) (take-append-drop n octets) in
+      let front : IsOpen (line ++ take n octets) = recursion_from_All _ _
+      (All-append (λ x. x ≢ 10) line (take n octets) o (All-take (λ x. x ≢ 10) n octets p)) in
+      subst (λ l. Moves a a l (line ++ take n octets)) whole (moves_cut a (line ++ take n octets) (drop n octets) front
+      (recursion_from_All _ _ (All-drop (λ x. x ≢ 10) n octets p)) size)
+  | inr all ↦
+      subst (λ l. Moves a a (line ++ octets) (line ++ l)) (sym (take_all n octets all)) (moves_none a (line ++ octets))
 ]
 
 -- the line was empty, and one that octets end was answered
-pub moves_first : {a b : Option (List ℕ)} (line last ended : List ℕ) → length line ≡ 0 → All (λ x. x ≢ 10) last → IsAnswerLine last ended → Appends a b ended → Moves a b ((line ++ last) ++ 10 ∷ []) line
+pub moves_first : {a b : Option (List ℕ)} (line last ended : List ℕ) → length line ≡ 0 → All (λ x. x ≢ 10) last →
+    IsAnswerLine last ended → Appends a b ended → Moves a b ((line ++ last) ++ 10 ∷ []) line
 moves_first [] last ended none o is t = moves_ended last ended (recursion_from_All _ _ o) is t
 moves_first (x ∷ line) last ended none o is t = absurd (omega (arith, none))
 
-pub begins_first : {a b : Option (List ℕ)} (line last front : List ℕ) → length line ≡ 0 → All (λ x. x ≢ 10) last → (front ≡ []) ⊎ BeginsAnswer last front → Appends a b front → Begins a b ((line ++ last) ++ 10 ∷ [])
+pub begins_first : {a b : Option (List ℕ)} (line last front : List ℕ) → length line ≡ 0 → All (λ x. x ≢ 10) last →
+    (front ≡ []) ⊎ BeginsAnswer last front → Appends a b front → Begins a b ((line ++ last) ++ 10 ∷ [])
 begins_first [] last front none o is t = begins_ended last front (recursion_from_All _ _ o) is t
 begins_first (x ∷ line) last front none o is t = absurd (omega (arith, none))
 
 -- no octets were taken yet
-pub moves_start : (a : Option (List ℕ)) (line octets : List ℕ) → (done : List ℕ) × (octets ≡ done ++ octets) × Moves a a (line ++ done) line
+pub moves_start : (a : Option (List ℕ)) (line octets : List ℕ) →
+    (done : List ℕ) × (octets ≡ done ++ octets) × Moves a a (line ++ done) line
 moves_start a line octets = ([], refl, subst (λ l. Moves a a l line) (sym (append-nil line)) (moves_none a line))
 
 pub shorter : (rest last after : List ℕ) → rest ≡ last ++ 10 ∷ after → length after < length rest
 shorter rest last after e = rw e (omega (arith, length-append last (10 ∷ after)))
 
 -- one more line that octets end
-pub moves_line : {a b c : Option (List ℕ)} {kept next : List ℕ} (first octets done rest last after : List ℕ) → octets ≡ done ++ rest → rest ≡ last ++ 10 ∷ after → Moves a b (first ++ done) kept
-    → Moves b c ((kept ++ last) ++ 10 ∷ []) next → (all : List ℕ) × (octets ≡ all ++ after) × Moves a c (first ++ all) next
+pub moves_line : {a b c : Option (List ℕ)} {kept next : List ℕ} (first octets done rest last after : List ℕ) →
+    octets ≡ done ++ rest → rest ≡ last ++ 10 ∷ after → Moves a b (first ++ done) kept
+    → Moves b c ((kept ++ last) ++ 10 ∷ []) next →
+    (all : List ℕ) × (octets ≡ all ++ after) × Moves a c (first ++ all) next
 moves_line {a} {b} {c} {kept} {next} first octets done rest last after whole split p q =
     let line = last ++ 10 ∷ [] in
-    let seam : done ++ rest ≡ (done ++ line) ++ after = ap (λ l. done ++ l) (split ∙ sym (append_assoc last (10 ∷ []) after)) ∙ sym (append_assoc done line after) in (
+    let seam : done ++ rest ≡ (done ++ line) ++ after =
+    ap (λ l. done ++ l) (split ∙ sym (append_assoc last (10 ∷ []) after)) ∙ sym (append_assoc done line after) in (
       done ++ line,
       whole ∙ seam,
       subst (λ l. Moves a c l next) (append_assoc first done line)
@@ -130,50 +155,69 @@ moves_line {a} {b} {c} {kept} {next} first octets done rest last after whole spl
     )
 
 -- a beginning of its answer was written
-pub begins_line : {a b c : Option (List ℕ)} {kept : List ℕ} (first octets done rest last after : List ℕ) → octets ≡ done ++ rest → rest ≡ last ++ 10 ∷ after → Moves a b (first ++ done) kept
+pub begins_line : {a b c : Option (List ℕ)} {kept : List ℕ} (first octets done rest last after : List ℕ) →
+    octets ≡ done ++ rest → rest ≡ last ++ 10 ∷ after → Moves a b (first ++ done) kept
     → Begins b c ((kept ++ last) ++ 10 ∷ []) → Begins a c (first ++ octets)
 begins_line {a} {b} {c} {kept} first octets done rest last after whole split p q =
     let line = last ++ 10 ∷ [] in
-    let seam : done ++ rest ≡ (done ++ line) ++ after = ap (λ l. done ++ l) (split ∙ sym (append_assoc last (10 ∷ []) after)) ∙ sym (append_assoc done line after) in
+    let seam : done ++ rest ≡ (done ++ line) ++ after =
+    ap (λ l. done ++ l) (split ∙ sym (append_assoc last (10 ∷ []) after)) ∙ sym (append_assoc done line after) in
     let begun = moves_begins (moves_more line p) (subst (Begins b c) (append_assoc kept last (10 ∷ [])) q) in
     subst (Begins a c) (append_assoc first (done ++ line) after ∙ ap (λ l. first ++ l) (sym (whole ∙ seam)))
     (begins_more after (subst (Begins a c) (append_assoc first done line) begun))
 
 -- what follows the last line was kept
-pub moves_rest : {a b : Option (List ℕ)} {kept next : List ℕ} (first octets done rest : List ℕ) → octets ≡ done ++ rest → Moves a b (first ++ done) kept → Moves b b (kept ++ rest) next → Moves a b (first ++ octets) next
+pub moves_rest : {a b : Option (List ℕ)} {kept next : List ℕ} (first octets done rest : List ℕ) →
+    octets ≡ done ++ rest → Moves a b (first ++ done) kept → Moves b b (kept ++ rest) next →
+    Moves a b (first ++ octets) next
 moves_rest {a} {b} {kept} {next} first octets done rest whole p q =
-    subst (λ l. Moves a b l next) (append_assoc first done rest ∙ ap (λ l. first ++ l) (sym whole)) (moves_both (moves_more rest p) q)
+    subst (λ l. Moves a b l next) (append_assoc first done rest ∙ ap (λ l. first ++ l) (sym whole))
+    (moves_both (moves_more rest p) q)
 
 -- or could not be kept
-pub begins_rest : {a b : Option (List ℕ)} {kept : List ℕ} (first octets done rest : List ℕ) → octets ≡ done ++ rest → Moves a b (first ++ done) kept → Begins a b (first ++ octets)
+pub begins_rest : {a b : Option (List ℕ)} {kept : List ℕ} (first octets done rest : List ℕ) → octets ≡ done ++ rest →
+    Moves a b (first ++ done) kept → Begins a b (first ++ octets)
 begins_rest {a} {b} {kept} first octets done rest whole p =
-    subst (Begins a b) (append_assoc first done rest ∙ ap (λ l. first ++ l) (sym whole)) (begins_more rest (moves_begins p (begins_none b kept)))
+    subst (Begins a b) (append_assoc first done rest ∙ ap (λ l. first ++ l) (sym whole))
+    (begins_more rest (moves_begins p (begins_none b kept)))
 
 -- the end of input ends a line
-pub last_answers : (line ended : List ℕ) → IsOpen line → (line ≡ [] → ⊥) → IsAnswerLine line ended → AnswersTo line ended
+pub last_answers : (line ended : List ℕ) → IsOpen line → (line ≡ [] → ⊥) → IsAnswerLine line ended →
+    AnswersTo line ended
 last_answers [] ended o n a = absurd (n refl)
-last_answers (x ∷ line) ended o n a = subst (λ l. AreAnswers l ended) (sym (lines_of_last x line o)) (ended, [], a, refl, sym (append-nil ended))
+last_answers (x ∷ line) ended o n a =
+    subst (λ l. AreAnswers l ended) (sym (lines_of_last x line o)) (ended, [], a, refl, sym (append-nil ended))
 
-pub last_begun : (line front : List ℕ) → IsOpen line → (line ≡ [] → ⊥) → (front ≡ []) ⊎ BeginsAnswer line front → BeginsAnswersTo line front
+pub last_begun : (line front : List ℕ) → IsOpen line → (line ≡ [] → ⊥) → (front ≡ []) ⊎ BeginsAnswer line front →
+    BeginsAnswersTo line front
 last_begun [] front o n h = absurd (n refl)
-last_begun (x ∷ line) front o n h = subst (λ l. BeginAnswers l front) (sym (lines_of_last x line o)) (begun_first (x ∷ line) front [] h)
+last_begun (x ∷ line) front o n h =
+    subst (λ l. BeginAnswers l front) (sym (lines_of_last x line o)) (begun_first (x ∷ line) front [] h)
 
 -- the whole input was read, and its last line answered, or a beginning of that answer written
-pub answered_input : (all : Bool) (old new : Option (List ℕ)) (a b c : Option (List ℕ)) (read line texts : List ℕ) → Consumes old new read → IsAtEnd new → Moves a b read line → Answers all (lines_of line) texts → Appends b c texts
+pub answered_input : (all : Bool) (old new : Option (List ℕ)) (a b c : Option (List ℕ)) (read line texts : List ℕ) →
+    Consumes old new read → IsAtEnd new → Moves a b read line → Answers all (lines_of line) texts → Appends b c texts
     → IfSome old (λ octets. (texts : List ℕ) × Answers all (lines_of octets) texts × Appends a c texts)
 answered_input all None new a b c read line texts e n m t p = tt
 answered_input all (Some xs) None a b c read line texts e n m t p = absurd e
 answered_input all (Some xs) (Some ys) a b c read line texts e n m t p =
-    let is : read ++ [] ≡ xs = sym (e ∙ ap (λ l. read ++ l) n) in
-    (m.gained ++ texts, subst (λ l. Answers all (lines_of l) (m.gained ++ texts)) is (m.joins all [] texts (subst (λ l. Answers all (lines_of l) texts) (sym (append-nil line)) t)), appends_both _ _ _ _ _ m.told p)
+    let is : read ++ [] ≡ xs = sym (e ∙ ap (λ l. read ++ l) n) in (
+      m.gained ++ texts,
+      subst (λ l. Answers all (lines_of l) (m.gained ++ texts)) is
+          (m.joins all [] texts (subst (λ l. Answers all (lines_of l) texts) (sym (append-nil line)) t)),
+      appends_both _ _ _ _ _ m.told p,
+    )
 
 -- it was read up to a failure
-pub begun_input : (old new : Option (List ℕ)) (a b : Option (List ℕ)) (read : List ℕ) → Consumes old new read → Begins a b read → IfSome old (λ octets. (texts : List ℕ) × BeginsAnswersTo octets texts × Appends a b texts)
+pub begun_input : (old new : Option (List ℕ)) (a b : Option (List ℕ)) (read : List ℕ) → Consumes old new read →
+    Begins a b read → IfSome old (λ octets. (texts : List ℕ) × BeginsAnswersTo octets texts × Appends a b texts)
 begun_input None new a b read e p = tt
 begun_input (Some xs) None a b read e p = absurd e
-begun_input (Some xs) (Some ys) a b read e p = (p.gained, subst (λ l. BeginsAnswersTo l p.gained) (sym e) (p.front ys), p.told)
+begun_input (Some xs) (Some ys) a b read e p =
+    (p.gained, subst (λ l. BeginsAnswersTo l p.gained) (sym e) (p.front ys), p.told)
 
-pub consumes_both : (a b c : Option (List ℕ)) (bs cs : List ℕ) → Consumes a b bs → Consumes b c cs → Consumes a c (bs ++ cs)
+pub consumes_both : (a b c : Option (List ℕ)) (bs cs : List ℕ) → Consumes a b bs → Consumes b c cs →
+    Consumes a c (bs ++ cs)
 consumes_both None b c bs cs p q = tt
 consumes_both (Some x) None c bs cs p q = absurd p
 consumes_both (Some x) (Some y) None bs cs p q = absurd q
@@ -183,5 +227,7 @@ pub begins_moved : {a b : Option (List ℕ)} {xs ys : List ℕ} → Moves a b xs
 begins_moved {a} {b} {xs} {ys} m = moves_begins m (begins_none b ys)
 
 -- a read of no octets
-pub moves_zero : {a b : Option (List ℕ)} {ys : List ℕ} (xs : List ℕ) (n : ℕ) (buf : List ℕ) → n ≡ 0 → Moves a b xs ys → Moves a b (xs ++ take n buf) ys
-moves_zero {a} {b} {ys} xs n buf e m = subst (λ l. Moves a b l ys) (sym (ap (λ k. xs ++ take k buf) e ∙ append-nil xs)) m
+pub moves_zero : {a b : Option (List ℕ)} {ys : List ℕ} (xs : List ℕ) (n : ℕ) (buf : List ℕ) → n ≡ 0 → Moves a b xs ys →
+    Moves a b (xs ++ take n buf) ys
+moves_zero {a} {b} {ys} xs n buf e m =
+    subst (λ l. Moves a b l ys) (sym (ap (λ k. xs ++ take k buf) e ∙ append-nil xs)) m

@@ -23,7 +23,8 @@ BeginsAnswersTo octets texts = Answers false (lines_of octets) texts
 pub record Moves (old new : Option (List ℕ)) (before after : List ℕ) : Type 0 where
   pub gained : List ℕ
   pub told : Appends old new gained
-  pub joins : (all : Bool) (rest texts : List ℕ) → Answers all (lines_of (after ++ rest)) texts → Answers all (lines_of (before ++ rest)) (gained ++ texts)
+  pub joins : (all : Bool) (rest texts : List ℕ) → Answers all (lines_of (after ++ rest)) texts →
+      Answers all (lines_of (before ++ rest)) (gained ++ texts)
 
 -- the writer gained a beginning of the answers, whatever follows
 pub record Begins (old new : Option (List ℕ)) (before : List ℕ) : Type 0 where

@@ -1,5 +1,6 @@
 -- Characters read one after the other from octets in a code of characters, and written so.
-use Rattle.std.proofs.Common.{◌≡◌, ℕ, ◌+◌, ◌*◌, ◌<◌, ◌≤◌, true, List, [], ◌∷◌, ◌++◌, length, length-append, append_assoc, append-nil, encode_utf8_all, refl, ap, ap₂, sym, ◌∙◌, arith}
+use Rattle.std.proofs.Common.{◌≡◌, ℕ, ◌+◌, ◌*◌, ◌<◌, ◌≤◌, true, List, [], ◌∷◌, ◌++◌, length, length-append}
+use Rattle.std.proofs.Common.{append_assoc, append-nil, encode_utf8_all, refl, ap, ap₂, sym, ◌∙◌, arith}
 use Rattle.std.specs.Char.{encode_utf8, IsScalar}
 use Rattle.std.specs.Str.{IsUtf8, all_scalars, chars}
 use Rattle.std.proofs.lemmas.Bool.{and_parts}
@@ -20,42 +21,54 @@ scalars_more [] c h s = grind arith
 scalars_more (x ∷ cs) c h s = let p = and_parts (scalar x) (all_scalars cs) h in rw (p.0, scalars_more cs c p.1 s)
 
 pub utf8_more : (cs : List ℕ) (c : ℕ) → encode_utf8_all (cs ++ c ∷ []) ≡ encode_utf8_all cs ++ encode_utf8 c
-utf8_more cs c = encodes-append cs (c ∷ []) ∙ ap (λ (xs : List ℕ). encode_utf8_all cs ++ xs) (append-nil (encode_utf8 c))
+utf8_more cs c =
+    encodes-append cs (c ∷ []) ∙ ap (λ (xs : List ℕ). encode_utf8_all cs ++ xs) (append-nil (encode_utf8 c))
 
-pub utf8_len_more : (cs : List ℕ) (c : ℕ) → length (encode_utf8_all (cs ++ c ∷ [])) ≡ length (encode_utf8_all cs) + length (encode_utf8 c)
+pub utf8_len_more : (cs : List ℕ) (c : ℕ) →
+    length (encode_utf8_all (cs ++ c ∷ [])) ≡ length (encode_utf8_all cs) + length (encode_utf8 c)
 utf8_len_more cs c = ap length (utf8_more cs c) ∙ length-append (encode_utf8_all cs) (encode_utf8 c)
 
 module _ (octets_of : ℕ → List ℕ) (is : IsCharacterCode octets_of) where
   pub code_more : (cs : List ℕ) (c : ℕ) → code_of octets_of (cs ++ c ∷ []) ≡ code_of octets_of cs ++ octets_of c
-  code_more cs c = flat_map-append octets_of cs (c ∷ []) ∙ ap (λ (xs : List ℕ). code_of octets_of cs ++ xs) (append-nil (octets_of c))
+  code_more cs c = flat_map-append octets_of cs (c ∷ [])
+      ∙ ap (λ (xs : List ℕ). code_of octets_of cs ++ xs) (append-nil (octets_of c))
 
   pub no_characters_read : (octets : List ℕ) → AreRead octets_of octets [] octets
   no_characters_read octets = record { scalars = refl; is = refl }
 
-  pub one_more_read : (octets cs rest others : List ℕ) (c : ℕ) → AreRead octets_of octets cs rest → BeginsWithCharacter octets_of rest c others → AreRead octets_of octets (cs ++ c ∷ []) others
+  pub one_more_read : (octets cs rest others : List ℕ) (c : ℕ) → AreRead octets_of octets cs rest →
+      BeginsWithCharacter octets_of rest c others → AreRead octets_of octets (cs ++ c ∷ []) others
   one_more_read octets cs rest others c r b = record {
     scalars = scalars_more cs c r.scalars b.scalar;
-    is = r.is ∙ ap (λ (xs : List ℕ). code_of octets_of cs ++ xs) b.is ∙ sym (append_assoc (code_of octets_of cs) (octets_of c) others) ∙ ap (λ (xs : List ℕ). xs ++ others) (sym (code_more cs c));
+    is = r.is ∙ ap (λ (xs : List ℕ). code_of octets_of cs ++ xs) b.is
+        ∙ sym (append_assoc (code_of octets_of cs) (octets_of c) others)
+        ∙ ap (λ (xs : List ℕ). xs ++ others) (sym (code_more cs c));
   }
 
   pub all_read : (octets cs : List ℕ) → AreRead octets_of octets cs [] → Codes (code_of octets_of) octets cs
   all_read octets cs r = (r.scalars, r.is ∙ append-nil (code_of octets_of cs))
 
   -- a text of all octets goes on behind them
-  pub rest_read : (cs ds rest : List ℕ) → all_scalars cs ≡ true → all_scalars ds ≡ true → code_of octets_of ds ≡ code_of octets_of cs ++ rest → (more : List ℕ) × Codes (code_of octets_of) rest more × (ds ≡ cs ++ more)
+  pub rest_read : (cs ds rest : List ℕ) → all_scalars cs ≡ true → all_scalars ds ≡ true →
+      code_of octets_of ds ≡ code_of octets_of cs ++ rest →
+      (more : List ℕ) × Codes (code_of octets_of) rest more × (ds ≡ cs ++ more)
   rest_read [] ds rest s t e = (ds, (t, sym e), refl)
   rest_read (c ∷ cs) [] rest s t e =
       let l = ap length (e ∙ append_assoc (octets_of c) (code_of octets_of cs) rest) in
-      absurd (omega (arith, l, character_some octets_of is c, length-append (octets_of c) (code_of octets_of cs ++ rest)))
+      absurd
+      (omega (arith, l, character_some octets_of is c, length-append (octets_of c) (code_of octets_of cs ++ rest)))
   rest_read (c ∷ cs) (d ∷ ds) rest s t e =
       let p = and_parts (scalar c) (all_scalars cs) s in
       let q = and_parts (scalar d) (all_scalars ds) t in
-      let o = is.one d c (code_of octets_of ds) (code_of octets_of cs ++ rest) q.0 p.0 (e ∙ append_assoc (octets_of c) (code_of octets_of cs) rest) in
+      let o = is.one d c (code_of octets_of ds) (code_of octets_of cs ++ rest) q.0 p.0
+      (e ∙ append_assoc (octets_of c) (code_of octets_of cs) rest) in
       let m = rest_read cs ds rest p.1 q.1 o.1 in
       (m.0, m.1, ap₂ (λ (x : ℕ) (xs : List ℕ). x ∷ xs) o.0 m.2)
 
   -- and where no character begins the rest, there is none
-  pub none_left : (octets cs rest : List ℕ) → AreRead octets_of octets cs rest → ((c : ℕ) (others : List ℕ) → BeginsWithCharacter octets_of rest c others → ⊥) → (ds : List ℕ) → Codes (code_of octets_of) octets ds → (rest ≡ []) × (ds ≡ cs)
+  pub none_left : (octets cs rest : List ℕ) → AreRead octets_of octets cs rest →
+      ((c : ℕ) (others : List ℕ) → BeginsWithCharacter octets_of rest c others → ⊥) → (ds : List ℕ) →
+      Codes (code_of octets_of) octets ds → (rest ≡ []) × (ds ≡ cs)
   none_left octets cs rest r none ds t =
       let m = rest_read cs ds rest r.scalars t.0 (sym t.1 ∙ r.is) in
       let n = by_more m.0 m.1 in
@@ -63,22 +76,37 @@ module _ (octets_of : ℕ → List ℕ) (is : IsCharacterCode octets_of) where
     where
       by_more : (more : List ℕ) → Codes (code_of octets_of) rest more → (rest ≡ []) × (more ≡ [])
       by_more [] h = (h.1, refl)
-      by_more (c ∷ more) h = absurd (none c (code_of octets_of more) (record { scalar = (and_parts (scalar c) (all_scalars more) h.0).0; is = h.1 }))
+      by_more (c ∷ more) h = absurd (none c (code_of octets_of more) (record {
+        scalar = (and_parts (scalar c) (all_scalars more) h.0).0;
+        is = h.1;
+      }))
 
   pub text_utf8 : (cs : List ℕ) → 2 * length (encode_utf8_all cs) ≤ 3 * length (code_of octets_of cs)
   text_utf8 [] = omega arith
-  text_utf8 (c ∷ cs) = omega (arith, is.utf8 c, text_utf8 cs, length-append (encode_utf8 c) (encode_utf8_all cs), length-append (octets_of c) (code_of octets_of cs))
+  text_utf8 (c ∷ cs) = omega (
+    arith,
+    is.utf8 c,
+    text_utf8 cs,
+    length-append (encode_utf8 c) (encode_utf8_all cs),
+    length-append (octets_of c) (code_of octets_of cs),
+  )
 
   -- octets of which characters were read are no fewer than two thirds of their UTF-8
-  pub read_utf8 : (octets cs rest : List ℕ) → AreRead octets_of octets cs rest → 2 * length (encode_utf8_all cs) ≤ 3 * length octets
+  pub read_utf8 : (octets cs rest : List ℕ) → AreRead octets_of octets cs rest →
+      2 * length (encode_utf8_all cs) ≤ 3 * length octets
   read_utf8 octets cs rest r = omega (arith, text_utf8 cs, ap length r.is, length-append (code_of octets_of cs) rest)
 
-  pub begun_shorter : (octets rest : List ℕ) (c : ℕ) → BeginsWithCharacter octets_of octets c rest → length rest < length octets
-  begun_shorter octets rest c b = omega (arith, character_some octets_of is c, ap length b.is, length-append (octets_of c) rest)
+  pub begun_shorter : (octets rest : List ℕ) (c : ℕ) → BeginsWithCharacter octets_of octets c rest →
+      length rest < length octets
+  begun_shorter octets rest c b =
+      omega (arith, character_some octets_of is c, ap length b.is, length-append (octets_of c) rest)
 
   -- the first character of a text, and then the others
-  pub code_past : (text rest : List ℕ) (c : ℕ) → IsUtf8 text → text ≡ encode_utf8 c ++ rest → code_of octets_of (chars text) ≡ octets_of c ++ code_of octets_of (chars rest)
+  pub code_past : (text rest : List ℕ) (c : ℕ) → IsUtf8 text → text ≡ encode_utf8 c ++ rest →
+      code_of octets_of (chars text) ≡ octets_of c ++ code_of octets_of (chars rest)
   code_past text rest c u e = ap (code_of octets_of) (chars_past_char text rest c u e)
 
-  pub code_len_past : (text rest : List ℕ) (c : ℕ) → IsUtf8 text → text ≡ encode_utf8 c ++ rest → length (code_of octets_of (chars text)) ≡ length (octets_of c) + length (code_of octets_of (chars rest))
-  code_len_past text rest c u e = ap length (code_past text rest c u e) ∙ length-append (octets_of c) (code_of octets_of (chars rest))
+  pub code_len_past : (text rest : List ℕ) (c : ℕ) → IsUtf8 text → text ≡ encode_utf8 c ++ rest →
+      length (code_of octets_of (chars text)) ≡ length (octets_of c) + length (code_of octets_of (chars rest))
+  code_len_past text rest c u e =
+      ap length (code_past text rest c u e) ∙ length-append (octets_of c) (code_of octets_of (chars rest))

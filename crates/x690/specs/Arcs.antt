@@ -1,5 +1,6 @@
 -- Arcs: what the contents octets of object identifiers say, and those of relative ones (X.690 8.19, 8.20).
-use Rattle.std.specs.Prelude.{◌≡◌, ◌≢◌, ℕ, ◌+◌, ◌-◌, ◌*◌, ◌<◌, ◌≤◌, Bool, true, false, List, [], ◌∷◌, map, get_or, flat_map, decimal, nat_lt, if◌then◌else◌}
+use Rattle.std.specs.Prelude.{◌≡◌, ◌≢◌, ℕ, ◌+◌, ◌-◌, ◌*◌, ◌<◌, ◌≤◌, Bool, true, false, List, [], ◌∷◌, map, get_or}
+use Rattle.std.specs.Prelude.{flat_map, decimal, nat_lt, if◌then◌else◌}
 use Rattle.std.specs.List.{All, join_with_byte}
 use Rattle.x690.specs.Digits.{base_128_value}
 use Rattle.x690.specs.Identifiers.{AreTagDigits}
@@ -13,7 +14,8 @@ in_front octet (piece ∷ pieces) = (octet ∷ piece) ∷ pieces
 -- The octets, cut behind each one whose bit 8 is not set. What is left behind the last of these is a piece too.
 abbrev pub pieces_of : List ℕ → List (List ℕ)
 pieces_of [] = []
-pieces_of (octet ∷ octets) = if nat_lt octet 128 then (octet ∷ []) ∷ pieces_of octets else in_front octet (pieces_of octets)
+pieces_of (octet ∷ octets) =
+    if nat_lt octet 128 then (octet ∷ []) ∷ pieces_of octets else in_front octet (pieces_of octets)
 
 -- the number of each piece (8.19.2)
 abbrev pub subidentifiers : List ℕ → List ℕ
@@ -27,6 +29,7 @@ first_subidentifier content = get_or (subidentifiers content) 0 0
 abbrev pub first_arc : ℕ → ℕ
 first_arc n = if nat_lt n 40 then 0 else if nat_lt n 80 then 1 else 2
 
+-- the second arc that the first subidentifier says (8.19.4)
 abbrev pub second_arc : ℕ → ℕ
 second_arc n = n - 40 * first_arc n
 
@@ -34,6 +37,7 @@ second_arc n = n - 40 * first_arc n
 abbrev pub IsFirstPair : ℕ → ℕ → Type 0
 IsFirstPair x y = (x ≤ 2) × (x < 2 → y < 40)
 
+-- the subidentifiers with two arcs in the place of the first of them
 abbrev pub with_first_split : List ℕ → List ℕ
 with_first_split [] = []
 with_first_split (n ∷ ns) = first_arc n ∷ second_arc n ∷ ns
@@ -44,7 +48,8 @@ absolute_arcs [] = []
 absolute_arcs (octet ∷ []) = if nat_lt 0 octet then with_first_split (subidentifiers (octet ∷ [])) else 0 ∷ []
 absolute_arcs (octet ∷ next ∷ octets) = with_first_split (subidentifiers (octet ∷ next ∷ octets))
 
--- The arcs that contents octets say, where `true` is of a relative identifier: its arcs are the subidentifiers (8.20.2).
+-- The arcs that contents octets say, where `true` is of a relative identifier:
+-- its arcs are the subidentifiers (8.20.2).
 abbrev pub arcs_of : Bool → List ℕ → List ℕ
 arcs_of true content = subidentifiers content
 arcs_of false content = absolute_arcs content
@@ -72,6 +77,7 @@ AreAbsoluteArcs (x ∷ y ∷ arcs) = IsFirstPair x y
 abbrev pub subidentifier_octets : List ℕ → List ℕ
 subidentifier_octets ns = flat_map tag_digits ns
 
+-- the arcs with one subidentifier in the place of the first two
 abbrev pub with_first_joined : List ℕ → List ℕ
 with_first_joined [] = []
 with_first_joined (x ∷ []) = x ∷ []

@@ -21,9 +21,11 @@ ucs4_octets_of c = (c / 16777216) ∷ (c / 65536 % 256) ∷ (c / 256 % 256) ∷ 
 abbrev pub code_of : (ℕ → List ℕ) → List ℕ → List ℕ
 code_of octets_of cs = flat_map octets_of cs
 
+-- the text in UTF-16
 abbrev pub utf16_octets : List ℕ → List ℕ
 utf16_octets cs = code_of utf16_octets_of cs
 
+-- the text in UCS-4
 abbrev pub ucs4_octets : List ℕ → List ℕ
 ucs4_octets cs = code_of ucs4_octets_of cs
 
@@ -41,9 +43,11 @@ pub record BeginsWithCharacter (octets_of : ℕ → List ℕ) (octets : List ℕ
   pub scalar : IsScalar c
   pub is : BeginsWith octets (octets_of c) rest
 
--- A code of characters in octets, four at most. No character's octets begin another's, and in UTF-8 a character has at most half as many octets again.
+-- A code of characters in octets, four at most. No character's octets begin another's,
+-- and in UTF-8 a character has at most half as many octets again.
 pub record IsCharacterCode (octets_of : ℕ → List ℕ) : Type 0 where
-  pub one : (c d : ℕ) (rest tail : List ℕ) → IsScalar c → IsScalar d → octets_of c ++ rest ≡ octets_of d ++ tail → (c ≡ d) × (rest ≡ tail)
+  pub one : (c d : ℕ) (rest tail : List ℕ) → IsScalar c → IsScalar d → octets_of c ++ rest ≡ octets_of d ++ tail →
+      (c ≡ d) × (rest ≡ tail)
   pub octets : (c : ℕ) → IsScalar c → IsOctets (octets_of c)
   pub few : (c : ℕ) → length (octets_of c) ≤ 4
   pub utf8 : (c : ℕ) → 2 * length (encode_utf8 c) ≤ 3 * length (octets_of c)

@@ -12,6 +12,7 @@ use mathlib.Core.Quot.{Quot, mk}
 abbrev pub Multiset : Type 0 → Type 0
 Multiset V = Quot (IsPermutation {X = V})
 
+-- the multiset of these values
 abbrev pub multiset : {V : Type 0} → List V → Multiset V
 multiset vs = mk vs
 
@@ -23,6 +24,7 @@ HaveSame {V} xs ys = (v : V) → Contains xs v ↔ Contains ys v
 abbrev pub ValueSet : Type 0 → Type 0
 ValueSet V = Quot (HaveSame {V = V})
 
+-- the set of these values
 abbrev pub value_set : {V : Type 0} → List V → ValueSet V
 value_set vs = mk vs
 
@@ -54,7 +56,8 @@ IsStrictWith id Content m octets = (content : List ℕ) × Content m content × 
 
 -- The octets are encodings of a collection's items, joined in ascending order.
 -- `of` says what collection a list of items is, and Each how a list has to stand for it.
-pub record Joins {V M : Type 0} (of : List V → M) (Each : List V → Type 0) (Strict : V → List ℕ → Type 0) (m : M) (c : List ℕ) : Type 0 where
+pub record Joins {V M : Type 0} (of : List V → M) (Each : List V → Type 0) (Strict : V → List ℕ → Type 0) (m : M)
+    (c : List ℕ) : Type 0 where
   pub items : List V
   pub strings : List (List ℕ)
   pub once : Each items

@@ -6,9 +6,11 @@ abbrev pub weighted_sum : ℕ → List ℕ → ℕ
 weighted_sum base [] = 0
 weighted_sum base (digit ∷ digits) = digit * base ^ length digits + weighted_sum base digits
 
+-- the number that octets say as digits of base 256
 abbrev pub base_256_value : List ℕ → ℕ
 base_256_value octets = weighted_sum 256 octets
 
+-- what bits 7 to 1 of an octet say
 abbrev pub low_seven_bits : ℕ → ℕ
 low_seven_bits octet = octet % 128
 
@@ -20,4 +22,5 @@ base_128_value octets = weighted_sum 128 (map low_seven_bits octets)
 abbrev pub twos_complement_value : List ℕ → ℤ
 twos_complement_value [] = pos 0
 twos_complement_value (first ∷ others) =
-    if nat_lt first 128 then pos (base_256_value (first ∷ others)) else pos (base_256_value (first ∷ others)) -ℤ pos (256 ^ length (first ∷ others))
+    if nat_lt first 128 then pos (base_256_value (first ∷ others))
+    else pos (base_256_value (first ∷ others)) -ℤ pos (256 ^ length (first ∷ others))

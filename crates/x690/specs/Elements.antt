@@ -50,13 +50,16 @@ pub record IsStrictElement (octets : List ℕ) (id : Identifier) (content : List
 
 -- the rule allows what a writer writes
 pub record AllowsStrict (rule : Rule) : Type 0 where
-  pub identifier : (octets : List ℕ) (id : Identifier) → IsStrictIdentifier octets id → rule.allows_identifier octets ≡ true
+  pub identifier : (octets : List ℕ) (id : Identifier) → IsStrictIdentifier octets id →
+      rule.allows_identifier octets ≡ true
   pub length : (octets : List ℕ) (n : ℕ) → IsStrictLength octets n → rule.allows_length octets ≡ true
 
 -- a header by the rule begins the octets
 abbrev pub BeginsWithHeader : Rule → List ℕ → Type 0
-BeginsWithHeader rule octets = (header : List ℕ) × (rest : List ℕ) × (id : Identifier) × (form : LengthForm) × IsHeader rule header id form × BeginsWith octets header rest
+BeginsWithHeader rule octets = (header : List ℕ) × (rest : List ℕ) × (id : Identifier) × (form : LengthForm) ×
+    IsHeader rule header id form × BeginsWith octets header rest
 
 -- an element begins the octets
 abbrev pub BeginsWithElement : (List ℕ → Parts → Type 0) → List ℕ → Type 0
-BeginsWithElement ElementOf octets = (word : List ℕ) × (rest : List ℕ) × (parts : Parts) × ElementOf word parts × BeginsWith octets word rest
+BeginsWithElement ElementOf octets =
+    (word : List ℕ) × (rest : List ℕ) × (parts : Parts) × ElementOf word parts × BeginsWith octets word rest

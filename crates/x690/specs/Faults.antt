@@ -12,7 +12,8 @@ pub data Breach : Type 0 where
   length_breach : Breach
   form_breach : Breach
 
--- What is wrong: so many octets are missing; identifier octets that are cut or too great; length octets that are ff or too great; a header that its rule does not allow; a depth that is spent.
+-- What is wrong: so many octets are missing; identifier octets that are cut or too great; length octets that are ff or
+-- too great; a header that its rule does not allow; a depth that is spent.
 pub data Fault : Type 0 where
   missing : ℕ → Fault
   tag_fault : Fault
@@ -23,7 +24,8 @@ pub data Fault : Type 0 where
 -- nothing is there, or no front of the octets is an identifier
 abbrev pub IdentifierFault : List ℕ → Fault → Type 0
 IdentifierFault octets (missing n) = (octets ≡ []) × (n ≡ 1)
-IdentifierFault octets tag_fault = (octets ≢ []) × ((front rest : List ℕ) (id : Identifier) → octets ≡ front ++ rest → IsIdentifier front id → ⊥)
+IdentifierFault octets tag_fault =
+    (octets ≢ []) × ((front rest : List ℕ) (id : Identifier) → octets ≡ front ++ rest → IsIdentifier front id → ⊥)
 IdentifierFault octets _ = ⊥
 
 -- n octets are missing of the length octets that the first one announces
@@ -33,7 +35,8 @@ IsCutLength (first ∷ others) n = (k : ℕ) × (first ≡ 128 + k) × (k ≤ 12
 
 -- the length is past what 64 bits hold
 abbrev pub IsHugeLength : List ℕ → Type 0
-IsHugeLength octets = (others : List ℕ) × (rest : List ℕ) × (1 ≤ length others) × (length others ≤ 126) × (octets ≡ (128 + length others) ∷ others ++ rest) × (2 ^ 64 ≤ base_256_value others)
+IsHugeLength octets = (others : List ℕ) × (rest : List ℕ) × (1 ≤ length others) × (length others ≤ 126) ×
+    (octets ≡ (128 + length others) ∷ others ++ rest) × (2 ^ 64 ≤ base_256_value others)
 
 -- ff announces no length
 abbrev pub LengthFault : List ℕ → Fault → Type 0
@@ -41,6 +44,7 @@ LengthFault octets (missing n) = IsCutLength octets n
 LengthFault octets length_fault = ((others : List ℕ) × (octets ≡ 255 ∷ others)) ⊎ IsHugeLength octets
 LengthFault octets _ = ⊥
 
+-- what a length that the rule does not allow breaches: its octets where it is definite, else the form
 abbrev pub breach_of : LengthForm → Breach
 breach_of (definite n) = length_breach
 breach_of indefinite = form_breach
@@ -58,7 +62,8 @@ pub record IsLengthBreach (rule : Rule) (id : Identifier) (octets : List ℕ) (f
 -- the rule does not allow the identifier octets; or it does, and no length that it allows follows
 abbrev pub FaultFrom : Rule → List ℕ → Identifier → List ℕ → Fault → Type 0
 FaultFrom rule identifier id rest fault =
-    ((rule.allows_identifier identifier ≡ false) × (fault ≡ rule_fault identifier_breach)) ⊎ ((rule.allows_identifier identifier ≡ true) × (LengthFault rest fault ⊎ IsLengthBreach rule id rest fault))
+    ((rule.allows_identifier identifier ≡ false) × (fault ≡ rule_fault identifier_breach)) ⊎
+    ((rule.allows_identifier identifier ≡ true) × (LengthFault rest fault ⊎ IsLengthBreach rule id rest fault))
 
 -- identifier octets, and then the fault
 pub record IsFaultFromIdentifier (rule : Rule) (octets : List ℕ) (fault : Fault) : Type 0 where
@@ -94,12 +99,14 @@ DerElementFault octets fault = HeaderFault der_rule octets fault ⊎ IsCutConten
 abbrev pub HasFault : (List ℕ → Fault → Type 0) → List ℕ → Type 0
 HasFault FaultOf octets = (fault : Fault) × FaultOf octets fault
 
--- What a fault says of the octets with more behind them. Where n are missing it says nothing of n or more; where the octets end within an identifier in high form it says nothing of any.
+-- What a fault says of the octets with more behind them. Where n are missing it says nothing of n or more; where the
+-- octets end within an identifier in high form it says nothing of any.
 abbrev pub SpeaksOf : Type 0 → Fault → List ℕ → Type 0
 SpeaksOf is_cut (missing n) more = length more < n
 SpeaksOf is_cut tag_fault more = (more ≡ []) ⊎ (is_cut → ⊥)
 SpeaksOf is_cut _ more = Unit {0}
 
--- the fault of octets that more octets make whole: it lacks as many as these or fewer, or it is that of an identifier that is cut
+-- the fault of octets that more octets make whole: it lacks as many as these or fewer,
+-- or it is that of an identifier that is cut
 abbrev pub IsLackingOrCut : Type 0 → Fault → List ℕ → Type 0
 IsLackingOrCut cut fault more = ((n : ℕ) × (fault ≡ missing n) × (n ≤ length more)) ⊎ ((fault ≡ tag_fault) × cut)

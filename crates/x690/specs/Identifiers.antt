@@ -8,6 +8,7 @@ pub record Identifier : Type 0 where
   pub constructed : Bool
   pub number : ℕ
 
+-- a truth value as a bit
 abbrev pub bit : Bool → ℕ
 bit true = 1
 bit false = 0
@@ -24,18 +25,22 @@ IsLowForm low following number = (low ≡ number) × (number ≤ 30) × (followi
 
 -- the low five bits announce one to five octets, whose digits in base 128 are the number
 abbrev pub IsHighForm : ℕ → List ℕ → ℕ → Type 0
-IsHighForm low following number = (low ≡ 31) × AreTagDigits following × (length following ≤ 5) × (base_128_value following ≡ number) × (number < 2 ^ 32)
+IsHighForm low following number = (low ≡ 31) × AreTagDigits following × (length following ≤ 5) ×
+    (base_128_value following ≡ number) × (number < 2 ^ 32)
 
 -- Identifier octets as a reader takes them: the first one has class, constructed bit and five low bits.
 abbrev pub IsIdentifier : List ℕ → Identifier → Type 0
 IsIdentifier [] id = ⊥
-IsIdentifier (first ∷ following) id = (low : ℕ) × (id.class < 4) × (low < 32) × (first ≡ 64 * id.class + 32 * bit id.constructed + low) × (IsLowForm low following id.number ⊎ IsHighForm low following id.number)
+IsIdentifier (first ∷ following) id =
+    (low : ℕ) × (id.class < 4) × (low < 32) × (first ≡ 64 * id.class + 32 * bit id.constructed + low) ×
+    (IsLowForm low following id.number ⊎ IsHighForm low following id.number)
 
 -- the high form is there for numbers from 31 on alone, and its first digit is not 0
 abbrev pub NeedsItsDigits : ℕ → List ℕ → Type 0
 NeedsItsDigits number [] = Unit {0}
 NeedsItsDigits number (digit ∷ digits) = (31 ≤ number) × (digit ≢ 128)
 
+-- the digits that say the number are no more than it needs
 abbrev pub HasNoSpareDigits : List ℕ → ℕ → Type 0
 HasNoSpareDigits [] number = ⊥
 HasNoSpareDigits (first ∷ following) number = NeedsItsDigits number following

@@ -18,7 +18,8 @@ IsJoined G octets [] = octets ≡ []
 IsJoined G octets (v ∷ vs) = (word : List ℕ) × (rest : List ℕ) × G word v × (octets ≡ word ++ rest) × IsJoined G rest vs
 
 -- Words of the grammar with these values begin the input, joined in their order, and then the rest follows.
-pub record BeginsWithWords {V : Type 0} (G : List ℕ → V → Type 0) (input : List ℕ) (words : List (List ℕ)) (values : List V) (rest : List ℕ) : Type 0 where
+pub record BeginsWithWords {V : Type 0} (G : List ℕ → V → Type 0) (input : List ℕ) (words : List (List ℕ))
+    (values : List V) (rest : List ℕ) : Type 0 where
   pub each : AllZip G words values
   pub is : BeginsWith input (concat words) rest
 

@@ -1,3 +1,4 @@
+-- Laws of what the standard says: one reading, one strict form, one first fault.
 pub mod Octets
 pub mod Digits
 pub mod Identifiers

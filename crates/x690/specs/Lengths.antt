@@ -6,7 +6,8 @@ use Rattle.x690.specs.Digits.{base_256_value}
 -- the first octet counts the others, up to 126, which are the length in base 256
 abbrev pub IsLongLength : List ℕ → ℕ → Type 0
 IsLongLength [] n = ⊥
-IsLongLength (first ∷ others) n = (1 ≤ length others) × (length others ≤ 126) × (first ≡ 128 + length others) × IsOctets others × (base_256_value others ≡ n) × (n < 2 ^ 64)
+IsLongLength (first ∷ others) n = (1 ≤ length others) × (length others ≤ 126) × (first ≡ 128 + length others) ×
+    IsOctets others × (base_256_value others ≡ n) × (n < 2 ^ 64)
 
 -- Length octets as a reader takes them: one octet below 128, or the long form with any number of leading zeros.
 abbrev pub IsLength : List ℕ → ℕ → Type 0

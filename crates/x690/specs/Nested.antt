@@ -16,10 +16,12 @@ end_of_contents = 0 ∷ 0 ∷ []
 -- words of a grammar, none of which is 00 00, with this many headers in all
 abbrev pub IsRow : (List ℕ → ℕ → Type 0) → List (List ℕ) → ℕ → Type 0
 IsRow Word [] headers = headers ≡ 0
-IsRow Word (word ∷ words) headers = (first : ℕ) × (others : ℕ) × Word word first × (word ≢ end_of_contents) × IsRow Word words others × (headers ≡ first + others)
+IsRow Word (word ∷ words) headers = (first : ℕ) × (others : ℕ) × Word word first × (word ≢ end_of_contents) ×
+    IsRow Word words others × (headers ≡ first + others)
 
 -- an identifier, 80, a row of words, and 00 00
-pub record IsIndefiniteElement (Word : List ℕ → ℕ → Type 0) (octets : List ℕ) (parts : Parts) (headers : ℕ) : Type 0 where
+pub record IsIndefiniteElement (Word : List ℕ → ℕ → Type 0) (octets : List ℕ) (parts : Parts)
+    (headers : ℕ) : Type 0 where
   pub header : List ℕ
   pub header_is : IsHeader ber_rule header parts.id parts.form
   pub form : parts.form ≡ indefinite
@@ -30,11 +32,13 @@ pub record IsIndefiniteElement (Word : List ℕ → ℕ → Type 0) (octets : Li
   pub counted : headers ≡ inner + 2
   pub is : octets ≡ header ++ (parts.content ++ end_of_contents)
 
--- An element of the depth, with so many headers that do not stand in a definite content: one for each element, and one for each 00 00.
+-- An element of the depth, with so many headers that do not stand in a definite content:
+-- one for each element, and one for each 00 00.
 unfoldable pub IsNestedElement : ℕ → List ℕ → Parts → ℕ → Type 0
 IsNestedElement zero octets parts headers = ⊥
 IsNestedElement (suc depth) octets parts headers =
-    (IsDefiniteElement ber_rule octets parts × (headers ≡ 1)) ⊎ ((1 ≤ depth) × IsIndefiniteElement (λ word count. (inner : Parts) × IsNestedElement depth word inner count) octets parts headers)
+    (IsDefiniteElement ber_rule octets parts × (headers ≡ 1)) ⊎ ((1 ≤ depth) × IsIndefiniteElement
+    (λ word count. (inner : Parts) × IsNestedElement depth word inner count) octets parts headers)
 
 -- an element of the depth, of any parts
 abbrev pub IsWord : ℕ → List ℕ → ℕ → Type 0
@@ -54,13 +58,17 @@ pub record IsOpened (depth : ℕ) (octets rest : List ℕ) : Type 0 where
   pub is : octets ≡ header ++ (concat words ++ rest)
   pub row : IsRow (IsWord depth) words headers
 
--- Why no element of the depth begins the octets: the first fault from the left. Below depth 1 nothing is read but one header.
+-- Why no element of the depth begins the octets: the first fault from the left.
+-- Below depth 1 nothing is read but one header.
 unfoldable pub ElementFault : ℕ → List ℕ → Fault → Type 0
-ElementFault zero octets fault = HeaderFault ber_rule octets fault ⊎ (BeginsWithHeader ber_rule octets × (fault ≡ depth_fault))
+ElementFault zero octets fault =
+    HeaderFault ber_rule octets fault ⊎ (BeginsWithHeader ber_rule octets × (fault ≡ depth_fault))
 ElementFault (suc depth) octets fault =
-    HeaderFault ber_rule octets fault ⊎ IsCutContent ber_rule octets fault ⊎ ((rest : List ℕ) × IsOpened depth octets rest × ElementFault depth rest fault)
+    HeaderFault ber_rule octets fault ⊎ IsCutContent ber_rule octets fault ⊎
+    ((rest : List ℕ) × IsOpened depth octets rest × ElementFault depth rest fault)
 
 -- the octets end within an identifier in high form: at their front, or after the whole elements of an open content
 unfoldable pub EndsInIdentifier : ℕ → List ℕ → Type 0
 EndsInIdentifier zero octets = IsCutIdentifier octets
-EndsInIdentifier (suc depth) octets = IsCutIdentifier octets ⊎ ((rest : List ℕ) × IsOpened depth octets rest × EndsInIdentifier depth rest)
+EndsInIdentifier (suc depth) octets =
+    IsCutIdentifier octets ⊎ ((rest : List ℕ) × IsOpened depth octets rest × EndsInIdentifier depth rest)

@@ -3,7 +3,8 @@ use Rattle.std.specs.Prelude.{Bool, true, false, List, ℕ}
 use Rattle.x690.specs.Identifiers.{Identifier}
 use Rattle.x690.specs.Lengths.{LengthForm, definite, indefinite}
 
--- which identifier octets and length octets a rule allows, of those that a reader takes, and which identifiers may have the indefinite form
+-- which identifier octets and length octets a rule allows, of those that a reader takes,
+-- and which identifiers may have the indefinite form
 pub record Rule : Type 0 where
   pub allows_identifier : List ℕ → Bool
   pub allows_length : List ℕ → Bool
@@ -11,13 +12,18 @@ pub record Rule : Type 0 where
 
 -- by BER all of them, and the indefinite form of a constructed element
 abbrev pub ber_rule : Rule
-ber_rule = record { allows_identifier = λ octets. true; allows_length = λ octets. true; allows_indefinite = λ id. id.constructed }
+ber_rule = record {
+  allows_identifier = λ octets. true;
+  allows_length = λ octets. true;
+  allows_indefinite = λ id. id.constructed;
+}
 
 -- by DER all of them, also those that are not the shortest, and no indefinite form
 -- a reader that takes the shortest octets alone changes this rule, `rules_allow_strict`, `header_by_der` and
 -- `der_breach`: with a rule that asks for these, no other body was refused than that of `header_by_der`
 abbrev pub der_rule : Rule
-der_rule = record { allows_identifier = λ octets. true; allows_length = λ octets. true; allows_indefinite = λ id. false }
+der_rule =
+    record { allows_identifier = λ octets. true; allows_length = λ octets. true; allows_indefinite = λ id. false }
 
 -- whether these length octets, or 80, are allowed behind the identifier
 abbrev pub allows_form : Rule → Identifier → List ℕ → LengthForm → Bool

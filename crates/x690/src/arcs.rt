@@ -1,11 +1,13 @@
 //! The contents octets of object identifiers and of relative ones: their pieces, their arcs, and the laws of these.
 
-ghost use Rattle.std.specs.Prelude.{ℕ, ◌≡◌, ◌≢◌, ◌+◌, ◌*◌, ◌^◌, ◌<◌, ◌≤◌, ◌↔◌, Bool, true, false, List, [], ◌∷◌, ◌++◌, length, take, drop, IsTrue};
+ghost use Rattle.std.specs.Prelude.{ℕ, ◌≡◌, ◌≢◌, ◌+◌, ◌*◌, ◌^◌, ◌<◌, ◌≤◌, ◌↔◌, Bool, true, false, List, [], ◌∷◌, ◌++◌};
+ghost use Rattle.std.specs.Prelude.{length, take, drop, IsTrue};
 ghost use Rattle.std.specs.List.{All, concat};
 ghost use Rattle.x690.specs.Octets.{BeginsWith};
 ghost use Rattle.x690.specs.Digits.{base_128_value};
 ghost use Rattle.x690.specs.Identifiers.{AreTagDigits};
-ghost use Rattle.x690.specs.Arcs.{pieces_of, subidentifiers, first_subidentifier, first_arc, second_arc, IsFirstPair, arcs_of, AreShortest, AreComplete, AreAbsoluteArcs, arcs_octets, arcs_text};
+ghost use Rattle.x690.specs.Arcs.{pieces_of, subidentifiers, first_subidentifier, first_arc, second_arc, IsFirstPair};
+ghost use Rattle.x690.specs.Arcs.{arcs_of, AreShortest, AreComplete, AreAbsoluteArcs, arcs_octets, arcs_text};
 
 /// Contents octets are their pieces, one after the other. Digits that are complete are a piece at the front, whatever
 /// follows, and octets that all have bit 8 are one piece (X.690 8.19.2).

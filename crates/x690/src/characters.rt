@@ -1,10 +1,12 @@
 //! Codes of characters in octets: UTF-16 and UCS-4, and what is said once of both (X.690 8.23.7, 8.23.8; X.680 41).
 
-ghost use Rattle.std.specs.Prelude.{ℕ, ◌≡◌, ◌+◌, ◌*◌, ◌<◌, ◌≤◌, ◌^◌, List, [], ◌++◌, length, get_or, take, IfSome, IfNone, IfOk, IsUtf8, encode_utf8_all, string_bytes, string_capacity};
+ghost use Rattle.std.specs.Prelude.{ℕ, ◌≡◌, ◌+◌, ◌*◌, ◌<◌, ◌≤◌, ◌^◌, List, [], ◌++◌, length, get_or, take, IfSome};
+ghost use Rattle.std.specs.Prelude.{IfNone, IfOk, IsUtf8, encode_utf8_all, string_bytes, string_capacity};
 ghost use Rattle.std.specs.Str.{chars};
 ghost use Rattle.x690.specs.Octets.{IsOctets};
 ghost use Rattle.x690.specs.Digits.{base_256_value};
-ghost use Rattle.x690.specs.Characters.{utf16_octets_of, ucs4_octets_of, unit_octets, code_of, utf16_octets, ucs4_octets, Codes, IsCode, BeginsWithCharacter, IsCharacterCode};
+ghost use Rattle.x690.specs.Characters.{utf16_octets_of, ucs4_octets_of, unit_octets, code_of, utf16_octets};
+ghost use Rattle.x690.specs.Characters.{ucs4_octets, Codes, IsCode, BeginsWithCharacter, IsCharacterCode};
 ghost use Rattle.x690.specs.Laws.Characters.{utf16_code, ucs4_code};
 
 use std::alloc::{AllocError, Global};

@@ -6,7 +6,8 @@ ghost use Rattle.std.specs.List.Sorted.{IsPermutation};
 ghost use Rattle.x690.specs.Octets.{IsBeforeOrSame, IsBeforeOrSamePadded};
 ghost use Rattle.x690.specs.Identifiers.{Identifier};
 ghost use Rattle.x690.specs.Ascending.{arranged};
-ghost use Rattle.x690.specs.Collections.{Multiset, multiset, HaveSame, ValueSet, value_set, AllDiffer, AreEncodings, IsStrictOf, IsStrictWith, IsListContent, IsMultisetContent, IsSetContent};
+ghost use Rattle.x690.specs.Collections.{Multiset, multiset, HaveSame, ValueSet, value_set, AllDiffer, AreEncodings};
+ghost use Rattle.x690.specs.Collections.{IsStrictOf, IsStrictWith, IsListContent, IsMultisetContent, IsSetContent};
 ghost use Rattle.x690.specs.Laws.Words.{strict_encodings};
 
 /// Strict encodings of values: a relation between values and octets.

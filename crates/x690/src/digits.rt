@@ -202,8 +202,8 @@ pub fn header_into(class: u8, constructed: bool, number: u32, n: usize, out: &mu
     front + write_length(n, &mut out[front..])
 }
 
-/// The strict header of an element whose contents are so many octets, where it has two octets alone: a tag number of the
-/// low form and a length of the short form (X.690 8.1.2.2, 8.1.3.4).
+/// The strict header of an element whose contents are so many octets, where it has two octets alone: a tag number of
+/// the low form and a length of the short form (X.690 8.1.2.2, 8.1.3.4).
 #[inline(always)]
 pub fn short_header(class: u8, constructed: bool, number: u32, len: usize) -> Option<[u8; 2]>
     requires { class < 4 }

@@ -5,8 +5,10 @@ ghost use Rattle.x690.specs.Octets.{IsOctets, BeginsWith};
 ghost use Rattle.x690.specs.Identifiers.{Identifier, IsCutIdentifier};
 ghost use Rattle.x690.specs.Lengths.{LengthForm, definite};
 ghost use Rattle.x690.specs.Rules.{Rule, der_rule, ber_rule};
-ghost use Rattle.x690.specs.Elements.{IsHeader, Parts, ArePossible, IsDefiniteElement, IsDerElement, BeginsWithHeader, BeginsWithElement};
-ghost use Rattle.x690.specs.Faults.{Fault, missing, tag_fault, HeaderFault, DerElementFault, HasFault, SpeaksOf, IsLackingOrCut};
+ghost use Rattle.x690.specs.Elements.{IsHeader, Parts, ArePossible, IsDefiniteElement, IsDerElement, BeginsWithHeader};
+ghost use Rattle.x690.specs.Elements.{BeginsWithElement};
+ghost use Rattle.x690.specs.Faults.{Fault, missing, tag_fault, HeaderFault, DerElementFault, HasFault, SpeaksOf};
+ghost use Rattle.x690.specs.Faults.{IsLackingOrCut};
 
 /// Where two headers begin one input they are the same and say the same, and the same octets follow, whichever rule
 /// each of them keeps (X.690 8.1.1). A header has two octets at least.

@@ -8,7 +8,8 @@ ghost use Rattle.x690.specs.Lengths.{LengthForm, definite};
 ghost use Rattle.x690.specs.Rules.{Rule, ber_rule};
 ghost use Rattle.x690.specs.Elements.{Parts, ArePossible, IsHeader, IsDefiniteElement, BeginsWithElement};
 ghost use Rattle.x690.specs.Faults.{Fault, missing, tag_fault, HasFault, SpeaksOf, IsLackingOrCut};
-ghost use Rattle.x690.specs.Nested.{IsNestedElement, IsElement, IsWord, IsRow, ElementFault, EndsInIdentifier, end_of_contents};
+ghost use Rattle.x690.specs.Nested.{IsNestedElement, IsElement, IsWord, IsRow, ElementFault, EndsInIdentifier};
+ghost use Rattle.x690.specs.Nested.{end_of_contents};
 ghost use Rattle.x690.specs.Nested.Contents.{IsContent, BeginsWithContent, ContentFault};
 ghost use Rattle.x690.specs.Nested.FaultHeaders.{FaultHeaders};
 

@@ -26,7 +26,8 @@ pub fn first_difference_decides()
 /// X.690 11.6 compares strings of which the shorter one is padded with zeros behind it. Where neither string begins the
 /// other one, or they are the same, that is the order of the dictionary.
 ///
-/// Strings that begin others are another matter: padded, 01 and 01 00 are the same, and in the dictionary 01 comes first.
+/// Strings that begin others are another matter: padded, 01 and 01 00 are the same,
+/// and in the dictionary 01 comes first.
 pub fn padding_changes_no_order()
     ensures { (one other : List ℕ)
         → ((rest : List ℕ) → BeginsWith one other rest → one ≡ other)

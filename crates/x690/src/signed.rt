@@ -1,6 +1,7 @@
 //! Contents octets of integers of either sign (X.690 8.3).
 
-ghost use Rattle.std.specs.Prelude.{ℕ, ℤ, List, ◌++◌, ◌+◌, ◌-◌, ◌^◌, ◌-ℤ◌, true, false, ◌≡◌, ◌<◌, ◌≤◌, ◌⊎◌, ◌↔◌, length, get_or, map, take, drop, pos, negsuc, IfSome, IfNone, IsTrue};
+ghost use Rattle.std.specs.Prelude.{ℕ, ℤ, List, ◌++◌, ◌+◌, ◌-◌, ◌^◌, ◌-ℤ◌, true, false, ◌≡◌, ◌<◌, ◌≤◌, ◌⊎◌, ◌↔◌};
+ghost use Rattle.std.specs.Prelude.{length, get_or, map, take, drop, pos, negsuc, IfSome, IfNone, IsTrue};
 ghost use Rattle.std.specs.Int.{w64, to_be_bytes};
 ghost use Rattle.x690.specs.Octets.{IsOctets};
 ghost use Rattle.x690.specs.Digits.{twos_complement_value};

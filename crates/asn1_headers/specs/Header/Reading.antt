@@ -10,7 +10,8 @@ use Rattle.asn1_headers.specs.declared.length.Length.{Length}
 use Rattle.asn1_headers.specs.declared.header.Header.{Header}
 use Rattle.asn1_headers.specs.declared.header.reading.IdentifierOctets.{IdentifierOctets}
 use Rattle.asn1_headers.specs.declared.error.Error.{Error}
-use Rattle.asn1_headers.specs.declared.error.Error.TheVariants.{InvalidTag, InvalidLength, BerMaxDepth, DerConstraintFailed, ConstructExpected}
+use Rattle.asn1_headers.specs.declared.error.Error.TheVariants.{InvalidTag, InvalidLength, BerMaxDepth}
+use Rattle.asn1_headers.specs.declared.error.Error.TheVariants.{DerConstraintFailed, ConstructExpected}
 use Rattle.asn1_headers.specs.declared.error.DerConstraint.TheVariants.{IndefiniteLength}
 use Rattle.asn1_headers.specs.declared.error.Err.{Err as Refusal}
 use Rattle.asn1_headers.specs.declared.error.Err.TheVariants.{Incomplete as cut, Error as refused}
@@ -35,16 +36,20 @@ refusal_of refuses length_fault = refused InvalidLength
 refusal_of refuses (rule_fault breach) = refused (refuses breach)
 refusal_of refuses depth_fault = refused BerMaxDepth
 
--- of what its rule does not allow in a header, DER refuses 80 always, and BER at a primitive element; there is nothing else today
+-- of what its rule does not allow in a header, DER refuses 80 always, and BER at a primitive element;
+-- there is nothing else today
 abbrev pub der_breach : Breach → Error
 der_breach breach = DerConstraintFailed IndefiniteLength
 
+-- by BER a header is refused only where a primitive element has the indefinite form
 abbrev pub ber_breach : Breach → Error
 ber_breach breach = ConstructExpected
 
+-- how a fault is refused by DER
 abbrev pub der_refusal : Fault → Refusal Error
 der_refusal = refusal_of der_breach
 
+-- how a fault is refused by BER
 abbrev pub ber_refusal : Fault → Refusal Error
 ber_refusal = refusal_of ber_breach
 
@@ -56,6 +61,7 @@ Refused FaultOf refusal octets r = (fault : Fault) × FaultOf octets fault × (r
 abbrev pub id_read : IdentifierOctets → Identifier
 id_read x = record { class = class_number x.class; constructed = x.constructed; number = x.number }
 
+-- the tag number that was read
 abbrev pub tag_read : IdentifierOctets → Tag
 tag_read x = record { 0 = x.number }
 
@@ -69,7 +75,8 @@ BeginsWithLength input rest length = (octets : List ℕ) × IsLengthForm octets 
 
 -- identifier octets and then length octets, or 80, begin the input, and the rest follows
 abbrev pub BeginsWithBoth : List ℕ → List ℕ → IdentifierOctets → Length → Type 0
-BeginsWithBoth input rest x length = (mid : List ℕ) × BeginsWithIdentifier input mid x × BeginsWithLength mid rest length
+BeginsWithBoth input rest x length =
+    (mid : List ℕ) × BeginsWithIdentifier input mid x × BeginsWithLength mid rest length
 
 -- the rule allows all identifier octets that a reader takes
 abbrev pub AllowsIdentifiers : Rule → Type 0
@@ -82,16 +89,21 @@ HeaderGives rule refusal input (Err r) = Refused (HeaderFault rule) refusal inpu
 
 -- The header's identifier octets are those at the front of the octets, and it keeps them.
 abbrev pub KeepsIdentifier : List ℕ → Header → Type 0
-KeepsIdentifier input h = (identifier rest : List ℕ) × IsIdentifier identifier (identifier_of h) × (input ≡ identifier ++ rest) × (raw_tag_of h ≡ Some identifier)
+KeepsIdentifier input h = (identifier rest : List ℕ) × IsIdentifier identifier (identifier_of h) ×
+    (input ≡ identifier ++ rest) × (raw_tag_of h ≡ Some identifier)
 
 -- a header by BER with a length of this form begins the input, and the rest follows
 abbrev pub BeginsWithForm : List ℕ → List ℕ → Length → Type 0
-BeginsWithForm input rest length = (header : List ℕ) × (id : Identifier) × IsHeader ber_rule header id (form_of length) × (input ≡ header ++ rest)
+BeginsWithForm input rest length =
+    (header : List ℕ) × (id : Identifier) × IsHeader ber_rule header id (form_of length) × (input ≡ header ++ rest)
 
 -- no header begins the input after a refusal, nor more octets of which the refusal speaks
 abbrev pub HeaderRefusalLasts : Rule → List ℕ → Refusal Error → Type 0
-HeaderRefusalLasts rule input r = (more front rest : List ℕ) (id : Identifier) (form : LengthForm) → Speaks (IsCutIdentifier input) r more → IsHeader rule front id form → input ++ more ≡ front ++ rest → ⊥
+HeaderRefusalLasts rule input r = (more front rest : List ℕ) (id : Identifier) (form : LengthForm) →
+    Speaks (IsCutIdentifier input) r more → IsHeader rule front id form → input ++ more ≡ front ++ rest → ⊥
 
 -- a header that is read is the one that begins the input, by each rule and whatever follows
 abbrev pub HeaderLasts : List ℕ → List ℕ → Header → Type 0
-HeaderLasts input rest h = (rule : Rule) (more front tail : List ℕ) (id : Identifier) (form : LengthForm) → IsHeader rule front id form → input ++ more ≡ front ++ tail → (id ≡ identifier_of h) × (form ≡ form_of h.length) × (tail ≡ rest ++ more)
+HeaderLasts input rest h =
+    (rule : Rule) (more front tail : List ℕ) (id : Identifier) (form : LengthForm) → IsHeader rule front id form →
+    input ++ more ≡ front ++ tail → (id ≡ identifier_of h) × (form ≡ form_of h.length) × (tail ≡ rest ++ more)

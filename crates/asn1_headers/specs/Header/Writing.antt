@@ -22,5 +22,6 @@ strict_header h = identifier_octets (identifier_of h) ++ length_form_octets (for
 abbrev pub kept_identifier : Header → List ℕ
 kept_identifier h = unwrap_or (raw_tag_of h) (identifier_octets (identifier_of h))
 
+-- the identifier octets that the header keeps, and its length octets
 abbrev pub kept_header : Header → List ℕ
 kept_header h = kept_identifier h ++ length_form_octets (form_of h.length)

@@ -83,8 +83,8 @@ fn put_indefinite<W: DerWrite>(parts: (Class, bool, Tag), w: &mut W) -> Serializ
     put_parts(&octets[..front], Length::Indefinite, w)
 }
 
-/// Appends the strict identifier octets of the header and its length octets, and answers their number. Those of a definite
-/// length are one piece.
+/// Appends the strict identifier octets of the header and its length octets, and answers their number.
+/// Those of a definite length are one piece.
 #[inline(always)]
 pub fn put_strict_header<W: DerWrite>(header: &Header<'_>, w: &mut W) -> SerializeResult<usize>
     ensures wrote { Wrote (strict_header header.now) (W.state w.old) (W.state w.new) result }

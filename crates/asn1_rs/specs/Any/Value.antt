@@ -13,15 +13,19 @@ pub record ElementValue : Type 0 where
   pub id : Identifier
   pub content : List ℕ
 
+-- the value of an element in hand: its identifier and its contents octets
 abbrev pub element_of : Any → ElementValue
 element_of a = record { id = identifier_of a.header; content = a.content.now }
 
+-- each element has the value that its identifier and contents octets are
 abbrev pub ElementBody : Parts → ElementValue → Type 0
 ElementBody p v = v ≡ record { id = p.id; content = p.content }
 
+-- the element has a definite length
 abbrev pub ElementCheck : Parts → Type 0
 ElementCheck p = (n : ℕ) × (p.form ≡ definite n)
 
+-- an element can have this identifier and these contents octets
 pub record IsElementValue (v : ElementValue) : Type 0 where
   pub class : v.id.class < 4
   pub number : v.id.number < 2 ^ 32

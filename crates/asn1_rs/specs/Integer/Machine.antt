@@ -7,8 +7,9 @@ use Rattle.x690.specs.Signed.{IsSigned, signed_octets}
 use Rattle.asn1_headers.specs.declared.error.Error.{Error}
 use Rattle.asn1_rs.specs.Integer.{IsUnsigned, UnsignedRefuses, SignedRefuses}
 
--- The integer that a value is, and its strict contents octets. Which integers the type holds, and how octets of another one are refused.
--- Of types without a sign too it is an integer, so that one grammar and one set of laws serve both kinds.
+-- The integer that a value is, and its strict contents octets. Which integers the type holds, and how octets of another
+-- one are refused. Of types without a sign too it is an integer, so that one grammar and one set of laws serve both
+-- kinds.
 pub record Machine (T : Type 0) : Type 1 where
   pub number : T → ℤ
   pub octets : T → List ℕ
@@ -17,17 +18,22 @@ pub record Machine (T : Type 0) : Type 1 where
 
 -- the machine integers of so many octets, without a sign and with one
 abbrev pub unsigned_machine : ℕ → Machine ℕ
-unsigned_machine size = record { number = pos; octets = unsigned_octets; Holds = IsUnsigned size; refuses = UnsignedRefuses size }
+unsigned_machine size =
+    record { number = pos; octets = unsigned_octets; Holds = IsUnsigned size; refuses = UnsignedRefuses size }
 
+-- machine integers with a sign, of so many octets
 abbrev pub signed_machine : ℕ → Machine ℤ
-signed_machine size = record { number = λ n. n; octets = signed_octets; Holds = IsSigned size; refuses = SignedRefuses size }
+signed_machine size =
+    record { number = λ n. n; octets = signed_octets; Holds = IsSigned size; refuses = SignedRefuses size }
 
--- what converting contents octets may answer: the value that is their integer in two's complement, or a refusal where the type does not hold that
+-- what converting contents octets may answer: the value that is their integer in two's complement,
+-- or a refusal where the type does not hold that
 abbrev pub MachineGives : {T : Type 0} → Machine T → List ℕ → Result T Error → Type 0
 MachineGives M content (Ok x) = (M.number x ≡ twos_complement_value content) × M.Holds (M.number x)
 MachineGives M content (Err e) = M.refuses content e
 
--- A value is that of one integer, whose strict contents octets are its own. Octets that are refused say an integer that the type does not hold.
+-- A value is that of one integer, whose strict contents octets are its own.
+-- Octets that are refused say an integer that the type does not hold.
 pub record IsLawfulMachine {T : Type 0} (M : Machine T) : Type 0 where
   pub one : (x y : T) → M.number x ≡ M.number y → x ≡ y
   pub content : (x : T) → IsIntegerContent (M.number x) (M.octets x)

@@ -13,12 +13,15 @@ use Rattle.asn1_headers.specs.declared.error.Error.{Error}
 use Rattle.asn1_headers.specs.declared.error.SerializeError.{SerializeError}
 use Rattle.asn1_headers.specs.Error.{written_refusal}
 use Rattle.asn1_headers.specs.Writer.{WriterState, MayRefuse}
-use Rattle.asn1_rs.specs.ToDer.{Writing, IntoVector, MayRefuseCount, RefusedAtOnce, WrittenRefusal, plain_writing, whole_octets, whole_refuses, whole_allocates}
+use Rattle.asn1_rs.specs.ToDer.{Writing, IntoVector, MayRefuseCount, RefusedAtOnce, WrittenRefusal, plain_writing}
+use Rattle.asn1_rs.specs.ToDer.{whole_octets, whole_refuses, whole_allocates}
 
--- the strict header of an element of the universal class with this number: constructed for sequences and sets, else primitive
+-- the strict header of an element of the universal class with this number:
+-- constructed for sequences and sets, else primitive
 abbrev pub universal_header : ℕ → List ℕ → List ℕ
 universal_header number content = header_octets 0 (is_container_number number) number (length content)
 
+-- the strict identifier of the universal class with this number, constructed for sequences and sets alone
 abbrev pub universal_identifier : ℕ → Identifier
 universal_identifier number = universal (is_container_number number) number
 
@@ -27,7 +30,8 @@ abbrev pub CountRefused : Bool → (Error → Type 0) → ℕ → Result ℕ Err
 CountRefused false own n answer = IfErr answer (MayRefuseCount false n)
 CountRefused true own n answer = (e : Error) × own e × (answer ≡ Err e)
 
--- A writing of so many octets: the writer and the length alone refuse it, or the value does, and then nothing is appended.
+-- A writing of so many octets: the writer and the length alone refuse it, or the value does,
+-- and then nothing is appended.
 abbrev pub PutRefused : Bool → (Error → Type 0) → ℕ → WriterState → WriterState → Result ℕ SerializeError → Type 0
 PutRefused false own n old new answer = IfErr answer (MayRefuse false n)
 PutRefused true own n old new answer = (e : Error) × own e × RefusedAtOnce (written_refusal e) old new answer
@@ -37,18 +41,20 @@ abbrev pub OwnRefusal : Bool → (Error → Type 0) → Error → Type 0
 OwnRefusal false own e = ⊥
 OwnRefusal true own e = own e
 
+-- a refusal of the value's own, where its kind has such
 abbrev pub OwnWritten : Bool → (Error → Type 0) → SerializeError → Type 0
 OwnWritten false own e = ⊥
 OwnWritten true own e = WrittenRefusal own e
 
--- An element of the universal class, with this number and these contents octets. Beside its writer and its length nothing refuses a value,
--- but those that are refused for what they are, with a refusal of their own.
+-- An element of the universal class, with this number and these contents octets. Beside its writer and its length
+-- nothing refuses a value, but those that are refused for what they are, with a refusal of their own.
 abbrev pub universal_writing : {S : Type 0} → ℕ → (S → List ℕ) → (S → Bool) → (S → Error → Type 0) → Writing S
-universal_writing number octets is_refused refusal = record (plain_writing (λ x. universal_header number (octets x)) octets (λ x. is_container_number number)) {
-  count_refuses = λ x. OwnRefusal (is_refused x) (refusal x);
-  header_refuses = λ x. OwnWritten (is_refused x) (refusal x);
-  content_refuses = λ x. OwnWritten (is_refused x) (refusal x);
-}
+universal_writing number octets is_refused refusal =
+    record (plain_writing (λ x. universal_header number (octets x)) octets (λ x. is_container_number number)) {
+      count_refuses = λ x. OwnRefusal (is_refused x) (refusal x);
+      header_refuses = λ x. OwnWritten (is_refused x) (refusal x);
+      content_refuses = λ x. OwnWritten (is_refused x) (refusal x);
+    }
 
 -- lists of items that are written as `item` says: a constructed element with this number, of the items in their order
 -- writing one takes no memory but its items' today; by `write_allocates` a writer that fills a buffer from its end
@@ -85,10 +91,12 @@ set_writing items item = record {
   write_allocates = true;
 }
 
--- The contents octets of such an element follow from the value. Where it has strict parts, they are its content, and the
--- identifier is the one of the universal class with this number; under any class they meet the check and have the value
--- all the same. A value in DER form has strict parts, and one that has such is not refused. The number is one of the low form.
-pub record IsWrittenElement {S : Type 0} (G : ElementGrammar S) (number : ℕ) (octets : S → List ℕ) (is_refused : S → Bool) : Type 0 where
+-- The contents octets of such an element follow from the value. Where it has strict parts, they are its content, and
+-- the identifier is the one of the universal class with this number; under any class they meet the check and have the
+-- value all the same. A value in DER form has strict parts, and one that has such is not refused. The number is one of
+-- the low form.
+pub record IsWrittenElement {S : Type 0} (G : ElementGrammar S) (number : ℕ) (octets : S → List ℕ)
+    (is_refused : S → Bool) : Type 0 where
   pub by_value : (x y : S) → G.value x ≡ G.value y → octets x ≡ octets y
   pub identifier : (v : G.Value) (i : Identifier) (c : List ℕ) → G.Form v i c → i ≡ universal_identifier number
   pub form : (x : S) (i : Identifier) (c : List ℕ) → G.Form (G.value x) i c → octets x ≡ c

@@ -9,13 +9,17 @@ use Rattle.asn1_rs.specs.Checks.{IsCheck, has_content}
 use Rattle.x690.specs.Strict.{header_octets, identifier_octets, length_octets}
 use Rattle.asn1_rs.specs.Leaf.{IsLawfulLeaf, leaf_element}
 use Rattle.asn1_rs.specs.declared.asn1_types.boolean.Boolean.{Boolean}
-use Rattle.asn1_rs.specs.Boolean.{boolean_number, boolean_leaf, bool_leaf, truth_octet, says_true, IsStrictTruth, IsOtherTruth, truth_constraints, truth_octets, truth_writing}
+use Rattle.asn1_rs.specs.Boolean.{boolean_number, boolean_leaf, bool_leaf, truth_octet, says_true, IsStrictTruth}
+use Rattle.asn1_rs.specs.Boolean.{IsOtherTruth, truth_constraints, truth_octets, truth_writing}
 use Rattle.asn1_rs.specs.Laws.Checks.{check_is, before_is, has_length_is, has_content_is}
 use Rattle.asn1_rs.specs.Laws.Leaf.{leaf_written}
 use Rattle.asn1_rs.specs.Grammar.Item.{IsLawfulWriting}
 use Rattle.asn1_rs.specs.Kinds.{item_grammar}
 use Rattle.asn1_rs.specs.Laws.Forms.{universal_lawful_writing}
 
+-- The constraints.
+
+-- A number below 256 is an octet.
 one_octet : (n : ℕ) → n < 256 → IsOctets (n ∷ [])
 one_octet n h = below_octets (n ∷ []) (h, tt)
 
@@ -24,14 +28,18 @@ truth_apart : (octet : ℕ) → IsStrictTruth octet → IsOtherTruth octet → �
 truth_apart octet (inl a) b = b.0 a
 truth_apart octet (inr a) b = b.1 a
 
+-- The constraints of a truth value are a check.
 truth_constraints_are : IsCheck truth_constraints
 truth_constraints_are = before_is has_content _ has_content_is (check_is _ _ _ (λ p. truth_apart _) (λ p e. cc))
+
+-- The laws.
 
 -- the strict octet of what a strict octet says is that octet
 pub strict_truth : (octet : ℕ) → IsStrictTruth octet → truth_octet (says_true octet) ≡ octet
 strict_truth octet (inl a) = rw a refl
 strict_truth octet (inr a) = rw a refl
 
+-- `Boolean` is lawful.
 pub boolean_lawful : IsLawfulLeaf boolean_leaf
 boolean_lawful = record {
   small = lit< tt;
@@ -40,7 +48,8 @@ boolean_lawful = record {
   one_value = λ c v w a b. let e : v ∷ [] ≡ w ∷ [] = sym a ∙ b in cc;
   says_value = λ p v o m s. subst IsOctets s o.content 0;
   der_value = λ v d. small v d;
-  der_octets = λ v d. one_octet (truth_octet (says_true v)) (subst (λ (n : ℕ). n < 256) (sym (strict_truth v d)) (small v d));
+  der_octets =
+      λ v d. one_octet (truth_octet (says_true v)) (subst (λ (n : ℕ). n < 256) (sym (strict_truth v d)) (small v d));
   der_says = λ v d. ap (λ (n : ℕ). n ∷ []) (strict_truth v d);
   der_checks = λ k v d. (refl, refl);
   der_constraints = λ k v d. ((λ e. cc), subst IsStrictTruth (sym (strict_truth v d)) d);
@@ -50,6 +59,7 @@ boolean_lawful = record {
     small v (inl e) = omega (arith, e)
     small v (inr e) = omega (arith, e)
 
+-- `bool` is lawful.
 pub bool_lawful : IsLawfulLeaf bool_leaf
 bool_lawful = record {
   small = lit< tt;
@@ -79,14 +89,20 @@ bool_lawful = record {
     strict true = inr refl
     strict false = inl refl
 
+-- Equality.
+
 -- truth values are equal where they are the same
 pub bool_equal : (x y : Bool) → IsTrue (beq x y) ↔ (x ≡ y)
 bool_equal x y = booleans_Decides x y
 
+-- Two of `Boolean` are equal exactly where their octets are.
 pub boolean_equal : (x y : Boolean) → IsTrue (nat_eq x.value y.value) ↔ (x.value ≡ y.value)
 boolean_equal x y = (λ h. eqb-true x.value y.value h, λ e. eq-eqb x.value y.value e)
+
+-- Writing.
 
 -- a truth value with its octet is written as one contents octet
 pub boolean_lawful_writing : IsLawfulWriting (item_grammar (leaf_element boolean_leaf)) truth_writing
 unfolding header_octets identifier_octets length_octets
-boolean_lawful_writing = universal_lawful_writing (leaf_element boolean_leaf) boolean_number truth_octets (λ _. false) (leaf_written boolean_leaf boolean_lawful) (λ _ _. ⊥)
+boolean_lawful_writing = universal_lawful_writing (leaf_element boolean_leaf) boolean_number truth_octets (λ _. false)
+    (leaf_written boolean_leaf boolean_lawful) (λ _ _. ⊥)

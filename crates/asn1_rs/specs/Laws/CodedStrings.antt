@@ -12,7 +12,9 @@ use Rattle.asn1_rs.specs.CodedStrings.{IsCoded, coded_leaf, coded_string_leaf, t
 use Rattle.asn1_rs.specs.Laws.Checks.{content_check_is, is_primitive_is}
 use Rattle.asn1_rs.specs.Leaf.{IsLawfulLeaf}
 
-pub coded_lawful : {S : Type 0} (number : ℕ) (code : List ℕ → List ℕ) (text : S → List ℕ) → number < 31 → is_container_number number ≡ false → IsCode code → IsLawfulLeaf (coded_leaf number code text)
+-- A leaf whose text stands in a code is lawful.
+pub coded_lawful : {S : Type 0} (number : ℕ) (code : List ℕ → List ℕ) (text : S → List ℕ) → number < 31 →
+    is_container_number number ≡ false → IsCode code → IsLawfulLeaf (coded_leaf number code text)
 coded_lawful number code text small primitive is = record {
   small = small;
   checks = content_check_is (IsCoded code) _ (λ e. cc);
@@ -26,9 +28,14 @@ coded_lawful number code text small primitive is = record {
   der_constraints = λ k v d. primitive;
 }
 
-pub coded_string_lawful : {K : Type 0} (number : ℕ) (octets_of : ℕ → List ℕ) → number < 31 → is_container_number number ≡ false → IsCharacterCode octets_of → IsLawfulLeaf (coded_string_leaf {K = K} number octets_of)
-coded_string_lawful number octets_of small primitive is = coded_lawful number (code_of octets_of) text_of small primitive (text_code octets_of is)
+-- Strings whose characters stand in a code are lawful.
+pub coded_string_lawful : {K : Type 0} (number : ℕ) (octets_of : ℕ → List ℕ) → number < 31 →
+    is_container_number number ≡ false → IsCharacterCode octets_of →
+    IsLawfulLeaf (coded_string_leaf {K = K} number octets_of)
+coded_string_lawful number octets_of small primitive is =
+    coded_lawful number (code_of octets_of) text_of small primitive (text_code octets_of is)
 
 -- strings are equal where their texts are
-pub coded_string_equal : {K : Type 0} (x y : CodedString K) → IsTrue (pointwise nat_eq (text_of x) (text_of y)) ↔ (text_of x ≡ text_of y)
+pub coded_string_equal : {K : Type 0} (x y : CodedString K) →
+    IsTrue (pointwise nat_eq (text_of x) (text_of y)) ↔ (text_of x ≡ text_of y)
 coded_string_equal x y = pointwise_decides unsigned_Decides (text_of x) (text_of y)

@@ -5,6 +5,7 @@ use Rattle.asn1_rs.specs.Grammar.Item.{IsLawfulItem}
 use Rattle.asn1_rs.specs.Leaf.{Leaf, IsLawfulLeaf}
 use Rattle.asn1_rs.specs.Laws.Checks.{has_length_is, nothing_is}
 
+-- The end of contents is lawful.
 pub end_lawful : IsLawfulLeaf end_leaf
 end_lawful = record {
   small = lit< tt;
@@ -19,6 +20,7 @@ end_lawful = record {
   der_constraints = λ k v d. absurd d;
 }
 
+-- A lawful leaf stays lawful where it is read by BER alone.
 pub lawful_by_ber_alone : {S : Type 0} (L : Leaf S) → IsLawfulLeaf L → IsLawfulItem (by_ber_alone L)
 lawful_by_ber_alone L l = record {
   der_values = λ o v w. absurd w;

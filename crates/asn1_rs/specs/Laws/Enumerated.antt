@@ -10,10 +10,12 @@ use Rattle.asn1_rs.specs.Leaf.{IsLawfulLeaf}
 use Rattle.asn1_rs.specs.Enumerated.{enumerated_leaf, IsWord, SaysWord}
 use Rattle.asn1_rs.specs.Laws.Checks.{before_is, is_primitive_is, is_counted_is, content_check_is}
 
+-- Enumerated values are lawful.
 pub enumerated_lawful : IsLawfulLeaf enumerated_leaf
 enumerated_lawful = record {
   small = lit< tt;
-  checks = before_is is_primitive (content_check SaysWord IntegerTooLarge) is_primitive_is (content_check_is SaysWord IntegerTooLarge (λ e. cc));
+  checks = before_is is_primitive (content_check SaysWord IntegerTooLarge) is_primitive_is
+      (content_check_is SaysWord IntegerTooLarge (λ e. cc));
   constraints = is_counted_is;
   one_value = λ c v w a b. a ∙ sym b;
   says_value = λ p v o m s. subst IsWord (sym s) m.1;

@@ -11,11 +11,15 @@ use Rattle.asn1_rs.specs.Any.{parts_of}
 use Rattle.asn1_headers.specs.Answers.{Exactly, IsOther}
 use Rattle.asn1_rs.specs.Grammar.{TakesBody}
 use Rattle.asn1_rs.specs.Grammar.Item.{ItemGrammar, IsLawfulItem, by_held}
-use Rattle.asn1_rs.specs.Kinds.{ElementGrammar, IsLawfulElement, IsExactConversion, item_grammar, holding, HoldingGives, HoldingReads}
+use Rattle.asn1_rs.specs.Kinds.{ElementGrammar, IsLawfulElement, IsExactConversion, item_grammar, holding, HoldingGives}
+use Rattle.asn1_rs.specs.Kinds.{HoldingReads}
 use Rattle.asn1_rs.specs.Kinds.Writing.{IsWrittenElement}
 use Rattle.asn1_rs.specs.Laws.Readers.{der_elements}
 use Rattle.asn1_rs.specs.Laws.Words.{word_one, strict_der_word}
 
+-- Elements as items.
+
+-- A lawful element is a lawful item.
 pub lawful_item : {S : Type 0} (G : ElementGrammar S) → IsLawfulElement G → IsLawfulItem (item_grammar G)
 lawful_item G l = record {
   der_values = λ o v w. l.body_values w.0 v (der_elements.possible o w.0 w.1) w.3;
@@ -31,6 +35,8 @@ lawful_item G l = record {
   form_body = l.form_body;
   strict_der = strict_der_word G.Form G.Check G.Body l.form_check l.form_body;
 }
+
+-- What holds an item.
 
 -- what holds one item is as lawful as that
 pub lawful_by_held : {S T : Type 0} (held : T → S) (G : ItemGrammar S) → IsLawfulItem G → IsLawfulItem (by_held held G)
@@ -50,31 +56,46 @@ lawful_by_held held G l = record {
 }
 
 -- a conversion that answers what holds an item is as exact as that of the item
-pub held_takes : {S T E : Type 0} (held : T → S) (G : ItemGrammar S) (gives : Any → Result S E → Type 0) (from : Error → E → Type 0) →
-    ((any : Any) (answer : Result S E) → IsOctets any.content.now → gives any answer → TakesBody G.Body G.value G.allocates from (parts_of any) answer) →
-    (any : Any) (answer : Result T E) → IsOctets any.content.now → HoldingGives held gives any answer → TakesBody G.Body (λ x. G.value (held x)) G.allocates from (parts_of any) answer
+pub held_takes : {S T E : Type 0} (held : T → S) (G : ItemGrammar S) (gives : Any → Result S E → Type 0)
+    (from : Error → E → Type 0) →
+    ((any : Any) (answer : Result S E) → IsOctets any.content.now → gives any answer →
+    TakesBody G.Body G.value G.allocates from (parts_of any) answer) →
+    (any : Any) (answer : Result T E) → IsOctets any.content.now → HoldingGives held gives any answer →
+    TakesBody G.Body (λ x. G.value (held x)) G.allocates from (parts_of any) answer
 held_takes held G gives from exact any (Ok x) o h = exact any (Ok (held x)) o h
 held_takes held G gives from exact any (Err e) o h = exact any (Err e) o h
 
 -- and so is a reader
 module _ {S T E : Type 0} (held : T → S) (reads : List ℕ → Result (List ℕ × S) (Refusal E) → Type 0) where
-  pub held_reads : {V : Type 0} (IsCut : List ℕ → Type 0) (G : List ℕ → V → Type 0) (value : S → V) (memory : Refusal E → Type 0) →
-      ((input : List ℕ) (answer : Result (List ℕ × S) (Refusal E)) → IsOctets input → reads input answer → Exactly IsCut G value memory input answer) →
-      (input : List ℕ) (answer : Result (List ℕ × T) (Refusal E)) → IsOctets input → HoldingReads held reads input answer → Exactly IsCut G (λ x. value (held x)) memory input answer
+  -- A reader that answers what holds an item is as exact as that of the item.
+  pub held_reads : {V : Type 0} (IsCut : List ℕ → Type 0) (G : List ℕ → V → Type 0) (value : S → V)
+      (memory : Refusal E → Type 0) →
+      ((input : List ℕ) (answer : Result (List ℕ × S) (Refusal E)) → IsOctets input → reads input answer →
+      Exactly IsCut G value memory input answer) →
+      (input : List ℕ) (answer : Result (List ℕ × T) (Refusal E)) → IsOctets input →
+      HoldingReads held reads input answer → Exactly IsCut G (λ x. value (held x)) memory input answer
   held_reads IsCut G value memory exact input (Ok x) o h = exact input (Ok (x.0, held x.1)) o h
   held_reads IsCut G value memory exact input (Err r) o h = exact input (Err r) o h
 
-  pub held_spares : (P : Refusal E → Type 0) → ((input : List ℕ) (answer : Result (List ℕ × S) (Refusal E)) → reads input answer → IfErr answer P) →
-      (input : List ℕ) (answer : Result (List ℕ × T) (Refusal E)) → HoldingReads held reads input answer → IfErr answer P
+  -- What is so of each refusal of the item's reader is so of each of its refusals.
+  pub held_spares : (P : Refusal E → Type 0) →
+      ((input : List ℕ) (answer : Result (List ℕ × S) (Refusal E)) → reads input answer → IfErr answer P) →
+      (input : List ℕ) (answer : Result (List ℕ × T) (Refusal E)) → HoldingReads held reads input answer →
+      IfErr answer P
   held_spares P spares input (Ok x) h = tt
   held_spares P spares input (Err r) h = spares input (Err r) h
 
+-- What holds an element.
+
 -- a refusal that is not out of memory
-pub other_error : {S : Type 0} (gives : Any → Result S Error → Type 0) → ((any : Any) → gives any (Err OutOfMemory) → ⊥) → (any : Any) (e : Error) → gives any (Err e) → IsOther (λ (x y : Error). y ≡ x) e
+pub other_error : {S : Type 0} (gives : Any → Result S Error → Type 0) →
+    ((any : Any) → gives any (Err OutOfMemory) → ⊥) → (any : Any) (e : Error) → gives any (Err e) →
+    IsOther (λ (x y : Error). y ≡ x) e
 other_error gives spares any e g = inl (e, λ q. spares any (subst (λ (x : Error). gives any (Err x)) q g), refl)
 
 -- a type that holds one item is as lawful as that
 module _ {S T : Type 0} (held : T → S) (G : ElementGrammar S) where
+  -- What holds an element is as lawful as that.
   pub holding_lawful : IsLawfulElement G → IsLawfulElement (holding held G)
   holding_lawful l = record {
     body_values = l.body_values;
@@ -88,13 +109,18 @@ module _ {S T : Type 0} (held : T → S) (G : ElementGrammar S) where
     form_body = l.form_body;
   }
 
-  pub holding_converts : (gives : Any → Result S Error → Type 0) → IsExactConversion gives G → IsExactConversion (HoldingGives held gives) (holding held G)
+  -- Its conversion is as exact.
+  pub holding_converts : (gives : Any → Result S Error → Type 0) → IsExactConversion gives G →
+      IsExactConversion (HoldingGives held gives) (holding held G)
   holding_converts gives c = record { exact = exact; spares = c.spares }
     where
-      exact : (any : Any) (answer : Result T Error) → IsOctets any.content.now → HoldingGives held gives any answer → TakesBody G.Body (λ x. G.value (held x)) G.allocates (λ (x y : Error). y ≡ x) (parts_of any) answer
+      exact : (any : Any) (answer : Result T Error) → IsOctets any.content.now → HoldingGives held gives any answer →
+          TakesBody G.Body (λ x. G.value (held x)) G.allocates (λ (x y : Error). y ≡ x) (parts_of any) answer
       exact = held_takes held (item_grammar G) gives (λ x y. y ≡ x) c.exact
 
-  pub holding_written : (number : ℕ) (octets : S → List ℕ) (is_refused : S → Bool) → IsWrittenElement G number octets is_refused →
+  -- It is written as what it holds.
+  pub holding_written : (number : ℕ) (octets : S → List ℕ) (is_refused : S → Bool) →
+      IsWrittenElement G number octets is_refused →
       IsWrittenElement (holding held G) number (λ x. octets (held x)) (λ x. is_refused (held x))
   holding_written number octets is_refused l = record {
     by_value = λ x y e. l.by_value (held x) (held y) e;

@@ -1,5 +1,6 @@
 -- Optional values: a header at the front tells whether one is left out, and strict encodings are read back.
-use Rattle.std.proofs.Common.{◌≡◌, ◌≢◌, ◌∙◌, ap, sym, subst, refl, arith, ℕ, ◌+◌, ◌≤◌, Bool, true, false, List, [], ◌∷◌, ◌++◌, length, length-append, append_assoc, inl, inr, IsTrue, Option, None, Some}
+use Rattle.std.proofs.Common.{◌≡◌, ◌≢◌, ◌∙◌, ap, sym, subst, refl, arith, ℕ, ◌+◌, ◌≤◌, Bool, true, false, List, [], ◌∷◌}
+use Rattle.std.proofs.Common.{◌++◌, length, length-append, append_assoc, inl, inr, IsTrue, Option, None, Some}
 use Rattle.std.specs.Prelude.{Result, Ok, Err, ◌↔◌, nat_eq, not}
 use Rattle.std.proofs.lemmas.Bool.{eqb-true, eq-eqb, false≢true}
 use Rattle.std.proofs.lemmas.Bool.Decides.{Decides-not, Decides-eqb}
@@ -26,30 +27,49 @@ use Rattle.asn1_headers.specs.Length.{form_of}
 use Rattle.asn1_rs.specs.Optional.{IsLeftOut, OptionGives, ReadsHeldBack, ReadsNoneBefore, ReadsNoneAtEnd, in_some}
 use Rattle.asn1_rs.specs.Laws.Words.{strict_element, read_back}
 
+-- Whether a value is left out.
+
 -- no header is empty
-header_is_some : (rule : Rule) (header rest : List ℕ) (id : Identifier) (form : LengthForm) → IsHeader rule header id form → header ++ rest ≢ []
+header_is_some : (rule : Rule) (header rest : List ℕ) (id : Identifier) (form : LengthForm) →
+    IsHeader rule header id form → header ++ rest ≢ []
 header_is_some rule header rest id form h e =
     let two : 2 ≤ length header = header_two rule header id form h in
     let none : length header + length rest ≡ 0 = sym (length-append header rest) ∙ ap length e in
     absurd (omega (arith, two, none))
 
 -- octets that begin with a header of this tag number do not leave the value out
-pub not_left_out : (rule : Rule) (octets header rest : List ℕ) (id : Identifier) (form : LengthForm) (number : ℕ) → IsHeader rule header id form → octets ≡ header ++ rest → id.number ≡ number → IsLeftOut rule number octets → ⊥
-not_left_out rule octets header rest id form number h e same (inl none) = header_is_some rule header rest id form h (sym e ∙ none)
+pub not_left_out : (rule : Rule) (octets header rest : List ℕ) (id : Identifier) (form : LengthForm) (number : ℕ) →
+    IsHeader rule header id form → octets ≡ header ++ rest → id.number ≡ number → IsLeftOut rule number octets → ⊥
+not_left_out rule octets header rest id form number h e same (inl none) =
+    header_is_some rule header rest id form h (sym e ∙ none)
 not_left_out rule octets header rest id form number h e same (inr other) =
-    let u = header_unique rule rule other.header header other.rest rest other.id id other.form form other.header_is h (sym other.is ∙ e) in
+    let u = header_unique rule rule other.header header other.rest rest other.id id other.form form other.header_is h
+    (sym other.is ∙ e) in
     other.other (ap (λ (i : Identifier). i.number) u.1 ∙ same)
 
 -- a header that was read tells by its tag number whether the value is left out
-pub read_tells : (rule : Rule) (refuses : Breach → Error) (octets : List ℕ) (x : List ℕ × Header) (read number : ℕ) → read ≡ x.1.tag.0 → HeaderGives rule (refusal_of refuses) octets (Ok x) → IsTrue (not (nat_eq read number)) ↔ IsLeftOut rule number octets
+pub read_tells : (rule : Rule) (refuses : Breach → Error) (octets : List ℕ) (x : List ℕ × Header) (read number : ℕ) →
+    read ≡ x.1.tag.0 → HeaderGives rule (refusal_of refuses) octets (Ok x) →
+    IsTrue (not (nat_eq read number)) ↔ IsLeftOut rule number octets
 read_tells rule refuses octets x read number e g =
     let differ = Decides-not (nat_eq read number) (Decides-eqb read number) in (
-      λ told. inr (record { header = g.octets; rest = x.0; id = identifier_of x.1; form = form_of x.1.length; header_is = g.header; is = g.is; other = λ same. differ.0 told (e ∙ same) }),
-      λ out. differ.1 (λ same. not_left_out rule octets g.octets x.0 (identifier_of x.1) (form_of x.1.length) number g.header g.is (sym e ∙ same) out),
+      λ told. inr (record {
+        header = g.octets;
+        rest = x.0;
+        id = identifier_of x.1;
+        form = form_of x.1.length;
+        header_is = g.header;
+        is = g.is;
+        other = λ same. differ.0 told (e ∙ same);
+      }),
+      λ out. differ.1 (λ same. not_left_out rule octets g.octets x.0 (identifier_of x.1)
+          (form_of x.1.length) number g.header g.is (sym e ∙ same) out),
     )
 
 -- where no header could be read, the value is left out at the end alone
-pub refusal_tells : (rule : Rule) (refuses : Breach → Error) (octets : List ℕ) (r : Refusal Error) (number : ℕ) → HeaderGives rule (refusal_of refuses) octets (Err r) → IsTrue (nat_eq (length octets) 0) ↔ IsLeftOut rule number octets
+pub refusal_tells : (rule : Rule) (refuses : Breach → Error) (octets : List ℕ) (r : Refusal Error) (number : ℕ) →
+    HeaderGives rule (refusal_of refuses) octets (Err r) →
+    IsTrue (nat_eq (length octets) 0) ↔ IsLeftOut rule number octets
 refusal_tells rule refuses octets r number g = (λ told. inl (none octets (eqb-true (length octets) 0 told)), ended)
   where
     none : (xs : List ℕ) → length xs ≡ 0 → xs ≡ []
@@ -58,27 +78,47 @@ refusal_tells rule refuses octets r number g = (λ told. inl (none octets (eqb-t
 
     ended : IsLeftOut rule number octets → IsTrue (nat_eq (length octets) 0)
     ended (inl e) = eq-eqb (length octets) 0 (ap length e)
-    ended (inr other) = absurd (header_or_fault rule octets other.header other.rest other.id other.form g.0 g.1 other.header_is other.is)
+    ended (inr other) = absurd
+        (header_or_fault rule octets other.header other.rest other.id other.form g.0 g.1 other.header_is other.is)
+
+-- What is answered.
 
 -- none is answered where the value is told to be left out
-pub answers_none : {T E : Type 0} (rule : Rule) (reads : List ℕ → Result (List ℕ × T) (Refusal E) → Type 0) (octets : List ℕ) (tag mark : Tag) (told : Bool) → tag ≡ mark → IsTrue told ↔ IsLeftOut rule tag.0 octets → told ≡ true → OptionGives (IsLeftOut rule mark.0) reads octets (Ok (octets, None))
-answers_none rule reads octets tag mark told e tells is = inl (subst (λ (t : Tag). IsLeftOut rule t.0 octets) e (tells.0 is), refl)
+pub answers_none : {T E : Type 0} (rule : Rule) (reads : List ℕ → Result (List ℕ × T) (Refusal E) → Type 0)
+    (octets : List ℕ) (tag mark : Tag) (told : Bool) → tag ≡ mark → IsTrue told ↔ IsLeftOut rule tag.0 octets →
+    told ≡ true → OptionGives (IsLeftOut rule mark.0) reads octets (Ok (octets, None))
+answers_none rule reads octets tag mark told e tells is =
+    inl (subst (λ (t : Tag). IsLeftOut rule t.0 octets) e (tells.0 is), refl)
 
 -- and else the whole answer of the reader of the value
-pub answers_held : {T E : Type 0} (rule : Rule) (reads : List ℕ → Result (List ℕ × T) (Refusal E) → Type 0) (octets : List ℕ) (tag mark : Tag) (told : Bool) → tag ≡ mark → IsTrue told ↔ IsLeftOut rule tag.0 octets → told ≡ false
-    → (its : Result (List ℕ × T) (Refusal E)) → reads octets its → (answer : Result (List ℕ × Option T) (Refusal E)) → answer ≡ in_some its → OptionGives (IsLeftOut rule mark.0) reads octets answer
+pub answers_held : {T E : Type 0} (rule : Rule) (reads : List ℕ → Result (List ℕ × T) (Refusal E) → Type 0)
+    (octets : List ℕ) (tag mark : Tag) (told : Bool) → tag ≡ mark → IsTrue told ↔ IsLeftOut rule tag.0 octets →
+    told ≡ false
+    → (its : Result (List ℕ × T) (Refusal E)) → reads octets its → (answer : Result (List ℕ × Option T) (Refusal E)) →
+    answer ≡ in_some its → OptionGives (IsLeftOut rule mark.0) reads octets answer
 answers_held rule reads octets tag mark told e tells stays its gives answer is =
-    inr (λ out. absurd (false≢true (sym stays ∙ tells.1 (subst (λ (t : Tag). IsLeftOut rule t.0 octets) (sym e) out))), (its, gives, is))
+    inr (
+      λ out. absurd (false≢true (sym stays ∙ tells.1 (subst (λ (t : Tag). IsLeftOut rule t.0 octets) (sym e) out))),
+      (its, gives, is),
+    )
+
+-- Strict encodings are read back.
 
 -- strict encodings begin with a header of their tag number
-strict_stays : {V : Type 0} (rule : Rule) → AllowsStrict rule → (Form : V → Identifier → List ℕ → Type 0) (number : ℕ) → FormNumber Form number → (v : V) (octets w rest : List ℕ) → IsStrict Form v w → octets ≡ w ++ rest → IsLeftOut rule number octets → ⊥
+strict_stays : {V : Type 0} (rule : Rule) → AllowsStrict rule → (Form : V → Identifier → List ℕ → Type 0) (number : ℕ) →
+    FormNumber Form number → (v : V) (octets w rest : List ℕ) → IsStrict Form v w → octets ≡ w ++ rest →
+    IsLeftOut rule number octets → ⊥
 strict_stays rule allows Form number numbered v octets w rest s e =
     let element = strict_element rule allows Form v w s in
-    not_left_out rule octets element.header (s.content ++ rest) s.id (definite (length s.content)) number element.header_is
-    (e ∙ ap (λ (ys : List ℕ). ys ++ rest) element.is ∙ append_assoc element.header s.content rest) (numbered v s.id s.content s.form)
+    not_left_out rule octets element.header (s.content ++ rest) s.id
+    (definite (length s.content)) number element.header_is
+    (e ∙ ap (λ (ys : List ℕ). ys ++ rest) element.is ∙ append_assoc element.header s.content rest)
+    (numbered v s.id s.content s.form)
 
 -- before a strict encoding of another tag number the value is left out
-strict_leaves_out : {V : Type 0} (rule : Rule) → AllowsStrict rule → (Form : V → Identifier → List ℕ → Type 0) (number other : ℕ) → FormNumber Form other → other ≢ number → (v : V) (octets w rest : List ℕ) → IsStrict Form v w → octets ≡ w ++ rest → IsLeftOut rule number octets
+strict_leaves_out : {V : Type 0} (rule : Rule) → AllowsStrict rule →
+    (Form : V → Identifier → List ℕ → Type 0) (number other : ℕ) → FormNumber Form other → other ≢ number →
+    (v : V) (octets w rest : List ℕ) → IsStrict Form v w → octets ≡ w ++ rest → IsLeftOut rule number octets
 strict_leaves_out rule allows Form number other numbered differ v octets w rest s e =
     let element = strict_element rule allows Form v w s in
     inr (record {
@@ -92,26 +132,47 @@ strict_leaves_out rule allows Form number other numbered differ v octets w rest 
     })
 
 -- where the value is left out, none is answered
-none_is_answered : {T E : Type 0} (LeftOut : List ℕ → Type 0) (reads : List ℕ → Result (List ℕ × T) (Refusal E) → Type 0) (octets : List ℕ) (answer : Result (List ℕ × Option T) (Refusal E)) → OptionGives LeftOut reads octets answer → LeftOut octets → answer ≡ Ok (octets, None)
+none_is_answered : {T E : Type 0} (LeftOut : List ℕ → Type 0)
+    (reads : List ℕ → Result (List ℕ × T) (Refusal E) → Type 0) (octets : List ℕ)
+    (answer : Result (List ℕ × Option T) (Refusal E)) → OptionGives LeftOut reads octets answer → LeftOut octets →
+    answer ≡ Ok (octets, None)
 none_is_answered LeftOut reads octets answer (inl (out, e)) is = e
 none_is_answered LeftOut reads octets answer (inr (stays, its)) is = absurd (stays is)
 
-pub none_before_others : {T V E : Type 0} (rule : Rule) → AllowsStrict rule → (Form : V → Identifier → List ℕ → Type 0) (number other : ℕ) → FormNumber Form other → (reads : List ℕ → Result (List ℕ × T) (Refusal E) → Type 0) → other ≢ number → ReadsNoneBefore (OptionGives (IsLeftOut rule number) reads) Form
-none_before_others rule allows Form number other numbered reads differ octets answer v w rest g s e = none_is_answered (IsLeftOut rule number) reads octets answer g (strict_leaves_out rule allows Form number other numbered differ v octets w rest s e)
+-- None is read before a strict encoding of another tag number.
+pub none_before_others : {T V E : Type 0} (rule : Rule) → AllowsStrict rule →
+    (Form : V → Identifier → List ℕ → Type 0) (number other : ℕ) → FormNumber Form other →
+    (reads : List ℕ → Result (List ℕ × T) (Refusal E) → Type 0) → other ≢ number →
+    ReadsNoneBefore (OptionGives (IsLeftOut rule number) reads) Form
+none_before_others rule allows Form number other numbered reads differ octets answer v w rest g s e =
+    none_is_answered (IsLeftOut rule number) reads octets answer g
+    (strict_leaves_out rule allows Form number other numbered differ v octets w rest s e)
 
-pub none_at_end : {T E : Type 0} (rule : Rule) (number : ℕ) (reads : List ℕ → Result (List ℕ × T) (Refusal E) → Type 0) → ReadsNoneAtEnd (OptionGives (IsLeftOut rule number) reads)
+-- None is read where no octets are left.
+pub none_at_end : {T E : Type 0} (rule : Rule) (number : ℕ)
+    (reads : List ℕ → Result (List ℕ × T) (Refusal E) → Type 0) →
+    ReadsNoneAtEnd (OptionGives (IsLeftOut rule number) reads)
 none_at_end rule number reads answer g = none_is_answered (IsLeftOut rule number) reads [] answer g (inl refl)
 
 -- what is read back is read back in Some
-held_reads_back : {T V E : Type 0} (value : T → V) (memory : Refusal E → Type 0) (v : V) (rest : List ℕ) (its : Result (List ℕ × T) (Refusal E)) → ReadsBack value memory v rest its → ReadsBack (option_map value) memory (Some v) rest (in_some its)
+held_reads_back : {T V E : Type 0} (value : T → V) (memory : Refusal E → Type 0) (v : V) (rest : List ℕ)
+    (its : Result (List ℕ × T) (Refusal E)) → ReadsBack value memory v rest its →
+    ReadsBack (option_map value) memory (Some v) rest (in_some its)
 held_reads_back value memory v rest (Ok x) b = (ap Some b.0, b.1)
 held_reads_back value memory v rest (Err r) b = b
 
 -- The strict encoding of what is held is read back, by a reader of optional values over one that is exact.
-pub held_is_read_back : {T V E : Type 0} (rule : Rule) → AllowsStrict rule → (IsCut : List ℕ → Type 0) (Form : V → Identifier → List ℕ → Type 0) (G : List ℕ → V → Type 0) (value : T → V) (memory : Refusal E → Type 0) (number : ℕ)
-    → ((v : V) (o : List ℕ) → IsStrict Form v o → G o v) → IsOneFront G → FormNumber Form number → (reads : List ℕ → Result (List ℕ × T) (Refusal E) → Type 0)
-    → ((octets : List ℕ) (its : Result (List ℕ × T) (Refusal E)) → IsOctets octets → reads octets its → Exactly IsCut G value memory octets its)
+pub held_is_read_back : {T V E : Type 0} (rule : Rule) → AllowsStrict rule →
+    (IsCut : List ℕ → Type 0) (Form : V → Identifier → List ℕ → Type 0) (G : List ℕ → V → Type 0) (value : T → V)
+    (memory : Refusal E → Type 0) (number : ℕ)
+    → ((v : V) (o : List ℕ) → IsStrict Form v o → G o v) → IsOneFront G → FormNumber Form number →
+    (reads : List ℕ → Result (List ℕ × T) (Refusal E) → Type 0)
+    → ((octets : List ℕ) (its : Result (List ℕ × T) (Refusal E)) → IsOctets octets → reads octets its →
+    Exactly IsCut G value memory octets its)
     → ReadsHeldBack (OptionGives (IsLeftOut rule number) reads) Form value memory
-held_is_read_back rule allows IsCut Form G value memory number strict one numbered reads exact octets answer v w rest are (inl (out, e)) s is = absurd (strict_stays rule allows Form number numbered v octets w rest s is out)
-held_is_read_back rule allows IsCut Form G value memory number strict one numbered reads exact octets answer v w rest are (inr (stays, (its, gives, e))) s is =
-    subst (ReadsBack (option_map value) memory (Some v) rest) (sym e) (held_reads_back value memory v rest its (read_back IsCut Form G value memory strict one octets its (exact octets its are gives) v w rest s is))
+held_is_read_back rule allows IsCut Form G value memory number strict one numbered reads exact octets answer v w rest
+    are (inl (out, e)) s is = absurd (strict_stays rule allows Form number numbered v octets w rest s is out)
+held_is_read_back rule allows IsCut Form G value memory number strict one numbered reads exact octets answer v w rest
+    are (inr (stays, (its, gives, e))) s is =
+    subst (ReadsBack (option_map value) memory (Some v) rest) (sym e) (held_reads_back value memory v rest its
+    (read_back IsCut Form G value memory strict one octets its (exact octets its are gives) v w rest s is))

@@ -1,2 +1,3 @@
+-- Laws of sequences: walks over their items.
 pub mod Iterator
 pub mod IndefiniteContents

@@ -12,7 +12,9 @@ use Rattle.asn1_rs.specs.Strings.{text_leaf, string_leaf, StringGives, text_of}
 use Rattle.asn1_rs.specs.Laws.Checks.{content_check_is, is_primitive_is}
 use Rattle.asn1_rs.specs.Laws.Leaf.{leaf_converts}
 
-pub text_lawful : {S : Type 0} (number : ℕ) (IsText : List ℕ → Type 0) (text : S → List ℕ) → number < 31 → is_container_number number ≡ false →
+-- A leaf whose contents octets are a text in UTF-8 is lawful.
+pub text_lawful : {S : Type 0} (number : ℕ) (IsText : List ℕ → Type 0) (text : S → List ℕ) → number < 31 →
+    is_container_number number ≡ false →
     ((octets : List ℕ) → IsText octets → IsUtf8 octets) → IsLawfulLeaf (text_leaf number IsText text)
 text_lawful number IsText text small primitive utf8 = record {
   small = small;
@@ -27,7 +29,9 @@ text_lawful number IsText text small primitive utf8 = record {
   der_constraints = λ k v d. primitive;
 }
 
-module _ {K : Type 0} (number : ℕ) (IsText : List ℕ → Type 0) (small : number < 31) (primitive : is_container_number number ≡ false) (utf8 : (octets : List ℕ) → IsText octets → IsUtf8 octets) where
+module _ {K : Type 0} (number : ℕ) (IsText : List ℕ → Type 0) (small : number < 31)
+    (primitive : is_container_number number ≡ false) (utf8 : (octets : List ℕ) → IsText octets → IsUtf8 octets) where
+  -- Strings whose contents octets are their text are lawful.
   pub string_lawful : IsLawfulLeaf (string_leaf {K = K} number IsText)
   string_lawful = text_lawful number IsText text_of small primitive utf8
 
@@ -39,5 +43,6 @@ module _ {K : Type 0} (number : ℕ) (IsText : List ℕ → Type 0) (small : num
   }
 
 -- strings are equal where their texts are
-pub string_equal : {K : Type 0} (x y : RestrictedString K) → IsTrue (pointwise nat_eq (text_of x) (text_of y)) ↔ (text_of x ≡ text_of y)
+pub string_equal : {K : Type 0} (x y : RestrictedString K) →
+    IsTrue (pointwise nat_eq (text_of x) (text_of y)) ↔ (text_of x ≡ text_of y)
 string_equal x y = pointwise_decides unsigned_Decides (text_of x) (text_of y)

@@ -20,6 +20,8 @@ use Rattle.asn1_rs.specs.ToDer.{HasNone, WrittenRefusal}
 use Rattle.asn1_rs.specs.Tagged.Writing.{UnderClass}
 use Rattle.asn1_rs.specs.Laws.Forms.{behind_header}
 
+-- Classes.
+
 -- classes are told by their numbers
 pub one_class : (a b : Class) → class_number a ≡ class_number b → a ≡ b
 one_class Universal Universal e = refl
@@ -28,6 +30,7 @@ one_class ContextSpecific ContextSpecific e = refl
 one_class Private Private e = refl
 one_class _ _ e = cc
 
+-- The number of a class is below 4.
 class_small : (a : Class) → class_number a < 4
 class_small Universal = omega arith
 class_small Application = omega arith
@@ -41,6 +44,7 @@ one_expected class (Some a) (Some b) h k = ap Some (one_class a b (sym h ∙ k))
 one_expected class None (Some b) h k = let s = class_small b in absurd (omega arith)
 one_expected class (Some a) None h k = let s = class_small a in absurd (omega arith)
 
+-- That of the class is a check.
 pub has_class_is : (class : ℕ) → IsCheck (has_class class)
 has_class_is class = record {
   apart = λ p e m b. b.0 m;
@@ -54,29 +58,43 @@ has_class_is class = record {
         let b : actual ≡ actual' = one_class actual actual' (sym of ∙ of') in
         cc
 
+-- Numbers of tags.
+
 -- the number of a tag is one that an element can have, and a number of such is its own
 pub number_fits : (n : ℕ) → number_of n < 2 ^ 32
 number_fits n = omega arith
 
+-- A number that an element can have is its own.
 pub number_is : (n : ℕ) → n < 2 ^ 32 → number_of n ≡ n
 number_is n l = omega arith
+
+-- Parts, and what is written under a tag.
 
 -- parts are the same under their own class
 pub own_class : (class : ℕ) (i : Identifier) (c : List ℕ) → i.class ≡ class → made i c ≡ made (of_class class i) c
 own_class class i c e = ap (λ (n : ℕ). made (of_class n i) c) e
 
 -- where the class is one of the four, the refusals are those of the value
-pub of_class_none : (class : ℕ) (own : SerializeError → Type 0) → class < 4 → HasNone own → HasNone (UnderClass class own)
+pub of_class_none : (class : ℕ) (own : SerializeError → Type 0) → class < 4 → HasNone own →
+    HasNone (UnderClass class own)
 of_class_none class own l n e (inl h) = let k = h.0 in omega arith
 of_class_none class own l n e (inr h) = n e h.1
 
--- what is written under a tag of one of the four classes has no refusal, where its counts and its contents octets have none
-pub under_tag : (class : ℕ) (counting : Error → Type 0) (own : SerializeError → Type 0) → class < 4 → HasNone counting → HasNone own → HasNone (UnderClass class (WrittenRefusal counting)) × HasNone (UnderClass class own)
-under_tag class counting own few n o = (of_class_none class (WrittenRefusal counting) few (behind_header counting n), of_class_none class own few o)
+-- what is written under a tag of one of the four classes has no refusal,
+-- where its counts and its contents octets have none
+pub under_tag : (class : ℕ) (counting : Error → Type 0) (own : SerializeError → Type 0) → class < 4 → HasNone counting →
+    HasNone own → HasNone (UnderClass class (WrittenRefusal counting)) × HasNone (UnderClass class own)
+under_tag class counting own few n o =
+    (of_class_none class (WrittenRefusal counting) few (behind_header counting n), of_class_none class own few o)
+
+-- Refusals, and marks.
 
 -- what the refusal of a check is made into does not report out of memory
-pub check_spares : {E : Type 0} (check : CheckGives) → IsCheck check → (from : Error → E → Type 0) (p : Parts) (refusal : Error) (e : E) → check p (Err refusal) → from refusal e → IsOther from e
-check_spares check is from p refusal e t m = inl (refusal, λ q. is.spares p (subst (λ (x : Error). check p (Err x)) q t), m)
+pub check_spares : {E : Type 0} (check : CheckGives) → IsCheck check →
+    (from : Error → E → Type 0) (p : Parts) (refusal : Error) (e : E) → check p (Err refusal) → from refusal e →
+    IsOther from e
+check_spares check is from p refusal e t m =
+    inl (refusal, λ q. is.spares p (subst (λ (x : Error). check p (Err x)) q t), m)
 
 -- a mark beside a value is equal to every other
 pub marked_same : {A : Type 0} (same : Bool) → IsTrue same ↔ A → IsTrue (same && true) ↔ A

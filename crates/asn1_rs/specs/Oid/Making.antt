@@ -7,10 +7,11 @@ use Rattle.std.specs.declared.vec.Vec.{Vec}
 use Rattle.x690.specs.Arcs.{AreAbsoluteArcs, AreShortest, IsFirstPair, arcs_octets, arcs_of}
 use Rattle.asn1_rs.specs.declared.asn1_types.oid.Oid.{Oid}
 use Rattle.asn1_rs.specs.declared.asn1_types.oid.making.OidParseError.{OidParseError}
-use Rattle.asn1_rs.specs.declared.asn1_types.oid.making.OidParseError.TheVariants.{TooShort, FirstComponentsTooLarge, ParseIntError, OutOfMemory}
+use Rattle.asn1_rs.specs.declared.asn1_types.oid.making.OidParseError.TheVariants.{TooShort, FirstComponentsTooLarge}
+use Rattle.asn1_rs.specs.declared.asn1_types.oid.making.OidParseError.TheVariants.{ParseIntError, OutOfMemory}
 use Rattle.asn1_rs.specs.Oid.{IsStrictOid, is_relative, oid_octets, oid_value}
 
--- ---- of arcs, where `true` is of a relative identifier
+-- Of arcs, where `true` is of a relative identifier.
 
 -- the arcs of an identifier: one or more of a relative one; else the one arc 0, or a first pair and any more
 abbrev pub AreArcs : Bool → List ℕ → Type 0
@@ -60,7 +61,7 @@ OidMade relative arcs (Err FirstComponentsTooLarge) = RefusesArcs relative arcs 
 OidMade relative arcs (Err ParseIntError) = ⊥
 OidMade relative arcs (Err OutOfMemory) = AreArcs relative arcs
 
--- ---- of text
+-- Of text.
 
 -- the parts of a text between its points: one where there is none
 abbrev pub parts_between_points : List ℕ → List (List ℕ)
@@ -70,6 +71,7 @@ parts_between_points text = slice_split (λ b. b == 46) text
 abbrev pub SaysArc : List ℕ → Type 0
 SaysArc part = IsNumeral 10 (without_leading_plus part) × (digits_value 10 (without_leading_plus part) < 2 ^ 64)
 
+-- the number that one part of the text says
 abbrev pub arc_said : List ℕ → ℕ
 arc_said part = digits_value 10 (without_leading_plus part)
 
@@ -77,6 +79,7 @@ arc_said part = digits_value 10 (without_leading_plus part)
 abbrev pub SaysArcs : List ℕ → Type 0
 SaysArcs text = All SaysArc (parts_between_points text)
 
+-- the numbers that the parts of the text say
 abbrev pub arcs_said : List ℕ → List ℕ
 arcs_said text = map arc_said (parts_between_points text)
 
@@ -92,6 +95,7 @@ ArcsRead text (Err OutOfMemory) = SaysArcs text
 abbrev pub OidReadFrom : List ℕ → Result Oid OidParseError → Type 0
 OidReadFrom text (Ok x) = SaysArcs text × OidMade false (arcs_said text) (Ok x)
 OidReadFrom text (Err TooShort) = SaysArcs text × OidMade false (arcs_said text) (Err TooShort)
-OidReadFrom text (Err FirstComponentsTooLarge) = SaysArcs text × OidMade false (arcs_said text) (Err FirstComponentsTooLarge)
+OidReadFrom text (Err FirstComponentsTooLarge) =
+    SaysArcs text × OidMade false (arcs_said text) (Err FirstComponentsTooLarge)
 OidReadFrom text (Err ParseIntError) = ¬ (SaysArcs text)
 OidReadFrom text (Err OutOfMemory) = SaysArcs text

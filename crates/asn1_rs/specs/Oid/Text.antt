@@ -1,5 +1,6 @@
 -- The texts of object identifiers: their arcs, or their octets where an arc is too great.
-use Rattle.std.specs.Prelude.{ℕ, ◌/◌, ◌%◌, ◌^◌, Bool, true, false, List, [], ◌∷◌, ◌++◌, map, nat_lt, if◌then◌else◌, codes}
+use Rattle.std.specs.Prelude.{ℕ, ◌/◌, ◌%◌, ◌^◌, Bool, true, false, List, [], ◌∷◌, ◌++◌, map, nat_lt, if◌then◌else◌}
+use Rattle.std.specs.Prelude.{codes}
 use Rattle.std.specs.List.{list_all, join_with_byte}
 use Rattle.std.specs.Fmt.{digit_glyph}
 use Rattle.x690.specs.Arcs.{arcs_of, arcs_text}
@@ -16,9 +17,11 @@ hex_text octets = join_with_byte 32 (map hex_octet octets)
 abbrev pub are_small : List ℕ → Bool
 are_small arcs = list_all (λ arc. nat_lt arc (2 ^ 64)) arcs
 
--- the text of contents octets: their arcs in decimal with points between them, or the octets where an arc is 2^64 or more
+-- the text of contents octets: their arcs in decimal with points between them,
+-- or the octets where an arc is 2^64 or more
 abbrev pub id_text : Bool → List ℕ → List ℕ
-id_text relative octets = if are_small (arcs_of relative octets) then arcs_text (arcs_of relative octets) else hex_text octets
+id_text relative octets =
+    if are_small (arcs_of relative octets) then arcs_text (arcs_of relative octets) else hex_text octets
 
 -- what a relative identifier's text is printed behind
 abbrev pub shown_text : Bool → List ℕ → List ℕ

@@ -19,22 +19,28 @@ abbrev pub octets_left : {T F E : Type 0} → SequenceIterator T F E → List �
 octets_left s = s.left.now
 
 -- A reader takes an item exactly where a word of the grammar begins the octets, and one word alone begins an input.
-pub record ReadsExactly {T V E : Type 0} (IsCut : List ℕ → Type 0) (G : List ℕ → V → Type 0) (value : T → V) (memory : Refusal E → Type 0) (reads : List ℕ → Result (List ℕ × T) (Refusal E) → Type 0) : Type 0 where
+pub record ReadsExactly {T V E : Type 0} (IsCut : List ℕ → Type 0) (G : List ℕ → V → Type 0) (value : T → V)
+    (memory : Refusal E → Type 0) (reads : List ℕ → Result (List ℕ × T) (Refusal E) → Type 0) : Type 0 where
   pub one_word : IsOneFront G
-  pub takes : (octets : List ℕ) (answer : Result (List ℕ × T) (Refusal E)) → IsOctets octets → reads octets answer → Exactly IsCut G value memory octets answer
+  pub takes : (octets : List ℕ) (answer : Result (List ℕ × T) (Refusal E)) → IsOctets octets → reads octets answer →
+      Exactly IsCut G value memory octets answer
 
 -- What a call of `next` on the iterator answers, and the iterator that it leaves.
-abbrev pub WalkSteps : {T F E : Type 0} → (List ℕ → Result (List ℕ × T) (Refusal E) → Type 0) → (Error → E → Type 0) → SequenceIterator T F E → Option (Result T E) → SequenceIterator T F E → Type 0
+abbrev pub WalkSteps : {T F E : Type 0} → (List ℕ → Result (List ℕ × T) (Refusal E) → Type 0) → (Error → E → Type 0) →
+    SequenceIterator T F E → Option (Result T E) → SequenceIterator T F E → Type 0
 WalkSteps reads from s answer t = TakesItem reads from (octets_left s) answer (octets_left t)
 
--- How a walk ended so far, where these octets were not taken: they are left; or one refusal told of them, and nothing is left.
+-- How a walk ended so far, where these octets were not taken: they are left;
+-- or one refusal told of them, and nothing is left.
 abbrev pub EndsWalk : {T E : Type 0} → (List ℕ → E → Type 0) → List ℕ → List (Result T E) → List ℕ → Type 0
 EndsWalk Tells octets [] left = left ≡ octets
 EndsWalk Tells octets (Err e ∷ []) left = (octets ≢ []) × Tells octets e × (left ≡ [])
 EndsWalk Tells octets _ left = ⊥
 
--- What the calls of `next` gave so far: the values of words, whose joining begins the contents octets, and then perhaps one refusal of what follows them.
-pub record IsWalk {T V E : Type 0} (G : List ℕ → V → Type 0) (value : T → V) (Tells : List ℕ → E → Type 0) (content : List ℕ) (answers : List (Result T E)) (left : List ℕ) : Type 0 where
+-- What the calls of `next` gave so far: the values of words, whose joining begins the contents octets,
+-- and then perhaps one refusal of what follows them.
+pub record IsWalk {T V E : Type 0} (G : List ℕ → V → Type 0) (value : T → V) (Tells : List ℕ → E → Type 0)
+    (content : List ℕ) (answers : List (Result T E)) (left : List ℕ) : Type 0 where
   pub words : List (List ℕ)
   pub items : List T
   pub others : List ℕ
@@ -45,13 +51,17 @@ pub record IsWalk {T V E : Type 0} (G : List ℕ → V → Type 0) (value : T �
   pub end : EndsWalk Tells others ends left
 
 -- What the calls that std's consumers make give is a walk, and where they went on to `None`, nothing is left.
-pub record IsWalkOf {T F V E : Type 0} {steps : SequenceIterator T F E → Option (Result T E) → SequenceIterator T F E → Type 0} (G : List ℕ → V → Type 0) (value : T → V) (Tells : List ℕ → E → Type 0) (run : Run steps) : Type 0 where
+pub record IsWalkOf {T F V E : Type 0}
+    {steps : SequenceIterator T F E → Option (Result T E) → SequenceIterator T F E → Type 0} (G : List ℕ → V → Type 0)
+    (value : T → V) (Tells : List ℕ → E → Type 0) (run : Run steps) : Type 0 where
   pub left : List ℕ
   pub walk : IsWalk G value Tells (octets_left run.from) run.items left
   pub whole : run.whole ≡ true → left ≡ []
 
--- Words of the grammar with these values begin the octets, and something is left behind them, of which the refusal tells.
-pub record EndsJoined {V E : Type 0} (G : List ℕ → V → Type 0) (Tells : List ℕ → E → Type 0) (octets : List ℕ) (values : List V) (e : E) : Type 0 where
+-- Words of the grammar with these values begin the octets, and something is left behind them,
+-- of which the refusal tells.
+pub record EndsJoined {V E : Type 0} (G : List ℕ → V → Type 0) (Tells : List ℕ → E → Type 0) (octets : List ℕ)
+    (values : List V) (e : E) : Type 0 where
   pub front : List ℕ
   pub others : List ℕ
   pub is : octets ≡ front ++ others
@@ -75,6 +85,7 @@ IsMemory takes from e = IsTrue takes × from errors.OutOfMemory e
 abbrev pub TellsNothing : {E : Type 0} → List ℕ → E → Type 0
 TellsNothing octets e = ⊥
 
+-- the library's refusal itself, where a reader makes no other of it
 abbrev pub IsSame : Error → Error → Type 0
 IsSame e f = f ≡ e
 

@@ -15,5 +15,6 @@ IsSequenceOf items s = sequence_items s ≡ items
 
 -- once the borrow r ends, the items are those that r shows last
 module _ (T : RattleType) (s : MutBor (SequenceOf T.Denot)) where
+  -- the items of a sequence are lent, and what comes back takes their place
   abbrev pub lends_sequence_items : MutBor (List T.Denot) → Fml
   lends_sequence_items r = Lends (the_row T) (Array T 0) s r (λ ws. record { items = with_items s.now.items ws })

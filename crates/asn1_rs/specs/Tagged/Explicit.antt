@@ -1,4 +1,5 @@
--- Values under an explicit tag: a constructed element of its own, whose contents octets hold the value's (X.690 8.14.2).
+-- Values under an explicit tag: a constructed element of its own,
+-- whose contents octets hold the value's (X.690 8.14.2).
 use Rattle.std.specs.Prelude.{◌≡◌, ◌⊎◌, ℕ, ◌<◌, ◌^◌, true, List, Result, Ok, Err}
 use Rattle.x690.specs.Identifiers.{Identifier}
 use Rattle.x690.specs.Elements.{Parts, IsDerElement}
@@ -41,16 +42,18 @@ pub record ExplicitCheck (ElementOf : List ℕ → Parts → Type 0) (Check : Pa
 abbrev pub explicit_identifier : ℕ → ℕ → Identifier
 explicit_identifier class number = record { class = class; constructed = true; number = number }
 
--- The strict parts: the tag, of one of the four classes and of a number that an element can have, and the strict encoding of the
--- value.
-pub record ExplicitForm {V : Type 0} (class number : ℕ) (Form : V → Identifier → List ℕ → Type 0) (v : V) (i : Identifier) (c : List ℕ) : Type 0 where
+-- The strict parts: the tag, of one of the four classes and of a number that an element can have,
+-- and the strict encoding of the value.
+pub record ExplicitForm {V : Type 0} (class number : ℕ) (Form : V → Identifier → List ℕ → Type 0) (v : V)
+    (i : Identifier) (c : List ℕ) : Type 0 where
   pub is_class : class < 4
   pub is_number : number < 2 ^ 32
   pub id_is : i ≡ explicit_identifier class number
   pub inner : IsStrict Form v c
 
--- Words by BER are elements by BER with this body, words by DER the elements of definite length with it; a value is in DER form
--- where the class is one of the four, the number one that an element can have, as each `u32` is, and the value within in DER form.
+-- Words by BER are elements by BER with this body, words by DER the elements of definite length with it; a value is in
+-- DER form where the class is one of the four, the number one that an element can have, as each `u32` is, and the value
+-- within in DER form.
 abbrev pub explicit_grammar : {S T : Type 0} → ℕ → ℕ → (T → S) → ItemGrammar S → ItemGrammar T
 explicit_grammar class number inner G = record {
   Value = G.Value;
@@ -69,28 +72,38 @@ abbrev pub InnerTakes : {T E : Type 0} → (Error → E → Type 0) → Result (
 InnerTakes from answer (Ok value) = (rest : List ℕ) × (answer ≡ Ok (rest, value))
 InnerTakes {T} {E} from answer (Err e) = (r : Refusal E) × (answer ≡ Err r) × FlattenedTo (λ x y. y ≡ x) from r e
 
--- what the conversion of an element may answer: the value that its contents octets begin with; or the refusal of the tag, or the value's own
-abbrev pub ExplicitTakes : {T W E : Type 0} → ℕ → ℕ → (W → T) → (List ℕ → Result (List ℕ × T) (Refusal E) → Type 0) → (Error → E → Type 0) → Parts → Result W E → Type 0
-ExplicitTakes class number inner reads from p (Ok w) = tag_checks class number p (Ok tt) × ((rest : List ℕ) × reads p.content (Ok (rest, inner w)))
+-- what the conversion of an element may answer: the value that its contents octets begin with;
+-- or the refusal of the tag, or the value's own
+abbrev pub ExplicitTakes : {T W E : Type 0} → ℕ → ℕ → (W → T) → (List ℕ → Result (List ℕ × T) (Refusal E) → Type 0) →
+    (Error → E → Type 0) → Parts → Result W E → Type 0
+ExplicitTakes class number inner reads from p (Ok w) =
+    tag_checks class number p (Ok tt) × ((rest : List ℕ) × reads p.content (Ok (rest, inner w)))
 ExplicitTakes {T} {W} {E} class number inner reads from p (Err e) =
     ((refusal : Error) × tag_checks class number p (Err refusal) × from refusal e) ⊎
-    (tag_checks class number p (Ok tt) × ((r : Refusal E) × reads p.content (Err r) × FlattenedTo (λ x y. y ≡ x) from r e))
+    (tag_checks class number p (Ok tt) ×
+    ((r : Refusal E) × reads p.content (Err r) × FlattenedTo (λ x y. y ≡ x) from r e))
 
 -- what reading the value in an element may answer, by DER: the value's own answer, or the refusal of the tag
-abbrev pub ExplicitReads : {T E : Type 0} → ℕ → ℕ → (List ℕ → Result (List ℕ × T) (Refusal E) → Type 0) → (Error → E → Type 0) → Parts → Result (List ℕ × T) (Refusal E) → Type 0
+abbrev pub ExplicitReads : {T E : Type 0} → ℕ → ℕ → (List ℕ → Result (List ℕ × T) (Refusal E) → Type 0) →
+    (Error → E → Type 0) → Parts → Result (List ℕ × T) (Refusal E) → Type 0
 ExplicitReads class number reads from p (Ok x) = tag_checks class number p (Ok tt) × reads p.content (Ok x)
 ExplicitReads {T} {E} class number reads from p (Err r) =
-    ((refusal : Error) × tag_checks class number p (Err refusal) × ((e : E) × from refusal e × (r ≡ refused e))) ⊎ (tag_checks class number p (Ok tt) × reads p.content (Err r))
+    ((refusal : Error) × tag_checks class number p (Err refusal) × ((e : E) × from refusal e × (r ≡ refused e))) ⊎
+    (tag_checks class number p (Ok tt) × reads p.content (Err r))
 
 -- what the reader by DER may answer: the refusal of the element's first fault, or what reading the value in it answers
-abbrev pub ExplicitGives : {T W E : Type 0} → ℕ → ℕ → (W → T) → (List ℕ → Result (List ℕ × T) (Refusal E) → Type 0) → (Error → E → Type 0) → List ℕ → Result (List ℕ × W) (Refusal E) → Type 0
-ExplicitGives class number inner reads from input (Ok x) = (p : Parts) × Front IsDerElement input p x.0 × ((left : List ℕ) × ExplicitReads class number reads from p (Ok (left, inner x.1)))
+abbrev pub ExplicitGives : {T W E : Type 0} → ℕ → ℕ → (W → T) → (List ℕ → Result (List ℕ × T) (Refusal E) → Type 0) →
+    (Error → E → Type 0) → List ℕ → Result (List ℕ × W) (Refusal E) → Type 0
+ExplicitGives class number inner reads from input (Ok x) = (p : Parts) × Front IsDerElement input p x.0 ×
+    ((left : List ℕ) × ExplicitReads class number reads from p (Ok (left, inner x.1)))
 ExplicitGives class number inner reads from input (Err r) =
-    ((fault : Fault) × DerElementFault input fault × Converted from (der_refusal fault) r) ⊎ ((p : Parts) × (rest : List ℕ) × Front IsDerElement input p rest × ExplicitReads class number reads from p (Err r))
+    ((fault : Fault) × DerElementFault input fault × Converted from (der_refusal fault) r) ⊎ ((p : Parts) ×
+    (rest : List ℕ) × Front IsDerElement input p rest × ExplicitReads class number reads from p (Err r))
 
 -- what checking the first element in the contents octets may answer, by the reader of elements that gives these answers
 abbrev pub InnerChecked : (List ℕ → Result (List ℕ × Any) (Refusal Error) → Type 0) → CheckGives → CheckGives
-InnerChecked reads check p (Ok x) = (any : Any) × (rest : List ℕ) × reads p.content (Ok (rest, any)) × check (parts_of any) (Ok tt)
+InnerChecked reads check p (Ok x) =
+    (any : Any) × (rest : List ℕ) × reads p.content (Ok (rest, any)) × check (parts_of any) (Ok tt)
 InnerChecked reads check p (Err e) =
     ((r : Refusal Error) × reads p.content (Err r) × FlattenedTo (λ x y. y ≡ x) (λ x y. y ≡ x) r e) ⊎
     ((any : Any) × (rest : List ℕ) × reads p.content (Ok (rest, any)) × check (parts_of any) (Err e))

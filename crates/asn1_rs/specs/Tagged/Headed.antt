@@ -1,4 +1,5 @@
--- Values with the header of their tag in hand: its class and its number are told by the value, not by the type (X.690 8.14).
+-- Values with the header of their tag in hand: its class and its number are told by the value,
+-- not by the type (X.690 8.14).
 use Rattle.std.specs.Prelude.{◌≡◌, ℕ, ◌<◌, ◌^◌, Bool, true, List}
 use Rattle.x690.specs.Identifiers.{Identifier}
 use Rattle.x690.specs.Elements.{Parts, IsDerElement}
@@ -24,11 +25,12 @@ pub record HeadedBody {V : Type 0} (G : List ℕ → V → Type 0) (p : Parts) (
   pub inner : Front G p.content v.1 rest
 
 -- the strict parts of the value under the explicit tag of that class and number, where the identifier is theirs
-abbrev pub HeadedForm : {V : Type 0} → (V → Identifier → List ℕ → Type 0) → Identifier × V → Identifier → List ℕ → Type 0
+abbrev pub HeadedForm : {V : Type 0} → (V → Identifier → List ℕ → Type 0) → Identifier × V → Identifier →
+    List ℕ → Type 0
 HeadedForm Form v i c = (v.0 ≡ i) × ExplicitForm (v.0).class (v.0).number Form v.1 i c
 
--- Words by BER are elements by BER with this body, words by DER the elements of definite length with it. A value is in DER form
--- where its header is constructed, and the value within in DER form.
+-- Words by BER are elements by BER with this body, words by DER the elements of definite length with it. A value is in
+-- DER form where its header is constructed, and the value within in DER form.
 abbrev pub explicit_headed : {S T : Type 0} → (T → Identifier) → (T → S) → ItemGrammar S → ItemGrammar T
 explicit_headed identifier inner G = record {
   Value = Identifier × G.Value;
@@ -59,8 +61,9 @@ UnderForm Form v i c = (v.0 ≡ i) × ImplicitForm (v.0).class (v.0).number Form
 abbrev pub HasInnerForm : {V : Type 0} → (V → Identifier → List ℕ → Type 0) → Bool → V → Type 0
 HasInnerForm Form constructed v = (i : Identifier) (c : List ℕ) → Form v i c → constructed ≡ i.constructed
 
--- Words by BER are elements by BER with this body, words by DER the elements of definite length with it that meet the constraints
--- of the value. A value is in DER form where its header has the constructed bit of the value within, and that is in DER form.
+-- Words by BER are elements by BER with this body, words by DER the elements of definite length with it that meet the
+-- constraints of the value. A value is in DER form where its header has the constructed bit of the value within, and
+-- that is in DER form.
 abbrev pub implicit_headed : {S T : Type 0} → (T → Identifier) → ℕ → (T → S) → ItemGrammar S → ItemGrammar T
 implicit_headed identifier own inner G = record {
   Value = Identifier × G.Value;

@@ -13,14 +13,19 @@ use Rattle.asn1_rs.specs.Tagged.Parser.{IsUnder, ChecksAndConverts}
 
 -- the same parts under another tag number
 abbrev pub under : ℕ → Parts → Parts
-under number p = record { id = record { class = p.id.class; constructed = p.id.constructed; number = number }; form = p.form; content = p.content }
+under number p = record {
+  id = record { class = p.id.class; constructed = p.id.constructed; number = number };
+  form = p.form;
+  content = p.content;
+}
 
 -- the tag number, the class, in this order
 abbrev pub implicit_checks : ℕ → ℕ → CheckGives
 implicit_checks class number = has_number number before has_class class
 
 -- An element under the tag that is one of the value under the tag number of its type.
-pub record ImplicitBody {V : Type 0} (class number own : ℕ) (Body : Parts → V → Type 0) (p : Parts) (v : V) : Type 0 where
+pub record ImplicitBody {V : Type 0} (class number own : ℕ) (Body : Parts → V → Type 0) (p : Parts)
+    (v : V) : Type 0 where
   pub tag : implicit_checks class number p (Ok tt)
   pub body : Body (under own p) v
 
@@ -33,17 +38,19 @@ pub record ImplicitCheck (own : ℕ) (Check : Parts → Type 0) (p : Parts) : Ty
 abbrev pub implicit_identifier : ℕ → ℕ → Identifier → Identifier
 implicit_identifier class number own = record { class = class; constructed = own.constructed; number = number }
 
--- The strict parts: those of the value, under a tag of one of the four classes and of a number that an element can have.
-pub record ImplicitForm {V : Type 0} (class number : ℕ) (Form : V → Identifier → List ℕ → Type 0) (v : V) (i : Identifier) (c : List ℕ) : Type 0 where
+-- The strict parts: those of the value, under a tag of one of the four classes and of a number that an element can
+-- have.
+pub record ImplicitForm {V : Type 0} (class number : ℕ) (Form : V → Identifier → List ℕ → Type 0) (v : V)
+    (i : Identifier) (c : List ℕ) : Type 0 where
   pub is_class : class < 4
   pub is_number : number < 2 ^ 32
   pub own : Identifier
   pub id_is : i ≡ implicit_identifier class number own
   pub form : Form v own c
 
--- Words by BER are elements by BER with this body, words by DER the elements of definite length with it: the value's constraints are
--- not among them. A value is in DER form where the class is one of the four, the number one that an element can have, as each `u32`
--- is, and the value within in DER form.
+-- Words by BER are elements by BER with this body, words by DER the elements of definite length with it: the value's
+-- constraints are not among them. A value is in DER form where the class is one of the four, the number one that an
+-- element can have, as each `u32` is, and the value within in DER form.
 abbrev pub implicit_grammar : {S T : Type 0} → ℕ → ℕ → ℕ → (T → S) → ItemGrammar S → ItemGrammar T
 implicit_grammar class number own inner G = record {
   Value = G.Value;
@@ -63,8 +70,10 @@ ConvertsUnder inner own converts any (Ok w) = (other : Any) × IsUnder own any o
 ConvertsUnder inner own converts any (Err e) = (other : Any) × IsUnder own any other × converts other (Err e)
 
 -- what the conversion of an element may answer: the refusal of the tag, or else what the value's conversion answers
-abbrev pub ImplicitTakes : {T W E : Type 0} → ℕ → ℕ → (W → T) → Tag → (Any → Result T E → Type 0) → (Error → E → Type 0) → Any → Result W E → Type 0
-ImplicitTakes class number inner own converts from = ChecksAndConverts (implicit_checks class number) (ConvertsUnder inner own converts) from
+abbrev pub ImplicitTakes : {T W E : Type 0} → ℕ → ℕ → (W → T) → Tag → (Any → Result T E → Type 0) →
+    (Error → E → Type 0) → Any → Result W E → Type 0
+ImplicitTakes class number inner own converts from =
+    ChecksAndConverts (implicit_checks class number) (ConvertsUnder inner own converts) from
 
 -- what a check of an element may answer that looks at it under that tag number
 abbrev pub ChecksUnder : ℕ → CheckGives → CheckGives

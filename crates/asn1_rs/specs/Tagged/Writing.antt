@@ -56,7 +56,8 @@ tag_writing class number inner under w = record {
 abbrev pub headed_writing : {S T : Type 0} → (T → Identifier) → (T → S) → UnderTag S → Writing S → Writing T
 headed_writing identifier inner under w = record {
   tells = λ t. w.tells (inner t);
-  header = λ t. header_octets (identifier t).class (under.bit (inner t)) (identifier t).number (length (under.octets (inner t)));
+  header = λ t.
+      header_octets (identifier t).class (under.bit (inner t)) (identifier t).number (length (under.octets (inner t)));
   content = λ t. under.octets (inner t);
   constructed = λ t. under.bit (inner t);
   count_refuses = λ t. w.count_refuses (inner t);

@@ -2,7 +2,8 @@
 ghost use Rattle.std.specs.Prelude.{◌≡◌, ◌∷◌, ◌↔◌, false, length, IsTrue, IfOk, IfErr};
 ghost use Rattle.std.specs.Cow.{IsBorrowedSlice};
 ghost use Rattle.asn1_rs.specs.Any.{parts_of};
-ghost use Rattle.asn1_rs.specs.BitString.{bit_string_leaf, bit_string_constraints, bit_string_octets, data_of, bit_of, IsZeroPadded};
+ghost use Rattle.asn1_rs.specs.BitString.{bit_string_leaf, bit_string_constraints, bit_string_octets, data_of, bit_of};
+ghost use Rattle.asn1_rs.specs.BitString.{IsZeroPadded};
 ghost use Rattle.asn1_rs.specs.Leaf.{LeafGives, LendsContent, leaf_element};
 ghost use Rattle.asn1_rs.specs.Laws.BitString.{bit_string_lawful, bit_string_equal};
 ghost use Rattle.asn1_rs.specs.Laws.Leaf.{leaf_lawful, leaf_constraints, lent_converts, leaf_written};

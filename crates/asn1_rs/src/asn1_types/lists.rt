@@ -1,5 +1,6 @@
 //! Items of lists: how they are read, checked, counted and written.
-ghost use Rattle.std.specs.Prelude.{◌≡◌, ◌⊎◌, ◌∷◌, Some, ◌≤◌, ◌<◌, ℕ, List, true, false, length, map, IfOk, IfErr, IsErr};
+ghost use Rattle.std.specs.Prelude.{◌≡◌, ◌⊎◌, ◌∷◌, Some, ◌≤◌, ◌<◌, ℕ, List, true, false, length, map, IfOk, IfErr};
+ghost use Rattle.std.specs.Prelude.{IsErr};
 ghost use Rattle.std.specs.declared.result.Result.TheVariants as results;
 ghost use Rattle.std.specs.List.{All, flat_map};
 ghost use Rattle.std.specs.Iterator.{IsFinite, IsFiniteIterable, Drains};
@@ -8,13 +9,16 @@ ghost use Rattle.x690.specs.Elements.{Parts};
 ghost use Rattle.asn1_rs.specs.Any.{parts_of};
 ghost use Rattle.asn1_rs.specs.Traits.{OfParts, DerGives, PassesAll};
 ghost use Rattle.asn1_headers.specs.Answers.{seen};
-ghost use Rattle.asn1_rs.specs.Lists.{IsListOr, ItemsGive, ListGives, ListTakes, ListReads, ItemsCheckGives, ListCheckGives, FirstChecked, GivesItems, PushesItem, ArePacked, SomeRefuses, ListBody, ListOf, MadeOf, listed};
+ghost use Rattle.asn1_rs.specs.Lists.{IsListOr, ItemsGive, ListGives, ListTakes, ListReads, ItemsCheckGives};
+ghost use Rattle.asn1_rs.specs.Lists.{ListCheckGives, FirstChecked, GivesItems, PushesItem, ArePacked, SomeRefuses};
+ghost use Rattle.asn1_rs.specs.Lists.{ListBody, ListOf, MadeOf, listed};
 ghost use Rattle.asn1_headers.specs.declared.error.SerializeError.{SerializeError};
 ghost use Rattle.asn1_headers.specs.declared.error.Error.{Error};
 ghost use Rattle.asn1_headers.specs.declared.error.SerializeError.TheVariants as serialize_errors;
 ghost use Rattle.asn1_headers.specs.declared.error.Error.TheVariants as errors;
 ghost use Rattle.asn1_headers.specs.Writer.{Wrote};
-ghost use Rattle.asn1_rs.specs.ToDer.{Refuses, RefusesCount, IntoVector, HasNone, RefusesAtOnce, whole_allocates, whole_octets, whole_refuses};
+ghost use Rattle.asn1_rs.specs.ToDer.{Refuses, RefusesCount, IntoVector, HasNone, RefusesAtOnce, whole_allocates};
+ghost use Rattle.asn1_rs.specs.ToDer.{whole_octets, whole_refuses};
 ghost use Rattle.asn1_headers.specs.Error.{tells_of_io};
 
 use crate::asn1_types::any::Any;
@@ -33,8 +37,8 @@ use std::io;
 use std::io::Write;
 use std::ops::Deref;
 
-/// How many items a list has room for before it grows: few, and no more than there would be if each other item were half
-/// as long as the first one. The length octet of that one stands behind its identifier octet in most lists.
+/// How many items a list has room for before it grows: few, and no more than there would be if each other item were
+/// half as long as the first one. The length octet of that one stands behind its identifier octet in most lists.
 fn first_room(content: &[u8]) -> usize
     ensures { result ≤ 8 }
 {

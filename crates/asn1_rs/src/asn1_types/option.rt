@@ -9,7 +9,9 @@ ghost use Rattle.asn1_headers.specs.declared.error.Error.{Error};
 ghost use Rattle.asn1_headers.specs.Answers.{seen, TellsMemory};
 ghost use Rattle.asn1_rs.specs.Any.{IsTheElement, IsDefiniteOr};
 ghost use Rattle.asn1_headers.specs.Header.Reading.{refusal_of, HeaderGives};
-ghost use Rattle.asn1_rs.specs.Optional.{IsLeftOut, IsAtEnd, OptionGives, ReadsHeldBack, ReadsNoneBefore, ReadsNoneAtEnd, in_some, held_or, is_of_another_tag, IsWithoutRawTag, none_or, NoneOrConverted, option_writing};
+ghost use Rattle.asn1_rs.specs.Optional.{IsLeftOut, IsAtEnd, OptionGives, ReadsHeldBack, ReadsNoneBefore};
+ghost use Rattle.asn1_rs.specs.Optional.{ReadsNoneAtEnd, in_some, held_or, is_of_another_tag, IsWithoutRawTag, none_or};
+ghost use Rattle.asn1_rs.specs.Optional.{NoneOrConverted, option_writing};
 ghost use Rattle.asn1_rs.specs.Traits.{BerGives, DerGives};
 
 use crate::asn1_types::any::Any;
@@ -23,8 +25,8 @@ use asn1_headers::tag::Tag;
 use asn1_headers::writer::DerWrite;
 use std::alloc::Global;
 
-/// Whether a value with this tag number is left out of the octets, at whose front a header was read: there are no octets,
-/// or the header has another tag number.
+/// Whether a value with this tag number is left out of the octets, at whose front a header was read: there are no
+/// octets, or the header has another tag number.
 #[inline(always)]
 fn is_left_out(tag: Tag, octets: &[u8], read: ParseResult<'_, Header<'_>, Error>) -> bool
     ensures { (rule : Rule) (refuses : Breach → Error)

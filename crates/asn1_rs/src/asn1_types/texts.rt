@@ -3,7 +3,8 @@ ghost use Rattle.std.specs.Prelude.{◌≡◌, ◌∷◌, [], string_bytes};
 ghost use Rattle.asn1_rs.specs.Any.{parts_of};
 ghost use Rattle.asn1_rs.specs.Checks.{is_primitive};
 ghost use Rattle.asn1_rs.specs.Leaf.{HaveOneRefusal, LeafGives, LeafTakes, copying, leaf_element};
-ghost use Rattle.asn1_rs.specs.Laws.Leaf.{copying_converts, copying_lawful, copying_written, leaf_constraints, leaf_converts, leaf_lawful, leaf_written};
+ghost use Rattle.asn1_rs.specs.Laws.Leaf.{copying_converts, copying_lawful, copying_written, leaf_constraints};
+ghost use Rattle.asn1_rs.specs.Laws.Leaf.{leaf_converts, leaf_lawful, leaf_written};
 ghost use Rattle.asn1_rs.specs.Laws.Texts.{lent_text_lawful, lent_text_equal, owned_text_lawful, owned_text_equal};
 ghost use Rattle.asn1_rs.specs.Texts.{lent_text_leaf, owned_text_leaf};
 ghost use Rattle.asn1_rs.specs.Traits.{OfParts};
@@ -23,7 +24,8 @@ impl<'a> Any<'a> {
     /// The text of a `UTF8String`: the contents octets, which are borrowed, whether the element is primitive or
     /// constructed.
     ///
-    /// Refused at another tag number with `UnexpectedTag`, then with `StringInvalidCharset` where the octets are not UTF-8.
+    /// Refused at another tag number with `UnexpectedTag`, then with `StringInvalidCharset` where the octets are not
+    /// UTF-8.
     pub fn str(self) -> Result<&'a str, Error>
         ensures { LeafGives lent_text_leaf (parts_of self.entry) result }
     {

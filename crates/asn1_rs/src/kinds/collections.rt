@@ -6,7 +6,8 @@
 //!
 //! Readers, and the laws of these and of the check, stand with each type: `FromDer`, `LawfulDer` and `LawfulCheck` have
 //! an impl over all types that are read as one element, beside which one over all lists can't stand.
-ghost use Rattle.std.specs.Prelude.{◌≡◌, ◌≢◌, Bool, List, true, false, length, map, [], ◌∷◌, MatchOption, IfOk, IfErr, IsErr};
+ghost use Rattle.std.specs.Prelude.{◌≡◌, ◌≢◌, Bool, List, true, false, length, map, [], ◌∷◌, MatchOption, IfOk, IfErr};
+ghost use Rattle.std.specs.Prelude.{IsErr};
 ghost use Rattle.std.specs.List.{All, flat_map};
 ghost use Rattle.std.proofs.Common.{◌∙◌, sym};
 ghost use Rattle.x690.specs.Collections.{AllDiffer};

@@ -2,8 +2,8 @@
 //! hold or refer to.
 //!
 //! A type that is read as one element, checked and converted, names its kind, [`ElementKind`], and says once what its
-//! values are ([`LawfulElement`], [`LawfulConversion`]). The traits of [`laws`](crate::laws) follow from these. Lists and
-//! sets name kinds of their own ([`collections`]). A type of another make has those traits itself and no kind.
+//! values are ([`LawfulElement`], [`LawfulConversion`]). The traits of [`laws`](crate::laws) follow from these. Lists
+//! and sets name kinds of their own ([`collections`]). A type of another make has those traits itself and no kind.
 
 pub(crate) mod collections;
 pub(crate) mod fields;

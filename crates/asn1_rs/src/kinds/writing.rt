@@ -3,10 +3,12 @@
 ghost use Rattle.std.specs.Prelude.{◌≡◌, ◌++◌, ◌<◌, ◌^◌, ℕ, Bool, false, List, length, IfOk, IfErr, IsErr};
 ghost use Rattle.asn1_rs.specs.Grammar.{FormNumber, FormTakes};
 ghost use Rattle.asn1_headers.specs.Writer.{Wrote, MayRefuse};
-ghost use Rattle.asn1_rs.specs.ToDer.{Writing, MayRefuseCount, Refuses, RefusesCount, IsRefusedAtOnce, RefusedAtOnce, held_writing, whole_allocates, whole_octets, whole_refuses};
+ghost use Rattle.asn1_rs.specs.ToDer.{Writing, MayRefuseCount, Refuses, RefusesCount, IsRefusedAtOnce, RefusedAtOnce};
+ghost use Rattle.asn1_rs.specs.ToDer.{held_writing, whole_allocates, whole_octets, whole_refuses};
 ghost use Rattle.asn1_headers.specs.declared.error.SerializeError.{SerializeError};
 ghost use Rattle.asn1_headers.specs.declared.error.Error.{Error};
-ghost use Rattle.asn1_rs.specs.Kinds.Writing.{universal_header, universal_writing, CountRefused, PutRefused, IsWrittenElement};
+ghost use Rattle.asn1_rs.specs.Kinds.Writing.{universal_header, universal_writing, CountRefused, PutRefused};
+ghost use Rattle.asn1_rs.specs.Kinds.Writing.{IsWrittenElement};
 ghost use Rattle.asn1_rs.specs.Laws.Forms.{universal_number, universal_number_fits, universal_lawful_writing};
 ghost use Rattle.asn1_rs.specs.Grammar.Item.{IsLawfulWriting};
 ghost use Rattle.asn1_rs.specs.Laws.Writing.{held_lawful_writing};

@@ -16,7 +16,8 @@ ghost use Rattle.asn1_headers.specs.declared.error.Error.{Error};
 ghost use Rattle.asn1_headers.specs.declared.header.Header.{Header};
 ghost use Rattle.asn1_rs.specs.declared.asn1_types.any.Any.{Any};
 ghost use Rattle.asn1_headers.specs.Error.{HeldIn};
-ghost use Rattle.asn1_headers.specs.Answers.{Exactly, TellsMemory, IsOther, ReadsBack, RefusedAsBeginning, RefusedBeforeEnd};
+ghost use Rattle.asn1_headers.specs.Answers.{Exactly, TellsMemory, IsOther, ReadsBack, RefusedAsBeginning};
+ghost use Rattle.asn1_headers.specs.Answers.{RefusedBeforeEnd};
 ghost use Rattle.asn1_rs.specs.Grammar.{FormBodies, FormChecks, FormNumber, FormTakes};
 ghost use Rattle.asn1_rs.specs.Grammar.Form.{IsStrict, WritesByValue};
 ghost use Rattle.asn1_headers.specs.Ber.{max_depth, EndsWithin};
@@ -112,8 +113,8 @@ pub fn words_and_values_are_unique<T: LawfulItem>()
 /// What a lawful type writes and counts of a value in DER form is its strict encoding; and what it writes of any value
 /// follows from the value.
 ///
-/// `T.writing.header` and `T.writing.content` are what the contracts of [`ToDer`](crate::ToDer) say that `write_der`, `to_der_len` and
-/// `der_content_len` append and count, and `T.writing.constructed` what `der_constructed` answers.
+/// `T.writing.header` and `T.writing.content` are what the contracts of [`ToDer`](crate::ToDer) say that `write_der`,
+/// `to_der_len` and `der_content_len` append and count, and `T.writing.constructed` what `der_constructed` answers.
 pub fn counts_are_of_the_strict_encoding<T: LawfulWrite>()
     ensures tells { (x : T) → T.writing.tells x }
     ensures by_value { WritesByValue T.grammar.value T.writing }

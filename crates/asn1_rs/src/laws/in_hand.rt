@@ -10,7 +10,8 @@ use crate::laws::LawfulItem;
 
 /// A lawful type whose items in hand are all in DER form.
 ///
-/// So [`write_strict`](crate::write_strict) and [`strict_vec`](crate::strict_vec) write the one strict encoding of each.
+/// So [`write_strict`](crate::write_strict) and [`strict_vec`](crate::strict_vec) write the one strict encoding of
+/// each.
 pub trait AlwaysDer: LawfulItem {
     /// States of an item in hand that its value is in DER form. Each item of a list is asked in turn.
     fn is_der(&self)
@@ -59,8 +60,8 @@ pub fn text_in_hand(text: &str)
     ensures { IsUtf8 text.now }
 {}
 
-/// The value of a `BTreeSet` or a `HashSet` in hand, which is `members` of its keys, is the set of their values; it is in
-/// DER form where each of these is. No member is looked at.
+/// The value of a `BTreeSet` or a `HashSet` in hand, which is `members` of its keys, is the set of their values; it is
+/// in DER form where each of these is. No member is looked at.
 // Std's `len` says that the keys are those of a set.
 pub fn members_in_hand<S, T>(set: &S)
 where

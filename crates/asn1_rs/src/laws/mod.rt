@@ -1,13 +1,14 @@
 //! What a type's values and grammars are, the laws of them, and the calls whose contracts rest on these laws.
 //!
 //! No reader and no writer calls the law traits: what functions they have state something of an item in hand, to those
-//! who prove. A type whose laws are proved can be read by [`read_ber`] and [`read_der`] and written by [`write_strict`],
-//! alone or nested in lists, sets and tags.
+//! who prove. A type whose laws are proved can be read by [`read_ber`] and [`read_der`] and written by
+//! [`write_strict`], alone or nested in lists, sets and tags.
 
 pub(crate) mod functions;
 pub(crate) mod in_hand;
 
-ghost use Rattle.std.specs.Prelude.{ℕ, Bool, List, ◌≡◌, ◌++◌, ◌<◌, ◌^◌, ◌↔◌, false, length, Some, Result, Ok, Err, IsTrue, IfOk, IfErr, MatchResult};
+ghost use Rattle.std.specs.Prelude.{ℕ, Bool, List, ◌≡◌, ◌++◌, ◌<◌, ◌^◌, ◌↔◌, false, length, Some, Result, Ok, Err};
+ghost use Rattle.std.specs.Prelude.{IsTrue, IfOk, IfErr, MatchResult};
 ghost use Rattle.std.specs.Borrow.{Bor};
 ghost use Rattle.std.specs.Io.KnownBytes.{Appends};
 ghost use Rattle.x690.specs.Octets.{IsOctets};
@@ -35,9 +36,11 @@ ghost use Rattle.asn1_headers.specs.declared.header.Header.{Header};
 ghost use Rattle.asn1_rs.specs.declared.asn1_types.any.Any.{Any};
 ghost use Rattle.asn1_headers.specs.Header.Reading.{refusal_of, der_breach, ber_breach, HeaderGives, HeaderLasts};
 ghost use Rattle.asn1_headers.specs.Header.{raw_tag_of};
-ghost use Rattle.asn1_rs.specs.Any.{parts_of, IsTheElement, IsDefiniteOr, DerElementGives, BerElementGives, RefusalLasts, ElementLasts};
+ghost use Rattle.asn1_rs.specs.Any.{parts_of, IsTheElement, IsDefiniteOr, DerElementGives, BerElementGives};
+ghost use Rattle.asn1_rs.specs.Any.{RefusalLasts, ElementLasts};
 ghost use Rattle.asn1_headers.specs.Content.{ContentStays};
-ghost use Rattle.asn1_rs.specs.Laws.Readers.{element_exact, element_spares, der_breach_spares, ber_breach_spares, der_elements, ber_elements, passes_all, all_pass};
+ghost use Rattle.asn1_rs.specs.Laws.Readers.{element_exact, element_spares, der_breach_spares, ber_breach_spares};
+ghost use Rattle.asn1_rs.specs.Laws.Readers.{der_elements, ber_elements, passes_all, all_pass};
 ghost use Rattle.asn1_rs.specs.ToDer.{whole_allocates, whole_octets};
 
 use crate::to_der::ToDer;
@@ -127,9 +130,9 @@ pub trait LawfulDer<'a, E: From<Error>>: FromDer<'a, E> + LawfulItem {
 
 /// What is written follows from the value, and is its strict encoding where it has one.
 pub trait LawfulWrite: ToDer + LawfulItem {
-    /// What is written is told of each item, and follows from its value. A value that has strict parts is written as its
-    /// strict encoding. One in DER form whose contents octets fit in memory has such parts, and no refusal of its own:
-    /// what refuses it is its length, its writer, or want of memory.
+    /// What is written is told of each item, and follows from its value. A value that has strict parts is written as
+    /// its strict encoding. One in DER form whose contents octets fit in memory has such parts, and no refusal of its
+    /// own: what refuses it is its length, its writer, or want of memory.
     ghost lawful_writing: { IsLawfulWriting Self.grammar Self.writing };
 }
 

@@ -1,6 +1,7 @@
 -- Laws of the contents octets of integers (X.690 8.3).
 pub mod Unsigned
-use Rattle.std.proofs.Common.{◌≡◌, ℕ, zero, suc, ◌+◌, ◌*◌, ◌^◌, ◌<◌, ◌≤◌, List, [], ◌∷◌, ◌++◌, length, replicate, get_or, ℤ, pos, ◌+ℤ◌, ◌-ℤ◌, refl, sym, ap, ◌∙◌, arith, inl, inr, ◌⊎◌, lit≤}
+use Rattle.std.proofs.Common.{◌≡◌, ℕ, zero, suc, ◌+◌, ◌*◌, ◌^◌, ◌<◌, ◌≤◌, List, [], ◌∷◌, ◌++◌, length, replicate}
+use Rattle.std.proofs.Common.{get_or, ℤ, pos, ◌+ℤ◌, ◌-ℤ◌, refl, sym, ap, ◌∙◌, arith, inl, inr, ◌⊎◌, lit≤}
 use Rattle.std.proofs.Math.Nat.{pow-suc, pow-le-pow_right, mul-le-mul_right}
 use Rattle.std.proofs.lemmas.Int.{ints}
 use Rattle.std.proofs.lemmas.Bool.{cases_lt, cases_order}
@@ -16,28 +17,37 @@ pub octets_value_below : (octets : List ℕ) → IsOctets octets → base_256_va
 octets_value_below octets o = weighted_sum_lt 256 octets (octets_below octets o)
 
 -- what the first octet says of the whole
-pub first_below : (bound first : ℕ) (others : List ℕ) → IsOctets (first ∷ others) → first < bound → base_256_value (first ∷ others) < bound * 256 ^ length others
+pub first_below : (bound first : ℕ) (others : List ℕ) → IsOctets (first ∷ others) → first < bound →
+    base_256_value (first ∷ others) < bound * 256 ^ length others
 first_below bound first others o h =
     let w = octets_value_below others (λ k. o (suc k)) in
     let m : suc first * 256 ^ length others ≤ bound * 256 ^ length others = mul-le-mul_right (256 ^ length others) h in
     omega (arith, m)
 
-pub first_above : (bound first : ℕ) (others : List ℕ) → bound ≤ first → bound * 256 ^ length others ≤ base_256_value (first ∷ others)
+-- Where the first octet reaches a bound, the number reaches that bound at the place of the first.
+pub first_above : (bound first : ℕ) (others : List ℕ) → bound ≤ first →
+    bound * 256 ^ length others ≤ base_256_value (first ∷ others)
 first_above bound first others h =
     let m : bound * 256 ^ length others ≤ first * 256 ^ length others = mul-le-mul_right (256 ^ length others) h in
     omega (arith, m)
 
 -- the value where the first bit is not set, and where it is
-pub value_low : (first : ℕ) (others : List ℕ) → first < 128 → twos_complement_value (first ∷ others) ≡ pos (base_256_value (first ∷ others))
+pub value_low : (first : ℕ) (others : List ℕ) → first < 128 →
+    twos_complement_value (first ∷ others) ≡ pos (base_256_value (first ∷ others))
 value_low first others h = grind (arith, nat_tests)
 
-pub value_high : (first : ℕ) (others : List ℕ) → 128 ≤ first → twos_complement_value (first ∷ others) +ℤ pos (256 ^ length (first ∷ others)) ≡ pos (base_256_value (first ∷ others))
+-- Where bit 8 of the first octet is 1, the integer is the number less 256 to the number of octets.
+pub value_high : (first : ℕ) (others : List ℕ) → 128 ≤ first →
+    twos_complement_value (first ∷ others) +ℤ pos (256 ^ length (first ∷ others)) ≡
+    pos (base_256_value (first ∷ others))
 value_high first others h =
-    let e : twos_complement_value (first ∷ others) ≡ pos (base_256_value (first ∷ others)) -ℤ pos (256 ^ length (first ∷ others)) = grind (arith, nat_tests) in
+    let e : twos_complement_value (first ∷ others) ≡
+    pos (base_256_value (first ∷ others)) -ℤ pos (256 ^ length (first ∷ others)) = grind (arith, nat_tests) in
     omega (arith, ints, e)
 
 -- a bound that needs the first nine bits to differ
-pub shortest_low : (first second : ℕ) (others : List ℕ) → ¬ HasSpareZeros (first ∷ second ∷ others) → 128 * 256 ^ length others ≤ base_256_value (first ∷ second ∷ others)
+pub shortest_low : (first second : ℕ) (others : List ℕ) → ¬ HasSpareZeros (first ∷ second ∷ others) →
+    128 * 256 ^ length others ≤ base_256_value (first ∷ second ∷ others)
 shortest_low first second others h =
     let w : 256 ^ suc (length others) ≡ 256 ^ length others * 256 = pow-suc 256 (length others) in
     elim (cases_lt 0 first) [
@@ -48,7 +58,10 @@ shortest_low first second others h =
       ]
     ]
 
-pub shortest_high : (first second : ℕ) (others : List ℕ) → IsOctets (first ∷ second ∷ others) → ¬ HasSpareOnes (first ∷ second ∷ others) → base_256_value (first ∷ second ∷ others) + 128 * 256 ^ length others < 256 ^ length (first ∷ second ∷ others)
+-- Where no leading ones are spare, a negative integer is too low for one octet less.
+pub shortest_high : (first second : ℕ) (others : List ℕ) → IsOctets (first ∷ second ∷ others) →
+    ¬ HasSpareOnes (first ∷ second ∷ others) →
+    base_256_value (first ∷ second ∷ others) + 128 * 256 ^ length others < 256 ^ length (first ∷ second ∷ others)
 shortest_high first second others o h =
     let w : 256 ^ suc (length others) ≡ 256 ^ length others * 256 = pow-suc 256 (length others) in
     let v : 256 ^ suc (suc (length others)) ≡ 256 ^ suc (length others) * 256 = pow-suc 256 (suc (length others)) in
@@ -58,29 +71,36 @@ shortest_high first second others o h =
         | inl q ↦
             let e : first ≡ 255 = omega (arith, o 0) in
             let t = first_below 128 second others (λ k. o (suc k)) q in
-            let m : first * 256 ^ suc (length others) ≡ 255 * 256 ^ suc (length others) = ap (λ n. n * 256 ^ suc (length others)) e in
+            let m : first * 256 ^ suc (length others) ≡ 255 * 256 ^ suc (length others) =
+            ap (λ n. n * 256 ^ suc (length others)) e in
             omega (arith, t, m, w, v)
         | inr q ↦ absurd (h (omega (arith, o 0), q))
       ]
     ]
 
 -- fewer octets have another value
-low_apart : (first second third : ℕ) (others more : List ℕ) → IsOctets (first ∷ others) → first < 128 → ¬ HasSpareZeros (second ∷ third ∷ more) → length others ≤ length more → base_256_value (first ∷ others) ≡ base_256_value (second ∷ third ∷ more) → ⊥
+low_apart : (first second third : ℕ) (others more : List ℕ) → IsOctets (first ∷ others) → first < 128 →
+    ¬ HasSpareZeros (second ∷ third ∷ more) → length others ≤ length more →
+    base_256_value (first ∷ others) ≡ base_256_value (second ∷ third ∷ more) → ⊥
 low_apart first second third others more o l h few e =
     let p : 256 ^ length others ≤ 256 ^ length more = pow-le-pow_right {n = 256} (lit≤ tt) few in
     omega (arith, first_below 128 first others o l, shortest_low second third more h, p)
 
-high_apart : (first second third : ℕ) (others more : List ℕ) → 128 ≤ first → IsOctets (second ∷ third ∷ more) → ¬ HasSpareOnes (second ∷ third ∷ more) → length others ≤ length more →
-    base_256_value (first ∷ others) + 256 ^ length (second ∷ third ∷ more) ≡ base_256_value (second ∷ third ∷ more) + 256 ^ length (first ∷ others) → ⊥
+high_apart : (first second third : ℕ) (others more : List ℕ) → 128 ≤ first → IsOctets (second ∷ third ∷ more) →
+    ¬ HasSpareOnes (second ∷ third ∷ more) → length others ≤ length more →
+    base_256_value (first ∷ others) + 256 ^ length (second ∷ third ∷ more) ≡
+    base_256_value (second ∷ third ∷ more) + 256 ^ length (first ∷ others) → ⊥
 high_apart first second third others more l o h few e =
     let p : 256 ^ length others ≤ 256 ^ length more = pow-le-pow_right {n = 256} (lit≤ tt) few in
     let w : 256 ^ length (first ∷ others) ≡ 256 ^ length others * 256 = pow-suc 256 (length others) in
     omega (arith, first_above 128 first others l, shortest_high second third more o h, p, w)
 
 -- octets of one value have one first bit, and say one number up to what that bit takes off
-same_value : (x y : ℕ) (c d : List ℕ) → IsOctets (x ∷ c) → IsOctets (y ∷ d) → twos_complement_value (x ∷ c) ≡ twos_complement_value (y ∷ d) →
+same_value : (x y : ℕ) (c d : List ℕ) → IsOctets (x ∷ c) → IsOctets (y ∷ d) →
+    twos_complement_value (x ∷ c) ≡ twos_complement_value (y ∷ d) →
     ((x < 128) × (y < 128) × (base_256_value (x ∷ c) ≡ base_256_value (y ∷ d))) ⊎
-    ((128 ≤ x) × (128 ≤ y) × (base_256_value (x ∷ c) + 256 ^ length (y ∷ d) ≡ base_256_value (y ∷ d) + 256 ^ length (x ∷ c)))
+    ((128 ≤ x) × (128 ≤ y) ×
+    (base_256_value (x ∷ c) + 256 ^ length (y ∷ d) ≡ base_256_value (y ∷ d) + 256 ^ length (x ∷ c)))
 same_value x y c d o p e =
     let a = octets_value_below (x ∷ c) o in
     let b = octets_value_below (y ∷ d) p in
@@ -111,7 +131,8 @@ same_length n [] d i j h = absurd (i.shortest.0 refl)
 same_length n (x ∷ c) [] i j h = absurd (omega arith)
 same_length n (x ∷ c) (y ∷ d) i j h =
     let w : 256 ^ length (x ∷ c) ≡ 256 ^ length (y ∷ d) = ap (λ k. 256 ^ k) h in
-    let e : base_256_value (x ∷ c) ≡ base_256_value (y ∷ d) = elim (same_value x y c d i.octets j.octets (i.value ∙ sym j.value)) [
+    let e : base_256_value (x ∷ c) ≡ base_256_value (y ∷ d) =
+    elim (same_value x y c d i.octets j.octets (i.value ∙ sym j.value)) [
       | inl s ↦ s.2
       | inr s ↦ omega (arith, w, s.2)
     ] in
@@ -130,14 +151,17 @@ pub integer_content_one_value : (m n : ℤ) (c : List ℕ) → IsIntegerContent 
 integer_content_one_value m n c i j = sym i.value ∙ j.value
 
 -- where the first bit is not set, or nothing is there, the value is the sum of the digits
-pub unsigned_value : (octets : List ℕ) → get_or octets 0 0 < 128 → twos_complement_value octets ≡ pos (base_256_value octets)
+pub unsigned_value : (octets : List ℕ) → get_or octets 0 0 < 128 →
+    twos_complement_value octets ≡ pos (base_256_value octets)
 unsigned_value [] h = refl
 unsigned_value (first ∷ others) h = value_low first others h
 
 -- where the first bit is set it is no natural number
-pub negative_value : (octets : List ℕ) (n : ℕ) → IsOctets octets → 128 ≤ get_or octets 0 0 → twos_complement_value octets ≡ pos n → ⊥
+pub negative_value : (octets : List ℕ) (n : ℕ) → IsOctets octets → 128 ≤ get_or octets 0 0 →
+    twos_complement_value octets ≡ pos n → ⊥
 negative_value [] n o h e = omega arith
-negative_value (first ∷ others) n o h e = omega (arith, ints, value_high first others h, octets_value_below (first ∷ others) o, e)
+negative_value (first ∷ others) n o h e =
+    omega (arith, ints, value_high first others h, octets_value_below (first ∷ others) o, e)
 
 -- zeros in front say nothing
 pub leading_zeros : (k : ℕ) (octets : List ℕ) → base_256_value (replicate k 0 ++ octets) ≡ base_256_value octets
@@ -145,7 +169,8 @@ leading_zeros zero octets = refl
 leading_zeros (suc k) octets = omega (arith, leading_zeros k octets)
 
 -- a first octet that is not 0 has its weight
-pub no_leading_zero_value : (octets : List ℕ) (k : ℕ) → HasNoLeadingZero octets → k < length octets → 256 ^ k ≤ base_256_value octets
+pub no_leading_zero_value : (octets : List ℕ) (k : ℕ) → HasNoLeadingZero octets → k < length octets →
+    256 ^ k ≤ base_256_value octets
 no_leading_zero_value [] k h l = absurd (omega arith)
 no_leading_zero_value (first ∷ others) k h l =
     let p : 256 ^ k ≤ 256 ^ length others = pow-le-pow_right {n = 256} (lit≤ tt) (omega arith) in

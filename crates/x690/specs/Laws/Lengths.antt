@@ -1,5 +1,6 @@
 -- Two lengths that begin one input are the same.
-use Rattle.std.proofs.Common.{◌≡◌, ℕ, zero, suc, ◌+◌, ◌-◌, ◌<◌, ◌≤◌, List, [], ◌∷◌, ◌++◌, length, get_or, take, drop, refl, sym, ap, ◌∙◌, arith, subst, inl, inr, take-append-drop}
+use Rattle.std.proofs.Common.{◌≡◌, ℕ, zero, suc, ◌+◌, ◌-◌, ◌<◌, ◌≤◌, List, [], ◌∷◌, ◌++◌, length, get_or, take, drop}
+use Rattle.std.proofs.Common.{refl, sym, ap, ◌∙◌, arith, subst, inl, inr, take-append-drop}
 use Rattle.std.proofs.lemmas.List.{take_at, take_rest, drop_more, length-take-le, append_cancel_left}
 use Rattle.x690.specs.Octets.{IsOctets}
 use Rattle.x690.specs.Digits.{base_256_value}
@@ -25,6 +26,7 @@ long_first : (o x y : List ℕ) (m n : ℕ) → m < 128 → IsLongLength o n →
 long_first [] x y m n p j h = j
 long_first (k ∷ os) x y m n p j h = let s : m ≡ k = cc in omega (arith, j.2)
 
+-- Two octets that begin one input are the same.
 pub same_octet : (m n : ℕ) (x y : List ℕ) → (m ∷ []) ++ x ≡ (n ∷ []) ++ y → m ≡ n
 same_octet m n x y h = cc
 
@@ -33,37 +35,53 @@ length_same o q x y m n (inl i) (inl j) h =
     let s = same_octet m n x y (ap (λ (ys : List ℕ). ys ++ x) (sym i.1) ∙ h ∙ ap (λ (ys : List ℕ). ys ++ y) j.1) in
     let t : o ≡ q = cc in
     (t, s)
-length_same o q x y m n (inl i) (inr j) h = absurd (long_first q x y m n i.0 j (ap (λ (ys : List ℕ). ys ++ x) (sym i.1) ∙ h))
-length_same o q x y m n (inr i) (inl j) h = absurd (long_first o y x n m j.0 i (ap (λ (ys : List ℕ). ys ++ y) (sym j.1) ∙ sym h))
+length_same o q x y m n (inl i) (inr j) h =
+    absurd (long_first q x y m n i.0 j (ap (λ (ys : List ℕ). ys ++ x) (sym i.1) ∙ h))
+length_same o q x y m n (inr i) (inl j) h =
+    absurd (long_first o y x n m j.0 i (ap (λ (ys : List ℕ). ys ++ y) (sym j.1) ∙ sym h))
 length_same o q x y m n (inr i) (inr j) h = long_unique o q x y m n i j h
 
 -- no length begins with 80
 pub length_not_80 : (o x y : List ℕ) (n : ℕ) → IsLength o n → o ++ x ≡ (128 ∷ []) ++ y → ⊥
-length_not_80 o x y n (inl i) h = let s = same_octet n 128 x y (ap (λ (ys : List ℕ). ys ++ x) (sym i.1) ∙ h) in omega (arith, i.0)
+length_not_80 o x y n (inl i) h =
+    let s = same_octet n 128 x y (ap (λ (ys : List ℕ). ys ++ x) (sym i.1) ∙ h) in
+    omega (arith, i.0)
 length_not_80 [] x y n (inr i) h = i
 length_not_80 (k ∷ os) x y n (inr i) h = let s : k ≡ 128 = cc in omega (arith, i.0, i.2)
 
-form_same : (o q x y : List ℕ) (f g : LengthForm) → IsLengthForm o f → IsLengthForm q g → o ++ x ≡ q ++ y → (o ≡ q) × (f ≡ g)
-form_same o q x y (definite m) (definite n) i j h = let u = length_same o q x y m n i j h in (u.0, ap (λ k. definite k) u.1)
+form_same : (o q x y : List ℕ) (f g : LengthForm) → IsLengthForm o f → IsLengthForm q g → o ++ x ≡ q ++ y →
+    (o ≡ q) × (f ≡ g)
+form_same o q x y (definite m) (definite n) i j h =
+    let u = length_same o q x y m n i j h in
+    (u.0, ap (λ k. definite k) u.1)
 form_same o q x y (definite m) indefinite i j h = absurd (length_not_80 o x y m i (h ∙ ap (λ (ys : List ℕ). ys ++ y) j))
-form_same o q x y indefinite (definite n) i j h = absurd (length_not_80 q y x n j (sym h ∙ ap (λ (ys : List ℕ). ys ++ x) i))
+form_same o q x y indefinite (definite n) i j h =
+    absurd (length_not_80 q y x n j (sym h ∙ ap (λ (ys : List ℕ). ys ++ x) i))
 form_same o q x y indefinite indefinite i j h = (i ∙ sym j, refl)
 
--- Length octets, or 80 for the indefinite form, that begin one input are the same and say the same, and the same follows.
-pub length_form_unique : (o q x y : List ℕ) (f g : LengthForm) → IsLengthForm o f → IsLengthForm q g → o ++ x ≡ q ++ y → (o ≡ q) × (f ≡ g) × (x ≡ y)
+-- Length octets, or 80 for the indefinite form, that begin one input are the same and say the same,
+-- and the same follows.
+pub length_form_unique : (o q x y : List ℕ) (f g : LengthForm) → IsLengthForm o f → IsLengthForm q g → o ++ x ≡ q ++ y →
+    (o ≡ q) × (f ≡ g) × (x ≡ y)
 length_form_unique o q x y f g i j h =
     let u = form_same o q x y f g i j h in
     (u.0, u.1, append_cancel_left q x y (ap (λ (ys : List ℕ). ys ++ x) (sym u.0) ∙ h))
 
 -- the octets after the first
-pub first_split : (octets rest : List ℕ) → 1 ≤ length octets → rest ≡ take (length octets - 1) (drop 1 octets) → octets ≡ get_or octets 0 0 ∷ rest
-first_split octets rest h e = drop_more octets 0 0 h ∙ ap (λ (ys : List ℕ). get_or octets 0 0 ∷ ys) (sym (take_rest octets 1) ∙ sym e)
+pub first_split : (octets rest : List ℕ) → 1 ≤ length octets → rest ≡ take (length octets - 1) (drop 1 octets) →
+    octets ≡ get_or octets 0 0 ∷ rest
+first_split octets rest h e =
+    drop_more octets 0 0 h ∙ ap (λ (ys : List ℕ). get_or octets 0 0 ∷ ys) (sym (take_rest octets 1) ∙ sym e)
 
 -- the octets that the first one counts, and those behind them
-pub long_split : (octets rest front back : List ℕ) (count : ℕ) → 1 ≤ length octets → rest ≡ take (length octets - 1) (drop 1 octets) → front ≡ take count rest → back ≡ drop count rest → count ≤ length rest → get_or octets 0 0 ≡ 128 + count → (length front ≡ count) × (octets ≡ (128 + length front) ∷ (front ++ back))
+pub long_split : (octets rest front back : List ℕ) (count : ℕ) → 1 ≤ length octets →
+    rest ≡ take (length octets - 1) (drop 1 octets) → front ≡ take count rest → back ≡ drop count rest →
+    count ≤ length rest → get_or octets 0 0 ≡ 128 + count →
+    (length front ≡ count) × (octets ≡ (128 + length front) ∷ (front ++ back))
 long_split octets rest front back count h e f g w k =
     let l : length front ≡ count = ap length f ∙ length-take-le count rest w in
-    let s : front ++ back ≡ rest = ap (λ (ys : List ℕ). ys ++ back) f ∙ ap (λ (ys : List ℕ). take count rest ++ ys) g ∙ take-append-drop count rest in
+    let s : front ++ back ≡ rest = ap (λ (ys : List ℕ). ys ++ back) f ∙ ap (λ (ys : List ℕ). take count rest ++ ys) g
+    ∙ take-append-drop count rest in
     let z : get_or octets 0 0 ≡ 128 + length front = omega arith in
     (l, first_split octets rest h e ∙ ap (λ n. n ∷ rest) z ∙ ap (λ (ys : List ℕ). (128 + length front) ∷ ys) (sym s))
 
@@ -88,6 +106,7 @@ pub length_is_octets : (o : List ℕ) (n : ℕ) → IsLength o n → IsOctets o
 length_is_octets o n (inl i) = subst IsOctets (sym i.1) (one_octet n (omega (arith, i.0)))
 length_is_octets o n (inr i) = long_is_octets o n i
 
+-- Length octets are octets.
 pub length_form_is_octets : (o : List ℕ) (form : LengthForm) → IsLengthForm o form → IsOctets o
 length_form_is_octets o (definite n) i = length_is_octets o n i
 length_form_is_octets o indefinite i = subst IsOctets (sym i) (one_octet 128 (omega arith))

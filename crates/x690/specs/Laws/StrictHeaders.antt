@@ -7,10 +7,16 @@ use Rattle.x690.specs.Strict.{identifier_octets, length_octets, header_octets}
 abbrev pub identifier_of : ℕ → Bool → ℕ → Identifier
 identifier_of class constructed number = record { class = class; constructed = constructed; number = number }
 
-pub header_octets_are : (class : ℕ) (constructed : Bool) (number n : ℕ) → header_octets class constructed number n ≡ identifier_octets (identifier_of class constructed number) ++ length_octets n
+-- A strict header is strict identifier octets, and then strict length octets.
+pub header_octets_are : (class : ℕ) (constructed : Bool) (number n : ℕ) → header_octets class constructed number n ≡
+    identifier_octets (identifier_of class constructed number) ++ length_octets n
 unfolding header_octets
 header_octets_are class constructed number n = refl
 
-pub header_octets_count : (class : ℕ) (constructed : Bool) (number n : ℕ) → length (header_octets class constructed number n) ≡ length (identifier_octets (identifier_of class constructed number)) + length (length_octets n)
+-- It is as long as both.
+pub header_octets_count : (class : ℕ) (constructed : Bool) (number n : ℕ) →
+    length (header_octets class constructed number n) ≡
+    length (identifier_octets (identifier_of class constructed number)) + length (length_octets n)
 unfolding header_octets
-header_octets_count class constructed number n = length-append (identifier_octets (identifier_of class constructed number)) (length_octets n)
+header_octets_count class constructed number n =
+    length-append (identifier_octets (identifier_of class constructed number)) (length_octets n)

@@ -1,5 +1,7 @@
 -- Laws of the strict texts of times.
-use Rattle.std.proofs.Common.{◌≡◌, ◌≢◌, ℕ, zero, suc, ◌+◌, ◌-◌, ◌/◌, ◌%◌, ◌<◌, ◌≤◌, ◌==◌, Bool, true, false, List, [], ◌∷◌, ◌++◌, inl, inr, length, length-append, decimal, Option, Some, None, IsTrue, if◌then◌else◌, nat_lt, nat_eq, get_or, refl, ap, subst, sym, arith}
+use Rattle.std.proofs.Common.{◌≡◌, ◌≢◌, ℕ, zero, suc, ◌+◌, ◌-◌, ◌/◌, ◌%◌, ◌<◌, ◌≤◌, ◌==◌, Bool, true, false, List, []}
+use Rattle.std.proofs.Common.{◌∷◌, ◌++◌, inl, inr, length, length-append, decimal, Option, Some, None, IsTrue}
+use Rattle.std.proofs.Common.{if◌then◌else◌, nat_lt, nat_eq, get_or, refl, ap, subst, sym, arith}
 use Rattle.std.specs.List.{list_all, list_any}
 use Rattle.std.specs.Int.{is_in_range}
 use Rattle.std.specs.Fmt.{digits_onto, digit_glyph, digits}
@@ -9,12 +11,15 @@ use Rattle.std.proofs.lemmas.List.Folds.{list_all-append}
 use Rattle.std.proofs.lemmas.Option.{slice_get_read}
 use Rattle.std.proofs.Math.Seq.{get_or-append_seam}
 use Rattle.x690.specs.Octets.{IsOctets}
-use Rattle.x690.specs.Times.{z_text, to_minute, EndsInZ, HasComma, SaysFraction, SaysUtcTime, SaysGeneralizedTime, fraction_text, utc_time_text, generalized_time_text, MostMilliseconds, FitsText, FitsUtcTime, FitsGeneralizedTime, IsStrictMoment, IsStrictUtcTime, IsStrictGeneralizedTime}
+use Rattle.x690.specs.Times.{z_text, to_minute, EndsInZ, HasComma, SaysFraction, SaysUtcTime, SaysGeneralizedTime}
+use Rattle.x690.specs.Times.{fraction_text, utc_time_text, generalized_time_text, MostMilliseconds, FitsText}
+use Rattle.x690.specs.Times.{FitsUtcTime, FitsGeneralizedTime, IsStrictMoment, IsStrictUtcTime, IsStrictGeneralizedTime}
 use Rattle.x690.specs.Times.{digits as decimal_digits}
 use Rattle.x690.specs.declared.times.Moment.{Moment}
 
--- ---- they say their fields
+-- Strict texts say their fields.
 
+-- The text of a strict UTCTime says its fields.
 pub utc_says : (m : Moment) → IsStrictUtcTime m → SaysUtcTime (utc_time_text m) m
 utc_says m s = record {
   year = omega (arith, s.1);
@@ -28,10 +33,14 @@ utc_says m s = record {
 pub one_digit : (n : ℕ) → n ≢ 0 → n ≤ 999 → n % 100 ≡ 0 → fraction_text (Some n) ≡ 46 ∷ decimal_digits 1 (n / 100)
 one_digit n s h e = grind (arith, nat_tests)
 
-pub two_digits : (n : ℕ) → n ≢ 0 → n ≤ 999 → n % 100 ≢ 0 → n % 10 ≡ 0 → fraction_text (Some n) ≡ 46 ∷ decimal_digits 2 (n / 10)
+-- A fraction whose last digit alone is 0 is written in two digits.
+pub two_digits : (n : ℕ) → n ≢ 0 → n ≤ 999 → n % 100 ≢ 0 → n % 10 ≡ 0 →
+    fraction_text (Some n) ≡ 46 ∷ decimal_digits 2 (n / 10)
 two_digits n s h d e = grind (arith, nat_tests)
 
-pub three_digits : (n : ℕ) → n ≢ 0 → n ≤ 999 → n % 100 ≢ 0 → n % 10 ≢ 0 → fraction_text (Some n) ≡ 46 ∷ decimal_digits 3 n
+-- One whose last digit is not 0 is written in three.
+pub three_digits : (n : ℕ) → n ≢ 0 → n ≤ 999 → n % 100 ≢ 0 → n % 10 ≢ 0 →
+    fraction_text (Some n) ≡ 46 ∷ decimal_digits 3 n
 three_digits n s h d e = grind (arith, nat_tests)
 
 fraction_says : (m : Option ℕ) → MostMilliseconds 999 m → m ≢ Some 0 → SaysFraction (fraction_text m) m
@@ -46,18 +55,21 @@ fraction_says (Some n) most some =
       ]
     ]
 
+-- The text of a strict GeneralizedTime says its fields.
 pub generalized_says : (m : Moment) → IsStrictGeneralizedTime m → SaysGeneralizedTime (generalized_time_text m) m
 generalized_says m s = record {
   year = omega (arith, s.1);
   range = s.0.range;
   end = decimal_digits 2 m.second ++ fraction_text m.millisecond ++ z_text;
   text_is = refl;
-  says = inr (fraction_text m.millisecond, z_text, refl, fraction_says m.millisecond s.2 s.3, inr (inl (refl, s.0.zone)));
+  says =
+      inr (fraction_text m.millisecond, z_text, refl, fraction_says m.millisecond s.2 s.3, inr (inl (refl, s.0.zone)));
 }
 
--- ---- strict fields fit
+-- Strict fields fit.
 
-moment_fits : (greatest_year : ℕ) (m : Moment) → IsStrictMoment m → m.year ≤ greatest_year → MostMilliseconds 999 m.millisecond → FitsText greatest_year m
+moment_fits : (greatest_year : ℕ) (m : Moment) → IsStrictMoment m → m.year ≤ greatest_year →
+    MostMilliseconds 999 m.millisecond → FitsText greatest_year m
 moment_fits greatest_year m s y f = record {
   year = y;
   month = omega (arith, s.range.month);
@@ -69,13 +81,15 @@ moment_fits greatest_year m s y f = record {
   zone = inl s.zone;
 }
 
+-- The fields of a strict UTCTime fit its text.
 pub utc_fits : (m : Moment) → IsStrictUtcTime m → FitsUtcTime m
 utc_fits m s = moment_fits 99 m s.0 s.1 (subst (MostMilliseconds 999) (sym s.2) tt)
 
+-- Those of a strict GeneralizedTime fit its text.
 pub generalized_fits : (m : Moment) → IsStrictGeneralizedTime m → FitsGeneralizedTime m
 generalized_fits m s = moment_fits 9999 m s.0 s.1 s.2
 
--- ---- they are octets from the point to Z
+-- Strict texts are octets from the point to Z.
 
 -- so there is no comma among them, which is the octet before the minus
 abbrev is_inner : ℕ → Bool
@@ -97,7 +111,8 @@ onto_inner : (k n : ℕ) (behind : List ℕ) → AreInner behind → AreInner (d
 onto_inner zero n behind a = a
 onto_inner (suc k) n behind a =
     let more : AreInner (digit_glyph false (n % 10) ∷ behind) = rw (glyph_inner n) a in
-    elim (n / 10 == 0) as (λ b. AreInner (if b then digit_glyph false (n % 10) ∷ behind else digits_onto k 10 false (n / 10) (digit_glyph false (n % 10) ∷ behind))) [
+    elim (n / 10 == 0) as (λ b. AreInner (if b then digit_glyph false (n % 10) ∷ behind
+    else digits_onto k 10 false (n / 10) (digit_glyph false (n % 10) ∷ behind))) [
       | true ↦ more
       | false ↦ onto_inner k (n / 10) (digit_glyph false (n % 10) ∷ behind) more
     ]
@@ -111,7 +126,8 @@ fraction_inner None = refl
 fraction_inner (Some n) =
     chosen (n == 0) [] _ refl (chosen (nat_lt 999 n) (46 ∷ decimal n) _ (decimal_inner n)
     (chosen (n % 100 == 0) (46 ∷ decimal_digits 1 (n / 100)) _ (simp digit_inner)
-    (chosen (n % 10 == 0) (46 ∷ decimal_digits 2 (n / 10)) (46 ∷ decimal_digits 3 n) (simp digit_inner) (simp digit_inner))))
+    (chosen (n % 10 == 0) (46 ∷ decimal_digits 2 (n / 10)) (46 ∷ decimal_digits 3 n) (simp digit_inner)
+    (simp digit_inner))))
   where
     chosen : (b : Bool) (x y : List ℕ) → AreInner x → AreInner y → AreInner (if b then x else y)
     chosen true x y a b = a
@@ -121,9 +137,10 @@ utc_inner : (m : Moment) → AreInner (utc_time_text m)
 utc_inner m = simp digit_inner
 
 generalized_inner : (m : Moment) → AreInner (generalized_time_text m)
-generalized_inner m = simp digit_inner (inner_append (fraction_text m.millisecond) z_text (fraction_inner m.millisecond) refl)
+generalized_inner m =
+    simp digit_inner (inner_append (fraction_text m.millisecond) z_text (fraction_inner m.millisecond) refl)
 
--- ---- such octets are from the space to 7f
+-- Such octets are from the space to 7f.
 
 abbrev is_visible : ℕ → Bool
 is_visible = is_in_range 0x20 0x7f
@@ -136,11 +153,15 @@ inner_is_visible n h = grind (arith, nat_tests)
 
 are_visible : (octets : List ℕ) → AreInner octets → AreVisible octets
 are_visible [] a = refl
-are_visible (x ∷ octets) a = let parts = and_parts (is_inner x) (list_all is_inner octets) a in rw (inner_is_visible x parts.0) (are_visible octets parts.1)
+are_visible (x ∷ octets) a =
+    let parts = and_parts (is_inner x) (list_all is_inner octets) a in
+    rw (inner_is_visible x parts.0) (are_visible octets parts.1)
 
+-- The text of a UTCTime is visible characters.
 pub utc_visible : (m : Moment) → AreVisible (utc_time_text m)
 utc_visible m = are_visible (utc_time_text m) (utc_inner m)
 
+-- So is that of a GeneralizedTime.
 pub generalized_visible : (m : Moment) → AreVisible (generalized_time_text m)
 generalized_visible m = are_visible (generalized_time_text m) (generalized_inner m)
 
@@ -152,38 +173,47 @@ are_octets [] a k = omega arith
 are_octets (x ∷ octets) a zero = inner_is_octet x (and_parts (is_inner x) (list_all is_inner octets) a).0
 are_octets (x ∷ octets) a (suc k) = are_octets octets (and_parts (is_inner x) (list_all is_inner octets) a).1 k
 
+-- The text of a UTCTime is octets.
 pub utc_octets : (m : Moment) → IsOctets (utc_time_text m)
 utc_octets m = are_octets (utc_time_text m) (utc_inner m)
 
+-- So is that of a GeneralizedTime.
 pub generalized_octets : (m : Moment) → IsOctets (generalized_time_text m)
 generalized_octets m = are_octets (generalized_time_text m) (generalized_inner m)
 
--- ---- and none of them is a comma
+-- None of their octets is a comma.
 
 inner_is_no_comma : (n : ℕ) → is_inner n ≡ true → nat_eq n 44 ≡ false
 inner_is_no_comma n h = grind (arith, nat_tests)
 
 have_no_comma : (octets : List ℕ) → AreInner octets → list_any (λ octet. nat_eq octet 44) octets ≡ false
 have_no_comma [] a = refl
-have_no_comma (x ∷ octets) a = let parts = and_parts (is_inner x) (list_all is_inner octets) a in rw (inner_is_no_comma x parts.0) (have_no_comma octets parts.1)
+have_no_comma (x ∷ octets) a =
+    let parts = and_parts (is_inner x) (list_all is_inner octets) a in
+    rw (inner_is_no_comma x parts.0) (have_no_comma octets parts.1)
 
+-- The text of a GeneralizedTime has no comma.
 pub generalized_no_comma : (m : Moment) → ¬ HasComma (generalized_time_text m)
 generalized_no_comma m h = let e = have_no_comma (generalized_time_text m) (generalized_inner m) in cc
 
--- ---- they end in Z
+-- Strict texts end in Z.
 
 ends_in_z : (front : List ℕ) → EndsInZ (front ++ z_text)
 ends_in_z front =
     let len = length-append front z_text in
     let last : length (front ++ z_text) - 1 ≡ length front = omega (arith, len) in
-    slice_get_read (front ++ z_text) (length (front ++ z_text)) (length (front ++ z_text) - 1) 90 refl (omega (arith, len))
+    slice_get_read (front ++ z_text) (length (front ++ z_text)) (length (front ++ z_text) - 1) 90 refl
+    (omega (arith, len))
     (subst (λ (i : ℕ). 90 ≡ get_or (front ++ z_text) i 90) (sym last) (sym (get_or-append_seam front 90 [] 90)))
 
+-- It ends in Z.
 pub generalized_ends_in_z : (m : Moment) → EndsInZ (generalized_time_text m)
-generalized_ends_in_z m = ends_in_z (decimal_digits 4 m.year ++ to_minute m ++ decimal_digits 2 m.second ++ fraction_text m.millisecond)
+generalized_ends_in_z m =
+    ends_in_z (decimal_digits 4 m.year ++ to_minute m ++ decimal_digits 2 m.second ++ fraction_text m.millisecond)
 
--- ---- they are short
+-- Strict texts are short.
 
+-- The text of a UTCTime has 13 octets.
 pub utc_length : (m : Moment) → length (utc_time_text m) ≡ 13
 utc_length m = refl
 
@@ -191,5 +221,10 @@ fraction_length : (m : Option ℕ) → MostMilliseconds 999 m → length (fracti
 fraction_length None h = omega arith
 fraction_length (Some n) h = grind (arith, nat_tests)
 
-pub generalized_length : (m : Moment) → MostMilliseconds 999 m.millisecond → (15 ≤ length (generalized_time_text m)) × (length (generalized_time_text m) ≤ 19)
-generalized_length m h = let l = length-append (fraction_text m.millisecond) z_text in let f = fraction_length m.millisecond h in (omega (arith, l), omega (arith, l, f))
+-- That of a GeneralizedTime has 15 to 19.
+pub generalized_length : (m : Moment) → MostMilliseconds 999 m.millisecond →
+    (15 ≤ length (generalized_time_text m)) × (length (generalized_time_text m) ≤ 19)
+generalized_length m h =
+    let l = length-append (fraction_text m.millisecond) z_text in
+    let f = fraction_length m.millisecond h in
+    (omega (arith, l), omega (arith, l, f))

@@ -11,8 +11,8 @@ pub enum TimeZone {
     Undefined,
     /// UTC.
     Z,
-    /// Hours and minutes ahead of UTC. The sign is that of the hours, and the minutes have none; where the hours are 0, it is
-    /// that of the minutes.
+    /// Hours and minutes ahead of UTC. The sign is that of the hours, and the minutes have none;
+    /// where the hours are 0, it is that of the minutes.
     Offset(i8, i8),
 }
 

@@ -1,7 +1,10 @@
 //! The reading of times (X.680 46, 47).
-ghost use Rattle.std.specs.Prelude.{◌≡◌, ◌≢◌, ◌<◌, ◌≤◌, ◌∷◌, ◌++◌, ◌⊎◌, ◌^◌, ℕ, List, ◌+◌, ◌-◌, ◌*◌, IsTrue, ◌↔◌, IsNone, IsSomeAnd, IfSome, Option, None};
+ghost use Rattle.std.specs.Prelude.{◌≡◌, ◌≢◌, ◌<◌, ◌≤◌, ◌∷◌, ◌++◌, ◌⊎◌, ◌^◌, ℕ, List, ◌+◌, ◌-◌, ◌*◌, IsTrue, ◌↔◌};
+ghost use Rattle.std.specs.Prelude.{IsNone, IsSomeAnd, IfSome, Option, None};
 ghost use Rattle.x690.specs.Sets.{AllIn, is_visible};
-ghost use Rattle.x690.specs.Times.{digits, z_text, to_minute, InRange, east, west, SaysZone, SaysZoneOrNone, SaysFraction, SaysUtcEnd, SaysGeneralizedEnd, SaysUtcTime, SaysGeneralizedTime, MostMilliseconds, MostOffset};
+ghost use Rattle.x690.specs.Times.{digits, z_text, to_minute, InRange, east, west, SaysZone, SaysZoneOrNone};
+ghost use Rattle.x690.specs.Times.{SaysFraction, SaysUtcEnd, SaysGeneralizedEnd, SaysUtcTime, SaysGeneralizedTime};
+ghost use Rattle.x690.specs.Times.{MostMilliseconds, MostOffset};
 ghost use Rattle.x690.specs.declared.times.Moment.{Moment};
 ghost use Rattle.x690.specs.declared.times.TimeZone.{TimeZone};
 

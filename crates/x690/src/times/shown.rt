@@ -1,6 +1,7 @@
 //! How times are shown.
 ghost use Rattle.std.specs.Prelude.{◌≡◌, ◌++◌, [], Some};
-ghost use Rattle.x690.specs.Times.{fraction_text, is_west, offset_text, zone_text, calendar_text, utc_time_shown, generalized_time_shown, moment_text};
+ghost use Rattle.x690.specs.Times.{fraction_text, is_west, offset_text, zone_text, calendar_text, utc_time_shown};
+ghost use Rattle.x690.specs.Times.{generalized_time_shown, moment_text};
 
 use super::{Moment, TimeZone};
 use std::fmt;

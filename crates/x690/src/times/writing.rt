@@ -3,7 +3,9 @@ ghost use Rattle.std.specs.Prelude.{ℕ, ◌≡◌, ◌+◌, ◌/◌, ◌%◌, �
 ghost use Rattle.std.specs.List.{list_all};
 ghost use Rattle.std.specs.Int.{is_in_range};
 ghost use Rattle.x690.specs.Octets.{IsOctets};
-ghost use Rattle.x690.specs.Times.{SaysUtcTime, SaysGeneralizedTime, z_text, fraction_text, utc_time_text, generalized_time_text, EndsInZ, HasComma, MostMilliseconds, FitsText, FitsUtcTime, FitsGeneralizedTime, IsStrictUtcTime, IsStrictGeneralizedTime};
+ghost use Rattle.x690.specs.Times.{SaysUtcTime, SaysGeneralizedTime, z_text, fraction_text, utc_time_text};
+ghost use Rattle.x690.specs.Times.{generalized_time_text, EndsInZ, HasComma, MostMilliseconds, FitsText, FitsUtcTime};
+ghost use Rattle.x690.specs.Times.{FitsGeneralizedTime, IsStrictUtcTime, IsStrictGeneralizedTime};
 ghost use Rattle.x690.specs.declared.times.Moment.{Moment};
 
 use super::{Moment, TimeZone};

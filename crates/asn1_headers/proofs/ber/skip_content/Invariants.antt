@@ -10,7 +10,8 @@ invariant-loop-opened l = record {
   few : 2 * l.steps.count + length l.rest ≤ 2 * l.fn.steps.count + length l.bytes;
   grows : l.fn.steps.count ≤ l.steps.count;
   octets : IsOctets l.rest;
-  opened : (outcome : Result (List ℕ) Fault) (headers : ℕ) → OpenContents l.opened l.depth l.rest outcome headers → OpenContents 1 (l.max_depth - 1) l.bytes outcome ((l.steps.count - l.fn.steps.count) + headers);
+  opened : (outcome : Result (List ℕ) Fault) (headers : ℕ) → OpenContents l.opened l.depth l.rest outcome headers →
+      OpenContents 1 (l.max_depth - 1) l.bytes outcome ((l.steps.count - l.fn.steps.count) + headers);
 }
 
 abbrev pub decreases-loop-opened : goal.decreases-loop-opened

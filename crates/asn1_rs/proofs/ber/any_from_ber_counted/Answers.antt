@@ -12,9 +12,12 @@ pub returns-in-Ok-clause-same : goal.returns-in-Ok-clause-same
 returns-in-Ok-clause-same c =
     let made = c.new.ensures in
     let read = c.in-Ok.ensures.gives in
-    let begins = subst (λ (h : Header). BeginsWithHeaderAndContents (IsElement max_depth) c.args.bytes.now h c.new.result.content.now c.in-Ok.rest.now) (sym made.header)
-    (subst (λ (o : List ℕ). BeginsWithHeaderAndContents (IsElement max_depth) c.args.bytes.now c.in-Ok.header o c.in-Ok.rest.now) (sym made.content) read) in
+    let begins = subst (λ (h : Header). BeginsWithHeaderAndContents
+    (IsElement max_depth) c.args.bytes.now h c.new.result.content.now c.in-Ok.rest.now) (sym made.header)
+    (subst (λ (o : List ℕ). BeginsWithHeaderAndContents
+    (IsElement max_depth) c.args.bytes.now c.in-Ok.header o c.in-Ok.rest.now) (sym made.content) read) in
     element_lasts _ _ _ ber_elements ber_breach c.args.bytes.now (c.in-Ok.rest.now, c.new.result) begins
 
 pub returns-in-Err-clause-last : goal.returns-in-Err-clause-last
-returns-in-Err-clause-last c = refusal_lasts _ _ _ ber_elements ber_breach c.args.bytes.now c.in-Err.refusal c.in-Err.ensures.gives
+returns-in-Err-clause-last c =
+    refusal_lasts _ _ _ ber_elements ber_breach c.args.bytes.now c.in-Err.refusal c.in-Err.ensures.gives

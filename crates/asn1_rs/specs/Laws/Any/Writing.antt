@@ -20,22 +20,28 @@ use Rattle.asn1_rs.specs.Grammar.Form.{header_of}
 use Rattle.asn1_rs.specs.Grammar.Item.{IsLawfulWriting}
 use Rattle.asn1_rs.specs.ToDer.{IsWritable}
 
+-- What is written.
+
+-- The strict header follows from identifier and contents octets.
 header_by : (i j : Identifier) (c d : List ℕ) → i ≡ j → c ≡ d → header_of i c ≡ header_of j d
 header_by i j c d p q = ap (λ (z : Identifier). header_of z c) p ∙ ap (λ (z : List ℕ). header_of j z) q
 
+-- What is written for elements of any type is lawful.
 pub element_lawful_writing : IsLawfulWriting (item_grammar any_element) element_writing
 element_lawful_writing = record {
   tells_all = λ x. tt;
   by_value = λ x y e. (
     ap (λ (z : ElementValue). z.id.constructed) e,
-    header_by (identifier_of x.header) (identifier_of y.header) x.content.now y.content.now (ap (λ (z : ElementValue). z.id) e) (ap (λ (z : ElementValue). z.content) e),
+    header_by (identifier_of x.header) (identifier_of y.header) x.content.now y.content.now
+        (ap (λ (z : ElementValue). z.id) e) (ap (λ (z : ElementValue). z.content) e),
     ap (λ (z : ElementValue). z.content) e,
   );
   form = λ x i c f. (
     free x,
     ap (λ (z : ElementValue). z.id.constructed) f.is,
     ap (λ (z : ElementValue). z.content) f.is,
-    header_by (identifier_of x.header) i x.content.now c (ap (λ (z : ElementValue). z.id) f.is) (ap (λ (z : ElementValue). z.content) f.is),
+    header_by (identifier_of x.header) i x.content.now c (ap (λ (z : ElementValue). z.id) f.is)
+        (ap (λ (z : ElementValue). z.content) f.is),
   );
   der_form = λ x d l. ∣ (identifier_of x.header, d) ∣₁;
   der_writable = λ x d. free x;
@@ -45,31 +51,41 @@ element_lawful_writing = record {
     free = nothing_refused element_header content_of (λ any. is_constructed_of any.header)
 
 -- the strict header where the header counts the contents octets
-pub counted_header : (a : Any) → form_of a.header.length ≡ definite (length a.content.now) → strict_header a.header ≡ element_header a
+pub counted_header : (a : Any) → form_of a.header.length ≡ definite (length a.content.now) →
+    strict_header a.header ≡ element_header a
 counted_header a e =
     ap (λ (f : LengthForm). identifier_octets (identifier_of a.header) ++ length_form_octets f) e
     ∙ sym (header_octets_are (class_number a.header.class) a.header.constructed a.header.tag.0 (length a.content.now))
 
+-- Equality.
+
+-- Headers that the test calls the same say one identifier.
 pub same_parts : (g h : Header) → is_same_identifier g h ≡ true → identifier_of g ≡ identifier_of h
 same_parts g h e = search rules
 
+-- Headers that say one identifier are called the same by the test.
 pub parts_same : (g h : Header) → identifier_of g ≡ identifier_of h → is_same_identifier g h ≡ true
 parts_same g h e = search rules
 
+-- Both parts of a test that holds hold.
 pub both_true : (p q : Bool) → p && q ≡ true → (p ≡ true) × (q ≡ true)
 both_true true q e = (refl, e)
 both_true false q e = cc
 
 -- two elements are equal exactly where they say the same
-pub element_same : (x y : Any) → IsTrue (is_same_identifier x.header y.header && bytes_eq x.content.now y.content.now) ↔ (element_of x ≡ element_of y)
+pub element_same : (x y : Any) → IsTrue (is_same_identifier x.header y.header && bytes_eq x.content.now y.content.now) ↔
+    (element_of x ≡ element_of y)
 element_same x y = (
   λ h.
       let b = both_true (is_same_identifier x.header y.header) (bytes_eq x.content.now y.content.now) h in
       let i = same_parts x.header y.header b.0 in
       let c = (bytes_eq-Decides x.content.now y.content.now).0 b.1 in
-      ap (λ (z : Identifier). let e : ElementValue = record { id = z; content = x.content.now } in e) i ∙ ap (λ (z : List ℕ). let e : ElementValue = record { id = identifier_of y.header; content = z } in e) c,
+      ap (λ (z : Identifier). let e : ElementValue = record { id = z; content = x.content.now } in e) i
+      ∙ ap (λ (z : List ℕ). let e : ElementValue = record { id = identifier_of y.header; content = z } in e) c,
   λ e.
-      let i : is_same_identifier x.header y.header ≡ true = parts_same x.header y.header (ap (λ (z : ElementValue). z.id) e) in
-      let c : bytes_eq x.content.now y.content.now ≡ true = (bytes_eq-Decides x.content.now y.content.now).1 (ap (λ (z : ElementValue). z.content) e) in
+      let i : is_same_identifier x.header y.header ≡ true =
+      parts_same x.header y.header (ap (λ (z : ElementValue). z.id) e) in
+      let c : bytes_eq x.content.now y.content.now ≡ true =
+      (bytes_eq-Decides x.content.now y.content.now).1 (ap (λ (z : ElementValue). z.content) e) in
       ap (λ b. b && bytes_eq x.content.now y.content.now) i ∙ c,
 )

@@ -6,6 +6,7 @@ use Rattle.asn1_rs.specs.Integer.Machine.{IsLawfulMachine, unsigned_machine, sig
 use Rattle.asn1_rs.specs.Laws.Integer.Unsigned.{unsigned_refused}
 use Rattle.asn1_rs.specs.Laws.Integer.Signed.{signed_refused}
 
+-- Machine integers without a sign are lawful.
 pub unsigned_lawful : (size : ℕ) → IsLawfulMachine (unsigned_machine size)
 unsigned_lawful size = record {
   one = λ x y e. cc;
@@ -13,6 +14,7 @@ unsigned_lawful size = record {
   refused = unsigned_refused size;
 }
 
+-- Machine integers with a sign are lawful.
 pub signed_lawful : (size : ℕ) → IsLawfulMachine (signed_machine size)
 signed_lawful size = record {
   one = λ x y e. e;

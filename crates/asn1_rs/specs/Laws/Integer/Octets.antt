@@ -19,6 +19,7 @@ integer_check_is = record {
   spares = integer_checks.spares;
 }
 
+-- Integers of any size are lawful.
 pub any_integer_lawful : IsLawfulLeaf any_integer_leaf
 any_integer_lawful = record {
   small = lit< tt;
@@ -34,5 +35,6 @@ any_integer_lawful = record {
 }
 
 -- integers are equal where their octets are the same
-pub octets_equal : (x y : Integer) → IsTrue (pointwise nat_eq (integer_octets x) (integer_octets y)) ↔ (integer_octets x ≡ integer_octets y)
+pub octets_equal : (x y : Integer) →
+    IsTrue (pointwise nat_eq (integer_octets x) (integer_octets y)) ↔ (integer_octets x ≡ integer_octets y)
 octets_equal x y = bytes_decides (integer_octets x) (integer_octets y)

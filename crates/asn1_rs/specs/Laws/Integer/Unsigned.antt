@@ -12,7 +12,8 @@ use Rattle.asn1_rs.specs.Kinds.{IsExactConversion}
 use Rattle.asn1_rs.specs.Laws.Integer.{integer_converts}
 
 -- a number that is refused is not held
-pub unsigned_refused : (size : ℕ) (c : List ℕ) (e : Error) → IsOctets c → UnsignedRefuses size c e → IsUnsigned size (twos_complement_value c) → ⊥
+pub unsigned_refused : (size : ℕ) (c : List ℕ) (e : Error) → IsOctets c → UnsignedRefuses size c e →
+    IsUnsigned size (twos_complement_value c) → ⊥
 unsigned_refused size c IntegerNegative o h u = negative_value c u.0 o h u.1
 unsigned_refused size c IntegerTooLarge o h u =
     let same : pos (base_256_value c) ≡ pos u.0 = sym (unsigned_value c h.0) ∙ u.1 in
@@ -21,11 +22,14 @@ unsigned_refused size c IntegerTooLarge o h u =
 unsigned_refused size c _ o h u = h
 
 -- the conversion to a natural number of so many octets
-pub unsigned_converts : (size : ℕ) → IsExactConversion (OfParts (UnsignedGives size)) (integer_element pos (IsUnsigned size))
-unsigned_converts size = integer_converts (IsUnsigned size) pos (UnsignedRefuses size) (unsigned_refused size) (λ c h. h)
+pub unsigned_converts : (size : ℕ) →
+    IsExactConversion (OfParts (UnsignedGives size)) (integer_element pos (IsUnsigned size))
+unsigned_converts size =
+    integer_converts (IsUnsigned size) pos (UnsignedRefuses size) (unsigned_refused size) (λ c h. h)
 
 -- it has one refusal
-pub one_unsigned_refusal : (size : ℕ) (c : List ℕ) (e f : Error) → UnsignedRefuses size c e → UnsignedRefuses size c f → e ≡ f
+pub one_unsigned_refusal : (size : ℕ) (c : List ℕ) (e f : Error) → UnsignedRefuses size c e →
+    UnsignedRefuses size c f → e ≡ f
 one_unsigned_refusal size c IntegerNegative IntegerNegative h k = refl
 one_unsigned_refusal size c IntegerNegative IntegerTooLarge h k = absurd (omega (arith, h, k.0))
 one_unsigned_refusal size c IntegerTooLarge IntegerNegative h k = absurd (omega (arith, h.0, k))

@@ -20,36 +20,61 @@ use Rattle.asn1_rs.specs.Grammar.{ElementWord, NoCheck, TakesBody}
 use Rattle.asn1_headers.specs.Header.{identifier_of}
 use Rattle.asn1_headers.specs.Header.Reading.{refusal_of}
 use Rattle.asn1_rs.specs.Kinds.{IsExactCheck}
-use Rattle.asn1_rs.specs.Laws.Readers.{AreElements, none_now, front_more, speaks_fault, fault_spares, element_exact, element_spares, passes_all, all_pass}
+use Rattle.asn1_rs.specs.Laws.Readers.{AreElements, none_now, front_more, speaks_fault, fault_spares, element_exact}
+use Rattle.asn1_rs.specs.Laws.Readers.{element_spares, passes_all, all_pass}
 use Rattle.asn1_rs.specs.Laws.Tagged.Implicit.{parts_under}
 use Rattle.asn1_rs.specs.Tagged.{ThenGives}
 use Rattle.asn1_rs.specs.Tagged.Headed.{HeadedBody, UnderBody, CheckedBody, headed_value}
 use Rattle.asn1_rs.specs.Tagged.Parser.{IsUnder, TakesExplicit, TakesImplicit, ChecksAndConverts, header_of, inner_of}
 use Rattle.asn1_rs.specs.Traits.{ElementGives, PassesAll}
 
+-- Explicit tags.
+
+-- the identifier of the header in hand, and the value within
 abbrev parser_value : {K T V E : Type 0} → (T → V) → TaggedParser K T E → Identifier × V
 parser_value value = headed_value (λ t. identifier_of (header_of t)) inner_of value
 
 -- the element that was read is the one of any word at the front
-word_body : {V : Type 0} (ElementOf : List ℕ → Parts → Type 0) → IsOneFront ElementOf → (G : List ℕ → V → Type 0) (input more rest w r : List ℕ) (p : Parts) (v : Identifier × V) → Front ElementOf input p rest → input ++ more ≡ w ++ r → ElementWord ElementOf NoCheck (HeadedBody G) w v → HeadedBody G p v
+word_body : {V : Type 0} (ElementOf : List ℕ → Parts → Type 0) → IsOneFront ElementOf →
+    (G : List ℕ → V → Type 0) (input more rest w r : List ℕ) (p : Parts) (v : Identifier × V) →
+    Front ElementOf input p rest → input ++ more ≡ w ++ r → ElementWord ElementOf NoCheck (HeadedBody G) w v →
+    HeadedBody G p v
 word_body ElementOf one G input more rest w r p v f h d =
     let front = front_more ElementOf input p rest more f in
     let same = one.one front.word w (rest ++ more) r p d.0 front.fits d.1 (sym front.is ∙ h) in
     subst (λ (q : Parts). HeadedBody G q v) (sym same.1) d.3
 
-module _ {K T V E : Type 0} (ElementOf : List ℕ → Parts → Type 0) (FaultOf : List ℕ → Fault → Type 0) (IsCut : List ℕ → Type 0) (elements : AreElements ElementOf FaultOf IsCut) (refuses : Breach → Error)
-    (reads : List ℕ → Result (List ℕ × T) (Refusal E) → Type 0) (from : Error → E → Type 0) (G : List ℕ → V → Type 0) (value : T → V) (takes : Bool)
-    (exact : (octets : List ℕ) (answer : Result (List ℕ × T) (Refusal E)) → IsOctets octets → reads octets answer → Exactly IsCut G value (TellsMemory takes from) octets answer) where
-  pub explicit_parser_exact : (input : List ℕ) (answer : Result (List ℕ × TaggedParser K T E) (Refusal E)) → ThenGives ElementOf FaultOf (refusal_of refuses) from (TakesExplicit reads) input answer → Exactly IsCut (ElementWord ElementOf NoCheck (HeadedBody G)) (parser_value value) (TellsMemory takes from) input answer
+module _ {K T V E : Type 0} (ElementOf : List ℕ → Parts → Type 0) (FaultOf : List ℕ → Fault → Type 0)
+    (IsCut : List ℕ → Type 0) (elements : AreElements ElementOf FaultOf IsCut) (refuses : Breach → Error)
+    (reads : List ℕ → Result (List ℕ × T) (Refusal E) → Type 0) (from : Error → E → Type 0) (G : List ℕ → V → Type 0)
+    (value : T → V) (takes : Bool)
+    (exact : (octets : List ℕ) (answer : Result (List ℕ × T) (Refusal E)) → IsOctets octets → reads octets answer →
+    Exactly IsCut G value (TellsMemory takes from) octets answer) where
+  -- A reader of values with the header of an explicit tag is exact where the value's reader is.
+  pub explicit_parser_exact : (input : List ℕ) (answer : Result (List ℕ × TaggedParser K T E) (Refusal E)) →
+      ThenGives ElementOf FaultOf (refusal_of refuses) from (TakesExplicit reads) input answer → Exactly IsCut
+      (ElementWord ElementOf NoCheck (HeadedBody G)) (parser_value value) (TellsMemory takes from) input answer
   explicit_parser_exact input (Ok x) (any, rest, begins, (same, header, (left, read))) = record {
     word = begins.front.word;
-    fits = (parts_of any, begins.front.fits, tt, record { id = ap identifier_of header; rest = left; inner = exact any.content.now (Ok (left, inner_of x.1)) (elements.possible begins.front.word (parts_of any) begins.front.fits).content read });
+    fits = (
+      parts_of any,
+      begins.front.fits,
+      tt,
+      record {
+        id = ap identifier_of header;
+        rest = left;
+        inner = exact any.content.now (Ok (left, inner_of x.1))
+            (elements.possible begins.front.word (parts_of any) begins.front.fits).content read;
+      },
+    );
     is = begins.front.is ∙ ap (λ (r : List ℕ). begins.front.word ++ r) (sym same);
   }
   explicit_parser_exact input (Err r) (inl (fault, f, c)) = inr (λ more s w rest v e d.
-      elements.final input more w rest d.0 fault f (speaks_fault refuses from fault r (IsCut input) more (elements.counts input fault f) c s) d.1 e)
+      elements.final input more w rest d.0 fault f
+      (speaks_fault refuses from fault r (IsCut input) more (elements.counts input fault f) c s) d.1 e)
   explicit_parser_exact input (Err r) (inr (any, rest, begins, read)) =
-      elim (exact any.content.now (Err r) (elements.possible begins.front.word (parts_of any) begins.front.fits).content read) [
+      elim (exact any.content.now (Err r)
+      (elements.possible begins.front.word (parts_of any) begins.front.fits).content read) [
         | inl m ↦ inl m
         | inr n ↦ inr (λ more s w tail v h d.
             let b = word_body ElementOf elements.one G input more rest w tail (parts_of any) v begins.front h d in
@@ -57,61 +82,113 @@ module _ {K T V E : Type 0} (ElementOf : List ℕ → Parts → Type 0) (FaultOf
       ]
 
 -- where the value's reader does not allocate, no refusal reports out of memory
-pub explicit_parser_spares : {K T E : Type 0} (ElementOf : List ℕ → Parts → Type 0) (FaultOf : List ℕ → Fault → Type 0) (refuses : Breach → Error) → ((breach : Breach) → refuses breach ≢ OutOfMemory) → (reads : List ℕ → Result (List ℕ × T) (Refusal E) → Type 0) (from : Error → E → Type 0) →
-    ((octets : List ℕ) (answer : Result (List ℕ × T) (Refusal E)) → reads octets answer → IfErr answer (HeldIn (IsOther from))) →
-    (input : List ℕ) (answer : Result (List ℕ × TaggedParser K T E) (Refusal E)) → ThenGives ElementOf FaultOf (refusal_of refuses) from (TakesExplicit reads) input answer → IfErr answer (HeldIn (IsOther from))
+pub explicit_parser_spares : {K T E : Type 0} (ElementOf : List ℕ → Parts → Type 0) (FaultOf : List ℕ → Fault → Type 0)
+    (refuses : Breach → Error) → ((breach : Breach) → refuses breach ≢ OutOfMemory) →
+    (reads : List ℕ → Result (List ℕ × T) (Refusal E) → Type 0) (from : Error → E → Type 0) →
+    ((octets : List ℕ) (answer : Result (List ℕ × T) (Refusal E)) → reads octets answer →
+    IfErr answer (HeldIn (IsOther from))) →
+    (input : List ℕ) (answer : Result (List ℕ × TaggedParser K T E) (Refusal E)) →
+    ThenGives ElementOf FaultOf (refusal_of refuses) from (TakesExplicit reads) input answer →
+    IfErr answer (HeldIn (IsOther from))
 explicit_parser_spares ElementOf FaultOf refuses other reads from spares input (Ok x) g = tt
-explicit_parser_spares ElementOf FaultOf refuses other reads from spares input (Err r) (inl (fault, f, c)) = fault_spares from refuses other fault r c
-explicit_parser_spares ElementOf FaultOf refuses other reads from spares input (Err r) (inr (any, rest, begins, read)) = spares any.content.now (Err r) read
+explicit_parser_spares ElementOf FaultOf refuses other reads from spares input (Err r) (inl (fault, f, c)) =
+    fault_spares from refuses other fault r c
+explicit_parser_spares ElementOf FaultOf refuses other reads from spares input (Err r) (inr (any, rest, begins, read)) =
+    spares any.content.now (Err r) read
+
+-- Implicit tags.
 
 -- what converting an element under that tag number may answer: the value with the element's own header, or the refusal
-abbrev ConvertsToHeaded : {K T E : Type 0} → Tag → (Any → Result T E → Type 0) → Any → Result (TaggedParser K T E) E → Type 0
-ConvertsToHeaded own converts any (Ok t) = (header_of t ≡ any.header) × ((other : Any) × IsUnder own any other × converts other (Ok (inner_of t)))
+abbrev ConvertsToHeaded : {K T E : Type 0} → Tag → (Any → Result T E → Type 0) → Any →
+    Result (TaggedParser K T E) E → Type 0
+ConvertsToHeaded own converts any (Ok t) =
+    (header_of t ≡ any.header) × ((other : Any) × IsUnder own any other × converts other (Ok (inner_of t)))
 ConvertsToHeaded own converts any (Err e) = (other : Any) × IsUnder own any other × converts other (Err e)
 
 -- so it is the conversion of an element that was read
-as_conversion : {K T E : Type 0} (ElementOf : List ℕ → Parts → Type 0) (FaultOf : List ℕ → Fault → Type 0) (refusal : Fault → Refusal Error) (own : Tag) (converts : Any → Result T E → Type 0) (from : Error → E → Type 0) (input : List ℕ) (answer : Result (List ℕ × TaggedParser K T E) (Refusal E)) →
-    ThenGives ElementOf FaultOf refusal from (TakesImplicit own converts) input answer → ElementGives ElementOf FaultOf refusal PassesAll (ConvertsToHeaded own converts) from input answer
-as_conversion ElementOf FaultOf refusal own converts from input (Ok x) (any, rest, begins, (same, header, under)) = (any, subst (BeginsWithElement ElementOf input any) (sym same) begins, refl, (header, under))
+as_conversion : {K T E : Type 0} (ElementOf : List ℕ → Parts → Type 0) (FaultOf : List ℕ → Fault → Type 0)
+    (refusal : Fault → Refusal Error) (own : Tag) (converts : Any → Result T E → Type 0) (from : Error → E → Type 0)
+    (input : List ℕ) (answer : Result (List ℕ × TaggedParser K T E) (Refusal E)) →
+    ThenGives ElementOf FaultOf refusal from (TakesImplicit own converts) input answer →
+    ElementGives ElementOf FaultOf refusal PassesAll (ConvertsToHeaded own converts) from input answer
+as_conversion ElementOf FaultOf refusal own converts from input (Ok x) (any, rest, begins, (same, header, under)) =
+    (any, subst (BeginsWithElement ElementOf input any) (sym same) begins, refl, (header, under))
 as_conversion ElementOf FaultOf refusal own converts from input (Err r) (inl fault) = inl fault
-as_conversion ElementOf FaultOf refusal own converts from input (Err r) (inr (any, rest, begins, (other, under, (e, c, is)))) = inr (any, rest, begins, inr (refl, (e, (other, under, c), is)))
+as_conversion ElementOf FaultOf refusal own converts from input (Err r)
+    (inr (any, rest, begins, (other, under, (e, c, is)))) = inr (
+      any,
+      rest,
+      begins,
+      inr (refl, (e, (other, under, c), is)),
+    )
 
 -- the check and the conversion are exact together
-pub checked_exact : {T V E : Type 0} (check : CheckGives) (Check : Parts → Type 0) → IsExactCheck check Check → (converts : Any → Result T E → Type 0) (from : Error → E → Type 0) (Body : Parts → V → Type 0) (value : T → V) (takes : Bool) →
-    ((any : Any) (answer : Result T E) → IsOctets any.content.now → converts any answer → TakesBody Body value takes from (parts_of any) answer) →
-    (any : Any) (answer : Result T E) → IsOctets any.content.now → ChecksAndConverts check converts from any answer → TakesBody (CheckedBody Check Body) value takes from (parts_of any) answer
-checked_exact check Check l converts from Body value takes exact any (Ok x) o (c, g) = (l.exact (parts_of any) (Ok tt) c, exact any (Ok x) o g)
-checked_exact check Check l converts from Body value takes exact any (Err e) o (inl (refusal, c, f)) = inr (λ v b. l.exact (parts_of any) (Err refusal) c b.0)
+pub checked_exact : {T V E : Type 0} (check : CheckGives) (Check : Parts → Type 0) → IsExactCheck check Check →
+    (converts : Any → Result T E → Type 0) (from : Error → E → Type 0) (Body : Parts → V → Type 0) (value : T → V)
+    (takes : Bool) →
+    ((any : Any) (answer : Result T E) → IsOctets any.content.now → converts any answer →
+    TakesBody Body value takes from (parts_of any) answer) →
+    (any : Any) (answer : Result T E) → IsOctets any.content.now → ChecksAndConverts check converts from any answer →
+    TakesBody (CheckedBody Check Body) value takes from (parts_of any) answer
+checked_exact check Check l converts from Body value takes exact any (Ok x) o (c, g) =
+    (l.exact (parts_of any) (Ok tt) c, exact any (Ok x) o g)
+checked_exact check Check l converts from Body value takes exact any (Err e) o (inl (refusal, c, f)) =
+    inr (λ v b. l.exact (parts_of any) (Err refusal) c b.0)
 checked_exact check Check l converts from Body value takes exact any (Err e) o (inr (c, g)) =
     elim (exact any (Err e) o g) [
       | inl m ↦ inl m
       | inr none ↦ inr (λ v b. none v b.1)
     ]
 
-pub checked_spares : {T E : Type 0} (check : CheckGives) → ((p : Parts) → check p (Err OutOfMemory) → ⊥) → (converts : Any → Result T E → Type 0) (from : Error → E → Type 0) → ((any : Any) (e : E) → converts any (Err e) → IsOther from e) →
+-- Where check and conversion do not report out of memory, both together do not.
+pub checked_spares : {T E : Type 0} (check : CheckGives) → ((p : Parts) → check p (Err OutOfMemory) → ⊥) →
+    (converts : Any → Result T E → Type 0) (from : Error → E → Type 0) →
+    ((any : Any) (e : E) → converts any (Err e) → IsOther from e) →
     (any : Any) (e : E) → ChecksAndConverts check converts from any (Err e) → IsOther from e
-checked_spares check checked converts from spares any e (inl (refusal, c, f)) = inl (refusal, λ q. checked (parts_of any) (subst (λ (x : Error). check (parts_of any) (Err x)) q c), f)
+checked_spares check checked converts from spares any e (inl (refusal, c, f)) =
+    inl (refusal, λ q. checked (parts_of any) (subst (λ (x : Error). check (parts_of any) (Err x)) q c), f)
 checked_spares check checked converts from spares any e (inr (c, g)) = spares any e g
 
-module _ {K T E : Type 0} (ElementOf : List ℕ → Parts → Type 0) (FaultOf : List ℕ → Fault → Type 0) (refuses : Breach → Error) (own : Tag) (converts : Any → Result T E → Type 0) (from : Error → E → Type 0) where
-  module _ {V : Type 0} (IsCut : List ℕ → Type 0) (elements : AreElements ElementOf FaultOf IsCut) (Body : Parts → V → Type 0) (value : T → V) (takes : Bool)
-      (exact : (any : Any) (answer : Result T E) → IsOctets any.content.now → converts any answer → TakesBody Body value takes from (parts_of any) answer) where
-    under_exact : (any : Any) (answer : Result (TaggedParser K T E) E) → IsOctets any.content.now → ConvertsToHeaded own converts any answer → TakesBody (UnderBody own.0 Body) (parser_value value) takes from (parts_of any) answer
+module _ {K T E : Type 0} (ElementOf : List ℕ → Parts → Type 0) (FaultOf : List ℕ → Fault → Type 0)
+    (refuses : Breach → Error) (own : Tag) (converts : Any → Result T E → Type 0) (from : Error → E → Type 0) where
+  module _ {V : Type 0} (IsCut : List ℕ → Type 0) (elements : AreElements ElementOf FaultOf IsCut)
+      (Body : Parts → V → Type 0) (value : T → V) (takes : Bool)
+      (exact : (any : Any) (answer : Result T E) → IsOctets any.content.now → converts any answer →
+      TakesBody Body value takes from (parts_of any) answer) where
+    -- The conversion under that tag number is exact where the value's is.
+    under_exact : (any : Any) (answer : Result (TaggedParser K T E) E) → IsOctets any.content.now →
+        ConvertsToHeaded own converts any answer →
+        TakesBody (UnderBody own.0 Body) (parser_value value) takes from (parts_of any) answer
     under_exact any (Ok t) o (header, (other, u, g)) = record {
       id = ap identifier_of header;
-      body = subst (λ (p : Parts). Body p (value (inner_of t))) (parts_under own any other u) (exact other (Ok (inner_of t)) (subst IsOctets (sym u.content) o) g);
+      body = subst (λ (p : Parts). Body p (value (inner_of t))) (parts_under own any other u)
+          (exact other (Ok (inner_of t)) (subst IsOctets (sym u.content) o) g);
     }
     under_exact any (Err e) o (other, u, g) =
         elim (exact other (Err e) (subst IsOctets (sym u.content) o) g) [
           | inl m ↦ inl m
-          | inr none ↦ inr (λ v b. none v.1 (subst (λ (p : Parts). Body p v.1) (sym (parts_under own any other u)) b.body))
+          | inr none ↦
+              inr (λ v b. none v.1 (subst (λ (p : Parts). Body p v.1) (sym (parts_under own any other u)) b.body))
         ]
 
-    pub implicit_parser_exact : (input : List ℕ) (answer : Result (List ℕ × TaggedParser K T E) (Refusal E)) → ThenGives ElementOf FaultOf (refusal_of refuses) from (TakesImplicit own converts) input answer → Exactly IsCut (ElementWord ElementOf NoCheck (UnderBody own.0 Body)) (parser_value value) (TellsMemory takes from) input answer
+    -- A reader of values with the header of an implicit tag is exact where the value's conversion is.
+    pub implicit_parser_exact : (input : List ℕ) (answer : Result (List ℕ × TaggedParser K T E) (Refusal E)) →
+        ThenGives ElementOf FaultOf (refusal_of refuses) from (TakesImplicit own converts) input answer →
+        Exactly IsCut (ElementWord ElementOf NoCheck (UnderBody own.0 Body)) (parser_value value)
+        (TellsMemory takes from) input answer
     implicit_parser_exact input answer g =
-        element_exact ElementOf FaultOf IsCut elements refuses PassesAll (ConvertsToHeaded own converts) from NoCheck (UnderBody own.0 Body) (parser_value value) takes (ElementWord ElementOf NoCheck (UnderBody own.0 Body)) passes_all under_exact (λ o v w. w) (λ o v w. w) input answer (as_conversion ElementOf FaultOf (refusal_of refuses) own converts from input answer g)
+        element_exact ElementOf FaultOf IsCut elements refuses PassesAll (ConvertsToHeaded own converts) from NoCheck
+        (UnderBody own.0 Body) (parser_value value) takes (ElementWord ElementOf NoCheck (UnderBody own.0 Body))
+        passes_all under_exact (λ o v w. w) (λ o v w. w) input answer
+        (as_conversion ElementOf FaultOf (refusal_of refuses) own converts from input answer g)
 
-  pub implicit_parser_spares : ((breach : Breach) → refuses breach ≢ OutOfMemory) → ((any : Any) (e : E) → converts any (Err e) → IsOther from e) →
-      (input : List ℕ) (answer : Result (List ℕ × TaggedParser K T E) (Refusal E)) → ThenGives ElementOf FaultOf (refusal_of refuses) from (TakesImplicit own converts) input answer → IfErr answer (HeldIn (IsOther from))
+  -- Where the value's conversion does not allocate, no refusal reports out of memory.
+  pub implicit_parser_spares : ((breach : Breach) → refuses breach ≢ OutOfMemory) →
+      ((any : Any) (e : E) → converts any (Err e) → IsOther from e) →
+      (input : List ℕ) (answer : Result (List ℕ × TaggedParser K T E) (Refusal E)) →
+      ThenGives ElementOf FaultOf (refusal_of refuses) from (TakesImplicit own converts) input answer →
+      IfErr answer (HeldIn (IsOther from))
   implicit_parser_spares other spares input answer g =
-      element_spares ElementOf FaultOf refuses other PassesAll (ConvertsToHeaded own converts) from all_pass (λ any e c. spares c.0 e c.2) input answer (as_conversion ElementOf FaultOf (refusal_of refuses) own converts from input answer g)
+      element_spares ElementOf FaultOf refuses other PassesAll (ConvertsToHeaded own converts) from all_pass
+      (λ any e c. spares c.0 e c.2) input answer
+      (as_conversion ElementOf FaultOf (refusal_of refuses) own converts from input answer g)

@@ -15,7 +15,8 @@ ghost use Rattle.asn1_headers.specs.Header.{class_of, is_constructed_of, tag_of,
 ghost use Rattle.asn1_headers.specs.Header.Reading.{der_refusal, ber_refusal};
 ghost use Rattle.asn1_headers.specs.Length.{form_of};
 ghost use Rattle.asn1_headers.specs.Tag.{is_container};
-ghost use Rattle.asn1_rs.specs.Any.{parts_of, IsTheElement, IsDefiniteOr, HasClassAndTag, TakesTagged, AndThenGives, HandsOn};
+ghost use Rattle.asn1_rs.specs.Any.{parts_of, IsTheElement, IsDefiniteOr, HasClassAndTag, TakesTagged, AndThenGives};
+ghost use Rattle.asn1_rs.specs.Any.{HandsOn};
 ghost use Rattle.asn1_headers.specs.Der.{DerContentGives};
 ghost use Rattle.asn1_headers.specs.Ber.{BerContentGives, max_depth};
 ghost use Rattle.asn1_rs.specs.Any.Value.{any_element};

@@ -4,7 +4,8 @@ mod writing;
 
 ghost use Rattle.std.specs.Prelude.{◌≡◌, ◌∷◌, [], false, IfErr};
 ghost use Rattle.asn1_rs.specs.Any.{parts_of};
-ghost use Rattle.asn1_rs.specs.Boolean.{boolean_number, boolean_leaf, bool_leaf, says_true, truth_octet, truth_constraints};
+ghost use Rattle.asn1_rs.specs.Boolean.{boolean_number, boolean_leaf, bool_leaf, says_true, truth_octet};
+ghost use Rattle.asn1_rs.specs.Boolean.{truth_constraints};
 ghost use Rattle.asn1_rs.specs.Leaf.{LeafGives, leaf_element};
 ghost use Rattle.asn1_rs.specs.Laws.Boolean.{boolean_lawful, bool_lawful, boolean_equal, bool_equal};
 ghost use Rattle.asn1_rs.specs.Laws.Leaf.{leaf_lawful, leaf_constraints, leaf_converts, leaf_written};

@@ -1,7 +1,8 @@
 //! Truth values with their octet, as they are written (X.690 8.2.2, 11.1).
 ghost use Rattle.std.specs.Prelude.{◌≡◌, ◌++◌, ℕ, List, false, length, Ok, true, IfOk, IfErr};
 ghost use Rattle.std.specs.Io.KnownBytes.{Appends};
-ghost use Rattle.asn1_rs.specs.Boolean.{boolean_number, boolean_leaf, truth_octets, raw_boolean, truth_header, IsStrictTruth, truth_writing};
+ghost use Rattle.asn1_rs.specs.Boolean.{boolean_number, boolean_leaf, truth_octets, raw_boolean, truth_header};
+ghost use Rattle.asn1_rs.specs.Boolean.{IsStrictTruth, truth_writing};
 ghost use Rattle.asn1_headers.specs.Error.{tells_of_io};
 ghost use Rattle.asn1_rs.specs.Leaf.{leaf_element};
 ghost use Rattle.asn1_rs.specs.Laws.Boolean.{boolean_lawful, boolean_lawful_writing};

@@ -45,9 +45,9 @@ impl Any<'_> {
     }
 }
 
-/// The text is decoded from the contents octets, whether the element is primitive or constructed. Refused at another tag
-/// number with `UnexpectedTag`, then with `StringInvalidCharset` where the octets are no text in the code, then where
-/// memory is, with `OutOfMemory`.
+/// The text is decoded from the contents octets, whether the element is primitive or constructed. Refused at another
+/// tag number with `UnexpectedTag`, then with `StringInvalidCharset` where the octets are no text in the code, then
+/// where memory is, with `OutOfMemory`.
 impl Any<'_> {
     /// The `BmpString`.
     pub fn bmpstring(self, alloc: Global) -> Result<BmpString<'static>, Error>

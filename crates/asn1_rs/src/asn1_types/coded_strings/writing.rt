@@ -13,7 +13,8 @@ use asn1_headers::error::{Error, SerializeResult};
 use asn1_headers::writer::{DerWrite, add_written, put_all};
 use x690::characters::{CharacterCode, coded_len, fill};
 
-/// Appends the text in a code, by pieces of 256 octets at most, and answers the number of octets. No memory is asked for.
+/// Appends the text in a code, by pieces of 256 octets at most, and answers the number of octets.
+/// No memory is asked for.
 fn put_text<C: CharacterCode, W: DerWrite>(text: &str, w: &mut W) -> SerializeResult<usize>
     ensures wrote { Wrote (code_of C.octets_of (chars text.now)) (W.state w.old) (W.state w.new)
         result }

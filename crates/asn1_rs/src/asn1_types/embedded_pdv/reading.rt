@@ -1,7 +1,10 @@
 //! How the contents octets of an embedded presentation data value are read.
 ghost use Rattle.std.specs.Prelude.{MatchResult};
 ghost use Rattle.asn1_rs.specs.Any.{parts_of};
-ghost use Rattle.asn1_rs.specs.EmbeddedPdv.{BeginsWithParts, BeginsWithTwo, BorrowsParts, HasInner, HasNoInner, HoldsElement, HoldsNone, Identifies, IsData, IsIdentified, NoData, NoElement, NotIdentified, NotTwo, PdvGives, SaysNone, has_tag, identification_of};
+ghost use Rattle.asn1_rs.specs.EmbeddedPdv.{BeginsWithParts, BeginsWithTwo, BorrowsParts, HasInner, HasNoInner};
+ghost use Rattle.asn1_rs.specs.EmbeddedPdv.{HoldsElement, HoldsNone, Identifies, IsData, IsIdentified, NoData};
+ghost use Rattle.asn1_rs.specs.EmbeddedPdv.{NoElement, NotIdentified, NotTwo, PdvGives, SaysNone, has_tag};
+ghost use Rattle.asn1_rs.specs.EmbeddedPdv.{identification_of};
 
 use crate::asn1_types::any::Any;
 use crate::asn1_types::embedded_pdv::{EmbeddedPdv, PdvIdentification};

@@ -1,6 +1,7 @@
 //! The machine integers, which hold the integers of one to sixteen octets (X.690 8.3).
 ghost use Rattle.std.specs.Prelude.{◌≡◌, ◌≤◌, ◌<◌, take, drop, length};
-ghost use Rattle.asn1_rs.specs.Integer.Machine.{Machine, IsLawfulMachine, MachineGives, unsigned_machine, signed_machine};
+ghost use Rattle.asn1_rs.specs.Integer.Machine.{Machine, IsLawfulMachine, MachineGives, unsigned_machine};
+ghost use Rattle.asn1_rs.specs.Integer.Machine.{signed_machine};
 ghost use Rattle.asn1_rs.specs.Laws.Integer.Machine.{unsigned_lawful, signed_lawful};
 
 use crate::asn1_types::integer::{signed_from_content, unsigned_from_content};

@@ -14,7 +14,8 @@ ghost use Rattle.x690.specs.Integers.{unsigned_octets};
 ghost use Rattle.x690.specs.Signed.{IsSigned, signed_octets};
 ghost use Rattle.x690.specs.Strict.{header_octets};
 ghost use Rattle.asn1_rs.specs.Any.{parts_of};
-ghost use Rattle.asn1_rs.specs.Integer.{integer_number, IntegerCheckGives, IsUnsigned, UnsignedRefuses, UnsignedGives, SignedGives, SignedRefuses, IsIntegerOr};
+ghost use Rattle.asn1_rs.specs.Integer.{integer_number, IntegerCheckGives, IsUnsigned, UnsignedRefuses, UnsignedGives};
+ghost use Rattle.asn1_rs.specs.Integer.{SignedGives, SignedRefuses, IsIntegerOr};
 ghost use Rattle.asn1_headers.specs.Writer.{Wrote, MayRefuse};
 
 use crate::asn1_types::any::Any;

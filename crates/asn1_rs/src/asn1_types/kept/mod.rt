@@ -15,9 +15,11 @@ ghost use Rattle.asn1_headers.specs.Answers.{seen};
 ghost use Rattle.asn1_rs.specs.Any.{parts_of};
 ghost use Rattle.asn1_headers.specs.Ber.{max_depth};
 ghost use Rattle.asn1_headers.specs.Header.Reading.{der_refusal, ber_refusal};
-ghost use Rattle.asn1_rs.specs.Kept.{TakesLent, TakesList, OnLent, IsRefused, IsErrorOf, HandsListOn, ListThenGives, CopiesGive, JoinsGiven};
+ghost use Rattle.asn1_rs.specs.Kept.{TakesLent, TakesList, OnLent, IsRefused, IsErrorOf, HandsListOn, ListThenGives};
+ghost use Rattle.asn1_rs.specs.Kept.{CopiesGive, JoinsGiven};
 ghost use Rattle.asn1_rs.specs.Lists.{IsListOr, ItemsGive, listed};
-ghost use Rattle.asn1_rs.specs.ToDer.{VectorRefuses, IntoVector, RefusesAtOnce, whole_allocates, whole_octets, whole_refuses};
+ghost use Rattle.asn1_rs.specs.ToDer.{VectorRefuses, IntoVector, RefusesAtOnce, whole_allocates, whole_octets};
+ghost use Rattle.asn1_rs.specs.ToDer.{whole_refuses};
 ghost use Rattle.asn1_headers.specs.Error.{tells_of_io, vector_refusal};
 ghost use Rattle.asn1_headers.specs.declared.error.Error.{Error};
 ghost use Rattle.asn1_headers.specs.declared.error.SerializeError.{SerializeError};
@@ -187,8 +189,8 @@ fn with_encoding<T: ToDer>(octets: Vec<u8>, item: &T, alloc: Global) -> Serializ
     }
 }
 
-/// The encodings of the items, joined in the order in which the iterator gives them. The first item that is refused ends
-/// that.
+/// The encodings of the items, joined in the order in which the iterator gives them.
+/// The first item that is refused ends that.
 pub(crate) fn joined_encodings<T, I>(alloc: Global, items: I) -> SerializeResult<Vec<u8>>
 where
     T: ToDer + Drop,

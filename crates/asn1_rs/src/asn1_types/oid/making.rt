@@ -97,8 +97,8 @@ fn arcs_of_text(alloc: Global, s: &str) -> Result<Vec<u64>, OidParseError>
 }
 
 impl Oid<'_> {
-    /// The object identifier of these arcs, by its shortest contents octets, in memory of its own (X.690 8.19). Its arcs
-    /// are those given, but that 0, 0 has the contents octets of the one arc 0.
+    /// The object identifier of these arcs, by its shortest contents octets, in memory of its own (X.690 8.19). Its
+    /// arcs are those given, but that 0, 0 has the contents octets of the one arc 0.
     ///
     /// Refused with `TooShort` where there is no arc, or one alone that is not 0; with `FirstComponentsTooLarge` where
     /// the first arc is past 2, or the second past 39 under 0 and 1; then where memory is, with `OutOfMemory`.
@@ -112,7 +112,8 @@ impl Oid<'_> {
         Ok(Oid::new(CowSlice::Owned(octets)))
     }
 
-    /// The relative object identifier of these arcs, by its shortest contents octets, in memory of its own (X.690 8.20).
+    /// The relative object identifier of these arcs, by its shortest contents octets,
+    /// in memory of its own (X.690 8.20).
     ///
     /// Refused with `TooShort` where there is no arc; then where memory is, with `OutOfMemory`.
     pub fn from_relative(alloc: Global, s: &[u64]) -> Result<Oid<'static>, OidParseError>
@@ -129,8 +130,8 @@ impl Oid<'_> {
     /// The object identifier of the arcs that a text has in decimal between its points, as [`Oid::from`] makes it
     /// (X.690 8.19). Each part is read as `str::parse` reads a `u64`, so a plus may stand in front of it.
     ///
-    /// Refused with `ParseIntError` where a part is no such number, as the one part of the empty text is; then, once all
-    /// are read, as [`Oid::from`] refuses their arcs, or with `OutOfMemory` where there is no memory for them.
+    /// Refused with `ParseIntError` where a part is no such number, as the one part of the empty text is; then, once
+    /// all are read, as [`Oid::from`] refuses their arcs, or with `OutOfMemory` where there is no memory for them.
     pub fn from_str(alloc: Global, s: &str) -> Result<Oid<'static>, OidParseError>
         ensures { OidReadFrom s.now result }
     {

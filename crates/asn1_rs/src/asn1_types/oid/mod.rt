@@ -17,8 +17,10 @@ ghost use Rattle.x690.specs.Arcs.{arcs_of, AreComplete};
 ghost use Rattle.x690.specs.Octets.{BeginsWith};
 ghost use Rattle.asn1_headers.specs.declared.error.Error.TheVariants as errors;
 ghost use Rattle.asn1_rs.specs.Any.{parts_of};
-ghost use Rattle.asn1_rs.specs.Oid.{OidGives, absolute, is_relative, oid_constraints, oid_cow, oid_element, oid_octets, oid_value};
-ghost use Rattle.asn1_rs.specs.Laws.Oid.{arcs_begin_by_test, begins_by_test, oid_checked, oid_converts, oid_equal, oid_lawful};
+ghost use Rattle.asn1_rs.specs.Oid.{OidGives, absolute, is_relative, oid_constraints, oid_cow, oid_element, oid_octets};
+ghost use Rattle.asn1_rs.specs.Oid.{oid_value};
+ghost use Rattle.asn1_rs.specs.Laws.Oid.{arcs_begin_by_test, begins_by_test, oid_checked, oid_converts, oid_equal};
+ghost use Rattle.asn1_rs.specs.Laws.Oid.{oid_lawful};
 
 use crate::asn1_types::any::Any;
 use crate::kinds::{ElementKind, HasKind, LawfulConversion, LawfulElement, TagNumber, TaggedAs};

@@ -27,8 +27,8 @@ impl Oid<'_> {
     }
 }
 
-/// The contents octets are written as they stand, in DER form or not: of a relative one under tag number 13. The raw form
-/// is the same.
+/// The contents octets are written as they stand, in DER form or not: of a relative one under tag number 13.
+/// The raw form is the same.
 // The number hangs on the value. `tag()` and `TAG` of a relative one are 6 all the same, since the type has one
 // constant.
 impl ToDer for Oid<'_> {

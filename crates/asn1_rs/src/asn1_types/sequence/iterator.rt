@@ -1,5 +1,6 @@
 //! Walking over the items in contents octets, as those of a sequence or a set.
-ghost use Rattle.std.specs.Prelude.{◌≡◌, ◌⊎◌, ◌+◌, ◌≤◌, ℕ, Bool, false, List, [], ◌∷◌, ◌++◌, Result, Ok, IfErr, length, map};
+ghost use Rattle.std.specs.Prelude.{◌≡◌, ◌⊎◌, ◌+◌, ◌≤◌, ℕ, Bool, false, List, [], ◌∷◌, ◌++◌, Result, Ok, IfErr, length};
+ghost use Rattle.std.specs.Prelude.{map};
 ghost use Rattle.std.specs.List.{All};
 ghost use Rattle.std.specs.declared.result.Result.TheVariants as results;
 ghost use Rattle.std.specs.Iterator.{at_most, Yields};
@@ -19,7 +20,8 @@ ghost use Rattle.asn1_rs.specs.Lists.{ItemsGive, HasNoJoining};
 ghost use Rattle.asn1_rs.specs.declared.asn1_types.any.Any.{Any};
 ghost use Rattle.asn1_rs.specs.Any.{parts_of, BerElementGives};
 ghost use Rattle.asn1_headers.specs.Ber.{max_depth, EndsWithin};
-ghost use Rattle.asn1_rs.specs.Sequence.Iterator.{octets_left, ReadsExactly, WalkSteps, IsWalk, IsWalkOf, TellsNoWord, TellsMemoryAlone, TellsNothing, IsMemory, ElementsGive};
+ghost use Rattle.asn1_rs.specs.Sequence.Iterator.{octets_left, ReadsExactly, WalkSteps, IsWalk, IsWalkOf, TellsNoWord};
+ghost use Rattle.asn1_rs.specs.Sequence.Iterator.{TellsMemoryAlone, TellsNothing, IsMemory, ElementsGive};
 ghost use Rattle.asn1_rs.specs.Laws.Words.{ber_one};
 ghost use Rattle.asn1_rs.specs.Grammar.Item.{ber_words};
 

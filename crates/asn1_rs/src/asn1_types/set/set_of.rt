@@ -12,7 +12,8 @@ ghost use Rattle.asn1_rs.specs.Lists.{ListReads, PushesItem};
 ghost use Rattle.asn1_rs.specs.Set.{SetRow, items_of, HasItems, lends_set_items, multiset_grammar};
 ghost use Rattle.asn1_rs.specs.Laws.Readers.{unchecked_exact};
 ghost use Rattle.asn1_rs.specs.Laws.Lists.{takes_some, list_checks};
-ghost use Rattle.asn1_rs.specs.Laws.Set.{multiset_told, multiset_lawful, set_takes, set_reads, set_takes_class, set_number};
+ghost use Rattle.asn1_rs.specs.Laws.Set.{multiset_told, multiset_lawful, set_takes, set_reads, set_takes_class};
+ghost use Rattle.asn1_rs.specs.Laws.Set.{set_number};
 ghost use Rattle.asn1_rs.specs.Laws.Writing.{multiset_lawful_writing};
 ghost use Rattle.asn1_rs.specs.Laws.Words.{ber_one, strict_ber};
 ghost use Rattle.asn1_rs.specs.Grammar.Item.{ber_words};
@@ -36,8 +37,8 @@ use std::alloc::{AllocError, Global};
 
 /// A set of items, each as often as it stands in the list that it is made of.
 ///
-/// It is written in ascending order of the items' encodings (X.690 11.6), in whatever order the items stand. Two are equal
-/// where their items are, one by one, in the order in hand.
+/// It is written in ascending order of the items' encodings (X.690 11.6), in whatever order the items stand. Two are
+/// equal where their items are, one by one, in the order in hand.
 #[derive(Debug, Drop, PartialEq)]
 pub struct SetOf<T> {
     items: Vec<T>,

@@ -28,8 +28,8 @@ impl<'a> Any<'a> {
     }
 }
 
-/// The text is the contents octets, which are borrowed, whether the element is primitive or constructed. Refused at another
-/// tag number with `UnexpectedTag`, then with `StringInvalidCharset` where the type has no such text.
+/// The text is the contents octets, which are borrowed, whether the element is primitive or constructed. Refused at
+/// another tag number with `UnexpectedTag`, then with `StringInvalidCharset` where the type has no such text.
 impl<'a> Any<'a> {
     /// The `ObjectDescriptor`.
     pub fn objectdescriptor(self) -> Result<ObjectDescriptor<'a>, Error>

@@ -31,8 +31,8 @@ use std::marker::PhantomData;
 /// A string of one of the ten types in which a character is written in UTF-8: a text, which is borrowed or owned
 /// (X.690 8.23, X.680 41).
 ///
-/// It may be made of any text, also of one that its type does not have; that is written as it stands, and not read back.
-/// Two are equal where their texts are.
+/// It may be made of any text, also of one that its type does not have; that is written as it stands, and not read
+/// back. Two are equal where their texts are.
 #[derive(Drop)]
 #[derive_where(PartialEq, Eq)]
 pub struct RestrictedString<'a, K> {

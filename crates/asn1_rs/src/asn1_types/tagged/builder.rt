@@ -2,7 +2,8 @@
 ghost use Rattle.std.specs.Prelude.{◌≡◌};
 ghost use Rattle.asn1_headers.specs.Answers.{seen};
 ghost use Rattle.asn1_rs.specs.Tagged.{ThenByDer, ThenByBer};
-ghost use Rattle.asn1_rs.specs.Tagged.Parser.{TakesExplicit, TakesImplicit, ChecksAndConverts, HasNumber, HasTag, Asks, Expects};
+ghost use Rattle.asn1_rs.specs.Tagged.Parser.{TakesExplicit, TakesImplicit, ChecksAndConverts, HasNumber, HasTag, Asks};
+ghost use Rattle.asn1_rs.specs.Tagged.Parser.{Expects};
 ghost use Rattle.asn1_headers.specs.declared.class.Class.TheVariants as classes;
 ghost use Rattle.asn1_headers.specs.declared.tag.Tag.{Tag};
 

@@ -11,7 +11,8 @@ ghost use Rattle.asn1_headers.specs.Ber.{max_depth};
 ghost use Rattle.asn1_headers.specs.Header.{class_of, is_constructed_of, tag_of, length_of, raw_tag_of, HasParts};
 ghost use Rattle.asn1_headers.specs.Header.Reading.{der_refusal, ber_refusal, KeepsIdentifier};
 ghost use Rattle.asn1_rs.specs.Tagged.{ThenByDer, ThenByBer};
-ghost use Rattle.asn1_rs.specs.Tagged.Parser.{IsUnder, TakesExplicit, TakesImplicit, ChecksAndConverts, HasTag, Asks, Expects};
+ghost use Rattle.asn1_rs.specs.Tagged.Parser.{IsUnder, TakesExplicit, TakesImplicit, ChecksAndConverts, HasTag, Asks};
+ghost use Rattle.asn1_rs.specs.Tagged.Parser.{Expects};
 ghost use Rattle.asn1_headers.specs.declared.error.Error.TheVariants as errors;
 ghost use Rattle.asn1_headers.specs.declared.length.Length.TheVariants as forms;
 

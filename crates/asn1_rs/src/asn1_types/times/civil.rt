@@ -6,7 +6,8 @@
 ghost use Rattle.std.specs.Prelude.{◌≡◌, ◌↔◌, ◌+◌, ◌*◌, ◌≤◌, pos, ◌+ℤ◌, ◌-ℤ◌, ◌*ℤ◌, IsSome, IfSome, IsOk, IfOk, IfErr};
 ghost use Rattle.jiff.specs.Words.{epoch_day, IsBetween};
 ghost use Rattle.asn1_rs.specs.Times.{moment_of, IsInvalidDateTime};
-ghost use Rattle.asn1_rs.specs.CivilTimes.{IsDay, IsTimeOfDay, IsWithinDay, IsCivil, IsCivilOf, offset_length, zone_seconds, adjusted_year, adjusted, IsNoAdjustedDate, seconds_since_1970};
+ghost use Rattle.asn1_rs.specs.CivilTimes.{IsDay, IsTimeOfDay, IsWithinDay, IsCivil, IsCivilOf, offset_length};
+ghost use Rattle.asn1_rs.specs.CivilTimes.{zone_seconds, adjusted_year, adjusted, IsNoAdjustedDate, seconds_since_1970};
 
 use super::ASN1DateTime;
 use super::generalized_time::GeneralizedTime;

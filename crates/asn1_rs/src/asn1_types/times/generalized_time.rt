@@ -5,7 +5,8 @@ ghost use Rattle.asn1_rs.specs.Any.{parts_of};
 ghost use Rattle.asn1_rs.specs.Leaf.{LeafGives, leaf_element};
 ghost use Rattle.asn1_rs.specs.Laws.Leaf.{leaf_lawful, leaf_constraints, leaf_converts, refusing_written};
 ghost use Rattle.asn1_rs.specs.Laws.Times.{generalized_time_lawful, generalized_time_accepted, times_equal};
-ghost use Rattle.asn1_rs.specs.Times.{generalized_time_leaf, generalized_time_number, generalized_time_constraints, GeneralizedTextGives, moment_of, generalized_time_refused, IsInvalidDateTime};
+ghost use Rattle.asn1_rs.specs.Times.{generalized_time_leaf, generalized_time_number, generalized_time_constraints};
+ghost use Rattle.asn1_rs.specs.Times.{GeneralizedTextGives, moment_of, generalized_time_refused, IsInvalidDateTime};
 ghost use Rattle.asn1_rs.specs.Traits.{OfParts};
 
 use super::{ASN1DateTime, no_time};

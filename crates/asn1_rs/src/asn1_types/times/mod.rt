@@ -18,8 +18,8 @@ use std::fmt;
 use x690::sets::{Visible, all_in};
 use x690::times::{Moment, TimeZone};
 
-/// The fields of a time. A caller may make any; which of them are read and written, the types of times say. The year of a
-/// UTCTime is that in its century.
+/// The fields of a time. A caller may make any; which of them are read and written, the types of times say.
+/// The year of a UTCTime is that in its century.
 #[derive(Clone, Debug, Drop, PartialEq, Eq, PartialOrd, Ord)]
 pub struct ASN1DateTime {
     /// The year.

@@ -6,7 +6,8 @@ ghost use Rattle.asn1_rs.specs.Checks.{nothing};
 ghost use Rattle.asn1_rs.specs.Leaf.{LeafGives, leaf_element};
 ghost use Rattle.asn1_rs.specs.Laws.Leaf.{leaf_lawful, leaf_constraints, leaf_converts, refusing_written};
 ghost use Rattle.asn1_rs.specs.Laws.Times.{utc_time_lawful, utc_time_accepted, times_equal};
-ghost use Rattle.asn1_rs.specs.Times.{utc_time_leaf, utc_time_number, UtcTextGives, moment_of, utc_time_refused, IsInvalidDateTime};
+ghost use Rattle.asn1_rs.specs.Times.{utc_time_leaf, utc_time_number, UtcTextGives, moment_of, utc_time_refused};
+ghost use Rattle.asn1_rs.specs.Times.{IsInvalidDateTime};
 ghost use Rattle.asn1_rs.specs.Traits.{OfParts};
 
 use super::{ASN1DateTime, no_time};
@@ -36,8 +37,8 @@ impl UtcTime {
         UtcTime(datetime)
     }
 
-    /// The time that a text says: `YYMMDDhhmm` and `Z`, or `YYMMDDhhmmss` and a zone, which is `Z` or a sign and `hhmm`.
-    /// Refused with `InvalidValue` where the text says none.
+    /// The time that a text says: `YYMMDDhhmm` and `Z`, or `YYMMDDhhmmss` and a zone, which is `Z` or a sign and
+    /// `hhmm`. Refused with `InvalidValue` where the text says none.
     #[inline(always)]
     pub fn from_bytes(bytes: &[u8]) -> Result<Self, Error>
         ensures { UtcTextGives bytes.now result }

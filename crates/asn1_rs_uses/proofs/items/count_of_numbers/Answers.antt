@@ -16,9 +16,13 @@ pub returns : goal.returns
 returns c = λ j.
     let run = c.count.ensures.runs in
     let begins : octets_left run.0.from ≡ c.args.content.now = ap octets_left run.1 ∙ c.new.ensures in
-    let octets : IsOctets (octets_left run.0.from) = subst IsOctets (sym begins) (λ k. omega (arith, c.type_inv.content k)) in
-    let joined : AreJoinedWords (DerWord IntegerCheck (IntegerBody (IsUnsigned 8))) (octets_left run.0.from) = subst (λ (o : List ℕ). AreJoinedWords (DerWord IntegerCheck (IntegerBody (IsUnsigned 8))) o) (sym begins) j in
-    let all = counted (DerGives IntegerCheckGives (OfParts (UnsignedGives 8)) same) same (DerWord IntegerCheck (IntegerBody (IsUnsigned 8))) pos run.0 (c.walks_take_words.ensures.whole_run run.0 octets joined) run.2 in (
+    let octets : IsOctets (octets_left run.0.from) =
+    subst IsOctets (sym begins) (λ k. omega (arith, c.type_inv.content k)) in
+    let joined : AreJoinedWords (DerWord IntegerCheck (IntegerBody (IsUnsigned 8))) (octets_left run.0.from) =
+    subst (λ (o : List ℕ). AreJoinedWords (DerWord IntegerCheck (IntegerBody (IsUnsigned 8))) o) (sym begins) j in
+    let all = counted (DerGives IntegerCheckGives (OfParts (UnsignedGives 8)) same) same
+    (DerWord IntegerCheck (IntegerBody (IsUnsigned 8))) pos run.0
+    (c.walks_take_words.ensures.whole_run run.0 octets joined) run.2 in (
       all.0,
       subst (λ (o : List ℕ). IsJoined (DerWord IntegerCheck (IntegerBody (IsUnsigned 8))) o all.0) begins all.1,
       run.3 ∙ all.2,

@@ -11,10 +11,16 @@ use Rattle.asn1_rs_uses.proofs.joined.numbers_of.Goals as goal
 
 pub returns-clause-joined : goal.returns-clause-joined
 returns-clause-joined c =
-    when_taken (DerGives IntegerCheckGives (OfParts (UnsignedGives 8)) same) same c.args.content.now (λ items. IsJoined NumberByDer c.args.content.now (map pos items))
-    (λ items g. c.items_are_joined_words.ensures.joined c.args.content.now items (λ k. omega (arith, c.type_inv.content k)) g) c.into_der_sequence_of_ref.result (rw c.new-sequence.ensures at c.into_der_sequence_of_ref.ensures)
+    when_taken (DerGives IntegerCheckGives (OfParts (UnsignedGives 8)) same) same c.args.content.now
+    (λ items. IsJoined NumberByDer c.args.content.now (map pos items))
+    (λ items g. c.items_are_joined_words.ensures.joined c.args.content.now items (λ k. omega (
+      arith,
+      c.type_inv.content k,
+    )) g) c.into_der_sequence_of_ref.result (rw c.new-sequence.ensures at c.into_der_sequence_of_ref.ensures)
 
 pub returns-clause-refused : goal.returns-clause-refused
 returns-clause-refused c =
-    when_refused (DerGives IntegerCheckGives (OfParts (UnsignedGives 8)) same) same c.args.content.now (λ e. (e ≡ errors.OutOfMemory) ⊎ HasNoJoining NumberByDer c.args.content.now)
-    (λ e g. c.items_are_joined_words.ensures.refused c.args.content.now e (λ k. omega (arith, c.type_inv.content k)) g) c.into_der_sequence_of_ref.result (rw c.new-sequence.ensures at c.into_der_sequence_of_ref.ensures)
+    when_refused (DerGives IntegerCheckGives (OfParts (UnsignedGives 8)) same) same c.args.content.now
+    (λ e. (e ≡ errors.OutOfMemory) ⊎ HasNoJoining NumberByDer c.args.content.now)
+    (λ e g. c.items_are_joined_words.ensures.refused c.args.content.now e (λ k. omega (arith, c.type_inv.content k)) g)
+    c.into_der_sequence_of_ref.result (rw c.new-sequence.ensures at c.into_der_sequence_of_ref.ensures)

@@ -5,4 +5,5 @@ use Rattle.asn1_rs_uses.proofs.JoinedNumbers.{same, set_begins}
 use Rattle.asn1_rs_uses.proofs.joined.set_of_numbers.Goals as goal
 
 pub returns : goal.returns
-returns c = set_begins (DerGives IntegerCheckGives (OfParts (UnsignedGives 8)) same) c.args.octets.now c.lists_are_joined_words.ensures.read (seen c.from_der.result) c.from_der.ensures
+returns c = set_begins (DerGives IntegerCheckGives (OfParts (UnsignedGives 8)) same) c.args.octets.now
+    c.lists_are_joined_words.ensures.read (seen c.from_der.result) c.from_der.ensures

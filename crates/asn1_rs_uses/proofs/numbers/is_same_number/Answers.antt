@@ -12,10 +12,12 @@ returns-clause-same c = λ o p s t.
     let same = bytes_eq-Decides c.as_slice.result.now c.as_slice-2.result.now in (
       λ h.
           let e : o ≡ p = sym first ∙ same.0 (sym c.eq.ensures ∙ h) ∙ second in
-          let v : pos c.args.x ≡ pos c.args.y = (c.words_and_values_are_unique.ensures.apart o p [] [] (pos c.args.x) (pos c.args.y) s t (ap (λ (z : List ℕ). z ++ []) e)).1 in
+          let v : pos c.args.x ≡ pos c.args.y = (c.words_and_values_are_unique.ensures.apart o p [] [] (pos c.args.x)
+          (pos c.args.y) s t (ap (λ (z : List ℕ). z ++ []) e)).1 in
           cc,
       λ e.
-          let q : o ≡ p = c.words_and_values_are_unique.ensures.strict (pos c.args.y) o p (subst (λ (n : ℕ). IsStrict (IntegerForm (IsUnsigned 8)) (pos n) o) e s) t in
+          let q : o ≡ p = c.words_and_values_are_unique.ensures.strict (pos c.args.y) o p
+          (subst (λ (n : ℕ). IsStrict (IntegerForm (IsUnsigned 8)) (pos n) o) e s) t in
           c.eq.ensures ∙ same.1 (first ∙ q ∙ sym second),
     )
 

@@ -4,7 +4,8 @@ use Rattle.asn1_rs_uses.proofs.numbers.is_strict_front.Goals as goal
 
 pub returns-clause-strict : goal.returns-clause-strict
 returns-clause-strict c =
-    let law = c.strict_fronts_are_written_again.ensures.again c.args.x c.args.front.now (c.args.x, refl, omega arith) (omega arith) in
+    let law = c.strict_fronts_are_written_again.ensures.again c.args.x c.args.front.now (c.args.x, refl, omega arith)
+    (omega arith) in
     let same = bytes_eq-Decides c.as_slice.result.now c.args.front.now in (
       λ h. law.1 (sym (same.0 (sym c.eq.ensures ∙ h)) ∙ c.as_slice.ensures.value ∙ c.in_ok-written.ensures.plain),
       λ s. c.eq.ensures ∙ same.1 (c.as_slice.ensures.value ∙ c.in_ok-written.ensures.plain ∙ sym (law.0 s)),

@@ -5,7 +5,9 @@ use Rattle.asn1_rs_uses.proofs.numbers.read_number.Goals as goal
 
 pub returns-clause-cut : goal.returns-clause-cut
 returns-clause-cut c = λ more word rest n d e l.
-    c.reader_is_exact_by_der.ensures.beginning c.args.octets.now (seen c.from_der.result) more word rest n (λ k. omega (arith, c.type_inv.octets k)) c.from_der.ensures d e l
+    c.reader_is_exact_by_der.ensures.beginning c.args.octets.now (seen c.from_der.result) more word rest n
+    (λ k. omega (arith, c.type_inv.octets k)) c.from_der.ensures d e l
 
 pub returns-clause-spares : goal.returns-clause-spares
-returns-clause-spares c = no_memory (seen c.from_der.result) (c.reader_is_exact_by_der.ensures.spares c.args.octets.now (seen c.from_der.result) refl c.from_der.ensures)
+returns-clause-spares c = no_memory (seen c.from_der.result)
+    (c.reader_is_exact_by_der.ensures.spares c.args.octets.now (seen c.from_der.result) refl c.from_der.ensures)

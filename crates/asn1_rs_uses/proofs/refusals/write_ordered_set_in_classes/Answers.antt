@@ -2,7 +2,10 @@ use Rattle.asn1_rs_uses.proofs.Unwritten.{names_some, set_refused}
 use Rattle.asn1_rs_uses.proofs.refusals.write_ordered_set_in_classes.Goals as goal
 
 pub returns-clause-some : goal.returns-clause-some
-returns-clause-some g c = λ a. let some = names_some (c.args.xs.now.keys) a in c.write_der.ensures.accepted some.0 (λ k d h. tt) some.2
+returns-clause-some g c = λ a.
+    let some = names_some (c.args.xs.now.keys) a in
+    c.write_der.ensures.accepted some.0 (λ k d h. tt) some.2
 
 pub returns-clause-why : goal.returns-clause-why
-returns-clause-why g c = set_refused _ _ c.args.xs.now.keys c.write_der.result (c.write_der.ensures.refused (λ k d h. tt))
+returns-clause-why g c =
+    set_refused _ _ c.args.xs.now.keys c.write_der.result (c.write_der.ensures.refused (λ k d h. tt))

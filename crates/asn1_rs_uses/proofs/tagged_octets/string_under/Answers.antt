@@ -11,5 +11,7 @@ use Rattle.asn1_rs_uses.proofs.tagged_octets.string_under.Goals as goal
 pub returns : goal.returns
 returns c =
     let told = c.parse_der_tagged_explicit.ensures in
-    string_found octets_of told.0 c.args.number (DerGives is_primitive (LendsContent octet_string_leaf cow_of) (λ e f. f ≡ e)) (ap (λ (z : Tag). z.0) told.1)
-    (λ o left x are reads. c.reader_is_exact_by_der.ensures.exact o (Ok (left, x)) are reads) c.args.octets.now (seen c.parse_der_tagged_explicit.result) told.2
+    string_found octets_of told.0 c.args.number
+    (DerGives is_primitive (LendsContent octet_string_leaf cow_of) (λ e f. f ≡ e)) (ap (λ (z : Tag). z.0) told.1)
+    (λ o left x are reads. c.reader_is_exact_by_der.ensures.exact o (Ok (left, x)) are reads) c.args.octets.now
+    (seen c.parse_der_tagged_explicit.result) told.2

@@ -4,7 +4,8 @@ use Rattle.asn1vec_answers.proofs.digits.fill.Goals as goal
 
 pub pairs-preserved : goal.pairs-preserved
 pairs-preserved c =
-    pair_read c.pairs.octets c.args.digits.now c.pairs.i _ _ (omega arith) (omega arith) (c.number_of-high.ensures.digit (omega arith)) (c.number_of-low.ensures.digit (omega arith)) c.pairs.invariant
+    pair_read c.pairs.octets c.args.digits.now c.pairs.i _ _ (omega arith) (omega arith)
+    (c.number_of-high.ensures.digit (omega arith)) (c.number_of-low.ensures.digit (omega arith)) c.pairs.invariant
 
 pub returns-then-max-gt15-clause-none : goal.returns-then-max-gt15-clause-none
 returns-then-max-gt15-clause-none c = λ found octets h.

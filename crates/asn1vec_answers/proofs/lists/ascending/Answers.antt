@@ -15,4 +15,6 @@ returns c =
     let keys = c.args.set.now.keys in
     IfOk-weaker c.from_iter.result _ _ (λ w h.
     collected_in_order int_cmp int_cmp_total exact_signed keys w
-    (subst (λ zs. IsFromIterResult int_cmp zs w) (sym (map-id h.1) ∙ items_from_drains h.1 h.3 (YieldsList-from_copied (YieldsList-from_rest keys cc))) h.4)) c.from_iter.ensures.ran
+    (subst (λ zs. IsFromIterResult int_cmp zs w)
+    (sym (map-id h.1) ∙ items_from_drains h.1 h.3 (YieldsList-from_copied (YieldsList-from_rest keys cc))) h.4))
+    c.from_iter.ensures.ran

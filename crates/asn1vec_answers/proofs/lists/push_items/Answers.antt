@@ -12,10 +12,15 @@ loop-item-preserved g c =
       ends = goes.1;
       words = search rules;
       mark = sym (before_more (codes ",") c.loop-item.yielded c.in-Some.item);
-      text = text_more g.T.Encoded.text_of c.loop-item.yielded c.in-Some.item c.args.text.now.items c.loop-item.text.items c.loop-item.mark.now c.push_str-in-loop-item.new.text.items c.show.new.text.items seen.text seen.mark c.in_ok-push_str-2.ensures c.in_ok-show.ensures;
+      text = text_more g.T.Encoded.text_of c.loop-item.yielded c.in-Some.item c.args.text.now.items
+          c.loop-item.text.items c.loop-item.mark.now c.push_str-in-loop-item.new.text.items c.show.new.text.items
+          seen.text seen.mark c.in_ok-push_str-2.ensures c.in_ok-show.ensures;
     }
 
 pub returns : goal.returns
 returns g c = λ xs gives.
-    let whole = all_seen g.I.Iterator.next_gives c.args.items xs gives c.into_iter-item-iterator.result c.loop-item.item-iterator c.next.new.self c.into_iter-item-iterator.ensures.into_iter_gives c.loop-item.yielded c.loop-item.yielded_by c.next.result c.next.ensures.steps c.in-None.is in
-    on_ok_weaker c.push_str-2.result (λ more. text_whole g.T.Encoded.text_of (read_through c.loop-item.yielded) xs c.args.text.now.items c.loop-item.text.items _ c.loop-item.invariant.text whole more) c.push_str-2.ensures
+    let whole = all_seen g.I.Iterator.next_gives c.args.items xs gives c.into_iter-item-iterator.result
+    c.loop-item.item-iterator c.next.new.self c.into_iter-item-iterator.ensures.into_iter_gives c.loop-item.yielded
+    c.loop-item.yielded_by c.next.result c.next.ensures.steps c.in-None.is in
+    on_ok_weaker c.push_str-2.result (λ more. text_whole g.T.Encoded.text_of (read_through c.loop-item.yielded) xs
+    c.args.text.now.items c.loop-item.text.items _ c.loop-item.invariant.text whole more) c.push_str-2.ensures

@@ -11,5 +11,6 @@ invariant-loop-item g l = record {
   ends : (goal.iterator-loop-item g).is_finite l.item-iterator;
   words : shadow (Utf8 l.mark);
   mark : l.mark ≡ before_next (codes ",") l.yielded;
-  text : l.text.items ≡ l.fn.text.items ++ (codes "[" ++ join_by g.T.Encoded.text_of (codes ",") (map (λ r. r.now) l.yielded));
+  text : l.text.items ≡
+      l.fn.text.items ++ (codes "[" ++ join_by g.T.Encoded.text_of (codes ",") (map (λ r. r.now) l.yielded));
 }

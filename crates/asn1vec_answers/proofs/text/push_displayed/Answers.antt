@@ -8,6 +8,8 @@ weaken None P Q k x = tt
 weaken (Some part) P Q k x = k part x
 
 pub returns-in-Ok : goal.returns-in-Ok
-returns-in-Ok g c = weaken (g.T.Display.output c.args.shown.now) _ (λ part. c.write-answer.new.self.octets.items ≡ c.args.text.now.items ++ part)
-    (λ part k. contents_after_writes _ (λ (w : Growing). w.octets.items) (λ w l v t. t) _ part _ k ∙ ap (λ v. v.items ++ part) c.replace.ensures.value)
+returns-in-Ok g c = weaken (g.T.Display.output c.args.shown.now) _
+    (λ part. c.write-answer.new.self.octets.items ≡ c.args.text.now.items ++ part)
+    (λ part k. contents_after_writes _ (λ (w : Growing). w.octets.items) (λ w l v t. t) _ part _ k
+    ∙ ap (λ v. v.items ++ part) c.replace.ensures.value)
     c.in-Ok.ensures.writes

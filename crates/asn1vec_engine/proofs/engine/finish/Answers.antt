@@ -11,9 +11,11 @@ not_empty (x ∷ line) h e = cc
 pub returns-clause-ok : goal.returns-clause-ok
 returns-clause-ok g c =
     let n : c.args.line.now ≡ [] → ⊥ = λ e. not_empty c.args.line.now c.if-is_empty.ensures e in
-    on_ok_weaker c.write_answer.result (λ h. (h.0, last_answers _ h.0 (recursion_from_All _ _ c.requires) n h.1, h.2)) c.write_answer.ensures.ok
+    on_ok_weaker c.write_answer.result
+    (λ h. (h.0, last_answers _ h.0 (recursion_from_All _ _ c.requires) n h.1, h.2)) c.write_answer.ensures.ok
 
 pub returns-clause-err : goal.returns-clause-err
 returns-clause-err g c =
     let n : c.args.line.now ≡ [] → ⊥ = λ e. not_empty c.args.line.now c.if-is_empty.ensures e in
-    on_err_weaker c.write_answer.result (λ h. (h.0, last_begun _ h.0 (recursion_from_All _ _ c.requires) n h.1, h.2)) c.write_answer.ensures.err
+    on_err_weaker c.write_answer.result
+    (λ h. (h.0, last_begun _ h.0 (recursion_from_All _ _ c.requires) n h.1, h.2)) c.write_answer.ensures.err

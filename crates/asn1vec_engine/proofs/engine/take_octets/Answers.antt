@@ -6,12 +6,14 @@ use Rattle.asn1vec_engine.proofs.engine.take_octets.Goals as goal
 pub returns-in_err-end_line-clause-err : goal.returns-in_err-end_line-clause-err
 returns-in_err-end_line-clause-err g c =
     let l = c.lines.invariant.moved in
-    on_err c.from_residual.result (begins_line c.args.line.now.items c.args.octets.now l.0 c.lines.rest.now c.in-Some.last.now c.in-Some.after.now l.1 c.in-Some.ensures.0 l.2 c.in_err-end_line.ensures.err)
+    on_err c.from_residual.result (begins_line c.args.line.now.items c.args.octets.now l.0 c.lines.rest.now
+    c.in-Some.last.now c.in-Some.after.now l.1 c.in-Some.ensures.0 l.2 c.in_err-end_line.ensures.err)
 
 pub returns-in_err-keep-clause-err : goal.returns-in_err-keep-clause-err
 returns-in_err-keep-clause-err g c =
     let l = c.lines.invariant.moved in
-    on_err c.from_residual-in_err-keep.result (begins_rest c.args.line.now.items c.args.octets.now l.0 c.lines.rest.now l.1 l.2)
+    on_err c.from_residual-in_err-keep.result
+    (begins_rest c.args.line.now.items c.args.octets.now l.0 c.lines.rest.now l.1 l.2)
 
 pub returns-clause-ok : goal.returns-clause-ok
 returns-clause-ok g c =
@@ -31,7 +33,8 @@ lines-preserved g c =
     record {
       open_line = c.in_ok-end_line.ensures.«open»;
       mark = c.in_ok-end_line.ensures.mark ∙ c.lines.invariant.mark;
-      moved = moves_line c.args.line.now.items c.args.octets.now l.0 c.lines.rest.now c.in-Some.last.now c.in-Some.after.now l.1 c.in-Some.ensures.0 l.2 c.in_ok-end_line.ensures.ok;
+      moved = moves_line c.args.line.now.items c.args.octets.now l.0 c.lines.rest.now c.in-Some.last.now
+          c.in-Some.after.now l.1 c.in-Some.ensures.0 l.2 c.in_ok-end_line.ensures.ok;
     }
 
 pub lines-smaller : goal.lines-smaller

@@ -7,7 +7,8 @@ abbrev pub invariant-lines : goal.invariant-lines
 invariant-lines g l = record {
   open_line : All (λ x. x ≢ 10) l.line.items;
   mark : (g.W.DerWrite.state l.output).failed ≡ (g.W.DerWrite.state l.initial.output).failed;
-  moved : (done : List ℕ) × (l.octets ≡ done ++ l.rest) × Moves (g.W.DerWrite.state l.initial.output).told (g.W.DerWrite.state l.output).told (l.initial.line.items ++ done) l.line.items;
+  moved : (done : List ℕ) × (l.octets ≡ done ++ l.rest) × Moves (g.W.DerWrite.state l.initial.output).told
+      (g.W.DerWrite.state l.output).told (l.initial.line.items ++ done) l.line.items;
 }
 
 abbrev pub decreases-lines : goal.decreases-lines

@@ -6,4 +6,5 @@ use Rattle.x690.proofs.arcs.beginnings_have_the_first_arcs.Goals as goal
 
 pub returns : goal.returns
 returns c relative content front rest a e =
-    subst (λ (octets : List ℕ). (more : List ℕ) × BeginsWith (arcs_of relative octets) (arcs_of relative front) more) (sym e) (arcs_begin relative front rest a)
+    subst (λ (octets : List ℕ). (more : List ℕ) × BeginsWith (arcs_of relative octets) (arcs_of relative front) more)
+    (sym e) (arcs_begin relative front rest a)

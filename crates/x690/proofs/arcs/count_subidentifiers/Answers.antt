@@ -1,4 +1,5 @@
-use Rattle.std.proofs.Common.{◌≡◌, ℕ, ◌+◌, ◌-◌, ◌<◌, ◌≤◌, cond, List, [], ◌∷◌, length, take, get_or, refl, ap, sym, ◌∙◌, arith, inl, inr}
+use Rattle.std.proofs.Common.{◌≡◌, ℕ, ◌+◌, ◌-◌, ◌<◌, ◌≤◌, cond, List, [], ◌∷◌, length, take, get_or, refl, ap, sym, ◌∙◌}
+use Rattle.std.proofs.Common.{arith, inl, inr}
 use Rattle.std.specs.List.{count_by}
 use Rattle.std.specs.Prelude.{nat_lt}
 use Rattle.std.proofs.lemmas.Bool.{cases_lt}
@@ -37,35 +38,50 @@ one_end octet k h = grind (arith, nat_tests)
 no_end : (octet k : ℕ) → 128 ≤ octet → cond (nat_lt octet 128) 1 0 + k ≡ k
 no_end octet k h = grind (arith, nat_tests)
 
-pieces_counted : (octet : ℕ) (octets : List ℕ) → length (pieces_of (octet ∷ octets)) ≡ ends (octet ∷ octets) + is_cut (get_or (octet ∷ octets) (length octets) 0)
+pieces_counted : (octet : ℕ) (octets : List ℕ) →
+    length (pieces_of (octet ∷ octets)) ≡ ends (octet ∷ octets) + is_cut (get_or (octet ∷ octets) (length octets) 0)
 pieces_counted octet [] = grind (arith, nat_tests)
 pieces_counted octet (next ∷ octets) =
     let others = pieces_counted next octets in
     let k = ends (next ∷ octets) in
-    let e : ends (octet ∷ next ∷ octets) ≡ cond (nat_lt octet 128) 1 0 + k = sum_by-cons (λ n. cond (nat_lt n 128) 1 0) octet (next ∷ octets) in
-    let same : get_or (octet ∷ next ∷ octets) (length (next ∷ octets)) 0 ≡ get_or (next ∷ octets) (length octets) 0 = refl in
+    let e : ends (octet ∷ next ∷ octets) ≡ cond (nat_lt octet 128) 1 0 + k =
+    sum_by-cons (λ n. cond (nat_lt n 128) 1 0) octet (next ∷ octets) in
+    let same : get_or (octet ∷ next ∷ octets) (length (next ∷ octets)) 0 ≡ get_or (next ∷ octets) (length octets) 0 =
+    refl in
     let cut = ap is_cut same in
     elim (cases_lt octet 128) [
       | inl h ↦ omega (arith, ap length (last_piece octet (next ∷ octets) h), one_end octet k h, e, cut, others)
-      | inr h ↦ omega (arith, ap length (more_piece octet (next ∷ octets) h), front_length octet (pieces_of (next ∷ octets)) (some_pieces next octets), no_end octet k h, e, cut, others)
+      | inr h ↦ omega (
+        arith,
+        ap length (more_piece octet (next ∷ octets) h),
+        front_length octet (pieces_of (next ∷ octets)) (some_pieces next octets),
+        no_end octet k h,
+        e,
+        cut,
+        others,
+      )
     ]
 
-counted : (octets : List ℕ) (count i last : ℕ) → count ≡ ends (take i octets) → length octets ≤ i → 0 < length octets → last ≡ get_or octets (length octets - 1) 0 → length (pieces_of octets) ≡ count + is_cut last
+counted : (octets : List ℕ) (count i last : ℕ) → count ≡ ends (take i octets) → length octets ≤ i → 0 < length octets →
+    last ≡ get_or octets (length octets - 1) 0 → length (pieces_of octets) ≡ count + is_cut last
 counted [] count i last e all some l = absurd (omega arith)
 counted (octet ∷ octets) count i last e all some l =
     let whole = ap ends (take_all i (octet ∷ octets) all) in
     let m : length (octet ∷ octets) - 1 ≡ length octets = omega arith in
     let at_end = l ∙ ap (λ (n : ℕ). get_or (octet ∷ octets) n 0) m in
-    pieces_counted octet octets ∙ ap (λ (n : ℕ). ends (octet ∷ octets) + is_cut n) (sym at_end) ∙ ap (λ (n : ℕ). n + is_cut last) (sym (e ∙ whole))
+    pieces_counted octet octets ∙ ap (λ (n : ℕ). ends (octet ∷ octets) + is_cut n) (sym at_end)
+    ∙ ap (λ (n : ℕ). n + is_cut last) (sym (e ∙ whole))
 
 pub returns-in-Some-clause-count : goal.returns-in-Some-clause-count
 returns-in-Some-clause-count c =
     let h = c.in-Some.ensures.item in
-    let n = counted c.args.octets.now c.loop-octet.count c.loop-octet.octet-index c.in-Some.last.now c.loop-octet.invariant (omega arith) h.3.0 (h.4 (omega arith) 0) in
+    let n = counted c.args.octets.now c.loop-octet.count c.loop-octet.octet-index c.in-Some.last.now
+    c.loop-octet.invariant (omega arith) h.3.0 (h.4 (omega arith) 0) in
     grind (arith, nat_tests, n)
 
 pub returns-in_default-clause-count : goal.returns-in_default-clause-count
 returns-in_default-clause-count c =
     let h = c.in-Some.ensures.item in
-    let n = counted c.args.octets.now c.loop-octet.count c.loop-octet.octet-index c.in-Some.last.now c.loop-octet.invariant (omega arith) h.3.0 (h.4 (omega arith) 0) in
+    let n = counted c.args.octets.now c.loop-octet.count c.loop-octet.octet-index c.in-Some.last.now
+    c.loop-octet.invariant (omega arith) h.3.0 (h.4 (omega arith) 0) in
     grind (arith, nat_tests, n)

@@ -6,7 +6,8 @@ use Rattle.x690.proofs.arcs.first_piece_len.Goals as goal
 
 pub returns-then-octet-lt128-clause-piece : goal.returns-then-octet-lt128-clause-piece
 returns-then-octet-lt128-clause-piece c =
-    rw (add-one c.loop-i.i) (piece_ends c.loop-i.i c.args.octets.now c.loop-i.invariant c.loop-i-test.true c.if-octet-lt128.true)
+    rw (add-one c.loop-i.i)
+    (piece_ends c.loop-i.i c.args.octets.now c.loop-i.invariant c.loop-i-test.true c.if-octet-lt128.true)
 
 pub loop-i-preserved : goal.loop-i-preserved
 loop-i-preserved c = below_more _ _ c.loop-i.invariant c.if-octet-lt128.false

@@ -9,4 +9,5 @@ returns-then-number-bound c =
     (λ e. cc, λ h. absurd (omega (arith, h)))
 
 pub loop-octet-preserved : goal.loop-octet-preserved
-loop-octet-preserved c = omega (arith, base_128_value_more c.args.octets.now c.loop-octet.octet-index c.loop-octet-test.true)
+loop-octet-preserved c =
+    omega (arith, base_128_value_more c.args.octets.now c.loop-octet.octet-index c.loop-octet-test.true)

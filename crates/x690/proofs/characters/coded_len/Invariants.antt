@@ -8,5 +8,6 @@ invariant-loop-character g l =
     let octets_of = g.C.CharacterCode.octets_of in
     record {
       text : IsUtf8 (chars_rest l.character-iterator);
-      counted : l.len + length (code_of octets_of (chars (chars_rest l.character-iterator))) ≡ length (code_of octets_of (chars l.text));
+      counted : l.len + length (code_of octets_of (chars (chars_rest l.character-iterator))) ≡
+          length (code_of octets_of (chars l.text));
     }

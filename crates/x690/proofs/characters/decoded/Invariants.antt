@@ -4,7 +4,8 @@ use Rattle.x690.proofs.characters.decoded.Given as goal
 
 abbrev pub invariant-loop-character : goal.invariant-loop-character
 invariant-loop-character g l = record {
-  read : (cs : List ℕ) × AreRead g.C.CharacterCode.octets_of l.octets cs l.rest × (string_bytes l.text ≡ encode_utf8_all cs);
+  read : (cs : List ℕ) × AreRead g.C.CharacterCode.octets_of l.octets cs l.rest ×
+      (string_bytes l.text ≡ encode_utf8_all cs);
   room : l.capacity ≤ string_capacity l.text;
 }
 

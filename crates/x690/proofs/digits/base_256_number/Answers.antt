@@ -13,5 +13,6 @@ returns-then-number-ge72057594037927936-clause-none c =
     let i = c.loop-octet.octet-index in
     let left : 1 ≤ length (drop i xs) = omega (arith, length-drop i xs) in
     let p : 256 ^ 1 ≤ 256 ^ length (drop i xs) = pow-le-pow_right {n = 256} (lit≤ tt) left in
-    let m : 72057594037927936 * 256 ≤ c.loop-octet.number * 256 ^ length (drop i xs) = mul-le _ _ _ _ c.if-number-ge72057594037927936.true p in
+    let m : 72057594037927936 * 256 ≤ c.loop-octet.number * 256 ^ length (drop i xs) =
+    mul-le _ _ _ _ c.if-number-ge72057594037927936.true p in
     grind (arith, weighted_sum_front 256 xs i, m)

@@ -3,4 +3,5 @@ use Rattle.std.proofs.lemmas.Int.Digits.{length-digits_of-le}
 use Rattle.x690.proofs.digits.count_base_128.Goals as goal
 
 pub returns-clause-few : goal.returns-clause-few
-returns-clause-few c = omega (arith, c.count_digits.ensures, length-digits_of-le 128 5 c.args.number (omega arith) (omega arith))
+returns-clause-few c =
+    omega (arith, c.count_digits.ensures, length-digits_of-le 128 5 c.args.number (omega arith) (omega arith))

@@ -11,7 +11,13 @@ few base number two small =
     length-digits_of-le base 64 number two q
 
 pub overflow_add-count : goal.overflow_add-count
-overflow_add-count g c = omega (arith, c.loop-left.invariant, length-digits_of_step g.row.BASE c.loop-left.left (omega arith) (omega arith), few g.row.BASE c.args.number (omega arith) (omega arith))
+overflow_add-count g c = omega (
+  arith,
+  c.loop-left.invariant,
+  length-digits_of_step g.row.BASE c.loop-left.left (omega arith) (omega arith),
+  few g.row.BASE c.args.number (omega arith) (omega arith),
+)
 
 pub loop-left-preserved : goal.loop-left-preserved
-loop-left-preserved g c = omega (arith, c.loop-left.invariant, length-digits_of_step g.row.BASE c.loop-left.left (omega arith) (omega arith))
+loop-left-preserved g c =
+    omega (arith, c.loop-left.invariant, length-digits_of_step g.row.BASE c.loop-left.left (omega arith) (omega arith))

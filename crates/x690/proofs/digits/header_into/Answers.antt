@@ -17,9 +17,12 @@ returns-clause-written c =
     let room : b ≤ length ys = omega arith in
     both_fronts a b (take a xs) ys (post_of a (15 - a) xs) front room
     ∙ ap (λ (zs : List ℕ). zs ++ take b ys) c.write_identifier-front.ensures.written
-    ∙ ap (λ (zs : List ℕ). identifier_octets (identifier_of c.args.class c.args.constructed c.args.number) ++ zs) c.write_length.ensures.written
+    ∙ ap (λ (zs : List ℕ). identifier_octets (identifier_of c.args.class c.args.constructed c.args.number) ++ zs)
+    c.write_length.ensures.written
     ∙ sym (header_octets_are c.args.class c.args.constructed c.args.number c.args.n)
 
 pub returns-clause-kept : goal.returns-clause-kept
 returns-clause-kept c =
-    behind_both c.write_identifier-front.result c.write_length.result (15 - c.write_identifier-front.result) c.args.out.now c.write_identifier-front.new.out c.write_length.new.out (omega arith) c.write_identifier-front.ensures.kept c.write_length.ensures.kept (omega arith) (omega arith)
+    behind_both c.write_identifier-front.result c.write_length.result
+    (15 - c.write_identifier-front.result) c.args.out.now c.write_identifier-front.new.out c.write_length.new.out
+    (omega arith) c.write_identifier-front.ensures.kept c.write_length.ensures.kept (omega arith) (omega arith)

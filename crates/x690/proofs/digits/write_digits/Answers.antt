@@ -10,7 +10,9 @@ loop-place-preserved g c =
     let base = g.row.BASE in
     let p = l.place - 1 in
     let e : p + 1 ≡ l.place = omega arith in
-    let written : map (add_mark c.args.mark) (digits_of base l.left) ++ drop (p + 1) l.out ≡ map (add_mark c.args.mark) (digits_of base c.args.number) =
+    let written : map (add_mark c.args.mark) (digits_of base l.left) ++ drop (p + 1) l.out ≡
+    map (add_mark c.args.mark) (digits_of base c.args.number) =
     ap (λ n. map (add_mark c.args.mark) (digits_of base l.left) ++ drop n l.out) e ∙ l.invariant.written in
-    let s = digit_step base l.left p c.args.mark l.out (map (add_mark c.args.mark) (digits_of base c.args.number)) c.requires.base (omega arith) (e ∙ l.invariant.places) written in
+    let s = digit_step base l.left p c.args.mark l.out (map (add_mark c.args.mark) (digits_of base c.args.number))
+    c.requires.base (omega arith) (e ∙ l.invariant.places) written in
     record { within = omega (arith, length-set l.out p (c.args.mark + l.left % base)); places = s.0; written = s.1 }

@@ -5,7 +5,8 @@ use Rattle.x690.proofs.Writes.{no_mark, first_alone, after_first, behind_first}
 use Rattle.x690.proofs.digits.write_length.Goals as goal
 
 pub returns-then-n-lt128-clause-written : goal.returns-then-n-lt128-clause-written
-returns-then-n-lt128-clause-written c = first_alone c.args.out.now c.args.n (omega arith) ∙ sym (length_octets_low c.args.n c.if-n-lt128.true)
+returns-then-n-lt128-clause-written c =
+    first_alone c.args.out.now c.args.n (omega arith) ∙ sym (length_octets_low c.args.n c.if-n-lt128.true)
 
 pub returns-clause-written : goal.returns-clause-written
 returns-clause-written c =

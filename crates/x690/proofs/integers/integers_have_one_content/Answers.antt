@@ -4,4 +4,9 @@ use Rattle.x690.specs.Laws.Signed.{signed_octets_content}
 use Rattle.x690.proofs.integers.integers_have_one_content.Goals as goal
 
 pub returns : goal.returns
-returns c = record { exists = signed_octets_content; of_natural = unsigned_octets_content; no_other = integer_content_unique; one_value = integer_content_one_value }
+returns c = record {
+  exists = signed_octets_content;
+  of_natural = unsigned_octets_content;
+  no_other = integer_content_unique;
+  one_value = integer_content_one_value;
+}

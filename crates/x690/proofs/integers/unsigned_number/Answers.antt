@@ -10,11 +10,18 @@ use Rattle.x690.proofs.integers.unsigned_number.Goals as goal
 -- the first i octets say less than this
 front_below : (octets : List ℕ) (i k : ℕ) → IsOctets octets → i ≤ k → base_256_value (take i octets) < 256 ^ k
 front_below octets i k o l =
-    few_octets_value (take i octets) k (octets_front (take i octets) (drop i octets) (subst IsOctets (sym (take-append-drop i octets)) o)) (omega (arith, length-take i octets))
+    few_octets_value (take i octets) k
+    (octets_front (take i octets) (drop i octets) (subst IsOctets (sym (take-append-drop i octets)) o))
+    (omega (arith, length-take i octets))
 
 pub returns-then-digits-most-clause-none : goal.returns-then-digits-most-clause-none
 returns-then-digits-most-clause-none c =
-    omega (arith, c.fewest_digits-digits.ensures.value, no_leading_zero_value c.fewest_digits-digits.result.now c.args.most (c.fewest_digits-digits.ensures.first (omega arith)) (omega arith))
+    omega (
+      arith,
+      c.fewest_digits-digits.ensures.value,
+      no_leading_zero_value c.fewest_digits-digits.result.now c.args.most
+          (c.fewest_digits-digits.ensures.first (omega arith)) (omega arith),
+    )
 
 pub overflow_mul-number : goal.overflow_mul-number
 overflow_mul-number c =

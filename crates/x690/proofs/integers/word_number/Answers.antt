@@ -10,7 +10,9 @@ use Rattle.x690.proofs.integers.word_number.Goals as goal
 -- the first i octets say less than this
 front_below : (octets : List ℕ) (i k : ℕ) → IsOctets octets → i ≤ k → base_256_value (take i octets) < 256 ^ k
 front_below octets i k o l =
-    few_octets_value (take i octets) k (octets_front (take i octets) (drop i octets) (subst IsOctets (sym (take-append-drop i octets)) o)) (omega (arith, length-take i octets))
+    few_octets_value (take i octets) k
+    (octets_front (take i octets) (drop i octets) (subst IsOctets (sym (take-append-drop i octets)) o))
+    (omega (arith, length-take i octets))
 
 pub overflow_mul-number : goal.overflow_mul-number
 overflow_mul-number c =

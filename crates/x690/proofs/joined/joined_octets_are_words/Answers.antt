@@ -14,4 +14,5 @@ returns-clause-values g c = λ octets vs us i j. joined_same g.G.Words.Word g.G.
 
 pub returns-clause-left : goal.returns-clause-left
 returns-clause-left g c = λ input rest ws vs us a n none j.
-    ends_unjoined g.G.Words.Word g.G.Words.one input (concat ws) rest vs us a.is n none (words_joined g.G.Words.Word ws vs (concat ws) a.each refl) j
+    ends_unjoined g.G.Words.Word g.G.Words.one input (concat ws) rest vs us a.is n none
+    (words_joined g.G.Words.Word ws vs (concat ws) a.each refl) j

@@ -10,10 +10,13 @@ returns-clause-whole g c = λ input ws xs vs us a b.
     (t.0, t.1)
 
 pub returns-clause-as_many : goal.returns-clause-as_many
-returns-clause-as_many g c = λ input r s ws xs vs us a b l. as_many_words g.G.Words.Word g.G.Words.one ws xs vs us r s a.each b.each (sym a.is ∙ b.is) l
+returns-clause-as_many g c = λ input r s ws xs vs us a b l.
+    as_many_words g.G.Words.Word g.G.Words.one ws xs vs us r s a.each b.each (sym a.is ∙ b.is) l
 
 pub returns-clause-all : goal.returns-clause-all
-returns-clause-all g c = λ input r s ws xs vs us a n b m. last_words g.G.Words.Word g.G.Words.one ws xs vs us r s a.each b.each (sym a.is ∙ b.is) n m
+returns-clause-all g c = λ input r s ws xs vs us a n b m.
+    last_words g.G.Words.Word g.G.Words.one ws xs vs us r s a.each b.each (sym a.is ∙ b.is) n m
 
 pub returns-clause-more : goal.returns-clause-more
-returns-clause-more g c = λ input r s ws xs vs us a b l. words_compared g.G.Words.Word g.G.Words.one ws xs vs us r s a.each b.each (sym a.is ∙ b.is) l
+returns-clause-more g c = λ input r s ws xs vs us a b l.
+    words_compared g.G.Words.Word g.G.Words.one ws xs vs us r s a.each b.each (sym a.is ∙ b.is) l

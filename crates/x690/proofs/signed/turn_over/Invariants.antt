@@ -3,4 +3,5 @@ use Rattle.x690.specs.Signed.{complement}
 use Rattle.x690.proofs.signed.turn_over.Given as goal
 
 abbrev pub invariant-loop-octet : goal.invariant-loop-octet
-invariant-loop-octet l = l.octets ≡ map complement (take l.octet-index l.initial.octets) ++ drop l.octet-index l.initial.octets
+invariant-loop-octet l =
+    l.octets ≡ map complement (take l.octet-index l.initial.octets) ++ drop l.octet-index l.initial.octets

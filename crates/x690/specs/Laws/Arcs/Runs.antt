@@ -1,5 +1,6 @@
 -- Runs of octets that have bit 8, and pieces of nine octets at most.
-use Rattle.std.proofs.Common.{◌≡◌, ◌≢◌, ℕ, suc, zero, ◌+◌, ◌^◌, ◌<◌, ◌≤◌, Bool, true, false, List, [], ◌∷◌, cond, map, length, drop, subst, sym, arith, inl, inr}
+use Rattle.std.proofs.Common.{◌≡◌, ◌≢◌, ℕ, suc, zero, ◌+◌, ◌^◌, ◌<◌, ◌≤◌, Bool, true, false, List, [], ◌∷◌, cond, map}
+use Rattle.std.proofs.Common.{length, drop, subst, sym, arith, inl, inr}
 use Rattle.std.specs.List.{All}
 use Rattle.std.specs.Prelude.{nat_lt}
 use Rattle.std.proofs.lemmas.Bool.{cases_lt}
@@ -12,7 +13,7 @@ use Rattle.x690.specs.Arcs.{in_front, pieces_of, subidentifiers, arcs_of}
 use Rattle.x690.specs.Laws.Arcs.{last_piece, more_piece, split_but_zero}
 use Rattle.x690.specs.Laws.Arcs.Fronts.{AreBelow, below_split}
 
--- ---- runs
+-- Runs.
 
 -- how many octets in a row have bit 8, with one octet more
 abbrev pub next_run : ℕ → ℕ → ℕ
@@ -27,7 +28,7 @@ HasShortRuns run (octet ∷ octets) = (next_run run octet < 9) × HasShortRuns (
 pub no_run_more : (run i : ℕ) (octets : List ℕ) → length octets ≤ i → HasShortRuns run (drop i octets)
 no_run_more run i octets all = subst (HasShortRuns run) (sym (drop_all i octets all)) tt
 
--- ---- pieces
+-- Pieces.
 
 abbrev IsShort : List ℕ → Type 0
 IsShort piece = length piece < 10
@@ -41,7 +42,8 @@ short_after : (pieces : List (List ℕ)) → AreShortAfter 0 pieces → All IsSh
 short_after [] s = All-nil IsShort
 short_after (piece ∷ pieces) s = All-cons IsShort piece pieces (omega (arith, s.0)) s.1
 
-short_in_front : (run octet : ℕ) (pieces : List (List ℕ)) → run + 1 < 9 → AreShortAfter (run + 1) pieces → AreShortAfter run (in_front octet pieces)
+short_in_front : (run octet : ℕ) (pieces : List (List ℕ)) → run + 1 < 9 → AreShortAfter (run + 1) pieces →
+    AreShortAfter run (in_front octet pieces)
 short_in_front run octet [] few s = (omega (arith, few), All-nil IsShort)
 short_in_front run octet (piece ∷ pieces) few s = (omega (arith, s.0), s.1)
 
@@ -51,7 +53,8 @@ run_ends run octet h = grind (arith, nat_tests)
 run_goes_on : (run octet : ℕ) → 128 ≤ octet → next_run run octet ≡ run + 1
 run_goes_on run octet h = grind (arith, nat_tests)
 
-short_pieces_after : (run : ℕ) (octets : List ℕ) → run < 9 → HasShortRuns run octets → AreShortAfter run (pieces_of octets)
+short_pieces_after : (run : ℕ) (octets : List ℕ) → run < 9 → HasShortRuns run octets →
+    AreShortAfter run (pieces_of octets)
 short_pieces_after run [] few s = tt
 short_pieces_after run (octet ∷ octets) few s =
     let next = next_run run octet in
@@ -59,18 +62,22 @@ short_pieces_after run (octet ∷ octets) few s =
     elim (cases_lt octet 128) [
       | inl h ↦
           let ended = subst (λ (n : ℕ). AreShortAfter n (pieces_of octets)) (run_ends run octet h) others in
-          subst (AreShortAfter run) (sym (last_piece octet octets h)) (omega (arith, few), short_after (pieces_of octets) ended)
+          subst (AreShortAfter run) (sym (last_piece octet octets h)) (
+            omega (arith, few),
+            short_after (pieces_of octets) ended,
+          )
       | inr h ↦
           let more = run_goes_on run octet h in
           let longer = subst (λ (n : ℕ). AreShortAfter n (pieces_of octets)) more others in
-          subst (AreShortAfter run) (sym (more_piece octet octets h)) (short_in_front run octet (pieces_of octets) (omega (arith, more, s.0)) longer)
+          subst (AreShortAfter run) (sym (more_piece octet octets h))
+          (short_in_front run octet (pieces_of octets) (omega (arith, more, s.0)) longer)
     ]
 
 -- where no run gets to nine, no piece has ten octets
 pub short_pieces : (octets : List ℕ) → HasShortRuns 0 octets → All (λ piece. length piece < 10) (pieces_of octets)
 short_pieces octets s = short_after (pieces_of octets) (short_pieces_after 0 octets (omega arith) s)
 
--- ---- arcs
+-- Arcs.
 
 abbrev AreSmall : List ℕ → Type 0
 AreSmall arcs = All (λ arc. arc < 2 ^ 64) arcs
@@ -79,12 +86,15 @@ small_values : (pieces : List (List ℕ)) → All IsShort pieces → AreSmall (m
 small_values [] s = All-nil (λ n. n < 2 ^ 64)
 small_values (piece ∷ pieces) s =
     let few : length piece < 10 = s 0 [] (omega arith) in
-    All-cons (λ n. n < 2 ^ 64) (base_128_value piece) (map base_128_value pieces) (omega (arith, value_lt piece, power_le 9 (length piece) (omega (arith, few))))
+    All-cons (λ n. n < 2 ^ 64) (base_128_value piece) (map base_128_value pieces)
+    (omega (arith, value_lt piece, power_le 9 (length piece) (omega (arith, few))))
     (small_values pieces (λ k d h. s (suc k) d (omega arith)))
 
 small_below_pair : (ns : List ℕ) → AreSmall ns → AreBelow (2 ^ 64 + 80) ns
 small_below_pair [] a = tt
-small_below_pair (n ∷ ns) a = let first : n < 2 ^ 64 = a 0 0 (omega arith) in (omega (arith, first), λ k d h. a (suc k) d (omega arith))
+small_below_pair (n ∷ ns) a =
+    let first : n < 2 ^ 64 = a 0 0 (omega arith) in
+    (omega (arith, first), λ k d h. a (suc k) d (omega arith))
 
 small_split : (octets : List ℕ) → octets ≢ 0 ∷ [] → AreSmall (subidentifiers octets) → AreSmall (arcs_of false octets)
 small_split octets some a =
@@ -99,5 +109,6 @@ small_arcs false (suc octet ∷ []) a = small_split (suc octet ∷ []) (λ e. cc
 small_arcs false (octet ∷ next ∷ octets) a = small_split (octet ∷ next ∷ octets) (λ e. cc) a
 
 -- pieces of nine octets at most have arcs below 2^64
-pub short_pieces_fit : (relative : Bool) (octets : List ℕ) → All (λ piece. length piece < 10) (pieces_of octets) → All (λ arc. arc < 2 ^ 64) (arcs_of relative octets)
+pub short_pieces_fit : (relative : Bool) (octets : List ℕ) → All (λ piece. length piece < 10) (pieces_of octets) →
+    All (λ arc. arc < 2 ^ 64) (arcs_of relative octets)
 short_pieces_fit relative octets s = small_arcs relative octets (small_values (pieces_of octets) s)

@@ -1,5 +1,6 @@
 -- Octets that no element by BER, or no contents octets, begin have a fault.
-use Rattle.std.proofs.Common.{◌≡◌, ◌≢◌, ℕ, zero, suc, ◌+◌, ◌-◌, ◌≤◌, List, [], ◌∷◌, ◌++◌, length, take, drop, refl, sym, ap, ◌∙◌, arith, subst, inl, inr, ◌⊎◌, append_assoc, take-append-drop, length-append}
+use Rattle.std.proofs.Common.{◌≡◌, ◌≢◌, ℕ, zero, suc, ◌+◌, ◌-◌, ◌≤◌, List, [], ◌∷◌, ◌++◌, length, take, drop, refl, sym}
+use Rattle.std.proofs.Common.{ap, ◌∙◌, arith, subst, inl, inr, ◌⊎◌, append_assoc, take-append-drop, length-append}
 use Rattle.std.specs.List.{concat}
 use Rattle.std.proofs.lemmas.Bool.{cases_lt}
 use Rattle.std.proofs.lemmas.List.{length-take-le}
@@ -19,10 +20,12 @@ use Rattle.x690.specs.Laws.Faults.Complete.{header_or_has_fault}
 
 -- an element begins each string of octets that has no fault
 abbrev IsComplete : ℕ → Type 0
-IsComplete depth = (octets : List ℕ) → IsOctets octets → BeginsWithElement (IsElement depth) octets ⊎ HasFault (ElementFault depth) octets
+IsComplete depth = (octets : List ℕ) → IsOctets octets →
+    BeginsWithElement (IsElement depth) octets ⊎ HasFault (ElementFault depth) octets
 
 abbrev BeginsWithEnded : ℕ → List ℕ → Type 0
-BeginsWithEnded depth octets = (content : List ℕ) × (rest : List ℕ) × (headers : ℕ) × IsEndedContent depth octets content rest headers
+BeginsWithEnded depth octets =
+    (content : List ℕ) × (rest : List ℕ) × (headers : ℕ) × IsEndedContent depth octets content rest headers
 
 is_end : (word : List ℕ) → (word ≡ end_of_contents) ⊎ (word ≢ end_of_contents)
 is_end [] = inr (λ e. cc)
@@ -38,7 +41,8 @@ depth_some zero o p h a = absurd a
 depth_some (suc depth) o p h a = omega arith
 
 -- one word more in front of what is ended, or of the fault
-ended_more : (depth : ℕ) (octets word after : List ℕ) (p : Parts) (h : ℕ) → IsNestedElement depth word p h → word ≢ end_of_contents → octets ≡ word ++ after → BeginsWithEnded depth after → BeginsWithEnded depth octets
+ended_more : (depth : ℕ) (octets word after : List ℕ) (p : Parts) (h : ℕ) → IsNestedElement depth word p h →
+    word ≢ end_of_contents → octets ≡ word ++ after → BeginsWithEnded depth after → BeginsWithEnded depth octets
 ended_more depth octets word after p h a n s (content, rest, headers, c) = (
   word ++ content,
   rest,
@@ -52,7 +56,8 @@ ended_more depth octets word after p h a n s (content, rest, headers, c) = (
   },
 )
 
-end_fault_more : (depth : ℕ) (octets word after : List ℕ) (p : Parts) (h : ℕ) → IsNestedElement depth word p h → word ≢ end_of_contents → octets ≡ word ++ after → HasFault (EndFault depth) after → HasFault (EndFault depth) octets
+end_fault_more : (depth : ℕ) (octets word after : List ℕ) (p : Parts) (h : ℕ) → IsNestedElement depth word p h →
+    word ≢ end_of_contents → octets ≡ word ++ after → HasFault (EndFault depth) after → HasFault (EndFault depth) octets
 end_fault_more depth octets word after p h a n s (fault, f) = (
   fault,
   record {
@@ -65,18 +70,33 @@ end_fault_more depth octets word after p h a n s (fault, f) = (
   },
 )
 
--- where each string of octets has an element or a fault, whole elements and 00 00 begin it, or whole elements and a fault
-ended_or_fault : (depth : ℕ) → IsComplete depth → (most : ℕ) (octets : List ℕ) → IsOctets octets → length octets ≤ most → BeginsWithEnded depth octets ⊎ HasFault (EndFault depth) octets
+-- where each string of octets has an element or a fault, whole elements and 00 00 begin it,
+-- or whole elements and a fault
+ended_or_fault : (depth : ℕ) → IsComplete depth → (most : ℕ) (octets : List ℕ) → IsOctets octets →
+    length octets ≤ most → BeginsWithEnded depth octets ⊎ HasFault (EndFault depth) octets
 ended_or_fault depth complete zero octets o l = elim (complete octets o) [
   | inr f ↦ inr (f.0, record { words = []; rest = octets; headers = 0; row = refl; is = refl; why = f.1 })
-  | inl (word, after, p, (h, a), s) ↦ absurd (omega (arith, nested_element_two depth word p h a, ap length s, length-append word after))
+  | inl (word, after, p, (h, a), s) ↦
+      absurd (omega (arith, nested_element_two depth word p h a, ap length s, length-append word after))
 ]
 ended_or_fault depth complete (suc most) octets o l = elim (complete octets o) [
   | inr f ↦ inr (f.0, record { words = []; rest = octets; headers = 0; row = refl; is = refl; why = f.1 })
   | inl (word, after, p, (h, a), s) ↦ elim (is_end word) [
-    | inl e ↦ inl ([], after, 0, record { some = depth_some depth word p h a; words = []; row = refl; content_is = refl; is = s ∙ ap (λ (ys : List ℕ). ys ++ after) e })
+    | inl e ↦ inl (
+      [],
+      after,
+      0,
+      record {
+        some = depth_some depth word p h a;
+        words = [];
+        row = refl;
+        content_is = refl;
+        is = s ∙ ap (λ (ys : List ℕ). ys ++ after) e;
+      },
+    )
     | inr n ↦
-        let short : length after ≤ most = omega (arith, nested_element_two depth word p h a, ap length s, length-append word after) in
+        let short : length after ≤ most =
+        omega (arith, nested_element_two depth word p h a, ap length s, length-append word after) in
         elim (ended_or_fault depth complete most after (octets_back word after (subst IsOctets s o)) short) [
           | inl c ↦ inl (ended_more depth octets word after p h a n s c)
           | inr f ↦ inr (end_fault_more depth octets word after p h a n s f)
@@ -84,15 +104,18 @@ ended_or_fault depth complete (suc most) octets o l = elim (complete octets o) [
   ]
 ]
 
-content_behind : (depth : ℕ) → IsComplete depth → (form : LengthForm) (octets : List ℕ) → IsOctets octets → BeginsWithContent form depth octets ⊎ HasFault (ContentFault form depth) octets
+content_behind : (depth : ℕ) → IsComplete depth → (form : LengthForm) (octets : List ℕ) → IsOctets octets →
+    BeginsWithContent form depth octets ⊎ HasFault (ContentFault form depth) octets
 content_behind depth complete (definite n) octets o = elim (cases_lt (length octets) n) [
   | inl short ↦ inr (missing (n - length octets), (n - length octets, omega arith, omega arith, refl))
-  | inr there ↦ inl (take n octets, drop n octets, 0, (length-take-le n octets there, sym (take-append-drop n octets), refl))
+  | inr there ↦
+      inl (take n octets, drop n octets, 0, (length-take-le n octets there, sym (take-append-drop n octets), refl))
 ]
-content_behind depth complete indefinite octets o = elim (ended_or_fault depth complete (length octets) octets o (omega arith)) [
-  | inl (content, rest, headers, c) ↦ inl (content, rest, headers + 1, (headers, c, refl))
-  | inr f ↦ inr f
-]
+content_behind depth complete indefinite octets o =
+    elim (ended_or_fault depth complete (length octets) octets o (omega arith)) [
+      | inl (content, rest, headers, c) ↦ inl (content, rest, headers + 1, (headers, c, refl))
+      | inr f ↦ inr f
+    ]
 
 -- An element of the depth begins octets, or they have a fault.
 pub element_or_has_fault : (depth : ℕ) → IsComplete depth
@@ -107,19 +130,26 @@ element_or_has_fault (suc depth) octets o = elim (header_or_has_fault ber_rule o
       let e : depth ≡ suc depth - 1 = omega arith in
       elim (content_behind depth (element_or_has_fault depth) form after behind) [
         | inl (content, rest, headers, c) ↦
-            let m = element_made (suc depth) octets header after content rest id form headers (omega arith) behind h s (subst (λ (d : ℕ). IsContent form d after content rest headers) e c) in
+            let m = element_made (suc depth) octets header after content rest id form headers (omega arith) behind h s
+            (subst (λ (d : ℕ). IsContent form d after content rest headers) e c) in
             inl (m.0, rest, record { id = id; form = form; content = content }, (suc headers, m.1), m.2)
-        | inr f ↦ inr (f.0, content_fault_behind (suc depth) octets header after id form f.0 (omega arith) h s (subst (λ (d : ℕ). ContentFault form d after f.0) e f.1))
+        | inr f ↦ inr (
+          f.0,
+          content_fault_behind (suc depth) octets header after id form f.0 (omega arith) h s
+              (subst (λ (d : ℕ). ContentFault form d after f.0) e f.1),
+        )
       ]
 ]
 
 -- or a count of headers before it
-pub element_or_fault_headers : (depth : ℕ) (octets : List ℕ) → IsOctets octets → BeginsWithElement (IsElement depth) octets ⊎ ((headers : ℕ) × FaultHeaders depth octets headers)
+pub element_or_fault_headers : (depth : ℕ) (octets : List ℕ) → IsOctets octets →
+    BeginsWithElement (IsElement depth) octets ⊎ ((headers : ℕ) × FaultHeaders depth octets headers)
 element_or_fault_headers depth octets o = elim (element_or_has_fault depth octets o) [
   | inl w ↦ inl w
   | inr f ↦ inr (fault_has_headers depth octets f.0 f.1)
 ]
 
 -- Contents octets of a form begin octets, or they have a fault.
-pub content_or_has_fault : (form : LengthForm) (depth : ℕ) (octets : List ℕ) → IsOctets octets → BeginsWithContent form depth octets ⊎ HasFault (ContentFault form depth) octets
+pub content_or_has_fault : (form : LengthForm) (depth : ℕ) (octets : List ℕ) → IsOctets octets →
+    BeginsWithContent form depth octets ⊎ HasFault (ContentFault form depth) octets
 content_or_has_fault form depth octets o = content_behind depth (element_or_has_fault depth) form octets o

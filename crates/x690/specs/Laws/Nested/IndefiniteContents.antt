@@ -6,7 +6,9 @@ use Rattle.x690.specs.Elements.{Parts}
 use Rattle.x690.specs.Nested.{IsRow, IsWord, IsNestedElement}
 
 -- They are the joining of whole elements of a lesser depth.
-pub indefinite_is_row : (depth : ℕ) (o : List ℕ) (p : Parts) (h : ℕ) → p.form ≡ indefinite → IsNestedElement depth o p h → (within : ℕ) × (words : List (List ℕ)) × (inner : ℕ) × (within ≤ depth) × IsRow (IsWord within) words inner × (p.content ≡ concat words)
+pub indefinite_is_row : (depth : ℕ) (o : List ℕ) (p : Parts) (h : ℕ) → p.form ≡ indefinite →
+    IsNestedElement depth o p h → (within : ℕ) × (words : List (List ℕ)) × (inner : ℕ) × (within ≤ depth) ×
+    IsRow (IsWord within) words inner × (p.content ≡ concat words)
 unfolding IsNestedElement
 indefinite_is_row zero o p h f n = absurd n
 indefinite_is_row (suc depth) o p h f (inl (d, c)) = cc

@@ -1,10 +1,12 @@
 -- A text that says a time has octets from 20 to 7f alone.
-use Rattle.std.proofs.Common.{◌≡◌, ◌⊎◌, ℕ, zero, suc, ◌+◌, ◌/◌, ◌%◌, ◌<◌, Bool, true, false, List, [], ◌∷◌, ◌++◌, inl, inr, Option, Some, None, IsTrue, refl, subst, sym, arith}
+use Rattle.std.proofs.Common.{◌≡◌, ◌⊎◌, ℕ, zero, suc, ◌+◌, ◌/◌, ◌%◌, ◌<◌, Bool, true, false, List, [], ◌∷◌, ◌++◌, inl}
+use Rattle.std.proofs.Common.{inr, Option, Some, None, IsTrue, refl, subst, sym, arith}
 use Rattle.std.specs.List.{list_all}
 use Rattle.std.proofs.lemmas.Bool.Decides.{nat_tests}
 use Rattle.std.proofs.lemmas.List.Folds.{list_all-append}
 use Rattle.x690.specs.Sets.{AllIn, is_visible}
-use Rattle.x690.specs.Times.{digits, z_text, to_minute, SaysOffset, SaysZone, SaysZoneOrNone, SaysFraction, SaysMinutes, SaysUtcEnd, SaysGeneralizedEnd, SaysTime, SaysUtcTime, SaysGeneralizedTime}
+use Rattle.x690.specs.Times.{digits, z_text, to_minute, SaysOffset, SaysZone, SaysZoneOrNone, SaysFraction, SaysMinutes}
+use Rattle.x690.specs.Times.{SaysUtcEnd, SaysGeneralizedEnd, SaysTime, SaysUtcTime, SaysGeneralizedTime}
 use Rattle.x690.specs.declared.times.Moment.{Moment}
 use Rattle.x690.specs.declared.times.TimeZone.{TimeZone}
 
@@ -19,7 +21,8 @@ both x y a b = rw (list_all-append, a) b
 
 digits_visible : (width n : ℕ) → AreVisible (digits width n)
 digits_visible zero n = refl
-digits_visible (suc width) n = both (digits width (n / 10)) ((48 + n % 10) ∷ []) (digits_visible width (n / 10)) (simp digit_visible)
+digits_visible (suc width) n =
+    both (digits width (n / 10)) ((48 + n % 10) ∷ []) (digits_visible width (n / 10)) (simp digit_visible)
 
 to_minute_visible : (m : Moment) → AreVisible (to_minute m)
 to_minute_visible m =
@@ -29,8 +32,10 @@ to_minute_visible m =
 
 zone_visible : (text : List ℕ) (zone : TimeZone) → SaysZone text zone → AreVisible text
 zone_visible text zone (inl a) = subst AreVisible (sym a.0) refl
-zone_visible text zone (inr (hours, minutes, h, m, inl a)) = subst AreVisible (sym a.0) (both (digits 2 hours) (digits 2 minutes) (digits_visible 2 hours) (digits_visible 2 minutes))
-zone_visible text zone (inr (hours, minutes, h, m, inr a)) = subst AreVisible (sym a.0) (both (digits 2 hours) (digits 2 minutes) (digits_visible 2 hours) (digits_visible 2 minutes))
+zone_visible text zone (inr (hours, minutes, h, m, inl a)) = subst AreVisible (sym a.0)
+    (both (digits 2 hours) (digits 2 minutes) (digits_visible 2 hours) (digits_visible 2 minutes))
+zone_visible text zone (inr (hours, minutes, h, m, inr a)) = subst AreVisible (sym a.0)
+    (both (digits 2 hours) (digits 2 minutes) (digits_visible 2 hours) (digits_visible 2 minutes))
 
 zone_or_none_visible : (text : List ℕ) (zone : TimeZone) → SaysZoneOrNone text zone → AreVisible text
 zone_or_none_visible text zone (inl a) = subst AreVisible (sym a.0) refl
@@ -46,19 +51,26 @@ minutes_visible text m s = subst AreVisible (sym s.text_is) refl
 
 utc_end_visible : (text : List ℕ) (m : Moment) → SaysUtcEnd text m → AreVisible text
 utc_end_visible text m (inl a) = minutes_visible text m a
-utc_end_visible text m (inr (zone, t, z, n)) = subst AreVisible (sym t) (both (digits 2 m.second) zone (digits_visible 2 m.second) (zone_visible zone m.zone z))
+utc_end_visible text m (inr (zone, t, z, n)) =
+    subst AreVisible (sym t) (both (digits 2 m.second) zone (digits_visible 2 m.second) (zone_visible zone m.zone z))
 
 generalized_end_visible : (text : List ℕ) (m : Moment) → SaysGeneralizedEnd text m → AreVisible text
 generalized_end_visible text m (inl a) = minutes_visible text m a
 generalized_end_visible text m (inr (fraction, zone, t, f, z)) = subst AreVisible (sym t)
-    (both (digits 2 m.second) (fraction ++ zone) (digits_visible 2 m.second) (both fraction zone (fraction_visible fraction m.millisecond f) (zone_or_none_visible zone m.zone z)))
+    (both (digits 2 m.second) (fraction ++ zone) (digits_visible 2 m.second)
+    (both fraction zone (fraction_visible fraction m.millisecond f) (zone_or_none_visible zone m.zone z)))
 
-time_visible : (width : ℕ) (SaysEnd : List ℕ → Moment → Type 0) → ((text : List ℕ) (m : Moment) → SaysEnd text m → AreVisible text) → (text : List ℕ) (m : Moment) → SaysTime width SaysEnd text m → AreVisible text
+time_visible : (width : ℕ) (SaysEnd : List ℕ → Moment → Type 0) →
+    ((text : List ℕ) (m : Moment) → SaysEnd text m → AreVisible text) → (text : List ℕ) (m : Moment) →
+    SaysTime width SaysEnd text m → AreVisible text
 time_visible width SaysEnd ends text m s = subst AreVisible (sym s.text_is)
-    (both (digits width m.year ++ to_minute m) s.end (both (digits width m.year) (to_minute m) (digits_visible width m.year) (to_minute_visible m)) (ends s.end m s.says))
+    (both (digits width m.year ++ to_minute m) s.end (both (digits width m.year) (to_minute m)
+    (digits_visible width m.year) (to_minute_visible m)) (ends s.end m s.says))
 
+-- A text that says a UTCTime is visible characters.
 pub utc_said_visible : (text : List ℕ) (m : Moment) → SaysUtcTime text m → AllIn is_visible text
 utc_said_visible = time_visible 2 SaysUtcEnd utc_end_visible
 
+-- So is one that says a GeneralizedTime.
 pub generalized_said_visible : (text : List ℕ) (m : Moment) → SaysGeneralizedTime text m → AllIn is_visible text
 generalized_said_visible = time_visible 4 SaysGeneralizedEnd generalized_end_visible

@@ -12,8 +12,12 @@ returns-in_err-rest c =
 
 pub returns-in-Definite : goal.returns-in-Definite
 returns-in-Definite c =
-    begins_made der_rule der_takes c.args.bytes.now c.in_ok-rest.rest.now c.in_ok-rest.identifier c.in_ok-rest.length c.with_length.result c.in_ok-rest.ensures.ok c.with_length.ensures (der_form_allowed (id_read c.in_ok-rest.identifier) c.in_ok-rest.length (λ e. cc (c.in-Definite.is)))
+    begins_made der_rule der_takes c.args.bytes.now c.in_ok-rest.rest.now c.in_ok-rest.identifier c.in_ok-rest.length
+    c.with_length.result c.in_ok-rest.ensures.ok c.with_length.ensures
+    (der_form_allowed (id_read c.in_ok-rest.identifier) c.in_ok-rest.length (λ e. cc (c.in-Definite.is)))
 
 pub returns-in-Indefinite : goal.returns-in-Indefinite
 returns-in-Indefinite c =
-    rw c.indefinite_length.ensures (indefinite_refused der_rule der_takes der_breach c.args.bytes.now c.in_ok-rest.rest.now c.in_ok-rest.identifier c.in_ok-rest.length c.in_ok-rest.ensures.ok c.in-Indefinite.is refl)
+    rw c.indefinite_length.ensures
+    (indefinite_refused der_rule der_takes der_breach c.args.bytes.now c.in_ok-rest.rest.now c.in_ok-rest.identifier
+    c.in_ok-rest.length c.in_ok-rest.ensures.ok c.in-Indefinite.is refl)

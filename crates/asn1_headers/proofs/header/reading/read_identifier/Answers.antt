@@ -15,7 +15,8 @@ returns-in-None-clause-err c =
       tag_fault,
       (
         λ e. let l = ap length e in omega arith,
-        no_identifier bytes _ _ _ _ c.first_octet-class.ensures.low c.if-low-lt31.false c.first_octet-class.ensures.sum (take_rest bytes 1) c.in-None.ensures.none,
+        no_identifier bytes _ _ _ _ c.first_octet-class.ensures.low c.if-low-lt31.false c.first_octet-class.ensures.sum
+            (take_rest bytes 1) c.in-None.ensures.none,
       ),
       refl,
     )

@@ -10,26 +10,52 @@ returns-in_default-clause-err c = λ at. (missing 1, no_length c.args.bytes.now 
 
 pub returns-in-0-to-127-clause-ok : goal.returns-in-0-to-127-clause-ok
 returns-in-0-to-127-clause-ok c =
-    let n = c.from.result in
-    (n ∷ [], inl (omega arith, refl), first_split c.args.bytes.now _ c.in-len1-up.len_at_least refl ∙ ap (λ k. k ∷ take (length c.args.bytes.now - 1) (drop 1 c.args.bytes.now)) (sym c.from.ensures))
+    let n = c.from.result in (
+      n ∷ [],
+      inl (omega arith, refl),
+      first_split c.args.bytes.now _ c.in-len1-up.len_at_least refl
+          ∙ ap (λ k. k ∷ take (length c.args.bytes.now - 1) (drop 1 c.args.bytes.now)) (sym c.from.ensures),
+    )
 
 pub returns-then-rest-count-clause-err : goal.returns-then-rest-count-clause-err
 returns-then-rest-count-clause-err c =
     let rest = take (length c.args.bytes.now - 1) (drop 1 c.args.bytes.now) in
     let count = c.from-count.result in
     let e = first_split c.args.bytes.now rest c.in-len1-up.len_at_least refl in
-    λ at. (missing (count - length rest), cut_length c.args.bytes.now rest count (count - length rest) e (omega arith) (omega (arith, c.type_inv.bytes 0)) (omega arith) (omega arith), refl)
+    λ at. (
+      missing (count - length rest),
+      cut_length c.args.bytes.now rest count (count - length rest) e (omega arith) (omega (arith, c.type_inv.bytes 0))
+          (omega arith) (omega arith),
+      refl,
+    )
 
-parts : (c : After-base_256_number) → (length c.split_at.result.0.now ≡ c.from-count.result) × (c.args.bytes.now ≡ (128 + length c.split_at.result.0.now) ∷ (c.split_at.result.0.now ++ c.split_at.result.1.now))
-parts c = long_split c.args.bytes.now _ _ _ c.from-count.result c.in-len1-up.len_at_least refl c.split_at.ensures.front c.split_at.ensures.back c.if-rest-count.false (omega arith)
+parts : (c : After-base_256_number) → (length c.split_at.result.0.now ≡ c.from-count.result) ×
+    (c.args.bytes.now ≡ (128 + length c.split_at.result.0.now) ∷ (c.split_at.result.0.now ++ c.split_at.result.1.now))
+parts c = long_split c.args.bytes.now _ _ _ c.from-count.result c.in-len1-up.len_at_least refl c.split_at.ensures.front
+    c.split_at.ensures.back c.if-rest-count.false (omega arith)
 
 pub returns-in-Some-clause-ok : goal.returns-in-Some-clause-ok
 returns-in-Some-clause-ok c =
     let p = parts ((goal.at.returns-in-Some-clause-ok c).After-base_256_number) in
-    let octets = long_octets c.args.bytes.now c.split_at.result.0.now c.split_at.result.1.now _ (λ k. omega (arith, c.type_inv.bytes k)) p.1 in
-    ((128 + length c.split_at.result.0.now) ∷ c.split_at.result.0.now, inr (omega arith, omega (arith, c.type_inv.bytes 0), refl, octets, sym c.in-Some.ensures.some, omega arith), p.1)
+    let octets = long_octets c.args.bytes.now c.split_at.result.0.now c.split_at.result.1.now _
+    (λ k. omega (arith, c.type_inv.bytes k)) p.1 in (
+      (128 + length c.split_at.result.0.now) ∷ c.split_at.result.0.now,
+      inr (omega arith, omega (arith, c.type_inv.bytes 0), refl, octets, sym c.in-Some.ensures.some, omega arith),
+      p.1,
+    )
 
 pub returns-in-None-clause-err : goal.returns-in-None-clause-err
 returns-in-None-clause-err c =
     let p = parts ((goal.at.returns-in-None-clause-err c).After-base_256_number) in
-    λ at. (length_fault, inr (c.split_at.result.0.now, c.split_at.result.1.now, omega arith, omega (arith, c.type_inv.bytes 0), p.1, c.in-None.ensures.none), refl)
+    λ at. (
+      length_fault,
+      inr (
+        c.split_at.result.0.now,
+        c.split_at.result.1.now,
+        omega arith,
+        omega (arith, c.type_inv.bytes 0),
+        p.1,
+        c.in-None.ensures.none,
+      ),
+      refl,
+    )

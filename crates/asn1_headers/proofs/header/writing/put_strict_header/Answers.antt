@@ -16,5 +16,7 @@ returns-in-Definite-clause-wrote g c =
     let length = ap (λ l. length_form_octets (form_of l)) c.length.ensures in
     let definite = ap (λ l. length_form_octets (form_of l)) c.in-Definite.is in
     let all = header_octets_are c.number.result c.constructed-constructed.result c.tag-tag.result.0 c.in-Definite.len in
-    let same : header_octets c.number.result c.constructed-constructed.result c.tag-tag.result.0 c.in-Definite.len ≡ strict_header c.args.header.now = cc in
-    subst (λ octets. Wrote octets (g.W.DerWrite.state c.args.w.now) (g.W.DerWrite.state c.put_header.new.w) c.put_header.result) same c.put_header.ensures.wrote
+    let same : header_octets c.number.result c.constructed-constructed.result c.tag-tag.result.0 c.in-Definite.len ≡
+    strict_header c.args.header.now = cc in
+    subst (λ octets. Wrote octets (g.W.DerWrite.state c.args.w.now)
+    (g.W.DerWrite.state c.put_header.new.w) c.put_header.result) same c.put_header.ensures.wrote

@@ -12,7 +12,8 @@ returns-then-unused_bits-le7 c =
     let last : c.in-Some.octet.now ≡ get_or octets (length octets - 1) 0 = item.4 (omega arith) 0 in
     let small : get_or octets (length octets - 1) 0 < 256 = omega (arith, c.type_inv.octets (length octets - 1)) in
     let zeros = zero_unused unused octets item.3.0 c.if-unused_bits-le7.true small in
-    let same : trailing_zeros w8 (get_or octets (length octets - 1) 0) ≡ trailing_zeros w8 c.in-Some.octet.now = ap (trailing_zeros w8) (sym last) in
+    let same : trailing_zeros w8 (get_or octets (length octets - 1) 0) ≡ trailing_zeros w8 c.in-Some.octet.now =
+    ap (trailing_zeros w8) (sym last) in
     let from : c.from.result ≡ unused = c.from.ensures in (
       λ h.
           let enough = leb-true _ _ h in

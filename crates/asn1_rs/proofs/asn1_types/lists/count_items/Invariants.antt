@@ -7,5 +7,7 @@ use Rattle.asn1_rs.proofs.asn1_types.lists.count_items.Given as goal
 abbrev pub invariant-loop-item : goal.invariant-loop-item
 invariant-loop-item g l =
     (goal.iterator-loop-item g).can_next l.item-iterator × (goal.iterator-loop-item g).is_finite l.item-iterator
-    × ((xs : List _) → GivesItems g.I.Iterator.next_gives g.R.Deref.deref_gives l.fn.items xs → All g.T.ToDer.writing.tells xs →
-    (l.total ≡ length (flat_map (whole_octets g.T.ToDer.writing) (take (length l.yielded) xs))) × All (λ x. HasNone (g.T.ToDer.writing.count_refuses x)) (take (length l.yielded) xs))
+    × ((xs : List _) → GivesItems g.I.Iterator.next_gives g.R.Deref.deref_gives l.fn.items xs →
+    All g.T.ToDer.writing.tells xs →
+    (l.total ≡ length (flat_map (whole_octets g.T.ToDer.writing) (take (length l.yielded) xs))) ×
+    All (λ x. HasNone (g.T.ToDer.writing.count_refuses x)) (take (length l.yielded) xs))

@@ -10,10 +10,15 @@ loop-item-preserved g c = (
   (c.in-Some.ensures.goes.on c.loop-item.invariant.1).0,
   (c.in-Some.ensures.goes.on c.loop-item.invariant.1).1,
   λ xs i.
-      let at = item_given i c.into_iter-item-iterator.result c.loop-item.item-iterator c.next.new.self c.into_iter-item-iterator.ensures.into_iter_gives c.loop-item.yielded c.loop-item.yielded_by c.next.result c.next.ensures.steps c.in-Some.item c.in-Some.is c.deref.result.now c.deref.ensures in
-      rw (one_longer c.loop-item.yielded c.in-Some.item) (All-more g.P.States.says xs (length c.loop-item.yielded) c.deref.result.now at.0 (c.loop-item.invariant.2 xs i) (subst g.P.States.says at.1 c.state.ensures)),
+      let at = item_given i c.into_iter-item-iterator.result c.loop-item.item-iterator c.next.new.self
+      c.into_iter-item-iterator.ensures.into_iter_gives c.loop-item.yielded c.loop-item.yielded_by c.next.result
+      c.next.ensures.steps c.in-Some.item c.in-Some.is c.deref.result.now c.deref.ensures in
+      rw (one_longer c.loop-item.yielded c.in-Some.item) (All-more g.P.States.says xs (length c.loop-item.yielded)
+      c.deref.result.now at.0 (c.loop-item.invariant.2 xs i) (subst g.P.States.says at.1 c.state.ensures)),
 )
 
 pub returns : goal.returns
 returns g c = λ xs i.
-    subst (All g.P.States.says) (take_all (length c.loop-item.yielded) xs (all_given i c.into_iter-item-iterator.result c.loop-item.item-iterator c.next.new.self c.into_iter-item-iterator.ensures.into_iter_gives c.loop-item.yielded c.loop-item.yielded_by c.next.result c.next.ensures.steps c.in-None.is)) (c.loop-item.invariant.2 xs i)
+    subst (All g.P.States.says) (take_all (length c.loop-item.yielded) xs (all_given i c.into_iter-item-iterator.result
+    c.loop-item.item-iterator c.next.new.self c.into_iter-item-iterator.ensures.into_iter_gives c.loop-item.yielded
+    c.loop-item.yielded_by c.next.result c.next.ensures.steps c.in-None.is)) (c.loop-item.invariant.2 xs i)

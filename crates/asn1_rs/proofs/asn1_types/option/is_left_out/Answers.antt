@@ -6,7 +6,12 @@ use Rattle.asn1_rs.specs.Laws.Optional.{read_tells, refusal_tells}
 use Rattle.asn1_rs.proofs.asn1_types.option.is_left_out.Goals as goal
 
 pub returns-in-Ok : goal.returns-in-Ok
-returns-in-Ok c = λ rule refuses g. read_tells rule refuses c.args.octets.now (c.in-Ok.field-0-0.now, c.in-Ok.header) c.tag.result.0 c.args.tag.0 (ap (λ (t : Tag). t.0) c.tag.ensures) (subst (λ r. HeaderGives rule (refusal_of refuses) c.args.octets.now (seen r)) c.in-Ok.is g)
+returns-in-Ok c = λ rule refuses g. read_tells rule refuses c.args.octets.now (
+  c.in-Ok.field-0-0.now,
+  c.in-Ok.header,
+) c.tag.result.0 c.args.tag.0 (ap (λ (t : Tag). t.0) c.tag.ensures)
+    (subst (λ r. HeaderGives rule (refusal_of refuses) c.args.octets.now (seen r)) c.in-Ok.is g)
 
 pub returns : goal.returns
-returns c = λ rule refuses g. rw c.is_empty.ensures (refusal_tells rule refuses c.args.octets.now c.in-Err.field-0 c.args.tag.0 (subst (λ r. HeaderGives rule (refusal_of refuses) c.args.octets.now (seen r)) c.in-Err.is g))
+returns c = λ rule refuses g. rw c.is_empty.ensures (refusal_tells rule refuses c.args.octets.now c.in-Err.field-0
+    c.args.tag.0 (subst (λ r. HeaderGives rule (refusal_of refuses) c.args.octets.now (seen r)) c.in-Err.is g))

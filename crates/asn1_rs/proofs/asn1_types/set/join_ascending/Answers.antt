@@ -11,7 +11,8 @@ pub returns : goal.returns
 returns c = λ strings e.
     let all : c.loop-piece.content.items ≡ flat_map (λ s. s.now) c.arrange.new.strings = grind (arith, common_steps) in
     let given = c.in_ok-pieces.ensures strings e in
-    let same = subst (λ (xs : List (Bor (List ℕ))). map (λ s. s.now) xs ≡ strings) (sym c.deref_mut.ensures.value) given in
+    let same =
+    subst (λ (xs : List (Bor (List ℕ))). map (λ s. s.now) xs ≡ strings) (sym c.deref_mut.ensures.value) given in
     all ∙ sym (joined_flat (λ s. s.now) c.arrange.new.strings)
     ∙ ap concat c.arrange.ensures
     ∙ ap (λ strings. concat (arranged strings)) same

@@ -4,4 +4,5 @@ use Rattle.asn1_rs.specs.Lists.{ArePacked}
 use Rattle.asn1_rs.proofs.asn1_types.set.pieces_of.Given as goal
 
 abbrev pub invariant-loop-length : goal.invariant-loop-length
-invariant-loop-length l = (strings : List (List ℕ)) → ArePacked strings l.encodings → (map (λ s. s.now) l.pieces.items ≡ take l.length-index strings) × (l.rest ≡ concat (drop l.length-index strings))
+invariant-loop-length l = (strings : List (List ℕ)) → ArePacked strings l.encodings →
+    (map (λ s. s.now) l.pieces.items ≡ take l.length-index strings) × (l.rest ≡ concat (drop l.length-index strings))

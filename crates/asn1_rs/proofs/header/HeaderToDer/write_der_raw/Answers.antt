@@ -5,4 +5,6 @@ use Rattle.asn1_rs.proofs.Writing.{only_may}
 use Rattle.asn1_rs.proofs.header.HeaderToDer.write_der_raw.Goals as goal
 
 pub returns-in-None-clause-refused : goal.returns-in-None-clause-refused
-returns-in-None-clause-refused g c = λ none. only_may c.put_strict_header.result false (length (strict_header c.args.self.now ++ [])) (Either (λ _. ⊥) (λ _. ⊥)) (c.put_strict_header.ensures.failed false _)
+returns-in-None-clause-refused g c =
+    λ none. only_may c.put_strict_header.result false (length (strict_header c.args.self.now ++ []))
+    (Either (λ _. ⊥) (λ _. ⊥)) (c.put_strict_header.ensures.failed false _)

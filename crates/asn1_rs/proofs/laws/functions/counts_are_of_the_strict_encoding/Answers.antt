@@ -5,8 +5,12 @@ pub returns : goal.returns
 returns g c = record {
   tells = g.met.T.LawfulWrite.lawful_writing.tells_all;
   by_value = g.met.T.LawfulWrite.lawful_writing.by_value;
-  strict = der_strict g.T.Grammar.grammar.value g.T.Grammar.grammar.IsDer g.T.Grammar.grammar.Form g.T.ToDer.writing g.met.T.LawfulWrite.lawful_writing.form g.met.T.LawfulWrite.lawful_writing.der_form g.met.T.LawfulItem.lawful_item.form_fits;
+  strict = der_strict g.T.Grammar.grammar.value g.T.Grammar.grammar.IsDer g.T.Grammar.grammar.Form g.T.ToDer.writing
+      g.met.T.LawfulWrite.lawful_writing.form g.met.T.LawfulWrite.lawful_writing.der_form
+      g.met.T.LawfulItem.lawful_item.form_fits;
   writable = g.met.T.LawfulWrite.lawful_writing.der_writable;
-  written = strict_written g.T.Grammar.grammar.value g.T.Grammar.grammar.Form g.T.ToDer.writing g.met.T.LawfulWrite.lawful_writing.form;
-  counted = strict_counted g.T.Grammar.grammar.value g.T.Grammar.grammar.Form g.T.ToDer.writing g.met.T.LawfulWrite.lawful_writing.form;
+  written = strict_written g.T.Grammar.grammar.value g.T.Grammar.grammar.Form g.T.ToDer.writing
+      g.met.T.LawfulWrite.lawful_writing.form;
+  counted = strict_counted g.T.Grammar.grammar.value g.T.Grammar.grammar.Form g.T.ToDer.writing
+      g.met.T.LawfulWrite.lawful_writing.form;
 }

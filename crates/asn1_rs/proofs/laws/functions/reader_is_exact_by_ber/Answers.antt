@@ -10,13 +10,17 @@ returns-clause-exact g c = (g.met.T.LawfulBer c.lifetimes (search rules)).ber_ex
 
 pub returns-clause-back : goal.returns-clause-back
 returns-clause-back g c = λ input answer v w rest o gives s e.
-    read_back EndsWithin g.T.Grammar.grammar.Form (ber_words g.T.Grammar.grammar) g.T.Grammar.grammar.value _ (strict_ber g.T.Grammar.grammar g.met.T.LawfulItem.lawful_item) (ber_one g.T.Grammar.grammar g.met.T.LawfulItem.lawful_item) input answer
+    read_back EndsWithin g.T.Grammar.grammar.Form (ber_words g.T.Grammar.grammar) g.T.Grammar.grammar.value _
+    (strict_ber g.T.Grammar.grammar g.met.T.LawfulItem.lawful_item)
+    (ber_one g.T.Grammar.grammar g.met.T.LawfulItem.lawful_item) input answer
     ((g.met.T.LawfulBer c.lifetimes (search rules)).ber_exact input answer o gives) v w rest s e
 
 pub returns-clause-beginning : goal.returns-clause-beginning
 returns-clause-beginning g c = λ input answer more word rest v o gives d e l.
-    word_beginning_is_refused EndsWithin (ber_words g.T.Grammar.grammar) g.T.Grammar.grammar.value _ (ber_one g.T.Grammar.grammar g.met.T.LawfulItem.lawful_item) input answer
+    word_beginning_is_refused EndsWithin (ber_words g.T.Grammar.grammar) g.T.Grammar.grammar.value _
+    (ber_one g.T.Grammar.grammar g.met.T.LawfulItem.lawful_item) input answer
     ((g.met.T.LawfulBer c.lifetimes (search rules)).ber_exact input answer o gives) more word rest v d e l
 
 pub returns-clause-spares : goal.returns-clause-spares
-returns-clause-spares g c = λ input answer none gives. (g.met.T.LawfulBer c.lifetimes (search rules)).ber_spares none input answer gives
+returns-clause-spares g c =
+    λ input answer none gives. (g.met.T.LawfulBer c.lifetimes (search rules)).ber_spares none input answer gives

@@ -9,13 +9,16 @@ returns-clause-exact g c = (g.met.T.LawfulDer c.lifetimes (search rules)).der_ex
 
 pub returns-clause-back : goal.returns-clause-back
 returns-clause-back g c = λ input answer v w rest o gives s e.
-    read_back IsCutIdentifier g.T.Grammar.grammar.Form g.T.Grammar.grammar.Der g.T.Grammar.grammar.value _ g.met.T.LawfulItem.lawful_item.strict_der g.met.T.LawfulItem.lawful_item.der_one input answer
+    read_back IsCutIdentifier g.T.Grammar.grammar.Form g.T.Grammar.grammar.Der g.T.Grammar.grammar.value _
+    g.met.T.LawfulItem.lawful_item.strict_der g.met.T.LawfulItem.lawful_item.der_one input answer
     ((g.met.T.LawfulDer c.lifetimes (search rules)).der_exact input answer o gives) v w rest s e
 
 pub returns-clause-beginning : goal.returns-clause-beginning
 returns-clause-beginning g c = λ input answer more word rest v o gives d e l.
-    word_beginning_is_refused IsCutIdentifier g.T.Grammar.grammar.Der g.T.Grammar.grammar.value _ g.met.T.LawfulItem.lawful_item.der_one input answer
+    word_beginning_is_refused IsCutIdentifier g.T.Grammar.grammar.Der g.T.Grammar.grammar.value _
+    g.met.T.LawfulItem.lawful_item.der_one input answer
     ((g.met.T.LawfulDer c.lifetimes (search rules)).der_exact input answer o gives) more word rest v d e l
 
 pub returns-clause-spares : goal.returns-clause-spares
-returns-clause-spares g c = λ input answer none gives. (g.met.T.LawfulDer c.lifetimes (search rules)).der_spares none input answer gives
+returns-clause-spares g c =
+    λ input answer none gives. (g.met.T.LawfulDer c.lifetimes (search rules)).der_spares none input answer gives

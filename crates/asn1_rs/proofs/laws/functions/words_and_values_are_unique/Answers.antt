@@ -11,7 +11,11 @@ returns g c = record {
   der_front = one_front g.T.Grammar.grammar.Der g.met.T.LawfulItem.lawful_item.der_one;
   ber_some = (ber_one g.T.Grammar.grammar g.met.T.LawfulItem.lawful_item).some;
   der_some = g.met.T.LawfulItem.lawful_item.der_one.some;
-  strict_word = λ v o s. ((strict_ber g.T.Grammar.grammar g.met.T.LawfulItem.lawful_item) v o s, g.met.T.LawfulItem.lawful_item.strict_der v o s);
+  strict_word = λ v o s. (
+    (strict_ber g.T.Grammar.grammar g.met.T.LawfulItem.lawful_item) v o s,
+    g.met.T.LawfulItem.lawful_item.strict_der v o s,
+  );
   strict = one_strict g.T.Grammar.grammar.Form g.met.T.LawfulItem.lawful_item.one_form;
-  apart = λ o p r s v w x y e. strict_apart g.T.Grammar.grammar.Form g.met.T.LawfulItem.lawful_item.one_value v w o p r s x y e;
+  apart = λ o p r s v w x y e.
+      strict_apart g.T.Grammar.grammar.Form g.met.T.LawfulItem.lawful_item.one_value v w o p r s x y e;
 }

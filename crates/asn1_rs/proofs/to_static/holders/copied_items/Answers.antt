@@ -9,5 +9,7 @@ loop-item-preserved g c =
     let items = c.args.items.now in
     let one : i + 1 ≡ suc i = omega arith in
     let next : take (i + 1) items ≡ take i items ++ c.item-item.result ∷ [] =
-    ap (λ (n : ℕ). take n items) one ∙ take-suc items i c.item-item.result c.loop-item-test.true ∙ ap (λ x. take i items ++ x ∷ []) (sym c.item-item.is) in
-    rw (next, c.in-Ok.ensures.items) (zip_push g.T.ToStatic.copies (take i items) c.loop-item.copies.items c.item-item.result c.in_ok-copy.copy c.loop-item.invariant c.in_ok-copy.ensures.copied)
+    ap (λ (n : ℕ). take n items) one ∙ take-suc items i c.item-item.result c.loop-item-test.true
+    ∙ ap (λ x. take i items ++ x ∷ []) (sym c.item-item.is) in
+    rw (next, c.in-Ok.ensures.items) (zip_push g.T.ToStatic.copies (take i items) c.loop-item.copies.items
+    c.item-item.result c.in_ok-copy.copy c.loop-item.invariant c.in_ok-copy.ensures.copied)

@@ -18,15 +18,19 @@ returns-in_err-rest-clause-back c =
     rw (p.1, p.2) (λ x rest b. refused_alone octets r x rest (element_refused octets r c.in_err-rest.ensures.exact) b)
 
 pub returns-in-Ok-clause-begins : goal.returns-in-Ok-clause-begins
-returns-in-Ok-clause-begins c = principal_begins c.args.octets.now c.in_ok-rest.rest.now c.in_ok-rest.sequence c.in-Ok.principal c.in_ok-rest.ensures.exact c.in-Ok.ensures.parts
+returns-in-Ok-clause-begins c = principal_begins c.args.octets.now c.in_ok-rest.rest.now c.in_ok-rest.sequence
+    c.in-Ok.principal c.in_ok-rest.ensures.exact c.in-Ok.ensures.parts
 
 pub returns-in-Ok-clause-back : goal.returns-in-Ok-clause-back
 returns-in-Ok-clause-back c = λ x rest b.
-    begins_one c.args.octets.now x c.in-Ok.principal rest c.in_ok-rest.rest.now b (principal_begins c.args.octets.now c.in_ok-rest.rest.now c.in_ok-rest.sequence c.in-Ok.principal c.in_ok-rest.ensures.exact c.in-Ok.ensures.parts)
+    begins_one c.args.octets.now x c.in-Ok.principal rest c.in_ok-rest.rest.now b (principal_begins c.args.octets.now
+    c.in_ok-rest.rest.now c.in_ok-rest.sequence c.in-Ok.principal c.in_ok-rest.ensures.exact c.in-Ok.ensures.parts)
 
 pub returns-clause-refused : goal.returns-clause-refused
-returns-clause-refused c = parts_refused c.args.octets.now c.in_ok-rest.rest.now c.in_ok-rest.sequence c.in-Err.e c.in_ok-rest.ensures.exact c.in-Err.ensures.refused
+returns-clause-refused c = parts_refused c.args.octets.now c.in_ok-rest.rest.now c.in_ok-rest.sequence c.in-Err.e
+    c.in_ok-rest.ensures.exact c.in-Err.ensures.refused
 
 pub returns-clause-back : goal.returns-clause-back
 returns-clause-back c = λ x rest b.
-    refused_alone c.args.octets.now (refused c.in-Err.e) x rest (parts_refused c.args.octets.now c.in_ok-rest.rest.now c.in_ok-rest.sequence c.in-Err.e c.in_ok-rest.ensures.exact c.in-Err.ensures.refused) b
+    refused_alone c.args.octets.now (refused c.in-Err.e) x rest (parts_refused c.args.octets.now c.in_ok-rest.rest.now
+    c.in_ok-rest.sequence c.in-Err.e c.in_ok-rest.ensures.exact c.in-Err.ensures.refused) b

@@ -9,4 +9,6 @@ pub returns : goal.returns
 returns g c =
     let w = g.T.ToDer.writing in
     let told = c.is_told_if_held.ensures in
-    on_ok_weaker c.push_written.result (encoding_said (option_writing w) c.args.self.now (HeldEncoding (whole_allocates w) g.T.Encoded.Encodes c.args.self.now) told.written told.refused told.own _ _) c.push_written.ensures
+    on_ok_weaker c.push_written.result (encoding_said (option_writing w) c.args.self.now
+    (HeldEncoding (whole_allocates w) g.T.Encoded.Encodes c.args.self.now) told.written told.refused told.own _ _)
+    c.push_written.ensures

@@ -8,12 +8,15 @@ use Rattle.asn1vec_answers.proofs.times.GeneralizedTimeEncoded.is_told.Goals as 
 
 pub returns-clause-written : goal.returns-clause-written
 returns-clause-written c = let m = moment_of c.args.self.now.0 in
-    unless_octets (generalized_time_refused m) InvalidDateTime IsInvalidDateTime (leaf_octets generalized_time_leaf m) refl
+    unless_octets (generalized_time_refused m) InvalidDateTime IsInvalidDateTime
+    (leaf_octets generalized_time_leaf m) refl
 
 pub returns-clause-refused : goal.returns-clause-refused
 returns-clause-refused c = let m = moment_of c.args.self.now.0 in
-    unless_refused (generalized_time_refused m) InvalidDateTime (leaf_octets generalized_time_leaf m) (λ _. generalized_few m c.value_in_hand.ensures.millisecond)
+    unless_refused (generalized_time_refused m) InvalidDateTime (leaf_octets generalized_time_leaf m)
+    (λ _. generalized_few m c.value_in_hand.ensures.millisecond)
 
 pub returns-clause-own : goal.returns-clause-own
 returns-clause-own c = let m = moment_of c.args.self.now.0 in
-    unless_own (generalized_time_refused m) InvalidDateTime IsInvalidDateTime (leaf_octets generalized_time_leaf m) (λ e own. own)
+    unless_own (generalized_time_refused m) InvalidDateTime IsInvalidDateTime (leaf_octets generalized_time_leaf m)
+    (λ e own. own)

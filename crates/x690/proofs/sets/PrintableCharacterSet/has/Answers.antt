@@ -10,4 +10,5 @@ returns c =
     let octet = c.args.octet in
     let table : PRINTABLE ≡ map is_printable (range_with_len 0 256) = refl in
     let within : octet < 256 = omega arith in
-    ap (λ row. get_or row octet false) table ∙ get_or-map-range_with_len is_printable 0 256 octet octet false within (omega arith)
+    ap (λ row. get_or row octet false) table
+    ∙ get_or-map-range_with_len is_printable 0 256 octet octet false within (omega arith)

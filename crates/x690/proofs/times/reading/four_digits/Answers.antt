@@ -11,4 +11,5 @@ returns-in_err-last_two-clause-none c none n rest h e =
     let tens : n / 10 % 10 ≡ n % 100 / 10 % 10 = omega arith in
     let units : n % 10 ≡ n % 100 % 10 = omega arith in
     c.in_err-last_two.ensures.none refl (n % 100) rest (omega arith)
-    (behind ∙ ap (λ (k : ℕ). (48 + k) ∷ (48 + n % 10) ∷ rest) tens ∙ ap (λ (k : ℕ). (48 + n % 100 / 10 % 10) ∷ (48 + k) ∷ rest) units)
+    (behind ∙ ap (λ (k : ℕ). (48 + k) ∷ (48 + n % 10) ∷ rest) tens
+    ∙ ap (λ (k : ℕ). (48 + n % 100 / 10 % 10) ∷ (48 + k) ∷ rest) units)

@@ -1,4 +1,5 @@
-use Rattle.x690.specs.Laws.TimeTexts.{utc_visible, generalized_visible, utc_octets, generalized_octets, utc_length, generalized_length}
+use Rattle.x690.specs.Laws.TimeTexts.{utc_visible, generalized_visible, utc_octets, generalized_octets, utc_length}
+use Rattle.x690.specs.Laws.TimeTexts.{generalized_length}
 use Rattle.x690.proofs.times.writing.strict_texts_are_short.Goals as goal
 
 pub returns : goal.returns

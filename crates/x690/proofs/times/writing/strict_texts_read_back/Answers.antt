@@ -8,8 +8,10 @@ pub returns : goal.returns
 returns c = record {
   utc = utc_says;
   generalized = generalized_says;
-  utc_alone = λ m n p q e. utc_times_unique (utc_time_text m) m n (utc_says m p) (subst (λ (t : List ℕ). SaysUtcTime t n) (sym e) (utc_says n q));
-  generalized_alone = λ m n p q e. generalized_times_unique (generalized_time_text m) m n (generalized_says m p) (subst (λ (t : List ℕ). SaysGeneralizedTime t n) (sym e) (generalized_says n q));
+  utc_alone = λ m n p q e. utc_times_unique (utc_time_text m) m n (utc_says m p)
+      (subst (λ (t : List ℕ). SaysUtcTime t n) (sym e) (utc_says n q));
+  generalized_alone = λ m n p q e. generalized_times_unique (generalized_time_text m) m n (generalized_says m p)
+      (subst (λ (t : List ℕ). SaysGeneralizedTime t n) (sym e) (generalized_says n q));
   fits = utc_fits;
   fits_generalized = generalized_fits;
 }

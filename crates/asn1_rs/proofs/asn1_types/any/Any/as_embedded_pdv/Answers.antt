@@ -11,4 +11,9 @@ returns-in_err-rest c =
 pub returns-in_err-data_value : goal.returns-in_err-data_value
 returns-in_err-data_value c =
     let p = err_from_is_err_and c.from_residual-in_err-data_value.result c.from_residual-in_err-data_value.ensures.1 in
-    rw (p.1, p.2) (inr (identification_of c.in_ok-rest.identification, c.in_ok-rest.rest.now, c.in_ok-rest.ensures.0, c.in_err-data_value.ensures))
+    rw (p.1, p.2) (inr (
+      identification_of c.in_ok-rest.identification,
+      c.in_ok-rest.rest.now,
+      c.in_ok-rest.ensures.0,
+      c.in_err-data_value.ensures,
+    ))

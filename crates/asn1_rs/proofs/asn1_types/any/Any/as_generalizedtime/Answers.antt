@@ -9,8 +9,12 @@ use Rattle.asn1_rs.proofs.asn1_types.any.Any.as_generalizedtime.Goals as goal
 
 pub returns-in-Some : goal.returns-in-Some
 returns-in-Some c =
-    said_converts generalized_time_number (λ (t : GeneralizedTime). moment_of t.0) SaysGeneralizedTime IsStrictGeneralizedTime generalized_time_constraints generalized_time_text generalized_said_visible (parts_of c.args.self.now) _ c.in_ok-assert_number.ensures (rw c.from.ensures c.in-Some.ensures.says)
+    said_converts generalized_time_number (λ (t : GeneralizedTime). moment_of t.0) SaysGeneralizedTime
+    IsStrictGeneralizedTime generalized_time_constraints generalized_time_text generalized_said_visible
+    (parts_of c.args.self.now) _ c.in_ok-assert_number.ensures (rw c.from.ensures c.in-Some.ensures.says)
 
 pub returns-in-None : goal.returns-in-None
 returns-in-None c =
-    unsaid_converts generalized_time_number (λ (t : GeneralizedTime). moment_of t.0) SaysGeneralizedTime IsStrictGeneralizedTime generalized_time_constraints generalized_time_text (parts_of c.args.self.now) c.no_time.result c.in_ok-assert_number.ensures (c.in-None.ensures.none refl) c.no_time.ensures
+    unsaid_converts generalized_time_number (λ (t : GeneralizedTime). moment_of t.0) SaysGeneralizedTime
+    IsStrictGeneralizedTime generalized_time_constraints generalized_time_text (parts_of c.args.self.now)
+    c.no_time.result c.in_ok-assert_number.ensures (c.in-None.ensures.none refl) c.no_time.ensures

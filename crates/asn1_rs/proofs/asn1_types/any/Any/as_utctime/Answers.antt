@@ -10,8 +10,12 @@ use Rattle.asn1_rs.proofs.asn1_types.any.Any.as_utctime.Goals as goal
 
 pub returns-in-Some : goal.returns-in-Some
 returns-in-Some c =
-    said_converts utc_time_number (λ (t : UtcTime). moment_of t.0) SaysUtcTime IsStrictUtcTime nothing utc_time_text utc_said_visible (parts_of c.args.self.now) _ c.in_ok-assert_number.ensures (rw c.from.ensures c.in-Some.ensures.says)
+    said_converts utc_time_number
+    (λ (t : UtcTime). moment_of t.0) SaysUtcTime IsStrictUtcTime nothing utc_time_text utc_said_visible
+    (parts_of c.args.self.now) _ c.in_ok-assert_number.ensures (rw c.from.ensures c.in-Some.ensures.says)
 
 pub returns-in-None : goal.returns-in-None
 returns-in-None c =
-    unsaid_converts utc_time_number (λ (t : UtcTime). moment_of t.0) SaysUtcTime IsStrictUtcTime nothing utc_time_text (parts_of c.args.self.now) c.no_time.result c.in_ok-assert_number.ensures (c.in-None.ensures.none refl) c.no_time.ensures
+    unsaid_converts utc_time_number (λ (t : UtcTime). moment_of t.0) SaysUtcTime IsStrictUtcTime nothing utc_time_text
+    (parts_of c.args.self.now) c.no_time.result c.in_ok-assert_number.ensures
+    (c.in-None.ensures.none refl) c.no_time.ensures

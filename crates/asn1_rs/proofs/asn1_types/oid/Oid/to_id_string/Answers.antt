@@ -11,4 +11,5 @@ returns-in-Ok-clause-text c =
     let written = c.write_text.ensures c.new-f.ensures.plain (search rules) in
     ap string_bytes c.into_inner.ensures
     ∙ contents_after_writes _ string_bytes (λ w bs v took. took) _ text _ written.wrote
-    ∙ ap (λ (front : List ℕ). front ++ text) (ap string_bytes c.new-f.ensures.writer ∙ c.in_ok-with_capacity.ensures.bytes)
+    ∙ ap (λ (front : List ℕ). front ++ text)
+    (ap string_bytes c.new-f.ensures.writer ∙ c.in_ok-with_capacity.ensures.bytes)

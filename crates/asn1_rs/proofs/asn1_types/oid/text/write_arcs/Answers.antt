@@ -15,7 +15,8 @@ loop-arc-init g c = λ plain.
 pub loop-arc-preserved : goal.loop-arc-preserved
 loop-arc-preserved g c = λ plain.
     let arc = c.in-Some-next.arc in
-    let steps : arcs_left c.loop-arc.others ≡ arc ∷ arcs_left c.next-in-loop-arc.new.self = c.in-Some-next.ensures.steps in
+    let steps : arcs_left c.loop-arc.others ≡ arc ∷ arcs_left c.next-in-loop-arc.new.self =
+    c.in-Some-next.ensures.steps in
     let so_far = c.loop-arc.invariant plain in (
       so_far.0 ++ 46 ∷ decimal arc,
       has_written_append _ _ _ _ _ _ so_far.1 (c.write_pointed.ensures so_far.1.plain (search rules)),

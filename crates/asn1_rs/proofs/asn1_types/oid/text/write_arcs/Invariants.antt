@@ -7,4 +7,5 @@ use Rattle.asn1_rs.proofs.asn1_types.oid.text.write_arcs.Given as goal
 
 abbrev pub invariant-loop-arc : goal.invariant-loop-arc
 invariant-loop-arc g l =
-    IsPlainFormatter l.fn.f → (done : List ℕ) × HasWritten g.W.Write.write_str_gives l.fn.f done l.f × (done ++ pointed (arcs_left l.others) ≡ arcs_text (arcs_left l.fn.arcs))
+    IsPlainFormatter l.fn.f → (done : List ℕ) × HasWritten g.W.Write.write_str_gives l.fn.f done l.f ×
+    (done ++ pointed (arcs_left l.others) ≡ arcs_text (arcs_left l.fn.arcs))

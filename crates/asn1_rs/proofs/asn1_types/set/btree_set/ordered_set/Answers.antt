@@ -10,4 +10,6 @@ pub returns : goal.returns
 returns g c =
     let len : c.args.items.len ≡ length c.args.items.items = search rules in
     if_ok c.from_iter.result (λ w h.
-    subst (λ zs. IsOrderedOf g.T.Ord.cmp zs w) (sym (map-id h.1) ∙ items_from_drains h.1 h.3 (YieldsList-from_vec c.args.items.items h.2.0 (h.2.1 ∙ len))) h.4) c.from_iter.ensures.ran
+    subst (λ zs. IsOrderedOf g.T.Ord.cmp zs w)
+    (sym (map-id h.1) ∙ items_from_drains h.1 h.3 (YieldsList-from_vec c.args.items.items h.2.0 (h.2.1 ∙ len))) h.4)
+    c.from_iter.ensures.ran

@@ -4,4 +4,9 @@ use Rattle.asn1_rs.proofs.TaggedReaders.{expects}
 use Rattle.asn1_rs.proofs.asn1_types.tagged.builder.parse_der_tagged_explicit.Goals as goal
 
 pub returns-in-Ok : goal.returns-in-Ok
-returns-in-Ok g c = (c.into-tag.result, c.into-tag.ensures, expects (ThenByDer g.E.From.from_gives (TakesExplicit g.T.FromDer.der_gives)) (HasNumber c.into-tag.result) g.E.From.from_gives c.args.bytes.now c.in-Ok.rest.now c.in-Ok.parser _ c.in-Ok.ensures c.with_number.ensures)
+returns-in-Ok g c = (
+  c.into-tag.result,
+  c.into-tag.ensures,
+  expects (ThenByDer g.E.From.from_gives (TakesExplicit g.T.FromDer.der_gives)) (HasNumber c.into-tag.result)
+      g.E.From.from_gives c.args.bytes.now c.in-Ok.rest.now c.in-Ok.parser _ c.in-Ok.ensures c.with_number.ensures,
+)

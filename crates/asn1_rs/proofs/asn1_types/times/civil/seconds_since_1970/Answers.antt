@@ -8,5 +8,6 @@ overflow_sub-result c = omega (arith, ints, c.args.offset.in_range)
 
 pub returns : goal.returns
 returns c =
-    let day : c.to_unix_epoch_day.result ≡ epoch_day c.args.civil.date = c.to_unix_epoch_day.ensures.value ∙ ap epoch_day (c.to_plain.ensures ∙ c.date.ensures) in
+    let day : c.to_unix_epoch_day.result ≡ epoch_day c.args.civil.date =
+    c.to_unix_epoch_day.ensures.value ∙ ap epoch_day (c.to_plain.ensures ∙ c.date.ensures) in
     omega (arith, ints, c.args.offset.in_range)

@@ -7,8 +7,14 @@ returns-clause-wrote g c = λ t. c.put_counted_header.ensures.wrote _ (c.content
 
 pub returns-clause-refused : goal.returns-clause-refused
 returns-clause-refused g c = λ t.
-    counted_refused g.T.ToDer.writing.count_allocates _ _ (SomeRefuses g.T.ToDer.writing.count_refuses (g.L.Listed.items c.args.self.now)) c.content_count.result c.put_counted_header.result _ _ (c.content_count.ensures.refused t) (c.put_counted_header.ensures.why g.T.ToDer.writing.count_allocates _ _) c.put_counted_header.ensures.refused
+    counted_refused g.T.ToDer.writing.count_allocates _ _
+    (SomeRefuses g.T.ToDer.writing.count_refuses (g.L.Listed.items c.args.self.now)) c.content_count.result
+    c.put_counted_header.result _ _ (c.content_count.ensures.refused t)
+    (c.put_counted_header.ensures.why g.T.ToDer.writing.count_allocates _ _) c.put_counted_header.ensures.refused
 
 pub returns-clause-at_once : goal.returns-clause-at_once
 returns-clause-at_once g c = λ e t o.
-    counted_at_once g.T.ToDer.writing.count_allocates _ _ (SomeRefuses g.T.ToDer.writing.count_refuses (g.L.Listed.items c.args.self.now)) c.content_count.result c.put_counted_header.result _ _ (c.content_count.ensures.refused t) (λ e. c.content_count.ensures.accepted e t) c.put_counted_header.ensures.refused e o
+    counted_at_once g.T.ToDer.writing.count_allocates _ _
+    (SomeRefuses g.T.ToDer.writing.count_refuses (g.L.Listed.items c.args.self.now)) c.content_count.result
+    c.put_counted_header.result _ _ (c.content_count.ensures.refused t)
+    (λ e. c.content_count.ensures.accepted e t) c.put_counted_header.ensures.refused e o

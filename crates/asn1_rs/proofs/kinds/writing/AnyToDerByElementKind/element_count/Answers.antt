@@ -10,7 +10,12 @@ returns-clause-refused g c = λ _.
     let number = c.TAG.result.0 in
     let whole = universal_header number octets ++ octets in
     let shorter : length octets ≤ length whole = simp length-append (omega arith) in
-    rw (← c.TAG.ensures) (count_refuses (g.T.WritesElement.refusal c.args.self.now) (g.T.WritesElement.is_refused c.args.self.now) (length whole) c.element_len.result (element_count_refused (g.T.WritesElement.refusal c.args.self.now) (g.T.WritesElement.is_refused c.args.self.now) (length octets) (length whole) c.count_octets.result c.element_len.result shorter c.count_octets.ensures.refused (c.element_len.ensures.why false 0 (is_container_number number) octets c.count_octets.ensures.count) c.element_len.ensures.refused))
+    rw (← c.TAG.ensures)
+    (count_refuses (g.T.WritesElement.refusal c.args.self.now) (g.T.WritesElement.is_refused c.args.self.now)
+    (length whole) c.element_len.result (element_count_refused (g.T.WritesElement.refusal c.args.self.now)
+    (g.T.WritesElement.is_refused c.args.self.now) (length octets) (length whole) c.count_octets.result
+    c.element_len.result shorter c.count_octets.ensures.refused (c.element_len.ensures.why false 0
+    (is_container_number number) octets c.count_octets.ensures.count) c.element_len.ensures.refused))
 
 pub returns-clause-accepted : goal.returns-clause-accepted
 returns-clause-accepted g c = λ e _ o.
@@ -18,4 +23,8 @@ returns-clause-accepted g c = λ e _ o.
     let number = c.TAG.result.0 in
     let whole = universal_header number octets ++ octets in
     let shorter : length octets ≤ length whole = simp length-append (omega arith) in
-    count_accepted (g.T.WritesElement.refusal c.args.self.now) (g.T.WritesElement.is_refused c.args.self.now) (length whole) c.element_len.result (element_count_refused (g.T.WritesElement.refusal c.args.self.now) (g.T.WritesElement.is_refused c.args.self.now) (length octets) (length whole) c.count_octets.result c.element_len.result shorter c.count_octets.ensures.refused (c.element_len.ensures.why false 0 (is_container_number number) octets c.count_octets.ensures.count) c.element_len.ensures.refused) e o
+    count_accepted (g.T.WritesElement.refusal c.args.self.now) (g.T.WritesElement.is_refused c.args.self.now)
+    (length whole) c.element_len.result (element_count_refused (g.T.WritesElement.refusal c.args.self.now)
+    (g.T.WritesElement.is_refused c.args.self.now) (length octets) (length whole) c.count_octets.result
+    c.element_len.result shorter c.count_octets.ensures.refused (c.element_len.ensures.why false 0
+    (is_container_number number) octets c.count_octets.ensures.count) c.element_len.ensures.refused) e o

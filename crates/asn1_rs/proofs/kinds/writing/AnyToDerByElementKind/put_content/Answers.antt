@@ -3,10 +3,16 @@ use Rattle.asn1_rs.proofs.Refused.{put_refuses, put_accepted, put_uncounted}
 use Rattle.asn1_rs.proofs.kinds.writing.AnyToDerByElementKind.put_content.Goals as goal
 
 pub returns-clause-refused : goal.returns-clause-refused
-returns-clause-refused g c = λ _. put_refuses (g.T.WritesElement.refusal c.args.self.now) (g.T.WritesElement.is_refused c.args.self.now) (length (g.T.WritesElement.octets c.args.self.now)) _ _ c.put_octets.result c.put_octets.ensures.refused
+returns-clause-refused g c =
+    λ _. put_refuses (g.T.WritesElement.refusal c.args.self.now) (g.T.WritesElement.is_refused c.args.self.now)
+    (length (g.T.WritesElement.octets c.args.self.now)) _ _ c.put_octets.result c.put_octets.ensures.refused
 
 pub returns-clause-accepted : goal.returns-clause-accepted
-returns-clause-accepted g c = λ e _ o. put_accepted (g.T.WritesElement.refusal c.args.self.now) (g.T.WritesElement.is_refused c.args.self.now) (length (g.T.WritesElement.octets c.args.self.now)) _ _ c.put_octets.result c.put_octets.ensures.refused e o
+returns-clause-accepted g c =
+    λ e _ o. put_accepted (g.T.WritesElement.refusal c.args.self.now) (g.T.WritesElement.is_refused c.args.self.now)
+    (length (g.T.WritesElement.octets c.args.self.now)) _ _ c.put_octets.result c.put_octets.ensures.refused e o
 
 pub returns-clause-uncounted : goal.returns-clause-uncounted
-returns-clause-uncounted g c = λ e _ o. put_uncounted (g.T.WritesElement.refusal c.args.self.now) (g.T.WritesElement.is_refused c.args.self.now) (length (g.T.WritesElement.octets c.args.self.now)) _ _ c.put_octets.result c.put_octets.ensures.refused e o
+returns-clause-uncounted g c =
+    λ e _ o. put_uncounted (g.T.WritesElement.refusal c.args.self.now) (g.T.WritesElement.is_refused c.args.self.now)
+    (length (g.T.WritesElement.octets c.args.self.now)) _ _ c.put_octets.result c.put_octets.ensures.refused e o

@@ -4,7 +4,10 @@ use Rattle.asn1_rs.proofs.Refused.{counted_put, put_refuses, put_at_once}
 use Rattle.asn1_rs.proofs.kinds.writing.AnyToDerByElementKind.put_header.Goals as goal
 
 pub returns-clause-wrote : goal.returns-clause-wrote
-returns-clause-wrote g c = λ _. rw (← c.TAG-tag.ensures, ← c.is_container.ensures) (c.put_counted_header.ensures.wrote (length (g.T.WritesElement.octets c.args.self.now)) c.count_octets.ensures.count)
+returns-clause-wrote g c = λ _. rw (
+  ← c.TAG-tag.ensures,
+  ← c.is_container.ensures,
+) (c.put_counted_header.ensures.wrote (length (g.T.WritesElement.octets c.args.self.now)) c.count_octets.ensures.count)
 
 pub returns-clause-refused : goal.returns-clause-refused
 returns-clause-refused g c = λ _.
@@ -12,7 +15,9 @@ returns-clause-refused g c = λ _.
     let header = universal_header (g.T.Tagged.TAG).0 octets in
     let own = g.T.WritesElement.refusal c.args.self.now in
     let is = g.T.WritesElement.is_refused c.args.self.now in
-    put_refuses own is (length (header ++ octets)) _ _ c.put_counted_header.result (counted_put own is (length octets) (length (header ++ octets)) _ _ c.count_octets.result c.put_counted_header.result c.count_octets.ensures.refused (c.put_counted_header.ensures.why false header octets) c.put_counted_header.ensures.refused)
+    put_refuses own is (length (header ++ octets)) _ _ c.put_counted_header.result (counted_put own is (length octets)
+    (length (header ++ octets)) _ _ c.count_octets.result c.put_counted_header.result c.count_octets.ensures.refused
+    (c.put_counted_header.ensures.why false header octets) c.put_counted_header.ensures.refused)
 
 pub returns-clause-at_once : goal.returns-clause-at_once
 returns-clause-at_once g c = λ e _ o.
@@ -20,4 +25,6 @@ returns-clause-at_once g c = λ e _ o.
     let header = universal_header (g.T.Tagged.TAG).0 octets in
     let own = g.T.WritesElement.refusal c.args.self.now in
     let is = g.T.WritesElement.is_refused c.args.self.now in
-    put_at_once own is (length (header ++ octets)) _ _ c.put_counted_header.result (counted_put own is (length octets) (length (header ++ octets)) _ _ c.count_octets.result c.put_counted_header.result c.count_octets.ensures.refused (c.put_counted_header.ensures.why false header octets) c.put_counted_header.ensures.refused) e o
+    put_at_once own is (length (header ++ octets)) _ _ c.put_counted_header.result (counted_put own is (length octets)
+    (length (header ++ octets)) _ _ c.count_octets.result c.put_counted_header.result c.count_octets.ensures.refused
+    (c.put_counted_header.ensures.why false header octets) c.put_counted_header.ensures.refused) e o

@@ -2,13 +2,17 @@ use Rattle.asn1_rs.proofs.Refused.{whole_put_refuses, put_accepted, put_uncounte
 use Rattle.asn1_rs.proofs.kinds.writing.AnyToDerByElementKind.put_whole.Goals as goal
 
 pub returns-clause-refused : goal.returns-clause-refused
-returns-clause-refused g c = λ _. whole_put_refuses (g.T.WritesElement.refusal c.args.self.now) (g.T.WritesElement.is_refused c.args.self.now) _ _ _ c.put_element.result c.put_element.ensures.refused
+returns-clause-refused g c = λ _. whole_put_refuses (g.T.WritesElement.refusal c.args.self.now)
+    (g.T.WritesElement.is_refused c.args.self.now) _ _ _ c.put_element.result c.put_element.ensures.refused
 
 pub returns-clause-accepted : goal.returns-clause-accepted
-returns-clause-accepted g c = λ e _ o. put_accepted (g.T.WritesElement.refusal c.args.self.now) (g.T.WritesElement.is_refused c.args.self.now) _ _ _ c.put_element.result c.put_element.ensures.refused e o
+returns-clause-accepted g c = λ e _ o. put_accepted (g.T.WritesElement.refusal c.args.self.now)
+    (g.T.WritesElement.is_refused c.args.self.now) _ _ _ c.put_element.result c.put_element.ensures.refused e o
 
 pub returns-clause-uncounted : goal.returns-clause-uncounted
-returns-clause-uncounted g c = λ e _ o. put_uncounted (g.T.WritesElement.refusal c.args.self.now) (g.T.WritesElement.is_refused c.args.self.now) _ _ _ c.put_element.result c.put_element.ensures.refused e o
+returns-clause-uncounted g c = λ e _ o. put_uncounted (g.T.WritesElement.refusal c.args.self.now)
+    (g.T.WritesElement.is_refused c.args.self.now) _ _ _ c.put_element.result c.put_element.ensures.refused e o
 
 pub returns-clause-at_once : goal.returns-clause-at_once
-returns-clause-at_once g c = λ e _ o. whole_put_at_once (g.T.WritesElement.refusal c.args.self.now) (g.T.WritesElement.is_refused c.args.self.now) _ _ _ c.put_element.result c.put_element.ensures.refused e o
+returns-clause-at_once g c = λ e _ o. whole_put_at_once (g.T.WritesElement.refusal c.args.self.now)
+    (g.T.WritesElement.is_refused c.args.self.now) _ _ _ c.put_element.result c.put_element.ensures.refused e o

@@ -12,24 +12,31 @@ returns-in_err-after-clause-wrote g c = λ t.
     rw (p.1, p.2) (Wrote_then_err (c.in_ok-before.ensures.wrote t) (c.in_err-after.ensures.wrote t))
 
 pub returns-clause-wrote : goal.returns-clause-wrote
-returns-clause-wrote g c = λ t. Wrote_sum _ (c.in_ok-before.ensures.wrote t) (c.in_ok-after.ensures.wrote t) c.add_written.ensures
+returns-clause-wrote g c =
+    λ t. Wrote_sum _ (c.in_ok-before.ensures.wrote t) (c.in_ok-after.ensures.wrote t) c.add_written.ensures
 
 pub returns-in_err-before-clause-refused : goal.returns-in_err-before-clause-refused
 returns-in_err-before-clause-refused g c = λ t.
     let p = err_from_is_err_and c.from_residual.result c.from_residual.ensures.1 in
     let heading = g.Self.ToDerBy.writing.header_refuses c.args.self.now in
     let filling = g.Self.ToDerBy.writing.content_refuses c.args.self.now in
-    rw (p.1, p.2) (refuses_wider c.in_err-before.field-0.0 g.Self.ToDerBy.writing.write_allocates _ _ (Either heading filling) (refuses_first c.in_err-before.field-0.0 _ g.Self.ToDerBy.writing.content_allocates _ heading filling (c.in_err-before.ensures.refused t)))
+    rw (p.1, p.2) (refuses_wider c.in_err-before.field-0.0 g.Self.ToDerBy.writing.write_allocates _ _
+    (Either heading filling) (refuses_first c.in_err-before.field-0.0 _ g.Self.ToDerBy.writing.content_allocates _
+    heading filling (c.in_err-before.ensures.refused t)))
 
 pub returns-in_err-after-clause-refused : goal.returns-in_err-after-clause-refused
 returns-in_err-after-clause-refused g c = λ t.
     let p = err_from_is_err_and c.from_residual-in_err-after.result c.from_residual-in_err-after.ensures.1 in
     let heading = g.Self.ToDerBy.writing.header_refuses c.args.self.now in
     let filling = g.Self.ToDerBy.writing.content_refuses c.args.self.now in
-    rw (p.1, p.2) (refuses_wider c.in_err-after.field-0.0 g.Self.ToDerBy.writing.write_allocates _ _ (Either heading filling) (refuses_second c.in_err-after.field-0.0 g.Self.ToDerBy.writing.count_allocates _ _ _ heading filling (simp length-append (omega arith)) (c.in_err-after.ensures.refused t)))
+    rw (p.1, p.2) (refuses_wider c.in_err-after.field-0.0 g.Self.ToDerBy.writing.write_allocates _ _
+    (Either heading filling) (refuses_second c.in_err-after.field-0.0 g.Self.ToDerBy.writing.count_allocates _ _ _
+    heading filling (simp length-append (omega arith)) (c.in_err-after.ensures.refused t)))
 
 pub returns-clause-refused : goal.returns-clause-refused
-returns-clause-refused g c = λ t. only_may c.add_written.result _ _ (whole_refuses g.Self.ToDerBy.writing c.args.self.now) (MayRefuse_sum _ _ _ _ (c.in_ok-before.ensures.wrote t) (c.in_ok-after.ensures.wrote t) c.add_written.ensures)
+returns-clause-refused g c =
+    λ t. only_may c.add_written.result _ _ (whole_refuses g.Self.ToDerBy.writing c.args.self.now)
+    (MayRefuse_sum _ _ _ _ (c.in_ok-before.ensures.wrote t) (c.in_ok-after.ensures.wrote t) c.add_written.ensures)
 
 pub returns-clause-accepted : goal.returns-clause-accepted
 returns-clause-accepted g c = λ e t o. absurd (false≢true (c.in_ok-after.ensures.accepted e t o))
@@ -42,10 +49,13 @@ returns-in_err-before-clause-at_once g c = λ e t o.
     let p = err_from_is_err_and c.from_residual.result c.from_residual.ensures.1 in
     let heading = g.Self.ToDerBy.writing.header_refuses c.args.self.now in
     let filling = g.Self.ToDerBy.writing.content_refuses c.args.self.now in
-    rw (p.1, p.2) (header_at_once g.Self.ToDerBy.writing.write_allocates _ g.Self.ToDerBy.writing.content_allocates _ heading filling _ _ _ (c.in_err-before.ensures.at_once e t o))
+    rw (p.1, p.2) (header_at_once g.Self.ToDerBy.writing.write_allocates _ g.Self.ToDerBy.writing.content_allocates _
+    heading filling _ _ _ (c.in_err-before.ensures.at_once e t o))
 
 pub returns-in_err-after-clause-at_once : goal.returns-in_err-after-clause-at_once
-returns-in_err-after-clause-at_once g c = λ e t o. absurd (not_refused _ _ (g.Self.ToDerBy.writing.header_refuses c.args.self.now) _ _ _ (c.in_ok-before.ensures.at_once e t o))
+returns-in_err-after-clause-at_once g c = λ e t o. absurd (not_refused _ _
+    (g.Self.ToDerBy.writing.header_refuses c.args.self.now) _ _ _ (c.in_ok-before.ensures.at_once e t o))
 
 pub returns-clause-at_once : goal.returns-clause-at_once
-returns-clause-at_once g c = λ e t o. absurd (not_refused _ _ (g.Self.ToDerBy.writing.header_refuses c.args.self.now) _ _ _ (c.in_ok-before.ensures.at_once e t o))
+returns-clause-at_once g c = λ e t o. absurd (not_refused _ _
+    (g.Self.ToDerBy.writing.header_refuses c.args.self.now) _ _ _ (c.in_ok-before.ensures.at_once e t o))

@@ -3,7 +3,8 @@ use Rattle.x690.specs.Times.{filled, fraction_text, z_text}
 use Rattle.x690.proofs.Filled.{zeros}
 use Rattle.x690.proofs.times.shown.MomentDisplay.fmt.Goals as goal
 
-joined : (a b c d e f h z : List ℕ) → a ++ (b ++ (c ++ (d ++ (e ++ (f ++ (h ++ z)))))) ≡ a ++ b ++ c ++ d ++ e ++ f ++ h ++ z
+joined : (a b c d e f h z : List ℕ) →
+    a ++ (b ++ (c ++ (d ++ (e ++ (f ++ (h ++ z)))))) ≡ a ++ b ++ c ++ d ++ e ++ f ++ h ++ z
 joined a b c d e f h z = simp append_assoc
 
 pub returns-clause-writes : goal.returns-clause-writes
@@ -22,5 +23,6 @@ returns-clause-writes g c =
       zeros 2 m.hour,
       zeros 2 m.minute,
       zeros 2 m.second,
-      joined (filled 4 m.year) (filled 2 m.month) (filled 2 m.day) (filled 2 m.hour) (filled 2 m.minute) (filled 2 m.second) (fraction_text m.millisecond) z_text,
+      joined (filled 4 m.year) (filled 2 m.month) (filled 2 m.day) (filled 2 m.hour) (filled 2 m.minute)
+          (filled 2 m.second) (fraction_text m.millisecond) z_text,
     ) at c.write.ensures.writes

@@ -13,8 +13,16 @@ returns-then-is_west-clause-writes g c =
     let y_fits : FitsSigned w8 y = search rules in
     let west : true ≡ is_west x y = simp to_z-of_z at c.if-is_west.ensures in
     let hours : c.unsigned_abs-hours.result ≡ unsigned_abs x = simp to_z-of_z at c.unsigned_abs-hours.ensures.value in
-    let minutes : c.unsigned_abs-minutes.result ≡ unsigned_abs y = simp to_z-of_z at c.unsigned_abs-minutes.ensures.value in
-    rw (← west) (rw (c.laid_out.ensures, c.laid_out-then-is_west.ensures, zeros 2 c.unsigned_abs-hours.result, zeros 2 c.unsigned_abs-minutes.result, hours, minutes) at c.write.ensures.writes)
+    let minutes : c.unsigned_abs-minutes.result ≡ unsigned_abs y =
+    simp to_z-of_z at c.unsigned_abs-minutes.ensures.value in
+    rw (← west) (rw (
+      c.laid_out.ensures,
+      c.laid_out-then-is_west.ensures,
+      zeros 2 c.unsigned_abs-hours.result,
+      zeros 2 c.unsigned_abs-minutes.result,
+      hours,
+      minutes,
+    ) at c.write.ensures.writes)
 
 pub returns-clause-writes : goal.returns-clause-writes
 returns-clause-writes g c =
@@ -24,5 +32,13 @@ returns-clause-writes g c =
     let y_fits : FitsSigned w8 y = search rules in
     let east : false ≡ is_west x y = simp to_z-of_z at c.if-is_west.ensures in
     let hours : c.unsigned_abs-hours.result ≡ unsigned_abs x = simp to_z-of_z at c.unsigned_abs-hours.ensures.value in
-    let minutes : c.unsigned_abs-minutes.result ≡ unsigned_abs y = simp to_z-of_z at c.unsigned_abs-minutes.ensures.value in
-    rw (← east) (rw (c.laid_out-2.ensures, c.laid_out-3.ensures, zeros 2 c.unsigned_abs-hours.result, zeros 2 c.unsigned_abs-minutes.result, hours, minutes) at c.write-2.ensures.writes)
+    let minutes : c.unsigned_abs-minutes.result ≡ unsigned_abs y =
+    simp to_z-of_z at c.unsigned_abs-minutes.ensures.value in
+    rw (← east) (rw (
+      c.laid_out-2.ensures,
+      c.laid_out-3.ensures,
+      zeros 2 c.unsigned_abs-hours.result,
+      zeros 2 c.unsigned_abs-minutes.result,
+      hours,
+      minutes,
+    ) at c.write-2.ensures.writes)

@@ -2,16 +2,40 @@ use Rattle.asn1_rs.proofs.Writing.{neither_own}
 use Rattle.asn1_rs.proofs.asn1_types.any.writing.AnyToDer.TheImpl.Goals as goal
 
 pub to_der_len-tells : goal.to_der_len-tells
-to_der_len-tells g c = record { count = λ _. c.ensures.count; refused = λ _. c.ensures.refused; accepted = λ e _ o. absurd o }
+to_der_len-tells g c =
+    record { count = λ _. c.ensures.count; refused = λ _. c.ensures.refused; accepted = λ e _ o. absurd o }
 
 pub der_content_len-tells : goal.der_content_len-tells
-der_content_len-tells g c = record { count = λ _. c.ensures.count; refused = λ _. c.ensures.refused; accepted = λ e _ o. absurd o }
+der_content_len-tells g c =
+    record { count = λ _. c.ensures.count; refused = λ _. c.ensures.refused; accepted = λ e _ o. absurd o }
 
 pub write_der-tells : goal.write_der-tells
-write_der-tells g c = record { wrote = λ _. c.ensures.wrote; refused = λ _. c.ensures.refused; accepted = λ e _ o. absurd o; uncounted = λ e _ o. absurd o; at_once = λ e _ o. absurd o; first = λ e o. absurd o }
+write_der-tells g c = record {
+  wrote = λ _. c.ensures.wrote;
+  refused = λ _. c.ensures.refused;
+  accepted = λ e _ o. absurd o;
+  uncounted = λ e _ o. absurd o;
+  at_once = λ e _ o. absurd o;
+  first = λ e o. absurd o;
+}
 
 pub write_der_raw-tells : goal.write_der_raw-tells
-write_der_raw-tells g c = record { der = λ _ r. c.ensures.der r; refused = λ _ r. c.ensures.refused r; accepted = λ e _ r o. absurd o; uncounted = λ e _ r o. absurd o; at_once = λ e _ r o. absurd o; counted = λ _. c.ensures.counted; first = λ e o. absurd o }
+write_der_raw-tells g c = record {
+  der = λ _ r. c.ensures.der r;
+  refused = λ _ r. c.ensures.refused r;
+  accepted = λ e _ r o. absurd o;
+  uncounted = λ e _ r o. absurd o;
+  at_once = λ e _ r o. absurd o;
+  counted = λ _. c.ensures.counted;
+  first = λ e o. absurd o;
+}
 
 pub to_der_vec_raw-tells : goal.to_der_vec_raw-tells
-to_der_vec_raw-tells g c = record { der = λ _ r. c.ensures.der r; refused = λ _ r. c.ensures.refused r; accepted = λ e _ r o. absurd (neither_own e o); uncounted = λ e _ r o. absurd o; memory = c.ensures.memory; first = λ e o. absurd o }
+to_der_vec_raw-tells g c = record {
+  der = λ _ r. c.ensures.der r;
+  refused = λ _ r. c.ensures.refused r;
+  accepted = λ e _ r o. absurd (neither_own e o);
+  uncounted = λ e _ r o. absurd o;
+  memory = c.ensures.memory;
+  first = λ e o. absurd o;
+}

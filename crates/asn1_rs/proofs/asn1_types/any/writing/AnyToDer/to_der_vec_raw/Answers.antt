@@ -6,4 +6,5 @@ pub returns-in-Err-clause-failed : goal.returns-in-Err-clause-failed
 returns-in-Err-clause-failed c = c.without_io.ensures.refused _ _ c.in-Err.ensures.failed
 
 pub returns-in-Err-clause-refused : goal.returns-in-Err-clause-refused
-returns-in-Err-clause-refused c = λ e. vector_refuses c.in-Err.e c.without_io.result _ _ (Either (λ _. ⊥) (λ _. ⊥)) c.without_io.ensures.refused c.without_io.ensures.same (c.in-Err.ensures.refused e)
+returns-in-Err-clause-refused c = λ e. vector_refuses c.in-Err.e c.without_io.result _ _
+    (Either (λ _. ⊥) (λ _. ⊥)) c.without_io.ensures.refused c.without_io.ensures.same (c.in-Err.ensures.refused e)

@@ -10,13 +10,19 @@ pub returns-clause-raw : goal.returns-clause-raw
 returns-clause-raw g c = c.put_behind.ensures.wrote _ _ c.put_strict_header-header.ensures.wrote
 
 pub returns-clause-failed : goal.returns-clause-failed
-returns-clause-failed g c = c.put_behind.ensures.failed _ _ c.put_strict_header-header.ensures.wrote (c.put_strict_header-header.ensures.failed _ _)
+returns-clause-failed g c = c.put_behind.ensures.failed _ _ c.put_strict_header-header.ensures.wrote
+    (c.put_strict_header-header.ensures.failed _ _)
 
 pub returns-clause-der : goal.returns-clause-der
-returns-clause-der g c = λ e. rw (← (counted_header c.args.self.now e)) (c.put_behind.ensures.wrote _ _ c.put_strict_header-header.ensures.wrote)
+returns-clause-der g c = λ e.
+    rw (← (counted_header c.args.self.now e)) (c.put_behind.ensures.wrote _ _ c.put_strict_header-header.ensures.wrote)
 
 pub returns-clause-refused : goal.returns-clause-refused
-returns-clause-refused g c = λ e. only_may c.put_behind.result false (length (element_header c.args.self.now ++ content_of c.args.self.now)) (Either (λ _. ⊥) (λ _. ⊥)) (rw (← (counted_header c.args.self.now e)) (c.put_behind.ensures.failed _ _ c.put_strict_header-header.ensures.wrote (c.put_strict_header-header.ensures.failed _ _)))
+returns-clause-refused g c =
+    λ e. only_may c.put_behind.result false (length (element_header c.args.self.now ++ content_of c.args.self.now))
+    (Either (λ _. ⊥) (λ _. ⊥)) (rw (← (counted_header c.args.self.now e)) (c.put_behind.ensures.failed _ _
+    c.put_strict_header-header.ensures.wrote (c.put_strict_header-header.ensures.failed _ _)))
 
 pub returns-clause-counted : goal.returns-clause-counted
-returns-clause-counted g c = if_ok c.put_behind.result (λ n w. (_, w.0, w.1)) (c.put_behind.ensures.wrote _ _ c.put_strict_header-header.ensures.wrote).ok
+returns-clause-counted g c = if_ok c.put_behind.result (λ n w. (_, w.0, w.1))
+    (c.put_behind.ensures.wrote _ _ c.put_strict_header-header.ensures.wrote).ok

@@ -15,5 +15,9 @@ invariant_of-self-2 c =
     let call = c.subidentifier-arc in
     let n = call.result.1 in
     let is : s.relative ≡ true = search rules in
-    let few : AreSmall (arcs_of true (drop n octets)) = rest_fits octets n call.result.0 call.ensures.numbers (subst (λ (b : Bool). AreSmall (arcs_of b octets)) is s.fits) in
-    record { fits = subst (λ (ys : List ℕ). AreSmall (arcs_of s.relative ys)) (sym (take_rest octets n)) (subst (λ (b : Bool). AreSmall (arcs_of b (drop n octets))) (sym is) few) }
+    let few : AreSmall (arcs_of true (drop n octets)) = rest_fits octets n call.result.0 call.ensures.numbers
+    (subst (λ (b : Bool). AreSmall (arcs_of b octets)) is s.fits) in
+    record {
+      fits = subst (λ (ys : List ℕ). AreSmall (arcs_of s.relative ys)) (sym (take_rest octets n))
+          (subst (λ (b : Bool). AreSmall (arcs_of b (drop n octets))) (sym is) few);
+    }

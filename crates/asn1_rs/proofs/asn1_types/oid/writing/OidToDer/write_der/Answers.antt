@@ -7,7 +7,8 @@ use Rattle.asn1_rs.specs.ToDer.{Either}
 use Rattle.asn1_rs.proofs.Writing.{only_may}
 use Rattle.asn1_rs.proofs.asn1_types.oid.writing.OidToDer.write_der.Goals as goal
 
-same_header : (x : Oid) (number : ℕ) (octets : List ℕ) → number ≡ written_number (is_relative x) → octets ≡ oid_octets x → header_octets 0 false number (length octets) ++ octets ≡ oid_header x ++ oid_octets x
+same_header : (x : Oid) (number : ℕ) (octets : List ℕ) → number ≡ written_number (is_relative x) →
+    octets ≡ oid_octets x → header_octets 0 false number (length octets) ++ octets ≡ oid_header x ++ oid_octets x
 same_header x number octets a b = cc
 
 pub returns-clause-refused : goal.returns-clause-refused

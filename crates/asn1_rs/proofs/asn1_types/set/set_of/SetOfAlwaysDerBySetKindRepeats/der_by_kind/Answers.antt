@@ -5,5 +5,9 @@ use Rattle.asn1_rs.proofs.asn1_types.set.set_of.SetOfAlwaysDerBySetKindRepeats.d
 
 pub returns : goal.returns
 returns g c =
-    let items = items_of c.args.self.now in
-    (map g.T.Grammar.grammar.value items, tt, refl, All-map g.T.Grammar.grammar.IsDer g.T.Grammar.grammar.value items c.state_each.ensures)
+    let items = items_of c.args.self.now in (
+      map g.T.Grammar.grammar.value items,
+      tt,
+      refl,
+      All-map g.T.Grammar.grammar.IsDer g.T.Grammar.grammar.value items c.state_each.ensures,
+    )

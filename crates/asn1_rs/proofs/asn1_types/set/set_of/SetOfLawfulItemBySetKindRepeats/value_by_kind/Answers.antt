@@ -5,5 +5,8 @@ use Rattle.asn1_rs.proofs.asn1_types.set.set_of.SetOfLawfulItemBySetKindRepeats.
 
 pub returns : goal.returns
 returns g c =
-    let items = items_of c.args.self.now in
-    (map g.T.Grammar.grammar.value items, refl, All-map g.T.Grammar.grammar.IsValue g.T.Grammar.grammar.value items c.state_each.ensures)
+    let items = items_of c.args.self.now in (
+      map g.T.Grammar.grammar.value items,
+      refl,
+      All-map g.T.Grammar.grammar.IsValue g.T.Grammar.grammar.value items c.state_each.ensures,
+    )

@@ -9,11 +9,18 @@ returns-clause-wrote g c = λ t. c.put_counted_header.ensures.wrote _ (c.to_der_
 pub returns-clause-refused : goal.returns-clause-refused
 returns-clause-refused g c = λ t.
     let joined = whole_octets g.T.ToDer.writing c.args.self.now.inner in
-    class_refused g.row.CLASS _ _ (WrittenRefusal (g.T.ToDer.writing.count_refuses c.args.self.now.inner)) c.put_counted_header.result (omega arith)
-    (counted_refused g.T.ToDer.writing.count_allocates _ joined (g.T.ToDer.writing.count_refuses c.args.self.now.inner) c.to_der_len.result c.put_counted_header.result _ _ (c.to_der_len.ensures.refused t) (c.put_counted_header.ensures.why g.T.ToDer.writing.count_allocates _ joined) c.put_counted_header.ensures.refused)
+    class_refused g.row.CLASS _ _ (WrittenRefusal (g.T.ToDer.writing.count_refuses c.args.self.now.inner))
+    c.put_counted_header.result (omega arith)
+    (counted_refused g.T.ToDer.writing.count_allocates _ joined
+    (g.T.ToDer.writing.count_refuses c.args.self.now.inner) c.to_der_len.result c.put_counted_header.result _ _
+    (c.to_der_len.ensures.refused t) (c.put_counted_header.ensures.why g.T.ToDer.writing.count_allocates _ joined)
+    c.put_counted_header.ensures.refused)
 
 pub returns-clause-at_once : goal.returns-clause-at_once
 returns-clause-at_once g c = λ e t o.
     let joined = whole_octets g.T.ToDer.writing c.args.self.now.inner in
-    class_at_once g.row.CLASS _ _ (WrittenRefusal (g.T.ToDer.writing.count_refuses c.args.self.now.inner)) _ _ c.put_counted_header.result (omega arith)
-    (counted_at_once g.T.ToDer.writing.count_allocates _ joined (g.T.ToDer.writing.count_refuses c.args.self.now.inner) c.to_der_len.result c.put_counted_header.result _ _ (c.to_der_len.ensures.refused t) (λ e. c.to_der_len.ensures.accepted e t) c.put_counted_header.ensures.refused) e o
+    class_at_once g.row.CLASS _ _ (WrittenRefusal (g.T.ToDer.writing.count_refuses c.args.self.now.inner)) _ _
+    c.put_counted_header.result (omega arith)
+    (counted_at_once g.T.ToDer.writing.count_allocates _ joined (g.T.ToDer.writing.count_refuses c.args.self.now.inner)
+    c.to_der_len.result c.put_counted_header.result _ _ (c.to_der_len.ensures.refused t)
+    (λ e. c.to_der_len.ensures.accepted e t) c.put_counted_header.ensures.refused) e o

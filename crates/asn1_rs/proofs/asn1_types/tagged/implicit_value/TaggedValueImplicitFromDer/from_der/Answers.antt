@@ -2,4 +2,9 @@ use Rattle.std.proofs.Common.{refl, inr}
 use Rattle.asn1_rs.proofs.asn1_types.tagged.implicit_value.TaggedValueImplicitFromDer.from_der.Goals as goal
 
 pub returns-in-Err : goal.returns-in-Err
-returns-in-Err g c = inr (c.in_ok-rest.any, c.in_ok-rest.rest.now, rw c.in_ok-rest.ensures at c.element_by_der.ensures, inr (refl, (c.in-Err.e, c.in-Err.ensures, refl)))
+returns-in-Err g c = inr (
+  c.in_ok-rest.any,
+  c.in_ok-rest.rest.now,
+  rw c.in_ok-rest.ensures at c.element_by_der.ensures,
+  inr (refl, (c.in-Err.e, c.in-Err.ensures, refl)),
+)

@@ -8,5 +8,10 @@ pub returns-clause-refused : goal.returns-clause-refused
 returns-clause-refused g c = λ t.
     let content = g.T.ToDer.writing.content c.args.self.now.inner in
     let constructed = g.T.ToDer.writing.constructed c.args.self.now.inner in
-    let shorter : length content ≤ length (header_octets g.row.CLASS constructed g.row.TAG (length content) ++ content) = simp length-append (omega arith) in
-    element_refused g.T.ToDer.writing.count_allocates _ _ (g.T.ToDer.writing.count_refuses c.args.self.now.inner) c.der_content_len.result c.element_len.result (c.der_content_len.ensures.refused t) (c.element_len.ensures.why g.T.ToDer.writing.count_allocates g.row.CLASS constructed content (c.der_content_len.ensures.count t)) (λ e m. MayRefuseCount_more e g.T.ToDer.writing.count_allocates _ _ shorter m) c.element_len.ensures.refused
+    let shorter : length content ≤
+    length (header_octets g.row.CLASS constructed g.row.TAG (length content) ++ content) =
+    simp length-append (omega arith) in
+    element_refused g.T.ToDer.writing.count_allocates _ _ (g.T.ToDer.writing.count_refuses c.args.self.now.inner)
+    c.der_content_len.result c.element_len.result (c.der_content_len.ensures.refused t) (c.element_len.ensures.why
+    g.T.ToDer.writing.count_allocates g.row.CLASS constructed content (c.der_content_len.ensures.count t))
+    (λ e m. MayRefuseCount_more e g.T.ToDer.writing.count_allocates _ _ shorter m) c.element_len.ensures.refused

@@ -6,11 +6,18 @@ use Rattle.asn1_rs.proofs.asn1_types.tagged.implicit_value.TaggedValueImplicitTo
 pub returns-clause-refused : goal.returns-clause-refused
 returns-clause-refused g c = λ t.
     let content = g.T.ToDer.writing.content c.args.self.now.inner in
-    class_refused g.row.CLASS _ _ (WrittenRefusal (g.T.ToDer.writing.count_refuses c.args.self.now.inner)) c.put_counted_header.result (omega arith)
-    (counted_refused g.T.ToDer.writing.count_allocates _ content (g.T.ToDer.writing.count_refuses c.args.self.now.inner) c.der_content_len.result c.put_counted_header.result _ _ (c.der_content_len.ensures.refused t) (c.put_counted_header.ensures.why g.T.ToDer.writing.count_allocates _ content) c.put_counted_header.ensures.refused)
+    class_refused g.row.CLASS _ _ (WrittenRefusal (g.T.ToDer.writing.count_refuses c.args.self.now.inner))
+    c.put_counted_header.result (omega arith)
+    (counted_refused g.T.ToDer.writing.count_allocates _ content (g.T.ToDer.writing.count_refuses c.args.self.now.inner)
+    c.der_content_len.result c.put_counted_header.result _ _ (c.der_content_len.ensures.refused t)
+    (c.put_counted_header.ensures.why g.T.ToDer.writing.count_allocates _ content)
+    c.put_counted_header.ensures.refused)
 
 pub returns-clause-at_once : goal.returns-clause-at_once
 returns-clause-at_once g c = λ e t o.
     let content = g.T.ToDer.writing.content c.args.self.now.inner in
-    class_at_once g.row.CLASS _ _ (WrittenRefusal (g.T.ToDer.writing.count_refuses c.args.self.now.inner)) _ _ c.put_counted_header.result (omega arith)
-    (counted_at_once g.T.ToDer.writing.count_allocates _ content (g.T.ToDer.writing.count_refuses c.args.self.now.inner) c.der_content_len.result c.put_counted_header.result _ _ (c.der_content_len.ensures.refused t) (λ e. c.der_content_len.ensures.accepted e t) c.put_counted_header.ensures.refused) e o
+    class_at_once g.row.CLASS _ _ (WrittenRefusal (g.T.ToDer.writing.count_refuses c.args.self.now.inner)) _ _
+    c.put_counted_header.result (omega arith)
+    (counted_at_once g.T.ToDer.writing.count_allocates _ content (g.T.ToDer.writing.count_refuses c.args.self.now.inner)
+    c.der_content_len.result c.put_counted_header.result _ _ (c.der_content_len.ensures.refused t)
+    (λ e. c.der_content_len.ensures.accepted e t) c.put_counted_header.ensures.refused) e o

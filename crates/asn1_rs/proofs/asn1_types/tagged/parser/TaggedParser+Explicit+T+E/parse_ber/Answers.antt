@@ -4,4 +4,6 @@ use Rattle.asn1_rs.proofs.TaggedReaders.{expects}
 use Rattle.asn1_rs.proofs.asn1_types.tagged.parser.TaggedParser+Explicit+T+E.parse_ber.Goals as goal
 
 pub returns-in-Ok : goal.returns-in-Ok
-returns-in-Ok g c = expects (ThenByBer g.E.From.from_gives (TakesExplicit g.T.FromBer.ber_gives)) (HasTag c.args.class c.args.tag) g.E.From.from_gives c.args.bytes.now c.in-Ok.rest.now c.in-Ok.parser _ c.in-Ok.ensures c.with_tag.ensures
+returns-in-Ok g c =
+    expects (ThenByBer g.E.From.from_gives (TakesExplicit g.T.FromBer.ber_gives)) (HasTag c.args.class c.args.tag)
+    g.E.From.from_gives c.args.bytes.now c.in-Ok.rest.now c.in-Ok.parser _ c.in-Ok.ensures c.with_tag.ensures

@@ -4,4 +4,7 @@ use Rattle.asn1_rs.proofs.TaggedReaders.{expects}
 use Rattle.asn1_rs.proofs.asn1_types.tagged.parser.TaggedParser+Implicit+T+E.parse_der.Goals as goal
 
 pub returns-in-Ok : goal.returns-in-Ok
-returns-in-Ok g c = expects (ThenByDer g.E.From.from_gives (TakesImplicit g.T.Tagged.TAG (ChecksAndConverts g.T.CheckDerConstraints.check_gives g.T.FromAny.any_gives g.E.From.from_gives))) (HasTag c.args.class c.args.tag) g.E.From.from_gives c.args.bytes.now c.in-Ok.rest.now c.in-Ok.parser _ c.in-Ok.ensures c.with_tag.ensures
+returns-in-Ok g c = expects (ThenByDer g.E.From.from_gives (TakesImplicit g.T.Tagged.TAG
+    (ChecksAndConverts g.T.CheckDerConstraints.check_gives g.T.FromAny.any_gives g.E.From.from_gives)))
+    (HasTag c.args.class c.args.tag) g.E.From.from_gives c.args.bytes.now c.in-Ok.rest.now c.in-Ok.parser _
+    c.in-Ok.ensures c.with_tag.ensures

@@ -11,5 +11,9 @@ returns-clause-refused g c = rw (← c.tag.ensures) (λ t.
     let class = class_number (class_of c.args.self.now.header) in
     let constructed = g.Kind.PutsUnder.under.bit c.args.self.now.inner in
     let octets = g.Kind.PutsUnder.under.octets c.args.self.now.inner in
-    let shorter : length octets ≤ length (header_octets class constructed c.tag.result.0 (length octets) ++ octets) = simp length-append (omega arith) in
-    element_refused g.T.ToDer.writing.count_allocates _ _ (g.T.ToDer.writing.count_refuses c.args.self.now.inner) c.count_octets.result c.element_len.result (c.count_octets.ensures.refused t) (c.element_len.ensures.why g.T.ToDer.writing.count_allocates class constructed octets (c.count_octets.ensures.count t)) (λ e m. MayRefuseCount_more e g.T.ToDer.writing.count_allocates _ _ shorter m) c.element_len.ensures.refused)
+    let shorter : length octets ≤ length (header_octets class constructed c.tag.result.0 (length octets) ++ octets) =
+    simp length-append (omega arith) in
+    element_refused g.T.ToDer.writing.count_allocates _ _ (g.T.ToDer.writing.count_refuses c.args.self.now.inner)
+    c.count_octets.result c.element_len.result (c.count_octets.ensures.refused t) (c.element_len.ensures.why
+    g.T.ToDer.writing.count_allocates class constructed octets (c.count_octets.ensures.count t))
+    (λ e m. MayRefuseCount_more e g.T.ToDer.writing.count_allocates _ _ shorter m) c.element_len.ensures.refused)

@@ -13,7 +13,8 @@ element text = universal_header 24 text ++ text
 
 pub returns-clause-wrote : goal.returns-clause-wrote
 returns-clause-wrote g c =
-    subst (λ (text : List ℕ). Wrote (element text) (g.W.DerWrite.state c.args.w.now) (g.W.DerWrite.state c.put_behind.new.w) c.put_behind.result)
+    subst (λ (text : List ℕ). Wrote (element text) (g.W.DerWrite.state c.args.w.now)
+    (g.W.DerWrite.state c.put_behind.new.w) c.put_behind.result)
     (c.as_bytes-octets.ensures ∙ c.in-Some.ensures.text ∙ ap generalized_time_text c.moment.ensures)
     (c.put_behind.ensures.wrote _ _ c.put_header-header.ensures.wrote)
 
@@ -21,7 +22,8 @@ pub returns-clause-refused : goal.returns-clause-refused
 returns-clause-refused g c =
     let m = moment_of c.args.self.now.0 in
     let fits : FitsGeneralizedTime m = subst FitsGeneralizedTime c.moment.ensures (c.in-Some.ensures.exact.0 refl) in
-    put_plain IsInvalidDateTime (generalized_time_refused m) (length (element (generalized_time_text m))) _ _ c.put_behind.result (accepted 9999 m fits)
+    put_plain IsInvalidDateTime (generalized_time_refused m)
+    (length (element (generalized_time_text m))) _ _ c.put_behind.result (accepted 9999 m fits)
     (subst (λ (text : List ℕ). IfErr c.put_behind.result (MayRefuse false (length (element text))))
     (c.as_bytes-octets.ensures ∙ c.in-Some.ensures.text ∙ ap generalized_time_text c.moment.ensures)
     (c.put_behind.ensures.failed _ _ c.put_header-header.ensures.wrote (c.put_header-header.ensures.failed _ _)))
