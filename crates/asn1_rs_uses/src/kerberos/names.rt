@@ -1,0 +1,72 @@
+//! Names (RFC 4120, 5.2.2).
+
+use super::Under;
+use crate::contents::{
+    TakesFields, WritesFields, count_fields, count_sequence, write_fields, write_header,
+};
+use crate::fields::Fields;
+use asn1_rs::{
+    DerWrite, ElementKind, Error, FromDer, GeneralString, HasKind, ParseResult, SerializeResult,
+    TagNumber, TaggedAs, ToDer,
+};
+use std::alloc::Global;
+
+/// The name of a client or of a service.
+///
+///     PrincipalName ::= SEQUENCE {
+///         name-type    [0] Int32,
+///         name-string  [1] SEQUENCE OF KerberosString }
+#[derive(Debug, PartialEq, Eq, Drop)]
+pub struct PrincipalName<'a> {
+    pub name_type: Under<i32, 0>,
+    pub name_string: Under<Vec<GeneralString<'a>>, 1>,
+}
+
+impl<'a> FromDer<'a, Error> for PrincipalName<'a> {
+    fn from_der(alloc: Global, bytes: &'a [u8]) -> ParseResult<'a, PrincipalName<'a>, Error> {
+        let (rest, mut fields) = Fields::of_sequence(alloc, bytes)?;
+        let name = PrincipalName {
+            name_type: fields.next()?,
+            name_string: fields.next()?,
+        };
+        fields.end()?;
+        Ok((rest, name))
+    }
+}
+
+impl WritesFields for PrincipalName<'_> {
+    fn each_field<F: TakesFields>(&self, fields: &mut F) -> Result<(), F::Refusal> {
+        fields.field(&self.name_type)?;
+        fields.field(&self.name_string)
+    }
+}
+
+impl HasKind for PrincipalName<'_> {
+    type Kind = ElementKind;
+}
+
+impl TaggedAs for PrincipalName<'_> {
+    type Number = TagNumber<16>;
+}
+
+impl ToDer for PrincipalName<'_> {
+    fn to_der_len(&self) -> Result<usize, Error> {
+        count_sequence(self)
+    }
+
+    fn der_content_len(&self) -> Result<usize, Error> {
+        count_fields(self)
+    }
+
+    fn der_constructed(&self) -> bool {
+        true
+    }
+
+    fn write_der_header<W: DerWrite>(&self, alloc: Global, w: &mut W) -> SerializeResult<usize> {
+        write_header(self, alloc, w)
+    }
+
+    fn write_der_content<W: DerWrite>(&self, alloc: Global, w: &mut W) -> SerializeResult<usize> {
+        write_fields(self, alloc, w)
+    }
+}
