@@ -1,4 +1,6 @@
 //! Who signed a certificate, for whom, and how long it is valid (RFC 5280, 4.1): read by DER and borrowed.
+ghost use Rattle.std.specs.Prelude.{◌≡◌, IfOk};
+ghost use Rattle.asn1_rs_uses.specs.Fields.{TakesSequence};
 
 use crate::fields::Fields;
 use crate::kerberos::Under;
@@ -17,7 +19,9 @@ pub struct Attribute<'a> {
 
 impl<'a> Attribute<'a> {
     /// The text, which is borrowed from the certificate.
-    pub fn text(&self) -> Result<&'a str, Error> {
+    pub fn text(&self) -> Result<&'a str, Error>
+        ensures { IfOk result (λ text. text.now ≡ self.now.value.content.now) }
+    {
         self.value.as_any_string()
     }
 }
@@ -64,6 +68,8 @@ pub struct Certified<'a> {
 }
 
 impl<'a> FromDer<'a, Error> for Attribute<'a> {
+    ghost der_gives = { TakesSequence };
+
     fn from_der(alloc: Global, bytes: &'a [u8]) -> ParseResult<'a, Attribute<'a>, Error> {
         let (rest, mut fields) = Fields::of_sequence(alloc, bytes)?;
         let attribute = Attribute {
@@ -98,6 +104,8 @@ impl CheckDerConstraints for Time {
 impl DerAutoDerive for Time {}
 
 impl<'a> FromDer<'a, Error> for Validity {
+    ghost der_gives = { TakesSequence };
+
     fn from_der(alloc: Global, bytes: &'a [u8]) -> ParseResult<'a, Validity, Error> {
         let (rest, mut fields) = Fields::of_sequence(alloc, bytes)?;
         let validity = Validity {
@@ -111,6 +119,8 @@ impl<'a> FromDer<'a, Error> for Validity {
 
 /// The certificate at the front. Its key, its extensions and its signature are not looked at.
 impl<'a> FromDer<'a, Error> for Certified<'a> {
+    ghost der_gives = { TakesSequence };
+
     fn from_der(alloc: Global, bytes: &'a [u8]) -> ParseResult<'a, Certified<'a>, Error> {
         let (rest, mut certificate) = Fields::of_sequence(alloc, bytes)?;
         let mut fields = certificate.next_sequence()?;

@@ -1,4 +1,5 @@
 //! What is asked for (RFC 4120, 5.4.1).
+ghost use Rattle.asn1_rs_uses.specs.Fields.{TakesSequence};
 
 use super::{EncryptedData, HostAddress, PrincipalName, Under};
 use crate::contents::{
@@ -13,7 +14,7 @@ use std::alloc::Global;
 
 /// What is asked for. The tickets are kept as elements, and not looked at.
 ///
-///     KdcReqBody ::= SEQUENCE {
+///     KDC-REQ-BODY ::= SEQUENCE {
 ///         kdc-options             [0] KDCOptions,
 ///         cname                   [1] PrincipalName OPTIONAL,
 ///         realm                   [2] Realm,
@@ -43,6 +44,8 @@ pub struct KdcReqBody<'a> {
 }
 
 impl<'a> FromDer<'a, Error> for KdcReqBody<'a> {
+    ghost der_gives = { TakesSequence };
+
     fn from_der(alloc: Global, bytes: &'a [u8]) -> ParseResult<'a, KdcReqBody<'a>, Error> {
         let (rest, mut fields) = Fields::of_sequence(alloc, bytes)?;
         let body = KdcReqBody {

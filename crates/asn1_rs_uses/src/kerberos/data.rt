@@ -1,4 +1,5 @@
 //! What a request carries beside names: data for the authentication, addresses and what is encrypted (RFC 4120, 5.2).
+ghost use Rattle.asn1_rs_uses.specs.Fields.{TakesSequence};
 
 use super::Under;
 use crate::contents::{
@@ -13,7 +14,7 @@ use std::alloc::Global;
 
 /// Data for the authentication, of a type that says what its octets are (5.2.7).
 ///
-///     PaData ::= SEQUENCE {
+///     PA-DATA ::= SEQUENCE {
 ///         padata-type   [1] Int32,
 ///         padata-value  [2] OCTET STRING }
 #[derive(Debug, PartialEq, Eq, Drop)]
@@ -23,6 +24,8 @@ pub struct PaData<'a> {
 }
 
 impl<'a> FromDer<'a, Error> for PaData<'a> {
+    ghost der_gives = { TakesSequence };
+
     fn from_der(alloc: Global, bytes: &'a [u8]) -> ParseResult<'a, PaData<'a>, Error> {
         let (rest, mut fields) = Fields::of_sequence(alloc, bytes)?;
         let data = PaData {
@@ -83,6 +86,8 @@ pub struct HostAddress<'a> {
 }
 
 impl<'a> FromDer<'a, Error> for HostAddress<'a> {
+    ghost der_gives = { TakesSequence };
+
     fn from_der(alloc: Global, bytes: &'a [u8]) -> ParseResult<'a, HostAddress<'a>, Error> {
         let (rest, mut fields) = Fields::of_sequence(alloc, bytes)?;
         let address = HostAddress {
@@ -145,6 +150,8 @@ pub struct EncryptedData<'a> {
 }
 
 impl<'a> FromDer<'a, Error> for EncryptedData<'a> {
+    ghost der_gives = { TakesSequence };
+
     fn from_der(alloc: Global, bytes: &'a [u8]) -> ParseResult<'a, EncryptedData<'a>, Error> {
         let (rest, mut fields) = Fields::of_sequence(alloc, bytes)?;
         let encrypted = EncryptedData {

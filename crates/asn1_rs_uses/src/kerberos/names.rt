@@ -1,4 +1,5 @@
 //! Names (RFC 4120, 5.2.2).
+ghost use Rattle.asn1_rs_uses.specs.Fields.{TakesSequence};
 
 use super::Under;
 use crate::contents::{
@@ -23,6 +24,8 @@ pub struct PrincipalName<'a> {
 }
 
 impl<'a> FromDer<'a, Error> for PrincipalName<'a> {
+    ghost der_gives = { TakesSequence };
+
     fn from_der(alloc: Global, bytes: &'a [u8]) -> ParseResult<'a, PrincipalName<'a>, Error> {
         let (rest, mut fields) = Fields::of_sequence(alloc, bytes)?;
         let name = PrincipalName {

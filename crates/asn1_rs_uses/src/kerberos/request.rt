@@ -1,4 +1,6 @@
 //! The request whole (RFC 4120, 5.4.1).
+ghost use Rattle.std.specs.Prelude.{IfOk};
+ghost use Rattle.asn1_rs_uses.specs.Kerberos.{TakesAsReq, IsAsReq};
 
 use super::{KdcReqBody, PaData, Under};
 use crate::contents::{
@@ -16,7 +18,7 @@ pub type AsReq<'a> = ApplicationExplicit<KdcReq<'a>, Error, 10>;
 
 /// A request of version 5, of the type AS-REQ.
 ///
-///     KdcReq ::= SEQUENCE {
+///     KDC-REQ ::= SEQUENCE {
 ///         pvno      [1] INTEGER (5),
 ///         msg-type  [2] INTEGER (10),
 ///         padata    [3] SEQUENCE OF PA-DATA OPTIONAL,
@@ -30,6 +32,8 @@ pub struct KdcReq<'a> {
 }
 
 impl<'a> FromDer<'a, Error> for KdcReq<'a> {
+    ghost der_gives = { TakesAsReq };
+
     fn from_der(alloc: Global, bytes: &'a [u8]) -> ParseResult<'a, KdcReq<'a>, Error> {
         let (rest, mut fields) = Fields::of_sequence(alloc, bytes)?;
         let request = KdcReq {
@@ -41,6 +45,21 @@ impl<'a> FromDer<'a, Error> for KdcReq<'a> {
         fields.end()?;
         request.assert_numbers()?;
         Ok((rest, request))
+    }
+}
+
+impl KdcReq<'_> {
+    /// Refuses another version, and another type of messages.
+    fn assert_numbers(&self) -> Result<(), Error>
+        ensures { IfOk result (λ _. IsAsReq self.now) }
+    {
+        if *self.pvno.as_inner() != 5 {
+            return Err(Tag::Integer.invalid_value("another version"));
+        }
+        if *self.msg_type.as_inner() != 10 {
+            return Err(Tag::Integer.invalid_value("another message"));
+        }
+        Ok(())
     }
 }
 
@@ -80,18 +99,5 @@ impl ToDer for KdcReq<'_> {
 
     fn write_der_content<W: DerWrite>(&self, alloc: Global, w: &mut W) -> SerializeResult<usize> {
         write_fields(self, alloc, w)
-    }
-}
-
-impl KdcReq<'_> {
-    /// Refuses another version, and another type of messages.
-    fn assert_numbers(&self) -> Result<(), Error> {
-        if *self.pvno.as_inner() != 5 {
-            return Err(Tag::Integer.invalid_value("another version"));
-        }
-        if *self.msg_type.as_inner() != 10 {
-            return Err(Tag::Integer.invalid_value("another message"));
-        }
-        Ok(())
     }
 }
