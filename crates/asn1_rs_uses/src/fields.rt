@@ -31,7 +31,7 @@ impl<'a> Fields<'a> {
         Ok((rest, Fields { alloc, left }))
     }
 
-    /// The next field, by DER. One that is cut is refused as error `Incomplete`, since no octets follow in its sequence.
+    /// The next field, by DER. One that is cut is refused as error `Incomplete`, since no octets follow it.
     pub fn next<T: FromDer<'a, Error>>(&mut self) -> Result<T, Error>
         ensures { TakesField T.der_gives (fields_left self.old) (fields_left self.new) result }
     {

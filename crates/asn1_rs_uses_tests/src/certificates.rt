@@ -27,7 +27,7 @@ a7474190777533e37c9547a17c7bd628aba7610f6ae682d067c3d232f209b9926ff5f1ffb352ab73
 fn push_attributes(text: &mut String, alloc: Global, set: &[Attribute<'_>]) -> Result<(), Fail> {
     for attribute in set {
         let kind = attribute.kind.to_id_string(alloc)?;
-        write!(text, "{}={} ", kind.as_str(), attribute.text()?)?;
+        write!(text, "{}={};", kind.as_str(), attribute.text()?)?;
     }
     text.push('\n')?;
     Ok(())
@@ -44,10 +44,10 @@ fn assert_name(alloc: Global, name: &Name<'_>, expected: &str) -> Result<(), Fai
 
 /// The attributes of the certificate's names.
 const NAME: &str = "\
-0.9.2342.19200300.100.1.25=tests 
-2.5.4.10=Zürich 
-2.5.4.3=Leaf 2.5.4.5=12 34 
-1.2.840.113549.1.9.1=leaf@example.org 
+0.9.2342.19200300.100.1.25=tests;
+2.5.4.10=Zürich;
+2.5.4.3=Leaf;2.5.4.5=12 34;
+1.2.840.113549.1.9.1=leaf@example.org;
 ";
 
 #[test]

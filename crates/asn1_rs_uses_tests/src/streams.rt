@@ -35,7 +35,8 @@ fn a_message_is_awaited_octet_by_octet(rt: HostRuntime) -> Result<(), Fail> {
 /// The rest behind a message, and how refusals are told: whether to wait.
 const BUFFERS: &str = "\
 request:
-6a3d303ba103020105a20302010aa42f302da00703050000000000a2031b0141a511180f32303337303931333032343830355aa703020105a80530030201126a3d30 = [106, 61, 48]
+6a3d303ba103020105a20302010aa42f302da00703050000000000a2031b0141a511180f3230333730393133303234383035\
+5aa703020105a80530030201126a3d30 = [106, 61, 48]
 6a3d30 = Incomplete(Size(60))
 6a033005a1 = Error(Incomplete(Size(4)))
 6a033005a1020105 = Error(Incomplete(Size(4)))
