@@ -51,6 +51,7 @@ pub use certificate::Validity;
 pub use choice::DirectoryName;
 pub use choice::has_tag_of;
 pub use choice::is_directory_name;
+pub use fields::Fields;
 pub use fingerprint::Fingerprint;
 pub use fingerprint::number_of_fingerprints;
 pub use handle::Handle;
