@@ -1,8 +1,8 @@
 //! Who signed a certificate, for whom, and how long it is valid (RFC 5280, 4.1): read by DER and borrowed.
 ghost use Rattle.std.specs.Prelude.{◌≡◌, IfOk};
-ghost use Rattle.asn1_rs_uses.specs.Fields.{TakesSequence};
+ghost use Rattle.asn1_rs_uses.specs.FieldReader.{TakesSequence};
 
-use crate::fields::Fields;
+use crate::field_reader::FieldReader;
 use crate::kerberos::Under;
 use asn1_rs::{
     Any, CheckDerConstraints, DerAutoDerive, Error, FromAny, FromDer, GeneralizedTime, Integer,
@@ -71,7 +71,7 @@ impl<'a> FromDer<'a, Error> for Attribute<'a> {
     ghost der_gives = { TakesSequence };
 
     fn from_der(alloc: Global, bytes: &'a [u8]) -> ParseResult<'a, Attribute<'a>, Error> {
-        let (rest, mut fields) = Fields::of_sequence(alloc, bytes)?;
+        let (rest, mut fields) = FieldReader::of_sequence(alloc, bytes)?;
         let attribute = Attribute {
             kind: fields.next()?,
             value: fields.next()?,
@@ -107,7 +107,7 @@ impl<'a> FromDer<'a, Error> for Validity {
     ghost der_gives = { TakesSequence };
 
     fn from_der(alloc: Global, bytes: &'a [u8]) -> ParseResult<'a, Validity, Error> {
-        let (rest, mut fields) = Fields::of_sequence(alloc, bytes)?;
+        let (rest, mut fields) = FieldReader::of_sequence(alloc, bytes)?;
         let validity = Validity {
             not_before: fields.next()?,
             not_after: fields.next()?,
@@ -122,7 +122,7 @@ impl<'a> FromDer<'a, Error> for Certified<'a> {
     ghost der_gives = { TakesSequence };
 
     fn from_der(alloc: Global, bytes: &'a [u8]) -> ParseResult<'a, Certified<'a>, Error> {
-        let (rest, mut certificate) = Fields::of_sequence(alloc, bytes)?;
+        let (rest, mut certificate) = FieldReader::of_sequence(alloc, bytes)?;
         let mut fields = certificate.next_sequence()?;
         let _version: Option<Under<u8, 0>> = fields.next()?;
         let _serial_number: Integer<'a> = fields.next()?;

@@ -1,65 +1,58 @@
-//! The fields of a sequence, which are counted and written one after another.
+//! A sequence of fields, which are counted or collected one after another, so that one line for each serves both.
 
 use asn1_rs::{
-    Class, DerWrite, Error, Header, Length, SerializeError, SerializeResult, Tag, ToDer,
+    Class, DerWrite, Error, Header, Length, SerializeError, SerializeResult, Tag, ToDer, Told,
+    put_all,
 };
 use std::alloc::Global;
 
-/// A sequence of fields.
+/// A value that is written as a sequence of its fields.
 pub trait WritesFields {
-    /// Hands each field on, in their order.
-    fn each_field<F: TakesFields>(&self, fields: &mut F) -> Result<(), F::Refusal>;
+    /// Puts each field, in their order.
+    fn put_fields(&self, fields: &mut Fields) -> SerializeResult<()>;
 }
 
-/// What the fields of a sequence are handed to.
-pub trait TakesFields {
-    /// Why a field is refused.
-    type Refusal;
-
-    /// Takes the next field.
-    fn field<T: ToDer>(&mut self, field: &T) -> Result<(), Self::Refusal>;
-}
-
-/// How many octets the fields have.
+/// What was taken of the fields so far.
 #[derive(Drop)]
-struct Counted(usize);
+pub enum Fields {
+    /// The number of their octets.
+    Counted(usize),
+    /// Their octets.
+    Collected(Global, Told<Vec<u8>>),
+}
 
-impl TakesFields for Counted {
-    type Refusal = Error;
-
-    fn field<T: ToDer>(&mut self, field: &T) -> Result<(), Error> {
-        let count = field.to_der_len()?;
-        self.0 = self.0.checked_add(count).ok_or(Error::InvalidLength)?;
+impl Fields {
+    /// Takes the next field.
+    pub fn put<T: ToDer>(&mut self, field: &T) -> SerializeResult<()> {
+        match self {
+            Fields::Counted(count) => {
+                let sum = count.checked_add(field.to_der_len()?);
+                *count = sum.ok_or(SerializeError::InvalidLength)?;
+            }
+            Fields::Collected(alloc, octets) => {
+                field.write_der(*alloc, octets)?;
+            }
+        }
         Ok(())
     }
-}
 
-/// The writer that the fields are appended to, and how many octets were.
-#[derive(Drop)]
-struct Written<'w, W> {
-    alloc: Global,
-    writer: &'w mut W,
-    count: usize,
-}
-
-impl<W: DerWrite> TakesFields for Written<'_, W> {
-    type Refusal = SerializeError;
-
-    fn field<T: ToDer>(&mut self, field: &T) -> SerializeResult<()> {
-        let count = field.write_der(self.alloc, self.writer)?;
-        self.count = self
-            .count
-            .checked_add(count)
-            .ok_or(SerializeError::InvalidLength)?;
-        Ok(())
+    /// How many octets were taken.
+    fn count(&self) -> usize {
+        match self {
+            Fields::Counted(count) => *count,
+            Fields::Collected(_, octets) => octets.as_inner().len(),
+        }
     }
 }
 
 /// How many octets the fields have.
 pub fn count_fields<T: WritesFields>(message: &T) -> Result<usize, Error> {
-    let mut counted = Counted(0);
-    message.each_field(&mut counted)?;
-    Ok(counted.0)
+    let mut fields = Fields::Counted(0);
+    match message.put_fields(&mut fields) {
+        Ok(()) => Ok(fields.count()),
+        Err(SerializeError::ASN1Error(e)) => Err(e),
+        Err(_) => Err(Error::InvalidLength),
+    }
 }
 
 /// The header of the sequence.
@@ -90,11 +83,10 @@ pub fn write_fields<T: WritesFields, W: DerWrite>(
     alloc: Global,
     w: &mut W,
 ) -> SerializeResult<usize> {
-    let mut written = Written {
-        alloc,
-        writer: w,
-        count: 0,
-    };
-    message.each_field(&mut written)?;
-    Ok(written.count)
+    let mut fields = Fields::Collected(alloc, Told::new(Vec::new(alloc)));
+    message.put_fields(&mut fields)?;
+    match fields {
+        Fields::Collected(_, octets) => put_all(w, &octets.into_inner()),
+        Fields::Counted(count) => Ok(count),
+    }
 }

@@ -1,11 +1,11 @@
 //! What is asked for (RFC 4120, 5.4.1).
-ghost use Rattle.asn1_rs_uses.specs.Fields.{TakesSequence};
+ghost use Rattle.asn1_rs_uses.specs.FieldReader.{TakesSequence};
 
 use super::{EncryptedData, HostAddress, PrincipalName, Under};
 use crate::contents::{
-    TakesFields, WritesFields, count_fields, count_sequence, write_fields, write_header,
+    Fields, WritesFields, count_fields, count_sequence, write_fields, write_header,
 };
-use crate::fields::Fields;
+use crate::field_reader::FieldReader;
 use asn1_rs::{
     Any, BitString, DerWrite, ElementKind, Error, FromDer, GeneralString, GeneralizedTime, HasKind,
     ParseResult, SerializeResult, TagNumber, TaggedAs, ToDer,
@@ -47,7 +47,7 @@ impl<'a> FromDer<'a, Error> for KdcReqBody<'a> {
     ghost der_gives = { TakesSequence };
 
     fn from_der(alloc: Global, bytes: &'a [u8]) -> ParseResult<'a, KdcReqBody<'a>, Error> {
-        let (rest, mut fields) = Fields::of_sequence(alloc, bytes)?;
+        let (rest, mut fields) = FieldReader::of_sequence(alloc, bytes)?;
         let body = KdcReqBody {
             kdc_options: fields.next()?,
             cname: fields.next()?,
@@ -68,19 +68,19 @@ impl<'a> FromDer<'a, Error> for KdcReqBody<'a> {
 }
 
 impl WritesFields for KdcReqBody<'_> {
-    fn each_field<F: TakesFields>(&self, fields: &mut F) -> Result<(), F::Refusal> {
-        fields.field(&self.kdc_options)?;
-        fields.field(&self.cname)?;
-        fields.field(&self.realm)?;
-        fields.field(&self.sname)?;
-        fields.field(&self.from)?;
-        fields.field(&self.till)?;
-        fields.field(&self.rtime)?;
-        fields.field(&self.nonce)?;
-        fields.field(&self.etype)?;
-        fields.field(&self.addresses)?;
-        fields.field(&self.enc_authorization_data)?;
-        fields.field(&self.additional_tickets)
+    fn put_fields(&self, fields: &mut Fields) -> SerializeResult<()> {
+        fields.put(&self.kdc_options)?;
+        fields.put(&self.cname)?;
+        fields.put(&self.realm)?;
+        fields.put(&self.sname)?;
+        fields.put(&self.from)?;
+        fields.put(&self.till)?;
+        fields.put(&self.rtime)?;
+        fields.put(&self.nonce)?;
+        fields.put(&self.etype)?;
+        fields.put(&self.addresses)?;
+        fields.put(&self.enc_authorization_data)?;
+        fields.put(&self.additional_tickets)
     }
 }
 

@@ -1,11 +1,11 @@
 //! What a request carries beside names: data for the authentication, addresses and what is encrypted (RFC 4120, 5.2).
-ghost use Rattle.asn1_rs_uses.specs.Fields.{TakesSequence};
+ghost use Rattle.asn1_rs_uses.specs.FieldReader.{TakesSequence};
 
 use super::Under;
 use crate::contents::{
-    TakesFields, WritesFields, count_fields, count_sequence, write_fields, write_header,
+    Fields, WritesFields, count_fields, count_sequence, write_fields, write_header,
 };
-use crate::fields::Fields;
+use crate::field_reader::FieldReader;
 use asn1_rs::{
     DerWrite, ElementKind, Error, FromDer, HasKind, OctetString, ParseResult, SerializeResult,
     TagNumber, TaggedAs, ToDer,
@@ -27,7 +27,7 @@ impl<'a> FromDer<'a, Error> for PaData<'a> {
     ghost der_gives = { TakesSequence };
 
     fn from_der(alloc: Global, bytes: &'a [u8]) -> ParseResult<'a, PaData<'a>, Error> {
-        let (rest, mut fields) = Fields::of_sequence(alloc, bytes)?;
+        let (rest, mut fields) = FieldReader::of_sequence(alloc, bytes)?;
         let data = PaData {
             padata_type: fields.next()?,
             padata_value: fields.next()?,
@@ -38,9 +38,9 @@ impl<'a> FromDer<'a, Error> for PaData<'a> {
 }
 
 impl WritesFields for PaData<'_> {
-    fn each_field<F: TakesFields>(&self, fields: &mut F) -> Result<(), F::Refusal> {
-        fields.field(&self.padata_type)?;
-        fields.field(&self.padata_value)
+    fn put_fields(&self, fields: &mut Fields) -> SerializeResult<()> {
+        fields.put(&self.padata_type)?;
+        fields.put(&self.padata_value)
     }
 }
 
@@ -89,7 +89,7 @@ impl<'a> FromDer<'a, Error> for HostAddress<'a> {
     ghost der_gives = { TakesSequence };
 
     fn from_der(alloc: Global, bytes: &'a [u8]) -> ParseResult<'a, HostAddress<'a>, Error> {
-        let (rest, mut fields) = Fields::of_sequence(alloc, bytes)?;
+        let (rest, mut fields) = FieldReader::of_sequence(alloc, bytes)?;
         let address = HostAddress {
             addr_type: fields.next()?,
             address: fields.next()?,
@@ -100,9 +100,9 @@ impl<'a> FromDer<'a, Error> for HostAddress<'a> {
 }
 
 impl WritesFields for HostAddress<'_> {
-    fn each_field<F: TakesFields>(&self, fields: &mut F) -> Result<(), F::Refusal> {
-        fields.field(&self.addr_type)?;
-        fields.field(&self.address)
+    fn put_fields(&self, fields: &mut Fields) -> SerializeResult<()> {
+        fields.put(&self.addr_type)?;
+        fields.put(&self.address)
     }
 }
 
@@ -153,7 +153,7 @@ impl<'a> FromDer<'a, Error> for EncryptedData<'a> {
     ghost der_gives = { TakesSequence };
 
     fn from_der(alloc: Global, bytes: &'a [u8]) -> ParseResult<'a, EncryptedData<'a>, Error> {
-        let (rest, mut fields) = Fields::of_sequence(alloc, bytes)?;
+        let (rest, mut fields) = FieldReader::of_sequence(alloc, bytes)?;
         let encrypted = EncryptedData {
             etype: fields.next()?,
             kvno: fields.next()?,
@@ -165,10 +165,10 @@ impl<'a> FromDer<'a, Error> for EncryptedData<'a> {
 }
 
 impl WritesFields for EncryptedData<'_> {
-    fn each_field<F: TakesFields>(&self, fields: &mut F) -> Result<(), F::Refusal> {
-        fields.field(&self.etype)?;
-        fields.field(&self.kvno)?;
-        fields.field(&self.cipher)
+    fn put_fields(&self, fields: &mut Fields) -> SerializeResult<()> {
+        fields.put(&self.etype)?;
+        fields.put(&self.kvno)?;
+        fields.put(&self.cipher)
     }
 }
 

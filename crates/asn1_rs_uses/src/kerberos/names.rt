@@ -1,11 +1,11 @@
 //! Names (RFC 4120, 5.2.2).
-ghost use Rattle.asn1_rs_uses.specs.Fields.{TakesSequence};
+ghost use Rattle.asn1_rs_uses.specs.FieldReader.{TakesSequence};
 
 use super::Under;
 use crate::contents::{
-    TakesFields, WritesFields, count_fields, count_sequence, write_fields, write_header,
+    Fields, WritesFields, count_fields, count_sequence, write_fields, write_header,
 };
-use crate::fields::Fields;
+use crate::field_reader::FieldReader;
 use asn1_rs::{
     DerWrite, ElementKind, Error, FromDer, GeneralString, HasKind, ParseResult, SerializeResult,
     TagNumber, TaggedAs, ToDer,
@@ -27,7 +27,7 @@ impl<'a> FromDer<'a, Error> for PrincipalName<'a> {
     ghost der_gives = { TakesSequence };
 
     fn from_der(alloc: Global, bytes: &'a [u8]) -> ParseResult<'a, PrincipalName<'a>, Error> {
-        let (rest, mut fields) = Fields::of_sequence(alloc, bytes)?;
+        let (rest, mut fields) = FieldReader::of_sequence(alloc, bytes)?;
         let name = PrincipalName {
             name_type: fields.next()?,
             name_string: fields.next()?,
@@ -38,9 +38,9 @@ impl<'a> FromDer<'a, Error> for PrincipalName<'a> {
 }
 
 impl WritesFields for PrincipalName<'_> {
-    fn each_field<F: TakesFields>(&self, fields: &mut F) -> Result<(), F::Refusal> {
-        fields.field(&self.name_type)?;
-        fields.field(&self.name_string)
+    fn put_fields(&self, fields: &mut Fields) -> SerializeResult<()> {
+        fields.put(&self.name_type)?;
+        fields.put(&self.name_string)
     }
 }
 

@@ -4,9 +4,9 @@ ghost use Rattle.asn1_rs_uses.specs.Kerberos.{TakesAsReq, IsAsReq};
 
 use super::{KdcReqBody, PaData, Under};
 use crate::contents::{
-    TakesFields, WritesFields, count_fields, count_sequence, write_fields, write_header,
+    Fields, WritesFields, count_fields, count_sequence, write_fields, write_header,
 };
-use crate::fields::Fields;
+use crate::field_reader::FieldReader;
 use asn1_rs::{
     ApplicationExplicit, DerWrite, ElementKind, Error, FromDer, HasKind, ParseResult,
     SerializeResult, Tag, TagNumber, TaggedAs, ToDer,
@@ -35,7 +35,7 @@ impl<'a> FromDer<'a, Error> for KdcReq<'a> {
     ghost der_gives = { TakesAsReq };
 
     fn from_der(alloc: Global, bytes: &'a [u8]) -> ParseResult<'a, KdcReq<'a>, Error> {
-        let (rest, mut fields) = Fields::of_sequence(alloc, bytes)?;
+        let (rest, mut fields) = FieldReader::of_sequence(alloc, bytes)?;
         let request = KdcReq {
             pvno: fields.next()?,
             msg_type: fields.next()?,
@@ -64,11 +64,11 @@ impl KdcReq<'_> {
 }
 
 impl WritesFields for KdcReq<'_> {
-    fn each_field<F: TakesFields>(&self, fields: &mut F) -> Result<(), F::Refusal> {
-        fields.field(&self.pvno)?;
-        fields.field(&self.msg_type)?;
-        fields.field(&self.padata)?;
-        fields.field(&self.req_body)
+    fn put_fields(&self, fields: &mut Fields) -> SerializeResult<()> {
+        fields.put(&self.pvno)?;
+        fields.put(&self.msg_type)?;
+        fields.put(&self.padata)?;
+        fields.put(&self.req_body)
     }
 }
 

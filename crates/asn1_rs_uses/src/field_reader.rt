@@ -1,24 +1,24 @@
 //! The fields of a sequence, which are read by DER, one after another.
 ghost use Rattle.std.specs.Prelude.{◌≡◌, ◌↔◌, [], IfOk, IsOk};
 ghost use Rattle.asn1_headers.specs.Answers.{seen};
-ghost use Rattle.asn1_rs_uses.specs.Fields.{BeginsWithSequence, TakesField, fields_left};
+ghost use Rattle.asn1_rs_uses.specs.FieldReader.{BeginsWithSequence, TakesField, fields_left};
 
 use asn1_rs::{Any, Class, Error, FromDer, ParseResult, Tag, any_is_the_element};
 use std::alloc::Global;
 
 /// The fields of a sequence that are still to be read.
 #[derive(Drop)]
-pub struct Fields<'a> {
+pub struct FieldReader<'a> {
     alloc: Global,
     left: &'a [u8],
 }
 
-impl<'a> Fields<'a> {
+impl<'a> FieldReader<'a> {
     /// Those of the sequence at the front of the octets, by DER, and what follows it.
     ///
     /// Its class, its constructed bit and its tag number are looked at. Refused as `Incomplete` only where the sequence
     /// itself is cut.
-    pub fn of_sequence(alloc: Global, octets: &'a [u8]) -> ParseResult<'a, Fields<'a>, Error>
+    pub fn of_sequence(alloc: Global, octets: &'a [u8]) -> ParseResult<'a, FieldReader<'a>, Error>
         ensures { IfOk (seen result)
             (λ x. BeginsWithSequence octets.now (fields_left x.1) x.0) }
     {
@@ -28,7 +28,7 @@ impl<'a> Fields<'a> {
         element.header.assert_constructed()?;
         element.header.assert_tag(Tag::Sequence)?;
         let left = element.content;
-        Ok((rest, Fields { alloc, left }))
+        Ok((rest, FieldReader { alloc, left }))
     }
 
     /// The next field, by DER. One that is cut is refused as error `Incomplete`, since no octets follow it.
@@ -41,11 +41,11 @@ impl<'a> Fields<'a> {
     }
 
     /// The fields of the next one, a sequence.
-    pub fn next_sequence(&mut self) -> Result<Fields<'a>, Error>
+    pub fn next_sequence(&mut self) -> Result<FieldReader<'a>, Error>
         ensures { IfOk result (λ x.
             BeginsWithSequence (fields_left self.old) (fields_left x) (fields_left self.new)) }
     {
-        let (left, fields) = Fields::of_sequence(self.alloc, self.left)?;
+        let (left, fields) = FieldReader::of_sequence(self.alloc, self.left)?;
         self.left = left;
         Ok(fields)
     }

@@ -5,10 +5,10 @@ use Rattle.asn1_headers.specs.Answers.{Front}
 use Rattle.asn1_headers.specs.declared.error.Err.{Err as Refusal}
 use Rattle.asn1_headers.specs.declared.error.Error.{Error}
 use Rattle.asn1_headers.specs.Error.{FlattenedTo}
-use Rattle.asn1_rs_uses.specs.declared.fields.Fields.{Fields}
+use Rattle.asn1_rs_uses.specs.declared.field_reader.FieldReader.{FieldReader}
 
 -- the octets that are still to be read
-abbrev pub fields_left : Fields → List ℕ
+abbrev pub fields_left : FieldReader → List ℕ
 fields_left fields = fields.left.now
 
 -- a sequence by DER with these contents octets begins the octets, and the rest follows
