@@ -1,6 +1,6 @@
 //! A type of a caller's own, of which no clause says what is read and written.
 use asn1_rs::{
-    Any, CheckDerConstraints, Class, DerAutoDerive, DerWrite, Error, FromAny, FromBer, Header,
+    Any, CheckDerConstraints, Class, DerAutoDerive, DerWrite, Error, FromAny, FromDer, Header,
     Length, SerializeError, SerializeResult, Tag, Tagged, ToDer,
 };
 use std::alloc::Global;
@@ -31,8 +31,11 @@ impl<'a> FromAny<'a> for Point {
 
     fn try_from_any(alloc: Global, any: Any<'a>) -> Result<Point, Error> {
         any.tag().assert_eq(Tag::Sequence)?;
-        let (rest, x) = i32::from_ber(alloc, any.as_bytes())?;
-        let (_, y) = i32::from_ber(alloc, rest)?;
+        let (rest, x) = i32::from_der(alloc, any.as_bytes())?;
+        let (rest, y) = i32::from_der(alloc, rest)?;
+        if !rest.is_empty() {
+            return Err(Tag::Sequence.invalid_value("octets left over"));
+        }
         Ok(Point { x, y })
     }
 }

@@ -1,0 +1,15 @@
+//! The first request of Kerberos, AS-REQ (RFC 4120, 5.4.1): read by DER, borrowed from the octets, and written.
+
+mod body;
+mod data;
+mod names;
+mod request;
+
+use asn1_rs::{Error, TaggedExplicit};
+pub use body::KdcReqBody;
+pub use data::{EncryptedData, HostAddress, PaData};
+pub use names::PrincipalName;
+pub use request::{AsReq, KdcReq};
+
+/// A value under an explicit, context-specific tag.
+pub type Under<T, const TAG: u32> = TaggedExplicit<T, Error, TAG>;
