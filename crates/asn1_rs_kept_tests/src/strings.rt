@@ -46,8 +46,8 @@ String of:
 256*61 = 0c820100+256*61 count 260 256 raw 0c820100+256*61 read back true
 ";
 
-/// Texts, and the strings that are made of them, of two and of four octets a character; and whether the string of an
-/// owned text is the same.
+/// Texts, and the strings that are made of them, of two and of four octets a character, as the original crate's tests
+/// have them; and whether the string of an owned text is the same.
 const CODED: &str = "\
 BmpString of:
 55736572 = 1e080055007300650072 count 10 8 raw 1e080055007300650072 read back true owned true
