@@ -7,7 +7,6 @@ mod borrowed;
 mod by_bounds;
 mod certificate;
 mod choice;
-mod contents;
 mod field_reader;
 mod fingerprint;
 mod handle;

@@ -9,8 +9,8 @@ ghost use Rattle.asn1_rs.specs.Fields.{FieldList, TellsFields, FieldsRefuse, Fie
 ghost use Rattle.asn1_rs.specs.ToDer.{Refuses, RefusesCount, VectorRefuses};
 
 use crate::header::{add_counts, element_len, put_behind, put_counted_header};
-use crate::kinds::HasKind;
 use crate::kinds::writing::ToDerBy;
+use crate::kinds::{HasKind, TaggedBy};
 use crate::to_der::ToDer;
 use crate::traits::Tagged;
 use asn1_headers::error::{Error, SerializeError, SerializeResult, refusal_of_count, without_io};
@@ -30,12 +30,17 @@ pub struct FieldsKind;
 /// a field or memory refuses, nothing is appended.
 ///
 ///     impl WritesFields for Point {
+///         type Number = TagNumber<16>;
+///
 ///         fn put_fields(&self, fields: &mut Fields) -> SerializeResult<()> {
 ///             fields.put(&self.x)?;
 ///             fields.put(&self.y)
 ///         }
 ///     }
-pub trait WritesFields: HasKind<Kind = FieldsKind> + Tagged {
+pub trait WritesFields: HasKind<Kind = FieldsKind> {
+    /// A type with its tag number: [`TagNumber`](crate::TagNumber), where none has the number.
+    type Number: Tagged;
+
     /// The fields, in their order. Of a type that leaves it out nothing is claimed.
     ghost field_list: { FieldList Self } = { untold_fields };
 
@@ -150,7 +155,7 @@ fn count_fields<T: WritesFields>(value: &T) -> Result<usize, Error>
     };
     match value.put_fields(&mut fields) {
         Ok(()) => Ok(fields.count()),
-        Err(e) => Err(refusal_in_counting(T::TAG, e)),
+        Err(e) => Err(refusal_in_counting(T::Number::TAG, e)),
     }
 }
 
@@ -186,11 +191,18 @@ fn put_collected<W: DerWrite>(tag: Tag, content: &[u8], w: &mut W) -> SerializeR
     put_behind(put_header(0, true, tag.0, content.len(), w), content, w)
 }
 
+// This impl names no lifetime, so it may have the constant.
+impl<T: WritesFields> TaggedBy<FieldsKind> for T {
+    const NUMBER: Tag = T::Number::TAG;
+
+    ghost NUMBER = { T.Number.TAG };
+}
+
 impl<T: WritesFields> ToDerBy<FieldsKind> for T {
-    ghost writing = { fields_writing (T.TAG).0 T.field_list };
+    ghost writing = { fields_writing (T.Number.TAG).0 T.field_list };
 
     fn element_count(&self) -> Result<usize, Error> {
-        element_len(T::TAG.0, count_fields(self))
+        element_len(T::Number::TAG.0, count_fields(self))
     }
 
     fn content_count(&self) -> Result<usize, Error> {
@@ -202,7 +214,7 @@ impl<T: WritesFields> ToDerBy<FieldsKind> for T {
     }
 
     fn put_header<W: DerWrite>(&self, _alloc: Global, w: &mut W) -> SerializeResult<usize> {
-        put_counted_header(0, true, T::TAG.0, count_fields(self), w)
+        put_counted_header(0, true, T::Number::TAG.0, count_fields(self), w)
     }
 
     fn put_content<W: DerWrite>(&self, alloc: Global, w: &mut W) -> SerializeResult<usize> {
@@ -212,6 +224,6 @@ impl<T: WritesFields> ToDerBy<FieldsKind> for T {
 
     fn put_whole<W: DerWrite>(&self, alloc: Global, w: &mut W) -> SerializeResult<usize> {
         let content = collect_fields(self, alloc)?;
-        put_collected(T::TAG, &content, w)
+        put_collected(T::Number::TAG, &content, w)
     }
 }

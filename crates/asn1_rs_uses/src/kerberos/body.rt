@@ -2,13 +2,10 @@
 ghost use Rattle.asn1_rs_uses.specs.FieldReader.{TakesSequence};
 
 use super::{EncryptedData, HostAddress, PrincipalName, Under};
-use crate::contents::{
-    Fields, WritesFields, count_fields, count_sequence, write_fields, write_header,
-};
 use crate::field_reader::FieldReader;
 use asn1_rs::{
-    Any, BitString, DerWrite, ElementKind, Error, FromDer, GeneralString, GeneralizedTime, HasKind,
-    ParseResult, SerializeResult, TagNumber, TaggedAs, ToDer,
+    Any, BitString, Error, Fields, FieldsKind, FromDer, GeneralString, GeneralizedTime, HasKind,
+    ParseResult, SerializeResult, TagNumber, WritesFields,
 };
 use std::alloc::Global;
 
@@ -67,7 +64,13 @@ impl<'a> FromDer<'a, Error> for KdcReqBody<'a> {
     }
 }
 
+impl HasKind for KdcReqBody<'_> {
+    type Kind = FieldsKind;
+}
+
 impl WritesFields for KdcReqBody<'_> {
+    type Number = TagNumber<16>;
+
     fn put_fields(&self, fields: &mut Fields) -> SerializeResult<()> {
         fields.put(&self.kdc_options)?;
         fields.put(&self.cname)?;
@@ -81,35 +84,5 @@ impl WritesFields for KdcReqBody<'_> {
         fields.put(&self.addresses)?;
         fields.put(&self.enc_authorization_data)?;
         fields.put(&self.additional_tickets)
-    }
-}
-
-impl HasKind for KdcReqBody<'_> {
-    type Kind = ElementKind;
-}
-
-impl TaggedAs for KdcReqBody<'_> {
-    type Number = TagNumber<16>;
-}
-
-impl ToDer for KdcReqBody<'_> {
-    fn to_der_len(&self) -> Result<usize, Error> {
-        count_sequence(self)
-    }
-
-    fn der_content_len(&self) -> Result<usize, Error> {
-        count_fields(self)
-    }
-
-    fn der_constructed(&self) -> bool {
-        true
-    }
-
-    fn write_der_header<W: DerWrite>(&self, alloc: Global, w: &mut W) -> SerializeResult<usize> {
-        write_header(self, alloc, w)
-    }
-
-    fn write_der_content<W: DerWrite>(&self, alloc: Global, w: &mut W) -> SerializeResult<usize> {
-        write_fields(self, alloc, w)
     }
 }

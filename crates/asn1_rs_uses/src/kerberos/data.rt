@@ -2,13 +2,10 @@
 ghost use Rattle.asn1_rs_uses.specs.FieldReader.{TakesSequence};
 
 use super::Under;
-use crate::contents::{
-    Fields, WritesFields, count_fields, count_sequence, write_fields, write_header,
-};
 use crate::field_reader::FieldReader;
 use asn1_rs::{
-    DerWrite, ElementKind, Error, FromDer, HasKind, OctetString, ParseResult, SerializeResult,
-    TagNumber, TaggedAs, ToDer,
+    Error, Fields, FieldsKind, FromDer, HasKind, OctetString, ParseResult, SerializeResult,
+    TagNumber, WritesFields,
 };
 use std::alloc::Global;
 
@@ -37,40 +34,16 @@ impl<'a> FromDer<'a, Error> for PaData<'a> {
     }
 }
 
+impl HasKind for PaData<'_> {
+    type Kind = FieldsKind;
+}
+
 impl WritesFields for PaData<'_> {
+    type Number = TagNumber<16>;
+
     fn put_fields(&self, fields: &mut Fields) -> SerializeResult<()> {
         fields.put(&self.padata_type)?;
         fields.put(&self.padata_value)
-    }
-}
-
-impl HasKind for PaData<'_> {
-    type Kind = ElementKind;
-}
-
-impl TaggedAs for PaData<'_> {
-    type Number = TagNumber<16>;
-}
-
-impl ToDer for PaData<'_> {
-    fn to_der_len(&self) -> Result<usize, Error> {
-        count_sequence(self)
-    }
-
-    fn der_content_len(&self) -> Result<usize, Error> {
-        count_fields(self)
-    }
-
-    fn der_constructed(&self) -> bool {
-        true
-    }
-
-    fn write_der_header<W: DerWrite>(&self, alloc: Global, w: &mut W) -> SerializeResult<usize> {
-        write_header(self, alloc, w)
-    }
-
-    fn write_der_content<W: DerWrite>(&self, alloc: Global, w: &mut W) -> SerializeResult<usize> {
-        write_fields(self, alloc, w)
     }
 }
 
@@ -99,40 +72,16 @@ impl<'a> FromDer<'a, Error> for HostAddress<'a> {
     }
 }
 
+impl HasKind for HostAddress<'_> {
+    type Kind = FieldsKind;
+}
+
 impl WritesFields for HostAddress<'_> {
+    type Number = TagNumber<16>;
+
     fn put_fields(&self, fields: &mut Fields) -> SerializeResult<()> {
         fields.put(&self.addr_type)?;
         fields.put(&self.address)
-    }
-}
-
-impl HasKind for HostAddress<'_> {
-    type Kind = ElementKind;
-}
-
-impl TaggedAs for HostAddress<'_> {
-    type Number = TagNumber<16>;
-}
-
-impl ToDer for HostAddress<'_> {
-    fn to_der_len(&self) -> Result<usize, Error> {
-        count_sequence(self)
-    }
-
-    fn der_content_len(&self) -> Result<usize, Error> {
-        count_fields(self)
-    }
-
-    fn der_constructed(&self) -> bool {
-        true
-    }
-
-    fn write_der_header<W: DerWrite>(&self, alloc: Global, w: &mut W) -> SerializeResult<usize> {
-        write_header(self, alloc, w)
-    }
-
-    fn write_der_content<W: DerWrite>(&self, alloc: Global, w: &mut W) -> SerializeResult<usize> {
-        write_fields(self, alloc, w)
     }
 }
 
@@ -164,40 +113,16 @@ impl<'a> FromDer<'a, Error> for EncryptedData<'a> {
     }
 }
 
+impl HasKind for EncryptedData<'_> {
+    type Kind = FieldsKind;
+}
+
 impl WritesFields for EncryptedData<'_> {
+    type Number = TagNumber<16>;
+
     fn put_fields(&self, fields: &mut Fields) -> SerializeResult<()> {
         fields.put(&self.etype)?;
         fields.put(&self.kvno)?;
         fields.put(&self.cipher)
-    }
-}
-
-impl HasKind for EncryptedData<'_> {
-    type Kind = ElementKind;
-}
-
-impl TaggedAs for EncryptedData<'_> {
-    type Number = TagNumber<16>;
-}
-
-impl ToDer for EncryptedData<'_> {
-    fn to_der_len(&self) -> Result<usize, Error> {
-        count_sequence(self)
-    }
-
-    fn der_content_len(&self) -> Result<usize, Error> {
-        count_fields(self)
-    }
-
-    fn der_constructed(&self) -> bool {
-        true
-    }
-
-    fn write_der_header<W: DerWrite>(&self, alloc: Global, w: &mut W) -> SerializeResult<usize> {
-        write_header(self, alloc, w)
-    }
-
-    fn write_der_content<W: DerWrite>(&self, alloc: Global, w: &mut W) -> SerializeResult<usize> {
-        write_fields(self, alloc, w)
     }
 }

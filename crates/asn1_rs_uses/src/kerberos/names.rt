@@ -2,13 +2,10 @@
 ghost use Rattle.asn1_rs_uses.specs.FieldReader.{TakesSequence};
 
 use super::Under;
-use crate::contents::{
-    Fields, WritesFields, count_fields, count_sequence, write_fields, write_header,
-};
 use crate::field_reader::FieldReader;
 use asn1_rs::{
-    DerWrite, ElementKind, Error, FromDer, GeneralString, HasKind, ParseResult, SerializeResult,
-    TagNumber, TaggedAs, ToDer,
+    Error, Fields, FieldsKind, FromDer, GeneralString, HasKind, ParseResult, SerializeResult,
+    TagNumber, WritesFields,
 };
 use std::alloc::Global;
 
@@ -37,39 +34,15 @@ impl<'a> FromDer<'a, Error> for PrincipalName<'a> {
     }
 }
 
+impl HasKind for PrincipalName<'_> {
+    type Kind = FieldsKind;
+}
+
 impl WritesFields for PrincipalName<'_> {
+    type Number = TagNumber<16>;
+
     fn put_fields(&self, fields: &mut Fields) -> SerializeResult<()> {
         fields.put(&self.name_type)?;
         fields.put(&self.name_string)
-    }
-}
-
-impl HasKind for PrincipalName<'_> {
-    type Kind = ElementKind;
-}
-
-impl TaggedAs for PrincipalName<'_> {
-    type Number = TagNumber<16>;
-}
-
-impl ToDer for PrincipalName<'_> {
-    fn to_der_len(&self) -> Result<usize, Error> {
-        count_sequence(self)
-    }
-
-    fn der_content_len(&self) -> Result<usize, Error> {
-        count_fields(self)
-    }
-
-    fn der_constructed(&self) -> bool {
-        true
-    }
-
-    fn write_der_header<W: DerWrite>(&self, alloc: Global, w: &mut W) -> SerializeResult<usize> {
-        write_header(self, alloc, w)
-    }
-
-    fn write_der_content<W: DerWrite>(&self, alloc: Global, w: &mut W) -> SerializeResult<usize> {
-        write_fields(self, alloc, w)
     }
 }

@@ -3,13 +3,10 @@ ghost use Rattle.std.specs.Prelude.{IfOk};
 ghost use Rattle.asn1_rs_uses.specs.Kerberos.{TakesAsReq, IsAsReq};
 
 use super::{KdcReqBody, PaData, Under};
-use crate::contents::{
-    Fields, WritesFields, count_fields, count_sequence, write_fields, write_header,
-};
 use crate::field_reader::FieldReader;
 use asn1_rs::{
-    ApplicationExplicit, DerWrite, ElementKind, Error, FromDer, HasKind, ParseResult,
-    SerializeResult, Tag, TagNumber, TaggedAs, ToDer,
+    ApplicationExplicit, Error, Fields, FieldsKind, FromDer, HasKind, ParseResult, SerializeResult,
+    Tag, TagNumber, WritesFields,
 };
 use std::alloc::Global;
 
@@ -63,41 +60,17 @@ impl KdcReq<'_> {
     }
 }
 
+impl HasKind for KdcReq<'_> {
+    type Kind = FieldsKind;
+}
+
 impl WritesFields for KdcReq<'_> {
+    type Number = TagNumber<16>;
+
     fn put_fields(&self, fields: &mut Fields) -> SerializeResult<()> {
         fields.put(&self.pvno)?;
         fields.put(&self.msg_type)?;
         fields.put(&self.padata)?;
         fields.put(&self.req_body)
-    }
-}
-
-impl HasKind for KdcReq<'_> {
-    type Kind = ElementKind;
-}
-
-impl TaggedAs for KdcReq<'_> {
-    type Number = TagNumber<16>;
-}
-
-impl ToDer for KdcReq<'_> {
-    fn to_der_len(&self) -> Result<usize, Error> {
-        count_sequence(self)
-    }
-
-    fn der_content_len(&self) -> Result<usize, Error> {
-        count_fields(self)
-    }
-
-    fn der_constructed(&self) -> bool {
-        true
-    }
-
-    fn write_der_header<W: DerWrite>(&self, alloc: Global, w: &mut W) -> SerializeResult<usize> {
-        write_header(self, alloc, w)
-    }
-
-    fn write_der_content<W: DerWrite>(&self, alloc: Global, w: &mut W) -> SerializeResult<usize> {
-        write_fields(self, alloc, w)
     }
 }
