@@ -295,7 +295,19 @@ fn owned_contents_are_refused(rt: HostRuntime) -> Result<(), Fail> {
     let items: Result<Vec<u32>, Error> = owned(alloc)?.into_der_sequence_of_ref(alloc);
     assert_shown(alloc, &items, "Err(LifetimeError)")?;
     let parsed = owned(alloc)?.parse_into(|i| two_numbers(alloc, i));
-    assert_shown(alloc, &parsed, "Err(Error(LifetimeError))")
+    assert_shown(alloc, &parsed, "Err(Error(LifetimeError))")?;
+    let items: Result<Vec<u32>, Error> = owned_set(alloc)?.into_der_set_of_ref(alloc);
+    assert_shown(alloc, &items, "Err(LifetimeError)")?;
+    let parsed = owned_set(alloc)?.parse_into(|i| two_numbers(alloc, i));
+    assert_shown(alloc, &parsed, "Err(Error(LifetimeError))")?;
+    let content = owned(alloc)?.into_content();
+    assert_shown(alloc, &content.as_slice(), "[255]")
+}
+
+/// A set with contents octets of its own.
+fn owned_set(alloc: Global) -> Result<Set<'static>, Fail> {
+    let octets = Vec::from_slice(alloc, &[0xff])?;
+    Ok(Set::new(CowSlice::Owned(octets)))
 }
 
 /// A sequence with contents octets of its own, which are not looked at.

@@ -152,7 +152,9 @@ fn sequences_are_made_by_calls(rt: HostRuntime) -> Result<(), Fail> {
     list.push(5_u8)?;
     list.as_mut_slice().reverse();
     let same = list == SequenceOf::new(vec![in rt.alloc(); 5, 2, 1]?);
-    assert_shown(rt.alloc(), &(list.as_slice(), same), "([5, 2, 1], true)")
+    let other = list == SequenceOf::new(vec![in rt.alloc(); 5, 1, 2]?);
+    let shown = (list.as_slice(), same, other);
+    assert_shown(rt.alloc(), &shown, "([5, 2, 1], true, false)")
 }
 
 #[test]

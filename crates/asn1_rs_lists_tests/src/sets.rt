@@ -223,8 +223,10 @@ fn sets_are_made_by_calls(rt: HostRuntime) -> Result<(), Fail> {
     let mut set = SetOf::from_iter(rt.alloc(), 1..2)?;
     set.push(2_u8)?;
     set.as_mut_slice().reverse();
-    let same = set == SetOf::new(vec![in rt.alloc(); 1, 2]?);
-    assert_shown(rt.alloc(), &(set.as_slice(), same), "([2, 1], false)")?;
+    let same = set == SetOf::new(vec![in rt.alloc(); 2, 1]?);
+    let other = set == SetOf::new(vec![in rt.alloc(); 1, 2]?);
+    let shown = (set.as_slice(), same, other);
+    assert_shown(rt.alloc(), &shown, "([2, 1], true, false)")?;
     assert_written(
         rt.alloc(),
         &set,

@@ -14,6 +14,8 @@ mod colour;
 #[cfg(test)]
 mod devices;
 #[cfg(test)]
+mod each_type;
+#[cfg(test)]
 mod embedded_pdv;
 #[cfg(test)]
 mod generalized_times;
