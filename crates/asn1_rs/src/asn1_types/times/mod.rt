@@ -194,14 +194,14 @@ pub fn order_of_times(a: &ASN1DateTime, b: &ASN1DateTime) -> Ordering
 pub fn order_of_utc_times(a: &UtcTime, b: &UtcTime) -> Ordering
     ensures order { result ≡ moment_cmp (moment_of a.now.0) (moment_of b.now.0) }
 {
-    a.cmp(b)
+    UtcTime::cmp(a, b)
 }
 
 /// Which of two GeneralizedTimes comes first: the order of their fields.
 pub fn order_of_generalized_times(a: &GeneralizedTime, b: &GeneralizedTime) -> Ordering
     ensures order { result ≡ moment_cmp (moment_of a.now.0) (moment_of b.now.0) }
 {
-    a.cmp(b)
+    GeneralizedTime::cmp(a, b)
 }
 
 /// An element has one refusal by the conversion to a type of times and one by its check, and none where it has a value,
