@@ -18,6 +18,8 @@ mod lists;
 #[cfg(test)]
 mod packets;
 #[cfg(test)]
+mod measurements;
+#[cfg(test)]
 mod principals;
 #[cfg(test)]
 mod refusals;
