@@ -32,7 +32,7 @@ impl WritesFields for Visit {
 }
 
 /// A visit at the beginning of 2000, in this zone.
-fn visit(zone: ASN1TimeZone, by: Option<OfNoClass>) -> Visit {
+fn visit_in(zone: ASN1TimeZone, by: Option<OfNoClass>) -> Visit {
     let at = UtcTime::new(ASN1DateTime::new(0, 1, 1, 0, 0, 0, None, zone));
     Visit { at, by }
 }
@@ -47,7 +47,7 @@ fn written_behind(alloc: Global, visit: &Visit) -> Result<(Vec<u8>, SerializeRes
 #[test]
 fn visits_are_written_by_their_fields(rt: HostRuntime) -> Result<(), Fail> {
     let alloc = rt.alloc();
-    let visit = visit(ASN1TimeZone::Z, None);
+    let visit = visit_in(ASN1TimeZone::Z, None);
     let facts = [
         Visit::TAG == Tag::Sequence,
         visit.der_constructed(),
@@ -61,7 +61,7 @@ fn visits_are_written_by_their_fields(rt: HostRuntime) -> Result<(), Fail> {
 #[test]
 fn visits_are_refused_as_a_field_is(rt: HostRuntime) -> Result<(), Fail> {
     let alloc = rt.alloc();
-    let offset = visit(ASN1TimeZone::Offset(1, 0), None);
+    let offset = visit_in(ASN1TimeZone::Offset(1, 0), None);
     assert_shown(alloc, &offset.to_der_len(), "Err(InvalidDateTime)")?;
     let (octets, answer) = written_behind(alloc, &offset)?;
     let refused = matches!(
@@ -69,7 +69,7 @@ fn visits_are_refused_as_a_field_is(rt: HostRuntime) -> Result<(), Fail> {
         Err(SerializeError::ASN1Error(Error::InvalidDateTime))
     );
     assert_all("an offset", &[octets.as_slice() == [7].as_slice(), refused])?;
-    let no_class = visit(ASN1TimeZone::Z, Some(OfNoClass::explicit(5)));
+    let no_class = visit_in(ASN1TimeZone::Z, Some(OfNoClass::explicit(5)));
     assert_shown(alloc, &no_class.to_der_len(), "Ok(22)")?;
     let (octets, answer) = written_behind(alloc, &no_class)?;
     let refused = matches!(answer, Err(SerializeError::InvalidClass { class: 4 }));
