@@ -8,7 +8,7 @@ use std::io::ErrorKind;
 use std::test::Fail;
 use test_rows::assert_texts;
 
-/// A line, and its answer.
+/// A line, and its answer. Values by X.690 8.3.
 const LINES: &str = "\
 der u64 0203010001 = ok 65537 rest - enc 0203010001
 der u64 0281010500 = ok 5 rest 00 enc 020105
