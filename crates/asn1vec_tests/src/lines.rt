@@ -85,7 +85,11 @@ fn writer_of_answers_ends_at_each_place(rt: HostRuntime) -> Result<(), Fail> {
 
 #[test]
 fn failures_have_last_lines(rt: HostRuntime) -> Result<(), Fail> {
-    let failures = [RunError::Input, RunError::Output, RunError::OutOfMemory];
+    let failures = [
+        RunError::Input.clone()?,
+        RunError::Output,
+        RunError::OutOfMemory,
+    ];
     let lines = "asn1vec: input failed\nasn1vec: output failed\nasn1vec: out of memory\n";
     assert_texts(rt.alloc(), &failures, lines)
 }
