@@ -7,8 +7,8 @@ use std::test::Fail;
 use test_rows::{Calls, assert_rows, push_debug};
 
 /// A message of SNMP: the community, the tag number, the number of the request, the first binding by its identifier and
-/// its contents octets, and how many octets the others have. A bind of LDAP: the number of the message, the version, the
-/// name, and the controls.
+/// its contents octets, and how many octets the others have. A bind of LDAP: the number of the message, the version,
+/// the name, and the controls.
 ///
 /// Read: the request of `asn1_rs_outside_tests`, for sysDescr.0 and ifInOctets.129, whose lengths have three octets; a
 /// GetBulk of version 2 (RFC 3416) for ifDescr; and a response with two bindings.
