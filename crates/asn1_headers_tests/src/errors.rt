@@ -113,6 +113,7 @@ const TAGS: [Tag; 30] = [
     Tag::BmpString,
 ];
 
+/// Their numbers in that table.
 const NUMBERS: &str = "\
 [Tag(0), Tag(1), Tag(2), Tag(3), Tag(4), Tag(5), Tag(6), Tag(7), Tag(8), Tag(9), Tag(10), Tag(11), Tag(12), \
 Tag(13), Tag(16), Tag(17), Tag(18), Tag(19), Tag(20), Tag(20), Tag(21), Tag(22), Tag(23), Tag(24), Tag(25), \
@@ -281,6 +282,7 @@ fn messages_are_made_of_texts(rt: HostRuntime) -> Result<(), Fail> {
     )
 }
 
+/// The texts are the library's own.
 const ERRORS: &str = "\
 invalid type
 invalid value
@@ -341,6 +343,7 @@ fn errors_have_texts(rt: HostRuntime) -> Result<(), Fail> {
     assert_texts(rt.alloc(), &errors, ERRORS)
 }
 
+/// The texts are the library's own.
 const CONSTRAINTS: &str = "\
 indefinite length
 constructed encoding
@@ -371,6 +374,7 @@ fn constraints_have_texts(rt: HostRuntime) -> Result<(), Fail> {
     assert_texts(rt.alloc(), &constraints, CONSTRAINTS)
 }
 
+/// The texts are the library's own.
 const REFUSALS: &str = "\
 1 octet is missing
 5 octets are missing
@@ -391,6 +395,7 @@ fn refusals_have_texts(rt: HostRuntime) -> Result<(), Fail> {
     assert_texts(rt.alloc(), &refusals, REFUSALS)
 }
 
+/// The texts are the library's own.
 const WRITING: &str = "\
 ASN.1 error: unexpected tag number 4 (OctetString)
 invalid class 4

@@ -2,9 +2,10 @@
 
 use asn1_rs::{Error, FromDer, ParseResult, Sequence, Tagged};
 use std::alloc::Global;
+use std::fmt::Debug;
 use std::test::Fail;
 use test_rows::{Calls, assert_rows};
-use test_values::push_read_by_der;
+use test_values::{Says, push_read_by_der};
 
 /// A number, a value that may be left out, and one more.
 #[derive(Debug, Drop)]
@@ -13,6 +14,8 @@ struct Record<B, C> {
     b: Option<B>,
     c: C,
 }
+
+impl<B: Debug, C: Debug> Says for Record<B, C> {}
 
 impl<'a, B, C> Record<B, C>
 where

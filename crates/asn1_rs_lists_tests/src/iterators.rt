@@ -8,10 +8,13 @@ use std::alloc::Global;
 use std::fmt::Debug;
 use std::test::Fail;
 use test_rows::{Calls, assert_rows, push_debug};
+use test_values::Says;
 
 /// An item of no octets: its reader gives back what it got, or, where that begins with 05, more than it got.
 #[derive(Debug, Drop)]
 struct OfNoOctets;
+
+impl Says for OfNoOctets {}
 
 impl<'a> FromBer<'a, Error> for OfNoOctets {
     fn from_ber(_alloc: Global, octets: &'a [u8]) -> ParseResult<'a, OfNoOctets, Error> {
@@ -25,6 +28,8 @@ impl<'a> FromBer<'a, Error> for OfNoOctets {
 /// An item of one octet, which may not be 0: then no other reading may be tried.
 #[derive(Debug, Drop)]
 struct NotZero(u8);
+
+impl Says for NotZero {}
 
 impl<'a> FromDer<'a, Error> for NotZero {
     fn from_der(_alloc: Global, octets: &'a [u8]) -> ParseResult<'a, NotZero, Error> {
@@ -42,7 +47,7 @@ pub(crate) fn push_walk<'a, T, F, E>(
     items: SequenceIterator<'a, T, F, E>,
 ) -> Result<(), Fail>
 where
-    T: Debug + Drop,
+    T: Says + Drop,
     F: ReadsItems<'a, T, E>,
     E: From<Error> + Debug + Drop,
 {
@@ -52,7 +57,7 @@ where
             text.push_str(", ")?;
         }
         match items.next() {
-            Some(Ok(item)) => push_debug(text, &item)?,
+            Some(Ok(item)) => item.say(text)?,
             Some(Err(refusal)) => push_debug(text, &refusal)?,
             None => text.push_str("end")?,
         }
@@ -61,7 +66,7 @@ where
 }
 
 /// Appends a walk over contents octets.
-fn push_walk_over<'a, T: Debug + Drop, F: ReadsItems<'a, T, Error>>(
+fn push_walk_over<'a, T: Says + Drop, F: ReadsItems<'a, T, Error>>(
     text: &mut String,
     alloc: Global,
     octets: &'a [u8],
@@ -87,19 +92,15 @@ impl Calls for Walks {
     }
 }
 
-/// The contents octets, and what the first four calls answer.
+/// The contents octets, and what the first four calls answer. Values by X.690 8.1, 8.3.
 const WALKS: &str = "\
 Any, BerParser:
-308000000400 = Any { header: Header { class: Universal, constructed: true, tag: Tag(16), length: Indefinite, \
-raw_tag: Some([48]) }, content: [] }, \
-Any { header: Header { class: Universal, constructed: false, tag: Tag(4), length: Definite(0), \
-raw_tag: Some([4]) }, content: [] }, end, end
+308000000400 = (Universal, true, Tag(16), Indefinite, Some([48]), []), \
+(Universal, false, Tag(4), Definite(0), Some([4]), []), end, end
 
 Any, DerParser:
-300004003080 = Any { header: Header { class: Universal, constructed: true, tag: Tag(16), length: Definite(0), \
-raw_tag: Some([48]) }, content: [] }, \
-Any { header: Header { class: Universal, constructed: false, tag: Tag(4), length: Definite(0), \
-raw_tag: Some([4]) }, content: [] }, DerConstraintFailed(IndefiniteLength), end
+300004003080 = (Universal, true, Tag(16), Definite(0), Some([48]), []), \
+(Universal, false, Tag(4), Definite(0), Some([4]), []), DerConstraintFailed(IndefiniteLength), end
 
 NotZero, DerParser:
 050006 = NotZero(5), Unsupported, end, end

@@ -8,7 +8,7 @@ use std::test::Fail;
 use test_rows::{Calls, assert_rows, assert_shown, push_debug};
 use test_values::{assert_written, push_by_ber, push_by_der};
 
-/// As elements.
+/// As elements. Values by X.690 8.9 to 8.12.
 const ELEMENTS: &str = "\
 Sequence::from_der:
 30050203010001 = Sequence { content: [2, 3, 1, 0, 1] } rest - written 30050203010001 count 7 5 raw 30050203010001
@@ -88,7 +88,7 @@ Set::from_der, der_set_of:
 31050203010001 = Ok([65537])
 ";
 
-/// By their contents octets, which are the octets of the row.
+/// By their contents octets, which are the octets of the row. Values by X.690 8.3.
 const CONTENTS: &str = "\
 Sequence::parse:
 02030100010203010002ff = Ok(([255], (65537, 65538)))

@@ -12,7 +12,7 @@ use test_values::{
 };
 
 /// Items, what follows them, and how the list is written. By DER the constructed bit of the list itself is not looked
-/// at; its tag number is looked at first.
+/// at; its tag number is looked at first. Values by X.690 8.10, 8.3.
 const LISTS: &str = "\
 Vec::<u32>::from_der:
 3008020301000102010100 = [65537, 1] rest 00 written 30080203010001020101 count 10 8 raw 30080203010001020101
@@ -57,23 +57,21 @@ Vec::<Any>::from_ber:
 30803080000004000000 = 2 items 300430000400 count 6 4 raw 300430000400
 
 SequenceOf::<u32>::from_der:
-3009020105020101020105 = SequenceOf { items: [5, 1, 5] } rest - written 3009020105020101020105 count 11 9 \
-raw 3009020105020101020105
-3009020102020103020104 = SequenceOf { items: [2, 3, 4] } rest - written 3009020102020103020104 count 11 9 \
-raw 3009020102020103020104
-1003020105 = SequenceOf { items: [5] } rest - written 3003020105 count 5 3 raw 3003020105
+3009020105020101020105 = [5, 1, 5] rest - written 3009020105020101020105 count 11 9 raw 3009020105020101020105
+3009020102020103020104 = [2, 3, 4] rest - written 3009020102020103020104 count 11 9 raw 3009020102020103020104
+1003020105 = [5] rest - written 3003020105 count 5 3 raw 3003020105
 3103020105 = Error(UnexpectedTag { expected: Some(Tag(16)), actual: Tag(17) })
 3003010100 = Error(UnexpectedTag { expected: Some(Tag(2)), actual: Tag(1) })
 3003020205 = Error(Incomplete(Size(1)))
 3005020105 = Incomplete(Size(2))
 
 SequenceOf::<u32>::from_ber:
-30800201050000 = SequenceOf { items: [5] } rest - written 3003020105 count 5 3 raw 3003020105
+30800201050000 = [5] rest - written 3003020105 count 5 3 raw 3003020105
 1003020105 = Error(ConstructExpected)
 3003010100 = Error(UnexpectedTag { expected: Some(Tag(2)), actual: Tag(1) })
 ";
 
-/// Elements by BER that are checked, and converted.
+/// Elements by BER that are checked, and converted. Values by X.690 8.10, 8.3.
 const ELEMENTS: &str = "\
 Vec::<u32>::check_constraints:
 3003020105 = Ok(())

@@ -12,7 +12,7 @@ use std::test::Fail;
 use test_rows::{Calls, assert_rows, push_debug, push_digits};
 
 /// What is read by DER, and by BER: the strict encoding and what follows it, or the refusal. In the strict encoding the
-/// items of a set ascend, whatever their order was.
+/// items of a set ascend, whatever their order was. Values by X.690 8.10, 8.12, 8.14, 11.6.
 const NESTED: &str = "\
 [1] Vec of [0] u8:
 a10c300aa003020105a003020106ff = a10c300aa003020105a003020106 rest ff by BER 14 a10c300aa003020105a003020106 rest ff
@@ -49,6 +49,7 @@ a103020105 = a103020105 rest - by BER 5 a103020105 rest -
 ";
 
 /// Lists and sets without tags, likewise. A `BTreeSet` and a `HashSet` have each item once.
+/// Values by X.690 8.10, 8.12, 11.6.
 const LISTS: &str = "\
 SequenceOf of SetOf of u16:
 30083106020102020101 = 30083106020101020102 rest - by BER 10 30083106020101020102 rest -

@@ -12,7 +12,7 @@ use test_values::{
 };
 
 /// Items in the order in which they stand, of a `HashSet` their number, and the set as it is written, in ascending
-/// order.
+/// order. Values by X.690 8.12, 11.6.
 const SETS: &str = "\
 SetOf::<u32>::from_der:
 3106020102020101 = [2, 1] rest - written 3106020101020102 count 8 6 raw 3106020101020102
@@ -75,7 +75,7 @@ HashSet::<u32>::from_ber:
 1103020105 = Error(ConstructExpected)
 ";
 
-/// Elements by BER that are checked, and converted.
+/// Elements by BER that are checked, and converted. Values by X.690 8.12.
 const ELEMENTS: &str = "\
 SetOf::<u32>::check_constraints:
 3106020105020105 = Ok(())

@@ -6,62 +6,62 @@ use asn1_rs::{
     ToDer, classes_of_tags,
 };
 use std::alloc::Global;
-use std::fmt::Debug;
 use std::test::Fail;
 use test_rows::{Calls, assert_rows, assert_shown};
-use test_values::{push_by_ber, push_by_der};
+use test_values::{Says, push_by_ber, push_by_der};
 
 /// The element of each name, read by DER and by BER and written, and an element of another class.
+/// Values by X.690 8.14, identifier octets by 8.1.2.
 const ALIASES: &str = "\
 TaggedExplicit:
-a303020105 = TaggedValue { inner: 5, marks: PhantomData<_> } rest - written a303020105 count 5 3 raw a303020105 \
-by BER TaggedValue { inner: 5, marks: PhantomData<_> } rest - written a303020105 count 5 3 raw a303020105
+a303020105 = 5 rest - written a303020105 count 5 3 raw a303020105 \
+by BER 5 rest - written a303020105 count 5 3 raw a303020105
 e303020105 = Error(UnexpectedClass { expected: Some(ContextSpecific), actual: Private }) \
 by BER Error(UnexpectedClass { expected: Some(ContextSpecific), actual: Private })
 
 TaggedImplicit:
-830105 = TaggedValue { inner: 5, marks: PhantomData<_> } rest - written 830105 count 3 1 raw 830105 \
-by BER TaggedValue { inner: 5, marks: PhantomData<_> } rest - written 830105 count 3 1 raw 830105
+830105 = 5 rest - written 830105 count 3 1 raw 830105 \
+by BER 5 rest - written 830105 count 3 1 raw 830105
 c30105 = Error(UnexpectedClass { expected: Some(ContextSpecific), actual: Private }) \
 by BER Error(UnexpectedClass { expected: Some(ContextSpecific), actual: Private })
 
 ApplicationExplicit:
-6303020105 = TaggedValue { inner: 5, marks: PhantomData<_> } rest - written 6303020105 count 5 3 raw 6303020105 \
-by BER TaggedValue { inner: 5, marks: PhantomData<_> } rest - written 6303020105 count 5 3 raw 6303020105
+6303020105 = 5 rest - written 6303020105 count 5 3 raw 6303020105 \
+by BER 5 rest - written 6303020105 count 5 3 raw 6303020105
 a303020105 = Error(UnexpectedClass { expected: Some(Application), actual: ContextSpecific }) \
 by BER Error(UnexpectedClass { expected: Some(Application), actual: ContextSpecific })
 
 ApplicationImplicit:
-430105 = TaggedValue { inner: 5, marks: PhantomData<_> } rest - written 430105 count 3 1 raw 430105 \
-by BER TaggedValue { inner: 5, marks: PhantomData<_> } rest - written 430105 count 3 1 raw 430105
+430105 = 5 rest - written 430105 count 3 1 raw 430105 \
+by BER 5 rest - written 430105 count 3 1 raw 430105
 830105 = Error(UnexpectedClass { expected: Some(Application), actual: ContextSpecific }) \
 by BER Error(UnexpectedClass { expected: Some(Application), actual: ContextSpecific })
 
 PrivateExplicit:
-e303020105 = TaggedValue { inner: 5, marks: PhantomData<_> } rest - written e303020105 count 5 3 raw e303020105 \
-by BER TaggedValue { inner: 5, marks: PhantomData<_> } rest - written e303020105 count 5 3 raw e303020105
+e303020105 = 5 rest - written e303020105 count 5 3 raw e303020105 \
+by BER 5 rest - written e303020105 count 5 3 raw e303020105
 a303020105 = Error(UnexpectedClass { expected: Some(Private), actual: ContextSpecific }) \
 by BER Error(UnexpectedClass { expected: Some(Private), actual: ContextSpecific })
 
 PrivateImplicit:
-c30105 = TaggedValue { inner: 5, marks: PhantomData<_> } rest - written c30105 count 3 1 raw c30105 \
-by BER TaggedValue { inner: 5, marks: PhantomData<_> } rest - written c30105 count 3 1 raw c30105
+c30105 = 5 rest - written c30105 count 3 1 raw c30105 \
+by BER 5 rest - written c30105 count 3 1 raw c30105
 830105 = Error(UnexpectedClass { expected: Some(Private), actual: ContextSpecific }) \
 by BER Error(UnexpectedClass { expected: Some(Private), actual: ContextSpecific })
 
 OptTaggedExplicit:
-a303020105 = Some(TaggedValue { inner: 5, marks: PhantomData<_> }) rest - written a303020105 count 5 3 raw a303020105 \
-by BER Some(TaggedValue { inner: 5, marks: PhantomData<_> }) rest - written a303020105 count 5 3 raw a303020105
+a303020105 = Some(5) rest - written a303020105 count 5 3 raw a303020105 \
+by BER Some(5) rest - written a303020105 count 5 3 raw a303020105
 a203020105 = None rest a203020105 written - count 0 0 raw - by BER None rest a203020105 written - count 0 0 raw -
 
 OptTaggedImplicit:
-830105 = Some(TaggedValue { inner: 5, marks: PhantomData<_> }) rest - written 830105 count 3 1 raw 830105 \
-by BER Some(TaggedValue { inner: 5, marks: PhantomData<_> }) rest - written 830105 count 3 1 raw 830105
+830105 = Some(5) rest - written 830105 count 3 1 raw 830105 \
+by BER Some(5) rest - written 830105 count 3 1 raw 830105
 820105 = None rest 820105 written - count 0 0 raw - by BER None rest 820105 written - count 0 0 raw -
 ";
 
 /// Appends what is read by DER, and by BER, and how it is written.
-fn push_read<'a, T: FromBer<'a, Error> + FromDer<'a, Error> + Debug + ToDer + Drop>(
+fn push_read<'a, T: FromBer<'a, Error> + FromDer<'a, Error> + Says + ToDer + Drop>(
     text: &mut String,
     alloc: Global,
     octets: &'a [u8],

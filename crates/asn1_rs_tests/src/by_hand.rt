@@ -4,6 +4,7 @@ use asn1_rs::{Any, CheckDerConstraints, Class, DynTagged, FromAny, FromBer, Head
 use std::alloc::Global;
 use std::test::Fail;
 use test_rows::{Calls, assert_rows, assert_shown, push_debug};
+use test_values::push_value;
 
 #[test]
 fn header_that_was_read_equals_one_by_hand(rt: HostRuntime) -> Result<(), Fail> {
@@ -84,7 +85,7 @@ fn push_element_answer(text: &mut String, name: &str, any: &Any<'_>) -> Result<(
 /// Appends what an element is converted to.
 fn push_converted(text: &mut String, alloc: Global, name: &str, any: Any<'_>) -> Result<(), Fail> {
     match name {
-        "Any" => push_debug(text, &Any::try_from_any(alloc, any)),
+        "Any" => push_value(text, &Any::try_from_any(alloc, any)),
         "u8" => push_debug(text, &u8::try_from_any(alloc, any)),
         "u32" => push_debug(text, &any.u32()),
         "i128" => push_debug(text, &any.i128()),
@@ -103,6 +104,7 @@ impl Calls for ByHand {
 }
 
 /// Contents octets, and what the element is answered by each call.
+/// Values by X.690 8.3.3: two's complement.
 const ELEMENTS: &str = "\
 Any::check_constraints:
 0100 = Ok(())
@@ -123,8 +125,7 @@ into u16:
 0100 = Ok(256)
 
 into Any:
-0100 = Ok(Any { header: Header { class: Universal, constructed: false, tag: Tag(2), length: Definite(2), \
-raw_tag: None }, content: [1, 0] })
+0100 = Ok((Universal, false, Tag(2), Definite(2), None, [1, 0]))
 
 as_u8:
 0100 = Err(IntegerTooLarge)

@@ -88,6 +88,7 @@ fn day(year: u32, month: u8, day: u8) -> UtcTime {
 }
 
 /// Days by hand, and what the three calls answer.
+/// The seconds are those that Python's datetime counts.
 const DAYS: &str = "\
 400 2 29 0 0 0 0 0 | InvalidValue of Tag(23) | -49539340800
 4 2 29 0 0 0 0 0 | 2004 2 29 0 0 0 0 0 | -62035891200

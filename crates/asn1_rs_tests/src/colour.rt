@@ -9,10 +9,13 @@ use asn1_rs::{
 use std::alloc::Global;
 use std::test::Fail;
 use test_rows::assert_rows;
+use test_values::Says;
 
 /// A colour, as an octet string of its three parts.
 #[derive(Debug, Drop)]
 pub(crate) struct Colour([u8; 3]);
+
+impl Says for Colour {}
 
 impl Tagged for Colour {
     const TAG: Tag = Tag::OctetString;
@@ -73,6 +76,7 @@ impl ToDer for Colour {
     }
 }
 
+/// Colours as octet strings by X.690 8.7; the raw form has a longer length by 8.1.3.5.
 const COLOURS: &str = "\
 Colour::from_der:
 0403010203ff = Colour([1, 2, 3]) rest ff written 0403010203 count 5 3 raw 048103010203

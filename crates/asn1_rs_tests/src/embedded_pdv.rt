@@ -8,41 +8,27 @@ use asn1_rs::{
 use std::alloc::Global;
 use std::borrow::CowSlice;
 use std::test::Fail;
-use test_rows::{Calls, assert_rows, assert_shown, push_debug};
-use test_values::{push_checked, push_read_by_ber, push_read_by_der};
+use test_rows::{Calls, assert_rows, assert_shown};
+use test_values::{push_checked, push_read_by_ber, push_read_by_der, push_value};
 
 /// Each identification, its refusals in their order, and what is not looked at.
+/// Values by X.690 8.18.
 const READ: &str = "\
 EmbeddedPdv::from_ber:
-2b0da00781052a030405068202aaa0 = Ok(([], EmbeddedPdv { identification: Syntax(OID(1.2.3.4.5.6)), \
-data_value_descriptor: None, data_value: [170, 160] }))
-2b11a00ca00a80022a0381042a030405820100 = Ok(([], EmbeddedPdv { identification: Syntaxes { \
-s_abstract: OID(1.2.3), s_transfer: OID(1.2.3.4.5) }, \
-data_value_descriptor: None, data_value: [0] }))
-2b09a00481022a03820100 = Ok(([], EmbeddedPdv { identification: Syntax(OID(1.2.3)), \
-data_value_descriptor: None, data_value: [0] }))
-2b08a003820102820100 = Ok(([], EmbeddedPdv { identification: PresentationContextId(Integer { octets: [2] }), \
-data_value_descriptor: None, data_value: [0] }))
-2b10a00ba30980012a81042a030405820100 = Ok(([], EmbeddedPdv { identification: ContextNegotiation { \
-presentation_context_id: Integer { octets: [42] }, \
-presentation_syntax: OID(1.2.3.4.5) }, \
-data_value_descriptor: None, data_value: [0] }))
-2b0ba00684042a030405820100 = Ok(([], EmbeddedPdv { identification: TransferSyntax(OID(1.2.3.4.5)), \
-data_value_descriptor: None, data_value: [0] }))
-2b07a0028500820100 = Ok(([], EmbeddedPdv { identification: Fixed, \
-data_value_descriptor: None, data_value: [0] }))
-2b07a0020500820100ff = Ok(([255], EmbeddedPdv { identification: Fixed, \
-data_value_descriptor: None, data_value: [0] }))
-2b09a00285008201000500 = Ok(([], EmbeddedPdv { identification: Fixed, \
-data_value_descriptor: None, data_value: [0] }))
-2b08a0038500ff820100 = Ok(([], EmbeddedPdv { identification: Fixed, \
-data_value_descriptor: None, data_value: [0] }))
-2b07a0028500a20100 = Ok(([], EmbeddedPdv { identification: Fixed, \
-data_value_descriptor: None, data_value: [0] }))
-0b07a0028500820100 = Ok(([], EmbeddedPdv { identification: Fixed, \
-data_value_descriptor: None, data_value: [0] }))
-2b80a00285008201000000 = Ok(([], EmbeddedPdv { identification: Fixed, \
-data_value_descriptor: None, data_value: [0] }))
+2b0da00781052a030405068202aaa0 = Ok(([], Syntax(OID(1.2.3.4.5.6)) None [170, 160]))
+2b11a00ca00a80022a0381042a030405820100 = Ok(([], Syntaxes { \
+s_abstract: OID(1.2.3), s_transfer: OID(1.2.3.4.5) } None [0]))
+2b09a00481022a03820100 = Ok(([], Syntax(OID(1.2.3)) None [0]))
+2b08a003820102820100 = Ok(([], PresentationContextId(02) None [0]))
+2b10a00ba30980012a81042a030405820100 = Ok(([], ContextNegotiation(2a) OID(1.2.3.4.5) None [0]))
+2b0ba00684042a030405820100 = Ok(([], TransferSyntax(OID(1.2.3.4.5)) None [0]))
+2b07a0028500820100 = Ok(([], Fixed None [0]))
+2b07a0020500820100ff = Ok(([255], Fixed None [0]))
+2b09a00285008201000500 = Ok(([], Fixed None [0]))
+2b08a0038500ff820100 = Ok(([], Fixed None [0]))
+2b07a0028500a20100 = Ok(([], Fixed None [0]))
+0b07a0028500820100 = Ok(([], Fixed None [0]))
+2b80a00285008201000000 = Ok(([], Fixed None [0]))
 2b07a0028600820100 = Err(Error(InvalidValue { tag: Tag(6), msg: \"not an identification\" }))
 2b04a0028600 = Err(Error(InvalidValue { tag: Tag(6), msg: \"not an identification\" }))
 2b07a0025000820100 = Err(Error(InvalidValue { tag: Tag(16), msg: \"not an identification\" }))
@@ -60,10 +46,8 @@ data_value_descriptor: None, data_value: [0] }))
 2b07 = Err(Incomplete(Size(7)))
 
 EmbeddedPdv::from_der:
-2b0da00781052a030405068202aaa0 = Ok(([], EmbeddedPdv { identification: Syntax(OID(1.2.3.4.5.6)), \
-data_value_descriptor: None, data_value: [170, 160] }))
-2b09a0808500000082010000 = Ok(([0], EmbeddedPdv { identification: Fixed, \
-data_value_descriptor: None, data_value: [0] }))
+2b0da00781052a030405068202aaa0 = Ok(([], Syntax(OID(1.2.3.4.5.6)) None [170, 160]))
+2b09a0808500000082010000 = Ok(([0], Fixed None [0]))
 0b07a0028500820100 = Err(Error(ConstructExpected))
 0b020000 = Err(Error(ConstructExpected))
 2b80a00285008201000000 = Err(Error(DerConstraintFailed(IndefiniteLength)))
@@ -75,13 +59,11 @@ EmbeddedPdv::check_constraints:
 2b80a00285008201000000 = Err(IndefiniteLengthUnexpected)
 
 Any::embedded_pdv:
-0407a0028500820100 = Ok(EmbeddedPdv { identification: Fixed, \
-data_value_descriptor: None, data_value: [0] })
+0407a0028500820100 = Ok(Fixed None [0])
 0407a1028500820100 = Err(UnexpectedTag { expected: Some(Tag(0)), actual: Tag(1) })
 
 Any::as_embedded_pdv:
-0407a0028500820100 = Ok(EmbeddedPdv { identification: Fixed, \
-data_value_descriptor: None, data_value: [0] })
+0407a0028500820100 = Ok(Fixed None [0])
 ";
 
 /// The calls of the table.
@@ -96,10 +78,10 @@ impl Calls for Pdvs {
                 push_checked::<EmbeddedPdv<'_>>(text, alloc, octets)
             }
             "Any::embedded_pdv" => {
-                push_debug(text, &Any::from_ber(alloc, octets)?.1.embedded_pdv())
+                push_value(text, &Any::from_ber(alloc, octets)?.1.embedded_pdv())
             }
             "Any::as_embedded_pdv" => {
-                push_debug(text, &Any::from_ber(alloc, octets)?.1.as_embedded_pdv())
+                push_value(text, &Any::from_ber(alloc, octets)?.1.as_embedded_pdv())
             }
             _ => Ok(text.push_str("no such call")?),
         }

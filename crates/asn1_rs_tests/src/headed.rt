@@ -10,9 +10,10 @@ use std::alloc::Global;
 use std::fmt::Debug;
 use std::test::Fail;
 use test_rows::{Calls, assert_rows, push_debug, push_digits};
-use test_values::{push_checked, push_written};
+use test_values::{push_checked, push_value, push_written};
 
 /// What was read with its header is written with the class and the tag number of the header alone.
+/// Values by X.690 8.14.
 const WRITTEN: &str = "\
 explicit u8:
 a003020105 = a003020105 count 5 3 raw a003020105
@@ -34,7 +35,7 @@ implicit Vec u16 by DER:
 a103020105 = a103020105 count 5 3 raw a103020105
 ";
 
-/// Values that were put under a tag by a call, whose header has length 0.
+/// Values that were put under a tag by a call, whose header has length 0. Values by X.690 8.14.
 const PUT: &str = "\
 u32 explicit [1]:
 020102 = a103020102 count 5 3 raw a103020102
@@ -52,7 +53,7 @@ u8 implicit constructed [APPLICATION 2]:
 020105 = 420105 count 3 1 raw 420105
 ";
 
-/// What the check says of the element at the front, by BER.
+/// What the check says of the element at the front, by BER. Values by X.690 8.14, 8.3.2, 10.1.
 const CHECKED: &str = "\
 explicit u8:
 a003020105 = Ok(())
@@ -76,7 +77,7 @@ a103020105 = Ok(())
 a10402020005 = Err(DerConstraintFailed(IntegerLeadingZeroes))
 ";
 
-/// What is read by DER, and by BER, and what follows it; it is written again by DER.
+/// What is read by DER, and by BER, and what follows it; it is written again by DER. Values by X.690 8.14.
 const LAWFUL: &str = "\
 explicit u8:
 a003020105ff = a003020105 rest ff by BER a003020105 rest ff
@@ -93,17 +94,17 @@ implicit u8:
 81020005 = Error(DerConstraintFailed(IntegerLeadingZeroes)) by BER 810105 rest -
 ";
 
-/// The element at the front by BER, converted.
+/// The element at the front by BER, converted. Values by X.690 8.14.
 const CONVERTED: &str = "\
 as_tagged_explicit 0 u8:
-a00402020005 = Ok(TaggedValue { inner: 5, marks: PhantomData<_> })
+a00402020005 = Ok(5)
 a103020105 = Err(UnexpectedTag { expected: Some(Tag(0)), actual: Tag(1) })
 8003020105 = Err(ConstructExpected)
 e003020105 = Err(UnexpectedClass { expected: Some(ContextSpecific), actual: Private })
 a0020205 = Err(Incomplete(Size(5)))
 
 as_tagged_implicit 1 u8:
-81020005 = Ok(TaggedValue { inner: 5, marks: PhantomData<_> })
+81020005 = Ok(5)
 820105 = Err(UnexpectedTag { expected: Some(Tag(1)), actual: Tag(2) })
 c10105 = Err(UnexpectedClass { expected: Some(ContextSpecific), actual: Private })
 a103020105 = Err(ConstructUnexpected)
@@ -278,10 +279,10 @@ impl Calls for Converted {
         let (_, any) = Any::from_ber(alloc, octets)?;
         match name {
             "as_tagged_explicit 0 u8" => {
-                push_debug(text, &any.as_tagged_explicit::<u8, Error, 2, 0>(alloc))
+                push_value(text, &any.as_tagged_explicit::<u8, Error, 2, 0>(alloc))
             }
             "as_tagged_implicit 1 u8" => {
-                push_debug(text, &any.as_tagged_implicit::<u8, Error, 2, 1>(alloc))
+                push_value(text, &any.as_tagged_implicit::<u8, Error, 2, 1>(alloc))
             }
             _ => Ok(text.push_str("no such call")?),
         }

@@ -11,12 +11,13 @@ use test_rows::{Calls, Narrow, assert_rows, assert_text, push_debug};
 use test_values::{assert_written, push_by_ber, push_by_der, push_checked};
 
 /// The element of the tag is converted as one of the value; it is written with the value's form and contents octets.
+/// Values by X.690 8.14.3.
 const VALUES: &str = "\
 implicit 1 u8 from_der:
-810105 = TaggedValue { inner: 5, marks: PhantomData<_> } rest - written 810105 count 3 1 raw 810105
-81020005ff = TaggedValue { inner: 5, marks: PhantomData<_> } rest ff written 810105 count 3 1 raw 810105
-8100 = TaggedValue { inner: 0, marks: PhantomData<_> } rest - written 810100 count 3 1 raw 810100
-9f010105 = TaggedValue { inner: 5, marks: PhantomData<_> } rest - written 810105 count 3 1 raw 810105
+810105 = 5 rest - written 810105 count 3 1 raw 810105
+81020005ff = 5 rest ff written 810105 count 3 1 raw 810105
+8100 = 0 rest - written 810100 count 3 1 raw 810100
+9f010105 = 5 rest - written 810105 count 3 1 raw 810105
 820105 = Error(UnexpectedTag { expected: Some(Tag(1)), actual: Tag(2) })
 020105 = Error(UnexpectedTag { expected: Some(Tag(1)), actual: Tag(2) })
 c20105 = Error(UnexpectedTag { expected: Some(Tag(1)), actual: Tag(2) })
@@ -28,17 +29,17 @@ a103020105 = Error(ConstructUnexpected)
 a180020105 = Error(DerConstraintFailed(IndefiniteLength))
 
 implicit 1 u8 from_ber:
-81020005 = TaggedValue { inner: 5, marks: PhantomData<_> } rest - written 810105 count 3 1 raw 810105
+81020005 = 5 rest - written 810105 count 3 1 raw 810105
 c20105 = Error(UnexpectedTag { expected: Some(Tag(1)), actual: Tag(2) })
 c10105 = Error(UnexpectedClass { expected: Some(ContextSpecific), actual: Private })
 a1800201050000 = Error(ConstructUnexpected)
 8101 = Incomplete(Size(1))
 
 implicit 1 Boolean from_der:
-810105 = TaggedValue { inner: Boolean { value: 5 }, marks: PhantomData<_> } rest - written 8101ff count 3 1 raw 8101ff
+810105 = Boolean { value: 5 } rest - written 8101ff count 3 1 raw 8101ff
 
 implicit 31 u8 from_der:
-9f1f0105 = TaggedValue { inner: 5, marks: PhantomData<_> } rest - written 9f1f0105 count 4 1 raw 9f1f0105
+9f1f0105 = 5 rest - written 9f1f0105 count 4 1 raw 9f1f0105
 
 implicit 1 of class 4 from_der:
 810105 = Error(UnexpectedClass { expected: None, actual: ContextSpecific })
@@ -53,17 +54,17 @@ a1800000 = Err(IndefiniteLengthUnexpected)
 ";
 
 /// Lists and sets under the tag, whose items are read by BER by both readers, and lists and sets of values under it.
+/// Values by X.690 8.14.3, 8.10, 8.12.
 const LISTS: &str = "\
 implicit 1 Vec u16 from_der:
-a10402020005 = TaggedValue { inner: [5], marks: PhantomData<_> } rest - written a103020105 count 5 3 raw a103020105
-a100 = TaggedValue { inner: [], marks: PhantomData<_> } rest - written a100 count 2 0 raw a100
+a10402020005 = [5] rest - written a103020105 count 5 3 raw a103020105
+a100 = [] rest - written a100 count 2 0 raw a100
 8103020105 = Error(ConstructExpected)
 a1020205 = Error(Incomplete(Size(5)))
 3003020105 = Error(UnexpectedTag { expected: Some(Tag(1)), actual: Tag(16) })
 
 implicit 1 Vec u16 from_ber:
-a1800202000500000101 = TaggedValue { inner: [5], marks: PhantomData<_> } rest 0101 \
-written a103020105 count 5 3 raw a103020105
+a1800202000500000101 = [5] rest 0101 written a103020105 count 5 3 raw a103020105
 a1020205 = Error(Incomplete(Size(5)))
 
 implicit 1 Vec u16 check_constraints:
@@ -73,47 +74,42 @@ a10402020005 = Err(DerConstraintFailed(IntegerLeadingZeroes))
 a1020205 = Err(Incomplete(Size(5)))
 
 Vec of implicit 31 u8 from_der:
-30049f1f0105 = [TaggedValue { inner: 5, marks: PhantomData<_> }] rest - written 30049f1f0105 count 6 4 raw 30049f1f0105
+30049f1f0105 = [5] rest - written 30049f1f0105 count 6 4 raw 30049f1f0105
 3003020105 = Error(UnexpectedTag { expected: Some(Tag(31)), actual: Tag(2) })
 
 implicit 1 SetOf u8 from_der:
-a106020102020101 = TaggedValue { inner: SetOf { items: [2, 1] }, marks: PhantomData<_> } rest - \
-written a106020101020102 count 8 6 raw a106020101020102
+a106020102020101 = [2, 1] rest - written a106020101020102 count 8 6 raw a106020101020102
 
 universal 2 Sequence from_der:
-2208020212340202560c = TaggedValue { inner: Sequence { content: [2, 2, 18, 52, 2, 2, 86, 12] }, \
-marks: PhantomData<_> } rest - written 2208020212340202560c count 10 8 raw 2208020212340202560c
+2208020212340202560c = Sequence { content: [2, 2, 18, 52, 2, 2, 86, 12] } rest - \
+written 2208020212340202560c count 10 8 raw 2208020212340202560c
 
 optional implicit 1 Integer from_der:
-810102 = Some(TaggedValue { inner: Integer { octets: [2] }, marks: PhantomData<_> }) rest - \
-written 810102 count 3 1 raw 810102
+810102 = Some(02) rest - written 810102 count 3 1 raw 810102
 820102 = None rest 820102 written - count 0 0 raw -
 ";
 
 /// Tags over tags: the class of the inner one is that of the outer one, or the element is not read.
+/// Those of "Jones" stand in X.690 8.14; the others are by 8.14.3.
 const TAGS: &str = "\
 implicit 1 explicit 0 u8:
-a103020105 = TaggedValue { inner: TaggedValue { inner: 5, marks: PhantomData<_> }, marks: PhantomData<_> } rest - \
-written a103020105 count 5 3 raw a103020105
+a103020105 = 5 rest - written a103020105 count 5 3 raw a103020105
 8103020105 = Error(ConstructExpected)
 a1020205 = Error(Incomplete(Size(5)))
 
 implicit 1 implicit 2 u8:
-810105 = TaggedValue { inner: TaggedValue { inner: 5, marks: PhantomData<_> }, marks: PhantomData<_> } rest - \
-written 810105 count 3 1 raw 810105
+810105 = 5 rest - written 810105 count 3 1 raw 810105
 820105 = Error(UnexpectedTag { expected: Some(Tag(1)), actual: Tag(2) })
 
 implicit 1 application explicit 0 u8:
 a103020105 = Error(UnexpectedClass { expected: Some(Application), actual: ContextSpecific })
 
 explicit 2 application implicit 3 OctetString from_der:
-a20743054a6f6e6573 = TaggedValue { inner: TaggedValue { inner: OctetString { octets: [74, 111, 110, 101, 115] }, \
-marks: PhantomData<_> }, marks: PhantomData<_> } rest - written a20743054a6f6e6573 count 9 7 raw a20743054a6f6e6573
+a20743054a6f6e6573 = 4a6f6e6573 rest - written a20743054a6f6e6573 count 9 7 raw a20743054a6f6e6573
 a20783054a6f6e6573 = Error(UnexpectedClass { expected: Some(Application), actual: ContextSpecific })
 
 explicit 2 application implicit 3 OctetString from_ber:
-a28043054a6f6e65730000 = TaggedValue { inner: TaggedValue { inner: OctetString { octets: [74, 111, 110, 101, 115] }, \
-marks: PhantomData<_> }, marks: PhantomData<_> } rest - written a20743054a6f6e6573 count 9 7 raw a20743054a6f6e6573
+a28043054a6f6e65730000 = 4a6f6e6573 rest - written a20743054a6f6e6573 count 9 7 raw a20743054a6f6e6573
 a20783054a6f6e6573 = Error(UnexpectedClass { expected: Some(Application), actual: ContextSpecific })
 ";
 

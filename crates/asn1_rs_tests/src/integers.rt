@@ -3,19 +3,20 @@
 use asn1_rs::{Any, CheckDerConstraints, Enumerated, Error, FromBer, Integer, ToDer, Told};
 use std::alloc::Global;
 use std::test::Fail;
-use test_rows::{Calls, assert_rows, assert_shown, push_debug};
-use test_values::{push_by_ber, push_by_der};
+use test_rows::{Calls, assert_rows, assert_shown};
+use test_values::{push_by_ber, push_by_der, push_value};
 
 /// An integer of any size keeps its octets. By DER they are the fewest. An enumerated value has no sign.
+/// Values by X.690 8.3, 8.4.
 const READ: &str = "\
 Integer::from_ber:
-02020005 = Integer { octets: [0, 5] } rest - written 02020005 count 4 2 raw 02020005
-0200 = Integer { octets: [] } rest - written 0200 count 2 0 raw 0200
-22020001 = Integer { octets: [0, 1] } rest - written 02020001 count 4 2 raw 02020001
+02020005 = 0005 rest - written 02020005 count 4 2 raw 02020005
+0200 = - rest - written 0200 count 2 0 raw 0200
+22020001 = 0001 rest - written 02020001 count 4 2 raw 02020001
 0a0105 = Error(UnexpectedTag { expected: Some(Tag(2)), actual: Tag(10) })
 
 Integer::from_der:
-020200ff = Integer { octets: [0, 255] } rest - written 020200ff count 4 2 raw 020200ff
+020200ff = 00ff rest - written 020200ff count 4 2 raw 020200ff
 02020005 = Error(DerConstraintFailed(IntegerLeadingZeroes))
 0202ff80 = Error(DerConstraintFailed(IntegerLeadingFF))
 0200 = Error(DerConstraintFailed(IntegerEmpty))
@@ -31,8 +32,8 @@ Enumerated::from_der:
 2a0101 = Error(ConstructUnexpected)
 
 as:
-020180 = (Ok(Integer { octets: [128] }), Err(UnexpectedTag { expected: Some(Tag(10)), actual: Tag(2) }))
-0a0180 = (Err(UnexpectedTag { expected: Some(Tag(2)), actual: Tag(10) }), Ok(Enumerated(128)))
+020180 = Ok(80), Err(UnexpectedTag { expected: Some(Tag(10)), actual: Tag(2) })
+0a0180 = Err(UnexpectedTag { expected: Some(Tag(2)), actual: Tag(10) }), Ok(Enumerated(128))
 ";
 
 /// The calls of the table.
@@ -41,7 +42,9 @@ struct Integers;
 /// The element at the front, by BER, as an integer and as an enumerated value.
 fn push_converted(text: &mut String, alloc: Global, octets: &[u8]) -> Result<(), Fail> {
     let any = Any::from_ber(alloc, octets)?.1;
-    push_debug(text, &(any.as_integer(), any.as_enumerated()))
+    push_value(text, &any.as_integer())?;
+    text.push_str(", ")?;
+    push_value(text, &any.as_enumerated())
 }
 
 impl Calls for Integers {

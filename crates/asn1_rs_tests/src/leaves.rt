@@ -8,9 +8,10 @@ use asn1_rs::{
 use std::alloc::Global;
 use std::test::Fail;
 use test_rows::{Calls, Narrow, assert_rows, assert_shown, push_debug};
-use test_values::{push_by_ber, push_by_der};
+use test_values::{push_by_ber, push_by_der, push_value};
 
 /// Truth values and nulls. `Boolean` keeps its octet, and its raw form has that.
+/// Values by X.690 8.2, 11.1, 8.8, 8.1.5.
 const TRUTHS: &str = "\
 bool::from_der:
 0101ff = true rest - written 0101ff count 3 1 raw 0101ff
@@ -62,11 +63,11 @@ EndOfContent::from_ber:
 /// Octet strings and bit strings (X.690 8.6.4.2, 8.7).
 const STRINGS: &str = "\
 OctetString::from_ber:
-0405+5*41 = OctetString { octets: [65, 65, 65, 65, 65] } rest - written 0405+5*41 count 7 5 raw 0405+5*41
-2403040101 = OctetString { octets: [4, 1, 1] } rest - written 0403040101 count 5 3 raw 0403040101
+0405+5*41 = 5*41 rest - written 0405+5*41 count 7 5 raw 0405+5*41
+2403040101 = 040101 rest - written 0403040101 count 5 3 raw 0403040101
 
 OctetString::from_der:
-0400 = OctetString { octets: [] } rest - written 0400 count 2 0 raw 0400
+0400 = - rest - written 0400 count 2 0 raw 0400
 2403040101 = Error(ConstructUnexpected)
 040205 = Incomplete(Size(1))
 
@@ -93,6 +94,7 @@ written 0304066e5dc0 count 6 4 raw 0304066e5dc0
 ";
 
 /// An element at the front, by BER, converted to each of these types while it stays.
+/// Values by X.690 8.2, 8.8, 8.6, 8.7.
 const CONVERTED: &str = "\
 as:
 010105 = (Ok(Boolean { value: 5 }), Ok(true), Err(UnexpectedTag { expected: Some(Tag(5)), actual: Tag(1) }))
@@ -100,9 +102,9 @@ as:
 Err(UnexpectedTag { expected: Some(Tag(1)), actual: Tag(5) }), Ok(Null))
 
 as string:
-03020780 = (Err(UnexpectedTag { expected: Some(Tag(4)), actual: Tag(3) }), \
-Ok(BitString { unused_bits: 7, content: [128] }))
-0401ff = (Ok(OctetString { octets: [255] }), Err(UnexpectedTag { expected: Some(Tag(3)), actual: Tag(4) }))
+03020780 = Err(UnexpectedTag { expected: Some(Tag(4)), actual: Tag(3) }), \
+Ok(BitString { unused_bits: 7, content: [128] })
+0401ff = Ok(ff), Err(UnexpectedTag { expected: Some(Tag(3)), actual: Tag(4) })
 ";
 
 /// The calls of the tables.
@@ -117,7 +119,9 @@ fn push_converted(text: &mut String, alloc: Global, octets: &[u8]) -> Result<(),
 /// The element at the front, by BER, as a string.
 fn push_string(text: &mut String, alloc: Global, octets: &[u8]) -> Result<(), Fail> {
     let any = Any::from_ber(alloc, octets)?.1;
-    push_debug(text, &(any.as_octetstring(), any.as_bitstring()))
+    push_value(text, &any.as_octetstring())?;
+    text.push_str(", ")?;
+    push_value(text, &any.as_bitstring())
 }
 
 impl Calls for Leaves {

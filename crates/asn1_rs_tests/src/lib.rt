@@ -10,6 +10,8 @@ mod calls;
 #[cfg(test)]
 mod civil_times;
 #[cfg(test)]
+mod clones;
+#[cfg(test)]
 mod colour;
 #[cfg(test)]
 mod devices;

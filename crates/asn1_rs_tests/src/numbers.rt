@@ -5,7 +5,7 @@ use asn1_rs::{Tagged, ToDer, Told, write_strict};
 use std::test::Fail;
 use test_rows::{assert_rows, assert_shown};
 
-/// Calls and their answers.
+/// Calls and their answers. Values by X.690 8.3.
 const BY_CALLS: &str = "\
 u8::from_der:
 020102ffff = 2 rest ffff

@@ -15,6 +15,7 @@ use test_rows::{
 use test_values::{assert_cut, push_by_ber, push_by_der, push_shown, push_written};
 
 /// What is made of arcs and of texts. X.690 8.19.5 has 2.100.3, and 8.20.5 has 8571.3.2.
+/// The others are by 8.19.2 and 8.19.4.
 const MADE: &str = "\
 from 2.100.3 = OID(2.100.3) arcs 3: 2 100 3 written 0603813403 count 5 3 raw 0603813403
 from 2.18446744073709551615 = OID(2.18446744073709551615) arcs 2: 2 18446744073709551615 \
@@ -48,6 +49,7 @@ from_relative = TooShort
 
 /// Contents octets as arcs and as texts. A subidentifier without its last octet counts with the digits that are there.
 /// Where an arc is 2^64 or more there are no arcs, and the text is in hexadecimal.
+/// Values by X.690 8.19.2, 8.19.4.
 const SHOWN: &str = "\
 Oid::new:
 2a03 = 1.2.3 is 1.2.3 arcs 3: 1 2 3
@@ -76,6 +78,7 @@ Oid::to_id_string:
 ";
 
 /// Elements that are read. An absolute one is read at any tag, a relative one at its own.
+/// Values by X.690 8.19, 8.20.
 const READ: &str = "\
 Oid::from_der:
 06072a864886f70d01 = OID(1.2.840.113549.1) rest - written 06072a864886f70d01 count 9 7 raw 06072a864886f70d01
@@ -115,7 +118,7 @@ Err(UnexpectedTag { expected: Some(Tag(13)), actual: Tag(6) }))
 ";
 
 /// Copies, each with whether it is what it was made of, and the absolute and the relative one of its octets; whether
-/// 1.2.840.113549.1 begins contents octets.
+/// 1.2.840.113549.1 begins contents octets. Values by X.690 8.19, 8.20.
 const COMPARED: &str = "\
 Oid::to_owned:
 2a03 = OID(1.2.3) (true, true, false)

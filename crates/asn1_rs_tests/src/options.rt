@@ -8,10 +8,11 @@ use std::alloc::Global;
 use std::io::ErrorKind;
 use std::test::Fail;
 use test_rows::{Calls, Narrow, assert_rows, assert_shown, push_debug};
-use test_values::{assert_cut, push_by_ber, push_by_der};
+use test_values::{assert_cut, push_by_ber, push_by_der, push_value};
 
 /// None where there are no octets, or a header of another tag number, which stays. The class is not looked at, and a
 /// header that cannot be read is refused as the type refuses it. What is held is written, in its DER form.
+/// Values by X.690 8.9.3, 8.3.
 const OPTIONS: &str = "\
 Option::<u8>::from_der:
 0400 = None rest 0400 written - count 0 0 raw -
@@ -48,14 +49,12 @@ Option::<Vec<u8>>::from_der:
 
 Option::<Any>::from_der:
 - = None rest - written - count 0 0 raw -
-040105 = Some(Any { header: Header { class: Universal, constructed: false, tag: Tag(4), length: Definite(1), \
-raw_tag: Some([4]) }, content: [5] }) rest - written 040105 count 3 1 raw 040105
+040105 = Some((Universal, false, Tag(4), Definite(1), Some([4]), [5])) rest - written 040105 count 3 1 raw 040105
 0480 = Error(DerConstraintFailed(IndefiniteLength))
 
 Option::<Any>::from_ber:
 - = None rest - written - count 0 0 raw -
-24800000 = Some(Any { header: Header { class: Universal, constructed: true, tag: Tag(4), length: Indefinite, \
-raw_tag: Some([36]) }, content: [] }) rest - written 2400 count 2 0 raw 2400
+24800000 = Some((Universal, true, Tag(4), Indefinite, Some([36]), [])) rest - written 2400 count 2 0 raw 2400
 0480 = Error(ConstructExpected)
 
 u16, Option<bool>, u32:
@@ -68,7 +67,7 @@ Option<Enumerated>, u32:
 30050203010001 = Ok(([], (None, 65537)))
 ";
 
-/// Of an element that is read by BER.
+/// Of an element that is read by BER. Values by X.690 8.9.3, 8.3, 8.10.
 const ELEMENTS: &str = "\
 Any::as_optional::<u8>:
 020105 = Ok(Some(5))
@@ -85,8 +84,7 @@ Any::as_optional::<Vec<u8>>:
 3003020205 = Err(Incomplete(Size(1)))
 
 Any::as_optional::<Any>:
-040105 = Ok(Some(Any { header: Header { class: Universal, constructed: false, tag: Tag(4), length: Definite(1), \
-raw_tag: None }, content: [5] }))
+040105 = Ok(Some((Universal, false, Tag(4), Definite(1), None, [5])))
 
 Option::<u8>::check_constraints:
 020105 = Ok(())
@@ -145,7 +143,7 @@ impl Calls for AsElements {
                 text,
                 &any.as_optional::<Vec<u8>, Error>(alloc),
             ),
-            "Any::as_optional::<Any>" => push_debug(
+            "Any::as_optional::<Any>" => push_value(
                 text,
                 &any.as_optional::<Any<'_>, Error>(alloc),
             ),

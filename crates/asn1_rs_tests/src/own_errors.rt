@@ -1,16 +1,16 @@
-//! Tags at an error type of a caller's own, from which nothing is derived: values are read under them, and they are
-//! shown, compared and dropped.
+//! Tags, lists and options at an error type of a caller's own, from which nothing is derived: values are read under
+//! tags, in lists and where they may be left out, and tags are shown, compared and dropped.
 
 use asn1_rs::{
     Any, CheckDerConstraints, Class, DerAutoDerive, Err, Error, Explicit, FromAny, FromBer,
-    FromDer, Header, Implicit, OptTaggedParser, ParseResult, Tag, Tagged, TaggedExplicit,
-    TaggedImplicit, TaggedParser, parse_der_tagged_explicit, parse_der_tagged_explicit_g,
-    parse_der_tagged_implicit_g,
+    FromDer, Header, Implicit, OptTaggedParser, ParseResult, SequenceOf, SetOf, Tag, Tagged,
+    TaggedExplicit, TaggedImplicit, TaggedParser, TaggedValue, parse_der_tagged_explicit,
+    parse_der_tagged_explicit_g, parse_der_tagged_implicit_g,
 };
 use std::alloc::Global;
 use std::fmt::Debug;
 use std::test::Fail;
-use test_rows::{Calls, assert_all, assert_rows, assert_shown, push_debug};
+use test_rows::{Calls, assert_all, assert_rows, push_debug};
 
 /// Why a volume is refused: its octets are, or it is too loud. It cannot be dropped.
 enum Trouble {
@@ -87,27 +87,28 @@ fn octet_first<'a>(content: &'a [u8], header: Header<'a>) -> ParseResult<'a, u8,
 }
 
 /// What readers answer at the caller's error type: how many octets are left, and the value; or the refusal.
+/// Values by X.690 8.14, 8.3.
 const READ: &str = "\
 explicit [1] by DER:
-a103020105ff = (1, TaggedValue { inner: Volume(5), marks: PhantomData<_> })
+a103020105ff = (1, Volume(5))
 a104020200c8 = error (\"too loud\", 200)
 a10402020005 = error DerConstraintFailed(IntegerLeadingZeroes)
 a203020105 = error UnexpectedTag { expected: Some(Tag(1)), actual: Tag(2) }
 a103020205 = Size(1)
 
 explicit [1] by BER:
-a10402020005 = (0, TaggedValue { inner: Volume(5), marks: PhantomData<_> })
+a10402020005 = (0, Volume(5))
 a104020200c8 = error (\"too loud\", 200)
 a103020205 = error Incomplete(Size(1))
 
 implicit [1] by DER:
-810105 = (0, TaggedValue { inner: Volume(5), marks: PhantomData<_> })
+810105 = (0, Volume(5))
 81020080 = error (\"too loud\", 128)
 810180 = error IntegerNegative
 c10105 = error UnexpectedClass { expected: Some(ContextSpecific), actual: Private }
 
 implicit [1] by BER:
-8101058101 = (2, TaggedValue { inner: Volume(5), marks: PhantomData<_> })
+8101058101 = (2, Volume(5))
 
 any explicit by DER:
 6e03020105 = (0, (true, Tag(14), 5))
@@ -171,6 +172,18 @@ fn push_answer<T: Debug + Drop>(
     }
 }
 
+/// Appends what a reader of volumes under a tag answers.
+fn push_tagged<Kind>(
+    text: &mut String,
+    answer: ParseResult<'_, TaggedValue<Volume, Trouble, Kind, 2, 1>, Trouble>,
+) -> Result<(), Fail> {
+    let volume: ParseResult<'_, Volume, Trouble> = match answer {
+        Ok((rest, value)) => Ok((rest, value.into_inner())),
+        Err(refusal) => Err(refusal),
+    };
+    push_answer(text, volume)
+}
+
 /// Appends what a reader of values with their headers answers.
 fn push_headed<Kind>(
     text: &mut String,
@@ -186,32 +199,32 @@ fn push_headed<Kind>(
     push_answer(text, parts)
 }
 
-/// The calls of the table.
+/// The calls of the first table.
 struct AtTrouble;
 
 impl Calls for AtTrouble {
     fn answer(text: &mut String, alloc: Global, name: &str, octets: &[u8]) -> Result<(), Fail> {
         match name {
             "explicit [1] by DER" => {
-                push_answer(
+                push_tagged(
                     text,
                     TaggedExplicit::<Volume, Trouble, 1>::from_der(alloc, octets),
                 )
             }
             "explicit [1] by BER" => {
-                push_answer(
+                push_tagged(
                     text,
                     TaggedExplicit::<Volume, Trouble, 1>::from_ber(alloc, octets),
                 )
             }
             "implicit [1] by DER" => {
-                push_answer(
+                push_tagged(
                     text,
                     TaggedImplicit::<Volume, Trouble, 1>::from_der(alloc, octets),
                 )
             }
             "implicit [1] by BER" => {
-                push_answer(
+                push_tagged(
                     text,
                     TaggedImplicit::<Volume, Trouble, 1>::from_ber(alloc, octets),
                 )
@@ -248,41 +261,117 @@ fn volumes_are_read_under_tags(rt: HostRuntime) -> Result<(), Fail> {
     assert_rows::<AtTrouble>(rt.alloc(), READ)
 }
 
-/// Asserts that both are equal, and their text.
-fn assert_same<T: Eq + Debug + Drop>(
-    alloc: Global,
-    one: T,
-    other: T,
-    text: &str,
+/// Volumes in lists and sets, and volumes that may be left out. Values by X.690 8.10, 8.12, 8.9.3.
+const HELD: &str = "\
+Vec by DER:
+3006020105020106ff = (1, [Volume(5), Volume(6)])
+3004020200c8 = error (\"too loud\", 200)
+300402020005 = error DerConstraintFailed(IntegerLeadingZeroes)
+3103020105 = error UnexpectedTag { expected: Some(Tag(16)), actual: Tag(17) }
+3003020205 = error Incomplete(Size(1))
+3005020105 = Size(2)
+
+SequenceOf by DER:
+3006020105020106ff = (1, [Volume(5), Volume(6)])
+3004020200c8 = error (\"too loud\", 200)
+
+SetOf by DER:
+3106020106020105 = (0, [Volume(6), Volume(5)])
+3104020200c8 = error (\"too loud\", 200)
+3003020105 = error UnexpectedTag { expected: Some(Tag(17)), actual: Tag(16) }
+
+Option by DER:
+- = (0, None)
+0400 = (2, None)
+020105ff = (1, Some(Volume(5)))
+02017f = error (\"too loud\", 127)
+02020005 = error DerConstraintFailed(IntegerLeadingZeroes)
+0203 = Size(3)
+
+Option by BER:
+2480 = (2, None)
+02020005 = (0, Some(Volume(5)))
+02017f = error (\"too loud\", 127)
+0480 = error ConstructExpected
+";
+
+/// Appends what a reader of lists answers: the items.
+fn push_items(
+    text: &mut String,
+    answer: ParseResult<'_, SequenceOf<Volume>, Trouble>,
 ) -> Result<(), Fail> {
-    assert_all(text, &[one == other])?;
-    assert_shown(alloc, &one, text)
+    let items: ParseResult<'_, Vec<Volume>, Trouble> = match answer {
+        Ok((rest, list)) => Ok((rest, list.into_vec())),
+        Err(refusal) => Err(refusal),
+    };
+    push_answer(text, items)
+}
+
+/// The same of sets.
+fn push_members(
+    text: &mut String,
+    answer: ParseResult<'_, SetOf<Volume>, Trouble>,
+) -> Result<(), Fail> {
+    let members: ParseResult<'_, Vec<Volume>, Trouble> = match answer {
+        Ok((rest, set)) => Ok((rest, set.into_vec())),
+        Err(refusal) => Err(refusal),
+    };
+    push_answer(text, members)
+}
+
+/// The calls of the second table.
+struct Held;
+
+impl Calls for Held {
+    fn answer(text: &mut String, alloc: Global, name: &str, octets: &[u8]) -> Result<(), Fail> {
+        match name {
+            "Vec by DER" => push_answer(text, Vec::<Volume>::from_der(alloc, octets)),
+            "SequenceOf by DER" => push_items(text, SequenceOf::from_der(alloc, octets)),
+            "SetOf by DER" => push_members(text, SetOf::from_der(alloc, octets)),
+            "Option by DER" => push_answer(text, Option::<Volume>::from_der(alloc, octets)),
+            "Option by BER" => push_answer(text, Option::<Volume>::from_ber(alloc, octets)),
+            _ => Ok(text.push_str("no such call")?),
+        }
+    }
+}
+
+#[test]
+fn volumes_are_read_in_lists_and_options(rt: HostRuntime) -> Result<(), Fail> {
+    assert_rows::<Held>(rt.alloc(), HELD)
+}
+
+/// Asserts that both are equal, and their derived texts.
+fn assert_same<T: Eq + Debug + Drop>(alloc: Global, one: T, other: T) -> Result<(), Fail> {
+    let (text, other_text) = (
+        format!(in alloc; "{one:?}")?,
+        format!(in alloc; "{other:?}")?,
+    );
+    assert_all("the same", &[one == other, text == other_text])
+}
+
+/// A number with a header of a tag of this class, whose tag number is 3.
+fn parser_of(class: Class, n: u8) -> TaggedParser<'static, Implicit, u8, Trouble> {
+    TaggedParser::new_implicit(class, false, 3, n)
 }
 
 #[test]
 fn tags_ask_nothing_of_the_error_type(rt: HostRuntime) -> Result<(), Fail> {
     let value = TaggedExplicit::<u8, Trouble, 1>::explicit(5);
     let same = TaggedExplicit::<u8, Trouble, 1>::explicit(5);
-    assert_same(
-        rt.alloc(),
-        value,
-        same,
-        "TaggedValue { inner: 5, marks: PhantomData<_> }",
-    )?;
-    let parser = TaggedParser::<'_, Implicit, u8, Trouble>::new_implicit(
-        Class::Private,
-        false,
-        3,
-        5,
-    );
-    let other = TaggedParser::<'_, Implicit, u8, Trouble>::new_implicit(
-        Class::Private,
-        false,
-        3,
-        6,
-    );
-    assert_all(
-        "parsers",
-        &[parser != other, parser.class() == Class::Private],
-    )
+    assert_same(rt.alloc(), value, same)?;
+    let other = TaggedExplicit::<u8, Trouble, 1>::explicit(6);
+    assert_all("values", &[other != TaggedExplicit::explicit(5)])
+}
+
+#[test]
+fn parsers_are_compared_by_their_headers_and_values(rt: HostRuntime) -> Result<(), Fail> {
+    let parser = parser_of(Class::Private, 5);
+    let facts = [
+        parser == parser_of(Class::Private, 5),
+        parser != parser_of(Class::Private, 6),
+        parser != parser_of(Class::Application, 5),
+        parser.class() == Class::Private,
+    ];
+    assert_all("parsers", &facts)?;
+    assert_same(rt.alloc(), parser, parser_of(Class::Private, 5))
 }

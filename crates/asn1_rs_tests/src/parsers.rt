@@ -10,6 +10,7 @@ use std::test::Fail;
 use test_rows::{Calls, assert_rows, push_debug};
 
 /// An element that may be there or not: `[1]`, and `[APPLICATION 1]`. The closure takes its first contents octet.
+/// Values by X.690 8.14.
 const OPTIONS: &str = "\
 from(1) by BER:
 - = Ok(([], None))
@@ -47,7 +48,7 @@ a103020102 = Ok(([], Some((2, true))))
 ";
 
 /// Readers of an element of the number 1 that hand it to a closure, which takes the first contents
-/// octet or converts it.
+/// octet or converts it. Values by X.690 8.14.
 const HANDED_ON: &str = "\
 parse_der_tagged_explicit_g 1:
 a10302010205 = Ok(([5], (2, true)))
@@ -60,7 +61,7 @@ parse_der_tagged_implicit_g 1:
 020105 = Err(Error(UnexpectedTag { expected: Some(Tag(1)), actual: Tag(2) }))
 ";
 
-/// Values under a tag, with their headers.
+/// Values under a tag, with their headers. Values by X.690 8.14, 8.3.
 const PARSERS: &str = "\
 explicit u8 by BER:
 a003020105ff = Ok(([255], (ContextSpecific, true, Tag(0), 5)))

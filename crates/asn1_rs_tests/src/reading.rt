@@ -2,9 +2,9 @@
 
 use crate::calls::Library;
 use std::test::Fail;
-use test_rows::{assert_rows, octets_of};
+use test_rows::{assert_rows, assert_shown, call_and_rows, octets_of};
 
-// X.690 8.1.2, 8.1.3.
+/// Values by X.690 8.1.2, 8.1.3.
 const HEADERS: &str = "\
 Header::from_der:
 3000 = 0.c.16 Definite(0) raw 30 rest -
@@ -33,6 +33,7 @@ Header::from_ber:
 bf0f8000 = 2.c.15 Indefinite raw bf0f rest 00
 ";
 
+/// Headers that are refused, by X.690 8.1.2.4, 8.1.3.5 and 10.1.
 const REFUSED_HEADERS: &str = "\
 Header::from_der:
 - = Incomplete(Size(1))
@@ -60,7 +61,7 @@ Header::from_ber:
 048201 = Incomplete(Size(1))
 ";
 
-// Of X.690 8.9 a sequence of "Smith" and TRUE, of 8.14 "Jones" under five kinds of tags.
+/// Of X.690 8.9 a sequence of "Smith" and TRUE, of 8.14 "Jones" under five kinds of tags. The others are by 8.1.
 const ELEMENTS: &str = "\
 Any::from_der:
 020102ffff = 0.p.2 Definite(1) raw 02 content 02 rest ffff
@@ -84,6 +85,7 @@ a20743054a6f6e6573 = 2.c.2 Definite(7) raw a2 content 43054a6f6e6573 rest -
 1f908080800200 = Error(InvalidTag)
 ";
 
+/// The same by BER: lengths of both forms by X.690 8.1.3, ends of contents by 8.1.5.
 const ELEMENTS_BY_BER: &str = "\
 Any::from_ber:
 020102ffff = 0.p.2 Definite(1) raw 02 content 02 rest ffff
@@ -116,7 +118,8 @@ Any::from_ber:
 9f+6*a2+220100 = Error(InvalidTag)
 ";
 
-// Each header outside definite contents is read once, and that of each 00 00 too.
+/// Each header outside definite contents is read once, and that of each 00 00 too.
+/// Values by X.690 8.1.3.6, 8.1.5.
 const COUNTED: &str = "\
 any_from_ber_counted:
 308080000000 = 0.c.16 Indefinite raw 30 content 8000 rest - headers 3
@@ -126,8 +129,8 @@ any_from_ber_counted:
 30040500050005 = 0.c.16 Definite(4) raw 30 content 05000500 rest 05 headers 1
 ";
 
-// The header at the front is read by BER, and what follows it is read as its contents octets. A number behind a call is
-// the depth.
+/// The header at the front is read by BER, and what follows it is read as its contents octets. A number behind a call
+/// is the depth. Values by X.690 8.1.3.6, 8.1.5.
 const CONTENTS: &str = "\
 Header::parse_ber_content:
 3080+6*3080+7*0000 = content 6*3080+6*0000 rest -
@@ -163,7 +166,8 @@ Header::parse_der_content:
 010203 = content 0102 rest 03
 ";
 
-// The contents octets of an element [2] are handed to a closure, which takes one. The rest is the element's.
+/// The contents octets of an element [2] are handed to a closure, which takes one. The rest is the element's.
+/// Values by X.690 8.1.
 const HANDED_ON: &str = "\
 Any::from_der_and_then:
 82020a0b0c = 10 rest 0c
@@ -209,4 +213,16 @@ fn wrong_digits_are_no_octets(rt: HostRuntime) {
     for digits in ["3000f", "4Z00", "02!5", "0"] {
         assert!(rt; octets_of(rt.alloc(), digits).is_err(), "{digits}");
     }
+}
+
+/// A call without rows, or a row without a call, would say nothing.
+#[test]
+fn calls_have_rows(rt: HostRuntime) -> Result<(), Fail> {
+    let blocks = [
+        call_and_rows("u16::from_der:\n"),
+        call_and_rows("020105 = 5 rest -\n"),
+        call_and_rows("u16::from_der:\n020105 = 5 rest -\n"),
+    ];
+    let expected = "[None, None, Some((\"u16::from_der\", \"020105 = 5 rest -\\n\"))]";
+    assert_shown(rt.alloc(), &blocks, expected)
 }

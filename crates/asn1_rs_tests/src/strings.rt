@@ -197,6 +197,7 @@ UnexpectedTag { expected: Some(Tag(28)), actual: Tag(30) }
 
 /// The element at the front, by BER, as a text: that of `as_any_str`, whether it is borrowed or owned, and that of
 /// `as_any_string`. Class and constructed bit are not looked at.
+/// The octets are as in the tables above.
 const ANY_TEXT: &str = "\
 Any::as_any_str:
 0c02c3a9 = c3a9 borrowed, c3a9

@@ -6,11 +6,11 @@ use std::test::Fail;
 use test_rows::{Calls, Narrow, assert_rows, assert_shown};
 use test_values::{push_by_ber, push_by_der, push_checked};
 
-/// Explicit tags: the element of the tag, the value within, and how both are written.
+/// Explicit tags: the element of the tag, the value within, and how both are written. Values by X.690 8.14.2.
 const EXPLICIT: &str = "\
 explicit 0 u32 from_der:
-a003020102 = TaggedValue { inner: 2, marks: PhantomData<_> } rest - written a003020102 count 5 3 raw a003020102
-a005020102ffff = TaggedValue { inner: 2, marks: PhantomData<_> } rest - written a003020102 count 5 3 raw a003020102
+a003020102 = 2 rest - written a003020102 count 5 3 raw a003020102
+a005020102ffff = 2 rest - written a003020102 count 5 3 raw a003020102
 a0020205 = Incomplete(Size(5))
 a003020205 = Incomplete(Size(1))
 a0030401 = Incomplete(Size(1))
@@ -21,8 +21,8 @@ a00402020005 = Error(DerConstraintFailed(IntegerLeadingZeroes))
 a080020102 = Error(DerConstraintFailed(IndefiniteLength))
 
 explicit 0 u32 from_ber:
-a0800201020000 = TaggedValue { inner: 2, marks: PhantomData<_> } rest - written a003020102 count 5 3 raw a003020102
-a00402020005 = TaggedValue { inner: 5, marks: PhantomData<_> } rest - written a003020105 count 5 3 raw a003020105
+a0800201020000 = 2 rest - written a003020102 count 5 3 raw a003020102
+a00402020005 = 5 rest - written a003020105 count 5 3 raw a003020105
 a0020205 = Error(Incomplete(Size(5)))
 8103020102 = Error(UnexpectedTag { expected: Some(Tag(0)), actual: Tag(1) })
 4003020102 = Error(ConstructExpected)
@@ -32,11 +32,10 @@ explicit 0 of class 4 from_der:
 a003020105 = Error(UnexpectedClass { expected: None, actual: ContextSpecific })
 
 explicit 31 u8 from_der:
-bf1f03020105 = TaggedValue { inner: 5, marks: PhantomData<_> } rest - written bf1f03020105 count 6 3 raw bf1f03020105
+bf1f03020105 = 5 rest - written bf1f03020105 count 6 3 raw bf1f03020105
 
 Vec of explicit 31 u8 from_der:
-3006bf1f03020105 = [TaggedValue { inner: 5, marks: PhantomData<_> }] rest - written 3006bf1f03020105 count 8 6 \
-    raw 3006bf1f03020105
+3006bf1f03020105 = [5] rest - written 3006bf1f03020105 count 8 6 raw 3006bf1f03020105
 
 explicit 0 u32 check_constraints:
 a003020102 = Ok(())

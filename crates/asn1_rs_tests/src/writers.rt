@@ -11,6 +11,7 @@ use test_values::{assert_cut, assert_failed, assert_written, io_kind};
 
 /// Headers and elements that are read by BER, and how they are written: by DER, their counts, and in the raw form.
 /// That of a header has the identifier octets that were read, that of an element the length that was read.
+/// Values by X.690 8.1.2, 8.1.3, 10.1.
 const WRITTEN_AGAIN: &str = "\
 Header::write_der:
 9f0f02 = 8f02 count 2 0 raw 9f0f02
@@ -91,7 +92,7 @@ fn length_octets_are_written(rt: HostRuntime) -> Result<(), Fail> {
     Ok(())
 }
 
-/// Parts of headers, and how they are written.
+/// Parts of headers, and how they are written. Values by X.690 8.1.2, 8.1.3.
 const HEADERS_BY_HAND: [(Class, bool, u32, Length, &str); 5] = [
     (
         Class::ContextSpecific,

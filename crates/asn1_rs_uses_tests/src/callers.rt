@@ -2,14 +2,14 @@
 
 use asn1_rs::{Error, FromDer, ToDer};
 use asn1_rs_uses::{
-    Fingerprint, Message, Point, SerialNumber, any_text, check_numbers, contents_octets,
-    count_number, count_of_numbers, elements_in, is_same_number, is_strict_front, items_of,
-    numbers_in, numbers_of, read_bit_string, read_element, read_header, read_integer, read_number,
-    read_number_by_ber, read_numbers, read_octet_string, read_octets, read_sequence,
+    Fingerprint, InClass, Level, Message, NamePart, Point, SerialNumber, any_text, check_numbers,
+    contents_octets, count_number, count_of_numbers, elements_in, is_same_number, is_strict_front,
+    items_of, numbers_in, numbers_of, read_bit_string, read_element, read_header, read_integer,
+    read_number, read_number_by_ber, read_numbers, read_octet_string, read_octets, read_sequence,
     read_utf8_string, set_of_numbers, write_number, write_numbers,
 };
 use std::test::Fail;
-use test_rows::assert_shown;
+use test_rows::{assert_all, assert_shown};
 
 #[test]
 fn numbers_are_read_and_written(rt: HostRuntime) -> Result<(), Fail> {
@@ -172,12 +172,27 @@ const SET: [u8; 9] = [0x31, 0x06, 0x02, 0x01, 0x05, 0x02, 0x01, 0x04, 0xff];
 #[test]
 fn joined_numbers_are_read(rt: HostRuntime) -> Result<(), Fail> {
     let alloc = rt.alloc();
+    let (rest, set) = set_of_numbers(alloc, &SET)?;
     let answers = (
         numbers_of(alloc, &SET[2..8]),
         check_numbers(alloc, &SET[2..8]),
         check_numbers(alloc, &SET[2..]),
-        set_of_numbers(alloc, &SET),
+        (rest, set.as_slice()),
     );
-    let expected = "(Ok([5, 4]), Ok(()), Err(InvalidTag), Ok(([255], SetOf { items: [5, 4] })))";
+    let expected = "(Ok([5, 4]), Ok(()), Err(InvalidTag), ([255], [5, 4]))";
     assert_shown(alloc, &answers, expected)
+}
+
+#[test]
+fn values_of_callers_are_copied(_rt: HostRuntime) -> Result<(), Fail> {
+    let (point, in_class) = (Point { x: 1, y: -1 }, InClass { class: 2, octet: 9 });
+    let copied = [
+        Level(5).clone()? == Level(5),
+        SerialNumber(5).clone()? == SerialNumber(5),
+        point.clone()? == point,
+        in_class.clone()? == in_class,
+        NamePart(&[0x61]).clone()? == NamePart(&[0x61]),
+        Fingerprint(&[0x01]).clone()?.0 == [0x01].as_slice(),
+    ];
+    assert_all("copies", &copied)
 }

@@ -114,6 +114,7 @@ fn numbers_of_a_request_are_read(rt: HostRuntime) -> Result<(), Fail> {
 ///
 /// Refused: another version, another type, no `till`, a field left over in both sequences, another application tag, a
 /// context-specific tag, a set, a part that is cut, a request that is, and one that is cut within its tag.
+/// The fields are those of RFC 4120, 5.4.1.
 const REQUESTS: &str = "\
 request:
 6a3d303ba103020105a20302010aa42f302da00703050000000000a2031b0141a511180f3230333730393133303234383035\

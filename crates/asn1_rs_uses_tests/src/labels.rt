@@ -9,6 +9,7 @@ use asn1_rs_uses::{
 use std::alloc::Global;
 use std::test::Fail;
 use test_rows::{Calls, assert_rows, assert_shown, push_debug};
+use test_values::{Says, push_read};
 
 #[test]
 fn an_optional_label_is_counted_and_written(rt: HostRuntime) -> Result<(), Fail> {
@@ -25,10 +26,10 @@ fn an_optional_label_is_counted_and_written(rt: HostRuntime) -> Result<(), Fail>
     assert_shown(alloc, &(answers, w.as_inner().as_slice()), expected)
 }
 
-/// Two general strings in a sequence under a tag.
+/// Two general strings in a sequence under a tag. Values by X.690 8.14, 8.10.
 const LABELS: &str = "[160, 9, 48, 7, 27, 1, 107, 27, 2, 97, 98]";
 
-/// These, by each call.
+/// These, by each call. The count is that of their octets.
 const EACH_OF_LABELS: &str = "\
 EachCall { counted: Ok(11), written: Ok(11), strictly: Ok(11), \
 vector: Ok([160, 9, 48, 7, 27, 1, 107, 27, 2, 97, 98]), \
@@ -80,28 +81,28 @@ vector: Ok([110, 3, 4, 1, 7]), strict: Ok([110, 3, 4, 1, 7]) }";
     assert_shown(alloc, v.as_inner(), "[110, 3, 4, 1, 7]")
 }
 
-/// Octets under the tag 1, by the readers of a tag that is given.
+/// Octets under the tag 1, by the readers of a tag that is given. Values by X.690 8.14, 8.7.
 const UNDER_TAGS: &str = "\
 optional_octets:
-81010700 = Ok(([0], Some(OctetString { octets: [7] })))
+81010700 = Ok(([0], Some(07)))
 820107 = Ok(([130, 1, 7], None))
 - = Ok(([], None))
 410107 = Err(Error(UnexpectedClass { expected: Some(ContextSpecific), actual: Application }))
 
 string_under:
-610304010700 = ([0], Tag(1), OctetString { octets: [7] })
+610304010700 = ([0], Tag(1)) 07
 a203040107 = Error(UnexpectedTag { expected: Some(Tag(1)), actual: Tag(2) })
 
 octets_under:
-81010700 = ([0], Tag(1), OctetString { octets: [7] })
+81010700 = ([0], Tag(1)) 07
 a10107 = Error(ConstructUnexpected)
 
 octets_handed_on:
 a1030401 = Err(Incomplete(Size(1)))
-a10304010700 = Ok(([0], OctetString { octets: [4, 1, 7] }))
+a10304010700 = Ok(([0], 040107))
 
 octets_handed_under:
-81010700 = Ok(([0], OctetString { octets: [7] }))
+81010700 = Ok(([0], 07))
 ";
 
 /// The rest, the tag number and the value, or the refusal.
@@ -110,7 +111,11 @@ fn push_parsed<Kind>(
     answer: ParseResult<'_, TaggedParser<'_, Kind, OctetString<'_>, Error>, Error>,
 ) -> Result<(), Fail> {
     match answer {
-        Ok((rest, parser)) => push_debug(text, &(rest, parser.tag(), &parser.inner)),
+        Ok((rest, parser)) => {
+            push_debug(text, &(rest, parser.tag()))?;
+            text.push_str(" ")?;
+            parser.inner.say(text)
+        }
         Err(e) => push_debug(text, &e),
     }
 }
@@ -121,11 +126,11 @@ struct UnderTags;
 impl Calls for UnderTags {
     fn answer(text: &mut String, alloc: Global, name: &str, octets: &[u8]) -> Result<(), Fail> {
         match name {
-            "optional_octets" => push_debug(text, &optional_octets(1, octets)),
+            "optional_octets" => push_read(text, &optional_octets(1, octets)),
             "string_under" => push_parsed(text, string_under(alloc, 1, octets)),
             "octets_under" => push_parsed(text, octets_under(alloc, 1, octets)),
-            "octets_handed_on" => push_debug(text, &octets_handed_on(1, octets)),
-            "octets_handed_under" => push_debug(text, &octets_handed_under(1, octets)),
+            "octets_handed_on" => push_read(text, &octets_handed_on(1, octets)),
+            "octets_handed_under" => push_read(text, &octets_handed_under(1, octets)),
             _ => Ok(text.push_str("no such call")?),
         }
     }

@@ -16,9 +16,9 @@ mod levels;
 #[cfg(test)]
 mod lists;
 #[cfg(test)]
-mod packets;
-#[cfg(test)]
 mod measurements;
+#[cfg(test)]
+mod packets;
 #[cfg(test)]
 mod principals;
 #[cfg(test)]

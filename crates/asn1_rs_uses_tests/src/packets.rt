@@ -7,14 +7,14 @@ use std::test::Fail;
 use test_rows::{Calls, assert_rows, push_debug};
 
 /// A message of SNMP: the community, the tag number, the number of the request, the first binding by its identifier and
-/// its contents octets, and how many octets the others have. A bind of LDAP: the number of the message, the version, the
-/// name, and the controls.
+/// its contents octets, and how many octets the others have. A bind of LDAP: the number of the message, the version,
+/// the name, and the controls.
 ///
 /// Read: the request of `asn1_rs_outside_tests`, for sysDescr.0 and ifInOctets.129, whose lengths have three octets; a
 /// GetBulk of version 2 (RFC 3416) for ifDescr; and a response with two bindings.
 ///
 /// Refused: a message of version 3, a trap of version 1, and bindings that end within a name, where the closure hands
-/// on what it was told.
+/// on what it was told. The fields are those of RFC 1157, RFC 3416 and RFC 4511.
 const PACKETS: &str = "\
 packet:
 3082004002010004067075626c6963a033020412345678020100020100308200233082000c06082b06010201010100050030\

@@ -9,6 +9,7 @@ use test_rows::{Calls, assert_rows, push_debug};
 ///
 /// Refused: octets left over, another tag number in the place of the realm, a length and a string by BER alone, a
 /// primitive sequence, one of another class or number, a part that is cut, and a sequence that is.
+/// Values by X.690 8.9, 8.14.
 const PRINCIPALS: &str = "\
 principal:
 3016a003020101a10a300804036b7262040161a203040178ff = ([255], 1)[107, 114, 98][97][120]true

@@ -33,6 +33,7 @@ fn a_message_is_awaited_octet_by_octet(rt: HostRuntime) -> Result<(), Fail> {
 }
 
 /// The rest behind a message, and how refusals are told: whether to wait.
+/// The message is of RFC 4120, 5.4.1; its lengths are by X.690 8.1.3.
 const BUFFERS: &str = "\
 request:
 6a3d303ba103020105a20302010aa42f302da00703050000000000a2031b0141a511180f3230333730393133303234383035\

@@ -3,6 +3,7 @@
 use crate::runs::assert_lines;
 use std::test::Fail;
 
+/// Elements of any type, by X.690 8.1.
 const ELEMENTS: &str = "\
 ber any 0000 = ok 0.p.0.- rest - enc 0000
 ber any 020102ffff = ok 0.p.2.02 rest ffff enc 020102
@@ -22,6 +23,7 @@ der any 1f8fffffff7f00 = ok 0.p.4294967295.- rest - enc 1f8fffffff7f00
 der any a20743054a6f6e6573 = ok 2.c.2.43054a6f6e6573 rest - enc a20743054a6f6e6573
 ";
 
+/// Those that are refused, by X.690 8.1.2, 8.1.3, 8.1.5 and 10.1.
 const REFUSED_ELEMENTS: &str = "\
 ber any 50*3080+50*0000 = err BerMaxDepth
 ber any 50*3080 = err Incomplete(1)
@@ -41,6 +43,7 @@ der any 0288+8*ff = err Incomplete(18446744073709551615)
 der any 1f81 = err InvalidTag
 ";
 
+/// Numbers, by X.690 8.3.
 const NUMBERS: &str = "\
 ber u8 020101 = ok 1 rest - enc 020101
 ber u16 020101 = ok 1 rest - enc 020101

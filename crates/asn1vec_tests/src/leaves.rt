@@ -4,7 +4,7 @@
 use crate::runs::assert_lines;
 use std::test::Fail;
 
-/// Lines and their answers. What is not in DER form is written as it stands.
+/// Lines and their answers. What is not in DER form is written as it stands. Values by X.690 8.2 to 8.8.
 const LEAVES: &str = "\
 der bool 0100 = err InvalidLength
 der bool 020105 = err DerConstraintFailed(InvalidBoolean)

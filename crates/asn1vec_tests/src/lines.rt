@@ -8,7 +8,7 @@ use std::io::ErrorKind;
 use std::test::Fail;
 use test_rows::assert_texts;
 
-/// A line, and its answer.
+/// A line, and its answer. Values by X.690 8.3.
 const LINES: &str = "\
 der u64 0203010001 = ok 65537 rest - enc 0203010001
 der u64 0281010500 = ok 5 rest 00 enc 020105
@@ -85,7 +85,11 @@ fn writer_of_answers_ends_at_each_place(rt: HostRuntime) -> Result<(), Fail> {
 
 #[test]
 fn failures_have_last_lines(rt: HostRuntime) -> Result<(), Fail> {
-    let failures = [RunError::Input, RunError::Output, RunError::OutOfMemory];
+    let failures = [
+        RunError::Input.clone()?,
+        RunError::Output,
+        RunError::OutOfMemory,
+    ];
     let lines = "asn1vec: input failed\nasn1vec: output failed\nasn1vec: out of memory\n";
     assert_texts(rt.alloc(), &failures, lines)
 }

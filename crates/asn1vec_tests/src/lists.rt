@@ -3,7 +3,7 @@
 use crate::runs::assert_lines;
 use std::test::Fail;
 
-/// Lists, which by DER need no constructed bit, and lists of these.
+/// Lists, which by DER need no constructed bit, and lists of these. Values by X.690 8.10.
 const LISTS: &str = "\
 der vec.u8 3003020105 = ok [5] rest - enc 3003020105
 ber vec.u8 3006020101020102ff = ok [1,2] rest ff enc 3006020101020102
@@ -39,6 +39,7 @@ ber vec.vec.vec.u8 3000 = err Type
 ";
 
 /// Sets: of items in the order read, which are written in ascending order; and of members that ascend.
+/// Values by X.690 8.12, 11.6.
 const SETS: &str = "\
 der seqof.u32 3006020103020101 = ok [3,1] rest - enc 3006020103020101
 ber seqof.u32 1003020105 = err ConstructExpected

@@ -3,7 +3,7 @@
 use crate::runs::assert_lines;
 use std::test::Fail;
 
-/// Lines and their answers.
+/// Lines and their answers. Values by X.690 8.3.
 const NUMBERS: &str = "\
 ber u64 020105 = ok 5 rest - enc 020105
 ber u8 0289ff = err Incomplete(8)
@@ -29,7 +29,7 @@ der u8 020102ffff = ok 2 rest ffff enc 020102
 der u8 820105 = ok 5 rest - enc 020105
 ";
 
-// X.690 8.3: two's complement.
+/// Numbers with signs: two's complement (X.690 8.3).
 const SIGNED: &str = "\
 der i8 020100 = ok 0 rest - enc 020100
 der i8 02017f = ok 127 rest - enc 02017f
@@ -55,6 +55,7 @@ der i128 02107f+15*ff = ok 170141183460469231731687303715884105727 rest - enc 02
 der u128 021100+16*ff = ok 340282366920938463463374607431768211455 rest - enc 021100+16*ff
 ";
 
+/// Values by X.690 8.3.2.
 const SIGNED_REFUSED: &str = "\
 der i8 0202ff80 = err DerConstraintFailed(IntegerLeadingFF)
 der i8 02020000 = err DerConstraintFailed(IntegerLeadingZeroes)
@@ -72,7 +73,7 @@ ber i32 220101 = err ConstructUnexpected
 der i64 0200 = err DerConstraintFailed(IntegerEmpty)
 ";
 
-// Of two faults the constraint is told. The class is not looked at.
+/// Of two faults the constraint is told. The class is not looked at. Values by X.690 8.1.3, 8.3, 10.1.
 const REFUSED: &str = "\
 der u8 0202 = err Incomplete(2)
 der u8 3080 = err DerConstraintFailed(IndefiniteLength)

@@ -24,7 +24,7 @@ ber oid 26022a03 = ok 1.2.3 rest - enc 06022a03
 ber oid 0506 = err Incomplete(6)
 ";
 
-/// By DER the element is primitive, and its length is definite.
+/// By DER the element is primitive, and its length is definite. Values by X.690 8.19, 10.1.
 const BY_DER: &str = "\
 der oid 06022a83 = ok 1.2.3 rest - enc 06022a83
 der oid 060a82+8*80+4f = ok 2.18446744073709551615 rest - enc 060a82+8*80+4f

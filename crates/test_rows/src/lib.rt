@@ -6,5 +6,5 @@ mod rows;
 mod texts;
 
 pub use narrow::Narrow;
-pub use rows::{Calls, assert_rows, octets_of, push_digits, sides, written_out};
+pub use rows::{Calls, assert_rows, call_and_rows, octets_of, push_digits, sides, written_out};
 pub use texts::{assert_all, assert_shown, assert_text, assert_texts, push_debug};

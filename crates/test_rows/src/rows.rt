@@ -90,10 +90,18 @@ fn assert_row<C: Calls>(alloc: Global, call: &str, row: &str) -> Result<(), Fail
     assert_text(row, answer.as_str(), expected.as_str())
 }
 
+/// The call that the first line of a block names, and the rows below it; None where it names no call, or has no rows.
+pub fn call_and_rows(block: &str) -> Option<(&str, &str)> {
+    match block.split_once(":\n") {
+        Some((call, rows)) if !rows.is_empty() => Some((call, rows)),
+        _ => None,
+    }
+}
+
 /// Asserts that the call that the first line names is answered as the rows below it say.
 fn assert_call<C: Calls>(alloc: Global, block: &str) -> Result<(), Fail> {
-    let Some((call, rows)) = block.split_once(":\n") else {
-        return Err(Fail::new(format_args!("no call: {block}")));
+    let Some((call, rows)) = call_and_rows(block) else {
+        return Err(Fail::new(format_args!("no call with rows: {block}")));
     };
     for row in rows.lines() {
         assert_row::<C>(alloc, call, row)?;
@@ -101,7 +109,8 @@ fn assert_call<C: Calls>(alloc: Global, block: &str) -> Result<(), Fail> {
     Ok(())
 }
 
-/// Asserts that each call of a table is answered as its rows say. An empty line parts the calls.
+/// Asserts that each call of a table is answered as its rows say. An empty line parts the calls, and
+/// one without rows is refused.
 pub fn assert_rows<C: Calls>(alloc: Global, table: &str) -> Result<(), Fail> {
     for block in table.split("\n\n") {
         assert_call::<C>(alloc, block)?;

@@ -1,9 +1,10 @@
 //! How values are read, checked and converted, as texts.
 
+use crate::says::{Says, push_read, push_value};
 use crate::writing::push_written;
 use asn1_rs::{Any, CheckDerConstraints, Err, Error, FromAny, FromBer, FromDer, ToDer};
 use std::alloc::Global;
-use std::fmt::{Debug, Write};
+use std::fmt::Debug;
 use std::test::Fail;
 use test_rows::{push_debug, push_digits};
 
@@ -15,26 +16,40 @@ pub fn push_shown<S: Debug, T: ToDer>(
     rest: &[u8],
     value: &T,
 ) -> Result<(), Fail> {
-    write!(text, "{seen:?} rest ")?;
+    push_debug(text, seen)?;
+    push_behind(text, alloc, rest, value)
+}
+
+/// Appends what follows a value that was read, and how it is written.
+fn push_behind<T: ToDer>(
+    text: &mut String,
+    alloc: Global,
+    rest: &[u8],
+    value: &T,
+) -> Result<(), Fail> {
+    text.push_str(" rest ")?;
     push_digits(text, rest)?;
     text.push_str(" written ")?;
     push_written(text, alloc, value)
 }
 
 /// Appends what a reader answers, and how the value is written.
-fn push_answer<T: Debug + ToDer + Drop>(
+fn push_answer<T: Says + ToDer + Drop>(
     text: &mut String,
     alloc: Global,
     answer: Result<(&[u8], T), Err<Error>>,
 ) -> Result<(), Fail> {
     match answer {
-        Ok((rest, value)) => push_shown(text, alloc, &value, rest, &value),
+        Ok((rest, value)) => {
+            value.say(text)?;
+            push_behind(text, alloc, rest, &value)
+        }
         Err(refusal) => push_debug(text, &refusal),
     }
 }
 
 /// Appends what the reader of a type answers by DER, and how the value is written.
-pub fn push_by_der<'a, T: FromDer<'a, Error> + Debug + ToDer + Drop>(
+pub fn push_by_der<'a, T: FromDer<'a, Error> + Says + ToDer + Drop>(
     text: &mut String,
     alloc: Global,
     octets: &'a [u8],
@@ -43,7 +58,7 @@ pub fn push_by_der<'a, T: FromDer<'a, Error> + Debug + ToDer + Drop>(
 }
 
 /// Appends what the reader of a type answers by BER, and how the value is written.
-pub fn push_by_ber<'a, T: FromBer<'a, Error> + Debug + ToDer + Drop>(
+pub fn push_by_ber<'a, T: FromBer<'a, Error> + Says + ToDer + Drop>(
     text: &mut String,
     alloc: Global,
     octets: &'a [u8],
@@ -51,22 +66,22 @@ pub fn push_by_ber<'a, T: FromBer<'a, Error> + Debug + ToDer + Drop>(
     push_answer(text, alloc, T::from_ber(alloc, octets))
 }
 
-/// Appends what the reader of a type answers by DER, as its derived text.
-pub fn push_read_by_der<'a, T: FromDer<'a, Error> + Debug + Drop>(
+/// Appends what the reader of a type answers by DER.
+pub fn push_read_by_der<'a, T: FromDer<'a, Error> + Says + Drop>(
     text: &mut String,
     alloc: Global,
     octets: &'a [u8],
 ) -> Result<(), Fail> {
-    push_debug(text, &T::from_der(alloc, octets))
+    push_read(text, &T::from_der(alloc, octets))
 }
 
-/// Appends what the reader of a type answers by BER, as its derived text.
-pub fn push_read_by_ber<'a, T: FromBer<'a, Error> + Debug + Drop>(
+/// Appends what the reader of a type answers by BER.
+pub fn push_read_by_ber<'a, T: FromBer<'a, Error> + Says + Drop>(
     text: &mut String,
     alloc: Global,
     octets: &'a [u8],
 ) -> Result<(), Fail> {
-    push_debug(text, &T::from_ber(alloc, octets))
+    push_read(text, &T::from_ber(alloc, octets))
 }
 
 /// Appends what the check of the element at the front, by BER, says.
@@ -80,11 +95,11 @@ pub fn push_checked<T: CheckDerConstraints>(
 }
 
 /// Appends what the element at the front, by BER, is converted to.
-pub fn push_converted<'a, T: FromAny<'a, Error = Error> + Debug + Drop>(
+pub fn push_converted<'a, T: FromAny<'a, Error = Error> + Says + Drop>(
     text: &mut String,
     alloc: Global,
     octets: &'a [u8],
 ) -> Result<(), Fail> {
     let (_, any) = Any::from_ber(alloc, octets)?;
-    push_debug(text, &T::try_from_any(alloc, any))
+    push_value(text, &T::try_from_any(alloc, any))
 }
