@@ -3,7 +3,7 @@ ghost use Rattle.std.specs.Prelude.{◌≡◌, ◌↔◌, [], IfOk, IsOk};
 ghost use Rattle.asn1_headers.specs.Answers.{seen};
 ghost use Rattle.asn1_rs_uses.specs.FieldReader.{BeginsWithSequence, TakesField, fields_left};
 
-use asn1_rs::{Any, Class, Error, FromDer, ParseResult, Tag, any_is_the_element};
+use asn1_rs::{Any, Class, Error, FromDer, ParseResult, Tag};
 use std::alloc::Global;
 
 /// The fields of a sequence that are still to be read.
@@ -22,7 +22,6 @@ impl<'a> FieldReader<'a> {
         ensures { IfOk (seen result)
             (λ x. BeginsWithSequence octets.now (fields_left x.1) x.0) }
     {
-        any_is_the_element();
         let (rest, element) = Any::from_der(alloc, octets)?;
         element.header.assert_class(Class::Universal)?;
         element.header.assert_constructed()?;

@@ -4,7 +4,7 @@
 
 use asn1_rs::{
     Any, CheckDerConstraints, Class, DerAutoDerive, ElementKind, Error, FromAny, FromDer, HasKind,
-    OctetString, OptTaggedParser, ParseResult, Sequence, Tag, TagNumber, TaggedAs,
+    Header, OctetString, OptTaggedParser, ParseResult, Sequence, Tag, TagNumber, TaggedAs,
 };
 use std::alloc::Global;
 use std::borrow::CowSlice;
@@ -51,10 +51,17 @@ fn read_controls<'a>(
     alloc: Global,
     octets: &'a [u8],
 ) -> ParseResult<'a, Option<Vec<Control<'a>>>, Error> {
-    OptTaggedParser::tagged(0).parse_der(octets, |_header, items| {
-        let controls = Sequence::new(CowSlice::Borrowed(items));
-        Ok((&[], controls.into_der_sequence_of_ref(alloc)?))
-    })
+    let (rest, items) = OptTaggedParser::tagged(0).parse_der(octets, contents)?;
+    let Some(items) = items else {
+        return Ok((rest, None));
+    };
+    let controls = Sequence::new(CowSlice::Borrowed(items));
+    Ok((rest, Some(controls.into_der_sequence_of_ref(alloc)?)))
+}
+
+/// The contents octets behind a header.
+fn contents<'a>(_header: Header<'_>, content: &'a [u8]) -> ParseResult<'a, &'a [u8], Error> {
+    Ok((&[], content))
 }
 
 /// A control: what it asks for, whether it must be understood, and a value.

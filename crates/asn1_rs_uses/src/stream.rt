@@ -23,7 +23,9 @@ pub fn next_message<'a, T: FromDer<'a, Error>>(
 {
     any_is_the_element();
     answers_last();
-    let (_, _element) = Any::from_der(alloc, buffer)?;
+    if let Err(refusal) = Any::from_der(alloc, buffer) {
+        return Err(refusal);
+    }
     match T::from_der(alloc, buffer) {
         Ok(read) => Ok(read),
         Err(refusal) => Err(Err::Error(Error::from(refusal))),
