@@ -11,5 +11,6 @@ pub mod Elements
 pub mod Answers
 pub mod Walk
 pub mod Writer
+pub mod Prepended
 pub mod Texts
 pub mod Laws

@@ -5,6 +5,7 @@
 #![tactic(auto)]
 
 pub mod ber;
+pub mod buffer;
 pub mod class;
 pub mod content;
 pub mod der;

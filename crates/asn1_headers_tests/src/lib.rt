@@ -1,7 +1,9 @@
 //! Tests of the layer below elements: headers made by hand, classes, tag numbers, lengths,
-//! and the texts and conversions of errors.
+//! the texts and conversions of errors, and octets that grow at the front.
 #![tactic(auto)]
 
+#[cfg(test)]
+mod buffers;
 #[cfg(test)]
 mod errors;
 #[cfg(test)]

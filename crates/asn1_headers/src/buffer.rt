@@ -1,0 +1,163 @@
+//! Octets that grow at the front: what is written from the back stands in one buffer, so that the header of an element
+//! is put before contents octets whose number is known.
+ghost use Rattle.std.specs.Prelude.{◌≡◌, ◌≤◌, ◌<◌, ◌+◌, ◌-◌, ◌++◌, ℕ, List, [], length, drop, vec_len, true, false};
+ghost use Rattle.std.specs.Prelude.{IfOk, IfErr, Err, MatchResult};
+ghost use Rattle.x690.specs.Strict.{header_octets};
+ghost use Rattle.asn1_headers.specs.Error.{tells_of_io};
+ghost use Rattle.asn1_headers.specs.Prepended.{IsLengthOrMemory, Prepended};
+ghost use Rattle.asn1_headers.specs.Writer.{MayRefuse};
+
+use crate::error::{SerializeError, SerializeResult};
+use crate::writer::add_written;
+use std::alloc::{AllocError, Global};
+use std::marker::Model;
+use x690::digits::header_into;
+
+/// Octets that grow at the front. Contracts see them as a list.
+///
+/// Its room doubles, so that many pieces are put in front by as many copies of octets, and not by their square. It keeps
+/// the allocator that it was made with.
+#[derive(Debug, Drop)]
+pub struct DerBuffer {
+    alloc: Global,
+    octets: Vec<u8>,
+    start: usize,
+}
+
+impl Model for DerBuffer {
+    ghost Value = { List ℕ };
+
+    ghost view = { λ b. drop b.start b.octets.items };
+
+    ghost invariant = { λ b. b.start ≤ vec_len b.octets };
+}
+
+/// How many octets a buffer has room for when it first grows.
+const FIRST_ROOM: usize = 128;
+
+impl DerBuffer {
+    /// A buffer of no octets, which asks for no memory yet.
+    pub fn new(alloc: Global) -> Self
+        ensures { result ≡ [] }
+    {
+        DerBuffer {
+            alloc,
+            octets: Vec::new(alloc),
+            start: 0,
+        }
+    }
+
+    /// How many octets it holds.
+    pub fn len(&self) -> usize
+        ensures { result ≡ length self.now }
+    {
+        self.octets.len() - self.start
+    }
+
+    /// The octets that it holds.
+    pub fn as_bytes(&self) -> &[u8]
+        ensures { result.now ≡ self.now }
+    {
+        &self.octets[self.start..]
+    }
+
+    /// Puts the octets before those that it holds.
+    ///
+    /// Refused with `InvalidLength` where their number would pass `usize`, else with `OutOfMemory`; then it is as before.
+    pub fn prepend(&mut self, octets: &[u8]) -> SerializeResult<()>
+        ensures put { MatchResult result (λ _. self.new ≡ octets.now ++ self.old)
+            (λ e. (self.new ≡ self.old) × (tells_of_io e ≡ false)
+            × MayRefuse true (length octets.now + length self.old) e) }
+        ensures refused { IfErr result
+            (IsLengthOrMemory (length octets.now + length self.old)) }
+    {
+        let count = octets.len();
+        if count > self.start {
+            let held = self.octets.len() - self.start;
+            let Some(total) = held.checked_add(count) else {
+                return Err(SerializeError::InvalidLength);
+            };
+            let capacity = total.saturating_mul(2).max(FIRST_ROOM);
+            let grown = match moved_back(self.alloc, &self.octets[self.start..], capacity) {
+                Ok(grown) => grown,
+                Err(_) => return Err(SerializeError::OutOfMemory),
+            };
+            self.octets = grown;
+            self.start = capacity - held;
+        }
+        put_before(&mut self.octets, self.start, octets);
+        self.start -= count;
+        Ok(())
+    }
+}
+
+/// The octets at the end of a larger vector.
+fn moved_back(alloc: Global, octets: &[u8], capacity: usize) -> Result<Vec<u8>, AllocError>
+    requires { length octets.now ≤ capacity }
+    ensures len { IfOk result (λ v. vec_len v ≡ capacity) }
+    ensures end { IfOk result (λ v. drop (capacity - length octets.now) v.items ≡ octets.now) }
+{
+    let mut grown = vec![in alloc; 0u8; capacity]?;
+    put_before(&mut grown, capacity, octets);
+    Ok(grown)
+}
+
+/// Writes the octets before a place.
+fn put_before(buffer: &mut [u8], end: usize, octets: &[u8])
+    requires room { length octets.now ≤ end }
+    requires within { end ≤ length buffer.old }
+    ensures { drop (end - length octets.now) buffer.new ≡ octets.now ++ drop end buffer.old }
+{
+    let start = end - octets.len();
+    buffer[start..end].copy_from_slice(octets);
+}
+
+/// Puts octets in front, and answers their number.
+pub fn prepend_octets(octets: &[u8], buf: &mut DerBuffer) -> SerializeResult<usize>
+    ensures prepended { Prepended octets.now buf.old buf.new result }
+    ensures refused { IfErr result (MayRefuse true (length octets.now + length buf.old)) }
+{
+    buf.prepend(octets)?;
+    Ok(octets.len())
+}
+
+/// Puts octets before so many that were put there, and answers the number of both.
+pub fn prepend_behind(octets: &[u8], after: usize, buf: &mut DerBuffer) -> SerializeResult<usize>
+    ensures prepended { (content old : List ℕ) → buf.old ≡ content ++ old →
+        after ≡ length content → Prepended (octets.now ++ content) old buf.new result }
+    ensures refused { (content old : List ℕ) → buf.old ≡ content ++ old →
+        after ≡ length content →
+        IfErr result (MayRefuse true (length (octets.now ++ content) + length old)) }
+{
+    buf.prepend(octets)?;
+    add_written(octets.len(), after)
+}
+
+/// Puts the strict header of an element before the contents octets that were put there, and answers the number of both.
+/// A refusal of these is handed on.
+pub fn prepend_element(
+    class: u8,
+    constructed: bool,
+    number: u32,
+    content: SerializeResult<usize>,
+    buf: &mut DerBuffer,
+) -> SerializeResult<usize>
+    requires { class < 4 }
+    ensures prepended { (octets old : List ℕ) → Prepended octets old buf.old content →
+        Prepended (header_octets class constructed number (length octets) ++ octets) old buf.new
+        result }
+    ensures refused { (octets old : List ℕ) → Prepended octets old buf.old content → IfOk content
+        (λ _. IfErr result (MayRefuse true
+        (length (header_octets class constructed number (length octets) ++ octets)
+        + length old))) }
+    ensures handed { IfErr content (λ e. (result ≡ Err e) × (buf.new ≡ buf.old)) }
+{
+    match content {
+        Ok(after) => {
+            let mut octets = [0; 15];
+            let count = header_into(class, constructed, number, after, &mut octets);
+            prepend_behind(&octets[..count], after, buf)
+        }
+        Err(e) => Err(e),
+    }
+}
