@@ -157,8 +157,7 @@ impl Calls for Requests {
             Err(e) => return push_debug(text, &e),
         };
         let written = request.to_der_vec(alloc)?;
-        let is_same = octets.starts_with(written.as_slice())
-            && written.len() + rest.len() == octets.len()
+        let is_same = octets.strip_prefix(written.as_slice()) == Some(rest)
             && request.to_der_len() == Ok(written.len());
         write!(text, "{rest:?} {is_same}")?;
         Ok(())

@@ -21,7 +21,7 @@ fn a_message_is_awaited_octet_by_octet(rt: HostRuntime) -> Result<(), Fail> {
     let octets = octets_of(alloc, REQUEST)?;
     let mut buffer = Vec::new(alloc);
     for octet in octets.iter() {
-        let missing = octets.len() - buffer.len();
+        let missing = octets.len().saturating_sub(buffer.len());
         assert!(rt; waits(alloc, buffer.as_slice(), missing));
         buffer.push(*octet)?;
     }
