@@ -29,12 +29,17 @@ pub fn read_bind_message<'a>(
     alloc: Global,
     octets: &'a [u8],
 ) -> ParseResult<'a, BindMessage<'a>, Error> {
-    Sequence::from_der_and_then(octets, |content| {
-        let (content, id) = u32::from_der(alloc, content)?;
-        let (content, bind) = read_bind(alloc, content)?;
-        let (content, controls) = read_controls(alloc, content)?;
-        Ok((content, BindMessage { id, bind, controls }))
-    })
+    let (rest, message) = Sequence::from_der_and_then(octets, |content| Ok((&[], content)))?;
+    let (_, parts) = read_parts(alloc, message)?;
+    Ok((rest, parts))
+}
+
+/// Its parts, in their order.
+fn read_parts<'a>(alloc: Global, content: &'a [u8]) -> ParseResult<'a, BindMessage<'a>, Error> {
+    let (content, id) = u32::from_der(alloc, content)?;
+    let (content, bind) = read_bind(alloc, content)?;
+    let (content, controls) = read_controls(alloc, content)?;
+    Ok((content, BindMessage { id, bind, controls }))
 }
 
 /// Its second part, under an implicit tag of the application class.
