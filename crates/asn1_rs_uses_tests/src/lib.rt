@@ -4,11 +4,7 @@
 #[cfg(test)]
 mod callers;
 #[cfg(test)]
-mod certificates;
-#[cfg(test)]
 mod handles;
-#[cfg(test)]
-mod kerberos;
 #[cfg(test)]
 mod labels;
 #[cfg(test)]
@@ -16,14 +12,8 @@ mod levels;
 #[cfg(test)]
 mod lists;
 #[cfg(test)]
-mod measurements;
-#[cfg(test)]
-mod packets;
-#[cfg(test)]
 mod principals;
 #[cfg(test)]
 mod refusals;
 #[cfg(test)]
 mod sets;
-#[cfg(test)]
-mod streams;
