@@ -2,6 +2,7 @@ mod JoinedItems
 mod Kept
 mod Lists
 mod OnlyItem
+mod Prepending
 mod PutFields
 mod Sets
 mod TaggedReaders

@@ -13,6 +13,7 @@ mod to_static;
 mod traits;
 
 pub use asn1_headers::ber::Steps;
+pub use asn1_headers::buffer::DerBuffer;
 pub use asn1_headers::class::BerClassFromIntError;
 pub use asn1_headers::class::Class;
 pub use asn1_headers::class::classes_are_numbered;
@@ -154,6 +155,7 @@ pub use kinds::fields::Fields;
 pub use kinds::fields::FieldsKind;
 pub use kinds::fields::WritesFields;
 pub use kinds::in_hand::DerElement;
+pub use kinds::writing::Piece;
 pub use kinds::writing::WritesElement;
 pub use kinds::writing::WritesOctets;
 pub use laws::Grammar;

@@ -1,7 +1,9 @@
 //! The trait of values that are written by DER.
-ghost use Rattle.std.specs.Prelude.{◌≡◌, ℕ, false, List, length, Err, IfOk, IfErr, IsErr};
+ghost use Rattle.std.specs.Prelude.{◌≡◌, ◌≢◌, ◌+◌, ℕ, true, false, List, length, Ok, Err, IfOk, IfErr, IsErr};
 ghost use Rattle.std.specs.Io.KnownBytes.{Appends};
 ghost use Rattle.asn1_headers.specs.Writer.{Wrote};
+ghost use Rattle.asn1_headers.specs.Prepended.{Prepended};
+ghost use Rattle.asn1_headers.specs.declared.error.SerializeError.TheVariants as serialize_errors;
 ghost use Rattle.asn1_rs.specs.ToDer.{untold, Refuses, RefusesCount, VectorRefuses, IsRefusedAtOnce, RefusedAtOnce};
 ghost use Rattle.asn1_rs.specs.ToDer.{Writing, whole_allocates, whole_octets, whole_refuses};
 ghost use Rattle.asn1_headers.specs.Error.{vector_refusal, tells_of_io};
@@ -9,8 +11,9 @@ ghost use Rattle.asn1_headers.specs.declared.error.SerializeError.{SerializeErro
 ghost use Rattle.asn1_headers.specs.declared.error.Error.{Error};
 
 use crate::traits::DynTagged;
-use asn1_headers::error::{Error, SerializeResult, without_io};
-use asn1_headers::writer::{DerWrite, Told, add_written};
+use asn1_headers::buffer::{DerBuffer, prepend_behind, prepend_octets};
+use asn1_headers::error::{Error, SerializeError, SerializeResult, without_io};
+use asn1_headers::writer::{DerWrite, Told, add_written, put_all};
 use std::alloc::Global;
 
 /// A value that is written by DER.
@@ -112,9 +115,62 @@ pub trait ToDer: DynTagged {
         ensures first { (e : SerializeError) → writing.refuses_first self.now e →
             RefusedAtOnce e (W.state w.old) (W.state w.new) result }
     {
+        let mut buf = DerBuffer::new(alloc);
+        if stands(self.prepend_der(alloc, &mut buf))? {
+            return put_all(w, buf.as_bytes());
+        }
         let before = self.write_der_header(alloc, w)?;
         let after = self.write_der_content(alloc, w)?;
         add_written(before, after)
+    }
+
+    /// Puts the contents octets before those of the buffer, and answers their number.
+    ///
+    /// Refused as `write_der_content` into a vector is, and then an end part of them may stand in the buffer.
+    fn prepend_der_content(&self, alloc: Global, buf: &mut DerBuffer) -> SerializeResult<usize>
+        ensures prepended { writing.tells self.now →
+            Prepended (writing.content self.now) buf.old buf.new result }
+        ensures refused { writing.tells self.now →
+            IfErr result (VectorRefuses (length (writing.content self.now) + length buf.old)
+            (writing.content_refuses self.now)) }
+        ensures accepted { (e : SerializeError) → writing.tells self.now →
+            writing.content_refuses self.now e → IsErr result }
+        ensures uncounted { (e : Error) → writing.tells self.now →
+            writing.count_refuses self.now e → IsErr result }
+        ensures first { (e : SerializeError) → writing.refuses_first self.now e →
+            (result ≡ Err (vector_refusal e)) × (buf.new ≡ buf.old) }
+    {
+        let mut w = Told::new(Vec::new(alloc));
+        match self.write_der_content(alloc, &mut w) {
+            Ok(_) => prepend_octets(&w.into_inner(), buf),
+            Err(e) => Err(without_io(e)),
+        }
+    }
+
+    /// Puts the encoding before the octets of the buffer, and answers its length.
+    ///
+    /// Refused as `to_der_vec` is, and then an end part of it may stand in the buffer. This body counts the contents
+    /// octets for the header; a type whose contents octets are many or nested has one of its own that puts the header of
+    /// their number.
+    fn prepend_der(&self, alloc: Global, buf: &mut DerBuffer) -> SerializeResult<usize>
+        ensures prepended { writing.tells self.now →
+            Prepended (whole_octets writing self.now) buf.old buf.new result }
+        ensures refused { writing.tells self.now →
+            IfErr result (VectorRefuses (length (whole_octets writing self.now) + length buf.old)
+            (whole_refuses writing self.now)) }
+        ensures accepted { (e : SerializeError) → writing.tells self.now →
+            whole_refuses writing self.now e → IsErr result }
+        ensures uncounted { (e : Error) → writing.tells self.now →
+            writing.count_refuses self.now e → IsErr result }
+        ensures first { (e : SerializeError) → writing.refuses_first self.now e →
+            (result ≡ Err (vector_refusal e)) × (buf.new ≡ buf.old) }
+    {
+        let after = self.prepend_der_content(alloc, buf)?;
+        let mut w = Told::new(Vec::new(alloc));
+        match self.write_der_header(alloc, &mut w) {
+            Ok(_) => prepend_behind(&w.into_inner(), after, buf),
+            Err(e) => Err(without_io(e)),
+        }
     }
 
     /// Appends the encoding as it was read, where the type keeps that; else as `write_der`.
@@ -190,5 +246,18 @@ pub trait ToDer: DynTagged {
             Ok(_) => Ok(w.into_inner()),
             Err(e) => Err(without_io(e)),
         }
+    }
+}
+
+/// Whether octets stand in the buffer: not where memory was refused. Other refusals are handed on.
+pub(crate) fn stands(answer: SerializeResult<usize>) -> SerializeResult<bool>
+    ensures stood { result ≡ Ok true → (n : ℕ) × (answer ≡ Ok n) }
+    ensures memory { result ≡ Ok false → answer ≡ Err serialize_errors.OutOfMemory }
+    ensures refused { IfErr result (λ e. (answer ≡ Err e) × (e ≢ serialize_errors.OutOfMemory)) }
+{
+    match answer {
+        Ok(_) => Ok(true),
+        Err(SerializeError::OutOfMemory) => Ok(false),
+        Err(e) => Err(e),
     }
 }

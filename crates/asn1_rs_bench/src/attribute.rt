@@ -1,8 +1,8 @@
 //! Attributes of a name, as a caller's own type.
 use crate::sums::Summed;
 use asn1_rs::{
-    Any, Class, DerWrite, ElementKind, Error, FromDer, HasKind, Header, Length, Oid, ParseResult,
-    Sequence, SerializeError, SerializeResult, Tag, TagNumber, TaggedAs, ToDer,
+    Any, Class, DerBuffer, DerWrite, ElementKind, Error, FromDer, HasKind, Header, Length, Oid,
+    ParseResult, Sequence, SerializeError, SerializeResult, Tag, TagNumber, TaggedAs, ToDer,
 };
 use std::alloc::Global;
 
@@ -69,6 +69,20 @@ impl ToDer for Attribute<'_> {
         let kind = self.kind.write_der(alloc, w)?;
         let value = self.value.write_der(alloc, w)?;
         kind.checked_add(value).ok_or(SerializeError::InvalidLength)
+    }
+
+    fn prepend_der_content(&self, alloc: Global, buf: &mut DerBuffer) -> SerializeResult<usize> {
+        let value = self.value.prepend_der(alloc, buf)?;
+        let kind = self.kind.prepend_der(alloc, buf)?;
+        kind.checked_add(value).ok_or(SerializeError::InvalidLength)
+    }
+
+    fn prepend_der(&self, alloc: Global, buf: &mut DerBuffer) -> SerializeResult<usize> {
+        let after = self.prepend_der_content(alloc, buf)?;
+        let before = Self::header(after).prepend_der(alloc, buf)?;
+        before
+            .checked_add(after)
+            .ok_or(SerializeError::InvalidLength)
     }
 }
 

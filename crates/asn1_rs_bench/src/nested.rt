@@ -1,7 +1,9 @@
 //! Lists nested deep in one another, as static types.
 
 use crate::sums::Summed;
-use asn1_rs::{DerWrite, Error, FromDer, ParseResult, SerializeResult, Tag, Tagged, ToDer};
+use asn1_rs::{
+    DerBuffer, DerWrite, Error, FromDer, ParseResult, SerializeResult, Tag, Tagged, ToDer,
+};
 use std::alloc::Global;
 
 /// Four lists in one another, of such items.
@@ -64,6 +66,14 @@ impl<T: ToDer> ToDer for FourLists<T> {
     fn write_der<W: DerWrite>(&self, alloc: Global, w: &mut W) -> SerializeResult<usize> {
         self.0.write_der(alloc, w)
     }
+
+    fn prepend_der_content(&self, alloc: Global, buf: &mut DerBuffer) -> SerializeResult<usize> {
+        self.0.prepend_der_content(alloc, buf)
+    }
+
+    fn prepend_der(&self, alloc: Global, buf: &mut DerBuffer) -> SerializeResult<usize> {
+        self.0.prepend_der(alloc, buf)
+    }
 }
 
 impl<T: Summed> Summed for FourLists<T> {
@@ -108,6 +118,14 @@ impl<T: ToDer> ToDer for SixteenLists<T> {
 
     fn write_der<W: DerWrite>(&self, alloc: Global, w: &mut W) -> SerializeResult<usize> {
         self.0.write_der(alloc, w)
+    }
+
+    fn prepend_der_content(&self, alloc: Global, buf: &mut DerBuffer) -> SerializeResult<usize> {
+        self.0.prepend_der_content(alloc, buf)
+    }
+
+    fn prepend_der(&self, alloc: Global, buf: &mut DerBuffer) -> SerializeResult<usize> {
+        self.0.prepend_der(alloc, buf)
     }
 }
 

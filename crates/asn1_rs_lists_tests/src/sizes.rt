@@ -45,12 +45,15 @@ fn assert_counted<T: ToDer>(alloc: Global, value: &T, expected: &str) -> Result<
     assert_shown(alloc, &(counts, written, w.as_inner()), expected)
 }
 
+/// Counts are sums, and refused past 64 bits. What is written is the octets that the items put, whatever they answer.
 #[test]
 fn lengths_past_64_bits_are_refused(rt: HostRuntime) -> Result<(), Fail> {
     let alloc = rt.alloc();
-    let refused = "((Err(InvalidLength), Err(InvalidLength)), Err(InvalidLength), [])";
-    assert_counted(alloc, &vec![in alloc; Vast, Vast]?, refused)?;
-    assert_counted(alloc, &SetOf::new(vec![in alloc; Vast, Vast]?), refused)
+    let counts = "(Err(InvalidLength), Err(InvalidLength))";
+    let list = format!(in alloc; "({counts}, Ok(2), [48, 0])")?;
+    assert_counted(alloc, &vec![in alloc; Vast, Vast]?, list.as_str())?;
+    let set = format!(in alloc; "({counts}, Ok(2), [49, 0])")?;
+    assert_counted(alloc, &SetOf::new(vec![in alloc; Vast, Vast]?), set.as_str())
 }
 
 #[test]

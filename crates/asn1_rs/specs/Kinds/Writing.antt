@@ -1,11 +1,12 @@
 -- What is written for the values of a type.
-use Rattle.std.specs.Prelude.{ℕ, Bool, true, false, List, length, ◌≡◌, ◌<◌, Result, Err, IfErr}
+use Rattle.std.specs.Prelude.{ℕ, Bool, true, false, List, length, take, ◌≡◌, ◌<◌, ◌≤◌, Result, Err, IfErr}
 use Rattle.std.specs.List.{All, flat_map}
 use Rattle.x690.specs.Strict.{header_octets}
 use Rattle.x690.specs.Identifiers.{Identifier}
 use Rattle.asn1_rs.specs.Grammar.Form.{universal}
 use Rattle.asn1_rs.specs.Grammar.{FormTakes}
 use Rattle.asn1_headers.specs.Tag.{is_container_number}
+use Rattle.asn1_rs.specs.declared.kinds.writing.Piece.{Piece}
 use Rattle.asn1_rs.specs.Kinds.{ElementGrammar}
 use Rattle.asn1_rs.specs.Lists.{SomeRefuses}
 use Rattle.asn1_rs.specs.Set.{set_content}
@@ -35,6 +36,20 @@ CountRefused true own n answer = (e : Error) × own e × (answer ≡ Err e)
 abbrev pub PutRefused : Bool → (Error → Type 0) → ℕ → WriterState → WriterState → Result ℕ SerializeError → Type 0
 PutRefused false own n old new answer = IfErr answer (MayRefuse false n)
 PutRefused true own n old new answer = (e : Error) × own e × RefusedAtOnce (written_refusal e) old new answer
+
+-- A putting of contents octets before those of a buffer, of so many octets in all: memory and the length alone refuse
+-- it, or the value does, and then the buffer is as it was.
+abbrev pub PrependRefused : Bool → (Error → Type 0) → ℕ → List ℕ → List ℕ → Result ℕ SerializeError → Type 0
+PrependRefused false own n old new answer = IfErr answer (MayRefuse true n)
+PrependRefused true own n old new answer = (e : Error) × own e × (answer ≡ Err (written_refusal e)) × (new ≡ old)
+
+-- the octets of a piece
+abbrev pub piece_octets : Piece → List ℕ
+piece_octets p = take p.count p.octets
+
+-- a piece of these octets, of a value that is not refused
+abbrev pub IsPieceOf : Bool → List ℕ → Piece → Type 0
+IsPieceOf refused octets p = (refused ≡ false) × (p.count ≤ 16) × (piece_octets p ≡ octets)
 
 -- the refusals of a value of its own, where it is refused, in counts and in writing
 abbrev pub OwnRefusal : Bool → (Error → Type 0) → Error → Type 0

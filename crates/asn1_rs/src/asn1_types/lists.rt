@@ -1,6 +1,6 @@
 //! Items of lists: how they are read, checked, counted and written.
 ghost use Rattle.std.specs.Prelude.{◌≡◌, ◌⊎◌, ◌∷◌, Some, ◌≤◌, ◌<◌, ℕ, List, true, false, length, map, IfOk, IfErr};
-ghost use Rattle.std.specs.Prelude.{IsErr};
+ghost use Rattle.std.specs.Prelude.{◌+◌, IsErr};
 ghost use Rattle.std.specs.declared.result.Result.TheVariants as results;
 ghost use Rattle.std.specs.List.{All, flat_map};
 ghost use Rattle.std.specs.Iterator.{IsFinite, IsFiniteIterable, Drains};
@@ -16,9 +16,10 @@ ghost use Rattle.asn1_headers.specs.declared.error.SerializeError.{SerializeErro
 ghost use Rattle.asn1_headers.specs.declared.error.Error.{Error};
 ghost use Rattle.asn1_headers.specs.declared.error.SerializeError.TheVariants as serialize_errors;
 ghost use Rattle.asn1_headers.specs.declared.error.Error.TheVariants as errors;
+ghost use Rattle.asn1_headers.specs.Prepended.{Prepended};
 ghost use Rattle.asn1_headers.specs.Writer.{Wrote};
 ghost use Rattle.asn1_rs.specs.ToDer.{Refuses, RefusesCount, IntoVector, HasNone, RefusesAtOnce, whole_allocates};
-ghost use Rattle.asn1_rs.specs.ToDer.{whole_octets, whole_refuses};
+ghost use Rattle.asn1_rs.specs.ToDer.{VectorRefuses, whole_octets, whole_refuses};
 ghost use Rattle.asn1_headers.specs.Error.{tells_of_io};
 
 use crate::asn1_types::any::Any;
@@ -28,10 +29,11 @@ use crate::header::add_counts;
 use crate::laws::in_hand::States;
 use crate::to_der::ToDer;
 use crate::traits::{CheckDerConstraints, FromAny, FromBer, FromDer, Tagged, converted};
+use asn1_headers::buffer::DerBuffer;
 use asn1_headers::content::{BerParser, DerParser};
 use asn1_headers::error::{Err, Error, ParseResult, SerializeError, SerializeResult, without_io};
 use asn1_headers::tag::Tag;
-use asn1_headers::writer::{DerWrite, Told};
+use asn1_headers::writer::{DerWrite, Told, add_written};
 use std::alloc::{AllocError, Global};
 use std::io;
 use std::io::Write;
@@ -387,6 +389,33 @@ where
             },
             Err(e) => return Err(e),
         }
+    }
+    Ok(total)
+}
+
+/// Puts the items before the octets of the buffer, the last one first, and answers their number.
+pub(crate) fn prepend_items<T: ToDer>(
+    items: &[T],
+    alloc: Global,
+    buf: &mut DerBuffer,
+) -> SerializeResult<usize>
+    ensures prepended { All T.writing.tells items.now →
+        Prepended (flat_map (whole_octets T.writing) items.now) buf.old buf.new result }
+    ensures refused { All T.writing.tells items.now →
+        IfErr result (VectorRefuses
+        (length (flat_map (whole_octets T.writing) items.now) + length buf.old)
+        (SomeRefuses (whole_refuses T.writing) items.now)) }
+    ensures accepted { (e : SerializeError) → All T.writing.tells items.now →
+        SomeRefuses (whole_refuses T.writing) items.now e → IsErr result }
+    ensures uncounted { (e : Error) → All T.writing.tells items.now →
+        SomeRefuses T.writing.count_refuses items.now e → IsErr result }
+{
+    let mut total = 0;
+    let mut at = items.len();
+    while at > 0 {
+        at -= 1;
+        let count = items[at].prepend_der(alloc, buf)?;
+        total = add_written(count, total)?;
     }
     Ok(total)
 }

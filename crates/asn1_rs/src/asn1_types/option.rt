@@ -18,6 +18,7 @@ use crate::asn1_types::any::Any;
 use crate::laws::{LawfulBer, LawfulDer, LawfulTagged};
 use crate::to_der::ToDer;
 use crate::traits::{CheckDerConstraints, DynTagged, FromAny, FromBer, FromDer, Tagged};
+use asn1_headers::buffer::DerBuffer;
 use asn1_headers::error::{Error, ParseResult, SerializeResult};
 use asn1_headers::header::Header;
 use asn1_headers::header::reading::{header_by_ber, header_by_der};
@@ -230,6 +231,20 @@ impl<T: ToDer> ToDer for Option<T> {
     fn write_der<W: DerWrite>(&self, alloc: Global, w: &mut W) -> SerializeResult<usize> {
         match self {
             Some(x) => x.write_der(alloc, w),
+            None => Ok(0),
+        }
+    }
+
+    fn prepend_der_content(&self, alloc: Global, buf: &mut DerBuffer) -> SerializeResult<usize> {
+        match self {
+            Some(x) => x.prepend_der_content(alloc, buf),
+            None => Ok(0),
+        }
+    }
+
+    fn prepend_der(&self, alloc: Global, buf: &mut DerBuffer) -> SerializeResult<usize> {
+        match self {
+            Some(x) => x.prepend_der(alloc, buf),
             None => Ok(0),
         }
     }

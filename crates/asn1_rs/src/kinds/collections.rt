@@ -7,7 +7,8 @@
 //! Readers, and the laws of these and of the check, stand with each type: `FromDer`, `LawfulDer` and `LawfulCheck` have
 //! an impl over all types that are read as one element, beside which one over all lists can't stand.
 ghost use Rattle.std.specs.Prelude.{◌≡◌, ◌≢◌, Bool, List, true, false, length, map, [], ◌∷◌, MatchOption, IfOk, IfErr};
-ghost use Rattle.std.specs.Prelude.{IsErr};
+ghost use Rattle.std.specs.Prelude.{◌+◌, IsErr};
+ghost use Rattle.asn1_headers.specs.Prepended.{Prepended};
 ghost use Rattle.std.specs.List.{All, flat_map};
 ghost use Rattle.std.proofs.Common.{◌∙◌, sym};
 ghost use Rattle.x690.specs.Collections.{AllDiffer};
@@ -16,7 +17,8 @@ ghost use Rattle.asn1_headers.specs.declared.error.Error.{Error};
 ghost use Rattle.asn1_headers.specs.Error.{tells_of_io};
 ghost use Rattle.asn1_rs.specs.Lists.{SomeRefuses, ArePacked, list_grammar};
 ghost use Rattle.asn1_rs.specs.Set.{set_of, member_grammar, pairs_pass, set_content};
-ghost use Rattle.asn1_rs.specs.ToDer.{Refuses, IntoVector, RefusesAtOnce, whole_allocates, whole_octets, whole_refuses};
+ghost use Rattle.asn1_rs.specs.ToDer.{Refuses, IntoVector, RefusesAtOnce, VectorRefuses, whole_allocates};
+ghost use Rattle.asn1_rs.specs.ToDer.{whole_octets, whole_refuses};
 ghost use Rattle.asn1_headers.specs.Writer.{Wrote};
 ghost use Rattle.asn1_rs.specs.Kinds.Writing.{list_writing, set_writing};
 ghost use Rattle.asn1_rs.specs.Laws.Lists.{list_lawful, list_takes_class, list_number, low_fits};
@@ -26,7 +28,7 @@ ghost use Rattle.asn1_rs.specs.Grammar.Item.{ber_words};
 ghost use Rattle.asn1_rs.specs.Laws.Words.{strict_ber};
 
 use crate::asn1_types::lists::{Listed, PackedEncodings};
-use crate::asn1_types::set::write_ascending;
+use crate::asn1_types::set::{prepend_ascending, write_ascending};
 use crate::header::{element_len, put_counted_header};
 use crate::kinds::writing::{LawfulTaggedBy, LawfulWriteBy, TakesClassBy, ToDerBy};
 use crate::kinds::{GrammarBy, HasKind, LawfulItemBy};
@@ -34,6 +36,7 @@ use crate::laws::in_hand::OfValue;
 use crate::laws::{Grammar, LawfulItem, LawfulWrite};
 use crate::to_der::ToDer;
 use crate::traits::Tagged;
+use asn1_headers::buffer::{DerBuffer, prepend_element};
 use asn1_headers::error::{Error, SerializeResult};
 use asn1_headers::tag::Tag;
 use asn1_headers::writer::DerWrite;
@@ -79,6 +82,24 @@ pub trait WritesInOrder: Listed {
             All Self.Item.writing.tells (Self.items self.now) →
             SomeRefuses (whole_refuses Self.Item.writing)
             (Self.items self.now) e → IsErr result }
+        ensures uncounted { (e : Error) → All Self.Item.writing.tells (Self.items self.now) →
+            SomeRefuses Self.Item.writing.count_refuses (Self.items self.now) e → IsErr result };
+
+    /// Puts the items before the octets of the buffer, the last one first, and answers their number.
+    fn prepend_each(&self, alloc: Global, buf: &mut DerBuffer) -> SerializeResult<usize>
+    where
+        Self::Item: ToDer,
+        ensures prepended { All Self.Item.writing.tells (Self.items self.now) →
+            Prepended (flat_map (whole_octets Self.Item.writing) (Self.items self.now))
+            buf.old buf.new result }
+        ensures refused { All Self.Item.writing.tells (Self.items self.now) →
+            IfErr result (VectorRefuses
+            (length (flat_map (whole_octets Self.Item.writing) (Self.items self.now))
+            + length buf.old)
+            (SomeRefuses (whole_refuses Self.Item.writing) (Self.items self.now))) }
+        ensures accepted { (e : SerializeError) →
+            All Self.Item.writing.tells (Self.items self.now) →
+            SomeRefuses (whole_refuses Self.Item.writing) (Self.items self.now) e → IsErr result }
         ensures uncounted { (e : Error) → All Self.Item.writing.tells (Self.items self.now) →
             SomeRefuses Self.Item.writing.count_refuses (Self.items self.now) e → IsErr result };
 }
@@ -156,6 +177,15 @@ where
     fn put_content<W: DerWrite>(&self, alloc: Global, w: &mut W) -> SerializeResult<usize> {
         self.write_each(alloc, w)
     }
+
+    fn prepend_content(&self, alloc: Global, buf: &mut DerBuffer) -> SerializeResult<usize> {
+        self.prepend_each(alloc, buf)
+    }
+
+    fn prepend_whole(&self, alloc: Global, buf: &mut DerBuffer) -> SerializeResult<usize> {
+        let content = self.prepend_each(alloc, buf);
+        prepend_element(0, true, L::TAG.0, content, buf)
+    }
 }
 
 /// Collects the encodings of the items, appends them in ascending order, and answers the number of octets.
@@ -186,6 +216,29 @@ where
 {
     let encodings = set.encode_each(alloc)?;
     write_ascending(&encodings, alloc, w)
+}
+
+/// Collects the encodings of the items, puts them in ascending order before the octets of the buffer, and answers their
+/// number.
+fn prepend_collected<L, T>(set: &L, alloc: Global, buf: &mut DerBuffer) -> SerializeResult<usize>
+where
+    L: WritesAscending + Listed<Item = T>,
+    T: ToDer,
+    ensures prepended { All T.writing.tells (L.items set.now) →
+        Prepended (set_content (whole_octets T.writing) (L.items set.now)) buf.old buf.new
+        result }
+    ensures refused { All T.writing.tells (L.items set.now) →
+        IfErr result (VectorRefuses
+        (length (set_content (whole_octets T.writing) (L.items set.now)) + length buf.old)
+        (SomeRefuses (λ x. IntoVector (whole_refuses T.writing x)) (L.items set.now))) }
+    ensures accepted { (e : SerializeError) → All T.writing.tells (L.items set.now) →
+        SomeRefuses (λ x. IntoVector (whole_refuses T.writing x))
+        (L.items set.now) e → IsErr result }
+    ensures uncounted { (e : Error) → All T.writing.tells (L.items set.now) →
+        SomeRefuses T.writing.count_refuses (L.items set.now) e → IsErr result }
+{
+    let encodings = set.encode_each(alloc)?;
+    prepend_ascending(&encodings, alloc, buf)
 }
 
 impl<L, T, M> ToDerBy<SetKind<M>> for L
@@ -223,6 +276,18 @@ where
             Some(item) => item.write_der(alloc, w),
             None => write_collected(self, alloc, w),
         }
+    }
+
+    fn prepend_content(&self, alloc: Global, buf: &mut DerBuffer) -> SerializeResult<usize> {
+        match self.only_item() {
+            Some(item) => item.prepend_der(alloc, buf),
+            None => prepend_collected(self, alloc, buf),
+        }
+    }
+
+    fn prepend_whole(&self, alloc: Global, buf: &mut DerBuffer) -> SerializeResult<usize> {
+        let content = ToDerBy::<SetKind<M>>::prepend_content(self, alloc, buf);
+        prepend_element(0, true, Tag::Set.0, content, buf)
     }
 }
 

@@ -13,6 +13,7 @@ use crate::kinds::writing::ToDerBy;
 use crate::kinds::{HasKind, TaggedBy};
 use crate::to_der::ToDer;
 use crate::traits::Tagged;
+use asn1_headers::buffer::{DerBuffer, prepend_element, prepend_octets};
 use asn1_headers::error::{Error, SerializeError, SerializeResult, refusal_of_count, without_io};
 use asn1_headers::header::writing::put_header;
 use asn1_headers::tag::Tag;
@@ -225,5 +226,15 @@ impl<T: WritesFields> ToDerBy<FieldsKind> for T {
     fn put_whole<W: DerWrite>(&self, alloc: Global, w: &mut W) -> SerializeResult<usize> {
         let content = collect_fields(self, alloc)?;
         put_collected(T::Number::TAG, &content, w)
+    }
+
+    fn prepend_content(&self, alloc: Global, buf: &mut DerBuffer) -> SerializeResult<usize> {
+        let content = collect_fields(self, alloc)?;
+        prepend_octets(&content, buf)
+    }
+
+    fn prepend_whole(&self, alloc: Global, buf: &mut DerBuffer) -> SerializeResult<usize> {
+        let content = ToDerBy::<FieldsKind>::prepend_content(self, alloc, buf);
+        prepend_element(0, true, T::Number::TAG.0, content, buf)
     }
 }

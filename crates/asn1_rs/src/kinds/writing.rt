@@ -1,13 +1,15 @@
 //! How types of items come by [`ToDer`] and the laws of it: by the contents octets of one element, or by the item
 //! that they hold or refer to.
-ghost use Rattle.std.specs.Prelude.{◌≡◌, ◌++◌, ◌<◌, ◌^◌, ℕ, Bool, false, List, length, IfOk, IfErr, IsErr};
+ghost use Rattle.std.specs.Prelude.{◌≡◌, ◌≤◌, take, ◌++◌, ◌+◌, ◌<◌, ◌^◌, ℕ, Bool, false, List, length, Err, IfOk, IfErr, IfSome, IsErr};
+ghost use Rattle.asn1_headers.specs.Error.{vector_refusal};
+ghost use Rattle.asn1_headers.specs.Prepended.{Prepended};
 ghost use Rattle.asn1_rs.specs.Grammar.{FormNumber, FormTakes};
 ghost use Rattle.asn1_headers.specs.Writer.{Wrote, MayRefuse};
 ghost use Rattle.asn1_rs.specs.ToDer.{Writing, MayRefuseCount, Refuses, RefusesCount, IsRefusedAtOnce, RefusedAtOnce};
-ghost use Rattle.asn1_rs.specs.ToDer.{held_writing, whole_allocates, whole_octets, whole_refuses};
+ghost use Rattle.asn1_rs.specs.ToDer.{VectorRefuses, held_writing, whole_allocates, whole_octets, whole_refuses};
 ghost use Rattle.asn1_headers.specs.declared.error.SerializeError.{SerializeError};
 ghost use Rattle.asn1_headers.specs.declared.error.Error.{Error};
-ghost use Rattle.asn1_rs.specs.Kinds.Writing.{universal_header, universal_writing, CountRefused, PutRefused};
+ghost use Rattle.asn1_rs.specs.Kinds.Writing.{universal_header, universal_writing, CountRefused, IsPieceOf, piece_octets, PutRefused, PrependRefused};
 ghost use Rattle.asn1_rs.specs.Kinds.Writing.{IsWrittenElement};
 ghost use Rattle.asn1_rs.specs.Laws.Forms.{universal_number, universal_number_fits, universal_lawful_writing};
 ghost use Rattle.asn1_rs.specs.Grammar.Item.{IsLawfulWriting};
@@ -16,11 +18,40 @@ ghost use Rattle.asn1_rs.specs.Laws.Writing.{held_lawful_writing};
 use crate::header::{element_len, put_counted_header};
 use crate::kinds::{ElementKind, HasKind, HolderKind, Holds, LawfulElement};
 use crate::laws::{LawfulItem, LawfulTagged, LawfulWrite, TakesClass};
-use crate::to_der::ToDer;
+use crate::to_der::{ToDer, stands};
 use crate::traits::{DynTagged, Tagged};
-use asn1_headers::error::{Error, SerializeResult};
-use asn1_headers::writer::{DerWrite, add_written, put_all};
+use asn1_headers::buffer::{DerBuffer, prepend_element, prepend_octets};
+use asn1_headers::error::{Error, SerializeResult, without_io};
+use asn1_headers::writer::{DerWrite, Told, add_written, put_all};
 use std::alloc::Global;
+
+/// The octets of a short element, at the front of an array.
+#[derive(Debug, Clone, Copy)]
+pub struct Piece {
+    octets: [u8; 16],
+    count: usize,
+}
+
+impl Piece {
+    /// The first octets of the array, so many.
+    #[inline(always)]
+    pub fn new(octets: [u8; 16], count: usize) -> Piece
+        requires { count ≤ 16 }
+        ensures count { result.count ≤ 16 }
+        ensures octets { piece_octets result ≡ take count octets }
+    {
+        Piece { octets, count }
+    }
+
+    /// Its octets.
+    #[inline(always)]
+    pub fn as_bytes(&self) -> &[u8]
+        requires { self.now.count ≤ 16 }
+        ensures { result.now ≡ piece_octets self.now }
+    {
+        &self.octets[..self.count]
+    }
+}
 
 /// A value that is written as one element of the universal class: the tag number of its type, and contents octets. The
 /// element is constructed exactly for the tags of sequence and set. Out of memory is never answered.
@@ -51,9 +82,16 @@ pub trait WritesElement: LawfulElement + Tagged {
         ensures refused { PutRefused (is_refused self.now) (refusal self.now)
             (length (octets self.now)) (W.state w.old) (W.state w.new) result };
 
+    /// The whole element in one piece, of a type whose contents octets are few. A value that is refused has none.
+    #[inline(always)]
+    fn piece(&self) -> Option<Piece>
+        ensures { IfSome result (IsPieceOf (is_refused self.now)
+            (universal_header (Self.TAG).0 (octets self.now) ++ octets self.now)) }
+    {
+        None
+    }
+
     /// Appends the whole element, and answers its length.
-    ///
-    /// A type whose contents octets are few can make one piece of header and contents octets.
     #[inline(always)]
     fn put_element<W: DerWrite>(&self, w: &mut W) -> SerializeResult<usize>
         ensures wrote { Wrote (universal_header (Self.TAG).0 (octets self.now) ++ octets self.now)
@@ -62,10 +100,28 @@ pub trait WritesElement: LawfulElement + Tagged {
             (length (universal_header (Self.TAG).0 (octets self.now) ++ octets self.now))
             (W.state w.old) (W.state w.new) result }
     {
+        if let Some(piece) = self.piece() {
+            return put_all(w, piece.as_bytes());
+        }
         let tag = Self::TAG;
         let before = put_counted_header(0, tag.is_container(), tag.0, self.count_octets(), w)?;
         let after = self.put_octets(w)?;
         add_written(before, after)
+    }
+
+    /// Puts the contents octets before those of the buffer, and answers their number.
+    ///
+    /// A type that holds few octets, or all of them, puts them straight.
+    fn prepend_contents(&self, alloc: Global, buf: &mut DerBuffer) -> SerializeResult<usize>
+        ensures prepended { Prepended (octets self.now) buf.old buf.new result }
+        ensures refused { PrependRefused (is_refused self.now) (refusal self.now)
+            (length (octets self.now) + length buf.old) buf.old buf.new result }
+    {
+        let mut w = Told::new(Vec::new(alloc));
+        match self.put_octets(&mut w) {
+            Ok(_) => prepend_octets(&w.into_inner(), buf),
+            Err(e) => Err(without_io(e)),
+        }
     }
 
     /// They follow from the value, and are its strict content where it has one, which is not refused; another class
@@ -97,6 +153,10 @@ impl<T: WritesOctets> WritesElement for T {
 
     fn put_octets<W: DerWrite>(&self, w: &mut W) -> SerializeResult<usize> {
         put_all(w, self.contents_octets())
+    }
+
+    fn prepend_contents(&self, _alloc: Global, buf: &mut DerBuffer) -> SerializeResult<usize> {
+        prepend_octets(self.contents_octets(), buf)
     }
 
     ghost written = { T.held_are };
@@ -164,7 +224,36 @@ pub trait ToDerBy<K>: DynTagged {
         ensures first { (e : SerializeError) → writing.refuses_first self.now e →
             RefusedAtOnce e (W.state w.old) (W.state w.new) result };
 
-    /// `write_der`: header and contents octets, where the kind has no better way.
+    /// `prepend_der_content`.
+    fn prepend_content(&self, alloc: Global, buf: &mut DerBuffer) -> SerializeResult<usize>
+        ensures prepended { writing.tells self.now →
+            Prepended (writing.content self.now) buf.old buf.new result }
+        ensures refused { writing.tells self.now →
+            IfErr result (VectorRefuses (length (writing.content self.now) + length buf.old)
+            (writing.content_refuses self.now)) }
+        ensures accepted { (e : SerializeError) → writing.tells self.now →
+            writing.content_refuses self.now e → IsErr result }
+        ensures uncounted { (e : Error) → writing.tells self.now →
+            writing.count_refuses self.now e → IsErr result }
+        ensures first { (e : SerializeError) → writing.refuses_first self.now e →
+            (result ≡ Err (vector_refusal e)) × (buf.new ≡ buf.old) };
+
+    /// `prepend_der`.
+    fn prepend_whole(&self, alloc: Global, buf: &mut DerBuffer) -> SerializeResult<usize>
+        ensures prepended { writing.tells self.now →
+            Prepended (whole_octets writing self.now) buf.old buf.new result }
+        ensures refused { writing.tells self.now →
+            IfErr result (VectorRefuses (length (whole_octets writing self.now) + length buf.old)
+            (whole_refuses writing self.now)) }
+        ensures accepted { (e : SerializeError) → writing.tells self.now →
+            whole_refuses writing self.now e → IsErr result }
+        ensures uncounted { (e : Error) → writing.tells self.now →
+            writing.count_refuses self.now e → IsErr result }
+        ensures first { (e : SerializeError) → writing.refuses_first self.now e →
+            (result ≡ Err (vector_refusal e)) × (buf.new ≡ buf.old) };
+
+    /// `write_der`: from the back, where the kind has no better way; header and contents octets where memory is
+    /// refused.
     #[inline(always)]
     fn put_whole<W: DerWrite>(&self, alloc: Global, w: &mut W) -> SerializeResult<usize>
         ensures wrote { writing.tells self.now →
@@ -188,6 +277,10 @@ pub trait ToDerBy<K>: DynTagged {
         ensures first { (e : SerializeError) → writing.refuses_first self.now e →
             RefusedAtOnce e (W.state w.old) (W.state w.new) result }
     {
+        let mut buf = DerBuffer::new(alloc);
+        if stands(self.prepend_whole(alloc, &mut buf))? {
+            return put_all(w, buf.as_bytes());
+        }
         let before = self.put_header(alloc, w)?;
         let after = self.put_content(alloc, w)?;
         add_written(before, after)
@@ -224,6 +317,19 @@ impl<T: WritesElement> ToDerBy<ElementKind> for T {
     fn put_whole<W: DerWrite>(&self, _alloc: Global, w: &mut W) -> SerializeResult<usize> {
         self.put_element(w)
     }
+
+    fn prepend_content(&self, alloc: Global, buf: &mut DerBuffer) -> SerializeResult<usize> {
+        self.prepend_contents(alloc, buf)
+    }
+
+    fn prepend_whole(&self, alloc: Global, buf: &mut DerBuffer) -> SerializeResult<usize> {
+        if let Some(piece) = self.piece() {
+            return prepend_octets(piece.as_bytes(), buf);
+        }
+        let tag = T::TAG;
+        let content = self.prepend_contents(alloc, buf);
+        prepend_element(0, tag.is_container(), tag.0, content, buf)
+    }
 }
 
 /// What holds an item is written as that. Its raw form is the DER form.
@@ -256,6 +362,14 @@ impl<H: Holds<Held = T>, T: ToDer + Tagged> ToDerBy<HolderKind> for H {
     fn put_whole<W: DerWrite>(&self, alloc: Global, w: &mut W) -> SerializeResult<usize> {
         T::write_der(self.held(), alloc, w)
     }
+
+    fn prepend_content(&self, alloc: Global, buf: &mut DerBuffer) -> SerializeResult<usize> {
+        T::prepend_der_content(self.held(), alloc, buf)
+    }
+
+    fn prepend_whole(&self, alloc: Global, buf: &mut DerBuffer) -> SerializeResult<usize> {
+        T::prepend_der(self.held(), alloc, buf)
+    }
 }
 
 impl<T: HasKind + ToDerBy<T::Kind>> ToDer for T {
@@ -286,6 +400,14 @@ impl<T: HasKind + ToDerBy<T::Kind>> ToDer for T {
     #[inline(always)]
     fn write_der<W: DerWrite>(&self, alloc: Global, w: &mut W) -> SerializeResult<usize> {
         self.put_whole(alloc, w)
+    }
+
+    fn prepend_der_content(&self, alloc: Global, buf: &mut DerBuffer) -> SerializeResult<usize> {
+        self.prepend_content(alloc, buf)
+    }
+
+    fn prepend_der(&self, alloc: Global, buf: &mut DerBuffer) -> SerializeResult<usize> {
+        self.prepend_whole(alloc, buf)
     }
 }
 

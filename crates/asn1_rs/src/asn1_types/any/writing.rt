@@ -15,6 +15,7 @@ use crate::asn1_types::any::Any;
 use crate::header::{element_len, put_behind};
 use crate::laws::{LawfulMember, LawfulWrite};
 use crate::to_der::ToDer;
+use asn1_headers::buffer::{DerBuffer, prepend_element, prepend_octets};
 use asn1_headers::error::{Error, SerializeResult, without_io};
 use asn1_headers::header::writing::{put_header, put_strict_header};
 use asn1_headers::writer::{DerWrite, Told, put_all};
@@ -80,6 +81,17 @@ impl ToDer for Any<'_> {
         let len = self.content.len();
         let header = put_header(class, self.header.constructed(), number, len, w);
         put_behind(header, self.content, w)
+    }
+
+    fn prepend_der_content(&self, _alloc: Global, buf: &mut DerBuffer) -> SerializeResult<usize> {
+        prepend_octets(self.content, buf)
+    }
+
+    fn prepend_der(&self, _alloc: Global, buf: &mut DerBuffer) -> SerializeResult<usize> {
+        let class = self.header.class().number();
+        let number = self.header.tag().0;
+        let content = prepend_octets(self.content, buf);
+        prepend_element(class, self.header.constructed(), number, content, buf)
     }
 
     /// Appends the strict identifier octets, the length of the header (80 where it is indefinite), and the contents

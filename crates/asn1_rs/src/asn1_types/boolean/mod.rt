@@ -110,13 +110,21 @@ fn check_truth(any: &Any<'_>) -> Result<(), Error>
     }
 }
 
+/// The octet of a truth value, by DER: ff or 00 (X.690 11.1).
+#[inline(always)]
+fn octet_of(truth: bool) -> u8
+    ensures { result ≡ truth_octet truth }
+{
+    if truth { 0xff } else { 0 }
+}
+
 /// Appends 00 or ff.
 #[inline(always)]
 fn put_truth<W: DerWrite>(truth: bool, w: &mut W) -> SerializeResult<usize>
     ensures wrote { Wrote (truth_octet truth ∷ []) (W.state w.old) (W.state w.new) result }
     ensures refused { IfErr result (MayRefuse false 1) }
 {
-    put_all(w, &[if truth { 0xff } else { 0 }])
+    put_all(w, &[octet_of(truth)])
 }
 
 impl Tagged for bool {

@@ -11,9 +11,10 @@ ghost use Rattle.asn1_rs.specs.Laws.Leaf.{leaf_written};
 ghost use Rattle.asn1_rs.specs.ToDer.{Refuses, VectorRefuses, Either};
 ghost use Rattle.asn1_headers.specs.Writer.{Wrote, MayRefuse};
 
-use crate::asn1_types::boolean::{Boolean, put_truth};
+use crate::asn1_types::boolean::{Boolean, octet_of, put_truth};
 use crate::laws::{LawfulTagged, LawfulWrite, TakesClass};
 use crate::to_der::ToDer;
+use asn1_headers::buffer::{DerBuffer, prepend_octets};
 use asn1_headers::error::{Error, SerializeResult, without_io};
 use asn1_headers::writer::{DerWrite, Told, put_all};
 use std::alloc::Global;
@@ -46,6 +47,19 @@ impl ToDer for Boolean {
 
     fn write_der_content<W: DerWrite>(&self, _alloc: Global, w: &mut W) -> SerializeResult<usize> {
         put_truth(self.bool(), w)
+    }
+
+    #[inline(always)]
+    fn write_der<W: DerWrite>(&self, _alloc: Global, w: &mut W) -> SerializeResult<usize> {
+        put_all(w, &[0x01, 0x01, octet_of(self.bool())])
+    }
+
+    fn prepend_der_content(&self, _alloc: Global, buf: &mut DerBuffer) -> SerializeResult<usize> {
+        prepend_octets(&[octet_of(self.bool())], buf)
+    }
+
+    fn prepend_der(&self, _alloc: Global, buf: &mut DerBuffer) -> SerializeResult<usize> {
+        prepend_octets(&[0x01, 0x01, octet_of(self.bool())], buf)
     }
 
     /// Appends 01, 01 and the octet that it holds.

@@ -9,7 +9,7 @@ ghost use Rattle.asn1_rs.specs.Laws.Integer.Signed.{signed_converts, signed_equa
 use crate::asn1_types::any::Any;
 use crate::asn1_types::integer::{check_integer, put_signed_content};
 use crate::kinds::in_hand::DerElement;
-use crate::kinds::writing::WritesElement;
+use crate::kinds::writing::{Piece, WritesElement};
 use crate::kinds::{ElementKind, HasKind, LawfulConversion, LawfulElement};
 use crate::laws::LawfulMember;
 use crate::traits::{CheckDerConstraints, DerAutoDerive, FromAny, Tagged};
@@ -82,9 +82,9 @@ impl WritesElement for i8 {
     }
 
     #[inline(always)]
-    fn put_element<W: DerWrite>(&self, w: &mut W) -> SerializeResult<usize> {
+    fn piece(&self) -> Option<Piece> {
         let (octets, count) = integer_element(Tag::Integer.0, i64::from(*self));
-        put_all(w, &octets[..count])
+        Some(Piece::new(octets, count))
     }
 
     ghost written = { integer_written (λ n. n) signed_octets signed_octets_content
@@ -158,9 +158,9 @@ impl WritesElement for i16 {
     }
 
     #[inline(always)]
-    fn put_element<W: DerWrite>(&self, w: &mut W) -> SerializeResult<usize> {
+    fn piece(&self) -> Option<Piece> {
         let (octets, count) = integer_element(Tag::Integer.0, i64::from(*self));
-        put_all(w, &octets[..count])
+        Some(Piece::new(octets, count))
     }
 
     ghost written = { integer_written (λ n. n) signed_octets signed_octets_content
@@ -234,9 +234,9 @@ impl WritesElement for i32 {
     }
 
     #[inline(always)]
-    fn put_element<W: DerWrite>(&self, w: &mut W) -> SerializeResult<usize> {
+    fn piece(&self) -> Option<Piece> {
         let (octets, count) = integer_element(Tag::Integer.0, i64::from(*self));
-        put_all(w, &octets[..count])
+        Some(Piece::new(octets, count))
     }
 
     ghost written = { integer_written (λ n. n) signed_octets signed_octets_content
@@ -310,9 +310,9 @@ impl WritesElement for i64 {
     }
 
     #[inline(always)]
-    fn put_element<W: DerWrite>(&self, w: &mut W) -> SerializeResult<usize> {
+    fn piece(&self) -> Option<Piece> {
         let (octets, count) = integer_element(Tag::Integer.0, *self);
-        put_all(w, &octets[..count])
+        Some(Piece::new(octets, count))
     }
 
     ghost written = { integer_written (λ n. n) signed_octets signed_octets_content

@@ -10,13 +10,13 @@ ghost use Rattle.asn1_rs.specs.Laws.Integer.Unsigned.{unsigned_converts, unsigne
 use crate::asn1_types::any::Any;
 use crate::asn1_types::integer::{check_integer, put_unsigned_content, unsigned_element};
 use crate::kinds::in_hand::DerElement;
-use crate::kinds::writing::WritesElement;
+use crate::kinds::writing::{Piece, WritesElement};
 use crate::kinds::{ElementKind, HasKind, LawfulConversion, LawfulElement};
 use crate::laws::LawfulMember;
 use crate::traits::{CheckDerConstraints, DerAutoDerive, FromAny, Tagged};
 use asn1_headers::error::{Error, SerializeResult};
 use asn1_headers::tag::Tag;
-use asn1_headers::writer::{DerWrite, put_all};
+use asn1_headers::writer::DerWrite;
 use std::alloc::Global;
 use x690::integers::unsigned_octets_count;
 
@@ -83,9 +83,9 @@ impl WritesElement for u8 {
     }
 
     #[inline(always)]
-    fn put_element<W: DerWrite>(&self, w: &mut W) -> SerializeResult<usize> {
+    fn piece(&self) -> Option<Piece> {
         let (octets, count) = unsigned_element(u32::from(*self));
-        put_all(w, &octets[..count])
+        Some(Piece::new(octets, count))
     }
 
     ghost written = { integer_written pos unsigned_octets unsigned_octets_content
@@ -159,9 +159,9 @@ impl WritesElement for u16 {
     }
 
     #[inline(always)]
-    fn put_element<W: DerWrite>(&self, w: &mut W) -> SerializeResult<usize> {
+    fn piece(&self) -> Option<Piece> {
         let (octets, count) = unsigned_element(u32::from(*self));
-        put_all(w, &octets[..count])
+        Some(Piece::new(octets, count))
     }
 
     ghost written = { integer_written pos unsigned_octets unsigned_octets_content
@@ -235,9 +235,9 @@ impl WritesElement for u32 {
     }
 
     #[inline(always)]
-    fn put_element<W: DerWrite>(&self, w: &mut W) -> SerializeResult<usize> {
+    fn piece(&self) -> Option<Piece> {
         let (octets, count) = unsigned_element(*self);
-        put_all(w, &octets[..count])
+        Some(Piece::new(octets, count))
     }
 
     ghost written = { integer_written pos unsigned_octets unsigned_octets_content

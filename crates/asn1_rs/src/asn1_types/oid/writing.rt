@@ -7,6 +7,7 @@ use crate::asn1_types::oid::Oid;
 use crate::header::{element_len, put_behind};
 use crate::laws::{LawfulTagged, LawfulWrite, TakesClass};
 use crate::to_der::ToDer;
+use asn1_headers::buffer::{DerBuffer, prepend_element, prepend_octets};
 use asn1_headers::error::{Error, SerializeResult};
 use asn1_headers::header::writing::put_header;
 use asn1_headers::tag::Tag;
@@ -61,6 +62,15 @@ impl ToDer for Oid<'_> {
         let octets = self.as_bytes();
         let header = put_header(0, false, self.written_tag(), octets.len(), w);
         put_behind(header, octets, w)
+    }
+
+    fn prepend_der_content(&self, _alloc: Global, buf: &mut DerBuffer) -> SerializeResult<usize> {
+        prepend_octets(self.as_bytes(), buf)
+    }
+
+    fn prepend_der(&self, _alloc: Global, buf: &mut DerBuffer) -> SerializeResult<usize> {
+        let content = prepend_octets(self.as_bytes(), buf);
+        prepend_element(0, false, self.written_tag(), content, buf)
     }
 }
 

@@ -21,6 +21,7 @@ use crate::laws::in_hand::States;
 use crate::laws::{LawfulBer, LawfulBody, LawfulCheck, LawfulDer};
 use crate::to_der::ToDer;
 use crate::traits::{FromDer, Tagged};
+use asn1_headers::buffer::DerBuffer;
 use asn1_headers::error::{Error, ParseResult, SerializeResult};
 use asn1_headers::tag::Tag;
 use asn1_headers::writer::DerWrite;
@@ -158,6 +159,13 @@ impl<T> WritesInOrder for SequenceOf<T> {
         T: ToDer,
     {
         self.items.write_each(alloc, w)
+    }
+
+    fn prepend_each(&self, alloc: Global, buf: &mut DerBuffer) -> SerializeResult<usize>
+    where
+        T: ToDer,
+    {
+        self.items.prepend_each(alloc, buf)
     }
 }
 

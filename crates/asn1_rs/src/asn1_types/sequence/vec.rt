@@ -11,7 +11,7 @@ ghost use Rattle.asn1_rs.specs.Laws.Words.{ber_one};
 ghost use Rattle.asn1_rs.specs.Grammar.Item.{ber_words};
 
 use crate::asn1_types::lists::{
-    FromItems, Listed, count_items, list_by_der, state_items, write_items,
+    FromItems, Listed, count_items, list_by_der, prepend_items, state_items, write_items,
 };
 use crate::kinds::HasKind;
 use crate::kinds::collections::{SequenceKind, WritesInOrder};
@@ -19,6 +19,7 @@ use crate::laws::in_hand::States;
 use crate::laws::{LawfulBer, LawfulBody, LawfulCheck, LawfulDer, LawfulMember};
 use crate::to_der::ToDer;
 use crate::traits::{FromDer, Tagged};
+use asn1_headers::buffer::DerBuffer;
 use asn1_headers::error::{Error, ParseResult, SerializeResult};
 use asn1_headers::tag::Tag;
 use asn1_headers::writer::DerWrite;
@@ -82,6 +83,13 @@ impl<T> WritesInOrder for Vec<T> {
         T: ToDer,
     {
         write_items(self.iter(), alloc, w)
+    }
+
+    fn prepend_each(&self, alloc: Global, buf: &mut DerBuffer) -> SerializeResult<usize>
+    where
+        T: ToDer,
+    {
+        prepend_items(self.as_slice(), alloc, buf)
     }
 }
 

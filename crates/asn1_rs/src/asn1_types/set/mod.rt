@@ -4,13 +4,15 @@ mod btree_set;
 mod hash_set;
 pub mod set_of;
 
-ghost use Rattle.std.specs.Prelude.{◌≡◌, ℕ, List, true, length, map, IfOk, IfErr, IsTrue};
+ghost use Rattle.std.specs.Prelude.{◌≡◌, ◌+◌, ℕ, List, true, length, map, IfOk, IfErr, IsTrue};
 ghost use Rattle.std.specs.List.{concat};
 ghost use Rattle.x690.specs.Ascending.{Ascending, arranged};
 ghost use Rattle.asn1_rs.specs.Lists.{ArePacked};
+ghost use Rattle.asn1_headers.specs.Prepended.{Prepended};
 ghost use Rattle.asn1_headers.specs.Writer.{Wrote, MayRefuse};
 
 use crate::asn1_types::lists::PackedEncodings;
+use asn1_headers::buffer::{DerBuffer, prepend_octets};
 use asn1_headers::error::{SerializeError, SerializeResult};
 use asn1_headers::writer::{DerWrite, put_all};
 use std::alloc::{AllocError, Global};
@@ -79,6 +81,26 @@ pub(crate) fn write_ascending<W: DerWrite>(
     }
     match join_ascending(encodings, alloc) {
         Ok(content) => put_all(w, &content),
+        Err(_) => Err(SerializeError::OutOfMemory),
+    }
+}
+
+/// Puts the encodings in ascending order before the octets of the buffer, and answers their number.
+pub(crate) fn prepend_ascending(
+    encodings: &PackedEncodings,
+    alloc: Global,
+    buf: &mut DerBuffer,
+) -> SerializeResult<usize>
+    ensures prepended { (strings : List (List ℕ)) → ArePacked strings encodings.now →
+        Prepended (concat (arranged strings)) buf.old buf.new result }
+    ensures refused { (strings : List (List ℕ)) → ArePacked strings encodings.now →
+        IfErr result (MayRefuse true (length (concat (arranged strings)) + length buf.old)) }
+{
+    if are_ascending(encodings) {
+        return prepend_octets(&encodings.octets, buf);
+    }
+    match join_ascending(encodings, alloc) {
+        Ok(content) => prepend_octets(&content, buf),
         Err(_) => Err(SerializeError::OutOfMemory),
     }
 }

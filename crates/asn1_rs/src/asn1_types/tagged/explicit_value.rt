@@ -33,6 +33,7 @@ use crate::laws::{
 };
 use crate::to_der::ToDer;
 use crate::traits::{CheckDerConstraints, FromAny, FromBer, FromDer, converted};
+use asn1_headers::buffer::{DerBuffer, prepend_element};
 use asn1_headers::error::{Err, Error, ParseResult, SerializeError, SerializeResult};
 use asn1_headers::tag::Tag;
 use asn1_headers::writer::DerWrite;
@@ -68,6 +69,21 @@ impl<T: ToDer, E, const CLASS: u8, const TAG: u32> ToDer
             return Err(SerializeError::InvalidClass { class: CLASS });
         }
         self.inner.write_der(alloc, w)
+    }
+
+    fn prepend_der_content(&self, alloc: Global, buf: &mut DerBuffer) -> SerializeResult<usize> {
+        if CLASS > 3 {
+            return Err(SerializeError::InvalidClass { class: CLASS });
+        }
+        self.inner.prepend_der(alloc, buf)
+    }
+
+    fn prepend_der(&self, alloc: Global, buf: &mut DerBuffer) -> SerializeResult<usize> {
+        if CLASS > 3 {
+            return Err(SerializeError::InvalidClass { class: CLASS });
+        }
+        let content = self.inner.prepend_der(alloc, buf);
+        prepend_element(CLASS, true, TAG, content, buf)
     }
 }
 

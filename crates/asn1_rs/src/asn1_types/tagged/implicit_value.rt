@@ -29,6 +29,7 @@ use crate::laws::{
 };
 use crate::to_der::ToDer;
 use crate::traits::{CheckDerConstraints, FromAny, FromDer, Tagged, converted};
+use asn1_headers::buffer::{DerBuffer, prepend_element};
 use asn1_headers::error::{Err, Error, ParseResult, SerializeError, SerializeResult};
 use asn1_headers::header::Header;
 use asn1_headers::tag::Tag;
@@ -66,6 +67,22 @@ impl<T: ToDer, E, const CLASS: u8, const TAG: u32> ToDer
             return Err(SerializeError::InvalidClass { class: CLASS });
         }
         self.inner.write_der_content(alloc, w)
+    }
+
+    fn prepend_der_content(&self, alloc: Global, buf: &mut DerBuffer) -> SerializeResult<usize> {
+        if CLASS > 3 {
+            return Err(SerializeError::InvalidClass { class: CLASS });
+        }
+        self.inner.prepend_der_content(alloc, buf)
+    }
+
+    fn prepend_der(&self, alloc: Global, buf: &mut DerBuffer) -> SerializeResult<usize> {
+        if CLASS > 3 {
+            return Err(SerializeError::InvalidClass { class: CLASS });
+        }
+        let constructed = self.inner.der_constructed();
+        let content = self.inner.prepend_der_content(alloc, buf);
+        prepend_element(CLASS, constructed, TAG, content, buf)
     }
 }
 

@@ -1,8 +1,9 @@
 //! Values with the header of their tag, as they are written (X.690 8.14).
-ghost use Rattle.std.specs.Prelude.{◌≡◌, length, true, IfOk, IfErr, IsErr};
+ghost use Rattle.asn1_headers.specs.Prepended.{Prepended};
+ghost use Rattle.std.specs.Prelude.{◌≡◌, ◌+◌, length, true, IfOk, IfErr, IsErr};
 ghost use Rattle.asn1_headers.specs.declared.error.Error.{Error};
 ghost use Rattle.asn1_headers.specs.declared.error.SerializeError.{SerializeError};
-ghost use Rattle.asn1_rs.specs.ToDer.{Refuses, RefusesCount};
+ghost use Rattle.asn1_rs.specs.ToDer.{Refuses, RefusesCount, VectorRefuses};
 ghost use Rattle.asn1_headers.specs.Writer.{Wrote};
 ghost use Rattle.asn1_rs.specs.Tagged.Writing.{UnderTag, explicit_under, headed_writing, implicit_under};
 ghost use Rattle.asn1_headers.specs.Header.{identifier_of};
@@ -10,9 +11,10 @@ ghost use Rattle.asn1_headers.specs.Header.{identifier_of};
 use crate::asn1_types::tagged::parser::TaggedParser;
 use crate::asn1_types::tagged::{Explicit, Implicit};
 use crate::header::{element_len, put_counted_header};
-use crate::to_der::ToDer;
+use crate::to_der::{ToDer, stands};
+use asn1_headers::buffer::{DerBuffer, prepend_element};
 use asn1_headers::error::{Error, SerializeResult, without_io};
-use asn1_headers::writer::{DerWrite, Told, add_written};
+use asn1_headers::writer::{DerWrite, Told, add_written, put_all};
 use std::alloc::Global;
 
 /// What an element under a tag of this kind has of the value: its contents octets, and its constructed bit.
@@ -50,6 +52,18 @@ pub trait PutsUnder<T: ToDer> {
         ensures uncounted { (e : Error) → T.writing.tells value.now →
             T.writing.count_refuses value.now e →
             IsErr result };
+
+    /// Puts the contents octets before those of the buffer, and answers their number.
+    fn prepend_under(value: &T, alloc: Global, buf: &mut DerBuffer) -> SerializeResult<usize>
+        ensures prepended { T.writing.tells value.now →
+            Prepended (under.octets value.now) buf.old buf.new result }
+        ensures refused { T.writing.tells value.now →
+            IfErr result (VectorRefuses (length (under.octets value.now) + length buf.old)
+            (under.refuses value.now)) }
+        ensures accepted { (e : SerializeError) → T.writing.tells value.now →
+            under.refuses value.now e → IsErr result }
+        ensures uncounted { (e : Error) → T.writing.tells value.now →
+            T.writing.count_refuses value.now e → IsErr result };
 }
 
 /// A constructed element, whose contents octets are the encoding of the value.
@@ -67,6 +81,10 @@ impl<T: ToDer> PutsUnder<T> for Explicit {
     fn put_octets<W: DerWrite>(value: &T, alloc: Global, w: &mut W) -> SerializeResult<usize> {
         value.write_der(alloc, w)
     }
+
+    fn prepend_under(value: &T, alloc: Global, buf: &mut DerBuffer) -> SerializeResult<usize> {
+        value.prepend_der(alloc, buf)
+    }
 }
 
 /// An element with the constructed bit and the contents octets of the value's.
@@ -83,6 +101,10 @@ impl<T: ToDer> PutsUnder<T> for Implicit {
 
     fn put_octets<W: DerWrite>(value: &T, alloc: Global, w: &mut W) -> SerializeResult<usize> {
         value.write_der_content(alloc, w)
+    }
+
+    fn prepend_under(value: &T, alloc: Global, buf: &mut DerBuffer) -> SerializeResult<usize> {
+        value.prepend_der_content(alloc, buf)
     }
 }
 
@@ -118,8 +140,23 @@ impl<Kind: PutsUnder<T>, T: ToDer> ToDer for TaggedParser<'_, Kind, T, Error> {
         Kind::put_octets(&self.inner, alloc, w)
     }
 
+    fn prepend_der_content(&self, alloc: Global, buf: &mut DerBuffer) -> SerializeResult<usize> {
+        Kind::prepend_under(&self.inner, alloc, buf)
+    }
+
+    fn prepend_der(&self, alloc: Global, buf: &mut DerBuffer) -> SerializeResult<usize> {
+        let class = self.header.class().number();
+        let constructed = Kind::constructed_bit(&self.inner);
+        let content = Kind::prepend_under(&self.inner, alloc, buf);
+        prepend_element(class, constructed, self.header.tag().0, content, buf)
+    }
+
     #[inline(always)]
     fn write_der<W: DerWrite>(&self, alloc: Global, w: &mut W) -> SerializeResult<usize> {
+        let mut buf = DerBuffer::new(alloc);
+        if stands(self.prepend_der(alloc, &mut buf))? {
+            return put_all(w, buf.as_bytes());
+        }
         let before = self.write_der_header(alloc, w)?;
         let after = self.write_der_content(alloc, w)?;
         add_written(before, after)

@@ -4,7 +4,30 @@ use Rattle.std.proofs.lemmas.Result.{err_from_is_err_and}
 use Rattle.asn1_rs.specs.ToDer.{Either, WrittenRefusal}
 use Rattle.asn1_headers.specs.Laws.Writing.{Wrote_then_err, Wrote_sum, MayRefuse_sum}
 use Rattle.asn1_rs.proofs.Writing.{refuses_first, refuses_second, refuses_wider, header_at_once, only_may, not_refused}
+use Rattle.std.proofs.Common.{subst, ap, length, refl, IfErr, ◌≡◌, false}
+use Rattle.asn1_headers.specs.Error.{tells_of_io}
+use Rattle.asn1_rs.proofs.Prepending.{stands_at_once}
+use Rattle.asn1_rs.proofs.Writing.{Wrote_nothing}
 use Rattle.asn1_rs.proofs.asn1_types.tagged.parser_writing.TaggedParserErrorToDer.write_der.Goals as goal
+
+pub returns-in_err-stands-clause-wrote : goal.returns-in_err-stands-clause-wrote
+returns-in_err-stands-clause-wrote g c = λ t.
+    let p = err_from_is_err_and c.from_residual.result c.from_residual.ensures.1 in
+    let memory = subst (λ r. IfErr r (λ e. tells_of_io e ≡ false)) c.in_err-stands.ensures.refused.0
+    (c.prepend_der.ensures.prepended t).memory in
+    rw (p.1, p.2) (Wrote_nothing _ _ memory)
+
+pub returns-in_err-stands-clause-at_once : goal.returns-in_err-stands-clause-at_once
+returns-in_err-stands-clause-at_once g c = λ e t o.
+    let p = err_from_is_err_and c.from_residual.result c.from_residual.ensures.1 in
+    let none = ap length c.new-buf.ensures in
+    rw (p.1, p.2) (
+      c.in_err-stands.field-0.0,
+      stands_at_once c.prepend_der.result c.in_err-stands.field-0.0 _ _ _ _
+          c.in_err-stands.ensures.refused.0 (omega (arith, none)) c.in_err-stands.ensures.refused.1
+          (c.prepend_der.ensures.refused t) (c.prepend_der.ensures.prepended t).memory,
+      record { refused = refl; kept = refl },
+    )
 
 pub returns-in_err-after-clause-wrote : goal.returns-in_err-after-clause-wrote
 returns-in_err-after-clause-wrote g c = λ t.
@@ -17,7 +40,7 @@ returns-clause-wrote g c =
 
 pub returns-in_err-before-clause-refused : goal.returns-in_err-before-clause-refused
 returns-in_err-before-clause-refused g c = λ t.
-    let p = err_from_is_err_and c.from_residual.result c.from_residual.ensures.1 in
+    let p = err_from_is_err_and c.from_residual-in_err-before.result c.from_residual-in_err-before.ensures.1 in
     let heading = WrittenRefusal (g.T.ToDer.writing.count_refuses c.args.self.now.inner) in
     let filling = g.Kind.PutsUnder.under.refuses c.args.self.now.inner in
     rw (p.1, p.2) (refuses_wider c.in_err-before.field-0.0 g.T.ToDer.writing.write_allocates _ _
@@ -47,7 +70,7 @@ returns-clause-uncounted g c = λ e t o. absurd (false≢true (c.in_ok-after.ens
 
 pub returns-in_err-before-clause-at_once : goal.returns-in_err-before-clause-at_once
 returns-in_err-before-clause-at_once g c = λ e t o.
-    let p = err_from_is_err_and c.from_residual.result c.from_residual.ensures.1 in
+    let p = err_from_is_err_and c.from_residual-in_err-before.result c.from_residual-in_err-before.ensures.1 in
     let heading = WrittenRefusal (g.T.ToDer.writing.count_refuses c.args.self.now.inner) in
     let filling = g.Kind.PutsUnder.under.refuses c.args.self.now.inner in
     rw (p.1, p.2) (header_at_once g.T.ToDer.writing.write_allocates _ g.Kind.PutsUnder.under.allocates _ heading
