@@ -17,6 +17,7 @@ pub mod Optional
 pub mod BitString
 pub mod ToDer
 pub mod Fields
+pub mod FieldReader
 pub mod Integer
 pub mod Enumerated
 pub mod Times

@@ -4,6 +4,7 @@
 mod asn1_types;
 mod ber;
 mod der;
+mod field_reader;
 mod header;
 mod kinds;
 mod laws;
@@ -143,6 +144,7 @@ pub use asn1_types::times::times_have_one_refusal;
 pub use asn1_types::times::utc_time::UtcTime;
 pub use ber::MAX_RECURSION;
 pub use ber::any_from_ber_counted;
+pub use field_reader::FieldReader;
 pub use kinds::ElementKind;
 pub use kinds::HasKind;
 pub use kinds::HolderKind;

@@ -2,7 +2,7 @@
 use Rattle.std.specs.Prelude.{◌≡◌, List, ℕ, Result, Ok, Err}
 use Rattle.asn1_headers.specs.declared.error.Err.{Err as Refusal}
 use Rattle.asn1_headers.specs.declared.error.Error.{Error}
-use Rattle.asn1_rs_uses.specs.FieldReader.{TakesSequence}
+use Rattle.asn1_rs.specs.FieldReader.{TakesSequence}
 use Rattle.asn1_rs_uses.specs.declared.kerberos.request.KdcReq.{KdcReq}
 
 -- a request of version 5, of the type AS-REQ

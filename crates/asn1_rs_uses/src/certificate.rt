@@ -1,12 +1,11 @@
 //! Who signed a certificate, for whom, and how long it is valid (RFC 5280, 4.1): read by DER and borrowed.
 ghost use Rattle.std.specs.Prelude.{◌≡◌, IfOk};
-ghost use Rattle.asn1_rs_uses.specs.FieldReader.{TakesSequence};
+ghost use Rattle.asn1_rs.specs.FieldReader.{TakesSequence};
 
-use crate::field_reader::FieldReader;
 use crate::kerberos::Under;
 use asn1_rs::{
-    Any, CheckDerConstraints, DerAutoDerive, Error, FromAny, FromDer, GeneralizedTime, Integer,
-    Oid, ParseResult, Sequence, SetOf, Tag, UtcTime,
+    Any, CheckDerConstraints, DerAutoDerive, Error, FieldReader, FromAny, FromDer, GeneralizedTime,
+    Integer, Oid, ParseResult, Sequence, SetOf, Tag, UtcTime,
 };
 use std::alloc::Global;
 

@@ -1,11 +1,10 @@
 //! What is asked for (RFC 4120, 5.4.1).
-ghost use Rattle.asn1_rs_uses.specs.FieldReader.{TakesSequence};
+ghost use Rattle.asn1_rs.specs.FieldReader.{TakesSequence};
 
 use super::{EncryptedData, HostAddress, PrincipalName, Under};
-use crate::field_reader::FieldReader;
 use asn1_rs::{
-    Any, BitString, Error, Fields, FieldsKind, FromDer, GeneralString, GeneralizedTime, HasKind,
-    ParseResult, SerializeResult, TagNumber, WritesFields,
+    Any, BitString, Error, FieldReader, Fields, FieldsKind, FromDer, GeneralString, GeneralizedTime,
+    HasKind, ParseResult, SerializeResult, TagNumber, WritesFields,
 };
 use std::alloc::Global;
 

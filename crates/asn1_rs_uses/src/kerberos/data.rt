@@ -1,11 +1,10 @@
 //! What a request carries beside names: data for the authentication, addresses and what is encrypted (RFC 4120, 5.2).
-ghost use Rattle.asn1_rs_uses.specs.FieldReader.{TakesSequence};
+ghost use Rattle.asn1_rs.specs.FieldReader.{TakesSequence};
 
 use super::Under;
-use crate::field_reader::FieldReader;
 use asn1_rs::{
-    Error, Fields, FieldsKind, FromDer, HasKind, OctetString, ParseResult, SerializeResult,
-    TagNumber, WritesFields,
+    Error, FieldReader, Fields, FieldsKind, FromDer, HasKind, OctetString, ParseResult,
+    SerializeResult, TagNumber, WritesFields,
 };
 use std::alloc::Global;
 

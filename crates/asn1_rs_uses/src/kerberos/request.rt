@@ -3,10 +3,9 @@ ghost use Rattle.std.specs.Prelude.{IfOk};
 ghost use Rattle.asn1_rs_uses.specs.Kerberos.{TakesAsReq, IsAsReq};
 
 use super::{KdcReqBody, PaData, Under};
-use crate::field_reader::FieldReader;
 use asn1_rs::{
-    ApplicationExplicit, Error, Fields, FieldsKind, FromDer, HasKind, ParseResult, SerializeResult,
-    Tag, TagNumber, WritesFields,
+    ApplicationExplicit, Error, FieldReader, Fields, FieldsKind, FromDer, HasKind, ParseResult,
+    SerializeResult, Tag, TagNumber, WritesFields,
 };
 use std::alloc::Global;
 

@@ -5,7 +5,7 @@ use Rattle.asn1_headers.specs.Answers.{Front}
 use Rattle.asn1_headers.specs.declared.error.Err.{Err as Refusal}
 use Rattle.asn1_headers.specs.declared.error.Error.{Error}
 use Rattle.asn1_headers.specs.Error.{FlattenedTo}
-use Rattle.asn1_rs_uses.specs.declared.field_reader.FieldReader.{FieldReader}
+use Rattle.asn1_rs.specs.declared.field_reader.FieldReader.{FieldReader}
 
 -- the octets that are still to be read
 abbrev pub fields_left : FieldReader → List ℕ

@@ -1,9 +1,13 @@
 //! The fields of a sequence, which are read by DER, one after another.
 ghost use Rattle.std.specs.Prelude.{◌≡◌, ◌↔◌, [], IfOk, IsOk};
 ghost use Rattle.asn1_headers.specs.Answers.{seen};
-ghost use Rattle.asn1_rs_uses.specs.FieldReader.{BeginsWithSequence, TakesField, fields_left};
+ghost use Rattle.asn1_rs.specs.FieldReader.{BeginsWithSequence, TakesField, fields_left};
 
-use asn1_rs::{Any, Class, Error, FromDer, ParseResult, Tag};
+use crate::asn1_types::any::Any;
+use crate::traits::FromDer;
+use asn1_headers::class::Class;
+use asn1_headers::error::{Error, ParseResult};
+use asn1_headers::tag::Tag;
 use std::alloc::Global;
 
 /// The fields of a sequence that are still to be read.
