@@ -1,5 +1,5 @@
 -- Sets of one item.
-use Rattle.std.proofs.Common.{◌≡◌, ◌<◌, refl, ap, subst, sym, ◌∙◌, inl, inr, ℕ, Bool, true, List, [], ◌∷◌, get_or}
+use Rattle.std.proofs.Common.{◌≡◌, ◌<◌, ◌+◌, refl, ap, subst, sym, ◌∙◌, inl, inr, ℕ, Bool, true, List, [], ◌∷◌, get_or}
 use Rattle.std.proofs.Common.{length, append-nil, Result, Ok, Err, IfErr, arith}
 use Rattle.std.specs.List.{All}
 use Rattle.x690.specs.Ascending.{put_in, arranged}
@@ -7,7 +7,8 @@ use Rattle.asn1_headers.specs.declared.error.SerializeError.{SerializeError}
 use Rattle.asn1_headers.specs.declared.error.SerializeError.TheVariants as serialize_errors
 use Rattle.asn1_rs.specs.Lists.{SomeRefuses}
 use Rattle.asn1_rs.specs.Set.{set_content}
-use Rattle.asn1_rs.specs.ToDer.{Refuses, IntoVector}
+use Rattle.asn1_rs.specs.ToDer.{Refuses, IntoVector, VectorRefuses}
+use Rattle.asn1_rs.proofs.Prepending.{refused_twice}
 
 -- a refusal of a writing, as one of a writing that may allocate into a vector
 into_vector : (e : SerializeError) (takes : Bool) (n : ℕ) (own : SerializeError → Type 0) → Refuses takes n own e →
@@ -48,3 +49,12 @@ module _ {X : Type 0} (xs : List X) (x : X) (is : xs ≡ x ∷ []) where
         IfErr r (Refuses true (length (set_content octets xs)) (SomeRefuses (λ y. IntoVector (own y)) xs))
     only_refused own takes (Ok n) h = tt
     only_refused own takes (Err e) h = own_of_some own e (into_vector e takes (length (octets x)) (own x) h)
+
+    -- put before the octets of a buffer
+    pub only_put : (own : X → SerializeError → Type 0) (m : ℕ) (r : Result ℕ SerializeError) →
+        IfErr r (VectorRefuses (length (octets x) + m) (own x)) →
+        IfErr r (VectorRefuses (length (set_content octets xs) + m) (SomeRefuses (λ y. IntoVector (own y)) xs))
+    only_put own m (Ok n) h = tt
+    only_put own m (Err e) (inl h) = inl (rw only_content h)
+    only_put own m (Err e) (inr o) =
+        inr (e, (0, x, some_stand, sym it_is_first, o), refused_twice e (own x) o)

@@ -14,7 +14,7 @@ use Rattle.asn1_headers.specs.Laws.Prepending.{Prepended_refused, Prepended_last
 use Rattle.asn1_headers.specs.Writer.{SumsWritten}
 use Rattle.asn1_headers.specs.declared.error.Error.{Error}
 use Rattle.asn1_headers.specs.declared.error.Error.TheVariants as errors
-use Rattle.asn1_rs.specs.ToDer.{VectorRefuses, Either, Refuses, RefusesAtOnce}
+use Rattle.asn1_rs.specs.ToDer.{VectorRefuses, IntoVector, Either, Refuses, RefusesAtOnce}
 use Rattle.asn1_headers.specs.declared.error.SerializeError.TheVariants as serialize_errors
 use Rattle.asn1_rs.specs.Kinds.Writing.{PrependRefused, OwnRefusal, OwnWritten}
 use Rattle.asn1_rs.specs.Lists.{SomeRefuses}
@@ -32,6 +32,28 @@ pub vector_more : (e : SerializeError) (m n : ℕ) (own : SerializeError → Typ
     VectorRefuses n own e
 vector_more e m n own l (inl h) = inl (MayRefuse_more e true m n l h)
 vector_more e m n own l (inr o) = inr o
+
+pub vector_twice : (e : SerializeError) → vector_refusal (vector_refusal e) ≡ vector_refusal e
+vector_twice (serialize_errors.ASN1Error e) = refl
+vector_twice (serialize_errors.InvalidClass c) = refl
+vector_twice serialize_errors.InvalidLength = refl
+vector_twice (serialize_errors.IOError e) = refl
+vector_twice serialize_errors.OutOfMemory = refl
+
+pub refused_twice : (e : SerializeError) (own : SerializeError → Type 0) → IntoVector own e → e ≡ vector_refusal e
+refused_twice e own (f, o, is) = is ∙ sym (vector_twice f) ∙ ap vector_refusal (sym is)
+
+pub may_put : (r : Result ℕ SerializeError) (n : ℕ) (own : SerializeError → Type 0) → IfErr r (MayRefuse true n) →
+    IfErr r (VectorRefuses n own)
+may_put (Ok k) n own h = tt
+may_put (Err e) n own h = inl h
+
+-- a refusal of items that were collected, before what a buffer held
+pub collected_refused : {X : Type 0} (e : SerializeError) (m n : ℕ) (xs : List X) (own : X → SerializeError → Type 0) →
+    Refuses true m (SomeRefuses (λ x. IntoVector (own x)) xs) e →
+    VectorRefuses (m + n) (SomeRefuses (λ x. IntoVector (own x)) xs) e
+collected_refused e m n xs own (inl h) = inl (MayRefuse_more e true m (m + n) (omega arith) h)
+collected_refused e m n xs own (inr (i, x, l, at, o)) = inr (e, (i, x, l, at, o), refused_twice e (own x) o)
 
 -- refused by one of two parts
 pub vector_first : (e : SerializeError) (m n : ℕ) (one other : SerializeError → Type 0) → m ≤ n →

@@ -6,6 +6,7 @@ use Rattle.asn1_headers.specs.declared.error.Error.{Error}
 use Rattle.asn1_headers.specs.declared.error.SerializeError.{SerializeError}
 use Rattle.asn1_headers.specs.Laws.Writing.{MayRefuse_more}
 use Rattle.asn1_rs.proofs.Lists.{MayRefuseCount_more}
+use Rattle.asn1_rs.proofs.Prepending.{vector_twice}
 use Rattle.asn1_rs.specs.Fields.{TakenFields, counted, collected, takes, FieldRefusal, WritingRefuses, PutsField, FieldList, untold_fields, no_fields, field, TellsFields, fields_octets, FieldsRefuse, FieldsRefuseCount, PutsEach, Puts}
 use Rattle.asn1_rs.specs.ToDer.{Either, RefusesCount, VectorRefuses, whole_octets, whole_refuses}
 use Rattle.asn1_headers.specs.declared.error.SerializeError.TheVariants as serialize_errors
@@ -121,13 +122,6 @@ from_none_counted len counts f r = subst (λ n. RefusesCount true n counts f) (o
 
 pub from_none_collected : {S : Type 0} (fields : FieldList S) (x : S) (o : List ℕ) (new : TakenFields) → o ≡ [] → TellsFields fields x → Puts fields x (collected o) new (Ok tt) → new ≡ collected (fields_octets fields x)
 from_none_collected fields x o new none t p = puts_taken fields x (collected o) new t p ∙ ap (λ l. collected (l ++ fields_octets fields x)) none
-
-vector_twice : (e : SerializeError) → vector_refusal (vector_refusal e) ≡ vector_refusal e
-vector_twice (serialize_errors.ASN1Error e) = refl
-vector_twice (serialize_errors.InvalidClass c) = refl
-vector_twice serialize_errors.InvalidLength = refl
-vector_twice (serialize_errors.IOError e) = refl
-vector_twice serialize_errors.OutOfMemory = refl
 
 -- what refuses a writing into a vector refuses it without the writer's failure too
 pub vector_refuses_again : (e f : SerializeError) (n : ℕ) (own : SerializeError → Type 0) → (MayRefuse true n e → MayRefuse true n f) → f ≡ vector_refusal e → VectorRefuses n own e → VectorRefuses n own f

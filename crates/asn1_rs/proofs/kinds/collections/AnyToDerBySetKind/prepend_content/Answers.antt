@@ -1,13 +1,16 @@
-use Rattle.std.proofs.Common.{refl}
-use Rattle.std.proofs.lemmas.Bool.{false≢true}
-use Rattle.asn1_headers.specs.Laws.Prepending.{Prepended_refused}
+use Rattle.asn1_rs.proofs.OnlyItem.{only_told, only_content, only_put}
+use Rattle.asn1_rs.specs.ToDer.{whole_octets, whole_refuses}
 use Rattle.asn1_rs.proofs.kinds.collections.AnyToDerBySetKind.prepend_content.Goals as goal
 
-pub returns-in-Ok-clause-accepted : goal.returns-in-Ok-clause-accepted
-returns-in-Ok-clause-accepted g c = λ e t o. absurd (false≢true (c.in-Ok.ensures.accepted e t o))
+pub returns-in-Some-clause-prepended : goal.returns-in-Some-clause-prepended
+returns-in-Some-clause-prepended g c = λ t.
+    let xs = g.L.Listed.items c.args.self.now in
+    rw (only_content xs c.in-Some.item.now c.in-Some.ensures (whole_octets g.T.ToDer.writing))
+    (c.prepend_der.ensures.prepended (only_told xs c.in-Some.item.now c.in-Some.ensures g.T.ToDer.writing.tells t))
 
-pub returns-in-Ok-clause-uncounted : goal.returns-in-Ok-clause-uncounted
-returns-in-Ok-clause-uncounted g c = λ e t o. absurd (false≢true (c.in-Ok.ensures.uncounted e t o))
-
-pub returns-in-Err-clause-prepended : goal.returns-in-Err-clause-prepended
-returns-in-Err-clause-prepended g c = λ t. Prepended_refused _ _ _ _ refl c.without_io.ensures.io
+pub returns-in-Some-clause-refused : goal.returns-in-Some-clause-refused
+returns-in-Some-clause-refused g c = λ t.
+    let xs = g.L.Listed.items c.args.self.now in
+    only_put xs c.in-Some.item.now c.in-Some.ensures (whole_octets g.T.ToDer.writing)
+    (whole_refuses g.T.ToDer.writing) _ c.prepend_der.result
+    (c.prepend_der.ensures.refused (only_told xs c.in-Some.item.now c.in-Some.ensures g.T.ToDer.writing.tells t))

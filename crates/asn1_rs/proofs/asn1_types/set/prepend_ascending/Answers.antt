@@ -1,0 +1,20 @@
+use Rattle.std.proofs.Common.{◌≡◌, ◌∙◌, ap, sym}
+use Rattle.std.proofs.lemmas.List.Sorted.{IsPermutation-refl}
+use Rattle.std.specs.List.{concat}
+use Rattle.x690.specs.Ascending.{arranged}
+use Rattle.x690.specs.Laws.Ascending.Arranged.{only_arranged}
+use Rattle.asn1_rs.proofs.asn1_types.set.prepend_ascending.Goals as goal
+
+pub returns-then-are_ascending-clause-prepended : goal.returns-then-are_ascending-clause-prepended
+returns-then-are_ascending-clause-prepended g c = λ strings e.
+    let up = c.are_ascending.ensures strings e c.if-are_ascending.true in
+    let same : c.deref.result.now ≡ concat (arranged strings) =
+    c.deref.ensures.value ∙ e.0 ∙ ap concat (only_arranged strings strings (IsPermutation-refl strings) up) in
+    rw (sym same) c.prepend_octets.ensures.prepended
+
+pub returns-then-are_ascending-clause-refused : goal.returns-then-are_ascending-clause-refused
+returns-then-are_ascending-clause-refused g c = λ strings e.
+    let up = c.are_ascending.ensures strings e c.if-are_ascending.true in
+    let same : c.deref.result.now ≡ concat (arranged strings) =
+    c.deref.ensures.value ∙ e.0 ∙ ap concat (only_arranged strings strings (IsPermutation-refl strings) up) in
+    rw (sym same) c.prepend_octets.ensures.refused
