@@ -53,21 +53,21 @@ all_seen {S} {A} steps first xs gives begin now next start seen led answer step 
 
 -- the text of one more item
 pub text_more : {A : Type 0} (text_of : A → List ℕ) (seen : List (Bor A)) (r : Bor A)
-    (front now mark between after : List ℕ) →
-    now ≡ front ++ (codes "[" ++ join_by text_of (codes ",") (read_through seen)) → mark ≡ before_next (codes ",") seen
-    → between ≡ now ++ mark → after ≡ between ++ text_of r.now →
+    (front now separator between after : List ℕ) →
+    now ≡ front ++ (codes "[" ++ join_by text_of (codes ",") (read_through seen)) → separator ≡ before_next (codes ",") seen
+    → between ≡ now ++ separator → after ≡ between ++ text_of r.now →
     after ≡ front ++ (codes "[" ++ join_by text_of (codes ",") (read_through (seen ++ r ∷ [])))
-text_more {A} text_of seen r front now mark between after is marks grown more =
+text_more {A} text_of seen r front now separator between after is marks grown more =
     let joined = join_by text_of (codes ",") (read_through seen) in
-    let longer : join_by text_of (codes ",") (read_through (seen ++ r ∷ [])) ≡ (joined ++ mark) ++ text_of r.now =
+    let longer : join_by text_of (codes ",") (read_through (seen ++ r ∷ [])) ≡ (joined ++ separator) ++ text_of r.now =
     ap (λ (xs : List A). join_by text_of (codes ",") xs) (map-append (λ (r : Bor A). r.now) seen (r ∷ []))
     ∙ joined_more text_of (codes ",") (read_through seen) r.now
     ∙ ap (λ (l : List ℕ). (joined ++ l) ++ text_of r.now) (before_same seen ∙ sym marks) in
-    let all : after ≡ ((front ++ (codes "[" ++ joined)) ++ mark) ++ text_of r.now =
-    more ∙ ap (λ (l : List ℕ). l ++ text_of r.now) (grown ∙ ap (λ (l : List ℕ). l ++ mark) is) in
-    all ∙ append_assoc (front ++ (codes "[" ++ joined)) mark (text_of r.now)
-    ∙ append_assoc front (codes "[" ++ joined) (mark ++ text_of r.now)
-    ∙ ap (λ (l : List ℕ). front ++ (codes "[" ++ l)) (sym (append_assoc joined mark (text_of r.now)) ∙ sym longer)
+    let all : after ≡ ((front ++ (codes "[" ++ joined)) ++ separator) ++ text_of r.now =
+    more ∙ ap (λ (l : List ℕ). l ++ text_of r.now) (grown ∙ ap (λ (l : List ℕ). l ++ separator) is) in
+    all ∙ append_assoc (front ++ (codes "[" ++ joined)) separator (text_of r.now)
+    ∙ append_assoc front (codes "[" ++ joined) (separator ++ text_of r.now)
+    ∙ ap (λ (l : List ℕ). front ++ (codes "[" ++ l)) (sym (append_assoc joined separator (text_of r.now)) ∙ sym longer)
   where
     before_same : (seen : List (Bor A)) → before_next (codes ",") (read_through seen) ≡ before_next (codes ",") seen
     before_same [] = refl

@@ -43,11 +43,11 @@ where
         OnOk result (text.new.items ≡ text.old.items ++ list_text T.text_of xs) }
 {
     push_str(text, "[")?;
-    let mut mark = "";
+    let mut separator = "";
     for item in items {
-        push_str(text, mark)?;
+        push_str(text, separator)?;
         item.show(text)?;
-        mark = ",";
+        separator = ",";
     }
     push_str(text, "]")
 }

@@ -38,12 +38,13 @@ fn rule_of(line: &[u8]) -> Option<(Rule, &[u8])>
     Some((Rule::Der, rest))
 }
 
-/// What stands before the first of the marks, and what follows it.
-pub fn split_once(octets: &[u8], mark: u8) -> Option<(&[u8], &[u8])>
-    ensures { MatchOption result (All (λ x. x ≢ mark) octets.now) (λ parts.
-        (octets.now ≡ parts.0.now ++ mark ∷ parts.1.now) × All (λ x. x ≢ mark) parts.0.now) }
+/// What stands before the first separator, and what follows it.
+pub fn split_once(octets: &[u8], separator: u8) -> Option<(&[u8], &[u8])>
+    ensures { MatchOption result (All (λ x. x ≢ separator) octets.now) (λ parts.
+        (octets.now ≡ parts.0.now ++ separator ∷ parts.1.now) ×
+        All (λ x. x ≢ separator) parts.0.now) }
 {
-    let place = octets.iter().position(|octet| *octet == mark)?;
+    let place = octets.iter().position(|octet| *octet == separator)?;
     Some((&octets[..place], &octets[place + 1..]))
 }
 

@@ -85,18 +85,18 @@ refusal_tells rule refuses octets r number g = (λ told. inl (none octets (eqb-t
 
 -- none is answered where the value is told to be left out
 pub answers_none : {T E : Type 0} (rule : Rule) (reads : List ℕ → Result (List ℕ × T) (Refusal E) → Type 0)
-    (octets : List ℕ) (tag mark : Tag) (told : Bool) → tag ≡ mark → IsTrue told ↔ IsLeftOut rule tag.0 octets →
-    told ≡ true → OptionGives (IsLeftOut rule mark.0) reads octets (Ok (octets, None))
-answers_none rule reads octets tag mark told e tells is =
+    (octets : List ℕ) (tag own : Tag) (told : Bool) → tag ≡ own → IsTrue told ↔ IsLeftOut rule tag.0 octets →
+    told ≡ true → OptionGives (IsLeftOut rule own.0) reads octets (Ok (octets, None))
+answers_none rule reads octets tag own told e tells is =
     inl (subst (λ (t : Tag). IsLeftOut rule t.0 octets) e (tells.0 is), refl)
 
 -- and else the whole answer of the reader of the value
 pub answers_held : {T E : Type 0} (rule : Rule) (reads : List ℕ → Result (List ℕ × T) (Refusal E) → Type 0)
-    (octets : List ℕ) (tag mark : Tag) (told : Bool) → tag ≡ mark → IsTrue told ↔ IsLeftOut rule tag.0 octets →
+    (octets : List ℕ) (tag own : Tag) (told : Bool) → tag ≡ own → IsTrue told ↔ IsLeftOut rule tag.0 octets →
     told ≡ false
     → (its : Result (List ℕ × T) (Refusal E)) → reads octets its → (answer : Result (List ℕ × Option T) (Refusal E)) →
-    answer ≡ in_some its → OptionGives (IsLeftOut rule mark.0) reads octets answer
-answers_held rule reads octets tag mark told e tells stays its gives answer is =
+    answer ≡ in_some its → OptionGives (IsLeftOut rule own.0) reads octets answer
+answers_held rule reads octets tag own told e tells stays its gives answer is =
     inr (
       λ out. absurd (false≢true (sym stays ∙ tells.1 (subst (λ (t : Tag). IsLeftOut rule t.0 octets) (sym e) out))),
       (its, gives, is),

@@ -96,7 +96,7 @@ pub check_spares : {E : Type 0} (check : CheckGives) → IsCheck check →
 check_spares check is from p refusal e t m =
     inl (refusal, λ q. is.spares p (subst (λ (x : Error). check p (Err x)) q t), m)
 
--- a mark beside a value is equal to every other
+-- what says nothing of a value, beside it, is equal to every other
 pub marked_same : {A : Type 0} (same : Bool) → IsTrue same ↔ A → IsTrue (same && true) ↔ A
 marked_same true h = h
 marked_same false h = h

@@ -30,14 +30,14 @@ TakesOfContent g f any = (p : Bor (List ℕ)) → p.now ≡ any.content.now → 
 -- the same, at the number besides, and at the header under the number that the type has
 abbrev pub ReturnsUnder : {F R : Type 0} → Once F (Bor (List ℕ) × (Tag × (Header × Unit {0}))) R → F → Tag → Tag →
     Any → R → Type 0
-ReturnsUnder g f tag mark any r =
+ReturnsUnder g f tag own any r =
     (p : Bor (List ℕ)) × (header : Header) × g.post f (p, (tag, (header, tt))) r × (p.now ≡ any.content.now) ×
-    HasParts header (class_of any.header) (is_constructed_of any.header) mark (length_of any.header)
+    HasParts header (class_of any.header) (is_constructed_of any.header) own (length_of any.header)
     (raw_tag_of any.header)
 
 -- and it may be called so
 abbrev pub TakesUnder : {F R : Type 0} → Once F (Bor (List ℕ) × (Tag × (Header × Unit {0}))) R → F → Tag → Tag →
     Any → Type 0
-TakesUnder g f tag mark any = (p : Bor (List ℕ)) (header : Header) → p.now ≡ any.content.now →
-    HasParts header (class_of any.header) (is_constructed_of any.header) mark (length_of any.header)
+TakesUnder g f tag own any = (p : Bor (List ℕ)) (header : Header) → p.now ≡ any.content.now →
+    HasParts header (class_of any.header) (is_constructed_of any.header) own (length_of any.header)
     (raw_tag_of any.header) → g.pre f (p, (tag, (header, tt)))

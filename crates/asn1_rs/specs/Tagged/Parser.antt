@@ -50,10 +50,10 @@ ChecksAndConverts check convert from any (Err e) =
 -- header, or the refusal. The rest is the element's.
 abbrev pub TakesImplicit : {K T E : Type 0} → Tag → (Any → Result T E → Type 0) →
     OfElement (Result (List ℕ × TaggedParser K T E) (Refusal E))
-TakesImplicit mark converts any rest (Ok x) = (x.0 ≡ rest) × (header_of x.1 ≡ any.header) ×
-    ((other : Any) × IsUnder mark any other × converts other (Ok (inner_of x.1)))
-TakesImplicit {K} {T} {E} mark converts any rest (Err r) =
-    (other : Any) × IsUnder mark any other × ((e : E) × converts other (Err e) × (r ≡ refused e))
+TakesImplicit tag converts any rest (Ok x) = (x.0 ≡ rest) × (header_of x.1 ≡ any.header) ×
+    ((other : Any) × IsUnder tag any other × converts other (Ok (inner_of x.1)))
+TakesImplicit {K} {T} {E} tag converts any rest (Err r) =
+    (other : Any) × IsUnder tag any other × ((e : E) × converts other (Err e) × (r ≡ refused e))
 
 -- what looking at the tag number of a header may answer
 abbrev pub HasNumber : Tag → Header → Result (Unit {0}) Error → Type 0

@@ -11,10 +11,10 @@ loop-item-preserved g c =
       can = goes.0;
       ends = goes.1;
       words = search rules;
-      mark = sym (before_more (codes ",") c.loop-item.yielded c.in-Some.item);
+      separator = sym (before_more (codes ",") c.loop-item.yielded c.in-Some.item);
       text = text_more g.T.Encoded.text_of c.loop-item.yielded c.in-Some.item c.args.text.now.items
-          c.loop-item.text.items c.loop-item.mark.now c.push_str-in-loop-item.new.text.items c.show.new.text.items
-          seen.text seen.mark c.in_ok-push_str-2.ensures c.in_ok-show.ensures;
+          c.loop-item.text.items c.loop-item.separator.now c.push_str-in-loop-item.new.text.items c.show.new.text.items
+          seen.text seen.separator c.in_ok-push_str-2.ensures c.in_ok-show.ensures;
     }
 
 pub returns : goal.returns

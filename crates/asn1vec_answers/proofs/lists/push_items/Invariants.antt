@@ -9,8 +9,8 @@ abbrev pub invariant-loop-item : goal.invariant-loop-item
 invariant-loop-item g l = record {
   can : (goal.iterator-loop-item g).can_next l.item-iterator;
   ends : (goal.iterator-loop-item g).is_finite l.item-iterator;
-  words : shadow (Utf8 l.mark);
-  mark : l.mark ≡ before_next (codes ",") l.yielded;
+  words : shadow (Utf8 l.separator);
+  separator : l.separator ≡ before_next (codes ",") l.yielded;
   text : l.text.items ≡
       l.fn.text.items ++ (codes "[" ++ join_by g.T.Encoded.text_of (codes ",") (map (λ r. r.now) l.yielded));
 }
