@@ -4,7 +4,11 @@
 #[cfg(test)]
 mod callers;
 #[cfg(test)]
+mod certificates;
+#[cfg(test)]
 mod handles;
+#[cfg(test)]
+mod kerberos;
 #[cfg(test)]
 mod labels;
 #[cfg(test)]
@@ -12,8 +16,14 @@ mod levels;
 #[cfg(test)]
 mod lists;
 #[cfg(test)]
+mod measurements;
+#[cfg(test)]
+mod packets;
+#[cfg(test)]
 mod principals;
 #[cfg(test)]
 mod refusals;
 #[cfg(test)]
 mod sets;
+#[cfg(test)]
+mod streams;

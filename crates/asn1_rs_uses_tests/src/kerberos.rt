@@ -1,0 +1,177 @@
+//! Requests of Kerberos: read, refused, and written again.
+
+use asn1_rs::{FromDer, ToDer};
+use asn1_rs_uses::{AsReq, KdcReqBody, PrincipalName};
+use std::alloc::Global;
+use std::fmt::Write;
+use std::test::Fail;
+use test_rows::{Calls, assert_rows, assert_shown, assert_text, octets_of, push_debug};
+
+/// The request of `asn1_rs_outside_tests`: leaf@TESTS.EXAMPLE asks for krbtgt/TESTS.EXAMPLE until 2037, with the
+/// options 40810010, two elements of padata, three encryption types and two addresses.
+pub const REQUEST: &str = "\
+6a81f13081eea103020105a20302010aa321301f3011a10402020080a20904073005a0030101ff300aa10402020095a20204\
+00a481be3081bba00703050040810010a111300fa003020101a10830061b046c656166a20f1b0d54455354532e4558414d50\
+4c45a3223020a003020102a11930171b066b72627467741b0d54455354532e4558414d504c45a511180f3230333730393133\
+3032343830355aa611180f32303337303931343032343830355aa70602047fffffffa80c300a0201120201110202ff7ba92c\
+302a300da003020102a1060404c00002013019a003020114a11204104c454146202020202020202020202020";
+
+/// Appends a name: its type, and its parts.
+fn push_name(text: &mut String, name: &PrincipalName<'_>) -> Result<(), Fail> {
+    write!(text, "{}", name.name_type.as_inner())?;
+    for part in name.name_string.as_inner() {
+        write!(text, " {}", part.as_str())?;
+    }
+    text.push('\n')?;
+    Ok(())
+}
+
+/// Appends who asks for what.
+fn push_names(text: &mut String, body: &KdcReqBody<'_>) -> Result<(), Fail> {
+    if let Some(name) = &body.cname {
+        push_name(text, name.as_inner())?;
+    }
+    writeln!(text, "{}", body.realm.as_inner().as_str())?;
+    if let Some(name) = &body.sname {
+        push_name(text, name.as_inner())?;
+    }
+    Ok(())
+}
+
+#[test]
+fn names_of_a_request_are_read(rt: HostRuntime) -> Result<(), Fail> {
+    let alloc = rt.alloc();
+    let octets = octets_of(alloc, REQUEST)?;
+    let (_, request) = AsReq::from_der(alloc, octets.as_slice())?;
+    let mut text = String::new(alloc);
+    push_names(&mut text, request.as_inner().req_body.as_inner())?;
+    let expected = "1 leaf\nTESTS.EXAMPLE\n2 krbtgt TESTS.EXAMPLE\n";
+    assert_text("names", text.as_str(), expected)
+}
+
+/// Appends the data for the authentication, each by its type and its octets.
+fn push_data(text: &mut String, request: &AsReq<'_>) -> Result<(), Fail> {
+    if let Some(padata) = &request.as_inner().padata {
+        for data in padata.as_inner() {
+            let octets = data.padata_value.as_inner().as_bytes();
+            write!(text, "{} {octets:?}\n", data.padata_type.as_inner())?;
+        }
+    }
+    Ok(())
+}
+
+/// Appends the addresses, each by its type and its octets.
+fn push_addresses(text: &mut String, body: &KdcReqBody<'_>) -> Result<(), Fail> {
+    if let Some(addresses) = &body.addresses {
+        for address in addresses.as_inner() {
+            let octets = address.address.as_inner().as_bytes();
+            write!(text, "{} {octets:?}\n", address.addr_type.as_inner())?;
+        }
+    }
+    Ok(())
+}
+
+#[test]
+fn lists_of_a_request_are_read(rt: HostRuntime) -> Result<(), Fail> {
+    let alloc = rt.alloc();
+    let octets = octets_of(alloc, REQUEST)?;
+    let (_, request) = AsReq::from_der(alloc, octets.as_slice())?;
+    let mut text = String::new(alloc);
+    push_data(&mut text, &request)?;
+    push_addresses(&mut text, request.as_inner().req_body.as_inner())?;
+    let expected = "\
+128 [48, 5, 160, 3, 1, 1, 255]
+149 []
+2 [192, 0, 2, 1]
+20 [76, 69, 65, 70, 32, 32, 32, 32, 32, 32, 32, 32, 32, 32, 32, 32]
+";
+    assert_text("lists", text.as_str(), expected)
+}
+
+#[test]
+fn numbers_of_a_request_are_read(rt: HostRuntime) -> Result<(), Fail> {
+    let alloc = rt.alloc();
+    let octets = octets_of(alloc, REQUEST)?;
+    let (_, request) = AsReq::from_der(alloc, octets.as_slice())?;
+    let body = request.as_inner().req_body.as_inner();
+    let numbers = (
+        body.kdc_options.as_inner().as_bytes(),
+        body.nonce.as_inner(),
+        body.etype.as_inner().as_slice(),
+        body.from.is_none(),
+    );
+    assert_shown(
+        alloc,
+        &numbers,
+        "([64, 129, 0, 16], 2147483647, [18, 17, -133], true)",
+    )?;
+    let till = format!(in alloc; "{}", body.till.as_inner())?;
+    assert_text("until when", till.as_str(), "2037-09-13 02:48:05Z")
+}
+
+/// Read: the rest, and whether the same octets are written. With the fewest fields, with an address, with what is
+/// encrypted with and without a version of the key, and with a ticket.
+///
+/// Refused: another version, another type, no `till`, a field left over in both sequences, another application tag, a
+/// context-specific tag, a set, a part that is cut, a request that is, and one that is cut within its tag.
+/// The fields are those of RFC 4120, 5.4.1.
+const REQUESTS: &str = "\
+request:
+6a3d303ba103020105a20302010aa42f302da00703050000000000a2031b0141a511180f3230333730393133303234383035\
+5aa703020105a8053003020112ff = [255] true
+6a50304ea103020105a20302010aa4423040a00703050000000000a2031b0141a511180f3230333730393133303234383035\
+5aa703020105a8053003020112a911300f300da003020102a1060404c0000201 = [] true
+6a51304fa103020105a20302010aa4433041a00703050000000000a2031b0141a511180f3230333730393133303234383035\
+5aa703020105a8053003020112aa123010a003020112a103020103a20404020102 = [] true
+6a573055a103020105a20302010aa4493047a00703050000000000a2031b0141a511180f3230333730393133303234383035\
+5aa703020105a8053003020112aa0d300ba003020112a20404020102ab09300761053003020105 = [] true
+6a3d303ba103020104a20302010aa42f302da00703050000000000a2031b0141a511180f3230333730393133303234383035\
+5aa703020105a8053003020112 = Error(InvalidValue { tag: Tag(2), msg: \"another version\" })
+6a3d303ba103020105a20302010ca42f302da00703050000000000a2031b0141a511180f3230333730393133303234383035\
+5aa703020105a8053003020112 = Error(InvalidValue { tag: Tag(2), msg: \"another message\" })
+6a2a3028a103020105a20302010aa41c301aa00703050000000000a2031b0141a703020105a8053003020112 \
+= Error(UnexpectedTag { expected: Some(Tag(5)), actual: Tag(7) })
+6a423040a103020105a20302010aa42f302da00703050000000000a2031b0141a511180f3230333730393133303234383035\
+5aa703020105a8053003020112a503020101 = Error(InvalidValue { tag: Tag(16), msg: \"a field left over\" })
+6a423040a103020105a20302010aa4343032a00703050000000000a2031b0141a511180f3230333730393133303234383035\
+5aa703020105a8053003020112ac03020101 = Error(InvalidValue { tag: Tag(16), msg: \"a field left over\" })
+6c3d303ba103020105a20302010aa42f302da00703050000000000a2031b0141a511180f3230333730393133303234383035\
+5aa703020105a8053003020112 = Error(UnexpectedTag { expected: Some(Tag(10)), actual: Tag(12) })
+aa3d303ba103020105a20302010aa42f302da00703050000000000a2031b0141a511180f3230333730393133303234383035\
+5aa703020105a8053003020112 = Error(UnexpectedClass { expected: Some(Application), actual: ContextSpecific })
+6a3d313ba103020105a20302010aa42f302da00703050000000000a2031b0141a511180f3230333730393133303234383035\
+5aa703020105a8053003020112 = Error(UnexpectedTag { expected: Some(Tag(16)), actual: Tag(17) })
+6a073005a103020205 = Error(Incomplete(Size(1)))
+6a3d303ba103020105a20302010aa42f302da00703050000000000a2031b0141a511180f3230333730393133303234383035\
+5aa703020105a80530030201 = Incomplete(Size(1))
+6a033005a1 = Incomplete(Size(4))
+";
+
+/// The calls of the table.
+struct Requests;
+
+impl Calls for Requests {
+    fn answer(text: &mut String, alloc: Global, _name: &str, octets: &[u8]) -> Result<(), Fail> {
+        let (rest, request) = match AsReq::from_der(alloc, octets) {
+            Ok(read) => read,
+            Err(e) => return push_debug(text, &e),
+        };
+        let written = request.to_der_vec(alloc)?;
+        let is_same = octets.strip_prefix(written.as_slice()) == Some(rest)
+            && request.to_der_len() == Ok(written.len());
+        write!(text, "{rest:?} {is_same}")?;
+        Ok(())
+    }
+}
+
+#[test]
+fn requests_are_read_and_written(rt: HostRuntime) -> Result<(), Fail> {
+    assert_rows::<Requests>(rt.alloc(), REQUESTS)
+}
+
+#[test]
+fn the_request_from_outside_is_written_again(rt: HostRuntime) -> Result<(), Fail> {
+    let alloc = rt.alloc();
+    let row = format!(in alloc; "request:\n{REQUEST} = [] true\n")?;
+    assert_rows::<Requests>(alloc, row.as_str())
+}

@@ -1,0 +1,63 @@
+//! Messages in a buffer that fills.
+
+use crate::kerberos::REQUEST;
+use asn1_rs::{Err, Needed, ToDer};
+use asn1_rs_uses::{AsReq, next_message};
+use std::alloc::Global;
+use std::test::Fail;
+use test_rows::{Calls, assert_all, assert_rows, octets_of, push_debug};
+
+/// Whether a buffer with a beginning of a message says to wait, for as many octets as are missing or fewer.
+fn waits(alloc: Global, buffer: &[u8], missing: usize) -> bool {
+    match next_message::<AsReq<'_>>(alloc, buffer) {
+        Err(Err::Incomplete(Needed::Size(n))) => 1 <= n && n <= missing,
+        _ => false,
+    }
+}
+
+#[test]
+fn a_message_is_awaited_octet_by_octet(rt: HostRuntime) -> Result<(), Fail> {
+    let alloc = rt.alloc();
+    let octets = octets_of(alloc, REQUEST)?;
+    let mut buffer = Vec::new(alloc);
+    for octet in octets.iter() {
+        let missing = octets.len().saturating_sub(buffer.len());
+        assert!(rt; waits(alloc, buffer.as_slice(), missing));
+        buffer.push(*octet)?;
+    }
+    let (rest, request) = next_message::<AsReq<'_>>(alloc, buffer.as_slice())?;
+    assert!(rt; rest.is_empty());
+    let written = request.to_der_vec(alloc)?;
+    assert!(rt; written.as_slice() == octets.as_slice());
+    Ok(())
+}
+
+/// The rest behind a message, and how refusals are told: whether to wait.
+/// The message is of RFC 4120, 5.4.1; its lengths are by X.690 8.1.3.
+const BUFFERS: &str = "\
+request:
+6a3d303ba103020105a20302010aa42f302da00703050000000000a2031b0141a511180f3230333730393133303234383035\
+5aa703020105a80530030201126a3d30 = [106, 61, 48]
+6a3d30 = Incomplete(Size(60))
+6a033005a1 = Error(Incomplete(Size(4)))
+6a033005a1020105 = Error(Incomplete(Size(4)))
+020105 = Error(UnexpectedTag { expected: Some(Tag(10)), actual: Tag(2) })
+- = Incomplete(Size(1))
+";
+
+/// The calls of the table.
+struct Buffers;
+
+impl Calls for Buffers {
+    fn answer(text: &mut String, alloc: Global, _name: &str, octets: &[u8]) -> Result<(), Fail> {
+        match next_message::<AsReq<'_>>(alloc, octets) {
+            Ok((rest, _)) => push_debug(text, &rest),
+            Err(e) => push_debug(text, &e),
+        }
+    }
+}
+
+#[test]
+fn a_part_that_is_cut_is_refused_at_once(rt: HostRuntime) -> Result<(), Fail> {
+    assert_rows::<Buffers>(rt.alloc(), BUFFERS)
+}
