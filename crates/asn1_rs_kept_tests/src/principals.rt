@@ -70,7 +70,7 @@ impl<'a> PrincipalName<'a> {
 impl<'a> FromDer<'a, Error> for PrincipalName<'a> {
     fn from_der(alloc: Global, octets: &'a [u8]) -> ParseResult<'a, PrincipalName<'a>, Error> {
         let (rest, sequence) = Sequence::from_ber(alloc, octets)?;
-        sequence.and_then(|content| PrincipalName::read_held(alloc, content, rest))
+        PrincipalName::read_held(alloc, sequence.into_content(), rest)
     }
 }
 
