@@ -1,8 +1,9 @@
 //! Values that are put before the octets of a buffer (X.690 10.1, 10.2, 11.6), and that nothing is counted then.
 
 use asn1_rs::{
-    ASN1DateTime, ASN1TimeZone, DerBuffer, DerWrite, Error, Explicit, SerializeResult, SetOf, Tag,
-    Tagged, TaggedExplicit, TaggedImplicit, TaggedValue, ToDer, Told, UtcTime, put_all,
+    ASN1DateTime, ASN1TimeZone, DerBuffer, DerWrite, Error, Explicit, SerializeError,
+    SerializeResult, SetOf, Tag, Tagged, TaggedExplicit, TaggedImplicit, TaggedValue, ToDer, Told,
+    UtcTime, put_all,
 };
 use std::alloc::Global;
 use std::cell::Cell;
@@ -219,4 +220,62 @@ fn nothing_is_counted(rt: HostRuntime) -> Result<(), Fail> {
         counted(alloc, &&nested, &calls)? == (12, 0),
     ];
     assert_all("items that are not counted", &facts)
+}
+
+/// A number whose counts and header are refused: it can be put in front alone.
+#[derive(Clone, Copy, Debug, PartialEq, Eq, PartialOrd, Ord)]
+struct InFront(u8);
+
+impl Tagged for InFront {
+    const TAG: Tag = Tag::Integer;
+
+    ghost TAG = { record { 0 = 2 } };
+}
+
+impl ToDer for InFront {
+    fn to_der_len(&self) -> Result<usize, Error> {
+        Err(Error::Unsupported)
+    }
+
+    fn der_content_len(&self) -> Result<usize, Error> {
+        Err(Error::Unsupported)
+    }
+
+    fn der_constructed(&self) -> bool {
+        false
+    }
+
+    fn write_der_header<W: DerWrite>(&self, _alloc: Global, _w: &mut W) -> SerializeResult<usize> {
+        Err(SerializeError::InvalidLength)
+    }
+
+    fn write_der_content<W: DerWrite>(&self, _alloc: Global, w: &mut W) -> SerializeResult<usize> {
+        put_all(w, &[self.0])
+    }
+
+    fn prepend_der_content(&self, _alloc: Global, buf: &mut DerBuffer) -> SerializeResult<usize> {
+        buf.prepend(&[self.0])?;
+        Ok(1)
+    }
+
+    fn prepend_der(&self, _alloc: Global, buf: &mut DerBuffer) -> SerializeResult<usize> {
+        buf.prepend(&[2, 1, self.0])?;
+        Ok(3)
+    }
+}
+
+#[test]
+fn members_are_not_counted(rt: HostRuntime) -> Result<(), Fail> {
+    let alloc = rt.alloc();
+    let mut members: BTreeSet<InFront> = BTreeSet::new(alloc);
+    members.insert(InFront(2))?;
+    members.insert(InFront(1))?;
+    let octets = [0x31, 6, 2, 1, 1, 2, 1, 2];
+    assert_all(
+        "members that are put in front alone",
+        &[
+            members.to_der_vec(alloc)?.as_slice() == octets.as_slice(),
+            matches!(members.to_der_len(), Err(Error::Unsupported)),
+        ],
+    )
 }
