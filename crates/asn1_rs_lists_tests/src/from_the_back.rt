@@ -131,6 +131,115 @@ fn refused_items_leave_nothing_behind(rt: HostRuntime) -> Result<(), Fail> {
     )
 }
 
+/// An item that is refused, for one of two causes.
+#[derive(Drop)]
+struct Refused {
+    is_time: bool,
+}
+
+impl Tagged for Refused {
+    const TAG: Tag = Tag::Null;
+
+    ghost TAG = { record { 0 = 5 } };
+}
+
+impl ToDer for Refused {
+    fn to_der_len(&self) -> Result<usize, Error> {
+        Ok(2)
+    }
+
+    fn der_content_len(&self) -> Result<usize, Error> {
+        Ok(0)
+    }
+
+    fn der_constructed(&self) -> bool {
+        false
+    }
+
+    fn write_der_header<W: DerWrite>(&self, _alloc: Global, w: &mut W) -> SerializeResult<usize> {
+        put_all(w, &[5, 0])
+    }
+
+    fn write_der_content<W: DerWrite>(&self, _alloc: Global, _w: &mut W) -> SerializeResult<usize> {
+        Err(SerializeError::ASN1Error(if self.is_time {
+            Error::InvalidDateTime
+        } else {
+            Error::Unsupported
+        }))
+    }
+}
+
+/// Of two items that are refused for different causes the last one is met first, and nothing is appended.
+#[test]
+fn one_cause_is_answered(rt: HostRuntime) -> Result<(), Fail> {
+    let alloc = rt.alloc();
+    let items = vec![in alloc; Refused { is_time: false }, Refused { is_time: true }]?;
+    let mut w = Told::new(Vec::new(alloc));
+    let answer = items.write_der(alloc, &mut w);
+    assert_shown(
+        alloc,
+        &(answer, w.as_inner()),
+        "(Err(ASN1Error(InvalidDateTime)), [])",
+    )
+}
+
+/// An item that puts one octet, and answers that it put as many as there can be.
+#[derive(Drop)]
+struct Boasting;
+
+impl Tagged for Boasting {
+    const TAG: Tag = Tag::Integer;
+
+    ghost TAG = { record { 0 = 2 } };
+}
+
+impl ToDer for Boasting {
+    fn to_der_len(&self) -> Result<usize, Error> {
+        Ok(1)
+    }
+
+    fn der_content_len(&self) -> Result<usize, Error> {
+        Ok(0)
+    }
+
+    fn der_constructed(&self) -> bool {
+        false
+    }
+
+    fn write_der_header<W: DerWrite>(&self, _alloc: Global, w: &mut W) -> SerializeResult<usize> {
+        put_all(w, &[2])
+    }
+
+    fn write_der_content<W: DerWrite>(&self, _alloc: Global, _w: &mut W) -> SerializeResult<usize> {
+        Ok(0)
+    }
+
+    fn prepend_der_content(&self, _alloc: Global, _buf: &mut DerBuffer) -> SerializeResult<usize> {
+        Ok(usize::MAX)
+    }
+
+    fn prepend_der(&self, _alloc: Global, buf: &mut DerBuffer) -> SerializeResult<usize> {
+        buf.prepend(&[2])?;
+        Ok(usize::MAX)
+    }
+}
+
+/// Two such answers have no sum.
+#[test]
+fn answers_are_summed_with_a_check(rt: HostRuntime) -> Result<(), Fail> {
+    let alloc = rt.alloc();
+    let list = vec![in alloc; Boasting, Boasting]?;
+    let mut buf = buffer(alloc)?;
+    let facts = [
+        matches!(list.to_der_vec(alloc), Err(SerializeError::InvalidLength)),
+        matches!(
+            list.prepend_der(alloc, &mut buf),
+            Err(SerializeError::InvalidLength)
+        ),
+    ];
+    assert_all("answers past 64 bits", &facts)
+}
+
 /// A number that tells how often it was counted.
 #[derive(Drop)]
 struct Counting {

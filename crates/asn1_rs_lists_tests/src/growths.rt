@@ -1,9 +1,11 @@
 //! Calls that allocate, each twice. Where one growth is refused, as `tools/refused_growths` has it, one call tells of
 //! out of memory, and the other answers as ever.
 
-use asn1_rs::{Err, Error, FromDer, Integer, SerializeError, SetOf, ToDer};
+use asn1_rs::{DerWrite, Err, Error, FromDer, Integer, SerializeError, SetOf, ToDer};
 use std::alloc::Global;
 use std::collections::BTreeSet;
+use std::io;
+use std::io::ErrorKind;
 
 /// Whether the value is written as these octets, or refused when out of memory.
 fn is_written<T: ToDer>(alloc: Global, value: &T, octets: &[u8]) -> bool {
@@ -72,4 +74,51 @@ fn ordered_sets_are_refused_for_want_of_memory(rt: HostRuntime) {
         0x31, 0x0d, 0x31, 0x03, 0x02, 0x01, 0x03, 0x31, 0x06, 0x02, 0x01, 0x01, 0x02, 0x01, 0x02,
     ];
     assert!(rt; is_read::<BTreeSet<BTreeSet<u8>>>(rt.alloc(), &sets));
+}
+
+/// A writer with room of its own for ten octets. It takes one octet a call.
+#[derive(Drop)]
+struct Room {
+    octets: [u8; 10],
+    count: usize,
+    is_failed: bool,
+}
+
+impl DerWrite for Room {
+    ghost state = { λ w. record { told = None; failed = w.is_failed } };
+
+    fn put(&mut self, octets: &[u8]) -> io::Result<usize> {
+        let [first, ..] = octets else {
+            return if self.is_failed {
+                Err(io::Error::from(ErrorKind::BrokenPipe))
+            } else {
+                Ok(0)
+            };
+        };
+        if self.is_failed || self.count >= 10 {
+            self.is_failed = true;
+            return Err(io::Error::from(ErrorKind::BrokenPipe));
+        }
+        self.octets[self.count] = *first;
+        self.count += 1;
+        Ok(1)
+    }
+}
+
+/// Lists are written into a writer with room, whatever growth is refused: they are counted where no buffer grows.
+#[test]
+fn lists_are_written_without_memory(rt: HostRuntime) {
+    let octets = [0x30, 0x08, 0x30, 0x06, 0x02, 0x01, 0x02, 0x02, 0x01, 0x01];
+    let is_put = match Vec::<Vec<u8>>::from_der(rt.alloc(), &octets) {
+        Ok((_, lists)) => {
+            let mut w = Room {
+                octets: [0; 10],
+                count: 0,
+                is_failed: false,
+            };
+            matches!(lists.write_der(rt.alloc(), &mut w), Ok(10)) && w.octets == octets
+        }
+        Err(refusal) => refusal == Err::Error(Error::OutOfMemory),
+    };
+    assert!(rt; is_put);
 }
