@@ -237,7 +237,7 @@ fn answers_are_summed_with_a_check(rt: HostRuntime) -> Result<(), Fail> {
             Err(SerializeError::InvalidLength)
         ),
     ];
-    assert_all("answers past 64 bits", &facts)
+    assert_all("answers past 64 bits, but where out of memory", &facts)
 }
 
 /// A number that tells how often it was counted.
@@ -328,7 +328,7 @@ fn nothing_is_counted(rt: HostRuntime) -> Result<(), Fail> {
         counted(alloc, &Some(item()?), &calls)? == (3, 0),
         counted(alloc, &&nested, &calls)? == (12, 0),
     ];
-    assert_all("items that are not counted", &facts)
+    assert_all("items that are counted where out of memory alone", &facts)
 }
 
 /// A number whose counts and header are refused: it can be put in front alone.
@@ -380,11 +380,9 @@ fn members_are_not_counted(rt: HostRuntime) -> Result<(), Fail> {
     members.insert(InFront(2))?;
     members.insert(InFront(1))?;
     let octets = [0x31, 6, 2, 1, 1, 2, 1, 2];
-    assert_all(
-        "members that are put in front alone",
-        &[
-            members.to_der_vec(alloc)?.as_slice() == octets.as_slice(),
-            matches!(members.to_der_len(), Err(Error::Unsupported)),
-        ],
-    )
+    let facts = [
+        matches!(members.to_der_vec(alloc), Ok(written) if written.as_slice() == octets.as_slice()),
+        matches!(members.to_der_len(), Err(Error::Unsupported)),
+    ];
+    assert_all("members that are counted where out of memory alone", &facts)
 }
