@@ -1,6 +1,7 @@
 -- Refusals of what is put before the octets of a buffer.
 use Rattle.std.proofs.Common.{◌≡◌, inl, inr, ℕ, ◌+◌, ◌<◌, ◌≤◌, suc, Bool, true, false, List, ◌++◌, length, take, drop}
-use Rattle.std.proofs.Common.{get_or, length-append, append_assoc, IfErr, IfOk, Result, Ok, Err, refl, sym, ap, subst, ◌∙◌, arith}
+use Rattle.std.proofs.Common.{get_or, length-append, append_assoc, IfErr, IfOk, Result, Ok, Err, refl, sym, ap, subst}
+use Rattle.std.proofs.Common.{◌∙◌, arith}
 use Rattle.std.specs.List.{flat_map}
 use Rattle.std.proofs.lemmas.Bool.{false≢true}
 use Rattle.std.specs.Prelude.{IsErr, ◌≢◌}
@@ -120,7 +121,8 @@ module _ (own : Error → Type 0) where
 
 -- ---- items
 
-module _ {X : Type 0} (f : X → List ℕ) (xs : List X) (i : ℕ) (x : X) (h : i < length xs) (at : x ≡ get_or xs i x) (k : ℕ) (next : k ≡ suc i) where
+module _ {X : Type 0} (f : X → List ℕ) (xs : List X) (i : ℕ) (x : X) (h : i < length xs) (at : x ≡ get_or xs i x)
+    (k : ℕ) (next : k ≡ suc i) where
   item_after : flat_map f xs ≡ flat_map f (take i xs) ++ (f x ++ flat_map f (drop k xs))
   item_after =
       item_at f xs i x h at ∙ append_assoc (flat_map f (take i xs)) (f x) (flat_map f (drop (suc i) xs))

@@ -26,6 +26,8 @@ TakesSequence octets (Ok x) = (content : List ℕ) × BeginsWithSequence octets 
 TakesSequence octets (Err r) = Unit {0}
 
 -- A reader answered this field and left this, or it was refused as this error tells.
-abbrev pub TakesField : {T : Type 0} → (List ℕ → Result (List ℕ × T) (Refusal Error) → Type 0) → List ℕ → List ℕ → Result T Error → Type 0
+abbrev pub TakesField : {T : Type 0} → (List ℕ → Result (List ℕ × T) (Refusal Error) → Type 0) → List ℕ → List ℕ →
+    Result T Error → Type 0
 TakesField reads octets left (Ok x) = reads octets (Ok (left, x))
-TakesField reads octets left (Err e) = (r : Refusal Error) × reads octets (Err r) × FlattenedTo (λ e f. f ≡ e) (λ e f. f ≡ e) r e
+TakesField reads octets left (Err e) = (r : Refusal Error) × reads octets (Err r) × FlattenedTo (λ e f. f ≡ e)
+    (λ e f. f ≡ e) r e

@@ -5,7 +5,9 @@ ghost use Rattle.asn1_headers.specs.Error.{tells_of_io, written_refusal};
 ghost use Rattle.asn1_headers.specs.declared.error.SerializeError.{SerializeError};
 ghost use Rattle.asn1_headers.specs.declared.error.Error.{Error};
 ghost use Rattle.asn1_headers.specs.Writer.{Wrote, MayRefuse, wrapped_in};
-ghost use Rattle.asn1_rs.specs.Fields.{FieldList, TellsFields, FieldsRefuse, FieldsRefuseCount, PutsField, Puts, TakenFields, counted, collected, taken_in, untold_fields, fields_octets, fields_writing};
+ghost use Rattle.asn1_rs.specs.Fields.{FieldList, TellsFields, FieldsRefuse, FieldsRefuseCount, PutsField, Puts};
+ghost use Rattle.asn1_rs.specs.Fields.{TakenFields, counted, collected, taken_in, untold_fields, fields_octets};
+ghost use Rattle.asn1_rs.specs.Fields.{fields_writing};
 ghost use Rattle.asn1_rs.specs.ToDer.{Refuses, RefusesCount, VectorRefuses};
 
 use crate::header::{add_counts, element_len, put_behind, put_counted_header};
@@ -26,9 +28,9 @@ pub struct FieldsKind;
 /// A value that is written as one constructed element of the universal class, with the tag number of its type: the
 /// encodings of its fields, one after another (X.690 8.9, 8.11).
 ///
-/// So it has [`ToDer`]. A field that is left out is an `Option` that is None, which puts nothing. The fields are put once
-/// for each count, and once for a writing, whose octets are collected in a vector before the header is written: where
-/// a field or memory refuses, nothing is appended.
+/// So it has [`ToDer`]. A field that is left out is an `Option` that is None, which puts nothing. The fields are put
+/// once for each count, and once for a writing, whose octets are collected in a vector before the header is written:
+/// where a field or memory refuses, nothing is appended.
 ///
 ///     impl WritesFields for Point {
 ///         type Number = TagNumber<16>;

@@ -1,6 +1,7 @@
 //! How types of items come by [`ToDer`] and the laws of it: by the contents octets of one element, or by the item
 //! that they hold or refer to.
-ghost use Rattle.std.specs.Prelude.{◌≡◌, ◌≤◌, take, ◌++◌, ◌+◌, ◌<◌, ◌^◌, ℕ, Bool, false, List, length, Err, IfOk, IfErr, IfSome, IsErr};
+ghost use Rattle.std.specs.Prelude.{◌≡◌, ◌≤◌, take, ◌++◌, ◌+◌, ◌<◌, ◌^◌, ℕ, Bool, false, List, length, Err, IfOk};
+ghost use Rattle.std.specs.Prelude.{IfErr, IfSome, IsErr};
 ghost use Rattle.asn1_headers.specs.Error.{vector_refusal};
 ghost use Rattle.asn1_headers.specs.Prepended.{Prepended};
 ghost use Rattle.asn1_rs.specs.Grammar.{FormNumber, FormTakes};
@@ -9,7 +10,8 @@ ghost use Rattle.asn1_rs.specs.ToDer.{Writing, MayRefuseCount, Refuses, RefusesC
 ghost use Rattle.asn1_rs.specs.ToDer.{VectorRefuses, held_writing, whole_allocates, whole_octets, whole_refuses};
 ghost use Rattle.asn1_headers.specs.declared.error.SerializeError.{SerializeError};
 ghost use Rattle.asn1_headers.specs.declared.error.Error.{Error};
-ghost use Rattle.asn1_rs.specs.Kinds.Writing.{universal_header, universal_writing, CountRefused, IsPieceOf, piece_octets, PutRefused, PrependRefused};
+ghost use Rattle.asn1_rs.specs.Kinds.Writing.{universal_header, universal_writing, CountRefused, IsPieceOf};
+ghost use Rattle.asn1_rs.specs.Kinds.Writing.{piece_octets, PutRefused, PrependRefused};
 ghost use Rattle.asn1_rs.specs.Kinds.Writing.{IsWrittenElement};
 ghost use Rattle.asn1_rs.specs.Laws.Forms.{universal_number, universal_number_fits, universal_lawful_writing};
 ghost use Rattle.asn1_rs.specs.Grammar.Item.{IsLawfulWriting};

@@ -2,7 +2,8 @@ use Rattle.std.proofs.Common.{◌-◌, arith, inl}
 use Rattle.std.proofs.lemmas.Result.{err_from_is_err_and}
 use Rattle.asn1_rs.specs.ToDer.{whole_octets, whole_refuses}
 use Rattle.asn1_rs.proofs.Lists.{item_all}
-use Rattle.asn1_rs.proofs.Prepending.{Prepended_item_err, Prepended_item_sum, VectorRefuses_item, MayRefuse_item_sum_back}
+use Rattle.asn1_rs.proofs.Prepending.{Prepended_item_err, Prepended_item_sum, VectorRefuses_item}
+use Rattle.asn1_rs.proofs.Prepending.{MayRefuse_item_sum_back}
 use Rattle.asn1_rs.proofs.asn1_types.lists.prepend_items.Goals as goal
 
 pub returns-in_err-count-clause-prepended : goal.returns-in_err-count-clause-prepended
@@ -41,6 +42,7 @@ returns-in_err-total-clause-refused g c = λ t.
     let told = item_all (whole_octets g.T.ToDer.writing) c.args.items.now (c.loop-at.at - 1) c.index-items-at.result
     (omega arith) c.index-items-at.is g.T.ToDer.writing.tells t in
     rw (p.1, p.2)
-    (inl (MayRefuse_item_sum_back (whole_octets g.T.ToDer.writing) c.args.items.now (c.loop-at.at - 1) c.index-items-at.result
+    (inl (MayRefuse_item_sum_back (whole_octets g.T.ToDer.writing) c.args.items.now (c.loop-at.at - 1)
+    c.index-items-at.result
     (omega arith) c.index-items-at.is c.loop-at.at (omega arith) c.in_err-total.field-0.0
     (c.loop-at.invariant.done t) (c.in_ok-count.ensures.prepended told) c.in_err-total.ensures))

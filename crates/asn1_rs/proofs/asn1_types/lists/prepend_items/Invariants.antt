@@ -9,7 +9,8 @@ invariant-loop-at g l = record {
   within : l.at ≤ length l.items;
   done : All g.T.ToDer.writing.tells l.items →
       Prepended (flat_map (whole_octets g.T.ToDer.writing) (drop l.at l.items)) l.fn.buf l.buf (Ok l.total);
-  none : All g.T.ToDer.writing.tells l.items → All (λ x. HasNone (whole_refuses g.T.ToDer.writing x)) (drop l.at l.items);
+  none : All g.T.ToDer.writing.tells l.items →
+      All (λ x. HasNone (whole_refuses g.T.ToDer.writing x)) (drop l.at l.items);
   counted : All g.T.ToDer.writing.tells l.items →
       All (λ x. HasNone (g.T.ToDer.writing.count_refuses x)) (drop l.at l.items);
 }

@@ -7,8 +7,10 @@ returns-clause-refused g c = λ _. prepend_refuses (g.T.WritesElement.refusal c.
 
 pub returns-clause-accepted : goal.returns-clause-accepted
 returns-clause-accepted g c = λ e _ o. prepend_accepted (g.T.WritesElement.refusal c.args.self.now)
-    (g.T.WritesElement.is_refused c.args.self.now) _ _ _ c.prepend_contents.result c.prepend_contents.ensures.refused e o
+    (g.T.WritesElement.is_refused c.args.self.now) _ _ _ c.prepend_contents.result c.prepend_contents.ensures.refused e
+    o
 
 pub returns-clause-uncounted : goal.returns-clause-uncounted
 returns-clause-uncounted g c = λ e _ o. prepend_uncounted (g.T.WritesElement.refusal c.args.self.now)
-    (g.T.WritesElement.is_refused c.args.self.now) _ _ _ c.prepend_contents.result c.prepend_contents.ensures.refused e o
+    (g.T.WritesElement.is_refused c.args.self.now) _ _ _ c.prepend_contents.result c.prepend_contents.ensures.refused e
+    o

@@ -13,7 +13,10 @@ returns-then-this-gt3-clause-refused g c = λ t. inr (InvalidClass g.row.CLASS, 
 
 pub returns-clause-refused : goal.returns-clause-refused
 returns-clause-refused g c = λ t.
-    class_within g.row.CLASS c.prepend_element.result _ _ (whole_refuses g.T.ToDer.writing c.args.self.now.inner) (omega arith)
-    (handed_refused c.prepend_der-content.result c.prepend_element.result _ _ _ (whole_refuses g.T.ToDer.writing c.args.self.now.inner)
+    class_within g.row.CLASS c.prepend_element.result _ _ (whole_refuses g.T.ToDer.writing c.args.self.now.inner)
+    (omega arith)
+    (handed_refused c.prepend_der-content.result c.prepend_element.result _ _ _
+    (whole_refuses g.T.ToDer.writing c.args.self.now.inner)
     (simp length-append (omega arith)) (c.prepend_der-content.ensures.refused t)
-    (c.prepend_element.ensures.refused _ _ (c.prepend_der-content.ensures.prepended t)) c.prepend_element.ensures.handed)
+    (c.prepend_element.ensures.refused _ _ (c.prepend_der-content.ensures.prepended t))
+    c.prepend_element.ensures.handed)

@@ -13,7 +13,10 @@ returns-then-this-gt3-clause-refused g c = λ t. inr (InvalidClass g.row.CLASS, 
 pub returns-clause-refused : goal.returns-clause-refused
 returns-clause-refused g c = λ t.
     rw (← c.der_constructed-constructed.ensures t)
-    (class_within g.row.CLASS c.prepend_element.result _ _ (g.T.ToDer.writing.content_refuses c.args.self.now.inner) (omega arith)
-    (handed_refused c.prepend_der_content-content.result c.prepend_element.result _ _ _ (g.T.ToDer.writing.content_refuses c.args.self.now.inner)
+    (class_within g.row.CLASS c.prepend_element.result _ _ (g.T.ToDer.writing.content_refuses c.args.self.now.inner)
+    (omega arith)
+    (handed_refused c.prepend_der_content-content.result c.prepend_element.result _ _ _
+    (g.T.ToDer.writing.content_refuses c.args.self.now.inner)
     (simp length-append (omega arith)) (c.prepend_der_content-content.ensures.refused t)
-    (c.prepend_element.ensures.refused _ _ (c.prepend_der_content-content.ensures.prepended t)) c.prepend_element.ensures.handed))
+    (c.prepend_element.ensures.refused _ _ (c.prepend_der_content-content.ensures.prepended t))
+    c.prepend_element.ensures.handed))
