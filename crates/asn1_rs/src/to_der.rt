@@ -92,6 +92,9 @@ pub trait ToDer: DynTagged {
     /// Refused with `IOError` only where the writer failed, or was marked before; with `InvalidLength` only where the
     /// length passes `usize`, or the value itself is so refused. After a refusal a beginning of the encoding was
     /// appended.
+    // This body is proved once for all types, also for those that need no memory (`Header`, `Length`). So where its
+    // buffer cannot grow it goes forward, and does not answer out of memory. A refused value may then leave a beginning;
+    // with memory there it leaves nothing, but no clause can say so: a body is proved for all cases or for none.
     #[inline(always)]
     fn write_der<W: DerWrite>(&self, alloc: Global, w: &mut W) -> SerializeResult<usize>
         ensures wrote { writing.tells self.now →
