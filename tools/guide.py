@@ -2,8 +2,8 @@
 """Looks whether the code of the guides stands in the crates, which the gate proves and tests.
 
 Each block of Rust in README.md and docs/*.md must stand line for line in one file of src/ of asn1_rs_uses, of its tests
-or of asn1_rs, and each block of definitions in one file of their specs/. A block that does not has a line that names it,
-and then this ends with status 1.
+or of asn1_rs, and each block of definitions in one file of their specs/. A block that does not has a line that names
+it, and then this ends with status 1.
 """
 import pathlib
 import re

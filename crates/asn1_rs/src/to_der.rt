@@ -93,7 +93,7 @@ pub trait ToDer: DynTagged {
     /// length passes `usize`, or the value itself is so refused. After a refusal a beginning of the encoding was
     /// appended.
     // This body is proved once for all types, also for those that need no memory (`Header`, `Length`). So where its
-    // buffer cannot grow it goes forward, and does not answer out of memory. A refused value may then leave a beginning;
+    // buffer cannot grow it goes forward, and does not answer out of memory. A refused value may leave a beginning;
     // with memory there it leaves nothing, but no clause can say so: a body is proved for all cases or for none.
     #[inline(always)]
     fn write_der<W: DerWrite>(&self, alloc: Global, w: &mut W) -> SerializeResult<usize>
@@ -153,8 +153,8 @@ pub trait ToDer: DynTagged {
     /// Puts the encoding before the octets of the buffer, and answers its length.
     ///
     /// Refused as `to_der_vec` is, and then an end part of it may stand in the buffer. This body counts the contents
-    /// octets for the header; a type whose contents octets are many or nested has one of its own that puts the header of
-    /// their number.
+    /// octets for the header; a type whose contents octets are many or nested has one of its own, which puts the header
+    /// of their number.
     fn prepend_der(&self, alloc: Global, buf: &mut DerBuffer) -> SerializeResult<usize>
         ensures prepended { writing.tells self.now →
             Prepended (whole_octets writing self.now) buf.old buf.new result }
