@@ -5,9 +5,7 @@ use asn1_rs_uses::{AsReq, KdcReqBody, PrincipalName, Under};
 use std::alloc::Global;
 use std::fmt::Write;
 use std::test::Fail;
-use test_rows::{
-    Calls, assert_all, assert_rows, assert_shown, assert_text, octets_of, push_debug,
-};
+use test_rows::{Calls, assert_all, assert_rows, assert_shown, assert_text, octets_of, push_debug};
 
 /// The request of `asn1_rs_outside_tests`: leaf@TESTS.EXAMPLE asks for krbtgt/TESTS.EXAMPLE until 2037, with the
 /// options 40810010, two elements of padata, three encryption types and two addresses.
@@ -184,7 +182,10 @@ const SERVICE: &str = "3020a003020102a11930171b066b72627467741b0d54455354532e455
 #[test]
 fn a_name_is_made_read_and_written(rt: HostRuntime) -> Result<(), Fail> {
     let alloc = rt.alloc();
-    let parts = vec![in alloc; GeneralString::new("krbtgt"), GeneralString::new("TESTS.EXAMPLE")]?;
+    let parts = vec![in alloc;
+        GeneralString::new("krbtgt"),
+        GeneralString::new("TESTS.EXAMPLE"),
+    ]?;
     let name = PrincipalName {
         name_type: Under::explicit(2),
         name_string: Under::explicit(parts),
