@@ -53,7 +53,11 @@ fn lengths_past_64_bits_are_refused(rt: HostRuntime) -> Result<(), Fail> {
     let list = format!(in alloc; "({counts}, Ok(2), [48, 0])")?;
     assert_counted(alloc, &vec![in alloc; Vast, Vast]?, list.as_str())?;
     let set = format!(in alloc; "({counts}, Ok(2), [49, 0])")?;
-    assert_counted(alloc, &SetOf::new(vec![in alloc; Vast, Vast]?), set.as_str())
+    assert_counted(
+        alloc,
+        &SetOf::new(vec![in alloc; Vast, Vast]?),
+        set.as_str(),
+    )
 }
 
 #[test]
