@@ -108,7 +108,7 @@ pub fn vector_in_class(alloc: Global, x: &InClass) -> SerializeResult<Vec<u8>>
     x.to_der_vec(alloc)
 }
 
-/// Appends a list of such values. Where one is of no class a beginning of the list is appended.
+/// Appends a list of such values. Where one is of no class nothing is appended; without memory a beginning may be.
 pub fn write_list_in_classes<W: DerWrite>(
     xs: &Vec<InClass>,
     alloc: Global,

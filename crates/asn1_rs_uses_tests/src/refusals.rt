@@ -63,18 +63,18 @@ pub(crate) fn three_classes(alloc: Global) -> Result<Vec<InClass>, Fail> {
 }
 
 #[test]
-fn list_is_begun_up_to_a_value_of_no_class(rt: HostRuntime) -> Result<(), Fail> {
+fn lists_with_a_value_of_no_class_are_refused(rt: HostRuntime) -> Result<(), Fail> {
     let alloc = rt.alloc();
     let values = three_classes(alloc)?;
     let mut w = Told::new(Vec::new(alloc));
     let written = write_list_in_classes(&values, alloc, &mut w);
     let held = w.as_inner().as_slice();
-    let expected = "(Ok(11), Err(InvalidClass { class: 4 }), [48, 9, 64, 1, 7, 128, 1, 8])";
+    let expected = "(Ok(11), Err(InvalidClass { class: 4 }), [])";
     assert_shown(alloc, &(values.to_der_len(), written, held), expected)
 }
 
-/// How a set with a value of no class is refused: its header alone is appended.
-const SET_OF_NO_CLASS: &str = "(Err(InvalidClass { class: 4 }), [49, 9])";
+/// How a set with a value of no class is refused: nothing is appended.
+const SET_OF_NO_CLASS: &str = "(Err(InvalidClass { class: 4 }), [])";
 
 #[test]
 fn sets_with_a_value_of_no_class_are_refused(rt: HostRuntime) -> Result<(), Fail> {

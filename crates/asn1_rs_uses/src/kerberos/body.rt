@@ -3,8 +3,8 @@ ghost use Rattle.asn1_rs.specs.FieldReader.{TakesSequence};
 
 use super::{EncryptedData, HostAddress, PrincipalName, Under};
 use asn1_rs::{
-    Any, BitString, Error, FieldReader, Fields, FieldsKind, FromDer, GeneralString, GeneralizedTime,
-    HasKind, ParseResult, SerializeResult, TagNumber, WritesFields,
+    Any, BitString, Error, FieldReader, Fields, FieldsKind, FromDer, GeneralString,
+    GeneralizedTime, HasKind, ParseResult, SerializeResult, TagNumber, WritesFields,
 };
 use std::alloc::Global;
 
