@@ -126,7 +126,8 @@ def functions(names):
         for path in sorted(source.rglob("*.rt")):
             for said, name, head in FUNCTION.findall(read(path)):
                 clauses = re.findall(r"^    ensures (\w+) \{", head, re.M)
-                print(f"{crate}/{path.relative_to(source).with_suffix('')}: {name} ({', '.join(clauses) or 'one clause'})")
+                place = path.relative_to(source).with_suffix("")
+                print(f"{crate}/{place}: {name} ({', '.join(clauses) or 'one clause'})")
                 print(f"  {' '.join(said.replace('///', '').split())}")
 
 

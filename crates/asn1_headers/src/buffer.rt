@@ -15,8 +15,8 @@ use x690::digits::header_into;
 
 /// Octets that grow at the front. Contracts see them as a list.
 ///
-/// Its room doubles, so that many pieces are put in front by as many copies of octets, and not by their square. It keeps
-/// the allocator that it was made with.
+/// Its room doubles, so that many pieces are put in front by as many copies of octets, and not by their square. It
+/// keeps the allocator that it was made with.
 #[derive(Debug, Drop)]
 pub struct DerBuffer {
     alloc: Global,
@@ -63,7 +63,8 @@ impl DerBuffer {
 
     /// Puts the octets before those that it holds.
     ///
-    /// Refused with `InvalidLength` where their number would pass `usize`, else with `OutOfMemory`; then it is as before.
+    /// Refused with `InvalidLength` where their number would pass `usize`, else with `OutOfMemory`; then it is as
+    /// before.
     pub fn prepend(&mut self, octets: &[u8]) -> SerializeResult<()>
         ensures put { MatchResult result (λ _. self.new ≡ octets.now ++ self.old)
             (λ e. (self.new ≡ self.old) × (tells_of_io e ≡ false)

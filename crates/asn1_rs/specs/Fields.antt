@@ -1,12 +1,14 @@
 -- Values that are written as their fields, one after another, under one header (X.690 8.9, 8.11).
-use Rattle.std.specs.Prelude.{◌≡◌, ℕ, ◌+◌, true, List, [], ◌++◌, length, Result, Ok, Err, IfOk, IfErr, IsErr, MatchResult}
+use Rattle.std.specs.Prelude.{◌≡◌, ℕ, ◌+◌, true, List, [], ◌++◌, length, Result, Ok, Err, IfOk, IfErr, IsErr}
+use Rattle.std.specs.Prelude.{MatchResult}
 use Rattle.x690.specs.Strict.{header_octets}
 use Rattle.asn1_headers.specs.declared.error.Error.{Error}
 use Rattle.asn1_headers.specs.declared.error.SerializeError.{SerializeError}
 use Rattle.asn1_headers.specs.Error.{written_refusal}
 use Rattle.asn1_rs.specs.declared.kinds.fields.Fields.{Fields}
 use Rattle.asn1_rs.specs.declared.kinds.fields.Taken.TheVariants as taken
-use Rattle.asn1_rs.specs.ToDer.{Writing, Either, IntoVector, RefusesCount, VectorRefuses, WrittenRefusal, whole_octets, whole_refuses}
+use Rattle.asn1_rs.specs.ToDer.{Writing, Either, IntoVector, RefusesCount, VectorRefuses, WrittenRefusal, whole_octets}
+use Rattle.asn1_rs.specs.ToDer.{whole_refuses}
 
 -- what was taken of fields so far: the number of their octets, or the octets
 pub data TakenFields : Type 0 where
@@ -14,7 +16,8 @@ pub data TakenFields : Type 0 where
   collected : List ℕ → TakenFields
 
 abbrev pub taken_in : Fields → TakenFields
-taken_in x = elim x.taken as (λ _. TakenFields) [ taken.Counted n ↦ counted n | taken.Collected a w ↦ collected w.inner.items ]
+taken_in x = elim x.taken as (λ _. TakenFields)
+    [ taken.Counted n ↦ counted n | taken.Collected a w ↦ collected w.inner.items ]
 
 -- the octets of one more field behind those before
 abbrev pub takes : List ℕ → TakenFields → TakenFields
@@ -33,9 +36,11 @@ WritingRefuses (counted n) writes e = ⊥
 WritingRefuses (collected o) writes e = writes e
 
 -- One field was put, or refused.
-pub record PutsField {S : Type 0} (w : Writing S) (x : S) (old new : TakenFields) (answer : Result (Unit {0}) SerializeError) : Type 0 where
+pub record PutsField {S : Type 0} (w : Writing S) (x : S) (old new : TakenFields)
+    (answer : Result (Unit {0}) SerializeError) : Type 0 where
   pub taken : w.tells x → IfOk answer (λ _. new ≡ takes (whole_octets w x) old)
-  pub refused : w.tells x → IfErr answer (FieldRefusal old (length (whole_octets w x)) (w.count_refuses x) (whole_refuses w x))
+  pub refused : w.tells x → IfErr answer
+      (FieldRefusal old (length (whole_octets w x)) (w.count_refuses x) (whole_refuses w x))
   pub uncounted : (e : Error) → w.tells x → w.count_refuses x e → IsErr answer
   pub accepted : (e : SerializeError) → w.tells x → WritingRefuses old (whole_refuses w x) e → IsErr answer
 
@@ -71,7 +76,8 @@ FieldsRefuse (field w of rest) x e = Either (whole_refuses w (of x)) (FieldsRefu
 
 -- The fields were put in their order; or those before one that was refused, and that refusal is the answer. What was
 -- taken in between is tied by the puts.
-unfoldable pub PutsEach : {S : Type 0} → FieldList S → S → TakenFields → TakenFields → Result (Unit {0}) SerializeError → Type 0
+unfoldable pub PutsEach : {S : Type 0} → FieldList S → S → TakenFields → TakenFields →
+    Result (Unit {0}) SerializeError → Type 0
 PutsEach untold_fields x old new answer = Unit {0}
 PutsEach no_fields x old new answer = (answer ≡ Ok tt) × (new ≡ old)
 PutsEach (field w of rest) x old new answer = (mid : TakenFields) × (first : Result (Unit {0}) SerializeError) ×

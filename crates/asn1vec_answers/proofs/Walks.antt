@@ -55,7 +55,7 @@ all_seen {S} {A} steps first xs gives begin now next start seen led answer step 
 pub text_more : {A : Type 0} (text_of : A → List ℕ) (seen : List (Bor A)) (r : Bor A)
     (front now separator between after : List ℕ) →
     now ≡ front ++ (codes "[" ++ join_by text_of (codes ",") (read_through seen)) →
-        separator ≡ before_next (codes ",") seen
+    separator ≡ before_next (codes ",") seen
     → between ≡ now ++ separator → after ≡ between ++ text_of r.now →
     after ≡ front ++ (codes "[" ++ join_by text_of (codes ",") (read_through (seen ++ r ∷ [])))
 text_more {A} text_of seen r front now separator between after is marks grown more =

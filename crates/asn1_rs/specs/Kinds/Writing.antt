@@ -72,8 +72,7 @@ universal_writing number octets is_refused refusal =
     }
 
 -- lists of items that are written as `item` says: a constructed element with this number, of the items in their order
--- writing one takes no memory but its items' today; by `write_allocates` a writer that fills a buffer from its end
--- changes no clause
+-- one takes no memory of its own that it can't do without: where its buffer can't grow, it is written forward
 abbrev pub list_writing : {S W : Type 0} → ℕ → (W → List S) → Writing S → Writing W
 list_writing number items item = record {
   tells = λ v. All item.tells (items v);
@@ -86,7 +85,7 @@ list_writing number items item = record {
   refuses_first = λ v e. ⊥;
   count_allocates = item.count_allocates;
   content_allocates = whole_allocates item;
-  write_allocates = true;
+  write_allocates = false;
 }
 
 -- sets of such items: all are written into a vector, from which their encodings are joined in ascending order

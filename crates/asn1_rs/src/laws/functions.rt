@@ -89,8 +89,9 @@ pub fn reader_is_exact_by_der<'a, T: LawfulDer<'a, E>, E: From<Error>>()
 
 /// An octet string has at most one value, and a value at most one strict encoding.
 ///
-/// One word begins an input, by BER and by DER, with one value and one rest; and no word is empty. The strict encoding of a value is a word
-/// by BER and by DER with this value; no other value has it, and it begins no other strict encoding.
+/// One word begins an input, by BER and by DER, with one value and one rest; and no word is empty. The strict encoding
+/// of a value is a word by BER and by DER with this value; no other value has it, and it begins no other strict
+/// encoding.
 pub fn words_and_values_are_unique<T: LawfulItem>()
     ensures ber_value { (o : List ℕ) (v w : T.grammar.Value) → (ber_words T.grammar) o v →
         (ber_words T.grammar) o w → v ≡ w }

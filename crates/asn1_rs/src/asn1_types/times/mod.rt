@@ -3,7 +3,8 @@ ghost use Rattle.std.specs.Prelude.{◌≡◌, ◌<◌, ◌^◌, Some};
 ghost use Rattle.x690.specs.Times.{MostMilliseconds, moment_text};
 ghost use Rattle.asn1_rs.specs.Checks.{but_text};
 ghost use Rattle.asn1_rs.specs.Leaf.{HaveOneRefusalUpTo};
-ghost use Rattle.asn1_rs.specs.Times.{moment_cmp, moment_of, IsMoment, IsZone, RefusesText, utc_time_leaf, generalized_time_leaf};
+ghost use Rattle.asn1_rs.specs.Times.{moment_cmp, moment_of, IsMoment, IsZone, RefusesText, utc_time_leaf};
+ghost use Rattle.asn1_rs.specs.Times.{generalized_time_leaf};
 
 pub mod civil;
 pub mod generalized_time;

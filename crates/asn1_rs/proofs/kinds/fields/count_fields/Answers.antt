@@ -9,10 +9,12 @@ returns-in-Ok-clause-count g c = λ t.
     omega (arith, c.count.ensures (0 + length (fields_octets g.T.WritesFields.field_list c.args.value.now)) taken)
 
 pub returns-in-Ok-clause-accepted : goal.returns-in-Ok-clause-accepted
-returns-in-Ok-clause-accepted g c = λ e t o. absurd (puts_uncounted g.T.WritesFields.field_list c.args.value.now (counted 0) _ e t o c.in-Ok.ensures)
+returns-in-Ok-clause-accepted g c = λ e t o.
+    absurd (puts_uncounted g.T.WritesFields.field_list c.args.value.now (counted 0) _ e t o c.in-Ok.ensures)
 
 pub returns-clause-refused : goal.returns-clause-refused
 returns-clause-refused g c = λ t.
     let r = puts_refused g.T.WritesFields.field_list c.args.value.now (counted 0) _ c.in-Err.e t c.in-Err.ensures in
     rw (c.refusal_in_counting.ensures r.0 r.2)
-    (from_none_counted (length (fields_octets g.T.WritesFields.field_list c.args.value.now)) (FieldsRefuseCount g.T.WritesFields.field_list c.args.value.now) r.0 r.1)
+    (from_none_counted (length (fields_octets g.T.WritesFields.field_list c.args.value.now))
+    (FieldsRefuseCount g.T.WritesFields.field_list c.args.value.now) r.0 r.1)

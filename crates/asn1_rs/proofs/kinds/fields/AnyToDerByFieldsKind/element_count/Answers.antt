@@ -8,8 +8,14 @@ use Rattle.asn1_rs.proofs.kinds.fields.AnyToDerByFieldsKind.element_count.Goals 
 pub returns-clause-refused : goal.returns-clause-refused
 returns-clause-refused g c = λ t.
     let joined = fields_octets g.T.WritesFields.field_list c.args.self.now in
-    let shorter : length joined ≤ length (header_octets 0 true c.TAG.result.0 (length joined) ++ joined) = simp length-append (omega arith) in
-    rw (← c.TAG.ensures) (element_refused true _ _ (FieldsRefuseCount g.T.WritesFields.field_list c.args.self.now) c.count_fields.result c.element_len.result (c.count_fields.ensures.refused t) (c.element_len.ensures.why true 0 true joined (c.count_fields.ensures.count t)) (λ e m. MayRefuseCount_more e true _ _ shorter m) c.element_len.ensures.refused)
+    let shorter : length joined ≤ length (header_octets 0 true c.TAG.result.0 (length joined) ++ joined) =
+    simp length-append (omega arith) in
+    rw (← c.TAG.ensures) (element_refused true _ _ (FieldsRefuseCount g.T.WritesFields.field_list c.args.self.now)
+    c.count_fields.result c.element_len.result (c.count_fields.ensures.refused t)
+    (c.element_len.ensures.why true 0 true joined (c.count_fields.ensures.count t))
+    (λ e m. MayRefuseCount_more e true _ _ shorter m) c.element_len.ensures.refused)
 
 pub returns-clause-accepted : goal.returns-clause-accepted
-returns-clause-accepted g c = λ e t o. element_accepted (FieldsRefuseCount g.T.WritesFields.field_list c.args.self.now) c.count_fields.result c.element_len.result (λ e. c.count_fields.ensures.accepted e t) c.element_len.ensures.refused e o
+returns-clause-accepted g c = λ e t o. element_accepted (FieldsRefuseCount g.T.WritesFields.field_list c.args.self.now)
+    c.count_fields.result c.element_len.result (λ e. c.count_fields.ensures.accepted e t) c.element_len.ensures.refused
+    e o
