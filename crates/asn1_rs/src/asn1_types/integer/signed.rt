@@ -15,7 +15,7 @@ use crate::laws::LawfulMember;
 use crate::traits::{CheckDerConstraints, DerAutoDerive, FromAny, Tagged};
 use asn1_headers::error::{Error, SerializeResult};
 use asn1_headers::tag::Tag;
-use asn1_headers::writer::{DerWrite, put_all};
+use asn1_headers::writer::DerWrite;
 use std::alloc::Global;
 use x690::signed::{integer_element, signed_octets_count};
 
