@@ -2,12 +2,14 @@
 //! and a list that a type of a caller's holds.
 ghost use Rattle.std.specs.Prelude.{◌≡◌, length, IfOk};
 ghost use Rattle.asn1_headers.specs.Writer.{Wrote};
+ghost use Rattle.asn1_headers.specs.Prepended.{Prepended};
 ghost use Rattle.asn1_rs_uses.specs.Labels.{label_octets, labels_octets, headed_octets, AreEachCall};
 ghost use Rattle.asn1_rs.specs.ToDer.{whole_octets};
 
 use asn1_rs::{
-    DerWrite, Error, Explicit, HasKind, HolderKind, Holds, Implicit, LawfulWrite, OctetString,
-    SerializeResult, TaggedExplicit, TaggedParser, TaggedValue, ToDer, strict_vec, write_strict,
+    DerBuffer, DerWrite, Error, Explicit, HasKind, HolderKind, Holds, Implicit, LawfulWrite,
+    OctetString, SerializeResult, TaggedExplicit, TaggedParser, TaggedValue, ToDer, strict_vec,
+    write_strict,
 };
 use std::alloc::Global;
 
@@ -39,6 +41,17 @@ pub fn write_label<W: DerWrite>(
     ensures { Wrote (label_octets label.now) (W.state w.old) (W.state w.new) result }
 {
     label.write_der(alloc, w)
+}
+
+/// Puts a label, or nothing where it is left out, before the octets of a buffer.
+pub fn prepend_label(
+    label: &Option<Label<'_>>,
+    alloc: Global,
+    buf: &mut DerBuffer,
+) -> SerializeResult<usize>
+    ensures { Prepended (label_octets label.now) buf.old buf.new result }
+{
+    label.prepend_der(alloc, buf)
 }
 
 /// A label in a vector, or no octets where it is left out.

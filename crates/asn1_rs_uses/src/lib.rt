@@ -87,6 +87,7 @@ pub use labels::directory_by_each_call;
 pub use labels::headed_by_each_call;
 pub use labels::label_vec;
 pub use labels::labels_by_each_call;
+pub use labels::prepend_label;
 pub use labels::write_label;
 pub use ldap::Bind;
 pub use ldap::Control;

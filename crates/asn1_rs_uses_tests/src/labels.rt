@@ -1,10 +1,10 @@
 //! Borrowed octet strings under tags: read, counted and written by each call.
 
-use asn1_rs::{Class, Error, OctetString, ParseResult, TaggedParser, Told};
+use asn1_rs::{Class, DerBuffer, Error, OctetString, ParseResult, TaggedParser, Told};
 use asn1_rs_uses::{
     Directory, GeneralString, Headed, Label, Labels, count_label, directory_by_each_call,
     headed_by_each_call, label_vec, labels_by_each_call, octets_handed_on, octets_handed_under,
-    octets_under, optional_octets, string_under, write_label,
+    octets_under, optional_octets, prepend_label, string_under, write_label,
 };
 use std::alloc::Global;
 use std::test::Fail;
@@ -24,6 +24,21 @@ fn an_optional_label_is_counted_and_written(rt: HostRuntime) -> Result<(), Fail>
     );
     let expected = "((Ok(5), Ok(5), Ok(0), Ok([161, 3, 4, 1, 7])), [161, 3, 4, 1, 7])";
     assert_shown(alloc, &(answers, w.as_inner().as_slice()), expected)
+}
+
+/// The label stands before ff, and nothing before it where it is left out (X.690 8.14).
+#[test]
+fn an_optional_label_is_put_in_front(rt: HostRuntime) -> Result<(), Fail> {
+    let alloc = rt.alloc();
+    let mut buf = DerBuffer::new(alloc);
+    buf.prepend(&[0xff])?;
+    let label = Some(Label::explicit(OctetString::new(&[7])));
+    let answers = (
+        prepend_label(&label, alloc, &mut buf),
+        prepend_label(&None, alloc, &mut buf),
+    );
+    let expected = "((Ok(5), Ok(0)), [161, 3, 4, 1, 7, 255])";
+    assert_shown(alloc, &(answers, buf.as_bytes()), expected)
 }
 
 /// Two general strings in a sequence under a tag. Values by X.690 8.14, 8.10.
