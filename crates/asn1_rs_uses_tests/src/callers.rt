@@ -1,12 +1,13 @@
 //! Each caller once.
 
-use asn1_rs::{Error, FromDer, ToDer};
+use asn1_rs::{Error, FromDer, Tag, ToDer};
 use asn1_rs_uses::{
     Fingerprint, InClass, Level, Message, NamePart, Point, SerialNumber, any_text, check_numbers,
-    contents_octets, count_number, count_of_numbers, elements_in, is_same_number, is_strict_front,
-    items_of, numbers_in, numbers_of, read_bit_string, read_element, read_header, read_integer,
-    read_number, read_number_by_ber, read_numbers, read_octet_string, read_octets, read_sequence,
-    read_utf8_string, set_of_numbers, write_number, write_numbers,
+    contents_octets, count_number, count_of_numbers, elements_in, has_tag_of, is_directory_name,
+    is_same_number, is_strict_front, items_of, numbers_in, numbers_of, read_bit_string,
+    read_element, read_header, read_integer, read_number, read_number_by_ber, read_numbers,
+    read_octet_string, read_octets, read_sequence, read_utf8_string, set_of_numbers, write_number,
+    write_numbers,
 };
 use std::test::Fail;
 use test_rows::{assert_all, assert_shown};
@@ -181,6 +182,19 @@ fn joined_numbers_are_read(rt: HostRuntime) -> Result<(), Fail> {
     );
     let expected = "(Ok([5, 4]), Ok(()), Err(InvalidTag), ([255], [5, 4]))";
     assert_shown(alloc, &answers, expected)
+}
+
+/// By X.680 8.4; a name of a directory is a PrintableString or a UTF8String.
+#[test]
+fn types_are_told_by_tag_numbers(rt: HostRuntime) -> Result<(), Fail> {
+    let answers = (
+        has_tag_of::<u8>(Tag(2)),
+        has_tag_of::<u8>(Tag(10)),
+        is_directory_name(Tag(19)),
+        is_directory_name(Tag(12)),
+        is_directory_name(Tag(18)),
+    );
+    assert_shown(rt.alloc(), &answers, "(true, false, true, true, false)")
 }
 
 #[test]
