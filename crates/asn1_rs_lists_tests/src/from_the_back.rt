@@ -113,7 +113,7 @@ fn classes_past_3_are_refused_first(rt: HostRuntime) -> Result<(), Fail> {
     assert_shown(alloc, &(answers, buf.as_bytes()), expected)
 }
 
-/// Of three times the second one has an offset: nothing of the list is appended.
+/// Of three times the second one has an offset: nothing of the list is appended, and the writer is not marked.
 #[test]
 fn refused_items_leave_nothing_behind(rt: HostRuntime) -> Result<(), Fail> {
     let alloc = rt.alloc();
@@ -126,8 +126,8 @@ fn refused_items_leave_nothing_behind(rt: HostRuntime) -> Result<(), Fail> {
     let answer = times.write_der(alloc, &mut w);
     assert_shown(
         alloc,
-        &(answer, w.as_inner()),
-        "(Err(ASN1Error(InvalidDateTime)), [])",
+        &(answer, w.is_failed(), w.as_inner()),
+        "(Err(ASN1Error(InvalidDateTime)), false, [])",
     )
 }
 
