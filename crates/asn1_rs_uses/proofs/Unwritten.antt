@@ -65,14 +65,14 @@ names_some xs (k, x, lt, at, h) =
     (e, (k, x, lt, at, inl (h, refl)), (k, x, lt, at, (e, inl (h, refl), refl)))
 
 -- a list is refused as any writing, or with the class of an item
-pub list_refused : (n : ℕ) (xs : List InClass) (r : Result ℕ SerializeError) →
-    IfErr r (Refuses true n (Either (WrittenRefusal (SomeRefuses (λ (x : InClass) e. ⊥) xs))
+pub list_refused : (takes : Bool) (n : ℕ) (xs : List InClass) (r : Result ℕ SerializeError) →
+    IfErr r (Refuses takes n (Either (WrittenRefusal (SomeRefuses (λ (x : InClass) e. ⊥) xs))
     (SomeRefuses (λ x. Either (NamesNoClass x.class) (NamesNoClass x.class)) xs))) →
-    IfErr r (λ e. MayRefuse true n e ⊎ TellsOfNoClass xs e)
-list_refused n xs (Ok k) why = tt
-list_refused n xs (Err e) (inl may) = inl may
-list_refused n xs (Err e) (inr (inl (f, (k, x, lt, at, none), is))) = absurd none
-list_refused n xs (Err e) (inr (inr (k, x, lt, at, own))) = inr (k, x, lt, at, either_same (NamesNoClass x.class) e own)
+    IfErr r (λ e. MayRefuse takes n e ⊎ TellsOfNoClass xs e)
+list_refused takes n xs (Ok k) why = tt
+list_refused takes n xs (Err e) (inl may) = inl may
+list_refused takes n xs (Err e) (inr (inl (f, (k, x, lt, at, none), is))) = absurd none
+list_refused takes n xs (Err e) (inr (inr (k, x, lt, at, own))) = inr (k, x, lt, at, either_same (NamesNoClass x.class) e own)
 
 may_as_any : (takes : Bool) (n : ℕ) (e : SerializeError) → MayRefuse takes n e → AsAnyWriting e
 may_as_any takes n (serialize_errors.ASN1Error e) p = p
@@ -116,12 +116,13 @@ written_empty octets e (errors.InvalidValue tag msg, own, is) = rw is own.1
 written_empty octets e (f, own, is) = absurd own.1
 
 -- nor is it written, and nothing is appended
-may_at_once : (n : ℕ) (e : SerializeError) → MayRefuse true n e → tells_of_io e ≡ false → IsMemoryOrLength e
-may_at_once n (serialize_errors.ASN1Error e) p h = absurd p
-may_at_once n (serialize_errors.InvalidClass c) p h = absurd p
-may_at_once n serialize_errors.InvalidLength p h = inr refl
-may_at_once n (serialize_errors.IOError e) p h = cc
-may_at_once n serialize_errors.OutOfMemory p h = inl refl
+may_at_once : (takes : Bool) (n : ℕ) (e : SerializeError) → MayRefuse takes n e → tells_of_io e ≡ false →
+    IsMemoryOrLength e
+may_at_once takes n (serialize_errors.ASN1Error e) p h = absurd p
+may_at_once takes n (serialize_errors.InvalidClass c) p h = absurd p
+may_at_once takes n serialize_errors.InvalidLength p h = inr refl
+may_at_once takes n (serialize_errors.IOError e) p h = cc
+may_at_once takes n serialize_errors.OutOfMemory p h = inl refl
 
 own_unwritten : (parts : List NamePart) (e : SerializeError) →
     Either (WrittenRefusal (SomeRefuses (λ p. IsEmptyPart p.0.now) parts))
@@ -131,13 +132,13 @@ own_unwritten parts e (inl (f, (k, p, lt, at, own), is)) = written_empty p.0.now
 own_unwritten parts e (inr (k, p, lt, at, own)) =
     written_empty p.0.now e (either_same (WrittenRefusal (IsEmptyPart p.0.now)) e own)
 
-pub name_unwritten : (n : ℕ) (parts : List NamePart) (old new : WriterState) (r : Result ℕ SerializeError) →
-    IsRefusedAtOnce true n (Either (WrittenRefusal (SomeRefuses (λ p. IsEmptyPart p.0.now) parts))
+pub name_unwritten : (takes : Bool) (n : ℕ) (parts : List NamePart) (old new : WriterState) (r : Result ℕ SerializeError) →
+    IsRefusedAtOnce takes n (Either (WrittenRefusal (SomeRefuses (λ p. IsEmptyPart p.0.now) parts))
     (SomeRefuses (λ p. Either (WrittenRefusal (IsEmptyPart p.0.now)) (WrittenRefusal (IsEmptyPart p.0.now))) parts)) old
     new r → IsErrAnd r (λ e. WrittenEmptyPart e ⊎ IsMemoryOrLength e) × (new ≡ old)
-name_unwritten n parts old new r (e, why, at) =
+name_unwritten takes n parts old new r (e, why, at) =
     let telling : WrittenEmptyPart e ⊎ IsMemoryOrLength e =
-    elim why [ inl may ↦ inr (may_at_once n e may.0 may.1) | inr own ↦ inl (own_unwritten parts e own) ] in
+    elim why [ inl may ↦ inr (may_at_once takes n e may.0 may.1) | inr own ↦ inl (own_unwritten parts e own) ] in
     (rw at.refused telling, at.kept)
 
 -- so few octets has the header of an element of one

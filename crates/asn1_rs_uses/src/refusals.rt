@@ -115,7 +115,7 @@ pub fn write_list_in_classes<W: DerWrite>(
     w: &mut W,
 ) -> SerializeResult<usize>
     ensures some { SomeInNoClass xs.now.items → IsErr result }
-    ensures why { IfErr result (λ e. MayRefuse true (length (octets_in_classes xs.now.items)) e
+    ensures why { IfErr result (λ e. MayRefuse false (length (octets_in_classes xs.now.items)) e
         ⊎ TellsOfNoClass xs.now.items e) }
     ensures begun { OnErr result
         (GrewByABeginning (W.state w.old).told (W.state w.new).told

@@ -392,7 +392,7 @@ alone allocates I = record {
   writing_allocates = allocates;
 }
 
--- lists and sets: shown by their items
+-- sets: shown by their items, and sorted in memory
 abbrev pub collection : Item → Meaning
 collection = alone true
 
@@ -416,21 +416,21 @@ meaning_of Integer = lent_leaf any_integer_leaf octets_held in_hexadecimal
 meaning_of Octets = lent_leaf octet_string_leaf cow_of in_hexadecimal
 meaning_of Bits = lent_leaf bit_string_leaf (λ x. x.content) bits_text
 meaning_of Eoc = ends
-meaning_of VecU8 = collection (vector (unsigned_item 1))
-meaning_of VecU32 = collection (vector (unsigned_item 4))
-meaning_of VecBool = collection (vector (leaf_item bool_leaf truth_text))
-meaning_of VecVecU8 = collection (vector (vector (unsigned_item 1)))
+meaning_of VecU8 = alone false (vector (unsigned_item 1))
+meaning_of VecU32 = alone false (vector (unsigned_item 4))
+meaning_of VecBool = alone false (vector (leaf_item bool_leaf truth_text))
+meaning_of VecVecU8 = alone false (vector (vector (unsigned_item 1)))
 meaning_of SetOfU8 = collection (unordered_set (unsigned_item 1))
 meaning_of BTreeSetU8 = collection (ordered_set (unsigned_item 1) nat_cmp)
 meaning_of Sequence = lent_leaf sequence_leaf (λ x. x.content) in_hexadecimal
 meaning_of Set = lent_leaf set_leaf (λ x. x.content) in_hexadecimal
-meaning_of SeqOfU32 = collection (sequence_of (unsigned_item 4))
+meaning_of SeqOfU32 = alone false (sequence_of (unsigned_item 4))
 meaning_of Explicit0U32 = alone false (explicit 0 (unsigned_item 4))
 meaning_of Explicit31U8 = alone false (explicit 31 (unsigned_item 1))
-meaning_of VecExplicit31U8 = collection (vector (explicit 31 (unsigned_item 1)))
+meaning_of VecExplicit31U8 = alone false (vector (explicit 31 (unsigned_item 1)))
 meaning_of OptU8 = optional 2 (unsigned 1)
 meaning_of HashSetI8 = collection (hashed_set (signed_item 1) int_cmp)
-meaning_of Implicit1VecU16 = collection (implicit_vector 1 (unsigned_item 2))
+meaning_of Implicit1VecU16 = alone false (implicit_vector 1 (unsigned_item 2))
 meaning_of Oid = identifiers
 meaning_of Utf8 = strings Utf8Kind 12 IsUtf8
 meaning_of Numeric = strings NumericKind 18 (AllIn is_numeric)
@@ -449,7 +449,6 @@ meaning_of GenTime = times generalized_time_leaf generalized_time_refused genera
 meaning_of Pdv = data_values
 
 -- the names whose readers or writers allocate: those of lists and sets, and of strings whose text is decoded
--- by their own word: that `vec.u8` is written with no memory of its own is not said by the library
 abbrev pub name_allocates : TypeName → Truth
 name_allocates VecU8 = true
 name_allocates VecU32 = true

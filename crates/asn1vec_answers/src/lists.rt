@@ -56,7 +56,8 @@ impl<T: Encoded + AlwaysDer> Encoded for Vec<T> {
     ghost text_of = { λ v. list_text T.text_of v.items };
 
     ghost Encodes = { λ v.
-        StrictEncodingIfAny (ListForm 16 T.grammar.Form) true (map T.grammar.value v.items) };
+        StrictEncodingIfAny (ListForm 16 T.grammar.Form) (whole_allocates Self.writing)
+        (map T.grammar.value v.items) };
 
     fn show(&self, text: &mut Vec<u8>) -> Result<(), AllocError> {
         push_items(self.iter(), text)
@@ -72,7 +73,7 @@ impl<T: Encoded + AlwaysDer> Encoded for SequenceOf<T> {
     ghost text_of = { λ s. list_text T.text_of (sequence_items s) };
 
     ghost Encodes = { λ s.
-        StrictEncodingIfAny (ListForm 16 T.grammar.Form) true
+        StrictEncodingIfAny (ListForm 16 T.grammar.Form) (whole_allocates Self.writing)
         (map T.grammar.value (sequence_items s)) };
 
     fn show(&self, text: &mut Vec<u8>) -> Result<(), AllocError> {

@@ -8,4 +8,4 @@ returns-clause-some g c = λ a.
 
 pub returns-clause-why : goal.returns-clause-why
 returns-clause-why g c =
-    list_refused _ c.args.xs.now.items c.write_der.result (c.write_der.ensures.refused (λ k d h. tt))
+    list_refused _ _ c.args.xs.now.items c.write_der.result (c.write_der.ensures.refused (λ k d h. tt))
