@@ -1,6 +1,8 @@
 //! Calls that allocate, each twice. Where one growth is refused, as `tools/refused_growths` has it, one call tells of
 //! out of memory, and the other answers as ever.
 
+ghost use Rattle.std.specs.Prelude.{None};
+
 use asn1_rs::{DerWrite, Err, Error, FromDer, Integer, SerializeError, SetOf, ToDer};
 use std::alloc::Global;
 use std::collections::BTreeSet;
