@@ -1,5 +1,4 @@
 //! Types of a caller's own, written by hand where the original crate's tests derive them: their copies borrow nothing.
-ghost use Rattle.std.specs.Prelude.{Unit};
 
 use asn1_rs::{Error, ToStatic};
 use std::alloc::Global;

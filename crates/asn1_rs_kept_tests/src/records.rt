@@ -37,7 +37,9 @@ where
     C: FromDer<'a, Error>,
 {
     fn from_der(alloc: Global, octets: &'a [u8]) -> ParseResult<'a, Record<B, C>, Error> {
-        Sequence::from_der_and_then(octets, |content| Record::read(alloc, content))
+        let (rest, content) = Sequence::from_der_and_then(octets, |content| Ok((&[], content)))?;
+        let (_, record) = Record::read(alloc, content)?;
+        Ok((rest, record))
     }
 }
 
