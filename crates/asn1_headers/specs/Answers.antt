@@ -34,7 +34,7 @@ IsFinal is_cut r G input = (more : List ℕ) → Speaks is_cut r more → NoFron
 
 -- the refusal may report out of memory, where the reader allocates
 abbrev pub TellsMemory : {E : Type 0} → Bool → (Error → E → Type 0) → Refusal E → Type 0
-TellsMemory {E} takes gives r = IsTrue takes × ((e : E) × gives OutOfMemory e × (r ≡ refused e))
+TellsMemory {E} allocates gives r = IsTrue allocates × ((e : E) × gives OutOfMemory e × (r ≡ refused e))
 
 -- a refusal that is made of another cause than that memory is out, or that is not what that is made into
 abbrev pub IsOther : {E : Type 0} → (Error → E → Type 0) → E → Type 0

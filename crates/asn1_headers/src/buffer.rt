@@ -65,6 +65,7 @@ impl DerBuffer {
     ///
     /// Refused with `InvalidLength` where their number would pass `usize`, else with `OutOfMemory`; then it is as
     /// before.
+    #[inline(always)]
     pub fn prepend(&mut self, octets: &[u8]) -> SerializeResult<()>
         ensures put { MatchResult result (λ _. self.new ≡ octets.now ++ self.old)
             (λ e. (self.new ≡ self.old) × (tells_of_io e ≡ false)
@@ -72,20 +73,34 @@ impl DerBuffer {
         ensures refused { IfErr result
             (IsLengthOrMemory (length octets.now + length self.old)) }
     {
-        let count = octets.len();
-        if count > self.start {
-            let held = self.octets.len() - self.start;
-            let Some(total) = held.checked_add(count) else {
-                return Err(SerializeError::InvalidLength);
-            };
-            let capacity = total.saturating_mul(2).max(FIRST_ROOM);
-            let grown = match moved_back(self.alloc, &self.octets[self.start..], capacity) {
-                Ok(grown) => grown,
-                Err(_) => return Err(SerializeError::OutOfMemory),
-            };
-            self.octets = grown;
-            self.start = capacity - held;
+        if octets.len() > self.start {
+            return self.grow_and_prepend(octets);
         }
+        put_before(&mut self.octets, self.start, octets);
+        self.start -= octets.len();
+        Ok(())
+    }
+
+    /// The same where there is no room for them.
+    fn grow_and_prepend(&mut self, octets: &[u8]) -> SerializeResult<()>
+        ensures put { MatchResult result (λ _. self.new ≡ octets.now ++ self.old)
+            (λ e. (self.new ≡ self.old) × (tells_of_io e ≡ false)
+            × MayRefuse true (length octets.now + length self.old) e) }
+        ensures refused { IfErr result
+            (IsLengthOrMemory (length octets.now + length self.old)) }
+    {
+        let count = octets.len();
+        let held = self.octets.len() - self.start;
+        let Some(total) = held.checked_add(count) else {
+            return Err(SerializeError::InvalidLength);
+        };
+        let capacity = total.saturating_mul(2).max(FIRST_ROOM);
+        let grown = match moved_back(self.alloc, &self.octets[self.start..], capacity) {
+            Ok(grown) => grown,
+            Err(_) => return Err(SerializeError::OutOfMemory),
+        };
+        self.octets = grown;
+        self.start = capacity - held;
         put_before(&mut self.octets, self.start, octets);
         self.start -= count;
         Ok(())
@@ -104,6 +119,7 @@ fn moved_back(alloc: Global, octets: &[u8], capacity: usize) -> Result<Vec<u8>, 
 }
 
 /// Writes the octets before a place.
+#[inline(always)]
 fn put_before(buffer: &mut [u8], end: usize, octets: &[u8])
     requires room { length octets.now ≤ end }
     requires within { end ≤ length buffer.old }
@@ -114,6 +130,7 @@ fn put_before(buffer: &mut [u8], end: usize, octets: &[u8])
 }
 
 /// Puts octets in front, and answers their number.
+#[inline(always)]
 pub fn prepend_octets(octets: &[u8], buf: &mut DerBuffer) -> SerializeResult<usize>
     ensures prepended { Prepended octets.now buf.old buf.new result }
     ensures refused { IfErr result (MayRefuse true (length octets.now + length buf.old)) }

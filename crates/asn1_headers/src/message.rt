@@ -3,8 +3,8 @@
 //! A text that is borrowed for `'static` made `Error` name that lifetime, and callers could not write an optional value
 //! under a tag that borrows. Where a type argument names two lifetimes, of which such an `Error` counts as one, no call
 //! has a proof whose signature names `'static` too. The smallest one is `x.len()` at an
-//! `Option<Tagged<Leaf<'_>, Error>>`, where `len` answers `Result<usize, Error>` and `Tagged<T, E>` is marked with the
-//! error type.
+//! `Option<Tagged<Leaf<'_>, Error>>`, where `len` answers `Result<usize, Error>` and `Tagged<T, E>` names the error
+//! type.
 ghost use Rattle.std.specs.Prelude.{◌≡◌, ◌≤◌, length, take, string_bytes, nat_eq, Some, IsUtf8, IsOk, IfOk};
 ghost use Rattle.std.specs.Cmp.{on_equiv, on_per, partial_equiv_from_equiv};
 ghost use Rattle.std.specs.Cmp.Lexicographic.{pointwise, nat_list_eq_equiv};

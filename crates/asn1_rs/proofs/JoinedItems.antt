@@ -24,11 +24,11 @@ use Rattle.asn1_rs.specs.Laws.Sequence.Iterator.{octets_kept, octets_walked}
 use Rattle.asn1_rs.specs.Sequence.Iterator.{octets_left, WalkSteps, ReadsExactly}
 
 module _ {T V E : Type 0} (reads : List ℕ → Result (List ℕ × T) (Refusal E) → Type 0) (from : Error → E → Type 0)
-    (G : List ℕ → V → Type 0) (value : T → V) (takes : Bool) (IsCut : List ℕ → Type 0)
-    (exact : ReadsExactly IsCut G value (TellsMemory takes from) reads) where
+    (G : List ℕ → V → Type 0) (value : T → V) (allocates : Bool) (IsCut : List ℕ → Type 0)
+    (exact : ReadsExactly IsCut G value (TellsMemory allocates from) reads) where
   pub all_joined : (content : List ℕ) (items : List T) → IsOctets content → ItemsGive reads from content (Ok items) →
       IsJoined G content (map value items)
-  all_joined content items o y = taken_joined reads from G value takes IsCut exact.one_word IsOctets octets_kept
+  all_joined content items o y = taken_joined reads from G value allocates IsCut exact.one_word IsOctets octets_kept
       exact.takes items content [] o refl y
 
   pub alone_joined : (content : List ℕ) (items : List T) (values : List V) → IsOctets content →
@@ -40,7 +40,7 @@ module _ {T V E : Type 0} (reads : List ℕ → Result (List ℕ × T) (Refusal 
       from errors.OutOfMemory e ⊎ HasNoJoining G content
   none_joined content e o (inl m) = inl m
   none_joined content e o (inr s) =
-      elim (taken_none reads from G value takes IsCut exact.one_word IsOctets octets_kept exact.takes s.0 e content
+      elim (taken_none reads from G value allocates IsCut exact.one_word IsOctets octets_kept exact.takes s.0 e content
       s.1 o s.2) [
         | inl m ↦ inl m.1
         | inr none ↦ inr none
@@ -74,12 +74,12 @@ module _ {T V E : Type 0} (reads : List ℕ → Result (List ℕ × T) (Refusal 
         elim (none_joined p.content e o y) [ inl m ↦ inl m | inr none ↦ inr (λ vs b. none vs b.items) ]
 
 module _ {T E : Type 0} (reads : List ℕ → Result (List ℕ × T) (Refusal E) → Type 0) (from : Error → E → Type 0)
-    (spares : (octets : List ℕ) (answer : Result (List ℕ × T) (Refusal E)) → reads octets answer →
+    (asks_no_memory : (octets : List ℕ) (answer : Result (List ℕ × T) (Refusal E)) → reads octets answer →
     IfErr answer (HeldIn (IsOther from))) where
-  end_spares : (octets : List ℕ) (answer : Result (List ℕ × T) (Refusal E)) (e : E) → reads octets answer →
+  end_no_memory : (octets : List ℕ) (answer : Result (List ℕ × T) (Refusal E)) (e : E) → reads octets answer →
       EndsItem from octets answer e → IsOther from e
-  end_spares octets (Ok x) e g w = inl (errors.InvalidLength, (λ h. cc), w.1)
-  end_spares octets (Err r) e g w = told r (spares octets (Err r) g) w
+  end_no_memory octets (Ok x) e g w = inl (errors.InvalidLength, (λ h. cc), w.1)
+  end_no_memory octets (Err r) e g w = told r (asks_no_memory octets (Err r) g) w
     where
       told : (r : Refusal E) → HeldIn (IsOther from) r → FlattenedTo (λ x y. y ≡ x) from r e → IsOther from e
       told (cut n) h f = inl (errors.Incomplete n, (λ h. cc), f)
@@ -89,16 +89,17 @@ module _ {T E : Type 0} (reads : List ℕ → Result (List ℕ × T) (Refusal E)
   abbrev Spared : Result T E → Type 0
   Spared answer = IfErr answer (IsOther from)
 
-  pub walk_spares : (answers : List (Result T E)) (content left : List ℕ) →
+  pub walk_no_memory : (answers : List (Result T E)) (content left : List ℕ) →
       Yields (TakesItem reads from) content answers left → All Spared answers
-  walk_spares [] content left y = All-nil Spared
-  walk_spares (Ok x ∷ answers) content left (j, s, y) = All-cons Spared (Ok x) answers tt (walk_spares answers j left y)
-  walk_spares (Err e ∷ answers) content left (j, s, y) =
-      All-cons Spared (Err e) answers (end_spares content s.1.0 e s.1.1 s.1.2) (walk_spares answers j left y)
+  walk_no_memory [] content left y = All-nil Spared
+  walk_no_memory (Ok x ∷ answers) content left (j, s, y) =
+      All-cons Spared (Ok x) answers tt (walk_no_memory answers j left y)
+  walk_no_memory (Err e ∷ answers) content left (j, s, y) =
+      All-cons Spared (Err e) answers (end_no_memory content s.1.0 e s.1.1 s.1.2) (walk_no_memory answers j left y)
 
-  pub run_spares : {F : Type 0} (p : Run {S = SequenceIterator T F E} {A = Result T E} (WalkSteps reads from)) →
+  pub run_no_memory : {F : Type 0} (p : Run {S = SequenceIterator T F E} {A = Result T E} (WalkSteps reads from)) →
       All Spared p.items
   unfolding YieldsRun
-  run_spares p =
+  run_no_memory p =
       let y = p.gave.0 in
-      walk_spares p.items (octets_left p.from) (octets_left y.0) (octets_walked reads from p.from y.0 p.items y.1)
+      walk_no_memory p.items (octets_left p.from) (octets_left y.0) (octets_walked reads from p.from y.0 p.items y.1)

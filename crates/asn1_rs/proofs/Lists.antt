@@ -26,7 +26,7 @@ use Rattle.asn1_headers.specs.declared.error.Err.{Err as Refusal}
 use Rattle.asn1_headers.specs.declared.error.Err.TheVariants.{Incomplete as cut, Error as refused, Failure as failed}
 use Rattle.asn1_headers.specs.Error.{Converted, FlattenedTo}
 use Rattle.asn1_headers.specs.Header.Reading.{Refused, der_refusal}
-use Rattle.asn1_rs.specs.Any.{parts_of, BeginsWithElement}
+use Rattle.asn1_rs.specs.Any.{parts_of, BeginsWithAny}
 use Rattle.asn1_headers.specs.Walk.{TakesItem}
 use Rattle.asn1_rs.specs.Lists.{CheckedGives, EndsItems, GivesItems, SomeRefuses}
 use Rattle.asn1_headers.specs.declared.error.Error.{Error}
@@ -47,11 +47,11 @@ pub items_end : {S T E : Type 0} (steps : S → Option (Result T E) → S → Ty
 items_end steps [] s t u e y n = (u, subst (λ (k : _). steps k (Some (Err e)) u) (sym y) n, refl)
 items_end steps (a ∷ xs) s t u e y n = (y.0, y.1, items_end steps xs y.0 t u e y.2 n)
 
-pub MayRefuseCount_more : (e : Error) (takes : Bool) (m n : ℕ) → m ≤ n → MayRefuseCount takes m e →
-    MayRefuseCount takes n e
-MayRefuseCount_more errors.InvalidLength takes m n h p = omega arith
-MayRefuseCount_more errors.OutOfMemory takes m n h p = p
-MayRefuseCount_more _ takes m n h p = absurd p
+pub MayRefuseCount_more : (e : Error) (allocates : Bool) (m n : ℕ) → m ≤ n → MayRefuseCount allocates m e →
+    MayRefuseCount allocates n e
+MayRefuseCount_more errors.InvalidLength allocates m n h p = omega arith
+MayRefuseCount_more errors.OutOfMemory allocates m n h p = p
+MayRefuseCount_more _ allocates m n h p = absurd p
 
 -- an item between those before it and those after it
 pub flat_map_at : {X : Type 0} (f : X → List ℕ) (xs : List X) (i : ℕ) (d : X) → i < length xs →
@@ -84,22 +84,22 @@ module _ {X : Type 0} (f : X → List ℕ) (xs : List X) (i : ℕ) (x : X) (h : 
       Wrote (flat_map f xs) a c (Err e)
   Wrote_item_sum {n} {m} {e} p q s = rw item_at (Wrote_front (flat_map f (drop (suc i) xs)) (Wrote_sum (Err e) p q s))
 
-  pub MayRefuse_item : (e : SerializeError) (takes : Bool) → MayRefuse takes (length (f x)) e →
-      MayRefuse takes (length (flat_map f xs)) e
-  MayRefuse_item e takes p = MayRefuse_more e takes _ _ (let l = item_le in omega arith) p
+  pub MayRefuse_item : (e : SerializeError) (allocates : Bool) → MayRefuse allocates (length (f x)) e →
+      MayRefuse allocates (length (flat_map f xs)) e
+  MayRefuse_item e allocates p = MayRefuse_more e allocates _ _ (let l = item_le in omega arith) p
 
-  pub MayRefuse_item_sum : {n m : ℕ} (e : SerializeError) (takes : Bool) {a b c : WriterState} →
+  pub MayRefuse_item_sum : {n m : ℕ} (e : SerializeError) (allocates : Bool) {a b c : WriterState} →
       Wrote (flat_map f (take i xs)) a b (Ok n) → Wrote (f x) b c (Ok m) → SumsWritten n m (Err e) →
-      MayRefuse takes (length (flat_map f xs)) e
-  MayRefuse_item_sum e takes p q s = rw s.0 (let l = item_le in omega (arith, p.ok.1, q.ok.1, s.1))
+      MayRefuse allocates (length (flat_map f xs)) e
+  MayRefuse_item_sum e allocates p q s = rw s.0 (let l = item_le in omega (arith, p.ok.1, q.ok.1, s.1))
 
-  pub MayRefuseCount_item : (e : Error) (takes : Bool) → MayRefuseCount takes (length (f x)) e →
-      MayRefuseCount takes (length (flat_map f xs)) e
-  MayRefuseCount_item e takes p = MayRefuseCount_more e takes _ _ (let l = item_le in omega arith) p
+  pub MayRefuseCount_item : (e : Error) (allocates : Bool) → MayRefuseCount allocates (length (f x)) e →
+      MayRefuseCount allocates (length (flat_map f xs)) e
+  MayRefuseCount_item e allocates p = MayRefuseCount_more e allocates _ _ (let l = item_le in omega arith) p
 
-  pub MayRefuseCount_item_sum : {n m : ℕ} (e : Error) (takes : Bool) → n ≡ length (flat_map f (take i xs)) →
-      m ≡ length (f x) → SumsCounts n m (Err e) → MayRefuseCount takes (length (flat_map f xs)) e
-  MayRefuseCount_item_sum e takes p q s = rw s.0 (let l = item_le in omega (arith, s.1))
+  pub MayRefuseCount_item_sum : {n m : ℕ} (e : Error) (allocates : Bool) → n ≡ length (flat_map f (take i xs)) →
+      m ≡ length (f x) → SumsCounts n m (Err e) → MayRefuseCount allocates (length (flat_map f xs)) e
+  MayRefuseCount_item_sum e allocates p q s = rw s.0 (let l = item_le in omega (arith, s.1))
 
   pub item_next : flat_map f (take (i + 1) xs) ≡ flat_map f (take i xs) ++ f x
   item_next = ap (λ ys. flat_map f ys) (take_more xs i x h) ∙ flat_map-append f (take i xs) (get_or xs i x ∷ [])
@@ -117,16 +117,17 @@ module _ {X : Type 0} (f : X → List ℕ) (xs : List X) (i : ℕ) (x : X) (h : 
   pub some_refuses : {E : Type 0} (refuses : X → E → Type 0) (e : E) → refuses x e → SomeRefuses refuses xs e
   some_refuses refuses e o = (i, x, h, sym at, o)
 
-  pub Refuses_item : (e : SerializeError) (takes : Bool) (refuses : X → SerializeError → Type 0) →
-      Refuses takes (length (f x)) (refuses x) e → Refuses takes (length (flat_map f xs)) (SomeRefuses refuses xs) e
-  Refuses_item e takes refuses (inl m) = inl (MayRefuse_item e takes m)
-  Refuses_item e takes refuses (inr o) = inr (some_refuses refuses e o)
+  pub Refuses_item : (e : SerializeError) (allocates : Bool) (refuses : X → SerializeError → Type 0) →
+      Refuses allocates (length (f x)) (refuses x) e →
+      Refuses allocates (length (flat_map f xs)) (SomeRefuses refuses xs) e
+  Refuses_item e allocates refuses (inl m) = inl (MayRefuse_item e allocates m)
+  Refuses_item e allocates refuses (inr o) = inr (some_refuses refuses e o)
 
-  pub RefusesCount_item : (e : Error) (takes : Bool) (refuses : X → Error → Type 0) →
-      RefusesCount takes (length (f x)) (refuses x) e →
-      RefusesCount takes (length (flat_map f xs)) (SomeRefuses refuses xs) e
-  RefusesCount_item e takes refuses (inl m) = inl (MayRefuseCount_item e takes m)
-  RefusesCount_item e takes refuses (inr o) = inr (some_refuses refuses e o)
+  pub RefusesCount_item : (e : Error) (allocates : Bool) (refuses : X → Error → Type 0) →
+      RefusesCount allocates (length (f x)) (refuses x) e →
+      RefusesCount allocates (length (flat_map f xs)) (SomeRefuses refuses xs) e
+  RefusesCount_item e allocates refuses (inl m) = inl (MayRefuseCount_item e allocates m)
+  RefusesCount_item e allocates refuses (inr o) = inr (some_refuses refuses e o)
 
 -- a slice's iterator gives its items, and one of a set its members
 pub slice_gives_items : {A : Type 0} {s : _} (xs : List A) → iter_rest s ≡ xs →
@@ -175,12 +176,12 @@ converted_itself (refused e) = (e, refl, refl)
 converted_itself (failed e) = (e, refl, refl)
 
 pub element_checked : (check : Parts → Result (Unit {0}) Error → Type 0) (octets rest : List ℕ) (item : Any) →
-    BeginsWithElement IsDerElement octets item rest → check (parts_of item) (Ok tt) →
+    BeginsWithAny IsDerElement octets item rest → check (parts_of item) (Ok tt) →
     CheckedGives check octets (Ok (rest, item))
 element_checked check octets rest item f h = (item, f, h, (refl, refl))
 
 pub check_failed : (check : Parts → Result (Unit {0}) Error → Type 0) (octets rest : List ℕ) (item : Any) (e : Error) →
-    BeginsWithElement IsDerElement octets item rest → check (parts_of item) (Err e) →
+    BeginsWithAny IsDerElement octets item rest → check (parts_of item) (Err e) →
     (r : Refusal Error) × CheckedGives check octets (Err r) × FlattenedTo (λ x y. y ≡ x) (λ x y. y ≡ x) r e
 check_failed check octets rest item e f h = (refused e, inr (item, rest, f, inl (e, h, (e, refl, refl))), refl)
 

@@ -11,17 +11,18 @@ use Rattle.asn1_rs.specs.ToDer.{Refuses, IntoVector, VectorRefuses}
 use Rattle.asn1_rs.proofs.Prepending.{refused_twice}
 
 -- a refusal of a writing, as one of a writing that may allocate into a vector
-into_vector : (e : SerializeError) (takes : Bool) (n : ℕ) (own : SerializeError → Type 0) → Refuses takes n own e →
+into_vector : (e : SerializeError) (allocates : Bool) (n : ℕ) (own : SerializeError → Type 0) →
+    Refuses allocates n own e →
     Refuses true n (IntoVector own) e
-into_vector (serialize_errors.ASN1Error a) takes n own (inl m) = absurd m
-into_vector (serialize_errors.InvalidClass k) takes n own (inl m) = absurd m
-into_vector serialize_errors.InvalidLength takes n own (inl m) = inl m
-into_vector serialize_errors.OutOfMemory takes n own (inl m) = inl refl
-into_vector (serialize_errors.IOError f) takes n own r = inl tt
-into_vector (serialize_errors.ASN1Error a) takes n own (inr o) = inr (_, o, refl)
-into_vector (serialize_errors.InvalidClass k) takes n own (inr o) = inr (_, o, refl)
-into_vector serialize_errors.InvalidLength takes n own (inr o) = inr (_, o, refl)
-into_vector serialize_errors.OutOfMemory takes n own (inr o) = inr (_, o, refl)
+into_vector (serialize_errors.ASN1Error a) allocates n own (inl m) = absurd m
+into_vector (serialize_errors.InvalidClass k) allocates n own (inl m) = absurd m
+into_vector serialize_errors.InvalidLength allocates n own (inl m) = inl m
+into_vector serialize_errors.OutOfMemory allocates n own (inl m) = inl refl
+into_vector (serialize_errors.IOError f) allocates n own r = inl tt
+into_vector (serialize_errors.ASN1Error a) allocates n own (inr o) = inr (_, o, refl)
+into_vector (serialize_errors.InvalidClass k) allocates n own (inr o) = inr (_, o, refl)
+into_vector serialize_errors.InvalidLength allocates n own (inr o) = inr (_, o, refl)
+into_vector serialize_errors.OutOfMemory allocates n own (inr o) = inr (_, o, refl)
 
 module _ {X : Type 0} (xs : List X) (x : X) (is : xs ≡ x ∷ []) where
   some_stand : 0 < length xs
@@ -44,11 +45,11 @@ module _ {X : Type 0} (xs : List X) (x : X) (is : xs ≡ x ∷ []) where
     own_of_some own e (inl m) = inl (rw only_content m)
     own_of_some own e (inr o) = inr (0, x, some_stand, sym it_is_first, o)
 
-    pub only_refused : (own : X → SerializeError → Type 0) (takes : Bool) (r : Result ℕ SerializeError) →
-        IfErr r (Refuses takes (length (octets x)) (own x)) →
+    pub only_refused : (own : X → SerializeError → Type 0) (allocates : Bool) (r : Result ℕ SerializeError) →
+        IfErr r (Refuses allocates (length (octets x)) (own x)) →
         IfErr r (Refuses true (length (set_content octets xs)) (SomeRefuses (λ y. IntoVector (own y)) xs))
-    only_refused own takes (Ok n) h = tt
-    only_refused own takes (Err e) h = own_of_some own e (into_vector e takes (length (octets x)) (own x) h)
+    only_refused own allocates (Ok n) h = tt
+    only_refused own allocates (Err e) h = own_of_some own e (into_vector e allocates (length (octets x)) (own x) h)
 
     -- put before the octets of a buffer
     pub only_put : (own : X → SerializeError → Type 0) (m : ℕ) (r : Result ℕ SerializeError) →

@@ -23,11 +23,12 @@ use Rattle.asn1_rs.specs.Tagged.Writing.{UnderClass}
 use Rattle.asn1_rs.proofs.Lists.{item_at, some_refuses}
 
 -- a refusal of a writing into a vector, before it was put in front
-pub vector_before : (e f : SerializeError) (takes : Bool) (m n : ℕ) (own : SerializeError → Type 0) → m ≤ n →
-    ((n : ℕ) (takes : Bool) → MayRefuse takes n e → MayRefuse true n f) → WithoutIo e f → Refuses takes m own e →
+pub vector_before : (e f : SerializeError) (allocates : Bool) (m n : ℕ) (own : SerializeError → Type 0) → m ≤ n →
+    ((n : ℕ) (allocates : Bool) → MayRefuse allocates n e → MayRefuse true n f) → WithoutIo e f →
+    Refuses allocates m own e →
     VectorRefuses n own f
-vector_before e f takes m n own l may same (inl h) = inl (MayRefuse_more f true m n l (may m takes h))
-vector_before e f takes m n own l may same (inr o) = inr (e, o, same)
+vector_before e f allocates m n own l may same (inl h) = inl (MayRefuse_more f true m n l (may m allocates h))
+vector_before e f allocates m n own l may same (inr o) = inr (e, o, same)
 
 pub vector_more : (e : SerializeError) (m n : ℕ) (own : SerializeError → Type 0) → m ≤ n → VectorRefuses m own e →
     VectorRefuses n own e
@@ -156,24 +157,24 @@ module _ {X : Type 0} (f : X → List ℕ) (xs : List X) (i : ℕ) (x : X) (h : 
 
 -- ---- a putting that is refused, but not for want of memory, refuses a writing at once
 
-stands_refused : (e : SerializeError) (takes : Bool) (m n : ℕ) (own : SerializeError → Type 0) → m ≤ n →
-    e ≢ serialize_errors.OutOfMemory → tells_of_io e ≡ false → VectorRefuses m own e → RefusesAtOnce takes n own e
-stands_refused (serialize_errors.ASN1Error a) takes m n own l some io (inl h) = absurd h
-stands_refused (serialize_errors.InvalidClass a) takes m n own l some io (inl h) = absurd h
-stands_refused serialize_errors.InvalidLength takes m n own l some io (inl h) = inl (omega arith, refl)
-stands_refused (serialize_errors.IOError a) takes m n own l some io (inl h) = absurd (false≢true (sym io))
-stands_refused serialize_errors.OutOfMemory takes m n own l some io (inl h) = absurd (some refl)
-stands_refused e takes m n own l some io (inr (serialize_errors.ASN1Error a, o, is)) = inr (rw is o)
-stands_refused e takes m n own l some io (inr (serialize_errors.InvalidClass a, o, is)) = inr (rw is o)
-stands_refused e takes m n own l some io (inr (serialize_errors.InvalidLength, o, is)) = inr (rw is o)
-stands_refused e takes m n own l some io (inr (serialize_errors.IOError a, o, is)) = absurd (some is)
-stands_refused e takes m n own l some io (inr (serialize_errors.OutOfMemory, o, is)) = absurd (some is)
+stands_refused : (e : SerializeError) (allocates : Bool) (m n : ℕ) (own : SerializeError → Type 0) → m ≤ n →
+    e ≢ serialize_errors.OutOfMemory → tells_of_io e ≡ false → VectorRefuses m own e → RefusesAtOnce allocates n own e
+stands_refused (serialize_errors.ASN1Error a) allocates m n own l some io (inl h) = absurd h
+stands_refused (serialize_errors.InvalidClass a) allocates m n own l some io (inl h) = absurd h
+stands_refused serialize_errors.InvalidLength allocates m n own l some io (inl h) = inl (omega arith, refl)
+stands_refused (serialize_errors.IOError a) allocates m n own l some io (inl h) = absurd (false≢true (sym io))
+stands_refused serialize_errors.OutOfMemory allocates m n own l some io (inl h) = absurd (some refl)
+stands_refused e allocates m n own l some io (inr (serialize_errors.ASN1Error a, o, is)) = inr (rw is o)
+stands_refused e allocates m n own l some io (inr (serialize_errors.InvalidClass a, o, is)) = inr (rw is o)
+stands_refused e allocates m n own l some io (inr (serialize_errors.InvalidLength, o, is)) = inr (rw is o)
+stands_refused e allocates m n own l some io (inr (serialize_errors.IOError a, o, is)) = absurd (some is)
+stands_refused e allocates m n own l some io (inr (serialize_errors.OutOfMemory, o, is)) = absurd (some is)
 
-pub stands_at_once : (answer : Result ℕ SerializeError) (e : SerializeError) (takes : Bool) (m n : ℕ)
+pub stands_at_once : (answer : Result ℕ SerializeError) (e : SerializeError) (allocates : Bool) (m n : ℕ)
     (own : SerializeError → Type 0) → answer ≡ Err e → m ≤ n → e ≢ serialize_errors.OutOfMemory →
-    IfErr answer (VectorRefuses m own) → IfErr answer (λ f. tells_of_io f ≡ false) → RefusesAtOnce takes n own e
-stands_at_once (Ok k) e takes m n own is l some refused memory = absurd (let p = is in cc)
-stands_at_once (Err f) e takes m n own is l some refused memory =
+    IfErr answer (VectorRefuses m own) → IfErr answer (λ f. tells_of_io f ≡ false) → RefusesAtOnce allocates n own e
+stands_at_once (Ok k) e allocates m n own is l some refused memory = absurd (let p = is in cc)
+stands_at_once (Err f) e allocates m n own is l some refused memory =
     let same : f ≡ e = (let p = is in cc) in
-    stands_refused e takes m n own l some (subst (λ r. tells_of_io r ≡ false) same memory)
+    stands_refused e allocates m n own l some (subst (λ r. tells_of_io r ≡ false) same memory)
     (subst (VectorRefuses m own) same refused)

@@ -7,7 +7,7 @@ use Rattle.asn1_headers.specs.declared.error.Error.{Error}
 use Rattle.asn1_headers.specs.declared.error.SerializeError.{SerializeError}
 use Rattle.asn1_headers.specs.Laws.Writing.{MayRefuse_more}
 use Rattle.asn1_rs.specs.ToDer.{MayRefuseCount, Refuses, RefusesCount, IsRefusedAtOnce, RefusedAtOnce, Either}
-use Rattle.asn1_rs.specs.Kinds.Writing.{CountRefused, PutRefused, OwnRefusal, OwnWritten}
+use Rattle.asn1_rs.specs.Kinds.Writing.{CountRefused, OwnPutRefused, OwnRefusal, OwnWritten}
 
 module _ (own : Error → Type 0) where
   -- Counts.
@@ -38,7 +38,7 @@ module _ (own : Error → Type 0) where
   pub counted_put : (b : Bool) (m n : ℕ) (old new : WriterState) (counted : Result ℕ Error)
       (r : Result ℕ SerializeError) → CountRefused b own m counted →
       (IfErr counted (MayRefuseCount false m) → IfErr r (MayRefuse false n)) →
-      IfErr counted (λ e. RefusedAtOnce (written_refusal e) old new r) → PutRefused b own n old new r
+      IfErr counted (λ e. RefusedAtOnce (written_refusal e) old new r) → OwnPutRefused b own n old new r
   counted_put false m n old new counted r h put at = put h
   counted_put true m n old new counted r h put at = (h.0, h.1, of counted h.2 at)
     where
@@ -49,53 +49,53 @@ module _ (own : Error → Type 0) where
       of (Err e) p at = let q : e ≡ h.0 = cc in rw (← q) at
 
   -- what was written is not refused
-  pub put_not_refused : (b : Bool) (n k : ℕ) (old new : WriterState) → PutRefused b own n old new (Ok k) → b ≡ false
+  pub put_not_refused : (b : Bool) (n k : ℕ) (old new : WriterState) → OwnPutRefused b own n old new (Ok k) → b ≡ false
   put_not_refused false n k old new h = refl
   put_not_refused true n k old new h = absurd (let e = h.2.refused in cc)
 
   -- contents octets that are refused behind a header that was written
   pub put_behind_header : (b : Bool) (m n : ℕ) (old mid new : WriterState) (r : Result ℕ SerializeError) → m ≤ n →
-      b ≡ false → PutRefused b own m mid new r → PutRefused b own n old new r
+      b ≡ false → OwnPutRefused b own m mid new r → OwnPutRefused b own n old new r
   put_behind_header false m n old mid new (Ok k) l e h = tt
   put_behind_header false m n old mid new (Err f) l e h = MayRefuse_more f false m n l h
   put_behind_header true m n old mid new r l e h = cc
 
   pub put_plain : (b : Bool) (n : ℕ) (old new : WriterState) (r : Result ℕ SerializeError) → b ≡ false →
-      IfErr r (MayRefuse false n) → PutRefused b own n old new r
+      IfErr r (MayRefuse false n) → OwnPutRefused b own n old new r
   put_plain false n old new r e h = h
   put_plain true n old new r e h = cc
 
   pub put_refuses : (b : Bool) (n : ℕ) (old new : WriterState) (r : Result ℕ SerializeError) →
-      PutRefused b own n old new r → IfErr r (Refuses false n (OwnWritten b own))
+      OwnPutRefused b own n old new r → IfErr r (Refuses false n (OwnWritten b own))
   put_refuses false n old new (Ok k) h = tt
   put_refuses false n old new (Err e) h = inl h
   put_refuses true n old new r h = rw h.2.refused (inr (h.0, h.1, refl))
 
   pub put_accepted : (b : Bool) (n : ℕ) (old new : WriterState) (r : Result ℕ SerializeError) →
-      PutRefused b own n old new r → (e : SerializeError) → OwnWritten b own e → IsErr r
+      OwnPutRefused b own n old new r → (e : SerializeError) → OwnWritten b own e → IsErr r
   put_accepted false n old new r h e o = absurd o
   put_accepted true n old new r h e o = rw h.2.refused refl
 
   pub put_uncounted : (b : Bool) (n : ℕ) (old new : WriterState) (r : Result ℕ SerializeError) →
-      PutRefused b own n old new r → (e : Error) → OwnRefusal b own e → IsErr r
+      OwnPutRefused b own n old new r → (e : Error) → OwnRefusal b own e → IsErr r
   put_uncounted false n old new r h e o = absurd o
   put_uncounted true n old new r h e o = rw h.2.refused refl
 
   pub put_at_once : (b : Bool) (n : ℕ) (old new : WriterState) (r : Result ℕ SerializeError) →
-      PutRefused b own n old new r → (e : SerializeError) → OwnWritten b own e →
+      OwnPutRefused b own n old new r → (e : SerializeError) → OwnWritten b own e →
       IsRefusedAtOnce false n (OwnWritten b own) old new r
   put_at_once false n old new r h e o = absurd o
   put_at_once true n old new r h e o = (written_refusal h.0, inr (h.0, h.1, refl), h.2)
 
   -- the whole, whose header and contents octets have the same refusals
   pub whole_put_refuses : (b : Bool) (n : ℕ) (old new : WriterState) (r : Result ℕ SerializeError) →
-      PutRefused b own n old new r → IfErr r (Refuses false n (Either (OwnWritten b own) (OwnWritten b own)))
+      OwnPutRefused b own n old new r → IfErr r (Refuses false n (Either (OwnWritten b own) (OwnWritten b own)))
   whole_put_refuses false n old new (Ok k) h = tt
   whole_put_refuses false n old new (Err e) h = inl h
   whole_put_refuses true n old new r h = rw h.2.refused (inr (inl (h.0, h.1, refl)))
 
   pub whole_put_at_once : (b : Bool) (n : ℕ) (old new : WriterState) (r : Result ℕ SerializeError) →
-      PutRefused b own n old new r → (e : SerializeError) → OwnWritten b own e →
+      OwnPutRefused b own n old new r → (e : SerializeError) → OwnWritten b own e →
       IsRefusedAtOnce false n (Either (OwnWritten b own) (OwnWritten b own)) old new r
   whole_put_at_once false n old new r h e o = absurd o
   whole_put_at_once true n old new r h e o = (written_refusal h.0, inr (inl (h.0, h.1, refl)), h.2)

@@ -22,76 +22,80 @@ pub SumsCounts_count : (xs ys : List ℕ) (n m : ℕ) (r : Result ℕ Error) →
 SumsCounts_count xs ys n m (Ok k) p q s = simp length-append (omega (arith, s))
 SumsCounts_count xs ys n m (Err e) p q s = tt
 
-pub SumsCounts_refused : (takes : Bool) (xs ys : List ℕ) (n m : ℕ) (r : Result ℕ Error) → n ≡ length xs →
-    m ≡ length ys → SumsCounts n m r → IfErr r (MayRefuseCount takes (length (xs ++ ys)))
-SumsCounts_refused takes xs ys n m (Ok k) p q s = tt
-SumsCounts_refused takes xs ys n m (Err e) p q s = rw s.0 (simp length-append (omega (arith, s.1)))
+pub SumsCounts_refused : (allocates : Bool) (xs ys : List ℕ) (n m : ℕ) (r : Result ℕ Error) → n ≡ length xs →
+    m ≡ length ys → SumsCounts n m r → IfErr r (MayRefuseCount allocates (length (xs ++ ys)))
+SumsCounts_refused allocates xs ys n m (Ok k) p q s = tt
+SumsCounts_refused allocates xs ys n m (Err e) p q s = rw s.0 (simp length-append (omega (arith, s.1)))
 
 -- A writing whose length fits and whose writer is not marked is done, except when out of memory.
-pub writing_done : (r : Result ℕ SerializeError) (takes : Bool) (o : List ℕ) (old new : WriterState) →
-    Wrote o old new r → IfErr r (MayRefuse takes (length o)) → length o < 2 ^ 64 → new.failed ≡ false
+pub writing_done : (r : Result ℕ SerializeError) (allocates : Bool) (o : List ℕ) (old new : WriterState) →
+    Wrote o old new r → IfErr r (MayRefuse allocates (length o)) → length o < 2 ^ 64 → new.failed ≡ false
     → MatchResult r (λ n. Appends old.told new.told o × (n ≡ length o))
-    (λ e. (e ≡ serialize_errors.OutOfMemory) × IsTrue takes)
-writing_done (Ok n) takes o old new w m fits free = w.ok
-writing_done (Err (serialize_errors.ASN1Error e)) takes o old new w m fits free = absurd m
-writing_done (Err (serialize_errors.InvalidClass c)) takes o old new w m fits free = absurd m
-writing_done (Err serialize_errors.InvalidLength) takes o old new w m fits free = absurd (omega arith)
-writing_done (Err (serialize_errors.IOError e)) takes o old new w m fits free = let k : new.failed ≡ true = w.mark in cc
-writing_done (Err serialize_errors.OutOfMemory) takes o old new w m fits free = (refl, m)
+    (λ e. (e ≡ serialize_errors.OutOfMemory) × IsTrue allocates)
+writing_done (Ok n) allocates o old new w m fits free = w.ok
+writing_done (Err (serialize_errors.ASN1Error e)) allocates o old new w m fits free = absurd m
+writing_done (Err (serialize_errors.InvalidClass c)) allocates o old new w m fits free = absurd m
+writing_done (Err serialize_errors.InvalidLength) allocates o old new w m fits free = absurd (omega arith)
+writing_done (Err (serialize_errors.IOError e)) allocates o old new w m fits free = let k : new.failed ≡ true =
+    w.mark in cc
+writing_done (Err serialize_errors.OutOfMemory) allocates o old new w m fits free = (refl, m)
 
 -- a writing that has no refusals of its own, or is not refused by them
-pub only_may : (r : Result ℕ SerializeError) (takes : Bool) (n : ℕ) (own : SerializeError → Type 0) →
-    IfErr r (MayRefuse takes n) → IfErr r (Refuses takes n own)
-only_may (Ok k) takes n own h = tt
-only_may (Err e) takes n own h = inl h
+pub only_may : (r : Result ℕ SerializeError) (allocates : Bool) (n : ℕ) (own : SerializeError → Type 0) →
+    IfErr r (MayRefuse allocates n) → IfErr r (Refuses allocates n own)
+only_may (Ok k) allocates n own h = tt
+only_may (Err e) allocates n own h = inl h
 
-pub only_may_count : (r : Result ℕ Error) (takes : Bool) (n : ℕ) (own : Error → Type 0) →
-    IfErr r (MayRefuseCount takes n) → IfErr r (RefusesCount takes n own)
-only_may_count (Ok k) takes n own h = tt
-only_may_count (Err e) takes n own h = inl h
+pub only_may_count : (r : Result ℕ Error) (allocates : Bool) (n : ℕ) (own : Error → Type 0) →
+    IfErr r (MayRefuseCount allocates n) → IfErr r (RefusesCount allocates n own)
+only_may_count (Ok k) allocates n own h = tt
+only_may_count (Err e) allocates n own h = inl h
 
-pub only_put : (r : Result ℕ SerializeError) (takes : Bool) (n : ℕ) (own : SerializeError → Type 0) →
-    IfErr r (MayRefuse false 0) → IfErr r (Refuses takes n own)
-only_put (Ok k) takes n own h = tt
-only_put (Err (serialize_errors.ASN1Error e)) takes n own h = absurd h
-only_put (Err (serialize_errors.InvalidClass c)) takes n own h = absurd h
-only_put (Err serialize_errors.InvalidLength) takes n own h = absurd (omega (arith, h))
-only_put (Err (serialize_errors.IOError e)) takes n own h = inl tt
-only_put (Err serialize_errors.OutOfMemory) takes n own h = cc
+pub only_put : (r : Result ℕ SerializeError) (allocates : Bool) (n : ℕ) (own : SerializeError → Type 0) →
+    IfErr r (MayRefuse false 0) → IfErr r (Refuses allocates n own)
+only_put (Ok k) allocates n own h = tt
+only_put (Err (serialize_errors.ASN1Error e)) allocates n own h = absurd h
+only_put (Err (serialize_errors.InvalidClass c)) allocates n own h = absurd h
+only_put (Err serialize_errors.InvalidLength) allocates n own h = absurd (omega (arith, h))
+only_put (Err (serialize_errors.IOError e)) allocates n own h = inl tt
+only_put (Err serialize_errors.OutOfMemory) allocates n own h = cc
 
-pub plain_refusal : (r : Result ℕ SerializeError) (takes : Bool) (n : ℕ) (one other : SerializeError → Type 0) →
-    HasNone one → HasNone other → IfErr r (Refuses takes n (Either one other)) → IfErr r (MayRefuse takes n)
-plain_refusal (Ok k) takes n one other a b h = tt
-plain_refusal (Err e) takes n one other a b (inl m) = m
-plain_refusal (Err e) takes n one other a b (inr (inl o)) = absurd (a e o)
-plain_refusal (Err e) takes n one other a b (inr (inr o)) = absurd (b e o)
+pub plain_refusal : (r : Result ℕ SerializeError) (allocates : Bool) (n : ℕ) (one other : SerializeError → Type 0) →
+    HasNone one → HasNone other → IfErr r (Refuses allocates n (Either one other)) → IfErr r (MayRefuse allocates n)
+plain_refusal (Ok k) allocates n one other a b h = tt
+plain_refusal (Err e) allocates n one other a b (inl m) = m
+plain_refusal (Err e) allocates n one other a b (inr (inl o)) = absurd (a e o)
+plain_refusal (Err e) allocates n one other a b (inr (inr o)) = absurd (b e o)
 
 -- a refusal of the first of two parts, and of the second
-pub refuses_first : (e : SerializeError) (takes gives : Bool) (n : ℕ) (one other : SerializeError → Type 0) →
-    Refuses takes n one e → Refuses (takes || gives) n (Either one other) e
-refuses_first e takes gives n one other (inl m) = inl (MayRefuse_either e takes gives n m)
-refuses_first e takes gives n one other (inr o) = inr (inl o)
+pub refuses_first : (e : SerializeError) (allocates gives : Bool) (n : ℕ) (one other : SerializeError → Type 0) →
+    Refuses allocates n one e → Refuses (allocates || gives) n (Either one other) e
+refuses_first e allocates gives n one other (inl m) = inl (MayRefuse_either e allocates gives n m)
+refuses_first e allocates gives n one other (inr o) = inr (inl o)
 
-pub refuses_second : (e : SerializeError) (takes gives : Bool) (m n : ℕ) (one other : SerializeError → Type 0) → m ≤ n →
-    Refuses gives m other e → Refuses (takes || gives) n (Either one other) e
-refuses_second e takes gives m n one other l (inl h) =
-    inl (MayRefuse_other e takes gives n (MayRefuse_more e gives m n l h))
-refuses_second e takes gives m n one other l (inr o) = inr (inr o)
+pub refuses_second : (e : SerializeError) (allocates gives : Bool) (m n : ℕ) (one other : SerializeError → Type 0) →
+    m ≤ n →
+    Refuses gives m other e → Refuses (allocates || gives) n (Either one other) e
+refuses_second e allocates gives m n one other l (inl h) =
+    inl (MayRefuse_other e allocates gives n (MayRefuse_more e gives m n l h))
+refuses_second e allocates gives m n one other l (inr o) = inr (inr o)
 
 -- a writing whose own memory is counted too
-pub refuses_wider : (e : SerializeError) (write takes : Bool) (n : ℕ) (own : SerializeError → Type 0) →
-    Refuses takes n own e → Refuses (write || takes) n own e
-refuses_wider e write takes n own (inl m) = inl (MayRefuse_other e write takes n m)
-refuses_wider e write takes n own (inr o) = inr o
+pub refuses_wider : (e : SerializeError) (write allocates : Bool) (n : ℕ) (own : SerializeError → Type 0) →
+    Refuses allocates n own e → Refuses (write || allocates) n own e
+refuses_wider e write allocates n own (inl m) = inl (MayRefuse_other e write allocates n m)
+refuses_wider e write allocates n own (inr o) = inr o
 
 -- a header that was refused at once refuses the whole at once
-pub header_at_once : (write takes gives : Bool) (n : ℕ) (one other : SerializeError → Type 0) (old new : WriterState)
-    (r : Result ℕ SerializeError) → IsRefusedAtOnce takes n one old new r →
-    IsRefusedAtOnce (write || (takes || gives)) n (Either one other) old new r
-header_at_once write takes gives n one other old new r at = (at.0, of at.1, at.2)
+pub header_at_once : (write allocates gives : Bool) (n : ℕ) (one other : SerializeError → Type 0)
+    (old new : WriterState)
+    (r : Result ℕ SerializeError) → IsRefusedAtOnce allocates n one old new r →
+    IsRefusedAtOnce (write || (allocates || gives)) n (Either one other) old new r
+header_at_once write allocates gives n one other old new r at = (at.0, of at.1, at.2)
   where
-    of : RefusesAtOnce takes n one at.0 → RefusesAtOnce (write || (takes || gives)) n (Either one other) at.0
-    of (inl m) = inl (MayRefuse_other at.0 write (takes || gives) n (MayRefuse_either at.0 takes gives n m.0), m.1)
+    of : RefusesAtOnce allocates n one at.0 → RefusesAtOnce (write || (allocates || gives)) n (Either one other) at.0
+    of (inl m) =
+        inl (MayRefuse_other at.0 write (allocates || gives) n (MayRefuse_either at.0 allocates gives n m.0), m.1)
     of (inr o) = inr (inl o)
 
 -- no value has a refusal of neither
@@ -100,26 +104,27 @@ neither_own e (inl o) = o
 neither_own e (inr o) = o
 
 -- what is refused at once is not Ok
-pub not_refused : (takes : Bool) (n : ℕ) (own : SerializeError → Type 0) (old new : WriterState) (k : ℕ) →
-    IsRefusedAtOnce takes n own old new (Ok k) → ⊥
-not_refused takes n own old new k r = let e = r.2.refused in cc
+pub not_refused : (allocates : Bool) (n : ℕ) (own : SerializeError → Type 0) (old new : WriterState) (k : ℕ) →
+    IsRefusedAtOnce allocates n own old new (Ok k) → ⊥
+not_refused allocates n own old new k r = let e = r.2.refused in cc
 
 -- the refusal of a writing into a vector
-pub vector_refuses : (e f : SerializeError) (takes : Bool) (n : ℕ) (own : SerializeError → Type 0) →
-    ((n : ℕ) (takes : Bool) → MayRefuse takes n e → MayRefuse true n f) → WithoutIo e f → Refuses takes n own e →
+pub vector_refuses : (e f : SerializeError) (allocates : Bool) (n : ℕ) (own : SerializeError → Type 0) →
+    ((n : ℕ) (allocates : Bool) → MayRefuse allocates n e → MayRefuse true n f) → WithoutIo e f →
+    Refuses allocates n own e →
     VectorRefuses n own f
-vector_refuses e f takes n own may same (inl m) = inl (may n takes m)
-vector_refuses e f takes n own may same (inr o) = inr (e, o, same)
+vector_refuses e f allocates n own may same (inl m) = inl (may n allocates m)
+vector_refuses e f allocates n own may same (inr o) = inr (e, o, same)
 
 -- how a refused count comes out
-pub written_may : (e : Error) (takes : Bool) (m n : ℕ) → m ≤ n → MayRefuseCount takes m e →
-    MayRefuse takes n (written_refusal e) × (tells_of_io (written_refusal e) ≡ false)
-written_may errors.InvalidLength takes m n l h = (omega arith, refl)
-written_may errors.OutOfMemory takes m n l h = (h, refl)
-written_may _ takes m n l h = absurd h
+pub written_may : (e : Error) (allocates : Bool) (m n : ℕ) → m ≤ n → MayRefuseCount allocates m e →
+    MayRefuse allocates n (written_refusal e) × (tells_of_io (written_refusal e) ≡ false)
+written_may errors.InvalidLength allocates m n l h = (omega arith, refl)
+written_may errors.OutOfMemory allocates m n l h = (h, refl)
+written_may _ allocates m n l h = absurd h
 
 -- A header is written of contents octets that were counted.
-module _ (takes : Bool) (header content : List ℕ) (own : Error → Type 0) where
+module _ (allocates : Bool) (header content : List ℕ) (own : Error → Type 0) where
   abbrev m : ℕ
   m = length content
 
@@ -129,39 +134,40 @@ module _ (takes : Bool) (header content : List ℕ) (own : Error → Type 0) whe
   shorter : m ≤ n
   shorter = simp length-append (omega arith)
 
-  header_refusal : (c : Error) → RefusesCount takes m own c →
-      RefusesAtOnce takes n (WrittenRefusal own) (written_refusal c)
-  header_refusal c (inl h) = inl (written_may c takes m n shorter h)
+  header_refusal : (c : Error) → RefusesCount allocates m own c →
+      RefusesAtOnce allocates n (WrittenRefusal own) (written_refusal c)
+  header_refusal c (inl h) = inl (written_may c allocates m n shorter h)
   header_refusal c (inr o) = inr (c, o, refl)
 
-  at_once_refused : (e : SerializeError) → RefusesAtOnce takes n (WrittenRefusal own) e →
-      Refuses takes n (WrittenRefusal own) e
+  at_once_refused : (e : SerializeError) → RefusesAtOnce allocates n (WrittenRefusal own) e →
+      Refuses allocates n (WrittenRefusal own) e
   at_once_refused e (inl h) = inl h.0
   at_once_refused e (inr o) = inr o
 
   pub counted_refused : (counted : Result ℕ Error) (r : Result ℕ SerializeError) (old new : WriterState) →
-      IfErr counted (RefusesCount takes m own) →
-      (IfErr counted (MayRefuseCount takes m) → IfErr r (MayRefuse takes n)) →
-      IfErr counted (λ e. RefusedAtOnce (written_refusal e) old new r) → IfErr r (Refuses takes n (WrittenRefusal own))
-  counted_refused (Ok k) r old new h put at = only_may r takes n (WrittenRefusal own) (put tt)
+      IfErr counted (RefusesCount allocates m own) →
+      (IfErr counted (MayRefuseCount allocates m) → IfErr r (MayRefuse allocates n)) →
+      IfErr counted (λ e. RefusedAtOnce (written_refusal e) old new r) →
+      IfErr r (Refuses allocates n (WrittenRefusal own))
+  counted_refused (Ok k) r old new h put at = only_may r allocates n (WrittenRefusal own) (put tt)
   counted_refused (Err c) r old new h put at = rw at.refused (at_once_refused (written_refusal c) (header_refusal c h))
 
   pub counted_at_once : (counted : Result ℕ Error) (r : Result ℕ SerializeError) (old new : WriterState) →
-      IfErr counted (RefusesCount takes m own) → ((e : Error) → own e → IsErr counted) →
+      IfErr counted (RefusesCount allocates m own) → ((e : Error) → own e → IsErr counted) →
       IfErr counted (λ e. RefusedAtOnce (written_refusal e) old new r) → (e : SerializeError) → WrittenRefusal own e →
-      IsRefusedAtOnce takes n (WrittenRefusal own) old new r
+      IsRefusedAtOnce allocates n (WrittenRefusal own) old new r
   counted_at_once (Ok k) r old new h none at e o = absurd (false≢true (none o.0 o.1))
   counted_at_once (Err c) r old new h none at e o = (written_refusal c, header_refusal c h, at)
 
 -- an element is counted whose contents octets were counted
-pub element_refused : (takes : Bool) (m n : ℕ) (own : Error → Type 0) (counted r : Result ℕ Error) →
-    IfErr counted (RefusesCount takes m own) →
-    (IfErr counted (MayRefuseCount takes m) → IfErr r (MayRefuseCount takes n)) →
-    ((e : Error) → MayRefuseCount takes m e → MayRefuseCount takes n e) → IfErr counted (λ e. r ≡ Err e) →
-    IfErr r (RefusesCount takes n own)
-element_refused takes m n own (Ok k) r h sum more at = only_may_count r takes n own (sum tt)
-element_refused takes m n own (Err c) r (inl h) sum more at = rw at (inl (more c h))
-element_refused takes m n own (Err c) r (inr o) sum more at = rw at (inr o)
+pub element_refused : (allocates : Bool) (m n : ℕ) (own : Error → Type 0) (counted r : Result ℕ Error) →
+    IfErr counted (RefusesCount allocates m own) →
+    (IfErr counted (MayRefuseCount allocates m) → IfErr r (MayRefuseCount allocates n)) →
+    ((e : Error) → MayRefuseCount allocates m e → MayRefuseCount allocates n e) → IfErr counted (λ e. r ≡ Err e) →
+    IfErr r (RefusesCount allocates n own)
+element_refused allocates m n own (Ok k) r h sum more at = only_may_count r allocates n own (sum tt)
+element_refused allocates m n own (Err c) r (inl h) sum more at = rw at (inl (more c h))
+element_refused allocates m n own (Err c) r (inr o) sum more at = rw at (inr o)
 
 pub element_accepted : (own : Error → Type 0) (counted r : Result ℕ Error) → ((e : Error) → own e → IsErr counted) →
     IfErr counted (λ e. r ≡ Err e) → (e : Error) → own e → IsErr r
@@ -169,26 +175,29 @@ element_accepted own (Ok k) r none at e o = absurd (false≢true (none e o))
 element_accepted own (Err c) r none at e o = rw at refl
 
 -- a value that was written has no refusals of its own
-pub neither_refuses : (takes : Bool) (n : ℕ) (one other : SerializeError → Type 0) (old new : WriterState) (k : ℕ) →
-    ((e : SerializeError) → one e → IsRefusedAtOnce takes n (Either one other) old new (Ok k)) →
+pub neither_refuses : (allocates : Bool) (n : ℕ) (one other : SerializeError → Type 0) (old new : WriterState) (k : ℕ) →
+    ((e : SerializeError) → one e → IsRefusedAtOnce allocates n (Either one other) old new (Ok k)) →
     ((e : SerializeError) → other e → IsErr {T = ℕ} {E = SerializeError} (Ok k)) → HasNone (Either one other)
-neither_refuses takes n one other old new k a b e (inl o) = not_refused takes n (Either one other) old new k (a e o)
-neither_refuses takes n one other old new k a b e (inr o) = false≢true (b e o)
+neither_refuses allocates n one other old new k a b e (inl o) =
+    not_refused allocates n (Either one other) old new k (a e o)
+neither_refuses allocates n one other old new k a b e (inr o) = false≢true (b e o)
 
 -- the refusals of a value under a tag whose class is one of four
-pub class_refused : (class : ℕ) (takes : Bool) (n : ℕ) (own : SerializeError → Type 0) (r : Result ℕ SerializeError) →
-    class < 4 → IfErr r (Refuses takes n own) → IfErr r (Refuses takes n (UnderClass class own))
-class_refused class takes n own (Ok k) l h = tt
-class_refused class takes n own (Err e) l (inl m) = inl m
-class_refused class takes n own (Err e) l (inr o) = inr (inr (l, o))
+pub class_refused : (class : ℕ) (allocates : Bool) (n : ℕ) (own : SerializeError → Type 0)
+    (r : Result ℕ SerializeError) →
+    class < 4 → IfErr r (Refuses allocates n own) → IfErr r (Refuses allocates n (UnderClass class own))
+class_refused class allocates n own (Ok k) l h = tt
+class_refused class allocates n own (Err e) l (inl m) = inl m
+class_refused class allocates n own (Err e) l (inr o) = inr (inr (l, o))
 
-pub class_at_once : (class : ℕ) (takes : Bool) (n : ℕ) (own : SerializeError → Type 0) (old new : WriterState)
-    (r : Result ℕ SerializeError) → class < 4 → ((e : SerializeError) → own e → IsRefusedAtOnce takes n own old new r) →
-    (e : SerializeError) → UnderClass class own e → IsRefusedAtOnce takes n (UnderClass class own) old new r
-class_at_once class takes n own old new r l at e (inl h) = let k = h.0 in absurd (omega arith)
-class_at_once class takes n own old new r l at e (inr h) = let a = at e h.1 in (a.0, one_of a.0 a.1, a.2)
+pub class_at_once : (class : ℕ) (allocates : Bool) (n : ℕ) (own : SerializeError → Type 0) (old new : WriterState)
+    (r : Result ℕ SerializeError) → class < 4 →
+    ((e : SerializeError) → own e → IsRefusedAtOnce allocates n own old new r) →
+    (e : SerializeError) → UnderClass class own e → IsRefusedAtOnce allocates n (UnderClass class own) old new r
+class_at_once class allocates n own old new r l at e (inl h) = let k = h.0 in absurd (omega arith)
+class_at_once class allocates n own old new r l at e (inr h) = let a = at e h.1 in (a.0, one_of a.0 a.1, a.2)
   where
-    one_of : (f : SerializeError) → RefusesAtOnce takes n own f → RefusesAtOnce takes n (UnderClass class own) f
+    one_of : (f : SerializeError) → RefusesAtOnce allocates n own f → RefusesAtOnce allocates n (UnderClass class own) f
     one_of f (inl m) = inl m
     one_of f (inr o) = inr (inr (l, o))
 
@@ -234,10 +243,10 @@ vector_fits P o (Err e) l (inl m) = m
 vector_fits P o (Err e) l (inr h) = absurd (omega (arith, h.1, l))
 
 -- what was refused at once, from a writing into a vector
-pub at_once_into : (takes : Bool) (n : ℕ) (own : SerializeError → Type 0) (old new : WriterState)
-    (e f : SerializeError) → WithoutIo e f → IsRefusedAtOnce takes n own old new (Err e) →
-    IntoVector (RefusesAtOnce takes n own) f
-at_once_into takes n own old new e f same at =
+pub at_once_into : (allocates : Bool) (n : ℕ) (own : SerializeError → Type 0) (old new : WriterState)
+    (e f : SerializeError) → WithoutIo e f → IsRefusedAtOnce allocates n own old new (Err e) →
+    IntoVector (RefusesAtOnce allocates n own) f
+at_once_into allocates n own old new e f same at =
     let one : e ≡ at.0 = (let h = at.2.refused in cc) in (at.0, at.1, same ∙ ap vector_refusal one)
 
 -- a value that was written has no refusals of its own, neither of its counts

@@ -29,13 +29,13 @@ abbrev pub parts_of : Any → Parts
 parts_of a = element_parts a.header a.content.now
 
 -- The element, with its identifier octets kept, begins the input, and the rest follows.
-abbrev pub BeginsWithElement : (List ℕ → Parts → Type 0) → List ℕ → Any → List ℕ → Type 0
-BeginsWithElement ElementOf input any rest = BeginsWithHeaderAndContents ElementOf input any.header any.content.now rest
+abbrev pub BeginsWithAny : (List ℕ → Parts → Type 0) → List ℕ → Any → List ℕ → Type 0
+BeginsWithAny ElementOf input any rest = BeginsWithHeaderAndContents ElementOf input any.header any.content.now rest
 
 -- what a reader of elements may answer: the element and the rest, or the refusal of the first fault
 abbrev pub AnyGives : (List ℕ → Parts → Type 0) → (List ℕ → Fault → Type 0) → (Fault → Refusal Error) → List ℕ →
     Result (List ℕ × Any) (Refusal Error) → Type 0
-AnyGives ElementOf FaultOf refusal input (Ok x) = BeginsWithElement ElementOf input x.1 x.0
+AnyGives ElementOf FaultOf refusal input (Ok x) = BeginsWithAny ElementOf input x.1 x.0
 AnyGives ElementOf FaultOf refusal input (Err r) = Refused FaultOf refusal input r
 
 -- the conversion to an element is the element: its header, with the identifier octets that it keeps, and its contents

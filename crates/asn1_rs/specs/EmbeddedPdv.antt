@@ -179,7 +179,7 @@ NoData octets e =
     NoElement octets e ⊎ ((p : Parts) × (rest : List ℕ) × BeginsWithParts octets p rest × has_tag 2 p (Err e))
 
 -- The contents octets begin with an identification, and then a data value. What follows is not looked at.
-pub record HasParts (content : List ℕ) (i : Identification) (value : List ℕ) : Type 0 where
+pub record HasPdvParts (content : List ℕ) (i : Identification) (value : List ℕ) : Type 0 where
   pub behind : List ℕ
   pub identified : IsIdentified content i behind
   pub data_value : IsData behind value
@@ -191,7 +191,7 @@ LacksPart content e = NotIdentified content e ⊎
 
 -- The value that the contents octets say. No text that describes it is read.
 abbrev pub PdvBody : Parts → PdvValue → Type 0
-PdvBody p v = HasParts p.content v.identification v.octets × (v.descriptor ≡ None)
+PdvBody p v = HasPdvParts p.content v.identification v.octets × (v.descriptor ≡ None)
 
 -- what the conversion may answer: the value, whose parts are borrowed,
 -- or the refusal of the first part that is not there

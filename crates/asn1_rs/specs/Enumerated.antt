@@ -12,12 +12,12 @@ abbrev pub enumerated_number : ℕ
 enumerated_number = 10
 
 -- the natural numbers of four octets
-abbrev pub IsWord : ℕ → Type 0
-IsWord n = n < 256 ^ 4
+abbrev pub IsFourOctetWord : ℕ → Type 0
+IsFourOctetWord n = n < 256 ^ 4
 
 -- the number whose digits in base 256 the octets are is one of these
 abbrev pub SaysWord : List ℕ → Type 0
-SaysWord content = IsWord (base_256_value content)
+SaysWord content = IsFourOctetWord (base_256_value content)
 
 -- A primitive element, whose contents octets are the digits of the number in base 256: none say 0, zeros in front say
 -- nothing, and there is no sign. The constraints ask for a definite length alone. The number is written as an integer
@@ -27,8 +27,8 @@ enumerated_leaf = record {
   number = enumerated_number;
   Value = ℕ;
   value = λ x. x.0;
-  IsValue = IsWord;
-  IsDer = IsWord;
+  IsValue = IsFourOctetWord;
+  IsDer = IsFourOctetWord;
   checks = is_primitive before content_check SaysWord IntegerTooLarge;
   Says = λ content n. n ≡ base_256_value content;
   constraints = is_counted;

@@ -31,8 +31,9 @@ DerWord Check Body = ElementWord IsDerElement Check Body
 -- Where it allocates, out of memory may be reported.
 abbrev pub TakesBody : {T V E : Type 0} → (Parts → V → Type 0) → (T → V) → Bool → (Error → E → Type 0) → Parts →
     Result T E → Type 0
-TakesBody Body value takes from p (Ok x) = Body p (value x)
-TakesBody {T} {V} Body value takes from p (Err e) = (IsTrue takes × from OutOfMemory e) ⊎ ((v : V) → Body p v → ⊥)
+TakesBody Body value allocates from p (Ok x) = Body p (value x)
+TakesBody {T} {V} Body value allocates from p (Err e) =
+    (IsTrue allocates × from OutOfMemory e) ⊎ ((v : V) → Body p v → ⊥)
 
 -- the check passes exactly the parts that meet it
 abbrev pub Checks : (Parts → Type 0) → Parts → Result (Unit {0}) Error → Type 0

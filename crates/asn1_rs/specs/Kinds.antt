@@ -54,14 +54,14 @@ item_grammar G = record {
 -- The check passes exactly the parts that meet the constraints, and no refusal of it reports out of memory.
 pub record IsExactCheck (check : Parts → Result (Unit {0}) Error → Type 0) (Check : Parts → Type 0) : Type 0 where
   pub exact : (p : Parts) (answer : Result (Unit {0}) Error) → check p answer → Checks Check p answer
-  pub spares : (p : Parts) → check p (Err OutOfMemory) → ⊥
+  pub asks_no_memory : (p : Parts) → check p (Err OutOfMemory) → ⊥
 
 -- The conversion takes exactly the elements whose parts have a body, with its value.
 -- Where it does not allocate, no refusal of it reports out of memory.
 pub record IsExactConversion {S : Type 0} (gives : Any → Result S Error → Type 0) (G : ElementGrammar S) : Type 0 where
   pub exact : (any : Any) (answer : Result S Error) → IsOctets any.content.now → gives any answer →
       TakesBody G.Body G.value G.allocates (λ (x y : Error). y ≡ x) (parts_of any) answer
-  pub spares : G.allocates ≡ false → (any : Any) → gives any (Err OutOfMemory) → ⊥
+  pub asks_no_memory : G.allocates ≡ false → (any : Any) → gives any (Err OutOfMemory) → ⊥
 
 -- what holds one item, and nothing else, has the values and the elements of that item
 abbrev pub holding : {S T : Type 0} → (T → S) → ElementGrammar S → ElementGrammar T

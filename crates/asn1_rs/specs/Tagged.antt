@@ -20,7 +20,7 @@ use Rattle.asn1_headers.specs.declared.error.Error.{Error}
 use Rattle.asn1_headers.specs.declared.error.Error.TheVariants.{UnexpectedTag, UnexpectedClass}
 use Rattle.asn1_headers.specs.declared.error.Err.{Err as Refusal}
 use Rattle.asn1_headers.specs.declared.error.Err.TheVariants.{Error as refused}
-use Rattle.asn1_rs.specs.Any.{BeginsWithElement}
+use Rattle.asn1_rs.specs.Any.{BeginsWithAny}
 use Rattle.asn1_headers.specs.Ber.{max_depth}
 use Rattle.asn1_headers.specs.Error.{Converted}
 use Rattle.asn1_headers.specs.Class.{class_number}
@@ -38,10 +38,10 @@ abbrev pub ThenGives : {T E : Type 0} → (List ℕ → Parts → Type 0) → (L
     (Fault → Refusal Error) → (Error → E → Type 0) → OfElement (Result (List ℕ × T) (Refusal E)) → List ℕ →
     Result (List ℕ × T) (Refusal E) → Type 0
 ThenGives ElementOf FaultOf refusal from takes input (Ok x) =
-    (any : Any) × (rest : List ℕ) × BeginsWithElement ElementOf input any rest × takes any rest (Ok x)
+    (any : Any) × (rest : List ℕ) × BeginsWithAny ElementOf input any rest × takes any rest (Ok x)
 ThenGives ElementOf FaultOf refusal from takes input (Err r) =
     ((fault : Fault) × FaultOf input fault × Converted from (refusal fault) r) ⊎
-    ((any : Any) × (rest : List ℕ) × BeginsWithElement ElementOf input any rest × takes any rest (Err r))
+    ((any : Any) × (rest : List ℕ) × BeginsWithAny ElementOf input any rest × takes any rest (Err r))
 
 -- the same by DER and by BER
 abbrev pub ThenByDer : {T E : Type 0} → (Error → E → Type 0) → OfElement (Result (List ℕ × T) (Refusal E)) → List ℕ →
@@ -75,7 +75,7 @@ TakesOfHeader g f header octets = (p : Bor (List ℕ)) → p.now ≡ octets → 
 -- this holds of the element that begins the input, where it has this tag number
 abbrev pub HoldsOfNumber : (List ℕ → Parts → Type 0) → Tag → (Any → Type 0) → List ℕ → Type 0
 HoldsOfNumber ElementOf tag Holds input =
-    (any : Any) (rest : List ℕ) → BeginsWithElement ElementOf input any rest → tag_of any.header ≡ tag → Holds any
+    (any : Any) (rest : List ℕ) → BeginsWithAny ElementOf input any rest → tag_of any.header ≡ tag → Holds any
 
 -- the number of a tag, as a `u32` holds it: a parameter of this type is it
 abbrev pub number_of : ℕ → ℕ

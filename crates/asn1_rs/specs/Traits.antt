@@ -9,7 +9,7 @@ use Rattle.asn1_headers.specs.declared.error.Err.TheVariants.{Error as refused}
 use Rattle.asn1_headers.specs.Error.{Converted}
 use Rattle.asn1_headers.specs.Header.Reading.{der_refusal, ber_refusal}
 use Rattle.x690.specs.Nested.{IsElement, ElementFault}
-use Rattle.asn1_rs.specs.Any.{parts_of, BeginsWithElement}
+use Rattle.asn1_rs.specs.Any.{parts_of, BeginsWithAny}
 use Rattle.asn1_headers.specs.Ber.{max_depth}
 
 -- what a conversion may answer that looks at the parts of an element alone
@@ -22,10 +22,10 @@ abbrev pub ElementGives : {T E : Type 0} → (List ℕ → Parts → Type 0) →
     (Fault → Refusal Error) → (Parts → Result (Unit {0}) Error → Type 0) → (Any → Result T E → Type 0) →
     (Error → E → Type 0) → List ℕ → Result (List ℕ × T) (Refusal E) → Type 0
 ElementGives ElementOf FaultOf refusal check convert from input (Ok x) =
-    (any : Any) × BeginsWithElement ElementOf input any x.0 × check (parts_of any) (Ok tt) × convert any (Ok x.1)
+    (any : Any) × BeginsWithAny ElementOf input any x.0 × check (parts_of any) (Ok tt) × convert any (Ok x.1)
 ElementGives {T} {E} ElementOf FaultOf refusal check convert from input (Err r) =
     ((fault : Fault) × FaultOf input fault × Converted from (refusal fault) r) ⊎
-    ((any : Any) × (rest : List ℕ) × BeginsWithElement ElementOf input any rest ×
+    ((any : Any) × (rest : List ℕ) × BeginsWithAny ElementOf input any rest ×
     (((e : Error) × check (parts_of any) (Err e) × ((f : E) × from e f × (r ≡ refused f))) ⊎
     (check (parts_of any) (Ok tt) × ((e : E) × convert any (Err e) × (r ≡ refused e)))))
 

@@ -48,10 +48,11 @@ module _ {T F V E : Type 0} (reads : List ℕ → Result (List ℕ × T) (Refusa
       (items_ended G value Tells (octets_left s) items e (octets_left u) w)
 
 -- a refusal tells of memory, or that no word begins what is left
-pub why_refused : {V E : Type 0} (from : Error → E → Type 0) (G : List ℕ → V → Type 0) (takes : Bool) (content : List ℕ)
-    (values : List V) (e : E) → EndsJoined G (TellsNoWord G (IsMemory takes from)) content values e →
+pub why_refused : {V E : Type 0} (from : Error → E → Type 0) (G : List ℕ → V → Type 0) (allocates : Bool)
+    (content : List ℕ)
+    (values : List V) (e : E) → EndsJoined G (TellsNoWord G (IsMemory allocates from)) content values e →
     from errors.OutOfMemory e ⊎ EndsBefore G content e
-why_refused from G takes content values e j =
+why_refused from G allocates content values e j =
     elim j.tells [
       | inl m ↦ inl m.1
       | inr none ↦ inr (

@@ -33,8 +33,9 @@ use Rattle.asn1_rs.specs.Laws.Tagged.Explicit.{explicit_fits}
 use Rattle.asn1_rs.specs.Laws.Words.{strict_element}
 use Rattle.asn1_rs_uses.specs.declared.principal.Principal.{Principal}
 use Rattle.asn1_rs_uses.specs.Messages.{in_sequence}
-use Rattle.asn1_rs_uses.specs.Principals.{RealmByDer, OptionalWord, BeginsWithPrincipal, under_tag, integer_element}
-use Rattle.asn1_rs_uses.specs.Principals.{string_element, or_nothing, principal_octets}
+use Rattle.asn1_rs_uses.specs.Principals.{RealmByDer, OptionalWord, BeginsWithPrincipal, under_tag}
+use Rattle.asn1_rs_uses.specs.Principals.{integer_element_octets}
+use Rattle.asn1_rs_uses.specs.Principals.{string_element_octets, or_nothing, principal_octets}
 use Rattle.asn1_rs_uses.proofs.PrincipalWords.{numbers, numbers_lawful, strings, strings_lawful, lists, lists_lawful}
 use Rattle.asn1_rs_uses.proofs.PrincipalWords.{under_lawful}
 
@@ -51,7 +52,8 @@ module _ {S : Type 0} (number : ℕ) (few : number < 2 ^ 32) (G : ItemGrammar S)
       (under_tag number o) under_strict in
       definite_element_is_octets der_rule (under_tag number o) (made under_strict.id under_strict.content) element
 
-number_strict : (n : ℤ) → IsSigned 4 n → length (signed_octets n) < 2 ^ 64 → IsStrict numbers.Form n (integer_element n)
+number_strict : (n : ℤ) → IsSigned 4 n → length (signed_octets n) < 2 ^ 64 →
+    IsStrict numbers.Form n (integer_element_octets n)
 number_strict n held short = strict_made numbers.Form numbers_lawful.form_fits n (universal false 2) (signed_octets n)
     (refl, (held, signed_octets_content n)) short
 
@@ -59,48 +61,51 @@ abbrev string_header : OctetString → List ℕ
 string_header s = header_octets 0 false 4 (length (octets_of s))
 
 string_strict : (s : OctetString) → IsOctets (octets_of s) → length (octets_of s) < 2 ^ 64 →
-    IsStrict strings.Form (octets_of s) (string_element s)
+    IsStrict strings.Form (octets_of s) (string_element_octets s)
 string_strict s o short = strict_made strings.Form strings_lawful.form_fits (octets_of s) (universal false 4)
     (octets_of s) (refl, (o, refl)) short
 
 strings_joined : (xs : List OctetString) → All IsOctets (map octets_of xs) →
-    length (flat_map string_element xs) < 2 ^ 64 →
-    IsJoined (StrictWord strings.Form) (flat_map string_element xs) (map octets_of xs)
+    length (flat_map string_element_octets xs) < 2 ^ 64 →
+    IsJoined (StrictWord strings.Form) (flat_map string_element_octets xs) (map octets_of xs)
 strings_joined [] a short = refl
 strings_joined (x ∷ xs) a short =
-    let e = flat_map-cons string_element x xs in
-    let both = ap length e ∙ length-append (string_element x) (flat_map string_element xs) in
+    let e = flat_map-cons string_element_octets x xs in
+    let both = ap length e ∙ length-append (string_element_octets x) (flat_map string_element_octets xs) in
     let inner = length-append (string_header x) (octets_of x) in (
-      string_element x,
-      flat_map string_element xs,
+      string_element_octets x,
+      flat_map string_element_octets xs,
       string_strict x (All-head IsOctets (octets_of x) (map octets_of xs) a) (omega (arith, both, inner, short)),
       e,
       strings_joined xs (All-tail IsOctets (octets_of x) (map octets_of xs) a) (omega (arith, both, short)),
     )
 
-list_strict : (xs : List OctetString) → All IsOctets (map octets_of xs) → length (flat_map string_element xs) < 2 ^ 64 →
-    IsStrict lists.Form (map octets_of xs) (in_sequence (flat_map string_element xs))
+list_strict : (xs : List OctetString) → All IsOctets (map octets_of xs) →
+    length (flat_map string_element_octets xs) < 2 ^ 64 →
+    IsStrict lists.Form (map octets_of xs) (in_sequence (flat_map string_element_octets xs))
 list_strict xs a short = strict_made lists.Form lists_lawful.form_fits (map octets_of xs) (universal true 16)
-    (flat_map string_element xs) (refl, strings_joined xs a short) short
+    (flat_map string_element_octets xs) (refl, strings_joined xs a short) short
 
 abbrev Realm : Type 0
 Realm = TaggedValue OctetString Error Explicit 2 2
 
 -- a realm, or no octets
 realm_word : (r : Option Realm) → IfHeld (λ t. IsOctets (octets_of t.inner)) r →
-    length (or_nothing (λ (t : Realm). under_tag 2 (string_element t.inner)) r) < 2 ^ 64 →
+    length (or_nothing (λ (t : Realm). under_tag 2 (string_element_octets t.inner)) r) < 2 ^ 64 →
     OptionalWord (λ o (t : Realm). RealmByDer o (octets_of t.inner))
-    (or_nothing (λ (t : Realm). under_tag 2 (string_element t.inner)) r) r ×
-    IsOctets (or_nothing (λ (t : Realm). under_tag 2 (string_element t.inner)) r)
+    (or_nothing (λ (t : Realm). under_tag 2 (string_element_octets t.inner)) r) r ×
+    IsOctets (or_nothing (λ (t : Realm). under_tag 2 (string_element_octets t.inner)) r)
 realm_word None h short = (refl, λ k. lit< tt)
 realm_word (Some t) h short =
-    let whole = length-append (header_octets 2 true 2 (length (string_element t.inner))) (string_element t.inner) in
+    let whole = length-append (header_octets 2 true 2 (length (string_element_octets t.inner)))
+    (string_element_octets t.inner) in
     let inner = length-append (string_header t.inner) (octets_of t.inner) in
     let s = string_strict t.inner h (omega (arith, whole, inner, short)) in
-    let fits : length (string_element t.inner) < 2 ^ 64 = omega (arith, whole, short) in (
-      (under_lawful 2 strings strings_lawful).strict_der (octets_of t.inner) (under_tag 2 (string_element t.inner))
-          (under_strict 2 (lit< tt) strings strings_lawful (octets_of t.inner) (string_element t.inner) s fits),
-      under_octets 2 (lit< tt) strings strings_lawful (octets_of t.inner) (string_element t.inner) s fits,
+    let fits : length (string_element_octets t.inner) < 2 ^ 64 = omega (arith, whole, short) in (
+      (under_lawful 2 strings strings_lawful).strict_der (octets_of t.inner)
+          (under_tag 2 (string_element_octets t.inner))
+          (under_strict 2 (lit< tt) strings strings_lawful (octets_of t.inner) (string_element_octets t.inner) s fits),
+      under_octets 2 (lit< tt) strings strings_lawful (octets_of t.inner) (string_element_octets t.inner) s fits,
     )
 
 -- what is written of a principal in hand, and anything behind it
@@ -111,27 +116,28 @@ pub principal_back : (x : Principal) (rest : List ℕ) → IsSigned 4 x.kind.inn
 principal_back x rest held octets realm short =
     let n = x.kind.inner in
     let xs = x.names.inner.items in
-    let first = under_tag 0 (integer_element n) in
-    let joined = flat_map string_element xs in
+    let first = under_tag 0 (integer_element_octets n) in
+    let joined = flat_map string_element_octets xs in
     let second = under_tag 1 (in_sequence joined) in
-    let third = or_nothing (λ t. under_tag 2 (string_element t.inner)) x.realm in
+    let third = or_nothing (λ t. under_tag 2 (string_element_octets t.inner)) x.realm in
     let content = first ++ second ++ third in
     let l0 = length-append (header_octets 0 true 16 (length content)) content in
     let l1 = length-append (first ++ second) third in
     let l2 = length-append first second in
-    let l3 = length-append (header_octets 2 true 0 (length (integer_element n))) (integer_element n) in
+    let l3 = length-append (header_octets 2 true 0 (length (integer_element_octets n))) (integer_element_octets n) in
     let l4 = length-append (header_octets 0 false 2 (length (signed_octets n))) (signed_octets n) in
     let l5 = length-append (header_octets 2 true 1 (length (in_sequence joined))) (in_sequence joined) in
     let l6 = length-append (header_octets 0 true 16 (length joined)) joined in
-    let k : IsStrict numbers.Form n (integer_element n) =
+    let k : IsStrict numbers.Form n (integer_element_octets n) =
     number_strict n held (omega (arith, l0, l1, l2, l3, l4, short)) in
     let s : IsStrict lists.Form (map octets_of xs) (in_sequence joined) =
     list_strict xs octets (omega (arith, l0, l1, l2, l5, l6, short)) in
-    let kind_fits : length (integer_element n) < 2 ^ 64 = omega (arith, l0, l1, l2, l3, short) in
+    let kind_fits : length (integer_element_octets n) < 2 ^ 64 = omega (arith, l0, l1, l2, l3, short) in
     let names_fit : length (in_sequence joined) < 2 ^ 64 = omega (arith, l0, l1, l2, l5, short) in
     let r = realm_word x.realm realm (omega (arith, l0, l1, short)) in
     let whole : IsOctets content = octets_append (first ++ second) third
-    (octets_append first second (under_octets 0 (lit< tt) numbers numbers_lawful n (integer_element n) k kind_fits)
+    (octets_append first second (under_octets 0 (lit< tt) numbers numbers_lawful n (integer_element_octets n) k
+    kind_fits)
     (under_octets 1 (lit< tt) lists lists_lawful (map octets_of xs) (in_sequence joined) s names_fit)) r.1 in
     record {
       word = principal_octets x;
@@ -148,7 +154,7 @@ principal_back x rest held octets realm short =
         third = third;
         joined = append_assoc first second third;
         kind_is = (under_lawful 0 numbers numbers_lawful).strict_der n first
-            (under_strict 0 (lit< tt) numbers numbers_lawful n (integer_element n) k kind_fits);
+            (under_strict 0 (lit< tt) numbers numbers_lawful n (integer_element_octets n) k kind_fits);
         names_are = (under_lawful 1 lists lists_lawful).strict_der (map octets_of xs) second
             (under_strict 1 (lit< tt) lists lists_lawful (map octets_of xs) (in_sequence joined) s names_fit);
         realm_is = r.0;

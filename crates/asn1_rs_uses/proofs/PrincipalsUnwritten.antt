@@ -16,7 +16,8 @@ use Rattle.asn1_rs.specs.Optional.{IfHeld, HeldRefuses, held_or}
 use Rattle.asn1_rs.specs.ToDer.{HasNone, Either}
 use Rattle.asn1_rs_uses.specs.declared.principal.Principal.{Principal}
 use Rattle.asn1_rs_uses.specs.Messages.{in_sequence}
-use Rattle.asn1_rs_uses.specs.Principals.{under_tag, integer_element, string_element, or_nothing, principal_octets}
+use Rattle.asn1_rs_uses.specs.Principals.{under_tag, integer_element_octets, string_element_octets, or_nothing}
+use Rattle.asn1_rs_uses.specs.Principals.{principal_octets}
 
 abbrev Realm : Type 0
 Realm = TaggedValue OctetString Error Explicit 2 2
@@ -35,34 +36,34 @@ part_refused a n m e le none (inl p) = may_more a n m e le p
 part_refused a n m e le none (inr o) = absurd (none o)
 
 -- a part has no refusal of its own, where its header and its contents octets have none
-pub part_writable : {Counted : Type 0} (heading filling : SerializeError → Type 0) →
-    Counted × HasNone heading × HasNone filling → HasNone (Either heading filling)
-part_writable heading filling none e (inl o) = none.1 e o
-part_writable heading filling none e (inr o) = none.2 e o
+pub part_writable : {Counted : Type 0} (header_refuses content_refuses : SerializeError → Type 0) →
+    Counted × HasNone header_refuses × HasNone content_refuses → HasNone (Either header_refuses content_refuses)
+part_writable header_refuses content_refuses none e (inl o) = none.1 e o
+part_writable header_refuses content_refuses none e (inr o) = none.2 e o
 
 -- what is said of each realm is said of one that may be left out
 pub each_held : (P : Realm → Type 0) → ((t : Realm) → P t) → (r : Option Realm) → IfHeld P r
 each_held P each None = tt
 each_held P each (Some t) = each t
 
-pub none_held : (heading filling : Realm → SerializeError → Type 0) (r : Option Realm) →
+pub none_held : (header_refuses content_refuses : Realm → SerializeError → Type 0) (r : Option Realm) →
     IfHeld (λ t. IsOctets (octets_of t.inner)) r →
-    ((t : Realm) → IsOctets (octets_of t.inner) → HasNone (Either (heading t) (filling t))) →
-    HasNone (Either (HeldRefuses heading r) (HeldRefuses filling r))
-none_held heading filling None h none e (inl o) = o
-none_held heading filling None h none e (inr o) = o
-none_held heading filling (Some t) h none e o = none t h e o
+    ((t : Realm) → IsOctets (octets_of t.inner) → HasNone (Either (header_refuses t) (content_refuses t))) →
+    HasNone (Either (HeldRefuses header_refuses r) (HeldRefuses content_refuses r))
+none_held header_refuses content_refuses None h none e (inl o) = o
+none_held header_refuses content_refuses None h none e (inr o) = o
+none_held header_refuses content_refuses (Some t) h none e o = none t h e o
 
 -- each part has fewer octets than the whole
 module _ (x : Principal) where
   abbrev First : List ℕ
-  First = under_tag 0 (integer_element x.kind.inner)
+  First = under_tag 0 (integer_element_octets x.kind.inner)
 
   abbrev Second : List ℕ
-  Second = under_tag 1 (in_sequence (flat_map string_element x.names.inner.items))
+  Second = under_tag 1 (in_sequence (flat_map string_element_octets x.names.inner.items))
 
   abbrev Third : List ℕ
-  Third = or_nothing (λ (t : Realm). under_tag 2 (string_element t.inner)) x.realm
+  Third = or_nothing (λ (t : Realm). under_tag 2 (string_element_octets t.inner)) x.realm
 
   whole : length First + length Second + length Third ≤ length (principal_octets x)
   whole = omega (
@@ -78,12 +79,13 @@ module _ (x : Principal) where
   pub names_within : length Second ≤ length (principal_octets x)
   names_within = omega (arith, whole)
 
-  pub realm_within : length (held_or [] (λ (t : Realm). header_octets 2 true 2 (length (string_element t.inner)))
-      x.realm ++ held_or [] (λ (t : Realm). string_element t.inner) x.realm) ≤ length (principal_octets x)
+  pub realm_within : length (held_or [] (λ (t : Realm). header_octets 2 true 2 (length (string_element_octets t.inner)))
+      x.realm ++ held_or [] (λ (t : Realm). string_element_octets t.inner) x.realm) ≤ length (principal_octets x)
   realm_within = omega (arith, whole, ap length (same x.realm))
     where
       same : (r : Option Realm) →
-          held_or [] (λ (t : Realm). header_octets 2 true 2 (length (string_element t.inner))) r ++ held_or []
-          (λ (t : Realm). string_element t.inner) r ≡ or_nothing (λ (t : Realm). under_tag 2 (string_element t.inner)) r
+          held_or [] (λ (t : Realm). header_octets 2 true 2 (length (string_element_octets t.inner))) r ++ held_or []
+          (λ (t : Realm). string_element_octets t.inner) r ≡ or_nothing
+          (λ (t : Realm). under_tag 2 (string_element_octets t.inner)) r
       same None = refl
       same (Some t) = refl

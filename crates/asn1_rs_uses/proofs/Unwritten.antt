@@ -65,31 +65,32 @@ names_some xs (k, x, lt, at, h) =
     (e, (k, x, lt, at, inl (h, refl)), (k, x, lt, at, (e, inl (h, refl), refl)))
 
 -- a list is refused as any writing, or with the class of an item
-pub list_refused : (takes : Bool) (n : ℕ) (xs : List InClass) (r : Result ℕ SerializeError) →
-    IfErr r (Refuses takes n (Either (WrittenRefusal (SomeRefuses (λ (x : InClass) e. ⊥) xs))
+pub list_refused : (allocates : Bool) (n : ℕ) (xs : List InClass) (r : Result ℕ SerializeError) →
+    IfErr r (Refuses allocates n (Either (WrittenRefusal (SomeRefuses (λ (x : InClass) e. ⊥) xs))
     (SomeRefuses (λ x. Either (NamesNoClass x.class) (NamesNoClass x.class)) xs))) →
-    IfErr r (λ e. MayRefuse takes n e ⊎ TellsOfNoClass xs e)
-list_refused takes n xs (Ok k) why = tt
-list_refused takes n xs (Err e) (inl may) = inl may
-list_refused takes n xs (Err e) (inr (inl (f, (k, x, lt, at, none), is))) = absurd none
-list_refused takes n xs (Err e) (inr (inr (k, x, lt, at, own))) = inr (k, x, lt, at, either_same (NamesNoClass x.class) e own)
+    IfErr r (λ e. MayRefuse allocates n e ⊎ TellsOfNoClass xs e)
+list_refused allocates n xs (Ok k) why = tt
+list_refused allocates n xs (Err e) (inl may) = inl may
+list_refused allocates n xs (Err e) (inr (inl (f, (k, x, lt, at, none), is))) = absurd none
+list_refused allocates n xs (Err e) (inr (inr (k, x, lt, at, own))) =
+    inr (k, x, lt, at, either_same (NamesNoClass x.class) e own)
 
-may_as_any : (takes : Bool) (n : ℕ) (e : SerializeError) → MayRefuse takes n e → AsAnyWriting e
-may_as_any takes n (serialize_errors.ASN1Error e) p = p
-may_as_any takes n (serialize_errors.InvalidClass c) p = p
-may_as_any takes n serialize_errors.InvalidLength p = tt
-may_as_any takes n (serialize_errors.IOError e) p = tt
-may_as_any takes n serialize_errors.OutOfMemory p = tt
+may_as_any : (allocates : Bool) (n : ℕ) (e : SerializeError) → MayRefuse allocates n e → AsAnyWriting e
+may_as_any allocates n (serialize_errors.ASN1Error e) p = p
+may_as_any allocates n (serialize_errors.InvalidClass c) p = p
+may_as_any allocates n serialize_errors.InvalidLength p = tt
+may_as_any allocates n (serialize_errors.IOError e) p = tt
+may_as_any allocates n serialize_errors.OutOfMemory p = tt
 
 -- and so is a set, where memory may be wanted first
-pub set_refused : (takes : Bool) (n : ℕ) (xs : List InClass) (r : Result ℕ SerializeError) →
-    IfErr r (Refuses takes n (Either (WrittenRefusal (SomeRefuses (λ (x : InClass) e. ⊥) xs))
+pub set_refused : (allocates : Bool) (n : ℕ) (xs : List InClass) (r : Result ℕ SerializeError) →
+    IfErr r (Refuses allocates n (Either (WrittenRefusal (SomeRefuses (λ (x : InClass) e. ⊥) xs))
     (SomeRefuses (λ x. IntoVector (Either (NamesNoClass x.class) (NamesNoClass x.class))) xs))) →
     IfErr r (λ e. AsAnyWriting e ⊎ TellsOfNoClass xs e)
-set_refused takes n xs (Ok k) why = tt
-set_refused takes n xs (Err e) (inl may) = inl (may_as_any takes n e may)
-set_refused takes n xs (Err e) (inr (inl (f, (k, x, lt, at, none), is))) = absurd none
-set_refused takes n xs (Err e) (inr (inr (k, x, lt, at, (f, own, is)))) =
+set_refused allocates n xs (Ok k) why = tt
+set_refused allocates n xs (Err e) (inl may) = inl (may_as_any allocates n e may)
+set_refused allocates n xs (Err e) (inr (inl (f, (k, x, lt, at, none), is))) = absurd none
+set_refused allocates n xs (Err e) (inr (inr (k, x, lt, at, (f, own, is)))) =
     let named = either_same (NamesNoClass x.class) f own in
     inr (k, x, lt, at, (named.0, is ∙ ap vector_refusal named.1))
 
@@ -116,13 +117,13 @@ written_empty octets e (errors.InvalidValue tag msg, own, is) = rw is own.1
 written_empty octets e (f, own, is) = absurd own.1
 
 -- nor is it written, and nothing is appended
-may_at_once : (takes : Bool) (n : ℕ) (e : SerializeError) → MayRefuse takes n e → tells_of_io e ≡ false →
+may_at_once : (allocates : Bool) (n : ℕ) (e : SerializeError) → MayRefuse allocates n e → tells_of_io e ≡ false →
     IsMemoryOrLength e
-may_at_once takes n (serialize_errors.ASN1Error e) p h = absurd p
-may_at_once takes n (serialize_errors.InvalidClass c) p h = absurd p
-may_at_once takes n serialize_errors.InvalidLength p h = inr refl
-may_at_once takes n (serialize_errors.IOError e) p h = cc
-may_at_once takes n serialize_errors.OutOfMemory p h = inl refl
+may_at_once allocates n (serialize_errors.ASN1Error e) p h = absurd p
+may_at_once allocates n (serialize_errors.InvalidClass c) p h = absurd p
+may_at_once allocates n serialize_errors.InvalidLength p h = inr refl
+may_at_once allocates n (serialize_errors.IOError e) p h = cc
+may_at_once allocates n serialize_errors.OutOfMemory p h = inl refl
 
 own_unwritten : (parts : List NamePart) (e : SerializeError) →
     Either (WrittenRefusal (SomeRefuses (λ p. IsEmptyPart p.0.now) parts))
@@ -132,13 +133,14 @@ own_unwritten parts e (inl (f, (k, p, lt, at, own), is)) = written_empty p.0.now
 own_unwritten parts e (inr (k, p, lt, at, own)) =
     written_empty p.0.now e (either_same (WrittenRefusal (IsEmptyPart p.0.now)) e own)
 
-pub name_unwritten : (takes : Bool) (n : ℕ) (parts : List NamePart) (old new : WriterState) (r : Result ℕ SerializeError) →
-    IsRefusedAtOnce takes n (Either (WrittenRefusal (SomeRefuses (λ p. IsEmptyPart p.0.now) parts))
+pub name_unwritten : (allocates : Bool) (n : ℕ) (parts : List NamePart) (old new : WriterState)
+    (r : Result ℕ SerializeError) →
+    IsRefusedAtOnce allocates n (Either (WrittenRefusal (SomeRefuses (λ p. IsEmptyPart p.0.now) parts))
     (SomeRefuses (λ p. Either (WrittenRefusal (IsEmptyPart p.0.now)) (WrittenRefusal (IsEmptyPart p.0.now))) parts)) old
     new r → IsErrAnd r (λ e. WrittenEmptyPart e ⊎ IsMemoryOrLength e) × (new ≡ old)
-name_unwritten takes n parts old new r (e, why, at) =
+name_unwritten allocates n parts old new r (e, why, at) =
     let telling : WrittenEmptyPart e ⊎ IsMemoryOrLength e =
-    elim why [ inl may ↦ inr (may_at_once takes n e may.0 may.1) | inr own ↦ inl (own_unwritten parts e own) ] in
+    elim why [ inl may ↦ inr (may_at_once allocates n e may.0 may.1) | inr own ↦ inl (own_unwritten parts e own) ] in
     (rw at.refused telling, at.kept)
 
 -- so few octets has the header of an element of one

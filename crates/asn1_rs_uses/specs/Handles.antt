@@ -24,12 +24,12 @@ use Rattle.asn1_rs.specs.Kinds.{item_grammar}
 use Rattle.asn1_rs.specs.Laws.Integer.{integer_checks, integer_lawful}
 use Rattle.asn1_rs.specs.Laws.Integer.Unsigned.{unsigned_converts}
 use Rattle.asn1_rs.specs.Laws.Kinds.{held_takes, lawful_item, other_error}
-use Rattle.asn1_rs.specs.Laws.Readers.{all_pass, ber_breach_spares, ber_elements, element_exact, element_spares}
+use Rattle.asn1_rs.specs.Laws.Readers.{all_pass, ber_breach_no_memory, ber_elements, element_exact, element_no_memory}
 use Rattle.asn1_rs.specs.Laws.Readers.{passes_all}
 use Rattle.asn1_rs.specs.Laws.Tagged.Explicit.{explicit_lawful, explicit_number, explicit_takes_class, explicit_takes}
-use Rattle.asn1_rs.specs.Laws.Tagged.Explicit.{explicit_takes_spares, explicit_checks}
+use Rattle.asn1_rs.specs.Laws.Tagged.Explicit.{explicit_takes_no_memory, explicit_checks}
 use Rattle.asn1_rs.specs.Laws.Tagged.Implicit.{implicit_lawful, implicit_form_body, implicit_takes}
-use Rattle.asn1_rs.specs.Laws.Tagged.Implicit.{implicit_takes_spares, implicit_checked}
+use Rattle.asn1_rs.specs.Laws.Tagged.Implicit.{implicit_takes_no_memory, implicit_checked}
 use Rattle.asn1_rs.specs.Tagged.Explicit.{ExplicitBody, ExplicitCheck, ExplicitForm, ExplicitTakes, ExplicitCheckGives}
 use Rattle.asn1_rs.specs.Tagged.Explicit.{explicit_grammar}
 use Rattle.asn1_rs.specs.Tagged.Implicit.{ImplicitBody, ImplicitCheck, ImplicitForm, ImplicitTakes, ImplicitCheckGives}
@@ -120,7 +120,8 @@ handle_lawful number =
 -- The constraints of a handle are exactly those of what it holds.
 pub handle_checked : IsExactCheck HandleCheckGives (ImplicitCheck 1 PlaceCheck)
 handle_checked = implicit_checked 1 (ExplicitCheckGives BerElementGives IntegerCheckGives) PlaceCheck
-    (explicit_checks (IsElement max_depth) (ElementFault max_depth) EndsWithin ber_elements ber_breach ber_breach_spares
+    (explicit_checks (IsElement max_depth) (ElementFault max_depth) EndsWithin ber_elements ber_breach
+    ber_breach_no_memory
     IntegerCheckGives IntegerCheck integer_checks)
 
 -- the number is read by BER
@@ -136,11 +137,12 @@ reads_exact input answer octets =
     passes_all (unsigned_converts 1).exact (λ o v w. w) (λ o v w. w) input answer
 
 -- A refusal of such a reading is one of the library's.
-reads_spare : (input : List ℕ) (answer : Result (List ℕ × ℕ) (Refusal Error)) → Reads input answer →
+reads_no_memory : (input : List ℕ) (answer : Result (List ℕ × ℕ) (Refusal Error)) → Reads input answer →
     IfErr answer (HeldIn (IsOther (λ x y. y ≡ x)))
-reads_spare = element_spares (IsElement max_depth) (ElementFault max_depth) ber_breach ber_breach_spares PassesAll
+reads_no_memory = element_no_memory (IsElement max_depth) (ElementFault max_depth) ber_breach ber_breach_no_memory
+    PassesAll
     (OfParts (UnsignedGives 1)) (λ x y. y ≡ x) all_pass
-    (other_error (OfParts (UnsignedGives 1)) ((unsigned_converts 1).spares refl))
+    (other_error (OfParts (UnsignedGives 1)) ((unsigned_converts 1).asks_no_memory refl))
 
 -- memory is not another cause than memory
 not_other : IsOther (λ (x y : Error). y ≡ x) errors.OutOfMemory → ⊥
@@ -159,11 +161,11 @@ module _ {P W T : Type 0} (held : T → W) (place : W → P) (number : P → ℕ
       (parts_of any))
 
   -- A refusal of that conversion is one of the library's.
-  spares : (any : Any) (e : Error) →
+  asks_no_memory : (any : Any) (e : Error) →
       ImplicitTakes 2 0 place (record { 0 = 1 }) (PlaceTakes number) (λ x y. y ≡ x) any (Err e) →
       IsOther (λ x y. y ≡ x) e
-  spares = implicit_takes_spares 2 0 place (record { 0 = 1 }) (PlaceTakes number) (λ x y. y ≡ x)
-      (λ any. explicit_takes_spares 2 1 number Reads (λ x y. y ≡ x) reads_spare (parts_of any))
+  asks_no_memory = implicit_takes_no_memory 2 0 place (record { 0 = 1 }) (PlaceTakes number) (λ x y. y ≡ x)
+      (λ any. explicit_takes_no_memory 2 1 number Reads (λ x y. y ≡ x) reads_no_memory (parts_of any))
 
   -- The conversion to a handle is exact.
   pub handle_converts : IsExactConversion (HandleTakes held place number)
@@ -171,5 +173,5 @@ module _ {P W T : Type 0} (held : T → W) (place : W → P) (number : P → ℕ
   handle_converts = record {
     exact = held_takes held (item_grammar (handle_element (λ w. number (place w))))
         (ImplicitTakes 2 0 place (record { 0 = 1 }) (PlaceTakes number) (λ x y. y ≡ x)) (λ x y. y ≡ x) takes;
-    spares = λ none any g. not_other (spares any errors.OutOfMemory g);
+    asks_no_memory = λ none any g. not_other (asks_no_memory any errors.OutOfMemory g);
   }

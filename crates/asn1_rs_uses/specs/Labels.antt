@@ -16,7 +16,7 @@ use Rattle.asn1_rs.specs.declared.asn1_types.tagged.TaggedValue.{TaggedValue}
 use Rattle.asn1_rs.specs.declared.asn1_types.tagged.parser.TaggedParser.{TaggedParser}
 use Rattle.asn1_rs_uses.specs.declared.labels.EachCall.{EachCall}
 use Rattle.asn1_rs_uses.specs.Messages.{in_sequence}
-use Rattle.asn1_rs_uses.specs.Principals.{under_tag, or_nothing, string_element}
+use Rattle.asn1_rs_uses.specs.Principals.{under_tag, or_nothing, string_element_octets}
 
 -- the types, since antt has no names for aliases
 abbrev pub Label : Type 0
@@ -36,7 +36,7 @@ Headed = TaggedParser Explicit OctetString Error
 
 -- what is written for a label that may be left out
 abbrev pub label_octets : Option Label → List ℕ
-label_octets = or_nothing (λ t. under_tag 1 (string_element t.inner))
+label_octets = or_nothing (λ t. under_tag 1 (string_element_octets t.inner))
 
 -- what is written for one of the list
 abbrev pub general_string_octets : GeneralString → List ℕ
@@ -49,7 +49,7 @@ labels_octets t = under_tag 0 (in_sequence (flat_map general_string_octets t.inn
 -- the class and the tag number are those of the header in hand
 abbrev pub headed_octets : Headed → List ℕ
 headed_octets t =
-    let inner = string_element t.inner in
+    let inner = string_element_octets t.inner in
     header_octets (class_number (class_of t.header)) true (tag_of t.header).0 (length inner) ++ inner
 
 -- What each call answers of a value with these octets: their number, that they were written into one writer and into

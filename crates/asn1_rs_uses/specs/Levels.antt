@@ -34,10 +34,10 @@ module _ {T E : Type 0} (own : Error → E) (converts : Any → Result T Error �
       ]
 
   -- and reports out of memory where that does
-  pub refused_as_spares : G.allocates ≡ false → (any : Any) (r : E) → RefusedAs own converts any (Err r) →
+  pub refused_as_no_memory : G.allocates ≡ false → (any : Any) (r : E) → RefusedAs own converts any (Err r) →
       IsOther (λ x y. y ≡ own x) r
-  refused_as_spares none any r (e, c, is) =
-      inl (e, λ q. exact.spares none any (subst (λ (x : Error). converts any (Err x)) q c), is)
+  refused_as_no_memory none any r (e, c, is) =
+      inl (e, λ q. exact.asks_no_memory none any (subst (λ (x : Error). converts any (Err x)) q c), is)
 
 -- the number that a level is
 abbrev pub level_number : Level → ℕ

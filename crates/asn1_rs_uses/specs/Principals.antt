@@ -21,12 +21,12 @@ use Rattle.asn1_rs_uses.specs.Messages.{in_sequence, WantsMemory}
 use Rattle.asn1_rs_uses.specs.declared.principal.Principal.{Principal}
 
 -- words by DER under the explicit, context-specific tag of this number
-abbrev pub UnderTag : {V : Type 0} → ℕ → (List ℕ → V → Type 0) → List ℕ → V → Type 0
-UnderTag number G = DerWord NoCheck (ExplicitBody 2 number G)
+abbrev pub UnderTagByDer : {V : Type 0} → ℕ → (List ℕ → V → Type 0) → List ℕ → V → Type 0
+UnderTagByDer number G = DerWord NoCheck (ExplicitBody 2 number G)
 
 -- the words of the three parts, by DER
 abbrev pub KindByDer : List ℕ → ℤ → Type 0
-KindByDer = UnderTag 0 (DerWord IntegerCheck (IntegerBody (IsSigned 4)))
+KindByDer = UnderTagByDer 0 (DerWord IntegerCheck (IntegerBody (IsSigned 4)))
 
 -- an octet string, by DER
 abbrev pub StringByDer : List ℕ → List ℕ → Type 0
@@ -34,11 +34,11 @@ StringByDer = LeafByDer octet_string_leaf
 
 -- a sequence of octet strings under the explicit tag 1, by DER
 abbrev pub NamesByDer : List ℕ → List (List ℕ) → Type 0
-NamesByDer = UnderTag 1 (DerWord NoCheck (ListOf 16 StringByDer))
+NamesByDer = UnderTagByDer 1 (DerWord NoCheck (ListOf 16 StringByDer))
 
 -- an octet string under the explicit tag 2, by DER
 abbrev pub RealmByDer : List ℕ → List ℕ → Type 0
-RealmByDer = UnderTag 2 StringByDer
+RealmByDer = UnderTagByDer 2 StringByDer
 
 -- a word of the value, or no octets where it is left out
 abbrev pub OptionalWord : {T : Type 0} → (List ℕ → T → Type 0) → List ℕ → Option T → Type 0
@@ -96,12 +96,12 @@ abbrev pub under_tag : ℕ → List ℕ → List ℕ
 under_tag number octets = header_octets 2 true number (length octets) ++ octets
 
 -- the strict encoding of an integer, and of an octet string
-abbrev pub integer_element : ℤ → List ℕ
-integer_element n = header_octets 0 false 2 (length (signed_octets n)) ++ signed_octets n
+abbrev pub integer_element_octets : ℤ → List ℕ
+integer_element_octets n = header_octets 0 false 2 (length (signed_octets n)) ++ signed_octets n
 
 -- the strict encoding of an octet string
-abbrev pub string_element : OctetString → List ℕ
-string_element s = header_octets 0 false 4 (length (octets_of s)) ++ octets_of s
+abbrev pub string_element_octets : OctetString → List ℕ
+string_element_octets s = header_octets 0 false 4 (length (octets_of s)) ++ octets_of s
 
 -- what is written for what is held, or no octets
 abbrev pub or_nothing : {T : Type 0} → (T → List ℕ) → Option T → List ℕ
@@ -111,6 +111,6 @@ or_nothing octets (Some x) = octets x
 -- what is written for a principal
 abbrev pub principal_octets : Principal → List ℕ
 principal_octets x = in_sequence (
-    under_tag 0 (integer_element x.kind.inner) ++
-    under_tag 1 (in_sequence (flat_map string_element x.names.inner.items)) ++
-    or_nothing (λ t. under_tag 2 (string_element t.inner)) x.realm)
+    under_tag 0 (integer_element_octets x.kind.inner) ++
+    under_tag 1 (in_sequence (flat_map string_element_octets x.names.inner.items)) ++
+    or_nothing (λ t. under_tag 2 (string_element_octets t.inner)) x.realm)

@@ -40,7 +40,7 @@ pub fn set_of_numbers(alloc: Global, octets: &[u8]) -> ParseResult<'_, SetOf<u64
 pub fn check_numbers(alloc: Global, content: &[u8]) -> Result<(), Error>
     ensures joined { IfOk result (λ _. (numbers : List ℤ) × IsJoined NumberByDer content.now numbers) }
     ensures refused { IfErr result (EndsBefore NumberByDer content.now) }
-    ensures spares { IfErr result (λ e. e ≢ errors.OutOfMemory) }
+    ensures asks_no_memory { IfErr result (λ e. e ≢ errors.OutOfMemory) }
 {
     walks_take_words::<u64, DerParser, Error>();
     for number in SequenceIterator::<u64, DerParser, Error>::new(alloc, content) {

@@ -13,7 +13,7 @@ ghost use Rattle.asn1_rs.specs.Laws.Kinds.{holding_lawful};
 ghost use Rattle.asn1_rs.specs.Tagged.{ThenByDer};
 ghost use Rattle.asn1_rs.specs.Tagged.Parser.{TakesExplicit};
 ghost use Rattle.asn1_rs.specs.Traits.{DerGives};
-ghost use Rattle.asn1_rs_uses.specs.Levels.{RefusedAs, refused_as_takes, refused_as_spares, level_number};
+ghost use Rattle.asn1_rs_uses.specs.Levels.{RefusedAs, refused_as_takes, refused_as_no_memory, level_number};
 ghost use Rattle.asn1_rs_uses.specs.Levels.{level_element, LevelConverts, level_converts, LevelByDer};
 ghost use Rattle.asn1_rs_uses.specs.declared.levels.Level.{Level};
 ghost use Rattle.asn1_rs_uses.specs.declared.levels.LevelError.{LevelError};
@@ -92,7 +92,8 @@ impl LawfulElement for Level {
 impl<'a> LawfulBody<'a, LevelError> for Level {
     ghost body_exact = { refused_as_takes Octets LevelConverts level_element level_converts };
 
-    ghost body_spares = { refused_as_spares Octets LevelConverts level_element level_converts };
+    ghost body_no_memory = { refused_as_no_memory Octets LevelConverts level_element
+        level_converts };
 }
 
 /// What reading a level by DER answers under a tag of any class and number is exact.

@@ -23,7 +23,7 @@ pub fn read_number(alloc: Global, octets: &[u8]) -> ParseResult<'_, u64, Error>
     ensures cut { (more word rest : List ℕ) (n : ℤ) → NumberByDer word n
         → octets.now ++ more ≡ word ++ rest → length octets.now < length word
         → RefusedBeforeEnd NoMemory (IsCutIdentifier octets.now) more (seen result) }
-    ensures spares { IfErr (seen result) (HeldIn (λ e. e ≢ errors.OutOfMemory)) }
+    ensures asks_no_memory { IfErr (seen result) (HeldIn (λ e. e ≢ errors.OutOfMemory)) }
 {
     reader_is_exact_by_der::<u64, Error>();
     u64::from_der(alloc, octets)
@@ -32,7 +32,7 @@ pub fn read_number(alloc: Global, octets: &[u8]) -> ParseResult<'_, u64, Error>
 /// The number at the front of the octets, by BER, and what follows it.
 pub fn read_number_by_ber(alloc: Global, octets: &[u8]) -> ParseResult<'_, u64, Error>
     ensures exact { Exactly EndsWithin NumberByBer pos NoMemory octets.now (seen result) }
-    ensures spares { IfErr (seen result) (HeldIn (λ e. e ≢ errors.OutOfMemory)) }
+    ensures asks_no_memory { IfErr (seen result) (HeldIn (λ e. e ≢ errors.OutOfMemory)) }
 {
     reader_is_exact_by_ber::<u64, Error>();
     u64::from_ber(alloc, octets)

@@ -3,7 +3,7 @@ ghost use Rattle.std.specs.Prelude.{◌≡◌, pos};
 ghost use Rattle.x690.specs.Identifiers.{IsCutIdentifier};
 ghost use Rattle.asn1_headers.specs.Answers.{Exactly, seen};
 ghost use Rattle.asn1_rs.specs.Kinds.{HoldingGives, HoldingReads};
-ghost use Rattle.asn1_rs.specs.Laws.Kinds.{held_takes, held_reads, held_spares};
+ghost use Rattle.asn1_rs.specs.Laws.Kinds.{held_takes, held_reads, held_no_memory};
 ghost use Rattle.asn1_rs_uses.specs.Numbers.{NoMemory};
 ghost use Rattle.asn1_rs_uses.specs.Version.{VersionByDer};
 
@@ -69,13 +69,14 @@ impl<T: CheckDerConstraints> CheckDerConstraints for Field<T> {
 impl<'a, T: LawfulBody<'a, E>, E: From<Error>> LawfulBody<'a, E> for Field<T> {
     ghost body_exact = { held_takes (λ x. x.0) T.grammar T.any_gives E.from_gives T.body_exact };
 
-    ghost body_spares = { T.body_spares };
+    ghost body_no_memory = { T.body_no_memory };
 }
 
 impl<'a, T: LawfulDer<'a, E>, E: From<Error>> LawfulDer<'a, E> for Field<T> {
     ghost der_exact = { held_reads (λ x. x.0) T.der_gives _ _ _ _ T.der_exact };
 
-    ghost der_spares = { λ none. held_spares (λ x. x.0) T.der_gives _ (T.der_spares none) };
+    ghost der_no_memory = { λ none. held_no_memory (λ x. x.0) T.der_gives _
+        (T.der_no_memory none) };
 }
 
 impl<T: LawfulCheck> LawfulCheck for Field<T> {

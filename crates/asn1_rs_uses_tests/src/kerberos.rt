@@ -1,11 +1,11 @@
 //! Requests of Kerberos: read, refused, and written again.
 
-use asn1_rs::{FromDer, ToDer};
-use asn1_rs_uses::{AsReq, KdcReqBody, PrincipalName};
+use asn1_rs::{FromDer, GeneralString, ToDer};
+use asn1_rs_uses::{AsReq, KdcReqBody, PrincipalName, Under};
 use std::alloc::Global;
 use std::fmt::Write;
 use std::test::Fail;
-use test_rows::{Calls, assert_rows, assert_text, octets_of, push_debug};
+use test_rows::{Calls, assert_all, assert_rows, assert_shown, assert_text, octets_of, push_debug};
 
 /// The request of `asn1_rs_outside_tests`: leaf@TESTS.EXAMPLE asks for krbtgt/TESTS.EXAMPLE until 2037, with the
 /// options 40810010, two elements of padata, three encryption types and two addresses.
@@ -88,6 +88,28 @@ fn lists_of_a_request_are_read(rt: HostRuntime) -> Result<(), Fail> {
     assert_text("lists", text.as_str(), expected)
 }
 
+#[test]
+fn numbers_of_a_request_are_read(rt: HostRuntime) -> Result<(), Fail> {
+    let alloc = rt.alloc();
+    let octets = octets_of(alloc, REQUEST)?;
+    let (_, request) = AsReq::from_der(alloc, octets.as_slice())?;
+    let body = request.as_inner().req_body.as_inner();
+    assert_shown(
+        alloc,
+        &body.kdc_options.as_inner().as_bytes(),
+        "[64, 129, 0, 16]",
+    )?;
+    assert_shown(alloc, body.nonce.as_inner(), "2147483647")?;
+    assert_shown(alloc, body.etype.as_inner(), "[18, 17, -133]")?;
+    let till = &body.till.as_inner().0;
+    let facts = [
+        body.from.is_none(),
+        (till.year, till.month, till.day) == (2037, 9, 13),
+        (till.hour, till.minute, till.second) == (2, 48, 5),
+    ];
+    assert_all("from when and until when", &facts)
+}
+
 /// Read: the rest, and whether the same octets are written. With the fewest fields, with an address, with what is
 /// encrypted with and without a version of the key, and with a ticket.
 ///
@@ -153,4 +175,29 @@ fn the_request_from_outside_is_written_again(rt: HostRuntime) -> Result<(), Fail
     let alloc = rt.alloc();
     let row = format!(in alloc; "request:\n{REQUEST} = [] true\n")?;
     assert_rows::<Requests>(alloc, row.as_str())
+}
+
+/// The name of the service in that request.
+const SERVICE: &str = "3020a003020102a11930171b066b72627467741b0d54455354532e4558414d504c45";
+
+/// That name, made by hand.
+fn service(alloc: Global) -> Result<PrincipalName<'static>, Fail> {
+    let mut parts = Vec::new(alloc);
+    parts.push(GeneralString::new("krbtgt"))?;
+    parts.push(GeneralString::new("TESTS.EXAMPLE"))?;
+    Ok(PrincipalName {
+        name_type: Under::explicit(2),
+        name_string: Under::explicit(parts),
+    })
+}
+
+#[test]
+fn a_name_is_made_read_and_written(rt: HostRuntime) -> Result<(), Fail> {
+    let alloc = rt.alloc();
+    let octets = octets_of(alloc, SERVICE)?;
+    let made = service(alloc)?.to_der_vec(alloc)?;
+    let (rest, read) = PrincipalName::from_der(alloc, octets.as_slice())?;
+    let written = read.to_der_vec(alloc)?;
+    let is_strict = octets.strip_prefix(written.as_slice()) == Some(rest);
+    assert_all("a name", &[made.as_slice() == octets.as_slice(), is_strict])
 }

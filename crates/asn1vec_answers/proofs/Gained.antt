@@ -6,7 +6,7 @@ use borrow.Rule.Slice.PartMut.{post_of}
 use Rattle.asn1vec_answers.specs.declared.request.Rule.{Rule}
 use Rattle.asn1vec_answers.specs.Request.{IsRequest}
 use Rattle.asn1vec_answers.specs.Answer.{IsAnswer, IsAnswerLine, IsRequestAnswer}
-use Rattle.asn1vec_answers.specs.Shown.{Encoding, Gains, IsReadAnswer, Reading, Says, SaysEncoding, encoding_text}
+use Rattle.asn1vec_answers.specs.Shown.{Encoding, Gains, IsReadAnswer, Reading, SaysAnswer, SaysEncoding, encoding_text}
 use Rattle.asn1vec_answers.specs.Shown.{in_hexadecimal}
 
 pub gains_both : (a b c p q : List ℕ) → b ≡ a ++ p → c ≡ b ++ q → c ≡ a ++ (p ++ q)
@@ -17,7 +17,7 @@ pub value_said : {T : Type 0} (text_of : T → List ℕ) (Encodes : T → Encodi
     (rest a b c d e f : List ℕ)
     → b ≡ a ++ codes "ok " → c ≡ b ++ text_of x → d ≡ c ++ codes " rest " → e ≡ d ++ in_hexadecimal rest →
     Gains e f (SaysEncoding (Encodes x))
-    → Gains a f (Says text_of Encodes (Ok (rest, x)))
+    → Gains a f (SaysAnswer text_of Encodes (Ok (rest, x)))
 value_said text_of Encodes x rest a b c d e f ok value word hex (said, (encoding, is, same), more) =
     let last = more ∙ ap (λ l. e ++ l) same in
     let four = gains_both d e f (in_hexadecimal rest) (encoding_text encoding) hex last in
@@ -33,7 +33,7 @@ value_said text_of Encodes x rest a b c d e f ok value word hex (said, (encoding
 -- what a reader answered
 pub reading_said : {T : Type 0} (Reads : List ℕ → Reading T → Type 0) (text_of : T → List ℕ)
     (Encodes : T → Encoding → Type 0) (octets : List ℕ) (answer : Reading T) (a b : List ℕ)
-    → Reads octets answer → Gains a b (Says text_of Encodes answer) →
+    → Reads octets answer → Gains a b (SaysAnswer text_of Encodes answer) →
     Gains a b (IsReadAnswer Reads text_of Encodes octets)
 reading_said Reads text_of Encodes octets answer a b is (gained, says, more) =
     (gained, record { answer = answer; reads = is; says = says }, more)

@@ -12,7 +12,7 @@ use Rattle.asn1vec_answers.specs.declared.types.TypeName.TheVariants.{OptU8, Has
 use Rattle.asn1vec_answers.specs.declared.types.TypeName.TheVariants.{Numeric, Printable, Teletex, Videotex, Ia5}
 use Rattle.asn1vec_answers.specs.declared.types.TypeName.TheVariants.{Graphic, Visible, General, Descriptor, Universal}
 use Rattle.asn1vec_answers.specs.declared.types.TypeName.TheVariants.{Bmp, UtcTime, GenTime, Pdv}
-use Rattle.asn1vec_answers.specs.Types.{name_of}
+use Rattle.asn1vec_answers.specs.Types.{name_of_type}
 
 -- all of them, in the order of the program
 abbrev pub types : List TypeName
@@ -79,7 +79,7 @@ module _ (P : TypeName → Type 0) (all : All P types) where
 
 -- a name that is none of theirs is of no type
 pub named : (name : List ℕ) (result : Option TypeName) →
-    MatchOption result (All (λ t. name ≢ name_of t) types) (λ t. name ≡ name_of t) →
-    MatchOption result ((t : TypeName) → name ≢ name_of t) (λ t. name ≡ name_of t)
-named name None none = each (λ t. name ≢ name_of t) none
+    MatchOption result (All (λ t. name ≢ name_of_type t) types) (λ t. name ≡ name_of_type t) →
+    MatchOption result ((t : TypeName) → name ≢ name_of_type t) (λ t. name ≡ name_of_type t)
+named name None none = each (λ t. name ≢ name_of_type t) none
 named name (Some t) same = same

@@ -72,7 +72,7 @@ use Rattle.asn1vec_answers.specs.Request.{IsRequest}
 use Rattle.asn1vec_answers.specs.Shown.{Encoding, IsWritten, IsWrittenUnless, bits_text, element_text, identifier_text}
 use Rattle.asn1vec_answers.specs.Shown.{in_hexadecimal, pdv_text, truth_text}
 use Rattle.asn1vec_answers.specs.Meaning.{Meaning}
-use Rattle.asn1vec_answers.specs.Types.{name_allocates, name_of, meaning_of, integers, elements, identifiers}
+use Rattle.asn1vec_answers.specs.Types.{name_allocates, name_of_type, meaning_of, integers, elements, identifiers}
 use Rattle.asn1vec_answers.specs.Types.{LeafEncoding, copying_leaf, coded_strings, data_values, leaf, leaf_by}
 use Rattle.asn1vec_answers.specs.Types.{lent_leaf, leaf_octets, refusing_leaf, strings, ends, Names, IsTypeAnswer}
 use Rattle.asn1vec_answers.specs.Answer.{IsRequestAnswer, IsRefusedLine, IsAnswered, IsAnswer}
@@ -285,13 +285,13 @@ allocates_none t none = grind arith
 
 -- the type that has a name
 named : List ℕ → Option TypeName
-named name = find (λ t. pointwise eqb name (name_of t)) types
+named name = find (λ t. pointwise eqb name (name_of_type t)) types
 
-named_by_its_name : (t : TypeName) → named (name_of t) ≡ Some t
+named_by_its_name : (t : TypeName) → named (name_of_type t) ≡ Some t
 unfolding named
 named_by_its_name t = grind arith
 
-one_type : (name : List ℕ) (t s : TypeName) → name ≡ name_of t → name ≡ name_of s → t ≡ s
+one_type : (name : List ℕ) (t s : TypeName) → name ≡ name_of_type t → name ≡ name_of_type s → t ≡ s
 one_type name t s a b =
     let e : Some t ≡ Some s = sym (named_by_its_name t) ∙ ap named (sym a ∙ b) ∙ named_by_its_name s in
     cc

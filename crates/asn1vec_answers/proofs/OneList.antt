@@ -12,7 +12,7 @@ use Rattle.asn1_headers.specs.declared.error.Err.TheVariants.{Error as refused, 
 use Rattle.asn1_headers.specs.declared.error.Error.{Error}
 use Rattle.asn1_headers.specs.declared.error.Error.TheVariants.{Incomplete, OutOfMemory}
 use Rattle.asn1_rs.specs.declared.asn1_types.any.Any.{Any}
-use Rattle.asn1_rs.specs.Any.{BeginsWithElement, parts_of}
+use Rattle.asn1_rs.specs.Any.{BeginsWithAny, parts_of}
 use Rattle.asn1_headers.specs.Ber.{max_depth, EndsWithin}
 use Rattle.asn1_headers.specs.Error.{FlattenedTo}
 use Rattle.asn1_headers.specs.Header.Reading.{refusal_of, der_breach, ber_breach}
@@ -110,7 +110,7 @@ module _ (ElementOf : List ℕ → Parts → Type 0) (FaultOf : List ℕ → Fau
   Gives = ElementGives ElementOf FaultOf (refusal_of refuses) PassesAll convert Same
 
   element_or_refused : (octets rest : List ℕ) (any : Any) (x : T) (r : Refusal Error) →
-      BeginsWithElement ElementOf octets any rest → convert any (Ok x) → Gives octets (Err r) →
+      BeginsWithAny ElementOf octets any rest → convert any (Ok x) → Gives octets (Err r) →
       (allocates ≡ true) × (r ≡ no_memory)
   element_or_refused octets rest any x r begins is (inl (fault, why, told)) = absurd
       (element_or_fault ElementOf FaultOf IsCut elements refuses octets rest (parts_of any) fault begins.front why)
@@ -141,8 +141,8 @@ module _ (ElementOf : List ℕ → Parts → Type 0) (FaultOf : List ℕ → Fau
 
 -- Walks.
 
-module _ {T D : Type 0} (view : T → D) (takes : Bool) (reads : List ℕ → Reading T → Type 0)
-    (once : IsOneReader view takes reads) where
+module _ {T D : Type 0} (view : T → D) (allocates : Bool) (reads : List ℕ → Reading T → Type 0)
+    (once : IsOneReader view allocates reads) where
   abbrev Takes : List ℕ → List (Result T Error) → List ℕ → Type 0
   Takes = Yields (TakesItem reads Same)
 
@@ -163,7 +163,7 @@ module _ {T D : Type 0} (view : T → D) (takes : Bool) (reads : List ℕ → Re
   ends_same octets (Err q) (Ok y) e f is too h k =
       inr (refl, inl (flattened_memory q e (once octets (Err q) (Ok y) is too).1 h))
   ends_same octets (Err q) (Err r) e f is too h k =
-      allowed takes e f (flattened_same takes q r e f (once octets (Err q) (Err r) is too) h k)
+      allowed allocates e f (flattened_same allocates q r e f (once octets (Err q) (Err r) is too) h k)
 
   same_rest : (octets rest tail : List ℕ) (x y : T) → reads octets (Ok (rest, x)) → reads octets (Ok (tail, y)) →
       (view x ≡ view y) × (tail ≡ rest)

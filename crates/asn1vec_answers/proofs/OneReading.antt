@@ -28,7 +28,8 @@ use Rattle.asn1_rs.specs.Laws.Words.{one_strict, word_one}
 use Rattle.asn1vec_answers.specs.declared.request.Rule.{Rule}
 use Rattle.asn1vec_answers.specs.declared.request.Rule.TheVariants.{Ber, Der}
 use Rattle.asn1vec_answers.specs.Names.{name_of_refusal}
-use Rattle.asn1vec_answers.specs.Shown.{in_hexadecimal, Encoding, Reading, written_text, encoding_text, ok_text, Says}
+use Rattle.asn1vec_answers.specs.Shown.{in_hexadecimal, Encoding, Reading, written_text, encoding_text, ok_text}
+use Rattle.asn1vec_answers.specs.Shown.{SaysAnswer}
 use Rattle.asn1vec_answers.specs.Shown.{Same, IsReadAnswer, ReadsByBer, ReadsByDer, IsWritten, IsWrittenUnless}
 use Rattle.asn1vec_answers.specs.Shown.{StrictEncoding}
 use Rattle.asn1vec_answers.specs.Meaning.{Meaning, ReadsByEither, optional}
@@ -121,7 +122,7 @@ module _ (m : Meaning) where
       inr (inr (inl (takes, too ∙ ap (λ (x : Refusal Error). codes "err " ++ name_of_refusal x) memory)))
 
   said_alike : (a b : Reading m.T) (text other : List ℕ) → SameReading (ShownAlike m) m.reading_allocates a b →
-      Says m.text_of m.Encodes a text → Says m.text_of m.Encodes b other → Alike text other
+      SaysAnswer m.text_of m.Encodes a text → SaysAnswer m.text_of m.Encodes b other → Alike text other
   said_alike (Ok (rest, x)) (Ok (tail, y)) text other (same, equal) (e, encodes, is) (f, encoded, too) =
       encodings_same (ok_front (m.text_of y) tail) text other e f (same.encoding e f encodes encoded)
       (is ∙ ap (λ (l : List ℕ). ok_text l rest e) same.text ∙ ap (λ (l : List ℕ). ok_text (m.text_of y) l e) equal

@@ -18,7 +18,7 @@ use Rattle.asn1_headers.specs.Answers.{Front}
 use Rattle.asn1_headers.specs.Error.{Converted}
 use Rattle.asn1_headers.specs.Header.Reading.{refusal_of}
 use Rattle.asn1_rs.specs.Laws.Readers.{AreElements, speaks_itself, speaks_now}
-use Rattle.asn1vec_answers.specs.Names.{in_brackets, name_of_error, name_of_needed, name_of_refusal}
+use Rattle.asn1vec_answers.specs.Names.{with_brackets, name_of_error, name_of_needed, name_of_refusal}
 use Rattle.asn1vec_answers.specs.Shown.{Same}
 
 pub converted_same : (s r : Refusal Error) → Converted Same s r → r ≡ s
@@ -43,7 +43,7 @@ pub same_name : (q r : Refusal Error) → named q ≡ named r → name_of_refusa
 same_name q r same = sym (shown q) ∙ ap name same ∙ shown r
   where
     name : Refusal (List ℕ) → List ℕ
-    name (cut n) = in_brackets (codes "Incomplete") (name_of_needed n)
+    name (cut n) = with_brackets (codes "Incomplete") (name_of_needed n)
     name (refused word) = word
     name (failed word) = word
 

@@ -7,8 +7,8 @@ use Rattle.asn1vec_answers.specs.declared.request.Rule.TheVariants.{Ber, Der}
 use Rattle.asn1vec_answers.specs.Request.{IsRequest, IsOtherForm, StandsFor, BeginsWithRule}
 use Rattle.asn1vec_answers.proofs.Hexadecimal.{one_meaning}
 
-abbrev IsWord : List ℕ → Type 0
-IsWord text = AllByRecursion (λ x. x ≢ 32) text
+abbrev HasNoSpace : List ℕ → Type 0
+HasNoSpace text = AllByRecursion (λ x. x ≢ 32) text
 
 abbrev first : List ℕ → ℕ
 first [] = 0
@@ -23,14 +23,14 @@ one_rule line rest other Der Ber h k = absurd (omega (arith, ap first (sym h ∙
 one_rule line rest other Der Der h k = (refl, let e = sym h ∙ k in cc)
 
 -- a word has no space
-no_space : (word a b : List ℕ) → IsWord word → word ≡ a ++ 32 ∷ b → ⊥
+no_space : (word a b : List ℕ) → HasNoSpace word → word ≡ a ++ 32 ∷ b → ⊥
 no_space [] [] b w e = absurd (cc)
 no_space [] (x ∷ a) b w e = absurd (cc)
 no_space (y ∷ word) [] b (n, w) e = n (cc)
 no_space (y ∷ word) (x ∷ a) b (n, w) e = no_space word a b w (cc)
 
 -- a text has one first word
-one_word : (a b c d : List ℕ) → IsWord a → IsWord c → a ++ 32 ∷ b ≡ c ++ 32 ∷ d → (a ≡ c) × (b ≡ d)
+one_word : (a b c d : List ℕ) → HasNoSpace a → HasNoSpace c → a ++ 32 ∷ b ≡ c ++ 32 ∷ d → (a ≡ c) × (b ≡ d)
 one_word [] b [] d v w e = (refl, cc)
 one_word [] b (y ∷ c) d v (n, w) e = absurd (n (cc))
 one_word (x ∷ a) b [] d (n, v) w e = absurd (n (cc))

@@ -58,12 +58,12 @@ pub text_more : {A : Type 0} (text_of : A → List ℕ) (seen : List (Bor A)) (r
     separator ≡ before_next (codes ",") seen
     → between ≡ now ++ separator → after ≡ between ++ text_of r.now →
     after ≡ front ++ (codes "[" ++ join_by text_of (codes ",") (read_through (seen ++ r ∷ [])))
-text_more {A} text_of seen r front now separator between after is marks grown more =
+text_more {A} text_of seen r front now separator between after is separated grown more =
     let joined = join_by text_of (codes ",") (read_through seen) in
     let longer : join_by text_of (codes ",") (read_through (seen ++ r ∷ [])) ≡ (joined ++ separator) ++ text_of r.now =
     ap (λ (xs : List A). join_by text_of (codes ",") xs) (map-append (λ (r : Bor A). r.now) seen (r ∷ []))
     ∙ joined_more text_of (codes ",") (read_through seen) r.now
-    ∙ ap (λ (l : List ℕ). (joined ++ l) ++ text_of r.now) (before_same seen ∙ sym marks) in
+    ∙ ap (λ (l : List ℕ). (joined ++ l) ++ text_of r.now) (before_same seen ∙ sym separated) in
     let all : after ≡ ((front ++ (codes "[" ++ joined)) ++ separator) ++ text_of r.now =
     more ∙ ap (λ (l : List ℕ). l ++ text_of r.now) (grown ∙ ap (λ (l : List ℕ). l ++ separator) is) in
     all ∙ append_assoc (front ++ (codes "[" ++ joined)) separator (text_of r.now)

@@ -4,7 +4,7 @@ use Rattle.std.proofs.lemmas.Bool.Decides.{nat_tests}
 use Rattle.std.proofs.lemmas.Fmt.{length-decimal-le}
 use Rattle.asn1_headers.specs.Tag.{is_container_number}
 use Rattle.x690.specs.Strict.{header_octets, identifier_octets}
-use Rattle.x690.specs.Laws.StrictHeaders.{header_octets_count, identifier_of}
+use Rattle.x690.specs.Laws.StrictHeaders.{header_octets_count, identifier_with}
 use Rattle.x690.specs.Laws.StrictLengths.{length_octets_few}
 use Rattle.x690.specs.Laws.TimeTexts.{utc_length}
 use Rattle.x690.specs.Times.{MostMilliseconds, fraction_text, generalized_time_text, utc_time_text, z_text}
@@ -16,7 +16,7 @@ module _ (number : ℕ) (content : List ℕ) where
   abbrev header : List ℕ
   header = header_octets 0 (is_container_number number) number (length content)
 
-  few_octets : length (identifier_octets (identifier_of 0 (is_container_number number) number)) ≡ 1 →
+  few_octets : length (identifier_octets (identifier_with 0 (is_container_number number) number)) ≡ 1 →
       length content ≤ 21 → length (header ++ content) < 2 ^ 64
   few_octets one short =
       let parts = header_octets_count 0 (is_container_number number) number (length content) in

@@ -54,19 +54,19 @@ word_of_error (errors.Incomplete needed) = codes "Error.Incomplete"
 word_of_error errors.OutOfMemory = codes "OutOfMemory"
 
 -- a word, and a part of it in brackets
-abbrev pub in_brackets : List ℕ → List ℕ → List ℕ
-in_brackets word part = word ++ (codes "(" ++ (part ++ codes ")"))
+abbrev pub with_brackets : List ℕ → List ℕ → List ℕ
+with_brackets word part = word ++ (codes "(" ++ (part ++ codes ")"))
 
 -- an error with the constraint that was broken, or the number of octets that are missing
 abbrev pub name_of_error : Error → List ℕ
 name_of_error (errors.DerConstraintFailed constraint) =
-    in_brackets (codes "DerConstraintFailed") (name_of_constraint constraint)
-name_of_error (errors.Incomplete needed) = in_brackets (codes "Error.Incomplete") (name_of_needed needed)
+    with_brackets (codes "DerConstraintFailed") (name_of_constraint constraint)
+name_of_error (errors.Incomplete needed) = with_brackets (codes "Error.Incomplete") (name_of_needed needed)
 name_of_error error = word_of_error error
 
 -- what a reader refuses with
 abbrev pub name_of_refusal : Refusal Error → List ℕ
-name_of_refusal (cut needed) = in_brackets (codes "Incomplete") (name_of_needed needed)
+name_of_refusal (cut needed) = with_brackets (codes "Incomplete") (name_of_needed needed)
 name_of_refusal (refused error) = name_of_error error
 name_of_refusal (failed error) = name_of_error error
 

@@ -112,17 +112,17 @@ abbrev pub Reading : Type 0 → Type 0
 Reading T = Result (List ℕ × T) (Refusal Error)
 
 -- that in words: the value, the rest and an encoding that the value may have; or the refusal
-abbrev pub Says : {T : Type 0} → (T → List ℕ) → (T → Encoding → Type 0) → Reading T → List ℕ → Type 0
-Says text_of Encodes (Ok x) text =
+abbrev pub SaysAnswer : {T : Type 0} → (T → List ℕ) → (T → Encoding → Type 0) → Reading T → List ℕ → Type 0
+SaysAnswer text_of Encodes (Ok x) text =
     (encoding : Encoding) × Encodes x.1 encoding × (text ≡ ok_text (text_of x.1) x.0 encoding)
-Says text_of Encodes (Err r) text = text ≡ codes "err " ++ name_of_refusal r
+SaysAnswer text_of Encodes (Err r) text = text ≡ codes "err " ++ name_of_refusal r
 
 -- The text says what reading the octets may answer.
 pub record IsReadAnswer {T : Type 0} (Reads : List ℕ → Reading T → Type 0) (text_of : T → List ℕ)
     (Encodes : T → Encoding → Type 0) (octets text : List ℕ) : Type 0 where
   pub answer : Reading T
   pub reads : Reads octets answer
-  pub says : Says text_of Encodes answer text
+  pub says : SaysAnswer text_of Encodes answer text
 
 -- Readings and encodings of lawful types.
 

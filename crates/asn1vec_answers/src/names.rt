@@ -1,7 +1,7 @@
 //! The names of refusals.
 ghost use Rattle.std.specs.Prelude.{◌≡◌, ◌++◌, OnOk};
 ghost use Rattle.asn1vec_answers.specs.Names.{name_of_needed, name_of_constraint, word_of_error};
-ghost use Rattle.asn1vec_answers.specs.Names.{in_brackets, name_of_error};
+ghost use Rattle.asn1vec_answers.specs.Names.{with_brackets, name_of_error};
 ghost use Rattle.asn1vec_answers.specs.Names.{name_of_refusal, name_of_write_refusal};
 
 use crate::text::{push_number, push_str};
@@ -39,7 +39,7 @@ fn constraint_name(constraint: DerConstraint) -> &'static str
 /// Appends a word, and in brackets how many octets are missing.
 fn push_with_needed(text: &mut Vec<u8>, word: &str, needed: Needed) -> Result<(), AllocError>
     ensures { OnOk result
-        (text.new.items ≡ text.old.items ++ in_brackets word.now (name_of_needed needed)) }
+        (text.new.items ≡ text.old.items ++ with_brackets word.now (name_of_needed needed)) }
 {
     push_str(text, word)?;
     push_str(text, "(")?;
@@ -55,7 +55,7 @@ fn push_with_constraint(
     constraint: DerConstraint,
 ) -> Result<(), AllocError>
     ensures { OnOk result
-        (text.new.items ≡ text.old.items ++ in_brackets word.now (name_of_constraint constraint)) }
+        (text.new.items ≡ text.old.items ++ with_brackets word.now (name_of_constraint constraint)) }
 {
     push_str(text, word)?;
     push_str(text, "(")?;

@@ -5,7 +5,7 @@ ghost use Rattle.asn1_headers.specs.declared.error.SerializeError.{SerializeErro
 ghost use Rattle.asn1_headers.specs.Error.{tells_of_io};
 ghost use Rattle.asn1_headers.specs.Writer.{MayRefuse};
 ghost use Rattle.asn1vec_answers.specs.Meaning.{ReadsByEither};
-ghost use Rattle.asn1vec_answers.specs.Shown.{AllowsOctets, AllowsRefusals, CameOfWriting, Encoding, Gains, Says};
+ghost use Rattle.asn1vec_answers.specs.Shown.{AllowsOctets, AllowsRefusals, CameOfWriting, Encoding, Gains, SaysAnswer};
 ghost use Rattle.asn1vec_answers.specs.Shown.{IsReadAnswer, ReadsByBer, ReadsByDer, SaysEncoding, SaysWriting};
 ghost use Rattle.asn1_rs.specs.ToDer.{whole_allocates, whole_octets, whole_refuses};
 ghost use Rattle.asn1_rs.specs.Grammar.Item.{ber_words};
@@ -148,7 +148,7 @@ fn push_value<T: Shown>(
     text: &mut Vec<u8>,
 ) -> Result<(), AllocError>
     ensures { OnOk result (Gains text.old.items text.new.items
-        (Says T.text_of T.Encodes (Ok (rest.now, x.now)))) }
+        (SaysAnswer T.text_of T.Encodes (Ok (rest.now, x.now)))) }
 {
     push_str(text, "ok ")?;
     x.show(text)?;
@@ -166,7 +166,7 @@ pub(crate) fn push_reading<'a, T: Shown + Drop>(
     text: &mut Vec<u8>,
 ) -> Result<(), AllocError>
     ensures { OnOk result (Gains text.old.items text.new.items
-        (Says T.text_of T.Encodes (seen answer.entry))) }
+        (SaysAnswer T.text_of T.Encodes (seen answer.entry))) }
 {
     match answer {
         Ok((rest, x)) => push_value(alloc, &x, rest, buffer, text),

@@ -1,7 +1,7 @@
 //! The names of types.
 ghost use Rattle.std.specs.Prelude.{◌≡◌, ◌≢◌, All, MatchOption};
 ghost use Rattle.asn1vec_answers.specs.declared.types.TypeName.{TypeName};
-ghost use Rattle.asn1vec_answers.specs.Types.{name_of, meaning_of, Names, NamesNone};
+ghost use Rattle.asn1vec_answers.specs.Types.{name_of_type, meaning_of, Names, NamesNone};
 
 use crate::request::Rule;
 
@@ -115,7 +115,7 @@ const TYPES: [TypeName; 49] = [
 impl TypeName {
     /// What a line names the type by.
     fn name(self) -> &'static [u8]
-        ensures { result.now ≡ name_of self }
+        ensures { result.now ≡ name_of_type self }
     {
         match self {
             TypeName::U8 => b"u8",
@@ -183,8 +183,8 @@ impl TypeName {
 
 /// The first of these types that has the name.
 fn type_among(types: &[TypeName], name: &[u8]) -> Option<TypeName>
-    ensures { MatchOption result (All (λ t. name.now ≢ name_of t) types.now)
-        (λ t. name.now ≡ name_of t) }
+    ensures { MatchOption result (All (λ t. name.now ≢ name_of_type t) types.now)
+        (λ t. name.now ≡ name_of_type t) }
 {
     let place = types.iter().position(|t| name == t.name())?;
     Some(types[place])
@@ -192,8 +192,8 @@ fn type_among(types: &[TypeName], name: &[u8]) -> Option<TypeName>
 
 /// The type of a name.
 fn type_of(name: &[u8]) -> Option<TypeName>
-    ensures { MatchOption result ((t : TypeName) → name.now ≢ name_of t)
-        (λ t. name.now ≡ name_of t) }
+    ensures { MatchOption result ((t : TypeName) → name.now ≢ name_of_type t)
+        (λ t. name.now ≡ name_of_type t) }
 {
     type_among(&TYPES, name)
 }

@@ -20,34 +20,34 @@ some_number base n two some = elim (cases_lt 0 n) [
   | inr p ↦ absurd (omega (arith, length-digits_of-le base 0 n two (rw (pow-zero base) (omega arith))))
 ]
 
--- with a mark on each
-abbrev pub add_mark : ℕ → ℕ → ℕ
-add_mark mark digit = mark + digit
+-- with an offset added to each
+abbrev pub add_offset : ℕ → ℕ → ℕ
+add_offset offset digit = offset + digit
 
 -- the last digit that is left is written in front of those that are there
-pub digit_step : (base n p mark : ℕ) (out all : List ℕ) → 2 ≤ base → p < length out →
-    p + 1 ≡ length (digits_of base n) → map (add_mark mark) (digits_of base n) ++ drop (p + 1) out ≡ all →
+pub digit_step : (base n p offset : ℕ) (out all : List ℕ) → 2 ≤ base → p < length out →
+    p + 1 ≡ length (digits_of base n) → map (add_offset offset) (digits_of base n) ++ drop (p + 1) out ≡ all →
     (p ≡ length (digits_of base (n / base))) ×
-    (map (add_mark mark) (digits_of base (n / base)) ++ drop p (set out p (mark + n % base)) ≡ all)
-digit_step base n p mark out all two within places written =
+    (map (add_offset offset) (digits_of base (n / base)) ++ drop p (set out p (offset + n % base)) ≡ all)
+digit_step base n p offset out all two within places written =
     let some = some_number base n two (omega arith) in
     let l = length-digits_of_step base n two some in
-    let digits : map (add_mark mark) (digits_of base n) ≡
-    map (add_mark mark) (digits_of base (n / base)) ++ (mark + n % base) ∷ [] =
-    ap (map (add_mark mark)) (digits_of_step base n two some)
-    ∙ map_push (add_mark mark) (digits_of base (n / base)) (n % base) in (
+    let digits : map (add_offset offset) (digits_of base n) ≡
+    map (add_offset offset) (digits_of base (n / base)) ++ (offset + n % base) ∷ [] =
+    ap (map (add_offset offset)) (digits_of_step base n two some)
+    ∙ map_push (add_offset offset) (digits_of base (n / base)) (n % base) in (
       omega arith,
-      ap (λ (ys : List ℕ). map (add_mark mark) (digits_of base (n / base)) ++ ys)
-          (drop-set out p (mark + n % base) within)
-          ∙ sym (append_assoc (map (add_mark mark) (digits_of base (n / base))) ((mark + n % base) ∷ [])
+      ap (λ (ys : List ℕ). map (add_offset offset) (digits_of base (n / base)) ++ ys)
+          (drop-set out p (offset + n % base) within)
+          ∙ sym (append_assoc (map (add_offset offset) (digits_of base (n / base))) ((offset + n % base) ∷ [])
           (drop (p + 1) out))
           ∙ ap (λ (ys : List ℕ). ys ++ drop (p + 1) out) (sym digits)
           ∙ written,
     )
 
-pub no_mark : (ds : List ℕ) → map (add_mark 0) ds ≡ ds
-no_mark [] = refl
-no_mark (d ∷ ds) = let e : 0 + d ≡ d = zero-add d in let r = no_mark ds in cc
+pub no_offset : (ds : List ℕ) → map (add_offset 0) ds ≡ ds
+no_offset [] = refl
+no_offset (d ∷ ds) = let e : 0 + d ≡ d = zero-add d in let r = no_offset ds in cc
 
 -- the first octet alone
 pub first_alone : (xs : List ℕ) (v : ℕ) → 1 ≤ length xs → take 1 (set xs 0 v) ≡ v ∷ []

@@ -101,18 +101,18 @@ pub fn identifier_octets_count(number: u32) -> usize
     }
 }
 
-/// Writes the digits of the number in the base, with the mark added to each, where there are as many places.
-fn write_digits<const BASE: usize>(number: usize, mark: u8, out: &mut [u8])
+/// Writes the digits of the number in the base, with the offset added to each, where there are as many places.
+fn write_digits<const BASE: usize>(number: usize, offset: u8, out: &mut [u8])
     requires base { 2 ≤ BASE }
-    requires octet { mark + BASE ≤ 256 }
+    requires octet { offset + BASE ≤ 256 }
     requires places { length out.old ≡ length (digits_of BASE number) }
-    ensures { out.new ≡ map (λ digit. mark + digit) (digits_of BASE number) }
+    ensures { out.new ≡ map (λ digit. offset + digit) (digits_of BASE number) }
 {
     let mut left = number;
     let mut place = out.len();
     while place > 0 {
         place -= 1;
-        out[place] = mark + (left % BASE) as u8;
+        out[place] = offset + (left % BASE) as u8;
         left /= BASE;
     }
 }

@@ -98,10 +98,11 @@ Wrote_sum (Ok k) p q h = rw h (Wrote_then p q)
 Wrote_sum (Err e) p q h = rw h.0 (Wrote_refused (Wrote_then p q) refl)
 
 -- A sum of two counts is refused only where the length of both pieces allows it.
-pub MayRefuse_sum : {n m : ℕ} (takes : Bool) (xs ys : List ℕ) {a b c d : WriterState} (r : Result ℕ SerializeError) →
-    Wrote xs a b (Ok n) → Wrote ys c d (Ok m) → SumsWritten n m r → IfErr r (MayRefuse takes (length (xs ++ ys)))
-MayRefuse_sum takes xs ys (Ok k) p q h = tt
-MayRefuse_sum takes xs ys (Err e) p q h = rw h.0 (simp length-append (omega (arith, p.ok.1, q.ok.1, h.1)))
+pub MayRefuse_sum : {n m : ℕ} (allocates : Bool) (xs ys : List ℕ) {a b c d : WriterState}
+    (r : Result ℕ SerializeError) →
+    Wrote xs a b (Ok n) → Wrote ys c d (Ok m) → SumsWritten n m r → IfErr r (MayRefuse allocates (length (xs ++ ys)))
+MayRefuse_sum allocates xs ys (Ok k) p q h = tt
+MayRefuse_sum allocates xs ys (Err e) p q h = rw h.0 (simp length-append (omega (arith, p.ok.1, q.ok.1, h.1)))
 
 -- a refusal within the first part
 pub Wrote_front : {e : SerializeError} {xs : List ℕ} {a b : WriterState} (zs : List ℕ) → Wrote xs a b (Err e) →
@@ -120,29 +121,30 @@ Wrote_front {e} {xs} zs p = record {
 }
 
 -- What may refuse a length may refuse a greater one.
-pub MayRefuse_more : (e : SerializeError) (takes : Bool) (m n : ℕ) → m ≤ n → MayRefuse takes m e → MayRefuse takes n e
-MayRefuse_more (serialize_errors.ASN1Error e) takes m n h p = absurd p
-MayRefuse_more (serialize_errors.InvalidClass c) takes m n h p = absurd p
-MayRefuse_more serialize_errors.InvalidLength takes m n h p = omega arith
-MayRefuse_more (serialize_errors.IOError e) takes m n h p = tt
-MayRefuse_more serialize_errors.OutOfMemory takes m n h p = p
+pub MayRefuse_more : (e : SerializeError) (allocates : Bool) (m n : ℕ) → m ≤ n → MayRefuse allocates m e →
+    MayRefuse allocates n e
+MayRefuse_more (serialize_errors.ASN1Error e) allocates m n h p = absurd p
+MayRefuse_more (serialize_errors.InvalidClass c) allocates m n h p = absurd p
+MayRefuse_more serialize_errors.InvalidLength allocates m n h p = omega arith
+MayRefuse_more (serialize_errors.IOError e) allocates m n h p = tt
+MayRefuse_more serialize_errors.OutOfMemory allocates m n h p = p
 
 -- What may refuse one of two writings may refuse both together.
-pub MayRefuse_either : (e : SerializeError) (takes gives : Bool) (n : ℕ) → MayRefuse takes n e →
-    MayRefuse (takes || gives) n e
-MayRefuse_either (serialize_errors.ASN1Error e) takes gives n p = absurd p
-MayRefuse_either (serialize_errors.InvalidClass c) takes gives n p = absurd p
-MayRefuse_either serialize_errors.InvalidLength takes gives n p = p
-MayRefuse_either (serialize_errors.IOError e) takes gives n p = tt
+pub MayRefuse_either : (e : SerializeError) (allocates gives : Bool) (n : ℕ) → MayRefuse allocates n e →
+    MayRefuse (allocates || gives) n e
+MayRefuse_either (serialize_errors.ASN1Error e) allocates gives n p = absurd p
+MayRefuse_either (serialize_errors.InvalidClass c) allocates gives n p = absurd p
+MayRefuse_either serialize_errors.InvalidLength allocates gives n p = p
+MayRefuse_either (serialize_errors.IOError e) allocates gives n p = tt
 MayRefuse_either serialize_errors.OutOfMemory true gives n p = refl
 MayRefuse_either serialize_errors.OutOfMemory false gives n p = cc
 
 -- What may refuse the other of two writings may refuse both together.
-pub MayRefuse_other : (e : SerializeError) (takes gives : Bool) (n : ℕ) → MayRefuse gives n e →
-    MayRefuse (takes || gives) n e
-MayRefuse_other (serialize_errors.ASN1Error e) takes gives n p = absurd p
-MayRefuse_other (serialize_errors.InvalidClass c) takes gives n p = absurd p
-MayRefuse_other serialize_errors.InvalidLength takes gives n p = p
-MayRefuse_other (serialize_errors.IOError e) takes gives n p = tt
+pub MayRefuse_other : (e : SerializeError) (allocates gives : Bool) (n : ℕ) → MayRefuse gives n e →
+    MayRefuse (allocates || gives) n e
+MayRefuse_other (serialize_errors.ASN1Error e) allocates gives n p = absurd p
+MayRefuse_other (serialize_errors.InvalidClass c) allocates gives n p = absurd p
+MayRefuse_other serialize_errors.InvalidLength allocates gives n p = p
+MayRefuse_other (serialize_errors.IOError e) allocates gives n p = tt
 MayRefuse_other serialize_errors.OutOfMemory true gives n p = refl
 MayRefuse_other serialize_errors.OutOfMemory false gives n p = p

@@ -33,9 +33,9 @@ CountRefused true own n answer = (e : Error) × own e × (answer ≡ Err e)
 
 -- A writing of so many octets: the writer and the length alone refuse it, or the value does,
 -- and then nothing is appended.
-abbrev pub PutRefused : Bool → (Error → Type 0) → ℕ → WriterState → WriterState → Result ℕ SerializeError → Type 0
-PutRefused false own n old new answer = IfErr answer (MayRefuse false n)
-PutRefused true own n old new answer = (e : Error) × own e × RefusedAtOnce (written_refusal e) old new answer
+abbrev pub OwnPutRefused : Bool → (Error → Type 0) → ℕ → WriterState → WriterState → Result ℕ SerializeError → Type 0
+OwnPutRefused false own n old new answer = IfErr answer (MayRefuse false n)
+OwnPutRefused true own n old new answer = (e : Error) × own e × RefusedAtOnce (written_refusal e) old new answer
 
 -- A putting of contents octets before those of a buffer, of so many octets in all: memory and the length alone refuse
 -- it, or the value does, and then the buffer is as it was.
@@ -89,7 +89,7 @@ list_writing number items item = record {
 }
 
 -- sets of such items: all are written into a vector, from which their encodings are joined in ascending order
--- one of a single item takes no vector; the marks are of the type, and allow the refusal of each set
+-- one of a single item takes no vector; these members are of the type, and allow the refusal of each set
 abbrev pub set_writing : {S W : Type 0} → (W → List S) → Writing S → Writing W
 set_writing items item = record {
   tells = λ v. All item.tells (items v);

@@ -24,7 +24,7 @@ use Rattle.asn1_headers.specs.declared.header.Header.{Header}
 use Rattle.asn1_headers.specs.Header.Reading.{refusal_of, der_refusal, ber_refusal, KeepsIdentifier}
 use Rattle.asn1_headers.specs.Header.{identifier_of, raw_tag_of}
 use Rattle.asn1_headers.specs.Ber.{BerContentGives, max_depth}
-use Rattle.asn1_rs.specs.Any.{AnyGives, BeginsWithElement, IsTheElement, IsDefiniteOr, parts_of, BerElementGives}
+use Rattle.asn1_rs.specs.Any.{AnyGives, BeginsWithAny, IsTheElement, IsDefiniteOr, parts_of, BerElementGives}
 use Rattle.asn1_rs.specs.Any.{DerElementGives, ElementLasts, RefusalLasts}
 use Rattle.asn1_rs.specs.Laws.Any.Value.{the_element_parts}
 use Rattle.asn1_rs.specs.Traits.{BerGives, DerGives}
@@ -177,8 +177,8 @@ not_indefinite o p d e = let counted = d.counted in cc
 
 -- what is the element that begins an input begins it too
 same_begins : (ElementOf : List ℕ → Parts → Type 0) (input rest : List ℕ) (any same : Any) →
-    IsTheElement any (Ok same) → BeginsWithElement ElementOf input any rest →
-    BeginsWithElement ElementOf input same rest
+    IsTheElement any (Ok same) → BeginsWithAny ElementOf input any rest →
+    BeginsWithAny ElementOf input same rest
 same_begins ElementOf input rest any same h b = record {
   front = subst (λ (p : Parts). Front ElementOf input p rest) (sym (the_element_parts any same h)) b.front;
   kept = subst (KeepsIdentifier input) (sym h.0) b.kept;

@@ -19,7 +19,7 @@ use Rattle.asn1_rs.specs.Checks.{IsCheck, but_text, has_number, is_constructed, 
 use Rattle.asn1_rs.specs.EmbeddedPdv.{Identification, syntaxes, syntax, context, negotiation, transfer, fixed, PdvValue}
 use Rattle.asn1_rs.specs.EmbeddedPdv.{AreParts, IsPdv, BeginsWithParts, NoElement, BeginsWithTwo, NotTwo, Identifies}
 use Rattle.asn1_rs.specs.EmbeddedPdv.{SaysNone, has_tag, HasInner, HasNoInner, HoldsElement, HoldsNone, IsIdentified}
-use Rattle.asn1_rs.specs.EmbeddedPdv.{NotIdentified, IsData, NoData, HasParts, LacksPart, PdvBody, PdvGives}
+use Rattle.asn1_rs.specs.EmbeddedPdv.{NotIdentified, IsData, NoData, HasPdvParts, LacksPart, PdvBody, PdvGives}
 use Rattle.asn1_rs.specs.EmbeddedPdv.{pdv_constraints, pdv_element, pdv_value}
 use Rattle.asn1_rs.specs.Grammar.{TakesBody}
 use Rattle.asn1_rs.specs.Kinds.{IsLawfulElement, IsExactCheck, IsExactConversion}
@@ -88,12 +88,12 @@ one_flat (rule_fault breach) e f a b = a ∙ sym b
 one_flat depth_fault e f a b = a ∙ sym b
 
 -- It does not report out of memory.
-flat_spares : (fault : Fault) → Flat fault errors.OutOfMemory → ⊥
-flat_spares (missing n) a = cc
-flat_spares tag_fault a = cc
-flat_spares length_fault a = cc
-flat_spares (rule_fault breach) a = cc
-flat_spares depth_fault a = cc
+flat_no_memory : (fault : Fault) → Flat fault errors.OutOfMemory → ⊥
+flat_no_memory (missing n) a = cc
+flat_no_memory tag_fault a = cc
+flat_no_memory length_fault a = cc
+flat_no_memory (rule_fault breach) a = cc
+flat_no_memory depth_fault a = cc
 
 -- Octets with no element have one refusal.
 one_no_element : (o : List ℕ) (e f : Error) → NoElement o e → NoElement o f → but_text e ≡ but_text f
@@ -101,8 +101,8 @@ one_no_element o e f n m =
     ap but_text (one_flat m.0 e f (subst (λ (z : Fault). Flat z e) (ber_elements.alone o n.0 m.0 n.1 m.1) n.2) m.2)
 
 -- It does not report out of memory.
-no_element_spares : (o : List ℕ) → NoElement o errors.OutOfMemory → ⊥
-no_element_spares o n = flat_spares n.0 n.2
+no_element_no_memory : (o : List ℕ) → NoElement o errors.OutOfMemory → ⊥
+no_element_no_memory o n = flat_no_memory n.0 n.2
 
 -- That of the tag number is a check.
 has_tag_is : (number : ℕ) → IsCheck (has_tag number)
@@ -132,23 +132,24 @@ one_not_two o = lacks_one but_text (BeginsWithParts o) (NoElement o) (λ one bet
     (begins_or_none o) (one_no_element o) (λ one between. one_no_element between)
 
 -- It does not report out of memory.
-not_two_spares : (o : List ℕ) → NotTwo o errors.OutOfMemory → ⊥
-not_two_spares o (inl n) = no_element_spares o n
-not_two_spares o (inr (one, between, first, n)) = no_element_spares between n
+not_two_no_memory : (o : List ℕ) → NotTwo o errors.OutOfMemory → ⊥
+not_two_no_memory o (inl n) = no_element_no_memory o n
+not_two_no_memory o (inr (one, between, first, n)) = no_element_no_memory between n
 
 -- what an element of this number and these contents octets says
-abbrev Says : ℕ → List ℕ → Identification → Type 0
-Says zero content i = (one other : Parts) × BeginsWithTwo content one other ×
+abbrev SaysIdentification : ℕ → List ℕ → Identification → Type 0
+SaysIdentification zero content i = (one other : Parts) × BeginsWithTwo content one other ×
     (i ≡ syntaxes (absolute one.content) (absolute other.content))
-Says (suc zero) content i = i ≡ syntax (absolute content)
-Says (suc (suc zero)) content i = i ≡ context content
-Says (suc (suc (suc zero))) content i =
+SaysIdentification (suc zero) content i = i ≡ syntax (absolute content)
+SaysIdentification (suc (suc zero)) content i = i ≡ context content
+SaysIdentification (suc (suc (suc zero))) content i =
     (one other : Parts) × BeginsWithTwo content one other × (i ≡ negotiation one.content (absolute other.content))
-Says (suc (suc (suc (suc zero)))) content i = i ≡ transfer (absolute content)
-Says (suc (suc (suc (suc (suc n))))) content i = i ≡ fixed
+SaysIdentification (suc (suc (suc (suc zero)))) content i = i ≡ transfer (absolute content)
+SaysIdentification (suc (suc (suc (suc (suc n))))) content i = i ≡ fixed
 
 -- A number and contents octets say one identification.
-one_says : (n : ℕ) (content : List ℕ) (i j : Identification) → Says n content i → Says n content j → i ≡ j
+one_says : (n : ℕ) (content : List ℕ) (i j : Identification) → SaysIdentification n content i →
+    SaysIdentification n content j → i ≡ j
 one_says zero content i j (p, q, a, e) (r, s, b, f) = let same = one_two content p q r s a b in
     e ∙ ap (λ (z : Parts). syntaxes (absolute z.content) (absolute q.content)) same.0
     ∙ ap (λ (z : Parts). syntaxes (absolute r.content) (absolute z.content)) same.1 ∙ sym f
@@ -161,19 +162,21 @@ one_says (suc (suc (suc (suc zero)))) content i j e f = e ∙ sym f
 one_says (suc (suc (suc (suc (suc n))))) content i j e f = e ∙ sym f
 
 -- What an element identifies is what its number and its contents octets say.
-says_it : (p : Parts) (i : Identification) → Identifies p i → Says p.id.number p.content i
-says_it p (syntaxes a t) (e, (one, other, two, x, y)) = subst (λ (n : ℕ). Says n p.content (syntaxes a t)) (sym e) (
-  one,
-  other,
-  two,
-  ap (λ (z : OidValue). syntaxes z t) x ∙ ap (syntaxes (absolute one.content)) y,
-)
-says_it p (syntax s) (e, x) = subst (λ (n : ℕ). Says n p.content (syntax s)) (sym e) (ap syntax x)
-says_it p (context c) (e, x) = subst (λ (n : ℕ). Says n p.content (context c)) (sym e) (ap context x)
-says_it p (negotiation c s) (e, (one, other, two, x, y)) = subst (λ (n : ℕ). Says n p.content (negotiation c s)) (sym e)
+says_it : (p : Parts) (i : Identification) → Identifies p i → SaysIdentification p.id.number p.content i
+says_it p (syntaxes a t) (e, (one, other, two, x, y)) =
+    subst (λ (n : ℕ). SaysIdentification n p.content (syntaxes a t)) (sym e) (
+      one,
+      other,
+      two,
+      ap (λ (z : OidValue). syntaxes z t) x ∙ ap (syntaxes (absolute one.content)) y,
+    )
+says_it p (syntax s) (e, x) = subst (λ (n : ℕ). SaysIdentification n p.content (syntax s)) (sym e) (ap syntax x)
+says_it p (context c) (e, x) = subst (λ (n : ℕ). SaysIdentification n p.content (context c)) (sym e) (ap context x)
+says_it p (negotiation c s) (e, (one, other, two, x, y)) =
+    subst (λ (n : ℕ). SaysIdentification n p.content (negotiation c s)) (sym e)
     (one, other, two, ap (λ (z : List ℕ). negotiation z s) x ∙ ap (negotiation one.content) y)
-says_it p (transfer s) (e, x) = subst (λ (n : ℕ). Says n p.content (transfer s)) (sym e) (ap transfer x)
-says_it p fixed e = subst (λ (n : ℕ). Says n p.content fixed) (sym e) refl
+says_it p (transfer s) (e, x) = subst (λ (n : ℕ). SaysIdentification n p.content (transfer s)) (sym e) (ap transfer x)
+says_it p fixed e = subst (λ (n : ℕ). SaysIdentification n p.content fixed) (sym e) refl
 
 -- An element says one identification.
 one_identification : (p : Parts) (i j : Identification) → Identifies p i → Identifies p j → i ≡ j
@@ -209,9 +212,9 @@ one_says_none p e f (inr (k, n)) (inr (l, m)) =
     same_text (record { 0 = p.id.number }) (codes "not an identification") e f n m
 
 -- It does not report out of memory.
-says_none_spares : (p : Parts) → SaysNone p errors.OutOfMemory → ⊥
-says_none_spares p (inl (k, n)) = not_two_spares p.content n
-says_none_spares p (inr (l, m)) = m
+says_none_no_memory : (p : Parts) → SaysNone p errors.OutOfMemory → ⊥
+says_none_no_memory p (inl (k, n)) = not_two_no_memory p.content n
+says_none_no_memory p (inr (l, m)) = m
 
 -- the element that the first one holds
 one_inner : (outer p q : Parts) → HasInner outer p → HasInner outer q → p ≡ q
@@ -231,9 +234,9 @@ one_no_inner outer = lacks_one but_text (BeginsWithParts outer.content) (NoEleme
     (one_no_element outer.content) (λ inner rest. one_tag_refusal 0 outer)
 
 -- It does not report out of memory.
-no_inner_spares : (outer : Parts) → HasNoInner outer errors.OutOfMemory → ⊥
-no_inner_spares outer (inl n) = no_element_spares outer.content n
-no_inner_spares outer (inr (inner, rest, within, t)) = (has_tag_is 0).spares outer t
+no_inner_no_memory : (outer : Parts) → HasNoInner outer errors.OutOfMemory → ⊥
+no_inner_no_memory outer (inl n) = no_element_no_memory outer.content n
+no_inner_no_memory outer (inr (inner, rest, within, t)) = (has_tag_is 0).asks_no_memory outer t
 
 -- Octets hold one element of the sort, and one rest behind it.
 one_held : (o : List ℕ) (p q : Parts) (r s : List ℕ) → HoldsElement o p r → HoldsElement o q s → (p ≡ q) × (r ≡ s)
@@ -252,9 +255,9 @@ one_none_held o = lacks_one but_text (BeginsWithParts o) (NoElement o) (λ outer
     (begins_or_none o) (one_no_element o) (λ outer behind. one_no_inner outer)
 
 -- It does not report out of memory.
-none_held_spares : (o : List ℕ) → HoldsNone o errors.OutOfMemory → ⊥
-none_held_spares o (inl n) = no_element_spares o n
-none_held_spares o (inr (outer, behind, first, n)) = no_inner_spares outer n
+none_held_no_memory : (o : List ℕ) → HoldsNone o errors.OutOfMemory → ⊥
+none_held_no_memory o (inl n) = no_element_no_memory o n
+none_held_no_memory o (inr (outer, behind, first, n)) = no_inner_no_memory outer n
 
 -- the identification
 one_identified : (o : List ℕ) (i j : Identification) (r s : List ℕ) → IsIdentified o i r → IsIdentified o j s →
@@ -275,9 +278,9 @@ one_not_identified o = lacks_one but_text (HoldsElement o) (HoldsNone o) (λ inn
     (held_or_none o) (one_none_held o) (λ inner behind. one_says_none inner)
 
 -- It does not report out of memory.
-not_identified_spares : (o : List ℕ) → NotIdentified o errors.OutOfMemory → ⊥
-not_identified_spares o (inl n) = none_held_spares o n
-not_identified_spares o (inr (inner, behind, holds, n)) = says_none_spares inner n
+not_identified_no_memory : (o : List ℕ) → NotIdentified o errors.OutOfMemory → ⊥
+not_identified_no_memory o (inl n) = none_held_no_memory o n
+not_identified_no_memory o (inr (inner, behind, holds, n)) = says_none_no_memory inner n
 
 -- the data value
 one_data_value : (o a b : List ℕ) → IsData o a → IsData o b → a ≡ b
@@ -295,12 +298,12 @@ one_no_data o = lacks_one but_text (BeginsWithParts o) (NoElement o) (λ p rest 
     (begins_or_none o) (one_no_element o) (λ p rest. one_tag_refusal 2 p)
 
 -- It does not report out of memory.
-no_data_spares : (o : List ℕ) → NoData o errors.OutOfMemory → ⊥
-no_data_spares o (inl n) = no_element_spares o n
-no_data_spares o (inr (p, rest, element, t)) = (has_tag_is 2).spares p t
+no_data_no_memory : (o : List ℕ) → NoData o errors.OutOfMemory → ⊥
+no_data_no_memory o (inl n) = no_element_no_memory o n
+no_data_no_memory o (inr (p, rest, element, t)) = (has_tag_is 2).asks_no_memory p t
 
 -- both
-parts_or_none : (o : List ℕ) (i : Identification) (a : List ℕ) (e : Error) → HasParts o i a → LacksPart o e → ⊥
+parts_or_none : (o : List ℕ) (i : Identification) (a : List ℕ) (e : Error) → HasPdvParts o i a → LacksPart o e → ⊥
 parts_or_none o i a e x n = lacks_apart but_text (IsIdentified o) (NotIdentified o) (λ j behind. NoData behind)
     (one_identified o) (identified_or_none o) i x.behind e x.identified (data_or_none x.behind a e x.data_value) n
 
@@ -310,9 +313,9 @@ one_lacks_part o = lacks_one but_text (IsIdentified o) (NotIdentified o) (λ j b
     (identified_or_none o) (one_not_identified o) (λ j behind. one_no_data behind)
 
 -- It does not report out of memory.
-lacks_part_spares : (o : List ℕ) → LacksPart o errors.OutOfMemory → ⊥
-lacks_part_spares o (inl n) = not_identified_spares o n
-lacks_part_spares o (inr (i, behind, identified, n)) = no_data_spares behind n
+lacks_part_no_memory : (o : List ℕ) → LacksPart o errors.OutOfMemory → ⊥
+lacks_part_no_memory o (inl n) = not_identified_no_memory o n
+lacks_part_no_memory o (inr (i, behind, identified, n)) = no_data_no_memory behind n
 
 -- An element has one data value.
 one_body : (p : Parts) (v w : PdvValue) → PdvBody p v → PdvBody p w → v ≡ w
@@ -389,7 +392,11 @@ pdv_checked = exact_check pdv_constraints pdv_constraints_are
 -- The conversion is exact.
 pub pdv_converts : IsExactConversion (OfParts PdvGives) pdv_element
 pdv_converts =
-    record { exact = λ any. exact (parts_of any); spares = λ none any g. lacks_part_spares (parts_of any).content g }
+    record {
+      exact = λ any. exact (parts_of any);
+      asks_no_memory =
+          λ none any g. lacks_part_no_memory (parts_of any).content g;
+    }
   where
     exact : (p : Parts) (answer : Result EmbeddedPdv Error) → IsOctets p.content → PdvGives p answer →
         TakesBody PdvBody pdv_value false (λ (x y : Error). y ≡ x) p answer

@@ -7,7 +7,7 @@ use Rattle.asn1_rs.specs.declared.asn1_types.enumerated.Enumerated.{Enumerated}
 use Rattle.asn1_headers.specs.declared.error.Error.TheVariants.{IntegerTooLarge}
 use Rattle.asn1_rs.specs.Checks.{is_primitive, content_check}
 use Rattle.asn1_rs.specs.Leaf.{IsLawfulLeaf}
-use Rattle.asn1_rs.specs.Enumerated.{enumerated_leaf, IsWord, SaysWord}
+use Rattle.asn1_rs.specs.Enumerated.{enumerated_leaf, IsFourOctetWord, SaysWord}
 use Rattle.asn1_rs.specs.Laws.Checks.{before_is, is_primitive_is, is_counted_is, content_check_is}
 
 -- Enumerated values are lawful.
@@ -18,11 +18,11 @@ enumerated_lawful = record {
       (content_check_is SaysWord IntegerTooLarge (λ e. cc));
   constraints = is_counted_is;
   one_value = λ c v w a b. a ∙ sym b;
-  says_value = λ p v o m s. subst IsWord (sym s) m.1;
+  says_value = λ p v o m s. subst IsFourOctetWord (sym s) m.1;
   der_value = λ v d. d;
   der_octets = λ v d. (unsigned_octets_content v).octets;
   der_says = λ v d. sym (unsigned_octets_value v);
-  der_checks = λ k v d. (refl, subst IsWord (sym (unsigned_octets_value v)) d);
+  der_checks = λ k v d. (refl, subst IsFourOctetWord (sym (unsigned_octets_value v)) d);
   der_constraints = λ k v d. (length (unsigned_octets v), refl);
 }
 

@@ -88,7 +88,7 @@ integer_check_exact p (Err e) h = λ k. refuses e h k
 
 -- The constraints are exact, and do not allocate.
 pub integer_checks : IsExactCheck IntegerCheckGives IntegerCheck
-integer_checks = record { exact = integer_check_exact; spares = λ p h. h }
+integer_checks = record { exact = integer_check_exact; asks_no_memory = λ p h. h }
 
 -- The conversion.
 
@@ -131,15 +131,15 @@ module _ (Holds : ℤ → Type 0) where
       ((c : List ℕ) (e : Error) → IsOctets c → content_refuses c e → Holds (twos_complement_value c) → ⊥) →
       ((c : List ℕ) → content_refuses c OutOfMemory → ⊥) →
       IsExactConversion (OfParts (IntegerGives number Holds content_refuses)) (integer_element number Holds)
-  integer_converts number content_refuses refused spares = record {
+  integer_converts number content_refuses refused asks_no_memory = record {
     exact = λ any. integer_exact number content_refuses refused (parts_of any);
-    spares = λ none any r. spared (parts_of any) r;
+    asks_no_memory = λ none any r. not_memory (parts_of any) r;
   }
     where
-      spared : (p : Parts) → IntegerRefuses content_refuses p OutOfMemory → ⊥
-      spared p (inl (inl a)) = let e = a.1 in cc
-      spared p (inl (inr a)) = let e = a.2 in cc
-      spared p (inr a) = spares p.content a.1
+      not_memory : (p : Parts) → IntegerRefuses content_refuses p OutOfMemory → ⊥
+      not_memory p (inl (inl a)) = let e = a.1 in cc
+      not_memory p (inl (inr a)) = let e = a.2 in cc
+      not_memory p (inr a) = asks_no_memory p.content a.1
 
   -- Strict parts.
 

@@ -78,12 +78,12 @@ module _ {S T E : Type 0} (held : T → S) (reads : List ℕ → Result (List �
   held_reads IsCut G value memory exact input (Err r) o h = exact input (Err r) o h
 
   -- What is so of each refusal of the item's reader is so of each of its refusals.
-  pub held_spares : (P : Refusal E → Type 0) →
+  pub held_no_memory : (P : Refusal E → Type 0) →
       ((input : List ℕ) (answer : Result (List ℕ × S) (Refusal E)) → reads input answer → IfErr answer P) →
       (input : List ℕ) (answer : Result (List ℕ × T) (Refusal E)) → HoldingReads held reads input answer →
       IfErr answer P
-  held_spares P spares input (Ok x) h = tt
-  held_spares P spares input (Err r) h = spares input (Err r) h
+  held_no_memory P asks_no_memory input (Ok x) h = tt
+  held_no_memory P asks_no_memory input (Err r) h = asks_no_memory input (Err r) h
 
 -- What holds an element.
 
@@ -91,7 +91,8 @@ module _ {S T E : Type 0} (held : T → S) (reads : List ℕ → Result (List �
 pub other_error : {S : Type 0} (gives : Any → Result S Error → Type 0) →
     ((any : Any) → gives any (Err OutOfMemory) → ⊥) → (any : Any) (e : Error) → gives any (Err e) →
     IsOther (λ (x y : Error). y ≡ x) e
-other_error gives spares any e g = inl (e, λ q. spares any (subst (λ (x : Error). gives any (Err x)) q g), refl)
+other_error gives asks_no_memory any e g =
+    inl (e, λ q. asks_no_memory any (subst (λ (x : Error). gives any (Err x)) q g), refl)
 
 -- a type that holds one item is as lawful as that
 module _ {S T : Type 0} (held : T → S) (G : ElementGrammar S) where
@@ -112,7 +113,7 @@ module _ {S T : Type 0} (held : T → S) (G : ElementGrammar S) where
   -- Its conversion is as exact.
   pub holding_converts : (gives : Any → Result S Error → Type 0) → IsExactConversion gives G →
       IsExactConversion (HoldingGives held gives) (holding held G)
-  holding_converts gives c = record { exact = exact; spares = c.spares }
+  holding_converts gives c = record { exact = exact; asks_no_memory = c.asks_no_memory }
     where
       exact : (any : Any) (answer : Result T Error) → IsOctets any.content.now → HoldingGives held gives any answer →
           TakesBody G.Body (λ x. G.value (held x)) G.allocates (λ (x y : Error). y ≡ x) (parts_of any) answer

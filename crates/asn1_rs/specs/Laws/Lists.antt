@@ -46,7 +46,7 @@ use Rattle.asn1_rs.specs.Lists.{list_grammar, ListBody, ListOf, CheckedElement, 
 use Rattle.asn1_rs.specs.Lists.{IsListOr, ItemsGive, ListTakes, ListReads, CheckedGives, ListCheckGives, SomeRefuses}
 use Rattle.asn1_rs.specs.Lists.{has_items}
 use Rattle.asn1_rs.specs.ToDer.{HasNone, IsWritable, Writing, whole_octets, whole_refuses}
-use Rattle.asn1_rs.specs.Laws.Readers.{element_exact, element_spares, der_breach_spares, der_elements}
+use Rattle.asn1_rs.specs.Laws.Readers.{element_exact, element_no_memory, der_breach_no_memory, der_elements}
 use Rattle.asn1_rs.specs.Laws.Words.{word_one, strict_element, one_strict, strict_apart, strict_der_word, ber_one}
 use Rattle.asn1_rs.specs.Laws.Words.{ber_values, strict_ber}
 use Rattle.asn1_rs.specs.Laws.Forms.{universal_one, universal_value, universal_fits, strict_written, behind_header}
@@ -233,29 +233,30 @@ list_or_refused number p e (inr a) n c = let d = a.1 in cc
 -- Items that were taken by an exact reader are joined words;
 -- where a refusal ended the walk there are no such words, or it reports out of memory.
 module _ {T V E : Type 0} (reads : List ℕ → Result (List ℕ × T) (Refusal E) → Type 0) (from : Error → E → Type 0)
-    (G : List ℕ → V → Type 0) (value : T → V) (takes : Bool) (IsCut : List ℕ → Type 0)
+    (G : List ℕ → V → Type 0) (value : T → V) (allocates : Bool) (IsCut : List ℕ → Type 0)
     (one : IsOneFront G) (Keeps : List ℕ → Type 0)
     (kept : (octets word rest : List ℕ) → Keeps octets → octets ≡ word ++ rest → Keeps rest)
     (exact : (octets : List ℕ) (answer : Result (List ℕ × T) (Refusal E)) → Keeps octets → reads octets answer →
-    Exactly IsCut G value (TellsMemory takes from) octets answer) where
+    Exactly IsCut G value (TellsMemory allocates from) octets answer) where
   -- A walk of a reader that is exact is one over the words.
   walked : (answers : List (Result T E)) (content left : List ℕ) → Keeps content →
       Yields (TakesItem reads from) content answers left →
-      IsWalk G value (TellsNoWord G (IsMemory takes from)) content answers left
-  walked = lawful_walk reads from G value takes IsCut one Keeps kept exact
+      IsWalk G value (TellsNoWord G (IsMemory allocates from)) content answers left
+  walked = lawful_walk reads from G value allocates IsCut one Keeps kept exact
 
   -- Items that were taken to the end of the contents octets are their joined words.
   pub taken_joined : (items : List T) (content left : List ℕ) → Keeps content → left ≡ [] →
       Yields (TakesItem reads from) content (map Ok items) left → IsJoined G content (map value items)
-  taken_joined items content left k n y = items_joined G value (TellsNoWord G (IsMemory takes from)) content items left
+  taken_joined items content left k n y =
+      items_joined G value (TellsNoWord G (IsMemory allocates from)) content items left
       (walked (map Ok items) content left k y) n
 
   -- Where a refusal ended that, there are no joined words, or memory was wanting.
   pub taken_none : (items : List T) (e : E) (content left : List ℕ) → Keeps content →
       Yields (TakesItem reads from) content (map Ok items ++ Err e ∷ []) left →
-      IsMemory takes from e ⊎ ((vs : List V) → IsJoined G content vs → ⊥)
+      IsMemory allocates from e ⊎ ((vs : List V) → IsJoined G content vs → ⊥)
   taken_none items e content left k y =
-      let end = items_ended G value (TellsNoWord G (IsMemory takes from)) content items e left
+      let end = items_ended G value (TellsNoWord G (IsMemory allocates from)) content items e left
       (walked (map Ok items ++ Err e ∷ []) content left k y) in
       elim end.tells [
         | inl m ↦ inl m
@@ -266,23 +267,23 @@ module _ {T V E : Type 0} (reads : List ℕ → Result (List ℕ × T) (Refusal 
 -- The conversion of an element to a list is exact, and so is a list's own reader by DER.
 module _ {T V W E : Type 0} (number : ℕ) (holds : List T → W → Type 0) (values : W → List V)
     (reads : List ℕ → Result (List ℕ × T) (Refusal E) → Type 0) (from : Error → E → Type 0) (G : List ℕ → V → Type 0)
-    (value : T → V) (takes : Bool) (IsCut : List ℕ → Type 0)
+    (value : T → V) (allocates : Bool) (IsCut : List ℕ → Type 0)
     (valued : (items : List T) (w : W) → holds items w → map value items ≡ values w)
     (one : IsOneFront G)
     (exact : (octets : List ℕ) (answer : Result (List ℕ × T) (Refusal E)) → IsOctets octets → reads octets answer →
-    Exactly IsCut G value (TellsMemory takes from) octets answer) where
+    Exactly IsCut G value (TellsMemory allocates from) octets answer) where
   -- Items that were taken from all of the contents octets are joined words.
   all_joined : (items : List T) (w : W) (content : List ℕ) → IsOctets content → holds items w →
       Yields (TakesItem reads from) content (map Ok items) [] → IsJoined G content (values w)
   all_joined items w content o h y = subst (IsJoined G content) (valued items w h)
-      (taken_joined reads from G value takes IsCut one IsOctets octets_kept exact items content [] o refl y)
+      (taken_joined reads from G value allocates IsCut one IsOctets octets_kept exact items content [] o refl y)
 
   -- Where they were refused there are no joined words, or memory was wanting.
   none_taken : (e : E) (content : List ℕ) → IsOctets content → ItemsGive {T = T} reads from content (Err e) →
       from errors.OutOfMemory e ⊎ ((vs : List V) → IsJoined G content vs → ⊥)
   none_taken e content o (inl m) = inl m
   none_taken e content o (inr s) =
-      elim (taken_none reads from G value takes IsCut one IsOctets octets_kept exact s.0 e content s.1 o s.2) [
+      elim (taken_none reads from G value allocates IsCut one IsOctets octets_kept exact s.0 e content s.1 o s.2) [
         | inl m ↦ inl m.1
         | inr none ↦ inr none
       ]
@@ -361,33 +362,35 @@ pub list_checks : (number : ℕ) (check : Parts → Result (Unit {0}) Error → 
     IsExactCheck check Check → IsExactCheck (ListCheckGives number check) (ListCheck number Check)
 list_checks number check Check c = record {
   exact = list_check_exact number check Check c.exact;
-  spares = λ p h. spared p h;
+  asks_no_memory = λ p h. not_memory p h;
 }
   where
-    element_spared : (octets : List ℕ) (answer : Result (List ℕ × Any) (Refusal Error)) →
+    element_not_memory : (octets : List ℕ) (answer : Result (List ℕ × Any) (Refusal Error)) →
         CheckedGives check octets answer → EndsItem (λ (x y : Error). y ≡ x) octets answer errors.OutOfMemory → ⊥
-    element_spared octets (Ok x) g e = let a = e.1 in cc
-    element_spared octets (Err r) g e = refusal_spared r (element_spares IsDerElement DerElementFault der_breach
-        der_breach_spares check IsTheElement (λ (x y : Error). y ≡ x) c.spares (λ any f h. absurd h) octets (Err r) g) e
+    element_not_memory octets (Ok x) g e = let a = e.1 in cc
+    element_not_memory octets (Err r) g e =
+        refusal_not_memory r (element_no_memory IsDerElement DerElementFault der_breach
+        der_breach_no_memory check IsTheElement (λ (x y : Error). y ≡ x) c.asks_no_memory (λ any f h. absurd h) octets
+        (Err r) g) e
       where
-        refusal_spared : (r : Refusal Error) → HeldIn (IsOther (λ (x y : Error). y ≡ x)) r →
+        refusal_not_memory : (r : Refusal Error) → HeldIn (IsOther (λ (x y : Error). y ≡ x)) r →
             FlattenedTo (λ x y. y ≡ x) (λ (x y : Error). y ≡ x) r errors.OutOfMemory → ⊥
-        refusal_spared (cut n) h f = cc
-        refusal_spared (refused f) (inl o) k = o.1 (let a = o.2 in cc)
-        refusal_spared (refused f) (inr o) k = o (sym k)
-        refusal_spared (failed f) (inl o) k = o.1 (let a = o.2 in cc)
-        refusal_spared (failed f) (inr o) k = o (sym k)
+        refusal_not_memory (cut n) h f = cc
+        refusal_not_memory (refused f) (inl o) k = o.1 (let a = o.2 in cc)
+        refusal_not_memory (refused f) (inr o) k = o (sym k)
+        refusal_not_memory (failed f) (inl o) k = o.1 (let a = o.2 in cc)
+        refusal_not_memory (failed f) (inr o) k = o (sym k)
 
-    walk_spared : (items : List Any) (content left : List ℕ) →
+    walk_not_memory : (items : List Any) (content left : List ℕ) →
         Yields (TakesItem (CheckedGives check) (λ (x y : Error). y ≡ x)) content
         (map Ok items ++ Err errors.OutOfMemory ∷ []) left → ⊥
-    walk_spared [] content left y = element_spared content y.1.1.0 y.1.1.1 y.1.1.2
-    walk_spared (x ∷ items) content left y = walk_spared items y.0 left y.2
+    walk_not_memory [] content left y = element_not_memory content y.1.1.0 y.1.1.1 y.1.1.2
+    walk_not_memory (x ∷ items) content left y = walk_not_memory items y.0 left y.2
 
-    spared : (p : Parts) → ListCheckGives number check p (Err errors.OutOfMemory) → ⊥
-    spared p (inl (inl a)) = let e = a.1 in cc
-    spared p (inl (inr a)) = let e = a.2 in cc
-    spared p (inr h) = walk_spared h.1.0 p.content h.1.1 h.1.2
+    not_memory : (p : Parts) → ListCheckGives number check p (Err errors.OutOfMemory) → ⊥
+    not_memory p (inl (inl a)) = let e = a.1 in cc
+    not_memory p (inl (inr a)) = let e = a.2 in cc
+    not_memory p (inr h) = walk_not_memory h.1.0 p.content h.1.1 h.1.2
 
 -- What a list writes.
 

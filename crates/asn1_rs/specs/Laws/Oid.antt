@@ -77,7 +77,7 @@ oid_checked = exact_check oid_constraints oid_constraints_are
 
 -- The conversion is exact.
 pub oid_converts : IsExactConversion OidGives oid_element
-oid_converts = record { exact = exact; spares = λ none any g. g }
+oid_converts = record { exact = exact; asks_no_memory = λ none any g. g }
   where
     exact : (any : Any) (answer : Result Oid Error) → IsOctets any.content.now → OidGives any answer →
         TakesBody oid_element.Body oid_value false (λ (x y : Error). y ≡ x) (parts_of any) answer

@@ -122,10 +122,10 @@ front_more G input v rest more f =
 module _ {T V E : Type 0} (ElementOf : List ℕ → Parts → Type 0) (FaultOf : List ℕ → Fault → Type 0)
     (IsCut : List ℕ → Type 0) (elements : AreElements ElementOf FaultOf IsCut) (refuses : Breach → Error)
     (check : Parts → Result (Unit {0}) Error → Type 0) (convert : Any → Result T E → Type 0) (from : Error → E → Type 0)
-    (Check : Parts → Type 0) (Body : Parts → V → Type 0) (value : T → V) (takes : Bool) (G : List ℕ → V → Type 0)
+    (Check : Parts → Type 0) (Body : Parts → V → Type 0) (value : T → V) (allocates : Bool) (G : List ℕ → V → Type 0)
     (check_exact : (p : Parts) (answer : Result (Unit {0}) Error) → check p answer → Checks Check p answer)
     (body_exact : (any : Any) (answer : Result T E) → IsOctets any.content.now → convert any answer →
-    TakesBody Body value takes from (parts_of any) answer)
+    TakesBody Body value allocates from (parts_of any) answer)
     (split : (o : List ℕ) (v : V) → G o v → ElementWord ElementOf Check Body o v)
     (join : (o : List ℕ) (v : V) → ElementWord ElementOf Check Body o v → G o v) where
   -- the element that was read is the one of any word at the front
@@ -140,7 +140,7 @@ module _ {T V E : Type 0} (ElementOf : List ℕ → Parts → Type 0) (FaultOf :
   -- A reader that reads one element, checks it and converts it is exact.
   pub element_exact : (input : List ℕ) (answer : Result (List ℕ × T) (Refusal E)) →
       ElementGives ElementOf FaultOf (refusal_of refuses) check convert from input answer →
-      Exactly IsCut G value (TellsMemory takes from) input answer
+      Exactly IsCut G value (TellsMemory allocates from) input answer
   element_exact input (Ok x) g = record {
     word = g.1.front.word;
     fits = join g.1.front.word (value x.1) (
@@ -166,18 +166,18 @@ module _ {T V E : Type 0} (ElementOf : List ℕ → Parts → Type 0) (FaultOf :
       ]
 
 -- no fault reports out of memory
-pub fault_spares : {E : Type 0} (from : Error → E → Type 0) (refuses : Breach → Error) →
+pub fault_no_memory : {E : Type 0} (from : Error → E → Type 0) (refuses : Breach → Error) →
     ((breach : Breach) → refuses breach ≢ OutOfMemory) → (fault : Fault) (r : Refusal E) →
     Converted from (refusal_of refuses fault) r → HeldIn (IsOther from) r
-fault_spares from at other (missing n) r c = subst (HeldIn (IsOther from)) (sym c) tt
-fault_spares from at other tag_fault r c = subst (HeldIn (IsOther from)) (sym c.2) (inl (_, λ q. cc, c.1))
-fault_spares from at other length_fault r c = subst (HeldIn (IsOther from)) (sym c.2) (inl (_, λ q. cc, c.1))
-fault_spares from at other (rule_fault breach) r c =
+fault_no_memory from at other (missing n) r c = subst (HeldIn (IsOther from)) (sym c) tt
+fault_no_memory from at other tag_fault r c = subst (HeldIn (IsOther from)) (sym c.2) (inl (_, λ q. cc, c.1))
+fault_no_memory from at other length_fault r c = subst (HeldIn (IsOther from)) (sym c.2) (inl (_, λ q. cc, c.1))
+fault_no_memory from at other (rule_fault breach) r c =
     subst (HeldIn (IsOther from)) (sym c.2) (inl (_, other breach, c.1))
-fault_spares from at other depth_fault r c = subst (HeldIn (IsOther from)) (sym c.2) (inl (_, λ q. cc, c.1))
+fault_no_memory from at other depth_fault r c = subst (HeldIn (IsOther from)) (sym c.2) (inl (_, λ q. cc, c.1))
 
 -- where check and conversion do not allocate, no refusal reports out of memory
-pub element_spares : {T E : Type 0} (ElementOf : List ℕ → Parts → Type 0) (FaultOf : List ℕ → Fault → Type 0)
+pub element_no_memory : {T E : Type 0} (ElementOf : List ℕ → Parts → Type 0) (FaultOf : List ℕ → Fault → Type 0)
     (refuses : Breach → Error) → ((breach : Breach) → refuses breach ≢ OutOfMemory) →
     (check : Parts → Result (Unit {0}) Error → Type 0) (convert : Any → Result T E → Type 0)
     (from : Error → E → Type 0) →
@@ -185,37 +185,37 @@ pub element_spares : {T E : Type 0} (ElementOf : List ℕ → Parts → Type 0) 
     (input : List ℕ) (answer : Result (List ℕ × T) (Refusal E)) →
     ElementGives ElementOf FaultOf (refusal_of refuses) check convert from input answer →
     IfErr answer (HeldIn (IsOther from))
-element_spares ElementOf FaultOf at other check convert from checked converted input (Ok x) g = tt
-element_spares ElementOf FaultOf at other check convert from checked converted input (Err r) (inl (fault, f, c)) =
-    fault_spares from at other fault r c
-element_spares ElementOf FaultOf at other check convert from checked converted input (Err r)
+element_no_memory ElementOf FaultOf at other check convert from checked converted input (Ok x) g = tt
+element_no_memory ElementOf FaultOf at other check convert from checked converted input (Err r) (inl (fault, f, c)) =
+    fault_no_memory from at other fault r c
+element_no_memory ElementOf FaultOf at other check convert from checked converted input (Err r)
     (inr (any, rest, begins, inl (e, c, (f, m, is)))) =
     subst (HeldIn (IsOther from)) (sym is)
     (inl (e, λ q. checked (parts_of any) (subst (λ (x : Error). check (parts_of any) (Err x)) q c), m))
-element_spares ElementOf FaultOf at other check convert from checked converted input (Err r)
+element_no_memory ElementOf FaultOf at other check convert from checked converted input (Err r)
     (inr (any, rest, begins, inr (c, (e, v, is)))) =
     subst (HeldIn (IsOther from)) (sym is) (converted any e v)
 
 -- What is not allowed by DER is not refused as out of memory.
-pub der_breach_spares : (breach : Breach) → der_breach breach ≢ OutOfMemory
-der_breach_spares breach q = cc
+pub der_breach_no_memory : (breach : Breach) → der_breach breach ≢ OutOfMemory
+der_breach_no_memory breach q = cc
 
 -- What is not allowed by BER is not refused as out of memory.
-pub ber_breach_spares : (breach : Breach) → ber_breach breach ≢ OutOfMemory
-ber_breach_spares breach q = cc
+pub ber_breach_no_memory : (breach : Breach) → ber_breach breach ≢ OutOfMemory
+ber_breach_no_memory breach q = cc
 
 -- Readers that check nothing, and refusals that stay.
 
 -- a reader by DER that reads an element, checks nothing and converts it is exact
 pub unchecked_exact : {T V E : Type 0} (convert : Any → Result T E → Type 0) (from : Error → E → Type 0)
-    (Body : Parts → V → Type 0) (value : T → V) (takes : Bool) →
+    (Body : Parts → V → Type 0) (value : T → V) (allocates : Bool) →
     ((any : Any) (answer : Result T E) → IsOctets any.content.now → convert any answer →
-    TakesBody Body value takes from (parts_of any) answer) →
+    TakesBody Body value allocates from (parts_of any) answer) →
     (input : List ℕ) (answer : Result (List ℕ × T) (Refusal E)) → DerGives PassesAll convert from input answer →
-    Exactly IsCutIdentifier (DerWord NoCheck Body) value (TellsMemory takes from) input answer
-unchecked_exact convert from Body value takes exact =
+    Exactly IsCutIdentifier (DerWord NoCheck Body) value (TellsMemory allocates from) input answer
+unchecked_exact convert from Body value allocates exact =
     element_exact IsDerElement DerElementFault IsCutIdentifier der_elements der_breach PassesAll convert from NoCheck
-    Body value takes (DerWord NoCheck Body) passes_all exact (λ o v w. w) (λ o v w. w)
+    Body value allocates (DerWord NoCheck Body) passes_all exact (λ o v w. w) (λ o v w. w)
 
 -- a refusal that is not converted is its own
 pub converts_itself : (refuses : Breach → Error) (fault : Fault) →

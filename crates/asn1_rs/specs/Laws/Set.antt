@@ -90,12 +90,12 @@ permutation_from_set vs ws h k e = permutation_from_value_set vs ws h k (set_inj
 -- Bodies of sets.
 
 -- what takes lists takes collections
-pub takes_seen : {T V W E : Type 0} (f : V → W) (B : Parts → V → Type 0) (value : T → V) (takes : Bool)
-    (from : Error → E → Type 0) (p : Parts) (answer : Result T E) → TakesBody B value takes from p answer →
-    TakesBody (Seen f B) (λ x. f (value x)) takes from p answer
-takes_seen f B value takes from p (Ok x) h = (value x, refl, h)
-takes_seen f B value takes from p (Err e) (inl m) = inl m
-takes_seen f B value takes from p (Err e) (inr n) = inr (λ v g. n g.0 g.2)
+pub takes_seen : {T V W E : Type 0} (f : V → W) (B : Parts → V → Type 0) (value : T → V) (allocates : Bool)
+    (from : Error → E → Type 0) (p : Parts) (answer : Result T E) → TakesBody B value allocates from p answer →
+    TakesBody (Seen f B) (λ x. f (value x)) allocates from p answer
+takes_seen f B value allocates from p (Ok x) h = (value x, refl, h)
+takes_seen f B value allocates from p (Err e) (inl m) = inl m
+takes_seen f B value allocates from p (Err e) (inr n) = inr (λ v g. n g.0 g.2)
 
 -- An element has one collection where it has one list.
 pub body_seen : {V W : Type 0} (f : V → W) (B : Parts → V → Type 0) → IsOneBody B → IsOneBody (Seen f B)
@@ -672,11 +672,11 @@ module _ {S V : Type 0} (test : S → S → Bool) (value : S → V)
 -- an exact reader of lists is one of what is collected from them
 module _ {T V W M E : Type 0} (holds : List T → W → Type 0) (of : List V → M) (worth : W → M)
     (reads : List ℕ → Result (List ℕ × T) (Refusal E) → Type 0) (from : Error → E → Type 0) (G : List ℕ → V → Type 0)
-    (value : T → V) (takes : Bool) (IsCut : List ℕ → Type 0)
+    (value : T → V) (allocates : Bool) (IsCut : List ℕ → Type 0)
     (told : (items : List T) (w : W) → holds items w → of (map value items) ≡ worth w)
     (one : IsOneFront G)
     (exact : (octets : List ℕ) (answer : Result (List ℕ × T) (Refusal E)) → IsOctets octets → reads octets answer →
-    Exactly IsCut G value (TellsMemory takes from) octets answer) where
+    Exactly IsCut G value (TellsMemory allocates from) octets answer) where
   -- The conversion to a set is exact.
   pub set_takes : (any : Any) (answer : Result W E) → IsOctets any.content.now →
       OfParts (ListTakes 17 holds reads from) any answer →
@@ -684,11 +684,11 @@ module _ {T V W M E : Type 0} (holds : List T → W → Type 0) (of : List V →
   set_takes any (Ok w) o t = (
     map value t.1.0,
     told t.1.0 w t.1.1,
-    list_takes 17 (λ (xs : List T) (ys : List T). ys ≡ xs) (map value) reads from G value takes IsCut
+    list_takes 17 (λ (xs : List T) (ys : List T). ys ≡ xs) (map value) reads from G value allocates IsCut
         (λ xs ys e. ap (map value) (sym e)) one exact any (Ok t.1.0) o (t.0, (t.1.0, refl, t.1.2)),
   )
   set_takes any (Err e) o t = elim (list_takes {W = List T} 17 (λ (xs : List T) (ys : List T). ys ≡ xs)
-      (map value) reads from G value takes IsCut (λ xs ys e. ap (map value) (sym e)) one exact any (Err e) o t) [
+      (map value) reads from G value allocates IsCut (λ xs ys e. ap (map value) (sym e)) one exact any (Err e) o t) [
         | inl m ↦ inl m
         | inr none ↦ inr (λ m b. none b.0 b.2)
       ]
@@ -699,11 +699,11 @@ module _ {T V W M E : Type 0} (holds : List T → W → Type 0) (of : List V →
   set_reads any (Ok w) o t = (
     map value t.1.0,
     told t.1.0 w t.1.1,
-    list_reads 17 (λ (xs : List T) (ys : List T). ys ≡ xs) (map value) reads from G value takes IsCut
+    list_reads 17 (λ (xs : List T) (ys : List T). ys ≡ xs) (map value) reads from G value allocates IsCut
         (λ xs ys e. ap (map value) (sym e)) one exact any (Ok t.1.0) o (t.0, (t.1.0, refl, t.1.2)),
   )
   set_reads any (Err e) o t = elim (list_reads {W = List T} 17 (λ (xs : List T) (ys : List T). ys ≡ xs)
-      (map value) reads from G value takes IsCut (λ xs ys e. ap (map value) (sym e)) one exact any (Err e) o t) [
+      (map value) reads from G value allocates IsCut (λ xs ys e. ap (map value) (sym e)) one exact any (Err e) o t) [
         | inl m ↦ inl m
         | inr none ↦ inr (λ m b. none b.0 b.2)
       ]

@@ -39,7 +39,8 @@ module _ {K : Type 0} (number : ℕ) (IsText : List ℕ → Type 0) (small : num
   pub string_converts : IsExactConversion (StringGives number IsText) (leaf_element (string_leaf {K = K} number IsText))
   string_converts = record {
     exact = λ any answer o g. (leaf_converts (string_leaf number IsText) string_lawful).exact any answer o g.0;
-    spares = λ none any g. (leaf_converts (string_leaf number IsText) string_lawful).spares none any g.0;
+    asks_no_memory = λ none any g. (leaf_converts (string_leaf number IsText) string_lawful).asks_no_memory none any
+        g.0;
   }
 
 -- strings are equal where their texts are

@@ -49,7 +49,7 @@ pub has_class_is : (class : ℕ) → IsCheck (has_class class)
 has_class_is class = record {
   apart = λ p e m b. b.0 m;
   one = λ p e f b c. same p e f b c;
-  spares = λ p b. let e = b.1.4 in cc;
+  asks_no_memory = λ p b. let e = b.1.4 in cc;
 }
   where
     same : (p : Parts) (e f : Error) → has_class class p (Err e) → has_class class p (Err f) → e ≡ f
@@ -82,21 +82,24 @@ of_class_none class own l n e (inr h) = n e h.1
 
 -- what is written under a tag of one of the four classes has no refusal,
 -- where its counts and its contents octets have none
-pub under_tag : (class : ℕ) (counting : Error → Type 0) (own : SerializeError → Type 0) → class < 4 → HasNone counting →
-    HasNone own → HasNone (UnderClass class (WrittenRefusal counting)) × HasNone (UnderClass class own)
-under_tag class counting own few n o =
-    (of_class_none class (WrittenRefusal counting) few (behind_header counting n), of_class_none class own few o)
+pub under_tag : (class : ℕ) (count_refuses : Error → Type 0) (own : SerializeError → Type 0) → class < 4 →
+    HasNone count_refuses →
+    HasNone own → HasNone (UnderClass class (WrittenRefusal count_refuses)) × HasNone (UnderClass class own)
+under_tag class count_refuses own few n o = (
+  of_class_none class (WrittenRefusal count_refuses) few (behind_header count_refuses n),
+  of_class_none class own few o,
+)
 
--- Refusals, and marks.
+-- Refusals, and equality.
 
 -- what the refusal of a check is made into does not report out of memory
-pub check_spares : {E : Type 0} (check : CheckGives) → IsCheck check →
+pub check_no_memory : {E : Type 0} (check : CheckGives) → IsCheck check →
     (from : Error → E → Type 0) (p : Parts) (refusal : Error) (e : E) → check p (Err refusal) → from refusal e →
     IsOther from e
-check_spares check is from p refusal e t m =
-    inl (refusal, λ q. is.spares p (subst (λ (x : Error). check p (Err x)) q t), m)
+check_no_memory check is from p refusal e t m =
+    inl (refusal, λ q. is.asks_no_memory p (subst (λ (x : Error). check p (Err x)) q t), m)
 
 -- what says nothing of a value, beside it, is equal to every other
-pub marked_same : {A : Type 0} (same : Bool) → IsTrue same ↔ A → IsTrue (same && true) ↔ A
-marked_same true h = h
-marked_same false h = h
+pub same_beside_nothing : {A : Type 0} (same : Bool) → IsTrue same ↔ A → IsTrue (same && true) ↔ A
+same_beside_nothing true h = h
+same_beside_nothing false h = h

@@ -79,7 +79,7 @@ TellsMemoryAlone memory octets e = memory e
 
 -- the error reports out of memory, where the reader allocates
 abbrev pub IsMemory : {E : Type 0} → Bool → (Error → E → Type 0) → E → Type 0
-IsMemory takes from e = IsTrue takes × from errors.OutOfMemory e
+IsMemory allocates from e = IsTrue allocates × from errors.OutOfMemory e
 
 -- where no refusal is told
 abbrev pub TellsNothing : {E : Type 0} → List ℕ → E → Type 0

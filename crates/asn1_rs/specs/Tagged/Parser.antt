@@ -15,8 +15,8 @@ use Rattle.asn1_headers.specs.Header.{class_of, is_constructed_of, tag_of, lengt
 use Rattle.asn1_rs.specs.Tagged.{OfElement}
 
 -- the header that the value was read under
-abbrev pub header_of : {K T E : Type 0} → TaggedParser K T E → Header
-header_of t = t.header
+abbrev pub parser_header : {K T E : Type 0} → TaggedParser K T E → Header
+parser_header t = t.header
 
 -- the value under the header
 abbrev pub inner_of : {K T E : Type 0} → TaggedParser K T E → T
@@ -34,7 +34,8 @@ pub record IsUnder (tag : Tag) (any other : Any) : Type 0 where
 abbrev pub TakesExplicit : {K T E : Type 0} → (List ℕ → Result (List ℕ × T) (Refusal E) → Type 0) →
     OfElement (Result (List ℕ × TaggedParser K T E) (Refusal E))
 TakesExplicit reads any rest (Ok x) =
-    (x.0 ≡ rest) × (header_of x.1 ≡ any.header) × ((left : List ℕ) × reads any.content.now (Ok (left, inner_of x.1)))
+    (x.0 ≡ rest) × (parser_header x.1 ≡ any.header) ×
+    ((left : List ℕ) × reads any.content.now (Ok (left, inner_of x.1)))
 TakesExplicit reads any rest (Err r) = reads any.content.now (Err r)
 
 -- what checking an element and then converting it may answer:
@@ -50,7 +51,7 @@ ChecksAndConverts check convert from any (Err e) =
 -- header, or the refusal. The rest is the element's.
 abbrev pub TakesImplicit : {K T E : Type 0} → Tag → (Any → Result T E → Type 0) →
     OfElement (Result (List ℕ × TaggedParser K T E) (Refusal E))
-TakesImplicit tag converts any rest (Ok x) = (x.0 ≡ rest) × (header_of x.1 ≡ any.header) ×
+TakesImplicit tag converts any rest (Ok x) = (x.0 ≡ rest) × (parser_header x.1 ≡ any.header) ×
     ((other : Any) × IsUnder tag any other × converts other (Ok (inner_of x.1)))
 TakesImplicit {K} {T} {E} tag converts any rest (Err r) =
     (other : Any) × IsUnder tag any other × ((e : E) × converts other (Err e) × (r ≡ refused e))
@@ -70,9 +71,9 @@ HasTag class tag header (Err e) =
 -- What asking something of the header of what was read may answer: what was read and the rest, or the refusal.
 abbrev pub Asks : {K T E : Type 0} → (Header → Result (Unit {0}) Error → Type 0) → (Error → E → Type 0) → List ℕ →
     TaggedParser K T E → Result (List ℕ × TaggedParser K T E) (Refusal E) → Type 0
-Asks asks from rest parser (Ok x) = asks (header_of parser) (Ok tt) × (x.0 ≡ rest) × (x.1 ≡ parser)
+Asks asks from rest parser (Ok x) = asks (parser_header parser) (Ok tt) × (x.0 ≡ rest) × (x.1 ≡ parser)
 Asks {K} {T} {E} asks from rest parser (Err r) =
-    (refusal : Error) × asks (header_of parser) (Err refusal) × ((e : E) × from refusal e × (r ≡ refused e))
+    (refusal : Error) × asks (parser_header parser) (Err refusal) × ((e : E) × from refusal e × (r ≡ refused e))
 
 -- what a reader may answer that asks that of what it read: the refusal of the reading comes first
 abbrev pub Expects : {K T E : Type 0} → (List ℕ → Result (List ℕ × TaggedParser K T E) (Refusal E) → Type 0) →

@@ -78,9 +78,9 @@ impl LawfulItem for EndOfContent {
 impl<'a> LawfulBody<'a, Error> for EndOfContent {
     ghost body_exact = { (leaf_converts end_leaf end_lawful).exact };
 
-    ghost body_spares = { λ none.
+    ghost body_no_memory = { λ none.
         other_error (OfParts (LeafGives end_leaf))
-        ((leaf_converts end_leaf end_lawful).spares none) };
+        ((leaf_converts end_leaf end_lawful).asks_no_memory none) };
 }
 
 impl LawfulTagged for EndOfContent {

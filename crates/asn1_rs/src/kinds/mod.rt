@@ -194,7 +194,7 @@ impl<T: HasKind + LawfulItemBy<T::Kind>> LawfulItem for T {
 impl<'a, T: LawfulConversion<'a>> LawfulBody<'a, Error> for T {
     ghost body_exact = { T.converts.exact };
 
-    ghost body_spares = { λ none. other_error T.any_gives (T.converts.spares none) };
+    ghost body_no_memory = { λ none. other_error T.any_gives (T.converts.asks_no_memory none) };
 }
 
 impl<T: LawfulElement> LawfulCheck for T {

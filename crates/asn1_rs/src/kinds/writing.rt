@@ -11,7 +11,7 @@ ghost use Rattle.asn1_rs.specs.ToDer.{VectorRefuses, held_writing, whole_allocat
 ghost use Rattle.asn1_headers.specs.declared.error.SerializeError.{SerializeError};
 ghost use Rattle.asn1_headers.specs.declared.error.Error.{Error};
 ghost use Rattle.asn1_rs.specs.Kinds.Writing.{universal_header, universal_writing, CountRefused, IsPieceOf};
-ghost use Rattle.asn1_rs.specs.Kinds.Writing.{piece_octets, PutRefused, PrependRefused};
+ghost use Rattle.asn1_rs.specs.Kinds.Writing.{piece_octets, OwnPutRefused, PrependRefused};
 ghost use Rattle.asn1_rs.specs.Kinds.Writing.{IsWrittenElement};
 ghost use Rattle.asn1_rs.specs.Laws.Forms.{universal_number, universal_number_fits, universal_lawful_writing};
 ghost use Rattle.asn1_rs.specs.Grammar.Item.{IsLawfulWriting};
@@ -56,7 +56,8 @@ impl Piece {
 }
 
 /// A value that is written as one element of the universal class: the tag number of its type, and contents octets. The
-/// element is constructed exactly for the tags of sequence and set. Out of memory is never answered.
+/// element is constructed exactly for the tags of sequence and set. Out of memory is answered only where it goes into a
+/// vector or in front of a buffer.
 ///
 /// A type some of whose values can't be written says which, and how they are refused. Such a value is refused in
 /// counting too, and nothing of it is appended.
@@ -81,7 +82,7 @@ pub trait WritesElement: LawfulElement + Tagged {
     /// Appends the contents octets, and answers their number.
     fn put_octets<W: DerWrite>(&self, w: &mut W) -> SerializeResult<usize>
         ensures wrote { Wrote (octets self.now) (W.state w.old) (W.state w.new) result }
-        ensures refused { PutRefused (is_refused self.now) (refusal self.now)
+        ensures refused { OwnPutRefused (is_refused self.now) (refusal self.now)
             (length (octets self.now)) (W.state w.old) (W.state w.new) result };
 
     /// The whole element in one piece, of a type whose contents octets are few. A value that is refused has none.
@@ -98,13 +99,10 @@ pub trait WritesElement: LawfulElement + Tagged {
     fn put_element<W: DerWrite>(&self, w: &mut W) -> SerializeResult<usize>
         ensures wrote { Wrote (universal_header (Self.TAG).0 (octets self.now) ++ octets self.now)
             (W.state w.old) (W.state w.new) result }
-        ensures refused { PutRefused (is_refused self.now) (refusal self.now)
+        ensures refused { OwnPutRefused (is_refused self.now) (refusal self.now)
             (length (universal_header (Self.TAG).0 (octets self.now) ++ octets self.now))
             (W.state w.old) (W.state w.new) result }
     {
-        if let Some(piece) = self.piece() {
-            return put_all(w, piece.as_bytes());
-        }
         let tag = Self::TAG;
         let before = put_counted_header(0, tag.is_container(), tag.0, self.count_octets(), w)?;
         let after = self.put_octets(w)?;
@@ -315,15 +313,21 @@ impl<T: WritesElement> ToDerBy<ElementKind> for T {
         self.put_octets(w)
     }
 
+    // (a short piece is put here and not in `put_element`, whose hint is lost in an impl that keeps its body)
     #[inline(always)]
     fn put_whole<W: DerWrite>(&self, _alloc: Global, w: &mut W) -> SerializeResult<usize> {
+        if let Some(piece) = self.piece() {
+            return put_all(w, piece.as_bytes());
+        }
         self.put_element(w)
     }
 
+    #[inline(always)]
     fn prepend_content(&self, alloc: Global, buf: &mut DerBuffer) -> SerializeResult<usize> {
         self.prepend_contents(alloc, buf)
     }
 
+    #[inline(always)]
     fn prepend_whole(&self, alloc: Global, buf: &mut DerBuffer) -> SerializeResult<usize> {
         if let Some(piece) = self.piece() {
             return prepend_octets(piece.as_bytes(), buf);
@@ -404,10 +408,12 @@ impl<T: HasKind + ToDerBy<T::Kind>> ToDer for T {
         self.put_whole(alloc, w)
     }
 
+    #[inline(always)]
     fn prepend_der_content(&self, alloc: Global, buf: &mut DerBuffer) -> SerializeResult<usize> {
         self.prepend_content(alloc, buf)
     }
 
+    #[inline(always)]
     fn prepend_der(&self, alloc: Global, buf: &mut DerBuffer) -> SerializeResult<usize> {
         self.prepend_whole(alloc, buf)
     }

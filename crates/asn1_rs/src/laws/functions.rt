@@ -61,7 +61,7 @@ pub fn reader_is_exact_by_ber<'a, T: LawfulBer<'a, E>, E: From<Error>>()
         → (ber_words T.grammar) word v → input ++ more ≡ word ++ rest → length input < length word
         → RefusedBeforeEnd (TellsMemory T.grammar.allocates E.from_gives)
         (EndsWithin input) more answer }
-    ensures spares { (input : List ℕ) (answer : Result (List ℕ × T) (Refusal E)) →
+    ensures asks_no_memory { (input : List ℕ) (answer : Result (List ℕ × T) (Refusal E)) →
         T.grammar.allocates ≡ false → T.ber_gives input answer →
         IfErr answer (HeldIn (IsOther E.from_gives)) }
 {}
@@ -82,7 +82,7 @@ pub fn reader_is_exact_by_der<'a, T: LawfulDer<'a, E>, E: From<Error>>()
         → T.grammar.Der word v → input ++ more ≡ word ++ rest → length input < length word
         → RefusedBeforeEnd (TellsMemory T.grammar.allocates E.from_gives)
         (IsCutIdentifier input) more answer }
-    ensures spares { (input : List ℕ) (answer : Result (List ℕ × T) (Refusal E)) →
+    ensures asks_no_memory { (input : List ℕ) (answer : Result (List ℕ × T) (Refusal E)) →
         T.grammar.allocates ≡ false → T.der_gives input answer →
         IfErr answer (HeldIn (IsOther E.from_gives)) }
 {}

@@ -39,7 +39,8 @@ ghost use Rattle.asn1_headers.specs.Header.{raw_tag_of};
 ghost use Rattle.asn1_rs.specs.Any.{parts_of, IsTheElement, IsDefiniteOr, DerElementGives, BerElementGives};
 ghost use Rattle.asn1_rs.specs.Any.{RefusalLasts, ElementLasts};
 ghost use Rattle.asn1_headers.specs.Content.{ContentStays};
-ghost use Rattle.asn1_rs.specs.Laws.Readers.{element_exact, element_spares, der_breach_spares, ber_breach_spares};
+ghost use Rattle.asn1_rs.specs.Laws.Readers.{element_exact, element_no_memory, der_breach_no_memory};
+ghost use Rattle.asn1_rs.specs.Laws.Readers.{ber_breach_no_memory};
 ghost use Rattle.asn1_rs.specs.Laws.Readers.{der_elements, ber_elements, passes_all, all_pass};
 ghost use Rattle.asn1_rs.specs.ToDer.{whole_allocates, whole_octets};
 
@@ -77,7 +78,7 @@ pub trait LawfulBody<'a, E: From<Error>>: FromAny<'a, Error = E> + LawfulItem {
         (parts_of any) answer };
 
     /// Where the type does not allocate, no refusal of the conversion reports out of memory.
-    ghost body_spares: { Self.grammar.allocates ≡ false → (any : Any) (e : E) →
+    ghost body_no_memory: { Self.grammar.allocates ≡ false → (any : Any) (e : E) →
         Self.any_gives any (Err e) → IsOther E.from_gives e };
 }
 
@@ -109,7 +110,7 @@ pub trait LawfulBer<'a, E: From<Error>>: FromBer<'a, E> + LawfulItem {
         (TellsMemory Self.grammar.allocates E.from_gives) input answer };
 
     /// Where the type does not allocate, no refusal reports out of memory.
-    ghost ber_spares: { Self.grammar.allocates ≡ false →
+    ghost ber_no_memory: { Self.grammar.allocates ≡ false →
         (input : List ℕ) (answer : Result (List ℕ × Self) (Refusal E)) →
         Self.ber_gives input answer → IfErr answer (HeldIn (IsOther E.from_gives)) };
 }
@@ -123,7 +124,7 @@ pub trait LawfulDer<'a, E: From<Error>>: FromDer<'a, E> + LawfulItem {
         (TellsMemory Self.grammar.allocates E.from_gives) input answer };
 
     /// Where the type does not allocate, no refusal reports out of memory.
-    ghost der_spares: { Self.grammar.allocates ≡ false →
+    ghost der_no_memory: { Self.grammar.allocates ≡ false →
         (input : List ℕ) (answer : Result (List ℕ × Self) (Refusal E)) →
         Self.der_gives input answer → IfErr answer (HeldIn (IsOther E.from_gives)) };
 }
@@ -174,10 +175,10 @@ where
         T.grammar.allocates T.grammar.Der T.checks.exact T.body_exact T.der_split T.der_join
         input answer };
 
-    ghost der_spares = { λ none.
-        element_spares IsDerElement DerElementFault
-        der_breach der_breach_spares
-        T.check_gives T.any_gives E.from_gives T.checks.spares (T.body_spares none) };
+    ghost der_no_memory = { λ none.
+        element_no_memory IsDerElement DerElementFault
+        der_breach der_breach_no_memory
+        T.check_gives T.any_gives E.from_gives T.checks.asks_no_memory (T.body_no_memory none) };
 }
 
 impl<'a, T, E: From<Error>> LawfulBer<'a, E> for T
@@ -191,9 +192,9 @@ where
         (λ o v w. w)
         (λ o v w. w) input answer };
 
-    ghost ber_spares = { λ none.
-        element_spares (IsElement max_depth) (ElementFault max_depth) ber_breach
-        ber_breach_spares PassesAll T.any_gives E.from_gives all_pass (T.body_spares none) };
+    ghost ber_no_memory = { λ none.
+        element_no_memory (IsElement max_depth) (ElementFault max_depth) ber_breach
+        ber_breach_no_memory PassesAll T.any_gives E.from_gives all_pass (T.body_no_memory none) };
 }
 
 /// Reads a value of a lawful type by BER.
@@ -209,7 +210,7 @@ pub fn read_ber<'a, T: LawfulBer<'a, E>, E: From<Error>>(
     ensures back { (v : T.grammar.Value) (w rest : List ℕ) → IsStrict T.grammar.Form v w →
         input.now ≡ w ++ rest → ReadsBack T.grammar.value
         (TellsMemory T.grammar.allocates E.from_gives) v rest (seen result) }
-    ensures spares { T.grammar.allocates ≡ false →
+    ensures asks_no_memory { T.grammar.allocates ≡ false →
         IfErr (seen result) (HeldIn (IsOther E.from_gives)) }
     ensures gives { T.ber_gives input.now (seen result) }
 {
@@ -229,7 +230,7 @@ pub fn read_der<'a, T: LawfulDer<'a, E>, E: From<Error>>(
     ensures back { (v : T.grammar.Value) (w rest : List ℕ) → IsStrict T.grammar.Form v w →
         bytes.now ≡ w ++ rest → ReadsBack T.grammar.value
         (TellsMemory T.grammar.allocates E.from_gives) v rest (seen result) }
-    ensures spares { T.grammar.allocates ≡ false →
+    ensures asks_no_memory { T.grammar.allocates ≡ false →
         IfErr (seen result) (HeldIn (IsOther E.from_gives)) }
     ensures gives { T.der_gives bytes.now (seen result) }
 {

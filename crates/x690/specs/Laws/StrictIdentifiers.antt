@@ -16,11 +16,11 @@ use Rattle.x690.specs.Laws.Digits.{weighted_sum_push}
 use Rattle.x690.specs.Laws.Digits.Sums.{weighted_sum_lt, weighted_sum_digits, same_digits}
 use Rattle.x690.specs.Laws.Identifiers.{identifier_some, identifier_is_octets}
 
--- the digits with bit 8
-abbrev marked : ℕ → List ℕ
-marked number = digits_of 128 (number / 128)
+-- the digits that get bit 8
+abbrev leading_digits : ℕ → List ℕ
+leading_digits number = digits_of 128 (number / 128)
 
-below : (number : ℕ) → AllBelowBase 128 (marked number)
+below : (number : ℕ) → AllBelowBase 128 (leading_digits number)
 below number = all_below_base_digits_of 128 (number / 128) (omega arith)
 
 are_digits : (hs : List ℕ) (last : ℕ) → AllBelowBase 128 hs → last < 128 → AreTagDigits (map with_bit_8 hs ++ last ∷ [])
@@ -38,16 +38,16 @@ low_digits (a ∷ hs) last h l =
 
 -- The digits of a tag number have bit 8 set on all octets but the last.
 pub tag_digits_are : (number : ℕ) → AreTagDigits (tag_digits number)
-tag_digits_are number = are_digits (marked number) (number % 128) (below number) (omega arith)
+tag_digits_are number = are_digits (leading_digits number) (number % 128) (below number) (omega arith)
 
 -- They say the number.
 pub tag_digits_value : (number : ℕ) → base_128_value (tag_digits number) ≡ number
 tag_digits_value number =
-    let e = ap (weighted_sum 128) (low_digits (marked number) (number % 128) (below number) (omega arith)) in
+    let e = ap (weighted_sum 128) (low_digits (leading_digits number) (number % 128) (below number) (omega arith)) in
     omega (
       arith,
       e,
-      weighted_sum_push 128 (marked number) (number % 128),
+      weighted_sum_push 128 (leading_digits number) (number % 128),
       weighted_sum_digits 128 (number / 128) (omega arith),
     )
 
@@ -55,8 +55,8 @@ tag_digits_value number =
 pub tag_digits_count : (number : ℕ) → length (tag_digits number) ≡ length (digits_of 128 (number / 128)) + 1
 tag_digits_count number = omega (
   arith,
-  length-append (map with_bit_8 (marked number)) (number % 128 ∷ []),
-  length-map (marked number) with_bit_8,
+  length-append (map with_bit_8 (leading_digits number)) (number % 128 ∷ []),
+  length-map (leading_digits number) with_bit_8,
 )
 
 -- A number below 128^k has k digits at most.
@@ -150,15 +150,16 @@ no_spare : (number : ℕ) → 31 ≤ number → (hs : List ℕ) (last : ℕ) →
 no_spare number h [] last l f = (h, λ e. omega arith)
 no_spare number h (a ∷ hs) last l f = let p : 0 < a = f (omega arith) in (h, λ e. omega arith)
 
-marked_first : (number : ℕ) → 1 ≤ length (marked number) → 0 < get_or (marked number) 0 0
-marked_first number some = elim (cases_lt 0 (number / 128)) [
+leading_first : (number : ℕ) → 1 ≤ length (leading_digits number) → 0 < get_or (leading_digits number) 0 0
+leading_first number some = elim (cases_lt 0 (number / 128)) [
   | inl p ↦ first_digits_of 128 (number / 128) (omega arith) p
   | inr p ↦ absurd (omega (arith, length-digits_of-le 128 0 (number / 128) (omega arith) (omega arith)))
 ]
 
 -- the digits of a number have no spare one
 pub tag_digits_needed : (number : ℕ) → 31 ≤ number → NeedsItsDigits number (tag_digits number)
-tag_digits_needed number h = no_spare number h (marked number) (number % 128) (omega arith) (marked_first number)
+tag_digits_needed number h = no_spare number h (leading_digits number) (number % 128) (omega arith)
+    (leading_first number)
 
 -- The strict identifier octets of a number below 31 are one.
 pub identifier_octets_low : (id : Identifier) → id.number < 31 →

@@ -11,6 +11,7 @@ use Rattle.std.proofs.lemmas.List.Folds.{list_all-append}
 use Rattle.std.proofs.lemmas.Option.{slice_get_read}
 use Rattle.std.proofs.Math.Seq.{get_or-append_seam}
 use Rattle.x690.specs.Octets.{IsOctets}
+use Rattle.x690.specs.Sets.{is_visible}
 use Rattle.x690.specs.Times.{z_text, to_minute, EndsInZ, HasComma, SaysFraction, SaysUtcTime, SaysGeneralizedTime}
 use Rattle.x690.specs.Times.{fraction_text, utc_time_text, generalized_time_text, MostMilliseconds, FitsText}
 use Rattle.x690.specs.Times.{FitsUtcTime, FitsGeneralizedTime, IsStrictMoment, IsStrictUtcTime, IsStrictGeneralizedTime}
@@ -141,9 +142,6 @@ generalized_inner m =
     simp digit_inner (inner_append (fraction_text m.millisecond) z_text (fraction_inner m.millisecond) refl)
 
 -- Such octets are from the space to 7f.
-
-abbrev is_visible : ℕ → Bool
-is_visible = is_in_range 0x20 0x7f
 
 abbrev AreVisible : List ℕ → Type 0
 AreVisible octets = IsTrue (list_all is_visible octets)

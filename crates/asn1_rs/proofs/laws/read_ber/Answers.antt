@@ -13,6 +13,7 @@ returns-clause-back g c = λ v w rest s e.
     ((g.met.T.LawfulBer c.lifetimes (search rules)).ber_exact c.args.input.now (seen c.from_ber.result)
     (λ k. omega (arith, c.type_inv.input k)) c.from_ber.ensures) v w rest s e
 
-pub returns-clause-spares : goal.returns-clause-spares
-returns-clause-spares g c = λ none. (g.met.T.LawfulBer c.lifetimes (search rules)).ber_spares none c.args.input.now
+pub returns-clause-asks_no_memory : goal.returns-clause-asks_no_memory
+returns-clause-asks_no_memory g c = λ none.
+    (g.met.T.LawfulBer c.lifetimes (search rules)).ber_no_memory none c.args.input.now
     (seen c.from_ber.result) c.from_ber.ensures

@@ -12,6 +12,7 @@ returns-clause-back g c = λ v w rest s e.
     ((g.met.T.LawfulDer c.lifetimes (search rules)).der_exact c.args.bytes.now (seen c.from_der.result)
     (λ k. omega (arith, c.type_inv.bytes k)) c.from_der.ensures) v w rest s e
 
-pub returns-clause-spares : goal.returns-clause-spares
-returns-clause-spares g c = λ none. (g.met.T.LawfulDer c.lifetimes (search rules)).der_spares none c.args.bytes.now
+pub returns-clause-asks_no_memory : goal.returns-clause-asks_no_memory
+returns-clause-asks_no_memory g c = λ none.
+    (g.met.T.LawfulDer c.lifetimes (search rules)).der_no_memory none c.args.bytes.now
     (seen c.from_der.result) c.from_der.ensures

@@ -55,7 +55,7 @@ element_body_exact any (Err e) h = absurd h
 pub element_converts : IsExactConversion IsTheElement any_element
 element_converts = record {
   exact = λ any answer octets h. element_body_exact any answer h;
-  spares = λ none any h. h;
+  asks_no_memory = λ none any h. h;
 }
 
 -- The constraints.
@@ -68,4 +68,4 @@ element_check_exact p (Err e) h = λ c. let k : definite c.0 ≡ indefinite = sy
 
 -- They are exact, and do not allocate.
 pub element_checks : IsExactCheck IsDefiniteOr ElementCheck
-element_checks = record { exact = element_check_exact; spares = λ p h. let e = h.1 in cc }
+element_checks = record { exact = element_check_exact; asks_no_memory = λ p h. let e = h.1 in cc }

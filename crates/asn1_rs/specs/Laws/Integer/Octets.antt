@@ -16,7 +16,7 @@ integer_check_is : IsCheck IntegerCheckGives
 integer_check_is = record {
   apart = λ p e m b. integer_checks.exact p (Err e) b m;
   one = one_integer_check_refusal;
-  spares = integer_checks.spares;
+  asks_no_memory = integer_checks.asks_no_memory;
 }
 
 -- Integers of any size are lawful.

@@ -28,22 +28,22 @@ use Rattle.asn1_rs.specs.Laws.Sequence.Iterator.{octets_kept, whole_walk}
 -- Reading one element.
 
 -- the value of an element is its parts
-abbrev HasParts : Parts → Parts → Type 0
-HasParts p v = v ≡ p
+abbrev IsParts : Parts → Parts → Type 0
+IsParts p v = v ≡ p
 
 -- The conversion of an element to itself is exact.
 element_taken : (any : Any) (answer : Result Any Error) → IsOctets any.content.now → IsTheElement any answer →
-    TakesBody HasParts parts_of false IsSame (parts_of any) answer
+    TakesBody IsParts parts_of false IsSame (parts_of any) answer
 element_taken any (Ok same) o g = the_element_parts any same g
 element_taken any (Err e) o g = absurd g
 
 -- An element by BER is a word whose value is its parts.
 element_split : (o : List ℕ) (v : Parts) → IsElement max_depth o v →
-    ElementWord (IsElement max_depth) NoCheck HasParts o v
+    ElementWord (IsElement max_depth) NoCheck IsParts o v
 element_split o v a = (v, a, tt, refl)
 
 -- Such a word is an element by BER.
-element_join : (o : List ℕ) (v : Parts) → ElementWord (IsElement max_depth) NoCheck HasParts o v →
+element_join : (o : List ℕ) (v : Parts) → ElementWord (IsElement max_depth) NoCheck IsParts o v →
     IsElement max_depth o v
 element_join o v a = subst (λ (p : Parts). IsElement max_depth o p) (sym a.3) a.1
 
@@ -52,7 +52,7 @@ elements_exact : (octets : List ℕ) (answer : Result (List ℕ × Any) (Refusal
     ElementsGive octets answer →
     Exactly EndsWithin (IsElement max_depth) parts_of (TellsMemory false IsSame) octets answer
 elements_exact octets answer o = element_exact (IsElement max_depth) (ElementFault max_depth) EndsWithin ber_elements
-    ber_breach PassesAll IsTheElement IsSame NoCheck HasParts parts_of false
+    ber_breach PassesAll IsTheElement IsSame NoCheck IsParts parts_of false
     (IsElement max_depth) passes_all element_taken element_split element_join octets answer
 
 -- The walk.

@@ -129,11 +129,11 @@ octets_kept octets word rest o e = octets_back word rest (subst IsOctets e o)
 -- Walks by a reader that is exact by a grammar whose words begin one input in one way, at octets of which something
 -- holds that holds of what follows a word too.
 module _ {T V E : Type 0} (reads : List ℕ → Result (List ℕ × T) (Refusal E) → Type 0) (from : Error → E → Type 0)
-    (G : List ℕ → V → Type 0) (value : T → V) (takes : Bool) (IsCut : List ℕ → Type 0)
+    (G : List ℕ → V → Type 0) (value : T → V) (allocates : Bool) (IsCut : List ℕ → Type 0)
     (one : IsOneFront G) (Keeps : List ℕ → Type 0)
     (kept : (octets word rest : List ℕ) → Keeps octets → octets ≡ word ++ rest → Keeps rest)
     (exact : (octets : List ℕ) (answer : Result (List ℕ × T) (Refusal E)) → Keeps octets → reads octets answer →
-    Exactly IsCut G value (TellsMemory takes from) octets answer) where
+    Exactly IsCut G value (TellsMemory allocates from) octets answer) where
   -- the rest behind a word is shorter
   not_as_long : (octets rest : List ℕ) (v : V) → Front G octets v rest → length octets ≤ length rest → ⊥
   not_as_long octets rest v f l = shown f.word f.fits f.is
@@ -144,7 +144,7 @@ module _ {T V E : Type 0} (reads : List ℕ → Result (List ℕ × T) (Refusal 
 
   -- an answer that ends the walk tells that no word begins what is left, or reports out of memory
   end_tells : (octets : List ℕ) (answer : Result (List ℕ × T) (Refusal E)) (e : E) → Keeps octets →
-      reads octets answer → EndsItem from octets answer e → TellsNoWord G (IsMemory takes from) octets e
+      reads octets answer → EndsItem from octets answer e → TellsNoWord G (IsMemory allocates from) octets e
   end_tells octets (Ok x) e o g w = absurd (not_as_long octets x.0 (value x.1) (exact octets (Ok x) o g) w.0)
   end_tells octets (Err r) e o g w =
       elim (exact octets (Err r) o g) [
@@ -161,8 +161,8 @@ module _ {T V E : Type 0} (reads : List ℕ → Result (List ℕ × T) (Refusal 
   -- A walk gives the words at the front in turn; a refusal tells that no word follows, or of want of memory.
   pub lawful_walk : (answers : List (Result T E)) (content left : List ℕ) → Keeps content →
       Yields (TakesItem reads from) content answers left →
-      IsWalk G value (TellsNoWord G (IsMemory takes from)) content answers left
-  lawful_walk = walk_made reads from G value (TellsNoWord G (IsMemory takes from)) Keeps
+      IsWalk G value (TellsNoWord G (IsMemory allocates from)) content answers left
+  lawful_walk = walk_made reads from G value (TellsNoWord G (IsMemory allocates from)) Keeps
       (λ octets rest item o n g. let f = exact octets (Ok (rest, item)) o g in (f, kept octets f.word rest o f.is))
       (λ octets answer e o n g w. end_tells octets answer e o g w)
 
@@ -193,9 +193,9 @@ module _ {T V E : Type 0} (reads : List ℕ → Result (List ℕ × T) (Refusal 
   -- A walk over joined words gives them in turn, and tells no refusal but want of memory.
   pub whole_walk : (answers : List (Result T E)) (content left : List ℕ) → Keeps content → AreJoinedWords G content →
       Yields (TakesItem reads from) content answers left →
-      IsWalk G value (TellsMemoryAlone (IsMemory takes from)) content answers left
+      IsWalk G value (TellsMemoryAlone (IsMemory allocates from)) content answers left
   whole_walk answers content left o a =
-      walk_made reads from G value (TellsMemoryAlone (IsMemory takes from)) KeepsJoined
+      walk_made reads from G value (TellsMemoryAlone (IsMemory allocates from)) KeepsJoined
       (λ octets rest item k n g. let f = exact octets (Ok (rest, item)) k.0 g in (
         f,
         (kept octets f.word rest k.0 f.is, others_joined octets rest (value item) k.1 f),

@@ -32,9 +32,9 @@ use Rattle.asn1_rs.specs.Kinds.{IsExactCheck}
 use Rattle.asn1_rs.specs.Laws.Any.{refusal_lasts, element_lasts}
 use Rattle.asn1_rs.specs.Laws.Checks.{before_is, has_number_is, is_constructed_is, is_counted_is}
 use Rattle.asn1_rs.specs.Laws.Forms.{strict_written, both_by_value, whole_writable}
-use Rattle.asn1_rs.specs.Laws.Readers.{AreElements, none_now, front_more, speaks_fault, fault_spares, speaks_now}
-use Rattle.asn1_rs.specs.Laws.Readers.{converts_itself, der_breach_spares, der_elements}
-use Rattle.asn1_rs.specs.Laws.Tagged.{has_class_is, number_is, own_class, check_spares, under_tag}
+use Rattle.asn1_rs.specs.Laws.Readers.{AreElements, none_now, front_more, speaks_fault, fault_no_memory, speaks_now}
+use Rattle.asn1_rs.specs.Laws.Readers.{converts_itself, der_breach_no_memory, der_elements}
+use Rattle.asn1_rs.specs.Laws.Tagged.{has_class_is, number_is, own_class, check_no_memory, under_tag}
 use Rattle.asn1_rs.specs.Laws.Words.{word_one, strict_element, one_strict, strict_apart, strict_der_word, ber_one}
 use Rattle.asn1_rs.specs.Laws.Words.{ber_values, strict_ber}
 use Rattle.asn1_rs.specs.Tagged.{has_class, number_of}
@@ -207,13 +207,13 @@ memory_told from (failed x) e f s t m = cc
 
 module _ {T V W E : Type 0} (class number : ℕ) (inner : W → T)
     (reads : List ℕ → Result (List ℕ × T) (Refusal E) → Type 0) (from : Error → E → Type 0) (G : List ℕ → V → Type 0)
-    (value : T → V) (takes : Bool) (IsCut : List ℕ → Type 0)
+    (value : T → V) (allocates : Bool) (IsCut : List ℕ → Type 0)
     (exact : (octets : List ℕ) (answer : Result (List ℕ × T) (Refusal E)) → IsOctets octets → reads octets answer →
-    Exactly IsCut G value (TellsMemory takes from) octets answer) where
+    Exactly IsCut G value (TellsMemory allocates from) octets answer) where
   -- the conversion is exact
   pub explicit_takes : (p : Parts) (answer : Result W E) → IsOctets p.content →
       ExplicitTakes class number inner reads from p answer →
-      TakesBody (ExplicitBody class number G) (λ w. value (inner w)) takes from p answer
+      TakesBody (ExplicitBody class number G) (λ w. value (inner w)) allocates from p answer
   explicit_takes p (Ok w) o t =
       record { tag = t.0; rest = t.1.0; inner = exact p.content (Ok (t.1.0, inner w)) o t.1.1 }
   explicit_takes p (Err e) o (inl r) = inr (λ v b. (tag_checks_are class number).apart p r.0 b.tag r.1)
@@ -238,7 +238,7 @@ module _ {T V W E : Type 0} (class number : ℕ) (inner : W → T)
   -- its own reader by DER is exact
   pub explicit_der_exact : (input : List ℕ) (answer : Result (List ℕ × W) (Refusal E)) →
       ExplicitGives class number inner reads from input answer →
-      Exactly IsCutIdentifier Word (λ w. value (inner w)) (TellsMemory takes from) input answer
+      Exactly IsCutIdentifier Word (λ w. value (inner w)) (TellsMemory allocates from) input answer
   explicit_der_exact input (Ok x) (p, f, (left, t)) = record {
     word = f.word;
     fits = (
@@ -269,32 +269,33 @@ module _ {T V W E : Type 0} (class number : ℕ) (inner : W → T)
       ]
 
 -- what tells of another refusal, told as an error
-told_spares : {E : Type 0} (from : Error → E → Type 0) (r : Refusal E) (e : E) → HeldIn (IsOther from) r →
+told_no_memory : {E : Type 0} (from : Error → E → Type 0) (r : Refusal E) (e : E) → HeldIn (IsOther from) r →
     FlattenedTo (λ x y. y ≡ x) from r e → IsOther from e
-told_spares from (cut n) e h f = inl (errors.Incomplete n, λ q. cc, f)
-told_spares from (refused x) e h f = subst (IsOther from) (sym f) h
-told_spares from (failed x) e h f = subst (IsOther from) (sym f) h
+told_no_memory from (cut n) e h f = inl (errors.Incomplete n, λ q. cc, f)
+told_no_memory from (refused x) e h f = subst (IsOther from) (sym f) h
+told_no_memory from (failed x) e h f = subst (IsOther from) (sym f) h
 
 -- where the value's reader does not allocate, no refusal reports out of memory
 module _ {T W E : Type 0} (class number : ℕ) (inner : W → T) (reads : List ℕ → Result (List ℕ × T) (Refusal E) → Type 0)
     (from : Error → E → Type 0)
-    (spares : (octets : List ℕ) (answer : Result (List ℕ × T) (Refusal E)) → reads octets answer →
+    (asks_no_memory : (octets : List ℕ) (answer : Result (List ℕ × T) (Refusal E)) → reads octets answer →
     IfErr answer (HeldIn (IsOther from))) where
   -- Where the value's reader does not report out of memory, the conversion does not.
-  pub explicit_takes_spares : (p : Parts) (e : E) → ExplicitTakes class number inner reads from p (Err e) →
+  pub explicit_takes_no_memory : (p : Parts) (e : E) → ExplicitTakes class number inner reads from p (Err e) →
       IsOther from e
-  explicit_takes_spares p e (inl r) =
-      check_spares (tag_checks class number) (tag_checks_are class number) from p r.0 e r.1 r.2
-  explicit_takes_spares p e (inr (h, (r, g, f))) = told_spares from r e (spares p.content (Err r) g) f
+  explicit_takes_no_memory p e (inl r) =
+      check_no_memory (tag_checks class number) (tag_checks_are class number) from p r.0 e r.1 r.2
+  explicit_takes_no_memory p e (inr (h, (r, g, f))) = told_no_memory from r e (asks_no_memory p.content (Err r) g) f
 
   -- Nor does the reader by DER.
-  pub explicit_der_spares : (input : List ℕ) (answer : Result (List ℕ × W) (Refusal E)) →
+  pub explicit_der_no_memory : (input : List ℕ) (answer : Result (List ℕ × W) (Refusal E)) →
       ExplicitGives class number inner reads from input answer → IfErr answer (HeldIn (IsOther from))
-  explicit_der_spares input (Ok x) g = tt
-  explicit_der_spares input (Err r) (inl (fault, f, c)) = fault_spares from der_breach der_breach_spares fault r c
-  explicit_der_spares input (Err r) (inr (p, rest, f, inl t)) = subst (HeldIn (IsOther from)) (sym t.2.2)
-      (check_spares (tag_checks class number) (tag_checks_are class number) from p t.0 t.2.0 t.1 t.2.1)
-  explicit_der_spares input (Err r) (inr (p, rest, f, inr t)) = spares p.content (Err r) t.1
+  explicit_der_no_memory input (Ok x) g = tt
+  explicit_der_no_memory input (Err r) (inl (fault, f, c)) =
+      fault_no_memory from der_breach der_breach_no_memory fault r c
+  explicit_der_no_memory input (Err r) (inr (p, rest, f, inl t)) = subst (HeldIn (IsOther from)) (sym t.2.2)
+      (check_no_memory (tag_checks class number) (tag_checks_are class number) from p t.0 t.2.0 t.1 t.2.1)
+  explicit_der_no_memory input (Err r) (inr (p, rest, f, inr t)) = asks_no_memory p.content (Err r) t.1
 
 -- Checking.
 
@@ -314,7 +315,7 @@ module _ (ElementOf : List ℕ → Parts → Type 0) (FaultOf : List ℕ → Fau
 
   -- It is exact where the value's check is.
   pub explicit_checks : IsExactCheck Gives (ExplicitCheck ElementOf Check)
-  explicit_checks = record { exact = exact; spares = spares }
+  explicit_checks = record { exact = exact; asks_no_memory = asks_no_memory }
     where
       exact : (p : Parts) (answer : Result (Unit {0}) Error) → Gives p answer →
           Checks (ExplicitCheck ElementOf Check) p answer
@@ -334,10 +335,10 @@ module _ (ElementOf : List ℕ → Parts → Type 0) (FaultOf : List ℕ → Fau
           (rest, any) g [] c.inner.word c.rest c.parts c.inner.fits (append-nil p.content ∙ c.inner.is) in
           inner.exact (parts_of any) (Err e) b (subst Check same.0 c.checked)
 
-      spares : (p : Parts) → Gives p (Err errors.OutOfMemory) → ⊥
-      spares p (inl b) = is_counted_is.spares p b
-      spares p (inr (m, inl (r, (fault, f, is), t))) =
-          none_is_memory (told_spares (λ x y. y ≡ x) r errors.OutOfMemory
-          (fault_spares (λ (x y : Error). y ≡ x) refuses other fault r
+      asks_no_memory : (p : Parts) → Gives p (Err errors.OutOfMemory) → ⊥
+      asks_no_memory p (inl b) = is_counted_is.asks_no_memory p b
+      asks_no_memory p (inr (m, inl (r, (fault, f, is), t))) =
+          none_is_memory (told_no_memory (λ x y. y ≡ x) r errors.OutOfMemory
+          (fault_no_memory (λ (x y : Error). y ≡ x) refuses other fault r
           (subst (Converted (λ x y. y ≡ x) (refusal_of refuses fault)) (sym is) (converts_itself refuses fault))) t)
-      spares p (inr (m, inr (any, rest, g, b))) = inner.spares (parts_of any) b
+      asks_no_memory p (inr (m, inr (any, rest, g, b))) = inner.asks_no_memory (parts_of any) b

@@ -20,7 +20,7 @@ use Rattle.asn1_rs.specs.Grammar.Item.{ItemGrammar, IsLawfulItem}
 use Rattle.asn1_rs.specs.Kinds.{IsExactCheck}
 use Rattle.asn1_rs.specs.Laws.Checks.{before_is, has_number_is, is_counted_is}
 use Rattle.asn1_rs.specs.Laws.Readers.{der_elements}
-use Rattle.asn1_rs.specs.Laws.Tagged.{has_class_is, number_is, own_class, check_spares, under_tag}
+use Rattle.asn1_rs.specs.Laws.Tagged.{has_class_is, number_is, own_class, check_no_memory, under_tag}
 use Rattle.asn1_rs.specs.Laws.Words.{word_one, strict_der_word}
 use Rattle.asn1_rs.specs.Tagged.{has_class, number_of}
 use Rattle.asn1_rs.specs.Tagged.Parser.{IsUnder}
@@ -197,42 +197,44 @@ module _ {S T V : Type 0} (class number : ℕ) (inner : T → S) (value : S → 
 -- the conversion is exact where the value's is
 pub implicit_takes : {T V W E : Type 0} (class number : ℕ) (inner : W → T) (own : Tag)
     (converts : Any → Result T E → Type 0) (from : Error → E → Type 0) (Body : Parts → V → Type 0) (value : T → V)
-    (takes : Bool) →
+    (allocates : Bool) →
     ((any : Any) (answer : Result T E) → IsOctets any.content.now → converts any answer →
-    TakesBody Body value takes from (parts_of any) answer) →
+    TakesBody Body value allocates from (parts_of any) answer) →
     (any : Any) (answer : Result W E) → IsOctets any.content.now →
     ImplicitTakes class number inner own converts from any answer →
-    TakesBody (ImplicitBody class number own.0 Body) (λ w. value (inner w)) takes from (parts_of any) answer
-implicit_takes class number inner own converts from Body value takes exact any (Ok w) o (t, (other, u, g)) = record {
-  tag = t;
-  body = subst (λ (p : Parts). Body p (value (inner w))) (parts_under own any other u)
-      (exact other (Ok (inner w)) (subst IsOctets (sym u.content) o) g);
-}
-implicit_takes class number inner own converts from Body value takes exact any (Err e) o (inl r) =
+    TakesBody (ImplicitBody class number own.0 Body) (λ w. value (inner w)) allocates from (parts_of any) answer
+implicit_takes class number inner own converts from Body value allocates exact any (Ok w) o (t, (other, u, g)) =
+    record {
+      tag = t;
+      body = subst (λ (p : Parts). Body p (value (inner w))) (parts_under own any other u)
+          (exact other (Ok (inner w)) (subst IsOctets (sym u.content) o) g);
+    }
+implicit_takes class number inner own converts from Body value allocates exact any (Err e) o (inl r) =
     inr (λ v b. (implicit_checks_are class number).apart (parts_of any) r.0 b.tag r.1)
-implicit_takes class number inner own converts from Body value takes exact any (Err e) o (inr (t, (other, u, g))) =
+implicit_takes class number inner own converts from Body value allocates exact any (Err e) o (inr (t, (other, u, g))) =
     elim (exact other (Err e) (subst IsOctets (sym u.content) o) g) [
       | inl m ↦ inl m
       | inr none ↦ inr (λ v b. none v (subst (λ (p : Parts). Body p v) (sym (parts_under own any other u)) b.body))
     ]
 
 -- where the value's conversion does not allocate, no refusal reports out of memory
-pub implicit_takes_spares : {T W E : Type 0} (class number : ℕ) (inner : W → T) (own : Tag)
+pub implicit_takes_no_memory : {T W E : Type 0} (class number : ℕ) (inner : W → T) (own : Tag)
     (converts : Any → Result T E → Type 0) (from : Error → E → Type 0) →
     ((any : Any) (e : E) → converts any (Err e) → IsOther from e) → (any : Any) (e : E) →
     ImplicitTakes class number inner own converts from any (Err e) → IsOther from e
-implicit_takes_spares class number inner own converts from spares any e (inl r) =
-    check_spares (implicit_checks class number) (implicit_checks_are class number) from (parts_of any) r.0 e r.1 r.2
-implicit_takes_spares class number inner own converts from spares any e (inr (t, (other, u, g))) = spares other e g
+implicit_takes_no_memory class number inner own converts from asks_no_memory any e (inl r) =
+    check_no_memory (implicit_checks class number) (implicit_checks_are class number) from (parts_of any) r.0 e r.1 r.2
+implicit_takes_no_memory class number inner own converts from asks_no_memory any e (inr (t, (other, u, g))) =
+    asks_no_memory other e g
 
 -- the check is exact where the value's is
 pub implicit_checked : (own : ℕ) (check : CheckGives) (Check : Parts → Type 0) → IsExactCheck check Check →
     IsExactCheck (ImplicitCheckGives own check) (ImplicitCheck own Check)
 implicit_checked own check Check l = record {
   exact = λ p answer. exact p answer;
-  spares = λ p. elim [
-    | inl r ↦ is_counted_is.spares p r
-    | inr r ↦ l.spares (under own p) r.1
+  asks_no_memory = λ p. elim [
+    | inl r ↦ is_counted_is.asks_no_memory p r
+    | inr r ↦ l.asks_no_memory (under own p) r.1
   ];
 }
   where

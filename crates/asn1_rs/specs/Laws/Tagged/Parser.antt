@@ -13,26 +13,27 @@ use Rattle.asn1_headers.specs.declared.error.Error.{Error}
 use Rattle.asn1_headers.specs.declared.error.Error.TheVariants.{OutOfMemory}
 use Rattle.asn1_headers.specs.declared.tag.Tag.{Tag}
 use Rattle.asn1_headers.specs.Answers.{Front, Exactly, TellsMemory, IsOther}
-use Rattle.asn1_rs.specs.Any.{parts_of, BeginsWithElement}
+use Rattle.asn1_rs.specs.Any.{parts_of, BeginsWithAny}
 use Rattle.asn1_rs.specs.Checks.{CheckGives}
 use Rattle.asn1_headers.specs.Error.{HeldIn}
 use Rattle.asn1_rs.specs.Grammar.{ElementWord, NoCheck, TakesBody}
 use Rattle.asn1_headers.specs.Header.{identifier_of}
 use Rattle.asn1_headers.specs.Header.Reading.{refusal_of}
 use Rattle.asn1_rs.specs.Kinds.{IsExactCheck}
-use Rattle.asn1_rs.specs.Laws.Readers.{AreElements, none_now, front_more, speaks_fault, fault_spares, element_exact}
-use Rattle.asn1_rs.specs.Laws.Readers.{element_spares, passes_all, all_pass}
+use Rattle.asn1_rs.specs.Laws.Readers.{AreElements, none_now, front_more, speaks_fault, fault_no_memory, element_exact}
+use Rattle.asn1_rs.specs.Laws.Readers.{element_no_memory, passes_all, all_pass}
 use Rattle.asn1_rs.specs.Laws.Tagged.Implicit.{parts_under}
 use Rattle.asn1_rs.specs.Tagged.{ThenGives}
 use Rattle.asn1_rs.specs.Tagged.Headed.{HeadedBody, UnderBody, CheckedBody, headed_value}
-use Rattle.asn1_rs.specs.Tagged.Parser.{IsUnder, TakesExplicit, TakesImplicit, ChecksAndConverts, header_of, inner_of}
+use Rattle.asn1_rs.specs.Tagged.Parser.{IsUnder, TakesExplicit, TakesImplicit, ChecksAndConverts, parser_header}
+use Rattle.asn1_rs.specs.Tagged.Parser.{inner_of}
 use Rattle.asn1_rs.specs.Traits.{ElementGives, PassesAll}
 
 -- Explicit tags.
 
 -- the identifier of the header in hand, and the value within
 abbrev parser_value : {K T V E : Type 0} → (T → V) → TaggedParser K T E → Identifier × V
-parser_value value = headed_value (λ t. identifier_of (header_of t)) inner_of value
+parser_value value = headed_value (λ t. identifier_of (parser_header t)) inner_of value
 
 -- the element that was read is the one of any word at the front
 word_body : {V : Type 0} (ElementOf : List ℕ → Parts → Type 0) → IsOneFront ElementOf →
@@ -47,13 +48,13 @@ word_body ElementOf one G input more rest w r p v f h d =
 module _ {K T V E : Type 0} (ElementOf : List ℕ → Parts → Type 0) (FaultOf : List ℕ → Fault → Type 0)
     (IsCut : List ℕ → Type 0) (elements : AreElements ElementOf FaultOf IsCut) (refuses : Breach → Error)
     (reads : List ℕ → Result (List ℕ × T) (Refusal E) → Type 0) (from : Error → E → Type 0) (G : List ℕ → V → Type 0)
-    (value : T → V) (takes : Bool)
+    (value : T → V) (allocates : Bool)
     (exact : (octets : List ℕ) (answer : Result (List ℕ × T) (Refusal E)) → IsOctets octets → reads octets answer →
-    Exactly IsCut G value (TellsMemory takes from) octets answer) where
+    Exactly IsCut G value (TellsMemory allocates from) octets answer) where
   -- A reader of values with the header of an explicit tag is exact where the value's reader is.
   pub explicit_parser_exact : (input : List ℕ) (answer : Result (List ℕ × TaggedParser K T E) (Refusal E)) →
       ThenGives ElementOf FaultOf (refusal_of refuses) from (TakesExplicit reads) input answer → Exactly IsCut
-      (ElementWord ElementOf NoCheck (HeadedBody G)) (parser_value value) (TellsMemory takes from) input answer
+      (ElementWord ElementOf NoCheck (HeadedBody G)) (parser_value value) (TellsMemory allocates from) input answer
   explicit_parser_exact input (Ok x) (any, rest, begins, (same, header, (left, read))) = record {
     word = begins.front.word;
     fits = (
@@ -82,7 +83,8 @@ module _ {K T V E : Type 0} (ElementOf : List ℕ → Parts → Type 0) (FaultOf
       ]
 
 -- where the value's reader does not allocate, no refusal reports out of memory
-pub explicit_parser_spares : {K T E : Type 0} (ElementOf : List ℕ → Parts → Type 0) (FaultOf : List ℕ → Fault → Type 0)
+pub explicit_parser_no_memory : {K T E : Type 0} (ElementOf : List ℕ → Parts → Type 0)
+    (FaultOf : List ℕ → Fault → Type 0)
     (refuses : Breach → Error) → ((breach : Breach) → refuses breach ≢ OutOfMemory) →
     (reads : List ℕ → Result (List ℕ × T) (Refusal E) → Type 0) (from : Error → E → Type 0) →
     ((octets : List ℕ) (answer : Result (List ℕ × T) (Refusal E)) → reads octets answer →
@@ -90,11 +92,12 @@ pub explicit_parser_spares : {K T E : Type 0} (ElementOf : List ℕ → Parts �
     (input : List ℕ) (answer : Result (List ℕ × TaggedParser K T E) (Refusal E)) →
     ThenGives ElementOf FaultOf (refusal_of refuses) from (TakesExplicit reads) input answer →
     IfErr answer (HeldIn (IsOther from))
-explicit_parser_spares ElementOf FaultOf refuses other reads from spares input (Ok x) g = tt
-explicit_parser_spares ElementOf FaultOf refuses other reads from spares input (Err r) (inl (fault, f, c)) =
-    fault_spares from refuses other fault r c
-explicit_parser_spares ElementOf FaultOf refuses other reads from spares input (Err r) (inr (any, rest, begins, read)) =
-    spares any.content.now (Err r) read
+explicit_parser_no_memory ElementOf FaultOf refuses other reads from asks_no_memory input (Ok x) g = tt
+explicit_parser_no_memory ElementOf FaultOf refuses other reads from asks_no_memory input (Err r) (inl (fault, f, c)) =
+    fault_no_memory from refuses other fault r c
+explicit_parser_no_memory ElementOf FaultOf refuses other reads from asks_no_memory input (Err r)
+    (inr (any, rest, begins, read)) =
+    asks_no_memory any.content.now (Err r) read
 
 -- Implicit tags.
 
@@ -102,7 +105,7 @@ explicit_parser_spares ElementOf FaultOf refuses other reads from spares input (
 abbrev ConvertsToHeaded : {K T E : Type 0} → Tag → (Any → Result T E → Type 0) → Any →
     Result (TaggedParser K T E) E → Type 0
 ConvertsToHeaded own converts any (Ok t) =
-    (header_of t ≡ any.header) × ((other : Any) × IsUnder own any other × converts other (Ok (inner_of t)))
+    (parser_header t ≡ any.header) × ((other : Any) × IsUnder own any other × converts other (Ok (inner_of t)))
 ConvertsToHeaded own converts any (Err e) = (other : Any) × IsUnder own any other × converts other (Err e)
 
 -- so it is the conversion of an element that was read
@@ -112,7 +115,7 @@ as_conversion : {K T E : Type 0} (ElementOf : List ℕ → Parts → Type 0) (Fa
     ThenGives ElementOf FaultOf refusal from (TakesImplicit own converts) input answer →
     ElementGives ElementOf FaultOf refusal PassesAll (ConvertsToHeaded own converts) from input answer
 as_conversion ElementOf FaultOf refusal own converts from input (Ok x) (any, rest, begins, (same, header, under)) =
-    (any, subst (BeginsWithElement ElementOf input any) (sym same) begins, refl, (header, under))
+    (any, subst (BeginsWithAny ElementOf input any) (sym same) begins, refl, (header, under))
 as_conversion ElementOf FaultOf refusal own converts from input (Err r) (inl fault) = inl fault
 as_conversion ElementOf FaultOf refusal own converts from input (Err r)
     (inr (any, rest, begins, (other, under, (e, c, is)))) = inr (
@@ -125,40 +128,40 @@ as_conversion ElementOf FaultOf refusal own converts from input (Err r)
 -- the check and the conversion are exact together
 pub checked_exact : {T V E : Type 0} (check : CheckGives) (Check : Parts → Type 0) → IsExactCheck check Check →
     (converts : Any → Result T E → Type 0) (from : Error → E → Type 0) (Body : Parts → V → Type 0) (value : T → V)
-    (takes : Bool) →
+    (allocates : Bool) →
     ((any : Any) (answer : Result T E) → IsOctets any.content.now → converts any answer →
-    TakesBody Body value takes from (parts_of any) answer) →
+    TakesBody Body value allocates from (parts_of any) answer) →
     (any : Any) (answer : Result T E) → IsOctets any.content.now → ChecksAndConverts check converts from any answer →
-    TakesBody (CheckedBody Check Body) value takes from (parts_of any) answer
-checked_exact check Check l converts from Body value takes exact any (Ok x) o (c, g) =
+    TakesBody (CheckedBody Check Body) value allocates from (parts_of any) answer
+checked_exact check Check l converts from Body value allocates exact any (Ok x) o (c, g) =
     (l.exact (parts_of any) (Ok tt) c, exact any (Ok x) o g)
-checked_exact check Check l converts from Body value takes exact any (Err e) o (inl (refusal, c, f)) =
+checked_exact check Check l converts from Body value allocates exact any (Err e) o (inl (refusal, c, f)) =
     inr (λ v b. l.exact (parts_of any) (Err refusal) c b.0)
-checked_exact check Check l converts from Body value takes exact any (Err e) o (inr (c, g)) =
+checked_exact check Check l converts from Body value allocates exact any (Err e) o (inr (c, g)) =
     elim (exact any (Err e) o g) [
       | inl m ↦ inl m
       | inr none ↦ inr (λ v b. none v b.1)
     ]
 
 -- Where check and conversion do not report out of memory, both together do not.
-pub checked_spares : {T E : Type 0} (check : CheckGives) → ((p : Parts) → check p (Err OutOfMemory) → ⊥) →
+pub checked_no_memory : {T E : Type 0} (check : CheckGives) → ((p : Parts) → check p (Err OutOfMemory) → ⊥) →
     (converts : Any → Result T E → Type 0) (from : Error → E → Type 0) →
     ((any : Any) (e : E) → converts any (Err e) → IsOther from e) →
     (any : Any) (e : E) → ChecksAndConverts check converts from any (Err e) → IsOther from e
-checked_spares check checked converts from spares any e (inl (refusal, c, f)) =
+checked_no_memory check checked converts from asks_no_memory any e (inl (refusal, c, f)) =
     inl (refusal, λ q. checked (parts_of any) (subst (λ (x : Error). check (parts_of any) (Err x)) q c), f)
-checked_spares check checked converts from spares any e (inr (c, g)) = spares any e g
+checked_no_memory check checked converts from asks_no_memory any e (inr (c, g)) = asks_no_memory any e g
 
 module _ {K T E : Type 0} (ElementOf : List ℕ → Parts → Type 0) (FaultOf : List ℕ → Fault → Type 0)
     (refuses : Breach → Error) (own : Tag) (converts : Any → Result T E → Type 0) (from : Error → E → Type 0) where
   module _ {V : Type 0} (IsCut : List ℕ → Type 0) (elements : AreElements ElementOf FaultOf IsCut)
-      (Body : Parts → V → Type 0) (value : T → V) (takes : Bool)
+      (Body : Parts → V → Type 0) (value : T → V) (allocates : Bool)
       (exact : (any : Any) (answer : Result T E) → IsOctets any.content.now → converts any answer →
-      TakesBody Body value takes from (parts_of any) answer) where
+      TakesBody Body value allocates from (parts_of any) answer) where
     -- The conversion under that tag number is exact where the value's is.
     under_exact : (any : Any) (answer : Result (TaggedParser K T E) E) → IsOctets any.content.now →
         ConvertsToHeaded own converts any answer →
-        TakesBody (UnderBody own.0 Body) (parser_value value) takes from (parts_of any) answer
+        TakesBody (UnderBody own.0 Body) (parser_value value) allocates from (parts_of any) answer
     under_exact any (Ok t) o (header, (other, u, g)) = record {
       id = ap identifier_of header;
       body = subst (λ (p : Parts). Body p (value (inner_of t))) (parts_under own any other u)
@@ -175,20 +178,20 @@ module _ {K T E : Type 0} (ElementOf : List ℕ → Parts → Type 0) (FaultOf :
     pub implicit_parser_exact : (input : List ℕ) (answer : Result (List ℕ × TaggedParser K T E) (Refusal E)) →
         ThenGives ElementOf FaultOf (refusal_of refuses) from (TakesImplicit own converts) input answer →
         Exactly IsCut (ElementWord ElementOf NoCheck (UnderBody own.0 Body)) (parser_value value)
-        (TellsMemory takes from) input answer
+        (TellsMemory allocates from) input answer
     implicit_parser_exact input answer g =
         element_exact ElementOf FaultOf IsCut elements refuses PassesAll (ConvertsToHeaded own converts) from NoCheck
-        (UnderBody own.0 Body) (parser_value value) takes (ElementWord ElementOf NoCheck (UnderBody own.0 Body))
+        (UnderBody own.0 Body) (parser_value value) allocates (ElementWord ElementOf NoCheck (UnderBody own.0 Body))
         passes_all under_exact (λ o v w. w) (λ o v w. w) input answer
         (as_conversion ElementOf FaultOf (refusal_of refuses) own converts from input answer g)
 
   -- Where the value's conversion does not allocate, no refusal reports out of memory.
-  pub implicit_parser_spares : ((breach : Breach) → refuses breach ≢ OutOfMemory) →
+  pub implicit_parser_no_memory : ((breach : Breach) → refuses breach ≢ OutOfMemory) →
       ((any : Any) (e : E) → converts any (Err e) → IsOther from e) →
       (input : List ℕ) (answer : Result (List ℕ × TaggedParser K T E) (Refusal E)) →
       ThenGives ElementOf FaultOf (refusal_of refuses) from (TakesImplicit own converts) input answer →
       IfErr answer (HeldIn (IsOther from))
-  implicit_parser_spares other spares input answer g =
-      element_spares ElementOf FaultOf refuses other PassesAll (ConvertsToHeaded own converts) from all_pass
-      (λ any e c. spares c.0 e c.2) input answer
+  implicit_parser_no_memory other asks_no_memory input answer g =
+      element_no_memory ElementOf FaultOf refuses other PassesAll (ConvertsToHeaded own converts) from all_pass
+      (λ any e c. asks_no_memory c.0 e c.2) input answer
       (as_conversion ElementOf FaultOf (refusal_of refuses) own converts from input answer g)

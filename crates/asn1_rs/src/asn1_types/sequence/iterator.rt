@@ -155,7 +155,7 @@ pub trait ReadsWords<'a, T, E: From<Error>>: ReadsItems<'a, T, E> {
         (TellsMemory Self.allocates E.from_gives) Self.item_gives };
 
     /// Where reading does not allocate, no refusal reports out of memory.
-    ghost spares: { Self.allocates ≡ false → (octets : List ℕ)
+    ghost asks_no_memory: { Self.allocates ≡ false → (octets : List ℕ)
         (answer : Result (List ℕ × T) (Refusal E)) → Self.item_gives octets answer →
         IfErr answer (HeldIn (IsOther E.from_gives)) };
 }
@@ -173,7 +173,7 @@ impl<'a, T: LawfulBer<'a, E>, E: From<Error>> ReadsWords<'a, T, E> for BerParser
 
     ghost exact = { record { one_word = ber_one T.grammar T.lawful_item; takes = T.ber_exact } };
 
-    ghost spares = { T.ber_spares };
+    ghost asks_no_memory = { T.ber_no_memory };
 }
 
 impl<'a, T: LawfulDer<'a, E>, E: From<Error>> ReadsWords<'a, T, E> for DerParser {
@@ -189,7 +189,7 @@ impl<'a, T: LawfulDer<'a, E>, E: From<Error>> ReadsWords<'a, T, E> for DerParser
 
     ghost exact = { record { one_word = T.lawful_item.der_one; takes = T.der_exact } };
 
-    ghost spares = { T.der_spares };
+    ghost asks_no_memory = { T.der_no_memory };
 }
 
 /// A walk ends, whatever the items are. Each answer takes an octet at least, so there are no more answers than octets;
@@ -213,7 +213,7 @@ pub fn walks_end<'a, T, F: ReadsItems<'a, T, E>, E: From<Error>>()
 /// Where reading allocates, a refusal may report out of memory; else none does.
 ///
 /// The calls are those of `next` or of a `for`, from an iterator `s` to an
-/// iterator `t`; `run`, `whole_run` and `spares_run` say the same of the calls that std's consumers make.
+/// iterator `t`; `run`, `whole_run` and `no_memory_run` say the same of the calls that std's consumers make.
 pub fn walks_take_words<'a, T, F: ReadsWords<'a, T, E>, E: From<Error>>()
     ensures calls { (s t : SequenceIterator T F E) (answers : List (Result T E))
         → IsOctets (octets_left s) → Yields (WalkSteps F.item_gives E.from_gives) s answers t
@@ -232,10 +232,10 @@ pub fn walks_take_words<'a, T, F: ReadsWords<'a, T, E>, E: From<Error>>()
         (WalkSteps F.item_gives E.from_gives))
         → IsOctets (octets_left p.from) → AreJoinedWords F.Words (octets_left p.from)
         → IsWalkOf F.Words F.value (TellsMemoryAlone (IsMemory F.allocates E.from_gives)) p }
-    ensures spares { (s t : SequenceIterator T F E) (answers : List (Result T E))
+    ensures asks_no_memory { (s t : SequenceIterator T F E) (answers : List (Result T E))
         → F.allocates ≡ false → Yields (WalkSteps F.item_gives E.from_gives) s answers t
         → All (λ answer. IfErr answer (IsOther E.from_gives)) answers }
-    ensures spares_run { (p : Run {S = SequenceIterator T F E} {A = Result T E}
+    ensures no_memory_run { (p : Run {S = SequenceIterator T F E} {A = Result T E}
         (WalkSteps F.item_gives E.from_gives))
         → F.allocates ≡ false → All (λ answer. IfErr answer (IsOther E.from_gives)) p.items }
 {}

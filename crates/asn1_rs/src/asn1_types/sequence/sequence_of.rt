@@ -174,7 +174,7 @@ impl<'a, T: LawfulBer<'a, Error> + Drop> LawfulBody<'a, Error> for SequenceOf<T>
         (λ x y. y ≡ x) (ber_words T.grammar) T.grammar.value T.grammar.allocates EndsWithin
         (sequence_values T.grammar.value) (ber_one T.grammar T.lawful_item) T.ber_exact };
 
-    ghost body_spares = { λ none p e g. takes_some none };
+    ghost body_no_memory = { λ none p e g. takes_some none };
 }
 
 impl<'a, T: LawfulDer<'a, E> + Drop, E: From<Error>> LawfulDer<'a, E> for SequenceOf<T> {
@@ -186,7 +186,7 @@ impl<'a, T: LawfulDer<'a, E> + Drop, E: From<Error>> LawfulDer<'a, E> for Sequen
         T.lawful_item.der_one T.der_exact)
         input answer };
 
-    ghost der_spares = { λ none input answer g. takes_some none };
+    ghost der_no_memory = { λ none input answer g. takes_some none };
 }
 
 impl<T: LawfulCheck> LawfulCheck for SequenceOf<T> {

@@ -125,7 +125,7 @@ impl<'a, T: LawfulBer<'a, Error> + LawfulMember + Ord + Drop> LawfulBody<'a, Err
         T.grammar.allocates EndsWithin (tree_told T.eq T.grammar.value T.same T.cmp T.matches_eq)
         (ber_one T.grammar T.lawful_item) T.ber_exact };
 
-    ghost body_spares = { λ none p e g. takes_some none };
+    ghost body_no_memory = { λ none p e g. takes_some none };
 }
 
 impl<'a, T: LawfulDer<'a, E> + LawfulMember + Ord + Drop, E: From<Error>> LawfulDer<'a, E>
@@ -140,7 +140,7 @@ impl<'a, T: LawfulDer<'a, E> + LawfulMember + Ord + Drop, E: From<Error>> Lawful
         (tree_told T.eq T.grammar.value T.same T.cmp T.matches_eq) T.lawful_item.der_one
         T.der_exact) input answer };
 
-    ghost der_spares = { λ none input answer g. takes_some none };
+    ghost der_no_memory = { λ none input answer g. takes_some none };
 }
 
 impl<T: LawfulCheck + Ord> LawfulCheck for BTreeSet<T> {

@@ -131,7 +131,7 @@ impl<'a, T: LawfulBer<'a, Error> + LawfulMember + Hash + Drop> LawfulBody<'a, Er
         T.grammar.allocates EndsWithin (table_told T.eq T.grammar.value T.same)
         (ber_one T.grammar T.lawful_item) T.ber_exact };
 
-    ghost body_spares = { λ none p e g. takes_some none };
+    ghost body_no_memory = { λ none p e g. takes_some none };
 }
 
 impl<'a, T: LawfulDer<'a, E> + LawfulMember + Hash + Drop, E: From<Error>> LawfulDer<'a, E>
@@ -146,7 +146,7 @@ impl<'a, T: LawfulDer<'a, E> + LawfulMember + Hash + Drop, E: From<Error>> Lawfu
         (table_told T.eq T.grammar.value T.same) T.lawful_item.der_one
         T.der_exact) input answer };
 
-    ghost der_spares = { λ none input answer g. takes_some none };
+    ghost der_no_memory = { λ none input answer g. takes_some none };
 }
 
 impl<T: LawfulCheck + Eq + Hash> LawfulCheck for HashSet<T> {

@@ -21,7 +21,7 @@ use std::marker::PhantomData;
 pub struct TaggedParserBuilder<Kind, E> {
     class: Class,
     tag: Tag,
-    marks: PhantomData<(Kind, E)>,
+    of_types: PhantomData<(Kind, E)>,
 }
 
 impl<Kind, E> TaggedParserBuilder<Kind, E> {
@@ -33,7 +33,7 @@ impl<Kind, E> TaggedParserBuilder<Kind, E> {
         TaggedParserBuilder {
             class: Class::Universal,
             tag: Tag(0),
-            marks: PhantomData,
+            of_types: PhantomData,
         }
     }
 
@@ -45,7 +45,7 @@ impl<Kind, E> TaggedParserBuilder<Kind, E> {
         TaggedParserBuilder {
             class,
             tag: self.tag,
-            marks: PhantomData,
+            of_types: PhantomData,
         }
     }
 
@@ -57,7 +57,7 @@ impl<Kind, E> TaggedParserBuilder<Kind, E> {
         TaggedParserBuilder {
             class: self.class,
             tag,
-            marks: PhantomData,
+            of_types: PhantomData,
         }
     }
 }

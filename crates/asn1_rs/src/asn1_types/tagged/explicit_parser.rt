@@ -7,10 +7,10 @@ ghost use Rattle.asn1_rs.specs.Any.{parts_of, DerElementGives};
 ghost use Rattle.asn1_headers.specs.Ber.{max_depth, EndsWithin};
 ghost use Rattle.asn1_headers.specs.Header.{identifier_of};
 ghost use Rattle.asn1_headers.specs.Header.Reading.{der_breach, ber_breach};
-ghost use Rattle.asn1_rs.specs.Laws.Readers.{der_elements, ber_elements, der_breach_spares, ber_breach_spares};
+ghost use Rattle.asn1_rs.specs.Laws.Readers.{der_elements, ber_elements, der_breach_no_memory, ber_breach_no_memory};
 ghost use Rattle.asn1_rs.specs.Laws.Tagged.Explicit.{explicit_checks};
 ghost use Rattle.asn1_rs.specs.Laws.Tagged.Headed.{explicit_headed_lawful, headed_same};
-ghost use Rattle.asn1_rs.specs.Laws.Tagged.Parser.{explicit_parser_exact, explicit_parser_spares};
+ghost use Rattle.asn1_rs.specs.Laws.Tagged.Parser.{explicit_parser_exact, explicit_parser_no_memory};
 ghost use Rattle.asn1_rs.specs.Tagged.Explicit.{ExplicitCheckGives, InnerChecked};
 ghost use Rattle.asn1_rs.specs.Tagged.Headed.{explicit_headed};
 ghost use Rattle.asn1_rs.specs.Laws.Writing.{explicit_headed_lawful_writing};
@@ -73,7 +73,7 @@ impl<T: LawfulWrite> LawfulWrite for TaggedParser<'_, Explicit, T, Error> {
 
 impl<T: LawfulCheck> LawfulCheck for TaggedParser<'_, Explicit, T, Error> {
     ghost checks = { explicit_checks IsDerElement DerElementFault IsCutIdentifier der_elements
-        der_breach der_breach_spares T.check_gives T.grammar.Check T.checks };
+        der_breach der_breach_no_memory T.check_gives T.grammar.Check T.checks };
 }
 
 impl<T: LawfulMember, E> LawfulMember for TaggedParser<'_, Explicit, T, E> {
@@ -90,9 +90,9 @@ where
         (ElementFault max_depth) EndsWithin ber_elements ber_breach T.ber_gives E.from_gives
         (ber_words T.grammar) T.grammar.value T.grammar.allocates T.ber_exact input answer };
 
-    ghost ber_spares = { λ none. explicit_parser_spares (IsElement max_depth)
-        (ElementFault max_depth) ber_breach ber_breach_spares T.ber_gives E.from_gives
-        (T.ber_spares none) };
+    ghost ber_no_memory = { λ none. explicit_parser_no_memory (IsElement max_depth)
+        (ElementFault max_depth) ber_breach ber_breach_no_memory T.ber_gives E.from_gives
+        (T.ber_no_memory none) };
 }
 
 impl<'a, T, E> LawfulDer<'a, E> for TaggedParser<'a, Explicit, T, E>
@@ -104,6 +104,6 @@ where
         IsCutIdentifier der_elements der_breach T.der_gives E.from_gives T.grammar.Der
         T.grammar.value T.grammar.allocates T.der_exact input answer };
 
-    ghost der_spares = { λ none. explicit_parser_spares IsDerElement DerElementFault der_breach
-        der_breach_spares T.der_gives E.from_gives (T.der_spares none) };
+    ghost der_no_memory = { λ none. explicit_parser_no_memory IsDerElement DerElementFault
+        der_breach der_breach_no_memory T.der_gives E.from_gives (T.der_no_memory none) };
 }

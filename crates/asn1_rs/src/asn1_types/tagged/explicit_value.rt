@@ -5,13 +5,13 @@ ghost use Rattle.asn1_headers.specs.Answers.{seen};
 ghost use Rattle.asn1_rs.specs.Any.{parts_of, BerElementGives};
 ghost use Rattle.asn1_rs.specs.Tagged.Explicit.{ExplicitTakes, ExplicitReads, ExplicitGives, ExplicitCheckGives};
 ghost use Rattle.asn1_rs.specs.Tagged.Explicit.{InnerTakes, InnerChecked, tag_checks, explicit_grammar};
-ghost use Rattle.asn1_rs.specs.Laws.Tagged.{number_fits, marked_same};
+ghost use Rattle.asn1_rs.specs.Laws.Tagged.{number_fits, same_beside_nothing};
 ghost use Rattle.asn1_rs.specs.Laws.Tagged.Explicit.{explicit_lawful, explicit_number, explicit_takes_class};
-ghost use Rattle.asn1_rs.specs.Laws.Tagged.Explicit.{explicit_takes, explicit_takes_spares, explicit_der_exact};
-ghost use Rattle.asn1_rs.specs.Laws.Tagged.Explicit.{explicit_der_spares, explicit_checks};
+ghost use Rattle.asn1_rs.specs.Laws.Tagged.Explicit.{explicit_takes, explicit_takes_no_memory, explicit_der_exact};
+ghost use Rattle.asn1_rs.specs.Laws.Tagged.Explicit.{explicit_der_no_memory, explicit_checks};
 ghost use Rattle.asn1_headers.specs.Ber.{max_depth, EndsWithin};
 ghost use Rattle.asn1_headers.specs.Header.Reading.{ber_breach};
-ghost use Rattle.asn1_rs.specs.Laws.Readers.{ber_elements, ber_breach_spares};
+ghost use Rattle.asn1_rs.specs.Laws.Readers.{ber_elements, ber_breach_no_memory};
 ghost use Rattle.x690.specs.Nested.{IsElement, ElementFault};
 ghost use Rattle.x690.specs.Identifiers.{IsCutIdentifier};
 ghost use Rattle.asn1_rs.specs.Traits.{OfParts};
@@ -267,9 +267,9 @@ impl<'a, T: LawfulBer<'a, E> + Drop, E: From<Error>, const CLASS: u8, const TAG:
         (ber_words T.grammar) T.grammar.value T.grammar.allocates EndsWithin T.ber_exact
         (parts_of any) };
 
-    ghost body_spares = { λ none any. explicit_takes_spares {W = Self} CLASS TAG
+    ghost body_no_memory = { λ none any. explicit_takes_no_memory {W = Self} CLASS TAG
         (λ t. t.inner) T.ber_gives
-        E.from_gives (T.ber_spares none) (parts_of any) };
+        E.from_gives (T.ber_no_memory none) (parts_of any) };
 }
 
 impl<'a, T: LawfulDer<'a, E> + Drop, E: From<Error>, const CLASS: u8, const TAG: u32> LawfulDer<
@@ -280,17 +280,17 @@ impl<'a, T: LawfulDer<'a, E> + Drop, E: From<Error>, const CLASS: u8, const TAG:
         T.der_gives E.from_gives T.grammar.Der T.grammar.value T.grammar.allocates IsCutIdentifier
         T.der_exact input answer };
 
-    ghost der_spares = { λ none. explicit_der_spares CLASS TAG (λ t. t.inner) T.der_gives
-        E.from_gives (T.der_spares none) };
+    ghost der_no_memory = { λ none. explicit_der_no_memory CLASS TAG (λ t. t.inner) T.der_gives
+        E.from_gives (T.der_no_memory none) };
 }
 
 impl<T: LawfulCheck, E, const CLASS: u8, const TAG: u32> LawfulCheck
     for TaggedValue<T, E, Explicit, CLASS, TAG> {
     ghost checks = { explicit_checks (IsElement max_depth) (ElementFault max_depth) EndsWithin
-        ber_elements ber_breach ber_breach_spares T.check_gives T.grammar.Check T.checks };
+        ber_elements ber_breach ber_breach_no_memory T.check_gives T.grammar.Check T.checks };
 }
 
 impl<T: LawfulMember, E, const CLASS: u8, const TAG: u32> LawfulMember
     for TaggedValue<T, E, Explicit, CLASS, TAG> {
-    ghost same = { λ x y. marked_same (T.eq x.inner y.inner) (T.same x.inner y.inner) };
+    ghost same = { λ x y. same_beside_nothing (T.eq x.inner y.inner) (T.same x.inner y.inner) };
 }

@@ -9,11 +9,11 @@ ghost use Rattle.asn1_headers.specs.Ber.{max_depth, EndsWithin};
 ghost use Rattle.asn1_rs.specs.Grammar.{FormTakes};
 ghost use Rattle.asn1_headers.specs.Header.{identifier_of};
 ghost use Rattle.asn1_headers.specs.Header.Reading.{der_breach, ber_breach};
-ghost use Rattle.asn1_rs.specs.Laws.Readers.{der_elements, ber_elements, der_breach_spares, ber_breach_spares};
+ghost use Rattle.asn1_rs.specs.Laws.Readers.{der_elements, ber_elements, der_breach_no_memory, ber_breach_no_memory};
 ghost use Rattle.asn1_rs.specs.Laws.Tagged.Headed.{each_class, implicit_headed_lawful, headed_same};
 ghost use Rattle.asn1_rs.specs.Laws.Tagged.Implicit.{implicit_checked};
-ghost use Rattle.asn1_rs.specs.Laws.Tagged.Parser.{checked_exact, checked_spares, implicit_parser_exact};
-ghost use Rattle.asn1_rs.specs.Laws.Tagged.Parser.{implicit_parser_spares};
+ghost use Rattle.asn1_rs.specs.Laws.Tagged.Parser.{checked_exact, checked_no_memory, implicit_parser_exact};
+ghost use Rattle.asn1_rs.specs.Laws.Tagged.Parser.{implicit_parser_no_memory};
 ghost use Rattle.asn1_rs.specs.Tagged.Headed.{CheckedBody, implicit_headed};
 ghost use Rattle.asn1_rs.specs.Tagged.Implicit.{ImplicitCheckGives};
 ghost use Rattle.asn1_rs.specs.Tagged.Parser.{ChecksAndConverts};
@@ -107,9 +107,9 @@ where
         ber_elements T.grammar.Body T.grammar.value T.grammar.allocates T.body_exact input
         answer };
 
-    ghost ber_spares = { λ none. implicit_parser_spares (IsElement max_depth)
-        (ElementFault max_depth) ber_breach T.TAG T.any_gives E.from_gives ber_breach_spares
-        (T.body_spares none) };
+    ghost ber_no_memory = { λ none. implicit_parser_no_memory (IsElement max_depth)
+        (ElementFault max_depth) ber_breach T.TAG T.any_gives E.from_gives ber_breach_no_memory
+        (T.body_no_memory none) };
 }
 
 impl<'a, T, E> LawfulDer<'a, E> for TaggedParser<'a, Implicit, T, E>
@@ -124,9 +124,9 @@ where
         (checked_exact T.check_gives T.grammar.Check T.checks T.any_gives E.from_gives
         T.grammar.Body T.grammar.value T.grammar.allocates T.body_exact) input answer };
 
-    ghost der_spares = { λ none. implicit_parser_spares IsDerElement DerElementFault der_breach
-        T.TAG (ChecksAndConverts T.check_gives T.any_gives E.from_gives) E.from_gives
-        der_breach_spares
-        (checked_spares T.check_gives T.checks.spares T.any_gives E.from_gives
-        (T.body_spares none)) };
+    ghost der_no_memory = { λ none. implicit_parser_no_memory IsDerElement DerElementFault
+        der_breach T.TAG (ChecksAndConverts T.check_gives T.any_gives E.from_gives) E.from_gives
+        der_breach_no_memory
+        (checked_no_memory T.check_gives T.checks.asks_no_memory T.any_gives E.from_gives
+        (T.body_no_memory none)) };
 }

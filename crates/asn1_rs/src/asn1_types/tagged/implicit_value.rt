@@ -6,10 +6,10 @@ ghost use Rattle.asn1_headers.specs.declared.error.SerializeError.TheVariants.{I
 ghost use Rattle.asn1_rs.specs.declared.asn1_types.any.Any.{Any};
 ghost use Rattle.asn1_rs.specs.Any.{parts_of};
 ghost use Rattle.asn1_headers.specs.Header.Reading.{der_breach};
-ghost use Rattle.asn1_rs.specs.Laws.Readers.{unchecked_exact, element_spares, der_breach_spares, all_pass};
-ghost use Rattle.asn1_rs.specs.Laws.Tagged.{number_fits, marked_same};
+ghost use Rattle.asn1_rs.specs.Laws.Readers.{unchecked_exact, element_no_memory, der_breach_no_memory, all_pass};
+ghost use Rattle.asn1_rs.specs.Laws.Tagged.{number_fits, same_beside_nothing};
 ghost use Rattle.asn1_rs.specs.Laws.Tagged.Implicit.{implicit_lawful, implicit_number, implicit_takes_class};
-ghost use Rattle.asn1_rs.specs.Laws.Tagged.Implicit.{implicit_takes, implicit_takes_spares, implicit_checked};
+ghost use Rattle.asn1_rs.specs.Laws.Tagged.Implicit.{implicit_takes, implicit_takes_no_memory, implicit_checked};
 ghost use Rattle.asn1_rs.specs.Optional.{IsWithoutRawTag};
 ghost use Rattle.asn1_rs.specs.Tagged.Implicit.{ImplicitBody, ImplicitTakes, ImplicitCheckGives, ChecksUnder};
 ghost use Rattle.asn1_rs.specs.Tagged.Implicit.{implicit_checks, implicit_grammar};
@@ -240,8 +240,8 @@ where
     ghost body_exact = { implicit_takes CLASS TAG (λ t. t.inner) T.TAG T.any_gives E.from_gives
         T.grammar.Body T.grammar.value T.grammar.allocates T.body_exact };
 
-    ghost body_spares = { λ none. implicit_takes_spares {W = Self} CLASS TAG (λ t. t.inner) T.TAG
-        T.any_gives E.from_gives (T.body_spares none) };
+    ghost body_no_memory = { λ none. implicit_takes_no_memory {W = Self} CLASS TAG (λ t. t.inner)
+        T.TAG T.any_gives E.from_gives (T.body_no_memory none) };
 }
 
 impl<'a, T, E, const CLASS: u8, const TAG: u32> LawfulDer<'a, E>
@@ -257,11 +257,11 @@ where
         E.from_gives T.grammar.Body T.grammar.value T.grammar.allocates T.body_exact) input
         answer };
 
-    ghost der_spares = { λ none. element_spares IsDerElement DerElementFault der_breach
-        der_breach_spares PassesAll
+    ghost der_no_memory = { λ none. element_no_memory IsDerElement DerElementFault der_breach
+        der_breach_no_memory PassesAll
         (ImplicitTakes CLASS TAG (λ t. t.inner) T.TAG T.any_gives E.from_gives) E.from_gives
-        all_pass (implicit_takes_spares {W = Self} CLASS TAG (λ t. t.inner) T.TAG T.any_gives
-        E.from_gives (T.body_spares none)) };
+        all_pass (implicit_takes_no_memory {W = Self} CLASS TAG (λ t. t.inner) T.TAG T.any_gives
+        E.from_gives (T.body_no_memory none)) };
 }
 
 impl<T, E, const CLASS: u8, const TAG: u32> LawfulCheck for TaggedValue<T, E, Implicit, CLASS, TAG>
@@ -275,5 +275,5 @@ impl<T, E, const CLASS: u8, const TAG: u32> LawfulMember for TaggedValue<T, E, I
 where
     T: LawfulMember + TakesClass<CLASS>,
 {
-    ghost same = { λ x y. marked_same (T.eq x.inner y.inner) (T.same x.inner y.inner) };
+    ghost same = { λ x y. same_beside_nothing (T.eq x.inner y.inner) (T.same x.inner y.inner) };
 }

@@ -68,7 +68,7 @@ impl<Kind: TagKind> HasClass<3> for Kind {
 #[derive_where(Debug, PartialEq, Eq; T)]
 pub struct TaggedValue<T, E, Kind, const CLASS: u8, const TAG: u32> {
     inner: T,
-    marks: PhantomData<(E, Kind)>,
+    of_types: PhantomData<(E, Kind)>,
 }
 
 /// A value under an explicit, context-specific tag.
@@ -102,7 +102,7 @@ impl<T, E, const CLASS: u8, const TAG: u32> TaggedValue<T, E, Explicit, CLASS, T
     {
         TaggedValue {
             inner,
-            marks: PhantomData,
+            of_types: PhantomData,
         }
     }
 }
@@ -114,7 +114,7 @@ impl<T, E, const CLASS: u8, const TAG: u32> TaggedValue<T, E, Implicit, CLASS, T
     {
         TaggedValue {
             inner,
-            marks: PhantomData,
+            of_types: PhantomData,
         }
     }
 }

@@ -41,7 +41,7 @@ pub struct TaggedParser<'a, Kind, T, E> {
     pub header: Header<'a>,
     /// The value.
     pub inner: T,
-    marks: PhantomData<(Kind, E)>,
+    of_types: PhantomData<(Kind, E)>,
 }
 
 impl<'a, Kind, T, E> TaggedParser<'a, Kind, T, E> {
@@ -53,7 +53,7 @@ impl<'a, Kind, T, E> TaggedParser<'a, Kind, T, E> {
         TaggedParser {
             header,
             inner,
-            marks: PhantomData,
+            of_types: PhantomData,
         }
     }
 

@@ -50,8 +50,9 @@ returns-in-Err-clause-refused c =
     c.loop-number.number-iterator c.next.new.self c.loop-number.yielded c.loop-number.invariant.0 c.in-Err.e
     c.loop-number.invariant.1 c.loop-number.yielded_by (rw c.in-Err.is at c.in-Some.ensures.steps))
 
-pub returns-in-Err-clause-spares : goal.returns-in-Err-clause-spares
-returns-in-Err-clause-spares c =
+pub returns-in-Err-clause-asks_no_memory : goal.returns-in-Err-clause-asks_no_memory
+returns-in-Err-clause-asks_no_memory c =
     no_memory_next (WalkSteps (DerGives IntegerCheckGives (OfParts (UnsignedGives 8)) same) same)
     c.loop-number.number-iterator c.next.new.self c.in-Err.e (rw c.in-Err.is at c.in-Some.ensures.steps)
-    (λ answers y. c.walks_take_words.ensures.spares c.loop-number.number-iterator c.next.new.self answers refl y)
+    (λ answers y. c.walks_take_words.ensures.asks_no_memory c.loop-number.number-iterator c.next.new.self answers refl
+    y)

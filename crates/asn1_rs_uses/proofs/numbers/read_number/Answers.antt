@@ -8,6 +8,6 @@ returns-clause-cut c = λ more word rest n d e l.
     c.reader_is_exact_by_der.ensures.beginning c.args.octets.now (seen c.from_der.result) more word rest n
     (λ k. omega (arith, c.type_inv.octets k)) c.from_der.ensures d e l
 
-pub returns-clause-spares : goal.returns-clause-spares
-returns-clause-spares c = no_memory (seen c.from_der.result)
-    (c.reader_is_exact_by_der.ensures.spares c.args.octets.now (seen c.from_der.result) refl c.from_der.ensures)
+pub returns-clause-asks_no_memory : goal.returns-clause-asks_no_memory
+returns-clause-asks_no_memory c = no_memory (seen c.from_der.result)
+    (c.reader_is_exact_by_der.ensures.asks_no_memory c.args.octets.now (seen c.from_der.result) refl c.from_der.ensures)

@@ -3,7 +3,7 @@ use Rattle.std.specs.Prelude.{ℕ}
 use Rattle.std.proofs.lemmas.List.{length-take-le}
 use borrow.Rule.Slice.PartMut.{post_of}
 use Rattle.x690.specs.Strict.{identifier_octets}
-use Rattle.x690.specs.Laws.StrictHeaders.{identifier_of, header_octets_are}
+use Rattle.x690.specs.Laws.StrictHeaders.{identifier_with, header_octets_are}
 use Rattle.x690.proofs.Writes.{both_fronts, behind_both}
 use Rattle.x690.proofs.digits.header_into.Goals as goal
 
@@ -17,7 +17,7 @@ returns-clause-written c =
     let room : b ≤ length ys = omega arith in
     both_fronts a b (take a xs) ys (post_of a (15 - a) xs) front room
     ∙ ap (λ (zs : List ℕ). zs ++ take b ys) c.write_identifier-front.ensures.written
-    ∙ ap (λ (zs : List ℕ). identifier_octets (identifier_of c.args.class c.args.constructed c.args.number) ++ zs)
+    ∙ ap (λ (zs : List ℕ). identifier_octets (identifier_with c.args.class c.args.constructed c.args.number) ++ zs)
     c.write_length.ensures.written
     ∙ sym (header_octets_are c.args.class c.args.constructed c.args.number c.args.n)
 

@@ -6,8 +6,8 @@ abbrev pub invariant-loop-place : goal.invariant-loop-place
 invariant-loop-place g l = record {
   within : l.place ≤ length l.out;
   places : l.place ≡ length (digits_of g.row.BASE l.left);
-  written : map (λ digit. l.mark + digit) (digits_of g.row.BASE l.left) ++ drop l.place l.out ≡
-      map (λ digit. l.mark + digit) (digits_of g.row.BASE l.number);
+  written : map (λ digit. l.offset + digit) (digits_of g.row.BASE l.left) ++ drop l.place l.out ≡
+      map (λ digit. l.offset + digit) (digits_of g.row.BASE l.number);
 }
 
 abbrev pub decreases-loop-place : goal.decreases-loop-place

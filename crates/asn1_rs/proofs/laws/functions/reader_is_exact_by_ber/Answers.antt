@@ -21,6 +21,6 @@ returns-clause-beginning g c = λ input answer more word rest v o gives d e l.
     (ber_one g.T.Grammar.grammar g.met.T.LawfulItem.lawful_item) input answer
     ((g.met.T.LawfulBer c.lifetimes (search rules)).ber_exact input answer o gives) more word rest v d e l
 
-pub returns-clause-spares : goal.returns-clause-spares
-returns-clause-spares g c =
-    λ input answer none gives. (g.met.T.LawfulBer c.lifetimes (search rules)).ber_spares none input answer gives
+pub returns-clause-asks_no_memory : goal.returns-clause-asks_no_memory
+returns-clause-asks_no_memory g c =
+    λ input answer none gives. (g.met.T.LawfulBer c.lifetimes (search rules)).ber_no_memory none input answer gives

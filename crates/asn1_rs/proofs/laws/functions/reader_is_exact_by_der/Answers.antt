@@ -19,6 +19,6 @@ returns-clause-beginning g c = λ input answer more word rest v o gives d e l.
     g.met.T.LawfulItem.lawful_item.der_one input answer
     ((g.met.T.LawfulDer c.lifetimes (search rules)).der_exact input answer o gives) more word rest v d e l
 
-pub returns-clause-spares : goal.returns-clause-spares
-returns-clause-spares g c =
-    λ input answer none gives. (g.met.T.LawfulDer c.lifetimes (search rules)).der_spares none input answer gives
+pub returns-clause-asks_no_memory : goal.returns-clause-asks_no_memory
+returns-clause-asks_no_memory g c =
+    λ input answer none gives. (g.met.T.LawfulDer c.lifetimes (search rules)).der_no_memory none input answer gives

@@ -41,20 +41,22 @@ returns-clause-wrote g c =
 pub returns-in_err-before-clause-refused : goal.returns-in_err-before-clause-refused
 returns-in_err-before-clause-refused g c = λ t.
     let p = err_from_is_err_and c.from_residual-in_err-before.result c.from_residual-in_err-before.ensures.1 in
-    let heading = WrittenRefusal (g.T.ToDer.writing.count_refuses c.args.self.now.inner) in
-    let filling = g.Kind.PutsUnder.under.refuses c.args.self.now.inner in
+    let header_refuses = WrittenRefusal (g.T.ToDer.writing.count_refuses c.args.self.now.inner) in
+    let content_refuses = g.Kind.PutsUnder.under.refuses c.args.self.now.inner in
     rw (p.1, p.2) (refuses_wider c.in_err-before.field-0.0 g.T.ToDer.writing.write_allocates _ _
-    (Either heading filling) (refuses_first c.in_err-before.field-0.0 _ g.Kind.PutsUnder.under.allocates _ heading
-    filling (c.in_err-before.ensures.refused t)))
+    (Either header_refuses content_refuses)
+    (refuses_first c.in_err-before.field-0.0 _ g.Kind.PutsUnder.under.allocates _ header_refuses
+    content_refuses (c.in_err-before.ensures.refused t)))
 
 pub returns-in_err-after-clause-refused : goal.returns-in_err-after-clause-refused
 returns-in_err-after-clause-refused g c = λ t.
     let p = err_from_is_err_and c.from_residual-in_err-after.result c.from_residual-in_err-after.ensures.1 in
-    let heading = WrittenRefusal (g.T.ToDer.writing.count_refuses c.args.self.now.inner) in
-    let filling = g.Kind.PutsUnder.under.refuses c.args.self.now.inner in
+    let header_refuses = WrittenRefusal (g.T.ToDer.writing.count_refuses c.args.self.now.inner) in
+    let content_refuses = g.Kind.PutsUnder.under.refuses c.args.self.now.inner in
     rw (p.1, p.2) (refuses_wider c.in_err-after.field-0.0 g.T.ToDer.writing.write_allocates _ _
-    (Either heading filling) (refuses_second c.in_err-after.field-0.0 g.T.ToDer.writing.count_allocates _ _ _
-    heading filling (simp length-append (omega arith)) (c.in_err-after.ensures.refused t)))
+    (Either header_refuses content_refuses)
+    (refuses_second c.in_err-after.field-0.0 g.T.ToDer.writing.count_allocates _ _ _
+    header_refuses content_refuses (simp length-append (omega arith)) (c.in_err-after.ensures.refused t)))
 
 pub returns-clause-refused : goal.returns-clause-refused
 returns-clause-refused g c = λ t.
@@ -71,10 +73,10 @@ returns-clause-uncounted g c = λ e t o. absurd (false≢true (c.in_ok-after.ens
 pub returns-in_err-before-clause-at_once : goal.returns-in_err-before-clause-at_once
 returns-in_err-before-clause-at_once g c = λ e t o.
     let p = err_from_is_err_and c.from_residual-in_err-before.result c.from_residual-in_err-before.ensures.1 in
-    let heading = WrittenRefusal (g.T.ToDer.writing.count_refuses c.args.self.now.inner) in
-    let filling = g.Kind.PutsUnder.under.refuses c.args.self.now.inner in
-    rw (p.1, p.2) (header_at_once g.T.ToDer.writing.write_allocates _ g.Kind.PutsUnder.under.allocates _ heading
-    filling _ _ _ (c.in_err-before.ensures.at_once e t o))
+    let header_refuses = WrittenRefusal (g.T.ToDer.writing.count_refuses c.args.self.now.inner) in
+    let content_refuses = g.Kind.PutsUnder.under.refuses c.args.self.now.inner in
+    rw (p.1, p.2) (header_at_once g.T.ToDer.writing.write_allocates _ g.Kind.PutsUnder.under.allocates _ header_refuses
+    content_refuses _ _ _ (c.in_err-before.ensures.at_once e t o))
 
 pub returns-in_err-after-clause-at_once : goal.returns-in_err-after-clause-at_once
 returns-in_err-after-clause-at_once g c =
