@@ -1,17 +1,22 @@
 //! Octets that grow at the front: what is written from the back stands in one buffer, so that the header of an element
 //! is put before contents octets whose number is known.
-ghost use Rattle.std.specs.Prelude.{◌≡◌, ◌≤◌, ◌<◌, ◌+◌, ◌-◌, ◌++◌, ℕ, List, [], length, drop, vec_len, true, false};
+ghost use Rattle.std.specs.Prelude.{◌≡◌, ◌≤◌, ◌<◌, ◌+◌, ◌-◌, ◌++◌, ◌∷◌, ℕ, List, [], length, drop, vec_len, true, false};
 ghost use Rattle.std.specs.Prelude.{IfOk, IfErr, Err, MatchResult};
-ghost use Rattle.x690.specs.Strict.{header_octets};
+ghost use Rattle.x690.specs.Strict.{header_octets, identifier_octets};
 ghost use Rattle.asn1_headers.specs.Error.{tells_of_io};
+ghost use Rattle.asn1_headers.specs.Header.Writing.{parts_identifier, strict_header};
 ghost use Rattle.asn1_headers.specs.Prepended.{IsLengthOrMemory, Prepended};
 ghost use Rattle.asn1_headers.specs.Writer.{MayRefuse};
 
+use crate::class::Class;
 use crate::error::{SerializeError, SerializeResult};
+use crate::header::Header;
+use crate::length::Length;
+use crate::tag::Tag;
 use crate::writer::add_written;
 use std::alloc::{AllocError, Global};
 use std::marker::Model;
-use x690::digits::header_into;
+use x690::digits::{header_into, identifier_into, short_header};
 
 /// Octets that grow at the front. Contracts see them as a list.
 ///
@@ -171,11 +176,64 @@ pub fn prepend_element(
     ensures handed { IfErr content (λ e. (result ≡ Err e) × (buf.new ≡ buf.old)) }
 {
     match content {
-        Ok(after) => {
-            let mut octets = [0; 15];
-            let count = header_into(class, constructed, number, after, &mut octets);
-            prepend_behind(&octets[..count], after, buf)
-        }
+        Ok(after) => match prepend_header(class, constructed, number, after, buf) {
+            Ok(before) => add_written(before, after),
+            Err(e) => Err(e),
+        },
+        Err(e) => Err(e),
+    }
+}
+
+/// Puts the strict header of an element whose contents are so many octets in front, and answers its length.
+///
+/// Most headers have two octets: those are made apart, as in writing.
+#[inline(always)]
+fn prepend_header(
+    class: u8,
+    constructed: bool,
+    number: u32,
+    len: usize,
+    buf: &mut DerBuffer,
+) -> SerializeResult<usize>
+    requires { class < 4 }
+    ensures prepended { Prepended (header_octets class constructed number len) buf.old buf.new
+        result }
+    ensures refused { IfErr result
+        (MayRefuse true (length (header_octets class constructed number len) + length buf.old)) }
+{
+    if let Some(octets) = short_header(class, constructed, number, len) {
+        return prepend_octets(&octets, buf);
+    }
+    let mut octets = [0; 15];
+    let count = header_into(class, constructed, number, len, &mut octets);
+    prepend_octets(&octets[..count], buf)
+}
+
+/// Puts the strict identifier octets of the header and its length octets in front, and answers their number.
+pub fn prepend_strict_header(header: &Header<'_>, buf: &mut DerBuffer) -> SerializeResult<usize>
+    ensures prepended { Prepended (strict_header header.now) buf.old buf.new result }
+    ensures refused { IfErr result
+        (MayRefuse true (length (strict_header header.now) + length buf.old)) }
+{
+    let (class, constructed, tag) = (header.class(), header.constructed(), header.tag());
+    match header.length() {
+        Length::Definite(len) => prepend_header(class.number(), constructed, tag.0, len, buf),
+        Length::Indefinite => prepend_indefinite((class, constructed, tag), buf),
+    }
+}
+
+/// Puts 80 and before it the strict identifier octets in front, and answers their number.
+fn prepend_indefinite(parts: (Class, bool, Tag), buf: &mut DerBuffer) -> SerializeResult<usize>
+    ensures prepended { Prepended (identifier_octets (parts_identifier parts) ++ 128 ∷ []) buf.old
+        buf.new result }
+    ensures refused { IfErr result (MayRefuse true
+        (length (identifier_octets (parts_identifier parts) ++ 128 ∷ []) + length buf.old)) }
+{
+    let (class, constructed, tag) = parts;
+    let mut octets = [0; 6];
+    let front = identifier_into(class.number(), constructed, tag.0, &mut octets);
+    match prepend_octets(&[0x80], buf) {
+        Ok(after) => prepend_behind(&octets[..front], after, buf),
         Err(e) => Err(e),
     }
 }

@@ -15,6 +15,7 @@ ghost use Rattle.asn1_rs.specs.ToDer.{SumsCounts, plain_writing};
 
 use crate::to_der::ToDer;
 use crate::traits::{DynTagged, FromBer, FromDer};
+use asn1_headers::buffer::{DerBuffer, prepend_strict_header};
 use asn1_headers::class::Class;
 use asn1_headers::error::{Error, ParseResult, SerializeResult, refusal_of_count, without_io};
 use asn1_headers::header::Header;
@@ -214,6 +215,14 @@ impl ToDer for Header<'_> {
 
     fn write_der_content<W: DerWrite>(&self, _alloc: Global, _w: &mut W) -> SerializeResult<usize> {
         Ok(0)
+    }
+
+    fn prepend_der_content(&self, _alloc: Global, _buf: &mut DerBuffer) -> SerializeResult<usize> {
+        Ok(0)
+    }
+
+    fn prepend_der(&self, _alloc: Global, buf: &mut DerBuffer) -> SerializeResult<usize> {
+        prepend_strict_header(self, buf)
     }
 
     /// Appends the identifier octets that were read, where the header keeps them, and then the length octets.

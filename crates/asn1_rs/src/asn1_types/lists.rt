@@ -410,12 +410,18 @@ pub(crate) fn prepend_items<T: ToDer>(
     ensures uncounted { (e : Error) → All T.writing.tells items.now →
         SomeRefuses T.writing.count_refuses items.now e → IsErr result }
 {
-    let mut total = 0;
+    let mut total: usize = 0;
     let mut at = items.len();
+    // Matches, and no `?`, as above.
     while at > 0 {
         at -= 1;
-        let count = items[at].prepend_der(alloc, buf)?;
-        total = add_written(count, total)?;
+        match items[at].prepend_der(alloc, buf) {
+            Ok(count) => match count.checked_add(total) {
+                Some(sum) => total = sum,
+                None => return Err(SerializeError::InvalidLength),
+            },
+            Err(e) => return Err(e),
+        }
     }
     Ok(total)
 }
