@@ -1,8 +1,11 @@
 -- What is put before the octets of a buffer, and what a refusal leaves there.
-use Rattle.std.specs.Prelude.{◌≡◌, ◌⊎◌, ◌<◌, ◌≤◌, ◌^◌, ℕ, ◌++◌, List, length, false, Result, IfOk, OnErr, IfErr}
+use Rattle.std.specs.Prelude.{◌≡◌, ◌⊎◌, ◌<◌, ◌≤◌, ◌^◌, ◌+◌, ℕ, ◌++◌, List, length, true, false, Result, Ok, Err, IfOk, OnErr, IfErr, MatchResult}
 use Rattle.asn1_headers.specs.declared.error.SerializeError.{SerializeError}
 use Rattle.asn1_headers.specs.declared.error.SerializeError.TheVariants as serialize_errors
+use Rattle.asn1_headers.specs.declared.buffer.NoRoom.{NoRoom}
+use Rattle.asn1_headers.specs.declared.buffer.NoRoom.TheVariants as no_room
 use Rattle.asn1_headers.specs.Error.{tells_of_io}
+use Rattle.asn1_headers.specs.Writer.{MayRefuse}
 
 -- An end part of the octets was put before the old ones. It is tied by what the buffer held before and holds now.
 pub record GrewByAnEnd (octets old new : List ℕ) : Type 0 where
@@ -22,3 +25,18 @@ pub record Prepended (octets old new : List ℕ) (answer : Result ℕ SerializeE
 abbrev pub IsLengthOrMemory : ℕ → SerializeError → Type 0
 IsLengthOrMemory n e =
     ((e ≡ serialize_errors.InvalidLength) × (2 ^ 64 ≤ n)) ⊎ ((e ≡ serialize_errors.OutOfMemory) × (n < 2 ^ 64))
+
+-- what a caller is told where octets find no room
+abbrev pub refusal_of : NoRoom → SerializeError
+refusal_of no_room.PastUsize = serialize_errors.InvalidLength
+refusal_of no_room.OutOfMemory = serialize_errors.OutOfMemory
+
+abbrev pub answer_of : Result ℕ NoRoom → Result ℕ SerializeError
+answer_of (Ok n) = Ok n
+answer_of (Err e) = Err (refusal_of e)
+
+-- The octets stand in front, and their number is the answer; or all is as it was, for want of room.
+abbrev pub IsPut : List ℕ → List ℕ → List ℕ → Result ℕ NoRoom → Type 0
+IsPut octets old new answer = MatchResult answer (λ n. (new ≡ octets ++ old) × (n ≡ length octets))
+    (λ e. (new ≡ old) × IsLengthOrMemory (length octets + length old) (refusal_of e)
+    × MayRefuse true (length octets + length old) (refusal_of e))

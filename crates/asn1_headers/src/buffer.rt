@@ -5,7 +5,7 @@ ghost use Rattle.std.specs.Prelude.{IfOk, IfErr, Err, MatchResult};
 ghost use Rattle.x690.specs.Strict.{header_octets, identifier_octets};
 ghost use Rattle.asn1_headers.specs.Error.{tells_of_io};
 ghost use Rattle.asn1_headers.specs.Header.Writing.{parts_identifier, strict_header};
-ghost use Rattle.asn1_headers.specs.Prepended.{IsLengthOrMemory, Prepended};
+ghost use Rattle.asn1_headers.specs.Prepended.{IsLengthOrMemory, Prepended, IsPut, refusal_of, answer_of};
 ghost use Rattle.asn1_headers.specs.Writer.{MayRefuse};
 
 use crate::class::Class;
@@ -13,7 +13,6 @@ use crate::error::{SerializeError, SerializeResult};
 use crate::header::Header;
 use crate::length::Length;
 use crate::tag::Tag;
-use crate::writer::add_written;
 use std::alloc::{AllocError, Global};
 use std::marker::Model;
 use x690::digits::{header_into, identifier_into, short_header};
@@ -78,37 +77,76 @@ impl DerBuffer {
         ensures refused { IfErr result
             (IsLengthOrMemory (length octets.now + length self.old)) }
     {
+        match self.put(octets) {
+            Ok(_) => Ok(()),
+            Err(e) => Err(e.refusal()),
+        }
+    }
+
+    /// `prepend`, with a short answer: the number of the octets.
+    #[inline(always)]
+    fn put(&mut self, octets: &[u8]) -> Result<usize, NoRoom>
+        ensures { IsPut octets.now self.old self.new result }
+    {
         if octets.len() > self.start {
-            return self.grow_and_prepend(octets);
+            return self.grow_and_put(octets);
         }
         put_before(&mut self.octets, self.start, octets);
         self.start -= octets.len();
-        Ok(())
+        Ok(octets.len())
     }
 
     /// The same where there is no room for them.
-    fn grow_and_prepend(&mut self, octets: &[u8]) -> SerializeResult<()>
-        ensures put { MatchResult result (λ _. self.new ≡ octets.now ++ self.old)
-            (λ e. (self.new ≡ self.old) × (tells_of_io e ≡ false)
-            × MayRefuse true (length octets.now + length self.old) e) }
-        ensures refused { IfErr result
-            (IsLengthOrMemory (length octets.now + length self.old)) }
+    fn grow_and_put(&mut self, octets: &[u8]) -> Result<usize, NoRoom>
+        ensures { IsPut octets.now self.old self.new result }
     {
         let count = octets.len();
         let held = self.octets.len() - self.start;
         let Some(total) = held.checked_add(count) else {
-            return Err(SerializeError::InvalidLength);
+            return Err(NoRoom::PastUsize);
         };
         let capacity = total.saturating_mul(2).max(FIRST_ROOM);
         let grown = match moved_back(self.alloc, &self.octets[self.start..], capacity) {
             Ok(grown) => grown,
-            Err(_) => return Err(SerializeError::OutOfMemory),
+            Err(_) => return Err(NoRoom::OutOfMemory),
         };
         self.octets = grown;
         self.start = capacity - held;
         put_before(&mut self.octets, self.start, octets);
         self.start -= count;
-        Ok(())
+        Ok(count)
+    }
+}
+
+/// Why octets are not put in front. It is one octet, and a `SerializeError` 96, which each function that hands one on
+/// copies: so the functions below answer it to one another, and the outermost makes the error.
+#[derive(Clone, Copy, Drop)]
+enum NoRoom {
+    /// Their number, or that of an element, passes `usize`.
+    PastUsize,
+    OutOfMemory,
+}
+
+impl NoRoom {
+    /// What a caller is told of it.
+    fn refusal(self) -> SerializeError
+        ensures { result ≡ refusal_of self }
+    {
+        match self {
+            NoRoom::PastUsize => SerializeError::InvalidLength,
+            NoRoom::OutOfMemory => SerializeError::OutOfMemory,
+        }
+    }
+}
+
+/// What a caller is answered.
+#[inline(always)]
+fn answered(answer: Result<usize, NoRoom>) -> SerializeResult<usize>
+    ensures { result ≡ answer_of answer }
+{
+    match answer {
+        Ok(count) => Ok(count),
+        Err(e) => Err(e.refusal()),
     }
 }
 
@@ -140,8 +178,7 @@ pub fn prepend_octets(octets: &[u8], buf: &mut DerBuffer) -> SerializeResult<usi
     ensures prepended { Prepended octets.now buf.old buf.new result }
     ensures refused { IfErr result (MayRefuse true (length octets.now + length buf.old)) }
 {
-    buf.prepend(octets)?;
-    Ok(octets.len())
+    answered(buf.put(octets))
 }
 
 /// Puts octets before so many that were put there, and answers the number of both.
@@ -152,8 +189,26 @@ pub fn prepend_behind(octets: &[u8], after: usize, buf: &mut DerBuffer) -> Seria
         after ≡ length content →
         IfErr result (MayRefuse true (length (octets.now ++ content) + length old)) }
 {
-    buf.prepend(octets)?;
-    add_written(octets.len(), after)
+    answered(put_behind(octets, after, buf))
+}
+
+/// `prepend_behind`, with a short answer.
+#[inline(always)]
+fn put_behind(octets: &[u8], after: usize, buf: &mut DerBuffer) -> Result<usize, NoRoom>
+    ensures prepended { (content old : List ℕ) → buf.old ≡ content ++ old →
+        after ≡ length content →
+        Prepended (octets.now ++ content) old buf.new (answer_of result) }
+    ensures refused { (content old : List ℕ) → buf.old ≡ content ++ old →
+        after ≡ length content → IfErr (answer_of result)
+        (MayRefuse true (length (octets.now ++ content) + length old)) }
+{
+    match buf.put(octets) {
+        Ok(before) => match before.checked_add(after) {
+            Some(count) => Ok(count),
+            None => Err(NoRoom::PastUsize),
+        },
+        Err(e) => Err(e),
+    }
 }
 
 /// Puts the strict header of an element before the contents octets that were put there, and answers the number of both.
@@ -176,37 +231,37 @@ pub fn prepend_element(
     ensures handed { IfErr content (λ e. (result ≡ Err e) × (buf.new ≡ buf.old)) }
 {
     match content {
-        Ok(after) => match prepend_header(class, constructed, number, after, buf) {
-            Ok(before) => add_written(before, after),
-            Err(e) => Err(e),
-        },
+        Ok(after) => answered(put_header(class, constructed, number, after, after, buf)),
         Err(e) => Err(e),
     }
 }
 
-/// Puts the strict header of an element whose contents are so many octets in front, and answers its length.
+/// Puts the strict header of an element whose contents are so many octets before so many that were put there, and
+/// answers the number of both. It has a short answer.
 ///
 /// Most headers have two octets: those are made apart, as in writing.
-#[inline(always)]
-fn prepend_header(
+fn put_header(
     class: u8,
     constructed: bool,
     number: u32,
     len: usize,
+    after: usize,
     buf: &mut DerBuffer,
-) -> SerializeResult<usize>
+) -> Result<usize, NoRoom>
     requires { class < 4 }
-    ensures prepended { Prepended (header_octets class constructed number len) buf.old buf.new
-        result }
-    ensures refused { IfErr result
-        (MayRefuse true (length (header_octets class constructed number len) + length buf.old)) }
+    ensures prepended { (content old : List ℕ) → buf.old ≡ content ++ old →
+        after ≡ length content → Prepended (header_octets class constructed number len ++ content)
+        old buf.new (answer_of result) }
+    ensures refused { (content old : List ℕ) → buf.old ≡ content ++ old →
+        after ≡ length content → IfErr (answer_of result) (MayRefuse true
+        (length (header_octets class constructed number len ++ content) + length old)) }
 {
     if let Some(octets) = short_header(class, constructed, number, len) {
-        return prepend_octets(&octets, buf);
+        return put_behind(&octets, after, buf);
     }
     let mut octets = [0; 15];
     let count = header_into(class, constructed, number, len, &mut octets);
-    prepend_octets(&octets[..count], buf)
+    put_behind(&octets[..count], after, buf)
 }
 
 /// Puts the strict identifier octets of the header and its length octets in front, and answers their number.
@@ -217,7 +272,9 @@ pub fn prepend_strict_header(header: &Header<'_>, buf: &mut DerBuffer) -> Serial
 {
     let (class, constructed, tag) = (header.class(), header.constructed(), header.tag());
     match header.length() {
-        Length::Definite(len) => prepend_header(class.number(), constructed, tag.0, len, buf),
+        Length::Definite(len) => {
+            answered(put_header(class.number(), constructed, tag.0, len, 0, buf))
+        }
         Length::Indefinite => prepend_indefinite((class, constructed, tag), buf),
     }
 }
@@ -232,8 +289,8 @@ fn prepend_indefinite(parts: (Class, bool, Tag), buf: &mut DerBuffer) -> Seriali
     let (class, constructed, tag) = parts;
     let mut octets = [0; 6];
     let front = identifier_into(class.number(), constructed, tag.0, &mut octets);
-    match prepend_octets(&[0x80], buf) {
-        Ok(after) => prepend_behind(&octets[..front], after, buf),
-        Err(e) => Err(e),
+    match buf.put(&[0x80]) {
+        Ok(after) => answered(put_behind(&octets[..front], after, buf)),
+        Err(e) => Err(e.refusal()),
     }
 }

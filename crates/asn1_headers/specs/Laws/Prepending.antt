@@ -5,7 +5,9 @@ use Rattle.std.proofs.lemmas.List.{append-nil}
 use Rattle.asn1_headers.specs.declared.error.SerializeError.{SerializeError}
 use Rattle.asn1_headers.specs.declared.error.SerializeError.TheVariants as serialize_errors
 use Rattle.asn1_headers.specs.Error.{tells_of_io}
-use Rattle.asn1_headers.specs.Prepended.{Prepended, GrewByAnEnd}
+use Rattle.asn1_headers.specs.declared.buffer.NoRoom.{NoRoom}
+use Rattle.asn1_headers.specs.declared.buffer.NoRoom.TheVariants as no_room
+use Rattle.asn1_headers.specs.Prepended.{Prepended, GrewByAnEnd, IsPut, answer_of}
 use Rattle.asn1_headers.specs.Writer.{SumsWritten, MayRefuse}
 
 -- refused, with the buffer as it was
@@ -76,3 +78,15 @@ pub sum_may : {n m : ℕ} (xs ys old : List ℕ) (r : Result ℕ SerializeError)
     SumsWritten n m r → IfErr r (MayRefuse true (length (xs ++ ys) + length old))
 sum_may xs ys old (Ok k) p q s = tt
 sum_may xs ys old (Err e) p q s = rw s.0 (simp length-append (omega (arith, p, q, s.1)))
+
+-- what was put in front at once
+pub Prepended_put : (octets old new : List ℕ) (r : Result ℕ NoRoom) → IsPut octets old new r →
+    Prepended octets old new (answer_of r)
+Prepended_put octets old new (Ok n) p = Prepended_all p.1 p.0
+Prepended_put octets old new (Err no_room.PastUsize) p = Prepended_refused _ _ _ _ p.0 refl
+Prepended_put octets old new (Err no_room.OutOfMemory) p = Prepended_refused _ _ _ _ p.0 refl
+
+pub put_may : (octets old new : List ℕ) (r : Result ℕ NoRoom) → IsPut octets old new r →
+    IfErr (answer_of r) (MayRefuse true (length octets + length old))
+put_may octets old new (Ok n) p = tt
+put_may octets old new (Err e) p = p.2

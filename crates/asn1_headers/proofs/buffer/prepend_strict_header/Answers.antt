@@ -1,10 +1,11 @@
-use Rattle.std.proofs.Common.{◌≡◌, ◌+◌, ap, subst, length, IfErr, true}
+use Rattle.std.proofs.Common.{◌≡◌, ◌∙◌, ◌+◌, ap, subst, refl, [], length, IfErr, true}
+use Rattle.std.proofs.lemmas.List.{append-nil}
 use Rattle.x690.specs.Strict.{header_octets, length_form_octets}
 use Rattle.x690.specs.Laws.StrictHeaders.{header_octets_are}
 use Rattle.asn1_headers.specs.Class.{class_number}
 use Rattle.asn1_headers.specs.Length.{form_of}
 use Rattle.asn1_headers.specs.Header.Writing.{strict_header}
-use Rattle.asn1_headers.specs.Prepended.{Prepended}
+use Rattle.asn1_headers.specs.Prepended.{Prepended, answer_of}
 use Rattle.asn1_headers.specs.Writer.{MayRefuse}
 use Rattle.asn1_headers.proofs.buffer.prepend_strict_header.Goals as goal
 
@@ -19,8 +20,9 @@ returns-in-Definite-clause-prepended c =
     let all = header_octets_are c.number.result c.constructed-constructed.result c.tag-tag.result.0 c.in-Definite.len in
     let same : header_octets c.number.result c.constructed-constructed.result c.tag-tag.result.0 c.in-Definite.len ≡
     strict_header c.args.header.now = cc in
-    subst (λ octets. Prepended octets c.args.buf.now c.prepend_header.new.buf c.prepend_header.result) same
-    c.prepend_header.ensures.prepended
+    rw c.answered.ensures
+    (subst (λ octets. Prepended octets c.args.buf.now c.put_header.new.buf (answer_of c.put_header.result))
+    (append-nil _ ∙ same) (c.put_header.ensures.prepended [] c.args.buf.now refl refl))
 
 pub returns-in-Definite-clause-refused : goal.returns-in-Definite-clause-refused
 returns-in-Definite-clause-refused c =
@@ -33,5 +35,6 @@ returns-in-Definite-clause-refused c =
     let all = header_octets_are c.number.result c.constructed-constructed.result c.tag-tag.result.0 c.in-Definite.len in
     let same : header_octets c.number.result c.constructed-constructed.result c.tag-tag.result.0 c.in-Definite.len ≡
     strict_header c.args.header.now = cc in
-    subst (λ octets. IfErr c.prepend_header.result (MayRefuse true (length octets + length c.args.buf.now))) same
-    c.prepend_header.ensures.refused
+    rw c.answered.ensures
+    (subst (λ octets. IfErr (answer_of c.put_header.result) (MayRefuse true (length octets + length c.args.buf.now)))
+    (append-nil _ ∙ same) (c.put_header.ensures.refused [] c.args.buf.now refl refl))
