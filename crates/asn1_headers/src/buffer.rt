@@ -1,7 +1,7 @@
 //! Octets that grow at the front: what is written from the back stands in one buffer, so that the header of an element
 //! is put before contents octets whose number is known.
-ghost use Rattle.std.specs.Prelude.{◌≡◌, ◌≤◌, ◌<◌, ◌+◌, ◌-◌, ◌++◌, ◌∷◌, ℕ, List, [], length, drop, vec_len, true, false};
-ghost use Rattle.std.specs.Prelude.{IfOk, IfErr, Err, MatchResult};
+ghost use Rattle.std.specs.Prelude.{◌≡◌, ◌≤◌, ◌<◌, ◌+◌, ◌-◌, ◌++◌, ◌∷◌, ℕ, List, [], length, drop};
+ghost use Rattle.std.specs.Prelude.{vec_len, true, false, IfOk, IfErr, Err, MatchResult};
 ghost use Rattle.x690.specs.Strict.{header_octets, identifier_octets};
 ghost use Rattle.asn1_headers.specs.Error.{tells_of_io};
 ghost use Rattle.asn1_headers.specs.Header.Writing.{parts_identifier, strict_header};
@@ -170,6 +170,13 @@ fn put_before(buffer: &mut [u8], end: usize, octets: &[u8])
 {
     let start = end - octets.len();
     buffer[start..end].copy_from_slice(octets);
+}
+
+/// Drops the octets in front of the last ones, so many as are told.
+pub fn keep_last(buf: &mut DerBuffer, count: usize)
+    ensures { buf.new ≡ drop (length buf.old - count) buf.old }
+{
+    buf.start = buf.start.max(buf.octets.len().saturating_sub(count));
 }
 
 /// Puts octets in front, and answers their number.

@@ -1,7 +1,8 @@
 -- Refusals of what is put before the octets of a buffer.
 use Rattle.std.proofs.Common.{◌≡◌, inl, inr, ℕ, ◌+◌, ◌<◌, ◌≤◌, suc, Bool, true, false, List, ◌++◌, length, take, drop}
 use Rattle.std.proofs.Common.{get_or, length-append, append_assoc, IfErr, IfOk, Result, Ok, Err, refl, sym, ap, subst}
-use Rattle.std.proofs.Common.{◌∙◌, arith}
+use Rattle.std.proofs.Common.{◌∙◌, ◌-◌, arith}
+use Rattle.std.proofs.lemmas.List.{drop_at}
 use Rattle.std.specs.List.{flat_map}
 use Rattle.std.proofs.lemmas.Bool.{false≢true}
 use Rattle.std.specs.Prelude.{IsErr, ◌≢◌}
@@ -10,8 +11,8 @@ use Rattle.asn1_headers.specs.Error.{WithoutIo}
 use Rattle.asn1_headers.specs.Laws.Writing.{MayRefuse_more}
 use Rattle.asn1_headers.specs.Writer.{MayRefuse}
 use Rattle.asn1_headers.specs.Error.{written_refusal, vector_refusal, tells_of_io}
-use Rattle.asn1_headers.specs.Prepended.{Prepended}
-use Rattle.asn1_headers.specs.Laws.Prepending.{Prepended_refused, Prepended_last, Prepended_first, Prepended_sum}
+use Rattle.asn1_headers.specs.Prepended.{Prepended, GrewByAnEnd}
+use Rattle.asn1_headers.specs.Laws.Prepending.{Prepended_last, Prepended_first, Prepended_sum}
 use Rattle.asn1_headers.specs.Writer.{SumsWritten}
 use Rattle.asn1_headers.specs.declared.error.Error.{Error}
 use Rattle.asn1_headers.specs.declared.error.Error.TheVariants as errors
@@ -56,6 +57,24 @@ pub collected_refused : {X : Type 0} (e : SerializeError) (m n : ℕ) (xs : List
     VectorRefuses (m + n) (SomeRefuses (λ x. IntoVector (own x)) xs) e
 collected_refused e m n xs own (inl h) = inl (MayRefuse_more e true m (m + n) (omega arith) h)
 collected_refused e m n xs own (inr (i, x, l, at, o)) = inr (e, (i, x, l, at, o), refused_twice e (own x) o)
+
+-- a refusal of an item that was put in front, told as one of items that are written into a vector
+pub vector_of_items : {X : Type 0} (e : SerializeError) (n : ℕ) (xs : List X) (own : X → SerializeError → Type 0) →
+    VectorRefuses n (SomeRefuses own xs) e → VectorRefuses n (SomeRefuses (λ x. IntoVector (own x)) xs) e
+vector_of_items e n xs own (inl h) = inl h
+vector_of_items e n xs own (inr (f, (i, x, l, at, o), is)) =
+    inr (e, (i, x, l, at, (f, o, is)), refused_twice e (own x) (f, o, is))
+
+pub item_of_vector : {X : Type 0} (e : SerializeError) (xs : List X) (own : X → SerializeError → Type 0) →
+    SomeRefuses (λ x. IntoVector (own x)) xs e → (f : SerializeError) × SomeRefuses own xs f
+item_of_vector e xs own (i, x, l, at, (f, o, is)) = (f, (i, x, l, at, o))
+
+-- the last octets, where as many are kept as there were
+pub kept_back : (front old mid new : List ℕ) (held : ℕ) → mid ≡ front ++ old → held ≡ length old →
+    new ≡ drop (length mid - held) mid → new ≡ old
+kept_back front old mid new held m h is =
+    let l = length-append front old in
+    is ∙ ap (λ z. drop (length z - held) z) m ∙ drop_at front old _ (omega (arith, l, h))
 
 -- refused by one of two parts
 pub vector_first : (e : SerializeError) (m n : ℕ) (one other : SerializeError → Type 0) → m ≤ n →
@@ -139,6 +158,16 @@ module _ {X : Type 0} (f : X → List ℕ) (xs : List X) (i : ℕ) (x : X) (h : 
       Prepended (flat_map f xs) old new (Err e)
   Prepended_item_sum {n} {m} {e} p q s =
       rw item_after (Prepended_last (flat_map f (take i xs)) (Prepended_sum (Err e) p q s))
+
+  -- another item in place
+  pub GrewByAnEnd_item : {m : ℕ} {old mid new : List ℕ} → mid ≡ flat_map f (drop k xs) ++ old →
+      Prepended (f x) mid new (Ok m) → GrewByAnEnd (flat_map f xs) old new
+  GrewByAnEnd_item {m} {old} p q = rw item_after record {
+    front = flat_map f (take i xs);
+    rest = f x ++ flat_map f (drop k xs);
+    parts = refl;
+    grown = q.ok.0 ∙ ap (λ z. f x ++ z) p ∙ sym (append_assoc (f x) (flat_map f (drop k xs)) old);
+  }
 
   pub VectorRefuses_item : {n : ℕ} (e : SerializeError) (own : X → SerializeError → Type 0) {old mid : List ℕ} →
       Prepended (flat_map f (drop k xs)) old mid (Ok n) → VectorRefuses (length (f x) + length mid) (own x) e →

@@ -1,6 +1,6 @@
 -- Fields that are put one after another: what is taken of them, and why they are refused.
-use Rattle.std.proofs.Common.{◌≡◌, ◌+◌, ◌≤◌, refl, sym, ap, subst, ◌∙◌, inl, inr, ℕ, true, List, [], ◌++◌, length}
-use Rattle.std.proofs.Common.{length-append, append-nil, Result, Ok, Err, IfErr, IsErr, MatchResult, arith}
+use Rattle.std.proofs.Common.{◌≡◌, ◌+◌, ◌≤◌, sym, ap, subst, ◌∙◌, inl, inr, ℕ, true, List, [], ◌++◌, length}
+use Rattle.std.proofs.Common.{length-append, append-nil, Result, Ok, Err, arith}
 use Rattle.std.proofs.lemmas.Bool.{false≢true}
 use Rattle.std.proofs.lemmas.List.{append_assoc}
 use Rattle.asn1_headers.specs.declared.error.Error.{Error}
@@ -8,11 +8,10 @@ use Rattle.asn1_headers.specs.declared.error.SerializeError.{SerializeError}
 use Rattle.asn1_headers.specs.Laws.Writing.{MayRefuse_more}
 use Rattle.asn1_rs.proofs.Lists.{MayRefuseCount_more}
 use Rattle.asn1_rs.proofs.Prepending.{vector_twice}
-use Rattle.asn1_rs.specs.Fields.{TakenFields, counted, collected, takes, FieldRefusal, WritingRefuses, PutsField}
+use Rattle.asn1_rs.specs.Fields.{TakenFields, counted, collected, takes, FieldRefusal}
 use Rattle.asn1_rs.specs.Fields.{FieldList, untold_fields, no_fields, field, TellsFields, fields_octets, FieldsRefuse}
 use Rattle.asn1_rs.specs.Fields.{FieldsRefuseCount, PutsEach, Puts}
 use Rattle.asn1_rs.specs.ToDer.{Either, RefusesCount, VectorRefuses, whole_octets, whole_refuses}
-use Rattle.asn1_headers.specs.declared.error.SerializeError.TheVariants as serialize_errors
 use Rattle.asn1_headers.specs.Error.{vector_refusal}
 use Rattle.asn1_headers.specs.Writer.{MayRefuse}
 

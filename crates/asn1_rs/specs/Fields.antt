@@ -4,7 +4,6 @@ use Rattle.std.specs.Prelude.{MatchResult}
 use Rattle.x690.specs.Strict.{header_octets}
 use Rattle.asn1_headers.specs.declared.error.Error.{Error}
 use Rattle.asn1_headers.specs.declared.error.SerializeError.{SerializeError}
-use Rattle.asn1_headers.specs.Error.{written_refusal}
 use Rattle.asn1_rs.specs.declared.kinds.fields.Fields.{Fields}
 use Rattle.asn1_rs.specs.declared.kinds.fields.Taken.TheVariants as taken
 use Rattle.asn1_rs.specs.ToDer.{Writing, Either, IntoVector, RefusesCount, VectorRefuses, WrittenRefusal, whole_octets}

@@ -138,9 +138,12 @@ FirstChecked check octets (Ok rest) = (item : Any) × CheckedGives check octets 
 FirstChecked check octets (Err e) =
     (r : Refusal Error) × CheckedGives check octets (Err r) × FlattenedTo (λ x y. y ≡ x) (λ x y. y ≡ x) r e
 
--- strings, one after another, with the number of octets of each
+-- strings, one after another, and the number of octets of each
+abbrev pub JoinedWithLengths : List (List ℕ) → List ℕ → List ℕ → Type 0
+JoinedWithLengths strings octets lengths = (octets ≡ concat strings) × (lengths ≡ map length strings)
+
 abbrev pub ArePacked : List (List ℕ) → PackedEncodings → Type 0
-ArePacked strings e = (e.octets.items ≡ concat strings) × (e.lengths.items ≡ map length strings)
+ArePacked strings e = JoinedWithLengths strings e.octets.items e.lengths.items
 
 -- one more item at the end; or the items as they were, and out of memory
 abbrev pub PushesItem : {T : Type 0} → List T → T → List T → Result (Unit {0}) Error → Type 0

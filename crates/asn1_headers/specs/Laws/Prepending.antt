@@ -1,13 +1,12 @@
 -- Laws of one piece put before another.
-use Rattle.std.proofs.Common.{◌≡◌, ℕ, ◌+◌, ◌≤◌, true, false, List, [], ◌++◌, length, length-append, IfErr, IfOk}
-use Rattle.std.proofs.Common.{Result, Ok, Err, refl, sym, ap, subst, ◌∙◌, append_assoc, arith}
+use Rattle.std.proofs.Common.{◌≡◌, ℕ, ◌+◌, true, false, List, [], ◌++◌, length, length-append, IfErr}
+use Rattle.std.proofs.Common.{Result, Ok, Err, refl, sym, ap, ◌∙◌, append_assoc, arith}
 use Rattle.std.proofs.lemmas.List.{append-nil}
 use Rattle.asn1_headers.specs.declared.error.SerializeError.{SerializeError}
-use Rattle.asn1_headers.specs.declared.error.SerializeError.TheVariants as serialize_errors
 use Rattle.asn1_headers.specs.Error.{tells_of_io}
 use Rattle.asn1_headers.specs.declared.buffer.NoRoom.{NoRoom}
 use Rattle.asn1_headers.specs.declared.buffer.NoRoom.TheVariants as no_room
-use Rattle.asn1_headers.specs.Prepended.{Prepended, GrewByAnEnd, IsPut, answer_of}
+use Rattle.asn1_headers.specs.Prepended.{Prepended, IsPut, answer_of}
 use Rattle.asn1_headers.specs.Writer.{SumsWritten, MayRefuse}
 
 -- refused, with the buffer as it was

@@ -1,7 +1,7 @@
 -- Times are lawful leaves; those that are strict are written.
 use Rattle.std.specs.Prelude.{◌≡◌, ◌<◌, ◌↔◌, ◌≤◌, ◌⊎◌, ℕ, zero, suc, ◌+◌, ◌-◌, ◌*◌, ◌^◌, pos, negsuc, neg_ℤ, ◌≤ℤ◌, List}
 use Rattle.std.specs.Prelude.{Bool, true, false, ◌&&◌, not, nat_eq, nat_le, nat_lt, if◌then◌else◌, Some, None, Option}
-use Rattle.std.specs.Prelude.{IsTrue, codes, Result, Ok, Err}
+use Rattle.std.specs.Prelude.{IsTrue, codes, Ok, Err}
 use Rattle.std.specs.Bool.{Decides}
 use Rattle.std.specs.Cmp.{unsigned_Decides, signed_Decides}
 use Rattle.std.specs.Option.{option_eq}

@@ -143,6 +143,32 @@ pub trait WritesAscending: Listed {
             (length (whole_octets Self.Item.writing x))
             (whole_refuses Self.Item.writing x))) }
         ensures memory { IfErr result (λ e. tells_of_io e ≡ false) };
+
+    /// Puts the items before the octets of the buffer in ascending order, and answers the number of their octets.
+    ///
+    /// This body joins their encodings first. A set whose items stand in a slice puts them there at once.
+    fn prepend_each(&self, alloc: Global, buf: &mut DerBuffer) -> SerializeResult<usize>
+    where
+        Self::Item: ToDer,
+        ensures prepended { All Self.Item.writing.tells (Self.items self.now) →
+            Prepended (set_content (whole_octets Self.Item.writing) (Self.items self.now))
+            buf.old buf.new result }
+        ensures refused { All Self.Item.writing.tells (Self.items self.now) →
+            IfErr result (VectorRefuses
+            (length (set_content (whole_octets Self.Item.writing) (Self.items self.now))
+            + length buf.old)
+            (SomeRefuses (λ x. IntoVector (whole_refuses Self.Item.writing x))
+            (Self.items self.now))) }
+        ensures accepted { (e : SerializeError) →
+            All Self.Item.writing.tells (Self.items self.now) →
+            SomeRefuses (λ x. IntoVector (whole_refuses Self.Item.writing x))
+            (Self.items self.now) e → IsErr result }
+        ensures uncounted { (e : Error) → All Self.Item.writing.tells (Self.items self.now) →
+            SomeRefuses Self.Item.writing.count_refuses (Self.items self.now) e → IsErr result }
+    {
+        let encodings = self.encode_each(alloc)?;
+        prepend_ascending(&encodings, alloc, buf)
+    }
 }
 
 impl<L, T> ToDerBy<SequenceKind> for L
@@ -218,29 +244,6 @@ where
     write_ascending(&encodings, alloc, w)
 }
 
-/// Collects the encodings of the items, puts them in ascending order before the octets of the buffer, and answers their
-/// number.
-fn prepend_collected<L, T>(set: &L, alloc: Global, buf: &mut DerBuffer) -> SerializeResult<usize>
-where
-    L: WritesAscending + Listed<Item = T>,
-    T: ToDer,
-    ensures prepended { All T.writing.tells (L.items set.now) →
-        Prepended (set_content (whole_octets T.writing) (L.items set.now)) buf.old buf.new
-        result }
-    ensures refused { All T.writing.tells (L.items set.now) →
-        IfErr result (VectorRefuses
-        (length (set_content (whole_octets T.writing) (L.items set.now)) + length buf.old)
-        (SomeRefuses (λ x. IntoVector (whole_refuses T.writing x)) (L.items set.now))) }
-    ensures accepted { (e : SerializeError) → All T.writing.tells (L.items set.now) →
-        SomeRefuses (λ x. IntoVector (whole_refuses T.writing x))
-        (L.items set.now) e → IsErr result }
-    ensures uncounted { (e : Error) → All T.writing.tells (L.items set.now) →
-        SomeRefuses T.writing.count_refuses (L.items set.now) e → IsErr result }
-{
-    let encodings = set.encode_each(alloc)?;
-    prepend_ascending(&encodings, alloc, buf)
-}
-
 impl<L, T, M> ToDerBy<SetKind<M>> for L
 where
     L: WritesAscending + Listed<Item = T>,
@@ -281,7 +284,7 @@ where
     fn prepend_content(&self, alloc: Global, buf: &mut DerBuffer) -> SerializeResult<usize> {
         match self.only_item() {
             Some(item) => item.prepend_der(alloc, buf),
-            None => prepend_collected(self, alloc, buf),
+            None => self.prepend_each(alloc, buf),
         }
     }
 

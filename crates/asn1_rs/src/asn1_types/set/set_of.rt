@@ -21,6 +21,7 @@ ghost use Rattle.asn1_rs.specs.Grammar.Item.{ber_words};
 use crate::asn1_types::lists::{
     FromItems, Listed, PackedEncodings, encode_items, items_from_iter, list_by_der, push_item,
 };
+use crate::asn1_types::set::prepend_set;
 use crate::kinds::collections::{Repeats, SetKind, WritesAscending};
 use crate::kinds::in_hand::AlwaysDerBy;
 use crate::kinds::writing::{LawfulTaggedBy, LawfulWriteBy, TakesClassBy};
@@ -31,6 +32,7 @@ use crate::laws::{
 };
 use crate::to_der::ToDer;
 use crate::traits::{FromDer, Tagged};
+use asn1_headers::buffer::DerBuffer;
 use asn1_headers::error::{Error, ParseResult, SerializeResult};
 use asn1_headers::tag::Tag;
 use std::alloc::{AllocError, Global};
@@ -173,6 +175,13 @@ impl<T> WritesAscending for SetOf<T> {
         T: ToDer,
     {
         encode_items(self.items.iter(), alloc)
+    }
+
+    fn prepend_each(&self, alloc: Global, buf: &mut DerBuffer) -> SerializeResult<usize>
+    where
+        T: ToDer,
+    {
+        prepend_set(self.as_slice(), alloc, buf)
     }
 }
 

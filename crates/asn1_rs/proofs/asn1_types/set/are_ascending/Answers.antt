@@ -22,8 +22,8 @@ loop-length-preserved c = λ strings e.
     let i = c.loop-length.length-index in
     let rest = c.loop-length.rest.now in
     let held = c.loop-length.invariant strings e in
-    let at = length_at strings c.deref-length-items.result.now i
-    (c.deref-length-items.ensures.value ∙ e.1) c.loop-length-test.true in
+    let at = length_at strings c.args.lengths.now i
+    e.1 c.loop-length-test.true in
     let cut : c.min.result ≡ min (length (get_or strings i [])) (length rest) =
     c.min.ensures ∙ ap (λ n. min n (length rest)) at.1 in
     let front : c.split_at.result.0.now ≡ get_or strings i [] =
@@ -40,7 +40,7 @@ loop-length-preserved c = λ strings e.
 pub returns : goal.returns
 returns c = λ strings e _ k d l h.
     let held = c.loop-length.invariant strings e in
-    let long = ap length (c.deref-length-items.ensures.value ∙ e.1) ∙ length-map strings length in
+    let long = ap length e.1 ∙ length-map strings length in
     let before = subst (λ x. IsBeforeOrSame x (get_or strings (k + 1) [])) (shifted strings k)
     (held.2 (k + 1) (omega (arith, long, h, c.loop-length-test.false))) in
     subst (λ x. IsBeforeOrSame x (get_or strings (k + 1) d)) (get_or_default strings k [] d (omega (arith, h)))

@@ -5,8 +5,8 @@ use Rattle.asn1_rs.proofs.asn1_types.set.pieces_of.Goals as goal
 
 pub loop-length-preserved : goal.loop-length-preserved
 loop-length-preserved c = λ strings e.
-    let at = length_at strings c.deref-length-items.result.now c.loop-length.length-index
-    (c.deref-length-items.ensures.value ∙ e.1) c.loop-length-test.true in
+    let at = length_at strings c.args.lengths.now c.loop-length.length-index
+    e.1 c.loop-length-test.true in
     let held = c.loop-length.invariant strings e in
     let cut : c.min.result ≡
     min (length (get_or strings c.loop-length.length-index [])) (length c.loop-length.rest.now) =
@@ -23,6 +23,6 @@ loop-length-preserved c = λ strings e.
 
 pub returns : goal.returns
 returns c = λ strings e.
-    let long = ap length (c.deref-length-items.ensures.value ∙ e.1) ∙ length-map strings length in
+    let long = ap length e.1 ∙ length-map strings length in
     (c.loop-length.invariant strings e).0
     ∙ take_all c.loop-length.length-index strings (omega (arith, long, c.loop-length-test.false))

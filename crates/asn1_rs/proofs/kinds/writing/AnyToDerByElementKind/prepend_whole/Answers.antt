@@ -1,4 +1,4 @@
-use Rattle.std.proofs.Common.{length, ◌+◌, ◌≤◌, length-append, arith}
+use Rattle.std.proofs.Common.{length-append, arith}
 use Rattle.asn1_rs.specs.Kinds.Writing.{OwnWritten}
 use Rattle.asn1_rs.proofs.Prepending.{handed_refused, second_within, prepend_refuses}
 use Rattle.asn1_rs.proofs.kinds.writing.AnyToDerByElementKind.prepend_whole.Goals as goal

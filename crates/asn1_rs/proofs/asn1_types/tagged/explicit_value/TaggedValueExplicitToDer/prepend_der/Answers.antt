@@ -1,4 +1,4 @@
-use Rattle.std.proofs.Common.{arith, refl, inl, inr, ◌≤◌, ◌+◌, length-append}
+use Rattle.std.proofs.Common.{arith, refl, inl, inr, length-append}
 use Rattle.asn1_headers.specs.declared.error.SerializeError.TheVariants.{InvalidClass}
 use Rattle.asn1_headers.specs.Laws.Prepending.{Prepended_refused}
 use Rattle.asn1_rs.specs.ToDer.{whole_refuses}

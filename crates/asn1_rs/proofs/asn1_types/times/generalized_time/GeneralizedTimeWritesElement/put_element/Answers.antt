@@ -1,6 +1,5 @@
-use Rattle.std.proofs.Common.{◌≡◌, ◌∙◌, ◌++◌, ap, subst, List, ℕ, IfErr, false, length, refl}
+use Rattle.std.proofs.Common.{◌∙◌, ◌++◌, ap, subst, List, ℕ, IfErr, false, length, refl}
 use Rattle.x690.specs.Times.{generalized_time_text, FitsGeneralizedTime}
-use Rattle.x690.specs.declared.times.Moment.{Moment}
 use Rattle.asn1_headers.specs.Writer.{MayRefuse, Wrote}
 use Rattle.asn1_rs.specs.Kinds.Writing.{universal_header}
 use Rattle.asn1_rs.specs.Times.{IsInvalidDateTime, generalized_time_refused, moment_of}

@@ -3,9 +3,9 @@ use Rattle.std.proofs.lemmas.Result.{err_from_is_err_and}
 use Rattle.std.proofs.lemmas.Bool.{false≢true}
 use Rattle.x690.specs.Laws.Ascending.Arranged.{arranged_length}
 use Rattle.asn1_headers.specs.Laws.Prepending.{Prepended_refused}
-use Rattle.asn1_rs.specs.ToDer.{whole_octets, whole_refuses}
+use Rattle.asn1_rs.specs.ToDer.{whole_octets}
 use Rattle.asn1_rs.proofs.Prepending.{collected_refused, may_put}
-use Rattle.asn1_rs.proofs.kinds.collections.prepend_collected.Goals as goal
+use Rattle.asn1_rs.proofs.kinds.collections.WritesAscending.prepend_each.Goals as goal
 
 pub returns-in_err-encodings-clause-prepended : goal.returns-in_err-encodings-clause-prepended
 returns-in_err-encodings-clause-prepended g c = λ t.
@@ -15,7 +15,7 @@ returns-in_err-encodings-clause-prepended g c = λ t.
 pub returns-in_err-encodings-clause-refused : goal.returns-in_err-encodings-clause-refused
 returns-in_err-encodings-clause-refused g c = λ t.
     let p = err_from_is_err_and c.from_residual.result c.from_residual.ensures.1 in
-    rw (p.1, p.2) (rw (arranged_length (whole_octets g.T.ToDer.writing) (g.L.Listed.items c.args.set.now))
+    rw (p.1, p.2) (rw (arranged_length (whole_octets g.Self.Item.ToDer.writing) (g.Self.Listed.items c.args.self.now))
     (collected_refused _ _ _ _ _ (c.in_err-encodings.ensures.refused t)))
 
 pub returns-clause-prepended : goal.returns-clause-prepended
