@@ -15,7 +15,7 @@ returns-then-is_err-clause-kept g c = λ t.
     c.index-items-left.result
     (omega arith) c.index-items-left.is g.T.ToDer.writing.tells t in (
       GrewByAnEnd_item (whole_octets g.T.ToDer.writing) c.args.items.now (c.loop-left.left - 1)
-      c.index-items-left.result
+          c.index-items-left.result
           (omega arith) c.index-items-left.is c.loop-left.left (omega arith) (c.loop-left.invariant.done t)
           (c.in-Ok.ensures.prepended told),
       refl,
