@@ -71,18 +71,25 @@ impl ToDer for Attribute<'_> {
         kind.checked_add(value).ok_or(SerializeError::InvalidLength)
     }
 
+    // Matches, and no `?`: each copy of an answer copies its refusal, which has 96 octets.
     fn prepend_der_content(&self, alloc: Global, buf: &mut DerBuffer) -> SerializeResult<usize> {
-        let value = self.value.prepend_der(alloc, buf)?;
-        let kind = self.kind.prepend_der(alloc, buf)?;
-        kind.checked_add(value).ok_or(SerializeError::InvalidLength)
+        match self.value.prepend_der(alloc, buf) {
+            Ok(value) => match self.kind.prepend_der(alloc, buf) {
+                Ok(kind) => Ok(kind.saturating_add(value)),
+                Err(e) => Err(e),
+            },
+            Err(e) => Err(e),
+        }
     }
 
     fn prepend_der(&self, alloc: Global, buf: &mut DerBuffer) -> SerializeResult<usize> {
-        let after = self.prepend_der_content(alloc, buf)?;
-        let before = Self::header(after).prepend_der(alloc, buf)?;
-        before
-            .checked_add(after)
-            .ok_or(SerializeError::InvalidLength)
+        match self.prepend_der_content(alloc, buf) {
+            Ok(after) => match Self::header(after).prepend_der(alloc, buf) {
+                Ok(before) => Ok(before.saturating_add(after)),
+                Err(e) => Err(e),
+            },
+            Err(e) => Err(e),
+        }
     }
 }
 
