@@ -1,3 +1,4 @@
 mod HeadersAndContents
 mod OpenContents
 mod Reading
+mod StrictHeaders

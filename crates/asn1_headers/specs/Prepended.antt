@@ -1,5 +1,6 @@
 -- What is put before the octets of a buffer, and what a refusal leaves there.
-use Rattle.std.specs.Prelude.{◌≡◌, ◌⊎◌, ◌<◌, ◌≤◌, ◌^◌, ◌+◌, ℕ, ◌++◌, List, length, true, false, Result, Ok, Err, IfOk, OnErr, IfErr, MatchResult}
+use Rattle.std.specs.Prelude.{◌≡◌, ◌⊎◌, ◌<◌, ◌≤◌, ◌^◌, ◌+◌, ℕ, ◌++◌, List, length, true, false}
+use Rattle.std.specs.Prelude.{Result, Ok, Err, IfOk, OnErr, IfErr, MatchResult}
 use Rattle.asn1_headers.specs.declared.error.SerializeError.{SerializeError}
 use Rattle.asn1_headers.specs.declared.error.SerializeError.TheVariants as serialize_errors
 use Rattle.asn1_headers.specs.declared.buffer.NoRoom.{NoRoom}

@@ -1,7 +1,8 @@
 -- Laws of one writing after another.
-use Rattle.std.proofs.Common.{◌≡◌, ℕ, ◌+◌, Bool, true, false, ◌||◌, List, [], ◌++◌, length, take, drop, ◌-◌, ◌≤◌}
+use Rattle.std.proofs.Common.{◌≡◌, ℕ, ◌+◌, Bool, false, ◌||◌, List, [], ◌++◌, length, take, drop, ◌-◌, ◌≤◌}
 use Rattle.std.proofs.Common.{length-append, Option, None, Some, IfErr, IsTrue, Result, Ok, Err, ◌∷◌, refl, sym, ap}
 use Rattle.std.proofs.Common.{◌∙◌, append_assoc, arith, subst}
+use Rattle.std.proofs.lemmas.Bool.{or_left, or_right}
 use Rattle.std.proofs.lemmas.List.{append-nil}
 use Rattle.std.proofs.lemmas.Fn.{FoldsTo-push}
 use Rattle.std.proofs.lemmas.Grind.{common_steps}
@@ -129,22 +130,21 @@ MayRefuse_more serialize_errors.InvalidLength allocates m n h p = omega arith
 MayRefuse_more (serialize_errors.IOError e) allocates m n h p = tt
 MayRefuse_more serialize_errors.OutOfMemory allocates m n h p = p
 
+-- What may refuse a writing may refuse another one that allocates where it does.
+MayRefuse_where : (e : SerializeError) (allocates gives : Bool) (n : ℕ) → (IsTrue allocates → IsTrue gives) →
+    MayRefuse allocates n e → MayRefuse gives n e
+MayRefuse_where (serialize_errors.ASN1Error e) allocates gives n h p = absurd p
+MayRefuse_where (serialize_errors.InvalidClass c) allocates gives n h p = absurd p
+MayRefuse_where serialize_errors.InvalidLength allocates gives n h p = p
+MayRefuse_where (serialize_errors.IOError e) allocates gives n h p = tt
+MayRefuse_where serialize_errors.OutOfMemory allocates gives n h p = h p
+
 -- What may refuse one of two writings may refuse both together.
 pub MayRefuse_either : (e : SerializeError) (allocates gives : Bool) (n : ℕ) → MayRefuse allocates n e →
     MayRefuse (allocates || gives) n e
-MayRefuse_either (serialize_errors.ASN1Error e) allocates gives n p = absurd p
-MayRefuse_either (serialize_errors.InvalidClass c) allocates gives n p = absurd p
-MayRefuse_either serialize_errors.InvalidLength allocates gives n p = p
-MayRefuse_either (serialize_errors.IOError e) allocates gives n p = tt
-MayRefuse_either serialize_errors.OutOfMemory true gives n p = refl
-MayRefuse_either serialize_errors.OutOfMemory false gives n p = cc
+MayRefuse_either e allocates gives n = MayRefuse_where e allocates (allocates || gives) n (or_left allocates gives)
 
 -- What may refuse the other of two writings may refuse both together.
 pub MayRefuse_other : (e : SerializeError) (allocates gives : Bool) (n : ℕ) → MayRefuse gives n e →
     MayRefuse (allocates || gives) n e
-MayRefuse_other (serialize_errors.ASN1Error e) allocates gives n p = absurd p
-MayRefuse_other (serialize_errors.InvalidClass c) allocates gives n p = absurd p
-MayRefuse_other serialize_errors.InvalidLength allocates gives n p = p
-MayRefuse_other (serialize_errors.IOError e) allocates gives n p = tt
-MayRefuse_other serialize_errors.OutOfMemory true gives n p = refl
-MayRefuse_other serialize_errors.OutOfMemory false gives n p = p
+MayRefuse_other e allocates gives n = MayRefuse_where e gives (allocates || gives) n (or_right allocates gives)

@@ -111,8 +111,8 @@ impl<T: ToDer> PutsUnder<T> for Implicit {
 /// Of the header in hand, the class and the tag number are written: the length and the constructed
 /// bit are those of what is written. The raw form is the DER form.
 // At the error type `Error` alone, so that a call need not name it. All eleven calls are written here: the trait's
-// bodies had no proof at a type with a lifetime and type parameters while `Error` named `'static`. In a crate above each
-// call has one now (`by_each_call` of `asn1_rs_uses`).
+// bodies had no proof at a type with a lifetime and type parameters while `Error` named `'static`. In a crate above
+// each call has one now (`by_each_call` of `asn1_rs_uses`).
 impl<Kind: PutsUnder<T>, T: ToDer> ToDer for TaggedParser<'_, Kind, T, Error> {
     ghost writing = { headed_writing (λ t. identifier_of t.header) (λ t. t.inner) Kind.under
         T.writing };
