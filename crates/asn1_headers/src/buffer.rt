@@ -37,7 +37,7 @@ impl Model for DerBuffer {
 }
 
 /// How many octets a buffer has room for when it first grows.
-const FIRST_ROOM: usize = 128;
+const FIRST_ROOM: usize = 256;
 
 impl DerBuffer {
     /// A buffer of no octets, which asks for no memory yet.
@@ -220,6 +220,7 @@ fn put_behind(octets: &[u8], after: usize, buf: &mut DerBuffer) -> Result<usize,
 
 /// Puts the strict header of an element before the contents octets that were put there, and answers the number of both.
 /// A refusal of these is handed on.
+#[inline(always)]
 pub fn prepend_element(
     class: u8,
     constructed: bool,
@@ -247,6 +248,7 @@ pub fn prepend_element(
 /// answers the number of both. It has a short answer.
 ///
 /// Most headers have two octets: those are made apart, as in writing.
+#[inline(always)]
 fn put_header(
     class: u8,
     constructed: bool,

@@ -11,7 +11,7 @@ use Rattle.asn1_headers.specs.Error.{WithoutIo}
 use Rattle.asn1_headers.specs.Laws.Writing.{MayRefuse_more}
 use Rattle.asn1_headers.specs.Writer.{MayRefuse}
 use Rattle.asn1_headers.specs.Error.{written_refusal, vector_refusal, tells_of_io}
-use Rattle.asn1_headers.specs.Prepended.{Prepended, GrewByAnEnd}
+use Rattle.asn1_headers.specs.Prepended.{Prepended}
 use Rattle.asn1_headers.specs.Laws.Prepending.{Prepended_last, Prepended_first, Prepended_sum}
 use Rattle.asn1_headers.specs.Writer.{SumsWritten}
 use Rattle.asn1_headers.specs.declared.error.Error.{Error}
@@ -158,16 +158,6 @@ module _ {X : Type 0} (f : X → List ℕ) (xs : List X) (i : ℕ) (x : X) (h : 
       Prepended (flat_map f xs) old new (Err e)
   Prepended_item_sum {n} {m} {e} p q s =
       rw item_after (Prepended_last (flat_map f (take i xs)) (Prepended_sum (Err e) p q s))
-
-  -- another item in place
-  pub GrewByAnEnd_item : {m : ℕ} {old mid new : List ℕ} → mid ≡ flat_map f (drop k xs) ++ old →
-      Prepended (f x) mid new (Ok m) → GrewByAnEnd (flat_map f xs) old new
-  GrewByAnEnd_item {m} {old} p q = rw item_after record {
-    front = flat_map f (take i xs);
-    rest = f x ++ flat_map f (drop k xs);
-    parts = refl;
-    grown = q.ok.0 ∙ ap (λ z. f x ++ z) p ∙ sym (append_assoc (f x) (flat_map f (drop k xs)) old);
-  }
 
   pub VectorRefuses_item : {n : ℕ} (e : SerializeError) (own : X → SerializeError → Type 0) {old mid : List ℕ} →
       Prepended (flat_map f (drop k xs)) old mid (Ok n) → VectorRefuses (length (f x) + length mid) (own x) e →

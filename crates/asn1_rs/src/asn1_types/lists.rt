@@ -1,8 +1,8 @@
 //! Items of lists: how they are read, checked, counted and written.
 ghost use Rattle.std.specs.Prelude.{◌≡◌, ◌⊎◌, ◌∷◌, Some, ◌≤◌, ◌<◌, ℕ, List, true, false, length, map, IfOk, IfErr};
-ghost use Rattle.std.specs.Prelude.{◌+◌, ◌++◌, IsErr};
+ghost use Rattle.std.specs.Prelude.{◌+◌, IsErr};
 ghost use Rattle.std.specs.declared.result.Result.TheVariants as results;
-ghost use Rattle.std.specs.List.{All, concat, flat_map};
+ghost use Rattle.std.specs.List.{All, flat_map};
 ghost use Rattle.std.specs.Iterator.{IsFinite, IsFiniteIterable, Drains};
 ghost use Rattle.x690.specs.Octets.{IsOctets};
 ghost use Rattle.x690.specs.Elements.{Parts};
@@ -16,7 +16,7 @@ ghost use Rattle.asn1_headers.specs.declared.error.SerializeError.{SerializeErro
 ghost use Rattle.asn1_headers.specs.declared.error.Error.{Error};
 ghost use Rattle.asn1_headers.specs.declared.error.SerializeError.TheVariants as serialize_errors;
 ghost use Rattle.asn1_headers.specs.declared.error.Error.TheVariants as errors;
-ghost use Rattle.asn1_headers.specs.Prepended.{Prepended, GrewByAnEnd};
+ghost use Rattle.asn1_headers.specs.Prepended.{Prepended};
 ghost use Rattle.asn1_headers.specs.Writer.{Wrote};
 ghost use Rattle.asn1_rs.specs.ToDer.{Refuses, RefusesCount, IntoVector, HasNone, RefusesAtOnce, whole_allocates};
 ghost use Rattle.asn1_rs.specs.ToDer.{VectorRefuses, whole_octets, whole_refuses};
@@ -426,19 +426,19 @@ pub(crate) fn prepend_items<T: ToDer>(
     Ok(total)
 }
 
-/// Puts the items before the octets of the buffer, the last one first, and answers the number of octets of each, in
-/// their order. Where that is refused, an end part of their encodings may stand there.
+/// Puts the items before the octets of the buffer, the last one first, and the number of octets of each in its place.
+/// It answers their number.
 pub(crate) fn prepend_and_count<T: ToDer>(
     items: &[T],
+    lengths: &mut [usize],
     alloc: Global,
     buf: &mut DerBuffer,
-) -> SerializeResult<Vec<usize>>
-    ensures counted { All T.writing.tells items.now → IfOk result (λ lengths.
-        (buf.new ≡ concat (map (whole_octets T.writing) items.now) ++ buf.old)
-        × (lengths.items ≡ map length (map (whole_octets T.writing) items.now))) }
-    ensures kept { All T.writing.tells items.now → IfErr result (λ e.
-        GrewByAnEnd (flat_map (whole_octets T.writing) items.now) buf.old buf.new
-        × (tells_of_io e ≡ false)) }
+) -> SerializeResult<usize>
+    requires { length lengths.old ≡ length items.now }
+    ensures prepended { All T.writing.tells items.now →
+        Prepended (flat_map (whole_octets T.writing) items.now) buf.old buf.new result }
+    ensures counted { All T.writing.tells items.now → IfOk result
+        (λ _. lengths.new ≡ map length (map (whole_octets T.writing) items.now)) }
     ensures refused { All T.writing.tells items.now →
         IfErr result (VectorRefuses
         (length (flat_map (whole_octets T.writing) items.now) + length buf.old)
@@ -448,21 +448,16 @@ pub(crate) fn prepend_and_count<T: ToDer>(
     ensures uncounted { (e : Error) → All T.writing.tells items.now →
         SomeRefuses T.writing.count_refuses items.now e → IsErr result }
 {
-    let mut lengths = Vec::new(alloc);
+    let held = buf.len();
     let mut left = items.len();
     while left > 0 {
         left -= 1;
         match items[left].prepend_der(alloc, buf) {
-            Ok(count) => {
-                if lengths.push(count).is_err() {
-                    return Err(SerializeError::OutOfMemory);
-                }
-            }
+            Ok(count) => lengths[left] = count,
             Err(e) => return Err(e),
         }
     }
-    lengths.reverse();
-    Ok(lengths)
+    Ok(buf.len().saturating_sub(held))
 }
 
 /// Encodings, one after another, with the number of octets of each.

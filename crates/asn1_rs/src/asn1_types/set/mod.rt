@@ -4,7 +4,7 @@ mod btree_set;
 mod hash_set;
 pub mod set_of;
 
-ghost use Rattle.std.specs.Prelude.{◌≡◌, ◌+◌, ◌++◌, ℕ, List, true, length, map, IfOk, IfErr, IsTrue, IsErr};
+ghost use Rattle.std.specs.Prelude.{◌<◌, ◌≡◌, ◌+◌, ◌++◌, ℕ, List, true, length, map, IfOk, IfErr, IsTrue, IsErr};
 ghost use Rattle.std.specs.List.{All, concat};
 ghost use Rattle.x690.specs.Ascending.{Ascending, arranged};
 ghost use Rattle.asn1_headers.specs.Prepended.{Prepended};
@@ -143,6 +143,22 @@ fn arrange_front(
     }
 }
 
+/// The lengths of so many items of a set stand on the stack, those of more in a vector.
+const FEW_ITEMS: usize = 16;
+
+/// The places for so many lengths: those on the stack, where they are enough.
+#[inline(always)]
+fn enough_places<'x>(few: &'x mut [usize], many: &'x mut [usize], count: usize) -> &'x mut [usize]
+    requires { length few.old < count → length many.old ≡ count }
+    ensures { length result.now ≡ count }
+{
+    if count <= few.len() {
+        &mut few[..count]
+    } else {
+        many
+    }
+}
+
 /// Puts the items before the octets of the buffer in ascending order, and answers the number of their octets.
 ///
 /// They are put there from the last to the first, and brought into order where they stand. A refusal leaves none.
@@ -163,8 +179,15 @@ pub(crate) fn prepend_set<T: ToDer>(
         SomeRefuses T.writing.count_refuses items.now e → IsErr result }
 {
     let held = buf.len();
-    match prepend_and_count(items, alloc, buf) {
-        Ok(lengths) => arrange_front(&lengths, held, alloc, buf),
+    let count = items.len();
+    let mut few = [0; FEW_ITEMS];
+    let beyond = if count <= FEW_ITEMS { 0 } else { count };
+    let Ok(mut many) = vec![in alloc; 0usize; beyond] else {
+        return Err(SerializeError::OutOfMemory);
+    };
+    let lengths = enough_places(&mut few, &mut many, count);
+    match prepend_and_count(items, lengths, alloc, buf) {
+        Ok(_) => arrange_front(lengths, held, alloc, buf),
         Err(e) => {
             keep_last(buf, held);
             Err(e)
