@@ -17,17 +17,21 @@ fn is_written<T: ToDer>(alloc: Global, value: &T, octets: &[u8]) -> bool {
     }
 }
 
-/// Whether a value is read from its strict encoding and written again, twice, or refused when out of memory.
-fn is_read_once<'a, T: FromDer<'a, Error> + ToDer + Drop>(alloc: Global, octets: &'a [u8]) -> bool {
+/// Whether a value is read and written so, twice, or refused when out of memory.
+fn is_read_as<'a, T: FromDer<'a, Error> + ToDer + Drop>(
+    alloc: Global,
+    octets: &'a [u8],
+    written: &[u8],
+) -> bool {
     match T::from_der(alloc, octets) {
-        Ok((_, value)) => is_written(alloc, &value, octets) && is_written(alloc, &value, octets),
+        Ok((_, value)) => is_written(alloc, &value, written) && is_written(alloc, &value, written),
         Err(refusal) => refusal == Err::Error(Error::OutOfMemory),
     }
 }
 
-/// The same twice.
+/// Whether a value is read from its strict encoding and written again, each time.
 fn is_read<'a, T: FromDer<'a, Error> + ToDer + Drop>(alloc: Global, octets: &'a [u8]) -> bool {
-    is_read_once::<T>(alloc, octets) && is_read_once::<T>(alloc, octets)
+    is_read_as::<T>(alloc, octets, octets) && is_read_as::<T>(alloc, octets, octets)
 }
 
 /// Whether an integer was made of these octets, or refused when out of memory.
@@ -68,6 +72,28 @@ fn sets_are_refused_for_want_of_memory(rt: HostRuntime) {
         0x31, 0x0d, 0x31, 0x03, 0x02, 0x01, 0x03, 0x31, 0x06, 0x02, 0x01, 0x01, 0x02, 0x01, 0x02,
     ];
     assert!(rt; is_read::<SetOf<SetOf<u8>>>(rt.alloc(), &sets));
+}
+
+/// A set of the numbers 0 to 16, in ascending order or the other way round.
+fn seventeen_items(ascending: bool) -> [u8; 53] {
+    let mut octets = [0; 53];
+    octets[0] = 0x31;
+    octets[1] = 51;
+    for number in 0..17_u8 {
+        let at = 2 + 3 * usize::from(number);
+        octets[at] = 2;
+        octets[at + 1] = 1;
+        octets[at + 2] = if ascending { number } else { 16 - number };
+    }
+    octets
+}
+
+/// The lengths of so many items stand in a vector, and these are brought into order by another one.
+#[test]
+fn large_sets_are_refused_for_want_of_memory(rt: HostRuntime) {
+    let (octets, written) = (seventeen_items(false), seventeen_items(true));
+    assert!(rt; is_read_as::<SetOf<u8>>(rt.alloc(), &octets, &written));
+    assert!(rt; is_read_as::<SetOf<u8>>(rt.alloc(), &octets, &written));
 }
 
 #[test]
