@@ -5,6 +5,7 @@ use Rattle.x690.specs.Digits.{twos_complement_value}
 use Rattle.x690.specs.Integers.{IsIntegerContent, unsigned_octets}
 use Rattle.x690.specs.Signed.{IsSigned, signed_octets}
 use Rattle.asn1_headers.specs.declared.error.Error.{Error}
+use Rattle.asn1_headers.specs.declared.error.Error.TheVariants.{OutOfMemory}
 use Rattle.asn1_rs.specs.Integer.{IsUnsigned, UnsignedRefuses, SignedRefuses}
 
 -- The integer that a value is, and its strict contents octets. Which integers the type holds, and how octets of another
@@ -38,6 +39,7 @@ pub record IsLawfulMachine {T : Type 0} (M : Machine T) : Type 0 where
   pub one : (x y : T) → M.number x ≡ M.number y → x ≡ y
   pub content : (x : T) → IsIntegerContent (M.number x) (M.octets x)
   pub refused : (c : List ℕ) (e : Error) → IsOctets c → M.refuses c e → M.Holds (twos_complement_value c) → ⊥
+  pub asks_no_memory : (c : List ℕ) → M.refuses c OutOfMemory → ⊥
 
 -- octets that can be converted to this value alone
 abbrev pub GivesBack : {T : Type 0} → Machine T → T → List ℕ → Type 0

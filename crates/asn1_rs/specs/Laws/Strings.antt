@@ -10,7 +10,9 @@ use Rattle.asn1_rs.specs.Kinds.{IsExactConversion}
 use Rattle.asn1_rs.specs.Leaf.{IsLawfulLeaf, leaf_element}
 use Rattle.asn1_rs.specs.Strings.{text_leaf, string_leaf, StringGives, text_of}
 use Rattle.asn1_rs.specs.Laws.Checks.{content_check_is, is_primitive_is}
-use Rattle.asn1_rs.specs.Laws.Leaf.{leaf_converts}
+use Rattle.asn1_rs.specs.Laws.Leaf.{leaf_converts, leaf_lawful, exact_check}
+use Rattle.asn1_rs.specs.LeafLaws.{LeafLaws}
+use Rattle.asn1_rs.specs.Checks.{is_primitive}
 
 -- A leaf whose contents octets are a text in UTF-8 is lawful.
 pub text_lawful : {S : Type 0} (number : ℕ) (IsText : List ℕ → Type 0) (text : S → List ℕ) → number < 31 →
@@ -41,6 +43,17 @@ module _ {K : Type 0} (number : ℕ) (IsText : List ℕ → Type 0) (small : num
     exact = λ any answer o g. (leaf_converts (string_leaf number IsText) string_lawful).exact any answer o g.0;
     asks_no_memory = λ none any g. (leaf_converts (string_leaf number IsText) string_lawful).asks_no_memory none any
         g.0;
+  }
+
+  -- what the type says of itself
+  abbrev pub string_laws : LeafLaws (RestrictedString K)
+  string_laws = record {
+    element = leaf_element (string_leaf {K = K} number IsText);
+    gives = StringGives number IsText;
+    check = is_primitive;
+    lawful = leaf_lawful _ string_lawful;
+    checked = exact_check is_primitive is_primitive_is;
+    converts = string_converts;
   }
 
 -- strings are equal where their texts are

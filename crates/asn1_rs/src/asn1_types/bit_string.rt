@@ -4,17 +4,17 @@ ghost use Rattle.std.specs.Cow.{IsBorrowedSlice};
 ghost use Rattle.asn1_rs.specs.Any.{parts_of};
 ghost use Rattle.asn1_rs.specs.BitString.{bit_string_leaf, bit_string_constraints, bit_string_octets, data_of, bit_of};
 ghost use Rattle.asn1_rs.specs.BitString.{IsZeroPadded};
-ghost use Rattle.asn1_rs.specs.Leaf.{LeafGives, LendsContent, leaf_element};
+ghost use Rattle.asn1_rs.specs.Leaf.{LeafGives};
 ghost use Rattle.asn1_rs.specs.Laws.BitString.{bit_string_lawful, bit_string_equal};
-ghost use Rattle.asn1_rs.specs.Laws.Leaf.{leaf_lawful, leaf_constraints, lent_converts, leaf_written};
+ghost use Rattle.asn1_rs.specs.Laws.Leaf.{lent_laws, leaf_written};
 ghost use Rattle.asn1_headers.specs.Writer.{Wrote, MayRefuse};
 
 use crate::asn1_types::any::Any;
 use crate::kinds::writing::WritesElement;
-use crate::kinds::{ElementKind, HasKind, LawfulConversion, LawfulElement, TagNumber, TaggedAs};
+use crate::kinds::leaf::{ConvertsLeaf, LeafType};
+use crate::kinds::{ElementKind, HasKind, TagNumber};
 use crate::laws::LawfulMember;
 use crate::laws::in_hand::octets_in_hand;
-use crate::traits::{CheckDerConstraints, DerAutoDerive, FromAny};
 use asn1_headers::error::{DerConstraint, Error, SerializeResult};
 use asn1_headers::tag::Tag;
 use asn1_headers::writer::{DerWrite, add_written, put_all};
@@ -111,28 +111,24 @@ fn put_bits<W: DerWrite>(unused_bits: u8, octets: &[u8], w: &mut W) -> Serialize
     add_written(before, after)
 }
 
-impl TaggedAs for BitString<'_> {
+impl HasKind for BitString<'_> {
+    type Kind = ElementKind;
+}
+
+impl LeafType for BitString<'_> {
     type Number = TagNumber<3>;
-}
 
-impl<'a> FromAny<'a> for BitString<'a> {
-    type Error = Error;
+    ghost laws = { lent_laws bit_string_leaf bit_string_lawful (λ s. s.content) };
 
-    ghost any_gives = { LendsContent bit_string_leaf (λ s. s.content) };
-
-    #[inline(always)]
-    fn try_from_any(_alloc: Global, any: Any<'a>) -> Result<BitString<'a>, Error> {
-        any.as_bitstring()
+    fn leaf_in_hand(&self) {
+        let _count = self.unused_bits;
+        octets_in_hand(self.as_bytes());
     }
-}
-
-impl CheckDerConstraints for BitString<'_> {
-    ghost check_gives = { bit_string_constraints };
 
     /// Refuses a constructed element with `ConstructUnexpected` (X.690 10.2); no contents octets, or one alone that is
     /// not 0, with `InvalidLength` (8.6.2.3); more than seven unused bits, or one that is not zero, with
     /// `DerConstraintFailed(UnusedBitsNotZero)` (8.6.2.2, 11.2.1).
-    fn check_constraints(any: &Any<'_>) -> Result<(), Error>
+    fn check_leaf(any: &Any<'_>) -> Result<(), Error>
         ensures { bit_string_constraints (parts_of any.now) result }
     {
         any.header.assert_primitive()?;
@@ -144,27 +140,11 @@ impl CheckDerConstraints for BitString<'_> {
     }
 }
 
-impl DerAutoDerive for BitString<'_> {}
-
-impl HasKind for BitString<'_> {
-    type Kind = ElementKind;
-}
-
-impl LawfulElement for BitString<'_> {
-    ghost element = { leaf_element bit_string_leaf };
-
-    ghost lawful = { leaf_lawful bit_string_leaf bit_string_lawful };
-
-    ghost checked = { leaf_constraints bit_string_leaf bit_string_lawful };
-
-    fn value_in_hand(&self) {
-        let _count = self.unused_bits;
-        octets_in_hand(self.as_bytes());
+impl<'a> ConvertsLeaf<'a> for BitString<'a> {
+    #[inline(always)]
+    fn convert_leaf(_alloc: Global, any: Any<'a>) -> Result<BitString<'a>, Error> {
+        any.as_bitstring()
     }
-}
-
-impl<'a> LawfulConversion<'a> for BitString<'a> {
-    ghost converts = { lent_converts bit_string_leaf bit_string_lawful (λ s. s.content) };
 }
 
 impl WritesElement for BitString<'_> {

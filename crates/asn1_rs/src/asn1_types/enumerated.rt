@@ -2,20 +2,18 @@
 ghost use Rattle.std.specs.Prelude.{◌≡◌};
 ghost use Rattle.x690.specs.Integers.{unsigned_octets};
 ghost use Rattle.asn1_rs.specs.Any.{parts_of};
-ghost use Rattle.asn1_rs.specs.Checks.{is_counted};
-ghost use Rattle.asn1_rs.specs.Enumerated.{enumerated_number, enumerated_leaf};
-ghost use Rattle.asn1_rs.specs.Leaf.{LeafGives, leaf_element};
+ghost use Rattle.asn1_rs.specs.Enumerated.{enumerated_leaf};
+ghost use Rattle.asn1_rs.specs.Leaf.{LeafGives};
 ghost use Rattle.asn1_rs.specs.Laws.Enumerated.{enumerated_lawful, enumerated_equal};
-ghost use Rattle.asn1_rs.specs.Laws.Leaf.{leaf_lawful, leaf_constraints, leaf_converts, leaf_written};
-ghost use Rattle.asn1_rs.specs.Traits.{OfParts};
+ghost use Rattle.asn1_rs.specs.Laws.Leaf.{leaf_laws, leaf_written};
 
 use crate::asn1_types::any::Any;
 use crate::asn1_types::integer::put_unsigned_content;
 use crate::kinds::in_hand::DerElement;
 use crate::kinds::writing::WritesElement;
-use crate::kinds::{ElementKind, HasKind, LawfulConversion, LawfulElement};
+use crate::kinds::leaf::{ConvertsLeaf, LeafType};
+use crate::kinds::{TagNumber, ElementKind, HasKind};
 use crate::laws::LawfulMember;
-use crate::traits::{CheckDerConstraints, DerAutoDerive, FromAny, Tagged};
 use asn1_headers::error::{Error, SerializeResult};
 use asn1_headers::tag::Tag;
 use asn1_headers::writer::DerWrite;
@@ -59,56 +57,34 @@ impl Any<'_> {
     }
 }
 
-impl Tagged for Enumerated {
-    const TAG: Tag = Tag::Enumerated;
-
-    ghost TAG = { record { 0 = enumerated_number } };
-}
-
-impl<'a> FromAny<'a> for Enumerated {
-    type Error = Error;
-
-    ghost any_gives = { OfParts (LeafGives enumerated_leaf) };
-
-    #[inline(always)]
-    fn try_from_any(_alloc: Global, any: Any<'a>) -> Result<Enumerated, Error> {
-        any.as_enumerated()
-    }
-}
-
-impl CheckDerConstraints for Enumerated {
-    ghost check_gives = { is_counted };
-
-    /// Refuses an indefinite length with `IndefiniteLengthUnexpected`, and nothing else.
-    fn check_constraints(any: &Any<'_>) -> Result<(), Error> {
-        any.header.length().assert_definite()
-    }
-}
-
-impl DerAutoDerive for Enumerated {}
-
 impl HasKind for Enumerated {
     type Kind = ElementKind;
 }
 
-impl LawfulElement for Enumerated {
-    ghost element = { leaf_element enumerated_leaf };
+impl LeafType for Enumerated {
+    type Number = TagNumber<10>;
 
-    ghost lawful = { leaf_lawful enumerated_leaf enumerated_lawful };
+    ghost laws = { leaf_laws enumerated_leaf enumerated_lawful };
 
-    ghost checked = { leaf_constraints enumerated_leaf enumerated_lawful };
-
-    fn value_in_hand(&self) {
+    fn leaf_in_hand(&self) {
         let _number = self.0;
+    }
+
+    /// Refuses an indefinite length with `IndefiniteLengthUnexpected`, and nothing else.
+    fn check_leaf(any: &Any<'_>) -> Result<(), Error> {
+        any.header.length().assert_definite()
+    }
+}
+
+impl<'a> ConvertsLeaf<'a> for Enumerated {
+    #[inline(always)]
+    fn convert_leaf(_alloc: Global, any: Any<'a>) -> Result<Enumerated, Error> {
+        any.as_enumerated()
     }
 }
 
 impl DerElement for Enumerated {
     ghost each_der = { λ v d. d };
-}
-
-impl<'a> LawfulConversion<'a> for Enumerated {
-    ghost converts = { leaf_converts enumerated_leaf enumerated_lawful };
 }
 
 impl WritesElement for Enumerated {

@@ -26,9 +26,11 @@ use crate::asn1_types::any::Any;
 use crate::asn1_types::sequence::iterator::{ReadsItems, ReadsWords, SequenceIterator};
 use crate::der::element_by_der;
 use crate::header::add_counts;
+use crate::kinds::collections::{SequenceKind, SetKind};
+use crate::kinds::leaf::{CheckBy, FromAnyBy};
 use crate::laws::in_hand::States;
 use crate::to_der::ToDer;
-use crate::traits::{CheckDerConstraints, FromAny, FromBer, FromDer, Tagged, converted};
+use crate::traits::{CheckDerConstraints, FromBer, FromDer, Tagged, converted};
 use asn1_headers::buffer::DerBuffer;
 use asn1_headers::content::{BerParser, DerParser};
 use asn1_headers::error::{Err, Error, ParseResult, SerializeError, SerializeResult, without_io};
@@ -142,17 +144,35 @@ pub trait FromItems: Tagged + Sized {
 
 /// The tag number is looked at, then the constructed bit; then the items are read by BER, to the end of the contents
 /// octets.
-impl<'a, L, T, E> FromAny<'a> for L
+impl<'a, L, T, E> FromAnyBy<'a, SequenceKind> for L
 where
     L: FromItems<Item = T, Refusal = E>,
     T: FromBer<'a, E> + Drop,
     E: From<Error>,
 {
-    type Error = E;
+    type Refusal = E;
 
-    ghost any_gives = { OfParts (ListTakes (L.TAG).0 L.holds T.ber_gives E.from_gives) };
+    ghost gives_by_kind = { OfParts (ListTakes (L.TAG).0 L.holds T.ber_gives E.from_gives) };
 
-    fn try_from_any(alloc: Global, any: Any<'a>) -> Result<L, E> {
+    fn convert_by_kind(alloc: Global, any: Any<'a>) -> Result<L, E> {
+        if let Err(e) = assert_list(L::TAG.0, &any) {
+            return Err(E::from(e));
+        }
+        list_of_content::<L, T, BerParser, E>(alloc, any.content)
+    }
+}
+
+impl<'a, L, T, E, M> FromAnyBy<'a, SetKind<M>> for L
+where
+    L: FromItems<Item = T, Refusal = E>,
+    T: FromBer<'a, E> + Drop,
+    E: From<Error>,
+{
+    type Refusal = E;
+
+    ghost gives_by_kind = { OfParts (ListTakes (L.TAG).0 L.holds T.ber_gives E.from_gives) };
+
+    fn convert_by_kind(alloc: Global, any: Any<'a>) -> Result<L, E> {
         if let Err(e) = assert_list(L::TAG.0, &any) {
             return Err(E::from(e));
         }
@@ -277,10 +297,18 @@ pub(crate) fn check_list<T: CheckDerConstraints>(number: u32, any: &Any<'_>) -> 
     check_items::<T>(any.content)
 }
 
-impl<L: Listed<Item = T>, T: CheckDerConstraints> CheckDerConstraints for L {
-    ghost check_gives = { ListCheckGives (L.TAG).0 T.check_gives };
+impl<L: Listed<Item = T>, T: CheckDerConstraints> CheckBy<SequenceKind> for L {
+    ghost check_by_kind = { ListCheckGives (L.TAG).0 T.check_gives };
 
-    fn check_constraints(any: &Any<'_>) -> Result<(), Error> {
+    fn check_this_kind(any: &Any<'_>) -> Result<(), Error> {
+        check_list::<T>(L::TAG.0, any)
+    }
+}
+
+impl<L: Listed<Item = T>, T: CheckDerConstraints, M> CheckBy<SetKind<M>> for L {
+    ghost check_by_kind = { ListCheckGives (L.TAG).0 T.check_gives };
+
+    fn check_this_kind(any: &Any<'_>) -> Result<(), Error> {
         check_list::<T>(L::TAG.0, any)
     }
 }

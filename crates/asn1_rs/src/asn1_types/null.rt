@@ -3,18 +3,17 @@ ghost use Rattle.std.specs.Prelude.{◌≡◌, []};
 ghost use Rattle.std.proofs.Common.{refl};
 ghost use Rattle.asn1_rs.specs.Any.{parts_of};
 ghost use Rattle.asn1_rs.specs.Checks.{nothing};
-ghost use Rattle.asn1_rs.specs.Leaf.{LeafGives, leaf_element};
-ghost use Rattle.asn1_rs.specs.Null.{null_number, null_leaf, unit_leaf};
-ghost use Rattle.asn1_rs.specs.Laws.Leaf.{leaf_lawful, leaf_constraints, leaf_converts, leaf_written};
+ghost use Rattle.asn1_rs.specs.Leaf.{LeafGives};
+ghost use Rattle.asn1_rs.specs.Null.{null_leaf, unit_leaf};
+ghost use Rattle.asn1_rs.specs.Laws.Leaf.{leaf_laws, leaf_written};
 ghost use Rattle.asn1_rs.specs.Laws.Null.{null_lawful, unit_lawful};
-ghost use Rattle.asn1_rs.specs.Traits.{OfParts};
 
 use crate::asn1_types::any::Any;
 use crate::kinds::in_hand::DerElement;
 use crate::kinds::writing::WritesOctets;
-use crate::kinds::{ElementKind, HasKind, LawfulConversion, LawfulElement};
+use crate::kinds::leaf::{ConvertsLeaf, LeafType};
+use crate::kinds::{TagNumber, ElementKind, HasKind};
 use crate::laws::LawfulMember;
-use crate::traits::{CheckDerConstraints, DerAutoDerive, FromAny, Tagged};
 use asn1_headers::error::Error;
 use asn1_headers::tag::Tag;
 use std::alloc::Global;
@@ -56,54 +55,32 @@ impl Any<'_> {
     }
 }
 
-impl Tagged for Null {
-    const TAG: Tag = Tag::Null;
-
-    ghost TAG = { record { 0 = null_number } };
-}
-
-impl<'a> FromAny<'a> for Null {
-    type Error = Error;
-
-    ghost any_gives = { OfParts (LeafGives null_leaf) };
-
-    #[inline(always)]
-    fn try_from_any(_alloc: Global, any: Any<'a>) -> Result<Null, Error> {
-        any.null()
-    }
-}
-
-impl CheckDerConstraints for Null {
-    ghost check_gives = { nothing };
-
-    /// Refuses nothing.
-    fn check_constraints(_any: &Any<'_>) -> Result<(), Error> {
-        Ok(())
-    }
-}
-
-impl DerAutoDerive for Null {}
-
 impl HasKind for Null {
     type Kind = ElementKind;
 }
 
-impl LawfulElement for Null {
-    ghost element = { leaf_element null_leaf };
+impl LeafType for Null {
+    type Number = TagNumber<5>;
 
-    ghost lawful = { leaf_lawful null_leaf null_lawful };
+    ghost laws = { leaf_laws null_leaf null_lawful };
 
-    ghost checked = { leaf_constraints null_leaf null_lawful };
+    fn leaf_in_hand(&self) {}
 
-    fn value_in_hand(&self) {}
+    /// Refuses nothing.
+    fn check_leaf(_any: &Any<'_>) -> Result<(), Error> {
+        Ok(())
+    }
+}
+
+impl<'a> ConvertsLeaf<'a> for Null {
+    #[inline(always)]
+    fn convert_leaf(_alloc: Global, any: Any<'a>) -> Result<Null, Error> {
+        any.null()
+    }
 }
 
 impl DerElement for Null {
     ghost each_der = { λ v d. d };
-}
-
-impl<'a> LawfulConversion<'a> for Null {
-    ghost converts = { leaf_converts null_leaf null_lawful };
 }
 
 impl WritesOctets for Null {
@@ -120,56 +97,34 @@ impl LawfulMember for Null {
     ghost same = { λ x y. (λ h. refl, λ e. refl) };
 }
 
-impl Tagged for () {
-    const TAG: Tag = Tag::Null;
-
-    ghost TAG = { record { 0 = null_number } };
+impl HasKind for () {
+    type Kind = ElementKind;
 }
 
-impl<'a> FromAny<'a> for () {
-    type Error = Error;
+impl LeafType for () {
+    type Number = TagNumber<5>;
 
-    ghost any_gives = { OfParts (LeafGives unit_leaf) };
+    ghost laws = { leaf_laws unit_leaf unit_lawful };
 
+    fn leaf_in_hand(&self) {}
+
+    /// Refuses nothing.
+    fn check_leaf(_any: &Any<'_>) -> Result<(), Error> {
+        Ok(())
+    }
+}
+
+impl<'a> ConvertsLeaf<'a> for () {
     #[inline(always)]
-    fn try_from_any(_alloc: Global, any: Any<'a>) -> Result<(), Error> {
+    fn convert_leaf(_alloc: Global, any: Any<'a>) -> Result<(), Error> {
         any.assert_number(Tag::Null)?;
         any.header.assert_primitive()?;
         any.assert_length(0)
     }
 }
 
-impl CheckDerConstraints for () {
-    ghost check_gives = { nothing };
-
-    /// Refuses nothing.
-    fn check_constraints(_any: &Any<'_>) -> Result<(), Error> {
-        Ok(())
-    }
-}
-
-impl DerAutoDerive for () {}
-
-impl HasKind for () {
-    type Kind = ElementKind;
-}
-
-impl LawfulElement for () {
-    ghost element = { leaf_element unit_leaf };
-
-    ghost lawful = { leaf_lawful unit_leaf unit_lawful };
-
-    ghost checked = { leaf_constraints unit_leaf unit_lawful };
-
-    fn value_in_hand(&self) {}
-}
-
 impl DerElement for () {
     ghost each_der = { λ v d. d };
-}
-
-impl<'a> LawfulConversion<'a> for () {
-    ghost converts = { leaf_converts unit_leaf unit_lawful };
 }
 
 impl WritesOctets for () {

@@ -3,19 +3,18 @@ ghost use Rattle.std.specs.Prelude.{◌≡◌, IfOk};
 ghost use Rattle.std.specs.Cow.{IsBorrowedSlice};
 ghost use Rattle.asn1_rs.specs.Any.{parts_of};
 ghost use Rattle.asn1_rs.specs.Checks.{is_primitive};
-ghost use Rattle.asn1_rs.specs.Leaf.{LeafGives, LendsContent, leaf_element};
-ghost use Rattle.asn1_rs.specs.Laws.Leaf.{leaf_lawful, leaf_constraints, leaf_converts, lent_converts, leaf_written};
+ghost use Rattle.asn1_rs.specs.Leaf.{LeafGives};
+ghost use Rattle.asn1_rs.specs.Laws.Leaf.{leaf_laws, lent_laws, leaf_written};
 ghost use Rattle.asn1_rs.specs.Laws.OctetString.{octet_string_lawful, octet_string_equal, slice_lawful, slice_equal};
 ghost use Rattle.asn1_rs.specs.OctetString.{octet_string_leaf, slice_leaf, octets_of, cow_of};
-ghost use Rattle.asn1_rs.specs.Traits.{OfParts};
 
 use crate::asn1_types::any::Any;
 use crate::kinds::in_hand::DerElement;
+use crate::kinds::leaf::{ConvertsLeaf, LeafType};
 use crate::kinds::writing::WritesOctets;
-use crate::kinds::{ElementKind, HasKind, LawfulConversion, LawfulElement, TagNumber, TaggedAs};
+use crate::kinds::{ElementKind, HasKind, TagNumber};
 use crate::laws::LawfulMember;
 use crate::laws::in_hand::octets_in_hand;
-use crate::traits::{CheckDerConstraints, DerAutoDerive, FromAny};
 use asn1_headers::error::Error;
 use asn1_headers::tag::Tag;
 use std::alloc::Global;
@@ -95,56 +94,36 @@ impl<'a> Any<'a> {
     }
 }
 
-impl TaggedAs for OctetString<'_> {
+impl HasKind for OctetString<'_> {
+    type Kind = ElementKind;
+}
+
+impl LeafType for OctetString<'_> {
     type Number = TagNumber<4>;
-}
 
-impl<'a> FromAny<'a> for OctetString<'a> {
-    type Error = Error;
+    ghost laws = { lent_laws octet_string_leaf octet_string_lawful cow_of };
 
-    ghost any_gives = { LendsContent octet_string_leaf cow_of };
-
-    #[inline(always)]
-    fn try_from_any(_alloc: Global, any: Any<'a>) -> Result<OctetString<'a>, Error> {
-        any.as_octetstring()
+    fn leaf_in_hand(&self) {
+        octets_in_hand(self.as_bytes());
     }
-}
-
-impl CheckDerConstraints for OctetString<'_> {
-    ghost check_gives = { is_primitive };
 
     /// Refuses a constructed element with `ConstructUnexpected` (X.690 10.2).
-    fn check_constraints(any: &Any<'_>) -> Result<(), Error>
+    fn check_leaf(any: &Any<'_>) -> Result<(), Error>
         ensures { is_primitive (parts_of any.now) result }
     {
         any.header.assert_primitive()
     }
 }
 
-impl DerAutoDerive for OctetString<'_> {}
-
-impl HasKind for OctetString<'_> {
-    type Kind = ElementKind;
-}
-
-impl LawfulElement for OctetString<'_> {
-    ghost element = { leaf_element octet_string_leaf };
-
-    ghost lawful = { leaf_lawful octet_string_leaf octet_string_lawful };
-
-    ghost checked = { leaf_constraints octet_string_leaf octet_string_lawful };
-
-    fn value_in_hand(&self) {
-        octets_in_hand(self.as_bytes());
+impl<'a> ConvertsLeaf<'a> for OctetString<'a> {
+    #[inline(always)]
+    fn convert_leaf(_alloc: Global, any: Any<'a>) -> Result<OctetString<'a>, Error> {
+        any.as_octetstring()
     }
 }
 
 impl DerElement for OctetString<'_> {
     ghost each_der = { λ v d. d };
-}
-
-impl<'a> LawfulConversion<'a> for OctetString<'a> {
-    ghost converts = { lent_converts octet_string_leaf octet_string_lawful cow_of };
 }
 
 impl WritesOctets for OctetString<'_> {
@@ -161,60 +140,40 @@ impl LawfulMember for OctetString<'_> {
     ghost same = { octet_string_equal };
 }
 
-impl TaggedAs for &[u8] {
-    type Number = TagNumber<4>;
-}
-
-impl<'a> FromAny<'a> for &'a [u8] {
-    type Error = Error;
-
-    ghost any_gives = { OfParts (LeafGives slice_leaf) };
-
-    /// The contents octets, whether the element is primitive or constructed. Refused at another tag number with
-    /// `UnexpectedTag`.
-    #[inline(always)]
-    fn try_from_any(_alloc: Global, any: Any<'a>) -> Result<&'a [u8], Error> {
-        any.assert_number(Tag::OctetString)?;
-        Ok(any.content)
-    }
-}
-
-impl CheckDerConstraints for &[u8] {
-    ghost check_gives = { is_primitive };
-
-    /// Refuses a constructed element with `ConstructUnexpected` (X.690 10.2).
-    fn check_constraints(any: &Any<'_>) -> Result<(), Error>
-        ensures { is_primitive (parts_of any.now) result }
-    {
-        OctetString::check_constraints(any)
-    }
-}
-
-impl DerAutoDerive for &[u8] {}
-
 /// Octets are an element of their own, and no reference to one.
 impl HasKind for &[u8] {
     type Kind = ElementKind;
 }
 
-impl LawfulElement for &[u8] {
-    ghost element = { leaf_element slice_leaf };
+impl LeafType for &[u8] {
+    type Number = TagNumber<4>;
 
-    ghost lawful = { leaf_lawful slice_leaf slice_lawful };
+    ghost laws = { leaf_laws slice_leaf slice_lawful };
 
-    ghost checked = { leaf_constraints slice_leaf slice_lawful };
-
-    fn value_in_hand(&self) {
+    fn leaf_in_hand(&self) {
         octets_in_hand(*self);
+    }
+
+    /// Refuses a constructed element with `ConstructUnexpected` (X.690 10.2).
+    fn check_leaf(any: &Any<'_>) -> Result<(), Error>
+        ensures { is_primitive (parts_of any.now) result }
+    {
+        any.header.assert_primitive()
+    }
+}
+
+impl<'a> ConvertsLeaf<'a> for &'a [u8] {
+    /// The contents octets, whether the element is primitive or constructed. Refused at another tag number with
+    /// `UnexpectedTag`.
+    #[inline(always)]
+    fn convert_leaf(_alloc: Global, any: Any<'a>) -> Result<&'a [u8], Error> {
+        any.assert_number(Tag::OctetString)?;
+        Ok(any.content)
     }
 }
 
 impl DerElement for &[u8] {
     ghost each_der = { λ v d. d };
-}
-
-impl<'a> LawfulConversion<'a> for &'a [u8] {
-    ghost converts = { leaf_converts slice_leaf slice_lawful };
 }
 
 impl WritesOctets for &[u8] {

@@ -2,20 +2,20 @@
 ghost use Rattle.std.specs.Prelude.{◌≡◌, ◌∷◌, [], string_bytes};
 ghost use Rattle.asn1_rs.specs.Any.{parts_of};
 ghost use Rattle.asn1_rs.specs.Checks.{is_primitive};
-ghost use Rattle.asn1_rs.specs.Leaf.{HaveOneRefusal, LeafGives, LeafTakes, copying, leaf_element};
-ghost use Rattle.asn1_rs.specs.Laws.Leaf.{copying_converts, copying_lawful, copying_written, leaf_constraints};
-ghost use Rattle.asn1_rs.specs.Laws.Leaf.{leaf_converts, leaf_lawful, leaf_written};
+ghost use Rattle.asn1_rs.specs.Leaf.{HaveOneRefusal, LeafGives, LeafTakes};
+ghost use Rattle.asn1_rs.specs.Laws.Leaf.{copying_laws, leaf_laws, copying_written};
+ghost use Rattle.asn1_rs.specs.Laws.Leaf.{leaf_written};
 ghost use Rattle.asn1_rs.specs.Laws.Texts.{lent_text_lawful, lent_text_equal, owned_text_lawful, owned_text_equal};
 ghost use Rattle.asn1_rs.specs.Texts.{lent_text_leaf, owned_text_leaf};
-ghost use Rattle.asn1_rs.specs.Traits.{OfParts};
 
 use crate::asn1_types::any::Any;
 use crate::kinds::in_hand::DerElement;
 use crate::kinds::writing::WritesOctets;
-use crate::kinds::{ElementKind, HasKind, LawfulConversion, LawfulElement, TagNumber, TaggedAs};
+use crate::kinds::leaf::{ConvertsLeaf, LeafType};
+use crate::kinds::{ElementKind, HasKind, TagNumber};
 use crate::laws::LawfulMember;
 use crate::laws::in_hand::text_in_hand;
-use crate::traits::{CheckDerConstraints, DerAutoDerive, FromAny, Tagged};
+use crate::traits::Tagged;
 use asn1_headers::error::Error;
 use asn1_headers::tag::Tag;
 use std::alloc::Global;
@@ -63,57 +63,37 @@ impl<'a> Any<'a> {
     }
 }
 
-impl TaggedAs for &str {
+/// A text is an element of its own, and no reference to one.
+impl HasKind for &str {
+    type Kind = ElementKind;
+}
+
+impl LeafType for &str {
     type Number = TagNumber<12>;
-}
 
-impl<'a> FromAny<'a> for &'a str {
-    type Error = Error;
+    ghost laws = { leaf_laws lent_text_leaf lent_text_lawful };
 
-    ghost any_gives = { OfParts (LeafGives lent_text_leaf) };
-
-    #[inline(always)]
-    fn try_from_any(_alloc: Global, any: Any<'a>) -> Result<&'a str, Error> {
-        any.as_str()
+    fn leaf_in_hand(&self) {
+        text_in_hand(*self);
     }
-}
-
-impl CheckDerConstraints for &str {
-    ghost check_gives = { is_primitive };
 
     /// Refuses a constructed element with `ConstructUnexpected` (X.690 10.2).
-    fn check_constraints(any: &Any<'_>) -> Result<(), Error>
+    fn check_leaf(any: &Any<'_>) -> Result<(), Error>
         ensures { is_primitive (parts_of any.now) result }
     {
         any.header.assert_primitive()
     }
 }
 
-impl DerAutoDerive for &str {}
-
-/// A text is an element of its own, and no reference to one.
-impl HasKind for &str {
-    type Kind = ElementKind;
-}
-
-impl LawfulElement for &str {
-    ghost element = { leaf_element lent_text_leaf };
-
-    ghost lawful = { leaf_lawful lent_text_leaf lent_text_lawful };
-
-    ghost checked = { leaf_constraints lent_text_leaf lent_text_lawful };
-
-    fn value_in_hand(&self) {
-        text_in_hand(*self);
+impl<'a> ConvertsLeaf<'a> for &'a str {
+    #[inline(always)]
+    fn convert_leaf(_alloc: Global, any: Any<'a>) -> Result<&'a str, Error> {
+        any.as_str()
     }
 }
 
 impl DerElement for &str {
     ghost each_der = { λ v d. d };
-}
-
-impl<'a> LawfulConversion<'a> for &'a str {
-    ghost converts = { leaf_converts lent_text_leaf lent_text_lawful };
 }
 
 impl WritesOctets for &str {
@@ -130,55 +110,35 @@ impl LawfulMember for &str {
     ghost same = { lent_text_equal };
 }
 
-impl TaggedAs for String {
-    type Number = TagNumber<12>;
-}
-
-impl FromAny<'_> for String {
-    type Error = Error;
-
-    ghost any_gives = { OfParts (LeafTakes owned_text_leaf) };
-
-    fn try_from_any(alloc: Global, any: Any<'_>) -> Result<String, Error> {
-        any.as_string(alloc)
-    }
-}
-
-impl CheckDerConstraints for String {
-    ghost check_gives = { is_primitive };
-
-    /// Refuses a constructed element with `ConstructUnexpected` (X.690 10.2).
-    fn check_constraints(any: &Any<'_>) -> Result<(), Error>
-        ensures { is_primitive (parts_of any.now) result }
-    {
-        <&str as CheckDerConstraints>::check_constraints(any)
-    }
-}
-
-impl DerAutoDerive for String {}
-
 impl HasKind for String {
     type Kind = ElementKind;
 }
 
-impl LawfulElement for String {
-    ghost element = { copying (leaf_element owned_text_leaf) };
+impl LeafType for String {
+    type Number = TagNumber<12>;
 
-    ghost lawful = { copying_lawful owned_text_leaf owned_text_lawful };
+    ghost laws = { copying_laws owned_text_leaf owned_text_lawful };
 
-    ghost checked = { leaf_constraints owned_text_leaf owned_text_lawful };
-
-    fn value_in_hand(&self) {
+    fn leaf_in_hand(&self) {
         text_in_hand(self.as_str());
+    }
+
+    /// Refuses a constructed element with `ConstructUnexpected` (X.690 10.2).
+    fn check_leaf(any: &Any<'_>) -> Result<(), Error>
+        ensures { is_primitive (parts_of any.now) result }
+    {
+        any.header.assert_primitive()
+    }
+}
+
+impl<'a> ConvertsLeaf<'a> for String {
+    fn convert_leaf(alloc: Global, any: Any<'a>) -> Result<String, Error> {
+        any.as_string(alloc)
     }
 }
 
 impl DerElement for String {
     ghost each_der = { λ v d. d };
-}
-
-impl<'a> LawfulConversion<'a> for String {
-    ghost converts = { copying_converts owned_text_leaf owned_text_lawful };
 }
 
 impl WritesOctets for String {

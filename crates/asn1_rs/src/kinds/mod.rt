@@ -8,6 +8,7 @@
 pub(crate) mod collections;
 pub(crate) mod fields;
 pub(crate) mod in_hand;
+pub(crate) mod leaf;
 pub(crate) mod writing;
 
 ghost use Rattle.std.specs.Prelude.{◌≡◌};

@@ -2,7 +2,11 @@
 use Rattle.std.specs.Prelude.{ℕ}
 use Rattle.x690.specs.Laws.Integers.Unsigned.{unsigned_octets_content}
 use Rattle.x690.specs.Laws.Signed.{signed_octets_content}
-use Rattle.asn1_rs.specs.Integer.Machine.{IsLawfulMachine, unsigned_machine, signed_machine}
+use Rattle.asn1_rs.specs.Integer.Machine.{Machine, IsLawfulMachine, unsigned_machine, signed_machine}
+use Rattle.asn1_rs.specs.Integer.{IntegerGives, IntegerCheckGives, integer_element}
+use Rattle.asn1_rs.specs.LeafLaws.{LeafLaws}
+use Rattle.asn1_rs.specs.Traits.{OfParts}
+use Rattle.asn1_rs.specs.Laws.Integer.{integer_checks, integer_lawful, integer_converts}
 use Rattle.asn1_rs.specs.Laws.Integer.Unsigned.{unsigned_refused}
 use Rattle.asn1_rs.specs.Laws.Integer.Signed.{signed_refused}
 
@@ -12,6 +16,7 @@ unsigned_lawful size = record {
   one = λ x y e. cc;
   content = unsigned_octets_content;
   refused = unsigned_refused size;
+  asks_no_memory = λ c h. h;
 }
 
 -- Machine integers with a sign are lawful.
@@ -20,4 +25,16 @@ signed_lawful size = record {
   one = λ x y e. e;
   content = signed_octets_content;
   refused = signed_refused size;
+  asks_no_memory = λ c h. let e = h.1 in cc;
+}
+
+-- what a machine integer says of itself as a leaf
+abbrev pub machine_laws : {T : Type 0} (M : Machine T) → IsLawfulMachine M → LeafLaws T
+machine_laws M l = record {
+  element = integer_element M.number M.Holds;
+  gives = OfParts (IntegerGives M.number M.Holds M.refuses);
+  check = IntegerCheckGives;
+  lawful = integer_lawful M.Holds M.number;
+  checked = integer_checks;
+  converts = integer_converts M.Holds M.number M.refuses l.refused l.asks_no_memory;
 }

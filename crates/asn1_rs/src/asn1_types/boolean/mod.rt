@@ -4,20 +4,19 @@ mod writing;
 
 ghost use Rattle.std.specs.Prelude.{◌≡◌, ◌∷◌, [], false, IfErr};
 ghost use Rattle.asn1_rs.specs.Any.{parts_of};
-ghost use Rattle.asn1_rs.specs.Boolean.{boolean_number, boolean_leaf, bool_leaf, says_true, truth_octet};
+ghost use Rattle.asn1_rs.specs.Boolean.{boolean_leaf, bool_leaf, says_true, truth_octet};
 ghost use Rattle.asn1_rs.specs.Boolean.{truth_constraints};
-ghost use Rattle.asn1_rs.specs.Leaf.{LeafGives, leaf_element};
+ghost use Rattle.asn1_rs.specs.Leaf.{LeafGives};
 ghost use Rattle.asn1_rs.specs.Laws.Boolean.{boolean_lawful, bool_lawful, boolean_equal, bool_equal};
-ghost use Rattle.asn1_rs.specs.Laws.Leaf.{leaf_lawful, leaf_constraints, leaf_converts, leaf_written};
-ghost use Rattle.asn1_rs.specs.Traits.{OfParts};
+ghost use Rattle.asn1_rs.specs.Laws.Leaf.{leaf_laws, leaf_written};
 ghost use Rattle.asn1_headers.specs.Writer.{Wrote, MayRefuse};
 
 use crate::asn1_types::any::Any;
 use crate::kinds::in_hand::DerElement;
 use crate::kinds::writing::WritesElement;
-use crate::kinds::{ElementKind, HasKind, LawfulConversion, LawfulElement};
+use crate::kinds::leaf::{ConvertsLeaf, LeafType};
+use crate::kinds::{ElementKind, HasKind, TagNumber};
 use crate::laws::LawfulMember;
-use crate::traits::{CheckDerConstraints, DerAutoDerive, FromAny, Tagged};
 use asn1_headers::error::{DerConstraint, Error, SerializeResult};
 use asn1_headers::tag::Tag;
 use asn1_headers::writer::{DerWrite, put_all};
@@ -127,53 +126,30 @@ fn put_truth<W: DerWrite>(truth: bool, w: &mut W) -> SerializeResult<usize>
     put_all(w, &[octet_of(truth)])
 }
 
-impl Tagged for bool {
-    const TAG: Tag = Tag::Boolean;
-
-    ghost TAG = { record { 0 = boolean_number } };
-}
-
-impl<'a> FromAny<'a> for bool {
-    type Error = Error;
-
-    ghost any_gives = { OfParts (LeafGives bool_leaf) };
-
-    #[inline(always)]
-    fn try_from_any(_alloc: Global, any: Any<'a>) -> Result<bool, Error> {
-        any.as_bool()
-    }
-}
-
-impl CheckDerConstraints for bool {
-    ghost check_gives = { truth_constraints };
-
-    fn check_constraints(any: &Any<'_>) -> Result<(), Error> {
-        check_truth(any)
-    }
-}
-
-impl DerAutoDerive for bool {}
-
 impl HasKind for bool {
     type Kind = ElementKind;
 }
 
-impl LawfulElement for bool {
-    ghost element = { leaf_element bool_leaf };
+impl LeafType for bool {
+    type Number = TagNumber<1>;
 
-    ghost lawful = { leaf_lawful bool_leaf bool_lawful };
+    ghost laws = { leaf_laws bool_leaf bool_lawful };
 
-    ghost checked = { leaf_constraints bool_leaf bool_lawful };
+    fn leaf_in_hand(&self) {}
 
-    fn value_in_hand(&self) {}
+    fn check_leaf(any: &Any<'_>) -> Result<(), Error> {
+        check_truth(any)
+    }
+}
+
+impl<'a> ConvertsLeaf<'a> for bool {
+    fn convert_leaf(_alloc: Global, any: Any<'a>) -> Result<bool, Error> {
+        any.as_bool()
+    }
 }
 
 impl DerElement for bool {
     ghost each_der = { λ v d. d };
-}
-
-impl<'a> LawfulConversion<'a> for bool {
-    ghost converts = { leaf_converts bool_leaf bool_lawful };
 }
 
 impl WritesElement for bool {
@@ -194,51 +170,29 @@ impl LawfulMember for bool {
     ghost same = { bool_equal };
 }
 
-impl Tagged for Boolean {
-    const TAG: Tag = Tag::Boolean;
-
-    ghost TAG = { record { 0 = boolean_number } };
-}
-
-impl<'a> FromAny<'a> for Boolean {
-    type Error = Error;
-
-    ghost any_gives = { OfParts (LeafGives boolean_leaf) };
-
-    #[inline(always)]
-    fn try_from_any(_alloc: Global, any: Any<'a>) -> Result<Boolean, Error> {
-        any.as_boolean()
-    }
-}
-
-impl CheckDerConstraints for Boolean {
-    ghost check_gives = { truth_constraints };
-
-    fn check_constraints(any: &Any<'_>) -> Result<(), Error> {
-        check_truth(any)
-    }
-}
-
-impl DerAutoDerive for Boolean {}
-
 impl HasKind for Boolean {
     type Kind = ElementKind;
 }
 
-impl LawfulElement for Boolean {
-    ghost element = { leaf_element boolean_leaf };
+impl LeafType for Boolean {
+    type Number = TagNumber<1>;
 
-    ghost lawful = { leaf_lawful boolean_leaf boolean_lawful };
+    ghost laws = { leaf_laws boolean_leaf boolean_lawful };
 
-    ghost checked = { leaf_constraints boolean_leaf boolean_lawful };
-
-    fn value_in_hand(&self) {
+    fn leaf_in_hand(&self) {
         let _octet = self.value;
+    }
+
+    fn check_leaf(any: &Any<'_>) -> Result<(), Error> {
+        check_truth(any)
     }
 }
 
-impl<'a> LawfulConversion<'a> for Boolean {
-    ghost converts = { leaf_converts boolean_leaf boolean_lawful };
+impl<'a> ConvertsLeaf<'a> for Boolean {
+    #[inline(always)]
+    fn convert_leaf(_alloc: Global, any: Any<'a>) -> Result<Boolean, Error> {
+        any.as_boolean()
+    }
 }
 
 impl LawfulMember for Boolean {

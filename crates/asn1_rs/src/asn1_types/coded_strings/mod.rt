@@ -11,17 +11,15 @@ ghost use Rattle.asn1_rs.specs.Any.{parts_of};
 ghost use Rattle.asn1_rs.specs.Checks.{is_primitive};
 ghost use Rattle.asn1_rs.specs.CodedStrings.{coded_string_leaf, held_text, text_of};
 ghost use Rattle.asn1_rs.specs.Laws.CodedStrings.{coded_string_lawful, coded_string_equal};
-ghost use Rattle.asn1_rs.specs.Laws.Checks.{is_primitive_is};
-ghost use Rattle.asn1_rs.specs.Laws.Leaf.{exact_check, copying_lawful, copying_converts};
-ghost use Rattle.asn1_rs.specs.Leaf.{HaveOneRefusal, LeafTakes, copying, leaf_element};
-ghost use Rattle.asn1_rs.specs.Traits.{OfParts};
+ghost use Rattle.asn1_rs.specs.Laws.Leaf.{copying_laws};
+ghost use Rattle.asn1_rs.specs.Leaf.{HaveOneRefusal};
 
 use crate::asn1_types::any::Any;
 use crate::kinds::in_hand::DerElement;
-use crate::kinds::{ElementKind, HasKind, LawfulConversion, LawfulElement, TaggedAs};
+use crate::kinds::leaf::{ConvertsLeaf, LeafType};
+use crate::kinds::{ElementKind, HasKind};
 use crate::laws::LawfulMember;
 use crate::laws::in_hand::text_in_hand;
-use crate::traits::{CheckDerConstraints, DerAutoDerive, FromAny};
 use asn1_headers::error::Error;
 use kinds::CodedKind;
 use std::alloc::Global;
@@ -103,60 +101,37 @@ impl<K: CodedKind> fmt::Debug for CodedString<'_, K> {
     }
 }
 
-impl<K: CodedKind> TaggedAs for CodedString<'_, K> {
+impl<K: CodedKind> HasKind for CodedString<'_, K> {
+    type Kind = ElementKind;
+}
+
+impl<K: CodedKind> LeafType for CodedString<'_, K> {
     type Number = K::Number;
-}
 
-impl<K: CodedKind> FromAny<'_> for CodedString<'_, K> {
-    type Error = Error;
+    ghost laws = { copying_laws (coded_string_leaf (K.Number.TAG).0 K.Code.octets_of)
+        (coded_string_lawful (K.Number.TAG).0 K.Code.octets_of K.small K.primitive K.Code.is) };
 
-    ghost any_gives = { OfParts
-        (LeafTakes (coded_string_leaf (K.Number.TAG).0 K.Code.octets_of)) };
-
-    fn try_from_any(alloc: Global, any: Any<'_>) -> Result<Self, Error> {
-        any.as_coded_string(alloc)
+    fn leaf_in_hand(&self) {
+        text_in_hand(self.as_str());
     }
-}
-
-impl<K: CodedKind> CheckDerConstraints for CodedString<'_, K> {
-    ghost check_gives = { is_primitive };
 
     /// Refuses a constructed element with `ConstructUnexpected` (X.690 10.2).
-    fn check_constraints(any: &Any<'_>) -> Result<(), Error>
+    fn check_leaf(any: &Any<'_>) -> Result<(), Error>
         ensures { is_primitive (parts_of any.now) result }
     {
         any.header.assert_primitive()
     }
 }
 
-impl<K: CodedKind> DerAutoDerive for CodedString<'_, K> {}
-
-impl<K: CodedKind> HasKind for CodedString<'_, K> {
-    type Kind = ElementKind;
-}
-
-impl<K: CodedKind> LawfulElement for CodedString<'_, K> {
-    ghost element = { copying
-        (leaf_element (coded_string_leaf (K.Number.TAG).0 K.Code.octets_of)) };
-
-    ghost lawful = { copying_lawful (coded_string_leaf (K.Number.TAG).0 K.Code.octets_of)
-        (coded_string_lawful (K.Number.TAG).0 K.Code.octets_of K.small K.primitive K.Code.is) };
-
-    ghost checked = { exact_check is_primitive is_primitive_is };
-
-    fn value_in_hand(&self) {
-        text_in_hand(self.as_str());
+impl<'a, K: CodedKind> ConvertsLeaf<'a> for CodedString<'_, K> {
+    fn convert_leaf(alloc: Global, any: Any<'a>) -> Result<Self, Error> {
+        any.as_coded_string(alloc)
     }
 }
 
 /// Each text is in DER form.
 impl<K: CodedKind> DerElement for CodedString<'_, K> {
     ghost each_der = { λ v d. d };
-}
-
-impl<'a, K: CodedKind> LawfulConversion<'a> for CodedString<'_, K> {
-    ghost converts = { copying_converts (coded_string_leaf (K.Number.TAG).0 K.Code.octets_of)
-        (coded_string_lawful (K.Number.TAG).0 K.Code.octets_of K.small K.primitive K.Code.is) };
 }
 
 impl<K: CodedKind> LawfulMember for CodedString<'_, K> {

@@ -1,11 +1,16 @@
 //! The machine integers, which hold the integers of one to sixteen octets (X.690 8.3).
-ghost use Rattle.std.specs.Prelude.{◌≡◌, ◌≤◌, ◌<◌, take, drop, length};
+ghost use Rattle.std.specs.Prelude.{◌≡◌, ◌≤◌, ◌<◌, take, drop};
 ghost use Rattle.asn1_rs.specs.Integer.Machine.{Machine, IsLawfulMachine, MachineGives, unsigned_machine};
 ghost use Rattle.asn1_rs.specs.Integer.Machine.{signed_machine};
-ghost use Rattle.asn1_rs.specs.Laws.Integer.Machine.{unsigned_lawful, signed_lawful};
+ghost use Rattle.asn1_rs.specs.Laws.Integer.Machine.{unsigned_lawful, signed_lawful, machine_laws};
 
-use crate::asn1_types::integer::{signed_from_content, unsigned_from_content};
+use crate::asn1_types::any::Any;
+use crate::asn1_types::integer::{assert_integer, check_integer, signed_from_content, unsigned_from_content};
+use crate::kinds::in_hand::DerElement;
+use crate::kinds::leaf::{ConvertsLeaf, LeafType};
+use crate::kinds::{ElementKind, HasKind, TagNumber};
 use asn1_headers::error::Error;
+use std::alloc::Global;
 use x690::integers::unsigned_into;
 use x690::signed::signed_into;
 
@@ -175,4 +180,31 @@ impl MachineInt for i128 {
     fn from_octets(octets: &[u8]) -> Result<i128, Error> {
         signed_from_content(octets, 16)
     }
+}
+
+impl<T: MachineInt + HasKind<Kind = ElementKind>> LeafType for T {
+    type Number = TagNumber<2>;
+
+    ghost laws = { machine_laws T.machine T.lawful_machine };
+
+    fn leaf_in_hand(&self) {
+        let mut octets = [0; 17];
+        let _ = self.octets_into(&mut octets);
+    }
+
+    fn check_leaf(any: &Any<'_>) -> Result<(), Error> {
+        check_integer(any)
+    }
+}
+
+impl<'a, T: MachineInt + HasKind<Kind = ElementKind>> ConvertsLeaf<'a> for T {
+    #[inline(always)]
+    fn convert_leaf(_alloc: Global, any: Any<'a>) -> Result<T, Error> {
+        assert_integer(&any)?;
+        T::from_octets(any.content)
+    }
+}
+
+impl<T: MachineInt + HasKind<Kind = ElementKind>> DerElement for T {
+    ghost each_der = { λ v d. d };
 }

@@ -1,14 +1,14 @@
 //! Integers of any size, by their contents octets (X.690 8.3).
-ghost use Rattle.std.specs.Prelude.{◌≡◌, ◌≤◌, ℕ, false, length, None, pos, IfOk};
+ghost use Rattle.std.specs.Prelude.{◌≡◌, ◌≤◌, false, length, None, pos, IfOk};
 ghost use Rattle.x690.specs.Digits.{base_256_value};
 ghost use Rattle.asn1_rs.specs.Any.{parts_of};
 ghost use Rattle.asn1_headers.specs.Header.{HasParts};
 ghost use Rattle.asn1_rs.specs.Integer.{integer_number, IntegerCheckGives};
 ghost use Rattle.asn1_rs.specs.Integer.Machine.{GivesBack};
 ghost use Rattle.asn1_rs.specs.Integer.Octets.{octets_held, integer_octets, any_integer_leaf, BorrowsOctets, HoldsOr};
-ghost use Rattle.asn1_rs.specs.Leaf.{LeafGives, LendsContent, leaf_element};
+ghost use Rattle.asn1_rs.specs.Leaf.{LeafGives};
 ghost use Rattle.asn1_rs.specs.Laws.Integer.Octets.{any_integer_lawful, octets_equal};
-ghost use Rattle.asn1_rs.specs.Laws.Leaf.{leaf_lawful, leaf_constraints, lent_converts, leaf_written};
+ghost use Rattle.asn1_rs.specs.Laws.Leaf.{lent_laws, leaf_written};
 ghost use Rattle.asn1_headers.specs.declared.class.Class.TheVariants as classes;
 ghost use Rattle.asn1_headers.specs.declared.length.Length.TheVariants as forms;
 
@@ -16,10 +16,10 @@ use crate::asn1_types::any::Any;
 use crate::asn1_types::integer::check_integer;
 use crate::asn1_types::integer::machine::MachineInt;
 use crate::kinds::writing::WritesOctets;
-use crate::kinds::{ElementKind, HasKind, LawfulConversion, LawfulElement, TagNumber, TaggedAs};
+use crate::kinds::leaf::{ConvertsLeaf, LeafType};
+use crate::kinds::{ElementKind, HasKind, TagNumber};
 use crate::laws::LawfulMember;
 use crate::laws::in_hand::octets_in_hand;
-use crate::traits::{CheckDerConstraints, DerAutoDerive, FromAny};
 use asn1_headers::error::Error;
 use asn1_headers::tag::Tag;
 use std::alloc::Global;
@@ -121,51 +121,31 @@ impl<'a> Any<'a> {
     }
 }
 
-impl TaggedAs for Integer<'_> {
+impl HasKind for Integer<'_> {
+    type Kind = ElementKind;
+}
+
+impl LeafType for Integer<'_> {
     type Number = TagNumber<2>;
-}
 
-impl<'a> FromAny<'a> for Integer<'a> {
-    type Error = Error;
+    ghost laws = { lent_laws any_integer_leaf any_integer_lawful octets_held };
 
-    ghost any_gives = { LendsContent any_integer_leaf octets_held };
-
-    #[inline(always)]
-    fn try_from_any(_alloc: Global, any: Any<'a>) -> Result<Integer<'a>, Error> {
-        any.as_integer()
+    fn leaf_in_hand(&self) {
+        octets_in_hand(self.as_bytes());
     }
-}
 
-impl CheckDerConstraints for Integer<'_> {
-    ghost check_gives = { IntegerCheckGives };
-
-    fn check_constraints(any: &Any<'_>) -> Result<(), Error>
+    fn check_leaf(any: &Any<'_>) -> Result<(), Error>
         ensures { IntegerCheckGives (parts_of any.now) result }
     {
         check_integer(any)
     }
 }
 
-impl DerAutoDerive for Integer<'_> {}
-
-impl HasKind for Integer<'_> {
-    type Kind = ElementKind;
-}
-
-impl LawfulElement for Integer<'_> {
-    ghost element = { leaf_element any_integer_leaf };
-
-    ghost lawful = { leaf_lawful any_integer_leaf any_integer_lawful };
-
-    ghost checked = { leaf_constraints any_integer_leaf any_integer_lawful };
-
-    fn value_in_hand(&self) {
-        octets_in_hand(self.as_bytes());
+impl<'a> ConvertsLeaf<'a> for Integer<'a> {
+    #[inline(always)]
+    fn convert_leaf(_alloc: Global, any: Any<'a>) -> Result<Integer<'a>, Error> {
+        any.as_integer()
     }
-}
-
-impl<'a> LawfulConversion<'a> for Integer<'a> {
-    ghost converts = { lent_converts any_integer_leaf any_integer_lawful octets_held };
 }
 
 impl WritesOctets for Integer<'_> {

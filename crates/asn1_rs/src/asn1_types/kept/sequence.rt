@@ -15,25 +15,24 @@ ghost use Rattle.asn1_headers.specs.Header.Reading.{der_refusal, ber_refusal};
 ghost use Rattle.asn1_rs.specs.Kept.{sequence_number, sequence_leaf, sequence_octets, TakesLent, TakesList, OnLent};
 ghost use Rattle.asn1_rs.specs.Kept.{IsRefused, IsErrorOf, ListThenGives, CopiesGive, JoinsGiven, content_octets};
 ghost use Rattle.asn1_rs.specs.Laws.Kept.{sequence_lawful, sequence_equal};
-ghost use Rattle.asn1_rs.specs.Laws.Leaf.{leaf_lawful, leaf_constraints, lent_converts, leaf_written};
-ghost use Rattle.asn1_rs.specs.Leaf.{LeafGives, LendsContent, leaf_element};
+ghost use Rattle.asn1_rs.specs.Laws.Leaf.{lent_laws, leaf_written};
+ghost use Rattle.asn1_rs.specs.Leaf.{LeafGives};
 ghost use Rattle.asn1_rs.specs.Lists.{ItemsGive, listed};
 ghost use Rattle.asn1_rs.specs.Sequence.Iterator.{octets_left};
 
 use crate::asn1_types::any::Any;
-use crate::asn1_types::kept::{
-    ber_list_and_then, copies_by, der_list_and_then, items_lent, joined_encodings, parse_lent,
-};
+use crate::asn1_types::kept::{ber_list_and_then, copies_by, der_list_and_then, items_lent, joined_encodings, parse_lent};
 use crate::asn1_types::lists::items_by;
 use crate::asn1_types::sequence::iterator::SequenceIterator;
 use crate::kinds::in_hand::DerElement;
 use crate::kinds::writing::WritesOctets;
-use crate::kinds::{ElementKind, HasKind, LawfulConversion, LawfulElement, TagNumber, TaggedAs};
+use crate::kinds::leaf::{ConvertsLeaf, LeafType};
+use crate::kinds::{ElementKind, HasKind, TagNumber};
 use crate::laws::LawfulMember;
 use crate::laws::in_hand::octets_in_hand;
 use crate::to_der::ToDer;
 use crate::to_static::ToStatic;
-use crate::traits::{CheckDerConstraints, DerAutoDerive, FromAny, FromBer, FromDer, Tagged};
+use crate::traits::{FromBer, FromDer, Tagged};
 use asn1_headers::content::{BerParser, DerParser};
 use asn1_headers::error::{Error, ParseResult, SerializeResult};
 use asn1_headers::tag::Tag;
@@ -252,57 +251,37 @@ impl<'a> Any<'a> {
     }
 }
 
-impl TaggedAs for Sequence<'_> {
-    type Number = TagNumber<16>;
+impl HasKind for Sequence<'_> {
+    type Kind = ElementKind;
 }
 
-impl<'a> FromAny<'a> for Sequence<'a> {
-    type Error = Error;
+impl LeafType for Sequence<'_> {
+    type Number = TagNumber<16>;
 
     // So `parse_into` and its like, at what was read, can't answer `LifetimeError`.
-    ghost any_gives = { LendsContent sequence_leaf (λ s. s.content) };
+    ghost laws = { lent_laws sequence_leaf sequence_lawful (λ s. s.content) };
 
-    #[inline(always)]
-    fn try_from_any(_alloc: Global, any: Any<'a>) -> Result<Sequence<'a>, Error> {
-        any.as_sequence()
+    fn leaf_in_hand(&self) {
+        octets_in_hand(self.as_bytes());
     }
-}
-
-impl CheckDerConstraints for Sequence<'_> {
-    ghost check_gives = { nothing };
 
     /// Refuses nothing.
-    fn check_constraints(any: &Any<'_>) -> Result<(), Error>
+    fn check_leaf(any: &Any<'_>) -> Result<(), Error>
         ensures { nothing (parts_of any.now) result }
     {
         Ok(())
     }
 }
 
-impl DerAutoDerive for Sequence<'_> {}
-
-impl HasKind for Sequence<'_> {
-    type Kind = ElementKind;
-}
-
-impl LawfulElement for Sequence<'_> {
-    ghost element = { leaf_element sequence_leaf };
-
-    ghost lawful = { leaf_lawful sequence_leaf sequence_lawful };
-
-    ghost checked = { leaf_constraints sequence_leaf sequence_lawful };
-
-    fn value_in_hand(&self) {
-        octets_in_hand(self.as_bytes());
+impl<'a> ConvertsLeaf<'a> for Sequence<'a> {
+    #[inline(always)]
+    fn convert_leaf(_alloc: Global, any: Any<'a>) -> Result<Sequence<'a>, Error> {
+        any.as_sequence()
     }
 }
 
 impl DerElement for Sequence<'_> {
     ghost each_der = { λ v d. d };
-}
-
-impl<'a> LawfulConversion<'a> for Sequence<'a> {
-    ghost converts = { lent_converts sequence_leaf sequence_lawful (λ s. s.content) };
 }
 
 impl WritesOctets for Sequence<'_> {

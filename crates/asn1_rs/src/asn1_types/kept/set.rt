@@ -15,24 +15,23 @@ ghost use Rattle.asn1_headers.specs.Header.Reading.{der_refusal, ber_refusal};
 ghost use Rattle.asn1_rs.specs.Kept.{set_number, set_leaf, set_octets, TakesLent, TakesList, OnLent, IsRefused};
 ghost use Rattle.asn1_rs.specs.Kept.{IsErrorOf, ListThenGives, CopiesGive, JoinsGiven, content_octets};
 ghost use Rattle.asn1_rs.specs.Laws.Kept.{set_lawful};
-ghost use Rattle.asn1_rs.specs.Laws.Leaf.{leaf_lawful, leaf_constraints, lent_converts, leaf_written};
-ghost use Rattle.asn1_rs.specs.Leaf.{LeafGives, LendsContent, leaf_element};
+ghost use Rattle.asn1_rs.specs.Laws.Leaf.{lent_laws, leaf_written};
+ghost use Rattle.asn1_rs.specs.Leaf.{LeafGives};
 ghost use Rattle.asn1_rs.specs.Lists.{ItemsGive, listed};
 ghost use Rattle.asn1_rs.specs.Sequence.Iterator.{octets_left};
 
 use crate::asn1_types::any::Any;
-use crate::asn1_types::kept::{
-    ber_list_and_then, copies_by, der_list_and_then, items_lent, joined_encodings, parse_lent,
-};
+use crate::asn1_types::kept::{ber_list_and_then, copies_by, der_list_and_then, items_lent, joined_encodings, parse_lent};
 use crate::asn1_types::lists::items_by;
 use crate::asn1_types::sequence::iterator::SequenceIterator;
 use crate::kinds::in_hand::DerElement;
 use crate::kinds::writing::WritesOctets;
-use crate::kinds::{ElementKind, HasKind, LawfulConversion, LawfulElement, TagNumber, TaggedAs};
+use crate::kinds::leaf::{ConvertsLeaf, LeafType};
+use crate::kinds::{ElementKind, HasKind, TagNumber};
 use crate::laws::in_hand::octets_in_hand;
 use crate::to_der::ToDer;
 use crate::to_static::ToStatic;
-use crate::traits::{CheckDerConstraints, DerAutoDerive, FromAny, FromBer, FromDer, Tagged};
+use crate::traits::{FromBer, FromDer, Tagged};
 use asn1_headers::content::{BerParser, DerParser};
 use asn1_headers::error::{Error, ParseResult, SerializeResult};
 use asn1_headers::tag::Tag;
@@ -251,57 +250,37 @@ impl<'a> Any<'a> {
     }
 }
 
-impl TaggedAs for Set<'_> {
-    type Number = TagNumber<17>;
+impl HasKind for Set<'_> {
+    type Kind = ElementKind;
 }
 
-impl<'a> FromAny<'a> for Set<'a> {
-    type Error = Error;
+impl LeafType for Set<'_> {
+    type Number = TagNumber<17>;
 
     // So `parse_into` and its like, at what was read, can't answer `LifetimeError`.
-    ghost any_gives = { LendsContent set_leaf (λ s. s.content) };
+    ghost laws = { lent_laws set_leaf set_lawful (λ s. s.content) };
 
-    #[inline(always)]
-    fn try_from_any(_alloc: Global, any: Any<'a>) -> Result<Set<'a>, Error> {
-        any.as_set()
+    fn leaf_in_hand(&self) {
+        octets_in_hand(self.as_bytes());
     }
-}
-
-impl CheckDerConstraints for Set<'_> {
-    ghost check_gives = { nothing };
 
     /// Refuses nothing.
-    fn check_constraints(any: &Any<'_>) -> Result<(), Error>
+    fn check_leaf(any: &Any<'_>) -> Result<(), Error>
         ensures { nothing (parts_of any.now) result }
     {
         Ok(())
     }
 }
 
-impl DerAutoDerive for Set<'_> {}
-
-impl HasKind for Set<'_> {
-    type Kind = ElementKind;
-}
-
-impl LawfulElement for Set<'_> {
-    ghost element = { leaf_element set_leaf };
-
-    ghost lawful = { leaf_lawful set_leaf set_lawful };
-
-    ghost checked = { leaf_constraints set_leaf set_lawful };
-
-    fn value_in_hand(&self) {
-        octets_in_hand(self.as_bytes());
+impl<'a> ConvertsLeaf<'a> for Set<'a> {
+    #[inline(always)]
+    fn convert_leaf(_alloc: Global, any: Any<'a>) -> Result<Set<'a>, Error> {
+        any.as_set()
     }
 }
 
 impl DerElement for Set<'_> {
     ghost each_der = { λ v d. d };
-}
-
-impl<'a> LawfulConversion<'a> for Set<'a> {
-    ghost converts = { lent_converts set_leaf set_lawful (λ s. s.content) };
 }
 
 impl WritesOctets for Set<'_> {

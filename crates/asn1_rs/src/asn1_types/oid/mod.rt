@@ -12,21 +12,20 @@ mod text;
 mod writing;
 
 ghost use Rattle.std.specs.Prelude.{◌≡◌, ◌++◌, ◌↔◌, ℕ, List, true, false, IfOk, IfErr};
-ghost use Rattle.std.specs.Cow.{IsBorrowedSlice};
 ghost use Rattle.x690.specs.Arcs.{arcs_of, AreComplete};
 ghost use Rattle.x690.specs.Octets.{BeginsWith};
 ghost use Rattle.asn1_headers.specs.declared.error.Error.TheVariants as errors;
 ghost use Rattle.asn1_rs.specs.Any.{parts_of};
 ghost use Rattle.asn1_rs.specs.Oid.{OidGives, absolute, is_relative, oid_constraints, oid_cow, oid_element, oid_octets};
 ghost use Rattle.asn1_rs.specs.Oid.{oid_value};
-ghost use Rattle.asn1_rs.specs.Laws.Oid.{arcs_begin_by_test, begins_by_test, oid_checked, oid_converts, oid_equal};
+ghost use Rattle.asn1_rs.specs.Laws.Oid.{oid_checked, oid_converts, oid_equal};
 ghost use Rattle.asn1_rs.specs.Laws.Oid.{oid_lawful};
 
 use crate::asn1_types::any::Any;
-use crate::kinds::{ElementKind, HasKind, LawfulConversion, LawfulElement, TagNumber, TaggedAs};
+use crate::kinds::leaf::{ConvertsLeaf, LeafType};
+use crate::kinds::{ElementKind, HasKind, TagNumber};
 use crate::laws::LawfulMember;
 use crate::laws::in_hand::octets_in_hand;
-use crate::traits::{CheckDerConstraints, DerAutoDerive, FromAny};
 use asn1_headers::error::Error;
 use std::alloc::Global;
 use std::borrow::CowSlice;
@@ -141,53 +140,40 @@ fn check_primitive_and_counted(any: &Any<'_>) -> Result<(), Error>
     any.header.length().assert_definite()
 }
 
-impl TaggedAs for Oid<'_> {
+impl HasKind for Oid<'_> {
+    type Kind = ElementKind;
+}
+
+impl LeafType for Oid<'_> {
     type Number = TagNumber<6>;
-}
 
-impl<'a> FromAny<'a> for Oid<'a> {
-    type Error = Error;
+    ghost laws = { record {
+        element = oid_element;
+        gives = OidGives;
+        check = oid_constraints;
+        lawful = oid_lawful;
+        checked = oid_checked;
+        converts = oid_converts;
+    } };
 
-    ghost any_gives = { OidGives };
-
-    #[inline(always)]
-    fn try_from_any(_alloc: Global, any: Any<'a>) -> Result<Oid<'a>, Error> {
-        any.as_oid()
+    fn leaf_in_hand(&self) {
+        octets_in_hand(self.as_bytes());
     }
-}
-
-impl CheckDerConstraints for Oid<'_> {
-    ghost check_gives = { oid_constraints };
 
     /// Refuses a constructed element with `ConstructUnexpected`, then one of indefinite length with
     /// `IndefiniteLengthUnexpected` (X.690 8.19.1, 10.1).
-    fn check_constraints(any: &Any<'_>) -> Result<(), Error>
+    fn check_leaf(any: &Any<'_>) -> Result<(), Error>
         ensures { oid_constraints (parts_of any.now) result }
     {
         check_primitive_and_counted(any)
     }
 }
 
-impl DerAutoDerive for Oid<'_> {}
-
-impl HasKind for Oid<'_> {
-    type Kind = ElementKind;
-}
-
-impl LawfulElement for Oid<'_> {
-    ghost element = { oid_element };
-
-    ghost lawful = { oid_lawful };
-
-    ghost checked = { oid_checked };
-
-    fn value_in_hand(&self) {
-        octets_in_hand(self.as_bytes());
+impl<'a> ConvertsLeaf<'a> for Oid<'a> {
+    #[inline(always)]
+    fn convert_leaf(_alloc: Global, any: Any<'a>) -> Result<Oid<'a>, Error> {
+        any.as_oid()
     }
-}
-
-impl<'a> LawfulConversion<'a> for Oid<'a> {
-    ghost converts = { oid_converts };
 }
 
 impl LawfulMember for Oid<'_> {

@@ -8,19 +8,18 @@ ghost use Rattle.std.specs.Cow.{IsBorrowedStr, IsOwnedStr};
 ghost use Rattle.asn1_headers.specs.declared.error.Error.TheVariants as errors;
 ghost use Rattle.asn1_rs.specs.Any.{parts_of};
 ghost use Rattle.asn1_rs.specs.Checks.{is_primitive};
-ghost use Rattle.asn1_rs.specs.Leaf.{leaf_element, HaveOneRefusal};
-ghost use Rattle.asn1_rs.specs.Laws.Checks.{is_primitive_is};
-ghost use Rattle.asn1_rs.specs.Laws.Leaf.{exact_check, leaf_lawful, leaf_written};
-ghost use Rattle.asn1_rs.specs.Laws.Strings.{string_lawful, string_converts, string_equal};
-ghost use Rattle.asn1_rs.specs.Strings.{string_leaf, StringGives, text_of, held_text};
+ghost use Rattle.asn1_rs.specs.Leaf.{HaveOneRefusal};
+ghost use Rattle.asn1_rs.specs.Laws.Leaf.{leaf_written};
+ghost use Rattle.asn1_rs.specs.Laws.Strings.{string_lawful, string_equal, string_laws};
+ghost use Rattle.asn1_rs.specs.Strings.{string_leaf, text_of, held_text};
 
 use crate::asn1_types::any::Any;
 use crate::kinds::in_hand::DerElement;
+use crate::kinds::leaf::{ConvertsLeaf, LeafType};
 use crate::kinds::writing::WritesOctets;
-use crate::kinds::{ElementKind, HasKind, LawfulConversion, LawfulElement, TaggedAs};
+use crate::kinds::{ElementKind, HasKind};
 use crate::laws::LawfulMember;
 use crate::laws::in_hand::text_in_hand;
-use crate::traits::{CheckDerConstraints, DerAutoDerive, FromAny};
 use asn1_headers::error::Error;
 use kinds::{Repertoire, StringKind, Utf8Kind};
 use std::alloc::Global;
@@ -129,55 +128,33 @@ impl<K: StringKind> TestValidCharset for RestrictedString<'_, K> {
     }
 }
 
-impl<K: StringKind> TaggedAs for RestrictedString<'_, K> {
+impl<K: StringKind> HasKind for RestrictedString<'_, K> {
+    type Kind = ElementKind;
+}
+
+impl<K: StringKind> LeafType for RestrictedString<'_, K> {
     type Number = K::Number;
-}
 
-impl<'a, K: StringKind> FromAny<'a> for RestrictedString<'a, K> {
-    type Error = Error;
+    ghost laws = { string_laws (K.Number.TAG).0 K.Repertoire.IsText K.small K.primitive
+        K.Repertoire.utf8 };
 
-    ghost any_gives = { StringGives (K.Number.TAG).0 K.Repertoire.IsText };
-
-    #[inline(always)]
-    fn try_from_any(_alloc: Global, any: Any<'a>) -> Result<RestrictedString<'a, K>, Error> {
-        any.as_string_of::<K>()
+    fn leaf_in_hand(&self) {
+        text_in_hand(self.as_str());
     }
-}
-
-impl<K: StringKind> CheckDerConstraints for RestrictedString<'_, K> {
-    ghost check_gives = { is_primitive };
 
     /// Refuses a constructed element with `ConstructUnexpected` (X.690 10.2).
-    fn check_constraints(any: &Any<'_>) -> Result<(), Error>
+    fn check_leaf(any: &Any<'_>) -> Result<(), Error>
         ensures { is_primitive (parts_of any.now) result }
     {
         any.header.assert_primitive()
     }
 }
 
-impl<K: StringKind> DerAutoDerive for RestrictedString<'_, K> {}
-
-impl<K: StringKind> HasKind for RestrictedString<'_, K> {
-    type Kind = ElementKind;
-}
-
-impl<K: StringKind> LawfulElement for RestrictedString<'_, K> {
-    ghost element = { leaf_element (string_leaf (K.Number.TAG).0 K.Repertoire.IsText) };
-
-    ghost lawful = { leaf_lawful _
-        (string_lawful (K.Number.TAG).0 K.Repertoire.IsText K.small K.primitive
-        K.Repertoire.utf8) };
-
-    ghost checked = { exact_check is_primitive is_primitive_is };
-
-    fn value_in_hand(&self) {
-        text_in_hand(self.as_str());
+impl<'a, K: StringKind> ConvertsLeaf<'a> for RestrictedString<'a, K> {
+    #[inline(always)]
+    fn convert_leaf(_alloc: Global, any: Any<'a>) -> Result<RestrictedString<'a, K>, Error> {
+        any.as_string_of::<K>()
     }
-}
-
-impl<'a, K: StringKind> LawfulConversion<'a> for RestrictedString<'a, K> {
-    ghost converts = { string_converts (K.Number.TAG).0 K.Repertoire.IsText K.small K.primitive
-        K.Repertoire.utf8 };
 }
 
 impl<K: StringKind> WritesOctets for RestrictedString<'_, K> {

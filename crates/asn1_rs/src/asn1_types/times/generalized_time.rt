@@ -2,20 +2,19 @@
 ghost use Rattle.std.specs.Prelude.{◌≡◌, Some};
 ghost use Rattle.x690.specs.Times.{generalized_time_shown, generalized_time_text};
 ghost use Rattle.asn1_rs.specs.Any.{parts_of};
-ghost use Rattle.asn1_rs.specs.Leaf.{LeafGives, leaf_element};
-ghost use Rattle.asn1_rs.specs.Laws.Leaf.{leaf_lawful, leaf_constraints, leaf_converts, refusing_written};
+ghost use Rattle.asn1_rs.specs.Leaf.{LeafGives};
+ghost use Rattle.asn1_rs.specs.Laws.Leaf.{leaf_laws, refusing_written};
 ghost use Rattle.asn1_rs.specs.Laws.Times.{generalized_time_lawful, generalized_time_accepted, times_equal};
-ghost use Rattle.asn1_rs.specs.Times.{generalized_time_leaf, generalized_time_number, generalized_time_constraints};
+ghost use Rattle.asn1_rs.specs.Times.{generalized_time_leaf};
 ghost use Rattle.asn1_rs.specs.Times.{GeneralizedTextGives, moment_of, generalized_time_refused, IsInvalidDateTime};
-ghost use Rattle.asn1_rs.specs.Traits.{OfParts};
 
 use super::{ASN1DateTime, no_time};
 use crate::asn1_types::any::Any;
 use crate::header::put_behind;
 use crate::kinds::writing::WritesElement;
-use crate::kinds::{ElementKind, HasKind, LawfulConversion, LawfulElement};
+use crate::kinds::leaf::{ConvertsLeaf, LeafType};
+use crate::kinds::{TagNumber, ElementKind, HasKind};
 use crate::laws::LawfulMember;
-use crate::traits::{CheckDerConstraints, DerAutoDerive, FromAny, Tagged};
 use asn1_headers::error::{DerConstraint, Error, SerializeError, SerializeResult};
 use asn1_headers::header::writing::put_header;
 use asn1_headers::tag::Tag;
@@ -85,29 +84,22 @@ impl<'a> Any<'a> {
     }
 }
 
-impl Tagged for GeneralizedTime {
-    const TAG: Tag = Tag::GeneralizedTime;
-
-    ghost TAG = { record { 0 = generalized_time_number } };
+impl HasKind for GeneralizedTime {
+    type Kind = ElementKind;
 }
 
-impl<'a> FromAny<'a> for GeneralizedTime {
-    type Error = Error;
+impl LeafType for GeneralizedTime {
+    type Number = TagNumber<24>;
 
-    ghost any_gives = { OfParts (LeafGives generalized_time_leaf) };
+    ghost laws = { leaf_laws generalized_time_leaf generalized_time_lawful };
 
-    #[inline(always)]
-    fn try_from_any(_alloc: Global, any: Any<'a>) -> Result<GeneralizedTime, Error> {
-        any.as_generalizedtime()
+    fn leaf_in_hand(&self) {
+        self.0.fields_in_hand();
     }
-}
-
-impl CheckDerConstraints for GeneralizedTime {
-    ghost check_gives = { generalized_time_constraints };
 
     /// Refuses contents octets that do not end in `Z` (X.690 11.7.1), then those with a comma (11.7.4), with
     /// `DerConstraintFailed`.
-    fn check_constraints(any: &Any<'_>) -> Result<(), Error> {
+    fn check_leaf(any: &Any<'_>) -> Result<(), Error> {
         if any.content.last() != Some(&b'Z') {
             return Err(Error::DerConstraintFailed(DerConstraint::MissingTimeZone));
         }
@@ -118,26 +110,11 @@ impl CheckDerConstraints for GeneralizedTime {
     }
 }
 
-impl DerAutoDerive for GeneralizedTime {}
-
-impl HasKind for GeneralizedTime {
-    type Kind = ElementKind;
-}
-
-impl LawfulElement for GeneralizedTime {
-    ghost element = { leaf_element generalized_time_leaf };
-
-    ghost lawful = { leaf_lawful generalized_time_leaf generalized_time_lawful };
-
-    ghost checked = { leaf_constraints generalized_time_leaf generalized_time_lawful };
-
-    fn value_in_hand(&self) {
-        self.0.fields_in_hand();
+impl<'a> ConvertsLeaf<'a> for GeneralizedTime {
+    #[inline(always)]
+    fn convert_leaf(_alloc: Global, any: Any<'a>) -> Result<GeneralizedTime, Error> {
+        any.as_generalizedtime()
     }
-}
-
-impl<'a> LawfulConversion<'a> for GeneralizedTime {
-    ghost converts = { leaf_converts generalized_time_leaf generalized_time_lawful };
 }
 
 impl WritesElement for GeneralizedTime {

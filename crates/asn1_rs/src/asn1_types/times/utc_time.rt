@@ -3,19 +3,18 @@ ghost use Rattle.std.specs.Prelude.{◌≡◌, Some};
 ghost use Rattle.x690.specs.Times.{utc_time_shown, utc_time_text};
 ghost use Rattle.asn1_rs.specs.Any.{parts_of};
 ghost use Rattle.asn1_rs.specs.Checks.{nothing};
-ghost use Rattle.asn1_rs.specs.Leaf.{LeafGives, leaf_element};
-ghost use Rattle.asn1_rs.specs.Laws.Leaf.{leaf_lawful, leaf_constraints, leaf_converts, refusing_written};
+ghost use Rattle.asn1_rs.specs.Leaf.{LeafGives};
+ghost use Rattle.asn1_rs.specs.Laws.Leaf.{leaf_laws, refusing_written};
 ghost use Rattle.asn1_rs.specs.Laws.Times.{utc_time_lawful, utc_time_accepted, times_equal};
-ghost use Rattle.asn1_rs.specs.Times.{utc_time_leaf, utc_time_number, UtcTextGives, moment_of, utc_time_refused};
+ghost use Rattle.asn1_rs.specs.Times.{utc_time_leaf, UtcTextGives, moment_of, utc_time_refused};
 ghost use Rattle.asn1_rs.specs.Times.{IsInvalidDateTime};
-ghost use Rattle.asn1_rs.specs.Traits.{OfParts};
 
 use super::{ASN1DateTime, no_time};
 use crate::asn1_types::any::Any;
 use crate::kinds::writing::WritesElement;
-use crate::kinds::{ElementKind, HasKind, LawfulConversion, LawfulElement};
+use crate::kinds::leaf::{ConvertsLeaf, LeafType};
+use crate::kinds::{TagNumber, ElementKind, HasKind};
 use crate::laws::LawfulMember;
-use crate::traits::{CheckDerConstraints, DerAutoDerive, FromAny, Tagged};
 use asn1_headers::error::{Error, SerializeError, SerializeResult};
 use asn1_headers::tag::Tag;
 use asn1_headers::writer::{DerWrite, put_all};
@@ -82,52 +81,30 @@ impl<'a> Any<'a> {
     }
 }
 
-impl Tagged for UtcTime {
-    const TAG: Tag = Tag::UtcTime;
-
-    ghost TAG = { record { 0 = utc_time_number } };
-}
-
-impl<'a> FromAny<'a> for UtcTime {
-    type Error = Error;
-
-    ghost any_gives = { OfParts (LeafGives utc_time_leaf) };
-
-    #[inline(always)]
-    fn try_from_any(_alloc: Global, any: Any<'a>) -> Result<UtcTime, Error> {
-        any.as_utctime()
-    }
-}
-
-impl CheckDerConstraints for UtcTime {
-    ghost check_gives = { nothing };
-
-    /// Refuses nothing.
-    fn check_constraints(_any: &Any<'_>) -> Result<(), Error> {
-        Ok(())
-    }
-}
-
-impl DerAutoDerive for UtcTime {}
-
 impl HasKind for UtcTime {
     type Kind = ElementKind;
 }
 
-impl LawfulElement for UtcTime {
-    ghost element = { leaf_element utc_time_leaf };
+impl LeafType for UtcTime {
+    type Number = TagNumber<23>;
 
-    ghost lawful = { leaf_lawful utc_time_leaf utc_time_lawful };
+    ghost laws = { leaf_laws utc_time_leaf utc_time_lawful };
 
-    ghost checked = { leaf_constraints utc_time_leaf utc_time_lawful };
-
-    fn value_in_hand(&self) {
+    fn leaf_in_hand(&self) {
         self.0.fields_in_hand();
+    }
+
+    /// Refuses nothing.
+    fn check_leaf(_any: &Any<'_>) -> Result<(), Error> {
+        Ok(())
     }
 }
 
-impl<'a> LawfulConversion<'a> for UtcTime {
-    ghost converts = { leaf_converts utc_time_leaf utc_time_lawful };
+impl<'a> ConvertsLeaf<'a> for UtcTime {
+    #[inline(always)]
+    fn convert_leaf(_alloc: Global, any: Any<'a>) -> Result<UtcTime, Error> {
+        any.as_utctime()
+    }
 }
 
 impl WritesElement for UtcTime {

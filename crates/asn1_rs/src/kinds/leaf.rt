@@ -1,0 +1,126 @@
+//! How leaf types come by the traits of readers and laws: from what they say once.
+ghost use Rattle.std.specs.Prelude.{◌≡◌, Result};
+ghost use Rattle.x690.specs.Elements.{Parts};
+ghost use Rattle.asn1_headers.specs.declared.error.Error.{Error};
+ghost use Rattle.asn1_rs.specs.declared.asn1_types.any.Any.{Any};
+ghost use Rattle.asn1_rs.specs.Any.{parts_of};
+ghost use Rattle.asn1_rs.specs.LeafLaws.{LeafLaws};
+
+use crate::asn1_types::any::Any;
+use crate::kinds::{ElementKind, HasKind, LawfulConversion, LawfulElement, TaggedAs};
+use crate::traits::{CheckDerConstraints, DerAutoDerive, FromAny, Tagged};
+use asn1_headers::error::Error;
+use std::alloc::Global;
+
+/// A type that is read as one element, checked and converted, and says once what it is.
+///
+/// So it has [`Tagged`], [`CheckDerConstraints`], [`DerAutoDerive`] and [`LawfulElement`].
+pub trait LeafType: HasKind<Kind = ElementKind> + Sized {
+    /// A type that has its tag number.
+    type Number: Tagged;
+
+    /// Its elements and what its calls may answer, with the laws of these.
+    ghost laws: { LeafLaws Self };
+
+    /// States of an item in hand that its value is one of the type's.
+    fn leaf_in_hand(&self)
+        ensures { laws.element.IsValue (laws.element.value self.now) };
+
+    /// `check_constraints`.
+    fn check_leaf(any: &Any<'_>) -> Result<(), Error>
+        ensures { laws.check (parts_of any.now) result };
+}
+
+/// The conversion of an element.
+///
+/// So it has [`FromAny`] and [`LawfulConversion`].
+pub trait ConvertsLeaf<'a>: LeafType {
+    /// `try_from_any`.
+    fn convert_leaf(alloc: Global, any: Any<'a>) -> Result<Self, Error>
+        ensures { Self.laws.gives any.entry result };
+}
+
+/// The conversion to a type of this kind.
+pub trait FromAnyBy<'a, K>: Sized {
+    /// Why an element is refused.
+    type Refusal;
+
+    /// What the conversion may answer to this element.
+    ghost gives_by_kind: { Any → Result Self Self.Refusal → Type 0 };
+
+    /// `try_from_any`.
+    fn convert_by_kind(alloc: Global, any: Any<'a>) -> Result<Self, Self::Refusal>
+        ensures { gives_by_kind any.entry result };
+}
+
+/// The check of a type of this kind.
+pub trait CheckBy<K> {
+    /// What the check may answer at an element of these parts.
+    ghost check_by_kind: { Parts → Result (Unit {0}) Error → Type 0 };
+
+    /// `check_constraints`.
+    fn check_this_kind(any: &Any<'_>) -> Result<(), Error>
+        ensures { check_by_kind (parts_of any.now) result };
+}
+
+impl<'a, T: HasKind + FromAnyBy<'a, T::Kind>> FromAny<'a> for T {
+    type Error = <T as FromAnyBy<'a, T::Kind>>::Refusal;
+
+    ghost any_gives = { T.gives_by_kind };
+
+    #[inline(always)]
+    fn try_from_any(alloc: Global, any: Any<'a>) -> Result<T, Self::Error> {
+        T::convert_by_kind(alloc, any)
+    }
+}
+
+impl<T: HasKind + CheckBy<T::Kind>> CheckDerConstraints for T {
+    ghost check_gives = { T.check_by_kind };
+
+    #[inline(always)]
+    fn check_constraints(any: &Any<'_>) -> Result<(), Error> {
+        T::check_this_kind(any)
+    }
+}
+
+impl<'a, T: ConvertsLeaf<'a>> FromAnyBy<'a, ElementKind> for T {
+    type Refusal = Error;
+
+    ghost gives_by_kind = { T.laws.gives };
+
+    #[inline(always)]
+    fn convert_by_kind(alloc: Global, any: Any<'a>) -> Result<T, Error> {
+        T::convert_leaf(alloc, any)
+    }
+}
+
+impl<T: LeafType> CheckBy<ElementKind> for T {
+    ghost check_by_kind = { T.laws.check };
+
+    #[inline(always)]
+    fn check_this_kind(any: &Any<'_>) -> Result<(), Error> {
+        T::check_leaf(any)
+    }
+}
+
+impl<T: LeafType> DerAutoDerive for T {}
+
+impl<T: LeafType> TaggedAs for T {
+    type Number = T::Number;
+}
+
+impl<T: LeafType> LawfulElement for T {
+    ghost element = { T.laws.element };
+
+    ghost lawful = { T.laws.lawful };
+
+    ghost checked = { T.laws.checked };
+
+    fn value_in_hand(&self) {
+        self.leaf_in_hand();
+    }
+}
+
+impl<'a, T: ConvertsLeaf<'a>> LawfulConversion<'a> for T {
+    ghost converts = { T.laws.converts };
+}
