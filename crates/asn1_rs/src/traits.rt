@@ -7,11 +7,10 @@ ghost use Rattle.asn1_headers.specs.declared.error.Err.{Err as Refusal};
 ghost use Rattle.asn1_headers.specs.declared.error.Error.{Error};
 ghost use Rattle.asn1_headers.specs.Answers.{seen};
 ghost use Rattle.asn1_rs.specs.Any.{parts_of};
-ghost use Rattle.asn1_rs.specs.Traits.{BerGives, DerGives, HasConverted};
+ghost use Rattle.asn1_rs.specs.Traits.{BerGives, HasConverted};
 
 use crate::asn1_types::any::Any;
 use crate::ber::element_by_ber;
-use crate::der::element_by_der;
 use asn1_headers::content::{BerParser, DerParser};
 use asn1_headers::error::{Err, Error, ParseResult};
 use asn1_headers::tag::Tag;
@@ -154,28 +153,6 @@ pub(crate) fn converted<'a, T, E: From<Error>>(
     match answer {
         Ok(read) => Ok(read),
         Err(e) => Err(Err::convert(e)),
-    }
-}
-
-/// Reads an element by DER, checks its constraints, and converts it, in this order; what refuses first names the
-/// refusal.
-impl<'a, T, E> FromDer<'a, E> for T
-where
-    T: FromAny<'a, Error = E> + CheckDerConstraints + DerAutoDerive,
-    E: From<Error>,
-{
-    ghost der_gives = { DerGives T.check_gives T.any_gives E.from_gives };
-
-    #[inline(always)]
-    fn from_der(alloc: Global, bytes: &'a [u8]) -> ParseResult<'a, T, E> {
-        let (rest, any) = converted(element_by_der(bytes))?;
-        if let Err(e) = T::check_constraints(&any) {
-            return Err(Err::Error(E::from(e)));
-        }
-        match T::try_from_any(alloc, any) {
-            Ok(value) => Ok((rest, value)),
-            Err(e) => Err(Err::Error(e)),
-        }
     }
 }
 

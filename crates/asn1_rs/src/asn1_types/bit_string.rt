@@ -10,8 +10,8 @@ ghost use Rattle.asn1_rs.specs.Laws.Leaf.{lent_laws, leaf_written};
 ghost use Rattle.asn1_headers.specs.Writer.{Wrote, MayRefuse};
 
 use crate::asn1_types::any::Any;
-use crate::kinds::writing::WritesElement;
 use crate::kinds::leaf::{ConvertsLeaf, LeafType};
+use crate::kinds::writing::WritesElement;
 use crate::kinds::{ElementKind, HasKind, TagNumber};
 use crate::laws::LawfulMember;
 use crate::laws::in_hand::octets_in_hand;

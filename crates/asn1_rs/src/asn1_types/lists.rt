@@ -14,7 +14,6 @@ ghost use Rattle.asn1_rs.specs.Lists.{ListCheckGives, FirstChecked, GivesItems, 
 ghost use Rattle.asn1_rs.specs.Lists.{ListBody, ListOf, MadeOf, listed};
 ghost use Rattle.asn1_headers.specs.declared.error.SerializeError.{SerializeError};
 ghost use Rattle.asn1_headers.specs.declared.error.Error.{Error};
-ghost use Rattle.asn1_headers.specs.declared.error.SerializeError.TheVariants as serialize_errors;
 ghost use Rattle.asn1_headers.specs.declared.error.Error.TheVariants as errors;
 ghost use Rattle.asn1_headers.specs.Prepended.{Prepended};
 ghost use Rattle.asn1_headers.specs.Writer.{Wrote};
@@ -27,7 +26,7 @@ use crate::asn1_types::sequence::iterator::{ReadsItems, ReadsWords, SequenceIter
 use crate::der::element_by_der;
 use crate::header::add_counts;
 use crate::kinds::collections::{SequenceKind, SetKind};
-use crate::kinds::leaf::{CheckBy, FromAnyBy};
+use crate::kinds::reading::{AnyForm, CheckBy, ConstructedForm, FromAnyBy, FromDerBy, ListReader};
 use crate::laws::in_hand::States;
 use crate::to_der::ToDer;
 use crate::traits::{CheckDerConstraints, FromBer, FromDer, Tagged, converted};
@@ -35,7 +34,7 @@ use asn1_headers::buffer::DerBuffer;
 use asn1_headers::content::{BerParser, DerParser};
 use asn1_headers::error::{Err, Error, ParseResult, SerializeError, SerializeResult, without_io};
 use asn1_headers::tag::Tag;
-use asn1_headers::writer::{DerWrite, Told, add_written};
+use asn1_headers::writer::{DerWrite, Told};
 use std::alloc::{AllocError, Global};
 use std::io;
 use std::io::Write;
@@ -259,6 +258,34 @@ where
     match constructed_list_of_element::<L, T, E>(alloc, &any) {
         Ok(list) => Ok((rest, list)),
         Err(e) => Err(Err::Error(e)),
+    }
+}
+
+impl<'a, L, T, E> FromDerBy<'a, ListReader<AnyForm>, E> for L
+where
+    L: FromItems<Item = T>,
+    T: FromDer<'a, E> + Drop,
+    E: From<Error>,
+{
+    ghost gives_by_reader = { DerGives PassesAll
+        (OfParts (ListReads (L.TAG).0 L.holds T.der_gives E.from_gives)) E.from_gives };
+
+    fn read_by_der(alloc: Global, bytes: &'a [u8]) -> ParseResult<'a, L, E> {
+        list_by_der::<L, T, E>(alloc, bytes)
+    }
+}
+
+impl<'a, L, T, E> FromDerBy<'a, ListReader<ConstructedForm>, E> for L
+where
+    L: FromItems<Item = T>,
+    T: FromDer<'a, E> + Drop,
+    E: From<Error>,
+{
+    ghost gives_by_reader = { DerGives PassesAll
+        (OfParts (ListTakes (L.TAG).0 L.holds T.der_gives E.from_gives)) E.from_gives };
+
+    fn read_by_der(alloc: Global, bytes: &'a [u8]) -> ParseResult<'a, L, E> {
+        constructed_list_by_der::<L, T, E>(alloc, bytes)
     }
 }
 

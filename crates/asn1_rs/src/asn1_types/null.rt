@@ -10,9 +10,9 @@ ghost use Rattle.asn1_rs.specs.Laws.Null.{null_lawful, unit_lawful};
 
 use crate::asn1_types::any::Any;
 use crate::kinds::in_hand::DerElement;
-use crate::kinds::writing::WritesOctets;
 use crate::kinds::leaf::{ConvertsLeaf, LeafType};
-use crate::kinds::{TagNumber, ElementKind, HasKind};
+use crate::kinds::writing::WritesOctets;
+use crate::kinds::{ElementKind, HasKind, TagNumber};
 use crate::laws::LawfulMember;
 use asn1_headers::error::Error;
 use asn1_headers::tag::Tag;

@@ -10,8 +10,8 @@ ghost use Rattle.asn1_rs.specs.Texts.{lent_text_leaf, owned_text_leaf};
 
 use crate::asn1_types::any::Any;
 use crate::kinds::in_hand::DerElement;
-use crate::kinds::writing::WritesOctets;
 use crate::kinds::leaf::{ConvertsLeaf, LeafType};
+use crate::kinds::writing::WritesOctets;
 use crate::kinds::{ElementKind, HasKind, TagNumber};
 use crate::laws::LawfulMember;
 use crate::laws::in_hand::text_in_hand;

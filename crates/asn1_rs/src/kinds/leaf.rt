@@ -1,12 +1,12 @@
 //! How leaf types come by the traits of readers and laws: from what they say once.
 ghost use Rattle.std.specs.Prelude.{◌≡◌, Result};
-ghost use Rattle.x690.specs.Elements.{Parts};
 ghost use Rattle.asn1_headers.specs.declared.error.Error.{Error};
 ghost use Rattle.asn1_rs.specs.declared.asn1_types.any.Any.{Any};
 ghost use Rattle.asn1_rs.specs.Any.{parts_of};
 ghost use Rattle.asn1_rs.specs.LeafLaws.{LeafLaws};
 
 use crate::asn1_types::any::Any;
+use crate::kinds::reading::{CheckBy, FromAnyBy};
 use crate::kinds::{ElementKind, HasKind, LawfulConversion, LawfulElement, TaggedAs};
 use crate::traits::{CheckDerConstraints, DerAutoDerive, FromAny, Tagged};
 use asn1_headers::error::Error;
@@ -38,49 +38,6 @@ pub trait ConvertsLeaf<'a>: LeafType {
     /// `try_from_any`.
     fn convert_leaf(alloc: Global, any: Any<'a>) -> Result<Self, Error>
         ensures { Self.laws.gives any.entry result };
-}
-
-/// The conversion to a type of this kind.
-pub trait FromAnyBy<'a, K>: Sized {
-    /// Why an element is refused.
-    type Refusal;
-
-    /// What the conversion may answer to this element.
-    ghost gives_by_kind: { Any → Result Self Self.Refusal → Type 0 };
-
-    /// `try_from_any`.
-    fn convert_by_kind(alloc: Global, any: Any<'a>) -> Result<Self, Self::Refusal>
-        ensures { gives_by_kind any.entry result };
-}
-
-/// The check of a type of this kind.
-pub trait CheckBy<K> {
-    /// What the check may answer at an element of these parts.
-    ghost check_by_kind: { Parts → Result (Unit {0}) Error → Type 0 };
-
-    /// `check_constraints`.
-    fn check_this_kind(any: &Any<'_>) -> Result<(), Error>
-        ensures { check_by_kind (parts_of any.now) result };
-}
-
-impl<'a, T: HasKind + FromAnyBy<'a, T::Kind>> FromAny<'a> for T {
-    type Error = <T as FromAnyBy<'a, T::Kind>>::Refusal;
-
-    ghost any_gives = { T.gives_by_kind };
-
-    #[inline(always)]
-    fn try_from_any(alloc: Global, any: Any<'a>) -> Result<T, Self::Error> {
-        T::convert_by_kind(alloc, any)
-    }
-}
-
-impl<T: HasKind + CheckBy<T::Kind>> CheckDerConstraints for T {
-    ghost check_gives = { T.check_by_kind };
-
-    #[inline(always)]
-    fn check_constraints(any: &Any<'_>) -> Result<(), Error> {
-        T::check_this_kind(any)
-    }
 }
 
 impl<'a, T: ConvertsLeaf<'a>> FromAnyBy<'a, ElementKind> for T {

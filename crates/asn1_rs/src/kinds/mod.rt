@@ -9,13 +9,14 @@ pub(crate) mod collections;
 pub(crate) mod fields;
 pub(crate) mod in_hand;
 pub(crate) mod leaf;
+pub(crate) mod reading;
 pub(crate) mod writing;
 
 ghost use Rattle.std.specs.Prelude.{◌≡◌};
 ghost use Rattle.asn1_headers.specs.declared.tag.Tag.{Tag};
 ghost use Rattle.asn1_rs.specs.Grammar.Item.{ItemGrammar, IsLawfulItem, by_held};
 ghost use Rattle.asn1_rs.specs.Kinds.{ElementGrammar, IsLawfulElement, IsExactCheck, IsExactConversion, item_grammar};
-ghost use Rattle.asn1_rs.specs.Laws.Kinds.{lawful_item, lawful_by_held, other_error};
+ghost use Rattle.asn1_rs.specs.Laws.Kinds.{lawful_item, lawful_by_held};
 
 use crate::laws::{Grammar, LawfulAuto, LawfulBody, LawfulCheck, LawfulItem, LawfulMember};
 use crate::traits::{CheckDerConstraints, DerAutoDerive, FromAny, Tagged};
@@ -190,16 +191,6 @@ impl<T: HasKind + LawfulItemBy<T::Kind>> LawfulItem for T {
     fn has_value(&self) {
         self.value_by_kind();
     }
-}
-
-impl<'a, T: LawfulConversion<'a>> LawfulBody<'a, Error> for T {
-    ghost body_exact = { T.converts.exact };
-
-    ghost body_no_memory = { λ none. other_error T.any_gives (T.converts.asks_no_memory none) };
-}
-
-impl<T: LawfulElement> LawfulCheck for T {
-    ghost checks = { T.checked };
 }
 
 impl<T: LawfulElement> LawfulAuto for T {

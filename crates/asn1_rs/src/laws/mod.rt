@@ -16,7 +16,7 @@ ghost use Rattle.x690.specs.Identifiers.{Identifier, IsIdentifier, IsCutIdentifi
 ghost use Rattle.x690.specs.Lengths.{LengthForm};
 ghost use Rattle.x690.specs.Rules.{Rule};
 ghost use Rattle.x690.specs.Elements.{Parts, IsHeader, IsDerElement};
-ghost use Rattle.x690.specs.Faults.{Breach, DerElementFault};
+ghost use Rattle.x690.specs.Faults.{Breach};
 ghost use Rattle.x690.specs.Nested.{IsElement, ElementFault};
 ghost use Rattle.asn1_headers.specs.declared.error.Err.{Err as Refusal};
 ghost use Rattle.asn1_headers.specs.declared.error.Err.TheVariants.{Error as refused};
@@ -34,14 +34,14 @@ ghost use Rattle.asn1_headers.specs.Error.{HeldIn};
 ghost use Rattle.asn1_headers.specs.Writer.{Wrote, MayRefuse, IsMemoryOrLength};
 ghost use Rattle.asn1_headers.specs.declared.header.Header.{Header};
 ghost use Rattle.asn1_rs.specs.declared.asn1_types.any.Any.{Any};
-ghost use Rattle.asn1_headers.specs.Header.Reading.{refusal_of, der_breach, ber_breach, HeaderGives, HeaderLasts};
+ghost use Rattle.asn1_headers.specs.Header.Reading.{refusal_of, ber_breach, HeaderGives, HeaderLasts};
 ghost use Rattle.asn1_headers.specs.Header.{raw_tag_of};
 ghost use Rattle.asn1_rs.specs.Any.{parts_of, IsTheElement, IsDefiniteOr, DerElementGives, BerElementGives};
 ghost use Rattle.asn1_rs.specs.Any.{RefusalLasts, ElementLasts};
 ghost use Rattle.asn1_headers.specs.Content.{ContentStays};
-ghost use Rattle.asn1_rs.specs.Laws.Readers.{element_exact, element_no_memory, der_breach_no_memory};
+ghost use Rattle.asn1_rs.specs.Laws.Readers.{element_exact, element_no_memory};
 ghost use Rattle.asn1_rs.specs.Laws.Readers.{ber_breach_no_memory};
-ghost use Rattle.asn1_rs.specs.Laws.Readers.{der_elements, ber_elements, passes_all, all_pass};
+ghost use Rattle.asn1_rs.specs.Laws.Readers.{ber_elements, passes_all, all_pass};
 ghost use Rattle.asn1_rs.specs.ToDer.{whole_allocates, whole_octets};
 
 use crate::to_der::ToDer;
@@ -162,23 +162,6 @@ pub trait LawfulMember: LawfulItem + Eq {
     /// Equality of items is that of their values.
     ghost same: { (x y : Self) →
         IsTrue (Self.eq x y) ↔ (Self.grammar.value x ≡ Self.grammar.value y) };
-}
-
-impl<'a, T, E: From<Error>> LawfulDer<'a, E> for T
-where
-    T: LawfulBody<'a, E> + LawfulAuto,
-{
-    ghost der_exact = { λ input answer octets.
-        element_exact IsDerElement DerElementFault IsCutIdentifier der_elements
-        der_breach
-        T.check_gives T.any_gives E.from_gives T.grammar.Check T.grammar.Body T.grammar.value
-        T.grammar.allocates T.grammar.Der T.checks.exact T.body_exact T.der_split T.der_join
-        input answer };
-
-    ghost der_no_memory = { λ none.
-        element_no_memory IsDerElement DerElementFault
-        der_breach der_breach_no_memory
-        T.check_gives T.any_gives E.from_gives T.checks.asks_no_memory (T.body_no_memory none) };
 }
 
 impl<'a, T, E: From<Error>> LawfulBer<'a, E> for T

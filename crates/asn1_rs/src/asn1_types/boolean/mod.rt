@@ -13,8 +13,8 @@ ghost use Rattle.asn1_headers.specs.Writer.{Wrote, MayRefuse};
 
 use crate::asn1_types::any::Any;
 use crate::kinds::in_hand::DerElement;
-use crate::kinds::writing::WritesElement;
 use crate::kinds::leaf::{ConvertsLeaf, LeafType};
+use crate::kinds::writing::WritesElement;
 use crate::kinds::{ElementKind, HasKind, TagNumber};
 use crate::laws::LawfulMember;
 use asn1_headers::error::{DerConstraint, Error, SerializeResult};

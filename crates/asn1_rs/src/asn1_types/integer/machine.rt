@@ -5,7 +5,9 @@ ghost use Rattle.asn1_rs.specs.Integer.Machine.{signed_machine};
 ghost use Rattle.asn1_rs.specs.Laws.Integer.Machine.{unsigned_lawful, signed_lawful, machine_laws};
 
 use crate::asn1_types::any::Any;
-use crate::asn1_types::integer::{assert_integer, check_integer, signed_from_content, unsigned_from_content};
+use crate::asn1_types::integer::{
+    assert_integer, check_integer, signed_from_content, unsigned_from_content,
+};
 use crate::kinds::in_hand::DerElement;
 use crate::kinds::leaf::{ConvertsLeaf, LeafType};
 use crate::kinds::{ElementKind, HasKind, TagNumber};

@@ -21,12 +21,14 @@ ghost use Rattle.asn1_rs.specs.Lists.{ItemsGive, listed};
 ghost use Rattle.asn1_rs.specs.Sequence.Iterator.{octets_left};
 
 use crate::asn1_types::any::Any;
-use crate::asn1_types::kept::{ber_list_and_then, copies_by, der_list_and_then, items_lent, joined_encodings, parse_lent};
+use crate::asn1_types::kept::{
+    ber_list_and_then, copies_by, der_list_and_then, items_lent, joined_encodings, parse_lent,
+};
 use crate::asn1_types::lists::items_by;
 use crate::asn1_types::sequence::iterator::SequenceIterator;
 use crate::kinds::in_hand::DerElement;
-use crate::kinds::writing::WritesOctets;
 use crate::kinds::leaf::{ConvertsLeaf, LeafType};
+use crate::kinds::writing::WritesOctets;
 use crate::kinds::{ElementKind, HasKind, TagNumber};
 use crate::laws::in_hand::octets_in_hand;
 use crate::to_der::ToDer;

@@ -148,12 +148,12 @@ impl LeafType for Oid<'_> {
     type Number = TagNumber<6>;
 
     ghost laws = { record {
-        element = oid_element;
-        gives = OidGives;
-        check = oid_constraints;
-        lawful = oid_lawful;
-        checked = oid_checked;
-        converts = oid_converts;
+      element = oid_element;
+      gives = OidGives;
+      check = oid_constraints;
+      lawful = oid_lawful;
+      checked = oid_checked;
+      converts = oid_converts;
     } };
 
     fn leaf_in_hand(&self) {

@@ -4,7 +4,7 @@ ghost use Rattle.std.specs.Borrow.{sem};
 ghost use Rattle.std.specs.Iterator.{IsFiniteIterable, Drains};
 ghost use Rattle.std.proofs.Common.{lit<};
 ghost use Rattle.asn1_headers.specs.declared.error.Error.TheVariants as errors;
-ghost use Rattle.asn1_rs.specs.Traits.{PassesAll, DerGives, OfParts};
+ghost use Rattle.asn1_rs.specs.Traits.{OfParts};
 ghost use Rattle.asn1_headers.specs.Ber.{EndsWithin};
 ghost use Rattle.x690.specs.Identifiers.{IsCutIdentifier};
 ghost use Rattle.asn1_rs.specs.Lists.{ListOf, ListReads, PushesItem};
@@ -14,15 +14,18 @@ ghost use Rattle.asn1_rs.specs.Laws.Lists.{takes_some, list_takes, list_reads, l
 ghost use Rattle.asn1_rs.specs.Laws.Words.{ber_one};
 ghost use Rattle.asn1_rs.specs.Grammar.Item.{ber_words};
 
-use crate::asn1_types::lists::{FromItems, Listed, items_from_iter, list_by_der, push_item};
+use crate::asn1_types::lists::{FromItems, Listed, items_from_iter, push_item};
 use crate::kinds::HasKind;
 use crate::kinds::collections::{SequenceKind, WritesInOrder};
+use crate::kinds::reading::{
+    AnyForm, HasReader, LawfulBodyBy, LawfulCheckBy, LawfulDerBy, ListReader,
+};
 use crate::laws::in_hand::States;
-use crate::laws::{LawfulBer, LawfulBody, LawfulCheck, LawfulDer};
+use crate::laws::{LawfulBer, LawfulCheck, LawfulDer};
 use crate::to_der::ToDer;
-use crate::traits::{FromDer, Tagged};
+use crate::traits::Tagged;
 use asn1_headers::buffer::DerBuffer;
-use asn1_headers::error::{Error, ParseResult, SerializeResult};
+use asn1_headers::error::{Error, SerializeResult};
 use asn1_headers::tag::Tag;
 use asn1_headers::writer::DerWrite;
 use std::alloc::{AllocError, Global};
@@ -121,13 +124,8 @@ impl<T> FromItems for SequenceOf<T> {
     }
 }
 
-impl<'a, T: FromDer<'a, E> + Drop, E: From<Error>> FromDer<'a, E> for SequenceOf<T> {
-    ghost der_gives = { DerGives PassesAll
-        (OfParts (ListReads 16 IsSequenceOf T.der_gives E.from_gives)) E.from_gives };
-
-    fn from_der(alloc: Global, bytes: &'a [u8]) -> ParseResult<'a, SequenceOf<T>, E> {
-        list_by_der::<SequenceOf<T>, T, E>(alloc, bytes)
-    }
+impl<T> HasReader for SequenceOf<T> {
+    type Reader = ListReader<AnyForm>;
 }
 
 impl<T> HasKind for SequenceOf<T> {
@@ -169,16 +167,17 @@ impl<T> WritesInOrder for SequenceOf<T> {
     }
 }
 
-impl<'a, T: LawfulBer<'a, Error> + Drop> LawfulBody<'a, Error> for SequenceOf<T> {
-    ghost body_exact = { list_takes 16 IsSequenceOf Self.grammar.value T.ber_gives
+impl<'a, T: LawfulBer<'a, Error> + Drop> LawfulBodyBy<'a, SequenceKind, Error> for SequenceOf<T> {
+    ghost exact_by_kind = { list_takes 16 IsSequenceOf Self.grammar.value T.ber_gives
         (λ x y. y ≡ x) (ber_words T.grammar) T.grammar.value T.grammar.allocates EndsWithin
         (sequence_values T.grammar.value) (ber_one T.grammar T.lawful_item) T.ber_exact };
 
-    ghost body_no_memory = { λ none p e g. takes_some none };
+    ghost no_memory_by_kind = { λ none p e g. takes_some none };
 }
 
-impl<'a, T: LawfulDer<'a, E> + Drop, E: From<Error>> LawfulDer<'a, E> for SequenceOf<T> {
-    ghost der_exact = { λ input answer octets.
+impl<'a, T: LawfulDer<'a, E> + Drop, E: From<Error>> LawfulDerBy<'a, ListReader<AnyForm>, E>
+    for SequenceOf<T> {
+    ghost exact_by_reader = { λ input answer octets.
         unchecked_exact (OfParts (ListReads 16 IsSequenceOf T.der_gives E.from_gives)) E.from_gives
         (ListOf 16 T.grammar.Der) Self.grammar.value true
         (list_reads 16 IsSequenceOf Self.grammar.value T.der_gives E.from_gives T.grammar.Der
@@ -186,9 +185,9 @@ impl<'a, T: LawfulDer<'a, E> + Drop, E: From<Error>> LawfulDer<'a, E> for Sequen
         T.lawful_item.der_one T.der_exact)
         input answer };
 
-    ghost der_no_memory = { λ none input answer g. takes_some none };
+    ghost no_memory_by_reader = { λ none input answer g. takes_some none };
 }
 
-impl<T: LawfulCheck> LawfulCheck for SequenceOf<T> {
-    ghost checks = { list_checks 16 T.check_gives T.grammar.Check T.checks };
+impl<T: LawfulCheck> LawfulCheckBy<SequenceKind> for SequenceOf<T> {
+    ghost checks_by_kind = { list_checks 16 T.check_gives T.grammar.Check T.checks };
 }

@@ -1,7 +1,7 @@
 //! Vectors as sequences of items (X.690 8.10).
 ghost use Rattle.std.specs.Prelude.{◌≡◌, true, MatchResult};
 ghost use Rattle.std.proofs.Common.{lit<};
-ghost use Rattle.asn1_rs.specs.Traits.{PassesAll, DerGives, OfParts};
+ghost use Rattle.asn1_rs.specs.Traits.{OfParts};
 ghost use Rattle.asn1_headers.specs.Ber.{EndsWithin};
 ghost use Rattle.x690.specs.Identifiers.{IsCutIdentifier};
 ghost use Rattle.asn1_rs.specs.Lists.{ListOf, ListReads, has_items};
@@ -11,16 +11,19 @@ ghost use Rattle.asn1_rs.specs.Laws.Words.{ber_one};
 ghost use Rattle.asn1_rs.specs.Grammar.Item.{ber_words};
 
 use crate::asn1_types::lists::{
-    FromItems, Listed, count_items, list_by_der, prepend_items, state_items, write_items,
+    FromItems, Listed, count_items, prepend_items, state_items, write_items,
 };
 use crate::kinds::HasKind;
 use crate::kinds::collections::{SequenceKind, WritesInOrder};
+use crate::kinds::reading::{
+    AnyForm, HasReader, LawfulBodyBy, LawfulCheckBy, LawfulDerBy, ListReader,
+};
 use crate::laws::in_hand::States;
-use crate::laws::{LawfulBer, LawfulBody, LawfulCheck, LawfulDer, LawfulMember};
+use crate::laws::{LawfulBer, LawfulCheck, LawfulDer, LawfulMember};
 use crate::to_der::ToDer;
-use crate::traits::{FromDer, Tagged};
+use crate::traits::Tagged;
 use asn1_headers::buffer::DerBuffer;
-use asn1_headers::error::{Error, ParseResult, SerializeResult};
+use asn1_headers::error::{Error, SerializeResult};
 use asn1_headers::tag::Tag;
 use asn1_headers::writer::DerWrite;
 use std::alloc::{AllocError, Global};
@@ -45,13 +48,8 @@ impl<T> FromItems for Vec<T> {
     }
 }
 
-impl<'a, T: FromDer<'a, E> + Drop, E: From<Error>> FromDer<'a, E> for Vec<T> {
-    ghost der_gives = { DerGives PassesAll
-        (OfParts (ListReads 16 has_items T.der_gives E.from_gives)) E.from_gives };
-
-    fn from_der(alloc: Global, bytes: &'a [u8]) -> ParseResult<'a, Vec<T>, E> {
-        list_by_der::<Vec<T>, T, E>(alloc, bytes)
-    }
+impl<T> HasReader for Vec<T> {
+    type Reader = ListReader<AnyForm>;
 }
 
 impl<T> HasKind for Vec<T> {
@@ -93,16 +91,17 @@ impl<T> WritesInOrder for Vec<T> {
     }
 }
 
-impl<'a, T: LawfulBer<'a, Error> + Drop> LawfulBody<'a, Error> for Vec<T> {
-    ghost body_exact = { list_takes 16 has_items Self.grammar.value T.ber_gives
+impl<'a, T: LawfulBer<'a, Error> + Drop> LawfulBodyBy<'a, SequenceKind, Error> for Vec<T> {
+    ghost exact_by_kind = { list_takes 16 has_items Self.grammar.value T.ber_gives
         (λ x y. y ≡ x) (ber_words T.grammar) T.grammar.value T.grammar.allocates EndsWithin
         (same_values T.grammar.value) (ber_one T.grammar T.lawful_item) T.ber_exact };
 
-    ghost body_no_memory = { λ none p e g. takes_some none };
+    ghost no_memory_by_kind = { λ none p e g. takes_some none };
 }
 
-impl<'a, T: LawfulDer<'a, E> + Drop, E: From<Error>> LawfulDer<'a, E> for Vec<T> {
-    ghost der_exact = { λ input answer octets.
+impl<'a, T: LawfulDer<'a, E> + Drop, E: From<Error>> LawfulDerBy<'a, ListReader<AnyForm>, E>
+    for Vec<T> {
+    ghost exact_by_reader = { λ input answer octets.
         unchecked_exact (OfParts (ListReads 16 has_items T.der_gives E.from_gives)) E.from_gives
         (ListOf 16 T.grammar.Der) Self.grammar.value true
         (list_reads 16 has_items Self.grammar.value T.der_gives E.from_gives T.grammar.Der
@@ -110,11 +109,11 @@ impl<'a, T: LawfulDer<'a, E> + Drop, E: From<Error>> LawfulDer<'a, E> for Vec<T>
         T.lawful_item.der_one T.der_exact)
         input answer };
 
-    ghost der_no_memory = { λ none input answer g. takes_some none };
+    ghost no_memory_by_reader = { λ none input answer g. takes_some none };
 }
 
-impl<T: LawfulCheck> LawfulCheck for Vec<T> {
-    ghost checks = { list_checks 16 T.check_gives T.grammar.Check T.checks };
+impl<T: LawfulCheck> LawfulCheckBy<SequenceKind> for Vec<T> {
+    ghost checks_by_kind = { list_checks 16 T.check_gives T.grammar.Check T.checks };
 }
 
 impl<T: LawfulMember> LawfulMember for Vec<T> {

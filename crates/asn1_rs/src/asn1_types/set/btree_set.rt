@@ -3,7 +3,7 @@ ghost use Rattle.std.specs.Prelude.{◌≡◌, true, IfOk};
 ghost use Rattle.std.proofs.Common.{lit<, refl};
 ghost use Rattle.std.specs.BTreeSet.{IsFromIterResult};
 ghost use Rattle.x690.specs.Identifiers.{IsCutIdentifier};
-ghost use Rattle.asn1_rs.specs.Traits.{PassesAll, DerGives, OfParts};
+ghost use Rattle.asn1_rs.specs.Traits.{OfParts};
 ghost use Rattle.asn1_headers.specs.Ber.{EndsWithin};
 ghost use Rattle.asn1_rs.specs.Lists.{ListTakes};
 ghost use Rattle.asn1_rs.specs.Set.{set_of, is_below, SetBody};
@@ -15,16 +15,18 @@ ghost use Rattle.asn1_rs.specs.Laws.Words.{ber_one};
 ghost use Rattle.asn1_rs.specs.Grammar.Item.{ber_words};
 
 use crate::asn1_types::lists::{
-    FromItems, Listed, PackedEncodings, constructed_list_by_der, count_items, encode_items,
-    state_items,
+    FromItems, Listed, PackedEncodings, count_items, encode_items, state_items,
 };
 use crate::kinds::HasKind;
 use crate::kinds::collections::{HasMembers, LawfulMembers, Once, SetKind, WritesAscending};
+use crate::kinds::reading::{
+    ConstructedForm, HasReader, LawfulBodyBy, LawfulCheckBy, LawfulDerBy, ListReader,
+};
 use crate::laws::in_hand::States;
-use crate::laws::{LawfulBer, LawfulBody, LawfulCheck, LawfulDer, LawfulMember};
+use crate::laws::{LawfulBer, LawfulCheck, LawfulDer, LawfulMember};
 use crate::to_der::ToDer;
-use crate::traits::{FromDer, Tagged};
-use asn1_headers::error::{Error, ParseResult, SerializeResult};
+use crate::traits::Tagged;
+use asn1_headers::error::{Error, SerializeResult};
 use asn1_headers::tag::Tag;
 use std::alloc::{AllocError, Global};
 use std::collections::BTreeSet;
@@ -107,30 +109,26 @@ impl<T: Ord + Drop> FromItems for BTreeSet<T> {
     }
 }
 
-impl<'a, T: FromDer<'a, E> + Ord + Drop, E: From<Error>> FromDer<'a, E> for BTreeSet<T> {
-    ghost der_gives = { DerGives PassesAll
-        (OfParts
-        (ListTakes 17 (λ items s. IsFromIterResult T.cmp items s) T.der_gives E.from_gives))
-        E.from_gives };
-
-    fn from_der(alloc: Global, bytes: &'a [u8]) -> ParseResult<'a, BTreeSet<T>, E> {
-        constructed_list_by_der::<BTreeSet<T>, T, E>(alloc, bytes)
-    }
+impl<T: Ord> HasReader for BTreeSet<T> {
+    type Reader = ListReader<ConstructedForm>;
 }
 
-impl<'a, T: LawfulBer<'a, Error> + LawfulMember + Ord + Drop> LawfulBody<'a, Error>
+impl<'a, T: LawfulBer<'a, Error> + LawfulMember + Ord + Drop> LawfulBodyBy<'a, SetKind<Once>, Error>
     for BTreeSet<T> {
-    ghost body_exact = { set_takes (λ items s. IsFromIterResult T.cmp items s) set_of
+    ghost exact_by_kind = { set_takes (λ items s. IsFromIterResult T.cmp items s) set_of
         Self.grammar.value T.ber_gives (λ x y. y ≡ x) (ber_words T.grammar) T.grammar.value
         T.grammar.allocates EndsWithin (tree_told T.eq T.grammar.value T.same T.cmp T.matches_eq)
         (ber_one T.grammar T.lawful_item) T.ber_exact };
 
-    ghost body_no_memory = { λ none p e g. takes_some none };
+    ghost no_memory_by_kind = { λ none p e g. takes_some none };
 }
 
-impl<'a, T: LawfulDer<'a, E> + LawfulMember + Ord + Drop, E: From<Error>> LawfulDer<'a, E>
-    for BTreeSet<T> {
-    ghost der_exact = { λ input answer octets.
+impl<'a, T: LawfulDer<'a, E> + LawfulMember + Ord + Drop, E: From<Error>> LawfulDerBy<
+    'a,
+    ListReader<ConstructedForm>,
+    E,
+> for BTreeSet<T> {
+    ghost exact_by_reader = { λ input answer octets.
         unchecked_exact
         (OfParts
         (ListTakes 17 (λ items s. IsFromIterResult T.cmp items s) T.der_gives E.from_gives))
@@ -140,11 +138,11 @@ impl<'a, T: LawfulDer<'a, E> + LawfulMember + Ord + Drop, E: From<Error>> Lawful
         (tree_told T.eq T.grammar.value T.same T.cmp T.matches_eq) T.lawful_item.der_one
         T.der_exact) input answer };
 
-    ghost der_no_memory = { λ none input answer g. takes_some none };
+    ghost no_memory_by_reader = { λ none input answer g. takes_some none };
 }
 
-impl<T: LawfulCheck + Ord> LawfulCheck for BTreeSet<T> {
-    ghost checks = { list_checks 17 T.check_gives T.grammar.Check T.checks };
+impl<T: LawfulCheck + Ord> LawfulCheckBy<SetKind<Once>> for BTreeSet<T> {
+    ghost checks_by_kind = { list_checks 17 T.check_gives T.grammar.Check T.checks };
 }
 
 impl<T: LawfulMember + Ord> LawfulMember for BTreeSet<T> {

@@ -5,7 +5,7 @@ ghost use Rattle.std.specs.Prelude.{◌≡◌, true, IfOk};
 ghost use Rattle.std.proofs.Common.{lit<, refl};
 ghost use Rattle.std.specs.HashSet.{IsFromIterResult};
 ghost use Rattle.x690.specs.Identifiers.{IsCutIdentifier};
-ghost use Rattle.asn1_rs.specs.Traits.{PassesAll, DerGives, OfParts};
+ghost use Rattle.asn1_rs.specs.Traits.{OfParts};
 ghost use Rattle.asn1_headers.specs.Ber.{EndsWithin};
 ghost use Rattle.asn1_rs.specs.Lists.{ListTakes};
 ghost use Rattle.asn1_rs.specs.Set.{set_of, is_other, SetBody};
@@ -16,16 +16,18 @@ ghost use Rattle.asn1_rs.specs.Laws.Words.{ber_one};
 ghost use Rattle.asn1_rs.specs.Grammar.Item.{ber_words};
 
 use crate::asn1_types::lists::{
-    FromItems, Listed, PackedEncodings, constructed_list_by_der, count_items, encode_items,
-    state_items,
+    FromItems, Listed, PackedEncodings, count_items, encode_items, state_items,
 };
 use crate::kinds::HasKind;
 use crate::kinds::collections::{HasMembers, LawfulMembers, Once, SetKind, WritesAscending};
+use crate::kinds::reading::{
+    ConstructedForm, HasReader, LawfulBodyBy, LawfulCheckBy, LawfulDerBy, ListReader,
+};
 use crate::laws::in_hand::States;
-use crate::laws::{LawfulBer, LawfulBody, LawfulCheck, LawfulDer, LawfulMember};
+use crate::laws::{LawfulBer, LawfulCheck, LawfulDer, LawfulMember};
 use crate::to_der::ToDer;
-use crate::traits::{FromDer, Tagged};
-use asn1_headers::error::{Error, ParseResult, SerializeResult};
+use crate::traits::Tagged;
+use asn1_headers::error::{Error, SerializeResult};
 use asn1_headers::tag::Tag;
 use std::alloc::{AllocError, Global};
 use std::collections::HashSet;
@@ -113,30 +115,29 @@ impl<T: Eq + Hash + Drop> FromItems for HashSet<T> {
     }
 }
 
-impl<'a, T: FromDer<'a, E> + Eq + Hash + Drop, E: From<Error>> FromDer<'a, E> for HashSet<T> {
-    ghost der_gives = { DerGives PassesAll
-        (OfParts
-        (ListTakes 17 (λ items s. IsFromIterResult T.eq items s) T.der_gives E.from_gives))
-        E.from_gives };
-
-    fn from_der(alloc: Global, bytes: &'a [u8]) -> ParseResult<'a, HashSet<T>, E> {
-        constructed_list_by_der::<HashSet<T>, T, E>(alloc, bytes)
-    }
+impl<T: Eq + Hash> HasReader for HashSet<T> {
+    type Reader = ListReader<ConstructedForm>;
 }
 
-impl<'a, T: LawfulBer<'a, Error> + LawfulMember + Hash + Drop> LawfulBody<'a, Error>
-    for HashSet<T> {
-    ghost body_exact = { set_takes (λ items s. IsFromIterResult T.eq items s) set_of
+impl<'a, T: LawfulBer<'a, Error> + LawfulMember + Hash + Drop> LawfulBodyBy<
+    'a,
+    SetKind<Once>,
+    Error,
+> for HashSet<T> {
+    ghost exact_by_kind = { set_takes (λ items s. IsFromIterResult T.eq items s) set_of
         Self.grammar.value T.ber_gives (λ x y. y ≡ x) (ber_words T.grammar) T.grammar.value
         T.grammar.allocates EndsWithin (table_told T.eq T.grammar.value T.same)
         (ber_one T.grammar T.lawful_item) T.ber_exact };
 
-    ghost body_no_memory = { λ none p e g. takes_some none };
+    ghost no_memory_by_kind = { λ none p e g. takes_some none };
 }
 
-impl<'a, T: LawfulDer<'a, E> + LawfulMember + Hash + Drop, E: From<Error>> LawfulDer<'a, E>
-    for HashSet<T> {
-    ghost der_exact = { λ input answer octets.
+impl<'a, T: LawfulDer<'a, E> + LawfulMember + Hash + Drop, E: From<Error>> LawfulDerBy<
+    'a,
+    ListReader<ConstructedForm>,
+    E,
+> for HashSet<T> {
+    ghost exact_by_reader = { λ input answer octets.
         unchecked_exact
         (OfParts
         (ListTakes 17 (λ items s. IsFromIterResult T.eq items s) T.der_gives E.from_gives))
@@ -146,9 +147,9 @@ impl<'a, T: LawfulDer<'a, E> + LawfulMember + Hash + Drop, E: From<Error>> Lawfu
         (table_told T.eq T.grammar.value T.same) T.lawful_item.der_one
         T.der_exact) input answer };
 
-    ghost der_no_memory = { λ none input answer g. takes_some none };
+    ghost no_memory_by_reader = { λ none input answer g. takes_some none };
 }
 
-impl<T: LawfulCheck + Eq + Hash> LawfulCheck for HashSet<T> {
-    ghost checks = { list_checks 17 T.check_gives T.grammar.Check T.checks };
+impl<T: LawfulCheck + Eq + Hash> LawfulCheckBy<SetKind<Once>> for HashSet<T> {
+    ghost checks_by_kind = { list_checks 17 T.check_gives T.grammar.Check T.checks };
 }

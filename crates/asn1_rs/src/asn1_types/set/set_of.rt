@@ -5,7 +5,7 @@ ghost use Rattle.std.specs.Iterator.{IsFiniteIterable, Drains};
 ghost use Rattle.std.proofs.Common.{lit<};
 ghost use Rattle.x690.specs.Identifiers.{IsCutIdentifier};
 ghost use Rattle.x690.specs.Collections.{multiset, AnyList};
-ghost use Rattle.asn1_rs.specs.Traits.{PassesAll, DerGives, OfParts};
+ghost use Rattle.asn1_rs.specs.Traits.{OfParts};
 ghost use Rattle.asn1_headers.specs.Ber.{EndsWithin};
 ghost use Rattle.asn1_headers.specs.declared.error.Error.TheVariants as errors;
 ghost use Rattle.asn1_rs.specs.Lists.{ListReads, PushesItem};
@@ -19,21 +19,22 @@ ghost use Rattle.asn1_rs.specs.Laws.Words.{ber_one, strict_ber};
 ghost use Rattle.asn1_rs.specs.Grammar.Item.{ber_words};
 
 use crate::asn1_types::lists::{
-    FromItems, Listed, PackedEncodings, encode_items, items_from_iter, list_by_der, push_item,
+    FromItems, Listed, PackedEncodings, encode_items, items_from_iter, push_item,
 };
 use crate::asn1_types::set::prepend_set;
 use crate::kinds::collections::{Repeats, SetKind, WritesAscending};
 use crate::kinds::in_hand::AlwaysDerBy;
+use crate::kinds::reading::{
+    AnyForm, HasReader, LawfulBodyBy, LawfulCheckBy, LawfulDerBy, ListReader,
+};
 use crate::kinds::writing::{LawfulTaggedBy, LawfulWriteBy, TakesClassBy};
 use crate::kinds::{GrammarBy, HasKind, LawfulItemBy};
 use crate::laws::in_hand::{AlwaysDer, OfDer, OfValue, States};
-use crate::laws::{
-    Grammar, LawfulBer, LawfulBody, LawfulCheck, LawfulDer, LawfulItem, LawfulWrite,
-};
+use crate::laws::{Grammar, LawfulBer, LawfulCheck, LawfulDer, LawfulItem, LawfulWrite};
 use crate::to_der::ToDer;
-use crate::traits::{FromDer, Tagged};
+use crate::traits::Tagged;
 use asn1_headers::buffer::DerBuffer;
-use asn1_headers::error::{Error, ParseResult, SerializeResult};
+use asn1_headers::error::{Error, SerializeResult};
 use asn1_headers::tag::Tag;
 use std::alloc::{AllocError, Global};
 
@@ -129,13 +130,8 @@ impl<T> FromItems for SetOf<T> {
     }
 }
 
-impl<'a, T: FromDer<'a, E> + Drop, E: From<Error>> FromDer<'a, E> for SetOf<T> {
-    ghost der_gives = { DerGives PassesAll
-        (OfParts (ListReads 17 HasItems T.der_gives E.from_gives)) E.from_gives };
-
-    fn from_der(alloc: Global, bytes: &'a [u8]) -> ParseResult<'a, SetOf<T>, E> {
-        list_by_der::<SetOf<T>, T, E>(alloc, bytes)
-    }
+impl<T> HasReader for SetOf<T> {
+    type Reader = ListReader<AnyForm>;
 }
 
 impl<T> HasKind for SetOf<T> {
@@ -203,16 +199,17 @@ impl<T: AlwaysDer> AlwaysDerBy<SetKind<Repeats>> for SetOf<T> {
     }
 }
 
-impl<'a, T: LawfulBer<'a, Error> + Drop> LawfulBody<'a, Error> for SetOf<T> {
-    ghost body_exact = { set_takes HasItems multiset Self.grammar.value T.ber_gives
+impl<'a, T: LawfulBer<'a, Error> + Drop> LawfulBodyBy<'a, SetKind<Repeats>, Error> for SetOf<T> {
+    ghost exact_by_kind = { set_takes HasItems multiset Self.grammar.value T.ber_gives
         (λ x y. y ≡ x) (ber_words T.grammar) T.grammar.value T.grammar.allocates EndsWithin
         (multiset_told T.grammar.value) (ber_one T.grammar T.lawful_item) T.ber_exact };
 
-    ghost body_no_memory = { λ none p e g. takes_some none };
+    ghost no_memory_by_kind = { λ none p e g. takes_some none };
 }
 
-impl<'a, T: LawfulDer<'a, E> + Drop, E: From<Error>> LawfulDer<'a, E> for SetOf<T> {
-    ghost der_exact = { λ input answer octets.
+impl<'a, T: LawfulDer<'a, E> + Drop, E: From<Error>> LawfulDerBy<'a, ListReader<AnyForm>, E>
+    for SetOf<T> {
+    ghost exact_by_reader = { λ input answer octets.
         unchecked_exact (OfParts (ListReads 17 HasItems T.der_gives E.from_gives)) E.from_gives
         (SetRow multiset T.grammar.Der) Self.grammar.value true
         (set_reads HasItems multiset Self.grammar.value T.der_gives E.from_gives T.grammar.Der
@@ -220,11 +217,11 @@ impl<'a, T: LawfulDer<'a, E> + Drop, E: From<Error>> LawfulDer<'a, E> for SetOf<
         (multiset_told T.grammar.value) T.lawful_item.der_one T.der_exact)
         input answer };
 
-    ghost der_no_memory = { λ none input answer g. takes_some none };
+    ghost no_memory_by_reader = { λ none input answer g. takes_some none };
 }
 
-impl<T: LawfulCheck> LawfulCheck for SetOf<T> {
-    ghost checks = { list_checks 17 T.check_gives T.grammar.Check T.checks };
+impl<T: LawfulCheck> LawfulCheckBy<SetKind<Repeats>> for SetOf<T> {
+    ghost checks_by_kind = { list_checks 17 T.check_gives T.grammar.Check T.checks };
 }
 
 impl<T: LawfulWrite> LawfulWriteBy<SetKind<Repeats>> for SetOf<T> {

@@ -11,9 +11,9 @@ ghost use Rattle.asn1_rs.specs.Times.{GeneralizedTextGives, moment_of, generaliz
 use super::{ASN1DateTime, no_time};
 use crate::asn1_types::any::Any;
 use crate::header::put_behind;
-use crate::kinds::writing::WritesElement;
 use crate::kinds::leaf::{ConvertsLeaf, LeafType};
-use crate::kinds::{TagNumber, ElementKind, HasKind};
+use crate::kinds::writing::WritesElement;
+use crate::kinds::{ElementKind, HasKind, TagNumber};
 use crate::laws::LawfulMember;
 use asn1_headers::error::{DerConstraint, Error, SerializeError, SerializeResult};
 use asn1_headers::header::writing::put_header;
