@@ -4,7 +4,7 @@ pub mod Grammar
 pub mod Checks
 pub mod Kinds
 pub mod Leaf
-pub mod LeafLaws
+pub mod LeafReading
 pub mod Boolean
 pub mod Null
 pub mod EndOfContent

@@ -9,7 +9,8 @@ use Rattle.asn1_rs.specs.declared.asn1_types.any.Any.{Any}
 use Rattle.asn1_rs.specs.declared.asn1_types.strings.RestrictedString.{RestrictedString}
 use Rattle.asn1_rs.specs.Any.{parts_of}
 use Rattle.asn1_rs.specs.Checks.{content_check, is_primitive}
-use Rattle.asn1_rs.specs.Leaf.{Leaf, LeafGives}
+use Rattle.asn1_rs.specs.Leaf.{Leaf, LeafGives, leaf_element}
+use Rattle.asn1_rs.specs.LeafReading.{LeafReading}
 
 -- An element with the tag number whose value is the UTF-8 of a text, which is its contents octets: a text that the type
 -- has, though items may hold others. It is primitive or constructed (8.23.1); by DER it is primitive (10.2). What is
@@ -44,3 +45,11 @@ string_leaf number IsText = text_leaf number IsText text_of
 abbrev pub StringGives : {K : Type 0} → ℕ → (List ℕ → Type 0) → Any → Result (RestrictedString K) Error → Type 0
 StringGives number IsText any answer =
     LeafGives (string_leaf number IsText) (parts_of any) answer × IfOk answer (λ x. IsBorrowedStr (held_text x))
+
+-- how such strings are read
+abbrev pub string_reading : {K : Type 0} → ℕ → (List ℕ → Type 0) → LeafReading (RestrictedString K)
+string_reading {K} number IsText = record {
+  element = leaf_element (string_leaf {K = K} number IsText);
+  gives = StringGives number IsText;
+  check = is_primitive;
+}

@@ -6,7 +6,10 @@ use Rattle.x690.specs.Integers.{IsIntegerContent, unsigned_octets}
 use Rattle.x690.specs.Signed.{IsSigned, signed_octets}
 use Rattle.asn1_headers.specs.declared.error.Error.{Error}
 use Rattle.asn1_headers.specs.declared.error.Error.TheVariants.{OutOfMemory}
-use Rattle.asn1_rs.specs.Integer.{IsUnsigned, UnsignedRefuses, SignedRefuses}
+use Rattle.asn1_rs.specs.Integer.{IsUnsigned, UnsignedRefuses, SignedRefuses, IntegerGives, IntegerCheckGives}
+use Rattle.asn1_rs.specs.Integer.{integer_element}
+use Rattle.asn1_rs.specs.LeafReading.{LeafReading}
+use Rattle.asn1_rs.specs.Traits.{OfParts}
 
 -- The integer that a value is, and its strict contents octets. Which integers the type holds, and how octets of another
 -- one are refused. Of types without a sign too it is an integer, so that one grammar and one set of laws serve both
@@ -44,3 +47,11 @@ pub record IsLawfulMachine {T : Type 0} (M : Machine T) : Type 0 where
 -- octets that can be converted to this value alone
 abbrev pub GivesBack : {T : Type 0} → Machine T → T → List ℕ → Type 0
 GivesBack {T} M x content = (answer : Result T Error) → MachineGives M content answer → answer ≡ Ok x
+
+-- how a machine integer is read
+abbrev pub machine_reading : {T : Type 0} → Machine T → LeafReading T
+machine_reading M = record {
+  element = integer_element M.number M.Holds;
+  gives = OfParts (IntegerGives M.number M.Holds M.refuses);
+  check = IntegerCheckGives;
+}

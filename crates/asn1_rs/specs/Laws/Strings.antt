@@ -8,10 +8,10 @@ use Rattle.asn1_headers.specs.Tag.{is_container_number}
 use Rattle.asn1_rs.specs.declared.asn1_types.strings.RestrictedString.{RestrictedString}
 use Rattle.asn1_rs.specs.Kinds.{IsExactConversion}
 use Rattle.asn1_rs.specs.Leaf.{IsLawfulLeaf, leaf_element}
-use Rattle.asn1_rs.specs.Strings.{text_leaf, string_leaf, StringGives, text_of}
+use Rattle.asn1_rs.specs.Strings.{text_leaf, string_leaf, StringGives, string_reading, text_of}
 use Rattle.asn1_rs.specs.Laws.Checks.{content_check_is, is_primitive_is}
 use Rattle.asn1_rs.specs.Laws.Leaf.{leaf_converts, leaf_lawful, exact_check}
-use Rattle.asn1_rs.specs.LeafLaws.{LeafLaws}
+use Rattle.asn1_rs.specs.LeafReading.{IsExactReading}
 use Rattle.asn1_rs.specs.Checks.{is_primitive}
 
 -- A leaf whose contents octets are a text in UTF-8 is lawful.
@@ -45,12 +45,9 @@ module _ {K : Type 0} (number : ℕ) (IsText : List ℕ → Type 0) (small : num
         g.0;
   }
 
-  -- what the type says of itself
-  abbrev pub string_laws : LeafLaws (RestrictedString K)
-  string_laws = record {
-    element = leaf_element (string_leaf {K = K} number IsText);
-    gives = StringGives number IsText;
-    check = is_primitive;
+  -- So reading such strings is exact.
+  pub string_exact : IsExactReading (string_reading {K = K} number IsText)
+  string_exact = record {
     lawful = leaf_lawful _ string_lawful;
     checked = exact_check is_primitive is_primitive_is;
     converts = string_converts;

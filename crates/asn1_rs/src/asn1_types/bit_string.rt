@@ -6,7 +6,8 @@ ghost use Rattle.asn1_rs.specs.BitString.{bit_string_leaf, bit_string_constraint
 ghost use Rattle.asn1_rs.specs.BitString.{IsZeroPadded};
 ghost use Rattle.asn1_rs.specs.Leaf.{LeafGives};
 ghost use Rattle.asn1_rs.specs.Laws.BitString.{bit_string_lawful, bit_string_equal};
-ghost use Rattle.asn1_rs.specs.Laws.Leaf.{lent_laws, leaf_written};
+ghost use Rattle.asn1_rs.specs.LeafReading.{lent_reading};
+ghost use Rattle.asn1_rs.specs.Laws.Leaf.{lent_exact, leaf_written};
 ghost use Rattle.asn1_headers.specs.Writer.{Wrote, MayRefuse};
 
 use crate::asn1_types::any::Any;
@@ -118,7 +119,9 @@ impl HasKind for BitString<'_> {
 impl LeafType for BitString<'_> {
     type Number = TagNumber<3>;
 
-    ghost laws = { lent_laws bit_string_leaf bit_string_lawful (λ s. s.content) };
+    ghost reading = { lent_reading bit_string_leaf (λ s. s.content) };
+
+    ghost exact = { lent_exact bit_string_leaf bit_string_lawful (λ s. s.content) };
 
     fn leaf_in_hand(&self) {
         let _count = self.unused_bits;

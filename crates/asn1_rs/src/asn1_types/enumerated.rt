@@ -5,7 +5,8 @@ ghost use Rattle.asn1_rs.specs.Any.{parts_of};
 ghost use Rattle.asn1_rs.specs.Enumerated.{enumerated_leaf};
 ghost use Rattle.asn1_rs.specs.Leaf.{LeafGives};
 ghost use Rattle.asn1_rs.specs.Laws.Enumerated.{enumerated_lawful, enumerated_equal};
-ghost use Rattle.asn1_rs.specs.Laws.Leaf.{leaf_laws, leaf_written};
+ghost use Rattle.asn1_rs.specs.LeafReading.{leaf_reading};
+ghost use Rattle.asn1_rs.specs.Laws.Leaf.{leaf_exact, leaf_written};
 
 use crate::asn1_types::any::Any;
 use crate::asn1_types::integer::put_unsigned_content;
@@ -64,7 +65,9 @@ impl HasKind for Enumerated {
 impl LeafType for Enumerated {
     type Number = TagNumber<10>;
 
-    ghost laws = { leaf_laws enumerated_leaf enumerated_lawful };
+    ghost reading = { leaf_reading enumerated_leaf };
+
+    ghost exact = { leaf_exact enumerated_leaf enumerated_lawful };
 
     fn leaf_in_hand(&self) {
         let _number = self.0;

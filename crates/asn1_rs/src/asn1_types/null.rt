@@ -5,7 +5,8 @@ ghost use Rattle.asn1_rs.specs.Any.{parts_of};
 ghost use Rattle.asn1_rs.specs.Checks.{nothing};
 ghost use Rattle.asn1_rs.specs.Leaf.{LeafGives};
 ghost use Rattle.asn1_rs.specs.Null.{null_leaf, unit_leaf};
-ghost use Rattle.asn1_rs.specs.Laws.Leaf.{leaf_laws, leaf_written};
+ghost use Rattle.asn1_rs.specs.LeafReading.{leaf_reading};
+ghost use Rattle.asn1_rs.specs.Laws.Leaf.{leaf_exact, leaf_written};
 ghost use Rattle.asn1_rs.specs.Laws.Null.{null_lawful, unit_lawful};
 
 use crate::asn1_types::any::Any;
@@ -62,7 +63,9 @@ impl HasKind for Null {
 impl LeafType for Null {
     type Number = TagNumber<5>;
 
-    ghost laws = { leaf_laws null_leaf null_lawful };
+    ghost reading = { leaf_reading null_leaf };
+
+    ghost exact = { leaf_exact null_leaf null_lawful };
 
     fn leaf_in_hand(&self) {}
 
@@ -104,7 +107,9 @@ impl HasKind for () {
 impl LeafType for () {
     type Number = TagNumber<5>;
 
-    ghost laws = { leaf_laws unit_leaf unit_lawful };
+    ghost reading = { leaf_reading unit_leaf };
+
+    ghost exact = { leaf_exact unit_leaf unit_lawful };
 
     fn leaf_in_hand(&self) {}
 

@@ -4,7 +4,8 @@ ghost use Rattle.std.specs.Cow.{IsBorrowedSlice};
 ghost use Rattle.asn1_rs.specs.Any.{parts_of};
 ghost use Rattle.asn1_rs.specs.Checks.{is_primitive};
 ghost use Rattle.asn1_rs.specs.Leaf.{LeafGives};
-ghost use Rattle.asn1_rs.specs.Laws.Leaf.{leaf_laws, lent_laws, leaf_written};
+ghost use Rattle.asn1_rs.specs.LeafReading.{leaf_reading, lent_reading};
+ghost use Rattle.asn1_rs.specs.Laws.Leaf.{leaf_exact, lent_exact, leaf_written};
 ghost use Rattle.asn1_rs.specs.Laws.OctetString.{octet_string_lawful, octet_string_equal, slice_lawful, slice_equal};
 ghost use Rattle.asn1_rs.specs.OctetString.{octet_string_leaf, slice_leaf, octets_of, cow_of};
 
@@ -101,7 +102,9 @@ impl HasKind for OctetString<'_> {
 impl LeafType for OctetString<'_> {
     type Number = TagNumber<4>;
 
-    ghost laws = { lent_laws octet_string_leaf octet_string_lawful cow_of };
+    ghost reading = { lent_reading octet_string_leaf cow_of };
+
+    ghost exact = { lent_exact octet_string_leaf octet_string_lawful cow_of };
 
     fn leaf_in_hand(&self) {
         octets_in_hand(self.as_bytes());
@@ -148,7 +151,9 @@ impl HasKind for &[u8] {
 impl LeafType for &[u8] {
     type Number = TagNumber<4>;
 
-    ghost laws = { leaf_laws slice_leaf slice_lawful };
+    ghost reading = { leaf_reading slice_leaf };
+
+    ghost exact = { leaf_exact slice_leaf slice_lawful };
 
     fn leaf_in_hand(&self) {
         octets_in_hand(*self);

@@ -3,7 +3,8 @@ ghost use Rattle.std.specs.Prelude.{◌≡◌, ◌∷◌, [], string_bytes};
 ghost use Rattle.asn1_rs.specs.Any.{parts_of};
 ghost use Rattle.asn1_rs.specs.Checks.{is_primitive};
 ghost use Rattle.asn1_rs.specs.Leaf.{HaveOneRefusal, LeafGives, LeafTakes};
-ghost use Rattle.asn1_rs.specs.Laws.Leaf.{copying_laws, leaf_laws, copying_written};
+ghost use Rattle.asn1_rs.specs.LeafReading.{leaf_reading, copying_reading};
+ghost use Rattle.asn1_rs.specs.Laws.Leaf.{copying_exact, leaf_exact, copying_written};
 ghost use Rattle.asn1_rs.specs.Laws.Leaf.{leaf_written};
 ghost use Rattle.asn1_rs.specs.Laws.Texts.{lent_text_lawful, lent_text_equal, owned_text_lawful, owned_text_equal};
 ghost use Rattle.asn1_rs.specs.Texts.{lent_text_leaf, owned_text_leaf};
@@ -71,7 +72,9 @@ impl HasKind for &str {
 impl LeafType for &str {
     type Number = TagNumber<12>;
 
-    ghost laws = { leaf_laws lent_text_leaf lent_text_lawful };
+    ghost reading = { leaf_reading lent_text_leaf };
+
+    ghost exact = { leaf_exact lent_text_leaf lent_text_lawful };
 
     fn leaf_in_hand(&self) {
         text_in_hand(*self);
@@ -117,7 +120,9 @@ impl HasKind for String {
 impl LeafType for String {
     type Number = TagNumber<12>;
 
-    ghost laws = { copying_laws owned_text_leaf owned_text_lawful };
+    ghost reading = { copying_reading owned_text_leaf };
+
+    ghost exact = { copying_exact owned_text_leaf owned_text_lawful };
 
     fn leaf_in_hand(&self) {
         text_in_hand(self.as_str());

@@ -3,7 +3,7 @@ ghost use Rattle.std.specs.Prelude.{◌≡◌, Result};
 ghost use Rattle.asn1_headers.specs.declared.error.Error.{Error};
 ghost use Rattle.asn1_rs.specs.declared.asn1_types.any.Any.{Any};
 ghost use Rattle.asn1_rs.specs.Any.{parts_of};
-ghost use Rattle.asn1_rs.specs.LeafLaws.{LeafLaws};
+ghost use Rattle.asn1_rs.specs.LeafReading.{LeafReading, IsExactReading};
 
 use crate::asn1_types::any::Any;
 use crate::kinds::reading::{CheckBy, FromAnyBy};
@@ -19,16 +19,19 @@ pub trait LeafType: HasKind<Kind = ElementKind> + Sized {
     /// A type that has its tag number.
     type Number: Tagged;
 
-    /// Its elements and what its calls may answer, with the laws of these.
-    ghost laws: { LeafLaws Self };
+    /// Its elements, and what the conversion and the check may answer.
+    ghost reading: { LeafReading Self };
 
     /// States of an item in hand that its value is one of the type's.
     fn leaf_in_hand(&self)
-        ensures { laws.element.IsValue (laws.element.value self.now) };
+        ensures { reading.element.IsValue (reading.element.value self.now) };
 
     /// `check_constraints`.
     fn check_leaf(any: &Any<'_>) -> Result<(), Error>
-        ensures { laws.check (parts_of any.now) result };
+        ensures { reading.check (parts_of any.now) result };
+
+    /// The elements are lawful, and conversion and check exact by them.
+    ghost exact: { IsExactReading Self.reading };
 }
 
 /// The conversion of an element.
@@ -37,13 +40,13 @@ pub trait LeafType: HasKind<Kind = ElementKind> + Sized {
 pub trait ConvertsLeaf<'a>: LeafType {
     /// `try_from_any`.
     fn convert_leaf(alloc: Global, any: Any<'a>) -> Result<Self, Error>
-        ensures { Self.laws.gives any.entry result };
+        ensures { Self.reading.gives any.entry result };
 }
 
 impl<'a, T: ConvertsLeaf<'a>> FromAnyBy<'a, ElementKind> for T {
     type Refusal = Error;
 
-    ghost gives_by_kind = { T.laws.gives };
+    ghost gives_by_kind = { T.reading.gives };
 
     #[inline(always)]
     fn convert_by_kind(alloc: Global, any: Any<'a>) -> Result<T, Error> {
@@ -52,7 +55,7 @@ impl<'a, T: ConvertsLeaf<'a>> FromAnyBy<'a, ElementKind> for T {
 }
 
 impl<T: LeafType> CheckBy<ElementKind> for T {
-    ghost check_by_kind = { T.laws.check };
+    ghost check_by_kind = { T.reading.check };
 
     #[inline(always)]
     fn check_this_kind(any: &Any<'_>) -> Result<(), Error> {
@@ -67,11 +70,11 @@ impl<T: LeafType> TaggedAs for T {
 }
 
 impl<T: LeafType> LawfulElement for T {
-    ghost element = { T.laws.element };
+    ghost element = { T.reading.element };
 
-    ghost lawful = { T.laws.lawful };
+    ghost lawful = { T.exact.lawful };
 
-    ghost checked = { T.laws.checked };
+    ghost checked = { T.exact.checked };
 
     fn value_in_hand(&self) {
         self.leaf_in_hand();
@@ -79,5 +82,5 @@ impl<T: LeafType> LawfulElement for T {
 }
 
 impl<'a, T: ConvertsLeaf<'a>> LawfulConversion<'a> for T {
-    ghost converts = { T.laws.converts };
+    ghost converts = { T.exact.converts };
 }

@@ -2,10 +2,8 @@
 use Rattle.std.specs.Prelude.{ℕ}
 use Rattle.x690.specs.Laws.Integers.Unsigned.{unsigned_octets_content}
 use Rattle.x690.specs.Laws.Signed.{signed_octets_content}
-use Rattle.asn1_rs.specs.Integer.Machine.{Machine, IsLawfulMachine, unsigned_machine, signed_machine}
-use Rattle.asn1_rs.specs.Integer.{IntegerGives, IntegerCheckGives, integer_element}
-use Rattle.asn1_rs.specs.LeafLaws.{LeafLaws}
-use Rattle.asn1_rs.specs.Traits.{OfParts}
+use Rattle.asn1_rs.specs.Integer.Machine.{Machine, IsLawfulMachine, machine_reading, unsigned_machine, signed_machine}
+use Rattle.asn1_rs.specs.LeafReading.{IsExactReading}
 use Rattle.asn1_rs.specs.Laws.Integer.{integer_checks, integer_lawful, integer_converts}
 use Rattle.asn1_rs.specs.Laws.Integer.Unsigned.{unsigned_refused}
 use Rattle.asn1_rs.specs.Laws.Integer.Signed.{signed_refused}
@@ -28,12 +26,9 @@ signed_lawful size = record {
   asks_no_memory = λ c h. let e = h.1 in cc;
 }
 
--- what a machine integer says of itself as a leaf
-abbrev pub machine_laws : {T : Type 0} (M : Machine T) → IsLawfulMachine M → LeafLaws T
-machine_laws M l = record {
-  element = integer_element M.number M.Holds;
-  gives = OfParts (IntegerGives M.number M.Holds M.refuses);
-  check = IntegerCheckGives;
+-- Reading a lawful machine integer is exact.
+pub machine_exact : {T : Type 0} (M : Machine T) → IsLawfulMachine M → IsExactReading (machine_reading M)
+machine_exact M l = record {
   lawful = integer_lawful M.Holds M.number;
   checked = integer_checks;
   converts = integer_converts M.Holds M.number M.refuses l.refused l.asks_no_memory;

@@ -8,10 +8,8 @@ use Rattle.asn1_headers.specs.declared.error.Error.{Error}
 use Rattle.asn1_headers.specs.declared.error.Error.TheVariants.{IntegerNegative, IntegerTooLarge}
 use Rattle.asn1_rs.specs.Traits.{OfParts}
 use Rattle.asn1_rs.specs.Integer.{IsUnsigned, UnsignedRefuses, UnsignedGives, integer_element}
-use Rattle.asn1_rs.specs.Integer.{IntegerCheckGives}
 use Rattle.asn1_rs.specs.Kinds.{IsExactConversion}
-use Rattle.asn1_rs.specs.LeafLaws.{LeafLaws}
-use Rattle.asn1_rs.specs.Laws.Integer.{integer_converts, integer_checks, integer_lawful}
+use Rattle.asn1_rs.specs.Laws.Integer.{integer_converts}
 
 -- a number that is refused is not held
 pub unsigned_refused : (size : ℕ) (c : List ℕ) (e : Error) → IsOctets c → UnsignedRefuses size c e →

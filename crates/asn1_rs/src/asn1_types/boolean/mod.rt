@@ -8,7 +8,8 @@ ghost use Rattle.asn1_rs.specs.Boolean.{boolean_leaf, bool_leaf, says_true, trut
 ghost use Rattle.asn1_rs.specs.Boolean.{truth_constraints};
 ghost use Rattle.asn1_rs.specs.Leaf.{LeafGives};
 ghost use Rattle.asn1_rs.specs.Laws.Boolean.{boolean_lawful, bool_lawful, boolean_equal, bool_equal};
-ghost use Rattle.asn1_rs.specs.Laws.Leaf.{leaf_laws, leaf_written};
+ghost use Rattle.asn1_rs.specs.LeafReading.{leaf_reading};
+ghost use Rattle.asn1_rs.specs.Laws.Leaf.{leaf_exact, leaf_written};
 ghost use Rattle.asn1_headers.specs.Writer.{Wrote, MayRefuse};
 
 use crate::asn1_types::any::Any;
@@ -133,7 +134,9 @@ impl HasKind for bool {
 impl LeafType for bool {
     type Number = TagNumber<1>;
 
-    ghost laws = { leaf_laws bool_leaf bool_lawful };
+    ghost reading = { leaf_reading bool_leaf };
+
+    ghost exact = { leaf_exact bool_leaf bool_lawful };
 
     fn leaf_in_hand(&self) {}
 
@@ -177,7 +180,9 @@ impl HasKind for Boolean {
 impl LeafType for Boolean {
     type Number = TagNumber<1>;
 
-    ghost laws = { leaf_laws boolean_leaf boolean_lawful };
+    ghost reading = { leaf_reading boolean_leaf };
+
+    ghost exact = { leaf_exact boolean_leaf boolean_lawful };
 
     fn leaf_in_hand(&self) {
         let _octet = self.value;

@@ -11,7 +11,8 @@ ghost use Rattle.asn1_rs.specs.Any.{parts_of};
 ghost use Rattle.asn1_rs.specs.Checks.{is_primitive};
 ghost use Rattle.asn1_rs.specs.CodedStrings.{coded_string_leaf, held_text, text_of};
 ghost use Rattle.asn1_rs.specs.Laws.CodedStrings.{coded_string_lawful, coded_string_equal};
-ghost use Rattle.asn1_rs.specs.Laws.Leaf.{copying_laws};
+ghost use Rattle.asn1_rs.specs.LeafReading.{copying_reading};
+ghost use Rattle.asn1_rs.specs.Laws.Leaf.{copying_exact};
 ghost use Rattle.asn1_rs.specs.Leaf.{HaveOneRefusal};
 
 use crate::asn1_types::any::Any;
@@ -108,8 +109,9 @@ impl<K: CodedKind> HasKind for CodedString<'_, K> {
 impl<K: CodedKind> LeafType for CodedString<'_, K> {
     type Number = K::Number;
 
-    ghost laws = { copying_laws (coded_string_leaf (K.Number.TAG).0 K.Code.octets_of)
-        (coded_string_lawful (K.Number.TAG).0 K.Code.octets_of K.small K.primitive K.Code.is) };
+    ghost reading = { copying_reading (coded_string_leaf (K.Number.TAG).0 K.Code.octets_of) };
+
+    ghost exact = { copying_exact (coded_string_leaf (K.Number.TAG).0 K.Code.octets_of) (coded_string_lawful (K.Number.TAG).0 K.Code.octets_of K.small K.primitive K.Code.is) };
 
     fn leaf_in_hand(&self) {
         text_in_hand(self.as_str());

@@ -1,8 +1,8 @@
 //! The machine integers, which hold the integers of one to sixteen octets (X.690 8.3).
 ghost use Rattle.std.specs.Prelude.{◌≡◌, ◌≤◌, ◌<◌, take, drop};
-ghost use Rattle.asn1_rs.specs.Integer.Machine.{Machine, IsLawfulMachine, MachineGives, unsigned_machine};
+ghost use Rattle.asn1_rs.specs.Integer.Machine.{machine_reading, Machine, IsLawfulMachine, MachineGives, unsigned_machine};
 ghost use Rattle.asn1_rs.specs.Integer.Machine.{signed_machine};
-ghost use Rattle.asn1_rs.specs.Laws.Integer.Machine.{unsigned_lawful, signed_lawful, machine_laws};
+ghost use Rattle.asn1_rs.specs.Laws.Integer.Machine.{unsigned_lawful, signed_lawful, machine_exact};
 
 use crate::asn1_types::any::Any;
 use crate::asn1_types::integer::{
@@ -187,7 +187,9 @@ impl MachineInt for i128 {
 impl<T: MachineInt + HasKind<Kind = ElementKind>> LeafType for T {
     type Number = TagNumber<2>;
 
-    ghost laws = { machine_laws T.machine T.lawful_machine };
+    ghost reading = { machine_reading T.machine };
+
+    ghost exact = { machine_exact T.machine T.lawful_machine };
 
     fn leaf_in_hand(&self) {
         let mut octets = [0; 17];

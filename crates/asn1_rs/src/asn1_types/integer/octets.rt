@@ -8,7 +8,8 @@ ghost use Rattle.asn1_rs.specs.Integer.Machine.{GivesBack};
 ghost use Rattle.asn1_rs.specs.Integer.Octets.{octets_held, integer_octets, any_integer_leaf, BorrowsOctets, HoldsOr};
 ghost use Rattle.asn1_rs.specs.Leaf.{LeafGives};
 ghost use Rattle.asn1_rs.specs.Laws.Integer.Octets.{any_integer_lawful, octets_equal};
-ghost use Rattle.asn1_rs.specs.Laws.Leaf.{lent_laws, leaf_written};
+ghost use Rattle.asn1_rs.specs.LeafReading.{lent_reading};
+ghost use Rattle.asn1_rs.specs.Laws.Leaf.{lent_exact, leaf_written};
 ghost use Rattle.asn1_headers.specs.declared.class.Class.TheVariants as classes;
 ghost use Rattle.asn1_headers.specs.declared.length.Length.TheVariants as forms;
 
@@ -128,7 +129,9 @@ impl HasKind for Integer<'_> {
 impl LeafType for Integer<'_> {
     type Number = TagNumber<2>;
 
-    ghost laws = { lent_laws any_integer_leaf any_integer_lawful octets_held };
+    ghost reading = { lent_reading any_integer_leaf octets_held };
+
+    ghost exact = { lent_exact any_integer_leaf any_integer_lawful octets_held };
 
     fn leaf_in_hand(&self) {
         octets_in_hand(self.as_bytes());

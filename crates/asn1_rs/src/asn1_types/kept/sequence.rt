@@ -15,7 +15,8 @@ ghost use Rattle.asn1_headers.specs.Header.Reading.{der_refusal, ber_refusal};
 ghost use Rattle.asn1_rs.specs.Kept.{sequence_number, sequence_leaf, sequence_octets, TakesLent, TakesList, OnLent};
 ghost use Rattle.asn1_rs.specs.Kept.{IsRefused, IsErrorOf, ListThenGives, CopiesGive, JoinsGiven, content_octets};
 ghost use Rattle.asn1_rs.specs.Laws.Kept.{sequence_lawful, sequence_equal};
-ghost use Rattle.asn1_rs.specs.Laws.Leaf.{lent_laws, leaf_written};
+ghost use Rattle.asn1_rs.specs.LeafReading.{lent_reading};
+ghost use Rattle.asn1_rs.specs.Laws.Leaf.{lent_exact, leaf_written};
 ghost use Rattle.asn1_rs.specs.Leaf.{LeafGives};
 ghost use Rattle.asn1_rs.specs.Lists.{ItemsGive, listed};
 ghost use Rattle.asn1_rs.specs.Sequence.Iterator.{octets_left};
@@ -261,7 +262,9 @@ impl LeafType for Sequence<'_> {
     type Number = TagNumber<16>;
 
     // So `parse_into` and its like, at what was read, can't answer `LifetimeError`.
-    ghost laws = { lent_laws sequence_leaf sequence_lawful (λ s. s.content) };
+    ghost reading = { lent_reading sequence_leaf (λ s. s.content) };
+
+    ghost exact = { lent_exact sequence_leaf sequence_lawful (λ s. s.content) };
 
     fn leaf_in_hand(&self) {
         octets_in_hand(self.as_bytes());

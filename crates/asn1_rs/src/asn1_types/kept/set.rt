@@ -15,7 +15,8 @@ ghost use Rattle.asn1_headers.specs.Header.Reading.{der_refusal, ber_refusal};
 ghost use Rattle.asn1_rs.specs.Kept.{set_number, set_leaf, set_octets, TakesLent, TakesList, OnLent, IsRefused};
 ghost use Rattle.asn1_rs.specs.Kept.{IsErrorOf, ListThenGives, CopiesGive, JoinsGiven, content_octets};
 ghost use Rattle.asn1_rs.specs.Laws.Kept.{set_lawful};
-ghost use Rattle.asn1_rs.specs.Laws.Leaf.{lent_laws, leaf_written};
+ghost use Rattle.asn1_rs.specs.LeafReading.{lent_reading};
+ghost use Rattle.asn1_rs.specs.Laws.Leaf.{lent_exact, leaf_written};
 ghost use Rattle.asn1_rs.specs.Leaf.{LeafGives};
 ghost use Rattle.asn1_rs.specs.Lists.{ItemsGive, listed};
 ghost use Rattle.asn1_rs.specs.Sequence.Iterator.{octets_left};
@@ -260,7 +261,9 @@ impl LeafType for Set<'_> {
     type Number = TagNumber<17>;
 
     // So `parse_into` and its like, at what was read, can't answer `LifetimeError`.
-    ghost laws = { lent_laws set_leaf set_lawful (λ s. s.content) };
+    ghost reading = { lent_reading set_leaf (λ s. s.content) };
+
+    ghost exact = { lent_exact set_leaf set_lawful (λ s. s.content) };
 
     fn leaf_in_hand(&self) {
         octets_in_hand(self.as_bytes());

@@ -147,10 +147,13 @@ impl HasKind for Oid<'_> {
 impl LeafType for Oid<'_> {
     type Number = TagNumber<6>;
 
-    ghost laws = { record {
+    ghost reading = { record {
       element = oid_element;
       gives = OidGives;
       check = oid_constraints;
+    } };
+
+    ghost exact = { record {
       lawful = oid_lawful;
       checked = oid_checked;
       converts = oid_converts;

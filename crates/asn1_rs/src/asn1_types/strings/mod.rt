@@ -10,8 +10,8 @@ ghost use Rattle.asn1_rs.specs.Any.{parts_of};
 ghost use Rattle.asn1_rs.specs.Checks.{is_primitive};
 ghost use Rattle.asn1_rs.specs.Leaf.{HaveOneRefusal};
 ghost use Rattle.asn1_rs.specs.Laws.Leaf.{leaf_written};
-ghost use Rattle.asn1_rs.specs.Laws.Strings.{string_lawful, string_equal, string_laws};
-ghost use Rattle.asn1_rs.specs.Strings.{string_leaf, text_of, held_text};
+ghost use Rattle.asn1_rs.specs.Laws.Strings.{string_lawful, string_equal, string_exact};
+ghost use Rattle.asn1_rs.specs.Strings.{string_leaf, string_reading, text_of, held_text};
 
 use crate::asn1_types::any::Any;
 use crate::kinds::in_hand::DerElement;
@@ -135,7 +135,9 @@ impl<K: StringKind> HasKind for RestrictedString<'_, K> {
 impl<K: StringKind> LeafType for RestrictedString<'_, K> {
     type Number = K::Number;
 
-    ghost laws = { string_laws (K.Number.TAG).0 K.Repertoire.IsText K.small K.primitive
+    ghost reading = { string_reading (K.Number.TAG).0 K.Repertoire.IsText };
+
+    ghost exact = { string_exact (K.Number.TAG).0 K.Repertoire.IsText K.small K.primitive
         K.Repertoire.utf8 };
 
     fn leaf_in_hand(&self) {

@@ -3,7 +3,8 @@ ghost use Rattle.std.specs.Prelude.{◌≡◌, Some};
 ghost use Rattle.x690.specs.Times.{generalized_time_shown, generalized_time_text};
 ghost use Rattle.asn1_rs.specs.Any.{parts_of};
 ghost use Rattle.asn1_rs.specs.Leaf.{LeafGives};
-ghost use Rattle.asn1_rs.specs.Laws.Leaf.{leaf_laws, refusing_written};
+ghost use Rattle.asn1_rs.specs.LeafReading.{leaf_reading};
+ghost use Rattle.asn1_rs.specs.Laws.Leaf.{leaf_exact, refusing_written};
 ghost use Rattle.asn1_rs.specs.Laws.Times.{generalized_time_lawful, generalized_time_accepted, times_equal};
 ghost use Rattle.asn1_rs.specs.Times.{generalized_time_leaf};
 ghost use Rattle.asn1_rs.specs.Times.{GeneralizedTextGives, moment_of, generalized_time_refused, IsInvalidDateTime};
@@ -91,7 +92,9 @@ impl HasKind for GeneralizedTime {
 impl LeafType for GeneralizedTime {
     type Number = TagNumber<24>;
 
-    ghost laws = { leaf_laws generalized_time_leaf generalized_time_lawful };
+    ghost reading = { leaf_reading generalized_time_leaf };
+
+    ghost exact = { leaf_exact generalized_time_leaf generalized_time_lawful };
 
     fn leaf_in_hand(&self) {
         self.0.fields_in_hand();

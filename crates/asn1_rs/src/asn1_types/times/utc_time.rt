@@ -4,7 +4,8 @@ ghost use Rattle.x690.specs.Times.{utc_time_shown, utc_time_text};
 ghost use Rattle.asn1_rs.specs.Any.{parts_of};
 ghost use Rattle.asn1_rs.specs.Checks.{nothing};
 ghost use Rattle.asn1_rs.specs.Leaf.{LeafGives};
-ghost use Rattle.asn1_rs.specs.Laws.Leaf.{leaf_laws, refusing_written};
+ghost use Rattle.asn1_rs.specs.LeafReading.{leaf_reading};
+ghost use Rattle.asn1_rs.specs.Laws.Leaf.{leaf_exact, refusing_written};
 ghost use Rattle.asn1_rs.specs.Laws.Times.{utc_time_lawful, utc_time_accepted, times_equal};
 ghost use Rattle.asn1_rs.specs.Times.{utc_time_leaf, UtcTextGives, moment_of, utc_time_refused};
 ghost use Rattle.asn1_rs.specs.Times.{IsInvalidDateTime};
@@ -88,7 +89,9 @@ impl HasKind for UtcTime {
 impl LeafType for UtcTime {
     type Number = TagNumber<23>;
 
-    ghost laws = { leaf_laws utc_time_leaf utc_time_lawful };
+    ghost reading = { leaf_reading utc_time_leaf };
+
+    ghost exact = { leaf_exact utc_time_leaf utc_time_lawful };
 
     fn leaf_in_hand(&self) {
         self.0.fields_in_hand();
