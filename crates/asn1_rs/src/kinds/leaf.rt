@@ -6,7 +6,7 @@ ghost use Rattle.asn1_rs.specs.Any.{parts_of};
 ghost use Rattle.asn1_rs.specs.LeafReading.{LeafReading, IsExactReading};
 
 use crate::asn1_types::any::Any;
-use crate::kinds::reading::{CheckBy, FromAnyBy};
+use crate::kinds::reading::{CheckBy, FromAnyBy, LawfulCheckBy};
 use crate::kinds::{ElementKind, HasKind, LawfulConversion, LawfulElement, TaggedAs};
 use crate::traits::{CheckDerConstraints, DerAutoDerive, FromAny, Tagged};
 use asn1_headers::error::Error;
@@ -74,8 +74,6 @@ impl<T: LeafType> LawfulElement for T {
 
     ghost lawful = { T.exact.lawful };
 
-    ghost checked = { T.exact.checked };
-
     fn value_in_hand(&self) {
         self.leaf_in_hand();
     }
@@ -83,4 +81,8 @@ impl<T: LeafType> LawfulElement for T {
 
 impl<'a, T: ConvertsLeaf<'a>> LawfulConversion<'a> for T {
     ghost converts = { T.exact.converts };
+}
+
+impl<T: LeafType> LawfulCheckBy<ElementKind> for T {
+    ghost checks_by_kind = { T.exact.checked };
 }

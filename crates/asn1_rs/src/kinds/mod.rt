@@ -88,7 +88,7 @@ impl<H: Holds<Held = T>, T: Tagged> TaggedBy<HolderKind> for H {
 /// A type that has the tag number of another one, as each type with a lifetime.
 ///
 /// So it has [`Tagged`].
-pub trait TaggedAs: HasKind<Kind = ElementKind> {
+pub trait TaggedAs {
     /// The other type: a [`TagNumber`], where none has the number.
     type Number: Tagged;
 }
@@ -118,7 +118,7 @@ impl<T: HasKind + TaggedBy<T::Kind>> Tagged for T {
 /// A type that is read as one element, checked and converted: its values, and that what it says of them is lawful.
 ///
 /// So it has [`Grammar`], [`LawfulItem`], [`LawfulCheck`] and [`LawfulAuto`].
-pub trait LawfulElement: HasKind<Kind = ElementKind> + CheckDerConstraints + DerAutoDerive {
+pub trait LawfulElement: HasKind<Kind = ElementKind> + Sized {
     /// Its values, and what the element of a value is.
     ghost element: { ElementGrammar Self };
 
@@ -128,9 +128,6 @@ pub trait LawfulElement: HasKind<Kind = ElementKind> + CheckDerConstraints + Der
 
     /// An element has one value, a value one strict element, and this has the value and passes the check.
     ghost lawful: { IsLawfulElement Self.element };
-
-    /// The check passes exactly the parts that meet the constraints, and never answers out of memory.
-    ghost checked: { IsExactCheck Self.check_gives Self.element.Check };
 }
 
 /// The conversion of such an element is exact, so the type has [`LawfulBody`], and with it the laws of both readers.
@@ -193,7 +190,7 @@ impl<T: HasKind + LawfulItemBy<T::Kind>> LawfulItem for T {
     }
 }
 
-impl<T: LawfulElement> LawfulAuto for T {
+impl<T: LawfulElement + LawfulCheck + DerAutoDerive> LawfulAuto for T {
     ghost der_split = { λ o v w. w };
 
     ghost der_join = { λ o v w. w };

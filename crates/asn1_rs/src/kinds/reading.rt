@@ -174,10 +174,6 @@ impl<T: HasKind + LawfulCheckBy<T::Kind>> LawfulCheck for T {
     ghost checks = { T.checks_by_kind };
 }
 
-impl<T: LawfulElement> LawfulCheckBy<ElementKind> for T {
-    ghost checks_by_kind = { T.checked };
-}
-
 /// The law of reading by DER by this reader.
 pub trait LawfulDerBy<'a, R, E: From<Error>>: FromDer<'a, E> + LawfulItem {
     /// `der_exact`.

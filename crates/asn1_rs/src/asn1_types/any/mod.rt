@@ -29,6 +29,7 @@ ghost use Rattle.asn1_headers.specs.declared.tag.Tag.{Tag};
 use crate::ber::element_by_ber;
 use crate::der::element_by_der;
 use crate::kinds::in_hand::DerElement;
+use crate::kinds::reading::LawfulCheckBy;
 use crate::kinds::{ElementKind, HasKind, LawfulConversion, LawfulElement};
 use crate::laws::in_hand::octets_in_hand;
 use crate::traits::{CheckDerConstraints, DerAutoDerive, DynTagged, FromAny, FromBer, FromDer};
@@ -279,12 +280,14 @@ impl LawfulElement for Any<'_> {
 
     ghost lawful = { element_lawful };
 
-    ghost checked = { element_checks };
-
     fn value_in_hand(&self) {
         let _number = self.header.tag().0;
         octets_in_hand(self.content);
     }
+}
+
+impl LawfulCheckBy<ElementKind> for Any<'_> {
+    ghost checks_by_kind = { element_checks };
 }
 
 impl<'a> LawfulConversion<'a> for Any<'a> {

@@ -15,6 +15,7 @@ use crate::asn1_types::any::Any;
 use crate::asn1_types::integer::octets::Integer;
 use crate::asn1_types::oid::Oid;
 use crate::asn1_types::strings::kinds::ObjectDescriptor;
+use crate::kinds::reading::LawfulCheckBy;
 use crate::kinds::{ElementKind, HasKind, LawfulConversion, LawfulElement};
 use crate::laws::LawfulMember;
 use crate::laws::in_hand::{octets_in_hand, text_in_hand};
@@ -98,8 +99,6 @@ impl LawfulElement for EmbeddedPdv<'_> {
 
     ghost lawful = { pdv_lawful };
 
-    ghost checked = { pdv_checked };
-
     fn value_in_hand(&self) {
         parts_in_hand(&self.identification);
         if let Some(descriptor) = &self.data_value_descriptor {
@@ -107,6 +106,10 @@ impl LawfulElement for EmbeddedPdv<'_> {
         }
         octets_in_hand(self.data_value);
     }
+}
+
+impl LawfulCheckBy<ElementKind> for EmbeddedPdv<'_> {
+    ghost checks_by_kind = { pdv_checked };
 }
 
 /// What an identification in hand holds are octets.

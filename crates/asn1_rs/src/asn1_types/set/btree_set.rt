@@ -31,7 +31,7 @@ use asn1_headers::tag::Tag;
 use std::alloc::{AllocError, Global};
 use std::collections::BTreeSet;
 
-impl<T: Ord> Tagged for BTreeSet<T> {
+impl<T> Tagged for BTreeSet<T> {
     const TAG: Tag = Tag::Set;
 
     ghost TAG = { record { 0 = 17 } };
@@ -44,7 +44,7 @@ fn ordered_set<T: Ord + Drop>(alloc: Global, items: Vec<T>) -> Result<BTreeSet<T
     BTreeSet::from_iter(alloc, items)
 }
 
-impl<T: Ord> HasKind for BTreeSet<T> {
+impl<T> HasKind for BTreeSet<T> {
     type Kind = SetKind<Once>;
 }
 
@@ -109,7 +109,7 @@ impl<T: Ord + Drop> FromItems for BTreeSet<T> {
     }
 }
 
-impl<T: Ord> HasReader for BTreeSet<T> {
+impl<T> HasReader for BTreeSet<T> {
     type Reader = ListReader<ConstructedForm>;
 }
 

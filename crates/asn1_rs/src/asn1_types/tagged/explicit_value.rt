@@ -22,10 +22,13 @@ ghost use Rattle.asn1_rs.specs.Laws.Words.{strict_ber};
 
 use crate::asn1_types::any::Any;
 use crate::asn1_types::option::without_raw_tag;
-use crate::asn1_types::tagged::{Explicit, HasClass, TaggedValue};
+use crate::asn1_types::tagged::{Explicit, HasClass, TagMark, TaggedValue};
 use crate::ber::element_by_ber;
 use crate::der::element_by_der;
 use crate::header::{element_len, put_counted_header};
+use crate::kinds::reading::{
+    CheckBy, FromAnyBy, FromDerBy, LawfulBodyBy, LawfulCheckBy, LawfulDerBy,
+};
 use crate::laws::in_hand::AlwaysDer;
 use crate::laws::{
     Grammar, LawfulBer, LawfulBody, LawfulCheck, LawfulDer, LawfulItem, LawfulMember, LawfulTagged,
@@ -112,18 +115,18 @@ fn inner_value<'a, T: Drop, E: From<Error>>(answer: ParseResult<'a, T, E>) -> Re
 /// the contents octets. What follows it there is not looked at.
 ///
 /// Missing octets of the value are told as `Error::Incomplete`, since no octets can follow the contents octets.
-impl<'a, T, E, const CLASS: u8, const TAG: u32> FromAny<'a>
+impl<'a, T, E, const CLASS: u8, const TAG: u32> FromAnyBy<'a, TagMark<Explicit>>
     for TaggedValue<T, E, Explicit, CLASS, TAG>
 where
     T: FromBer<'a, E> + Drop,
     E: From<Error>,
 {
-    type Error = E;
+    type Refusal = E;
 
-    ghost any_gives = { OfParts
+    ghost gives_by_kind = { OfParts
         (ExplicitTakes CLASS TAG (λ t. t.inner) T.ber_gives E.from_gives) };
 
-    fn try_from_any(alloc: Global, any: Any<'a>) -> Result<Self, E> {
+    fn convert_by_kind(alloc: Global, any: Any<'a>) -> Result<Self, E> {
         if let Err(e) = assert_tagged(CLASS, TAG, &any) {
             return Err(E::from(e));
         }
@@ -173,16 +176,16 @@ where
 /// An element by DER; its tag number, its constructed bit, its class; then the value by DER at the
 /// front of the contents octets, whose refusal is passed on whole. What follows it there is not
 /// looked at.
-impl<'a, T, E, const CLASS: u8, const TAG: u32> FromDer<'a, E>
+impl<'a, T, E, const CLASS: u8, const TAG: u32> FromDerBy<'a, TagMark<Explicit>, E>
     for TaggedValue<T, E, Explicit, CLASS, TAG>
 where
     T: FromDer<'a, E> + Drop,
     E: From<Error>,
 {
-    ghost der_gives = { ExplicitGives CLASS TAG (λ t. t.inner) T.der_gives
+    ghost gives_by_reader = { ExplicitGives CLASS TAG (λ t. t.inner) T.der_gives
         E.from_gives };
 
-    fn from_der(alloc: Global, bytes: &'a [u8]) -> ParseResult<'a, Self, E> {
+    fn read_by_der(alloc: Global, bytes: &'a [u8]) -> ParseResult<'a, Self, E> {
         let (rest, any) = converted(element_by_der(bytes))?;
         match inner_by_der::<T, E>(alloc, CLASS, TAG, &any) {
             Ok((_, inner)) => Ok((rest, TaggedValue::explicit(inner))),
@@ -201,13 +204,13 @@ fn check_inner<T: CheckDerConstraints>(any: &Any<'_>) -> Result<(), Error>
     }
 }
 
-impl<T: CheckDerConstraints, E, const CLASS: u8, const TAG: u32> CheckDerConstraints
+impl<T: CheckDerConstraints, E, const CLASS: u8, const TAG: u32> CheckBy<TagMark<Explicit>>
     for TaggedValue<T, E, Explicit, CLASS, TAG> {
-    ghost check_gives = { ExplicitCheckGives BerElementGives T.check_gives };
+    ghost check_by_kind = { ExplicitCheckGives BerElementGives T.check_gives };
 
     /// Refuses an indefinite length with `IndefiniteLengthUnexpected`, and contents octets that do not begin with an
     /// element by BER that keeps the constraints of the value.
-    fn check_constraints(any: &Any<'_>) -> Result<(), Error> {
+    fn check_this_kind(any: &Any<'_>) -> Result<(), Error> {
         any.header.length().assert_definite()?;
         check_inner::<T>(any)
     }
@@ -259,34 +262,36 @@ impl<T: LawfulItem, E, const CLASS: u8, const TAG: u32> TakesClass<CLASS>
         T.grammar.Check (strict_ber T.grammar T.lawful_item) T.lawful_item.form_check };
 }
 
-impl<'a, T: LawfulBer<'a, E> + Drop, E: From<Error>, const CLASS: u8, const TAG: u32> LawfulBody<
+impl<'a, T: LawfulBer<'a, E> + Drop, E: From<Error>, const CLASS: u8, const TAG: u32> LawfulBodyBy<
     'a,
+    TagMark<Explicit>,
     E,
 > for TaggedValue<T, E, Explicit, CLASS, TAG> {
-    ghost body_exact = { λ any. explicit_takes CLASS TAG (λ t. t.inner) T.ber_gives E.from_gives
+    ghost exact_by_kind = { λ any. explicit_takes CLASS TAG (λ t. t.inner) T.ber_gives E.from_gives
         (ber_words T.grammar) T.grammar.value T.grammar.allocates EndsWithin T.ber_exact
         (parts_of any) };
 
-    ghost body_no_memory = { λ none any. explicit_takes_no_memory {W = Self} CLASS TAG
+    ghost no_memory_by_kind = { λ none any. explicit_takes_no_memory {W = Self} CLASS TAG
         (λ t. t.inner) T.ber_gives
         E.from_gives (T.ber_no_memory none) (parts_of any) };
 }
 
-impl<'a, T: LawfulDer<'a, E> + Drop, E: From<Error>, const CLASS: u8, const TAG: u32> LawfulDer<
+impl<'a, T: LawfulDer<'a, E> + Drop, E: From<Error>, const CLASS: u8, const TAG: u32> LawfulDerBy<
     'a,
+    TagMark<Explicit>,
     E,
 > for TaggedValue<T, E, Explicit, CLASS, TAG> {
-    ghost der_exact = { λ input answer octets. explicit_der_exact CLASS TAG (λ t. t.inner)
+    ghost exact_by_reader = { λ input answer octets. explicit_der_exact CLASS TAG (λ t. t.inner)
         T.der_gives E.from_gives T.grammar.Der T.grammar.value T.grammar.allocates IsCutIdentifier
         T.der_exact input answer };
 
-    ghost der_no_memory = { λ none. explicit_der_no_memory CLASS TAG (λ t. t.inner) T.der_gives
+    ghost no_memory_by_reader = { λ none. explicit_der_no_memory CLASS TAG (λ t. t.inner) T.der_gives
         E.from_gives (T.der_no_memory none) };
 }
 
-impl<T: LawfulCheck, E, const CLASS: u8, const TAG: u32> LawfulCheck
+impl<T: LawfulCheck, E, const CLASS: u8, const TAG: u32> LawfulCheckBy<TagMark<Explicit>>
     for TaggedValue<T, E, Explicit, CLASS, TAG> {
-    ghost checks = { explicit_checks (IsElement max_depth) (ElementFault max_depth) EndsWithin
+    ghost checks_by_kind = { explicit_checks (IsElement max_depth) (ElementFault max_depth) EndsWithin
         ber_elements ber_breach ber_breach_no_memory T.check_gives T.grammar.Check T.checks };
 }
 

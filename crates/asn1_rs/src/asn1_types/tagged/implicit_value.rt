@@ -19,9 +19,12 @@ ghost use Rattle.asn1_rs.specs.Tagged.Writing.{implicit_under, tag_writing};
 
 use crate::asn1_types::any::Any;
 use crate::asn1_types::option::without_raw_tag;
-use crate::asn1_types::tagged::{HasClass, Implicit, TaggedValue};
+use crate::asn1_types::tagged::{HasClass, Implicit, TagMark, TaggedValue};
 use crate::der::element_by_der;
 use crate::header::{element_len, put_counted_header};
+use crate::kinds::reading::{
+    CheckBy, FromAnyBy, FromDerBy, LawfulBodyBy, LawfulCheckBy, LawfulDerBy,
+};
 use crate::laws::in_hand::AlwaysDer;
 use crate::laws::{
     Grammar, LawfulBody, LawfulCheck, LawfulDer, LawfulItem, LawfulMember, LawfulTagged,
@@ -96,18 +99,18 @@ fn assert_in_place(class: u8, number: u32, any: &Any<'_>) -> Result<(), Error>
 
 /// The tag number is looked at, then the class; then the element is converted under the tag number of the value's type,
 /// and under the class that it has. So a value that is under a tag of another class is refused.
-impl<'a, T, E, const CLASS: u8, const TAG: u32> FromAny<'a>
+impl<'a, T, E, const CLASS: u8, const TAG: u32> FromAnyBy<'a, TagMark<Implicit>>
     for TaggedValue<T, E, Implicit, CLASS, TAG>
 where
     T: FromAny<'a, Error = E> + Tagged,
     E: From<Error>,
 {
-    type Error = E;
+    type Refusal = E;
 
-    ghost any_gives = { ImplicitTakes CLASS TAG (λ t. t.inner) T.TAG T.any_gives
+    ghost gives_by_kind = { ImplicitTakes CLASS TAG (λ t. t.inner) T.TAG T.any_gives
         E.from_gives };
 
-    fn try_from_any(alloc: Global, any: Any<'a>) -> Result<Self, E> {
+    fn convert_by_kind(alloc: Global, any: Any<'a>) -> Result<Self, E> {
         if let Err(e) = assert_in_place(CLASS, TAG, &any) {
             return Err(E::from(e));
         }
@@ -139,16 +142,16 @@ impl<'a> Any<'a> {
 }
 
 /// An element by DER, and then its conversion: no constraints of the value are checked, and items are read by BER.
-impl<'a, T, E, const CLASS: u8, const TAG: u32> FromDer<'a, E>
+impl<'a, T, E, const CLASS: u8, const TAG: u32> FromDerBy<'a, TagMark<Implicit>, E>
     for TaggedValue<T, E, Implicit, CLASS, TAG>
 where
     T: FromAny<'a, Error = E> + Tagged,
     E: From<Error>,
 {
-    ghost der_gives = { DerGives PassesAll (ImplicitTakes CLASS TAG (λ t. t.inner) T.TAG
+    ghost gives_by_reader = { DerGives PassesAll (ImplicitTakes CLASS TAG (λ t. t.inner) T.TAG
         T.any_gives E.from_gives) E.from_gives };
 
-    fn from_der(alloc: Global, bytes: &'a [u8]) -> ParseResult<'a, Self, E> {
+    fn read_by_der(alloc: Global, bytes: &'a [u8]) -> ParseResult<'a, Self, E> {
         let (rest, any) = converted(element_by_der(bytes))?;
         match Self::try_from_any(alloc, any) {
             Ok(value) => Ok((rest, value)),
@@ -166,16 +169,16 @@ pub(crate) fn check_under<T: CheckDerConstraints + Tagged>(any: &Any<'_>) -> Res
     T::check_constraints(&Any::new(header, any.content))
 }
 
-impl<T, E, const CLASS: u8, const TAG: u32> CheckDerConstraints
+impl<T, E, const CLASS: u8, const TAG: u32> CheckBy<TagMark<Implicit>>
     for TaggedValue<T, E, Implicit, CLASS, TAG>
 where
     T: CheckDerConstraints + Tagged,
 {
-    ghost check_gives = { ImplicitCheckGives (T.TAG).0 T.check_gives };
+    ghost check_by_kind = { ImplicitCheckGives (T.TAG).0 T.check_gives };
 
     /// Refuses an indefinite length with `IndefiniteLengthUnexpected`, and an element that does not
     /// keep the constraints of the value under the tag number of its type.
-    fn check_constraints(any: &Any<'_>) -> Result<(), Error> {
+    fn check_this_kind(any: &Any<'_>) -> Result<(), Error> {
         any.header.length().assert_definite()?;
         check_under::<T>(any)
     }
@@ -231,44 +234,45 @@ impl<T: TakesClass<CLASS>, E, const CLASS: u8, const TAG: u32> TakesClass<CLASS>
         T.grammar.Body T.tag_number T.takes_class };
 }
 
-impl<'a, T, E, const CLASS: u8, const TAG: u32> LawfulBody<'a, E>
+impl<'a, T, E, const CLASS: u8, const TAG: u32> LawfulBodyBy<'a, TagMark<Implicit>, E>
     for TaggedValue<T, E, Implicit, CLASS, TAG>
 where
     T: LawfulBody<'a, E> + TakesClass<CLASS>,
     E: From<Error>,
 {
-    ghost body_exact = { implicit_takes CLASS TAG (λ t. t.inner) T.TAG T.any_gives E.from_gives
+    ghost exact_by_kind = { implicit_takes CLASS TAG (λ t. t.inner) T.TAG T.any_gives E.from_gives
         T.grammar.Body T.grammar.value T.grammar.allocates T.body_exact };
 
-    ghost body_no_memory = { λ none. implicit_takes_no_memory {W = Self} CLASS TAG (λ t. t.inner)
+    ghost no_memory_by_kind = { λ none. implicit_takes_no_memory {W = Self} CLASS TAG (λ t. t.inner)
         T.TAG T.any_gives E.from_gives (T.body_no_memory none) };
 }
 
-impl<'a, T, E, const CLASS: u8, const TAG: u32> LawfulDer<'a, E>
+impl<'a, T, E, const CLASS: u8, const TAG: u32> LawfulDerBy<'a, TagMark<Implicit>, E>
     for TaggedValue<T, E, Implicit, CLASS, TAG>
 where
     T: LawfulBody<'a, E> + TakesClass<CLASS>,
     E: From<Error>,
 {
-    ghost der_exact = { λ input answer octets. unchecked_exact
+    ghost exact_by_reader = { λ input answer octets. unchecked_exact
         (ImplicitTakes CLASS TAG (λ t. t.inner) T.TAG T.any_gives E.from_gives) E.from_gives
         (ImplicitBody CLASS TAG (T.TAG).0 T.grammar.Body) (λ t. T.grammar.value t.inner)
         T.grammar.allocates (implicit_takes CLASS TAG (λ t. t.inner) T.TAG T.any_gives
         E.from_gives T.grammar.Body T.grammar.value T.grammar.allocates T.body_exact) input
         answer };
 
-    ghost der_no_memory = { λ none. element_no_memory IsDerElement DerElementFault der_breach
+    ghost no_memory_by_reader = { λ none. element_no_memory IsDerElement DerElementFault der_breach
         der_breach_no_memory PassesAll
         (ImplicitTakes CLASS TAG (λ t. t.inner) T.TAG T.any_gives E.from_gives) E.from_gives
         all_pass (implicit_takes_no_memory {W = Self} CLASS TAG (λ t. t.inner) T.TAG T.any_gives
         E.from_gives (T.body_no_memory none)) };
 }
 
-impl<T, E, const CLASS: u8, const TAG: u32> LawfulCheck for TaggedValue<T, E, Implicit, CLASS, TAG>
+impl<T, E, const CLASS: u8, const TAG: u32> LawfulCheckBy<TagMark<Implicit>>
+    for TaggedValue<T, E, Implicit, CLASS, TAG>
 where
     T: LawfulCheck + TakesClass<CLASS>,
 {
-    ghost checks = { implicit_checked (T.TAG).0 T.check_gives T.grammar.Check T.checks };
+    ghost checks_by_kind = { implicit_checked (T.TAG).0 T.check_gives T.grammar.Check T.checks };
 }
 
 impl<T, E, const CLASS: u8, const TAG: u32> LawfulMember for TaggedValue<T, E, Implicit, CLASS, TAG>

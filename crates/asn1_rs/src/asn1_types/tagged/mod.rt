@@ -16,6 +16,8 @@ ghost use Rattle.asn1_rs.specs.Tagged.{has_class, number_of};
 ghost use Rattle.asn1_rs.specs.Any.{parts_of};
 
 use crate::asn1_types::any::Any;
+use crate::kinds::reading::HasReader;
+use crate::kinds::{HasKind, TaggedBy};
 use crate::traits::Tagged;
 use asn1_headers::class::Class;
 use asn1_headers::error::Error;
@@ -151,11 +153,6 @@ impl<T, E, Kind, const CLASS: u8, const TAG: u32> TaggedValue<T, E, Kind, CLASS,
 
 // `number_fits` is asked of the ghost `TAG`, and a ghost member knows no bound of a parameter. So it is the number
 // modulo 2^32, which the constant proves to be the number.
-impl<T, E, Kind, const CLASS: u8, const TAG: u32> Tagged for TaggedValue<T, E, Kind, CLASS, TAG> {
-    const TAG: Tag = Tag(TAG);
-
-    ghost TAG = { record { 0 = number_of TAG } };
-}
 
 impl Any<'_> {
     /// Refuses another class than that of this number with `UnexpectedClass`, which expects no class where the number
@@ -188,4 +185,23 @@ pub fn classes_of_tags() -> [u8; 8]
         explicit.unwrap_or(TaggedValue::explicit(())).class(),
         implicit.unwrap_or(TaggedValue::implicit(())).class(),
     ]
+}
+
+/// The kind of values under a tag, and their reader. `K` is [`Explicit`] or [`Implicit`].
+pub struct TagMark<K>(PhantomData<K>);
+
+impl<T, E, Kind, const CLASS: u8, const TAG: u32> HasKind for TaggedValue<T, E, Kind, CLASS, TAG> {
+    type Kind = TagMark<Kind>;
+}
+
+impl<T, E, Kind, const CLASS: u8, const TAG: u32> HasReader
+    for TaggedValue<T, E, Kind, CLASS, TAG> {
+    type Reader = TagMark<Kind>;
+}
+
+impl<T, E, Kind, const CLASS: u8, const TAG: u32> TaggedBy<TagMark<Kind>>
+    for TaggedValue<T, E, Kind, CLASS, TAG> {
+    const NUMBER: Tag = Tag(TAG);
+
+    ghost NUMBER = { record { 0 = number_of TAG } };
 }
