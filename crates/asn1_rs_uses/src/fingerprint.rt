@@ -2,15 +2,12 @@
 ghost use Rattle.std.specs.Prelude.{◌≡◌};
 ghost use Rattle.asn1_rs.specs.Any.{parts_of};
 ghost use Rattle.asn1_rs.specs.Checks.{is_primitive};
-ghost use Rattle.asn1_rs.specs.Leaf.{LeafGives, leaf_element};
-ghost use Rattle.asn1_rs.specs.Laws.Leaf.{leaf_lawful, leaf_constraints, leaf_converts, leaf_written};
-ghost use Rattle.asn1_rs.specs.Traits.{OfParts};
+ghost use Rattle.asn1_rs.specs.Laws.Leaf.{leaf_laws, leaf_written};
 ghost use Rattle.asn1_rs_uses.specs.Fingerprint.{fingerprint_leaf, fingerprint_lawful};
 
 use asn1_rs::{
-    Any, CheckDerConstraints, DerAutoDerive, DerElement, ElementKind, Error, FromAny, HasKind,
-    LawfulConversion, LawfulElement, Tag, TagNumber, Tagged, TaggedAs, WritesOctets,
-    octets_in_hand,
+    Any, ConvertsLeaf, DerElement, ElementKind, Error, HasKind, LeafType, Tag, TagNumber, Tagged,
+    WritesOctets, octets_in_hand,
 };
 use std::alloc::Global;
 
@@ -18,62 +15,35 @@ use std::alloc::Global;
 #[derive(Debug, Clone, Copy)]
 pub struct Fingerprint<'a>(pub &'a [u8]);
 
-impl TaggedAs for Fingerprint<'_> {
+impl HasKind for Fingerprint<'_> {
+    type Kind = ElementKind;
+}
+
+impl LeafType for Fingerprint<'_> {
     type Number = TagNumber<4>;
-}
 
-/// The tag number of a fingerprint.
-pub fn number_of_fingerprints() -> u32
-    ensures { result ≡ 4 }
-{
-    Fingerprint::TAG.0
-}
+    ghost laws = { leaf_laws fingerprint_leaf fingerprint_lawful };
 
-impl<'a> FromAny<'a> for Fingerprint<'a> {
-    type Error = Error;
-
-    ghost any_gives = { OfParts (LeafGives fingerprint_leaf) };
-
-    fn try_from_any(_alloc: Global, any: Any<'a>) -> Result<Fingerprint<'a>, Error> {
-        any.header.assert_tag(Tag::OctetString)?;
-        Ok(Fingerprint(any.content))
+    fn leaf_in_hand(&self) {
+        octets_in_hand(self.0);
     }
-}
 
-impl CheckDerConstraints for Fingerprint<'_> {
-    ghost check_gives = { is_primitive };
-
-    fn check_constraints(any: &Any<'_>) -> Result<(), Error>
+    fn check_leaf(any: &Any<'_>) -> Result<(), Error>
         ensures { is_primitive (parts_of any.now) result }
     {
         any.header.assert_primitive()
     }
 }
 
-impl DerAutoDerive for Fingerprint<'_> {}
-
-impl HasKind for Fingerprint<'_> {
-    type Kind = ElementKind;
-}
-
-impl LawfulElement for Fingerprint<'_> {
-    ghost element = { leaf_element fingerprint_leaf };
-
-    ghost lawful = { leaf_lawful fingerprint_leaf fingerprint_lawful };
-
-    ghost checked = { leaf_constraints fingerprint_leaf fingerprint_lawful };
-
-    fn value_in_hand(&self) {
-        octets_in_hand(self.0);
+impl<'a> ConvertsLeaf<'a> for Fingerprint<'a> {
+    fn convert_leaf(_alloc: Global, any: Any<'a>) -> Result<Fingerprint<'a>, Error> {
+        any.header.assert_tag(Tag::OctetString)?;
+        Ok(Fingerprint(any.content))
     }
 }
 
 impl DerElement for Fingerprint<'_> {
     ghost each_der = { λ v d. d };
-}
-
-impl<'a> LawfulConversion<'a> for Fingerprint<'a> {
-    ghost converts = { leaf_converts fingerprint_leaf fingerprint_lawful };
 }
 
 impl WritesOctets for Fingerprint<'_> {
@@ -84,4 +54,11 @@ impl WritesOctets for Fingerprint<'_> {
     }
 
     ghost held_are = { leaf_written fingerprint_leaf fingerprint_lawful };
+}
+
+/// The tag number of a fingerprint.
+pub fn number_of_fingerprints() -> u32
+    ensures { result ≡ 4 }
+{
+    Fingerprint::TAG.0
 }

@@ -10,8 +10,8 @@ ghost use Rattle.asn1_rs.specs.Laws.Kinds.{holding_lawful, holding_converts, hol
 ghost use Rattle.asn1_rs.specs.Laws.Integer.Unsigned.{unsigned_converts};
 
 use asn1_rs::{
-    Any, CheckDerConstraints, DerAutoDerive, DerElement, DerWrite, ElementKind, Error, FromAny,
-    HasKind, LawfulConversion, LawfulElement, SerializeResult, Tag, Tagged, WritesElement,
+    Any, ConvertsLeaf, DerElement, DerWrite, ElementKind, Error, HasKind, LeafType,
+    SerializeResult, TagNumber, WritesElement,
 };
 use std::alloc::Global;
 
@@ -19,54 +19,39 @@ use std::alloc::Global;
 #[derive(Debug, Clone, Copy, PartialEq, Eq)]
 pub struct SerialNumber(pub u64);
 
-impl Tagged for SerialNumber {
-    const TAG: Tag = Tag::Integer;
-
-    ghost TAG = { record { 0 = 2 } };
-}
-
-impl<'a> FromAny<'a> for SerialNumber {
-    type Error = Error;
-
-    ghost any_gives = { HoldingGives (λ x. x.0) (OfParts (UnsignedGives 8)) };
-
-    fn try_from_any(_alloc: Global, any: Any<'a>) -> Result<SerialNumber, Error> {
-        Ok(SerialNumber(any.u64()?))
-    }
-}
-
-impl CheckDerConstraints for SerialNumber {
-    ghost check_gives = { IntegerCheckGives };
-
-    fn check_constraints(any: &Any<'_>) -> Result<(), Error> {
-        u64::check_constraints(any)
-    }
-}
-
-impl DerAutoDerive for SerialNumber {}
-
 impl HasKind for SerialNumber {
     type Kind = ElementKind;
 }
 
-impl LawfulElement for SerialNumber {
-    ghost element = { holding (λ x. x.0) (integer_element pos (IsUnsigned 8)) };
+impl LeafType for SerialNumber {
+    type Number = TagNumber<2>;
 
-    ghost lawful = { holding_lawful (λ x. x.0) _ (integer_lawful (IsUnsigned 8) pos) };
+    ghost laws = { record {
+      element = holding (λ x. x.0) (integer_element pos (IsUnsigned 8));
+      gives = HoldingGives (λ x. x.0) (OfParts (UnsignedGives 8));
+      check = IntegerCheckGives;
+      lawful = holding_lawful (λ x. x.0) _ (integer_lawful (IsUnsigned 8) pos);
+      checked = integer_checks;
+      converts = holding_converts (λ x. x.0) _ _ (unsigned_converts 8);
+    } };
 
-    ghost checked = { integer_checks };
+    fn leaf_in_hand(&self) {
+        self.0.leaf_in_hand();
+    }
 
-    fn value_in_hand(&self) {
-        self.0.value_in_hand();
+    fn check_leaf(any: &Any<'_>) -> Result<(), Error> {
+        u64::check_leaf(any)
+    }
+}
+
+impl<'a> ConvertsLeaf<'a> for SerialNumber {
+    fn convert_leaf(_alloc: Global, any: Any<'a>) -> Result<SerialNumber, Error> {
+        Ok(SerialNumber(any.u64()?))
     }
 }
 
 impl DerElement for SerialNumber {
     ghost each_der = { λ v d. d };
-}
-
-impl<'a> LawfulConversion<'a> for SerialNumber {
-    ghost converts = { holding_converts (λ x. x.0) _ _ (unsigned_converts 8) };
 }
 
 impl WritesElement for SerialNumber {

@@ -9,7 +9,8 @@ ghost use Rattle.asn1_rs_uses.specs.Version.{VersionByDer};
 
 use asn1_rs::{
     Any, CheckDerConstraints, Error, FromAny, FromDer, HasKind, HolderKind, Holds, LawfulBody,
-    LawfulCheck, LawfulDer, LawfulMember, ParseResult, Tagged, TaggedExplicit, read_der,
+    LawfulBodyBy, LawfulCheck, LawfulDer, LawfulMember, ParseResult, Tagged, TaggedExplicit,
+    read_der,
 };
 use std::alloc::Global;
 
@@ -66,10 +67,10 @@ impl<T: CheckDerConstraints> CheckDerConstraints for Field<T> {
     }
 }
 
-impl<'a, T: LawfulBody<'a, E>, E: From<Error>> LawfulBody<'a, E> for Field<T> {
-    ghost body_exact = { held_takes (λ x. x.0) T.grammar T.any_gives E.from_gives T.body_exact };
+impl<'a, T: LawfulBody<'a, E>, E: From<Error>> LawfulBodyBy<'a, HolderKind, E> for Field<T> {
+    ghost exact_by_kind = { held_takes (λ x. x.0) T.grammar T.any_gives E.from_gives T.body_exact };
 
-    ghost body_no_memory = { T.body_no_memory };
+    ghost no_memory_by_kind = { T.body_no_memory };
 }
 
 impl<'a, T: LawfulDer<'a, E>, E: From<Error>> LawfulDer<'a, E> for Field<T> {

@@ -17,9 +17,10 @@ use x690::integers::unsigned_into;
 use x690::signed::signed_into;
 
 /// The machine integers: `u8` to `u128` and `i8` to `i128`.
-// Each writes its impls itself, of one line a member. One impl for all of them conflicts with those for references,
-// since a crate above could make a reference to its own type a machine integer; and the gate takes no impl that a macro
-// of this repository writes.
+// One impl over all of them gives `LeafType`, `ConvertsLeaf` and `DerElement`. Each type has `HasKind`, `WritesElement`
+// and `LawfulMember` itself. One impl of `HasKind` or `LawfulMember` over all of them conflicts with that for
+// references, since a crate above could make a reference to its own type a machine integer; one of `WritesElement`
+// conflicts with that over `WritesOctets`. The gate takes no impl that a macro of this repository writes.
 pub trait MachineInt: Copy {
     /// The integers that its values are, which it holds, and how octets of others are refused.
     ghost machine: { Machine Self };
