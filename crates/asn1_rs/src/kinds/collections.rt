@@ -43,11 +43,18 @@ use asn1_headers::writer::DerWrite;
 use std::alloc::Global;
 use std::marker::PhantomData;
 
+/// A kind of lists: [`SequenceKind`] or [`SetKind`].
+pub trait CollectionKind {}
+
 /// The kind of lists that are sequences of their items, in order (X.690 8.10).
 pub struct SequenceKind;
 
+impl CollectionKind for SequenceKind {}
+
 /// The kind of sets, in which the order of the items says nothing (X.690 8.12). `M` is [`Repeats`] or [`Once`].
 pub struct SetKind<M>(PhantomData<M>);
+
+impl<M> CollectionKind for SetKind<M> {}
 
 /// Of sets in which an item may stand more than once.
 pub struct Repeats;
