@@ -29,7 +29,7 @@ use Rattle.asn1_rs.specs.declared.asn1_types.any.Any.{Any}
 use Rattle.asn1_headers.specs.Error.{HeldIn, FlattenedTo}
 use Rattle.asn1_rs.specs.Kinds.{IsExactCheck}
 use Rattle.asn1_rs.specs.Any.{parts_of, IsTheElement}
-use Rattle.asn1_rs.specs.Traits.{OfParts}
+use Rattle.asn1_rs.specs.Traits.{DerGives, OfParts, PassesAll}
 use Rattle.asn1_rs.specs.Laws.Any.Value.{the_element_parts}
 use Rattle.asn1_headers.specs.Answers.{Exactly, TellsMemory, IsOther}
 use Rattle.asn1_rs.specs.Grammar.Form.{IsOneForm, IsOneValue, FitsElement, HasValues, IsStrict, universal, header_of}
@@ -42,7 +42,7 @@ use Rattle.asn1_rs.specs.Laws.Sequence.Iterator.{octets_kept, lawful_walk, items
 use Rattle.asn1_rs.specs.Grammar.Item.{ItemGrammar, IsLawfulItem, ber_words}
 use Rattle.asn1_rs.specs.declared.asn1_types.sequence.sequence_of.SequenceOf.{SequenceOf}
 use Rattle.asn1_rs.specs.Sequence.SequenceOf.{sequence_items, IsSequenceOf}
-use Rattle.asn1_rs.specs.Checks.{CheckGives, ◌before◌, has_number, is_constructed}
+use Rattle.asn1_rs.specs.Checks.{CheckGives, IsCheck, has_number, is_constructed}
 use Rattle.asn1_rs.specs.Laws.Checks.{exact_check, before_is, has_number_is, is_constructed_is}
 use Rattle.asn1_rs.specs.Lists.{list_grammar, ShapedList, HasNumber, IsConstructed, ListBody, ListOf, CheckedElement}
 use Rattle.asn1_rs.specs.Lists.{ListCheck, StrictWord, ListForm}
@@ -50,6 +50,7 @@ use Rattle.asn1_rs.specs.Lists.{IsListOr, ItemsGive, ListTakes, CheckedGives, Li
 use Rattle.asn1_rs.specs.Lists.{has_items}
 use Rattle.asn1_rs.specs.ToDer.{HasNone, IsWritable, Writing, whole_octets, whole_refuses}
 use Rattle.asn1_rs.specs.Laws.Readers.{element_exact, element_no_memory, der_breach_no_memory, der_elements}
+use Rattle.asn1_rs.specs.Laws.Readers.{unchecked_exact}
 use Rattle.asn1_rs.specs.Laws.Words.{word_one, strict_element, one_strict, strict_apart, strict_der_word, ber_one}
 use Rattle.asn1_rs.specs.Laws.Words.{ber_values, strict_ber}
 use Rattle.asn1_rs.specs.Laws.Forms.{universal_one, universal_value, universal_fits, strict_written, behind_header}
@@ -211,10 +212,13 @@ list_lawful number small items G l = record {
 pub number_checks : (number : ℕ) → IsExactCheck (has_number number) (HasNumber number)
 number_checks number = exact_check (has_number number) (has_number_is number)
 
--- So is that of the tag number and then of the constructed bit.
+-- That of the tag number and then of the constructed bit is a check.
+pub is_list_or_is : (number : ℕ) → IsCheck (IsListOr number)
+is_list_or_is number = before_is (has_number number) is_constructed (has_number_is number) is_constructed_is
+
+-- It is exact.
 pub constructed_checks : (number : ℕ) → IsExactCheck (IsListOr number) (IsConstructed number)
-constructed_checks number = exact_check (IsListOr number)
-    (before_is (has_number number) is_constructed (has_number_is number) is_constructed_is)
+constructed_checks number = exact_check (IsListOr number) (is_list_or_is number)
 
 -- Items that were taken by an exact reader are joined words;
 -- where a refusal ended the walk there are no such words, or it reports out of memory.
@@ -286,6 +290,13 @@ module _ {T V W E : Type 0} {check : CheckGives} {Shape : Parts → Type 0} (che
   list_takes any (Err e) o (inl r) = inr (λ vs b. checks.exact (parts_of any) (Err r.0) r.1 b.shape)
   list_takes any (Err e) o (inr (h, s)) =
       elim (none_taken e any.content.now o s) [ inl m ↦ inl (refl, m) | inr none ↦ inr (λ vs b. none vs b.items) ]
+
+  -- So is reading the element at the front by DER, and making a list of it.
+  pub list_by_der_exact : (input : List ℕ) (answer : Result (List ℕ × W) (Refusal E)) →
+      DerGives PassesAll (OfParts (ListTakes check holds reads from)) from input answer →
+      Exactly IsCutIdentifier (DerWord NoCheck (ShapedList Shape G)) values (TellsMemory true from) input answer
+  list_by_der_exact =
+      unchecked_exact (OfParts (ListTakes check holds reads from)) from (ShapedList Shape G) values true list_takes
 
 -- Checking.
 

@@ -15,7 +15,7 @@ use Rattle.std.proofs.lemmas.List.Elements.{All-nil, All-cons}
 use Rattle.std.proofs.lemmas.List.Sorted.{IsPermutation-refl, IsPermutation-sym, All-permutation}
 use Rattle.x690.specs.Strict.{header_octets}
 use Rattle.x690.specs.Octets.{IsOctets}
-use Rattle.x690.specs.Identifiers.{Identifier}
+use Rattle.x690.specs.Identifiers.{Identifier, IsCutIdentifier}
 use Rattle.x690.specs.Elements.{Parts, IsDerElement}
 use Rattle.x690.specs.Collections.{multiset, ValueSet, value_set, AllDiffer, Joins, AnyList}
 use Rattle.x690.specs.Joined.{IsOneFront, IsJoined}
@@ -34,10 +34,11 @@ use Rattle.asn1_headers.specs.declared.error.SerializeError.{SerializeError}
 use Rattle.asn1_rs.specs.Grammar.Form.{IsOneForm, IsOneValue, FitsElement, HasValues, IsStrict, universal, header_of}
 use Rattle.asn1_rs.specs.Grammar.Form.{WritesByValue, WritesForm, HasForm}
 use Rattle.asn1_rs.specs.Grammar.{IsOneBody, TakesBody, FormChecks, FormBodies, FormTakes, FormNumber, NoCheck, made}
+use Rattle.asn1_rs.specs.Grammar.{DerWord}
 use Rattle.asn1_rs.specs.Grammar.Item.{ItemGrammar, IsLawfulItem, ber_words}
 use Rattle.asn1_rs.specs.declared.asn1_types.any.Any.{Any}
 use Rattle.asn1_rs.specs.Any.{parts_of}
-use Rattle.asn1_rs.specs.Traits.{OfParts}
+use Rattle.asn1_rs.specs.Traits.{DerGives, OfParts, PassesAll}
 use Rattle.asn1_rs.specs.Checks.{CheckGives}
 use Rattle.asn1_rs.specs.Kinds.{IsExactCheck}
 use Rattle.asn1_rs.specs.Lists.{ShapedList, HasNumber, IsConstructed, ListCheck, StrictWord, SomeRefuses, ListTakes}
@@ -45,7 +46,7 @@ use Rattle.asn1_rs.specs.ToDer.{HasNone, IsWritable, IntoVector, Writing, whole_
 use Rattle.asn1_rs.specs.Set.{Members, set_of, pairs_pass, members_if, members, is_below, is_other, Seen, SetBody}
 use Rattle.asn1_rs.specs.Set.{SetRow, SetForm, SetValues, SetInDer, set_grammar, multiset_grammar, member_grammar}
 use Rattle.asn1_rs.specs.Set.{items_of, HasItems, set_content}
-use Rattle.asn1_rs.specs.Laws.Readers.{der_elements}
+use Rattle.asn1_rs.specs.Laws.Readers.{der_elements, unchecked_exact}
 use Rattle.asn1_rs.specs.Laws.Words.{word_one, one_strict, strict_der_word, ber_one, ber_values, strict_ber}
 use Rattle.asn1_rs.specs.Laws.Forms.{universal_one, universal_value, universal_fits, strict_written, behind_header}
 use Rattle.asn1_rs.specs.Laws.Forms.{both_by_value, whole_writable}
@@ -685,6 +686,14 @@ module _ {T V W M E : Type 0} {check : CheckGives} {Shape : Parts → Type 0} (c
         | inl m ↦ inl m
         | inr none ↦ inr (λ m b. none b.0 b.2)
       ]
+
+  -- So is reading the element at the front by DER, and making a set of it.
+  pub set_by_der_exact : (input : List ℕ) (answer : Result (List ℕ × W) (Refusal E)) →
+      DerGives PassesAll (OfParts (ListTakes check holds reads from)) from input answer →
+      Exactly IsCutIdentifier (DerWord NoCheck (Seen of (ShapedList Shape G))) worth (TellsMemory true from) input
+      answer
+  set_by_der_exact = unchecked_exact (OfParts (ListTakes check holds reads from)) from (Seen of (ShapedList Shape G))
+      worth true set_takes
 
 -- What is told of sets in hand.
 

@@ -9,8 +9,7 @@ use Rattle.asn1_rs.specs.declared.asn1_types.strings.RestrictedString.{Restricte
 use Rattle.asn1_rs.specs.Kinds.{IsExactConversion}
 use Rattle.asn1_rs.specs.Leaf.{IsLawfulLeaf, leaf_element}
 use Rattle.asn1_rs.specs.Strings.{text_leaf, string_leaf, StringGives, text_of}
-use Rattle.asn1_rs.specs.Laws.Checks.{content_check_is, is_primitive_is}
-use Rattle.asn1_rs.specs.Laws.Checks.{exact_check}
+use Rattle.asn1_rs.specs.Laws.Checks.{content_check_is, exact_check, is_primitive_is}
 use Rattle.asn1_rs.specs.Laws.Leaf.{leaf_converts, leaf_lawful}
 use Rattle.asn1_rs.specs.LeafLaws.{LeafLaws}
 use Rattle.asn1_rs.specs.Checks.{is_primitive}

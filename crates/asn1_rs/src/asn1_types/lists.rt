@@ -36,7 +36,6 @@ use crate::traits::{CheckDerConstraints, FromBer, FromDer, Tagged, converted};
 use asn1_headers::buffer::DerBuffer;
 use asn1_headers::content::{BerParser, DerParser};
 use asn1_headers::error::{Err, Error, ParseResult, SerializeError, SerializeResult, without_io};
-use asn1_headers::tag::Tag;
 use asn1_headers::writer::{DerWrite, Told};
 use std::alloc::{AllocError, Global};
 use std::io;
@@ -239,19 +238,13 @@ fn check_items<T: CheckDerConstraints>(content: &[u8]) -> Result<(), Error>
     Ok(())
 }
 
-/// Refuses an element that is no list with this tag number, or breaks a constraint of its items.
-pub(crate) fn check_list<T: CheckDerConstraints>(number: u32, any: &Any<'_>) -> Result<(), Error>
-    ensures { ListCheckGives number T.check_gives (parts_of any.now) result }
-{
-    ConstructedForm::assert_form(number, any)?;
-    check_items::<T>(any.content)
-}
-
+/// Refuses an element that is no list with the tag number, or breaks a constraint of its items.
 impl<K: CollectionKind, L: Listed<Item = T>, T: CheckDerConstraints> CheckBy<K> for L {
     ghost check_by_kind = { ListCheckGives (L.TAG).0 T.check_gives };
 
     fn check_this_kind(any: &Any<'_>) -> Result<(), Error> {
-        check_list::<T>(L::TAG.0, any)
+        ConstructedForm::assert_form(L::TAG.0, any)?;
+        check_items::<T>(any.content)
     }
 }
 

@@ -4,8 +4,7 @@
 //! [`WritesAscending`]); a set without repetitions also how it tells its members apart ([`HasMembers`],
 //! [`LawfulMembers`]).
 //!
-//! Readers, and the laws of these and of the check, stand with each type: `FromDer`, `LawfulDer` and `LawfulCheck` have
-//! an impl over all types that are read as one element, beside which one over all lists can't stand.
+//! How lists are read and checked stands in `asn1_types::lists`, the laws of that with each type.
 ghost use Rattle.std.specs.Prelude.{◌≡◌, ◌≢◌, Bool, List, true, false, length, map, [], ◌∷◌, MatchOption, IfOk, IfErr};
 ghost use Rattle.std.specs.Prelude.{◌+◌, IsErr};
 ghost use Rattle.asn1_headers.specs.Prepended.{Prepended};

@@ -122,7 +122,7 @@ impl EncodingForm for ConstructedForm {
     ghost form_gives = { IsListOr };
 
     fn assert_form(number: u32, any: &Any<'_>) -> Result<(), Error> {
-        any.header.assert_tag(Tag(number))?;
+        AnyForm::assert_form(number, any)?;
         any.header.assert_constructed()
     }
 }
