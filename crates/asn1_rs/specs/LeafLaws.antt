@@ -1,5 +1,5 @@
 -- What a leaf type says of itself, once: its elements, what its calls may answer, and that this is lawful.
-use Rattle.std.specs.Prelude.{ℕ, Bool, List, Result}
+use Rattle.std.specs.Prelude.{Result}
 use Rattle.asn1_headers.specs.declared.error.Error.{Error}
 use Rattle.asn1_rs.specs.declared.asn1_types.any.Any.{Any}
 use Rattle.asn1_rs.specs.Checks.{CheckGives}
