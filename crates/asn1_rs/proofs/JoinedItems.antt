@@ -17,7 +17,9 @@ use Rattle.asn1_headers.specs.declared.error.Err.TheVariants.{Incomplete as cut,
 use Rattle.asn1_headers.specs.declared.error.Error.{Error}
 use Rattle.asn1_headers.specs.declared.error.Error.TheVariants as errors
 use Rattle.asn1_rs.specs.declared.asn1_types.sequence.iterator.SequenceIterator.{SequenceIterator}
-use Rattle.asn1_rs.specs.Lists.{HasNoJoining, IsListOr, ItemsGive, ListBody, ListOf, ListReads, ListTakes, MadeOf}
+use Rattle.asn1_rs.specs.Checks.{CheckGives}
+use Rattle.asn1_rs.specs.Kinds.{IsExactCheck}
+use Rattle.asn1_rs.specs.Lists.{HasNoJoining, ItemsGive, ListTakes, MadeOf, ShapedList}
 use Rattle.asn1_rs.specs.ToDer.{HasNone}
 use Rattle.asn1_rs.specs.Laws.Lists.{taken_joined, taken_none}
 use Rattle.asn1_rs.specs.Laws.Sequence.Iterator.{octets_kept, octets_walked}
@@ -47,30 +49,17 @@ module _ {T V E : Type 0} (reads : List ℕ → Result (List ℕ × T) (Refusal 
       ]
 
   -- of the lists that are made of such items
-  module _ {W : Type 0} (holds : List T → W → Type 0) (number : ℕ) (p : Parts) (o : IsOctets p.content) where
-    pub element_taken : (w : W) → ListTakes number holds reads from p (Ok w) →
-        MadeOf (ListBody number G) value holds p w
+  module _ {W : Type 0} {check : CheckGives} {Shape : Parts → Type 0} (checks : IsExactCheck check Shape)
+      (holds : List T → W → Type 0) (p : Parts) (o : IsOctets p.content) where
+    pub element_taken : (w : W) → ListTakes check holds reads from p (Ok w) →
+        MadeOf (ShapedList Shape G) value holds p w
     element_taken w (is, (items, held, y)) =
-        (items, held, record { number_is = is.0; constructed = is.1; items = all_joined p.content items o y })
+        (items, held, record { shape = checks.exact p (Ok tt) is; items = all_joined p.content items o y })
 
-    pub element_read : (w : W) → ListReads number holds reads from p (Ok w) → MadeOf (ListOf number G) value holds p w
-    element_read w (is, (items, held, y)) =
-        (items, held, record { number_is = is; items = all_joined p.content items o y })
-
-    no_list : (e : Error) → IsListOr number p (Err e) → HasNone (ListBody number G p)
-    no_list e (inl a) vs b = a.0 b.number_is
-    no_list e (inr a) vs b = let c = a.1 in let d = b.constructed in cc
-
-    pub element_not_taken : (e : E) → ListTakes {W = W} number holds reads from p (Err e) →
-        from errors.OutOfMemory e ⊎ HasNone (ListBody number G p)
-    element_not_taken e (inl r) = inr (no_list r.0 r.1)
+    pub element_not_taken : (e : E) → ListTakes {W = W} check holds reads from p (Err e) →
+        from errors.OutOfMemory e ⊎ HasNone (ShapedList Shape G p)
+    element_not_taken e (inl r) = inr (λ vs b. checks.exact p (Err r.0) r.1 b.shape)
     element_not_taken e (inr (is, y)) =
-        elim (none_joined p.content e o y) [ inl m ↦ inl m | inr none ↦ inr (λ vs b. none vs b.items) ]
-
-    pub element_not_read : (e : E) → ListReads {W = W} number holds reads from p (Err e) →
-        from errors.OutOfMemory e ⊎ HasNone (ListOf number G p)
-    element_not_read e (inl r) = inr (λ vs b. r.0 b.number_is)
-    element_not_read e (inr (is, y)) =
         elim (none_joined p.content e o y) [ inl m ↦ inl m | inr none ↦ inr (λ vs b. none vs b.items) ]
 
 module _ {T E : Type 0} (reads : List ℕ → Result (List ℕ × T) (Refusal E) → Type 0) (from : Error → E → Type 0)

@@ -1,5 +1,5 @@
 -- Lists: elements whose contents octets are items joined in their order (X.690 8.9, 8.10).
-use Rattle.std.specs.Prelude.{◌≡◌, ◌≢◌, ◌⊎◌, ℕ, true, false, List, [], ◌∷◌, ◌++◌, length, map, Option, Some, Result, Ok}
+use Rattle.std.specs.Prelude.{◌≡◌, ◌⊎◌, ℕ, true, List, [], ◌∷◌, ◌++◌, length, map, Option, Result, Ok}
 use Rattle.std.specs.Prelude.{Err}
 use Rattle.std.specs.Borrow.{Bor}
 use Rattle.std.specs.declared.vec.Vec.{Vec}
@@ -15,6 +15,7 @@ use Rattle.asn1_headers.specs.declared.error.Error.TheVariants as errors
 use Rattle.asn1_rs.specs.declared.asn1_types.any.Any.{Any}
 use Rattle.asn1_rs.specs.declared.asn1_types.lists.PackedEncodings.{PackedEncodings}
 use Rattle.asn1_rs.specs.Any.{IsTheElement}
+use Rattle.asn1_rs.specs.Checks.{CheckGives, ◌before◌, has_number, is_constructed}
 use Rattle.asn1_headers.specs.Error.{FlattenedTo}
 use Rattle.asn1_rs.specs.Grammar.Form.{IsStrict, UniversalForm}
 use Rattle.asn1_rs.specs.Traits.{DerGives}
@@ -26,16 +27,27 @@ use Rattle.asn1_headers.specs.Walk.{TakesItem}
 abbrev pub HasNoJoining : {V : Type 0} → (List ℕ → V → Type 0) → List ℕ → Type 0
 HasNoJoining {V} G octets = (values : List V) → IsJoined G octets values → ⊥
 
--- A constructed element with the tag number, whose contents octets are words joined.
-pub record ListBody {V : Type 0} (number : ℕ) (G : List ℕ → V → Type 0) (p : Parts) (vs : List V) : Type 0 where
-  pub number_is : p.id.number ≡ number
-  pub constructed : p.id.constructed ≡ true
+-- An element of this shape, whose contents octets are words joined.
+pub record ShapedList {V : Type 0} (Shape : Parts → Type 0) (G : List ℕ → V → Type 0) (p : Parts)
+    (vs : List V) : Type 0 where
+  pub shape : Shape p
   pub items : IsJoined G p.content vs
 
+-- the element has the tag number
+abbrev pub HasNumber : ℕ → Parts → Type 0
+HasNumber number p = p.id.number ≡ number
+
+-- and is constructed
+abbrev pub IsConstructed : ℕ → Parts → Type 0
+IsConstructed number p = (p.id.number ≡ number) × (p.id.constructed ≡ true)
+
+-- A constructed element with the tag number, whose contents octets are words joined.
+abbrev pub ListBody : {V : Type 0} → ℕ → (List ℕ → V → Type 0) → Parts → List V → Type 0
+ListBody number = ShapedList (IsConstructed number)
+
 -- The same, where the constructed bit is not looked at.
-pub record ListOf {V : Type 0} (number : ℕ) (G : List ℕ → V → Type 0) (p : Parts) (vs : List V) : Type 0 where
-  pub number_is : p.id.number ≡ number
-  pub items : IsJoined G p.content vs
+abbrev pub ListOf : {V : Type 0} → ℕ → (List ℕ → V → Type 0) → Parts → List V → Type 0
+ListOf number = ShapedList (HasNumber number)
 
 -- an element of definite length whose parts meet the constraints
 abbrev pub CheckedElement : (Parts → Type 0) → List ℕ → Parts → Type 0
@@ -58,11 +70,8 @@ abbrev pub ListForm : {V : Type 0} → ℕ → (V → Identifier → List ℕ �
 ListForm number Form = UniversalForm true number (λ vs c. IsJoined (StrictWord Form) c vs)
 
 -- a constructed element with the tag number, or the refusal of the first of these that fails
-abbrev pub IsListOr : ℕ → Parts → Result (Unit {0}) Error → Type 0
-IsListOr number p (Ok x) = (p.id.number ≡ number) × (p.id.constructed ≡ true)
-IsListOr number p (Err e) =
-    ((p.id.number ≢ number) × (e ≡ errors.UnexpectedTag (Some (record { 0 = number })) (record { 0 = p.id.number }))) ⊎
-    ((p.id.number ≡ number) × (p.id.constructed ≡ false) × (e ≡ errors.ConstructExpected))
+abbrev pub IsListOr : ℕ → CheckGives
+IsListOr number = has_number number before is_constructed
 
 -- a walk gave items, and then this refusal
 abbrev pub EndsItems : {T E : Type 0} → (List ℕ → Result (List ℕ × T) (Refusal E) → Type 0) → (Error → E → Type 0) →
@@ -89,22 +98,13 @@ ListGives {T} holds reads from content (Ok w) =
     (items : List T) × holds items w × ItemsGive reads from content (Ok items)
 ListGives holds reads from content (Err e) = ItemsGive reads from content (Err e)
 
--- What the conversion of an element to a list may answer: the list of its items; or the refusal of the tag number, that
--- of the constructed bit, or that of the items.
-abbrev pub ListTakes : {T W E : Type 0} → ℕ → (List T → W → Type 0) →
+-- What making a list of an element may answer: the list of its items; or the refusal of the check, or that of the items.
+-- The check is `IsListOr`, or `has_number` where the constructed bit is not looked at.
+abbrev pub ListTakes : {T W E : Type 0} → CheckGives → (List T → W → Type 0) →
     (List ℕ → Result (List ℕ × T) (Refusal E) → Type 0) → (Error → E → Type 0) → Parts → Result W E → Type 0
-ListTakes number holds reads from p (Ok w) = IsListOr number p (Ok tt) × ListGives holds reads from p.content (Ok w)
-ListTakes number holds reads from p (Err e) = ((refusal : Error) × IsListOr number p (Err refusal) × from refusal e) ⊎
-    (IsListOr number p (Ok tt) × ListGives holds reads from p.content (Err e))
-
--- what a list's own reader by DER may answer to an element: the same, but the constructed bit is not looked at
-abbrev pub ListReads : {T W E : Type 0} → ℕ → (List T → W → Type 0) →
-    (List ℕ → Result (List ℕ × T) (Refusal E) → Type 0) → (Error → E → Type 0) → Parts → Result W E → Type 0
-ListReads number holds reads from p (Ok w) = (p.id.number ≡ number) × ListGives holds reads from p.content (Ok w)
-ListReads number holds reads from p (Err e) =
-    ((p.id.number ≢ number) ×
-    from (errors.UnexpectedTag (Some (record { 0 = number })) (record { 0 = p.id.number })) e) ⊎
-    ((p.id.number ≡ number) × ListGives holds reads from p.content (Err e))
+ListTakes check holds reads from p (Ok w) = check p (Ok tt) × ListGives holds reads from p.content (Ok w)
+ListTakes check holds reads from p (Err e) = ((refusal : Error) × check p (Err refusal) × from refusal e) ⊎
+    (check p (Ok tt) × ListGives holds reads from p.content (Err e))
 
 -- a list that was made of items whose values stand in the element's contents octets
 abbrev pub MadeOf : {T V W : Type 0} → (Parts → List V → Type 0) → (T → V) → (List T → W → Type 0) → Parts → W → Type 0
@@ -127,10 +127,8 @@ ItemsCheckGives check content (Ok x) =
 ItemsCheckGives check content (Err e) = EndsItems (CheckedGives check) (λ x y. y ≡ x) content e
 
 -- what the check of a list may answer
-abbrev pub ListCheckGives : ℕ → (Parts → Result (Unit {0}) Error → Type 0) → Parts → Result (Unit {0}) Error → Type 0
-ListCheckGives number check p (Ok x) = IsListOr number p (Ok tt) × ItemsCheckGives check p.content (Ok tt)
-ListCheckGives number check p (Err e) =
-    IsListOr number p (Err e) ⊎ (IsListOr number p (Ok tt) × ItemsCheckGives check p.content (Err e))
+abbrev pub ListCheckGives : ℕ → CheckGives → CheckGives
+ListCheckGives number check = IsListOr number before (λ p. ItemsCheckGives check p.content)
 
 -- what reading the first element and checking it may answer: what follows it, or its refusal
 abbrev pub FirstChecked : (Parts → Result (Unit {0}) Error → Type 0) → List ℕ → Result (Bor (List ℕ)) Error → Type 0

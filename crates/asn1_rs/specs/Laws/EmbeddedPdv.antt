@@ -23,8 +23,7 @@ use Rattle.asn1_rs.specs.EmbeddedPdv.{NotIdentified, IsData, NoData, HasPdvParts
 use Rattle.asn1_rs.specs.EmbeddedPdv.{pdv_constraints, pdv_element, pdv_value}
 use Rattle.asn1_rs.specs.Grammar.{TakesBody}
 use Rattle.asn1_rs.specs.Kinds.{IsLawfulElement, IsExactCheck, IsExactConversion}
-use Rattle.asn1_rs.specs.Laws.Checks.{before_is, has_number_is, is_constructed_is, is_counted_is}
-use Rattle.asn1_rs.specs.Laws.Leaf.{exact_check}
+use Rattle.asn1_rs.specs.Laws.Checks.{before_is, exact_check, has_number_is, is_constructed_is, is_counted_is}
 use Rattle.asn1_rs.specs.Laws.Readers.{ber_elements}
 use Rattle.asn1_rs.specs.Laws.Tagged.{has_class_is}
 use Rattle.asn1_rs.specs.Laws.Times.{same_text}

@@ -29,7 +29,7 @@ use Rattle.asn1_rs.specs.declared.asn1_types.any.Any.{Any}
 use Rattle.asn1_headers.specs.Error.{HeldIn, FlattenedTo}
 use Rattle.asn1_rs.specs.Kinds.{IsExactCheck}
 use Rattle.asn1_rs.specs.Any.{parts_of, IsTheElement}
-use Rattle.asn1_rs.specs.Traits.{OfParts}
+use Rattle.asn1_rs.specs.Traits.{DerGives, OfParts, PassesAll}
 use Rattle.asn1_rs.specs.Laws.Any.Value.{the_element_parts}
 use Rattle.asn1_headers.specs.Answers.{Exactly, TellsMemory, IsOther}
 use Rattle.asn1_rs.specs.Grammar.Form.{IsOneForm, IsOneValue, FitsElement, HasValues, IsStrict, universal, header_of}
@@ -42,11 +42,15 @@ use Rattle.asn1_rs.specs.Laws.Sequence.Iterator.{octets_kept, lawful_walk, items
 use Rattle.asn1_rs.specs.Grammar.Item.{ItemGrammar, IsLawfulItem, ber_words}
 use Rattle.asn1_rs.specs.declared.asn1_types.sequence.sequence_of.SequenceOf.{SequenceOf}
 use Rattle.asn1_rs.specs.Sequence.SequenceOf.{sequence_items, IsSequenceOf}
-use Rattle.asn1_rs.specs.Lists.{list_grammar, ListBody, ListOf, CheckedElement, ListCheck, StrictWord, ListForm}
-use Rattle.asn1_rs.specs.Lists.{IsListOr, ItemsGive, ListTakes, ListReads, CheckedGives, ListCheckGives, SomeRefuses}
+use Rattle.asn1_rs.specs.Checks.{CheckGives, IsCheck, has_number, is_constructed}
+use Rattle.asn1_rs.specs.Laws.Checks.{exact_check, before_is, has_number_is, is_constructed_is}
+use Rattle.asn1_rs.specs.Lists.{list_grammar, ShapedList, HasNumber, IsConstructed, ListBody, ListOf, CheckedElement}
+use Rattle.asn1_rs.specs.Lists.{ListCheck, StrictWord, ListForm}
+use Rattle.asn1_rs.specs.Lists.{IsListOr, ItemsGive, ListTakes, CheckedGives, ListCheckGives, SomeRefuses}
 use Rattle.asn1_rs.specs.Lists.{has_items}
 use Rattle.asn1_rs.specs.ToDer.{HasNone, IsWritable, Writing, whole_octets, whole_refuses}
 use Rattle.asn1_rs.specs.Laws.Readers.{element_exact, element_no_memory, der_breach_no_memory, der_elements}
+use Rattle.asn1_rs.specs.Laws.Readers.{unchecked_exact}
 use Rattle.asn1_rs.specs.Laws.Words.{word_one, strict_element, one_strict, strict_apart, strict_der_word, ber_one}
 use Rattle.asn1_rs.specs.Laws.Words.{ber_values, strict_ber}
 use Rattle.asn1_rs.specs.Laws.Forms.{universal_one, universal_value, universal_fits, strict_written, behind_header}
@@ -61,12 +65,8 @@ takes_some e = cc
 
 module _ {V : Type 0} (G : List ℕ → V → Type 0) (one : IsOneFront G) where
   -- An element has one list, where one word of an item alone begins an input.
-  pub list_body_one : (number : ℕ) → IsOneBody (ListBody number G)
-  list_body_one number p v w a b = joined_same G one p.content p.content v w refl a.items b.items
-
-  -- So it has where the constructed bit is not looked at.
-  pub list_of_one : (number : ℕ) → IsOneBody (ListOf number G)
-  list_of_one number p v w a b = joined_same G one p.content p.content v w refl a.items b.items
+  pub list_body_one : (Shape : Parts → Type 0) → IsOneBody (ShapedList Shape G)
+  list_body_one Shape p v w a b = joined_same G one p.content p.content v w refl a.items b.items
 
 -- strict encodings are words that begin one input in one way
 pub strict_word_one : {V : Type 0} (Form : V → Identifier → List ℕ → Type 0) → IsOneValue Form →
@@ -113,32 +113,25 @@ module _ {V : Type 0} (Form : V → Identifier → List ℕ → Type 0) (number 
   pub list_form_values : (P : V → Type 0) → HasValues Form P → HasValues (ListForm number Form) (All P)
   list_form_values P h = λ vs i c f. joined_values (StrictWord Form) P (λ o v s. h v s.id s.content s.form) c vs f.1
 
-  -- under any class they meet the body
-  pub list_form_body_under : (G : List ℕ → V → Type 0) → ((v : V) (o : List ℕ) → IsStrict Form v o → G o v) →
-      (vs : List V) (i : Identifier) (c : List ℕ) (class : ℕ) → ListForm number Form vs i c →
-      ListBody number G (made (of_class class i) c) vs
-  list_form_body_under G words vs i c class f = record {
-    number_is = ap (λ (z : Identifier). z.number) f.0;
-    constructed = ap (λ (z : Identifier). z.constructed) f.0;
-    items = joined_map (StrictWord Form) G (λ o v s. words v o s) c vs f.1;
-  }
+  -- Under any class they are constructed, with the tag number.
+  list_form_constructed : (vs : List V) (i : Identifier) (c : List ℕ) (class : ℕ) → ListForm number Form vs i c →
+      IsConstructed number (made (of_class class i) c)
+  list_form_constructed vs i c class f =
+      (ap (λ (z : Identifier). z.number) f.0, ap (λ (z : Identifier). z.constructed) f.0)
 
-  -- They have the list, where strict encodings of items are words.
-  pub list_form_body : (G : List ℕ → V → Type 0) → ((v : V) (o : List ℕ) → IsStrict Form v o → G o v) →
-      FormBodies (ListForm number Form) (ListBody number G)
-  list_form_body G words = λ vs i c f. record {
-    number_is = ap (λ (z : Identifier). z.number) f.0;
-    constructed = ap (λ (z : Identifier). z.constructed) f.0;
-    items = joined_map (StrictWord Form) G (λ o v s. words v o s) c vs f.1;
-  }
+  module _ (Shape : Parts → Type 0) (shaped : (p : Parts) → IsConstructed number p → Shape p) (G : List ℕ → V → Type 0)
+      (words : (v : V) (o : List ℕ) → IsStrict Form v o → G o v) where
+    -- Under any class they have the list, where strict encodings of items are words.
+    pub list_form_body_under : (vs : List V) (i : Identifier) (c : List ℕ) (class : ℕ) → ListForm number Form vs i c →
+        ShapedList Shape G (made (of_class class i) c) vs
+    list_form_body_under vs i c class f = record {
+      shape = shaped (made (of_class class i) c) (list_form_constructed vs i c class f);
+      items = joined_map (StrictWord Form) G (λ o v s. words v o s) c vs f.1;
+    }
 
-  -- So they have where the constructed bit is not looked at.
-  pub list_form_of : (G : List ℕ → V → Type 0) → ((v : V) (o : List ℕ) → IsStrict Form v o → G o v) →
-      FormBodies (ListForm number Form) (ListOf number G)
-  list_form_of G words = λ vs i c f. record {
-    number_is = ap (λ (z : Identifier). z.number) f.0;
-    items = joined_map (StrictWord Form) G (λ o v s. words v o s) c vs f.1;
-  }
+    -- So they have under their own class.
+    pub list_form_body : FormBodies (ListForm number Form) (ShapedList Shape G)
+    list_form_body = λ vs i c f. list_form_body_under vs i c i.class f
 
   -- Joined strict encodings are joined elements that meet the items' check.
   joined_checked : (Check : Parts → Type 0) → FormChecks Form Check → (vs : List V) (c : List ℕ) →
@@ -167,21 +160,16 @@ module _ {V : Type 0} (Form : V → Identifier → List ℕ → Type 0) (number 
   -- They meet it under their own class.
   pub list_form_check : (Check : Parts → Type 0) → FormChecks Form Check →
       FormChecks (ListForm number Form) (ListCheck number Check)
-  list_form_check Check checks = λ vs i c f.
-      let t = joined_checked Check checks vs c f.1 in
-      record {
-        number_is = ap (λ (z : Identifier). z.number) f.0;
-        constructed = ap (λ (z : Identifier). z.constructed) f.0;
-        elements = t.0;
-        checked = t.1;
-      }
+  list_form_check Check checks = λ vs i c f. list_form_check_under Check checks vs i c i.class f
 
   -- Under any class they meet the check, and have the list.
   pub list_takes_class : (G : List ℕ → V → Type 0) (Check : Parts → Type 0) →
       ((v : V) (o : List ℕ) → IsStrict Form v o → G o v) → FormChecks Form Check → (class : ℕ) →
       FormTakes (ListForm number Form) (ListCheck number Check) (ListBody number G) class
-  list_takes_class G Check words checks class = λ vs i c f.
-      (list_form_check_under Check checks vs i c class f, list_form_body_under G words vs i c class f)
+  list_takes_class G Check words checks class = λ vs i c f. (
+    list_form_check_under Check checks vs i c class f,
+    list_form_body_under (IsConstructed number) (λ p is. is) G words vs i c class f,
+  )
 
   -- They have the tag number of the list.
   pub list_number : FormNumber (ListForm number Form) number
@@ -194,41 +182,43 @@ pub low_fits : (number : ℕ) → number < 31 → number < 2 ^ 32
 low_fits number small = omega (arith, small)
 
 -- The items of a list are values of the type.
-pub list_body_values : {V : Type 0} (number : ℕ) (G : List ℕ → V → Type 0) (P : V → Type 0) →
-    ((o : List ℕ) (v : V) → G o v → P v) → (p : Parts) (vs : List V) → ListBody number G p vs → All P vs
-list_body_values number G P f p vs b = joined_values G P f p.content vs b.items
-
--- So are they where the constructed bit is not looked at.
-pub list_der_values : {V : Type 0} (number : ℕ) (G : List ℕ → V → Type 0) (P : V → Type 0) →
-    ((o : List ℕ) (v : V) → G o v → P v) → (p : Parts) (vs : List V) → ListOf number G p vs → All P vs
-list_der_values number G P f p vs b = joined_values G P f p.content vs b.items
+pub list_body_values : {V : Type 0} (Shape : Parts → Type 0) (G : List ℕ → V → Type 0) (P : V → Type 0) →
+    ((o : List ℕ) (v : V) → G o v → P v) → (p : Parts) (vs : List V) → ShapedList Shape G p vs → All P vs
+list_body_values Shape G P f p vs b = joined_values G P f p.content vs b.items
 
 -- lists of lawful items are lawful
 pub list_lawful : {S W : Type 0} (number : ℕ) → number < 31 → (items : W → List S) (G : ItemGrammar S) →
     IsLawfulItem G → IsLawfulItem (list_grammar number items G)
 list_lawful number small items G l = record {
-  der_values = λ o vs w. list_der_values number G.Der G.IsValue l.der_values w.0 vs w.3;
-  body_values = λ p vs o b. list_body_values number (ber_words G) G.IsValue (ber_values G l) p vs b;
+  der_values = λ o vs w. list_body_values (HasNumber number) G.Der G.IsValue l.der_values w.0 vs w.3;
+  body_values = λ p vs o b. list_body_values (IsConstructed number) (ber_words G) G.IsValue (ber_values G l) p vs b;
   form_values = list_form_values G.Form number G.IsValue l.form_values;
-  der_one = word_one IsDerElement NoCheck (ListOf number G.Der) der_elements.one (list_of_one G.Der l.der_one number);
-  body_one = list_body_one (ber_words G) (ber_one G l) number;
+  der_one = word_one IsDerElement NoCheck (ListOf number G.Der) der_elements.one
+      (list_body_one G.Der l.der_one (HasNumber number));
+  body_one = list_body_one (ber_words G) (ber_one G l) (IsConstructed number);
   one_form = list_one_form G.Form number l.one_form;
   one_value = list_one_value G.Form number l.one_value;
   form_fits = list_fits G.Form number small;
   form_check = list_form_check G.Form number G.Check l.form_check;
   form_der = list_form_values G.Form number G.IsDer l.form_der;
-  form_body = list_form_body G.Form number (ber_words G) (strict_ber G l);
+  form_body = list_form_body G.Form number (IsConstructed number) (λ p is. is) (ber_words G) (strict_ber G l);
   strict_der = strict_der_word (ListForm number G.Form) NoCheck (ListOf number G.Der) (λ v i c f. tt)
-      (list_form_of G.Form number G.Der l.strict_der);
+      (list_form_body G.Form number (HasNumber number) (λ p is. is.0) G.Der l.strict_der);
 }
 
 -- Reading.
 
--- An element is a list, or is refused as none.
-list_or_refused : (number : ℕ) (p : Parts) (e : Error) → IsListOr number p (Err e) → p.id.number ≡ number →
-    p.id.constructed ≡ true → ⊥
-list_or_refused number p e (inl a) n c = a.0 n
-list_or_refused number p e (inr a) n c = let d = a.1 in cc
+-- The check of the tag number is exact.
+pub number_checks : (number : ℕ) → IsExactCheck (has_number number) (HasNumber number)
+number_checks number = exact_check (has_number number) (has_number_is number)
+
+-- That of the tag number and then of the constructed bit is a check.
+pub is_list_or_is : (number : ℕ) → IsCheck (IsListOr number)
+is_list_or_is number = before_is (has_number number) is_constructed (has_number_is number) is_constructed_is
+
+-- It is exact.
+pub constructed_checks : (number : ℕ) → IsExactCheck (IsListOr number) (IsConstructed number)
+constructed_checks number = exact_check (IsListOr number) (is_list_or_is number)
 
 -- Items that were taken by an exact reader are joined words;
 -- where a refusal ended the walk there are no such words, or it reports out of memory.
@@ -264,8 +254,9 @@ module _ {T V E : Type 0} (reads : List ℕ → Result (List ℕ × T) (Refusal 
             ends_unjoined G one content end.front end.others (map value items) ws end.is end.some none end.joined j)
       ]
 
--- The conversion of an element to a list is exact, and so is a list's own reader by DER.
-module _ {T V W E : Type 0} (number : ℕ) (holds : List T → W → Type 0) (values : W → List V)
+-- Making a list of an element is exact, where the check of the element is.
+module _ {T V W E : Type 0} {check : CheckGives} {Shape : Parts → Type 0} (checks : IsExactCheck check Shape)
+    (holds : List T → W → Type 0) (values : W → List V)
     (reads : List ℕ → Result (List ℕ × T) (Refusal E) → Type 0) (from : Error → E → Type 0) (G : List ℕ → V → Type 0)
     (value : T → V) (allocates : Bool) (IsCut : List ℕ → Type 0)
     (valued : (items : List T) (w : W) → holds items w → map value items ≡ values w)
@@ -288,28 +279,24 @@ module _ {T V W E : Type 0} (number : ℕ) (holds : List T → W → Type 0) (va
         | inr none ↦ inr none
       ]
 
-  -- The conversion to a list is exact.
+  -- The list is that of the items.
   pub list_takes : (any : Any) (answer : Result W E) → IsOctets any.content.now →
-      OfParts (ListTakes number holds reads from) any answer →
-      TakesBody (ListBody number G) values true from (parts_of any) answer
+      OfParts (ListTakes check holds reads from) any answer →
+      TakesBody (ShapedList Shape G) values true from (parts_of any) answer
   list_takes any (Ok w) o t = record {
-    number_is = t.0.0;
-    constructed = t.0.1;
+    shape = checks.exact (parts_of any) (Ok tt) t.0;
     items = all_joined t.1.0 w any.content.now o t.1.1 t.1.2;
   }
-  list_takes any (Err e) o (inl r) =
-      inr (λ vs b. list_or_refused number (parts_of any) r.0 r.1 b.number_is b.constructed)
+  list_takes any (Err e) o (inl r) = inr (λ vs b. checks.exact (parts_of any) (Err r.0) r.1 b.shape)
   list_takes any (Err e) o (inr (h, s)) =
       elim (none_taken e any.content.now o s) [ inl m ↦ inl (refl, m) | inr none ↦ inr (λ vs b. none vs b.items) ]
 
-  -- So is that of a list's own reader by DER, which does not look at the constructed bit.
-  pub list_reads : (any : Any) (answer : Result W E) → IsOctets any.content.now →
-      OfParts (ListReads number holds reads from) any answer →
-      TakesBody (ListOf number G) values true from (parts_of any) answer
-  list_reads any (Ok w) o t = record { number_is = t.0; items = all_joined t.1.0 w any.content.now o t.1.1 t.1.2 }
-  list_reads any (Err e) o (inl r) = inr (λ vs b. r.0 b.number_is)
-  list_reads any (Err e) o (inr (h, s)) =
-      elim (none_taken e any.content.now o s) [ inl m ↦ inl (refl, m) | inr none ↦ inr (λ vs b. none vs b.items) ]
+  -- So is reading the element at the front by DER, and making a list of it.
+  pub list_by_der_exact : (input : List ℕ) (answer : Result (List ℕ × W) (Refusal E)) →
+      DerGives PassesAll (OfParts (ListTakes check holds reads from)) from input answer →
+      Exactly IsCutIdentifier (DerWord NoCheck (ShapedList Shape G)) values (TellsMemory true from) input answer
+  list_by_der_exact =
+      unchecked_exact (OfParts (ListTakes check holds reads from)) from (ShapedList Shape G) values true list_takes
 
 -- Checking.
 
@@ -349,7 +336,8 @@ module _ (number : ℕ) (check : Parts → Result (Unit {0}) Error → Type 0) (
     checked = taken_joined (CheckedGives check) (λ x y. y ≡ x) (CheckedElement Check) parts_of false IsCutIdentifier
         (checked_one Check) (λ o. Unit {0}) (λ o w r k e. tt) element_checked t.1.0 p.content [] tt refl t.1.1;
   }
-  list_check_exact p (Err e) (inl r) = λ c. list_or_refused number p e r c.number_is c.constructed
+  list_check_exact p (Err e) (inl r) =
+      λ c. (constructed_checks number).exact p (Err e) r (c.number_is, c.constructed)
   list_check_exact p (Err e) (inr (h, s)) = λ c.
       elim (taken_none (CheckedGives check) (λ x y. y ≡ x) (CheckedElement Check) parts_of false IsCutIdentifier
       (checked_one Check) (λ o. Unit {0}) (λ o w r k e. tt) element_checked s.0 e p.content s.1 tt s.2) [
@@ -388,8 +376,7 @@ list_checks number check Check c = record {
     walk_not_memory (x ∷ items) content left y = walk_not_memory items y.0 left y.2
 
     not_memory : (p : Parts) → ListCheckGives number check p (Err errors.OutOfMemory) → ⊥
-    not_memory p (inl (inl a)) = let e = a.1 in cc
-    not_memory p (inl (inr a)) = let e = a.2 in cc
+    not_memory p (inl r) = (constructed_checks number).asks_no_memory p r
     not_memory p (inr h) = walk_not_memory h.1.0 p.content h.1.1 h.1.2
 
 -- What a list writes.

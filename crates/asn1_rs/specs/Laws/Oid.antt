@@ -25,9 +25,8 @@ use Rattle.asn1_rs.specs.Grammar.{made, of_class, FormNumber, FormTakes, TakesBo
 use Rattle.asn1_rs.specs.Grammar.Form.{header_of, universal}
 use Rattle.asn1_rs.specs.Grammar.Item.{IsLawfulWriting}
 use Rattle.asn1_rs.specs.Kinds.{IsLawfulElement, IsExactCheck, IsExactConversion, item_grammar}
-use Rattle.asn1_rs.specs.Laws.Checks.{before_is, is_counted_is, is_primitive_is}
+use Rattle.asn1_rs.specs.Laws.Checks.{before_is, exact_check, is_counted_is, is_primitive_is}
 use Rattle.asn1_rs.specs.Laws.Forms.{nothing_refused, universal_fits, universal_one, universal_value}
-use Rattle.asn1_rs.specs.Laws.Leaf.{exact_check}
 use Rattle.asn1_rs.specs.Oid.{OidValue, IsStrictOid, OidGives, absolute, oid_constraints, oid_element, oid_header}
 use Rattle.asn1_rs.specs.Oid.{oid_number, oid_octets, oid_value, oid_writing, written_number}
 use Rattle.asn1_rs.specs.ToDer.{IsWritable}

@@ -15,7 +15,7 @@ use Rattle.std.proofs.lemmas.List.Elements.{All-nil, All-cons}
 use Rattle.std.proofs.lemmas.List.Sorted.{IsPermutation-refl, IsPermutation-sym, All-permutation}
 use Rattle.x690.specs.Strict.{header_octets}
 use Rattle.x690.specs.Octets.{IsOctets}
-use Rattle.x690.specs.Identifiers.{Identifier}
+use Rattle.x690.specs.Identifiers.{Identifier, IsCutIdentifier}
 use Rattle.x690.specs.Elements.{Parts, IsDerElement}
 use Rattle.x690.specs.Collections.{multiset, ValueSet, value_set, AllDiffer, Joins, AnyList}
 use Rattle.x690.specs.Joined.{IsOneFront, IsJoined}
@@ -33,23 +33,26 @@ use Rattle.asn1_headers.specs.Answers.{Exactly, TellsMemory}
 use Rattle.asn1_headers.specs.declared.error.SerializeError.{SerializeError}
 use Rattle.asn1_rs.specs.Grammar.Form.{IsOneForm, IsOneValue, FitsElement, HasValues, IsStrict, universal, header_of}
 use Rattle.asn1_rs.specs.Grammar.Form.{WritesByValue, WritesForm, HasForm}
-use Rattle.asn1_rs.specs.Grammar.{IsOneBody, TakesBody, FormChecks, FormBodies, FormTakes, FormNumber, NoCheck}
+use Rattle.asn1_rs.specs.Grammar.{IsOneBody, TakesBody, FormChecks, FormBodies, FormTakes, FormNumber, NoCheck, made}
+use Rattle.asn1_rs.specs.Grammar.{DerWord}
 use Rattle.asn1_rs.specs.Grammar.Item.{ItemGrammar, IsLawfulItem, ber_words}
 use Rattle.asn1_rs.specs.declared.asn1_types.any.Any.{Any}
 use Rattle.asn1_rs.specs.Any.{parts_of}
-use Rattle.asn1_rs.specs.Traits.{OfParts}
-use Rattle.asn1_rs.specs.Lists.{ListCheck, StrictWord, SomeRefuses, ListTakes, ListReads}
+use Rattle.asn1_rs.specs.Traits.{DerGives, OfParts, PassesAll}
+use Rattle.asn1_rs.specs.Checks.{CheckGives}
+use Rattle.asn1_rs.specs.Kinds.{IsExactCheck}
+use Rattle.asn1_rs.specs.Lists.{ShapedList, HasNumber, IsConstructed, ListCheck, StrictWord, SomeRefuses, ListTakes}
 use Rattle.asn1_rs.specs.ToDer.{HasNone, IsWritable, IntoVector, Writing, whole_octets, whole_refuses}
 use Rattle.asn1_rs.specs.Set.{Members, set_of, pairs_pass, members_if, members, is_below, is_other, Seen, SetBody}
 use Rattle.asn1_rs.specs.Set.{SetRow, SetForm, SetValues, SetInDer, set_grammar, multiset_grammar, member_grammar}
 use Rattle.asn1_rs.specs.Set.{items_of, HasItems, set_content}
-use Rattle.asn1_rs.specs.Laws.Readers.{der_elements}
+use Rattle.asn1_rs.specs.Laws.Readers.{der_elements, unchecked_exact}
 use Rattle.asn1_rs.specs.Laws.Words.{word_one, one_strict, strict_der_word, ber_one, ber_values, strict_ber}
 use Rattle.asn1_rs.specs.Laws.Forms.{universal_one, universal_value, universal_fits, strict_written, behind_header}
 use Rattle.asn1_rs.specs.Laws.Forms.{both_by_value, whole_writable}
-use Rattle.asn1_rs.specs.Laws.Lists.{zip_written, strict_word_one, strict_word_octets, list_body_one, list_of_one}
-use Rattle.asn1_rs.specs.Laws.Lists.{list_body_values, list_der_values, list_form_check, list_takes_class, list_takes}
-use Rattle.asn1_rs.specs.Laws.Lists.{list_reads, none_refuses, same_lists}
+use Rattle.asn1_rs.specs.Laws.Lists.{zip_written, strict_word_one, strict_word_octets, list_body_one}
+use Rattle.asn1_rs.specs.Laws.Lists.{list_body_values, list_form_check, list_takes_class, list_takes}
+use Rattle.asn1_rs.specs.Laws.Lists.{none_refuses, same_lists}
 use Rattle.asn1_rs.specs.Kinds.Writing.{set_writing}
 use mathlib.Core.Bool.{not, true≢false, Bool-set}
 use mathlib.Core.Logic.{∥∥₁_prop, ∥∥₁_elim, ∥∥₁_map}
@@ -135,25 +138,14 @@ module _ {V M : Type 0} (of : List V → M) (Each : List V → Type 0) (Form : V
     set_joined m c f =
         joined_map (StrictWord Form) G (λ o v s. word v o s) c f.items (joins_joined of Each (IsStrict Form) m c f)
 
-    -- Strict parts have the collection.
-    pub set_form_body : FormBodies (SetForm of Each Form) (SetBody of G)
-    set_form_body = λ m i c f. (
+    -- Strict parts have the collection, where those of lists have the shape.
+    pub set_form_body : (Shape : Parts → Type 0) → ((p : Parts) → IsConstructed 17 p → Shape p) →
+        FormBodies (SetForm of Each Form) (Seen of (ShapedList Shape G))
+    set_form_body Shape shaped = λ m i c f. (
       f.1.items,
       f.1.are,
       record {
-        number_is = ap (λ (z : Identifier). z.number) f.0;
-        constructed = ap (λ (z : Identifier). z.constructed) f.0;
-        items = set_joined m c f.1;
-      },
-    )
-
-    -- So they have where the constructed bit is not looked at.
-    pub set_form_row : FormBodies (SetForm of Each Form) (SetRow of G)
-    set_form_row = λ m i c f. (
-      f.1.items,
-      f.1.are,
-      record {
-        number_is = ap (λ (z : Identifier). z.number) f.0;
+        shape = shaped (made i c) (ap (λ (z : Identifier). z.number) f.0, ap (λ (z : Identifier). z.constructed) f.0);
         items = set_joined m c f.1;
       },
     )
@@ -209,15 +201,16 @@ module _ {S W M : Type 0} (G : ItemGrammar S) (l : IsLawfulItem G) (of : List G.
     form_fits = set_fits of Each G.Form;
     form_check = set_form_check of Each G.Form G.Check l.form_check;
     form_der = set_form_der;
-    form_body = set_form_body of Each G.Form (ber_words G) (strict_ber G l);
+    form_body = set_form_body of Each G.Form (ber_words G) (strict_ber G l) (IsConstructed 17) (λ p is. is);
     strict_der = strict_der_word (SetForm of Each G.Form) NoCheck DerBody (λ v i c f. tt) bodies;
   }
     where
       body_one : IsOneBody (SetBody of (ber_words G))
-      body_one = body_seen of _ (list_body_one (ber_words G) (ber_one G l) 17)
+      body_one = body_seen of _ (list_body_one (ber_words G) (ber_one G l) (IsConstructed 17))
 
       body_values_of : (p : Parts) (m : M) → SetBody of (ber_words G) p m → SetValues of G.IsValue m
-      body_values_of p m b = (b.0, b.1, list_body_values 17 (ber_words G) G.IsValue (ber_values G l) p b.0 b.2)
+      body_values_of p m b =
+          (b.0, b.1, list_body_values (IsConstructed 17) (ber_words G) G.IsValue (ber_values G l) p b.0 b.2)
 
 -- So is one in which a member may stand more than once.
 pub multiset_lawful : {S W : Type 0} (items : W → List S) (G : ItemGrammar S) → IsLawfulItem G →
@@ -225,18 +218,18 @@ pub multiset_lawful : {S W : Type 0} (items : W → List S) (G : ItemGrammar S) 
 multiset_lawful items G l =
     set_lawful G l multiset (λ w. multiset (map G.value (items w))) AnyList
     (λ vs ws h k e. permutation_from_multiset vs ws e) (SetRow multiset G.Der)
-    (body_seen multiset _ (list_of_one G.Der l.der_one 17))
-    (λ p m b. (b.0, b.1, list_der_values 17 G.Der G.IsValue l.der_values p b.0 b.2))
-    (set_form_row multiset AnyList G.Form G.Der l.strict_der)
+    (body_seen multiset _ (list_body_one G.Der l.der_one (HasNumber 17)))
+    (λ p m b. (b.0, b.1, list_body_values (HasNumber 17) G.Der G.IsValue l.der_values p b.0 b.2))
+    (set_form_body multiset AnyList G.Form G.Der l.strict_der (HasNumber 17) (λ p is. is.0))
 
 -- So is one whose members differ.
 pub member_lawful : {S W : Type 0} (test : S → S → Bool) (keys : W → List S) (G : ItemGrammar S) → IsLawfulItem G →
     IsLawfulItem (member_grammar test keys G)
 member_lawful test keys G l =
     set_lawful G l set_of (λ w. members test G.value (keys w)) AllDiffer permutation_from_set (SetBody set_of G.Der)
-    (body_seen set_of _ (list_body_one G.Der l.der_one 17))
-    (λ p m b. (b.0, b.1, list_body_values 17 G.Der G.IsValue l.der_values p b.0 b.2))
-    (set_form_body set_of AllDiffer G.Form G.Der l.strict_der)
+    (body_seen set_of _ (list_body_one G.Der l.der_one (IsConstructed 17)))
+    (λ p m b. (b.0, b.1, list_body_values (IsConstructed 17) G.Der G.IsValue l.der_values p b.0 b.2))
+    (set_form_body set_of AllDiffer G.Form G.Der l.strict_der (IsConstructed 17) (λ p is. is))
 
 -- What a set writes.
 
@@ -670,43 +663,37 @@ module _ {S V : Type 0} (test : S → S → Bool) (value : S → V)
 -- Reading.
 
 -- an exact reader of lists is one of what is collected from them
-module _ {T V W M E : Type 0} (holds : List T → W → Type 0) (of : List V → M) (worth : W → M)
+module _ {T V W M E : Type 0} {check : CheckGives} {Shape : Parts → Type 0} (checks : IsExactCheck check Shape)
+    (holds : List T → W → Type 0) (of : List V → M) (worth : W → M)
     (reads : List ℕ → Result (List ℕ × T) (Refusal E) → Type 0) (from : Error → E → Type 0) (G : List ℕ → V → Type 0)
     (value : T → V) (allocates : Bool) (IsCut : List ℕ → Type 0)
     (told : (items : List T) (w : W) → holds items w → of (map value items) ≡ worth w)
     (one : IsOneFront G)
     (exact : (octets : List ℕ) (answer : Result (List ℕ × T) (Refusal E)) → IsOctets octets → reads octets answer →
     Exactly IsCut G value (TellsMemory allocates from) octets answer) where
-  -- The conversion to a set is exact.
+  -- Making a set of an element is exact.
   pub set_takes : (any : Any) (answer : Result W E) → IsOctets any.content.now →
-      OfParts (ListTakes 17 holds reads from) any answer →
-      TakesBody (SetBody of G) worth true from (parts_of any) answer
+      OfParts (ListTakes check holds reads from) any answer →
+      TakesBody (Seen of (ShapedList Shape G)) worth true from (parts_of any) answer
   set_takes any (Ok w) o t = (
     map value t.1.0,
     told t.1.0 w t.1.1,
-    list_takes 17 (λ (xs : List T) (ys : List T). ys ≡ xs) (map value) reads from G value allocates IsCut
+    list_takes checks (λ (xs : List T) (ys : List T). ys ≡ xs) (map value) reads from G value allocates IsCut
         (λ xs ys e. ap (map value) (sym e)) one exact any (Ok t.1.0) o (t.0, (t.1.0, refl, t.1.2)),
   )
-  set_takes any (Err e) o t = elim (list_takes {W = List T} 17 (λ (xs : List T) (ys : List T). ys ≡ xs)
+  set_takes any (Err e) o t = elim (list_takes {W = List T} checks (λ (xs : List T) (ys : List T). ys ≡ xs)
       (map value) reads from G value allocates IsCut (λ xs ys e. ap (map value) (sym e)) one exact any (Err e) o t) [
         | inl m ↦ inl m
         | inr none ↦ inr (λ m b. none b.0 b.2)
       ]
 
-  -- So is that of a set's own reader by DER, which does not look at the constructed bit.
-  pub set_reads : (any : Any) (answer : Result W E) → IsOctets any.content.now →
-      OfParts (ListReads 17 holds reads from) any answer → TakesBody (SetRow of G) worth true from (parts_of any) answer
-  set_reads any (Ok w) o t = (
-    map value t.1.0,
-    told t.1.0 w t.1.1,
-    list_reads 17 (λ (xs : List T) (ys : List T). ys ≡ xs) (map value) reads from G value allocates IsCut
-        (λ xs ys e. ap (map value) (sym e)) one exact any (Ok t.1.0) o (t.0, (t.1.0, refl, t.1.2)),
-  )
-  set_reads any (Err e) o t = elim (list_reads {W = List T} 17 (λ (xs : List T) (ys : List T). ys ≡ xs)
-      (map value) reads from G value allocates IsCut (λ xs ys e. ap (map value) (sym e)) one exact any (Err e) o t) [
-        | inl m ↦ inl m
-        | inr none ↦ inr (λ m b. none b.0 b.2)
-      ]
+  -- So is reading the element at the front by DER, and making a set of it.
+  pub set_by_der_exact : (input : List ℕ) (answer : Result (List ℕ × W) (Refusal E)) →
+      DerGives PassesAll (OfParts (ListTakes check holds reads from)) from input answer →
+      Exactly IsCutIdentifier (DerWord NoCheck (Seen of (ShapedList Shape G))) worth (TellsMemory true from) input
+      answer
+  set_by_der_exact = unchecked_exact (OfParts (ListTakes check holds reads from)) from (Seen of (ShapedList Shape G))
+      worth true set_takes
 
 -- What is told of sets in hand.
 

@@ -9,8 +9,8 @@ use Rattle.asn1_rs.specs.declared.asn1_types.strings.RestrictedString.{Restricte
 use Rattle.asn1_rs.specs.Kinds.{IsExactConversion}
 use Rattle.asn1_rs.specs.Leaf.{IsLawfulLeaf, leaf_element}
 use Rattle.asn1_rs.specs.Strings.{text_leaf, string_leaf, StringGives, string_reading, text_of}
-use Rattle.asn1_rs.specs.Laws.Checks.{content_check_is, is_primitive_is}
-use Rattle.asn1_rs.specs.Laws.Leaf.{leaf_converts, leaf_lawful, exact_check}
+use Rattle.asn1_rs.specs.Laws.Checks.{content_check_is, exact_check, is_primitive_is}
+use Rattle.asn1_rs.specs.Laws.Leaf.{leaf_converts, leaf_lawful}
 use Rattle.asn1_rs.specs.LeafReading.{IsExactReading}
 use Rattle.asn1_rs.specs.Checks.{is_primitive}
 

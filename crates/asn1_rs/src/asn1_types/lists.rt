@@ -7,9 +7,10 @@ ghost use Rattle.std.specs.Iterator.{IsFinite, IsFiniteIterable, Drains};
 ghost use Rattle.x690.specs.Octets.{IsOctets};
 ghost use Rattle.x690.specs.Elements.{Parts};
 ghost use Rattle.asn1_rs.specs.Any.{parts_of};
+ghost use Rattle.asn1_rs.specs.Checks.{has_number};
 ghost use Rattle.asn1_rs.specs.Traits.{OfParts, DerGives, PassesAll};
 ghost use Rattle.asn1_headers.specs.Answers.{seen};
-ghost use Rattle.asn1_rs.specs.Lists.{IsListOr, ItemsGive, ListGives, ListTakes, ListReads, ItemsCheckGives};
+ghost use Rattle.asn1_rs.specs.Lists.{IsListOr, ItemsGive, ListGives, ListTakes, ItemsCheckGives};
 ghost use Rattle.asn1_rs.specs.Lists.{ListCheckGives, FirstChecked, GivesItems, PushesItem, ArePacked, SomeRefuses};
 ghost use Rattle.asn1_rs.specs.Lists.{ListBody, ListOf, MadeOf, listed};
 ghost use Rattle.asn1_headers.specs.declared.error.SerializeError.{SerializeError};
@@ -25,15 +26,16 @@ use crate::asn1_types::any::Any;
 use crate::asn1_types::sequence::iterator::{ReadsItems, ReadsWords, SequenceIterator};
 use crate::der::element_by_der;
 use crate::header::add_counts;
-use crate::kinds::collections::{SequenceKind, SetKind};
-use crate::kinds::reading::{AnyForm, CheckBy, ConstructedForm, FromAnyBy, FromDerBy, ListReader};
+use crate::kinds::collections::CollectionKind;
+use crate::kinds::reading::{
+    CheckBy, ConstructedForm, EncodingForm, FromAnyBy, FromDerBy, ListReader,
+};
 use crate::laws::in_hand::States;
 use crate::to_der::ToDer;
 use crate::traits::{CheckDerConstraints, FromBer, FromDer, Tagged, converted};
 use asn1_headers::buffer::DerBuffer;
 use asn1_headers::content::{BerParser, DerParser};
 use asn1_headers::error::{Err, Error, ParseResult, SerializeError, SerializeResult, without_io};
-use asn1_headers::tag::Tag;
 use asn1_headers::writer::{DerWrite, Told};
 use std::alloc::{AllocError, Global};
 use std::io;
@@ -75,14 +77,6 @@ where
         }
     }
     Ok(items)
-}
-
-/// Refuses an element that has another tag number than the list, or is primitive.
-pub(crate) fn assert_list(number: u32, any: &Any<'_>) -> Result<(), Error>
-    ensures { IsListOr number (parts_of any.now) result }
-{
-    any.header.assert_tag(Tag(number))?;
-    any.header.assert_constructed()
 }
 
 /// A list or a set, by its items.
@@ -143,39 +137,20 @@ pub trait FromItems: Tagged + Sized {
 
 /// The tag number is looked at, then the constructed bit; then the items are read by BER, to the end of the contents
 /// octets.
-impl<'a, L, T, E> FromAnyBy<'a, SequenceKind> for L
+impl<'a, K, L, T, E> FromAnyBy<'a, K> for L
 where
+    K: CollectionKind,
     L: FromItems<Item = T, Refusal = E>,
     T: FromBer<'a, E> + Drop,
     E: From<Error>,
 {
     type Refusal = E;
 
-    ghost gives_by_kind = { OfParts (ListTakes (L.TAG).0 L.holds T.ber_gives E.from_gives) };
+    ghost gives_by_kind = { OfParts
+        (ListTakes (IsListOr (L.TAG).0) L.holds T.ber_gives E.from_gives) };
 
     fn convert_by_kind(alloc: Global, any: Any<'a>) -> Result<L, E> {
-        if let Err(e) = assert_list(L::TAG.0, &any) {
-            return Err(E::from(e));
-        }
-        list_of_content::<L, T, BerParser, E>(alloc, any.content)
-    }
-}
-
-impl<'a, L, T, E, M> FromAnyBy<'a, SetKind<M>> for L
-where
-    L: FromItems<Item = T, Refusal = E>,
-    T: FromBer<'a, E> + Drop,
-    E: From<Error>,
-{
-    type Refusal = E;
-
-    ghost gives_by_kind = { OfParts (ListTakes (L.TAG).0 L.holds T.ber_gives E.from_gives) };
-
-    fn convert_by_kind(alloc: Global, any: Any<'a>) -> Result<L, E> {
-        if let Err(e) = assert_list(L::TAG.0, &any) {
-            return Err(E::from(e));
-        }
-        list_of_content::<L, T, BerParser, E>(alloc, any.content)
+        list_of_element::<ConstructedForm, BerParser, L, T, E>(alloc, &any)
     }
 }
 
@@ -198,94 +173,41 @@ where
     }
 }
 
-/// The list that an element is, by DER. The tag number is looked at, and not the constructed bit.
-fn list_of_element<'a, L, T, E>(alloc: Global, any: &Any<'a>) -> Result<L, E>
+/// The list that an element of the form `F` is, by the reader `R`. The form is looked at, then the items.
+fn list_of_element<'a, F, R, L, T, E>(alloc: Global, any: &Any<'a>) -> Result<L, E>
 where
+    F: EncodingForm,
+    R: ReadsItems<'a, T, E>,
     L: FromItems<Item = T>,
-    T: FromDer<'a, E> + Drop,
+    T: Drop,
     E: From<Error>,
-    ensures { ListReads (L.TAG).0 L.holds T.der_gives E.from_gives (parts_of any.now) result }
+    ensures { ListTakes (F.form_gives (L.TAG).0) L.holds R.item_gives E.from_gives
+        (parts_of any.now) result }
 {
-    if let Err(e) = any.header.assert_tag(L::TAG) {
+    if let Err(e) = F::assert_form(L::TAG.0, any) {
         return Err(E::from(e));
     }
-    list_of_content::<L, T, DerParser, E>(alloc, any.content)
+    list_of_content::<L, T, R, E>(alloc, any.content)
 }
 
-/// The list that an element is, by DER. The tag number is looked at, then the constructed bit.
-fn constructed_list_of_element<'a, L, T, E>(alloc: Global, any: &Any<'a>) -> Result<L, E>
+/// The element at the front by DER as a list, and what follows it.
+impl<'a, F, L, T, E> FromDerBy<'a, ListReader<F>, E> for L
 where
-    L: FromItems<Item = T>,
-    T: FromDer<'a, E> + Drop,
-    E: From<Error>,
-    ensures { ListTakes (L.TAG).0 L.holds T.der_gives E.from_gives (parts_of any.now) result }
-{
-    if let Err(e) = assert_list(L::TAG.0, any) {
-        return Err(E::from(e));
-    }
-    list_of_content::<L, T, DerParser, E>(alloc, any.content)
-}
-
-/// The list at the front, by DER, and what follows it. The constructed bit is not looked at.
-pub(crate) fn list_by_der<'a, L, T, E>(alloc: Global, bytes: &'a [u8]) -> ParseResult<'a, L, E>
-where
-    L: FromItems<Item = T>,
-    T: FromDer<'a, E> + Drop,
-    E: From<Error>,
-    ensures { DerGives PassesAll (OfParts (ListReads (L.TAG).0 L.holds T.der_gives E.from_gives))
-        E.from_gives bytes.now (seen result) }
-{
-    let (rest, any) = converted(element_by_der(bytes))?;
-    match list_of_element::<L, T, E>(alloc, &any) {
-        Ok(list) => Ok((rest, list)),
-        Err(e) => Err(Err::Error(e)),
-    }
-}
-
-/// The list at the front, by DER, and what follows it. It is constructed.
-pub(crate) fn constructed_list_by_der<'a, L, T, E>(
-    alloc: Global,
-    bytes: &'a [u8],
-) -> ParseResult<'a, L, E>
-where
-    L: FromItems<Item = T>,
-    T: FromDer<'a, E> + Drop,
-    E: From<Error>,
-    ensures { DerGives PassesAll (OfParts (ListTakes (L.TAG).0 L.holds T.der_gives E.from_gives))
-        E.from_gives bytes.now (seen result) }
-{
-    let (rest, any) = converted(element_by_der(bytes))?;
-    match constructed_list_of_element::<L, T, E>(alloc, &any) {
-        Ok(list) => Ok((rest, list)),
-        Err(e) => Err(Err::Error(e)),
-    }
-}
-
-impl<'a, L, T, E> FromDerBy<'a, ListReader<AnyForm>, E> for L
-where
+    F: EncodingForm,
     L: FromItems<Item = T>,
     T: FromDer<'a, E> + Drop,
     E: From<Error>,
 {
     ghost gives_by_reader = { DerGives PassesAll
-        (OfParts (ListReads (L.TAG).0 L.holds T.der_gives E.from_gives)) E.from_gives };
+        (OfParts (ListTakes (F.form_gives (L.TAG).0) L.holds T.der_gives E.from_gives))
+        E.from_gives };
 
     fn read_by_der(alloc: Global, bytes: &'a [u8]) -> ParseResult<'a, L, E> {
-        list_by_der::<L, T, E>(alloc, bytes)
-    }
-}
-
-impl<'a, L, T, E> FromDerBy<'a, ListReader<ConstructedForm>, E> for L
-where
-    L: FromItems<Item = T>,
-    T: FromDer<'a, E> + Drop,
-    E: From<Error>,
-{
-    ghost gives_by_reader = { DerGives PassesAll
-        (OfParts (ListTakes (L.TAG).0 L.holds T.der_gives E.from_gives)) E.from_gives };
-
-    fn read_by_der(alloc: Global, bytes: &'a [u8]) -> ParseResult<'a, L, E> {
-        constructed_list_by_der::<L, T, E>(alloc, bytes)
+        let (rest, any) = converted(element_by_der(bytes))?;
+        match list_of_element::<F, DerParser, L, T, E>(alloc, &any) {
+            Ok(list) => Ok((rest, list)),
+            Err(e) => Err(Err::Error(e)),
+        }
     }
 }
 
@@ -316,27 +238,13 @@ fn check_items<T: CheckDerConstraints>(content: &[u8]) -> Result<(), Error>
     Ok(())
 }
 
-/// Refuses an element that is no list with this tag number, or breaks a constraint of its items.
-pub(crate) fn check_list<T: CheckDerConstraints>(number: u32, any: &Any<'_>) -> Result<(), Error>
-    ensures { ListCheckGives number T.check_gives (parts_of any.now) result }
-{
-    assert_list(number, any)?;
-    check_items::<T>(any.content)
-}
-
-impl<L: Listed<Item = T>, T: CheckDerConstraints> CheckBy<SequenceKind> for L {
+/// Refuses an element that is no list with the tag number, or breaks a constraint of its items.
+impl<K: CollectionKind, L: Listed<Item = T>, T: CheckDerConstraints> CheckBy<K> for L {
     ghost check_by_kind = { ListCheckGives (L.TAG).0 T.check_gives };
 
     fn check_this_kind(any: &Any<'_>) -> Result<(), Error> {
-        check_list::<T>(L::TAG.0, any)
-    }
-}
-
-impl<L: Listed<Item = T>, T: CheckDerConstraints, M> CheckBy<SetKind<M>> for L {
-    ghost check_by_kind = { ListCheckGives (L.TAG).0 T.check_gives };
-
-    fn check_this_kind(any: &Any<'_>) -> Result<(), Error> {
-        check_list::<T>(L::TAG.0, any)
+        ConstructedForm::assert_form(L::TAG.0, any)?;
+        check_items::<T>(any.content)
     }
 }
 
@@ -605,15 +513,15 @@ where
     F: ReadsWords<'a, T, E>,
     E: From<Error>,
     ensures taken { (number : ℕ) (p : Parts) (list : L) → IsOctets p.content →
-        ListTakes number L.holds F.item_gives E.from_gives p (results.Ok list) →
+        ListTakes (IsListOr number) L.holds F.item_gives E.from_gives p (results.Ok list) →
         MadeOf (ListBody number F.Words) F.value L.holds p list }
     ensures not_taken { (number : ℕ) (p : Parts) (e : E) → IsOctets p.content →
-        ListTakes number L.holds F.item_gives E.from_gives p (results.Err e) →
+        ListTakes (IsListOr number) L.holds F.item_gives E.from_gives p (results.Err e) →
         E.from_gives errors.OutOfMemory e ⊎ HasNone (ListBody number F.Words p) }
     ensures read { (number : ℕ) (p : Parts) (list : L) → IsOctets p.content →
-        ListReads number L.holds F.item_gives E.from_gives p (results.Ok list) →
+        ListTakes (has_number number) L.holds F.item_gives E.from_gives p (results.Ok list) →
         MadeOf (ListOf number F.Words) F.value L.holds p list }
     ensures not_read { (number : ℕ) (p : Parts) (e : E) → IsOctets p.content →
-        ListReads number L.holds F.item_gives E.from_gives p (results.Err e) →
+        ListTakes (has_number number) L.holds F.item_gives E.from_gives p (results.Err e) →
         E.from_gives errors.OutOfMemory e ⊎ HasNone (ListOf number F.Words p) }
 {}

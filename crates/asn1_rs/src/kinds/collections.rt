@@ -4,8 +4,7 @@
 //! [`WritesAscending`]); a set without repetitions also how it tells its members apart ([`HasMembers`],
 //! [`LawfulMembers`]).
 //!
-//! Readers, and the laws of these and of the check, stand with each type: `FromDer`, `LawfulDer` and `LawfulCheck` have
-//! an impl over all types that are read as one element, beside which one over all lists can't stand.
+//! How lists are read and checked stands in `asn1_types::lists`, the laws of that with each type.
 ghost use Rattle.std.specs.Prelude.{◌≡◌, ◌≢◌, Bool, List, true, false, length, map, [], ◌∷◌, MatchOption, IfOk, IfErr};
 ghost use Rattle.std.specs.Prelude.{◌+◌, IsErr};
 ghost use Rattle.asn1_headers.specs.Prepended.{Prepended};
@@ -43,11 +42,18 @@ use asn1_headers::writer::DerWrite;
 use std::alloc::Global;
 use std::marker::PhantomData;
 
+/// A kind of lists: [`SequenceKind`] or [`SetKind`].
+pub trait CollectionKind {}
+
 /// The kind of lists that are sequences of their items, in order (X.690 8.10).
 pub struct SequenceKind;
 
+impl CollectionKind for SequenceKind {}
+
 /// The kind of sets, in which the order of the items says nothing (X.690 8.12). `M` is [`Repeats`] or [`Once`].
 pub struct SetKind<M>(PhantomData<M>);
+
+impl<M> CollectionKind for SetKind<M> {}
 
 /// Of sets in which an item may stand more than once.
 pub struct Repeats;

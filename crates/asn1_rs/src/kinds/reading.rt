@@ -15,8 +15,10 @@ ghost use Rattle.asn1_headers.specs.Error.{HeldIn};
 ghost use Rattle.asn1_headers.specs.Header.Reading.{der_breach};
 ghost use Rattle.asn1_rs.specs.declared.asn1_types.any.Any.{Any};
 ghost use Rattle.asn1_rs.specs.Any.{parts_of};
+ghost use Rattle.asn1_rs.specs.Checks.{CheckGives, has_number};
 ghost use Rattle.asn1_rs.specs.Grammar.{TakesBody};
 ghost use Rattle.asn1_rs.specs.Kinds.{IsExactCheck};
+ghost use Rattle.asn1_rs.specs.Lists.{IsListOr};
 ghost use Rattle.asn1_rs.specs.Traits.{DerGives};
 ghost use Rattle.asn1_rs.specs.Laws.Kinds.{other_error};
 ghost use Rattle.asn1_rs.specs.Laws.Readers.{element_exact, element_no_memory, der_breach_no_memory, der_elements};
@@ -27,6 +29,7 @@ use crate::kinds::{ElementKind, HasKind, LawfulConversion, LawfulElement};
 use crate::laws::{LawfulAuto, LawfulBody, LawfulCheck, LawfulDer, LawfulItem};
 use crate::traits::{CheckDerConstraints, DerAutoDerive, FromAny, FromDer, converted};
 use asn1_headers::error::{Err, Error, ParseResult};
+use asn1_headers::tag::Tag;
 use std::alloc::Global;
 use std::marker::PhantomData;
 
@@ -91,11 +94,38 @@ impl<T: DerAutoDerive> HasReader for T {
 /// The reader of lists. `F` is [`AnyForm`] or [`ConstructedForm`].
 pub struct ListReader<F>(PhantomData<F>);
 
+/// The form that an element has to have: primitive or constructed (X.690 8.1.2.5).
+pub trait EncodingForm {
+    /// What the check for a tag number and this form may answer at an element of these parts.
+    ghost form_gives: { ℕ → CheckGives };
+
+    /// Refuses an element that has another tag number or another form, in this order.
+    fn assert_form(number: u32, any: &Any<'_>) -> Result<(), Error>
+        ensures { form_gives number (parts_of any.now) result };
+}
+
 /// Of lists whose constructed bit is not looked at.
 pub struct AnyForm;
 
+impl EncodingForm for AnyForm {
+    ghost form_gives = { has_number };
+
+    fn assert_form(number: u32, any: &Any<'_>) -> Result<(), Error> {
+        any.header.assert_tag(Tag(number))
+    }
+}
+
 /// Of lists that are refused where the element is primitive.
 pub struct ConstructedForm;
+
+impl EncodingForm for ConstructedForm {
+    ghost form_gives = { IsListOr };
+
+    fn assert_form(number: u32, any: &Any<'_>) -> Result<(), Error> {
+        AnyForm::assert_form(number, any)?;
+        any.header.assert_constructed()
+    }
+}
 
 /// A type that is read by DER by this reader.
 pub trait FromDerBy<'a, R, E>: Sized {

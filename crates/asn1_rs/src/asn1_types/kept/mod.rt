@@ -25,10 +25,11 @@ ghost use Rattle.asn1_headers.specs.declared.error.Error.{Error};
 ghost use Rattle.asn1_headers.specs.declared.error.SerializeError.{SerializeError};
 
 use crate::asn1_types::any::Any;
-use crate::asn1_types::lists::{assert_list, items_by};
+use crate::asn1_types::lists::items_by;
 use crate::asn1_types::sequence::iterator::{ReadsItems, SequenceIterator};
 use crate::ber::element_by_ber;
 use crate::der::element_by_der;
+use crate::kinds::reading::{ConstructedForm, EncodingForm};
 use crate::to_der::ToDer;
 use crate::to_static::ToStatic;
 use asn1_headers::error::{Err, Error, ParseResult, SerializeResult, without_io};
@@ -89,7 +90,7 @@ where
     ensures { HandsListOn number E.from_gives (FnOnceReturnsAt F.FnOnce op) (parts_of any.entry)
         rest.now (seen result) }
 {
-    if let Err(e) = assert_list(number, &any) {
+    if let Err(e) = ConstructedForm::assert_form(number, &any) {
         return Err(Err::Error(E::from(e)));
     }
     match op(any.content) {

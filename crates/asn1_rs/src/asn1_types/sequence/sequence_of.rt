@@ -4,13 +4,12 @@ ghost use Rattle.std.specs.Borrow.{sem};
 ghost use Rattle.std.specs.Iterator.{IsFiniteIterable, Drains};
 ghost use Rattle.std.proofs.Common.{lit<};
 ghost use Rattle.asn1_headers.specs.declared.error.Error.TheVariants as errors;
-ghost use Rattle.asn1_rs.specs.Traits.{OfParts};
 ghost use Rattle.asn1_headers.specs.Ber.{EndsWithin};
 ghost use Rattle.x690.specs.Identifiers.{IsCutIdentifier};
-ghost use Rattle.asn1_rs.specs.Lists.{ListOf, ListReads, PushesItem};
+ghost use Rattle.asn1_rs.specs.Lists.{PushesItem};
 ghost use Rattle.asn1_rs.specs.Sequence.SequenceOf.{sequence_items, IsSequenceOf, lends_sequence_items};
-ghost use Rattle.asn1_rs.specs.Laws.Readers.{unchecked_exact};
-ghost use Rattle.asn1_rs.specs.Laws.Lists.{takes_some, list_takes, list_reads, list_checks, sequence_values};
+ghost use Rattle.asn1_rs.specs.Laws.Lists.{takes_some, number_checks, constructed_checks, list_takes, list_checks};
+ghost use Rattle.asn1_rs.specs.Laws.Lists.{list_by_der_exact, sequence_values};
 ghost use Rattle.asn1_rs.specs.Laws.Words.{ber_one};
 ghost use Rattle.asn1_rs.specs.Grammar.Item.{ber_words};
 
@@ -168,8 +167,9 @@ impl<T> WritesInOrder for SequenceOf<T> {
 }
 
 impl<'a, T: LawfulBer<'a, Error> + Drop> LawfulBodyBy<'a, SequenceKind, Error> for SequenceOf<T> {
-    ghost exact_by_kind = { list_takes 16 IsSequenceOf Self.grammar.value T.ber_gives
-        (λ x y. y ≡ x) (ber_words T.grammar) T.grammar.value T.grammar.allocates EndsWithin
+    ghost exact_by_kind = { list_takes (constructed_checks 16) IsSequenceOf Self.grammar.value
+        T.ber_gives (λ x y. y ≡ x) (ber_words T.grammar) T.grammar.value T.grammar.allocates
+        EndsWithin
         (sequence_values T.grammar.value) (ber_one T.grammar T.lawful_item) T.ber_exact };
 
     ghost no_memory_by_kind = { λ none p e g. takes_some none };
@@ -178,12 +178,9 @@ impl<'a, T: LawfulBer<'a, Error> + Drop> LawfulBodyBy<'a, SequenceKind, Error> f
 impl<'a, T: LawfulDer<'a, E> + Drop, E: From<Error>> LawfulDerBy<'a, ListReader<AnyForm>, E>
     for SequenceOf<T> {
     ghost exact_by_reader = { λ input answer octets.
-        unchecked_exact (OfParts (ListReads 16 IsSequenceOf T.der_gives E.from_gives)) E.from_gives
-        (ListOf 16 T.grammar.Der) Self.grammar.value true
-        (list_reads 16 IsSequenceOf Self.grammar.value T.der_gives E.from_gives T.grammar.Der
-        T.grammar.value T.grammar.allocates IsCutIdentifier (sequence_values T.grammar.value)
-        T.lawful_item.der_one T.der_exact)
-        input answer };
+        list_by_der_exact (number_checks 16) IsSequenceOf Self.grammar.value T.der_gives E.from_gives
+        T.grammar.Der T.grammar.value T.grammar.allocates IsCutIdentifier
+        (sequence_values T.grammar.value) T.lawful_item.der_one T.der_exact input answer };
 
     ghost no_memory_by_reader = { λ none input answer g. takes_some none };
 }

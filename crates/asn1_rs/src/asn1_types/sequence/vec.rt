@@ -1,12 +1,11 @@
 //! Vectors as sequences of items (X.690 8.10).
 ghost use Rattle.std.specs.Prelude.{◌≡◌, true, MatchResult};
 ghost use Rattle.std.proofs.Common.{lit<};
-ghost use Rattle.asn1_rs.specs.Traits.{OfParts};
 ghost use Rattle.asn1_headers.specs.Ber.{EndsWithin};
 ghost use Rattle.x690.specs.Identifiers.{IsCutIdentifier};
-ghost use Rattle.asn1_rs.specs.Lists.{ListOf, ListReads, has_items};
-ghost use Rattle.asn1_rs.specs.Laws.Readers.{unchecked_exact};
-ghost use Rattle.asn1_rs.specs.Laws.Lists.{takes_some, list_takes, list_reads, list_checks, same_lists, same_values};
+ghost use Rattle.asn1_rs.specs.Lists.{has_items};
+ghost use Rattle.asn1_rs.specs.Laws.Lists.{takes_some, number_checks, constructed_checks, list_takes, list_checks};
+ghost use Rattle.asn1_rs.specs.Laws.Lists.{list_by_der_exact, same_lists, same_values};
 ghost use Rattle.asn1_rs.specs.Laws.Words.{ber_one};
 ghost use Rattle.asn1_rs.specs.Grammar.Item.{ber_words};
 
@@ -92,8 +91,9 @@ impl<T> WritesInOrder for Vec<T> {
 }
 
 impl<'a, T: LawfulBer<'a, Error> + Drop> LawfulBodyBy<'a, SequenceKind, Error> for Vec<T> {
-    ghost exact_by_kind = { list_takes 16 has_items Self.grammar.value T.ber_gives
-        (λ x y. y ≡ x) (ber_words T.grammar) T.grammar.value T.grammar.allocates EndsWithin
+    ghost exact_by_kind = { list_takes (constructed_checks 16) has_items Self.grammar.value
+        T.ber_gives (λ x y. y ≡ x) (ber_words T.grammar) T.grammar.value T.grammar.allocates
+        EndsWithin
         (same_values T.grammar.value) (ber_one T.grammar T.lawful_item) T.ber_exact };
 
     ghost no_memory_by_kind = { λ none p e g. takes_some none };
@@ -102,12 +102,9 @@ impl<'a, T: LawfulBer<'a, Error> + Drop> LawfulBodyBy<'a, SequenceKind, Error> f
 impl<'a, T: LawfulDer<'a, E> + Drop, E: From<Error>> LawfulDerBy<'a, ListReader<AnyForm>, E>
     for Vec<T> {
     ghost exact_by_reader = { λ input answer octets.
-        unchecked_exact (OfParts (ListReads 16 has_items T.der_gives E.from_gives)) E.from_gives
-        (ListOf 16 T.grammar.Der) Self.grammar.value true
-        (list_reads 16 has_items Self.grammar.value T.der_gives E.from_gives T.grammar.Der
-        T.grammar.value T.grammar.allocates IsCutIdentifier (same_values T.grammar.value)
-        T.lawful_item.der_one T.der_exact)
-        input answer };
+        list_by_der_exact (number_checks 16) has_items Self.grammar.value T.der_gives E.from_gives
+        T.grammar.Der T.grammar.value T.grammar.allocates IsCutIdentifier
+        (same_values T.grammar.value) T.lawful_item.der_one T.der_exact input answer };
 
     ghost no_memory_by_reader = { λ none input answer g. takes_some none };
 }

@@ -3,14 +3,11 @@ ghost use Rattle.std.specs.Prelude.{◌≡◌, true, IfOk};
 ghost use Rattle.std.proofs.Common.{lit<, refl};
 ghost use Rattle.std.specs.BTreeSet.{IsFromIterResult};
 ghost use Rattle.x690.specs.Identifiers.{IsCutIdentifier};
-ghost use Rattle.asn1_rs.specs.Traits.{OfParts};
 ghost use Rattle.asn1_headers.specs.Ber.{EndsWithin};
-ghost use Rattle.asn1_rs.specs.Lists.{ListTakes};
-ghost use Rattle.asn1_rs.specs.Set.{set_of, is_below, SetBody};
+ghost use Rattle.asn1_rs.specs.Set.{set_of, is_below};
 ghost use Rattle.asn1_headers.specs.declared.error.Error.{Error};
-ghost use Rattle.asn1_rs.specs.Laws.Readers.{unchecked_exact};
-ghost use Rattle.asn1_rs.specs.Laws.Lists.{takes_some, list_checks};
-ghost use Rattle.asn1_rs.specs.Laws.Set.{set_takes, tree_told, below_apart, same_members};
+ghost use Rattle.asn1_rs.specs.Laws.Lists.{takes_some, constructed_checks, list_checks};
+ghost use Rattle.asn1_rs.specs.Laws.Set.{set_takes, set_by_der_exact, tree_told, below_apart, same_members};
 ghost use Rattle.asn1_rs.specs.Laws.Words.{ber_one};
 ghost use Rattle.asn1_rs.specs.Grammar.Item.{ber_words};
 
@@ -115,7 +112,8 @@ impl<T> HasReader for BTreeSet<T> {
 
 impl<'a, T: LawfulBer<'a, Error> + LawfulMember + Ord + Drop> LawfulBodyBy<'a, SetKind<Once>, Error>
     for BTreeSet<T> {
-    ghost exact_by_kind = { set_takes (λ items s. IsFromIterResult T.cmp items s) set_of
+    ghost exact_by_kind = { set_takes (constructed_checks 17)
+        (λ items s. IsFromIterResult T.cmp items s) set_of
         Self.grammar.value T.ber_gives (λ x y. y ≡ x) (ber_words T.grammar) T.grammar.value
         T.grammar.allocates EndsWithin (tree_told T.eq T.grammar.value T.same T.cmp T.matches_eq)
         (ber_one T.grammar T.lawful_item) T.ber_exact };
@@ -129,14 +127,10 @@ impl<'a, T: LawfulDer<'a, E> + LawfulMember + Ord + Drop, E: From<Error>> Lawful
     E,
 > for BTreeSet<T> {
     ghost exact_by_reader = { λ input answer octets.
-        unchecked_exact
-        (OfParts
-        (ListTakes 17 (λ items s. IsFromIterResult T.cmp items s) T.der_gives E.from_gives))
-        E.from_gives (SetBody set_of T.grammar.Der) Self.grammar.value true
-        (set_takes (λ items s. IsFromIterResult T.cmp items s) set_of Self.grammar.value T.der_gives
-        E.from_gives T.grammar.Der T.grammar.value T.grammar.allocates IsCutIdentifier
-        (tree_told T.eq T.grammar.value T.same T.cmp T.matches_eq) T.lawful_item.der_one
-        T.der_exact) input answer };
+        set_by_der_exact (constructed_checks 17) (λ items s. IsFromIterResult T.cmp items s) set_of
+        Self.grammar.value T.der_gives E.from_gives T.grammar.Der T.grammar.value
+        T.grammar.allocates IsCutIdentifier (tree_told T.eq T.grammar.value T.same T.cmp T.matches_eq)
+        T.lawful_item.der_one T.der_exact input answer };
 
     ghost no_memory_by_reader = { λ none input answer g. takes_some none };
 }

@@ -5,13 +5,10 @@ ghost use Rattle.std.specs.Prelude.{◌≡◌, true, IfOk};
 ghost use Rattle.std.proofs.Common.{lit<, refl};
 ghost use Rattle.std.specs.HashSet.{IsFromIterResult};
 ghost use Rattle.x690.specs.Identifiers.{IsCutIdentifier};
-ghost use Rattle.asn1_rs.specs.Traits.{OfParts};
 ghost use Rattle.asn1_headers.specs.Ber.{EndsWithin};
-ghost use Rattle.asn1_rs.specs.Lists.{ListTakes};
-ghost use Rattle.asn1_rs.specs.Set.{set_of, is_other, SetBody};
-ghost use Rattle.asn1_rs.specs.Laws.Readers.{unchecked_exact};
-ghost use Rattle.asn1_rs.specs.Laws.Lists.{takes_some, list_checks};
-ghost use Rattle.asn1_rs.specs.Laws.Set.{set_takes, table_told, other_apart};
+ghost use Rattle.asn1_rs.specs.Set.{set_of, is_other};
+ghost use Rattle.asn1_rs.specs.Laws.Lists.{takes_some, constructed_checks, list_checks};
+ghost use Rattle.asn1_rs.specs.Laws.Set.{set_takes, set_by_der_exact, table_told, other_apart};
 ghost use Rattle.asn1_rs.specs.Laws.Words.{ber_one};
 ghost use Rattle.asn1_rs.specs.Grammar.Item.{ber_words};
 
@@ -124,7 +121,8 @@ impl<'a, T: LawfulBer<'a, Error> + LawfulMember + Hash + Drop> LawfulBodyBy<
     SetKind<Once>,
     Error,
 > for HashSet<T> {
-    ghost exact_by_kind = { set_takes (λ items s. IsFromIterResult T.eq items s) set_of
+    ghost exact_by_kind = { set_takes (constructed_checks 17)
+        (λ items s. IsFromIterResult T.eq items s) set_of
         Self.grammar.value T.ber_gives (λ x y. y ≡ x) (ber_words T.grammar) T.grammar.value
         T.grammar.allocates EndsWithin (table_told T.eq T.grammar.value T.same)
         (ber_one T.grammar T.lawful_item) T.ber_exact };
@@ -138,14 +136,10 @@ impl<'a, T: LawfulDer<'a, E> + LawfulMember + Hash + Drop, E: From<Error>> Lawfu
     E,
 > for HashSet<T> {
     ghost exact_by_reader = { λ input answer octets.
-        unchecked_exact
-        (OfParts
-        (ListTakes 17 (λ items s. IsFromIterResult T.eq items s) T.der_gives E.from_gives))
-        E.from_gives (SetBody set_of T.grammar.Der) Self.grammar.value true
-        (set_takes (λ items s. IsFromIterResult T.eq items s) set_of Self.grammar.value T.der_gives
-        E.from_gives T.grammar.Der T.grammar.value T.grammar.allocates IsCutIdentifier
-        (table_told T.eq T.grammar.value T.same) T.lawful_item.der_one
-        T.der_exact) input answer };
+        set_by_der_exact (constructed_checks 17) (λ items s. IsFromIterResult T.eq items s) set_of
+        Self.grammar.value T.der_gives E.from_gives T.grammar.Der T.grammar.value
+        T.grammar.allocates IsCutIdentifier (table_told T.eq T.grammar.value T.same)
+        T.lawful_item.der_one T.der_exact input answer };
 
     ghost no_memory_by_reader = { λ none input answer g. takes_some none };
 }

@@ -5,14 +5,12 @@ ghost use Rattle.std.specs.Iterator.{IsFiniteIterable, Drains};
 ghost use Rattle.std.proofs.Common.{lit<};
 ghost use Rattle.x690.specs.Identifiers.{IsCutIdentifier};
 ghost use Rattle.x690.specs.Collections.{multiset, AnyList};
-ghost use Rattle.asn1_rs.specs.Traits.{OfParts};
 ghost use Rattle.asn1_headers.specs.Ber.{EndsWithin};
 ghost use Rattle.asn1_headers.specs.declared.error.Error.TheVariants as errors;
-ghost use Rattle.asn1_rs.specs.Lists.{ListReads, PushesItem};
-ghost use Rattle.asn1_rs.specs.Set.{SetRow, items_of, HasItems, lends_set_items, multiset_grammar};
-ghost use Rattle.asn1_rs.specs.Laws.Readers.{unchecked_exact};
-ghost use Rattle.asn1_rs.specs.Laws.Lists.{takes_some, list_checks};
-ghost use Rattle.asn1_rs.specs.Laws.Set.{multiset_told, multiset_lawful, set_takes, set_reads, set_takes_class};
+ghost use Rattle.asn1_rs.specs.Lists.{PushesItem};
+ghost use Rattle.asn1_rs.specs.Set.{items_of, HasItems, lends_set_items, multiset_grammar};
+ghost use Rattle.asn1_rs.specs.Laws.Lists.{takes_some, number_checks, constructed_checks, list_checks};
+ghost use Rattle.asn1_rs.specs.Laws.Set.{multiset_told, multiset_lawful, set_takes, set_by_der_exact, set_takes_class};
 ghost use Rattle.asn1_rs.specs.Laws.Set.{set_number};
 ghost use Rattle.asn1_rs.specs.Laws.Writing.{multiset_lawful_writing};
 ghost use Rattle.asn1_rs.specs.Laws.Words.{ber_one, strict_ber};
@@ -200,8 +198,9 @@ impl<T: AlwaysDer> AlwaysDerBy<SetKind<Repeats>> for SetOf<T> {
 }
 
 impl<'a, T: LawfulBer<'a, Error> + Drop> LawfulBodyBy<'a, SetKind<Repeats>, Error> for SetOf<T> {
-    ghost exact_by_kind = { set_takes HasItems multiset Self.grammar.value T.ber_gives
-        (λ x y. y ≡ x) (ber_words T.grammar) T.grammar.value T.grammar.allocates EndsWithin
+    ghost exact_by_kind = { set_takes (constructed_checks 17) HasItems multiset Self.grammar.value
+        T.ber_gives (λ x y. y ≡ x) (ber_words T.grammar) T.grammar.value T.grammar.allocates
+        EndsWithin
         (multiset_told T.grammar.value) (ber_one T.grammar T.lawful_item) T.ber_exact };
 
     ghost no_memory_by_kind = { λ none p e g. takes_some none };
@@ -210,12 +209,9 @@ impl<'a, T: LawfulBer<'a, Error> + Drop> LawfulBodyBy<'a, SetKind<Repeats>, Erro
 impl<'a, T: LawfulDer<'a, E> + Drop, E: From<Error>> LawfulDerBy<'a, ListReader<AnyForm>, E>
     for SetOf<T> {
     ghost exact_by_reader = { λ input answer octets.
-        unchecked_exact (OfParts (ListReads 17 HasItems T.der_gives E.from_gives)) E.from_gives
-        (SetRow multiset T.grammar.Der) Self.grammar.value true
-        (set_reads HasItems multiset Self.grammar.value T.der_gives E.from_gives T.grammar.Der
-        T.grammar.value T.grammar.allocates IsCutIdentifier
-        (multiset_told T.grammar.value) T.lawful_item.der_one T.der_exact)
-        input answer };
+        set_by_der_exact (number_checks 17) HasItems multiset Self.grammar.value T.der_gives
+        E.from_gives T.grammar.Der T.grammar.value T.grammar.allocates IsCutIdentifier
+        (multiset_told T.grammar.value) T.lawful_item.der_one T.der_exact input answer };
 
     ghost no_memory_by_reader = { λ none input answer g. takes_some none };
 }
