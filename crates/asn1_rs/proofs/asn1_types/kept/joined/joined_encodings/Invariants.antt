@@ -1,7 +1,7 @@
 use Rattle.std.proofs.Common.{◌≡◌}
 use Rattle.std.specs.List.{All, flat_map}
 use Rattle.asn1_rs.specs.ToDer.{IsWritable, whole_octets}
-use Rattle.asn1_rs.proofs.asn1_types.kept.joined_encodings.Given as goal
+use Rattle.asn1_rs.proofs.asn1_types.kept.joined.joined_encodings.Given as goal
 
 abbrev pub invariant-loop-item : goal.invariant-loop-item
 invariant-loop-item g l =

@@ -1,9 +1,9 @@
 use Rattle.std.proofs.Common.{◌∷◌, [], ◌++◌, inr}
 use Rattle.std.specs.List.{AllZip}
 use Rattle.asn1_headers.specs.Walk.{TakesItem}
-use Rattle.asn1_rs.proofs.Kept.{zip_push}
+use Rattle.asn1_rs.proofs.OneItemMore.{zip_push}
 use Rattle.asn1_rs.proofs.Lists.{items_push, items_end}
-use Rattle.asn1_rs.proofs.asn1_types.kept.copies_by.Goals as goal
+use Rattle.asn1_rs.proofs.asn1_types.kept.items.copies_by.Goals as goal
 
 pub loop-item-preserved : goal.loop-item-preserved
 loop-item-preserved g c =

@@ -1,6 +1,6 @@
 use Rattle.std.proofs.Common.{◌∙◌, ap}
 use Rattle.std.specs.Cow.{cow_slice_items}
-use Rattle.asn1_rs.proofs.asn1_types.kept.set.Set.from_iter_to_der.Goals as goal
+use Rattle.asn1_rs.proofs.asn1_types.kept.Kept.from_iter_to_der.Goals as goal
 
 pub returns-in-Ok : goal.returns-in-Ok
 returns-in-Ok g c =

@@ -1,5 +1,5 @@
 use Rattle.asn1_rs.proofs.Writing.{vector_refuses, neither_refuses, at_once_into}
-use Rattle.asn1_rs.proofs.asn1_types.kept.with_encoding.Goals as goal
+use Rattle.asn1_rs.proofs.asn1_types.kept.joined.with_encoding.Goals as goal
 use Rattle.asn1_rs.specs.ToDer.{whole_refuses}
 
 pub returns-in-Err-clause-refused : goal.returns-in-Err-clause-refused

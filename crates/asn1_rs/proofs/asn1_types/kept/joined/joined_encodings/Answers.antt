@@ -2,9 +2,9 @@ use Rattle.std.proofs.Common.{rules}
 use Rattle.std.proofs.lemmas.Bool.{false≢true}
 use Rattle.std.proofs.lemmas.Result.{err_from_is_err_and}
 use Rattle.asn1_rs.specs.ToDer.{IsWritable, whole_octets, whole_refuses}
-use Rattle.asn1_rs.proofs.Kept.{yields_push, joined_next, joined_end}
+use Rattle.asn1_rs.proofs.OneItemMore.{yields_push, joined_next, joined_end}
 use Rattle.asn1_rs.proofs.Writing.{is_writable}
-use Rattle.asn1_rs.proofs.asn1_types.kept.joined_encodings.Goals as goal
+use Rattle.asn1_rs.proofs.asn1_types.kept.joined.joined_encodings.Goals as goal
 
 pub returns-in_err-octets : goal.returns-in_err-octets
 returns-in_err-octets g c =
