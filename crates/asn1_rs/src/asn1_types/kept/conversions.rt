@@ -20,6 +20,7 @@ use crate::asn1_types::lists::assert_list;
 use crate::ber::element_by_ber;
 use crate::der::element_by_der;
 use asn1_headers::error::{Err, Error, ParseResult};
+use asn1_headers::tag::Tag;
 use std::borrow::CowSlice;
 
 /// Looks at the tag number of an element and then at its constructed bit, and hands its contents octets to the closure.
@@ -91,7 +92,8 @@ impl<'a> Any<'a> {
         ensures gives { LeafGives (kept_leaf K.NUMBER) (parts_of self.now) result }
         ensures borrowed { IfOk result (λ x. IsBorrowedSlice x.content) }
     {
-        assert_list(K::NUMBER, self)?;
+        self.assert_number(Tag(K::NUMBER))?;
+        self.header.assert_constructed()?;
         Ok(Kept::new(CowSlice::Borrowed(self.content)))
     }
 }

@@ -1,5 +1,4 @@
 //! Items of one type in the contents octets of sequences and sets that are kept so.
-ghost use Rattle.std.specs.Prelude.{◌≡◌};
 ghost use Rattle.asn1_headers.specs.declared.error.Error.TheVariants as errors;
 ghost use Rattle.asn1_rs.specs.Kept.{kept_octets, OnLent, IsErrorOf, CopiesGive};
 ghost use Rattle.asn1_rs.specs.Lists.{ItemsGive, listed};
@@ -15,10 +14,7 @@ use std::alloc::Global;
 use std::borrow::CowSlice;
 
 /// The items in borrowed octets, by the reader `F`. Owned octets are refused with `LifetimeError`.
-fn items_lent<'a, T, F, E>(
-    content: CowSlice<'a, u8, Global>,
-    alloc: Global,
-) -> Result<Vec<T>, E>
+fn items_lent<'a, T, F, E>(content: CowSlice<'a, u8, Global>, alloc: Global) -> Result<Vec<T>, E>
 where
     T: Drop,
     F: ReadsItems<'a, T, E>,

@@ -13,12 +13,8 @@ pub trait KeptKind {
     /// Its tag number.
     const NUMBER: u32;
 
-    /// Its name in debug texts.
-    const NAME: &'static str;
-
-    /// The tag number, as contracts name it.
-    // Not the constant of a type with a tag number: only what speaks of the trait's own members can be cited where a
-    // leaf type says what it is.
+    /// The constant, as contracts name it.
+    // No type with a tag number: what is said of such a type's is a law, which `laws` of `LeafType` can't cite.
     ghost NUMBER: { ℕ };
 
     /// The number is one of the low form.
@@ -26,6 +22,9 @@ pub trait KeptKind {
 
     /// It is that of sequences or sets.
     ghost constructed: { is_container_number NUMBER ≡ true };
+
+    /// Its name in debug texts.
+    const NAME: &'static str;
 }
 
 /// The tag number of a type that is kept as its contents octets, as a type.
@@ -37,35 +36,35 @@ impl<K: KeptKind> Tagged for KeptNumber<K> {
     ghost TAG = { record { 0 = K.NUMBER } };
 }
 
-/// Marks [`Sequence`].
+/// Marks [`Sequence`]. It has an equality, so sequences have one.
 #[derive(PartialEq, Eq)]
 pub struct SequenceMark;
 
 impl KeptKind for SequenceMark {
     const NUMBER: u32 = 16;
 
-    const NAME: &'static str = "Sequence";
-
     ghost NUMBER = { 16 };
 
     ghost small = { lit< tt };
 
     ghost constructed = { refl };
+
+    const NAME: &'static str = "Sequence";
 }
 
-/// Marks [`Set`].
+/// Marks [`Set`]. It has no equality, so sets have none.
 pub struct SetMark;
 
 impl KeptKind for SetMark {
     const NUMBER: u32 = 17;
-
-    const NAME: &'static str = "Set";
 
     ghost NUMBER = { 17 };
 
     ghost small = { lit< tt };
 
     ghost constructed = { refl };
+
+    const NAME: &'static str = "Set";
 }
 
 /// A sequence that is kept as its contents octets, borrowed or owned (X.690 8.9, 8.10). Two are equal where their

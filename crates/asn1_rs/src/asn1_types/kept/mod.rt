@@ -35,7 +35,7 @@ use std::marker::PhantomData;
 ///
 /// What the contents octets are is not looked at: they are written as they stand, and each value is in DER form. They
 /// are read in turn by [`Kept::parse`], or as items of one type by [`Kept::ber_iter`] and its like. Two are equal where
-/// their contents octets are, if their mark has an equality.
+/// their contents octets are, if the mark has an equality.
 #[derive(Drop)]
 #[derive_where(Clone)]
 #[derive_where(PartialEq, Eq; K)]
