@@ -98,8 +98,8 @@ impl<'a> Any<'a> {
     }
 }
 
-/// The contents octets are kept, and borrowed. Refused at another tag number with `UnexpectedTag`, and where the element
-/// is primitive with `ConstructExpected`.
+/// The contents octets are kept, and borrowed. Refused at another tag number with `UnexpectedTag`, and where the
+/// element is primitive with `ConstructExpected`.
 impl<'a> Any<'a> {
     /// The sequence.
     pub fn sequence(self) -> Result<Sequence<'a>, Error>

@@ -14,7 +14,7 @@ pub trait KeptKind {
     const NUMBER: u32;
 
     /// The constant, as contracts name it.
-    // No type with a tag number: what is said of such a type's is a law, which `laws` of `LeafType` can't cite.
+    // Not that of a type with a tag number: what is said of that is a law, which `laws` of `LeafType` can't cite.
     ghost NUMBER: { ℕ };
 
     /// The number is one of the low form.
