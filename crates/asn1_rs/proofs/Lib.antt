@@ -1,5 +1,5 @@
 mod JoinedItems
-mod Kept
+mod OneItemMore
 mod Lists
 mod OnlyItem
 mod Prepending

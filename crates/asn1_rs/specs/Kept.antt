@@ -10,8 +10,9 @@ use Rattle.std.specs.declared.borrow.CowSlice.{CowSlice}
 use Rattle.std.specs.declared.borrow.CowSlice.TheVariants as held
 use Rattle.x690.specs.Elements.{Parts}
 use Rattle.x690.specs.Faults.{Fault}
-use Rattle.asn1_rs.specs.declared.asn1_types.kept.sequence.Sequence.{Sequence}
-use Rattle.asn1_rs.specs.declared.asn1_types.kept.set.Set.{Set}
+use Rattle.asn1_rs.specs.declared.asn1_types.kept.Kept.{Kept}
+use Rattle.asn1_rs.specs.declared.asn1_types.kept.kinds.SequenceMark.{SequenceMark}
+use Rattle.asn1_rs.specs.declared.asn1_types.kept.kinds.SetMark.{SetMark}
 use Rattle.asn1_headers.specs.declared.error.Error.{Error}
 use Rattle.asn1_headers.specs.declared.error.SerializeError.{SerializeError}
 use Rattle.asn1_headers.specs.declared.error.Err.{Err as Refusal}
@@ -26,34 +27,22 @@ use Rattle.asn1_rs.specs.OctetString.{contents_leaf}
 use Rattle.asn1_rs.specs.ToDer.{IntoVector, IsWritable, RefusesAtOnce, VectorRefuses, Writing, whole_allocates}
 use Rattle.asn1_rs.specs.ToDer.{whole_octets, whole_refuses}
 
--- the tag number of sequences
-abbrev pub sequence_number : ℕ
-sequence_number = 16
-
--- the tag number of sets
-abbrev pub set_number : ℕ
-set_number = 17
-
 -- the contents octets, borrowed or owned
-abbrev pub sequence_octets : Sequence → List ℕ
-sequence_octets x = cow_slice_items x.content
-
--- the contents octets that a set keeps
-abbrev pub set_octets : Set → List ℕ
-set_octets x = cow_slice_items x.content
+abbrev pub kept_octets : {K : Type 0} → Kept K → List ℕ
+kept_octets x = cow_slice_items x.content
 
 -- An element with the tag number whose value is its contents octets, as they stand:
 -- it is constructed (8.9.1, 8.11.1), and DER asks no more of it.
-abbrev pub kept_leaf : {S : Type 0} → ℕ → (S → List ℕ) → Leaf S
-kept_leaf number octets = contents_leaf number octets is_constructed nothing
+abbrev pub kept_leaf : {K : Type 0} → ℕ → Leaf (Kept K)
+kept_leaf number = contents_leaf number kept_octets is_constructed nothing
 
 -- Sequences that are kept as their contents octets.
-abbrev pub sequence_leaf : Leaf Sequence
-sequence_leaf = kept_leaf sequence_number sequence_octets
+abbrev pub sequence_leaf : Leaf (Kept SequenceMark)
+sequence_leaf = kept_leaf 16
 
 -- Sets that are kept as their contents octets.
-abbrev pub set_leaf : Leaf Set
-set_leaf = kept_leaf set_number set_octets
+abbrev pub set_leaf : Leaf (Kept SetMark)
+set_leaf = kept_leaf 17
 
 -- a closure that is called once may be called at the octets, where they are borrowed
 abbrev pub TakesLent : {F R : Type 0} → Once F (Bor (List ℕ) × Unit {0}) R → F → CowSlice ℕ Global → Type 0
@@ -128,6 +117,6 @@ JoinsGiven {I} {T} steps w it (Err e) =
     (items : List T) × (item : T) × (rest : I) × Yields steps it (items ++ item ∷ []) rest × EndsJoining w items item e
 
 -- the contents octets of what was made
-abbrev pub content_octets : {S E : Type 0} → (S → List ℕ) → Result S E → Result (List ℕ) E
-content_octets octets (Ok x) = Ok (octets x)
-content_octets octets (Err e) = Err e
+abbrev pub content_octets : {K E : Type 0} → Result (Kept K) E → Result (List ℕ) E
+content_octets (Ok x) = Ok (kept_octets x)
+content_octets (Err e) = Err e

@@ -5,7 +5,7 @@ ghost use Rattle.asn1_headers.specs.Answers.{seen, Exactly};
 ghost use Rattle.asn1_rs.specs.OctetString.{slice_leaf, octet_string_leaf, octets_of};
 ghost use Rattle.asn1_rs.specs.BitString.{bit_string_leaf, bits_in};
 ghost use Rattle.asn1_rs.specs.Integer.Octets.{any_integer_leaf, integer_octets};
-ghost use Rattle.asn1_rs.specs.Kept.{sequence_leaf, sequence_octets};
+ghost use Rattle.asn1_rs.specs.Kept.{kept_octets, sequence_leaf};
 ghost use Rattle.asn1_rs.specs.Lists.{ItemsGive, listed};
 ghost use Rattle.asn1_rs.specs.Strings.{text_of};
 ghost use Rattle.asn1_rs_uses.specs.Borrowed.{LeafByDer, BeginsWithContents, utf8_string_leaf};
@@ -81,7 +81,7 @@ pub fn read_integer<'a>(alloc: Global, octets: &'a [u8]) -> ParseResult<'a, Inte
 
 /// The sequence at the front, by DER, kept as its contents octets, and what follows it.
 pub fn read_sequence<'a>(alloc: Global, octets: &'a [u8]) -> ParseResult<'a, Sequence<'a>, Error>
-    ensures { Exactly IsCutIdentifier (LeafByDer sequence_leaf) sequence_octets NoMemory
+    ensures { Exactly IsCutIdentifier (LeafByDer sequence_leaf) kept_octets NoMemory
         octets.now (seen result) }
 {
     read_der::<Sequence<'a>, Error>(alloc, octets)
@@ -92,7 +92,7 @@ pub fn items_of<'a, T, E>(alloc: Global, sequence: &'a Sequence<'a>) -> Result<V
 where
     T: FromDer<'a, E> + Drop,
     E: From<Error>,
-    ensures { ItemsGive T.der_gives E.from_gives (sequence_octets sequence.now) (listed result) }
+    ensures { ItemsGive T.der_gives E.from_gives (kept_octets sequence.now) (listed result) }
 {
     sequence.der_sequence_of(alloc)
 }

@@ -4,7 +4,7 @@ ghost use Rattle.asn1_rs.specs.BitString.{bit_string_leaf, bits_in};
 ghost use Rattle.asn1_rs.specs.Boolean.{bool_leaf};
 ghost use Rattle.asn1_rs.specs.Enumerated.{enumerated_leaf};
 ghost use Rattle.asn1_rs.specs.Integer.Octets.{any_integer_leaf, integer_octets};
-ghost use Rattle.asn1_rs.specs.Kept.{sequence_leaf, sequence_octets, set_leaf, set_octets};
+ghost use Rattle.asn1_rs.specs.Kept.{kept_octets, sequence_leaf, set_leaf};
 ghost use Rattle.asn1_rs.specs.Null.{null_leaf};
 ghost use Rattle.asn1_rs.specs.OctetString.{octet_string_leaf, octets_of};
 ghost use Rattle.asn1vec_answers.specs.Shown.{IsWritten, bits_text, in_hexadecimal, truth_text};
@@ -90,9 +90,9 @@ impl Encoded for BitString<'_> {
 }
 
 impl Encoded for Sequence<'_> {
-    ghost text_of = { λ x. in_hexadecimal (sequence_octets x) };
+    ghost text_of = { λ x. in_hexadecimal (kept_octets x) };
 
-    ghost Encodes = { λ x. IsWritten false (leaf_octets sequence_leaf (sequence_octets x)) };
+    ghost Encodes = { λ x. IsWritten false (leaf_octets sequence_leaf (kept_octets x)) };
 
     fn show(&self, text: &mut Vec<u8>) -> Result<(), AllocError> {
         push_hexadecimal(text, self.as_bytes())
@@ -102,9 +102,9 @@ impl Encoded for Sequence<'_> {
 }
 
 impl Encoded for Set<'_> {
-    ghost text_of = { λ x. in_hexadecimal (set_octets x) };
+    ghost text_of = { λ x. in_hexadecimal (kept_octets x) };
 
-    ghost Encodes = { λ x. IsWritten false (leaf_octets set_leaf (set_octets x)) };
+    ghost Encodes = { λ x. IsWritten false (leaf_octets set_leaf (kept_octets x)) };
 
     fn show(&self, text: &mut Vec<u8>) -> Result<(), AllocError> {
         push_hexadecimal(text, self.as_bytes())

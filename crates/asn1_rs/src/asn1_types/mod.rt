@@ -25,8 +25,7 @@ pub mod times;
 use crate::traits::Tagged;
 use bit_string::BitString;
 use integer::octets::Integer;
-use kept::sequence::Sequence;
-use kept::set::Set;
+use kept::kinds::{Sequence, Set};
 use octet_string::OctetString;
 
 /// The tag numbers of types that borrow: of bit strings, integers, octet strings, octets, sequences and sets.

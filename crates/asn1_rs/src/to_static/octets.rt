@@ -3,11 +3,10 @@ ghost use Rattle.std.specs.Prelude.{◌≡◌, string_bytes, IfOk, IfErr, option
 ghost use Rattle.std.specs.Cow.{cow_slice_items, cow_str_bytes};
 ghost use Rattle.asn1_headers.specs.declared.error.Error.TheVariants as errors;
 ghost use Rattle.asn1_rs.specs.Copies.{IsCopyOfHeader};
-ghost use Rattle.asn1_rs.specs.Kept.{sequence_octets, set_octets};
+ghost use Rattle.asn1_rs.specs.Kept.{kept_octets};
 
 use super::ToStatic;
-use crate::asn1_types::kept::sequence::Sequence;
-use crate::asn1_types::kept::set::Set;
+use crate::asn1_types::kept::Kept;
 use asn1_headers::error::Error;
 use asn1_headers::header::Header;
 use std::alloc::Global;
@@ -94,23 +93,12 @@ impl ToStatic for Header<'_> {
 }
 
 /// The copy owns its contents octets.
-impl ToStatic for Sequence<'_> {
-    type Owned = Sequence<'static>;
+impl<K: 'static> ToStatic for Kept<'_, K> {
+    type Owned = Kept<'static, K>;
 
-    ghost copies = { λ source copy. sequence_octets copy ≡ sequence_octets source };
+    ghost copies = { λ source copy. kept_octets copy ≡ kept_octets source };
 
-    fn to_static(&self, alloc: Global) -> Result<Sequence<'static>, Error> {
-        Ok(Sequence::new(owned_octets(alloc, self.as_bytes())?))
-    }
-}
-
-/// The copy owns its contents octets.
-impl ToStatic for Set<'_> {
-    type Owned = Set<'static>;
-
-    ghost copies = { λ source copy. set_octets copy ≡ set_octets source };
-
-    fn to_static(&self, alloc: Global) -> Result<Set<'static>, Error> {
-        Ok(Set::new(owned_octets(alloc, self.as_bytes())?))
+    fn to_static(&self, alloc: Global) -> Result<Kept<'static, K>, Error> {
+        Ok(Kept::new(owned_octets(alloc, self.as_bytes())?))
     }
 }

@@ -1,6 +1,6 @@
 use Rattle.std.proofs.Common.{◌≡◌, ◌+◌, ◌∙◌, sym, ap, arith, ℕ, suc, take, [], ◌∷◌, ◌++◌}
 use Rattle.std.proofs.Math.Seq.{take-suc}
-use Rattle.asn1_rs.proofs.Kept.{zip_push}
+use Rattle.asn1_rs.proofs.OneItemMore.{zip_push}
 use Rattle.asn1_rs.proofs.to_static.holders.copied_items.Goals as goal
 
 pub loop-item-preserved : goal.loop-item-preserved
