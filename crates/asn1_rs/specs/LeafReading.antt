@@ -7,7 +7,7 @@ use Rattle.asn1_rs.specs.declared.asn1_types.any.Any.{Any}
 use Rattle.asn1_rs.specs.Checks.{CheckGives}
 use Rattle.asn1_rs.specs.Traits.{OfParts}
 use Rattle.asn1_rs.specs.Leaf.{Leaf, LeafGives, LeafTakes, LendsContent, copying, leaf_element}
-use Rattle.asn1_rs.specs.Kinds.{ElementGrammar, IsLawfulElement, IsExactCheck, IsExactConversion}
+use Rattle.asn1_rs.specs.Kinds.{ElementGrammar, IsLawfulElement, IsExactCheck, IsExactConversion, HoldingGives, holding}
 
 -- its elements, and what the conversion and the check may answer
 pub record LeafReading (S : Type 0) : Type 1 where
@@ -43,4 +43,12 @@ copying_reading L = record {
   element = copying (leaf_element L);
   gives = OfParts (LeafTakes L);
   check = L.constraints;
+}
+
+-- and a type that holds an item of a leaf, and nothing else
+abbrev pub holding_reading : {S T : Type 0} → (T → S) → LeafReading S → LeafReading T
+holding_reading held R = record {
+  element = holding held R.element;
+  gives = HoldingGives held R.gives;
+  check = R.check;
 }

@@ -16,7 +16,8 @@ use Rattle.asn1_headers.specs.declared.error.Error.{Error}
 use Rattle.asn1_headers.specs.declared.error.Error.TheVariants as errors
 use Rattle.asn1_rs.specs.declared.asn1_types.set.set_of.SetOf.{SetOf}
 use Rattle.asn1_rs.specs.Any.{parts_of}
-use Rattle.asn1_rs.specs.Lists.{ItemsGive, ListOf, ListReads, MadeOf, listed}
+use Rattle.asn1_rs.specs.Checks.{has_number}
+use Rattle.asn1_rs.specs.Lists.{ItemsGive, ListOf, ListTakes, MadeOf, listed}
 use Rattle.asn1_rs.specs.Sequence.Iterator.{IsMemory, TellsNoWord, EndsJoined}
 use Rattle.asn1_rs.specs.Set.{HasItems, items_of}
 use Rattle.asn1_rs.specs.Traits.{DerGives, OfParts, PassesAll}
@@ -42,10 +43,11 @@ module _ {T E : Type 0} (reads : List ℕ → Result (List ℕ × T) (Refusal E)
 
 -- a set of numbers that was read, by what the law says of the element
 pub set_begins : (reads : List ℕ → Result (List ℕ × ℕ) (Refusal Error) → Type 0) (octets : List ℕ) →
-    ((number : ℕ) (p : Parts) (list : SetOf ℕ) → IsOctets p.content → ListReads number HasItems reads same p (Ok list) →
+    ((number : ℕ) (p : Parts) (list : SetOf ℕ) → IsOctets p.content →
+    ListTakes (has_number number) HasItems reads same p (Ok list) →
     MadeOf (ListOf number NumberByDer) pos HasItems p list) →
     (r : Result (List ℕ × SetOf ℕ) (Refusal Error)) →
-    DerGives PassesAll (OfParts (ListReads 17 HasItems reads same)) same octets r →
+    DerGives PassesAll (OfParts (ListTakes (has_number 17) HasItems reads same)) same octets r →
     IfOk r (λ x. BeginsWithNumbers octets (items_of x.1) x.0)
 set_begins reads octets law (Err e) g = tt
 set_begins reads octets law (Ok x) g =
@@ -56,7 +58,7 @@ set_begins reads octets law (Ok x) g =
       parts = parts_of g.0;
       element = front.fits;
       is = front.is;
-      set = made.2.number_is;
+      set = made.2.shape;
       joined =
           subst (λ (xs : List ℕ). IsJoined NumberByDer (parts_of g.0).content (map pos xs)) (sym made.1) made.2.items;
     }

@@ -2,7 +2,8 @@
 ghost use Rattle.std.specs.Prelude.{◌≡◌};
 ghost use Rattle.asn1_rs.specs.Any.{parts_of};
 ghost use Rattle.asn1_rs.specs.Checks.{is_primitive};
-ghost use Rattle.asn1_rs.specs.Laws.Leaf.{leaf_laws, leaf_written};
+ghost use Rattle.asn1_rs.specs.LeafReading.{leaf_reading};
+ghost use Rattle.asn1_rs.specs.Laws.Leaf.{leaf_exact, leaf_written};
 ghost use Rattle.asn1_rs_uses.specs.Fingerprint.{fingerprint_leaf, fingerprint_lawful};
 
 use asn1_rs::{
@@ -22,7 +23,9 @@ impl HasKind for Fingerprint<'_> {
 impl LeafType for Fingerprint<'_> {
     type Number = TagNumber<4>;
 
-    ghost laws = { leaf_laws fingerprint_leaf fingerprint_lawful };
+    ghost reading = { leaf_reading fingerprint_leaf };
+
+    ghost exact = { leaf_exact fingerprint_leaf fingerprint_lawful };
 
     fn leaf_in_hand(&self) {
         octets_in_hand(self.0);

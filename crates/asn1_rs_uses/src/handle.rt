@@ -7,7 +7,7 @@ ghost use Rattle.asn1_rs_uses.specs.Handles.{handle_checked, handle_converts};
 ghost use Rattle.asn1_rs_uses.specs.Numbers.{NoMemory};
 
 use asn1_rs::{
-    Any, CheckDerConstraints, DerAutoDerive, ElementKind, Error, FromAny, HasKind,
+    Any, CheckDerConstraints, DerAutoDerive, ElementKind, Error, FromAny, HasKind, LawfulCheckBy,
     LawfulConversion, LawfulElement, ParseResult, TaggedExplicit, TaggedImplicit, read_der,
 };
 use std::alloc::Global;
@@ -53,11 +53,13 @@ impl LawfulElement for Handle {
 
     ghost lawful = { handle_lawful (λ x. x.0.inner.inner) };
 
-    ghost checked = { handle_checked };
-
     fn value_in_hand(&self) {
         self.0.as_inner().as_inner().value_in_hand();
     }
+}
+
+impl LawfulCheckBy<ElementKind> for Handle {
+    ghost checks_by_kind = { handle_checked };
 }
 
 impl<'a> LawfulConversion<'a> for Handle {

@@ -21,7 +21,7 @@ ghost use Rattle.asn1_rs_uses.specs.declared.levels.LevelError.TheVariants.{Octe
 
 use asn1_rs::{
     Any, CheckDerConstraints, DerAutoDerive, ElementKind, Error, Explicit, FromAny, HasKind,
-    LawfulBody, LawfulElement, Tag, Tagged, TaggedParser, reader_is_exact_by_der,
+    LawfulBody, LawfulCheckBy, LawfulElement, Tag, Tagged, TaggedParser, reader_is_exact_by_der,
 };
 use std::alloc::Global;
 
@@ -82,11 +82,13 @@ impl LawfulElement for Level {
 
     ghost lawful = { holding_lawful level_number _ (integer_lawful (IsUnsigned 1) pos) };
 
-    ghost checked = { integer_checks };
-
     fn value_in_hand(&self) {
         self.0.value_in_hand();
     }
+}
+
+impl LawfulCheckBy<ElementKind> for Level {
+    ghost checks_by_kind = { integer_checks };
 }
 
 impl<'a> LawfulBody<'a, LevelError> for Level {

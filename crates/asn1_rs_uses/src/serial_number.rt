@@ -2,12 +2,11 @@
 ghost use Rattle.std.specs.Prelude.{false, pos};
 ghost use Rattle.x690.specs.Integers.{unsigned_octets};
 ghost use Rattle.x690.specs.Laws.Integers.Unsigned.{unsigned_octets_content};
-ghost use Rattle.asn1_rs.specs.Traits.{OfParts};
-ghost use Rattle.asn1_rs.specs.Integer.{integer_element, IntegerCheckGives, IsUnsigned, UnsignedGives};
-ghost use Rattle.asn1_rs.specs.Kinds.{holding, HoldingGives};
-ghost use Rattle.asn1_rs.specs.Laws.Integer.{integer_checks, integer_lawful, integer_written};
-ghost use Rattle.asn1_rs.specs.Laws.Kinds.{holding_lawful, holding_converts, holding_written};
-ghost use Rattle.asn1_rs.specs.Laws.Integer.Unsigned.{unsigned_converts};
+ghost use Rattle.asn1_rs.specs.Integer.{IsUnsigned};
+ghost use Rattle.asn1_rs.specs.LeafReading.{holding_reading};
+ghost use Rattle.asn1_rs.specs.Laws.Integer.{integer_written};
+ghost use Rattle.asn1_rs.specs.Laws.Kinds.{holding_written};
+ghost use Rattle.asn1_rs.specs.Laws.Leaf.{holding_exact};
 
 use asn1_rs::{
     Any, ConvertsLeaf, DerElement, DerWrite, ElementKind, Error, HasKind, LeafType,
@@ -26,14 +25,9 @@ impl HasKind for SerialNumber {
 impl LeafType for SerialNumber {
     type Number = TagNumber<2>;
 
-    ghost laws = { record {
-      element = holding (λ x. x.0) (integer_element pos (IsUnsigned 8));
-      gives = HoldingGives (λ x. x.0) (OfParts (UnsignedGives 8));
-      check = IntegerCheckGives;
-      lawful = holding_lawful (λ x. x.0) _ (integer_lawful (IsUnsigned 8) pos);
-      checked = integer_checks;
-      converts = holding_converts (λ x. x.0) _ _ (unsigned_converts 8);
-    } };
+    ghost reading = { holding_reading (λ x. x.0) ⟦<u64 as LeafType>⟧.reading };
+
+    ghost exact = { holding_exact (λ x. x.0) _ ⟦<u64 as LeafType>⟧.exact };
 
     fn leaf_in_hand(&self) {
         self.0.leaf_in_hand();

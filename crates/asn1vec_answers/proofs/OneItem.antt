@@ -47,7 +47,10 @@ use Rattle.asn1_rs.specs.Laws.Integer.Signed.{one_signed_refusal, signed_convert
 use Rattle.asn1_rs.specs.Laws.Integer.Unsigned.{one_unsigned_refusal, unsigned_converts}
 use Rattle.x690.specs.Signed.{IsSigned}
 use Rattle.asn1_rs.specs.Laws.Kinds.{lawful_item}
-use Rattle.asn1_rs.specs.Laws.Lists.{list_lawful}
+use Rattle.asn1_rs.specs.Checks.{has_number}
+use Rattle.asn1_rs.specs.Laws.Checks.{has_number_is}
+use Rattle.asn1_rs.specs.Lists.{IsListOr}
+use Rattle.asn1_rs.specs.Laws.Lists.{is_list_or_is, list_lawful}
 use Rattle.asn1_rs.specs.Laws.Readers.{ber_elements, der_elements, element_exact, passes_all}
 use Rattle.asn1_rs.specs.Laws.Words.{one_strict}
 use Rattle.asn1vec_answers.specs.declared.request.Rule.{Rule}
@@ -59,7 +62,7 @@ use Rattle.asn1_rs.specs.declared.asn1_types.sequence.sequence_of.SequenceOf.{Se
 use Rattle.asn1_rs.specs.Sequence.SequenceOf.{IsSequenceOf, sequence_items}
 use Rattle.asn1vec_answers.specs.Types.{Item, alone, collection, hashed_set, leaf_item, ordered_set, sequence}
 use Rattle.asn1vec_answers.specs.Types.{sequence_of, signed_item, unordered_set, unsigned_item, vector}
-use Rattle.asn1vec_answers.proofs.OneList.{IsOneReader, read_by_der, taken_by_ber, taken_by_der}
+use Rattle.asn1vec_answers.proofs.OneList.{IsOneReader, taken_by_ber, taken_by_der}
 use Rattle.asn1vec_answers.proofs.OneReading.{HasOneAnswer, SameEncoding, SameReading, ShownAlike, ber_same, der_same}
 use Rattle.asn1vec_answers.proofs.OneReading.{readings_weaker, written_same}
 use Rattle.asn1vec_answers.proofs.OneRefusal.{IsOneRefusal, IsOneRefusalBut, KeepsNames, one_name, one_of_parts}
@@ -118,9 +121,9 @@ module _ (I : Item) (one : IsOneItem I) where
           λ v w e. texts_same I.text_of (items v) (items w) (follows one.view I.text_of one.text (items v) (items w) e);
       value = λ v w e. follows one.view I.grammar.value one.value (items v) (items w) e;
       ber = taken_by_ber one.view I.grammar.allocates I.ber_gives one.ber
-          (λ v. map one.view (items v)) holds sequence_held 16;
-      der = read_by_der one.view I.grammar.allocates I.der_gives one.der
-          (λ v. map one.view (items v)) holds sequence_held 16;
+          (λ v. map one.view (items v)) holds sequence_held (IsListOr 16) (is_list_or_is 16);
+      der = taken_by_der one.view I.grammar.allocates I.der_gives one.der
+          (λ v. map one.view (items v)) holds sequence_held (has_number 16) (has_number_is 16);
       lawful = list_lawful 16 (lit< tt) items I.grammar one.lawful;
     }
 
@@ -143,9 +146,9 @@ module _ (I : Item) (one : IsOneItem I) where
         (follows one.view I.text_of one.text (items_of s) (items_of t) e);
     value = λ s t e. ap multiset (follows one.view I.grammar.value one.value (items_of s) (items_of t) e);
     ber = taken_by_ber one.view I.grammar.allocates I.ber_gives one.ber
-        (λ s. map one.view (items_of s)) HasItems set_held 17;
-    der = read_by_der one.view I.grammar.allocates I.der_gives one.der
-        (λ s. map one.view (items_of s)) HasItems set_held 17;
+        (λ s. map one.view (items_of s)) HasItems set_held (IsListOr 17) (is_list_or_is 17);
+    der = taken_by_der one.view I.grammar.allocates I.der_gives one.der
+        (λ s. map one.view (items_of s)) HasItems set_held (has_number 17) (has_number_is 17);
     lawful = multiset_lawful items_of I.grammar one.lawful;
   }
 
@@ -166,9 +169,9 @@ module _ (I : Item) (one : IsOneItem I) where
       text = λ s t e. ap (list_text I.text_of) e;
       value = λ s t e. ap (members (is_below cmp) I.grammar.value) e;
       ber = taken_by_ber one.view I.grammar.allocates I.ber_gives one.ber (λ s. s.keys)
-          (λ items s. IsFromIterResult cmp items s) keys_held 17;
+          (λ items s. IsFromIterResult cmp items s) keys_held (IsListOr 17) (is_list_or_is 17);
       der = taken_by_der one.view I.grammar.allocates I.der_gives one.der (λ s. s.keys)
-          (λ items s. IsFromIterResult cmp items s) keys_held 17;
+          (λ items s. IsFromIterResult cmp items s) keys_held (IsListOr 17) (is_list_or_is 17);
       lawful = member_lawful (is_below cmp) (λ s. s.keys) I.grammar one.lawful;
     }
 
@@ -205,9 +208,9 @@ module _ (I : Item) (one : IsOneItem I) where
       text = λ s t e. ap (λ z. list_text I.text_of z.0) e;
       value = λ s t e. ap (λ z. z.1) e;
       ber = taken_by_ber one.view I.grammar.allocates I.ber_gives one.ber seen
-          (λ items s. IsHashedOf (eq_by_cmp cmp) items s) hashed_held 17;
+          (λ items s. IsHashedOf (eq_by_cmp cmp) items s) hashed_held (IsListOr 17) (is_list_or_is 17);
       der = taken_by_der one.view I.grammar.allocates I.der_gives one.der seen
-          (λ items s. IsHashedOf (eq_by_cmp cmp) items s) hashed_held 17;
+          (λ items s. IsHashedOf (eq_by_cmp cmp) items s) hashed_held (IsListOr 17) (is_list_or_is 17);
       lawful = member_lawful (is_other (eq_by_cmp cmp)) (λ s. s.keys) I.grammar one.lawful;
     }
 

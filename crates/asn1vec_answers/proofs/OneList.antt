@@ -16,7 +16,8 @@ use Rattle.asn1_rs.specs.Any.{BeginsWithAny, parts_of}
 use Rattle.asn1_headers.specs.Ber.{max_depth, EndsWithin}
 use Rattle.asn1_headers.specs.Error.{FlattenedTo}
 use Rattle.asn1_headers.specs.Header.Reading.{refusal_of, der_breach, ber_breach}
-use Rattle.asn1_rs.specs.Lists.{IsListOr, ListGives, ListReads, ListTakes}
+use Rattle.asn1_rs.specs.Checks.{CheckGives, IsCheck}
+use Rattle.asn1_rs.specs.Lists.{ListGives, ListTakes}
 use Rattle.asn1_headers.specs.Walk.{TakesItem, EndsItem}
 use Rattle.asn1_rs.specs.Traits.{BerGives, DerGives, ElementGives, OfParts, PassesAll}
 use Rattle.asn1_rs.specs.Laws.Readers.{AreElements, ber_elements, der_elements}
@@ -78,18 +79,6 @@ allowed allocates e f (inr (takes, which)) = inr (refl, which)
 
 one_pass_none : (p : Parts) (e : Error) → PassesAll p (Err e) → ⊥
 one_pass_none p e h = cc
-
--- an element is a list or is refused, for one cause
-list_or_refused : (number : ℕ) (p : Parts) (e : Error) → IsListOr number p (Ok tt) → IsListOr number p (Err e) → ⊥
-list_or_refused number p e is (inl (other, why)) = other is.0
-list_or_refused number p e is (inr (same, primitive, why)) = cc
-
-one_list_refusal : (number : ℕ) (p : Parts) (e f : Error) → IsListOr number p (Err e) →
-    IsListOr number p (Err f) → e ≡ f
-one_list_refusal number p e f (inl (other, is)) (inl (another, too)) = is ∙ sym too
-one_list_refusal number p e f (inl (other, is)) (inr (same, primitive, too)) = absurd (other same)
-one_list_refusal number p e f (inr (same, primitive, is)) (inl (other, too)) = absurd (other same)
-one_list_refusal number p e f (inr (same, primitive, is)) (inr (equal, also, too)) = is ∙ sym too
 
 -- the same of conversions that look at more than the parts of an element
 abbrev pub IsOneTaking : {T D : Type 0} → (T → D) → Bool → (Any → Result T Error → Type 0) → Type 0
@@ -228,47 +217,27 @@ module _ {T D : Type 0} (view : T → D) (allocates : Bool) (reads : List ℕ �
 
     -- Conversions of elements to lists.
 
-    pub takes_once : (number : ℕ) → IsOneConversion sight true (ListTakes number holds reads Same)
-    takes_once number p (Ok v) (Ok w) h k = list_once p.content (Ok v) (Ok w) h.1 k.1
-    takes_once number p (Ok v) (Err f) h (inl (r, other, same)) = absurd (list_or_refused number p r h.0 other)
-    takes_once number p (Ok v) (Err f) h (inr k) = list_once p.content (Ok v) (Err f) h.1 k.1
-    takes_once number p (Err e) (Ok w) (inl (r, other, same)) k = absurd (list_or_refused number p r k.0 other)
-    takes_once number p (Err e) (Ok w) (inr h) k = list_once p.content (Err e) (Ok w) h.1 k.1
-    takes_once number p (Err e) (Err f) (inl (q, other, same)) (inl (r, another, equal)) =
-        inl (ap name_of_error (same ∙ one_list_refusal number p q r other another ∙ sym equal))
-    takes_once number p (Err e) (Err f) (inl (q, other, same)) (inr k) = absurd (list_or_refused number p q k.0 other)
-    takes_once number p (Err e) (Err f) (inr h) (inl (r, other, same)) = absurd (list_or_refused number p r h.0 other)
-    takes_once number p (Err e) (Err f) (inr h) (inr k) = list_once p.content (Err e) (Err f) h.1 k.1
+    module _ (check : CheckGives) (is : IsCheck check) where
+      pub takes_once : IsOneConversion sight true (ListTakes check holds reads Same)
+      takes_once p (Ok v) (Ok w) h k = list_once p.content (Ok v) (Ok w) h.1 k.1
+      takes_once p (Ok v) (Err f) h (inl (r, other, same)) = absurd (is.apart p r h.0 other)
+      takes_once p (Ok v) (Err f) h (inr k) = list_once p.content (Ok v) (Err f) h.1 k.1
+      takes_once p (Err e) (Ok w) (inl (r, other, same)) k = absurd (is.apart p r k.0 other)
+      takes_once p (Err e) (Ok w) (inr h) k = list_once p.content (Err e) (Ok w) h.1 k.1
+      takes_once p (Err e) (Err f) (inl (q, other, same)) (inl (r, another, equal)) =
+          inl (ap name_of_error (same ∙ is.one p q r other another ∙ sym equal))
+      takes_once p (Err e) (Err f) (inl (q, other, same)) (inr k) = absurd (is.apart p q k.0 other)
+      takes_once p (Err e) (Err f) (inr h) (inl (r, other, same)) = absurd (is.apart p r h.0 other)
+      takes_once p (Err e) (Err f) (inr h) (inr k) = list_once p.content (Err e) (Err f) h.1 k.1
 
-    reads_once : (number : ℕ) → IsOneConversion sight true (ListReads number holds reads Same)
-    reads_once number p (Ok v) (Ok w) h k = list_once p.content (Ok v) (Ok w) h.1 k.1
-    reads_once number p (Ok v) (Err f) h (inl (other, is)) = absurd (other h.0)
-    reads_once number p (Ok v) (Err f) h (inr k) = list_once p.content (Ok v) (Err f) h.1 k.1
-    reads_once number p (Err e) (Ok w) (inl (other, is)) k = absurd (other k.0)
-    reads_once number p (Err e) (Ok w) (inr h) k = list_once p.content (Err e) (Ok w) h.1 k.1
-    reads_once number p (Err e) (Err f) (inl (other, is)) (inl (another, too)) = inl (ap name_of_error (is ∙ sym too))
-    reads_once number p (Err e) (Err f) (inl (other, is)) (inr k) = absurd (other k.0)
-    reads_once number p (Err e) (Err f) (inr h) (inl (other, is)) = absurd (other h.0)
-    reads_once number p (Err e) (Err f) (inr h) (inr k) = list_once p.content (Err e) (Err f) h.1 k.1
+      -- Readers of lists.
 
-    -- Readers of lists.
+      pub taken_by_ber : IsOneReader sight true (BerGives (OfParts (ListTakes check holds reads Same)) Same)
+      taken_by_ber = one_element (IsElement max_depth) (ElementFault max_depth) EndsWithin ber_elements ber_breach
+          sight true (OfParts (ListTakes check holds reads Same))
+          (one_by_parts sight true (ListTakes check holds reads Same) takes_once)
 
-    -- by BER, and by DER where the constructed bit is looked at
-    pub taken_by_ber : (number : ℕ) →
-        IsOneReader sight true (BerGives (OfParts (ListTakes number holds reads Same)) Same)
-    taken_by_ber number = one_element (IsElement max_depth) (ElementFault max_depth) EndsWithin ber_elements ber_breach
-        sight true (OfParts (ListTakes number holds reads Same))
-        (one_by_parts sight true (ListTakes number holds reads Same) (takes_once number))
-
-    pub taken_by_der : (number : ℕ) →
-        IsOneReader sight true (DerGives PassesAll (OfParts (ListTakes number holds reads Same)) Same)
-    taken_by_der number = one_element IsDerElement DerElementFault IsCutIdentifier der_elements der_breach sight true
-        (OfParts (ListTakes number holds reads Same))
-        (one_by_parts sight true (ListTakes number holds reads Same) (takes_once number))
-
-    -- by DER where it is not
-    pub read_by_der : (number : ℕ) →
-        IsOneReader sight true (DerGives PassesAll (OfParts (ListReads number holds reads Same)) Same)
-    read_by_der number = one_element IsDerElement DerElementFault IsCutIdentifier der_elements der_breach sight true
-        (OfParts (ListReads number holds reads Same))
-        (one_by_parts sight true (ListReads number holds reads Same) (reads_once number))
+      pub taken_by_der : IsOneReader sight true (DerGives PassesAll (OfParts (ListTakes check holds reads Same)) Same)
+      taken_by_der = one_element IsDerElement DerElementFault IsCutIdentifier der_elements der_breach sight true
+          (OfParts (ListTakes check holds reads Same))
+          (one_by_parts sight true (ListTakes check holds reads Same) takes_once)

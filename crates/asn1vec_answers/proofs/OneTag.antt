@@ -13,8 +13,8 @@ use Rattle.asn1_rs.specs.declared.asn1_types.tagged.TaggedValue.{TaggedValue}
 use Rattle.asn1_headers.specs.declared.error.Err.TheVariants.{Error as refused}
 use Rattle.asn1_headers.specs.declared.error.Error.{Error}
 use Rattle.asn1_headers.specs.declared.tag.Tag.{Tag}
-use Rattle.asn1_rs.specs.Lists.{ListTakes, has_items}
-use Rattle.asn1_rs.specs.Laws.Lists.{list_number, list_takes_class}
+use Rattle.asn1_rs.specs.Lists.{IsListOr, ListTakes, has_items}
+use Rattle.asn1_rs.specs.Laws.Lists.{is_list_or_is, list_number, list_takes_class}
 use Rattle.asn1_rs.specs.Laws.Tagged.Implicit.{implicit_checks_are, implicit_lawful, parts_under}
 use Rattle.asn1_rs.specs.Tagged.Implicit.{ImplicitTakes, implicit_checks, under}
 use Rattle.asn1_rs.specs.Tagged.Parser.{IsUnder}
@@ -173,10 +173,11 @@ module _ (number : ℕ) (I : Item) (one : IsOneItem I) where
   taken : IsOneTaking view_of true (implicit_vector_takes number I)
   unfolding view_of
   taken = implicit_takes_once 2 number (λ (t : Tagged). t.inner) (record { 0 = 16 })
-      (λ (v : Vec I.T Global). map one.view v.items) true (OfParts (ListTakes 16 has_items I.ber_gives Same))
-      (one_by_parts (λ v. map one.view v.items) true (ListTakes 16 has_items I.ber_gives Same)
+      (λ (v : Vec I.T Global). map one.view v.items) true
+      (OfParts (ListTakes (IsListOr 16) has_items I.ber_gives Same))
+      (one_by_parts (λ v. map one.view v.items) true (ListTakes (IsListOr 16) has_items I.ber_gives Same)
       (list_takes_once one.view I.grammar.allocates I.ber_gives one.ber (λ v. map one.view v.items) has_items
-      (λ xs ys v w e h k. ap (map one.view) h ∙ e ∙ sym (ap (map one.view) k)) 16))
+      (λ xs ys v w e h k. ap (map one.view) h ∙ e ∙ sym (ap (map one.view) k)) (IsListOr 16) (is_list_or_is 16)))
 
   pub implicit_vector_once : IsOneItem (implicit_vector number I)
   unfolding view_of

@@ -59,7 +59,8 @@ use Rattle.asn1_rs.specs.Sequence.SequenceOf.{IsSequenceOf, sequence_items}
 use Rattle.std.specs.declared.borrow.CowSlice.{CowSlice}
 use Rattle.asn1_rs.specs.Any.{IsTheElement, IsDefiniteOr}
 use Rattle.asn1_rs.specs.Traits.{OfParts, BerGives, DerGives, PassesAll}
-use Rattle.asn1_rs.specs.Lists.{ListReads, ListTakes, has_items as IsMadeOf, list_grammar}
+use Rattle.asn1_rs.specs.Checks.{has_number}
+use Rattle.asn1_rs.specs.Lists.{IsListOr, ListTakes, has_items as IsMadeOf, list_grammar}
 use Rattle.asn1_rs.specs.Kinds.{item_grammar}
 use Rattle.asn1_rs.specs.Grammar.Item.{ItemGrammar, ber_words}
 use Rattle.asn1_rs.specs.Any.Value.{element_of, ElementBody, ElementCheck, ElementForm}
@@ -307,8 +308,8 @@ abbrev pub sequence : {W : Type 0} (I : Item) → (W → List I.T) → (List I.T
 sequence {W} I items holds = record {
   T = W;
   grammar = list_grammar 16 items I.grammar;
-  ber_gives = BerGives (OfParts (ListTakes 16 holds I.ber_gives Same)) Same;
-  der_gives = DerGives PassesAll (OfParts (ListReads 16 holds I.der_gives Same)) Same;
+  ber_gives = BerGives (OfParts (ListTakes (IsListOr 16) holds I.ber_gives Same)) Same;
+  der_gives = DerGives PassesAll (OfParts (ListTakes (has_number 16) holds I.der_gives Same)) Same;
   text_of = λ s. list_text I.text_of (items s);
 }
 
@@ -326,8 +327,8 @@ abbrev pub unordered_set : Item → Item
 unordered_set I = record {
   T = SetOf I.T;
   grammar = multiset_grammar items_of I.grammar;
-  ber_gives = BerGives (OfParts (ListTakes 17 HasItems I.ber_gives Same)) Same;
-  der_gives = DerGives PassesAll (OfParts (ListReads 17 HasItems I.der_gives Same)) Same;
+  ber_gives = BerGives (OfParts (ListTakes (IsListOr 17) HasItems I.ber_gives Same)) Same;
+  der_gives = DerGives PassesAll (OfParts (ListTakes (has_number 17) HasItems I.der_gives Same)) Same;
   text_of = λ s. list_text I.text_of (items_of s);
 }
 
@@ -336,9 +337,10 @@ abbrev pub ordered_set : (I : Item) → (I.T → I.T → Ordering) → Item
 ordered_set I cmp = record {
   T = BTreeSet I.T;
   grammar = member_grammar (is_below cmp) (λ s. s.keys) I.grammar;
-  ber_gives = BerGives (OfParts (ListTakes 17 (λ items s. IsFromIterResult cmp items s) I.ber_gives Same)) Same;
-  der_gives =
-      DerGives PassesAll (OfParts (ListTakes 17 (λ items s. IsFromIterResult cmp items s) I.der_gives Same)) Same;
+  ber_gives =
+      BerGives (OfParts (ListTakes (IsListOr 17) (λ items s. IsFromIterResult cmp items s) I.ber_gives Same)) Same;
+  der_gives = DerGives PassesAll
+      (OfParts (ListTakes (IsListOr 17) (λ items s. IsFromIterResult cmp items s) I.der_gives Same)) Same;
   text_of = λ s. list_text I.text_of s.keys;
 }
 
@@ -347,9 +349,10 @@ abbrev pub hashed_set : (I : Item) → (I.T → I.T → Ordering) → Item
 hashed_set I cmp = record {
   T = HashSet I.T (BuildHasherDefault FoldHasher);
   grammar = member_grammar (is_other (eq_by_cmp cmp)) (λ s. s.keys) I.grammar;
-  ber_gives = BerGives (OfParts (ListTakes 17 (λ items s. IsHashedOf (eq_by_cmp cmp) items s) I.ber_gives Same)) Same;
-  der_gives =
-      DerGives PassesAll (OfParts (ListTakes 17 (λ items s. IsHashedOf (eq_by_cmp cmp) items s) I.der_gives Same)) Same;
+  ber_gives = BerGives
+      (OfParts (ListTakes (IsListOr 17) (λ items s. IsHashedOf (eq_by_cmp cmp) items s) I.ber_gives Same)) Same;
+  der_gives = DerGives PassesAll
+      (OfParts (ListTakes (IsListOr 17) (λ items s. IsHashedOf (eq_by_cmp cmp) items s) I.der_gives Same)) Same;
   text_of = λ s. list_text I.text_of (in_order cmp s.keys);
 }
 
@@ -367,7 +370,8 @@ explicit number I = record {
 abbrev pub implicit_vector_takes : (number : ℕ) (I : Item) → AnyElement →
     Result (TaggedValue (Vec I.T Global) Error Implicit 2 number) Error → Type 0
 implicit_vector_takes number I =
-    ImplicitTakes 2 number (λ t. t.inner) (record { 0 = 16 }) (OfParts (ListTakes 16 IsMadeOf I.ber_gives Same)) Same
+    ImplicitTakes 2 number (λ t. t.inner) (record { 0 = 16 })
+    (OfParts (ListTakes (IsListOr 16) IsMadeOf I.ber_gives Same)) Same
 
 -- vectors of items under an implicit tag
 abbrev pub implicit_vector : ℕ → Item → Item

@@ -166,7 +166,7 @@ pub trait LawfulMember: LawfulItem + Eq {
 
 impl<'a, T, E: From<Error>> LawfulBer<'a, E> for T
 where
-    T: LawfulBody<'a, E>,
+    T: FromAny<'a, Error = E> + LawfulBody<'a, E>,
 {
     ghost ber_exact = { λ input answer octets.
         element_exact (IsElement max_depth) (ElementFault max_depth) EndsWithin ber_elements

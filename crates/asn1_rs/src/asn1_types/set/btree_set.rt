@@ -28,7 +28,7 @@ use asn1_headers::tag::Tag;
 use std::alloc::{AllocError, Global};
 use std::collections::BTreeSet;
 
-impl<T> Tagged for BTreeSet<T> {
+impl<T: Ord> Tagged for BTreeSet<T> {
     const TAG: Tag = Tag::Set;
 
     ghost TAG = { record { 0 = 17 } };
@@ -41,7 +41,7 @@ fn ordered_set<T: Ord + Drop>(alloc: Global, items: Vec<T>) -> Result<BTreeSet<T
     BTreeSet::from_iter(alloc, items)
 }
 
-impl<T> HasKind for BTreeSet<T> {
+impl<T: Ord> HasKind for BTreeSet<T> {
     type Kind = SetKind<Once>;
 }
 
@@ -106,7 +106,7 @@ impl<T: Ord + Drop> FromItems for BTreeSet<T> {
     }
 }
 
-impl<T> HasReader for BTreeSet<T> {
+impl<T: Ord> HasReader for BTreeSet<T> {
     type Reader = ListReader<ConstructedForm>;
 }
 

@@ -30,7 +30,7 @@ use std::alloc::{AllocError, Global};
 use std::collections::HashSet;
 use std::hash::Hash;
 
-impl<T> Tagged for HashSet<T> {
+impl<T: Eq + Hash> Tagged for HashSet<T> {
     const TAG: Tag = Tag::Set;
 
     ghost TAG = { record { 0 = 17 } };
@@ -43,7 +43,7 @@ fn hashed_set<T: Eq + Hash + Drop>(alloc: Global, items: Vec<T>) -> Result<HashS
     HashSet::from_iter(alloc, items)
 }
 
-impl<T> HasKind for HashSet<T> {
+impl<T: Eq + Hash> HasKind for HashSet<T> {
     type Kind = SetKind<Once>;
 }
 
@@ -112,7 +112,7 @@ impl<T: Eq + Hash + Drop> FromItems for HashSet<T> {
     }
 }
 
-impl<T> HasReader for HashSet<T> {
+impl<T: Eq + Hash> HasReader for HashSet<T> {
     type Reader = ListReader<ConstructedForm>;
 }
 

@@ -1,5 +1,5 @@
 use Rattle.std.proofs.Common.{refl, inr}
-use Rattle.asn1_rs.proofs.asn1_types.tagged.implicit_value.TaggedValueImplicitFromDer.from_der.Goals as goal
+use Rattle.asn1_rs.proofs.asn1_types.tagged.implicit_value.TaggedValueImplicitFromDerByTagMarkImplicit.read_by_der.Goals as goal
 
 pub returns-in-Err : goal.returns-in-Err
 returns-in-Err g c = inr (
