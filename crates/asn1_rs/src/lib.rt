@@ -123,6 +123,7 @@ pub use asn1_types::tagged::OptTaggedImplicit;
 pub use asn1_types::tagged::PrivateExplicit;
 pub use asn1_types::tagged::PrivateImplicit;
 pub use asn1_types::tagged::TagKind;
+pub use asn1_types::tagged::TagMark;
 pub use asn1_types::tagged::TaggedExplicit;
 pub use asn1_types::tagged::TaggedImplicit;
 pub use asn1_types::tagged::TaggedValue;

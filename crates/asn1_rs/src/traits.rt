@@ -32,7 +32,7 @@ pub trait Tagged {
     // Each impl gives both, and the check proves them equal. Of
     // `impl Tagged for A<'_> { const TAG: u32 = 4; ghost TAG = { 4 }; }` the checker says "cannot give this method the
     // clauses of its trait yet", and a constant has no clauses to write. So a type with a lifetime names another type
-    // that has the number (`TaggedAs`).
+    // that has the number (`LeafType`, `TaggedAs`).
     ghost TAG: { Tag };
 }
 

@@ -14,7 +14,7 @@ use std::alloc::Global;
 
 /// A type that is read as one element, checked and converted, and says once what it is.
 ///
-/// So it has [`Tagged`], [`CheckDerConstraints`], [`DerAutoDerive`] and [`LawfulElement`].
+/// So it has [`Tagged`], [`CheckDerConstraints`], [`DerAutoDerive`], [`LawfulElement`] and the law of the check.
 pub trait LeafType: HasKind<Kind = ElementKind> + Sized {
     /// A type that has its tag number.
     type Number: Tagged;

@@ -1,9 +1,11 @@
 //! How types of items come by their grammars and laws: by the element that they are read as, or by the item that they
 //! hold or refer to.
 //!
-//! A type that is read as one element, checked and converted, names its kind, [`ElementKind`], and says once what its
-//! values are ([`LawfulElement`], [`LawfulConversion`]). The traits of [`laws`](crate::laws) follow from these. Lists
-//! and sets name kinds of their own ([`collections`]). A type of another make has those traits itself and no kind.
+//! A type that is read as one element, checked and converted, names its kind, [`ElementKind`], and says once how it is
+//! read and that this is exact ([`leaf`]). The traits of readers ([`reading`]), of writing ([`writing`]) and of
+//! [`laws`](crate::laws) follow from these. Lists and sets name kinds of their own ([`collections`]), values under a
+//! tag too ([`TagMark`](crate::asn1_types::tagged::TagMark)). A type of another make has those traits itself and no
+//! kind.
 
 pub(crate) mod collections;
 pub(crate) mod fields;
@@ -28,7 +30,8 @@ use asn1_headers::tag::Tag;
 // own type the trait of the first. The smallest pair is `impl<T: Leaf> Grammar for T` beside
 // `impl<T: Grammar> Grammar for &T`.
 pub trait HasKind {
-    /// The kind: [`ElementKind`] or [`HolderKind`].
+    /// The kind: [`ElementKind`] or [`HolderKind`]; of lists and sets one of [`collections`], of sequences of fields
+    /// that of [`fields`], of values under a tag [`TagMark`](crate::asn1_types::tagged::TagMark).
     type Kind;
 }
 
@@ -47,7 +50,7 @@ impl<T> HasKind for &T {
 /// So it has [`ToDer`](crate::ToDer), [`Grammar`], [`LawfulItem`], and the laws of writing and of tags, where the item
 /// has them.
 // Its conversion, its own reader by DER and its check it hands on itself, with the item's laws under one lemma each:
-// beside the impls over lists and over types that are read as one element no further one can stand.
+// only the type makes a value of an item.
 pub trait Holds: HasKind<Kind = HolderKind> {
     /// The type of the item.
     type Held;
@@ -117,7 +120,7 @@ impl<T: HasKind + TaggedBy<T::Kind>> Tagged for T {
 
 /// A type that is read as one element, checked and converted: its values, and that what it says of them is lawful.
 ///
-/// So it has [`Grammar`], [`LawfulItem`], [`LawfulCheck`] and [`LawfulAuto`].
+/// So it has [`Grammar`] and [`LawfulItem`]. A type with a tag number has this by [`leaf`].
 pub trait LawfulElement: HasKind<Kind = ElementKind> + Sized {
     /// Its values, and what the element of a value is.
     ghost element: { ElementGrammar Self };

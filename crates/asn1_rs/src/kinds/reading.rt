@@ -1,8 +1,9 @@
 //! How types come by the traits of readers, and by the laws of these: the conversion and the check of an element by
 //! the type's kind, reading by DER by the reader that the type names.
 //!
-//! Each trait has one impl for all types with a kind, and beside it impls for types without one. So the search for an
-//! impl at nested types goes down one way at each level.
+//! Each trait has one impl for all types with a kind, and beside it impls for types without one. So at a list or at a
+//! value under a tag one impl alone can be meant, and the checker goes down nested types one way. Where two can be
+//! meant, it looks into each first, and the depth of this search is bounded.
 ghost use Rattle.std.specs.Prelude.{◌≡◌, ℕ, List, Result, Err, IfErr, false};
 ghost use Rattle.x690.specs.Octets.{IsOctets};
 ghost use Rattle.x690.specs.Identifiers.{IsCutIdentifier};
@@ -80,7 +81,8 @@ impl<T: HasKind + CheckBy<T::Kind>> CheckDerConstraints for T {
 ///
 /// A type with [`DerAutoDerive`] has it. A list names [`ListReader`].
 pub trait HasReader {
-    /// The reader: [`ElementReader`] or [`ListReader`].
+    /// The reader: [`ElementReader`], [`ListReader`], or of values under a tag
+    /// [`TagMark`](crate::asn1_types::tagged::TagMark).
     type Reader;
 }
 

@@ -111,7 +111,8 @@ impl<K: CodedKind> LeafType for CodedString<'_, K> {
 
     ghost reading = { copying_reading (coded_string_leaf (K.Number.TAG).0 K.Code.octets_of) };
 
-    ghost exact = { copying_exact (coded_string_leaf (K.Number.TAG).0 K.Code.octets_of) (coded_string_lawful (K.Number.TAG).0 K.Code.octets_of K.small K.primitive K.Code.is) };
+    ghost exact = { copying_exact (coded_string_leaf (K.Number.TAG).0 K.Code.octets_of)
+        (coded_string_lawful (K.Number.TAG).0 K.Code.octets_of K.small K.primitive K.Code.is) };
 
     fn leaf_in_hand(&self) {
         text_in_hand(self.as_str());

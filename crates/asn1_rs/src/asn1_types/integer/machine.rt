@@ -1,7 +1,7 @@
 //! The machine integers, which hold the integers of one to sixteen octets (X.690 8.3).
 ghost use Rattle.std.specs.Prelude.{◌≡◌, ◌≤◌, ◌<◌, take, drop};
-ghost use Rattle.asn1_rs.specs.Integer.Machine.{machine_reading, Machine, IsLawfulMachine, MachineGives, unsigned_machine};
-ghost use Rattle.asn1_rs.specs.Integer.Machine.{signed_machine};
+ghost use Rattle.asn1_rs.specs.Integer.Machine.{Machine, IsLawfulMachine, MachineGives, unsigned_machine};
+ghost use Rattle.asn1_rs.specs.Integer.Machine.{signed_machine, machine_reading};
 ghost use Rattle.asn1_rs.specs.Laws.Integer.Machine.{unsigned_lawful, signed_lawful, machine_exact};
 
 use crate::asn1_types::any::Any;
