@@ -4,7 +4,7 @@ mod btree_set;
 mod hash_set;
 pub mod set_of;
 
-ghost use Rattle.std.specs.Prelude.{◌<◌, ◌≡◌, ◌+◌, ◌++◌, ℕ, List, true, length, map, IfOk, IfErr, IsTrue, IsErr};
+ghost use Rattle.std.specs.Prelude.{◌<◌, ◌≡◌, ◌↔◌, ◌+◌, ◌++◌, ℕ, List, true, length, map, IfOk, IfErr, IsTrue, IsErr};
 ghost use Rattle.std.specs.List.{All, concat};
 ghost use Rattle.x690.specs.Ascending.{Ascending, arranged};
 ghost use Rattle.asn1_headers.specs.Prepended.{Prepended};
@@ -59,7 +59,7 @@ fn join_ascending(octets: &[u8], lengths: &[usize], alloc: Global) -> Result<Vec
 /// Whether no encoding is before the one in front of it, in dictionary order.
 fn are_ascending(octets: &[u8], lengths: &[usize]) -> bool
     ensures { (strings : List (List ℕ)) → JoinedWithLengths strings octets.now lengths.now →
-        IsTrue result → Ascending strings }
+        IsTrue result ↔ Ascending strings }
 {
     let mut last: &[u8] = &[];
     let mut rest = octets;

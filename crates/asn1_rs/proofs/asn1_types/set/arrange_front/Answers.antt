@@ -16,7 +16,7 @@ returns-then-are_ascending-clause-prepended c = λ strings old b l h.
     let front : take c.saturating_sub-count.result c.as_bytes.result.now ≡ concat strings =
     ap (λ z. take c.saturating_sub-count.result z) (c.as_bytes.ensures ∙ b)
     ∙ take_at (concat strings) old c.saturating_sub-count.result (sym count) in
-    let up = c.are_ascending.ensures strings (front, l) c.if-are_ascending.true in
+    let up = (c.are_ascending.ensures strings (front, l)).0 c.if-are_ascending.true in
     let same : concat strings ≡ concat (arranged strings) =
     ap concat (only_arranged strings strings (IsPermutation-refl strings) up) in
     Prepended_all (count ∙ ap length same) (b ∙ ap (λ z. z ++ old) same)

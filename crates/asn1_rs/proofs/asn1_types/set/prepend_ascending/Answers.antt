@@ -8,7 +8,7 @@ use Rattle.asn1_rs.proofs.asn1_types.set.prepend_ascending.Goals as goal
 
 pub returns-then-are_ascending-clause-prepended : goal.returns-then-are_ascending-clause-prepended
 returns-then-are_ascending-clause-prepended c = λ strings e.
-    let up = c.are_ascending.ensures strings (c.deref.ensures.value ∙ e.0, c.deref-2.ensures.value ∙ e.1)
+    let up = (c.are_ascending.ensures strings (c.deref.ensures.value ∙ e.0, c.deref-2.ensures.value ∙ e.1)).0
     c.if-are_ascending.true in
     let same : c.deref-then-are_ascending.result.now ≡ concat (arranged strings) =
     c.deref-then-are_ascending.ensures.value ∙ e.0 ∙ ap concat (only_arranged strings strings (IsPermutation-refl
@@ -17,7 +17,7 @@ returns-then-are_ascending-clause-prepended c = λ strings e.
 
 pub returns-then-are_ascending-clause-refused : goal.returns-then-are_ascending-clause-refused
 returns-then-are_ascending-clause-refused c = λ strings e.
-    let up = c.are_ascending.ensures strings (c.deref.ensures.value ∙ e.0, c.deref-2.ensures.value ∙ e.1)
+    let up = (c.are_ascending.ensures strings (c.deref.ensures.value ∙ e.0, c.deref-2.ensures.value ∙ e.1)).0
     c.if-are_ascending.true in
     let same : c.deref-then-are_ascending.result.now ≡ concat (arranged strings) =
     c.deref-then-are_ascending.ensures.value ∙ e.0 ∙ ap concat (only_arranged strings strings (IsPermutation-refl

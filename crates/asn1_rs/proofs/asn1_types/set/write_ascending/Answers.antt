@@ -7,7 +7,7 @@ use Rattle.asn1_rs.proofs.asn1_types.set.write_ascending.Goals as goal
 
 pub returns-then-are_ascending-clause-wrote : goal.returns-then-are_ascending-clause-wrote
 returns-then-are_ascending-clause-wrote g c = λ strings e.
-    let up = c.are_ascending.ensures strings (c.deref.ensures.value ∙ e.0, c.deref-2.ensures.value ∙ e.1)
+    let up = (c.are_ascending.ensures strings (c.deref.ensures.value ∙ e.0, c.deref-2.ensures.value ∙ e.1)).0
     c.if-are_ascending.true in
     let same : c.deref-then-are_ascending.result.now ≡ concat (arranged strings) =
     c.deref-then-are_ascending.ensures.value ∙ e.0 ∙ ap concat (only_arranged strings strings (IsPermutation-refl
