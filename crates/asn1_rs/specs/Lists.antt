@@ -98,7 +98,7 @@ ListGives {T} holds reads from content (Ok w) =
     (items : List T) × holds items w × ItemsGive reads from content (Ok items)
 ListGives holds reads from content (Err e) = ItemsGive reads from content (Err e)
 
--- What making a list of an element may answer: the list of its items; or the refusal of the check, or that of the items.
+-- What making a list of an element may answer: the list of its items; or the refusal of the check, or of the items.
 -- The check is `IsListOr`, or `has_number` where the constructed bit is not looked at.
 abbrev pub ListTakes : {T W E : Type 0} → CheckGives → (List T → W → Type 0) →
     (List ℕ → Result (List ℕ × T) (Refusal E) → Type 0) → (Error → E → Type 0) → Parts → Result W E → Type 0
