@@ -5,10 +5,11 @@ use asn1_rs::{
     Any, Error, FromItems, LawfulBer, LawfulCheck, LawfulDer, LawfulMember, LawfulWrite, SetOf,
     TaggedImplicit, TakesClass, ToDer, Told, read_ber, read_der, strict_vec, write_strict,
 };
-use asn1_rs_uses::{InClass, Version, read_version};
+use asn1_rs_uses::{InClass, Version, read_version, row_of_numbers};
 use std::alloc::Global;
 use std::collections::BTreeSet;
 use std::test::Fail;
+use test_rows::assert_shown;
 
 /// Asserts that the strict encoding of a value is this one, in a vector and in a writer.
 fn assert_written<T: LawfulWrite>(alloc: Global, value: &T, expected: &[u8]) -> Result<(), Fail> {
@@ -123,4 +124,14 @@ fn lists_are_made_of_items(rt: HostRuntime) -> Result<(), Fail> {
     assert_eq!(rt; made::<SetOf<InClass>>(alloc)?, 9);
     assert_eq!(rt; made::<BTreeSet<InClass>>(alloc)?, 9);
     Ok(())
+}
+
+/// A list of 5 and 6, and ff behind it.
+const ROW: [u8; 9] = [0x30, 0x06, 0x02, 0x01, 0x05, 0x02, 0x01, 0x06, 0xff];
+
+#[test]
+fn rows_are_read_as_lists_are(rt: HostRuntime) -> Result<(), Fail> {
+    let alloc = rt.alloc();
+    let (rest, row) = row_of_numbers(alloc, &ROW)?;
+    assert_shown(alloc, &(rest, row), "([255], Row { cells: [5, 6] })")
 }
