@@ -146,6 +146,7 @@ impl LeafType for bool {
 }
 
 impl<'a> ConvertsLeaf<'a> for bool {
+    #[inline(always)]
     fn convert_leaf(_alloc: Global, any: Any<'a>) -> Result<bool, Error> {
         any.as_bool()
     }

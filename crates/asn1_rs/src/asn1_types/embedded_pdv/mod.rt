@@ -89,7 +89,8 @@ impl CheckDerConstraints for EmbeddedPdv<'_> {
 
 impl DerAutoDerive for EmbeddedPdv<'_> {}
 
-// A kind, since it is read by DER too. It has no writer and no strict parts, and the laws of reading ask for none.
+// A kind, since it is read by DER too, and no `LeafType`, which has a tag number. It has no writer and no strict parts,
+// and the laws of reading ask for none.
 impl HasKind for EmbeddedPdv<'_> {
     type Kind = ElementKind;
 }

@@ -54,6 +54,7 @@ impl MachineInt for u8 {
         unsigned_into(u128::from(self), out)
     }
 
+    #[inline(always)]
     fn from_octets(octets: &[u8]) -> Result<u8, Error> {
         Ok(unsigned_from_content(octets, 1)? as u8)
     }
@@ -68,6 +69,7 @@ impl MachineInt for u16 {
         unsigned_into(u128::from(self), out)
     }
 
+    #[inline(always)]
     fn from_octets(octets: &[u8]) -> Result<u16, Error> {
         Ok(unsigned_from_content(octets, 2)? as u16)
     }
@@ -82,6 +84,7 @@ impl MachineInt for u32 {
         unsigned_into(u128::from(self), out)
     }
 
+    #[inline(always)]
     fn from_octets(octets: &[u8]) -> Result<u32, Error> {
         Ok(unsigned_from_content(octets, 4)? as u32)
     }
@@ -96,6 +99,7 @@ impl MachineInt for u64 {
         unsigned_into(u128::from(self), out)
     }
 
+    #[inline(always)]
     fn from_octets(octets: &[u8]) -> Result<u64, Error> {
         Ok(unsigned_from_content(octets, 8)? as u64)
     }
@@ -110,6 +114,7 @@ impl MachineInt for u128 {
         unsigned_into(u128::from(self), out)
     }
 
+    #[inline(always)]
     fn from_octets(octets: &[u8]) -> Result<u128, Error> {
         unsigned_from_content(octets, 16)
     }
@@ -124,6 +129,7 @@ impl MachineInt for i8 {
         signed_into(i128::from(self), out)
     }
 
+    #[inline(always)]
     fn from_octets(octets: &[u8]) -> Result<i8, Error> {
         Ok(signed_from_content(octets, 1)? as i8)
     }
@@ -138,6 +144,7 @@ impl MachineInt for i16 {
         signed_into(i128::from(self), out)
     }
 
+    #[inline(always)]
     fn from_octets(octets: &[u8]) -> Result<i16, Error> {
         Ok(signed_from_content(octets, 2)? as i16)
     }
@@ -152,6 +159,7 @@ impl MachineInt for i32 {
         signed_into(i128::from(self), out)
     }
 
+    #[inline(always)]
     fn from_octets(octets: &[u8]) -> Result<i32, Error> {
         Ok(signed_from_content(octets, 4)? as i32)
     }
@@ -166,6 +174,7 @@ impl MachineInt for i64 {
         signed_into(i128::from(self), out)
     }
 
+    #[inline(always)]
     fn from_octets(octets: &[u8]) -> Result<i64, Error> {
         Ok(signed_from_content(octets, 8)? as i64)
     }
@@ -180,6 +189,7 @@ impl MachineInt for i128 {
         signed_into(i128::from(self), out)
     }
 
+    #[inline(always)]
     fn from_octets(octets: &[u8]) -> Result<i128, Error> {
         signed_from_content(octets, 16)
     }
