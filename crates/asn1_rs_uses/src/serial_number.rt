@@ -3,8 +3,10 @@ ghost use Rattle.std.specs.Prelude.{false, pos};
 ghost use Rattle.x690.specs.Integers.{unsigned_octets};
 ghost use Rattle.x690.specs.Laws.Integers.Unsigned.{unsigned_octets_content};
 ghost use Rattle.asn1_rs.specs.Integer.{IsUnsigned};
+ghost use Rattle.asn1_rs.specs.Integer.Machine.{unsigned_machine};
 ghost use Rattle.asn1_rs.specs.LeafReading.{holding_reading};
 ghost use Rattle.asn1_rs.specs.Laws.Integer.{integer_written};
+ghost use Rattle.asn1_rs.specs.Laws.Integer.Machine.{machine_exact, unsigned_lawful};
 ghost use Rattle.asn1_rs.specs.Laws.Kinds.{holding_written};
 ghost use Rattle.asn1_rs.specs.Laws.Leaf.{holding_exact};
 
@@ -27,7 +29,8 @@ impl LeafType for SerialNumber {
 
     ghost reading = { holding_reading (λ x. x.0) ⟦<u64 as LeafType>⟧.reading };
 
-    ghost exact = { holding_exact (λ x. x.0) _ ⟦<u64 as LeafType>⟧.exact };
+    ghost exact = { holding_exact (λ x. x.0) _
+        (machine_exact (unsigned_machine 8) (unsigned_lawful 8)) };
 
     fn leaf_in_hand(&self) {
         self.0.leaf_in_hand();
