@@ -1,7 +1,7 @@
 //! The contents octets of object identifiers and of relative ones: their pieces, their arcs, and the laws of these.
 
-ghost use Rattle.std.specs.Prelude.{ℕ, ◌≡◌, ◌≢◌, ◌+◌, ◌*◌, ◌^◌, ◌<◌, ◌≤◌, ◌↔◌, Bool, true, false, List, [], ◌∷◌, ◌++◌};
-ghost use Rattle.std.specs.Prelude.{length, take, drop, IsTrue};
+ghost use Rattle.std.specs.Prelude.{ℕ, ◌≡◌, ◌≢◌, ◌+◌, ◌*◌, ◌/◌, ◌%◌, ◌^◌, ◌<◌, ◌≤◌, ◌↔◌, Bool, true, false};
+ghost use Rattle.std.specs.Prelude.{List, [], ◌∷◌, ◌++◌, length, take, drop, IsTrue};
 ghost use Rattle.std.specs.List.{All, concat};
 ghost use Rattle.x690.specs.Octets.{BeginsWith};
 ghost use Rattle.x690.specs.Digits.{base_128_value};
@@ -109,25 +109,28 @@ pub fn count_subidentifiers(octets: &[u8]) -> usize
     }
 }
 
-/// The first subidentifier where it may have more than one octet, and how many octets it has (X.690 8.19.2).
+/// The first subidentifier and the number of its digits but the last, each modulo 2^64, and how many octets it has
+/// (X.690 8.19.2).
 #[inline(always)]
-fn long_subidentifier(octets: &[u8]) -> (u64, usize)
-    requires some { 0 < length octets.now }
-    requires small { first_subidentifier octets.now < 2 ^ 64 }
-    ensures value { result.0 ≡ first_subidentifier octets.now }
-    ensures some { 0 < result.1 }
-    ensures within { result.1 ≤ length octets.now }
+fn long_subidentifier(octets: &[u8]) -> (u64, u64, usize)
+    requires { 0 < length octets.now }
+    ensures low { result.0 ≡ first_subidentifier octets.now % 2 ^ 64 }
+    ensures front { result.1 ≡ first_subidentifier octets.now / 128 % 2 ^ 64 }
+    ensures some { 0 < result.2 }
+    ensures within { result.2 ≤ length octets.now }
     ensures piece { pieces_of octets.now ≡
-        take result.1 octets.now ∷ pieces_of (drop result.1 octets.now) }
+        take result.2 octets.now ∷ pieces_of (drop result.2 octets.now) }
 {
-    let mut number: u64 = 0;
+    let mut low: u64 = 0;
+    let mut front: u64 = 0;
     for (i, digit) in octets.iter().enumerate() {
-        number = number * 128 + u64::from(*digit % 128);
+        front = low;
+        low = low.wrapping_mul(128).wrapping_add(u64::from(*digit % 128));
         if *digit < 128 {
-            return (number, i + 1);
+            return (low, front, i + 1);
         }
     }
-    (number, octets.len())
+    (low, front, octets.len())
 }
 
 /// The first subidentifier, where it is below 2^64, and how many octets it has, leading octets 80 among them. One
@@ -148,28 +151,9 @@ pub fn subidentifier(octets: &[u8]) -> (u64, usize)
     if first < 128 {
         (u64::from(first), 1)
     } else {
-        long_subidentifier(octets)
+        let (number, _, len) = long_subidentifier(octets);
+        (number, len)
     }
-}
-
-/// The first subidentifier, which may be 2^64 or more, and how many octets it has (X.690 8.19.2).
-fn wide_subidentifier(octets: &[u8]) -> (u128, usize)
-    requires some { 0 < length octets.now }
-    requires small { first_subidentifier octets.now < 2 ^ 64 + 80 }
-    ensures value { result.0 ≡ first_subidentifier octets.now }
-    ensures some { 0 < result.1 }
-    ensures within { result.1 ≤ length octets.now }
-    ensures piece { pieces_of octets.now ≡
-        take result.1 octets.now ∷ pieces_of (drop result.1 octets.now) }
-{
-    let mut number: u128 = 0;
-    for (i, digit) in octets.iter().enumerate() {
-        number = number * 128 + u128::from(*digit % 128);
-        if *digit < 128 {
-            return (number, i + 1);
-        }
-    }
-    (number, octets.len())
 }
 
 /// X of a first subidentifier 40 * X + Y (X.690 8.19.4).
@@ -199,10 +183,13 @@ fn split_long_subidentifier(octets: &[u8]) -> (u64, u64, usize)
     ensures piece { pieces_of octets.now ≡
         take result.2 octets.now ∷ pieces_of (drop result.2 octets.now) }
 {
-    let (number, len) = wide_subidentifier(octets);
-    let low = if number < 80 { number as u8 } else { 80 };
-    let first = first_arc_of(low);
-    let second = (number - u128::from(40 * first)) as u64;
+    let (low, front, len) = long_subidentifier(octets);
+    let first = if front == 0 {
+        first_arc_of(low as u8)
+    } else {
+        2
+    };
+    let second = low.wrapping_sub(u64::from(40 * first));
     (u64::from(first), second, len)
 }
 
