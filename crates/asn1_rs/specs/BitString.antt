@@ -17,6 +17,7 @@ bit_string_number = 3
 pub record Bits : Type 0 where
   pub unused : ℕ
   pub octets : List ℕ
+  deriving IsSet as Bits-set
 
 -- Bit i of the octets, counted from the highest bit of the first octet, which is bit 0 (8.6.2.1).
 -- It is 0 past their end.

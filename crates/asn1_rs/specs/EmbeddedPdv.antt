@@ -33,12 +33,14 @@ pub data Identification : Type 0 where
   negotiation : List ℕ → OidValue → Identification
   transfer : OidValue → Identification
   fixed : Identification
+  deriving IsSet as Identification-set
 
 -- the identification, the text that describes the data value, where there is one, and the octets of the data value
 pub record PdvValue : Type 0 where
   pub identification : Identification
   pub descriptor : Option (List ℕ)
   pub octets : List ℕ
+  deriving IsSet as PdvValue-set
 
 -- what the identification in hand says
 abbrev pub identification_of : PdvIdentification → Identification

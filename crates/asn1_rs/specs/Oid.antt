@@ -36,6 +36,7 @@ written_number false = oid_number
 pub record OidValue : Type 0 where
   pub relative : Bool
   pub octets : List ℕ
+  deriving IsSet as OidValue-set
 
 -- the contents octets, as they are held
 abbrev pub oid_cow : Oid → CowSlice ℕ Global

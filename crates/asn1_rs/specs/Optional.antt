@@ -56,7 +56,7 @@ abbrev pub ReadsHeldBack : {T V E : Type 0} → (List ℕ → Result (List ℕ �
 ReadsHeldBack {T} {V} {E} reads Form value memory =
     (octets : List ℕ) (answer : Result (List ℕ × Option T) (Refusal E)) (v : V) (word rest : List ℕ) → IsOctets octets →
     reads octets answer →
-    IsStrict Form v word → octets ≡ word ++ rest → ReadsBack (option_map value) memory (Some v) rest answer
+    ∥ IsStrict Form v word ∥₁ → octets ≡ word ++ rest → ReadsBack (option_map value) memory (Some v) rest answer
 
 -- Before a strict encoding a reader of optional values answers None, with all octets as the rest.
 abbrev pub ReadsNoneBefore : {T V E : Type 0} → (List ℕ → Result (List ℕ × Option T) (Refusal E) → Type 0) →

@@ -209,6 +209,8 @@ pub use laws::functions::strict_parts_are_read;
 pub use laws::functions::strict_parts_have_the_number;
 pub use laws::functions::strict_parts_take_the_class;
 pub use laws::functions::words_and_values_are_unique;
+pub use laws::functions::written_values_are_read_back_by_ber;
+pub use laws::functions::written_values_are_read_back_by_der;
 pub use laws::in_hand::AlwaysDer;
 pub use laws::in_hand::members_in_hand;
 pub use laws::in_hand::octets_in_hand;

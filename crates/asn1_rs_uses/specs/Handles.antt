@@ -106,6 +106,7 @@ handle_lawful number =
     let h = implicit_lawful 2 0 1 number places (explicit_lawful 2 1 (λ x. x) (item_grammar numbers) numbers_lawful)
     (lit< tt) place_numbered place_taken in
     record {
+      one_equality = h.one_equality;
       body_values = h.body_values;
       form_values = h.form_values;
       body_one = h.body_one;

@@ -3,9 +3,9 @@
 use crate::refusals::three_classes;
 use asn1_rs::{
     Any, Error, FromItems, LawfulBer, LawfulCheck, LawfulDer, LawfulMember, LawfulWrite, SetOf,
-    TaggedImplicit, TakesClass, ToDer, Told, read_ber, read_der, strict_vec, write_strict,
+    TaggedExplicit, TaggedImplicit, TakesClass, ToDer, Told, read_ber, read_der, strict_vec, write_strict,
 };
-use asn1_rs_uses::{InClass, Version, read_version, row_of_numbers};
+use asn1_rs_uses::{InClass, Version, read_version, row_of_numbers, written_and_read};
 use std::alloc::Global;
 use std::collections::BTreeSet;
 use std::test::Fail;
@@ -134,4 +134,26 @@ fn rows_are_read_as_lists_are(rt: HostRuntime) -> Result<(), Fail> {
     let alloc = rt.alloc();
     let (rest, row) = row_of_numbers(alloc, &ROW)?;
     assert_shown(alloc, &(rest, row), "([255], Row { cells: [5, 6] })")
+}
+
+/// A set of numbers under the explicit tag 0.
+type TaggedNumbers = SetOf<TaggedExplicit<u8, Error, 0>>;
+
+/// A list of a set of 2 and 1, each under the tag, in ascending order.
+const TAGGED: [u8; 14] = [
+    0x30, 0x0c, 0x31, 0x0a, 0xa0, 0x03, 0x02, 0x01, 0x01, 0xa0, 0x03, 0x02, 0x01, 0x02,
+];
+
+/// A list of sets of tagged values comes back, in whatever order a set was made.
+#[test]
+fn lists_of_sets_of_tagged_values_come_back(rt: HostRuntime) -> Result<(), Fail> {
+    let alloc = rt.alloc();
+    let mut numbers = Vec::new(alloc);
+    numbers.push(TaggedExplicit::<u8, Error, 0>::explicit(2))?;
+    numbers.push(TaggedExplicit::<u8, Error, 0>::explicit(1))?;
+    let mut list = Vec::new(alloc);
+    list.push(SetOf::new(numbers))?;
+    let mut octets = Vec::new(alloc);
+    let back = written_and_read::<Vec<TaggedNumbers>>(alloc, &list, &mut octets)?;
+    assert_written::<Vec<TaggedNumbers>>(alloc, &back, &TAGGED)
 }

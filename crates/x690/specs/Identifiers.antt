@@ -7,6 +7,7 @@ pub record Identifier : Type 0 where
   pub class : ℕ
   pub constructed : Bool
   pub number : ℕ
+  deriving IsSet as Identifier-set
 
 -- a truth value as a bit
 abbrev pub bit : Bool → ℕ

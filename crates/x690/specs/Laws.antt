@@ -21,4 +21,5 @@ pub mod Collections
 pub mod Sets
 pub mod TimeTexts
 pub mod Words
+pub mod Equality
 pub mod Times

@@ -12,6 +12,7 @@ use Rattle.asn1_rs.specs.Kinds.{ElementGrammar}
 pub record ElementValue : Type 0 where
   pub id : Identifier
   pub content : List ℕ
+  deriving IsSet as ElementValue-set
 
 -- the value of an element in hand: its identifier and its contents octets
 abbrev pub element_of : Any → ElementValue

@@ -14,9 +14,11 @@ use Rattle.x690.specs.Octets.{IsOctets}
 use Rattle.asn1_rs.specs.declared.asn1_types.bit_string.BitString.{BitString}
 use Rattle.asn1_rs.specs.Checks.{IsCheck, is_primitive, has_content}
 use Rattle.asn1_rs.specs.Leaf.{IsLawfulLeaf}
-use Rattle.asn1_rs.specs.BitString.{Bits, bit_of, bits_of, bits_in, data_of, HasZeroUnused, AreStrictBits}
+use Rattle.asn1_rs.specs.BitString.{Bits, Bits-set, bit_of, bits_of, bits_in, data_of, HasZeroUnused, AreStrictBits}
 use Rattle.asn1_rs.specs.BitString.{bit_string_constraints, bit_string_leaf}
 use Rattle.asn1_rs.specs.Laws.Checks.{before_is, has_content_is, is_primitive_is, content_check_is}
+use Rattle.x690.specs.Laws.Equality.{octets_set}
+use native.Mathlib.Nat.{ℕ_set}
 
 -- The unused bits.
 
@@ -93,6 +95,7 @@ constraints_are = before_is is_primitive _ is_primitive_is
 -- Bit strings are lawful.
 pub bit_string_lawful : IsLawfulLeaf bit_string_leaf
 bit_string_lawful = record {
+  one_equality = Bits-set ℕ_set octets_set;
   small = lit< tt;
   checks = has_content_is;
   constraints = constraints_are;

@@ -16,6 +16,8 @@ use Rattle.asn1_rs.specs.Laws.Leaf.{leaf_written}
 use Rattle.asn1_rs.specs.Grammar.Item.{IsLawfulWriting}
 use Rattle.asn1_rs.specs.Kinds.{item_grammar}
 use Rattle.asn1_rs.specs.Laws.Forms.{universal_lawful_writing}
+use native.Mathlib.Nat.{ℕ_set}
+use Rattle.std.proofs.Math.Bool.{Bool-set}
 
 -- The constraints.
 
@@ -42,6 +44,7 @@ strict_truth octet (inr a) = rw a refl
 -- `Boolean` is lawful.
 pub boolean_lawful : IsLawfulLeaf boolean_leaf
 boolean_lawful = record {
+  one_equality = ℕ_set;
   small = lit< tt;
   checks = has_length_is 1;
   constraints = truth_constraints_are;
@@ -62,6 +65,7 @@ boolean_lawful = record {
 -- `bool` is lawful.
 pub bool_lawful : IsLawfulLeaf bool_leaf
 bool_lawful = record {
+  one_equality = Bool-set;
   small = lit< tt;
   checks = has_length_is 1;
   constraints = truth_constraints_are;

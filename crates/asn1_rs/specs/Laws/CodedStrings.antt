@@ -11,11 +11,13 @@ use Rattle.asn1_rs.specs.declared.asn1_types.coded_strings.CodedString.{CodedStr
 use Rattle.asn1_rs.specs.CodedStrings.{IsCoded, coded_leaf, coded_string_leaf, text_of}
 use Rattle.asn1_rs.specs.Laws.Checks.{content_check_is, is_primitive_is}
 use Rattle.asn1_rs.specs.Leaf.{IsLawfulLeaf}
+use Rattle.x690.specs.Laws.Equality.{octets_set}
 
 -- A leaf whose text stands in a code is lawful.
 pub coded_lawful : {S : Type 0} (number : ℕ) (code : List ℕ → List ℕ) (text : S → List ℕ) → number < 31 →
     is_container_number number ≡ false → IsCode code → IsLawfulLeaf (coded_leaf number code text)
 coded_lawful number code text small primitive is = record {
+  one_equality = octets_set;
   small = small;
   checks = content_check_is (IsCoded code) _ (λ e. cc);
   constraints = is_primitive_is;

@@ -20,7 +20,7 @@ use Rattle.asn1_rs.specs.EmbeddedPdv.{Identification, syntaxes, syntax, context,
 use Rattle.asn1_rs.specs.EmbeddedPdv.{AreParts, IsPdv, BeginsWithParts, NoElement, BeginsWithTwo, NotTwo, Identifies}
 use Rattle.asn1_rs.specs.EmbeddedPdv.{SaysNone, has_tag, HasInner, HasNoInner, HoldsElement, HoldsNone, IsIdentified}
 use Rattle.asn1_rs.specs.EmbeddedPdv.{NotIdentified, IsData, NoData, HasPdvParts, LacksPart, PdvBody, PdvGives}
-use Rattle.asn1_rs.specs.EmbeddedPdv.{pdv_constraints, pdv_element, pdv_value}
+use Rattle.asn1_rs.specs.EmbeddedPdv.{Identification-set, PdvValue-set, pdv_constraints, pdv_element, pdv_value}
 use Rattle.asn1_rs.specs.Grammar.{TakesBody}
 use Rattle.asn1_rs.specs.Kinds.{IsLawfulElement, IsExactCheck, IsExactConversion}
 use Rattle.asn1_rs.specs.Laws.Checks.{before_is, exact_check, has_number_is, is_constructed_is, is_counted_is}
@@ -31,6 +31,8 @@ use Rattle.asn1_rs.specs.Leaf.{HasOneRefusalUpTo}
 use Rattle.asn1_rs.specs.Oid.{OidValue, absolute}
 use Rattle.asn1_rs.specs.Tagged.{has_class}
 use Rattle.asn1_rs.specs.Traits.{OfParts}
+use Rattle.x690.specs.Laws.Equality.{octets_set, option_set}
+use Rattle.asn1_rs.specs.Laws.Oid.{oid_value_set}
 
 -- One answer, and one refusal.
 
@@ -366,9 +368,14 @@ body_is p v (a, d) = record {
 
 -- The laws.
 
+-- values are equal in one way at most
+pdv_value_set : IsSet PdvValue
+pdv_value_set = PdvValue-set (Identification-set oid_value_set octets_set) (option_set octets_set) octets_set
+
 -- it has no strict parts, so nothing is asked of them
 pub pdv_lawful : IsLawfulElement pdv_element
 pdv_lawful = record {
+  one_equality = pdv_value_set;
   body_values = λ p v o b. body_is p v b;
   form_values = λ v i c f. absurd f;
   body_one = one_body;

@@ -4,10 +4,12 @@ use Rattle.asn1_rs.specs.EndOfContent.{end_leaf, by_ber_alone}
 use Rattle.asn1_rs.specs.Grammar.Item.{IsLawfulItem}
 use Rattle.asn1_rs.specs.Leaf.{Leaf, IsLawfulLeaf}
 use Rattle.asn1_rs.specs.Laws.Checks.{has_length_is, nothing_is}
+use Rattle.x690.specs.Laws.Equality.{unit_set}
 
 -- The end of contents is lawful.
 pub end_lawful : IsLawfulLeaf end_leaf
 end_lawful = record {
+  one_equality = unit_set;
   small = lit< tt;
   checks = has_length_is 0;
   constraints = nothing_is;
@@ -23,6 +25,7 @@ end_lawful = record {
 -- A lawful leaf stays lawful where it is read by BER alone.
 pub lawful_by_ber_alone : {S : Type 0} (L : Leaf S) → IsLawfulLeaf L → IsLawfulItem (by_ber_alone L)
 lawful_by_ber_alone L l = record {
+  one_equality = l.one_equality;
   der_values = λ o v w. absurd w;
   body_values = λ p v o b. l.says_value p v o b.0.1 b.1;
   form_values = λ v i c f. absurd f;

@@ -9,10 +9,12 @@ use Rattle.asn1_rs.specs.Checks.{is_primitive, content_check}
 use Rattle.asn1_rs.specs.Leaf.{IsLawfulLeaf}
 use Rattle.asn1_rs.specs.Enumerated.{enumerated_leaf, IsFourOctetWord, SaysWord}
 use Rattle.asn1_rs.specs.Laws.Checks.{before_is, is_primitive_is, is_counted_is, content_check_is}
+use native.Mathlib.Nat.{ℕ_set}
 
 -- Enumerated values are lawful.
 pub enumerated_lawful : IsLawfulLeaf enumerated_leaf
 enumerated_lawful = record {
+  one_equality = ℕ_set;
   small = lit< tt;
   checks = before_is is_primitive (content_check SaysWord IntegerTooLarge) is_primitive_is
       (content_check_is SaysWord IntegerTooLarge (λ e. cc));

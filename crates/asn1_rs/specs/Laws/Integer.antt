@@ -28,6 +28,7 @@ use Rattle.asn1_rs.specs.Laws.Forms.{universal_one, universal_value, universal_f
 use Rattle.asn1_rs.specs.Integer.{integer_number, IntegerCheck, IntegerCheckRefuses, IntegerCheckGives, IsIntegerOr}
 use Rattle.asn1_rs.specs.Integer.{IntegerBody, IntegerRefuses, IntegerGives, IntegerContent, IntegerForm}
 use Rattle.asn1_rs.specs.Integer.{integer_element}
+use Rattle.std.proofs.Math.IntN.{ℤ_set}
 
 -- The constraints.
 
@@ -186,6 +187,7 @@ module _ (Holds : ℤ → Type 0) where
   -- Integers that a type holds are lawful.
   pub integer_lawful : {S : Type 0} (number : S → ℤ) → IsLawfulElement (integer_element number Holds)
   integer_lawful number = record {
+    one_equality = ℤ_set;
     body_values = λ p v o b. b.held;
     form_values = λ v i c f. f.1.0;
     body_one = λ p v w a b. a.value ∙ sym b.value;

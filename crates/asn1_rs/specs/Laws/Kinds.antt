@@ -22,6 +22,7 @@ use Rattle.asn1_rs.specs.Laws.Words.{word_one, strict_der_word}
 -- A lawful element is a lawful item.
 pub lawful_item : {S : Type 0} (G : ElementGrammar S) → IsLawfulElement G → IsLawfulItem (item_grammar G)
 lawful_item G l = record {
+  one_equality = l.one_equality;
   der_values = λ o v w. l.body_values w.0 v (der_elements.possible o w.0 w.1) w.3;
   body_values = l.body_values;
   form_values = l.form_values;
@@ -41,6 +42,7 @@ lawful_item G l = record {
 -- what holds one item is as lawful as that
 pub lawful_by_held : {S T : Type 0} (held : T → S) (G : ItemGrammar S) → IsLawfulItem G → IsLawfulItem (by_held held G)
 lawful_by_held held G l = record {
+  one_equality = l.one_equality;
   der_values = l.der_values;
   body_values = l.body_values;
   form_values = l.form_values;
@@ -99,6 +101,7 @@ module _ {S T : Type 0} (held : T → S) (G : ElementGrammar S) where
   -- What holds an element is as lawful as that.
   pub holding_lawful : IsLawfulElement G → IsLawfulElement (holding held G)
   holding_lawful l = record {
+    one_equality = l.one_equality;
     body_values = l.body_values;
     form_values = l.form_values;
     body_one = l.body_one;

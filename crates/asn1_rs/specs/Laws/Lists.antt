@@ -56,6 +56,7 @@ use Rattle.asn1_rs.specs.Laws.Words.{ber_values, strict_ber}
 use Rattle.asn1_rs.specs.Laws.Forms.{universal_one, universal_value, universal_fits, strict_written, behind_header}
 use Rattle.asn1_rs.specs.Laws.Forms.{both_by_value, whole_writable}
 use Rattle.asn1_rs.specs.Kinds.Writing.{list_writing}
+use Rattle.x690.specs.Laws.Equality.{list_set}
 
 -- Lists have one value, and one word.
 
@@ -190,6 +191,7 @@ list_body_values Shape G P f p vs b = joined_values G P f p.content vs b.items
 pub list_lawful : {S W : Type 0} (number : ℕ) → number < 31 → (items : W → List S) (G : ItemGrammar S) →
     IsLawfulItem G → IsLawfulItem (list_grammar number items G)
 list_lawful number small items G l = record {
+  one_equality = list_set l.one_equality;
   der_values = λ o vs w. list_body_values (HasNumber number) G.Der G.IsValue l.der_values w.0 vs w.3;
   body_values = λ p vs o b. list_body_values (IsConstructed number) (ber_words G) G.IsValue (ber_values G l) p vs b;
   form_values = list_form_values G.Form number G.IsValue l.form_values;

@@ -7,12 +7,14 @@ use Rattle.asn1_rs.specs.Leaf.{IsLawfulLeaf, leaf_parts}
 use Rattle.asn1_rs.specs.declared.asn1_types.null.Null.{Null}
 use Rattle.asn1_rs.specs.Null.{one_value_leaf, null_leaf, unit_leaf}
 use Rattle.asn1_rs.specs.Laws.Checks.{before_is, has_length_is, is_primitive_is, nothing_is}
+use Rattle.x690.specs.Laws.Equality.{unit_set}
 
 -- A type with one value is lawful where its checks are checks that this value meets.
 one_value_lawful : (S : Type 0) (checks : CheckGives) → IsCheck checks →
     ((class : ℕ) → checks (leaf_parts (one_value_leaf S checks) class tt) (Ok tt)) →
     IsLawfulLeaf (one_value_leaf S checks)
 one_value_lawful S checks are met = record {
+  one_equality = unit_set;
   small = lit< tt;
   checks = are;
   constraints = nothing_is;

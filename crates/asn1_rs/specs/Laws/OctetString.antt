@@ -13,6 +13,7 @@ use Rattle.x690.specs.Elements.{Parts}
 use Rattle.asn1_rs.specs.OctetString.{contents_leaf, octets_leaf, octet_string_number, octet_string_leaf, slice_leaf}
 use Rattle.asn1_rs.specs.OctetString.{octets_of}
 use Rattle.asn1_rs.specs.Laws.Checks.{nothing_is, is_primitive_is}
+use Rattle.x690.specs.Laws.Equality.{octets_set}
 
 -- The laws.
 
@@ -22,6 +23,7 @@ pub contents_lawful : {S : Type 0} (number : ℕ) (octets : S → List ℕ) (che
     ((p : Parts) → p.id.constructed ≡ is_container_number number → checks p (Ok tt) × constraints p (Ok tt)) →
     IsLawfulLeaf (contents_leaf number octets checks constraints)
 contents_lawful number octets checks constraints small checks_are constraints_are meets = record {
+  one_equality = octets_set;
   small = small;
   checks = checks_are;
   constraints = constraints_are;

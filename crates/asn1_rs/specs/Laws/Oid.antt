@@ -28,8 +28,10 @@ use Rattle.asn1_rs.specs.Kinds.{IsLawfulElement, IsExactCheck, IsExactConversion
 use Rattle.asn1_rs.specs.Laws.Checks.{before_is, exact_check, is_counted_is, is_primitive_is}
 use Rattle.asn1_rs.specs.Laws.Forms.{nothing_refused, universal_fits, universal_one, universal_value}
 use Rattle.asn1_rs.specs.Oid.{OidValue, IsStrictOid, OidGives, absolute, oid_constraints, oid_element, oid_header}
-use Rattle.asn1_rs.specs.Oid.{oid_number, oid_octets, oid_value, oid_writing, written_number}
+use Rattle.asn1_rs.specs.Oid.{OidValue-set, oid_number, oid_octets, oid_value, oid_writing, written_number}
 use Rattle.asn1_rs.specs.ToDer.{IsWritable}
+use Rattle.std.proofs.Math.Bool.{Bool-set}
+use Rattle.x690.specs.Laws.Equality.{octets_set}
 
 -- The value.
 
@@ -51,9 +53,14 @@ primitive i e = ap (λ (z : Identifier). z.constructed) e
 
 -- The laws.
 
+-- Their values are equal in one way at most.
+pub oid_value_set : IsSet OidValue
+oid_value_set = OidValue-set Bool-set octets_set
+
 -- Object identifiers are lawful.
 pub oid_lawful : IsLawfulElement oid_element
 oid_lawful = record {
+  one_equality = oid_value_set;
   body_values = λ p v o b. subst (λ (w : OidValue). IsOctets w.octets) (sym b) o.content;
   form_values = λ v i c f. f.1.0.octets;
   body_one = λ p v w a b. a ∙ sym b;

@@ -26,6 +26,8 @@ use Rattle.asn1_headers.specs.Header.Reading.{HeaderGives, refusal_of}
 use Rattle.asn1_headers.specs.Length.{form_of}
 use Rattle.asn1_rs.specs.Optional.{IsLeftOut, OptionGives, ReadsHeldBack, ReadsNoneBefore, ReadsNoneAtEnd, in_some}
 use Rattle.asn1_rs.specs.Laws.Words.{strict_element, read_back}
+use mathlib.Core.HLevel.{⊥_prop}
+use mathlib.Core.Logic.{∥∥₁_elim}
 
 -- Whether a value is left out.
 
@@ -164,15 +166,16 @@ held_reads_back value memory v rest (Err r) b = b
 -- The strict encoding of what is held is read back, by a reader of optional values over one that is exact.
 pub held_is_read_back : {T V E : Type 0} (rule : Rule) → AllowsStrict rule →
     (IsCut : List ℕ → Type 0) (Form : V → Identifier → List ℕ → Type 0) (G : List ℕ → V → Type 0) (value : T → V)
-    (memory : Refusal E → Type 0) (number : ℕ)
+    (memory : Refusal E → Type 0) (number : ℕ) → IsSet V
     → ((v : V) (o : List ℕ) → IsStrict Form v o → G o v) → IsOneFront G → FormNumber Form number →
     (reads : List ℕ → Result (List ℕ × T) (Refusal E) → Type 0)
     → ((octets : List ℕ) (its : Result (List ℕ × T) (Refusal E)) → IsOctets octets → reads octets its →
     Exactly IsCut G value memory octets its)
     → ReadsHeldBack (OptionGives (IsLeftOut rule number) reads) Form value memory
-held_is_read_back rule allows IsCut Form G value memory number strict one numbered reads exact octets answer v w rest
-    are (inl (out, e)) s is = absurd (strict_stays rule allows Form number numbered v octets w rest s is out)
-held_is_read_back rule allows IsCut Form G value memory number strict one numbered reads exact octets answer v w rest
+held_is_read_back rule allows IsCut Form G value memory number equality strict one numbered reads exact octets answer v w rest
+    are (inl (out, e)) s is = 
+    absurd (∥∥₁_elim s ⊥_prop (λ t. strict_stays rule allows Form number numbered v octets w rest t is out))
+held_is_read_back rule allows IsCut Form G value memory number equality strict one numbered reads exact octets answer v w rest
     are (inr (stays, (its, gives, e))) s is =
     subst (ReadsBack (option_map value) memory (Some v) rest) (sym e) (held_reads_back value memory v rest its
-    (read_back IsCut Form G value memory strict one octets its (exact octets its are gives) v w rest s is))
+    (read_back IsCut Form G value memory equality strict one octets its (exact octets its are gives) v w rest s is))

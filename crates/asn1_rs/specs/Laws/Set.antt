@@ -56,6 +56,8 @@ use Rattle.asn1_rs.specs.Laws.Lists.{none_refuses, same_lists}
 use Rattle.asn1_rs.specs.Kinds.Writing.{set_writing}
 use mathlib.Core.Bool.{not, true≢false, Bool-set}
 use mathlib.Core.Logic.{∥∥₁_prop, ∥∥₁_elim, ∥∥₁_map}
+use Rattle.x690.specs.Laws.Equality.{multiset_set, value_set_set, list_set}
+use mathlib.Core.Sum.{⊎_set}
 
 -- Sets of values, and rows that are none.
 
@@ -187,10 +189,11 @@ module _ {S W M : Type 0} (G : ItemGrammar S) (l : IsLawfulItem G) (of : List G.
   )
 
   -- A collection of lawful items is lawful, with what a reader by DER finds.
-  pub set_lawful : (DerBody : Parts → M → Type 0) → IsOneBody DerBody →
+  pub set_lawful : IsSet M → (DerBody : Parts → M → Type 0) → IsOneBody DerBody →
       ((p : Parts) (m : M) → DerBody p m → SetValues of G.IsValue m) → FormBodies (SetForm of Each G.Form) DerBody →
       IsLawfulItem (set_grammar {W = W} G of worth Each DerBody)
-  set_lawful DerBody one values bodies = record {
+  set_lawful equality DerBody one values bodies = record {
+    one_equality = equality;
     der_values = λ o m w. values w.0 m w.3;
     body_values = λ p m o b. body_values_of p m b;
     form_values = set_form_values of Each G.Form G.IsValue l.form_values;
@@ -217,7 +220,7 @@ pub multiset_lawful : {S W : Type 0} (items : W → List S) (G : ItemGrammar S) 
     IsLawfulItem (multiset_grammar items G)
 multiset_lawful items G l =
     set_lawful G l multiset (λ w. multiset (map G.value (items w))) AnyList
-    (λ vs ws h k e. permutation_from_multiset vs ws e) (SetRow multiset G.Der)
+    (λ vs ws h k e. permutation_from_multiset vs ws e) multiset_set (SetRow multiset G.Der)
     (body_seen multiset _ (list_body_one G.Der l.der_one (HasNumber 17)))
     (λ p m b. (b.0, b.1, list_body_values (HasNumber 17) G.Der G.IsValue l.der_values p b.0 b.2))
     (set_form_body multiset AnyList G.Form G.Der l.strict_der (HasNumber 17) (λ p is. is.0))
@@ -226,7 +229,8 @@ multiset_lawful items G l =
 pub member_lawful : {S W : Type 0} (test : S → S → Bool) (keys : W → List S) (G : ItemGrammar S) → IsLawfulItem G →
     IsLawfulItem (member_grammar test keys G)
 member_lawful test keys G l =
-    set_lawful G l set_of (λ w. members test G.value (keys w)) AllDiffer permutation_from_set (SetBody set_of G.Der)
+    set_lawful G l set_of (λ w. members test G.value (keys w)) AllDiffer permutation_from_set
+    (⊎_set value_set_set (list_set l.one_equality)) (SetBody set_of G.Der)
     (body_seen set_of _ (list_body_one G.Der l.der_one (IsConstructed 17)))
     (λ p m b. (b.0, b.1, list_body_values (IsConstructed 17) G.Der G.IsValue l.der_values p b.0 b.2))
     (set_form_body set_of AllDiffer G.Form G.Der l.strict_der (IsConstructed 17) (λ p is. is))

@@ -13,12 +13,14 @@ use Rattle.asn1_rs.specs.Laws.Checks.{content_check_is, exact_check, is_primitiv
 use Rattle.asn1_rs.specs.Laws.Leaf.{leaf_converts, leaf_lawful}
 use Rattle.asn1_rs.specs.LeafReading.{IsExactReading}
 use Rattle.asn1_rs.specs.Checks.{is_primitive}
+use Rattle.x690.specs.Laws.Equality.{octets_set}
 
 -- A leaf whose contents octets are a text in UTF-8 is lawful.
 pub text_lawful : {S : Type 0} (number : ℕ) (IsText : List ℕ → Type 0) (text : S → List ℕ) → number < 31 →
     is_container_number number ≡ false →
     ((octets : List ℕ) → IsText octets → IsUtf8 octets) → IsLawfulLeaf (text_leaf number IsText text)
 text_lawful number IsText text small primitive utf8 = record {
+  one_equality = octets_set;
   small = small;
   checks = content_check_is IsText _ (λ e. cc);
   constraints = is_primitive_is;

@@ -38,6 +38,7 @@ use Rattle.asn1_rs.specs.Times.{says_time, utc_time_leaf, utc_time_number, gener
 use Rattle.asn1_rs.specs.Times.{generalized_time_number, generalized_time_constraints, fits_text, has_place}
 use Rattle.asn1_rs.specs.Times.{has_three_digits, utc_time_refused, generalized_time_refused}
 use Rattle.asn1_rs.specs.Laws.Checks.{up_to, before_is, check_is, content_check_is, telling_check_is, nothing_is}
+use Rattle.x690.specs.Laws.Equality.{moment_set}
 
 -- The laws, of any text.
 
@@ -70,6 +71,7 @@ module _ {S : Type 0} (number : ℕ) (value : S → Moment) (Says : List ℕ →
       constraints (leaf_parts (time_leaf number value Says IsStrict constraints octets) class m) (Ok tt)) →
       IsLawfulLeafUpTo but_text (time_leaf number value Says IsStrict constraints octets)
   time_lawful small texts are meets = record {
+    one_equality = moment_set;
     small = small;
     checks = before_is has_visible_octets (says_time number Says)
         (up_to but_text has_visible_octets (content_check_is (AllIn is_visible) _ (λ e. cc)))

@@ -17,6 +17,9 @@ use Rattle.asn1_headers.specs.Ber.{max_depth}
 use Rattle.asn1_rs.specs.Grammar.Item.{ItemGrammar, IsLawfulItem, ber_words}
 use Rattle.asn1_rs.specs.Laws.Readers.{ber_elements, none_now}
 use Rattle.x690.specs.Nested.{IsElement}
+use Rattle.x690.specs.Laws.Equality.{octets_set}
+use mathlib.Core.HLevel.{×_prop, ⊥_prop}
+use mathlib.Core.Logic.{∥∥₁_elim}
 
 -- Words over elements.
 
@@ -99,16 +102,29 @@ strict_apart Form one v w o p r s x y e =
     subst (λ (c : List ℕ). Form v y.id c) u.2 (subst (λ (i : Identifier). Form v i x.content) u.1 x.form) in
     (u.0, one v w y.id y.content form y.form, u.3)
 
--- the strict encoding is read back before any rest
-pub read_back : {T V E : Type 0} (IsCut : List ℕ → Type 0) (Form : V → Identifier → List ℕ → Type 0)
+-- the strict encoding is read back before any rest, where it is in hand
+read_back_in_hand : {T V E : Type 0} (IsCut : List ℕ → Type 0) (Form : V → Identifier → List ℕ → Type 0)
     (G : List ℕ → V → Type 0) (value : T → V) (memory : Refusal E → Type 0) →
     ((v : V) (o : List ℕ) → IsStrict Form v o → G o v) → IsOneFront G →
     (input : List ℕ) (answer : Result (List ℕ × T) (Refusal E)) → Exactly IsCut G value memory input answer →
     (v : V) (w rest : List ℕ) → IsStrict Form v w → input ≡ w ++ rest → ReadsBack value memory v rest answer
-read_back IsCut Form G value memory word one input (Ok x) f v w rest s e =
+read_back_in_hand IsCut Form G value memory word one input (Ok x) f v w rest s e =
     let same : (w ≡ f.word) × (v ≡ value x.1) =
     one.one w f.word rest x.0 v (value x.1) (word v w s) f.fits (sym e ∙ f.is) in
     (same.1, append_cancel_left w x.0 rest (ap (λ (z : List ℕ). z ++ x.0) same.0 ∙ sym f.is ∙ e))
-read_back IsCut Form G value memory word one input (Err r) (inl m) v w rest s e = m
-read_back IsCut Form G value memory word one input (Err r) (inr n) v w rest s e =
+read_back_in_hand IsCut Form G value memory word one input (Err r) (inl m) v w rest s e = m
+read_back_in_hand IsCut Form G value memory word one input (Err r) (inr n) v w rest s e =
     absurd (none_now (IsCut input) r G input n w rest v e (word v w s))
+
+-- and where there is only proof that octets are it, as of those that are written of a set
+pub read_back : {T V E : Type 0} (IsCut : List ℕ → Type 0) (Form : V → Identifier → List ℕ → Type 0)
+    (G : List ℕ → V → Type 0) (value : T → V) (memory : Refusal E → Type 0) → IsSet V →
+    ((v : V) (o : List ℕ) → IsStrict Form v o → G o v) → IsOneFront G →
+    (input : List ℕ) (answer : Result (List ℕ × T) (Refusal E)) → Exactly IsCut G value memory input answer →
+    (v : V) (w rest : List ℕ) → ∥ IsStrict Form v w ∥₁ → input ≡ w ++ rest → ReadsBack value memory v rest answer
+read_back IsCut Form G value memory equality word one input (Ok x) f v w rest s e =
+    ∥∥₁_elim s (×_prop (equality v (value x.1)) (octets_set x.0 rest))
+    (λ t. read_back_in_hand IsCut Form G value memory word one input (Ok x) f v w rest t e)
+read_back IsCut Form G value memory equality word one input (Err r) (inl m) v w rest s e = m
+read_back IsCut Form G value memory equality word one input (Err r) (inr n) v w rest s e =
+    absurd (∥∥₁_elim s ⊥_prop (λ t. none_now (IsCut input) r G input n w rest v e (word v w t)))

@@ -53,8 +53,8 @@ pub fn reader_is_exact_by_ber<'a, T: LawfulBer<'a, E>, E: From<Error>>()
         Exactly EndsWithin (ber_words T.grammar) T.grammar.value
         (TellsMemory T.grammar.allocates E.from_gives) input answer }
     ensures back { (input : List ℕ) (answer : Result (List ℕ × T) (Refusal E)) (v : T.grammar.Value)
-        (w rest : List ℕ) → IsOctets input → T.ber_gives input answer → IsStrict T.grammar.Form v w
-        → input ≡ w ++ rest
+        (w rest : List ℕ) → IsOctets input → T.ber_gives input answer →
+        ∥ IsStrict T.grammar.Form v w ∥₁ → input ≡ w ++ rest
         → ReadsBack T.grammar.value (TellsMemory T.grammar.allocates E.from_gives) v rest answer }
     ensures beginning { (input : List ℕ) (answer : Result (List ℕ × T) (Refusal E))
         (more word rest : List ℕ) (v : T.grammar.Value) → IsOctets input → T.ber_gives input answer
@@ -74,8 +74,8 @@ pub fn reader_is_exact_by_der<'a, T: LawfulDer<'a, E>, E: From<Error>>()
         Exactly IsCutIdentifier T.grammar.Der T.grammar.value
         (TellsMemory T.grammar.allocates E.from_gives) input answer }
     ensures back { (input : List ℕ) (answer : Result (List ℕ × T) (Refusal E)) (v : T.grammar.Value)
-        (w rest : List ℕ) → IsOctets input → T.der_gives input answer → IsStrict T.grammar.Form v w
-        → input ≡ w ++ rest
+        (w rest : List ℕ) → IsOctets input → T.der_gives input answer →
+        ∥ IsStrict T.grammar.Form v w ∥₁ → input ≡ w ++ rest
         → ReadsBack T.grammar.value (TellsMemory T.grammar.allocates E.from_gives) v rest answer }
     ensures beginning { (input : List ℕ) (answer : Result (List ℕ × T) (Refusal E))
         (more word rest : List ℕ) (v : T.grammar.Value) → IsOctets input → T.der_gives input answer
@@ -85,6 +85,32 @@ pub fn reader_is_exact_by_der<'a, T: LawfulDer<'a, E>, E: From<Error>>()
     ensures asks_no_memory { (input : List ℕ) (answer : Result (List ℕ × T) (Refusal E)) →
         T.grammar.allocates ≡ false → T.der_gives input answer →
         IfErr answer (HeldIn (IsOther E.from_gives)) }
+{}
+
+/// What is written of an item whose value is in DER form is read back as this value by BER, before any rest: what
+/// `T::from_ber` may answer is an Ok of the two, or that memory is out, where the type allocates.
+pub fn written_values_are_read_back_by_ber<'a, T, E>()
+where
+    T: LawfulBer<'a, E> + LawfulWrite,
+    E: From<Error>,
+    ensures { (x : T) (input rest : List ℕ) (answer : Result (List ℕ × T) (Refusal E)) →
+        IsOctets input → T.grammar.IsDer (T.grammar.value x) →
+        length (whole_octets T.writing x) < 2 ^ 64 → input ≡ whole_octets T.writing x ++ rest →
+        T.ber_gives input answer → ReadsBack T.grammar.value
+        (TellsMemory T.grammar.allocates E.from_gives) (T.grammar.value x) rest answer }
+{}
+
+/// What is written of an item whose value is in DER form is read back as this value by DER, before any rest: what
+/// `T::from_der` may answer is an Ok of the two, or that memory is out, where the type allocates.
+pub fn written_values_are_read_back_by_der<'a, T, E>()
+where
+    T: LawfulDer<'a, E> + LawfulWrite,
+    E: From<Error>,
+    ensures { (x : T) (input rest : List ℕ) (answer : Result (List ℕ × T) (Refusal E)) →
+        IsOctets input → T.grammar.IsDer (T.grammar.value x) →
+        length (whole_octets T.writing x) < 2 ^ 64 → input ≡ whole_octets T.writing x ++ rest →
+        T.der_gives input answer → ReadsBack T.grammar.value
+        (TellsMemory T.grammar.allocates E.from_gives) (T.grammar.value x) rest answer }
 {}
 
 /// An octet string has at most one value, and a value at most one strict encoding.

@@ -184,13 +184,15 @@ where
 ///
 /// Ok exactly where a word of the type's grammar begins the octets. A refusal is final: no word begins them, whatever
 /// follows of which the refusal speaks. The strict encoding of a value is read back before any rest.
+/// So is what [`write_strict`] appends of an item whose value is in DER form: its `headline` has the proof that
+/// `back` asks for.
 pub fn read_ber<'a, T: LawfulBer<'a, E>, E: From<Error>>(
     alloc: Global,
     input: &'a [u8],
 ) -> ParseResult<'a, T, E>
     ensures exact { Exactly EndsWithin (ber_words T.grammar) T.grammar.value
         (TellsMemory T.grammar.allocates E.from_gives) input.now (seen result) }
-    ensures back { (v : T.grammar.Value) (w rest : List ℕ) → IsStrict T.grammar.Form v w →
+    ensures back { (v : T.grammar.Value) (w rest : List ℕ) → ∥ IsStrict T.grammar.Form v w ∥₁ →
         input.now ≡ w ++ rest → ReadsBack T.grammar.value
         (TellsMemory T.grammar.allocates E.from_gives) v rest (seen result) }
     ensures asks_no_memory { T.grammar.allocates ≡ false →
@@ -204,13 +206,15 @@ pub fn read_ber<'a, T: LawfulBer<'a, E>, E: From<Error>>(
 ///
 /// Ok exactly where a word of the type's grammar begins the octets. A refusal is final: no word begins them, whatever
 /// follows of which the refusal speaks. The strict encoding of a value is read back before any rest.
+/// So is what [`write_strict`] appends of an item whose value is in DER form: its `headline` has the proof that
+/// `back` asks for.
 pub fn read_der<'a, T: LawfulDer<'a, E>, E: From<Error>>(
     alloc: Global,
     bytes: &'a [u8],
 ) -> ParseResult<'a, T, E>
     ensures exact { Exactly IsCutIdentifier T.grammar.Der T.grammar.value
         (TellsMemory T.grammar.allocates E.from_gives) bytes.now (seen result) }
-    ensures back { (v : T.grammar.Value) (w rest : List ℕ) → IsStrict T.grammar.Form v w →
+    ensures back { (v : T.grammar.Value) (w rest : List ℕ) → ∥ IsStrict T.grammar.Form v w ∥₁ →
         bytes.now ≡ w ++ rest → ReadsBack T.grammar.value
         (TellsMemory T.grammar.allocates E.from_gives) v rest (seen result) }
     ensures asks_no_memory { T.grammar.allocates ≡ false →

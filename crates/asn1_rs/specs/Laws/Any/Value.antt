@@ -13,13 +13,15 @@ use Rattle.asn1_headers.specs.Length.{form_of}
 use Rattle.asn1_rs.specs.Grammar.{TakesBody, Checks}
 use Rattle.asn1_rs.specs.Kinds.{IsLawfulElement, IsExactCheck, IsExactConversion}
 use Rattle.asn1_rs.specs.Any.Value.{ElementValue, element_of, ElementBody, ElementCheck, ElementForm, IsElementValue}
-use Rattle.asn1_rs.specs.Any.Value.{any_element}
+use Rattle.asn1_rs.specs.Any.Value.{any_element, ElementValue-set}
+use Rattle.x690.specs.Laws.Equality.{identifier_set, octets_set}
 
 -- The value.
 
 -- Elements of any type are lawful.
 pub element_lawful : IsLawfulElement any_element
 element_lawful = record {
+  one_equality = ElementValue-set identifier_set octets_set;
   body_values =
       λ p v o b. subst IsElementValue (sym b) (record { class = o.class; number = o.number; content = o.content });
   form_values =

@@ -10,6 +10,7 @@ use Rattle.asn1_rs.specs.Integer.Octets.{integer_octets, any_integer_leaf}
 use Rattle.asn1_rs.specs.Laws.Checks.{nothing_is}
 use Rattle.asn1_rs.specs.Laws.Integer.{integer_checks, one_integer_check_refusal}
 use Rattle.asn1_rs.specs.Leaf.{IsLawfulLeaf}
+use Rattle.x690.specs.Laws.Equality.{octets_set}
 
 -- what is asked of all integers is a check
 integer_check_is : IsCheck IntegerCheckGives
@@ -22,6 +23,7 @@ integer_check_is = record {
 -- Integers of any size are lawful.
 pub any_integer_lawful : IsLawfulLeaf any_integer_leaf
 any_integer_lawful = record {
+  one_equality = octets_set;
   small = lit< tt;
   checks = nothing_is;
   constraints = integer_check_is;

@@ -142,6 +142,7 @@ module _ {V : Type 0} (class number : ℕ) where
 pub explicit_lawful : {S T : Type 0} (class number : ℕ) (inner : T → S) (G : ItemGrammar S) → IsLawfulItem G →
     IsLawfulItem (explicit_grammar class number inner G)
 explicit_lawful class number inner G l = record {
+  one_equality = l.one_equality;
   der_values = λ o v w. explicit_values class number G.Der G.IsValue l.der_values w.0 v w.3;
   body_values = λ p v o b. explicit_values class number (ber_words G) G.IsValue (ber_values G l) p v b;
   form_values = explicit_form_values class number G.Form G.IsValue l.form_values;

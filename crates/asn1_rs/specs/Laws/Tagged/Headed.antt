@@ -28,6 +28,8 @@ use Rattle.asn1_rs.specs.Tagged.Headed.{HasInnerForm, explicit_headed, implicit_
 use Rattle.asn1_rs.specs.ToDer.{Writing, whole_octets}
 use Rattle.asn1_rs.specs.Tagged.Writing.{explicit_under, headed_writing, implicit_under}
 use Rattle.asn1_rs.specs.Laws.Forms.{strict_written, behind_header, whole_writable}
+use Rattle.x690.specs.Laws.Equality.{identifier_set}
+use mathlib.Core.HLevel.{Σ_set}
 
 -- Identifiers beside values.
 
@@ -82,6 +84,7 @@ module _ {V : Type 0} (G : List ℕ → V → Type 0) where
 pub explicit_headed_lawful : {S T : Type 0} (identifier : T → Identifier) (inner : T → S) (G : ItemGrammar S) →
     IsLawfulItem G → IsLawfulItem (explicit_headed identifier inner G)
 explicit_headed_lawful identifier inner G l = record {
+  one_equality = Σ_set identifier_set (λ i. l.one_equality);
   der_values = λ o v w. headed_values G.Der G.IsValue l.der_values w.0 v (der_elements.possible o w.0 w.1) w.3;
   body_values = headed_values (ber_words G) G.IsValue (ber_values G l);
   form_values = λ v i c f. (
@@ -172,6 +175,7 @@ pub implicit_headed_lawful : {S T : Type 0} (identifier : T → Identifier) (own
     ((class : ℕ) → class < 4 → FormTakes G.Form G.Check G.Body class) →
     IsLawfulItem (implicit_headed identifier own inner G)
 implicit_headed_lawful identifier own inner G l small numbered takes = record {
+  one_equality = Σ_set identifier_set (λ i. l.one_equality);
   der_values = λ o v w. under_values own (CheckedBody G.Check G.Body) G.IsValue small
       (λ p v a b. l.body_values p v a b.1) w.0 v (der_elements.possible o w.0 w.1) w.3;
   body_values = under_values own G.Body G.IsValue small l.body_values;

@@ -129,6 +129,7 @@ pub implicit_lawful : {S T : Type 0} (class number own : ℕ) (inner : T → S) 
     own < 2 ^ 32 → FormNumber G.Form own → FormTakes G.Form G.Check G.Body class →
     IsLawfulItem (implicit_grammar class number own inner G)
 implicit_lawful class number own inner G l small numbered takes = record {
+  one_equality = l.one_equality;
   der_values = λ o v w.
       implicit_values class number own G.Body G.IsValue small l.body_values w.0 v (der_elements.possible o w.0 w.1) w.3;
   body_values = implicit_values class number own G.Body G.IsValue small l.body_values;

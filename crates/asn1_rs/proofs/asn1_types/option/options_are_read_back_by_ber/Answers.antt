@@ -10,7 +10,8 @@ use Rattle.asn1_rs.specs.Grammar.Item.{ber_words}
 pub returns : goal.returns
 returns g c =
     held_is_read_back ber_rule ber_allows_strict EndsWithin g.T.Grammar.grammar.Form (ber_words g.T.Grammar.grammar)
-    g.T.Grammar.grammar.value _ _ (strict_ber g.T.Grammar.grammar g.met.T.LawfulItem.lawful_item)
+    g.T.Grammar.grammar.value _ _ g.met.T.LawfulItem.lawful_item.one_equality
+    (strict_ber g.T.Grammar.grammar g.met.T.LawfulItem.lawful_item)
     (ber_one g.T.Grammar.grammar g.met.T.LawfulItem.lawful_item) g.met.T.LawfulTagged.tag_number
     g.T.FromBer.ber_gives
     (g.met.T.LawfulBer c.lifetimes (search rules)).ber_exact
