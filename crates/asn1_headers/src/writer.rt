@@ -1,5 +1,5 @@
 //! Writers that tell what they took and whether they failed.
-ghost use Rattle.std.specs.Prelude.{◌≡◌, ◌≢◌, [], ◌||◌, false, IsTrue, IsErr, IfOk, IfErr, Ok};
+ghost use Rattle.std.specs.Prelude.{◌≡◌, ◌≢◌, [], ◌||◌, false, IsTrue, IsErr, IfOk, IfErr, None, Ok};
 ghost use Rattle.std.specs.Io.{WritesAtMost};
 ghost use Rattle.std.specs.Io.KnownBytes.{WriteAppends};
 ghost use Rattle.asn1_headers.specs.Writer.{WriterState, wrapped_in, mark_of, put_fails, Wrote, MayRefuse, Calls};
@@ -127,6 +127,21 @@ impl<W: TellsWrites> DerWrite for Told<W> {
                 Err(e)
             }
         }
+    }
+}
+
+/// A writer that takes all octets and keeps none.
+///
+/// It never fails and asks for no memory. So what refuses a writing to it is the value, its length, or want of memory.
+#[derive(Debug, Clone, Copy)]
+pub struct Sink;
+
+impl DerWrite for Sink {
+    ghost state = { λ _. record { told = None; failed = false } };
+
+    #[inline(always)]
+    fn put(&mut self, octets: &[u8]) -> io::Result<usize> {
+        Ok(octets.len())
     }
 }
 

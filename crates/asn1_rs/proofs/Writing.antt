@@ -8,7 +8,7 @@ use Rattle.asn1_headers.specs.Writer.{WriterState, Wrote, IsMemoryOrLength, MayR
 use Rattle.asn1_headers.specs.Error.{is_io, WithoutIo, written_refusal, tells_of_io, vector_refusal}
 use Rattle.asn1_rs.specs.ToDer.{SumsCounts, MayRefuseCount, Refuses, RefusesCount, RefusesAtOnce, IsRefusedAtOnce}
 use Rattle.asn1_rs.specs.ToDer.{RefusedAtOnce, Either, HasNone, IntoVector, IsWritable, VectorRefuses, WrittenRefusal}
-use Rattle.asn1_rs.specs.ToDer.{Writing, whole_refuses}
+use Rattle.asn1_rs.specs.ToDer.{KeepsOrMayRefuse, Writing, whole_refuses}
 use Rattle.asn1_rs.specs.Tagged.Writing.{UnderClass}
 use Rattle.std.specs.Prelude.{IsErr}
 use Rattle.asn1_headers.specs.Laws.Writing.{Appends_none, MayRefuse_more, MayRefuse_either, MayRefuse_other}
@@ -253,3 +253,54 @@ at_once_into allocates n own old new e f same at =
 pub is_writable : {S : Type 0} (w : Writing S) (x : S) → HasNone (w.count_refuses x) → HasNone (whole_refuses w x) →
     IsWritable w x
 is_writable w x n m = (n, λ e o. m e (inl o), λ e o. m e (inr o))
+
+-- A refusal of what is the value's own.
+
+-- a writer whose mark is never set gives no refusal
+pub unmarked_is_no_io : (io failed : Bool) → failed ≡ false → failed ≡ (io || false) → io ≡ false
+unmarked_is_no_io true failed a b = sym b ∙ a
+unmarked_is_no_io false failed a b = refl
+
+-- what was refused at once in one writer, in another one that is as it was
+pub at_once_elsewhere : (allocates : Bool) (n : ℕ) (own : SerializeError → Type 0) (old new w : WriterState)
+    (r : Result ℕ SerializeError) →
+    IsRefusedAtOnce allocates n own old new r → IsRefusedAtOnce allocates n own w w r
+at_once_elsewhere allocates n own old new w r at =
+    (at.0, at.1, record { refused = at.2.refused; kept = refl })
+
+-- A refusal is no value's own where the value has none.
+pub keeps_or_may : (r : Result ℕ SerializeError) (allocates : Bool) (n : ℕ) (own : SerializeError → Type 0)
+    (old new : WriterState) →
+    HasNone own → IfErr r (Refuses allocates n own) → KeepsOrMayRefuse allocates n old new r
+keeps_or_may (Ok k) allocates n own old new none h = tt
+keeps_or_may (Err e) allocates n own old new none (inl m) = inl m
+keeps_or_may (Err e) allocates n own old new none (inr o) = absurd (none e o)
+
+pub may_keep : (r : Result ℕ SerializeError) (allocates : Bool) (n : ℕ) (old new : WriterState) →
+    IfErr r (MayRefuse allocates n) → KeepsOrMayRefuse allocates n old new r
+may_keep (Ok k) allocates n old new h = tt
+may_keep (Err e) allocates n old new h = inl h
+
+-- nothing was asked of the writer
+pub kept_keeps : (r : Result ℕ SerializeError) (allocates : Bool) (n : ℕ) (old : WriterState) →
+    KeepsOrMayRefuse allocates n old old r
+kept_keeps (Ok k) allocates n old = tt
+kept_keeps (Err e) allocates n old = inr refl
+
+-- one call of a writer that took the octets at once
+pub put_keeps : (r : Result ℕ SerializeError) (allocates : Bool) (n : ℕ) (old new : WriterState) →
+    IfErr r (MayRefuse false 0) → KeepsOrMayRefuse allocates n old new r
+put_keeps (Ok k) allocates n old new h = tt
+put_keeps (Err (serialize_errors.ASN1Error e)) allocates n old new h = absurd h
+put_keeps (Err (serialize_errors.InvalidClass c)) allocates n old new h = absurd h
+put_keeps (Err serialize_errors.InvalidLength) allocates n old new h = absurd (omega (arith, h))
+put_keeps (Err (serialize_errors.IOError e)) allocates n old new h = inl tt
+put_keeps (Err serialize_errors.OutOfMemory) allocates n old new h = cc
+
+-- A value whose header and contents octets were both written has no refusal of its own.
+pub none_own : (one other : SerializeError → Type 0) {allocates : Bool} {m : ℕ} {own : SerializeError → Type 0}
+    {old new : WriterState} (k l : ℕ) →
+    ((e : SerializeError) → one e → IsRefusedAtOnce allocates m own old new (Ok k)) →
+    ((e : SerializeError) → other e → IsErr {T = ℕ} {E = SerializeError} (Ok l)) → HasNone (Either one other)
+none_own one other {allocates} {m} {own} {old} {new} k l a b e (inl o) = not_refused allocates m own old new k (a e o)
+none_own one other k l a b e (inr o) = false≢true (b e o)

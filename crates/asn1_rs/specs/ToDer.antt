@@ -1,6 +1,6 @@
 -- Why counting and writing a value are refused.
 use Rattle.std.specs.Prelude.{◌≡◌, ◌⊎◌, ℕ, ◌+◌, ◌≤◌, ◌^◌, Bool, true, false, ◌||◌, IsTrue, List, [], ◌++◌, Result, Err}
-use Rattle.std.specs.Prelude.{MatchResult}
+use Rattle.std.specs.Prelude.{IfErr, MatchResult}
 use Rattle.asn1_headers.specs.declared.error.Error.{Error}
 use Rattle.asn1_headers.specs.declared.error.Error.TheVariants as errors
 use Rattle.asn1_headers.specs.declared.error.SerializeError.{SerializeError}
@@ -132,6 +132,11 @@ abbrev pub IsRefusedAtOnce : Bool → ℕ → (SerializeError → Type 0) → Wr
     Result ℕ SerializeError → Type 0
 IsRefusedAtOnce allocates n own old new answer =
     (e : SerializeError) × RefusesAtOnce allocates n own e × RefusedAtOnce e old new answer
+
+-- A refusal is the writer's, or for the length or want of memory, as of any writing of so many octets; or else it left
+-- the writer as it was.
+abbrev pub KeepsOrMayRefuse : Bool → ℕ → WriterState → WriterState → Result ℕ SerializeError → Type 0
+KeepsOrMayRefuse allocates n old new answer = IfErr answer (λ e. MayRefuse allocates n e ⊎ (new ≡ old))
 
 -- A refusal of the value's own, from a writing into a vector. The value's own is tied by the one that it comes out as.
 abbrev pub IntoVector : (SerializeError → Type 0) → SerializeError → Type 0

@@ -5,7 +5,7 @@ ghost use Rattle.asn1_headers.specs.Writer.{Wrote};
 ghost use Rattle.asn1_headers.specs.Prepended.{Prepended};
 ghost use Rattle.asn1_headers.specs.declared.error.SerializeError.TheVariants as serialize_errors;
 ghost use Rattle.asn1_rs.specs.ToDer.{untold, Refuses, RefusesCount, VectorRefuses, IsRefusedAtOnce, RefusedAtOnce};
-ghost use Rattle.asn1_rs.specs.ToDer.{Writing, whole_allocates, whole_octets, whole_refuses};
+ghost use Rattle.asn1_rs.specs.ToDer.{KeepsOrMayRefuse, Writing, whole_allocates, whole_octets, whole_refuses};
 ghost use Rattle.asn1_headers.specs.Error.{vector_refusal, tells_of_io};
 ghost use Rattle.asn1_headers.specs.declared.error.SerializeError.{SerializeError};
 ghost use Rattle.asn1_headers.specs.declared.error.Error.{Error};
@@ -13,7 +13,7 @@ ghost use Rattle.asn1_headers.specs.declared.error.Error.{Error};
 use crate::traits::DynTagged;
 use asn1_headers::buffer::{DerBuffer, prepend_behind, prepend_octets};
 use asn1_headers::error::{Error, SerializeError, SerializeResult, without_io};
-use asn1_headers::writer::{DerWrite, Told, add_written, put_all};
+use asn1_headers::writer::{DerWrite, Sink, Told, add_written, put_all};
 use std::alloc::Global;
 
 /// A value that is written by DER.
@@ -90,11 +90,11 @@ pub trait ToDer: DynTagged {
     /// Appends the encoding, and answers its length.
     ///
     /// Refused with `IOError` only where the writer failed, or was marked before; with `InvalidLength` only where the
-    /// length passes `usize`, or the value itself is so refused. After a refusal a beginning of the encoding was
-    /// appended.
+    /// length passes `usize`, or the value itself is so refused. A value that is refused for what it is leaves the
+    /// writer as it was; after any other refusal a beginning of the encoding was appended.
     // This body is proved once for all types, also for those that need no memory (`Header`, `Length`). So where its
-    // buffer cannot grow it goes forward, and does not answer out of memory. A refused value may leave a beginning;
-    // with memory there it leaves nothing, but no clause can say so: a body is proved for all cases or for none.
+    // buffer cannot grow it goes forward, and does not answer out of memory. Before that it writes to a sink, where a
+    // value's own refusal shows.
     #[inline(always)]
     fn write_der<W: DerWrite>(&self, alloc: Global, w: &mut W) -> SerializeResult<usize>
         ensures wrote { writing.tells self.now →
@@ -117,11 +117,18 @@ pub trait ToDer: DynTagged {
             (W.state w.old) (W.state w.new) result }
         ensures first { (e : SerializeError) → writing.refuses_first self.now e →
             RefusedAtOnce e (W.state w.old) (W.state w.new) result }
+        ensures kept { writing.tells self.now →
+            KeepsOrMayRefuse (whole_allocates writing) (length (whole_octets writing self.now))
+            (W.state w.old) (W.state w.new) result }
     {
         let mut buf = DerBuffer::new(alloc);
         if stands(self.prepend_der(alloc, &mut buf))? {
             return put_all(w, buf.as_bytes());
         }
+        let mut sink = Sink;
+        let header = self.write_der_header(alloc, &mut sink)?;
+        let content = self.write_der_content(alloc, &mut sink)?;
+        add_written(header, content)?;
         let before = self.write_der_header(alloc, w)?;
         let after = self.write_der_content(alloc, w)?;
         add_written(before, after)
@@ -202,6 +209,9 @@ pub trait ToDer: DynTagged {
             × (n ≡ length raw)) }
         ensures first { (e : SerializeError) → writing.refuses_first self.now e →
             RefusedAtOnce e (W.state w.old) (W.state w.new) result }
+        ensures kept { writing.tells self.now → raw_is_der self.now →
+            KeepsOrMayRefuse (whole_allocates writing) (length (whole_octets writing self.now))
+            (W.state w.old) (W.state w.new) result }
     {
         self.write_der(alloc, w)
     }

@@ -7,7 +7,8 @@ ghost use Rattle.asn1_headers.specs.Prepended.{Prepended};
 ghost use Rattle.asn1_rs.specs.Grammar.{FormNumber, FormTakes};
 ghost use Rattle.asn1_headers.specs.Writer.{Wrote, MayRefuse};
 ghost use Rattle.asn1_rs.specs.ToDer.{Writing, MayRefuseCount, Refuses, RefusesCount, IsRefusedAtOnce, RefusedAtOnce};
-ghost use Rattle.asn1_rs.specs.ToDer.{VectorRefuses, held_writing, whole_allocates, whole_octets, whole_refuses};
+ghost use Rattle.asn1_rs.specs.ToDer.{KeepsOrMayRefuse, VectorRefuses, held_writing, whole_allocates, whole_octets};
+ghost use Rattle.asn1_rs.specs.ToDer.{whole_refuses};
 ghost use Rattle.asn1_headers.specs.declared.error.SerializeError.{SerializeError};
 ghost use Rattle.asn1_headers.specs.declared.error.Error.{Error};
 ghost use Rattle.asn1_rs.specs.Kinds.Writing.{universal_header, universal_writing, CountRefused, IsPieceOf};
@@ -24,7 +25,7 @@ use crate::to_der::{ToDer, stands};
 use crate::traits::{DynTagged, Tagged};
 use asn1_headers::buffer::{DerBuffer, prepend_element, prepend_octets};
 use asn1_headers::error::{Error, SerializeResult, without_io};
-use asn1_headers::writer::{DerWrite, Told, add_written, put_all};
+use asn1_headers::writer::{DerWrite, Sink, Told, add_written, put_all};
 use std::alloc::Global;
 
 /// The octets of a short element, at the front of an array.
@@ -252,8 +253,8 @@ pub trait ToDerBy<K>: DynTagged {
         ensures first { (e : SerializeError) → writing.refuses_first self.now e →
             (result ≡ Err (vector_refusal e)) × (buf.new ≡ buf.old) };
 
-    /// `write_der`: from the back, where the kind has no better way; header and contents octets where memory is
-    /// refused.
+    /// `write_der`: from the back, where the kind has no better way. Where memory is refused for that, header and
+    /// contents octets, but first to a sink, where a value's own refusal shows.
     #[inline(always)]
     fn put_whole<W: DerWrite>(&self, alloc: Global, w: &mut W) -> SerializeResult<usize>
         ensures wrote { writing.tells self.now →
@@ -276,11 +277,18 @@ pub trait ToDerBy<K>: DynTagged {
             (W.state w.old) (W.state w.new) result }
         ensures first { (e : SerializeError) → writing.refuses_first self.now e →
             RefusedAtOnce e (W.state w.old) (W.state w.new) result }
+        ensures kept { writing.tells self.now →
+            KeepsOrMayRefuse (whole_allocates writing) (length (whole_octets writing self.now))
+            (W.state w.old) (W.state w.new) result }
     {
         let mut buf = DerBuffer::new(alloc);
         if stands(self.prepend_whole(alloc, &mut buf))? {
             return put_all(w, buf.as_bytes());
         }
+        let mut sink = Sink;
+        let header = self.put_header(alloc, &mut sink)?;
+        let content = self.put_content(alloc, &mut sink)?;
+        add_written(header, content)?;
         let before = self.put_header(alloc, w)?;
         let after = self.put_content(alloc, w)?;
         add_written(before, after)
