@@ -4,7 +4,7 @@ use Rattle.x690.specs.Strict.{header_octets}
 use Rattle.asn1_rs.specs.declared.asn1_types.oid.Oid.{Oid}
 use Rattle.asn1_rs.specs.Oid.{is_relative, oid_header, oid_octets, written_number}
 use Rattle.asn1_rs.specs.ToDer.{Either}
-use Rattle.asn1_rs.proofs.Writing.{only_may}
+use Rattle.asn1_rs.proofs.Writing.{only_may, neither_own, keeps_or_may}
 use Rattle.asn1_rs.proofs.asn1_types.oid.writing.OidToDer.write_der.Goals as goal
 
 same_header : (x : Oid) (number : ℕ) (octets : List ℕ) → number ≡ written_number (is_relative x) →
@@ -17,3 +17,6 @@ returns-clause-refused g c = λ _. let x = c.args.self.now in
     (subst (λ (o : List ℕ). IfErr c.put_behind.result (MayRefuse false (length o)))
     (same_header x _ _ c.written_tag.ensures c.as_bytes-octets.ensures)
     (c.put_behind.ensures.failed _ _ c.put_header-header.ensures.wrote (c.put_header-header.ensures.failed _ _)))
+
+pub returns-clause-kept : goal.returns-clause-kept
+returns-clause-kept g c = λ t. keeps_or_may _ _ _ _ _ _ neither_own (returns-clause-refused g c t)
