@@ -1,13 +1,12 @@
 -- Strings of characters whose text is decoded from their contents octets (X.690 8.23.7, 8.23.8; X.680 41).
 use Rattle.std.specs.Prelude.{◌≡◌, ℕ, List, encode_utf8_all, chars, IsUtf8}
-use Rattle.std.specs.Cow.{cow_str_bytes}
-use Rattle.std.specs.declared.alloc.Global.{Global}
-use Rattle.std.specs.declared.borrow.CowStr.{CowStr}
 use Rattle.x690.specs.Characters.{Codes, code_of}
 use Rattle.asn1_headers.specs.declared.error.Error.TheVariants.{StringInvalidCharset}
-use Rattle.asn1_rs.specs.declared.asn1_types.coded_strings.CodedString.{CodedString}
+use Rattle.asn1_rs.specs.declared.asn1_types.strings.Coded.{Coded}
+use Rattle.asn1_rs.specs.declared.asn1_types.strings.RestrictedString.{RestrictedString}
 use Rattle.asn1_rs.specs.Checks.{content_check, is_primitive}
 use Rattle.asn1_rs.specs.Leaf.{Leaf}
+use Rattle.asn1_rs.specs.Strings.{text_of}
 
 -- the octets are some text's in the code
 abbrev pub IsCoded : (List ℕ → List ℕ) → List ℕ → Type 0
@@ -28,18 +27,10 @@ coded_leaf number code text = record {
   octets = λ v. code (chars v);
 }
 
--- the text of a string, as it is held
-abbrev pub held_text : {K : Type 0} → CodedString K → CowStr Global
-held_text x = x.text
-
--- the text of a string, in UTF-8
-abbrev pub text_of : {K : Type 0} → CodedString K → List ℕ
-text_of x = cow_str_bytes x.text
-
 -- such strings, by the tag number and the octets of a character
-abbrev pub coded_string_leaf : {K : Type 0} → ℕ → (ℕ → List ℕ) → Leaf (CodedString K)
+abbrev pub coded_string_leaf : {K : Type 0} → ℕ → (ℕ → List ℕ) → Leaf (RestrictedString K Coded)
 coded_string_leaf number octets_of = coded_leaf number (code_of octets_of) text_of
 
 -- the contents octets of a string
-abbrev pub coded_octets : {K : Type 0} → (ℕ → List ℕ) → CodedString K → List ℕ
+abbrev pub coded_octets : {K F : Type 0} → (ℕ → List ℕ) → RestrictedString K F → List ℕ
 coded_octets octets_of x = code_of octets_of (chars (text_of x))

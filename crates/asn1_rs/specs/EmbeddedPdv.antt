@@ -52,7 +52,7 @@ identification_of (parts.TransferSyntax s) = transfer (oid_value s)
 identification_of parts.Fixed = fixed
 
 -- the text of a descriptor, where there is one
-abbrev pub descriptor_text : {K : Type 0} → Option (RestrictedString K) → Option (List ℕ)
+abbrev pub descriptor_text : {K F : Type 0} → Option (RestrictedString K F) → Option (List ℕ)
 descriptor_text (Some x) = Some (text_of x)
 descriptor_text None = None
 

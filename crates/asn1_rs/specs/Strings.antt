@@ -6,6 +6,7 @@ use Rattle.std.specs.declared.borrow.CowStr.{CowStr}
 use Rattle.asn1_headers.specs.declared.error.Error.{Error}
 use Rattle.asn1_headers.specs.declared.error.Error.TheVariants.{StringInvalidCharset}
 use Rattle.asn1_rs.specs.declared.asn1_types.any.Any.{Any}
+use Rattle.asn1_rs.specs.declared.asn1_types.strings.InPlace.{InPlace}
 use Rattle.asn1_rs.specs.declared.asn1_types.strings.RestrictedString.{RestrictedString}
 use Rattle.asn1_rs.specs.Any.{parts_of}
 use Rattle.asn1_rs.specs.Checks.{content_check, is_primitive}
@@ -29,25 +30,25 @@ text_leaf number IsText text = record {
 }
 
 -- the text of a string, as it is held
-abbrev pub held_text : {K : Type 0} → RestrictedString K → CowStr Global
+abbrev pub held_text : {K F : Type 0} → RestrictedString K F → CowStr Global
 held_text x = x.text
 
 -- the text of a string, in UTF-8
-abbrev pub text_of : {K : Type 0} → RestrictedString K → List ℕ
+abbrev pub text_of : {K F : Type 0} → RestrictedString K F → List ℕ
 text_of x = cow_str_bytes x.text
 
 -- Strings of a type with this tag number and these texts.
-abbrev pub string_leaf : {K : Type 0} → ℕ → (List ℕ → Type 0) → Leaf (RestrictedString K)
+abbrev pub string_leaf : {K : Type 0} → ℕ → (List ℕ → Type 0) → Leaf (RestrictedString K InPlace)
 string_leaf number IsText = text_leaf number IsText text_of
 
 -- what the conversion of an element may answer: its contents octets as a text, which is borrowed,
 -- or the refusal of the first check that is broken
-abbrev pub StringGives : {K : Type 0} → ℕ → (List ℕ → Type 0) → Any → Result (RestrictedString K) Error → Type 0
+abbrev pub StringGives : {K : Type 0} → ℕ → (List ℕ → Type 0) → Any → Result (RestrictedString K InPlace) Error → Type 0
 StringGives number IsText any answer =
     LeafGives (string_leaf number IsText) (parts_of any) answer × IfOk answer (λ x. IsBorrowedStr (held_text x))
 
 -- how such strings are read
-abbrev pub string_reading : {K : Type 0} → ℕ → (List ℕ → Type 0) → LeafReading (RestrictedString K)
+abbrev pub string_reading : {K : Type 0} → ℕ → (List ℕ → Type 0) → LeafReading (RestrictedString K InPlace)
 string_reading {K} number IsText = record {
   element = leaf_element (string_leaf {K = K} number IsText);
   gives = StringGives number IsText;

@@ -1,8 +1,7 @@
 //! What a value adds to the check of a workload.
 
 use asn1_rs::{
-    ASN1DateTime, Any, CodedKind, CodedString, GeneralizedTime, OctetString, Oid, RestrictedString,
-    SetOf, StringKind, UtcTime,
+    ASN1DateTime, Any, GeneralizedTime, OctetString, Oid, RestrictedString, SetOf, UtcTime,
 };
 
 /// A value that adds to a check.
@@ -51,13 +50,7 @@ impl Summed for Oid<'_> {
 }
 
 /// A string adds how many octets its text has in UTF-8.
-impl<K: StringKind> Summed for RestrictedString<'_, K> {
-    fn sum(&self) -> u64 {
-        self.as_str().len() as u64
-    }
-}
-
-impl<K: CodedKind> Summed for CodedString<'_, K> {
+impl<K, F> Summed for RestrictedString<'_, K, F> {
     fn sum(&self) -> u64 {
         self.as_str().len() as u64
     }

@@ -2,9 +2,9 @@
 
 use crate::made::push_made;
 use asn1_rs::{
-    BmpKind, BmpString, CodedKind, CodedString, DescriptorKind, FromBer, FromDer, GraphicKind,
-    NumericKind, RestrictedString, StringKind, TeletexKind, TestValidCharset, ToDer, UniversalKind,
-    UniversalString, Utf8Kind, Utf8String, VideotexKind, VisibleKind,
+    BmpKind, BmpString, CharacterCode, CodedString, DescriptorKind, FromBer, FromDer, GraphicKind,
+    NumericKind, Repertoire, RestrictedString, StringKind, TeletexKind, TestValidCharset, ToDer,
+    UniversalKind, UniversalString, Utf8Kind, Utf8String, VideotexKind, VisibleKind,
 };
 use std::alloc::Global;
 use std::fmt::Write;
@@ -87,14 +87,18 @@ UniversalString by BER:
 ";
 
 /// The string of a text.
-fn push_string<K: StringKind>(text: &mut String, alloc: Global, octets: &[u8]) -> Result<(), Fail> {
+fn push_string<K: StringKind<Characters: Repertoire>>(
+    text: &mut String,
+    alloc: Global,
+    octets: &[u8],
+) -> Result<(), Fail> {
     let made = RestrictedString::<'_, K>::from(str::from_utf8(octets)?);
     let written = made.to_der_vec(alloc)?;
     push_made(text, alloc, &made, written.as_slice())
 }
 
 /// The answer to a call of a type whose contents octets are its text.
-fn push_of_kind<K: StringKind>(
+fn push_of_kind<K: StringKind<Characters: Repertoire>>(
     text: &mut String,
     alloc: Global,
     call: &str,
@@ -107,7 +111,11 @@ fn push_of_kind<K: StringKind>(
 }
 
 /// The string of a text, which is coded.
-fn push_coded<K: CodedKind>(text: &mut String, alloc: Global, octets: &[u8]) -> Result<(), Fail> {
+fn push_coded<K: StringKind<Characters: CharacterCode>>(
+    text: &mut String,
+    alloc: Global,
+    octets: &[u8],
+) -> Result<(), Fail> {
     let made = CodedString::<'_, K>::from(str::from_utf8(octets)?);
     let written = made.to_der_vec(alloc)?;
     push_made(text, alloc, &made, written.as_slice())?;

@@ -1,7 +1,7 @@
 //! Strings of characters: how they are made, read, converted and written (X.690 8.23, X.680 41).
 
 use asn1_rs::{
-    Any, BmpString, CodedString, Error, FromBer, FromDer, GeneralString, GraphicString, Ia5String,
+    Any, BmpString, Error, FromBer, FromDer, GeneralString, GraphicString, Ia5String,
     NumericString, ObjectDescriptor, ParseResult, PrintableString, RestrictedString, TeletexString,
     TestValidCharset, ToDer, UniversalString, Utf8String, VideotexString, VisibleString,
     numbers_of_coded_strings, numbers_of_strings, numbers_of_texts,
@@ -239,13 +239,7 @@ trait Text {
     fn text(&self) -> &str;
 }
 
-impl<K> Text for RestrictedString<'_, K> {
-    fn text(&self) -> &str {
-        self.as_str()
-    }
-}
-
-impl<K> Text for CodedString<'_, K> {
+impl<K, F> Text for RestrictedString<'_, K, F> {
     fn text(&self) -> &str {
         self.as_str()
     }

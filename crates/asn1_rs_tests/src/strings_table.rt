@@ -2,8 +2,8 @@
 
 use asn1_rs::{
     DescriptorKind, Error, FromBer, GeneralKind, GraphicKind, Ia5Kind, NumericKind, ParseResult,
-    PrintableKind, RestrictedString, StringKind, TeletexKind, TestValidCharset, Utf8Kind,
-    VideotexKind, VisibleKind,
+    PrintableKind, Repertoire, RestrictedString, StringKind, TeletexKind, TestValidCharset,
+    Utf8Kind, VideotexKind, VisibleKind,
 };
 use std::alloc::Global;
 use std::test::Fail;
@@ -46,7 +46,7 @@ Utf8String:
 ";
 
 /// Whether a string was read, which is this octet alone, or refused for its characters.
-fn is_read<K: StringKind>(
+fn is_read<K: StringKind<Characters: Repertoire>>(
     alloc: Global,
     answer: ParseResult<'_, RestrictedString<'_, K>, Error>,
     octet: u8,
@@ -79,7 +79,11 @@ fn is_valid(alloc: Global, answer: Result<(), Error>) -> Result<bool, Fail> {
 }
 
 /// Whether the octet alone is a text of the type, of which the reader and the test say the same.
-fn is_taken<K: StringKind>(alloc: Global, identifier: u8, octet: u8) -> Result<bool, Fail> {
+fn is_taken<K: StringKind<Characters: Repertoire>>(
+    alloc: Global,
+    identifier: u8,
+    octet: u8,
+) -> Result<bool, Fail> {
     let element = [identifier, 1, octet];
     let answer = RestrictedString::<'_, K>::from_ber(alloc, &element);
     let read = is_read::<K>(alloc, answer, octet)?;
@@ -101,7 +105,11 @@ fn push_edge(text: &mut String, taken: bool, octet: u8) -> Result<(), Fail> {
 }
 
 /// Appends the runs of octets that are taken.
-fn push_taken<K: StringKind>(text: &mut String, alloc: Global, octets: &[u8]) -> Result<(), Fail> {
+fn push_taken<K: StringKind<Characters: Repertoire>>(
+    text: &mut String,
+    alloc: Global,
+    octets: &[u8],
+) -> Result<(), Fail> {
     let identifier = octets.first().copied().unwrap_or(0);
     let mut before = false;
     for octet in 0..=255u8 {

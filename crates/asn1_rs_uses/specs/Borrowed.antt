@@ -5,6 +5,7 @@ use Rattle.asn1_headers.specs.Answers.{Front}
 use Rattle.asn1_rs.specs.Grammar.{BerWord, DerWord}
 use Rattle.asn1_rs.specs.Leaf.{Leaf, LeafBody}
 use Rattle.asn1_rs.specs.Strings.{string_leaf}
+use Rattle.asn1_rs.specs.declared.asn1_types.strings.InPlace.{InPlace}
 use Rattle.asn1_rs.specs.declared.asn1_types.strings.RestrictedString.{RestrictedString}
 use Rattle.asn1_rs.specs.declared.asn1_types.strings.kinds.Utf8Kind.{Utf8Kind}
 
@@ -13,7 +14,7 @@ abbrev pub LeafByDer : {S : Type 0} (L : Leaf S) → List ℕ → L.Value → Ty
 LeafByDer L = DerWord (λ p. L.constraints p (Ok tt)) (LeafBody L)
 
 -- the strings of the tag number of UTF8String
-abbrev pub utf8_string_leaf : Leaf (RestrictedString Utf8Kind)
+abbrev pub utf8_string_leaf : Leaf (RestrictedString Utf8Kind InPlace)
 utf8_string_leaf = string_leaf 12 IsUtf8
 
 -- an element by BER begins the octets, and these are its contents octets

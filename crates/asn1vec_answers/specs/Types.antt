@@ -43,8 +43,8 @@ use Rattle.asn1_rs.specs.declared.asn1_types.strings.kinds.Ia5Kind.{Ia5Kind}
 use Rattle.asn1_rs.specs.declared.asn1_types.strings.kinds.GraphicKind.{GraphicKind}
 use Rattle.asn1_rs.specs.declared.asn1_types.strings.kinds.VisibleKind.{VisibleKind}
 use Rattle.asn1_rs.specs.declared.asn1_types.strings.kinds.GeneralKind.{GeneralKind}
-use Rattle.asn1_rs.specs.declared.asn1_types.coded_strings.kinds.UniversalKind.{UniversalKind}
-use Rattle.asn1_rs.specs.declared.asn1_types.coded_strings.kinds.BmpKind.{BmpKind}
+use Rattle.asn1_rs.specs.declared.asn1_types.strings.kinds.UniversalKind.{UniversalKind}
+use Rattle.asn1_rs.specs.declared.asn1_types.strings.kinds.BmpKind.{BmpKind}
 use Rattle.asn1_rs.specs.Strings.{StringGives, string_leaf}
 use Rattle.asn1_rs.specs.CodedStrings.{coded_string_leaf}
 use Rattle.asn1_rs.specs.Times.{utc_time_leaf, utc_time_refused, generalized_time_leaf, generalized_time_refused}

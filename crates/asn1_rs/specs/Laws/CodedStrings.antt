@@ -1,17 +1,15 @@
 -- Strings whose text is decoded from their contents octets are lawful leaves.
-use Rattle.std.specs.Prelude.{◌≡◌, ◌<◌, ℕ, List, ◌↔◌, IsTrue, false, nat_eq, chars, encode_utf8_all}
-use Rattle.std.specs.Cmp.{unsigned_Decides}
-use Rattle.std.specs.Cmp.Lexicographic.{pointwise, pointwise_decides}
+use Rattle.std.specs.Prelude.{◌≡◌, ◌<◌, ℕ, List, false, chars, encode_utf8_all}
 use Rattle.std.proofs.Common.{◌∙◌, ap, sym, refl}
 use Rattle.std.proofs.lemmas.Str.{scalars-chars, encodes-chars}
 use Rattle.x690.specs.Characters.{IsCode, IsCharacterCode, code_of}
 use Rattle.x690.specs.Laws.Characters.{text_code}
 use Rattle.asn1_headers.specs.Tag.{is_container_number}
-use Rattle.asn1_rs.specs.declared.asn1_types.coded_strings.CodedString.{CodedString}
-use Rattle.asn1_rs.specs.CodedStrings.{IsCoded, coded_leaf, coded_string_leaf, text_of}
+use Rattle.asn1_rs.specs.CodedStrings.{IsCoded, coded_leaf, coded_string_leaf}
 use Rattle.asn1_rs.specs.Laws.Checks.{content_check_is, is_primitive_is}
 use Rattle.asn1_rs.specs.Leaf.{IsLawfulLeaf}
 use Rattle.x690.specs.Laws.Equality.{octets_set}
+use Rattle.asn1_rs.specs.Strings.{text_of}
 
 -- A leaf whose text stands in a code is lawful.
 pub coded_lawful : {S : Type 0} (number : ℕ) (code : List ℕ → List ℕ) (text : S → List ℕ) → number < 31 →
@@ -36,8 +34,3 @@ pub coded_string_lawful : {K : Type 0} (number : ℕ) (octets_of : ℕ → List 
     IsLawfulLeaf (coded_string_leaf {K = K} number octets_of)
 coded_string_lawful number octets_of small primitive is =
     coded_lawful number (code_of octets_of) text_of small primitive (text_code octets_of is)
-
--- strings are equal where their texts are
-pub coded_string_equal : {K : Type 0} (x y : CodedString K) →
-    IsTrue (pointwise nat_eq (text_of x) (text_of y)) ↔ (text_of x ≡ text_of y)
-coded_string_equal x y = pointwise_decides unsigned_Decides (text_of x) (text_of y)

@@ -56,6 +56,6 @@ module _ {K : Type 0} (number : ℕ) (IsText : List ℕ → Type 0) (small : num
   }
 
 -- strings are equal where their texts are
-pub string_equal : {K : Type 0} (x y : RestrictedString K) →
+pub string_equal : {K F : Type 0} (x y : RestrictedString K F) →
     IsTrue (pointwise nat_eq (text_of x) (text_of y)) ↔ (text_of x ≡ text_of y)
 string_equal x y = pointwise_decides unsigned_Decides (text_of x) (text_of y)

@@ -4,7 +4,6 @@ ghost use Rattle.std.specs.Prelude.{◌≡◌, ◌∷◌, []};
 pub mod any;
 pub mod bit_string;
 pub mod boolean;
-pub mod coded_strings;
 pub mod embedded_pdv;
 pub mod end_of_content;
 pub mod enumerated;

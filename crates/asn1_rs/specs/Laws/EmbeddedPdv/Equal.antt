@@ -81,9 +81,9 @@ identification_equal parts.Fixed (parts.TransferSyntax r) = (λ h. absurd (false
 identification_equal parts.Fixed parts.Fixed = (λ h. refl, λ e. refl)
 
 -- Descriptors are equal exactly where their texts are, or both are left out.
-descriptor_equal : {K : Type 0} (eq : RestrictedString K → RestrictedString K → Bool) →
-    ((x y : RestrictedString K) → IsTrue (eq x y) ↔ (text_of x ≡ text_of y)) →
-    (x y : Option (RestrictedString K)) → IsTrue (option_eq eq x y) ↔ (descriptor_text x ≡ descriptor_text y)
+descriptor_equal : {K F : Type 0} (eq : RestrictedString K F → RestrictedString K F → Bool) →
+    ((x y : RestrictedString K F) → IsTrue (eq x y) ↔ (text_of x ≡ text_of y)) →
+    (x y : Option (RestrictedString K F)) → IsTrue (option_eq eq x y) ↔ (descriptor_text x ≡ descriptor_text y)
 descriptor_equal eq h (Some x) (Some y) = trans_iff (h x y) (ap Some, λ e. cc)
 descriptor_equal eq h (Some x) None = (λ t. absurd (false≢true t), λ e. cc)
 descriptor_equal eq h None (Some y) = (λ t. absurd (false≢true t), λ e. cc)

@@ -6,7 +6,7 @@ ghost use Rattle.asn1_rs.specs.Any.{parts_of};
 ghost use Rattle.asn1_rs.specs.Any.Text.{GivesAnyText, LendsAnyText, is_utf8_number};
 
 use crate::asn1_types::any::Any;
-use crate::asn1_types::coded_strings::kinds::UniversalKind;
+use crate::asn1_types::strings::kinds::UniversalKind;
 use asn1_headers::error::Error;
 use asn1_headers::tag::Tag;
 use std::alloc::Global;

@@ -1,32 +1,20 @@
 //! Elements as strings.
 ghost use Rattle.std.specs.Prelude.{IsUtf8};
 ghost use Rattle.std.specs.Char.{is_ascii};
+ghost use Rattle.x690.specs.Characters.{utf16_octets_of, ucs4_octets_of};
 ghost use Rattle.x690.specs.Sets.{AllIn, is_numeric, is_printable, is_visible};
+ghost use Rattle.asn1_rs.specs.Any.{parts_of};
+ghost use Rattle.asn1_rs.specs.CodedStrings.{coded_string_leaf};
+ghost use Rattle.asn1_rs.specs.Leaf.{LeafTakes};
 ghost use Rattle.asn1_rs.specs.Strings.{StringGives};
 
 use crate::asn1_types::any::Any;
-use crate::asn1_types::strings::RestrictedString;
 use crate::asn1_types::strings::kinds::{
-    GeneralString, GraphicString, Ia5String, NumericString, ObjectDescriptor, PrintableString,
-    Repertoire, StringKind, TeletexString, Utf8String, VideotexString, VisibleString,
+    BmpString, GeneralString, GraphicString, Ia5String, NumericString, ObjectDescriptor,
+    PrintableString, TeletexString, UniversalString, Utf8String, VideotexString, VisibleString,
 };
-use crate::traits::Tagged;
 use asn1_headers::error::Error;
-
-impl<'a> Any<'a> {
-    /// The string of a type, of an element that stays.
-    #[inline(always)]
-    pub(crate) fn as_string_of<K: StringKind>(&self) -> Result<RestrictedString<'a, K>, Error>
-        ensures { StringGives (K.Number.TAG).0 K.Repertoire.IsText self.now result }
-    {
-        self.assert_number(K::Number::TAG)?;
-        if !K::Repertoire::is_text(self.content) {
-            return Err(Error::StringInvalidCharset);
-        }
-        let text = unsafe { str::from_utf8_unchecked(self.content) };
-        Ok(RestrictedString::new(text))
-    }
-}
+use std::alloc::Global;
 
 /// The text is the contents octets, which are borrowed, whether the element is primitive or constructed. Refused at
 /// another tag number with `UnexpectedTag`, then with `StringInvalidCharset` where the type has no such text.
@@ -169,5 +157,38 @@ impl<'a> Any<'a> {
         ensures { StringGives 27 (AllIn is_ascii) self.now result }
     {
         self.as_string_of()
+    }
+}
+
+/// The text is decoded from the contents octets, whether the element is primitive or constructed. Refused at another
+/// tag number with `UnexpectedTag`, then with `StringInvalidCharset` where the octets are no text in the code, then
+/// where memory is, with `OutOfMemory`.
+impl Any<'_> {
+    /// The `BmpString`.
+    pub fn bmpstring(self, alloc: Global) -> Result<BmpString<'static>, Error>
+        ensures { LeafTakes (coded_string_leaf 30 utf16_octets_of) (parts_of self.entry) result }
+    {
+        self.as_bmpstring(alloc)
+    }
+
+    /// The `BmpString`, of an element that stays.
+    pub fn as_bmpstring(&self, alloc: Global) -> Result<BmpString<'static>, Error>
+        ensures { LeafTakes (coded_string_leaf 30 utf16_octets_of) (parts_of self.now) result }
+    {
+        self.as_coded_string(alloc)
+    }
+
+    /// The `UniversalString`.
+    pub fn universalstring(self, alloc: Global) -> Result<UniversalString<'static>, Error>
+        ensures { LeafTakes (coded_string_leaf 28 ucs4_octets_of) (parts_of self.entry) result }
+    {
+        self.as_universalstring(alloc)
+    }
+
+    /// The `UniversalString`, of an element that stays.
+    pub fn as_universalstring(&self, alloc: Global) -> Result<UniversalString<'static>, Error>
+        ensures { LeafTakes (coded_string_leaf 28 ucs4_octets_of) (parts_of self.now) result }
+    {
+        self.as_coded_string(alloc)
     }
 }

@@ -1,13 +1,14 @@
-//! The ten types of strings whose contents octets are their text in UTF-8, by their tag numbers and characters.
+//! The twelve types of strings of characters, by their tag numbers and what their contents octets say.
 ghost use Rattle.std.specs.Prelude.{◌≡◌, ◌↔◌, ◌<◌, ◌∷◌, [], ℕ, List, IsTrue, IsUtf8, false, refl};
 ghost use Rattle.std.proofs.Common.{lit<};
 ghost use Rattle.x690.specs.Sets.{AllIn};
 ghost use Rattle.x690.specs.Laws.Sets.{in_set_utf8};
 ghost use Rattle.asn1_headers.specs.Tag.{is_container_number};
 
-use crate::asn1_types::strings::RestrictedString;
+use crate::asn1_types::strings::{CodedString, RestrictedString};
 use crate::kinds::TagNumber;
 use crate::traits::Tagged;
+use x690::characters::{Ucs4, Utf16};
 use x690::sets::{Ascii, CharacterSet, Numeric, Printable, Visible, all_in};
 
 /// Characters, by the texts that are made of them.
@@ -50,13 +51,14 @@ impl Repertoire for Unicode {
     ghost utf8 = { λ octets text. text };
 }
 
-/// A type of strings: its tag number, and its characters.
+/// A type of strings of characters: its tag number, and what its contents octets say.
 pub trait StringKind {
     /// A type with its tag number.
     type Number: Tagged;
 
-    /// Its characters.
-    type Repertoire: Repertoire;
+    /// Its characters, a [`Repertoire`], where the contents octets are the text; their code, a
+    /// [`CharacterCode`](crate::CharacterCode), where the text is decoded.
+    type Characters;
 
     /// Its name in debug texts.
     const NAME: &'static str;
@@ -74,7 +76,7 @@ pub struct DescriptorKind;
 impl StringKind for DescriptorKind {
     type Number = TagNumber<7>;
 
-    type Repertoire = Ascii;
+    type Characters = Ascii;
 
     const NAME: &'static str = "ObjectDescriptor";
 
@@ -89,7 +91,7 @@ pub struct Utf8Kind;
 impl StringKind for Utf8Kind {
     type Number = TagNumber<12>;
 
-    type Repertoire = Unicode;
+    type Characters = Unicode;
 
     const NAME: &'static str = "Utf8String";
 
@@ -104,7 +106,7 @@ pub struct NumericKind;
 impl StringKind for NumericKind {
     type Number = TagNumber<18>;
 
-    type Repertoire = Numeric;
+    type Characters = Numeric;
 
     const NAME: &'static str = "NumericString";
 
@@ -119,7 +121,7 @@ pub struct PrintableKind;
 impl StringKind for PrintableKind {
     type Number = TagNumber<19>;
 
-    type Repertoire = Printable;
+    type Characters = Printable;
 
     const NAME: &'static str = "PrintableString";
 
@@ -134,7 +136,7 @@ pub struct TeletexKind;
 impl StringKind for TeletexKind {
     type Number = TagNumber<20>;
 
-    type Repertoire = Visible;
+    type Characters = Visible;
 
     const NAME: &'static str = "TeletexString";
 
@@ -149,7 +151,7 @@ pub struct VideotexKind;
 impl StringKind for VideotexKind {
     type Number = TagNumber<21>;
 
-    type Repertoire = Visible;
+    type Characters = Visible;
 
     const NAME: &'static str = "VideotexString";
 
@@ -164,7 +166,7 @@ pub struct Ia5Kind;
 impl StringKind for Ia5Kind {
     type Number = TagNumber<22>;
 
-    type Repertoire = Ascii;
+    type Characters = Ascii;
 
     const NAME: &'static str = "Ia5String";
 
@@ -179,7 +181,7 @@ pub struct GraphicKind;
 impl StringKind for GraphicKind {
     type Number = TagNumber<25>;
 
-    type Repertoire = Ascii;
+    type Characters = Ascii;
 
     const NAME: &'static str = "GraphicString";
 
@@ -194,7 +196,7 @@ pub struct VisibleKind;
 impl StringKind for VisibleKind {
     type Number = TagNumber<26>;
 
-    type Repertoire = Visible;
+    type Characters = Visible;
 
     const NAME: &'static str = "VisibleString";
 
@@ -209,9 +211,39 @@ pub struct GeneralKind;
 impl StringKind for GeneralKind {
     type Number = TagNumber<27>;
 
-    type Repertoire = Ascii;
+    type Characters = Ascii;
 
     const NAME: &'static str = "GeneralString";
+
+    ghost small = { lit< tt };
+
+    ghost primitive = { refl };
+}
+
+/// Marks [`UniversalString`].
+pub struct UniversalKind;
+
+impl StringKind for UniversalKind {
+    type Number = TagNumber<28>;
+
+    type Characters = Ucs4;
+
+    const NAME: &'static str = "UniversalString";
+
+    ghost small = { lit< tt };
+
+    ghost primitive = { refl };
+}
+
+/// Marks [`BmpString`].
+pub struct BmpKind;
+
+impl StringKind for BmpKind {
+    type Number = TagNumber<30>;
+
+    type Characters = Utf16;
+
+    const NAME: &'static str = "BmpString";
 
     ghost small = { lit< tt };
 
@@ -248,7 +280,14 @@ pub type VisibleString<'a> = RestrictedString<'a, VisibleKind>;
 /// `GeneralString`: octets below 80.
 pub type GeneralString<'a> = RestrictedString<'a, GeneralKind>;
 
-/// The tag numbers of these types, in ascending order.
+/// `UniversalString`: any text, a character in four octets, the highest first (X.690 8.23.7).
+pub type UniversalString<'a> = CodedString<'a, UniversalKind>;
+
+/// `BMPString`: any text, in UTF-16, the highest octet of a unit first (X.690 8.23.8). Characters past the basic plane
+/// are pairs of units.
+pub type BmpString<'a> = CodedString<'a, BmpKind>;
+
+/// The tag numbers of the types whose contents octets are their text, in ascending order.
 pub fn numbers_of_strings() -> [u32; 10]
     ensures { result ≡ 7 ∷ 12 ∷ 18 ∷ 19 ∷ 20 ∷ 21 ∷ 22 ∷ 25 ∷ 26 ∷ 27 ∷ [] }
 {
@@ -264,4 +303,11 @@ pub fn numbers_of_strings() -> [u32; 10]
         VisibleString::TAG.0,
         GeneralString::TAG.0,
     ]
+}
+
+/// The tag numbers of the types whose text is decoded, in ascending order.
+pub fn numbers_of_coded_strings() -> [u32; 2]
+    ensures { result ≡ 28 ∷ 30 ∷ [] }
+{
+    [UniversalString::TAG.0, BmpString::TAG.0]
 }

@@ -3,7 +3,7 @@ use denote.Shadow.{shadow}
 use denote.Text.{Utf8}
 use Rattle.x690.specs.Characters.{code_of}
 use Rattle.asn1_headers.specs.Writer.{Wrote}
-use Rattle.asn1_rs.proofs.asn1_types.coded_strings.writing.put_text.Given as goal
+use Rattle.asn1_rs.proofs.asn1_types.strings.writing.put_text.Given as goal
 
 abbrev pub invariant-loop-rest : goal.invariant-loop-rest
 invariant-loop-rest g l =

@@ -7,7 +7,7 @@ use Rattle.x690.specs.Characters.{code_of}
 use Rattle.asn1_headers.specs.declared.error.SerializeError.{SerializeError}
 use Rattle.asn1_headers.specs.Writer.{WriterState, Wrote, SumsWritten}
 use Rattle.asn1_headers.specs.Laws.Writing.{Wrote_front, Wrote_then_err, Wrote_sum}
-use Rattle.asn1_rs.proofs.asn1_types.coded_strings.writing.put_text.Goals as goal
+use Rattle.asn1_rs.proofs.asn1_types.strings.writing.put_text.Goals as goal
 
 -- octets of which a front was written; what is left begins with a piece
 longer : (all front left piece more : List ℕ) → all ≡ front ++ left → left ≡ piece ++ more →

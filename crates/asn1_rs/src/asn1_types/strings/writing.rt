@@ -6,8 +6,8 @@ ghost use Rattle.asn1_rs.specs.CodedStrings.{coded_string_leaf, coded_octets};
 ghost use Rattle.asn1_rs.specs.Laws.CodedStrings.{coded_string_lawful};
 ghost use Rattle.asn1_rs.specs.Laws.Leaf.{copying_written};
 
-use crate::asn1_types::coded_strings::CodedString;
-use crate::asn1_types::coded_strings::kinds::CodedKind;
+use crate::asn1_types::strings::CodedString;
+use crate::asn1_types::strings::kinds::StringKind;
 use crate::kinds::writing::WritesElement;
 use asn1_headers::error::{Error, SerializeResult};
 use asn1_headers::writer::{DerWrite, add_written, put_all};
@@ -33,17 +33,18 @@ fn put_text<C: CharacterCode, W: DerWrite>(text: &str, w: &mut W) -> SerializeRe
     Ok(written)
 }
 
-impl<K: CodedKind> WritesElement for CodedString<'_, K> {
-    ghost octets = { coded_octets K.Code.octets_of };
+impl<K: StringKind<Characters: CharacterCode>> WritesElement for CodedString<'_, K> {
+    ghost octets = { coded_octets K.Characters.octets_of };
 
     fn count_octets(&self) -> Result<usize, Error> {
-        coded_len::<K::Code>(self.as_str()).ok_or(Error::InvalidLength)
+        coded_len::<K::Characters>(self.as_str()).ok_or(Error::InvalidLength)
     }
 
     fn put_octets<W: DerWrite>(&self, w: &mut W) -> SerializeResult<usize> {
-        put_text::<K::Code, W>(self.as_str(), w)
+        put_text::<K::Characters, W>(self.as_str(), w)
     }
 
-    ghost written = { copying_written (coded_string_leaf (K.Number.TAG).0 K.Code.octets_of)
-        (coded_string_lawful (K.Number.TAG).0 K.Code.octets_of K.small K.primitive K.Code.is) };
+    ghost written = { copying_written (coded_string_leaf (K.Number.TAG).0 K.Characters.octets_of)
+        (coded_string_lawful (K.Number.TAG).0 K.Characters.octets_of K.small K.primitive
+        K.Characters.is) };
 }
