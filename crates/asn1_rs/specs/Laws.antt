@@ -23,6 +23,7 @@ pub mod BitString
 pub mod Integer
 pub mod Enumerated
 pub mod Times
+pub mod TimeOrder
 pub mod Sequence
 pub mod Lists
 pub mod Set

@@ -2,12 +2,11 @@
 use Rattle.std.specs.Prelude.{◌≡◌, ◌⊎◌, ℕ, ◌<◌, ◌^◌, pos, negsuc, ◌≤ℤ◌, List, Bool, ◌&&◌, not, nat_le, Option, Some}
 use Rattle.std.specs.Prelude.{None, true, false, codes, Result, Ok, Err}
 use Rattle.std.specs.Option.{option_cmp}
-use Rattle.std.specs.Ordering.{int_cmp, nat_cmp, ordering_then}
+use Rattle.std.specs.Ordering.{nat_cmp, ordering_then}
 use Rattle.std.specs.declared.cmp.Ordering.{Ordering}
-use Rattle.std.specs.declared.cmp.Ordering.TheVariants.{Less, Equal, Greater}
 use Rattle.x690.specs.Sets.{AllIn, is_visible}
 use Rattle.x690.specs.Times.{SaysUtcTime, SaysGeneralizedTime, IsStrictUtcTime, IsStrictGeneralizedTime}
-use Rattle.x690.specs.Times.{MostMilliseconds, EndsInZ, HasComma, utc_time_text, generalized_time_text}
+use Rattle.x690.specs.Times.{MostMilliseconds, EndsInZ, HasComma, utc_time_text, generalized_time_text, zone_cmp}
 use Rattle.x690.specs.declared.times.Moment.{Moment}
 use Rattle.x690.specs.declared.times.TimeZone.{TimeZone}
 use Rattle.x690.specs.declared.times.TimeZone.TheVariants.{Undefined, Z, Offset}
@@ -155,19 +154,9 @@ generalized_time_refused m = not (fits_text 9999 m)
 
 -- The order of times.
 
--- none defined is before Z, and Z before an offset; offsets go by their hours, and then by their minutes
-abbrev pub zone_cmp : TimeZone → TimeZone → Ordering
-zone_cmp Undefined Undefined = Equal
-zone_cmp Undefined _ = Less
-zone_cmp Z Undefined = Greater
-zone_cmp Z Z = Equal
-zone_cmp Z (Offset hours minutes) = Less
-zone_cmp (Offset hours minutes) (Offset others rest) = ordering_then (int_cmp hours others) (int_cmp minutes rest)
-zone_cmp (Offset hours minutes) _ = Greater
-
 -- by the year, then the month, and so on; no milliseconds are before some
 abbrev pub moment_cmp : Moment → Moment → Ordering
-moment_cmp m n = ordering_then (ordering_then (ordering_then (ordering_then (ordering_then (ordering_then (ordering_then
-    (nat_cmp m.year n.year) (nat_cmp m.month n.month)) (nat_cmp m.day n.day)) (nat_cmp m.hour n.hour))
-    (nat_cmp m.minute n.minute)) (nat_cmp m.second n.second))
-    (option_cmp nat_cmp m.millisecond n.millisecond)) (zone_cmp m.zone n.zone)
+moment_cmp m n = ordering_then (nat_cmp m.year n.year) (ordering_then (nat_cmp m.month n.month) (ordering_then
+    (nat_cmp m.day n.day) (ordering_then (nat_cmp m.hour n.hour) (ordering_then (nat_cmp m.minute n.minute)
+    (ordering_then (nat_cmp m.second n.second) (ordering_then (option_cmp nat_cmp m.millisecond n.millisecond)
+    (zone_cmp m.zone n.zone)))))))

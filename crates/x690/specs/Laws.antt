@@ -20,6 +20,7 @@ pub mod Ascending
 pub mod Collections
 pub mod Sets
 pub mod TimeTexts
+pub mod TimeOrders
 pub mod Words
 pub mod Equality
 pub mod Times

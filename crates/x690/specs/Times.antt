@@ -4,6 +4,9 @@ use Rattle.std.specs.Prelude.{◌≡◌, ◌≢◌, ◌⊎◌, ℕ, zero, suc, �
 use Rattle.std.specs.Prelude.{◌++◌, length, replicate, decimal, ℤ, pos, neg_ℤ, unsigned_abs, int_lt, Bool, not, ◌&&◌}
 use Rattle.std.specs.Prelude.{◌||◌, codes, nat_lt, nat_eq, Option, Some, None, if◌then◌else◌, IsTrue, slice_get}
 use Rattle.std.specs.List.{list_any}
+use Rattle.std.specs.Ordering.{int_cmp, ordering_then}
+use Rattle.std.specs.declared.cmp.Ordering.{Ordering}
+use Rattle.std.specs.declared.cmp.Ordering.TheVariants.{Less, Equal, Greater}
 use Rattle.x690.specs.declared.times.Moment.{Moment}
 use Rattle.x690.specs.declared.times.TimeZone.{TimeZone}
 use Rattle.x690.specs.declared.times.TimeZone.TheVariants.{Undefined, Z, Offset}
@@ -95,6 +98,18 @@ SaysUtcTime = SaysTime 2 SaysUtcEnd
 abbrev pub SaysGeneralizedTime : List ℕ → Moment → Type 0
 SaysGeneralizedTime = SaysTime 4 SaysGeneralizedEnd
 
+-- The order of zones.
+
+-- none defined is before Z, and Z before an offset; offsets go by their hours, and then by their minutes
+abbrev pub zone_cmp : TimeZone → TimeZone → Ordering
+zone_cmp Undefined Undefined = Equal
+zone_cmp Undefined _ = Less
+zone_cmp Z Undefined = Greater
+zone_cmp Z Z = Equal
+zone_cmp Z (Offset hours minutes) = Less
+zone_cmp (Offset hours minutes) (Offset others rest) = ordering_then (int_cmp hours others) (int_cmp minutes rest)
+zone_cmp (Offset hours minutes) _ = Greater
+
 -- What is written.
 
 -- Milliseconds: a point and three digits, with no zeros at the end;
@@ -121,6 +136,15 @@ EndsInZ text = slice_get text (length text - 1) ≡ Some 90
 -- one of its octets is the comma
 abbrev pub HasComma : List ℕ → Type 0
 HasComma text = IsTrue (list_any (λ octet. nat_eq octet 44) text)
+
+-- one of its octets is the point
+abbrev pub HasPoint : List ℕ → Type 0
+HasPoint text = IsTrue (list_any (λ octet. nat_eq octet 46) text)
+
+-- the octet with so many behind it is a digit from 1 to 9
+abbrev pub HasDigitBefore : ℕ → List ℕ → Type 0
+HasDigitBefore behind text =
+    (digit : ℕ) × (slice_get text (length text - suc behind) ≡ Some digit) × (49 ≤ digit) × (digit ≤ 57)
 
 -- at most so many milliseconds, where there are some
 abbrev pub MostMilliseconds : ℕ → Option ℕ → Type 0

@@ -1,7 +1,7 @@
 -- Laws of the strict texts of times.
-use Rattle.std.proofs.Common.{◌≡◌, ◌≢◌, ℕ, zero, suc, ◌+◌, ◌-◌, ◌/◌, ◌%◌, ◌<◌, ◌≤◌, ◌==◌, Bool, true, false, List, []}
+use Rattle.std.proofs.Common.{◌≡◌, ◌≢◌, ◌⊎◌, ℕ, zero, suc, ◌+◌, ◌-◌, ◌/◌, ◌%◌, ◌<◌, ◌≤◌, ◌==◌, Bool, true, false, List, []}
 use Rattle.std.proofs.Common.{◌∷◌, ◌++◌, inl, inr, length, length-append, decimal, Option, Some, None, IsTrue}
-use Rattle.std.proofs.Common.{if◌then◌else◌, nat_lt, nat_eq, get_or, refl, ap, subst, sym, arith}
+use Rattle.std.proofs.Common.{if◌then◌else◌, nat_lt, nat_eq, get_or, append_assoc, refl, ap, subst, sym, ◌∙◌, arith}
 use Rattle.std.specs.List.{list_all, list_any}
 use Rattle.std.specs.Int.{is_in_range}
 use Rattle.std.specs.Fmt.{digits_onto, digit_glyph, digits}
@@ -12,7 +12,8 @@ use Rattle.std.proofs.lemmas.Option.{slice_get_read}
 use Rattle.std.proofs.Math.Seq.{get_or-append_seam}
 use Rattle.x690.specs.Octets.{IsOctets}
 use Rattle.x690.specs.Sets.{is_visible}
-use Rattle.x690.specs.Times.{z_text, to_minute, EndsInZ, HasComma, SaysFraction, SaysUtcTime, SaysGeneralizedTime}
+use Rattle.x690.specs.Times.{z_text, to_minute, EndsInZ, HasComma, HasDigitBefore, HasPoint, SaysFraction}
+use Rattle.x690.specs.Times.{SaysUtcTime, SaysGeneralizedTime}
 use Rattle.x690.specs.Times.{fraction_text, utc_time_text, generalized_time_text, MostMilliseconds, FitsText}
 use Rattle.x690.specs.Times.{FitsUtcTime, FitsGeneralizedTime, IsStrictMoment, IsStrictUtcTime, IsStrictGeneralizedTime}
 use Rattle.x690.specs.Times.{digits as decimal_digits}
@@ -226,3 +227,80 @@ generalized_length m h =
     let l = length-append (fraction_text m.millisecond) z_text in
     let f = fraction_length m.millisecond h in
     (omega (arith, l), omega (arith, l, f))
+
+-- Fractions end in no 0.
+
+-- nothing, or octets and a digit from 1 to 9
+abbrev EndsInDigit : List ℕ → Type 0
+EndsInDigit fraction =
+    (fraction ≡ []) ⊎ ((front : List ℕ) × (digit : ℕ) × (fraction ≡ front ++ digit ∷ []) × (49 ≤ digit) × (digit ≤ 57))
+
+some_fraction_ends : (n : ℕ) → 0 < n → n ≤ 999 → (front : List ℕ) × (digit : ℕ) ×
+    (fraction_text (Some n) ≡ front ++ digit ∷ []) × (49 ≤ digit) × (digit ≤ 57)
+some_fraction_ends n positive most =
+    let some : n ≢ 0 = omega (arith, positive) in
+    elim (cases_eq (n % 100) 0) as (λ _. (front : List ℕ) × (digit : ℕ) ×
+    (fraction_text (Some n) ≡ front ++ digit ∷ []) × (49 ≤ digit) × (digit ≤ 57)) [
+      | inl d ↦ (46 ∷ [], 48 + n / 100 % 10, one_digit n some most d, omega arith, omega arith)
+      | inr d ↦ elim (cases_eq (n % 10) 0) as (λ _. (front : List ℕ) × (digit : ℕ) ×
+          (fraction_text (Some n) ≡ front ++ digit ∷ []) × (49 ≤ digit) × (digit ≤ 57)) [
+            | inl e ↦ (46 ∷ decimal_digits 1 (n / 10 / 10), 48 + n / 10 % 10, two_digits n some most d e, omega arith, omega arith)
+            | inr e ↦ (46 ∷ decimal_digits 2 (n / 10), 48 + n % 10, three_digits n some most d e, omega arith, omega arith)
+          ]
+    ]
+
+digit_before : (front behind : List ℕ) (digit : ℕ) → 49 ≤ digit → digit ≤ 57 →
+    HasDigitBefore (length behind) (front ++ digit ∷ behind)
+digit_before front behind digit low high =
+    let text = front ++ digit ∷ behind in
+    let len : length text ≡ length front + suc (length behind) = length-append front (digit ∷ behind) in
+    let at : length text - suc (length behind) ≡ length front = omega (arith, len) in (
+      digit,
+      slice_get_read text (length text) (length text - suc (length behind)) digit refl (omega (arith, len))
+          (subst (λ (i : ℕ). digit ≡ get_or text i digit) (sym at) (sym (get_or-append_seam front digit behind digit))),
+      low,
+      high,
+    )
+
+-- The last octet of the fraction of 1 to 999 milliseconds is a digit from 1 to 9.
+pub fraction_ends_in_digit : (n : ℕ) → 0 < n → n ≤ 999 → HasDigitBefore 0 (fraction_text (Some n))
+fraction_ends_in_digit n positive most =
+    let found = some_fraction_ends n positive most in
+    subst (HasDigitBefore 0) (sym found.2) (digit_before found.0 [] found.1 found.3 found.4)
+
+fraction_ends : (m : Option ℕ) → MostMilliseconds 999 m → EndsInDigit (fraction_text m)
+fraction_ends None most = inl refl
+fraction_ends (Some n) most = elim (cases_eq n 0) as (λ _. EndsInDigit (fraction_text (Some n))) [
+  | inl e ↦ inl (ap (λ (k : ℕ). fraction_text (Some k)) e)
+  | inr e ↦ inr (some_fraction_ends n (omega (arith, e)) most)
+]
+
+-- the octets before the fraction
+abbrev before_fraction : Moment → List ℕ
+before_fraction m = decimal_digits 4 m.year ++ to_minute m ++ decimal_digits 2 m.second
+
+digit_is_no_point : (n : ℕ) → nat_eq (48 + n % 10) 46 ≡ false
+digit_is_no_point n = grind (arith, nat_tests)
+
+no_point : (m : Moment) → list_any (λ octet. nat_eq octet 46) (before_fraction m ++ z_text) ≡ false
+no_point m = simp digit_is_no_point
+
+text_ends : (m : Moment) (fraction : List ℕ) → EndsInDigit fraction → HasPoint (before_fraction m ++ fraction ++ z_text) →
+    HasDigitBefore 1 (before_fraction m ++ fraction ++ z_text)
+text_ends m fraction (inl e) point =
+    let none = no_point m in
+    let some = subst (λ (xs : List ℕ). HasPoint (before_fraction m ++ xs ++ z_text)) e point in
+    absurd cc
+text_ends m fraction (inr found) point =
+    let front = found.0 in
+    let digit = found.1 in
+    let is : before_fraction m ++ fraction ++ z_text ≡ (before_fraction m ++ front) ++ digit ∷ z_text =
+    ap (λ (xs : List ℕ). before_fraction m ++ xs ++ z_text) found.2
+    ∙ ap (λ (xs : List ℕ). before_fraction m ++ xs) (append_assoc front (digit ∷ []) z_text)
+    ∙ sym (append_assoc (before_fraction m) front (digit ∷ z_text)) in
+    subst (HasDigitBefore 1) (sym is) (digit_before (before_fraction m ++ front) z_text digit found.3 found.4)
+
+-- Where there is a point in the text of a GeneralizedTime, the octet before the Z is a digit from 1 to 9.
+pub generalized_omits_zeros : (m : Moment) → MostMilliseconds 999 m.millisecond → HasPoint (generalized_time_text m) →
+    HasDigitBefore 1 (generalized_time_text m)
+generalized_omits_zeros m most = text_ends m (fraction_text m.millisecond) (fraction_ends m.millisecond most)

@@ -1,10 +1,12 @@
 //! The strict texts of times (X.690 11.7, 11.8).
-ghost use Rattle.std.specs.Prelude.{ℕ, ◌≡◌, ◌+◌, ◌/◌, ◌%◌, ◌≤◌, ◌↔◌, ◌++◌, List, length, take, IsTrue, IsSome, IfSome};
+ghost use Rattle.std.specs.Prelude.{ℕ, ◌≡◌, ◌+◌, ◌/◌, ◌%◌, ◌<◌, ◌≤◌, ◌↔◌, ◌++◌, List, [], length, take, IsTrue};
+ghost use Rattle.std.specs.Prelude.{IsSome, IfSome, Some};
 ghost use Rattle.std.specs.List.{list_all};
 ghost use Rattle.std.specs.Int.{is_in_range};
 ghost use Rattle.x690.specs.Octets.{IsOctets};
 ghost use Rattle.x690.specs.Times.{SaysUtcTime, SaysGeneralizedTime, z_text, fraction_text, utc_time_text};
-ghost use Rattle.x690.specs.Times.{generalized_time_text, EndsInZ, HasComma, MostMilliseconds, FitsText, FitsUtcTime};
+ghost use Rattle.x690.specs.Times.{generalized_time_text, EndsInZ, HasComma, HasDigitBefore, HasPoint, FitsText};
+ghost use Rattle.x690.specs.Times.{FitsUtcTime, MostMilliseconds};
 ghost use Rattle.x690.specs.Times.{FitsGeneralizedTime, IsStrictUtcTime, IsStrictGeneralizedTime};
 ghost use Rattle.x690.specs.declared.times.Moment.{Moment};
 
@@ -47,6 +49,15 @@ pub fn strict_texts_are_short()
 pub fn generalized_texts_end_in_z()
     ensures zone { (m : Moment) → EndsInZ (generalized_time_text m) }
     ensures point { (m : Moment) → ¬ HasComma (generalized_time_text m) }
+{}
+
+/// A fraction of 1 to 999 milliseconds ends in a digit from 1 to 9, and 0 milliseconds have none (X.690 11.7.3). So
+/// `.300` is the fraction of no time, since its last octet is 30.
+pub fn fractions_omit_zeros()
+    ensures fraction { (n : ℕ) → 0 < n → n ≤ 999 → HasDigitBefore 0 (fraction_text (Some n)) }
+    ensures none { fraction_text (Some 0) ≡ [] }
+    ensures text { (m : Moment) → MostMilliseconds 999 m.millisecond → HasPoint (generalized_time_text m)
+        → HasDigitBefore 1 (generalized_time_text m) }
 {}
 
 /// The strict text of a GeneralizedTime.

@@ -7,7 +7,8 @@ ghost use Rattle.asn1_rs.specs.LeafReading.{leaf_reading};
 ghost use Rattle.asn1_rs.specs.Laws.Leaf.{leaf_exact, refusing_written};
 ghost use Rattle.asn1_rs.specs.Laws.Times.{generalized_time_lawful, generalized_time_accepted, times_equal};
 ghost use Rattle.asn1_rs.specs.Times.{generalized_time_leaf};
-ghost use Rattle.asn1_rs.specs.Times.{GeneralizedTextGives, moment_of, generalized_time_refused, IsInvalidDateTime};
+ghost use Rattle.asn1_rs.specs.Times.{GeneralizedTextGives, IsInvalidDateTime, generalized_time_refused, moment_cmp, moment_of};
+ghost use Rattle.asn1_rs.specs.Laws.TimeOrder.{times_agree, times_tie, times_total};
 
 use super::{ASN1DateTime, no_time};
 use crate::asn1_types::any::Any;
@@ -21,14 +22,30 @@ use asn1_headers::header::writing::put_header;
 use asn1_headers::tag::Tag;
 use asn1_headers::writer::{DerWrite, put_all};
 use std::alloc::Global;
+use std::cmp::Ordering;
 use std::fmt;
 use x690::times::reading::read_generalized_time;
 use x690::times::shown::ShownGeneralizedTime;
 use x690::times::writing::write_generalized_time;
 
 /// A time of the type GeneralizedTime (X.680 46).
-#[derive(Debug, Drop, PartialEq, Eq, PartialOrd, Ord)]
+#[derive(Debug, Drop, PartialEq, Eq, PartialOrd)]
 pub struct GeneralizedTime(pub ASN1DateTime);
+
+/// The order of the fields, as of [`ASN1DateTime`].
+impl Ord for GeneralizedTime {
+    ghost cmp = { λ a b. moment_cmp (moment_of a.0) (moment_of b.0) };
+
+    ghost total = { times_total (λ t. t.0) };
+
+    ghost matches_partial_cmp = { λ a b. times_agree a.0 b.0 };
+
+    ghost matches_eq = { λ a b. times_tie a.0 b.0 };
+
+    fn cmp(&self, other: &GeneralizedTime) -> Ordering {
+        self.0.cmp(&other.0)
+    }
+}
 
 impl GeneralizedTime {
     /// The time of these fields. None of them is judged.

@@ -5,6 +5,7 @@ ghost use Rattle.asn1_rs.specs.Checks.{but_text};
 ghost use Rattle.asn1_rs.specs.Leaf.{HaveOneRefusalUpTo};
 ghost use Rattle.asn1_rs.specs.Times.{moment_cmp, moment_of, IsMoment, IsZone, RefusesText, utc_time_leaf};
 ghost use Rattle.asn1_rs.specs.Times.{generalized_time_leaf};
+ghost use Rattle.asn1_rs.specs.Laws.TimeOrder.{times_agree, times_tie, times_total};
 
 pub mod civil;
 pub mod generalized_time;
@@ -21,7 +22,7 @@ use x690::times::{Moment, TimeZone};
 
 /// The fields of a time. A caller may make any; which of them are read and written, the types of times say.
 /// The year of a UTCTime is that in its century.
-#[derive(Clone, Debug, Drop, PartialEq, Eq, PartialOrd, Ord)]
+#[derive(Clone, Debug, Drop, PartialEq, Eq, PartialOrd)]
 pub struct ASN1DateTime {
     /// The year.
     pub year: u32,
@@ -39,6 +40,22 @@ pub struct ASN1DateTime {
     pub millisecond: Option<u16>,
     /// The zone.
     pub tz: ASN1TimeZone,
+}
+
+/// Times are in the order of their fields, from the year to the zone. A zone is the last field, so this is not the order
+/// on a clock.
+impl Ord for ASN1DateTime {
+    ghost cmp = { λ a b. moment_cmp (moment_of a) (moment_of b) };
+
+    ghost total = { times_total (λ t. t) };
+
+    ghost matches_partial_cmp = { times_agree };
+
+    ghost matches_eq = { times_tie };
+
+    fn cmp(&self, other: &ASN1DateTime) -> Ordering {
+        self.moment().cmp(&other.moment())
+    }
 }
 
 /// The zone of a time.
@@ -183,8 +200,8 @@ fn no_time(octets: &[u8], tag: Tag) -> Error
     }
 }
 
-/// Which of two times comes first by their fields, from the year to the zone: the order that `cmp` answers. Where
-/// they are equal so, `==` tells so too. A zone is the last field, so this is not the order on a clock.
+/// Which of two times comes first by their fields: the order that `cmp` answers. Where they are equal so, `==` tells so
+/// too.
 pub fn order_of_times(a: &ASN1DateTime, b: &ASN1DateTime) -> Ordering
     ensures order { result ≡ moment_cmp (moment_of a.now) (moment_of b.now) }
 {

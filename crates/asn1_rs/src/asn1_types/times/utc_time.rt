@@ -7,8 +7,9 @@ ghost use Rattle.asn1_rs.specs.Leaf.{LeafGives};
 ghost use Rattle.asn1_rs.specs.LeafReading.{leaf_reading};
 ghost use Rattle.asn1_rs.specs.Laws.Leaf.{leaf_exact, refusing_written};
 ghost use Rattle.asn1_rs.specs.Laws.Times.{utc_time_lawful, utc_time_accepted, times_equal};
-ghost use Rattle.asn1_rs.specs.Times.{utc_time_leaf, UtcTextGives, moment_of, utc_time_refused};
+ghost use Rattle.asn1_rs.specs.Times.{utc_time_leaf, UtcTextGives, moment_cmp, moment_of, utc_time_refused};
 ghost use Rattle.asn1_rs.specs.Times.{IsInvalidDateTime};
+ghost use Rattle.asn1_rs.specs.Laws.TimeOrder.{times_agree, times_tie, times_total};
 
 use super::{ASN1DateTime, no_time};
 use crate::asn1_types::any::Any;
@@ -20,14 +21,30 @@ use asn1_headers::error::{Error, SerializeError, SerializeResult};
 use asn1_headers::tag::Tag;
 use asn1_headers::writer::{DerWrite, put_all};
 use std::alloc::Global;
+use std::cmp::Ordering;
 use std::fmt;
 use x690::times::reading::read_utc_time;
 use x690::times::shown::ShownUtcTime;
 use x690::times::writing::write_utc_time;
 
 /// A time of the type UTCTime, whose year is that in its century: from 0 to 99, as it was read (X.680 47).
-#[derive(Debug, Drop, PartialEq, Eq, PartialOrd, Ord)]
+#[derive(Debug, Drop, PartialEq, Eq, PartialOrd)]
 pub struct UtcTime(pub ASN1DateTime);
+
+/// The order of the fields, as of [`ASN1DateTime`].
+impl Ord for UtcTime {
+    ghost cmp = { λ a b. moment_cmp (moment_of a.0) (moment_of b.0) };
+
+    ghost total = { times_total (λ t. t.0) };
+
+    ghost matches_partial_cmp = { λ a b. times_agree a.0 b.0 };
+
+    ghost matches_eq = { λ a b. times_tie a.0 b.0 };
+
+    fn cmp(&self, other: &UtcTime) -> Ordering {
+        self.0.cmp(&other.0)
+    }
+}
 
 impl UtcTime {
     /// The time of these fields. None of them is judged.
