@@ -1,4 +1,5 @@
 -- What readers of elements and of contents octets say of more octets, and that they have one refusal.
+pub mod Text
 pub mod Value
 pub mod Writing
 use Rattle.std.proofs.Common.{◌≡◌, ◌∙◌, inl, inr, refl, subst, ap, sym, ℕ, List, [], ◌++◌, append_assoc, append-nil}

@@ -20,15 +20,18 @@ use Rattle.asn1_headers.specs.declared.error.Error.{Error}
 use Rattle.asn1_rs.specs.declared.asn1_types.any.Any.{Any}
 use Rattle.asn1_rs.specs.declared.asn1_types.oid.Oid.{Oid}
 use Rattle.asn1_rs.specs.Any.{parts_of}
-use Rattle.asn1_rs.specs.Checks.{IsCheck, is_counted, is_primitive}
+use Rattle.asn1_rs.specs.Checks.{CheckGives, IsCheck, has_number, is_counted, is_primitive}
 use Rattle.asn1_rs.specs.Grammar.{made, of_class, FormNumber, FormTakes, TakesBody}
 use Rattle.asn1_rs.specs.Grammar.Form.{header_of, universal}
 use Rattle.asn1_rs.specs.Grammar.Item.{IsLawfulWriting}
 use Rattle.asn1_rs.specs.Kinds.{IsLawfulElement, IsExactCheck, IsExactConversion, item_grammar}
-use Rattle.asn1_rs.specs.Laws.Checks.{before_is, exact_check, is_counted_is, is_primitive_is}
+use Rattle.asn1_rs.specs.Leaf.{HasOneRefusalUpTo}
+use Rattle.asn1_rs.specs.Laws.Checks.{before_is, exact_check, has_number_is, is_counted_is, is_primitive_is}
+use Rattle.asn1_rs.specs.Laws.Checks.{one_refusal_of_checks}
 use Rattle.asn1_rs.specs.Laws.Forms.{nothing_refused, universal_fits, universal_one, universal_value}
 use Rattle.asn1_rs.specs.Oid.{OidValue, IsStrictOid, OidGives, absolute, oid_constraints, oid_element, oid_header}
-use Rattle.asn1_rs.specs.Oid.{OidValue-set, oid_number, oid_octets, oid_value, oid_writing, written_number}
+use Rattle.asn1_rs.specs.Oid.{OidValue-set, LendsOid, ber_relative_check, der_relative_check, oid_number, oid_octets}
+use Rattle.asn1_rs.specs.Oid.{oid_value, oid_writing, relative_number, written_number}
 use Rattle.asn1_rs.specs.ToDer.{IsWritable}
 use Rattle.std.proofs.Math.Bool.{Bool-set}
 use Rattle.x690.specs.Laws.Equality.{octets_set}
@@ -76,6 +79,21 @@ oid_lawful = record {
 -- Their constraints are a check.
 pub oid_constraints_are : IsCheck oid_constraints
 oid_constraints_are = before_is is_primitive is_counted is_primitive_is is_counted_is
+
+-- Taking contents octets as an identifier behind a check has the one refusal of the check.
+pub lends_oid_one_refusal : (relative : Bool) (check : CheckGives) → IsCheck check →
+    HasOneRefusalUpTo (λ (e : Error). e) (LendsOid relative check)
+lends_oid_one_refusal relative check c =
+    one_refusal_of_checks check c (LendsOid relative check) (λ p x h. h.0) (λ p e h. h)
+
+-- The checks of a relative identifier by BER are a check.
+pub ber_relative_check_is : IsCheck ber_relative_check
+ber_relative_check_is = before_is is_primitive (has_number relative_number) is_primitive_is (has_number_is relative_number)
+
+-- So are those by DER.
+pub der_relative_check_is : IsCheck der_relative_check
+der_relative_check_is =
+    before_is (has_number relative_number) oid_constraints (has_number_is relative_number) oid_constraints_are
 
 -- The constraints are exact.
 pub oid_checked : IsExactCheck oid_constraints oid_element.Check

@@ -2,7 +2,7 @@
 
 mod checks;
 mod integers;
-mod texts;
+pub(crate) mod texts;
 mod writing;
 
 ghost use Rattle.std.specs.Prelude.{◌≡◌, ℕ, false, length, None, Ok};

@@ -1,9 +1,15 @@
 //! The texts of elements of several types of strings (X.690 8.23, X.680 41).
 //!
 //! The tag number says how the contents octets are read, and is all that is looked at beside them.
-ghost use Rattle.std.specs.Prelude.{◌≡◌};
+ghost use Rattle.std.specs.Prelude.{◌≡◌, Ok, Err};
+ghost use Rattle.std.specs.declared.alloc.Global.{Global};
+ghost use Rattle.std.specs.declared.borrow.CowStr.{CowStr};
+ghost use Rattle.x690.specs.Elements.{Parts};
+ghost use Rattle.asn1_headers.specs.declared.error.Error.{Error};
+ghost use Rattle.asn1_headers.specs.declared.error.Error.TheVariants as errors;
 ghost use Rattle.asn1_rs.specs.Any.{parts_of};
 ghost use Rattle.asn1_rs.specs.Any.Text.{GivesAnyText, LendsAnyText, is_utf8_number};
+ghost use Rattle.asn1_rs.specs.Leaf.{HasOneRefusalUpTo};
 
 use crate::asn1_types::any::Any;
 use crate::asn1_types::strings::kinds::UniversalKind;
@@ -62,3 +68,13 @@ impl<'a> Any<'a> {
         }
     }
 }
+
+/// An element has one refusal by [`Any::as_any_string`], and none where it has a text. By [`Any::as_any_str`] it has one
+/// too, and beside a text none but `OutOfMemory`.
+pub fn any_texts_have_one_refusal()
+    ensures lent { HasOneRefusalUpTo (λ (e : Error). e) LendsAnyText }
+    ensures one { (p : Parts) (e f : Error) → GivesAnyText p (Err e) → GivesAnyText p (Err f) →
+        e ≡ f }
+    ensures none { (p : Parts) (text : CowStr Global) (e : Error) → GivesAnyText p (Ok text) →
+        GivesAnyText p (Err e) → e ≡ errors.OutOfMemory }
+{}

@@ -7,7 +7,7 @@
 mod arcs;
 pub mod iterator;
 pub(crate) mod making;
-mod relative;
+pub(crate) mod relative;
 mod text;
 mod writing;
 

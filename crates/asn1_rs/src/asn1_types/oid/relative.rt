@@ -3,7 +3,9 @@ ghost use Rattle.std.specs.Prelude.{◌≡◌, true};
 ghost use Rattle.asn1_headers.specs.Answers.{seen};
 ghost use Rattle.asn1_rs.specs.Any.{parts_of};
 ghost use Rattle.asn1_rs.specs.Checks.{has_number};
-ghost use Rattle.asn1_rs.specs.Oid.{LendsOid, ber_relative_check, der_relative_check, relative_number};
+ghost use Rattle.asn1_headers.specs.declared.error.Error.{Error};
+ghost use Rattle.asn1_rs.specs.Leaf.{HasOneRefusalUpTo};
+ghost use Rattle.asn1_rs.specs.Oid.{LendsOid, ber_relative_check, der_relative_check, oid_constraints, relative_number};
 ghost use Rattle.asn1_rs.specs.Traits.{BerGives, DerGives, OfParts, PassesAll};
 ghost use Rattle.asn1_rs.specs.Sequence.Iterator.{IsSame};
 
@@ -82,3 +84,13 @@ impl<'a> Any<'a> {
         Ok(Oid::new_relative(CowSlice::Borrowed(self.content)))
     }
 }
+
+/// An element has one refusal by the check of an object identifier, and by each way to take it as a relative one, and
+/// none where it meets the check, or is taken. The conversion to an object identifier refuses none.
+pub fn identifiers_have_one_refusal()
+    ensures constraints { HasOneRefusalUpTo (λ (e : Error). e) oid_constraints }
+    ensures relative { HasOneRefusalUpTo (λ (e : Error). e)
+        (LendsOid true (has_number relative_number)) }
+    ensures by_ber { HasOneRefusalUpTo (λ (e : Error). e) (LendsOid true ber_relative_check) }
+    ensures by_der { HasOneRefusalUpTo (λ (e : Error). e) (LendsOid true der_relative_check) }
+{}
