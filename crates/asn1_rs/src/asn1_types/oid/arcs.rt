@@ -1,6 +1,7 @@
 //! The arcs of an object identifier, one by one (X.690 8.19, 8.20).
-ghost use Rattle.std.specs.Prelude.{◌≡◌, ℕ, ◌+◌, ◌<◌, ◌≤◌, ◌∷◌, false, length, None};
-ghost use Rattle.std.specs.Iterator.{YieldsFirst, item_count};
+ghost use Rattle.std.specs.Prelude.{◌≡◌, ℕ, ◌+◌, ◌<◌, ◌≤◌, ◌∷◌, false, length, None, IfSome};
+ghost use Rattle.std.specs.Iterator.{UpTo, YieldsFirst, item_count};
+ghost use Rattle.std.specs.Iterator.SizeHint.{IsExactHint, IsWithinCount};
 ghost use Rattle.x690.specs.Arcs.{arcs_of};
 ghost use Rattle.asn1_rs.specs.Oid.Arcs.{arcs_left, GivesArcs};
 
@@ -96,7 +97,11 @@ impl Iterator for SubIdentifierIterator<'_> {
     }
 
     /// How many arcs are left, exactly.
-    fn size_hint(&self) -> (usize, Option<usize>) {
+    fn size_hint(&self) -> (usize, Option<usize>)
+        ensures lower { IsWithinCount result.0 (item_count arcs_left self.now) }
+        ensures upper { IfSome result.1 (UpTo (item_count arcs_left self.now)) }
+        ensures exact { IsExactHint result (length (arcs_left self.now)) }
+    {
         let len = self.len();
         (len, Some(len))
     }
