@@ -88,7 +88,8 @@ lends_oid_one_refusal relative check c =
 
 -- The checks of a relative identifier by BER are a check.
 pub ber_relative_check_is : IsCheck ber_relative_check
-ber_relative_check_is = before_is is_primitive (has_number relative_number) is_primitive_is (has_number_is relative_number)
+ber_relative_check_is =
+    before_is is_primitive (has_number relative_number) is_primitive_is (has_number_is relative_number)
 
 -- So are those by DER.
 pub der_relative_check_is : IsCheck der_relative_check

@@ -14,7 +14,8 @@ pub times_total : {T : Type 0} (time : T → ASN1DateTime) →
 times_total time = on_total (λ t. moment_of (time t)) moments.total-law
 
 -- What `partial_cmp` answers of times is that order.
-pub times_agree : (a b : ASN1DateTime) → partial_times.ghosts.partial_cmp a b ≡ Some (moment_cmp (moment_of a) (moment_of b))
+pub times_agree : (a b : ASN1DateTime) →
+    partial_times.ghosts.partial_cmp a b ≡ Some (moment_cmp (moment_of a) (moment_of b))
 times_agree a b = moments.matches_partial_cmp-law (moment_of a) (moment_of b)
 
 -- Times are equal where it does not tell them apart.

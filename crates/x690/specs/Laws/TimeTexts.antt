@@ -1,5 +1,6 @@
 -- Laws of the strict texts of times.
-use Rattle.std.proofs.Common.{◌≡◌, ◌≢◌, ◌⊎◌, ℕ, zero, suc, ◌+◌, ◌-◌, ◌/◌, ◌%◌, ◌<◌, ◌≤◌, ◌==◌, Bool, true, false, List, []}
+use Rattle.std.proofs.Common.{◌≡◌, ◌≢◌, ◌⊎◌, ℕ, zero, suc, ◌+◌, ◌-◌, ◌/◌, ◌%◌, ◌<◌, ◌≤◌, ◌==◌, Bool, true, false}
+use Rattle.std.proofs.Common.{List, []}
 use Rattle.std.proofs.Common.{◌∷◌, ◌++◌, inl, inr, length, length-append, decimal, Option, Some, None, IsTrue}
 use Rattle.std.proofs.Common.{if◌then◌else◌, nat_lt, nat_eq, get_or, append_assoc, refl, ap, subst, sym, ◌∙◌, arith}
 use Rattle.std.specs.List.{list_all, list_any}
@@ -244,8 +245,10 @@ some_fraction_ends n positive most =
       | inl d ↦ (46 ∷ [], 48 + n / 100 % 10, one_digit n some most d, omega arith, omega arith)
       | inr d ↦ elim (cases_eq (n % 10) 0) as (λ _. (front : List ℕ) × (digit : ℕ) ×
           (fraction_text (Some n) ≡ front ++ digit ∷ []) × (49 ≤ digit) × (digit ≤ 57)) [
-            | inl e ↦ (46 ∷ decimal_digits 1 (n / 10 / 10), 48 + n / 10 % 10, two_digits n some most d e, omega arith, omega arith)
-            | inr e ↦ (46 ∷ decimal_digits 2 (n / 10), 48 + n % 10, three_digits n some most d e, omega arith, omega arith)
+            | inl e ↦
+                (46 ∷ decimal_digits 1 (n / 10 / 10), 48 + n / 10 % 10, two_digits n some most d e, omega arith, omega arith)
+            | inr e ↦
+                (46 ∷ decimal_digits 2 (n / 10), 48 + n % 10, three_digits n some most d e, omega arith, omega arith)
           ]
     ]
 
@@ -285,7 +288,8 @@ digit_is_no_point n = grind (arith, nat_tests)
 no_point : (m : Moment) → list_any (λ octet. nat_eq octet 46) (before_fraction m ++ z_text) ≡ false
 no_point m = simp digit_is_no_point
 
-text_ends : (m : Moment) (fraction : List ℕ) → EndsInDigit fraction → HasPoint (before_fraction m ++ fraction ++ z_text) →
+text_ends : (m : Moment) (fraction : List ℕ) → EndsInDigit fraction →
+    HasPoint (before_fraction m ++ fraction ++ z_text) →
     HasDigitBefore 1 (before_fraction m ++ fraction ++ z_text)
 text_ends m fraction (inl e) point =
     let none = no_point m in

@@ -21,8 +21,8 @@ pub enum TimeZone {
     Offset(i8, i8),
 }
 
-/// Zones are in the order of the variants, and offsets in that of their hours, and then of their minutes. It is not that
-/// of the clocks.
+/// Zones are in the order of the variants, and offsets in that of their hours, and then of their minutes. It is not
+/// that of the clocks.
 impl Ord for TimeZone {
     ghost cmp = { zone_cmp };
 

@@ -56,7 +56,8 @@ pub fn generalized_texts_end_in_z()
 pub fn fractions_omit_zeros()
     ensures fraction { (n : ℕ) → 0 < n → n ≤ 999 → HasDigitBefore 0 (fraction_text (Some n)) }
     ensures none { fraction_text (Some 0) ≡ [] }
-    ensures text { (m : Moment) → MostMilliseconds 999 m.millisecond → HasPoint (generalized_time_text m)
+    ensures text { (m : Moment) → MostMilliseconds 999 m.millisecond
+        → HasPoint (generalized_time_text m)
         → HasDigitBefore 1 (generalized_time_text m) }
 {}
 

@@ -16,7 +16,8 @@ use Rattle.asn1_rs.specs.Laws.Checks.{before_is, check_is, content_check_is, has
 
 -- The checks of a text in UTF-8 are a check.
 utf8_checks_are : IsCheck utf8_checks
-utf8_checks_are = before_is has_utf8_number (content_check IsUtf8 StringInvalidCharset) (check_is _ _ _ (λ p m b. cc) (λ p e. cc))
+utf8_checks_are = before_is has_utf8_number (content_check IsUtf8 StringInvalidCharset)
+    (check_is _ _ _ (λ p m b. cc) (λ p e. cc))
     (content_check_is IsUtf8 StringInvalidCharset (λ e. cc))
 
 -- Taking the text that is borrowed has one refusal.

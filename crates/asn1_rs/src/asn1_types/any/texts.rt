@@ -69,8 +69,8 @@ impl<'a> Any<'a> {
     }
 }
 
-/// An element has one refusal by [`Any::as_any_string`], and none where it has a text. By [`Any::as_any_str`] it has one
-/// too, and beside a text none but `OutOfMemory`.
+/// An element has one refusal by [`Any::as_any_string`], and none where it has a text. By [`Any::as_any_str`] it has
+/// one too, and beside a text none but `OutOfMemory`.
 pub fn any_texts_have_one_refusal()
     ensures lent { HasOneRefusalUpTo (λ (e : Error). e) LendsAnyText }
     ensures one { (p : Parts) (e f : Error) → GivesAnyText p (Err e) → GivesAnyText p (Err f) →

@@ -7,7 +7,8 @@ ghost use Rattle.asn1_rs.specs.LeafReading.{leaf_reading};
 ghost use Rattle.asn1_rs.specs.Laws.Leaf.{leaf_exact, refusing_written};
 ghost use Rattle.asn1_rs.specs.Laws.Times.{generalized_time_lawful, generalized_time_accepted, times_equal};
 ghost use Rattle.asn1_rs.specs.Times.{generalized_time_leaf};
-ghost use Rattle.asn1_rs.specs.Times.{GeneralizedTextGives, IsInvalidDateTime, generalized_time_refused, moment_cmp, moment_of};
+ghost use Rattle.asn1_rs.specs.Times.{GeneralizedTextGives, IsInvalidDateTime, generalized_time_refused};
+ghost use Rattle.asn1_rs.specs.Times.{moment_cmp, moment_of};
 ghost use Rattle.asn1_rs.specs.Laws.TimeOrder.{times_agree, times_tie, times_total};
 
 use super::{ASN1DateTime, no_time};

@@ -42,8 +42,8 @@ pub struct ASN1DateTime {
     pub tz: ASN1TimeZone,
 }
 
-/// Times are in the order of their fields, from the year to the zone. A zone is the last field, so this is not the order
-/// on a clock.
+/// Times are in the order of their fields, from the year to the zone. A zone is the last field, so this is not the
+/// order on a clock.
 impl Ord for ASN1DateTime {
     ghost cmp = { λ a b. moment_cmp (moment_of a) (moment_of b) };
 

@@ -1,5 +1,6 @@
 use Rattle.asn1_rs.specs.Laws.Checks.{has_number_is, one_refusal_of_checks}
-use Rattle.asn1_rs.specs.Laws.Oid.{ber_relative_check_is, der_relative_check_is, lends_oid_one_refusal, oid_constraints_are}
+use Rattle.asn1_rs.specs.Laws.Oid.{ber_relative_check_is, der_relative_check_is, lends_oid_one_refusal}
+use Rattle.asn1_rs.specs.Laws.Oid.{oid_constraints_are}
 use Rattle.asn1_rs.specs.Oid.{oid_constraints, relative_number}
 use Rattle.asn1_rs.proofs.asn1_types.oid.relative.identifiers_have_one_refusal.Goals as goal
 
