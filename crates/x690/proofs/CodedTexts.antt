@@ -1,11 +1,15 @@
 -- Characters read one after the other from octets in a code of characters, and written so.
-use Rattle.std.proofs.Common.{◌≡◌, ℕ, ◌+◌, ◌*◌, ◌<◌, ◌≤◌, true, List, [], ◌∷◌, ◌++◌, length, length-append}
-use Rattle.std.proofs.Common.{append_assoc, append-nil, encode_utf8_all, refl, ap, ap₂, sym, ◌∙◌, arith}
+use Rattle.std.proofs.Common.{◌≡◌, ℕ, ◌+◌, ◌-◌, ◌*◌, ◌<◌, ◌≤◌, true, List, [], ◌∷◌, ◌++◌, length, length-append}
+use Rattle.std.proofs.Common.{append_assoc, append-nil, encode_utf8_all, refl, ap, ap₂, sym, ◌∙◌, arith, subst, take, drop}
+use Rattle.std.proofs.Common.{length-take-le}
+use Rattle.std.proofs.lemmas.List.{take-append-drop, take_at, drop_at, drop-drop}
+use Rattle.std.proofs.Math.Seq.{take-append-add}
 use Rattle.std.specs.Char.{encode_utf8, IsScalar}
 use Rattle.std.specs.Str.{IsUtf8, all_scalars, chars}
 use Rattle.std.proofs.lemmas.Bool.{and_parts}
 use Rattle.std.proofs.lemmas.List.Concat.{flat_map-append}
-use Rattle.std.proofs.lemmas.Str.{encodes-append, chars_past_char}
+use Rattle.std.proofs.lemmas.Str.{encodes-append, chars_past_char, chars-append, chars-nil, IsCharBoundary-from_take}
+use Rattle.std.proofs.lemmas.Str.{IsUtf8-drop}
 use lib.Utf8.{scalar}
 use Rattle.x690.specs.Octets.{BeginsWith}
 use Rattle.x690.specs.Characters.{code_of, Codes, BeginsWithCharacter, IsCharacterCode}
@@ -27,6 +31,32 @@ utf8_more cs c =
 pub utf8_len_more : (cs : List ℕ) (c : ℕ) →
     length (encode_utf8_all (cs ++ c ∷ [])) ≡ length (encode_utf8_all cs) + length (encode_utf8 c)
 utf8_len_more cs c = ap length (utf8_more cs c) ∙ length-append (encode_utf8_all cs) (encode_utf8 c)
+
+-- the characters of a text that ends with one, which stands behind a text
+pub chars_before_char : (text front : List ℕ) (c : ℕ) → IsUtf8 text → IsUtf8 front → text ≡ front ++ encode_utf8 c →
+    chars text ≡ chars front ++ c ∷ []
+chars_before_char text front c u v e =
+    let n = length front in
+    let within : n ≤ length text = omega (arith, length-append front (encode_utf8 c), ap length e) in
+    let cut = IsCharBoundary-from_take text n u within
+    (subst IsUtf8 (sym (ap (take n) e ∙ take_at front (encode_utf8 c) n refl)) v) in
+    let alone : IsUtf8 (encode_utf8 c) =
+    subst IsUtf8 (ap (drop n) e ∙ drop_at front (encode_utf8 c) n refl) (IsUtf8-drop text n u cut) in
+    ap chars e ∙ chars-append front (encode_utf8 c) v ∙ ap (λ cs. chars front ++ cs)
+    (chars_past_char (encode_utf8 c) [] c alone (sym (append-nil (encode_utf8 c))) ∙ ap (λ cs. c ∷ cs) chars-nil)
+
+-- what is the same behind a place is so behind a later one
+pub same_behind : (xs ys : List ℕ) (n k m : ℕ) → m ≡ n + k → drop n xs ≡ drop n ys → drop m xs ≡ drop m ys
+same_behind xs ys n k m e h =
+    ap (λ i. drop i xs) e ∙ sym (drop-drop k n xs) ∙ ap (drop k) h ∙ drop-drop k n ys ∙ ap (λ i. drop i ys) (sym e)
+
+-- a piece before a place, where what stands behind it stays
+pub put_before_place : (old new piece : List ℕ) (from at : ℕ) → at ≡ from + length piece → at ≤ length old →
+    take at new ≡ take from old ++ piece → drop at new ≡ drop at old → drop from new ≡ piece ++ drop at old
+put_before_place old new piece from at e within put kept =
+    ap (drop from) (sym (take-append-drop at new) ∙ ap₂ (λ (xs ys : List ℕ). xs ++ ys) put kept
+    ∙ append_assoc (take from old) piece (drop at old))
+    ∙ drop_at (take from old) (piece ++ drop at old) from (length-take-le from old (omega (arith, e, within)))
 
 module _ (octets_of : ℕ → List ℕ) (is : IsCharacterCode octets_of) where
   pub code_more : (cs : List ℕ) (c : ℕ) → code_of octets_of (cs ++ c ∷ []) ≡ code_of octets_of cs ++ octets_of c
@@ -110,3 +140,18 @@ module _ (octets_of : ℕ → List ℕ) (is : IsCharacterCode octets_of) where
       length (code_of octets_of (chars text)) ≡ length (octets_of c) + length (code_of octets_of (chars rest))
   code_len_past text rest c u e =
       ap length (code_past text rest c u e) ∙ length-append (octets_of c) (code_of octets_of (chars rest))
+
+  -- the last character of what is left of a text, put before the octets of those behind it
+  pub code_before : (text rest others : List ℕ) (c : ℕ) (old new : List ℕ) (from at end : ℕ) →
+      code_of octets_of (chars text) ≡ code_of octets_of (chars rest) ++ take (end - at) (drop at old) →
+      chars rest ≡ chars others ++ c ∷ [] → at ≡ from + length (octets_of c) → at ≤ end →
+      drop from new ≡ octets_of c ++ drop at old →
+      code_of octets_of (chars text) ≡ code_of octets_of (chars others) ++ take (end - from) (drop from new)
+  code_before text rest others c old new from at end begun last e within put =
+      let before = code_of octets_of (chars others) in
+      let behind = take (end - at) (drop at old) in
+      let room : end - from ≡ length (octets_of c) + (end - at) = omega (arith, e, within) in
+      let more : take (end - from) (drop from new) ≡ octets_of c ++ behind = ap (take (end - from)) put
+      ∙ ap (λ n. take n (octets_of c ++ drop at old)) room ∙ take-append-add (octets_of c) (drop at old) (end - at) in
+      begun ∙ ap (λ (xs : List ℕ). xs ++ behind) (ap (code_of octets_of) last ∙ code_more (chars others) c)
+      ∙ append_assoc before (octets_of c) behind ∙ ap (λ (xs : List ℕ). before ++ xs) (sym more)

@@ -1,7 +1,7 @@
 //! Codes of characters in octets: UTF-16 and UCS-4, and what is said once of both (X.690 8.23.7, 8.23.8; X.680 41).
 
-ghost use Rattle.std.specs.Prelude.{ℕ, ◌≡◌, ◌+◌, ◌*◌, ◌<◌, ◌≤◌, ◌^◌, List, [], ◌++◌, length, get_or, take, IfSome};
-ghost use Rattle.std.specs.Prelude.{IfNone, IfOk, IsUtf8, encode_utf8_all, string_bytes, string_capacity};
+ghost use Rattle.std.specs.Prelude.{ℕ, ◌≡◌, ◌+◌, ◌-◌, ◌*◌, ◌<◌, ◌≤◌, ◌^◌, List, [], ◌∷◌, ◌++◌, length};
+ghost use Rattle.std.specs.Prelude.{get_or, take, drop, IfSome, IfNone, IfOk, IsUtf8, encode_utf8_all, string_bytes, string_capacity};
 ghost use Rattle.std.specs.Str.{chars};
 ghost use Rattle.x690.specs.Octets.{IsOctets};
 ghost use Rattle.x690.specs.Digits.{base_256_value};
@@ -32,10 +32,11 @@ pub trait CharacterCode {
         ensures { result ≡ length (octets_of character) };
 
     /// Writes the octets of a character into the buffer at a place, and says which place is behind them. The octets
-    /// before that place stay; those behind what is written may be others.
+    /// before that place stay, and so do those behind what is written.
     fn put(character: char, buffer: &mut [u8], at: usize) -> usize
         requires { at + 4 ≤ length buffer.old }
         ensures octets { take result buffer.new ≡ take at buffer.old ++ octets_of character }
+        ensures kept { drop result buffer.new ≡ drop result buffer.old }
         ensures place { result ≡ at + length (octets_of character) };
 }
 
@@ -50,7 +51,8 @@ pub struct Ucs4;
 fn put_unit(unit: u32, buffer: &mut [u8], at: usize)
     requires unit { unit < 65536 }
     requires room { at + 2 ≤ length buffer.old }
-    ensures { take (at + 2) buffer.new ≡ take at buffer.old ++ unit_octets unit }
+    ensures octets { take (at + 2) buffer.new ≡ take at buffer.old ++ unit_octets unit }
+    ensures kept { drop (at + 2) buffer.new ≡ drop (at + 2) buffer.old }
 {
     buffer[at] = (unit / 256) as u8;
     buffer[at + 1] = (unit % 256) as u8;
@@ -217,6 +219,45 @@ pub fn fill<'a, C: CharacterCode>(text: &'a str, buffer: &mut [u8; 256]) -> (usi
         at = C::put(character, buffer, at);
     }
     (at, rest.as_str())
+}
+
+/// The last character of the text, and the text before it.
+#[inline(always)]
+fn last_character(text: &str) -> Option<(char, &str)>
+    ensures none { IfNone result (length text.now ≡ 0) }
+    ensures characters { IfSome result (λ last.
+        chars text.now ≡ chars last.1.now ++ last.0 ∷ []) }
+    ensures text { IfSome result (λ last. IsUtf8 last.1.now) }
+    ensures shorter { IfSome result (λ last. length last.1.now < length text.now) }
+{
+    let mut characters = text.chars();
+    match characters.next_back() {
+        Some(character) => Some((character, characters.as_str())),
+        None => None,
+    }
+}
+
+/// Writes characters from the back of the text before place 256 of the buffer while any character fits, and says where
+/// they begin, and what text is left before them. A text that is not empty becomes shorter, and where a text is left,
+/// the buffer has no room for four octets more.
+pub fn fill_back<'a, C: CharacterCode>(text: &'a str, buffer: &mut [u8; 260]) -> (usize, &'a str)
+    ensures octets { code_of C.octets_of (chars text.now) ≡
+        code_of C.octets_of (chars result.1.now) ++ take (256 - result.0) (drop result.0 buffer.new) }
+    ensures within { result.0 ≤ 256 }
+    ensures full { 4 ≤ result.0 → length result.1.now ≡ 0 }
+    ensures less { 0 < length text.now → length result.1.now < length text.now }
+{
+    let mut rest = text;
+    let mut at = 256;
+    while at >= 4 {
+        let Some((character, others)) = last_character(rest) else {
+            break;
+        };
+        at -= C::count(character);
+        C::put(character, buffer, at);
+        rest = others;
+    }
+    (at, rest)
 }
 
 /// A character below 10000 is the two octets of its number in UTF-16, and any character the four of it in UCS-4
