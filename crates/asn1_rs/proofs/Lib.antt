@@ -8,3 +8,5 @@ mod Sets
 mod TaggedReaders
 mod Refused
 mod Writing
+mod CodedTexts
+mod UnsignedOctets

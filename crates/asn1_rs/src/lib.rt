@@ -15,6 +15,8 @@ mod traits;
 
 pub use asn1_headers::ber::Steps;
 pub use asn1_headers::buffer::DerBuffer;
+pub use asn1_headers::buffer::prepend_behind;
+pub use asn1_headers::buffer::prepend_octets;
 pub use asn1_headers::class::BerClassFromIntError;
 pub use asn1_headers::class::Class;
 pub use asn1_headers::class::classes_are_numbered;

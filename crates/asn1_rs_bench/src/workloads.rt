@@ -7,9 +7,9 @@ use crate::rounds::{Outcome, Rounds};
 use crate::rows::{Kept, arcs_of_row, read_row, texts_of_row, values_of, walk, write_row};
 use crate::sums::Summed;
 use asn1_rs::{
-    Any, BerParser, BmpString, DerParser, Error, GeneralizedTime, Ia5String, NumericString,
-    OctetString, Oid, PrintableString, ReadsItems, SetOf, ToDer, UniversalString, UtcTime,
-    Utf8String,
+    Any, BerParser, BitString, BmpString, DerParser, Error, GeneralizedTime, Ia5String,
+    NumericString, OctetString, Oid, PrintableString, ReadsItems, SetOf, ToDer, UniversalString,
+    UtcTime, Utf8String,
 };
 use std::alloc::Global;
 use std::time::CpuClock;
@@ -135,7 +135,11 @@ impl<'a, C: CpuClock> Bench<'a, C> {
             b"i64" => self.write::<i64>(),
             b"vec_u32" | b"vec_u32_short" => self.write::<Vec<u32>>(),
             b"vec_vec_u8" | b"nested_02" => self.write::<Vec<Vec<u8>>>(),
+            b"vec_bool" => self.write::<Vec<bool>>(),
+            b"vec_u64" => self.write::<Vec<u64>>(),
+            b"vec_bits" => self.write::<Vec<BitString<'_>>>(),
             b"setof_u32" => self.write::<SetOf<u32>>(),
+            b"bits" => self.write::<BitString<'_>>(),
             b"octets" => self.write::<OctetString<'_>>(),
             b"oid" => self.write::<Oid<'_>>(),
             b"utctime" => self.write::<UtcTime>(),

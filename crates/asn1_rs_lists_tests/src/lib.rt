@@ -4,6 +4,8 @@
 #[cfg(test)]
 mod copies;
 #[cfg(test)]
+mod few_growths;
+#[cfg(test)]
 mod from_the_back;
 #[cfg(test)]
 mod growths;

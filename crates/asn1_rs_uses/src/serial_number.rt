@@ -11,7 +11,7 @@ ghost use Rattle.asn1_rs.specs.Laws.Kinds.{holding_written};
 ghost use Rattle.asn1_rs.specs.Laws.Leaf.{holding_exact};
 
 use asn1_rs::{
-    Any, ConvertsLeaf, DerElement, DerWrite, ElementKind, Error, HasKind, LeafType,
+    Any, ConvertsLeaf, DerBuffer, DerElement, DerWrite, ElementKind, Error, HasKind, LeafType,
     SerializeResult, TagNumber, WritesElement,
 };
 use std::alloc::Global;
@@ -60,6 +60,10 @@ impl WritesElement for SerialNumber {
 
     fn put_octets<W: DerWrite>(&self, w: &mut W) -> SerializeResult<usize> {
         self.0.put_octets(w)
+    }
+
+    fn prepend_contents(&self, alloc: Global, buf: &mut DerBuffer) -> SerializeResult<usize> {
+        self.0.prepend_contents(alloc, buf)
     }
 
     ghost written = { holding_written (λ x. x.0) _ 2 unsigned_octets (λ _. false)

@@ -1,7 +1,7 @@
 -- Characters read one after the other from octets in a code of characters, and written so.
 use Rattle.std.proofs.Common.{◌≡◌, ℕ, ◌+◌, ◌-◌, ◌*◌, ◌<◌, ◌≤◌, true, List, [], ◌∷◌, ◌++◌, length, length-append}
-use Rattle.std.proofs.Common.{append_assoc, append-nil, encode_utf8_all, refl, ap, ap₂, sym, ◌∙◌, arith, subst, take, drop}
-use Rattle.std.proofs.Common.{length-take-le}
+use Rattle.std.proofs.Common.{append_assoc, append-nil, encode_utf8_all, refl, ap, ap₂, sym, ◌∙◌, arith, subst}
+use Rattle.std.proofs.Common.{take, drop, length-take-le}
 use Rattle.std.proofs.lemmas.List.{take-append-drop, take_at, drop_at, drop-drop}
 use Rattle.std.proofs.Math.Seq.{take-append-add}
 use Rattle.std.specs.Char.{encode_utf8, IsScalar}

@@ -1,5 +1,5 @@
 //! Bit strings (X.690 8.6, 11.2).
-ghost use Rattle.std.specs.Prelude.{◌≡◌, ◌∷◌, ◌↔◌, false, length, IsTrue, IfOk, IfErr};
+ghost use Rattle.std.specs.Prelude.{◌≡◌, ◌∷◌, ◌+◌, ◌↔◌, true, false, length, IsTrue, IfOk, IfErr};
 ghost use Rattle.std.specs.Cow.{IsBorrowedSlice};
 ghost use Rattle.asn1_rs.specs.Any.{parts_of};
 ghost use Rattle.asn1_rs.specs.BitString.{bit_string_leaf, bit_string_constraints, bit_string_octets, data_of, bit_of};
@@ -8,6 +8,7 @@ ghost use Rattle.asn1_rs.specs.Leaf.{LeafGives};
 ghost use Rattle.asn1_rs.specs.Laws.BitString.{bit_string_lawful, bit_string_equal};
 ghost use Rattle.asn1_rs.specs.LeafReading.{lent_reading};
 ghost use Rattle.asn1_rs.specs.Laws.Leaf.{lent_exact, leaf_written};
+ghost use Rattle.asn1_headers.specs.Prepended.{Prepended};
 ghost use Rattle.asn1_headers.specs.Writer.{Wrote, MayRefuse};
 
 use crate::asn1_types::any::Any;
@@ -16,6 +17,7 @@ use crate::kinds::writing::WritesElement;
 use crate::kinds::{ElementKind, HasKind, TagNumber};
 use crate::laws::LawfulMember;
 use crate::laws::in_hand::octets_in_hand;
+use asn1_headers::buffer::{DerBuffer, prepend_behind, prepend_octets};
 use asn1_headers::error::{DerConstraint, Error, SerializeResult};
 use asn1_headers::tag::Tag;
 use asn1_headers::writer::{DerWrite, add_written, put_all};
@@ -112,6 +114,19 @@ fn put_bits<W: DerWrite>(unused_bits: u8, octets: &[u8], w: &mut W) -> Serialize
     add_written(before, after)
 }
 
+/// Puts the octets before those of the buffer, and the count of unused bits before them. Where the count finds no room,
+/// the octets stay.
+fn prepend_bits(unused_bits: u8, octets: &[u8], buf: &mut DerBuffer) -> SerializeResult<usize>
+    ensures prepended { Prepended (unused_bits ∷ octets.now) buf.old buf.new result }
+    ensures refused { IfErr result
+        (MayRefuse true (length (unused_bits ∷ octets.now) + length buf.old)) }
+{
+    match prepend_octets(octets, buf) {
+        Ok(after) => prepend_behind(&[unused_bits], after, buf),
+        Err(e) => Err(e),
+    }
+}
+
 impl HasKind for BitString<'_> {
     type Kind = ElementKind;
 }
@@ -159,6 +174,10 @@ impl WritesElement for BitString<'_> {
 
     fn put_octets<W: DerWrite>(&self, w: &mut W) -> SerializeResult<usize> {
         put_bits(self.unused_bits, self.as_bytes(), w)
+    }
+
+    fn prepend_contents(&self, _alloc: Global, buf: &mut DerBuffer) -> SerializeResult<usize> {
+        prepend_bits(self.unused_bits, self.as_bytes(), buf)
     }
 
     ghost written = { leaf_written bit_string_leaf bit_string_lawful };

@@ -9,12 +9,15 @@ ghost use Rattle.asn1_rs.specs.LeafReading.{leaf_reading};
 ghost use Rattle.asn1_rs.specs.Laws.Leaf.{leaf_exact, leaf_written};
 
 use crate::asn1_types::any::Any;
-use crate::asn1_types::integer::put_unsigned_content;
+use crate::asn1_types::integer::{
+    prepend_unsigned_content, put_unsigned_content, unsigned_element,
+};
 use crate::kinds::in_hand::DerElement;
 use crate::kinds::leaf::{ConvertsLeaf, LeafType};
-use crate::kinds::writing::WritesElement;
+use crate::kinds::writing::{Piece, WritesElement};
 use crate::kinds::{ElementKind, HasKind, TagNumber};
 use crate::laws::LawfulMember;
+use asn1_headers::buffer::DerBuffer;
 use asn1_headers::error::{Error, SerializeResult};
 use asn1_headers::tag::Tag;
 use asn1_headers::writer::DerWrite;
@@ -99,6 +102,16 @@ impl WritesElement for Enumerated {
 
     fn put_octets<W: DerWrite>(&self, w: &mut W) -> SerializeResult<usize> {
         put_unsigned_content(u128::from(self.0), w)
+    }
+
+    fn prepend_contents(&self, _alloc: Global, buf: &mut DerBuffer) -> SerializeResult<usize> {
+        prepend_unsigned_content(u128::from(self.0), buf)
+    }
+
+    #[inline(always)]
+    fn piece(&self) -> Option<Piece> {
+        let (octets, count) = unsigned_element(Tag::Enumerated.0, self.0);
+        Some(Piece::new(octets, count))
     }
 
     ghost written = { leaf_written enumerated_leaf enumerated_lawful };

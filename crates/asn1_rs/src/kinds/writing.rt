@@ -24,8 +24,8 @@ use crate::laws::{Grammar, LawfulItem, LawfulTagged, LawfulWrite, TakesClass};
 use crate::to_der::{ToDer, stands};
 use crate::traits::{DynTagged, Tagged};
 use asn1_headers::buffer::{DerBuffer, prepend_element, prepend_octets};
-use asn1_headers::error::{Error, SerializeResult, without_io};
-use asn1_headers::writer::{DerWrite, Sink, Told, add_written, put_all};
+use asn1_headers::error::{Error, SerializeResult};
+use asn1_headers::writer::{DerWrite, Sink, add_written, put_all};
 use std::alloc::Global;
 
 /// The octets of a short element, at the front of an array.
@@ -111,19 +111,10 @@ pub trait WritesElement: LawfulElement + Tagged {
     }
 
     /// Puts the contents octets before those of the buffer, and answers their number.
-    ///
-    /// A type that holds few octets, or all of them, puts them straight.
     fn prepend_contents(&self, alloc: Global, buf: &mut DerBuffer) -> SerializeResult<usize>
         ensures prepended { Prepended (octets self.now) buf.old buf.new result }
         ensures refused { PrependRefused (is_refused self.now) (refusal self.now)
-            (length (octets self.now) + length buf.old) buf.old buf.new result }
-    {
-        let mut w = Told::new(Vec::new(alloc));
-        match self.put_octets(&mut w) {
-            Ok(_) => prepend_octets(&w.into_inner(), buf),
-            Err(e) => Err(without_io(e)),
-        }
-    }
+            (length (octets self.now) + length buf.old) buf.old buf.new result };
 
     /// They follow from the value, and are its strict content where it has one, which is not refused; another class
     /// changes nothing.

@@ -2,22 +2,24 @@
 
 mod writing;
 
-ghost use Rattle.std.specs.Prelude.{◌≡◌, ◌∷◌, [], false, IfErr};
+ghost use Rattle.std.specs.Prelude.{◌≡◌, ◌∷◌, ◌++◌, [], false, IfErr};
 ghost use Rattle.asn1_rs.specs.Any.{parts_of};
 ghost use Rattle.asn1_rs.specs.Boolean.{boolean_leaf, bool_leaf, says_true, truth_octet};
-ghost use Rattle.asn1_rs.specs.Boolean.{truth_constraints};
+ghost use Rattle.asn1_rs.specs.Boolean.{boolean_number, truth_constraints};
 ghost use Rattle.asn1_rs.specs.Leaf.{LeafGives};
 ghost use Rattle.asn1_rs.specs.Laws.Boolean.{boolean_lawful, bool_lawful, boolean_equal, bool_equal};
 ghost use Rattle.asn1_rs.specs.LeafReading.{leaf_reading};
 ghost use Rattle.asn1_rs.specs.Laws.Leaf.{leaf_exact, leaf_written};
+ghost use Rattle.asn1_rs.specs.Kinds.Writing.{IsPieceOf, universal_header};
 ghost use Rattle.asn1_headers.specs.Writer.{Wrote, MayRefuse};
 
 use crate::asn1_types::any::Any;
 use crate::kinds::in_hand::DerElement;
 use crate::kinds::leaf::{ConvertsLeaf, LeafType};
-use crate::kinds::writing::WritesElement;
+use crate::kinds::writing::{Piece, WritesElement};
 use crate::kinds::{ElementKind, HasKind, TagNumber};
 use crate::laws::LawfulMember;
+use asn1_headers::buffer::{DerBuffer, prepend_octets};
 use asn1_headers::error::{DerConstraint, Error, SerializeResult};
 use asn1_headers::tag::Tag;
 use asn1_headers::writer::{DerWrite, put_all};
@@ -127,6 +129,16 @@ fn put_truth<W: DerWrite>(truth: bool, w: &mut W) -> SerializeResult<usize>
     put_all(w, &[octet_of(truth)])
 }
 
+/// The strict element of a truth value in one piece (X.690 8.1.2, 8.1.3, 11.1).
+#[inline(always)]
+fn truth_piece(truth: bool) -> Piece
+    ensures { IsPieceOf false (universal_header boolean_number (truth_octet truth ∷ [])
+        ++ truth_octet truth ∷ []) result }
+{
+    let octet = octet_of(truth);
+    Piece::new([1, 1, octet, 0, 0, 0, 0, 0, 0, 0, 0, 0, 0, 0, 0, 0], 3)
+}
+
 impl HasKind for bool {
     type Kind = ElementKind;
 }
@@ -165,6 +177,15 @@ impl WritesElement for bool {
 
     fn put_octets<W: DerWrite>(&self, w: &mut W) -> SerializeResult<usize> {
         put_truth(*self, w)
+    }
+
+    fn prepend_contents(&self, _alloc: Global, buf: &mut DerBuffer) -> SerializeResult<usize> {
+        prepend_octets(&[octet_of(*self)], buf)
+    }
+
+    #[inline(always)]
+    fn piece(&self) -> Option<Piece> {
+        Some(truth_piece(*self))
     }
 
     ghost written = { leaf_written bool_leaf bool_lawful };

@@ -6,7 +6,8 @@ pub(crate) mod octets;
 mod signed;
 mod unsigned;
 
-ghost use Rattle.std.specs.Prelude.{ℕ, pos, ◌++◌, ◌≡◌, ◌≤◌, false, length, take, Err, IfOk, IfErr};
+ghost use Rattle.std.specs.Prelude.{ℕ, pos, ◌++◌, ◌+◌, ◌≡◌, ◌<◌, ◌≤◌, true, false, length, take, Err};
+ghost use Rattle.std.specs.Prelude.{IfOk, IfErr};
 ghost use Rattle.x690.specs.Elements.{Parts};
 ghost use Rattle.asn1_headers.specs.declared.error.Error.{Error};
 ghost use Rattle.x690.specs.Digits.{twos_complement_value};
@@ -16,9 +17,11 @@ ghost use Rattle.x690.specs.Strict.{header_octets};
 ghost use Rattle.asn1_rs.specs.Any.{parts_of};
 ghost use Rattle.asn1_rs.specs.Integer.{integer_number, IntegerCheckGives, IsUnsigned, UnsignedRefuses, UnsignedGives};
 ghost use Rattle.asn1_rs.specs.Integer.{SignedGives, SignedRefuses, IsIntegerOr};
+ghost use Rattle.asn1_headers.specs.Prepended.{Prepended};
 ghost use Rattle.asn1_headers.specs.Writer.{Wrote, MayRefuse};
 
 use crate::asn1_types::any::Any;
+use asn1_headers::buffer::{DerBuffer, prepend_octets};
 use asn1_headers::error::{DerConstraint, Error, SerializeResult};
 use asn1_headers::tag::Tag;
 use asn1_headers::writer::{DerWrite, put_all};
@@ -89,6 +92,16 @@ pub(crate) fn put_unsigned_content<W: DerWrite>(n: u128, w: &mut W) -> Serialize
     put_all(w, &octets[first..])
 }
 
+/// Puts the strict contents octets of a natural number before those of the buffer, and answers their number.
+pub(crate) fn prepend_unsigned_content(n: u128, buf: &mut DerBuffer) -> SerializeResult<usize>
+    ensures prepended { Prepended (unsigned_octets n) buf.old buf.new result }
+    ensures refused { IfErr result (MayRefuse true (length (unsigned_octets n) + length buf.old)) }
+{
+    let mut octets = [0; 17];
+    let start = unsigned_into(n, &mut octets);
+    prepend_octets(&octets[start..], buf)
+}
+
 /// The integer of contents octets, which fits in so many octets.
 #[inline(always)]
 fn signed_from_content(content: &[u8], size: usize) -> Result<i128, Error>
@@ -123,14 +136,26 @@ pub(crate) fn put_signed_content<W: DerWrite>(n: i128, w: &mut W) -> SerializeRe
     put_all(w, &octets[first..])
 }
 
-/// The strict element of a natural number, at the front of the array, and how many octets it has.
+/// Puts the strict contents octets of an integer before those of the buffer, and answers their number.
+pub(crate) fn prepend_signed_content(n: i128, buf: &mut DerBuffer) -> SerializeResult<usize>
+    ensures prepended { Prepended (signed_octets n) buf.old buf.new result }
+    ensures refused { IfErr result (MayRefuse true (length (signed_octets n) + length buf.old)) }
+{
+    let mut octets = [0; 17];
+    let start = signed_into(n, &mut octets);
+    prepend_octets(&octets[start..], buf)
+}
+
+/// The strict element of a natural number, of the universal class with this tag number, at the front of the array, and
+/// how many octets it has.
 #[inline(always)]
-fn unsigned_element(n: u32) -> ([u8; 16], usize)
+pub(crate) fn unsigned_element(number: u32, n: u32) -> ([u8; 16], usize)
+    requires { number < 31 }
     ensures element { take result.1 result.0 ≡
-        header_octets 0 false integer_number (length (unsigned_octets n)) ++ unsigned_octets n }
+        header_octets 0 false number (length (unsigned_octets n)) ++ unsigned_octets n }
     ensures few { result.1 ≤ 10 }
 {
-    integer_element(Tag::Integer.0, i64::from(n))
+    integer_element(number, i64::from(n))
 }
 
 /// The check of an integer allows one refusal for one element, and so does the conversion to a natural number,

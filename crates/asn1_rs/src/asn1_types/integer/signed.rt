@@ -5,13 +5,15 @@ ghost use Rattle.asn1_rs.specs.Integer.{integer_element};
 ghost use Rattle.asn1_rs.specs.Laws.Integer.{integer_written};
 ghost use Rattle.asn1_rs.specs.Laws.Integer.Signed.{signed_equal};
 
-use crate::asn1_types::integer::put_signed_content;
+use crate::asn1_types::integer::{prepend_signed_content, put_signed_content};
 use crate::kinds::writing::{Piece, WritesElement};
 use crate::kinds::{ElementKind, HasKind};
 use crate::laws::LawfulMember;
+use asn1_headers::buffer::DerBuffer;
 use asn1_headers::error::{Error, SerializeResult};
 use asn1_headers::tag::Tag;
 use asn1_headers::writer::DerWrite;
+use std::alloc::Global;
 use x690::signed::{integer_element, signed_octets_count};
 
 impl HasKind for i8 {
@@ -27,6 +29,10 @@ impl WritesElement for i8 {
 
     fn put_octets<W: DerWrite>(&self, w: &mut W) -> SerializeResult<usize> {
         put_signed_content(i128::from(*self), w)
+    }
+
+    fn prepend_contents(&self, _alloc: Global, buf: &mut DerBuffer) -> SerializeResult<usize> {
+        prepend_signed_content(i128::from(*self), buf)
     }
 
     #[inline(always)]
@@ -58,6 +64,10 @@ impl WritesElement for i16 {
         put_signed_content(i128::from(*self), w)
     }
 
+    fn prepend_contents(&self, _alloc: Global, buf: &mut DerBuffer) -> SerializeResult<usize> {
+        prepend_signed_content(i128::from(*self), buf)
+    }
+
     #[inline(always)]
     fn piece(&self) -> Option<Piece> {
         let (octets, count) = integer_element(Tag::Integer.0, i64::from(*self));
@@ -85,6 +95,10 @@ impl WritesElement for i32 {
 
     fn put_octets<W: DerWrite>(&self, w: &mut W) -> SerializeResult<usize> {
         put_signed_content(i128::from(*self), w)
+    }
+
+    fn prepend_contents(&self, _alloc: Global, buf: &mut DerBuffer) -> SerializeResult<usize> {
+        prepend_signed_content(i128::from(*self), buf)
     }
 
     #[inline(always)]
@@ -116,6 +130,10 @@ impl WritesElement for i64 {
         put_signed_content(i128::from(*self), w)
     }
 
+    fn prepend_contents(&self, _alloc: Global, buf: &mut DerBuffer) -> SerializeResult<usize> {
+        prepend_signed_content(i128::from(*self), buf)
+    }
+
     #[inline(always)]
     fn piece(&self) -> Option<Piece> {
         let (octets, count) = integer_element(Tag::Integer.0, *self);
@@ -143,6 +161,10 @@ impl WritesElement for i128 {
 
     fn put_octets<W: DerWrite>(&self, w: &mut W) -> SerializeResult<usize> {
         put_signed_content(i128::from(*self), w)
+    }
+
+    fn prepend_contents(&self, _alloc: Global, buf: &mut DerBuffer) -> SerializeResult<usize> {
+        prepend_signed_content(i128::from(*self), buf)
     }
 
     ghost written = { integer_written (λ n. n) signed_octets signed_octets_content

@@ -6,12 +6,17 @@ ghost use Rattle.asn1_rs.specs.Integer.{IsUnsigned};
 ghost use Rattle.asn1_rs.specs.Laws.Integer.{integer_written};
 ghost use Rattle.asn1_rs.specs.Laws.Integer.Unsigned.{unsigned_equal};
 
-use crate::asn1_types::integer::{put_unsigned_content, unsigned_element};
+use crate::asn1_types::integer::{
+    prepend_unsigned_content, put_unsigned_content, unsigned_element,
+};
 use crate::kinds::writing::{Piece, WritesElement};
 use crate::kinds::{ElementKind, HasKind};
 use crate::laws::LawfulMember;
+use asn1_headers::buffer::DerBuffer;
 use asn1_headers::error::{Error, SerializeResult};
+use asn1_headers::tag::Tag;
 use asn1_headers::writer::DerWrite;
+use std::alloc::Global;
 use x690::integers::unsigned_octets_count;
 
 impl HasKind for u8 {
@@ -29,9 +34,13 @@ impl WritesElement for u8 {
         put_unsigned_content(u128::from(*self), w)
     }
 
+    fn prepend_contents(&self, _alloc: Global, buf: &mut DerBuffer) -> SerializeResult<usize> {
+        prepend_unsigned_content(u128::from(*self), buf)
+    }
+
     #[inline(always)]
     fn piece(&self) -> Option<Piece> {
-        let (octets, count) = unsigned_element(u32::from(*self));
+        let (octets, count) = unsigned_element(Tag::Integer.0, u32::from(*self));
         Some(Piece::new(octets, count))
     }
 
@@ -58,9 +67,13 @@ impl WritesElement for u16 {
         put_unsigned_content(u128::from(*self), w)
     }
 
+    fn prepend_contents(&self, _alloc: Global, buf: &mut DerBuffer) -> SerializeResult<usize> {
+        prepend_unsigned_content(u128::from(*self), buf)
+    }
+
     #[inline(always)]
     fn piece(&self) -> Option<Piece> {
-        let (octets, count) = unsigned_element(u32::from(*self));
+        let (octets, count) = unsigned_element(Tag::Integer.0, u32::from(*self));
         Some(Piece::new(octets, count))
     }
 
@@ -87,9 +100,13 @@ impl WritesElement for u32 {
         put_unsigned_content(u128::from(*self), w)
     }
 
+    fn prepend_contents(&self, _alloc: Global, buf: &mut DerBuffer) -> SerializeResult<usize> {
+        prepend_unsigned_content(u128::from(*self), buf)
+    }
+
     #[inline(always)]
     fn piece(&self) -> Option<Piece> {
-        let (octets, count) = unsigned_element(*self);
+        let (octets, count) = unsigned_element(Tag::Integer.0, *self);
         Some(Piece::new(octets, count))
     }
 
@@ -116,6 +133,10 @@ impl WritesElement for u64 {
         put_unsigned_content(u128::from(*self), w)
     }
 
+    fn prepend_contents(&self, _alloc: Global, buf: &mut DerBuffer) -> SerializeResult<usize> {
+        prepend_unsigned_content(u128::from(*self), buf)
+    }
+
     ghost written = { integer_written pos unsigned_octets unsigned_octets_content
         (IsUnsigned 8) };
 }
@@ -137,6 +158,10 @@ impl WritesElement for u128 {
 
     fn put_octets<W: DerWrite>(&self, w: &mut W) -> SerializeResult<usize> {
         put_unsigned_content(u128::from(*self), w)
+    }
+
+    fn prepend_contents(&self, _alloc: Global, buf: &mut DerBuffer) -> SerializeResult<usize> {
+        prepend_unsigned_content(u128::from(*self), buf)
     }
 
     ghost written = { integer_written pos unsigned_octets unsigned_octets_content

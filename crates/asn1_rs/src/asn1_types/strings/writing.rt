@@ -1,6 +1,7 @@
 //! Texts in a code of characters, as they are written.
-ghost use Rattle.std.specs.Prelude.{◌≡◌, false, length, chars, IfErr};
+ghost use Rattle.std.specs.Prelude.{◌≡◌, ◌+◌, true, false, length, chars, IfErr};
 ghost use Rattle.x690.specs.Characters.{code_of};
+ghost use Rattle.asn1_headers.specs.Prepended.{Prepended};
 ghost use Rattle.asn1_headers.specs.Writer.{Wrote, MayRefuse};
 ghost use Rattle.asn1_rs.specs.CodedStrings.{coded_string_leaf, coded_octets};
 ghost use Rattle.asn1_rs.specs.Laws.CodedStrings.{coded_string_lawful};
@@ -9,9 +10,11 @@ ghost use Rattle.asn1_rs.specs.Laws.Leaf.{copying_written};
 use crate::asn1_types::strings::CodedString;
 use crate::asn1_types::strings::kinds::StringKind;
 use crate::kinds::writing::WritesElement;
+use asn1_headers::buffer::{DerBuffer, prepend_behind};
 use asn1_headers::error::{Error, SerializeResult};
 use asn1_headers::writer::{DerWrite, add_written, put_all};
-use x690::characters::{CharacterCode, coded_len, fill};
+use std::alloc::Global;
+use x690::characters::{CharacterCode, coded_len, fill, fill_back};
 
 /// Appends the text in a code, by pieces of 256 octets at most, and answers the number of octets.
 /// No memory is asked for.
@@ -33,6 +36,27 @@ fn put_text<C: CharacterCode, W: DerWrite>(text: &str, w: &mut W) -> SerializeRe
     Ok(written)
 }
 
+/// Puts the text in a code before the octets of the buffer, by pieces of 256 octets at most from the back, and answers
+/// the number of octets. What was put stays where a piece before it finds no room.
+fn prepend_text<C: CharacterCode>(text: &str, buf: &mut DerBuffer) -> SerializeResult<usize>
+    ensures prepended { Prepended (code_of C.octets_of (chars text.now)) buf.old buf.new result }
+    ensures refused { IfErr result
+        (MayRefuse true (length (code_of C.octets_of (chars text.now)) + length buf.old)) }
+{
+    let mut piece = [0; 260];
+    let mut rest = text;
+    let mut count = 0;
+    while !rest.is_empty() {
+        let (at, others) = fill_back::<C>(rest, &mut piece);
+        count = match prepend_behind(&piece[at..256], count, buf) {
+            Ok(total) => total,
+            Err(e) => return Err(e),
+        };
+        rest = others;
+    }
+    Ok(count)
+}
+
 impl<K: StringKind<Characters: CharacterCode>> WritesElement for CodedString<'_, K> {
     ghost octets = { coded_octets K.Characters.octets_of };
 
@@ -42,6 +66,10 @@ impl<K: StringKind<Characters: CharacterCode>> WritesElement for CodedString<'_,
 
     fn put_octets<W: DerWrite>(&self, w: &mut W) -> SerializeResult<usize> {
         put_text::<K::Characters, W>(self.as_str(), w)
+    }
+
+    fn prepend_contents(&self, _alloc: Global, buf: &mut DerBuffer) -> SerializeResult<usize> {
+        prepend_text::<K::Characters>(self.as_str(), buf)
     }
 
     ghost written = { copying_written (coded_string_leaf (K.Number.TAG).0 K.Characters.octets_of)

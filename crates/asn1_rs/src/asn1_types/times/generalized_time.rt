@@ -18,6 +18,7 @@ use crate::kinds::leaf::{ConvertsLeaf, LeafType};
 use crate::kinds::writing::WritesElement;
 use crate::kinds::{ElementKind, HasKind, TagNumber};
 use crate::laws::LawfulMember;
+use asn1_headers::buffer::{DerBuffer, prepend_octets};
 use asn1_headers::error::{DerConstraint, Error, SerializeError, SerializeResult};
 use asn1_headers::header::writing::put_header;
 use asn1_headers::tag::Tag;
@@ -159,6 +160,13 @@ impl WritesElement for GeneralizedTime {
             Some(text) => put_all(w, text.as_bytes()),
             None => Err(SerializeError::ASN1Error(Error::InvalidDateTime)),
         }
+    }
+
+    fn prepend_contents(&self, _alloc: Global, buf: &mut DerBuffer) -> SerializeResult<usize> {
+        let Some(text) = write_generalized_time(&self.0.moment()) else {
+            return Err(SerializeError::ASN1Error(Error::InvalidDateTime));
+        };
+        prepend_octets(text.as_bytes(), buf)
     }
 
     #[inline(always)]

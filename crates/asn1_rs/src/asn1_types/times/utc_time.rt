@@ -17,6 +17,7 @@ use crate::kinds::leaf::{ConvertsLeaf, LeafType};
 use crate::kinds::writing::WritesElement;
 use crate::kinds::{ElementKind, HasKind, TagNumber};
 use crate::laws::LawfulMember;
+use asn1_headers::buffer::{DerBuffer, prepend_octets};
 use asn1_headers::error::{Error, SerializeError, SerializeResult};
 use asn1_headers::tag::Tag;
 use asn1_headers::writer::{DerWrite, put_all};
@@ -148,6 +149,13 @@ impl WritesElement for UtcTime {
             Some(text) => put_all(w, &text),
             None => Err(SerializeError::ASN1Error(Error::InvalidDateTime)),
         }
+    }
+
+    fn prepend_contents(&self, _alloc: Global, buf: &mut DerBuffer) -> SerializeResult<usize> {
+        let Some(text) = write_utc_time(&self.0.moment()) else {
+            return Err(SerializeError::ASN1Error(Error::InvalidDateTime));
+        };
+        prepend_octets(&text, buf)
     }
 
     ghost written = { refusing_written utc_time_leaf utc_time_lawful

@@ -1,13 +1,8 @@
-use Rattle.std.proofs.Common.{◌≡◌, ℕ, ℤ, pos, sym, ap, arith, FitsSigned}
+use Rattle.std.proofs.Common.{◌≡◌, pos, arith, FitsSigned}
 use Rattle.std.specs.Int.{w64}
 use Rattle.std.proofs.lemmas.Int.{ints, to_z-of_z}
-use Rattle.x690.specs.Integers.{unsigned_octets}
-use Rattle.x690.specs.Signed.{signed_octets}
+use Rattle.asn1_rs.proofs.UnsignedOctets.{same_octets}
 use Rattle.asn1_rs.proofs.asn1_types.integer.unsigned_element.Goals as goal
-
-same_octets : (n : ℕ) (z : ℤ) → z ≡ pos n → unsigned_octets n ≡ signed_octets z
-unfolding signed_octets
-same_octets n z e = ap signed_octets (sym e)
 
 pub returns-clause-element : goal.returns-clause-element
 returns-clause-element c =

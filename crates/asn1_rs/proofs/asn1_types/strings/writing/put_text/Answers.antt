@@ -1,12 +1,12 @@
-use Rattle.std.proofs.Common.{◌≡◌, ℕ, List, [], ◌∷◌, ◌++◌, length, take, chars, Ok, Err, sym, ap, subst, ◌∙◌}
-use Rattle.std.proofs.Common.{append_assoc, append-nil, arith, rules}
+use Rattle.std.proofs.Common.{◌≡◌, ℕ, List, ◌++◌, take, chars, Ok, Err, sym, ap, subst, ◌∙◌}
+use Rattle.std.proofs.Common.{append_assoc, append-nil, rules}
 use Rattle.std.proofs.lemmas.Bool.{eqb-true}
 use Rattle.std.proofs.lemmas.Result.{err_from_is_err_and}
-use Rattle.std.proofs.lemmas.Str.{chars-nil}
 use Rattle.x690.specs.Characters.{code_of}
 use Rattle.asn1_headers.specs.declared.error.SerializeError.{SerializeError}
 use Rattle.asn1_headers.specs.Writer.{WriterState, Wrote, SumsWritten}
 use Rattle.asn1_headers.specs.Laws.Writing.{Wrote_front, Wrote_then_err, Wrote_sum}
+use Rattle.asn1_rs.proofs.CodedTexts.{no_text_left}
 use Rattle.asn1_rs.proofs.asn1_types.strings.writing.put_text.Goals as goal
 
 -- octets of which a front was written; what is left begins with a piece
@@ -24,10 +24,6 @@ module _ (all front left piece more : List ℕ) (begun : all ≡ front ++ left) 
   sum_err : {m : ℕ} {e : SerializeError} → Wrote piece b c (Ok m) → SumsWritten n m (Err e) → Wrote all a c (Err e)
   sum_err {m} {e} q s = subst (λ (xs : List ℕ). Wrote xs a c (Err e))
       (sym (longer all front left piece more begun goes)) (Wrote_front more (Wrote_sum (Err e) written q s))
-
-no_text_left : (octets_of : ℕ → List ℕ) (rest : List ℕ) → length rest ≡ 0 → code_of octets_of (chars rest) ≡ []
-no_text_left octets_of [] e = ap (code_of octets_of) chars-nil
-no_text_left octets_of (b ∷ rest) e = absurd (omega arith)
 
 pub returns-in_err-count-clause-wrote : goal.returns-in_err-count-clause-wrote
 returns-in_err-count-clause-wrote g c =
