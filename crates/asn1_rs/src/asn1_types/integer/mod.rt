@@ -7,7 +7,7 @@ mod signed;
 mod unsigned;
 
 ghost use Rattle.std.specs.Prelude.{ℕ, pos, ◌++◌, ◌+◌, ◌≡◌, ◌<◌, ◌≤◌, true, false, length, take, Err};
-ghost use Rattle.std.specs.Prelude.{IfOk, IfErr};
+ghost use Rattle.std.specs.Prelude.{IfOk, IfErr, IfSome};
 ghost use Rattle.x690.specs.Elements.{Parts};
 ghost use Rattle.asn1_headers.specs.declared.error.Error.{Error};
 ghost use Rattle.x690.specs.Digits.{twos_complement_value};
@@ -19,8 +19,10 @@ ghost use Rattle.asn1_rs.specs.Integer.{integer_number, IntegerCheckGives, IsUns
 ghost use Rattle.asn1_rs.specs.Integer.{SignedGives, SignedRefuses, IsIntegerOr};
 ghost use Rattle.asn1_headers.specs.Prepended.{Prepended};
 ghost use Rattle.asn1_headers.specs.Writer.{Wrote, MayRefuse};
+ghost use Rattle.asn1_rs.specs.Kinds.Writing.{IsPieceOf};
 
 use crate::asn1_types::any::Any;
+use crate::kinds::writing::Piece;
 use asn1_headers::buffer::{DerBuffer, prepend_octets};
 use asn1_headers::error::{DerConstraint, Error, SerializeResult};
 use asn1_headers::tag::Tag;
@@ -156,6 +158,19 @@ pub(crate) fn unsigned_element(number: u32, n: u32) -> ([u8; 16], usize)
     ensures few { result.1 ≤ 10 }
 {
     integer_element(number, i64::from(n))
+}
+
+/// The strict element of a natural number in one piece, where an `i64` holds it.
+#[inline(always)]
+fn unsigned_piece(n: u64) -> Option<Piece>
+    ensures { IfSome result (IsPieceOf false
+        (header_octets 0 false integer_number (length (unsigned_octets n)) ++ unsigned_octets n)) }
+{
+    let Ok(n) = i64::try_from(n) else {
+        return None;
+    };
+    let (octets, count) = integer_element(Tag::Integer.0, n);
+    Some(Piece::new(octets, count))
 }
 
 /// The check of an integer allows one refusal for one element, and so does the conversion to a natural number,

@@ -7,7 +7,7 @@ ghost use Rattle.asn1_rs.specs.Laws.Integer.{integer_written};
 ghost use Rattle.asn1_rs.specs.Laws.Integer.Unsigned.{unsigned_equal};
 
 use crate::asn1_types::integer::{
-    prepend_unsigned_content, put_unsigned_content, unsigned_element,
+    prepend_unsigned_content, put_unsigned_content, unsigned_element, unsigned_piece,
 };
 use crate::kinds::writing::{Piece, WritesElement};
 use crate::kinds::{ElementKind, HasKind};
@@ -135,6 +135,11 @@ impl WritesElement for u64 {
 
     fn prepend_contents(&self, _alloc: Global, buf: &mut DerBuffer) -> SerializeResult<usize> {
         prepend_unsigned_content(u128::from(*self), buf)
+    }
+
+    #[inline(always)]
+    fn piece(&self) -> Option<Piece> {
+        unsigned_piece(*self)
     }
 
     ghost written = { integer_written pos unsigned_octets unsigned_octets_content
