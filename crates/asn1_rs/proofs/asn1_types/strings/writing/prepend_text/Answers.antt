@@ -8,7 +8,7 @@ use Rattle.asn1_headers.specs.Writer.{MayRefuse}
 use Rattle.asn1_headers.specs.Laws.Prepending.{Prepended_last, Prepended_all}
 use Rattle.asn1_headers.specs.Laws.Writing.{MayRefuse_more}
 use Rattle.asn1_rs.proofs.CodedTexts.{no_text_left}
-use Rattle.asn1_rs.proofs.asn1_types.coded_strings.writing.prepend_text.Goals as goal
+use Rattle.asn1_rs.proofs.asn1_types.strings.writing.prepend_text.Goals as goal
 
 -- octets of which a back was put; what is left ends with a piece
 module _ (all left back more piece : List ℕ) (ends : all ≡ left ++ back) (goes : left ≡ more ++ piece) where

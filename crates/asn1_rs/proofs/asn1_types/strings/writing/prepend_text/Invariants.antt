@@ -2,7 +2,7 @@ use Rattle.std.proofs.Common.{◌≡◌, ℕ, List, ◌++◌, chars, length}
 use denote.Shadow.{shadow}
 use denote.Text.{Utf8}
 use Rattle.x690.specs.Characters.{code_of}
-use Rattle.asn1_rs.proofs.asn1_types.coded_strings.writing.prepend_text.Given as goal
+use Rattle.asn1_rs.proofs.asn1_types.strings.writing.prepend_text.Given as goal
 
 abbrev pub invariant-loop-rest : goal.invariant-loop-rest
 invariant-loop-rest g l =
