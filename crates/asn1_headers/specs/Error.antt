@@ -33,10 +33,14 @@ IsCut (cut n) = Unit {0}
 IsCut (refused e) = ⊥
 IsCut (failed e) = ⊥
 
+-- the refusal `InvalidValue` of this tag, with a text of which the fact holds
+abbrev pub IsInvalidValueOf : Tag → (List ℕ → Type 0) → Error → Type 0
+IsInvalidValueOf tag says (errors.InvalidValue t msg) = (t ≡ tag) × says (message_text msg)
+IsInvalidValueOf tag says _ = ⊥
+
 -- the refusal `InvalidValue` of this tag, with this text
 abbrev pub IsInvalidValue : Tag → List ℕ → Error → Type 0
-IsInvalidValue tag text (errors.InvalidValue t msg) = (t ≡ tag) × (message_text msg ≡ text)
-IsInvalidValue tag text _ = ⊥
+IsInvalidValue tag text = IsInvalidValueOf tag (λ kept. kept ≡ text)
 
 -- the error that is held, or that octets are missing
 abbrev pub FlattenedTo : {E F : Type 0} → (E → F → Type 0) → (Error → F → Type 0) → Refusal E → F → Type 0

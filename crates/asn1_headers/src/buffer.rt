@@ -1,7 +1,7 @@
 //! Octets that grow at the front: what is written from the back stands in one buffer, so that the header of an element
 //! is put before contents octets whose number is known.
-ghost use Rattle.std.specs.Prelude.{◌≡◌, ◌≤◌, ◌<◌, ◌+◌, ◌-◌, ◌++◌, ◌∷◌, ℕ, List, [], length, drop};
-ghost use Rattle.std.specs.Prelude.{vec_len, true, false, IfOk, IfErr, Err, MatchResult};
+ghost use Rattle.std.specs.Prelude.{◌≡◌, ◌↔◌, ◌≤◌, ◌<◌, ◌+◌, ◌-◌, ◌++◌, ◌∷◌, ℕ, List, [], length, drop};
+ghost use Rattle.std.specs.Prelude.{vec_len, IsTrue, true, false, IfOk, IfErr, Err, MatchResult};
 ghost use Rattle.x690.specs.Strict.{header_octets, identifier_octets};
 ghost use Rattle.asn1_headers.specs.Error.{tells_of_io};
 ghost use Rattle.asn1_headers.specs.Header.Writing.{parts_identifier, strict_header};
@@ -56,6 +56,13 @@ impl DerBuffer {
         ensures { result ≡ length self.now }
     {
         self.octets.len() - self.start
+    }
+
+    /// Whether it holds none.
+    pub fn is_empty(&self) -> bool
+        ensures { IsTrue result ↔ self.now ≡ [] }
+    {
+        self.as_bytes().is_empty()
     }
 
     /// The octets that it holds.

@@ -5,7 +5,7 @@
 //! has a proof whose signature names `'static` too. The smallest one is `x.len()` at an
 //! `Option<Tagged<Leaf<'_>, Error>>`, where `len` answers `Result<usize, Error>` and `Tagged<T, E>` names the error
 //! type.
-ghost use Rattle.std.specs.Prelude.{◌≡◌, ◌≤◌, length, take, string_bytes, nat_eq, Some, IsUtf8, IsOk, IfOk};
+ghost use Rattle.std.specs.Prelude.{◌≡◌, ◌≤◌, ◌<◌, length, take, string_bytes, nat_eq, Some, IsUtf8, IsOk, IfOk};
 ghost use Rattle.std.specs.Cmp.{on_equiv, on_per, partial_equiv_from_equiv};
 ghost use Rattle.std.specs.Cmp.Lexicographic.{pointwise, nat_list_eq_equiv};
 
@@ -59,18 +59,21 @@ pub struct Message {
 }
 
 impl Message {
-    ghost use Rattle.asn1_headers.specs.Message.{message_text};
+    ghost use Rattle.asn1_headers.specs.Message.{message_text, IsLongestBeginning};
 
     /// How many octets a text may have that lies in the value itself.
     pub const CAPACITY: usize = 30;
 
-    /// A short text. This takes no memory.
+    /// A short text. A longer one is cut to `CAPACITY` octets, or to the end of a character before. This takes no
+    /// memory.
     pub fn short(text: &str) -> Message
-        requires { length text.now ≤ Message.CAPACITY }
-        ensures { message_text result ≡ text.now }
+        ensures whole { length text.now ≤ Message.CAPACITY → message_text result ≡ text.now }
+        ensures cut { Message.CAPACITY < length text.now →
+            IsLongestBeginning Message.CAPACITY text.now (message_text result) }
     {
+        let kept = text.floor_char_boundary(Message::CAPACITY);
         Message {
-            held: Held::Inline(Inline::new(text)),
+            held: Held::Inline(Inline::new(&text[..kept])),
         }
     }
 

@@ -1,6 +1,7 @@
 //! Tag numbers (X.690 8.1.2, X.680 8.6).
-ghost use Rattle.std.specs.Prelude.{◌≡◌, ◌≢◌, ◌≤◌, length, Some, IfSome, IfNone, MatchResult, []};
-ghost use Rattle.asn1_headers.specs.Error.{IsInvalidValue};
+ghost use Rattle.std.specs.Prelude.{◌≡◌, ◌≢◌, ◌≤◌, ◌<◌, length, Some, IfSome, IfNone, MatchResult, []};
+ghost use Rattle.asn1_headers.specs.Error.{IsInvalidValue, IsInvalidValueOf};
+ghost use Rattle.asn1_headers.specs.Message.{IsLongestBeginning};
 ghost use Rattle.asn1_headers.specs.Tag.{name_of, tag_text, is_container};
 ghost use Rattle.asn1_headers.specs.declared.error.Error.TheVariants as errors;
 
@@ -114,12 +115,14 @@ impl Tag {
         }
     }
 
-    /// The refusal `InvalidValue` of this tag, with a short text. This takes no memory.
+    /// The refusal `InvalidValue` of this tag, with a text that is kept as by `Message::short`. This takes no memory.
     ///
     /// One with a longer text is made by `Error::invalid_value`.
     pub fn invalid_value(&self, msg: &str) -> Error
-        requires { length msg.now ≤ Message.CAPACITY }
-        ensures { IsInvalidValue self.now msg.now result }
+        ensures whole { length msg.now ≤ Message.CAPACITY →
+            IsInvalidValue self.now msg.now result }
+        ensures cut { Message.CAPACITY < length msg.now → IsInvalidValueOf self.now
+            (IsLongestBeginning Message.CAPACITY msg.now) result }
     {
         Error::invalid_value(*self, Message::short(msg))
     }

@@ -272,8 +272,17 @@ fn messages_are_made_of_texts(rt: HostRuntime) -> Result<(), Fail> {
         Message::short("").as_str().is_empty(),
         Message::short(&long[..30]).as_str() == &long[..30],
         Message::copied(alloc, &long[..30])?.as_str() == &long[..30],
+        Message::short(long).as_str() == &long[..30],
+        Message::short("twenty-nine octets before an \u{e9}")
+            .as_str()
+            .len()
+            == 29,
     ];
-    assert_shown(alloc, &facts, "[true, true, true, false, true, true, true]")?;
+    assert_shown(
+        alloc,
+        &facts,
+        "[true, true, true, false, true, true, true, true, true]",
+    )?;
     assert_shown(alloc, &copied, "\"a text of more than thirty octets\"")?;
     assert_texts(
         alloc,

@@ -41,9 +41,11 @@ pub trait CharacterCode {
 }
 
 /// The code UTF-16, the highest octet of a unit first (X.690 8.23.8).
+#[derive(Debug)]
 pub struct Utf16;
 
 /// The code in four octets, the highest first (X.690 8.23.7).
+#[derive(Debug)]
 pub struct Ucs4;
 
 /// Writes a unit of UTF-16 at a place, the highest octet first.

@@ -25,6 +25,7 @@ pub trait Encodings {
 }
 
 /// The strict elements, as encodings of an identifier and contents octets (X.690 10.1).
+#[derive(Debug)]
 pub struct StrictElements;
 
 impl Encodings for StrictElements {

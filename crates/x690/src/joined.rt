@@ -22,6 +22,7 @@ pub trait Words {
 }
 
 /// The elements by DER, as words whose values are their parts.
+#[derive(Debug)]
 pub struct DerElements;
 
 impl Words for DerElements {

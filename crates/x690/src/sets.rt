@@ -21,18 +21,22 @@ pub trait CharacterSet {
 }
 
 /// Digits and the space: the set of `NumericString` (X.680 41.2).
+#[derive(Debug)]
 pub struct Numeric;
 
 /// Letters, digits, the space and `'()+,-./:=?`: the set of `PrintableString` (X.680 41.4).
+#[derive(Debug)]
 pub struct Printable;
 
 /// The octets below 80: the set of `IA5String`, and here also of `GeneralString`, `GraphicString` and
 /// `ObjectDescriptor` (X.680 41.1).
+#[derive(Debug)]
 pub struct Ascii;
 
 /// The octets from 20 to 7f: the set of `VisibleString` with 7f beside it, and here also of `TeletexString` and
 /// `VideotexString` (X.680 41.1).
 // X.680 leaves 7f out; it is there as in asn1-rs.
+#[derive(Debug)]
 pub struct Visible;
 
 impl CharacterSet for Numeric {

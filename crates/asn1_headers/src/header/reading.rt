@@ -24,7 +24,7 @@ use std::borrow::CowSlice;
 use x690::digits::{base_256_number, tag_number};
 
 /// Identifier octets that were read, with what they say.
-#[derive(Clone, Copy)]
+#[derive(Debug, Clone, Copy)]
 pub struct IdentifierOctets<'a> {
     class: Class,
     constructed: bool,

@@ -62,7 +62,7 @@ pub fn fractions_omit_zeros()
 {}
 
 /// The strict text of a GeneralizedTime.
-#[derive(Drop)]
+#[derive(Debug, Drop)]
 pub struct TimeText {
     octets: [u8; 19],
     len: usize,
