@@ -10,6 +10,9 @@ what the earlier ones made. It applies where each old text stands exactly once i
 something. One of mutants/ has a line 'claim: NAME' too, or 'claim: NAME, NAME', with the claims that it turns. `rt`
 reads those of must-fail/ and knows no such line, so their names stand in the page, behind the clauses.
 
+An edit that names what there is not can't compile, and judges nothing. So each function that a new text calls, and each
+method, stands in a source of the repository, in the edit itself, or in OF_STD.
+
 A claim of docs/CLAIMS.md is a name in bold, or several with commas between; behind it, in brackets, stand clauses, or
 what one cites (a ghost member, a definition, a trait, a function), and then perhaps 'must-fail' and names of edits. It
 has an edit, or says behind its name with one of MARKS why there is none; those below the line 'Laws:' need neither.
@@ -65,6 +68,27 @@ class Edit:
             texts[file] = texts[file].replace(old, new)
         is_same = all((folder / file).read_text(encoding="utf-8") == text for file, text in texts.items())
         return "it changes nothing" if is_same else None
+
+
+# A word with a bracket behind it, perhaps with type arguments between: a call.
+CALL = re.compile(r"\b([A-Za-z_]\w*)(?:::<[^()]*>)?\(")
+DEFINED = re.compile(r"\bfn ([A-Za-z_]\w*)")
+WORD = re.compile(r"\b[A-Za-z_]\w*")
+
+# Functions of std that edits call and no source does.
+OF_STD = {"error_len", "filter", "sort", "to_ascii_lowercase", "truncate"}
+
+
+def code_words():
+    """Returns the words of the sources, without those of comments."""
+    sources = (file.read_text(encoding="utf-8") for file in TOP.glob("crates/*/src/**/*.rt"))
+    return {word for text in sources for word in WORD.findall(re.sub(r"//.*", "", text))}
+
+
+def unknown_calls(edit, words):
+    """Returns what the edit calls, where neither the edit nor these words have it."""
+    olds, news = " ".join(old or "" for old, _ in edit.pairs), " ".join(new for _, new in edit.pairs)
+    return sorted(set(CALL.findall(news)) - words - OF_STD - set(WORD.findall(olds)) - set(DEFINED.findall(news)))
 
 
 # What the column of clauses may name: clauses and ghost members, functions and traits, and definitions.
@@ -169,6 +193,9 @@ def main(*words):
             print(f"{path.relative_to(TOP)}: does not apply: {fault}")
     print(f"{faults} of {len(edits)} edits do not apply" if faults else f"{len(edits)} edits apply")
     wrong = list(wrong_names(found, edits))
+    code = code_words()
+    for path, edit in edits.items():
+        wrong += [f"{path.relative_to(TOP)}: it calls {name}, which no source has" for name in unknown_calls(edit, code)]
     for fault in wrong:
         print(fault)
     return 1 if faults or wrong else 0
