@@ -195,7 +195,8 @@ def main(*words):
     wrong = list(wrong_names(found, edits))
     code = code_words()
     for path, edit in edits.items():
-        wrong += [f"{path.relative_to(TOP)}: it calls {name}, which no source has" for name in unknown_calls(edit, code)]
+        for name in unknown_calls(edit, code):
+            wrong.append(f"{path.relative_to(TOP)}: it calls {name}, which no source has")
     for fault in wrong:
         print(fault)
     return 1 if faults or wrong else 0

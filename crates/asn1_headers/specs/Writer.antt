@@ -48,8 +48,8 @@ pub record Wrote (octets : List ℕ) (old new : WriterState) (answer : Result �
   pub marked : IsTrue old.failed → OnOk answer (octets ≡ [])
   pub nothing : octets ≡ [] → is_io answer ≡ false
 
--- Why a writing of n octets may be refused: its writer failed, their number is past what 64 bits hold, or,
--- where it allocates, an allocation was refused.
+-- Why a writing of n octets may be refused: its writer failed, their number is past what 64 bits hold, or, where it
+-- allocates, out of memory. Of that it says no more than that the writing is one that allocates.
 abbrev pub MayRefuse : Bool → ℕ → SerializeError → Type 0
 MayRefuse allocates n (serialize_errors.ASN1Error e) = ⊥
 MayRefuse allocates n (serialize_errors.InvalidClass c) = ⊥

@@ -45,7 +45,8 @@ pub enum Err<E> {
     /// Octets are missing at the end of the input; or, at a value under an explicit tag and at what a
     /// closure reads, at the end of a part that is whole itself, where more input does not help.
     Incomplete(Needed),
-    /// The input is refused, whatever follows.
+    /// The input is refused, whatever follows; but an input that ends within identifier octets in high form is refused
+    /// with `InvalidTag`, and more octets may help.
     Error(E),
     /// As `Error`, where no other reading may be tried.
     Failure(E),

@@ -14,7 +14,7 @@ use asn1_headers::tag::Tag;
 use std::alloc::Global;
 
 /// The fields of a sequence that are still to be read.
-#[derive(Drop)]
+#[derive(Debug, Drop)]
 pub struct FieldReader<'a> {
     alloc: Global,
     left: &'a [u8],

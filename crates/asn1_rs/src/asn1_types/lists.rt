@@ -81,8 +81,9 @@ where
 
 /// A list or a set, by its items.
 // Each collection gives its own iterator to the walks below, since an impl can't ask that one is given at every
-// lifetime, as `for<'s> &'s L: IntoIterator` does in Rust. Items are seen through `Deref`: `Iterator<Item = &'s T>` had
-// no proof while `Error` named `'static`, and has one now (`count_all` of `asn1_rs_uses`).
+// lifetime, as `for<'s> &'s L: IntoIterator` does in Rust. Items are seen through `Deref`, so
+// that a walk takes an iterator of any holders of items. Where it gives references, one over `Iterator<Item = &'s T>` is
+// proved too (`count_all` of `asn1_rs_uses`).
 pub trait Listed: Tagged {
     /// The items.
     type Item;
@@ -117,9 +118,7 @@ pub trait Listed: Tagged {
 }
 
 /// A list: a type that is made of items, which stand in the contents octets of one element.
-// So one conversion serves all lists, a caller's too. One of `Vec<T>` itself calls by the bound
-// `T: FromBer<'a, Error>`, which had no proof while `Error` named `'static`, and has one now (`read_by_bound` of
-// `asn1_rs_uses`).
+// So one conversion serves all lists, a caller's too, at each error type that the items' reader has.
 pub trait FromItems: Tagged + Sized {
     /// The items.
     type Item;
@@ -437,7 +436,7 @@ pub(crate) fn prepend_and_count<T: ToDer>(
 }
 
 /// Encodings, one after another, with the number of octets of each.
-#[derive(Drop)]
+#[derive(Debug, Drop)]
 pub struct PackedEncodings {
     pub(crate) octets: Vec<u8>,
     pub(crate) lengths: Vec<usize>,

@@ -55,7 +55,7 @@ fn held<'a, T, E>(answer: ParseResult<'a, T, E>) -> ParseResult<'a, Option<T>, E
 /// begins them. Nothing is consumed then. The class is not looked at, and octets that no header begins are refused as
 /// the type refuses them.
 // A reader of its own and no conversion: the header before it tells whether a value is left out, and no element has the
-// value None. At `Error` alone the call by the bound had no proof, as in lists.
+// value None. It reads at each error type that the value's reader has.
 impl<'a, T: FromBer<'a, E> + Tagged, E: From<Error>> FromBer<'a, E> for Option<T> {
     ghost ber_gives = { OptionGives (IsLeftOut ber_rule (T.TAG).0) T.ber_gives };
 

@@ -46,19 +46,23 @@ use std::marker::PhantomData;
 pub trait CollectionKind {}
 
 /// The kind of lists that are sequences of their items, in order (X.690 8.10).
+#[derive(Debug)]
 pub struct SequenceKind;
 
 impl CollectionKind for SequenceKind {}
 
 /// The kind of sets, in which the order of the items says nothing (X.690 8.12). `M` is [`Repeats`] or [`Once`].
+#[derive_where(Debug)]
 pub struct SetKind<M>(PhantomData<M>);
 
 impl<M> CollectionKind for SetKind<M> {}
 
 /// Of sets in which an item may stand more than once.
+#[derive(Debug)]
 pub struct Repeats;
 
 /// Of sets in which each item stands once.
+#[derive(Debug)]
 pub struct Once;
 
 /// A list that is written as its items, one after another.

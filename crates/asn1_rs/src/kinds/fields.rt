@@ -23,6 +23,7 @@ use asn1_headers::writer::{DerWrite, Told, put_all};
 use std::alloc::Global;
 
 /// The kind of types that are written as their fields, one after another, under one header.
+#[derive(Debug)]
 pub struct FieldsKind;
 
 /// A value that is written as one constructed element of the universal class, with the tag number of its type: the
@@ -53,13 +54,13 @@ pub trait WritesFields: HasKind<Kind = FieldsKind> {
 }
 
 /// What takes the fields of a value: it counts their encodings, or collects them.
-#[derive(Drop)]
+#[derive(Debug, Drop)]
 pub struct Fields {
     taken: Taken,
 }
 
 /// What was taken of the fields so far: the number of their octets, or the octets.
-#[derive(Drop)]
+#[derive(Debug, Drop)]
 enum Taken {
     Counted(usize),
     Collected(Global, Told<Vec<u8>>),

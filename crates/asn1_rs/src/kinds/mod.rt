@@ -1,10 +1,11 @@
-//! How types of items come by their grammars and laws: by the element that they are read as, or by the item that they
-//! hold or refer to.
+//! How types come by their grammars and laws, and by writing. There are five kinds: of types that are read as one
+//! element, of those that hold or refer to one item, of lists and sets, of sequences of fields, and of values under a
+//! tag.
 //!
 //! A type that is read as one element, checked and converted, names its kind, [`ElementKind`], and says once how it is
 //! read and that this is exact ([`leaf`]). The traits of readers ([`reading`]), of writing ([`writing`]) and of
-//! [`laws`](crate::laws) follow from these. Lists and sets name kinds of their own ([`collections`]), values under a
-//! tag too ([`TagMark`](crate::asn1_types::tagged::TagMark)). A type of another make has those traits itself and no
+//! [`laws`](crate::laws) follow from these. Lists and sets name kinds of their own ([`collections`]), sequences
+//! of fields too ([`fields`]), and values under a tag ([`TagMark`](crate::asn1_types::tagged::TagMark)). A type of another make has those traits itself and no
 //! kind.
 
 pub(crate) mod collections;
@@ -36,9 +37,11 @@ pub trait HasKind {
 }
 
 /// The kind of types that are read as one element, checked and converted.
+#[derive(Debug)]
 pub struct ElementKind;
 
 /// The kind of references, and of other types that hold one item and nothing else.
+#[derive(Debug)]
 pub struct HolderKind;
 
 impl<T> HasKind for &T {
@@ -97,6 +100,7 @@ pub trait TaggedAs {
 }
 
 /// A tag number, as a type.
+#[derive(Debug)]
 pub struct TagNumber<const N: u32>;
 
 impl<const N: u32> Tagged for TagNumber<N> {

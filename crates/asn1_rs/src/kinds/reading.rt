@@ -2,8 +2,8 @@
 //! the type's kind, reading by DER by the reader that the type names.
 //!
 //! Each trait has one impl for all types with a kind, and beside it impls for types without one. So at a list or at a
-//! value under a tag one impl alone can be meant, and the checker goes down nested types one way. Where two can be
-//! meant, it looks into each first, and the depth of this search is bounded.
+//! value under a tag one impl alone can be meant. Types nest deeper so; that the checker looks into each impl that can be
+//! meant, to a bounded depth, is inferred from tries (docs/DECISIONS.md).
 ghost use Rattle.std.specs.Prelude.{◌≡◌, ℕ, List, Result, Err, IfErr, false};
 ghost use Rattle.x690.specs.Octets.{IsOctets};
 ghost use Rattle.x690.specs.Identifiers.{IsCutIdentifier};
@@ -87,6 +87,7 @@ pub trait HasReader {
 }
 
 /// The reader of types that are read as one element, checked and converted.
+#[derive(Debug)]
 pub struct ElementReader;
 
 impl<T: DerAutoDerive> HasReader for T {
@@ -94,6 +95,7 @@ impl<T: DerAutoDerive> HasReader for T {
 }
 
 /// The reader of lists. `F` is [`AnyForm`] or [`ConstructedForm`].
+#[derive_where(Debug)]
 pub struct ListReader<F>(PhantomData<F>);
 
 /// The form that an element has to have: primitive or constructed (X.690 8.1.2.5).
@@ -107,6 +109,7 @@ pub trait EncodingForm {
 }
 
 /// Of lists whose constructed bit is not looked at.
+#[derive(Debug)]
 pub struct AnyForm;
 
 impl EncodingForm for AnyForm {
@@ -118,6 +121,7 @@ impl EncodingForm for AnyForm {
 }
 
 /// Of lists that are refused where the element is primitive.
+#[derive(Debug)]
 pub struct ConstructedForm;
 
 impl EncodingForm for ConstructedForm {

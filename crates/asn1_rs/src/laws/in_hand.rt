@@ -29,6 +29,7 @@ pub trait States<T> {
 }
 
 /// States that the value of an item is one of its type's.
+#[derive(Debug)]
 pub struct OfValue;
 
 impl<T: LawfulItem> States<T> for OfValue {
@@ -40,6 +41,7 @@ impl<T: LawfulItem> States<T> for OfValue {
 }
 
 /// States that it is in DER form.
+#[derive(Debug)]
 pub struct OfDer;
 
 impl<T: AlwaysDer> States<T> for OfDer {

@@ -119,8 +119,7 @@ impl<'a> Any<'a> {
     }
 
     /// Reads a value by DER at the front of the contents octets, and answers what follows it there.
-    // It reads, and so does `parse_ber`, at each error type that the reader has. At `Error` alone the call by a bound
-    // with a lifetime had no proof while `Error` named `'static`; it has one now (`read_by_bound` of `asn1_rs_uses`).
+    // It reads, and so does `parse_ber`, at each error type that the reader has, a caller's too.
     pub fn parse_der<T: FromDer<'a, E>, E>(&self, alloc: Global) -> ParseResult<'a, T, E>
         ensures { T.der_gives self.now.content.now (seen result) }
     {

@@ -23,7 +23,7 @@ pub trait KeptKind {
 }
 
 /// Marks [`Sequence`]. It has an equality, so sequences have one.
-#[derive(PartialEq, Eq)]
+#[derive(Debug, PartialEq, Eq)]
 pub struct SequenceMark;
 
 impl KeptKind for SequenceMark {
@@ -37,6 +37,7 @@ impl KeptKind for SequenceMark {
 }
 
 /// Marks [`Set`]. It has no equality, so sets have none.
+#[derive(Debug)]
 pub struct SetMark;
 
 impl KeptKind for SetMark {

@@ -188,6 +188,7 @@ pub fn classes_of_tags() -> [u8; 8]
 }
 
 /// The kind of values under a tag, and their reader. `K` is [`Explicit`] or [`Implicit`].
+#[derive_where(Debug)]
 pub struct TagMark<K>(PhantomData<K>);
 
 impl<T, E, Kind, const CLASS: u8, const TAG: u32> HasKind for TaggedValue<T, E, Kind, CLASS, TAG> {

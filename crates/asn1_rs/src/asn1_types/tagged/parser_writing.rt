@@ -11,10 +11,10 @@ ghost use Rattle.asn1_headers.specs.Header.{identifier_of};
 use crate::asn1_types::tagged::parser::TaggedParser;
 use crate::asn1_types::tagged::{Explicit, Implicit};
 use crate::header::{element_len, put_counted_header};
-use crate::to_der::{ToDer, stands};
+use crate::to_der::ToDer;
 use asn1_headers::buffer::{DerBuffer, prepend_element};
-use asn1_headers::error::{Error, SerializeResult, without_io};
-use asn1_headers::writer::{DerWrite, Told, add_written, put_all};
+use asn1_headers::error::{Error, SerializeResult};
+use asn1_headers::writer::DerWrite;
 use std::alloc::Global;
 
 /// What an element under a tag of this kind has of the value: its contents octets, and its constructed bit.
@@ -110,9 +110,7 @@ impl<T: ToDer> PutsUnder<T> for Implicit {
 
 /// Of the header in hand, the class and the tag number are written: the length and the constructed
 /// bit are those of what is written. The raw form is the DER form.
-// At the error type `Error` alone, so that a call need not name it. All eleven calls are written here: the trait's
-// bodies had no proof at a type with a lifetime and type parameters while `Error` named `'static`. In a crate above
-// each call has one now (`by_each_call` of `asn1_rs_uses`).
+// At the error type `Error` alone, so that a call need not name it.
 impl<Kind: PutsUnder<T>, T: ToDer> ToDer for TaggedParser<'_, Kind, T, Error> {
     ghost writing = { headed_writing (λ t. identifier_of t.header) (λ t. t.inner) Kind.under
         T.writing };
@@ -149,33 +147,5 @@ impl<Kind: PutsUnder<T>, T: ToDer> ToDer for TaggedParser<'_, Kind, T, Error> {
         let constructed = Kind::constructed_bit(&self.inner);
         let content = Kind::prepend_under(&self.inner, alloc, buf);
         prepend_element(class, constructed, self.header.tag().0, content, buf)
-    }
-
-    #[inline(always)]
-    fn write_der<W: DerWrite>(&self, alloc: Global, w: &mut W) -> SerializeResult<usize> {
-        let mut buf = DerBuffer::new(alloc);
-        if stands(self.prepend_der(alloc, &mut buf))? {
-            return put_all(w, buf.as_bytes());
-        }
-        let before = self.write_der_header(alloc, w)?;
-        let after = self.write_der_content(alloc, w)?;
-        add_written(before, after)
-    }
-
-    fn write_der_raw<W: DerWrite>(&self, alloc: Global, w: &mut W) -> SerializeResult<usize> {
-        self.write_der(alloc, w)
-    }
-
-    #[inline(always)]
-    fn to_der_vec(&self, alloc: Global) -> SerializeResult<Vec<u8>> {
-        let mut w = Told::new(Vec::new(alloc));
-        match self.write_der(alloc, &mut w) {
-            Ok(_) => Ok(w.into_inner()),
-            Err(e) => Err(without_io(e)),
-        }
-    }
-
-    fn to_der_vec_raw(&self, alloc: Global) -> SerializeResult<Vec<u8>> {
-        self.to_der_vec(alloc)
     }
 }
