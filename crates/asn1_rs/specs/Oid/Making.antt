@@ -98,4 +98,4 @@ OidReadFrom text (Err TooShort) = SaysArcs text × OidMade false (arcs_said text
 OidReadFrom text (Err FirstComponentsTooLarge) =
     SaysArcs text × OidMade false (arcs_said text) (Err FirstComponentsTooLarge)
 OidReadFrom text (Err ParseIntError) = ¬ (SaysArcs text)
-OidReadFrom text (Err OutOfMemory) = SaysArcs text
+OidReadFrom text (Err OutOfMemory) = SaysArcs text × OidMade false (arcs_said text) (Err OutOfMemory)

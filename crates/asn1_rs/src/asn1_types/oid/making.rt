@@ -1,8 +1,9 @@
 //! Object identifiers and relative ones as they are made, of arcs or of text (X.690 8.19, 8.20).
-ghost use Rattle.std.specs.Prelude.{◌≡◌, ◌∷◌, ◌++◌, ◌^◌, ◌<◌, false, true, IfErr, IfOk};
+ghost use Rattle.std.specs.Prelude.{◌≡◌, [], ◌∷◌, ◌++◌, ◌^◌, ◌<◌, false, true, Err, IfErr, IfNone, IfOk, IfSome};
 ghost use Rattle.x690.specs.Arcs.{AreAbsoluteArcs, subidentifier_octets, with_first_joined};
 ghost use Rattle.x690.specs.Strict.{tag_digits};
-ghost use Rattle.asn1_rs.specs.Oid.Making.{ArcsRead, OidMade, OidReadFrom, RefusesArcs};
+ghost use Rattle.asn1_rs.specs.Oid.Making.{ArcsRead, OidMade, OidReadFrom, RefusesArcs, SaysArc, SaysArcs, arc_said};
+ghost use Rattle.asn1_rs.specs.Oid.Making.{arcs_said, parts_between_points};
 ghost use Rattle.asn1_rs.specs.declared.asn1_types.oid.making.OidParseError.TheVariants as refusals;
 
 use crate::asn1_types::oid::Oid;
@@ -96,6 +97,51 @@ fn arcs_of_text(alloc: Global, s: &str) -> Result<Vec<u64>, OidParseError>
     }
 }
 
+/// Why no object identifier is made of arcs for which there is no memory: as [`Oid::from`] refuses them, else for this.
+fn refused_without_memory(arcs: &[u64]) -> OidParseError
+    ensures { OidMade false arcs.now (Err result) }
+{
+    match join_first(arcs) {
+        Ok(_) => OidParseError::OutOfMemory,
+        Err(e) => e,
+    }
+}
+
+/// The text before the first point, and that behind it, where there is one.
+fn first_part(s: &str) -> (&str, Option<&str>)
+    ensures one { IfNone result.1 (parts_between_points s.now ≡ result.0.now ∷ []) }
+    ensures more { IfSome result.1
+        (λ others. parts_between_points s.now ≡ result.0.now ∷ parts_between_points others.now) }
+{
+    match s.split_once('.') {
+        Some((part, others)) => (part, Some(others)),
+        None => (s, None),
+    }
+}
+
+/// The arc that a part of a text says.
+fn arc_of_part(part: &str) -> u64
+    requires { SaysArc part.now }
+    ensures { result ≡ arc_said part.now }
+{
+    part.parse().unwrap_or(0)
+}
+
+/// Why no object identifier is made of the arcs that a text says, where there is no memory for them. The first two
+/// decide whether they are refused, so they alone are looked at.
+fn text_refused_without_memory(s: &str) -> OidParseError
+    requires { SaysArcs s.now }
+    ensures { OidMade false (arcs_said s.now) (Err result) }
+{
+    let (part, others) = first_part(s);
+    let first = arc_of_part(part);
+    let Some(others) = others else {
+        return refused_without_memory(&[first]);
+    };
+    let (part, _) = first_part(others);
+    refused_without_memory(&[first, arc_of_part(part)])
+}
+
 impl Oid<'_> {
     /// The object identifier of these arcs, by its shortest contents octets, in memory of its own (X.690 8.19). Its
     /// arcs are those given, but that 0, 0 has the contents octets of the one arc 0.
@@ -131,11 +177,14 @@ impl Oid<'_> {
     /// (X.690 8.19). Each part is read as `str::parse` reads a `u64`, so a plus may stand in front of it.
     ///
     /// Refused with `ParseIntError` where a part is no such number, as the one part of the empty text is; then, once
-    /// all are read, as [`Oid::from`] refuses their arcs, or with `OutOfMemory` where there is no memory for them.
+    /// all are read, as [`Oid::from`] refuses their arcs, whatever memory there is.
     pub fn from_str(alloc: Global, s: &str) -> Result<Oid<'static>, OidParseError>
         ensures { OidReadFrom s.now result }
     {
-        let arcs = arcs_of_text(alloc, s)?;
-        Oid::from(alloc, &arcs)
+        match arcs_of_text(alloc, s) {
+            Ok(arcs) => Oid::from(alloc, &arcs),
+            Err(OidParseError::OutOfMemory) => Err(text_refused_without_memory(s)),
+            Err(e) => Err(e),
+        }
     }
 }
