@@ -173,7 +173,7 @@ pub held_is_read_back : {T V E : Type 0} (rule : Rule) → AllowsStrict rule →
     Exactly IsCut G value memory octets its)
     → ReadsHeldBack (OptionGives (IsLeftOut rule number) reads) Form value memory
 held_is_read_back rule allows IsCut Form G value memory number equality strict one numbered reads exact octets answer v w rest
-    are (inl (out, e)) s is = 
+    are (inl (out, e)) s is =
     absurd (∥∥₁_elim s ⊥_prop (λ t. strict_stays rule allows Form number numbered v octets w rest t is out))
 held_is_read_back rule allows IsCut Form G value memory number equality strict one numbered reads exact octets answer v w rest
     are (inr (stays, (its, gives, e))) s is =
