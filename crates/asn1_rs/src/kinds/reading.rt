@@ -27,7 +27,7 @@ ghost use Rattle.asn1_rs.specs.Laws.Readers.{element_exact, element_no_memory, d
 use crate::asn1_types::any::Any;
 use crate::der::element_by_der;
 use crate::kinds::{ElementKind, HasKind, LawfulConversion, LawfulElement};
-use crate::laws::{Grammar, LawfulAuto, LawfulBody, LawfulCheck, LawfulDer, LawfulItem};
+use crate::laws::{LawfulAuto, LawfulBody, LawfulCheck, LawfulDer, LawfulItem};
 use crate::traits::{CheckDerConstraints, DerAutoDerive, FromAny, FromDer, converted};
 use asn1_headers::error::{Err, Error, ParseResult};
 use asn1_headers::tag::Tag;
@@ -156,7 +156,7 @@ impl<'a, T: HasReader + FromDerBy<'a, T::Reader, E>, E> FromDer<'a, E> for T {
 /// refusal.
 impl<'a, T, E> FromDerBy<'a, ElementReader, E> for T
 where
-    T: FromAny<'a, Error = E> + CheckDerConstraints,
+    T: FromAny<'a, Error = E> + CheckDerConstraints + DerAutoDerive,
     E: From<Error>,
 {
     ghost gives_by_reader = { DerGives T.check_gives T.any_gives E.from_gives };
@@ -175,7 +175,7 @@ where
 }
 
 /// The law of the conversion to a type of this kind.
-pub trait LawfulBodyBy<'a, K, E: From<Error>>: FromAny<'a, Error = E> + Grammar {
+pub trait LawfulBodyBy<'a, K, E: From<Error>>: FromAny<'a, Error = E> + LawfulItem {
     /// `body_exact`.
     ghost exact_by_kind: { (any : Any) (answer : Result Self E) → IsOctets any.content.now →
         Self.any_gives any answer →
@@ -201,7 +201,7 @@ impl<'a, T: LawfulConversion<'a>> LawfulBodyBy<'a, ElementKind, Error> for T {
 }
 
 /// The law of the check for a type of this kind.
-pub trait LawfulCheckBy<K>: CheckDerConstraints + Grammar {
+pub trait LawfulCheckBy<K>: CheckDerConstraints + LawfulItem {
     /// `checks`.
     ghost checks_by_kind: { IsExactCheck Self.check_gives Self.grammar.Check };
 }
@@ -211,7 +211,7 @@ impl<T: HasKind + LawfulCheckBy<T::Kind>> LawfulCheck for T {
 }
 
 /// The law of reading by DER by this reader.
-pub trait LawfulDerBy<'a, R, E: From<Error>>: FromDer<'a, E> + Grammar {
+pub trait LawfulDerBy<'a, R, E: From<Error>>: FromDer<'a, E> + LawfulItem {
     /// `der_exact`.
     ghost exact_by_reader: { (input : List ℕ) (answer : Result (List ℕ × Self) (Refusal E)) →
         IsOctets input → Self.der_gives input answer →
@@ -224,10 +224,7 @@ pub trait LawfulDerBy<'a, R, E: From<Error>>: FromDer<'a, E> + Grammar {
         Self.der_gives input answer → IfErr answer (HeldIn (IsOther E.from_gives)) };
 }
 
-impl<'a, T, E: From<Error>> LawfulDer<'a, E> for T
-where
-    T: HasReader + LawfulDerBy<'a, T::Reader, E> + LawfulItem,
-{
+impl<'a, T: HasReader + LawfulDerBy<'a, T::Reader, E>, E: From<Error>> LawfulDer<'a, E> for T {
     ghost der_exact = { T.exact_by_reader };
 
     ghost der_no_memory = { T.no_memory_by_reader };
@@ -235,19 +232,17 @@ where
 
 impl<'a, T, E: From<Error>> LawfulDerBy<'a, ElementReader, E> for T
 where
-    T: LawfulBodyBy<'a, ElementKind, E> + LawfulCheckBy<ElementKind> + LawfulAuto,
+    T: LawfulBody<'a, E> + LawfulAuto,
 {
     ghost exact_by_reader = { λ input answer octets.
         element_exact IsDerElement DerElementFault IsCutIdentifier der_elements
         der_breach
         T.check_gives T.any_gives E.from_gives T.grammar.Check T.grammar.Body T.grammar.value
-        T.grammar.allocates T.grammar.Der T.checks_by_kind.exact T.exact_by_kind T.der_split
-        T.der_join
+        T.grammar.allocates T.grammar.Der T.checks.exact T.body_exact T.der_split T.der_join
         input answer };
 
     ghost no_memory_by_reader = { λ none.
         element_no_memory IsDerElement DerElementFault
         der_breach der_breach_no_memory
-        T.check_gives T.any_gives E.from_gives T.checks_by_kind.asks_no_memory
-        (T.no_memory_by_kind none) };
+        T.check_gives T.any_gives E.from_gives T.checks.asks_no_memory (T.body_no_memory none) };
 }

@@ -70,7 +70,7 @@ pub trait LawfulItem: Grammar {
 }
 
 /// The conversion of an element is exact: it finds the value of the body, and refuses only where there is none.
-pub trait LawfulBody<'a, E: From<Error>>: FromAny<'a, Error = E> + Grammar {
+pub trait LawfulBody<'a, E: From<Error>>: FromAny<'a, Error = E> + LawfulItem {
     /// An Ok is the value of the body; an Err comes only where there is none, or when out of memory.
     ghost body_exact: { (any : Any) (answer : Result Self E) → IsOctets any.content.now →
         Self.any_gives any answer →
@@ -83,7 +83,7 @@ pub trait LawfulBody<'a, E: From<Error>>: FromAny<'a, Error = E> + Grammar {
 }
 
 /// The check of an element is exact.
-pub trait LawfulCheck: CheckDerConstraints + Grammar {
+pub trait LawfulCheck: CheckDerConstraints + LawfulItem {
     /// The check passes exactly the parts that meet the constraints, and never reports out of memory.
     ghost checks: { IsExactCheck Self.check_gives Self.grammar.Check };
 }
@@ -91,7 +91,7 @@ pub trait LawfulCheck: CheckDerConstraints + Grammar {
 /// The words by DER are the elements of definite length that pass the check and have a body.
 // Its one impl is the identity. In a generic function the grammar of a bound is any grammar, so it can't be told there
 // that its words are these; by BER no type has other words.
-pub trait LawfulAuto: Grammar + DerAutoDerive {
+pub trait LawfulAuto: LawfulCheck + DerAutoDerive {
     /// Each word by DER is such an element, with this value.
     ghost der_split: { (o : List ℕ) (v : Self.grammar.Value) →
         Self.grammar.Der o v → DerWord Self.grammar.Check Self.grammar.Body o v };
@@ -140,7 +140,7 @@ pub trait LawfulWrite: ToDer + LawfulItem {
 /// The strict parts have the type's tag number.
 ///
 /// So an optional value of the type is told by its tag number.
-pub trait LawfulTagged: Grammar + Tagged {
+pub trait LawfulTagged: LawfulItem + Tagged {
     /// Strict parts have the tag number of the type.
     ghost tag_number: { FormNumber Self.grammar.Form (Self.TAG).0 };
 
@@ -166,7 +166,7 @@ pub trait LawfulMember: LawfulItem + Eq {
 
 impl<'a, T, E: From<Error>> LawfulBer<'a, E> for T
 where
-    T: FromAny<'a, Error = E> + LawfulBody<'a, E> + LawfulItem,
+    T: FromAny<'a, Error = E> + LawfulBody<'a, E>,
 {
     ghost ber_exact = { λ input answer octets.
         element_exact (IsElement max_depth) (ElementFault max_depth) EndsWithin ber_elements

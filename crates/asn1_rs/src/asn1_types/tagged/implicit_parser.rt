@@ -71,7 +71,7 @@ impl<T: Grammar + Tagged, E> Grammar for TaggedParser<'_, Implicit, T, E> {
         T.grammar };
 }
 
-impl<T: LawfulItem + TakesEachClass, E> LawfulItem for TaggedParser<'_, Implicit, T, E> {
+impl<T: TakesEachClass, E> LawfulItem for TaggedParser<'_, Implicit, T, E> {
     ghost lawful_item = { implicit_headed_lawful (λ t. identifier_of t.header) (T.TAG).0
         (λ t. t.inner) T.grammar T.lawful_item T.number_fits T.tag_number T.takes_each };
 
@@ -88,7 +88,7 @@ impl<T: LawfulWrite + TakesEachClass> LawfulWrite for TaggedParser<'_, Implicit,
         T.grammar T.writing T.lawful_item T.lawful_writing (T.TAG).0 };
 }
 
-impl<T: LawfulCheck + Tagged> LawfulCheck for TaggedParser<'_, Implicit, T, Error> {
+impl<T: LawfulCheck + TakesEachClass> LawfulCheck for TaggedParser<'_, Implicit, T, Error> {
     ghost checks = { implicit_checked (T.TAG).0 T.check_gives T.grammar.Check T.checks };
 }
 
@@ -99,7 +99,7 @@ impl<T: LawfulMember + TakesEachClass, E> LawfulMember for TaggedParser<'_, Impl
 
 impl<'a, T, E> LawfulBer<'a, E> for TaggedParser<'a, Implicit, T, E>
 where
-    T: LawfulBody<'a, E> + LawfulItem + TakesEachClass,
+    T: LawfulBody<'a, E> + TakesEachClass,
     E: From<Error>,
 {
     ghost ber_exact = { λ input answer octets. implicit_parser_exact (IsElement max_depth)
@@ -114,7 +114,7 @@ where
 
 impl<'a, T, E> LawfulDer<'a, E> for TaggedParser<'a, Implicit, T, E>
 where
-    T: LawfulBody<'a, E> + LawfulCheck + LawfulItem + TakesEachClass,
+    T: LawfulBody<'a, E> + LawfulCheck + TakesEachClass,
     E: From<Error>,
 {
     ghost der_exact = { λ input answer octets. implicit_parser_exact IsDerElement DerElementFault

@@ -190,10 +190,8 @@ impl<T: Grammar + Tagged, E, const CLASS: u8, const TAG: u32> Grammar
 }
 
 /// Lawful where the strict parts of the value are taken under the class of the tag.
-impl<T, E, const CLASS: u8, const TAG: u32> LawfulItem for TaggedValue<T, E, Implicit, CLASS, TAG>
-where
-    T: LawfulItem + TakesClass<CLASS>,
-{
+impl<T: TakesClass<CLASS>, E, const CLASS: u8, const TAG: u32> LawfulItem
+    for TaggedValue<T, E, Implicit, CLASS, TAG> {
     ghost lawful_item = { implicit_lawful CLASS TAG (T.TAG).0 (λ t. t.inner) T.grammar
         T.lawful_item T.number_fits T.tag_number T.takes_class };
 
@@ -222,7 +220,7 @@ where
         T.lawful_item T.lawful_writing (T.TAG).0 };
 }
 
-impl<T: Grammar + Tagged, E, const CLASS: u8, const TAG: u32> LawfulTagged
+impl<T: TakesClass<CLASS>, E, const CLASS: u8, const TAG: u32> LawfulTagged
     for TaggedValue<T, E, Implicit, CLASS, TAG> {
     ghost tag_number = { implicit_number CLASS TAG T.grammar.Form };
 
@@ -239,7 +237,7 @@ impl<T: TakesClass<CLASS>, E, const CLASS: u8, const TAG: u32> TakesClass<CLASS>
 impl<'a, T, E, const CLASS: u8, const TAG: u32> LawfulBodyBy<'a, TagMark<Implicit>, E>
     for TaggedValue<T, E, Implicit, CLASS, TAG>
 where
-    T: LawfulBody<'a, E> + Tagged,
+    T: LawfulBody<'a, E> + TakesClass<CLASS>,
     E: From<Error>,
 {
     ghost exact_by_kind = { implicit_takes CLASS TAG (λ t. t.inner) T.TAG T.any_gives E.from_gives
@@ -252,7 +250,7 @@ where
 impl<'a, T, E, const CLASS: u8, const TAG: u32> LawfulDerBy<'a, TagMark<Implicit>, E>
     for TaggedValue<T, E, Implicit, CLASS, TAG>
 where
-    T: LawfulBody<'a, E> + Tagged,
+    T: LawfulBody<'a, E> + TakesClass<CLASS>,
     E: From<Error>,
 {
     ghost exact_by_reader = { λ input answer octets. unchecked_exact
@@ -272,7 +270,7 @@ where
 impl<T, E, const CLASS: u8, const TAG: u32> LawfulCheckBy<TagMark<Implicit>>
     for TaggedValue<T, E, Implicit, CLASS, TAG>
 where
-    T: LawfulCheck + Tagged,
+    T: LawfulCheck + TakesClass<CLASS>,
 {
     ghost checks_by_kind = { implicit_checked (T.TAG).0 T.check_gives T.grammar.Check T.checks };
 }
