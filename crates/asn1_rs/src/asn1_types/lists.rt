@@ -189,7 +189,24 @@ where
     list_of_content::<L, T, R, E>(alloc, any.content)
 }
 
-/// The element at the front by DER as a list, and what follows it.
+/// The element of the form `F` at the front by DER as a list, and what follows it.
+pub(crate) fn list_by_der<'a, F, L, T, E>(alloc: Global, bytes: &'a [u8]) -> ParseResult<'a, L, E>
+where
+    F: EncodingForm,
+    L: FromItems<Item = T>,
+    T: FromDer<'a, E> + Drop,
+    E: From<Error>,
+    ensures { DerGives PassesAll
+        (OfParts (ListTakes (F.form_gives (L.TAG).0) L.holds T.der_gives E.from_gives))
+        E.from_gives bytes.now (seen result) }
+{
+    let (rest, any) = converted(element_by_der(bytes))?;
+    match list_of_element::<F, DerParser, L, T, E>(alloc, &any) {
+        Ok(list) => Ok((rest, list)),
+        Err(e) => Err(Err::Error(e)),
+    }
+}
+
 impl<'a, F, L, T, E> FromDerBy<'a, ListReader<F>, E> for L
 where
     F: EncodingForm,
@@ -202,11 +219,7 @@ where
         E.from_gives };
 
     fn read_by_der(alloc: Global, bytes: &'a [u8]) -> ParseResult<'a, L, E> {
-        let (rest, any) = converted(element_by_der(bytes))?;
-        match list_of_element::<F, DerParser, L, T, E>(alloc, &any) {
-            Ok(list) => Ok((rest, list)),
-            Err(e) => Err(Err::Error(e)),
-        }
+        list_by_der::<F, L, T, E>(alloc, bytes)
     }
 }
 

@@ -4,6 +4,8 @@ ghost use Rattle.std.proofs.Common.{lit<, refl};
 ghost use Rattle.std.specs.BTreeSet.{IsFromIterResult};
 ghost use Rattle.x690.specs.Identifiers.{IsCutIdentifier};
 ghost use Rattle.asn1_headers.specs.Ber.{EndsWithin};
+ghost use Rattle.asn1_rs.specs.Lists.{IsListOr, ListTakes};
+ghost use Rattle.asn1_rs.specs.Traits.{DerGives, OfParts, PassesAll};
 ghost use Rattle.asn1_rs.specs.Set.{set_of, is_below};
 ghost use Rattle.asn1_headers.specs.declared.error.Error.{Error};
 ghost use Rattle.asn1_rs.specs.Laws.Lists.{takes_some, constructed_checks, list_checks};
@@ -12,18 +14,16 @@ ghost use Rattle.asn1_rs.specs.Laws.Words.{ber_one};
 ghost use Rattle.asn1_rs.specs.Grammar.Item.{ber_words};
 
 use crate::asn1_types::lists::{
-    FromItems, Listed, PackedEncodings, count_items, encode_items, state_items,
+    FromItems, Listed, PackedEncodings, count_items, encode_items, list_by_der, state_items,
 };
 use crate::kinds::HasKind;
 use crate::kinds::collections::{HasMembers, LawfulMembers, Once, SetKind, WritesAscending};
-use crate::kinds::reading::{
-    ConstructedForm, HasReader, LawfulBodyBy, LawfulCheckBy, LawfulDerBy, ListReader,
-};
+use crate::kinds::reading::{ConstructedForm, LawfulBodyBy, LawfulCheckBy};
 use crate::laws::in_hand::States;
 use crate::laws::{LawfulBer, LawfulCheck, LawfulDer, LawfulMember};
 use crate::to_der::ToDer;
-use crate::traits::Tagged;
-use asn1_headers::error::{Error, SerializeResult};
+use crate::traits::{FromDer, Tagged};
+use asn1_headers::error::{Error, ParseResult, SerializeResult};
 use asn1_headers::tag::Tag;
 use std::alloc::{AllocError, Global};
 use std::collections::BTreeSet;
@@ -106,8 +106,17 @@ impl<T: Ord + Drop> FromItems for BTreeSet<T> {
     }
 }
 
-impl<T: Ord> HasReader for BTreeSet<T> {
-    type Reader = ListReader<ConstructedForm>;
+// The type itself passes `Ord` of its members, with all that this stands on. So it has the reader by DER and its law
+// itself: by a reader that it names it passes these several times more, and nests less deep.
+impl<'a, T: FromDer<'a, E> + Ord + Drop, E: From<Error>> FromDer<'a, E> for BTreeSet<T> {
+    ghost der_gives = { DerGives PassesAll
+        (OfParts (ListTakes (IsListOr 17) (λ items s. IsFromIterResult T.cmp items s) T.der_gives
+        E.from_gives))
+        E.from_gives };
+
+    fn from_der(alloc: Global, bytes: &'a [u8]) -> ParseResult<'a, BTreeSet<T>, E> {
+        list_by_der::<ConstructedForm, BTreeSet<T>, T, E>(alloc, bytes)
+    }
 }
 
 impl<'a, T: LawfulBer<'a, Error> + LawfulMember + Ord + Drop> LawfulBodyBy<'a, SetKind<Once>, Error>
@@ -121,18 +130,15 @@ impl<'a, T: LawfulBer<'a, Error> + LawfulMember + Ord + Drop> LawfulBodyBy<'a, S
     ghost no_memory_by_kind = { λ none p e g. takes_some none };
 }
 
-impl<'a, T: LawfulDer<'a, E> + LawfulMember + Ord + Drop, E: From<Error>> LawfulDerBy<
-    'a,
-    ListReader<ConstructedForm>,
-    E,
-> for BTreeSet<T> {
-    ghost exact_by_reader = { λ input answer octets.
+impl<'a, T: LawfulDer<'a, E> + LawfulMember + Ord + Drop, E: From<Error>> LawfulDer<'a, E>
+    for BTreeSet<T> {
+    ghost der_exact = { λ input answer octets.
         set_by_der_exact (constructed_checks 17) (λ items s. IsFromIterResult T.cmp items s) set_of
         Self.grammar.value T.der_gives E.from_gives T.grammar.Der T.grammar.value
         T.grammar.allocates IsCutIdentifier (tree_told T.eq T.grammar.value T.same T.cmp T.matches_eq)
         T.lawful_item.der_one T.der_exact input answer };
 
-    ghost no_memory_by_reader = { λ none input answer g. takes_some none };
+    ghost der_no_memory = { λ none input answer g. takes_some none };
 }
 
 impl<T: LawfulCheck + Ord> LawfulCheckBy<SetKind<Once>> for BTreeSet<T> {

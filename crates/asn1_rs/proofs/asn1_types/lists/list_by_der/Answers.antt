@@ -1,5 +1,5 @@
 use Rattle.std.proofs.Common.{refl, inr}
-use Rattle.asn1_rs.proofs.asn1_types.lists.AnyFromDerByListReader.read_by_der.Goals as goal
+use Rattle.asn1_rs.proofs.asn1_types.lists.list_by_der.Goals as goal
 
 pub returns : goal.returns
 returns g c = inr (
