@@ -21,7 +21,7 @@ ghost use Rattle.asn1_rs_uses.specs.declared.levels.LevelError.TheVariants.{Octe
 
 use asn1_rs::{
     Any, CheckDerConstraints, DerAutoDerive, ElementKind, Error, Explicit, FromAny, HasKind,
-    LawfulBody, LawfulCheckBy, LawfulElement, Tag, Tagged, TaggedParser, reader_is_exact_by_der,
+    LawfulBodyBy, LawfulCheckBy, LawfulElement, Tag, Tagged, TaggedParser, reader_is_exact_by_der,
 };
 use std::alloc::Global;
 
@@ -91,10 +91,10 @@ impl LawfulCheckBy<ElementKind> for Level {
     ghost checks_by_kind = { integer_checks };
 }
 
-impl<'a> LawfulBody<'a, LevelError> for Level {
-    ghost body_exact = { refused_as_takes Octets LevelConverts level_element level_converts };
+impl<'a> LawfulBodyBy<'a, ElementKind, LevelError> for Level {
+    ghost exact_by_kind = { refused_as_takes Octets LevelConverts level_element level_converts };
 
-    ghost body_no_memory = { refused_as_no_memory Octets LevelConverts level_element
+    ghost no_memory_by_kind = { refused_as_no_memory Octets LevelConverts level_element
         level_converts };
 }
 

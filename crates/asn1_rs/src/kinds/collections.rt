@@ -364,7 +364,7 @@ where
 impl<L, T> LawfulTaggedBy<SequenceKind> for L
 where
     L: HasKind<Kind = SequenceKind> + Listed<Item = T>,
-    T: LawfulItem,
+    T: Grammar,
 {
     ghost number_by_kind = { list_number T.grammar.Form (L.TAG).0 };
 
@@ -393,7 +393,7 @@ where
 impl<L, T> LawfulTaggedBy<SetKind<Once>> for L
 where
     L: HasKind<Kind = SetKind<Once>> + HasMembers + Listed<Item = T>,
-    T: LawfulItem,
+    T: Grammar,
 {
     ghost number_by_kind = { λ v i c f. set_number set_of AllDiffer T.grammar.Form v i c f ∙ sym
         L.is_set };

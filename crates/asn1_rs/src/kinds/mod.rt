@@ -21,7 +21,7 @@ ghost use Rattle.asn1_rs.specs.Grammar.Item.{ItemGrammar, IsLawfulItem, by_held}
 ghost use Rattle.asn1_rs.specs.Kinds.{ElementGrammar, IsLawfulElement, IsExactCheck, IsExactConversion, item_grammar};
 ghost use Rattle.asn1_rs.specs.Laws.Kinds.{lawful_item, lawful_by_held};
 
-use crate::laws::{Grammar, LawfulAuto, LawfulBody, LawfulCheck, LawfulItem, LawfulMember};
+use crate::laws::{Grammar, LawfulAuto, LawfulItem, LawfulMember};
 use crate::traits::{CheckDerConstraints, DerAutoDerive, FromAny, Tagged};
 use asn1_headers::error::Error;
 use asn1_headers::tag::Tag;
@@ -197,7 +197,7 @@ impl<T: HasKind + LawfulItemBy<T::Kind>> LawfulItem for T {
     }
 }
 
-impl<T: LawfulElement + LawfulCheck + DerAutoDerive> LawfulAuto for T {
+impl<T: LawfulElement + DerAutoDerive> LawfulAuto for T {
     ghost der_split = { λ o v w. w };
 
     ghost der_join = { λ o v w. w };

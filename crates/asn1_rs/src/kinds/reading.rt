@@ -156,7 +156,7 @@ impl<'a, T: HasReader + FromDerBy<'a, T::Reader, E>, E> FromDer<'a, E> for T {
 /// refusal.
 impl<'a, T, E> FromDerBy<'a, ElementReader, E> for T
 where
-    T: FromAny<'a, Error = E> + CheckDerConstraints + DerAutoDerive,
+    T: FromAny<'a, Error = E> + CheckDerConstraints,
     E: From<Error>,
 {
     ghost gives_by_reader = { DerGives T.check_gives T.any_gives E.from_gives };
@@ -232,17 +232,19 @@ impl<'a, T: HasReader + LawfulDerBy<'a, T::Reader, E>, E: From<Error>> LawfulDer
 
 impl<'a, T, E: From<Error>> LawfulDerBy<'a, ElementReader, E> for T
 where
-    T: LawfulBody<'a, E> + LawfulAuto,
+    T: LawfulBodyBy<'a, ElementKind, E> + LawfulCheckBy<ElementKind> + LawfulAuto,
 {
     ghost exact_by_reader = { λ input answer octets.
         element_exact IsDerElement DerElementFault IsCutIdentifier der_elements
         der_breach
         T.check_gives T.any_gives E.from_gives T.grammar.Check T.grammar.Body T.grammar.value
-        T.grammar.allocates T.grammar.Der T.checks.exact T.body_exact T.der_split T.der_join
+        T.grammar.allocates T.grammar.Der T.checks_by_kind.exact T.exact_by_kind T.der_split
+        T.der_join
         input answer };
 
     ghost no_memory_by_reader = { λ none.
         element_no_memory IsDerElement DerElementFault
         der_breach der_breach_no_memory
-        T.check_gives T.any_gives E.from_gives T.checks.asks_no_memory (T.body_no_memory none) };
+        T.check_gives T.any_gives E.from_gives T.checks_by_kind.asks_no_memory
+        (T.no_memory_by_kind none) };
 }

@@ -20,7 +20,7 @@ ghost use Rattle.asn1_rs.specs.Laws.Writing.{held_lawful_writing};
 
 use crate::header::{element_len, put_counted_header};
 use crate::kinds::{ElementKind, HasKind, HolderKind, Holds, LawfulElement};
-use crate::laws::{LawfulItem, LawfulTagged, LawfulWrite, TakesClass};
+use crate::laws::{Grammar, LawfulItem, LawfulTagged, LawfulWrite, TakesClass};
 use crate::to_der::{ToDer, stands};
 use crate::traits::{DynTagged, Tagged};
 use asn1_headers::buffer::{DerBuffer, prepend_element, prepend_octets};
@@ -439,7 +439,7 @@ impl<T: HasKind + LawfulWriteBy<T::Kind>> LawfulWrite for T {
 }
 
 /// The laws of the tag number, for a type of this kind.
-pub trait LawfulTaggedBy<K>: LawfulItem + Tagged {
+pub trait LawfulTaggedBy<K>: Grammar + Tagged {
     /// `tag_number`.
     ghost number_by_kind: { FormNumber Self.grammar.Form (Self.TAG).0 };
 

@@ -91,7 +91,7 @@ pub trait LawfulCheck: CheckDerConstraints + LawfulItem {
 /// The words by DER are the elements of definite length that pass the check and have a body.
 // Its one impl is the identity. In a generic function the grammar of a bound is any grammar, so it can't be told there
 // that its words are these; by BER no type has other words.
-pub trait LawfulAuto: LawfulCheck + DerAutoDerive {
+pub trait LawfulAuto: LawfulItem + DerAutoDerive {
     /// Each word by DER is such an element, with this value.
     ghost der_split: { (o : List ℕ) (v : Self.grammar.Value) →
         Self.grammar.Der o v → DerWord Self.grammar.Check Self.grammar.Body o v };
@@ -140,7 +140,7 @@ pub trait LawfulWrite: ToDer + LawfulItem {
 /// The strict parts have the type's tag number.
 ///
 /// So an optional value of the type is told by its tag number.
-pub trait LawfulTagged: LawfulItem + Tagged {
+pub trait LawfulTagged: Grammar + Tagged {
     /// Strict parts have the tag number of the type.
     ghost tag_number: { FormNumber Self.grammar.Form (Self.TAG).0 };
 

@@ -225,7 +225,7 @@ impl<T: LawfulWrite> LawfulWriteBy<SetKind<Repeats>> for SetOf<T> {
         T.lawful_item T.lawful_writing };
 }
 
-impl<T: LawfulItem> LawfulTaggedBy<SetKind<Repeats>> for SetOf<T> {
+impl<T: Grammar> LawfulTaggedBy<SetKind<Repeats>> for SetOf<T> {
     ghost number_by_kind = { set_number multiset AnyList T.grammar.Form };
 
     ghost number_is_small = { lit< tt };

@@ -248,7 +248,7 @@ impl<T: LawfulWrite, E, const CLASS: u8, const TAG: u32> LawfulWrite
         T.lawful_item T.lawful_writing };
 }
 
-impl<T: LawfulItem, E, const CLASS: u8, const TAG: u32> LawfulTagged
+impl<T: Grammar, E, const CLASS: u8, const TAG: u32> LawfulTagged
     for TaggedValue<T, E, Explicit, CLASS, TAG> {
     ghost tag_number = { explicit_number CLASS TAG T.grammar.Form };
 

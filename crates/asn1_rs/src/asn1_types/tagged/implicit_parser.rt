@@ -71,7 +71,7 @@ impl<T: Grammar + Tagged, E> Grammar for TaggedParser<'_, Implicit, T, E> {
         T.grammar };
 }
 
-impl<T: TakesEachClass, E> LawfulItem for TaggedParser<'_, Implicit, T, E> {
+impl<T: LawfulItem + TakesEachClass, E> LawfulItem for TaggedParser<'_, Implicit, T, E> {
     ghost lawful_item = { implicit_headed_lawful (λ t. identifier_of t.header) (T.TAG).0
         (λ t. t.inner) T.grammar T.lawful_item T.number_fits T.tag_number T.takes_each };
 

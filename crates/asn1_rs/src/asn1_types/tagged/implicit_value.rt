@@ -190,8 +190,10 @@ impl<T: Grammar + Tagged, E, const CLASS: u8, const TAG: u32> Grammar
 }
 
 /// Lawful where the strict parts of the value are taken under the class of the tag.
-impl<T: TakesClass<CLASS>, E, const CLASS: u8, const TAG: u32> LawfulItem
-    for TaggedValue<T, E, Implicit, CLASS, TAG> {
+impl<T, E, const CLASS: u8, const TAG: u32> LawfulItem for TaggedValue<T, E, Implicit, CLASS, TAG>
+where
+    T: LawfulItem + TakesClass<CLASS>,
+{
     ghost lawful_item = { implicit_lawful CLASS TAG (T.TAG).0 (λ t. t.inner) T.grammar
         T.lawful_item T.number_fits T.tag_number T.takes_class };
 
@@ -220,7 +222,7 @@ where
         T.lawful_item T.lawful_writing (T.TAG).0 };
 }
 
-impl<T: TakesClass<CLASS>, E, const CLASS: u8, const TAG: u32> LawfulTagged
+impl<T: Grammar + Tagged, E, const CLASS: u8, const TAG: u32> LawfulTagged
     for TaggedValue<T, E, Implicit, CLASS, TAG> {
     ghost tag_number = { implicit_number CLASS TAG T.grammar.Form };
 
