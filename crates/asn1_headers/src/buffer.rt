@@ -90,7 +90,7 @@ impl DerBuffer {
         }
     }
 
-    /// `prepend`, with a short answer: the number of the octets.
+    /// As `prepend`, with an error of one octet, so that callers copy less. It answers the number of the octets.
     #[inline(always)]
     fn put(&mut self, octets: &[u8]) -> Result<usize, NoRoom>
         ensures { IsPut octets.now self.old self.new result }
@@ -206,7 +206,7 @@ pub fn prepend_behind(octets: &[u8], after: usize, buf: &mut DerBuffer) -> Seria
     answered(put_behind(octets, after, buf))
 }
 
-/// `prepend_behind`, with a short answer.
+/// As `prepend_behind`, with an error of one octet.
 #[inline(always)]
 fn put_behind(octets: &[u8], after: usize, buf: &mut DerBuffer) -> Result<usize, NoRoom>
     ensures prepended { (content old : List ℕ) → buf.old ≡ content ++ old →

@@ -1,4 +1,4 @@
--- Times as elements (X.690 8.25, 8.26, 11.7, 11.8).
+-- Times as elements (X.690 8.25, 11.7, 11.8).
 use Rattle.std.specs.Prelude.{◌≡◌, ◌⊎◌, ℕ, ◌<◌, ◌^◌, pos, negsuc, ◌≤ℤ◌, List, Bool, ◌&&◌, not, nat_le, Option, Some}
 use Rattle.std.specs.Prelude.{None, true, false, codes, Result, Ok, Err}
 use Rattle.std.specs.Option.{option_cmp}

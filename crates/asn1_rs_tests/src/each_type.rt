@@ -141,7 +141,7 @@ fn both_types_of_times_are_ordered(rt: HostRuntime) -> Result<(), Fail> {
     assert_all("GeneralizedTime", &facts)
 }
 
-/// A civil date-time and its offset; the offset is that of the text (X.680 46).
+/// A civil date-time and its offset; the offset is that of the text (X.690 8.25).
 #[test]
 fn generalized_times_have_an_offset(rt: HostRuntime) -> Result<(), Fail> {
     let time = GeneralizedTime::from_bytes(b"19851106210627.3-0500")?;

@@ -1,4 +1,4 @@
-//! Times: how they are made, read, converted, compared, shown and written (X.690 8.25, 11.8; X.680 47).
+//! Times: how they are made, read, converted, compared, shown and written (X.690 8.25, 11.8).
 
 use asn1_rs::{
     ASN1DateTime, ASN1TimeZone, Any, Err, Error, FromBer, FromDer, ParseResult, ToDer, Told,
@@ -11,7 +11,7 @@ use test_rows::{
     Calls, assert_all, assert_rows, assert_text, assert_texts, push_debug, push_digits, sides,
 };
 
-/// Texts as contents octets of a UTCTime, by BER and by DER: the fields that X.680 47 says of them, how they are
+/// Texts as contents octets of a UTCTime, by BER and by DER: the fields that these say of them (X.690 8.25), how they are
 /// shown, how many octets are written, and which (X.690 11.8): identifier and length octets, and the text. An offset
 /// is not written.
 const SAID: &str = "\
@@ -28,7 +28,7 @@ count Err(InvalidDateTime) written Err(ASN1Error(InvalidDateTime)) -
 910625062345 = InvalidValue of Tag(23)
 ";
 
-/// Elements that are read. Octets outside 20 to 7f are none of VisibleString (X.680 47), which is looked at before the
+/// Elements that are read. Octets outside 20 to 7f are none of VisibleString (X.690 8.25), which is looked at before the
 /// text, and the tag number before both. The encoding may be constructed.
 const READ: &str = "\
 UtcTime::from_der:

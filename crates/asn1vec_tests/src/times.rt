@@ -3,7 +3,7 @@
 use crate::runs::{SmallReads, assert_answered, assert_lines};
 use std::test::Fail;
 
-/// UTCTime. Neither rule asks whether it is primitive; what has no strict text is refused in writing (X.690 8.26,
+/// UTCTime. Neither rule asks whether it is primitive; what has no strict text is refused in writing (X.690 8.25,
 /// 11.8).
 const UTC_TIMES: &str = "\
 ber utctime 170d3931303632353036323334355a = ok 0091-06-25 06:23:45Z rest - enc 170d3931303632353036323334355a

@@ -1,5 +1,5 @@
 -- Times as texts: which texts say which fields, the strict text of fields, and how they are shown
--- (X.680 46, 47; X.690 11.7, 11.8).
+-- (X.690 8.25, 11.7, 11.8).
 use Rattle.std.specs.Prelude.{◌≡◌, ◌≢◌, ◌⊎◌, ℕ, zero, suc, ◌+◌, ◌-◌, ◌*◌, ◌/◌, ◌%◌, ◌^◌, ◌<◌, ◌≤◌, ◌==◌, List, [], ◌∷◌}
 use Rattle.std.specs.Prelude.{◌++◌, length, replicate, decimal, ℤ, pos, neg_ℤ, unsigned_abs, int_lt, Bool, not, ◌&&◌}
 use Rattle.std.specs.Prelude.{◌||◌, codes, nat_lt, nat_eq, Option, Some, None, if◌then◌else◌, IsTrue, slice_get}
@@ -90,11 +90,11 @@ pub record SaysTime (width : ℕ) (SaysEnd : List ℕ → Moment → Type 0) (te
   pub text_is : text ≡ digits width m.year ++ to_minute m ++ end
   pub says : SaysEnd end m
 
--- of a UTCTime, whose year is that in its century (X.680 47)
+-- of a UTCTime, whose year is that in its century (X.690 8.25)
 abbrev pub SaysUtcTime : List ℕ → Moment → Type 0
 SaysUtcTime = SaysTime 2 SaysUtcEnd
 
--- of a GeneralizedTime (X.680 46)
+-- of a GeneralizedTime (X.690 8.25)
 abbrev pub SaysGeneralizedTime : List ℕ → Moment → Type 0
 SaysGeneralizedTime = SaysTime 4 SaysGeneralizedEnd
 

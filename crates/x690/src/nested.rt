@@ -84,8 +84,8 @@ pub fn nested_faults_are_final()
         → IsNestedElement depth front parts headers → BeginsWith (input ++ more) front rest → ⊥ }
 {}
 
-/// Octets that more of them make begin with an element of the depth lack these or fewer, or they end within an
-/// identifier in high form. Where they end so, that is their fault.
+/// If appending n octets would make the input begin with an element of the depth, its fault is that m octets are
+/// missing, with m at most n. Of an input that ends within an identifier in high form, that is the fault.
 pub fn nested_beginnings_lack_octets()
     ensures lacking { (depth : ℕ) (input more front rest : List ℕ) (parts : Parts) (headers : ℕ)
         (fault : Fault)

@@ -65,7 +65,7 @@ module _ (ElementOf : List ℕ → Parts → Type 0) (FaultOf : List ℕ → Fau
         sym (append_cancel_left word (x.0 ++ more) tail (ap (λ (ys : List ℕ). ys ++ (x.0 ++ more)) (sym same.0) ∙ s)),
       )
 
-  -- Octets that more of them make begin with an element are refused as its beginning.
+  -- An input that further octets would make begin with an element is refused as the beginning of one.
   pub beginning_refused : (input more word rest : List ℕ) (p : Parts) (r : Refusal Error) → Gives input (Err r) →
       ElementOf word p → input ++ more ≡ word ++ rest → TellsBeginning (IsCut input) r more
   beginning_refused input more word rest p r g a e =

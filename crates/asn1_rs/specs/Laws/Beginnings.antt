@@ -1,4 +1,4 @@
--- Octets that more of them make begin with a word, and that are shorter than it, are refused.
+-- An input that is shorter than a word, and that further octets would make begin with it, is refused.
 use Rattle.std.proofs.Common.{arith, ◌≡◌, ◌∙◌, ap, sym, ℕ, ◌<◌, inl, inr, List, ◌++◌, length, append_assoc}
 use Rattle.std.proofs.Common.{length-append}
 use Rattle.std.specs.Prelude.{Result, Ok, Err}

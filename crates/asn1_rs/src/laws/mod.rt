@@ -350,8 +350,8 @@ pub fn any_is_the_element()
         → IfOk answer (λ x. raw_tag_of x.1.header ≡ Some identifier) }
 {}
 
-/// Octets that more of them make begin with a header or an element are refused with `Incomplete` of these or fewer, or
-/// they end within an identifier in high form. Where they end so the answer is `InvalidTag`.
+/// If appending n octets would make the input begin with a header or an element, the answer is `Incomplete(m)` with m at
+/// most n. An input that ends within an identifier in high form is `InvalidTag`.
 pub fn beginnings_are_incomplete()
     ensures header { (rule : Rule) (refuses : Breach → Error) (input more front rest : List ℕ)
         (id : Identifier) (form : LengthForm) (r : Refusal Error)

@@ -1,4 +1,4 @@
-//! Times as texts (X.680 46, 47; X.690 11.7, 11.8): their fields, which texts say them, and their strict texts.
+//! Times as texts (X.690 8.25, 11.7, 11.8): their fields, which texts say them, and their strict texts.
 
 pub mod reading;
 pub mod shown;

@@ -1,4 +1,4 @@
-//! The reading of times (X.680 46, 47).
+//! The reading of the texts of times (X.690 8.25).
 ghost use Rattle.std.specs.Prelude.{◌≡◌, ◌≢◌, ◌<◌, ◌≤◌, ◌∷◌, ◌++◌, ◌⊎◌, ◌^◌, ℕ, List, ◌+◌, ◌-◌, ◌*◌, IsTrue, ◌↔◌};
 ghost use Rattle.std.specs.Prelude.{IsNone, IsSomeAnd, IfSome, Option, None};
 ghost use Rattle.x690.specs.Sets.{AllIn, is_visible};
@@ -10,7 +10,7 @@ ghost use Rattle.x690.specs.declared.times.TimeZone.{TimeZone};
 
 use super::{Moment, TimeZone};
 
-/// A text says one time (X.680 46, 47).
+/// A text says one time (X.690 8.25).
 pub fn texts_say_one_time()
     ensures utc { (text : List ℕ) (m n : Moment) →
         SaysUtcTime text m → SaysUtcTime text n → m ≡ n }
@@ -19,7 +19,7 @@ pub fn texts_say_one_time()
 {}
 
 /// The fields that a text says are in range: the year as its digits, at most 999 milliseconds, and of an offset at most
-/// 99 hours and 99 minutes (X.680 46, 47).
+/// 99 hours and 99 minutes (X.690 8.25).
 pub fn said_times_are_in_range()
     ensures utc { (text : List ℕ) (m : Moment) → SaysUtcTime text m →
         InRange m × (m.year ≤ 99) × (m.millisecond ≡ None) × MostOffset 99 m.zone }
@@ -313,7 +313,7 @@ fn generalized_end(start: Moment, text: &[u8]) -> Option<Moment>
     })
 }
 
-/// The fields that the text of a UTCTime says (X.680 47). It takes no text that says none.
+/// The fields that the text of a UTCTime says (X.690 8.25). It takes no text that says none.
 #[inline(always)]
 pub fn read_utc_time(text: &[u8]) -> Option<Moment>
     ensures says { IfSome result (λ m. SaysUtcTime text.now m) }
@@ -324,7 +324,7 @@ pub fn read_utc_time(text: &[u8]) -> Option<Moment>
     utc_end(start, rest)
 }
 
-/// The fields that the text of a GeneralizedTime says (X.680 46). It takes no text that says none.
+/// The fields that the text of a GeneralizedTime says (X.690 8.25). It takes no text that says none.
 #[inline(always)]
 pub fn read_generalized_time(text: &[u8]) -> Option<Moment>
     ensures says { IfSome result (λ m. SaysGeneralizedTime text.now m) }

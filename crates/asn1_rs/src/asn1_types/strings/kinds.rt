@@ -284,7 +284,7 @@ pub type GeneralString<'a> = RestrictedString<'a, GeneralKind>;
 pub type UniversalString<'a> = CodedString<'a, UniversalKind>;
 
 /// `BMPString`: any text, in UTF-16, the highest octet of a unit first (X.690 8.23.8). Characters past the basic plane
-/// are pairs of units.
+/// are pairs of units, as UTF-16 has them (ISO/IEC 10646); X.690 has no pairs.
 pub type BmpString<'a> = CodedString<'a, BmpKind>;
 
 /// The tag numbers of the types whose contents octets are their text, in ascending order.

@@ -30,8 +30,8 @@ pub struct Coded;
 ///
 /// `K` marks the type, and `F` how its contents octets say the text, as [`InPlace`] or as [`Coded`].
 ///
-/// It may be made of any text, also of one that its type does not have; that is written as it stands, and not read
-/// back. Two are equal where their texts are.
+/// Constructors do not check characters; `test_valid_charset` does. A text that the type does not have is written as it
+/// stands, and not read back. Two strings are equal where their texts are.
 #[derive(Drop)]
 #[derive_where(PartialEq, Eq)]
 pub struct RestrictedString<'a, K, F = InPlace> {

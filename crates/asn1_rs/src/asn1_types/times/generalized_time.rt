@@ -1,4 +1,4 @@
-//! GeneralizedTime (X.690 8.25, 11.7; X.680 46).
+//! GeneralizedTime (X.690 8.25, 11.7).
 ghost use Rattle.std.specs.Prelude.{◌≡◌, Some};
 ghost use Rattle.x690.specs.Times.{generalized_time_shown, generalized_time_text};
 ghost use Rattle.asn1_rs.specs.Any.{parts_of};
@@ -30,7 +30,7 @@ use x690::times::reading::read_generalized_time;
 use x690::times::shown::ShownGeneralizedTime;
 use x690::times::writing::write_generalized_time;
 
-/// A time of the type GeneralizedTime (X.680 46).
+/// A time of the type GeneralizedTime (X.690 8.25).
 #[derive(Debug, Drop, PartialEq, Eq, PartialOrd)]
 pub struct GeneralizedTime(pub ASN1DateTime);
 

@@ -1,4 +1,4 @@
-//! Times (X.690 8.25, 8.26, 11.7, 11.8).
+//! Times (X.690 8.25, 11.7, 11.8).
 ghost use Rattle.std.specs.Prelude.{◌≡◌, ◌<◌, ◌^◌, Some};
 ghost use Rattle.x690.specs.Times.{MostMilliseconds, moment_text};
 ghost use Rattle.asn1_rs.specs.Checks.{but_text};

@@ -1,4 +1,4 @@
-//! UTCTime (X.690 8.25, 11.8; X.680 47).
+//! UTCTime (X.690 8.25, 11.8).
 ghost use Rattle.std.specs.Prelude.{◌≡◌, Some};
 ghost use Rattle.x690.specs.Times.{utc_time_shown, utc_time_text};
 ghost use Rattle.asn1_rs.specs.Any.{parts_of};
@@ -28,7 +28,7 @@ use x690::times::reading::read_utc_time;
 use x690::times::shown::ShownUtcTime;
 use x690::times::writing::write_utc_time;
 
-/// A time of the type UTCTime, whose year is that in its century: from 0 to 99, as it was read (X.680 47).
+/// A time of the type UTCTime, whose year is that in its century: from 0 to 99, as it was read (X.690 8.25).
 #[derive(Debug, Drop, PartialEq, Eq, PartialOrd)]
 pub struct UtcTime(pub ASN1DateTime);
 
