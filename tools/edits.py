@@ -3,6 +3,7 @@
 
   tools/edits.py                     checks
   tools/edits.py --claims [WORD ..]  prints the edits of each claim, or of those whose names hold one of the words
+  tools/edits.py --tried             prints what the ledgers say of each crate's edits, as docs/MUTANTS.md has it
 
 An edit of crates/NAME/must-fail/, crates/NAME/mutants/ (a folder for each module) or crates/NAME/must-not-compile/ has
 lines 'file: src/NAME.rt', 'old: TEXT' and 'new: TEXT', each TEXT one line, and perhaps further pairs, which apply to
@@ -16,11 +17,15 @@ method, stands in a source of the repository, in the edit itself, or in OF_STD.
 A claim of docs/CLAIMS.md is a name in bold, or several with commas between; behind it, in brackets, stand clauses, or
 what one cites (a ghost member, a definition, a trait, a function), and then perhaps 'must-fail' and names of edits. It
 has an edit, or says behind its name with one of MARKS why there is none; those below the line 'Laws:' need neither.
-Each edit that does not apply and each name of nothing has a line, and then this ends with status 1.
+Each edit that does not apply and each name of nothing has a line, and then this ends with status 1. So has an edit that
+was let through, where it and what it changes are as they were then (tools/ledger.py).
 """
 import pathlib
 import re
 import sys
+
+sys.dont_write_bytecode = True
+import ledger
 
 TOP = pathlib.Path(__file__).resolve().parent.parent
 
@@ -177,10 +182,42 @@ def print_claims(found, edits, words):
                 print(f"  {path.relative_to(TOP / 'crates').with_suffix('')}")
 
 
+def by_crate(edits):
+    """Returns the edits of mutants/ by the folder of their crate and their path there."""
+    found = {}
+    for path, edit in edits.items():
+        if folder_of(path) == "mutants":
+            folder = TOP / pathlib.Path(*path.relative_to(TOP).parts[:2])
+            found.setdefault(folder, {})[str(path.relative_to(folder / "mutants").with_suffix(""))] = edit
+    return found
+
+
+def print_tried(edits):
+    """Prints a row for each crate: the edits that were refused as they and their functions stand, and the others."""
+    print("|Crate|Last run|Refused as they stand|Another answer|Not tried as they stand|\n|-|-|-|-|-|")
+    for folder, its in sorted(by_crate(edits).items()):
+        kept, stale = ledger.read(folder), set(ledger.stale(folder, its))
+        stand = {path: kept[path] for path in its.keys() - stale}
+        refused = sum(verdict == "refused" for _, verdict, _ in stand.values())
+        last = max((day for _, _, day in kept.values()), default="")
+        print(f"|`{folder.name}`|{last}|{refused}|{len(stand) - refused}|{len(stale)}|")
+
+
+def let_through(edits):
+    """Yields the edits that the prover let through, and that stand as they did then."""
+    for folder, its in by_crate(edits).items():
+        kept = ledger.read(folder)
+        for path in its.keys() - set(ledger.stale(folder, its)):
+            if kept[path][1] == "let through":
+                yield f"crates/{folder.name}/mutants/{path}.edit: it was let through"
+
+
 def main(*words):
     folders = ["must-fail/*.edit", "mutants/**/*.edit", "must-not-compile/*.edit"]
     edits = {path: Edit(path) for path in sorted(path for it in folders for path in TOP.glob(f"crates/*/{it}"))}
     found = claims()
+    if words == ("--tried",):
+        return print_tried(edits)
     if words:
         if words[0] != "--claims":
             sys.exit(__doc__)
@@ -192,7 +229,7 @@ def main(*words):
             faults += 1
             print(f"{path.relative_to(TOP)}: does not apply: {fault}")
     print(f"{faults} of {len(edits)} edits do not apply" if faults else f"{len(edits)} edits apply")
-    wrong = list(wrong_names(found, edits))
+    wrong = [*wrong_names(found, edits), *let_through(edits)]
     code = code_words()
     for path, edit in edits.items():
         for name in unknown_calls(edit, code):
