@@ -8,9 +8,9 @@ use test_rows::{assert_all, assert_shown};
 #[test]
 fn octets_are_put_in_front(rt: HostRuntime) -> Result<(), Fail> {
     let mut buf = DerBuffer::new(rt.alloc());
-    let empty = buf.len() == 0;
+    let empty = buf.len() == 0 && buf.is_empty();
     buf.prepend(&[2])?;
-    let one = buf.as_bytes() == [2].as_slice();
+    let one = buf.as_bytes() == [2].as_slice() && !buf.is_empty();
     buf.prepend(&[1])?;
     let two = buf.as_bytes() == [1, 2].as_slice();
     buf.prepend(&[])?;

@@ -258,6 +258,23 @@ fn errors_are_made(rt: HostRuntime) -> Result<(), Fail> {
     )
 }
 
+/// The second text has 33 octets, and the third one a character of two octets in the 30th place.
+#[test]
+fn long_texts_of_invalid_values_are_cut(rt: HostRuntime) -> Result<(), Fail> {
+    let errors = [
+        Tag::Integer.invalid_value("a text of exactly 30 octets..."),
+        Tag::Integer.invalid_value("a text of more than thirty octets"),
+        Tag::Integer.invalid_value("twenty-nine octets before an \u{e9}"),
+    ];
+    assert_texts(
+        rt.alloc(),
+        &errors,
+        "invalid value of tag 2 (Integer): a text of exactly 30 octets...\n\
+        invalid value of tag 2 (Integer): a text of more than thirty oct\n\
+        invalid value of tag 2 (Integer): twenty-nine octets before an \n",
+    )
+}
+
 #[test]
 fn messages_are_made_of_texts(rt: HostRuntime) -> Result<(), Fail> {
     let alloc = rt.alloc();

@@ -1,5 +1,5 @@
 //! Tests of the layer below elements: headers made by hand, classes, tag numbers, lengths,
-//! the texts and conversions of errors, and octets that grow at the front.
+//! the texts and conversions of errors, octets that grow at the front, and a writer that keeps nothing.
 #![tactic(auto)]
 
 #[cfg(test)]
@@ -8,3 +8,5 @@ mod buffers;
 mod errors;
 #[cfg(test)]
 mod headers;
+#[cfg(test)]
+mod writers;

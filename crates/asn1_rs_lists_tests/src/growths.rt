@@ -3,8 +3,11 @@
 
 ghost use Rattle.std.specs.Prelude.{None};
 
-use asn1_rs::{DerWrite, Err, Error, FromDer, Integer, SerializeError, SetOf, ToDer};
-use std::alloc::Global;
+use asn1_rs::{
+    DerWrite, Err, Error, FromDer, Integer, SerializeError, SerializeResult, SetOf, Tag, Tagged,
+    ToDer, put_all,
+};
+use std::alloc::{AllocError, Global};
 use std::collections::BTreeSet;
 use std::io;
 use std::io::ErrorKind;
@@ -112,6 +115,17 @@ struct Room {
     is_failed: bool,
 }
 
+impl Room {
+    /// A writer that has taken nothing.
+    fn new() -> Room {
+        Room {
+            octets: [0; 10],
+            count: 0,
+            is_failed: false,
+        }
+    }
+}
+
 impl DerWrite for Room {
     ghost state = { λ w. record { told = None; failed = w.is_failed } };
 
@@ -139,14 +153,72 @@ fn lists_are_written_without_memory(rt: HostRuntime) {
     let octets = [0x30, 0x08, 0x30, 0x06, 0x02, 0x01, 0x02, 0x02, 0x01, 0x01];
     let is_put = match Vec::<Vec<u8>>::from_der(rt.alloc(), &octets) {
         Ok((_, lists)) => {
-            let mut w = Room {
-                octets: [0; 10],
-                count: 0,
-                is_failed: false,
-            };
+            let mut w = Room::new();
             matches!(lists.write_der(rt.alloc(), &mut w), Ok(10)) && w.octets == octets
         }
         Err(refusal) => refusal == Err::Error(Error::OutOfMemory),
     };
     assert!(rt; is_put);
+}
+
+/// A number that is counted, also where its contents octets are refused.
+#[derive(Drop)]
+struct Number {
+    is_refused: bool,
+}
+
+impl Tagged for Number {
+    const TAG: Tag = Tag::Integer;
+
+    ghost TAG = { record { 0 = 2 } };
+}
+
+impl ToDer for Number {
+    fn to_der_len(&self) -> Result<usize, Error> {
+        Ok(3)
+    }
+
+    fn der_content_len(&self) -> Result<usize, Error> {
+        Ok(1)
+    }
+
+    fn der_constructed(&self) -> bool {
+        false
+    }
+
+    fn write_der_header<W: DerWrite>(&self, _alloc: Global, w: &mut W) -> SerializeResult<usize> {
+        put_all(w, &[2, 1])
+    }
+
+    fn write_der_content<W: DerWrite>(&self, _alloc: Global, w: &mut W) -> SerializeResult<usize> {
+        if self.is_refused {
+            return Err(SerializeError::ASN1Error(Error::Unsupported));
+        }
+        put_all(w, &[7])
+    }
+}
+
+/// Three numbers, of which the second one is refused.
+fn three_numbers(alloc: Global) -> Result<Vec<Number>, AllocError> {
+    let number = |is_refused| Number { is_refused };
+    Ok(vec![in alloc; number(false), number(true), number(false)]?)
+}
+
+/// Whether a value is refused for what it is, with the writer as it was.
+fn is_refused<T: ToDer>(alloc: Global, value: &T) -> bool {
+    let mut w = Room::new();
+    let answer = value.write_der(alloc, &mut w);
+    matches!(answer, Err(SerializeError::ASN1Error(Error::Unsupported)))
+        && w.count == 0
+        && !w.is_failed
+}
+
+/// A refused item is told of, and nothing of its list is appended, whatever growth is refused.
+#[test]
+fn refused_items_are_told_without_memory(rt: HostRuntime) {
+    let is_told = match three_numbers(rt.alloc()) {
+        Ok(numbers) => is_refused(rt.alloc(), &numbers) && is_refused(rt.alloc(), &numbers),
+        Err(AllocError) => true,
+    };
+    assert!(rt; is_told);
 }

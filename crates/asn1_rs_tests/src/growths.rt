@@ -56,6 +56,16 @@ fn texts_are_refused_for_want_of_memory(rt: HostRuntime) {
     assert!(rt; is_made(Oid::from_str(rt.alloc(), "1.2.840.113549.1.1.11"), &octets));
 }
 
+/// A text whose arcs are refused, or a part of which is no number, is refused so, whatever memory there is.
+#[test]
+fn no_memory_is_asked_for_refused_arcs(rt: HostRuntime) {
+    let refusal = |text: &str| Oid::from_str(rt.alloc(), text).err();
+    assert!(rt; refusal("40") == Some(OidParseError::TooShort));
+    assert!(rt; refusal("0.40") == Some(OidParseError::FirstComponentsTooLarge));
+    assert!(rt; refusal("3.0.1") == Some(OidParseError::FirstComponentsTooLarge));
+    assert!(rt; refusal("1.2.x") == Some(OidParseError::ParseIntError));
+}
+
 #[test]
 fn copies_and_texts_are_refused_for_want_of_memory(rt: HostRuntime) {
     let oid = Oid::new_relative(CowSlice::Borrowed(&[0xc2, 0x7b, 0x03, 0x02]));
