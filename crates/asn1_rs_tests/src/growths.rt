@@ -56,7 +56,7 @@ fn texts_are_refused_for_want_of_memory(rt: HostRuntime) {
     assert!(rt; is_made(Oid::from_str(rt.alloc(), "1.2.840.113549.1.1.11"), &octets));
 }
 
-/// A text whose arcs are refused, or a part of which is no number, is refused so, whatever memory there is.
+/// Refused arcs, and a part that is no number, are told of whatever memory there is.
 #[test]
 fn no_memory_is_asked_for_refused_arcs(rt: HostRuntime) {
     let refusal = |text: &str| Oid::from_str(rt.alloc(), text).err();
