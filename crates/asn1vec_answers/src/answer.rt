@@ -21,7 +21,7 @@ use crate::holders::{
 };
 use crate::options::{optional_by_ber, optional_by_der};
 use crate::request::{Request, Rule, read_request};
-use crate::shown::{Encoded, push_by_ber, push_by_either, push_reading};
+use crate::shown::{Encoded, push_by_ber, push_by_either, push_leaf, push_reading};
 use crate::text::push_str;
 use crate::types::{TypeName, type_named};
 use asn1_rs::{
@@ -84,23 +84,23 @@ fn push_by_type(
         (Gains text.old.items text.new.items (IsTypeAnswer rule t octets.now)) }
 {
     match t {
-        TypeName::U8 => push_by_either::<u8>(alloc, rule, octets, buffer, text),
-        TypeName::U16 => push_by_either::<u16>(alloc, rule, octets, buffer, text),
-        TypeName::U32 => push_by_either::<u32>(alloc, rule, octets, buffer, text),
-        TypeName::U64 => push_by_either::<u64>(alloc, rule, octets, buffer, text),
-        TypeName::U128 => push_by_either::<u128>(alloc, rule, octets, buffer, text),
-        TypeName::I8 => push_by_either::<i8>(alloc, rule, octets, buffer, text),
-        TypeName::I16 => push_by_either::<i16>(alloc, rule, octets, buffer, text),
-        TypeName::I32 => push_by_either::<i32>(alloc, rule, octets, buffer, text),
-        TypeName::I64 => push_by_either::<i64>(alloc, rule, octets, buffer, text),
-        TypeName::I128 => push_by_either::<i128>(alloc, rule, octets, buffer, text),
+        TypeName::U8 => push_leaf::<u8>(alloc, rule, octets, buffer, text),
+        TypeName::U16 => push_leaf::<u16>(alloc, rule, octets, buffer, text),
+        TypeName::U32 => push_leaf::<u32>(alloc, rule, octets, buffer, text),
+        TypeName::U64 => push_leaf::<u64>(alloc, rule, octets, buffer, text),
+        TypeName::U128 => push_leaf::<u128>(alloc, rule, octets, buffer, text),
+        TypeName::I8 => push_leaf::<i8>(alloc, rule, octets, buffer, text),
+        TypeName::I16 => push_leaf::<i16>(alloc, rule, octets, buffer, text),
+        TypeName::I32 => push_leaf::<i32>(alloc, rule, octets, buffer, text),
+        TypeName::I64 => push_leaf::<i64>(alloc, rule, octets, buffer, text),
+        TypeName::I128 => push_leaf::<i128>(alloc, rule, octets, buffer, text),
         TypeName::Any => push_by_either::<Any<'_>>(alloc, rule, octets, buffer, text),
-        TypeName::Bool => push_by_either::<bool>(alloc, rule, octets, buffer, text),
-        TypeName::Null => push_by_either::<Null>(alloc, rule, octets, buffer, text),
-        TypeName::Enumerated => push_by_either::<Enumerated>(alloc, rule, octets, buffer, text),
-        TypeName::Integer => push_by_either::<Integer<'_>>(alloc, rule, octets, buffer, text),
-        TypeName::Octets => push_by_either::<OctetString<'_>>(alloc, rule, octets, buffer, text),
-        TypeName::Bits => push_by_either::<BitString<'_>>(alloc, rule, octets, buffer, text),
+        TypeName::Bool => push_leaf::<bool>(alloc, rule, octets, buffer, text),
+        TypeName::Null => push_leaf::<Null>(alloc, rule, octets, buffer, text),
+        TypeName::Enumerated => push_leaf::<Enumerated>(alloc, rule, octets, buffer, text),
+        TypeName::Integer => push_leaf::<Integer<'_>>(alloc, rule, octets, buffer, text),
+        TypeName::Octets => push_leaf::<OctetString<'_>>(alloc, rule, octets, buffer, text),
+        TypeName::Bits => push_leaf::<BitString<'_>>(alloc, rule, octets, buffer, text),
         TypeName::Eoc => push_by_ber::<EndOfContent>(alloc, octets, buffer, text),
         TypeName::VecU8 => push_vec_u8(alloc, rule, octets, buffer, text),
         TypeName::VecU32 => push_vec_u32(alloc, rule, octets, buffer, text),
@@ -108,8 +108,8 @@ fn push_by_type(
         TypeName::VecVecU8 => push_vec_vec_u8(alloc, rule, octets, buffer, text),
         TypeName::SetOfU8 => push_set_of_u8(alloc, rule, octets, buffer, text),
         TypeName::BTreeSetU8 => push_btree_set_u8(alloc, rule, octets, buffer, text),
-        TypeName::Sequence => push_by_either::<Sequence<'_>>(alloc, rule, octets, buffer, text),
-        TypeName::Set => push_by_either::<Set<'_>>(alloc, rule, octets, buffer, text),
+        TypeName::Sequence => push_leaf::<Sequence<'_>>(alloc, rule, octets, buffer, text),
+        TypeName::Set => push_leaf::<Set<'_>>(alloc, rule, octets, buffer, text),
         TypeName::SeqOfU32 => push_sequence_of_u32(alloc, rule, octets, buffer, text),
         TypeName::Explicit0U32 => push_explicit_0_u32(alloc, rule, octets, buffer, text),
         TypeName::Explicit31U8 => push_explicit_31_u8(alloc, rule, octets, buffer, text),
@@ -117,29 +117,23 @@ fn push_by_type(
         TypeName::OptU8 => push_optional::<u8>(alloc, rule, octets, buffer, text),
         TypeName::Implicit1VecU16 => push_implicit_1_vec_u16(alloc, rule, octets, buffer, text),
         TypeName::HashSetI8 => push_hash_set_i8(alloc, rule, octets, buffer, text),
-        TypeName::Oid => push_by_either::<Oid<'_>>(alloc, rule, octets, buffer, text),
-        TypeName::Utf8 => push_by_either::<Utf8String<'_>>(alloc, rule, octets, buffer, text),
-        TypeName::Numeric => push_by_either::<NumericString<'_>>(alloc, rule, octets, buffer, text),
-        TypeName::Printable => push_by_either::<PrintableString<'_>>(
+        TypeName::Oid => push_leaf::<Oid<'_>>(alloc, rule, octets, buffer, text),
+        TypeName::Utf8 => push_leaf::<Utf8String<'_>>(alloc, rule, octets, buffer, text),
+        TypeName::Numeric => push_leaf::<NumericString<'_>>(alloc, rule, octets, buffer, text),
+        TypeName::Printable => push_leaf::<PrintableString<'_>>(alloc, rule, octets, buffer, text),
+        TypeName::Teletex => push_leaf::<TeletexString<'_>>(alloc, rule, octets, buffer, text),
+        TypeName::Videotex => push_leaf::<VideotexString<'_>>(alloc, rule, octets, buffer, text),
+        TypeName::Ia5 => push_leaf::<Ia5String<'_>>(alloc, rule, octets, buffer, text),
+        TypeName::Graphic => push_leaf::<GraphicString<'_>>(alloc, rule, octets, buffer, text),
+        TypeName::Visible => push_leaf::<VisibleString<'_>>(alloc, rule, octets, buffer, text),
+        TypeName::General => push_leaf::<GeneralString<'_>>(alloc, rule, octets, buffer, text),
+        TypeName::Descriptor => push_leaf::<ObjectDescriptor<'_>>(
             alloc, rule, octets, buffer, text,
         ),
-        TypeName::Teletex => push_by_either::<TeletexString<'_>>(alloc, rule, octets, buffer, text),
-        TypeName::Videotex => push_by_either::<VideotexString<'_>>(
-            alloc, rule, octets, buffer, text,
-        ),
-        TypeName::Ia5 => push_by_either::<Ia5String<'_>>(alloc, rule, octets, buffer, text),
-        TypeName::Graphic => push_by_either::<GraphicString<'_>>(alloc, rule, octets, buffer, text),
-        TypeName::Visible => push_by_either::<VisibleString<'_>>(alloc, rule, octets, buffer, text),
-        TypeName::General => push_by_either::<GeneralString<'_>>(alloc, rule, octets, buffer, text),
-        TypeName::Descriptor => push_by_either::<ObjectDescriptor<'_>>(
-            alloc, rule, octets, buffer, text,
-        ),
-        TypeName::Universal => push_by_either::<UniversalString<'_>>(
-            alloc, rule, octets, buffer, text,
-        ),
-        TypeName::Bmp => push_by_either::<BmpString<'_>>(alloc, rule, octets, buffer, text),
-        TypeName::UtcTime => push_by_either::<UtcTime>(alloc, rule, octets, buffer, text),
-        TypeName::GenTime => push_by_either::<GeneralizedTime>(alloc, rule, octets, buffer, text),
+        TypeName::Universal => push_leaf::<UniversalString<'_>>(alloc, rule, octets, buffer, text),
+        TypeName::Bmp => push_leaf::<BmpString<'_>>(alloc, rule, octets, buffer, text),
+        TypeName::UtcTime => push_leaf::<UtcTime>(alloc, rule, octets, buffer, text),
+        TypeName::GenTime => push_leaf::<GeneralizedTime>(alloc, rule, octets, buffer, text),
         TypeName::Pdv => push_by_either::<EmbeddedPdv<'_>>(alloc, rule, octets, buffer, text),
     }
 }

@@ -14,8 +14,8 @@ use crate::names::{push_refusal, push_write_refusal};
 use crate::request::Rule;
 use crate::text::{push_hexadecimal, push_str};
 use asn1_rs::{
-    Error, LawfulBer, LawfulDer, LawfulWrite, ParseResult, SerializeError, SerializeResult, ToDer,
-    Told, read_ber, read_der,
+    ConvertsLeaf, Error, FromBer, FromDer, Grammar, LawfulBer, LawfulDer, LawfulWrite, ParseResult,
+    SerializeError, SerializeResult, ToDer, Told, read_ber, read_der,
 };
 use std::alloc::{AllocError, Global};
 use std::mem;
@@ -231,4 +231,27 @@ where
         Rule::Ber => push_by_ber::<T>(alloc, octets, buffer, text),
         Rule::Der => push_by_der::<T>(alloc, octets, buffer, text),
     }
+}
+
+/// Appends the answer to octets that are read as a leaf type by either rule.
+///
+/// A caller passes what the type says of itself; here that gives the laws of its readers.
+pub(crate) fn push_leaf<'a, T>(
+    alloc: Global,
+    rule: Rule,
+    octets: &'a [u8],
+    buffer: &mut Vec<u8>,
+    text: &mut Vec<u8>,
+) -> Result<(), AllocError>
+where
+    T: ConvertsLeaf<'a> + Shown + Drop,
+    ensures { OnOk result
+        (Gains text.old.items text.new.items
+        (IsReadAnswer
+        (ReadsByEither (ber_words ⟦<T as Grammar>⟧.grammar) ⟦<T as Grammar>⟧.grammar.Der
+        ⟦<T as Grammar>⟧.grammar.value ⟦<T as Grammar>⟧.grammar.allocates
+        ⟦<T as FromBer<'a, Error>>⟧.ber_gives
+        ⟦<T as FromDer<'a, Error>>⟧.der_gives rule) T.text_of T.Encodes octets.now)) }
+{
+    push_by_either::<T>(alloc, rule, octets, buffer, text)
 }
