@@ -8,5 +8,6 @@ pub mod Principals
 pub mod PrincipalsAlone
 pub mod PrincipalsBack
 pub mod PrincipalsUnwritten
+pub mod Streams
 pub mod TaggedOctets
 pub mod Unwritten

@@ -1,18 +1,37 @@
 //! Messages in a buffer that a stream fills.
-ghost use Rattle.std.specs.Prelude.{IfOk, IfErr, Ok};
+ghost use Rattle.std.specs.Prelude.{◌≡◌, ◌⊎◌, ◌≤◌, ◌<◌, length, true, false, IfOk, IfErr, Ok};
 ghost use Rattle.x690.specs.Elements.{IsDerElement};
 ghost use Rattle.x690.specs.Identifiers.{IsCutIdentifier};
 ghost use Rattle.asn1_headers.specs.Answers.{seen};
 ghost use Rattle.asn1_headers.specs.Error.{IsCut};
+ghost use Rattle.asn1_headers.specs.declared.error.Err.TheVariants.{Error as refused};
+ghost use Rattle.asn1_headers.specs.declared.error.Error.TheVariants as errors;
 ghost use Rattle.asn1_rs.specs.Any.{RefusalLasts};
+ghost use Rattle.asn1_rs_uses.specs.Stream.{IsAwaited, NoElementBegins, AnElementBegins};
 
-use asn1_rs::{Any, Err, Error, FromDer, ParseResult, answers_last, any_is_the_element};
+use asn1_rs::{
+    Any, Err, Error, FromDer, Needed, ParseResult, answers_last, any_is_the_element,
+    beginnings_are_incomplete,
+};
 use std::alloc::Global;
+
+/// How many octets an identifier has at most: the first one, and five digits of a tag number below 2^32.
+const LONGEST_IDENTIFIER: usize = 6;
+
+/// Whether more octets may help although the reader of elements refused these: it answers `InvalidTag` also where the
+/// input ends within an identifier, as only fewer than six octets do.
+fn may_end_within_identifier(buffer: &[u8], refusal: &Err<Error>) -> bool
+    ensures short { result ≡ true → length buffer.now < 6 }
+    ensures long { result ≡ false → refusal.now ≡ refused errors.InvalidTag → 6 ≤ length buffer.now }
+{
+    matches!(refusal, Err::Error(Error::InvalidTag)) && buffer.len() < LONGEST_IDENTIFIER
+}
 
 /// The message at the front of the buffer, by DER, and what follows it.
 ///
-/// `Incomplete(n)` says to wait: the element is cut, and n octets at least are missing. Every other refusal is final,
-/// also that of a part that is cut within the whole element.
+/// `Incomplete(n)` says to wait: the element is cut, and n octets at least are missing. Fewer than six octets may end
+/// within an identifier in high form, where `Any::from_der` answers `InvalidTag`: one more is awaited then. Every other
+/// refusal is final, also that of a part that is cut within the whole element.
 pub fn next_message<'a, T: FromDer<'a, Error>>(
     alloc: Global,
     buffer: &'a [u8],
@@ -20,10 +39,17 @@ pub fn next_message<'a, T: FromDer<'a, Error>>(
     ensures message { IfOk (seen result) (λ x. T.der_gives buffer.now (Ok x)) }
     ensures waits { IfErr (seen result)
         (λ r. IsCut r → RefusalLasts IsDerElement IsCutIdentifier buffer.now r) }
+    ensures awaited { IfErr (seen result) (λ r. IsCut r → IsAwaited buffer.now r) }
+    ensures refused { IfErr (seen result)
+        (λ r. IsCut r ⊎ NoElementBegins buffer.now ⊎ AnElementBegins buffer.now) }
 {
     any_is_the_element();
     answers_last();
+    beginnings_are_incomplete();
     if let Err(refusal) = Any::from_der(alloc, buffer) {
+        if may_end_within_identifier(buffer, &refusal) {
+            return Err(Err::Incomplete(Needed::Size(1)));
+        }
         return Err(refusal);
     }
     match T::from_der(alloc, buffer) {

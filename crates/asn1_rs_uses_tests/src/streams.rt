@@ -43,6 +43,9 @@ request:
 6a033005a1020105 = Error(Incomplete(Size(4)))
 020105 = Error(UnexpectedTag { expected: Some(Tag(10)), actual: Tag(2) })
 - = Incomplete(Size(1))
+bf = Incomplete(Size(1))
+bf81 = Incomplete(Size(1))
+bf8180808080 = Error(InvalidTag)
 ";
 
 /// The calls of the table.

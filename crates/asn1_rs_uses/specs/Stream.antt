@@ -1,0 +1,24 @@
+-- Messages in a buffer that a stream fills.
+use Rattle.std.specs.Prelude.{◌≡◌, ◌⊎◌, ◌<◌, ◌++◌, ℕ, List, length}
+use Rattle.x690.specs.Elements.{Parts, IsDerElement}
+use Rattle.x690.specs.Faults.{DerElementFault}
+use Rattle.x690.specs.Joined.{NoFront}
+use Rattle.asn1_headers.specs.declared.error.Err.{Err as Refusal}
+use Rattle.asn1_headers.specs.declared.error.Err.TheVariants.{Incomplete as cut}
+use Rattle.asn1_headers.specs.declared.error.Needed.TheVariants.{Size}
+use Rattle.asn1_headers.specs.declared.error.Error.{Error}
+use Rattle.asn1_headers.specs.Answers.{Front}
+use Rattle.asn1_headers.specs.Header.Reading.{Refused, der_refusal}
+
+-- So many octets are awaited: those that the element lacks, or one, where fewer than six may end within an identifier.
+abbrev pub IsAwaited : List ℕ → Refusal Error → Type 0
+IsAwaited buffer r =
+    Refused DerElementFault der_refusal buffer r ⊎ ((r ≡ cut (Size 1)) × (length buffer < 6))
+
+-- no element by DER begins the octets, whatever follows
+abbrev pub NoElementBegins : List ℕ → Type 0
+NoElementBegins octets = (more : List ℕ) → NoFront IsDerElement (octets ++ more)
+
+-- an element by DER begins the octets
+abbrev pub AnElementBegins : List ℕ → Type 0
+AnElementBegins octets = (p : Parts) × (rest : List ℕ) × Front IsDerElement octets p rest
