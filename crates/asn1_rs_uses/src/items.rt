@@ -54,6 +54,10 @@ pub fn numbers_in(alloc: Global, content: &[u8]) -> Result<Vec<u64>, Error>
 pub fn elements_in<'a>(alloc: Global, content: &'a [u8]) -> Result<Vec<Any<'a>>, Error>
     ensures joined { IfOk result
         (λ items. IsJoined (BerWord ElementBody) content.now (map element_of items.items)) }
+    ensures refused { IfErr result (λ e. (e ≡ errors.OutOfMemory)
+        ⊎ EndsBefore (BerWord ElementBody) content.now e) }
+    ensures whole { AreJoinedWords (BerWord ElementBody) content.now →
+        IfErr result (λ e. e ≡ errors.OutOfMemory) }
 {
     items_in::<Any<'a>, BerParser, Error>(alloc, content)
 }
