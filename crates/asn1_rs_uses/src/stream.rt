@@ -22,7 +22,8 @@ const LONGEST_IDENTIFIER: usize = 6;
 /// input ends within an identifier, as only fewer than six octets do.
 fn may_end_within_identifier(buffer: &[u8], refusal: &Err<Error>) -> bool
     ensures short { result ≡ true → length buffer.now < 6 }
-    ensures long { result ≡ false → refusal.now ≡ refused errors.InvalidTag → 6 ≤ length buffer.now }
+    ensures long { result ≡ false → refusal.now ≡ refused errors.InvalidTag →
+        6 ≤ length buffer.now }
 {
     matches!(refusal, Err::Error(Error::InvalidTag)) && buffer.len() < LONGEST_IDENTIFIER
 }
@@ -30,7 +31,7 @@ fn may_end_within_identifier(buffer: &[u8], refusal: &Err<Error>) -> bool
 /// The message at the front of the buffer, by DER, and what follows it.
 ///
 /// `Incomplete(n)` says to wait: the element is cut, and n octets at least are missing. Fewer than six octets may end
-/// within an identifier in high form, where `Any::from_der` answers `InvalidTag`: one more is awaited then. Every other
+/// within an identifier in high form, where `Any::from_der` answers `InvalidTag`: one more is awaited then. Each other
 /// refusal is final, also that of a part that is cut within the whole element.
 pub fn next_message<'a, T: FromDer<'a, Error>>(
     alloc: Global,
