@@ -3,7 +3,8 @@
 use crate::refusals::three_classes;
 use asn1_rs::{
     Any, Error, FromItems, LawfulBer, LawfulCheck, LawfulDer, LawfulMember, LawfulWrite, SetOf,
-    TaggedExplicit, TaggedImplicit, TakesClass, ToDer, Told, read_ber, read_der, strict_vec, write_strict,
+    TaggedExplicit, TaggedImplicit, TakesClass, ToDer, Told, read_ber, read_der, strict_vec,
+    write_strict,
 };
 use asn1_rs_uses::{InClass, Version, read_version, row_of_numbers, written_and_read};
 use std::alloc::Global;
