@@ -10,11 +10,12 @@ use std::test::Fail;
 use test_rows::assert_all;
 
 /// Asserts how many octets a list of 50 such items is.
-fn assert_fifty<T: ToDer + Drop>(
-    alloc: Global,
-    item: impl Fn() -> T,
-    count: usize,
-) -> Result<(), Fail> {
+fn assert_fifty<T, F>(alloc: Global, item: F, count: usize) -> Result<(), Fail>
+where
+    T: ToDer + Drop,
+    F: Fn() -> T + Drop,
+    requires { F.IsAlwaysCallable item }
+{
     let mut items = Vec::with_capacity(alloc, 50)?;
     for _ in 0..50 {
         items.push(item())?;
