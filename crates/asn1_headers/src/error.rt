@@ -141,6 +141,16 @@ pub enum DerConstraint {
     /// An integer with a spare leading ff (8.3.2).
     #[error("integer with spare leading ff")]
     IntegerLeadingFF,
+    /// Identifier octets that are not the shortest: the high form of a number up to 30, or a first digit of 0
+    /// (8.1.2.2, 8.1.2.4).
+    #[error("identifier octets not the shortest")]
+    TagNotShortest,
+    /// Length octets that are not the shortest (10.1).
+    #[error("length octets not the shortest")]
+    LengthNotShortest,
+    /// Octets that are left in a part that holds one element and nothing else, as an explicit tag does (8.14.2).
+    #[error("trailing octets")]
+    TrailingOctets,
 }
 
 /// Why a reading, a conversion or a count is refused.
