@@ -4,9 +4,9 @@ use Rattle.std.proofs.Common.{refl, arith, subst, inr, sym, ap, append_assoc}
 use Rattle.x690.specs.Octets.{IsOctets}
 use Rattle.x690.specs.Laws.Octets.{octets_front}
 use Rattle.x690.specs.Identifiers.{Identifier, IsIdentifier}
-use Rattle.x690.specs.Lengths.{indefinite, IsLengthForm}
-use Rattle.x690.specs.Rules.{Rule, der_rule, ber_rule, allows_form}
-use Rattle.x690.specs.Faults.{Breach, form_breach, missing, rule_fault, LengthFault, IsLengthBreach, HeaderFault}
+use Rattle.x690.specs.Lengths.{LengthForm, IsLengthForm}
+use Rattle.x690.specs.Rules.{Rule, ber_rule, allows_form}
+use Rattle.x690.specs.Faults.{Breach, breach_of, Fault, missing, rule_fault, LengthFault, FaultFrom, HeaderFault}
 use Rattle.x690.specs.Laws.Identifiers.{same_identifier}
 use Rattle.asn1_headers.specs.declared.header.Header.{Header}
 use Rattle.asn1_headers.specs.declared.header.reading.IdentifierOctets.{IdentifierOctets}
@@ -18,7 +18,7 @@ use Rattle.asn1_headers.specs.declared.tag.Tag.{Tag}
 use Rattle.asn1_headers.specs.Class.{class_number}
 use Rattle.asn1_headers.specs.Length.{form_of}
 use Rattle.asn1_headers.specs.Header.{identifier_of, HasParts}
-use Rattle.asn1_headers.specs.Header.Reading.{BeginsInput, BeginsWithBoth, AllowsIdentifiers, Refused, refusal_of}
+use Rattle.asn1_headers.specs.Header.Reading.{BeginsInput, BeginsWithIdentifier, BeginsWithLength, Refused, refusal_of}
 use Rattle.asn1_headers.specs.Header.Reading.{id_read, tag_read}
 
 pub nothing : (octets : List ℕ) → length octets < 1 → octets ≡ []
@@ -43,74 +43,66 @@ long_octets octets front back first h e =
     let t : IsOctets (first ∷ (front ++ back)) = subst IsOctets e h in
     octets_front front back (λ k. t (suc k))
 
--- a header of the parts that were read begins the input
-pub begins_made : (rule : Rule) → AllowsIdentifiers rule →
-    (input rest : List ℕ) (x : IdentifierOctets) (length : Length) (h : Header) → BeginsWithBoth input rest x length
-    → HasParts h x.class x.constructed (tag_read x) length (Some x.octets.now) →
-    ((count : List ℕ) → allows_form rule (id_read x) count (form_of length) ≡ true) → BeginsInput rule input rest h
-begins_made rule all input rest x length h b p allowed =
-    let i = b.1 in
-    let l = b.2 in
-    let same : id_read x ≡ identifier_of h =
-    sym (same_identifier (class_number h.class) (class_number x.class) h.tag.0 x.number h.constructed x.constructed
-    (ap class_number p.class_is) p.constructed_is (ap (λ (t : Tag). t.0) p.tag_is)) in
-    record {
-      octets = x.octets.now ++ l.0;
-      header = record {
-        identifier = x.octets.now;
-        count = l.0;
-        is = refl;
-        identifier_is = subst (λ id. IsIdentifier x.octets.now id) same i.0;
-        count_is = subst (λ (f : Length). IsLengthForm l.0 (form_of f)) (sym p.length_is) l.1;
-        identifier_allowed = all x.octets.now;
-        count_allowed = subst (λ id. allows_form rule id l.0 (form_of h.length) ≡ true) same (subst
-            (λ (f : Length). allows_form rule (id_read x) l.0 (form_of f) ≡ true) (sym p.length_is) (allowed l.0));
-      };
-      is = i.1 ∙ ap (λ (ys : List ℕ). x.octets.now ++ ys) l.2 ∙ sym (append_assoc x.octets.now l.0 rest);
-      raw_tag = p.raw_tag_is;
-    }
+module _ (rule : Rule) (input after : List ℕ) (x : IdentifierOctets) (b : BeginsWithIdentifier input after x) where
+  -- a header of the parts that were read begins the input
+  pub begins_made : (rest : List ℕ) (length : Length) (h : Header) → (l : BeginsWithLength after rest length) →
+      HasParts h x.class x.constructed (tag_read x) length (Some x.octets.now) →
+      rule.allows_identifier x.octets.now ≡ true → allows_form rule (id_read x) l.0 (form_of length) ≡ true →
+      BeginsInput rule input rest h
+  begins_made rest length h l p allowed form =
+      let same : id_read x ≡ identifier_of h =
+      sym (same_identifier (class_number h.class) (class_number x.class) h.tag.0 x.number h.constructed x.constructed
+      (ap class_number p.class_is) p.constructed_is (ap (λ (t : Tag). t.0) p.tag_is)) in
+      record {
+        octets = x.octets.now ++ l.0;
+        header = record {
+          identifier = x.octets.now;
+          count = l.0;
+          is = refl;
+          identifier_is = subst (λ id. IsIdentifier x.octets.now id) same b.0;
+          count_is = subst (λ (f : Length). IsLengthForm l.0 (form_of f)) (sym p.length_is) l.1;
+          identifier_allowed = allowed;
+          count_allowed = subst (λ id. allows_form rule id l.0 (form_of h.length) ≡ true) same (subst
+              (λ (f : Length). allows_form rule (id_read x) l.0 (form_of f) ≡ true) (sym p.length_is) form);
+        };
+        is = b.1 ∙ ap (λ (ys : List ℕ). x.octets.now ++ ys) l.2 ∙ sym (append_assoc x.octets.now l.0 rest);
+        raw_tag = p.raw_tag_is;
+      }
 
--- the indefinite form begins the length octets, and the rule does not allow it
-pub indefinite_refused : (rule : Rule) → AllowsIdentifiers rule →
-    (refuses : Breach → Error) (input rest : List ℕ) (x : IdentifierOctets) (length : Length) →
-    BeginsWithBoth input rest x length → length ≡ Indefinite → rule.allows_indefinite (id_read x) ≡ false →
-    Refused (HeaderFault rule) (refusal_of refuses) input (refused (refuses form_breach))
-indefinite_refused rule all refuses input rest x length b e none =
-    let i = b.1 in
-    let l = b.2 in
-    let breach : IsLengthBreach rule (id_read x) b.0 (rule_fault form_breach) = record {
-      count = l.0;
-      rest = rest;
-      form = indefinite;
-      count_is = subst (λ (f : Length). IsLengthForm l.0 (form_of f)) e l.1;
-      is = l.2;
-      not_allowed = none;
-      fault_is = refl;
-    } in (
-      rule_fault form_breach,
+  -- the first fault stands behind the identifier octets, or in what the rule says of them
+  pub fault_behind : (fault : Fault) → FaultFrom rule x.octets.now (id_read x) after fault → HeaderFault rule input fault
+  fault_behind fault why = inr (record {
+    identifier = x.octets.now;
+    rest = after;
+    id = id_read x;
+    identifier_is = b.0;
+    is = b.1;
+    why = why;
+  })
+
+  -- length octets, or 80, that the rule does not allow behind the identifier octets
+  pub form_refused : (refuses : Breach → Error) (rest : List ℕ) (length : Length) (form : LengthForm) →
+      (l : BeginsWithLength after rest length) → form_of length ≡ form →
+      rule.allows_identifier x.octets.now ≡ true → allows_form rule (id_read x) l.0 form ≡ false →
+      Refused (HeaderFault rule) (refusal_of refuses) input (refused (refuses (breach_of form)))
+  form_refused refuses rest length form l e allowed not_allowed = (
+    rule_fault (breach_of form),
+    fault_behind (rule_fault (breach_of form)) (inr (
+      allowed,
       inr (record {
-        identifier = x.octets.now;
-        rest = b.0;
-        id = id_read x;
-        identifier_is = i.0;
-        is = i.1;
-        why = inr (all x.octets.now, inr breach);
+        count = l.0;
+        rest = rest;
+        form = form;
+        count_is = subst (λ (f : LengthForm). IsLengthForm l.0 f) e l.1;
+        is = l.2;
+        not_allowed = not_allowed;
+        fault_is = refl;
       }),
-      refl,
-    )
-
-pub ber_takes : AllowsIdentifiers ber_rule
-ber_takes octets = refl
-
-pub der_takes : AllowsIdentifiers der_rule
-der_takes octets = refl
+    )),
+    refl,
+  )
 
 pub ber_form_allowed : (id : Identifier) (length : Length) → (length ≡ Indefinite → id.constructed ≡ true) →
     (count : List ℕ) → allows_form ber_rule id count (form_of length) ≡ true
 ber_form_allowed id (Definite m) e count = refl
 ber_form_allowed id Indefinite e count = e refl
-
-pub der_form_allowed : (id : Identifier) (length : Length) → (length ≡ Indefinite → ⊥) → (count : List ℕ) →
-    allows_form der_rule id count (form_of length) ≡ true
-der_form_allowed id (Definite m) e count = refl
-der_form_allowed id Indefinite e count = absurd (e refl)

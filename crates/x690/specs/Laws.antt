@@ -10,6 +10,7 @@ pub mod Nested
 pub mod StrictLengths
 pub mod StrictIdentifiers
 pub mod StrictHeaders
+pub mod Shortest
 pub mod StrictElements
 pub mod Integers
 pub mod Signed

@@ -7,6 +7,7 @@ ghost use Rattle.x690.specs.Lengths.{LengthForm, definite};
 ghost use Rattle.x690.specs.Rules.{Rule, der_rule, ber_rule};
 ghost use Rattle.x690.specs.Elements.{IsHeader, Parts, ArePossible, IsDefiniteElement, IsDerElement, BeginsWithHeader};
 ghost use Rattle.x690.specs.Elements.{BeginsWithElement};
+ghost use Rattle.x690.specs.Strict.{identifier_octets, length_octets};
 ghost use Rattle.x690.specs.Faults.{Fault, missing, tag_fault, HeaderFault, DerElementFault, HasFault, SpeaksOf};
 ghost use Rattle.x690.specs.Faults.{IsLackingOrCut};
 
@@ -24,13 +25,16 @@ pub fn headers_unique()
         → IsHeader rule octets id form → IsOctets octets }
 {}
 
-/// A header by DER is a header by BER, and counts its contents octets (X.690 10.1). BER allows each header that counts
-/// them, whichever rule it keeps.
+/// A header by DER is a header by BER, counts its contents octets, and is the strict header (X.690 8.1.2, 10.1). BER
+/// allows each header that counts them, whichever rule it keeps.
 pub fn der_headers_are_ber_headers()
     ensures ber { (octets : List ℕ) (id : Identifier) (form : LengthForm)
         → IsHeader der_rule octets id form → IsHeader ber_rule octets id form }
     ensures counts { (octets : List ℕ) (id : Identifier) (form : LengthForm)
         → IsHeader der_rule octets id form → (n : ℕ) × (form ≡ definite n) }
+    ensures strict { (octets : List ℕ) (id : Identifier) (n : ℕ)
+        → IsHeader der_rule octets id (definite n)
+        → octets ≡ identifier_octets id ++ length_octets n }
     ensures definite { (rule : Rule) (octets : List ℕ) (id : Identifier) (n : ℕ)
         → IsHeader rule octets id (definite n) → IsHeader ber_rule octets id (definite n) }
 {}

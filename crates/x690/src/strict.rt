@@ -1,11 +1,11 @@
 //! The strict identifier octets and length octets: each number has one way to be written.
 
-ghost use Rattle.std.specs.Prelude.{ℕ, ◌≡◌, ◌<◌, ◌≤◌, ◌^◌, ◌++◌, List, length};
+ghost use Rattle.std.specs.Prelude.{ℕ, true, ◌≡◌, ◌<◌, ◌≤◌, ◌^◌, ◌++◌, List, length};
 ghost use Rattle.x690.specs.Identifiers.{Identifier, IsIdentifier, IsStrictIdentifier};
 ghost use Rattle.x690.specs.Lengths.{IsLength, IsStrictLength};
 ghost use Rattle.x690.specs.Octets.{IsOctets};
 ghost use Rattle.x690.specs.Rules.{Rule, der_rule, ber_rule};
-ghost use Rattle.x690.specs.Elements.{IsDefiniteElement, IsStrictElement, AllowsStrict};
+ghost use Rattle.x690.specs.Elements.{Parts, IsDefiniteElement, IsDerElement, IsStrictElement, AllowsStrict};
 ghost use Rattle.x690.specs.Strict.{element_octets, definite_parts, identifier_octets, length_octets};
 
 /// Each class, constructed bit and tag number below 2^32 has exactly one string of strict identifier octets,
@@ -42,6 +42,21 @@ pub fn strict_is_lenient()
         → IsStrictIdentifier octets id
         → IsIdentifier octets id }
     ensures length { (octets : List ℕ) (n : ℕ) → IsStrictLength octets n → IsLength octets n }
+{}
+
+/// Of the octets that say one thing, DER allows the strict ones alone (X.690 8.1.2.2, 8.1.2.4, 10.1).
+pub fn der_allows_strict_alone()
+    ensures identifier { (octets : List ℕ) (id : Identifier)
+        → IsIdentifier octets id
+        → der_rule.allows_identifier octets ≡ true
+        → IsStrictIdentifier octets id }
+    ensures length { (octets : List ℕ) (n : ℕ)
+        → IsLength octets n
+        → der_rule.allows_length octets ≡ true
+        → IsStrictLength octets n }
+    ensures element { (octets : List ℕ) (parts : Parts)
+        → IsDerElement octets parts
+        → IsStrictElement octets parts.id parts.content }
 {}
 
 /// DER and BER allow what a writer writes (X.690 10.1).

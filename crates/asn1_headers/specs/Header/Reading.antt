@@ -1,10 +1,11 @@
 -- What reading headers may answer.
-use Rattle.std.specs.Prelude.{◌≡◌, ℕ, true, Some, List, ◌++◌, Result, Ok, Err, length}
+use Rattle.std.specs.Prelude.{◌≡◌, ℕ, Some, List, ◌++◌, Result, Ok, Err, length}
 use Rattle.x690.specs.Identifiers.{Identifier, IsIdentifier, IsCutIdentifier}
 use Rattle.x690.specs.Lengths.{IsLengthForm, LengthForm}
 use Rattle.x690.specs.Rules.{Rule, ber_rule}
 use Rattle.x690.specs.Elements.{IsHeader}
-use Rattle.x690.specs.Faults.{Breach, Fault, missing, tag_fault, length_fault, rule_fault, depth_fault, HeaderFault}
+use Rattle.x690.specs.Faults.{Breach, identifier_breach, length_breach, form_breach, HeaderFault}
+use Rattle.x690.specs.Faults.{Fault, missing, tag_fault, length_fault, rule_fault, depth_fault}
 use Rattle.asn1_headers.specs.declared.tag.Tag.{Tag}
 use Rattle.asn1_headers.specs.declared.length.Length.{Length}
 use Rattle.asn1_headers.specs.declared.header.Header.{Header}
@@ -12,7 +13,7 @@ use Rattle.asn1_headers.specs.declared.header.reading.IdentifierOctets.{Identifi
 use Rattle.asn1_headers.specs.declared.error.Error.{Error}
 use Rattle.asn1_headers.specs.declared.error.Error.TheVariants.{InvalidTag, InvalidLength, BerMaxDepth}
 use Rattle.asn1_headers.specs.declared.error.Error.TheVariants.{DerConstraintFailed, ConstructExpected}
-use Rattle.asn1_headers.specs.declared.error.DerConstraint.TheVariants.{IndefiniteLength}
+use Rattle.asn1_headers.specs.declared.error.DerConstraint.TheVariants.{IndefiniteLength, TagNotShortest, LengthNotShortest}
 use Rattle.asn1_headers.specs.declared.error.Err.{Err as Refusal}
 use Rattle.asn1_headers.specs.declared.error.Err.TheVariants.{Incomplete as cut, Error as refused}
 use Rattle.asn1_headers.specs.declared.error.Needed.TheVariants.{Size}
@@ -36,10 +37,11 @@ refusal_of refuses length_fault = refused InvalidLength
 refusal_of refuses (rule_fault breach) = refused (refuses breach)
 refusal_of refuses depth_fault = refused BerMaxDepth
 
--- of what its rule does not allow in a header, DER refuses 80 always, and BER at a primitive element;
--- there is nothing else today
+-- by DER a header is refused for identifier octets and for length octets that are not the shortest, and for 80
 abbrev pub der_breach : Breach → Error
-der_breach breach = DerConstraintFailed IndefiniteLength
+der_breach identifier_breach = DerConstraintFailed TagNotShortest
+der_breach length_breach = DerConstraintFailed LengthNotShortest
+der_breach form_breach = DerConstraintFailed IndefiniteLength
 
 -- by BER a header is refused only where a primitive element has the indefinite form
 abbrev pub ber_breach : Breach → Error
@@ -72,15 +74,6 @@ BeginsWithIdentifier input rest x = IsIdentifier x.octets.now (id_read x) × (in
 -- length octets, or 80, begin the input, and the rest follows
 abbrev pub BeginsWithLength : List ℕ → List ℕ → Length → Type 0
 BeginsWithLength input rest length = (octets : List ℕ) × IsLengthForm octets (form_of length) × (input ≡ octets ++ rest)
-
--- identifier octets and then length octets, or 80, begin the input, and the rest follows
-abbrev pub BeginsWithBoth : List ℕ → List ℕ → IdentifierOctets → Length → Type 0
-BeginsWithBoth input rest x length =
-    (mid : List ℕ) × BeginsWithIdentifier input mid x × BeginsWithLength mid rest length
-
--- the rule allows all identifier octets that a reader takes
-abbrev pub AllowsIdentifiers : Rule → Type 0
-AllowsIdentifiers rule = (octets : List ℕ) → rule.allows_identifier octets ≡ true
 
 -- what a reader of headers may answer: the header and the rest, or the refusal of the first fault
 abbrev pub HeaderGives : Rule → (Fault → Refusal Error) → List ℕ → Result (List ℕ × Header) (Refusal Error) → Type 0

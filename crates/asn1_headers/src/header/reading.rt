@@ -1,14 +1,14 @@
 //! Reading identifier octets, length octets and headers (X.690 8.1.2, 8.1.3).
 ghost use Rattle.std.specs.Prelude.{◌≡◌, ℕ, Bool, List, ◌+◌, ◌*◌, ◌<◌, ◌≤◌, ◌++◌, length, IfOk, IfErr, Some};
-ghost use Rattle.x690.specs.Identifiers.{Identifier, bit};
-ghost use Rattle.x690.specs.Lengths.{LengthForm};
-ghost use Rattle.x690.specs.Rules.{Rule, der_rule, ber_rule};
+ghost use Rattle.x690.specs.Identifiers.{Identifier, IsIdentifier, bit};
+ghost use Rattle.x690.specs.Lengths.{LengthForm, IsLength};
+ghost use Rattle.x690.specs.Rules.{Rule, der_rule, ber_rule, are_shortest_identifier, are_shortest_length};
 ghost use Rattle.x690.specs.Faults.{Breach, IdentifierFault, LengthFault, HeaderFault};
 ghost use Rattle.asn1_headers.specs.Class.{class_number};
 ghost use Rattle.asn1_headers.specs.Answers.{seen};
 ghost use Rattle.asn1_headers.specs.Header.Reading.{Refused, refusal_of, der_refusal, ber_refusal, HeaderGives};
-ghost use Rattle.asn1_headers.specs.Header.Reading.{BeginsWithIdentifier, BeginsWithLength, BeginsWithBoth};
-ghost use Rattle.asn1_headers.specs.Header.Reading.{AllowsIdentifiers, tag_read, BeginsWithForm};
+ghost use Rattle.asn1_headers.specs.Header.Reading.{BeginsWithIdentifier, BeginsWithLength};
+ghost use Rattle.asn1_headers.specs.Header.Reading.{id_read, tag_read, BeginsWithForm};
 ghost use Rattle.asn1_headers.specs.Header.{HasParts};
 ghost use Rattle.asn1_headers.specs.declared.error.Error.{Error};
 ghost use Rattle.asn1_headers.specs.declared.error.Err.TheVariants.{Error as refused};
@@ -105,7 +105,31 @@ fn read_length(bytes: &[u8]) -> ParseResult<'_, Length, Error>
     }
 }
 
+/// Whether the length octets at the front, which say this length, are the shortest (X.690 10.1).
+#[inline(always)]
+fn is_shortest_length(bytes: &[u8], length: usize) -> bool
+    ensures { (octets rest : List ℕ) → IsLength octets length → bytes.now ≡ octets ++ rest
+        → result ≡ are_shortest_length octets }
+{
+    match bytes {
+        [first, second, ..] if *first > 127 => length > 127 && *second != 0,
+        _ => true,
+    }
+}
+
 impl<'a> IdentifierOctets<'a> {
+    /// Whether they are the shortest that say what they say (X.690 8.1.2.2, 8.1.2.4.2).
+    #[inline(always)]
+    fn are_shortest(&self) -> bool
+        requires { IsIdentifier self.now.octets.now (id_read self.now) }
+        ensures { result ≡ are_shortest_identifier self.now.octets.now }
+    {
+        match self.octets {
+            [_, digit, ..] => self.number > 30 && *digit != 128,
+            _ => true,
+        }
+    }
+
     /// The header with this identifier, and these octets as its raw tag.
     #[inline(always)]
     fn with_length(self, length: Length) -> Header<'a>
@@ -118,34 +142,36 @@ impl<'a> IdentifierOctets<'a> {
     }
 }
 
-/// The identifier octets at the front and the length octets, or 80, that follow them.
-#[inline(always)]
-fn read_parts(bytes: &[u8]) -> ParseResult<'_, (IdentifierOctets<'_>, Length), Error>
-    ensures ok { IfOk result (λ x. BeginsWithBoth bytes.now x.0.now x.1.0 x.1.1) }
-    ensures err { (rule : Rule) (refuses : Breach → Error)
-        → AllowsIdentifiers rule
-        → IfErr result (Refused (HeaderFault rule) (refusal_of refuses) bytes.now) }
+/// The refusal of a header that breaks a rule of DER (X.690 10.1).
+fn broken(constraint: DerConstraint) -> Err<Error>
+    ensures { result ≡ refused (errors.DerConstraintFailed constraint) }
 {
-    let (rest, identifier) = read_identifier(bytes)?;
-    let (rest, length) = read_length(rest)?;
-    Ok((rest, (identifier, length)))
+    Err::Error(Error::DerConstraintFailed(constraint))
 }
 
 /// The refusal of an indefinite length by DER (X.690 10.1).
 pub fn indefinite_length() -> Err<Error>
     ensures { result ≡ refused (errors.DerConstraintFailed constraints.IndefiniteLength) }
 {
-    Err::Error(Error::DerConstraintFailed(DerConstraint::IndefiniteLength))
+    broken(DerConstraint::IndefiniteLength)
 }
 
-/// The header at the front, by DER: an indefinite length is refused.
+/// The header at the front, by DER: identifier octets and length octets that are not the shortest are refused, and an
+/// indefinite length.
 #[inline(always)]
 pub fn header_by_der(bytes: &[u8]) -> ParseResult<'_, Header<'_>, Error>
     ensures { HeaderGives der_rule der_refusal bytes.now (seen result) }
 {
-    let (rest, (identifier, length)) = read_parts(bytes)?;
+    let (after, identifier) = read_identifier(bytes)?;
+    if !identifier.are_shortest() {
+        return Err(broken(DerConstraint::TagNotShortest));
+    }
+    let (rest, length) = read_length(after)?;
     match length {
-        Length::Definite(_) => Ok((rest, identifier.with_length(length))),
+        Length::Definite(n) if is_shortest_length(after, n) => {
+            Ok((rest, identifier.with_length(length)))
+        }
+        Length::Definite(_) => Err(broken(DerConstraint::LengthNotShortest)),
         Length::Indefinite => Err(indefinite_length()),
     }
 }
@@ -155,7 +181,8 @@ pub fn header_by_der(bytes: &[u8]) -> ParseResult<'_, Header<'_>, Error>
 pub fn header_by_ber(bytes: &[u8]) -> ParseResult<'_, Header<'_>, Error>
     ensures { HeaderGives ber_rule ber_refusal bytes.now (seen result) }
 {
-    let (rest, (identifier, form)) = read_parts(bytes)?;
+    let (after, identifier) = read_identifier(bytes)?;
+    let (rest, form) = read_length(after)?;
     match form {
         Length::Indefinite if !identifier.constructed => {
             Err(Err::Error(Error::ConstructExpected))

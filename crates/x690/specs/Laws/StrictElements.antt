@@ -1,13 +1,16 @@
 -- Strict elements: one for each identifier and content, and one alone begins an input.
-use Rattle.std.proofs.Common.{◌≡◌, ℕ, ◌<◌, ◌^◌, List, ◌++◌, length, refl, sym, ap, ◌∙◌, append_assoc}
+use Rattle.std.proofs.Common.{◌≡◌, ℕ, ◌<◌, ◌^◌, List, ◌++◌, length, refl, sym, ap, ◌∙◌, append_assoc, subst}
 use Rattle.x690.specs.Octets.{IsOctets}
 use Rattle.x690.specs.Identifiers.{Identifier}
 use Rattle.x690.specs.Rules.{Rule, der_rule, ber_rule}
-use Rattle.x690.specs.Elements.{Parts, IsDefiniteElement, IsStrictElement, AllowsStrict}
+use Rattle.x690.specs.Lengths.{LengthForm, definite}
+use Rattle.x690.specs.Elements.{Parts, IsHeader, IsDefiniteElement, IsDerElement, IsStrictElement, AllowsStrict}
 use Rattle.x690.specs.Strict.{identifier_octets, length_octets, definite_parts, element_octets}
 use Rattle.x690.specs.Laws.StrictIdentifiers.{strict_identifier, only_strict_identifier}
 use Rattle.x690.specs.Laws.StrictLengths.{strict_length, only_strict_length}
 use Rattle.x690.specs.Laws.StrictHeaders.{header_octets_are}
+use Rattle.x690.specs.Laws.Shortest.{shortest_identifier_strict, strict_identifier_shortest}
+use Rattle.x690.specs.Laws.Shortest.{shortest_length_strict, strict_length_shortest}
 use Rattle.x690.specs.Laws.Elements.{definite_element_unique}
 
 -- A strict element is the octets that are written.
@@ -34,7 +37,7 @@ made_strict_element i c k n l o = record {
 
 -- DER allows what a writer writes.
 pub der_allows_strict : AllowsStrict der_rule
-der_allows_strict = record { identifier = λ octets id i. refl; length = λ octets n l. refl }
+der_allows_strict = record { identifier = strict_identifier_shortest; length = strict_length_shortest }
 
 -- So does BER.
 pub ber_allows_strict : AllowsStrict ber_rule
@@ -58,6 +61,29 @@ strict_is_definite rule allows o i c s = record {
   content_octets = s.content_octets;
   is = s.is ∙ sym (append_assoc s.identifier s.count c);
 }
+
+-- A header by DER that counts its contents octets is the strict header.
+pub der_header_strict : (o : List ℕ) (id : Identifier) (n : ℕ) → IsHeader der_rule o id (definite n) →
+    o ≡ identifier_octets id ++ length_octets n
+der_header_strict o id n h =
+    let i = shortest_identifier_strict h.identifier id h.identifier_is h.identifier_allowed in
+    let l = shortest_length_strict h.count n h.count_is h.count_allowed in
+    h.is ∙ ap (λ (z : List ℕ). z ++ h.count) (only_strict_identifier id h.identifier i)
+    ∙ ap (λ (z : List ℕ). identifier_octets id ++ z) (only_strict_length n h.count l)
+
+-- An element by DER is a strict element.
+pub der_element_strict : (o : List ℕ) (p : Parts) → IsDerElement o p → IsStrictElement o p.id p.content
+der_element_strict o p e =
+    let h : IsHeader der_rule e.header p.id (definite (length p.content)) =
+    subst (λ (f : LengthForm). IsHeader der_rule e.header p.id f) e.counted e.header_is in
+    record {
+      identifier = h.identifier;
+      count = h.count;
+      identifier_is = shortest_identifier_strict h.identifier p.id h.identifier_is h.identifier_allowed;
+      count_is = shortest_length_strict h.count (length p.content) h.count_is h.count_allowed;
+      content_octets = e.content_octets;
+      is = e.is ∙ ap (λ (z : List ℕ). z ++ p.content) h.is ∙ append_assoc h.identifier h.count p.content;
+    }
 
 -- An identifier and contents octets have one strict element.
 pub strict_element_one : (o p : List ℕ) (i : Identifier) (c : List ℕ) → IsStrictElement o i c →

@@ -19,7 +19,8 @@ others_of n = digits_of 256 n
 below : (n : ℕ) → AllBelowBase 256 (others_of n)
 below n = all_below_base_digits_of 256 n (omega arith)
 
-digits_few : (n k : ℕ) → n < 256 ^ k → length (others_of n) ≤ k
+-- A number below 256^k has k octets at most.
+pub digits_few : (n k : ℕ) → n < 256 ^ k → length (others_of n) ≤ k
 digits_few n k h = length-digits_of-le 256 k n (omega arith) h
 
 zero_long : (k : ℕ) → k ≡ 0 → 256 ^ k ≡ 1
