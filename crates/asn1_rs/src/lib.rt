@@ -203,6 +203,7 @@ pub use laws::TakesClass;
 pub use laws::answers_last;
 pub use laws::any_is_the_element;
 pub use laws::beginnings_are_incomplete;
+pub use laws::elements_by_der_are_written_again;
 pub use laws::functions::beginnings_are_refused;
 pub use laws::functions::counts_are_of_the_strict_encoding;
 pub use laws::functions::equal_items_are_hashed_alike;

@@ -7,7 +7,7 @@ use Rattle.x690.specs.Identifiers.{IsCutIdentifier}
 use Rattle.x690.specs.Rules.{der_rule}
 use Rattle.x690.specs.Elements.{Parts, IsDerElement, ArePossible}
 use Rattle.x690.specs.Faults.{Breach, Fault, missing, tag_fault, length_fault, rule_fault, depth_fault, DerElementFault}
-use Rattle.x690.specs.Faults.{SpeaksOf, IsLackingOrCut}
+use Rattle.x690.specs.Faults.{SpeaksOf, IsLackingOrCut, identifier_breach, length_breach, form_breach}
 use Rattle.x690.specs.Nested.{IsElement, ElementFault}
 use Rattle.x690.specs.Laws.Elements.{definite_possible}
 use Rattle.x690.specs.Laws.Faults.{CountsSome, no_der_element, der_fault_counts, one_der_fault}
@@ -198,7 +198,9 @@ element_no_memory ElementOf FaultOf at other check convert from checked converte
 
 -- What is not allowed by DER is not refused as out of memory.
 pub der_breach_no_memory : (breach : Breach) → der_breach breach ≢ OutOfMemory
-der_breach_no_memory breach q = cc
+der_breach_no_memory identifier_breach q = cc
+der_breach_no_memory length_breach q = cc
+der_breach_no_memory form_breach q = cc
 
 -- What is not allowed by BER is not refused as out of memory.
 pub ber_breach_no_memory : (breach : Breach) → ber_breach breach ≢ OutOfMemory

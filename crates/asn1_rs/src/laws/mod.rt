@@ -42,6 +42,7 @@ ghost use Rattle.asn1_headers.specs.Content.{ContentStays};
 ghost use Rattle.asn1_rs.specs.Laws.Readers.{element_exact, element_no_memory};
 ghost use Rattle.asn1_rs.specs.Laws.Readers.{ber_breach_no_memory};
 ghost use Rattle.asn1_rs.specs.Laws.Readers.{ber_elements, passes_all, all_pass};
+ghost use Rattle.asn1_rs.specs.Any.Writing.{element_writing};
 ghost use Rattle.asn1_rs.specs.ToDer.{whole_allocates, whole_octets};
 
 use crate::to_der::ToDer;
@@ -348,6 +349,13 @@ pub fn any_is_the_element()
         → input ≡ identifier ++ more
         → BerElementGives input answer
         → IfOk answer (λ x. raw_tag_of x.1.header ≡ Some identifier) }
+{}
+
+/// By DER an element has one encoding (X.690 8.1.2, 10.1): what `Any::from_der` answers is written, by `write_der`, as
+/// the octets that it was read from.
+pub fn elements_by_der_are_written_again()
+    ensures { (input : List ℕ) (x : List ℕ × Any) → DerElementGives input (Ok x)
+        → input ≡ whole_octets element_writing x.1 ++ x.0 }
 {}
 
 /// If appending n octets would make the input begin with a header or an element, the answer is `Incomplete(m)` with m at

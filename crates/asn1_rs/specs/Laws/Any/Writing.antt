@@ -1,16 +1,18 @@
 -- Elements of any type are written as what they say.
 use Rattle.std.proofs.Common.{◌≡◌, ◌∙◌, ap, sym, refl, ℕ, Bool, true, false, ◌&&◌, List, ◌++◌, length, rules}
-use Rattle.std.specs.Prelude.{IsTrue, ◌↔◌, bytes_eq}
+use Rattle.std.specs.Prelude.{IsTrue, ◌↔◌, bytes_eq, Ok}
 use Rattle.std.proofs.lemmas.Slice.Eq.{bytes_eq-Decides}
 use Rattle.x690.specs.Identifiers.{Identifier}
 use Rattle.x690.specs.Lengths.{LengthForm, definite}
 use Rattle.x690.specs.Strict.{identifier_octets, length_form_octets}
 use Rattle.x690.specs.Laws.StrictHeaders.{header_octets_are}
+use Rattle.x690.specs.Laws.StrictElements.{strict_element_octets, der_element_strict}
 use Rattle.asn1_headers.specs.declared.header.Header.{Header}
 use Rattle.asn1_headers.specs.Class.{class_number}
 use Rattle.asn1_headers.specs.Length.{form_of}
 use Rattle.asn1_headers.specs.Header.Writing.{strict_header}
 use Rattle.asn1_rs.specs.declared.asn1_types.any.Any.{Any}
+use Rattle.asn1_rs.specs.Any.{DerElementGives, parts_of}
 use Rattle.asn1_rs.specs.Kinds.{item_grammar}
 use Rattle.asn1_rs.specs.Any.Value.{any_element, ElementValue, element_of}
 use Rattle.asn1_rs.specs.Any.Writing.{content_of, element_header, element_writing}
@@ -18,13 +20,21 @@ use Rattle.asn1_headers.specs.Header.{identifier_of, is_constructed_of, is_same_
 use Rattle.asn1_rs.specs.Laws.Forms.{nothing_refused}
 use Rattle.asn1_rs.specs.Grammar.Form.{header_of}
 use Rattle.asn1_rs.specs.Grammar.Item.{IsLawfulWriting}
-use Rattle.asn1_rs.specs.ToDer.{IsWritable}
+use Rattle.asn1_rs.specs.ToDer.{IsWritable, whole_octets}
 
 -- What is written.
 
 -- The strict header follows from identifier and contents octets.
 header_by : (i j : Identifier) (c d : List ℕ) → i ≡ j → c ≡ d → header_of i c ≡ header_of j d
 header_by i j c d p q = ap (λ (z : Identifier). header_of z c) p ∙ ap (λ (z : List ℕ). header_of j z) q
+
+-- By DER an element is read from the octets that are written of it.
+pub written_again : (input : List ℕ) (x : List ℕ × Any) → DerElementGives input (Ok x) →
+    input ≡ whole_octets element_writing x.1 ++ x.0
+written_again input x begins =
+    let f = begins.front in
+    f.is ∙ ap (λ (z : List ℕ). z ++ x.0) (strict_element_octets f.word (parts_of x.1).id (parts_of x.1).content
+    (der_element_strict f.word (parts_of x.1) f.fits))
 
 -- What is written for elements of any type is lawful.
 pub element_lawful_writing : IsLawfulWriting (item_grammar any_element) element_writing
