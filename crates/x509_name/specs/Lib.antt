@@ -1,0 +1,4 @@
+pub mod Attribute
+pub mod Laws
+pub mod Name
+pub mod RelativeName

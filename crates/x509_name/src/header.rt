@@ -1,0 +1,38 @@
+//! The headers of sequences and sets whose contents octets are counted.
+ghost use Rattle.std.specs.Prelude.{◌≡◌, ◌<◌, ◌++◌, ◌+◌, ℕ, List, true, false, length, IfOk, IfErr};
+ghost use Rattle.x690.specs.Strict.{header_octets};
+ghost use Rattle.asn1_headers.specs.Header.Writing.{strict_header};
+ghost use Rattle.asn1_headers.specs.Prepended.{Prepended};
+ghost use Rattle.asn1_headers.specs.Writer.{Wrote, MayRefuse};
+ghost use Rattle.asn1_rs.specs.ToDer.{MayRefuseCount, SumsCounts};
+
+use asn1_rs::{
+    Class, DerBuffer, DerWrite, Error, Header, Length, SerializeError, SerializeResult, Tag, ToDer,
+};
+use std::alloc::Global;
+
+/// The header of a constructed element of the universal class with so many contents octets.
+pub(crate) fn header(tag: Tag, count: usize) -> Header<'static>
+    ensures { strict_header result ≡ header_octets 0 true tag.0 count }
+{
+    Header::new(Class::Universal, true, tag, Length::Definite(count))
+}
+
+/// How many octets such an element has.
+pub(crate) fn element_len(tag: Tag, count: usize) -> Result<usize, Error>
+    ensures count { (content : List ℕ) → count ≡ length content →
+        IfOk result (λ n. n ≡ length (header_octets 0 true tag.0 (length content) ++ content)) }
+    ensures refused { (content : List ℕ) → count ≡ length content →
+        IfErr result (MayRefuseCount false
+        (length (header_octets 0 true tag.0 (length content) ++ content))) }
+{
+    let before = header(tag, count).to_der_len()?;
+    add_counts(before, count)
+}
+
+/// The sum of two counts.
+pub(crate) fn add_counts(before: usize, after: usize) -> Result<usize, Error>
+    ensures { SumsCounts before after result }
+{
+    before.checked_add(after).ok_or(Error::InvalidLength)
+}

@@ -1,0 +1,11 @@
+//! Names of X.509: lists of relative names, which are sets of attributes.
+#![tactic(auto)]
+
+mod attribute;
+mod header;
+mod name;
+mod relative_name;
+
+pub use attribute::AttributeTypeAndValue;
+pub use name::Name;
+pub use relative_name::RelativeDistinguishedName;
