@@ -3,4 +3,5 @@ pub mod Attribute
 pub mod Name
 pub mod Reading
 pub mod RelativeName
+pub mod RelativeNameReading
 pub mod Writing

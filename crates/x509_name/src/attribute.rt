@@ -8,11 +8,13 @@ ghost use Rattle.x509_name.specs.Laws.Attribute.{attribute_lawful};
 ghost use Rattle.x509_name.specs.Laws.Reading.{attribute_exact, attribute_no_memory};
 ghost use Rattle.x509_name.specs.Laws.Writing.{attribute_lawful_writing, attribute_number};
 
-use crate::header::{add_counts, element_len, header};
+use crate::header::{add_counts, element_len, prepend_header, put_header};
+use asn1_headers::error::refusal_of_count;
+use asn1_headers::writer::add_written;
 use asn1_rs::{
     Any, DerBuffer, DerConstraint, DerWrite, ElementKind, Err, Error, FromDer, HasKind, LawfulDer,
-    LawfulElement, LawfulItem, LawfulTagged, LawfulWrite, Oid, ParseResult, SerializeError,
-    SerializeResult, Tag, TagNumber, TaggedAs, ToDer,
+    LawfulElement, LawfulItem, LawfulTagged, LawfulWrite, Oid, ParseResult, SerializeResult, Tag,
+    TagNumber, TaggedAs, ToDer,
 };
 use std::alloc::Global;
 
@@ -113,27 +115,27 @@ impl ToDer for AttributeTypeAndValue<'_> {
     }
 
     fn write_der_header<W: DerWrite>(&self, alloc: Global, w: &mut W) -> SerializeResult<usize> {
-        header(Tag::Sequence, self.der_content_len()?).write_der_header(alloc, w)
+        match self.der_content_len() {
+            Ok(count) => put_header(Tag::Sequence, count, alloc, w),
+            Err(e) => Err(refusal_of_count(e)),
+        }
     }
 
     fn write_der_content<W: DerWrite>(&self, alloc: Global, w: &mut W) -> SerializeResult<usize> {
         let oid = self.oid.write_der(alloc, w)?;
         let value = self.value.write_der(alloc, w)?;
-        oid.checked_add(value).ok_or(SerializeError::InvalidLength)
+        add_written(oid, value)
     }
 
     fn prepend_der_content(&self, alloc: Global, buf: &mut DerBuffer) -> SerializeResult<usize> {
         let value = self.value.prepend_der(alloc, buf)?;
         let oid = self.oid.prepend_der(alloc, buf)?;
-        oid.checked_add(value).ok_or(SerializeError::InvalidLength)
+        add_written(oid, value)
     }
 
     fn prepend_der(&self, alloc: Global, buf: &mut DerBuffer) -> SerializeResult<usize> {
         let after = self.prepend_der_content(alloc, buf)?;
-        let before = header(Tag::Sequence, after).prepend_der(alloc, buf)?;
-        before
-            .checked_add(after)
-            .ok_or(SerializeError::InvalidLength)
+        prepend_header(Tag::Sequence, after, alloc, buf)
     }
 }
 

@@ -6,13 +6,12 @@ ghost use Rattle.asn1_headers.specs.Prepended.{Prepended};
 ghost use Rattle.asn1_headers.specs.Writer.{Wrote, MayRefuse};
 ghost use Rattle.asn1_rs.specs.ToDer.{MayRefuseCount, SumsCounts};
 
-use asn1_rs::{
-    Class, DerBuffer, DerWrite, Error, Header, Length, SerializeError, SerializeResult, Tag, ToDer,
-};
+use asn1_headers::writer::add_written;
+use asn1_rs::{Class, DerBuffer, DerWrite, Error, Header, Length, SerializeResult, Tag, ToDer};
 use std::alloc::Global;
 
 /// The header of a constructed element of the universal class with so many contents octets.
-pub(crate) fn header(tag: Tag, count: usize) -> Header<'static>
+fn header(tag: Tag, count: usize) -> Header<'static>
     ensures { strict_header result ≡ header_octets 0 true tag.0 count }
 {
     Header::new(Class::Universal, true, tag, Length::Definite(count))
@@ -35,4 +34,37 @@ pub(crate) fn add_counts(before: usize, after: usize) -> Result<usize, Error>
     ensures { SumsCounts before after result }
 {
     before.checked_add(after).ok_or(Error::InvalidLength)
+}
+
+/// Appends the header of such an element.
+pub(crate) fn put_header<W: DerWrite>(
+    tag: Tag,
+    count: usize,
+    alloc: Global,
+    w: &mut W,
+) -> SerializeResult<usize>
+    ensures wrote { Wrote (header_octets 0 true tag.0 count) (W.state w.old) (W.state w.new) result }
+    ensures refused { IfErr result (MayRefuse false (length (header_octets 0 true tag.0 count))) }
+{
+    header(tag, count).write_der_header(alloc, w)
+}
+
+/// Puts the header of such an element before so many contents octets that stand in front, and answers the number of
+/// both.
+pub(crate) fn prepend_header(
+    tag: Tag,
+    count: usize,
+    alloc: Global,
+    buf: &mut DerBuffer,
+) -> SerializeResult<usize>
+    ensures prepended { (content old : List ℕ) → buf.old ≡ content ++ old →
+        count ≡ length content →
+        Prepended (header_octets 0 true tag.0 (length content) ++ content) old buf.new result }
+    ensures refused { (content old : List ℕ) → buf.old ≡ content ++ old →
+        count ≡ length content →
+        IfErr result (MayRefuse true
+        (length (header_octets 0 true tag.0 (length content) ++ content) + length old)) }
+{
+    let before = header(tag, count).prepend_der(alloc, buf)?;
+    add_written(before, count)
 }
