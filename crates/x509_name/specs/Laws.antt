@@ -4,4 +4,5 @@ pub mod Name
 pub mod Reading
 pub mod RelativeName
 pub mod RelativeNameReading
+pub mod RelativeNameWriting
 pub mod Writing

@@ -7,5 +7,5 @@ mod name;
 mod relative_name;
 
 pub use attribute::AttributeTypeAndValue;
-pub use name::Name;
+pub use name::{Name, read_name};
 pub use relative_name::RelativeDistinguishedName;

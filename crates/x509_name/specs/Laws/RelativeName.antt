@@ -2,7 +2,7 @@
 use Rattle.std.proofs.Common.{◌≡◌, ◌≢◌, ◌∙◌, ap, sym, refl, subst, inl, inr, true, ℕ, List, [], ◌∷◌, ◌++◌, map, length}
 use Rattle.std.proofs.lemmas.List.Sorted.{length_permutation}
 use Rattle.std.specs.List.Sorted.{IsPermutation}
-use Rattle.std.specs.Prelude.{Result, Ok, Err, HasNone}
+use Rattle.std.specs.Prelude.{Result, Ok, Err}
 use Rattle.x690.specs.Collections.{multiset}
 use Rattle.x690.specs.Elements.{Parts}
 use Rattle.x690.specs.Identifiers.{Identifier, IsCutIdentifier}
@@ -10,7 +10,7 @@ use Rattle.x690.specs.Joined.{IsJoined, IsOneFront}
 use Rattle.x690.specs.Laws.Collections.{joins_joined, permutation_from_multiset}
 use Rattle.x690.specs.Laws.Equality.{multiset_set}
 use Rattle.x690.specs.Laws.Joined.{joined_map, joined_values}
-use Rattle.asn1_rs.specs.Grammar.{DerWord, made}
+use Rattle.asn1_rs.specs.Grammar.{FormNumber, made}
 use Rattle.asn1_rs.specs.Grammar.Form.{IsStrict}
 use Rattle.asn1_rs.specs.Grammar.Item.{IsLawfulItem}
 use Rattle.asn1_rs.specs.Kinds.{IsLawfulElement}
@@ -90,3 +90,7 @@ relative_name_lawful = record {
 -- So is their grammar.
 pub relative_name_item_lawful : IsLawfulItem relative_name_item
 relative_name_item_lawful = lawful_item relative_name_element relative_name_lawful
+
+-- Strict parts have the tag number of sets.
+pub relative_name_number : FormNumber relative_name_element.Form 17
+relative_name_number = λ m i c f. ap (λ (z : Identifier). z.number) f.0

@@ -1,5 +1,5 @@
 -- Reading relative names is exact, and the attributes stand in the order of their words.
-use Rattle.std.proofs.Common.{◌≡◌, ◌∙◌, ap, sym, refl, subst, inl, inr, true, ℕ, List, [], map}
+use Rattle.std.proofs.Common.{◌≡◌, ◌∙◌, ap, sym, refl, subst, inl, inr, true, false, ℕ, List, [], ◌∷◌, ◌++◌, map}
 use Rattle.std.specs.Prelude.{Result, Ok, Err}
 use Rattle.x690.specs.Collections.{Multiset, multiset}
 use Rattle.x690.specs.Elements.{IsDerElement}
