@@ -1,0 +1,5 @@
+//! Tests of `x509_name`.
+#![tactic(auto)]
+
+#[cfg(test)]
+mod names;
