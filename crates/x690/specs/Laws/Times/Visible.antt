@@ -1,11 +1,11 @@
 -- A text that says a time has octets from 20 to 7f alone.
-use Rattle.std.proofs.Common.{◌≡◌, ◌⊎◌, ℕ, zero, suc, ◌+◌, ◌/◌, ◌%◌, ◌<◌, Bool, true, false, List, [], ◌∷◌, ◌++◌, inl}
+use Rattle.std.proofs.Common.{◌≡◌, ℕ, zero, suc, ◌+◌, ◌/◌, ◌%◌, true, List, [], ◌∷◌, ◌++◌, inl}
 use Rattle.std.proofs.Common.{inr, Option, Some, None, IsTrue, refl, subst, sym, arith}
 use Rattle.std.specs.List.{list_all}
 use Rattle.std.proofs.lemmas.Bool.Decides.{nat_tests}
 use Rattle.std.proofs.lemmas.List.Folds.{list_all-append}
 use Rattle.x690.specs.Sets.{AllIn, is_visible}
-use Rattle.x690.specs.Times.{digits, z_text, to_minute, SaysOffset, SaysZone, SaysZoneOrNone, SaysFraction, SaysMinutes}
+use Rattle.x690.specs.Times.{digits, to_minute, SaysZone, SaysZoneOrNone, SaysFraction, SaysMinutes}
 use Rattle.x690.specs.Times.{SaysUtcEnd, SaysGeneralizedEnd, SaysTime, SaysUtcTime, SaysGeneralizedTime}
 use Rattle.x690.specs.declared.times.Moment.{Moment}
 use Rattle.x690.specs.declared.times.TimeZone.{TimeZone}
