@@ -8,8 +8,8 @@ use std::test::Fail;
 /// Two lists, one in the other.
 type Two<T> = Vec<Vec<T>>;
 
-/// Ten lists, one in another.
-type Ten<T> = Two<Two<Two<Two<Two<T>>>>>;
+/// Eight lists, one in another.
+type Eight<T> = Two<Two<Two<Two<T>>>>;
 
 /// A list under an explicit tag.
 type Turn<T> = TaggedExplicit<Vec<T>, Error, 1>;
@@ -17,8 +17,8 @@ type Turn<T> = TaggedExplicit<Vec<T>, Error, 1>;
 /// Two of these, one in the other.
 type TwoTurns<T> = Turn<Turn<T>>;
 
-/// Six of these, one in another.
-type SixTurns<T> = TwoTurns<TwoTurns<TwoTurns<T>>>;
+/// Eight of these, one in another.
+type EightTurns<T> = TwoTurns<TwoTurns<TwoTurns<TwoTurns<T>>>>;
 
 /// Four explicit tags, one in another.
 type FourTags<T> = TaggedExplicit<
@@ -29,9 +29,6 @@ type FourTags<T> = TaggedExplicit<
 
 /// An implicit tag over another one.
 type TwoImplicit<T> = TaggedImplicit<TaggedImplicit<T, Error, 2>, Error, 1>;
-
-/// Three sets, one in another.
-type ThreeSets<T> = BTreeSet<BTreeSet<BTreeSet<T>>>;
 
 /// Two sets, one in the other.
 type TwoSets<T> = BTreeSet<BTreeSet<T>>;
@@ -92,14 +89,14 @@ fn rest_by_ber<'a, T: FromBer<'a, Error> + Drop>(
 
 #[test]
 fn forty_lists_by_der(rt: HostRuntime) -> Result<(), Fail> {
-    let rest = rest_by_der::<Ten<Ten<Ten<Ten<u32>>>>>(rt.alloc(), &LISTS)?;
+    let rest = rest_by_der::<Eight<Eight<Eight<Eight<Eight<u32>>>>>>(rt.alloc(), &LISTS)?;
     assert_eq!(rt; rest, 0);
     Ok(())
 }
 
 #[test]
 fn twenty_four_turns_by_der(rt: HostRuntime) -> Result<(), Fail> {
-    let rest = rest_by_der::<SixTurns<SixTurns<SixTurns<SixTurns<u32>>>>>(rt.alloc(), &TURNS)?;
+    let rest = rest_by_der::<EightTurns<EightTurns<EightTurns<u32>>>>(rt.alloc(), &TURNS)?;
     assert_eq!(rt; rest, 0);
     Ok(())
 }
@@ -112,8 +109,8 @@ fn sixteen_explicit_tags_by_der(rt: HostRuntime) -> Result<(), Fail> {
 }
 
 #[test]
-fn eight_implicit_tags_by_der(rt: HostRuntime) -> Result<(), Fail> {
-    let rest = rest_by_der::<TwoImplicit<TwoImplicit<TwoImplicit<TwoImplicit<u32>>>>>(
+fn five_implicit_tags_by_der(rt: HostRuntime) -> Result<(), Fail> {
+    let rest = rest_by_der::<TwoImplicit<TwoImplicit<TaggedImplicit<u32, Error, 1>>>>(
         rt.alloc(),
         &IMPLICIT,
     )?;
@@ -122,22 +119,29 @@ fn eight_implicit_tags_by_der(rt: HostRuntime) -> Result<(), Fail> {
 }
 
 #[test]
-fn five_sets_by_der(rt: HostRuntime) -> Result<(), Fail> {
-    let rest = rest_by_der::<ThreeSets<TwoSets<u8>>>(rt.alloc(), &SETS)?;
+fn four_sets_by_der(rt: HostRuntime) -> Result<(), Fail> {
+    let rest = rest_by_der::<TwoSets<TwoSets<u8>>>(rt.alloc(), &SETS[2..])?;
     assert_eq!(rt; rest, 0);
     Ok(())
 }
 
 #[test]
-fn six_turns_by_ber(rt: HostRuntime) -> Result<(), Fail> {
-    let rest = rest_by_ber::<SixTurns<u32>>(rt.alloc(), &TURNS[72..])?;
+fn sixteen_lists_by_ber(rt: HostRuntime) -> Result<(), Fail> {
+    let rest = rest_by_ber::<Eight<Eight<u32>>>(rt.alloc(), &LISTS[48..])?;
     assert_eq!(rt; rest, 0);
     Ok(())
 }
 
 #[test]
-fn eight_explicit_tags_by_ber(rt: HostRuntime) -> Result<(), Fail> {
-    let rest = rest_by_ber::<FourTags<FourTags<u32>>>(rt.alloc(), &TAGS[16..])?;
+fn three_turns_by_ber(rt: HostRuntime) -> Result<(), Fail> {
+    let rest = rest_by_ber::<Turn<TwoTurns<u32>>>(rt.alloc(), &TURNS[84..])?;
+    assert_eq!(rt; rest, 0);
+    Ok(())
+}
+
+#[test]
+fn four_explicit_tags_by_ber(rt: HostRuntime) -> Result<(), Fail> {
+    let rest = rest_by_ber::<FourTags<u32>>(rt.alloc(), &TAGS[24..])?;
     assert_eq!(rt; rest, 0);
     Ok(())
 }
@@ -151,21 +155,21 @@ fn four_implicit_tags_by_ber(rt: HostRuntime) -> Result<(), Fail> {
 
 #[test]
 fn five_sets_by_ber(rt: HostRuntime) -> Result<(), Fail> {
-    let rest = rest_by_ber::<ThreeSets<TwoSets<u8>>>(rt.alloc(), &SETS)?;
+    let rest = rest_by_ber::<BTreeSet<TwoSets<TwoSets<u8>>>>(rt.alloc(), &SETS)?;
     assert_eq!(rt; rest, 0);
     Ok(())
 }
 
 #[test]
 fn laws_reach_thirteen_lists_by_der(rt: HostRuntime) -> Result<(), Fail> {
-    let (rest, _) = read_der::<Vec<Two<Ten<u32>>>, Error>(rt.alloc(), &LISTS[54..])?;
+    let (rest, _) = read_der::<Vec<Two<Two<Eight<u32>>>>, Error>(rt.alloc(), &LISTS[54..])?;
     assert_eq!(rt; rest.len(), 0);
     Ok(())
 }
 
 #[test]
 fn laws_reach_eight_turns_by_der(rt: HostRuntime) -> Result<(), Fail> {
-    let (rest, _) = read_der::<SixTurns<TwoTurns<u32>>, Error>(rt.alloc(), &TURNS[64..])?;
+    let (rest, _) = read_der::<EightTurns<u32>, Error>(rt.alloc(), &TURNS[64..])?;
     assert_eq!(rt; rest.len(), 0);
     Ok(())
 }
@@ -178,15 +182,25 @@ fn laws_reach_eight_explicit_tags_by_der(rt: HostRuntime) -> Result<(), Fail> {
 }
 
 #[test]
-fn laws_reach_eleven_lists_by_ber(rt: HostRuntime) -> Result<(), Fail> {
-    let (rest, _) = read_ber::<Vec<Ten<u32>>, Error>(rt.alloc(), &LISTS[58..])?;
+fn laws_reach_six_implicit_tags_by_der(rt: HostRuntime) -> Result<(), Fail> {
+    let (rest, _) = read_der::<TwoImplicit<TwoImplicit<TwoImplicit<u32>>>, Error>(
+        rt.alloc(),
+        &IMPLICIT,
+    )?;
     assert_eq!(rt; rest.len(), 0);
     Ok(())
 }
 
 #[test]
-fn laws_reach_six_turns_by_ber(rt: HostRuntime) -> Result<(), Fail> {
-    let (rest, _) = read_ber::<SixTurns<u32>, Error>(rt.alloc(), &TURNS[72..])?;
+fn laws_reach_eleven_lists_by_ber(rt: HostRuntime) -> Result<(), Fail> {
+    let (rest, _) = read_ber::<Vec<Two<Eight<u32>>>, Error>(rt.alloc(), &LISTS[58..])?;
+    assert_eq!(rt; rest.len(), 0);
+    Ok(())
+}
+
+#[test]
+fn laws_reach_three_turns_by_ber(rt: HostRuntime) -> Result<(), Fail> {
+    let (rest, _) = read_ber::<Turn<TwoTurns<u32>>, Error>(rt.alloc(), &TURNS[84..])?;
     assert_eq!(rt; rest.len(), 0);
     Ok(())
 }
@@ -200,7 +214,7 @@ fn laws_reach_four_explicit_tags_by_ber(rt: HostRuntime) -> Result<(), Fail> {
 
 #[test]
 fn laws_reach_three_sets_by_ber(rt: HostRuntime) -> Result<(), Fail> {
-    let (rest, _) = read_ber::<ThreeSets<u8>, Error>(rt.alloc(), &SETS[4..])?;
+    let (rest, _) = read_ber::<BTreeSet<TwoSets<u8>>, Error>(rt.alloc(), &SETS[4..])?;
     assert_eq!(rt; rest.len(), 0);
     Ok(())
 }

@@ -113,8 +113,8 @@ fn numbers_of_a_request_are_read(rt: HostRuntime) -> Result<(), Fail> {
 /// Read: the rest, and whether the same octets are written. With the fewest fields, with an address, with what is
 /// encrypted with and without a version of the key, and with a ticket.
 ///
-/// Refused: another version, another type, no `till`, a field left over in both sequences, octets behind the sequence and
-/// behind the version in their tags, a long length of the request and of a part, another application tag, a
+/// Refused: another version, another type, no `till`, a field left over in both sequences, octets behind the sequence
+/// and behind the version in their tags, a long length of the request and of a part, another application tag, a
 /// context-specific tag, a set, a part that is cut, a request that is, and one that is cut within its tag.
 /// The fields are those of RFC 4120, 5.4.1.
 const REQUESTS: &str = "\

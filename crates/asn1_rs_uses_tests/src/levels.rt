@@ -11,7 +11,8 @@ use test_rows::{Calls, assert_rows, push_debug};
 ///
 /// A level has one octet without its sign (8.3.3): 255 is read, 300 and -1 are refused, and so are a boolean in its
 /// place, a number that is not in the fewest octets (8.3.2), an indefinite length, octets behind the level, and lengths
-/// and a tag number that are not the shortest (10.1). Then a tag that is cut, and a level that is cut within a whole one.
+/// and a tag number that are not the shortest (10.1). Then a tag that is cut, and a level that is cut within a whole
+/// one.
 const LEVELS: &str = "\
 any_tag:
 a10302010500 = ([0], ContextSpecific, Tag(1), Level(5))

@@ -7,9 +7,9 @@ use test_rows::{Calls, assert_rows, push_debug};
 
 /// Read: the rest, the parts, and whether the same octets are written. Without a realm too.
 ///
-/// Refused: octets left over, another tag number in the place of the realm, octets behind a part in its tag, lengths and
-/// a tag number that are not the shortest, a length and a string by BER alone, a primitive sequence, one of another class
-/// or number, a part that is cut, and a sequence that is.
+/// Refused: octets left over, another tag number in the place of the realm, octets behind a part in its tag, lengths
+/// and a tag number that are not the shortest, a length and a string by BER alone, a primitive sequence, one of another
+/// class or number, a part that is cut, and a sequence that is.
 /// Values by X.690 8.9, 8.14.
 const PRINCIPALS: &str = "\
 principal:

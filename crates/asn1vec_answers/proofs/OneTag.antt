@@ -108,8 +108,9 @@ module _ {T W D : Type 0} (class number : ℕ) (inner : W → T) (view : T → D
       let memory = once octets (Err own) (Ok y) is too in
       inr (memory.0, inl (same ∙ memory.1))
   whole_once octets (Err q) (Err r) (Err own, is, same) (Err other, too, equal) =
+      let both = once octets (Err own) (Err other) is too in
       subst (λ (x : Refusal Error). SameRefusal allocates x r) (sym same)
-      (subst (λ (x : Refusal Error). SameRefusal allocates own x) (sym equal) (once octets (Err own) (Err other) is too))
+      (subst (λ (x : Refusal Error). SameRefusal allocates own x) (sym equal) both)
 
   abbrev ReadsIn : Parts → Result T (Refusal Error) → Type 0
   ReadsIn = ExplicitReads class number reads Same

@@ -108,8 +108,8 @@ fn line_of(alloc: Global, words: &str) -> Result<String, Fail> {
     Ok(line)
 }
 
-/// Asserts of the octets of a line, its last word, that an element that is read of them by DER is written as it stood: it
-/// is its strict encoding (X.690 10.1).
+/// Asserts of the octets of a line, its last word, that an element that is read of them by DER is written as it stood:
+/// it is its strict encoding (X.690 10.1).
 fn assert_strict(alloc: Global, line: &str) -> Result<(), Fail> {
     let line = written_out(alloc, line)?;
     let Some((_, digits)) = line.as_str().rsplit_once(' ') else {
