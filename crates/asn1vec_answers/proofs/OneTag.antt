@@ -85,6 +85,7 @@ module _ {T W D : Type 0} (class number : ℕ) (inner : W → T) (view : T → D
   whole_once octets (Ok v) (Ok w) (Ok x, is, (none, one)) (Ok y, too, (empty, other)) =
       let same = once octets (Ok x) (Ok y) is too in
       (ap view one ∙ same.0 ∙ sym (ap view other), refl)
+  whole_once octets (Ok v) (Ok w) (Ok x, is, given) (Err own, too, same) = absurd same
   whole_once octets (Ok v) (Err r) (Ok x, is, (none, one)) (Ok y, too, (some, told)) =
       let rests = once octets (Ok x) (Ok y) is too in
       absurd (some (sym rests.1 ∙ none))
