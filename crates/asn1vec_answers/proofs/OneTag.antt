@@ -92,14 +92,16 @@ module _ {T W D : Type 0} (class number : ℕ) (inner : W → T) (view : T → D
   whole_once octets (Ok v) (Err r) (Ok x, is, given) (Err own, too, same) =
       let memory = once octets (Ok x) (Err own) is too in
       (memory.0, same ∙ memory.1)
-  whole_once octets (Ok v) b (Err own, is, none) too = absurd none
+  whole_once octets (Ok v) (Ok w) (Err own, is, none) too = absurd none
+  whole_once octets (Ok v) (Err r) (Err own, is, none) too = absurd none
   whole_once octets (Err q) (Ok w) (Ok x, is, (some, told)) (Ok y, too, (none, other)) =
       let rests = once octets (Ok x) (Ok y) is too in
       absurd (some (rests.1 ∙ none))
   whole_once octets (Err q) (Ok w) (Err own, is, same) (Ok y, too, given) =
       let memory = once octets (Err own) (Ok y) is too in
       (memory.0, same ∙ memory.1)
-  whole_once octets (Err q) (Ok w) is (Err own, too, none) = absurd none
+  whole_once octets (Err q) (Ok w) (Ok x, is, given) (Err own, too, none) = absurd none
+  whole_once octets (Err q) (Ok w) (Err other, is, same) (Err own, too, none) = absurd none
   whole_once octets (Err q) (Err r) (Ok x, is, (some, (e, made, one))) (Ok y, too, (left, (f, same, other))) =
       inl (ap named (one ∙ ap refused (made ∙ sym same) ∙ sym other))
   whole_once octets (Err q) (Err r) (Ok x, is, given) (Err own, too, same) =
