@@ -381,6 +381,9 @@ truth value neither 00 nor ff
 empty integer
 integer with spare leading zeros
 integer with spare leading ff
+identifier octets not the shortest
+length octets not the shortest
+trailing octets
 ";
 
 #[test]
@@ -396,6 +399,9 @@ fn constraints_have_texts(rt: HostRuntime) -> Result<(), Fail> {
         DerConstraint::IntegerEmpty,
         DerConstraint::IntegerLeadingZeroes,
         DerConstraint::IntegerLeadingFF,
+        DerConstraint::TagNotShortest,
+        DerConstraint::LengthNotShortest,
+        DerConstraint::TrailingOctets,
     ];
     assert_texts(rt.alloc(), &constraints, CONSTRAINTS)
 }

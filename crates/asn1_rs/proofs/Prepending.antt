@@ -18,7 +18,7 @@ use Rattle.asn1_headers.specs.declared.error.Error.{Error}
 use Rattle.asn1_headers.specs.declared.error.Error.TheVariants as errors
 use Rattle.asn1_rs.specs.ToDer.{VectorRefuses, IntoVector, Either, Refuses, RefusesAtOnce}
 use Rattle.asn1_headers.specs.declared.error.SerializeError.TheVariants as serialize_errors
-use Rattle.asn1_rs.specs.Kinds.Writing.{PrependRefused, OwnRefusal, OwnWritten}
+use Rattle.asn1_rs.specs.Kinds.Writing.{PrependRefused, OwnRefusal, OwnWritten, OwnFirst}
 use Rattle.asn1_rs.specs.Lists.{SomeRefuses}
 use Rattle.asn1_rs.specs.Tagged.Writing.{UnderClass}
 use Rattle.asn1_rs.proofs.Lists.{item_at, some_refuses}
@@ -106,6 +106,12 @@ pub handed_err : (content r : Result ℕ SerializeError) (K : Type 0) → IsErr 
 handed_err (Ok k) r K h at = absurd (false≢true h)
 handed_err (Err e) r K h at = rw at.0 refl
 
+-- a header before contents octets that were refused, with the buffer as it was
+pub handed_kept : (content r : Result ℕ SerializeError) (e : SerializeError) (old mid new : List ℕ) →
+    (content ≡ Err e) × (mid ≡ old) → IfErr content (λ e. (r ≡ Err e) × (new ≡ mid)) → (r ≡ Err e) × (new ≡ old)
+handed_kept (Ok k) r e old mid new (is, same) at = absurd (let p = is in cc)
+handed_kept (Err f) r e old mid new (is, same) (handed, kept) = (handed ∙ is, kept ∙ same)
+
 -- ---- values of a class
 
 pub class_within : (class : ℕ) (r : Result ℕ SerializeError) (n : ℕ) (one own : SerializeError → Type 0) →
@@ -138,6 +144,13 @@ module _ (own : Error → Type 0) where
       PrependRefused b own n old new r → (e : Error) → OwnRefusal b own e → IsErr r
   prepend_uncounted false n old new r h e o = absurd o
   prepend_uncounted true n old new r h e o = rw h.2 refl
+
+  pub prepend_first : (b : Bool) (n : ℕ) (old new : List ℕ) (r : Result ℕ SerializeError) →
+      PrependRefused b own n old new r → (e : SerializeError) → OwnFirst b own e →
+      (r ≡ Err (vector_refusal e)) × (new ≡ old)
+  prepend_first false n old new r h e o = absurd o
+  prepend_first true n old new r (f, g, is, same) e o =
+      (rw (o f g) (is ∙ ap Err (sym (written_is_no_io f))), same)
 
 -- ---- items
 

@@ -7,7 +7,7 @@ use Rattle.asn1_headers.specs.declared.error.Error.{Error}
 use Rattle.asn1_headers.specs.declared.error.SerializeError.{SerializeError}
 use Rattle.asn1_headers.specs.Laws.Writing.{MayRefuse_more}
 use Rattle.asn1_rs.specs.ToDer.{MayRefuseCount, Refuses, RefusesCount, IsRefusedAtOnce, RefusedAtOnce, Either}
-use Rattle.asn1_rs.specs.Kinds.Writing.{CountRefused, OwnPutRefused, OwnRefusal, OwnWritten}
+use Rattle.asn1_rs.specs.Kinds.Writing.{CountRefused, OwnPutRefused, OwnRefusal, OwnWritten, OwnFirst}
 
 module _ (own : Error → Type 0) where
   -- Counts.
@@ -86,6 +86,17 @@ module _ (own : Error → Type 0) where
       IsRefusedAtOnce false n (OwnWritten b own) old new r
   put_at_once false n old new r h e o = absurd o
   put_at_once true n old new r h e o = (written_refusal h.0, inr (h.0, h.1, refl), h.2)
+
+  -- the one refusal of the value's own
+  pub put_first : (b : Bool) (n : ℕ) (old new : WriterState) (r : Result ℕ SerializeError) →
+      OwnPutRefused b own n old new r → (e : SerializeError) → OwnFirst b own e → RefusedAtOnce e old new r
+  put_first false n old new r h e o = absurd o
+  put_first true n old new r h e o = rw (o h.0 h.1) h.2
+
+  -- a value that has such a refusal is refused
+  pub first_is_refused : (b : Bool) (e : SerializeError) → OwnFirst b own e → b ≡ true
+  first_is_refused false e o = absurd o
+  first_is_refused true e o = refl
 
   -- the whole, whose header and contents octets have the same refusals
   pub whole_put_refuses : (b : Bool) (n : ℕ) (old new : WriterState) (r : Result ℕ SerializeError) →

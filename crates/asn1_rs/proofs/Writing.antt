@@ -8,7 +8,7 @@ use Rattle.asn1_headers.specs.Writer.{WriterState, Wrote, IsMemoryOrLength, MayR
 use Rattle.asn1_headers.specs.Error.{is_io, WithoutIo, written_refusal, tells_of_io, vector_refusal}
 use Rattle.asn1_rs.specs.ToDer.{SumsCounts, MayRefuseCount, Refuses, RefusesCount, RefusesAtOnce, IsRefusedAtOnce}
 use Rattle.asn1_rs.specs.ToDer.{RefusedAtOnce, Either, HasNone, IntoVector, IsWritable, VectorRefuses, WrittenRefusal}
-use Rattle.asn1_rs.specs.ToDer.{KeepsOrMayRefuse, Writing, whole_refuses}
+use Rattle.asn1_rs.specs.ToDer.{KeepsOrMayRefuse, Writing, whole_octets, whole_refuses, whole_allocates}
 use Rattle.asn1_rs.specs.Tagged.Writing.{UnderClass}
 use Rattle.std.specs.Prelude.{IsErr}
 use Rattle.asn1_headers.specs.Laws.Writing.{Appends_none, MayRefuse_more, MayRefuse_either, MayRefuse_other}
@@ -304,3 +304,46 @@ pub none_own : (one other : SerializeError → Type 0) {allocates : Bool} {m : �
     ((e : SerializeError) → other e → IsErr {T = ℕ} {E = SerializeError} (Ok l)) → HasNone (Either one other)
 none_own one other {allocates} {m} {own} {old} {new} k l a b e (inl o) = not_refused allocates m own old new k (a e o)
 none_own one other k l a b e (inr o) = false≢true (b e o)
+
+-- The whole, of which header and contents octets are written one after the other: the refusals of either are its own.
+module _ {S : Type 0} (w : Writing S) (x : S) where
+  pub header_refuses : (e : SerializeError) →
+      Refuses w.count_allocates (length (whole_octets w x)) (w.header_refuses x) e →
+      Refuses (whole_allocates w) (length (whole_octets w x)) (whole_refuses w x) e
+  header_refuses e h =
+      let own = w.header_refuses x in
+      let other = w.content_refuses x in
+      refuses_wider e w.write_allocates _ _ (Either own other)
+      (refuses_first e w.count_allocates w.content_allocates _ own other h)
+
+  pub content_refuses : (e : SerializeError) →
+      Refuses w.content_allocates (length (w.content x)) (w.content_refuses x) e →
+      Refuses (whole_allocates w) (length (whole_octets w x)) (whole_refuses w x) e
+  content_refuses e h =
+      let own = w.header_refuses x in
+      let other = w.content_refuses x in
+      refuses_wider e w.write_allocates _ _ (Either own other)
+      (refuses_second e w.count_allocates w.content_allocates _ _ own other (simp length-append (omega arith)) h)
+
+  -- the header was refused by one writer, and another is as it was
+  pub header_refuses_at_once : {old new : WriterState} (v : WriterState) (r : Result ℕ SerializeError) →
+      IsRefusedAtOnce w.count_allocates (length (whole_octets w x)) (w.header_refuses x) old new r →
+      IsRefusedAtOnce (whole_allocates w) (length (whole_octets w x)) (whole_refuses w x) v v r
+  header_refuses_at_once v r at =
+      at_once_elsewhere _ _ _ _ _ v r (header_at_once w.write_allocates w.count_allocates w.content_allocates _
+      (w.header_refuses x) (w.content_refuses x) _ _ r at)
+
+  -- A header that was written is not refused.
+  pub header_not_refused : {old new : WriterState} {k : ℕ} →
+      IsRefusedAtOnce w.count_allocates (length (whole_octets w x)) (w.header_refuses x) old new (Ok k) → ⊥
+  header_not_refused at = not_refused _ _ (w.header_refuses x) _ _ _ at
+
+  -- A refusal behind header and contents octets that a sink took is no refusal of the value's own.
+  pub written_keeps : {old new : WriterState} (before after : WriterState) (k l : ℕ) (r : Result ℕ SerializeError) →
+      ((e : SerializeError) → w.header_refuses x e →
+      IsRefusedAtOnce w.count_allocates (length (whole_octets w x)) (w.header_refuses x) old new (Ok k)) →
+      ((e : SerializeError) → w.content_refuses x e → IsErr {T = ℕ} {E = SerializeError} (Ok l)) →
+      IfErr r (Refuses (whole_allocates w) (length (whole_octets w x)) (whole_refuses w x)) →
+      KeepsOrMayRefuse (whole_allocates w) (length (whole_octets w x)) before after r
+  written_keeps before after k l r header content refused =
+      keeps_or_may r _ _ _ _ _ (none_own (w.header_refuses x) (w.content_refuses x) k l header content) refused

@@ -6,7 +6,7 @@ pub mod Headed
 pub mod Helpers
 pub mod Parser
 pub mod Writing
-use Rattle.std.specs.Prelude.{◌≡◌, ◌≢◌, ◌⊎◌, ℕ, ◌≤◌, ◌%◌, ◌^◌, List, Option, Some, None, Result, Ok, Err}
+use Rattle.std.specs.Prelude.{◌≡◌, ◌≢◌, ◌⊎◌, ℕ, ◌≤◌, ◌%◌, ◌^◌, List, [], Option, Some, None, Result, Ok, Err}
 use Rattle.std.specs.Borrow.{Bor}
 use Rattle.std.specs.Fn.{Once}
 use Rattle.x690.specs.Elements.{Parts, IsDerElement}
@@ -17,7 +17,8 @@ use Rattle.asn1_headers.specs.declared.class.Class.{Class}
 use Rattle.asn1_headers.specs.declared.header.Header.{Header}
 use Rattle.asn1_headers.specs.declared.tag.Tag.{Tag}
 use Rattle.asn1_headers.specs.declared.error.Error.{Error}
-use Rattle.asn1_headers.specs.declared.error.Error.TheVariants.{UnexpectedTag, UnexpectedClass}
+use Rattle.asn1_headers.specs.declared.error.DerConstraint.TheVariants.{TrailingOctets}
+use Rattle.asn1_headers.specs.declared.error.Error.TheVariants.{DerConstraintFailed, UnexpectedTag, UnexpectedClass}
 use Rattle.asn1_headers.specs.declared.error.Err.{Err as Refusal}
 use Rattle.asn1_headers.specs.declared.error.Err.TheVariants.{Error as refused}
 use Rattle.asn1_rs.specs.Any.{BeginsWithAny}
@@ -62,6 +63,25 @@ IsOtherTag {E} from tag actual r =
 abbrev pub IsOtherClass : {E : Type 0} → (Error → E → Type 0) → Class → Class → Refusal E → Type 0
 IsOtherClass {E} from class actual r =
     (actual ≢ class) × ((e : E) × from (UnexpectedClass (Some class) actual) e × (r ≡ refused e))
+
+-- the answer is the refusal of octets that are left where there is to be one element and nothing else
+abbrev pub IsOfTrailing : {E : Type 0} → (Error → E → Type 0) → Refusal E → Type 0
+IsOfTrailing {E} from r = (e : E) × from (DerConstraintFailed TrailingOctets) e × (r ≡ refused e)
+
+-- What a reader's answer tells where the value is to be all of the octets: the value, where nothing is left, or the
+-- refusal of what is left; or the reader's own refusal.
+abbrev pub WholeGives : {T E : Type 0} → (Error → E → Type 0) → Result (List ℕ × T) (Refusal E) →
+    Result T (Refusal E) → Type 0
+WholeGives from (Ok x) (Ok value) = (x.0 ≡ []) × (value ≡ x.1)
+WholeGives from (Ok x) (Err r) = (x.0 ≢ []) × IsOfTrailing from r
+WholeGives from (Err own) (Ok value) = ⊥
+WholeGives from (Err own) (Err r) = r ≡ own
+
+-- what reading a value that is to be all of the octets may answer
+abbrev pub ReadsWhole : {T E : Type 0} → (List ℕ → Result (List ℕ × T) (Refusal E) → Type 0) →
+    (Error → E → Type 0) → List ℕ → Result T (Refusal E) → Type 0
+ReadsWhole {T} {E} reads from octets result =
+    (answer : Result (List ℕ × T) (Refusal E)) × reads octets answer × WholeGives from answer result
 
 -- a closure that is called once may give r at the header and at a reference to the octets
 abbrev pub ReturnsOfHeader : {F R : Type 0} → Once F (Header × (Bor (List ℕ) × Unit {0})) R → F → Header →

@@ -1,7 +1,8 @@
 //! The fields of a sequence, which are read by DER, one after another (X.690 8.9).
-ghost use Rattle.std.specs.Prelude.{◌≡◌, ◌≢◌, [], codes, MatchResult};
+ghost use Rattle.std.specs.Prelude.{◌≡◌, ◌≢◌, [], MatchResult};
 ghost use Rattle.asn1_headers.specs.Answers.{seen};
-ghost use Rattle.asn1_headers.specs.Error.{IsInvalidValue};
+ghost use Rattle.asn1_headers.specs.declared.error.DerConstraint.TheVariants as constraints;
+ghost use Rattle.asn1_headers.specs.declared.error.Error.TheVariants as errors;
 ghost use Rattle.asn1_rs.specs.Any.{parts_of};
 ghost use Rattle.asn1_rs.specs.FieldReader.{BeginsWithSequence, IsSequence, IsNoSequence, RefusesSequence};
 ghost use Rattle.asn1_rs.specs.FieldReader.{TakesField, TakesFields, fields_left};
@@ -9,7 +10,7 @@ ghost use Rattle.asn1_rs.specs.FieldReader.{TakesField, TakesFields, fields_left
 use crate::asn1_types::any::Any;
 use crate::traits::FromDer;
 use asn1_headers::class::Class;
-use asn1_headers::error::{Err, Error, ParseResult};
+use asn1_headers::error::{DerConstraint, Err, Error, ParseResult};
 use asn1_headers::tag::Tag;
 use std::alloc::Global;
 
@@ -70,15 +71,15 @@ impl<'a> FieldReader<'a> {
         Ok(fields)
     }
 
-    /// Refuses a field that is left over, with `InvalidValue` of the tag of sequences.
+    /// Refuses a field that is left over, with `DerConstraintFailed(TrailingOctets)`.
     pub fn end(self) -> Result<(), Error>
         ensures { MatchResult result (λ _. fields_left self.entry ≡ [])
             (λ e. (fields_left self.entry ≢ [])
-            × IsInvalidValue (record { 0 = 16 }) (codes "a field left over") e) }
+            × (e ≡ errors.DerConstraintFailed constraints.TrailingOctets)) }
     {
         match self.left {
             [] => Ok(()),
-            _ => Err(Tag::Sequence.invalid_value("a field left over")),
+            _ => Err(Error::DerConstraintFailed(DerConstraint::TrailingOctets)),
         }
     }
 }

@@ -9,13 +9,15 @@ use test_rows::{Calls, assert_rows, assert_shown};
 use test_values::push_read_by_der;
 
 /// Elements that are read by DER, as the original crate's tests have them: an octet that stands for no truth value
-/// (X.690 11.1), and a bit string of pieces (10.2).
+/// (X.690 11.1), and a bit string of pieces (10.2), whose length octets are not the shortest (10.1). Behind it stands
+/// the same with the shortest.
 const REFUSED: &str = "\
 bool:
 01017f = Err(Error(DerConstraintFailed(InvalidBoolean)))
 
 BitString:
-23810c0303000a3b0305045f291cd0 = Err(Error(ConstructUnexpected))
+23810c0303000a3b0305045f291cd0 = Err(Error(DerConstraintFailed(LengthNotShortest)))
+230c0303000a3b0305045f291cd0 = Err(Error(ConstructUnexpected))
 ";
 
 /// Values that are made by calls, and the octets that they are read back from, as the original crate's tests have them.

@@ -1,16 +1,16 @@
 //! The name of a principal of Kerberos (RFC 4120, 5.2.2), as a type of a caller's own.
 
-use crate::made::push_made;
 use asn1_rs::{
-    AsTaggedExplicit, Class, DerWrite, DynTagged, Err, Error, Explicit, FromBer, FromDer,
-    GeneralString, Header, Length, ParseResult, Sequence, SerializeError, SerializeResult, Tag,
-    TaggedParser, ToDer, parse_der_tagged_explicit,
+    AsTaggedExplicit, Class, DerWrite, DynTagged, Err, Error, Explicit, FromBer, GeneralString,
+    Header, Length, ParseResult, Sequence, SerializeError, SerializeResult, Tag, TaggedParser,
+    ToDer,
 };
 use std::alloc::Global;
 use std::borrow::CowSlice;
 use std::fmt::Write;
 use std::test::Fail;
 use test_rows::{Calls, assert_rows, push_digits};
+use test_values::{push_read_by_der, push_written};
 
 /// A name: of what kind it is, and its parts.
 ///
@@ -23,13 +23,18 @@ struct PrincipalName<'a> {
     parts: Vec<GeneralString<'a>>,
 }
 
+/// The kind of a name, under its tag.
+type KindParser<'a> = TaggedParser<'a, Explicit, i32, Error>;
+
+/// The parts of a name, under their tag.
+type PartsParser<'a> = TaggedParser<'a, Explicit, Vec<GeneralString<'a>>, Error>;
+
 impl<'a> PrincipalName<'a> {
-    /// The name in contents octets, whose fields are read by DER.
+    /// The name in contents octets, whose fields are read by BER.
     fn read(alloc: Global, content: &'a [u8]) -> ParseResult<'a, PrincipalName<'a>, Error> {
-        let (content, kind) = parse_der_tagged_explicit::<u32, i32, Error>(alloc, 0, content)?;
-        let (content, parts) = parse_der_tagged_explicit::<u32, Vec<GeneralString<'a>>, Error>(
-            alloc, 1, content,
-        )?;
+        let class = Class::ContextSpecific;
+        let (content, kind) = KindParser::parse_ber(alloc, class, Tag(0), content)?;
+        let (content, parts) = PartsParser::parse_ber(alloc, class, Tag(1), content)?;
         let (kind, parts) = (kind.inner, parts.inner);
         Ok((content, PrincipalName { kind, parts }))
     }
@@ -50,7 +55,7 @@ impl<'a> PrincipalName<'a> {
     }
 
     /// Its kind, under its tag.
-    fn kind(&self) -> TaggedParser<'_, Explicit, i32, Error> {
+    fn kind(&self) -> KindParser<'_> {
         self.kind.explicit(Class::ContextSpecific, 0)
     }
 
@@ -66,9 +71,9 @@ impl<'a> PrincipalName<'a> {
     }
 }
 
-/// The sequence itself is read by BER.
-impl<'a> FromDer<'a, Error> for PrincipalName<'a> {
-    fn from_der(alloc: Global, octets: &'a [u8]) -> ParseResult<'a, PrincipalName<'a>, Error> {
+/// The sequence and its fields are read by BER, which takes lengths that are not the shortest.
+impl<'a> FromBer<'a, Error> for PrincipalName<'a> {
+    fn from_ber(alloc: Global, octets: &'a [u8]) -> ParseResult<'a, PrincipalName<'a>, Error> {
         let (rest, sequence) = Sequence::from_ber(alloc, octets)?;
         PrincipalName::read_held(alloc, sequence.into_content(), rest)
     }
@@ -110,11 +115,14 @@ impl ToDer for PrincipalName<'_> {
     }
 }
 
-/// The name of one part that is `Jones`, of kind 0: with long length octets, as the original crate's tests have it, and
-/// how it is made and written, by hand.
+/// The name of one part that is `Jones`, of kind 0: with long length octets, as the original crate's tests have it, by
+/// BER; by DER its sequence is refused; and how it is made and written, by hand.
 const PRINCIPALS: &str = "\
 read:
 308111a003020100a10a3081071b054a6f6e6573 = 0 Jones, rest -
+
+sequence by DER:
+308111a003020100a10a3081071b054a6f6e6573 = Err(Error(DerConstraintFailed(LengthNotShortest)))
 
 made:
 3010a003020100a10930071b054a6f6e6573 = 3010a003020100a10930071b054a6f6e6573 count 18 16 \
@@ -123,13 +131,26 @@ raw 3010a003020100a10930071b054a6f6e6573 read back true
 
 /// A name by its kind and its parts, and what follows it.
 fn push_principal(text: &mut String, alloc: Global, octets: &[u8]) -> Result<(), Fail> {
-    let (rest, name) = PrincipalName::from_der(alloc, octets)?;
+    let (rest, name) = PrincipalName::from_ber(alloc, octets)?;
     write!(text, "{} ", name.kind)?;
     for part in &name.parts {
         write!(text, "{}, ", part.as_str())?;
     }
     text.push_str("rest ")?;
     push_digits(text, rest)
+}
+
+/// How a name is written, and whether it is what these octets are read as, all of them.
+fn push_made(
+    text: &mut String,
+    alloc: Global,
+    made: &PrincipalName<'_>,
+    octets: &[u8],
+) -> Result<(), Fail> {
+    push_written(text, alloc, made)?;
+    let (rest, read) = PrincipalName::from_ber(alloc, octets)?;
+    let is_same = read == *made && rest.is_empty();
+    Ok(write!(text, " read back {is_same}")?)
 }
 
 /// The calls of the table.
@@ -139,6 +160,7 @@ impl Calls for Principals {
     fn answer(text: &mut String, alloc: Global, name: &str, octets: &[u8]) -> Result<(), Fail> {
         match name {
             "read" => push_principal(text, alloc, octets),
+            "sequence by DER" => push_read_by_der::<Sequence<'_>>(text, alloc, octets),
             "made" => {
                 let parts = vec![in alloc; GeneralString::new("Jones")]?;
                 push_made(text, alloc, &PrincipalName { kind: 0, parts }, octets)

@@ -101,15 +101,18 @@ Any, BerParser:
 Any, DerParser:
 300004003080 = (Universal, true, Tag(16), Definite(0), Some([48]), []), \
 (Universal, false, Tag(4), Definite(0), Some([4]), []), DerConstraintFailed(IndefiniteLength), end
+0400048100 = (Universal, false, Tag(4), Definite(0), Some([4]), []), DerConstraintFailed(LengthNotShortest), end, end
 
 NotZero, DerParser:
 050006 = NotZero(5), Unsupported, end, end
 
 u32, BerParser:
 020301000102030100 = 65537, Incomplete(Size(1)), end, end
+020105028101051f020105 = 5, 5, 5, end
 
 u32, DerParser:
 02010502020100 = 5, 256, end, end
+020105028101051f020105 = 5, DerConstraintFailed(LengthNotShortest), end, end
 020301000102030100 = 65537, Incomplete(Size(1)), end, end
 
 Option<u8>, BerParser:

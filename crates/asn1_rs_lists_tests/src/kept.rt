@@ -12,19 +12,24 @@ use test_values::{assert_written, push_by_ber, push_by_der};
 const ELEMENTS: &str = "\
 Sequence::from_der:
 30050203010001 = Sequence { content: [2, 3, 1, 0, 1] } rest - written 30050203010001 count 7 5 raw 30050203010001
-308105020301000105 = Sequence { content: [2, 3, 1, 0, 1] } rest 05 written 30050203010001 count 7 5 \
+3005020301000105 = Sequence { content: [2, 3, 1, 0, 1] } rest 05 written 30050203010001 count 7 5 \
 raw 30050203010001
+300402810105 = Sequence { content: [2, 129, 1, 5] } rest - written 300402810105 count 6 4 raw 300402810105
 3003ffffff = Sequence { content: [255, 255, 255] } rest - written 3003ffffff count 5 3 raw 3003ffffff
 10050203010001 = Error(ConstructExpected)
 31050203010001 = Error(UnexpectedTag { expected: Some(Tag(16)), actual: Tag(17) })
 11050203010001 = Error(UnexpectedTag { expected: Some(Tag(16)), actual: Tag(17) })
 30800000 = Error(DerConstraintFailed(IndefiniteLength))
-3081040000 = Incomplete(Size(2))
+3081040000 = Error(DerConstraintFailed(LengthNotShortest))
+3f1003020105 = Error(DerConstraintFailed(TagNotShortest))
 
 Sequence::from_ber:
 30050203010001 = Sequence { content: [2, 3, 1, 0, 1] } rest - written 30050203010001 count 7 5 raw 30050203010001
 308002030100010000 = Sequence { content: [2, 3, 1, 0, 1] } rest - written 30050203010001 count 7 5 \
 raw 30050203010001
+308105020301000105 = Sequence { content: [2, 3, 1, 0, 1] } rest 05 written 30050203010001 count 7 5 \
+raw 30050203010001
+3081040000 = Incomplete(Size(2))
 b000 = Sequence { content: [] } rest - written 3000 count 2 0 raw 3000
 
 Set::from_der:
@@ -50,6 +55,9 @@ Sequence::from_der_and_then:
 3005020301000105 = Ok(([5], 65537))
 30800203010001050000 = Err(Error(DerConstraintFailed(IndefiniteLength)))
 300402020005 = Err(Error(DerConstraintFailed(IntegerLeadingZeroes)))
+3005020105ffff = Ok(([], 5))
+308103020105 = Err(Error(DerConstraintFailed(LengthNotShortest)))
+300402810105 = Err(Error(DerConstraintFailed(LengthNotShortest)))
 
 Set::from_ber_and_then:
 31050203010001 = Ok(([], 65537))
@@ -108,11 +116,14 @@ Sequence::ber_iter:
 
 Sequence::der_iter:
 020301000102020005 = 65537, DerConstraintFailed(IntegerLeadingZeroes), end, end
+020301000102810105 = 65537, DerConstraintFailed(LengthNotShortest), end, end
 
 Set::ber_iter:
 020301000102020005 = 65537, 5, end, end
+020301000102810105 = 65537, 5, end, end
 
 Set::der_iter:
+02030100011f020105 = 65537, DerConstraintFailed(TagNotShortest), end, end
 020301000102030100 = 65537, Incomplete(Size(1)), end, end
 
 Sequence::ber_sequence_of:
@@ -121,6 +132,7 @@ Sequence::ber_sequence_of:
 
 Sequence::der_sequence_of:
 02030100010203010001 = Ok([65537, 65537])
+020301000102810105 = Err(DerConstraintFailed(LengthNotShortest))
 020301000102020005 = Err(DerConstraintFailed(IntegerLeadingZeroes))
 
 Sequence::into_ber_sequence_of:
@@ -138,6 +150,7 @@ Set::ber_set_of:
 
 Set::der_set_of:
 020301000102020005 = Err(DerConstraintFailed(IntegerLeadingZeroes))
+020301000102810105 = Err(DerConstraintFailed(LengthNotShortest))
 
 Set::into_ber_set_of:
 020301000102030100 = Err(Incomplete(Size(1)))

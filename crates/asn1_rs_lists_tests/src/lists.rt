@@ -24,6 +24,10 @@ Vec::<u32>::from_der:
 3103020105 = Error(UnexpectedTag { expected: Some(Tag(16)), actual: Tag(17) })
 3003010100 = Error(UnexpectedTag { expected: Some(Tag(2)), actual: Tag(1) })
 300402020005 = Error(DerConstraintFailed(IntegerLeadingZeroes))
+300402810105 = Error(DerConstraintFailed(LengthNotShortest))
+308103020105 = Error(DerConstraintFailed(LengthNotShortest))
+3f1003020105 = Error(DerConstraintFailed(TagNotShortest))
+30041f020105 = Error(DerConstraintFailed(TagNotShortest))
 3005020105 = Incomplete(Size(2))
 3003020205 = Error(Incomplete(Size(1)))
 3080 = Error(DerConstraintFailed(IndefiniteLength))
@@ -32,6 +36,7 @@ Vec::<u32>::from_ber:
 30050203010001 = [65537] rest - written 30050203010001 count 7 5 raw 30050203010001
 308002030100010000 = [65537] rest - written 30050203010001 count 7 5 raw 30050203010001
 300402020005 = [5] rest - written 3003020105 count 5 3 raw 3003020105
+3f1081051f02810105 = [5] rest - written 3003020105 count 5 3 raw 3003020105
 1003020105 = Error(ConstructExpected)
 1103020105 = Error(UnexpectedTag { expected: Some(Tag(16)), actual: Tag(17) })
 3003010100 = Error(UnexpectedTag { expected: Some(Tag(2)), actual: Tag(1) })
@@ -75,7 +80,10 @@ SequenceOf::<u32>::from_ber:
 const ELEMENTS: &str = "\
 Vec::<u32>::check_constraints:
 3003020105 = Ok(())
+308103020105 = Ok(())
 300402020005 = Err(DerConstraintFailed(IntegerLeadingZeroes))
+300402810105 = Err(DerConstraintFailed(LengthNotShortest))
+30041f020105 = Err(DerConstraintFailed(TagNotShortest))
 1003020105 = Err(ConstructExpected)
 3103020105 = Err(UnexpectedTag { expected: Some(Tag(16)), actual: Tag(17) })
 3003020205 = Err(Incomplete(Size(1)))
@@ -87,6 +95,7 @@ SequenceOf::<u32>::check_constraints:
 
 Vec::<u32>::try_from_any:
 3003020105 = Ok([5])
+300402810105 = Ok([5])
 300402020005 = Ok([5])
 1003020105 = Err(ConstructExpected)
 ";

@@ -19,6 +19,10 @@ a10c300aa003020105a003020106ff = a10c300aa003020105a003020106 rest ff by BER 14 
 a1803080a0800201050000 = Error(DerConstraintFailed(IndefiniteLength)) by BER Incomplete(Size(1))
 a1803080a080020105000000000000 = Error(DerConstraintFailed(IndefiniteLength)) by BER 9 a1073005a003020105 rest -
 a1083006a00402020005 = Error(DerConstraintFailed(IntegerLeadingZeroes)) by BER 9 a1073005a003020105 rest -
+a1083006a004020105ff = Error(DerConstraintFailed(TrailingOctets)) by BER 9 a1073005a003020105 rest -
+a1093005a0030201050500 = Error(DerConstraintFailed(TrailingOctets)) by BER 9 a1073005a003020105 rest -
+a1083006a00402810105 = Error(DerConstraintFailed(LengthNotShortest)) by BER 9 a1073005a003020105 rest -
+a1083006bf0003020105 = Error(DerConstraintFailed(TagNotShortest)) by BER 9 a1073005a003020105 rest -
 a1073005a0030201 = Incomplete(Size(1)) by BER Incomplete(Size(1))
 a1073005a003020205 = Error(Incomplete(Size(1))) by BER Error(Incomplete(Size(1)))
 a1073005a103020105 = Error(UnexpectedTag { expected: Some(Tag(0)), actual: Tag(1) }) \
@@ -45,6 +49,7 @@ by BER Error(UnexpectedClass { expected: Some(Application), actual: ContextSpeci
 
 [1] IMPLICIT [0] u8:
 a103020105 = a103020105 rest - by BER 5 a103020105 rest -
+a1050201050500 = a103020105 rest - by BER 5 a103020105 rest -
 8103020105 = Error(ConstructExpected) by BER Error(ConstructExpected)
 ";
 
@@ -65,6 +70,7 @@ SetOf of SequenceOf of u8:
 BTreeSet of Vec of bool:
 310c30030101ff+3000+30030101ff = 3107300030030101ff rest - by BER 9 3107300030030101ff rest -
 31053003010101 = Error(DerConstraintFailed(InvalidBoolean)) by BER 7 310530030101ff rest -
+31063004018101ff = Error(DerConstraintFailed(LengthNotShortest)) by BER 7 310530030101ff rest -
 
 BTreeSet of UtcTime:
 312d+170d3931303632353036323334355a+170d3931303632353036323334345a+170d3931303632353036323334355a = \

@@ -40,6 +40,8 @@ BTreeSet::<u32>::from_der:
 31050203010001 = {65537} rest - written 31050203010001 count 7 5 raw 31050203010001
 3106020105020105 = {5} rest - written 3103020105 count 5 3 raw 3103020105
 310402020005 = Error(DerConstraintFailed(IntegerLeadingZeroes))
+310402810105 = Error(DerConstraintFailed(LengthNotShortest))
+318103020105 = Error(DerConstraintFailed(LengthNotShortest))
 1103020105 = Error(ConstructExpected)
 1003020105 = Error(UnexpectedTag { expected: Some(Tag(17)), actual: Tag(16) })
 3103010100 = Error(UnexpectedTag { expected: Some(Tag(2)), actual: Tag(1) })
@@ -47,6 +49,7 @@ BTreeSet::<u32>::from_der:
 3105020105 = Incomplete(Size(2))
 
 BTreeSet::<u32>::from_ber:
+31810402810105 = {5} rest - written 3103020105 count 5 3 raw 3103020105
 310402020005 = {5} rest - written 3103020105 count 5 3 raw 3103020105
 1103020105 = Error(ConstructExpected)
 
@@ -64,6 +67,7 @@ HashSet::<u32>::from_der:
 3106020100020101 = 2 rest - written 3106020100020101 count 8 6 raw 3106020100020101
 3106020105020105 = 1 rest - written 3103020105 count 5 3 raw 3103020105
 310402020005 = Error(DerConstraintFailed(IntegerLeadingZeroes))
+310402810105 = Error(DerConstraintFailed(LengthNotShortest))
 1103020105 = Error(ConstructExpected)
 1003020105 = Error(UnexpectedTag { expected: Some(Tag(17)), actual: Tag(16) })
 3103010100 = Error(UnexpectedTag { expected: Some(Tag(2)), actual: Tag(1) })
@@ -80,6 +84,8 @@ const ELEMENTS: &str = "\
 SetOf::<u32>::check_constraints:
 3106020105020105 = Ok(())
 310702010502020005 = Err(DerConstraintFailed(IntegerLeadingZeroes))
+310702010502810105 = Err(DerConstraintFailed(LengthNotShortest))
+318103020105 = Ok(())
 
 BTreeSet::<u32>::check_constraints:
 3106020100020101 = Ok(())

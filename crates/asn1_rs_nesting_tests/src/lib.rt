@@ -6,3 +6,5 @@
 mod calls;
 #[cfg(test)]
 mod laws;
+#[cfg(test)]
+mod limits;

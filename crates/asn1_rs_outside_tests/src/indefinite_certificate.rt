@@ -9,6 +9,7 @@
 //! by `tools/outside.py indefinite`; `openssl x509` reads it.
 
 use crate::walk::{assert_both, assert_by_ber};
+use asn1_rs::DerConstraint;
 use std::test::Fail;
 
 /// The certificate by DER.
@@ -204,5 +205,10 @@ fn what_odd_certificate_holds_is_walked(rt: HostRuntime) -> Result<(), Fail> {
 
 #[test]
 fn indefinite_certificate_is_walked(rt: HostRuntime) -> Result<(), Fail> {
-    assert_by_ber(rt.alloc(), BER_OCTETS, BER_TREE)
+    assert_by_ber(
+        rt.alloc(),
+        BER_OCTETS,
+        BER_TREE,
+        DerConstraint::IndefiniteLength,
+    )
 }

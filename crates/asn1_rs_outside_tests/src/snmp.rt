@@ -1,8 +1,9 @@
 //! Two packets of SNMP (RFC 1157), by hand: a GetRequest of version 1 for sysDescr.0 and ifInOctets.129, with lengths
-//! of three octets, as agents write them that fill them in afterwards; and a Trap with types of the class
-//! application: an address, a time of five octets, and a counter.
+//! of three octets, as agents write them that fill them in afterwards, so that it is no DER; and a Trap with types of
+//! the class application: an address, a time of five octets, and a counter.
 
-use crate::walk::assert_both;
+use crate::walk::{assert_both, assert_by_ber};
+use asn1_rs::DerConstraint;
 use std::test::Fail;
 
 /// The request: version 0, community `public`, request 12345678.
@@ -60,7 +61,12 @@ const TRAP_TREE: &str = "\
 
 #[test]
 fn request_is_walked(rt: HostRuntime) -> Result<(), Fail> {
-    assert_both(rt.alloc(), GET_OCTETS, GET_TREE)
+    assert_by_ber(
+        rt.alloc(),
+        GET_OCTETS,
+        GET_TREE,
+        DerConstraint::LengthNotShortest,
+    )
 }
 
 #[test]

@@ -7,6 +7,7 @@
 //! is what `openssl asn1parse -strparse 26` of the store by DER has at place 705.
 
 use crate::walk::{assert_both, assert_by_ber};
+use asn1_rs::DerConstraint;
 use std::test::Fail;
 
 /// The store.
@@ -107,7 +108,12 @@ const BAG_TREE: &str = "\
 
 #[test]
 fn store_is_walked(rt: HostRuntime) -> Result<(), Fail> {
-    assert_by_ber(rt.alloc(), STORE_OCTETS, STORE_TREE)
+    assert_by_ber(
+        rt.alloc(),
+        STORE_OCTETS,
+        STORE_TREE,
+        DerConstraint::IndefiniteLength,
+    )
 }
 
 #[test]

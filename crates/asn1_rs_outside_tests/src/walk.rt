@@ -2,10 +2,10 @@
 //! openssl prints, with each value read by its type and written back.
 
 use asn1_rs::{
-    Any, BitString, BmpString, Boolean, Enumerated, Error, FromBer, FromDer, GeneralString,
-    GeneralizedTime, Ia5String, Integer, Length, Null, NumericString, OctetString, Oid,
-    ParseResult, PrintableString, Sequence, Set, TeletexString, ToDer, UniversalString, UtcTime,
-    Utf8String, VisibleString,
+    Any, BitString, BmpString, Boolean, DerConstraint, Enumerated, Error, FromBer, FromDer,
+    GeneralString, GeneralizedTime, Ia5String, Integer, Length, Null, NumericString, OctetString,
+    Oid, ParseResult, PrintableString, Sequence, Set, TeletexString, ToDer, UniversalString,
+    UtcTime, Utf8String, VisibleString,
 };
 use std::alloc::Global;
 use std::fmt::Write;
@@ -258,16 +258,18 @@ pub(crate) fn assert_both(alloc: Global, digits: &str, tree: &str) -> Result<(),
     assert_tree(alloc, digits, tree, false)
 }
 
-/// Asserts the tree of the octets that the digits stand for, by BER, and that by DER the indefinite length of the
-/// first element is refused.
-pub(crate) fn assert_by_ber(alloc: Global, digits: &str, tree: &str) -> Result<(), Fail> {
+/// Asserts the tree of the octets that the digits stand for, by BER, and that by DER the length of the first element is
+/// refused with this constraint.
+pub(crate) fn assert_by_ber(
+    alloc: Global,
+    digits: &str,
+    tree: &str,
+    constraint: DerConstraint,
+) -> Result<(), Fail> {
     assert_tree(alloc, digits, tree, false)?;
     let octets = octets_of(alloc, digits)?;
     let mut text = String::new(alloc);
     push_read_by_der::<Any<'_>>(&mut text, alloc, octets.as_slice())?;
-    assert_text(
-        "by DER",
-        text.as_str(),
-        "Err(Error(DerConstraintFailed(IndefiniteLength)))",
-    )
+    let expected = format!(in alloc; "Err(Error(DerConstraintFailed({constraint:?})))")?;
+    assert_text("by DER", text.as_str(), expected.as_str())
 }

@@ -53,6 +53,7 @@ fn errors_are_copied(_rt: HostRuntime) -> Result<(), Fail> {
     assert_copied("a refusal", &Err::Failure(error))?;
     assert_copied("what is missing", &Needed::Size(1))?;
     assert_copied("a constraint", &DerConstraint::InvalidBoolean)?;
+    assert_copied("another constraint", &DerConstraint::TrailingOctets)?;
     assert_copied("why arcs are refused", &OidParseError::TooShort)?;
     assert_copied("no class", &Class::try_from(4))
 }

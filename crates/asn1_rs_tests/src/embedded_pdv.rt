@@ -51,6 +51,8 @@ EmbeddedPdv::from_der:
 0b07a0028500820100 = Err(Error(ConstructExpected))
 0b020000 = Err(Error(ConstructExpected))
 2b80a00285008201000000 = Err(Error(DerConstraintFailed(IndefiniteLength)))
+2b08a081028500820100 = Ok(([], Fixed None [0]))
+2b8107a0028500820100 = Err(Error(DerConstraintFailed(LengthNotShortest)))
 2b07a0028600820100 = Err(Error(InvalidValue { tag: Tag(6), msg: \"not an identification\" }))
 
 EmbeddedPdv::check_constraints:

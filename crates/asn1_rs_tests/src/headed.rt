@@ -62,6 +62,10 @@ a00302010505ff = Ok(())
 a00402020005 = Err(DerConstraintFailed(IntegerLeadingZeroes))
 a00424800000 = Err(DerConstraintFailed(IndefiniteLength))
 a0020205 = Err(Incomplete(Size(5)))
+a004020105ff = Err(DerConstraintFailed(TrailingOctets))
+a00502020005ff = Err(DerConstraintFailed(IntegerLeadingZeroes))
+a00402810105 = Err(DerConstraintFailed(LengthNotShortest))
+a08103020105 = Ok(())
 a0800201050000 = Err(IndefiniteLengthUnexpected)
 
 implicit u8:
@@ -83,10 +87,15 @@ explicit u8:
 a003020105ff = a003020105 rest ff by BER a003020105 rest ff
 8003020105 = a003020105 rest - by BER a003020105 rest -
 a00402020005 = Error(DerConstraintFailed(IntegerLeadingZeroes)) by BER a003020105 rest -
+a004020105ff = Error(DerConstraintFailed(TrailingOctets)) by BER a003020105 rest -
+a00402810105 = Error(DerConstraintFailed(LengthNotShortest)) by BER a003020105 rest -
+a08103020105 = Error(DerConstraintFailed(LengthNotShortest)) by BER a003020105 rest -
+bf0003020105 = Error(DerConstraintFailed(TagNotShortest)) by BER a003020105 rest -
 a0020205 = Incomplete(Size(5)) by BER Incomplete(Size(5))
 
 Vec of explicit u8:
 300ba0030201056104020200f0 = 300ba0030201056104020200f0 rest - by BER 300ba0030201056104020200f0 rest -
+3006a004020105ff = Error(DerConstraintFailed(TrailingOctets)) by BER 3005a003020105 rest -
 3003020105 = Error(Incomplete(Size(1))) by BER Error(Incomplete(Size(1)))
 
 implicit u8:
@@ -98,6 +107,7 @@ implicit u8:
 const CONVERTED: &str = "\
 as_tagged_explicit 0 u8:
 a00402020005 = Ok(5)
+a004020105ff = Ok(5)
 a103020105 = Err(UnexpectedTag { expected: Some(Tag(0)), actual: Tag(1) })
 8003020105 = Err(ConstructExpected)
 e003020105 = Err(UnexpectedClass { expected: Some(ContextSpecific), actual: Private })

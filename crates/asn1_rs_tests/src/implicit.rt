@@ -17,7 +17,8 @@ implicit 1 u8 from_der:
 810105 = 5 rest - written 810105 count 3 1 raw 810105
 81020005ff = 5 rest ff written 810105 count 3 1 raw 810105
 8100 = 0 rest - written 810100 count 3 1 raw 810100
-9f010105 = 5 rest - written 810105 count 3 1 raw 810105
+9f010105 = Error(DerConstraintFailed(TagNotShortest))
+81810105 = Error(DerConstraintFailed(LengthNotShortest))
 820105 = Error(UnexpectedTag { expected: Some(Tag(1)), actual: Tag(2) })
 020105 = Error(UnexpectedTag { expected: Some(Tag(1)), actual: Tag(2) })
 c20105 = Error(UnexpectedTag { expected: Some(Tag(1)), actual: Tag(2) })
@@ -30,6 +31,8 @@ a180020105 = Error(DerConstraintFailed(IndefiniteLength))
 
 implicit 1 u8 from_ber:
 81020005 = 5 rest - written 810105 count 3 1 raw 810105
+9f010105 = 5 rest - written 810105 count 3 1 raw 810105
+81810105 = 5 rest - written 810105 count 3 1 raw 810105
 c20105 = Error(UnexpectedTag { expected: Some(Tag(1)), actual: Tag(2) })
 c10105 = Error(UnexpectedClass { expected: Some(ContextSpecific), actual: Private })
 a1800201050000 = Error(ConstructUnexpected)
@@ -58,6 +61,8 @@ a1800000 = Err(IndefiniteLengthUnexpected)
 const LISTS: &str = "\
 implicit 1 Vec u16 from_der:
 a10402020005 = [5] rest - written a103020105 count 5 3 raw a103020105
+a10402810105 = [5] rest - written a103020105 count 5 3 raw a103020105
+a18104020105 = Error(DerConstraintFailed(LengthNotShortest))
 a100 = [] rest - written a100 count 2 0 raw a100
 8103020105 = Error(ConstructExpected)
 a1020205 = Error(Incomplete(Size(5)))
@@ -70,6 +75,7 @@ a1020205 = Error(Incomplete(Size(5)))
 implicit 1 Vec u16 check_constraints:
 a103020105 = Ok(())
 a10402020005 = Err(DerConstraintFailed(IntegerLeadingZeroes))
+a10402810105 = Err(DerConstraintFailed(LengthNotShortest))
 8103020105 = Err(ConstructExpected)
 a1020205 = Err(Incomplete(Size(5)))
 
@@ -94,6 +100,8 @@ optional implicit 1 Integer from_der:
 const TAGS: &str = "\
 implicit 1 explicit 0 u8:
 a103020105 = 5 rest - written a103020105 count 5 3 raw a103020105
+a105020105ffff = 5 rest - written a103020105 count 5 3 raw a103020105
+a10402810105 = 5 rest - written a103020105 count 5 3 raw a103020105
 8103020105 = Error(ConstructExpected)
 a1020205 = Error(Incomplete(Size(5)))
 
@@ -106,9 +114,11 @@ a103020105 = Error(UnexpectedClass { expected: Some(Application), actual: Contex
 
 explicit 2 application implicit 3 OctetString from_der:
 a20743054a6f6e6573 = 4a6f6e6573 rest - written a20743054a6f6e6573 count 9 7 raw a20743054a6f6e6573
+a20943054a6f6e65730500 = Error(DerConstraintFailed(TrailingOctets))
 a20783054a6f6e6573 = Error(UnexpectedClass { expected: Some(Application), actual: ContextSpecific })
 
 explicit 2 application implicit 3 OctetString from_ber:
+a20943054a6f6e65730500 = 4a6f6e6573 rest - written a20743054a6f6e6573 count 9 7 raw a20743054a6f6e6573
 a28043054a6f6e65730000 = 4a6f6e6573 rest - written a20743054a6f6e6573 count 9 7 raw a20743054a6f6e6573
 a20783054a6f6e6573 = Error(UnexpectedClass { expected: Some(Application), actual: ContextSpecific })
 ";

@@ -4,13 +4,13 @@ use asn1_rs::{
     Any, BerParser, BmpKind, DerParser, Error, Ia5Kind, SetOf, answers_last, any_is_the_element,
     beginnings_are_incomplete, beginnings_are_refused, classes_are_numbered,
     coded_strings_have_one_refusal, counts_are_of_the_strict_encoding,
-    indefinite_contents_are_walked, integers_have_one_refusal, items_are_joined_words,
-    lists_are_joined_words, one_refusal, options_are_left_out_by_ber, options_are_left_out_by_der,
-    options_are_read_back_by_ber, options_are_read_back_by_der, reader_is_exact_by_ber,
-    reader_is_exact_by_der, strict_fronts_are_written_again, strict_parts_are_read,
-    strict_parts_have_the_number, strict_parts_take_the_class, strings_have_one_refusal,
-    texts_have_one_refusal, times_have_one_refusal, universal_types_are_numbered, walks_end,
-    walks_take_words, words_and_values_are_unique,
+    elements_by_der_are_written_again, indefinite_contents_are_walked, integers_have_one_refusal,
+    items_are_joined_words, lists_are_joined_words, one_refusal, options_are_left_out_by_ber,
+    options_are_left_out_by_der, options_are_read_back_by_ber, options_are_read_back_by_der,
+    reader_is_exact_by_ber, reader_is_exact_by_der, strict_fronts_are_written_again,
+    strict_parts_are_read, strict_parts_have_the_number, strict_parts_take_the_class,
+    strings_have_one_refusal, texts_have_one_refusal, times_have_one_refusal,
+    universal_types_are_numbered, walks_end, walks_take_words, words_and_values_are_unique,
 };
 
 #[test]
@@ -42,6 +42,7 @@ fn laws_are_called() {
     beginnings_are_incomplete();
     beginnings_are_refused();
     classes_are_numbered();
+    elements_by_der_are_written_again();
     indefinite_contents_are_walked();
     integers_have_one_refusal();
     one_refusal();

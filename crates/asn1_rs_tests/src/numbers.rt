@@ -13,7 +13,8 @@ u8::from_der:
 
 u16::from_der:
 0203010000 = Error(IntegerTooLarge)
-ff00 = Incomplete(Size(1))
+ff00 = Error(DerConstraintFailed(TagNotShortest))
+028105 = Error(DerConstraintFailed(LengthNotShortest))
 
 u8::from_ber:
 020102ffff = 2 rest ffff

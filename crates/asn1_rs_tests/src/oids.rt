@@ -87,6 +87,8 @@ written 06092a864886f70d010105 count 11 9 raw 06092a864886f70d010105
 04022a03 = OID(1.2.3) rest - written 06022a03 count 4 2 raw 06022a03
 26022a03 = Error(ConstructUnexpected)
 2680 = Error(DerConstraintFailed(IndefiniteLength))
+1f06022a03 = Error(DerConstraintFailed(TagNotShortest))
+0681022a03 = Error(DerConstraintFailed(LengthNotShortest))
 
 Oid::from_ber:
 06072a864886f70d01 = OID(1.2.840.113549.1) rest - written 06072a864886f70d01 count 9 7 raw 06072a864886f70d01
@@ -101,12 +103,15 @@ Oid::from_ber_relative:
 2d022a03 = Error(ConstructUnexpected)
 2d8001000000 = Error(ConstructUnexpected)
 0d04c27b = Incomplete(Size(2))
+1f0d8104c27b0302 = OID(rel. 8571.3.2) rest - written 0d04c27b0302 count 6 4 raw 0d04c27b0302
 
 Oid::from_der_relative:
 0d04c27b0302ff = OID(rel. 8571.3.2) rest ff written 0d04c27b0302 count 6 4 raw 0d04c27b0302
 26022a03 = Error(UnexpectedTag { expected: Some(Tag(13)), actual: Tag(6) })
 2d022a03 = Error(ConstructUnexpected)
 2d8001000000 = Error(DerConstraintFailed(IndefiniteLength))
+1f0d04c27b0302 = Error(DerConstraintFailed(TagNotShortest))
+0d8104c27b0302 = Error(DerConstraintFailed(LengthNotShortest))
 
 Any::oid:
 2d022a03 = (Ok(OID(1.2.3)), Ok(OID(1.2.3)))

@@ -20,7 +20,9 @@ Option::<u8>::from_der:
 020107 = Some(7) rest - written 020107 count 3 1 raw 020107
 0201070400 = Some(7) rest 0400 written 020107 count 3 1 raw 020107
 820105 = Some(5) rest - written 020105 count 3 1 raw 020105
-048100 = None rest 048100 written - count 0 0 raw -
+048100 = Error(DerConstraintFailed(LengthNotShortest))
+1f0f00 = Error(DerConstraintFailed(TagNotShortest))
+1f0200 = Error(DerConstraintFailed(TagNotShortest))
 0405 = None rest 0405 written - count 0 0 raw -
 04 = Incomplete(Size(1))
 1f = Error(InvalidTag)
@@ -33,6 +35,7 @@ Option::<u8>::from_der:
 Option::<u8>::from_ber:
 0400 = None rest 0400 written - count 0 0 raw -
 - = None rest - written - count 0 0 raw -
+048100 = None rest 048100 written - count 0 0 raw -
 0480 = Error(ConstructExpected)
 2480 = None rest 2480 written - count 0 0 raw -
 02020005 = Some(5) rest - written 020105 count 3 1 raw 020105

@@ -95,9 +95,14 @@ a104020200c8 = error (\"too loud\", 200)
 a10402020005 = error DerConstraintFailed(IntegerLeadingZeroes)
 a203020105 = error UnexpectedTag { expected: Some(Tag(1)), actual: Tag(2) }
 a103020205 = Size(1)
+a105020105ffff = error DerConstraintFailed(TrailingOctets)
+a105020200c8ff = error (\"too loud\", 200)
+a10402810105 = error DerConstraintFailed(LengthNotShortest)
+bf0103020105 = error DerConstraintFailed(TagNotShortest)
 
 explicit [1] by BER:
 a10402020005 = (0, Volume(5))
+a105020105ffff = (0, Volume(5))
 a104020200c8 = error (\"too loud\", 200)
 a103020205 = error Incomplete(Size(1))
 
@@ -113,6 +118,7 @@ implicit [1] by BER:
 any explicit by DER:
 6e03020105 = (0, (true, Tag(14), 5))
 6e0302017f = error (\"too loud\", 127)
+6e04020105ff = error DerConstraintFailed(TrailingOctets)
 6e03020205 = Size(1)
 
 any implicit by BER:
@@ -267,6 +273,7 @@ Vec by DER:
 3006020105020106ff = (1, [Volume(5), Volume(6)])
 3004020200c8 = error (\"too loud\", 200)
 300402020005 = error DerConstraintFailed(IntegerLeadingZeroes)
+300402810105 = error DerConstraintFailed(LengthNotShortest)
 3103020105 = error UnexpectedTag { expected: Some(Tag(16)), actual: Tag(17) }
 3003020205 = error Incomplete(Size(1))
 3005020105 = Size(2)

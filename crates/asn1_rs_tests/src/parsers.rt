@@ -9,8 +9,8 @@ use std::alloc::Global;
 use std::test::Fail;
 use test_rows::{Calls, assert_rows, push_debug};
 
-/// An element that may be there or not: `[1]`, and `[APPLICATION 1]`. The closure takes its first contents octet.
-/// Values by X.690 8.14.
+/// An element that may be there or not: `[1]`, and `[APPLICATION 1]`. The closure takes its first contents octet, or
+/// reads the value in them; what it leaves is not looked at. Values by X.690 8.14, 10.1.
 const OPTIONS: &str = "\
 from(1) by BER:
 - = Ok(([], None))
@@ -32,6 +32,14 @@ a1800201020000 = Err(Error(DerConstraintFailed(IndefiniteLength)))
 a2800000 = Err(Error(DerConstraintFailed(IndefiniteLength)))
 2103020102 = Err(Error(UnexpectedClass { expected: Some(ContextSpecific), actual: Universal }))
 a1000a = Err(Failure(InvalidLength))
+a104020102ff = Ok(([], Some((2, true))))
+a181030201 = Err(Error(DerConstraintFailed(LengthNotShortest)))
+a2810000 = Err(Error(DerConstraintFailed(LengthNotShortest)))
+bf01 = Err(Error(DerConstraintFailed(TagNotShortest)))
+
+from(0) by DER, u8:
+a005020105ffff = Ok(([], Some(5)))
+a00402810105 = Err(Error(DerConstraintFailed(LengthNotShortest)))
 
 application(1) by DER:
 6103020102 = Ok(([], Some((2, true))))
@@ -55,13 +63,16 @@ a10302010205 = Ok(([5], (2, true)))
 010502010205ff00 = Ok(([0], (2, false)))
 a200 = Err(Error(UnexpectedTag { expected: Some(Tag(1)), actual: Tag(2) }))
 a20302 = Err(Incomplete(Size(2)))
+a18103020102 = Err(Error(DerConstraintFailed(LengthNotShortest)))
 
 parse_der_tagged_implicit_g 1:
 81010500 = Ok(([0], 5))
+9f010105 = Err(Error(DerConstraintFailed(TagNotShortest)))
 020105 = Err(Error(UnexpectedTag { expected: Some(Tag(1)), actual: Tag(2) }))
 ";
 
-/// Values under a tag, with their headers. Values by X.690 8.14, 8.3.
+/// Values under a tag, with their headers. By DER nothing follows the value under an explicit one; the parser is read
+/// before its tag is looked at. Values by X.690 8.14, 8.3, 10.1.
 const PARSERS: &str = "\
 explicit u8 by BER:
 a003020105ff = Ok(([255], (ContextSpecific, true, Tag(0), 5)))
@@ -71,9 +82,15 @@ a080020105000009 = Ok(([9], (ContextSpecific, true, Tag(0), 5)))
 a003020205 = Err(Incomplete(Size(1)))
 a003040105 = Err(Error(UnexpectedTag { expected: Some(Tag(2)), actual: Tag(4) }))
 a00302 = Err(Incomplete(Size(2)))
+a005020105ffff = Ok(([], (ContextSpecific, true, Tag(0), 5)))
+a00402810105 = Ok(([], (ContextSpecific, true, Tag(0), 5)))
 
 explicit u8 by DER:
 a003020105ff = Ok(([255], (ContextSpecific, true, Tag(0), 5)))
+a005020105ffff = Err(Error(DerConstraintFailed(TrailingOctets)))
+a00502020005ff = Err(Error(DerConstraintFailed(IntegerLeadingZeroes)))
+a00402810105 = Err(Error(DerConstraintFailed(LengthNotShortest)))
+bf0003020105 = Err(Error(DerConstraintFailed(TagNotShortest)))
 a00402020005 = Err(Error(DerConstraintFailed(IntegerLeadingZeroes)))
 a0800201050000 = Err(Error(DerConstraintFailed(IndefiniteLength)))
 
@@ -83,12 +100,15 @@ implicit u8 by BER:
 a1010500 = Err(Error(ConstructUnexpected))
 
 implicit u8 by DER:
+9f010105 = Err(Error(DerConstraintFailed(TagNotShortest)))
+81810105 = Err(Error(DerConstraintFailed(LengthNotShortest)))
 81020005 = Err(Error(DerConstraintFailed(IntegerLeadingZeroes)))
 810105 = Ok(([], (ContextSpecific, false, Tag(1), 5)))
 8101 = Err(Incomplete(Size(1)))
 
 explicit [APPLICATION 14] by BER:
 6e03020105 = Ok(([], (Application, true, Tag(14), 5)))
+6e04020105ff = Ok(([], (Application, true, Tag(14), 5)))
 ae03020105 = Err(Error(UnexpectedClass { expected: Some(Application), actual: ContextSpecific }))
 a103020105 = Err(Error(UnexpectedClass { expected: Some(Application), actual: ContextSpecific }))
 6103020105 = Err(Error(UnexpectedTag { expected: Some(Tag(14)), actual: Tag(1) }))
@@ -96,6 +116,8 @@ a103040105 = Err(Error(UnexpectedTag { expected: Some(Tag(2)), actual: Tag(4) })
 
 explicit [APPLICATION 14] by DER:
 6e03020105 = Ok(([], (Application, true, Tag(14), 5)))
+6e04020105ff = Err(Error(DerConstraintFailed(TrailingOctets)))
+a104020105ff = Err(Error(DerConstraintFailed(TrailingOctets)))
 a103020105 = Err(Error(UnexpectedClass { expected: Some(Application), actual: ContextSpecific }))
 
 implicit [1] by BER:
@@ -111,6 +133,10 @@ parse_der_tagged_explicit 1:
 a103020105 = Ok(([], (ContextSpecific, true, Tag(1), 5)))
 6103020105 = Ok(([], (Application, true, Tag(1), 5)))
 a203020105 = Err(Error(UnexpectedTag { expected: Some(Tag(1)), actual: Tag(2) }))
+a105020105ffff = Err(Error(DerConstraintFailed(TrailingOctets)))
+
+parse_der_tagged_explicit 0:
+a105020105ffff = Err(Error(DerConstraintFailed(TrailingOctets)))
 
 parse_der_tagged_implicit 1:
 410105 = Ok(([], (Application, false, Tag(1), 5)))
@@ -123,6 +149,8 @@ ae03020105 = Err(Error(UnexpectedClass { expected: Some(Application), actual: Co
 
 explicit from_der_and_then:
 6e03020105ff = Ok(([255], 5))
+6e04020105ff = Ok(([], 5))
+6e8103020105 = Err(Error(DerConstraintFailed(LengthNotShortest)))
 ";
 
 /// The first contents octet, and the constructed bit of the header.
@@ -142,10 +170,17 @@ fn octet_first<'a>(content: &'a [u8], header: Header<'a>) -> ParseResult<'a, (u8
 struct ByClosures;
 
 impl Calls for ByClosures {
-    fn answer(text: &mut String, _alloc: Global, name: &str, octets: &[u8]) -> Result<(), Fail> {
+    fn answer(text: &mut String, alloc: Global, name: &str, octets: &[u8]) -> Result<(), Fail> {
         if name == "from(1) by BER" {
             let parser = OptTaggedParser::from(1u32);
             return push_debug(text, &parser.parse_ber(octets, first_octet));
+        }
+        if name == "from(0) by DER, u8" {
+            let parser = OptTaggedParser::from(0u32);
+            let answer: ParseResult<'_, Option<u8>, Error> = parser.parse_der(octets, |_, content| {
+                u8::from_der(alloc, content)
+            });
+            return push_debug(text, &answer);
         }
         let parser = match name {
             "from(1) by DER" => OptTaggedParser::from(Tag(1)),
@@ -252,6 +287,9 @@ impl Calls for UnderTags {
         match name.split_once(' ') {
             Some(("explicit", call)) => push_explicit(text, alloc, call, octets),
             Some(("implicit", call)) => push_implicit(text, alloc, call, octets),
+            Some(("parse_der_tagged_explicit", "0")) => {
+                push_parsed(text, parse_der_tagged_explicit(alloc, Tag(0), octets))
+            }
             Some(("parse_der_tagged_explicit", _)) => {
                 push_parsed(text, parse_der_tagged_explicit(alloc, Tag(1), octets))
             }

@@ -15,30 +15,32 @@ a200 = 2.c.2 Definite(0) raw a2 rest -
 de00 = 3.p.30 Definite(0) raw de rest -
 fe00 = 3.c.30 Definite(0) raw fe rest -
 1fb41a00 = 0.p.6682 Definite(0) raw 1fb41a rest -
-9f0f021234 = 2.p.15 Definite(2) raw 9f0f rest 1234
-1f80800f00 = 0.p.15 Definite(0) raw 1f80800f rest -
+1f1f00 = 0.p.31 Definite(0) raw 1f1f rest -
 1f8fffffff7f00 = 0.p.4294967295 Definite(0) raw 1f8fffffff7f rest -
 0205 = 0.p.2 Definite(5) raw 02 rest -
 022681 = 0.p.2 Definite(38) raw 02 rest 81
 027f0102 = 0.p.2 Definite(127) raw 02 rest 0102
-028105 = 0.p.2 Definite(5) raw 02 rest -
+028180 = 0.p.2 Definite(128) raw 02 rest -
 0281c9 = 0.p.2 Definite(201) raw 02 rest -
 0282012c = 0.p.2 Definite(300) raw 02 rest -
 0288+8*ff = 0.p.2 Definite(18446744073709551615) raw 02 rest -
-0289+9*00 = 0.p.2 Definite(0) raw 02 rest -
 
 Header::from_ber:
 020100 = 0.p.2 Definite(1) raw 02 rest 00
+9f0f021234 = 2.p.15 Definite(2) raw 9f0f rest 1234
+1f80800f00 = 0.p.15 Definite(0) raw 1f80800f rest -
+028105 = 0.p.2 Definite(5) raw 02 rest -
+0289+9*00 = 0.p.2 Definite(0) raw 02 rest -
 308000 = 0.c.16 Indefinite raw 30 rest 00
 bf0f8000 = 2.c.15 Indefinite raw bf0f rest 00
 ";
 
-/// Headers that are refused, by X.690 8.1.2.4, 8.1.3.5 and 10.1.
+/// Headers that are refused, by X.690 8.1.2.4, 8.1.3.5 and 10.1. By DER identifier octets that are not the shortest are
+/// refused before the length octets are looked at, and length octets that are not behind their other faults.
 const REFUSED_HEADERS: &str = "\
 Header::from_der:
 - = Incomplete(Size(1))
 02 = Incomplete(Size(1))
-1f0f = Incomplete(Size(1))
 0281 = Incomplete(Size(1))
 0285ff = Incomplete(Size(4))
 02fe = Incomplete(Size(126))
@@ -53,8 +55,27 @@ Header::from_der:
 1f+5*80+0100 = Error(InvalidTag)
 1f90+3*80+0000 = Error(InvalidTag)
 1f90+3*80+0200 = Error(InvalidTag)
+1f80 = Error(InvalidTag)
+1f8005 = Error(DerConstraintFailed(TagNotShortest))
+1f800f = Error(DerConstraintFailed(TagNotShortest))
+1f80800f00 = Error(DerConstraintFailed(TagNotShortest))
+1f801f00 = Error(DerConstraintFailed(TagNotShortest))
+1f0f = Error(DerConstraintFailed(TagNotShortest))
+1f1e00 = Error(DerConstraintFailed(TagNotShortest))
+9f0f021234 = Error(DerConstraintFailed(TagNotShortest))
+1f0fff = Error(DerConstraintFailed(TagNotShortest))
+3f0f80 = Error(DerConstraintFailed(TagNotShortest))
+1f0f8105 = Error(DerConstraintFailed(TagNotShortest))
+028100 = Error(DerConstraintFailed(LengthNotShortest))
+028105 = Error(DerConstraintFailed(LengthNotShortest))
+02817f = Error(DerConstraintFailed(LengthNotShortest))
+0282007f = Error(DerConstraintFailed(LengthNotShortest))
+028200ff = Error(DerConstraintFailed(LengthNotShortest))
+0289+9*00 = Error(DerConstraintFailed(LengthNotShortest))
+0289+8*00+01 = Error(DerConstraintFailed(LengthNotShortest))
 
 Header::from_ber:
+1f0f = Incomplete(Size(1))
 0280 = Error(ConstructExpected)
 02ff = Error(InvalidLength)
 0482 = Incomplete(Size(2))
@@ -68,7 +89,9 @@ Any::from_der:
 0101ff = 0.p.1 Definite(1) raw 01 content ff rest -
 050005 = 0.p.5 Definite(0) raw 05 content - rest 05
 02020000 = 0.p.2 Definite(2) raw 02 content 0000 rest -
-9f0f021234 = 2.p.15 Definite(2) raw 9f0f content 1234 rest -
+8f021234 = 2.p.15 Definite(2) raw 8f content 1234 rest -
+9f0f021234 = Error(DerConstraintFailed(TagNotShortest))
+04817f = Error(DerConstraintFailed(LengthNotShortest))
 300a1605536d6974680101ff = 0.c.16 Definite(10) raw 30 content 1605536d6974680101ff rest -
 1a054a6f6e6573 = 0.p.26 Definite(5) raw 1a content 4a6f6e6573 rest -
 43054a6f6e6573 = 1.p.3 Definite(5) raw 43 content 4a6f6e6573 rest -
@@ -176,17 +199,23 @@ a2010a = 10 rest -
 03010a = Error(ByLibrary(UnexpectedTag { expected: Some(Tag(2)), actual: Tag(3) }))
 02010a = Error(ByLibrary(UnexpectedClass { expected: Some(ContextSpecific), actual: Universal }))
 82030a = Incomplete(Size(2))
+9f02020a0b0c = Error(ByLibrary(DerConstraintFailed(TagNotShortest)))
+8281020a0b0c = Error(ByLibrary(DerConstraintFailed(LengthNotShortest)))
 
 Any::from_ber_and_then:
 82020a0b0c = 10 rest 0c
+9f02020a0b0c = 10 rest 0c
+8281020a0b0c = 10 rest 0c
 a2800a0000000c = 10 rest 0c
 02010a = Error(ByLibrary(UnexpectedClass { expected: Some(ContextSpecific), actual: Universal }))
 
 Any::parse_der:
 0201070500 = 7 rest 0500
+028101070500 = Error(DerConstraintFailed(LengthNotShortest))
 
 Any::parse_ber:
 0201070500 = 7 rest 0500
+028101070500 = 7 rest 0500
 ";
 
 #[test]

@@ -6,11 +6,19 @@ use std::test::Fail;
 use test_rows::{Calls, Narrow, assert_rows, assert_shown};
 use test_values::{push_by_ber, push_by_der, push_checked};
 
-/// Explicit tags: the element of the tag, the value within, and how both are written. Values by X.690 8.14.2.
+/// Explicit tags: the element of the tag, the value within, and how both are written. By DER and by the check nothing
+/// follows the value; the check reads it by BER. Values by X.690 8.14.2, 10.1.
 const EXPLICIT: &str = "\
 explicit 0 u32 from_der:
 a003020102 = 2 rest - written a003020102 count 5 3 raw a003020102
-a005020102ffff = 2 rest - written a003020102 count 5 3 raw a003020102
+a003020102ffff = 2 rest ffff written a003020102 count 5 3 raw a003020102
+a005020102ffff = Error(DerConstraintFailed(TrailingOctets))
+a00502020005ff = Error(DerConstraintFailed(IntegerLeadingZeroes))
+a004030102ff = Error(UnexpectedTag { expected: Some(Tag(2)), actual: Tag(3) })
+a105020102ffff = Error(UnexpectedTag { expected: Some(Tag(0)), actual: Tag(1) })
+bf0003020102 = Error(DerConstraintFailed(TagNotShortest))
+a08103020102 = Error(DerConstraintFailed(LengthNotShortest))
+a00402810102 = Error(DerConstraintFailed(LengthNotShortest))
 a0020205 = Incomplete(Size(5))
 a003020205 = Incomplete(Size(1))
 a0030401 = Incomplete(Size(1))
@@ -23,6 +31,8 @@ a080020102 = Error(DerConstraintFailed(IndefiniteLength))
 explicit 0 u32 from_ber:
 a0800201020000 = 2 rest - written a003020102 count 5 3 raw a003020102
 a00402020005 = 5 rest - written a003020105 count 5 3 raw a003020105
+a005020102ffff = 2 rest - written a003020102 count 5 3 raw a003020102
+bf00810402810102 = 2 rest - written a003020102 count 5 3 raw a003020102
 a0020205 = Error(Incomplete(Size(5)))
 8103020102 = Error(UnexpectedTag { expected: Some(Tag(0)), actual: Tag(1) })
 4003020102 = Error(ConstructExpected)
@@ -36,12 +46,20 @@ bf1f03020105 = 5 rest - written bf1f03020105 count 6 3 raw bf1f03020105
 
 Vec of explicit 31 u8 from_der:
 3006bf1f03020105 = [5] rest - written 3006bf1f03020105 count 8 6 raw 3006bf1f03020105
+3008bf1f050201050500 = Error(DerConstraintFailed(TrailingOctets))
+
+Vec of explicit 31 u8 from_ber:
+3008bf1f050201050500 = [5] rest - written 3006bf1f03020105 count 8 6 raw 3006bf1f03020105
 
 explicit 0 u32 check_constraints:
 a003020102 = Ok(())
 a00402020005 = Err(DerConstraintFailed(IntegerLeadingZeroes))
 a0800201020000 = Err(IndefiniteLengthUnexpected)
 a0020205 = Err(Incomplete(Size(5)))
+a004020105ff = Err(DerConstraintFailed(TrailingOctets))
+a00502020005ff = Err(DerConstraintFailed(IntegerLeadingZeroes))
+a00402810105 = Ok(())
+a08103020105 = Ok(())
 ";
 
 /// The calls of the table.
@@ -64,6 +82,9 @@ impl Calls for Explicits {
             }
             "Vec of explicit 31 u8 from_der" => {
                 push_by_der::<Vec<TaggedExplicit<u8, Error, 31>>>(text, alloc, octets)
+            }
+            "Vec of explicit 31 u8 from_ber" => {
+                push_by_ber::<Vec<TaggedExplicit<u8, Error, 31>>>(text, alloc, octets)
             }
             "explicit 0 u32 check_constraints" => {
                 push_checked::<TaggedExplicit<u32, Error, 0>>(text, alloc, octets)

@@ -12,7 +12,7 @@ use Rattle.asn1_rs.specs.Integer.{integer_element, IntegerBody, IntegerCheck, Is
 use Rattle.asn1_rs.specs.Kinds.{ElementGrammar, IsExactConversion, holding, HoldingGives}
 use Rattle.asn1_rs.specs.Laws.Integer.Unsigned.{unsigned_converts}
 use Rattle.asn1_rs.specs.Laws.Kinds.{holding_converts}
-use Rattle.asn1_rs.specs.Tagged.Headed.{HeadedBody}
+use Rattle.asn1_rs.specs.Tagged.Headed.{HeadedWhole}
 use Rattle.asn1_rs.specs.Traits.{OfParts}
 use Rattle.asn1_rs_uses.specs.declared.levels.Level.{Level}
 
@@ -57,4 +57,4 @@ level_converts = holding_converts level_number _ _ (unsigned_converts 1)
 
 -- a number of one octet by DER in an element of any tag, with the identifier of that
 abbrev pub LevelByDer : List ℕ → Identifier × ℤ → Type 0
-LevelByDer = DerWord NoCheck (HeadedBody (DerWord IntegerCheck (IntegerBody (IsUnsigned 1))))
+LevelByDer = DerWord NoCheck (HeadedWhole (DerWord IntegerCheck (IntegerBody (IsUnsigned 1))))

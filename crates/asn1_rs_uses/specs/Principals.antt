@@ -14,7 +14,7 @@ use Rattle.asn1_rs.specs.Grammar.{DerWord, NoCheck}
 use Rattle.asn1_rs.specs.Integer.{IntegerBody, IntegerCheck}
 use Rattle.asn1_rs.specs.Lists.{ListOf}
 use Rattle.asn1_rs.specs.OctetString.{octet_string_leaf, octets_of}
-use Rattle.asn1_rs.specs.Tagged.Explicit.{ExplicitBody}
+use Rattle.asn1_rs.specs.Tagged.Explicit.{ExplicitWhole}
 use Rattle.asn1_rs.specs.declared.asn1_types.octet_string.OctetString.{OctetString}
 use Rattle.asn1_rs_uses.specs.Borrowed.{LeafByDer}
 use Rattle.asn1_rs_uses.specs.Messages.{in_sequence, WantsMemory}
@@ -22,7 +22,7 @@ use Rattle.asn1_rs_uses.specs.declared.principal.Principal.{Principal}
 
 -- words by DER under the explicit, context-specific tag of this number
 abbrev pub UnderTagByDer : {V : Type 0} → ℕ → (List ℕ → V → Type 0) → List ℕ → V → Type 0
-UnderTagByDer number G = DerWord NoCheck (ExplicitBody 2 number G)
+UnderTagByDer number G = DerWord NoCheck (ExplicitWhole 2 number G)
 
 -- the words of the three parts, by DER
 abbrev pub KindByDer : List ℕ → ℤ → Type 0

@@ -1,7 +1,6 @@
 -- Borrowed octets under a tag whose number is told at run time.
 use Rattle.std.specs.Prelude.{◌≡◌, ℕ, List, ◌++◌}
 use Rattle.x690.specs.Elements.{Parts, IsDerElement}
-use Rattle.asn1_headers.specs.Answers.{Front}
 use Rattle.asn1_rs_uses.specs.Principals.{StringByDer}
 
 -- an element by DER of this tag number begins the octets, and the rest follows
@@ -11,10 +10,10 @@ pub record BeginsWithNumber (number : ℕ) (octets : List ℕ) (parts : Parts) (
   pub is : octets ≡ word ++ rest
   pub number_is : parts.id.number ≡ number
 
--- its contents octets begin with an octet string by DER
+-- its contents octets are an octet string by DER, and nothing else
 abbrev pub BeginsUnderNumber : ℕ → List ℕ → List ℕ → List ℕ → Type 0
-BeginsUnderNumber number octets string rest = (parts : Parts) × BeginsWithNumber number octets parts rest ×
-    ((left : List ℕ) × Front StringByDer parts.content string left)
+BeginsUnderNumber number octets string rest =
+    (parts : Parts) × BeginsWithNumber number octets parts rest × StringByDer parts.content string
 
 -- these are its contents octets
 abbrev pub BeginsWithContentsUnder : ℕ → List ℕ → List ℕ → List ℕ → Type 0

@@ -1,6 +1,8 @@
 //! A bind of LDAP (RFC 4511), by closures over contents octets, and its controls, a type that borrows.
 //!
-//! All is read by DER, since LDAP asks for definite lengths and primitive strings (5.1).
+//! All is read by DER, since LDAP asks for definite lengths and primitive strings (5.1). LDAP allows lengths that are
+//! not the shortest, which some servers write. They are refused here; a reader that has to take them is written by BER,
+//! as that of SNMP is.
 
 use asn1_rs::{
     Any, CheckDerConstraints, Class, DerAutoDerive, ElementKind, Error, FromAny, FromDer, HasKind,

@@ -11,7 +11,7 @@ ghost use Rattle.asn1_rs.specs.Integer.{IntegerCheckGives, IsUnsigned};
 ghost use Rattle.asn1_rs.specs.Laws.Integer.{integer_checks, integer_lawful};
 ghost use Rattle.asn1_rs.specs.Laws.Kinds.{holding_lawful};
 ghost use Rattle.asn1_rs.specs.Tagged.{ThenByDer};
-ghost use Rattle.asn1_rs.specs.Tagged.Parser.{TakesExplicit};
+ghost use Rattle.asn1_rs.specs.Tagged.Parser.{TakesWhole};
 ghost use Rattle.asn1_rs.specs.Traits.{DerGives};
 ghost use Rattle.asn1_rs_uses.specs.Levels.{RefusedAs, refused_as_takes, refused_as_no_memory, level_number};
 ghost use Rattle.asn1_rs_uses.specs.Levels.{level_element, LevelConverts, level_converts, LevelByDer};
@@ -102,8 +102,9 @@ impl<'a> LawfulBodyBy<'a, ElementKind, LevelError> for Level {
 pub fn levels_under_tags_are_exact()
     ensures { (input : List ℕ) (answer : Result (List ℕ × TaggedParser Explicit Level LevelError)
         (Refusal LevelError)) → IsOctets input →
-        ThenByDer (λ e refusal. refusal ≡ Octets e) (TakesExplicit (DerGives IntegerCheckGives
-        (RefusedAs Octets LevelConverts) (λ e refusal. refusal ≡ Octets e))) input answer →
+        ThenByDer (λ e refusal. refusal ≡ Octets e) (TakesWhole (DerGives IntegerCheckGives
+        (RefusedAs Octets LevelConverts) (λ e refusal. refusal ≡ Octets e))
+        (λ e refusal. refusal ≡ Octets e)) input answer →
         Exactly IsCutIdentifier LevelByDer
         (λ parser. (identifier_of parser.header, pos parser.inner.0))
         (TellsMemory false (λ e refusal. refusal ≡ Octets e)) input answer }

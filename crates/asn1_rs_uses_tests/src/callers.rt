@@ -17,12 +17,14 @@ fn numbers_are_read_and_written(rt: HostRuntime) -> Result<(), Fail> {
     let alloc = rt.alloc();
     let octets = [0x02, 0x81, 0x01, 0x05, 0xff];
     let answers = (
+        read_number(alloc, &[0x02, 0x01, 0x05, 0xff]),
         read_number(alloc, &octets),
         read_number_by_ber(alloc, &octets),
         count_number(5),
         write_number(alloc, 5),
     );
-    let expected = "(Ok(([255], 5)), Ok(([255], 5)), Ok(3), Ok([2, 1, 5]))";
+    let expected = "(Ok(([255], 5)), Err(Error(DerConstraintFailed(LengthNotShortest))), \
+        Ok(([255], 5)), Ok(3), Ok([2, 1, 5]))";
     assert_shown(alloc, &answers, expected)
 }
 

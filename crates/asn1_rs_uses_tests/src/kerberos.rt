@@ -113,7 +113,8 @@ fn numbers_of_a_request_are_read(rt: HostRuntime) -> Result<(), Fail> {
 /// Read: the rest, and whether the same octets are written. With the fewest fields, with an address, with what is
 /// encrypted with and without a version of the key, and with a ticket.
 ///
-/// Refused: another version, another type, no `till`, a field left over in both sequences, another application tag, a
+/// Refused: another version, another type, no `till`, a field left over in both sequences, octets behind the sequence
+/// and behind the version in their tags, a long length of the request and of a part, another application tag, a
 /// context-specific tag, a set, a part that is cut, a request that is, and one that is cut within its tag.
 /// The fields are those of RFC 4120, 5.4.1.
 const REQUESTS: &str = "\
@@ -133,9 +134,17 @@ request:
 6a2a3028a103020105a20302010aa41c301aa00703050000000000a2031b0141a703020105a8053003020112 \
 = Error(UnexpectedTag { expected: Some(Tag(5)), actual: Tag(7) })
 6a423040a103020105a20302010aa42f302da00703050000000000a2031b0141a511180f3230333730393133303234383035\
-5aa703020105a8053003020112a503020101 = Error(InvalidValue { tag: Tag(16), msg: \"a field left over\" })
+5aa703020105a8053003020112a503020101 = Error(DerConstraintFailed(TrailingOctets))
 6a423040a103020105a20302010aa4343032a00703050000000000a2031b0141a511180f3230333730393133303234383035\
-5aa703020105a8053003020112ac03020101 = Error(InvalidValue { tag: Tag(16), msg: \"a field left over\" })
+5aa703020105a8053003020112ac03020101 = Error(DerConstraintFailed(TrailingOctets))
+6a3f303ba103020105a20302010aa42f302da00703050000000000a2031b0141a511180f3230333730393133303234383035\
+5aa703020105a80530030201120500 = Error(DerConstraintFailed(TrailingOctets))
+6a3f303da1050201050500a20302010aa42f302da00703050000000000a2031b0141a511180f323033373039313330323438\
+30355aa703020105a8053003020112 = Error(DerConstraintFailed(TrailingOctets))
+6a813d303ba103020105a20302010aa42f302da00703050000000000a2031b0141a511180f32303337303931333032343830\
+355aa703020105a8053003020112 = Error(DerConstraintFailed(LengthNotShortest))
+6a3e303ca103020105a20302010aa430302ea00703050000000000a2031b0141a511180f3230333730393133303234383035\
+5aa70402810105a8053003020112 = Error(DerConstraintFailed(LengthNotShortest))
 6c3d303ba103020105a20302010aa42f302da00703050000000000a2031b0141a511180f3230333730393133303234383035\
 5aa703020105a8053003020112 = Error(UnexpectedTag { expected: Some(Tag(10)), actual: Tag(12) })
 aa3d303ba103020105a20302010aa42f302da00703050000000000a2031b0141a511180f3230333730393133303234383035\

@@ -10,8 +10,9 @@ use test_rows::{Calls, assert_rows, push_debug};
 /// (X.690 8.14).
 ///
 /// A level has one octet without its sign (8.3.3): 255 is read, 300 and -1 are refused, and so are a boolean in its
-/// place, a number that is not in the fewest octets (8.3.2), and an indefinite length (10.1). Then a tag that is cut,
-/// and a level that is cut within a whole one.
+/// place, a number that is not in the fewest octets (8.3.2), an indefinite length, octets behind the level, and lengths
+/// and a tag number that are not the shortest (10.1). Then a tag that is cut, and a level that is cut within a whole
+/// one.
 const LEVELS: &str = "\
 any_tag:
 a10302010500 = ([0], ContextSpecific, Tag(1), Level(5))
@@ -21,17 +22,23 @@ a1030201ff = Error(Octets(IntegerNegative))
 a103010101 = Error(Octets(UnexpectedTag { expected: Some(Tag(2)), actual: Tag(1) }))
 a10402020005 = Error(Octets(DerConstraintFailed(IntegerLeadingZeroes)))
 a1800201050000 = Error(Octets(DerConstraintFailed(IndefiniteLength)))
+a104020105ff = Error(Octets(DerConstraintFailed(TrailingOctets)))
+a10402810105 = Error(Octets(DerConstraintFailed(LengthNotShortest)))
+bf0103020105 = Error(Octets(DerConstraintFailed(TagNotShortest)))
 a1030201 = Incomplete(Size(1))
 a1020201 = Incomplete(Size(1))
 
 explicit:
 a10302010500 = ([0], Level(5))
+a104020105ff = Error(Octets(DerConstraintFailed(TrailingOctets)))
+a1050202012cff = Error(Octets(IntegerTooLarge))
 a1040202012c = Error(Octets(IntegerTooLarge))
 a203020105 = Error(Octets(UnexpectedTag { expected: Some(Tag(1)), actual: Tag(2) }))
 a1030201 = Incomplete(Size(1))
 
 implicit:
 81010500 = ([0], Level(5))
+81810105 = Error(Octets(DerConstraintFailed(LengthNotShortest)))
 8102012c = Error(Octets(IntegerTooLarge))
 8101 = Incomplete(Size(1))
 ";

@@ -7,8 +7,9 @@ use test_rows::{Calls, assert_rows, push_debug};
 
 /// Read: the rest, the parts, and whether the same octets are written. Without a realm too.
 ///
-/// Refused: octets left over, another tag number in the place of the realm, a length and a string by BER alone, a
-/// primitive sequence, one of another class or number, a part that is cut, and a sequence that is.
+/// Refused: octets left over, another tag number in the place of the realm, octets behind a part in its tag, lengths
+/// and a tag number that are not the shortest, a length and a string by BER alone, a primitive sequence, one of another
+/// class or number, a part that is cut, and a sequence that is.
 /// Values by X.690 8.9, 8.14.
 const PRINCIPALS: &str = "\
 principal:
@@ -17,6 +18,11 @@ principal:
 3009a003020180a1023000 = ([], -128)true
 3013a003020101a10a300804036b72620401610500 = Error(InvalidValue { tag: Tag(16), msg: \"octets left over\" })
 3016a003020101a10a300804036b7262040161a303040178 = Error(InvalidValue { tag: Tag(16), msg: \"octets left over\" })
+3018a003020101a10a300804036b7262040161a2050401780500 = Error(DerConstraintFailed(TrailingOctets))
+3018a005020101ffffa10a300804036b7262040161a203040178 = Error(DerConstraintFailed(TrailingOctets))
+308116a003020101a10a300804036b7262040161a203040178 = Error(DerConstraintFailed(LengthNotShortest))
+3017a003020101a10a300804036b7262040161a20404810178 = Error(DerConstraintFailed(LengthNotShortest))
+3017a003020101a10a300804036b7262040161bf0203040178 = Error(DerConstraintFailed(TagNotShortest))
 3013a003020101a180300804036b72620401610000 = Error(DerConstraintFailed(IndefiniteLength))
 3018a003020101a10a300804036b7262040161a2052403040178 = Error(ConstructUnexpected)
 1009a003020180a1023000 = Error(ConstructExpected)

@@ -46,6 +46,9 @@ request:
 bf = Incomplete(Size(1))
 bf81 = Incomplete(Size(1))
 bf8180808080 = Error(InvalidTag)
+bf0a = Error(DerConstraintFailed(TagNotShortest))
+6a81 = Incomplete(Size(1))
+6a8103 = Error(DerConstraintFailed(LengthNotShortest))
 ";
 
 /// The calls of the table.

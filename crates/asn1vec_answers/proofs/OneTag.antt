@@ -1,5 +1,6 @@
 -- What is read once under no tag is read once under an explicit one.
-use Rattle.std.proofs.Common.{◌≡◌, ◌∙◌, sym, ap, subst, ℕ, List, Bool, true, inl, inr, lit<, map, Result, Ok, Err}
+use Rattle.std.proofs.Common.{◌≡◌, ◌∙◌, sym, ap, subst, refl, ℕ, List, [], Bool, true, inl, inr, lit<, map}
+use Rattle.std.proofs.Common.{Result, Ok, Err}
 use Rattle.std.specs.declared.alloc.Global.{Global}
 use Rattle.std.specs.declared.vec.Vec.{Vec}
 use Rattle.x690.specs.Elements.{Parts, IsDerElement}
@@ -10,6 +11,7 @@ use Rattle.asn1_rs.specs.Any.{parts_of}
 use Rattle.asn1_rs.specs.declared.asn1_types.any.Any.{Any}
 use Rattle.asn1_rs.specs.declared.asn1_types.tagged.Implicit.{Implicit}
 use Rattle.asn1_rs.specs.declared.asn1_types.tagged.TaggedValue.{TaggedValue}
+use Rattle.asn1_headers.specs.declared.error.Err.{Err as Refusal}
 use Rattle.asn1_headers.specs.declared.error.Err.TheVariants.{Error as refused}
 use Rattle.asn1_headers.specs.declared.error.Error.{Error}
 use Rattle.asn1_headers.specs.declared.tag.Tag.{Tag}
@@ -21,6 +23,7 @@ use Rattle.asn1_rs.specs.Tagged.Parser.{IsUnder}
 use Rattle.asn1_headers.specs.Answers.{Front}
 use Rattle.asn1_headers.specs.Ber.{max_depth, EndsWithin}
 use Rattle.asn1_headers.specs.Header.Reading.{refusal_of, ber_breach, der_breach}
+use Rattle.asn1_rs.specs.Tagged.{ReadsWhole}
 use Rattle.asn1_rs.specs.Tagged.Explicit.{ExplicitGives, ExplicitReads, ExplicitTakes}
 use Rattle.asn1_rs.specs.Traits.{BerGives, OfParts}
 use Rattle.asn1_rs.specs.Laws.Readers.{ber_elements, der_elements}
@@ -32,7 +35,8 @@ use Rattle.asn1vec_answers.proofs.OneItem.{IsOneItem, follows, texts_same, vecto
 use Rattle.asn1vec_answers.proofs.OneList.{IsOneConversion, IsOneReader, IsOneTaking, flattened_memory, flattened_same}
 use Rattle.asn1vec_answers.proofs.OneList.{one_by_parts, one_element, takes_once as list_takes_once}
 use Rattle.asn1vec_answers.proofs.OneReading.{SameReading}
-use Rattle.asn1vec_answers.proofs.OneRefusal.{converted_same, element_or_fault, named, same_parts, same_tail}
+use Rattle.asn1vec_answers.proofs.OneRefusal.{SameRefusal, converted_same, element_or_fault, named, same_parts}
+use Rattle.asn1vec_answers.proofs.OneRefusal.{same_tail}
 use Rattle.asn1_rs.specs.Grammar.Item.{ber_words}
 use Rattle.asn1_rs.specs.Laws.Words.{strict_ber}
 
@@ -67,46 +71,90 @@ module _ {T W D : Type 0} (class number : ℕ) (inner : W → T) (view : T → D
       (λ w. view (inner w)) allocates (OfParts (ExplicitTakes class number inner reads Same))
       (one_by_parts (λ w. view (inner w)) allocates (ExplicitTakes class number inner reads Same) takes_once)
 
-  -- by DER: what reading the value in the element answers, and the reader itself
-  abbrev ReadsIn : Parts → Reading T → Type 0
+  -- by DER: what reading the value that the contents octets are answers, that in the element, and the reader itself
+  abbrev Whole : List ℕ → Result T (Refusal Error) → Type 0
+  Whole = ReadsWhole reads Same
+
+  -- a value as one that nothing follows
+  abbrev alone : Result T (Refusal Error) → Reading T
+  alone (Ok x) = Ok ([], x)
+  alone (Err r) = Err r
+
+  whole_once : (octets : List ℕ) (a b : Result T (Refusal Error)) → Whole octets a → Whole octets b →
+      SameReading (λ x y. view x ≡ view y) allocates (alone a) (alone b)
+  whole_once octets (Ok v) (Ok w) (Ok x, is, (none, one)) (Ok y, too, (empty, other)) =
+      let same = once octets (Ok x) (Ok y) is too in
+      (ap view one ∙ same.0 ∙ sym (ap view other), refl)
+  whole_once octets (Ok v) (Ok w) (Ok x, is, given) (Err own, too, same) = absurd same
+  whole_once octets (Ok v) (Err r) (Ok x, is, (none, one)) (Ok y, too, (some, told)) =
+      let rests = once octets (Ok x) (Ok y) is too in
+      absurd (some (sym rests.1 ∙ none))
+  whole_once octets (Ok v) (Err r) (Ok x, is, given) (Err own, too, same) =
+      let memory = once octets (Ok x) (Err own) is too in
+      (memory.0, same ∙ memory.1)
+  whole_once octets (Ok v) (Ok w) (Err own, is, none) too = absurd none
+  whole_once octets (Ok v) (Err r) (Err own, is, none) too = absurd none
+  whole_once octets (Err q) (Ok w) (Ok x, is, (some, told)) (Ok y, too, (none, other)) =
+      let rests = once octets (Ok x) (Ok y) is too in
+      absurd (some (rests.1 ∙ none))
+  whole_once octets (Err q) (Ok w) (Err own, is, same) (Ok y, too, given) =
+      let memory = once octets (Err own) (Ok y) is too in
+      (memory.0, same ∙ memory.1)
+  whole_once octets (Err q) (Ok w) (Ok x, is, given) (Err own, too, none) = absurd none
+  whole_once octets (Err q) (Ok w) (Err other, is, same) (Err own, too, none) = absurd none
+  whole_once octets (Err q) (Err r) (Ok x, is, (some, (e, made, one))) (Ok y, too, (left, (f, same, other))) =
+      inl (ap named (one ∙ ap refused (made ∙ sym same) ∙ sym other))
+  whole_once octets (Err q) (Err r) (Ok x, is, given) (Err own, too, same) =
+      let memory = once octets (Ok x) (Err own) is too in
+      inr (memory.0, inr (same ∙ memory.1))
+  whole_once octets (Err q) (Err r) (Err own, is, same) (Ok y, too, given) =
+      let memory = once octets (Err own) (Ok y) is too in
+      inr (memory.0, inl (same ∙ memory.1))
+  whole_once octets (Err q) (Err r) (Err own, is, same) (Err other, too, equal) =
+      let both = once octets (Err own) (Err other) is too in
+      subst (λ (x : Refusal Error). SameRefusal allocates x r) (sym same)
+      (subst (λ (x : Refusal Error). SameRefusal allocates own x) (sym equal) both)
+
+  abbrev ReadsIn : Parts → Result T (Refusal Error) → Type 0
   ReadsIn = ExplicitReads class number reads Same
 
-  reads_once : (p : Parts) (a b : Reading T) → ReadsIn p a → ReadsIn p b →
-      SameReading (λ x y. view x ≡ view y) allocates a b
-  reads_once p (Ok x) (Ok y) (tag, is) (also, too) = once p.content (Ok x) (Ok y) is too
+  reads_once : (p : Parts) (a b : Result T (Refusal Error)) → ReadsIn p a → ReadsIn p b →
+      SameReading (λ x y. view x ≡ view y) allocates (alone a) (alone b)
+  reads_once p (Ok x) (Ok y) (tag, is) (also, too) = whole_once p.content (Ok x) (Ok y) is too
   reads_once p (Ok x) (Err r) (tag, is) (inl (f, other, given)) =
       absurd ((tag_checks_are class number).apart p f tag other)
-  reads_once p (Ok x) (Err r) (tag, is) (inr (also, too)) = once p.content (Ok x) (Err r) is too
+  reads_once p (Ok x) (Err r) (tag, is) (inr (also, too)) = whole_once p.content (Ok x) (Err r) is too
   reads_once p (Err q) (Ok y) (inl (e, other, given)) (tag, is) =
       absurd ((tag_checks_are class number).apart p e tag other)
-  reads_once p (Err q) (Ok y) (inr (also, too)) (tag, is) = once p.content (Err q) (Ok y) too is
+  reads_once p (Err q) (Ok y) (inr (also, too)) (tag, is) = whole_once p.content (Err q) (Ok y) too is
   reads_once p (Err q) (Err r) (inl (e, other, (d, same, is))) (inl (f, another, (c, equal, too))) = inl
       (ap named (is ∙ ap refused (same ∙ (tag_checks_are class number).one p e f other another ∙ sym equal) ∙ sym too))
   reads_once p (Err q) (Err r) (inl (e, other, given)) (inr (tag, is)) =
       absurd ((tag_checks_are class number).apart p e tag other)
   reads_once p (Err q) (Err r) (inr (tag, is)) (inl (f, other, given)) =
       absurd ((tag_checks_are class number).apart p f tag other)
-  reads_once p (Err q) (Err r) (inr (tag, is)) (inr (also, too)) = once p.content (Err q) (Err r) is too
+  reads_once p (Err q) (Err r) (inr (tag, is)) (inr (also, too)) = whole_once p.content (Err q) (Err r) is too
 
   -- two elements at the front of the same octets are one
-  in_one_element : (octets rest tail : List ℕ) (p o : Parts) (a b : Reading T) → Front IsDerElement octets p rest →
-      Front IsDerElement octets o tail → ReadsIn p a → ReadsIn o b → SameReading (λ x y. view x ≡ view y) allocates a b
+  in_one_element : (octets rest tail : List ℕ) (p o : Parts) (a b : Result T (Refusal Error)) →
+      Front IsDerElement octets p rest → Front IsDerElement octets o tail → ReadsIn p a → ReadsIn o b →
+      SameReading (λ x y. view x ≡ view y) allocates (alone a) (alone b)
   in_one_element octets rest tail p o a b f g is too = reads_once p a b is (subst (λ (q : Parts). ReadsIn q b)
       (same_parts IsDerElement DerElementFault IsCutIdentifier der_elements octets rest tail p o f g) too)
 
   explicit_by_der : IsOneReader (λ w. view (inner w)) allocates (ExplicitGives class number inner reads Same)
-  explicit_by_der octets (Ok (rest, v)) (Ok (tail, w)) (p, f, (left, is)) (o, g, (over, too)) = (
-    (in_one_element octets rest tail p o (Ok (left, inner v)) (Ok (over, inner w)) f g is too).0,
+  explicit_by_der octets (Ok (rest, v)) (Ok (tail, w)) (p, f, is) (o, g, too) = (
+    (in_one_element octets rest tail p o (Ok (inner v)) (Ok (inner w)) f g is too).0,
     same_tail IsDerElement DerElementFault IsCutIdentifier der_elements octets rest tail p o f g,
   )
   explicit_by_der octets (Ok (rest, v)) (Err r) (p, f, given) (inl (fault, why, told)) = absurd
       (element_or_fault IsDerElement DerElementFault IsCutIdentifier der_elements der_breach octets rest p fault f why)
-  explicit_by_der octets (Ok (rest, v)) (Err r) (p, f, (left, is)) (inr (o, tail, g, too)) =
-      in_one_element octets rest tail p o (Ok (left, inner v)) (Err r) f g is too
+  explicit_by_der octets (Ok (rest, v)) (Err r) (p, f, is) (inr (o, tail, g, too)) =
+      in_one_element octets rest tail p o (Ok (inner v)) (Err r) f g is too
   explicit_by_der octets (Err q) (Ok (tail, w)) (inl (fault, why, told)) (o, g, given) = absurd
       (element_or_fault IsDerElement DerElementFault IsCutIdentifier der_elements der_breach octets tail o fault g why)
-  explicit_by_der octets (Err q) (Ok (tail, w)) (inr (p, rest, f, is)) (o, g, (over, too)) =
-      in_one_element octets rest tail p o (Err q) (Ok (over, inner w)) f g is too
+  explicit_by_der octets (Err q) (Ok (tail, w)) (inr (p, rest, f, is)) (o, g, too) =
+      in_one_element octets rest tail p o (Err q) (Ok (inner w)) f g is too
   explicit_by_der octets (Err q) (Err r) (inl (fault, why, told)) (inl (other, also, said)) =
       inl (ap named (converted_same (refusal_of der_breach fault) q told ∙ ap (refusal_of der_breach)
       (der_elements.alone octets fault other why also) ∙ sym (converted_same (refusal_of der_breach other) r said)))

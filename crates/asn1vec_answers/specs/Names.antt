@@ -28,6 +28,9 @@ name_of_constraint constraints.InvalidBoolean = codes "InvalidBoolean"
 name_of_constraint constraints.IntegerEmpty = codes "IntegerEmpty"
 name_of_constraint constraints.IntegerLeadingZeroes = codes "IntegerLeadingZeroes"
 name_of_constraint constraints.IntegerLeadingFF = codes "IntegerLeadingFF"
+name_of_constraint constraints.TagNotShortest = codes "TagNotShortest"
+name_of_constraint constraints.LengthNotShortest = codes "LengthNotShortest"
+name_of_constraint constraints.TrailingOctets = codes "TrailingOctets"
 
 -- an error without its parts
 abbrev pub word_of_error : Error → List ℕ

@@ -33,6 +33,9 @@ fn constraint_name(constraint: DerConstraint) -> &'static str
         DerConstraint::IntegerEmpty => "IntegerEmpty",
         DerConstraint::IntegerLeadingZeroes => "IntegerLeadingZeroes",
         DerConstraint::IntegerLeadingFF => "IntegerLeadingFF",
+        DerConstraint::TagNotShortest => "TagNotShortest",
+        DerConstraint::LengthNotShortest => "LengthNotShortest",
+        DerConstraint::TrailingOctets => "TrailingOctets",
     }
 }
 

@@ -9,7 +9,6 @@ ber any 0000 = ok 0.p.0.- rest - enc 0000
 ber any 020102ffff = ok 0.p.2.02 rest ffff enc 020102
 ber any 0101ff = ok 0.p.1.ff rest - enc 0101ff
 ber any 8f021234 = ok 2.p.15.1234 rest - enc 8f021234
-ber any 9f0f021234 = ok 2.p.15.1234 rest - enc 8f021234
 ber any 9fa2220100 = ok 2.p.4386.00 rest - enc 9fa2220100
 ber any 1f8fffffff7f00 = ok 0.p.4294967295.- rest - enc 1f8fffffff7f00
 ber any 308080000000 = ok 0.c.16.8000 rest - enc 30028000
@@ -18,7 +17,7 @@ ber any 308002030100010000 = ok 0.c.16.0203010001 rest - enc 30050203010001
 ber any 49*3080+49*0000 = ok 0.c.16.+48*3080+48*0000 rest - enc 3081c0+48*3080+48*0000
 der any 020102ffff = ok 0.p.2.02 rest ffff enc 020102
 der any 0101ff = ok 0.p.1.ff rest - enc 0101ff
-der any 9f0f021234 = ok 2.p.15.1234 rest - enc 8f021234
+der any 8f021234 = ok 2.p.15.1234 rest - enc 8f021234
 der any 1f8fffffff7f00 = ok 0.p.4294967295.- rest - enc 1f8fffffff7f00
 der any a20743054a6f6e6573 = ok 2.c.2.43054a6f6e6573 rest - enc a20743054a6f6e6573
 ";

@@ -18,6 +18,8 @@ mod pdvs;
 #[cfg(test)]
 mod runs;
 #[cfg(test)]
+mod shortest;
+#[cfg(test)]
 mod strings;
 #[cfg(test)]
 mod tags;

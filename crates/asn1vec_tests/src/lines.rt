@@ -11,7 +11,7 @@ use test_rows::assert_texts;
 /// A line, and its answer. Values by X.690 8.3.
 const LINES: &str = "\
 der u64 0203010001 = ok 65537 rest - enc 0203010001
-der u64 0281010500 = ok 5 rest 00 enc 020105
+der u64 02010500 = ok 5 rest 00 enc 020105
 der u64 0203010A01 = ok 68097 rest - enc 0203010a01
 der u8 820105 = ok 5 rest - enc 020105
 der u8 0201020AFf = ok 2 rest 0aff enc 020102

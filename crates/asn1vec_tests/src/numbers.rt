@@ -8,7 +8,6 @@ const NUMBERS: &str = "\
 ber u64 020105 = ok 5 rest - enc 020105
 ber u8 0289ff = err Incomplete(8)
 ber u8 0289010000000000000000 = err InvalidLength
-ber u8 028900000000000000000105 = ok 5 rest - enc 020105
 der u8 020100 = ok 0 rest - enc 020100
 der u8 02017f = ok 127 rest - enc 02017f
 der u8 02020080 = ok 128 rest - enc 02020080

@@ -1,12 +1,12 @@
 //! How runs over lines are asserted, and a reader that gives little at a time and fails.
 
-use asn1_rs::Told;
+use asn1_rs::{Any, FromDer, ToDer, Told};
 use asn1vec_engine::{RunError, run};
 use std::alloc::Global;
 use std::io;
 use std::io::{ErrorKind, Read};
 use std::test::Fail;
-use test_rows::{Narrow, sides, written_out};
+use test_rows::{Narrow, octets_of, sides, written_out};
 
 /// A reader that gives so many octets a call at most, and at its end fails so, or says that it ended.
 #[derive(Drop)]
@@ -108,9 +108,30 @@ fn line_of(alloc: Global, words: &str) -> Result<String, Fail> {
     Ok(line)
 }
 
-/// Asserts that a line is answered as its row says.
+/// Asserts of the octets of a line, its last word, that an element that is read of them by DER is written as it stood:
+/// it is its strict encoding (X.690 10.1).
+fn assert_strict(alloc: Global, line: &str) -> Result<(), Fail> {
+    let line = written_out(alloc, line)?;
+    let Some((_, digits)) = line.as_str().rsplit_once(' ') else {
+        return Ok(());
+    };
+    let Ok(octets) = octets_of(alloc, digits) else {
+        return Ok(());
+    };
+    let Ok((rest, any)) = Any::from_der(alloc, octets.as_slice()) else {
+        return Ok(());
+    };
+    let written = any.to_der_vec(alloc)?;
+    if octets.strip_prefix(written.as_slice()) == Some(rest) {
+        return Ok(());
+    }
+    Err(Fail::new(format_args!("{line}: it is written as {written:?}")))
+}
+
+/// Asserts that a line is answered as its row says, and that what `Any` reads of its octets by DER is strict.
 fn assert_line(alloc: Global, row: &str) -> Result<(), Fail> {
     let (line, answer) = sides(row)?;
+    assert_strict(alloc, line)?;
     let line = line_of(alloc, line)?;
     let answer = line_of(alloc, answer)?;
     let input = SmallReads::new(line.as_bytes(), 4096, None);

@@ -5,8 +5,7 @@ use std::test::Fail;
 
 /// Values under an explicit tag, and lists of them: they are shown as without the tag. Values by X.690 8.14.2.
 const EXPLICIT: &str = "\
-der explicit0.u32 a005020102ffff = ok 2 rest - enc a003020102
-der explicit0.u32 a0020205 = err Incomplete(5)
+der explicit0.u32 a003020102ffff = ok 2 rest ffff enc a003020102
 ber explicit0.u32 a0020205 = err Error.Incomplete(5)
 der explicit0.u32 8103020102 = err UnexpectedTag
 der explicit0.u32 4003020102 = err ConstructExpected
@@ -39,7 +38,6 @@ fn explicit_tags_are_answered(rt: HostRuntime) -> Result<(), Fail> {
 
 /// Lists under an implicit tag, the items of which are read by BER, by either rule. Values by X.690 8.14.3.
 const IMPLICIT: &str = "\
-der implicit1.vec.u16 a10402020005 = ok [5] rest - enc a103020105
 ber implicit1.vec.u16 a10402020005 = ok [5] rest - enc a103020105
 der implicit1.vec.u16 8103020105 = err ConstructExpected
 der implicit1.vec.u16 a1020205 = err Error.Incomplete(5)
@@ -63,7 +61,6 @@ fn implicit_tags_are_answered(rt: HostRuntime) -> Result<(), Fail> {
 /// Optional values: none where no octets or a header of another tag number are at the front.
 /// Values by X.690 8.9.3.
 const OPTIONAL: &str = "\
-der opt.u8 0400 = ok none rest 0400 enc -
 der opt.u8 - = ok none rest - enc -
 der opt.u8 020107 = ok some 7 rest - enc 020107
 der opt.u8 820105 = ok some 5 rest - enc 020105

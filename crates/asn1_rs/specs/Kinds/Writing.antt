@@ -61,14 +61,21 @@ abbrev pub OwnWritten : Bool → (Error → Type 0) → SerializeError → Type 
 OwnWritten false own e = ⊥
 OwnWritten true own e = WrittenRefusal own e
 
+-- the refusal as which each of the value's own comes out, where it is refused
+abbrev pub OwnFirst : Bool → (Error → Type 0) → SerializeError → Type 0
+OwnFirst false own e = ⊥
+OwnFirst true own e = (f : Error) → own f → e ≡ written_refusal f
+
 -- An element of the universal class, with this number and these contents octets. Beside its writer and its length
--- nothing refuses a value, but those that are refused for what they are, with a refusal of their own.
+-- nothing refuses a value, but those that are refused for what they are, with a refusal of their own. Where that is one
+-- and the same, it comes before all else.
 abbrev pub universal_writing : {S : Type 0} → ℕ → (S → List ℕ) → (S → Bool) → (S → Error → Type 0) → Writing S
 universal_writing number octets is_refused refusal =
     record (plain_writing (λ x. universal_header number (octets x)) octets (λ x. is_container_number number)) {
       count_refuses = λ x. OwnRefusal (is_refused x) (refusal x);
       header_refuses = λ x. OwnWritten (is_refused x) (refusal x);
       content_refuses = λ x. OwnWritten (is_refused x) (refusal x);
+      refuses_first = λ x. OwnFirst (is_refused x) (refusal x);
     }
 
 -- lists of items that are written as `item` says: a constructed element with this number, of the items in their order

@@ -14,7 +14,6 @@ use Rattle.x690.specs.Arcs.{AreComplete, arcs_of}
 use Rattle.x690.specs.Laws.Arcs.Beginnings.{arcs_begin}
 use Rattle.x690.specs.Octets.{BeginsWith, IsOctets}
 use Rattle.x690.specs.Identifiers.{Identifier}
-use Rattle.x690.specs.Elements.{Parts}
 use Rattle.x690.specs.Strict.{header_octets}
 use Rattle.asn1_headers.specs.declared.error.Error.{Error}
 use Rattle.asn1_rs.specs.declared.asn1_types.any.Any.{Any}

@@ -3,22 +3,31 @@ pub mod Explicit
 pub mod Headed
 pub mod Implicit
 pub mod Parser
-use Rattle.std.specs.Prelude.{◌≡◌, ℕ, ◌<◌, ◌^◌, Bool, true, false, IsTrue, ◌&&◌, ◌↔◌, Option, Some, None, Err}
-use Rattle.std.proofs.Common.{arith, ◌∙◌, ap, sym, subst, refl, inl, inr, List}
+use Rattle.std.specs.Prelude.{◌≡◌, ◌⊎◌, ℕ, ◌<◌, ◌^◌, Bool, true, false, IsTrue, ◌&&◌, ◌↔◌, Option, Some, None}
+use Rattle.std.specs.Prelude.{[], ◌++◌, Result, Ok, Err, IfErr}
+use Rattle.std.proofs.Common.{arith, ◌∙◌, ap, sym, subst, refl, inl, inr, List, append-nil}
+use Rattle.std.proofs.lemmas.List.{append_cancel_left}
+use Rattle.x690.specs.Octets.{IsOctets}
 use Rattle.x690.specs.Identifiers.{Identifier}
 use Rattle.x690.specs.Elements.{Parts}
+use Rattle.x690.specs.Joined.{IsOneFront}
 use Rattle.asn1_headers.specs.declared.class.Class.{Class}
 use Rattle.asn1_headers.specs.declared.class.Class.TheVariants.{Universal, Application, ContextSpecific, Private}
+use Rattle.asn1_headers.specs.declared.error.DerConstraint.TheVariants.{TrailingOctets}
+use Rattle.asn1_headers.specs.declared.error.Err.{Err as Refusal}
 use Rattle.asn1_headers.specs.declared.error.Error.{Error}
+use Rattle.asn1_headers.specs.declared.error.Error.TheVariants.{DerConstraintFailed}
 use Rattle.asn1_headers.specs.declared.error.SerializeError.{SerializeError}
-use Rattle.asn1_headers.specs.Answers.{IsOther}
+use Rattle.asn1_headers.specs.Answers.{Exactly, Front, IsOther, TellsMemory}
 use Rattle.asn1_headers.specs.Class.{class_number}
+use Rattle.asn1_headers.specs.Error.{HeldIn}
 use Rattle.asn1_rs.specs.Checks.{CheckGives, IsCheck}
 use Rattle.asn1_rs.specs.Grammar.{made, of_class}
-use Rattle.asn1_rs.specs.Tagged.{has_class, IsClassOf, number_of}
+use Rattle.asn1_rs.specs.Tagged.{has_class, IsClassOf, ReadsWhole, number_of}
 use Rattle.asn1_rs.specs.ToDer.{HasNone, WrittenRefusal}
 use Rattle.asn1_rs.specs.Tagged.Writing.{UnderClass}
 use Rattle.asn1_rs.specs.Laws.Forms.{behind_header}
+use Rattle.asn1_rs.specs.Laws.Readers.{none_now}
 
 -- Classes.
 
@@ -89,6 +98,57 @@ under_tag class count_refuses own few n o = (
   of_class_none class (WrittenRefusal count_refuses) few (behind_header count_refuses n),
   of_class_none class own few o,
 )
+
+-- Values that are all of the octets.
+
+module _ {V : Type 0} (G : List ℕ → V → Type 0) where
+  -- A word begins itself, and nothing is left.
+  pub whole_front : (o : List ℕ) (v : V) → G o v → Front G o v []
+  whole_front o v w = record { word = o; fits = w; is = sym (append-nil o) }
+
+  -- A word that begins the octets, and leaves nothing, is all of them.
+  pub front_whole : (o rest : List ℕ) (v : V) → Front G o v rest → rest ≡ [] → G o v
+  front_whole o rest v f none =
+      let e : o ≡ f.word = f.is ∙ ap (λ (r : List ℕ). f.word ++ r) none ∙ append-nil f.word in
+      subst (λ (w : List ℕ). G w v) (sym e) f.fits
+
+  -- Where one word alone begins an input, one that begins another leaves nothing of it.
+  pub none_left : IsOneFront G → (o rest : List ℕ) (v w : V) → Front G o v rest → G o w → rest ≡ []
+  none_left one o rest v w f h =
+      let same : (o ≡ f.word) × (w ≡ v) = one.one o f.word [] rest w v h f.fits (append-nil o ∙ f.is) in
+      append_cancel_left f.word rest [] (sym f.is ∙ same.0 ∙ sym (append-nil f.word))
+
+module _ {T V E : Type 0} (reads : List ℕ → Result (List ℕ × T) (Refusal E) → Type 0) (from : Error → E → Type 0)
+    (G : List ℕ → V → Type 0) (value : T → V) (allocates : Bool) (IsCut : List ℕ → Type 0)
+    (exact : (octets : List ℕ) (answer : Result (List ℕ × T) (Refusal E)) → IsOctets octets → reads octets answer →
+    Exactly IsCut G value (TellsMemory allocates from) octets answer) where
+  -- What is read so is a word, with this value.
+  pub whole_is : (octets : List ℕ) (x : T) → IsOctets octets → ReadsWhole reads from octets (Ok x) → G octets (value x)
+  whole_is octets x o (Ok y, g, (none, is)) = subst (λ (t : T). G octets (value t)) (sym is)
+      (front_whole G octets y.0 (value y.1) (exact octets (Ok y) o g) none)
+  whole_is octets x o (Err r, g, none) = absurd none
+
+  -- What is refused so is no word, except when out of memory.
+  pub whole_refused : IsOneFront G → (octets : List ℕ) (r : Refusal E) → IsOctets octets →
+      ReadsWhole reads from octets (Err r) → TellsMemory allocates from r ⊎ ((v : V) → G octets v → ⊥)
+  whole_refused one octets r o (Ok y, g, (some, told)) =
+      inr (λ v w. some (none_left G one octets y.0 (value y.1) v (exact octets (Ok y) o g) w))
+  whole_refused one octets r o (Err own, g, is) =
+      elim (exact octets (Err own) o g) [
+        | inl m ↦ inl (subst (TellsMemory allocates from) (sym is) m)
+        | inr n ↦ inr (λ v w. none_now (IsCut octets) own G octets n octets [] v (sym (append-nil octets)) w)
+      ]
+
+-- Where the reader does not report out of memory, neither does what is read so.
+pub whole_no_memory : {T E : Type 0} (reads : List ℕ → Result (List ℕ × T) (Refusal E) → Type 0)
+    (from : Error → E → Type 0) →
+    ((octets : List ℕ) (answer : Result (List ℕ × T) (Refusal E)) → reads octets answer →
+    IfErr answer (HeldIn (IsOther from))) →
+    (octets : List ℕ) (r : Refusal E) → ReadsWhole reads from octets (Err r) → HeldIn (IsOther from) r
+whole_no_memory reads from asks_no_memory octets r (Ok y, g, (some, (e, made, is))) =
+    subst (HeldIn (IsOther from)) (sym is) (inl (DerConstraintFailed TrailingOctets, λ q. cc, made))
+whole_no_memory reads from asks_no_memory octets r (Err own, g, is) =
+    subst (HeldIn (IsOther from)) (sym is) (asks_no_memory octets (Err own) g)
 
 -- Refusals, and equality.
 

@@ -1,13 +1,15 @@
 -- Values under an explicit tag: a constructed element of its own,
 -- whose contents octets hold the value's (X.690 8.14.2).
-use Rattle.std.specs.Prelude.{◌≡◌, ◌⊎◌, ℕ, ◌<◌, ◌^◌, true, List, Result, Ok, Err}
+use Rattle.std.specs.Prelude.{◌≡◌, ◌≢◌, ◌⊎◌, ℕ, ◌<◌, ◌^◌, true, List, [], Result, Ok, Err}
 use Rattle.x690.specs.Identifiers.{Identifier}
 use Rattle.x690.specs.Elements.{Parts, IsDerElement}
 use Rattle.x690.specs.Faults.{Fault, DerElementFault}
 use Rattle.x690.specs.Nested.{IsElement}
 use Rattle.asn1_headers.specs.declared.error.Err.{Err as Refusal}
 use Rattle.asn1_headers.specs.declared.error.Err.TheVariants.{Error as refused}
+use Rattle.asn1_headers.specs.declared.error.DerConstraint.TheVariants.{TrailingOctets}
 use Rattle.asn1_headers.specs.declared.error.Error.{Error}
+use Rattle.asn1_headers.specs.declared.error.Error.TheVariants.{DerConstraintFailed}
 use Rattle.asn1_rs.specs.declared.asn1_types.any.Any.{Any}
 use Rattle.asn1_rs.specs.Any.{parts_of}
 use Rattle.asn1_headers.specs.Answers.{Front}
@@ -18,7 +20,7 @@ use Rattle.asn1_rs.specs.Grammar.{DerWord, NoCheck}
 use Rattle.asn1_rs.specs.Grammar.Form.{IsStrict}
 use Rattle.asn1_rs.specs.Grammar.Item.{ItemGrammar, ber_words}
 use Rattle.asn1_headers.specs.Header.Reading.{der_refusal}
-use Rattle.asn1_rs.specs.Tagged.{has_class}
+use Rattle.asn1_rs.specs.Tagged.{ReadsWhole, has_class}
 
 -- the tag number, the constructed bit, the class, in this order
 abbrev pub tag_checks : ℕ → ℕ → CheckGives
@@ -30,12 +32,16 @@ pub record ExplicitBody {V : Type 0} (class number : ℕ) (G : List ℕ → V �
   pub rest : List ℕ
   pub inner : Front G p.content v rest
 
--- An element of definite length whose contents octets begin with an element, by that rule, that meets the constraints.
+-- An element under the tag, whose contents octets are a word of the value and nothing else.
+pub record ExplicitWhole {V : Type 0} (class number : ℕ) (G : List ℕ → V → Type 0) (p : Parts) (v : V) : Type 0 where
+  pub tag : tag_checks class number p (Ok tt)
+  pub inner : G p.content v
+
+-- An element of definite length whose contents octets are one element, by that rule, that meets the constraints.
 pub record ExplicitCheck (ElementOf : List ℕ → Parts → Type 0) (Check : Parts → Type 0) (p : Parts) : Type 0 where
   pub counted : IsCounted p
   pub parts : Parts
-  pub rest : List ℕ
-  pub inner : Front ElementOf p.content parts rest
+  pub inner : ElementOf p.content parts
   pub checked : Check parts
 
 -- the identifier of the tag
@@ -51,16 +57,16 @@ pub record ExplicitForm {V : Type 0} (class number : ℕ) (Form : V → Identifi
   pub id_is : i ≡ explicit_identifier class number
   pub inner : IsStrict Form v c
 
--- Words by BER are elements by BER with this body, words by DER the elements of definite length with it; a value is in
--- DER form where the class is one of the four, the number one that an element can have, as each `u32` is, and the value
--- within in DER form.
+-- By BER the contents octets of an element begin with a word of the value; what follows it there is not looked at. By
+-- DER the length is definite, and the contents octets are a word of the value. A value is in DER form where the class
+-- is one of the four, the number one that an element can have, as each `u32` is, and the value within in DER form.
 abbrev pub explicit_grammar : {S T : Type 0} → ℕ → ℕ → (T → S) → ItemGrammar S → ItemGrammar T
 explicit_grammar class number inner G = record {
   Value = G.Value;
   value = λ t. G.value (inner t);
   IsValue = G.IsValue;
   IsDer = λ v. (class < 4) × (number < 2 ^ 32) × G.IsDer v;
-  Der = DerWord NoCheck (ExplicitBody class number G.Der);
+  Der = DerWord NoCheck (ExplicitWhole class number G.Der);
   Body = ExplicitBody class number (ber_words G);
   Check = ExplicitCheck (IsElement max_depth) G.Check;
   Form = ExplicitForm class number G.Form;
@@ -83,30 +89,39 @@ ExplicitTakes {T} {W} {E} class number inner reads from p (Err e) =
     (tag_checks class number p (Ok tt) ×
     ((r : Refusal E) × reads p.content (Err r) × FlattenedTo (λ x y. y ≡ x) from r e))
 
--- what reading the value in an element may answer, by DER: the value's own answer, or the refusal of the tag
+-- what reading the value in an element may answer, by DER: the value that its contents octets are; or the refusal of
+-- the tag, the value's own, or that of the octets that are left
 abbrev pub ExplicitReads : {T E : Type 0} → ℕ → ℕ → (List ℕ → Result (List ℕ × T) (Refusal E) → Type 0) →
-    (Error → E → Type 0) → Parts → Result (List ℕ × T) (Refusal E) → Type 0
-ExplicitReads class number reads from p (Ok x) = tag_checks class number p (Ok tt) × reads p.content (Ok x)
+    (Error → E → Type 0) → Parts → Result T (Refusal E) → Type 0
+ExplicitReads class number reads from p (Ok x) =
+    tag_checks class number p (Ok tt) × ReadsWhole reads from p.content (Ok x)
 ExplicitReads {T} {E} class number reads from p (Err r) =
     ((refusal : Error) × tag_checks class number p (Err refusal) × ((e : E) × from refusal e × (r ≡ refused e))) ⊎
-    (tag_checks class number p (Ok tt) × reads p.content (Err r))
+    (tag_checks class number p (Ok tt) × ReadsWhole reads from p.content (Err r))
 
 -- what the reader by DER may answer: the refusal of the element's first fault, or what reading the value in it answers
 abbrev pub ExplicitGives : {T W E : Type 0} → ℕ → ℕ → (W → T) → (List ℕ → Result (List ℕ × T) (Refusal E) → Type 0) →
     (Error → E → Type 0) → List ℕ → Result (List ℕ × W) (Refusal E) → Type 0
-ExplicitGives class number inner reads from input (Ok x) = (p : Parts) × Front IsDerElement input p x.0 ×
-    ((left : List ℕ) × ExplicitReads class number reads from p (Ok (left, inner x.1)))
+ExplicitGives class number inner reads from input (Ok x) =
+    (p : Parts) × Front IsDerElement input p x.0 × ExplicitReads class number reads from p (Ok (inner x.1))
 ExplicitGives class number inner reads from input (Err r) =
     ((fault : Fault) × DerElementFault input fault × Converted from (der_refusal fault) r) ⊎ ((p : Parts) ×
     (rest : List ℕ) × Front IsDerElement input p rest × ExplicitReads class number reads from p (Err r))
 
--- what checking the first element in the contents octets may answer, by the reader of elements that gives these answers
+-- What checking the element that was read may answer, where it is to be all of the octets: the check's answer, and
+-- after that the refusal of what is left; or the refusal of the reading.
+abbrev pub ChecksWhole : CheckGives → Result (List ℕ × Any) (Refusal Error) → Result (Unit {0}) Error → Type 0
+ChecksWhole check (Ok x) (Ok u) = check (parts_of x.1) (Ok tt) × (x.0 ≡ [])
+ChecksWhole check (Ok x) (Err e) = check (parts_of x.1) (Err e) ⊎
+    (check (parts_of x.1) (Ok tt) × (x.0 ≢ []) × (e ≡ DerConstraintFailed TrailingOctets))
+ChecksWhole check (Err r) (Ok u) = ⊥
+ChecksWhole check (Err r) (Err e) = FlattenedTo (λ x y. y ≡ x) (λ x y. y ≡ x) r e
+
+-- what checking the element that the contents octets are to be may answer, by the reader of elements that gives these
+-- answers
 abbrev pub InnerChecked : (List ℕ → Result (List ℕ × Any) (Refusal Error) → Type 0) → CheckGives → CheckGives
-InnerChecked reads check p (Ok x) =
-    (any : Any) × (rest : List ℕ) × reads p.content (Ok (rest, any)) × check (parts_of any) (Ok tt)
-InnerChecked reads check p (Err e) =
-    ((r : Refusal Error) × reads p.content (Err r) × FlattenedTo (λ x y. y ≡ x) (λ x y. y ≡ x) r e) ⊎
-    ((any : Any) × (rest : List ℕ) × reads p.content (Ok (rest, any)) × check (parts_of any) (Err e))
+InnerChecked reads check p result =
+    (answer : Result (List ℕ × Any) (Refusal Error)) × reads p.content answer × ChecksWhole check answer result
 
 -- what the check of an element under the tag may answer
 abbrev pub ExplicitCheckGives : (List ℕ → Result (List ℕ × Any) (Refusal Error) → Type 0) → CheckGives → CheckGives

@@ -24,20 +24,26 @@ pub record HeadedBody {V : Type 0} (G : List ℕ → V → Type 0) (p : Parts) (
   pub rest : List ℕ
   pub inner : Front G p.content v.1 rest
 
+-- An element of this identifier, whatever it is, whose contents octets are a word of the value and nothing else.
+pub record HeadedWhole {V : Type 0} (G : List ℕ → V → Type 0) (p : Parts) (v : Identifier × V) : Type 0 where
+  pub id : v.0 ≡ p.id
+  pub inner : G p.content v.1
+
 -- the strict parts of the value under the explicit tag of that class and number, where the identifier is theirs
 abbrev pub HeadedForm : {V : Type 0} → (V → Identifier → List ℕ → Type 0) → Identifier × V → Identifier →
     List ℕ → Type 0
 HeadedForm Form v i c = (v.0 ≡ i) × ExplicitForm (v.0).class (v.0).number Form v.1 i c
 
--- Words by BER are elements by BER with this body, words by DER the elements of definite length with it. A value is in
--- DER form where its header is constructed, and the value within in DER form.
+-- By BER the contents octets of an element begin with a word of the value; what follows it there is not looked at. By
+-- DER the length is definite, and the contents octets are a word of the value. A value is in DER form where its header
+-- is constructed, and the value within in DER form.
 abbrev pub explicit_headed : {S T : Type 0} → (T → Identifier) → (T → S) → ItemGrammar S → ItemGrammar T
 explicit_headed identifier inner G = record {
   Value = Identifier × G.Value;
   value = headed_value identifier inner G.value;
   IsValue = λ v. IsBorne v.0 × G.IsValue v.1;
   IsDer = λ v. IsBorne v.0 × ((v.0).constructed ≡ true) × G.IsDer v.1;
-  Der = DerWord NoCheck (HeadedBody G.Der);
+  Der = DerWord NoCheck (HeadedWhole G.Der);
   Body = HeadedBody (ber_words G);
   Check = ExplicitCheck IsDerElement G.Check;
   Form = HeadedForm G.Form;

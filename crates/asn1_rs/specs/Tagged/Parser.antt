@@ -12,7 +12,7 @@ use Rattle.asn1_headers.specs.declared.error.Err.{Err as Refusal}
 use Rattle.asn1_headers.specs.declared.error.Err.TheVariants.{Error as refused}
 use Rattle.asn1_rs.specs.Any.{parts_of}
 use Rattle.asn1_headers.specs.Header.{class_of, is_constructed_of, tag_of, length_of, raw_tag_of, HasParts}
-use Rattle.asn1_rs.specs.Tagged.{OfElement}
+use Rattle.asn1_rs.specs.Tagged.{OfElement, ReadsWhole}
 
 -- the header that the value was read under
 abbrev pub parser_header : {K T E : Type 0} → TaggedParser K T E → Header
@@ -28,15 +28,23 @@ pub record IsUnder (tag : Tag) (any other : Any) : Type 0 where
       (raw_tag_of any.header)
   pub content : other.content.now ≡ any.content.now
 
--- What reading a value in the contents octets of an element may answer: the value with the element's header, or the
--- value's own refusal. What follows the value there is dropped, and the rest is the element's. The header is not looked
--- at.
+-- What reading a value by BER in the contents octets of an element may answer: the value with the element's header, or
+-- the value's own refusal. What follows the value there is dropped, and the rest is the element's. The header is not
+-- looked at.
 abbrev pub TakesExplicit : {K T E : Type 0} → (List ℕ → Result (List ℕ × T) (Refusal E) → Type 0) →
     OfElement (Result (List ℕ × TaggedParser K T E) (Refusal E))
 TakesExplicit reads any rest (Ok x) =
     (x.0 ≡ rest) × (parser_header x.1 ≡ any.header) ×
     ((left : List ℕ) × reads any.content.now (Ok (left, inner_of x.1)))
 TakesExplicit reads any rest (Err r) = reads any.content.now (Err r)
+
+-- By DER the contents octets are the value's and nothing else: what is left there is refused, after the value's own
+-- refusals.
+abbrev pub TakesWhole : {K T E : Type 0} → (List ℕ → Result (List ℕ × T) (Refusal E) → Type 0) →
+    (Error → E → Type 0) → OfElement (Result (List ℕ × TaggedParser K T E) (Refusal E))
+TakesWhole reads from any rest (Ok x) = (x.0 ≡ rest) × (parser_header x.1 ≡ any.header) ×
+    ReadsWhole reads from any.content.now (Ok (inner_of x.1))
+TakesWhole reads from any rest (Err r) = ReadsWhole reads from any.content.now (Err r)
 
 -- what checking an element and then converting it may answer:
 -- its value, or the refusal of the check, or that of the conversion

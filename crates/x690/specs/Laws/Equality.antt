@@ -7,7 +7,7 @@ use Rattle.x690.specs.Identifiers.{Identifier, Identifier-set}
 use Rattle.x690.specs.declared.times.Moment.{Moment}
 use Rattle.x690.specs.declared.times.TimeZone.{TimeZone}
 use Rattle.x690.specs.declared.times.TimeZone.TheVariants.{Undefined, Z, Offset}
-use mathlib.Core.HLevel.{collapsible→set, prop→set, Unit-prop}
+use mathlib.Core.HLevel.{collapsible→set, prop→set, Unit-prop, Σ_set}
 use mathlib.Core.List.{is_set}
 use mathlib.Core.Quot.{Quot-set}
 use native.Mathlib.Nat.{ℕ_set}
@@ -88,45 +88,37 @@ zone_back (Offset h m) = refl
 pub zone_set : IsSet TimeZone
 zone_set = retract_set to_zone from_zone zone_back (Zone-set ℤ_set)
 
--- a time, written anew
-record Fields : Type 0 where
-  year : ℕ
-  month : ℕ
-  day : ℕ
-  hour : ℕ
-  minute : ℕ
-  second : ℕ
-  millisecond : Option ℕ
-  zone : TimeZone
-  deriving IsSet as Fields-set
+-- pairs of what are
+pair_set : {A B : Type 0} → IsSet A → IsSet B → IsSet (A × B)
+pair_set firsts seconds = Σ_set firsts (λ _. seconds)
 
-abbrev to_fields : Moment → Fields
-to_fields m = record {
-  year = m.year;
-  month = m.month;
-  day = m.day;
-  hour = m.hour;
-  minute = m.minute;
-  second = m.second;
-  millisecond = m.millisecond;
-  zone = m.zone;
+-- the fields of a time, in pairs: the date, the time of day, and the fraction with the zone
+abbrev Fields : Type 0
+Fields = (ℕ × (ℕ × ℕ)) × ((ℕ × (ℕ × ℕ)) × (Option ℕ × TimeZone))
+
+abbrev fields : Moment → Fields
+fields m = ((m.year, (m.month, m.day)), ((m.hour, (m.minute, m.second)), (m.millisecond, m.zone)))
+
+abbrev of_fields : Fields → Moment
+of_fields ((year, (month, day)), ((hour, (minute, second)), (millisecond, zone))) = record {
+  year = year;
+  month = month;
+  day = day;
+  hour = hour;
+  minute = minute;
+  second = second;
+  millisecond = millisecond;
+  zone = zone;
 }
 
-abbrev from_fields : Fields → Moment
-from_fields m = record {
-  year = m.year;
-  month = m.month;
-  day = m.day;
-  hour = m.hour;
-  minute = m.minute;
-  second = m.second;
-  millisecond = m.millisecond;
-  zone = m.zone;
-}
+fields_set : IsSet Fields
+fields_set =
+    let numbers = pair_set ℕ_set (pair_set ℕ_set ℕ_set) in
+    pair_set numbers (pair_set numbers (pair_set (option_set ℕ_set) zone_set))
 
 -- Times are.
 pub moment_set : IsSet Moment
-moment_set = retract_set to_fields from_fields (λ m. refl) (Fields-set ℕ_set (option_set ℕ_set) zone_set)
+moment_set = retract_set fields of_fields (λ m. refl) fields_set
 
 -- Identifiers are.
 pub identifier_set : IsSet Identifier

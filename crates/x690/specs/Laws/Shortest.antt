@@ -128,7 +128,7 @@ no_spare first octet n octets s h o e z =
     let none : octet * 256 ^ length octets ≡ 0 * 256 ^ length octets = ap (λ (k : ℕ). k * 256 ^ length octets) z in
     let v : base_256_value octets ≡ n = omega (arith, none, e) in
     let few = digits_few n (length octets) (subst (λ (k : ℕ). k < 256 ^ length octets) v
-        (value_lt octets (λ k. o (suc k)))) in
+    (value_lt octets (λ k. o (suc k)))) in
     omega (arith, w, few, length_octets_count_high n h)
 
 -- The test takes these.

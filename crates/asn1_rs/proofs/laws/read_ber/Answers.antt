@@ -7,7 +7,8 @@ use Rattle.asn1_rs.specs.Grammar.Item.{ber_words}
 
 pub returns-clause-back : goal.returns-clause-back
 returns-clause-back g c = λ v w rest s e.
-    read_back EndsWithin g.T.Grammar.grammar.Form (ber_words g.T.Grammar.grammar) g.T.Grammar.grammar.value _ g.met.T.LawfulItem.lawful_item.one_equality
+    read_back EndsWithin g.T.Grammar.grammar.Form (ber_words g.T.Grammar.grammar) g.T.Grammar.grammar.value _
+    g.met.T.LawfulItem.lawful_item.one_equality
     (strict_ber g.T.Grammar.grammar g.met.T.LawfulItem.lawful_item)
     (ber_one g.T.Grammar.grammar g.met.T.LawfulItem.lawful_item) c.args.input.now (seen c.from_ber.result)
     ((g.met.T.LawfulBer c.lifetimes (search rules)).ber_exact c.args.input.now (seen c.from_ber.result)

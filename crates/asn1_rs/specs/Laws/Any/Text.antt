@@ -9,7 +9,7 @@ use Rattle.asn1_headers.specs.declared.error.Error.{Error}
 use Rattle.asn1_headers.specs.declared.error.Error.TheVariants.{OutOfMemory, StringInvalidCharset}
 use Rattle.asn1_rs.specs.Any.Text.{GivesAnyText, LendsAnyText, has_utf8_number, is_utf8_number, utf8_checks}
 use Rattle.asn1_rs.specs.Any.Text.{universal_text_leaf}
-use Rattle.asn1_rs.specs.Checks.{◌before◌, IsCheck, content_check, has_number}
+use Rattle.asn1_rs.specs.Checks.{IsCheck, content_check, has_number}
 use Rattle.asn1_rs.specs.CodedStrings.{IsCoded}
 use Rattle.asn1_rs.specs.Leaf.{HasOneRefusalUpTo, LeafGives, LeafTakes, leaf_checks}
 use Rattle.asn1_rs.specs.Laws.Checks.{before_is, check_is, content_check_is, has_number_is, one_refusal_of_checks}

@@ -1,6 +1,6 @@
 -- Laws of values under an explicit tag.
 use Rattle.std.specs.Prelude.{◌≡◌, ◌≢◌, ℕ, ◌<◌, ◌^◌, Bool, true, List, [], ◌++◌, length, Result, Ok, Err, IfErr}
-use Rattle.std.proofs.Common.{arith, ◌∙◌, ap, sym, subst, refl, inl, inr, append-nil}
+use Rattle.std.proofs.Common.{arith, ◌∙◌, ap, sym, subst, refl, inl, inr}
 use mathlib.Core.Logic.{∥∥₁_map}
 use Rattle.x690.specs.Octets.{IsOctets}
 use Rattle.x690.specs.Identifiers.{Identifier, IsCutIdentifier}
@@ -34,11 +34,13 @@ use Rattle.asn1_rs.specs.Laws.Checks.{before_is, has_number_is, is_constructed_i
 use Rattle.asn1_rs.specs.Laws.Forms.{strict_written, both_by_value, whole_writable}
 use Rattle.asn1_rs.specs.Laws.Readers.{AreElements, none_now, front_more, speaks_fault, fault_no_memory, speaks_now}
 use Rattle.asn1_rs.specs.Laws.Readers.{converts_itself, der_breach_no_memory, der_elements}
-use Rattle.asn1_rs.specs.Laws.Tagged.{has_class_is, number_is, own_class, check_no_memory, under_tag}
+use Rattle.asn1_rs.specs.Laws.Tagged.{has_class_is, number_is, own_class, check_no_memory, under_tag, whole_front}
+use Rattle.asn1_rs.specs.Laws.Tagged.{front_whole, none_left, whole_is, whole_refused, whole_no_memory}
 use Rattle.asn1_rs.specs.Laws.Words.{word_one, strict_element, one_strict, strict_apart, strict_der_word, ber_one}
 use Rattle.asn1_rs.specs.Laws.Words.{ber_values, strict_ber}
 use Rattle.asn1_rs.specs.Tagged.{has_class, number_of}
 use Rattle.asn1_rs.specs.Tagged.Explicit.{ExplicitBody, ExplicitCheck, ExplicitForm, ExplicitTakes, ExplicitGives}
+use Rattle.asn1_rs.specs.Tagged.Explicit.{ExplicitWhole}
 use Rattle.asn1_rs.specs.Tagged.Explicit.{ExplicitCheckGives, explicit_grammar, explicit_identifier, tag_checks}
 use Rattle.asn1_rs.specs.ToDer.{Writing, whole_octets, whole_refuses}
 use Rattle.asn1_rs.specs.Tagged.Writing.{explicit_under, tag_writing}
@@ -51,10 +53,20 @@ tag_checks_are class number = before_is (has_number number) (is_constructed befo
     (has_number_is number) (before_is is_constructed (has_class class) is_constructed_is (has_class_is class))
 
 module _ {V : Type 0} (class number : ℕ) where
+  -- Contents octets that are a word of the value begin with one.
+  explicit_begins : (G : List ℕ → V → Type 0) (p : Parts) (v : V) → ExplicitWhole class number G p v →
+      ExplicitBody class number G p v
+  explicit_begins G p v b = record { tag = b.tag; rest = []; inner = whole_front G p.content v b.inner }
+
   -- An element has one value under the tag, where one word alone begins its contents octets.
   explicit_one_body : (G : List ℕ → V → Type 0) → IsOneFront G → IsOneBody (ExplicitBody class number G)
   explicit_one_body G one p v w a b =
       (one.one a.inner.word b.inner.word a.rest b.rest v w a.inner.fits b.inner.fits (sym a.inner.is ∙ b.inner.is)).1
+
+  -- So has one whose contents octets are a word.
+  explicit_one_whole : (G : List ℕ → V → Type 0) → IsOneFront G → IsOneBody (ExplicitWhole class number G)
+  explicit_one_whole G one p v w a b =
+      explicit_one_body G one p v w (explicit_begins G p v a) (explicit_begins G p w b)
 
   -- Its value is one of the type's where each word has such.
   explicit_values : (G : List ℕ → V → Type 0) (P : V → Type 0) → ((o : List ℕ) (v : V) → G o v → P v) →
@@ -92,14 +104,15 @@ module _ {V : Type 0} (class number : ℕ) where
       (ap (λ (z : Identifier). z.constructed) f.id_is, ap (λ (z : Identifier). z.class) f.id_is),
     )
 
-    -- They have the value.
+    -- They have the value, and nothing else.
+    explicit_form_whole : (G : List ℕ → V → Type 0) → ((v : V) (o : List ℕ) → IsStrict Form v o → G o v) →
+        FormBodies (ExplicitForm class number Form) (ExplicitWhole class number G)
+    explicit_form_whole G words = λ v i c f. record { tag = explicit_tag v i c f; inner = words v c f.inner }
+
+    -- They begin with the value.
     pub explicit_form_body : (G : List ℕ → V → Type 0) → ((v : V) (o : List ℕ) → IsStrict Form v o → G o v) →
         FormBodies (ExplicitForm class number Form) (ExplicitBody class number G)
-    explicit_form_body G words = λ v i c f. record {
-      tag = explicit_tag v i c f;
-      rest = [];
-      inner = record { word = c; fits = words v c f.inner; is = sym (append-nil c) };
-    }
+    explicit_form_body G words = λ v i c f. explicit_begins G (made i c) v (explicit_form_whole G words v i c f)
 
     -- the strict encoding of the value is an element, by either rule
     pub strict_nested : (v : V) (o : List ℕ) (s : IsStrict Form v o) → IsElement max_depth o (made s.id s.content)
@@ -116,8 +129,7 @@ module _ {V : Type 0} (class number : ℕ) where
     explicit_form_check ElementOf element Check checks = λ v i c f. record {
       counted = (length c, refl);
       parts = made f.inner.id f.inner.content;
-      rest = [];
-      inner = record { word = c; fits = element v c f.inner; is = sym (append-nil c) };
+      inner = element v c f.inner;
       checked = checks v f.inner.id f.inner.content f.inner.form;
     }
 
@@ -143,11 +155,12 @@ pub explicit_lawful : {S T : Type 0} (class number : ℕ) (inner : T → S) (G :
     IsLawfulItem (explicit_grammar class number inner G)
 explicit_lawful class number inner G l = record {
   one_equality = l.one_equality;
-  der_values = λ o v w. explicit_values class number G.Der G.IsValue l.der_values w.0 v w.3;
+  der_values = λ o v w. explicit_values class number G.Der G.IsValue l.der_values w.0 v
+      (explicit_begins class number G.Der w.0 v w.3);
   body_values = λ p v o b. explicit_values class number (ber_words G) G.IsValue (ber_values G l) p v b;
   form_values = explicit_form_values class number G.Form G.IsValue l.form_values;
-  der_one = word_one IsDerElement NoCheck (ExplicitBody class number G.Der) der_elements.one
-      (explicit_one_body class number G.Der l.der_one);
+  der_one = word_one IsDerElement NoCheck (ExplicitWhole class number G.Der) der_elements.one
+      (explicit_one_whole class number G.Der l.der_one);
   body_one = explicit_one_body class number (ber_words G) (ber_one G l);
   one_form = explicit_one_form class number G.Form l.one_form;
   one_value = explicit_one_value class number G.Form l.one_value;
@@ -156,8 +169,8 @@ explicit_lawful class number inner G l = record {
       (strict_nested class number G.Form) G.Check l.form_check;
   form_der = λ v i c f. (f.is_class, f.is_number, explicit_form_values class number G.Form G.IsDer l.form_der v i c f);
   form_body = explicit_form_body class number G.Form (ber_words G) (strict_ber G l);
-  strict_der = strict_der_word (ExplicitForm class number G.Form) NoCheck (ExplicitBody class number G.Der)
-      (λ v i c f. tt) (explicit_form_body class number G.Form G.Der l.strict_der);
+  strict_der = strict_der_word (ExplicitForm class number G.Form) NoCheck (ExplicitWhole class number G.Der)
+      (λ v i c f. tt) (explicit_form_whole class number G.Form G.Der l.strict_der);
 }
 
 -- What is written.
@@ -226,21 +239,21 @@ module _ {T V W E : Type 0} (class number : ℕ) (inner : W → T)
 
   -- the words by DER of a value under the tag
   abbrev Word : List ℕ → V → Type 0
-  Word = DerWord NoCheck (ExplicitBody class number G)
+  Word = DerWord NoCheck (ExplicitWhole class number G)
 
   -- the element that was read is the one of any word at the front
   word_body : (input more rest w r : List ℕ) (p : Parts) (v : V) → Front IsDerElement input p rest →
-      input ++ more ≡ w ++ r → Word w v → ExplicitBody class number G p v
+      input ++ more ≡ w ++ r → Word w v → ExplicitWhole class number G p v
   word_body input more rest w r p v f h d =
       let front = front_more IsDerElement input p rest more f in
       let same = der_elements.one.one front.word w (rest ++ more) r p d.0 front.fits d.1 (sym front.is ∙ h) in
-      subst (λ (q : Parts). ExplicitBody class number G q v) (sym same.1) d.3
+      subst (λ (q : Parts). ExplicitWhole class number G q v) (sym same.1) d.3
 
-  -- its own reader by DER is exact
-  pub explicit_der_exact : (input : List ℕ) (answer : Result (List ℕ × W) (Refusal E)) →
+  -- its own reader by DER is exact, where one word alone begins an input
+  pub explicit_der_exact : IsOneFront G → (input : List ℕ) (answer : Result (List ℕ × W) (Refusal E)) →
       ExplicitGives class number inner reads from input answer →
       Exactly IsCutIdentifier Word (λ w. value (inner w)) (TellsMemory allocates from) input answer
-  explicit_der_exact input (Ok x) (p, f, (left, t)) = record {
+  explicit_der_exact one input (Ok x) (p, f, t) = record {
     word = f.word;
     fits = (
       p,
@@ -248,25 +261,24 @@ module _ {T V W E : Type 0} (class number : ℕ) (inner : W → T)
       tt,
       record {
         tag = t.0;
-        rest = left;
-        inner = exact p.content (Ok (left, inner x.1)) (der_elements.possible f.word p f.fits).content t.1;
+        inner = whole_is reads from G value allocates IsCut exact p.content (inner x.1)
+            (der_elements.possible f.word p f.fits).content t.1;
       },
     );
     is = f.is;
   }
-  explicit_der_exact input (Err r) (inl (fault, f, c)) = inr (λ more s w rest v e d.
+  explicit_der_exact one input (Err r) (inl (fault, f, c)) = inr (λ more s w rest v e d.
       der_elements.final input more w rest d.0 fault f
       (speaks_fault der_breach from fault r (IsCutIdentifier input) more (der_elements.counts input fault f) c s)
       d.1 e)
-  explicit_der_exact input (Err r) (inr (p, rest, f, inl t)) = inr (λ more s w tail v h d.
+  explicit_der_exact one input (Err r) (inr (p, rest, f, inl t)) = inr (λ more s w tail v h d.
       let b = word_body input more rest w tail p v f h d in
       (tag_checks_are class number).apart p t.0 b.tag t.1)
-  explicit_der_exact input (Err r) (inr (p, rest, f, inr t)) =
-      elim (exact p.content (Err r) (der_elements.possible f.word p f.fits).content t.1) [
+  explicit_der_exact one input (Err r) (inr (p, rest, f, inr t)) =
+      elim (whole_refused reads from G value allocates IsCut exact one p.content r
+      (der_elements.possible f.word p f.fits).content t.1) [
         | inl m ↦ inl m
-        | inr n ↦ inr (λ more s w tail v h d.
-            let b = word_body input more rest w tail p v f h d in
-            none_now (IsCut p.content) r G p.content n b.inner.word b.rest v b.inner.is b.inner.fits)
+        | inr none ↦ inr (λ more s w tail v h d. none v (word_body input more rest w tail p v f h d).inner)
       ]
 
 -- what tells of another refusal, told as an error
@@ -296,7 +308,8 @@ module _ {T W E : Type 0} (class number : ℕ) (inner : W → T) (reads : List �
       fault_no_memory from der_breach der_breach_no_memory fault r c
   explicit_der_no_memory input (Err r) (inr (p, rest, f, inl t)) = subst (HeldIn (IsOther from)) (sym t.2.2)
       (check_no_memory (tag_checks class number) (tag_checks_are class number) from p t.0 t.2.0 t.1 t.2.1)
-  explicit_der_no_memory input (Err r) (inr (p, rest, f, inr t)) = asks_no_memory p.content (Err r) t.1
+  explicit_der_no_memory input (Err r) (inr (p, rest, f, inr t)) =
+      whole_no_memory reads from asks_no_memory p.content r t.1
 
 -- Checking.
 
@@ -320,26 +333,29 @@ module _ (ElementOf : List ℕ → Parts → Type 0) (FaultOf : List ℕ → Fau
     where
       exact : (p : Parts) (answer : Result (Unit {0}) Error) → Gives p answer →
           Checks (ExplicitCheck ElementOf Check) p answer
-      exact p (Ok x) g = record {
-        counted = g.0;
-        parts = parts_of g.1.0;
-        rest = g.1.1;
-        inner = g.1.2.front;
-        checked = inner.exact (parts_of g.1.0) (Ok tt) g.1.3;
+      exact p (Ok x) (counted, (Ok y, g, (passes, none))) = record {
+        counted = counted;
+        parts = parts_of y.1;
+        inner = front_whole ElementOf p.content y.0 (parts_of y.1) g.front none;
+        checked = inner.exact (parts_of y.1) (Ok tt) passes;
       }
+      exact p (Ok x) (counted, (Err r, g, none)) = absurd none
       exact p (Err e) (inl b) = λ c. is_counted_is.apart p e c.counted b
-      exact p (Err e) (inr (m, inl (r, g, f))) = λ c.
-          refusal_lasts ElementOf FaultOf IsCut elements refuses p.content r g [] c.inner.word c.rest c.parts
-          (speaks_now (IsCut p.content) r) c.inner.fits (append-nil p.content ∙ c.inner.is)
-      exact p (Err e) (inr (m, inr (any, rest, g, b))) = λ c.
+      exact p (Err e) (inr (m, (Err r, g, f))) = λ c.
+          refusal_lasts ElementOf FaultOf IsCut elements refuses p.content r g [] p.content [] c.parts
+          (speaks_now (IsCut p.content) r) c.inner refl
+      exact p (Err e) (inr (m, (Ok y, g, inl b))) = λ c.
           let same = element_lasts ElementOf FaultOf IsCut elements refuses p.content
-          (rest, any) g [] c.inner.word c.rest c.parts c.inner.fits (append-nil p.content ∙ c.inner.is) in
-          inner.exact (parts_of any) (Err e) b (subst Check same.0 c.checked)
+          y g [] p.content [] c.parts c.inner refl in
+          inner.exact (parts_of y.1) (Err e) b (subst Check same.0 c.checked)
+      exact p (Err e) (inr (m, (Ok y, g, inr (passes, some, told)))) = λ c.
+          some (none_left ElementOf elements.one p.content y.0 (parts_of y.1) c.parts g.front c.inner)
 
       asks_no_memory : (p : Parts) → Gives p (Err errors.OutOfMemory) → ⊥
       asks_no_memory p (inl b) = is_counted_is.asks_no_memory p b
-      asks_no_memory p (inr (m, inl (r, (fault, f, is), t))) =
+      asks_no_memory p (inr (m, (Err r, (fault, f, is), t))) =
           none_is_memory (told_no_memory (λ x y. y ≡ x) r errors.OutOfMemory
           (fault_no_memory (λ (x y : Error). y ≡ x) refuses other fault r
           (subst (Converted (λ x y. y ≡ x) (refusal_of refuses fault)) (sym is) (converts_itself refuses fault))) t)
-      asks_no_memory p (inr (m, inr (any, rest, g, b))) = inner.asks_no_memory (parts_of any) b
+      asks_no_memory p (inr (m, (Ok y, g, inl b))) = inner.asks_no_memory (parts_of y.1) b
+      asks_no_memory p (inr (m, (Ok y, g, inr (passes, some, told)))) = cc

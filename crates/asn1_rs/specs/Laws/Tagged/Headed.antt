@@ -1,6 +1,6 @@
 -- Laws of values with the header of their tag in hand.
 use Rattle.std.specs.Prelude.{◌≡◌, ◌↔◌, ℕ, ◌<◌, ◌^◌, Bool, true, ◌&&◌, IsTrue, List, [], length}
-use Rattle.std.proofs.Common.{arith, zero, suc, ◌∙◌, ap, sym, subst, refl, append-nil}
+use Rattle.std.proofs.Common.{arith, zero, suc, ◌∙◌, ap, sym, subst, refl}
 use mathlib.Core.Logic.{∥∥₁_map}
 use Rattle.x690.specs.Identifiers.{Identifier}
 use Rattle.x690.specs.Elements.{Parts, ArePossible, IsDerElement}
@@ -15,6 +15,7 @@ use Rattle.asn1_rs.specs.Grammar.Item.{ItemGrammar, IsLawfulItem, ber_words}
 use Rattle.asn1_headers.specs.Header.{identifier_of, is_same_identifier}
 use Rattle.asn1_rs.specs.Laws.Any.Writing.{same_parts, parts_same, both_true}
 use Rattle.asn1_rs.specs.Laws.Readers.{der_elements}
+use Rattle.asn1_rs.specs.Laws.Tagged.{whole_front}
 use Rattle.asn1_rs.specs.Laws.Tagged.Explicit.{explicit_one_form, explicit_fits, explicit_form_check, explicit_by_value}
 use Rattle.asn1_rs.specs.Laws.Tagged.Explicit.{explicit_writes_form, explicit_has_form}
 use Rattle.asn1_rs.specs.Laws.Tagged.Implicit.{implicit_one_form, implicit_fits, implicit_form_body}
@@ -23,7 +24,8 @@ use Rattle.asn1_rs.specs.Laws.Tagged.Implicit.{implicit_has_form, under_possible
 use Rattle.asn1_rs.specs.Laws.Words.{word_one, strict_element, strict_apart, strict_der_word, ber_one, ber_values}
 use Rattle.asn1_rs.specs.Laws.Words.{strict_ber}
 use Rattle.asn1_rs.specs.Tagged.Implicit.{under}
-use Rattle.asn1_rs.specs.Tagged.Headed.{HeadedBody, HeadedForm, IsBorne, UnderBody, UnderForm, CheckedBody}
+use Rattle.asn1_rs.specs.Tagged.Headed.{HeadedBody, HeadedWhole, HeadedForm, IsBorne, UnderBody, UnderForm}
+use Rattle.asn1_rs.specs.Tagged.Headed.{CheckedBody}
 use Rattle.asn1_rs.specs.Tagged.Headed.{HasInnerForm, explicit_headed, implicit_headed, headed_value}
 use Rattle.asn1_rs.specs.ToDer.{Writing, whole_octets}
 use Rattle.asn1_rs.specs.Tagged.Writing.{explicit_under, headed_writing, implicit_under}
@@ -60,10 +62,18 @@ headed_same {V} g h same v w law = (
 -- Explicit tags: what is read.
 
 module _ {V : Type 0} (G : List ℕ → V → Type 0) where
+  -- Contents octets that are a word of the value begin with one.
+  headed_begins : (p : Parts) (v : Identifier × V) → HeadedWhole G p v → HeadedBody G p v
+  headed_begins p v b = record { id = b.id; rest = []; inner = whole_front G p.content v.1 b.inner }
+
   -- An element has one value with its header, where one word alone begins its contents octets.
   headed_one_body : IsOneFront G → IsOneBody (HeadedBody G)
   headed_one_body one p v w a b = pair_same v w (a.id ∙ sym b.id) (one.one a.inner.word b.inner.word a.rest b.rest v.1
       w.1 a.inner.fits b.inner.fits (sym a.inner.is ∙ b.inner.is)).1
+
+  -- So has one whose contents octets are a word.
+  headed_one_whole : IsOneFront G → IsOneBody (HeadedWhole G)
+  headed_one_whole one p v w a b = headed_one_body one p v w (headed_begins p v a) (headed_begins p w b)
 
   -- Its identifier is one that an element can have, and the value within one of the type's.
   headed_values : (P : V → Type 0) → ((o : List ℕ) (v : V) → G o v → P v) → (p : Parts) (v : Identifier × V) →
@@ -71,27 +81,29 @@ module _ {V : Type 0} (G : List ℕ → V → Type 0) where
   headed_values P h p v a b =
       (subst IsBorne (sym b.id) (record { class = a.class; number = a.number }), h b.inner.word v.1 b.inner.fits)
 
-  -- Strict parts have the value with its header.
+  -- Strict parts have the value with its header, and nothing else.
+  headed_form_whole : (Form : V → Identifier → List ℕ → Type 0) → ((v : V) (o : List ℕ) → IsStrict Form v o → G o v) →
+      FormBodies (HeadedForm Form) (HeadedWhole G)
+  headed_form_whole Form words = λ v i c f. record { id = f.0; inner = words v.1 c f.1.inner }
+
+  -- They begin with the value.
   headed_form_body : (Form : V → Identifier → List ℕ → Type 0) → ((v : V) (o : List ℕ) → IsStrict Form v o → G o v) →
       FormBodies (HeadedForm Form) (HeadedBody G)
-  headed_form_body Form words = λ v i c f. record {
-    id = f.0;
-    rest = [];
-    inner = record { word = c; fits = words v.1 c f.1.inner; is = sym (append-nil c) };
-  }
+  headed_form_body Form words = λ v i c f. headed_begins (made i c) v (headed_form_whole Form words v i c f)
 
 -- Values with the header of their explicit tag are lawful over a lawful type.
 pub explicit_headed_lawful : {S T : Type 0} (identifier : T → Identifier) (inner : T → S) (G : ItemGrammar S) →
     IsLawfulItem G → IsLawfulItem (explicit_headed identifier inner G)
 explicit_headed_lawful identifier inner G l = record {
   one_equality = Σ_set identifier_set (λ i. l.one_equality);
-  der_values = λ o v w. headed_values G.Der G.IsValue l.der_values w.0 v (der_elements.possible o w.0 w.1) w.3;
+  der_values = λ o v w. headed_values G.Der G.IsValue l.der_values w.0 v (der_elements.possible o w.0 w.1)
+      (headed_begins G.Der w.0 v w.3);
   body_values = headed_values (ber_words G) G.IsValue (ber_values G l);
   form_values = λ v i c f. (
     record { class = f.1.is_class; number = f.1.is_number },
     l.form_values v.1 f.1.inner.id f.1.inner.content f.1.inner.form,
   );
-  der_one = word_one IsDerElement NoCheck (HeadedBody G.Der) der_elements.one (headed_one_body G.Der l.der_one);
+  der_one = word_one IsDerElement NoCheck (HeadedWhole G.Der) der_elements.one (headed_one_whole G.Der l.der_one);
   body_one = headed_one_body (ber_words G) (ber_one G l);
   one_form = λ v i j c d f g. explicit_one_form (v.0).class (v.0).number G.Form l.one_form v.1 i j c d f.1 g.1;
   one_value = λ v w i c f g.
@@ -105,8 +117,8 @@ explicit_headed_lawful identifier inner G l = record {
     l.form_der v.1 f.1.inner.id f.1.inner.content f.1.inner.form,
   );
   form_body = headed_form_body (ber_words G) G.Form (strict_ber G l);
-  strict_der = strict_der_word (HeadedForm G.Form) NoCheck (HeadedBody G.Der) (λ v i c f. tt)
-      (headed_form_body G.Der G.Form l.strict_der);
+  strict_der = strict_der_word (HeadedForm G.Form) NoCheck (HeadedWhole G.Der) (λ v i c f. tt)
+      (headed_form_whole G.Der G.Form l.strict_der);
 }
 
 -- Explicit tags: what is written.

@@ -22,11 +22,12 @@ use Rattle.asn1_headers.specs.Header.Reading.{refusal_of}
 use Rattle.asn1_rs.specs.Kinds.{IsExactCheck}
 use Rattle.asn1_rs.specs.Laws.Readers.{AreElements, none_now, front_more, speaks_fault, fault_no_memory, element_exact}
 use Rattle.asn1_rs.specs.Laws.Readers.{element_no_memory, passes_all, all_pass}
+use Rattle.asn1_rs.specs.Laws.Tagged.{whole_is, whole_refused, whole_no_memory}
 use Rattle.asn1_rs.specs.Laws.Tagged.Implicit.{parts_under}
 use Rattle.asn1_rs.specs.Tagged.{ThenGives}
-use Rattle.asn1_rs.specs.Tagged.Headed.{HeadedBody, UnderBody, CheckedBody, headed_value}
-use Rattle.asn1_rs.specs.Tagged.Parser.{IsUnder, TakesExplicit, TakesImplicit, ChecksAndConverts, parser_header}
-use Rattle.asn1_rs.specs.Tagged.Parser.{inner_of}
+use Rattle.asn1_rs.specs.Tagged.Headed.{HeadedBody, HeadedWhole, UnderBody, CheckedBody, headed_value}
+use Rattle.asn1_rs.specs.Tagged.Parser.{IsUnder, TakesExplicit, TakesWhole, TakesImplicit, ChecksAndConverts}
+use Rattle.asn1_rs.specs.Tagged.Parser.{parser_header, inner_of}
 use Rattle.asn1_rs.specs.Traits.{ElementGives, PassesAll}
 
 -- Explicit tags.
@@ -37,13 +38,12 @@ parser_value value = headed_value (λ t. identifier_of (parser_header t)) inner_
 
 -- the element that was read is the one of any word at the front
 word_body : {V : Type 0} (ElementOf : List ℕ → Parts → Type 0) → IsOneFront ElementOf →
-    (G : List ℕ → V → Type 0) (input more rest w r : List ℕ) (p : Parts) (v : Identifier × V) →
-    Front ElementOf input p rest → input ++ more ≡ w ++ r → ElementWord ElementOf NoCheck (HeadedBody G) w v →
-    HeadedBody G p v
-word_body ElementOf one G input more rest w r p v f h d =
+    (Body : Parts → V → Type 0) (input more rest w r : List ℕ) (p : Parts) (v : V) →
+    Front ElementOf input p rest → input ++ more ≡ w ++ r → ElementWord ElementOf NoCheck Body w v → Body p v
+word_body ElementOf one Body input more rest w r p v f h d =
     let front = front_more ElementOf input p rest more f in
     let same = one.one front.word w (rest ++ more) r p d.0 front.fits d.1 (sym front.is ∙ h) in
-    subst (λ (q : Parts). HeadedBody G q v) (sym same.1) d.3
+    subst (λ (q : Parts). Body q v) (sym same.1) d.3
 
 module _ {K T V E : Type 0} (ElementOf : List ℕ → Parts → Type 0) (FaultOf : List ℕ → Fault → Type 0)
     (IsCut : List ℕ → Type 0) (elements : AreElements ElementOf FaultOf IsCut) (refuses : Breach → Error)
@@ -78,8 +78,40 @@ module _ {K T V E : Type 0} (ElementOf : List ℕ → Parts → Type 0) (FaultOf
       (elements.possible begins.front.word (parts_of any) begins.front.fits).content read) [
         | inl m ↦ inl m
         | inr n ↦ inr (λ more s w tail v h d.
-            let b = word_body ElementOf elements.one G input more rest w tail (parts_of any) v begins.front h d in
+            let b = word_body ElementOf elements.one (HeadedBody G) input more rest w tail (parts_of any) v begins.front
+            h d in
             none_now (IsCut any.content.now) r G any.content.now n b.inner.word b.rest v.1 b.inner.is b.inner.fits)
+      ]
+
+  -- One that wants the value to be all of the contents octets is exact, too, where one word alone begins an input.
+  pub whole_parser_exact : IsOneFront G → (input : List ℕ)
+      (answer : Result (List ℕ × TaggedParser K T E) (Refusal E)) →
+      ThenGives ElementOf FaultOf (refusal_of refuses) from (TakesWhole reads from) input answer → Exactly IsCut
+      (ElementWord ElementOf NoCheck (HeadedWhole G)) (parser_value value) (TellsMemory allocates from) input answer
+  whole_parser_exact one input (Ok x) (any, rest, begins, (same, header, read)) = record {
+    word = begins.front.word;
+    fits = (
+      parts_of any,
+      begins.front.fits,
+      tt,
+      record {
+        id = ap identifier_of header;
+        inner = whole_is reads from G value allocates IsCut exact any.content.now (inner_of x.1)
+            (elements.possible begins.front.word (parts_of any) begins.front.fits).content read;
+      },
+    );
+    is = begins.front.is ∙ ap (λ (r : List ℕ). begins.front.word ++ r) (sym same);
+  }
+  whole_parser_exact one input (Err r) (inl (fault, f, c)) = inr (λ more s w rest v e d.
+      elements.final input more w rest d.0 fault f
+      (speaks_fault refuses from fault r (IsCut input) more (elements.counts input fault f) c s) d.1 e)
+  whole_parser_exact one input (Err r) (inr (any, rest, begins, read)) =
+      elim (whole_refused reads from G value allocates IsCut exact one any.content.now r
+      (elements.possible begins.front.word (parts_of any) begins.front.fits).content read) [
+        | inl m ↦ inl m
+        | inr none ↦ inr (λ more s w tail v h d.
+            none v.1 (word_body ElementOf elements.one (HeadedWhole G) input more rest w tail (parts_of any) v
+            begins.front h d).inner)
       ]
 
 -- where the value's reader does not allocate, no refusal reports out of memory
@@ -98,6 +130,22 @@ explicit_parser_no_memory ElementOf FaultOf refuses other reads from asks_no_mem
 explicit_parser_no_memory ElementOf FaultOf refuses other reads from asks_no_memory input (Err r)
     (inr (any, rest, begins, read)) =
     asks_no_memory any.content.now (Err r) read
+
+-- nor where the value is to be all of the contents octets
+pub whole_parser_no_memory : {K T E : Type 0} (ElementOf : List ℕ → Parts → Type 0) (FaultOf : List ℕ → Fault → Type 0)
+    (refuses : Breach → Error) → ((breach : Breach) → refuses breach ≢ OutOfMemory) →
+    (reads : List ℕ → Result (List ℕ × T) (Refusal E) → Type 0) (from : Error → E → Type 0) →
+    ((octets : List ℕ) (answer : Result (List ℕ × T) (Refusal E)) → reads octets answer →
+    IfErr answer (HeldIn (IsOther from))) →
+    (input : List ℕ) (answer : Result (List ℕ × TaggedParser K T E) (Refusal E)) →
+    ThenGives ElementOf FaultOf (refusal_of refuses) from (TakesWhole reads from) input answer →
+    IfErr answer (HeldIn (IsOther from))
+whole_parser_no_memory ElementOf FaultOf refuses other reads from asks_no_memory input (Ok x) g = tt
+whole_parser_no_memory ElementOf FaultOf refuses other reads from asks_no_memory input (Err r) (inl (fault, f, c)) =
+    fault_no_memory from refuses other fault r c
+whole_parser_no_memory ElementOf FaultOf refuses other reads from asks_no_memory input (Err r)
+    (inr (any, rest, begins, read)) =
+    whole_no_memory reads from asks_no_memory any.content.now r read
 
 -- Implicit tags.
 

@@ -2,8 +2,8 @@
 ghost use Rattle.std.specs.Prelude.{◌≡◌};
 ghost use Rattle.asn1_headers.specs.Answers.{seen};
 ghost use Rattle.asn1_rs.specs.Tagged.{ThenByDer, ThenByBer};
-ghost use Rattle.asn1_rs.specs.Tagged.Parser.{TakesExplicit, TakesImplicit, ChecksAndConverts, HasNumber, HasTag, Asks};
-ghost use Rattle.asn1_rs.specs.Tagged.Parser.{Expects};
+ghost use Rattle.asn1_rs.specs.Tagged.Parser.{TakesExplicit, TakesWhole, TakesImplicit, ChecksAndConverts, HasNumber};
+ghost use Rattle.asn1_rs.specs.Tagged.Parser.{HasTag, Asks, Expects};
 ghost use Rattle.asn1_headers.specs.declared.class.Class.TheVariants as classes;
 ghost use Rattle.asn1_headers.specs.declared.tag.Tag.{Tag};
 
@@ -116,8 +116,8 @@ impl<E: From<Error>> TaggedParserBuilder<Explicit, E> {
     where
         T: FromDer<'a, E> + Drop,
         ensures { Expects (ThenByDer E.from_gives
-            (TakesExplicit T.der_gives)) (HasTag self.class self.tag) E.from_gives bytes.now
-            (seen result) }
+            (TakesWhole T.der_gives E.from_gives)) (HasTag self.class self.tag) E.from_gives
+            bytes.now (seen result) }
     {
         TaggedParser::<'a, Explicit, T, E>::parse_der(alloc, self.class, self.tag, bytes)
     }
@@ -184,7 +184,8 @@ where
     E: From<Error>,
     ensures { (number : Tag) × IntoTag.converts tag number
         × Expects (ThenByDer E.from_gives
-        (TakesExplicit T.der_gives)) (HasNumber number) E.from_gives bytes.now (seen result) }
+        (TakesWhole T.der_gives E.from_gives)) (HasNumber number) E.from_gives bytes.now
+        (seen result) }
 {
     let tag = tag.into();
     match TaggedParser::<'a, Explicit, T, E>::from_der(alloc, bytes) {

@@ -11,7 +11,8 @@ ghost use Rattle.asn1_rs.specs.Laws.Readers.{der_elements, ber_elements, der_bre
 ghost use Rattle.asn1_rs.specs.Laws.Tagged.Explicit.{explicit_checks};
 ghost use Rattle.asn1_rs.specs.Laws.Tagged.Headed.{explicit_headed_lawful, headed_same};
 ghost use Rattle.asn1_rs.specs.Laws.Tagged.Parser.{explicit_parser_exact, explicit_parser_no_memory};
-ghost use Rattle.asn1_rs.specs.Tagged.Explicit.{ExplicitCheckGives, InnerChecked};
+ghost use Rattle.asn1_rs.specs.Laws.Tagged.Parser.{whole_parser_exact, whole_parser_no_memory};
+ghost use Rattle.asn1_rs.specs.Tagged.Explicit.{ExplicitCheckGives};
 ghost use Rattle.asn1_rs.specs.Tagged.Headed.{explicit_headed};
 ghost use Rattle.asn1_rs.specs.Laws.Writing.{explicit_headed_lawful_writing};
 ghost use Rattle.asn1_rs.specs.Grammar.Item.{ber_words};
@@ -19,6 +20,7 @@ ghost use Rattle.asn1_rs.specs.Grammar.Item.{ber_words};
 use crate::asn1_types::any::Any;
 use crate::asn1_types::tagged::Explicit;
 use crate::asn1_types::tagged::parser::TaggedParser;
+use crate::asn1_types::tagged::whole_contents::check_whole;
 use crate::der::element_by_der;
 use crate::laws::{
     Grammar, LawfulBer, LawfulCheck, LawfulDer, LawfulItem, LawfulMember, LawfulWrite,
@@ -26,26 +28,16 @@ use crate::laws::{
 use crate::traits::CheckDerConstraints;
 use asn1_headers::error::Error;
 
-/// Checks the first element in the contents octets, by DER.
-fn check_inner<T: CheckDerConstraints>(any: &Any<'_>) -> Result<(), Error>
-    ensures { InnerChecked DerElementGives T.check_gives (parts_of any.now) result }
-{
-    match element_by_der(any.content) {
-        Ok((_, inner)) => T::check_constraints(&inner),
-        Err(refusal) => Err(Error::from(refusal)),
-    }
-}
-
 impl<T: CheckDerConstraints> CheckDerConstraints for TaggedParser<'_, Explicit, T, Error> {
     ghost check_gives = { ExplicitCheckGives DerElementGives T.check_gives };
 
-    /// Refuses an indefinite length with `IndefiniteLengthUnexpected`, and contents octets that do not begin with an
-    /// element by DER that keeps the constraints of the value.
+    /// Refuses an indefinite length with `IndefiniteLengthUnexpected`; then contents octets that do not begin with an
+    /// element by DER that keeps the constraints of the value; then, with `TrailingOctets`, what is left behind it.
     fn check_constraints(any: &Any<'_>) -> Result<(), Error>
         ensures { ExplicitCheckGives DerElementGives T.check_gives (parts_of any.now) result }
     {
         any.header.length().assert_definite()?;
-        check_inner::<T>(any)
+        check_whole::<T>(element_by_der(any.content))
     }
 }
 
@@ -97,13 +89,13 @@ where
 
 impl<'a, T, E> LawfulDer<'a, E> for TaggedParser<'a, Explicit, T, E>
 where
-    T: LawfulDer<'a, E>,
+    T: LawfulDer<'a, E> + Drop,
     E: From<Error>,
 {
-    ghost der_exact = { λ input answer octets. explicit_parser_exact IsDerElement DerElementFault
+    ghost der_exact = { λ input answer octets. whole_parser_exact IsDerElement DerElementFault
         IsCutIdentifier der_elements der_breach T.der_gives E.from_gives T.grammar.Der
-        T.grammar.value T.grammar.allocates T.der_exact input answer };
+        T.grammar.value T.grammar.allocates T.der_exact T.lawful_item.der_one input answer };
 
-    ghost der_no_memory = { λ none. explicit_parser_no_memory IsDerElement DerElementFault
+    ghost der_no_memory = { λ none. whole_parser_no_memory IsDerElement DerElementFault
         der_breach der_breach_no_memory T.der_gives E.from_gives (T.der_no_memory none) };
 }

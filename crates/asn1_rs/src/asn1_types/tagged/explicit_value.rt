@@ -4,7 +4,7 @@ ghost use Rattle.asn1_headers.specs.declared.error.SerializeError.TheVariants.{I
 ghost use Rattle.asn1_headers.specs.Answers.{seen};
 ghost use Rattle.asn1_rs.specs.Any.{parts_of, BerElementGives};
 ghost use Rattle.asn1_rs.specs.Tagged.Explicit.{ExplicitTakes, ExplicitReads, ExplicitGives, ExplicitCheckGives};
-ghost use Rattle.asn1_rs.specs.Tagged.Explicit.{InnerTakes, InnerChecked, tag_checks, explicit_grammar};
+ghost use Rattle.asn1_rs.specs.Tagged.Explicit.{InnerTakes, tag_checks, explicit_grammar};
 ghost use Rattle.asn1_rs.specs.Laws.Tagged.{number_fits, same_beside_nothing};
 ghost use Rattle.asn1_rs.specs.Laws.Tagged.Explicit.{explicit_lawful, explicit_number, explicit_takes_class};
 ghost use Rattle.asn1_rs.specs.Laws.Tagged.Explicit.{explicit_takes, explicit_takes_no_memory, explicit_der_exact};
@@ -22,6 +22,7 @@ ghost use Rattle.asn1_rs.specs.Laws.Words.{strict_ber};
 
 use crate::asn1_types::any::Any;
 use crate::asn1_types::option::without_raw_tag;
+use crate::asn1_types::tagged::whole_contents::{check_whole, whole};
 use crate::asn1_types::tagged::{Explicit, HasClass, TagMark, TaggedValue};
 use crate::ber::element_by_ber;
 use crate::der::element_by_der;
@@ -154,28 +155,21 @@ impl<'a> Any<'a> {
     }
 }
 
-/// The value in an element under the tag, by DER.
-fn inner_by_der<'a, T, E>(
-    alloc: Global,
-    class: u8,
-    number: u32,
-    any: &Any<'a>,
-) -> ParseResult<'a, T, E>
+/// The value that the contents octets of an element under the tag are, by DER.
+fn inner_by_der<'a, T, E>(alloc: Global, class: u8, number: u32, any: &Any<'a>) -> Result<T, Err<E>>
 where
     T: FromDer<'a, E> + Drop,
     E: From<Error>,
-    ensures { ExplicitReads class number T.der_gives E.from_gives (parts_of any.now)
-        (seen result) }
+    ensures { ExplicitReads class number T.der_gives E.from_gives (parts_of any.now) result }
 {
     match assert_tagged(class, number, any) {
-        Ok(()) => T::from_der(alloc, any.content),
+        Ok(()) => whole(T::from_der(alloc, any.content)),
         Err(e) => Err(Err::Error(E::from(e))),
     }
 }
 
-/// An element by DER; its tag number, its constructed bit, its class; then the value by DER at the
-/// front of the contents octets, whose refusal is passed on whole. What follows it there is not
-/// looked at.
+/// An element by DER; its tag number, its constructed bit, its class; then the value by DER, whose refusal is passed on
+/// as it is. The contents octets are the value and nothing else: what is left there is refused with `TrailingOctets`.
 impl<'a, T, E, const CLASS: u8, const TAG: u32> FromDerBy<'a, TagMark<Explicit>, E>
     for TaggedValue<T, E, Explicit, CLASS, TAG>
 where
@@ -188,19 +182,9 @@ where
     fn read_by_der(alloc: Global, bytes: &'a [u8]) -> ParseResult<'a, Self, E> {
         let (rest, any) = converted(element_by_der(bytes))?;
         match inner_by_der::<T, E>(alloc, CLASS, TAG, &any) {
-            Ok((_, inner)) => Ok((rest, TaggedValue::explicit(inner))),
+            Ok(inner) => Ok((rest, TaggedValue::explicit(inner))),
             Err(e) => Err(e),
         }
-    }
-}
-
-/// Checks the first element in the contents octets, by BER.
-fn check_inner<T: CheckDerConstraints>(any: &Any<'_>) -> Result<(), Error>
-    ensures { InnerChecked BerElementGives T.check_gives (parts_of any.now) result }
-{
-    match element_by_ber(any.content) {
-        Ok((_, inner)) => T::check_constraints(&inner),
-        Err(refusal) => Err(Error::from(refusal)),
     }
 }
 
@@ -208,11 +192,11 @@ impl<T: CheckDerConstraints, E, const CLASS: u8, const TAG: u32> CheckBy<TagMark
     for TaggedValue<T, E, Explicit, CLASS, TAG> {
     ghost check_by_kind = { ExplicitCheckGives BerElementGives T.check_gives };
 
-    /// Refuses an indefinite length with `IndefiniteLengthUnexpected`, and contents octets that do not begin with an
-    /// element by BER that keeps the constraints of the value.
+    /// Refuses an indefinite length with `IndefiniteLengthUnexpected`; then contents octets that do not begin with an
+    /// element by BER that keeps the constraints of the value; then, with `TrailingOctets`, what is left behind it.
     fn check_this_kind(any: &Any<'_>) -> Result<(), Error> {
         any.header.length().assert_definite()?;
-        check_inner::<T>(any)
+        check_whole::<T>(element_by_ber(any.content))
     }
 }
 
@@ -283,7 +267,7 @@ impl<'a, T: LawfulDer<'a, E> + Drop, E: From<Error>, const CLASS: u8, const TAG:
 > for TaggedValue<T, E, Explicit, CLASS, TAG> {
     ghost exact_by_reader = { λ input answer octets. explicit_der_exact CLASS TAG (λ t. t.inner)
         T.der_gives E.from_gives T.grammar.Der T.grammar.value T.grammar.allocates IsCutIdentifier
-        T.der_exact input answer };
+        T.der_exact T.lawful_item.der_one input answer };
 
     ghost no_memory_by_reader = { λ none. explicit_der_no_memory CLASS TAG (λ t. t.inner) T.der_gives
         E.from_gives (T.der_no_memory none) };

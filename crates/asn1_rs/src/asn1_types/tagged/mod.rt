@@ -9,6 +9,7 @@ mod implicit_value;
 pub mod optional;
 pub mod parser;
 mod parser_writing;
+mod whole_contents;
 
 ghost use Rattle.std.specs.Prelude.{◌≡◌, ◌<◌, ◌∷◌, []};
 ghost use Rattle.std.proofs.Common.{lit<};

@@ -11,12 +11,13 @@ ghost use Rattle.asn1_headers.specs.Ber.{max_depth};
 ghost use Rattle.asn1_headers.specs.Header.{class_of, is_constructed_of, tag_of, length_of, raw_tag_of, HasParts};
 ghost use Rattle.asn1_headers.specs.Header.Reading.{der_refusal, ber_refusal, KeepsIdentifier};
 ghost use Rattle.asn1_rs.specs.Tagged.{ThenByDer, ThenByBer};
-ghost use Rattle.asn1_rs.specs.Tagged.Parser.{IsUnder, TakesExplicit, TakesImplicit, ChecksAndConverts, HasTag, Asks};
-ghost use Rattle.asn1_rs.specs.Tagged.Parser.{Expects};
+ghost use Rattle.asn1_rs.specs.Tagged.Parser.{IsUnder, TakesExplicit, TakesWhole, TakesImplicit, ChecksAndConverts};
+ghost use Rattle.asn1_rs.specs.Tagged.Parser.{HasTag, Asks, Expects};
 ghost use Rattle.asn1_headers.specs.declared.error.Error.TheVariants as errors;
 ghost use Rattle.asn1_headers.specs.declared.length.Length.TheVariants as forms;
 
 use crate::asn1_types::any::Any;
+use crate::asn1_types::tagged::whole_contents::whole;
 use crate::asn1_types::tagged::{Explicit, Implicit};
 use crate::ber::element_by_ber;
 use crate::der::element_by_der;
@@ -196,20 +197,20 @@ where
     }
 }
 
-/// Reads an element by DER, and the value at the front of its contents octets by DER, whatever the element's tag, class
-/// and constructed bit. What follows the value there is dropped.
+/// Reads an element by DER, and the value that its contents octets are by DER, whatever the element's tag, class and
+/// constructed bit. What is left behind the value there is refused with `TrailingOctets`.
 impl<'a, T, E> FromDer<'a, E> for TaggedParser<'a, Explicit, T, E>
 where
-    T: FromDer<'a, E>,
+    T: FromDer<'a, E> + Drop,
     E: From<Error>,
 {
     ghost der_gives = { ThenByDer E.from_gives
-        (TakesExplicit T.der_gives) };
+        (TakesWhole T.der_gives E.from_gives) };
 
     fn from_der(alloc: Global, bytes: &'a [u8]) -> ParseResult<'a, Self, E> {
         let (rest, any) = converted(element_by_der(bytes))?;
-        match T::from_der(alloc, any.content) {
-            Ok((_, inner)) => Ok((rest, TaggedParser::new(any.header, inner))),
+        match whole(T::from_der(alloc, any.content)) {
+            Ok(inner) => Ok((rest, TaggedParser::new(any.header, inner))),
             Err(e) => Err(e),
         }
     }
@@ -340,7 +341,7 @@ impl<'a, T: Drop, E: From<Error>> TaggedParser<'a, Explicit, T, E> {
     where
         T: FromDer<'a, E>,
         ensures { Expects (ThenByDer E.from_gives
-            (TakesExplicit T.der_gives))
+            (TakesWhole T.der_gives E.from_gives))
             (HasTag class tag) E.from_gives bytes.now (seen result) }
     {
         match Self::from_der(alloc, bytes) {

@@ -10,7 +10,8 @@ returns-clause-exact g c = (g.met.T.LawfulBer c.lifetimes (search rules)).ber_ex
 
 pub returns-clause-back : goal.returns-clause-back
 returns-clause-back g c = λ input answer v w rest o gives s e.
-    read_back EndsWithin g.T.Grammar.grammar.Form (ber_words g.T.Grammar.grammar) g.T.Grammar.grammar.value _ g.met.T.LawfulItem.lawful_item.one_equality
+    read_back EndsWithin g.T.Grammar.grammar.Form (ber_words g.T.Grammar.grammar) g.T.Grammar.grammar.value _
+    g.met.T.LawfulItem.lawful_item.one_equality
     (strict_ber g.T.Grammar.grammar g.met.T.LawfulItem.lawful_item)
     (ber_one g.T.Grammar.grammar g.met.T.LawfulItem.lawful_item) input answer
     ((g.met.T.LawfulBer c.lifetimes (search rules)).ber_exact input answer o gives) v w rest s e

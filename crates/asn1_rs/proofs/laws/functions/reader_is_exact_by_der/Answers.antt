@@ -9,7 +9,8 @@ returns-clause-exact g c = (g.met.T.LawfulDer c.lifetimes (search rules)).der_ex
 
 pub returns-clause-back : goal.returns-clause-back
 returns-clause-back g c = λ input answer v w rest o gives s e.
-    read_back IsCutIdentifier g.T.Grammar.grammar.Form g.T.Grammar.grammar.Der g.T.Grammar.grammar.value _ g.met.T.LawfulItem.lawful_item.one_equality
+    read_back IsCutIdentifier g.T.Grammar.grammar.Form g.T.Grammar.grammar.Der g.T.Grammar.grammar.value _
+    g.met.T.LawfulItem.lawful_item.one_equality
     g.met.T.LawfulItem.lawful_item.strict_der g.met.T.LawfulItem.lawful_item.der_one input answer
     ((g.met.T.LawfulDer c.lifetimes (search rules)).der_exact input answer o gives) v w rest s e
 

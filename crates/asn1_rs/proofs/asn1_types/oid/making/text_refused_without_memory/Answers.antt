@@ -28,5 +28,5 @@ second_says text part other (Some t) (Some u) others all more is one rest =
 pub arc_of_part-requires : goal.arc_of_part-requires
 arc_of_part-requires c =
     second_says c.args.s.now c.first_part.result.0.now c.first_part-2.result.0.now c.first_part.result.1
-    c.first_part-2.result.1 c.in-Some.others c.requires c.first_part.ensures.more c.in-Some.is c.first_part-2.ensures.one
-    c.first_part-2.ensures.more
+    c.first_part-2.result.1 c.in-Some.others c.requires c.first_part.ensures.more c.in-Some.is
+    c.first_part-2.ensures.one c.first_part-2.ensures.more

@@ -1,5 +1,5 @@
 use Rattle.std.proofs.Common.{length}
-use Rattle.asn1_rs.proofs.Refused.{put_refuses, put_accepted, put_uncounted}
+use Rattle.asn1_rs.proofs.Refused.{put_refuses, put_accepted, put_uncounted, put_first}
 use Rattle.asn1_rs.proofs.kinds.writing.AnyToDerByElementKind.put_content.Goals as goal
 
 pub returns-clause-refused : goal.returns-clause-refused
@@ -15,4 +15,9 @@ returns-clause-accepted g c =
 pub returns-clause-uncounted : goal.returns-clause-uncounted
 returns-clause-uncounted g c =
     λ e _ o. put_uncounted (g.T.WritesElement.refusal c.args.self.now) (g.T.WritesElement.is_refused c.args.self.now)
+    (length (g.T.WritesElement.octets c.args.self.now)) _ _ c.put_octets.result c.put_octets.ensures.refused e o
+
+pub returns-clause-first : goal.returns-clause-first
+returns-clause-first g c =
+    λ e o. put_first (g.T.WritesElement.refusal c.args.self.now) (g.T.WritesElement.is_refused c.args.self.now)
     (length (g.T.WritesElement.octets c.args.self.now)) _ _ c.put_octets.result c.put_octets.ensures.refused e o

@@ -1,4 +1,4 @@
-use Rattle.asn1_rs.proofs.Refused.{whole_put_refuses, put_accepted, put_uncounted, whole_put_at_once}
+use Rattle.asn1_rs.proofs.Refused.{whole_put_refuses, put_accepted, put_uncounted, whole_put_at_once, put_first}
 use Rattle.asn1_rs.proofs.kinds.writing.AnyToDerByElementKind.put_whole.Goals as goal
 
 pub returns-clause-refused : goal.returns-clause-refused
@@ -15,4 +15,8 @@ returns-clause-uncounted g c = λ e _ o. put_uncounted (g.T.WritesElement.refusa
 
 pub returns-clause-at_once : goal.returns-clause-at_once
 returns-clause-at_once g c = λ e _ o. whole_put_at_once (g.T.WritesElement.refusal c.args.self.now)
+    (g.T.WritesElement.is_refused c.args.self.now) _ _ _ c.put_element.result c.put_element.ensures.refused e o
+
+pub returns-clause-first : goal.returns-clause-first
+returns-clause-first g c = λ e o. put_first (g.T.WritesElement.refusal c.args.self.now)
     (g.T.WritesElement.is_refused c.args.self.now) _ _ _ c.put_element.result c.put_element.ensures.refused e o

@@ -1,11 +1,11 @@
-use Rattle.std.proofs.Common.{arith, length-append, subst, IfErr, ◌≡◌, false, inl, inr, refl}
+use Rattle.std.proofs.Common.{subst, IfErr, ◌≡◌, false, refl}
 use Rattle.std.proofs.lemmas.Bool.{false≢true}
 use Rattle.std.proofs.lemmas.Result.{err_from_is_err_and}
 use Rattle.asn1_headers.specs.Error.{tells_of_io}
 use Rattle.asn1_headers.specs.Laws.Writing.{Wrote_front, Wrote_then_err, Wrote_sum, MayRefuse_sum}
-use Rattle.asn1_rs.specs.ToDer.{Either, whole_octets, whole_refuses}
-use Rattle.asn1_rs.proofs.Writing.{refuses_first, refuses_second, refuses_wider, header_at_once, only_may, not_refused}
-use Rattle.asn1_rs.proofs.Writing.{Wrote_nothing, unmarked_is_no_io, at_once_elsewhere, keeps_or_may, may_keep, none_own}
+use Rattle.asn1_rs.specs.ToDer.{whole_octets, whole_refuses}
+use Rattle.asn1_rs.proofs.Writing.{header_refuses, content_refuses, header_refuses_at_once, header_not_refused}
+use Rattle.asn1_rs.proofs.Writing.{written_keeps, may_keep, only_may, Wrote_nothing, unmarked_is_no_io}
 use Rattle.asn1_rs.proofs.kinds.writing.ToDerBy.put_whole.Goals as goal
 
 pub returns-in_err-stands-clause-wrote : goal.returns-in_err-stands-clause-wrote
@@ -44,42 +44,22 @@ returns-clause-wrote g c =
 pub returns-in_err-header-clause-refused : goal.returns-in_err-header-clause-refused
 returns-in_err-header-clause-refused g c = λ t.
     let p = err_from_is_err_and c.from_residual-in_err-header.result c.from_residual-in_err-header.ensures.1 in
-    let header_refuses = g.Self.ToDerBy.writing.header_refuses c.args.self.now in
-    let content_refuses = g.Self.ToDerBy.writing.content_refuses c.args.self.now in
-    rw (p.1, p.2) (refuses_wider c.in_err-header.field-0.0 g.Self.ToDerBy.writing.write_allocates _ _
-    (Either header_refuses content_refuses)
-    (refuses_first c.in_err-header.field-0.0 _ g.Self.ToDerBy.writing.content_allocates _
-    header_refuses content_refuses (c.in_err-header.ensures.refused t)))
+    rw (p.1, p.2) (header_refuses g.Self.ToDerBy.writing c.args.self.now c.in_err-header.field-0.0 (c.in_err-header.ensures.refused t))
 
 pub returns-in_err-before-clause-refused : goal.returns-in_err-before-clause-refused
 returns-in_err-before-clause-refused g c = λ t.
     let p = err_from_is_err_and c.from_residual-in_err-before.result c.from_residual-in_err-before.ensures.1 in
-    let header_refuses = g.Self.ToDerBy.writing.header_refuses c.args.self.now in
-    let content_refuses = g.Self.ToDerBy.writing.content_refuses c.args.self.now in
-    rw (p.1, p.2) (refuses_wider c.in_err-before.field-0.0 g.Self.ToDerBy.writing.write_allocates _ _
-    (Either header_refuses content_refuses)
-    (refuses_first c.in_err-before.field-0.0 _ g.Self.ToDerBy.writing.content_allocates _
-    header_refuses content_refuses (c.in_err-before.ensures.refused t)))
+    rw (p.1, p.2) (header_refuses g.Self.ToDerBy.writing c.args.self.now c.in_err-before.field-0.0 (c.in_err-before.ensures.refused t))
 
 pub returns-in_err-content-clause-refused : goal.returns-in_err-content-clause-refused
 returns-in_err-content-clause-refused g c = λ t.
     let p = err_from_is_err_and c.from_residual-in_err-content.result c.from_residual-in_err-content.ensures.1 in
-    let header_refuses = g.Self.ToDerBy.writing.header_refuses c.args.self.now in
-    let content_refuses = g.Self.ToDerBy.writing.content_refuses c.args.self.now in
-    rw (p.1, p.2) (refuses_wider c.in_err-content.field-0.0 g.Self.ToDerBy.writing.write_allocates _ _
-    (Either header_refuses content_refuses)
-    (refuses_second c.in_err-content.field-0.0 g.Self.ToDerBy.writing.count_allocates _ _ _
-    header_refuses content_refuses (simp length-append (omega arith)) (c.in_err-content.ensures.refused t)))
+    rw (p.1, p.2) (content_refuses g.Self.ToDerBy.writing c.args.self.now c.in_err-content.field-0.0 (c.in_err-content.ensures.refused t))
 
 pub returns-in_err-after-clause-refused : goal.returns-in_err-after-clause-refused
 returns-in_err-after-clause-refused g c = λ t.
     let p = err_from_is_err_and c.from_residual-in_err-after.result c.from_residual-in_err-after.ensures.1 in
-    let header_refuses = g.Self.ToDerBy.writing.header_refuses c.args.self.now in
-    let content_refuses = g.Self.ToDerBy.writing.content_refuses c.args.self.now in
-    rw (p.1, p.2) (refuses_wider c.in_err-after.field-0.0 g.Self.ToDerBy.writing.write_allocates _ _
-    (Either header_refuses content_refuses)
-    (refuses_second c.in_err-after.field-0.0 g.Self.ToDerBy.writing.count_allocates _ _ _
-    header_refuses content_refuses (simp length-append (omega arith)) (c.in_err-after.ensures.refused t)))
+    rw (p.1, p.2) (content_refuses g.Self.ToDerBy.writing c.args.self.now c.in_err-after.field-0.0 (c.in_err-after.ensures.refused t))
 
 pub returns-clause-refused : goal.returns-clause-refused
 returns-clause-refused g c = λ t.
@@ -95,46 +75,38 @@ returns-clause-uncounted g c = λ e t o. absurd (false≢true (c.in_ok-after.ens
 pub returns-in_err-header-clause-at_once : goal.returns-in_err-header-clause-at_once
 returns-in_err-header-clause-at_once g c = λ e t o.
     let p = err_from_is_err_and c.from_residual-in_err-header.result c.from_residual-in_err-header.ensures.1 in
-    let header_refuses = g.Self.ToDerBy.writing.header_refuses c.args.self.now in
-    let content_refuses = g.Self.ToDerBy.writing.content_refuses c.args.self.now in
-    rw (p.1, p.2) (at_once_elsewhere _ _ _ _ _ _ _
-    (header_at_once g.Self.ToDerBy.writing.write_allocates _ g.Self.ToDerBy.writing.content_allocates _
-    header_refuses content_refuses _ _ _ (c.in_err-header.ensures.at_once e t o)))
+    rw (p.1, p.2) (header_refuses_at_once g.Self.ToDerBy.writing c.args.self.now _ _ (c.in_err-header.ensures.at_once e t o))
 
 pub returns-in_err-content-clause-at_once : goal.returns-in_err-content-clause-at_once
-returns-in_err-content-clause-at_once g c = λ e t o. absurd (not_refused _ _
-    (g.Self.ToDerBy.writing.header_refuses c.args.self.now) _ _ _ (c.in_ok-header.ensures.at_once e t o))
+returns-in_err-content-clause-at_once g c = λ e t o.
+    absurd (header_not_refused g.Self.ToDerBy.writing c.args.self.now (c.in_ok-header.ensures.at_once e t o))
 
 pub returns-in_err-add_written-clause-at_once : goal.returns-in_err-add_written-clause-at_once
-returns-in_err-add_written-clause-at_once g c = λ e t o. absurd (not_refused _ _
-    (g.Self.ToDerBy.writing.header_refuses c.args.self.now) _ _ _ (c.in_ok-header.ensures.at_once e t o))
+returns-in_err-add_written-clause-at_once g c = λ e t o.
+    absurd (header_not_refused g.Self.ToDerBy.writing c.args.self.now (c.in_ok-header.ensures.at_once e t o))
 
 pub returns-in_err-before-clause-at_once : goal.returns-in_err-before-clause-at_once
-returns-in_err-before-clause-at_once g c = λ e t o. absurd (not_refused _ _
-    (g.Self.ToDerBy.writing.header_refuses c.args.self.now) _ _ _ (c.in_ok-header.ensures.at_once e t o))
+returns-in_err-before-clause-at_once g c = λ e t o.
+    absurd (header_not_refused g.Self.ToDerBy.writing c.args.self.now (c.in_ok-header.ensures.at_once e t o))
 
 pub returns-in_err-after-clause-at_once : goal.returns-in_err-after-clause-at_once
-returns-in_err-after-clause-at_once g c = λ e t o. absurd (not_refused _ _
-    (g.Self.ToDerBy.writing.header_refuses c.args.self.now) _ _ _ (c.in_ok-header.ensures.at_once e t o))
+returns-in_err-after-clause-at_once g c = λ e t o.
+    absurd (header_not_refused g.Self.ToDerBy.writing c.args.self.now (c.in_ok-header.ensures.at_once e t o))
 
 pub returns-clause-at_once : goal.returns-clause-at_once
-returns-clause-at_once g c = λ e t o. absurd (not_refused _ _
-    (g.Self.ToDerBy.writing.header_refuses c.args.self.now) _ _ _ (c.in_ok-header.ensures.at_once e t o))
+returns-clause-at_once g c = λ e t o.
+    absurd (header_not_refused g.Self.ToDerBy.writing c.args.self.now (c.in_ok-header.ensures.at_once e t o))
 
 pub returns-in_err-before-clause-kept : goal.returns-in_err-before-clause-kept
 returns-in_err-before-clause-kept g c = λ t.
-    keeps_or_may _ _ _ _ _ _ (none_own (g.Self.ToDerBy.writing.header_refuses c.args.self.now)
-    (g.Self.ToDerBy.writing.content_refuses c.args.self.now) c.in_ok-header.header c.in_ok-content.content
-    (λ e o. c.in_ok-header.ensures.at_once e t o)
-    (λ e o. c.in_ok-content.ensures.accepted e t o))
+    written_keeps g.Self.ToDerBy.writing c.args.self.now _ _ c.in_ok-header.header c.in_ok-content.content _
+    (λ e o. c.in_ok-header.ensures.at_once e t o) (λ e o. c.in_ok-content.ensures.accepted e t o)
     (returns-in_err-before-clause-refused g c t)
 
 pub returns-in_err-after-clause-kept : goal.returns-in_err-after-clause-kept
 returns-in_err-after-clause-kept g c = λ t.
-    keeps_or_may _ _ _ _ _ _ (none_own (g.Self.ToDerBy.writing.header_refuses c.args.self.now)
-    (g.Self.ToDerBy.writing.content_refuses c.args.self.now) c.in_ok-header.header c.in_ok-content.content
-    (λ e o. c.in_ok-header.ensures.at_once e t o)
-    (λ e o. c.in_ok-content.ensures.accepted e t o))
+    written_keeps g.Self.ToDerBy.writing c.args.self.now _ _ c.in_ok-header.header c.in_ok-content.content _
+    (λ e o. c.in_ok-header.ensures.at_once e t o) (λ e o. c.in_ok-content.ensures.accepted e t o)
     (returns-in_err-after-clause-refused g c t)
 
 pub returns-clause-kept : goal.returns-clause-kept
