@@ -13,8 +13,13 @@ an impl or a function, and the old text is the first one behind that line, up to
 
 An edit of mutants/ has a line 'claim: NAME' too, or 'claim: NAME, NAME', with the claims that it turns. It may have a
 line 'for: WORD WORD ..'. Then the file stands for one edit for each word, in whose texts the word stands for each '$'.
-Such an edit is called NAME[WORD], here and in the ledger. `rt` reads the edits of must-fail/ and knows no line
-'claim:', 'for:' or 'within:'. So the names of these edits stand in the page, behind the clauses.
+Such an edit is called NAME[WORD], here and in the ledger.
+
+An edit of mutants/ stands in the folder of the module of its first file, without 'mod': in asn1_types/oid/making/ for
+'file: src/asn1_types/oid/making.rt'. Where '$' stands in that line, the folder is the one above it.
+
+`rt` reads the edits of must-fail/ and knows no line 'claim:', 'for:' or 'within:'. So the names of these edits stand in
+the page, behind the clauses.
 
 An edit that names what there is not can't compile, and judges nothing. So each function that a new text calls, and each
 method, stands in a source of the repository, in the edit itself, or in OF_STD.
@@ -192,6 +197,22 @@ def folder_of(path):
     return path.relative_to(TOP).parts[2]
 
 
+def module_of(file):
+    """Returns the folders of the module of a file of sources. Where the file has a '$', they are those above it."""
+    whole = file.partition("$")[0].rpartition("/")[0] if "$" in file else file.removesuffix(".rt")
+    parts = whole.split("/")[1:]
+    return parts[:-1] if parts and parts[-1] in ("lib", "main", "mod") else parts
+
+
+def misplaced():
+    """Yields the edits of mutants/ that do not stand in the folder of the module of their first file."""
+    for path in sorted(TOP.glob("crates/*/mutants/**/*.edit")):
+        found = re.search(r"^file: (\S+)", path.read_text(encoding="utf-8"), re.M)
+        folders = module_of(found[1]) if found else []
+        if list(path.relative_to(TOP).parts[3:-1]) != folders:
+            yield f"{path.relative_to(TOP)}: it stands in another folder than {'/'.join(folders)}/, of its module"
+
+
 def edits_of(found, edits):
     """Returns the paths of the edits under the name of each claim."""
     of = {claim.name: [path for path, edit in edits.items() if claim.name in edit.claims] for claim in found}
@@ -287,7 +308,7 @@ def main(*words):
             faults += 1
             print(f"{path.relative_to(TOP)}: does not apply: {fault}")
     print(f"{faults} of {len(edits)} edits do not apply" if faults else f"{len(edits)} edits apply")
-    wrong = [*wrong_names(found, edits), *let_through(edits)]
+    wrong = [*wrong_names(found, edits), *misplaced(), *let_through(edits)]
     code = code_words()
     for path, edit in edits.items():
         for name in unknown_calls(edit, code):

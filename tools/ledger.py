@@ -42,8 +42,8 @@ def functions_in(text):
 
 
 def last_line(lines, first):
-    """Returns the number of the last line of the function whose first line has this number: that of its last bracket, or
-    of the semicolon of a signature without a body."""
+    """Returns the number of the last line of the function whose first line has this number: that of its last bracket,
+    or of the semicolon of a signature without a body."""
     indent, has_body = indent_of(lines[first]), lines[first].endswith("{")
     for number in range(first, len(lines)):
         words, is_level = lines[number].strip(), indent_of(lines[number]) == indent
