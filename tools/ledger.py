@@ -99,7 +99,7 @@ def read(folder):
 
 
 def is_there(folder, path):
-    """Whether the edit of this path stands below mutants/: its file, and in that the word in brackets, if it has one."""
+    """Whether the edit of this path stands below mutants/: its file, and there the word in brackets, if it has one."""
     name, _, word = path.removesuffix("]").partition("[")
     file = folder / f"mutants/{name}.edit"
     words = words_of(file.read_text(encoding="utf-8")) if file.is_file() else None
