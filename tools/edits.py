@@ -5,11 +5,21 @@
   tools/edits.py --claims [WORD ..]  prints the edits of each claim, or of those whose names hold one of the words
   tools/edits.py --tried             prints what the ledgers say of each crate's edits, as docs/MUTANTS.md has it
 
-An edit of crates/NAME/must-fail/, crates/NAME/mutants/ (a folder for each module) or crates/NAME/must-not-compile/ has
-lines 'file: src/NAME.rt', 'old: TEXT' and 'new: TEXT', each TEXT one line, and perhaps further pairs, which apply to
-what the earlier ones made. It applies where each old text stands exactly once in its file, and the edit changes
-something. One of mutants/ has a line 'claim: NAME' too, or 'claim: NAME, NAME', with the claims that it turns. `rt`
-reads those of must-fail/ and knows no such line, so their names stand in the page, behind the clauses.
+An edit of crates/NAME/must-fail/, crates/NAME/mutants/ or crates/NAME/must-not-compile/ has lines
+'file: src/NAME.rt', 'old: TEXT' and 'new: TEXT', each TEXT one line, and perhaps further pairs, which apply to what the
+earlier ones made. It applies where each old text stands exactly once in its file, and the edit changes something. A
+line 'within: TEXT' may stand before a line 'old: ..'. Then TEXT stands exactly once in the file, in the first line of
+an impl or a function, and the old text is the first one behind that line, up to the last bracket.
+
+An edit of mutants/ has a line 'claim: NAME' too, or 'claim: NAME, NAME', with the claims that it turns. It may have a
+line 'for: WORD WORD ..'. Then the file stands for one edit for each word, in whose texts the word stands for each '$'.
+Such an edit is called NAME[WORD], here and in the ledger.
+
+An edit of mutants/ stands in the folder of the module of its first file, without 'mod': in asn1_types/oid/making/ for
+'file: src/asn1_types/oid/making.rt'. Where '$' stands in that line, the folder is the one above it.
+
+`rt` reads the edits of must-fail/ and knows no line 'claim:', 'for:' or 'within:'. So the names of these edits stand in
+the page, behind the clauses.
 
 An edit that names what there is not can't compile, and judges nothing. So each function that a new text calls, and each
 method, stands in a source of the repository, in the edit itself, or in OF_STD.
@@ -23,6 +33,7 @@ was let through, where it and what it changes are as they were then (tools/ledge
 import pathlib
 import re
 import sys
+from typing import NamedTuple
 
 sys.dont_write_bytecode = True
 import ledger
@@ -30,49 +41,99 @@ import ledger
 TOP = pathlib.Path(__file__).resolve().parent.parent
 
 
-class Edit:
-    """One file of edits: its name, its claims, the file that it changes (the first, of several), its pairs of texts."""
+class Change(NamedTuple):
+    """One pair of texts: the file, the old text, the new one, and that of the impl or function that it stands in."""
 
-    def __init__(self, path):
-        self.name, self.claims, self.changes, self.functions = path.stem, [], [], set()
-        file = old = None
-        for line in path.read_text(encoding="utf-8").split("\n"):
+    file: str | None
+    old: str | None
+    new: str
+    within: str | None
+
+    def fault(self, text):
+        """Returns why the change does not apply to the text of its file, or None where it does."""
+        what, sought = ("text of 'within:'", self.within) if self.within else ("old text", self.old)
+        times = text.count(sought)
+        if times != 1:
+            return f"its {what} stands {times} times in {self.file}, and not once: {sought.strip()}"
+        if text.find(self.old, *self.bounds(text)) < 0:
+            return f"its old text does not stand within {self.within.strip()} in {self.file}: {self.old.strip()}"
+        return None
+
+    def bounds(self, text):
+        """Returns where the old text is looked for: anywhere, or behind the line of `within` up to the bracket that
+        stands as far in as that line."""
+        if not self.within:
+            return 0, len(text)
+        head = text.partition(self.within)[0]
+        line, begin = head.rpartition("\n")[2] + self.within, text.index("\n", len(head))
+        end = text.find(f"\n{line[:ledger.indent_of(line)]}}}\n", begin)
+        return begin, end if end >= 0 else len(text)
+
+    def at(self, text):
+        """Returns where the old text stands, or None where the change does not apply."""
+        return None if self.old is None or self.fault(text) else text.index(self.old, *self.bounds(text))
+
+    def applied(self, text):
+        """Returns the changed text, or None where the change does not apply."""
+        at = self.at(text)
+        return None if at is None else text[:at] + self.new + text[at + len(self.old):]
+
+
+class Edit:
+    """One edit: its name, its claims, the file that it changes (the first, of several), and its changes."""
+
+    def __init__(self, name, text):
+        self.name, self.claims, self.changes, self.functions = name, [], [], set()
+        file = within = old = None
+        for line in text.split("\n"):
             if line.startswith("claim:"):
                 self.claims = [claim.strip() for claim in line[len("claim:"):].split(",")]
             elif line.startswith("file: "):
                 file = line[len("file: "):].strip()
+            elif line.startswith("within: "):
+                within = line[len("within: "):]
             elif line.startswith("old: "):
                 old = line[len("old: "):]
             elif line.startswith("new:"):
-                self.changes.append((file, old, line[len("new:"):].removeprefix(" ")))
-                old = None
-        self.file = self.changes[0][0] if self.changes else None
-        self.pairs = [(old, new) for _, old, new in self.changes]
+                self.changes.append(Change(file, old, line[len("new:"):].removeprefix(" "), within))
+                within = old = None
+        self.file = self.changes[0].file if self.changes else None
 
     def applied(self, text):
-        """Returns the edited text, or None where an old text does not stand in it exactly once."""
-        for old, new in self.pairs:
-            if old is None or text.count(old) != 1:
-                return None
-            text = text.replace(old, new)
-        return text if self.pairs else None
+        """Returns the edited text, or None where a change does not apply."""
+        for change in self.changes:
+            text = None if text is None else change.applied(text)
+        return text if self.changes else None
 
     def fault(self, folder):
         """Returns why it does not apply to the crate of this folder, or None where it does."""
-        if not self.changes or any(file is None or old is None for file, old, _ in self.changes):
+        if not self.changes or any(change.file is None or change.old is None for change in self.changes):
             return "it has no pair of lines 'old: ..' and 'new: ..' under a line 'file: ..', or half of one"
         texts = {}
-        for file, old, new in self.changes:
-            if file not in texts:
-                if not (folder / file).is_file():
-                    return f"there is no file {file}"
-                texts[file] = (folder / file).read_text(encoding="utf-8")
-            times = texts[file].count(old)
-            if times != 1:
-                return f"its old text stands {times} times in {file}, and not once: {old.strip()}"
-            texts[file] = texts[file].replace(old, new)
+        for change in self.changes:
+            if change.file not in texts:
+                if not (folder / change.file).is_file():
+                    return f"there is no file {change.file}"
+                texts[change.file] = (folder / change.file).read_text(encoding="utf-8")
+            fault = change.fault(texts[change.file])
+            if fault:
+                return fault
+            texts[change.file] = change.applied(texts[change.file])
         is_same = all((folder / file).read_text(encoding="utf-8") == text for file, text in texts.items())
         return "it changes nothing" if is_same else None
+
+
+def read_edits(paths):
+    """Returns the edits of these files, by their paths. A file with a line 'for: ..' has one for each word, whose path
+    is that of the file with the word in brackets behind the name."""
+    edits = {}
+    for path in sorted(paths):
+        text = path.read_text(encoding="utf-8")
+        for word in ledger.words_of(text):
+            edits[path.with_stem(f"{path.stem}[{word}]")] = Edit(f"{path.stem}[{word}]", text.replace("$", word))
+        if not ledger.words_of(text):
+            edits[path] = Edit(path.stem, text)
+    return edits
 
 
 # A word with a bracket behind it, perhaps with type arguments between: a call.
@@ -92,7 +153,7 @@ def code_words():
 
 def unknown_calls(edit, words):
     """Returns what the edit calls, where neither the edit nor these words have it."""
-    olds, news = " ".join(old or "" for old, _ in edit.pairs), " ".join(new for _, new in edit.pairs)
+    olds, news = " ".join(it.old or "" for it in edit.changes), " ".join(it.new for it in edit.changes)
     return sorted(set(CALL.findall(news)) - words - OF_STD - set(WORD.findall(olds)) - set(DEFINED.findall(news)))
 
 
@@ -136,6 +197,22 @@ def folder_of(path):
     return path.relative_to(TOP).parts[2]
 
 
+def module_of(file):
+    """Returns the folders of the module of a file of sources. Where the file has a '$', they are those above it."""
+    whole = file.partition("$")[0].rpartition("/")[0] if "$" in file else file.removesuffix(".rt")
+    parts = whole.split("/")[1:]
+    return parts[:-1] if parts and parts[-1] in ("lib", "main", "mod") else parts
+
+
+def misplaced():
+    """Yields the edits of mutants/ that do not stand in the folder of the module of their first file."""
+    for path in sorted(TOP.glob("crates/*/mutants/**/*.edit")):
+        found = re.search(r"^file: (\S+)", path.read_text(encoding="utf-8"), re.M)
+        folders = module_of(found[1]) if found else []
+        if list(path.relative_to(TOP).parts[3:-1]) != folders:
+            yield f"{path.relative_to(TOP)}: it stands in another folder than {'/'.join(folders)}/, of its module"
+
+
 def edits_of(found, edits):
     """Returns the paths of the edits under the name of each claim."""
     of = {claim.name: [path for path, edit in edits.items() if claim.name in edit.claims] for claim in found}
@@ -165,6 +242,8 @@ def wrong_names(found, edits):
             yield f"{path.relative_to(TOP)}: docs/CLAIMS.md names it in no row"
         if folder_of(path) == "mutants" and not edit.claims:
             yield f"{path.relative_to(TOP)}: it has no line 'claim: ..'"
+        if folder_of(path) == "must-fail" and (path.stem.endswith("]") or any(it.within for it in edit.changes)):
+            yield f"{path.relative_to(TOP)}: rt knows no line 'for: ..' or 'within: ..'"
         for name in edit.claims:
             if folder_of(path) != "mutants":
                 yield f"{path.relative_to(TOP)}: only an edit of mutants/ has a line 'claim: ..'"
@@ -214,7 +293,7 @@ def let_through(edits):
 
 def main(*words):
     folders = ["must-fail/*.edit", "mutants/**/*.edit", "must-not-compile/*.edit"]
-    edits = {path: Edit(path) for path in sorted(path for it in folders for path in TOP.glob(f"crates/*/{it}"))}
+    edits = read_edits(path for it in folders for path in TOP.glob(f"crates/*/{it}"))
     found = claims()
     if words == ("--tried",):
         return print_tried(edits)
@@ -229,7 +308,7 @@ def main(*words):
             faults += 1
             print(f"{path.relative_to(TOP)}: does not apply: {fault}")
     print(f"{faults} of {len(edits)} edits do not apply" if faults else f"{len(edits)} edits apply")
-    wrong = [*wrong_names(found, edits), *let_through(edits)]
+    wrong = [*wrong_names(found, edits), *misplaced(), *let_through(edits)]
     code = code_words()
     for path, edit in edits.items():
         for name in unknown_calls(edit, code):
