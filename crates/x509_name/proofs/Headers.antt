@@ -4,7 +4,7 @@ use Rattle.std.proofs.lemmas.Bool.{false≢true}
 use Rattle.std.specs.Prelude.{◌==◌, None, Result}
 use Rattle.x690.specs.Laws.StrictHeaders.{header_octets_are}
 use Rattle.x690.specs.Strict.{header_octets}
-use Rattle.asn1_headers.specs.Error.{tells_of_io, written_refusal}
+use Rattle.asn1_headers.specs.Error.{written_refusal}
 use Rattle.asn1_headers.specs.Header.{HasParts}
 use Rattle.asn1_headers.specs.Header.Writing.{strict_header}
 use Rattle.asn1_headers.specs.Prepended.{Prepended}

@@ -1,4 +1,5 @@
-//! Names of X.509: lists of relative names, which are sets of attributes.
+//! Names of X.509: lists of relative names, which are sets of attributes (RFC 5280, 4.1.2.4). They are read by DER.
+//! Attributes are written too.
 #![tactic(auto)]
 
 mod attribute;

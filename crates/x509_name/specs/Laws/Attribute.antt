@@ -1,5 +1,5 @@
 -- Attributes are lawful.
-use Rattle.std.proofs.Common.{◌≡◌, ◌∙◌, ap, sym, refl, subst, lit<, ℕ, List, [], ◌++◌}
+use Rattle.std.proofs.Common.{◌≡◌, ◌∙◌, ap, sym, subst, lit<, ℕ, List, [], ◌++◌}
 use Rattle.std.specs.Prelude.{true}
 use Rattle.std.proofs.lemmas.List.{append_cancel_left}
 use Rattle.x690.specs.Collections.{AsWords}

@@ -1,5 +1,5 @@
 -- Names are lawful, and their reading is exact.
-use Rattle.std.proofs.Common.{◌≡◌, ap, sym, subst, lit<, true, ℕ, List, map}
+use Rattle.std.proofs.Common.{ap, sym, lit<, true, ℕ, List, map}
 use Rattle.std.specs.Prelude.{Result, Ok, Err}
 use Rattle.std.specs.declared.alloc.Global.{Global}
 use Rattle.std.specs.declared.vec.Vec.{Vec}
@@ -13,7 +13,7 @@ use Rattle.asn1_headers.specs.declared.error.Error.{Error}
 use Rattle.asn1_rs.specs.Grammar.{FormNumber, NoCheck}
 use Rattle.asn1_rs.specs.Grammar.Item.{IsLawfulItem}
 use Rattle.asn1_rs.specs.Kinds.{IsLawfulElement}
-use Rattle.asn1_rs.specs.Laws.Kinds.{held_reads, lawful_item}
+use Rattle.asn1_rs.specs.Laws.Kinds.{lawful_item}
 use Rattle.asn1_rs.specs.Laws.Lists.{list_body_one, list_body_values, list_by_der_exact, list_fits, list_form_body}
 use Rattle.asn1_rs.specs.Laws.Lists.{list_form_values, list_number, list_one_form, list_one_value, number_checks}
 use Rattle.asn1_rs.specs.Laws.Readers.{der_elements}

@@ -1,8 +1,8 @@
 -- Reading attributes is exact.
-use Rattle.std.proofs.Common.{◌≡◌, ◌≢◌, ◌∙◌, ap, sym, refl, subst, inl, inr, false, ℕ, List, [], ◌++◌, append-nil}
+use Rattle.std.proofs.Common.{◌≡◌, ◌∙◌, ap, sym, refl, subst, inl, inr, false, ℕ, List, [], ◌++◌, append-nil}
 use Rattle.std.proofs.lemmas.List.{append_cancel_left}
 use Rattle.std.specs.Prelude.{Result, Ok, Err, IfErr, IsTrue}
-use Rattle.x690.specs.Elements.{Parts, IsDerElement}
+use Rattle.x690.specs.Elements.{IsDerElement}
 use Rattle.x690.specs.Faults.{DerElementFault}
 use Rattle.x690.specs.Identifiers.{Identifier, IsCutIdentifier}
 use Rattle.x690.specs.Joined.{IsOneFront}
@@ -10,9 +10,7 @@ use Rattle.asn1_headers.specs.Answers.{Exactly, Front, IsOther, TellsMemory}
 use Rattle.asn1_headers.specs.Error.{HeldIn}
 use Rattle.asn1_headers.specs.Header.Reading.{der_breach}
 use Rattle.asn1_headers.specs.declared.error.Err.{Err as Refusal}
-use Rattle.asn1_headers.specs.declared.error.Err.TheVariants.{Error as refused}
 use Rattle.asn1_headers.specs.declared.error.Error.{Error}
-use Rattle.asn1_headers.specs.declared.error.Error.TheVariants.{OutOfMemory}
 use Rattle.asn1_rs.specs.Any.{IsDefiniteOr, IsTheElement, parts_of}
 use Rattle.asn1_rs.specs.Any.Value.{ElementValue, any_element, element_of}
 use Rattle.asn1_rs.specs.Lists.{IsConstructed, IsListOr}
@@ -26,7 +24,7 @@ use Rattle.asn1_rs.specs.Oid.{OidGives, oid_constraints, oid_element, oid_value}
 use Rattle.asn1_rs.specs.declared.asn1_types.any.Any.{Any}
 use Rattle.asn1_rs.specs.declared.asn1_types.oid.Oid.{Oid}
 use Rattle.x509_name.specs.Attribute.{AnyReads, AreTwo, AttributeGives, AttributeValue, OidReads, PartsGive, any_item}
-use Rattle.x509_name.specs.Attribute.{attribute_item, attribute_value, oid_item, trailing}
+use Rattle.x509_name.specs.Attribute.{attribute_item, attribute_value, oid_item}
 use Rattle.x509_name.specs.Laws.Attribute.{any_item_lawful, oid_item_lawful}
 use Rattle.x509_name.specs.declared.attribute.AttributeTypeAndValue.{AttributeTypeAndValue}
 

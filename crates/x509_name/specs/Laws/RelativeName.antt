@@ -1,11 +1,9 @@
 -- Relative names are lawful.
-use Rattle.std.proofs.Common.{◌≡◌, ◌≢◌, ◌∙◌, ap, sym, refl, subst, inl, inr, true, ℕ, List, [], ◌∷◌, ◌++◌, map, length}
+use Rattle.std.proofs.Common.{◌≡◌, ◌≢◌, ◌∙◌, ap, sym, refl, subst, ℕ, List, [], ◌∷◌, ◌++◌, length}
 use Rattle.std.proofs.lemmas.List.Sorted.{length_permutation}
 use Rattle.std.specs.List.Sorted.{IsPermutation}
-use Rattle.std.specs.Prelude.{Result, Ok, Err}
 use Rattle.x690.specs.Collections.{multiset}
-use Rattle.x690.specs.Elements.{Parts}
-use Rattle.x690.specs.Identifiers.{Identifier, IsCutIdentifier}
+use Rattle.x690.specs.Identifiers.{Identifier}
 use Rattle.x690.specs.Joined.{IsJoined, IsOneFront}
 use Rattle.x690.specs.Laws.Collections.{joins_joined, permutation_from_multiset}
 use Rattle.x690.specs.Laws.Equality.{multiset_set}
@@ -17,9 +15,8 @@ use Rattle.asn1_rs.specs.Kinds.{IsLawfulElement}
 use Rattle.asn1_rs.specs.Laws.Kinds.{lawful_item}
 use Rattle.asn1_rs.specs.Laws.Lists.{list_body_one, list_body_values}
 use Rattle.asn1_rs.specs.Laws.Set.{body_seen, set_fits, set_form_values, set_one_form, set_one_value}
-use Rattle.asn1_rs.specs.Lists.{ShapedList, StrictWord}
-use Rattle.asn1_rs.specs.Set.{Seen, SetForm}
-use Rattle.x509_name.specs.Attribute.{AttributeValue, attribute_element, attribute_item}
+use Rattle.asn1_rs.specs.Lists.{StrictWord}
+use Rattle.x509_name.specs.Attribute.{attribute_element, attribute_item}
 use Rattle.x509_name.specs.Laws.Attribute.{attribute_item_lawful, attribute_lawful}
 use Rattle.x509_name.specs.RelativeName.{IsSome, IsSomeSet, relative_name_element, relative_name_item}
 

@@ -1,10 +1,9 @@
 -- Reading relative names is exact, and the attributes stand in the order of their words.
 use Rattle.std.proofs.Common.{◌≡◌, ◌∙◌, ap, sym, refl, subst, inl, inr, true, false, ℕ, List, [], ◌∷◌, ◌++◌, map}
 use Rattle.std.specs.Prelude.{Result, Ok, Err}
-use Rattle.x690.specs.Collections.{Multiset, multiset}
 use Rattle.x690.specs.Elements.{IsDerElement}
 use Rattle.x690.specs.Identifiers.{IsCutIdentifier}
-use Rattle.x690.specs.Joined.{IsJoined, IsOneFront}
+use Rattle.x690.specs.Joined.{IsOneFront}
 use Rattle.asn1_headers.specs.Answers.{Exactly, Front, TellsMemory}
 use Rattle.asn1_headers.specs.declared.error.Err.{Err as Refusal}
 use Rattle.asn1_headers.specs.declared.error.Error.{Error}
@@ -12,14 +11,14 @@ use Rattle.asn1_rs.specs.Grammar.{DerWord, NoCheck}
 use Rattle.asn1_rs.specs.Laws.Lists.{list_body_one, list_by_der_exact, number_checks}
 use Rattle.asn1_rs.specs.Laws.Readers.{der_elements, front_more}
 use Rattle.asn1_rs.specs.Laws.Words.{word_one}
-use Rattle.asn1_rs.specs.Lists.{HasNumber, ListOf, ShapedList}
+use Rattle.asn1_rs.specs.Lists.{HasNumber, ListOf}
 use Rattle.asn1_rs.specs.Set.{HasItems, items_of}
 use Rattle.asn1_rs.specs.declared.asn1_types.set.set_of.SetOf.{SetOf}
 use Rattle.x509_name.specs.Attribute.{AttributeGives, AttributeValue, attribute_item, attribute_value}
 use Rattle.x509_name.specs.Laws.Attribute.{attribute_item_lawful}
 use Rattle.x509_name.specs.Laws.Reading.{attribute_exact, itself, same_front}
 use Rattle.x509_name.specs.Laws.RelativeName.{some_joined}
-use Rattle.x509_name.specs.RelativeName.{InWordOrder, IsSome, IsSomeSet, RelativeNameGives, SetReads, attributes}
+use Rattle.x509_name.specs.RelativeName.{InWordOrder, IsSome, RelativeNameGives, SetReads, attributes}
 use Rattle.x509_name.specs.RelativeName.{listed_values, relative_name_item, relative_name_value}
 use Rattle.x509_name.specs.declared.attribute.AttributeTypeAndValue.{AttributeTypeAndValue}
 use Rattle.x509_name.specs.declared.relative_name.RelativeDistinguishedName.{RelativeDistinguishedName}

@@ -1,9 +1,8 @@
 -- What is written for relative names and for names is lawful.
-use Rattle.std.proofs.Common.{◌≡◌, ap, true, ℕ, List, [], map}
+use Rattle.std.proofs.Common.{◌≡◌, ap, List, map}
 use mathlib.Core.HLevel.{⊥_prop}
 use mathlib.Core.Logic.{∥∥₁_elim}
 use Rattle.x690.specs.Collections.{multiset}
-use Rattle.x690.specs.Identifiers.{Identifier}
 use Rattle.x690.specs.Laws.Collections.{permutation_from_multiset, same_multiset}
 use Rattle.asn1_rs.specs.Grammar.Item.{IsLawfulWriting}
 use Rattle.asn1_rs.specs.Laws.Set.{set_by_value, set_has_form, set_writes_form}

@@ -1,18 +1,18 @@
 -- What is written for attributes is lawful.
-use Rattle.std.proofs.Common.{arith, ◌≡◌, ◌∙◌, ap, sym, refl, true, ℕ, ◌<◌, ◌^◌, List, ◌++◌, length, length-append}
+use Rattle.std.proofs.Common.{arith, ◌≡◌, ◌∙◌, ap, sym, refl, true, ℕ, ◌<◌, ◌^◌, List, length, length-append}
 use mathlib.Core.Logic.{∥∥₁_elim, ∥∥₁_map, ∥∥₁_prop}
 use Rattle.x690.specs.Identifiers.{Identifier}
 use Rattle.x690.specs.Strict.{header_octets}
-use Rattle.asn1_rs.specs.Any.Value.{ElementValue, any_element, element_of}
+use Rattle.asn1_rs.specs.Any.Value.{any_element, element_of}
 use Rattle.asn1_rs.specs.Any.Writing.{element_writing}
 use Rattle.asn1_rs.specs.Grammar.{FormNumber}
-use Rattle.asn1_rs.specs.Grammar.Form.{IsStrict, header_of, universal}
+use Rattle.asn1_rs.specs.Grammar.Form.{header_of, universal}
 use Rattle.asn1_rs.specs.Grammar.Item.{IsLawfulWriting}
 use Rattle.asn1_rs.specs.Laws.Any.Writing.{element_lawful_writing}
 use Rattle.asn1_rs.specs.Laws.Forms.{both_by_value, nothing_refused, strict_written}
 use Rattle.asn1_rs.specs.Laws.Oid.{oid_lawful_writing}
 use Rattle.asn1_rs.specs.Laws.Writing.{der_written}
-use Rattle.asn1_rs.specs.Oid.{OidValue, oid_element, oid_value, oid_writing}
+use Rattle.asn1_rs.specs.Oid.{oid_element, oid_value, oid_writing}
 use Rattle.asn1_rs.specs.ToDer.{IsWritable, whole_octets}
 use Rattle.x509_name.specs.Attribute.{AttributeContent, AttributeValue, any_item, attribute_content, attribute_element}
 use Rattle.x509_name.specs.Attribute.{attribute_item, attribute_value, attribute_writing, oid_item}

@@ -1,4 +1,4 @@
-use Rattle.std.proofs.Common.{◌≡◌, ◌∙◌, ap, true, ℕ, List, [], ◌++◌, length, append-nil, Err}
+use Rattle.std.proofs.Common.{◌≡◌, ◌∙◌, ap, true, ℕ, [], ◌++◌, length, append-nil, Err}
 use Rattle.std.proofs.lemmas.Result.{err_from_is_err_and}
 use Rattle.x690.specs.Strict.{header_octets}
 use Rattle.asn1_headers.specs.Header.Writing.{strict_header}
