@@ -1,5 +1,6 @@
 -- Headers of counted elements, and the refusals of counts.
-use Rattle.std.proofs.Common.{◌≡◌, ◌≢◌, ◌∙◌, ap, refl, subst, sym, ℕ, ◌≤◌, Bool, true, false, List, [], length, inl, inr, arith}
+use Rattle.std.proofs.Common.{◌≡◌, ◌≢◌, ◌∙◌, ap, refl, subst, sym, ℕ, ◌≤◌}
+use Rattle.std.proofs.Common.{Bool, true, false, List, [], length, inl, inr, arith}
 use Rattle.std.proofs.lemmas.Bool.{false≢true}
 use Rattle.std.specs.Prelude.{◌==◌, None, Result}
 use Rattle.x690.specs.Laws.StrictHeaders.{header_octets_are}

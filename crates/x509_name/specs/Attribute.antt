@@ -103,7 +103,8 @@ PartsGive content (Err r) = OidReads content (Err r) ⊎ ((behind : List ℕ) ×
 abbrev pub AttributeGives : List ℕ → Result (List ℕ × AttributeTypeAndValue) (Refusal Error) → Type 0
 AttributeGives input (Ok x) = (any : Any) × AnyReads input (Ok (x.0, any)) × IsListOr 16 (parts_of any) (Ok tt) ×
     PartsGive any.content.now (Ok x.1)
-AttributeGives input (Err r) = AnyReads input (Err r) ⊎ ((any : Any) × (rest : List ℕ) × AnyReads input (Ok (rest, any)) ×
+AttributeGives input (Err r) = AnyReads input (Err r) ⊎
+    ((any : Any) × (rest : List ℕ) × AnyReads input (Ok (rest, any)) ×
     (((e : Error) × IsListOr 16 (parts_of any) (Err e) × (r ≡ refused e)) ⊎
     (IsListOr 16 (parts_of any) (Ok tt) × PartsGive any.content.now (Err r))))
 

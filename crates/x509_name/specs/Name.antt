@@ -55,7 +55,8 @@ rows_of n = map listed_values (relative_names n)
 
 -- what the reader of vectors of relative names may answer
 abbrev pub RowReads : List ℕ → Result (List ℕ × Vec RelativeDistinguishedName Global) (Refusal Error) → Type 0
-RowReads = DerGives PassesAll (OfParts (ListTakes (has_number 16) has_items RelativeNameGives (λ x y. y ≡ x))) (λ x y. y ≡ x)
+RowReads = DerGives PassesAll (OfParts (ListTakes (has_number 16) has_items RelativeNameGives (λ x y. y ≡ x)))
+    (λ x y. y ≡ x)
 
 -- a name is read as a vector of relative names is
 abbrev pub NameGives : List ℕ → Result (List ℕ × Name) (Refusal Error) → Type 0

@@ -65,7 +65,8 @@ relative_name_item = item_grammar relative_name_element
 
 -- what the reader of sets of attributes may answer
 abbrev pub SetReads : List ℕ → Result (List ℕ × SetOf AttributeTypeAndValue) (Refusal Error) → Type 0
-SetReads = DerGives PassesAll (OfParts (ListTakes (has_number 17) HasItems AttributeGives (λ x y. y ≡ x))) (λ x y. y ≡ x)
+SetReads = DerGives PassesAll (OfParts (ListTakes (has_number 17) HasItems AttributeGives (λ x y. y ≡ x)))
+    (λ x y. y ≡ x)
 
 -- What reading a relative name may answer: the attributes of a set, of which there is one at least; or the refusal of
 -- the set, else that it is empty.

@@ -65,8 +65,8 @@ impl<'a> FromDer<'a, Error> for AttributeTypeAndValue<'a> {
     ///
     /// Refused, in this order: as the element is; for another tag number than that of sequences; for a primitive
     /// element; as the identifier is at the front of the contents octets, and then as the value is, also with
-    /// `Incomplete`; for octets behind both, with `DerConstraintFailed(TrailingOctets)`. No tag number of the identifier
-    /// is looked at.
+    /// `Incomplete`; for octets behind both, with `DerConstraintFailed(TrailingOctets)`. No tag number of the
+    /// identifier is looked at.
     fn from_der(
         alloc: Global,
         bytes: &'a [u8],

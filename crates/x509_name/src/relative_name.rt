@@ -50,8 +50,8 @@ impl<'a> FromDer<'a, Error> for RelativeDistinguishedName<'a> {
 
     /// Reads a relative name at the front, by DER.
     ///
-    /// Refused as a `SetOf` of attributes is, and then, of no attributes, with `InvalidLength`. The attributes stand in the
-    /// order in which they were read.
+    /// Refused as a `SetOf` of attributes is, and then, of no attributes, with `InvalidLength`. The attributes stand in
+    /// the order in which they were read.
     fn from_der(
         alloc: Global,
         bytes: &'a [u8],

@@ -49,7 +49,8 @@ same_value v w p q =
 -- An element has one attribute.
 body_one : (p : Parts) (v w : AttributeValue) → AttributeBody p v → AttributeBody p w → v ≡ w
 body_one p v w a b =
-    let s = two_one oid_item.Der any_item.Der oid_item_lawful.der_one any_item_lawful.der_one p.content v.oid w.oid v.value
+    let s = two_one oid_item.Der any_item.Der oid_item_lawful.der_one any_item_lawful.der_one p.content v.oid w.oid
+    v.value
     w.value a.parts b.parts in
     same_value v w s.0 s.1
 
@@ -57,7 +58,8 @@ body_one p v w a b =
 content_one : (v w : AttributeValue) (c : List ℕ) → AttributeContent v c → AttributeContent w c → v ≡ w
 content_one v w c a b =
     let s = two_one (AsWords (IsStrict oid_element.Form)) (AsWords (IsStrict any_element.Form))
-    (strict_word_one oid_element.Form oid_lawful.one_value) (strict_word_one any_element.Form element_lawful.one_value) c
+    (strict_word_one oid_element.Form oid_lawful.one_value) (strict_word_one any_element.Form
+    element_lawful.one_value) c
     v.oid w.oid v.value w.value a b in
     same_value v w s.0 s.1
 
@@ -75,7 +77,8 @@ content_octets v c a = subst IsOctets (sym a.joined)
     (strict_word_octets any_element.Form a.behind v.value a.second))
 
 -- Strict contents octets hold the two parts by DER.
-content_parts : (v : AttributeValue) (c : List ℕ) → AttributeContent v c → AreTwo oid_item.Der any_item.Der c v.oid v.value
+content_parts : (v : AttributeValue) (c : List ℕ) → AttributeContent v c → AreTwo oid_item.Der any_item.Der c v.oid
+    v.value
 content_parts v c a = record {
   front = a.front;
   behind = a.behind;

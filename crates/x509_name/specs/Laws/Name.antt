@@ -63,7 +63,8 @@ Rows = Result (List ℕ × Vec RelativeDistinguishedName Global) (Refusal Error)
 -- Reading relative names into a vector is exact.
 rows_exact : (input : List ℕ) (answer : Rows) → RowReads input answer →
     Exactly IsCutIdentifier name_item.Der (λ v. map relative_name_value v.items) Memory input answer
-rows_exact = list_by_der_exact (number_checks 16) has_items (λ v. map relative_name_value v.items) RelativeNameGives itself
+rows_exact = list_by_der_exact (number_checks 16) has_items (λ v. map relative_name_value v.items) RelativeNameGives
+    itself
     relative_name_item.Der relative_name_value true IsCutIdentifier (λ items v h. ap (map relative_name_value) (sym h))
     relative_name_item_lawful.der_one (λ octets answer o g. relative_name_exact octets answer g)
 

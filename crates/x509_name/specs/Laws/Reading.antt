@@ -85,7 +85,8 @@ parts_none content r (inl g) v t = elim (oid_exact content (Err r) g) [
 ]
 parts_none content r (inr (behind, oid, read, later)) v t =
     let front : Front oid_item.Der content (oid_value oid) behind = oid_exact content (Ok (behind, oid)) read in
-    let same = same_front oid_item.Der oid_item_lawful.der_one content (oid_value oid) behind front t.front t.behind v.oid
+    let same = same_front oid_item.Der oid_item_lawful.der_one content (oid_value oid) behind front t.front t.behind
+    v.oid
     t.first t.joined in
     let is : behind ≡ t.behind ++ [] = same.1 ∙ sym (append-nil t.behind) in
     elim later [

@@ -24,7 +24,8 @@ use Rattle.x509_name.specs.RelativeName.{IsSome, IsSomeSet, relative_name_elemen
 pub some_joined : {V : Type 0} (G : List ℕ → V → Type 0) → IsOneFront G → (octets : List ℕ) (vs : List V) →
     IsJoined G octets vs → IsSome vs → octets ≢ []
 some_joined G one octets [] j some e = some refl
-some_joined G one octets (v ∷ vs) j some e = one.some v (subst (λ (o : List ℕ). G o v) (nothing j.0 j.1 (sym j.3 ∙ e)) j.2)
+some_joined G one octets (v ∷ vs) j some e = one.some v (subst (λ (o : List ℕ). G o v) (nothing j.0 j.1 (sym j.3 ∙
+    e)) j.2)
   where
     nothing : (a b : List ℕ) → a ++ b ≡ [] → a ≡ []
     nothing [] b e = refl
@@ -43,7 +44,8 @@ form_body : (m : relative_name_element.Value) (i : Identifier) (c : List ℕ) �
     relative_name_element.Body (made i c) m
 form_body m i c f =
     let items : IsJoined attribute_item.Der c f.1.items =
-    joined_map (StrictWord attribute_element.Form) attribute_item.Der (λ o v s. attribute_item_lawful.strict_der v o s) c
+    joined_map (StrictWord attribute_element.Form) attribute_item.Der (λ o v s. attribute_item_lawful.strict_der v o
+    s) c
     f.1.items (joins_joined multiset IsSome (IsStrict attribute_element.Form) m c f.1) in (
       f.1.items,
       f.1.are,

@@ -63,7 +63,11 @@ attribute_lawful_writing = record {
         let o = whole_octets oid_writing x.oid in
         let a = whole_octets element_writing x.value in
         let both = length-append o a in
-        ∥∥₁_elim (der_written oid_item oid_writing oid_item_lawful oid_lawful_writing x.oid d.0 (omega (arith, both, l)))
+        ∥∥₁_elim (der_written oid_item oid_writing oid_item_lawful oid_lawful_writing x.oid d.0 (omega (
+          arith,
+          both,
+          l,
+        )))
         ∥∥₁_prop (λ s. ∥∥₁_map (der_written any_item element_writing any_item_lawful element_lawful_writing x.value d.1
         (omega (arith, both, l))) (λ t. (
           universal true 16,

@@ -13,5 +13,6 @@ returns-in_err-before-clause-prepended c = λ content old is n.
     append-nil (strict_header c.header.result) ∙ c.header.ensures
     ∙ ap (λ (k : ℕ). header_octets 0 true c.args.tag.0 k) n in
     rw (p.1, p.2) (Prepended_first (Prepended_all n is) (put_same (strict_header c.header.result ++ [])
-    (header_octets 0 true c.args.tag.0 (length content)) c.args.buf.now c.prepend_der.new.buf (Err c.in_err-before.field-0.0)
+    (header_octets 0 true c.args.tag.0 (length content)) c.args.buf.now c.prepend_der.new.buf (Err
+    c.in_err-before.field-0.0)
     same (c.in_err-before.ensures.prepended tt)))
