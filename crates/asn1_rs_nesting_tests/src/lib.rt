@@ -6,5 +6,3 @@
 mod calls;
 #[cfg(test)]
 mod laws;
-#[cfg(test)]
-mod limits;
