@@ -8,8 +8,6 @@ mod by_hand;
 #[cfg(test)]
 mod calls;
 #[cfg(test)]
-mod civil_times;
-#[cfg(test)]
 mod clones;
 #[cfg(test)]
 mod colour;
@@ -22,13 +20,7 @@ mod embedded_pdv;
 #[cfg(test)]
 mod fields;
 #[cfg(test)]
-mod generalized_times;
-#[cfg(test)]
 mod growths;
-#[cfg(test)]
-mod headed;
-#[cfg(test)]
-mod implicit;
 #[cfg(test)]
 mod integers;
 #[cfg(test)]
@@ -38,24 +30,6 @@ mod leaves;
 #[cfg(test)]
 mod numbers;
 #[cfg(test)]
-mod oid_table;
-#[cfg(test)]
-mod oids;
-#[cfg(test)]
-mod options;
-#[cfg(test)]
-mod own_errors;
-#[cfg(test)]
-mod parsers;
-#[cfg(test)]
 mod reading;
-#[cfg(test)]
-mod strings;
-#[cfg(test)]
-mod strings_table;
-#[cfg(test)]
-mod tagged;
-#[cfg(test)]
-mod times;
 #[cfg(test)]
 mod writers;

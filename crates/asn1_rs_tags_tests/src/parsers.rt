@@ -9,8 +9,8 @@ use std::alloc::Global;
 use std::test::Fail;
 use test_rows::{Calls, assert_rows, push_debug};
 
-/// An element that may be there or not: `[1]`, and `[APPLICATION 1]`. The closure takes its first contents octet, or
-/// reads the value in them; what it leaves is not looked at. Values by X.690 8.14, 10.1.
+/// An element that may be there or not: `[1]`, and `[APPLICATION 1]`. The closure takes its first contents octet; what
+/// it leaves is not looked at. Values by X.690 8.14, 10.1.
 const OPTIONS: &str = "\
 from(1) by BER:
 - = Ok(([], None))
@@ -36,10 +36,6 @@ a104020102ff = Ok(([], Some((2, true))))
 a181030201 = Err(Error(DerConstraintFailed(LengthNotShortest)))
 a2810000 = Err(Error(DerConstraintFailed(LengthNotShortest)))
 bf01 = Err(Error(DerConstraintFailed(TagNotShortest)))
-
-from(0) by DER, u8:
-a005020105ffff = Ok(([], Some(5)))
-a00402810105 = Err(Error(DerConstraintFailed(LengthNotShortest)))
 
 application(1) by DER:
 6103020102 = Ok(([], Some((2, true))))
@@ -170,17 +166,10 @@ fn octet_first<'a>(content: &'a [u8], header: Header<'a>) -> ParseResult<'a, (u8
 struct ByClosures;
 
 impl Calls for ByClosures {
-    fn answer(text: &mut String, alloc: Global, name: &str, octets: &[u8]) -> Result<(), Fail> {
+    fn answer(text: &mut String, _alloc: Global, name: &str, octets: &[u8]) -> Result<(), Fail> {
         if name == "from(1) by BER" {
             let parser = OptTaggedParser::from(1u32);
             return push_debug(text, &parser.parse_ber(octets, first_octet));
-        }
-        if name == "from(0) by DER, u8" {
-            let parser = OptTaggedParser::from(0u32);
-            let answer: ParseResult<'_, Option<u8>, Error> = parser.parse_der(octets, |_, content| {
-                u8::from_der(alloc, content)
-            });
-            return push_debug(text, &answer);
         }
         let parser = match name {
             "from(1) by DER" => OptTaggedParser::from(Tag(1)),
