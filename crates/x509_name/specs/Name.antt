@@ -8,11 +8,12 @@ use Rattle.std.specs.declared.alloc.Global.{Global}
 use Rattle.std.specs.declared.vec.Vec.{Vec}
 use Rattle.asn1_rs.specs.Checks.{has_number}
 use Rattle.asn1_rs.specs.Grammar.{DerWord, NoCheck}
+use Rattle.asn1_rs.specs.Grammar.Form.{IsStrict}
 use Rattle.asn1_rs.specs.Grammar.Item.{ItemGrammar}
 use Rattle.asn1_rs.specs.Kinds.{ElementGrammar, HoldingReads, item_grammar}
 use Rattle.asn1_rs.specs.Kinds.Writing.{list_writing}
 use Rattle.asn1_rs.specs.Lists.{ListForm, ListOf, ListTakes, has_items}
-use Rattle.asn1_rs.specs.ToDer.{Writing}
+use Rattle.asn1_rs.specs.ToDer.{Writing, whole_octets}
 use Rattle.asn1_rs.specs.Traits.{DerGives, OfParts, PassesAll}
 use Rattle.x509_name.specs.Attribute.{AttributeValue}
 use Rattle.x509_name.specs.RelativeName.{InWordOrder, RelativeNameGives, listed_values, relative_name_element}
@@ -65,3 +66,11 @@ NameGives = HoldingReads (λ n. n.rdn_sequence) RowReads
 -- Names are written as lists of relative names. One that holds a relative name without attributes is refused.
 abbrev pub name_writing : Writing Name
 name_writing = list_writing 16 relative_names relative_name_writing
+
+-- the encoding of a name
+abbrev pub name_octets : Name → List ℕ
+name_octets = whole_octets name_writing
+
+-- the octets are the strict encoding of the value of a name
+abbrev pub StrictName : List (Multiset AttributeValue) → List ℕ → Type 0
+StrictName = IsStrict name_element.Form
