@@ -1,5 +1,5 @@
 //! Names.
-ghost use Rattle.std.specs.Prelude.{◌≡◌, ◌<◌, ◌^◌, ◌++◌, ℕ, List, length, true, false, IfErr, MatchResult};
+ghost use Rattle.std.specs.Prelude.{◌≡◌, ◌<◌, ◌^◌, ◌++◌, ℕ, List, length, true, false, IfErr, IsErr, MatchResult};
 ghost use Rattle.std.specs.Io.KnownBytes.{Appends};
 ghost use Rattle.std.specs.List.{All};
 ghost use Rattle.std.proofs.Common.{lit<};
@@ -7,7 +7,10 @@ ghost use Rattle.x690.specs.Identifiers.{IsCutIdentifier};
 ghost use Rattle.x690.specs.Collections.{Multiset};
 ghost use Rattle.asn1_headers.specs.Answers.{Exactly, seen};
 ghost use Rattle.asn1_headers.specs.Writer.{IsMemoryOrLength, Wrote};
+ghost use Rattle.asn1_headers.specs.declared.error.Error.{Error};
+ghost use Rattle.asn1_headers.specs.declared.error.SerializeError.{SerializeError};
 ghost use Rattle.asn1_headers.specs.declared.error.SerializeError.TheVariants as serialize_errors;
+ghost use Rattle.asn1_rs.specs.ToDer.{RefusedAtOnce, Refuses};
 ghost use Rattle.asn1_rs.specs.Laws.Lists.{takes_some};
 ghost use Rattle.asn1_rs.specs.Lists.{SomeRefuses};
 ghost use Rattle.x509_name.specs.Attribute.{AttributeValue};
@@ -15,8 +18,8 @@ ghost use Rattle.x509_name.specs.Laws.Name.{attributes_in_word_order, name_exact
 ghost use Rattle.x509_name.specs.Laws.RelativeNameReading.{Memory};
 ghost use Rattle.x509_name.specs.Laws.RelativeNameWriting.{name_lawful_writing};
 ghost use Rattle.x509_name.specs.Name.{NameGives, NameInWordOrder, name_element, name_item, name_value};
-ghost use Rattle.x509_name.specs.Name.{StrictName, name_octets, name_writing, relative_names, rows_of};
-ghost use Rattle.x509_name.specs.RelativeName.{HasNoAttribute, IsSome, attributes};
+ghost use Rattle.x509_name.specs.Name.{HoldsEmpty, StrictName, name_octets, name_writing, relative_names, rows_of};
+ghost use Rattle.x509_name.specs.RelativeName.{HasNoAttribute, IsSome, RefusedForNone, attributes};
 
 use crate::relative_name::RelativeDistinguishedName;
 use asn1_headers::error::refusal_of_count;
@@ -104,7 +107,20 @@ impl ToDer for Name<'_> {
         self.rdn_sequence.write_der_header(alloc, w)
     }
 
-    fn write_der_content<W: DerWrite>(&self, alloc: Global, w: &mut W) -> SerializeResult<usize> {
+    /// Appends the contents octets. Where a relative name has no attribute, nothing is appended.
+    fn write_der_content<W: DerWrite>(&self, alloc: Global, w: &mut W) -> SerializeResult<usize>
+        ensures wrote { name_writing.tells self.now →
+            Wrote (name_writing.content self.now) (W.state w.old) (W.state w.new) result }
+        ensures refused { name_writing.tells self.now → IfErr result
+            (Refuses true (length (name_writing.content self.now)) (name_writing.content_refuses self.now)) }
+        ensures accepted { (e : SerializeError) → name_writing.tells self.now →
+            name_writing.content_refuses self.now e → IsErr result }
+        ensures uncounted { (e : Error) → name_writing.tells self.now →
+            name_writing.count_refuses self.now e → IsErr result }
+        ensures first { (e : SerializeError) → name_writing.refuses_first self.now e →
+            RefusedAtOnce e (W.state w.old) (W.state w.new) result }
+        ensures at_once { HoldsEmpty self.now → RefusedForNone (W.state w.old) (W.state w.new) result }
+    {
         if let Err(e) = self.assert_each_some() {
             return Err(refusal_of_count(e));
         }

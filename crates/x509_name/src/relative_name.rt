@@ -1,16 +1,19 @@
 //! Relative names.
-ghost use Rattle.std.specs.Prelude.{◌≡◌, ◌↔◌, ◌+◌, [], ◌∷◌, length, map, true, IsTrue, IfOk, IfErr};
+ghost use Rattle.std.specs.Prelude.{◌≡◌, ◌↔◌, ◌+◌, [], ◌∷◌, length, map, true, IsTrue, IfErr, IsErr};
 ghost use Rattle.std.specs.Prelude.{MatchOption, MatchResult};
 ghost use Rattle.std.proofs.Common.{lit<};
 ghost use Rattle.asn1_headers.specs.Prepended.{Prepended};
 ghost use Rattle.asn1_headers.specs.Writer.{Wrote, MayRefuse};
+ghost use Rattle.asn1_headers.specs.declared.error.Error.{Error};
+ghost use Rattle.asn1_headers.specs.declared.error.SerializeError.{SerializeError};
+ghost use Rattle.asn1_rs.specs.ToDer.{RefusedAtOnce, Refuses};
 ghost use Rattle.asn1_rs.specs.Laws.Lists.{takes_some};
 ghost use Rattle.asn1_rs.specs.Set.{set_content};
 ghost use Rattle.x509_name.specs.Attribute.{attribute_octets};
 ghost use Rattle.x509_name.specs.Laws.RelativeName.{relative_name_lawful, relative_name_number};
 ghost use Rattle.x509_name.specs.Laws.RelativeNameReading.{relative_name_exact};
 ghost use Rattle.x509_name.specs.Laws.RelativeNameWriting.{relative_name_lawful_writing};
-ghost use Rattle.x509_name.specs.RelativeName.{HasNoAttribute, IsSome, RelativeNameGives, attributes};
+ghost use Rattle.x509_name.specs.RelativeName.{HasNoAttribute, IsSome, RefusedForNone, RelativeNameGives, attributes};
 ghost use Rattle.x509_name.specs.RelativeName.{relative_name_element, relative_name_writing};
 
 use crate::attribute::AttributeTypeAndValue;
@@ -172,7 +175,20 @@ impl ToDer for RelativeDistinguishedName<'_> {
         }
     }
 
-    fn write_der_content<W: DerWrite>(&self, alloc: Global, w: &mut W) -> SerializeResult<usize> {
+    /// Appends the contents octets. Where there is no attribute, nothing is appended.
+    fn write_der_content<W: DerWrite>(&self, alloc: Global, w: &mut W) -> SerializeResult<usize>
+        ensures wrote { relative_name_writing.tells self.now →
+            Wrote (relative_name_writing.content self.now) (W.state w.old) (W.state w.new) result }
+        ensures refused { relative_name_writing.tells self.now → IfErr result
+            (Refuses true (length (relative_name_writing.content self.now)) (relative_name_writing.content_refuses self.now)) }
+        ensures accepted { (e : SerializeError) → relative_name_writing.tells self.now →
+            relative_name_writing.content_refuses self.now e → IsErr result }
+        ensures uncounted { (e : Error) → relative_name_writing.tells self.now →
+            relative_name_writing.count_refuses self.now e → IsErr result }
+        ensures first { (e : SerializeError) → relative_name_writing.refuses_first self.now e →
+            RefusedAtOnce e (W.state w.old) (W.state w.new) result }
+        ensures at_once { attributes self.now ≡ [] → RefusedForNone (W.state w.old) (W.state w.new) result }
+    {
         if let Err(e) = self.assert_some() {
             return Err(refusal_of_count(e));
         }
