@@ -1,6 +1,6 @@
 -- Names: relative names in a sequence.
-use Rattle.std.specs.Prelude.{◌≡◌, ℕ, true, List, map, Result}
-use Rattle.std.specs.List.{All}
+use Rattle.std.specs.Prelude.{◌≡◌, ℕ, true, List, [], map, Result}
+use Rattle.std.specs.List.{All, Any as HasSome}
 use Rattle.x690.specs.Collections.{Multiset}
 use Rattle.asn1_headers.specs.declared.error.Err.{Err as Refusal}
 use Rattle.asn1_headers.specs.declared.error.Error.{Error}
@@ -8,14 +8,16 @@ use Rattle.std.specs.declared.alloc.Global.{Global}
 use Rattle.std.specs.declared.vec.Vec.{Vec}
 use Rattle.asn1_rs.specs.Checks.{has_number}
 use Rattle.asn1_rs.specs.Grammar.{DerWord, NoCheck}
+use Rattle.asn1_rs.specs.Grammar.Form.{IsStrict}
 use Rattle.asn1_rs.specs.Grammar.Item.{ItemGrammar}
 use Rattle.asn1_rs.specs.Kinds.{ElementGrammar, HoldingReads, item_grammar}
 use Rattle.asn1_rs.specs.Kinds.Writing.{list_writing}
 use Rattle.asn1_rs.specs.Lists.{ListForm, ListOf, ListTakes, has_items}
-use Rattle.asn1_rs.specs.ToDer.{Writing}
+use Rattle.asn1_rs.specs.ToDer.{Writing, whole_octets}
 use Rattle.asn1_rs.specs.Traits.{DerGives, OfParts, PassesAll}
 use Rattle.x509_name.specs.Attribute.{AttributeValue}
-use Rattle.x509_name.specs.RelativeName.{InWordOrder, RelativeNameGives, listed_values, relative_name_element}
+use Rattle.x509_name.specs.RelativeName.{InWordOrder, RelativeNameGives, attributes, listed_values}
+use Rattle.x509_name.specs.RelativeName.{relative_name_element}
 use Rattle.x509_name.specs.RelativeName.{relative_name_item, relative_name_value, relative_name_writing}
 use Rattle.x509_name.specs.declared.name.Name.{Name}
 use Rattle.x509_name.specs.declared.relative_name.RelativeDistinguishedName.{RelativeDistinguishedName}
@@ -65,3 +67,15 @@ NameGives = HoldingReads (λ n. n.rdn_sequence) RowReads
 -- Names are written as lists of relative names. One that holds a relative name without attributes is refused.
 abbrev pub name_writing : Writing Name
 name_writing = list_writing 16 relative_names relative_name_writing
+
+-- some relative name of it has no attribute
+abbrev pub HoldsEmpty : Name → Type 0
+HoldsEmpty n = HasSome (λ r. attributes r ≡ []) (relative_names n)
+
+-- the encoding of a name
+abbrev pub name_octets : Name → List ℕ
+name_octets = whole_octets name_writing
+
+-- the octets are the strict encoding of the value of a name
+abbrev pub StrictName : List (Multiset AttributeValue) → List ℕ → Type 0
+StrictName = IsStrict name_element.Form

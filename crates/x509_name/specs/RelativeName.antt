@@ -3,11 +3,13 @@ use Rattle.std.specs.Prelude.{◌≡◌, ◌≢◌, ◌⊎◌, ℕ, true, false,
 use Rattle.x690.specs.Collections.{Multiset, multiset}
 use Rattle.x690.specs.Elements.{Parts}
 use Rattle.x690.specs.Strict.{header_octets}
-use Rattle.asn1_headers.specs.Error.{IsInvalidValue}
+use Rattle.asn1_headers.specs.Error.{IsInvalidValue, written_refusal}
+use Rattle.asn1_headers.specs.Writer.{WriterState}
 use Rattle.asn1_headers.specs.declared.error.Err.{Err as Refusal}
 use Rattle.asn1_headers.specs.declared.error.Err.TheVariants.{Error as refused}
 use Rattle.asn1_headers.specs.declared.error.Error.{Error}
 use Rattle.asn1_headers.specs.declared.error.Error.TheVariants.{InvalidLength}
+use Rattle.asn1_headers.specs.declared.error.SerializeError.{SerializeError}
 use Rattle.asn1_rs.specs.declared.asn1_types.set.set_of.SetOf.{SetOf}
 use Rattle.asn1_rs.specs.Checks.{has_number}
 use Rattle.asn1_rs.specs.Grammar.{DerWord, NoCheck}
@@ -15,7 +17,7 @@ use Rattle.asn1_rs.specs.Grammar.Item.{ItemGrammar}
 use Rattle.asn1_rs.specs.Kinds.{ElementGrammar, item_grammar}
 use Rattle.asn1_rs.specs.Lists.{HasNumber, ListTakes, ShapedList}
 use Rattle.asn1_rs.specs.Set.{HasItems, Seen, SetForm, SetInDer, SetValues, items_of, set_content}
-use Rattle.asn1_rs.specs.ToDer.{Writing, WrittenRefusal}
+use Rattle.asn1_rs.specs.ToDer.{RefusedAtOnce, Writing, WrittenRefusal}
 use Rattle.asn1_rs.specs.Traits.{DerGives, OfParts, PassesAll}
 use Rattle.x509_name.specs.Attribute.{AttributeGives, AttributeValue, attribute_element, attribute_item}
 use Rattle.x509_name.specs.Attribute.{attribute_octets, attribute_value}
@@ -103,3 +105,8 @@ relative_name_writing = record {
   content_allocates = true;
   write_allocates = true;
 }
+
+-- refused for want of attributes, with the writer as it was
+abbrev pub RefusedForNone : WriterState → WriterState → Result ℕ SerializeError → Type 0
+RefusedForNone old new answer =
+    (e : Error) × TellsOfNoAttribute e × RefusedAtOnce (written_refusal e) old new answer

@@ -1,17 +1,32 @@
 //! Names.
-ghost use Rattle.std.specs.Prelude.{◌≡◌, true, IfErr};
+ghost use Rattle.std.specs.Prelude.{◌≡◌, ◌<◌, ◌^◌, ◌++◌, ℕ, List, length, true, false, IfErr, IsErr, MatchResult};
+ghost use Rattle.std.specs.Io.KnownBytes.{Appends};
+ghost use Rattle.std.specs.List.{All};
 ghost use Rattle.std.proofs.Common.{lit<};
 ghost use Rattle.x690.specs.Identifiers.{IsCutIdentifier};
+ghost use Rattle.x690.specs.Collections.{Multiset};
 ghost use Rattle.asn1_headers.specs.Answers.{Exactly, seen};
+ghost use Rattle.asn1_headers.specs.Writer.{IsMemoryOrLength, Wrote};
+ghost use Rattle.asn1_headers.specs.declared.error.Error.{Error};
+ghost use Rattle.asn1_headers.specs.declared.error.SerializeError.{SerializeError};
+ghost use Rattle.asn1_headers.specs.declared.error.SerializeError.TheVariants as serialize_errors;
+ghost use Rattle.asn1_rs.specs.ToDer.{RefusedAtOnce, Refuses};
 ghost use Rattle.asn1_rs.specs.Laws.Lists.{takes_some};
+ghost use Rattle.asn1_rs.specs.Lists.{SomeRefuses};
+ghost use Rattle.x509_name.specs.Attribute.{AttributeValue};
 ghost use Rattle.x509_name.specs.Laws.Name.{attributes_in_word_order, name_exact, name_lawful, name_number};
 ghost use Rattle.x509_name.specs.Laws.RelativeNameReading.{Memory};
-ghost use Rattle.x509_name.specs.Name.{NameGives, NameInWordOrder, name_element, name_item, name_value, rows_of};
+ghost use Rattle.x509_name.specs.Laws.RelativeNameWriting.{name_lawful_writing};
+ghost use Rattle.x509_name.specs.Name.{NameGives, NameInWordOrder, name_element, name_item, name_value};
+ghost use Rattle.x509_name.specs.Name.{HoldsEmpty, StrictName, name_octets, name_writing, relative_names, rows_of};
+ghost use Rattle.x509_name.specs.RelativeName.{HasNoAttribute, IsSome, RefusedForNone, attributes};
 
 use crate::relative_name::RelativeDistinguishedName;
+use asn1_headers::error::refusal_of_count;
 use asn1_rs::{
-    ElementKind, Error, FromDer, HasKind, LawfulDer, LawfulElement, LawfulItem, LawfulTagged,
-    ParseResult, TagNumber, TaggedAs, read_der,
+    DerBuffer, DerWrite, ElementKind, Error, FromDer, HasKind, LawfulDer, LawfulElement,
+    LawfulItem, LawfulTagged, LawfulWrite, ParseResult, SerializeResult, TagNumber, TaggedAs,
+    ToDer, read_der, strict_vec, write_strict,
 };
 use std::alloc::Global;
 
@@ -58,6 +73,73 @@ impl<'a> LawfulDer<'a, Error> for Name<'a> {
     ghost der_no_memory = { λ none input answer g. takes_some none };
 }
 
+impl Name<'_> {
+    /// Refuses one that holds a relative name without attributes.
+    fn assert_each_some(&self) -> Result<(), Error>
+        ensures { MatchResult result (λ _. All (λ r. IsSome (attributes r)) (relative_names self.now))
+            (SomeRefuses HasNoAttribute (relative_names self.now)) }
+    {
+        for relative_name in &self.rdn_sequence {
+            relative_name.assert_some()?;
+        }
+        Ok(())
+    }
+}
+
+/// A name is written as the vector of its relative names is. One that holds a relative name without attributes is
+/// refused, also in counting, before anything is appended.
+impl ToDer for Name<'_> {
+    ghost writing = { name_writing };
+
+    fn to_der_len(&self) -> Result<usize, Error> {
+        self.rdn_sequence.to_der_len()
+    }
+
+    fn der_content_len(&self) -> Result<usize, Error> {
+        self.rdn_sequence.der_content_len()
+    }
+
+    fn der_constructed(&self) -> bool {
+        self.rdn_sequence.der_constructed()
+    }
+
+    fn write_der_header<W: DerWrite>(&self, alloc: Global, w: &mut W) -> SerializeResult<usize> {
+        self.rdn_sequence.write_der_header(alloc, w)
+    }
+
+    /// Appends the contents octets. Where a relative name has no attribute, nothing is appended.
+    fn write_der_content<W: DerWrite>(&self, alloc: Global, w: &mut W) -> SerializeResult<usize>
+        ensures wrote { name_writing.tells self.now →
+            Wrote (name_writing.content self.now) (W.state w.old) (W.state w.new) result }
+        ensures refused { name_writing.tells self.now → IfErr result
+            (Refuses true (length (name_writing.content self.now)) (name_writing.content_refuses self.now)) }
+        ensures accepted { (e : SerializeError) → name_writing.tells self.now →
+            name_writing.content_refuses self.now e → IsErr result }
+        ensures uncounted { (e : Error) → name_writing.tells self.now →
+            name_writing.count_refuses self.now e → IsErr result }
+        ensures first { (e : SerializeError) → name_writing.refuses_first self.now e →
+            RefusedAtOnce e (W.state w.old) (W.state w.new) result }
+        ensures at_once { HoldsEmpty self.now → RefusedForNone (W.state w.old) (W.state w.new) result }
+    {
+        if let Err(e) = self.assert_each_some() {
+            return Err(refusal_of_count(e));
+        }
+        self.rdn_sequence.write_der_content(alloc, w)
+    }
+
+    fn prepend_der_content(&self, alloc: Global, buf: &mut DerBuffer) -> SerializeResult<usize> {
+        self.rdn_sequence.prepend_der_content(alloc, buf)
+    }
+
+    fn prepend_der(&self, alloc: Global, buf: &mut DerBuffer) -> SerializeResult<usize> {
+        self.rdn_sequence.prepend_der(alloc, buf)
+    }
+}
+
+impl LawfulWrite for Name<'_> {
+    ghost lawful_writing = { name_lawful_writing };
+}
+
 impl LawfulTagged for Name<'_> {
     ghost tag_number = { name_number };
 
@@ -74,4 +156,34 @@ pub fn read_name(alloc: Global, octets: &[u8]) -> ParseResult<'_, Name<'_>, Erro
         (seen result) }
 {
     read_der::<Name<'_>, Error>(alloc, octets)
+}
+
+/// Appends a name, and answers the number of octets. Of one in DER form these are its one strict encoding: no other
+/// value has it, and it begins no other one. It is refused when out of memory, where its length passes `usize`, and by
+/// its writer.
+pub fn write_name<W: DerWrite>(name: &Name<'_>, alloc: Global, w: &mut W) -> SerializeResult<usize>
+    ensures strict { name_element.IsDer (name_value name.now) →
+        length (name_octets name.now) < 2 ^ 64 → (W.state w.new).failed ≡ false →
+        ∥ StrictName (name_value name.now) (name_octets name.now) ∥₁ × MatchResult result
+        (λ n. Appends (W.state w.old).told (W.state w.new).told (name_octets name.now) ×
+        (n ≡ length (name_octets name.now))) (λ e. e ≡ serialize_errors.OutOfMemory) }
+    ensures wrote { (o : List ℕ) → StrictName (name_value name.now) o →
+        Wrote o (W.state w.old) (W.state w.new) result }
+    ensures one { (o p : List ℕ) → StrictName (name_value name.now) o →
+        StrictName (name_value name.now) p → o ≡ p }
+    ensures apart { (o p r s : List ℕ) (m n : List (Multiset AttributeValue)) → StrictName m o →
+        StrictName n p → o ++ r ≡ p ++ s → (o ≡ p) × (m ≡ n) × (r ≡ s) }
+{
+    write_strict(name, alloc, w)
+}
+
+/// A name in a vector. Of one in DER form it is the one strict encoding. Refused only when out of memory, or where the
+/// length passes `usize`.
+pub fn name_vec(alloc: Global, name: &Name<'_>) -> SerializeResult<Vec<u8>>
+    ensures strict { (o : List ℕ) → StrictName (name_value name.now) o →
+        MatchResult result (λ octets. octets.items ≡ o) (IsMemoryOrLength o) }
+    ensures der { name_element.IsDer (name_value name.now) → MatchResult result
+        (λ octets. octets.items ≡ name_octets name.now) (IsMemoryOrLength (name_octets name.now)) }
+{
+    strict_vec(alloc, name)
 }

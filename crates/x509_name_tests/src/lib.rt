@@ -3,3 +3,5 @@
 
 #[cfg(test)]
 mod names;
+#[cfg(test)]
+mod writing;
