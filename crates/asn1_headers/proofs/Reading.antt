@@ -17,7 +17,7 @@ use Rattle.asn1_headers.specs.declared.length.Length.TheVariants.{Definite, Inde
 use Rattle.asn1_headers.specs.declared.tag.Tag.{Tag}
 use Rattle.asn1_headers.specs.Class.{class_number}
 use Rattle.asn1_headers.specs.Length.{form_of}
-use Rattle.asn1_headers.specs.Header.{identifier_of, HasParts}
+use Rattle.asn1_headers.specs.Header.{identifier_of, HasParts, LendsRawTag}
 use Rattle.asn1_headers.specs.Header.Reading.{BeginsInput, BeginsWithIdentifier, BeginsWithLength, Refused, refusal_of}
 use Rattle.asn1_headers.specs.Header.Reading.{id_read, tag_read}
 
@@ -46,10 +46,10 @@ long_octets octets front back first h e =
 module _ (rule : Rule) (input after : List ℕ) (x : IdentifierOctets) (b : BeginsWithIdentifier input after x) where
   -- a header of the parts that were read begins the input
   pub begins_made : (rest : List ℕ) (length : Length) (h : Header) → (l : BeginsWithLength after rest length) →
-      HasParts h x.class x.constructed (tag_read x) length (Some x.octets.now) →
+      HasParts h x.class x.constructed (tag_read x) length (Some x.octets.now) → LendsRawTag h →
       rule.allows_identifier x.octets.now ≡ true → allows_form rule (id_read x) l.0 (form_of length) ≡ true →
       BeginsInput rule input rest h
-  begins_made rest length h l p allowed form =
+  begins_made rest length h l p lent allowed form =
       let same : id_read x ≡ identifier_of h =
       sym (same_identifier (class_number h.class) (class_number x.class) h.tag.0 x.number h.constructed x.constructed
       (ap class_number p.class_is) p.constructed_is (ap (λ (t : Tag). t.0) p.tag_is)) in
@@ -66,11 +66,12 @@ module _ (rule : Rule) (input after : List ℕ) (x : IdentifierOctets) (b : Begi
               (λ (f : Length). allows_form rule (id_read x) l.0 (form_of f) ≡ true) (sym p.length_is) form);
         };
         is = b.1 ∙ ap (λ (ys : List ℕ). x.octets.now ++ ys) l.2 ∙ sym (append_assoc x.octets.now l.0 rest);
-        raw_tag = p.raw_tag_is;
+        raw_tag = (p.raw_tag_is, lent);
       }
 
   -- the first fault stands behind the identifier octets, or in what the rule says of them
-  pub fault_behind : (fault : Fault) → FaultFrom rule x.octets.now (id_read x) after fault → HeaderFault rule input fault
+  pub fault_behind : (fault : Fault) → FaultFrom rule x.octets.now (id_read x) after fault →
+      HeaderFault rule input fault
   fault_behind fault why = inr (record {
     identifier = x.octets.now;
     rest = after;

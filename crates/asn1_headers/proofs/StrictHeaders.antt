@@ -13,8 +13,8 @@ use Rattle.asn1_headers.specs.Header.{class_of, is_constructed_of, tag_of, lengt
 use Rattle.asn1_headers.specs.Header.Writing.{strict_header}
 
 -- The octets that are made of the parts of a header, as its methods tell them, are its strict header.
-pub strict_header_is : (h : Header) (class : Class) (number : ℕ) (constructed : Bool) (tag : Tag) (form : Length) (n : ℕ) →
-    class ≡ class_of h → number ≡ class_number class → constructed ≡ is_constructed_of h → tag ≡ tag_of h →
+pub strict_header_is : (h : Header) (class : Class) (number : ℕ) (constructed : Bool) (tag : Tag) (form : Length)
+    (n : ℕ) → class ≡ class_of h → number ≡ class_number class → constructed ≡ is_constructed_of h → tag ≡ tag_of h →
     form ≡ length_of h → form ≡ Definite n → header_octets number constructed tag.0 n ≡ strict_header h
 strict_header_is h class number constructed tag form n class_is number_is constructed_is tag_is form_is definite_is =
     let class_same = ap class_number class_is in

@@ -1,11 +1,11 @@
 -- Headers.
 pub mod Reading
 pub mod Writing
-use Rattle.std.specs.Prelude.{◌≡◌, ◌&&◌, ℕ, Bool, nat_eq, Option, List}
+use Rattle.std.specs.Prelude.{◌≡◌, ◌&&◌, ℕ, Bool, nat_eq, Option, Some, List, IfSome}
 use Rattle.std.specs.Option.{option_map}
 use Rattle.std.specs.Ordering.{on}
 use Rattle.std.specs.Bool.{beq}
-use Rattle.std.specs.Cow.{cow_slice_items}
+use Rattle.std.specs.Cow.{cow_slice_items, IsBorrowedSlice}
 use Rattle.x690.specs.Identifiers.{Identifier}
 use Rattle.asn1_headers.specs.declared.class.Class.{Class}
 use Rattle.asn1_headers.specs.declared.tag.Tag.{Tag}
@@ -32,6 +32,14 @@ length_of h = h.length
 -- the identifier octets that were read, where the header keeps them
 abbrev pub raw_tag_of : Header → Option (List ℕ)
 raw_tag_of h = option_map cow_slice_items h.raw_tag
+
+-- The identifier octets that a header keeps, if any, are lent to it: they are not a copy.
+abbrev pub LendsRawTag : Header → Type 0
+LendsRawTag h = IfSome h.raw_tag IsBorrowedSlice
+
+-- The header keeps these identifier octets, lent.
+abbrev pub KeepsLent : List ℕ → Header → Type 0
+KeepsLent octets h = (raw_tag_of h ≡ Some octets) × LendsRawTag h
 
 -- what the header's identifier octets say
 abbrev pub identifier_of : Header → Identifier

@@ -148,7 +148,8 @@ pub enum DerConstraint {
     /// Length octets that are not the shortest (10.1).
     #[error("length octets not the shortest")]
     LengthNotShortest,
-    /// Octets that are left in a part that holds one element and nothing else, as an explicit tag does (8.14.2).
+    /// Octets that are left behind the last element of a part that holds a known number of elements: the one of an
+    /// explicit tag (8.14.2), the fields of a sequence (8.9.2).
     #[error("trailing octets")]
     TrailingOctets,
 }

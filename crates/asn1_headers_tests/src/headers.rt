@@ -7,7 +7,7 @@ use asn1_headers::length::Length;
 use asn1_headers::tag::Tag;
 use std::borrow::CowSlice;
 use std::test::Fail;
-use test_rows::assert_shown;
+use test_rows::{assert_all, assert_shown};
 
 #[test]
 fn headers_have_parts(rt: HostRuntime) -> Result<(), Fail> {
@@ -83,4 +83,41 @@ fn headers_are_equal_by_class_constructed_bit_and_tag(rt: HostRuntime) {
         [equal, other_form, other_tag, low == high],
         [true, false, false, false]
     );
+}
+
+/// Appends a header [15] with these identifier octets, of each of three lengths.
+fn push_headers(
+    headers: &mut Vec<Header<'static>>,
+    octets: Option<&'static [u8]>,
+) -> Result<(), Fail> {
+    let header = Header::new(Class::ContextSpecific, false, Tag(15), Length::Indefinite);
+    for length in [Length::Definite(0), Length::Definite(7), Length::Indefinite] {
+        let raw_tag = match octets {
+            Some(octets) => Some(CowSlice::Borrowed(octets)),
+            None => None,
+        };
+        headers.push(header.clone()?.with_length(length).with_raw_tag(raw_tag))?;
+    }
+    Ok(())
+}
+
+/// Asserts that a header equals each of these.
+fn assert_equal_to_each(one: &Header<'_>, others: &[Header<'_>]) -> Result<(), Fail> {
+    for other in others {
+        assert_all("a header", &[one == other])?;
+    }
+    Ok(())
+}
+
+/// The tag number in high form, in low form and without octets, each with three lengths.
+#[test]
+fn headers_are_equal_whatever_their_octets_and_lengths(rt: HostRuntime) -> Result<(), Fail> {
+    let mut headers = Vec::new(rt.alloc());
+    push_headers(&mut headers, Some(&[0x9f, 0x0f]))?;
+    push_headers(&mut headers, Some(&[0x8f]))?;
+    push_headers(&mut headers, None)?;
+    for header in &headers {
+        assert_equal_to_each(header, headers.as_slice())?;
+    }
+    Ok(())
 }

@@ -26,8 +26,8 @@ are_shortest_identifier [] = false
 are_shortest_identifier (first ∷ []) = true
 are_shortest_identifier (first ∷ digit ∷ digits) = nat_le 31 (base_128_value (digit ∷ digits)) && not (nat_eq digit 128)
 
--- Length octets are the shortest in short form, and in long form where the length is 128 at least and the first octet of
--- its number is not 0 (X.690 10.1).
+-- Length octets are the shortest in short form, and in long form where the length is 128 at least and the first octet
+-- of its number is not 0 (X.690 10.1).
 abbrev pub are_shortest_length : List ℕ → Bool
 are_shortest_length [] = false
 are_shortest_length (first ∷ []) = true

@@ -1,8 +1,9 @@
-//! Codes of characters in octets: UTF-16 and UCS-4, and what is said once of both (X.690 8.23.7, 8.23.8; X.680 41). Pairs of units
-//! are those of UTF-16 (ISO/IEC 10646); X.690 has none.
+//! Codes of characters in octets: UTF-16 and UCS-4, and what is said once of both (X.690 8.23.7, 8.23.8; X.680 41).
+//! Pairs of units are those of UTF-16 (ISO/IEC 10646); X.690 has none.
 
 ghost use Rattle.std.specs.Prelude.{ℕ, ◌≡◌, ◌+◌, ◌-◌, ◌*◌, ◌<◌, ◌≤◌, ◌^◌, List, [], ◌∷◌, ◌++◌, length};
-ghost use Rattle.std.specs.Prelude.{get_or, take, drop, IfSome, IfNone, IfOk, IsUtf8, encode_utf8_all, string_bytes, string_capacity};
+ghost use Rattle.std.specs.Prelude.{get_or, take, drop, IfSome, IfNone, IfOk, IsUtf8};
+ghost use Rattle.std.specs.Prelude.{encode_utf8_all, string_bytes, string_capacity};
 ghost use Rattle.std.specs.Str.{chars};
 ghost use Rattle.x690.specs.Octets.{IsOctets};
 ghost use Rattle.x690.specs.Digits.{base_256_value};

@@ -106,8 +106,8 @@ pub fn some_octets_are_missing()
     ensures der_element { (input : List ℕ) (n : ℕ) → DerElementFault input (missing n) → 1 ≤ n }
 {}
 
-/// If appending n octets would make the input begin with a header, or with an element by DER, its fault is that m octets
-/// are missing, with m at most n. Of an input that ends within an identifier in high form, that is the fault.
+/// If appending n octets would make the input begin with a header, or with an element by DER, its fault is that m
+/// octets are missing, with m at most n. Of an input that ends within an identifier in high form, that is the fault.
 pub fn beginnings_lack_octets()
     ensures header { (rule : Rule) (input more front rest : List ℕ)
         (id : Identifier) (form : LengthForm) (fault : Fault)

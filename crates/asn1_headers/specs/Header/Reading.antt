@@ -1,8 +1,8 @@
 -- What reading headers may answer.
-use Rattle.std.specs.Prelude.{◌≡◌, ℕ, Some, List, ◌++◌, Result, Ok, Err, length}
+use Rattle.std.specs.Prelude.{◌≡◌, ℕ, Bool, List, ◌++◌, Result, Ok, Err, length}
 use Rattle.x690.specs.Identifiers.{Identifier, IsIdentifier, IsCutIdentifier}
 use Rattle.x690.specs.Lengths.{IsLengthForm, LengthForm}
-use Rattle.x690.specs.Rules.{Rule, ber_rule}
+use Rattle.x690.specs.Rules.{Rule, ber_rule, are_shortest_length}
 use Rattle.x690.specs.Elements.{IsHeader}
 use Rattle.x690.specs.Faults.{Breach, identifier_breach, length_breach, form_breach, HeaderFault}
 use Rattle.x690.specs.Faults.{Fault, missing, tag_fault, length_fault, rule_fault, depth_fault}
@@ -13,21 +13,22 @@ use Rattle.asn1_headers.specs.declared.header.reading.IdentifierOctets.{Identifi
 use Rattle.asn1_headers.specs.declared.error.Error.{Error}
 use Rattle.asn1_headers.specs.declared.error.Error.TheVariants.{InvalidTag, InvalidLength, BerMaxDepth}
 use Rattle.asn1_headers.specs.declared.error.Error.TheVariants.{DerConstraintFailed, ConstructExpected}
-use Rattle.asn1_headers.specs.declared.error.DerConstraint.TheVariants.{IndefiniteLength, TagNotShortest, LengthNotShortest}
+use Rattle.asn1_headers.specs.declared.error.DerConstraint.TheVariants.{IndefiniteLength}
+use Rattle.asn1_headers.specs.declared.error.DerConstraint.TheVariants.{TagNotShortest, LengthNotShortest}
 use Rattle.asn1_headers.specs.declared.error.Err.{Err as Refusal}
 use Rattle.asn1_headers.specs.declared.error.Err.TheVariants.{Incomplete as cut, Error as refused}
 use Rattle.asn1_headers.specs.declared.error.Needed.TheVariants.{Size}
 use Rattle.asn1_headers.specs.Class.{class_number}
 use Rattle.asn1_headers.specs.Length.{form_of}
 use Rattle.asn1_headers.specs.Answers.{Speaks}
-use Rattle.asn1_headers.specs.Header.{identifier_of, raw_tag_of}
+use Rattle.asn1_headers.specs.Header.{identifier_of, KeepsLent}
 
--- The header, with its identifier octets kept, begins the input, and the rest follows.
+-- The header, with its identifier octets kept, and lent by the input, begins it, and the rest follows.
 pub record BeginsInput (rule : Rule) (input rest : List ℕ) (h : Header) : Type 0 where
   pub octets : List ℕ
   pub header : IsHeader rule octets (identifier_of h) (form_of h.length)
   pub is : input ≡ octets ++ rest
-  pub raw_tag : raw_tag_of h ≡ Some header.identifier
+  pub raw_tag : KeepsLent header.identifier h
 
 -- the refusal that tells of a fault, where those of headers that their rule does not allow are given
 abbrev pub refusal_of : (Breach → Error) → Fault → Refusal Error
@@ -75,15 +76,20 @@ BeginsWithIdentifier input rest x = IsIdentifier x.octets.now (id_read x) × (in
 abbrev pub BeginsWithLength : List ℕ → List ℕ → Length → Type 0
 BeginsWithLength input rest length = (octets : List ℕ) × IsLengthForm octets (form_of length) × (input ≡ octets ++ rest)
 
+-- and it is told whether they are the shortest
+abbrev pub BeginsWithJudgedLength : List ℕ → List ℕ → Length → Bool → Type 0
+BeginsWithJudgedLength input rest length shortest =
+    (begins : BeginsWithLength input rest length) × (shortest ≡ are_shortest_length begins.0)
+
 -- what a reader of headers may answer: the header and the rest, or the refusal of the first fault
 abbrev pub HeaderGives : Rule → (Fault → Refusal Error) → List ℕ → Result (List ℕ × Header) (Refusal Error) → Type 0
 HeaderGives rule refusal input (Ok x) = BeginsInput rule input x.0 x.1
 HeaderGives rule refusal input (Err r) = Refused (HeaderFault rule) refusal input r
 
--- The header's identifier octets are those at the front of the octets, and it keeps them.
+-- The header's identifier octets are those at the front of the octets, and it keeps them, lent.
 abbrev pub KeepsIdentifier : List ℕ → Header → Type 0
 KeepsIdentifier input h = (identifier rest : List ℕ) × IsIdentifier identifier (identifier_of h) ×
-    (input ≡ identifier ++ rest) × (raw_tag_of h ≡ Some identifier)
+    (input ≡ identifier ++ rest) × KeepsLent identifier h
 
 -- a header by BER with a length of this form begins the input, and the rest follows
 abbrev pub BeginsWithForm : List ℕ → List ℕ → Length → Type 0

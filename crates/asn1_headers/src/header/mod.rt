@@ -3,13 +3,13 @@
 pub mod reading;
 pub mod writing;
 
-ghost use Rattle.std.specs.Prelude.{◌≡◌, ◌≢◌, ◌↔◌, ℕ, Some, None, true, false, IsTrue, MatchResult};
+ghost use Rattle.std.specs.Prelude.{◌≡◌, ◌≢◌, ◌↔◌, ℕ, Some, None, true, false, IsTrue, IfSome, MatchResult};
 ghost use Rattle.std.specs.Option.{option_copied, option_map};
-ghost use Rattle.std.specs.Cow.{cow_slice_items};
+ghost use Rattle.std.specs.Cow.{cow_slice_items, IsBorrowedSlice};
 ghost use Rattle.std.proofs.Common.{rules};
 ghost use Rattle.std.specs.Cmp.Rules.{comparing};
 ghost use Rattle.asn1_headers.specs.Header.{class_of, is_constructed_of, tag_of, length_of, raw_tag_of, identifier_of};
-ghost use Rattle.asn1_headers.specs.Header.{is_same_identifier, HasParts};
+ghost use Rattle.asn1_headers.specs.Header.{is_same_identifier, HasParts, LendsRawTag};
 ghost use Rattle.asn1_headers.specs.Tag.{is_container};
 ghost use Rattle.asn1_headers.specs.declared.class.Class.TheVariants as classes;
 ghost use Rattle.asn1_headers.specs.declared.length.Length.TheVariants as forms;
@@ -98,8 +98,9 @@ impl<'a> Header<'a> {
 
     /// The same header with other identifier octets, or with none.
     pub fn with_raw_tag(self, raw_tag: Option<CowSlice<'a, u8, Global>>) -> Self
-        ensures { HasParts result (class_of self.entry) (is_constructed_of self.entry)
+        ensures parts { HasParts result (class_of self.entry) (is_constructed_of self.entry)
             (tag_of self.entry) (length_of self.entry) (option_map cow_slice_items raw_tag.entry) }
+        ensures lent { IfSome raw_tag.entry IsBorrowedSlice → LendsRawTag result }
     {
         Header {
             class: self.class,

@@ -7,9 +7,9 @@ ghost use Rattle.x690.specs.Faults.{Breach, IdentifierFault, LengthFault, Header
 ghost use Rattle.asn1_headers.specs.Class.{class_number};
 ghost use Rattle.asn1_headers.specs.Answers.{seen};
 ghost use Rattle.asn1_headers.specs.Header.Reading.{Refused, refusal_of, der_refusal, ber_refusal, HeaderGives};
-ghost use Rattle.asn1_headers.specs.Header.Reading.{BeginsWithIdentifier, BeginsWithLength};
+ghost use Rattle.asn1_headers.specs.Header.Reading.{BeginsWithIdentifier, BeginsWithJudgedLength};
 ghost use Rattle.asn1_headers.specs.Header.Reading.{id_read, tag_read, BeginsWithForm};
-ghost use Rattle.asn1_headers.specs.Header.{HasParts};
+ghost use Rattle.asn1_headers.specs.Header.{HasParts, LendsRawTag};
 ghost use Rattle.asn1_headers.specs.declared.error.Error.{Error};
 ghost use Rattle.asn1_headers.specs.declared.error.Err.TheVariants.{Error as refused};
 ghost use Rattle.asn1_headers.specs.declared.error.Error.TheVariants as errors;
@@ -78,10 +78,10 @@ fn read_identifier(bytes: &[u8]) -> ParseResult<'_, IdentifierOctets<'_>, Error>
     ))
 }
 
-/// The length octets at the front, or 80.
+/// The length octets at the front, or 80, and whether they are the shortest (X.690 10.1).
 #[inline(always)]
-fn read_length(bytes: &[u8]) -> ParseResult<'_, Length, Error>
-    ensures ok { IfOk result (λ x. BeginsWithLength bytes.now x.0.now x.1) }
+fn read_length(bytes: &[u8]) -> ParseResult<'_, (Length, bool), Error>
+    ensures ok { IfOk result (λ x. BeginsWithJudgedLength bytes.now x.0.now x.1.0 x.1.1) }
     ensures err { (refuses : Breach → Error)
         → IfErr result (Refused LengthFault (refusal_of refuses) bytes.now) }
 {
@@ -89,8 +89,8 @@ fn read_length(bytes: &[u8]) -> ParseResult<'_, Length, Error>
         return Err(Err::Incomplete(Needed::Size(1)));
     };
     match *first {
-        0..=127 => return Ok((rest, Length::Definite(usize::from(*first)))),
-        128 => return Ok((rest, Length::Indefinite)),
+        0..=127 => return Ok((rest, (Length::Definite(usize::from(*first)), true))),
+        128 => return Ok((rest, (Length::Indefinite, true))),
         255 => return Err(Err::Error(Error::InvalidLength)),
         _ => {}
     }
@@ -100,7 +100,10 @@ fn read_length(bytes: &[u8]) -> ParseResult<'_, Length, Error>
     }
     let (octets, rest) = rest.split_at(count);
     match base_256_number(octets) {
-        Some(length) => Ok((rest, Length::Definite(length))),
+        Some(length) => Ok((
+            rest,
+            (Length::Definite(length), is_shortest_length(bytes, length)),
+        )),
         None => Err(Err::Error(Error::InvalidLength)),
     }
 }
@@ -133,8 +136,9 @@ impl<'a> IdentifierOctets<'a> {
     /// The header with this identifier, and these octets as its raw tag.
     #[inline(always)]
     fn with_length(self, length: Length) -> Header<'a>
-        ensures { HasParts result self.entry.class self.entry.constructed
+        ensures parts { HasParts result self.entry.class self.entry.constructed
             (tag_read self.entry) length (Some self.entry.octets.now) }
+        ensures lent { LendsRawTag result }
     {
         Header::new(self.class, self.constructed, Tag(self.number), length).with_raw_tag(Some(
             CowSlice::Borrowed(self.octets),
@@ -166,11 +170,9 @@ pub fn header_by_der(bytes: &[u8]) -> ParseResult<'_, Header<'_>, Error>
     if !identifier.are_shortest() {
         return Err(broken(DerConstraint::TagNotShortest));
     }
-    let (rest, length) = read_length(after)?;
+    let (rest, (length, shortest)) = read_length(after)?;
     match length {
-        Length::Definite(n) if is_shortest_length(after, n) => {
-            Ok((rest, identifier.with_length(length)))
-        }
+        Length::Definite(_) if shortest => Ok((rest, identifier.with_length(length))),
         Length::Definite(_) => Err(broken(DerConstraint::LengthNotShortest)),
         Length::Indefinite => Err(indefinite_length()),
     }
@@ -182,7 +184,7 @@ pub fn header_by_ber(bytes: &[u8]) -> ParseResult<'_, Header<'_>, Error>
     ensures { HeaderGives ber_rule ber_refusal bytes.now (seen result) }
 {
     let (after, identifier) = read_identifier(bytes)?;
-    let (rest, form) = read_length(after)?;
+    let (rest, (form, _)) = read_length(after)?;
     match form {
         Length::Indefinite if !identifier.constructed => {
             Err(Err::Error(Error::ConstructExpected))

@@ -245,8 +245,13 @@ some_fraction_ends n positive most =
       | inl d ↦ (46 ∷ [], 48 + n / 100 % 10, one_digit n some most d, omega arith, omega arith)
       | inr d ↦ elim (cases_eq (n % 10) 0) as (λ _. (front : List ℕ) × (digit : ℕ) ×
           (fraction_text (Some n) ≡ front ++ digit ∷ []) × (49 ≤ digit) × (digit ≤ 57)) [
-            | inl e ↦
-                (46 ∷ decimal_digits 1 (n / 10 / 10), 48 + n / 10 % 10, two_digits n some most d e, omega arith, omega arith)
+            | inl e ↦ (
+              46 ∷ decimal_digits 1 (n / 10 / 10),
+              48 + n / 10 % 10,
+              two_digits n some most d e,
+              omega arith,
+              omega arith,
+            )
             | inr e ↦
                 (46 ∷ decimal_digits 2 (n / 10), 48 + n % 10, three_digits n some most d e, omega arith, omega arith)
           ]

@@ -29,7 +29,7 @@ returns-in_err-rest c =
 pub returns-in-Indefinite : goal.returns-in-Indefinite
 returns-in-Indefinite c =
     form_refused ber_rule c.args.bytes.now c.in_ok-after.after.now c.in_ok-after.identifier c.in_ok-after.ensures.ok
-    ber_breach c.in_ok-rest.rest.now c.in_ok-rest.form indefinite c.in_ok-rest.ensures.ok
+    ber_breach c.in_ok-rest.rest.now c.in_ok-rest.form indefinite c.in_ok-rest.ensures.ok.0
     (ap form_of c.in-Indefinite.is) refl c.if-not-identifier.true
 
 pub returns-in_default : goal.returns-in_default
@@ -41,5 +41,5 @@ returns-in_default c =
       | in_default-via-in_default w ↦ absurd (w.in_default.not-Indefinite e)
     ]) in
     begins_made ber_rule c.args.bytes.now c.in_ok-after.after.now x c.in_ok-after.ensures.ok c.in_ok-rest.rest.now
-    c.in_ok-rest.form c.with_length.result c.in_ok-rest.ensures.ok c.with_length.ensures refl
-    (allowed c.in_ok-rest.ensures.ok.0)
+    c.in_ok-rest.form c.with_length.result c.in_ok-rest.ensures.ok.0 c.with_length.ensures.parts
+    c.with_length.ensures.lent refl (allowed c.in_ok-rest.ensures.ok.0.0)

@@ -1,12 +1,13 @@
-use Rattle.std.proofs.Common.{◌≡◌, ◌∙◌, ℕ, List, refl, sym, ap, subst, inl, inr}
+use Rattle.std.proofs.Common.{◌≡◌, ◌∙◌, ℕ, true, List, refl, sym, ap, subst, inl, inr}
 use Rattle.std.proofs.lemmas.Result.{err_from_is_err_and}
-use Rattle.x690.specs.Lengths.{IsLengthForm, definite, indefinite}
+use Rattle.x690.specs.Identifiers.{Identifier}
+use Rattle.x690.specs.Lengths.{definite, indefinite}
 use Rattle.x690.specs.Faults.{rule_fault, identifier_breach}
-use Rattle.x690.specs.Rules.{der_rule}
+use Rattle.x690.specs.Rules.{der_rule, are_shortest_length, allows_form}
 use Rattle.asn1_headers.specs.declared.length.Length.{Length}
 use Rattle.asn1_headers.specs.declared.length.Length.TheVariants.{Definite}
 use Rattle.asn1_headers.specs.Length.{form_of}
-use Rattle.asn1_headers.specs.Header.Reading.{der_breach, BeginsWithLength}
+use Rattle.asn1_headers.specs.Header.Reading.{id_read, der_breach}
 use Rattle.asn1_headers.proofs.Reading.{begins_made, fault_behind, form_refused}
 use Rattle.asn1_headers.proofs.header.reading.header_by_der.Goals as goal
 
@@ -36,33 +37,32 @@ returns-in_err-rest c =
       f.2,
     )
 
--- the length octets say the number that was read
-said : (after rest : List ℕ) (length : Length) (n : ℕ) → length ≡ Definite n → BeginsWithLength after rest length →
-    BeginsWithLength after rest (Definite n)
-said after rest length n e l = (l.0, subst (λ (f : Length). IsLengthForm l.0 (form_of f)) e l.1, l.2)
+-- of length octets that count the contents octets, the shortest are allowed
+counting_allowed : (id : Identifier) (length : Length) (n : ℕ) (count : List ℕ) → length ≡ Definite n →
+    are_shortest_length count ≡ true → allows_form der_rule id count (form_of length) ≡ true
+counting_allowed id length n count e shortest =
+    subst (λ (f : Length). allows_form der_rule id count (form_of f) ≡ true) (sym e) shortest
 
 pub returns-in-Definite : goal.returns-in-Definite
 returns-in-Definite c =
-    let l = said c.in_ok-after.after.now c.in_ok-rest.rest.now c.in_ok-rest.length c.in-Definite.n c.in-Definite.is
-    c.in_ok-rest.ensures.ok in
-    begins_made der_rule c.args.bytes.now c.in_ok-after.after.now c.in_ok-after.identifier c.in_ok-after.ensures.ok
-    c.in_ok-rest.rest.now (Definite c.in-Definite.n) c.with_length.result l c.with_length.ensures
+    let x = c.in_ok-after.identifier in
+    let l = c.in_ok-rest.ensures.ok in
+    begins_made der_rule c.args.bytes.now c.in_ok-after.after.now x c.in_ok-after.ensures.ok c.in_ok-rest.rest.now
+    c.in_ok-rest.length c.with_length.result l.0 c.with_length.ensures.parts c.with_length.ensures.lent
     (sym c.if-not-are_shortest.ensures)
-    (sym (c.is_shortest_length.ensures l.0 c.in_ok-rest.rest.now l.1 l.2) ∙ c.if-is_shortest_length.true)
+    (counting_allowed (id_read x) c.in_ok-rest.length _ l.0.0 c.in-Definite.is (sym l.1 ∙ c.if-shortest.true))
 
 pub returns-in-Definite-2 : goal.returns-in-Definite-2
 returns-in-Definite-2 c =
-    let l = said c.in_ok-after.after.now c.in_ok-rest.rest.now c.in_ok-rest.length c.in-Definite.n c.in-Definite.is
-    c.in_ok-rest.ensures.ok in
+    let l = c.in_ok-rest.ensures.ok in
     rw c.broken-in-Definite-2.ensures
     (form_refused der_rule c.args.bytes.now c.in_ok-after.after.now c.in_ok-after.identifier c.in_ok-after.ensures.ok
-    der_breach c.in_ok-rest.rest.now (Definite c.in-Definite.n) (definite c.in-Definite.n) l refl
-    (sym c.if-not-are_shortest.ensures)
-    (sym (c.is_shortest_length.ensures l.0 c.in_ok-rest.rest.now l.1 l.2) ∙ c.if-is_shortest_length.false))
+    der_breach c.in_ok-rest.rest.now c.in_ok-rest.length (definite c.in-Definite.field-0) l.0
+    (ap form_of c.in-Definite.is) (sym c.if-not-are_shortest.ensures) (sym l.1 ∙ c.if-shortest.false))
 
 pub returns-in-Indefinite : goal.returns-in-Indefinite
 returns-in-Indefinite c =
     rw c.indefinite_length.ensures
     (form_refused der_rule c.args.bytes.now c.in_ok-after.after.now c.in_ok-after.identifier c.in_ok-after.ensures.ok
-    der_breach c.in_ok-rest.rest.now c.in_ok-rest.length indefinite c.in_ok-rest.ensures.ok
+    der_breach c.in_ok-rest.rest.now c.in_ok-rest.length indefinite c.in_ok-rest.ensures.ok.0
     (ap form_of c.in-Indefinite.is) (sym c.if-not-are_shortest.ensures) refl)
