@@ -35,8 +35,8 @@ impl<'a> FromDer<'a, Error> for Header<'a> {
     /// Reads a header at the front, by DER, with its identifier octets as its raw tag (X.690 10.1).
     ///
     /// Refused, in this order: `Incomplete(1)` where nothing is there; `InvalidTag` for identifier octets in high form
-    /// that are cut, have a sixth digit or a number past `u32`; `DerConstraintFailed(TagNotShortest)` for those that are
-    /// not the shortest; `Incomplete(1)` without a length octet; `InvalidLength` for ff;
+    /// that are cut, have a sixth digit or a number past `u32`; `DerConstraintFailed(TagNotShortest)` for those that
+    /// are not the shortest; `Incomplete(1)` without a length octet; `InvalidLength` for ff;
     /// `DerConstraintFailed(IndefiniteLength)` for 80; `Incomplete(n)` where n length octets are missing;
     /// `InvalidLength` for a length past `usize`; `DerConstraintFailed(LengthNotShortest)` for length octets that are
     /// not the shortest.

@@ -4,7 +4,7 @@ pub mod Value
 pub mod Writing
 use Rattle.std.proofs.Common.{◌≡◌, ◌∙◌, inl, inr, refl, subst, ap, sym, ℕ, List, [], ◌++◌, append_assoc, append-nil}
 use Rattle.std.proofs.lemmas.List.{append_cancel_left}
-use Rattle.std.specs.Prelude.{zero, suc, Bool, true, false, Some, Result, Ok, Err, IfOk}
+use Rattle.std.specs.Prelude.{zero, suc, Bool, true, false, Result, Ok, Err, IfOk}
 use Rattle.std.specs.Borrow.{Bor}
 use Rattle.x690.specs.Identifiers.{Identifier, IsIdentifier}
 use Rattle.x690.specs.Laws.Identifiers.{identifier_unique}
@@ -23,7 +23,7 @@ use Rattle.asn1_rs.specs.declared.asn1_types.any.Any.{Any}
 use Rattle.asn1_headers.specs.Answers.{Front, TellsBeginning}
 use Rattle.asn1_headers.specs.declared.header.Header.{Header}
 use Rattle.asn1_headers.specs.Header.Reading.{refusal_of, der_refusal, ber_refusal, KeepsIdentifier}
-use Rattle.asn1_headers.specs.Header.{identifier_of, raw_tag_of}
+use Rattle.asn1_headers.specs.Header.{identifier_of, KeepsLent}
 use Rattle.asn1_headers.specs.Ber.{BerContentGives, max_depth}
 use Rattle.asn1_rs.specs.Any.{AnyGives, BeginsWithAny, IsTheElement, IsDefiniteOr, parts_of, BerElementGives}
 use Rattle.asn1_rs.specs.Any.{DerElementGives, ElementLasts, RefusalLasts}
@@ -150,16 +150,17 @@ content_lasts true form (suc depth) input more x answer f g = content_stays form
 
 -- a header that keeps the identifier octets at the front of the input keeps these, since one string of them begins it
 raw_tag_kept : (input identifier more : List ℕ) (id : Identifier) (h : Header) → IsIdentifier identifier id →
-    input ≡ identifier ++ more → KeepsIdentifier input h → raw_tag_of h ≡ Some identifier
+    input ≡ identifier ++ more → KeepsIdentifier input h → KeepsLent identifier h
 raw_tag_kept input identifier more id h i e (octets, rest, j, f, kept) =
-    kept ∙ ap Some (identifier_unique octets identifier rest more (identifier_of h) id j i (sym f ∙ e)).0
+    subst (λ (front : List ℕ). KeepsLent front h)
+    (identifier_unique octets identifier rest more (identifier_of h) id j i (sym f ∙ e)).0 kept
 
 -- An element that was read keeps the identifier octets at the front of the input.
 pub raw_tag_told : (ElementOf : List ℕ → Parts → Type 0) (FaultOf : List ℕ → Fault → Type 0)
     (refusal : Fault → Refusal Error) (input identifier more : List ℕ) (id : Identifier)
     (answer : Result (List ℕ × Any) (Refusal Error)) →
     IsIdentifier identifier id → input ≡ identifier ++ more → AnyGives ElementOf FaultOf refusal input answer →
-    IfOk answer (λ x. raw_tag_of x.1.header ≡ Some identifier)
+    IfOk answer (λ x. KeepsLent identifier x.1.header)
 raw_tag_told ElementOf FaultOf refusal input identifier more id (Ok x) i e g =
     raw_tag_kept input identifier more id x.1.header i e g.kept
 raw_tag_told ElementOf FaultOf refusal input identifier more id (Err r) i e g = tt

@@ -172,10 +172,10 @@ pub held_is_read_back : {T V E : Type 0} (rule : Rule) → AllowsStrict rule →
     → ((octets : List ℕ) (its : Result (List ℕ × T) (Refusal E)) → IsOctets octets → reads octets its →
     Exactly IsCut G value memory octets its)
     → ReadsHeldBack (OptionGives (IsLeftOut rule number) reads) Form value memory
-held_is_read_back rule allows IsCut Form G value memory number equality strict one numbered reads exact octets answer v w rest
-    are (inl (out, e)) s is =
+held_is_read_back rule allows IsCut Form G value memory number equality strict one numbered reads exact octets
+    answer v w rest are (inl (out, e)) s is =
     absurd (∥∥₁_elim s ⊥_prop (λ t. strict_stays rule allows Form number numbered v octets w rest t is out))
-held_is_read_back rule allows IsCut Form G value memory number equality strict one numbered reads exact octets answer v w rest
-    are (inr (stays, (its, gives, e))) s is =
+held_is_read_back rule allows IsCut Form G value memory number equality strict one numbered reads exact octets
+    answer v w rest are (inr (stays, (its, gives, e))) s is =
     subst (ReadsBack (option_map value) memory (Some v) rest) (sym e) (held_reads_back value memory v rest its
     (read_back IsCut Form G value memory equality strict one octets its (exact octets its are gives) v w rest s is))

@@ -1,9 +1,10 @@
 //! Bit strings (X.690 8.6, 11.2).
-ghost use Rattle.std.specs.Prelude.{◌≡◌, ◌∷◌, ◌+◌, ◌↔◌, true, false, length, IsTrue, IfOk, IfErr};
+ghost use Rattle.std.specs.Prelude.{◌≡◌, ◌∷◌, ◌++◌, ◌+◌, ◌<◌, ◌↔◌, true, false, length, IsTrue, IfOk, IfErr};
 ghost use Rattle.std.specs.Cow.{IsBorrowedSlice};
 ghost use Rattle.asn1_rs.specs.Any.{parts_of};
 ghost use Rattle.asn1_rs.specs.BitString.{bit_string_leaf, bit_string_constraints, bit_string_octets, data_of, bit_of};
-ghost use Rattle.asn1_rs.specs.BitString.{IsZeroPadded};
+ghost use Rattle.asn1_rs.specs.BitString.{bit_string_number, IsZeroPadded};
+ghost use Rattle.asn1_rs.specs.Kinds.Writing.{universal_header};
 ghost use Rattle.asn1_rs.specs.Leaf.{LeafGives};
 ghost use Rattle.asn1_rs.specs.Laws.BitString.{bit_string_lawful, bit_string_equal};
 ghost use Rattle.asn1_rs.specs.LeafReading.{lent_reading};
@@ -12,6 +13,7 @@ ghost use Rattle.asn1_headers.specs.Prepended.{Prepended};
 ghost use Rattle.asn1_headers.specs.Writer.{Wrote, MayRefuse};
 
 use crate::asn1_types::any::Any;
+use crate::header::put_behind;
 use crate::kinds::leaf::{ConvertsLeaf, LeafType};
 use crate::kinds::writing::WritesElement;
 use crate::kinds::{ElementKind, HasKind, TagNumber};
@@ -19,6 +21,7 @@ use crate::laws::LawfulMember;
 use crate::laws::in_hand::octets_in_hand;
 use asn1_headers::buffer::{DerBuffer, prepend_behind, prepend_octets};
 use asn1_headers::error::{DerConstraint, Error, SerializeResult};
+use asn1_headers::header::writing::put_header;
 use asn1_headers::tag::Tag;
 use asn1_headers::writer::{DerWrite, add_written, put_all};
 use std::alloc::Global;
@@ -127,6 +130,52 @@ fn prepend_bits(unused_bits: u8, octets: &[u8], buf: &mut DerBuffer) -> Serializ
     }
 }
 
+/// Appends the whole element, of few octets: the header and the count of unused bits in one piece, then the octets.
+// (a `match` hands the large answers on faster than `?`)
+#[inline(always)]
+fn put_short_bits<W: DerWrite>(unused_bits: u8, octets: &[u8], w: &mut W) -> SerializeResult<usize>
+    requires { length octets.now < 127 }
+    ensures wrote { Wrote
+        (universal_header bit_string_number (unused_bits ∷ octets.now)
+        ++ unused_bits ∷ octets.now)
+        (W.state w.old) (W.state w.new) result }
+    ensures refused { IfErr result (MayRefuse false
+        (length (universal_header bit_string_number (unused_bits ∷ octets.now)
+        ++ unused_bits ∷ octets.now))) }
+{
+    match put_all(w, &[3, 1 + octets.len() as u8, unused_bits]) {
+        Ok(before) => match put_all(w, octets) {
+            Ok(after) => add_written(before, after),
+            Err(e) => Err(e),
+        },
+        Err(e) => Err(e),
+    }
+}
+
+/// Appends the whole element (X.690 8.1.2, 8.1.3, 8.6.2).
+#[inline(always)]
+fn put_bits_element<W: DerWrite>(
+    unused_bits: u8,
+    octets: &[u8],
+    w: &mut W,
+) -> SerializeResult<usize>
+    ensures wrote { Wrote
+        (universal_header bit_string_number (unused_bits ∷ octets.now)
+        ++ unused_bits ∷ octets.now)
+        (W.state w.old) (W.state w.new) result }
+    ensures refused { IfErr result (MayRefuse false
+        (length (universal_header bit_string_number (unused_bits ∷ octets.now)
+        ++ unused_bits ∷ octets.now))) }
+{
+    let count = octets.len();
+    if count < 127 {
+        return put_short_bits(unused_bits, octets, w);
+    }
+    let header = put_header(0, false, 3, 1 + count, w);
+    let front = put_behind(header, &[unused_bits], w);
+    put_behind(front, octets, w)
+}
+
 impl HasKind for BitString<'_> {
     type Kind = ElementKind;
 }
@@ -174,6 +223,11 @@ impl WritesElement for BitString<'_> {
 
     fn put_octets<W: DerWrite>(&self, w: &mut W) -> SerializeResult<usize> {
         put_bits(self.unused_bits, self.as_bytes(), w)
+    }
+
+    #[inline(always)]
+    fn put_element<W: DerWrite>(&self, w: &mut W) -> SerializeResult<usize> {
+        put_bits_element(self.unused_bits, self.as_bytes(), w)
     }
 
     fn prepend_contents(&self, _alloc: Global, buf: &mut DerBuffer) -> SerializeResult<usize> {

@@ -81,9 +81,9 @@ where
 
 /// A list or a set, by its items.
 // Each collection gives its own iterator to the walks below, since an impl can't ask that one is given at every
-// lifetime, as `for<'s> &'s L: IntoIterator` does in Rust. Items are seen through `Deref`, so
-// that a walk takes an iterator of any holders of items. Where it gives references, one over `Iterator<Item = &'s T>` is
-// proved too (`count_all` of `asn1_rs_uses`).
+// lifetime, as `for<'s> &'s L: IntoIterator` does in Rust. Items are seen through `Deref`, so that a walk takes an
+// iterator of any holders of items. Where it gives references, one over `Iterator<Item = &'s T>` is proved too
+// (`count_all` of `asn1_rs_uses`).
 pub trait Listed: Tagged {
     /// The items.
     type Item;

@@ -5,8 +5,8 @@
 //! A type that is read as one element, checked and converted, names its kind, [`ElementKind`], and says once how it is
 //! read and that this is exact ([`leaf`]). The traits of readers ([`reading`]), of writing ([`writing`]) and of
 //! [`laws`](crate::laws) follow from these. Lists and sets name kinds of their own ([`collections`]), sequences
-//! of fields too ([`fields`]), and values under a tag ([`TagMark`](crate::asn1_types::tagged::TagMark)). A type of another make has those traits itself and no
-//! kind.
+//! of fields too ([`fields`]), and values under a tag ([`TagMark`](crate::asn1_types::tagged::TagMark)). A type of
+//! another make has those traits itself and no kind.
 
 pub(crate) mod collections;
 pub(crate) mod fields;

@@ -2,8 +2,8 @@
 //! the type's kind, reading by DER by the reader that the type names.
 //!
 //! Each trait has one impl for all types with a kind, and beside it impls for types without one. So at a list or at a
-//! value under a tag one impl alone can be meant. Types nest deeper so; that the checker looks into each impl that can be
-//! meant, to a bounded depth, is inferred from tries (docs/DECISIONS.md).
+//! value under a tag one impl alone can be meant. Types nest deeper so; that the checker looks into each impl that can
+//! be meant, to a bounded depth, is inferred from tries (docs/DECISIONS.md).
 ghost use Rattle.std.specs.Prelude.{◌≡◌, ℕ, List, Result, Err, IfErr, false};
 ghost use Rattle.x690.specs.Octets.{IsOctets};
 ghost use Rattle.x690.specs.Identifiers.{IsCutIdentifier};

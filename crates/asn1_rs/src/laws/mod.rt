@@ -7,7 +7,7 @@
 pub(crate) mod functions;
 pub(crate) mod in_hand;
 
-ghost use Rattle.std.specs.Prelude.{ℕ, Bool, List, ◌≡◌, ◌++◌, ◌<◌, ◌^◌, ◌↔◌, false, length, Some, Result, Ok, Err};
+ghost use Rattle.std.specs.Prelude.{ℕ, Bool, List, ◌≡◌, ◌++◌, ◌<◌, ◌^◌, ◌↔◌, false, length, Result, Ok, Err};
 ghost use Rattle.std.specs.Prelude.{IsTrue, IfOk, IfErr, MatchResult};
 ghost use Rattle.std.specs.Borrow.{Bor};
 ghost use Rattle.std.specs.Io.KnownBytes.{Appends};
@@ -35,7 +35,7 @@ ghost use Rattle.asn1_headers.specs.Writer.{Wrote, MayRefuse, IsMemoryOrLength};
 ghost use Rattle.asn1_headers.specs.declared.header.Header.{Header};
 ghost use Rattle.asn1_rs.specs.declared.asn1_types.any.Any.{Any};
 ghost use Rattle.asn1_headers.specs.Header.Reading.{refusal_of, ber_breach, HeaderGives, HeaderLasts};
-ghost use Rattle.asn1_headers.specs.Header.{raw_tag_of};
+ghost use Rattle.asn1_headers.specs.Header.{KeepsLent};
 ghost use Rattle.asn1_rs.specs.Any.{parts_of, IsTheElement, IsDefiniteOr, DerElementGives, BerElementGives};
 ghost use Rattle.asn1_rs.specs.Any.{RefusalLasts, ElementLasts};
 ghost use Rattle.asn1_headers.specs.Content.{ContentStays};
@@ -329,7 +329,7 @@ pub fn one_refusal()
 {}
 
 /// What the readers of [`Any`](crate::Any) answer is the element at the front of the octets, or the refusal of its
-/// first fault. The raw tag of its header is the identifier octets at the front.
+/// first fault. The raw tag of its header is the identifier octets at the front, lent by the input.
 pub fn any_is_the_element()
     ensures der { (input : List ℕ) (answer : Result (List ℕ × Any) (Refusal Error))
         → DerGives IsDefiniteOr IsTheElement (λ e f. f ≡ e) input answer
@@ -342,13 +342,13 @@ pub fn any_is_the_element()
         → IsIdentifier identifier id
         → input ≡ identifier ++ more
         → DerElementGives input answer
-        → IfOk answer (λ x. raw_tag_of x.1.header ≡ Some identifier) }
+        → IfOk answer (λ x. KeepsLent identifier x.1.header) }
     ensures ber_raw_tag { (input identifier more : List ℕ) (id : Identifier)
         (answer : Result (List ℕ × Any) (Refusal Error))
         → IsIdentifier identifier id
         → input ≡ identifier ++ more
         → BerElementGives input answer
-        → IfOk answer (λ x. raw_tag_of x.1.header ≡ Some identifier) }
+        → IfOk answer (λ x. KeepsLent identifier x.1.header) }
 {}
 
 /// By DER an element has one encoding (X.690 8.1.2, 10.1): what `Any::from_der` answers is written, by `write_der`, as
@@ -358,8 +358,8 @@ pub fn elements_by_der_are_written_again()
         → input ≡ whole_octets element_writing x.1 ++ x.0 }
 {}
 
-/// If appending n octets would make the input begin with a header or an element, the answer is `Incomplete(m)` with m at
-/// most n. An input that ends within an identifier in high form is `InvalidTag`.
+/// If appending n octets would make the input begin with a header or an element, the answer is `Incomplete(m)` with m
+/// at most n. An input that ends within an identifier in high form is `InvalidTag`.
 pub fn beginnings_are_incomplete()
     ensures header { (rule : Rule) (refuses : Breach → Error) (input more front rest : List ℕ)
         (id : Identifier) (form : LengthForm) (r : Refusal Error)

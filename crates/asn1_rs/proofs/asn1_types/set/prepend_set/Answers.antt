@@ -15,8 +15,8 @@ returns-in-Ok-prepend_and_count-clause-prepended g c = λ t.
     let f = whole_octets g.T.ToDer.writing in
     let put = (c.in-Ok-prepend_and_count.ensures.prepended t).ok.0
     ∙ ap (λ z. z ++ c.args.buf.now) (sym (joined_flat f c.args.items.now)) in
-    c.arrange_front.ensures.prepended (map f c.args.items.now) c.args.buf.now put (c.in-Ok-prepend_and_count.ensures.counted t)
-    c.len-held.ensures
+    c.arrange_front.ensures.prepended (map f c.args.items.now) c.args.buf.now put
+    (c.in-Ok-prepend_and_count.ensures.counted t) c.len-held.ensures
 
 pub returns-in-Ok-prepend_and_count-clause-refused : goal.returns-in-Ok-prepend_and_count-clause-refused
 returns-in-Ok-prepend_and_count-clause-refused g c = λ t.
@@ -32,7 +32,8 @@ returns-in-Ok-prepend_and_count-clause-accepted g c = λ e t o.
     absurd (false≢true (c.in-Ok-prepend_and_count.ensures.accepted of.0 t of.1))
 
 pub returns-in-Ok-prepend_and_count-clause-uncounted : goal.returns-in-Ok-prepend_and_count-clause-uncounted
-returns-in-Ok-prepend_and_count-clause-uncounted g c = λ e t o. absurd (false≢true (c.in-Ok-prepend_and_count.ensures.uncounted e t o))
+returns-in-Ok-prepend_and_count-clause-uncounted g c = λ e t o.
+    absurd (false≢true (c.in-Ok-prepend_and_count.ensures.uncounted e t o))
 
 pub returns-clause-prepended : goal.returns-clause-prepended
 returns-clause-prepended g c = λ t.

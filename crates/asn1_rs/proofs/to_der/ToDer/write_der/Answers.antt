@@ -44,22 +44,27 @@ returns-clause-wrote g c =
 pub returns-in_err-header-clause-refused : goal.returns-in_err-header-clause-refused
 returns-in_err-header-clause-refused g c = λ t.
     let p = err_from_is_err_and c.from_residual-in_err-header.result c.from_residual-in_err-header.ensures.1 in
-    rw (p.1, p.2) (header_refuses g.Self.ToDer.writing c.args.self.now c.in_err-header.field-0.0 (c.in_err-header.ensures.refused t))
+    rw (p.1, p.2)
+    (header_refuses g.Self.ToDer.writing c.args.self.now c.in_err-header.field-0.0 (c.in_err-header.ensures.refused t))
 
 pub returns-in_err-before-clause-refused : goal.returns-in_err-before-clause-refused
 returns-in_err-before-clause-refused g c = λ t.
     let p = err_from_is_err_and c.from_residual-in_err-before.result c.from_residual-in_err-before.ensures.1 in
-    rw (p.1, p.2) (header_refuses g.Self.ToDer.writing c.args.self.now c.in_err-before.field-0.0 (c.in_err-before.ensures.refused t))
+    rw (p.1, p.2)
+    (header_refuses g.Self.ToDer.writing c.args.self.now c.in_err-before.field-0.0 (c.in_err-before.ensures.refused t))
 
 pub returns-in_err-content-clause-refused : goal.returns-in_err-content-clause-refused
 returns-in_err-content-clause-refused g c = λ t.
     let p = err_from_is_err_and c.from_residual-in_err-content.result c.from_residual-in_err-content.ensures.1 in
-    rw (p.1, p.2) (content_refuses g.Self.ToDer.writing c.args.self.now c.in_err-content.field-0.0 (c.in_err-content.ensures.refused t))
+    rw (p.1, p.2)
+    (content_refuses g.Self.ToDer.writing c.args.self.now c.in_err-content.field-0.0
+    (c.in_err-content.ensures.refused t))
 
 pub returns-in_err-after-clause-refused : goal.returns-in_err-after-clause-refused
 returns-in_err-after-clause-refused g c = λ t.
     let p = err_from_is_err_and c.from_residual-in_err-after.result c.from_residual-in_err-after.ensures.1 in
-    rw (p.1, p.2) (content_refuses g.Self.ToDer.writing c.args.self.now c.in_err-after.field-0.0 (c.in_err-after.ensures.refused t))
+    rw (p.1, p.2)
+    (content_refuses g.Self.ToDer.writing c.args.self.now c.in_err-after.field-0.0 (c.in_err-after.ensures.refused t))
 
 pub returns-clause-refused : goal.returns-clause-refused
 returns-clause-refused g c = λ t.
@@ -75,7 +80,8 @@ returns-clause-uncounted g c = λ e t o. absurd (false≢true (c.in_ok-after.ens
 pub returns-in_err-header-clause-at_once : goal.returns-in_err-header-clause-at_once
 returns-in_err-header-clause-at_once g c = λ e t o.
     let p = err_from_is_err_and c.from_residual-in_err-header.result c.from_residual-in_err-header.ensures.1 in
-    rw (p.1, p.2) (header_refuses_at_once g.Self.ToDer.writing c.args.self.now _ _ (c.in_err-header.ensures.at_once e t o))
+    rw (p.1, p.2)
+    (header_refuses_at_once g.Self.ToDer.writing c.args.self.now _ _ (c.in_err-header.ensures.at_once e t o))
 
 pub returns-in_err-content-clause-at_once : goal.returns-in_err-content-clause-at_once
 returns-in_err-content-clause-at_once g c = λ e t o.
