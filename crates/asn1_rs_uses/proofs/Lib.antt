@@ -1,7 +1,12 @@
+pub mod AnyTexts
 pub mod Collected
 pub mod CountedItems
 pub mod JoinedNumbers
+pub mod LabelsUnwritten
+pub mod MeasurementsUnwritten
 pub mod Messages
+pub mod MidnightsRefused
+pub mod NoMessages
 pub mod NoPrincipals
 pub mod PrincipalWords
 pub mod Principals
@@ -10,4 +15,5 @@ pub mod PrincipalsBack
 pub mod PrincipalsUnwritten
 pub mod Streams
 pub mod TaggedOctets
+pub mod Unrefused
 pub mod Unwritten

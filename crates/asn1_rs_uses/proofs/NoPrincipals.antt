@@ -41,7 +41,7 @@ IsRealm = OptionalWord (λ o t. RealmByDer o (octets_of t.inner))
 abbrev RealmGives : List ℕ → Result (List ℕ × Option Realm) (Refusal Error) → Type 0
 RealmGives = OptionGives (IsLeftOut der_rule 2) (Exactly IsCutIdentifier RealmByDer (λ t. octets_of t.inner) NoMemory)
 
-memory_flat : (r : Refusal Error) (e : Error) → WantsMemory r → FlattenedTo (λ x y. y ≡ x) (λ x y. y ≡ x) r e →
+pub memory_flat : (r : Refusal Error) (e : Error) → WantsMemory r → FlattenedTo (λ x y. y ≡ x) (λ x y. y ≡ x) r e →
     e ≡ errors.OutOfMemory
 memory_flat (cut n) e m f = let a = m.1.2 in cc
 memory_flat (refused x) e m f = let a = m.1.2 in let b = m.1.1 in cc

@@ -1,5 +1,6 @@
 -- Where octets of a stream may end within an identifier, and where no element begins them.
-use Rattle.std.proofs.Common.{◌≡◌, ap, sym, subst, refl, inl, inr, ⊎_elim, ℕ, List, [], ◌∷◌, ◌++◌, length, length-append, arith}
+use Rattle.std.proofs.Common.{◌≡◌, ap, sym, subst, refl, inl, inr, ⊎_elim, ℕ, List, [], ◌∷◌, ◌++◌, length}
+use Rattle.std.proofs.Common.{length-append, arith}
 use Rattle.std.specs.Prelude.{◌⊎◌, ◌≢◌, ◌≤◌, ◌<◌}
 use Rattle.x690.specs.Elements.{Parts, IsDerElement}
 use Rattle.x690.specs.Identifiers.{Identifier, IsIdentifier, IsCutIdentifier}
@@ -11,7 +12,7 @@ use Rattle.asn1_headers.specs.declared.error.Needed.TheVariants.{Size, Unknown}
 use Rattle.asn1_headers.specs.declared.error.Error.{Error}
 use Rattle.asn1_headers.specs.declared.error.Error.TheVariants as errors
 use Rattle.asn1_rs.specs.Any.{RefusalLasts}
-use Rattle.asn1_rs_uses.specs.Stream.{NoElementBegins, AnElementBegins}
+use Rattle.asn1_rs_uses.specs.Stream.{NoElementBegins}
 
 -- an identifier has six octets at most
 six_octets : (octets : List ℕ) (id : Identifier) → IsIdentifier octets id → length octets ≤ 6
@@ -46,11 +47,11 @@ none_begins buffer r tells long not_cut = λ more word rest p is fits. ⊎_elim
     (λ within. let least = long within.0 in let most = cut_is_short buffer within.1 in omega arith)
     (tells more word rest p fits is)
 
-pub final_refusal : (buffer : List ℕ) (r : Refusal Error) → TellsBeginnings buffer r →
-    (r ≡ refused errors.InvalidTag → 6 ≤ length buffer) → IsCut r ⊎ NoElementBegins buffer ⊎ AnElementBegins buffer
-final_refusal buffer (cut n) tells long = inl tt
-final_refusal buffer (refused e) tells long = inr (inl (none_begins buffer (refused e) tells long (λ c. c)))
-final_refusal buffer (failed e) tells long = inr (inl (none_begins buffer (failed e) tells long (λ c. c)))
+pub final_refusal : (Other : Type 0) (buffer : List ℕ) (r : Refusal Error) → TellsBeginnings buffer r →
+    (r ≡ refused errors.InvalidTag → 6 ≤ length buffer) → IsCut r ⊎ NoElementBegins buffer ⊎ Other
+final_refusal Other buffer (cut n) tells long = inl tt
+final_refusal Other buffer (refused e) tells long = inr (inl (none_begins buffer (refused e) tells long (λ c. c)))
+final_refusal Other buffer (failed e) tells long = inr (inl (none_begins buffer (failed e) tells long (λ c. c)))
 
 -- fewer octets than one are none
 no_more : (more : List ℕ) → (more ≡ []) ⊎ (length more < 1) → more ≡ []

@@ -1,5 +1,11 @@
 -- Values that borrow the octets that they are read from.
-use Rattle.std.specs.Prelude.{◌≡◌, ℕ, List, Ok, IsUtf8}
+use Rattle.std.specs.Prelude.{◌≡◌, ℕ, List, Ok, Err, IsUtf8}
+use Rattle.asn1_headers.specs.declared.error.Err.{Err as Refusal}
+use Rattle.asn1_headers.specs.declared.error.Error.{Error}
+use Rattle.asn1_rs.specs.declared.asn1_types.any.Any.{Any}
+use Rattle.asn1_rs.specs.Any.{parts_of, BerElementGives}
+use Rattle.asn1_rs.specs.Any.Text.{utf8_checks}
+use Rattle.asn1_rs.specs.FieldReader.{BecomesError}
 use Rattle.asn1_rs.specs.Any.Value.{ElementValue, ElementBody}
 use Rattle.asn1_headers.specs.Answers.{Front}
 use Rattle.asn1_rs.specs.Grammar.{BerWord, DerWord}
@@ -23,3 +29,12 @@ pub record BeginsWithContents (octets content : List ℕ) : Type 0 where
   pub rest : List ℕ
   pub front : Front (BerWord ElementBody) octets value rest
   pub contents : value.content ≡ content
+
+-- no element by BER begins the octets, and the refusal of their first fault became this error
+abbrev pub RefusesElement : List ℕ → Error → Type 0
+RefusesElement octets e = (r : Refusal Error) × BerElementGives octets (Err r) × BecomesError r e
+
+-- an element by BER begins the octets, and this is the first check of a text that it breaks
+abbrev pub HasNoText : List ℕ → Error → Type 0
+HasNoText octets e = (any : Any) × (rest : List ℕ) × BerElementGives octets (Ok (rest, any)) ×
+    utf8_checks (parts_of any) (Err e)

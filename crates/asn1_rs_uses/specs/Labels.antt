@@ -1,5 +1,5 @@
 -- What is written for borrowed octet strings under tags.
-use Rattle.std.specs.Prelude.{◌≡◌, ℕ, List, ◌++◌, length, true, false, Option, IfOk}
+use Rattle.std.specs.Prelude.{◌≡◌, ℕ, List, ◌++◌, length, true, false, Option, IfOk, IfErr}
 use Rattle.std.specs.List.{flat_map}
 use Rattle.std.specs.declared.alloc.Global.{Global}
 use Rattle.std.specs.declared.vec.Vec.{Vec}
@@ -7,13 +7,14 @@ use Rattle.x690.specs.Strict.{header_octets}
 use Rattle.asn1_headers.specs.Class.{class_number}
 use Rattle.asn1_headers.specs.Header.{class_of, tag_of}
 use Rattle.asn1_headers.specs.declared.error.Error.{Error}
-use Rattle.asn1_headers.specs.Writer.{Wrote, WriterState}
+use Rattle.asn1_headers.specs.Writer.{MayRefuse, Wrote, WriterState}
 use Rattle.asn1_rs.specs.OctetString.{octets_of}
 use Rattle.asn1_rs.specs.declared.asn1_types.octet_string.OctetString.{OctetString}
 use Rattle.asn1_rs.specs.declared.asn1_types.tagged.Explicit.{Explicit}
 use Rattle.asn1_rs.specs.declared.asn1_types.tagged.Implicit.{Implicit}
 use Rattle.asn1_rs.specs.declared.asn1_types.tagged.TaggedValue.{TaggedValue}
 use Rattle.asn1_rs.specs.declared.asn1_types.tagged.parser.TaggedParser.{TaggedParser}
+use Rattle.asn1_rs.specs.ToDer.{MayRefuseCount}
 use Rattle.asn1_rs_uses.specs.declared.labels.EachCall.{EachCall}
 use Rattle.asn1_rs_uses.specs.Messages.{in_sequence}
 use Rattle.asn1_rs_uses.specs.Principals.{under_tag, or_nothing, string_element_octets}
@@ -60,3 +61,11 @@ pub record AreEachCall (octets : List ℕ) (old new other_old other_new : Writer
   pub strictly : Wrote octets other_old other_new answers.strictly
   pub vector : IfOk answers.vector (λ v. v.items ≡ octets)
   pub strict : IfOk answers.strict (λ v. v.items ≡ octets)
+
+-- Each call is refused for the number of octets alone, by its writer, or when out of memory.
+pub record AreRefused (n : ℕ) (answers : EachCall) : Type 0 where
+  pub counted : IfErr answers.counted (MayRefuseCount true n)
+  pub written : IfErr answers.written (MayRefuse true n)
+  pub strictly : IfErr answers.strictly (MayRefuse true n)
+  pub vector : IfErr answers.vector (MayRefuse true n)
+  pub strict : IfErr answers.strict (MayRefuse true n)

@@ -1,12 +1,13 @@
 -- Messages: a number, an element and numbers, in a sequence.
-use Rattle.std.specs.Prelude.{◌≡◌, ℕ, ℤ, pos, List, ◌++◌, length, map, true, false}
+use Rattle.std.specs.Prelude.{◌≡◌, ◌⊎◌, ℕ, ℤ, pos, List, ◌++◌, length, map, true, false}
 use Rattle.std.specs.List.{flat_map}
 use Rattle.x690.specs.Elements.{Parts, IsDerElement}
+use Rattle.x690.specs.Identifiers.{IsCutIdentifier}
 use Rattle.x690.specs.Integers.{unsigned_octets}
 use Rattle.x690.specs.Strict.{header_octets}
 use Rattle.asn1_headers.specs.declared.error.Err.{Err as Refusal}
 use Rattle.asn1_headers.specs.declared.error.Error.{Error}
-use Rattle.asn1_headers.specs.Answers.{TellsMemory}
+use Rattle.asn1_headers.specs.Answers.{Speaks, TellsMemory}
 use Rattle.asn1_rs.specs.Any.Value.{ElementValue, ElementBody, ElementCheck, element_of}
 use Rattle.asn1_rs.specs.Any.Writing.{element_header}
 use Rattle.asn1_rs.specs.Grammar.{DerWord, NoCheck}
@@ -66,3 +67,16 @@ message_octets m =
 -- reading numbers allocates, and out of memory may be reported
 abbrev pub WantsMemory : Refusal Error → Type 0
 WantsMemory = TellsMemory true (λ e f. f ≡ e)
+
+-- the parts are those of no message
+abbrev pub IsNoMessage : Parts → Type 0
+IsNoMessage p = (m : Message) → IsMessage p m → ⊥
+
+-- no message begins the octets
+abbrev pub BeginsWithNoMessage : List ℕ → Type 0
+BeginsWithNoMessage octets = (m : Message) (rest : List ℕ) → BeginsWithMessage octets m rest → ⊥
+
+-- out of memory, or a refusal that is final: no message begins the octets, whatever follows of which the refusal speaks
+abbrev pub RefusesMessage : List ℕ → Refusal Error → Type 0
+RefusesMessage octets r =
+    WantsMemory r ⊎ ((more : List ℕ) → Speaks (IsCutIdentifier octets) r more → BeginsWithNoMessage (octets ++ more))

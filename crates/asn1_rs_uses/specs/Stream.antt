@@ -1,13 +1,14 @@
 -- Messages in a buffer that a stream fills.
-use Rattle.std.specs.Prelude.{◌≡◌, ◌⊎◌, ◌<◌, ◌++◌, ℕ, List, length}
+use Rattle.std.specs.Prelude.{◌≡◌, ◌⊎◌, ◌<◌, ◌++◌, ℕ, List, length, Result, Err}
 use Rattle.x690.specs.Elements.{Parts, IsDerElement}
 use Rattle.x690.specs.Faults.{DerElementFault}
 use Rattle.x690.specs.Joined.{NoFront}
 use Rattle.asn1_headers.specs.declared.error.Err.{Err as Refusal}
-use Rattle.asn1_headers.specs.declared.error.Err.TheVariants.{Incomplete as cut}
+use Rattle.asn1_headers.specs.declared.error.Err.TheVariants.{Incomplete as cut, Error as refused}
 use Rattle.asn1_headers.specs.declared.error.Needed.TheVariants.{Size}
 use Rattle.asn1_headers.specs.declared.error.Error.{Error}
 use Rattle.asn1_headers.specs.Answers.{Front}
+use Rattle.asn1_rs.specs.FieldReader.{BecomesError}
 use Rattle.asn1_headers.specs.Header.Reading.{Refused, der_refusal}
 
 -- So many octets are awaited: those that the element lacks, or one, where fewer than six may end within an identifier.
@@ -22,3 +23,9 @@ NoElementBegins octets = (more : List ℕ) → NoFront IsDerElement (octets ++ m
 -- an element by DER begins the octets
 abbrev pub AnElementBegins : List ℕ → Type 0
 AnElementBegins octets = (p : Parts) × (rest : List ℕ) × Front IsDerElement octets p rest
+
+-- the refusal of the message's reader, as an error
+abbrev pub RefusesMessage : {T : Type 0} → (List ℕ → Result (List ℕ × T) (Refusal Error) → Type 0) → List ℕ →
+    Refusal Error → Type 0
+RefusesMessage reads octets r =
+    (q : Refusal Error) × (e : Error) × reads octets (Err q) × BecomesError q e × (r ≡ refused e)

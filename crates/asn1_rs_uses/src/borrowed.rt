@@ -1,5 +1,5 @@
 //! Values that borrow the octets that they are read from, and last as long as those.
-ghost use Rattle.std.specs.Prelude.{IfOk};
+ghost use Rattle.std.specs.Prelude.{◌⊎◌, IfOk, IfErr};
 ghost use Rattle.x690.specs.Identifiers.{IsCutIdentifier};
 ghost use Rattle.asn1_headers.specs.Answers.{seen, Exactly};
 ghost use Rattle.asn1_rs.specs.OctetString.{slice_leaf, octet_string_leaf, octets_of};
@@ -9,18 +9,21 @@ ghost use Rattle.asn1_rs.specs.Kept.{kept_octets, sequence_leaf};
 ghost use Rattle.asn1_rs.specs.Lists.{ItemsGive, listed};
 ghost use Rattle.asn1_rs.specs.Strings.{text_of};
 ghost use Rattle.asn1_rs_uses.specs.Borrowed.{LeafByDer, BeginsWithContents, utf8_string_leaf};
+ghost use Rattle.asn1_rs_uses.specs.Borrowed.{RefusesElement, HasNoText};
 ghost use Rattle.asn1_rs_uses.specs.Numbers.{NoMemory};
 
 use asn1_rs::{
     Any, BitString, Error, FromDer, Integer, OctetString, ParseResult, Sequence, Utf8String,
-    read_ber, read_der,
+    any_is_the_element, read_ber, read_der,
 };
 use std::alloc::Global;
 
-/// The contents octets of the element at the front of the octets, by BER.
+/// The contents octets of the element at the front of the octets, by BER. Refused as the element is.
 pub fn contents_octets<'a>(alloc: Global, octets: &'a [u8]) -> Result<&'a [u8], Error>
-    ensures { IfOk result (λ content. BeginsWithContents octets.now content.now) }
+    ensures begins { IfOk result (λ content. BeginsWithContents octets.now content.now) }
+    ensures refused { IfErr result (RefusesElement octets.now) }
 {
+    any_is_the_element();
     let (_, element) = read_ber::<Any<'a>, Error>(alloc, octets)?;
     Ok(element.as_bytes())
 }
@@ -56,9 +59,14 @@ pub fn read_utf8_string<'a>(
 }
 
 /// The text of the element at the front, by BER: that of a string of any of the types that are read as UTF-8.
+///
+/// Refused as the element is, then with the first check of such a string that it breaks.
 pub fn any_text<'a>(alloc: Global, octets: &'a [u8]) -> Result<&'a str, Error>
-    ensures { IfOk result (λ text. BeginsWithContents octets.now text.now) }
+    ensures begins { IfOk result (λ text. BeginsWithContents octets.now text.now) }
+    ensures refused { IfErr result
+        (λ e. RefusesElement octets.now e ⊎ HasNoText octets.now e) }
 {
+    any_is_the_element();
     let (_, any) = read_ber::<Any<'a>, Error>(alloc, octets)?;
     any.as_any_string()
 }

@@ -20,6 +20,7 @@ pub fn read_by_bound<'a, T: FromBer<'a, Error>>(
 }
 
 /// How many octets all the values have that an iterator gives. Refused where one is, and where the sum passes `usize`.
+// Of refusals no clause is proved.
 pub fn count_all<'s, T, I>(items: I) -> Result<usize, Error>
 where
     T: ToDer + 's,

@@ -1,6 +1,10 @@
 //! Who signed a certificate, for whom, and how long it is valid (RFC 5280, 4.1): read by DER and borrowed.
-ghost use Rattle.std.specs.Prelude.{◌≡◌, IfOk};
+ghost use Rattle.std.specs.Prelude.{◌≡◌, IfOk, IfErr, Ok, Err};
+ghost use Rattle.asn1_rs.specs.Any.{parts_of};
+ghost use Rattle.asn1_rs.specs.Any.Text.{utf8_checks};
 ghost use Rattle.asn1_rs.specs.FieldReader.{TakesSequence};
+ghost use Rattle.asn1_rs.specs.Traits.{OfParts};
+ghost use Rattle.asn1_rs_uses.specs.Certificates.{TimeCheckGives, TimeGives};
 
 use crate::kerberos::Under;
 use asn1_rs::{
@@ -17,9 +21,12 @@ pub struct Attribute<'a> {
 }
 
 impl<'a> Attribute<'a> {
-    /// The text, which is borrowed from the certificate.
+    /// The text, which is borrowed from the certificate. Refused with the first check of a string read as UTF-8 that
+    /// the value breaks: its tag number, then its octets.
     pub fn text(&self) -> Result<&'a str, Error>
-        ensures { IfOk result (λ text. text.now ≡ self.now.value.content.now) }
+        ensures text { IfOk result (λ text. text.now ≡ self.now.value.content.now) }
+        ensures checked { IfOk result (λ _. utf8_checks (parts_of self.now.value) (Ok tt)) }
+        ensures refused { IfErr result (λ e. utf8_checks (parts_of self.now.value) (Err e)) }
     {
         self.value.as_any_string()
     }
@@ -83,6 +90,8 @@ impl<'a> FromDer<'a, Error> for Attribute<'a> {
 impl<'a> FromAny<'a> for Time {
     type Error = Error;
 
+    ghost any_gives = { OfParts TimeGives };
+
     fn try_from_any(_alloc: Global, any: Any<'a>) -> Result<Time, Error> {
         if any.tag() == Tag::UtcTime {
             return Ok(Time::Utc(any.utctime()?));
@@ -92,6 +101,8 @@ impl<'a> FromAny<'a> for Time {
 }
 
 impl CheckDerConstraints for Time {
+    ghost check_gives = { TimeCheckGives };
+
     fn check_constraints(any: &Any<'_>) -> Result<(), Error> {
         if any.tag() == Tag::UtcTime {
             return UtcTime::check_constraints(any);

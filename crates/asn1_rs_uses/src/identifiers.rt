@@ -1,14 +1,16 @@
-//! Object identifiers: read, written from arcs, compared.
-ghost use Rattle.std.specs.Prelude.{◌≡◌, ◌↔◌, ℕ, List, true};
+//! Object identifiers: read, made of arcs, compared.
+ghost use Rattle.std.specs.Prelude.{◌≡◌, ◌↔◌, ℕ, List, true, false, Err, MatchResult};
+ghost use Rattle.x690.specs.Arcs.{AreAbsoluteArcs};
 ghost use Rattle.x690.specs.Identifiers.{IsCutIdentifier};
 ghost use Rattle.x690.specs.Octets.{BeginsWith};
 ghost use Rattle.asn1_headers.specs.Answers.{seen, Exactly};
 ghost use Rattle.asn1_rs.specs.declared.asn1_types.oid.Oid.{Oid};
 ghost use Rattle.asn1_rs.specs.Oid.{oid_octets, oid_value};
+ghost use Rattle.asn1_rs.specs.Oid.Making.{OidMade, arcs_back};
 ghost use Rattle.asn1_rs_uses.specs.Identifiers.{OidByDer, rsa_octets};
 ghost use Rattle.asn1_rs_uses.specs.Numbers.{NoMemory};
 
-use asn1_rs::{Error, Oid, ParseResult, equal_items_are_hashed_alike, read_der};
+use asn1_rs::{Error, Oid, OidParseError, ParseResult, equal_items_are_hashed_alike, read_der};
 use std::alloc::Global;
 use std::borrow::CowSlice;
 use std::hash::Hash;
@@ -18,6 +20,22 @@ pub fn read_oid<'a>(alloc: Global, octets: &'a [u8]) -> ParseResult<'a, Oid<'a>,
     ensures { Exactly IsCutIdentifier OidByDer oid_value NoMemory octets.now (seen result) }
 {
     read_der::<Oid<'a>, Error>(alloc, octets)
+}
+
+/// The arcs that an identifier gives again that is made of these: the same, but of 0, 0 the one arc 0 (X.690 8.19).
+///
+/// Refused as `Oid::from` refuses, or where memory is, of arcs that are those of an identifier.
+pub fn arcs_found_again(alloc: Global, arcs: &[u64]) -> Result<Vec<u64>, OidParseError>
+    ensures { MatchResult result
+        (λ found. AreAbsoluteArcs arcs.now × (found.items ≡ arcs_back false arcs.now))
+        (λ e. OidMade false arcs.now (Err e)) }
+{
+    let oid = Oid::from(alloc, arcs)?;
+    // Each arc that is given is below 2^64, so there is an iterator, and the other branch is never taken.
+    let Some(found) = oid.iter() else {
+        return Err(OidParseError::ParseIntError);
+    };
+    Ok(found.collect(alloc)?)
 }
 
 /// Whether an object identifier is 1.2.840.113549.1.1 or one under it: of RSA keys and signatures.

@@ -1,11 +1,11 @@
 //! Headers and elements that may be cut.
-ghost use Rattle.std.specs.Prelude.{◌≡◌, ◌<◌, ◌++◌, ℕ, List, length, Some, IfOk};
+ghost use Rattle.std.specs.Prelude.{◌≡◌, ◌<◌, ◌++◌, ℕ, List, length, IfOk};
 ghost use Rattle.x690.specs.Identifiers.{Identifier, IsIdentifier, IsCutIdentifier};
 ghost use Rattle.x690.specs.Lengths.{LengthForm};
 ghost use Rattle.x690.specs.Rules.{ber_rule};
 ghost use Rattle.x690.specs.Elements.{Parts, IsHeader, IsDerElement};
 ghost use Rattle.asn1_headers.specs.Answers.{seen, RefusedAsBeginning};
-ghost use Rattle.asn1_headers.specs.Header.{raw_tag_of};
+ghost use Rattle.asn1_headers.specs.Header.{KeepsLent};
 
 use asn1_rs::{
     Any, Error, FromBer, FromDer, Header, ParseResult, any_is_the_element, beginnings_are_refused,
@@ -14,7 +14,7 @@ use std::alloc::Global;
 
 /// The element at the front of the octets, by DER, and what follows it.
 ///
-/// It keeps its identifier octets. Octets that end within such an element are refused: with `Incomplete` of those that
+/// It keeps its identifier octets, which the input lends. Octets that end within such an element are refused: with `Incomplete` of those that
 /// are missing or fewer, or with `InvalidTag`.
 pub fn read_element<'a>(alloc: Global, octets: &'a [u8]) -> ParseResult<'a, Any<'a>, Error>
     ensures cut { (more word rest : List ℕ) (p : Parts) → IsDerElement word p
@@ -22,7 +22,7 @@ pub fn read_element<'a>(alloc: Global, octets: &'a [u8]) -> ParseResult<'a, Any<
         → RefusedAsBeginning (IsCutIdentifier octets.now) more (seen result) }
     ensures raw_tag { (identifier more : List ℕ) (id : Identifier) → IsIdentifier identifier id
         → octets.now ≡ identifier ++ more
-        → IfOk (seen result) (λ x. raw_tag_of x.1.header ≡ Some identifier) }
+        → IfOk (seen result) (λ x. KeepsLent identifier x.1.header) }
 {
     any_is_the_element();
     beginnings_are_refused();

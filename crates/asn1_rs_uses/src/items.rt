@@ -63,6 +63,7 @@ pub fn elements_in<'a>(alloc: Global, content: &'a [u8]) -> Result<Vec<Any<'a>>,
 }
 
 /// How many numbers stand in contents octets that are numbers by DER, joined.
+// Of other contents octets no clause is proved.
 pub fn count_of_numbers(alloc: Global, content: &[u8]) -> usize
     ensures { AreJoinedWords NumberByDer content.now → (numbers : List ℤ)
         × IsJoined NumberByDer content.now numbers × (result ≡ length numbers) }

@@ -29,6 +29,7 @@ pub fn numbers_of(alloc: Global, content: &[u8]) -> Result<Vec<u64>, Error>
 
 /// The set of numbers at the front of the octets, by DER, and what follows it. It keeps the numbers in the order of the
 /// words.
+// Of refusals no clause is proved.
 pub fn set_of_numbers(alloc: Global, octets: &[u8]) -> ParseResult<'_, SetOf<u64>, Error>
     ensures { IfOk (seen result) (λ x. BeginsWithNumbers octets.now (items_of x.1) x.0) }
 {

@@ -1,15 +1,16 @@
 //! Borrowed octet strings under tags, counted and written: optional ones, lists of them, one with its header in hand,
 //! and a list that a type of a caller's holds.
-ghost use Rattle.std.specs.Prelude.{◌≡◌, length, IfOk};
-ghost use Rattle.asn1_headers.specs.Writer.{Wrote};
+ghost use Rattle.std.specs.Prelude.{◌≡◌, ◌+◌, false, true, length, IfErr, MatchResult};
+ghost use Rattle.asn1_headers.specs.Writer.{Wrote, MayRefuse, IsMemoryOrLength};
 ghost use Rattle.asn1_headers.specs.Prepended.{Prepended};
-ghost use Rattle.asn1_rs_uses.specs.Labels.{label_octets, labels_octets, headed_octets, AreEachCall};
-ghost use Rattle.asn1_rs.specs.ToDer.{whole_octets};
+ghost use Rattle.asn1_rs_uses.specs.Labels.{label_octets, labels_octets, headed_octets};
+ghost use Rattle.asn1_rs_uses.specs.Labels.{AreEachCall, AreRefused};
+ghost use Rattle.asn1_rs.specs.ToDer.{MayRefuseCount, whole_octets};
 
 use asn1_rs::{
-    DerBuffer, DerWrite, Error, Explicit, HasKind, HolderKind, Holds, Implicit, LawfulWrite,
-    OctetString, SerializeResult, TaggedExplicit, TaggedParser, TaggedValue, ToDer, strict_vec,
-    write_strict,
+    AlwaysDer, DerBuffer, DerWrite, Error, Explicit, HasKind, HolderKind, Holds, Implicit,
+    LawfulWrite, OctetString, SerializeResult, TaggedExplicit, TaggedParser, TaggedValue, ToDer,
+    counts_are_of_the_strict_encoding, strict_vec, write_strict,
 };
 use std::alloc::Global;
 
@@ -25,38 +26,45 @@ pub type Labels<'a> = TaggedExplicit<Vec<GeneralString<'a>>, Error, 0>;
 /// An octet string with the header of the explicit tag that it stands under.
 pub type Headed<'a> = TaggedParser<'a, Explicit, OctetString<'a>, Error>;
 
-/// How many octets a label has, or none where it is left out.
+/// How many octets a label has, or none where it is left out. Refused only where their number passes `usize`.
 pub fn count_label(label: &Option<Label<'_>>) -> Result<usize, Error>
-    ensures { IfOk result (λ n. n ≡ length (label_octets label.now)) }
+    ensures { MatchResult result (λ n. n ≡ length (label_octets label.now))
+        (MayRefuseCount false (length (label_octets label.now))) }
 {
     label.to_der_len()
 }
 
-/// Appends a label, or nothing where it is left out.
+/// Appends a label, or nothing where it is left out. Refused only as any writing of so many octets.
 pub fn write_label<W: DerWrite>(
     label: &Option<Label<'_>>,
     alloc: Global,
     w: &mut W,
 ) -> SerializeResult<usize>
-    ensures { Wrote (label_octets label.now) (W.state w.old) (W.state w.new) result }
+    ensures wrote { Wrote (label_octets label.now) (W.state w.old) (W.state w.new) result }
+    ensures refused { IfErr result (MayRefuse false (length (label_octets label.now))) }
 {
     label.write_der(alloc, w)
 }
 
-/// Puts a label, or nothing where it is left out, before the octets of a buffer.
+/// Puts a label, or nothing where it is left out, before the octets of a buffer. Refused only when out of memory, or
+/// where the buffer would pass `usize`.
 pub fn prepend_label(
     label: &Option<Label<'_>>,
     alloc: Global,
     buf: &mut DerBuffer,
 ) -> SerializeResult<usize>
-    ensures { Prepended (label_octets label.now) buf.old buf.new result }
+    ensures prepended { Prepended (label_octets label.now) buf.old buf.new result }
+    ensures refused { IfErr result
+        (MayRefuse true (length (label_octets label.now) + length buf.old)) }
 {
     label.prepend_der(alloc, buf)
 }
 
-/// A label in a vector, or no octets where it is left out.
+/// A label in a vector, or no octets where it is left out. Refused only when out of memory, or where their number
+/// passes `usize`.
 pub fn label_vec(alloc: Global, label: &Option<Label<'_>>) -> SerializeResult<Vec<u8>>
-    ensures { IfOk result (λ octets. octets.items ≡ label_octets label.now) }
+    ensures { MatchResult result (λ octets. octets.items ≡ label_octets label.now)
+        (IsMemoryOrLength (label_octets label.now)) }
 {
     label.to_der_vec(alloc)
 }
@@ -76,16 +84,20 @@ pub struct EachCall {
     pub strict: SerializeResult<Vec<u8>>,
 }
 
-/// Counts a value and writes it, by each call.
+/// Counts a value and writes it, by each call. Of a value in DER form each is refused only for its number of octets, by
+/// its writer, or when out of memory.
 pub fn by_each_call<T: LawfulWrite, W: DerWrite>(
     x: &T,
     alloc: Global,
     w: &mut W,
     v: &mut W,
 ) -> EachCall
-    ensures { AreEachCall (whole_octets T.writing x.now) (W.state w.old) (W.state w.new)
+    ensures calls { AreEachCall (whole_octets T.writing x.now) (W.state w.old) (W.state w.new)
         (W.state v.old) (W.state v.new) result }
+    ensures refused { T.grammar.IsDer (T.grammar.value x.now) →
+        AreRefused (length (whole_octets T.writing x.now)) result }
 {
+    counts_are_of_the_strict_encoding::<T>();
     EachCall {
         counted: x.to_der_len(),
         written: x.write_der(alloc, w),
@@ -102,13 +114,16 @@ pub fn labels_by_each_call<W: DerWrite>(
     w: &mut W,
     v: &mut W,
 ) -> EachCall
-    ensures { AreEachCall (labels_octets labels.now) (W.state w.old) (W.state w.new) (W.state v.old)
-        (W.state v.new) result }
+    ensures calls { AreEachCall (labels_octets labels.now) (W.state w.old) (W.state w.new)
+        (W.state v.old) (W.state v.new) result }
+    ensures refused { AreRefused (length (labels_octets labels.now)) result }
 {
+    labels.is_der();
     by_each_call(labels, alloc, w, v)
 }
 
 /// An octet string under the tag that its header tells, by each call.
+// Of refusals no clause is proved.
 pub fn headed_by_each_call<W: DerWrite>(
     headed: &Headed<'_>,
     alloc: Global,
@@ -146,8 +161,10 @@ pub fn directory_by_each_call<W: DerWrite>(
     w: &mut W,
     v: &mut W,
 ) -> EachCall
-    ensures { AreEachCall (labels_octets directory.now.0) (W.state w.old) (W.state w.new)
+    ensures calls { AreEachCall (labels_octets directory.now.0) (W.state w.old) (W.state w.new)
         (W.state v.old) (W.state v.new) result }
+    ensures refused { AreRefused (length (labels_octets directory.now.0)) result }
 {
+    directory.is_der();
     by_each_call(directory, alloc, w, v)
 }

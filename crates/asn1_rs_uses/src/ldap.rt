@@ -27,6 +27,7 @@ pub struct Bind<'a> {
 }
 
 /// The message at the front of the octets, by DER, and what follows it.
+// No clause says what is read, or what is refused.
 pub fn read_bind_message<'a>(
     alloc: Global,
     octets: &'a [u8],

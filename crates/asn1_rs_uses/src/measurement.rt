@@ -1,5 +1,6 @@
 //! A type of several fields, of which it is told what is written.
-ghost use Rattle.std.specs.Prelude.{◌≡◌, IfOk};
+ghost use Rattle.std.specs.Prelude.{◌≡◌, MatchResult};
+ghost use Rattle.asn1_headers.specs.Writer.{IsMemoryOrLength};
 ghost use Rattle.asn1_rs.specs.Fields.{field, no_fields};
 ghost use Rattle.asn1_rs_uses.specs.Measurements.{measurement_octets};
 
@@ -37,9 +38,10 @@ impl WritesFields for Measurement {
     }
 }
 
-/// The octets of a measurement, by DER.
+/// The octets of a measurement, by DER. Refused only when out of memory, or where their number passes `usize`.
 pub fn measurement_vec(alloc: Global, measurement: &Measurement) -> SerializeResult<Vec<u8>>
-    ensures { IfOk result (λ octets. octets.items ≡ measurement_octets measurement.now) }
+    ensures { MatchResult result (λ octets. octets.items ≡ measurement_octets measurement.now)
+        (IsMemoryOrLength (measurement_octets measurement.now)) }
 {
     measurement.to_der_vec(alloc)
 }

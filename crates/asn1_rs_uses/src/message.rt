@@ -1,10 +1,15 @@
 //! A message in the manner of SNMP: a version, the name of a community, and numbers, in a sequence.
-ghost use Rattle.std.specs.Prelude.{◌≡◌, IfOk};
+ghost use Rattle.std.specs.Prelude.{◌≡◌, ◌⊎◌, IfOk, IfErr};
 ghost use Rattle.asn1_headers.specs.Answers.{seen};
+ghost use Rattle.asn1_headers.specs.declared.error.Error.TheVariants as errors;
 ghost use Rattle.asn1_rs.specs.Any.{parts_of};
 ghost use Rattle.asn1_rs_uses.specs.Messages.{BeginsWithMessage, IsMessage, message_octets};
+ghost use Rattle.asn1_rs_uses.specs.Messages.{IsNoMessage, RefusesMessage};
 
-use asn1_rs::{Any, Err, Error, ParseResult, SerializeResult, Tag, ToDer, Told, read_der};
+use asn1_rs::{
+    Any, Err, Error, ParseResult, SerializeResult, Tag, ToDer, Told, read_der,
+    words_and_values_are_unique,
+};
 use std::alloc::Global;
 
 /// A message. The name of its community is borrowed from the octets that it was read from.
@@ -20,7 +25,8 @@ impl<'a> Message<'a> {
     ///
     /// Refused as `Incomplete` only where the sequence itself is cut.
     pub fn from_der(alloc: Global, octets: &'a [u8]) -> ParseResult<'a, Message<'a>, Error>
-        ensures { IfOk (seen result) (λ x. BeginsWithMessage octets.now x.1 x.0) }
+        ensures begins { IfOk (seen result) (λ x. BeginsWithMessage octets.now x.1 x.0) }
+        ensures refused { IfErr (seen result) (RefusesMessage octets.now) }
     {
         let (rest, sequence) = read_der::<Any<'a>, Error>(alloc, octets)?;
         match Message::from_element(alloc, &sequence) {
@@ -31,10 +37,15 @@ impl<'a> Message<'a> {
 
     /// The message that an element is.
     fn from_element(alloc: Global, element: &Any<'a>) -> Result<Message<'a>, Error>
-        ensures { IfOk result (IsMessage (parts_of element.now)) }
+        ensures parts { IfOk result (IsMessage (parts_of element.now)) }
+        ensures refused { IfErr result
+            (λ e. (e ≡ errors.OutOfMemory) ⊎ IsNoMessage (parts_of element.now)) }
     {
+        words_and_values_are_unique::<u32>();
+        words_and_values_are_unique::<Any<'a>>();
+        words_and_values_are_unique::<Vec<u32>>();
         element.tag().assert_eq(Tag::Sequence)?;
-        let (content, version) = read_der::<u32, Error>(alloc, element.as_bytes())?;
+        let (content, version) = read_der::<u32, Error>(alloc, element.content)?;
         let (content, community) = read_der::<Any<'a>, Error>(alloc, content)?;
         let (content, numbers) = read_der::<Vec<u32>, Error>(alloc, content)?;
         if !content.is_empty() {
@@ -48,6 +59,7 @@ impl<'a> Message<'a> {
     }
 
     /// The octets of the message, by DER.
+    // Of refusals no clause is proved.
     pub fn to_der(&self, alloc: Global) -> SerializeResult<Vec<u8>>
         ensures { IfOk result (λ octets. octets.items ≡ message_octets self.now) }
     {

@@ -19,6 +19,7 @@ pub struct Pdu<'a> {
 }
 
 /// The message at the front of the octets, by BER, and what follows it.
+// No clause says what is read, or what is refused.
 pub fn read_packet<'a>(alloc: Global, octets: &'a [u8]) -> ParseResult<'a, Packet<'a>, Error> {
     Sequence::from_ber_and_then(octets, |content| {
         let (content, version) = u8::from_ber(alloc, content)?;

@@ -8,6 +8,7 @@ ghost use Rattle.asn1_headers.specs.declared.error.Err.TheVariants.{Error as ref
 ghost use Rattle.asn1_headers.specs.declared.error.Error.TheVariants as errors;
 ghost use Rattle.asn1_rs.specs.Any.{RefusalLasts};
 ghost use Rattle.asn1_rs_uses.specs.Stream.{IsAwaited, NoElementBegins, AnElementBegins};
+ghost use Rattle.asn1_rs_uses.specs.Stream.{RefusesMessage};
 
 use asn1_rs::{
     Any, Err, Error, FromDer, Needed, ParseResult, answers_last, any_is_the_element,
@@ -32,7 +33,7 @@ fn may_end_within_identifier(buffer: &[u8], refusal: &Err<Error>) -> bool
 ///
 /// `Incomplete(n)` says to wait: the element is cut, and n octets at least are missing. Fewer than six octets may end
 /// within an identifier in high form, where `Any::from_der` answers `InvalidTag`: one more is awaited then. Each other
-/// refusal is final, also that of a part that is cut within the whole element.
+/// refusal is final, also that of a part that is cut within the whole element: it is the message's, as an error.
 pub fn next_message<'a, T: FromDer<'a, Error>>(
     alloc: Global,
     buffer: &'a [u8],
@@ -41,8 +42,8 @@ pub fn next_message<'a, T: FromDer<'a, Error>>(
     ensures waits { IfErr (seen result)
         (λ r. IsCut r → RefusalLasts IsDerElement IsCutIdentifier buffer.now r) }
     ensures awaited { IfErr (seen result) (λ r. IsCut r → IsAwaited buffer.now r) }
-    ensures refused { IfErr (seen result)
-        (λ r. IsCut r ⊎ NoElementBegins buffer.now ⊎ AnElementBegins buffer.now) }
+    ensures refused { IfErr (seen result) (λ r. IsCut r ⊎ NoElementBegins buffer.now ⊎
+        (AnElementBegins buffer.now × RefusesMessage T.der_gives buffer.now r)) }
 {
     any_is_the_element();
     answers_last();

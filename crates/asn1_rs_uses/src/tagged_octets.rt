@@ -13,6 +13,7 @@ use asn1_rs::{
 use std::alloc::Global;
 
 /// The contents octets, behind a header.
+// It never refuses.
 fn behind_header<'a>(
     _header: Header<'_>,
     content: &'a [u8],
@@ -23,6 +24,7 @@ fn behind_header<'a>(
 }
 
 /// The contents octets, with the header.
+// It never refuses.
 fn with_header<'a>(
     content: &'a [u8],
     _header: Header<'a>,
@@ -33,6 +35,7 @@ fn with_header<'a>(
 }
 
 /// The contents octets, with the tag number that was given and the header.
+// It never refuses.
 fn with_number<'a>(
     content: &'a [u8],
     _tag: Tag,
@@ -44,6 +47,7 @@ fn with_number<'a>(
 }
 
 /// The contents octets of the element of this context-specific tag, if it is there, by DER.
+// Of refusals no clause is proved.
 pub fn optional_octets<'a>(
     number: u32,
     octets: &'a [u8],
@@ -55,6 +59,7 @@ pub fn optional_octets<'a>(
 }
 
 /// The octet string under the explicit tag of this number, by DER, with the header of the tag.
+// Of refusals no clause is proved.
 pub fn string_under<'a>(
     alloc: Global,
     number: u32,
@@ -68,6 +73,7 @@ pub fn string_under<'a>(
 }
 
 /// The octets under the implicit tag of this number, by DER, with the header of the tag.
+// Of refusals no clause is proved.
 pub fn octets_under<'a>(
     alloc: Global,
     number: u32,
@@ -80,6 +86,7 @@ pub fn octets_under<'a>(
 }
 
 /// The contents octets of the element of this number, by DER, through a function of their own.
+// Of refusals no clause is proved.
 pub fn octets_handed_on<'a>(
     number: u32,
     octets: &'a [u8],
@@ -91,6 +98,7 @@ pub fn octets_handed_on<'a>(
 }
 
 /// The same, under the tag number of octet strings.
+// Of refusals no clause is proved.
 pub fn octets_handed_under<'a>(
     number: u32,
     octets: &'a [u8],

@@ -2,12 +2,12 @@
 
 use asn1_rs::{Error, FromDer, Tag, ToDer};
 use asn1_rs_uses::{
-    Fingerprint, InClass, Level, Message, NamePart, Point, SerialNumber, any_text, check_numbers,
-    contents_octets, count_number, count_of_numbers, elements_in, has_tag_of, is_directory_name,
-    is_same_number, is_strict_front, items_of, numbers_in, numbers_of, read_bit_string,
-    read_element, read_header, read_integer, read_number, read_number_by_ber, read_numbers,
-    read_octet_string, read_octets, read_sequence, read_utf8_string, set_of_numbers, write_number,
-    write_numbers,
+    Fingerprint, InClass, Level, Message, NamePart, Point, SerialNumber, any_text,
+    arcs_found_again, check_numbers, contents_octets, count_midnight, count_number,
+    count_of_numbers, elements_in, has_tag_of, is_directory_name, is_same_number, is_strict_front,
+    items_of, numbers_in, numbers_of, read_bit_string, read_element, read_header, read_integer,
+    read_number, read_number_by_ber, read_numbers, read_octet_string, read_octets, read_sequence,
+    read_utf8_string, set_of_numbers, write_midnight, write_number, write_numbers,
 };
 use std::test::Fail;
 use test_rows::{assert_all, assert_shown};
@@ -211,4 +211,34 @@ fn values_of_callers_are_copied(_rt: HostRuntime) -> Result<(), Fail> {
         Fingerprint(&[0x01]).clone()?.0 == [0x01].as_slice(),
     ];
     assert_all("copies", &copied)
+}
+
+#[test]
+fn midnights_are_counted_and_written(rt: HostRuntime) -> Result<(), Fail> {
+    let alloc = rt.alloc();
+    let answers = (
+        count_midnight(2026, 11, 27),
+        write_midnight(alloc, 2026, 11, 27),
+        count_midnight(10000, 1, 1),
+        write_midnight(alloc, 10000, 1, 1),
+    );
+    let expected = "(Ok(17), \
+        Ok([24, 15, 50, 48, 50, 54, 49, 49, 50, 55, 48, 48, 48, 48, 48, 48, 90]), \
+        Err(InvalidDateTime), Err(ASN1Error(InvalidDateTime)))";
+    assert_shown(alloc, &answers, expected)
+}
+
+#[test]
+fn arcs_are_found_again(rt: HostRuntime) -> Result<(), Fail> {
+    let alloc = rt.alloc();
+    let answers = (
+        arcs_found_again(alloc, &[1, 2, 840, 113549]),
+        arcs_found_again(alloc, &[2, 999, 18446744073709551615]),
+        arcs_found_again(alloc, &[0, 0]),
+        arcs_found_again(alloc, &[1, 40]),
+        arcs_found_again(alloc, &[1]),
+    );
+    let expected = "(Ok([1, 2, 840, 113549]), Ok([2, 999, 18446744073709551615]), Ok([0]), \
+        Err(FirstComponentsTooLarge), Err(TooShort))";
+    assert_shown(alloc, &answers, expected)
 }

@@ -24,6 +24,8 @@ mod principals;
 #[cfg(test)]
 mod refusals;
 #[cfg(test)]
+mod remainders;
+#[cfg(test)]
 mod sets;
 #[cfg(test)]
 mod streams;

@@ -1,6 +1,6 @@
 //! The request whole (RFC 4120, 5.4.1).
-ghost use Rattle.std.specs.Prelude.{IfOk};
-ghost use Rattle.asn1_rs_uses.specs.Kerberos.{TakesAsReq, IsAsReq};
+ghost use Rattle.std.specs.Prelude.{MatchResult};
+ghost use Rattle.asn1_rs_uses.specs.Kerberos.{TakesAsReq, IsAsReq, IsNoAsReq};
 
 use super::{KdcReqBody, PaData, Under};
 use asn1_rs::{
@@ -45,9 +45,9 @@ impl<'a> FromDer<'a, Error> for KdcReq<'a> {
 }
 
 impl KdcReq<'_> {
-    /// Refuses another version, and another type of messages.
+    /// Refuses another version, and then another type of messages.
     fn assert_numbers(&self) -> Result<(), Error>
-        ensures { IfOk result (λ _. IsAsReq self.now) }
+        ensures { MatchResult result (λ _. IsAsReq self.now) (IsNoAsReq self.now) }
     {
         if *self.pvno.as_inner() != 5 {
             return Err(Tag::Integer.invalid_value("another version"));

@@ -16,7 +16,7 @@ returns-in-Err-clause-waits g c =
 pub returns-in-Err-clause-refused : goal.returns-in-Err-clause-refused
 returns-in-Err-clause-refused g c =
     let element = c.any_is_the_element.ensures.der c.args.buffer.now (Err c.in-Err.refusal) c.in-Err.ensures in
-    final_refusal c.args.buffer.now c.in-Err.refusal
+    final_refusal _ c.args.buffer.now c.in-Err.refusal
     (λ more word rest p is fits. c.beginnings_are_incomplete.ensures.element c.args.buffer.now more word rest p
     c.in-Err.refusal element is fits)
     (c.may_end_within_identifier.ensures.long c.if-may_end_within_identifier.false)
