@@ -12,6 +12,12 @@ use Rattle.asn1vec_answers.specs.Shown.{in_hexadecimal}
 pub gains_both : (a b c p q : List ℕ) → b ≡ a ++ p → c ≡ b ++ q → c ≡ a ++ (p ++ q)
 gains_both a b c p q first second = second ∙ ap (λ l. l ++ q) first ∙ append_assoc a p q
 
+-- what stands in brackets
+pub in_brackets : (a b c d joined : List ℕ) → b ≡ a ++ codes "[" → c ≡ b ++ joined → d ≡ c ++ codes "]" →
+    d ≡ a ++ (codes "[" ++ (joined ++ codes "]"))
+in_brackets a b c d joined opened inside closed =
+    gains_both a b d (codes "[") (joined ++ codes "]") opened (gains_both b c d joined (codes "]") inside closed)
+
 -- a value, what follows it and what is said of its encoding
 pub value_said : {T : Type 0} (text_of : T → List ℕ) (Encodes : T → Encoding → Type 0) (x : T)
     (rest a b c d e f : List ℕ)

@@ -4,6 +4,7 @@ pub mod InOrder
 pub mod OneAnswer
 pub mod OneItem
 pub mod OneList
+pub mod OneName
 pub mod OneReading
 pub mod OneRefusal
 pub mod OneTag
@@ -11,4 +12,5 @@ pub mod ShownLaws
 pub mod WrittenTimes
 pub mod Split
 pub mod NamedTypes
+pub mod NameTexts
 pub mod Walks

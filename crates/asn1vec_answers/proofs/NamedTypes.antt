@@ -11,7 +11,7 @@ use Rattle.asn1vec_answers.specs.declared.types.TypeName.TheVariants.{Explicit0U
 use Rattle.asn1vec_answers.specs.declared.types.TypeName.TheVariants.{OptU8, HashSetI8, Implicit1VecU16, Oid, Utf8}
 use Rattle.asn1vec_answers.specs.declared.types.TypeName.TheVariants.{Numeric, Printable, Teletex, Videotex, Ia5}
 use Rattle.asn1vec_answers.specs.declared.types.TypeName.TheVariants.{Graphic, Visible, General, Descriptor, Universal}
-use Rattle.asn1vec_answers.specs.declared.types.TypeName.TheVariants.{Bmp, UtcTime, GenTime, Pdv}
+use Rattle.asn1vec_answers.specs.declared.types.TypeName.TheVariants.{Bmp, UtcTime, GenTime, Pdv, X509Name}
 use Rattle.asn1vec_answers.specs.Types.{name_of_type}
 
 -- all of them, in the order of the program
@@ -19,7 +19,8 @@ abbrev pub types : List TypeName
 types = U8 ∷ U16 ∷ U32 ∷ U64 ∷ U128 ∷ I8 ∷ I16 ∷ I32 ∷ I64 ∷ I128 ∷ Any ∷ Bool ∷ Null ∷ Enumerated ∷ Integer ∷ Octets ∷
     Bits ∷ Eoc ∷ VecU8 ∷ VecU32 ∷ VecBool ∷ VecVecU8 ∷ SetOfU8 ∷ BTreeSetU8 ∷ Sequence ∷ Set ∷ SeqOfU32 ∷ Explicit0U32 ∷
     Explicit31U8 ∷ VecExplicit31U8 ∷ OptU8 ∷ HashSetI8 ∷ Implicit1VecU16 ∷ Oid ∷ Utf8 ∷ Numeric ∷ Printable ∷ Teletex ∷
-    Videotex ∷ Ia5 ∷ Graphic ∷ Visible ∷ General ∷ Descriptor ∷ Universal ∷ Bmp ∷ UtcTime ∷ GenTime ∷ Pdv ∷ []
+    Videotex ∷ Ia5 ∷ Graphic ∷ Visible ∷ General ∷ Descriptor ∷ Universal ∷ Bmp ∷ UtcTime ∷ GenTime ∷ Pdv ∷
+    X509Name ∷ []
 
 module _ (P : TypeName → Type 0) (all : All P types) where
   at : (place : ℕ) → place < length types → P (get_or types place U8)
@@ -76,6 +77,7 @@ module _ (P : TypeName → Type 0) (all : All P types) where
   each UtcTime = at 46 (lit< tt)
   each GenTime = at 47 (lit< tt)
   each Pdv = at 48 (lit< tt)
+  each X509Name = at 49 (lit< tt)
 
 -- a name that is none of theirs is of no type
 pub named : (name : List ℕ) (result : Option TypeName) →

@@ -66,7 +66,7 @@ use Rattle.asn1vec_answers.specs.declared.types.TypeName.TheVariants.{Explicit0U
 use Rattle.asn1vec_answers.specs.declared.types.TypeName.TheVariants.{OptU8, HashSetI8, Implicit1VecU16, Oid, Utf8}
 use Rattle.asn1vec_answers.specs.declared.types.TypeName.TheVariants.{Numeric, Printable, Teletex, Videotex, Ia5}
 use Rattle.asn1vec_answers.specs.declared.types.TypeName.TheVariants.{Graphic, Visible, General, Descriptor, Universal}
-use Rattle.asn1vec_answers.specs.declared.types.TypeName.TheVariants.{Bmp, UtcTime, GenTime, Pdv}
+use Rattle.asn1vec_answers.specs.declared.types.TypeName.TheVariants.{Bmp, UtcTime, GenTime, Pdv, X509Name}
 use Rattle.asn1vec_answers.proofs.NamedTypes.{types}
 use Rattle.asn1vec_answers.specs.Request.{IsRequest}
 use Rattle.asn1vec_answers.specs.Shown.{Encoding, IsWritten, IsWrittenUnless, bits_text, element_text, identifier_text}
@@ -83,6 +83,7 @@ use Rattle.asn1vec_answers.proofs.OneReading.{either_same}
 use Rattle.asn1vec_answers.proofs.OneItem.{alone_once, collection_once, hashed_signed_once, leaf_item_once}
 use Rattle.asn1vec_answers.proofs.OneItem.{ordered_unsigned_once, sequence_of_once, unordered_set_once, unsigned_once}
 use Rattle.asn1vec_answers.proofs.OneItem.{vector_once}
+use Rattle.asn1vec_answers.proofs.OneName.{names_once}
 use Rattle.asn1vec_answers.proofs.OneRefusal.{IsOneRefusal, IsOneRefusalBut, KeepsNames, one_name, one_of_copied}
 use Rattle.asn1vec_answers.proofs.OneRefusal.{one_of_parts, but_text_keeps, whole_keeps}
 use Rattle.asn1vec_answers.proofs.OneTag.{explicit_once, implicit_vector_once}
@@ -274,6 +275,7 @@ type_once Bmp = coded_strings_once 30 utf16_octets_of (lit< tt) refl utf16_code
 type_once UtcTime =
     refusing_once but_text_keeps utc_time_leaf utc_time_lawful utc_time_refused InvalidDateTime utc_time_shown
 type_once Pdv = data_values_once
+type_once X509Name = names_once
 type_once GenTime = refusing_once but_text_keeps generalized_time_leaf generalized_time_lawful generalized_time_refused
     InvalidDateTime generalized_time_shown
 

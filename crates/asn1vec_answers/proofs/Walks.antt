@@ -1,7 +1,6 @@
--- Items in turn, and the text of a list of them.
+-- Items in turn, and their texts, joined by a sign.
 use Rattle.std.proofs.Common.{◌≡◌, ◌∙◌, sym, ap, refl, subst, ℕ, List, [], ◌∷◌, ◌++◌, map, Option, None, append_assoc}
-use Rattle.std.proofs.Common.{append-nil, codes}
-use Rattle.asn1vec_answers.specs.Shown.{list_text}
+use Rattle.std.proofs.Common.{append-nil}
 use Rattle.std.specs.Borrow.{Bor}
 use Rattle.std.specs.Iterator.{AlwaysYields, Yields}
 use Rattle.std.specs.List.{flat_map, join_by}
@@ -13,6 +12,7 @@ use Rattle.std.proofs.lemmas.Grind.{flat_map-append}
 use Rattle.std.proofs.lemmas.Iterator.{YieldsList, YieldsList-from_slice}
 use Rattle.std.proofs.lemmas.Iterator.Consumers.{YieldsList-end, YieldsList-from_rest}
 use Rattle.std.proofs.lemmas.List.{map-append}
+use Rattle.std.proofs.lemmas.List.Folds.{flat_map-map}
 
 -- what stands before the next item
 abbrev pub before_next : {X : Type 0} → List ℕ → List X → List ℕ
@@ -52,37 +52,39 @@ all_seen {S} {A} steps first xs gives begin now next start seen led answer step 
     (YieldsList-end list seen now led answer next is step).0
 
 -- the text of one more item
-pub text_more : {A : Type 0} (text_of : A → List ℕ) (seen : List (Bor A)) (r : Bor A)
-    (front now separator between after : List ℕ) →
-    now ≡ front ++ (codes "[" ++ join_by text_of (codes ",") (read_through seen)) →
-    separator ≡ before_next (codes ",") seen
-    → between ≡ now ++ separator → after ≡ between ++ text_of r.now →
-    after ≡ front ++ (codes "[" ++ join_by text_of (codes ",") (read_through (seen ++ r ∷ [])))
-text_more {A} text_of seen r front now separator between after is separated grown more =
-    let joined = join_by text_of (codes ",") (read_through seen) in
-    let longer : join_by text_of (codes ",") (read_through (seen ++ r ∷ [])) ≡ (joined ++ separator) ++ text_of r.now =
-    ap (λ (xs : List A). join_by text_of (codes ",") xs) (map-append (λ (r : Bor A). r.now) seen (r ∷ []))
-    ∙ joined_more text_of (codes ",") (read_through seen) r.now
+pub text_more : {A : Type 0} (text_of : A → List ℕ) (sign : List ℕ) (seen : List (Bor A)) (r : Bor A)
+    (front now separator between after : List ℕ) → now ≡ front ++ join_by text_of sign (read_through seen) →
+    separator ≡ before_next sign seen → between ≡ now ++ separator → after ≡ between ++ text_of r.now →
+    after ≡ front ++ join_by text_of sign (read_through (seen ++ r ∷ []))
+text_more {A} text_of sign seen r front now separator between after is separated grown more =
+    let joined = join_by text_of sign (read_through seen) in
+    let longer : join_by text_of sign (read_through (seen ++ r ∷ [])) ≡ (joined ++ separator) ++ text_of r.now =
+    ap (λ (xs : List A). join_by text_of sign xs) (map-append (λ (r : Bor A). r.now) seen (r ∷ []))
+    ∙ joined_more text_of sign (read_through seen) r.now
     ∙ ap (λ (l : List ℕ). (joined ++ l) ++ text_of r.now) (before_same seen ∙ sym separated) in
-    let all : after ≡ ((front ++ (codes "[" ++ joined)) ++ separator) ++ text_of r.now =
+    let all : after ≡ ((front ++ joined) ++ separator) ++ text_of r.now =
     more ∙ ap (λ (l : List ℕ). l ++ text_of r.now) (grown ∙ ap (λ (l : List ℕ). l ++ separator) is) in
-    all ∙ append_assoc (front ++ (codes "[" ++ joined)) separator (text_of r.now)
-    ∙ append_assoc front (codes "[" ++ joined) (separator ++ text_of r.now)
-    ∙ ap (λ (l : List ℕ). front ++ (codes "[" ++ l)) (sym (append_assoc joined separator (text_of r.now)) ∙ sym longer)
+    all ∙ append_assoc (front ++ joined) separator (text_of r.now)
+    ∙ append_assoc front joined (separator ++ text_of r.now)
+    ∙ ap (λ (l : List ℕ). front ++ l) (sym (append_assoc joined separator (text_of r.now)) ∙ sym longer)
   where
-    before_same : (seen : List (Bor A)) → before_next (codes ",") (read_through seen) ≡ before_next (codes ",") seen
+    before_same : (seen : List (Bor A)) → before_next sign (read_through seen) ≡ before_next sign seen
     before_same [] = refl
     before_same (r ∷ rs) = refl
 
-pub before_more : {X : Type 0} (comma : List ℕ) (xs : List X) (x : X) → before_next comma (xs ++ x ∷ []) ≡ comma
-before_more comma [] x = refl
-before_more comma (y ∷ xs) x = refl
+pub before_more : {X : Type 0} (sign : List ℕ) (xs : List X) (x : X) → before_next sign (xs ++ x ∷ []) ≡ sign
+before_more sign [] x = refl
+before_more sign (y ∷ xs) x = refl
 
 -- and of all of them
-pub text_whole : {A : Type 0} (text_of : A → List ℕ) (ys xs : List A) (front now after : List ℕ) →
-    now ≡ front ++ (codes "[" ++ join_by text_of (codes ",") ys) → ys ≡ xs → after ≡ now ++ codes "]" →
-    after ≡ front ++ list_text text_of xs
-text_whole text_of ys xs front now after is whole more =
-    more ∙ ap (λ (l : List ℕ). l ++ codes "]") is
-    ∙ append_assoc front (codes "[" ++ join_by text_of (codes ",") ys) (codes "]")
-    ∙ ap (λ (zs : List _). front ++ list_text text_of zs) whole
+pub text_whole : {A : Type 0} (text_of : A → List ℕ) (sign : List ℕ) (ys xs : List A) (front now : List ℕ) →
+    now ≡ front ++ join_by text_of sign ys → ys ≡ xs → now ≡ front ++ join_by text_of sign xs
+text_whole {A} text_of sign ys xs front now is whole =
+    is ∙ ap (λ (zs : List A). front ++ join_by text_of sign zs) whole
+
+-- the texts of what is seen of items
+pub joined_seen : {S V : Type 0} (view : S → V) (text_of : V → List ℕ) (sign : List ℕ) (xs : List S) →
+    join_by (λ (x : S). text_of (view x)) sign xs ≡ join_by text_of sign (map view xs)
+joined_seen view text_of sign [] = refl
+joined_seen view text_of sign (x ∷ xs) =
+    ap (λ (l : List ℕ). text_of (view x) ++ l) (sym (flat_map-map (λ (v : _). sign ++ text_of v) view xs))

@@ -29,6 +29,11 @@ abbrev pub is_ber : Rule → Bool
 is_ber ber = true
 is_ber der = false
 
+-- a name that is there by DER alone
+abbrev pub is_der : Rule → Bool
+is_der ber = false
+is_der der = true
+
 -- read by either rule
 abbrev pub ReadsByEither : {T V : Type 0} → (Ber Der : List ℕ → V → Type 0) → (T → V) → Bool →
     (ber_gives der_gives : List ℕ → Reading T → Type 0) → Rule → List ℕ → Reading T → Type 0

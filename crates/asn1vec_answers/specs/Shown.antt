@@ -6,6 +6,7 @@ use Rattle.std.specs.List.{join_by}
 use Rattle.std.specs.declared.cmp.Ordering.{Ordering}
 use Rattle.hex.specs.Hex.{encode_lower}
 use Rattle.x690.specs.Identifiers.{Identifier, IsCutIdentifier}
+use Rattle.x690.specs.Strict.{element_octets}
 use Rattle.asn1_headers.specs.declared.error.Err.{Err as Refusal}
 use Rattle.asn1_headers.specs.declared.error.Error.{Error}
 use Rattle.asn1_headers.specs.declared.error.SerializeError.{SerializeError}
@@ -21,6 +22,7 @@ use Rattle.asn1_rs.specs.Grammar.Form.{IsStrict}
 use Rattle.asn1_rs.specs.ToDer.{HasNone, Refuses, Writing, whole_octets, whole_refuses}
 use Rattle.asn1_headers.specs.Writer.{MayRefuse}
 use Rattle.asn1_headers.specs.Error.{tells_of_io, written_refusal}
+use Rattle.x509_name.specs.Attribute.{AttributeValue}
 use Rattle.asn1vec_answers.specs.Names.{name_of_refusal, name_of_write_refusal}
 
 -- octets in hexadecimal digits of lower case, `-` for none
@@ -76,6 +78,23 @@ pdv_text v = identification_text v.identification ++ (codes "/" ++ in_hexadecima
 -- the texts of items, parted by commas, in brackets
 abbrev pub list_text : {T : Type 0} → (T → List ℕ) → List T → List ℕ
 list_text text_of items = codes "[" ++ (join_by text_of (codes ",") items ++ codes "]")
+
+-- what is written of an element of any type: its strict encoding
+abbrev pub value_text : ElementValue → List ℕ
+value_text v = in_hexadecimal (element_octets v.id v.content)
+
+-- an attribute of a name of X.509: its identifier, `=`, and what is written of its value
+abbrev pub attribute_text : AttributeValue → List ℕ
+attribute_text v = identifier_text v.oid ++ (codes "=" ++ value_text v.value)
+
+-- a relative name: its attributes in this order, joined by `+`
+abbrev pub relative_name_text : List AttributeValue → List ℕ
+relative_name_text attributes = join_by attribute_text (codes "+") attributes
+
+-- a name: its relative names, joined by `/`; `-` for none
+abbrev pub name_text : List (List AttributeValue) → List ℕ
+name_text [] = codes "-"
+name_text (row ∷ rows) = join_by relative_name_text (codes "/") (row ∷ rows)
 
 -- the keys in ascending order, each once
 abbrev pub in_order : {K : Type 0} → (K → K → Ordering) → List K → List K

@@ -67,6 +67,9 @@ use Rattle.asn1_rs.specs.Any.Value.{element_of, ElementBody, ElementCheck, Eleme
 use Rattle.asn1_rs.specs.Grammar.{BerWord, DerWord}
 use Rattle.asn1_rs.specs.Integer.{IntegerCheck, IntegerCheckGives, IntegerBody, IntegerForm, integer_element}
 use Rattle.asn1_rs.specs.Integer.{IntegerGives, IsUnsigned, UnsignedGives, UnsignedRefuses, SignedGives, SignedRefuses}
+use Rattle.asn1_rs.specs.ToDer.{whole_refuses}
+use Rattle.x509_name.specs.Name.{NameGives, name_item, name_octets, name_value, name_writing, rows_of}
+use Rattle.x509_name.specs.declared.name.Name.{Name}
 use Rattle.asn1vec_answers.specs.declared.request.Rule.{Rule}
 use Rattle.asn1vec_answers.specs.declared.types.TypeName.{TypeName}
 use Rattle.asn1vec_answers.specs.declared.types.TypeName.TheVariants.{U8, U16, U32, U64, U128, I8, I16, I32, I64, I128}
@@ -77,11 +80,12 @@ use Rattle.asn1vec_answers.specs.declared.types.TypeName.TheVariants.{Explicit0U
 use Rattle.asn1vec_answers.specs.declared.types.TypeName.TheVariants.{OptU8, HashSetI8, Implicit1VecU16, Oid, Utf8}
 use Rattle.asn1vec_answers.specs.declared.types.TypeName.TheVariants.{Numeric, Printable, Teletex, Videotex, Ia5}
 use Rattle.asn1vec_answers.specs.declared.types.TypeName.TheVariants.{Graphic, Visible, General, Descriptor, Universal}
-use Rattle.asn1vec_answers.specs.declared.types.TypeName.TheVariants.{Bmp, UtcTime, GenTime, Pdv}
-use Rattle.asn1vec_answers.specs.Meaning.{Meaning, ReadsByEither, is_ber, optional}
-use Rattle.asn1vec_answers.specs.Shown.{Encoding, IsReadAnswer, IsWritten, IsWrittenUnless, ReadsByBer, Reading, Same}
+use Rattle.asn1vec_answers.specs.declared.types.TypeName.TheVariants.{Bmp, UtcTime, GenTime, Pdv, X509Name}
+use Rattle.asn1vec_answers.specs.Meaning.{Meaning, ReadsByEither, is_ber, is_der, optional}
+use Rattle.asn1vec_answers.specs.Shown.{CameOfWriting, Encoding, IsReadAnswer, IsWritten, IsWrittenUnless, ReadsByBer}
+use Rattle.asn1vec_answers.specs.Shown.{ReadsByDer, Reading, Same}
 use Rattle.asn1vec_answers.specs.Shown.{StrictEncoding, StrictEncodingIfAny, bits_text, element_text, identifier_text}
-use Rattle.asn1vec_answers.specs.Shown.{in_hexadecimal, in_order, list_text, pdv_text, truth_text}
+use Rattle.asn1vec_answers.specs.Shown.{in_hexadecimal, in_order, list_text, name_text, pdv_text, truth_text}
 
 -- the name of a type as a line has it
 abbrev pub name_of_type : TypeName → List ℕ
@@ -134,6 +138,7 @@ name_of_type Bmp = codes "bmp"
 name_of_type UtcTime = codes "utctime"
 name_of_type GenTime = codes "gentime"
 name_of_type Pdv = codes "pdv"
+name_of_type X509Name = codes "x509name"
 
 -- integers, there by either rule: in decimals, with the strict encoding that each has which the type holds
 abbrev pub integers : {T : Type 0} → (T → ℤ) → (ℤ → Type 0) → (List ℕ → Error → Type 0) → Meaning
@@ -400,6 +405,20 @@ alone allocates I = record {
 abbrev pub collection : Item → Meaning
 collection = alone true
 
+-- Names of X.509, there by DER alone: shown by their attributes, in the order in which these were read, with what is
+-- written for a name, in DER form or not. One with a relative name without attributes would be refused; none such is
+-- read.
+abbrev pub names : Meaning
+names = record {
+  T = Name;
+  is_there = λ rule. is_der rule;
+  Reads = λ rule. ReadsByDer name_item.Der name_value true NameGives;
+  text_of = λ n. name_text (rows_of n);
+  Encodes = λ n. CameOfWriting true (name_octets n) (whole_refuses name_writing n);
+  reading_allocates = true;
+  writing_allocates = true;
+}
+
 -- what the name of a type stands for
 abbrev pub meaning_of : TypeName → Meaning
 meaning_of U8 = unsigned 1
@@ -451,8 +470,10 @@ meaning_of Bmp = coded_strings BmpKind 30 utf16_octets_of
 meaning_of UtcTime = times utc_time_leaf utc_time_refused utc_time_shown
 meaning_of GenTime = times generalized_time_leaf generalized_time_refused generalized_time_shown
 meaning_of Pdv = data_values
+meaning_of X509Name = names
 
--- the names whose readers or writers allocate: those of lists and sets, and of strings whose text is decoded
+-- the names whose readers or writers allocate: those of lists and sets, of names of X.509, and of strings
+-- whose text is decoded
 abbrev pub name_allocates : TypeName → Truth
 name_allocates VecU8 = true
 name_allocates VecU32 = true
@@ -466,6 +487,7 @@ name_allocates HashSetI8 = true
 name_allocates Implicit1VecU16 = true
 name_allocates Universal = true
 name_allocates Bmp = true
+name_allocates X509Name = true
 name_allocates _ = false
 
 -- the name is that of the type, and is there by the rule

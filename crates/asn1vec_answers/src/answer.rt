@@ -17,7 +17,7 @@ ghost use Rattle.asn1_rs.specs.Grammar.Item.{ber_words};
 use crate::holders::{
     push_btree_set_u8, push_explicit_0_u32, push_explicit_31_u8, push_hash_set_i8,
     push_implicit_1_vec_u16, push_sequence_of_u32, push_set_of_u8, push_vec_bool,
-    push_vec_explicit_31_u8, push_vec_u8, push_vec_u32, push_vec_vec_u8,
+    push_vec_explicit_31_u8, push_vec_u8, push_vec_u32, push_vec_vec_u8, push_x509_name,
 };
 use crate::options::{optional_by_ber, optional_by_der};
 use crate::request::{Request, Rule, read_request};
@@ -135,6 +135,7 @@ fn push_by_type(
         TypeName::UtcTime => push_leaf::<UtcTime>(alloc, rule, octets, buffer, text),
         TypeName::GenTime => push_leaf::<GeneralizedTime>(alloc, rule, octets, buffer, text),
         TypeName::Pdv => push_by_either::<EmbeddedPdv<'_>>(alloc, rule, octets, buffer, text),
+        TypeName::X509Name => push_x509_name(alloc, octets, buffer, text),
     }
 }
 

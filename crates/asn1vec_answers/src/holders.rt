@@ -1,15 +1,17 @@
 //! The answers to the names of types that hold items or a tagged value, a function for each: the goals
 //! of one function that asks for the laws of many such types take minutes to make.
 ghost use Rattle.std.specs.Prelude.{OnOk};
+ghost use Rattle.asn1vec_answers.specs.declared.request.Rule.TheVariants.{Der};
 ghost use Rattle.asn1vec_answers.specs.declared.types.TypeName.TheVariants as names;
 ghost use Rattle.asn1vec_answers.specs.Shown.{Gains};
 ghost use Rattle.asn1vec_answers.specs.Types.{IsTypeAnswer};
 
 use crate::request::Rule;
-use crate::shown::push_by_either;
+use crate::shown::{push_by_der, push_by_either};
 use asn1_rs::{Error, SequenceOf, SetOf, TaggedExplicit, TaggedImplicit};
 use std::alloc::{AllocError, Global};
 use std::collections::{BTreeSet, HashSet};
+use x509_name::Name;
 
 /// Appends the answer to octets that are read as `vec.u8`.
 pub(crate) fn push_vec_u8(
@@ -177,4 +179,17 @@ pub(crate) fn push_implicit_1_vec_u16(
         (IsTypeAnswer rule names.Implicit1VecU16 octets.now)) }
 {
     push_by_either::<TaggedImplicit<Vec<u16>, Error, 1>>(alloc, rule, octets, buffer, text)
+}
+
+/// Appends the answer to octets that are read as `x509name`, by DER.
+pub(crate) fn push_x509_name(
+    alloc: Global,
+    octets: &[u8],
+    buffer: &mut Vec<u8>,
+    text: &mut Vec<u8>,
+) -> Result<(), AllocError>
+    ensures { OnOk result (Gains text.old.items text.new.items
+        (IsTypeAnswer Der names.X509Name octets.now)) }
+{
+    push_by_der::<Name<'_>>(alloc, octets, buffer, text)
 }

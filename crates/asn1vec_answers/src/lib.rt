@@ -4,6 +4,7 @@
 mod answer;
 mod any;
 mod digits;
+mod distinguished;
 mod holders;
 mod identifiers;
 mod leaves;

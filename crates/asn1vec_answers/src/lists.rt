@@ -5,6 +5,7 @@ ghost use Rattle.std.specs.Ordering.{int_cmp, int_eq};
 ghost use Rattle.x690.specs.Signed.{IsSigned};
 ghost use Rattle.asn1_rs.specs.Integer.{IntegerForm};
 ghost use Rattle.std.specs.Iterator.{AlwaysYields, IsFinite};
+ghost use Rattle.std.specs.List.{join_by};
 ghost use Rattle.x690.specs.Collections.{AllDiffer, AnyList, multiset};
 ghost use Rattle.asn1_headers.specs.Writer.{MayRefuse};
 ghost use Rattle.asn1_rs.specs.Lists.{ListForm};
@@ -32,6 +33,29 @@ pub(crate) fn writing_is_strict<T: LawfulWrite>(x: &T)
         (whole_allocates T.writing) (T.grammar.value x.now)) }
 {}
 
+/// Appends items, parted by a sign.
+pub(crate) fn push_joined<'a, T, I>(
+    items: I,
+    sign: &str,
+    text: &mut Vec<u8>,
+) -> Result<(), AllocError>
+where
+    T: Encoded + 'a,
+    I: Iterator<Item = &'a T> + Drop,
+    requires can { I.can_next items }
+    requires ends { IsFinite (I.remaining items) }
+    ensures { (xs : List T) → AlwaysYields I.next_gives (λ r. r.now) items xs →
+        OnOk result (text.new.items ≡ text.old.items ++ join_by T.text_of sign.now xs) }
+{
+    let mut separator = "";
+    for item in items {
+        push_str(text, separator)?;
+        item.show(text)?;
+        separator = sign;
+    }
+    Ok(())
+}
+
 /// Appends items, parted by commas, in brackets.
 fn push_items<'a, T, I>(items: I, text: &mut Vec<u8>) -> Result<(), AllocError>
 where
@@ -43,12 +67,7 @@ where
         OnOk result (text.new.items ≡ text.old.items ++ list_text T.text_of xs) }
 {
     push_str(text, "[")?;
-    let mut separator = "";
-    for item in items {
-        push_str(text, separator)?;
-        item.show(text)?;
-        separator = ",";
-    }
+    push_joined(items, ",", text)?;
     push_str(text, "]")
 }
 

@@ -57,10 +57,11 @@ pub(crate) enum TypeName {
     UtcTime,
     GenTime,
     Pdv,
+    X509Name,
 }
 
 /// All of them, in this order.
-const TYPES: [TypeName; 49] = [
+const TYPES: [TypeName; 50] = [
     TypeName::U8,
     TypeName::U16,
     TypeName::U32,
@@ -110,6 +111,7 @@ const TYPES: [TypeName; 49] = [
     TypeName::UtcTime,
     TypeName::GenTime,
     TypeName::Pdv,
+    TypeName::X509Name,
 ];
 
 impl TypeName {
@@ -167,6 +169,7 @@ impl TypeName {
             TypeName::UtcTime => b"utctime",
             TypeName::GenTime => b"gentime",
             TypeName::Pdv => b"pdv",
+            TypeName::X509Name => b"x509name",
         }
     }
 
@@ -176,6 +179,7 @@ impl TypeName {
     {
         match (self, rule) {
             (TypeName::Eoc, Rule::Der) => false,
+            (TypeName::X509Name, Rule::Ber) => false,
             (_, Rule::Ber | Rule::Der) => true,
         }
     }

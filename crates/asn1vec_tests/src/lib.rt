@@ -2,6 +2,8 @@
 #![tactic(auto)]
 
 #[cfg(test)]
+mod beginnings;
+#[cfg(test)]
 mod elements;
 #[cfg(test)]
 mod leaves;
@@ -9,6 +11,8 @@ mod leaves;
 mod lines;
 #[cfg(test)]
 mod lists;
+#[cfg(test)]
+mod names;
 #[cfg(test)]
 mod numbers;
 #[cfg(test)]

@@ -34,6 +34,8 @@ der u64 0201xx = err Line
  der u64 020105 = err Line
 der u16 020105+65522*0 = ok 5 rest 32761*00 enc 020105
 der u8 020105+65524*0 = err Line
+der any 04827ff8+32760*00 = ok 0.p.4.+32760*00 rest - enc 04827ff8+32760*00
+der any 04827ff9+32761*00 = err Line
 ";
 
 #[test]

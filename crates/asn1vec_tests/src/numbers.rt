@@ -6,6 +6,7 @@ use std::test::Fail;
 /// Lines and their answers. Values by X.690 8.3.
 const NUMBERS: &str = "\
 ber u64 020105 = ok 5 rest - enc 020105
+ber u128 02020005 = ok 5 rest - enc 020105
 ber u8 0289ff = err Incomplete(8)
 ber u8 0289010000000000000000 = err InvalidLength
 der u8 020100 = ok 0 rest - enc 020100
@@ -37,6 +38,10 @@ der i8 0201ff = ok -1 rest - enc 0201ff
 der i8 0201fc = ok -4 rest - enc 0201fc
 ber i8 0202ff80 = ok -128 rest - enc 020180
 ber i8 0200 = ok 0 rest - enc 020100
+ber i16 0202ff80 = ok -128 rest - enc 020180
+ber i32 02020005 = ok 5 rest - enc 020105
+ber i64 0202ffff = ok -1 rest - enc 0201ff
+ber i128 0200 = ok 0 rest - enc 020100
 der i16 020100 = ok 0 rest - enc 020100
 der i16 02017f = ok 127 rest - enc 02017f
 der i16 02020080 = ok 128 rest - enc 02020080
@@ -65,6 +70,7 @@ ber i8 020300ffff = err IntegerTooLarge
 der i16 020300ffff = err IntegerTooLarge
 der i16 0203ff7fff = err IntegerTooLarge
 der i128 021100+16*ff = err IntegerTooLarge
+der i128 0211ff7f+15*ff = err IntegerTooLarge
 der u128 021101+16*00 = err IntegerTooLarge
 der u128 0201ff = err IntegerNegative
 der i32 040101 = err UnexpectedTag

@@ -28,6 +28,7 @@ ber oid 0506 = err Incomplete(6)
 const BY_DER: &str = "\
 der oid 06022a83 = ok 1.2.3 rest - enc 06022a83
 der oid 060a82+8*80+4f = ok 2.18446744073709551615 rest - enc 060a82+8*80+4f
+der oid 060a82+8*80+50 = ok 82 80 80 80 80 80 80 80 80 50 rest - enc 060a82+8*80+50
 der oid 060b2a+10*ff = ok 2a ff ff ff ff ff ff ff ff ff ff rest - enc 060b2a+10*ff
 der oid 060c2a+10*80+05 = ok 1.2.5 rest - enc 060c2a+10*80+05
 der oid 0d04c27b0302 = ok 2.8491.3.2 rest - enc 0604c27b0302

@@ -1,5 +1,6 @@
 //! How runs over lines are asserted, and a reader that gives little at a time and fails.
 
+use crate::beginnings::assert_beginnings;
 use asn1_rs::{Any, FromDer, ToDer, Told};
 use asn1vec_engine::{RunError, run};
 use std::alloc::Global;
@@ -101,18 +102,10 @@ pub(crate) fn assert_output_fails(
     assert_run(alloc, input, output, Err(RunError::Output), answers)
 }
 
-/// The words written out, with the end of a line.
-fn line_of(alloc: Global, words: &str) -> Result<String, Fail> {
-    let mut line = written_out(alloc, words)?;
-    line.push_str("\n")?;
-    Ok(line)
-}
-
 /// Asserts of the octets of a line, its last word, that an element that is read of them by DER is written as it stood:
 /// it is its strict encoding (X.690 10.1).
 fn assert_strict(alloc: Global, line: &str) -> Result<(), Fail> {
-    let line = written_out(alloc, line)?;
-    let Some((_, digits)) = line.as_str().rsplit_once(' ') else {
+    let Some((_, digits)) = line.rsplit_once(' ') else {
         return Ok(());
     };
     let Ok(octets) = octets_of(alloc, digits) else {
@@ -128,12 +121,16 @@ fn assert_strict(alloc: Global, line: &str) -> Result<(), Fail> {
     Err(Fail::new(format_args!("{line}: it is written as {written:?}")))
 }
 
-/// Asserts that a line is answered as its row says, and that what `Any` reads of its octets by DER is strict.
+/// Asserts that a line is answered as its row says, how the beginnings of its octets are answered, and that what `Any`
+/// reads of them by DER is strict.
 fn assert_line(alloc: Global, row: &str) -> Result<(), Fail> {
     let (line, answer) = sides(row)?;
-    assert_strict(alloc, line)?;
-    let line = line_of(alloc, line)?;
-    let answer = line_of(alloc, answer)?;
+    let mut line = written_out(alloc, line)?;
+    let mut answer = written_out(alloc, answer)?;
+    assert_strict(alloc, line.as_str())?;
+    assert_beginnings(alloc, line.as_str(), answer.as_str())?;
+    line.push_str("\n")?;
+    answer.push_str("\n")?;
     let input = SmallReads::new(line.as_bytes(), 4096, None);
     assert_answered(alloc, input, answer.as_bytes())
 }

@@ -21,6 +21,9 @@ der explicit0.u32 a000 = err Incomplete(1)
 ber explicit0.u32 a000 = err Error.Incomplete(1)
 der explicit31.u8 bf1f03020105 = ok 5 rest - enc bf1f03020105
 ber explicit31.u8 bf1f800201050000 = ok 5 rest - enc bf1f03020105
+ber explicit31.u8 bf = err InvalidTag
+ber explicit31.u8 bf1f = err Incomplete(1)
+ber explicit31.u8 bf1f030201 = err Incomplete(1)
 der explicit31.u8 be03020105 = err UnexpectedTag
 der explicit31.u8 bf1f0402020100 = err IntegerTooLarge
 der vec.explicit31.u8 3006bf1f03020105 = ok [5] rest - enc 3006bf1f03020105
@@ -51,6 +54,7 @@ der implicit1.vec.u16 a1080202ffff020300ffff = err IntegerNegative
 der implicit1.vec.u16 a108020300ffff020100 = ok [65535,0] rest - enc a108020300ffff020100
 der implicit1.vec.u16 a100 = ok [] rest - enc a100
 der implicit1.vec.u16 a1 = err Incomplete(1)
+ber implicit1.vec.u16 a180 = err Incomplete(1)
 ";
 
 #[test]
@@ -68,7 +72,9 @@ ber opt.u8 0480 = err ConstructExpected
 der opt.u8 0480 = err DerConstraintFailed(IndefiniteLength)
 ber opt.u8 2480 = ok none rest 2480 enc -
 der opt.u8 0405 = ok none rest 0405 enc -
+der opt.u8 02 = err Incomplete(1)
 der opt.u8 04 = err Incomplete(1)
+der opt.u8 1f81 = err InvalidTag
 der opt.u8 0202 = err Incomplete(2)
 der opt.u8 02020005 = err DerConstraintFailed(IntegerLeadingZeroes)
 ber opt.u8 02020005ff = ok some 5 rest ff enc 020105

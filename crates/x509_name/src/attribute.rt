@@ -9,12 +9,10 @@ ghost use Rattle.x509_name.specs.Laws.Reading.{attribute_exact, attribute_no_mem
 ghost use Rattle.x509_name.specs.Laws.Writing.{attribute_lawful_writing, attribute_number};
 
 use crate::header::{add_counts, element_len, prepend_header, put_header};
-use asn1_headers::error::refusal_of_count;
-use asn1_headers::writer::add_written;
 use asn1_rs::{
     Any, DerBuffer, DerConstraint, DerWrite, ElementKind, Err, Error, FromDer, HasKind, LawfulDer,
     LawfulElement, LawfulItem, LawfulTagged, LawfulWrite, Oid, ParseResult, SerializeResult, Tag,
-    TagNumber, TaggedAs, ToDer,
+    TagNumber, TaggedAs, ToDer, add_written, refusal_of_count,
 };
 use std::alloc::Global;
 

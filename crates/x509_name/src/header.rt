@@ -6,8 +6,9 @@ ghost use Rattle.asn1_headers.specs.Prepended.{Prepended};
 ghost use Rattle.asn1_headers.specs.Writer.{Wrote, MayRefuse};
 ghost use Rattle.asn1_rs.specs.ToDer.{MayRefuseCount, SumsCounts};
 
-use asn1_headers::writer::add_written;
-use asn1_rs::{Class, DerBuffer, DerWrite, Error, Header, Length, SerializeResult, Tag, ToDer};
+use asn1_rs::{
+    Class, DerBuffer, DerWrite, Error, Header, Length, SerializeResult, Tag, ToDer, add_written,
+};
 use std::alloc::Global;
 
 /// The header of a constructed element of the universal class with so many contents octets.

@@ -5,7 +5,7 @@ ghost use Rattle.std.specs.List.{All};
 ghost use Rattle.std.proofs.Common.{lit<};
 ghost use Rattle.x690.specs.Identifiers.{IsCutIdentifier};
 ghost use Rattle.x690.specs.Collections.{Multiset};
-ghost use Rattle.asn1_headers.specs.Answers.{Exactly, seen};
+ghost use Rattle.asn1_headers.specs.Answers.{Exactly, ReadsBack, seen};
 ghost use Rattle.asn1_headers.specs.Writer.{IsMemoryOrLength, Wrote};
 ghost use Rattle.asn1_headers.specs.declared.error.Error.{Error};
 ghost use Rattle.asn1_headers.specs.declared.error.SerializeError.{SerializeError};
@@ -22,11 +22,10 @@ ghost use Rattle.x509_name.specs.Name.{HoldsEmpty, StrictName, name_octets, name
 ghost use Rattle.x509_name.specs.RelativeName.{HasNoAttribute, IsSome, RefusedForNone, attributes};
 
 use crate::relative_name::RelativeDistinguishedName;
-use asn1_headers::error::refusal_of_count;
 use asn1_rs::{
     DerBuffer, DerWrite, ElementKind, Error, FromDer, HasKind, LawfulDer, LawfulElement,
     LawfulItem, LawfulTagged, LawfulWrite, ParseResult, SerializeResult, TagNumber, TaggedAs,
-    ToDer, read_der, strict_vec, write_strict,
+    ToDer, read_der, refusal_of_count, strict_vec, write_strict,
 };
 use std::alloc::Global;
 
@@ -147,13 +146,17 @@ impl LawfulTagged for Name<'_> {
 }
 
 /// Reads a name at the front of the octets, by DER: Ok exactly where a word of the grammar of names begins them, with
-/// its value and what follows it. A refusal is final.
+/// its value and what follows it. A refusal is final. The strict encoding of a value is read back before any rest, and
+/// [`write_name`] and [`name_vec`] say of which names theirs is that.
 ///
 /// The attributes of each relative name stand in the order of their words, and the relative names in that of theirs.
 pub fn read_name(alloc: Global, octets: &[u8]) -> ParseResult<'_, Name<'_>, Error>
     ensures exact { Exactly IsCutIdentifier name_item.Der name_value Memory octets.now (seen result) }
     ensures in_word_order { Exactly IsCutIdentifier NameInWordOrder rows_of Memory octets.now
         (seen result) }
+    ensures back { (v : List (Multiset AttributeValue)) (word rest : List ℕ) →
+        ∥ StrictName v word ∥₁ → octets.now ≡ word ++ rest →
+        ReadsBack name_value Memory v rest (seen result) }
 {
     read_der::<Name<'_>, Error>(alloc, octets)
 }

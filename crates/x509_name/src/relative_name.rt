@@ -19,11 +19,10 @@ ghost use Rattle.x509_name.specs.RelativeName.{relative_name_element, relative_n
 use crate::attribute::AttributeTypeAndValue;
 use crate::header::{element_len, prepend_header, put_header};
 use crate::set::{prepend_set, write_set};
-use asn1_headers::error::refusal_of_count;
 use asn1_rs::{
     DerBuffer, DerWrite, ElementKind, Err, Error, FromDer, HasKind, LawfulDer, LawfulElement,
     LawfulItem, LawfulTagged, LawfulWrite, ParseResult, SerializeResult, SetOf, Tag, TagNumber,
-    TaggedAs, ToDer,
+    TaggedAs, ToDer, refusal_of_count,
 };
 use std::alloc::Global;
 
@@ -180,7 +179,8 @@ impl ToDer for RelativeDistinguishedName<'_> {
         ensures wrote { relative_name_writing.tells self.now →
             Wrote (relative_name_writing.content self.now) (W.state w.old) (W.state w.new) result }
         ensures refused { relative_name_writing.tells self.now → IfErr result
-            (Refuses true (length (relative_name_writing.content self.now)) (relative_name_writing.content_refuses self.now)) }
+            (Refuses true (length (relative_name_writing.content self.now))
+            (relative_name_writing.content_refuses self.now)) }
         ensures accepted { (e : SerializeError) → relative_name_writing.tells self.now →
             relative_name_writing.content_refuses self.now e → IsErr result }
         ensures uncounted { (e : Error) → relative_name_writing.tells self.now →

@@ -2,6 +2,10 @@
 #![tactic(auto)]
 
 #[cfg(test)]
+mod cut;
+#[cfg(test)]
+mod growths;
+#[cfg(test)]
 mod names;
 #[cfg(test)]
 mod writing;

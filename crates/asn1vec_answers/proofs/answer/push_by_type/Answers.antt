@@ -146,3 +146,6 @@ returns-in-GenTime c = rw c.in-GenTime.is c.push_leaf-in-GenTime.ensures
 
 pub returns-in-Pdv : goal.returns-in-Pdv
 returns-in-Pdv c = rw c.in-Pdv.is c.push_by_either-in-Pdv.ensures
+
+pub returns-in-X509Name : goal.returns-in-X509Name
+returns-in-X509Name c = rw c.in-X509Name.is c.push_x509_name.ensures
