@@ -5,7 +5,6 @@
 //! input is a name, a space and octets in hexadecimal, and is answered by the name and the check, with no time.
 #![tactic(auto)]
 
-mod attribute;
 mod failure;
 mod lines;
 mod nested;

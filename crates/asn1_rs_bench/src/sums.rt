@@ -3,6 +3,7 @@
 use asn1_rs::{
     ASN1DateTime, Any, GeneralizedTime, OctetString, Oid, RestrictedString, SetOf, UtcTime,
 };
+use x509_name::{AttributeTypeAndValue, Name, RelativeDistinguishedName};
 
 /// A value that adds to a check.
 pub(crate) trait Summed {
@@ -96,5 +97,26 @@ impl<T: Summed> Summed for Vec<T> {
 impl<T: Summed> Summed for SetOf<T> {
     fn sum(&self) -> u64 {
         sum_of_items(self.as_slice())
+    }
+}
+
+/// An attribute adds what its two parts add.
+impl Summed for AttributeTypeAndValue<'_> {
+    fn sum(&self) -> u64 {
+        self.oid.sum().wrapping_add(self.value.sum())
+    }
+}
+
+/// A relative name adds what a set of its attributes adds.
+impl Summed for RelativeDistinguishedName<'_> {
+    fn sum(&self) -> u64 {
+        sum_of_items(&self.v)
+    }
+}
+
+/// A name adds what a list of its relative names adds.
+impl Summed for Name<'_> {
+    fn sum(&self) -> u64 {
+        sum_of_items(&self.rdn_sequence)
     }
 }

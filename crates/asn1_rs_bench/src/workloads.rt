@@ -1,6 +1,5 @@
 //! The workloads by their names.
 
-use crate::attribute::Attribute;
 use crate::failure::Failure;
 use crate::nested::{EightDeep, SixtyFourDeep, ThirtyTwoDeep};
 use crate::rounds::{Outcome, Rounds};
@@ -13,6 +12,7 @@ use asn1_rs::{
 };
 use std::alloc::Global;
 use std::time::CpuClock;
+use x509_name::Name;
 
 /// So deep a walk goes.
 const MAX_DEPTH: usize = 64;
@@ -97,7 +97,7 @@ impl<'a, C: CpuClock> Bench<'a, C> {
             b"oid" => self.read::<Oid<'_>, DerParser>(),
             b"utctime" => self.read::<UtcTime, DerParser>(),
             b"gentime" => self.read::<GeneralizedTime, DerParser>(),
-            b"names" => self.read::<Vec<SetOf<Attribute<'_>>>, DerParser>(),
+            b"names" => self.read::<Name<'_>, DerParser>(),
             b"nested_08" => self.read::<EightDeep, DerParser>(),
             b"nested_32" => self.read::<ThirtyTwoDeep, DerParser>(),
             b"nested_64" => self.read::<SixtyFourDeep, DerParser>(),
@@ -144,7 +144,7 @@ impl<'a, C: CpuClock> Bench<'a, C> {
             b"oid" => self.write::<Oid<'_>>(),
             b"utctime" => self.write::<UtcTime>(),
             b"gentime" => self.write::<GeneralizedTime>(),
-            b"names" => self.write::<Vec<SetOf<Attribute<'_>>>>(),
+            b"names" => self.write::<Name<'_>>(),
             b"nested_08" => self.write::<EightDeep>(),
             b"nested_32" => self.write::<ThirtyTwoDeep>(),
             b"nested_64" => self.write::<SixtyFourDeep>(),
