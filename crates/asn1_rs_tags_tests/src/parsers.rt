@@ -8,6 +8,7 @@ use asn1_rs::{
 use std::alloc::Global;
 use std::test::Fail;
 use test_rows::{Calls, assert_rows, push_debug};
+use test_values::{assert_beginnings_by_ber, assert_beginnings_by_der};
 
 /// An element that may be there or not: `[1]`, and `[APPLICATION 1]`. The closure takes its first contents octet; what
 /// it leaves is not looked at. Values by X.690 8.14, 10.1.
@@ -218,12 +219,22 @@ fn push_parsed<Kind>(
     push_debug(text, &shown)
 }
 
-/// Appends what readers of explicit tags answer.
+/// Appends what readers of explicit tags answer. Of octets that the type accepts all beginnings are tried.
 fn push_explicit(text: &mut String, alloc: Global, call: &str, octets: &[u8]) -> Result<(), Fail> {
     let class = Class::Application;
     match call {
-        "u8 by BER" => push_parsed::<Explicit>(text, TaggedParser::from_ber(alloc, octets)),
-        "u8 by DER" => push_parsed::<Explicit>(text, TaggedParser::from_der(alloc, octets)),
+        "u8 by BER" => {
+            assert_beginnings_by_ber::<TaggedParser<'_, Explicit, u8, Error>>(
+                alloc, octets, false,
+            )?;
+            push_parsed::<Explicit>(text, TaggedParser::from_ber(alloc, octets))
+        }
+        "u8 by DER" => {
+            assert_beginnings_by_der::<TaggedParser<'_, Explicit, u8, Error>>(
+                alloc, octets, false,
+            )?;
+            push_parsed::<Explicit>(text, TaggedParser::from_der(alloc, octets))
+        }
         "[APPLICATION 14] by BER" => push_parsed::<Explicit>(
             text,
             TaggedParser::<'_, Explicit, u8, Error>::parse_ber(alloc, class, Tag(14), octets),
@@ -249,12 +260,22 @@ fn push_explicit(text: &mut String, alloc: Global, call: &str, octets: &[u8]) ->
     }
 }
 
-/// Appends what readers of implicit tags answer.
+/// Appends what readers of implicit tags answer. Of octets that the type accepts all beginnings are tried.
 fn push_implicit(text: &mut String, alloc: Global, call: &str, octets: &[u8]) -> Result<(), Fail> {
     let class = Class::ContextSpecific;
     match call {
-        "u8 by BER" => push_parsed::<Implicit>(text, TaggedParser::from_ber(alloc, octets)),
-        "u8 by DER" => push_parsed::<Implicit>(text, TaggedParser::from_der(alloc, octets)),
+        "u8 by BER" => {
+            assert_beginnings_by_ber::<TaggedParser<'_, Implicit, u8, Error>>(
+                alloc, octets, false,
+            )?;
+            push_parsed::<Implicit>(text, TaggedParser::from_ber(alloc, octets))
+        }
+        "u8 by DER" => {
+            assert_beginnings_by_der::<TaggedParser<'_, Implicit, u8, Error>>(
+                alloc, octets, false,
+            )?;
+            push_parsed::<Implicit>(text, TaggedParser::from_der(alloc, octets))
+        }
         "[1] by BER" => {
             let builder = TaggedParserBuilder::<Implicit, Error>::implicit();
             let builder = builder.with_class(class).with_tag(Tag(1));

@@ -1,16 +1,26 @@
 //! What the crates of tests share that stands on the library: values as texts, read, checked and written, and writers
-//! that end at each place.
+//! that end at each place. Calls where a growth is refused, too.
 #![tactic(auto)]
 
+mod beginnings;
 mod cut;
+mod growths;
 mod reading;
+mod room;
 mod says;
 mod writing;
 
-pub use cut::{assert_cut, assert_failed, io_kind};
+pub use beginnings::{assert_beginnings_by_ber, assert_beginnings_by_der};
+pub use cut::{assert_cut, assert_failed, assert_own_cut, io_kind};
+pub use growths::{
+    Refusal, assert_always, assert_converted, assert_lawful, assert_no_memory, assert_plain,
+    assert_plain_read, assert_read, assert_read_always, assert_sorted, assert_sorted_read,
+    assert_twice, is_cloned, is_made, is_octets, is_read, is_text, is_value, refused,
+};
 pub use reading::{
     push_by_ber, push_by_der, push_checked, push_converted, push_read_by_ber, push_read_by_der,
     push_shown,
 };
+pub use room::Room;
 pub use says::{Says, push_read, push_value};
 pub use writing::{assert_written, push_written};

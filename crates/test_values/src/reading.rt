@@ -1,5 +1,6 @@
 //! How values are read, checked and converted, as texts.
 
+use crate::beginnings::{assert_beginnings_by_ber, assert_beginnings_by_der};
 use crate::says::{Says, push_read, push_value};
 use crate::writing::push_written;
 use asn1_rs::{Any, CheckDerConstraints, Err, Error, FromAny, FromBer, FromDer, ToDer};
@@ -48,40 +49,58 @@ fn push_answer<T: Says + ToDer + Drop>(
     }
 }
 
-/// Appends what the reader of a type answers by DER, and how the value is written.
+/// Whether a value was read of a type that no octets are read as too.
+fn is_optional<T: Says>(answer: &Result<(&[u8], T), Err<Error>>) -> bool {
+    match answer {
+        Ok((_, value)) => value.is_optional(),
+        Err(_) => false,
+    }
+}
+
+/// Appends what the reader of a type answers by DER, and how the value is written. Of octets that it accepts all
+/// beginnings are tried.
 pub fn push_by_der<'a, T: FromDer<'a, Error> + Says + ToDer + Drop>(
     text: &mut String,
     alloc: Global,
     octets: &'a [u8],
 ) -> Result<(), Fail> {
-    push_answer(text, alloc, T::from_der(alloc, octets))
+    let answer = T::from_der(alloc, octets);
+    assert_beginnings_by_der::<T>(alloc, octets, is_optional(&answer))?;
+    push_answer(text, alloc, answer)
 }
 
-/// Appends what the reader of a type answers by BER, and how the value is written.
+/// Appends what the reader of a type answers by BER, and how the value is written. Of octets that it accepts all
+/// beginnings are tried.
 pub fn push_by_ber<'a, T: FromBer<'a, Error> + Says + ToDer + Drop>(
     text: &mut String,
     alloc: Global,
     octets: &'a [u8],
 ) -> Result<(), Fail> {
-    push_answer(text, alloc, T::from_ber(alloc, octets))
+    let answer = T::from_ber(alloc, octets);
+    assert_beginnings_by_ber::<T>(alloc, octets, is_optional(&answer))?;
+    push_answer(text, alloc, answer)
 }
 
-/// Appends what the reader of a type answers by DER.
+/// Appends what the reader of a type answers by DER. Of octets that it accepts all beginnings are tried.
 pub fn push_read_by_der<'a, T: FromDer<'a, Error> + Says + Drop>(
     text: &mut String,
     alloc: Global,
     octets: &'a [u8],
 ) -> Result<(), Fail> {
-    push_read(text, &T::from_der(alloc, octets))
+    let answer = T::from_der(alloc, octets);
+    assert_beginnings_by_der::<T>(alloc, octets, is_optional(&answer))?;
+    push_read(text, &answer)
 }
 
-/// Appends what the reader of a type answers by BER.
+/// Appends what the reader of a type answers by BER. Of octets that it accepts all beginnings are tried.
 pub fn push_read_by_ber<'a, T: FromBer<'a, Error> + Says + Drop>(
     text: &mut String,
     alloc: Global,
     octets: &'a [u8],
 ) -> Result<(), Fail> {
-    push_read(text, &T::from_ber(alloc, octets))
+    let answer = T::from_ber(alloc, octets);
+    assert_beginnings_by_ber::<T>(alloc, octets, is_optional(&answer))?;
+    push_read(text, &answer)
 }
 
 /// Appends what the check of the element at the front, by BER, says.

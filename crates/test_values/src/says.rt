@@ -1,11 +1,13 @@
 //! Values as tables show them.
 
 use asn1_rs::{
-    Any, BitString, Boolean, EmbeddedPdv, Enumerated, Integer, Null, OctetString, Oid,
-    PdvIdentification, Sequence, SequenceOf, Set, SetOf, TaggedValue,
+    Any, BitString, BmpString, Boolean, EmbeddedPdv, EndOfContent, Enumerated, GeneralizedTime,
+    Integer, Null, OctetString, Oid, PdvIdentification, Sequence, SequenceOf, Set, SetOf,
+    TaggedValue, UniversalString, UtcTime,
 };
-use std::collections::BTreeSet;
+use std::collections::{BTreeSet, HashSet};
 use std::fmt::{Debug, Write};
+use std::hash::Hash;
 use std::test::Fail;
 use test_rows::{push_debug, push_digits};
 
@@ -14,6 +16,11 @@ pub trait Says: Debug {
     /// Appends the text.
     fn say(&self, text: &mut String) -> Result<(), Fail> {
         push_debug(text, self)
+    }
+
+    /// Whether no octets are read as a value of the same type.
+    fn is_optional(&self) -> bool {
+        false
     }
 }
 
@@ -27,6 +34,20 @@ impl Says for u16 {}
 
 impl Says for u32 {}
 
+impl Says for u64 {}
+
+impl Says for u128 {}
+
+impl Says for i8 {}
+
+impl Says for i16 {}
+
+impl Says for i32 {}
+
+impl Says for i64 {}
+
+impl Says for i128 {}
+
 impl Says for &[u8] {}
 
 impl Says for &str {}
@@ -34,6 +55,8 @@ impl Says for &str {}
 impl Says for String {}
 
 impl Says for Null {}
+
+impl Says for EndOfContent {}
 
 impl Says for Boolean {}
 
@@ -48,6 +71,26 @@ impl Says for Sequence<'_> {}
 impl Says for Set<'_> {}
 
 impl<T: Debug + Ord> Says for BTreeSet<T> {}
+
+impl<T: Debug + Eq + Hash> Says for HashSet<T> {}
+
+impl Says for UtcTime {}
+
+impl Says for GeneralizedTime {}
+
+/// The text.
+impl Says for BmpString<'_> {
+    fn say(&self, text: &mut String) -> Result<(), Fail> {
+        push_debug(text, &self.as_str())
+    }
+}
+
+/// The text.
+impl Says for UniversalString<'_> {
+    fn say(&self, text: &mut String) -> Result<(), Fail> {
+        push_debug(text, &self.as_str())
+    }
+}
 
 /// The contents octets in hexadecimal digits.
 impl Says for Integer<'_> {
@@ -90,6 +133,10 @@ impl<T: Says> Says for Option<T> {
             Some(value) => push_within(text, "Some(", value),
             None => Ok(text.push_str("None")?),
         }
+    }
+
+    fn is_optional(&self) -> bool {
+        true
     }
 }
 
