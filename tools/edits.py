@@ -142,7 +142,7 @@ DEFINED = re.compile(r"\bfn ([A-Za-z_]\w*)")
 WORD = re.compile(r"\b[A-Za-z_]\w*")
 
 # Functions of std that edits call and no source does.
-OF_STD = {"error_len", "filter", "sort", "to_ascii_lowercase", "truncate"}
+OF_STD = {"error_len", "filter", "rev", "sort", "to_ascii_lowercase", "truncate"}
 
 
 def code_words():
