@@ -29,5 +29,6 @@ pub mod Lists
 pub mod Set
 pub mod Kept
 pub mod Tagged
+pub mod Structs
 pub mod InHand
 pub mod Writing

@@ -29,4 +29,5 @@ pub mod Set
 pub mod Kept
 pub mod Copies
 pub mod Tagged
+pub mod Structs
 pub mod Laws

@@ -1,0 +1,299 @@
+-- Sequences of different fields, some of which may be left out: their values, their words, and their strict octets
+-- (X.690 8.9).
+pub mod Data
+pub mod Types
+use Rattle.std.specs.Prelude.{◌≡◌, ◌⊎◌, ◌||◌, ◌&&◌, ℕ, Bool, true, false, IsTrue, List, [], ◌∷◌, ◌++◌}
+use Rattle.std.specs.Prelude.{Option, Some, None, Result, Ok, Err, nat_eq, not, MatchResult}
+use Rattle.std.specs.Option.{option_map}
+use Rattle.x690.specs.Identifiers.{Identifier, IsCutIdentifier}
+use Rattle.x690.specs.Lengths.{LengthForm}
+use Rattle.x690.specs.Rules.{Rule, der_rule, ber_rule}
+use Rattle.x690.specs.Elements.{Parts, IsHeader}
+use Rattle.asn1_headers.specs.Answers.{Front, TellsMemory}
+use Rattle.asn1_headers.specs.Ber.{EndsWithin}
+use Rattle.asn1_headers.specs.declared.error.Err.{Err as Refusal}
+use Rattle.asn1_headers.specs.declared.error.Error.{Error}
+use Rattle.asn1_headers.specs.declared.error.Error.TheVariants as errors
+use Rattle.asn1_headers.specs.declared.error.DerConstraint.TheVariants as constraints
+use Rattle.asn1_headers.specs.declared.error.SerializeError.{SerializeError}
+use Rattle.asn1_rs.specs.declared.asn1_types.any.Any.{Any}
+use Rattle.asn1_rs.specs.Any.{parts_of}
+use Rattle.asn1_rs.specs.FieldReader.{BecomesError}
+use Rattle.asn1_rs.specs.Fields.{FieldList, untold_fields, no_fields, field, TakenFields, PutsField}
+use Rattle.asn1_rs.specs.Grammar.{DerWord, NoCheck}
+use Rattle.asn1_rs.specs.Grammar.Form.{IsStrict, UniversalForm}
+use Rattle.asn1_rs.specs.Grammar.Item.{ItemGrammar, ber_words}
+use Rattle.asn1_rs.specs.Lists.{IsConstructed, IsListOr}
+use Rattle.asn1_rs.specs.Optional.{IsLeftOut, IfHeld}
+use Rattle.asn1_rs.specs.ToDer.{Writing}
+
+-- The rules by which a field is read.
+
+-- one of the two sets of encoding rules
+pub data EncodingRules : Type 0 where
+  by_der : EncodingRules
+  by_ber : EncodingRules
+
+-- what they ask of a header
+abbrev pub header_rule : EncodingRules → Rule
+header_rule by_der = der_rule
+header_rule by_ber = ber_rule
+
+-- the words of a type by them
+abbrev pub words_by : {S : Type 0} → EncodingRules → (G : ItemGrammar S) → List ℕ → G.Value → Type 0
+words_by by_der G = G.Der
+words_by by_ber G = ber_words G
+
+-- the octets end where a refusal by them tells nothing of more octets
+abbrev pub IsCutBy : EncodingRules → List ℕ → Type 0
+IsCutBy by_der = IsCutIdentifier
+IsCutBy by_ber = EndsWithin
+
+-- The tag numbers that octets may begin with.
+
+-- any number, or one of these
+pub data Numbers : Type 0 where
+  any_number : Numbers
+  among : List ℕ → Numbers
+
+-- the number is one of these
+abbrev pub is_one_of : ℕ → List ℕ → Bool
+is_one_of number [] = false
+is_one_of number (other ∷ others) = nat_eq other number || is_one_of number others
+
+-- no number is among both
+abbrev pub have_none_in_common : List ℕ → List ℕ → Bool
+have_none_in_common [] others = true
+have_none_in_common (number ∷ numbers) others = not (is_one_of number others) && have_none_in_common numbers others
+
+abbrev pub are_apart : Numbers → Numbers → Bool
+are_apart any_number behind = false
+are_apart (among numbers) any_number = false
+are_apart (among numbers) (among others) = have_none_in_common numbers others
+
+-- those of both
+abbrev pub or_those : Numbers → Numbers → Numbers
+or_those any_number behind = any_number
+or_those (among numbers) any_number = any_number
+or_those (among numbers) (among others) = among (numbers ++ others)
+
+-- a header of this tag number begins the octets
+pub record BeginsWithNumber (rule : Rule) (number : ℕ) (octets : List ℕ) : Type 0 where
+  pub header : List ℕ
+  pub rest : List ℕ
+  pub id : Identifier
+  pub form : LengthForm
+  pub header_is : IsHeader rule header id form
+  pub is : octets ≡ header ++ rest
+  pub number_is : id.number ≡ number
+
+-- a header of one of these numbers does
+abbrev pub BeginsWithOneOf : Rule → Numbers → List ℕ → Type 0
+BeginsWithOneOf rule any_number octets = Unit {0}
+BeginsWithOneOf rule (among numbers) octets =
+    (number : ℕ) × BeginsWithNumber rule number octets × (is_one_of number numbers ≡ true)
+
+-- or there are no octets
+abbrev pub BeginsAmong : Rule → Numbers → List ℕ → Type 0
+BeginsAmong rule numbers octets = (octets ≡ []) ⊎ BeginsWithOneOf rule numbers octets
+
+-- There are no octets, or a header of another number begins them.
+abbrev pub BeginsApart : Rule → Numbers → List ℕ → Type 0
+BeginsApart rule any_number octets = octets ≡ []
+BeginsApart rule (among numbers) octets =
+    (octets ≡ []) ⊎ ((number : ℕ) × BeginsWithNumber rule number octets × (is_one_of number numbers ≡ false))
+
+-- One field.
+
+-- The values of a field, and which are the type's and in DER form. Which octets it is read from by each of the rules,
+-- with its value and what it leaves. The strict octets of a value. The tag numbers of these, and whether they may be
+-- none. Whether reading may allocate.
+pub record FieldGrammar (S : Type 0) : Type 1 where
+  pub Value : Type 0
+  pub value : S → Value
+  pub IsValue : Value → Type 0
+  pub IsDer : Value → Type 0
+  pub Takes : EncodingRules → List ℕ → Value → List ℕ → Type 0
+  pub Strict : Value → List ℕ → Type 0
+  pub numbers : Numbers
+  pub optional : Bool
+  pub allocates : Bool
+
+-- a field that is there: a word of its type begins the octets
+abbrev pub item_field : {S : Type 0} → Numbers → ItemGrammar S → FieldGrammar S
+item_field numbers G = record {
+  Value = G.Value;
+  value = G.value;
+  IsValue = G.IsValue;
+  IsDer = G.IsDer;
+  Takes = λ rules. Front (words_by rules G);
+  Strict = IsStrict G.Form;
+  numbers = numbers;
+  optional = false;
+  allocates = G.allocates;
+}
+
+-- An optional field: it is left out exactly at the end, or before a header of another tag number; else a word of its
+-- type begins the octets.
+abbrev pub OptionTakes : {V : Type 0} → ℕ → Rule → (List ℕ → V → Type 0) → List ℕ → Option V → List ℕ → Type 0
+OptionTakes number rule Words octets None rest = IsLeftOut rule number octets × (rest ≡ octets)
+OptionTakes number rule Words octets (Some v) rest = (IsLeftOut rule number octets → ⊥) × Front Words octets v rest
+
+-- its strict octets: none, or the strict encoding
+abbrev pub OptionStrict : {V : Type 0} → (V → Identifier → List ℕ → Type 0) → Option V → List ℕ → Type 0
+OptionStrict Form None octets = octets ≡ []
+OptionStrict Form (Some v) octets = IsStrict Form v octets
+
+-- a field that may be left out
+abbrev pub optional_field : {S : Type 0} → ℕ → ItemGrammar S → FieldGrammar (Option S)
+optional_field number G = record {
+  Value = Option G.Value;
+  value = option_map G.value;
+  IsValue = IfHeld G.IsValue;
+  IsDer = IfHeld G.IsDer;
+  Takes = λ rules. OptionTakes number (header_rule rules) (words_by rules G);
+  Strict = OptionStrict G.Form;
+  numbers = among (number ∷ []);
+  optional = true;
+  allocates = G.allocates;
+}
+
+-- What the reader of a field may answer is exact: the value and the rest where it is taken; an Err where nothing is, or
+-- when out of memory.
+abbrev pub ReadsField : {S : Type 0} → EncodingRules → FieldGrammar S → List ℕ →
+    Result (List ℕ × S) (Refusal Error) → Type 0
+ReadsField rules F octets (Ok x) = F.Takes rules octets (F.value x.1) x.0
+ReadsField rules F octets (Err r) =
+    TellsMemory F.allocates (λ (e f : Error). f ≡ e) r ⊎
+    ((v : F.Value) (rest : List ℕ) → F.Takes rules octets v rest → ⊥)
+
+-- Rows of fields.
+
+-- The same of several fields, one behind another, which take all octets. The tag numbers that their strict octets may
+-- begin with; and whether each optional field is told from what may follow it.
+pub record RowGrammar (S : Type 0) : Type 1 where
+  pub Value : Type 0
+  pub value : S → Value
+  pub IsValue : Value → Type 0
+  pub IsDer : Value → Type 0
+  pub Takes : EncodingRules → List ℕ → Value → Type 0
+  pub Strict : Value → List ℕ → Type 0
+  pub numbers : Numbers
+  pub told : Bool
+  pub allocates : Bool
+
+-- no fields
+abbrev pub empty_row : RowGrammar (Unit {0})
+empty_row = record {
+  Value = Unit {0};
+  value = λ x. x;
+  IsValue = λ v. Unit {0};
+  IsDer = λ v. Unit {0};
+  Takes = λ rules octets v. octets ≡ [];
+  Strict = λ v octets. octets ≡ [];
+  numbers = among [];
+  told = true;
+  allocates = false;
+}
+
+-- the numbers that a field and those behind it may begin with
+abbrev pub numbers_of : Bool → Numbers → Numbers → Numbers
+numbers_of false numbers behind = numbers
+numbers_of true numbers behind = or_those numbers behind
+
+-- a field is told by its tag number, if it is optional, and so are those behind it
+abbrev pub is_told : Bool → Numbers → Numbers → Bool → Bool
+is_told optional numbers behind false = false
+is_told false numbers behind true = true
+is_told true numbers behind true = are_apart numbers behind
+
+-- a field, and the others behind it
+abbrev pub row_of : {S R : Type 0} → FieldGrammar S → RowGrammar R → RowGrammar (S × R)
+row_of F G = record {
+  Value = F.Value × G.Value;
+  value = λ x. (F.value x.0, G.value x.1);
+  IsValue = λ v. F.IsValue v.0 × G.IsValue v.1;
+  IsDer = λ v. F.IsDer v.0 × G.IsDer v.1;
+  Takes = λ rules octets v. (rest : List ℕ) × F.Takes rules octets v.0 rest × G.Takes rules rest v.1;
+  Strict = λ v octets. (first : List ℕ) × (others : List ℕ) × F.Strict v.0 first × G.Strict v.1 others ×
+      (octets ≡ first ++ others);
+  numbers = numbers_of F.optional F.numbers G.numbers;
+  told = is_told F.optional F.numbers G.numbers G.told;
+  allocates = F.allocates || G.allocates;
+}
+
+-- no octets are left, or those that are left over are refused
+abbrev pub EndGives : List ℕ → Result (Unit {0}) Error → Type 0
+EndGives octets answer = MatchResult answer (λ _. octets ≡ [])
+    (λ e. (octets ≡ [] → ⊥) × (e ≡ errors.DerConstraintFailed constraints.TrailingOctets))
+
+-- What reading a row may answer: all fields; or the refusal of the first one that is refused.
+abbrev pub RowGives : {S R : Type 0} → (List ℕ → Result (List ℕ × S) (Refusal Error) → Type 0) →
+    (List ℕ → Result R Error → Type 0) → List ℕ → Result (S × R) Error → Type 0
+RowGives first others octets (Ok x) = (rest : List ℕ) × first octets (Ok (rest, x.0)) × others rest (Ok x.1)
+RowGives {S} first others octets (Err e) =
+    ((r : Refusal Error) × first octets (Err r) × BecomesError r e) ⊎
+    ((x : S) × (rest : List ℕ) × first octets (Ok (rest, x)) × others rest (Err e))
+
+-- What it may answer is exact.
+abbrev pub ReadsRow : {S : Type 0} → EncodingRules → RowGrammar S → List ℕ → Result S Error → Type 0
+ReadsRow rules R octets (Ok x) = R.Takes rules octets (R.value x)
+ReadsRow rules R octets (Err e) =
+    (IsTrue R.allocates × (e ≡ errors.OutOfMemory)) ⊎ ((v : R.Value) → R.Takes rules octets v → ⊥)
+
+-- What is written of a row.
+
+-- the fields of what has this row
+abbrev pub fields_by : {S T : Type 0} → (S → T) → FieldList T → FieldList S
+fields_by row untold_fields = untold_fields
+fields_by row no_fields = no_fields
+fields_by row (field w of rest) = field w (λ x. of (row x)) (fields_by row rest)
+
+-- a field, and the others behind it
+abbrev pub row_list : {S R : Type 0} → Writing S → FieldList R → FieldList (S × R)
+row_list w others = field w (λ x. x.0) (fields_by (λ x. x.1) others)
+
+-- the writing of each field, with its item
+pub data PutList : Type 1 where
+  none_put : PutList
+  put_then : {T : Type 0} → Writing T → T → PutList → PutList
+
+-- those of a value with these fields
+abbrev pub puts_of : {S : Type 0} → FieldList S → S → PutList
+puts_of untold_fields x = none_put
+puts_of no_fields x = none_put
+puts_of (field w of rest) x = put_then w (of x) (puts_of rest x)
+
+-- The items were put in their order; or those before one that was refused, and that refusal is the answer.
+abbrev pub PutsAll : PutList → TakenFields → TakenFields → Result (Unit {0}) SerializeError → Type 0
+PutsAll none_put old new answer = (answer ≡ Ok tt) × (new ≡ old)
+PutsAll (put_then w x rest) old new answer = (mid : TakenFields) × (first : Result (Unit {0}) SerializeError) ×
+    PutsField w x old mid first × MatchResult first (λ _. PutsAll rest mid new answer) (λ e. answer ≡ Err e)
+
+-- Structs.
+
+-- a constructed element of the tag number of sequences, whose contents octets are the fields
+pub record StructBody {V : Type 0} (Takes : List ℕ → V → Type 0) (p : Parts) (v : V) : Type 0 where
+  pub shape : IsConstructed 16 p
+  pub fields : Takes p.content v
+
+-- what has a row of fields
+abbrev pub struct_grammar : {S T : Type 0} → (T → S) → RowGrammar S → ItemGrammar T
+struct_grammar row R = record {
+  Value = R.Value;
+  value = λ x. R.value (row x);
+  IsValue = R.IsValue;
+  IsDer = R.IsDer;
+  Der = DerWord NoCheck (StructBody (R.Takes by_der));
+  Body = StructBody (R.Takes by_ber);
+  Check = IsConstructed 16;
+  Form = UniversalForm true 16 R.Strict;
+  allocates = R.allocates;
+}
+
+-- What the conversion of an element to a struct may answer: the struct of its fields; or the refusal of the tag number,
+-- that of the constructed bit, or that of a field.
+abbrev pub StructGives : {T : Type 0} → (List ℕ → Result T Error → Type 0) → Any → Result T Error → Type 0
+StructGives gives any (Ok x) = IsListOr 16 (parts_of any) (Ok tt) × gives any.content.now (Ok x)
+StructGives gives any (Err e) =
+    IsListOr 16 (parts_of any) (Err e) ⊎ (IsListOr 16 (parts_of any) (Ok tt) × gives any.content.now (Err e))

@@ -1,0 +1,121 @@
+-- What a type of items, a field, a row of fields and a struct say, with their laws in the same record. So the laws stand
+-- where a type can be quoted, and what holds a struct needs no bound on its fields.
+use Rattle.std.specs.Prelude.{◌≡◌, ◌≢◌, ℕ, true, false, List, [], ◌∷◌, Option, Result, Ok, Err, IfErr}
+use Rattle.x690.specs.Octets.{IsOctets}
+use Rattle.asn1_headers.specs.declared.error.Err.{Err as Refusal}
+use Rattle.asn1_headers.specs.declared.error.Error.{Error}
+use Rattle.asn1_headers.specs.declared.error.Error.TheVariants as errors
+use Rattle.asn1_headers.specs.Answers.{IsOther}
+use Rattle.asn1_headers.specs.Error.{HeldIn}
+use Rattle.asn1_rs.specs.Fields.{FieldList, no_fields, fields_writing}
+use Rattle.asn1_rs.specs.Grammar.{FormNumber}
+use Rattle.asn1_rs.specs.Grammar.Item.{ItemGrammar, IsLawfulItem, IsLawfulWriting}
+use Rattle.asn1_rs.specs.Optional.{option_writing}
+use Rattle.asn1_rs.specs.ToDer.{Writing}
+use Rattle.asn1_rs.specs.Structs.{EncodingRules, FieldGrammar, RowGrammar, item_field, optional_field, empty_row, row_of}
+use Rattle.asn1_rs.specs.Structs.{among, row_list, fields_by, struct_grammar, ReadsField, ReadsRow}
+use Rattle.asn1_rs.specs.Laws.Structs.Fields.{IsLawfulField, IsLawfulPut, item_field_lawful, optional_field_lawful}
+use Rattle.asn1_rs.specs.Laws.Structs.Fields.{item_put, optional_put}
+use Rattle.asn1_rs.specs.Laws.Structs.Rows.{IsLawfulRow, empty_lawful, row_lawful}
+use Rattle.asn1_rs.specs.Laws.Structs.Structs.{struct_lawful, struct_number}
+use Rattle.asn1_rs.specs.Laws.Structs.Writing.{IsLawfulPuts, empty_puts, row_puts, struct_lawful_writing}
+
+-- a type of lawful items with a tag number
+pub record LawfulTypeOf (S : Type 0) : Type 1 where
+  pub number : ℕ
+  pub grammar : ItemGrammar S
+  pub writing : Writing S
+  pub lawful : IsLawfulItem grammar
+  pub numbered : FormNumber grammar.Form number
+  pub written : IsLawfulWriting grammar writing
+
+-- a field
+pub record LawfulFieldOf (S : Type 0) : Type 1 where
+  pub grammar : FieldGrammar S
+  pub writing : Writing S
+  pub lawful : IsLawfulField grammar
+  pub put : IsLawfulPut grammar writing
+
+-- a row of fields
+pub record LawfulRowOf (S : Type 0) : Type 1 where
+  pub grammar : RowGrammar S
+  pub list : FieldList S
+  pub lawful : IsLawfulRow grammar
+  pub puts : IsLawfulPuts grammar list
+
+-- what has a row of fields, each optional one of which is told from what may follow it
+pub record LawfulStructOf (T : Type 0) : Type 1 where
+  pub Row : Type 0
+  pub as_row : T → Row
+  pub row : LawfulRowOf Row
+  pub told : row.grammar.told ≡ true
+
+-- a required field
+abbrev pub field_of : {S : Type 0} → LawfulTypeOf S → LawfulFieldOf S
+field_of T = record {
+  grammar = item_field (among (T.number ∷ [])) T.grammar;
+  writing = T.writing;
+  lawful = item_field_lawful T.number T.grammar T.lawful T.numbered;
+  put = item_put T.number T.grammar T.lawful T.writing T.written (among (T.number ∷ []));
+}
+
+-- an optional field
+abbrev pub optional_of : {S : Type 0} → LawfulTypeOf S → LawfulFieldOf (Option S)
+optional_of T = record {
+  grammar = optional_field T.number T.grammar;
+  writing = option_writing T.writing;
+  lawful = optional_field_lawful T.number T.grammar T.lawful T.numbered;
+  put = optional_put T.number T.grammar T.lawful T.writing T.written;
+}
+
+-- no fields
+abbrev pub end_row : LawfulRowOf (Unit {0})
+end_row = record { grammar = empty_row; list = no_fields; lawful = empty_lawful; puts = empty_puts }
+
+-- a field and the others behind it
+abbrev pub then_row : {S R : Type 0} → LawfulFieldOf S → LawfulRowOf R → LawfulRowOf (S × R)
+then_row F R = record {
+  grammar = row_of F.grammar R.grammar;
+  list = row_list F.writing R.list;
+  lawful = row_lawful F.grammar R.grammar F.lawful R.lawful;
+  puts = row_puts F.grammar F.writing F.put R.grammar R.list R.puts;
+}
+
+-- a struct of a row
+abbrev pub struct_of : {T S : Type 0} → (T → S) → (R : LawfulRowOf S) → R.grammar.told ≡ true → LawfulStructOf T
+struct_of {S} as_row R told = record { Row = S; as_row = as_row; row = R; told = told }
+
+-- its grammar, and how it is written
+abbrev pub grammar_of_struct : {T : Type 0} → LawfulStructOf T → ItemGrammar T
+grammar_of_struct T = struct_grammar T.as_row T.row.grammar
+
+abbrev pub writing_of_struct : {T : Type 0} → LawfulStructOf T → Writing T
+writing_of_struct T = fields_writing 16 (fields_by T.as_row T.row.list)
+
+-- a struct is a lawful type
+abbrev pub struct_type : {T : Type 0} → LawfulStructOf T → LawfulTypeOf T
+struct_type T = record {
+  number = 16;
+  grammar = grammar_of_struct T;
+  writing = writing_of_struct T;
+  lawful = struct_lawful T.row.grammar T.row.lawful T.told T.as_row;
+  numbered = struct_number T.row.grammar;
+  written = struct_lawful_writing T.as_row T.row.grammar T.row.list T.row.puts;
+}
+
+-- What the reader of a field may answer: it is exact, and not out of memory where nothing allocates.
+pub record AnswersField {S : Type 0} (rules : EncodingRules) (F : FieldGrammar S) (octets : List ℕ)
+    (answer : Result (List ℕ × S) (Refusal Error)) : Type 0 where
+  pub exact : IsOctets octets → ReadsField rules F octets answer
+  pub no_memory : F.allocates ≡ false → IfErr answer (HeldIn (IsOther (λ (x y : Error). y ≡ x)))
+
+-- What the reader of a row may answer.
+pub record AnswersRow {S : Type 0} (rules : EncodingRules) (R : RowGrammar S) (octets : List ℕ)
+    (answer : Result S Error) : Type 0 where
+  pub exact : IsOctets octets → ReadsRow rules R octets answer
+  pub no_memory : R.allocates ≡ false → IfErr answer (λ e. e ≢ errors.OutOfMemory)
+
+-- What the reader of the fields of a struct may answer.
+abbrev pub AnswersStruct : {T : Type 0} → EncodingRules → LawfulStructOf T → List ℕ → Result T Error → Type 0
+AnswersStruct rules T octets (Ok x) = AnswersRow rules T.row.grammar octets (Ok (T.as_row x))
+AnswersStruct rules T octets (Err e) = AnswersRow rules T.row.grammar octets (Err e)

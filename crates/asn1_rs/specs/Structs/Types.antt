@@ -1,0 +1,193 @@
+-- What the types of the library say as fields of structs, with their laws.
+use Rattle.std.specs.Prelude.{◌≡◌, ◌∷◌, ℕ, ℤ, Bool, false, refl, List, [], ◌<◌, IsTrue, pos}
+use Rattle.std.specs.Char.{is_ascii}
+use Rattle.std.specs.Str.{IsUtf8}
+use Rattle.std.proofs.Common.{lit<}
+use Rattle.x690.specs.Collections.{multiset, AnyList}
+use Rattle.x690.specs.Integers.{IsIntegerContent, unsigned_octets}
+use Rattle.x690.specs.Sets.{AllIn, is_numeric, is_printable, is_visible}
+use Rattle.x690.specs.Signed.{IsSigned, signed_octets}
+use Rattle.x690.specs.Laws.Integers.Unsigned.{unsigned_octets_content}
+use Rattle.x690.specs.Laws.Sets.{in_set_utf8, numeric_ascii, printable_ascii, ascii_ascii, visible_ascii}
+use Rattle.x690.specs.Laws.Signed.{signed_octets_content}
+use Rattle.asn1_headers.specs.Tag.{is_container_number}
+use Rattle.asn1_headers.specs.declared.error.Error.{Error}
+use Rattle.asn1_rs.specs.declared.asn1_types.any.Any.{Any}
+use Rattle.asn1_rs.specs.declared.asn1_types.oid.Oid.{Oid}
+use Rattle.asn1_rs.specs.declared.asn1_types.strings.RestrictedString.{RestrictedString}
+use Rattle.asn1_rs.specs.declared.asn1_types.strings.InPlace.{InPlace}
+use Rattle.asn1_rs.specs.declared.asn1_types.times.generalized_time.GeneralizedTime.{GeneralizedTime}
+use Rattle.asn1_rs.specs.declared.asn1_types.times.utc_time.UtcTime.{UtcTime}
+use Rattle.asn1_rs.specs.Any.Value.{any_element}
+use Rattle.asn1_rs.specs.Any.Writing.{element_writing}
+use Rattle.asn1_rs.specs.Integer.{IsUnsigned, integer_element}
+use Rattle.asn1_rs.specs.Kinds.{ElementGrammar, IsLawfulElement, item_grammar}
+use Rattle.asn1_rs.specs.Kinds.Writing.{IsWrittenElement, list_writing, set_writing, universal_writing}
+use Rattle.asn1_rs.specs.Laws.Any.Value.{element_lawful}
+use Rattle.asn1_rs.specs.Laws.Any.Writing.{element_lawful_writing}
+use Rattle.asn1_rs.specs.Laws.Forms.{universal_lawful_writing, universal_number}
+use Rattle.asn1_rs.specs.Laws.Integer.{integer_lawful, integer_written}
+use Rattle.asn1_rs.specs.Laws.Kinds.{lawful_item}
+use Rattle.asn1_rs.specs.Laws.Leaf.{leaf_lawful, leaf_written, copying_lawful, copying_written, refusing_written}
+use Rattle.asn1_rs.specs.Laws.Lists.{list_lawful, list_number}
+use Rattle.asn1_rs.specs.Laws.Oid.{oid_lawful, oid_form_number, oid_lawful_writing}
+use Rattle.asn1_rs.specs.Laws.Set.{multiset_lawful, set_number}
+use Rattle.asn1_rs.specs.Laws.Strings.{string_lawful}
+use Rattle.asn1_rs.specs.Laws.Tagged.Explicit.{explicit_lawful, explicit_number}
+use Rattle.asn1_rs.specs.Laws.Times.{utc_time_lawful, utc_time_accepted, generalized_time_lawful}
+use Rattle.asn1_rs.specs.Laws.Times.{generalized_time_accepted}
+use Rattle.asn1_rs.specs.Laws.Writing.{explicit_lawful_writing, list_lawful_writing, multiset_lawful_writing}
+use Rattle.asn1_rs.specs.Leaf.{Leaf, leaf_element, copying, IsLawfulLeafUpTo}
+use Rattle.asn1_rs.specs.Lists.{list_grammar}
+use Rattle.asn1_rs.specs.Oid.{oid_element, oid_writing}
+use Rattle.asn1_rs.specs.Set.{multiset_grammar}
+use Rattle.asn1_rs.specs.Strings.{string_leaf}
+use Rattle.asn1_rs.specs.Tagged.{number_of}
+use Rattle.asn1_rs.specs.Tagged.Explicit.{explicit_grammar}
+use Rattle.asn1_rs.specs.Tagged.Writing.{explicit_under, tag_writing}
+use Rattle.asn1_rs.specs.Times.{utc_time_leaf, utc_time_refused, generalized_time_leaf, generalized_time_refused}
+use Rattle.asn1_rs.specs.Times.{moment_of, IsInvalidDateTime}
+use Rattle.asn1_rs.specs.Structs.{any_number, item_field}
+use Rattle.asn1_rs.specs.Structs.Data.{LawfulTypeOf, LawfulFieldOf}
+use Rattle.asn1_rs.specs.Laws.Structs.Fields.{any_field_lawful, item_put}
+
+-- Types of one element.
+
+-- an element some of whose values are refused in writing, with this refusal
+abbrev pub refusing_type : {S : Type 0} (number : ℕ) (G : ElementGrammar S) (octets : S → List ℕ)
+    (is_refused : S → Bool) (refusal : S → Error → Type 0) → IsLawfulElement G →
+    IsWrittenElement G number octets is_refused → LawfulTypeOf S
+refusing_type {S} number G octets is_refused refusal l w = record {
+  number = number;
+  grammar = item_grammar G;
+  writing = universal_writing number octets is_refused refusal;
+  lawful = lawful_item G l;
+  numbered = universal_number G number octets is_refused w;
+  written = universal_lawful_writing G number octets is_refused w refusal;
+}
+
+-- an element none of whose values is refused
+abbrev pub element_type : {S : Type 0} (number : ℕ) (G : ElementGrammar S) (octets : S → List ℕ) → IsLawfulElement G →
+    IsWrittenElement G number octets (λ _. false) → LawfulTypeOf S
+element_type {S} number G octets = refusing_type number G octets (λ _. false) (λ _ _. ⊥)
+
+-- a leaf type
+abbrev pub leaf_type : {S K : Type 0} {key : Error → K} (L : Leaf S) → IsLawfulLeafUpTo key L → LawfulTypeOf S
+leaf_type L l = element_type L.number (leaf_element L) (λ x. L.octets (L.value x)) (leaf_lawful L l) (leaf_written L l)
+
+-- a leaf type whose reading copies
+abbrev pub copying_type : {S K : Type 0} {key : Error → K} (L : Leaf S) → IsLawfulLeafUpTo key L → LawfulTypeOf S
+copying_type L l = element_type L.number (copying (leaf_element L)) (λ x. L.octets (L.value x)) (copying_lawful L l)
+    (copying_written L l)
+
+-- machine integers of so many octets, without a sign and with one
+abbrev pub unsigned_type : ℕ → LawfulTypeOf ℕ
+unsigned_type size = element_type 2 (integer_element pos (IsUnsigned size)) unsigned_octets
+    (integer_lawful (IsUnsigned size) pos) (integer_written pos unsigned_octets unsigned_octets_content (IsUnsigned size))
+
+abbrev pub signed_type : ℕ → LawfulTypeOf ℤ
+signed_type size = element_type 2 (integer_element (λ n. n) (IsSigned size)) signed_octets
+    (integer_lawful (IsSigned size) (λ n. n))
+    (integer_written (λ n. n) signed_octets signed_octets_content (IsSigned size))
+
+-- strings whose contents octets are their text
+abbrev pub string_type : {K : Type 0} (number : ℕ) (IsText : List ℕ → Type 0) → number < 31 →
+    is_container_number number ≡ false → ((octets : List ℕ) → IsText octets → IsUtf8 octets) →
+    LawfulTypeOf (RestrictedString K InPlace)
+string_type {K} number IsText small primitive utf8 =
+    leaf_type (string_leaf {K = K} number IsText) (string_lawful number IsText small primitive utf8)
+
+-- strings of all characters
+abbrev pub utf8_type : {K : Type 0} → LawfulTypeOf (RestrictedString K InPlace)
+utf8_type = string_type 12 IsUtf8 (lit< tt) refl (λ octets text. text)
+
+-- strings of the octets of a set
+abbrev pub set_type : {K : Type 0} (number : ℕ) (in_set : ℕ → Bool) → number < 31 →
+    is_container_number number ≡ false → ((octet : ℕ) → IsTrue (in_set octet) → octet < 128) →
+    LawfulTypeOf (RestrictedString K InPlace)
+set_type number in_set small primitive ascii =
+    string_type number (AllIn in_set) small primitive (in_set_utf8 in_set ascii)
+
+abbrev pub numeric_type : {K : Type 0} → LawfulTypeOf (RestrictedString K InPlace)
+numeric_type = set_type 18 is_numeric (lit< tt) refl numeric_ascii
+
+abbrev pub printable_type : {K : Type 0} → LawfulTypeOf (RestrictedString K InPlace)
+printable_type = set_type 19 is_printable (lit< tt) refl printable_ascii
+
+abbrev pub ascii_type : {K : Type 0} (number : ℕ) → number < 31 → is_container_number number ≡ false →
+    LawfulTypeOf (RestrictedString K InPlace)
+ascii_type number small primitive = set_type number is_ascii small primitive ascii_ascii
+
+abbrev pub visible_type : {K : Type 0} (number : ℕ) → number < 31 → is_container_number number ≡ false →
+    LawfulTypeOf (RestrictedString K InPlace)
+visible_type number small primitive = set_type number is_visible small primitive visible_ascii
+
+-- times, of which those are refused that have no place in their text
+abbrev pub utc_time_type : LawfulTypeOf UtcTime
+utc_time_type = refusing_type 23 (leaf_element utc_time_leaf) (λ x. utc_time_leaf.octets (utc_time_leaf.value x))
+    (λ t. utc_time_refused (moment_of t.0)) (λ _. IsInvalidDateTime) (leaf_lawful utc_time_leaf utc_time_lawful)
+    (refusing_written utc_time_leaf utc_time_lawful (λ t. utc_time_refused (moment_of t.0)) utc_time_accepted)
+
+abbrev pub generalized_time_type : LawfulTypeOf GeneralizedTime
+generalized_time_type = refusing_type 24 (leaf_element generalized_time_leaf)
+    (λ x. generalized_time_leaf.octets (generalized_time_leaf.value x))
+    (λ t. generalized_time_refused (moment_of t.0)) (λ _. IsInvalidDateTime)
+    (leaf_lawful generalized_time_leaf generalized_time_lawful)
+    (refusing_written generalized_time_leaf generalized_time_lawful (λ t. generalized_time_refused (moment_of t.0))
+    generalized_time_accepted)
+
+-- object identifiers
+abbrev pub oid_type : LawfulTypeOf Oid
+oid_type = record {
+  number = 6;
+  grammar = item_grammar oid_element;
+  writing = oid_writing;
+  lawful = lawful_item oid_element oid_lawful;
+  numbered = oid_form_number;
+  written = oid_lawful_writing;
+}
+
+-- Types that hold values of others.
+
+-- lists with the tag number of sequences
+abbrev pub list_type : {S W : Type 0} → (W → List S) → LawfulTypeOf S → LawfulTypeOf W
+list_type items T = record {
+  number = 16;
+  grammar = list_grammar 16 items T.grammar;
+  writing = list_writing 16 items T.writing;
+  lawful = list_lawful 16 (lit< tt) items T.grammar T.lawful;
+  numbered = list_number T.grammar.Form 16;
+  written = list_lawful_writing 16 items T.grammar T.writing T.lawful T.written;
+}
+
+-- sets in which an item may stand more than once
+abbrev pub multiset_type : {S W : Type 0} → (W → List S) → LawfulTypeOf S → LawfulTypeOf W
+multiset_type items T = record {
+  number = 17;
+  grammar = multiset_grammar items T.grammar;
+  writing = set_writing items T.writing;
+  lawful = multiset_lawful items T.grammar T.lawful;
+  numbered = set_number multiset AnyList T.grammar.Form;
+  written = multiset_lawful_writing items T.grammar T.writing T.lawful T.written;
+}
+
+-- values under an explicit tag
+abbrev pub explicit_type : {S W : Type 0} (class number : ℕ) → (W → S) → LawfulTypeOf S → LawfulTypeOf W
+explicit_type class number inner T = record {
+  number = number_of number;
+  grammar = explicit_grammar class number inner T.grammar;
+  writing = tag_writing class number inner (explicit_under T.writing) T.writing;
+  lawful = explicit_lawful class number inner T.grammar T.lawful;
+  numbered = explicit_number class number T.grammar.Form;
+  written = explicit_lawful_writing class number inner T.grammar T.writing T.lawful T.written;
+}
+
+-- elements of any tag number, which stand where no field before them may be left out
+abbrev pub any_field : LawfulFieldOf Any
+any_field = record {
+  grammar = item_field any_number (item_grammar any_element);
+  writing = element_writing;
+  lawful = any_field_lawful 0 (item_grammar any_element) (lawful_item any_element element_lawful);
+  put = item_put 0 (item_grammar any_element) (lawful_item any_element element_lawful) element_writing
+      element_lawful_writing any_number;
+}

@@ -1,0 +1,197 @@
+//! The fields of structs: what a type says of itself where it is a field, how a field is read, and what is stated of one
+//! in hand.
+ghost use Rattle.std.specs.Prelude.{[], ◌∷◌};
+ghost use Rattle.asn1_headers.specs.Answers.{seen};
+ghost use Rattle.asn1_rs.specs.Any.Value.{any_element};
+ghost use Rattle.asn1_rs.specs.Kinds.{item_grammar};
+ghost use Rattle.asn1_rs.specs.Laws.Any.Value.{element_lawful};
+ghost use Rattle.asn1_rs.specs.Laws.Kinds.{lawful_item};
+ghost use Rattle.asn1_rs.specs.Optional.{IfHeld};
+ghost use Rattle.asn1_rs.specs.Laws.Structs.Fields.{IsLawfulField, item_field_lawful, optional_field_lawful, any_field_lawful};
+ghost use Rattle.asn1_rs.specs.Structs.{FieldGrammar, item_field, optional_field, Numbers, any_number, among, by_der, by_ber};
+ghost use Rattle.asn1_rs.specs.Structs.Data.{LawfulTypeOf, LawfulFieldOf, AnswersField, field_of, optional_of};
+
+use crate::asn1_types::any::Any;
+use crate::laws::{Grammar, LawfulBer, LawfulDer, LawfulItem, LawfulTagged};
+use crate::structs::ReadsBy;
+use crate::traits::{FromBer, FromDer};
+use asn1_headers::content::{BerParser, DerParser};
+use asn1_headers::error::{Error, ParseResult};
+use std::alloc::Global;
+
+/// A type that may be a field of a struct: its laws stand in one record, so that a row of fields can name them.
+///
+/// The types of the library that have it are listed in [`types`](crate::structs::types), with those of callers.
+pub trait LawfulType {
+    /// Its tag number, its grammar and how it is written, with their laws.
+    ghost type_laws: { LawfulTypeOf Self };
+}
+
+/// A field of a struct: a lawful type, or an `Option` of one.
+pub trait FieldType {
+    /// What it is read from and how it is written, with the laws of these.
+    ghost field_laws: { LawfulFieldOf Self };
+}
+
+impl<T: LawfulType> FieldType for T {
+    ghost field_laws = { field_of T.type_laws };
+}
+
+impl<T: LawfulType> FieldType for Option<T> {
+    ghost field_laws = { optional_of T.type_laws };
+}
+
+/// A field that is read by the parser `P`, at the front of what is left of the octets of a struct.
+pub trait ReadsField<'a, P: ReadsBy>: Sized {
+    /// What it is read from.
+    ghost field_grammar: { FieldGrammar Self };
+
+    /// The field, and what follows it.
+    fn read_field(alloc: Global, octets: &'a [u8]) -> ParseResult<'a, Self, Error>
+        ensures { AnswersField P.rules field_grammar octets.now (seen result) };
+
+    /// Octets give one value and leave one rest.
+    ghost lawful_field: { IsLawfulField Self.field_grammar };
+}
+
+/// A required field, by DER, of whichever tag numbers.
+fn item_by_der<'a, T: LawfulDer<'a, Error>>(
+    alloc: Global,
+    octets: &'a [u8],
+) -> ParseResult<'a, T, Error>
+    ensures { (numbers : Numbers) →
+        AnswersField by_der (item_field numbers T.grammar) octets.now (seen result) }
+{
+    T::from_der(alloc, octets)
+}
+
+/// An optional field, by DER.
+fn option_by_der<'a, T: LawfulDer<'a, Error> + LawfulTagged>(
+    alloc: Global,
+    octets: &'a [u8],
+) -> ParseResult<'a, Option<T>, Error>
+    ensures { AnswersField by_der (optional_field (T.TAG).0 T.grammar) octets.now (seen result) }
+{
+    Option::<T>::from_der(alloc, octets)
+}
+
+/// A required field, by BER, of whichever tag numbers.
+fn item_by_ber<'a, T: LawfulBer<'a, Error>>(
+    alloc: Global,
+    octets: &'a [u8],
+) -> ParseResult<'a, T, Error>
+    ensures { (numbers : Numbers) →
+        AnswersField by_ber (item_field numbers T.grammar) octets.now (seen result) }
+{
+    T::from_ber(alloc, octets)
+}
+
+/// An optional field, by BER.
+fn option_by_ber<'a, T: LawfulBer<'a, Error> + LawfulTagged>(
+    alloc: Global,
+    octets: &'a [u8],
+) -> ParseResult<'a, Option<T>, Error>
+    ensures { AnswersField by_ber (optional_field (T.TAG).0 T.grammar) octets.now (seen result) }
+{
+    Option::<T>::from_ber(alloc, octets)
+}
+
+impl<'a, T: LawfulType + LawfulDer<'a, Error> + LawfulTagged> ReadsField<'a, DerParser> for T {
+    ghost field_grammar = { item_field (among ((T.TAG).0 ∷ [])) T.grammar };
+
+    ghost lawful_field = { item_field_lawful (T.TAG).0 T.grammar T.lawful_item T.tag_number };
+
+    fn read_field(alloc: Global, octets: &'a [u8]) -> ParseResult<'a, T, Error> {
+        item_by_der::<T>(alloc, octets)
+    }
+}
+
+impl<'a, T: LawfulType + LawfulDer<'a, Error> + LawfulTagged> ReadsField<'a, DerParser>
+    for Option<T> {
+    ghost field_grammar = { optional_field (T.TAG).0 T.grammar };
+
+    ghost lawful_field = { optional_field_lawful (T.TAG).0 T.grammar T.lawful_item T.tag_number };
+
+    fn read_field(alloc: Global, octets: &'a [u8]) -> ParseResult<'a, Option<T>, Error> {
+        option_by_der::<T>(alloc, octets)
+    }
+}
+
+impl<'a, T: LawfulType + LawfulBer<'a, Error> + LawfulTagged> ReadsField<'a, BerParser> for T {
+    ghost field_grammar = { item_field (among ((T.TAG).0 ∷ [])) T.grammar };
+
+    ghost lawful_field = { item_field_lawful (T.TAG).0 T.grammar T.lawful_item T.tag_number };
+
+    fn read_field(alloc: Global, octets: &'a [u8]) -> ParseResult<'a, T, Error> {
+        item_by_ber::<T>(alloc, octets)
+    }
+}
+
+impl<'a, T: LawfulType + LawfulBer<'a, Error> + LawfulTagged> ReadsField<'a, BerParser>
+    for Option<T> {
+    ghost field_grammar = { optional_field (T.TAG).0 T.grammar };
+
+    ghost lawful_field = { optional_field_lawful (T.TAG).0 T.grammar T.lawful_item T.tag_number };
+
+    fn read_field(alloc: Global, octets: &'a [u8]) -> ParseResult<'a, Option<T>, Error> {
+        option_by_ber::<T>(alloc, octets)
+    }
+}
+
+impl<'a> ReadsField<'a, DerParser> for Any<'a> {
+    ghost field_grammar = { item_field any_number (item_grammar any_element) };
+
+    ghost lawful_field = { any_field_lawful 0 (item_grammar any_element)
+        (lawful_item any_element element_lawful) };
+
+    fn read_field(alloc: Global, octets: &'a [u8]) -> ParseResult<'a, Any<'a>, Error> {
+        item_by_der::<Any<'a>>(alloc, octets)
+    }
+}
+
+impl<'a> ReadsField<'a, BerParser> for Any<'a> {
+    ghost field_grammar = { item_field any_number (item_grammar any_element) };
+
+    ghost lawful_field = { any_field_lawful 0 (item_grammar any_element)
+        (lawful_item any_element element_lawful) };
+
+    fn read_field(alloc: Global, octets: &'a [u8]) -> ParseResult<'a, Any<'a>, Error> {
+        item_by_ber::<Any<'a>>(alloc, octets)
+    }
+}
+
+/// A field in hand.
+pub trait FieldInHand {
+    /// That its value is one of the type's.
+    ghost has_a_value: { Self → Type 0 };
+
+    /// States it.
+    fn field_in_hand(&self)
+        ensures { has_a_value self.now };
+}
+
+impl<T: LawfulType + LawfulItem> FieldInHand for T {
+    ghost has_a_value = { λ x. T.grammar.IsValue (T.grammar.value x) };
+
+    fn field_in_hand(&self) {
+        self.has_value();
+    }
+}
+
+impl FieldInHand for Any<'_> {
+    ghost has_a_value = { λ x. any_element.IsValue (any_element.value x) };
+
+    fn field_in_hand(&self) {
+        self.has_value();
+    }
+}
+
+impl<T: LawfulType + LawfulItem> FieldInHand for Option<T> {
+    ghost has_a_value = { IfHeld (λ x. T.grammar.IsValue (T.grammar.value x)) };
+
+    fn field_in_hand(&self) {
+        if let Some(x) = self {
+            x.has_value();
+        }
+    }
+}

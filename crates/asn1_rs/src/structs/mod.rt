@@ -1,0 +1,214 @@
+//! Structs of fields: sequences of different fields, some of which may be left out, as the messages of protocols are
+//! (X.690 8.9). From what its author says once a struct has readers by both rules, writers, and every law that a list
+//! has.
+//!
+//! The fields of a struct are a **row** ([`row`]): pairs of a field's type and the row behind it, with `()` at the end.
+//! A field is of a type with laws and a tag number, or an `Option` of one ([`field`]); [`types`] says which types have
+//! such laws.
+//!
+//!     pub type MeasurementRow = (bool, (u64, (Option<u8>, ())));
+//!
+//! The laws of the fields stand in the struct's own record ([`LawfulStruct`]), and no bound names its row. So what holds
+//! a struct, as a list, a tag or another struct, passes nothing of its fields on.
+
+pub(crate) mod field;
+pub(crate) mod row;
+pub(crate) mod types;
+
+ghost use Rattle.std.specs.Prelude.{◌≡◌};
+ghost use Rattle.std.proofs.Common.{lit<};
+ghost use Rattle.asn1_headers.specs.Answers.{seen};
+ghost use Rattle.asn1_rs.specs.Any.{parts_of};
+ghost use Rattle.asn1_rs.specs.Fields.{taken_in};
+ghost use Rattle.asn1_rs.specs.Laws.Lists.{constructed_checks};
+ghost use Rattle.asn1_rs.specs.Laws.Structs.Readers.{struct_exact, struct_quiet, struct_by_der_exact, struct_by_der_quiet};
+ghost use Rattle.asn1_rs.specs.Laws.Structs.Structs.{struct_lawful, struct_number, struct_takes_class};
+ghost use Rattle.asn1_rs.specs.Laws.Structs.Writing.{struct_lawful_writing};
+ghost use Rattle.asn1_rs.specs.Lists.{IsListOr};
+ghost use Rattle.asn1_rs.specs.Structs.{EncodingRules, by_der, by_ber, StructGives, PutsAll, fields_by, puts_of};
+ghost use Rattle.asn1_rs.specs.Structs.Data.{LawfulStructOf, AnswersStruct, grammar_of_struct};
+ghost use Rattle.asn1_rs.specs.Traits.{DerGives, PassesAll};
+
+use crate::asn1_types::any::Any;
+use crate::der::element_by_der;
+use crate::kinds::fields::{Fields, FieldsKind, WritesFields};
+use crate::kinds::reading::{
+    CheckBy, ConstructedForm, EncodingForm, FromAnyBy, FromDerBy, HasReader, LawfulBodyBy,
+    LawfulCheckBy, LawfulDerBy,
+};
+use crate::kinds::writing::{LawfulTaggedBy, LawfulWriteBy, TakesClassBy};
+use crate::kinds::{GrammarBy, HasKind, LawfulItemBy, TagNumber};
+use crate::traits::{ASN1Parser, converted};
+use asn1_headers::content::{BerParser, DerParser};
+use asn1_headers::error::{Err, Error, ParseResult, SerializeResult};
+use asn1_headers::tag::Tag;
+use std::alloc::Global;
+
+/// A parser, by the rules by which it reads the fields of a struct.
+pub trait ReadsBy: ASN1Parser {
+    /// The rules.
+    ghost rules: { EncodingRules };
+}
+
+impl ReadsBy for DerParser {
+    ghost rules = { by_der };
+}
+
+impl ReadsBy for BerParser {
+    ghost rules = { by_ber };
+}
+
+/// A struct that is a sequence of its fields, in the order of its row.
+///
+/// So it is written as its fields, one after another ([`WritesFields`]), and has [`Grammar`](crate::Grammar),
+/// [`LawfulItem`](crate::LawfulItem) and the laws of writing and of tags. It is read where it has [`ReadsStruct`].
+///
+///     impl LawfulStruct for Measurement {
+///         ghost laws = { struct_of (λ m. (m.place, (m.value, (m.error, tt))))
+///             ⟦<MeasurementRow as Row>⟧.row_laws refl };
+///
+///         fn put_row(&self, fields: &mut Fields) -> SerializeResult<()> {
+///             (&self.place, (&self.value, (&self.error, ()))).put_each(fields)
+///         }
+///
+///         fn row_in_hand(&self) {
+///             (&self.place, (&self.value, (&self.error, ()))).each_in_hand()
+///         }
+///     }
+///
+/// The last word of `laws` says that each optional field is told by its tag number from all that may follow it up to
+/// the next field that is no option. It is refused there where one is not.
+pub trait LawfulStruct: HasKind<Kind = FieldsKind> + Sized {
+    /// Its row, with the laws of that.
+    ghost laws: { LawfulStructOf Self };
+
+    /// Puts each field, in their order.
+    fn put_row(&self, fields: &mut Fields) -> SerializeResult<()>
+        ensures { PutsAll (puts_of laws.row.list (laws.as_row self.now))
+            (taken_in fields.old) (taken_in fields.new) result };
+
+    /// States of a struct in hand that the values of its fields are those of their types.
+    fn row_in_hand(&self)
+        ensures { laws.row.grammar.IsValue (laws.row.grammar.value (laws.as_row self.now)) };
+}
+
+/// A struct that is read by the parser `P`: by [`DerParser`] each field is read by DER, by [`BerParser`] by BER.
+///
+///     impl<'a> ReadsStruct<'a, DerParser> for Measurement {
+///         fn read_fields(alloc: Global, octets: &'a [u8]) -> Result<Measurement, Error> {
+///             let (place, (value, (error, ()))) =
+///                 <MeasurementRow as ReadsRow<'a, DerParser>>::read_row(alloc, octets)?;
+///             Ok(Measurement { place, value, error })
+///         }
+///     }
+pub trait ReadsStruct<'a, P: ReadsBy>: LawfulStruct {
+    /// Reads the fields, which are all of the octets. Refused as the first field that is refused, and with
+    /// `TrailingOctets` where octets are left behind the last one.
+    fn read_fields(alloc: Global, octets: &'a [u8]) -> Result<Self, Error>
+        ensures { AnswersStruct P.rules Self.laws octets.now result };
+}
+
+/// The reader by DER of structs.
+#[derive(Debug)]
+pub struct StructReader;
+
+/// The struct that an element is: its tag number is looked at, then its constructed bit; then its fields are read.
+fn struct_of_element<'a, T: ReadsStruct<'a, P>, P: ReadsBy>(
+    alloc: Global,
+    any: &Any<'a>,
+) -> Result<T, Error>
+    ensures { StructGives (AnswersStruct P.rules T.laws) any.now result }
+{
+    ConstructedForm::assert_form(Tag::Sequence.0, any)?;
+    T::read_fields(alloc, any.content)
+}
+
+impl<'a, T: ReadsStruct<'a, BerParser>> FromAnyBy<'a, FieldsKind> for T {
+    type Refusal = Error;
+
+    ghost gives_by_kind = { StructGives (AnswersStruct by_ber T.laws) };
+
+    fn convert_by_kind(alloc: Global, any: Any<'a>) -> Result<T, Error> {
+        struct_of_element::<T, BerParser>(alloc, &any)
+    }
+}
+
+impl<'a, T: ReadsStruct<'a, DerParser>> FromDerBy<'a, StructReader, Error> for T {
+    ghost gives_by_reader = { DerGives PassesAll (StructGives (AnswersStruct by_der T.laws))
+        (λ x y. y ≡ x) };
+
+    fn read_by_der(alloc: Global, bytes: &'a [u8]) -> ParseResult<'a, T, Error> {
+        let (rest, any) = converted(element_by_der(bytes))?;
+        match struct_of_element::<T, DerParser>(alloc, &any) {
+            Ok(value) => Ok((rest, value)),
+            Err(e) => Err(Err::Error(e)),
+        }
+    }
+}
+
+/// Refuses an element that is no sequence, by its tag number and then by its constructed bit.
+impl<T: LawfulStruct> CheckBy<FieldsKind> for T {
+    ghost check_by_kind = { IsListOr 16 };
+
+    fn check_this_kind(any: &Any<'_>) -> Result<(), Error> {
+        ConstructedForm::assert_form(Tag::Sequence.0, any)
+    }
+}
+
+impl<T: LawfulStruct> WritesFields for T {
+    type Number = TagNumber<16>;
+
+    ghost field_list = { fields_by T.laws.as_row T.laws.row.list };
+
+    fn put_fields(&self, fields: &mut Fields) -> SerializeResult<()> {
+        self.put_row(fields)
+    }
+}
+
+impl<T: LawfulStruct> GrammarBy<FieldsKind> for T {
+    ghost grammar_by_kind = { grammar_of_struct T.laws };
+}
+
+impl<T: LawfulStruct> LawfulItemBy<FieldsKind> for T {
+    ghost lawful_by_kind = { struct_lawful T.laws.row.grammar T.laws.row.lawful T.laws.told
+        T.laws.as_row };
+
+    fn value_by_kind(&self) {
+        self.row_in_hand();
+    }
+}
+
+impl<'a, T: ReadsStruct<'a, BerParser>> LawfulBodyBy<'a, FieldsKind, Error> for T {
+    ghost exact_by_kind = { struct_exact by_ber T.laws };
+
+    ghost no_memory_by_kind = { struct_quiet by_ber T.laws };
+}
+
+impl<T: LawfulStruct> LawfulCheckBy<FieldsKind> for T {
+    ghost checks_by_kind = { constructed_checks 16 };
+}
+
+impl<'a, T> LawfulDerBy<'a, StructReader, Error> for T
+where
+    T: ReadsStruct<'a, DerParser> + HasReader<Reader = StructReader>,
+{
+    ghost exact_by_reader = { struct_by_der_exact T.laws };
+
+    ghost no_memory_by_reader = { struct_by_der_quiet T.laws };
+}
+
+impl<T: LawfulStruct> LawfulWriteBy<FieldsKind> for T {
+    ghost lawful_writing_by_kind = { struct_lawful_writing T.laws.as_row T.laws.row.grammar
+        T.laws.row.list T.laws.row.puts };
+}
+
+impl<T: LawfulStruct> LawfulTaggedBy<FieldsKind> for T {
+    ghost number_by_kind = { struct_number T.laws.row.grammar };
+
+    ghost number_is_small = { lit< tt };
+}
+
+impl<T: LawfulStruct, const C: u8> TakesClassBy<FieldsKind, C> for T {
+    ghost takes_this_class = { struct_takes_class T.laws.row.grammar T.laws.row.lawful T.laws.told
+        C };
+}

@@ -1,0 +1,128 @@
+//! Rows of fields: pairs of a field and the row behind it, with `()` at the end.
+ghost use Rattle.std.specs.Prelude.{◌≡◌};
+ghost use Rattle.asn1_rs.specs.Fields.{taken_in};
+ghost use Rattle.asn1_rs.specs.Structs.{RowGrammar, empty_row, row_of, EndGives, RowGives, PutList, none_put, put_then, PutsAll};
+ghost use Rattle.asn1_rs.specs.Structs.Data.{LawfulRowOf, AnswersField, AnswersRow, end_row, then_row};
+
+use crate::kinds::fields::Fields;
+use crate::structs::ReadsBy;
+use crate::structs::field::{FieldInHand, FieldType, ReadsField};
+use crate::to_der::ToDer;
+use asn1_headers::error::{DerConstraint, Error, SerializeResult};
+use std::alloc::Global;
+
+/// A row of fields.
+pub trait Row: Sized {
+    /// What it is read from and how it is written, with the laws of these.
+    ghost row_laws: { LawfulRowOf Self };
+}
+
+impl Row for () {
+    ghost row_laws = { end_row };
+}
+
+impl<F: FieldType, R: Row> Row for (F, R) {
+    ghost row_laws = { then_row F.field_laws R.row_laws };
+}
+
+/// A row whose fields are read by the parser `P`.
+pub trait ReadsRow<'a, P: ReadsBy>: Sized {
+    /// What it is read from.
+    ghost row_grammar: { RowGrammar Self };
+
+    /// All fields, in their order. Refused as the first field that is refused, where one is cut as error `Incomplete`,
+    /// and with `TrailingOctets` where octets are left behind the last one.
+    fn read_row(alloc: Global, octets: &'a [u8]) -> Result<Self, Error>
+        ensures { AnswersRow P.rules row_grammar octets.now result };
+}
+
+/// Refuses octets that are left behind the last field.
+fn assert_end(octets: &[u8]) -> Result<(), Error>
+    ensures { EndGives octets.now result }
+{
+    match octets {
+        [] => Ok(()),
+        _ => Err(Error::DerConstraintFailed(DerConstraint::TrailingOctets)),
+    }
+}
+
+/// A field and the row behind it.
+fn field_then_row<'a, F, R, P>(alloc: Global, octets: &'a [u8]) -> Result<(F, R), Error>
+where
+    F: ReadsField<'a, P> + Drop,
+    R: ReadsRow<'a, P>,
+    P: ReadsBy,
+    ensures { RowGives (AnswersField P.rules F.field_grammar) (AnswersRow P.rules R.row_grammar)
+        octets.now result }
+{
+    let (rest, first) = F::read_field(alloc, octets)?;
+    let others = R::read_row(alloc, rest)?;
+    Ok((first, others))
+}
+
+impl<'a, P: ReadsBy> ReadsRow<'a, P> for () {
+    ghost row_grammar = { empty_row };
+
+    fn read_row(_alloc: Global, octets: &'a [u8]) -> Result<(), Error> {
+        assert_end(octets)
+    }
+}
+
+impl<'a, F, R, P> ReadsRow<'a, P> for (F, R)
+where
+    F: ReadsField<'a, P> + Drop,
+    R: ReadsRow<'a, P>,
+    P: ReadsBy,
+{
+    ghost row_grammar = { row_of F.field_grammar R.row_grammar };
+
+    fn read_row(alloc: Global, octets: &'a [u8]) -> Result<(F, R), Error> {
+        field_then_row::<F, R, P>(alloc, octets)
+    }
+}
+
+/// A row of references to fields.
+// A row of the fields themselves would have to be taken out of the struct.
+pub trait BorrowedRow {
+    /// How each field is written, with the field.
+    ghost puts: { Self → PutList };
+
+    /// That the value of each field is one of its type's.
+    ghost have_values: { Self → Type 0 };
+
+    /// Puts each field, in their order.
+    fn put_each(&self, fields: &mut Fields) -> SerializeResult<()>
+        ensures { PutsAll (puts self.now) (taken_in fields.old) (taken_in fields.new) result };
+
+    /// States of the fields in hand that their values are those of their types.
+    fn each_in_hand(&self)
+        ensures { have_values self.now };
+}
+
+impl BorrowedRow for () {
+    ghost puts = { λ r. none_put };
+
+    ghost have_values = { λ r. Unit {0} };
+
+    fn put_each(&self, _fields: &mut Fields) -> SerializeResult<()> {
+        Ok(())
+    }
+
+    fn each_in_hand(&self) {}
+}
+
+impl<'s, F: FieldInHand + ToDer, R: BorrowedRow> BorrowedRow for (&'s F, R) {
+    ghost puts = { λ r. put_then F.writing r.0.now (R.puts r.1) };
+
+    ghost have_values = { λ r. F.has_a_value r.0.now × R.have_values r.1 };
+
+    fn put_each(&self, fields: &mut Fields) -> SerializeResult<()> {
+        fields.put(self.0)?;
+        self.1.put_each(fields)
+    }
+
+    fn each_in_hand(&self) {
+        self.0.field_in_hand();
+        self.1.each_in_hand();
+    }
+}

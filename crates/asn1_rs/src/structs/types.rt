@@ -1,0 +1,211 @@
+//! Which types may be fields of structs: the leaf types of the library, lists, values under explicit tags, and structs;
+//! and an element of any tag number, where no field before it may be left out.
+ghost use Rattle.std.specs.Prelude.{refl};
+ghost use Rattle.std.proofs.Common.{lit<};
+ghost use Rattle.asn1_rs.specs.BitString.{bit_string_leaf};
+ghost use Rattle.asn1_rs.specs.Boolean.{bool_leaf};
+ghost use Rattle.asn1_rs.specs.Enumerated.{enumerated_leaf};
+ghost use Rattle.asn1_rs.specs.Integer.Octets.{any_integer_leaf};
+ghost use Rattle.asn1_rs.specs.Kept.{sequence_leaf, set_leaf};
+ghost use Rattle.asn1_rs.specs.Laws.BitString.{bit_string_lawful};
+ghost use Rattle.asn1_rs.specs.Laws.Boolean.{bool_lawful};
+ghost use Rattle.asn1_rs.specs.Laws.Enumerated.{enumerated_lawful};
+ghost use Rattle.asn1_rs.specs.Laws.Integer.Octets.{any_integer_lawful};
+ghost use Rattle.asn1_rs.specs.Laws.Kept.{sequence_lawful, set_lawful};
+ghost use Rattle.asn1_rs.specs.Laws.Null.{null_lawful, unit_lawful};
+ghost use Rattle.asn1_rs.specs.Laws.OctetString.{octet_string_lawful, slice_lawful};
+ghost use Rattle.asn1_rs.specs.Laws.Texts.{lent_text_lawful, owned_text_lawful};
+ghost use Rattle.asn1_rs.specs.Null.{null_leaf, unit_leaf};
+ghost use Rattle.asn1_rs.specs.OctetString.{octet_string_leaf, slice_leaf};
+ghost use Rattle.asn1_rs.specs.Texts.{lent_text_leaf, owned_text_leaf};
+ghost use Rattle.asn1_rs.specs.Sequence.SequenceOf.{sequence_items};
+ghost use Rattle.asn1_rs.specs.Set.{items_of};
+ghost use Rattle.asn1_rs.specs.Structs.Data.{struct_type};
+ghost use Rattle.asn1_rs.specs.Structs.Types.{leaf_type, copying_type, unsigned_type, signed_type, utf8_type};
+ghost use Rattle.asn1_rs.specs.Structs.Types.{numeric_type, printable_type, ascii_type, visible_type, utc_time_type};
+ghost use Rattle.asn1_rs.specs.Structs.Types.{generalized_time_type, oid_type, list_type, multiset_type, explicit_type, any_field};
+
+use crate::asn1_types::any::Any;
+use crate::asn1_types::bit_string::BitString;
+use crate::asn1_types::enumerated::Enumerated;
+use crate::asn1_types::integer::octets::Integer;
+use crate::asn1_types::kept::kinds::{Sequence, Set};
+use crate::asn1_types::null::Null;
+use crate::asn1_types::octet_string::OctetString;
+use crate::asn1_types::oid::Oid;
+use crate::asn1_types::sequence::sequence_of::SequenceOf;
+use crate::asn1_types::set::set_of::SetOf;
+use crate::asn1_types::strings::kinds::{
+    GeneralString, GraphicString, Ia5String, NumericString, ObjectDescriptor, PrintableString,
+    TeletexString, Utf8String, VideotexString, VisibleString,
+};
+use crate::asn1_types::tagged::{Explicit, TaggedValue};
+use crate::asn1_types::times::generalized_time::GeneralizedTime;
+use crate::asn1_types::times::utc_time::UtcTime;
+use crate::structs::LawfulStruct;
+use crate::structs::field::{FieldType, LawfulType};
+
+impl LawfulType for bool {
+    ghost type_laws = { leaf_type bool_leaf bool_lawful };
+}
+
+impl LawfulType for () {
+    ghost type_laws = { leaf_type unit_leaf unit_lawful };
+}
+
+impl LawfulType for Null {
+    ghost type_laws = { leaf_type null_leaf null_lawful };
+}
+
+impl LawfulType for Enumerated {
+    ghost type_laws = { leaf_type enumerated_leaf enumerated_lawful };
+}
+
+impl LawfulType for Integer<'_> {
+    ghost type_laws = { leaf_type any_integer_leaf any_integer_lawful };
+}
+
+impl LawfulType for BitString<'_> {
+    ghost type_laws = { leaf_type bit_string_leaf bit_string_lawful };
+}
+
+impl LawfulType for OctetString<'_> {
+    ghost type_laws = { leaf_type octet_string_leaf octet_string_lawful };
+}
+
+impl LawfulType for &[u8] {
+    ghost type_laws = { leaf_type slice_leaf slice_lawful };
+}
+
+impl LawfulType for &str {
+    ghost type_laws = { leaf_type lent_text_leaf lent_text_lawful };
+}
+
+impl LawfulType for Sequence<'_> {
+    ghost type_laws = { leaf_type sequence_leaf sequence_lawful };
+}
+
+impl LawfulType for Set<'_> {
+    ghost type_laws = { leaf_type set_leaf set_lawful };
+}
+
+impl LawfulType for String {
+    ghost type_laws = { copying_type owned_text_leaf owned_text_lawful };
+}
+
+impl LawfulType for u8 {
+    ghost type_laws = { unsigned_type 1 };
+}
+
+impl LawfulType for u16 {
+    ghost type_laws = { unsigned_type 2 };
+}
+
+impl LawfulType for u32 {
+    ghost type_laws = { unsigned_type 4 };
+}
+
+impl LawfulType for u64 {
+    ghost type_laws = { unsigned_type 8 };
+}
+
+impl LawfulType for u128 {
+    ghost type_laws = { unsigned_type 16 };
+}
+
+impl LawfulType for i8 {
+    ghost type_laws = { signed_type 1 };
+}
+
+impl LawfulType for i16 {
+    ghost type_laws = { signed_type 2 };
+}
+
+impl LawfulType for i32 {
+    ghost type_laws = { signed_type 4 };
+}
+
+impl LawfulType for i64 {
+    ghost type_laws = { signed_type 8 };
+}
+
+impl LawfulType for i128 {
+    ghost type_laws = { signed_type 16 };
+}
+
+impl LawfulType for Utf8String<'_> {
+    ghost type_laws = { utf8_type };
+}
+
+impl LawfulType for NumericString<'_> {
+    ghost type_laws = { numeric_type };
+}
+
+impl LawfulType for PrintableString<'_> {
+    ghost type_laws = { printable_type };
+}
+
+impl LawfulType for Ia5String<'_> {
+    ghost type_laws = { ascii_type 22 (lit< tt) refl };
+}
+
+impl LawfulType for GraphicString<'_> {
+    ghost type_laws = { ascii_type 25 (lit< tt) refl };
+}
+
+impl LawfulType for GeneralString<'_> {
+    ghost type_laws = { ascii_type 27 (lit< tt) refl };
+}
+
+impl LawfulType for ObjectDescriptor<'_> {
+    ghost type_laws = { ascii_type 7 (lit< tt) refl };
+}
+
+impl LawfulType for TeletexString<'_> {
+    ghost type_laws = { visible_type 20 (lit< tt) refl };
+}
+
+impl LawfulType for VideotexString<'_> {
+    ghost type_laws = { visible_type 21 (lit< tt) refl };
+}
+
+impl LawfulType for VisibleString<'_> {
+    ghost type_laws = { visible_type 26 (lit< tt) refl };
+}
+
+impl LawfulType for UtcTime {
+    ghost type_laws = { utc_time_type };
+}
+
+impl LawfulType for GeneralizedTime {
+    ghost type_laws = { generalized_time_type };
+}
+
+impl LawfulType for Oid<'_> {
+    ghost type_laws = { oid_type };
+}
+
+impl<T: LawfulType> LawfulType for Vec<T> {
+    ghost type_laws = { list_type (λ v. v.items) T.type_laws };
+}
+
+impl<T: LawfulType> LawfulType for SequenceOf<T> {
+    ghost type_laws = { list_type sequence_items T.type_laws };
+}
+
+impl<T: LawfulType> LawfulType for SetOf<T> {
+    ghost type_laws = { multiset_type items_of T.type_laws };
+}
+
+impl<T: LawfulType, E, const CLASS: u8, const TAG: u32> LawfulType
+    for TaggedValue<T, E, Explicit, CLASS, TAG> {
+    ghost type_laws = { explicit_type CLASS TAG (λ t. t.inner) T.type_laws };
+}
+
+impl<T: LawfulStruct> LawfulType for T {
+    ghost type_laws = { struct_type T.laws };
+}
+
+impl FieldType for Any<'_> {
+    ghost field_laws = { any_field };
+}
