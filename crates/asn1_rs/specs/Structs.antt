@@ -24,7 +24,7 @@ use Rattle.asn1_rs.specs.Grammar.{DerWord, NoCheck}
 use Rattle.asn1_rs.specs.Grammar.Form.{IsStrict, UniversalForm}
 use Rattle.asn1_rs.specs.Grammar.Item.{ItemGrammar, ber_words}
 use Rattle.asn1_rs.specs.Lists.{IsConstructed, IsListOr}
-use Rattle.asn1_rs.specs.Optional.{IsLeftOut, IfHeld}
+use Rattle.asn1_rs.specs.Optional.{IsAtEnd, IsLeftOut, IfHeld}
 use Rattle.asn1_rs.specs.ToDer.{Writing}
 
 -- The rules by which a field is read.
@@ -61,12 +61,13 @@ abbrev pub is_one_of : ℕ → List ℕ → Bool
 is_one_of number [] = false
 is_one_of number (other ∷ others) = nat_eq other number || is_one_of number others
 
--- no number is among both
+-- no number is among both; no number at all is where nothing can follow
 abbrev pub have_none_in_common : List ℕ → List ℕ → Bool
 have_none_in_common [] others = true
 have_none_in_common (number ∷ numbers) others = not (is_one_of number others) && have_none_in_common numbers others
 
 abbrev pub are_apart : Numbers → Numbers → Bool
+are_apart any_number (among []) = true
 are_apart any_number behind = false
 are_apart (among numbers) any_number = false
 are_apart (among numbers) (among others) = have_none_in_common numbers others
@@ -133,30 +134,38 @@ item_field numbers G = record {
   allocates = G.allocates;
 }
 
--- An optional field: it is left out exactly at the end, or before a header of another tag number; else a word of its
--- type begins the octets.
-abbrev pub OptionTakes : {V : Type 0} → ℕ → Rule → (List ℕ → V → Type 0) → List ℕ → Option V → List ℕ → Type 0
-OptionTakes number rule Words octets None rest = IsLeftOut rule number octets × (rest ≡ octets)
-OptionTakes number rule Words octets (Some v) rest = (IsLeftOut rule number octets → ⊥) × Front Words octets v rest
+-- An optional field: it is left out exactly where the octets say so; else a word of its type begins them.
+abbrev pub OptionTakes : {V : Type 0} → (List ℕ → Type 0) → (List ℕ → V → Type 0) → List ℕ → Option V → List ℕ → Type 0
+OptionTakes LeftOut Words octets None rest = LeftOut octets × (rest ≡ octets)
+OptionTakes LeftOut Words octets (Some v) rest = (LeftOut octets → ⊥) × Front Words octets v rest
 
 -- its strict octets: none, or the strict encoding
 abbrev pub OptionStrict : {V : Type 0} → (V → Identifier → List ℕ → Type 0) → Option V → List ℕ → Type 0
 OptionStrict Form None octets = octets ≡ []
 OptionStrict Form (Some v) octets = IsStrict Form v octets
 
--- a field that may be left out
-abbrev pub optional_field : {S : Type 0} → ℕ → ItemGrammar S → FieldGrammar (Option S)
-optional_field number G = record {
+-- A field that may be left out, where the octets say so.
+abbrev pub optional_field : {S : Type 0} → Numbers → (EncodingRules → List ℕ → Type 0) → ItemGrammar S →
+    FieldGrammar (Option S)
+optional_field numbers LeftOut G = record {
   Value = Option G.Value;
   value = option_map G.value;
   IsValue = IfHeld G.IsValue;
   IsDer = IfHeld G.IsDer;
-  Takes = λ rules. OptionTakes number (header_rule rules) (words_by rules G);
+  Takes = λ rules. OptionTakes (LeftOut rules) (words_by rules G);
   Strict = OptionStrict G.Form;
-  numbers = among (number ∷ []);
+  numbers = numbers;
   optional = true;
   allocates = G.allocates;
 }
+
+-- of a type with a tag number: at the end, and before a header of another number
+abbrev pub left_out_by : ℕ → EncodingRules → List ℕ → Type 0
+left_out_by number rules = IsLeftOut (header_rule rules) number
+
+-- of one that looks at no tag number: at the end
+abbrev pub left_out_at_end : EncodingRules → List ℕ → Type 0
+left_out_at_end rules = IsAtEnd
 
 -- What the reader of a field may answer is exact: the value and the rest where it is taken; an Err where nothing is, or
 -- when out of memory.

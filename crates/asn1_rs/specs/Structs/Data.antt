@@ -13,7 +13,7 @@ use Rattle.asn1_rs.specs.Grammar.Item.{ItemGrammar, IsLawfulItem, IsLawfulWritin
 use Rattle.asn1_rs.specs.Optional.{option_writing}
 use Rattle.asn1_rs.specs.ToDer.{Writing}
 use Rattle.asn1_rs.specs.Structs.{EncodingRules, FieldGrammar, RowGrammar, item_field, optional_field, empty_row, row_of}
-use Rattle.asn1_rs.specs.Structs.{among, row_list, fields_by, struct_grammar, ReadsField, ReadsRow}
+use Rattle.asn1_rs.specs.Structs.{among, left_out_by, row_list, fields_by, struct_grammar, ReadsField, ReadsRow}
 use Rattle.asn1_rs.specs.Laws.Structs.Fields.{IsLawfulField, IsLawfulPut, item_field_lawful, optional_field_lawful}
 use Rattle.asn1_rs.specs.Laws.Structs.Fields.{item_put, optional_put}
 use Rattle.asn1_rs.specs.Laws.Structs.Rows.{IsLawfulRow, empty_lawful, row_lawful}
@@ -56,16 +56,16 @@ field_of T = record {
   grammar = item_field (among (T.number ∷ [])) T.grammar;
   writing = T.writing;
   lawful = item_field_lawful T.number T.grammar T.lawful T.numbered;
-  put = item_put T.number T.grammar T.lawful T.writing T.written (among (T.number ∷ []));
+  put = item_put T.grammar T.lawful T.writing T.written (among (T.number ∷ []));
 }
 
 -- an optional field
 abbrev pub optional_of : {S : Type 0} → LawfulTypeOf S → LawfulFieldOf (Option S)
 optional_of T = record {
-  grammar = optional_field T.number T.grammar;
+  grammar = optional_field (among (T.number ∷ [])) (left_out_by T.number) T.grammar;
   writing = option_writing T.writing;
   lawful = optional_field_lawful T.number T.grammar T.lawful T.numbered;
-  put = optional_put T.number T.grammar T.lawful T.writing T.written;
+  put = optional_put T.grammar T.lawful T.writing T.written (among (T.number ∷ [])) (left_out_by T.number);
 }
 
 -- no fields

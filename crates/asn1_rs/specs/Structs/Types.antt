@@ -1,5 +1,5 @@
 -- What the types of the library say as fields of structs, with their laws.
-use Rattle.std.specs.Prelude.{◌≡◌, ◌∷◌, ℕ, ℤ, Bool, false, refl, List, [], ◌<◌, IsTrue, pos}
+use Rattle.std.specs.Prelude.{◌≡◌, ◌∷◌, ℕ, ℤ, Bool, false, refl, Option, List, [], ◌<◌, IsTrue, pos}
 use Rattle.std.specs.Char.{is_ascii}
 use Rattle.std.specs.Str.{IsUtf8}
 use Rattle.std.proofs.Common.{lit<}
@@ -47,9 +47,10 @@ use Rattle.asn1_rs.specs.Tagged.Explicit.{explicit_grammar}
 use Rattle.asn1_rs.specs.Tagged.Writing.{explicit_under, tag_writing}
 use Rattle.asn1_rs.specs.Times.{utc_time_leaf, utc_time_refused, generalized_time_leaf, generalized_time_refused}
 use Rattle.asn1_rs.specs.Times.{moment_of, IsInvalidDateTime}
-use Rattle.asn1_rs.specs.Structs.{any_number, item_field}
+use Rattle.asn1_rs.specs.Optional.{option_writing}
+use Rattle.asn1_rs.specs.Structs.{any_number, item_field, optional_field, left_out_at_end}
 use Rattle.asn1_rs.specs.Structs.Data.{LawfulTypeOf, LawfulFieldOf}
-use Rattle.asn1_rs.specs.Laws.Structs.Fields.{any_field_lawful, item_put}
+use Rattle.asn1_rs.specs.Laws.Structs.Fields.{any_field_lawful, any_option_lawful, item_put, optional_put}
 
 -- Types of one element.
 
@@ -182,12 +183,24 @@ explicit_type class number inner T = record {
   written = explicit_lawful_writing class number inner T.grammar T.writing T.lawful T.written;
 }
 
--- elements of any tag number, which stand where no field before them may be left out
+-- Elements of any tag number.
+
+-- one that is there, which stands where no field before it may be left out
 abbrev pub any_field : LawfulFieldOf Any
 any_field = record {
   grammar = item_field any_number (item_grammar any_element);
   writing = element_writing;
-  lawful = any_field_lawful 0 (item_grammar any_element) (lawful_item any_element element_lawful);
-  put = item_put 0 (item_grammar any_element) (lawful_item any_element element_lawful) element_writing
+  lawful = any_field_lawful (item_grammar any_element) (lawful_item any_element element_lawful);
+  put = item_put (item_grammar any_element) (lawful_item any_element element_lawful) element_writing
       element_lawful_writing any_number;
+}
+
+-- one that may be left out, which stands last
+abbrev pub optional_any_field : LawfulFieldOf (Option Any)
+optional_any_field = record {
+  grammar = optional_field any_number left_out_at_end (item_grammar any_element);
+  writing = option_writing element_writing;
+  lawful = any_option_lawful (item_grammar any_element) (lawful_item any_element element_lawful);
+  put = optional_put (item_grammar any_element) (lawful_item any_element element_lawful) element_writing
+      element_lawful_writing any_number left_out_at_end;
 }

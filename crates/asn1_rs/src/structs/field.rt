@@ -7,12 +7,13 @@ ghost use Rattle.asn1_rs.specs.Kinds.{item_grammar};
 ghost use Rattle.asn1_rs.specs.Laws.Any.Value.{element_lawful};
 ghost use Rattle.asn1_rs.specs.Laws.Kinds.{lawful_item};
 ghost use Rattle.asn1_rs.specs.Optional.{IfHeld};
-ghost use Rattle.asn1_rs.specs.Laws.Structs.Fields.{IsLawfulField, item_field_lawful, optional_field_lawful, any_field_lawful};
-ghost use Rattle.asn1_rs.specs.Structs.{FieldGrammar, item_field, optional_field, Numbers, any_number, among, by_der, by_ber};
+ghost use Rattle.asn1_rs.specs.Laws.Structs.Fields.{IsLawfulField, item_field_lawful, optional_field_lawful, any_field_lawful, any_option_lawful};
+ghost use Rattle.asn1_rs.specs.Structs.{FieldGrammar, item_field, optional_field, Numbers, any_number, among, left_out_by, left_out_at_end, by_der, by_ber};
 ghost use Rattle.asn1_rs.specs.Structs.Data.{LawfulTypeOf, LawfulFieldOf, AnswersField, field_of, optional_of};
 
 use crate::asn1_types::any::Any;
-use crate::laws::{Grammar, LawfulBer, LawfulDer, LawfulItem, LawfulTagged};
+use crate::laws::in_hand::AlwaysDer;
+use crate::laws::{LawfulBer, LawfulDer, LawfulItem, LawfulTagged};
 use crate::structs::ReadsBy;
 use crate::traits::{FromBer, FromDer};
 use asn1_headers::content::{BerParser, DerParser};
@@ -70,7 +71,7 @@ fn option_by_der<'a, T: LawfulDer<'a, Error> + LawfulTagged>(
     alloc: Global,
     octets: &'a [u8],
 ) -> ParseResult<'a, Option<T>, Error>
-    ensures { AnswersField by_der (optional_field (T.TAG).0 T.grammar) octets.now (seen result) }
+    ensures { AnswersField by_der (optional_field (among ((T.TAG).0 ∷ [])) (left_out_by (T.TAG).0) T.grammar) octets.now (seen result) }
 {
     Option::<T>::from_der(alloc, octets)
 }
@@ -91,7 +92,7 @@ fn option_by_ber<'a, T: LawfulBer<'a, Error> + LawfulTagged>(
     alloc: Global,
     octets: &'a [u8],
 ) -> ParseResult<'a, Option<T>, Error>
-    ensures { AnswersField by_ber (optional_field (T.TAG).0 T.grammar) octets.now (seen result) }
+    ensures { AnswersField by_ber (optional_field (among ((T.TAG).0 ∷ [])) (left_out_by (T.TAG).0) T.grammar) octets.now (seen result) }
 {
     Option::<T>::from_ber(alloc, octets)
 }
@@ -108,7 +109,8 @@ impl<'a, T: LawfulType + LawfulDer<'a, Error> + LawfulTagged> ReadsField<'a, Der
 
 impl<'a, T: LawfulType + LawfulDer<'a, Error> + LawfulTagged> ReadsField<'a, DerParser>
     for Option<T> {
-    ghost field_grammar = { optional_field (T.TAG).0 T.grammar };
+    ghost field_grammar = { optional_field (among ((T.TAG).0 ∷ []))
+        (left_out_by (T.TAG).0) T.grammar };
 
     ghost lawful_field = { optional_field_lawful (T.TAG).0 T.grammar T.lawful_item T.tag_number };
 
@@ -129,7 +131,8 @@ impl<'a, T: LawfulType + LawfulBer<'a, Error> + LawfulTagged> ReadsField<'a, Ber
 
 impl<'a, T: LawfulType + LawfulBer<'a, Error> + LawfulTagged> ReadsField<'a, BerParser>
     for Option<T> {
-    ghost field_grammar = { optional_field (T.TAG).0 T.grammar };
+    ghost field_grammar = { optional_field (among ((T.TAG).0 ∷ []))
+        (left_out_by (T.TAG).0) T.grammar };
 
     ghost lawful_field = { optional_field_lawful (T.TAG).0 T.grammar T.lawful_item T.tag_number };
 
@@ -141,7 +144,7 @@ impl<'a, T: LawfulType + LawfulBer<'a, Error> + LawfulTagged> ReadsField<'a, Ber
 impl<'a> ReadsField<'a, DerParser> for Any<'a> {
     ghost field_grammar = { item_field any_number (item_grammar any_element) };
 
-    ghost lawful_field = { any_field_lawful 0 (item_grammar any_element)
+    ghost lawful_field = { any_field_lawful (item_grammar any_element)
         (lawful_item any_element element_lawful) };
 
     fn read_field(alloc: Global, octets: &'a [u8]) -> ParseResult<'a, Any<'a>, Error> {
@@ -152,11 +155,49 @@ impl<'a> ReadsField<'a, DerParser> for Any<'a> {
 impl<'a> ReadsField<'a, BerParser> for Any<'a> {
     ghost field_grammar = { item_field any_number (item_grammar any_element) };
 
-    ghost lawful_field = { any_field_lawful 0 (item_grammar any_element)
+    ghost lawful_field = { any_field_lawful (item_grammar any_element)
         (lawful_item any_element element_lawful) };
 
     fn read_field(alloc: Global, octets: &'a [u8]) -> ParseResult<'a, Any<'a>, Error> {
         item_by_ber::<Any<'a>>(alloc, octets)
+    }
+}
+
+/// An element of any tag number that is left out at the end, by DER.
+fn any_option_by_der(alloc: Global, octets: &[u8]) -> ParseResult<'_, Option<Any<'_>>, Error>
+    ensures { AnswersField by_der (optional_field any_number left_out_at_end
+        (item_grammar any_element)) octets.now (seen result) }
+{
+    Option::<Any<'_>>::from_der(alloc, octets)
+}
+
+/// The same by BER.
+fn any_option_by_ber(alloc: Global, octets: &[u8]) -> ParseResult<'_, Option<Any<'_>>, Error>
+    ensures { AnswersField by_ber (optional_field any_number left_out_at_end
+        (item_grammar any_element)) octets.now (seen result) }
+{
+    Option::<Any<'_>>::from_ber(alloc, octets)
+}
+
+impl<'a> ReadsField<'a, DerParser> for Option<Any<'a>> {
+    ghost field_grammar = { optional_field any_number left_out_at_end (item_grammar any_element) };
+
+    ghost lawful_field = { any_option_lawful (item_grammar any_element)
+        (lawful_item any_element element_lawful) };
+
+    fn read_field(alloc: Global, octets: &'a [u8]) -> ParseResult<'a, Option<Any<'a>>, Error> {
+        any_option_by_der(alloc, octets)
+    }
+}
+
+impl<'a> ReadsField<'a, BerParser> for Option<Any<'a>> {
+    ghost field_grammar = { optional_field any_number left_out_at_end (item_grammar any_element) };
+
+    ghost lawful_field = { any_option_lawful (item_grammar any_element)
+        (lawful_item any_element element_lawful) };
+
+    fn read_field(alloc: Global, octets: &'a [u8]) -> ParseResult<'a, Option<Any<'a>>, Error> {
+        any_option_by_ber(alloc, octets)
     }
 }
 
@@ -186,12 +227,68 @@ impl FieldInHand for Any<'_> {
     }
 }
 
+impl FieldInHand for Option<Any<'_>> {
+    ghost has_a_value = { IfHeld (λ x. any_element.IsValue (any_element.value x)) };
+
+    fn field_in_hand(&self) {
+        if let Some(x) = self {
+            x.has_value();
+        }
+    }
+}
+
 impl<T: LawfulType + LawfulItem> FieldInHand for Option<T> {
     ghost has_a_value = { IfHeld (λ x. T.grammar.IsValue (T.grammar.value x)) };
 
     fn field_in_hand(&self) {
         if let Some(x) = self {
             x.has_value();
+        }
+    }
+}
+
+/// A field whose values in hand are all in DER form.
+pub trait FieldIsDer {
+    /// That its value is in DER form.
+    ghost is_in_der: { Self → Type 0 };
+
+    /// States it.
+    fn field_is_der(&self)
+        ensures { is_in_der self.now };
+}
+
+impl<T: LawfulType + AlwaysDer> FieldIsDer for T {
+    ghost is_in_der = { λ x. T.grammar.IsDer (T.grammar.value x) };
+
+    fn field_is_der(&self) {
+        self.is_der();
+    }
+}
+
+impl<T: LawfulType + AlwaysDer> FieldIsDer for Option<T> {
+    ghost is_in_der = { IfHeld (λ x. T.grammar.IsDer (T.grammar.value x)) };
+
+    fn field_is_der(&self) {
+        if let Some(x) = self {
+            x.is_der();
+        }
+    }
+}
+
+impl FieldIsDer for Any<'_> {
+    ghost is_in_der = { λ x. any_element.IsDer (any_element.value x) };
+
+    fn field_is_der(&self) {
+        self.is_der();
+    }
+}
+
+impl FieldIsDer for Option<Any<'_>> {
+    ghost is_in_der = { IfHeld (λ x. any_element.IsDer (any_element.value x)) };
+
+    fn field_is_der(&self) {
+        if let Some(x) = self {
+            x.is_der();
         }
     }
 }

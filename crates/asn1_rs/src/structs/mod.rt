@@ -61,7 +61,7 @@ impl ReadsBy for BerParser {
 /// A struct that is a sequence of its fields, in the order of its row.
 ///
 /// So it is written as its fields, one after another ([`WritesFields`]), and has [`Grammar`](crate::Grammar),
-/// [`LawfulItem`](crate::LawfulItem) and the laws of writing and of tags. It is read where it has [`ReadsStruct`].
+/// [`LawfulItem`](crate::LawfulItem) and the laws of writing and of tags. It is read where it has [`ReadsFields`].
 ///
 ///     impl LawfulStruct for Measurement {
 ///         ghost laws = { struct_of (λ m. (m.place, (m.value, (m.error, tt))))
@@ -92,54 +92,62 @@ pub trait LawfulStruct: HasKind<Kind = FieldsKind> + Sized {
         ensures { laws.row.grammar.IsValue (laws.row.grammar.value (laws.as_row self.now)) };
 }
 
-/// A struct that is read by the parser `P`: by [`DerParser`] each field is read by DER, by [`BerParser`] by BER.
+/// A struct that is read by DER, each of its fields by DER.
 ///
-///     impl<'a> ReadsStruct<'a, DerParser> for Measurement {
+///     impl<'a> ReadsFields<'a> for Measurement {
 ///         fn read_fields(alloc: Global, octets: &'a [u8]) -> Result<Measurement, Error> {
-///             let (place, (value, (error, ()))) =
-///                 <MeasurementRow as ReadsRow<'a, DerParser>>::read_row(alloc, octets)?;
+///             let (place, (value, (error, ()))) = row_by_der(alloc, octets)?;
 ///             Ok(Measurement { place, value, error })
 ///         }
 ///     }
-pub trait ReadsStruct<'a, P: ReadsBy>: LawfulStruct {
+// The rules are no parameter of the trait: of a function that reads a struct the checker would ask to name the parser.
+pub trait ReadsFields<'a>: LawfulStruct {
     /// Reads the fields, which are all of the octets. Refused as the first field that is refused, and with
     /// `TrailingOctets` where octets are left behind the last one.
     fn read_fields(alloc: Global, octets: &'a [u8]) -> Result<Self, Error>
-        ensures { AnswersStruct P.rules Self.laws octets.now result };
+        ensures { AnswersStruct by_der Self.laws octets.now result };
+}
+
+/// A struct that is read by BER, each of its fields by BER: as [`ReadsFields`], with [`row_by_ber`](row::row_by_ber).
+pub trait ReadsFieldsByBer<'a>: LawfulStruct {
+    /// Reads the fields, which are all of the octets. Refused as the first field that is refused, and with
+    /// `TrailingOctets` where octets are left behind the last one.
+    fn read_fields_by_ber(alloc: Global, octets: &'a [u8]) -> Result<Self, Error>
+        ensures { AnswersStruct by_ber Self.laws octets.now result };
 }
 
 /// The reader by DER of structs.
 #[derive(Debug)]
 pub struct StructReader;
 
-/// The struct that an element is: its tag number is looked at, then its constructed bit; then its fields are read.
-fn struct_of_element<'a, T: ReadsStruct<'a, P>, P: ReadsBy>(
-    alloc: Global,
-    any: &Any<'a>,
-) -> Result<T, Error>
-    ensures { StructGives (AnswersStruct P.rules T.laws) any.now result }
-{
-    ConstructedForm::assert_form(Tag::Sequence.0, any)?;
-    T::read_fields(alloc, any.content)
-}
-
-impl<'a, T: ReadsStruct<'a, BerParser>> FromAnyBy<'a, FieldsKind> for T {
+/// The tag number is looked at, then the constructed bit; then the fields are read by BER.
+impl<'a, T: ReadsFieldsByBer<'a>> FromAnyBy<'a, FieldsKind> for T {
     type Refusal = Error;
 
     ghost gives_by_kind = { StructGives (AnswersStruct by_ber T.laws) };
 
     fn convert_by_kind(alloc: Global, any: Any<'a>) -> Result<T, Error> {
-        struct_of_element::<T, BerParser>(alloc, &any)
+        ConstructedForm::assert_form(Tag::Sequence.0, &any)?;
+        T::read_fields_by_ber(alloc, any.content)
     }
 }
 
-impl<'a, T: ReadsStruct<'a, DerParser>> FromDerBy<'a, StructReader, Error> for T {
+/// The struct that an element is, by DER.
+fn struct_of_element<'a, T: ReadsFields<'a>>(alloc: Global, any: &Any<'a>) -> Result<T, Error>
+    ensures { StructGives (AnswersStruct by_der T.laws) any.now result }
+{
+    ConstructedForm::assert_form(Tag::Sequence.0, any)?;
+    T::read_fields(alloc, any.content)
+}
+
+/// The same by DER, behind the element.
+impl<'a, T: ReadsFields<'a>> FromDerBy<'a, StructReader, Error> for T {
     ghost gives_by_reader = { DerGives PassesAll (StructGives (AnswersStruct by_der T.laws))
         (λ x y. y ≡ x) };
 
     fn read_by_der(alloc: Global, bytes: &'a [u8]) -> ParseResult<'a, T, Error> {
         let (rest, any) = converted(element_by_der(bytes))?;
-        match struct_of_element::<T, DerParser>(alloc, &any) {
+        match struct_of_element::<T>(alloc, &any) {
             Ok(value) => Ok((rest, value)),
             Err(e) => Err(Err::Error(e)),
         }
@@ -178,7 +186,7 @@ impl<T: LawfulStruct> LawfulItemBy<FieldsKind> for T {
     }
 }
 
-impl<'a, T: ReadsStruct<'a, BerParser>> LawfulBodyBy<'a, FieldsKind, Error> for T {
+impl<'a, T: ReadsFieldsByBer<'a>> LawfulBodyBy<'a, FieldsKind, Error> for T {
     ghost exact_by_kind = { struct_exact by_ber T.laws };
 
     ghost no_memory_by_kind = { struct_quiet by_ber T.laws };
@@ -190,7 +198,7 @@ impl<T: LawfulStruct> LawfulCheckBy<FieldsKind> for T {
 
 impl<'a, T> LawfulDerBy<'a, StructReader, Error> for T
 where
-    T: ReadsStruct<'a, DerParser> + HasReader<Reader = StructReader>,
+    T: ReadsFields<'a> + HasReader<Reader = StructReader>,
 {
     ghost exact_by_reader = { struct_by_der_exact T.laws };
 

@@ -1,13 +1,14 @@
 //! Rows of fields: pairs of a field and the row behind it, with `()` at the end.
 ghost use Rattle.std.specs.Prelude.{◌≡◌};
 ghost use Rattle.asn1_rs.specs.Fields.{taken_in};
-ghost use Rattle.asn1_rs.specs.Structs.{RowGrammar, empty_row, row_of, EndGives, RowGives, PutList, none_put, put_then, PutsAll};
+ghost use Rattle.asn1_rs.specs.Structs.{RowGrammar, by_der, by_ber, empty_row, row_of, EndGives, RowGives, PutList, none_put, put_then, PutsAll};
 ghost use Rattle.asn1_rs.specs.Structs.Data.{LawfulRowOf, AnswersField, AnswersRow, end_row, then_row};
 
 use crate::kinds::fields::Fields;
 use crate::structs::ReadsBy;
-use crate::structs::field::{FieldInHand, FieldType, ReadsField};
+use crate::structs::field::{FieldInHand, FieldIsDer, FieldType, ReadsField};
 use crate::to_der::ToDer;
+use asn1_headers::content::{BerParser, DerParser};
 use asn1_headers::error::{DerConstraint, Error, SerializeResult};
 use std::alloc::Global;
 
@@ -81,6 +82,26 @@ where
     }
 }
 
+/// The row of fields that the octets are, by DER.
+pub fn row_by_der<'a, R: ReadsRow<'a, DerParser>>(
+    alloc: Global,
+    octets: &'a [u8],
+) -> Result<R, Error>
+    ensures { AnswersRow by_der R.row_grammar octets.now result }
+{
+    R::read_row(alloc, octets)
+}
+
+/// The row of fields that the octets are, by BER.
+pub fn row_by_ber<'a, R: ReadsRow<'a, BerParser>>(
+    alloc: Global,
+    octets: &'a [u8],
+) -> Result<R, Error>
+    ensures { AnswersRow by_ber R.row_grammar octets.now result }
+{
+    R::read_row(alloc, octets)
+}
+
 /// A row of references to fields.
 // A row of the fields themselves would have to be taken out of the struct.
 pub trait BorrowedRow {
@@ -124,5 +145,38 @@ impl<'s, F: FieldInHand + ToDer, R: BorrowedRow> BorrowedRow for (&'s F, R) {
     fn each_in_hand(&self) {
         self.0.field_in_hand();
         self.1.each_in_hand();
+    }
+}
+
+/// A row of references to fields whose values in hand are all in DER form.
+///
+/// So a struct of such fields has [`AlwaysDer`](crate::AlwaysDer):
+///
+///     impl AlwaysDerBy<FieldsKind> for Measurement {
+///         fn der_by_kind(&self) {
+///             (&self.place, (&self.value, (&self.error, ()))).each_is_der()
+///         }
+///     }
+pub trait DerRow {
+    /// That the value of each field is in DER form.
+    ghost are_in_der: { Self → Type 0 };
+
+    /// States it.
+    fn each_is_der(&self)
+        ensures { are_in_der self.now };
+}
+
+impl DerRow for () {
+    ghost are_in_der = { λ r. Unit {0} };
+
+    fn each_is_der(&self) {}
+}
+
+impl<'s, F: FieldIsDer, R: DerRow> DerRow for (&'s F, R) {
+    ghost are_in_der = { λ r. F.is_in_der r.0.now × R.are_in_der r.1 };
+
+    fn each_is_der(&self) {
+        self.0.field_is_der();
+        self.1.each_is_der();
     }
 }

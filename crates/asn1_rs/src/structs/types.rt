@@ -1,5 +1,6 @@
 //! Which types may be fields of structs: the leaf types of the library, lists, values under explicit tags, and structs;
-//! and an element of any tag number, where no field before it may be left out.
+//! and an element of any tag number, where no field before it may be left out, or as the last one where it may be left
+//! out itself.
 ghost use Rattle.std.specs.Prelude.{refl};
 ghost use Rattle.std.proofs.Common.{lit<};
 ghost use Rattle.asn1_rs.specs.BitString.{bit_string_leaf};
@@ -24,6 +25,7 @@ ghost use Rattle.asn1_rs.specs.Structs.Data.{struct_type};
 ghost use Rattle.asn1_rs.specs.Structs.Types.{leaf_type, copying_type, unsigned_type, signed_type, utf8_type};
 ghost use Rattle.asn1_rs.specs.Structs.Types.{numeric_type, printable_type, ascii_type, visible_type, utc_time_type};
 ghost use Rattle.asn1_rs.specs.Structs.Types.{generalized_time_type, oid_type, list_type, multiset_type, explicit_type, any_field};
+ghost use Rattle.asn1_rs.specs.Structs.Types.{optional_any_field};
 
 use crate::asn1_types::any::Any;
 use crate::asn1_types::bit_string::BitString;
@@ -208,4 +210,8 @@ impl<T: LawfulStruct> LawfulType for T {
 
 impl FieldType for Any<'_> {
     ghost field_laws = { any_field };
+}
+
+impl FieldType for Option<Any<'_>> {
+    ghost field_laws = { optional_any_field };
 }

@@ -1,6 +1,6 @@
 -- Fields of lawful types are lawful, and their readers are exact.
 use Rattle.std.proofs.Common.{◌≡◌, ◌≢◌, ◌∙◌, ap, sym, subst, refl, ℕ, ◌^◌, ◌<◌, inl, inr, Bool, true, false, List, []}
-use Rattle.std.proofs.Common.{◌∷◌, ◌++◌, length, append_assoc, Option, None, Some, ◌⊎◌}
+use Rattle.std.proofs.Common.{◌∷◌, ◌++◌, ◌+◌, arith, length, length-append, append_assoc, Option, None, Some, ◌⊎◌}
 use Rattle.std.specs.Prelude.{Result, Ok, Err, IfErr, IsTrue, nat_eq}
 use Rattle.std.proofs.lemmas.Bool.{eq-eqb}
 use Rattle.std.proofs.lemmas.List.{append_cancel_left}
@@ -13,7 +13,7 @@ use Rattle.x690.specs.Elements.{AllowsStrict}
 use Rattle.x690.specs.Joined.{IsOneFront}
 use Rattle.x690.specs.Laws.Equality.{option_set}
 use Rattle.x690.specs.Laws.Octets.{octets_back, below_octets}
-use Rattle.x690.specs.Laws.Elements.{definite_element_is_octets}
+use Rattle.x690.specs.Laws.Elements.{definite_element_two, definite_element_is_octets}
 use Rattle.x690.specs.Laws.StrictElements.{der_allows_strict, ber_allows_strict}
 use Rattle.asn1_headers.specs.declared.error.Err.{Err as Refusal}
 use Rattle.asn1_headers.specs.declared.error.Error.{Error}
@@ -26,11 +26,11 @@ use Rattle.asn1_rs.specs.Laws.Forms.{strict_written, both_by_value, der_strict}
 use Rattle.asn1_rs.specs.Laws.Optional.{not_left_out}
 use Rattle.asn1_rs.specs.Laws.Readers.{none_now}
 use Rattle.asn1_rs.specs.Laws.Words.{strict_element, one_strict, ber_values, ber_one, strict_ber}
-use Rattle.asn1_rs.specs.Optional.{IsLeftOut, OptionGives, option_writing, in_some}
+use Rattle.asn1_rs.specs.Optional.{IfHeld, IsLeftOut, OptionGives, option_writing, in_some}
 use Rattle.asn1_rs.specs.ToDer.{Writing, IsWritable, whole_octets}
 use Rattle.asn1_rs.specs.Structs.{EncodingRules, by_der, by_ber, header_rule, words_by, IsCutBy, FieldGrammar, item_field}
-use Rattle.asn1_rs.specs.Structs.{optional_field, OptionTakes, OptionStrict, BeginsWithNumber, ReadsField, Numbers}
-use Rattle.asn1_rs.specs.Structs.{any_number, among, is_one_of, BeginsWithOneOf, BeginsApart}
+use Rattle.asn1_rs.specs.Structs.{optional_field, OptionTakes, OptionStrict, BeginsWithNumber, ReadsField, Numbers, left_out_by}
+use Rattle.asn1_rs.specs.Structs.{any_number, among, is_one_of, BeginsWithOneOf, BeginsApart, left_out_at_end}
 
 -- Octets give one value and leave one rest; a value has one strict octets, and these are octets. They begin with one of
 -- the tag numbers, or are none where the field may be left out; and they are taken again, with their value, before each
@@ -61,6 +61,11 @@ pub record IsLawfulPut {S : Type 0} (F : FieldGrammar S) (w : Writing S) : Type 
       ∥ F.Strict (F.value x) (whole_octets w x) ∥₁
   pub der_writable : (x : S) → F.IsDer (F.value x) → IsWritable w x
 
+-- strict encodings begin with a header of one of these numbers, by both rules
+abbrev pub StrictBegins : {V : Type 0} → (V → Identifier → List ℕ → Type 0) → Numbers → Type 0
+StrictBegins {V} Form numbers = (rules : EncodingRules) (v : V) (o rest : List ℕ) → IsStrict Form v o →
+    BeginsWithOneOf (header_rule rules) numbers (o ++ rest)
+
 -- both rules allow strict headers
 pub allows_strict : (rules : EncodingRules) → AllowsStrict (header_rule rules)
 allows_strict by_der = der_allows_strict
@@ -85,7 +90,7 @@ apart_leaves_out rule n octets (inr (m, begins, none)) = inr (record {
   other = λ same. is_the_only_one n m none (sym begins.number_is ∙ same);
 })
 
-module _ {S : Type 0} (number : ℕ) (G : ItemGrammar S) (l : IsLawfulItem G) where
+module _ {S : Type 0} (G : ItemGrammar S) (l : IsLawfulItem G) where
   -- The words of a lawful type by either rules.
 
   word_values : (rules : EncodingRules) (o : List ℕ) (v : G.Value) → words_by rules G o v → G.IsValue v
@@ -118,35 +123,13 @@ module _ {S : Type 0} (number : ℕ) (G : ItemGrammar S) (l : IsLawfulItem G) wh
   strict_are_octets v o s =
       definite_element_is_octets der_rule o _ (strict_element der_rule der_allows_strict G.Form v o s)
 
-  -- and begin with a header of their tag number
-  strict_begins : FormNumber G.Form number → (rules : EncodingRules) (v : G.Value) (o rest : List ℕ) →
-      IsStrict G.Form v o → BeginsWithNumber (header_rule rules) number (o ++ rest)
-  strict_begins numbered rules v o rest s =
-      let element = strict_element (header_rule rules) (allows_strict rules) G.Form v o s in record {
-        header = element.header;
-        rest = s.content ++ rest;
-        id = s.id;
-        form = definite (length s.content);
-        header_is = element.header_is;
-        is = ap (λ (ys : List ℕ). ys ++ rest) element.is ∙ append_assoc element.header s.content rest;
-        number_is = numbered v s.id s.content s.form;
-      }
-
   -- they are words before any rest
   strict_front : (rules : EncodingRules) (v : G.Value) (o rest : List ℕ) → IsStrict G.Form v o →
       Front (words_by rules G) (o ++ rest) v rest
   strict_front rules v o rest s = record { word = o; fits = strict_word rules v o s; is = refl }
 
-  -- so the one number is among those of the field
-  strict_begins_with : FormNumber G.Form number → (rules : EncodingRules) (v : G.Value) (o rest : List ℕ) →
-      IsStrict G.Form v o → BeginsWithOneOf (header_rule rules) (among (number ∷ [])) (o ++ rest)
-  strict_begins_with numbered rules v o rest s =
-      let e : nat_eq number number ≡ true = eq-eqb number number refl in
-      (number, strict_begins numbered rules v o rest s, rw e refl)
-
   -- A field of a lawful type is lawful, if its strict encodings begin with one of its tag numbers.
-  item_lawful : (numbers : Numbers) → ((rules : EncodingRules) (v : G.Value) (o rest : List ℕ) → IsStrict G.Form v o →
-      BeginsWithOneOf (header_rule rules) numbers (o ++ rest)) → IsLawfulField (item_field numbers G)
+  pub item_lawful : (numbers : Numbers) → StrictBegins G.Form numbers → IsLawfulField (item_field numbers G)
   item_lawful numbers begins = record {
     one_equality = l.one_equality;
     values = λ rules o v r f. word_values rules f.word v f.fits;
@@ -160,91 +143,84 @@ module _ {S : Type 0} (number : ℕ) (G : ItemGrammar S) (l : IsLawfulItem G) wh
     strict_takes = λ rules v o rest s out. strict_front rules v o rest s;
   }
 
-  -- So is one of a type with a tag number.
-  pub item_field_lawful : FormNumber G.Form number → IsLawfulField (item_field (among (number ∷ [])) G)
-  item_field_lawful numbered = item_lawful (among (number ∷ [])) (strict_begins_with numbered)
-
-  -- And one of a type that looks at no tag number.
-  pub any_field_lawful : IsLawfulField (item_field any_number G)
-  any_field_lawful = item_lawful any_number (λ rules v o rest s. tt)
-
   -- Of an optional one each law is one of the two values.
 
-  abbrev Takes : EncodingRules → List ℕ → Option G.Value → List ℕ → Type 0
-  Takes rules = OptionTakes number (header_rule rules) (words_by rules G)
+  module _ (numbers : Numbers) (LeftOut : EncodingRules → List ℕ → Type 0) where
+    abbrev Takes : EncodingRules → List ℕ → Option G.Value → List ℕ → Type 0
+    Takes rules = OptionTakes (LeftOut rules) (words_by rules G)
 
-  option_values : (rules : EncodingRules) (o : List ℕ) (v : Option G.Value) (r : List ℕ) → Takes rules o v r →
-      (optional_field number G).IsValue v
-  option_values rules o None r t = tt
-  option_values rules o (Some v) r t = word_values rules t.1.word v t.1.fits
+    option_values : (rules : EncodingRules) (o : List ℕ) (v : Option G.Value) (r : List ℕ) → Takes rules o v r →
+        (optional_field numbers LeftOut G).IsValue v
+    option_values rules o None r t = tt
+    option_values rules o (Some v) r t = word_values rules t.1.word v t.1.fits
 
-  option_one : (rules : EncodingRules) (o : List ℕ) (v w : Option G.Value) (r s : List ℕ) → Takes rules o v r →
-      Takes rules o w s → (v ≡ w) × (r ≡ s)
-  option_one rules o None None r s t u = (refl, t.1 ∙ sym u.1)
-  option_one rules o None (Some w) r s t u = absurd (u.0 t.0)
-  option_one rules o (Some v) None r s t u = absurd (t.0 u.0)
-  option_one rules o (Some v) (Some w) r s t u =
-      let same = front_one rules o v w r s t.1 u.1 in
-      (ap Some same.0, same.1)
+    option_one : (rules : EncodingRules) (o : List ℕ) (v w : Option G.Value) (r s : List ℕ) → Takes rules o v r →
+        Takes rules o w s → (v ≡ w) × (r ≡ s)
+    option_one rules o None None r s t u = (refl, t.1 ∙ sym u.1)
+    option_one rules o None (Some w) r s t u = absurd (u.0 t.0)
+    option_one rules o (Some v) None r s t u = absurd (t.0 u.0)
+    option_one rules o (Some v) (Some w) r s t u =
+        let same = front_one rules o v w r s t.1 u.1 in
+        (ap Some same.0, same.1)
 
-  option_back : (rules : EncodingRules) (o : List ℕ) (v : Option G.Value) (r : List ℕ) → IsOctets o →
-      Takes rules o v r → IsOctets r
-  option_back rules o None r k t = subst IsOctets (sym t.1) k
-  option_back rules o (Some v) r k t = front_back rules o v r k t.1
+    option_back : (rules : EncodingRules) (o : List ℕ) (v : Option G.Value) (r : List ℕ) → IsOctets o →
+        Takes rules o v r → IsOctets r
+    option_back rules o None r k t = subst IsOctets (sym t.1) k
+    option_back rules o (Some v) r k t = front_back rules o v r k t.1
 
-  option_strict_one : (v : Option G.Value) (o p : List ℕ) → OptionStrict G.Form v o → OptionStrict G.Form v p → o ≡ p
-  option_strict_one None o p s t = s ∙ sym t
-  option_strict_one (Some v) o p s t = one_strict G.Form l.one_form v o p s t
+    option_strict_one : (v : Option G.Value) (o p : List ℕ) → OptionStrict G.Form v o → OptionStrict G.Form v p → o ≡ p
+    option_strict_one None o p s t = s ∙ sym t
+    option_strict_one (Some v) o p s t = one_strict G.Form l.one_form v o p s t
 
-  option_strict_values : (v : Option G.Value) (o : List ℕ) → OptionStrict G.Form v o →
-      (optional_field number G).IsValue v
-  option_strict_values None o s = tt
-  option_strict_values (Some v) o s = l.form_values v s.id s.content s.form
+    option_strict_values : (v : Option G.Value) (o : List ℕ) → OptionStrict G.Form v o →
+        (optional_field numbers LeftOut G).IsValue v
+    option_strict_values None o s = tt
+    option_strict_values (Some v) o s = l.form_values v s.id s.content s.form
 
-  option_strict_der : (v : Option G.Value) (o : List ℕ) → OptionStrict G.Form v o →
-      (optional_field number G).IsDer v
-  option_strict_der None o s = tt
-  option_strict_der (Some v) o s = l.form_der v s.id s.content s.form
+    option_strict_der : (v : Option G.Value) (o : List ℕ) → OptionStrict G.Form v o →
+        (optional_field numbers LeftOut G).IsDer v
+    option_strict_der None o s = tt
+    option_strict_der (Some v) o s = l.form_der v s.id s.content s.form
 
-  no_octets : (o : List ℕ) → o ≡ [] → IsOctets o
-  no_octets o e = subst IsOctets (sym e) (below_octets [] tt)
+    no_octets : (o : List ℕ) → o ≡ [] → IsOctets o
+    no_octets o e = subst IsOctets (sym e) (below_octets [] tt)
 
-  option_strict_octets : (v : Option G.Value) (o : List ℕ) → OptionStrict G.Form v o → IsOctets o
-  option_strict_octets None o s = no_octets o s
-  option_strict_octets (Some v) o s = strict_are_octets v o s
+    option_strict_octets : (v : Option G.Value) (o : List ℕ) → OptionStrict G.Form v o → IsOctets o
+    option_strict_octets None o s = no_octets o s
+    option_strict_octets (Some v) o s = strict_are_octets v o s
 
-  module _ (numbered : FormNumber G.Form number) where
-    option_begins : (rules : EncodingRules) (v : Option G.Value) (o rest : List ℕ) → OptionStrict G.Form v o →
-        ((o ≡ []) × (true ≡ true)) ⊎ BeginsWithOneOf (header_rule rules) (among (number ∷ [])) (o ++ rest)
-    option_begins rules None o rest s = inl (s, refl)
-    option_begins rules (Some v) o rest s = inr (strict_begins_with numbered rules v o rest s)
+    module _ (begins : StrictBegins G.Form numbers)
+        (stays : (rules : EncodingRules) (v : G.Value) (o rest : List ℕ) → IsStrict G.Form v o →
+        LeftOut rules (o ++ rest) → ⊥)
+        (leaves : (rules : EncodingRules) (rest : List ℕ) → BeginsApart (header_rule rules) numbers rest →
+        LeftOut rules rest) where
+      option_begins : (rules : EncodingRules) (v : Option G.Value) (o rest : List ℕ) → OptionStrict G.Form v o →
+          ((o ≡ []) × (true ≡ true)) ⊎ BeginsWithOneOf (header_rule rules) numbers (o ++ rest)
+      option_begins rules None o rest s = inl (s, refl)
+      option_begins rules (Some v) o rest s = inr (begins rules v o rest s)
 
-    option_takes : (rules : EncodingRules) (v : Option G.Value) (o rest : List ℕ) → OptionStrict G.Form v o →
-        IsLeftOut (header_rule rules) number rest → Takes rules (o ++ rest) v rest
-    option_takes rules None o rest s out =
-        let e : o ++ rest ≡ rest = ap (λ (z : List ℕ). z ++ rest) s in
-        (subst (IsLeftOut (header_rule rules) number) (sym e) out, sym e)
-    option_takes rules (Some v) o rest s out =
-        let b = strict_begins numbered rules v o rest s in (
-          not_left_out (header_rule rules) (o ++ rest) b.header b.rest b.id b.form number b.header_is b.is b.number_is,
-          strict_front rules v o rest s,
-        )
+      option_takes : (rules : EncodingRules) (v : Option G.Value) (o rest : List ℕ) → OptionStrict G.Form v o →
+          LeftOut rules rest → Takes rules (o ++ rest) v rest
+      option_takes rules None o rest s out =
+          let e : o ++ rest ≡ rest = ap (λ (z : List ℕ). z ++ rest) s in
+          (subst (LeftOut rules) (sym e) out, sym e)
+      option_takes rules (Some v) o rest s out = (stays rules v o rest s, strict_front rules v o rest s)
 
-    -- An optional field of a lawful type with a tag number is lawful.
-    pub optional_field_lawful : IsLawfulField (optional_field number G)
-    optional_field_lawful = record {
-      one_equality = option_set l.one_equality;
-      values = option_values;
-      one = option_one;
-      back = option_back;
-      strict_one = option_strict_one;
-      strict_values = option_strict_values;
-      strict_der = option_strict_der;
-      strict_octets = option_strict_octets;
-      begins = option_begins;
-      strict_takes = λ rules v o rest s out.
-          option_takes rules v o rest s (apart_leaves_out (header_rule rules) number rest (out refl));
-    }
+      -- An optional field of a lawful type is lawful, if its strict encodings do not say that it is left out, and what
+      -- begins with another number does.
+      pub option_lawful : IsLawfulField (optional_field numbers LeftOut G)
+      option_lawful = record {
+        one_equality = option_set l.one_equality;
+        values = option_values;
+        one = option_one;
+        back = option_back;
+        strict_one = option_strict_one;
+        strict_values = option_strict_values;
+        strict_der = option_strict_der;
+        strict_octets = option_strict_octets;
+        begins = option_begins;
+        strict_takes = λ rules v o rest s out. option_takes rules v o rest s (leaves rules rest (out refl));
+      }
 
   -- Writing.
 
@@ -278,20 +254,21 @@ module _ {S : Type 0} (number : ℕ) (G : ItemGrammar S) (l : IsLawfulItem G) wh
     option_strict_put None o s = ((λ e h. h, λ e h. h, λ e h. h), sym s)
     option_strict_put (Some x) o s = strict_written G.value G.Form w k.form x o s
 
-    option_der_strict : (x : Option S) → (optional_field number G).IsDer (option_map G.value x) →
+    option_der_strict : (x : Option S) → IfHeld G.IsDer (option_map G.value x) →
         length (whole_octets (option_writing w) x) < 2 ^ 64 →
         ∥ OptionStrict G.Form (option_map G.value x) (whole_octets (option_writing w) x) ∥₁
     option_der_strict None d short = ∣ refl ∣₁
     option_der_strict (Some x) d short = der_strict G.value G.IsDer G.Form w k.form k.der_form l.form_fits x d short
 
-    option_der_writable : (x : Option S) → (optional_field number G).IsDer (option_map G.value x) →
+    option_der_writable : (x : Option S) → IfHeld G.IsDer (option_map G.value x) →
         IsWritable (option_writing w) x
     option_der_writable None d = (λ e h. h, λ e h. h, λ e h. h)
     option_der_writable (Some x) d = k.der_writable x d
 
     -- And so is what is written of an optional field.
-    pub optional_put : IsLawfulPut (optional_field number G) (option_writing w)
-    optional_put = record {
+    pub optional_put : (numbers : Numbers) (LeftOut : EncodingRules → List ℕ → Type 0) →
+        IsLawfulPut (optional_field numbers LeftOut G) (option_writing w)
+    optional_put numbers LeftOut = record {
       tells_all = option_tells;
       by_value = option_by_value;
       strict = option_strict_put;
@@ -314,28 +291,84 @@ module _ {S : Type 0} (number : ℕ) (G : ItemGrammar S) (l : IsLawfulItem G) wh
       | inr n ↦ inr (λ v rest f. none_now (IsCutBy rules octets) r (words_by rules G) octets n f.word rest v f.is f.fits)
     ]
 
-    option_nothing : (octets : List ℕ) → (IsLeftOut (header_rule rules) number octets → ⊥) →
-        ((v : G.Value) (rest : List ℕ) → Front (words_by rules G) octets v rest → ⊥) →
-        (v : Option G.Value) (rest : List ℕ) → Takes rules octets v rest → ⊥
-    option_nothing octets stays none None rest t = stays t.0
-    option_nothing octets stays none (Some v) rest t = none v rest t.1
+    module _ (numbers : Numbers) (LeftOut : EncodingRules → List ℕ → Type 0) where
+      option_nothing : (octets : List ℕ) → (LeftOut rules octets → ⊥) →
+          ((v : G.Value) (rest : List ℕ) → Front (words_by rules G) octets v rest → ⊥) →
+          (v : Option G.Value) (rest : List ℕ) → OptionTakes (LeftOut rules) (words_by rules G) octets v rest → ⊥
+      option_nothing octets stays none None rest t = stays t.0
+      option_nothing octets stays none (Some v) rest t = none v rest t.1
 
-    held_option : (octets : List ℕ) (its : Result (List ℕ × S) (Refusal Error)) →
-        (IsLeftOut (header_rule rules) number octets → ⊥) → ReadsField rules (item_field any_number G) octets its →
-        ReadsField rules (optional_field number G) octets (in_some its)
-    held_option octets (Ok x) stays f = (stays, f)
-    held_option octets (Err r) stays (inl m) = inl m
-    held_option octets (Err r) stays (inr none) = inr (option_nothing octets stays none)
+      held_option : (octets : List ℕ) (its : Result (List ℕ × S) (Refusal Error)) → (LeftOut rules octets → ⊥) →
+          ReadsField rules (item_field numbers G) octets its →
+          ReadsField rules (optional_field numbers LeftOut G) octets (in_some its)
+      held_option octets (Ok x) stays f = (stays, f)
+      held_option octets (Err r) stays (inl m) = inl m
+      held_option octets (Err r) stays (inr none) = inr (option_nothing octets stays none)
 
-    -- And the reader of options over it one of its optional field.
-    pub optional_reads : (octets : List ℕ) (answer : Result (List ℕ × Option S) (Refusal Error)) → IsOctets octets →
-        OptionGives (IsLeftOut (header_rule rules) number) reads octets answer →
-        ReadsField rules (optional_field number G) octets answer
-    optional_reads octets answer k (inl (out, e)) =
-        subst (ReadsField rules (optional_field number G) octets) (sym e) (out, refl)
-    optional_reads octets answer k (inr (stays, (its, g, e))) =
-        subst (ReadsField rules (optional_field number G) octets) (sym e)
-        (held_option octets its stays (item_reads any_number octets its k g))
+      -- And the reader of options over it one of its optional field.
+      pub optional_reads : (octets : List ℕ) (answer : Result (List ℕ × Option S) (Refusal Error)) → IsOctets octets →
+          OptionGives (LeftOut rules) reads octets answer →
+          ReadsField rules (optional_field numbers LeftOut G) octets answer
+      optional_reads octets answer k (inl (out, e)) =
+          subst (ReadsField rules (optional_field numbers LeftOut G) octets) (sym e) (out, refl)
+      optional_reads octets answer k (inr (stays, (its, g, e))) =
+          subst (ReadsField rules (optional_field numbers LeftOut G) octets) (sym e)
+          (held_option octets its stays (item_reads numbers octets its k g))
+
+-- Fields of types with a tag number, and of those that look at none.
+
+module _ {S : Type 0} (number : ℕ) (G : ItemGrammar S) (l : IsLawfulItem G) (numbered : FormNumber G.Form number) where
+  -- strict encodings begin with a header of the tag number
+  strict_header : (rules : EncodingRules) (v : G.Value) (o rest : List ℕ) → IsStrict G.Form v o →
+      BeginsWithNumber (header_rule rules) number (o ++ rest)
+  strict_header rules v o rest s =
+      let element = strict_element (header_rule rules) (allows_strict rules) G.Form v o s in record {
+        header = element.header;
+        rest = s.content ++ rest;
+        id = s.id;
+        form = definite (length s.content);
+        header_is = element.header_is;
+        is = ap (λ (ys : List ℕ). ys ++ rest) element.is ∙ append_assoc element.header s.content rest;
+        number_is = numbered v s.id s.content s.form;
+      }
+
+  -- which is among the numbers of the field
+  strict_begins : StrictBegins G.Form (among (number ∷ []))
+  strict_begins rules v o rest s =
+      let e : nat_eq number number ≡ true = eq-eqb number number refl in
+      (number, strict_header rules v o rest s, rw e refl)
+
+  strict_stays : (rules : EncodingRules) (v : G.Value) (o rest : List ℕ) → IsStrict G.Form v o →
+      left_out_by number rules (o ++ rest) → ⊥
+  strict_stays rules v o rest s =
+      let b = strict_header rules v o rest s in
+      not_left_out (header_rule rules) (o ++ rest) b.header b.rest b.id b.form number b.header_is b.is b.number_is
+
+  -- A field of a lawful type with a tag number is lawful.
+  pub item_field_lawful : IsLawfulField (item_field (among (number ∷ [])) G)
+  item_field_lawful = item_lawful G l (among (number ∷ [])) strict_begins
+
+  -- So is an optional one.
+  pub optional_field_lawful : IsLawfulField (optional_field (among (number ∷ [])) (left_out_by number) G)
+  optional_field_lawful = option_lawful G l (among (number ∷ [])) (left_out_by number) strict_begins strict_stays
+      (λ rules rest apart. apart_leaves_out (header_rule rules) number rest apart)
+
+module _ {S : Type 0} (G : ItemGrammar S) (l : IsLawfulItem G) where
+  -- A field of a lawful type is lawful whatever its tag numbers.
+  pub any_field_lawful : IsLawfulField (item_field any_number G)
+  any_field_lawful = item_lawful G l any_number (λ rules v o rest s. tt)
+
+  -- no strict encoding is empty
+  strict_is_some : (v : G.Value) (o rest : List ℕ) → IsStrict G.Form v o → o ++ rest ≢ []
+  strict_is_some v o rest s e =
+      let two = definite_element_two der_rule o _ (strict_element der_rule der_allows_strict G.Form v o s) in
+      let none : length o + length rest ≡ 0 = sym (length-append o rest) ∙ ap length e in
+      absurd (omega (arith, two, none))
+
+  -- So is an optional one, which is left out at the end.
+  pub any_option_lawful : IsLawfulField (optional_field any_number left_out_at_end G)
+  any_option_lawful = option_lawful G l any_number left_out_at_end (λ rules v o rest s. tt)
+      (λ rules v o rest s. strict_is_some v o rest s) (λ rules rest apart. apart)
 
 -- where the reader of a type does not report out of memory, that of options does not
 pub optional_no_memory : {T : Type 0} (LeftOut : List ℕ → Type 0)

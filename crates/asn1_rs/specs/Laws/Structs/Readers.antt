@@ -8,17 +8,25 @@ use Rattle.asn1_headers.specs.declared.error.Error.{Error}
 use Rattle.asn1_headers.specs.declared.error.Error.TheVariants as errors
 use Rattle.asn1_headers.specs.Answers.{Exactly, IsOther, TellsMemory}
 use Rattle.asn1_headers.specs.Error.{HeldIn}
-use Rattle.asn1_headers.specs.Header.Reading.{der_breach}
+use Rattle.asn1_headers.specs.Header.Reading.{der_breach, ber_breach}
 use Rattle.x690.specs.Elements.{IsDerElement}
 use Rattle.x690.specs.Faults.{DerElementFault}
 use Rattle.asn1_rs.specs.declared.asn1_types.any.Any.{Any}
 use Rattle.asn1_rs.specs.Any.{parts_of}
-use Rattle.asn1_rs.specs.Grammar.{TakesBody}
-use Rattle.asn1_rs.specs.Grammar.Item.{ItemGrammar, IsLawfulItem}
+use Rattle.asn1_rs.specs.Grammar.{NoCheck, TakesBody}
+use Rattle.asn1_rs.specs.Grammar.Item.{ItemGrammar, IsLawfulItem, ber_words}
 use Rattle.asn1_rs.specs.Laws.Readers.{unchecked_exact, element_no_memory, der_breach_no_memory, all_pass}
-use Rattle.asn1_rs.specs.Optional.{IsLeftOut, OptionGives}
-use Rattle.asn1_rs.specs.Traits.{DerGives, PassesAll}
-use Rattle.asn1_rs.specs.Structs.{EncodingRules, by_der, header_rule, words_by, IsCutBy, FieldGrammar, RowGrammar}
+use Rattle.asn1_rs.specs.Laws.Readers.{element_exact, der_elements, ber_elements, ber_breach_no_memory, passes_all}
+use Rattle.asn1_rs.specs.Laws.Kinds.{lawful_item, other_error}
+use Rattle.asn1_rs.specs.Laws.Any.Value.{element_lawful, element_checks, element_converts}
+use Rattle.asn1_rs.specs.Any.{IsDefiniteOr, IsTheElement}
+use Rattle.asn1_rs.specs.Any.Value.{any_element}
+use Rattle.asn1_rs.specs.Kinds.{item_grammar}
+use Rattle.asn1_headers.specs.Ber.{max_depth, EndsWithin}
+use Rattle.x690.specs.Nested.{IsElement, ElementFault}
+use Rattle.asn1_rs.specs.Optional.{IsAtEnd, OptionGives}
+use Rattle.asn1_rs.specs.Traits.{BerGives, DerGives, PassesAll}
+use Rattle.asn1_rs.specs.Structs.{EncodingRules, by_der, by_ber, any_number, left_out_at_end, words_by, IsCutBy, FieldGrammar, RowGrammar}
 use Rattle.asn1_rs.specs.Structs.{Numbers, item_field, optional_field, empty_row, row_of, EndGives, RowGives, StructBody, StructGives}
 use Rattle.asn1_rs.specs.Structs.Data.{AnswersField, AnswersRow, AnswersStruct, LawfulStructOf, grammar_of_struct}
 use Rattle.asn1_rs.specs.Laws.Structs.Fields.{IsLawfulField, item_reads, optional_reads, optional_no_memory}
@@ -52,7 +60,7 @@ end_answers rules octets (Err e) g = record {
   no_memory = λ none. end_no_memory octets e g;
 }
 
-module _ {S : Type 0} (rules : EncodingRules) (n : ℕ) (G : ItemGrammar S) (l : IsLawfulItem G)
+module _ {S : Type 0} (rules : EncodingRules) (G : ItemGrammar S) (l : IsLawfulItem G)
     (reads : List ℕ → Result (List ℕ × S) (Refusal Error) → Type 0)
     (exact : (octets : List ℕ) (answer : Result (List ℕ × S) (Refusal Error)) → IsOctets octets → reads octets answer →
     Exactly (IsCutBy rules) (words_by rules G) G.value (TellsMemory G.allocates (λ (x y : Error). y ≡ x)) octets answer)
@@ -62,18 +70,46 @@ module _ {S : Type 0} (rules : EncodingRules) (n : ℕ) (G : ItemGrammar S) (l :
   pub item_answers : (numbers : Numbers) (octets : List ℕ) (answer : Result (List ℕ × S) (Refusal Error)) →
       reads octets answer → AnswersField rules (item_field numbers G) octets answer
   item_answers numbers octets answer g = record {
-    exact = λ k. item_reads n G l rules reads exact numbers octets answer k g;
+    exact = λ k. item_reads G l rules reads exact numbers octets answer k g;
     no_memory = λ none. quiet none octets answer g;
   }
 
   -- And its reader of options as its optional field.
-  pub option_answers : (octets : List ℕ) (answer : Result (List ℕ × Option S) (Refusal Error)) →
-      OptionGives (IsLeftOut (header_rule rules) n) reads octets answer →
-      AnswersField rules (optional_field n G) octets answer
-  option_answers octets answer g = record {
-    exact = λ k. optional_reads n G l rules reads exact octets answer k g;
-    no_memory = λ none. optional_no_memory (IsLeftOut (header_rule rules) n) reads (quiet none) octets answer g;
+  pub option_answers : (numbers : Numbers) (LeftOut : EncodingRules → List ℕ → Type 0) (octets : List ℕ)
+      (answer : Result (List ℕ × Option S) (Refusal Error)) → OptionGives (LeftOut rules) reads octets answer →
+      AnswersField rules (optional_field numbers LeftOut G) octets answer
+  option_answers numbers LeftOut octets answer g = record {
+    exact = λ k. optional_reads G l rules reads exact numbers LeftOut octets answer k g;
+    no_memory = λ none. optional_no_memory (LeftOut rules) reads (quiet none) octets answer g;
   }
+
+-- An element of any tag number that may be left out is read exactly, by DER.
+pub any_option_answers_by_der : (octets : List ℕ) (answer : Result (List ℕ × Option Any) (Refusal Error)) →
+    OptionGives IsAtEnd (DerGives IsDefiniteOr IsTheElement (λ (x y : Error). y ≡ x)) octets answer →
+    AnswersField by_der (optional_field any_number left_out_at_end (item_grammar any_element)) octets answer
+any_option_answers_by_der =
+    option_answers by_der (item_grammar any_element) (lawful_item any_element element_lawful)
+    (DerGives IsDefiniteOr IsTheElement (λ (x y : Error). y ≡ x))
+    (λ octets answer k g. element_exact IsDerElement DerElementFault IsCutIdentifier der_elements der_breach IsDefiniteOr
+    IsTheElement (λ (x y : Error). y ≡ x) any_element.Check any_element.Body any_element.value any_element.allocates
+    (item_grammar any_element).Der element_checks.exact element_converts.exact (λ o v w. w) (λ o v w. w) octets answer g)
+    (λ none. element_no_memory IsDerElement DerElementFault der_breach der_breach_no_memory IsDefiniteOr IsTheElement
+    (λ (x y : Error). y ≡ x) element_checks.asks_no_memory
+    (other_error IsTheElement (element_converts.asks_no_memory none))) any_number left_out_at_end
+
+-- And by BER.
+pub any_option_answers_by_ber : (octets : List ℕ) (answer : Result (List ℕ × Option Any) (Refusal Error)) →
+    OptionGives IsAtEnd (BerGives IsTheElement (λ (x y : Error). y ≡ x)) octets answer →
+    AnswersField by_ber (optional_field any_number left_out_at_end (item_grammar any_element)) octets answer
+any_option_answers_by_ber =
+    option_answers by_ber (item_grammar any_element) (lawful_item any_element element_lawful)
+    (BerGives IsTheElement (λ (x y : Error). y ≡ x))
+    (λ octets answer k g. element_exact (IsElement max_depth) (ElementFault max_depth) EndsWithin ber_elements ber_breach
+    PassesAll IsTheElement (λ (x y : Error). y ≡ x) NoCheck any_element.Body any_element.value any_element.allocates
+    (ber_words (item_grammar any_element)) passes_all element_converts.exact (λ o v w. w) (λ o v w. w) octets answer g)
+    (λ none. element_no_memory (IsElement max_depth) (ElementFault max_depth) ber_breach ber_breach_no_memory PassesAll
+    IsTheElement (λ (x y : Error). y ≡ x) all_pass (other_error IsTheElement (element_converts.asks_no_memory none)))
+    any_number left_out_at_end
 
 module _ {T : Type 0} (rules : EncodingRules) (X : LawfulStructOf T) where
   -- The conversion of an element to a struct is exact.

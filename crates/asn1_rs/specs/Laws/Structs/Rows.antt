@@ -106,7 +106,10 @@ begins_behind rule (among ns) (among ms) octets (m, b, h) = (m, b, second_list m
 -- and those that begin among numbers apart from these begin apart from these
 among_begins_apart : (rule : Rule) (own behind : Numbers) (octets : List ℕ) → are_apart own behind ≡ true →
     BeginsAmong rule behind octets → BeginsApart rule own octets
-among_begins_apart rule any_number behind octets apart b = absurd (cc)
+among_begins_apart rule any_number (among []) octets apart (inl e) = e
+among_begins_apart rule any_number (among []) octets apart (inr (m, b, h)) = absurd (cc)
+among_begins_apart rule any_number (among (n ∷ ns)) octets apart b = absurd (cc)
+among_begins_apart rule any_number any_number octets apart b = absurd (cc)
 among_begins_apart rule (among ns) any_number octets apart b = absurd (cc)
 among_begins_apart rule (among ns) (among ms) octets apart (inl e) = inl e
 among_begins_apart rule (among ns) (among ms) octets apart (inr (m, b, h)) =

@@ -7,5 +7,5 @@ use Rattle.asn1_rs.proofs.structs.field.item_by_der.Goals as goal
 pub returns : goal.returns
 returns g c numbers =
     let exact = g.met.T.LawfulDer c.lifetimes (search rules) in
-    item_answers by_der 0 g.T.Grammar.grammar g.met.T.LawfulItem.lawful_item g.T.FromDer.der_gives
+    item_answers by_der g.T.Grammar.grammar g.met.T.LawfulItem.lawful_item g.T.FromDer.der_gives
     exact.der_exact exact.der_no_memory numbers c.args.octets.now (seen c.from_der.result) c.from_der.ensures
