@@ -30,5 +30,6 @@ pub mod Set
 pub mod Kept
 pub mod Tagged
 pub mod Structs
+pub mod Whole
 pub mod InHand
 pub mod Writing

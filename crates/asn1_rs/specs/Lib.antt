@@ -30,4 +30,5 @@ pub mod Kept
 pub mod Copies
 pub mod Tagged
 pub mod Structs
+pub mod Whole
 pub mod Laws

@@ -13,6 +13,7 @@ mod structs;
 mod to_der;
 mod to_static;
 mod traits;
+mod whole;
 
 pub use asn1_headers::ber::Steps;
 pub use asn1_headers::buffer::DerBuffer;
@@ -259,4 +260,8 @@ pub use traits::FromAny;
 pub use traits::FromBer;
 pub use traits::FromDer;
 pub use traits::Tagged;
+pub use whole::from_ber_whole;
+pub use whole::from_der_whole;
+pub use whole::read_ber_whole;
+pub use whole::read_der_whole;
 pub use x690::characters::CharacterCode;

@@ -14,6 +14,7 @@ use Rattle.asn1_headers.specs.declared.error.Error.TheVariants as errors
 use Rattle.asn1_headers.specs.Answers.{TellsMemory, IsOther}
 use Rattle.asn1_headers.specs.Error.{HeldIn}
 use Rattle.asn1_rs.specs.FieldReader.{BecomesError}
+use Rattle.asn1_rs.specs.Laws.Whole.{memory_becomes}
 use Rattle.asn1_rs.specs.Structs.{EncodingRules, header_rule, FieldGrammar, RowGrammar, empty_row, row_of, Numbers}
 use Rattle.asn1_rs.specs.Structs.{any_number, among, is_one_of, have_none_in_common, are_apart, or_those, numbers_of}
 use Rattle.asn1_rs.specs.Structs.{BeginsWithOneOf, BeginsAmong, BeginsApart, is_told, EndGives, RowGives}
@@ -200,13 +201,6 @@ module _ {S R : Type 0} (F : FieldGrammar S) (G : RowGrammar R) where
   or_second : (a b : Bool) → IsTrue b → IsTrue (a || b)
   or_second true b t = refl
   or_second false b t = t
-
-  -- what tells of refused memory becomes that error
-  memory_becomes : (allocates : Bool) (r : Refusal Error) (e : Error) →
-      TellsMemory allocates (λ (x y : Error). y ≡ x) r → BecomesError r e → e ≡ errors.OutOfMemory
-  memory_becomes allocates (cut n) e m b = let t = m.1.2 in absurd (cc)
-  memory_becomes allocates (refused x) e m b = let t = m.1.1 in let u = m.1.2 in cc
-  memory_becomes allocates (failed x) e m b = let t = m.1.2 in absurd (cc)
 
   module _ (rules : EncodingRules) (f : IsLawfulField F) (first : List ℕ → Result (List ℕ × S) (Refusal Error) → Type 0)
       (others : List ℕ → Result R Error → Type 0)
