@@ -1,6 +1,8 @@
 -- What a type of items, a field, a row of fields and a struct say, with their laws in the same record. So the laws stand
 -- where a type can be quoted, and what holds a struct needs no bound on its fields.
-use Rattle.std.specs.Prelude.{◌≡◌, ◌≢◌, ℕ, true, false, List, [], ◌∷◌, Option, Result, Ok, Err, IfErr}
+use Rattle.std.specs.Prelude.{◌≡◌, ◌≢◌, ◌&&◌, ◌<◌, ◌^◌, ℕ, Bool, true, false, List, [], ◌∷◌, Option, Result, Ok, Err}
+use Rattle.std.specs.Prelude.{IfErr}
+use Rattle.std.proofs.Common.{lit<}
 use Rattle.x690.specs.Octets.{IsOctets}
 use Rattle.asn1_headers.specs.declared.error.Err.{Err as Refusal}
 use Rattle.asn1_headers.specs.declared.error.Error.{Error}
@@ -8,7 +10,7 @@ use Rattle.asn1_headers.specs.declared.error.Error.TheVariants as errors
 use Rattle.asn1_headers.specs.Answers.{IsOther}
 use Rattle.asn1_headers.specs.Error.{HeldIn}
 use Rattle.asn1_rs.specs.Fields.{FieldList, no_fields, fields_writing}
-use Rattle.asn1_rs.specs.Grammar.{FormNumber}
+use Rattle.asn1_rs.specs.Grammar.{FormNumber, FormTakes}
 use Rattle.asn1_rs.specs.Grammar.Item.{ItemGrammar, IsLawfulItem, IsLawfulWriting}
 use Rattle.asn1_rs.specs.Optional.{option_writing}
 use Rattle.asn1_rs.specs.ToDer.{Writing}
@@ -16,38 +18,48 @@ use Rattle.asn1_rs.specs.Structs.{EncodingRules, FieldGrammar, RowGrammar, item_
 use Rattle.asn1_rs.specs.Structs.{among, left_out_by, row_list, fields_by, struct_grammar, ReadsField, ReadsRow}
 use Rattle.asn1_rs.specs.Laws.Structs.Fields.{IsLawfulField, IsLawfulPut, item_field_lawful, optional_field_lawful}
 use Rattle.asn1_rs.specs.Laws.Structs.Fields.{item_put, optional_put}
-use Rattle.asn1_rs.specs.Laws.Structs.Rows.{IsLawfulRow, empty_lawful, row_lawful}
-use Rattle.asn1_rs.specs.Laws.Structs.Structs.{struct_lawful, struct_number}
+use Rattle.asn1_rs.specs.Laws.Structs.Rows.{IsLawfulRow, empty_lawful, row_lawful, first_holds, second_holds}
+use Rattle.asn1_rs.specs.Laws.Structs.Structs.{struct_lawful, struct_number, struct_takes_class}
 use Rattle.asn1_rs.specs.Laws.Structs.Writing.{IsLawfulPuts, empty_puts, row_puts, struct_lawful_writing}
 
--- a type of lawful items with a tag number
+-- A type of items with a tag number, and which classes of implicit tags may stand over it. Its laws hold where it is
+-- sound, as a value under an implicit tag is where its type takes the class of the tag.
 pub record LawfulTypeOf (S : Type 0) : Type 1 where
   pub number : ℕ
   pub grammar : ItemGrammar S
   pub writing : Writing S
-  pub lawful : IsLawfulItem grammar
+  pub takes : ℕ → Bool
+  pub sound : Bool
+  pub lawful : sound ≡ true → IsLawfulItem grammar
   pub numbered : FormNumber grammar.Form number
-  pub written : IsLawfulWriting grammar writing
+  pub fits : number < 2 ^ 32
+  pub written : sound ≡ true → IsLawfulWriting grammar writing
+  pub takes_class : sound ≡ true → (class : ℕ) → takes class ≡ true →
+      FormTakes grammar.Form grammar.Check grammar.Body class
 
 -- a field
 pub record LawfulFieldOf (S : Type 0) : Type 1 where
   pub grammar : FieldGrammar S
   pub writing : Writing S
-  pub lawful : IsLawfulField grammar
-  pub put : IsLawfulPut grammar writing
+  pub sound : Bool
+  pub lawful : sound ≡ true → IsLawfulField grammar
+  pub put : sound ≡ true → IsLawfulPut grammar writing
 
 -- a row of fields
 pub record LawfulRowOf (S : Type 0) : Type 1 where
   pub grammar : RowGrammar S
   pub list : FieldList S
-  pub lawful : IsLawfulRow grammar
-  pub puts : IsLawfulPuts grammar list
+  pub sound : Bool
+  pub lawful : sound ≡ true → IsLawfulRow grammar
+  pub puts : sound ≡ true → IsLawfulPuts grammar list
 
 -- what has a row of fields, each optional one of which is told from what may follow it
 pub record LawfulStructOf (T : Type 0) : Type 1 where
   pub Row : Type 0
   pub as_row : T → Row
   pub row : LawfulRowOf Row
+  pub lawful : IsLawfulRow row.grammar
+  pub puts : IsLawfulPuts row.grammar row.list
   pub told : row.grammar.told ≡ true
 
 -- a required field
@@ -55,8 +67,9 @@ abbrev pub field_of : {S : Type 0} → LawfulTypeOf S → LawfulFieldOf S
 field_of T = record {
   grammar = item_field (among (T.number ∷ [])) T.grammar;
   writing = T.writing;
-  lawful = item_field_lawful T.number T.grammar T.lawful T.numbered;
-  put = item_put T.grammar T.lawful T.writing T.written (among (T.number ∷ []));
+  sound = T.sound;
+  lawful = λ s. item_field_lawful T.number T.grammar (T.lawful s) T.numbered;
+  put = λ s. item_put T.grammar (T.lawful s) T.writing (T.written s) (among (T.number ∷ []));
 }
 
 -- an optional field
@@ -64,26 +77,45 @@ abbrev pub optional_of : {S : Type 0} → LawfulTypeOf S → LawfulFieldOf (Opti
 optional_of T = record {
   grammar = optional_field (among (T.number ∷ [])) (left_out_by T.number) T.grammar;
   writing = option_writing T.writing;
-  lawful = optional_field_lawful T.number T.grammar T.lawful T.numbered;
-  put = optional_put T.grammar T.lawful T.writing T.written (among (T.number ∷ [])) (left_out_by T.number);
+  sound = T.sound;
+  lawful = λ s. optional_field_lawful T.number T.grammar (T.lawful s) T.numbered;
+  put = λ s. optional_put T.grammar (T.lawful s) T.writing (T.written s) (among (T.number ∷ []))
+      (left_out_by T.number);
 }
 
 -- no fields
 abbrev pub end_row : LawfulRowOf (Unit {0})
-end_row = record { grammar = empty_row; list = no_fields; lawful = empty_lawful; puts = empty_puts }
+end_row = record {
+  grammar = empty_row;
+  list = no_fields;
+  sound = true;
+  lawful = λ s. empty_lawful;
+  puts = λ s. empty_puts;
+}
 
 -- a field and the others behind it
 abbrev pub then_row : {S R : Type 0} → LawfulFieldOf S → LawfulRowOf R → LawfulRowOf (S × R)
 then_row F R = record {
   grammar = row_of F.grammar R.grammar;
   list = row_list F.writing R.list;
-  lawful = row_lawful F.grammar R.grammar F.lawful R.lawful;
-  puts = row_puts F.grammar F.writing F.put R.grammar R.list R.puts;
+  sound = F.sound && R.sound;
+  lawful = λ s. row_lawful F.grammar R.grammar (F.lawful (first_holds F.sound R.sound s))
+      (R.lawful (second_holds F.sound R.sound s));
+  puts = λ s. row_puts F.grammar F.writing (F.put (first_holds F.sound R.sound s)) R.grammar R.list
+      (R.puts (second_holds F.sound R.sound s));
 }
 
--- a struct of a row
-abbrev pub struct_of : {T S : Type 0} → (T → S) → (R : LawfulRowOf S) → R.grammar.told ≡ true → LawfulStructOf T
-struct_of {S} as_row R told = record { Row = S; as_row = as_row; row = R; told = told }
+-- A struct of a row. Each of its fields is sound, and each optional one is told.
+abbrev pub struct_of : {T S : Type 0} → (T → S) → (R : LawfulRowOf S) → (R.sound && R.grammar.told) ≡ true →
+    LawfulStructOf T
+struct_of {T} {S} as_row R holds = record {
+  Row = S;
+  as_row = as_row;
+  row = R;
+  lawful = R.lawful (first_holds R.sound R.grammar.told holds);
+  puts = R.puts (first_holds R.sound R.grammar.told holds);
+  told = second_holds R.sound R.grammar.told holds;
+}
 
 -- its grammar, and how it is written
 abbrev pub grammar_of_struct : {T : Type 0} → LawfulStructOf T → ItemGrammar T
@@ -98,9 +130,13 @@ struct_type T = record {
   number = 16;
   grammar = grammar_of_struct T;
   writing = writing_of_struct T;
-  lawful = struct_lawful T.row.grammar T.row.lawful T.told T.as_row;
+  takes = λ class. true;
+  sound = true;
+  lawful = λ s. struct_lawful T.row.grammar T.lawful T.told T.as_row;
   numbered = struct_number T.row.grammar;
-  written = struct_lawful_writing T.as_row T.row.grammar T.row.list T.row.puts;
+  fits = lit< tt;
+  written = λ s. struct_lawful_writing T.as_row T.row.grammar T.row.list T.puts;
+  takes_class = λ s class t. struct_takes_class T.row.grammar T.lawful T.told class;
 }
 
 -- What the reader of a field may answer: it is exact, and not out of memory where nothing allocates.

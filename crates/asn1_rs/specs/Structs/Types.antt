@@ -1,9 +1,12 @@
 -- What the types of the library say as fields of structs, with their laws.
-use Rattle.std.specs.Prelude.{◌≡◌, ◌∷◌, ℕ, ℤ, Bool, false, refl, Option, List, [], ◌<◌, IsTrue, pos}
+use Rattle.std.specs.Prelude.{◌≡◌, ◌∷◌, ◌&&◌, nat_eq, ℕ, ℤ, Bool, true, false, refl, Option, List, [], ◌<◌, IsTrue, pos}
 use Rattle.std.specs.Char.{is_ascii}
 use Rattle.std.specs.Str.{IsUtf8}
-use Rattle.std.proofs.Common.{lit<}
+use Rattle.std.proofs.Common.{lit<, subst, sym}
+use Rattle.std.proofs.lemmas.Bool.{eqb-true}
 use Rattle.x690.specs.Collections.{multiset, AnyList}
+use Rattle.x690.specs.Elements.{Parts}
+use Rattle.x690.specs.Identifiers.{Identifier}
 use Rattle.x690.specs.Integers.{IsIntegerContent, unsigned_octets}
 use Rattle.x690.specs.Sets.{AllIn, is_numeric, is_printable, is_visible}
 use Rattle.x690.specs.Signed.{IsSigned, signed_octets}
@@ -21,22 +24,29 @@ use Rattle.asn1_rs.specs.declared.asn1_types.times.utc_time.UtcTime.{UtcTime}
 use Rattle.asn1_rs.specs.Any.Value.{any_element}
 use Rattle.asn1_rs.specs.Any.Writing.{element_writing}
 use Rattle.asn1_rs.specs.Integer.{IsUnsigned, integer_element}
+use Rattle.asn1_rs.specs.Grammar.{FormTakes}
+use Rattle.asn1_rs.specs.Grammar.Item.{ber_words}
 use Rattle.asn1_rs.specs.Kinds.{ElementGrammar, IsLawfulElement, item_grammar}
 use Rattle.asn1_rs.specs.Kinds.Writing.{IsWrittenElement, list_writing, set_writing, universal_writing}
 use Rattle.asn1_rs.specs.Laws.Any.Value.{element_lawful}
 use Rattle.asn1_rs.specs.Laws.Any.Writing.{element_lawful_writing}
-use Rattle.asn1_rs.specs.Laws.Forms.{universal_lawful_writing, universal_number}
+use Rattle.asn1_rs.specs.Laws.Forms.{universal_lawful_writing, universal_number, universal_number_fits}
 use Rattle.asn1_rs.specs.Laws.Integer.{integer_lawful, integer_written}
 use Rattle.asn1_rs.specs.Laws.Kinds.{lawful_item}
 use Rattle.asn1_rs.specs.Laws.Leaf.{leaf_lawful, leaf_written, copying_lawful, copying_written, refusing_written}
-use Rattle.asn1_rs.specs.Laws.Lists.{list_lawful, list_number}
-use Rattle.asn1_rs.specs.Laws.Oid.{oid_lawful, oid_form_number, oid_lawful_writing}
-use Rattle.asn1_rs.specs.Laws.Set.{multiset_lawful, set_number}
+use Rattle.asn1_rs.specs.Laws.Lists.{list_lawful, list_number, list_takes_class}
+use Rattle.asn1_rs.specs.Laws.Oid.{oid_lawful, oid_form_number, oid_number_fits, oid_lawful_writing, oid_takes_class}
+use Rattle.asn1_rs.specs.Laws.Set.{multiset_lawful, set_number, set_takes_class}
 use Rattle.asn1_rs.specs.Laws.Strings.{string_lawful}
-use Rattle.asn1_rs.specs.Laws.Tagged.Explicit.{explicit_lawful, explicit_number}
+use Rattle.asn1_rs.specs.Laws.Tagged.{number_fits}
+use Rattle.asn1_rs.specs.Laws.Tagged.Explicit.{explicit_lawful, explicit_number, explicit_takes_class}
+use Rattle.asn1_rs.specs.Laws.Tagged.Implicit.{implicit_lawful, implicit_number, implicit_takes_class}
 use Rattle.asn1_rs.specs.Laws.Times.{utc_time_lawful, utc_time_accepted, generalized_time_lawful}
 use Rattle.asn1_rs.specs.Laws.Times.{generalized_time_accepted}
-use Rattle.asn1_rs.specs.Laws.Writing.{explicit_lawful_writing, list_lawful_writing, multiset_lawful_writing}
+use Rattle.asn1_rs.specs.Laws.Writing.{explicit_lawful_writing, implicit_lawful_writing, list_lawful_writing}
+use Rattle.asn1_rs.specs.Laws.Writing.{multiset_lawful_writing}
+use Rattle.asn1_rs.specs.Laws.Words.{strict_ber}
+use Rattle.asn1_rs.specs.Laws.Structs.Rows.{first_holds, second_holds}
 use Rattle.asn1_rs.specs.Leaf.{Leaf, leaf_element, copying, IsLawfulLeafUpTo}
 use Rattle.asn1_rs.specs.Lists.{list_grammar}
 use Rattle.asn1_rs.specs.Oid.{oid_element, oid_writing}
@@ -44,7 +54,8 @@ use Rattle.asn1_rs.specs.Set.{multiset_grammar}
 use Rattle.asn1_rs.specs.Strings.{string_leaf}
 use Rattle.asn1_rs.specs.Tagged.{number_of}
 use Rattle.asn1_rs.specs.Tagged.Explicit.{explicit_grammar}
-use Rattle.asn1_rs.specs.Tagged.Writing.{explicit_under, tag_writing}
+use Rattle.asn1_rs.specs.Tagged.Implicit.{implicit_grammar}
+use Rattle.asn1_rs.specs.Tagged.Writing.{explicit_under, implicit_under, tag_writing}
 use Rattle.asn1_rs.specs.Times.{utc_time_leaf, utc_time_refused, generalized_time_leaf, generalized_time_refused}
 use Rattle.asn1_rs.specs.Times.{moment_of, IsInvalidDateTime}
 use Rattle.asn1_rs.specs.Optional.{option_writing}
@@ -62,9 +73,13 @@ refusing_type {S} number G octets is_refused refusal l w = record {
   number = number;
   grammar = item_grammar G;
   writing = universal_writing number octets is_refused refusal;
-  lawful = lawful_item G l;
+  takes = λ class. true;
+  sound = true;
+  lawful = λ s. lawful_item G l;
   numbered = universal_number G number octets is_refused w;
-  written = universal_lawful_writing G number octets is_refused w refusal;
+  fits = universal_number_fits G number octets is_refused w;
+  written = λ s. universal_lawful_writing G number octets is_refused w refusal;
+  takes_class = λ s class t. w.class class;
 }
 
 -- an element none of whose values is refused
@@ -143,9 +158,13 @@ oid_type = record {
   number = 6;
   grammar = item_grammar oid_element;
   writing = oid_writing;
-  lawful = lawful_item oid_element oid_lawful;
+  takes = λ class. true;
+  sound = true;
+  lawful = λ s. lawful_item oid_element oid_lawful;
   numbered = oid_form_number;
-  written = oid_lawful_writing;
+  fits = oid_number_fits;
+  written = λ s. oid_lawful_writing;
+  takes_class = λ s class t. oid_takes_class class;
 }
 
 -- Types that hold values of others.
@@ -156,9 +175,14 @@ list_type items T = record {
   number = 16;
   grammar = list_grammar 16 items T.grammar;
   writing = list_writing 16 items T.writing;
-  lawful = list_lawful 16 (lit< tt) items T.grammar T.lawful;
+  takes = λ class. true;
+  sound = T.sound;
+  lawful = λ s. list_lawful 16 (lit< tt) items T.grammar (T.lawful s);
   numbered = list_number T.grammar.Form 16;
-  written = list_lawful_writing 16 items T.grammar T.writing T.lawful T.written;
+  fits = lit< tt;
+  written = λ s. list_lawful_writing 16 items T.grammar T.writing (T.lawful s) (T.written s);
+  takes_class = λ s class t. list_takes_class T.grammar.Form 16 (ber_words T.grammar) T.grammar.Check
+      (strict_ber T.grammar (T.lawful s)) (T.lawful s).form_check class;
 }
 
 -- sets in which an item may stand more than once
@@ -167,10 +191,21 @@ multiset_type items T = record {
   number = 17;
   grammar = multiset_grammar items T.grammar;
   writing = set_writing items T.writing;
-  lawful = multiset_lawful items T.grammar T.lawful;
+  takes = λ class. true;
+  sound = T.sound;
+  lawful = λ s. multiset_lawful items T.grammar (T.lawful s);
   numbered = set_number multiset AnyList T.grammar.Form;
-  written = multiset_lawful_writing items T.grammar T.writing T.lawful T.written;
+  fits = lit< tt;
+  written = λ s. multiset_lawful_writing items T.grammar T.writing (T.lawful s) (T.written s);
+  takes_class = λ s class t. set_takes_class multiset AnyList T.grammar.Form (ber_words T.grammar) T.grammar.Check
+      (strict_ber T.grammar (T.lawful s)) (T.lawful s).form_check class;
 }
+
+-- what takes its own class takes one that is the same
+takes_own : {V : Type 0} {Form : V → Identifier → List ℕ → Type 0} {Check : Parts → Type 0} {Body : Parts → V → Type 0}
+    (class other : ℕ) → nat_eq other class ≡ true → FormTakes Form Check Body class → FormTakes Form Check Body other
+takes_own {V} {Form} {Check} {Body} class other same takes =
+    subst (λ (z : ℕ). FormTakes Form Check Body z) (sym (eqb-true other class same)) takes
 
 -- values under an explicit tag
 abbrev pub explicit_type : {S W : Type 0} (class number : ℕ) → (W → S) → LawfulTypeOf S → LawfulTypeOf W
@@ -178,9 +213,34 @@ explicit_type class number inner T = record {
   number = number_of number;
   grammar = explicit_grammar class number inner T.grammar;
   writing = tag_writing class number inner (explicit_under T.writing) T.writing;
-  lawful = explicit_lawful class number inner T.grammar T.lawful;
+  takes = λ other. nat_eq other class;
+  sound = T.sound;
+  lawful = λ s. explicit_lawful class number inner T.grammar (T.lawful s);
   numbered = explicit_number class number T.grammar.Form;
-  written = explicit_lawful_writing class number inner T.grammar T.writing T.lawful T.written;
+  fits = number_fits number;
+  written = λ s. explicit_lawful_writing class number inner T.grammar T.writing (T.lawful s) (T.written s);
+  takes_class = λ s other t. takes_own class other t (explicit_takes_class class number T.grammar.Form
+      (ber_words T.grammar) T.grammar.Check (strict_ber T.grammar (T.lawful s)) (T.lawful s).form_check);
+}
+
+-- values under an implicit tag, sound where their type takes the class of the tag
+abbrev pub implicit_type : {S W : Type 0} (class number : ℕ) → (W → S) → LawfulTypeOf S → LawfulTypeOf W
+implicit_type class number inner T = record {
+  number = number_of number;
+  grammar = implicit_grammar class number T.number inner T.grammar;
+  writing = tag_writing class number inner (implicit_under T.writing) T.writing;
+  takes = λ other. nat_eq other class;
+  sound = T.sound && T.takes class;
+  lawful = λ s. let l = T.lawful (first_holds T.sound (T.takes class) s) in
+      implicit_lawful class number T.number inner T.grammar l T.fits T.numbered
+      (T.takes_class (first_holds T.sound (T.takes class) s) class (second_holds T.sound (T.takes class) s));
+  numbered = implicit_number class number T.grammar.Form;
+  fits = number_fits number;
+  written = λ s. implicit_lawful_writing class number inner T.grammar T.writing
+      (T.lawful (first_holds T.sound (T.takes class) s)) (T.written (first_holds T.sound (T.takes class) s)) T.number;
+  takes_class = λ s other t. takes_own class other t (implicit_takes_class class number T.grammar.Form T.number
+      T.grammar.Check T.grammar.Body T.numbered
+      (T.takes_class (first_holds T.sound (T.takes class) s) class (second_holds T.sound (T.takes class) s)));
 }
 
 -- Elements of any tag number.
@@ -190,8 +250,9 @@ abbrev pub any_field : LawfulFieldOf Any
 any_field = record {
   grammar = item_field any_number (item_grammar any_element);
   writing = element_writing;
-  lawful = any_field_lawful (item_grammar any_element) (lawful_item any_element element_lawful);
-  put = item_put (item_grammar any_element) (lawful_item any_element element_lawful) element_writing
+  sound = true;
+  lawful = λ s. any_field_lawful (item_grammar any_element) (lawful_item any_element element_lawful);
+  put = λ s. item_put (item_grammar any_element) (lawful_item any_element element_lawful) element_writing
       element_lawful_writing any_number;
 }
 
@@ -200,7 +261,8 @@ abbrev pub optional_any_field : LawfulFieldOf (Option Any)
 optional_any_field = record {
   grammar = optional_field any_number left_out_at_end (item_grammar any_element);
   writing = option_writing element_writing;
-  lawful = any_option_lawful (item_grammar any_element) (lawful_item any_element element_lawful);
-  put = optional_put (item_grammar any_element) (lawful_item any_element element_lawful) element_writing
+  sound = true;
+  lawful = λ s. any_option_lawful (item_grammar any_element) (lawful_item any_element element_lawful);
+  put = λ s. optional_put (item_grammar any_element) (lawful_item any_element element_lawful) element_writing
       element_lawful_writing any_number left_out_at_end;
 }

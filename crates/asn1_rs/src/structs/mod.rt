@@ -77,7 +77,8 @@ impl ReadsBy for BerParser {
 ///     }
 ///
 /// The last word of `laws` says that each optional field is told by its tag number from all that may follow it up to
-/// the next field that is no option. It is refused there where one is not.
+/// the next field that is no option, and that what is under an implicit tag takes the class of the tag. It is refused
+/// there where one is not so.
 pub trait LawfulStruct: HasKind<Kind = FieldsKind> + Sized {
     /// Its row, with the laws of that.
     ghost laws: { LawfulStructOf Self };
@@ -178,7 +179,7 @@ impl<T: LawfulStruct> GrammarBy<FieldsKind> for T {
 }
 
 impl<T: LawfulStruct> LawfulItemBy<FieldsKind> for T {
-    ghost lawful_by_kind = { struct_lawful T.laws.row.grammar T.laws.row.lawful T.laws.told
+    ghost lawful_by_kind = { struct_lawful T.laws.row.grammar T.laws.lawful T.laws.told
         T.laws.as_row };
 
     fn value_by_kind(&self) {
@@ -207,7 +208,7 @@ where
 
 impl<T: LawfulStruct> LawfulWriteBy<FieldsKind> for T {
     ghost lawful_writing_by_kind = { struct_lawful_writing T.laws.as_row T.laws.row.grammar
-        T.laws.row.list T.laws.row.puts };
+        T.laws.row.list T.laws.puts };
 }
 
 impl<T: LawfulStruct> LawfulTaggedBy<FieldsKind> for T {
@@ -217,6 +218,6 @@ impl<T: LawfulStruct> LawfulTaggedBy<FieldsKind> for T {
 }
 
 impl<T: LawfulStruct, const C: u8> TakesClassBy<FieldsKind, C> for T {
-    ghost takes_this_class = { struct_takes_class T.laws.row.grammar T.laws.row.lawful T.laws.told
+    ghost takes_this_class = { struct_takes_class T.laws.row.grammar T.laws.lawful T.laws.told
         C };
 }

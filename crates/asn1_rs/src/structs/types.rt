@@ -1,4 +1,4 @@
-//! Which types may be fields of structs: the leaf types of the library, lists, values under explicit tags, and structs;
+//! Which types may be fields of structs: the leaf types of the library, lists, values under tags, and structs;
 //! and an element of any tag number, where no field before it may be left out, or as the last one where it may be left
 //! out itself.
 ghost use Rattle.std.specs.Prelude.{refl};
@@ -25,7 +25,7 @@ ghost use Rattle.asn1_rs.specs.Structs.Data.{struct_type};
 ghost use Rattle.asn1_rs.specs.Structs.Types.{leaf_type, copying_type, unsigned_type, signed_type, utf8_type};
 ghost use Rattle.asn1_rs.specs.Structs.Types.{numeric_type, printable_type, ascii_type, visible_type, utc_time_type};
 ghost use Rattle.asn1_rs.specs.Structs.Types.{generalized_time_type, oid_type, list_type, multiset_type, explicit_type, any_field};
-ghost use Rattle.asn1_rs.specs.Structs.Types.{optional_any_field};
+ghost use Rattle.asn1_rs.specs.Structs.Types.{optional_any_field, implicit_type};
 
 use crate::asn1_types::any::Any;
 use crate::asn1_types::bit_string::BitString;
@@ -41,7 +41,7 @@ use crate::asn1_types::strings::kinds::{
     GeneralString, GraphicString, Ia5String, NumericString, ObjectDescriptor, PrintableString,
     TeletexString, Utf8String, VideotexString, VisibleString,
 };
-use crate::asn1_types::tagged::{Explicit, TaggedValue};
+use crate::asn1_types::tagged::{Explicit, Implicit, TaggedValue};
 use crate::asn1_types::times::generalized_time::GeneralizedTime;
 use crate::asn1_types::times::utc_time::UtcTime;
 use crate::structs::LawfulStruct;
@@ -202,6 +202,11 @@ impl<T: LawfulType> LawfulType for SetOf<T> {
 impl<T: LawfulType, E, const CLASS: u8, const TAG: u32> LawfulType
     for TaggedValue<T, E, Explicit, CLASS, TAG> {
     ghost type_laws = { explicit_type CLASS TAG (λ t. t.inner) T.type_laws };
+}
+
+impl<T: LawfulType, E, const CLASS: u8, const TAG: u32> LawfulType
+    for TaggedValue<T, E, Implicit, CLASS, TAG> {
+    ghost type_laws = { implicit_type CLASS TAG (λ t. t.inner) T.type_laws };
 }
 
 impl<T: LawfulStruct> LawfulType for T {

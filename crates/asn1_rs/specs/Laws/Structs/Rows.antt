@@ -35,6 +35,15 @@ pub record IsLawfulRow {S : Type 0} (R : RowGrammar S) : Type 0 where
   pub strict_takes : R.told ≡ true → (rules : EncodingRules) (v : R.Value) (o : List ℕ) → R.Strict v o →
       R.Takes rules o v
 
+-- each of two holds where both do
+pub first_holds : (a b : Bool) → (a && b) ≡ true → a ≡ true
+first_holds true b e = refl
+first_holds false b e = absurd (cc)
+
+pub second_holds : (a b : Bool) → (a && b) ≡ true → b ≡ true
+second_holds true b e = e
+second_holds false b e = absurd (cc)
+
 -- the row of no fields is lawful
 pub empty_lawful : IsLawfulRow empty_row
 empty_lawful = record {
