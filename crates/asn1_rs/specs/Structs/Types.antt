@@ -2,11 +2,8 @@
 use Rattle.std.specs.Prelude.{◌≡◌, ◌∷◌, ◌&&◌, nat_eq, ℕ, ℤ, Bool, true, false, refl, Option, List, [], ◌<◌, IsTrue, pos}
 use Rattle.std.specs.Char.{is_ascii}
 use Rattle.std.specs.Str.{IsUtf8}
-use Rattle.std.proofs.Common.{lit<, subst, sym}
-use Rattle.std.proofs.lemmas.Bool.{eqb-true}
+use Rattle.std.proofs.Common.{lit<}
 use Rattle.x690.specs.Collections.{multiset, AnyList}
-use Rattle.x690.specs.Elements.{Parts}
-use Rattle.x690.specs.Identifiers.{Identifier}
 use Rattle.x690.specs.Integers.{IsIntegerContent, unsigned_octets}
 use Rattle.x690.specs.Sets.{AllIn, is_numeric, is_printable, is_visible}
 use Rattle.x690.specs.Signed.{IsSigned, signed_octets}
@@ -24,7 +21,6 @@ use Rattle.asn1_rs.specs.declared.asn1_types.times.utc_time.UtcTime.{UtcTime}
 use Rattle.asn1_rs.specs.Any.Value.{any_element}
 use Rattle.asn1_rs.specs.Any.Writing.{element_writing}
 use Rattle.asn1_rs.specs.Integer.{IsUnsigned, integer_element}
-use Rattle.asn1_rs.specs.Grammar.{FormTakes}
 use Rattle.asn1_rs.specs.Grammar.Item.{ber_words}
 use Rattle.asn1_rs.specs.Kinds.{ElementGrammar, IsLawfulElement, item_grammar}
 use Rattle.asn1_rs.specs.Kinds.Writing.{IsWrittenElement, list_writing, set_writing, universal_writing}
@@ -47,6 +43,7 @@ use Rattle.asn1_rs.specs.Laws.Writing.{explicit_lawful_writing, implicit_lawful_
 use Rattle.asn1_rs.specs.Laws.Writing.{multiset_lawful_writing}
 use Rattle.asn1_rs.specs.Laws.Words.{strict_ber}
 use Rattle.asn1_rs.specs.Laws.Structs.Rows.{first_holds, second_holds}
+use Rattle.asn1_rs.specs.Laws.Structs.Structs.{takes_own}
 use Rattle.asn1_rs.specs.Leaf.{Leaf, leaf_element, copying, IsLawfulLeafUpTo}
 use Rattle.asn1_rs.specs.Lists.{list_grammar}
 use Rattle.asn1_rs.specs.Oid.{oid_element, oid_writing}
@@ -201,12 +198,6 @@ multiset_type items T = record {
       (strict_ber T.grammar (T.lawful s)) (T.lawful s).form_check class;
 }
 
--- what takes its own class takes one that is the same
-takes_own : {V : Type 0} {Form : V → Identifier → List ℕ → Type 0} {Check : Parts → Type 0} {Body : Parts → V → Type 0}
-    (class other : ℕ) → nat_eq other class ≡ true → FormTakes Form Check Body class → FormTakes Form Check Body other
-takes_own {V} {Form} {Check} {Body} class other same takes =
-    subst (λ (z : ℕ). FormTakes Form Check Body z) (sym (eqb-true other class same)) takes
-
 -- values under an explicit tag
 abbrev pub explicit_type : {S W : Type 0} (class number : ℕ) → (W → S) → LawfulTypeOf S → LawfulTypeOf W
 explicit_type class number inner T = record {
@@ -219,7 +210,7 @@ explicit_type class number inner T = record {
   numbered = explicit_number class number T.grammar.Form;
   fits = number_fits number;
   written = λ s. explicit_lawful_writing class number inner T.grammar T.writing (T.lawful s) (T.written s);
-  takes_class = λ s other t. takes_own class other t (explicit_takes_class class number T.grammar.Form
+  takes_class = λ s other t. takes_own (explicit_grammar class number inner T.grammar) class other t (explicit_takes_class class number T.grammar.Form
       (ber_words T.grammar) T.grammar.Check (strict_ber T.grammar (T.lawful s)) (T.lawful s).form_check);
 }
 
@@ -238,7 +229,7 @@ implicit_type class number inner T = record {
   fits = number_fits number;
   written = λ s. implicit_lawful_writing class number inner T.grammar T.writing
       (T.lawful (first_holds T.sound (T.takes class) s)) (T.written (first_holds T.sound (T.takes class) s)) T.number;
-  takes_class = λ s other t. takes_own class other t (implicit_takes_class class number T.grammar.Form T.number
+  takes_class = λ s other t. takes_own (implicit_grammar class number T.number inner T.grammar) class other t (implicit_takes_class class number T.grammar.Form T.number
       T.grammar.Check T.grammar.Body T.numbered
       (T.takes_class (first_holds T.sound (T.takes class) s) class (second_holds T.sound (T.takes class) s)));
 }

@@ -1,6 +1,7 @@
 -- Structs whose rows of fields are lawful are lawful items, and their conversion is exact.
-use Rattle.std.proofs.Common.{◌≡◌, ◌≢◌, ap, refl, arith, ℕ, ◌^◌, ◌<◌, inl, inr, Bool, true, false, List}
-use Rattle.std.specs.Prelude.{Result, Ok, Err, IsTrue}
+use Rattle.std.proofs.lemmas.Bool.{eqb-true}
+use Rattle.std.proofs.Common.{◌≡◌, ◌≢◌, ap, sym, subst, refl, arith, ℕ, ◌^◌, ◌<◌, inl, inr, Bool, true, false, List}
+use Rattle.std.specs.Prelude.{Result, Ok, Err, IsTrue, nat_eq}
 use Rattle.x690.specs.Octets.{IsOctets}
 use Rattle.x690.specs.Identifiers.{Identifier}
 use Rattle.x690.specs.Elements.{Parts, IsDerElement}
@@ -102,3 +103,9 @@ struct_no_memory gives none any e (inl a) = inl (e, λ q. refuses e a q, refl)
     refuses e (inl b) q = let t = b.1 in cc
     refuses e (inr b) q = let t = b.1.1 in cc
 struct_no_memory gives none any e (inr (a, g)) = inl (e, none any.content.now e g, refl)
+
+-- What takes its own class takes one that is the same.
+pub takes_own : {S : Type 0} (G : ItemGrammar S) (class other : ℕ) → nat_eq other class ≡ true →
+    FormTakes G.Form G.Check G.Body class → FormTakes G.Form G.Check G.Body other
+takes_own G class other same takes =
+    subst (λ (z : ℕ). FormTakes G.Form G.Check G.Body z) (sym (eqb-true other class same)) takes
