@@ -8,16 +8,13 @@ use Rattle.x690.specs.Identifiers.{Identifier, IsCutIdentifier}
 use Rattle.x690.specs.Lengths.{LengthForm}
 use Rattle.x690.specs.Rules.{Rule}
 use Rattle.x690.specs.Elements.{IsHeader}
-use Rattle.x690.specs.Faults.{Breach}
 use Rattle.asn1_rs.specs.declared.asn1_types.any.Any.{Any}
 use Rattle.asn1_headers.specs.declared.error.Err.{Err as Refusal}
 use Rattle.asn1_headers.specs.declared.error.Error.{Error}
 use Rattle.asn1_headers.specs.declared.error.Error.TheVariants as errors
 use Rattle.asn1_headers.specs.Answers.{ReadsBack, IsFinal, Speaks}
-use Rattle.asn1_headers.specs.Error.{Converted}
 use Rattle.asn1_rs.specs.Grammar.Form.{IsStrict}
 use Rattle.asn1_headers.specs.Header.{class_of, is_constructed_of, tag_of, length_of, HasParts}
-use Rattle.asn1_headers.specs.Header.Reading.{refusal_of, HeaderGives}
 use Rattle.asn1_rs.specs.ToDer.{Writing}
 
 -- a header by the rule begins the octets, and has another tag number
@@ -82,12 +79,6 @@ abbrev pub RefusesAsHeld : {T V E : Type 0} → (List ℕ → Result (List ℕ �
 RefusesAsHeld {T} {V} {E} reads held IsCut G memory =
     (octets : List ℕ) (r : Refusal E) → IsOctets octets → reads octets (Err r) →
     held octets (Err r) × (memory r ⊎ IsFinal (IsCut octets) r G octets)
-
--- the reader refuses octets that no header by the rule begins as the header is refused
-abbrev pub TellsHeaderFirst : {T E : Type 0} → Rule → (Breach → Error) → (Error → E → Type 0) →
-    (List ℕ → Result (List ℕ × T) (Refusal E) → Type 0) → Type 0
-TellsHeaderFirst {T} {E} rule refuses from reads = (octets : List ℕ) (q : Refusal Error) (r : Refusal E) →
-    HeaderGives rule (refusal_of refuses) octets (Err q) → reads octets (Err r) → Converted from q r
 
 -- After a refusal no value is left out of more octets either of which the refusal speaks.
 abbrev pub StaysIn : {T E : Type 0} → (List ℕ → Type 0) → (List ℕ → Result (List ℕ × Option T) (Refusal E) → Type 0) →

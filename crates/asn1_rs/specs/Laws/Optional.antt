@@ -1,7 +1,6 @@
 -- Optional values: a header at the front tells whether one is left out, and strict encodings are read back.
 use Rattle.std.proofs.Common.{◌≡◌, ◌≢◌, ◌∙◌, ap, sym, subst, refl, arith, ℕ, ◌+◌, ◌≤◌, Bool, true, false, List, [], ◌∷◌}
-use Rattle.std.proofs.Common.{◌++◌, ◌⊎◌, zero, suc, length, length-append, append_assoc, append-nil, inl, inr, IsTrue}
-use Rattle.std.proofs.Common.{Option, None, Some}
+use Rattle.std.proofs.Common.{◌++◌, length, length-append, append_assoc, inl, inr, IsTrue, Option, None, Some}
 use Rattle.std.specs.Prelude.{Result, Ok, Err, ◌↔◌, nat_eq, not}
 use Rattle.std.proofs.lemmas.Bool.{eqb-true, eq-eqb, false≢true}
 use Rattle.std.proofs.lemmas.Bool.Decides.{Decides-not, Decides-eqb}
@@ -9,12 +8,11 @@ use Rattle.std.specs.Option.{option_map}
 use Rattle.x690.specs.Octets.{IsOctets}
 use Rattle.x690.specs.Identifiers.{Identifier, IsCutIdentifier}
 use Rattle.x690.specs.Lengths.{LengthForm, definite}
-use Rattle.x690.specs.Rules.{Rule, der_rule, ber_rule}
-use Rattle.x690.specs.Elements.{IsHeader, Parts, IsDerElement, AllowsStrict}
-use Rattle.x690.specs.Faults.{Breach, Fault, HeaderFault, DerElementFault, SpeaksOf}
-use Rattle.x690.specs.Nested.{IsElement, ElementFault}
+use Rattle.x690.specs.Rules.{Rule}
+use Rattle.x690.specs.Elements.{IsHeader, Parts, AllowsStrict}
+use Rattle.x690.specs.Faults.{Breach, Fault, HeaderFault, SpeaksOf}
 use Rattle.x690.specs.Laws.Headers.{header_unique, header_two}
-use Rattle.x690.specs.Laws.Faults.{header_or_fault, header_fault_counts, no_header, speaks_now}
+use Rattle.x690.specs.Laws.Faults.{header_or_fault, header_fault_counts, no_header}
 use Rattle.x690.specs.Laws.Faults.Complete.{header_or_has_fault}
 use Rattle.x690.specs.Joined.{IsOneFront}
 use Rattle.asn1_rs.specs.declared.asn1_types.any.Any.{Any}
@@ -22,21 +20,18 @@ use Rattle.asn1_headers.specs.declared.error.Err.{Err as Refusal}
 use Rattle.asn1_headers.specs.declared.error.Error.{Error}
 use Rattle.asn1_headers.specs.declared.tag.Tag.{Tag}
 use Rattle.asn1_headers.specs.declared.header.Header.{Header}
-use Rattle.asn1_headers.specs.Answers.{Exactly, Front, ReadsBack}
-use Rattle.asn1_headers.specs.Ber.{max_depth, EndsWithin}
-use Rattle.asn1_headers.specs.Error.{Converted}
+use Rattle.asn1_headers.specs.Answers.{Exactly, ReadsBack}
 use Rattle.asn1_rs.specs.Grammar.Form.{IsStrict}
 use Rattle.asn1_rs.specs.Grammar.{FormNumber}
 use Rattle.asn1_headers.specs.Header.{identifier_of}
-use Rattle.asn1_headers.specs.Header.Reading.{HeaderGives, refusal_of, der_breach, ber_breach}
+use Rattle.asn1_headers.specs.Header.Reading.{HeaderGives, refusal_of}
 use Rattle.asn1_headers.specs.Length.{form_of}
 use Rattle.asn1_rs.specs.Optional.{IsLeftOut, OptionGives, ReadsHeldBack, ReadsNoneBefore, ReadsNoneAtEnd, in_some}
-use Rattle.asn1_rs.specs.Optional.{IsAtEnd, RefusesAsHeld, StaysIn, TellsHeaderFirst}
-use Rattle.asn1_rs.specs.Laws.Readers.{AreElements, ber_elements, der_elements, speaks_fault}
-use Rattle.asn1_rs.specs.Any.{AnyGives, parts_of}
+use Rattle.asn1_rs.specs.Optional.{IsAtEnd, RefusesAsHeld, StaysIn}
+use Rattle.asn1_rs.specs.Faults.{TellsHeaderFirst}
+use Rattle.asn1_rs.specs.Laws.Readers.{AreElements, speaks_fault}
+use Rattle.asn1_rs.specs.Any.{AnyGives}
 use Rattle.asn1_rs.specs.Laws.Any.{refusal_lasts}
-use Rattle.asn1_rs.specs.Tagged.Explicit.{ExplicitGives}
-use Rattle.asn1_rs.specs.Traits.{BerGives, DerGives, ElementGives, PassesAll}
 use Rattle.asn1_rs.specs.Laws.Words.{strict_element, read_back}
 use mathlib.Core.HLevel.{⊥_prop}
 use mathlib.Core.Logic.{∥∥₁_elim}
@@ -281,66 +276,3 @@ pub element_stays_in : {T E : Type 0} (reads : List ℕ → Result (List ℕ × 
     StaysIn IsAtEnd (OptionGives IsAtEnd reads)
 element_stays_in reads octets more r are g speaks end =
     (refused_is_held IsAtEnd reads octets r g).0 (none_in_front octets more end)
-
--- Readers that refuse headers first.
-
--- a fault of the header is one of the element by BER
-ber_header_fault : (depth : ℕ) (octets : List ℕ) (fault : Fault) → HeaderFault ber_rule octets fault →
-    ElementFault depth octets fault
-unfolding ElementFault
-ber_header_fault zero octets fault why = inl why
-ber_header_fault (suc depth) octets fault why = inl why
-
-module _ (ElementOf : List ℕ → Parts → Type 0) (FaultOf : List ℕ → Fault → Type 0) (IsCut : List ℕ → Type 0)
-    (elements : AreElements ElementOf FaultOf IsCut) (rule : Rule) (refuses : Breach → Error)
-    (is_fault : (octets : List ℕ) (fault : Fault) → HeaderFault rule octets fault → FaultOf octets fault)
-    (E : Type 0) (from : Error → E → Type 0) where
-  -- the refusal of a fault of the element, or an element that begins the octets
-  abbrev FaultOrElement : List ℕ → Refusal E → Type 0
-  FaultOrElement octets r = ((fault : Fault) × FaultOf octets fault × Converted from (refusal_of refuses fault) r) ⊎
-      ((p : Parts) × (rest : List ℕ) × Front ElementOf octets p rest)
-
-  -- where no header begins the octets, it is the refusal of the header
-  pub header_first : (octets : List ℕ) (q : Refusal Error) (r : Refusal E) →
-      HeaderGives rule (refusal_of refuses) octets (Err q) → FaultOrElement octets r → Converted from q r
-  header_first octets q r h (inl (fault, f, c)) =
-      let same : fault ≡ h.0 = elements.alone octets fault h.0 f (is_fault octets h.0 h.1) in
-      subst (λ (z : Refusal Error). Converted from z r) (ap (refusal_of refuses) same ∙ sym h.2) c
-  header_first octets q r h (inr (p, rest, front)) =
-      let why : FaultOf octets h.0 = is_fault octets h.0 h.1 in
-      absurd (elements.final octets [] front.word rest p h.0 why
-      (speaks_now (IsCut octets) h.0 (elements.counts octets h.0 why)) front.fits (append-nil octets ∙ front.is))
-
-  -- so refuses a reader that reads an element first
-  pub element_first : {T : Type 0} (check : Parts → Result (Unit {0}) Error → Type 0)
-      (convert : Any → Result T E → Type 0) →
-      TellsHeaderFirst rule refuses from (ElementGives ElementOf FaultOf (refusal_of refuses) check convert from)
-  element_first check convert octets q r h (inl f) = header_first octets q r h (inl f)
-  element_first check convert octets q r h (inr (any, rest, begins, why)) =
-      header_first octets q r h (inr (parts_of any, rest, begins.front))
-
--- By DER so do readers of elements, of lists, and of values under implicit tags.
-pub der_header_first : {T E : Type 0} (check : Parts → Result (Unit {0}) Error → Type 0)
-    (convert : Any → Result T E → Type 0) (from : Error → E → Type 0) →
-    TellsHeaderFirst der_rule der_breach from (DerGives check convert from)
-der_header_first {T} {E} check convert from =
-    element_first IsDerElement DerElementFault IsCutIdentifier der_elements der_rule der_breach (λ o f why. inl why) E
-    from check convert
-
--- So do those of values under explicit tags.
-pub explicit_header_first : {T W E : Type 0} (class number : ℕ) (inner : W → T)
-    (reads : List ℕ → Result (List ℕ × T) (Refusal E) → Type 0) (from : Error → E → Type 0) →
-    TellsHeaderFirst der_rule der_breach from (ExplicitGives class number inner reads from)
-explicit_header_first {T} {W} {E} class number inner reads from octets q r h (inl f) =
-    header_first IsDerElement DerElementFault IsCutIdentifier der_elements der_rule der_breach (λ o f why. inl why) E
-    from octets q r h (inl f)
-explicit_header_first {T} {W} {E} class number inner reads from octets q r h (inr (p, rest, front, why)) =
-    header_first IsDerElement DerElementFault IsCutIdentifier der_elements der_rule der_breach (λ o f why. inl why) E
-    from octets q r h (inr (p, rest, front))
-
--- By BER so does each conversion of an element.
-pub ber_header_first : {T E : Type 0} (convert : Any → Result T E → Type 0) (from : Error → E → Type 0) →
-    TellsHeaderFirst ber_rule ber_breach from (BerGives convert from)
-ber_header_first {T} {E} convert from =
-    element_first (IsElement max_depth) (ElementFault max_depth) EndsWithin ber_elements ber_rule ber_breach
-    (ber_header_fault max_depth) E from PassesAll convert

@@ -11,20 +11,16 @@ ghost use Rattle.x690.specs.Faults.{Breach};
 ghost use Rattle.asn1_headers.specs.declared.error.Error.{Error};
 ghost use Rattle.asn1_headers.specs.Answers.{seen, TellsMemory};
 ghost use Rattle.asn1_rs.specs.Any.{IsTheElement, IsDefiniteOr};
-ghost use Rattle.asn1_rs.specs.Lists.{ListTakes};
-ghost use Rattle.asn1_rs.specs.Tagged.Explicit.{ExplicitGives};
-ghost use Rattle.asn1_rs.specs.declared.asn1_types.tagged.TaggedValue.{TaggedValue};
+ghost use Rattle.asn1_rs.specs.Faults.{TellsHeaderFirst};
 ghost use Rattle.asn1_headers.specs.Ber.{max_depth, EndsWithin};
 ghost use Rattle.asn1_headers.specs.Header.Reading.{refusal_of, ber_breach, der_breach, HeaderGives};
 ghost use Rattle.asn1_rs.specs.Grammar.Item.{ber_words};
 ghost use Rattle.asn1_rs.specs.Optional.{IsLeftOut, IsAtEnd, OptionGives, ReadsHeldBack, ReadsNoneBefore};
 ghost use Rattle.asn1_rs.specs.Optional.{ReadsNoneAtEnd, in_some, held_or, is_of_another_tag, IsWithoutRawTag, none_or};
-ghost use Rattle.asn1_rs.specs.Optional.{NoneOrConverted, option_writing, RefusesAsHeld, StaysIn, TellsHeaderFirst};
-ghost use Rattle.asn1_rs.specs.Traits.{BerGives, DerGives, OfParts, PassesAll};
+ghost use Rattle.asn1_rs.specs.Optional.{NoneOrConverted, option_writing, RefusesAsHeld, StaysIn};
+ghost use Rattle.asn1_rs.specs.Traits.{BerGives, DerGives};
 
 use crate::asn1_types::any::Any;
-use crate::asn1_types::lists::FromItems;
-use crate::kinds::reading::EncodingForm;
 use crate::laws::{LawfulBer, LawfulDer, LawfulTagged};
 use crate::to_der::ToDer;
 use crate::traits::{CheckDerConstraints, DynTagged, FromAny, FromBer, FromDer, Tagged};
@@ -309,7 +305,7 @@ where
 /// them, nor more octets of which the refusal speaks.
 ///
 /// Of no such octets `None` is read either, where `T` refuses a header as the header is refused, as
-/// [`headers_are_refused_first`] tells of each type that an element converts to. A reader of another make may go by the
+/// [`faults_come_first`](crate::faults_come_first) tells of each type that an element converts to. A reader of another make may go by the
 /// identifier octets alone: one that refuses 04 for ever is left out of 04 00.
 pub fn options_are_refused_by_ber<'a, T, E>()
 where
@@ -344,40 +340,4 @@ pub fn optional_elements_are_refused()
     ensures ber_stays { StaysIn IsAtEnd (OptionGives IsAtEnd (BerGives IsTheElement (λ e f. f ≡ e))) }
     ensures der_stays { StaysIn IsAtEnd
         (OptionGives IsAtEnd (DerGives IsDefiniteOr IsTheElement (λ e f. f ≡ e))) }
-{}
-
-/// Octets that no header begins are refused as the header is, by BER and by DER, of each type that an element converts
-/// to. By DER that is said where constraints are checked, and where they are not, as under an implicit tag.
-pub fn headers_are_refused_first<'a, T, E>()
-where
-    T: FromAny<'a, Error = E> + CheckDerConstraints,
-    E: From<Error>,
-    ensures ber { TellsHeaderFirst ber_rule ber_breach E.from_gives
-        (BerGives T.any_gives E.from_gives) }
-    ensures der { TellsHeaderFirst der_rule der_breach E.from_gives
-        (DerGives T.check_gives T.any_gives E.from_gives) }
-    ensures unchecked { TellsHeaderFirst der_rule der_breach E.from_gives
-        (DerGives PassesAll T.any_gives E.from_gives) }
-{}
-
-/// So it is by DER of lists, whose items are read by DER.
-pub fn headers_of_lists_are_refused_first<'a, L, T, F, E>()
-where
-    L: FromItems<Item = T>,
-    T: FromDer<'a, E>,
-    F: EncodingForm,
-    E: From<Error>,
-    ensures { TellsHeaderFirst der_rule der_breach E.from_gives (DerGives PassesAll
-        (OfParts (ListTakes (F.form_gives (L.TAG).0) L.holds T.der_gives E.from_gives))
-        E.from_gives) }
-{}
-
-/// So it is by DER of values under explicit tags.
-pub fn headers_of_tags_are_refused_first<'a, T, K, E, const CLASS: u8, const TAG: u32>()
-where
-    T: FromDer<'a, E>,
-    E: From<Error>,
-    ensures { TellsHeaderFirst der_rule der_breach E.from_gives
-        (ExplicitGives CLASS TAG (λ (t : TaggedValue T E K CLASS TAG). t.inner) T.der_gives
-        E.from_gives) }
 {}
