@@ -1,6 +1,5 @@
--- Readers that read an element first refuse it first: a header that begins nothing as the header is refused, and what is
--- cut with how many octets are missing.
-use Rattle.std.proofs.Common.{◌≡◌, ◌⊎◌, ◌≤◌, ◌∙◌, ap, sym, subst, zero, suc, ℕ, List, [], inl, inr, append-nil}
+-- What readers of elements refuse before all else: octets that no header begins, and elements that are cut.
+use Rattle.std.proofs.Common.{◌≡◌, ◌⊎◌, ◌∙◌, ap, sym, subst, zero, suc, ℕ, List, [], inl, inr, append-nil}
 use Rattle.std.specs.Prelude.{Result, Ok, Err}
 use Rattle.x690.specs.Identifiers.{IsCutIdentifier}
 use Rattle.x690.specs.Rules.{Rule, der_rule, ber_rule}
@@ -22,7 +21,7 @@ use Rattle.asn1_headers.specs.Header.Reading.{HeaderGives, refusal_of, der_breac
 use Rattle.asn1_rs.specs.Any.{parts_of}
 use Rattle.asn1_rs.specs.Laws.Readers.{AreElements, ber_elements, der_elements}
 use Rattle.asn1_rs.specs.Tagged.Explicit.{ExplicitGives}
-use Rattle.asn1_rs.specs.Faults.{TellsHeaderFirst, CutsAreCounted, CutsAreCountedOrWithin}
+use Rattle.asn1_rs.specs.Faults.{TellsHeaderFirst, LacksOctets, CutsAreCounted, CutsAreCountedOrWithin}
 use Rattle.asn1_rs.specs.Traits.{BerGives, DerGives, ElementGives, PassesAll}
 
 -- a fault of the header is one of the element by BER
@@ -60,13 +59,9 @@ module _ (ElementOf : List ℕ → Parts → Type 0) (FaultOf : List ℕ → Fau
   element_first check convert octets q r h (inr (any, rest, begins, why)) =
       header_first octets q r h (inr (parts_of any, rest, begins.front))
 
-  -- so many octets are missing, one at least
-  abbrev Lacks : List ℕ → Needed → Type 0
-  Lacks octets needed = (n : ℕ) × (needed ≡ Size n) × (1 ≤ n) × FaultOf octets (missing n)
-
   -- a fault that is told by `Incomplete` is that octets are missing
   pub cut_of_fault : (octets : List ℕ) (needed : Needed) (fault : Fault) → FaultOf octets fault →
-      Converted from (refusal_of refuses fault) (cut needed) → Lacks octets needed
+      Converted from (refusal_of refuses fault) (cut needed) → LacksOctets FaultOf octets needed
   cut_of_fault octets needed (missing n) f c =
       let same : needed ≡ Size n = cc in
       let some : CountsSome (missing n) = elements.counts octets (missing n) f in
@@ -84,7 +79,7 @@ module _ (ElementOf : List ℕ → Parts → Type 0) (FaultOf : List ℕ → Fau
   element_cuts check convert octets needed (inr (any, rest, begins, inl (e, checked, (f, m, is)))) = cc
   element_cuts check convert octets needed (inr (any, rest, begins, inr (checked, (e, v, is)))) = cc
 
--- By DER so do readers of elements, of lists, and of values under implicit tags.
+-- By DER so do readers of types with a check, of lists, and of values under implicit tags.
 pub der_header_first : {T E : Type 0} (check : Parts → Result (Unit {0}) Error → Type 0)
     (convert : Any → Result T E → Type 0) (from : Error → E → Type 0) →
     TellsHeaderFirst der_rule der_breach from (DerGives check convert from)
@@ -92,6 +87,7 @@ der_header_first {T} {E} check convert from =
     element_first IsDerElement DerElementFault IsCutIdentifier der_elements der_rule der_breach (λ o f why. inl why) E
     from check convert
 
+-- They tell no other cut than that of the element.
 pub der_cuts : {T E : Type 0} (check : Parts → Result (Unit {0}) Error → Type 0)
     (convert : Any → Result T E → Type 0) (from : Error → E → Type 0) →
     CutsAreCounted DerElementFault (DerGives check convert from)
@@ -110,7 +106,7 @@ explicit_header_first {T} {W} {E} class number inner reads from octets q r h (in
     header_first IsDerElement DerElementFault IsCutIdentifier der_elements der_rule der_breach (λ o f why. inl why) E
     from octets q r h (inr (p, rest, front))
 
--- Their cuts are also those of the value.
+-- They tell that of the element, or that of the value.
 pub explicit_cuts : {T W E : Type 0} (class number : ℕ) (inner : W → T)
     (reads : List ℕ → Result (List ℕ × T) (Refusal E) → Type 0) (from : Error → E → Type 0) →
     CutsAreCountedOrWithin DerElementFault IsDerElement reads (ExplicitGives class number inner reads from)
@@ -131,6 +127,7 @@ ber_header_first {T} {E} convert from =
     element_first (IsElement max_depth) (ElementFault max_depth) EndsWithin ber_elements ber_rule ber_breach
     (ber_header_fault max_depth) E from PassesAll convert
 
+-- It tells no other cut than that of the element.
 pub ber_cuts : {T E : Type 0} (convert : Any → Result T E → Type 0) (from : Error → E → Type 0) →
     CutsAreCounted (ElementFault max_depth) (BerGives convert from)
 ber_cuts {T} {E} convert from =

@@ -1,7 +1,7 @@
 //! Optional values: an element that may be left out, told by its tag number.
 //!
 //! An `Option` is no lawful item: its word would be empty where it holds nothing, so items of a list could not be told
-//! apart. Its laws, two for each rule, speak of the value that it holds and of what stands in its place.
+//! apart. Its laws speak of the value that it holds, of what stands in its place, and of refusals.
 ghost use Rattle.std.specs.Prelude.{◌≡◌, ◌≢◌, ◌↔◌, Bool, false, IsTrue};
 ghost use Rattle.x690.specs.Identifiers.{IsCutIdentifier};
 ghost use Rattle.x690.specs.Elements.{IsDerElement};
@@ -304,9 +304,9 @@ where
 /// What an `Option<T>` is refused with by BER, `T` refuses the same octets with, and it is final: no word of `T` begins
 /// them, nor more octets of which the refusal speaks.
 ///
-/// Of no such octets `None` is read either, where `T` refuses a header as the header is refused, as
-/// [`faults_come_first`](crate::faults_come_first) tells of each type that an element converts to. A reader of another make may go by the
-/// identifier octets alone: one that refuses 04 for ever is left out of 04 00.
+/// Nor is `None` read of such octets, where `T` refuses as the header is refused what no header begins:
+/// [`faults_come_first`](crate::faults_come_first) tells so of each type that an element converts to. A reader of
+/// another make may go by the identifier octets alone. One that refuses 04 for ever is left out of 04 00.
 pub fn options_are_refused_by_ber<'a, T, E>()
 where
     T: LawfulBer<'a, E> + Tagged,
