@@ -213,6 +213,8 @@ pub use laws::faults::faults_come_first;
 pub use laws::faults::faults_of_lists_come_first;
 pub use laws::faults::faults_of_tags_come_first;
 pub use laws::functions::beginnings_are_refused;
+pub use laws::functions::check_is_exact;
+pub use laws::functions::conversion_is_exact;
 pub use laws::functions::counts_are_of_the_strict_encoding;
 pub use laws::functions::equal_items_are_hashed_alike;
 pub use laws::functions::leaves_have_one_refusal;
