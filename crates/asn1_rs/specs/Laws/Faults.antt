@@ -20,7 +20,10 @@ use Rattle.asn1_headers.specs.Error.{Converted}
 use Rattle.asn1_headers.specs.Header.Reading.{HeaderGives, refusal_of, der_breach, ber_breach}
 use Rattle.asn1_rs.specs.Any.{parts_of}
 use Rattle.asn1_rs.specs.Laws.Readers.{AreElements, ber_elements, der_elements}
+use Rattle.asn1_headers.specs.declared.tag.Tag.{Tag}
+use Rattle.asn1_rs.specs.Tagged.{OfElement, ReadsWhole, ThenGives, ThenByBer, ThenByDer}
 use Rattle.asn1_rs.specs.Tagged.Explicit.{ExplicitGives}
+use Rattle.asn1_rs.specs.Tagged.Parser.{TakesExplicit, TakesWhole, TakesImplicit}
 use Rattle.asn1_rs.specs.Faults.{TellsHeaderFirst, LacksOctets, CutsAreCounted, CutsAreCountedOrWithin}
 use Rattle.asn1_rs.specs.Traits.{BerGives, DerGives, ElementGives, PassesAll}
 
@@ -79,6 +82,23 @@ module _ (ElementOf : List ℕ → Parts → Type 0) (FaultOf : List ℕ → Fau
   element_cuts check convert octets needed (inr (any, rest, begins, inl (e, checked, (f, m, is)))) = cc
   element_cuts check convert octets needed (inr (any, rest, begins, inr (checked, (e, v, is)))) = cc
 
+  -- the refusal of a fault, or that of what is called on the element, which is one of its contents octets
+  pub then_cuts : {S T : Type 0} (within : List ℕ → Result (List ℕ × S) (Refusal E) → Type 0)
+      (takes : OfElement (Result (List ℕ × T) (Refusal E))) →
+      ((any : Any) (rest : List ℕ) (needed : Needed) → takes any rest (Err (cut needed)) →
+      within any.content.now (Err (cut needed))) →
+      CutsAreCountedOrWithin FaultOf ElementOf within (ThenGives ElementOf FaultOf (refusal_of refuses) from takes)
+  then_cuts within takes told octets needed (inl (fault, f, c)) = inl (cut_of_fault octets needed fault f c)
+  then_cuts within takes told octets needed (inr (any, rest, begins, taken)) =
+      inr (parts_of any, rest, begins.front, told any rest needed taken)
+
+  -- or none, where what is called tells no cut
+  pub then_no_cuts : {T : Type 0} (takes : OfElement (Result (List ℕ × T) (Refusal E))) →
+      ((any : Any) (rest : List ℕ) (needed : Needed) → takes any rest (Err (cut needed)) → ⊥) →
+      CutsAreCounted FaultOf (ThenGives ElementOf FaultOf (refusal_of refuses) from takes)
+  then_no_cuts takes none octets needed (inl (fault, f, c)) = cut_of_fault octets needed fault f c
+  then_no_cuts takes none octets needed (inr (any, rest, begins, taken)) = absurd (none any rest needed taken)
+
 -- By DER so do readers of types with a check, of lists, and of values under implicit tags.
 pub der_header_first : {T E : Type 0} (check : Parts → Result (Unit {0}) Error → Type 0)
     (convert : Any → Result T E → Type 0) (from : Error → E → Type 0) →
@@ -106,6 +126,14 @@ explicit_header_first {T} {W} {E} class number inner reads from octets q r h (in
     header_first IsDerElement DerElementFault IsCutIdentifier der_elements der_rule der_breach (λ o f why. inl why) E
     from octets q r h (inr (p, rest, front))
 
+-- a cut of a value that is to be all of the octets is one of the reader of the value
+whole_cut : {T E : Type 0} (reads : List ℕ → Result (List ℕ × T) (Refusal E) → Type 0) (from : Error → E → Type 0)
+    (octets : List ℕ) (needed : Needed) → ReadsWhole reads from octets (Err (cut needed)) →
+    reads octets (Err (cut needed))
+whole_cut reads from octets needed (Ok x, gives, (left, (e, m, is))) = cc
+whole_cut {T} {E} reads from octets needed (Err own, gives, is) =
+    subst (λ (r : Refusal E). reads octets (Err r)) (sym is) gives
+
 -- They tell that of the element, or that of the value.
 pub explicit_cuts : {T W E : Type 0} (class number : ℕ) (inner : W → T)
     (reads : List ℕ → Result (List ℕ × T) (Refusal E) → Type 0) (from : Error → E → Type 0) →
@@ -114,11 +142,8 @@ explicit_cuts {T} {W} {E} class number inner reads from octets needed (inl (faul
     inl (cut_of_fault IsDerElement DerElementFault IsCutIdentifier der_elements der_rule der_breach
     (λ o f why. inl why) E from octets needed fault f c)
 explicit_cuts class number inner reads from octets needed (inr (p, rest, front, inl (e, checked, (f, m, is)))) = cc
-explicit_cuts class number inner reads from octets needed
-    (inr (p, rest, front, inr (checked, (Ok x, gives, (left, (e, m, is)))))) = cc
-explicit_cuts {T} {W} {E} class number inner reads from octets needed
-    (inr (p, rest, front, inr (checked, (Err own, gives, is)))) =
-    inr (p, rest, front, subst (λ (r : Refusal E). reads p.content (Err r)) (sym is) gives)
+explicit_cuts class number inner reads from octets needed (inr (p, rest, front, inr (checked, whole))) =
+    inr (p, rest, front, whole_cut reads from p.content needed whole)
 
 -- By BER so does each conversion of an element.
 pub ber_header_first : {T E : Type 0} (convert : Any → Result T E → Type 0) (from : Error → E → Type 0) →
@@ -133,3 +158,40 @@ pub ber_cuts : {T E : Type 0} (convert : Any → Result T E → Type 0) (from : 
 ber_cuts {T} {E} convert from =
     element_cuts (IsElement max_depth) (ElementFault max_depth) EndsWithin ber_elements ber_rule ber_breach
     (ber_header_fault max_depth) E from PassesAll convert
+
+-- Parsers of explicit tags tell that of the element, or that of the value.
+pub ber_explicit_parser_cuts : (K : Type 0) {T E : Type 0} (reads : List ℕ → Result (List ℕ × T) (Refusal E) → Type 0)
+    (from : Error → E → Type 0) →
+    CutsAreCountedOrWithin (ElementFault max_depth) (IsElement max_depth) reads
+    (ThenByBer from (TakesExplicit {K = K} reads))
+ber_explicit_parser_cuts K {T} {E} reads from =
+    then_cuts (IsElement max_depth) (ElementFault max_depth) EndsWithin ber_elements ber_rule ber_breach
+    (ber_header_fault max_depth) E from reads (TakesExplicit {K = K} reads) (λ any rest needed taken. taken)
+
+pub der_explicit_parser_cuts : (K : Type 0) {T E : Type 0} (reads : List ℕ → Result (List ℕ × T) (Refusal E) → Type 0)
+    (from : Error → E → Type 0) →
+    CutsAreCountedOrWithin DerElementFault IsDerElement reads (ThenByDer from (TakesWhole {K = K} reads from))
+der_explicit_parser_cuts K {T} {E} reads from =
+    then_cuts IsDerElement DerElementFault IsCutIdentifier der_elements der_rule der_breach (λ o f why. inl why) E
+    from reads (TakesWhole {K = K} reads from) (λ any rest needed taken. whole_cut reads from any.content.now needed
+    taken)
+
+-- what is converted under another number tells no cut
+no_cut_under : (K : Type 0) {T E : Type 0} (tag : Tag) (converts : Any → Result T E → Type 0) (any : Any) (rest : List ℕ)
+    (needed : Needed) → TakesImplicit {K = K} tag converts any rest (Err (cut needed)) → ⊥
+no_cut_under K tag converts any rest needed (other, under, (e, converted, is)) = cc
+
+-- Parsers of implicit tags tell that of the element.
+pub ber_implicit_parser_cuts : (K : Type 0) {T E : Type 0} (tag : Tag) (converts : Any → Result T E → Type 0)
+    (from : Error → E → Type 0) →
+    CutsAreCounted (ElementFault max_depth) (ThenByBer from (TakesImplicit {K = K} tag converts))
+ber_implicit_parser_cuts K {T} {E} tag converts from =
+    then_no_cuts (IsElement max_depth) (ElementFault max_depth) EndsWithin ber_elements ber_rule ber_breach
+    (ber_header_fault max_depth) E from (TakesImplicit {K = K} tag converts) (no_cut_under K tag converts)
+
+pub der_implicit_parser_cuts : (K : Type 0) {T E : Type 0} (tag : Tag) (converts : Any → Result T E → Type 0)
+    (from : Error → E → Type 0) →
+    CutsAreCounted DerElementFault (ThenByDer from (TakesImplicit {K = K} tag converts))
+der_implicit_parser_cuts K {T} {E} tag converts from =
+    then_no_cuts IsDerElement DerElementFault IsCutIdentifier der_elements der_rule der_breach (λ o f why. inl why) E
+    from (TakesImplicit {K = K} tag converts) (no_cut_under K tag converts)

@@ -305,8 +305,8 @@ where
 /// them, nor more octets of which the refusal speaks.
 ///
 /// Nor is `None` read of such octets, where `T` refuses as the header is refused what no header begins:
-/// [`faults_come_first`](crate::faults_come_first) tells so of each type that an element converts to. A reader of
-/// another make may go by the identifier octets alone. One that refuses 04 for ever is left out of 04 00.
+/// [`faults_come_first_by_ber`](crate::faults_come_first_by_ber) tells so of each type that an element converts to. A
+/// reader of another make may go by the identifier octets alone. One that refuses 04 for ever is left out of 04 00.
 pub fn options_are_refused_by_ber<'a, T, E>()
 where
     T: LawfulBer<'a, E> + Tagged,
