@@ -173,12 +173,12 @@ pub der_explicit_parser_cuts : (K : Type 0) {T E : Type 0} (reads : List ℕ →
     CutsAreCountedOrWithin DerElementFault IsDerElement reads (ThenByDer from (TakesWhole {K = K} reads from))
 der_explicit_parser_cuts K {T} {E} reads from =
     then_cuts IsDerElement DerElementFault IsCutIdentifier der_elements der_rule der_breach (λ o f why. inl why) E
-    from reads (TakesWhole {K = K} reads from) (λ any rest needed taken. whole_cut reads from any.content.now needed
-    taken)
+    from reads (TakesWhole {K = K} reads from)
+    (λ any rest needed taken. whole_cut reads from any.content.now needed taken)
 
 -- what is converted under another number tells no cut
-no_cut_under : (K : Type 0) {T E : Type 0} (tag : Tag) (converts : Any → Result T E → Type 0) (any : Any) (rest : List ℕ)
-    (needed : Needed) → TakesImplicit {K = K} tag converts any rest (Err (cut needed)) → ⊥
+no_cut_under : (K : Type 0) {T E : Type 0} (tag : Tag) (converts : Any → Result T E → Type 0) (any : Any)
+    (rest : List ℕ) (needed : Needed) → TakesImplicit {K = K} tag converts any rest (Err (cut needed)) → ⊥
 no_cut_under K tag converts any rest needed (other, under, (e, converted, is)) = cc
 
 -- Parsers of implicit tags tell that of the element.

@@ -90,8 +90,8 @@ pub fn reader_is_exact_by_der<'a, T: LawfulDer<'a, E>, E: From<Error>>()
 {}
 
 /// The conversion of a lawful type is exact: what `T::try_from_any` may answer to an element is its value, where the
-/// parts of the element have one, and else a refusal. Of a type that does not allocate no refusal reports out of memory.
-/// The element may be made by hand.
+/// parts of the element have one, and else a refusal. Of a type that does not allocate no refusal reports out of
+/// memory. The element may be made by hand.
 pub fn conversion_is_exact<'a, T: LawfulBody<'a, E>, E: From<Error>>()
     ensures exact { (any : Any) (answer : Result T E) → IsOctets any.content.now →
         T.any_gives any answer →
@@ -101,8 +101,8 @@ pub fn conversion_is_exact<'a, T: LawfulBody<'a, E>, E: From<Error>>()
         T.any_gives any (Err e) → IsOther E.from_gives e }
 {}
 
-/// The check of a lawful type is exact: `T::check_constraints` passes the elements whose parts meet the constraints, and
-/// no others. It never reports out of memory. The element may be made by hand.
+/// The check of a lawful type is exact: `T::check_constraints` passes the elements whose parts meet the constraints,
+/// and no others. It never reports out of memory. The element may be made by hand.
 pub fn check_is_exact<T: LawfulCheck>()
     ensures exact { (p : Parts) (answer : Result (Unit {0}) Error) → T.check_gives p answer →
         Checks T.grammar.Check p answer }
