@@ -3,6 +3,7 @@ pub mod Header
 pub mod Any
 pub mod Readers
 pub mod Beginnings
+pub mod Faults
 pub mod Words
 pub mod Fields
 pub mod Forms

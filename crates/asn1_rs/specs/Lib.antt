@@ -1,5 +1,6 @@
 pub mod Any
 pub mod Traits
+pub mod Faults
 pub mod Grammar
 pub mod Checks
 pub mod Kinds

@@ -4,7 +4,7 @@ use Rattle.std.specs.Prelude.{◌≡◌, ◌≢◌, ◌⊎◌, ℕ, Bool, true, 
 use Rattle.std.specs.Prelude.{if◌then◌else◌}
 use Rattle.std.specs.Option.{option_map}
 use Rattle.x690.specs.Octets.{IsOctets}
-use Rattle.x690.specs.Identifiers.{Identifier}
+use Rattle.x690.specs.Identifiers.{Identifier, IsCutIdentifier}
 use Rattle.x690.specs.Lengths.{LengthForm}
 use Rattle.x690.specs.Rules.{Rule}
 use Rattle.x690.specs.Elements.{IsHeader}
@@ -12,7 +12,7 @@ use Rattle.asn1_rs.specs.declared.asn1_types.any.Any.{Any}
 use Rattle.asn1_headers.specs.declared.error.Err.{Err as Refusal}
 use Rattle.asn1_headers.specs.declared.error.Error.{Error}
 use Rattle.asn1_headers.specs.declared.error.Error.TheVariants as errors
-use Rattle.asn1_headers.specs.Answers.{ReadsBack}
+use Rattle.asn1_headers.specs.Answers.{ReadsBack, IsFinal, Speaks}
 use Rattle.asn1_rs.specs.Grammar.Form.{IsStrict}
 use Rattle.asn1_headers.specs.Header.{class_of, is_constructed_of, tag_of, length_of, HasParts}
 use Rattle.asn1_rs.specs.ToDer.{Writing}
@@ -70,6 +70,21 @@ ReadsNoneBefore {T} {V} {E} reads Form =
 abbrev pub ReadsNoneAtEnd : {T E : Type 0} → (List ℕ → Result (List ℕ × Option T) (Refusal E) → Type 0) → Type 0
 ReadsNoneAtEnd {T} {E} reads =
     (answer : Result (List ℕ × Option T) (Refusal E)) → reads [] answer → answer ≡ Ok ([], None)
+
+-- A refusal of an optional value is that of the value, and it is final: no word of the value begins the octets, nor
+-- more octets of which the refusal speaks.
+abbrev pub RefusesAsHeld : {T V E : Type 0} → (List ℕ → Result (List ℕ × Option T) (Refusal E) → Type 0) →
+    (List ℕ → Result (List ℕ × T) (Refusal E) → Type 0) → (List ℕ → Type 0) → (List ℕ → V → Type 0) →
+    (Refusal E → Type 0) → Type 0
+RefusesAsHeld {T} {V} {E} reads held IsCut G memory =
+    (octets : List ℕ) (r : Refusal E) → IsOctets octets → reads octets (Err r) →
+    held octets (Err r) × (memory r ⊎ IsFinal (IsCut octets) r G octets)
+
+-- After a refusal no value is left out of more octets either of which the refusal speaks.
+abbrev pub StaysIn : {T E : Type 0} → (List ℕ → Type 0) → (List ℕ → Result (List ℕ × Option T) (Refusal E) → Type 0) →
+    Type 0
+StaysIn {T} {E} LeftOut reads = (octets more : List ℕ) (r : Refusal E) → IsOctets octets → reads octets (Err r) →
+    Speaks (IsCutIdentifier octets) r more → LeftOut (octets ++ more) → ⊥
 
 -- the error tells of another tag number than the one that was expected
 abbrev pub is_of_another_tag : Error → Bool

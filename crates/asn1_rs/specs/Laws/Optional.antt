@@ -6,14 +6,16 @@ use Rattle.std.proofs.lemmas.Bool.{eqb-true, eq-eqb, false≢true}
 use Rattle.std.proofs.lemmas.Bool.Decides.{Decides-not, Decides-eqb}
 use Rattle.std.specs.Option.{option_map}
 use Rattle.x690.specs.Octets.{IsOctets}
-use Rattle.x690.specs.Identifiers.{Identifier}
+use Rattle.x690.specs.Identifiers.{Identifier, IsCutIdentifier}
 use Rattle.x690.specs.Lengths.{LengthForm, definite}
 use Rattle.x690.specs.Rules.{Rule}
-use Rattle.x690.specs.Elements.{IsHeader, AllowsStrict}
-use Rattle.x690.specs.Faults.{Breach}
+use Rattle.x690.specs.Elements.{IsHeader, Parts, AllowsStrict}
+use Rattle.x690.specs.Faults.{Breach, Fault, HeaderFault, SpeaksOf}
 use Rattle.x690.specs.Laws.Headers.{header_unique, header_two}
-use Rattle.x690.specs.Laws.Faults.{header_or_fault}
+use Rattle.x690.specs.Laws.Faults.{header_or_fault, header_fault_counts, no_header}
+use Rattle.x690.specs.Laws.Faults.Complete.{header_or_has_fault}
 use Rattle.x690.specs.Joined.{IsOneFront}
+use Rattle.asn1_rs.specs.declared.asn1_types.any.Any.{Any}
 use Rattle.asn1_headers.specs.declared.error.Err.{Err as Refusal}
 use Rattle.asn1_headers.specs.declared.error.Error.{Error}
 use Rattle.asn1_headers.specs.declared.tag.Tag.{Tag}
@@ -25,6 +27,11 @@ use Rattle.asn1_headers.specs.Header.{identifier_of}
 use Rattle.asn1_headers.specs.Header.Reading.{HeaderGives, refusal_of}
 use Rattle.asn1_headers.specs.Length.{form_of}
 use Rattle.asn1_rs.specs.Optional.{IsLeftOut, OptionGives, ReadsHeldBack, ReadsNoneBefore, ReadsNoneAtEnd, in_some}
+use Rattle.asn1_rs.specs.Optional.{IsAtEnd, RefusesAsHeld, StaysIn}
+use Rattle.asn1_rs.specs.Faults.{TellsHeaderFirst}
+use Rattle.asn1_rs.specs.Laws.Readers.{AreElements, speaks_fault}
+use Rattle.asn1_rs.specs.Any.{AnyGives}
+use Rattle.asn1_rs.specs.Laws.Any.{refusal_lasts}
 use Rattle.asn1_rs.specs.Laws.Words.{strict_element, read_back}
 use mathlib.Core.HLevel.{⊥_prop}
 use mathlib.Core.Logic.{∥∥₁_elim}
@@ -179,3 +186,93 @@ held_is_read_back rule allows IsCut Form G value memory number equality strict o
     answer v w rest are (inr (stays, (its, gives, e))) s is =
     subst (ReadsBack (option_map value) memory (Some v) rest) (sym e) (held_reads_back value memory v rest its
     (read_back IsCut Form G value memory equality strict one octets its (exact octets its are gives) v w rest s is))
+
+-- Refusals are those of the value, and final.
+
+-- a refusal is one of the reader of the value, and no value is left out of these octets
+refused_is_held : {T E : Type 0} (LeftOut : List ℕ → Type 0) (reads : List ℕ → Result (List ℕ × T) (Refusal E) → Type 0)
+    (octets : List ℕ) (r : Refusal E) → OptionGives LeftOut reads octets (Err r) →
+    (LeftOut octets → ⊥) × reads octets (Err r)
+refused_is_held LeftOut reads octets r (inl (out, e)) = cc
+refused_is_held LeftOut reads octets r (inr (stays, (Ok x, gives, e))) = cc
+refused_is_held {T} {E} LeftOut reads octets r (inr (stays, (Err q, gives, e))) =
+    let same : q ≡ r = cc in
+    (stays, subst (λ (z : Refusal E). reads octets (Err z)) same gives)
+
+-- A refusal of an optional value is that of the value, and final as that.
+pub held_is_refused : {T V E : Type 0} (LeftOut : List ℕ → Type 0) (IsCut : List ℕ → Type 0) (G : List ℕ → V → Type 0)
+    (value : T → V) (memory : Refusal E → Type 0) (reads : List ℕ → Result (List ℕ × T) (Refusal E) → Type 0)
+    → ((octets : List ℕ) (its : Result (List ℕ × T) (Refusal E)) → IsOctets octets → reads octets its →
+    Exactly IsCut G value memory octets its)
+    → RefusesAsHeld (OptionGives LeftOut reads) reads IsCut G memory
+held_is_refused LeftOut IsCut G value memory reads exact octets r are g =
+    let its = (refused_is_held LeftOut reads octets r g).1 in
+    (its, exact octets (Err r) are its)
+
+-- octets that make none with more behind them are none
+none_in_front : (octets more : List ℕ) → octets ++ more ≡ [] → octets ≡ []
+none_in_front [] more e = refl
+none_in_front (x ∷ xs) more e = cc
+
+-- what a header begins that leaves no value out leaves none out with more octets behind it
+header_stays : (rule : Rule) (number : ℕ) (octets more header rest : List ℕ) (id : Identifier) (form : LengthForm) →
+    IsHeader rule header id form → octets ≡ header ++ rest → (IsLeftOut rule number octets → ⊥) →
+    IsLeftOut rule number (octets ++ more) → ⊥
+header_stays rule number octets more header rest id form h e stays (inl none) =
+    stays (inl (none_in_front octets more none))
+header_stays rule number octets more header rest id form h e stays (inr other) =
+    let u = header_unique rule rule other.header header other.rest (rest ++ more) other.id id other.form form
+    other.header_is h (sym other.is ∙ ap (λ (ys : List ℕ). ys ++ more) e ∙ append_assoc header rest more) in
+    stays (inr (record {
+      header = header;
+      rest = rest;
+      id = id;
+      form = form;
+      header_is = h;
+      is = e;
+      other = λ same. other.other (ap (λ (i : Identifier). i.number) u.1 ∙ same);
+    }))
+
+-- nor does one begin octets of which the fault of these speaks
+fault_stays : (rule : Rule) (number : ℕ) (octets more : List ℕ) (fault : Fault) → HeaderFault rule octets fault →
+    SpeaksOf (IsCutIdentifier octets) fault more → (IsLeftOut rule number octets → ⊥) →
+    IsLeftOut rule number (octets ++ more) → ⊥
+fault_stays rule number octets more fault why speaks stays (inl none) = stays (inl (none_in_front octets more none))
+fault_stays rule number octets more fault why speaks stays (inr other) =
+    no_header rule octets more other.header other.rest other.id other.form fault why speaks other.header_is other.is
+
+-- Where a reader refuses headers first, no value is left out before octets of which its refusal speaks.
+pub refused_stays_in : {T E : Type 0} (rule : Rule) (refuses : Breach → Error) (from : Error → E → Type 0) (number : ℕ)
+    (reads : List ℕ → Result (List ℕ × T) (Refusal E) → Type 0) → TellsHeaderFirst rule refuses from reads →
+    StaysIn (IsLeftOut rule number) (OptionGives (IsLeftOut rule number) reads)
+refused_stays_in {T} {E} rule refuses from number reads first octets more r are g speaks out =
+    let its = refused_is_held (IsLeftOut rule number) reads octets r g in
+    elim (header_or_has_fault rule octets are) [
+      | inl h ↦ header_stays rule number octets more h.0 h.1 h.2 h.3 h.4 h.5 its.0 out
+      | inr f ↦ fault_stays rule number octets more f.0 f.1
+          (speaks_fault {E = E} refuses from f.0 r (IsCutIdentifier octets) more
+          (header_fault_counts rule octets f.0 f.1)
+          (first octets (refusal_of refuses f.0) r (f.0, f.1, refl) its.1) speaks) its.0 out
+    ]
+
+-- Elements of any tag number.
+
+-- A refusal of an optional element is that of the element, and final as that.
+pub element_is_refused : (ElementOf : List ℕ → Parts → Type 0) (FaultOf : List ℕ → Fault → Type 0)
+    (IsCut : List ℕ → Type 0) → AreElements ElementOf FaultOf IsCut → (refuses : Breach → Error)
+    (LeftOut : List ℕ → Type 0) (reads : List ℕ → Result (List ℕ × Any) (Refusal Error) → Type 0) →
+    ((octets : List ℕ) (answer : Result (List ℕ × Any) (Refusal Error)) → reads octets answer →
+    AnyGives ElementOf FaultOf (refusal_of refuses) octets answer) →
+    RefusesAsHeld (OptionGives LeftOut reads) reads IsCut ElementOf (λ r. ⊥)
+element_is_refused ElementOf FaultOf IsCut elements refuses LeftOut reads gives octets r are g =
+    let its = (refused_is_held LeftOut reads octets r g).1 in (
+      its,
+      inr (λ more speaks word rest p e a. refusal_lasts ElementOf FaultOf IsCut elements refuses octets r
+          (gives octets (Err r) its) more word rest p speaks a e),
+    )
+
+-- It is left out of no octets that begin with those that are refused.
+pub element_stays_in : {T E : Type 0} (reads : List ℕ → Result (List ℕ × T) (Refusal E) → Type 0) →
+    StaysIn IsAtEnd (OptionGives IsAtEnd reads)
+element_stays_in reads octets more r are g speaks end =
+    (refused_is_held IsAtEnd reads octets r g).0 (none_in_front octets more end)

@@ -1,17 +1,23 @@
 //! Optional values: an element that may be left out, told by its tag number.
 //!
 //! An `Option` is no lawful item: its word would be empty where it holds nothing, so items of a list could not be told
-//! apart. Its laws, two for each rule, speak of the value that it holds and of what stands in its place.
+//! apart. Its laws speak of the value that it holds, of what stands in its place, and of refusals.
 ghost use Rattle.std.specs.Prelude.{◌≡◌, ◌≢◌, ◌↔◌, Bool, false, IsTrue};
+ghost use Rattle.x690.specs.Identifiers.{IsCutIdentifier};
+ghost use Rattle.x690.specs.Elements.{IsDerElement};
+ghost use Rattle.x690.specs.Nested.{IsElement};
 ghost use Rattle.x690.specs.Rules.{Rule, der_rule, ber_rule};
 ghost use Rattle.x690.specs.Faults.{Breach};
 ghost use Rattle.asn1_headers.specs.declared.error.Error.{Error};
 ghost use Rattle.asn1_headers.specs.Answers.{seen, TellsMemory};
 ghost use Rattle.asn1_rs.specs.Any.{IsTheElement, IsDefiniteOr};
-ghost use Rattle.asn1_headers.specs.Header.Reading.{refusal_of, HeaderGives};
+ghost use Rattle.asn1_rs.specs.Faults.{TellsHeaderFirst};
+ghost use Rattle.asn1_headers.specs.Ber.{max_depth, EndsWithin};
+ghost use Rattle.asn1_headers.specs.Header.Reading.{refusal_of, ber_breach, der_breach, HeaderGives};
+ghost use Rattle.asn1_rs.specs.Grammar.Item.{ber_words};
 ghost use Rattle.asn1_rs.specs.Optional.{IsLeftOut, IsAtEnd, OptionGives, ReadsHeldBack, ReadsNoneBefore};
 ghost use Rattle.asn1_rs.specs.Optional.{ReadsNoneAtEnd, in_some, held_or, is_of_another_tag, IsWithoutRawTag, none_or};
-ghost use Rattle.asn1_rs.specs.Optional.{NoneOrConverted, option_writing};
+ghost use Rattle.asn1_rs.specs.Optional.{NoneOrConverted, option_writing, RefusesAsHeld, StaysIn};
 ghost use Rattle.asn1_rs.specs.Traits.{BerGives, DerGives};
 
 use crate::asn1_types::any::Any;
@@ -293,4 +299,45 @@ where
     ensures before { (U.TAG).0 ≢ (T.TAG).0 →
         ReadsNoneBefore (OptionGives (IsLeftOut der_rule (T.TAG).0) T.der_gives) U.grammar.Form }
     ensures at_end { ReadsNoneAtEnd (OptionGives (IsLeftOut der_rule (T.TAG).0) T.der_gives) }
+{}
+
+/// What an `Option<T>` is refused with by BER, `T` refuses the same octets with, and it is final: no word of `T` begins
+/// them, nor more octets of which the refusal speaks.
+///
+/// Nor is `None` read of such octets, where `T` refuses as the header is refused what no header begins:
+/// [`faults_come_first_by_ber`](crate::faults_come_first_by_ber) tells so of each type that an element converts to. A
+/// reader of another make may go by the identifier octets alone. One that refuses 04 for ever is left out of 04 00.
+pub fn options_are_refused_by_ber<'a, T, E>()
+where
+    T: LawfulBer<'a, E> + Tagged,
+    E: From<Error>,
+    ensures last { RefusesAsHeld (OptionGives (IsLeftOut ber_rule (T.TAG).0) T.ber_gives) T.ber_gives
+        EndsWithin (ber_words T.grammar) (TellsMemory T.grammar.allocates E.from_gives) }
+    ensures stays { TellsHeaderFirst ber_rule ber_breach E.from_gives T.ber_gives →
+        StaysIn (IsLeftOut ber_rule (T.TAG).0)
+        (OptionGives (IsLeftOut ber_rule (T.TAG).0) T.ber_gives) }
+{}
+
+/// What an `Option<T>` is refused with by DER is such a refusal, too.
+pub fn options_are_refused_by_der<'a, T, E>()
+where
+    T: LawfulDer<'a, E> + Tagged,
+    E: From<Error>,
+    ensures last { RefusesAsHeld (OptionGives (IsLeftOut der_rule (T.TAG).0) T.der_gives) T.der_gives
+        IsCutIdentifier T.grammar.Der (TellsMemory T.grammar.allocates E.from_gives) }
+    ensures stays { TellsHeaderFirst der_rule der_breach E.from_gives T.der_gives →
+        StaysIn (IsLeftOut der_rule (T.TAG).0)
+        (OptionGives (IsLeftOut der_rule (T.TAG).0) T.der_gives) }
+{}
+
+/// What an `Option<Any>` is refused with, `Any` refuses the same octets with, and it is final. `None` is read of no
+/// octets that begin with these.
+pub fn optional_elements_are_refused()
+    ensures ber { RefusesAsHeld (OptionGives IsAtEnd (BerGives IsTheElement (λ e f. f ≡ e)))
+        (BerGives IsTheElement (λ e f. f ≡ e)) EndsWithin (IsElement max_depth) (λ r. ⊥) }
+    ensures der { RefusesAsHeld (OptionGives IsAtEnd (DerGives IsDefiniteOr IsTheElement (λ e f. f ≡ e)))
+        (DerGives IsDefiniteOr IsTheElement (λ e f. f ≡ e)) IsCutIdentifier IsDerElement (λ r. ⊥) }
+    ensures ber_stays { StaysIn IsAtEnd (OptionGives IsAtEnd (BerGives IsTheElement (λ e f. f ≡ e))) }
+    ensures der_stays { StaysIn IsAtEnd
+        (OptionGives IsAtEnd (DerGives IsDefiniteOr IsTheElement (λ e f. f ≡ e))) }
 {}

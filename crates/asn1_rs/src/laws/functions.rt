@@ -3,7 +3,7 @@
 //! Their contracts are the statements, and nothing runs in them: a caller calls one where it needs the law.
 //!
 //! A law of a trait reaches a caller only through a bound.
-ghost use Rattle.std.specs.Prelude.{◌≡◌, [], ◌++◌, ◌<◌, ◌^◌, ◌↔◌, ℕ, false, List, length, Result, IfErr};
+ghost use Rattle.std.specs.Prelude.{◌≡◌, [], ◌++◌, ◌<◌, ◌^◌, ◌↔◌, ℕ, false, List, length, Result, Err, IfErr};
 ghost use Rattle.x690.specs.Octets.{IsOctets};
 ghost use Rattle.x690.specs.Identifiers.{Identifier, IsCutIdentifier};
 ghost use Rattle.x690.specs.Lengths.{LengthForm};
@@ -13,16 +13,17 @@ ghost use Rattle.x690.specs.Faults.{Breach};
 ghost use Rattle.x690.specs.Nested.{IsElement};
 ghost use Rattle.asn1_headers.specs.declared.error.Err.{Err as Refusal};
 ghost use Rattle.asn1_headers.specs.declared.error.Error.{Error};
+ghost use Rattle.asn1_headers.specs.declared.error.Error.TheVariants.{OutOfMemory};
 ghost use Rattle.asn1_headers.specs.declared.header.Header.{Header};
 ghost use Rattle.asn1_rs.specs.declared.asn1_types.any.Any.{Any};
 ghost use Rattle.asn1_headers.specs.Error.{HeldIn};
 ghost use Rattle.asn1_headers.specs.Answers.{Exactly, TellsMemory, IsOther, ReadsBack, RefusedAsBeginning};
 ghost use Rattle.asn1_headers.specs.Answers.{RefusedBeforeEnd};
-ghost use Rattle.asn1_rs.specs.Grammar.{FormBodies, FormChecks, FormNumber, FormTakes};
+ghost use Rattle.asn1_rs.specs.Grammar.{Checks, FormBodies, FormChecks, FormNumber, FormTakes, TakesBody};
 ghost use Rattle.asn1_rs.specs.Grammar.Form.{IsStrict, WritesByValue};
 ghost use Rattle.asn1_headers.specs.Ber.{max_depth, EndsWithin};
 ghost use Rattle.asn1_headers.specs.Header.Reading.{refusal_of, HeaderGives};
-ghost use Rattle.asn1_rs.specs.Any.{DerElementGives, BerElementGives};
+ghost use Rattle.asn1_rs.specs.Any.{DerElementGives, BerElementGives, parts_of};
 ghost use Rattle.asn1_rs.specs.Leaf.{HaveOneRefusal};
 ghost use Rattle.asn1_rs.specs.Boolean.{boolean_leaf, bool_leaf};
 ghost use Rattle.asn1_rs.specs.Null.{null_leaf, unit_leaf};
@@ -36,7 +37,8 @@ ghost use Rattle.asn1_rs.specs.ToDer.{IsWritable, whole_octets};
 ghost use Rattle.asn1_rs.specs.Grammar.Item.{ber_words};
 
 use crate::laws::{
-    LawfulBer, LawfulDer, LawfulItem, LawfulMember, LawfulTagged, LawfulWrite, TakesClass,
+    LawfulBer, LawfulBody, LawfulCheck, LawfulDer, LawfulItem, LawfulMember, LawfulTagged,
+    LawfulWrite, TakesClass,
 };
 use asn1_headers::error::Error;
 use std::hash::Hash;
@@ -85,6 +87,26 @@ pub fn reader_is_exact_by_der<'a, T: LawfulDer<'a, E>, E: From<Error>>()
     ensures asks_no_memory { (input : List ℕ) (answer : Result (List ℕ × T) (Refusal E)) →
         T.grammar.allocates ≡ false → T.der_gives input answer →
         IfErr answer (HeldIn (IsOther E.from_gives)) }
+{}
+
+/// The conversion of a lawful type is exact: what `T::try_from_any` may answer to an element is its value, where the
+/// parts of the element have one, and else a refusal. Of a type that does not allocate no refusal reports out of
+/// memory. The element may be made by hand.
+pub fn conversion_is_exact<'a, T: LawfulBody<'a, E>, E: From<Error>>()
+    ensures exact { (any : Any) (answer : Result T E) → IsOctets any.content.now →
+        T.any_gives any answer →
+        TakesBody T.grammar.Body T.grammar.value T.grammar.allocates E.from_gives (parts_of any)
+        answer }
+    ensures asks_no_memory { (any : Any) (e : E) → T.grammar.allocates ≡ false →
+        T.any_gives any (Err e) → IsOther E.from_gives e }
+{}
+
+/// The check of a lawful type is exact: `T::check_constraints` passes the elements whose parts meet the constraints,
+/// and no others. It never reports out of memory. The element may be made by hand.
+pub fn check_is_exact<T: LawfulCheck>()
+    ensures exact { (p : Parts) (answer : Result (Unit {0}) Error) → T.check_gives p answer →
+        Checks T.grammar.Check p answer }
+    ensures asks_no_memory { (p : Parts) → T.check_gives p (Err OutOfMemory) → ⊥ }
 {}
 
 /// What is written of an item whose value is in DER form is read back as this value by BER, before any rest: what

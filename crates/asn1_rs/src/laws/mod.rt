@@ -4,6 +4,7 @@
 //! who prove. A type whose laws are proved can be read by [`read_ber`] and [`read_der`] and written by
 //! [`write_strict`], alone or nested in lists, sets and tags.
 
+pub(crate) mod faults;
 pub(crate) mod functions;
 pub(crate) mod in_hand;
 
