@@ -1,5 +1,5 @@
 -- Readers of fields, of rows and of structs are exact.
-use Rattle.std.proofs.Common.{◌≡◌, ◌≢◌, refl, ℕ, false, List, inl, inr}
+use Rattle.std.proofs.Common.{◌≡◌, ◌≢◌, ℕ, false, List}
 use Rattle.std.specs.Prelude.{◌||◌, Option, Result, Ok, Err, IfErr}
 use Rattle.x690.specs.Octets.{IsOctets}
 use Rattle.x690.specs.Identifiers.{IsCutIdentifier}
