@@ -105,23 +105,30 @@ fn push_answer<T: Says + Drop>(
 }
 
 /// Appends octets, and what is read of them by DER. Where it is another by BER, this too.
-fn push_back<T: Says + Drop>(
+fn push_back<'a, T: FromDer<'a, Error> + FromBer<'a, Error> + Says + Drop>(
     text: &mut String,
     alloc: Global,
-    octets: &[u8],
-    by_der: ParseResult<'_, T, Error>,
-    by_ber: ParseResult<'_, T, Error>,
+    octets: &'a [u8],
 ) -> Result<(), Fail> {
     push_digits(text, octets)?;
     let mut answers = (String::new(alloc), String::new(alloc));
-    push_answer(&mut answers.0, by_der)?;
-    push_answer(&mut answers.1, by_ber)?;
+    push_answer(&mut answers.0, T::from_der(alloc, octets))?;
+    push_answer(&mut answers.1, T::from_ber(alloc, octets))?;
     write!(text, " {}", answers.0)?;
     if answers.0 != answers.1 {
         write!(text, ", by BER {}", answers.1)?;
     }
     Ok(())
 }
+
+/// A number under the tag 2, under the tag 1.
+type Pair<Outer, const OUTER: u8, Inner, const INNER: u8> = TaggedValue<
+    TaggedValue<u8, Error, Inner, INNER, 2>,
+    Error,
+    Outer,
+    OUTER,
+    1,
+>;
 
 /// The kinds of two tags.
 trait Kinds {
@@ -137,33 +144,11 @@ impl Kinds for ExplicitOverExplicit {
         text: &mut String,
         alloc: Global,
     ) -> Result<(), Fail> {
-        let value: TaggedValue<
-            TaggedValue<u8, Error, Explicit, INNER, 2>,
-            Error,
-            Explicit,
-            OUTER,
-            1,
-        > = TaggedValue::explicit(TaggedValue::explicit(5));
-        let octets = value.to_der_vec(alloc)?;
-        push_back(
-            text,
-            alloc,
-            octets.as_slice(),
-            TaggedValue::<
-                TaggedValue<u8, Error, Explicit, INNER, 2>,
-                Error,
-                Explicit,
-                OUTER,
-                1,
-            >::from_der(alloc, octets.as_slice()),
-            TaggedValue::<
-                TaggedValue<u8, Error, Explicit, INNER, 2>,
-                Error,
-                Explicit,
-                OUTER,
-                1,
-            >::from_ber(alloc, octets.as_slice()),
-        )
+        let pair: Pair<Explicit, OUTER, Explicit, INNER> = TaggedValue::explicit(
+            TaggedValue::explicit(5),
+        );
+        let octets = pair.to_der_vec(alloc)?;
+        push_back::<Pair<Explicit, OUTER, Explicit, INNER>>(text, alloc, octets.as_slice())
     }
 }
 
@@ -175,33 +160,11 @@ impl Kinds for ExplicitOverImplicit {
         text: &mut String,
         alloc: Global,
     ) -> Result<(), Fail> {
-        let value: TaggedValue<
-            TaggedValue<u8, Error, Implicit, INNER, 2>,
-            Error,
-            Explicit,
-            OUTER,
-            1,
-        > = TaggedValue::explicit(TaggedValue::implicit(5));
-        let octets = value.to_der_vec(alloc)?;
-        push_back(
-            text,
-            alloc,
-            octets.as_slice(),
-            TaggedValue::<
-                TaggedValue<u8, Error, Implicit, INNER, 2>,
-                Error,
-                Explicit,
-                OUTER,
-                1,
-            >::from_der(alloc, octets.as_slice()),
-            TaggedValue::<
-                TaggedValue<u8, Error, Implicit, INNER, 2>,
-                Error,
-                Explicit,
-                OUTER,
-                1,
-            >::from_ber(alloc, octets.as_slice()),
-        )
+        let pair: Pair<Explicit, OUTER, Implicit, INNER> = TaggedValue::explicit(
+            TaggedValue::implicit(5),
+        );
+        let octets = pair.to_der_vec(alloc)?;
+        push_back::<Pair<Explicit, OUTER, Implicit, INNER>>(text, alloc, octets.as_slice())
     }
 }
 
@@ -213,33 +176,11 @@ impl Kinds for ImplicitOverExplicit {
         text: &mut String,
         alloc: Global,
     ) -> Result<(), Fail> {
-        let value: TaggedValue<
-            TaggedValue<u8, Error, Explicit, INNER, 2>,
-            Error,
-            Implicit,
-            OUTER,
-            1,
-        > = TaggedValue::implicit(TaggedValue::explicit(5));
-        let octets = value.to_der_vec(alloc)?;
-        push_back(
-            text,
-            alloc,
-            octets.as_slice(),
-            TaggedValue::<
-                TaggedValue<u8, Error, Explicit, INNER, 2>,
-                Error,
-                Implicit,
-                OUTER,
-                1,
-            >::from_der(alloc, octets.as_slice()),
-            TaggedValue::<
-                TaggedValue<u8, Error, Explicit, INNER, 2>,
-                Error,
-                Implicit,
-                OUTER,
-                1,
-            >::from_ber(alloc, octets.as_slice()),
-        )
+        let pair: Pair<Implicit, OUTER, Explicit, INNER> = TaggedValue::implicit(
+            TaggedValue::explicit(5),
+        );
+        let octets = pair.to_der_vec(alloc)?;
+        push_back::<Pair<Implicit, OUTER, Explicit, INNER>>(text, alloc, octets.as_slice())
     }
 }
 
@@ -251,33 +192,11 @@ impl Kinds for ImplicitOverImplicit {
         text: &mut String,
         alloc: Global,
     ) -> Result<(), Fail> {
-        let value: TaggedValue<
-            TaggedValue<u8, Error, Implicit, INNER, 2>,
-            Error,
-            Implicit,
-            OUTER,
-            1,
-        > = TaggedValue::implicit(TaggedValue::implicit(5));
-        let octets = value.to_der_vec(alloc)?;
-        push_back(
-            text,
-            alloc,
-            octets.as_slice(),
-            TaggedValue::<
-                TaggedValue<u8, Error, Implicit, INNER, 2>,
-                Error,
-                Implicit,
-                OUTER,
-                1,
-            >::from_der(alloc, octets.as_slice()),
-            TaggedValue::<
-                TaggedValue<u8, Error, Implicit, INNER, 2>,
-                Error,
-                Implicit,
-                OUTER,
-                1,
-            >::from_ber(alloc, octets.as_slice()),
-        )
+        let pair: Pair<Implicit, OUTER, Implicit, INNER> = TaggedValue::implicit(
+            TaggedValue::implicit(5),
+        );
+        let octets = pair.to_der_vec(alloc)?;
+        push_back::<Pair<Implicit, OUTER, Implicit, INNER>>(text, alloc, octets.as_slice())
     }
 }
 
