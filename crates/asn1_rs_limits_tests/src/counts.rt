@@ -1,7 +1,8 @@
 //! Counts of octets that sum to 2^64 - 1, and past it; and the greatest length of one length octet.
 
 use asn1_rs::{
-    DerWrite, Error, SequenceOf, SerializeResult, SetOf, Tag, Tagged, TaggedExplicit, ToDer, Told,
+    BitString, DerWrite, Error, SequenceOf, SerializeResult, SetOf, Tag, Tagged, TaggedExplicit,
+    ToDer, Told,
 };
 use std::alloc::Global;
 use std::fmt::Write;
@@ -149,8 +150,16 @@ Ok(126) Ok(128) header Ok(2) 307e written Ok(128) 307e+63*0500
 Ok(128) Ok(131) header Ok(3) 308180 written Ok(131) 308180+64*0500
 ";
 
+/// Bits in 126 octets, and in 127. Before them one octet tells how many are unused (X.690 8.6.2).
+const BITS: &str = "\
+Ok(127) Ok(129) header Ok(2) 037f written Ok(129) 037f00+126*07
+Ok(128) Ok(131) header Ok(3) 038180 written Ok(131) 03818000+127*07
+";
+
 #[test]
 fn lengths_from_128_on_have_two_octets(rt: HostRuntime) -> Result<(), Fail> {
     let lists = [nulls(rt.alloc(), 63)?, nulls(rt.alloc(), 64)?];
-    assert_counts(rt.alloc(), &lists, NULLS)
+    assert_counts(rt.alloc(), &lists, NULLS)?;
+    let strings = [BitString::new(0, &[7; 126]), BitString::new(0, &[7; 127])];
+    assert_counts(rt.alloc(), &strings, BITS)
 }

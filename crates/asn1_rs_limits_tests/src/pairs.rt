@@ -1,6 +1,9 @@
 //! Tags of each class and kind over tags of each class and kind.
 
-use asn1_rs::{Err, Error, Explicit, FromBer, FromDer, Implicit, ParseResult, TaggedValue, ToDer};
+use asn1_rs::{
+    Err, Error, Explicit, FromBer, FromDer, Implicit, ParseResult, SerializeResult, TaggedValue,
+    ToDer,
+};
 use std::alloc::Global;
 use std::fmt::Write;
 use std::test::Fail;
@@ -130,112 +133,81 @@ type Pair<Outer, const OUTER: u8, Inner, const INNER: u8> = TaggedValue<
     1,
 >;
 
-/// The kinds of two tags.
-trait Kinds {
-    /// Appends how a number under tags of these kinds and classes is written, and what is read of that.
-    fn push<const OUTER: u8, const INNER: u8>(text: &mut String, alloc: Global) -> Result<(), Fail>;
-}
-
-/// An explicit tag over an explicit one.
-struct ExplicitOverExplicit;
-
-impl Kinds for ExplicitOverExplicit {
-    fn push<const OUTER: u8, const INNER: u8>(
-        text: &mut String,
-        alloc: Global,
-    ) -> Result<(), Fail> {
-        let pair: Pair<Explicit, OUTER, Explicit, INNER> = TaggedValue::explicit(
-            TaggedValue::explicit(5),
-        );
-        let octets = pair.to_der_vec(alloc)?;
-        push_back::<Pair<Explicit, OUTER, Explicit, INNER>>(text, alloc, octets.as_slice())
+/// How a number under tags of these kinds and classes is written.
+fn written<const OUTER: u8, const INNER: u8>(
+    alloc: Global,
+    kinds: &str,
+) -> SerializeResult<Vec<u8>> {
+    match kinds {
+        "explicit over explicit" => {
+            Pair::<Explicit, OUTER, Explicit, INNER>::explicit(TaggedValue::explicit(5)).to_der_vec(
+                alloc,
+            )
+        }
+        "explicit over implicit" => {
+            Pair::<Explicit, OUTER, Implicit, INNER>::explicit(TaggedValue::implicit(5)).to_der_vec(
+                alloc,
+            )
+        }
+        "implicit over explicit" => {
+            Pair::<Implicit, OUTER, Explicit, INNER>::implicit(TaggedValue::explicit(5)).to_der_vec(
+                alloc,
+            )
+        }
+        _ => Pair::<Implicit, OUTER, Implicit, INNER>::implicit(TaggedValue::implicit(
+            5,
+        )).to_der_vec(alloc),
     }
 }
 
-/// An explicit tag over an implicit one.
-struct ExplicitOverImplicit;
-
-impl Kinds for ExplicitOverImplicit {
-    fn push<const OUTER: u8, const INNER: u8>(
-        text: &mut String,
-        alloc: Global,
-    ) -> Result<(), Fail> {
-        let pair: Pair<Explicit, OUTER, Implicit, INNER> = TaggedValue::explicit(
-            TaggedValue::implicit(5),
-        );
-        let octets = pair.to_der_vec(alloc)?;
-        push_back::<Pair<Explicit, OUTER, Implicit, INNER>>(text, alloc, octets.as_slice())
-    }
-}
-
-/// An implicit tag over an explicit one.
-struct ImplicitOverExplicit;
-
-impl Kinds for ImplicitOverExplicit {
-    fn push<const OUTER: u8, const INNER: u8>(
-        text: &mut String,
-        alloc: Global,
-    ) -> Result<(), Fail> {
-        let pair: Pair<Implicit, OUTER, Explicit, INNER> = TaggedValue::implicit(
-            TaggedValue::explicit(5),
-        );
-        let octets = pair.to_der_vec(alloc)?;
-        push_back::<Pair<Implicit, OUTER, Explicit, INNER>>(text, alloc, octets.as_slice())
-    }
-}
-
-/// An implicit tag over an implicit one.
-struct ImplicitOverImplicit;
-
-impl Kinds for ImplicitOverImplicit {
-    fn push<const OUTER: u8, const INNER: u8>(
-        text: &mut String,
-        alloc: Global,
-    ) -> Result<(), Fail> {
-        let pair: Pair<Implicit, OUTER, Implicit, INNER> = TaggedValue::implicit(
-            TaggedValue::implicit(5),
-        );
-        let octets = pair.to_der_vec(alloc)?;
-        push_back::<Pair<Implicit, OUTER, Implicit, INNER>>(text, alloc, octets.as_slice())
+/// Appends how a number under tags of these kinds and classes is written, and what is read of that.
+fn push_pair<const OUTER: u8, const INNER: u8>(
+    text: &mut String,
+    alloc: Global,
+    kinds: &str,
+) -> Result<(), Fail> {
+    let octets = written::<OUTER, INNER>(alloc, kinds)?;
+    let octets = octets.as_slice();
+    match kinds {
+        "explicit over explicit" => {
+            push_back::<Pair<Explicit, OUTER, Explicit, INNER>>(text, alloc, octets)
+        }
+        "explicit over implicit" => {
+            push_back::<Pair<Explicit, OUTER, Implicit, INNER>>(text, alloc, octets)
+        }
+        "implicit over explicit" => {
+            push_back::<Pair<Implicit, OUTER, Explicit, INNER>>(text, alloc, octets)
+        }
+        _ => push_back::<Pair<Implicit, OUTER, Implicit, INNER>>(text, alloc, octets),
     }
 }
 
 /// Appends the answer at the inner class of this number.
-fn push_inner<K: Kinds, const OUTER: u8>(
+fn push_inner<const OUTER: u8>(
     text: &mut String,
     alloc: Global,
+    kinds: &str,
     inner: u8,
 ) -> Result<(), Fail> {
     match inner {
-        0 => K::push::<OUTER, 0>(text, alloc),
-        1 => K::push::<OUTER, 1>(text, alloc),
-        2 => K::push::<OUTER, 2>(text, alloc),
-        _ => K::push::<OUTER, 3>(text, alloc),
+        0 => push_pair::<OUTER, 0>(text, alloc, kinds),
+        1 => push_pair::<OUTER, 1>(text, alloc, kinds),
+        2 => push_pair::<OUTER, 2>(text, alloc, kinds),
+        _ => push_pair::<OUTER, 3>(text, alloc, kinds),
     }
 }
 
-/// Appends the answer at these classes.
-fn push_classes<K: Kinds>(text: &mut String, alloc: Global, classes: &[u8]) -> Result<(), Fail> {
-    match classes {
-        [0, inner] => push_inner::<K, 0>(text, alloc, *inner),
-        [1, inner] => push_inner::<K, 1>(text, alloc, *inner),
-        [2, inner] => push_inner::<K, 2>(text, alloc, *inner),
-        [3, inner] => push_inner::<K, 3>(text, alloc, *inner),
-        _ => Ok(text.push_str("no classes")?),
-    }
-}
-
-/// The calls of the table.
+/// Pairs of tags, by their kinds; the octets are the class of the outer tag and that of the inner one.
 struct Pairs;
 
 impl Calls for Pairs {
-    fn answer(text: &mut String, alloc: Global, name: &str, octets: &[u8]) -> Result<(), Fail> {
-        match name {
-            "explicit over explicit" => push_classes::<ExplicitOverExplicit>(text, alloc, octets),
-            "explicit over implicit" => push_classes::<ExplicitOverImplicit>(text, alloc, octets),
-            "implicit over explicit" => push_classes::<ImplicitOverExplicit>(text, alloc, octets),
-            "implicit over implicit" => push_classes::<ImplicitOverImplicit>(text, alloc, octets),
-            _ => Ok(text.push_str("no such call")?),
+    fn answer(text: &mut String, alloc: Global, kinds: &str, octets: &[u8]) -> Result<(), Fail> {
+        match octets {
+            [0, inner] => push_inner::<0>(text, alloc, kinds, *inner),
+            [1, inner] => push_inner::<1>(text, alloc, kinds, *inner),
+            [2, inner] => push_inner::<2>(text, alloc, kinds, *inner),
+            [3, inner] => push_inner::<3>(text, alloc, kinds, *inner),
+            _ => Ok(text.push_str("no classes")?),
         }
     }
 }
