@@ -108,10 +108,8 @@ fn lists_are_counted(rt: HostRuntime) -> Result<(), Fail> {
     )
 }
 
-/// The value under the tag [0].
-fn tagged<T>(value: T) -> TaggedExplicit<T, Error, 0> {
-    TaggedExplicit::explicit(value)
-}
+/// A value under the tag [0].
+type UnderTag<T> = TaggedExplicit<T, Error, 0>;
 
 /// Two such values in a list under a tag.
 const TAGGED_SEQUENCE: &str =
@@ -128,11 +126,15 @@ const TAGGED: &str =
 #[test]
 fn values_under_a_tag_are_counted(rt: HostRuntime) -> Result<(), Fail> {
     let alloc = rt.alloc();
-    assert_counts(alloc, &[tagged(two(alloc)?)], TAGGED_SEQUENCE)?;
+    assert_counts(alloc, &[UnderTag::explicit(two(alloc)?)], TAGGED_SEQUENCE)?;
     let sequence = SequenceOf::new(two(alloc)?);
-    assert_counts(alloc, &[tagged(sequence)], TAGGED_SEQUENCE)?;
-    assert_counts(alloc, &[tagged(SetOf::new(two(alloc)?))], TAGGED_SET)?;
-    assert_counts(alloc, &[tagged(Vast(usize::MAX))], TAGGED)
+    assert_counts(alloc, &[UnderTag::explicit(sequence)], TAGGED_SEQUENCE)?;
+    assert_counts(
+        alloc,
+        &[UnderTag::explicit(SetOf::new(two(alloc)?))],
+        TAGGED_SET,
+    )?;
+    assert_counts(alloc, &[UnderTag::explicit(Vast(usize::MAX))], TAGGED)
 }
 
 /// So many nulls.

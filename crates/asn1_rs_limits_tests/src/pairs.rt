@@ -133,52 +133,65 @@ type Pair<Outer, const OUTER: u8, Inner, const INNER: u8> = TaggedValue<
     1,
 >;
 
-/// How a number under tags of these kinds and classes is written.
-fn written<const OUTER: u8, const INNER: u8>(
+/// Appends how a number under an explicit tag over an explicit one of these classes is written, and what is read of that.
+fn push_explicit_over_explicit<const OUTER: u8, const INNER: u8>(
+    text: &mut String,
     alloc: Global,
-    kinds: &str,
-) -> SerializeResult<Vec<u8>> {
-    match kinds {
-        "explicit over explicit" => {
-            Pair::<Explicit, OUTER, Explicit, INNER>::explicit(TaggedValue::explicit(5)).to_der_vec(
-                alloc,
-            )
-        }
-        "explicit over implicit" => {
-            Pair::<Explicit, OUTER, Implicit, INNER>::explicit(TaggedValue::implicit(5)).to_der_vec(
-                alloc,
-            )
-        }
-        "implicit over explicit" => {
-            Pair::<Implicit, OUTER, Explicit, INNER>::implicit(TaggedValue::explicit(5)).to_der_vec(
-                alloc,
-            )
-        }
-        _ => Pair::<Implicit, OUTER, Implicit, INNER>::implicit(TaggedValue::implicit(
-            5,
-        )).to_der_vec(alloc),
-    }
+) -> Result<(), Fail> {
+    let pair: Pair<Explicit, OUTER, Explicit, INNER> = TaggedValue::explicit(TaggedValue::explicit(
+        5,
+    ));
+    let octets = pair.to_der_vec(alloc)?;
+    push_back::<Pair<Explicit, OUTER, Explicit, INNER>>(text, alloc, octets.as_slice())
 }
 
-/// Appends how a number under tags of these kinds and classes is written, and what is read of that.
+/// Appends how a number under an explicit tag over an implicit one of these classes is written, and what is read of that.
+fn push_explicit_over_implicit<const OUTER: u8, const INNER: u8>(
+    text: &mut String,
+    alloc: Global,
+) -> Result<(), Fail> {
+    let pair: Pair<Explicit, OUTER, Implicit, INNER> = TaggedValue::explicit(TaggedValue::implicit(
+        5,
+    ));
+    let octets = pair.to_der_vec(alloc)?;
+    push_back::<Pair<Explicit, OUTER, Implicit, INNER>>(text, alloc, octets.as_slice())
+}
+
+/// Appends how a number under an implicit tag over an explicit one of these classes is written, and what is read of that.
+fn push_implicit_over_explicit<const OUTER: u8, const INNER: u8>(
+    text: &mut String,
+    alloc: Global,
+) -> Result<(), Fail> {
+    let pair: Pair<Implicit, OUTER, Explicit, INNER> = TaggedValue::implicit(TaggedValue::explicit(
+        5,
+    ));
+    let octets = pair.to_der_vec(alloc)?;
+    push_back::<Pair<Implicit, OUTER, Explicit, INNER>>(text, alloc, octets.as_slice())
+}
+
+/// Appends how a number under an implicit tag over an implicit one of these classes is written, and what is read of that.
+fn push_implicit_over_implicit<const OUTER: u8, const INNER: u8>(
+    text: &mut String,
+    alloc: Global,
+) -> Result<(), Fail> {
+    let pair: Pair<Implicit, OUTER, Implicit, INNER> = TaggedValue::implicit(TaggedValue::implicit(
+        5,
+    ));
+    let octets = pair.to_der_vec(alloc)?;
+    push_back::<Pair<Implicit, OUTER, Implicit, INNER>>(text, alloc, octets.as_slice())
+}
+
+/// Appends the same of tags of these kinds.
 fn push_pair<const OUTER: u8, const INNER: u8>(
     text: &mut String,
     alloc: Global,
     kinds: &str,
 ) -> Result<(), Fail> {
-    let octets = written::<OUTER, INNER>(alloc, kinds)?;
-    let octets = octets.as_slice();
     match kinds {
-        "explicit over explicit" => {
-            push_back::<Pair<Explicit, OUTER, Explicit, INNER>>(text, alloc, octets)
-        }
-        "explicit over implicit" => {
-            push_back::<Pair<Explicit, OUTER, Implicit, INNER>>(text, alloc, octets)
-        }
-        "implicit over explicit" => {
-            push_back::<Pair<Implicit, OUTER, Explicit, INNER>>(text, alloc, octets)
-        }
-        _ => push_back::<Pair<Implicit, OUTER, Implicit, INNER>>(text, alloc, octets),
+        "explicit over explicit" => push_explicit_over_explicit::<OUTER, INNER>(text, alloc),
+        "explicit over implicit" => push_explicit_over_implicit::<OUTER, INNER>(text, alloc),
+        "implicit over explicit" => push_implicit_over_explicit::<OUTER, INNER>(text, alloc),
+        _ => push_implicit_over_implicit::<OUTER, INNER>(text, alloc),
     }
 }
 
