@@ -133,7 +133,7 @@ type Pair<Outer, const OUTER: u8, Inner, const INNER: u8> = TaggedValue<
     1,
 >;
 
-/// Appends how a number under an explicit tag over an explicit one of these classes is written, and what is read of that.
+/// Appends how a number under an explicit tag over an explicit one is written, and what is read of that.
 fn push_explicit_over_explicit<const OUTER: u8, const INNER: u8>(
     text: &mut String,
     alloc: Global,
@@ -145,7 +145,7 @@ fn push_explicit_over_explicit<const OUTER: u8, const INNER: u8>(
     push_back::<Pair<Explicit, OUTER, Explicit, INNER>>(text, alloc, octets.as_slice())
 }
 
-/// Appends how a number under an explicit tag over an implicit one of these classes is written, and what is read of that.
+/// Appends how a number under an explicit tag over an implicit one is written, and what is read of that.
 fn push_explicit_over_implicit<const OUTER: u8, const INNER: u8>(
     text: &mut String,
     alloc: Global,
@@ -157,7 +157,7 @@ fn push_explicit_over_implicit<const OUTER: u8, const INNER: u8>(
     push_back::<Pair<Explicit, OUTER, Implicit, INNER>>(text, alloc, octets.as_slice())
 }
 
-/// Appends how a number under an implicit tag over an explicit one of these classes is written, and what is read of that.
+/// Appends how a number under an implicit tag over an explicit one is written, and what is read of that.
 fn push_implicit_over_explicit<const OUTER: u8, const INNER: u8>(
     text: &mut String,
     alloc: Global,
@@ -169,7 +169,7 @@ fn push_implicit_over_explicit<const OUTER: u8, const INNER: u8>(
     push_back::<Pair<Implicit, OUTER, Explicit, INNER>>(text, alloc, octets.as_slice())
 }
 
-/// Appends how a number under an implicit tag over an implicit one of these classes is written, and what is read of that.
+/// Appends how a number under an implicit tag over an implicit one is written, and what is read of that.
 fn push_implicit_over_implicit<const OUTER: u8, const INNER: u8>(
     text: &mut String,
     alloc: Global,
