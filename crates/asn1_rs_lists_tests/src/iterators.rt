@@ -25,6 +25,12 @@ impl<'a> FromBer<'a, Error> for OfNoOctets {
     }
 }
 
+impl<'a> FromDer<'a, Error> for OfNoOctets {
+    fn from_der(alloc: Global, octets: &'a [u8]) -> ParseResult<'a, OfNoOctets, Error> {
+        OfNoOctets::from_ber(alloc, octets)
+    }
+}
+
 /// An item of one octet, which may not be 0: then no other reading may be tried.
 #[derive(Debug, Drop)]
 struct NotZero(u8);
@@ -87,6 +93,7 @@ impl Calls for Walks {
             "u32, DerParser" => push_walk_over::<u32, DerParser>(text, alloc, octets),
             "Option<u8>, BerParser" => push_walk_over::<Option<u8>, BerParser>(text, alloc, octets),
             "OfNoOctets, BerParser" => push_walk_over::<OfNoOctets, BerParser>(text, alloc, octets),
+            "OfNoOctets, DerParser" => push_walk_over::<OfNoOctets, DerParser>(text, alloc, octets),
             _ => Ok(text.push_str("no such walk")?),
         }
     }
@@ -120,6 +127,10 @@ Option<u8>, BerParser:
 0201050400 = Some(5), InvalidLength, end, end
 
 OfNoOctets, BerParser:
+0400 = InvalidLength, end, end, end
+0500 = InvalidLength, end, end, end
+
+OfNoOctets, DerParser:
 0400 = InvalidLength, end, end, end
 0500 = InvalidLength, end, end, end
 ";

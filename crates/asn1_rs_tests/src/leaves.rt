@@ -1,9 +1,8 @@
 //! Truth values, nulls, octet strings and bit strings: how they are read, converted and written.
 
 use asn1_rs::{
-    Any, BitString, Boolean, CheckDerConstraints, Class, EndOfContent, Error, FromBer, Header,
-    Length, Null, OctetString, Tag, ToDer, Told, leaves_have_one_refusal,
-    truth_constants_are_octets,
+    Any, BitString, Boolean, EndOfContent, FromBer, Null, OctetString, ToDer, Told,
+    leaves_have_one_refusal, truth_constants_are_octets,
 };
 use std::alloc::Global;
 use std::test::Fail;
@@ -88,6 +87,7 @@ written 0304066e5dc0 count 6 4 raw 0304066e5dc0
 BitString::from_der:
 0304066e5dc0 = BitString { unused_bits: 6, content: [110, 93, 192] } rest - \
 written 0304066e5dc0 count 6 4 raw 0304066e5dc0
+030100 = BitString { unused_bits: 0, content: [] } rest - written 030100 count 3 1 raw 030100
 0304066e5de0 = Error(DerConstraintFailed(UnusedBitsNotZero))
 23080303000a3b0301ff = Error(ConstructUnexpected)
 23800303000a3b0305045f291cd00000 = Error(DerConstraintFailed(IndefiniteLength))
@@ -153,19 +153,6 @@ fn leaves_are_read_and_written(rt: HostRuntime) -> Result<(), Fail> {
     assert_rows::<Leaves>(rt.alloc(), TRUTHS)?;
     assert_rows::<Leaves>(rt.alloc(), STRINGS)?;
     assert_rows::<Leaves>(rt.alloc(), CONVERTED)
-}
-
-/// An element by hand, whose header counts an octet that is not there.
-#[test]
-fn counted_octets_have_to_be_there(rt: HostRuntime) -> Result<(), Fail> {
-    let header = Header::new(Class::Universal, false, Tag::Boolean, Length::Definite(1));
-    let any = Any::new(header, &[]);
-    let answers = (Boolean::check_constraints(&any), any.boolean());
-    assert_shown(
-        rt.alloc(),
-        &answers,
-        "(Err(InvalidLength), Err(InvalidLength))",
-    )
 }
 
 #[test]

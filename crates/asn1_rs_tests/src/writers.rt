@@ -78,6 +78,10 @@ fn length_octets_are_written(rt: HostRuntime) -> Result<(), Fail> {
         (Length::Definite(201), "81c9 count 2 0 raw 81c9"),
         (Length::Definite(250), "81fa count 2 0 raw 81fa"),
         (
+            Length::Definite(0xff_ffff),
+            "83ffffff count 4 0 raw 83ffffff",
+        ),
+        (
             Length::Definite(0x100_0000),
             "8401000000 count 5 0 raw 8401000000",
         ),

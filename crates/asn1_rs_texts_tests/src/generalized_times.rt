@@ -11,6 +11,8 @@ use test_rows::{Calls, assert_all, assert_rows, assert_texts};
 /// Texts as contents octets, by BER: the fields that these say of them (X.690 8.25), how they are shown, how many octets are
 /// written, and which (X.690 11.7): identifier and length octets, and the text. An offset is not written.
 const BY_BER: &str = "\
+99991231235959.999Z = 9999 12 31 23 59 59 Some(999) Z shown 9999-12-31 23:59:59.999Z \
+count Ok(21) written Ok(21) 1813 99991231235959.999Z
 20021213142923Z = 2002 12 13 14 29 23 None Z shown 2002-12-13 14:29:23Z \
 count Ok(17) written Ok(17) 180f 20021213142923Z
 19851106210627.300Z = 1985 11 6 21 6 27 Some(300) Z shown 1985-11-06 21:06:27.3Z \

@@ -16,6 +16,7 @@ use test_rows::{
 /// is not written.
 const SAID: &str = "\
 910625062345Z = 91 6 25 6 23 45 None Z shown 0091-06-25 06:23:45Z count Ok(15) written Ok(15) 170d 910625062345Z
+991231235959Z = 99 12 31 23 59 59 None Z shown 0099-12-31 23:59:59Z count Ok(15) written Ok(15) 170d 991231235959Z
 9106250623Z = 91 6 25 6 23 0 None Z shown 0091-06-25 06:23:00Z count Ok(15) written Ok(15) 170d 910625062300Z
 910625062345-0030 = 91 6 25 6 23 45 None Offset(0, -30) shown 0091-06-25 06:23:45-0030 \
 count Err(InvalidDateTime) written Err(ASN1Error(InvalidDateTime)) -

@@ -20,6 +20,7 @@ ber eoc 00 = err Incomplete(1)
 ber eoc 000100 = err InvalidLength
 ber eoc 20800000 = err InvalidLength
 der eoc 0000 = err Type
+der bits 03020780 = ok 7:80 rest - enc 03020780
 der bits 03020800 = err DerConstraintFailed(UnusedBitsNotZero)
 der bits 030108 = err InvalidLength
 der bits 030100 = ok 0:- rest - enc 030100

@@ -1,9 +1,9 @@
 //! Values as tables show them.
 
 use asn1_rs::{
-    Any, BitString, BmpString, Boolean, EmbeddedPdv, EndOfContent, Enumerated, GeneralizedTime,
-    Integer, Null, OctetString, Oid, PdvIdentification, Sequence, SequenceOf, Set, SetOf,
-    TaggedValue, UniversalString, UtcTime,
+    Any, BitString, Boolean, EmbeddedPdv, EndOfContent, Enumerated, GeneralizedTime, Integer, Null,
+    OctetString, Oid, PdvIdentification, RestrictedString, Sequence, SequenceOf, Set, SetOf,
+    StringKind, TaggedValue, UtcTime,
 };
 use std::collections::{BTreeSet, HashSet};
 use std::fmt::{Debug, Write};
@@ -79,14 +79,7 @@ impl Says for UtcTime {}
 impl Says for GeneralizedTime {}
 
 /// The text.
-impl Says for BmpString<'_> {
-    fn say(&self, text: &mut String) -> Result<(), Fail> {
-        push_debug(text, &self.as_str())
-    }
-}
-
-/// The text.
-impl Says for UniversalString<'_> {
+impl<K: StringKind, F> Says for RestrictedString<'_, K, F> {
     fn say(&self, text: &mut String) -> Result<(), Fail> {
         push_debug(text, &self.as_str())
     }
