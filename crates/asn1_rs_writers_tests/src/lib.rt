@@ -1,5 +1,5 @@
-//! Tests of the library: writers that fail at each place, or take no octet from there on, and calls that ask for no
-//! memory, which are as ever where a growth is refused.
+//! Tests of the library: writers that fail at each place, or take no octet from there on; calls under tags, and calls
+//! that ask for no memory, where a growth is refused.
 #![tactic(auto)]
 
 #[cfg(test)]

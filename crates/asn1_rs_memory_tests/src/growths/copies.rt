@@ -7,9 +7,7 @@ use asn1_rs::{
 use std::alloc::Global;
 use std::borrow::{CowSlice, CowStr};
 use std::test::Fail;
-use test_values::{
-    Attempts, assert_attempts, assert_no_growths, is_cloned, is_made, is_octets, is_text, refused,
-};
+use test_values::{Attempts, assert_attempts, is_cloned, is_made, is_octets, is_text, refused};
 
 /// Whether a text was copied that is owned; None when out of memory.
 fn is_owned(copied: Result<CowStr<'static, Global>, Error>) -> Option<bool> {
@@ -160,36 +158,4 @@ fn clones_are_refused_for_want_of_memory(rt: HostRuntime) -> Result<(), Fail> {
         "Set",
     ];
     assert_attempts::<Clones>(rt.alloc(), &names)
-}
-
-/// Copies that ask for no memory.
-struct Numbers;
-
-impl Attempts for Numbers {
-    fn seen(alloc: Global, name: &str) -> Option<bool> {
-        match name {
-            "u8" => Some(5_u8.to_static(alloc) == Ok(5)),
-            "u16" => Some(5_u16.to_static(alloc) == Ok(5)),
-            "u32" => Some(5_u32.to_static(alloc) == Ok(5)),
-            "u64" => Some(5_u64.to_static(alloc) == Ok(5)),
-            "u128" => Some(5_u128.to_static(alloc) == Ok(5)),
-            "i8" => Some((-5_i8).to_static(alloc) == Ok(-5)),
-            "i16" => Some((-5_i16).to_static(alloc) == Ok(-5)),
-            "i32" => Some((-5_i32).to_static(alloc) == Ok(-5)),
-            "i64" => Some((-5_i64).to_static(alloc) == Ok(-5)),
-            "i128" => Some((-5_i128).to_static(alloc) == Ok(-5)),
-            "usize" => Some(5_usize.to_static(alloc) == Ok(5)),
-            "isize" => Some((-5_isize).to_static(alloc) == Ok(-5)),
-            "bool" => Some(true.to_static(alloc) == Ok(true)),
-            _ => Some(false),
-        }
-    }
-}
-
-#[test]
-fn no_memory_is_asked_for_copies_of_numbers(rt: HostRuntime) -> Result<(), Fail> {
-    let unsigned = ["u8", "u16", "u32", "u64", "u128", "usize", "bool"];
-    let signed = ["i8", "i16", "i32", "i64", "i128", "isize"];
-    assert_no_growths::<Numbers>(rt.alloc(), &unsigned)?;
-    assert_no_growths::<Numbers>(rt.alloc(), &signed)
 }

@@ -101,16 +101,12 @@ impl Attempts for Walks {
     fn seen(alloc: Global, name: &str) -> Option<bool> {
         match name {
             "next by BER" => {
-                is_first(
-                    alloc,
-                    SequenceIterator::<_, BerParser, _>::new(alloc, &BMP).next(),
-                )
+                let mut walk = SequenceIterator::<_, BerParser, _>::new(alloc, &BMP);
+                is_first(alloc, walk.next())
             }
             "next by DER" => {
-                is_first(
-                    alloc,
-                    SequenceIterator::<_, DerParser, _>::new(alloc, &BMP).next(),
-                )
+                let mut walk = SequenceIterator::<_, DerParser, _>::new(alloc, &BMP);
+                is_first(alloc, walk.next())
             }
             "Sequence::from_iter_to_der" => {
                 let answer = Sequence::from_iter_to_der(alloc, sets(alloc)?.into_iter());

@@ -5,8 +5,6 @@ mod copies;
 mod items;
 mod making;
 mod reading;
-mod refusing;
-mod tags;
 mod texts;
 
 /// A list of two numbers (X.690 8.10).

@@ -1,5 +1,6 @@
-//! Calls that ask for no memory: they answer as ever whatever growth is refused, as `tools/refused_growths` has it.
+//! Calls that ask for no memory: they answer as ever whatever growth is refused.
 
+use super::UTF8;
 use crate::cut::{GENERALIZED, UTC};
 use asn1_rs::{
     Any, BitString, Boolean, CheckDerConstraints, Class, DerParser, EmbeddedPdv, EndOfContent,
@@ -7,7 +8,7 @@ use asn1_rs::{
     GraphicString, Header, Ia5String, Implicit, Integer, Length, Null, NumericString,
     ObjectDescriptor, OctetString, Oid, PrintableString, Sequence, SequenceIterator, SequenceOf,
     Set, SetOf, Steps, Tag, TaggedExplicit, TaggedImplicit, TaggedParser, TeletexString,
-    TestValidCharset, ToDer, UtcTime, Utf8String, VideotexString, VisibleString,
+    TestValidCharset, ToDer, ToStatic, UtcTime, Utf8String, VideotexString, VisibleString,
     any_from_ber_counted,
 };
 use std::alloc::Global;
@@ -25,9 +26,6 @@ const FIVE: [u8; 3] = [0x02, 0x01, 0x05];
 const NUMBERS: [u8; 8] = [0x30, 0x06, 0x02, 0x01, 0x01, 0x02, 0x01, 0x02];
 
 const SET: [u8; 8] = [0x31, 0x06, 0x02, 0x01, 0x01, 0x02, 0x01, 0x02];
-
-/// A text in UTF-8.
-const UTF8: [u8; 4] = [0x0c, 0x02, 0x61, 0x62];
 
 #[test]
 fn no_memory_is_asked_for_numbers(rt: HostRuntime) -> Result<(), Fail> {
@@ -241,4 +239,36 @@ fn no_memory_is_asked_for_counts(rt: HostRuntime) -> Result<(), Fail> {
     assert_counts::<SetOf<u8>>(alloc, &SET)?;
     assert_counts::<BTreeSet<u8>>(alloc, &SET)?;
     assert_counts::<HashSet<u8>>(alloc, &SET)
+}
+
+/// Copies that ask for no memory.
+struct Numbers;
+
+impl Attempts for Numbers {
+    fn seen(alloc: Global, name: &str) -> Option<bool> {
+        match name {
+            "u8" => Some(5_u8.to_static(alloc) == Ok(5)),
+            "u16" => Some(5_u16.to_static(alloc) == Ok(5)),
+            "u32" => Some(5_u32.to_static(alloc) == Ok(5)),
+            "u64" => Some(5_u64.to_static(alloc) == Ok(5)),
+            "u128" => Some(5_u128.to_static(alloc) == Ok(5)),
+            "i8" => Some((-5_i8).to_static(alloc) == Ok(-5)),
+            "i16" => Some((-5_i16).to_static(alloc) == Ok(-5)),
+            "i32" => Some((-5_i32).to_static(alloc) == Ok(-5)),
+            "i64" => Some((-5_i64).to_static(alloc) == Ok(-5)),
+            "i128" => Some((-5_i128).to_static(alloc) == Ok(-5)),
+            "usize" => Some(5_usize.to_static(alloc) == Ok(5)),
+            "isize" => Some((-5_isize).to_static(alloc) == Ok(-5)),
+            "bool" => Some(true.to_static(alloc) == Ok(true)),
+            _ => Some(false),
+        }
+    }
+}
+
+#[test]
+fn no_memory_is_asked_for_copies_of_numbers(rt: HostRuntime) -> Result<(), Fail> {
+    let unsigned = ["u8", "u16", "u32", "u64", "u128", "usize", "bool"];
+    let signed = ["i8", "i16", "i32", "i64", "i128", "isize"];
+    assert_no_growths::<Numbers>(rt.alloc(), &unsigned)?;
+    assert_no_growths::<Numbers>(rt.alloc(), &signed)
 }
