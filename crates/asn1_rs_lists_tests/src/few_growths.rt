@@ -1,5 +1,5 @@
-//! Lists that ask for few growths, as `tools/refused_growths` has it: what is written for an item takes no memory of its
-//! own, but room in the buffer of the list (X.690 10.1).
+//! Lists that ask for few growths, as `tools/refused_growths` has it: what is written for an item takes no memory of
+//! its own, but room in the buffer of the list (X.690 10.1).
 
 use asn1_rs::{
     ASN1DateTime, ASN1TimeZone, BitString, BmpString, Enumerated, Error, GeneralizedTime,

@@ -8,8 +8,6 @@ mod few_growths;
 #[cfg(test)]
 mod from_the_back;
 #[cfg(test)]
-mod growths;
-#[cfg(test)]
 mod iterators;
 #[cfg(test)]
 mod kept;

@@ -7,8 +7,8 @@ use std::fmt::Write;
 use std::test::Fail;
 use test_rows::{Calls, assert_rows, assert_shown};
 use test_values::{
-    assert_cut, push_by_ber, push_by_der, push_checked, push_converted, push_read_by_ber,
-    push_read_by_der, push_written,
+    push_by_ber, push_by_der, push_checked, push_converted, push_read_by_ber, push_read_by_der,
+    push_written,
 };
 
 /// Items, what follows them, and how the list is written. By DER the constructed bit of the list itself is not looked
@@ -136,13 +136,6 @@ impl Calls for Lists {
 fn lists_are_read_and_written(rt: HostRuntime) -> Result<(), Fail> {
     assert_rows::<Lists>(rt.alloc(), LISTS)?;
     assert_rows::<Lists>(rt.alloc(), ELEMENTS)
-}
-
-#[test]
-fn writers_of_lists_are_cut(rt: HostRuntime) -> Result<(), Fail> {
-    let octets = [0x30, 0x06, 0x02, 0x01, 0x02, 0x02, 0x01, 0x01];
-    let (_, numbers) = Vec::<u32>::from_der(rt.alloc(), &octets)?;
-    assert_cut(rt.alloc(), &numbers, &octets)
 }
 
 #[test]

@@ -7,8 +7,8 @@ use std::fmt::Write;
 use std::test::Fail;
 use test_rows::{Calls, assert_rows, assert_shown, push_debug};
 use test_values::{
-    assert_cut, assert_written, push_by_ber, push_by_der, push_checked, push_converted,
-    push_read_by_der, push_shown, push_written,
+    assert_written, push_by_ber, push_by_der, push_checked, push_converted, push_read_by_der,
+    push_shown, push_written,
 };
 
 /// Items in the order in which they stand, of a `HashSet` their number, and the set as it is written, in ascending
@@ -211,17 +211,6 @@ impl Calls for Sets {
 fn sets_are_read_and_written(rt: HostRuntime) -> Result<(), Fail> {
     assert_rows::<Sets>(rt.alloc(), SETS)?;
     assert_rows::<Sets>(rt.alloc(), ELEMENTS)
-}
-
-#[test]
-fn writers_of_sets_are_cut(rt: HostRuntime) -> Result<(), Fail> {
-    let octets = [0x31, 0x06, 0x02, 0x01, 0x02, 0x02, 0x01, 0x01];
-    let (_, set) = SetOf::<u32>::from_der(rt.alloc(), &octets)?;
-    assert_cut(
-        rt.alloc(),
-        &set,
-        &[0x31, 0x06, 0x02, 0x01, 0x01, 0x02, 0x01, 0x02],
-    )
 }
 
 #[test]

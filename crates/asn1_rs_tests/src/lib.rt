@@ -20,8 +20,6 @@ mod embedded_pdv;
 #[cfg(test)]
 mod fields;
 #[cfg(test)]
-mod growths;
-#[cfg(test)]
 mod integers;
 #[cfg(test)]
 mod laws;

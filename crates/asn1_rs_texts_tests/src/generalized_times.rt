@@ -8,8 +8,8 @@ use std::alloc::Global;
 use std::test::Fail;
 use test_rows::{Calls, assert_all, assert_rows, assert_texts};
 
-/// Texts as contents octets, by BER: the fields that these say of them (X.690 8.25), how they are shown, how many octets are
-/// written, and which (X.690 11.7): identifier and length octets, and the text. An offset is not written.
+/// Texts as contents octets, by BER: the fields that these say of them (X.690 8.25), how they are shown, how many
+/// octets are written, and which (X.690 11.7): identifier and length octets, and the text. An offset is not written.
 const BY_BER: &str = "\
 99991231235959.999Z = 9999 12 31 23 59 59 Some(999) Z shown 9999-12-31 23:59:59.999Z \
 count Ok(21) written Ok(21) 1813 99991231235959.999Z
@@ -79,8 +79,8 @@ count Ok(17) written Ok(17) 180f 00000000000000Z
 Z = InvalidValue of Tag(24)
 ";
 
-/// Elements that are read. Octets outside 20 to 7f are none of VisibleString (X.690 8.25), which is looked at before the
-/// text, and the tag number before both. The encoding may be constructed. By DER the constraints come first.
+/// Elements that are read. Octets outside 20 to 7f are none of VisibleString (X.690 8.25), which is looked at before
+/// the text, and the tag number before both. The encoding may be constructed. By DER the constraints come first.
 const READ: &str = "\
 GeneralizedTime::from_der:
 380f32303032313231333134323932335aff = 2002 12 13 14 29 23 None Z shown 2002-12-13 14:29:23Z \

@@ -11,9 +11,9 @@ use test_rows::{
     Calls, assert_all, assert_rows, assert_text, assert_texts, push_debug, push_digits, sides,
 };
 
-/// Texts as contents octets of a UTCTime, by BER and by DER: the fields that these say of them (X.690 8.25), how they are
-/// shown, how many octets are written, and which (X.690 11.8): identifier and length octets, and the text. An offset
-/// is not written.
+/// Texts as contents octets of a UTCTime, by BER and by DER: the fields that these say of them (X.690 8.25), how they
+/// are shown, how many octets are written, and which (X.690 11.8): identifier and length octets, and the text. An
+/// offset is not written.
 const SAID: &str = "\
 910625062345Z = 91 6 25 6 23 45 None Z shown 0091-06-25 06:23:45Z count Ok(15) written Ok(15) 170d 910625062345Z
 991231235959Z = 99 12 31 23 59 59 None Z shown 0099-12-31 23:59:59Z count Ok(15) written Ok(15) 170d 991231235959Z
@@ -29,8 +29,8 @@ count Err(InvalidDateTime) written Err(ASN1Error(InvalidDateTime)) -
 910625062345 = InvalidValue of Tag(23)
 ";
 
-/// Elements that are read. Octets outside 20 to 7f are none of VisibleString (X.690 8.25), which is looked at before the
-/// text, and the tag number before both. The encoding may be constructed.
+/// Elements that are read. Octets outside 20 to 7f are none of VisibleString (X.690 8.25), which is looked at before
+/// the text, and the tag number before both. The encoding may be constructed.
 const READ: &str = "\
 UtcTime::from_der:
 370d3931303632353036323334355a = 91 6 25 6 23 45 None Z shown 0091-06-25 06:23:45Z \

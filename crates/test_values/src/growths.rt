@@ -54,17 +54,6 @@ pub fn refused<E: Refusal>(refusal: &E) -> Option<bool> {
     Some(false)
 }
 
-/// Whether the answer is this value; None when out of memory.
-pub fn is_value<T: PartialEq + Drop, E: Refusal + Drop>(
-    answer: Result<T, E>,
-    value: &T,
-) -> Option<bool> {
-    match answer {
-        Ok(made) => Some(made == *value),
-        Err(refusal) => refused(&refusal),
-    }
-}
-
 /// Whether the answer is these octets; None when out of memory.
 pub fn is_octets<E: Refusal + Drop>(answer: Result<Vec<u8>, E>, octets: &[u8]) -> Option<bool> {
     match answer {
@@ -127,12 +116,34 @@ pub fn assert_twice(what: &str, answers: [Option<bool>; 2]) -> Result<(), Fail> 
     }
 }
 
-/// Asserts of two calls that each answered as ever, whatever growth is refused.
-pub fn assert_always(what: &str, answers: [Option<bool>; 2]) -> Result<(), Fail> {
-    match answers {
-        [Some(true), Some(true)] => Ok(()),
-        _ => Err(Fail::new(format_args!("{what}: {answers:?}"))),
+/// Asserts of a call that it answered as ever, whatever growth is refused.
+pub fn assert_always(what: &str, answer: Option<bool>) -> Result<(), Fail> {
+    match answer {
+        Some(true) => Ok(()),
+        _ => Err(Fail::new(format_args!("{what}: {answer:?}"))),
     }
+}
+
+/// Calls by their names, each with an input that it accepts.
+pub trait Attempts {
+    /// What is seen of the call of this name: whether it answers as ever; None when out of memory.
+    fn seen(alloc: Global, name: &str) -> Option<bool>;
+}
+
+/// Asserts of calls that ask for memory, each made twice, that at most one of the two is out of memory.
+pub fn assert_attempts<C: Attempts>(alloc: Global, names: &[&str]) -> Result<(), Fail> {
+    for name in names {
+        assert_twice(name, [C::seen(alloc, name), C::seen(alloc, name)])?;
+    }
+    Ok(())
+}
+
+/// Asserts of calls that ask for no memory that they answer as ever, whatever growth is refused.
+pub fn assert_no_growths<C: Attempts>(alloc: Global, names: &[&str]) -> Result<(), Fail> {
+    for name in names {
+        assert_always(name, C::seen(alloc, name))?;
+    }
+    Ok(())
 }
 
 /// Whether the value is put before the octets of a buffer; None when out of memory.
@@ -181,6 +192,26 @@ fn is_strict_put<T: LawfulWrite>(alloc: Global, value: &T, octets: &[u8]) -> Opt
     is_put(write_strict(value, alloc, &mut w), &w, octets)
 }
 
+/// Whether a value asks for memory where it is written into a writer.
+#[derive(Clone, Copy, PartialEq, Eq)]
+pub enum IntoWriters {
+    /// It asks for none: where a buffer can't grow it is written forward.
+    Plain,
+    /// It holds a set, and sorts what it writes.
+    Sorted,
+}
+
+/// Asserts what was seen of a writing into a writer, which was done twice.
+fn assert_put(what: &str, writers: IntoWriters, answers: [Option<bool>; 2]) -> Result<(), Fail> {
+    match writers {
+        IntoWriters::Plain => {
+            assert_always(what, answers[0])?;
+            assert_always(what, answers[1])
+        }
+        IntoWriters::Sorted => assert_twice(what, answers),
+    }
+}
+
 /// Asserts that the calls of a value that write into memory write these octets, or tell of out of memory.
 fn assert_vectors<T: ToDer>(alloc: Global, value: &T, octets: &[u8]) -> Result<(), Fail> {
     assert_twice(
@@ -198,24 +229,50 @@ fn assert_vectors<T: ToDer>(alloc: Global, value: &T, octets: &[u8]) -> Result<(
     )
 }
 
-/// Asserts of a value that sorts what it writes that it is written as these octets, or tells of out of memory.
-pub fn assert_sorted<T: ToDer>(alloc: Global, value: &T, octets: &[u8]) -> Result<(), Fail> {
+/// Asserts that a value is written as these octets by each call, or tells of out of memory. Into a writer it is as
+/// said.
+pub fn assert_writings<T: ToDer>(
+    alloc: Global,
+    value: &T,
+    octets: &[u8],
+    writers: IntoWriters,
+) -> Result<(), Fail> {
     assert_vectors(alloc, value, octets)?;
-    assert_twice("write_der", twice!(is_whole_put(alloc, value, octets)))?;
-    assert_twice(
+    assert_put(
+        "write_der",
+        writers,
+        twice!(is_whole_put(alloc, value, octets)),
+    )?;
+    assert_put(
         "write_der_content",
+        writers,
         twice!(is_content_put(alloc, value, octets)),
     )
 }
 
-/// Asserts of any other value that it is written as these octets, into a writer whatever growth is refused.
-pub fn assert_plain<T: ToDer>(alloc: Global, value: &T, octets: &[u8]) -> Result<(), Fail> {
-    assert_vectors(alloc, value, octets)?;
-    assert_always("write_der", twice!(is_whole_put(alloc, value, octets)))?;
-    assert_always(
-        "write_der_content",
-        twice!(is_content_put(alloc, value, octets)),
-    )
+/// Asserts that a value is read that is written so, by each reader, or that the reader tells of out of memory; and
+/// how the value is written.
+pub fn assert_read<'a, T>(
+    alloc: Global,
+    octets: &'a [u8],
+    written: &[u8],
+    writers: IntoWriters,
+) -> Result<(), Fail>
+where
+    T: FromBer<'a, Error> + FromDer<'a, Error> + ToDer + Drop,
+{
+    assert_twice(
+        "from_ber",
+        twice!(is_read(alloc, T::from_ber(alloc, octets), written)),
+    )?;
+    assert_twice(
+        "from_der",
+        twice!(is_read(alloc, T::from_der(alloc, octets), written)),
+    )?;
+    match T::from_der(alloc, octets) {
+        Ok((_, value)) => assert_writings(alloc, &value, written, writers),
+        Err(_) => Ok(()),
+    }
 }
 
 /// Whether the element at the front is converted to a value that is written so; None when out of memory.
@@ -230,39 +287,35 @@ fn is_converted<'a, T: FromAny<'a, Error = Error> + ToDer + Drop>(
     }
 }
 
-/// Asserts that an element is converted to a value that is written so, or that the call tells of out of memory.
-pub fn assert_converted<'a, T: FromAny<'a, Error = Error> + ToDer + Drop>(
+/// Asserts the same as [`assert_read`] and that an element is converted to a value that is written so, or that the
+/// call tells of out of memory.
+pub fn assert_converted<'a, T>(
     alloc: Global,
     octets: &'a [u8],
     written: &[u8],
-) -> Result<(), Fail> {
+    writers: IntoWriters,
+) -> Result<(), Fail>
+where
+    T: FromAny<'a, Error = Error> + FromBer<'a, Error> + FromDer<'a, Error> + ToDer + Drop,
+{
     assert_twice(
         "try_from_any",
         twice!(is_converted::<T>(alloc, octets, written)),
-    )
-}
-
-/// Asserts that a value is read that is written so, by each reader, or that the reader tells of out of memory.
-pub fn assert_read<'a, T>(alloc: Global, octets: &'a [u8], written: &[u8]) -> Result<(), Fail>
-where
-    T: FromBer<'a, Error> + FromDer<'a, Error> + ToDer + Drop,
-{
-    assert_twice(
-        "from_ber",
-        twice!(is_read(alloc, T::from_ber(alloc, octets), written)),
     )?;
-    assert_twice(
-        "from_der",
-        twice!(is_read(alloc, T::from_der(alloc, octets), written)),
-    )
+    assert_read::<T>(alloc, octets, written, writers)
 }
 
-/// Asserts the same of the calls whose contracts rest on the laws of the type, and of its vector.
-pub fn assert_lawful<'a, T>(alloc: Global, octets: &'a [u8], written: &[u8]) -> Result<(), Fail>
+/// Asserts of the calls whose contracts rest on the laws of the type that they read a value and write it so, or tell
+/// of out of memory. Into a writer it is as said.
+pub fn assert_lawful<'a, T>(
+    alloc: Global,
+    octets: &'a [u8],
+    written: &[u8],
+    writers: IntoWriters,
+) -> Result<(), Fail>
 where
     T: LawfulBer<'a, Error> + LawfulDer<'a, Error> + LawfulWrite + Drop,
 {
-    assert_read::<T>(alloc, octets, written)?;
     assert_twice(
         "read_ber",
         twice!(is_read(alloc, read_ber::<T, Error>(alloc, octets), written)),
@@ -271,53 +324,18 @@ where
         "read_der",
         twice!(is_read(alloc, read_der::<T, Error>(alloc, octets), written)),
     )?;
-    match T::from_der(alloc, octets) {
-        Ok((_, value)) => {
-            assert_twice(
-                "strict_vec",
-                twice!(is_octets(strict_vec(alloc, &value), written)),
-            )?;
-            assert_twice(
-                "write_strict",
-                twice!(is_strict_put(alloc, &value, written)),
-            )
-        }
-        Err(_) => Ok(()),
-    }
-}
-
-/// Asserts that a value is read, and written so by each call, of which those into a writer ask for no memory.
-pub fn assert_plain_read<'a, T>(alloc: Global, octets: &'a [u8], written: &[u8]) -> Result<(), Fail>
-where
-    T: LawfulBer<'a, Error> + LawfulDer<'a, Error> + LawfulWrite + Drop,
-{
-    assert_lawful::<T>(alloc, octets, written)?;
-    match T::from_der(alloc, octets) {
-        Ok((_, value)) => {
-            assert_always(
-                "write_strict",
-                twice!(is_strict_put(alloc, &value, written)),
-            )?;
-            assert_plain(alloc, &value, written)
-        }
-        Err(_) => Ok(()),
-    }
-}
-
-/// Asserts that a value that sorts what it writes is read, and written so by each call.
-pub fn assert_sorted_read<'a, T>(
-    alloc: Global,
-    octets: &'a [u8],
-    written: &[u8],
-) -> Result<(), Fail>
-where
-    T: LawfulBer<'a, Error> + LawfulDer<'a, Error> + LawfulWrite + Drop,
-{
-    assert_lawful::<T>(alloc, octets, written)?;
-    match T::from_der(alloc, octets) {
-        Ok((_, value)) => assert_sorted(alloc, &value, written),
-        Err(_) => Ok(()),
-    }
+    let Ok((_, value)) = T::from_der(alloc, octets) else {
+        return Ok(());
+    };
+    assert_twice(
+        "strict_vec",
+        twice!(is_octets(strict_vec(alloc, &value), written)),
+    )?;
+    assert_put(
+        "write_strict",
+        writers,
+        twice!(is_strict_put(alloc, &value, written)),
+    )
 }
 
 /// What is seen of a value that a reader answered: it is counted, and written into a writer, as these octets.
@@ -342,11 +360,11 @@ where
 {
     assert_always(
         "from_ber",
-        twice!(is_counted(alloc, T::from_ber(alloc, octets), octets)),
+        is_counted(alloc, T::from_ber(alloc, octets), octets),
     )?;
     assert_always(
         "from_der",
-        twice!(is_counted(alloc, T::from_der(alloc, octets), octets)),
+        is_counted(alloc, T::from_der(alloc, octets), octets),
     )
 }
 
@@ -374,5 +392,5 @@ where
     T: CheckDerConstraints + FromAny<'a, Error = Error> + FromDer<'a, Error> + ToDer + Drop,
 {
     assert_read_always::<T>(alloc, octets)?;
-    assert_always("try_from_any", twice!(is_checked::<T>(alloc, octets)))
+    assert_always("try_from_any", is_checked::<T>(alloc, octets))
 }

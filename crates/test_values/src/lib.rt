@@ -13,9 +13,9 @@ mod writing;
 pub use beginnings::{assert_beginnings_by_ber, assert_beginnings_by_der};
 pub use cut::{assert_cut, assert_failed, assert_own_cut, io_kind};
 pub use growths::{
-    Refusal, assert_always, assert_converted, assert_lawful, assert_no_memory, assert_plain,
-    assert_plain_read, assert_read, assert_read_always, assert_sorted, assert_sorted_read,
-    assert_twice, is_cloned, is_made, is_octets, is_read, is_text, is_value, refused,
+    Attempts, IntoWriters, Refusal, assert_always, assert_attempts, assert_converted,
+    assert_lawful, assert_no_growths, assert_no_memory, assert_read, assert_read_always,
+    assert_twice, assert_writings, is_cloned, is_made, is_octets, is_read, is_text, refused,
 };
 pub use reading::{
     push_by_ber, push_by_der, push_checked, push_converted, push_read_by_ber, push_read_by_der,

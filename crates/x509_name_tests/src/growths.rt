@@ -3,7 +3,7 @@
 use asn1_rs::{Error, FromDer, TaggedExplicit, ToDer, read_der, strict_vec};
 use std::alloc::Global;
 use std::test::Fail;
-use test_values::{assert_sorted, assert_twice, is_octets, is_read, twice};
+use test_values::{IntoWriters, assert_twice, assert_writings, is_octets, is_read, twice};
 use x509_name::{Name, RelativeDistinguishedName, name_vec, read_name};
 
 /// The name that openssl gives a request by default: C = FR, ST = Some-State, O = Internet Widgits Pty Ltd.
@@ -31,7 +31,7 @@ fn assert_calls<'a, T: FromDer<'a, Error> + ToDer + Drop>(
         twice!(is_read(alloc, T::from_der(alloc, octets), octets)),
     )?;
     match T::from_der(alloc, octets) {
-        Ok((_, value)) => assert_sorted(alloc, &value, octets),
+        Ok((_, value)) => assert_writings(alloc, &value, octets, IntoWriters::Sorted),
         Err(_) => Ok(()),
     }
 }
