@@ -5,6 +5,7 @@ use asn1vec_engine::{RunError, run};
 use std::alloc::Global;
 use std::io;
 use std::io::{ErrorKind, Read};
+use std::str::from_utf8;
 use std::test::Fail;
 use test_rows::{Narrow, assert_all};
 use test_values::Room;
@@ -70,7 +71,10 @@ fn assert_stops(alloc: Global, front: &[u8], rest: &[u8], kind: ErrorKind) -> Re
     if ended == Err(RunError::Input) && are_answers(told, count_of_ends(front)) {
         return Ok(());
     }
-    Err(Fail::new(format_args!("{kind:?} behind {front:?}: {ended:?}, {told:?}")))
+    Err(Fail::new(format_args!(
+        "{kind:?} behind {front:?}: {ended:?}, {:?}",
+        from_utf8(told)
+    )))
 }
 
 #[test]
@@ -101,7 +105,7 @@ fn assert_cut(alloc: Global, front: &[u8], end: Option<ErrorKind>) -> Result<(),
     let mut output = Told::new(Narrow::new(alloc, front.len(), end)?);
     assert_output(alloc, &mut output)?;
     let facts = [output.is_failed(), output.as_inner().held() == front];
-    assert_all("a writer that ends", &facts)
+    assert_all("a writer that ends, but where out of memory", &facts)
 }
 
 #[test]
@@ -122,7 +126,7 @@ fn assert_own_cut(alloc: Global, front: &[u8], end: Option<ErrorKind>) -> Result
     let mut output = Room::new(front.len(), end);
     assert_output(alloc, &mut output)?;
     let facts = [output.is_failed(), output.held() == front];
-    assert_all("a writer of its own that ends", &facts)
+    assert_all("a writer of its own, but where out of memory", &facts)
 }
 
 #[test]
