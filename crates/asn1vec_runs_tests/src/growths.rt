@@ -1,5 +1,5 @@
-//! Runs that are made twice. Where one growth is refused, as `tools/refused_growths` has it, one of the two tells of out
-//! of memory, in one line or at its end, and the other answers as ever.
+//! Runs that are made twice. Where one growth is refused, as `tools/refused_growths` has it, one of the two tells of
+//! out of memory, in one line or at its end, and the other answers as ever.
 
 use asn1_rs::Told;
 use asn1vec_engine::{RunError, run};
@@ -45,7 +45,7 @@ ok [5] rest - enc a103020105
 ok [1,2] rest - enc 3106020101020102
 ";
 
-/// Whether an answer tells of out of memory: in reading the value, or, behind what stands before ` enc `, in writing it.
+/// Whether an answer tells of out of memory: in reading the value, or, behind what stands before ` enc `, in writing.
 fn is_refused(answer: &str, ample: &str) -> bool {
     match ample.split_once(" enc ") {
         Some((front, _)) if answer.strip_prefix(front) == Some(" enc err OutOfMemory") => true,
