@@ -1,7 +1,10 @@
-//! What is asked for (RFC 4120, 5.4.1).
+//! What is asked for (RFC 4120, 5.4.1). A row of twelve fields is more than the checker takes at once, so the last six
+//! fields stand in `asked`.
 ghost use Rattle.std.proofs.Common.{refl};
 ghost use Rattle.asn1_rs.specs.Structs.Data.{struct_of};
+ghost use Rattle.asn1_rs_kerberos.specs.Requests.{asked_of};
 
+use crate::asked::{Asked, AskedOf};
 use crate::{EncryptedData, HostAddress, PrincipalName, Ticket, Under};
 use asn1_rs::{
     BitString, BorrowedRow, Error, Fields, FieldsKind, GeneralString, GeneralizedTime, HasKind,
@@ -40,38 +43,20 @@ pub struct KdcReqBody<'a> {
     pub additional_tickets: Option<Under<Vec<Ticket<'a>>, 11>>,
 }
 
-/// Its fields.
+/// Its fields: who asks for which service and until when, and the others.
 pub type KdcReqBodyRow<'a> = (
     Under<BitString<'a>, 0>,
+    (Option<Under<PrincipalName<'a>, 1>>, TimedRow<'a>),
+);
+
+/// The fields from the realm on: the service, and until when.
+type TimedRow<'a> = (
+    Under<GeneralString<'a>, 2>,
     (
-        Option<Under<PrincipalName<'a>, 1>>,
+        Option<Under<PrincipalName<'a>, 3>>,
         (
-            Under<GeneralString<'a>, 2>,
-            (
-                Option<Under<PrincipalName<'a>, 3>>,
-                (
-                    Option<Under<GeneralizedTime, 4>>,
-                    (
-                        Under<GeneralizedTime, 5>,
-                        (
-                            Option<Under<GeneralizedTime, 6>>,
-                            (
-                                Under<u32, 7>,
-                                (
-                                    Under<Vec<i32>, 8>,
-                                    (
-                                        Option<Under<Vec<HostAddress<'a>>, 9>>,
-                                        (
-                                            Option<Under<EncryptedData<'a>, 10>>,
-                                            (Option<Under<Vec<Ticket<'a>>, 11>>, ()),
-                                        ),
-                                    ),
-                                ),
-                            ),
-                        ),
-                    ),
-                ),
-            ),
+            Option<Under<GeneralizedTime, 4>>,
+            (Under<GeneralizedTime, 5>, Asked<'a>),
         ),
     ),
 );
@@ -85,119 +70,24 @@ impl HasReader for KdcReqBody<'_> {
 }
 
 impl<'a> LawfulStruct for KdcReqBody<'a> {
-    ghost laws = { struct_of (λ x. (x.kdc_options, (x.cname, (x.realm, (x.sname, (x.from, (x.till, (x.rtime, (x.nonce, (x.etype, (x.addresses, (x.enc_authorization_data, (x.additional_tickets, tt)))))))))))))
+    ghost laws = { struct_of (λ x. (x.kdc_options, (x.cname, (x.realm, (x.sname, (x.from, (x.till, asked_of x)))))))
         ⟦<KdcReqBodyRow<'a> as Row>⟧.row_laws refl };
 
     fn put_row(&self, fields: &mut Fields) -> SerializeResult<()> {
-        (
-            &self.kdc_options,
-            (
-                &self.cname,
-                (
-                    &self.realm,
-                    (
-                        &self.sname,
-                        (
-                            &self.from,
-                            (
-                                &self.till,
-                                (
-                                    &self.rtime,
-                                    (
-                                        &self.nonce,
-                                        (
-                                            &self.etype,
-                                            (
-                                                &self.addresses,
-                                                (
-                                                    &self.enc_authorization_data,
-                                                    (&self.additional_tickets, ()),
-                                                ),
-                                            ),
-                                        ),
-                                    ),
-                                ),
-                            ),
-                        ),
-                    ),
-                ),
-            ),
-        )
-            .put_each(fields)
+        let timed = (&self.sname, (&self.from, (&self.till, AskedOf(self))));
+        (&self.kdc_options, (&self.cname, (&self.realm, timed))).put_each(fields)
     }
 
     fn row_in_hand(&self) {
-        (
-            &self.kdc_options,
-            (
-                &self.cname,
-                (
-                    &self.realm,
-                    (
-                        &self.sname,
-                        (
-                            &self.from,
-                            (
-                                &self.till,
-                                (
-                                    &self.rtime,
-                                    (
-                                        &self.nonce,
-                                        (
-                                            &self.etype,
-                                            (
-                                                &self.addresses,
-                                                (
-                                                    &self.enc_authorization_data,
-                                                    (&self.additional_tickets, ()),
-                                                ),
-                                            ),
-                                        ),
-                                    ),
-                                ),
-                            ),
-                        ),
-                    ),
-                ),
-            ),
-        )
-            .each_in_hand()
+        let timed = (&self.sname, (&self.from, (&self.till, AskedOf(self))));
+        (&self.kdc_options, (&self.cname, (&self.realm, timed))).each_in_hand()
     }
 }
 
 impl<'a> ReadsFields<'a> for KdcReqBody<'a> {
     fn read_fields(alloc: Global, octets: &'a [u8]) -> Result<KdcReqBody<'a>, Error> {
-        let (
-            kdc_options,
-            (
-                cname,
-                (
-                    realm,
-                    (
-                        sname,
-                        (
-                            from,
-                            (
-                                till,
-                                (
-                                    rtime,
-                                    (
-                                        nonce,
-                                        (
-                                            etype,
-                                            (
-                                                addresses,
-                                                (enc_authorization_data, (additional_tickets, ())),
-                                            ),
-                                        ),
-                                    ),
-                                ),
-                            ),
-                        ),
-                    ),
-                ),
-            ),
-        ) = row_by_der(alloc, octets)?;
+        let row = row_by_der::<KdcReqBodyRow<'a>>(alloc, octets)?;
+        let (kdc_options, (cname, (realm, (sname, (from, (till, asked)))))) = row;
         Ok(KdcReqBody {
             kdc_options,
             cname,
@@ -205,12 +95,12 @@ impl<'a> ReadsFields<'a> for KdcReqBody<'a> {
             sname,
             from,
             till,
-            rtime,
-            nonce,
-            etype,
-            addresses,
-            enc_authorization_data,
-            additional_tickets,
+            rtime: asked.rtime,
+            nonce: asked.nonce,
+            etype: asked.etype,
+            addresses: asked.addresses,
+            enc_authorization_data: asked.enc_authorization_data,
+            additional_tickets: asked.additional_tickets,
         })
     }
 }

@@ -2,6 +2,7 @@
 //! octets, exactly where its grammar says, and written as its one strict encoding.
 #![tactic(auto)]
 
+mod asked;
 mod body;
 mod data;
 mod names;

@@ -92,7 +92,8 @@ pub fn read_request<'a>(alloc: Global, octets: &'a [u8]) -> ParseResult<'a, AsRe
     read_der::<AsReq<'a>, Error>(alloc, octets)
 }
 
-/// The one strict encoding of a request in DER form. Refused only when out of memory.
+/// The one strict encoding of a request in DER form. Where its length fits `usize`, it is refused only when out of
+/// memory.
 pub fn request_vec(alloc: Global, request: &AsReq<'_>) -> SerializeResult<Vec<u8>>
     ensures { ⟦<AsReq<'static> as Grammar>⟧.grammar.IsDer
         (⟦<AsReq<'static> as Grammar>⟧.grammar.value request.now) →

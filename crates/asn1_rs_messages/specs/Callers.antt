@@ -21,7 +21,7 @@ ReadsByDer G = Exactly IsCutIdentifier G.Der G.value (TellsMemory G.allocates (�
 abbrev pub ReadsByBer : {T : Type 0} → ItemGrammar T → List ℕ → Result (List ℕ × T) (Refusal Error) → Type 0
 ReadsByBer G = Exactly EndsWithin (ber_words G) G.value (TellsMemory G.allocates (λ (e f : Error). f ≡ e))
 
--- The octets are the one strict encoding of the value; an Err is out of memory.
+-- Where its length fits, the octets are the one strict encoding of the value; an Err is out of memory.
 abbrev pub WritesStrict : {T : Type 0} → ItemGrammar T → Writing T → T → Result (Vec ℕ Global) SerializeError → Type 0
 WritesStrict G w x answer = length (whole_octets w x) < 2 ^ 64 →
     ∥ IsStrict G.Form (G.value x) (whole_octets w x) ∥₁ ×

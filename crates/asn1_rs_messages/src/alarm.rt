@@ -110,7 +110,7 @@ pub fn read_alarm_by_ber(alloc: Global, octets: &[u8]) -> ParseResult<'_, Alarm,
     read_ber::<Alarm, Error>(alloc, octets)
 }
 
-/// The one strict encoding of an alarm. Refused only when out of memory.
+/// The one strict encoding of an alarm. Where its length fits `usize`, it is refused only when out of memory.
 pub fn alarm_vec(alloc: Global, alarm: &Alarm) -> SerializeResult<Vec<u8>>
     ensures { WritesStrict ⟦<Alarm as Grammar>⟧.grammar ⟦<Alarm as ToDer>⟧.writing alarm.now
         result }

@@ -91,7 +91,7 @@ pub fn read_measurement_by_ber(alloc: Global, octets: &[u8]) -> ParseResult<'_, 
     read_ber::<Measurement, Error>(alloc, octets)
 }
 
-/// The one strict encoding of a measurement. Refused only when out of memory, or where its length passes `usize`.
+/// The one strict encoding of a measurement. Where its length fits `usize`, it is refused only when out of memory.
 pub fn measurement_vec(alloc: Global, measurement: &Measurement) -> SerializeResult<Vec<u8>>
     ensures { WritesStrict ⟦<Measurement as Grammar>⟧.grammar ⟦<Measurement as ToDer>⟧.writing
         measurement.now result }

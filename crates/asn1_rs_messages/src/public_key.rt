@@ -121,7 +121,8 @@ pub fn read_public_key<'a>(
     read_der::<SubjectPublicKeyInfo<'a>, Error>(alloc, octets)
 }
 
-/// The one strict encoding of a public key in DER form. Refused only when out of memory.
+/// The one strict encoding of a public key in DER form. Where its length fits `usize`, it is refused only when out of
+/// memory.
 pub fn public_key_vec(alloc: Global, key: &SubjectPublicKeyInfo<'_>) -> SerializeResult<Vec<u8>>
     ensures { ⟦<SubjectPublicKeyInfo<'static> as Grammar>⟧.grammar.IsDer
         (⟦<SubjectPublicKeyInfo<'static> as Grammar>⟧.grammar.value key.now) →

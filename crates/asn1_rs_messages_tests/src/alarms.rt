@@ -46,8 +46,8 @@ ber:
 10050201053000 = Error(ConstructExpected)
 ";
 
-/// In a list and in a set (8.10, 8.12); those of a set are read in any order and written in the ascending one (11.6), and under an explicit tag
-/// and an implicit one (8.14). Below an implicit tag a message is read by BER.
+/// In a list and in a set (8.10, 8.12), under an explicit tag and an implicit one (8.14). The items of a set are read
+/// in any order and written in the ascending one (11.6). Below an implicit tag a message is read by BER.
 const HELD: &str = "\
 list:
 300e3005020105300030050201063000 = 2; 5 None None []; 6 None None [] rest - written 300e3005020105300030050201063000
