@@ -1,0 +1,148 @@
+//! What a request carries beside names: data for the authentication, addresses and what is encrypted (RFC 4120, 5.2).
+ghost use Rattle.std.proofs.Common.{refl};
+ghost use Rattle.asn1_rs.specs.Structs.Data.{struct_of};
+
+use crate::Under;
+use asn1_rs::{
+    BorrowedRow, Error, Fields, FieldsKind, HasKind, HasReader, LawfulStruct, OctetString,
+    ReadsFields, Row, SerializeResult, StructReader, row_by_der,
+};
+use std::alloc::Global;
+
+/// Data for the authentication, of a type that says what its octets are (5.2.7).
+///
+///     PA-DATA ::= SEQUENCE {
+///         padata-type   [1] Int32,
+///         padata-value  [2] OCTET STRING }
+#[derive(Debug, PartialEq, Eq, Drop)]
+pub struct PaData<'a> {
+    pub padata_type: Under<i32, 1>,
+    pub padata_value: Under<OctetString<'a>, 2>,
+}
+
+/// Its fields.
+pub type PaDataRow<'a> = (Under<i32, 1>, (Under<OctetString<'a>, 2>, ()));
+
+impl HasKind for PaData<'_> {
+    type Kind = FieldsKind;
+}
+
+impl HasReader for PaData<'_> {
+    type Reader = StructReader;
+}
+
+impl<'a> LawfulStruct for PaData<'a> {
+    ghost laws = { struct_of (λ x. (x.padata_type, (x.padata_value, tt)))
+        ⟦<PaDataRow<'a> as Row>⟧.row_laws refl };
+
+    fn put_row(&self, fields: &mut Fields) -> SerializeResult<()> {
+        (&self.padata_type, (&self.padata_value, ())).put_each(fields)
+    }
+
+    fn row_in_hand(&self) {
+        (&self.padata_type, (&self.padata_value, ())).each_in_hand()
+    }
+}
+
+impl<'a> ReadsFields<'a> for PaData<'a> {
+    fn read_fields(alloc: Global, octets: &'a [u8]) -> Result<PaData<'a>, Error> {
+        let (padata_type, (padata_value, ())) = row_by_der(alloc, octets)?;
+        Ok(PaData {
+            padata_type,
+            padata_value,
+        })
+    }
+}
+
+/// An address of a host (5.2.5).
+///
+///     HostAddress ::= SEQUENCE {
+///         addr-type  [0] Int32,
+///         address    [1] OCTET STRING }
+#[derive(Debug, PartialEq, Eq, Drop)]
+pub struct HostAddress<'a> {
+    pub addr_type: Under<i32, 0>,
+    pub address: Under<OctetString<'a>, 1>,
+}
+
+/// Its fields.
+pub type HostAddressRow<'a> = (Under<i32, 0>, (Under<OctetString<'a>, 1>, ()));
+
+impl HasKind for HostAddress<'_> {
+    type Kind = FieldsKind;
+}
+
+impl HasReader for HostAddress<'_> {
+    type Reader = StructReader;
+}
+
+impl<'a> LawfulStruct for HostAddress<'a> {
+    ghost laws = { struct_of (λ x. (x.addr_type, (x.address, tt)))
+        ⟦<HostAddressRow<'a> as Row>⟧.row_laws refl };
+
+    fn put_row(&self, fields: &mut Fields) -> SerializeResult<()> {
+        (&self.addr_type, (&self.address, ())).put_each(fields)
+    }
+
+    fn row_in_hand(&self) {
+        (&self.addr_type, (&self.address, ())).each_in_hand()
+    }
+}
+
+impl<'a> ReadsFields<'a> for HostAddress<'a> {
+    fn read_fields(alloc: Global, octets: &'a [u8]) -> Result<HostAddress<'a>, Error> {
+        let (addr_type, (address, ())) = row_by_der(alloc, octets)?;
+        Ok(HostAddress { addr_type, address })
+    }
+}
+
+/// What is encrypted, by which type of encryption, and by which version of a key (5.2.9).
+///
+///     EncryptedData ::= SEQUENCE {
+///         etype   [0] Int32,
+///         kvno    [1] UInt32 OPTIONAL,
+///         cipher  [2] OCTET STRING }
+#[derive(Debug, PartialEq, Eq, Drop)]
+pub struct EncryptedData<'a> {
+    pub etype: Under<i32, 0>,
+    pub kvno: Option<Under<u32, 1>>,
+    pub cipher: Under<OctetString<'a>, 2>,
+}
+
+/// Its fields.
+pub type EncryptedDataRow<'a> = (
+    Under<i32, 0>,
+    (Option<Under<u32, 1>>, (Under<OctetString<'a>, 2>, ())),
+);
+
+impl HasKind for EncryptedData<'_> {
+    type Kind = FieldsKind;
+}
+
+impl HasReader for EncryptedData<'_> {
+    type Reader = StructReader;
+}
+
+impl<'a> LawfulStruct for EncryptedData<'a> {
+    ghost laws = { struct_of (λ x. (x.etype, (x.kvno, (x.cipher, tt))))
+        ⟦<EncryptedDataRow<'a> as Row>⟧.row_laws refl };
+
+    fn put_row(&self, fields: &mut Fields) -> SerializeResult<()> {
+        (&self.etype, (&self.kvno, (&self.cipher, ()))).put_each(fields)
+    }
+
+    fn row_in_hand(&self) {
+        (&self.etype, (&self.kvno, (&self.cipher, ()))).each_in_hand()
+    }
+}
+
+impl<'a> ReadsFields<'a> for EncryptedData<'a> {
+    fn read_fields(alloc: Global, octets: &'a [u8]) -> Result<EncryptedData<'a>, Error> {
+        let (etype, (kvno, (cipher, ()))) = row_by_der(alloc, octets)?;
+        Ok(EncryptedData {
+            etype,
+            kvno,
+            cipher,
+        })
+    }
+}

@@ -1,0 +1,20 @@
+//! The first request of Kerberos, AS-REQ (RFC 4120, 5.4.1), as structs of fields: it is read by DER, borrowed from the
+//! octets, exactly where its grammar says, and written as its one strict encoding.
+#![tactic(auto)]
+
+mod asked;
+mod body;
+mod data;
+mod names;
+mod request;
+mod ticket;
+
+use asn1_rs::{Error, TaggedExplicit};
+pub use body::{KdcReqBody, KdcReqBodyRow};
+pub use data::{EncryptedData, EncryptedDataRow, HostAddress, HostAddressRow, PaData, PaDataRow};
+pub use names::{PrincipalName, PrincipalNameRow};
+pub use request::{AsReq, KdcReq, KdcReqRow, read_request, request_vec};
+pub use ticket::{Ticket, TicketFields, TicketRow};
+
+/// A value under an explicit, context-specific tag.
+pub type Under<T, const TAG: u32> = TaggedExplicit<T, Error, TAG>;

@@ -1,0 +1,55 @@
+//! Names (RFC 4120, 5.2.2).
+ghost use Rattle.std.proofs.Common.{refl};
+ghost use Rattle.asn1_rs.specs.Structs.Data.{struct_of};
+
+use crate::Under;
+use asn1_rs::{
+    BorrowedRow, Error, Fields, FieldsKind, GeneralString, HasKind, HasReader, LawfulStruct,
+    ReadsFields, Row, SerializeResult, StructReader, row_by_der,
+};
+use std::alloc::Global;
+
+/// The name of a client or of a service.
+///
+///     PrincipalName ::= SEQUENCE {
+///         name-type    [0] Int32,
+///         name-string  [1] SEQUENCE OF KerberosString }
+#[derive(Debug, PartialEq, Eq, Drop)]
+pub struct PrincipalName<'a> {
+    pub name_type: Under<i32, 0>,
+    pub name_string: Under<Vec<GeneralString<'a>>, 1>,
+}
+
+/// Its fields.
+pub type PrincipalNameRow<'a> = (Under<i32, 0>, (Under<Vec<GeneralString<'a>>, 1>, ()));
+
+impl HasKind for PrincipalName<'_> {
+    type Kind = FieldsKind;
+}
+
+impl HasReader for PrincipalName<'_> {
+    type Reader = StructReader;
+}
+
+impl<'a> LawfulStruct for PrincipalName<'a> {
+    ghost laws = { struct_of (λ x. (x.name_type, (x.name_string, tt)))
+        ⟦<PrincipalNameRow<'a> as Row>⟧.row_laws refl };
+
+    fn put_row(&self, fields: &mut Fields) -> SerializeResult<()> {
+        (&self.name_type, (&self.name_string, ())).put_each(fields)
+    }
+
+    fn row_in_hand(&self) {
+        (&self.name_type, (&self.name_string, ())).each_in_hand()
+    }
+}
+
+impl<'a> ReadsFields<'a> for PrincipalName<'a> {
+    fn read_fields(alloc: Global, octets: &'a [u8]) -> Result<PrincipalName<'a>, Error> {
+        let (name_type, (name_string, ())) = row_by_der(alloc, octets)?;
+        Ok(PrincipalName {
+            name_type,
+            name_string,
+        })
+    }
+}

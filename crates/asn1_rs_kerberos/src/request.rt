@@ -1,0 +1,119 @@
+//! The request whole (RFC 4120, 5.4.1).
+ghost use Rattle.std.specs.Prelude.{MatchResult};
+ghost use Rattle.std.proofs.Common.{refl};
+ghost use Rattle.asn1_headers.specs.Answers.{seen};
+ghost use Rattle.asn1_rs.specs.Structs.Data.{struct_of};
+ghost use Rattle.asn1_rs_kerberos.specs.Requests.{IsAsReq, IsNoAsReq};
+ghost use Rattle.asn1_rs_messages.specs.Callers.{ReadsByDer, WritesStrict};
+
+use crate::{KdcReqBody, PaData, Under};
+use asn1_rs::{
+    ApplicationExplicit, BorrowedRow, Error, Fields, FieldsKind, Grammar, HasKind, HasReader,
+    LawfulStruct, ParseResult, ReadsFields, Row, SerializeResult, StructReader, Tag, ToDer,
+    read_der, row_by_der, strict_vec,
+};
+use std::alloc::Global;
+
+/// The first request of a client: `AS-REQ ::= [APPLICATION 10] KDC-REQ`.
+pub type AsReq<'a> = ApplicationExplicit<KdcReq<'a>, Error, 10>;
+
+/// A request.
+///
+///     KDC-REQ ::= SEQUENCE {
+///         pvno      [1] INTEGER (5),
+///         msg-type  [2] INTEGER (10 -- AS -- | 12 -- TGS --),
+///         padata    [3] SEQUENCE OF PA-DATA OPTIONAL,
+///         req-body  [4] KDC-REQ-BODY }
+#[derive(Debug, PartialEq, Eq, Drop)]
+pub struct KdcReq<'a> {
+    pub pvno: Under<u8, 1>,
+    pub msg_type: Under<u8, 2>,
+    pub padata: Option<Under<Vec<PaData<'a>>, 3>>,
+    pub req_body: Under<KdcReqBody<'a>, 4>,
+}
+
+/// Its fields.
+pub type KdcReqRow<'a> = (
+    Under<u8, 1>,
+    (
+        Under<u8, 2>,
+        (
+            Option<Under<Vec<PaData<'a>>, 3>>,
+            (Under<KdcReqBody<'a>, 4>, ()),
+        ),
+    ),
+);
+
+impl HasKind for KdcReq<'_> {
+    type Kind = FieldsKind;
+}
+
+impl HasReader for KdcReq<'_> {
+    type Reader = StructReader;
+}
+
+impl<'a> LawfulStruct for KdcReq<'a> {
+    ghost laws = { struct_of (λ x. (x.pvno, (x.msg_type, (x.padata, (x.req_body, tt)))))
+        ⟦<KdcReqRow<'a> as Row>⟧.row_laws refl };
+
+    fn put_row(&self, fields: &mut Fields) -> SerializeResult<()> {
+        (
+            &self.pvno,
+            (&self.msg_type, (&self.padata, (&self.req_body, ()))),
+        )
+            .put_each(fields)
+    }
+
+    fn row_in_hand(&self) {
+        (
+            &self.pvno,
+            (&self.msg_type, (&self.padata, (&self.req_body, ()))),
+        )
+            .each_in_hand()
+    }
+}
+
+impl<'a> ReadsFields<'a> for KdcReq<'a> {
+    fn read_fields(alloc: Global, octets: &'a [u8]) -> Result<KdcReq<'a>, Error> {
+        let (pvno, (msg_type, (padata, (req_body, ())))) = row_by_der(alloc, octets)?;
+        Ok(KdcReq {
+            pvno,
+            msg_type,
+            padata,
+            req_body,
+        })
+    }
+}
+
+/// The request at the front of the octets, by DER, and what follows it.
+pub fn read_request<'a>(alloc: Global, octets: &'a [u8]) -> ParseResult<'a, AsReq<'a>, Error>
+    ensures { ReadsByDer ⟦<AsReq<'a> as Grammar>⟧.grammar octets.now (seen result) }
+{
+    read_der::<AsReq<'a>, Error>(alloc, octets)
+}
+
+/// The one strict encoding of a request in DER form. Where its length fits `usize`, it is refused only when out of
+/// memory.
+pub fn request_vec(alloc: Global, request: &AsReq<'_>) -> SerializeResult<Vec<u8>>
+    ensures { ⟦<AsReq<'static> as Grammar>⟧.grammar.IsDer
+        (⟦<AsReq<'static> as Grammar>⟧.grammar.value request.now) →
+        WritesStrict ⟦<AsReq<'static> as Grammar>⟧.grammar ⟦<AsReq<'static> as ToDer>⟧.writing
+        request.now result }
+{
+    strict_vec(alloc, request)
+}
+
+impl KdcReq<'_> {
+    /// Refuses another version, and then another type of messages.
+    pub fn assert_numbers(&self) -> Result<(), Error>
+        ensures { MatchResult result (λ _. IsAsReq self.now) (IsNoAsReq self.now) }
+    {
+        if *self.pvno.as_inner() != 5 {
+            return Err(Tag::Integer.invalid_value("another version"));
+        }
+        if *self.msg_type.as_inner() != 10 {
+            return Err(Tag::Integer.invalid_value("another message"));
+        }
+        Ok(())
+    }
+}

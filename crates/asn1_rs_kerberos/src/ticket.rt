@@ -1,0 +1,81 @@
+//! Tickets (RFC 4120, 5.3).
+ghost use Rattle.std.proofs.Common.{refl};
+ghost use Rattle.asn1_rs.specs.Structs.Data.{struct_of};
+
+use crate::{EncryptedData, PrincipalName, Under};
+use asn1_rs::{
+    ApplicationExplicit, BorrowedRow, Error, Fields, FieldsKind, GeneralString, HasKind, HasReader,
+    LawfulStruct, ReadsFields, Row, SerializeResult, StructReader, row_by_der,
+};
+use std::alloc::Global;
+
+/// A ticket: `Ticket ::= [APPLICATION 1] SEQUENCE { .. }`.
+pub type Ticket<'a> = ApplicationExplicit<TicketFields<'a>, Error, 1>;
+
+/// The fields of a ticket: for whom it is, and what only that one can read.
+///
+///     SEQUENCE {
+///         tkt-vno   [0] INTEGER (5),
+///         realm     [1] Realm,
+///         sname     [2] PrincipalName,
+///         enc-part  [3] EncryptedData }
+#[derive(Debug, PartialEq, Eq, Drop)]
+pub struct TicketFields<'a> {
+    pub tkt_vno: Under<u8, 0>,
+    pub realm: Under<GeneralString<'a>, 1>,
+    pub sname: Under<PrincipalName<'a>, 2>,
+    pub enc_part: Under<EncryptedData<'a>, 3>,
+}
+
+/// Its fields.
+pub type TicketRow<'a> = (
+    Under<u8, 0>,
+    (
+        Under<GeneralString<'a>, 1>,
+        (
+            Under<PrincipalName<'a>, 2>,
+            (Under<EncryptedData<'a>, 3>, ()),
+        ),
+    ),
+);
+
+impl HasKind for TicketFields<'_> {
+    type Kind = FieldsKind;
+}
+
+impl HasReader for TicketFields<'_> {
+    type Reader = StructReader;
+}
+
+impl<'a> LawfulStruct for TicketFields<'a> {
+    ghost laws = { struct_of (λ x. (x.tkt_vno, (x.realm, (x.sname, (x.enc_part, tt)))))
+        ⟦<TicketRow<'a> as Row>⟧.row_laws refl };
+
+    fn put_row(&self, fields: &mut Fields) -> SerializeResult<()> {
+        (
+            &self.tkt_vno,
+            (&self.realm, (&self.sname, (&self.enc_part, ()))),
+        )
+            .put_each(fields)
+    }
+
+    fn row_in_hand(&self) {
+        (
+            &self.tkt_vno,
+            (&self.realm, (&self.sname, (&self.enc_part, ()))),
+        )
+            .each_in_hand()
+    }
+}
+
+impl<'a> ReadsFields<'a> for TicketFields<'a> {
+    fn read_fields(alloc: Global, octets: &'a [u8]) -> Result<TicketFields<'a>, Error> {
+        let (tkt_vno, (realm, (sname, (enc_part, ())))) = row_by_der(alloc, octets)?;
+        Ok(TicketFields {
+            tkt_vno,
+            realm,
+            sname,
+            enc_part,
+        })
+    }
+}

@@ -1,0 +1,120 @@
+//! A message with two optional fields and a list, by both rules.
+ghost use Rattle.std.proofs.Common.{refl};
+ghost use Rattle.asn1_headers.specs.Answers.{seen};
+ghost use Rattle.asn1_rs.specs.Structs.Data.{struct_of};
+ghost use Rattle.asn1_rs_messages.specs.Callers.{ReadsByDer, ReadsByBer, WritesStrict};
+
+use asn1_rs::{
+    AlwaysDer, AlwaysDerBy, BorrowedRow, DerRow, Error, Fields, FieldsKind, Grammar, HasKind,
+    HasReader, LawfulStruct, ParseResult, ReadsFields, ReadsFieldsByBer, Row, SerializeResult,
+    StructReader, TaggedExplicit, ToDer, read_ber, read_der, row_by_ber, row_by_der, strict_vec,
+};
+use std::alloc::Global;
+
+/// An alarm of a level in some rooms.
+///
+///     SEQUENCE {
+///         level   INTEGER,
+///         muted   [0] EXPLICIT BOOLEAN OPTIONAL,
+///         urgent  BOOLEAN OPTIONAL,
+///         rooms   SEQUENCE OF INTEGER }
+#[derive(Debug, PartialEq, Eq, Drop)]
+pub struct Alarm {
+    pub level: u8,
+    pub muted: Option<Muted>,
+    pub urgent: Option<bool>,
+    pub rooms: Vec<u16>,
+}
+
+/// Whether an alarm is muted, under its tag.
+pub type Muted = TaggedExplicit<bool, Error, 0>;
+
+/// Its fields.
+pub type AlarmRow = (u8, (Option<Muted>, (Option<bool>, (Vec<u16>, ()))));
+
+impl HasKind for Alarm {
+    type Kind = FieldsKind;
+}
+
+impl HasReader for Alarm {
+    type Reader = StructReader;
+}
+
+impl LawfulStruct for Alarm {
+    ghost laws = { struct_of (λ x. (x.level, (x.muted, (x.urgent, (x.rooms, tt)))))
+        ⟦<AlarmRow as Row>⟧.row_laws refl };
+
+    fn put_row(&self, fields: &mut Fields) -> SerializeResult<()> {
+        (
+            &self.level,
+            (&self.muted, (&self.urgent, (&self.rooms, ()))),
+        )
+            .put_each(fields)
+    }
+
+    fn row_in_hand(&self) {
+        (
+            &self.level,
+            (&self.muted, (&self.urgent, (&self.rooms, ()))),
+        )
+            .each_in_hand()
+    }
+}
+
+impl<'a> ReadsFields<'a> for Alarm {
+    fn read_fields(alloc: Global, octets: &'a [u8]) -> Result<Alarm, Error> {
+        let (level, (muted, (urgent, (rooms, ())))) = row_by_der(alloc, octets)?;
+        Ok(Alarm {
+            level,
+            muted,
+            urgent,
+            rooms,
+        })
+    }
+}
+
+impl<'a> ReadsFieldsByBer<'a> for Alarm {
+    fn read_fields_by_ber(alloc: Global, octets: &'a [u8]) -> Result<Alarm, Error> {
+        let (level, (muted, (urgent, (rooms, ())))) = row_by_ber(alloc, octets)?;
+        Ok(Alarm {
+            level,
+            muted,
+            urgent,
+            rooms,
+        })
+    }
+}
+
+/// Each alarm in hand is in DER form, since its fields are.
+impl AlwaysDerBy<FieldsKind> for Alarm {
+    fn der_by_kind(&self) {
+        (
+            &self.level,
+            (&self.muted, (&self.urgent, (&self.rooms, ()))),
+        )
+            .each_is_der()
+    }
+}
+
+/// The alarm at the front of the octets, by DER, and what follows it.
+pub fn read_alarm(alloc: Global, octets: &[u8]) -> ParseResult<'_, Alarm, Error>
+    ensures { ReadsByDer ⟦<Alarm as Grammar>⟧.grammar octets.now (seen result) }
+{
+    read_der::<Alarm, Error>(alloc, octets)
+}
+
+/// The alarm at the front of the octets, by BER, and what follows it.
+pub fn read_alarm_by_ber(alloc: Global, octets: &[u8]) -> ParseResult<'_, Alarm, Error>
+    ensures { ReadsByBer ⟦<Alarm as Grammar>⟧.grammar octets.now (seen result) }
+{
+    read_ber::<Alarm, Error>(alloc, octets)
+}
+
+/// The one strict encoding of an alarm. Where its length fits `usize`, it is refused only when out of memory.
+pub fn alarm_vec(alloc: Global, alarm: &Alarm) -> SerializeResult<Vec<u8>>
+    ensures { WritesStrict ⟦<Alarm as Grammar>⟧.grammar ⟦<Alarm as ToDer>⟧.writing alarm.now
+        result }
+{
+    alarm.is_der();
+    strict_vec(alloc, alarm)
+}

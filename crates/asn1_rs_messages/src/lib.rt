@@ -1,0 +1,18 @@
+//! Messages of protocols as structs of fields, with the theorems of their readers and writers: each is read exactly
+//! where its grammar says, and written as its one strict encoding.
+//!
+//! An author writes the struct, its row of fields, and how one is made of the other; no proof is written.
+#![tactic(auto)]
+
+mod alarm;
+mod measurement;
+mod public_key;
+
+pub use alarm::{Alarm, AlarmRow, Muted, alarm_vec, read_alarm, read_alarm_by_ber};
+pub use measurement::{
+    Measurement, MeasurementRow, measurement_vec, read_measurement, read_measurement_by_ber,
+};
+pub use public_key::{
+    AlgorithmIdentifier, AlgorithmRow, PublicKeyRow, SubjectPublicKeyInfo, public_key_vec,
+    read_algorithm, read_public_key,
+};

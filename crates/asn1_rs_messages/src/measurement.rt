@@ -1,0 +1,101 @@
+//! A message of two numbers and one that may be left out, by both rules.
+ghost use Rattle.std.proofs.Common.{refl};
+ghost use Rattle.asn1_headers.specs.Answers.{seen};
+ghost use Rattle.asn1_rs.specs.Structs.Data.{struct_of};
+ghost use Rattle.asn1_rs_messages.specs.Callers.{ReadsByDer, ReadsByBer, WritesStrict};
+
+use asn1_rs::{
+    AlwaysDer, AlwaysDerBy, BorrowedRow, DerRow, Error, Fields, FieldsKind, Grammar, HasKind,
+    HasReader, LawfulStruct, ParseResult, ReadsFields, ReadsFieldsByBer, Row, SerializeResult,
+    StructReader, ToDer, read_ber, read_der, row_by_ber, row_by_der, strict_vec,
+};
+use std::alloc::Global;
+
+/// What was measured at a place, and how wrong it may be.
+///
+///     SEQUENCE {
+///         place  INTEGER,
+///         value  INTEGER,
+///         error  INTEGER OPTIONAL }
+#[derive(Debug, PartialEq, Eq, Drop)]
+pub struct Measurement {
+    pub place: u32,
+    pub value: u64,
+    pub error: Option<u8>,
+}
+
+/// Its fields.
+pub type MeasurementRow = (u32, (u64, (Option<u8>, ())));
+
+impl HasKind for Measurement {
+    type Kind = FieldsKind;
+}
+
+impl HasReader for Measurement {
+    type Reader = StructReader;
+}
+
+impl LawfulStruct for Measurement {
+    ghost laws = { struct_of (λ m. (m.place, (m.value, (m.error, tt))))
+        ⟦<MeasurementRow as Row>⟧.row_laws refl };
+
+    fn put_row(&self, fields: &mut Fields) -> SerializeResult<()> {
+        (&self.place, (&self.value, (&self.error, ()))).put_each(fields)
+    }
+
+    fn row_in_hand(&self) {
+        (&self.place, (&self.value, (&self.error, ()))).each_in_hand()
+    }
+}
+
+impl<'a> ReadsFields<'a> for Measurement {
+    fn read_fields(alloc: Global, octets: &'a [u8]) -> Result<Measurement, Error> {
+        let (place, (value, (error, ()))) = row_by_der(alloc, octets)?;
+        Ok(Measurement {
+            place,
+            value,
+            error,
+        })
+    }
+}
+
+impl<'a> ReadsFieldsByBer<'a> for Measurement {
+    fn read_fields_by_ber(alloc: Global, octets: &'a [u8]) -> Result<Measurement, Error> {
+        let (place, (value, (error, ()))) = row_by_ber(alloc, octets)?;
+        Ok(Measurement {
+            place,
+            value,
+            error,
+        })
+    }
+}
+
+/// Each measurement in hand is in DER form, since its fields are.
+impl AlwaysDerBy<FieldsKind> for Measurement {
+    fn der_by_kind(&self) {
+        (&self.place, (&self.value, (&self.error, ()))).each_is_der()
+    }
+}
+
+/// The measurement at the front of the octets, by DER, and what follows it.
+pub fn read_measurement(alloc: Global, octets: &[u8]) -> ParseResult<'_, Measurement, Error>
+    ensures { ReadsByDer ⟦<Measurement as Grammar>⟧.grammar octets.now (seen result) }
+{
+    read_der::<Measurement, Error>(alloc, octets)
+}
+
+/// The measurement at the front of the octets, by BER, and what follows it.
+pub fn read_measurement_by_ber(alloc: Global, octets: &[u8]) -> ParseResult<'_, Measurement, Error>
+    ensures { ReadsByBer ⟦<Measurement as Grammar>⟧.grammar octets.now (seen result) }
+{
+    read_ber::<Measurement, Error>(alloc, octets)
+}
+
+/// The one strict encoding of a measurement. Where its length fits `usize`, it is refused only when out of memory.
+pub fn measurement_vec(alloc: Global, measurement: &Measurement) -> SerializeResult<Vec<u8>>
+    ensures { WritesStrict ⟦<Measurement as Grammar>⟧.grammar ⟦<Measurement as ToDer>⟧.writing
+        measurement.now result }
+{
+    measurement.is_der();
+    strict_vec(alloc, measurement)
+}

@@ -1,0 +1,133 @@
+//! The public key of a certificate and the algorithm that it is for (RFC 5280, 4.1), by DER, borrowed from the octets.
+ghost use Rattle.std.proofs.Common.{refl};
+ghost use Rattle.asn1_headers.specs.Answers.{seen};
+ghost use Rattle.asn1_rs.specs.Structs.Data.{struct_of};
+ghost use Rattle.asn1_rs_messages.specs.Callers.{ReadsByDer, WritesStrict};
+
+use asn1_rs::{
+    Any, BitString, BorrowedRow, Error, Fields, FieldsKind, Grammar, HasKind, HasReader,
+    LawfulStruct, Oid, ParseResult, ReadsFields, Row, SerializeResult, StructReader, ToDer,
+    read_der, row_by_der, strict_vec,
+};
+use std::alloc::Global;
+
+/// An algorithm, with parameters of a type that it says.
+///
+///     AlgorithmIdentifier ::= SEQUENCE {
+///         algorithm   OBJECT IDENTIFIER,
+///         parameters  ANY DEFINED BY algorithm OPTIONAL }
+#[derive(Debug, PartialEq, Eq, Drop)]
+pub struct AlgorithmIdentifier<'a> {
+    pub algorithm: Oid<'a>,
+    pub parameters: Option<Any<'a>>,
+}
+
+/// Its fields.
+pub type AlgorithmRow<'a> = (Oid<'a>, (Option<Any<'a>>, ()));
+
+impl HasKind for AlgorithmIdentifier<'_> {
+    type Kind = FieldsKind;
+}
+
+impl HasReader for AlgorithmIdentifier<'_> {
+    type Reader = StructReader;
+}
+
+impl<'a> LawfulStruct for AlgorithmIdentifier<'a> {
+    ghost laws = { struct_of (λ x. (x.algorithm, (x.parameters, tt)))
+        ⟦<AlgorithmRow<'a> as Row>⟧.row_laws refl };
+
+    fn put_row(&self, fields: &mut Fields) -> SerializeResult<()> {
+        (&self.algorithm, (&self.parameters, ())).put_each(fields)
+    }
+
+    fn row_in_hand(&self) {
+        (&self.algorithm, (&self.parameters, ())).each_in_hand()
+    }
+}
+
+impl<'a> ReadsFields<'a> for AlgorithmIdentifier<'a> {
+    fn read_fields(alloc: Global, octets: &'a [u8]) -> Result<AlgorithmIdentifier<'a>, Error> {
+        let (algorithm, (parameters, ())) = row_by_der(alloc, octets)?;
+        Ok(AlgorithmIdentifier {
+            algorithm,
+            parameters,
+        })
+    }
+}
+
+/// A public key, as the bits that its algorithm reads.
+///
+///     SubjectPublicKeyInfo ::= SEQUENCE {
+///         algorithm         AlgorithmIdentifier,
+///         subjectPublicKey  BIT STRING }
+#[derive(Debug, PartialEq, Eq, Drop)]
+pub struct SubjectPublicKeyInfo<'a> {
+    pub algorithm: AlgorithmIdentifier<'a>,
+    pub subject_public_key: BitString<'a>,
+}
+
+/// Its fields.
+pub type PublicKeyRow<'a> = (AlgorithmIdentifier<'a>, (BitString<'a>, ()));
+
+impl HasKind for SubjectPublicKeyInfo<'_> {
+    type Kind = FieldsKind;
+}
+
+impl HasReader for SubjectPublicKeyInfo<'_> {
+    type Reader = StructReader;
+}
+
+impl<'a> LawfulStruct for SubjectPublicKeyInfo<'a> {
+    ghost laws = { struct_of (λ x. (x.algorithm, (x.subject_public_key, tt)))
+        ⟦<PublicKeyRow<'a> as Row>⟧.row_laws refl };
+
+    fn put_row(&self, fields: &mut Fields) -> SerializeResult<()> {
+        (&self.algorithm, (&self.subject_public_key, ())).put_each(fields)
+    }
+
+    fn row_in_hand(&self) {
+        (&self.algorithm, (&self.subject_public_key, ())).each_in_hand()
+    }
+}
+
+impl<'a> ReadsFields<'a> for SubjectPublicKeyInfo<'a> {
+    fn read_fields(alloc: Global, octets: &'a [u8]) -> Result<SubjectPublicKeyInfo<'a>, Error> {
+        let (algorithm, (subject_public_key, ())) = row_by_der(alloc, octets)?;
+        Ok(SubjectPublicKeyInfo {
+            algorithm,
+            subject_public_key,
+        })
+    }
+}
+
+/// The algorithm at the front of the octets, and what follows it.
+pub fn read_algorithm<'a>(
+    alloc: Global,
+    octets: &'a [u8],
+) -> ParseResult<'a, AlgorithmIdentifier<'a>, Error>
+    ensures { ReadsByDer ⟦<AlgorithmIdentifier<'a> as Grammar>⟧.grammar octets.now (seen result) }
+{
+    read_der::<AlgorithmIdentifier<'a>, Error>(alloc, octets)
+}
+
+/// The public key at the front of the octets, and what follows it.
+pub fn read_public_key<'a>(
+    alloc: Global,
+    octets: &'a [u8],
+) -> ParseResult<'a, SubjectPublicKeyInfo<'a>, Error>
+    ensures { ReadsByDer ⟦<SubjectPublicKeyInfo<'a> as Grammar>⟧.grammar octets.now (seen result) }
+{
+    read_der::<SubjectPublicKeyInfo<'a>, Error>(alloc, octets)
+}
+
+/// The one strict encoding of a public key in DER form. Where its length fits `usize`, it is refused only when out of
+/// memory.
+pub fn public_key_vec(alloc: Global, key: &SubjectPublicKeyInfo<'_>) -> SerializeResult<Vec<u8>>
+    ensures { ⟦<SubjectPublicKeyInfo<'static> as Grammar>⟧.grammar.IsDer
+        (⟦<SubjectPublicKeyInfo<'static> as Grammar>⟧.grammar.value key.now) →
+        WritesStrict ⟦<SubjectPublicKeyInfo<'static> as Grammar>⟧.grammar
+        ⟦<SubjectPublicKeyInfo<'static> as ToDer>⟧.writing key.now result }
+{
+    strict_vec(alloc, key)
+}

@@ -1,0 +1,11 @@
+//! Tests of `asn1_rs_messages`: tables of octets and answers, from X.690 and the standards of the messages.
+#![tactic(auto)]
+
+#[cfg(test)]
+mod alarms;
+#[cfg(test)]
+mod measurements;
+#[cfg(test)]
+mod public_keys;
+#[cfg(test)]
+mod shown;

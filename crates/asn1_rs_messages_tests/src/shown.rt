@@ -1,0 +1,87 @@
+//! Messages that were read, as tables show them.
+
+use asn1_rs::{Err, Error, SetOf, TaggedValue, ToDer};
+use asn1_rs_messages::{Alarm, Measurement};
+use std::alloc::Global;
+use std::fmt::Write;
+use std::test::Fail;
+use test_rows::{push_debug, push_digits};
+
+/// What tables show of a value.
+pub trait Shown {
+    /// Appends it.
+    fn show(&self, text: &mut String) -> Result<(), Fail>;
+}
+
+/// The level, whether it is muted and urgent, and the rooms.
+impl Shown for Alarm {
+    fn show(&self, text: &mut String) -> Result<(), Fail> {
+        let muted = match &self.muted {
+            Some(muted) => Some(*muted.as_inner()),
+            None => None,
+        };
+        Ok(write!(
+            text,
+            "{} {muted:?} {:?} {:?}",
+            self.level, self.urgent, self.rooms
+        )?)
+    }
+}
+
+impl Shown for Measurement {
+    fn show(&self, text: &mut String) -> Result<(), Fail> {
+        Ok(write!(text, "{} {} {:?}", self.place, self.value, self.error)?)
+    }
+}
+
+impl<T: Shown, E, Kind, const CLASS: u8, const TAG: u32> Shown
+    for TaggedValue<T, E, Kind, CLASS, TAG> {
+    fn show(&self, text: &mut String) -> Result<(), Fail> {
+        self.as_inner().show(text)
+    }
+}
+
+/// Appends how many items there are, and each of them behind `;`.
+fn show_items<T: Shown>(text: &mut String, items: &[T]) -> Result<(), Fail> {
+    write!(text, "{}", items.len())?;
+    for item in items {
+        text.push_str("; ")?;
+        item.show(text)?;
+    }
+    Ok(())
+}
+
+impl<T: Shown> Shown for Vec<T> {
+    fn show(&self, text: &mut String) -> Result<(), Fail> {
+        show_items(text, self.as_slice())
+    }
+}
+
+impl<T: Shown> Shown for SetOf<T> {
+    fn show(&self, text: &mut String) -> Result<(), Fail> {
+        show_items(text, self.as_slice())
+    }
+}
+
+/// Appends what a reader answers, with the octets that it leaves and those that are written of the value, which both
+/// counts are asserted to tell.
+pub fn push_answer<T: Shown + ToDer + Drop>(
+    text: &mut String,
+    alloc: Global,
+    answer: Result<(&[u8], T), Err<Error>>,
+) -> Result<(), Fail> {
+    let (rest, value) = match answer {
+        Ok(read) => read,
+        Err(refusal) => return push_debug(text, &refusal),
+    };
+    value.show(text)?;
+    text.push_str(" rest ")?;
+    push_digits(text, rest)?;
+    text.push_str(" written ")?;
+    let written = value.to_der_vec(alloc)?;
+    push_digits(text, written.as_slice())?;
+    if value.to_der_len() != Ok(written.len()) {
+        return Err(Fail::new(format_args!("another count: {text}")));
+    }
+    Ok(())
+}
