@@ -172,6 +172,10 @@ fn a_name_is_made_read_and_written(rt: HostRuntime) -> Result<(), Fail> {
     let octets = octets_of(alloc, SERVICE)?;
     let made = service(alloc)?.to_der_vec(alloc)?;
     let (rest, read) = PrincipalName::from_der(alloc, octets.as_slice())?;
-    let facts = [made.as_slice() == octets.as_slice(), rest.is_empty(), read == service(alloc)?];
+    let facts = [
+        made.as_slice() == octets.as_slice(),
+        rest.is_empty(),
+        read == service(alloc)?,
+    ];
     assert_all("a name", &facts)
 }

@@ -45,7 +45,7 @@ module _ {S T : Type 0} (as_row : T → S) where
         let a = l.strict (as_row x) o s in (writable_by as_row list x a.0, same x ∙ a.1);
     der_strict = λ x d short.
         subst (λ (o : List ℕ). ∥ R.Strict (R.value (as_row x)) o ∥₁) (sym (same x))
-            (l.der_strict (as_row x) d (subst (λ (o : List ℕ). length o < 2 ^ 64) (same x) short));
+        (l.der_strict (as_row x) d (subst (λ (o : List ℕ). length o < 2 ^ 64) (same x) short));
     der_writable = λ x d. writable_by as_row list x (l.der_writable (as_row x) d);
   }
     where

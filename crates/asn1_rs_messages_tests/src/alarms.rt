@@ -86,12 +86,7 @@ impl Calls for Reads {
 }
 
 /// The calls at types that hold alarms.
-fn answer_held(
-    text: &mut String,
-    alloc: Global,
-    name: &str,
-    octets: &[u8],
-) -> Result<(), Fail> {
+fn answer_held(text: &mut String, alloc: Global, name: &str, octets: &[u8]) -> Result<(), Fail> {
     match name {
         "list" => push_answer(text, alloc, Vec::<Alarm>::from_der(alloc, octets)),
         "set" => push_answer(text, alloc, SetOf::<Alarm>::from_der(alloc, octets)),
