@@ -57,8 +57,9 @@ module _ {S T : Type 0} (as_row : T → S) where
   part_of R = record {
     grammar = row_by R.grammar;
     list = fields_by as_row R.list;
-    lawful = row_by_lawful R.grammar R.lawful;
-    puts = row_by_puts R.grammar R.list R.puts;
+    sound = R.sound;
+    lawful = λ s. row_by_lawful R.grammar (R.lawful s);
+    puts = λ s. row_by_puts R.grammar R.list (R.puts s);
   }
 
   -- A part that is made of its row is what the row was read as, and a refusal of the row is that of the part.
