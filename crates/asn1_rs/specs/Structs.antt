@@ -300,6 +300,15 @@ struct_grammar row R = record {
   allocates = R.allocates;
 }
 
+-- What reading the fields of a struct may answer, where reading its row may answer this.
+abbrev pub MadeOf : {S T : Type 0} → (T → S) → (List ℕ → Result S Error → Type 0) → List ℕ → Result T Error → Type 0
+MadeOf row gives octets (Ok x) = gives octets (Ok (row x))
+MadeOf row gives octets (Err e) = gives octets (Err e)
+
+-- what nothing is said of
+abbrev pub Untold : {T : Type 0} → List ℕ → Result T Error → Type 0
+Untold octets answer = Unit {0}
+
 -- What the conversion of an element to a struct may answer: the struct of its fields; or the refusal of the tag number,
 -- that of the constructed bit, or that of a field.
 abbrev pub StructGives : {T : Type 0} → (List ℕ → Result T Error → Type 0) → Any → Result T Error → Type 0

@@ -1,6 +1,6 @@
 -- Reading octets that are one value whole is exact where the reader is.
-use Rattle.std.proofs.Common.{◌≡◌, ◌≢◌, ◌∙◌, sym, subst, ℕ, inl, inr, Bool, List, [], ◌++◌, append-nil}
-use Rattle.std.specs.Prelude.{Result, Ok, Err}
+use Rattle.std.proofs.Common.{◌≡◌, ◌≢◌, ◌∙◌, sym, subst, refl, ℕ, inl, inr, Bool, List, [], ◌++◌, append-nil}
+use Rattle.std.specs.Prelude.{Result, Ok, Err, IsTrue}
 use Rattle.std.proofs.lemmas.List.{append_cancel_left}
 use Rattle.x690.specs.Joined.{IsOneFront}
 use Rattle.asn1_headers.specs.declared.error.Err.{Err as Refusal}

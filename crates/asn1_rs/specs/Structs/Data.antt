@@ -15,7 +15,7 @@ use Rattle.asn1_rs.specs.Grammar.Item.{ItemGrammar, IsLawfulItem, IsLawfulWritin
 use Rattle.asn1_rs.specs.Optional.{option_writing}
 use Rattle.asn1_rs.specs.ToDer.{Writing}
 use Rattle.asn1_rs.specs.Structs.{EncodingRules, FieldGrammar, RowGrammar, item_field, optional_field, empty_row, row_of}
-use Rattle.asn1_rs.specs.Structs.{among, left_out_by, row_list, fields_by, struct_grammar, ReadsField, ReadsRow}
+use Rattle.asn1_rs.specs.Structs.{MadeOf, among, left_out_by, row_list, fields_by, struct_grammar, ReadsField, ReadsRow}
 use Rattle.asn1_rs.specs.Laws.Structs.Fields.{IsLawfulField, IsLawfulPut, item_field_lawful, optional_field_lawful}
 use Rattle.asn1_rs.specs.Laws.Structs.Fields.{item_put, optional_put}
 use Rattle.asn1_rs.specs.Laws.Structs.Rows.{IsLawfulRow, empty_lawful, row_lawful, first_holds, second_holds}
@@ -153,5 +153,9 @@ pub record AnswersRow {S : Type 0} (rules : EncodingRules) (R : RowGrammar S) (o
 
 -- What the reader of the fields of a struct may answer.
 abbrev pub AnswersStruct : {T : Type 0} → EncodingRules → LawfulStructOf T → List ℕ → Result T Error → Type 0
-AnswersStruct rules T octets (Ok x) = AnswersRow rules T.row.grammar octets (Ok (T.as_row x))
-AnswersStruct rules T octets (Err e) = AnswersRow rules T.row.grammar octets (Err e)
+AnswersStruct rules T = MadeOf T.as_row (AnswersRow rules T.row.grammar)
+
+-- And what else is said of that.
+abbrev pub AnswersAlso : {T : Type 0} → EncodingRules → LawfulStructOf T → (List ℕ → Result T Error → Type 0) →
+    List ℕ → Result T Error → Type 0
+AnswersAlso rules T gives octets answer = AnswersStruct rules T octets answer × gives octets answer

@@ -1,10 +1,10 @@
 -- What the types of the library say as fields of structs, with their laws.
-use Rattle.std.specs.Prelude.{◌≡◌, ◌&&◌, nat_eq, ℕ, ℤ, Bool, true, false, refl, Option, List, ◌<◌, IsTrue, pos}
+use Rattle.std.specs.Prelude.{◌≡◌, ◌∷◌, ◌&&◌, nat_eq, ℕ, ℤ, Bool, true, false, refl, Option, List, [], ◌<◌, IsTrue, pos}
 use Rattle.std.specs.Char.{is_ascii}
 use Rattle.std.specs.Str.{IsUtf8}
 use Rattle.std.proofs.Common.{lit<}
 use Rattle.x690.specs.Collections.{multiset, AnyList}
-use Rattle.x690.specs.Integers.{unsigned_octets}
+use Rattle.x690.specs.Integers.{IsIntegerContent, unsigned_octets}
 use Rattle.x690.specs.Sets.{AllIn, is_numeric, is_printable, is_visible}
 use Rattle.x690.specs.Signed.{IsSigned, signed_octets}
 use Rattle.x690.specs.Laws.Integers.Unsigned.{unsigned_octets_content}

@@ -1,14 +1,20 @@
 //! The fields of structs: what a type says of itself where it is a field, how a field is read, and what is stated of one
 //! in hand.
-ghost use Rattle.std.specs.Prelude.{[], ◌∷◌};
+ghost use Rattle.std.specs.Prelude.{◌≡◌, [], ◌∷◌, ℕ, List, Result};
+ghost use Rattle.asn1_headers.specs.declared.error.Err.{Err as Refusal};
+ghost use Rattle.asn1_headers.specs.declared.error.Error.{Error};
+ghost use Rattle.asn1_rs.specs.Any.{IsDefiniteOr, IsTheElement};
+ghost use Rattle.asn1_rs.specs.Traits.{BerGives, DerGives};
+ghost use Rattle.asn1_rs.specs.Laws.Structs.Readers.{item_answers, option_answers, any_answers_by_der, any_answers_by_ber};
+ghost use Rattle.asn1_rs.specs.Laws.Structs.Readers.{any_option_answers_by_der, any_option_answers_by_ber};
 ghost use Rattle.asn1_headers.specs.Answers.{seen};
 ghost use Rattle.asn1_rs.specs.Any.Value.{any_element};
 ghost use Rattle.asn1_rs.specs.Kinds.{item_grammar};
 ghost use Rattle.asn1_rs.specs.Laws.Any.Value.{element_lawful};
 ghost use Rattle.asn1_rs.specs.Laws.Kinds.{lawful_item};
-ghost use Rattle.asn1_rs.specs.Optional.{IfHeld};
+ghost use Rattle.asn1_rs.specs.Optional.{IfHeld, IsAtEnd, OptionGives};
 ghost use Rattle.asn1_rs.specs.Laws.Structs.Fields.{IsLawfulField, item_field_lawful, optional_field_lawful, any_field_lawful, any_option_lawful};
-ghost use Rattle.asn1_rs.specs.Structs.{FieldGrammar, item_field, optional_field, Numbers, any_number, among, left_out_by, left_out_at_end, by_der, by_ber};
+ghost use Rattle.asn1_rs.specs.Structs.{FieldGrammar, item_field, optional_field, any_number, among, left_out_by, left_out_at_end, by_der, by_ber};
 ghost use Rattle.asn1_rs.specs.Structs.Data.{LawfulTypeOf, LawfulFieldOf, AnswersField, field_of, optional_of};
 
 use crate::asn1_types::any::Any;
@@ -47,63 +53,33 @@ pub trait ReadsField<'a, P: ReadsBy>: Sized {
     /// What it is read from.
     ghost field_grammar: { FieldGrammar Self };
 
+    /// What reading it may answer to these octets.
+    ghost field_gives: { List ℕ → Result (List ℕ × Self) (Refusal Error) → Type 0 };
+
     /// The field, and what follows it.
     fn read_field(alloc: Global, octets: &'a [u8]) -> ParseResult<'a, Self, Error>
-        ensures { AnswersField P.rules field_grammar octets.now (seen result) };
+        ensures { field_gives octets.now (seen result) };
 
     /// Octets give one value and leave one rest.
     ghost lawful_field: { IsLawfulField Self.field_grammar };
-}
 
-/// A required field, by DER, of whichever tag numbers.
-fn item_by_der<'a, T: LawfulDer<'a, Error>>(
-    alloc: Global,
-    octets: &'a [u8],
-) -> ParseResult<'a, T, Error>
-    ensures { (numbers : Numbers) →
-        AnswersField by_der (item_field numbers T.grammar) octets.now (seen result) }
-{
-    T::from_der(alloc, octets)
-}
-
-/// An optional field, by DER.
-fn option_by_der<'a, T: LawfulDer<'a, Error> + LawfulTagged>(
-    alloc: Global,
-    octets: &'a [u8],
-) -> ParseResult<'a, Option<T>, Error>
-    ensures { AnswersField by_der (optional_field (among ((T.TAG).0 ∷ [])) (left_out_by (T.TAG).0) T.grammar) octets.now (seen result) }
-{
-    Option::<T>::from_der(alloc, octets)
-}
-
-/// A required field, by BER, of whichever tag numbers.
-fn item_by_ber<'a, T: LawfulBer<'a, Error>>(
-    alloc: Global,
-    octets: &'a [u8],
-) -> ParseResult<'a, T, Error>
-    ensures { (numbers : Numbers) →
-        AnswersField by_ber (item_field numbers T.grammar) octets.now (seen result) }
-{
-    T::from_ber(alloc, octets)
-}
-
-/// An optional field, by BER.
-fn option_by_ber<'a, T: LawfulBer<'a, Error> + LawfulTagged>(
-    alloc: Global,
-    octets: &'a [u8],
-) -> ParseResult<'a, Option<T>, Error>
-    ensures { AnswersField by_ber (optional_field (among ((T.TAG).0 ∷ [])) (left_out_by (T.TAG).0) T.grammar) octets.now (seen result) }
-{
-    Option::<T>::from_ber(alloc, octets)
+    /// What reading may answer is exact by the grammar, and not out of memory where nothing allocates.
+    ghost exact_field: { (octets : List ℕ) (answer : Result (List ℕ × Self) (Refusal Error)) →
+        Self.field_gives octets answer → AnswersField P.rules Self.field_grammar octets answer };
 }
 
 impl<'a, T: LawfulType + LawfulDer<'a, Error> + LawfulTagged> ReadsField<'a, DerParser> for T {
     ghost field_grammar = { item_field (among ((T.TAG).0 ∷ [])) T.grammar };
 
+    ghost field_gives = { T.der_gives };
+
     ghost lawful_field = { item_field_lawful (T.TAG).0 T.grammar T.lawful_item T.tag_number };
 
+    ghost exact_field = { item_answers by_der T.grammar T.lawful_item T.der_gives T.der_exact T.der_no_memory
+        (among ((T.TAG).0 ∷ [])) };
+
     fn read_field(alloc: Global, octets: &'a [u8]) -> ParseResult<'a, T, Error> {
-        item_by_der::<T>(alloc, octets)
+        T::from_der(alloc, octets)
     }
 }
 
@@ -112,20 +88,60 @@ impl<'a, T: LawfulType + LawfulDer<'a, Error> + LawfulTagged> ReadsField<'a, Der
     ghost field_grammar = { optional_field (among ((T.TAG).0 ∷ []))
         (left_out_by (T.TAG).0) T.grammar };
 
+    ghost field_gives = { OptionGives (left_out_by (T.TAG).0 by_der) T.der_gives };
+
     ghost lawful_field = { optional_field_lawful (T.TAG).0 T.grammar T.lawful_item T.tag_number };
 
+    ghost exact_field = { option_answers by_der T.grammar T.lawful_item T.der_gives T.der_exact T.der_no_memory
+        (among ((T.TAG).0 ∷ [])) (left_out_by (T.TAG).0) };
+
     fn read_field(alloc: Global, octets: &'a [u8]) -> ParseResult<'a, Option<T>, Error> {
-        option_by_der::<T>(alloc, octets)
+        Option::<T>::from_der(alloc, octets)
+    }
+}
+
+impl<'a> ReadsField<'a, DerParser> for Any<'a> {
+    ghost field_grammar = { item_field any_number (item_grammar any_element) };
+
+    ghost field_gives = { DerGives IsDefiniteOr IsTheElement (λ e f. f ≡ e) };
+
+    ghost lawful_field = { any_field_lawful (item_grammar any_element)
+        (lawful_item any_element element_lawful) };
+
+    ghost exact_field = { any_answers_by_der };
+
+    fn read_field(alloc: Global, octets: &'a [u8]) -> ParseResult<'a, Any<'a>, Error> {
+        Any::from_der(alloc, octets)
+    }
+}
+
+impl<'a> ReadsField<'a, DerParser> for Option<Any<'a>> {
+    ghost field_grammar = { optional_field any_number left_out_at_end (item_grammar any_element) };
+
+    ghost field_gives = { OptionGives IsAtEnd (DerGives IsDefiniteOr IsTheElement (λ e f. f ≡ e)) };
+
+    ghost lawful_field = { any_option_lawful (item_grammar any_element)
+        (lawful_item any_element element_lawful) };
+
+    ghost exact_field = { any_option_answers_by_der };
+
+    fn read_field(alloc: Global, octets: &'a [u8]) -> ParseResult<'a, Option<Any<'a>>, Error> {
+        Option::<Any<'a>>::from_der(alloc, octets)
     }
 }
 
 impl<'a, T: LawfulType + LawfulBer<'a, Error> + LawfulTagged> ReadsField<'a, BerParser> for T {
     ghost field_grammar = { item_field (among ((T.TAG).0 ∷ [])) T.grammar };
 
+    ghost field_gives = { T.ber_gives };
+
     ghost lawful_field = { item_field_lawful (T.TAG).0 T.grammar T.lawful_item T.tag_number };
 
+    ghost exact_field = { item_answers by_ber T.grammar T.lawful_item T.ber_gives T.ber_exact T.ber_no_memory
+        (among ((T.TAG).0 ∷ [])) };
+
     fn read_field(alloc: Global, octets: &'a [u8]) -> ParseResult<'a, T, Error> {
-        item_by_ber::<T>(alloc, octets)
+        T::from_ber(alloc, octets)
     }
 }
 
@@ -134,70 +150,45 @@ impl<'a, T: LawfulType + LawfulBer<'a, Error> + LawfulTagged> ReadsField<'a, Ber
     ghost field_grammar = { optional_field (among ((T.TAG).0 ∷ []))
         (left_out_by (T.TAG).0) T.grammar };
 
+    ghost field_gives = { OptionGives (left_out_by (T.TAG).0 by_ber) T.ber_gives };
+
     ghost lawful_field = { optional_field_lawful (T.TAG).0 T.grammar T.lawful_item T.tag_number };
 
+    ghost exact_field = { option_answers by_ber T.grammar T.lawful_item T.ber_gives T.ber_exact T.ber_no_memory
+        (among ((T.TAG).0 ∷ [])) (left_out_by (T.TAG).0) };
+
     fn read_field(alloc: Global, octets: &'a [u8]) -> ParseResult<'a, Option<T>, Error> {
-        option_by_ber::<T>(alloc, octets)
-    }
-}
-
-impl<'a> ReadsField<'a, DerParser> for Any<'a> {
-    ghost field_grammar = { item_field any_number (item_grammar any_element) };
-
-    ghost lawful_field = { any_field_lawful (item_grammar any_element)
-        (lawful_item any_element element_lawful) };
-
-    fn read_field(alloc: Global, octets: &'a [u8]) -> ParseResult<'a, Any<'a>, Error> {
-        item_by_der::<Any<'a>>(alloc, octets)
+        Option::<T>::from_ber(alloc, octets)
     }
 }
 
 impl<'a> ReadsField<'a, BerParser> for Any<'a> {
     ghost field_grammar = { item_field any_number (item_grammar any_element) };
 
+    ghost field_gives = { BerGives IsTheElement (λ e f. f ≡ e) };
+
     ghost lawful_field = { any_field_lawful (item_grammar any_element)
         (lawful_item any_element element_lawful) };
 
+    ghost exact_field = { any_answers_by_ber };
+
     fn read_field(alloc: Global, octets: &'a [u8]) -> ParseResult<'a, Any<'a>, Error> {
-        item_by_ber::<Any<'a>>(alloc, octets)
-    }
-}
-
-/// An element of any tag number that is left out at the end, by DER.
-fn any_option_by_der(alloc: Global, octets: &[u8]) -> ParseResult<'_, Option<Any<'_>>, Error>
-    ensures { AnswersField by_der (optional_field any_number left_out_at_end
-        (item_grammar any_element)) octets.now (seen result) }
-{
-    Option::<Any<'_>>::from_der(alloc, octets)
-}
-
-/// The same by BER.
-fn any_option_by_ber(alloc: Global, octets: &[u8]) -> ParseResult<'_, Option<Any<'_>>, Error>
-    ensures { AnswersField by_ber (optional_field any_number left_out_at_end
-        (item_grammar any_element)) octets.now (seen result) }
-{
-    Option::<Any<'_>>::from_ber(alloc, octets)
-}
-
-impl<'a> ReadsField<'a, DerParser> for Option<Any<'a>> {
-    ghost field_grammar = { optional_field any_number left_out_at_end (item_grammar any_element) };
-
-    ghost lawful_field = { any_option_lawful (item_grammar any_element)
-        (lawful_item any_element element_lawful) };
-
-    fn read_field(alloc: Global, octets: &'a [u8]) -> ParseResult<'a, Option<Any<'a>>, Error> {
-        any_option_by_der(alloc, octets)
+        Any::from_ber(alloc, octets)
     }
 }
 
 impl<'a> ReadsField<'a, BerParser> for Option<Any<'a>> {
     ghost field_grammar = { optional_field any_number left_out_at_end (item_grammar any_element) };
 
+    ghost field_gives = { OptionGives IsAtEnd (BerGives IsTheElement (λ e f. f ≡ e)) };
+
     ghost lawful_field = { any_option_lawful (item_grammar any_element)
         (lawful_item any_element element_lawful) };
 
+    ghost exact_field = { any_option_answers_by_ber };
+
     fn read_field(alloc: Global, octets: &'a [u8]) -> ParseResult<'a, Option<Any<'a>>, Error> {
-        any_option_by_ber(alloc, octets)
+        Option::<Any<'a>>::from_ber(alloc, octets)
     }
 }
 

@@ -15,7 +15,8 @@ pub(crate) mod field;
 pub(crate) mod row;
 pub(crate) mod types;
 
-ghost use Rattle.std.specs.Prelude.{◌≡◌};
+ghost use Rattle.std.specs.Prelude.{◌≡◌, ℕ, List, Result};
+ghost use Rattle.asn1_headers.specs.declared.error.Error.{Error};
 ghost use Rattle.std.proofs.Common.{lit<};
 ghost use Rattle.asn1_headers.specs.Answers.{seen};
 ghost use Rattle.asn1_rs.specs.Any.{parts_of};
@@ -25,8 +26,8 @@ ghost use Rattle.asn1_rs.specs.Laws.Structs.Readers.{struct_exact, struct_quiet,
 ghost use Rattle.asn1_rs.specs.Laws.Structs.Structs.{struct_lawful, struct_number, struct_takes_class};
 ghost use Rattle.asn1_rs.specs.Laws.Structs.Writing.{struct_lawful_writing};
 ghost use Rattle.asn1_rs.specs.Lists.{IsListOr};
-ghost use Rattle.asn1_rs.specs.Structs.{EncodingRules, by_der, by_ber, StructGives, PutsAll, fields_by, puts_of};
-ghost use Rattle.asn1_rs.specs.Structs.Data.{LawfulStructOf, AnswersStruct, grammar_of_struct};
+ghost use Rattle.asn1_rs.specs.Structs.{EncodingRules, Untold, by_der, by_ber, StructGives, PutsAll, fields_by, puts_of};
+ghost use Rattle.asn1_rs.specs.Structs.Data.{LawfulStructOf, AnswersStruct, AnswersAlso, grammar_of_struct};
 ghost use Rattle.asn1_rs.specs.Traits.{DerGives, PassesAll};
 
 use crate::asn1_types::any::Any;
@@ -103,18 +104,28 @@ pub trait LawfulStruct: HasKind<Kind = FieldsKind> + Sized {
 ///     }
 // The rules are no parameter of the trait: of a function that reads a struct the checker would ask to name the parser.
 pub trait ReadsFields<'a>: LawfulStruct {
+    /// What reading the fields may answer, with the refusal of the first field that is refused. Of a struct that leaves
+    /// it out no more is said than that its reader is exact. It is that of its row:
+    /// `MadeOf (λ m. (m.place, ..)) ⟦<MeasurementRow as ReadsRow<'static, DerParser>>⟧.row_gives`.
+    ghost fields_give: { List ℕ → Result Self Error → Type 0 } = { Untold };
+
     /// Reads the fields, which are all of the octets. Refused as the first field that is refused, and with
     /// `TrailingOctets` where octets are left behind the last one.
     fn read_fields(alloc: Global, octets: &'a [u8]) -> Result<Self, Error>
-        ensures { AnswersStruct by_der Self.laws octets.now result };
+        ensures answers { AnswersStruct by_der Self.laws octets.now result }
+        ensures gives { Self.fields_give octets.now result };
 }
 
 /// A struct that is read by BER, each of its fields by BER: as [`ReadsFields`], with [`row_by_ber`](row::row_by_ber).
 pub trait ReadsFieldsByBer<'a>: LawfulStruct {
+    /// What reading the fields may answer, as `fields_give`.
+    ghost fields_give_by_ber: { List ℕ → Result Self Error → Type 0 } = { Untold };
+
     /// Reads the fields, which are all of the octets. Refused as the first field that is refused, and with
     /// `TrailingOctets` where octets are left behind the last one.
     fn read_fields_by_ber(alloc: Global, octets: &'a [u8]) -> Result<Self, Error>
-        ensures { AnswersStruct by_ber Self.laws octets.now result };
+        ensures answers { AnswersStruct by_ber Self.laws octets.now result }
+        ensures gives { Self.fields_give_by_ber octets.now result };
 }
 
 /// The reader by DER of structs.
@@ -125,7 +136,7 @@ pub struct StructReader;
 impl<'a, T: ReadsFieldsByBer<'a>> FromAnyBy<'a, FieldsKind> for T {
     type Refusal = Error;
 
-    ghost gives_by_kind = { StructGives (AnswersStruct by_ber T.laws) };
+    ghost gives_by_kind = { StructGives (AnswersAlso by_ber T.laws T.fields_give_by_ber) };
 
     fn convert_by_kind(alloc: Global, any: Any<'a>) -> Result<T, Error> {
         ConstructedForm::assert_form(Tag::Sequence.0, &any)?;
@@ -135,7 +146,7 @@ impl<'a, T: ReadsFieldsByBer<'a>> FromAnyBy<'a, FieldsKind> for T {
 
 /// The struct that an element is, by DER.
 fn struct_of_element<'a, T: ReadsFields<'a>>(alloc: Global, any: &Any<'a>) -> Result<T, Error>
-    ensures { StructGives (AnswersStruct by_der T.laws) any.now result }
+    ensures { StructGives (AnswersAlso by_der T.laws T.fields_give) any.now result }
 {
     ConstructedForm::assert_form(Tag::Sequence.0, any)?;
     T::read_fields(alloc, any.content)
@@ -143,7 +154,7 @@ fn struct_of_element<'a, T: ReadsFields<'a>>(alloc: Global, any: &Any<'a>) -> Re
 
 /// The same by DER, behind the element.
 impl<'a, T: ReadsFields<'a>> FromDerBy<'a, StructReader, Error> for T {
-    ghost gives_by_reader = { DerGives PassesAll (StructGives (AnswersStruct by_der T.laws))
+    ghost gives_by_reader = { DerGives PassesAll (StructGives (AnswersAlso by_der T.laws T.fields_give))
         (λ x y. y ≡ x) };
 
     fn read_by_der(alloc: Global, bytes: &'a [u8]) -> ParseResult<'a, T, Error> {
@@ -188,9 +199,9 @@ impl<T: LawfulStruct> LawfulItemBy<FieldsKind> for T {
 }
 
 impl<'a, T: ReadsFieldsByBer<'a>> LawfulBodyBy<'a, FieldsKind, Error> for T {
-    ghost exact_by_kind = { struct_exact by_ber T.laws };
+    ghost exact_by_kind = { struct_exact by_ber T.laws T.fields_give_by_ber };
 
-    ghost no_memory_by_kind = { struct_quiet by_ber T.laws };
+    ghost no_memory_by_kind = { struct_quiet by_ber T.laws T.fields_give_by_ber };
 }
 
 impl<T: LawfulStruct> LawfulCheckBy<FieldsKind> for T {
@@ -201,9 +212,9 @@ impl<'a, T> LawfulDerBy<'a, StructReader, Error> for T
 where
     T: ReadsFields<'a> + HasReader<Reader = StructReader>,
 {
-    ghost exact_by_reader = { struct_by_der_exact T.laws };
+    ghost exact_by_reader = { struct_by_der_exact T.laws T.fields_give };
 
-    ghost no_memory_by_reader = { struct_by_der_quiet T.laws };
+    ghost no_memory_by_reader = { struct_by_der_quiet T.laws T.fields_give };
 }
 
 impl<T: LawfulStruct> LawfulWriteBy<FieldsKind> for T {

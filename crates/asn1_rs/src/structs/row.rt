@@ -1,8 +1,10 @@
 //! Rows of fields: pairs of a field and the row behind it, with `()` at the end.
-ghost use Rattle.std.specs.Prelude.{◌≡◌};
+ghost use Rattle.std.specs.Prelude.{◌≡◌, ℕ, List, Result};
+ghost use Rattle.asn1_headers.specs.declared.error.Error.{Error};
+ghost use Rattle.asn1_rs.specs.Laws.Structs.Readers.{end_answers, row_answers};
 ghost use Rattle.asn1_rs.specs.Fields.{taken_in};
 ghost use Rattle.asn1_rs.specs.Structs.{RowGrammar, by_der, by_ber, empty_row, row_of, EndGives, RowGives, PutList, none_put, put_then, PutsAll};
-ghost use Rattle.asn1_rs.specs.Structs.Data.{LawfulRowOf, AnswersField, AnswersRow, end_row, then_row};
+ghost use Rattle.asn1_rs.specs.Structs.Data.{LawfulRowOf, AnswersRow, end_row, then_row};
 
 use crate::kinds::fields::Fields;
 use crate::structs::ReadsBy;
@@ -31,10 +33,17 @@ pub trait ReadsRow<'a, P: ReadsBy>: Sized {
     /// What it is read from.
     ghost row_grammar: { RowGrammar Self };
 
+    /// What reading it may answer to these octets.
+    ghost row_gives: { List ℕ → Result Self Error → Type 0 };
+
     /// All fields, in their order. Refused as the first field that is refused, where one is cut as error `Incomplete`,
     /// and with `TrailingOctets` where octets are left behind the last one.
     fn read_row(alloc: Global, octets: &'a [u8]) -> Result<Self, Error>
-        ensures { AnswersRow P.rules row_grammar octets.now result };
+        ensures { row_gives octets.now result };
+
+    /// What reading may answer is exact by the grammar, and not out of memory where nothing allocates.
+    ghost exact_row: { (octets : List ℕ) (answer : Result Self Error) → Self.row_gives octets answer →
+        AnswersRow P.rules Self.row_grammar octets answer };
 }
 
 /// Refuses octets that are left behind the last field.
@@ -47,22 +56,12 @@ fn assert_end(octets: &[u8]) -> Result<(), Error>
     }
 }
 
-/// A field and the row behind it.
-fn field_then_row<'a, F, R, P>(alloc: Global, octets: &'a [u8]) -> Result<(F, R), Error>
-where
-    F: ReadsField<'a, P> + Drop,
-    R: ReadsRow<'a, P>,
-    P: ReadsBy,
-    ensures { RowGives (AnswersField P.rules F.field_grammar) (AnswersRow P.rules R.row_grammar)
-        octets.now result }
-{
-    let (rest, first) = F::read_field(alloc, octets)?;
-    let others = R::read_row(alloc, rest)?;
-    Ok((first, others))
-}
-
 impl<'a, P: ReadsBy> ReadsRow<'a, P> for () {
     ghost row_grammar = { empty_row };
+
+    ghost row_gives = { EndGives };
+
+    ghost exact_row = { end_answers P.rules };
 
     fn read_row(_alloc: Global, octets: &'a [u8]) -> Result<(), Error> {
         assert_end(octets)
@@ -77,8 +76,15 @@ where
 {
     ghost row_grammar = { row_of F.field_grammar R.row_grammar };
 
+    ghost row_gives = { RowGives F.field_gives R.row_gives };
+
+    ghost exact_row = { row_answers P.rules F.field_grammar R.row_grammar F.lawful_field F.field_gives
+        R.row_gives F.exact_field R.exact_row };
+
     fn read_row(alloc: Global, octets: &'a [u8]) -> Result<(F, R), Error> {
-        field_then_row::<F, R, P>(alloc, octets)
+        let (rest, first) = F::read_field(alloc, octets)?;
+        let others = R::read_row(alloc, rest)?;
+        Ok((first, others))
     }
 }
 
@@ -87,7 +93,8 @@ pub fn row_by_der<'a, R: ReadsRow<'a, DerParser>>(
     alloc: Global,
     octets: &'a [u8],
 ) -> Result<R, Error>
-    ensures { AnswersRow by_der R.row_grammar octets.now result }
+    ensures answers { AnswersRow by_der R.row_grammar octets.now result }
+    ensures gives { R.row_gives octets.now result }
 {
     R::read_row(alloc, octets)
 }
@@ -97,7 +104,8 @@ pub fn row_by_ber<'a, R: ReadsRow<'a, BerParser>>(
     alloc: Global,
     octets: &'a [u8],
 ) -> Result<R, Error>
-    ensures { AnswersRow by_ber R.row_grammar octets.now result }
+    ensures answers { AnswersRow by_ber R.row_grammar octets.now result }
+    ensures gives { R.row_gives octets.now result }
 {
     R::read_row(alloc, octets)
 }

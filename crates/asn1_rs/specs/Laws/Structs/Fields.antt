@@ -1,7 +1,7 @@
 -- Fields of lawful types are lawful, and their readers are exact.
-use Rattle.std.proofs.Common.{◌≡◌, ◌≢◌, ◌∙◌, ap, sym, subst, refl, ℕ, ◌^◌, ◌<◌, inl, inr, true, false, List, []}
+use Rattle.std.proofs.Common.{◌≡◌, ◌≢◌, ◌∙◌, ap, sym, subst, refl, ℕ, ◌^◌, ◌<◌, inl, inr, Bool, true, false, List, []}
 use Rattle.std.proofs.Common.{◌∷◌, ◌++◌, ◌+◌, arith, length, length-append, append_assoc, Option, None, Some, ◌⊎◌}
-use Rattle.std.specs.Prelude.{Result, Ok, Err, IfErr, nat_eq}
+use Rattle.std.specs.Prelude.{Result, Ok, Err, IfErr, IsTrue, nat_eq}
 use Rattle.std.proofs.lemmas.Bool.{eq-eqb}
 use Rattle.std.proofs.lemmas.List.{append_cancel_left}
 use Rattle.std.specs.Option.{option_map}
@@ -21,7 +21,7 @@ use Rattle.asn1_headers.specs.Answers.{Front, Exactly, TellsMemory, IsOther}
 use Rattle.asn1_headers.specs.Error.{HeldIn}
 use Rattle.asn1_rs.specs.Grammar.{FormNumber}
 use Rattle.asn1_rs.specs.Grammar.Form.{IsStrict}
-use Rattle.asn1_rs.specs.Grammar.Item.{ItemGrammar, IsLawfulItem, IsLawfulWriting}
+use Rattle.asn1_rs.specs.Grammar.Item.{ItemGrammar, IsLawfulItem, IsLawfulWriting, ber_words}
 use Rattle.asn1_rs.specs.Laws.Forms.{strict_written, both_by_value, der_strict}
 use Rattle.asn1_rs.specs.Laws.Optional.{not_left_out}
 use Rattle.asn1_rs.specs.Laws.Readers.{none_now}

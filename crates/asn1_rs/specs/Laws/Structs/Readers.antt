@@ -1,5 +1,5 @@
 -- Readers of fields, of rows and of structs are exact.
-use Rattle.std.proofs.Common.{◌≡◌, ◌≢◌, ℕ, false, List}
+use Rattle.std.proofs.Common.{◌≡◌, ◌≢◌, refl, ℕ, false, List, inl, inr}
 use Rattle.std.specs.Prelude.{◌||◌, Option, Result, Ok, Err, IfErr}
 use Rattle.x690.specs.Octets.{IsOctets}
 use Rattle.x690.specs.Identifiers.{IsCutIdentifier}
@@ -28,28 +28,32 @@ use Rattle.asn1_rs.specs.Optional.{IsAtEnd, OptionGives}
 use Rattle.asn1_rs.specs.Traits.{BerGives, DerGives, PassesAll}
 use Rattle.asn1_rs.specs.Structs.{EncodingRules, by_der, by_ber, any_number, left_out_at_end, words_by, IsCutBy, FieldGrammar, RowGrammar}
 use Rattle.asn1_rs.specs.Structs.{Numbers, item_field, optional_field, empty_row, row_of, EndGives, RowGives, StructBody, StructGives}
-use Rattle.asn1_rs.specs.Structs.Data.{AnswersField, AnswersRow, AnswersStruct, LawfulStructOf, grammar_of_struct}
+use Rattle.asn1_rs.specs.Structs.Data.{AnswersField, AnswersRow, AnswersAlso, LawfulStructOf, grammar_of_struct}
 use Rattle.asn1_rs.specs.Laws.Structs.Fields.{IsLawfulField, item_reads, optional_reads, optional_no_memory}
 use Rattle.asn1_rs.specs.Laws.Structs.Rows.{row_reads, row_no_memory, or_neither, end_reads, end_no_memory}
 use Rattle.asn1_rs.specs.Laws.Structs.Structs.{struct_takes, struct_no_memory}
 
--- The reader of a field and the row behind it answers as the row does.
+-- Where the reader of a field answers as the field does, and that of the row behind it as the row does, both answer as
+-- the row of both does.
 pub row_answers : {S R : Type 0} (rules : EncodingRules) (F : FieldGrammar S) (G : RowGrammar R) → IsLawfulField F →
-    (octets : List ℕ) (answer : Result (S × R) Error) →
-    RowGives (AnswersField rules F) (AnswersRow rules G) octets answer → AnswersRow rules (row_of F G) octets answer
-row_answers {S} {R} rules F G f octets answer g = record {
-  exact = λ k.
-      row_reads F G rules f (AnswersField rules F) (AnswersRow rules G) (λ o a k h. h.exact k) (λ o a k h. h.exact k)
+    (first : List ℕ → Result (List ℕ × S) (Refusal Error) → Type 0) (others : List ℕ → Result R Error → Type 0) →
+    ((octets : List ℕ) (answer : Result (List ℕ × S) (Refusal Error)) → first octets answer →
+    AnswersField rules F octets answer) →
+    ((octets : List ℕ) (answer : Result R Error) → others octets answer → AnswersRow rules G octets answer) →
+    (octets : List ℕ) (answer : Result (S × R) Error) → RowGives first others octets answer →
+    AnswersRow rules (row_of F G) octets answer
+row_answers {S} {R} rules F G f first others field row octets answer g = record {
+  exact = λ k. row_reads F G rules f first others (λ o a k h. (field o a h).exact k) (λ o a k h. (row o a h).exact k)
       octets answer k g;
   no_memory = λ none. quiet none answer g;
 }
   where
-    quiet : (F.allocates || G.allocates) ≡ false → (answer : Result (S × R) Error) →
-        RowGives (AnswersField rules F) (AnswersRow rules G) octets answer → IfErr answer (λ e. e ≢ errors.OutOfMemory)
+    quiet : (F.allocates || G.allocates) ≡ false → (answer : Result (S × R) Error) → RowGives first others octets answer →
+        IfErr answer (λ e. e ≢ errors.OutOfMemory)
     quiet none (Ok x) g = tt
-    quiet none (Err e) g = row_no_memory (AnswersField rules F) (AnswersRow rules G)
-        (λ o a h. h.no_memory (or_neither F.allocates G.allocates none).0)
-        (λ o e h. h.no_memory (or_neither F.allocates G.allocates none).1) octets e g
+    quiet none (Err e) g = row_no_memory first others
+        (λ o a h. (field o a h).no_memory (or_neither F.allocates G.allocates none).0)
+        (λ o e h. (row o (Err e) h).no_memory (or_neither F.allocates G.allocates none).1) octets e g
 
 -- And that of no fields.
 pub end_answers : (rules : EncodingRules) (octets : List ℕ) (answer : Result (Unit {0}) Error) →
@@ -83,63 +87,99 @@ module _ {S : Type 0} (rules : EncodingRules) (G : ItemGrammar S) (l : IsLawfulI
     no_memory = λ none. optional_no_memory (LeftOut rules) reads (quiet none) octets answer g;
   }
 
--- An element of any tag number that may be left out is read exactly, by DER.
+-- Elements of any tag number are read exactly, by DER.
+any_exact_by_der : (octets : List ℕ) (answer : Result (List ℕ × Any) (Refusal Error)) → IsOctets octets →
+    DerGives IsDefiniteOr IsTheElement (λ (x y : Error). y ≡ x) octets answer →
+    Exactly IsCutIdentifier (item_grammar any_element).Der any_element.value
+    (TellsMemory any_element.allocates (λ (x y : Error). y ≡ x)) octets answer
+any_exact_by_der octets answer k g = element_exact IsDerElement DerElementFault IsCutIdentifier der_elements der_breach
+    IsDefiniteOr IsTheElement (λ (x y : Error). y ≡ x) any_element.Check any_element.Body any_element.value
+    any_element.allocates (item_grammar any_element).Der element_checks.exact element_converts.exact (λ o v w. w)
+    (λ o v w. w) octets answer g
+
+any_quiet_by_der : any_element.allocates ≡ false → (octets : List ℕ)
+    (answer : Result (List ℕ × Any) (Refusal Error)) →
+    DerGives IsDefiniteOr IsTheElement (λ (x y : Error). y ≡ x) octets answer →
+    IfErr answer (HeldIn (IsOther (λ (x y : Error). y ≡ x)))
+any_quiet_by_der none = element_no_memory IsDerElement DerElementFault der_breach der_breach_no_memory IsDefiniteOr
+    IsTheElement (λ (x y : Error). y ≡ x) element_checks.asks_no_memory
+    (other_error IsTheElement (element_converts.asks_no_memory none))
+
+-- And by BER.
+any_exact_by_ber : (octets : List ℕ) (answer : Result (List ℕ × Any) (Refusal Error)) → IsOctets octets →
+    BerGives IsTheElement (λ (x y : Error). y ≡ x) octets answer →
+    Exactly EndsWithin (ber_words (item_grammar any_element)) any_element.value
+    (TellsMemory any_element.allocates (λ (x y : Error). y ≡ x)) octets answer
+any_exact_by_ber octets answer k g = element_exact (IsElement max_depth) (ElementFault max_depth) EndsWithin ber_elements
+    ber_breach PassesAll IsTheElement (λ (x y : Error). y ≡ x) NoCheck any_element.Body any_element.value
+    any_element.allocates (ber_words (item_grammar any_element)) passes_all element_converts.exact (λ o v w. w)
+    (λ o v w. w) octets answer g
+
+any_quiet_by_ber : any_element.allocates ≡ false → (octets : List ℕ)
+    (answer : Result (List ℕ × Any) (Refusal Error)) →
+    BerGives IsTheElement (λ (x y : Error). y ≡ x) octets answer →
+    IfErr answer (HeldIn (IsOther (λ (x y : Error). y ≡ x)))
+any_quiet_by_ber none = element_no_memory (IsElement max_depth) (ElementFault max_depth) ber_breach ber_breach_no_memory
+    PassesAll IsTheElement (λ (x y : Error). y ≡ x) all_pass
+    (other_error IsTheElement (element_converts.asks_no_memory none))
+
+-- So they are as fields, and where they may be left out.
+
+pub any_answers_by_der : (octets : List ℕ) (answer : Result (List ℕ × Any) (Refusal Error)) →
+    DerGives IsDefiniteOr IsTheElement (λ (x y : Error). y ≡ x) octets answer →
+    AnswersField by_der (item_field any_number (item_grammar any_element)) octets answer
+any_answers_by_der = item_answers by_der (item_grammar any_element) (lawful_item any_element element_lawful)
+    (DerGives IsDefiniteOr IsTheElement (λ (x y : Error). y ≡ x)) any_exact_by_der any_quiet_by_der any_number
+
+pub any_answers_by_ber : (octets : List ℕ) (answer : Result (List ℕ × Any) (Refusal Error)) →
+    BerGives IsTheElement (λ (x y : Error). y ≡ x) octets answer →
+    AnswersField by_ber (item_field any_number (item_grammar any_element)) octets answer
+any_answers_by_ber = item_answers by_ber (item_grammar any_element) (lawful_item any_element element_lawful)
+    (BerGives IsTheElement (λ (x y : Error). y ≡ x)) any_exact_by_ber any_quiet_by_ber any_number
+
 pub any_option_answers_by_der : (octets : List ℕ) (answer : Result (List ℕ × Option Any) (Refusal Error)) →
     OptionGives IsAtEnd (DerGives IsDefiniteOr IsTheElement (λ (x y : Error). y ≡ x)) octets answer →
     AnswersField by_der (optional_field any_number left_out_at_end (item_grammar any_element)) octets answer
-any_option_answers_by_der =
-    option_answers by_der (item_grammar any_element) (lawful_item any_element element_lawful)
-    (DerGives IsDefiniteOr IsTheElement (λ (x y : Error). y ≡ x))
-    (λ octets answer k g. element_exact IsDerElement DerElementFault IsCutIdentifier der_elements der_breach IsDefiniteOr
-    IsTheElement (λ (x y : Error). y ≡ x) any_element.Check any_element.Body any_element.value any_element.allocates
-    (item_grammar any_element).Der element_checks.exact element_converts.exact (λ o v w. w) (λ o v w. w) octets answer g)
-    (λ none. element_no_memory IsDerElement DerElementFault der_breach der_breach_no_memory IsDefiniteOr IsTheElement
-    (λ (x y : Error). y ≡ x) element_checks.asks_no_memory
-    (other_error IsTheElement (element_converts.asks_no_memory none))) any_number left_out_at_end
+any_option_answers_by_der = option_answers by_der (item_grammar any_element) (lawful_item any_element element_lawful)
+    (DerGives IsDefiniteOr IsTheElement (λ (x y : Error). y ≡ x)) any_exact_by_der any_quiet_by_der any_number
+    left_out_at_end
 
--- And by BER.
 pub any_option_answers_by_ber : (octets : List ℕ) (answer : Result (List ℕ × Option Any) (Refusal Error)) →
     OptionGives IsAtEnd (BerGives IsTheElement (λ (x y : Error). y ≡ x)) octets answer →
     AnswersField by_ber (optional_field any_number left_out_at_end (item_grammar any_element)) octets answer
-any_option_answers_by_ber =
-    option_answers by_ber (item_grammar any_element) (lawful_item any_element element_lawful)
-    (BerGives IsTheElement (λ (x y : Error). y ≡ x))
-    (λ octets answer k g. element_exact (IsElement max_depth) (ElementFault max_depth) EndsWithin ber_elements ber_breach
-    PassesAll IsTheElement (λ (x y : Error). y ≡ x) NoCheck any_element.Body any_element.value any_element.allocates
-    (ber_words (item_grammar any_element)) passes_all element_converts.exact (λ o v w. w) (λ o v w. w) octets answer g)
-    (λ none. element_no_memory (IsElement max_depth) (ElementFault max_depth) ber_breach ber_breach_no_memory PassesAll
-    IsTheElement (λ (x y : Error). y ≡ x) all_pass (other_error IsTheElement (element_converts.asks_no_memory none)))
-    any_number left_out_at_end
+any_option_answers_by_ber = option_answers by_ber (item_grammar any_element) (lawful_item any_element element_lawful)
+    (BerGives IsTheElement (λ (x y : Error). y ≡ x)) any_exact_by_ber any_quiet_by_ber any_number left_out_at_end
 
-module _ {T : Type 0} (rules : EncodingRules) (X : LawfulStructOf T) where
+module _ {T : Type 0} (rules : EncodingRules) (X : LawfulStructOf T) (gives : List ℕ → Result T Error → Type 0) where
   -- The conversion of an element to a struct is exact.
   pub struct_exact : (any : Any) (answer : Result T Error) → IsOctets any.content.now →
-      StructGives (AnswersStruct rules X) any answer →
+      StructGives (AnswersAlso rules X gives) any answer →
       TakesBody (StructBody (X.row.grammar.Takes rules)) (grammar_of_struct X).value (grammar_of_struct X).allocates
       (λ (x y : Error). y ≡ x) (parts_of any) answer
-  struct_exact = struct_takes X.row.grammar rules X.as_row (AnswersStruct rules X) (λ octets x k a. a.exact k)
-      (λ octets e k a. a.exact k)
+  struct_exact = struct_takes X.row.grammar rules X.as_row (AnswersAlso rules X gives) (λ octets x k a. a.0.exact k)
+      (λ octets e k a. a.0.exact k)
 
   -- It does not report out of memory where no field allocates.
   pub struct_quiet : (grammar_of_struct X).allocates ≡ false → (any : Any) (e : Error) →
-      StructGives (AnswersStruct rules X) any (Err e) → IsOther (λ (x y : Error). y ≡ x) e
-  struct_quiet none = struct_no_memory (AnswersStruct rules X) (λ octets e a. a.no_memory none)
+      StructGives (AnswersAlso rules X gives) any (Err e) → IsOther (λ (x y : Error). y ≡ x) e
+  struct_quiet none = struct_no_memory (AnswersAlso rules X gives) (λ octets e a. a.0.no_memory none)
 
-module _ {T : Type 0} (X : LawfulStructOf T) where
+module _ {T : Type 0} (X : LawfulStructOf T) (gives : List ℕ → Result T Error → Type 0) where
   -- So is reading the element at the front by DER, and its fields.
   pub struct_by_der_exact : (input : List ℕ) (answer : Result (List ℕ × T) (Refusal Error)) → IsOctets input →
-      DerGives PassesAll (StructGives (AnswersStruct by_der X)) (λ (x y : Error). y ≡ x) input answer →
+      DerGives PassesAll (StructGives (AnswersAlso by_der X gives)) (λ (x y : Error). y ≡ x) input answer →
       Exactly IsCutIdentifier (grammar_of_struct X).Der (grammar_of_struct X).value
       (TellsMemory (grammar_of_struct X).allocates (λ (x y : Error). y ≡ x)) input answer
   struct_by_der_exact input answer k g =
-      unchecked_exact (StructGives (AnswersStruct by_der X)) (λ (x y : Error). y ≡ x)
+      unchecked_exact (StructGives (AnswersAlso by_der X gives)) (λ (x y : Error). y ≡ x)
       (StructBody (X.row.grammar.Takes by_der)) (grammar_of_struct X).value (grammar_of_struct X).allocates
-      (struct_exact by_der X) input answer g
+      (struct_exact by_der X gives) input answer g
 
+  -- And it does not report out of memory either.
   pub struct_by_der_quiet : (grammar_of_struct X).allocates ≡ false → (input : List ℕ)
       (answer : Result (List ℕ × T) (Refusal Error)) →
-      DerGives PassesAll (StructGives (AnswersStruct by_der X)) (λ (x y : Error). y ≡ x) input answer →
+      DerGives PassesAll (StructGives (AnswersAlso by_der X gives)) (λ (x y : Error). y ≡ x) input answer →
       IfErr answer (HeldIn (IsOther (λ (x y : Error). y ≡ x)))
   struct_by_der_quiet none =
       element_no_memory IsDerElement DerElementFault der_breach der_breach_no_memory PassesAll
-      (StructGives (AnswersStruct by_der X)) (λ (x y : Error). y ≡ x) all_pass (struct_quiet by_der X none)
+      (StructGives (AnswersAlso by_der X gives)) (λ (x y : Error). y ≡ x) all_pass (struct_quiet by_der X gives none)

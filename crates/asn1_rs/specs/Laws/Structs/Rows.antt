@@ -1,7 +1,7 @@
 -- Rows of lawful fields are lawful, and their readers are exact.
 use Rattle.std.proofs.Common.{◌≡◌, ◌≢◌, ◌∙◌, ap, sym, subst, refl, ℕ, inl, inr, Bool, true, false, List, [], ◌∷◌, ◌++◌}
 use Rattle.std.specs.Prelude.{◌||◌, ◌&&◌, ◌⊎◌, Result, Ok, Err, IfErr, IsTrue, nat_eq, not}
-use Rattle.std.proofs.lemmas.Bool.{eqb-true}
+use Rattle.std.proofs.lemmas.Bool.{eqb-true, eq-eqb}
 use Rattle.x690.specs.Octets.{IsOctets}
 use Rattle.x690.specs.Rules.{Rule}
 use mathlib.Core.HLevel.{Σ_set}
@@ -11,7 +11,7 @@ use Rattle.asn1_headers.specs.declared.error.Err.{Err as Refusal}
 use Rattle.asn1_headers.specs.declared.error.Err.TheVariants.{Incomplete as cut, Error as refused, Failure as failed}
 use Rattle.asn1_headers.specs.declared.error.Error.{Error}
 use Rattle.asn1_headers.specs.declared.error.Error.TheVariants as errors
-use Rattle.asn1_headers.specs.Answers.{IsOther}
+use Rattle.asn1_headers.specs.Answers.{TellsMemory, IsOther}
 use Rattle.asn1_headers.specs.Error.{HeldIn}
 use Rattle.asn1_rs.specs.FieldReader.{BecomesError}
 use Rattle.asn1_rs.specs.Laws.Whole.{memory_becomes}

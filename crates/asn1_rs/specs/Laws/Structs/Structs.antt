@@ -1,10 +1,10 @@
 -- Structs whose rows of fields are lawful are lawful items, and their conversion is exact.
 use Rattle.std.proofs.lemmas.Bool.{eqb-true}
-use Rattle.std.proofs.Common.{◌≡◌, ◌≢◌, ap, sym, subst, refl, arith, ℕ, inl, inr, true, List}
-use Rattle.std.specs.Prelude.{Result, Ok, Err, nat_eq}
+use Rattle.std.proofs.Common.{◌≡◌, ◌≢◌, ap, sym, subst, refl, arith, ℕ, ◌^◌, ◌<◌, inl, inr, Bool, true, false, List}
+use Rattle.std.specs.Prelude.{Result, Ok, Err, IsTrue, nat_eq}
 use Rattle.x690.specs.Octets.{IsOctets}
 use Rattle.x690.specs.Identifiers.{Identifier}
-use Rattle.x690.specs.Elements.{IsDerElement}
+use Rattle.x690.specs.Elements.{Parts, IsDerElement}
 use Rattle.asn1_headers.specs.declared.error.Error.{Error}
 use Rattle.asn1_headers.specs.declared.error.Error.TheVariants as errors
 use Rattle.asn1_headers.specs.Answers.{IsOther}

@@ -1,10 +1,11 @@
 -- What is written of rows of fields, and of structs, is lawful.
-use Rattle.std.proofs.Common.{◌≡◌, ◌∙◌, ap, sym, subst, refl, arith, ℕ, ◌+◌, ◌^◌, ◌<◌, inl, inr, true, List}
+use Rattle.std.proofs.Common.{◌≡◌, ◌∙◌, ap, sym, subst, refl, arith, ℕ, ◌+◌, ◌^◌, ◌<◌, inl, inr, Bool, true, false, List, []}
 use Rattle.std.proofs.Common.{◌++◌, length, length-append}
 use Rattle.std.specs.Prelude.{Result, Ok, Err}
 use mathlib.Core.Logic.{∥∥₁_prop, ∥∥₁_elim, ∥∥₁_map}
 use Rattle.x690.specs.Identifiers.{Identifier}
 use Rattle.x690.specs.Strict.{header_octets}
+use Rattle.asn1_headers.specs.declared.error.Error.{Error}
 use Rattle.asn1_headers.specs.declared.error.SerializeError.{SerializeError}
 use Rattle.asn1_rs.specs.Fields.{FieldList, untold_fields, no_fields, field, TellsFields, fields_octets, FieldsRefuse}
 use Rattle.asn1_rs.specs.Fields.{FieldsRefuseCount, fields_writing, TakenFields, PutsEach, Puts}
