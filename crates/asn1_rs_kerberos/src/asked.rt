@@ -1,7 +1,7 @@
 //! The last six fields of what is asked for, as a part of its row.
 ghost use Rattle.asn1_rs.specs.Structs.{puts_of};
 ghost use Rattle.asn1_rs_kerberos.specs.Requests.{asked_of};
-ghost use Rattle.asn1_rs_messages.specs.Parts.{part_of};
+ghost use Rattle.asn1_rs_messages.specs.Parts.{PartGives, part_of};
 
 use crate::{EncryptedData, HostAddress, KdcReqBody, Ticket, Under};
 use asn1_rs::{
@@ -53,18 +53,38 @@ impl<'a> Row for Asked<'a> {
 impl<'a> ReadsRow<'a, DerParser> for Asked<'a> {
     ghost row_grammar = { ⟦<Asked<'a> as Row>⟧.row_laws.grammar };
 
+    ghost row_gives = { PartGives (λ x. (
+      x.rtime,
+      (
+        x.nonce,
+        (
+          x.etype,
+          (x.addresses, (x.enc_authorization_data, (x.additional_tickets, tt))),
+        ),
+      ),
+    ))
+        by_der ⟦<Asked<'a> as Row>⟧.row_laws.grammar
+        ⟦<AskedRow<'a> as ReadsRow<'a, DerParser>>⟧.row_gives };
+
+    ghost exact_row = { λ octets answer gives. gives.0 };
+
     #[tactic(auto, using(asn1_rs_messages::specs::Parts::part_read, asn1_rs_messages::specs::Parts::part_refused))]
     fn read_row(alloc: Global, octets: &'a [u8]) -> Result<Asked<'a>, Error> {
-        let (rtime, (nonce, (etype, added))) = row_by_der::<AskedRow<'a>>(alloc, octets)?;
-        let (addresses, (enc_authorization_data, (additional_tickets, ()))) = added;
-        Ok(Asked {
-            rtime,
-            nonce,
-            etype,
-            addresses,
-            enc_authorization_data,
-            additional_tickets,
-        })
+        match row_by_der::<AskedRow<'a>>(alloc, octets) {
+            Ok(row) => {
+                let (rtime, (nonce, (etype, added))) = row;
+                let (addresses, (enc_authorization_data, (additional_tickets, ()))) = added;
+                Ok(Asked {
+                    rtime,
+                    nonce,
+                    etype,
+                    addresses,
+                    enc_authorization_data,
+                    additional_tickets,
+                })
+            }
+            Err(e) => Err(e),
+        }
     }
 }
 

@@ -86,21 +86,25 @@ impl<'a> LawfulStruct for KdcReqBody<'a> {
 
 impl<'a> ReadsFields<'a> for KdcReqBody<'a> {
     fn read_fields(alloc: Global, octets: &'a [u8]) -> Result<KdcReqBody<'a>, Error> {
-        let row = row_by_der::<KdcReqBodyRow<'a>>(alloc, octets)?;
-        let (kdc_options, (cname, (realm, (sname, (from, (till, asked)))))) = row;
-        Ok(KdcReqBody {
-            kdc_options,
-            cname,
-            realm,
-            sname,
-            from,
-            till,
-            rtime: asked.rtime,
-            nonce: asked.nonce,
-            etype: asked.etype,
-            addresses: asked.addresses,
-            enc_authorization_data: asked.enc_authorization_data,
-            additional_tickets: asked.additional_tickets,
-        })
+        match row_by_der::<KdcReqBodyRow<'a>>(alloc, octets) {
+            Ok(row) => {
+                let (kdc_options, (cname, (realm, (sname, (from, (till, asked)))))) = row;
+                Ok(KdcReqBody {
+                    kdc_options,
+                    cname,
+                    realm,
+                    sname,
+                    from,
+                    till,
+                    rtime: asked.rtime,
+                    nonce: asked.nonce,
+                    etype: asked.etype,
+                    addresses: asked.addresses,
+                    enc_authorization_data: asked.enc_authorization_data,
+                    additional_tickets: asked.additional_tickets,
+                })
+            }
+            Err(e) => Err(e),
+        }
     }
 }

@@ -46,11 +46,16 @@ impl<'a> LawfulStruct for PaData<'a> {
 
 impl<'a> ReadsFields<'a> for PaData<'a> {
     fn read_fields(alloc: Global, octets: &'a [u8]) -> Result<PaData<'a>, Error> {
-        let (padata_type, (padata_value, ())) = row_by_der(alloc, octets)?;
-        Ok(PaData {
-            padata_type,
-            padata_value,
-        })
+        match row_by_der(alloc, octets) {
+            Ok(row) => {
+                let (padata_type, (padata_value, ())) = row;
+                Ok(PaData {
+                    padata_type,
+                    padata_value,
+                })
+            }
+            Err(e) => Err(e),
+        }
     }
 }
 
@@ -91,8 +96,13 @@ impl<'a> LawfulStruct for HostAddress<'a> {
 
 impl<'a> ReadsFields<'a> for HostAddress<'a> {
     fn read_fields(alloc: Global, octets: &'a [u8]) -> Result<HostAddress<'a>, Error> {
-        let (addr_type, (address, ())) = row_by_der(alloc, octets)?;
-        Ok(HostAddress { addr_type, address })
+        match row_by_der(alloc, octets) {
+            Ok(row) => {
+                let (addr_type, (address, ())) = row;
+                Ok(HostAddress { addr_type, address })
+            }
+            Err(e) => Err(e),
+        }
     }
 }
 
@@ -138,11 +148,16 @@ impl<'a> LawfulStruct for EncryptedData<'a> {
 
 impl<'a> ReadsFields<'a> for EncryptedData<'a> {
     fn read_fields(alloc: Global, octets: &'a [u8]) -> Result<EncryptedData<'a>, Error> {
-        let (etype, (kvno, (cipher, ()))) = row_by_der(alloc, octets)?;
-        Ok(EncryptedData {
-            etype,
-            kvno,
-            cipher,
-        })
+        match row_by_der(alloc, octets) {
+            Ok(row) => {
+                let (etype, (kvno, (cipher, ()))) = row;
+                Ok(EncryptedData {
+                    etype,
+                    kvno,
+                    cipher,
+                })
+            }
+            Err(e) => Err(e),
+        }
     }
 }

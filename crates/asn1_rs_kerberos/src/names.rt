@@ -46,10 +46,15 @@ impl<'a> LawfulStruct for PrincipalName<'a> {
 
 impl<'a> ReadsFields<'a> for PrincipalName<'a> {
     fn read_fields(alloc: Global, octets: &'a [u8]) -> Result<PrincipalName<'a>, Error> {
-        let (name_type, (name_string, ())) = row_by_der(alloc, octets)?;
-        Ok(PrincipalName {
-            name_type,
-            name_string,
-        })
+        match row_by_der(alloc, octets) {
+            Ok(row) => {
+                let (name_type, (name_string, ())) = row;
+                Ok(PrincipalName {
+                    name_type,
+                    name_string,
+                })
+            }
+            Err(e) => Err(e),
+        }
     }
 }

@@ -75,13 +75,18 @@ impl<'a> LawfulStruct for KdcReq<'a> {
 
 impl<'a> ReadsFields<'a> for KdcReq<'a> {
     fn read_fields(alloc: Global, octets: &'a [u8]) -> Result<KdcReq<'a>, Error> {
-        let (pvno, (msg_type, (padata, (req_body, ())))) = row_by_der(alloc, octets)?;
-        Ok(KdcReq {
-            pvno,
-            msg_type,
-            padata,
-            req_body,
-        })
+        match row_by_der(alloc, octets) {
+            Ok(row) => {
+                let (pvno, (msg_type, (padata, (req_body, ())))) = row;
+                Ok(KdcReq {
+                    pvno,
+                    msg_type,
+                    padata,
+                    req_body,
+                })
+            }
+            Err(e) => Err(e),
+        }
     }
 }
 

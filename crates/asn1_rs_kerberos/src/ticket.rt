@@ -70,12 +70,17 @@ impl<'a> LawfulStruct for TicketFields<'a> {
 
 impl<'a> ReadsFields<'a> for TicketFields<'a> {
     fn read_fields(alloc: Global, octets: &'a [u8]) -> Result<TicketFields<'a>, Error> {
-        let (tkt_vno, (realm, (sname, (enc_part, ())))) = row_by_der(alloc, octets)?;
-        Ok(TicketFields {
-            tkt_vno,
-            realm,
-            sname,
-            enc_part,
-        })
+        match row_by_der(alloc, octets) {
+            Ok(row) => {
+                let (tkt_vno, (realm, (sname, (enc_part, ())))) = row;
+                Ok(TicketFields {
+                    tkt_vno,
+                    realm,
+                    sname,
+                    enc_part,
+                })
+            }
+            Err(e) => Err(e),
+        }
     }
 }

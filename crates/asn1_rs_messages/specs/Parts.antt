@@ -3,7 +3,7 @@ use Rattle.std.proofs.Common.{◌≡◌, ◌∙◌, ap, sym, subst, arith, ◌<�
 use Rattle.std.specs.Prelude.{Result, Ok, Err}
 use Rattle.asn1_headers.specs.declared.error.Error.{Error}
 use Rattle.asn1_rs.specs.Fields.{FieldList, fields_octets}
-use Rattle.asn1_rs.specs.Structs.{EncodingRules, RowGrammar, fields_by}
+use Rattle.asn1_rs.specs.Structs.{EncodingRules, RowGrammar, MadeOf, fields_by}
 use Rattle.asn1_rs.specs.Structs.Data.{LawfulRowOf, AnswersRow}
 use Rattle.asn1_rs.specs.Laws.Structs.Rows.{IsLawfulRow}
 use Rattle.asn1_rs.specs.Laws.Structs.Writing.{IsLawfulPuts, octets_by, tells_by, writable_by}
@@ -70,3 +70,8 @@ module _ {S T : Type 0} (as_row : T → S) where
   pub part_refused : (rules : EncodingRules) (R : RowGrammar S) (octets : List ℕ) (e : Error) →
       AnswersRow rules R octets (Err e) → AnswersRow rules (row_by R) octets (Err e)
   part_refused rules R octets e a = record { exact = a.exact; no_memory = a.no_memory }
+
+  -- What reading a part may answer: it is exact, and tells what reading its row does.
+  abbrev pub PartGives : EncodingRules → RowGrammar T → (List ℕ → Result S Error → Type 0) → List ℕ → Result T Error →
+      Type 0
+  PartGives rules R gives octets answer = AnswersRow rules R octets answer × MadeOf as_row gives octets answer

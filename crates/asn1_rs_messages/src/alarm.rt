@@ -1,13 +1,15 @@
 //! A message with two optional fields and a list, by both rules.
 ghost use Rattle.std.proofs.Common.{refl};
 ghost use Rattle.asn1_headers.specs.Answers.{seen};
+ghost use Rattle.asn1_rs.specs.Structs.{MadeOf};
 ghost use Rattle.asn1_rs.specs.Structs.Data.{struct_of};
 ghost use Rattle.asn1_rs_messages.specs.Callers.{ReadsByDer, ReadsByBer, WritesStrict};
 
 use asn1_rs::{
-    AlwaysDer, AlwaysDerBy, BorrowedRow, DerRow, Error, Fields, FieldsKind, Grammar, HasKind,
-    HasReader, LawfulStruct, ParseResult, ReadsFields, ReadsFieldsByBer, Row, SerializeResult,
-    StructReader, TaggedExplicit, ToDer, read_ber, read_der, row_by_ber, row_by_der, strict_vec,
+    AlwaysDer, AlwaysDerBy, BerParser, BorrowedRow, DerParser, DerRow, Error, Fields, FieldsKind,
+    Grammar, HasKind, HasReader, LawfulStruct, ParseResult, ReadsFields, ReadsFieldsByBer,
+    ReadsRow, Row, SerializeResult, StructReader, TaggedExplicit, ToDer, read_ber, read_der,
+    row_by_ber, row_by_der, strict_vec,
 };
 use std::alloc::Global;
 
@@ -62,26 +64,42 @@ impl LawfulStruct for Alarm {
 }
 
 impl<'a> ReadsFields<'a> for Alarm {
+    ghost fields_give = { MadeOf ⟦<Alarm as LawfulStruct>⟧.laws.as_row
+        ⟦<AlarmRow as ReadsRow<'a, DerParser>>⟧.row_gives };
+
     fn read_fields(alloc: Global, octets: &'a [u8]) -> Result<Alarm, Error> {
-        let (level, (muted, (urgent, (rooms, ())))) = row_by_der(alloc, octets)?;
-        Ok(Alarm {
-            level,
-            muted,
-            urgent,
-            rooms,
-        })
+        match row_by_der(alloc, octets) {
+            Ok(row) => {
+                let (level, (muted, (urgent, (rooms, ())))) = row;
+                Ok(Alarm {
+                    level,
+                    muted,
+                    urgent,
+                    rooms,
+                })
+            }
+            Err(e) => Err(e),
+        }
     }
 }
 
 impl<'a> ReadsFieldsByBer<'a> for Alarm {
+    ghost fields_give_by_ber = { MadeOf ⟦<Alarm as LawfulStruct>⟧.laws.as_row
+        ⟦<AlarmRow as ReadsRow<'a, BerParser>>⟧.row_gives };
+
     fn read_fields_by_ber(alloc: Global, octets: &'a [u8]) -> Result<Alarm, Error> {
-        let (level, (muted, (urgent, (rooms, ())))) = row_by_ber(alloc, octets)?;
-        Ok(Alarm {
-            level,
-            muted,
-            urgent,
-            rooms,
-        })
+        match row_by_ber(alloc, octets) {
+            Ok(row) => {
+                let (level, (muted, (urgent, (rooms, ())))) = row;
+                Ok(Alarm {
+                    level,
+                    muted,
+                    urgent,
+                    rooms,
+                })
+            }
+            Err(e) => Err(e),
+        }
     }
 }
 

@@ -1,13 +1,15 @@
 //! A message of two numbers and one that may be left out, by both rules.
 ghost use Rattle.std.proofs.Common.{refl};
 ghost use Rattle.asn1_headers.specs.Answers.{seen};
+ghost use Rattle.asn1_rs.specs.Structs.{MadeOf};
 ghost use Rattle.asn1_rs.specs.Structs.Data.{struct_of};
 ghost use Rattle.asn1_rs_messages.specs.Callers.{ReadsByDer, ReadsByBer, WritesStrict};
 
 use asn1_rs::{
-    AlwaysDer, AlwaysDerBy, BorrowedRow, DerRow, Error, Fields, FieldsKind, Grammar, HasKind,
-    HasReader, LawfulStruct, ParseResult, ReadsFields, ReadsFieldsByBer, Row, SerializeResult,
-    StructReader, ToDer, read_ber, read_der, row_by_ber, row_by_der, strict_vec,
+    AlwaysDer, AlwaysDerBy, BerParser, BorrowedRow, DerParser, DerRow, Error, Fields, FieldsKind,
+    Grammar, HasKind, HasReader, LawfulStruct, ParseResult, ReadsFields, ReadsFieldsByBer,
+    ReadsRow, Row, SerializeResult, StructReader, ToDer, read_ber, read_der, row_by_ber,
+    row_by_der, strict_vec,
 };
 use std::alloc::Global;
 
@@ -49,24 +51,40 @@ impl LawfulStruct for Measurement {
 }
 
 impl<'a> ReadsFields<'a> for Measurement {
+    ghost fields_give = { MadeOf ⟦<Measurement as LawfulStruct>⟧.laws.as_row
+        ⟦<MeasurementRow as ReadsRow<'a, DerParser>>⟧.row_gives };
+
     fn read_fields(alloc: Global, octets: &'a [u8]) -> Result<Measurement, Error> {
-        let (place, (value, (error, ()))) = row_by_der(alloc, octets)?;
-        Ok(Measurement {
-            place,
-            value,
-            error,
-        })
+        match row_by_der(alloc, octets) {
+            Ok(row) => {
+                let (place, (value, (error, ()))) = row;
+                Ok(Measurement {
+                    place,
+                    value,
+                    error,
+                })
+            }
+            Err(e) => Err(e),
+        }
     }
 }
 
 impl<'a> ReadsFieldsByBer<'a> for Measurement {
+    ghost fields_give_by_ber = { MadeOf ⟦<Measurement as LawfulStruct>⟧.laws.as_row
+        ⟦<MeasurementRow as ReadsRow<'a, BerParser>>⟧.row_gives };
+
     fn read_fields_by_ber(alloc: Global, octets: &'a [u8]) -> Result<Measurement, Error> {
-        let (place, (value, (error, ()))) = row_by_ber(alloc, octets)?;
-        Ok(Measurement {
-            place,
-            value,
-            error,
-        })
+        match row_by_ber(alloc, octets) {
+            Ok(row) => {
+                let (place, (value, (error, ()))) = row;
+                Ok(Measurement {
+                    place,
+                    value,
+                    error,
+                })
+            }
+            Err(e) => Err(e),
+        }
     }
 }
 

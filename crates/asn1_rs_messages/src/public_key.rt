@@ -1,13 +1,14 @@
 //! The public key of a certificate and the algorithm that it is for (RFC 5280, 4.1), by DER, borrowed from the octets.
 ghost use Rattle.std.proofs.Common.{refl};
 ghost use Rattle.asn1_headers.specs.Answers.{seen};
+ghost use Rattle.asn1_rs.specs.Structs.{MadeOf};
 ghost use Rattle.asn1_rs.specs.Structs.Data.{struct_of};
 ghost use Rattle.asn1_rs_messages.specs.Callers.{ReadsByDer, WritesStrict};
 
 use asn1_rs::{
-    Any, BitString, BorrowedRow, Error, Fields, FieldsKind, Grammar, HasKind, HasReader,
-    LawfulStruct, Oid, ParseResult, ReadsFields, Row, SerializeResult, StructReader, ToDer,
-    read_der, row_by_der, strict_vec,
+    Any, BitString, BorrowedRow, DerParser, Error, Fields, FieldsKind, Grammar, HasKind, HasReader,
+    LawfulStruct, Oid, ParseResult, ReadsFields, ReadsRow, Row, SerializeResult, StructReader,
+    ToDer, read_der, row_by_der, strict_vec,
 };
 use std::alloc::Global;
 
@@ -47,12 +48,20 @@ impl<'a> LawfulStruct for AlgorithmIdentifier<'a> {
 }
 
 impl<'a> ReadsFields<'a> for AlgorithmIdentifier<'a> {
+    ghost fields_give = { MadeOf ⟦<AlgorithmIdentifier<'a> as LawfulStruct>⟧.laws.as_row
+        ⟦<AlgorithmRow<'a> as ReadsRow<'a, DerParser>>⟧.row_gives };
+
     fn read_fields(alloc: Global, octets: &'a [u8]) -> Result<AlgorithmIdentifier<'a>, Error> {
-        let (algorithm, (parameters, ())) = row_by_der(alloc, octets)?;
-        Ok(AlgorithmIdentifier {
-            algorithm,
-            parameters,
-        })
+        match row_by_der(alloc, octets) {
+            Ok(row) => {
+                let (algorithm, (parameters, ())) = row;
+                Ok(AlgorithmIdentifier {
+                    algorithm,
+                    parameters,
+                })
+            }
+            Err(e) => Err(e),
+        }
     }
 }
 
@@ -92,12 +101,20 @@ impl<'a> LawfulStruct for SubjectPublicKeyInfo<'a> {
 }
 
 impl<'a> ReadsFields<'a> for SubjectPublicKeyInfo<'a> {
+    ghost fields_give = { MadeOf ⟦<SubjectPublicKeyInfo<'a> as LawfulStruct>⟧.laws.as_row
+        ⟦<PublicKeyRow<'a> as ReadsRow<'a, DerParser>>⟧.row_gives };
+
     fn read_fields(alloc: Global, octets: &'a [u8]) -> Result<SubjectPublicKeyInfo<'a>, Error> {
-        let (algorithm, (subject_public_key, ())) = row_by_der(alloc, octets)?;
-        Ok(SubjectPublicKeyInfo {
-            algorithm,
-            subject_public_key,
-        })
+        match row_by_der(alloc, octets) {
+            Ok(row) => {
+                let (algorithm, (subject_public_key, ())) = row;
+                Ok(SubjectPublicKeyInfo {
+                    algorithm,
+                    subject_public_key,
+                })
+            }
+            Err(e) => Err(e),
+        }
     }
 }
 
