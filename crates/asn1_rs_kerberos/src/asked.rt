@@ -1,5 +1,5 @@
 //! The last six fields of what is asked for, as a part of its row.
-ghost use Rattle.asn1_rs.specs.Structs.{puts_of};
+ghost use Rattle.asn1_rs.specs.Structs.{by_der, puts_of};
 ghost use Rattle.asn1_rs_kerberos.specs.Requests.{asked_of};
 ghost use Rattle.asn1_rs_messages.specs.Parts.{PartGives, part_of};
 

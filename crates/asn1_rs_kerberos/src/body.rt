@@ -1,14 +1,16 @@
 //! What is asked for (RFC 4120, 5.4.1). A row of twelve fields is more than the checker takes at once, so the last six
 //! fields stand in `asked`.
 ghost use Rattle.std.proofs.Common.{refl};
+ghost use Rattle.asn1_rs.specs.Structs.{MadeOf};
 ghost use Rattle.asn1_rs.specs.Structs.Data.{struct_of};
 ghost use Rattle.asn1_rs_kerberos.specs.Requests.{asked_of};
 
 use crate::asked::{Asked, AskedOf};
 use crate::{EncryptedData, HostAddress, PrincipalName, Ticket, Under};
 use asn1_rs::{
-    BitString, BorrowedRow, Error, Fields, FieldsKind, GeneralString, GeneralizedTime, HasKind,
-    HasReader, LawfulStruct, ReadsFields, Row, SerializeResult, StructReader, row_by_der,
+    BitString, BorrowedRow, DerParser, Error, Fields, FieldsKind, GeneralString, GeneralizedTime,
+    HasKind, HasReader, LawfulStruct, ReadsFields, ReadsRow, Row, SerializeResult, StructReader,
+    row_by_der,
 };
 use std::alloc::Global;
 
@@ -85,6 +87,9 @@ impl<'a> LawfulStruct for KdcReqBody<'a> {
 }
 
 impl<'a> ReadsFields<'a> for KdcReqBody<'a> {
+    ghost fields_give = { MadeOf ⟦<KdcReqBody<'a> as LawfulStruct>⟧.laws.as_row
+        ⟦<KdcReqBodyRow<'a> as ReadsRow<'a, DerParser>>⟧.row_gives };
+
     fn read_fields(alloc: Global, octets: &'a [u8]) -> Result<KdcReqBody<'a>, Error> {
         match row_by_der::<KdcReqBodyRow<'a>>(alloc, octets) {
             Ok(row) => {

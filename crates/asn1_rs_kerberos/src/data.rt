@@ -1,11 +1,12 @@
 //! What a request carries beside names: data for the authentication, addresses and what is encrypted (RFC 4120, 5.2).
 ghost use Rattle.std.proofs.Common.{refl};
+ghost use Rattle.asn1_rs.specs.Structs.{MadeOf};
 ghost use Rattle.asn1_rs.specs.Structs.Data.{struct_of};
 
 use crate::Under;
 use asn1_rs::{
-    BorrowedRow, Error, Fields, FieldsKind, HasKind, HasReader, LawfulStruct, OctetString,
-    ReadsFields, Row, SerializeResult, StructReader, row_by_der,
+    BorrowedRow, DerParser, Error, Fields, FieldsKind, HasKind, HasReader, LawfulStruct,
+    OctetString, ReadsFields, ReadsRow, Row, SerializeResult, StructReader, row_by_der,
 };
 use std::alloc::Global;
 
@@ -45,6 +46,9 @@ impl<'a> LawfulStruct for PaData<'a> {
 }
 
 impl<'a> ReadsFields<'a> for PaData<'a> {
+    ghost fields_give = { MadeOf ⟦<PaData<'a> as LawfulStruct>⟧.laws.as_row
+        ⟦<PaDataRow<'a> as ReadsRow<'a, DerParser>>⟧.row_gives };
+
     fn read_fields(alloc: Global, octets: &'a [u8]) -> Result<PaData<'a>, Error> {
         match row_by_der(alloc, octets) {
             Ok(row) => {
@@ -95,6 +99,9 @@ impl<'a> LawfulStruct for HostAddress<'a> {
 }
 
 impl<'a> ReadsFields<'a> for HostAddress<'a> {
+    ghost fields_give = { MadeOf ⟦<HostAddress<'a> as LawfulStruct>⟧.laws.as_row
+        ⟦<HostAddressRow<'a> as ReadsRow<'a, DerParser>>⟧.row_gives };
+
     fn read_fields(alloc: Global, octets: &'a [u8]) -> Result<HostAddress<'a>, Error> {
         match row_by_der(alloc, octets) {
             Ok(row) => {
@@ -147,6 +154,9 @@ impl<'a> LawfulStruct for EncryptedData<'a> {
 }
 
 impl<'a> ReadsFields<'a> for EncryptedData<'a> {
+    ghost fields_give = { MadeOf ⟦<EncryptedData<'a> as LawfulStruct>⟧.laws.as_row
+        ⟦<EncryptedDataRow<'a> as ReadsRow<'a, DerParser>>⟧.row_gives };
+
     fn read_fields(alloc: Global, octets: &'a [u8]) -> Result<EncryptedData<'a>, Error> {
         match row_by_der(alloc, octets) {
             Ok(row) => {

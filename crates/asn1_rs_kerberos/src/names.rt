@@ -1,11 +1,12 @@
 //! Names (RFC 4120, 5.2.2).
 ghost use Rattle.std.proofs.Common.{refl};
+ghost use Rattle.asn1_rs.specs.Structs.{MadeOf};
 ghost use Rattle.asn1_rs.specs.Structs.Data.{struct_of};
 
 use crate::Under;
 use asn1_rs::{
-    BorrowedRow, Error, Fields, FieldsKind, GeneralString, HasKind, HasReader, LawfulStruct,
-    ReadsFields, Row, SerializeResult, StructReader, row_by_der,
+    BorrowedRow, DerParser, Error, Fields, FieldsKind, GeneralString, HasKind, HasReader,
+    LawfulStruct, ReadsFields, ReadsRow, Row, SerializeResult, StructReader, row_by_der,
 };
 use std::alloc::Global;
 
@@ -45,6 +46,9 @@ impl<'a> LawfulStruct for PrincipalName<'a> {
 }
 
 impl<'a> ReadsFields<'a> for PrincipalName<'a> {
+    ghost fields_give = { MadeOf ⟦<PrincipalName<'a> as LawfulStruct>⟧.laws.as_row
+        ⟦<PrincipalNameRow<'a> as ReadsRow<'a, DerParser>>⟧.row_gives };
+
     fn read_fields(alloc: Global, octets: &'a [u8]) -> Result<PrincipalName<'a>, Error> {
         match row_by_der(alloc, octets) {
             Ok(row) => {

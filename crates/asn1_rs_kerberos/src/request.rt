@@ -2,15 +2,16 @@
 ghost use Rattle.std.specs.Prelude.{MatchResult};
 ghost use Rattle.std.proofs.Common.{refl};
 ghost use Rattle.asn1_headers.specs.Answers.{seen};
+ghost use Rattle.asn1_rs.specs.Structs.{MadeOf};
 ghost use Rattle.asn1_rs.specs.Structs.Data.{struct_of};
 ghost use Rattle.asn1_rs_kerberos.specs.Requests.{IsAsReq, IsNoAsReq};
 ghost use Rattle.asn1_rs_messages.specs.Callers.{ReadsByDer, WritesStrict};
 
 use crate::{KdcReqBody, PaData, Under};
 use asn1_rs::{
-    ApplicationExplicit, BorrowedRow, Error, Fields, FieldsKind, Grammar, HasKind, HasReader,
-    LawfulStruct, ParseResult, ReadsFields, Row, SerializeResult, StructReader, Tag, ToDer,
-    read_der, row_by_der, strict_vec,
+    ApplicationExplicit, BorrowedRow, DerParser, Error, Fields, FieldsKind, Grammar, HasKind,
+    HasReader, LawfulStruct, ParseResult, ReadsFields, ReadsRow, Row, SerializeResult,
+    StructReader, Tag, ToDer, read_der, row_by_der, strict_vec,
 };
 use std::alloc::Global;
 
@@ -74,6 +75,9 @@ impl<'a> LawfulStruct for KdcReq<'a> {
 }
 
 impl<'a> ReadsFields<'a> for KdcReq<'a> {
+    ghost fields_give = { MadeOf ⟦<KdcReq<'a> as LawfulStruct>⟧.laws.as_row
+        ⟦<KdcReqRow<'a> as ReadsRow<'a, DerParser>>⟧.row_gives };
+
     fn read_fields(alloc: Global, octets: &'a [u8]) -> Result<KdcReq<'a>, Error> {
         match row_by_der(alloc, octets) {
             Ok(row) => {

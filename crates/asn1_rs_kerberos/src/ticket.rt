@@ -1,11 +1,12 @@
 //! Tickets (RFC 4120, 5.3).
 ghost use Rattle.std.proofs.Common.{refl};
+ghost use Rattle.asn1_rs.specs.Structs.{MadeOf};
 ghost use Rattle.asn1_rs.specs.Structs.Data.{struct_of};
 
 use crate::{EncryptedData, PrincipalName, Under};
 use asn1_rs::{
-    ApplicationExplicit, BorrowedRow, Error, Fields, FieldsKind, GeneralString, HasKind, HasReader,
-    LawfulStruct, ReadsFields, Row, SerializeResult, StructReader, row_by_der,
+    ApplicationExplicit, BorrowedRow, DerParser, Error, Fields, FieldsKind, GeneralString, HasKind,
+    HasReader, LawfulStruct, ReadsFields, ReadsRow, Row, SerializeResult, StructReader, row_by_der,
 };
 use std::alloc::Global;
 
@@ -69,6 +70,9 @@ impl<'a> LawfulStruct for TicketFields<'a> {
 }
 
 impl<'a> ReadsFields<'a> for TicketFields<'a> {
+    ghost fields_give = { MadeOf ⟦<TicketFields<'a> as LawfulStruct>⟧.laws.as_row
+        ⟦<TicketRow<'a> as ReadsRow<'a, DerParser>>⟧.row_gives };
+
     fn read_fields(alloc: Global, octets: &'a [u8]) -> Result<TicketFields<'a>, Error> {
         match row_by_der(alloc, octets) {
             Ok(row) => {

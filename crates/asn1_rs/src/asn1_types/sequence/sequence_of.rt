@@ -1,6 +1,7 @@
 //! Sequences of items (X.690 8.10).
 ghost use Rattle.std.specs.Prelude.{◌≡◌, true, MatchResult, IfOk, IfErr};
 ghost use Rattle.std.specs.Borrow.{sem};
+ghost use Rattle.std.specs.Cmp.Lexicographic.{pointwise};
 ghost use Rattle.std.specs.Iterator.{IsFiniteIterable, Drains};
 ghost use Rattle.std.proofs.Common.{lit<};
 ghost use Rattle.asn1_headers.specs.declared.error.Error.TheVariants as errors;
@@ -93,6 +94,13 @@ impl<T: Drop> SequenceOf<T> {
             Err(e) => Err(e),
         }
     }
+}
+
+/// Whether two sequences are equal, as `==` has it: their items are, one by one.
+pub fn sequences_are_equal_in_order<T: PartialEq>(a: &SequenceOf<T>, b: &SequenceOf<T>) -> bool
+    ensures { result ≡ pointwise T.eq (sequence_items a.now) (sequence_items b.now) }
+{
+    a == b
 }
 
 impl<T> From<SequenceOf<T>> for Vec<T> {

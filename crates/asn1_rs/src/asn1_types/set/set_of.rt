@@ -1,6 +1,7 @@
 //! Sets in which an item may stand more than once (X.690 8.12).
 ghost use Rattle.std.specs.Prelude.{◌≡◌, true, MatchResult, IfOk, IfErr};
 ghost use Rattle.std.specs.Borrow.{sem};
+ghost use Rattle.std.specs.Cmp.Lexicographic.{pointwise};
 ghost use Rattle.std.specs.Iterator.{IsFiniteIterable, Drains};
 ghost use Rattle.std.proofs.Common.{lit<};
 ghost use Rattle.x690.specs.Identifiers.{IsCutIdentifier};
@@ -98,6 +99,13 @@ impl<T: Drop> SetOf<T> {
             Err(e) => Err(e),
         }
     }
+}
+
+/// Whether two sets are equal, as `==` has it: their items are, one by one, in the order in hand.
+pub fn sets_are_equal_in_order<T: PartialEq>(a: &SetOf<T>, b: &SetOf<T>) -> bool
+    ensures { result ≡ pointwise T.eq (items_of a.now) (items_of b.now) }
+{
+    a == b
 }
 
 impl<T> From<SetOf<T>> for Vec<T> {

@@ -38,6 +38,7 @@ impl<S: CharacterSet> Repertoire for S {
 }
 
 /// All characters.
+#[derive(Debug)]
 pub struct Unicode;
 
 impl Repertoire for Unicode {
@@ -71,6 +72,7 @@ pub trait StringKind {
 }
 
 /// Marks [`ObjectDescriptor`].
+#[derive(Debug)]
 pub struct DescriptorKind;
 
 impl StringKind for DescriptorKind {
@@ -86,6 +88,7 @@ impl StringKind for DescriptorKind {
 }
 
 /// Marks [`Utf8String`].
+#[derive(Debug)]
 pub struct Utf8Kind;
 
 impl StringKind for Utf8Kind {
@@ -101,6 +104,7 @@ impl StringKind for Utf8Kind {
 }
 
 /// Marks [`NumericString`].
+#[derive(Debug)]
 pub struct NumericKind;
 
 impl StringKind for NumericKind {
@@ -116,6 +120,7 @@ impl StringKind for NumericKind {
 }
 
 /// Marks [`PrintableString`].
+#[derive(Debug)]
 pub struct PrintableKind;
 
 impl StringKind for PrintableKind {
@@ -131,6 +136,7 @@ impl StringKind for PrintableKind {
 }
 
 /// Marks [`TeletexString`].
+#[derive(Debug)]
 pub struct TeletexKind;
 
 impl StringKind for TeletexKind {
@@ -146,6 +152,7 @@ impl StringKind for TeletexKind {
 }
 
 /// Marks [`VideotexString`].
+#[derive(Debug)]
 pub struct VideotexKind;
 
 impl StringKind for VideotexKind {
@@ -161,6 +168,7 @@ impl StringKind for VideotexKind {
 }
 
 /// Marks [`Ia5String`].
+#[derive(Debug)]
 pub struct Ia5Kind;
 
 impl StringKind for Ia5Kind {
@@ -176,6 +184,7 @@ impl StringKind for Ia5Kind {
 }
 
 /// Marks [`GraphicString`].
+#[derive(Debug)]
 pub struct GraphicKind;
 
 impl StringKind for GraphicKind {
@@ -191,6 +200,7 @@ impl StringKind for GraphicKind {
 }
 
 /// Marks [`VisibleString`].
+#[derive(Debug)]
 pub struct VisibleKind;
 
 impl StringKind for VisibleKind {
@@ -206,6 +216,7 @@ impl StringKind for VisibleKind {
 }
 
 /// Marks [`GeneralString`].
+#[derive(Debug)]
 pub struct GeneralKind;
 
 impl StringKind for GeneralKind {
@@ -221,6 +232,7 @@ impl StringKind for GeneralKind {
 }
 
 /// Marks [`UniversalString`].
+#[derive(Debug)]
 pub struct UniversalKind;
 
 impl StringKind for UniversalKind {
@@ -236,6 +248,7 @@ impl StringKind for UniversalKind {
 }
 
 /// Marks [`BmpString`].
+#[derive(Debug)]
 pub struct BmpKind;
 
 impl StringKind for BmpKind {

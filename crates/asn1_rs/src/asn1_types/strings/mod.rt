@@ -20,9 +20,11 @@ use std::fmt;
 use std::marker::PhantomData;
 
 /// Marks strings whose contents octets are their text in UTF-8.
+#[derive(Debug)]
 pub struct InPlace;
 
 /// Marks strings whose text is decoded from their contents octets, in which its characters stand in a code.
+#[derive(Debug)]
 pub struct Coded;
 
 /// A string of one of the restricted character string types: a text, which is borrowed or owned (X.690 8.23,
