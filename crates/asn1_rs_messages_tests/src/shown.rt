@@ -1,7 +1,7 @@
 //! Messages that were read, as tables show them.
 
 use asn1_rs::{Err, Error, SetOf, TaggedValue, ToDer};
-use asn1_rs_messages::{Alarm, Measurement};
+use asn1_rs_messages::{Alarm, Measurement, Reminder};
 use std::alloc::Global;
 use std::fmt::Write;
 use std::test::Fail;
@@ -24,6 +24,21 @@ impl Shown for Alarm {
             text,
             "{} {muted:?} {:?} {:?}",
             self.level, self.urgent, self.rooms
+        )?)
+    }
+}
+
+/// As an alarm, with the value of the field that has a default.
+impl Shown for Reminder {
+    fn show(&self, text: &mut String) -> Result<(), Fail> {
+        let muted = match &self.muted {
+            Some(muted) => Some(*muted.as_inner()),
+            None => None,
+        };
+        Ok(write!(
+            text,
+            "{} {muted:?} {:?} {:?}",
+            self.level, self.urgent.value, self.rooms
         )?)
     }
 }
