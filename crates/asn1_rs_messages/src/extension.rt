@@ -2,14 +2,16 @@
 //! octets.
 ghost use Rattle.std.proofs.Common.{false, refl};
 ghost use Rattle.asn1_headers.specs.Answers.{seen};
+ghost use Rattle.asn1_rs.specs.Structs.{MadeOf};
 ghost use Rattle.asn1_rs.specs.Structs.Data.{struct_of};
 ghost use Rattle.asn1_rs.specs.Structs.DefaultTypes.{default_bool, its_own_type};
 ghost use Rattle.asn1_rs_messages.specs.Callers.{ReadsByDer, ReadsByBer, WritesStrict};
 
 use asn1_rs::{
-    BorrowedRow, DefaultOf, Defaulted, Error, Fields, FieldsKind, Grammar, HasKind, HasReader,
-    LawfulStruct, OctetString, Oid, ParseResult, ReadsFields, ReadsFieldsByBer, Row,
-    SerializeResult, StructReader, ToDer, read_ber, read_der, row_by_ber, row_by_der, strict_vec,
+    BerParser, BorrowedRow, DefaultOf, Defaulted, DerParser, Error, Fields, FieldsKind, Grammar,
+    HasKind, HasReader, LawfulStruct, OctetString, Oid, ParseResult, ReadsFields, ReadsFieldsByBer,
+    ReadsRow, Row, SerializeResult, StructReader, ToDer, read_ber, read_der, row_by_ber,
+    row_by_der, strict_vec,
 };
 use std::alloc::Global;
 
@@ -72,26 +74,38 @@ impl<'a> LawfulStruct for Extension<'a> {
 }
 
 impl<'a> ReadsFields<'a> for Extension<'a> {
+    ghost fields_give = { MadeOf ⟦<Extension<'a> as LawfulStruct>⟧.laws.as_row
+        ⟦<ExtensionRow<'a> as ReadsRow<'a, DerParser>>⟧.row_gives };
+
     fn read_fields(alloc: Global, octets: &'a [u8]) -> Result<Extension<'a>, Error> {
         match row_by_der(alloc, octets) {
-            Ok((id, (critical, (value, ())))) => Ok(Extension {
-                id,
-                critical,
-                value,
-            }),
+            Ok(row) => {
+                let (id, (critical, (value, ()))) = row;
+                Ok(Extension {
+                    id,
+                    critical,
+                    value,
+                })
+            }
             Err(e) => Err(e),
         }
     }
 }
 
 impl<'a> ReadsFieldsByBer<'a> for Extension<'a> {
+    ghost fields_give_by_ber = { MadeOf ⟦<Extension<'a> as LawfulStruct>⟧.laws.as_row
+        ⟦<ExtensionRow<'a> as ReadsRow<'a, BerParser>>⟧.row_gives };
+
     fn read_fields_by_ber(alloc: Global, octets: &'a [u8]) -> Result<Extension<'a>, Error> {
         match row_by_ber(alloc, octets) {
-            Ok((id, (critical, (value, ())))) => Ok(Extension {
-                id,
-                critical,
-                value,
-            }),
+            Ok(row) => {
+                let (id, (critical, (value, ()))) = row;
+                Ok(Extension {
+                    id,
+                    critical,
+                    value,
+                })
+            }
             Err(e) => Err(e),
         }
     }

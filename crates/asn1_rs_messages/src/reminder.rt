@@ -1,15 +1,17 @@
 //! A message with an optional field, one that has a default, and a list, by both rules.
 ghost use Rattle.std.proofs.Common.{false, refl};
 ghost use Rattle.asn1_headers.specs.Answers.{seen};
+ghost use Rattle.asn1_rs.specs.Structs.{MadeOf};
 ghost use Rattle.asn1_rs.specs.Structs.Data.{struct_of};
 ghost use Rattle.asn1_rs.specs.Structs.DefaultTypes.{default_bool, its_own_type};
 ghost use Rattle.asn1_rs_messages.specs.Callers.{ReadsByDer, ReadsByBer, WritesStrict};
 
 use crate::alarm::Muted;
 use asn1_rs::{
-    AlwaysDer, AlwaysDerBy, BorrowedRow, DefaultOf, Defaulted, DerRow, Error, Fields, FieldsKind,
-    Grammar, HasKind, HasReader, LawfulStruct, ParseResult, ReadsFields, ReadsFieldsByBer, Row,
-    SerializeResult, StructReader, ToDer, read_ber, read_der, row_by_ber, row_by_der, strict_vec,
+    AlwaysDer, AlwaysDerBy, BerParser, BorrowedRow, DefaultOf, Defaulted, DerParser, DerRow, Error,
+    Fields, FieldsKind, Grammar, HasKind, HasReader, LawfulStruct, ParseResult, ReadsFields,
+    ReadsFieldsByBer, ReadsRow, Row, SerializeResult, StructReader, ToDer, read_ber, read_der,
+    row_by_ber, row_by_der, strict_vec,
 };
 use std::alloc::Global;
 
@@ -82,28 +84,40 @@ impl LawfulStruct for Reminder {
 }
 
 impl<'a> ReadsFields<'a> for Reminder {
+    ghost fields_give = { MadeOf ⟦<Reminder as LawfulStruct>⟧.laws.as_row
+        ⟦<ReminderRow as ReadsRow<'a, DerParser>>⟧.row_gives };
+
     fn read_fields(alloc: Global, octets: &'a [u8]) -> Result<Reminder, Error> {
         match row_by_der(alloc, octets) {
-            Ok((level, (muted, (urgent, (rooms, ()))))) => Ok(Reminder {
-                level,
-                muted,
-                urgent,
-                rooms,
-            }),
+            Ok(row) => {
+                let (level, (muted, (urgent, (rooms, ())))) = row;
+                Ok(Reminder {
+                    level,
+                    muted,
+                    urgent,
+                    rooms,
+                })
+            }
             Err(e) => Err(e),
         }
     }
 }
 
 impl<'a> ReadsFieldsByBer<'a> for Reminder {
+    ghost fields_give_by_ber = { MadeOf ⟦<Reminder as LawfulStruct>⟧.laws.as_row
+        ⟦<ReminderRow as ReadsRow<'a, BerParser>>⟧.row_gives };
+
     fn read_fields_by_ber(alloc: Global, octets: &'a [u8]) -> Result<Reminder, Error> {
         match row_by_ber(alloc, octets) {
-            Ok((level, (muted, (urgent, (rooms, ()))))) => Ok(Reminder {
-                level,
-                muted,
-                urgent,
-                rooms,
-            }),
+            Ok(row) => {
+                let (level, (muted, (urgent, (rooms, ())))) = row;
+                Ok(Reminder {
+                    level,
+                    muted,
+                    urgent,
+                    rooms,
+                })
+            }
             Err(e) => Err(e),
         }
     }

@@ -1,5 +1,6 @@
 -- Which value of a type is the default, how it is told from the others, and what follows for a field that has it.
-use Rattle.std.proofs.Common.{◌≡◌, ◌∙◌, inl, inr, All, sym, subst, refl, ◌∷◌, ◌<◌, ◌^◌, ℕ, ℤ, Bool, true, false, List, [], length, map, arith}
+use Rattle.std.proofs.Common.{◌≡◌, ◌∙◌, inl, inr, All, sym, subst, refl, ◌∷◌, ◌<◌, ◌^◌, ℕ, ℤ}
+use Rattle.std.proofs.Common.{Bool, true, false, List, [], length, map, arith}
 use Rattle.std.specs.Prelude.{Result, Ok, Err, IfErr, IsTrue, ◌↔◌, nat_eq, not, pos}
 use Rattle.std.specs.Ordering.{int_eq}
 use Rattle.std.proofs.lemmas.Bool.{eqb-true}
@@ -17,8 +18,8 @@ use Rattle.asn1_rs.specs.Laws.Boolean.{bool_lawful}
 use Rattle.asn1_rs.specs.Laws.Enumerated.{enumerated_lawful, enumerated_equal}
 use Rattle.asn1_rs.specs.Laws.Integer.Signed.{signed_equal}
 use Rattle.asn1_rs.specs.Laws.Integer.Unsigned.{unsigned_equal}
-use Rattle.asn1_rs.specs.Structs.{EncodingRules, words_by, IsCutBy, FieldGrammar, left_out_by, Numbers, among, item_field}
-use Rattle.asn1_rs.specs.Structs.{ReadsField}
+use Rattle.asn1_rs.specs.Structs.{EncodingRules, words_by, IsCutBy, FieldGrammar, left_out_by, Numbers, among}
+use Rattle.asn1_rs.specs.Structs.{item_field, ReadsField}
 use Rattle.asn1_rs.specs.Structs.Data.{LawfulTypeOf, LawfulFieldOf, AnswersField}
 use Rattle.asn1_rs.specs.Structs.Defaults.{default_field, default_writing, DefaultGives}
 use Rattle.asn1_rs.specs.Structs.Types.{leaf_type, unsigned_type, signed_type, list_type, explicit_type, implicit_type}
@@ -112,8 +113,8 @@ module _ {S W : Type 0} (inner : W → S) (D : LawfulDefaultOf S) (G : ItemGramm
         DefaultGives inner D.of.grammar.value D.default (left_out_by number rules) reads octets answer →
         AnswersField rules (defaulted_field inner D) octets answer
     defaulted_answers octets answer g =
-        let own = subst (λ (n : ℕ). DefaultGives inner D.of.grammar.value D.default (left_out_by n rules) reads octets answer)
-        (sym t.number_is) g in record {
+        let own = subst (λ (n : ℕ). DefaultGives inner D.of.grammar.value D.default (left_out_by n rules) reads octets
+        answer) (sym t.number_is) g in record {
           exact = λ k. default_reads inner D.of.number D.of.grammar D.default rules reads own_reads octets answer k own;
           no_memory = λ none. default_no_memory inner D.of.grammar.value D.default (left_out_by D.of.number rules) reads
               (quiet (t.allocates ∙ none)) octets answer own;

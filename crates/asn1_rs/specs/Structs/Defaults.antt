@@ -1,6 +1,6 @@
 -- Fields with a default, which are left out where they have it (X.690 11.5).
-use Rattle.std.specs.Prelude.{◌≡◌, ◌≢◌, ◌⊎◌, ◌∷◌, ℕ, Bool, true, if◌then◌else◌, List, [], Option, Some, None, Result, Ok, Err}
-use Rattle.std.specs.Prelude.{MatchResult}
+use Rattle.std.specs.Prelude.{◌≡◌, ◌≢◌, ◌⊎◌, ◌∷◌, ℕ, Bool, true, if◌then◌else◌, List, []}
+use Rattle.std.specs.Prelude.{Option, Some, None, Result, Ok, Err, MatchResult}
 use Rattle.x690.specs.Identifiers.{Identifier}
 use Rattle.asn1_headers.specs.Answers.{Front}
 use Rattle.asn1_headers.specs.declared.error.Err.{Err as Refusal}
