@@ -35,7 +35,7 @@ pub struct NotCritical;
 impl DefaultOf<bool> for NotCritical {
     ghost default_laws = { default_bool false };
 
-    fn default_value() -> bool {
+    fn default_value(_alloc: Global) -> bool {
         false
     }
 

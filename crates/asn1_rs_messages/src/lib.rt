@@ -9,6 +9,7 @@ mod extension;
 mod measurement;
 mod public_key;
 mod reminder;
+mod settings;
 
 pub use alarm::{Alarm, AlarmRow, Muted, alarm_vec, read_alarm, read_alarm_by_ber};
 pub use extension::{
@@ -23,4 +24,8 @@ pub use public_key::{
 };
 pub use reminder::{
     NotUrgent, Reminder, ReminderRow, read_reminder, read_reminder_by_ber, reminder_vec,
+};
+pub use settings::{
+    FirstVersion, Hundred, Limit, MinusOne, NoRooms, Plain, Settings, SettingsRow, Version,
+    read_settings, read_settings_by_ber, settings_vec,
 };

@@ -37,7 +37,7 @@ pub struct NotUrgent;
 impl DefaultOf<bool> for NotUrgent {
     ghost default_laws = { default_bool false };
 
-    fn default_value() -> bool {
+    fn default_value(_alloc: Global) -> bool {
         false
     }
 

@@ -12,4 +12,6 @@ mod public_keys;
 #[cfg(test)]
 mod reminders;
 #[cfg(test)]
+mod settings;
+#[cfg(test)]
 mod shown;

@@ -1,7 +1,7 @@
 //! Messages that were read, as tables show them.
 
 use asn1_rs::{Err, Error, SetOf, TaggedValue, ToDer};
-use asn1_rs_messages::{Alarm, Measurement, Reminder};
+use asn1_rs_messages::{Alarm, Measurement, Reminder, Settings};
 use std::alloc::Global;
 use std::fmt::Write;
 use std::test::Fail;
@@ -39,6 +39,19 @@ impl Shown for Reminder {
             text,
             "{} {muted:?} {:?} {:?}",
             self.level, self.urgent.value, self.rooms
+        )?)
+    }
+}
+
+/// The values of the fields, in their order.
+impl Shown for Settings {
+    fn show(&self, text: &mut String) -> Result<(), Fail> {
+        let version = self.version.value.as_inner();
+        let limit = self.limit.value.as_inner();
+        Ok(write!(
+            text,
+            "{version} {} {} {:?} {limit}",
+            self.offset.value, self.mode.value.0, self.rooms.value
         )?)
     }
 }

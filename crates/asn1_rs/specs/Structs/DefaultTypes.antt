@@ -1,9 +1,10 @@
 -- Which value of a type is the default, how it is told from the others, and what follows for a field that has it.
-use Rattle.std.proofs.Common.{◌≡◌, ◌∙◌, inl, inr, All, sym, subst, refl, ◌∷◌, ◌<◌, ◌^◌, ℕ, ℤ}
+use Rattle.std.proofs.Common.{◌≡◌, ◌∙◌, inl, inr, All, sym, subst, refl, ◌∷◌, ◌<◌, ◌-◌, ◌*◌, ◌^◌, ℕ, ℤ}
 use Rattle.std.proofs.Common.{Bool, true, false, List, [], length, map, arith}
-use Rattle.std.specs.Prelude.{Result, Ok, Err, IfErr, IsTrue, ◌↔◌, nat_eq, not, pos}
+use Rattle.std.specs.Prelude.{Result, Ok, Err, IfErr, IsTrue, ◌↔◌, nat_eq, not, pos, negsuc}
 use Rattle.std.specs.Ordering.{int_eq}
 use Rattle.std.proofs.lemmas.Bool.{eqb-true}
+use Rattle.std.proofs.lemmas.Int.{ints}
 use Rattle.x690.specs.Octets.{IsOctets}
 use Rattle.x690.specs.Signed.{IsSigned}
 use Rattle.asn1_headers.specs.declared.error.Err.{Err as Refusal}
@@ -155,6 +156,13 @@ default_unsigned size n fits = record {
   is_value = (n, refl, fits);
   same = λ x. unsigned_equal x n;
 }
+
+-- which numbers a signed one holds: so many from 0 on, and as many below
+pub natural_fits : (size n : ℕ) → n < 128 * 256 ^ (size - 1) → IsSigned size (pos n)
+natural_fits size n l = record { least = omega (arith, ints, l); most = omega (arith, ints, l) }
+
+pub negative_fits : (size n : ℕ) → n < 128 * 256 ^ (size - 1) → IsSigned size (negsuc n)
+negative_fits size n l = record { least = omega (arith, ints, l); most = omega (arith, ints, l) }
 
 -- a number of a signed one
 abbrev pub default_signed : (size : ℕ) (n : ℤ) → IsSigned size n → LawfulDefaultOf ℤ

@@ -55,7 +55,7 @@ impl<T, D> Defaulted<T, D> {
 ///     impl DefaultOf<bool> for NotCritical {
 ///         ghost default_laws = { default_bool false };
 ///
-///         fn default_value() -> bool {
+///         fn default_value(_alloc: Global) -> bool {
 ///             false
 ///         }
 ///
@@ -70,7 +70,7 @@ pub trait DefaultOf<T: Grammar + Tagged> {
     ghost default_laws: { LawfulDefaultOf T };
 
     /// The default.
-    fn default_value() -> T
+    fn default_value(alloc: Global) -> T
         ensures { default_laws.of.grammar.value result ≡ default_laws.default };
 
     /// Whether it is the default.
@@ -96,6 +96,7 @@ impl<T: Grammar + Tagged, D: DefaultOf<T>> FieldType for Defaulted<T, D> {
 
 /// The value that was read, or the default where none was.
 fn or_default<'a, T: Grammar + Tagged, D: DefaultOf<T>>(
+    alloc: Global,
     answer: ParseResult<'a, Option<T>, Error>,
 ) -> ParseResult<'a, Defaulted<T, D>, Error>
     ensures { OrDefault (λ (x : Defaulted T D). x.value) D.default_laws.of.grammar.value
@@ -103,7 +104,7 @@ fn or_default<'a, T: Grammar + Tagged, D: DefaultOf<T>>(
 {
     match answer {
         Ok((rest, Some(value))) => Ok((rest, Defaulted::of(value))),
-        Ok((rest, None)) => Ok((rest, Defaulted::of(D::default_value()))),
+        Ok((rest, None)) => Ok((rest, Defaulted::of(D::default_value(alloc)))),
         Err(refusal) => Err(refusal),
     }
 }
@@ -125,7 +126,7 @@ where
 
     #[tactic(auto, using(crate::specs::Laws::Structs::Defaults::or_default_gives))]
     fn read_field(alloc: Global, octets: &'a [u8]) -> ParseResult<'a, Defaulted<T, D>, Error> {
-        or_default(Option::<T>::from_der(alloc, octets))
+        or_default(alloc, Option::<T>::from_der(alloc, octets))
     }
 }
 
@@ -146,7 +147,7 @@ where
 
     #[tactic(auto, using(crate::specs::Laws::Structs::Defaults::or_default_gives))]
     fn read_field(alloc: Global, octets: &'a [u8]) -> ParseResult<'a, Defaulted<T, D>, Error> {
-        or_default(Option::<T>::from_ber(alloc, octets))
+        or_default(alloc, Option::<T>::from_ber(alloc, octets))
     }
 }
 
