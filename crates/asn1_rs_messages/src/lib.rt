@@ -27,5 +27,5 @@ pub use reminder::{
 };
 pub use settings::{
     FirstVersion, Hundred, Limit, MinusOne, NoRooms, Plain, Settings, SettingsRow, Version,
-    read_settings, read_settings_by_ber, settings_vec,
+    read_settings, read_settings_by_ber,
 };

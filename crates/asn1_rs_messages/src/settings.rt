@@ -5,13 +5,13 @@ ghost use Rattle.asn1_rs.specs.Structs.{MadeOf};
 ghost use Rattle.asn1_rs.specs.Structs.Data.{struct_of};
 ghost use Rattle.asn1_rs.specs.Structs.DefaultTypes.{default_unsigned, default_signed, default_enumerated, default_empty};
 ghost use Rattle.asn1_rs.specs.Structs.DefaultTypes.{default_explicit, default_implicit, negative_fits, its_own_type};
-ghost use Rattle.asn1_rs_messages.specs.Callers.{ReadsByDer, ReadsByBer, WritesStrict};
+ghost use Rattle.asn1_rs_messages.specs.Callers.{ReadsByDer, ReadsByBer};
 
 use asn1_rs::{
-    AlwaysDer, AlwaysDerBy, BerParser, BorrowedRow, DefaultOf, Defaulted, DerParser, DerRow,
-    Enumerated, Error, Fields, FieldsKind, Grammar, HasKind, HasReader, LawfulStruct, LawfulType,
-    ParseResult, ReadsFields, ReadsFieldsByBer, ReadsRow, Row, SerializeResult, StructReader,
-    TaggedExplicit, TaggedImplicit, ToDer, read_ber, read_der, row_by_ber, row_by_der, strict_vec,
+    AlwaysDerBy, BerParser, BorrowedRow, DefaultOf, Defaulted, DerParser, DerRow, Enumerated,
+    Error, Fields, FieldsKind, Grammar, HasKind, HasReader, LawfulStruct, LawfulType, ParseResult,
+    ReadsFields, ReadsFieldsByBer, ReadsRow, Row, SerializeResult, StructReader, TaggedExplicit,
+    TaggedImplicit, read_ber, read_der, row_by_ber, row_by_der,
 };
 use std::alloc::Global;
 
@@ -236,13 +236,4 @@ pub fn read_settings_by_ber(alloc: Global, octets: &[u8]) -> ParseResult<'_, Set
     ensures { ReadsByBer ⟦<Settings as Grammar>⟧.grammar octets.now (seen result) }
 {
     read_ber::<Settings, Error>(alloc, octets)
-}
-
-/// The one strict encoding of settings. Where its length fits `usize`, it is refused only when out of memory.
-pub fn settings_vec(alloc: Global, settings: &Settings) -> SerializeResult<Vec<u8>>
-    ensures { WritesStrict ⟦<Settings as Grammar>⟧.grammar ⟦<Settings as ToDer>⟧.writing
-        settings.now result }
-{
-    settings.is_der();
-    strict_vec(alloc, settings)
 }
