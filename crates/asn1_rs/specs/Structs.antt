@@ -1,6 +1,8 @@
 -- Sequences of different fields, some of which may be left out: their values, their words, and their strict octets
 -- (X.690 8.9).
 pub mod Data
+pub mod Defaults
+pub mod DefaultTypes
 pub mod Types
 use Rattle.std.specs.Prelude.{◌≡◌, ◌⊎◌, ◌||◌, ◌&&◌, ℕ, Bool, true, false, IsTrue, List, [], ◌∷◌, ◌++◌}
 use Rattle.std.specs.Prelude.{Option, Some, None, Result, Ok, Err, nat_eq, not, MatchResult}

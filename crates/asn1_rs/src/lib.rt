@@ -249,6 +249,8 @@ pub use structs::ReadsBy;
 pub use structs::ReadsFields;
 pub use structs::ReadsFieldsByBer;
 pub use structs::StructReader;
+pub use structs::defaulted::DefaultOf;
+pub use structs::defaulted::Defaulted;
 pub use structs::field::FieldInHand;
 pub use structs::field::FieldIsDer;
 pub use structs::field::FieldType;

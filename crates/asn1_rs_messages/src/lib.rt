@@ -5,14 +5,27 @@
 #![tactic(auto)]
 
 mod alarm;
+mod extension;
 mod measurement;
 mod public_key;
+mod reminder;
+mod settings;
 
 pub use alarm::{Alarm, AlarmRow, Muted, alarm_vec, read_alarm, read_alarm_by_ber};
+pub use extension::{
+    Extension, ExtensionRow, NotCritical, extension_vec, read_extension, read_extension_by_ber,
+};
 pub use measurement::{
     Measurement, MeasurementRow, measurement_vec, read_measurement, read_measurement_by_ber,
 };
 pub use public_key::{
     AlgorithmIdentifier, AlgorithmRow, PublicKeyRow, SubjectPublicKeyInfo, public_key_vec,
     read_algorithm, read_public_key,
+};
+pub use reminder::{
+    NotUrgent, Reminder, ReminderRow, read_reminder, read_reminder_by_ber, reminder_vec,
+};
+pub use settings::{
+    FirstVersion, Hundred, Limit, MinusOne, NoRooms, Plain, Settings, SettingsRow, Version,
+    read_settings, read_settings_by_ber,
 };

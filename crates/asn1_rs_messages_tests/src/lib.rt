@@ -4,8 +4,14 @@
 #[cfg(test)]
 mod alarms;
 #[cfg(test)]
+mod extensions;
+#[cfg(test)]
 mod measurements;
 #[cfg(test)]
 mod public_keys;
+#[cfg(test)]
+mod reminders;
+#[cfg(test)]
+mod settings;
 #[cfg(test)]
 mod shown;

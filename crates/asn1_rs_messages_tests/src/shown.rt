@@ -1,7 +1,7 @@
 //! Messages that were read, as tables show them.
 
 use asn1_rs::{Err, Error, SetOf, TaggedValue, ToDer};
-use asn1_rs_messages::{Alarm, Measurement};
+use asn1_rs_messages::{Alarm, Measurement, Reminder, Settings};
 use std::alloc::Global;
 use std::fmt::Write;
 use std::test::Fail;
@@ -24,6 +24,34 @@ impl Shown for Alarm {
             text,
             "{} {muted:?} {:?} {:?}",
             self.level, self.urgent, self.rooms
+        )?)
+    }
+}
+
+/// As an alarm, with the value of the field that has a default.
+impl Shown for Reminder {
+    fn show(&self, text: &mut String) -> Result<(), Fail> {
+        let muted = match &self.muted {
+            Some(muted) => Some(*muted.as_inner()),
+            None => None,
+        };
+        Ok(write!(
+            text,
+            "{} {muted:?} {:?} {:?}",
+            self.level, self.urgent.value, self.rooms
+        )?)
+    }
+}
+
+/// The values of the fields, in their order.
+impl Shown for Settings {
+    fn show(&self, text: &mut String) -> Result<(), Fail> {
+        let version = self.version.value.as_inner();
+        let limit = self.limit.value.as_inner();
+        Ok(write!(
+            text,
+            "{version} {} {} {:?} {limit}",
+            self.offset.value, self.mode.value.0, self.rooms.value
         )?)
     }
 }

@@ -4,3 +4,4 @@ pub mod Rows
 pub mod Writing
 pub mod Structs
 pub mod Readers
+pub mod Defaults

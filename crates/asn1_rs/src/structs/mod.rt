@@ -11,6 +11,7 @@
 //! The laws of the fields stand in the struct's own record ([`LawfulStruct`]), and no bound names its row. So what holds
 //! a struct, as a list, a tag or another struct, passes nothing of its fields on.
 
+pub(crate) mod defaulted;
 pub(crate) mod field;
 pub(crate) mod row;
 pub(crate) mod types;

@@ -1,0 +1,239 @@
+//! Fields with a default (X.680 25), which are left out where they have it (X.690 11.5).
+//!
+//! A default that is there is read by both rules, as certificates have it. It is never written: so the words of such a
+//! field are more than its one strict encoding, as those of a truth value by BER are.
+ghost use Rattle.std.specs.Prelude.{◌≡◌, ◌⊎◌};
+ghost use Rattle.asn1_headers.specs.Answers.{seen};
+ghost use Rattle.asn1_rs.specs.Laws.Structs.Defaults.{or_default_gives};
+ghost use Rattle.asn1_rs.specs.Structs.{by_der, by_ber, left_out_by};
+ghost use Rattle.asn1_rs.specs.Structs.Defaults.{default_writing, DefaultGives, OrDefault};
+ghost use Rattle.asn1_rs.specs.Structs.DefaultTypes.{LawfulDefaultOf, defaulted_field, defaulted_of, defaulted_lawful};
+ghost use Rattle.asn1_rs.specs.Structs.DefaultTypes.{defaulted_answers, IsTypeOf};
+
+use crate::laws::in_hand::AlwaysDer;
+use crate::laws::{Grammar, LawfulBer, LawfulDer, LawfulItem, LawfulTagged};
+use crate::structs::field::{FieldInHand, FieldIsDer, FieldType, LawfulType, ReadsField};
+use crate::to_der::ToDer;
+use crate::traits::{DynTagged, FromBer, FromDer, Tagged};
+use asn1_headers::buffer::DerBuffer;
+use asn1_headers::content::{BerParser, DerParser};
+use asn1_headers::error::{Error, ParseResult, SerializeResult};
+use asn1_headers::tag::Tag;
+use asn1_headers::writer::DerWrite;
+use std::alloc::Global;
+use std::marker::PhantomData;
+
+/// A field whose value is the default of `D` where it is left out (X.680 25).
+///
+/// So it is put into a row: `(Oid<'a>, (Defaulted<bool, NotCritical>, (OctetString<'a>, ())))`.
+#[derive(Drop)]
+#[derive_where(Debug, PartialEq, Eq; T)]
+pub struct Defaulted<T, D> {
+    /// The value, which may be the default.
+    pub value: T,
+    of_default: PhantomData<D>,
+}
+
+impl<T, D> Defaulted<T, D> {
+    /// The field of this value.
+    pub const fn of(value: T) -> Self
+        ensures { result.value ≡ value }
+    {
+        Defaulted {
+            value,
+            of_default: PhantomData,
+        }
+    }
+}
+
+/// A mark that says which value of `T` is the default. Its author writes one for each default.
+///
+///     /// Of a field that is not critical.
+///     #[derive(Debug, PartialEq, Eq, Drop)]
+///     pub struct NotCritical;
+///
+///     impl DefaultOf<bool> for NotCritical {
+///         ghost default_laws = { default_bool false };
+///
+///         fn default_value(_alloc: Global) -> bool {
+///             false
+///         }
+///
+///         fn is_default(value: &bool) -> bool {
+///             !*value
+///         }
+///
+///         ghost of_type = { its_own_type refl };
+///     }
+pub trait DefaultOf<T: Grammar + Tagged> {
+    /// The default, with the type that it is of, and how it is told from the other values.
+    ghost default_laws: { LawfulDefaultOf T };
+
+    /// The default.
+    fn default_value(alloc: Global) -> T
+        ensures { default_laws.of.grammar.value result ≡ default_laws.default };
+
+    /// Whether it is the default.
+    fn is_default(value: &T) -> bool
+        ensures { result ≡ default_laws.is_default value.now };
+
+    /// That type is the one that is read.
+    ghost of_type: { IsTypeOf Self.default_laws.of T.grammar (T.TAG).0 };
+}
+
+impl<T: Grammar + Tagged, D: DefaultOf<T>> Defaulted<T, D> {
+    /// Whether the value is the default, so that nothing is written.
+    pub fn is_default(&self) -> bool
+        ensures { result ≡ D.default_laws.is_default self.now.value }
+    {
+        D::is_default(&self.value)
+    }
+}
+
+impl<T: Grammar + Tagged, D: DefaultOf<T>> FieldType for Defaulted<T, D> {
+    ghost field_laws = { defaulted_of (λ x. x.value) D.default_laws };
+}
+
+/// The value that was read, or the default where none was.
+fn or_default<'a, T: Grammar + Tagged, D: DefaultOf<T>>(
+    alloc: Global,
+    answer: ParseResult<'a, Option<T>, Error>,
+) -> ParseResult<'a, Defaulted<T, D>, Error>
+    ensures { OrDefault (λ (x : Defaulted T D). x.value) D.default_laws.of.grammar.value
+        D.default_laws.default (seen answer.entry) (seen result) }
+{
+    match answer {
+        Ok((rest, Some(value))) => Ok((rest, Defaulted::of(value))),
+        Ok((rest, None)) => Ok((rest, Defaulted::of(D::default_value(alloc)))),
+        Err(refusal) => Err(refusal),
+    }
+}
+
+impl<'a, T, D> ReadsField<'a, DerParser> for Defaulted<T, D>
+where
+    T: LawfulType + LawfulDer<'a, Error> + LawfulTagged,
+    D: DefaultOf<T>,
+{
+    ghost field_grammar = { defaulted_field (λ x. x.value) D.default_laws };
+
+    ghost field_gives = { DefaultGives (λ x. x.value) D.default_laws.of.grammar.value
+        D.default_laws.default (left_out_by (T.TAG).0 by_der) T.der_gives };
+
+    ghost lawful_field = { defaulted_lawful (λ x. x.value) D.default_laws T.grammar (T.TAG).0 D.of_type };
+
+    ghost exact_field = { defaulted_answers (λ x. x.value) D.default_laws T.grammar (T.TAG).0 D.of_type
+        T.lawful_item by_der T.der_gives T.der_exact T.der_no_memory };
+
+    #[tactic(auto, using(crate::specs::Laws::Structs::Defaults::or_default_gives))]
+    fn read_field(alloc: Global, octets: &'a [u8]) -> ParseResult<'a, Defaulted<T, D>, Error> {
+        or_default(alloc, Option::<T>::from_der(alloc, octets))
+    }
+}
+
+impl<'a, T, D> ReadsField<'a, BerParser> for Defaulted<T, D>
+where
+    T: LawfulType + LawfulBer<'a, Error> + LawfulTagged,
+    D: DefaultOf<T>,
+{
+    ghost field_grammar = { defaulted_field (λ x. x.value) D.default_laws };
+
+    ghost field_gives = { DefaultGives (λ x. x.value) D.default_laws.of.grammar.value
+        D.default_laws.default (left_out_by (T.TAG).0 by_ber) T.ber_gives };
+
+    ghost lawful_field = { defaulted_lawful (λ x. x.value) D.default_laws T.grammar (T.TAG).0 D.of_type };
+
+    ghost exact_field = { defaulted_answers (λ x. x.value) D.default_laws T.grammar (T.TAG).0 D.of_type
+        T.lawful_item by_ber T.ber_gives T.ber_exact T.ber_no_memory };
+
+    #[tactic(auto, using(crate::specs::Laws::Structs::Defaults::or_default_gives))]
+    fn read_field(alloc: Global, octets: &'a [u8]) -> ParseResult<'a, Defaulted<T, D>, Error> {
+        or_default(alloc, Option::<T>::from_ber(alloc, octets))
+    }
+}
+
+impl<T: LawfulType + LawfulItem, D> FieldInHand for Defaulted<T, D> {
+    ghost has_a_value = { λ x. T.grammar.IsValue (T.grammar.value x.value) };
+
+    fn field_in_hand(&self) {
+        self.value.has_value();
+    }
+}
+
+impl<T: LawfulType + AlwaysDer + Tagged, D: DefaultOf<T>> FieldIsDer for Defaulted<T, D> {
+    ghost is_in_der = { λ x. (D.default_laws.of.grammar.value x.value ≡ D.default_laws.default) ⊎
+        T.grammar.IsDer (T.grammar.value x.value) };
+
+    fn field_is_der(&self) {
+        self.value.is_der();
+    }
+}
+
+impl<T: DynTagged, D> DynTagged for Defaulted<T, D> {
+    ghost dyn_tag = { λ x. T.dyn_tag x.value };
+
+    /// The tag number of the value.
+    fn tag(&self) -> Tag {
+        self.value.tag()
+    }
+}
+
+/// The default has no octets. Another value is counted and written as itself. Its raw form is the DER form.
+impl<T: ToDer + Grammar + Tagged, D: DefaultOf<T>> ToDer for Defaulted<T, D> {
+    ghost writing = { default_writing (λ x. x.value) D.default_laws.is_default T.writing };
+
+    fn to_der_len(&self) -> Result<usize, Error> {
+        if self.is_default() {
+            return Ok(0);
+        }
+        self.value.to_der_len()
+    }
+
+    fn der_content_len(&self) -> Result<usize, Error> {
+        if self.is_default() {
+            return Ok(0);
+        }
+        self.value.der_content_len()
+    }
+
+    fn der_constructed(&self) -> bool {
+        if self.is_default() {
+            return false;
+        }
+        self.value.der_constructed()
+    }
+
+    fn write_der_header<W: DerWrite>(&self, alloc: Global, w: &mut W) -> SerializeResult<usize> {
+        if self.is_default() {
+            return Ok(0);
+        }
+        self.value.write_der_header(alloc, w)
+    }
+
+    fn write_der_content<W: DerWrite>(&self, alloc: Global, w: &mut W) -> SerializeResult<usize> {
+        if self.is_default() {
+            return Ok(0);
+        }
+        self.value.write_der_content(alloc, w)
+    }
+
+    fn write_der<W: DerWrite>(&self, alloc: Global, w: &mut W) -> SerializeResult<usize> {
+        if self.is_default() {
+            return Ok(0);
+        }
+        self.value.write_der(alloc, w)
+    }
+
+    fn prepend_der_content(&self, alloc: Global, buf: &mut DerBuffer) -> SerializeResult<usize> {
+        if self.is_default() {
+            return Ok(0);
+        }
+        self.value.prepend_der_content(alloc, buf)
+    }
+
+    fn prepend_der(&self, alloc: Global, buf: &mut DerBuffer) -> SerializeResult<usize> {
+        if self.is_default() {
+            return Ok(0);
+        }
+        self.value.prepend_der(alloc, buf)
+    }
+}

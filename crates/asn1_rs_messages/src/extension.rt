@@ -1,0 +1,140 @@
+//! An extension of a certificate (RFC 5280, 4.1), with a field that has a default, by both rules, borrowed from the
+//! octets.
+ghost use Rattle.std.proofs.Common.{false, refl};
+ghost use Rattle.asn1_headers.specs.Answers.{seen};
+ghost use Rattle.asn1_rs.specs.Structs.{MadeOf};
+ghost use Rattle.asn1_rs.specs.Structs.Data.{struct_of};
+ghost use Rattle.asn1_rs.specs.Structs.DefaultTypes.{default_bool, its_own_type};
+ghost use Rattle.asn1_rs_messages.specs.Callers.{ReadsByDer, ReadsByBer, WritesStrict};
+
+use asn1_rs::{
+    BerParser, BorrowedRow, DefaultOf, Defaulted, DerParser, Error, Fields, FieldsKind, Grammar,
+    HasKind, HasReader, LawfulStruct, OctetString, Oid, ParseResult, ReadsFields, ReadsFieldsByBer,
+    ReadsRow, Row, SerializeResult, StructReader, ToDer, read_ber, read_der, row_by_ber,
+    row_by_der, strict_vec,
+};
+use std::alloc::Global;
+
+/// An extension of a certificate.
+///
+///     Extension ::= SEQUENCE {
+///         extnID     OBJECT IDENTIFIER,
+///         critical   BOOLEAN DEFAULT FALSE,
+///         extnValue  OCTET STRING }
+#[derive(Debug, PartialEq, Eq, Drop)]
+pub struct Extension<'a> {
+    pub id: Oid<'a>,
+    pub critical: Defaulted<bool, NotCritical>,
+    pub value: OctetString<'a>,
+}
+
+/// That an extension is not critical, where it does not say so.
+#[derive(Debug, PartialEq, Eq, Drop)]
+pub struct NotCritical;
+
+impl DefaultOf<bool> for NotCritical {
+    ghost default_laws = { default_bool false };
+
+    fn default_value(_alloc: Global) -> bool {
+        false
+    }
+
+    fn is_default(value: &bool) -> bool {
+        !*value
+    }
+
+    ghost of_type = { its_own_type refl };
+}
+
+/// Its fields.
+pub type ExtensionRow<'a> = (
+    Oid<'a>,
+    (Defaulted<bool, NotCritical>, (OctetString<'a>, ())),
+);
+
+impl HasKind for Extension<'_> {
+    type Kind = FieldsKind;
+}
+
+impl HasReader for Extension<'_> {
+    type Reader = StructReader;
+}
+
+impl<'a> LawfulStruct for Extension<'a> {
+    ghost laws = { struct_of (λ x. (x.id, (x.critical, (x.value, tt))))
+        ⟦<ExtensionRow<'a> as Row>⟧.row_laws refl };
+
+    fn put_row(&self, fields: &mut Fields) -> SerializeResult<()> {
+        (&self.id, (&self.critical, (&self.value, ()))).put_each(fields)
+    }
+
+    fn row_in_hand(&self) {
+        (&self.id, (&self.critical, (&self.value, ()))).each_in_hand()
+    }
+}
+
+impl<'a> ReadsFields<'a> for Extension<'a> {
+    ghost fields_give = { MadeOf ⟦<Extension<'a> as LawfulStruct>⟧.laws.as_row
+        ⟦<ExtensionRow<'a> as ReadsRow<'a, DerParser>>⟧.row_gives };
+
+    fn read_fields(alloc: Global, octets: &'a [u8]) -> Result<Extension<'a>, Error> {
+        match row_by_der(alloc, octets) {
+            Ok(row) => {
+                let (id, (critical, (value, ()))) = row;
+                Ok(Extension {
+                    id,
+                    critical,
+                    value,
+                })
+            }
+            Err(e) => Err(e),
+        }
+    }
+}
+
+impl<'a> ReadsFieldsByBer<'a> for Extension<'a> {
+    ghost fields_give_by_ber = { MadeOf ⟦<Extension<'a> as LawfulStruct>⟧.laws.as_row
+        ⟦<ExtensionRow<'a> as ReadsRow<'a, BerParser>>⟧.row_gives };
+
+    fn read_fields_by_ber(alloc: Global, octets: &'a [u8]) -> Result<Extension<'a>, Error> {
+        match row_by_ber(alloc, octets) {
+            Ok(row) => {
+                let (id, (critical, (value, ()))) = row;
+                Ok(Extension {
+                    id,
+                    critical,
+                    value,
+                })
+            }
+            Err(e) => Err(e),
+        }
+    }
+}
+
+/// The extension at the front of the octets, by DER, and what follows it.
+pub fn read_extension<'a>(alloc: Global, octets: &'a [u8]) -> ParseResult<'a, Extension<'a>, Error>
+    ensures { ReadsByDer ⟦<Extension<'a> as Grammar>⟧.grammar octets.now (seen result) }
+{
+    read_der::<Extension<'a>, Error>(alloc, octets)
+}
+
+/// The extension at the front of the octets, by BER, and what follows it.
+pub fn read_extension_by_ber<'a>(
+    alloc: Global,
+    octets: &'a [u8],
+) -> ParseResult<'a, Extension<'a>, Error>
+    ensures { ReadsByBer ⟦<Extension<'a> as Grammar>⟧.grammar octets.now (seen result) }
+{
+    read_ber::<Extension<'a>, Error>(alloc, octets)
+}
+
+/// The one strict encoding of an extension in DER form, which leaves out that it is not critical. Where its length fits
+/// `usize`, it is refused only when out of memory.
+pub fn extension_vec(alloc: Global, extension: &Extension<'_>) -> SerializeResult<Vec<u8>>
+    ensures { ⟦<Extension<'static> as Grammar>⟧.grammar.IsDer
+        (⟦<Extension<'static> as Grammar>⟧.grammar.value extension.now) →
+        WritesStrict ⟦<Extension<'static> as Grammar>⟧.grammar
+        ⟦<Extension<'static> as ToDer>⟧.writing extension.now result }
+{
+    strict_vec(alloc, extension)
+}

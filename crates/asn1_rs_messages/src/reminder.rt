@@ -1,0 +1,158 @@
+//! A message with an optional field, one that has a default, and a list, by both rules.
+ghost use Rattle.std.proofs.Common.{false, refl};
+ghost use Rattle.asn1_headers.specs.Answers.{seen};
+ghost use Rattle.asn1_rs.specs.Structs.{MadeOf};
+ghost use Rattle.asn1_rs.specs.Structs.Data.{struct_of};
+ghost use Rattle.asn1_rs.specs.Structs.DefaultTypes.{default_bool, its_own_type};
+ghost use Rattle.asn1_rs_messages.specs.Callers.{ReadsByDer, ReadsByBer, WritesStrict};
+
+use crate::alarm::Muted;
+use asn1_rs::{
+    AlwaysDer, AlwaysDerBy, BerParser, BorrowedRow, DefaultOf, Defaulted, DerParser, DerRow, Error,
+    Fields, FieldsKind, Grammar, HasKind, HasReader, LawfulStruct, ParseResult, ReadsFields,
+    ReadsFieldsByBer, ReadsRow, Row, SerializeResult, StructReader, ToDer, read_ber, read_der,
+    row_by_ber, row_by_der, strict_vec,
+};
+use std::alloc::Global;
+
+/// A reminder of a level in some rooms, which is urgent only where it says so.
+///
+///     SEQUENCE {
+///         level   INTEGER,
+///         muted   [0] EXPLICIT BOOLEAN OPTIONAL,
+///         urgent  BOOLEAN DEFAULT FALSE,
+///         rooms   SEQUENCE OF INTEGER }
+#[derive(Debug, PartialEq, Eq, Drop)]
+pub struct Reminder {
+    pub level: u8,
+    pub muted: Option<Muted>,
+    pub urgent: Defaulted<bool, NotUrgent>,
+    pub rooms: Vec<u16>,
+}
+
+/// That a reminder is not urgent, where it does not say so.
+#[derive(Debug, PartialEq, Eq, Drop)]
+pub struct NotUrgent;
+
+impl DefaultOf<bool> for NotUrgent {
+    ghost default_laws = { default_bool false };
+
+    fn default_value(_alloc: Global) -> bool {
+        false
+    }
+
+    fn is_default(value: &bool) -> bool {
+        !*value
+    }
+
+    ghost of_type = { its_own_type refl };
+}
+
+/// Its fields.
+pub type ReminderRow = (
+    u8,
+    (Option<Muted>, (Defaulted<bool, NotUrgent>, (Vec<u16>, ()))),
+);
+
+impl HasKind for Reminder {
+    type Kind = FieldsKind;
+}
+
+impl HasReader for Reminder {
+    type Reader = StructReader;
+}
+
+impl LawfulStruct for Reminder {
+    ghost laws = { struct_of (λ x. (x.level, (x.muted, (x.urgent, (x.rooms, tt)))))
+        ⟦<ReminderRow as Row>⟧.row_laws refl };
+
+    fn put_row(&self, fields: &mut Fields) -> SerializeResult<()> {
+        (
+            &self.level,
+            (&self.muted, (&self.urgent, (&self.rooms, ()))),
+        )
+            .put_each(fields)
+    }
+
+    fn row_in_hand(&self) {
+        (
+            &self.level,
+            (&self.muted, (&self.urgent, (&self.rooms, ()))),
+        )
+            .each_in_hand()
+    }
+}
+
+impl<'a> ReadsFields<'a> for Reminder {
+    ghost fields_give = { MadeOf ⟦<Reminder as LawfulStruct>⟧.laws.as_row
+        ⟦<ReminderRow as ReadsRow<'a, DerParser>>⟧.row_gives };
+
+    fn read_fields(alloc: Global, octets: &'a [u8]) -> Result<Reminder, Error> {
+        match row_by_der(alloc, octets) {
+            Ok(row) => {
+                let (level, (muted, (urgent, (rooms, ())))) = row;
+                Ok(Reminder {
+                    level,
+                    muted,
+                    urgent,
+                    rooms,
+                })
+            }
+            Err(e) => Err(e),
+        }
+    }
+}
+
+impl<'a> ReadsFieldsByBer<'a> for Reminder {
+    ghost fields_give_by_ber = { MadeOf ⟦<Reminder as LawfulStruct>⟧.laws.as_row
+        ⟦<ReminderRow as ReadsRow<'a, BerParser>>⟧.row_gives };
+
+    fn read_fields_by_ber(alloc: Global, octets: &'a [u8]) -> Result<Reminder, Error> {
+        match row_by_ber(alloc, octets) {
+            Ok(row) => {
+                let (level, (muted, (urgent, (rooms, ())))) = row;
+                Ok(Reminder {
+                    level,
+                    muted,
+                    urgent,
+                    rooms,
+                })
+            }
+            Err(e) => Err(e),
+        }
+    }
+}
+
+/// Each reminder in hand is in DER form, since its fields are.
+impl AlwaysDerBy<FieldsKind> for Reminder {
+    fn der_by_kind(&self) {
+        (
+            &self.level,
+            (&self.muted, (&self.urgent, (&self.rooms, ()))),
+        )
+            .each_is_der()
+    }
+}
+
+/// The reminder at the front of the octets, by DER, and what follows it.
+pub fn read_reminder(alloc: Global, octets: &[u8]) -> ParseResult<'_, Reminder, Error>
+    ensures { ReadsByDer ⟦<Reminder as Grammar>⟧.grammar octets.now (seen result) }
+{
+    read_der::<Reminder, Error>(alloc, octets)
+}
+
+/// The reminder at the front of the octets, by BER, and what follows it.
+pub fn read_reminder_by_ber(alloc: Global, octets: &[u8]) -> ParseResult<'_, Reminder, Error>
+    ensures { ReadsByBer ⟦<Reminder as Grammar>⟧.grammar octets.now (seen result) }
+{
+    read_ber::<Reminder, Error>(alloc, octets)
+}
+
+/// The one strict encoding of a reminder. Where its length fits `usize`, it is refused only when out of memory.
+pub fn reminder_vec(alloc: Global, reminder: &Reminder) -> SerializeResult<Vec<u8>>
+    ensures { WritesStrict ⟦<Reminder as Grammar>⟧.grammar ⟦<Reminder as ToDer>⟧.writing
+        reminder.now result }
+{
+    reminder.is_der();
+    strict_vec(alloc, reminder)
+}

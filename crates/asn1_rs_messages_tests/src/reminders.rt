@@ -1,0 +1,131 @@
+//! Reminders by both rules, whose field `urgent` has a default: alone, in lists, and under tags.
+
+use crate::shown::push_answer;
+use asn1_rs::{Defaulted, Error, FromBer, FromDer, TaggedExplicit, TaggedImplicit};
+use asn1_rs_messages::{Muted, Reminder, read_reminder, read_reminder_by_ber, reminder_vec};
+use std::alloc::Global;
+use std::test::Fail;
+use test_rows::{Calls, assert_rows, assert_shown};
+
+/// By DER: without the optional fields and with both. A default that is there is read, and not written again
+/// (X.690 11.5).
+///
+/// Refused: octets behind the last field, a last field that is not there, a message that is cut, a value under a tag
+/// that is cut, the field of another number in the place of the last one, the field with the default twice, a primitive
+/// encoding (8.9.1), a set, an indefinite length, and a truth value of another octet, or of none.
+const BY_DER: &str = "\
+der:
+30050201053000 = 5 None false [] rest - written 30050201053000
+300d020105a0030101ff0101ff3000 = 5 Some(true) true [] rest - written 300d020105a0030101ff0101ff3000
+30080201050101003000 = 5 None false [] rest - written 30050201053000
+30080201050101ff3000 = 5 None true [] rest - written 30080201050101ff3000
+300d020105a0030101000101003000 = 5 Some(false) false [] rest - written 300a020105a0030101003000
+300c020105300702010102020100 = 5 None false [1, 256] rest - written 300c020105300702010102020100
+300502010530000500 = 5 None false [] rest 0500 written 30050201053000
+300702010530000500 = Error(DerConstraintFailed(TrailingOctets))
+3003020105 = Error(Incomplete(Size(1)))
+3006020105010100 = Error(Incomplete(Size(1)))
+300502010530 = Incomplete(Size(1))
+3008020105a001053000 = Error(Incomplete(Size(1)))
+3008020105a501053000 = Error(UnexpectedTag { expected: Some(Tag(16)), actual: Tag(5) })
+300b0201050101000101003000 = Error(UnexpectedTag { expected: Some(Tag(16)), actual: Tag(1) })
+10050201053000 = Error(ConstructExpected)
+31050201053000 = Error(UnexpectedTag { expected: Some(Tag(16)), actual: Tag(17) })
+308002010530000000 = Error(DerConstraintFailed(IndefiniteLength))
+30080201050101013000 = Error(DerConstraintFailed(InvalidBoolean))
+";
+
+/// By BER: of indefinite lengths (8.1.3.6), and with a truth value of another octet (8.2.2). They are written by DER.
+const BY_BER: &str = "\
+ber:
+30050201053000 = 5 None false [] rest - written 30050201053000
+30080201050101003000 = 5 None false [] rest - written 30050201053000
+308002010530000000 = 5 None false [] rest - written 30050201053000
+308002010501010030000000 = 5 None false [] rest - written 30050201053000
+308002010501010130800201010000000005 = 5 None true [1] rest 05 written 300b0201050101ff3003020101
+3080020105a080010101000001010030000000 = 5 Some(true) false [] rest - written 300a020105a0030101ff3000
+308103020105 = Error(Incomplete(Size(1)))
+3080020105300005000000 = Error(DerConstraintFailed(TrailingOctets))
+3008020105a501053000 = Error(UnexpectedTag { expected: Some(Tag(16)), actual: Tag(5) })
+10050201053000 = Error(ConstructExpected)
+";
+
+/// In a list (8.10), under an explicit tag and an implicit one (8.14). Below an implicit tag a message is read by BER.
+const HELD: &str = "\
+list:
+30113005020105300030080201060101003000 = 2; 5 None false []; 6 None false [] rest - written 300e3005020105300030050201063000
+300a30080201050101ff3000 = 1; 5 None true [] rest - written 300a30080201050101ff3000
+30053003020105 = Error(Incomplete(Size(1)))
+
+explicit:
+a10a30080201050101003000 = 5 None false [] rest - written a10730050201053000
+a1053003020105 = Error(Incomplete(Size(1)))
+
+implicit:
+a2050201053000 = 5 None false [] rest - written a2050201053000
+a2080201050101003000 = 5 None false [] rest - written a2050201053000
+a2080201050101ff3000 = 5 None true [] rest - written a2080201050101ff3000
+82050201053000 = Error(ConstructExpected)
+a20702010530000500 = Error(DerConstraintFailed(TrailingOctets))
+
+implicit by ber:
+a28002010501010030000000 = 5 None false [] rest - written a2050201053000
+";
+
+/// The calls of the tables.
+struct Reads;
+
+impl Calls for Reads {
+    fn answer(text: &mut String, alloc: Global, name: &str, octets: &[u8]) -> Result<(), Fail> {
+        match name {
+            "der" => push_answer(text, alloc, read_reminder(alloc, octets)),
+            "ber" => push_answer(text, alloc, read_reminder_by_ber(alloc, octets)),
+            "list" => push_answer(text, alloc, Vec::<Reminder>::from_der(alloc, octets)),
+            "explicit" => push_answer(text, alloc, UnderExplicit::from_der(alloc, octets)),
+            "implicit" => push_answer(text, alloc, UnderImplicit::from_der(alloc, octets)),
+            _ => push_answer(text, alloc, UnderImplicit::from_ber(alloc, octets)),
+        }
+    }
+}
+
+/// A reminder under an explicit tag.
+type UnderExplicit = TaggedExplicit<Reminder, Error, 1>;
+
+/// A reminder under an implicit tag.
+type UnderImplicit = TaggedImplicit<Reminder, Error, 2>;
+
+#[test]
+fn reminders_are_read_by_der(rt: HostRuntime) -> Result<(), Fail> {
+    assert_rows::<Reads>(rt.alloc(), BY_DER)
+}
+
+#[test]
+fn reminders_are_read_by_ber(rt: HostRuntime) -> Result<(), Fail> {
+    assert_rows::<Reads>(rt.alloc(), BY_BER)
+}
+
+#[test]
+fn reminders_are_held_by_lists_and_tags(rt: HostRuntime) -> Result<(), Fail> {
+    assert_rows::<Reads>(rt.alloc(), HELD)
+}
+
+/// A reminder of these rooms, which was made by hand.
+fn reminder(alloc: Global, muted: Option<Muted>, urgent: bool) -> Reminder {
+    Reminder {
+        level: 200,
+        muted,
+        urgent: Defaulted::of(urgent),
+        rooms: Vec::new(alloc),
+    }
+}
+
+#[test]
+fn a_reminder_made_by_hand_is_written(rt: HostRuntime) -> Result<(), Fail> {
+    let alloc = rt.alloc();
+    let quiet = reminder(alloc, Some(Muted::explicit(true)), false);
+    let expected = "Ok([48, 11, 2, 2, 0, 200, 160, 3, 1, 1, 255, 48, 0])";
+    assert_shown(alloc, &reminder_vec(alloc, &quiet), expected)?;
+    let urgent = reminder(alloc, None, true);
+    let expected = "Ok([48, 9, 2, 2, 0, 200, 1, 1, 255, 48, 0])";
+    assert_shown(alloc, &reminder_vec(alloc, &urgent), expected)
+}
