@@ -4,6 +4,8 @@
 #[cfg(test)]
 mod alarms;
 #[cfg(test)]
+mod few_growths;
+#[cfg(test)]
 mod measurements;
 #[cfg(test)]
 mod public_keys;
