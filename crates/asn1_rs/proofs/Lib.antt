@@ -3,6 +3,7 @@ mod OneItemMore
 mod Lists
 mod OnlyItem
 mod Prepending
+mod PutBack
 mod PutFields
 mod Sets
 mod TaggedReaders

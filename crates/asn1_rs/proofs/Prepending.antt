@@ -69,6 +69,13 @@ pub item_of_vector : {X : Type 0} (e : SerializeError) (xs : List X) (own : X �
     SomeRefuses (λ x. IntoVector (own x)) xs e → (f : SerializeError) × SomeRefuses own xs f
 item_of_vector e xs own (i, x, l, at, (f, o, is)) = (f, (i, x, l, at, o))
 
+-- the same of what stands in a vector or a buffer at once
+pub vector_of_own : (r : Result ℕ SerializeError) (n : ℕ) (own : SerializeError → Type 0) →
+    IfErr r (VectorRefuses n own) → IfErr r (VectorRefuses n (IntoVector own))
+vector_of_own (Ok k) n own h = tt
+vector_of_own (Err e) n own (inl m) = inl m
+vector_of_own (Err e) n own (inr (f, o, is)) = inr (e, (f, o, is), refused_twice e own (f, o, is))
+
 -- the last octets, where as many are kept as there were
 pub kept_back : (front old mid new : List ℕ) (held : ℕ) → mid ≡ front ++ old → held ≡ length old →
     new ≡ drop (length mid - held) mid → new ≡ old

@@ -1,38 +1,63 @@
 -- Values that are written as their fields, one after another, under one header (X.690 8.9, 8.11).
-use Rattle.std.specs.Prelude.{◌≡◌, ℕ, ◌+◌, true, List, [], ◌++◌, length, Result, Ok, Err, IfOk, IfErr, IsErr}
-use Rattle.std.specs.Prelude.{MatchResult}
+use Rattle.std.specs.Prelude.{◌≡◌, ℕ, ◌+◌, Bool, true, false, List, [], ◌++◌, length, Result, Ok, Err, IfOk, OnErr}
+use Rattle.std.specs.Prelude.{IfErr, IsErr, MatchResult}
 use Rattle.x690.specs.Strict.{header_octets}
 use Rattle.asn1_headers.specs.declared.error.Error.{Error}
 use Rattle.asn1_headers.specs.declared.error.SerializeError.{SerializeError}
+use Rattle.asn1_headers.specs.Prepended.{GrewByAnEnd}
 use Rattle.asn1_rs.specs.declared.kinds.fields.Fields.{Fields}
 use Rattle.asn1_rs.specs.declared.kinds.fields.Taken.TheVariants as taken
 use Rattle.asn1_rs.specs.ToDer.{Writing, Either, IntoVector, RefusesCount, VectorRefuses, WrittenRefusal, whole_octets}
 use Rattle.asn1_rs.specs.ToDer.{whole_refuses}
 
--- what was taken of fields so far: the number of their octets, or the octets
+-- What was taken of fields so far: the number of their octets, or the octets; or these before what a buffer held, with
+-- all that stands in it.
 pub data TakenFields : Type 0 where
   counted : ℕ → TakenFields
   collected : List ℕ → TakenFields
+  prepended : List ℕ → TakenFields
 
 abbrev pub taken_in : Fields → TakenFields
 taken_in x = elim x.taken as (λ _. TakenFields)
-    [ taken.Counted n ↦ counted n | taken.Collected a w ↦ collected w.inner.items ]
+    [ taken.Counted n ↦ counted n | taken.Collected a w ↦ collected w.inner.items | taken.Prepended a b ↦ prepended b ]
 
--- the octets of one more field behind those before
+-- the octets that stand there
+abbrev pub standing : TakenFields → List ℕ
+standing (counted n) = []
+standing (collected o) = o
+standing (prepended o) = o
+
+-- the fields are taken from the last to the first
+abbrev pub goes_back : TakenFields → Bool
+goes_back (counted n) = false
+goes_back (collected o) = false
+goes_back (prepended o) = true
+
+-- the octets of one more field behind those before, or in front of them
 abbrev pub takes : List ℕ → TakenFields → TakenFields
 takes o (counted n) = counted (n + length o)
 takes o (collected p) = collected (p ++ o)
+takes o (prepended p) = prepended (o ++ p)
+
+-- where octets are put in front, a refusal leaves an end part of those of the field there
+abbrev pub LeavesAnEnd : List ℕ → TakenFields → TakenFields → Type 0
+LeavesAnEnd o (counted n) new = Unit {0}
+LeavesAnEnd o (collected p) new = Unit {0}
+LeavesAnEnd o (prepended p) (prepended q) = GrewByAnEnd o p q
+LeavesAnEnd o (prepended p) _ = ⊥
 
 -- Why a field of so many octets is refused: by its count, or since the sum of the counts is too long; or as a writing
 -- into a vector is.
 abbrev pub FieldRefusal : TakenFields → ℕ → (Error → Type 0) → (SerializeError → Type 0) → SerializeError → Type 0
 FieldRefusal (counted n) len counts writes e = WrittenRefusal (RefusesCount true (n + len) counts) e
 FieldRefusal (collected o) len counts writes e = VectorRefuses len writes e
+FieldRefusal (prepended o) len counts writes e = VectorRefuses (len + length o) writes e
 
 -- what refuses a field that is written: nothing in counting
 abbrev pub WritingRefuses : TakenFields → (SerializeError → Type 0) → SerializeError → Type 0
 WritingRefuses (counted n) writes e = ⊥
 WritingRefuses (collected o) writes e = writes e
+WritingRefuses (prepended o) writes e = writes e
 
 -- One field was put, or refused.
 pub record PutsField {S : Type 0} (w : Writing S) (x : S) (old new : TakenFields)
@@ -40,6 +65,7 @@ pub record PutsField {S : Type 0} (w : Writing S) (x : S) (old new : TakenFields
   pub taken : w.tells x → IfOk answer (λ _. new ≡ takes (whole_octets w x) old)
   pub refused : w.tells x → IfErr answer
       (FieldRefusal old (length (whole_octets w x)) (w.count_refuses x) (whole_refuses w x))
+  pub left : w.tells x → OnErr answer (LeavesAnEnd (whole_octets w x) old new)
   pub uncounted : (e : Error) → w.tells x → w.count_refuses x e → IsErr answer
   pub accepted : (e : SerializeError) → w.tells x → WritingRefuses old (whole_refuses w x) e → IsErr answer
 
@@ -74,13 +100,14 @@ FieldsRefuse no_fields x e = ⊥
 FieldsRefuse (field w of rest) x e = Either (whole_refuses w (of x)) (FieldsRefuse rest x) e
 
 -- The fields were put in their order; or those before one that was refused, and that refusal is the answer. What was
--- taken in between is tied by the puts.
+-- taken in between is tied by the puts. Nothing is said where they are to be taken from the last to the first.
 unfoldable pub PutsEach : {S : Type 0} → FieldList S → S → TakenFields → TakenFields →
     Result (Unit {0}) SerializeError → Type 0
 PutsEach untold_fields x old new answer = Unit {0}
 PutsEach no_fields x old new answer = (answer ≡ Ok tt) × (new ≡ old)
-PutsEach (field w of rest) x old new answer = (mid : TakenFields) × (first : Result (Unit {0}) SerializeError) ×
-    PutsField w (of x) old mid first × MatchResult first (λ _. PutsEach rest x mid new answer) (λ e. answer ≡ Err e)
+PutsEach (field w of rest) x old new answer = goes_back old ≡ false →
+    (mid : TakenFields) × (first : Result (Unit {0}) SerializeError) × PutsField w (of x) old mid first ×
+    MatchResult first (λ _. PutsEach rest x mid new answer) (λ e. answer ≡ Err e)
 
 -- the same; of untold fields nothing is said
 abbrev pub Puts : {S : Type 0} → FieldList S → S → TakenFields → TakenFields → Result (Unit {0}) SerializeError → Type 0
@@ -88,7 +115,8 @@ Puts untold_fields x old new answer = Unit {0}
 Puts no_fields x old new answer = PutsEach no_fields x old new answer
 Puts (field w of rest) x old new answer = PutsEach (field w of rest) x old new answer
 
--- A constructed element of the universal class, with this number, of the fields. They are collected in a vector first.
+-- A constructed element of the universal class, with this number, of the fields. Their octets stand in a vector or a
+-- buffer first.
 abbrev pub fields_writing : {S : Type 0} → ℕ → FieldList S → Writing S
 fields_writing number fields = record {
   tells = TellsFields fields;

@@ -21,7 +21,7 @@ use Rattle.asn1_headers.specs.declared.error.SerializeError.{SerializeError}
 use Rattle.asn1_rs.specs.declared.asn1_types.any.Any.{Any}
 use Rattle.asn1_rs.specs.Any.{parts_of}
 use Rattle.asn1_rs.specs.FieldReader.{BecomesError}
-use Rattle.asn1_rs.specs.Fields.{FieldList, untold_fields, no_fields, field, TakenFields, PutsField}
+use Rattle.asn1_rs.specs.Fields.{FieldList, untold_fields, no_fields, field, TakenFields, goes_back, PutsField}
 use Rattle.asn1_rs.specs.Grammar.{DerWord, NoCheck}
 use Rattle.asn1_rs.specs.Grammar.Form.{IsStrict, UniversalForm}
 use Rattle.asn1_rs.specs.Grammar.Item.{ItemGrammar, ber_words}
@@ -275,11 +275,16 @@ puts_of untold_fields x = none_put
 puts_of no_fields x = none_put
 puts_of (field w of rest) x = put_then w (of x) (puts_of rest x)
 
--- The items were put in their order; or those before one that was refused, and that refusal is the answer.
+-- The items were put in their order, or from the last to the first where they are so taken; or those before one that was
+-- refused, and that refusal is the answer.
 abbrev pub PutsAll : PutList → TakenFields → TakenFields → Result (Unit {0}) SerializeError → Type 0
 PutsAll none_put old new answer = (answer ≡ Ok tt) × (new ≡ old)
-PutsAll (put_then w x rest) old new answer = (mid : TakenFields) × (first : Result (Unit {0}) SerializeError) ×
-    PutsField w x old mid first × MatchResult first (λ _. PutsAll rest mid new answer) (λ e. answer ≡ Err e)
+PutsAll (put_then w x rest) old new answer =
+    (goes_back old ≡ false → (mid : TakenFields) × (first : Result (Unit {0}) SerializeError) ×
+    PutsField w x old mid first × MatchResult first (λ _. PutsAll rest mid new answer) (λ e. answer ≡ Err e)) ×
+    (goes_back old ≡ true → (mid : TakenFields) × (behind : Result (Unit {0}) SerializeError) ×
+    PutsAll rest old mid behind × MatchResult behind (λ _. PutsField w x mid new answer)
+    (λ e. (answer ≡ Err e) × (new ≡ mid)))
 
 -- Structs.
 

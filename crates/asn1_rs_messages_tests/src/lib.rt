@@ -6,6 +6,8 @@ mod alarms;
 #[cfg(test)]
 mod extensions;
 #[cfg(test)]
+mod few_growths;
+#[cfg(test)]
 mod measurements;
 #[cfg(test)]
 mod public_keys;

@@ -1,13 +1,14 @@
 //! How a type of several fields comes by [`ToDer`]: it puts each of them, in a line.
-ghost use Rattle.std.specs.Prelude.{◌≡◌, ◌++◌, ℕ, List, length, false, true, IfOk, IfErr, IsErr};
+ghost use Rattle.std.specs.Prelude.{◌≡◌, ◌+◌, ◌++◌, ℕ, List, length, false, true, IfOk, IfErr, IsErr};
 ghost use Rattle.x690.specs.Strict.{header_octets};
 ghost use Rattle.asn1_headers.specs.Error.{tells_of_io, written_refusal};
 ghost use Rattle.asn1_headers.specs.declared.error.SerializeError.{SerializeError};
 ghost use Rattle.asn1_headers.specs.declared.error.Error.{Error};
 ghost use Rattle.asn1_headers.specs.Writer.{Wrote, MayRefuse, wrapped_in};
 ghost use Rattle.asn1_rs.specs.Fields.{FieldList, TellsFields, FieldsRefuse, FieldsRefuseCount, PutsField, Puts};
-ghost use Rattle.asn1_rs.specs.Fields.{TakenFields, counted, collected, taken_in, untold_fields, fields_octets};
-ghost use Rattle.asn1_rs.specs.Fields.{fields_writing};
+ghost use Rattle.asn1_rs.specs.Fields.{TakenFields, counted, collected, prepended, taken_in, standing, goes_back};
+ghost use Rattle.asn1_rs.specs.Fields.{untold_fields, fields_octets, fields_writing};
+ghost use Rattle.asn1_headers.specs.Prepended.{Prepended};
 ghost use Rattle.asn1_rs.specs.ToDer.{Refuses, RefusesCount, VectorRefuses};
 
 use crate::header::{add_counts, element_len, put_behind, put_counted_header};
@@ -30,8 +31,8 @@ pub struct FieldsKind;
 /// encodings of its fields, one after another (X.690 8.9, 8.11).
 ///
 /// So it has [`ToDer`]. A field that is left out is an `Option` that is None, which puts nothing. The fields are put
-/// once for each count, and once for a writing, whose octets are collected in a vector before the header is written:
-/// where a field or memory refuses, nothing is appended.
+/// once for each count, and once for a writing, whose octets stand in a vector or a buffer before the header is
+/// written: where a field or memory refuses, nothing is appended.
 ///
 ///     impl WritesFields for Point {
 ///         type Number = TagNumber<16>;
@@ -41,7 +42,7 @@ pub struct FieldsKind;
 ///             fields.put(&self.y)
 ///         }
 ///     }
-pub trait WritesFields: HasKind<Kind = FieldsKind> {
+pub trait WritesFields: HasKind<Kind = FieldsKind> + Sized {
     /// A type with its tag number: [`TagNumber`](crate::TagNumber), where none has the number.
     type Number: Tagged;
 
@@ -51,9 +52,53 @@ pub trait WritesFields: HasKind<Kind = FieldsKind> {
     /// Puts each field, in their order.
     fn put_fields(&self, fields: &mut Fields) -> SerializeResult<()>
         ensures { Puts Self.field_list self.now (taken_in fields.old) (taken_in fields.new) result };
+
+    /// The encodings of the fields, one after another, which are then appended in one piece.
+    ///
+    /// This body collects them. A struct of fields goes from the last one to the first.
+    fn take_fields(&self, alloc: Global) -> SerializeResult<Fields>
+        ensures octets { TellsFields Self.field_list self.now → IfOk result
+            (λ taken. standing (taken_in taken) ≡ fields_octets Self.field_list self.now) }
+        ensures refused { TellsFields Self.field_list self.now → IfErr result
+            (VectorRefuses (length (fields_octets Self.field_list self.now))
+            (FieldsRefuse Self.field_list self.now)) }
+        ensures accepted { (e : SerializeError) → TellsFields Self.field_list self.now →
+            FieldsRefuse Self.field_list self.now e → IsErr result }
+        ensures uncounted { (e : Error) → TellsFields Self.field_list self.now →
+            FieldsRefuseCount Self.field_list self.now e → IsErr result }
+        ensures memory { IfErr result (λ e. tells_of_io e ≡ false) }
+    {
+        let mut fields = Fields {
+            taken: Taken::Collected(alloc, Told::new(Vec::new(alloc))),
+        };
+        match self.put_fields(&mut fields) {
+            Ok(()) => Ok(fields),
+            Err(e) => Err(without_io(e)),
+        }
+    }
+
+    /// Puts the encodings of the fields before the octets of the buffer, and answers the number of their octets.
+    ///
+    /// This body takes them first. A struct of fields puts the last one in front, then the one before it, and asks for
+    /// no memory but what the buffer does.
+    fn prepend_fields(&self, alloc: Global, buf: &mut DerBuffer) -> SerializeResult<usize>
+        ensures prepended { TellsFields Self.field_list self.now →
+            Prepended (fields_octets Self.field_list self.now) buf.old buf.new result }
+        ensures refused { TellsFields Self.field_list self.now → IfErr result
+            (VectorRefuses (length (fields_octets Self.field_list self.now) + length buf.old)
+            (FieldsRefuse Self.field_list self.now)) }
+        ensures accepted { (e : SerializeError) → TellsFields Self.field_list self.now →
+            FieldsRefuse Self.field_list self.now e → IsErr result }
+        ensures uncounted { (e : Error) → TellsFields Self.field_list self.now →
+            FieldsRefuseCount Self.field_list self.now e → IsErr result }
+    {
+        let content = self.take_fields(alloc)?;
+        prepend_octets(content.as_bytes(), buf)
+    }
 }
 
-/// What takes the fields of a value: it counts their encodings, or collects them.
+/// What takes the fields of a value: it counts their encodings, or collects them, or puts them before what a buffer
+/// holds.
 #[derive(Debug, Drop)]
 pub struct Fields {
     taken: Taken,
@@ -64,9 +109,26 @@ pub struct Fields {
 enum Taken {
     Counted(usize),
     Collected(Global, Told<Vec<u8>>),
+    Prepended(Global, DerBuffer),
 }
 
 impl Fields {
+    /// What puts them before the octets of a buffer.
+    pub(crate) fn before(alloc: Global, buf: DerBuffer) -> Fields
+        ensures { taken_in result ≡ prepended buf }
+    {
+        Fields {
+            taken: Taken::Prepended(alloc, buf),
+        }
+    }
+
+    /// Whether the last field is to be put first, and each one in front of those behind it.
+    pub(crate) fn goes_back(&self) -> bool
+        ensures { result ≡ goes_back (taken_in self.now) }
+    {
+        matches!(self.taken, Taken::Prepended(..))
+    }
+
     /// Takes the encoding of a field behind those of the fields before.
     ///
     /// Refused as the field is, with `OutOfMemory` in the place of a writer's failure, and with `InvalidLength` where
@@ -77,6 +139,7 @@ impl Fields {
         match &mut self.taken {
             Taken::Counted(total) => count_field(total, field),
             Taken::Collected(alloc, octets) => collect_field(*alloc, octets, field),
+            Taken::Prepended(alloc, buf) => prepend_field(*alloc, buf, field),
         }
     }
 
@@ -87,16 +150,28 @@ impl Fields {
         match &self.taken {
             Taken::Counted(total) => *total,
             Taken::Collected(_, octets) => octets.as_inner().len(),
+            Taken::Prepended(_, buf) => buf.len(),
         }
     }
 
-    /// The octets that were taken; none where they were counted.
-    fn into_octets(self, alloc: Global) -> Vec<u8>
-        ensures { (octets : List ℕ) → taken_in self ≡ collected octets → result.items ≡ octets }
+    /// The octets that stand there; none where they were counted.
+    pub(crate) fn as_bytes(&self) -> &[u8]
+        ensures { result.now ≡ standing (taken_in self.now) }
+    {
+        match &self.taken {
+            Taken::Counted(_) => &[],
+            Taken::Collected(_, octets) => octets.as_inner(),
+            Taken::Prepended(_, buf) => buf.as_bytes(),
+        }
+    }
+
+    /// The buffer that they were put in; an empty one where they were not.
+    pub(crate) fn into_buffer(self, alloc: Global) -> DerBuffer
+        ensures { (octets : List ℕ) → taken_in self ≡ prepended octets → result ≡ octets }
     {
         match self.taken {
-            Taken::Counted(_) => Vec::new(alloc),
-            Taken::Collected(_, octets) => octets.into_inner(),
+            Taken::Counted(_) | Taken::Collected(_, _) => DerBuffer::new(alloc),
+            Taken::Prepended(_, buf) => buf,
         }
     }
 }
@@ -132,6 +207,16 @@ fn collect_field<T: ToDer>(
     }
 }
 
+/// Puts the encoding of a field in front.
+fn prepend_field<T: ToDer>(alloc: Global, buf: &mut DerBuffer, field: &T) -> SerializeResult<()>
+    ensures { PutsField T.writing field.now (prepended buf.old) (prepended buf.new) result }
+{
+    match field.prepend_der(alloc, buf) {
+        Ok(_) => Ok(()),
+        Err(e) => Err(e),
+    }
+}
+
 /// What a refused put makes of a count of a value of this tag.
 fn refusal_in_counting(tag: Tag, e: SerializeError) -> Error
     ensures { (f : Error) → e ≡ written_refusal f → result ≡ f }
@@ -160,28 +245,6 @@ fn count_fields<T: WritesFields>(value: &T) -> Result<usize, Error>
     match value.put_fields(&mut fields) {
         Ok(()) => Ok(fields.count()),
         Err(e) => Err(refusal_in_counting(T::Number::TAG, e)),
-    }
-}
-
-/// The octets of the fields of a value.
-fn collect_fields<T: WritesFields>(value: &T, alloc: Global) -> SerializeResult<Vec<u8>>
-    ensures octets { TellsFields T.field_list value.now →
-        IfOk result (λ v. v.items ≡ fields_octets T.field_list value.now) }
-    ensures refused { TellsFields T.field_list value.now →
-        IfErr result (VectorRefuses (length (fields_octets T.field_list value.now))
-        (FieldsRefuse T.field_list value.now)) }
-    ensures accepted { (e : SerializeError) → TellsFields T.field_list value.now →
-        FieldsRefuse T.field_list value.now e → IsErr result }
-    ensures uncounted { (e : Error) → TellsFields T.field_list value.now →
-        FieldsRefuseCount T.field_list value.now e → IsErr result }
-    ensures memory { IfErr result (λ e. tells_of_io e ≡ false) }
-{
-    let mut fields = Fields {
-        taken: Taken::Collected(alloc, Told::new(Vec::new(alloc))),
-    };
-    match value.put_fields(&mut fields) {
-        Ok(()) => Ok(fields.into_octets(alloc)),
-        Err(e) => Err(without_io(e)),
     }
 }
 
@@ -222,18 +285,17 @@ impl<T: WritesFields> ToDerBy<FieldsKind> for T {
     }
 
     fn put_content<W: DerWrite>(&self, alloc: Global, w: &mut W) -> SerializeResult<usize> {
-        let content = collect_fields(self, alloc)?;
-        put_all(w, &content)
+        let content = self.take_fields(alloc)?;
+        put_all(w, content.as_bytes())
     }
 
     fn put_whole<W: DerWrite>(&self, alloc: Global, w: &mut W) -> SerializeResult<usize> {
-        let content = collect_fields(self, alloc)?;
-        put_collected(T::Number::TAG, &content, w)
+        let content = self.take_fields(alloc)?;
+        put_collected(T::Number::TAG, content.as_bytes(), w)
     }
 
     fn prepend_content(&self, alloc: Global, buf: &mut DerBuffer) -> SerializeResult<usize> {
-        let content = collect_fields(self, alloc)?;
-        prepend_octets(&content, buf)
+        self.prepend_fields(alloc, buf)
     }
 
     fn prepend_whole(&self, alloc: Global, buf: &mut DerBuffer) -> SerializeResult<usize> {

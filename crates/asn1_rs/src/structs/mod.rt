@@ -41,10 +41,12 @@ use crate::kinds::reading::{
 use crate::kinds::writing::{LawfulTaggedBy, LawfulWriteBy, TakesClassBy};
 use crate::kinds::{GrammarBy, HasKind, LawfulItemBy, TagNumber};
 use crate::traits::{ASN1Parser, converted};
+use asn1_headers::buffer::DerBuffer;
 use asn1_headers::content::{BerParser, DerParser};
-use asn1_headers::error::{Err, Error, ParseResult, SerializeResult};
+use asn1_headers::error::{Err, Error, ParseResult, SerializeResult, without_io};
 use asn1_headers::tag::Tag;
 use std::alloc::Global;
+use std::mem;
 
 /// A parser, by the rules by which it reads the fields of a struct.
 pub trait ReadsBy: ASN1Parser {
@@ -62,8 +64,9 @@ impl ReadsBy for BerParser {
 
 /// A struct that is a sequence of its fields, in the order of its row.
 ///
-/// So it is written as its fields, one after another ([`WritesFields`]), and has [`Grammar`](crate::Grammar),
-/// [`LawfulItem`](crate::LawfulItem) and the laws of writing and of tags. It is read where it has [`ReadsFields`].
+/// So it is written as its fields, one after another ([`WritesFields`]), which go straight into the buffer of the
+/// whole, the last one first. It has [`Grammar`](crate::Grammar), [`LawfulItem`](crate::LawfulItem) and the laws of
+/// writing and of tags. It is read where it has [`ReadsFields`].
 ///
 ///     impl LawfulStruct for Measurement {
 ///         ghost laws = { struct_of (λ m. (m.place, (m.value, (m.error, tt))))
@@ -85,7 +88,7 @@ pub trait LawfulStruct: HasKind<Kind = FieldsKind> + Sized {
     /// Its row, with the laws of that.
     ghost laws: { LawfulStructOf Self };
 
-    /// Puts each field, in their order.
+    /// Puts each field: in their order, or from the last to the first where they are put before the octets of a buffer.
     fn put_row(&self, fields: &mut Fields) -> SerializeResult<()>
         ensures { PutsAll (puts_of laws.row.list (laws.as_row self.now))
             (taken_in fields.old) (taken_in fields.new) result };
@@ -183,6 +186,25 @@ impl<T: LawfulStruct> WritesFields for T {
 
     fn put_fields(&self, fields: &mut Fields) -> SerializeResult<()> {
         self.put_row(fields)
+    }
+
+    fn take_fields(&self, alloc: Global) -> SerializeResult<Fields> {
+        let mut fields = Fields::before(alloc, DerBuffer::new(alloc));
+        match self.put_row(&mut fields) {
+            Ok(()) => Ok(fields),
+            Err(e) => Err(without_io(e)),
+        }
+    }
+
+    fn prepend_fields(&self, alloc: Global, buf: &mut DerBuffer) -> SerializeResult<usize> {
+        let held = buf.len();
+        let mut fields = Fields::before(alloc, mem::replace(buf, DerBuffer::new(alloc)));
+        let answer = self.put_row(&mut fields);
+        *buf = fields.into_buffer(alloc);
+        match answer {
+            Ok(()) => Ok(buf.len().saturating_sub(held)),
+            Err(e) => Err(without_io(e)),
+        }
     }
 }
 

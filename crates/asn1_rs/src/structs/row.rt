@@ -119,7 +119,7 @@ pub trait BorrowedRow {
     /// That the value of each field is one of its type's.
     ghost have_values: { Self → Type 0 };
 
-    /// Puts each field, in their order.
+    /// Puts each field: in their order, or from the last to the first where they are put before the octets of a buffer.
     fn put_each(&self, fields: &mut Fields) -> SerializeResult<()>
         ensures { PutsAll (puts self.now) (taken_in fields.old) (taken_in fields.new) result };
 
@@ -146,8 +146,16 @@ impl<'s, F: FieldInHand + ToDer, R: BorrowedRow> BorrowedRow for (&'s F, R) {
     ghost have_values = { λ r. F.has_a_value r.0.now × R.have_values r.1 };
 
     fn put_each(&self, fields: &mut Fields) -> SerializeResult<()> {
-        fields.put(self.0)?;
-        self.1.put_each(fields)
+        if fields.goes_back() {
+            return match self.1.put_each(fields) {
+                Ok(()) => fields.put(self.0),
+                Err(e) => Err(e),
+            };
+        }
+        match fields.put(self.0) {
+            Ok(()) => self.1.put_each(fields),
+            Err(e) => Err(e),
+        }
     }
 
     fn each_in_hand(&self) {

@@ -1,14 +1,14 @@
 -- What is written of rows of fields, and of structs, is lawful.
 use Rattle.std.proofs.Common.{◌≡◌, ◌∙◌, ap, sym, subst, refl, arith, ℕ, ◌+◌, ◌^◌, ◌<◌, inl, inr, Bool, true, false, List, []}
 use Rattle.std.proofs.Common.{◌++◌, length, length-append}
-use Rattle.std.specs.Prelude.{Result, Ok, Err}
+use Rattle.std.specs.Prelude.{Result, Ok, Err, MatchResult}
 use mathlib.Core.Logic.{∥∥₁_prop, ∥∥₁_elim, ∥∥₁_map}
 use Rattle.x690.specs.Identifiers.{Identifier}
 use Rattle.x690.specs.Strict.{header_octets}
 use Rattle.asn1_headers.specs.declared.error.Error.{Error}
 use Rattle.asn1_headers.specs.declared.error.SerializeError.{SerializeError}
 use Rattle.asn1_rs.specs.Fields.{FieldList, untold_fields, no_fields, field, TellsFields, fields_octets, FieldsRefuse}
-use Rattle.asn1_rs.specs.Fields.{FieldsRefuseCount, fields_writing, TakenFields, PutsEach, Puts}
+use Rattle.asn1_rs.specs.Fields.{FieldsRefuseCount, fields_writing, TakenFields, PutsField, PutsEach, Puts}
 use Rattle.asn1_rs.specs.Grammar.Form.{universal, header_of}
 use Rattle.asn1_rs.specs.Grammar.Item.{IsLawfulWriting}
 use Rattle.asn1_rs.specs.Laws.Forms.{both_by_value, whole_writable, behind_header}
@@ -69,15 +69,25 @@ module _ {S T : Type 0} (row : S → T) where
   pub writable_by : (list : FieldList T) (x : S) → AreWritable list (row x) → AreWritable (fields_by row list) x
   writable_by list x a = (count_by list x a.0, refuse_by list x a.1)
 
+-- a field, and the others behind it
+puts_step : {S T : Type 0} (w : Writing T) (of : S → T) (rest : FieldList S) (x : S) (old new : TakenFields)
+    (answer : Result (Unit {0}) SerializeError) →
+    ((mid : TakenFields) → PutsAll (puts_of rest x) mid new answer → PutsEach rest x mid new answer) →
+    (mid : TakenFields) × (first : Result (Unit {0}) SerializeError) × PutsField w (of x) old mid first ×
+    MatchResult first (λ _. PutsAll (puts_of rest x) mid new answer) (λ e. answer ≡ Err e) →
+    (mid : TakenFields) × (first : Result (Unit {0}) SerializeError) × PutsField w (of x) old mid first ×
+    MatchResult first (λ _. PutsEach rest x mid new answer) (λ e. answer ≡ Err e)
+puts_step w of rest x old new answer others (mid, Ok u, put, then) = (mid, Ok u, put, others mid then)
+puts_step w of rest x old new answer others (mid, Err e, put, then) = (mid, Err e, put, then)
+
 -- Fields that were put in their order are what their list says.
 pub puts_each : {S : Type 0} (list : FieldList S) (x : S) (old new : TakenFields)
     (answer : Result (Unit {0}) SerializeError) → PutsAll (puts_of list x) old new answer → PutsEach list x old new answer
 unfolding PutsEach
 puts_each untold_fields x old new answer p = tt
 puts_each no_fields x old new answer p = p
-puts_each (field w of rest) x old new answer (mid, Ok u, put, then) =
-    (mid, Ok u, put, puts_each rest x mid new answer then)
-puts_each (field w of rest) x old new answer (mid, Err e, put, then) = (mid, Err e, put, then)
+puts_each (field w of rest) x old new answer p =
+    λ forward. puts_step w of rest x old new answer (λ mid q. puts_each rest x mid new answer q) (p.0 forward)
 
 pub puts : {S : Type 0} (list : FieldList S) (x : S) (old new : TakenFields)
     (answer : Result (Unit {0}) SerializeError) → PutsAll (puts_of list x) old new answer → Puts list x old new answer

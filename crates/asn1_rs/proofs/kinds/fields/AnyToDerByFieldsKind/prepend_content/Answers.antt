@@ -1,9 +1,8 @@
-use Rattle.std.proofs.Common.{refl}
-use Rattle.std.proofs.lemmas.Result.{err_from_is_err_and}
-use Rattle.asn1_headers.specs.Laws.Prepending.{Prepended_refused}
+use Rattle.asn1_rs.proofs.Prepending.{vector_of_own}
 use Rattle.asn1_rs.proofs.kinds.fields.AnyToDerByFieldsKind.prepend_content.Goals as goal
 
-pub returns-in_err-content-clause-prepended : goal.returns-in_err-content-clause-prepended
-returns-in_err-content-clause-prepended g c = λ t.
-    let p = err_from_is_err_and c.from_residual.result c.from_residual.ensures.1 in
-    rw (p.1, p.2) (Prepended_refused _ _ _ _ refl c.in_err-content.ensures.memory)
+pub returns-clause-refused : goal.returns-clause-refused
+returns-clause-refused g c = λ t. vector_of_own c.prepend_fields.result _ _ (c.prepend_fields.ensures.refused t)
+
+pub returns-clause-accepted : goal.returns-clause-accepted
+returns-clause-accepted g c = λ e t o. c.prepend_fields.ensures.accepted o.0 t o.1
