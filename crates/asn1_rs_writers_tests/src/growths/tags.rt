@@ -3,8 +3,8 @@
 
 use super::{BMP, UTF8};
 use asn1_rs::{
-    Any, BmpString, Class, Err, Error, Explicit, FromAny, FromBer, FromDer, Header, Implicit,
-    Length, OptTaggedParser, ParseResult, Sequence, Set, Tag, TaggedParser, TaggedParserBuilder,
+    Any, BmpString, Class, Err, Error, Explicit, FromBer, FromDer, Header, Implicit, Length,
+    OptTaggedParser, ParseResult, Sequence, Set, Tag, TaggedParser, TaggedParserBuilder,
     parse_der_tagged_explicit, parse_der_tagged_explicit_g, parse_der_tagged_implicit,
     parse_der_tagged_implicit_g,
 };
@@ -89,44 +89,6 @@ impl Attempts for HandedOn {
             "from_der_and_then" => {
                 ExplicitText::from_der_and_then(CLASS, 0, octets, |i| String::from_der(alloc, i))
             }
-            "parse_der_tagged_explicit_g" => {
-                parse_der_tagged_explicit_g(0_u32, octets, |i, _header| String::from_der(alloc, i))
-            }
-            "parse_der_tagged_implicit_g" => {
-                parse_der_tagged_implicit_g(1_u32, &IMPLICIT_TEXT, |i, _tag, header| {
-                    text_under(alloc, i, header)
-                })
-            }
-            _ => return Some(false),
-        };
-        is_read(alloc, answer, &UTF8)
-    }
-}
-
-/// [1] in the place of the number of the text.
-const IMPLICIT_TEXT: [u8; 4] = [0x81, 0x02, 0x61, 0x62];
-
-/// A text that has these contents octets, under a header of its type.
-fn text_under<'a>(
-    alloc: Global,
-    content: &'a [u8],
-    header: Header<'a>,
-) -> ParseResult<'a, String, Error> {
-    match String::try_from_any(alloc, Any::new(header, content)) {
-        Ok(text) => Ok((&[], text)),
-        Err(refusal) => Err(Err::Error(refusal)),
-    }
-}
-
-/// What looks for an element, and hands its contents octets to a closure that reads a text.
-struct Found;
-
-impl Attempts for Found {
-    fn seen(alloc: Global, name: &str) -> Option<bool> {
-        let (parser, octets) = (OptTaggedParser::tagged(0), &TAGGED_TEXT);
-        let answer: ParseResult<'_, Option<String>, Error> = match name {
-            "parse_ber" => parser.parse_ber(octets, |_header, i| String::from_ber(alloc, i)),
-            "parse_der" => parser.parse_der(octets, |_header, i| String::from_der(alloc, i)),
             _ => return Some(false),
         };
         is_read(alloc, answer, &UTF8)
@@ -204,9 +166,6 @@ impl Attempts for PassedOn {
 #[test]
 fn closures_are_refused_for_want_of_memory(rt: HostRuntime) -> Result<(), Fail> {
     assert_attempts::<HandedOn>(rt.alloc(), &["from_ber_and_then", "from_der_and_then"])?;
-    let by_number = ["parse_der_tagged_explicit_g", "parse_der_tagged_implicit_g"];
-    assert_attempts::<HandedOn>(rt.alloc(), &by_number)?;
-    assert_attempts::<Found>(rt.alloc(), &["parse_ber", "parse_der"])?;
     assert_attempts::<OfContents>(rt.alloc(), &["Any by BER", "Any by DER"])?;
     let kept = [
         "Sequence by BER",

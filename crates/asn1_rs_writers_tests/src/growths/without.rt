@@ -111,8 +111,8 @@ fn is_pdv(answer: Result<EmbeddedPdv<'_>, Error>) -> Option<bool> {
 /// Whether such a value was read, with nothing behind it.
 fn is_read_pdv(answer: Result<(&[u8], EmbeddedPdv<'_>), Err<Error>>) -> Option<bool> {
     match answer {
-        Ok(([], pdv)) => is_pdv(Ok(pdv)),
-        _ => Some(false),
+        Ok((rest, pdv)) => { Some(rest.is_empty() && pdv.data_value == [0xaa, 0xa0].as_slice()) }
+        Err(_) => Some(false),
     }
 }
 
