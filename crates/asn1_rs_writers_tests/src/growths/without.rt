@@ -230,7 +230,7 @@ fn is_invalid_value(refusal: Error, text: &str) -> bool {
     }
 }
 
-/// Whether the refusals of a value are made with texts of up to 30 octets, beside which a longer one is cut.
+/// Whether the refusals of a value are made. Of a longer text they have the first 30 octets.
 fn is_invalid_value_made() -> Option<bool> {
     let short = Tag(2).invalid_value("no date");
     let long = Tag(2).invalid_value("an integer of more than 31 octets");
