@@ -10,6 +10,7 @@ use std::collections::{BTreeSet, HashSet};
 use std::fmt::Write;
 use std::test::Fail;
 use test_rows::{Calls, assert_rows, push_debug, push_digits};
+use test_values::{assert_beginnings_by_ber, assert_beginnings_by_der};
 
 /// What is read by DER, and by BER: the strict encoding and what follows it, or the refusal. In the strict encoding the
 /// items of a set ascend, whatever their order was. Values by X.690 8.10, 8.12, 8.14, 11.6.
@@ -123,12 +124,14 @@ fn push_by_ber<T: ToDer + Drop>(
     }
 }
 
-/// Appends both.
+/// Appends both. Of octets that are accepted all beginnings are tried.
 fn push_read<'a, T: FromBer<'a, Error> + FromDer<'a, Error> + ToDer + Drop>(
     text: &mut String,
     alloc: Global,
     octets: &'a [u8],
 ) -> Result<(), Fail> {
+    assert_beginnings_by_der::<T>(alloc, octets, false)?;
+    assert_beginnings_by_ber::<T>(alloc, octets, false)?;
     push_by_der::<T>(text, alloc, T::from_der(alloc, octets))?;
     text.push_str(" by BER ")?;
     push_by_ber::<T>(text, alloc, T::from_ber(alloc, octets))
@@ -140,6 +143,8 @@ fn push_lawful<'a, T: LawfulBer<'a, Error> + LawfulDer<'a, Error> + LawfulWrite 
     alloc: Global,
     octets: &'a [u8],
 ) -> Result<(), Fail> {
+    assert_beginnings_by_der::<T>(alloc, octets, false)?;
+    assert_beginnings_by_ber::<T>(alloc, octets, false)?;
     push_by_der::<T>(text, alloc, read_der(alloc, octets))?;
     text.push_str(" by BER ")?;
     push_by_ber::<T>(text, alloc, read_ber(alloc, octets))

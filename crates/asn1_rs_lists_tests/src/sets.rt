@@ -7,8 +7,8 @@ use std::fmt::Write;
 use std::test::Fail;
 use test_rows::{Calls, assert_rows, assert_shown, push_debug};
 use test_values::{
-    assert_written, push_by_ber, push_by_der, push_checked, push_converted, push_read_by_der,
-    push_shown, push_written,
+    assert_beginnings_by_ber, assert_beginnings_by_der, assert_written, push_by_ber, push_by_der,
+    push_checked, push_converted, push_read_by_der, push_shown, push_written,
 };
 
 /// Items in the order in which they stand, of a `HashSet` their number, and the set as it is written, in ascending
@@ -135,6 +135,30 @@ fn push_hashed_set(
     }
 }
 
+/// A set by DER. Of octets that are accepted all beginnings are tried.
+fn push_set_by_der(text: &mut String, alloc: Global, octets: &[u8]) -> Result<(), Fail> {
+    assert_beginnings_by_der::<SetOf<u32>>(alloc, octets, false)?;
+    push_set(text, alloc, SetOf::from_der(alloc, octets))
+}
+
+/// The same by BER.
+fn push_set_by_ber(text: &mut String, alloc: Global, octets: &[u8]) -> Result<(), Fail> {
+    assert_beginnings_by_ber::<SetOf<u32>>(alloc, octets, false)?;
+    push_set(text, alloc, SetOf::from_ber(alloc, octets))
+}
+
+/// A set of members whose order in hand is any, by DER. Of octets that are accepted all beginnings are tried.
+fn push_hashed_by_der(text: &mut String, alloc: Global, octets: &[u8]) -> Result<(), Fail> {
+    assert_beginnings_by_der::<HashSet<u32>>(alloc, octets, false)?;
+    push_hashed_set(text, alloc, HashSet::from_der(alloc, octets))
+}
+
+/// The same by BER.
+fn push_hashed_by_ber(text: &mut String, alloc: Global, octets: &[u8]) -> Result<(), Fail> {
+    assert_beginnings_by_ber::<HashSet<u32>>(alloc, octets, false)?;
+    push_hashed_set(text, alloc, HashSet::from_ber(alloc, octets))
+}
+
 /// Sets in a set.
 fn push_sets(text: &mut String, alloc: Global, octets: &[u8]) -> Result<(), Fail> {
     let sets = SetOf::<SetOf<u8>>::from_der(alloc, octets)?.1;
@@ -182,8 +206,8 @@ struct Sets;
 impl Calls for Sets {
     fn answer(text: &mut String, alloc: Global, name: &str, octets: &[u8]) -> Result<(), Fail> {
         match name {
-            "SetOf::<u32>::from_der" => push_set(text, alloc, SetOf::from_der(alloc, octets)),
-            "SetOf::<u32>::from_ber" => push_set(text, alloc, SetOf::from_ber(alloc, octets)),
+            "SetOf::<u32>::from_der" => push_set_by_der(text, alloc, octets),
+            "SetOf::<u32>::from_ber" => push_set_by_ber(text, alloc, octets),
             "SetOf::<SetOf<u8>>::from_der" => push_sets(text, alloc, octets),
             "BTreeSet::<u32>::from_der" => push_by_der::<BTreeSet<u32>>(text, alloc, octets),
             "BTreeSet::<u32>::from_ber" => push_by_ber::<BTreeSet<u32>>(text, alloc, octets),
@@ -192,16 +216,8 @@ impl Calls for Sets {
             "BTreeSet::<BTreeSet<u8>>::from_der" => push_by_der::<BTreeSet<BTreeSet<u8>>>(
                 text, alloc, octets,
             ),
-            "HashSet::<u32>::from_der" => push_hashed_set(
-                text,
-                alloc,
-                HashSet::from_der(alloc, octets),
-            ),
-            "HashSet::<u32>::from_ber" => push_hashed_set(
-                text,
-                alloc,
-                HashSet::from_ber(alloc, octets),
-            ),
+            "HashSet::<u32>::from_der" => push_hashed_by_der(text, alloc, octets),
+            "HashSet::<u32>::from_ber" => push_hashed_by_ber(text, alloc, octets),
             _ => push_element_call(text, alloc, name, octets),
         }
     }

@@ -9,7 +9,9 @@ use std::alloc::Global;
 use std::fmt::{Debug, Display, Write};
 use std::test::Fail;
 use test_rows::{Calls, push_debug, push_digits};
-use test_values::{push_by_ber, push_by_der, push_written};
+use test_values::{
+    assert_beginnings_by_ber, assert_beginnings_by_der, push_by_ber, push_by_der, push_written,
+};
 
 /// An error of a caller's own.
 #[derive(Debug, Drop)]
@@ -88,6 +90,18 @@ fn push_header_answer(
     }
 }
 
+/// Appends what the reader of headers answers by DER. Of octets that it accepts all beginnings are tried.
+fn push_header_by_der(text: &mut String, alloc: Global, octets: &[u8]) -> Result<(), Fail> {
+    assert_beginnings_by_der::<Header<'_>>(alloc, octets, false)?;
+    push_header_answer(text, Header::from_der(alloc, octets))
+}
+
+/// The same by BER.
+fn push_header_by_ber(text: &mut String, alloc: Global, octets: &[u8]) -> Result<(), Fail> {
+    assert_beginnings_by_ber::<Header<'_>>(alloc, octets, false)?;
+    push_header_answer(text, Header::from_ber(alloc, octets))
+}
+
 /// Appends an element that was read, and what follows it.
 fn push_read_any(text: &mut String, any: &Any<'_>, rest: &[u8]) -> Result<(), Fail> {
     push_header(text, &any.header)?;
@@ -104,6 +118,18 @@ fn push_any_answer(
         Ok((rest, any)) => push_read_any(text, &any, rest),
         Err(refusal) => push_debug(text, &refusal),
     }
+}
+
+/// Appends what the reader of elements answers by DER. Of octets that it accepts all beginnings are tried.
+fn push_any_by_der(text: &mut String, alloc: Global, octets: &[u8]) -> Result<(), Fail> {
+    assert_beginnings_by_der::<Any<'_>>(alloc, octets, false)?;
+    push_any_answer(text, Any::from_der(alloc, octets))
+}
+
+/// The same by BER.
+fn push_any_by_ber(text: &mut String, alloc: Global, octets: &[u8]) -> Result<(), Fail> {
+    assert_beginnings_by_ber::<Any<'_>>(alloc, octets, false)?;
+    push_any_answer(text, Any::from_ber(alloc, octets))
 }
 
 /// Appends contents octets that were read, and what follows them.
@@ -216,17 +242,37 @@ fn push_value_answer<T: Display + Drop, E: Debug + Drop>(
     }
 }
 
+/// Appends what the reader of a type answers by DER. Of octets that it accepts all beginnings are tried.
+fn push_value_by_der<'a, T: FromDer<'a, Error> + Display + Drop>(
+    text: &mut String,
+    alloc: Global,
+    octets: &'a [u8],
+) -> Result<(), Fail> {
+    assert_beginnings_by_der::<T>(alloc, octets, false)?;
+    push_value_answer(text, T::from_der(alloc, octets))
+}
+
+/// The same by BER.
+fn push_value_by_ber<'a, T: FromBer<'a, Error> + Display + Drop>(
+    text: &mut String,
+    alloc: Global,
+    octets: &'a [u8],
+) -> Result<(), Fail> {
+    assert_beginnings_by_ber::<T>(alloc, octets, false)?;
+    push_value_answer(text, T::from_ber(alloc, octets))
+}
+
 /// The calls of the library.
 pub(crate) struct Library;
 
 impl Calls for Library {
     fn answer(text: &mut String, alloc: Global, name: &str, octets: &[u8]) -> Result<(), Fail> {
         match name {
-            "Header::from_der" => push_header_answer(text, Header::from_der(alloc, octets)),
-            "Header::from_ber" => push_header_answer(text, Header::from_ber(alloc, octets)),
+            "Header::from_der" => push_header_by_der(text, alloc, octets),
+            "Header::from_ber" => push_header_by_ber(text, alloc, octets),
             "Header::write_der" => push_header_again(text, alloc, octets),
-            "Any::from_der" => push_any_answer(text, Any::from_der(alloc, octets)),
-            "Any::from_ber" => push_any_answer(text, Any::from_ber(alloc, octets)),
+            "Any::from_der" => push_any_by_der(text, alloc, octets),
+            "Any::from_ber" => push_any_by_ber(text, alloc, octets),
             "Any::write_der" => push_any_again(text, alloc, octets),
             "any_from_ber_counted" => push_counted(text, octets),
             "Header::parse_ber_content" => push_ber_content(text, alloc, octets),
@@ -246,10 +292,10 @@ impl Calls for Library {
             "Any::from_ber_and_then" => push_first_octet_by_ber(text, octets),
             "Any::parse_der" => push_inner_number(text, alloc, octets),
             "Any::parse_ber" => push_inner_number_by_ber(text, alloc, octets),
-            "u8::from_der" => push_value_answer(text, u8::from_der(alloc, octets)),
-            "u16::from_der" => push_value_answer(text, u16::from_der(alloc, octets)),
-            "u8::from_ber" => push_value_answer(text, u8::from_ber(alloc, octets)),
-            "u64::from_ber" => push_value_answer(text, u64::from_ber(alloc, octets)),
+            "u8::from_der" => push_value_by_der::<u8>(text, alloc, octets),
+            "u16::from_der" => push_value_by_der::<u16>(text, alloc, octets),
+            "u8::from_ber" => push_value_by_ber::<u8>(text, alloc, octets),
+            "u64::from_ber" => push_value_by_ber::<u64>(text, alloc, octets),
             "read_der::<u64>" => push_value_answer(text, read_der::<u64, Error>(alloc, octets)),
             "read_ber::<u64>" => push_value_answer(text, read_ber::<u64, Error>(alloc, octets)),
             "Colour::from_der" => push_by_der::<Colour>(text, alloc, octets),

@@ -7,7 +7,7 @@ use asn1_rs::{
 use std::alloc::Global;
 use std::test::Fail;
 use test_rows::{Calls, Narrow, assert_rows, assert_shown, push_debug};
-use test_values::{push_by_ber, push_by_der, push_value};
+use test_values::{assert_beginnings_by_ber, push_by_ber, push_by_der, push_value};
 
 /// Truth values and nulls. `Boolean` keeps its octet, and its raw form has that.
 /// Values by X.690 8.2, 11.1, 8.8, 8.1.5.
@@ -59,7 +59,7 @@ EndOfContent::from_ber:
 0500 = Err(Error(UnexpectedTag { expected: Some(Tag(0)), actual: Tag(5) }))
 ";
 
-/// Octet strings and bit strings (X.690 8.6.4.2, 8.7).
+/// Octet strings and bit strings (X.690 8.6.2.3, 8.6.4.2, 8.7).
 const STRINGS: &str = "\
 OctetString::from_ber:
 0405+5*41 = 5*41 rest - written 0405+5*41 count 7 5 raw 0405+5*41
@@ -124,6 +124,12 @@ fn push_string(text: &mut String, alloc: Global, octets: &[u8]) -> Result<(), Fa
     push_value(text, &any.as_bitstring())
 }
 
+/// The end of contents octets at the front, by BER. Where it is accepted all beginnings are tried.
+fn push_end(text: &mut String, alloc: Global, octets: &[u8]) -> Result<(), Fail> {
+    assert_beginnings_by_ber::<EndOfContent>(alloc, octets, false)?;
+    push_debug(text, &EndOfContent::from_ber(alloc, octets))
+}
+
 impl Calls for Leaves {
     fn answer(text: &mut String, alloc: Global, name: &str, octets: &[u8]) -> Result<(), Fail> {
         match name {
@@ -135,7 +141,7 @@ impl Calls for Leaves {
             "Null::from_ber" => push_by_ber::<Null>(text, alloc, octets),
             "()::from_der" => push_by_der::<()>(text, alloc, octets),
             "()::from_ber" => push_by_ber::<()>(text, alloc, octets),
-            "EndOfContent::from_ber" => push_debug(text, &EndOfContent::from_ber(alloc, octets)),
+            "EndOfContent::from_ber" => push_end(text, alloc, octets),
             "OctetString::from_ber" => push_by_ber::<OctetString<'_>>(text, alloc, octets),
             "OctetString::from_der" => push_by_der::<OctetString<'_>>(text, alloc, octets),
             "&[u8]::from_der" => push_by_der::<&[u8]>(text, alloc, octets),

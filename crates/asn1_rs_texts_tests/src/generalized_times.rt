@@ -1,9 +1,10 @@
 //! Times of the type GeneralizedTime: how they are read, converted, compared, shown and written (X.690 8.25, 11.7).
 
 use crate::times::{
-    REFUSED, Time, assert_said, assert_writing, element, is_less, push_answer, push_converted,
+    REFUSED, Time, assert_said, assert_writing, element, is_less, push_by_ber, push_by_der,
+    push_converted,
 };
-use asn1_rs::{ASN1DateTime, ASN1TimeZone, FromBer, FromDer, GeneralizedTime};
+use asn1_rs::{ASN1DateTime, ASN1TimeZone, GeneralizedTime};
 use std::alloc::Global;
 use std::test::Fail;
 use test_rows::{Calls, assert_all, assert_rows, assert_texts};
@@ -134,12 +135,8 @@ struct Times;
 impl Calls for Times {
     fn answer(text: &mut String, alloc: Global, name: &str, octets: &[u8]) -> Result<(), Fail> {
         match name {
-            "GeneralizedTime::from_der" => {
-                push_answer(text, alloc, GeneralizedTime::from_der(alloc, octets))
-            }
-            "GeneralizedTime::from_ber" => {
-                push_answer(text, alloc, GeneralizedTime::from_ber(alloc, octets))
-            }
+            "GeneralizedTime::from_der" => push_by_der::<GeneralizedTime>(text, alloc, octets),
+            "GeneralizedTime::from_ber" => push_by_ber::<GeneralizedTime>(text, alloc, octets),
             "GeneralizedTime::from_bytes" => {
                 push_converted(text, alloc, GeneralizedTime::from_bytes(octets))
             }

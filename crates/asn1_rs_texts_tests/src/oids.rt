@@ -1,8 +1,8 @@
 //! Object identifiers: how they are made, read, shown, compared and written (X.690 8.19, 8.20).
 
 use asn1_rs::{
-    Any, DynTagged, Error, FromBer, Oid, OidParseError, ParseResult, SubIdentifierIterator, ToDer,
-    Told,
+    Any, DynTagged, Error, FromBer, FromDer, Oid, OidParseError, ParseResult,
+    SubIdentifierIterator, ToDer, Told,
 };
 use std::alloc::Global;
 use std::borrow::CowSlice;
@@ -12,7 +12,10 @@ use std::test::Fail;
 use test_rows::{
     Calls, assert_rows, assert_shown, assert_text, assert_texts, push_debug, sides, written_out,
 };
-use test_values::{assert_cut, push_by_ber, push_by_der, push_shown, push_written};
+use test_values::{
+    assert_beginnings_by_ber, assert_beginnings_by_der, assert_cut, push_by_ber, push_by_der,
+    push_shown, push_written,
+};
 
 /// What is made of arcs and of texts. X.690 8.19.5 has 2.100.3, and 8.20.5 has 8571.3.2.
 /// The others are by 8.19.2 and 8.19.4.
@@ -265,16 +268,50 @@ fn push_asked(text: &mut String, oid: &Oid<'_>) -> Result<(), Fail> {
     Ok(())
 }
 
+/// A relative identifier, which has readers of its own.
+#[derive(Drop)]
+struct Relative<'a>(Oid<'a>);
+
+impl<'a> FromBer<'a, Error> for Relative<'a> {
+    fn from_ber(_alloc: Global, octets: &'a [u8]) -> ParseResult<'a, Relative<'a>, Error> {
+        match Oid::from_ber_relative(octets) {
+            Ok((rest, oid)) => Ok((rest, Relative(oid))),
+            Err(refusal) => Err(refusal),
+        }
+    }
+}
+
+impl<'a> FromDer<'a, Error> for Relative<'a> {
+    fn from_der(_alloc: Global, octets: &'a [u8]) -> ParseResult<'a, Relative<'a>, Error> {
+        match Oid::from_der_relative(octets) {
+            Ok((rest, oid)) => Ok((rest, Relative(oid))),
+            Err(refusal) => Err(refusal),
+        }
+    }
+}
+
 /// What a reader of relative identifiers answers.
 fn push_relative(
     text: &mut String,
     alloc: Global,
-    answer: ParseResult<'_, Oid<'_>, Error>,
+    answer: ParseResult<'_, Relative<'_>, Error>,
 ) -> Result<(), Fail> {
     match answer {
-        Ok((rest, oid)) => push_shown(text, alloc, &oid, rest, &oid),
+        Ok((rest, Relative(oid))) => push_shown(text, alloc, &oid, rest, &oid),
         Err(refusal) => push_debug(text, &refusal),
     }
+}
+
+/// The reader by BER. Of octets that it accepts all beginnings are tried.
+fn push_relative_by_ber(text: &mut String, alloc: Global, octets: &[u8]) -> Result<(), Fail> {
+    assert_beginnings_by_ber::<Relative<'_>>(alloc, octets, false)?;
+    push_relative(text, alloc, Relative::from_ber(alloc, octets))
+}
+
+/// The same by DER.
+fn push_relative_by_der(text: &mut String, alloc: Global, octets: &[u8]) -> Result<(), Fail> {
+    assert_beginnings_by_der::<Relative<'_>>(alloc, octets, false)?;
+    push_relative(text, alloc, Relative::from_der(alloc, octets))
 }
 
 /// The element at the front, by BER, as an identifier, while it stays and by value.
@@ -323,8 +360,8 @@ impl Calls for Oids {
             "Oid::to_id_string" => push_sizes(text, alloc, &absolute(octets)),
             "Oid::from_der" => push_by_der::<Oid<'_>>(text, alloc, octets),
             "Oid::from_ber" => push_by_ber::<Oid<'_>>(text, alloc, octets),
-            "Oid::from_ber_relative" => push_relative(text, alloc, Oid::from_ber_relative(octets)),
-            "Oid::from_der_relative" => push_relative(text, alloc, Oid::from_der_relative(octets)),
+            "Oid::from_ber_relative" => push_relative_by_ber(text, alloc, octets),
+            "Oid::from_der_relative" => push_relative_by_der(text, alloc, octets),
             "Any::oid" => push_converted(text, alloc, octets),
             "Any::relative_oid" => push_converted_relative(text, alloc, octets),
             "Oid::to_owned" => push_owned(text, alloc, &absolute(octets)),

@@ -11,7 +11,9 @@ use std::borrow::CowStr;
 use std::fmt::Write;
 use std::test::Fail;
 use test_rows::{Calls, assert_rows, assert_shown, push_debug, push_digits};
-use test_values::{assert_cut, assert_written, push_written};
+use test_values::{
+    assert_beginnings_by_ber, assert_beginnings_by_der, assert_cut, assert_written, push_written,
+};
 
 /// Elements as strings whose text is decoded: the text in UTF-8, and how it is written. The octets are those of UTF-16
 /// and UCS-4 (ISO/IEC 10646), the highest first (X.690 8.23.7, 8.23.8),
@@ -283,21 +285,23 @@ fn push_answer<T: Text + ToDer + Drop>(
     }
 }
 
-/// What the reader of a type answers by DER.
+/// What the reader of a type answers by DER. Of octets that it accepts all beginnings are tried.
 fn push_by_der<'a, T: FromDer<'a, Error> + Text + ToDer + Drop>(
     text: &mut String,
     alloc: Global,
     octets: &'a [u8],
 ) -> Result<(), Fail> {
+    assert_beginnings_by_der::<T>(alloc, octets, false)?;
     push_answer(text, alloc, T::from_der(alloc, octets))
 }
 
-/// What the reader of a type answers by BER.
+/// What the reader of a type answers by BER. Of octets that it accepts all beginnings are tried.
 fn push_by_ber<'a, T: FromBer<'a, Error> + Text + ToDer + Drop>(
     text: &mut String,
     alloc: Global,
     octets: &'a [u8],
 ) -> Result<(), Fail> {
+    assert_beginnings_by_ber::<T>(alloc, octets, false)?;
     push_answer(text, alloc, T::from_ber(alloc, octets))
 }
 

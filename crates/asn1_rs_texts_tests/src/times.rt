@@ -10,6 +10,7 @@ use std::test::Fail;
 use test_rows::{
     Calls, assert_all, assert_rows, assert_text, assert_texts, push_debug, push_digits, sides,
 };
+use test_values::{assert_beginnings_by_ber, assert_beginnings_by_der};
 
 /// Texts as contents octets of a UTCTime, by BER and by DER: the fields that these say of them (X.690 8.25), how they
 /// are shown, how many octets are written, and which (X.690 11.8): identifier and length octets, and the text. An
@@ -126,7 +127,7 @@ fn push_refusal(text: &mut String, refusal: &Err<Error>) -> Result<(), Fail> {
 }
 
 /// Appends what a reader of times answers.
-pub(crate) fn push_answer<T: Time>(
+fn push_answer<T: Time>(
     text: &mut String,
     alloc: Global,
     answer: ParseResult<'_, T, Error>,
@@ -135,6 +136,26 @@ pub(crate) fn push_answer<T: Time>(
         Ok((_, time)) => push_time(text, alloc, &time),
         Err(refusal) => push_refusal(text, &refusal),
     }
+}
+
+/// Appends what the reader of a type answers by DER. Of octets that it accepts all beginnings are tried.
+pub(crate) fn push_by_der<'a, T: FromDer<'a, Error> + Time + Drop>(
+    text: &mut String,
+    alloc: Global,
+    octets: &'a [u8],
+) -> Result<(), Fail> {
+    assert_beginnings_by_der::<T>(alloc, octets, false)?;
+    push_answer(text, alloc, T::from_der(alloc, octets))
+}
+
+/// The same by BER.
+pub(crate) fn push_by_ber<'a, T: FromBer<'a, Error> + Time + Drop>(
+    text: &mut String,
+    alloc: Global,
+    octets: &'a [u8],
+) -> Result<(), Fail> {
+    assert_beginnings_by_ber::<T>(alloc, octets, false)?;
+    push_answer(text, alloc, T::from_ber(alloc, octets))
 }
 
 /// Appends what a conversion answers.
@@ -160,8 +181,8 @@ struct Times;
 impl Calls for Times {
     fn answer(text: &mut String, alloc: Global, name: &str, octets: &[u8]) -> Result<(), Fail> {
         match name {
-            "UtcTime::from_der" => push_answer(text, alloc, UtcTime::from_der(alloc, octets)),
-            "UtcTime::from_ber" => push_answer(text, alloc, UtcTime::from_ber(alloc, octets)),
+            "UtcTime::from_der" => push_by_der::<UtcTime>(text, alloc, octets),
+            "UtcTime::from_ber" => push_by_ber::<UtcTime>(text, alloc, octets),
             "UtcTime::from_bytes" => push_converted(text, alloc, UtcTime::from_bytes(octets)),
             "Any::utctime" => push_converted(text, alloc, element(alloc, octets)?.utctime()),
             "Any::as_utctime" => push_converted(text, alloc, element(alloc, octets)?.as_utctime()),

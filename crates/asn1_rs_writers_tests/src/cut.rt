@@ -2,7 +2,7 @@
 
 use asn1_rs::{
     BitString, Boolean, Class, Enumerated, Error, Explicit, FromItems, GeneralizedTime, Implicit,
-    Integer, Null, OctetString, Sequence, SequenceOf, SetOf, TaggedExplicit, TaggedImplicit,
+    Integer, Null, OctetString, Sequence, SequenceOf, Set, SetOf, TaggedExplicit, TaggedImplicit,
     TaggedParser, UtcTime,
 };
 use std::alloc::Global;
@@ -39,8 +39,16 @@ fn writers_of_leaves_are_cut(rt: HostRuntime) -> Result<(), Fail> {
         &OctetString::new(&[0x05, 0x06]),
         &[0x04, 0x02, 0x05, 0x06],
     )?;
+    assert_cut(alloc, &[0x05, 0x06].as_slice(), &[0x04, 0x02, 0x05, 0x06])?;
     let bits = BitString::new(6, &[0x6e, 0x5d, 0xc0]);
     assert_cut(alloc, &bits, &[0x03, 0x04, 0x06, 0x6e, 0x5d, 0xc0])
+}
+
+#[test]
+fn writers_of_texts_are_cut(rt: HostRuntime) -> Result<(), Fail> {
+    let (alloc, octets) = (rt.alloc(), [0x0c, 0x02, 0x61, 0x62]);
+    assert_cut(alloc, &"ab", &octets)?;
+    assert_cut(alloc, &String::from_str(alloc, "ab")?, &octets)
 }
 
 /// The times 91-06-25 06:23:45 Z and 1991-06-25 06:23:45 Z (X.690 11.8, 11.7).
@@ -93,13 +101,17 @@ fn writers_of_sets_are_cut(rt: HostRuntime) -> Result<(), Fail> {
     let hashed = HashSet::from_items(alloc, numbers(alloc)?)?;
     assert_cut(alloc, &hashed, written)?;
     let listed = Vec::from_array(alloc, [SetOf::new(numbers(alloc)?)])?;
-    assert_cut(alloc, &listed, &SETS)
+    assert_cut(alloc, &listed, &SETS)?;
+    let kept = Set::new(CowSlice::Borrowed(&SETS[4..]));
+    assert_cut(alloc, &kept, written)
 }
 
-/// [0] of the list of lists, [0] of 5, and [1] in the place of the number of a list (X.690 8.14).
+/// [0] of the list of lists, [0] of the set, [0] of 5, and [1] in the place of the number of a list (X.690 8.14).
 const EXPLICIT: [u8; 12] = [
     0xa0, 0x0a, 0x30, 0x08, 0x30, 0x06, 0x02, 0x01, 0x02, 0x02, 0x01, 0x01,
 ];
+
+const EXPLICIT_SET: [u8; 10] = [0xa0, 0x08, 0x31, 0x06, 0x02, 0x01, 0x01, 0x02, 0x01, 0x02];
 
 const FIVE: [u8; 5] = [0xa0, 0x03, 0x02, 0x01, 0x05];
 
@@ -110,6 +122,10 @@ fn writers_of_values_under_tags_are_cut(rt: HostRuntime) -> Result<(), Fail> {
     let alloc = rt.alloc();
     let explicit: TaggedExplicit<Vec<Vec<u8>>, Error, 0> = TaggedExplicit::explicit(lists(alloc)?);
     assert_cut(alloc, &explicit, &EXPLICIT)?;
+    let set: TaggedExplicit<SetOf<u8>, Error, 0> = TaggedExplicit::explicit(SetOf::new(numbers(
+        alloc,
+    )?));
+    assert_cut(alloc, &set, &EXPLICIT_SET)?;
     let implicit: TaggedImplicit<Vec<u8>, Error, 1> = TaggedImplicit::implicit(numbers(alloc)?);
     assert_cut(alloc, &implicit, &IMPLICIT)
 }

@@ -4,7 +4,7 @@ use super::{TEXT_SET, TEXTS};
 use asn1_rs::{
     Any, BitString, Err, Error, FromBer, Header, Message, Oid, Sequence, Set, Tag, ToStatic,
 };
-use std::alloc::Global;
+use std::alloc::{AllocError, Global};
 use std::borrow::{CowSlice, CowStr};
 use std::test::Fail;
 use test_values::{Attempts, assert_attempts, is_cloned, is_made, is_octets, is_text, refused};
@@ -44,6 +44,17 @@ fn is_boxed(copied: Result<Box<String>, Error>) -> Option<bool> {
     }
 }
 
+/// A text that is too long for the room in a message.
+const LONG: &str = "no integer of more than 31 octets";
+
+/// Whether it was copied whole into a message; None when out of memory.
+fn is_whole(copied: Result<Message, AllocError>) -> Option<bool> {
+    match copied {
+        Ok(copy) => Some(copy.as_str() == LONG),
+        Err(refusal) => refused(&refusal),
+    }
+}
+
 /// Copies of texts, and of what holds texts.
 struct OfTexts;
 
@@ -57,6 +68,7 @@ impl Attempts for OfTexts {
             "CowSlice" => are_owned(CowSlice::Borrowed(&TEXTS).to_static(alloc)),
             "Option" => is_there(Some("ab").to_static(alloc)),
             "Box" => is_boxed(Box::new(alloc, "ab").ok()?.to_static(alloc)),
+            "Message" => is_whole(Message::copied(alloc, LONG)),
             "Vec" => {
                 let texts = Vec::from_slice(alloc, &["a", "b"]).ok()?;
                 is_made(alloc, texts.to_static(alloc), &TEXTS)
@@ -108,13 +120,13 @@ impl Attempts for OfOctets {
 fn copies_are_refused_for_want_of_memory(rt: HostRuntime) -> Result<(), Fail> {
     let of_texts = ["&str", "String", "a reference", "CowStr", "CowSlice"];
     assert_attempts::<OfTexts>(rt.alloc(), &of_texts)?;
-    assert_attempts::<OfTexts>(rt.alloc(), &["Option", "Box", "Vec"])?;
+    assert_attempts::<OfTexts>(rt.alloc(), &["Option", "Box", "Message", "Vec"])?;
     assert_attempts::<OfOctets>(rt.alloc(), &["Header", "Sequence", "Set"])
 }
 
 /// An error with a text that it owns; None when out of memory.
 fn error(alloc: Global) -> Option<Error> {
-    let msg = Message::from(String::from_str(alloc, "no integer of more than 31 octets").ok()?);
+    let msg = Message::from(String::from_str(alloc, LONG).ok()?);
     Some(Error::InvalidValue { tag: Tag(2), msg })
 }
 

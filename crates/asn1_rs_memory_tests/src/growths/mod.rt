@@ -5,6 +5,7 @@ mod copies;
 mod items;
 mod making;
 mod reading;
+mod tags;
 mod texts;
 
 /// A list of two numbers (X.690 8.10).

@@ -1,14 +1,11 @@
 //! Values that ask for memory: how they are read, converted and written.
 
 use super::{BMP, NUMBERS, SET, SORTED, UNIVERSAL, UTF8};
-use asn1_rs::{
-    BmpString, Error, Explicit, Implicit, SequenceOf, SetOf, TaggedExplicit, TaggedImplicit,
-    TaggedParser, UniversalString,
-};
+use asn1_rs::{BmpString, SequenceOf, SetOf, UniversalString};
 use std::collections::{BTreeSet, HashSet};
 use std::test::Fail;
 use test_values::IntoWriters::{Plain, Sorted};
-use test_values::{assert_converted, assert_lawful, assert_read};
+use test_values::{assert_converted, assert_lawful};
 
 #[test]
 fn strings_are_refused_for_want_of_memory(rt: HostRuntime) -> Result<(), Fail> {
@@ -72,59 +69,16 @@ fn large_sets_are_refused_for_want_of_memory(rt: HostRuntime) -> Result<(), Fail
     assert_converted::<SetOf<u8>>(rt.alloc(), &octets, &written, Sorted)
 }
 
-/// [0] of the list of lists, [0] of the set, and [1] in the place of the string's number (X.690 8.14).
-const EXPLICIT: [u8; 14] = [
-    0xa0, 0x0c, 0x30, 0x0a, 0x30, 0x03, 0x02, 0x01, 0x05, 0x30, 0x03, 0x02, 0x01, 0x06,
-];
-
-const EXPLICIT_SET: [u8; 10] = [0xa0, 0x08, 0x31, 0x06, 0x02, 0x01, 0x01, 0x02, 0x01, 0x02];
-
-const IMPLICIT: [u8; 6] = [0x81, 0x04, 0xd8, 0x3d, 0xde, 0x00];
-
-#[test]
-fn values_under_tags_are_refused_for_want_of_memory(rt: HostRuntime) -> Result<(), Fail> {
-    let alloc = rt.alloc();
-    assert_converted::<TaggedExplicit<Vec<Vec<u8>>, Error, 0>>(alloc, &EXPLICIT, &EXPLICIT, Plain)?;
-    assert_converted::<TaggedExplicit<SetOf<u8>, Error, 0>>(
-        alloc,
-        &EXPLICIT_SET,
-        &EXPLICIT_SET,
-        Sorted,
-    )?;
-    assert_converted::<TaggedImplicit<BmpString<'_>, Error, 1>>(alloc, &IMPLICIT, &IMPLICIT, Plain)
-}
-
-/// [0] of the list of 1 and 2.
-const NUMBERS_TAGGED: [u8; 10] = [0xa0, 0x08, 0x30, 0x06, 0x02, 0x01, 0x01, 0x02, 0x01, 0x02];
-
-#[test]
-fn values_with_their_headers_are_refused_for_want_of_memory(rt: HostRuntime) -> Result<(), Fail> {
-    let alloc = rt.alloc();
-    assert_read::<TaggedParser<'_, Explicit, Vec<u8>, Error>>(
-        alloc,
-        &NUMBERS_TAGGED,
-        &NUMBERS_TAGGED,
-        Plain,
-    )?;
-    assert_read::<TaggedParser<'_, Implicit, BmpString<'_>, Error>>(
-        alloc, &IMPLICIT, &IMPLICIT, Plain,
-    )
-}
-
-#[test]
-fn values_that_may_be_left_out_are_refused_for_want_of_memory(rt: HostRuntime) -> Result<(), Fail> {
-    assert_read::<Option<TaggedImplicit<BmpString<'_>, Error, 1>>>(
-        rt.alloc(),
-        &IMPLICIT,
-        &IMPLICIT,
-        Plain,
-    )
-}
-
 /// The calls whose contracts rest on the laws of the type.
 #[test]
 fn lawful_calls_are_refused_for_want_of_memory(rt: HostRuntime) -> Result<(), Fail> {
     let alloc = rt.alloc();
+    assert_lawful::<String>(alloc, &UTF8, &UTF8, Plain)?;
     assert_lawful::<BmpString<'_>>(alloc, &BMP, &BMP, Plain)?;
-    assert_lawful::<SetOf<u8>>(alloc, &SET, &SORTED, Sorted)
+    assert_lawful::<UniversalString<'_>>(alloc, &UNIVERSAL, &UNIVERSAL, Plain)?;
+    assert_lawful::<Vec<u8>>(alloc, &NUMBERS, &NUMBERS, Plain)?;
+    assert_lawful::<SequenceOf<u8>>(alloc, &NUMBERS, &NUMBERS, Plain)?;
+    assert_lawful::<SetOf<u8>>(alloc, &SET, &SORTED, Sorted)?;
+    assert_lawful::<BTreeSet<u8>>(alloc, &SET, &SORTED, Sorted)?;
+    assert_lawful::<HashSet<u8>>(alloc, &SET, &SORTED, Sorted)
 }

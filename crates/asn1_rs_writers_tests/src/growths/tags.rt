@@ -4,7 +4,7 @@
 use super::{BMP, UTF8};
 use asn1_rs::{
     Any, BmpString, Class, Err, Error, Explicit, FromBer, FromDer, Header, Implicit, Length,
-    OptTaggedParser, ParseResult, Tag, TaggedParser, TaggedParserBuilder,
+    OptTaggedParser, ParseResult, Sequence, Set, Tag, TaggedParser, TaggedParserBuilder,
     parse_der_tagged_explicit, parse_der_tagged_explicit_g, parse_der_tagged_implicit,
     parse_der_tagged_implicit_g,
 };
@@ -95,6 +95,38 @@ impl Attempts for HandedOn {
     }
 }
 
+/// A sequence of a text (X.690 8.9), and a set of it.
+const SEQUENCE: [u8; 6] = [0x30, 0x04, 0x0c, 0x02, 0x61, 0x62];
+
+const SET: [u8; 6] = [0x31, 0x04, 0x0c, 0x02, 0x61, 0x62];
+
+/// What hands the contents octets of an element, a sequence or a set to a closure that reads a text.
+struct OfContents;
+
+impl Attempts for OfContents {
+    fn seen(alloc: Global, name: &str) -> Option<bool> {
+        let octets = &TAGGED_TEXT;
+        let answer: ParseResult<'_, String, Error> = match name {
+            "Any by BER" => {
+                Any::from_ber_and_then(CLASS, 0, octets, |i| String::from_ber(alloc, i))
+            }
+            "Any by DER" => {
+                Any::from_der_and_then(CLASS, 0, octets, |i| String::from_der(alloc, i))
+            }
+            "Sequence by BER" => {
+                Sequence::from_ber_and_then(&SEQUENCE, |i| String::from_ber(alloc, i))
+            }
+            "Sequence by DER" => {
+                Sequence::from_der_and_then(&SEQUENCE, |i| String::from_der(alloc, i))
+            }
+            "Set by BER" => Set::from_ber_and_then(&SET, |i| String::from_ber(alloc, i)),
+            "Set by DER" => Set::from_der_and_then(&SET, |i| String::from_der(alloc, i)),
+            _ => return Some(false),
+        };
+        is_read(alloc, answer, &UTF8)
+    }
+}
+
 /// A closure that is out of memory.
 fn content_wants<'a>(_content: &'a [u8], _header: Header<'a>) -> ParseResult<'a, u8, Error> {
     Err(Err::Error(Error::OutOfMemory))
@@ -134,6 +166,14 @@ impl Attempts for PassedOn {
 #[test]
 fn closures_are_refused_for_want_of_memory(rt: HostRuntime) -> Result<(), Fail> {
     assert_attempts::<HandedOn>(rt.alloc(), &["from_ber_and_then", "from_der_and_then"])?;
+    assert_attempts::<OfContents>(rt.alloc(), &["Any by BER", "Any by DER"])?;
+    let kept = [
+        "Sequence by BER",
+        "Sequence by DER",
+        "Set by BER",
+        "Set by DER",
+    ];
+    assert_attempts::<OfContents>(rt.alloc(), &kept)?;
     let passed_on = [
         "parse_der_tagged_explicit_g",
         "parse_der_tagged_implicit_g",

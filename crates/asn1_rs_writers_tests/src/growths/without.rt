@@ -3,13 +3,13 @@
 use super::UTF8;
 use crate::cut::{GENERALIZED, UTC};
 use asn1_rs::{
-    Any, BitString, Boolean, CheckDerConstraints, Class, DerParser, EmbeddedPdv, EndOfContent,
-    Enumerated, Err, Error, Explicit, FromBer, FromDer, FromItems, GeneralString, GeneralizedTime,
-    GraphicString, Header, Ia5String, Implicit, Integer, Length, Null, NumericString,
-    ObjectDescriptor, OctetString, Oid, PrintableString, Sequence, SequenceIterator, SequenceOf,
-    Set, SetOf, Steps, Tag, TaggedExplicit, TaggedImplicit, TaggedParser, TeletexString,
-    TestValidCharset, ToDer, ToStatic, UtcTime, Utf8String, VideotexString, VisibleString,
-    any_from_ber_counted,
+    Any, BitString, BmpString, Boolean, CheckDerConstraints, Class, DerParser, EmbeddedPdv,
+    EndOfContent, Enumerated, Err, Error, Explicit, FromAny, FromBer, FromDer, FromItems,
+    GeneralString, GeneralizedTime, GraphicString, Header, Ia5String, Implicit, Integer, Length,
+    Message, Null, NumericString, ObjectDescriptor, OctetString, Oid, PrintableString, Sequence,
+    SequenceIterator, SequenceOf, Set, SetOf, Steps, Tag, TaggedExplicit, TaggedImplicit,
+    TaggedParser, TeletexString, TestValidCharset, ToDer, ToStatic, UtcTime, Utf8String,
+    VideotexString, VisibleString, any_from_ber_counted, read_ber, read_der,
 };
 use std::alloc::Global;
 use std::borrow::CowSlice;
@@ -100,12 +100,59 @@ const PDV: [u8; 15] = [
     0x2b, 0x0d, 0xa0, 0x07, 0x81, 0x05, 0x2a, 0x03, 0x04, 0x05, 0x06, 0x82, 0x02, 0xaa, 0xa0,
 ];
 
-/// Whether such a value was read.
-fn is_pdv(answer: Result<(&[u8], EmbeddedPdv<'_>), Err<Error>>) -> Option<bool> {
+/// Whether such a value was made.
+fn is_pdv(answer: Result<EmbeddedPdv<'_>, Error>) -> Option<bool> {
     match answer {
-        Ok((_, pdv)) => Some(pdv.data_value.len() == 2),
+        Ok(pdv) => Some(pdv.data_value == [0xaa, 0xa0].as_slice()),
         Err(_) => Some(false),
     }
+}
+
+/// Whether such a value was read, with nothing behind it.
+fn is_read_pdv(answer: Result<(&[u8], EmbeddedPdv<'_>), Err<Error>>) -> Option<bool> {
+    match answer {
+        Ok((rest, pdv)) => { Some(rest.is_empty() && pdv.data_value == [0xaa, 0xa0].as_slice()) }
+        Err(_) => Some(false),
+    }
+}
+
+/// Readers, the check and conversions of such a value.
+struct Pdvs;
+
+impl Attempts for Pdvs {
+    fn seen(alloc: Global, name: &str) -> Option<bool> {
+        let header = Header::new(
+            Class::Universal,
+            true,
+            Tag::EmbeddedPdv,
+            Length::Definite(13),
+        );
+        let any = Any::new(header, &PDV[2..]);
+        match name {
+            "from_ber" => is_read_pdv(EmbeddedPdv::from_ber(alloc, &PDV)),
+            "from_der" => is_read_pdv(EmbeddedPdv::from_der(alloc, &PDV)),
+            "read_ber" => is_read_pdv(read_ber(alloc, &PDV)),
+            "read_der" => is_read_pdv(read_der(alloc, &PDV)),
+            "check_constraints" => Some(EmbeddedPdv::check_constraints(&any).is_ok()),
+            "try_from_any" => is_pdv(EmbeddedPdv::try_from_any(alloc, any)),
+            "embedded_pdv" => is_pdv(any.embedded_pdv()),
+            "as_embedded_pdv" => is_pdv(any.as_embedded_pdv()),
+            _ => Some(false),
+        }
+    }
+}
+
+#[test]
+fn no_memory_is_asked_for_pdvs(rt: HostRuntime) -> Result<(), Fail> {
+    let read = ["from_ber", "from_der", "read_ber", "read_der"];
+    let converted = [
+        "check_constraints",
+        "try_from_any",
+        "embedded_pdv",
+        "as_embedded_pdv",
+    ];
+    assert_no_growths::<Pdvs>(rt.alloc(), &read)?;
+    assert_no_growths::<Pdvs>(rt.alloc(), &converted)
 }
 
 /// Whether an element of an indefinite length is read by BER, which holds a null.
@@ -165,6 +212,33 @@ fn is_error_made() -> Option<bool> {
     Some(is_tag && is_class)
 }
 
+/// Whether the assertions of a tag number and of a class hold.
+fn is_equality_asserted() -> Option<bool> {
+    let is_tag = Tag(2).assert_eq(Tag(2)).is_ok();
+    let is_class = Class::Private.assert_eq(Class::Private).is_ok();
+    let no_tag = Tag(2).assert_eq(Tag(4)) == Err(Error::unexpected_tag(Some(Tag(4)), Tag(2)));
+    let no_class = Class::Private.assert_eq(Class::Universal)
+        == Err(Error::unexpected_class(Some(Class::Universal), Class::Private));
+    Some(is_tag && is_class && no_tag && no_class)
+}
+
+/// Whether a refusal of a value says so of the number 2.
+fn is_invalid_value(refusal: Error, text: &str) -> bool {
+    match refusal {
+        Error::InvalidValue { tag, msg } => tag == Tag(2) && msg.as_str() == text,
+        _ => false,
+    }
+}
+
+/// Whether the refusals of a value are made. Of a longer text they have the first 30 octets.
+fn is_invalid_value_made() -> Option<bool> {
+    let short = Tag(2).invalid_value("no date");
+    let long = Tag(2).invalid_value("an integer of more than 31 octets");
+    let given = Error::invalid_value(Tag(2), Message::short("no date"));
+    let is_short = is_invalid_value(short, "no date") && is_invalid_value(given, "no date");
+    Some(is_short && is_invalid_value(long, "an integer of more than 31 oct"))
+}
+
 /// Calls that are no reader of a type with a writer.
 struct Others;
 
@@ -172,17 +246,15 @@ impl Attempts for Others {
     fn seen(alloc: Global, name: &str) -> Option<bool> {
         match name {
             "EndOfContent" => Some(EndOfContent::from_ber(alloc, &[0, 0]).is_ok()),
-            "EmbeddedPdv by BER" => is_pdv(EmbeddedPdv::from_ber(alloc, &PDV)),
-            "EmbeddedPdv by DER" => is_pdv(EmbeddedPdv::from_der(alloc, &PDV)),
             "an element" => is_counted_element(),
             "arcs" => are_arcs(),
             "a walk" => is_walked(alloc),
             "left out by BER" => is_left_out(<Option<Vec<u8>>>::from_ber(alloc, &FIVE)),
             "left out by DER" => is_left_out(<Option<Vec<u8>>>::from_der(alloc, &FIVE)),
-            "characters" => Some(Utf8String::test_valid_charset(&UTF8[2..]).is_ok()),
-            "no characters" => Some(Utf8String::test_valid_charset(&[0xff]).is_err()),
             "assertions" => is_asserted(),
+            "equalities" => is_equality_asserted(),
             "errors" => is_error_made(),
+            "invalid values" => is_invalid_value_made(),
             _ => Some(false),
         }
     }
@@ -192,8 +264,6 @@ impl Attempts for Others {
 fn no_memory_is_asked_for_other_calls(rt: HostRuntime) -> Result<(), Fail> {
     let readers = [
         "EndOfContent",
-        "EmbeddedPdv by BER",
-        "EmbeddedPdv by DER",
         "an element",
         "a walk",
         "left out by BER",
@@ -201,13 +271,58 @@ fn no_memory_is_asked_for_other_calls(rt: HostRuntime) -> Result<(), Fail> {
     ];
     let others = [
         "arcs",
-        "characters",
-        "no characters",
         "assertions",
+        "equalities",
         "errors",
+        "invalid values",
     ];
     assert_no_growths::<Others>(rt.alloc(), &readers)?;
     assert_no_growths::<Others>(rt.alloc(), &others)
+}
+
+/// Whether the digit 1 is a text of the type, and these octets are none.
+fn is_tested<T: TestValidCharset>(digit: &[u8], none: &[u8]) -> Option<bool> {
+    let is_refused = T::test_valid_charset(none) == Err(Error::StringInvalidCharset);
+    Some(T::test_valid_charset(digit).is_ok() && is_refused)
+}
+
+/// Tests of characters, by their types (X.680 41, X.690 8.23).
+struct Characters;
+
+impl Attempts for Characters {
+    fn seen(_alloc: Global, name: &str) -> Option<bool> {
+        match name {
+            "Utf8String" => is_tested::<Utf8String<'_>>(b"1", &[0xff]),
+            "NumericString" => is_tested::<NumericString<'_>>(b"1", b"a"),
+            "PrintableString" => is_tested::<PrintableString<'_>>(b"1", b"@"),
+            "TeletexString" => is_tested::<TeletexString<'_>>(b"1", &[0x80]),
+            "VideotexString" => is_tested::<VideotexString<'_>>(b"1", &[0x80]),
+            "Ia5String" => is_tested::<Ia5String<'_>>(b"1", &[0x80]),
+            "GraphicString" => is_tested::<GraphicString<'_>>(b"1", &[0x80]),
+            "VisibleString" => is_tested::<VisibleString<'_>>(b"1", &[0x80]),
+            "GeneralString" => is_tested::<GeneralString<'_>>(b"1", &[0x80]),
+            "ObjectDescriptor" => is_tested::<ObjectDescriptor<'_>>(b"1", &[0x80]),
+            "BmpString" => is_tested::<BmpString<'_>>(&[0x00, 0x31], &[0xd8, 0x00]),
+            _ => Some(false),
+        }
+    }
+}
+
+#[test]
+fn no_memory_is_asked_for_tests_of_characters(rt: HostRuntime) -> Result<(), Fail> {
+    let by_octet = [
+        "NumericString",
+        "PrintableString",
+        "TeletexString",
+        "VideotexString",
+        "Ia5String",
+        "GraphicString",
+        "VisibleString",
+        "GeneralString",
+        "ObjectDescriptor",
+    ];
+    assert_no_growths::<Characters>(rt.alloc(), &by_octet)?;
+    assert_no_growths::<Characters>(rt.alloc(), &["Utf8String", "BmpString"])
 }
 
 /// Asserts how a list of 1 and 2 is checked and counted.
