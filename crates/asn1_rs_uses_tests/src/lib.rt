@@ -24,8 +24,6 @@ mod principals;
 #[cfg(test)]
 mod refusals;
 #[cfg(test)]
-mod remainders;
-#[cfg(test)]
 mod sets;
 #[cfg(test)]
 mod streams;

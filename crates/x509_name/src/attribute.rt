@@ -8,11 +8,11 @@ ghost use Rattle.x509_name.specs.Laws.Attribute.{attribute_lawful};
 ghost use Rattle.x509_name.specs.Laws.Reading.{attribute_exact, attribute_no_memory};
 ghost use Rattle.x509_name.specs.Laws.Writing.{attribute_lawful_writing, attribute_number};
 
-use crate::header::{add_counts, element_len, prepend_header, put_header};
+use crate::header::{add_counts, element_len, prepend_header, put_header, sum_of_written};
 use asn1_rs::{
     Any, DerBuffer, DerConstraint, DerWrite, ElementKind, Err, Error, FromDer, HasKind, LawfulDer,
     LawfulElement, LawfulItem, LawfulTagged, LawfulWrite, Oid, ParseResult, SerializeResult, Tag,
-    TagNumber, TaggedAs, ToDer, add_written, refusal_of_count,
+    TagNumber, TaggedAs, ToDer, refusal_of_count,
 };
 use std::alloc::Global;
 
@@ -122,13 +122,13 @@ impl ToDer for AttributeTypeAndValue<'_> {
     fn write_der_content<W: DerWrite>(&self, alloc: Global, w: &mut W) -> SerializeResult<usize> {
         let oid = self.oid.write_der(alloc, w)?;
         let value = self.value.write_der(alloc, w)?;
-        add_written(oid, value)
+        sum_of_written(oid, value)
     }
 
     fn prepend_der_content(&self, alloc: Global, buf: &mut DerBuffer) -> SerializeResult<usize> {
         let value = self.value.prepend_der(alloc, buf)?;
         let oid = self.oid.prepend_der(alloc, buf)?;
-        add_written(oid, value)
+        sum_of_written(oid, value)
     }
 
     fn prepend_der(&self, alloc: Global, buf: &mut DerBuffer) -> SerializeResult<usize> {

@@ -3,11 +3,11 @@ ghost use Rattle.std.specs.Prelude.{◌≡◌, ◌<◌, ◌++◌, ◌+◌, ℕ, 
 ghost use Rattle.x690.specs.Strict.{header_octets};
 ghost use Rattle.asn1_headers.specs.Header.Writing.{strict_header};
 ghost use Rattle.asn1_headers.specs.Prepended.{Prepended};
-ghost use Rattle.asn1_headers.specs.Writer.{Wrote, MayRefuse};
+ghost use Rattle.asn1_headers.specs.Writer.{Wrote, MayRefuse, SumsWritten};
 ghost use Rattle.asn1_rs.specs.ToDer.{MayRefuseCount, SumsCounts};
 
 use asn1_rs::{
-    Class, DerBuffer, DerWrite, Error, Header, Length, SerializeResult, Tag, ToDer, add_written,
+    Class, DerBuffer, DerWrite, Error, Header, Length, SerializeError, SerializeResult, Tag, ToDer,
 };
 use std::alloc::Global;
 
@@ -35,6 +35,18 @@ pub(crate) fn add_counts(before: usize, after: usize) -> Result<usize, Error>
     ensures { SumsCounts before after result }
 {
     before.checked_add(after).ok_or(Error::InvalidLength)
+}
+
+/// The sum of two numbers of octets that were written or put in front.
+// A match, and no `ok_or`, which would make the refusal, of 96 octets, before it is known that there is one.
+#[inline(always)]
+pub(crate) fn sum_of_written(before: usize, after: usize) -> SerializeResult<usize>
+    ensures { SumsWritten before after result }
+{
+    match before.checked_add(after) {
+        Some(sum) => Ok(sum),
+        None => Err(SerializeError::InvalidLength),
+    }
 }
 
 /// Appends the header of such an element.
@@ -67,5 +79,5 @@ pub(crate) fn prepend_header(
         (length (header_octets 0 true tag.0 (length content) ++ content) + length old)) }
 {
     let before = header(tag, count).prepend_der(alloc, buf)?;
-    add_written(before, count)
+    sum_of_written(before, count)
 }

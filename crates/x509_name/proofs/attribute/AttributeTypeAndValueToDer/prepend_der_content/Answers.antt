@@ -15,5 +15,5 @@ returns-in_err-oid-clause-prepended c = λ t.
     rw (p.1, p.2) (Prepended_first (c.in_ok-value.ensures.prepended tt) (c.in_err-oid.ensures.prepended tt))
 
 pub returns-clause-prepended : goal.returns-clause-prepended
-returns-clause-prepended c = λ t. Prepended_sum c.add_written.result (c.in_ok-value.ensures.prepended tt)
-    (c.in_ok-oid.ensures.prepended tt) c.add_written.ensures
+returns-clause-prepended c = λ t. Prepended_sum c.sum_of_written.result (c.in_ok-value.ensures.prepended tt)
+    (c.in_ok-oid.ensures.prepended tt) c.sum_of_written.ensures

@@ -15,6 +15,6 @@ returns-in_err-value-clause-wrote g c = λ t.
     rw (p.1, p.2) (Wrote_then_err (c.in_ok-oid.ensures.wrote tt) c.in_err-value.ensures.wrote)
 
 pub returns-clause-wrote : goal.returns-clause-wrote
-returns-clause-wrote g c = λ t. Wrote_sum c.add_written.result (c.in_ok-oid.ensures.wrote tt)
+returns-clause-wrote g c = λ t. Wrote_sum c.sum_of_written.result (c.in_ok-oid.ensures.wrote tt)
     c.in_ok-value.ensures.wrote
-    c.add_written.ensures
+    c.sum_of_written.ensures

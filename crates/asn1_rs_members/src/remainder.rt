@@ -6,8 +6,8 @@ ghost use Rattle.std.specs.Hash as fed;
 ghost use Rattle.std.specs.Ordering.{on, nat_cmp, as_partial_cmp};
 ghost use Rattle.std.proofs.Common.{rules, ap};
 ghost use Rattle.x690.specs.Integers.{unsigned_octets};
-ghost use Rattle.asn1_rs_uses.specs.Remainders.{remainder, valued_reading, valued_exact, valued_written};
-ghost use Rattle.asn1_rs_uses.specs.Remainders.{whole as value};
+ghost use Rattle.asn1_rs_members.specs.Remainders.{remainder, valued_reading, valued_exact, valued_written};
+ghost use Rattle.asn1_rs_members.specs.Remainders.{whole as value};
 
 use asn1_rs::{
     Any, ConvertsLeaf, DerBuffer, DerElement, DerWrite, ElementKind, Error, HasKind, LeafType,

@@ -17,7 +17,7 @@ use Rattle.asn1_rs.specs.Laws.Integer.{integer_checks, integer_lawful, integer_w
 use Rattle.asn1_rs.specs.Laws.Integer.Unsigned.{unsigned_converts}
 use Rattle.asn1_rs.specs.LeafReading.{LeafReading, IsExactReading}
 use Rattle.asn1_rs.specs.Traits.{OfParts}
-use Rattle.asn1_rs_uses.specs.declared.remainder.Remainder.{Remainder}
+use Rattle.asn1_rs_members.specs.declared.remainder.Remainder.{Remainder}
 
 -- the whole number
 abbrev pub whole : ℕ → ℕ

@@ -1,7 +1,7 @@
 //! Numbers that are compared by their last digit: read, collected in sets and written.
 
+use crate::{Remainder, are_same_numbers};
 use asn1_rs::{FromDer, ToDer};
-use asn1_rs_uses::{Remainder, are_same_numbers};
 use std::collections::{BTreeSet, HashSet};
 use std::test::Fail;
 use test_rows::{assert_all, assert_shown};
