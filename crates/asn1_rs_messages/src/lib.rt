@@ -7,6 +7,8 @@
 mod alarm;
 mod measurement;
 mod public_key;
+mod source;
+mod time;
 
 pub use alarm::{Alarm, AlarmRow, Muted, alarm_vec, read_alarm, read_alarm_by_ber};
 pub use measurement::{
@@ -15,4 +17,9 @@ pub use measurement::{
 pub use public_key::{
     AlgorithmIdentifier, AlgorithmRow, PublicKeyRow, SubjectPublicKeyInfo, public_key_vec,
     read_algorithm, read_public_key,
+};
+pub use source::{Name, Place, Source, SourceArms, read_source, read_source_by_ber, source_vec};
+pub use time::{
+    TaggedTime, Time, TimeArms, read_tagged_time, read_time, read_time_by_ber, read_time_set,
+    read_times, time_vec, times_vec,
 };
