@@ -69,3 +69,7 @@ FormTakes {V} Form Check Body class = (v : V) (i : Identifier) (c : List ℕ) �
 -- they have this tag number
 abbrev pub FormNumber : {V : Type 0} → (V → Identifier → List ℕ → Type 0) → ℕ → Type 0
 FormNumber {V} Form number = (v : V) (i : Identifier) (c : List ℕ) → Form v i c → i.number ≡ number
+
+-- they are of this class
+abbrev pub FormClass : {V : Type 0} → (V → Identifier → List ℕ → Type 0) → ℕ → Type 0
+FormClass {V} Form class = (v : V) (i : Identifier) (c : List ℕ) → Form v i c → i.class ≡ class

@@ -30,6 +30,7 @@ pub mod Lists
 pub mod Set
 pub mod Kept
 pub mod Tagged
+pub mod Choices
 pub mod Structs
 pub mod Whole
 pub mod InHand

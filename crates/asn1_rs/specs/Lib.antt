@@ -31,5 +31,6 @@ pub mod Kept
 pub mod Copies
 pub mod Tagged
 pub mod Structs
+pub mod Choices
 pub mod Whole
 pub mod Laws

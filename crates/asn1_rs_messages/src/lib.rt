@@ -10,6 +10,8 @@ mod measurement;
 mod public_key;
 mod reminder;
 mod settings;
+mod source;
+mod time;
 
 pub use alarm::{Alarm, AlarmRow, Muted, alarm_vec, read_alarm, read_alarm_by_ber};
 pub use extension::{
@@ -28,4 +30,9 @@ pub use reminder::{
 pub use settings::{
     FirstVersion, Hundred, Limit, MinusOne, NoRooms, Plain, Settings, SettingsRow, Version,
     read_settings, read_settings_by_ber,
+};
+pub use source::{Name, Place, Source, SourceArms, read_source, read_source_by_ber, source_vec};
+pub use time::{
+    TaggedTime, Time, TimeArms, read_tagged_time, read_time, read_time_by_ber, read_time_set,
+    read_times, time_vec, times_vec,
 };

@@ -1,7 +1,7 @@
 -- What a type says of its values and grammars, and what makes that lawful.
 use Rattle.std.specs.Prelude.{ℕ, Bool, List}
 use Rattle.x690.specs.Identifiers.{Identifier}
-use Rattle.x690.specs.Elements.{Parts, ArePossible}
+use Rattle.x690.specs.Elements.{Parts, ArePossible, IsDerElement}
 use Rattle.x690.specs.Joined.{IsOneFront}
 use Rattle.asn1_rs.specs.Grammar.Form.{IsOneForm, IsOneValue, FitsElement, HasValues, IsStrict, WritesByValue}
 use Rattle.asn1_rs.specs.Grammar.Form.{WritesForm, HasForm}
@@ -28,13 +28,14 @@ pub record ItemGrammar (S : Type 0) : Type 1 where
 abbrev pub ber_words : {S : Type 0} (G : ItemGrammar S) → List ℕ → G.Value → Type 0
 ber_words G = BerWord G.Body
 
--- Two values are equal in one way at most, so that they are equal where they are up to a proof that is not in hand.
--- Words, bodies and strict parts have values of the type. One word alone begins an input, and a body has one value. A
+-- Two values are equal in one way at most, so that they are equal where they are up to a proof that is not in hand. A
+-- word by DER is an element of definite length, as each by BER is an element. Words, bodies and strict parts have values of the type. One word alone begins an input, and a body has one value. A
 -- value has one strict identifier and content; these fit an element, meet the constraints and have one value, which is
 -- in DER form; and the strict encoding that they make is a word by BER and by DER. `form_check` is asked of a type
 -- without a check too: an implicit tag over a list asks it of the list, whatever its items are.
 pub record IsLawfulItem {S : Type 0} (G : ItemGrammar S) : Type 0 where
   pub one_equality : IsSet G.Value
+  pub der_element : (o : List ℕ) (v : G.Value) → G.Der o v → (p : Parts) × IsDerElement o p
   pub der_values : (o : List ℕ) (v : G.Value) → G.Der o v → G.IsValue v
   pub body_values : (p : Parts) (v : G.Value) → ArePossible p → G.Body p v → G.IsValue v
   pub form_values : HasValues G.Form G.IsValue

@@ -26,6 +26,7 @@ end_lawful = record {
 pub lawful_by_ber_alone : {S : Type 0} (L : Leaf S) → IsLawfulLeaf L → IsLawfulItem (by_ber_alone L)
 lawful_by_ber_alone L l = record {
   one_equality = l.one_equality;
+  der_element = λ o v w. absurd w;
   der_values = λ o v w. absurd w;
   body_values = λ p v o b. l.says_value p v o b.0.1 b.1;
   form_values = λ v i c f. absurd f;

@@ -23,6 +23,7 @@ use Rattle.asn1_rs.specs.Laws.Words.{word_one, strict_der_word}
 pub lawful_item : {S : Type 0} (G : ElementGrammar S) → IsLawfulElement G → IsLawfulItem (item_grammar G)
 lawful_item G l = record {
   one_equality = l.one_equality;
+  der_element = λ o v w. (w.0, w.1);
   der_values = λ o v w. l.body_values w.0 v (der_elements.possible o w.0 w.1) w.3;
   body_values = l.body_values;
   form_values = l.form_values;
@@ -43,6 +44,7 @@ lawful_item G l = record {
 pub lawful_by_held : {S T : Type 0} (held : T → S) (G : ItemGrammar S) → IsLawfulItem G → IsLawfulItem (by_held held G)
 lawful_by_held held G l = record {
   one_equality = l.one_equality;
+  der_element = l.der_element;
   der_values = l.der_values;
   body_values = l.body_values;
   form_values = l.form_values;

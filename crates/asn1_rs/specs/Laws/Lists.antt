@@ -192,6 +192,7 @@ pub list_lawful : {S W : Type 0} (number : ℕ) → number < 31 → (items : W �
     IsLawfulItem G → IsLawfulItem (list_grammar number items G)
 list_lawful number small items G l = record {
   one_equality = list_set l.one_equality;
+  der_element = λ o v w. (w.0, w.1);
   der_values = λ o vs w. list_body_values (HasNumber number) G.Der G.IsValue l.der_values w.0 vs w.3;
   body_values = λ p vs o b. list_body_values (IsConstructed number) (ber_words G) G.IsValue (ber_values G l) p vs b;
   form_values = list_form_values G.Form number G.IsValue l.form_values;

@@ -194,6 +194,7 @@ module _ {S W M : Type 0} (G : ItemGrammar S) (l : IsLawfulItem G) (of : List G.
       IsLawfulItem (set_grammar {W = W} G of worth Each DerBody)
   set_lawful equality DerBody one values bodies = record {
     one_equality = equality;
+    der_element = λ o v w. (w.0, w.1);
     der_values = λ o m w. values w.0 m w.3;
     body_values = λ p m o b. body_values_of p m b;
     form_values = set_form_values of Each G.Form G.IsValue l.form_values;

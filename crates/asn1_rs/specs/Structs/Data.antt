@@ -2,15 +2,16 @@
 -- where a type can be quoted, and what holds a struct needs no bound on its fields.
 use Rattle.std.specs.Prelude.{◌≡◌, ◌≢◌, ◌&&◌, ◌<◌, ◌^◌, ℕ, Bool, true, false, List, [], ◌∷◌, Option, Result, Ok, Err}
 use Rattle.std.specs.Prelude.{IfErr}
-use Rattle.std.proofs.Common.{lit<}
+use Rattle.std.proofs.Common.{lit<, ap}
 use Rattle.x690.specs.Octets.{IsOctets}
+use Rattle.x690.specs.Identifiers.{Identifier}
 use Rattle.asn1_headers.specs.declared.error.Err.{Err as Refusal}
 use Rattle.asn1_headers.specs.declared.error.Error.{Error}
 use Rattle.asn1_headers.specs.declared.error.Error.TheVariants as errors
 use Rattle.asn1_headers.specs.Answers.{IsOther}
 use Rattle.asn1_headers.specs.Error.{HeldIn}
 use Rattle.asn1_rs.specs.Fields.{FieldList, no_fields, fields_writing}
-use Rattle.asn1_rs.specs.Grammar.{FormNumber, FormTakes}
+use Rattle.asn1_rs.specs.Grammar.{FormNumber, FormClass, FormTakes}
 use Rattle.asn1_rs.specs.Grammar.Item.{ItemGrammar, IsLawfulItem, IsLawfulWriting}
 use Rattle.asn1_rs.specs.Optional.{option_writing}
 use Rattle.asn1_rs.specs.ToDer.{Writing}
@@ -22,9 +23,10 @@ use Rattle.asn1_rs.specs.Laws.Structs.Rows.{IsLawfulRow, empty_lawful, row_lawfu
 use Rattle.asn1_rs.specs.Laws.Structs.Structs.{struct_lawful, struct_number, struct_takes_class}
 use Rattle.asn1_rs.specs.Laws.Structs.Writing.{IsLawfulPuts, empty_puts, row_puts, struct_lawful_writing}
 
--- A type of items with a tag number, and which classes of implicit tags may stand over it. Its laws hold where it is
+-- A type of items with a class and a tag number, and which classes of implicit tags may stand over it. Its laws hold where it is
 -- sound, as a value under an implicit tag is where its type takes the class of the tag.
 pub record LawfulTypeOf (S : Type 0) : Type 1 where
+  pub class : ℕ
   pub number : ℕ
   pub grammar : ItemGrammar S
   pub writing : Writing S
@@ -32,6 +34,7 @@ pub record LawfulTypeOf (S : Type 0) : Type 1 where
   pub sound : Bool
   pub lawful : sound ≡ true → IsLawfulItem grammar
   pub numbered : FormNumber grammar.Form number
+  pub classed : FormClass grammar.Form class
   pub fits : number < 2 ^ 32
   pub written : sound ≡ true → IsLawfulWriting grammar writing
   pub takes_class : sound ≡ true → (class : ℕ) → takes class ≡ true →
@@ -127,6 +130,7 @@ writing_of_struct T = fields_writing 16 (fields_by T.as_row T.row.list)
 -- a struct is a lawful type
 abbrev pub struct_type : {T : Type 0} → LawfulStructOf T → LawfulTypeOf T
 struct_type T = record {
+  class = 0;
   number = 16;
   grammar = grammar_of_struct T;
   writing = writing_of_struct T;
@@ -134,6 +138,7 @@ struct_type T = record {
   sound = true;
   lawful = λ s. struct_lawful T.row.grammar T.lawful T.told T.as_row;
   numbered = struct_number T.row.grammar;
+  classed = λ v i c f. ap (λ (z : Identifier). z.class) f.0;
   fits = lit< tt;
   written = λ s. struct_lawful_writing T.as_row T.row.grammar T.row.list T.puts;
   takes_class = λ s class t. struct_takes_class T.row.grammar T.lawful T.told class;

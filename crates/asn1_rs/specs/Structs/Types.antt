@@ -2,8 +2,9 @@
 use Rattle.std.specs.Prelude.{◌≡◌, ◌∷◌, ◌&&◌, nat_eq, ℕ, ℤ, Bool, true, false, refl, Option, List, [], ◌<◌, IsTrue, pos}
 use Rattle.std.specs.Char.{is_ascii}
 use Rattle.std.specs.Str.{IsUtf8}
-use Rattle.std.proofs.Common.{lit<}
+use Rattle.std.proofs.Common.{lit<, ap}
 use Rattle.x690.specs.Collections.{multiset, AnyList}
+use Rattle.x690.specs.Identifiers.{Identifier}
 use Rattle.x690.specs.Integers.{IsIntegerContent, unsigned_octets}
 use Rattle.x690.specs.Sets.{AllIn, is_numeric, is_printable, is_visible}
 use Rattle.x690.specs.Signed.{IsSigned, signed_octets}
@@ -67,6 +68,7 @@ abbrev pub refusing_type : {S : Type 0} (number : ℕ) (G : ElementGrammar S) (o
     (is_refused : S → Bool) (refusal : S → Error → Type 0) → IsLawfulElement G →
     IsWrittenElement G number octets is_refused → LawfulTypeOf S
 refusing_type {S} number G octets is_refused refusal l w = record {
+  class = 0;
   number = number;
   grammar = item_grammar G;
   writing = universal_writing number octets is_refused refusal;
@@ -74,6 +76,7 @@ refusing_type {S} number G octets is_refused refusal l w = record {
   sound = true;
   lawful = λ s. lawful_item G l;
   numbered = universal_number G number octets is_refused w;
+  classed = λ v i c f. ap (λ (z : Identifier). z.class) (w.identifier v i c f);
   fits = universal_number_fits G number octets is_refused w;
   written = λ s. universal_lawful_writing G number octets is_refused w refusal;
   takes_class = λ s class t. w.class class;
@@ -152,6 +155,7 @@ generalized_time_type = refusing_type 24 (leaf_element generalized_time_leaf)
 -- object identifiers
 abbrev pub oid_type : LawfulTypeOf Oid
 oid_type = record {
+  class = 0;
   number = 6;
   grammar = item_grammar oid_element;
   writing = oid_writing;
@@ -159,6 +163,7 @@ oid_type = record {
   sound = true;
   lawful = λ s. lawful_item oid_element oid_lawful;
   numbered = oid_form_number;
+  classed = λ v i c f. ap (λ (z : Identifier). z.class) f.0;
   fits = oid_number_fits;
   written = λ s. oid_lawful_writing;
   takes_class = λ s class t. oid_takes_class class;
@@ -169,6 +174,7 @@ oid_type = record {
 -- lists with the tag number of sequences
 abbrev pub list_type : {S W : Type 0} → (W → List S) → LawfulTypeOf S → LawfulTypeOf W
 list_type items T = record {
+  class = 0;
   number = 16;
   grammar = list_grammar 16 items T.grammar;
   writing = list_writing 16 items T.writing;
@@ -176,6 +182,7 @@ list_type items T = record {
   sound = T.sound;
   lawful = λ s. list_lawful 16 (lit< tt) items T.grammar (T.lawful s);
   numbered = list_number T.grammar.Form 16;
+  classed = λ v i c f. ap (λ (z : Identifier). z.class) f.0;
   fits = lit< tt;
   written = λ s. list_lawful_writing 16 items T.grammar T.writing (T.lawful s) (T.written s);
   takes_class = λ s class t. list_takes_class T.grammar.Form 16 (ber_words T.grammar) T.grammar.Check
@@ -185,6 +192,7 @@ list_type items T = record {
 -- sets in which an item may stand more than once
 abbrev pub multiset_type : {S W : Type 0} → (W → List S) → LawfulTypeOf S → LawfulTypeOf W
 multiset_type items T = record {
+  class = 0;
   number = 17;
   grammar = multiset_grammar items T.grammar;
   writing = set_writing items T.writing;
@@ -192,6 +200,7 @@ multiset_type items T = record {
   sound = T.sound;
   lawful = λ s. multiset_lawful items T.grammar (T.lawful s);
   numbered = set_number multiset AnyList T.grammar.Form;
+  classed = λ v i c f. ap (λ (z : Identifier). z.class) f.0;
   fits = lit< tt;
   written = λ s. multiset_lawful_writing items T.grammar T.writing (T.lawful s) (T.written s);
   takes_class = λ s class t. set_takes_class multiset AnyList T.grammar.Form (ber_words T.grammar) T.grammar.Check
@@ -201,6 +210,7 @@ multiset_type items T = record {
 -- values under an explicit tag
 abbrev pub explicit_type : {S W : Type 0} (class number : ℕ) → (W → S) → LawfulTypeOf S → LawfulTypeOf W
 explicit_type class number inner T = record {
+  class = class;
   number = number_of number;
   grammar = explicit_grammar class number inner T.grammar;
   writing = tag_writing class number inner (explicit_under T.writing) T.writing;
@@ -208,6 +218,7 @@ explicit_type class number inner T = record {
   sound = T.sound;
   lawful = λ s. explicit_lawful class number inner T.grammar (T.lawful s);
   numbered = explicit_number class number T.grammar.Form;
+  classed = λ v i c f. ap (λ (z : Identifier). z.class) f.id_is;
   fits = number_fits number;
   written = λ s. explicit_lawful_writing class number inner T.grammar T.writing (T.lawful s) (T.written s);
   takes_class = λ s other t. takes_own (explicit_grammar class number inner T.grammar) class other t (explicit_takes_class class number T.grammar.Form
@@ -217,6 +228,7 @@ explicit_type class number inner T = record {
 -- values under an implicit tag, sound where their type takes the class of the tag
 abbrev pub implicit_type : {S W : Type 0} (class number : ℕ) → (W → S) → LawfulTypeOf S → LawfulTypeOf W
 implicit_type class number inner T = record {
+  class = class;
   number = number_of number;
   grammar = implicit_grammar class number T.number inner T.grammar;
   writing = tag_writing class number inner (implicit_under T.writing) T.writing;
@@ -226,6 +238,7 @@ implicit_type class number inner T = record {
       implicit_lawful class number T.number inner T.grammar l T.fits T.numbered
       (T.takes_class (first_holds T.sound (T.takes class) s) class (second_holds T.sound (T.takes class) s));
   numbered = implicit_number class number T.grammar.Form;
+  classed = λ v i c f. ap (λ (z : Identifier). z.class) f.id_is;
   fits = number_fits number;
   written = λ s. implicit_lawful_writing class number inner T.grammar T.writing
       (T.lawful (first_holds T.sound (T.takes class) s)) (T.written (first_holds T.sound (T.takes class) s)) T.number;

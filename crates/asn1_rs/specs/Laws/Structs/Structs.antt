@@ -53,6 +53,7 @@ module _ {S : Type 0} (R : RowGrammar S) where
     pub struct_lawful : {T : Type 0} (row : T → S) → IsLawfulItem (struct_grammar row R)
     struct_lawful row = record {
       one_equality = l.one_equality;
+      der_element = λ o v w. (w.0, w.1);
       der_values = λ o v w. l.values by_der w.0.content v w.3.fields;
       body_values = λ p v o b. l.values by_ber p.content v b.fields;
       form_values = λ v i c f. l.strict_values v c f.1;

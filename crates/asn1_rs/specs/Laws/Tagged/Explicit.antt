@@ -155,6 +155,7 @@ pub explicit_lawful : {S T : Type 0} (class number : ℕ) (inner : T → S) (G :
     IsLawfulItem (explicit_grammar class number inner G)
 explicit_lawful class number inner G l = record {
   one_equality = l.one_equality;
+  der_element = λ o v w. (w.0, w.1);
   der_values = λ o v w. explicit_values class number G.Der G.IsValue l.der_values w.0 v
       (explicit_begins class number G.Der w.0 v w.3);
   body_values = λ p v o b. explicit_values class number (ber_words G) G.IsValue (ber_values G l) p v b;

@@ -96,6 +96,7 @@ pub explicit_headed_lawful : {S T : Type 0} (identifier : T → Identifier) (inn
     IsLawfulItem G → IsLawfulItem (explicit_headed identifier inner G)
 explicit_headed_lawful identifier inner G l = record {
   one_equality = Σ_set identifier_set (λ i. l.one_equality);
+  der_element = λ o v w. (w.0, w.1);
   der_values = λ o v w. headed_values G.Der G.IsValue l.der_values w.0 v (der_elements.possible o w.0 w.1)
       (headed_begins G.Der w.0 v w.3);
   body_values = headed_values (ber_words G) G.IsValue (ber_values G l);
@@ -188,6 +189,7 @@ pub implicit_headed_lawful : {S T : Type 0} (identifier : T → Identifier) (own
     IsLawfulItem (implicit_headed identifier own inner G)
 implicit_headed_lawful identifier own inner G l small numbered takes = record {
   one_equality = Σ_set identifier_set (λ i. l.one_equality);
+  der_element = λ o v w. (w.0, w.1);
   der_values = λ o v w. under_values own (CheckedBody G.Check G.Body) G.IsValue small
       (λ p v a b. l.body_values p v a b.1) w.0 v (der_elements.possible o w.0 w.1) w.3;
   body_values = under_values own G.Body G.IsValue small l.body_values;

@@ -130,6 +130,7 @@ pub implicit_lawful : {S T : Type 0} (class number own : ℕ) (inner : T → S) 
     IsLawfulItem (implicit_grammar class number own inner G)
 implicit_lawful class number own inner G l small numbered takes = record {
   one_equality = l.one_equality;
+  der_element = λ o v w. (w.0, w.1);
   der_values = λ o v w.
       implicit_values class number own G.Body G.IsValue small l.body_values w.0 v (der_elements.possible o w.0 w.1) w.3;
   body_values = implicit_values class number own G.Body G.IsValue small l.body_values;
