@@ -9,3 +9,7 @@ mod measurements;
 mod public_keys;
 #[cfg(test)]
 mod shown;
+#[cfg(test)]
+mod sources;
+#[cfg(test)]
+mod times;
