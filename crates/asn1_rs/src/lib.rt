@@ -168,6 +168,7 @@ pub use choices::ChecksChoice;
 pub use choices::ChoiceKind;
 pub use choices::ChoiceReader;
 pub use choices::LawfulChoice;
+pub use choices::OfArms;
 pub use choices::ReadsChoice;
 pub use choices::ReadsChoiceByBer;
 pub use choices::arms::Arms;

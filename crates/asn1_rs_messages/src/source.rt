@@ -9,9 +9,10 @@ ghost use Rattle.asn1_rs_messages.specs.declared.source.Source.TheVariants as so
 use crate::measurement::Measurement;
 use asn1_rs::{
     AlwaysDer, AlwaysDerBy, Any, Arms, ChecksChoice, ChoiceKind, ChoiceReader, DynTagged, Error,
-    Grammar, HasKind, HasReader, LawfulChoice, Never, Or, OrTagged, OrUniversal, ParseResult,
-    ReadsChoice, ReadsChoiceByBer, SerializeResult, Tag, TaggedExplicit, TaggedImplicit, ToDer,
-    UsesArm, check_element, choice_by_der, choice_of_element, read_ber, read_der, strict_vec,
+    Grammar, HasKind, HasReader, LawfulChoice, Never, OfArms, Or, OrTagged, OrUniversal,
+    ParseResult, ReadsChoice, ReadsChoiceByBer, SerializeResult, Tag, TaggedExplicit,
+    TaggedImplicit, ToDer, UsesArm, check_element, choice_by_der, choice_of_element, read_ber,
+    read_der, strict_vec,
 };
 use std::alloc::Global;
 
@@ -62,8 +63,6 @@ impl DynTagged for Source {
 }
 
 impl LawfulChoice for Source {
-    type Arms = SourceArms;
-
     ghost laws = { choice_of (λ s. elim s [
       | sources.Place x ↦ arm.This x
       | sources.Name x ↦ arm.Other (arm.This x)
@@ -71,20 +70,30 @@ impl LawfulChoice for Source {
     ])
         ⟦<SourceArms as Arms>⟧.arm_laws refl };
 
+    fn with_arm<U: UsesArm>(&self, using: U) -> U::Answer {
+        match self {
+            Source::Place(place) => using.use_arm(place),
+            Source::Name(name) => using.use_arm(name),
+            Source::Measured(measured) => using.use_arm(measured),
+        }
+    }
+}
+
+impl OfArms for Source {
+    type Arms = SourceArms;
+
+    ghost as_arms = { λ s. elim s [
+      | sources.Place x ↦ arm.This x
+      | sources.Name x ↦ arm.Other (arm.This x)
+      | sources.Measured x ↦ arm.Other (arm.Other (arm.This x))
+    ] };
+
     fn of_arms(arms: SourceArms) -> Source {
         match arms {
             Or::This(place) => Source::Place(place),
             Or::Other(Or::This(name)) => Source::Name(name),
             Or::Other(Or::Other(Or::This(measured))) => Source::Measured(measured),
             Or::Other(Or::Other(Or::Other(none))) => match none {},
-        }
-    }
-
-    fn with_arm<U: UsesArm>(&self, using: U) -> U::Answer {
-        match self {
-            Source::Place(place) => using.use_arm(place),
-            Source::Name(name) => using.use_arm(name),
-            Source::Measured(measured) => using.use_arm(measured),
         }
     }
 }

@@ -8,7 +8,7 @@ ghost use Rattle.asn1_rs_messages.specs.declared.time.Time.TheVariants as times;
 
 use asn1_rs::{
     Any, Arms, ChecksChoice, ChoiceKind, ChoiceReader, DynTagged, Error, GeneralizedTime, Grammar,
-    HasKind, HasReader, LawfulChoice, Never, Or, OrUniversal, ParseResult, ReadsChoice,
+    HasKind, HasReader, LawfulChoice, Never, OfArms, Or, OrUniversal, ParseResult, ReadsChoice,
     ReadsChoiceByBer, SerializeResult, SetOf, Tag, TaggedExplicit, ToDer, UsesArm, UtcTime,
     check_element, choice_by_der, choice_of_element, read_ber, read_der, strict_vec,
 };
@@ -48,24 +48,28 @@ impl DynTagged for Time {
 }
 
 impl LawfulChoice for Time {
-    type Arms = TimeArms;
-
     ghost laws = { choice_of
         (λ t. elim t [ times.Utc x ↦ arm.This x | times.General x ↦ arm.Other (arm.This x) ])
         ⟦<TimeArms as Arms>⟧.arm_laws refl };
+
+    fn with_arm<U: UsesArm>(&self, using: U) -> U::Answer {
+        match self {
+            Time::Utc(time) => using.use_arm(time),
+            Time::General(time) => using.use_arm(time),
+        }
+    }
+}
+
+impl OfArms for Time {
+    type Arms = TimeArms;
+
+    ghost as_arms = { λ t. elim t [ times.Utc x ↦ arm.This x | times.General x ↦ arm.Other (arm.This x) ] };
 
     fn of_arms(arms: TimeArms) -> Time {
         match arms {
             Or::This(time) => Time::Utc(time),
             Or::Other(Or::This(time)) => Time::General(time),
             Or::Other(Or::Other(none)) => match none {},
-        }
-    }
-
-    fn with_arm<U: UsesArm>(&self, using: U) -> U::Answer {
-        match self {
-            Time::Utc(time) => using.use_arm(time),
-            Time::General(time) => using.use_arm(time),
         }
     }
 }

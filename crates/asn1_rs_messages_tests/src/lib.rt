@@ -17,3 +17,7 @@ mod reminders;
 mod settings;
 #[cfg(test)]
 mod shown;
+#[cfg(test)]
+mod sources;
+#[cfg(test)]
+mod times;

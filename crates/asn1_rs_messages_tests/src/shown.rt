@@ -1,7 +1,7 @@
 //! Messages that were read, as tables show them.
 
 use asn1_rs::{Err, Error, SetOf, TaggedValue, ToDer};
-use asn1_rs_messages::{Alarm, Measurement, Reminder, Settings};
+use asn1_rs_messages::{Alarm, Measurement, Reminder, Settings, Source, Time};
 use std::alloc::Global;
 use std::fmt::Write;
 use std::test::Fail;
@@ -59,6 +59,31 @@ impl Shown for Settings {
 impl Shown for Measurement {
     fn show(&self, text: &mut String) -> Result<(), Fail> {
         Ok(write!(text, "{} {} {:?}", self.place, self.value, self.error)?)
+    }
+}
+
+/// The name of its arm, and the value.
+impl Shown for Source {
+    fn show(&self, text: &mut String) -> Result<(), Fail> {
+        match self {
+            Source::Place(place) => Ok(write!(text, "place {}", place.as_inner())?),
+            Source::Name(name) => Ok(write!(text, "name {}", name.as_inner())?),
+            Source::Measured(measured) => {
+                text.push_str("measured ")?;
+                measured.show(text)
+            }
+        }
+    }
+}
+
+/// The name of its arm.
+impl Shown for Time {
+    fn show(&self, text: &mut String) -> Result<(), Fail> {
+        let name = match self {
+            Time::Utc(_) => "utc",
+            Time::General(_) => "general",
+        };
+        Ok(text.push_str(name)?)
     }
 }
 

@@ -1,5 +1,5 @@
 -- What the arms of a choice and a choice say, with their laws in the same record, as types of items do.
-use Rattle.std.specs.Prelude.{◌≡◌, ◌≢◌, ◌&&◌, not, nat_eq, ℕ, Bool, true, false, List, Result, Ok, Err, IfErr}
+use Rattle.std.specs.Prelude.{◌≡◌, ◌≢◌, ◌&&◌, not, nat_eq, ℕ, Bool, true, false, List, Result, Err, IfErr}
 use Rattle.x690.specs.Octets.{IsOctets}
 use Rattle.x690.specs.Identifiers.{IsCutIdentifier}
 use Rattle.x690.specs.Elements.{Parts, IsDerElement}
@@ -14,7 +14,7 @@ use Rattle.asn1_rs.specs.declared.choices.arms.Never.{Never}
 use Rattle.asn1_rs.specs.declared.choices.arms.Or.{Or}
 use Rattle.asn1_rs.specs.Any.{parts_of}
 use Rattle.asn1_rs.specs.Grammar.{TakesBody, Checks}
-use Rattle.asn1_rs.specs.Grammar.Item.{ItemGrammar, IsLawfulItem}
+use Rattle.asn1_rs.specs.Grammar.Item.{ItemGrammar}
 use Rattle.asn1_rs.specs.ToDer.{Writing}
 use Rattle.asn1_rs.specs.Choices.{ArmsGrammar, ChosenArm, no_arms, or_arms, or_chosen, none_chosen, choice_grammar}
 use Rattle.asn1_rs.specs.Choices.{choice_writing, is_among, NoArmRefusal, has_a_tag}
@@ -31,9 +31,10 @@ pub record LawfulArmsOf (S : Type 0) : Type 1 where
   pub puts : told ≡ true → AreLawfulPuts grammar arm_of
 
 -- what is a value of one of them
-pub record LawfulChoiceOf (T S : Type 0) : Type 1 where
-  pub as_arms : T → S
-  pub arms : LawfulArmsOf S
+pub record LawfulChoiceOf (T : Type 0) : Type 1 where
+  pub Arms : Type 0
+  pub as_arms : T → Arms
+  pub arms : LawfulArmsOf Arms
   pub lawful : AreLawfulArms arms.grammar
   pub puts : AreLawfulPuts arms.grammar arms.arm_of
 
@@ -75,8 +76,9 @@ arm_before class T R = record {
 }
 
 -- A choice of these arms. They are told apart.
-abbrev pub choice_of : {T S : Type 0} → (T → S) → (A : LawfulArmsOf S) → A.told ≡ true → LawfulChoiceOf T S
-choice_of as_arms A told = record {
+abbrev pub choice_of : {T S : Type 0} → (T → S) → (A : LawfulArmsOf S) → A.told ≡ true → LawfulChoiceOf T
+choice_of {T} {S} as_arms A told = record {
+  Arms = S;
   as_arms = as_arms;
   arms = A;
   lawful = A.lawful told;
@@ -84,10 +86,10 @@ choice_of as_arms A told = record {
 }
 
 -- its grammar, and how it is written
-abbrev pub grammar_of_choice : {T S : Type 0} → LawfulChoiceOf T S → ItemGrammar T
+abbrev pub grammar_of_choice : {T : Type 0} → LawfulChoiceOf T → ItemGrammar T
 grammar_of_choice T = choice_grammar T.as_arms T.arms.grammar
 
-abbrev pub writing_of_choice : {T S : Type 0} → LawfulChoiceOf T S → Writing T
+abbrev pub writing_of_choice : {T : Type 0} → LawfulChoiceOf T → Writing T
 writing_of_choice T = choice_writing T.as_arms T.arms.arm_of
 
 -- What reading by DER a value of a choice of these arms may answer. It is exact, and not out of memory where nothing

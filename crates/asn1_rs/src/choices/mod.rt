@@ -45,17 +45,7 @@ pub struct ChoiceReader;
 /// A type whose values are of one of several types.
 ///
 ///     impl LawfulChoice for Time {
-///         type Arms = TimeArms;
-///
-///         ghost laws = { choice_of as_arms ⟦<TimeArms as Arms>⟧.arm_laws refl };
-///
-///         fn of_arms(arms: TimeArms) -> Time {
-///             match arms {
-///                 Or::This(time) => Time::Utc(time),
-///                 Or::Other(Or::This(time)) => Time::General(time),
-///                 Or::Other(Or::Other(none)) => match none {},
-///             }
-///         }
+///         ghost laws = { choice_of time_arms ⟦<TimeArms as Arms>⟧.arm_laws refl };
 ///
 ///         fn with_arm<U: UsesArm>(&self, using: U) -> U::Answer {
 ///             match self {
@@ -68,19 +58,41 @@ pub struct ChoiceReader;
 /// The last word of `laws` says that no two arms have the same class and the same tag number, and that each arm has the
 /// class that its row says. It is refused there where one is not so.
 pub trait LawfulChoice: HasKind<Kind = ChoiceKind> + DynTagged + Sized {
-    /// Its arms.
-    type Arms;
-
     /// How a value is one of an arm, and the arms, with the laws of these.
-    ghost laws: { LawfulChoiceOf Self Self.Arms };
-
-    /// The value of this arm.
-    fn of_arms(arms: Self::Arms) -> Self
-        ensures { laws.as_arms result ≡ arms };
+    ghost laws: { LawfulChoiceOf Self };
 
     /// Uses the value of the arm that it is.
     fn with_arm<U: UsesArm>(&self, using: U) -> U::Answer
         ensures { UsesChosen U.answers (laws.arms.arm_of (laws.as_arms self.now)) result };
+}
+
+/// A choice that is made of its arms.
+///
+///     impl OfArms for Time {
+///         type Arms = TimeArms;
+///
+///         ghost as_arms = { time_arms };
+///
+///         fn of_arms(arms: TimeArms) -> Time {
+///             match arms {
+///                 Or::This(time) => Time::Utc(time),
+///                 Or::Other(Or::This(time)) => Time::General(time),
+///                 Or::Other(Or::Other(none)) => match none {},
+///             }
+///         }
+///     }
+// The arms are no type of `LawfulChoice`. Where they were, `<Source as Grammar>` could not be quoted ("cannot state an item
+// with such a type in a bound"), with values under tags among the arms.
+pub trait OfArms: LawfulChoice {
+    /// Its arms.
+    type Arms;
+
+    /// How a value is one of an arm, as its laws say it.
+    ghost as_arms: { Self → Self.Arms };
+
+    /// The value of this arm.
+    fn of_arms(arms: Self::Arms) -> Self
+        ensures { as_arms result ≡ arms };
 }
 
 /// A choice that is read by DER, its arms by DER.
@@ -128,9 +140,9 @@ pub trait ChecksChoice: LawfulChoice {
 /// The choice at the front of the octets, by DER: what the reader of its arms reads.
 fn read_arms<'a, T, A>(alloc: Global, octets: &'a [u8]) -> ParseResult<'a, T, Error>
 where
-    T: LawfulChoice<Arms = A>,
+    T: OfArms<Arms = A>,
     A: ReadsArms<'a>,
-    ensures { ChoiceReads A.read_arms.tags T.laws.as_arms A.arms_give octets.now (seen result) }
+    ensures { ChoiceReads A.read_arms.tags T.as_arms A.arms_give octets.now (seen result) }
 {
     let any = match element_by_der(octets) {
         Ok((_, any)) => any,
@@ -149,9 +161,9 @@ where
 /// The choice at the front of the octets, by DER.
 pub fn choice_by_der<'a, T, A>(alloc: Global, octets: &'a [u8]) -> ParseResult<'a, T, Error>
 where
-    T: LawfulChoice<Arms = A>,
+    T: OfArms<Arms = A>,
     A: ReadsArms<'a>,
-    ensures { AnswersByDer (choice_grammar T.laws.as_arms A.read_arms) A.read_arms.tags octets.now
+    ensures { AnswersByDer (choice_grammar T.as_arms A.read_arms) A.read_arms.tags octets.now
         (seen result) }
 {
     read_arms(alloc, octets)
@@ -160,9 +172,9 @@ where
 /// What the conversion to its arms makes of an element.
 fn take_arms<'a, T, A>(alloc: Global, any: Any<'a>) -> Result<T, Error>
 where
-    T: LawfulChoice<Arms = A>,
+    T: OfArms<Arms = A>,
     A: TakesArms<'a>,
-    ensures { ChoiceGives A.take_arms.tags T.laws.as_arms A.arms_take any.entry result }
+    ensures { ChoiceGives A.take_arms.tags T.as_arms A.arms_take any.entry result }
 {
     let class = any.header.class();
     if !A::takes_class(class) {
@@ -177,9 +189,9 @@ where
 /// The choice that an element is.
 pub fn choice_of_element<'a, T, A>(alloc: Global, any: Any<'a>) -> Result<T, Error>
 where
-    T: LawfulChoice<Arms = A>,
+    T: OfArms<Arms = A>,
     A: TakesArms<'a>,
-    ensures { AnswersOf (choice_grammar T.laws.as_arms A.take_arms) A.take_arms.tags any.entry result }
+    ensures { AnswersOf (choice_grammar T.as_arms A.take_arms) A.take_arms.tags any.entry result }
 {
     take_arms(alloc, any)
 }

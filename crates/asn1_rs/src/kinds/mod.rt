@@ -1,6 +1,6 @@
-//! How types come by their grammars and laws, and by writing. There are five kinds: of types that are read as one
-//! element, of those that hold or refer to one item, of lists and sets, of sequences of fields, and of values under a
-//! tag.
+//! How types come by their grammars and laws, and by writing. There are six kinds: of types that are read as one
+//! element, of those that hold or refer to one item, of lists and sets, of sequences of fields, of choices, and of values
+//! under a tag.
 //!
 //! A type that is read as one element, checked and converted, names its kind, [`ElementKind`], and says once how it is
 //! read and that this is exact ([`leaf`]). The traits of readers ([`reading`]), of writing ([`writing`]) and of
@@ -32,7 +32,7 @@ use asn1_headers::tag::Tag;
 // `impl<T: Grammar> Grammar for &T`.
 pub trait HasKind {
     /// The kind: [`ElementKind`] or [`HolderKind`]; of lists and sets one of [`collections`], of sequences of fields
-    /// that of [`fields`], of values under a tag [`TagMark`](crate::asn1_types::tagged::TagMark).
+    /// that of [`fields`], of choices [`ChoiceKind`](crate::ChoiceKind), of values under a tag [`TagMark`](crate::asn1_types::tagged::TagMark).
     type Kind;
 }
 

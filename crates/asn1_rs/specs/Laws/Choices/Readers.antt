@@ -1,25 +1,23 @@
 -- Readers of arms and of choices are exact.
-use Rattle.std.proofs.Common.{◌≡◌, ◌≢◌, ◌∙◌, ap, sym, subst, refl, ℕ, inl, inr, ◌⊎◌, Bool, true, false, List, [], ◌++◌}
+use Rattle.std.proofs.Common.{◌≡◌, ◌≢◌, ◌∙◌, ap, sym, subst, refl, ℕ, inl, inr, Bool, true, false, List, []}
 use Rattle.std.proofs.Common.{append-nil, Result, Ok, Err}
-use Rattle.std.specs.Prelude.{◌||◌, IsTrue, IfErr, None}
+use Rattle.std.specs.Prelude.{◌||◌, IfErr, None}
 use Rattle.x690.specs.Octets.{IsOctets}
 use Rattle.x690.specs.Identifiers.{Identifier, IsCutIdentifier}
 use Rattle.x690.specs.Elements.{Parts, IsDerElement}
 use Rattle.x690.specs.Faults.{DerElementFault}
 use Rattle.asn1_headers.specs.Answers.{Front, Exactly, TellsMemory, IsOther, IsFinal}
-use Rattle.asn1_headers.specs.Class.{class_number}
 use Rattle.asn1_headers.specs.Error.{HeldIn, Converted}
 use Rattle.asn1_headers.specs.Header.Reading.{der_breach, refusal_of}
-use Rattle.asn1_headers.specs.declared.class.Class.{Class}
 use Rattle.asn1_headers.specs.declared.error.Err.{Err as Refusal}
 use Rattle.asn1_headers.specs.declared.error.Err.TheVariants.{Error as refused}
 use Rattle.asn1_headers.specs.declared.error.Error.{Error}
-use Rattle.asn1_headers.specs.declared.error.Error.TheVariants.{UnexpectedTag, UnexpectedClass, OutOfMemory}
+use Rattle.asn1_headers.specs.declared.error.Error.TheVariants.{UnexpectedTag, OutOfMemory}
 use Rattle.asn1_rs.specs.declared.asn1_types.any.Any.{Any}
 use Rattle.asn1_rs.specs.declared.choices.arms.Never.{Never}
 use Rattle.asn1_rs.specs.declared.choices.arms.Or.{Or}
 use Rattle.asn1_rs.specs.declared.choices.arms.Or.TheVariants as arm
-use Rattle.asn1_rs.specs.Any.{parts_of, BeginsWithAny, DerElementGives}
+use Rattle.asn1_rs.specs.Any.{parts_of}
 use Rattle.asn1_rs.specs.Checks.{CheckGives}
 use Rattle.asn1_rs.specs.Grammar.{TakesBody, Checks}
 use Rattle.asn1_rs.specs.Grammar.Item.{ItemGrammar, IsLawfulItem}
@@ -27,8 +25,8 @@ use Rattle.asn1_rs.specs.Kinds.{IsExactCheck}
 use Rattle.asn1_rs.specs.Laws.Any.{refusal_lasts, element_lasts}
 use Rattle.asn1_rs.specs.Laws.Readers.{der_elements, der_breach_no_memory, fault_no_memory, converts_itself, speaks_now}
 use Rattle.asn1_rs.specs.Laws.Structs.Rows.{or_neither}
-use Rattle.asn1_rs.specs.Laws.Choices.{clash, or_first, or_second, or_either, class_by, has_class_of}
-use Rattle.asn1_rs.specs.Choices.{ArmsGrammar, ByTag, CheckByTag, has_tag, has_a_tag, has_a_class, no_arms, or_arms}
+use Rattle.asn1_rs.specs.Laws.Choices.{clash, or_first, or_second, has_class_of}
+use Rattle.asn1_rs.specs.Choices.{ArmsGrammar, CheckByTag, has_tag, has_a_tag, has_a_class, no_arms, or_arms}
 use Rattle.asn1_rs.specs.Choices.{choice_grammar, OrReads, OrGives, OrChecks, IsNoArm, NoArmRefusal, KnowsClass}
 use Rattle.asn1_rs.specs.Choices.{ChoiceReads, ChoiceGives}
 use Rattle.asn1_rs.specs.Choices.Data.{AnswersByDer, AnswersOf, ChecksOf}
