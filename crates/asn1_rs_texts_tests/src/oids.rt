@@ -270,21 +270,21 @@ fn push_asked(text: &mut String, oid: &Oid<'_>) -> Result<(), Fail> {
 
 /// A relative identifier, which has readers of its own.
 #[derive(Drop)]
-struct Relative<'a>(Oid<'a>);
+struct RelativeOid<'a>(Oid<'a>);
 
-impl<'a> FromBer<'a, Error> for Relative<'a> {
-    fn from_ber(_alloc: Global, octets: &'a [u8]) -> ParseResult<'a, Relative<'a>, Error> {
+impl<'a> FromBer<'a, Error> for RelativeOid<'a> {
+    fn from_ber(_alloc: Global, octets: &'a [u8]) -> ParseResult<'a, RelativeOid<'a>, Error> {
         match Oid::from_ber_relative(octets) {
-            Ok((rest, oid)) => Ok((rest, Relative(oid))),
+            Ok((rest, oid)) => Ok((rest, RelativeOid(oid))),
             Err(refusal) => Err(refusal),
         }
     }
 }
 
-impl<'a> FromDer<'a, Error> for Relative<'a> {
-    fn from_der(_alloc: Global, octets: &'a [u8]) -> ParseResult<'a, Relative<'a>, Error> {
+impl<'a> FromDer<'a, Error> for RelativeOid<'a> {
+    fn from_der(_alloc: Global, octets: &'a [u8]) -> ParseResult<'a, RelativeOid<'a>, Error> {
         match Oid::from_der_relative(octets) {
-            Ok((rest, oid)) => Ok((rest, Relative(oid))),
+            Ok((rest, oid)) => Ok((rest, RelativeOid(oid))),
             Err(refusal) => Err(refusal),
         }
     }
@@ -294,24 +294,24 @@ impl<'a> FromDer<'a, Error> for Relative<'a> {
 fn push_relative(
     text: &mut String,
     alloc: Global,
-    answer: ParseResult<'_, Relative<'_>, Error>,
+    answer: ParseResult<'_, RelativeOid<'_>, Error>,
 ) -> Result<(), Fail> {
     match answer {
-        Ok((rest, Relative(oid))) => push_shown(text, alloc, &oid, rest, &oid),
+        Ok((rest, RelativeOid(oid))) => push_shown(text, alloc, &oid, rest, &oid),
         Err(refusal) => push_debug(text, &refusal),
     }
 }
 
 /// The reader by BER. Of octets that it accepts all beginnings are tried.
 fn push_relative_by_ber(text: &mut String, alloc: Global, octets: &[u8]) -> Result<(), Fail> {
-    assert_beginnings_by_ber::<Relative<'_>>(alloc, octets, false)?;
-    push_relative(text, alloc, Relative::from_ber(alloc, octets))
+    assert_beginnings_by_ber::<RelativeOid<'_>>(alloc, octets, false)?;
+    push_relative(text, alloc, RelativeOid::from_ber(alloc, octets))
 }
 
 /// The same by DER.
 fn push_relative_by_der(text: &mut String, alloc: Global, octets: &[u8]) -> Result<(), Fail> {
-    assert_beginnings_by_der::<Relative<'_>>(alloc, octets, false)?;
-    push_relative(text, alloc, Relative::from_der(alloc, octets))
+    assert_beginnings_by_der::<RelativeOid<'_>>(alloc, octets, false)?;
+    push_relative(text, alloc, RelativeOid::from_der(alloc, octets))
 }
 
 /// The element at the front, by BER, as an identifier, while it stays and by value.
