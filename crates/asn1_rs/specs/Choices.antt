@@ -45,6 +45,11 @@ abbrev pub is_among : ℕ → ℕ → List (ℕ × ℕ) → Bool
 is_among class number [] = false
 is_among class number (tag ∷ tags) = (nat_eq class tag.0 && nat_eq number tag.1) || is_among class number tags
 
+-- the tag numbers of these
+abbrev pub numbers_of_tags : List (ℕ × ℕ) → List ℕ
+numbers_of_tags [] = []
+numbers_of_tags (tag ∷ tags) = tag.1 ∷ numbers_of_tags tags
+
 -- Arms.
 
 -- The same of several types, of which a value is one's: the words by DER whose identifier is this, and the tags.
