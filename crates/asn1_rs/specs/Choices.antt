@@ -45,6 +45,11 @@ abbrev pub is_among : ℕ → ℕ → List (ℕ × ℕ) → Bool
 is_among class number [] = false
 is_among class number (tag ∷ tags) = (nat_eq class tag.0 && nat_eq number tag.1) || is_among class number tags
 
+-- the tag numbers of these
+abbrev pub numbers_of_tags : List (ℕ × ℕ) → List ℕ
+numbers_of_tags [] = []
+numbers_of_tags (tag ∷ tags) = tag.1 ∷ numbers_of_tags tags
+
 -- Arms.
 
 -- The same of several types, of which a value is one's: the words by DER whose identifier is this, and the tags.
@@ -248,11 +253,6 @@ choice_writing as_arms arm_of = record {
   write_allocates = true;
 }
 
--- what a use of the arm may answer
-abbrev pub UsesChosen : {R : Type 0} → ((T : Type 0) → ItemGrammar T → Writing T → T → R → Type 0) → ChosenArm → R →
-    Type 0
-UsesChosen answers a answer = answers a.Type_of a.grammar a.writing a.item answer
-
 -- what counting its octets may answer
 pub record CountsOctets (tells : Type 0) (octets : List ℕ) (own : Error → Type 0) (answer : Result ℕ Error) : Type 0 where
   pub count : tells → IfOk answer (λ n. n ≡ length octets)
@@ -269,28 +269,33 @@ pub record CollectsOctets (tells : Type 0) (octets : List ℕ) (len : ℕ) (own 
   pub memory : IfErr answer (λ e. tells_of_io e ≡ false)
 
 -- of the whole, of the contents octets, and of the header
-abbrev pub CountsWhole : (T : Type 0) → ItemGrammar T → Writing T → T → Result ℕ Error → Type 0
-CountsWhole T G w x = CountsOctets (w.tells x) (whole_octets w x) (w.count_refuses x)
+abbrev pub arm_whole : ChosenArm → List ℕ
+arm_whole a = whole_octets a.writing a.item
 
-abbrev pub CountsContent : (T : Type 0) → ItemGrammar T → Writing T → T → Result ℕ Error → Type 0
-CountsContent T G w x = CountsOctets (w.tells x) (w.content x) (w.count_refuses x)
+abbrev pub arm_whole_refuses : ChosenArm → SerializeError → Type 0
+arm_whole_refuses a = whole_refuses a.writing a.item
 
-abbrev pub TellsConstructed : (T : Type 0) → ItemGrammar T → Writing T → T → Bool → Type 0
-TellsConstructed T G w x answer = w.tells x → answer ≡ w.constructed x
+abbrev pub CountsWhole : ChosenArm → Result ℕ Error → Type 0
+CountsWhole a = CountsOctets (arm_tells a) (arm_whole a) (arm_count_refuses a)
 
-abbrev pub CollectsWhole : (T : Type 0) → ItemGrammar T → Writing T → T → Result (Vec ℕ Global) SerializeError → Type 0
-CollectsWhole T G w x =
-    CollectsOctets (w.tells x) (whole_octets w x) (length (whole_octets w x)) (whole_refuses w x) (w.count_refuses x)
+abbrev pub CountsContent : ChosenArm → Result ℕ Error → Type 0
+CountsContent a = CountsOctets (arm_tells a) (arm_content a) (arm_count_refuses a)
 
-abbrev pub CollectsContent : (T : Type 0) → ItemGrammar T → Writing T → T → Result (Vec ℕ Global) SerializeError →
-    Type 0
-CollectsContent T G w x =
-    CollectsOctets (w.tells x) (w.content x) (length (w.content x)) (w.content_refuses x) (w.count_refuses x)
+abbrev pub TellsConstructed : ChosenArm → Bool → Type 0
+TellsConstructed a answer = arm_tells a → answer ≡ arm_constructed a
 
-abbrev pub CollectsHeader : (T : Type 0) → ItemGrammar T → Writing T → T → Result (Vec ℕ Global) SerializeError → Type 0
-CollectsHeader T G w x =
-    CollectsOctets (w.tells x) (w.header x) (length (whole_octets w x)) (w.header_refuses x) (λ e. ⊥)
+abbrev pub CollectsWhole : ChosenArm → Result (Vec ℕ Global) SerializeError → Type 0
+CollectsWhole a =
+    CollectsOctets (arm_tells a) (arm_whole a) (length (arm_whole a)) (arm_whole_refuses a) (arm_count_refuses a)
+
+abbrev pub CollectsContent : ChosenArm → Result (Vec ℕ Global) SerializeError → Type 0
+CollectsContent a =
+    CollectsOctets (arm_tells a) (arm_content a) (length (arm_content a)) (arm_content_refuses a) (arm_count_refuses a)
+
+abbrev pub CollectsHeader : ChosenArm → Result (Vec ℕ Global) SerializeError → Type 0
+CollectsHeader a =
+    CollectsOctets (arm_tells a) (arm_header a) (length (arm_whole a)) (arm_header_refuses a) (λ e. ⊥)
 
 -- and that its value is one of the type's
-abbrev pub HasTypeValue : (T : Type 0) → ItemGrammar T → Writing T → T → Unit {0} → Type 0
-HasTypeValue T G w x answer = G.IsValue (G.value x)
+abbrev pub HasTypeValue : ChosenArm → Unit {0} → Type 0
+HasTypeValue a answer = a.grammar.IsValue (a.grammar.value a.item)

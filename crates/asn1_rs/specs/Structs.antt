@@ -106,6 +106,10 @@ BeginsApart rule any_number octets = octets ≡ []
 BeginsApart rule (among numbers) octets =
     (octets ≡ []) ⊎ ((number : ℕ) × BeginsWithNumber rule number octets × (is_one_of number numbers ≡ false))
 
+-- strict parts have one of these tag numbers
+abbrev pub FormNumbers : {V : Type 0} → (V → Identifier → List ℕ → Type 0) → List ℕ → Type 0
+FormNumbers {V} Form numbers = (v : V) (i : Identifier) (c : List ℕ) → Form v i c → is_one_of i.number numbers ≡ true
+
 -- One field.
 
 -- The values of a field, and which are the type's and in DER form. Which octets it is read from by each of the rules,
@@ -161,7 +165,11 @@ optional_field numbers LeftOut G = record {
   allocates = G.allocates;
 }
 
--- of a type with a tag number: at the end, and before a header of another number
+-- of a type with these tag numbers: at the end, and before a header of another number
+abbrev pub left_out_among : List ℕ → EncodingRules → List ℕ → Type 0
+left_out_among numbers rules = BeginsApart (header_rule rules) (among numbers)
+
+-- the same of one tag number
 abbrev pub left_out_by : ℕ → EncodingRules → List ℕ → Type 0
 left_out_by number rules = IsLeftOut (header_rule rules) number
 

@@ -12,6 +12,8 @@ mod reminder;
 mod settings;
 mod source;
 mod time;
+mod updates;
+mod validity;
 
 pub use alarm::{Alarm, AlarmRow, Muted, alarm_vec, read_alarm, read_alarm_by_ber};
 pub use extension::{
@@ -35,4 +37,8 @@ pub use source::{Name, Place, Source, SourceArms, read_source, read_source_by_be
 pub use time::{
     TaggedTime, Time, TimeArms, read_tagged_time, read_time, read_time_by_ber, read_time_set,
     read_times, time_vec, times_vec,
+};
+pub use updates::{Updates, UpdatesRow, read_updates, read_updates_by_ber, updates_vec};
+pub use validity::{
+    Validity, ValidityRow, read_validity, read_validity_by_ber, validity_vec,
 };

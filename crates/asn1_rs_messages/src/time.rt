@@ -1,15 +1,16 @@
 //! The times of certificates: a choice of two types (RFC 5280, 4.1.2.5), by both rules.
 ghost use Rattle.std.proofs.Common.{refl};
 ghost use Rattle.asn1_headers.specs.Answers.{seen};
-ghost use Rattle.asn1_rs.specs.Choices.Data.{choice_of};
+ghost use Rattle.asn1_rs.specs.Choices.Data.{choice_of, choice_type, numbers_of_choice, choice_numbers};
 ghost use Rattle.asn1_rs.specs.declared.choices.arms.Or.TheVariants as arm;
 ghost use Rattle.asn1_rs_messages.specs.Callers.{ReadsByDer, ReadsByBer, WritesStrict};
 ghost use Rattle.asn1_rs_messages.specs.declared.time.Time.TheVariants as times;
 
 use asn1_rs::{
-    Any, Arms, ChecksChoice, ChoiceKind, ChoiceReader, DynTagged, Error, GeneralizedTime, Grammar,
-    HasKind, HasReader, LawfulChoice, Never, OfArms, Or, OrUniversal, ParseResult, ReadsChoice,
-    ReadsChoiceByBer, SerializeResult, SetOf, Tag, TaggedExplicit, ToDer, UsesArm, UtcTime,
+    Any, ArmNumbers, Arms, ChecksChoice, ChoiceKind, ChoiceReader, DynTagged, Error,
+    GeneralizedTime, Grammar, HasKind, HasReader, LawfulChoice, LawfulType, Never, OfArms, Or,
+    OrUniversal, ParseResult, ReadsChoice, ReadsChoiceByBer, SerializeResult, SetOf, Tag,
+    TaggedExplicit, ToDer, ToldByNumber, UsesArm, UtcTime,
     check_element, choice_by_der, choice_of_element, read_ber, read_der, strict_vec,
 };
 use std::alloc::Global;
@@ -90,6 +91,22 @@ impl ChecksChoice for Time {
     fn check_choice(any: &Any<'_>) -> Result<(), Error> {
         check_element::<TimeArms>(any)
     }
+}
+
+/// A time is a field of messages.
+impl LawfulType for Time {
+    ghost type_laws = { choice_type ⟦<Time as LawfulChoice>⟧.laws };
+}
+
+/// It is told by the tag numbers of its arms.
+impl ToldByNumber for Time {
+    ghost numbers = { numbers_of_choice ⟦<Time as LawfulChoice>⟧.laws };
+
+    fn has_number(tag: Tag) -> bool {
+        TimeArms::is_of_an_arm(tag)
+    }
+
+    ghost told_by_number = { choice_numbers ⟦<Time as LawfulChoice>⟧.laws };
 }
 
 /// The time at the front of the octets, by DER, and what follows it.

@@ -1,5 +1,6 @@
 -- What the arms of a choice and a choice say, with their laws in the same record, as types of items do.
 use Rattle.std.specs.Prelude.{◌≡◌, ◌≢◌, ◌&&◌, not, nat_eq, ℕ, Bool, true, false, List, Result, Err, IfErr}
+use Rattle.std.proofs.Common.{refl, lit<}
 use Rattle.x690.specs.Octets.{IsOctets}
 use Rattle.x690.specs.Identifiers.{IsCutIdentifier}
 use Rattle.x690.specs.Elements.{Parts, IsDerElement}
@@ -17,9 +18,11 @@ use Rattle.asn1_rs.specs.Grammar.{TakesBody, Checks}
 use Rattle.asn1_rs.specs.Grammar.Item.{ItemGrammar}
 use Rattle.asn1_rs.specs.ToDer.{Writing}
 use Rattle.asn1_rs.specs.Choices.{ArmsGrammar, ChosenArm, no_arms, or_arms, or_chosen, none_chosen, choice_grammar}
-use Rattle.asn1_rs.specs.Choices.{choice_writing, is_among, NoArmRefusal, has_a_tag}
+use Rattle.asn1_rs.specs.Choices.{choice_writing, is_among, NoArmRefusal, has_a_tag, numbers_of_tags}
 use Rattle.asn1_rs.specs.Laws.Choices.{AreLawfulArms, AreLawfulPuts, no_arms_lawful, or_arms_lawful, no_puts, or_puts}
+use Rattle.asn1_rs.specs.Laws.Choices.{choice_lawful, choice_lawful_writing, clash, has_number_of}
 use Rattle.asn1_rs.specs.Laws.Structs.Rows.{first_holds, second_holds}
+use Rattle.asn1_rs.specs.Structs.{FormNumbers}
 use Rattle.asn1_rs.specs.Structs.Data.{LawfulTypeOf}
 
 -- Several types, of which a value is one's. Their laws hold where they are told apart, and each is sound.
@@ -48,27 +51,30 @@ end_of_arms = record {
   puts = λ t. no_puts;
 }
 
--- A type and the others behind it. It is sound, its elements are of this class, and none of the others has its class and
--- its tag number.
+-- A type and the others behind it. It has one tag, is sound, and its elements are of this class; and none of the others
+-- has its class and its tag number.
 abbrev pub arm_before : {A B : Type 0} (class : ℕ) → LawfulTypeOf A → LawfulArmsOf B → LawfulArmsOf (Or A B class)
 arm_before class T R = record {
   grammar = or_arms class T.number T.grammar R.grammar;
   arm_of = or_chosen T.grammar T.writing R.arm_of;
-  told = (T.sound && nat_eq T.class class) && (not (is_among class T.number R.grammar.tags) && R.told);
+  told = (T.single && (T.sound && nat_eq T.class class)) && (not (is_among class T.number R.grammar.tags) && R.told);
   lawful = λ t.
-      let own = first_holds (T.sound && nat_eq T.class class)
+      let all = first_holds (T.single && (T.sound && nat_eq T.class class))
       (not (is_among class T.number R.grammar.tags) && R.told) t in
-      let others = second_holds (T.sound && nat_eq T.class class)
+      let single = first_holds T.single (T.sound && nat_eq T.class class) all in
+      let own = second_holds T.single (T.sound && nat_eq T.class class) all in
+      let others = second_holds (T.single && (T.sound && nat_eq T.class class))
       (not (is_among class T.number R.grammar.tags) && R.told) t in
       or_arms_lawful class T.number T.grammar R.grammar
-      (T.lawful (first_holds T.sound (nat_eq T.class class) own)) T.class T.numbered T.classed
+      (T.lawful (first_holds T.sound (nat_eq T.class class) own)) T.class (T.numbered single) (T.classed single)
       (second_holds T.sound (nat_eq T.class class) own)
       (R.lawful (second_holds (not (is_among class T.number R.grammar.tags)) R.told others))
       (first_holds (not (is_among class T.number R.grammar.tags)) R.told others);
   puts = λ t.
-      let own = first_holds (T.sound && nat_eq T.class class)
+      let all = first_holds (T.single && (T.sound && nat_eq T.class class))
       (not (is_among class T.number R.grammar.tags) && R.told) t in
-      let others = second_holds (T.sound && nat_eq T.class class)
+      let own = second_holds T.single (T.sound && nat_eq T.class class) all in
+      let others = second_holds (T.single && (T.sound && nat_eq T.class class))
       (not (is_among class T.number R.grammar.tags) && R.told) t in
       or_puts class T.number T.grammar R.grammar T.writing
       (T.written (first_holds T.sound (nat_eq T.class class) own)) R.arm_of
@@ -91,6 +97,34 @@ grammar_of_choice T = choice_grammar T.as_arms T.arms.grammar
 
 abbrev pub writing_of_choice : {T : Type 0} → LawfulChoiceOf T → Writing T
 writing_of_choice T = choice_writing T.as_arms T.arms.arm_of
+
+-- the tag numbers of its arms
+abbrev pub numbers_of_choice : {T : Type 0} → LawfulChoiceOf T → List ℕ
+numbers_of_choice T = numbers_of_tags T.arms.grammar.tags
+
+-- its strict parts have one of these
+pub choice_numbers : {T : Type 0} (X : LawfulChoiceOf T) → FormNumbers (grammar_of_choice X).Form (numbers_of_choice X)
+choice_numbers X v i c f = has_number_of X.arms.grammar.tags i (X.lawful.tagged v i c f)
+
+-- A choice is a lawful type. It is not single, so it is no arm of another choice, and stands under no implicit tag.
+abbrev pub choice_type : {T : Type 0} → LawfulChoiceOf T → LawfulTypeOf T
+choice_type T = record {
+  class = 0;
+  number = 0;
+  numbers = numbers_of_choice T;
+  single = false;
+  grammar = grammar_of_choice T;
+  writing = writing_of_choice T;
+  takes = λ class. false;
+  sound = true;
+  lawful = λ s. choice_lawful T.as_arms T.arms.grammar T.lawful;
+  begins = choice_numbers T;
+  numbered = λ s. absurd (clash false s refl);
+  classed = λ s. absurd (clash false s refl);
+  fits = lit< tt;
+  written = λ s. choice_lawful_writing T.as_arms T.arms.grammar T.arms.arm_of T.puts;
+  takes_class = λ s class t. absurd (clash false t refl);
+}
 
 -- What reading by DER a value of a choice of these arms may answer. It is exact, and not out of memory where nothing
 -- allocates; and what is of no arm is refused for its class or its tag number.

@@ -32,7 +32,8 @@ use Rattle.asn1_rs.specs.ToDer.{Writing, HasNone, IsWritable, IntoVector}
 use Rattle.asn1_rs.specs.Choices.{ArmsGrammar, ChosenArm, chosen, InArm, ByTag, CheckByTag, has_tag, has_a_tag, has_a_class, is_among}
 use Rattle.asn1_rs.specs.Choices.{no_arms, or_arms, or_value, or_chosen, no_value, none_chosen, choice_grammar, ChoiceWord}
 use Rattle.asn1_rs.specs.Choices.{choice_writing, arm_tells, arm_header, arm_content, arm_constructed, arm_count_refuses}
-use Rattle.asn1_rs.specs.Choices.{arm_header_refuses, arm_content_refuses}
+use Rattle.asn1_rs.specs.Choices.{arm_header_refuses, arm_content_refuses, numbers_of_tags}
+use Rattle.asn1_rs.specs.Structs.{is_one_of}
 
 -- Tests of tags.
 
@@ -103,6 +104,17 @@ has_class_of (tag ∷ tags) i e = elim (or_either (has_tag tag.0 tag.1 i) (has_a
   | inl first ↦ or_first (nat_eq i.class tag.0) (has_a_class tags i.class)
       (eq-eqb i.class tag.0 (class_by tag.0 tag.1 i first))
   | inr others ↦ or_second (nat_eq i.class tag.0) (has_a_class tags i.class) (has_class_of tags i others)
+]
+
+-- and one of their tag numbers
+pub has_number_of : (tags : List (ℕ × ℕ)) (i : Identifier) → has_a_tag tags i ≡ true →
+    is_one_of i.number (numbers_of_tags tags) ≡ true
+has_number_of [] i e = e
+has_number_of (tag ∷ tags) i e = elim (or_either (has_tag tag.0 tag.1 i) (has_a_tag tags i) e) [
+  | inl first ↦ or_first (nat_eq tag.1 i.number) (is_one_of i.number (numbers_of_tags tags))
+      (eq-eqb tag.1 i.number (sym (number_by tag.0 tag.1 i first)))
+  | inr others ↦ or_second (nat_eq tag.1 i.number) (is_one_of i.number (numbers_of_tags tags))
+      (has_number_of tags i others)
 ]
 
 -- Lawful arms.

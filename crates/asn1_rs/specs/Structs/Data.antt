@@ -16,25 +16,29 @@ use Rattle.asn1_rs.specs.Grammar.Item.{ItemGrammar, IsLawfulItem, IsLawfulWritin
 use Rattle.asn1_rs.specs.Optional.{option_writing}
 use Rattle.asn1_rs.specs.ToDer.{Writing}
 use Rattle.asn1_rs.specs.Structs.{EncodingRules, FieldGrammar, RowGrammar, item_field, optional_field, empty_row, row_of}
-use Rattle.asn1_rs.specs.Structs.{MadeOf, among, left_out_by, row_list, fields_by, struct_grammar, ReadsField, ReadsRow}
+use Rattle.asn1_rs.specs.Structs.{MadeOf, among, FormNumbers, left_out_among, row_list, fields_by, struct_grammar, ReadsField, ReadsRow}
 use Rattle.asn1_rs.specs.Laws.Structs.Fields.{IsLawfulField, IsLawfulPut, item_field_lawful, optional_field_lawful}
-use Rattle.asn1_rs.specs.Laws.Structs.Fields.{item_put, optional_put}
+use Rattle.asn1_rs.specs.Laws.Structs.Fields.{item_put, optional_put, one_number}
 use Rattle.asn1_rs.specs.Laws.Structs.Rows.{IsLawfulRow, empty_lawful, row_lawful, first_holds, second_holds}
 use Rattle.asn1_rs.specs.Laws.Structs.Structs.{struct_lawful, struct_number, struct_takes_class}
 use Rattle.asn1_rs.specs.Laws.Structs.Writing.{IsLawfulPuts, empty_puts, row_puts, struct_lawful_writing}
 
--- A type of items with a class and a tag number, and which classes of implicit tags may stand over it. Its laws hold where it is
--- sound, as a value under an implicit tag is where its type takes the class of the tag.
+-- A type of items, the tag numbers of its elements, and which classes of implicit tags may stand over it. A single type
+-- has one class and one tag number; of another, as a choice is, these two tell nothing. The laws hold where it is sound,
+-- as a value under an implicit tag is where its type is single and takes the class of the tag.
 pub record LawfulTypeOf (S : Type 0) : Type 1 where
   pub class : ℕ
   pub number : ℕ
+  pub numbers : List ℕ
+  pub single : Bool
   pub grammar : ItemGrammar S
   pub writing : Writing S
   pub takes : ℕ → Bool
   pub sound : Bool
   pub lawful : sound ≡ true → IsLawfulItem grammar
-  pub numbered : FormNumber grammar.Form number
-  pub classed : FormClass grammar.Form class
+  pub begins : FormNumbers grammar.Form numbers
+  pub numbered : single ≡ true → FormNumber grammar.Form number
+  pub classed : single ≡ true → FormClass grammar.Form class
   pub fits : number < 2 ^ 32
   pub written : sound ≡ true → IsLawfulWriting grammar writing
   pub takes_class : sound ≡ true → (class : ℕ) → takes class ≡ true →
@@ -68,22 +72,22 @@ pub record LawfulStructOf (T : Type 0) : Type 1 where
 -- a required field
 abbrev pub field_of : {S : Type 0} → LawfulTypeOf S → LawfulFieldOf S
 field_of T = record {
-  grammar = item_field (among (T.number ∷ [])) T.grammar;
+  grammar = item_field (among T.numbers) T.grammar;
   writing = T.writing;
   sound = T.sound;
-  lawful = λ s. item_field_lawful T.number T.grammar (T.lawful s) T.numbered;
-  put = λ s. item_put T.grammar (T.lawful s) T.writing (T.written s) (among (T.number ∷ []));
+  lawful = λ s. item_field_lawful T.numbers T.grammar (T.lawful s) T.begins;
+  put = λ s. item_put T.grammar (T.lawful s) T.writing (T.written s) (among T.numbers);
 }
 
 -- an optional field
 abbrev pub optional_of : {S : Type 0} → LawfulTypeOf S → LawfulFieldOf (Option S)
 optional_of T = record {
-  grammar = optional_field (among (T.number ∷ [])) (left_out_by T.number) T.grammar;
+  grammar = optional_field (among T.numbers) (left_out_among T.numbers) T.grammar;
   writing = option_writing T.writing;
   sound = T.sound;
-  lawful = λ s. optional_field_lawful T.number T.grammar (T.lawful s) T.numbered;
-  put = λ s. optional_put T.grammar (T.lawful s) T.writing (T.written s) (among (T.number ∷ []))
-      (left_out_by T.number);
+  lawful = λ s. optional_field_lawful T.numbers T.grammar (T.lawful s) T.begins;
+  put = λ s. optional_put T.grammar (T.lawful s) T.writing (T.written s) (among T.numbers)
+      (left_out_among T.numbers);
 }
 
 -- no fields
@@ -132,13 +136,16 @@ abbrev pub struct_type : {T : Type 0} → LawfulStructOf T → LawfulTypeOf T
 struct_type T = record {
   class = 0;
   number = 16;
+  numbers = 16 ∷ [];
+  single = true;
   grammar = grammar_of_struct T;
   writing = writing_of_struct T;
   takes = λ class. true;
   sound = true;
   lawful = λ s. struct_lawful T.row.grammar T.lawful T.told T.as_row;
-  numbered = struct_number T.row.grammar;
-  classed = λ v i c f. ap (λ (z : Identifier). z.class) f.0;
+  begins = one_number (grammar_of_struct T).Form 16 (struct_number T.row.grammar);
+  numbered = λ s. struct_number T.row.grammar;
+  classed = λ s v i c f. ap (λ (z : Identifier). z.class) f.0;
   fits = lit< tt;
   written = λ s. struct_lawful_writing T.as_row T.row.grammar T.row.list T.puts;
   takes_class = λ s class t. struct_takes_class T.row.grammar T.lawful T.told class;

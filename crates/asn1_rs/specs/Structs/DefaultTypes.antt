@@ -1,7 +1,7 @@
 -- Which value of a type is the default, how it is told from the others, and what follows for a field that has it.
 use Rattle.std.proofs.Common.{◌≡◌, ◌∙◌, inl, inr, All, sym, subst, refl, ◌∷◌, ◌<◌, ◌-◌, ◌*◌, ◌^◌, ℕ, ℤ}
 use Rattle.std.proofs.Common.{Bool, true, false, List, [], length, map, arith}
-use Rattle.std.specs.Prelude.{Result, Ok, Err, IfErr, IsTrue, ◌↔◌, nat_eq, not, pos, negsuc}
+use Rattle.std.specs.Prelude.{Result, Ok, Err, IfErr, IsTrue, ◌↔◌, ◌&&◌, nat_eq, not, pos, negsuc}
 use Rattle.std.specs.Ordering.{int_eq}
 use Rattle.std.proofs.lemmas.Bool.{eqb-true}
 use Rattle.std.proofs.lemmas.Int.{ints}
@@ -26,6 +26,7 @@ use Rattle.asn1_rs.specs.Structs.Defaults.{default_field, default_writing, Defau
 use Rattle.asn1_rs.specs.Structs.Types.{leaf_type, unsigned_type, signed_type, list_type, explicit_type, implicit_type}
 use Rattle.asn1_rs.specs.Laws.Structs.Defaults.{default_field_lawful, default_put, default_reads, default_no_memory}
 use Rattle.asn1_rs.specs.Laws.Structs.Fields.{IsLawfulField, item_reads}
+use Rattle.asn1_rs.specs.Laws.Structs.Rows.{first_holds, second_holds}
 
 -- A default of a type: one of its values, and an item tells whether it has that value.
 pub record LawfulDefaultOf (S : Type 0) : Type 1 where
@@ -43,15 +44,19 @@ abbrev pub defaulted_of : {S W : Type 0} → (W → S) → LawfulDefaultOf S →
 defaulted_of inner D = record {
   grammar = defaulted_field inner D;
   writing = default_writing inner D.is_default D.of.writing;
-  sound = D.of.sound;
-  lawful = λ s. default_field_lawful inner D.of.number D.of.grammar D.default (D.of.lawful s) D.of.numbered D.is_value;
-  put = λ s. default_put inner D.of.number D.of.grammar D.default D.is_default D.same (D.of.lawful s) D.of.writing
-      (D.of.written s);
+  sound = D.of.single && D.of.sound;
+  lawful = λ s. default_field_lawful inner D.of.number D.of.grammar D.default
+      (D.of.lawful (second_holds D.of.single D.of.sound s)) (D.of.numbered (first_holds D.of.single D.of.sound s))
+      D.is_value;
+  put = λ s. default_put inner D.of.number D.of.grammar D.default D.is_default D.same
+      (D.of.lawful (second_holds D.of.single D.of.sound s)) D.of.writing
+      (D.of.written (second_holds D.of.single D.of.sound s));
 }
 
--- The type of a default is that of its readers: it is sound, and has their tag number, and their words with the values
--- that stand for theirs.
+-- The type of a default is that of its readers: it is single and sound, and has their tag number, and their words with
+-- the values that stand for theirs.
 pub record IsTypeOf {S : Type 0} (T : LawfulTypeOf S) (G : ItemGrammar S) (number : ℕ) : Type 0 where
+  pub single : T.single ≡ true
   pub sound : T.sound ≡ true
   pub number_is : T.number ≡ number
   pub allocates : G.allocates ≡ T.grammar.allocates
@@ -63,9 +68,11 @@ pub record IsTypeOf {S : Type 0} (T : LawfulTypeOf S) (G : ItemGrammar S) (numbe
       (w : G.Value) × words_by rules G o w
 
 -- where it is the very same
-abbrev pub its_own_type : {S : Type 0} {T : LawfulTypeOf S} → T.sound ≡ true → IsTypeOf T T.grammar T.number
-its_own_type sound = record {
-  sound = sound;
+abbrev pub its_own_type : {S : Type 0} {T : LawfulTypeOf S} → (T.single && T.sound) ≡ true →
+    IsTypeOf T T.grammar T.number
+its_own_type {S} {T} holds = record {
+  single = first_holds T.single T.sound holds;
+  sound = second_holds T.single T.sound holds;
   number_is = refl;
   allocates = refl;
   own = λ v. v;
@@ -79,7 +86,8 @@ module _ {S W : Type 0} (inner : W → S) (D : LawfulDefaultOf S) (G : ItemGramm
   -- The field of a default that is of the type of its readers is lawful.
   pub defaulted_lawful : IsLawfulField (defaulted_field inner D)
   defaulted_lawful =
-      default_field_lawful inner D.of.number D.of.grammar D.default (D.of.lawful t.sound) D.of.numbered D.is_value
+      default_field_lawful inner D.of.number D.of.grammar D.default (D.of.lawful t.sound)
+      (D.of.numbered t.single) D.is_value
 
   module _ (l : IsLawfulItem G) (rules : EncodingRules)
       (reads : List ℕ → Result (List ℕ × S) (Refusal Error) → Type 0)

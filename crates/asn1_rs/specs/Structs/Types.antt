@@ -59,7 +59,7 @@ use Rattle.asn1_rs.specs.Times.{moment_of, IsInvalidDateTime}
 use Rattle.asn1_rs.specs.Optional.{option_writing}
 use Rattle.asn1_rs.specs.Structs.{any_number, item_field, optional_field, left_out_at_end}
 use Rattle.asn1_rs.specs.Structs.Data.{LawfulTypeOf, LawfulFieldOf}
-use Rattle.asn1_rs.specs.Laws.Structs.Fields.{any_field_lawful, any_option_lawful, item_put, optional_put}
+use Rattle.asn1_rs.specs.Laws.Structs.Fields.{any_field_lawful, any_option_lawful, item_put, one_number, optional_put}
 
 -- Types of one element.
 
@@ -70,13 +70,16 @@ abbrev pub refusing_type : {S : Type 0} (number : ℕ) (G : ElementGrammar S) (o
 refusing_type {S} number G octets is_refused refusal l w = record {
   class = 0;
   number = number;
+  numbers = number ∷ [];
+  single = true;
   grammar = item_grammar G;
   writing = universal_writing number octets is_refused refusal;
   takes = λ class. true;
   sound = true;
   lawful = λ s. lawful_item G l;
-  numbered = universal_number G number octets is_refused w;
-  classed = λ v i c f. ap (λ (z : Identifier). z.class) (w.identifier v i c f);
+  begins = one_number (item_grammar G).Form number (universal_number G number octets is_refused w);
+  numbered = λ s. universal_number G number octets is_refused w;
+  classed = λ s v i c f. ap (λ (z : Identifier). z.class) (w.identifier v i c f);
   fits = universal_number_fits G number octets is_refused w;
   written = λ s. universal_lawful_writing G number octets is_refused w refusal;
   takes_class = λ s class t. w.class class;
@@ -157,13 +160,16 @@ abbrev pub oid_type : LawfulTypeOf Oid
 oid_type = record {
   class = 0;
   number = 6;
+  numbers = 6 ∷ [];
+  single = true;
   grammar = item_grammar oid_element;
   writing = oid_writing;
   takes = λ class. true;
   sound = true;
   lawful = λ s. lawful_item oid_element oid_lawful;
-  numbered = oid_form_number;
-  classed = λ v i c f. ap (λ (z : Identifier). z.class) f.0;
+  begins = one_number (item_grammar oid_element).Form 6 oid_form_number;
+  numbered = λ s. oid_form_number;
+  classed = λ s v i c f. ap (λ (z : Identifier). z.class) f.0;
   fits = oid_number_fits;
   written = λ s. oid_lawful_writing;
   takes_class = λ s class t. oid_takes_class class;
@@ -176,13 +182,16 @@ abbrev pub list_type : {S W : Type 0} → (W → List S) → LawfulTypeOf S → 
 list_type items T = record {
   class = 0;
   number = 16;
+  numbers = 16 ∷ [];
+  single = true;
   grammar = list_grammar 16 items T.grammar;
   writing = list_writing 16 items T.writing;
   takes = λ class. true;
   sound = T.sound;
   lawful = λ s. list_lawful 16 (lit< tt) items T.grammar (T.lawful s);
-  numbered = list_number T.grammar.Form 16;
-  classed = λ v i c f. ap (λ (z : Identifier). z.class) f.0;
+  begins = one_number (list_grammar 16 items T.grammar).Form 16 (list_number T.grammar.Form 16);
+  numbered = λ s. list_number T.grammar.Form 16;
+  classed = λ s v i c f. ap (λ (z : Identifier). z.class) f.0;
   fits = lit< tt;
   written = λ s. list_lawful_writing 16 items T.grammar T.writing (T.lawful s) (T.written s);
   takes_class = λ s class t. list_takes_class T.grammar.Form 16 (ber_words T.grammar) T.grammar.Check
@@ -194,13 +203,16 @@ abbrev pub multiset_type : {S W : Type 0} → (W → List S) → LawfulTypeOf S 
 multiset_type items T = record {
   class = 0;
   number = 17;
+  numbers = 17 ∷ [];
+  single = true;
   grammar = multiset_grammar items T.grammar;
   writing = set_writing items T.writing;
   takes = λ class. true;
   sound = T.sound;
   lawful = λ s. multiset_lawful items T.grammar (T.lawful s);
-  numbered = set_number multiset AnyList T.grammar.Form;
-  classed = λ v i c f. ap (λ (z : Identifier). z.class) f.0;
+  begins = one_number (multiset_grammar items T.grammar).Form 17 (set_number multiset AnyList T.grammar.Form);
+  numbered = λ s. set_number multiset AnyList T.grammar.Form;
+  classed = λ s v i c f. ap (λ (z : Identifier). z.class) f.0;
   fits = lit< tt;
   written = λ s. multiset_lawful_writing items T.grammar T.writing (T.lawful s) (T.written s);
   takes_class = λ s class t. set_takes_class multiset AnyList T.grammar.Form (ber_words T.grammar) T.grammar.Check
@@ -212,39 +224,52 @@ abbrev pub explicit_type : {S W : Type 0} (class number : ℕ) → (W → S) →
 explicit_type class number inner T = record {
   class = class;
   number = number_of number;
+  numbers = number_of number ∷ [];
+  single = true;
   grammar = explicit_grammar class number inner T.grammar;
   writing = tag_writing class number inner (explicit_under T.writing) T.writing;
   takes = λ other. nat_eq other class;
   sound = T.sound;
   lawful = λ s. explicit_lawful class number inner T.grammar (T.lawful s);
-  numbered = explicit_number class number T.grammar.Form;
-  classed = λ v i c f. ap (λ (z : Identifier). z.class) f.id_is;
+  begins = one_number (explicit_grammar class number inner T.grammar).Form (number_of number)
+      (explicit_number class number T.grammar.Form);
+  numbered = λ s. explicit_number class number T.grammar.Form;
+  classed = λ s v i c f. ap (λ (z : Identifier). z.class) f.id_is;
   fits = number_fits number;
   written = λ s. explicit_lawful_writing class number inner T.grammar T.writing (T.lawful s) (T.written s);
   takes_class = λ s other t. takes_own (explicit_grammar class number inner T.grammar) class other t (explicit_takes_class class number T.grammar.Form
       (ber_words T.grammar) T.grammar.Check (strict_ber T.grammar (T.lawful s)) (T.lawful s).form_check);
 }
 
--- values under an implicit tag, sound where their type takes the class of the tag
+-- values under an implicit tag, sound where their type has one tag number and takes the class of the tag
 abbrev pub implicit_type : {S W : Type 0} (class number : ℕ) → (W → S) → LawfulTypeOf S → LawfulTypeOf W
 implicit_type class number inner T = record {
   class = class;
   number = number_of number;
+  numbers = number_of number ∷ [];
+  single = true;
   grammar = implicit_grammar class number T.number inner T.grammar;
   writing = tag_writing class number inner (implicit_under T.writing) T.writing;
   takes = λ other. nat_eq other class;
-  sound = T.sound && T.takes class;
-  lawful = λ s. let l = T.lawful (first_holds T.sound (T.takes class) s) in
-      implicit_lawful class number T.number inner T.grammar l T.fits T.numbered
-      (T.takes_class (first_holds T.sound (T.takes class) s) class (second_holds T.sound (T.takes class) s));
-  numbered = implicit_number class number T.grammar.Form;
-  classed = λ v i c f. ap (λ (z : Identifier). z.class) f.id_is;
+  sound = T.single && (T.sound && T.takes class);
+  lawful = λ s. let own = second_holds T.single (T.sound && T.takes class) s in
+      let l = T.lawful (first_holds T.sound (T.takes class) own) in
+      implicit_lawful class number T.number inner T.grammar l T.fits
+      (T.numbered (first_holds T.single (T.sound && T.takes class) s))
+      (T.takes_class (first_holds T.sound (T.takes class) own) class (second_holds T.sound (T.takes class) own));
+  begins = one_number (implicit_grammar class number T.number inner T.grammar).Form (number_of number)
+      (implicit_number class number T.grammar.Form);
+  numbered = λ s. implicit_number class number T.grammar.Form;
+  classed = λ s v i c f. ap (λ (z : Identifier). z.class) f.id_is;
   fits = number_fits number;
-  written = λ s. implicit_lawful_writing class number inner T.grammar T.writing
-      (T.lawful (first_holds T.sound (T.takes class) s)) (T.written (first_holds T.sound (T.takes class) s)) T.number;
-  takes_class = λ s other t. takes_own (implicit_grammar class number T.number inner T.grammar) class other t (implicit_takes_class class number T.grammar.Form T.number
-      T.grammar.Check T.grammar.Body T.numbered
-      (T.takes_class (first_holds T.sound (T.takes class) s) class (second_holds T.sound (T.takes class) s)));
+  written = λ s. let own = second_holds T.single (T.sound && T.takes class) s in
+      implicit_lawful_writing class number inner T.grammar T.writing
+      (T.lawful (first_holds T.sound (T.takes class) own)) (T.written (first_holds T.sound (T.takes class) own)) T.number;
+  takes_class = λ s other t. let own = second_holds T.single (T.sound && T.takes class) s in
+      takes_own (implicit_grammar class number T.number inner T.grammar) class other t
+      (implicit_takes_class class number T.grammar.Form T.number T.grammar.Check T.grammar.Body
+      (T.numbered (first_holds T.single (T.sound && T.takes class) s))
+      (T.takes_class (first_holds T.sound (T.takes class) own) class (second_holds T.sound (T.takes class) own)));
 }
 
 -- Elements of any tag number.

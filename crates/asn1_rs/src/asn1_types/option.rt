@@ -48,7 +48,7 @@ fn is_left_out(tag: Tag, octets: &[u8], read: ParseResult<'_, Header<'_>, Error>
 
 /// The whole answer, an Ok in Some.
 #[inline(always)]
-fn held<'a, T, E>(answer: ParseResult<'a, T, E>) -> ParseResult<'a, Option<T>, E>
+pub(crate) fn held<'a, T, E>(answer: ParseResult<'a, T, E>) -> ParseResult<'a, Option<T>, E>
     ensures { seen result ≡ in_some (seen answer.entry) }
 {
     match answer {

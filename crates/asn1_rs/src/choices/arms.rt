@@ -1,5 +1,5 @@
 //! The arms of a choice: a type, or the others behind it, with [`Never`] at the end.
-ghost use Rattle.std.specs.Prelude.{◌≡◌, ◌≢◌, ◌∷◌, ℕ, List, None, Result, Err, false, IfErr};
+ghost use Rattle.std.specs.Prelude.{◌≡◌, ◌≢◌, ◌∷◌, [], ℕ, List, None, Result, Err, false, IfErr};
 ghost use Rattle.x690.specs.Octets.{IsOctets};
 ghost use Rattle.x690.specs.Identifiers.{Identifier, IsCutIdentifier};
 ghost use Rattle.x690.specs.Elements.{Parts};
@@ -24,6 +24,7 @@ ghost use Rattle.asn1_rs.specs.Laws.Choices.Readers.{or_reads_exact, or_reads_qu
 ghost use Rattle.asn1_rs.specs.Laws.Choices.Readers.{or_takes_quiet, or_takes_other, or_checks, none_takes, none_takes_quiet};
 ghost use Rattle.asn1_rs.specs.Laws.Choices.Readers.{NoArmChecks, none_checks, not_memory};
 ghost use Rattle.asn1_rs.specs.Laws.Structs.Rows.{or_neither};
+ghost use Rattle.asn1_rs.specs.Structs.{is_one_of};
 
 use crate::asn1_types::any::Any;
 use crate::laws::{LawfulBody, LawfulCheck, LawfulDer};
@@ -81,6 +82,32 @@ fn no_arm(any: &Any<'_>) -> Error
     ensures { result ≡ errors.UnexpectedTag None (record { 0 = (parts_of any.now).id.number }) }
 {
     Error::unexpected_tag(None, any.header.tag())
+}
+
+/// Arms with tag numbers, by which a choice of them is told where it is a field.
+pub trait ArmNumbers {
+    /// Their tag numbers.
+    ghost arm_numbers: { List ℕ };
+
+    /// Whether this is one of them.
+    fn is_of_an_arm(tag: Tag) -> bool
+        ensures { result ≡ is_one_of tag.0 arm_numbers };
+}
+
+impl ArmNumbers for Never {
+    ghost arm_numbers = { [] };
+
+    fn is_of_an_arm(_tag: Tag) -> bool {
+        false
+    }
+}
+
+impl<T: Tagged, R: ArmNumbers, const CLASS: u8> ArmNumbers for Or<T, R, CLASS> {
+    ghost arm_numbers = { (T.TAG).0 ∷ R.arm_numbers };
+
+    fn is_of_an_arm(tag: Tag) -> bool {
+        T::TAG.0 == tag.0 || R::is_of_an_arm(tag)
+    }
 }
 
 /// Arms that are read by DER.

@@ -17,7 +17,7 @@ ghost use Rattle.asn1_headers.specs.Answers.{seen};
 ghost use Rattle.asn1_headers.specs.declared.error.Error.{Error};
 ghost use Rattle.asn1_headers.specs.declared.error.Error.TheVariants.{OutOfMemory};
 ghost use Rattle.asn1_rs.specs.Any.{parts_of};
-ghost use Rattle.asn1_rs.specs.Choices.{UsesChosen, ChoiceReads, ChoiceGives, KnowsClass, choice_grammar};
+ghost use Rattle.asn1_rs.specs.Choices.{ChoiceReads, ChoiceGives, KnowsClass, choice_grammar};
 ghost use Rattle.asn1_rs.specs.Choices.Data.{LawfulChoiceOf, AnswersByDer, AnswersOf, ChecksOf, grammar_of_choice};
 ghost use Rattle.asn1_rs.specs.Laws.Choices.{choice_lawful};
 ghost use Rattle.asn1_rs.specs.Laws.Choices.Readers.{choice_reads, choice_gives, choice_checks, of_another};
@@ -63,7 +63,7 @@ pub trait LawfulChoice: HasKind<Kind = ChoiceKind> + DynTagged + Sized {
 
     /// Uses the value of the arm that it is.
     fn with_arm<U: UsesArm>(&self, using: U) -> U::Answer
-        ensures { UsesChosen U.answers (laws.arms.arm_of (laws.as_arms self.now)) result };
+        ensures { U.answers (laws.arms.arm_of (laws.as_arms self.now)) result };
 }
 
 /// A choice that is made of its arms.

@@ -1,9 +1,7 @@
 //! How choices are written: as the arm that a value is of.
 ghost use Rattle.std.specs.Prelude.{◌≡◌, ℕ, List, length};
-ghost use Rattle.asn1_rs.specs.Grammar.Item.{ItemGrammar};
-ghost use Rattle.asn1_rs.specs.ToDer.{Writing};
 ghost use Rattle.asn1_rs.specs.Choices.{CountsWhole, CountsContent, TellsConstructed, CollectsWhole, CollectsContent};
-ghost use Rattle.asn1_rs.specs.Choices.{CollectsHeader, HasTypeValue, choice_writing};
+ghost use Rattle.asn1_rs.specs.Choices.{CollectsHeader, HasTypeValue, choice_writing, ChosenArm, chosen};
 ghost use Rattle.asn1_rs.specs.Choices.Data.{writing_of_choice};
 ghost use Rattle.asn1_rs.specs.Laws.Choices.{choice_lawful_writing};
 
@@ -21,12 +19,12 @@ pub trait UsesArm: Sized {
     /// What it answers.
     type Answer;
 
-    /// What it may answer of a value of this type, that is written so.
-    ghost answers: { (T : Type 0) → ItemGrammar T → Writing T → T → Self.Answer → Type 0 };
+    /// What it may answer of the value of this arm.
+    ghost answers: { ChosenArm → Self.Answer → Type 0 };
 
     /// Uses a value.
     fn use_arm<T: LawfulWrite>(self, value: &T) -> Self::Answer
-        ensures { answers _ T.grammar T.writing value.now result };
+        ensures { answers (chosen T.grammar T.writing value.now) result };
 }
 
 /// States that it is one of its type's.

@@ -14,16 +14,19 @@ ghost use Rattle.asn1_rs.specs.Laws.Any.Value.{element_lawful};
 ghost use Rattle.asn1_rs.specs.Laws.Kinds.{lawful_item};
 ghost use Rattle.asn1_rs.specs.Optional.{IfHeld, IsAtEnd, OptionGives};
 ghost use Rattle.asn1_rs.specs.Laws.Structs.Fields.{IsLawfulField, item_field_lawful, optional_field_lawful, any_field_lawful, any_option_lawful};
-ghost use Rattle.asn1_rs.specs.Structs.{FieldGrammar, item_field, optional_field, any_number, among, left_out_by, left_out_at_end, by_der, by_ber};
+ghost use Rattle.asn1_rs.specs.Structs.{FieldGrammar, item_field, optional_field, any_number, among, left_out_among, left_out_at_end, by_der, by_ber};
 ghost use Rattle.asn1_rs.specs.Structs.Data.{LawfulTypeOf, LawfulFieldOf, AnswersField, field_of, optional_of};
 
 use crate::asn1_types::any::Any;
+use crate::asn1_types::option::held;
 use crate::laws::in_hand::AlwaysDer;
-use crate::laws::{LawfulBer, LawfulDer, LawfulItem, LawfulTagged};
+use crate::laws::{LawfulBer, LawfulDer, LawfulItem};
 use crate::structs::ReadsBy;
+use crate::structs::numbers::{ToldByNumber, is_left_out};
 use crate::traits::{FromBer, FromDer};
 use asn1_headers::content::{BerParser, DerParser};
 use asn1_headers::error::{Error, ParseResult};
+use asn1_headers::header::reading::{header_by_ber, header_by_der};
 use std::alloc::Global;
 
 /// A type that may be a field of a struct: its laws stand in one record, so that a row of fields can name them.
@@ -68,35 +71,37 @@ pub trait ReadsField<'a, P: ReadsBy>: Sized {
         Self.field_gives octets answer → AnswersField P.rules Self.field_grammar octets answer };
 }
 
-impl<'a, T: LawfulType + LawfulDer<'a, Error> + LawfulTagged> ReadsField<'a, DerParser> for T {
-    ghost field_grammar = { item_field (among ((T.TAG).0 ∷ [])) T.grammar };
+impl<'a, T: LawfulType + LawfulDer<'a, Error> + ToldByNumber> ReadsField<'a, DerParser> for T {
+    ghost field_grammar = { item_field (among T.numbers) T.grammar };
 
     ghost field_gives = { T.der_gives };
 
-    ghost lawful_field = { item_field_lawful (T.TAG).0 T.grammar T.lawful_item T.tag_number };
+    ghost lawful_field = { item_field_lawful T.numbers T.grammar T.lawful_item T.told_by_number };
 
     ghost exact_field = { item_answers by_der T.grammar T.lawful_item T.der_gives T.der_exact T.der_no_memory
-        (among ((T.TAG).0 ∷ [])) };
+        (among T.numbers) };
 
     fn read_field(alloc: Global, octets: &'a [u8]) -> ParseResult<'a, T, Error> {
         T::from_der(alloc, octets)
     }
 }
 
-impl<'a, T: LawfulType + LawfulDer<'a, Error> + LawfulTagged> ReadsField<'a, DerParser>
+impl<'a, T: LawfulType + LawfulDer<'a, Error> + ToldByNumber> ReadsField<'a, DerParser>
     for Option<T> {
-    ghost field_grammar = { optional_field (among ((T.TAG).0 ∷ []))
-        (left_out_by (T.TAG).0) T.grammar };
+    ghost field_grammar = { optional_field (among T.numbers) (left_out_among T.numbers) T.grammar };
 
-    ghost field_gives = { OptionGives (left_out_by (T.TAG).0 by_der) T.der_gives };
+    ghost field_gives = { OptionGives (left_out_among T.numbers by_der) T.der_gives };
 
-    ghost lawful_field = { optional_field_lawful (T.TAG).0 T.grammar T.lawful_item T.tag_number };
+    ghost lawful_field = { optional_field_lawful T.numbers T.grammar T.lawful_item T.told_by_number };
 
     ghost exact_field = { option_answers by_der T.grammar T.lawful_item T.der_gives T.der_exact T.der_no_memory
-        (among ((T.TAG).0 ∷ [])) (left_out_by (T.TAG).0) };
+        (among T.numbers) (left_out_among T.numbers) };
 
     fn read_field(alloc: Global, octets: &'a [u8]) -> ParseResult<'a, Option<T>, Error> {
-        Option::<T>::from_der(alloc, octets)
+        if is_left_out::<T>(octets, header_by_der(octets)) {
+            return Ok((octets, None));
+        }
+        held(T::from_der(alloc, octets))
     }
 }
 
@@ -130,35 +135,37 @@ impl<'a> ReadsField<'a, DerParser> for Option<Any<'a>> {
     }
 }
 
-impl<'a, T: LawfulType + LawfulBer<'a, Error> + LawfulTagged> ReadsField<'a, BerParser> for T {
-    ghost field_grammar = { item_field (among ((T.TAG).0 ∷ [])) T.grammar };
+impl<'a, T: LawfulType + LawfulBer<'a, Error> + ToldByNumber> ReadsField<'a, BerParser> for T {
+    ghost field_grammar = { item_field (among T.numbers) T.grammar };
 
     ghost field_gives = { T.ber_gives };
 
-    ghost lawful_field = { item_field_lawful (T.TAG).0 T.grammar T.lawful_item T.tag_number };
+    ghost lawful_field = { item_field_lawful T.numbers T.grammar T.lawful_item T.told_by_number };
 
     ghost exact_field = { item_answers by_ber T.grammar T.lawful_item T.ber_gives T.ber_exact T.ber_no_memory
-        (among ((T.TAG).0 ∷ [])) };
+        (among T.numbers) };
 
     fn read_field(alloc: Global, octets: &'a [u8]) -> ParseResult<'a, T, Error> {
         T::from_ber(alloc, octets)
     }
 }
 
-impl<'a, T: LawfulType + LawfulBer<'a, Error> + LawfulTagged> ReadsField<'a, BerParser>
+impl<'a, T: LawfulType + LawfulBer<'a, Error> + ToldByNumber> ReadsField<'a, BerParser>
     for Option<T> {
-    ghost field_grammar = { optional_field (among ((T.TAG).0 ∷ []))
-        (left_out_by (T.TAG).0) T.grammar };
+    ghost field_grammar = { optional_field (among T.numbers) (left_out_among T.numbers) T.grammar };
 
-    ghost field_gives = { OptionGives (left_out_by (T.TAG).0 by_ber) T.ber_gives };
+    ghost field_gives = { OptionGives (left_out_among T.numbers by_ber) T.ber_gives };
 
-    ghost lawful_field = { optional_field_lawful (T.TAG).0 T.grammar T.lawful_item T.tag_number };
+    ghost lawful_field = { optional_field_lawful T.numbers T.grammar T.lawful_item T.told_by_number };
 
     ghost exact_field = { option_answers by_ber T.grammar T.lawful_item T.ber_gives T.ber_exact T.ber_no_memory
-        (among ((T.TAG).0 ∷ [])) (left_out_by (T.TAG).0) };
+        (among T.numbers) (left_out_among T.numbers) };
 
     fn read_field(alloc: Global, octets: &'a [u8]) -> ParseResult<'a, Option<T>, Error> {
-        Option::<T>::from_ber(alloc, octets)
+        if is_left_out::<T>(octets, header_by_ber(octets)) {
+            return Ok((octets, None));
+        }
+        held(T::from_ber(alloc, octets))
     }
 }
 

@@ -17,7 +17,7 @@ use Rattle.asn1_rs.specs.Structs.{EncodingRules, header_rule, FieldGrammar, item
 use Rattle.asn1_rs.specs.Structs.{OptionStrict, BeginsWithOneOf, BeginsApart, ReadsField, among, left_out_by}
 use Rattle.asn1_rs.specs.Structs.Defaults.{default_field, DefaultTakes, DefaultStrict, unless_default, default_writing}
 use Rattle.asn1_rs.specs.Structs.Defaults.{DefaultGives, OrDefault}
-use Rattle.asn1_rs.specs.Laws.Structs.Fields.{IsLawfulField, IsLawfulPut, optional_field_lawful, optional_put}
+use Rattle.asn1_rs.specs.Laws.Structs.Fields.{IsLawfulField, IsLawfulPut, optional_by_lawful, optional_put}
 
 module _ {S W : Type 0} (inner : W → S) (number : ℕ) (G : ItemGrammar S) (default : G.Value) where
   -- the field, and the optional one of the same type
@@ -30,7 +30,7 @@ module _ {S W : Type 0} (inner : W → S) (number : ℕ) (G : ItemGrammar S) (de
   module _ (l : IsLawfulItem G) (numbered : FormNumber G.Form number) (is_value : G.IsValue default) where
     -- Where the field is left out it is as the optional one with none, and else as that with the value.
     held : IsLawfulField Held
-    held = optional_field_lawful number G l numbered
+    held = optional_by_lawful number G l numbered
 
     default_values : (rules : EncodingRules) (o : List ℕ) (v : G.Value) (r : List ℕ) → F.Takes rules o v r → G.IsValue v
     default_values rules o v r (inl t) = subst G.IsValue (sym t.1) is_value

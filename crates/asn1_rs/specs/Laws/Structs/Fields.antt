@@ -1,6 +1,6 @@
 -- Fields of lawful types are lawful, and their readers are exact.
 use Rattle.std.proofs.Common.{◌≡◌, ◌≢◌, ◌∙◌, ap, sym, subst, refl, ℕ, ◌^◌, ◌<◌, inl, inr, Bool, true, false, List, []}
-use Rattle.std.proofs.Common.{◌∷◌, ◌++◌, ◌+◌, arith, length, length-append, append_assoc, Option, None, Some, ◌⊎◌}
+use Rattle.std.proofs.Common.{◌∷◌, ◌++◌, ◌+◌, ◌≤◌, arith, length, length-append, append_assoc, Option, None, Some, ◌⊎◌}
 use Rattle.std.specs.Prelude.{Result, Ok, Err, IfErr, IsTrue, nat_eq}
 use Rattle.std.proofs.lemmas.Bool.{eq-eqb}
 use Rattle.std.proofs.lemmas.List.{append_cancel_left}
@@ -14,6 +14,7 @@ use Rattle.x690.specs.Joined.{IsOneFront}
 use Rattle.x690.specs.Laws.Equality.{option_set}
 use Rattle.x690.specs.Laws.Octets.{octets_back, below_octets}
 use Rattle.x690.specs.Laws.Elements.{definite_element_two, definite_element_is_octets}
+use Rattle.x690.specs.Laws.Headers.{header_unique, header_two}
 use Rattle.x690.specs.Laws.StrictElements.{der_allows_strict, ber_allows_strict}
 use Rattle.asn1_headers.specs.declared.error.Err.{Err as Refusal}
 use Rattle.asn1_headers.specs.declared.error.Error.{Error}
@@ -30,7 +31,8 @@ use Rattle.asn1_rs.specs.Optional.{IfHeld, IsLeftOut, OptionGives, option_writin
 use Rattle.asn1_rs.specs.ToDer.{Writing, IsWritable, whole_octets}
 use Rattle.asn1_rs.specs.Structs.{EncodingRules, by_der, by_ber, header_rule, words_by, IsCutBy, FieldGrammar, item_field}
 use Rattle.asn1_rs.specs.Structs.{optional_field, OptionTakes, OptionStrict, BeginsWithNumber, ReadsField, Numbers, left_out_by}
-use Rattle.asn1_rs.specs.Structs.{any_number, among, is_one_of, BeginsWithOneOf, BeginsApart, left_out_at_end}
+use Rattle.asn1_rs.specs.Structs.{any_number, among, is_one_of, BeginsWithOneOf, BeginsApart, left_out_at_end, FormNumbers}
+use Rattle.asn1_rs.specs.Structs.{left_out_among}
 
 -- Octets give one value and leave one rest; a value has one strict octets, and these are octets. They begin with one of
 -- the tag numbers, or are none where the field may be left out; and they are taken again, with their value, before each
@@ -315,12 +317,47 @@ module _ {S : Type 0} (G : ItemGrammar S) (l : IsLawfulItem G) where
           subst (ReadsField rules (optional_field numbers LeftOut G) octets) (sym e)
           (held_option octets its stays (item_reads numbers octets its k g))
 
--- Fields of types with a tag number, and of those that look at none.
+-- Headers at the front.
 
-module _ {S : Type 0} (number : ℕ) (G : ItemGrammar S) (l : IsLawfulItem G) (numbered : FormNumber G.Form number) where
-  -- strict encodings begin with a header of the tag number
-  strict_header : (rules : EncodingRules) (v : G.Value) (o rest : List ℕ) → IsStrict G.Form v o →
-      BeginsWithNumber (header_rule rules) number (o ++ rest)
+-- one begins no empty octets
+pub begins_some : (rule : Rule) (n : ℕ) (octets : List ℕ) → BeginsWithNumber rule n octets → octets ≢ []
+begins_some rule n octets b e =
+    let two : 2 ≤ length b.header = header_two rule b.header b.id b.form b.header_is in
+    let none : length b.header + length b.rest ≡ 0 = sym (length-append b.header b.rest) ∙ ap length (sym b.is ∙ e) in
+    absurd (omega (arith, two, none))
+
+-- and has one tag number
+pub begins_with_one : (rule : Rule) (n m : ℕ) (octets : List ℕ) → BeginsWithNumber rule n octets →
+    BeginsWithNumber rule m octets → n ≡ m
+begins_with_one rule n m octets b c =
+    let u = header_unique rule rule b.header c.header b.rest c.rest b.id c.id b.form c.form b.header_is c.header_is
+    (sym b.is ∙ c.is) in
+    sym b.number_is ∙ ap (λ (i : Identifier). i.number) u.1 ∙ c.number_is
+
+-- one of one of these numbers begins nothing that begins with another
+pub not_apart : (rule : Rule) (n : ℕ) (numbers : List ℕ) (octets : List ℕ) → BeginsWithNumber rule n octets →
+    is_one_of n numbers ≡ true → BeginsApart rule (among numbers) octets → ⊥
+not_apart rule n numbers octets b own (inl none) = begins_some rule n octets b none
+not_apart rule n numbers octets b own (inr (m, c, other)) =
+    let t : is_one_of m numbers ≡ true =
+    subst (λ (z : ℕ). is_one_of z numbers ≡ true) (begins_with_one rule n m octets b c) own in
+    absurd (let u : true ≡ false = sym t ∙ other in cc)
+
+-- a number is the only one of its own
+is_own : (n m : ℕ) → n ≡ m → is_one_of m (n ∷ []) ≡ true
+is_own n m same = let e : nat_eq n m ≡ true = eq-eqb n m same in rw e refl
+
+-- strict parts of one tag number have one of it alone
+pub one_number : {V : Type 0} (Form : V → Identifier → List ℕ → Type 0) (number : ℕ) → FormNumber Form number →
+    FormNumbers Form (number ∷ [])
+one_number Form number numbered v i c f = is_own number i.number (sym (numbered v i c f))
+
+-- Fields of types with tag numbers, and of those that look at none.
+
+module _ {S : Type 0} (G : ItemGrammar S) where
+  -- strict encodings begin with a header of their tag number
+  strict_header : (rules : EncodingRules) (v : G.Value) (o rest : List ℕ) (s : IsStrict G.Form v o) →
+      BeginsWithNumber (header_rule rules) s.id.number (o ++ rest)
   strict_header rules v o rest s =
       let element = strict_element (header_rule rules) (allows_strict rules) G.Form v o s in record {
         header = element.header;
@@ -329,28 +366,42 @@ module _ {S : Type 0} (number : ℕ) (G : ItemGrammar S) (l : IsLawfulItem G) (n
         form = definite (length s.content);
         header_is = element.header_is;
         is = ap (λ (ys : List ℕ). ys ++ rest) element.is ∙ append_assoc element.header s.content rest;
-        number_is = numbered v s.id s.content s.form;
+        number_is = refl;
       }
 
+module _ {S : Type 0} (numbers : List ℕ) (G : ItemGrammar S) (l : IsLawfulItem G)
+    (numbered : FormNumbers G.Form numbers) where
   -- which is among the numbers of the field
-  strict_begins : StrictBegins G.Form (among (number ∷ []))
+  strict_begins : StrictBegins G.Form (among numbers)
   strict_begins rules v o rest s =
-      let e : nat_eq number number ≡ true = eq-eqb number number refl in
-      (number, strict_header rules v o rest s, rw e refl)
+      (s.id.number, strict_header G rules v o rest s, numbered v s.id s.content s.form)
 
   strict_stays : (rules : EncodingRules) (v : G.Value) (o rest : List ℕ) → IsStrict G.Form v o →
-      left_out_by number rules (o ++ rest) → ⊥
-  strict_stays rules v o rest s =
-      let b = strict_header rules v o rest s in
-      not_left_out (header_rule rules) (o ++ rest) b.header b.rest b.id b.form number b.header_is b.is b.number_is
+      left_out_among numbers rules (o ++ rest) → ⊥
+  strict_stays rules v o rest s = not_apart (header_rule rules) s.id.number numbers (o ++ rest)
+      (strict_header G rules v o rest s) (numbered v s.id s.content s.form)
 
-  -- A field of a lawful type with a tag number is lawful.
-  pub item_field_lawful : IsLawfulField (item_field (among (number ∷ [])) G)
-  item_field_lawful = item_lawful G l (among (number ∷ [])) strict_begins
+  -- A field of a lawful type with tag numbers is lawful.
+  pub item_field_lawful : IsLawfulField (item_field (among numbers) G)
+  item_field_lawful = item_lawful G l (among numbers) strict_begins
 
   -- So is an optional one.
-  pub optional_field_lawful : IsLawfulField (optional_field (among (number ∷ [])) (left_out_by number) G)
-  optional_field_lawful = option_lawful G l (among (number ∷ [])) (left_out_by number) strict_begins strict_stays
+  pub optional_field_lawful : IsLawfulField (optional_field (among numbers) (left_out_among numbers) G)
+  optional_field_lawful = option_lawful G l (among numbers) (left_out_among numbers) strict_begins strict_stays
+      (λ rules rest apart. apart)
+
+module _ {S : Type 0} (number : ℕ) (G : ItemGrammar S) (l : IsLawfulItem G) (numbered : FormNumber G.Form number) where
+  stays_by : (rules : EncodingRules) (v : G.Value) (o rest : List ℕ) → IsStrict G.Form v o →
+      left_out_by number rules (o ++ rest) → ⊥
+  stays_by rules v o rest s =
+      let b = strict_header G rules v o rest s in
+      not_left_out (header_rule rules) (o ++ rest) b.header b.rest b.id b.form number b.header_is b.is
+      (b.number_is ∙ numbered v s.id s.content s.form)
+
+  -- And one of one tag number.
+  pub optional_by_lawful : IsLawfulField (optional_field (among (number ∷ [])) (left_out_by number) G)
+  optional_by_lawful = option_lawful G l (among (number ∷ [])) (left_out_by number)
+      (strict_begins (number ∷ []) G l (one_number G.Form number numbered)) stays_by
       (λ rules rest apart. apart_leaves_out (header_rule rules) number rest apart)
 
 module _ {S : Type 0} (G : ItemGrammar S) (l : IsLawfulItem G) where

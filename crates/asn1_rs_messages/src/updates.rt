@@ -1,0 +1,124 @@
+//! A message with a choice that may be left out, a list of choices and one under a tag, by both rules.
+ghost use Rattle.std.proofs.Common.{refl};
+ghost use Rattle.asn1_headers.specs.Answers.{seen};
+ghost use Rattle.asn1_rs.specs.Structs.{MadeOf};
+ghost use Rattle.asn1_rs.specs.Structs.Data.{struct_of};
+ghost use Rattle.asn1_rs_messages.specs.Callers.{ReadsByDer, ReadsByBer, WritesStrict};
+
+use crate::time::{TaggedTime, Time};
+use asn1_rs::{
+    BerParser, BorrowedRow, DerParser, Error, Fields, FieldsKind, Grammar, HasKind, HasReader,
+    LawfulStruct, ParseResult, ReadsFields, ReadsFieldsByBer, ReadsRow, Row, SerializeResult,
+    StructReader, ToDer, read_ber, read_der, row_by_ber, row_by_der, strict_vec,
+};
+use std::alloc::Global;
+
+/// When a list is updated. The first two fields are as those of a list of revoked certificates (RFC 5280, 5.1).
+///
+///     Updates ::= SEQUENCE {
+///         thisUpdate  Time,
+///         nextUpdate  Time OPTIONAL,
+///         earlier     SEQUENCE OF Time,
+///         last        [0] EXPLICIT Time OPTIONAL }
+#[derive(Debug, PartialEq, Eq, Drop)]
+pub struct Updates {
+    pub this_update: Time,
+    pub next_update: Option<Time>,
+    pub earlier: Vec<Time>,
+    pub last: Option<TaggedTime>,
+}
+
+/// Its fields.
+pub type UpdatesRow = (Time, (Option<Time>, (Vec<Time>, (Option<TaggedTime>, ()))));
+
+impl HasKind for Updates {
+    type Kind = FieldsKind;
+}
+
+impl HasReader for Updates {
+    type Reader = StructReader;
+}
+
+impl LawfulStruct for Updates {
+    ghost laws = { struct_of (λ x. (x.this_update, (x.next_update, (x.earlier, (x.last, tt)))))
+        ⟦<UpdatesRow as Row>⟧.row_laws refl };
+
+    fn put_row(&self, fields: &mut Fields) -> SerializeResult<()> {
+        (
+            &self.this_update,
+            (&self.next_update, (&self.earlier, (&self.last, ()))),
+        )
+            .put_each(fields)
+    }
+
+    fn row_in_hand(&self) {
+        (
+            &self.this_update,
+            (&self.next_update, (&self.earlier, (&self.last, ()))),
+        )
+            .each_in_hand()
+    }
+}
+
+impl<'a> ReadsFields<'a> for Updates {
+    ghost fields_give = { MadeOf ⟦<Updates as LawfulStruct>⟧.laws.as_row
+        ⟦<UpdatesRow as ReadsRow<'a, DerParser>>⟧.row_gives };
+
+    fn read_fields(alloc: Global, octets: &'a [u8]) -> Result<Updates, Error> {
+        match row_by_der(alloc, octets) {
+            Ok(row) => {
+                let (this_update, (next_update, (earlier, (last, ())))) = row;
+                Ok(Updates {
+                    this_update,
+                    next_update,
+                    earlier,
+                    last,
+                })
+            }
+            Err(e) => Err(e),
+        }
+    }
+}
+
+impl<'a> ReadsFieldsByBer<'a> for Updates {
+    ghost fields_give_by_ber = { MadeOf ⟦<Updates as LawfulStruct>⟧.laws.as_row
+        ⟦<UpdatesRow as ReadsRow<'a, BerParser>>⟧.row_gives };
+
+    fn read_fields_by_ber(alloc: Global, octets: &'a [u8]) -> Result<Updates, Error> {
+        match row_by_ber(alloc, octets) {
+            Ok(row) => {
+                let (this_update, (next_update, (earlier, (last, ())))) = row;
+                Ok(Updates {
+                    this_update,
+                    next_update,
+                    earlier,
+                    last,
+                })
+            }
+            Err(e) => Err(e),
+        }
+    }
+}
+
+/// The updates at the front of the octets, by DER, and what follows them.
+pub fn read_updates(alloc: Global, octets: &[u8]) -> ParseResult<'_, Updates, Error>
+    ensures { ReadsByDer ⟦<Updates as Grammar>⟧.grammar octets.now (seen result) }
+{
+    read_der::<Updates, Error>(alloc, octets)
+}
+
+/// The updates at the front of the octets, by BER, and what follows them.
+pub fn read_updates_by_ber(alloc: Global, octets: &[u8]) -> ParseResult<'_, Updates, Error>
+    ensures { ReadsByBer ⟦<Updates as Grammar>⟧.grammar octets.now (seen result) }
+{
+    read_ber::<Updates, Error>(alloc, octets)
+}
+
+/// The one strict encoding of updates in DER form. Where its length fits `usize`, it is refused only when out of memory.
+pub fn updates_vec(alloc: Global, updates: &Updates) -> SerializeResult<Vec<u8>>
+    ensures { ⟦<Updates as Grammar>⟧.grammar.IsDer (⟦<Updates as Grammar>⟧.grammar.value updates.now) →
+        WritesStrict ⟦<Updates as Grammar>⟧.grammar ⟦<Updates as ToDer>⟧.writing updates.now
+        result }
+{
+    strict_vec(alloc, updates)
+}

@@ -1,0 +1,109 @@
+//! How long a certificate is valid: a message of two fields that are choices, by both rules.
+ghost use Rattle.std.proofs.Common.{refl};
+ghost use Rattle.asn1_headers.specs.Answers.{seen};
+ghost use Rattle.asn1_rs.specs.Structs.{MadeOf};
+ghost use Rattle.asn1_rs.specs.Structs.Data.{struct_of};
+ghost use Rattle.asn1_rs_messages.specs.Callers.{ReadsByDer, ReadsByBer, WritesStrict};
+
+use crate::time::Time;
+use asn1_rs::{
+    BerParser, BorrowedRow, DerParser, Error, Fields, FieldsKind, Grammar, HasKind, HasReader,
+    LawfulStruct, ParseResult, ReadsFields, ReadsFieldsByBer, ReadsRow, Row, SerializeResult,
+    StructReader, ToDer, read_ber, read_der, row_by_ber, row_by_der, strict_vec,
+};
+use std::alloc::Global;
+
+/// How long a certificate is valid (RFC 5280, 4.1.2.5).
+///
+///     Validity ::= SEQUENCE {
+///         notBefore  Time,
+///         notAfter   Time }
+#[derive(Debug, PartialEq, Eq, Drop)]
+pub struct Validity {
+    pub not_before: Time,
+    pub not_after: Time,
+}
+
+/// Its fields.
+pub type ValidityRow = (Time, (Time, ()));
+
+impl HasKind for Validity {
+    type Kind = FieldsKind;
+}
+
+impl HasReader for Validity {
+    type Reader = StructReader;
+}
+
+impl LawfulStruct for Validity {
+    ghost laws = { struct_of (λ v. (v.not_before, (v.not_after, tt)))
+        ⟦<ValidityRow as Row>⟧.row_laws refl };
+
+    fn put_row(&self, fields: &mut Fields) -> SerializeResult<()> {
+        (&self.not_before, (&self.not_after, ())).put_each(fields)
+    }
+
+    fn row_in_hand(&self) {
+        (&self.not_before, (&self.not_after, ())).each_in_hand()
+    }
+}
+
+impl<'a> ReadsFields<'a> for Validity {
+    ghost fields_give = { MadeOf ⟦<Validity as LawfulStruct>⟧.laws.as_row
+        ⟦<ValidityRow as ReadsRow<'a, DerParser>>⟧.row_gives };
+
+    fn read_fields(alloc: Global, octets: &'a [u8]) -> Result<Validity, Error> {
+        match row_by_der(alloc, octets) {
+            Ok(row) => {
+                let (not_before, (not_after, ())) = row;
+                Ok(Validity {
+                    not_before,
+                    not_after,
+                })
+            }
+            Err(e) => Err(e),
+        }
+    }
+}
+
+impl<'a> ReadsFieldsByBer<'a> for Validity {
+    ghost fields_give_by_ber = { MadeOf ⟦<Validity as LawfulStruct>⟧.laws.as_row
+        ⟦<ValidityRow as ReadsRow<'a, BerParser>>⟧.row_gives };
+
+    fn read_fields_by_ber(alloc: Global, octets: &'a [u8]) -> Result<Validity, Error> {
+        match row_by_ber(alloc, octets) {
+            Ok(row) => {
+                let (not_before, (not_after, ())) = row;
+                Ok(Validity {
+                    not_before,
+                    not_after,
+                })
+            }
+            Err(e) => Err(e),
+        }
+    }
+}
+
+/// The validity at the front of the octets, by DER, and what follows it.
+pub fn read_validity(alloc: Global, octets: &[u8]) -> ParseResult<'_, Validity, Error>
+    ensures { ReadsByDer ⟦<Validity as Grammar>⟧.grammar octets.now (seen result) }
+{
+    read_der::<Validity, Error>(alloc, octets)
+}
+
+/// The validity at the front of the octets, by BER, and what follows it.
+pub fn read_validity_by_ber(alloc: Global, octets: &[u8]) -> ParseResult<'_, Validity, Error>
+    ensures { ReadsByBer ⟦<Validity as Grammar>⟧.grammar octets.now (seen result) }
+{
+    read_ber::<Validity, Error>(alloc, octets)
+}
+
+/// The one strict encoding of a validity in DER form. Where its length fits `usize`, it is refused only when out of
+/// memory.
+pub fn validity_vec(alloc: Global, validity: &Validity) -> SerializeResult<Vec<u8>>
+    ensures { ⟦<Validity as Grammar>⟧.grammar.IsDer (⟦<Validity as Grammar>⟧.grammar.value validity.now) →
+        WritesStrict ⟦<Validity as Grammar>⟧.grammar ⟦<Validity as ToDer>⟧.writing validity.now
+        result }
+{
+    strict_vec(alloc, validity)
+}
