@@ -47,7 +47,8 @@ pub enum Or<T, R, const CLASS: u8> {
 }
 
 /// No type.
-#[derive(Debug, Drop)]
+// It has no `Debug`: no call of `fmt` could be made, so its contract would say nothing.
+#[derive(Drop)]
 pub enum Never {}
 
 /// A type of the universal class, or one of the others.
