@@ -39,6 +39,4 @@ pub use time::{
     read_times, time_vec, times_vec,
 };
 pub use updates::{Updates, UpdatesRow, read_updates, read_updates_by_ber, updates_vec};
-pub use validity::{
-    Validity, ValidityRow, read_validity, read_validity_by_ber, validity_vec,
-};
+pub use validity::{Validity, ValidityRow, read_validity, read_validity_by_ber, validity_vec};

@@ -10,8 +10,8 @@ use asn1_rs::{
     Any, ArmNumbers, Arms, ChecksChoice, ChoiceKind, ChoiceReader, DynTagged, Error,
     GeneralizedTime, Grammar, HasKind, HasReader, LawfulChoice, LawfulType, Never, OfArms, Or,
     OrUniversal, ParseResult, ReadsChoice, ReadsChoiceByBer, SerializeResult, SetOf, Tag,
-    TaggedExplicit, ToDer, ToldByNumber, UsesArm, UtcTime,
-    check_element, choice_by_der, choice_of_element, read_ber, read_der, strict_vec,
+    TaggedExplicit, ToDer, ToldByNumber, UsesArm, UtcTime, check_element, choice_by_der,
+    choice_of_element, read_ber, read_der, strict_vec,
 };
 use std::alloc::Global;
 

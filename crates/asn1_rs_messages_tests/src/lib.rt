@@ -21,3 +21,7 @@ mod shown;
 mod sources;
 #[cfg(test)]
 mod times;
+#[cfg(test)]
+mod updates;
+#[cfg(test)]
+mod validities;

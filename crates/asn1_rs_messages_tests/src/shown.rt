@@ -1,7 +1,7 @@
 //! Messages that were read, as tables show them.
 
 use asn1_rs::{Err, Error, SetOf, TaggedValue, ToDer};
-use asn1_rs_messages::{Alarm, Measurement, Reminder, Settings, Source, Time};
+use asn1_rs_messages::{Alarm, Measurement, Reminder, Settings, Source, Time, Updates, Validity};
 use std::alloc::Global;
 use std::fmt::Write;
 use std::test::Fail;
@@ -84,6 +84,38 @@ impl Shown for Time {
             Time::General(_) => "general",
         };
         Ok(text.push_str(name)?)
+    }
+}
+
+/// Its times.
+impl Shown for Validity {
+    fn show(&self, text: &mut String) -> Result<(), Fail> {
+        self.not_before.show(text)?;
+        text.push_str(" ")?;
+        self.not_after.show(text)
+    }
+}
+
+/// The values of the fields, in their order.
+impl Shown for Updates {
+    fn show(&self, text: &mut String) -> Result<(), Fail> {
+        self.this_update.show(text)?;
+        text.push_str(" ")?;
+        self.next_update.show(text)?;
+        text.push_str(" ")?;
+        self.earlier.show(text)?;
+        text.push_str(" ")?;
+        self.last.show(text)
+    }
+}
+
+/// What is held, or `-`.
+impl<T: Shown> Shown for Option<T> {
+    fn show(&self, text: &mut String) -> Result<(), Fail> {
+        match self {
+            Some(x) => x.show(text),
+            None => Ok(text.push_str("-")?),
+        }
     }
 }
 

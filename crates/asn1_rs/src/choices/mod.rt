@@ -1,7 +1,10 @@
 //! Choices: types whose values are of one of several types, which are told apart by the class and the tag number of their
 //! elements (X.680 29). From what its author says once a choice has readers by both rules, writers, and the laws of
-//! items. So it may be an item of lists, or stand under an explicit tag. Under an implicit tag it has no laws: X.680
-//! 31.2.7 has such a tag explicit.
+//! items. So it may be an item of lists, or stand under an explicit tag. With [`LawfulType`] and [`ToldByNumber`] it is
+//! a field of structs. Under an implicit tag it has no laws: X.680 31.2.7 has such a tag explicit.
+//!
+//! [`LawfulType`]: crate::LawfulType
+//! [`ToldByNumber`]: crate::ToldByNumber
 //!
 //! The types of a choice are its **arms** ([`arms`]): a type, or the others behind it, with `Never` at the end.
 //!

@@ -31,9 +31,10 @@ use std::alloc::Global;
 
 /// A type that may be a field of a struct: its laws stand in one record, so that a row of fields can name them.
 ///
-/// The types of the library that have it are listed in [`types`](crate::structs::types), with those of callers.
+/// The types of the library that have it are listed in [`types`](crate::structs::types), with those of callers. The
+/// author of a choice writes it, with `choice_type`.
 pub trait LawfulType {
-    /// Its tag number, its grammar and how it is written, with their laws.
+    /// Its tag numbers, its grammar and how it is written, with their laws.
     ghost type_laws: { LawfulTypeOf Self };
 }
 
