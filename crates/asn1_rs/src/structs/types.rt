@@ -1,6 +1,6 @@
 //! Which types may be fields of structs: the leaf types of the library, lists, values under tags, and structs; choices by
-//! an impl of their authors; and an element of any tag number, where no field before it may be left out, or as the last one where it may be left
-//! out itself.
+//! an impl of their authors; and an element of any tag number, where no field before it may be left out, or as the last
+//! one where it may be left out itself.
 ghost use Rattle.std.specs.Prelude.{refl};
 ghost use Rattle.std.proofs.Common.{lit<};
 ghost use Rattle.asn1_rs.specs.BitString.{bit_string_leaf};
