@@ -28,11 +28,12 @@ pub record ItemGrammar (S : Type 0) : Type 1 where
 abbrev pub ber_words : {S : Type 0} (G : ItemGrammar S) → List ℕ → G.Value → Type 0
 ber_words G = BerWord G.Body
 
--- Two values are equal in one way at most, so that they are equal where they are up to a proof that is not in hand. A
--- word by DER is an element of definite length, as each by BER is an element. Words, bodies and strict parts have values of the type. One word alone begins an input, and a body has one value. A
--- value has one strict identifier and content; these fit an element, meet the constraints and have one value, which is
--- in DER form; and the strict encoding that they make is a word by BER and by DER. `form_check` is asked of a type
--- without a check too: an implicit tag over a list asks it of the list, whatever its items are.
+-- Two values are equal in one way at most, so that they are equal where they are up to a proof that is not in hand.
+-- A word by DER is an element of definite length, as each by BER is an element. Words, bodies and strict parts have
+-- values of the type. One word alone begins an input, and a body has one value. A value has one strict identifier
+-- and content; these fit an element, meet the constraints and have one value, which is in DER form; and the strict
+-- encoding that they make is a word by BER and by DER. `form_check` is asked of a type without a check too: an
+-- implicit tag over a list asks it of the list, whatever its items are.
 pub record IsLawfulItem {S : Type 0} (G : ItemGrammar S) : Type 0 where
   pub one_equality : IsSet G.Value
   pub der_element : (o : List ℕ) (v : G.Value) → G.Der o v → (p : Parts) × IsDerElement o p

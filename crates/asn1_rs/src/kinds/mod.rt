@@ -32,7 +32,8 @@ use asn1_headers::tag::Tag;
 // `impl<T: Grammar> Grammar for &T`.
 pub trait HasKind {
     /// The kind: [`ElementKind`] or [`HolderKind`]; of lists and sets one of [`collections`], of sequences of fields
-    /// that of [`fields`], of choices [`ChoiceKind`](crate::ChoiceKind), of values under a tag [`TagMark`](crate::asn1_types::tagged::TagMark).
+    /// that of [`fields`], of choices [`ChoiceKind`](crate::ChoiceKind), of values under a tag
+    /// [`TagMark`](crate::asn1_types::tagged::TagMark).
     type Kind;
 }
 
