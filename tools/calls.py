@@ -1,6 +1,7 @@
 #!/usr/bin/env python3
-"""Lists the functions that reading an element by BER calls, each before those that call it, and ends with status 1 where
-one calls itself, directly or through others: so no octets make a reader recurse.
+"""Lists the functions that reading an element by BER calls, and ends with status 1 where docs/ARCHITECTURE.md has another
+list, or names one there before a function that it calls. A function that calls itself, directly or through others, has
+no such place: so no octets make a reader recurse.
 
 It goes by names: a function calls each one whose name stands before a bracket in its body, in the sources below. Two
 functions of one name count as one, so a cycle that it tells may be none; one that is there is told. Closures stand in
@@ -18,6 +19,8 @@ OF_STD = {"len", "new", "from"}
 COMMENT = re.compile(r"//[^\n]*")
 CLAUSE = re.compile(r"\b(?:requires|ensures|invariant|decreases)\b[\w\s]*$")
 CALL = re.compile(r"(?<!fn )\b(\w+)(?:::<[^;(){}]*>)?\(")
+# The lines of the page's list.
+LISTED = re.compile(r"`tools/calls.py`[^\n]*\n\n((?:\d\. [^\n]*\n)+)")
 
 
 def end_of_block(text, at):
@@ -41,24 +44,23 @@ def calls(text):
 
 
 def main():
-    graph, order, path = {}, [], []
+    graph = {}
     for source in SOURCES:
         for file in sorted(TOP.glob(f"{source}/**/*.rt")) or [TOP / source]:
             for name, called in calls(file.read_text(encoding="utf-8")):
                 graph.setdefault(name, set()).update(set(called) - OF_STD)
-
-    def visit(name):
-        if name in path:
-            sys.exit(f"{' calls '.join([*path[path.index(name):], name])}: a reader may recurse")
-        if name not in order:
-            path.append(name)
-            for called in sorted(graph[name] & graph.keys()):
-                visit(called)
-            order.append(path.pop())
-
-    for root in ROOTS:
-        visit(root)
-    print(f"{len(order)} functions read an element by BER, and none calls itself: {', '.join(order)}")
+    reached = list(ROOTS)
+    for name in reached:
+        reached += sorted((graph[name] & graph.keys()).difference(reached))
+    page = (TOP / "docs/ARCHITECTURE.md").read_text(encoding="utf-8")
+    listed = re.findall(r"`(\w+)`", LISTED.search(page)[1])
+    if sorted(listed) != sorted(reached):
+        odd = sorted(set(listed) ^ set(reached)) or "one twice"
+        sys.exit(f"docs/ARCHITECTURE.md lists other functions than reading by BER calls: {odd}")
+    for place, name in enumerate(listed):
+        if early := sorted(graph[name] & set(listed[place:])):
+            sys.exit(f"{name} calls {early[0]}, and docs/ARCHITECTURE.md lists that behind it: a reader may recurse")
+    print(f"{len(listed)} functions read an element by BER, and none calls itself: {', '.join(listed)}")
 
 
 if __name__ == "__main__":

@@ -21,6 +21,7 @@ bf80 = Ok((ContextSpecific, true, Tag(31), Indefinite, None, [])), Err(Indefinit
 9f88+8*ff = Ok((ContextSpecific, false, Tag(31), Definite(18446744073709551615), None, [])), Ok(())
 1f01 = Ok((Universal, false, Tag(31), Definite(1), None, [])), Ok(())
 9f0031 = Ok((ContextSpecific, false, Tag(31), Definite(0), None, [49])), Ok(())
+5f0031 = Ok((Application, false, Tag(31), Definite(0), None, [49])), Ok(())
 cf88+8*ff = Ok((Private, false, Tag(15), Definite(18446744073709551615), None, [])), Ok(())
 
 Sequence 16:
@@ -30,6 +31,7 @@ bf80 = Ok(Sequence { content: [] }), Ok(())
 bf88+8*ff = Ok(Sequence { content: [] }), Ok(())
 1f01 = Err(ConstructExpected), Ok(())
 bf00020105 = Ok(Sequence { content: [2, 1, 5] }), Ok(())
+7f00020105 = Ok(Sequence { content: [2, 1, 5] }), Ok(())
 cf88+8*ff = Err(UnexpectedTag of Tag(15)), Ok(())
 
 Set 17:
@@ -39,6 +41,7 @@ bf80 = Ok(Set { content: [] }), Ok(())
 bf88+8*ff = Ok(Set { content: [] }), Ok(())
 1f01 = Err(ConstructExpected), Ok(())
 bf00020105 = Ok(Set { content: [2, 1, 5] }), Ok(())
+7f00020105 = Ok(Set { content: [2, 1, 5] }), Ok(())
 cf88+8*ff = Err(UnexpectedTag of Tag(15)), Ok(())
 
 Vec<u8> 16, SequenceOf<u8> 16, SetOf<u8> 17:
@@ -48,6 +51,7 @@ bf80 = Ok([]), Ok(())
 bf88+8*ff = Ok([]), Ok(())
 1f01 = Err(ConstructExpected), Err(ConstructExpected)
 bf00020105 = Ok([5]), Ok(())
+7f00020105 = Ok([5]), Ok(())
 bf010205 = Err(Incomplete(Size(5))), Err(Incomplete(Size(5)))
 cf88+8*ff = Err(UnexpectedTag of Tag(15)), Err(UnexpectedTag of Tag(15))
 
@@ -58,6 +62,7 @@ bf80 = Ok({}), Ok(())
 bf88+8*ff = Ok({}), Ok(())
 1f01 = Err(ConstructExpected), Err(ConstructExpected)
 bf00020105 = Ok({5}), Ok(())
+7f00020105 = Ok({5}), Ok(())
 bf010205 = Err(Incomplete(Size(5))), Err(Incomplete(Size(5)))
 cf88+8*ff = Err(UnexpectedTag of Tag(15)), Err(UnexpectedTag of Tag(15))
 
@@ -68,6 +73,7 @@ bf80 = Err(Incomplete(Size(1))), Err(IndefiniteLengthUnexpected)
 bf88+8*ff = Err(Incomplete(Size(1))), Err(Incomplete(Size(1)))
 1f01 = Err(ConstructExpected), Err(Incomplete(Size(1)))
 bf00020105 = Ok(5), Ok(())
+7f00020105 = Err(UnexpectedClass { expected: Some(ContextSpecific), actual: Application }), Ok(())
 bf01020105ff = Ok(5), Err(DerConstraintFailed(TrailingOctets))
 ff00020105 = Err(UnexpectedClass { expected: Some(ContextSpecific), actual: Private }), Ok(())
 cf88+8*ff = Err(UnexpectedTag of Tag(15)), Err(Incomplete(Size(1)))
@@ -78,6 +84,7 @@ bf80 = Err(ConstructUnexpected), Err(IndefiniteLengthUnexpected)
 9f88+8*ff = Ok(0), Err(DerConstraintFailed(IntegerEmpty))
 bf88+8*ff = Err(ConstructUnexpected), Err(ConstructUnexpected)
 9f0031 = Ok(49), Ok(())
+5f0031 = Err(UnexpectedClass { expected: Some(ContextSpecific), actual: Application }), Ok(())
 bf00020105 = Err(ConstructUnexpected), Err(ConstructUnexpected)
 df0031 = Err(UnexpectedClass { expected: Some(ContextSpecific), actual: Private }), Ok(())
 cf88+8*ff = Err(UnexpectedTag of Tag(15)), Err(DerConstraintFailed(IntegerEmpty))
@@ -90,18 +97,21 @@ bf88+8*ff = Err(Incomplete(Size(1))), Ok(())
 1f01 = Err(Incomplete(Size(1))), Err(ConstructExpected)
 9f0031 = Err(Incomplete(Size(1))), Err(ConstructExpected)
 bf00a0028500820100 = Ok(Fixed None [0]), Ok(())
+7f00a0028500820100 = Ok(Fixed None [0]), Ok(())
 cf88+8*ff = Err(Incomplete(Size(1))), Err(ConstructExpected)
 
 explicit TaggedParser 2:
 9f80 = Err(IndefiniteLengthUnexpected)
 9f88+8*ff = Err(Incomplete(Size(1)))
 bf00020105 = Ok(())
+7f00020105 = Ok(())
 bf01020105ff = Err(DerConstraintFailed(TrailingOctets))
 
 implicit TaggedParser 2:
 9f80 = Err(IndefiniteLengthUnexpected)
 9f88+8*ff = Err(DerConstraintFailed(IntegerEmpty))
 9f0031 = Ok(())
+5f0031 = Ok(())
 bf0031 = Err(ConstructUnexpected)
 
 Option<u8> 2:
@@ -109,6 +119,7 @@ Option<u8> 2:
 bf80 = Err(ConstructUnexpected), Err(ConstructUnexpected)
 9f88+8*ff = Ok(Some(0)), Err(DerConstraintFailed(IntegerEmpty))
 9f0031 = Ok(Some(49)), Ok(())
+5f0031 = Ok(Some(49)), Ok(())
 cf88+8*ff = Ok(None), Err(DerConstraintFailed(IntegerEmpty))
 ";
 

@@ -8,7 +8,7 @@ use std::alloc::Global;
 use std::fmt::Write;
 use std::test::Fail;
 use test_rows::{Calls, assert_rows, push_debug, push_digits};
-use test_values::Says;
+use test_values::{Says, assert_beginnings_by_ber, assert_beginnings_by_der};
 
 /// The number 5 under the tag 2, under the tag 1. The two octets are the classes of the outer tag and of the inner one.
 /// Behind them stands how the value is written, and what is read of that by both rules: the number, or the class that
@@ -107,12 +107,15 @@ fn push_answer<T: Says + Drop>(
     }
 }
 
-/// Appends octets, and what is read of them by DER. Where it is another by BER, this too.
+/// Appends octets, and what is read of them by DER. Where it is another by BER, this too. Of octets that are accepted
+/// all beginnings are tried.
 fn push_back<'a, T: FromDer<'a, Error> + FromBer<'a, Error> + Says + Drop>(
     text: &mut String,
     alloc: Global,
     octets: &'a [u8],
 ) -> Result<(), Fail> {
+    assert_beginnings_by_der::<T>(alloc, octets, false)?;
+    assert_beginnings_by_ber::<T>(alloc, octets, false)?;
     push_digits(text, octets)?;
     let mut answers = (String::new(alloc), String::new(alloc));
     push_answer(&mut answers.0, T::from_der(alloc, octets))?;

@@ -2,10 +2,12 @@
 
 use asn1_rs::{
     ASN1DateTime, ASN1TimeZone, Any, BerClassFromIntError, BitString, BmpString, Boolean, Class,
-    DerConstraint, EmbeddedPdv, Enumerated, Err, Error, Explicit, GeneralizedTime, Header,
-    Implicit, Integer, Length, Message, Needed, Null, OctetString, Oid, OidParseError,
-    OptTaggedParser, PdvIdentification, Sequence, SequenceOf, Set, SetOf, Tag, TaggedExplicit,
-    TaggedImplicit, TaggedParser, TaggedParserBuilder, UtcTime, Utf8String,
+    DerConstraint, EmbeddedPdv, Enumerated, Err, Error, Explicit, GeneralString, GeneralizedTime,
+    GraphicString, Header, Ia5String, Implicit, Integer, Length, Message, Needed, Null,
+    NumericString, ObjectDescriptor, OctetString, Oid, OidParseError, OptTaggedParser,
+    PdvIdentification, PrintableString, Sequence, SequenceOf, Set, SetOf, Tag, TaggedExplicit,
+    TaggedImplicit, TaggedParser, TaggedParserBuilder, TeletexString, UniversalString, UtcTime,
+    Utf8String, VideotexString, VisibleString,
 };
 use std::collections::{BTreeSet, HashSet};
 use std::hash::Hash;
@@ -37,14 +39,28 @@ fn asks_equality_of_leaves() {
     asks_eq::<OctetString<'_>>();
     asks_eq::<BitString<'_>>();
     asks_eq::<Oid<'_>>();
-    asks_eq::<Utf8String<'_>>();
-    asks_eq::<BmpString<'_>>();
     asks_eq::<UtcTime>();
     asks_eq::<GeneralizedTime>();
     asks_eq::<ASN1DateTime>();
     asks_eq::<ASN1TimeZone>();
     asks_eq::<EmbeddedPdv<'_>>();
     asks_eq::<PdvIdentification<'_>>();
+}
+
+/// Asks for the equality of the twelve strings.
+fn asks_equality_of_strings() {
+    asks_eq::<Utf8String<'_>>();
+    asks_eq::<NumericString<'_>>();
+    asks_eq::<PrintableString<'_>>();
+    asks_eq::<TeletexString<'_>>();
+    asks_eq::<VideotexString<'_>>();
+    asks_eq::<Ia5String<'_>>();
+    asks_eq::<GraphicString<'_>>();
+    asks_eq::<VisibleString<'_>>();
+    asks_eq::<GeneralString<'_>>();
+    asks_eq::<ObjectDescriptor<'_>>();
+    asks_eq::<UniversalString<'_>>();
+    asks_eq::<BmpString<'_>>();
 }
 
 /// Asks for the equality of elements, lists and tags.
@@ -125,18 +141,25 @@ fn asks_plain_copies() {
     asks_copy::<OidParseError>();
     asks_copy::<BerClassFromIntError>();
     asks_copy::<TaggedParserBuilder<Explicit, Error>>();
+    asks_copy::<TaggedParserBuilder<Implicit, Error>>();
     asks_copy::<OptTaggedParser>();
 }
 
 /// Asks for the traits of types of std.
 fn asks_traits_of_std() {
-    asks_ord::<(u8, i128, bool, (), String)>();
+    asks_ord::<(u8, u16, u32, u64, u128)>();
+    asks_ord::<(i8, i16, i32, i64, i128)>();
+    asks_ord::<(bool, (), String)>();
     asks_ord::<&str>();
     asks_ord::<&[u8]>();
-    asks_hash::<(u8, i128, bool, (), String)>();
+    asks_hash::<(u8, u16, u32, u64, u128)>();
+    asks_hash::<(i8, i16, i32, i64, i128)>();
+    asks_hash::<(bool, (), String)>();
     asks_hash::<&str>();
     asks_hash::<&[u8]>();
-    asks_copy::<(u8, i128, bool, ())>();
+    asks_copy::<(u8, u16, u32, u64, u128)>();
+    asks_copy::<(i8, i16, i32, i64, i128)>();
+    asks_copy::<(bool, ())>();
     asks_copy::<&str>();
     asks_copy::<&[u8]>();
     asks_clone::<String>();
@@ -145,6 +168,7 @@ fn asks_traits_of_std() {
 #[test]
 fn traits_are_there(_rt: HostRuntime) {
     asks_equality_of_leaves();
+    asks_equality_of_strings();
     asks_equality_of_elements();
     asks_equality_of_parts();
     asks_orders_and_hashes();

@@ -1,6 +1,9 @@
 //! Sets: how they are read, checked, converted and written.
 
-use asn1_rs::{Any, Boolean, Error, FromAny, FromBer, FromDer, ParseResult, SetOf, strict_vec};
+use asn1_rs::{
+    Any, Boolean, Error, FromAny, FromBer, FromDer, ParseResult, SetOf, sets_are_equal_in_order,
+    strict_vec,
+};
 use std::alloc::Global;
 use std::collections::{BTreeSet, HashSet};
 use std::fmt::Write;
@@ -159,8 +162,9 @@ fn push_hashed_by_ber(text: &mut String, alloc: Global, octets: &[u8]) -> Result
     push_hashed_set(text, alloc, HashSet::from_ber(alloc, octets))
 }
 
-/// Sets in a set.
+/// Sets in a set. Of octets that are accepted all beginnings are tried.
 fn push_sets(text: &mut String, alloc: Global, octets: &[u8]) -> Result<(), Fail> {
+    assert_beginnings_by_der::<SetOf<SetOf<u8>>>(alloc, octets, false)?;
     let sets = SetOf::<SetOf<u8>>::from_der(alloc, octets)?.1;
     write!(text, "{} items ", sets.as_slice().len())?;
     push_written(text, alloc, &sets)
@@ -234,8 +238,9 @@ fn sets_are_made_by_calls(rt: HostRuntime) -> Result<(), Fail> {
     let mut set = SetOf::from_iter(rt.alloc(), 1..2)?;
     set.push(2_u8)?;
     set.as_mut_slice().reverse();
-    let same = set == SetOf::new(vec![in rt.alloc(); 2, 1]?);
-    let other = set == SetOf::new(vec![in rt.alloc(); 1, 2]?);
+    let turned = SetOf::new(vec![in rt.alloc(); 1, 2]?);
+    let same = sets_are_equal_in_order(&set, &SetOf::new(vec![in rt.alloc(); 2, 1]?));
+    let other = set == turned || sets_are_equal_in_order(&set, &turned);
     let shown = (set.as_slice(), same, other);
     assert_shown(rt.alloc(), &shown, "([2, 1], true, false)")?;
     assert_written(

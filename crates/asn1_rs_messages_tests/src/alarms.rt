@@ -1,6 +1,6 @@
 //! Alarms by both rules: alone, in lists and sets, and under tags.
 
-use crate::shown::push_answer;
+use crate::shown::{assert_beginnings, push_answer};
 use asn1_rs::{Error, FromBer, FromDer, SetOf, TaggedExplicit, TaggedImplicit};
 use asn1_rs_messages::{Alarm, Muted, alarm_vec, read_alarm, read_alarm_by_ber};
 use std::alloc::Global;
@@ -72,11 +72,12 @@ implicit by ber:
 a2800201053080000000+00 = 5 None None [] rest - written a2050201053000
 ";
 
-/// The calls of the tables.
+/// The calls of the tables. Of octets that are accepted all beginnings are tried.
 struct Reads;
 
 impl Calls for Reads {
     fn answer(text: &mut String, alloc: Global, name: &str, octets: &[u8]) -> Result<(), Fail> {
+        assert_beginnings::<Alarm>(alloc, name, octets)?;
         match name {
             "der" => push_answer(text, alloc, read_alarm(alloc, octets)),
             "ber" => push_answer(text, alloc, read_alarm_by_ber(alloc, octets)),

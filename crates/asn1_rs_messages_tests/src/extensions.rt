@@ -1,5 +1,6 @@
 //! Extensions of certificates (RFC 5280, 4.1, 4.2.1.3 and 4.2.1.9).
 
+use crate::shown::assert_beginnings;
 use asn1_rs_messages::{Extension, extension_vec, read_extension, read_extension_by_ber};
 use std::alloc::Global;
 use std::fmt::Write;
@@ -27,11 +28,12 @@ ber:
 30800603551d13010100040230000000 = 2.5.29.19 false 3000 written 30090603551d1304023000
 ";
 
-/// The calls of the tables.
+/// The calls of the tables. Of octets that are accepted all beginnings are tried.
 struct Reads;
 
 impl Calls for Reads {
     fn answer(text: &mut String, alloc: Global, name: &str, octets: &[u8]) -> Result<(), Fail> {
+        assert_beginnings::<Extension<'_>>(alloc, name, octets)?;
         let answer = match name {
             "der" => read_extension(alloc, octets),
             _ => read_extension_by_ber(alloc, octets),

@@ -1,6 +1,6 @@
 //! Measurements by both rules.
 
-use crate::shown::push_answer;
+use crate::shown::{assert_beginnings, push_answer};
 use asn1_rs_messages::{Measurement, measurement_vec, read_measurement, read_measurement_by_ber};
 use std::alloc::Global;
 use std::test::Fail;
@@ -23,11 +23,12 @@ ber:
 3081070201010202012c = 1 300 None rest - written 30070201010202012c
 ";
 
-/// The calls of the table.
+/// The calls of the table. Of octets that are accepted all beginnings are tried.
 struct Reads;
 
 impl Calls for Reads {
     fn answer(text: &mut String, alloc: Global, name: &str, octets: &[u8]) -> Result<(), Fail> {
+        assert_beginnings::<Measurement>(alloc, name, octets)?;
         match name {
             "der" => push_answer(text, alloc, read_measurement(alloc, octets)),
             _ => push_answer(text, alloc, read_measurement_by_ber(alloc, octets)),

@@ -1,10 +1,13 @@
 //! Public keys of the certificates of `asn1_rs_outside_tests`, which openssl made (RFC 5280, 4.1).
 
-use asn1_rs_messages::{AlgorithmIdentifier, public_key_vec, read_algorithm, read_public_key};
+use asn1_rs_messages::{
+    AlgorithmIdentifier, SubjectPublicKeyInfo, public_key_vec, read_algorithm, read_public_key,
+};
 use std::alloc::Global;
 use std::fmt::Write;
 use std::test::Fail;
 use test_rows::{Calls, assert_rows, push_debug};
+use test_values::assert_beginnings_by_der;
 
 /// The algorithm, the octets of its parameters where it has some, how many octets the key has, and whether the same
 /// octets are written: of RSA with NULL, of an elliptic curve with the curve, and with none (RFC 8410, 10.1).
@@ -29,7 +32,7 @@ algorithm:
 300d06092a864886f70d0101010500 = 1.2.840.113549.1.1.1 Some([])
 ";
 
-/// The calls of the table.
+/// The calls of the table. Of octets that are accepted all beginnings are tried.
 struct Reads;
 
 impl Calls for Reads {
@@ -43,6 +46,7 @@ impl Calls for Reads {
 
 /// Appends an algorithm.
 fn push_algorithm(text: &mut String, alloc: Global, octets: &[u8]) -> Result<(), Fail> {
+    assert_beginnings_by_der::<AlgorithmIdentifier<'_>>(alloc, octets, false)?;
     match read_algorithm(alloc, octets) {
         Ok((_, algorithm)) => push_parts(text, &algorithm),
         Err(refusal) => push_debug(text, &refusal),
@@ -60,6 +64,7 @@ fn push_parts(text: &mut String, algorithm: &AlgorithmIdentifier<'_>) -> Result<
 
 /// Appends a public key.
 fn push_key(text: &mut String, alloc: Global, octets: &[u8]) -> Result<(), Fail> {
+    assert_beginnings_by_der::<SubjectPublicKeyInfo<'_>>(alloc, octets, false)?;
     let key = match read_public_key(alloc, octets) {
         Ok((_, key)) => key,
         Err(refusal) => return push_debug(text, &refusal),

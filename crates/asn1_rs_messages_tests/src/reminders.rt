@@ -1,6 +1,6 @@
 //! Reminders by both rules, whose field `urgent` has a default: alone, in lists, and under tags.
 
-use crate::shown::push_answer;
+use crate::shown::{assert_beginnings, push_answer};
 use asn1_rs::{Defaulted, Error, FromBer, FromDer, TaggedExplicit, TaggedImplicit};
 use asn1_rs_messages::{Muted, Reminder, read_reminder, read_reminder_by_ber, reminder_vec};
 use std::alloc::Global;
@@ -72,11 +72,12 @@ implicit by ber:
 a28002010501010030000000 = 5 None false [] rest - written a2050201053000
 ";
 
-/// The calls of the tables.
+/// The calls of the tables. Of octets that are accepted all beginnings are tried.
 struct Reads;
 
 impl Calls for Reads {
     fn answer(text: &mut String, alloc: Global, name: &str, octets: &[u8]) -> Result<(), Fail> {
+        assert_beginnings::<Reminder>(alloc, name, octets)?;
         match name {
             "der" => push_answer(text, alloc, read_reminder(alloc, octets)),
             "ber" => push_answer(text, alloc, read_reminder_by_ber(alloc, octets)),

@@ -1,7 +1,7 @@
 //! Settings by both rules, all of whose fields have a default.
 
-use crate::shown::push_answer;
-use asn1_rs_messages::{read_settings, read_settings_by_ber};
+use crate::shown::{assert_beginnings, push_answer};
+use asn1_rs_messages::{Settings, read_settings, read_settings_by_ber};
 use std::alloc::Global;
 use std::test::Fail;
 use test_rows::{Calls, assert_rows};
@@ -28,11 +28,12 @@ ber:
 3080a08002010200003080020107000000000500 = 2 -1 2 [7] 100 rest 0500 written 300aa0030201023003020107
 ";
 
-/// The calls of the table.
+/// The calls of the table. Of octets that are accepted all beginnings are tried.
 struct Reads;
 
 impl Calls for Reads {
     fn answer(text: &mut String, alloc: Global, name: &str, octets: &[u8]) -> Result<(), Fail> {
+        assert_beginnings::<Settings>(alloc, name, octets)?;
         match name {
             "der" => push_answer(text, alloc, read_settings(alloc, octets)),
             _ => push_answer(text, alloc, read_settings_by_ber(alloc, octets)),

@@ -1,11 +1,12 @@
 //! Messages that were read, as tables show them.
 
-use asn1_rs::{Err, Error, SetOf, TaggedValue, ToDer};
+use asn1_rs::{Err, Error, FromBer, FromDer, SetOf, TaggedValue, ToDer};
 use asn1_rs_messages::{Alarm, Measurement, Reminder, Settings, Source, Time, Updates, Validity};
 use std::alloc::Global;
 use std::fmt::Write;
 use std::test::Fail;
 use test_rows::{push_debug, push_digits};
+use test_values::{assert_beginnings_by_ber, assert_beginnings_by_der};
 
 /// What tables show of a value.
 pub trait Shown {
@@ -169,4 +170,18 @@ pub fn push_answer<T: Shown + ToDer + Drop>(
         return Err(Fail::new(format_args!("another count: {text}")));
     }
     Ok(())
+}
+
+/// Asserts of octets that the reader of a message accepts, by the rule of this name, how all their beginnings are
+/// answered.
+pub fn assert_beginnings<'a, T: FromBer<'a, Error> + FromDer<'a, Error> + Drop>(
+    alloc: Global,
+    rule: &str,
+    octets: &'a [u8],
+) -> Result<(), Fail> {
+    match rule {
+        "der" => assert_beginnings_by_der::<T>(alloc, octets, false),
+        "ber" => assert_beginnings_by_ber::<T>(alloc, octets, false),
+        _ => Ok(()),
+    }
 }

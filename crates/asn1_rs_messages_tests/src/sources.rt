@@ -1,6 +1,6 @@
 //! Sources by both rules.
 
-use crate::shown::push_answer;
+use crate::shown::{assert_beginnings, push_answer};
 use asn1_rs::TaggedExplicit;
 use asn1_rs_messages::{Source, read_source, read_source_by_ber, source_vec};
 use std::alloc::Global;
@@ -30,11 +30,12 @@ a0800201050000 = place 5 rest - written a003020105
 4103616263 = Error(UnexpectedClass { expected: None, actual: Application })
 ";
 
-/// The calls of the table.
+/// The calls of the table. Of octets that are accepted all beginnings are tried.
 struct Reads;
 
 impl Calls for Reads {
     fn answer(text: &mut String, alloc: Global, name: &str, octets: &[u8]) -> Result<(), Fail> {
+        assert_beginnings::<Source>(alloc, name, octets)?;
         match name {
             "der" => push_answer(text, alloc, read_source(alloc, octets)),
             _ => push_answer(text, alloc, read_source_by_ber(alloc, octets)),

@@ -1,8 +1,9 @@
 //! Times of certificates by both rules: alone, in lists and sets, and under a tag.
 
-use crate::shown::push_answer;
+use crate::shown::{assert_beginnings, push_answer};
 use asn1_rs_messages::{
-    read_tagged_time, read_time, read_time_by_ber, read_time_set, read_times, time_vec, times_vec,
+    Time, read_tagged_time, read_time, read_time_by_ber, read_time_set, read_times, time_vec,
+    times_vec,
 };
 use std::alloc::Global;
 use std::test::Fail;
@@ -47,11 +48,12 @@ a00f170d3931303530363233343534305a = utc rest - written a00f170d3931303530363233
 a003020105 = Error(UnexpectedTag { expected: None, actual: Tag(2) })
 ";
 
-/// The calls of the tables.
+/// The calls of the tables. Of octets that are accepted all beginnings are tried.
 struct Reads;
 
 impl Calls for Reads {
     fn answer(text: &mut String, alloc: Global, name: &str, octets: &[u8]) -> Result<(), Fail> {
+        assert_beginnings::<Time>(alloc, name, octets)?;
         match name {
             "der" => push_answer(text, alloc, read_time(alloc, octets)),
             "ber" => push_answer(text, alloc, read_time_by_ber(alloc, octets)),

@@ -1,7 +1,7 @@
 //! Updates by both rules: a struct with a choice that may be left out, a list of choices, and one under a tag.
 
-use crate::shown::push_answer;
-use asn1_rs_messages::{read_updates, read_updates_by_ber, updates_vec};
+use crate::shown::{assert_beginnings, push_answer};
+use asn1_rs_messages::{Updates, read_updates, read_updates_by_ber, updates_vec};
 use std::alloc::Global;
 use std::test::Fail;
 use test_rows::{Calls, assert_rows, assert_shown};
@@ -51,11 +51,12 @@ written 3022170d3931303530363233343534305a3011180f31393931303530363233343534305a
 3010170d3931303530363233343534305a17 = Error(Incomplete(Size(1)))
 ";
 
-/// The calls of the tables.
+/// The calls of the tables. Of octets that are accepted all beginnings are tried.
 struct Reads;
 
 impl Calls for Reads {
     fn answer(text: &mut String, alloc: Global, name: &str, octets: &[u8]) -> Result<(), Fail> {
+        assert_beginnings::<Updates>(alloc, name, octets)?;
         match name {
             "der" => push_answer(text, alloc, read_updates(alloc, octets)),
             _ => push_answer(text, alloc, read_updates_by_ber(alloc, octets)),

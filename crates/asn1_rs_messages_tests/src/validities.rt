@@ -1,6 +1,6 @@
 //! The validity of certificates by both rules: a struct whose fields are choices.
 
-use crate::shown::push_answer;
+use crate::shown::{assert_beginnings, push_answer};
 use asn1_rs::FromDer;
 use asn1_rs_messages::{Validity, read_validity, read_validity_by_ber, validity_vec};
 use std::alloc::Global;
@@ -44,11 +44,12 @@ list:
 written 3020301e170d3931303530363233343534305a170d3931303530363233343534305a
 ";
 
-/// The calls of the tables.
+/// The calls of the tables. Of octets that are accepted all beginnings are tried.
 struct Reads;
 
 impl Calls for Reads {
     fn answer(text: &mut String, alloc: Global, name: &str, octets: &[u8]) -> Result<(), Fail> {
+        assert_beginnings::<Validity>(alloc, name, octets)?;
         match name {
             "der" => push_answer(text, alloc, read_validity(alloc, octets)),
             "ber" => push_answer(text, alloc, read_validity_by_ber(alloc, octets)),

@@ -24,15 +24,51 @@ ok [2,1] rest - enc 3106020101020102
 err Incomplete(1)
 ";
 
-/// What readers and writers fail with. None of these kinds is to be taken for another failure, or to be tried again.
-const KINDS: [ErrorKind; 7] = [
-    ErrorKind::Interrupted,
-    ErrorKind::WouldBlock,
+/// All that readers and writers of std fail with. None of these kinds is to be taken for another failure, or to be
+/// tried again.
+const KINDS: [ErrorKind; 42] = [
+    ErrorKind::NotFound,
+    ErrorKind::PermissionDenied,
+    ErrorKind::ConnectionRefused,
+    ErrorKind::ConnectionReset,
+    ErrorKind::HostUnreachable,
+    ErrorKind::NetworkUnreachable,
+    ErrorKind::ConnectionAborted,
+    ErrorKind::NotConnected,
+    ErrorKind::AddrInUse,
+    ErrorKind::AddrNotAvailable,
+    ErrorKind::NetworkDown,
     ErrorKind::BrokenPipe,
-    ErrorKind::UnexpectedEof,
+    ErrorKind::AlreadyExists,
+    ErrorKind::WouldBlock,
+    ErrorKind::NotADirectory,
+    ErrorKind::IsADirectory,
+    ErrorKind::DirectoryNotEmpty,
+    ErrorKind::ReadOnlyFilesystem,
+    ErrorKind::FilesystemLoop,
+    ErrorKind::StaleNetworkFileHandle,
+    ErrorKind::InvalidInput,
+    ErrorKind::InvalidData,
+    ErrorKind::TimedOut,
     ErrorKind::WriteZero,
+    ErrorKind::StorageFull,
+    ErrorKind::NotSeekable,
+    ErrorKind::QuotaExceeded,
+    ErrorKind::FileTooLarge,
+    ErrorKind::ResourceBusy,
+    ErrorKind::ExecutableFileBusy,
+    ErrorKind::Deadlock,
+    ErrorKind::CrossesDevices,
+    ErrorKind::TooManyLinks,
+    ErrorKind::InvalidFilename,
+    ErrorKind::ArgumentListTooLong,
+    ErrorKind::Interrupted,
+    ErrorKind::Unsupported,
+    ErrorKind::UnexpectedEof,
     ErrorKind::OutOfMemory,
+    ErrorKind::InProgress,
     ErrorKind::Other,
+    ErrorKind::Uncategorized,
 ];
 
 /// A reader that fails so at its first call, and then says that it ended.

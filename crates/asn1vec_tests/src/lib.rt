@@ -29,3 +29,5 @@ mod strings;
 mod tags;
 #[cfg(test)]
 mod times;
+#[cfg(test)]
+mod vast;

@@ -1,5 +1,6 @@
 //! Lines of names of X.509, which are read by DER alone.
 
+use crate::beginnings::assert_beginnings;
 use crate::runs::{SmallReads, assert_answered, assert_lines};
 use std::alloc::Global;
 use std::test::Fail;
@@ -50,9 +51,11 @@ der x509name 3010310e3005060101050030050601010500 = ok 0.1=0500+0.1=0500 rest - 
     3010310e3005060101050030050601010500
 ";
 
-/// Asserts that a line is answered as its row says, where `+` is a sign of the answer.
+/// Asserts that a line is answered as its row says, where `+` is a sign of the answer, and how the beginnings of its
+/// octets are answered.
 fn assert_plain(alloc: Global, row: &str) -> Result<(), Fail> {
     let (line, answer) = sides(row)?;
+    assert_beginnings(alloc, line, answer)?;
     let line = format!(in alloc; "{line}\n")?;
     let answer = format!(in alloc; "{answer}\n")?;
     assert_answered(

@@ -26,7 +26,6 @@ der u64 020100 = ok 0 rest - enc 020100
 der u64 020801+7*00 = ok 72057594037927936 rest - enc 020801+7*00
 der u64 020900+8*ff = ok 18446744073709551615 rest - enc 020900+8*ff
 der u8 020102ffff = ok 2 rest ffff enc 020102
-der u8 820105 = ok 5 rest - enc 020105
 ";
 
 /// Numbers with signs: two's complement (X.690 8.3).

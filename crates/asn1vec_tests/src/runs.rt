@@ -123,7 +123,7 @@ fn assert_strict(alloc: Global, line: &str) -> Result<(), Fail> {
 
 /// Asserts that a line is answered as its row says, how the beginnings of its octets are answered, and that what `Any`
 /// reads of them by DER is strict.
-fn assert_line(alloc: Global, row: &str) -> Result<(), Fail> {
+pub(crate) fn assert_line(alloc: Global, row: &str) -> Result<(), Fail> {
     let (line, answer) = sides(row)?;
     let mut line = written_out(alloc, line)?;
     let mut answer = written_out(alloc, answer)?;

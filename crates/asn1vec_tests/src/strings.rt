@@ -98,6 +98,7 @@ ber universal 1c03000041 = err StringInvalidCharset
 ber universal 1c0300000041 = err StringInvalidCharset
 ber universal 1c040000d800 = err StringInvalidCharset
 ber universal 1c040000d83d = err StringInvalidCharset
+ber universal 1c040010ffff = ok f48fbfbf rest - enc 1c040010ffff
 ber universal 1c0400110000 = err StringInvalidCharset
 der universal 3c0400000041 = err ConstructUnexpected
 der universal 1c04000000e9 = ok c3a9 rest - enc 1c04000000e9

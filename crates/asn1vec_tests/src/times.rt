@@ -1,5 +1,6 @@
 //! Lines of times, which are shown as `Display` prints them.
 
+use crate::beginnings::assert_beginnings;
 use crate::runs::{SmallReads, assert_answered, assert_lines};
 use std::test::Fail;
 
@@ -12,7 +13,9 @@ ber utctime 170b393130363235303632335aff = ok 0091-06-25 06:23:00Z rest ff enc 1
 ber utctime 170f393130363235303632332b30353330 = err InvalidValue
 ber utctime 170f3931303632353036323334352e335a = err InvalidValue
 ber utctime 170c393130363235303632333435 = err InvalidValue
+ber utctime 170d3931313233313036323334355a = ok 0091-12-31 06:23:45Z rest - enc 170d3931313233313036323334355a
 ber utctime 170d3931313332353036323334355a = err InvalidValue
+ber utctime 170d3931303633323036323334355a = err InvalidValue
 ber utctime 170d393130363235303632333435da = err StringInvalidCharset
 ber utctime 180d3931303632353036323334355a = err UnexpectedTag
 der utctime 370d3931303632353036323334355a = ok 0091-06-25 06:23:45Z rest - enc 170d3931303632353036323334355a
@@ -49,16 +52,18 @@ ber gentime 170d3931303632353036323334355a = err UnexpectedTag
 ";
 
 /// Offsets to the east, whose sign would join words in a row.
-const OFFSETS_TO_THE_EAST: &[u8] = b"\
-ber utctime 17113931303632353036323334352d30303030\n\
-ber utctime 17113931303632353036323334352b39393939\n\
-der utctime 17113931303632353036323334352b30353330\n";
+const OFFSETS_TO_THE_EAST: &str = "\
+ber utctime 17113931303632353036323334352d30303030
+ber utctime 17113931303632353036323334352b39393939
+der utctime 17113931303632353036323334352b30353330
+";
 
 /// What is answered to these.
-const SHOWN_TO_THE_EAST: &[u8] = b"\
-ok 0091-06-25 06:23:45+0000 rest - enc err InvalidDateTime\n\
-ok 0091-06-25 06:23:45+9999 rest - enc err InvalidDateTime\n\
-ok 0091-06-25 06:23:45+0530 rest - enc err InvalidDateTime\n";
+const SHOWN_TO_THE_EAST: &str = "\
+ok 0091-06-25 06:23:45+0000 rest - enc err InvalidDateTime
+ok 0091-06-25 06:23:45+9999 rest - enc err InvalidDateTime
+ok 0091-06-25 06:23:45+0530 rest - enc err InvalidDateTime
+";
 
 #[test]
 fn times_are_answered(rt: HostRuntime) -> Result<(), Fail> {
@@ -68,6 +73,10 @@ fn times_are_answered(rt: HostRuntime) -> Result<(), Fail> {
 
 #[test]
 fn offsets_to_the_east_are_shown(rt: HostRuntime) -> Result<(), Fail> {
-    let input = SmallReads::new(OFFSETS_TO_THE_EAST, 4096, None);
-    assert_answered(rt.alloc(), input, SHOWN_TO_THE_EAST)
+    let input = SmallReads::new(OFFSETS_TO_THE_EAST.as_bytes(), 4096, None);
+    assert_answered(rt.alloc(), input, SHOWN_TO_THE_EAST.as_bytes())?;
+    for (line, answer) in OFFSETS_TO_THE_EAST.lines().zip(SHOWN_TO_THE_EAST.lines()) {
+        assert_beginnings(rt.alloc(), line, answer)?;
+    }
+    Ok(())
 }

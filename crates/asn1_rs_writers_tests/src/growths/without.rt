@@ -3,11 +3,11 @@
 use super::UTF8;
 use crate::cut::{GENERALIZED, UTC};
 use asn1_rs::{
-    Any, BitString, BmpString, Boolean, CheckDerConstraints, Class, DerParser, EmbeddedPdv,
-    EndOfContent, Enumerated, Err, Error, Explicit, FromAny, FromBer, FromDer, FromItems,
-    GeneralString, GeneralizedTime, GraphicString, Header, Ia5String, Implicit, Integer, Length,
-    Message, Null, NumericString, ObjectDescriptor, OctetString, Oid, PrintableString, Sequence,
-    SequenceIterator, SequenceOf, Set, SetOf, Steps, Tag, TaggedExplicit, TaggedImplicit,
+    Any, BerParser, BitString, BmpString, Boolean, CheckDerConstraints, Class, DerParser,
+    EmbeddedPdv, EndOfContent, Enumerated, Err, Error, Explicit, FromAny, FromBer, FromDer,
+    FromItems, GeneralString, GeneralizedTime, GraphicString, Header, Ia5String, Implicit, Integer,
+    Length, Message, Null, NumericString, ObjectDescriptor, OctetString, Oid, PrintableString,
+    Sequence, SequenceIterator, SequenceOf, Set, SetOf, Steps, Tag, TaggedExplicit, TaggedImplicit,
     TaggedParser, TeletexString, TestValidCharset, ToDer, ToStatic, UtcTime, Utf8String,
     VideotexString, VisibleString, any_from_ber_counted, read_ber, read_der,
 };
@@ -178,6 +178,25 @@ fn is_walked(alloc: Global) -> Option<bool> {
     Some(walk.next() == Some(Ok(1)))
 }
 
+/// The same of a walk by BER, over a number that is longer than it must be.
+fn is_walked_by_ber(alloc: Global) -> Option<bool> {
+    let mut walk = SequenceIterator::<u8, BerParser, Error>::new(alloc, &[0x02, 0x02, 0x00, 0x01]);
+    Some(walk.next() == Some(Ok(1)))
+}
+
+/// Whether an element of no contents octets and of tag number 0 is converted.
+fn is_end_of_content(alloc: Global) -> Option<bool> {
+    let end = Any::from_tag_and_data(Tag::EndOfContent, &[]);
+    Some(end.as_endofcontent().is_ok() && EndOfContent::try_from_any(alloc, end).is_ok())
+}
+
+/// Whether leaves say that they are primitive.
+fn are_primitive() -> Option<bool> {
+    let is_number = !5_u8.der_constructed() && !Enumerated(5).der_constructed();
+    let is_text = !"ab".der_constructed() && !Utf8String::new("ab").der_constructed();
+    Some(is_number && is_text && !true.der_constructed() && !Null::new().der_constructed())
+}
+
 /// Whether a value that may be left out is not there, and nothing is read, where another one is.
 fn is_left_out(answer: Result<(&[u8], Option<Vec<u8>>), Err<Error>>) -> Option<bool> {
     match answer {
@@ -249,6 +268,9 @@ impl Attempts for Others {
             "an element" => is_counted_element(),
             "arcs" => are_arcs(),
             "a walk" => is_walked(alloc),
+            "a walk by BER" => is_walked_by_ber(alloc),
+            "an end converted" => is_end_of_content(alloc),
+            "constructed bits" => are_primitive(),
             "left out by BER" => is_left_out(<Option<Vec<u8>>>::from_ber(alloc, &FIVE)),
             "left out by DER" => is_left_out(<Option<Vec<u8>>>::from_der(alloc, &FIVE)),
             "assertions" => is_asserted(),
@@ -266,11 +288,14 @@ fn no_memory_is_asked_for_other_calls(rt: HostRuntime) -> Result<(), Fail> {
         "EndOfContent",
         "an element",
         "a walk",
+        "a walk by BER",
+        "an end converted",
         "left out by BER",
         "left out by DER",
     ];
     let others = [
         "arcs",
+        "constructed bits",
         "assertions",
         "equalities",
         "errors",
