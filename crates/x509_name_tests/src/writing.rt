@@ -121,7 +121,7 @@ fn empty_relative_names_are_refused(rt: HostRuntime) -> Result<(), Fail> {
     assert_refused(alloc, &name)
 }
 
-/// Asserts that the octets are read as a value of the type, and that it is written as them, into a vector and by a writer.
+/// Asserts that the octets are read as a value of the type, and that it is written as them, into a vector and a writer.
 fn assert_same<'a, T: LawfulDer<'a, Error> + LawfulWrite + Drop>(
     alloc: Global,
     octets: &'a [u8],
