@@ -9,7 +9,7 @@ use std::alloc::Global;
 use std::test::Fail;
 use test_rows::{Calls, assert_rows, assert_shown};
 
-/// By DER: `910506234540Z` and `19910506234540Z` (X.690 8.26, 11.7, 11.8), each of its own type.
+/// By DER: `910506234540Z` and `19910506234540Z` (X.690 8.25, 11.7, 11.8), each of its own type.
 ///
 /// Refused: another class, another type, an element that is cut, and an indefinite length.
 const BY_DER: &str = "\

@@ -10,6 +10,8 @@ mod oid_table;
 #[cfg(test)]
 mod oids;
 #[cfg(test)]
+mod refused_times;
+#[cfg(test)]
 mod strings;
 #[cfg(test)]
 mod strings_table;

@@ -1,5 +1,5 @@
 -- Numbers as the words that contents octets are joined of, and refusals that do not tell that memory is out.
-use Rattle.std.proofs.Common.{◌≡◌, ◌≢◌, ◌∙◌, sym, subst, refl, inl, inr, ℕ, false, List, [], ◌∷◌, map, pos}
+use Rattle.std.proofs.Common.{◌≡◌, ◌≢◌, ◌⊎◌, ◌∙◌, sym, subst, refl, inl, inr, ℕ, false, List, [], ◌∷◌, map, pos}
 use Rattle.std.specs.Prelude.{Result, Ok, Err, Option, Some, IfOk, IfErr}
 use Rattle.std.proofs.lemmas.List.Elements.{All-head}
 use Rattle.std.specs.List.{All}
@@ -10,6 +10,7 @@ use Rattle.x690.specs.Joined.{IsJoined}
 use Rattle.x690.specs.Octets.{IsOctets}
 use Rattle.asn1_headers.specs.Answers.{IsOther}
 use Rattle.asn1_headers.specs.Error.{HeldIn}
+use Rattle.asn1_headers.specs.Header.Reading.{der_refusal}
 use Rattle.asn1_headers.specs.declared.error.Err.{Err as Refusal}
 use Rattle.asn1_headers.specs.declared.error.Err.TheVariants.{Incomplete as cut, Error as refused, Failure as failed}
 use Rattle.asn1_headers.specs.declared.error.Error.{Error}
@@ -21,7 +22,9 @@ use Rattle.asn1_rs.specs.Lists.{ItemsGive, ListOf, ListTakes, MadeOf, listed}
 use Rattle.asn1_rs.specs.Sequence.Iterator.{IsMemory, TellsNoWord, EndsJoined}
 use Rattle.asn1_rs.specs.Set.{HasItems, items_of}
 use Rattle.asn1_rs.specs.Traits.{DerGives, OfParts, PassesAll}
-use Rattle.asn1_rs_uses.specs.Items.{BeginsWithNumbers, EndsBefore}
+use Rattle.asn1_rs.specs.ToDer.{HasNone}
+use Rattle.asn1_rs_uses.specs.Items.{BeginsWithNumbers, EndsBefore, RefusesNumbers}
+use Rattle.asn1_rs_uses.proofs.TaggedOctets.{same_refusal}
 use Rattle.asn1_rs_uses.specs.Numbers.{NumberByDer}
 
 abbrev pub same : Error → Error → Type 0
@@ -62,6 +65,21 @@ set_begins reads octets law (Ok x) g =
       joined =
           subst (λ (xs : List ℕ). IsJoined NumberByDer (parts_of g.0).content (map pos xs)) (sym made.1) made.2.items;
     }
+
+-- a set of numbers that was refused, by what the law says of the element
+pub set_refused : (reads : List ℕ → Result (List ℕ × ℕ) (Refusal Error) → Type 0) (octets : List ℕ) →
+    ((number : ℕ) (p : Parts) (e : Error) → IsOctets p.content →
+    ListTakes {W = SetOf ℕ} (has_number number) HasItems reads same p (Err e) →
+    same errors.OutOfMemory e ⊎ HasNone (ListOf number NumberByDer p)) →
+    (r : Result (List ℕ × SetOf ℕ) (Refusal Error)) →
+    DerGives PassesAll (OfParts (ListTakes (has_number 17) HasItems reads same)) same octets r →
+    IfErr r (RefusesNumbers octets)
+set_refused reads octets law (Ok x) g = tt
+set_refused reads octets law (Err r) (inl (fault, has, kept)) =
+    inl (fault, has, same_refusal (der_refusal fault) r kept)
+set_refused reads octets law (Err r) (inr (any, rest, begins, inl (e, passes, made))) = cc
+set_refused reads octets law (Err r) (inr (any, rest, begins, inr (passes, (e, takes, is)))) =
+    inr (parts_of any, rest, e, begins.front, is, law 17 (parts_of any) e begins.front.fits.content_octets takes)
 
 -- a refusal that is made of another cause
 other_cause : (e : Error) → IsOther same e → e ≢ errors.OutOfMemory

@@ -1,5 +1,5 @@
 -- Times of certificates, of the type that the tag number says.
-use Rattle.std.specs.Prelude.{◌≡◌, ◌⊎◌, Result, Ok, Err}
+use Rattle.std.specs.Prelude.{◌≡◌, ◌⊎◌, ◌+◌, ◌<◌, ◌≤◌, ℕ, Result, Ok, Err}
 use Rattle.x690.specs.Elements.{Parts}
 use Rattle.asn1_headers.specs.declared.error.Error.{Error}
 use Rattle.asn1_rs.specs.Checks.{CheckGives}
@@ -24,3 +24,10 @@ TimeGives p (Err e) = (HasUtcNumber p × LeafGives utc_time_leaf p (Err e)) ⊎
 abbrev pub TimeCheckGives : CheckGives
 TimeCheckGives p r = (HasUtcNumber p × utc_time_leaf.constraints p r) ⊎
     ((¬ HasUtcNumber p) × generalized_time_leaf.constraints p r)
+
+-- The year of a time: of a UTCTime the last two digits are those of a year from 1950 to 2049. One made by hand may hold
+-- more than two digits, which are then the year.
+abbrev pub IsYear : Time → ℕ → Type 0
+IsYear (Generalized t) year = year ≡ t.0.year
+IsYear (Utc t) year = (t.0.year < 50 → year ≡ 2000 + t.0.year) ×
+    (50 ≤ t.0.year → t.0.year < 100 → year ≡ 1900 + t.0.year) × (100 ≤ t.0.year → year ≡ t.0.year)

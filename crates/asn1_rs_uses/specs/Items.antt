@@ -1,7 +1,16 @@
 -- Contents octets that are not items alone, and sets of numbers.
-use Rattle.std.specs.Prelude.{◌≡◌, ℕ, List, ◌++◌, map, pos}
+use Rattle.std.specs.Prelude.{◌≡◌, ◌⊎◌, ℕ, List, ◌++◌, map, pos}
 use Rattle.x690.specs.Elements.{Parts, IsDerElement}
 use Rattle.x690.specs.Joined.{NoFront, IsJoined}
+use Rattle.x690.specs.Faults.{DerElementFault}
+use Rattle.asn1_headers.specs.Answers.{Front}
+use Rattle.asn1_headers.specs.Header.Reading.{Refused, der_refusal}
+use Rattle.asn1_headers.specs.declared.error.Err.{Err as Refusal}
+use Rattle.asn1_headers.specs.declared.error.Err.TheVariants.{Error as refused}
+use Rattle.asn1_headers.specs.declared.error.Error.{Error}
+use Rattle.asn1_headers.specs.declared.error.Error.TheVariants as errors
+use Rattle.asn1_rs.specs.Lists.{ListOf}
+use Rattle.asn1_rs.specs.ToDer.{HasNone}
 use Rattle.asn1_rs.specs.Sequence.Iterator.{EndsJoined}
 use Rattle.asn1_rs_uses.specs.Numbers.{NumberByDer}
 
@@ -22,3 +31,9 @@ pub record BeginsWithNumbers (octets numbers rest : List ℕ) : Type 0 where
   pub is : octets ≡ word ++ rest
   pub set : parts.id.number ≡ 17
   pub joined : IsJoined NumberByDer parts.content (map pos numbers)
+
+-- no element by DER begins the octets; or one does, and memory was wanted, or it is no set of numbers by DER
+abbrev pub RefusesNumbers : List ℕ → Refusal Error → Type 0
+RefusesNumbers octets r = Refused DerElementFault der_refusal octets r ⊎
+    ((p : Parts) × (rest : List ℕ) × (e : Error) × Front IsDerElement octets p rest × (r ≡ refused e) ×
+    ((e ≡ errors.OutOfMemory) ⊎ HasNone (ListOf 17 NumberByDer p)))

@@ -4,7 +4,7 @@ ghost use Rattle.asn1_rs.specs.Any.{parts_of};
 ghost use Rattle.asn1_rs.specs.Any.Text.{utf8_checks};
 ghost use Rattle.asn1_rs.specs.FieldReader.{TakesSequence};
 ghost use Rattle.asn1_rs.specs.Traits.{OfParts};
-ghost use Rattle.asn1_rs_uses.specs.Certificates.{TimeCheckGives, TimeGives};
+ghost use Rattle.asn1_rs_uses.specs.Certificates.{IsYear, TimeCheckGives, TimeGives};
 
 use crate::kerberos::Under;
 use asn1_rs::{
@@ -46,7 +46,9 @@ pub enum Time {
 
 impl Time {
     /// The year. A `UTCTime` has its last two digits, of a year from 1950 to 2049.
-    pub fn year(&self) -> u32 {
+    pub fn year(&self) -> u32
+        ensures { IsYear self.now result }
+    {
         match self {
             Time::Generalized(time) => time.0.year,
             Time::Utc(time) => match time.0.year {
@@ -73,6 +75,9 @@ pub struct Certified<'a> {
     pub subject: Name<'a>,
 }
 
+// `TakesSequence`, by which each reader here is told, says that a sequence by DER stands before the rest. It leaves
+// open which fields are read, and why octets are refused. `FieldReader` says of each field what its reader answered,
+// and no clause joins these answers to the struct.
 impl<'a> FromDer<'a, Error> for Attribute<'a> {
     ghost der_gives = { TakesSequence };
 

@@ -63,7 +63,8 @@ pub fn elements_in<'a>(alloc: Global, content: &'a [u8]) -> Result<Vec<Any<'a>>,
 }
 
 /// How many numbers stand in contents octets that are numbers by DER, joined.
-// Of other contents octets no clause is proved.
+// Of other contents octets there is no clause: `count` of std counts a refusal as an item, so that the number is one
+// more than that of the words before it, which tells a caller nothing.
 pub fn count_of_numbers(alloc: Global, content: &[u8]) -> usize
     ensures { AreJoinedWords NumberByDer content.now → (numbers : List ℤ)
         × IsJoined NumberByDer content.now numbers × (result ≡ length numbers) }

@@ -5,7 +5,7 @@ ghost use Rattle.asn1_headers.specs.Answers.{seen};
 ghost use Rattle.asn1_headers.specs.declared.error.Error.TheVariants as errors;
 ghost use Rattle.asn1_rs.specs.Lists.{HasNoJoining};
 ghost use Rattle.asn1_rs.specs.Set.{items_of};
-ghost use Rattle.asn1_rs_uses.specs.Items.{EndsBefore, BeginsWithNumbers};
+ghost use Rattle.asn1_rs_uses.specs.Items.{EndsBefore, BeginsWithNumbers, RefusesNumbers};
 ghost use Rattle.asn1_rs_uses.specs.Numbers.{NumberByDer};
 
 use asn1_rs::{
@@ -29,9 +29,11 @@ pub fn numbers_of(alloc: Global, content: &[u8]) -> Result<Vec<u64>, Error>
 
 /// The set of numbers at the front of the octets, by DER, and what follows it. It keeps the numbers in the order of the
 /// words.
-// Of refusals no clause is proved.
+///
+/// Refused as the element is, when out of memory, and where the element is no set of numbers by DER.
 pub fn set_of_numbers(alloc: Global, octets: &[u8]) -> ParseResult<'_, SetOf<u64>, Error>
-    ensures { IfOk (seen result) (λ x. BeginsWithNumbers octets.now (items_of x.1) x.0) }
+    ensures numbers { IfOk (seen result) (λ x. BeginsWithNumbers octets.now (items_of x.1) x.0) }
+    ensures refused { IfErr (seen result) (RefusesNumbers octets.now) }
 {
     lists_are_joined_words::<SetOf<u64>, u64, DerParser, Error>();
     SetOf::from_der(alloc, octets)

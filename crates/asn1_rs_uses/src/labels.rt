@@ -3,14 +3,15 @@
 ghost use Rattle.std.specs.Prelude.{◌≡◌, ◌+◌, false, true, length, IfErr, MatchResult};
 ghost use Rattle.asn1_headers.specs.Writer.{Wrote, MayRefuse, IsMemoryOrLength};
 ghost use Rattle.asn1_headers.specs.Prepended.{Prepended};
+ghost use Rattle.asn1_headers.specs.Header.{is_constructed_of};
 ghost use Rattle.asn1_rs_uses.specs.Labels.{label_octets, labels_octets, headed_octets};
 ghost use Rattle.asn1_rs_uses.specs.Labels.{AreEachCall, AreRefused};
 ghost use Rattle.asn1_rs.specs.ToDer.{MayRefuseCount, whole_octets};
 
 use asn1_rs::{
     AlwaysDer, DerBuffer, DerWrite, Error, Explicit, HasKind, HolderKind, Holds, Implicit,
-    LawfulWrite, OctetString, SerializeResult, TaggedExplicit, TaggedParser, TaggedValue, ToDer,
-    counts_are_of_the_strict_encoding, strict_vec, write_strict,
+    LawfulItem, LawfulWrite, OctetString, SerializeResult, TaggedExplicit, TaggedParser,
+    TaggedValue, ToDer, counts_are_of_the_strict_encoding, strict_vec, write_strict,
 };
 use std::alloc::Global;
 
@@ -122,17 +123,21 @@ pub fn labels_by_each_call<W: DerWrite>(
     by_each_call(labels, alloc, w, v)
 }
 
-/// An octet string under the tag that its header tells, by each call.
-// Of refusals no clause is proved.
+/// An octet string under the tag that its header tells, by each call. Where the header has the constructed bit, as
+/// X.690 8.14.2 asks of an explicit tag, it is refused as a value in DER form is.
+// Of another header no clause tells the refusals, since `by_each_call` tells them of values in DER form alone.
 pub fn headed_by_each_call<W: DerWrite>(
     headed: &Headed<'_>,
     alloc: Global,
     w: &mut W,
     v: &mut W,
 ) -> EachCall
-    ensures { AreEachCall (headed_octets headed.now) (W.state w.old) (W.state w.new) (W.state v.old)
-        (W.state v.new) result }
+    ensures calls { AreEachCall (headed_octets headed.now) (W.state w.old) (W.state w.new)
+        (W.state v.old) (W.state v.new) result }
+    ensures refused { is_constructed_of headed.now.header ≡ true →
+        AreRefused (length (headed_octets headed.now)) result }
 {
+    headed.has_value();
     by_each_call(headed, alloc, w, v)
 }
 

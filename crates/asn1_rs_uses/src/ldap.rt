@@ -27,7 +27,9 @@ pub struct Bind<'a> {
 }
 
 /// The message at the front of the octets, by DER, and what follows it.
-// No clause says what is read, or what is refused.
+// No clause says what is read, or what is refused: `from_der_and_then` says what the closure answered, and the closures
+// here have no `ensures`, since no definition tells the words of a bind. Nor have `read_parts`, `read_bind` and
+// `read_controls`. The messages of `asn1_rs_messages` are structs of fields, whose words their types tell.
 pub fn read_bind_message<'a>(
     alloc: Global,
     octets: &'a [u8],

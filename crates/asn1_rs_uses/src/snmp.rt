@@ -19,7 +19,8 @@ pub struct Pdu<'a> {
 }
 
 /// The message at the front of the octets, by BER, and what follows it.
-// No clause says what is read, or what is refused.
+// No clause says what is read, or what is refused: `from_ber_and_then` says what the closure answered, and the closure
+// has no `ensures`, since no definition tells the words of a packet. Nor has `read_pdu`.
 pub fn read_packet<'a>(alloc: Global, octets: &'a [u8]) -> ParseResult<'a, Packet<'a>, Error> {
     Sequence::from_ber_and_then(octets, |content| {
         let (content, version) = u8::from_ber(alloc, content)?;
@@ -46,6 +47,7 @@ fn read_pdu<'a>(alloc: Global, octets: &'a [u8]) -> ParseResult<'a, Pdu<'a>, Err
 
 /// The first of bindings, a name and an element, and the octets of the others. They may outlive the sequence, which was
 /// read and so is borrowed.
+// No clause says what is read, or what is refused, for the same cause: both closures have no `ensures`.
 pub fn first_binding<'a>(
     alloc: Global,
     bindings: Sequence<'a>,

@@ -1,9 +1,10 @@
 //! Borrowed octets under a tag whose number is told at run time: where they are optional, and by the readers of one tag
 //! number.
-ghost use Rattle.std.specs.Prelude.{◌≡◌, IfOk, MatchOption};
+ghost use Rattle.std.specs.Prelude.{◌≡◌, IfOk, IfErr, IsOk, MatchOption};
 ghost use Rattle.asn1_headers.specs.Answers.{seen};
 ghost use Rattle.asn1_rs.specs.OctetString.{octets_of};
 ghost use Rattle.asn1_rs_uses.specs.TaggedOctets.{BeginsUnderTag, BeginsUnderNumber, BeginsWithContentsUnder};
+ghost use Rattle.asn1_rs_uses.specs.TaggedOctets.{RefusesClass, RefusesNumber, RefusesOctetsUnder, RefusesStringUnder};
 
 use asn1_rs::{
     Error, Explicit, Header, Implicit, OctetString, OptTaggedParser, ParseResult, Tag,
@@ -12,99 +13,107 @@ use asn1_rs::{
 };
 use std::alloc::Global;
 
-/// The contents octets, behind a header.
-// It never refuses.
+/// The contents octets, behind a header. It never refuses.
 fn behind_header<'a>(
     _header: Header<'_>,
     content: &'a [u8],
 ) -> ParseResult<'a, OctetString<'a>, Error>
-    ensures { IfOk (seen result) (λ x. content.now ≡ octets_of x.1) }
+    ensures content { IfOk (seen result) (λ x. content.now ≡ octets_of x.1) }
+    ensures ok { IsOk result }
 {
     Ok((&[], OctetString::new(content)))
 }
 
-/// The contents octets, with the header.
-// It never refuses.
+/// The contents octets, with the header. It never refuses.
 fn with_header<'a>(
     content: &'a [u8],
     _header: Header<'a>,
 ) -> ParseResult<'a, OctetString<'a>, Error>
-    ensures { IfOk (seen result) (λ x. content.now ≡ octets_of x.1) }
+    ensures content { IfOk (seen result) (λ x. content.now ≡ octets_of x.1) }
+    ensures ok { IsOk result }
 {
     Ok((&[], OctetString::new(content)))
 }
 
-/// The contents octets, with the tag number that was given and the header.
-// It never refuses.
+/// The contents octets, with the tag number that was given and the header. It never refuses.
 fn with_number<'a>(
     content: &'a [u8],
     _tag: Tag,
     _header: Header<'a>,
 ) -> ParseResult<'a, OctetString<'a>, Error>
-    ensures { IfOk (seen result) (λ x. content.now ≡ octets_of x.1) }
+    ensures content { IfOk (seen result) (λ x. content.now ≡ octets_of x.1) }
+    ensures ok { IsOk result }
 {
     Ok((&[], OctetString::new(content)))
 }
 
 /// The contents octets of the element of this context-specific tag, if it is there, by DER.
-// Of refusals no clause is proved.
+///
+/// Refused as the element is, and for another class.
 pub fn optional_octets<'a>(
     number: u32,
     octets: &'a [u8],
 ) -> ParseResult<'a, Option<OctetString<'a>>, Error>
-    ensures { IfOk (seen result) (λ x. MatchOption x.1 (x.0 ≡ octets.now)
+    ensures found { IfOk (seen result) (λ x. MatchOption x.1 (x.0 ≡ octets.now)
         (λ content. BeginsUnderTag number octets.now (octets_of content) x.0)) }
+    ensures refused { IfErr (seen result) (RefusesClass number octets.now) }
 {
     OptTaggedParser::tagged(number).parse_der(octets, behind_header)
 }
 
 /// The octet string under the explicit tag of this number, by DER, with the header of the tag.
-// Of refusals no clause is proved.
+///
+/// Refused as the element is, as the octet string in it is, for octets behind that, and for another number.
 pub fn string_under<'a>(
     alloc: Global,
     number: u32,
     octets: &'a [u8],
 ) -> ParseResult<'a, TaggedParser<'a, Explicit, OctetString<'a>, Error>, Error>
-    ensures { IfOk (seen result)
+    ensures string { IfOk (seen result)
         (λ x. BeginsUnderNumber number octets.now (octets_of x.1.inner) x.0) }
+    ensures refused { IfErr (seen result) (RefusesStringUnder number octets.now) }
 {
     reader_is_exact_by_der::<OctetString<'a>, Error>();
     parse_der_tagged_explicit::<Tag, OctetString<'a>, Error>(alloc, Tag(number), octets)
 }
 
 /// The octets under the implicit tag of this number, by DER, with the header of the tag.
-// Of refusals no clause is proved.
+///
+/// Refused as the element is, as it is converted, and for another number.
 pub fn octets_under<'a>(
     alloc: Global,
     number: u32,
     octets: &'a [u8],
 ) -> ParseResult<'a, TaggedParser<'a, Implicit, OctetString<'a>, Error>, Error>
-    ensures { IfOk (seen result)
+    ensures content { IfOk (seen result)
         (λ x. BeginsWithContentsUnder number octets.now (octets_of x.1.inner) x.0) }
+    ensures refused { IfErr (seen result) (RefusesOctetsUnder number octets.now) }
 {
     parse_der_tagged_implicit::<Tag, OctetString<'a>, Error>(alloc, Tag(number), octets)
 }
 
 /// The contents octets of the element of this number, by DER, through a function of their own.
-// Of refusals no clause is proved.
+///
+/// Refused as the element is, and for another number.
 pub fn octets_handed_on<'a>(
     number: u32,
     octets: &'a [u8],
 ) -> ParseResult<'a, OctetString<'a>, Error>
-    ensures { IfOk (seen result)
+    ensures content { IfOk (seen result)
         (λ x. BeginsWithContentsUnder number octets.now (octets_of x.1) x.0) }
+    ensures refused { IfErr (seen result) (RefusesNumber number octets.now) }
 {
     parse_der_tagged_explicit_g(Tag(number), octets, with_header)
 }
 
 /// The same, under the tag number of octet strings.
-// Of refusals no clause is proved.
 pub fn octets_handed_under<'a>(
     number: u32,
     octets: &'a [u8],
 ) -> ParseResult<'a, OctetString<'a>, Error>
-    ensures { IfOk (seen result)
+    ensures content { IfOk (seen result)
         (λ x. BeginsWithContentsUnder number octets.now (octets_of x.1) x.0) }
+    ensures refused { IfErr (seen result) (RefusesNumber number octets.now) }
 {
     parse_der_tagged_implicit_g(Tag(number), octets, with_number)
 }

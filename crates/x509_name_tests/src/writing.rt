@@ -1,8 +1,8 @@
 //! Names that are written, those that are refused, and names in lists, in sets and under tags.
 
 use asn1_rs::{
-    Error, FromDer, LawfulDer, LawfulWrite, SetOf, TaggedExplicit, ToDer, Told, read_der,
-    strict_vec,
+    DerBuffer, Error, FromDer, LawfulDer, LawfulWrite, SetOf, TaggedExplicit, ToDer, Told,
+    read_der, strict_vec, write_strict,
 };
 use std::alloc::Global;
 use std::test::Fail;
@@ -65,7 +65,8 @@ fn attributes_are_written_in_ascending_order(rt: HostRuntime) -> Result<(), Fail
     )
 }
 
-/// Asserts that the value is refused for a relative name without attributes, with nothing appended.
+/// Asserts that the value is refused for a relative name without attributes by each call, with nothing appended.
+// What a refused prepend leaves in its buffer no clause says.
 fn assert_refused<T: ToDer>(alloc: Global, value: &T) -> Result<(), Fail> {
     let counts = [value.to_der_len().err(), value.der_content_len().err()];
     let mut w = Told::new(Vec::new(alloc));
@@ -73,6 +74,13 @@ fn assert_refused<T: ToDer>(alloc: Global, value: &T) -> Result<(), Fail> {
         value.write_der_header(alloc, &mut w).err(),
         value.write_der_content(alloc, &mut w).err(),
         value.write_der(alloc, &mut w).err(),
+        value.write_der_raw(alloc, &mut w).err(),
+    ];
+    let mut buf = DerBuffer::new(alloc);
+    let others = [
+        value.prepend_der_content(alloc, &mut buf).err(),
+        value.prepend_der(alloc, &mut buf).err(),
+        value.to_der_vec(alloc).err(),
     ];
     assert_shown(
         alloc,
@@ -83,6 +91,14 @@ fn assert_refused<T: ToDer>(alloc: Global, value: &T) -> Result<(), Fail> {
     assert_shown(
         alloc,
         &writings,
+        "[Some(ASN1Error(InvalidValue { tag: Tag(17), msg: \"no attribute\" })), \
+        Some(ASN1Error(InvalidValue { tag: Tag(17), msg: \"no attribute\" })), \
+        Some(ASN1Error(InvalidValue { tag: Tag(17), msg: \"no attribute\" })), \
+        Some(ASN1Error(InvalidValue { tag: Tag(17), msg: \"no attribute\" }))]",
+    )?;
+    assert_shown(
+        alloc,
+        &others,
         "[Some(ASN1Error(InvalidValue { tag: Tag(17), msg: \"no attribute\" })), \
         Some(ASN1Error(InvalidValue { tag: Tag(17), msg: \"no attribute\" })), \
         Some(ASN1Error(InvalidValue { tag: Tag(17), msg: \"no attribute\" }))]",
@@ -105,14 +121,21 @@ fn empty_relative_names_are_refused(rt: HostRuntime) -> Result<(), Fail> {
     assert_refused(alloc, &name)
 }
 
-/// Asserts that the octets are read as a value of the type, and that it is written as them.
+/// Asserts that the octets are read as a value of the type, and that it is written as them, into a vector and a writer.
 fn assert_same<'a, T: LawfulDer<'a, Error> + LawfulWrite + Drop>(
     alloc: Global,
     octets: &'a [u8],
 ) -> Result<(), Fail> {
     let (_, value) = read_der::<T, Error>(alloc, octets)?;
-    let written = strict_vec(alloc, &value)?;
-    assert_all("written as read", &[written.as_slice() == octets])
+    let vector = strict_vec(alloc, &value)?;
+    let mut w = Told::new(Vec::new(alloc));
+    let count = write_strict(&value, alloc, &mut w)?;
+    let facts = [
+        vector.as_slice() == octets,
+        w.as_inner().as_slice() == octets,
+        count == octets.len(),
+    ];
+    assert_all("written as read", &facts)
 }
 
 #[test]

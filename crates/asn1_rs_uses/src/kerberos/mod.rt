@@ -1,4 +1,8 @@
 //! The first request of Kerberos, AS-REQ (RFC 4120, 5.4.1): read by DER, borrowed from the octets, and written.
+//!
+//! `TakesSequence`, by which most readers here are told, says that a sequence by DER stands before the rest. It leaves
+//! open which fields are read, and why octets are refused. `FieldReader` says of each field what its reader answered,
+//! and no clause joins these answers to the struct.
 
 mod body;
 mod data;
