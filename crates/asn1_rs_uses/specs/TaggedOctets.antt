@@ -1,16 +1,9 @@
 -- Borrowed octets under a tag whose number is told at run time.
-use Rattle.std.specs.Prelude.{◌≡◌, ◌≢◌, ◌⊎◌, ℕ, List, ◌++◌, Some, Result, Err}
+use Rattle.std.specs.Prelude.{◌≡◌, ℕ, List, ◌++◌, Err}
 use Rattle.x690.specs.Elements.{Parts, IsDerElement}
-use Rattle.x690.specs.Faults.{DerElementFault}
-use Rattle.asn1_headers.specs.Answers.{Front}
-use Rattle.asn1_headers.specs.Class.{class_number}
-use Rattle.asn1_headers.specs.Header.Reading.{Refused, der_refusal}
-use Rattle.asn1_headers.specs.declared.class.Class.{Class}
-use Rattle.asn1_headers.specs.declared.class.Class.TheVariants as classes
+use Rattle.asn1_headers.specs.Header.Reading.{Refused}
 use Rattle.asn1_headers.specs.declared.error.Err.{Err as Refusal}
-use Rattle.asn1_headers.specs.declared.error.Err.TheVariants.{Error as refused}
 use Rattle.asn1_headers.specs.declared.error.Error.{Error}
-use Rattle.asn1_headers.specs.declared.error.Error.TheVariants as errors
 use Rattle.asn1_rs.specs.Checks.{is_primitive}
 use Rattle.asn1_rs.specs.Leaf.{LendsContent}
 use Rattle.asn1_rs.specs.OctetString.{cow_of, octet_string_leaf, octet_string_number}
@@ -20,7 +13,6 @@ use Rattle.asn1_rs.specs.Traits.{DerGives}
 use Rattle.asn1_rs.specs.declared.asn1_types.octet_string.OctetString.{OctetString}
 use Rattle.asn1_rs.specs.declared.asn1_types.tagged.Explicit.{Explicit}
 use Rattle.asn1_rs.specs.declared.asn1_types.tagged.Implicit.{Implicit}
-use Rattle.asn1_rs.specs.declared.asn1_types.tagged.parser.TaggedParser.{TaggedParser}
 use Rattle.asn1_rs_uses.specs.Principals.{StringByDer}
 
 -- an element by DER of this tag number begins the octets, and the rest follows
@@ -44,20 +36,6 @@ BeginsWithContentsUnder number octets content rest =
 abbrev pub BeginsUnderTag : ℕ → List ℕ → List ℕ → List ℕ → Type 0
 BeginsUnderTag number octets content rest =
     (parts : Parts) × BeginsWithNumber number octets parts rest × (parts.id.class ≡ 2) × (parts.content ≡ content)
-
--- no element by DER begins the octets, or one of another tag number, of which the refusal tells
-abbrev pub RefusesNumber : ℕ → List ℕ → Refusal Error → Type 0
-RefusesNumber number octets r = Refused DerElementFault der_refusal octets r ⊎
-    ((p : Parts) × (rest : List ℕ) × Front IsDerElement octets p rest × (p.id.number ≢ number) ×
-    (r ≡ refused (errors.UnexpectedTag (Some (record { 0 = number })) (record { 0 = p.id.number }))))
-
--- No element by DER begins the octets, or one of this tag number and of another class, of which the refusal tells. One
--- of another tag number is not refused.
-abbrev pub RefusesClass : ℕ → List ℕ → Refusal Error → Type 0
-RefusesClass number octets r = Refused DerElementFault der_refusal octets r ⊎
-    ((p : Parts) × (rest : List ℕ) × (actual : Class) × Front IsDerElement octets p rest × (p.id.number ≡ number) ×
-    (p.id.class ≡ class_number actual) × (actual ≢ classes.ContextSpecific) ×
-    (r ≡ refused (errors.UnexpectedClass (Some classes.ContextSpecific) actual)))
 
 -- an error stays as it is
 abbrev pub SameError : Error → Error → Type 0
