@@ -3,14 +3,14 @@ ghost use Rattle.std.proofs.Common.{refl};
 ghost use Rattle.asn1_headers.specs.Answers.{seen};
 ghost use Rattle.asn1_rs.specs.Structs.{MadeOf};
 ghost use Rattle.asn1_rs.specs.Structs.Data.{struct_of};
-ghost use Rattle.asn1_rs.specs.Whole.{IsWhole};
+ghost use Rattle.asn1_rs.specs.Whole.{IsWhole, TakesWhole};
 ghost use Rattle.asn1_rs_messages.specs.Callers.{ReadsByDer, WritesStrict};
 
 use crate::TbsCertificate;
 use asn1_rs::{
-    BitString, BorrowedRow, DerParser, Error, Fields, FieldsKind, Grammar, HasKind, HasReader,
-    LawfulStruct, ParseResult, ReadsFields, ReadsRow, Row, SerializeResult, StructReader, ToDer,
-    read_der, read_der_whole, row_by_der, strict_vec,
+    BitString, BorrowedRow, DerParser, Error, Fields, FieldsKind, FromDer, Grammar, HasKind,
+    HasReader, LawfulStruct, ParseResult, ReadsFields, ReadsRow, Row, SerializeResult,
+    StructReader, ToDer, read_der, read_der_whole, row_by_der, strict_vec,
 };
 use asn1_rs_messages::AlgorithmIdentifier;
 use std::alloc::Global;
@@ -88,9 +88,10 @@ pub fn read_certificate<'a>(
 
 /// The certificate that all of the octets are, by DER. Refused with `TrailingOctets` where octets follow it.
 pub fn read_certificate_whole<'a>(alloc: Global, octets: &'a [u8]) -> Result<Certificate<'a>, Error>
-    ensures { IsWhole ⟦<Certificate<'a> as Grammar>⟧.grammar.Der
-        ⟦<Certificate<'a> as Grammar>⟧.grammar.value ⟦<Certificate<'a> as Grammar>⟧.grammar.allocates
-        octets.now result }
+    ensures exact { IsWhole ⟦<Certificate<'a> as Grammar>⟧.grammar.Der
+        ⟦<Certificate<'a> as Grammar>⟧.grammar.value
+        ⟦<Certificate<'a> as Grammar>⟧.grammar.allocates octets.now result }
+    ensures gives { TakesWhole ⟦<Certificate<'a> as FromDer<'a, Error>>⟧.der_gives octets.now result }
 {
     read_der_whole::<Certificate<'a>>(alloc, octets)
 }

@@ -40,7 +40,8 @@ impl HasReader for Attribute<'_> {
 }
 
 impl<'a> LawfulStruct for Attribute<'a> {
-    ghost laws = { struct_of (λ x. (x.kind, (x.value, tt))) ⟦<AttributeRow<'a> as Row>⟧.row_laws refl };
+    ghost laws = { struct_of (λ x. (x.kind, (x.value, tt)))
+        ⟦<AttributeRow<'a> as Row>⟧.row_laws refl };
 
     fn put_row(&self, fields: &mut Fields) -> SerializeResult<()> {
         (&self.kind, (&self.value, ())).put_each(fields)
