@@ -1,0 +1,80 @@
+//! Names (RFC 5280, 4.1.2.4).
+ghost use Rattle.std.specs.Prelude.{◌≡◌, IfOk, IfErr, Ok, Err};
+ghost use Rattle.std.proofs.Common.{refl};
+ghost use Rattle.asn1_rs.specs.Any.{parts_of};
+ghost use Rattle.asn1_rs.specs.Any.Text.{utf8_checks};
+ghost use Rattle.asn1_rs.specs.Structs.{MadeOf};
+ghost use Rattle.asn1_rs.specs.Structs.Data.{struct_of};
+
+use asn1_rs::{
+    Any, BorrowedRow, DerParser, Error, Fields, FieldsKind, HasKind, HasReader, LawfulStruct, Oid,
+    ReadsFields, ReadsRow, Row, SerializeResult, SetOf, StructReader, row_by_der,
+};
+use std::alloc::Global;
+
+/// A name: sets of attributes, from the root of the directory on.
+///
+///     Name ::= SEQUENCE OF SET OF AttributeTypeAndValue
+pub type Name<'a> = Vec<SetOf<Attribute<'a>>>;
+
+/// An attribute of a name: of which type it is, and a value of a type that it says.
+///
+///     AttributeTypeAndValue ::= SEQUENCE {
+///         type   OBJECT IDENTIFIER,
+///         value  ANY DEFINED BY type }
+#[derive(Debug, PartialEq, Eq, Drop)]
+pub struct Attribute<'a> {
+    pub kind: Oid<'a>,
+    pub value: Any<'a>,
+}
+
+/// Its fields.
+pub type AttributeRow<'a> = (Oid<'a>, (Any<'a>, ()));
+
+impl HasKind for Attribute<'_> {
+    type Kind = FieldsKind;
+}
+
+impl HasReader for Attribute<'_> {
+    type Reader = StructReader;
+}
+
+impl<'a> LawfulStruct for Attribute<'a> {
+    ghost laws = { struct_of (λ x. (x.kind, (x.value, tt)))
+        ⟦<AttributeRow<'a> as Row>⟧.row_laws refl };
+
+    fn put_row(&self, fields: &mut Fields) -> SerializeResult<()> {
+        (&self.kind, (&self.value, ())).put_each(fields)
+    }
+
+    fn row_in_hand(&self) {
+        (&self.kind, (&self.value, ())).each_in_hand()
+    }
+}
+
+impl<'a> ReadsFields<'a> for Attribute<'a> {
+    ghost fields_give = { MadeOf ⟦<Attribute<'a> as LawfulStruct>⟧.laws.as_row
+        ⟦<AttributeRow<'a> as ReadsRow<'a, DerParser>>⟧.row_gives };
+
+    fn read_fields(alloc: Global, octets: &'a [u8]) -> Result<Attribute<'a>, Error> {
+        match row_by_der(alloc, octets) {
+            Ok(row) => {
+                let (kind, (value, ())) = row;
+                Ok(Attribute { kind, value })
+            }
+            Err(e) => Err(e),
+        }
+    }
+}
+
+impl<'a> Attribute<'a> {
+    /// The text, which is borrowed from the octets. Refused with the first check of a string read as UTF-8 that the
+    /// value breaks: its tag number, then its octets.
+    pub fn text(&self) -> Result<&'a str, Error>
+        ensures text { IfOk result (λ text. text.now ≡ self.now.value.content.now) }
+        ensures checked { IfOk result (λ _. utf8_checks (parts_of self.now.value) (Ok tt)) }
+        ensures refused { IfErr result (λ e. utf8_checks (parts_of self.now.value) (Err e)) }
+    {
+        self.value.as_any_string()
+    }
+}
