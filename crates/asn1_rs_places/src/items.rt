@@ -1,0 +1,62 @@
+//! Items of lists: in which of them the refusal came.
+ghost use Rattle.std.specs.Prelude.{◌≡◌, MatchOption, None};
+ghost use Rattle.asn1_rs_places.specs.Places.{AreTaken, IsInContents, IsInItems, TakesAll};
+
+use crate::contents::opened;
+use crate::looks::{LooksInto, ReadsValue, told};
+use crate::refused::{Refused, Step};
+use asn1_rs::{Any, FromItems, Tagged};
+use std::alloc::Global;
+use std::marker::PhantomData;
+
+/// Where one of the items is refused that the octets are, one after another.
+fn look_in_items<'a, P, T, L>(alloc: Global, octets: &'a [u8], end: usize) -> Option<Refused>
+where
+    T: ReadsValue<'a, P> + Drop,
+    L: LooksInto<'a, P, T>,
+    ensures { MatchOption result (TakesAll T.value_gives octets.now)
+        (IsInItems T.value_gives L.silent L.tells end octets.now) }
+{
+    let mut left = octets;
+    for place in 0..octets.len() {
+        if left.is_empty() {
+            return None;
+        }
+        match T::read_value(alloc, left) {
+            Ok((rest, _)) => left = rest,
+            Err(refusal) => {
+                let refused = told::<P, T, L>(alloc, left, end, refusal);
+                return Some(refused.under(Step::Item(place)));
+            }
+        }
+    }
+    None
+}
+
+/// Looks into the items of a list by `L`.
+#[derive_where(Debug)]
+pub struct Items<L>(PhantomData<L>);
+
+impl<'a, P, C, T, L> LooksInto<'a, P, C> for Items<L>
+where
+    C: FromItems<Item = T>,
+    T: ReadsValue<'a, P> + Drop,
+    Any<'a>: ReadsValue<'a, P>,
+    L: LooksInto<'a, P, T>,
+{
+    ghost silent = { AreTaken ⟦<Any<'a> as ReadsValue<'a, P>>⟧.value_gives (C.TAG).0 None
+        (TakesAll T.value_gives) };
+
+    ghost tells = { IsInContents ⟦<Any<'a> as ReadsValue<'a, P>>⟧.value_gives (C.TAG).0 None
+        (IsInItems T.value_gives L.silent L.tells) };
+
+    fn look(alloc: Global, octets: &'a [u8], end: usize) -> Option<Refused> {
+        match opened::<P>(alloc, octets, end, C::TAG.0, None) {
+            Some((any, its_end)) => match look_in_items::<P, T, L>(alloc, any.content, its_end) {
+                Some(refused) => Some(refused),
+                None => None,
+            },
+            None => None,
+        }
+    }
+}
