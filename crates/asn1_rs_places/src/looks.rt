@@ -60,7 +60,7 @@ pub(crate) fn told<'a, P, T, L>(
 ) -> Refused
 where
     L: LooksInto<'a, P, T>,
-    ensures { IsToldWith refusal.entry L.silent L.tells end octets.now result }
+    ensures { IsToldWith refusal L.silent L.tells end octets.now result }
 {
     match L::look(alloc, octets, end) {
         Some(refused) => refused,

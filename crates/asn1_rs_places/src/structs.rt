@@ -1,7 +1,5 @@
 //! Structs: in which of their fields the refusal came.
-ghost use Rattle.std.specs.Prelude.{◌≡◌, ℕ, List, Result, None, Some, MatchOption};
-ghost use Rattle.asn1_headers.specs.declared.error.Error.{Error};
-ghost use Rattle.asn1_rs.specs.Structs.{MadeOf};
+ghost use Rattle.std.specs.Prelude.{◌≡◌, ℕ, List, Result, Ok, None, Some, MatchOption};
 ghost use Rattle.asn1_rs_places.specs.declared.refused.Refused.{Refused};
 ghost use Rattle.asn1_rs_places.specs.Places.{AreTaken, IsInContents, TakesRow};
 
@@ -28,14 +26,11 @@ where
     L::look_in_row(alloc, octets, end, 0)
 }
 
-/// The row of a struct `T` that is read by DER, and how to look into it.
+/// A way to look into the fields of a struct `T` that is read by DER.
 ///
-///     impl<'a> RowByDer<'a, Measurement> for InMeasurement {
-///         type Row = MeasurementRow;
-///
-///         ghost as_row = { ⟦<Measurement as LawfulStruct>⟧.laws.as_row };
-///
-///         ghost row_gives = { ⟦<MeasurementRow as ReadsRow<'a, DerParser>>⟧.row_gives };
+///     impl<'a> FieldsByDer<'a, Measurement> for InMeasurement {
+///         ghost takes_fields = { TakesRow
+///             ⟦<MeasurementRow as ReadsRow<'a, DerParser>>⟧.row_gives };
 ///
 ///         ghost tells_in_fields = {
 ///             ⟦<MeasurementLook as LooksIntoRow<'a, DerParser, MeasurementRow>>⟧.tells_in_row 0 };
@@ -44,63 +39,55 @@ where
 ///             look_in_fields::<DerParser, MeasurementRow, MeasurementLook>(alloc, octets, end)
 ///         }
 ///
-///         ghost reads_row = { λ octets answer gives. gives };
+///         ghost are_fields = { λ octets x gives.
+///             (⟦<Measurement as LawfulStruct>⟧.laws.as_row x, gives) };
 ///     }
-// A mark of the caller's has it, and not the struct: so a caller can say it of a struct of another crate. No bound names
-// the row, and the mark calls the look: so what holds a struct passes nothing of its fields on.
-pub trait RowByDer<'a, T: ReadsFields<'a>> {
-    /// The row.
-    type Row;
+// A mark of the caller's has it, and not the struct: so a caller can say it of a struct of another crate. No bound
+// names the row, and the mark calls the look: so what holds a struct passes nothing of its fields on.
+pub trait FieldsByDer<'a, T: ReadsFields<'a>> {
+    /// These octets are the fields.
+    ghost takes_fields: { List ℕ → Type 0 };
 
-    /// The row of a value.
-    ghost as_row: { T → Self.Row };
-
-    /// What reading the row may answer.
-    ghost row_gives: { List ℕ → Result Self.Row Error → Type 0 };
-
-    /// This may be told of the fields that these octets are, which end so many octets behind the begin of the input.
+    /// This may be told of the fields that these octets are, which end so many octets behind the begin of the
+    /// input.
     ghost tells_in_fields: { ℕ → List ℕ → Refused → Type 0 };
 
     /// Where the fields that the octets are are refused.
     fn look_by_der(alloc: Global, octets: &'a [u8], end: usize) -> Option<Refused>
-        ensures { MatchOption result (TakesRow row_gives octets.now) (tells_in_fields end octets.now) };
+        ensures { MatchOption result (takes_fields octets.now)
+            (tells_in_fields end octets.now) };
 
-    /// What reading the fields may answer is what reading the row may.
-    ghost reads_row: { (octets : List ℕ) (answer : Result T Error) → T.fields_give octets answer →
-        MadeOf Self.as_row Self.row_gives octets answer };
+    /// What the struct is read from is the fields.
+    ghost are_fields: { (octets : List ℕ) (x : T) → T.fields_give octets (Ok x) →
+        Self.takes_fields octets };
 }
 
-/// The row of a struct `T` that is read by BER, and how to look into it: as [`RowByDer`].
-pub trait RowByBer<'a, T: ReadsFieldsByBer<'a>> {
-    /// The row.
-    type Row;
+/// A way to look into the fields of a struct `T` that is read by BER: as [`FieldsByDer`].
+pub trait FieldsByBer<'a, T: ReadsFieldsByBer<'a>> {
+    /// These octets are the fields.
+    ghost takes_fields: { List ℕ → Type 0 };
 
-    /// The row of a value.
-    ghost as_row: { T → Self.Row };
-
-    /// What reading the row may answer.
-    ghost row_gives: { List ℕ → Result Self.Row Error → Type 0 };
-
-    /// This may be told of the fields that these octets are, which end so many octets behind the begin of the input.
+    /// This may be told of the fields that these octets are, which end so many octets behind the begin of the
+    /// input.
     ghost tells_in_fields: { ℕ → List ℕ → Refused → Type 0 };
 
     /// Where the fields that the octets are are refused.
     fn look_by_ber(alloc: Global, octets: &'a [u8], end: usize) -> Option<Refused>
-        ensures { MatchOption result (TakesRow row_gives octets.now) (tells_in_fields end octets.now) };
+        ensures { MatchOption result (takes_fields octets.now)
+            (tells_in_fields end octets.now) };
 
-    /// What reading the fields may answer is what reading the row may.
-    ghost reads_row: { (octets : List ℕ) (answer : Result T Error) →
-        T.fields_give_by_ber octets answer → MadeOf Self.as_row Self.row_gives octets answer };
+    /// What the struct is read from is the fields.
+    ghost are_fields: { (octets : List ℕ) (x : T) → T.fields_give_by_ber octets (Ok x) →
+        Self.takes_fields octets };
 }
 
-/// Looks into the fields of a struct, whose row `L` names.
+/// Looks into the fields of a struct by `L`.
 #[derive_where(Debug)]
 pub struct InStruct<L>(PhantomData<L>);
 
-impl<'a, T: ReadsFields<'a>, L: RowByDer<'a, T, Row = R>, R> LooksInto<'a, DerParser, T>
-    for InStruct<L> {
+impl<'a, T: ReadsFields<'a>, L: FieldsByDer<'a, T>> LooksInto<'a, DerParser, T> for InStruct<L> {
     ghost silent = { AreTaken ⟦<Any<'a> as ReadsValue<'a, DerParser>>⟧.value_gives 16 None
-        (TakesRow L.row_gives) };
+        L.takes_fields };
 
     ghost tells = { IsInContents ⟦<Any<'a> as ReadsValue<'a, DerParser>>⟧.value_gives 16 None
         L.tells_in_fields };
@@ -116,10 +103,10 @@ impl<'a, T: ReadsFields<'a>, L: RowByDer<'a, T, Row = R>, R> LooksInto<'a, DerPa
     }
 }
 
-impl<'a, T: ReadsFieldsByBer<'a>, L: RowByBer<'a, T, Row = R>, R> LooksInto<'a, BerParser, T>
+impl<'a, T: ReadsFieldsByBer<'a>, L: FieldsByBer<'a, T>> LooksInto<'a, BerParser, T>
     for InStruct<L> {
     ghost silent = { AreTaken ⟦<Any<'a> as ReadsValue<'a, BerParser>>⟧.value_gives 16 None
-        (TakesRow L.row_gives) };
+        L.takes_fields };
 
     ghost tells = { IsInContents ⟦<Any<'a> as ReadsValue<'a, BerParser>>⟧.value_gives 16 None
         L.tells_in_fields };
@@ -135,11 +122,11 @@ impl<'a, T: ReadsFieldsByBer<'a>, L: RowByBer<'a, T, Row = R>, R> LooksInto<'a, 
     }
 }
 
-/// Looks into the fields of a struct under an implicit tag, whose row `L` names. By both rules they are read by BER.
+/// Looks into the fields of a struct under an implicit tag by `L`. By both rules they are read by BER.
 #[derive_where(Debug)]
 pub struct InImplicit<L>(PhantomData<L>);
 
-impl<'a, P, T, L, R, const CLASS: u8, const TAG: u32> LooksInto<
+impl<'a, P, T, L, const CLASS: u8, const TAG: u32> LooksInto<
     'a,
     P,
     TaggedValue<T, Error, Implicit, CLASS, TAG>,
@@ -147,10 +134,10 @@ impl<'a, P, T, L, R, const CLASS: u8, const TAG: u32> LooksInto<
 where
     T: ReadsFieldsByBer<'a>,
     Any<'a>: ReadsValue<'a, P>,
-    L: RowByBer<'a, T, Row = R>,
+    L: FieldsByBer<'a, T>,
 {
     ghost silent = { AreTaken ⟦<Any<'a> as ReadsValue<'a, P>>⟧.value_gives TAG (Some CLASS)
-        (TakesRow L.row_gives) };
+        L.takes_fields };
 
     ghost tells = { IsInContents ⟦<Any<'a> as ReadsValue<'a, P>>⟧.value_gives TAG (Some CLASS)
         L.tells_in_fields };

@@ -1,18 +1,22 @@
 //! Refusals of a message with an optional field under a tag, one with a default, and a list.
+ghost use Rattle.asn1_rs_places.specs.Places.{TakesRow};
 
-use asn1_rs::{BerParser, DerParser, LawfulStruct, ReadsRow};
+use asn1_rs::{BerParser, DerParser, Error, LawfulStruct, ReadsRow, Tag, TaggedImplicit};
 use asn1_rs_messages::{Reminder, ReminderRow};
 use asn1_rs_places::{
-    Held, InStruct, Items, LooksIntoRow, Refused, RowByBer, RowByDer, UnderTag, Whole,
-    look_in_fields, place_by_ber, place_by_der,
+    FieldsByBer, FieldsByDer, Held, InImplicit, InStruct, Items, LooksIntoRow, Refused, Step,
+    UnderTag, Whole, look_in_fields, place_by_ber, place_by_der,
 };
 use std::alloc::Global;
 use std::fmt::Write;
 use std::test::Fail;
-use test_rows::{Calls, assert_rows};
+use test_rows::{Calls, assert_all, assert_rows};
 
 /// Into each field of a reminder.
 struct InReminder;
+
+/// A reminder in place of whose tag 2 stands.
+type Second = TaggedImplicit<Reminder, Error, 2>;
 
 /// How to look into them.
 type ReminderLook = (
@@ -20,12 +24,8 @@ type ReminderLook = (
     (Held<UnderTag<Whole>>, (Held<Whole>, (Items<Whole>, ()))),
 );
 
-impl<'a> RowByDer<'a, Reminder> for InReminder {
-    type Row = ReminderRow;
-
-    ghost as_row = { ⟦<Reminder as LawfulStruct>⟧.laws.as_row };
-
-    ghost row_gives = { ⟦<ReminderRow as ReadsRow<'a, DerParser>>⟧.row_gives };
+impl<'a> FieldsByDer<'a, Reminder> for InReminder {
+    ghost takes_fields = { TakesRow ⟦<ReminderRow as ReadsRow<'a, DerParser>>⟧.row_gives };
 
     ghost tells_in_fields = { ⟦<ReminderLook as LooksIntoRow<'a, DerParser, ReminderRow>>⟧.tells_in_row 0 };
 
@@ -33,15 +33,11 @@ impl<'a> RowByDer<'a, Reminder> for InReminder {
         look_in_fields::<DerParser, ReminderRow, ReminderLook>(alloc, octets, end)
     }
 
-    ghost reads_row = { λ octets answer gives. gives };
+    ghost are_fields = { λ octets x gives. (⟦<Reminder as LawfulStruct>⟧.laws.as_row x, gives) };
 }
 
-impl<'a> RowByBer<'a, Reminder> for InReminder {
-    type Row = ReminderRow;
-
-    ghost as_row = { ⟦<Reminder as LawfulStruct>⟧.laws.as_row };
-
-    ghost row_gives = { ⟦<ReminderRow as ReadsRow<'a, BerParser>>⟧.row_gives };
+impl<'a> FieldsByBer<'a, Reminder> for InReminder {
+    ghost takes_fields = { TakesRow ⟦<ReminderRow as ReadsRow<'a, BerParser>>⟧.row_gives };
 
     ghost tells_in_fields = { ⟦<ReminderLook as LooksIntoRow<'a, BerParser, ReminderRow>>⟧.tells_in_row 0 };
 
@@ -49,7 +45,7 @@ impl<'a> RowByBer<'a, Reminder> for InReminder {
         look_in_fields::<BerParser, ReminderRow, ReminderLook>(alloc, octets, end)
     }
 
-    ghost reads_row = { λ octets answer gives. gives };
+    ghost are_fields = { λ octets x gives. (⟦<Reminder as LawfulStruct>⟧.laws.as_row x, gives) };
 }
 
 /// Read: the fields that have to be there, and all of them.
@@ -89,6 +85,20 @@ ber:
 30800201053080020107050000000000 = field 3, item 1, at octet 10: expected tag number 2, found 5 (Null)
 3080020105a080020105000030000000 = field 1, under its tag, at octet 7: expected tag number 1, found 2 (Integer)
 3080020105300005000000 = field 4, at octet 7: rule of DER broken: trailing octets
+
+list:
+3000 = read
+300e3005020105300030050101ff3000 = item 1, field 0, at octet 11: expected tag number 2, found 1 (Boolean)
+3009300502010530000500 = item 1, at octet 9: expected tag number 16, found 5 (Null)
+31093005020105300030 = at octet 0: within the contents octets 1 octet is missing
+
+implicit:
+a2050201053000 = read
+a2080201050101053000 = read
+a208020105a501053000 = field 3, at octet 5 [5]: expected tag number 16, found [5]
+a3050201053000 = at octet 0 [3]: expected tag number 2, found [3]
+82050201053000 = at octet 0 [2]: constructed encoding expected
+62050201053000 = at octet 0 [APPLICATION 2]: expected class ContextSpecific, found Application
 ";
 
 /// The calls of the tables.
@@ -98,6 +108,8 @@ impl Calls for Places {
     fn answer(text: &mut String, alloc: Global, name: &str, octets: &[u8]) -> Result<(), Fail> {
         let place = match name {
             "der" => place_by_der::<Reminder, InStruct<InReminder>>(alloc, octets),
+            "list" => place_by_der::<Vec<Reminder>, Items<InStruct<InReminder>>>(alloc, octets),
+            "implicit" => place_by_der::<Second, InImplicit<InReminder>>(alloc, octets),
             _ => place_by_ber::<Reminder, InStruct<InReminder>>(alloc, octets),
         };
         match place {
@@ -111,4 +123,19 @@ impl Calls for Places {
 #[test]
 fn places_in_reminders(rt: HostRuntime) -> Result<(), Fail> {
     assert_rows::<Places>(rt.alloc(), PLACES)
+}
+
+#[test]
+fn parts_of_a_refusal_are_told(rt: HostRuntime) -> Result<(), Fail> {
+    let octets = [0x30, 0x0b, 2, 1, 5, 0x30, 6, 2, 1, 7, 5, 1, 7];
+    let place = place_by_der::<Reminder, InStruct<InReminder>>(rt.alloc(), &octets);
+    let Some(refused) = place else {
+        return Err(Fail::new(format_args!("nothing is refused")));
+    };
+    let facts = [
+        refused.path() == [Step::Field(3), Step::Item(1)].as_slice(),
+        refused.octet == 10,
+        refused.error == Error::unexpected_tag(Some(Tag::Integer), Tag::Null),
+    ];
+    assert_all("a refusal", &facts)
 }

@@ -1,4 +1,5 @@
 //! Refusals of requests of Kerberos (RFC 4120, 5.4.1).
+ghost use Rattle.asn1_rs_places.specs.Places.{TakesRow};
 
 use asn1_rs::{DerParser, LawfulStruct, ReadsRow};
 use asn1_rs_kerberos::{
@@ -6,7 +7,7 @@ use asn1_rs_kerberos::{
     PrincipalNameRow,
 };
 use asn1_rs_places::{
-    Held, InStruct, Items, LooksIntoRow, Refused, RowByDer, UnderTag, Whole, look_in_fields,
+    FieldsByDer, Held, InStruct, Items, LooksIntoRow, Refused, UnderTag, Whole, look_in_fields,
     place_by_der,
 };
 use std::alloc::Global;
@@ -20,12 +21,8 @@ struct InPaData;
 /// How to look into them.
 type PaDataLook = (UnderTag<Whole>, (UnderTag<Whole>, ()));
 
-impl<'a> RowByDer<'a, PaData<'a>> for InPaData {
-    type Row = PaDataRow<'a>;
-
-    ghost as_row = { ⟦<PaData<'a> as LawfulStruct>⟧.laws.as_row };
-
-    ghost row_gives = { ⟦<PaDataRow<'a> as ReadsRow<'a, DerParser>>⟧.row_gives };
+impl<'a> FieldsByDer<'a, PaData<'a>> for InPaData {
+    ghost takes_fields = { TakesRow ⟦<PaDataRow<'a> as ReadsRow<'a, DerParser>>⟧.row_gives };
 
     ghost tells_in_fields = { ⟦<PaDataLook as LooksIntoRow<'a, DerParser, PaDataRow<'a>>>⟧.tells_in_row 0 };
 
@@ -33,7 +30,8 @@ impl<'a> RowByDer<'a, PaData<'a>> for InPaData {
         look_in_fields::<DerParser, PaDataRow<'a>, PaDataLook>(alloc, octets, end)
     }
 
-    ghost reads_row = { λ octets answer gives. gives };
+    ghost are_fields = { λ octets x gives.
+        (⟦<PaData<'a> as LawfulStruct>⟧.laws.as_row x, gives) };
 }
 
 /// Into both fields of a name.
@@ -42,12 +40,8 @@ struct InName;
 /// How to look into them.
 type NameLook = (UnderTag<Whole>, (UnderTag<Items<Whole>>, ()));
 
-impl<'a> RowByDer<'a, PrincipalName<'a>> for InName {
-    type Row = PrincipalNameRow<'a>;
-
-    ghost as_row = { ⟦<PrincipalName<'a> as LawfulStruct>⟧.laws.as_row };
-
-    ghost row_gives = { ⟦<PrincipalNameRow<'a> as ReadsRow<'a, DerParser>>⟧.row_gives };
+impl<'a> FieldsByDer<'a, PrincipalName<'a>> for InName {
+    ghost takes_fields = { TakesRow ⟦<PrincipalNameRow<'a> as ReadsRow<'a, DerParser>>⟧.row_gives };
 
     ghost tells_in_fields = { ⟦<NameLook as LooksIntoRow<'a, DerParser, PrincipalNameRow<'a>>>⟧.tells_in_row 0 };
 
@@ -55,7 +49,8 @@ impl<'a> RowByDer<'a, PrincipalName<'a>> for InName {
         look_in_fields::<DerParser, PrincipalNameRow<'a>, NameLook>(alloc, octets, end)
     }
 
-    ghost reads_row = { λ octets answer gives. gives };
+    ghost are_fields = { λ octets x gives.
+        (⟦<PrincipalName<'a> as LawfulStruct>⟧.laws.as_row x, gives) };
 }
 
 /// Into the first six fields of what is asked for.
@@ -76,12 +71,8 @@ type BodyLook = (
     ),
 );
 
-impl<'a> RowByDer<'a, KdcReqBody<'a>> for InBody {
-    type Row = KdcReqBodyRow<'a>;
-
-    ghost as_row = { ⟦<KdcReqBody<'a> as LawfulStruct>⟧.laws.as_row };
-
-    ghost row_gives = { ⟦<KdcReqBodyRow<'a> as ReadsRow<'a, DerParser>>⟧.row_gives };
+impl<'a> FieldsByDer<'a, KdcReqBody<'a>> for InBody {
+    ghost takes_fields = { TakesRow ⟦<KdcReqBodyRow<'a> as ReadsRow<'a, DerParser>>⟧.row_gives };
 
     ghost tells_in_fields = { ⟦<BodyLook as LooksIntoRow<'a, DerParser, KdcReqBodyRow<'a>>>⟧.tells_in_row 0 };
 
@@ -89,7 +80,8 @@ impl<'a> RowByDer<'a, KdcReqBody<'a>> for InBody {
         look_in_fields::<DerParser, KdcReqBodyRow<'a>, BodyLook>(alloc, octets, end)
     }
 
-    ghost reads_row = { λ octets answer gives. gives };
+    ghost are_fields = { λ octets x gives.
+        (⟦<KdcReqBody<'a> as LawfulStruct>⟧.laws.as_row x, gives) };
 }
 
 /// Into each field of a request.
@@ -107,12 +99,8 @@ type RequestLook = (
     ),
 );
 
-impl<'a> RowByDer<'a, KdcReq<'a>> for InRequest {
-    type Row = KdcReqRow<'a>;
-
-    ghost as_row = { ⟦<KdcReq<'a> as LawfulStruct>⟧.laws.as_row };
-
-    ghost row_gives = { ⟦<KdcReqRow<'a> as ReadsRow<'a, DerParser>>⟧.row_gives };
+impl<'a> FieldsByDer<'a, KdcReq<'a>> for InRequest {
+    ghost takes_fields = { TakesRow ⟦<KdcReqRow<'a> as ReadsRow<'a, DerParser>>⟧.row_gives };
 
     ghost tells_in_fields = { ⟦<RequestLook as LooksIntoRow<'a, DerParser, KdcReqRow<'a>>>⟧.tells_in_row 0 };
 
@@ -120,7 +108,8 @@ impl<'a> RowByDer<'a, KdcReq<'a>> for InRequest {
         look_in_fields::<DerParser, KdcReqRow<'a>, RequestLook>(alloc, octets, end)
     }
 
-    ghost reads_row = { λ octets answer gives. gives };
+    ghost are_fields = { λ octets x gives.
+        (⟦<KdcReq<'a> as LawfulStruct>⟧.laws.as_row x, gives) };
 }
 
 /// Read: a request with the fewest fields.
