@@ -95,13 +95,7 @@ abbrev pub IsInRow : {S : Type 0} → Reads S → (List ℕ → Type 0) → (ℕ
     (ℕ → ℕ → List ℕ → Refused → Type 0) → ℕ → ℕ → List ℕ → Refused → Type 0
 IsInRow reads silent tells others place end octets told =
     IsToldUnder (Field place) reads silent tells end octets told ⊎
-    ((rest : List ℕ) × Takes reads octets rest × others (next_place place) end rest told)
-
--- The fields of a part are those of a row. What is told is told of that; or of all of them, where the row is taken.
-abbrev pub IsInPart : {S R : Type 0} → (List ℕ → Result S Error → Type 0) → (List ℕ → Result R Error → Type 0) →
-    (ℕ → ℕ → List ℕ → Refused → Type 0) → ℕ → ℕ → List ℕ → Refused → Type 0
-IsInPart gives row_gives tells place end octets told =
-    tells place end octets told ⊎ (TakesRow row_gives octets × IsInRest gives place end octets told)
+    ((rest : List ℕ) × (next : ℕ) × Takes reads octets rest × (next ≡ next_place place) × others next end rest told)
 
 -- Contents octets of elements.
 

@@ -1,5 +1,4 @@
-use Rattle.std.proofs.Common.{rules, add-one, ◌≡◌, ◌+◌, ℕ, List, [], length}
-use Rattle.asn1_rs_places.specs.Places.{TakesItems}
+use Rattle.std.proofs.Common.{rules, add-one}
 use Rattle.asn1_rs_places.proofs.items.look_in_items.Goals as goal
 
 pub loop-place-preserved : goal.loop-place-preserved
