@@ -1,0 +1,168 @@
+-- Where reading was refused: within which part of the value, before which octet of the input, and with which error.
+use Rattle.std.specs.Prelude.{◌≡◌, ◌⊎◌, ◌+◌, ◌-◌, ◌^◌, ℕ, zero, suc, List, [], ◌∷◌, length, take, true, min}
+use Rattle.std.specs.Prelude.{Option, Some, None, Result, Ok, Err}
+use Rattle.asn1_headers.specs.Class.{class_number}
+use Rattle.asn1_headers.specs.Header.{class_of, is_constructed_of, tag_of, length_of}
+use Rattle.asn1_headers.specs.Header.Reading.{HeaderGives, ber_refusal}
+use Rattle.asn1_headers.specs.declared.class.Class.{Class}
+use Rattle.asn1_headers.specs.declared.error.Err.{Err as Refusal}
+use Rattle.asn1_headers.specs.declared.error.Error.{Error}
+use Rattle.asn1_headers.specs.declared.header.Header.{Header}
+use Rattle.asn1_headers.specs.declared.length.Length.{Length}
+use Rattle.asn1_headers.specs.declared.length.Length.TheVariants.{Definite, Indefinite}
+use Rattle.asn1_headers.specs.declared.tag.Tag.{Tag}
+use Rattle.asn1_rs.specs.FieldReader.{BecomesError}
+use Rattle.asn1_rs.specs.declared.asn1_types.any.Any.{Any}
+use Rattle.asn1_rs_places.specs.declared.refused.Refused.{Refused}
+use Rattle.asn1_rs_places.specs.declared.refused.Step.{Step}
+use Rattle.asn1_rs_places.specs.declared.refused.Step.TheVariants.{Field, FieldsFrom, Item}
+use Rattle.x690.specs.Rules.{ber_rule}
+
+-- what a reader may answer to octets
+abbrev Reads : Type 0 → Type 1
+Reads T = List ℕ → Result (List ℕ × T) (Refusal Error) → Type 0
+
+-- it may answer a value, and leave this rest
+abbrev pub Takes : {T : Type 0} → Reads T → List ℕ → List ℕ → Type 0
+Takes {T} reads octets rest = (x : T) × reads octets (Ok (rest, x))
+
+-- or refuse them
+abbrev pub Refuses : {T : Type 0} → Reads T → List ℕ → Type 0
+Refuses reads octets = (r : Refusal Error) × reads octets (Err r)
+
+-- The class and the tag number of the header by BER that begins the octets, or none where none does.
+abbrev pub IsFound : List ℕ → Option (Class × Tag) → Type 0
+IsFound octets (Some x) = (header : Header) × (rest : List ℕ) ×
+    HeaderGives ber_rule ber_refusal octets (Ok (rest, header)) × (x.0 ≡ class_of header) × (x.1 ≡ tag_of header)
+IsFound octets None = (r : Refusal Error) × HeaderGives ber_rule ber_refusal octets (Err r)
+
+-- The place is the front of these octets, which end so many octets behind the begin of the input.
+abbrev pub IsFront : ℕ → List ℕ → Refused → Type 0
+IsFront end octets told = (told.octet ≡ end - length octets) × IsFound octets told.found
+
+-- This refusal of the octets is told, and of no part of the value.
+abbrev pub IsOfWhole : Refusal Error → ℕ → List ℕ → Refused → Type 0
+IsOfWhole r end octets told = (told.steps.items ≡ []) × IsFront end octets told × BecomesError r told.error
+
+-- What is told of a part, as of the value: the step to the part stands before the steps within it, of which the first
+-- fifteen are kept.
+abbrev pub IsUnder : Step → Refused → Refused → Type 0
+IsUnder step inner told = (told.steps.items ≡ step ∷ take 15 inner.steps.items) × (told.octet ≡ inner.octet) ×
+    (told.found ≡ inner.found) × (told.error ≡ inner.error)
+
+-- A value is refused so. What is told is what looking into it tells; or where that tells nothing, this refusal.
+abbrev pub IsToldWith : Refusal Error → (List ℕ → Type 0) → (ℕ → List ℕ → Refused → Type 0) → ℕ → List ℕ → Refused →
+    Type 0
+IsToldWith r silent tells end octets told = tells end octets told ⊎ (silent octets × IsOfWhole r end octets told)
+
+-- A reader refuses the value, and that is told.
+abbrev pub IsToldOf : {T : Type 0} → Reads T → (List ℕ → Type 0) → (ℕ → List ℕ → Refused → Type 0) → ℕ → List ℕ →
+    Refused → Type 0
+IsToldOf reads silent tells end octets told =
+    (r : Refusal Error) × reads octets (Err r) × IsToldWith r silent tells end octets told
+
+-- What is told of a part is told under the step to it.
+abbrev pub IsToldUnder : {T : Type 0} → Step → Reads T → (List ℕ → Type 0) → (ℕ → List ℕ → Refused → Type 0) → ℕ →
+    List ℕ → Refused → Type 0
+IsToldUnder step reads silent tells end octets told =
+    (inner : Refused) × IsToldOf reads silent tells end octets inner × IsUnder step inner told
+
+-- Rows of fields.
+
+-- the place of the field behind this one; the last number is that of all that would follow
+abbrev pub next_place : ℕ → ℕ
+next_place place = min (place + 1) (2 ^ 64 - 1)
+
+-- a row is taken
+abbrev pub TakesRow : {S : Type 0} → (List ℕ → Result S Error → Type 0) → List ℕ → Type 0
+TakesRow {S} gives octets = (x : S) × gives octets (Ok x)
+
+-- A row is refused, and that is told by this step, and of no part of it.
+abbrev pub IsRow : {S : Type 0} → (List ℕ → Result S Error → Type 0) → Step → ℕ → List ℕ → Refused → Type 0
+IsRow gives step end octets told =
+    (told.steps.items ≡ step ∷ []) × IsFront end octets told × gives octets (Err told.error)
+
+-- Octets are left behind the last field, and that is told as the place behind it.
+abbrev pub IsBehindLast : (List ℕ → Result (Unit {0}) Error → Type 0) → ℕ → ℕ → List ℕ → Refused → Type 0
+IsBehindLast gives place = IsRow gives (Field place)
+
+-- The fields from this place on are refused, and it is not told which of them.
+abbrev pub IsInRest : {S : Type 0} → (List ℕ → Result S Error → Type 0) → ℕ → ℕ → List ℕ → Refused → Type 0
+IsInRest gives place = IsRow gives (FieldsFrom place)
+
+-- The refusal is that of the first field, or one behind it, where the first field is taken.
+abbrev pub IsInRow : {S : Type 0} → Reads S → (List ℕ → Type 0) → (ℕ → List ℕ → Refused → Type 0) →
+    (ℕ → ℕ → List ℕ → Refused → Type 0) → ℕ → ℕ → List ℕ → Refused → Type 0
+IsInRow reads silent tells others place end octets told =
+    IsToldUnder (Field place) reads silent tells end octets told ⊎
+    ((rest : List ℕ) × (next : ℕ) × Takes reads octets rest × (next ≡ next_place place) × others next end rest told)
+
+-- Contents octets of elements.
+
+-- How many octets close an element: the two of end-of-contents, where its length is indefinite (X.690 8.1.5).
+abbrev pub closing : Length → ℕ
+closing (Definite n) = 0
+closing Indefinite = 2
+
+-- The contents octets of an element, before this rest, end so many octets behind the begin of the input.
+abbrev pub IsEnd : ℕ → List ℕ → Any → ℕ → Type 0
+IsEnd end rest any its_end = its_end ≡ end - length rest - closing (length_of any.header)
+
+-- a header of this class, where one is given
+abbrev pub IsOfClass : Option ℕ → Header → Type 0
+IsOfClass None header = Unit {0}
+IsOfClass (Some class) header = class_number (class_of header) ≡ class
+
+-- the contents octets of an element with this header hold the parts of a value
+abbrev pub Opens : ℕ → Option ℕ → Header → Type 0
+Opens number class header =
+    ((tag_of header).0 ≡ number) × (is_constructed_of header ≡ true) × IsOfClass class header
+
+-- this element, which opens, begins the octets, and the rest follows
+abbrev pub IsOpened : Reads Any → ℕ → Option ℕ → List ℕ → Any → List ℕ → Type 0
+IsOpened elements number class octets any rest = elements octets (Ok (rest, any)) × Opens number class any.header
+
+-- no element begins the octets, or one that does not open
+abbrev pub IsClosed : Reads Any → ℕ → Option ℕ → List ℕ → Type 0
+IsClosed elements number class octets = Refuses elements octets ⊎
+    ((any : Any) × (rest : List ℕ) × elements octets (Ok (rest, any)) × (Opens number class any.header → ⊥))
+
+-- what is told is told of the contents octets of the element
+abbrev pub IsInContents : Reads Any → ℕ → Option ℕ → (ℕ → List ℕ → Refused → Type 0) → ℕ → List ℕ → Refused → Type 0
+IsInContents elements number class tells end octets told =
+    (any : Any) × (rest : List ℕ) × (its_end : ℕ) × IsOpened elements number class octets any rest ×
+    IsEnd end rest any its_end × tells its_end any.content.now told
+
+-- nothing is told of them: there is no such element, or its contents octets are taken
+abbrev pub AreTaken : Reads Any → ℕ → Option ℕ → (List ℕ → Type 0) → List ℕ → Type 0
+AreTaken elements number class takes octets = IsClosed elements number class octets ⊎
+    ((any : Any) × (rest : List ℕ) × IsOpened elements number class octets any rest × takes any.content.now)
+
+-- a value is taken, whatever follows it
+abbrev pub TakesOne : {T : Type 0} → Reads T → List ℕ → Type 0
+TakesOne reads octets = (rest : List ℕ) × Takes reads octets rest
+
+-- Items of lists.
+
+-- So many items are taken, one after another, and leave this rest.
+abbrev pub TakesItems : {T : Type 0} → Reads T → ℕ → List ℕ → List ℕ → Type 0
+TakesItems reads zero octets rest = rest ≡ octets
+TakesItems reads (suc n) octets rest = (left : List ℕ) × TakesItems reads n octets left × Takes reads left rest
+
+-- The octets are items, or begin with as many as there are octets.
+abbrev pub TakesAll : {T : Type 0} → Reads T → List ℕ → Type 0
+TakesAll reads octets = (n : ℕ) × (rest : List ℕ) × TakesItems reads n octets rest ×
+    ((rest ≡ []) ⊎ (n ≡ length octets))
+
+-- The refusal is that of the item behind so many that are taken.
+abbrev pub IsInItems : {T : Type 0} → Reads T → (List ℕ → Type 0) → (ℕ → List ℕ → Refused → Type 0) → ℕ → List ℕ →
+    Refused → Type 0
+IsInItems reads silent tells end octets told = (n : ℕ) × (left : List ℕ) × TakesItems reads n octets left ×
+    IsToldUnder (Item n) reads silent tells end left told
+
+-- Where nothing is looked into, nothing is told.
+abbrev pub TellsNothing : ℕ → List ℕ → Refused → Type 0
+TellsNothing end octets told = ⊥
+
+abbrev pub IsNotLookedInto : List ℕ → Type 0
+IsNotLookedInto octets = Unit {0}

@@ -1,0 +1,107 @@
+//! How a refusal is told of a part of a value: one way for each make of types.
+ghost use Rattle.std.specs.Prelude.{◌≡◌, ℕ, List, Result, MatchOption};
+ghost use Rattle.asn1_headers.specs.Answers.{seen};
+ghost use Rattle.asn1_headers.specs.declared.error.Err.{Err as Refusal};
+ghost use Rattle.asn1_headers.specs.declared.error.Error.{Error};
+ghost use Rattle.asn1_rs_places.specs.declared.refused.Refused.{Refused};
+ghost use Rattle.asn1_rs_places.specs.Places.{IsNotLookedInto, IsToldWith, TellsNothing};
+
+use crate::refused::Refused;
+use asn1_rs::{BerParser, Defaulted, DerParser, Err, Error, FromBer, FromDer, ParseResult};
+use std::alloc::Global;
+use std::marker::PhantomData;
+
+/// A value that is read by the parser `P`.
+pub trait ReadsValue<'a, P>: Sized {
+    /// What reading may answer to these octets.
+    ghost value_gives: { List ℕ → Result (List ℕ × Self) (Refusal Error) → Type 0 };
+
+    /// The value at the front of the octets, and what follows it.
+    fn read_value(alloc: Global, octets: &'a [u8]) -> ParseResult<'a, Self, Error>
+        ensures { value_gives octets.now (seen result) };
+}
+
+impl<'a, T: FromDer<'a, Error>> ReadsValue<'a, DerParser> for T {
+    ghost value_gives = { T.der_gives };
+
+    fn read_value(alloc: Global, octets: &'a [u8]) -> ParseResult<'a, T, Error> {
+        T::from_der(alloc, octets)
+    }
+}
+
+impl<'a, T: FromBer<'a, Error>> ReadsValue<'a, BerParser> for T {
+    ghost value_gives = { T.ber_gives };
+
+    fn read_value(alloc: Global, octets: &'a [u8]) -> ParseResult<'a, T, Error> {
+        T::from_ber(alloc, octets)
+    }
+}
+
+/// A way to look into a `T` that is read by the parser `P`, where it is refused: it tells which part is.
+pub trait LooksInto<'a, P, T> {
+    /// Nothing is told of these octets.
+    ghost silent: { List ℕ → Type 0 };
+
+    /// This may be told of these octets, which end so many octets behind the begin of the input.
+    ghost tells: { ℕ → List ℕ → Refused → Type 0 };
+
+    /// Where a part of the value at the front of the octets is refused. The octets end `end` octets behind the begin of
+    /// the input.
+    fn look(alloc: Global, octets: &'a [u8], end: usize) -> Option<Refused>
+        ensures { MatchOption result (silent octets.now) (tells end octets.now) };
+}
+
+/// What is told of octets that are refused so: what `L` tells of a part, or else the refusal of the whole.
+pub(crate) fn told<'a, P, T, L>(
+    alloc: Global,
+    octets: &'a [u8],
+    end: usize,
+    refusal: Err<Error>,
+) -> Refused
+where
+    L: LooksInto<'a, P, T>,
+    ensures { IsToldWith refusal L.silent L.tells end octets.now result }
+{
+    match L::look(alloc, octets, end) {
+        Some(refused) => refused,
+        None => Refused::at_front(octets, end, Error::from(refusal)),
+    }
+}
+
+/// Looks into no part: the refusal of the whole value is told.
+#[derive(Debug)]
+pub struct Whole;
+
+impl<'a, P, T> LooksInto<'a, P, T> for Whole {
+    ghost silent = { IsNotLookedInto };
+
+    ghost tells = { TellsNothing };
+
+    fn look(_alloc: Global, _octets: &'a [u8], _end: usize) -> Option<Refused> {
+        None
+    }
+}
+
+/// Looks into the value of an `Option`, or of a `Defaulted`, by `L`.
+#[derive_where(Debug)]
+pub struct Held<L>(PhantomData<L>);
+
+impl<'a, P, T, L: LooksInto<'a, P, T>> LooksInto<'a, P, Option<T>> for Held<L> {
+    ghost silent = { L.silent };
+
+    ghost tells = { L.tells };
+
+    fn look(alloc: Global, octets: &'a [u8], end: usize) -> Option<Refused> {
+        L::look(alloc, octets, end)
+    }
+}
+
+impl<'a, P, T, D, L: LooksInto<'a, P, T>> LooksInto<'a, P, Defaulted<T, D>> for Held<L> {
+    ghost silent = { L.silent };
+
+    ghost tells = { L.tells };
+
+    fn look(alloc: Global, octets: &'a [u8], end: usize) -> Option<Refused> {
+        L::look(alloc, octets, end)
+    }
+}

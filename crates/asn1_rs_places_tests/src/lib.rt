@@ -1,0 +1,7 @@
+//! Tests of `asn1_rs_places`.
+#![tactic(auto)]
+
+#[cfg(test)]
+mod reminders;
+#[cfg(test)]
+mod requests;
