@@ -1,15 +1,14 @@
 -- Certificates.
-use Rattle.std.specs.Prelude.{◌≡◌, ◌≢◌, ◌⊎◌, ◌+◌, ◌++◌, ◌<◌, ◌≤◌, ℕ, List, [], ◌∷◌, All, codes}
-use Rattle.std.specs.Prelude.{Some, None, IsSome, option_map}
+use Rattle.std.specs.Prelude.{◌≡◌, ◌⊎◌, ◌+◌, ◌<◌, ◌≤◌, ℕ, codes}
+use Rattle.std.specs.Prelude.{IsSome, option_map}
 use Rattle.asn1_headers.specs.declared.error.Error.{Error}
 use Rattle.asn1_headers.specs.Error.{IsInvalidValue}
 use Rattle.asn1_rs.specs.Any.Value.{element_of}
-use Rattle.asn1_rs.specs.Oid.{OidValue, oid_value}
+use Rattle.asn1_rs.specs.Oid.{oid_value}
 use Rattle.asn1_rs_certificates.specs.declared.added.Added.{Added}
 use Rattle.asn1_rs_certificates.specs.declared.certificate.Certificate.{Certificate}
 use Rattle.asn1_rs_certificates.specs.declared.holder.Holder.{Holder}
 use Rattle.asn1_rs_certificates.specs.declared.signed.TbsCertificate.{TbsCertificate}
-use Rattle.asn1_rs_messages.specs.declared.extension.Extension.{Extension}
 use Rattle.asn1_rs_messages.specs.declared.public_key.AlgorithmIdentifier.{AlgorithmIdentifier}
 use Rattle.asn1_rs_messages.specs.declared.time.Time.{Time}
 use Rattle.asn1_rs_messages.specs.declared.time.Time.TheVariants.{Utc, General}
@@ -42,15 +41,6 @@ IsYearOf (Utc t) year =
 -- the version, from 0 on
 abbrev pub version_of : TbsCertificate → ℕ
 version_of x = x.version.value.inner
-
--- the extensions, of which there may be none
-abbrev pub extensions_of : TbsCertificate → List Extension
-extensions_of x = elim x.extensions [ Some e ↦ e.inner.items | None ↦ [] ]
-
--- The extension has the identifier, and none before it has.
-abbrev pub IsFirstExtension : OidValue → List Extension → Extension → Type 0
-IsFirstExtension id extensions x = (before after : List Extension) × (extensions ≡ before ++ x ∷ after) ×
-    (oid_value x.id ≡ id) × All (λ y. oid_value y.id ≢ id) before
 
 -- the second or the third version
 abbrev pub HasIdentifiers : TbsCertificate → Type 0

@@ -4,7 +4,6 @@
 
 mod added;
 mod certificate;
-mod extensions;
 mod holder;
 mod names;
 mod profile;

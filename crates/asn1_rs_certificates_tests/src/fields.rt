@@ -1,7 +1,6 @@
 //! The fields of the certificates that openssl made, as `openssl x509 -text` and `-nameopt oid` tell them.
 
 use crate::made::{CURVE, EDWARDS, LEAF, PRIMES};
-use asn1_rs::{Error, Oid};
 use asn1_rs_certificates::{Name, TbsCertificate, read_certificate_whole, year_of};
 use std::alloc::Global;
 use std::fmt::Write;
@@ -112,25 +111,4 @@ fn fields_of_the_first_version_are_read(rt: HostRuntime) -> Result<(), Fail> {
 2.5.4.3=Root of the tests;
 ";
     assert_fields(rt.alloc(), PRIMES, primes)
-}
-
-#[test]
-fn extensions_are_found(rt: HostRuntime) -> Result<(), Fail> {
-    let alloc = rt.alloc();
-    let octets = octets_of(alloc, CURVE)?;
-    let certificate = read_certificate_whole(alloc, octets.as_slice())?;
-    let mut text = String::new(alloc);
-    for last in [15, 17, 18] {
-        let id = Oid::from(alloc, &[2, 5, 29, last])?;
-        let Some(extension) = certificate.tbs_certificate.extension(&id) else {
-            writeln!(text, "{last} is not there")?;
-            continue;
-        };
-        writeln!(text, "{last} {}", extension.value.as_bytes().len())?;
-    }
-    assert_text(
-        "extensions",
-        text.as_str(),
-        "15 4\n17 37\n18 is not there\n",
-    )
 }
