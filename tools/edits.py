@@ -84,7 +84,7 @@ class Edit:
 
     def __init__(self, name, text):
         self.name, self.claims, self.changes, self.functions = name, [], [], set()
-        file = within = old = None
+        file = within = old = self.unread = None
         for line in text.split("\n"):
             if line.startswith("claim:"):
                 self.claims = [claim.strip() for claim in line[len("claim:"):].split(",")]
@@ -97,6 +97,8 @@ class Edit:
             elif line.startswith("new:"):
                 self.changes.append(Change(file, old, line[len("new:"):].removeprefix(" "), within))
                 within = old = None
+            elif line.strip() and not line.startswith("for: "):
+                self.unread = line
         self.file = self.changes[0].file if self.changes else None
 
     def applied(self, text):
@@ -107,6 +109,8 @@ class Edit:
 
     def fault(self, folder):
         """Returns why it does not apply to the crate of this folder, or None where it does."""
+        if self.unread:
+            return f"it has a line that nothing reads: {self.unread}"
         if not self.changes or any(change.file is None or change.old is None for change in self.changes):
             return "it has no pair of lines 'old: ..' and 'new: ..' under a line 'file: ..', or half of one"
         texts = {}
