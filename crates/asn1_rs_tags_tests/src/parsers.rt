@@ -38,11 +38,6 @@ a181030201 = Err(Error(DerConstraintFailed(LengthNotShortest)))
 a2810000 = Err(Error(DerConstraintFailed(LengthNotShortest)))
 bf01 = Err(Error(DerConstraintFailed(TagNotShortest)))
 
-u8 behind from(0) by DER:
-a005020105ffff = Ok(([], Some(5)))
-a003020105ff = Ok(([255], Some(5)))
-a0020205 = Err(Incomplete(Size(5)))
-
 application(1) by DER:
 6103020102 = Ok(([], Some((2, true))))
 a103020102 = Err(Error(UnexpectedClass { expected: Some(Application), actual: ContextSpecific }))
@@ -168,24 +163,14 @@ fn octet_first<'a>(content: &'a [u8], header: Header<'a>) -> ParseResult<'a, (u8
     first_octet(header, content)
 }
 
-/// The integer at the front of contents octets, by DER. What follows it there is left.
-fn number_in<'a>(alloc: Global, content: &'a [u8]) -> ParseResult<'a, u8, Error> {
-    u8::from_der(alloc, content)
-}
-
 /// The calls of the first two tables.
 struct ByClosures;
 
 impl Calls for ByClosures {
-    fn answer(text: &mut String, alloc: Global, name: &str, octets: &[u8]) -> Result<(), Fail> {
+    fn answer(text: &mut String, _alloc: Global, name: &str, octets: &[u8]) -> Result<(), Fail> {
         if name == "from(1) by BER" {
             let parser = OptTaggedParser::from(1u32);
             return push_debug(text, &parser.parse_ber(octets, first_octet));
-        }
-        if name == "u8 behind from(0) by DER" {
-            let parser = OptTaggedParser::from(0u32);
-            let answer = parser.parse_der(octets, |_, content| number_in(alloc, content));
-            return push_debug(text, &answer);
         }
         let parser = match name {
             "from(1) by DER" => OptTaggedParser::from(Tag(1)),
