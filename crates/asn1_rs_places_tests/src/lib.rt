@@ -3,5 +3,3 @@
 
 #[cfg(test)]
 mod reminders;
-#[cfg(test)]
-mod requests;
