@@ -1,6 +1,6 @@
 #!/usr/bin/env python3
-"""Lists the functions that reading an element by BER calls, and ends with status 1 where docs/ARCHITECTURE.md has another
-list, or names one there before a function that it calls. A function that calls itself, directly or through others, has
+"""Lists the functions that reading an element by BER calls, and ends with status 1 where docs/ARCHITECTURE.md has
+another list, or names one there before a function that it calls. A function that calls itself, directly or through others, has
 no such place: so no octets make a reader recurse.
 
 It goes by names: a function calls each one whose name stands before a bracket in its body, in the sources below. Two

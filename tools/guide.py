@@ -2,8 +2,8 @@
 """Looks whether the code of the guides stands in the crates, which the gate proves and tests.
 
 Each block of Rust in README.md and docs/*.md must stand line for line in one file of src/ of asn1_rs_uses, of its
-tests, of the crates of messages, of the tests of asn1_rs_places or of asn1_rs, and each block of definitions in one file of their specs/. A block that
-does not has a line that names it, and then this ends with status 1.
+tests, of the crates of messages, of the tests of asn1_rs_places or of asn1_rs, and each block of definitions in one
+file of their specs/. A block that does not has a line that names it, and then this ends with status 1.
 """
 import pathlib
 import re
@@ -12,7 +12,14 @@ import sys
 TOP = pathlib.Path(__file__).resolve().parent.parent
 BLOCK = re.compile(r"^```(rust|antt)\n(.*?)^```$", re.M | re.S)
 PLACES = {"rust": "src/**/*.rt", "antt": "specs/**/*.antt"}
-CRATES = ["asn1_rs_uses", "asn1_rs_uses_tests", "asn1_rs_messages", "asn1_rs_kerberos", "asn1_rs_places_tests", "asn1_rs"]
+CRATES = [
+    "asn1_rs_uses",
+    "asn1_rs_uses_tests",
+    "asn1_rs_messages",
+    "asn1_rs_kerberos",
+    "asn1_rs_places_tests",
+    "asn1_rs",
+]
 
 
 def sources(places):

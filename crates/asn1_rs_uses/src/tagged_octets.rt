@@ -50,8 +50,8 @@ fn with_number<'a>(
 /// The contents octets of the element of this context-specific tag, if it is there, by DER.
 ///
 /// Refused as the element is, and for another class.
-// Of refusals there is no clause. The prover does not find what a named function says where it is handed on, so not that it
-// refuses nothing.
+// Of refusals there is no clause. The prover does not find what a named function says where it is handed on. So it does
+// not find that the function refuses nothing.
 pub fn optional_octets<'a>(
     number: u32,
     octets: &'a [u8],
@@ -96,8 +96,8 @@ pub fn octets_under<'a>(
 /// The contents octets of the element of this number, by DER, through a function of their own.
 ///
 /// Refused as the element is, and for another number.
-// Of refusals there is no clause. The prover does not find what a named function says where it is handed on, so not that it
-// refuses nothing.
+// Of refusals there is no clause. The prover does not find what a named function says where it is handed on. So it does
+// not find that the function refuses nothing.
 pub fn octets_handed_on<'a>(
     number: u32,
     octets: &'a [u8],
@@ -109,8 +109,8 @@ pub fn octets_handed_on<'a>(
 }
 
 /// The same, under the tag number of octet strings.
-// Of refusals there is no clause. The prover does not find what a named function says where it is handed on, so not that it
-// refuses nothing.
+// Of refusals there is no clause. The prover does not find what a named function says where it is handed on. So it does
+// not find that the function refuses nothing.
 pub fn octets_handed_under<'a>(
     number: u32,
     octets: &'a [u8],
