@@ -1,7 +1,7 @@
 #!/usr/bin/env python3
 """Lists the functions that reading an element by BER calls, and ends with status 1 where docs/ARCHITECTURE.md has
-another list, or names one there before a function that it calls. A function that calls itself, directly or through others, has
-no such place: so no octets make a reader recurse.
+another list, or names one there before a function that it calls. A function that calls itself, directly or through
+others, has no such place: so no octets make a reader recurse.
 
 It goes by names: a function calls each one whose name stands before a bracket in its body, in the sources below. Two
 functions of one name count as one, so a cycle that it tells may be none; one that is there is told. Closures stand in
