@@ -1,0 +1,34 @@
+-- Filters of LDAP that hold others.
+use Rattle.std.specs.Prelude.{ℕ}
+use Rattle.asn1_headers.specs.declared.error.Error.{Error}
+use Rattle.asn1_rs.specs.Choices.Data.{LawfulArmsOf, LawfulChoiceOf, arm_before, choice_type, end_of_arms}
+use Rattle.asn1_rs.specs.Set.{items_of}
+use Rattle.asn1_rs.specs.Structs.Data.{LawfulTypeOf}
+use Rattle.asn1_rs.specs.Structs.Types.{explicit_type, implicit_type, multiset_type}
+use Rattle.asn1_rs.specs.declared.asn1_types.set.set_of.SetOf.{SetOf}
+use Rattle.asn1_rs.specs.declared.asn1_types.tagged.Explicit.{Explicit}
+use Rattle.asn1_rs.specs.declared.asn1_types.tagged.Implicit.{Implicit}
+use Rattle.asn1_rs.specs.declared.asn1_types.tagged.TaggedValue.{TaggedValue}
+use Rattle.asn1_rs.specs.declared.choices.arms.Never.{Never}
+use Rattle.asn1_rs.specs.declared.choices.arms.Or.{Or}
+
+-- a set of filters, in place of whose tag a context-specific one stands
+abbrev pub Filters : Type 0 → ℕ → Type 0
+Filters F number = TaggedValue (SetOf F) Error Implicit 2 number
+
+abbrev pub filters_type : {F : Type 0} (number : ℕ) → LawfulChoiceOf F → LawfulTypeOf (Filters F number)
+filters_type number X = implicit_type 2 number (λ t. t.inner) (multiset_type items_of (choice_type X))
+
+-- a filter under a tag
+abbrev pub Negated : Type 0 → Type 0
+Negated F = TaggedValue F Error Explicit 2 2
+
+abbrev pub negated_type : {F : Type 0} → LawfulChoiceOf F → LawfulTypeOf (Negated F)
+negated_type X = explicit_type 2 2 (λ t. t.inner) (choice_type X)
+
+-- The arms of a filter that holds others. They are lawful, since a choice is.
+abbrev pub CombinedArms : Type 0 → Type 0
+CombinedArms F = Or (Filters F 0) (Or (Filters F 1) (Or (Negated F) Never 2) 2) 2
+
+abbrev pub combined_arms : {F : Type 0} → LawfulChoiceOf F → LawfulArmsOf (CombinedArms F)
+combined_arms X = arm_before 2 (filters_type 0 X) (arm_before 2 (filters_type 1 X) (arm_before 2 (negated_type X) end_of_arms))
