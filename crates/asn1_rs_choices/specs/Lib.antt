@@ -1,3 +1,4 @@
 -- What contracts cite.
-pub mod Parts
+pub mod Heap
 pub mod Laws
+pub mod Parts

@@ -5,9 +5,11 @@
 #![tactic(auto)]
 
 mod arms;
+mod boxed;
 mod checks;
 mod told;
 
 pub use arms::OrChoice;
+pub use boxed::Boxed;
 pub use checks::{ChecksArms, check_arms};
 pub use told::{TellsArms, ToldChoice};

@@ -11,6 +11,8 @@ use Rattle.asn1_rs.specs.declared.asn1_types.tagged.Implicit.{Implicit}
 use Rattle.asn1_rs.specs.declared.asn1_types.tagged.TaggedValue.{TaggedValue}
 use Rattle.asn1_rs.specs.declared.choices.arms.Never.{Never}
 use Rattle.asn1_rs.specs.declared.choices.arms.Or.{Or}
+use Rattle.asn1_rs_choices.specs.Heap.{boxed}
+use Rattle.asn1_rs_choices.specs.declared.boxed.Boxed.{Boxed}
 
 -- a set of filters, in place of whose tag a context-specific one stands
 abbrev pub Filters : Type 0 → ℕ → Type 0
@@ -19,12 +21,12 @@ Filters F number = TaggedValue (SetOf F) Error Implicit 2 number
 abbrev pub filters_type : {F : Type 0} (number : ℕ) → LawfulChoiceOf F → LawfulTypeOf (Filters F number)
 filters_type number X = implicit_type 2 number (λ t. t.inner) (multiset_type items_of (choice_type X))
 
--- a filter under a tag
+-- a filter on the heap, under a tag
 abbrev pub Negated : Type 0 → Type 0
-Negated F = TaggedValue F Error Explicit 2 2
+Negated F = TaggedValue (Boxed F) Error Explicit 2 2
 
 abbrev pub negated_type : {F : Type 0} → LawfulChoiceOf F → LawfulTypeOf (Negated F)
-negated_type X = explicit_type 2 2 (λ t. t.inner) (choice_type X)
+negated_type X = explicit_type 2 2 (λ t. t.inner) (choice_type (boxed X))
 
 -- The arms of a filter that holds others. They are lawful, since a choice is.
 abbrev pub CombinedArms : Type 0 → Type 0

@@ -10,14 +10,14 @@ use asn1_rs::{
     HasReader, LawfulChoice, Never, OfArms, Or, OrTagged, ReadsChoiceByBer, SetOf, Tag,
     TaggedExplicit, TaggedImplicit, ToldByNumber, UsesArm, choice_of_element,
 };
-use asn1_rs_choices::{TellsArms, ToldChoice, check_arms};
+use asn1_rs_choices::{Boxed, TellsArms, ToldChoice, check_arms};
 use std::alloc::Global;
 
 /// Filters in a set, in place of whose tag a context-specific one stands.
 pub type Filters<F, const TAG: u32> = TaggedImplicit<SetOf<F>, Error, TAG>;
 
-/// A filter under a tag.
-pub type Negated<F> = TaggedExplicit<F, Error, 2>;
+/// A filter on the heap, under a tag.
+pub type Negated<F> = TaggedExplicit<Boxed<F>, Error, 2>;
 
 /// A filter that holds others.
 ///

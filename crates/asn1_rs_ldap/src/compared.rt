@@ -1,6 +1,11 @@
 //! Filters that compare the value of an attribute, as a part of the choice of filters.
 ghost use Rattle.std.proofs.Common.{refl};
-ghost use Rattle.asn1_rs.specs.Choices.Data.{choice_of, choice_numbers, numbers_of_choice};
+ghost use Rattle.asn1_rs.specs.Choices.{has_a_class, has_a_tag};
+ghost use Rattle.asn1_rs.specs.Any.{parts_of};
+ghost use Rattle.asn1_headers.specs.Class.{class_number};
+ghost use Rattle.asn1_rs.specs.Structs.{is_one_of};
+ghost use Rattle.std.specs.Prelude.{◌≡◌};
+ghost use Rattle.asn1_rs.specs.Choices.Data.{ChecksOf, choice_of, choice_numbers, numbers_of_choice};
 ghost use Rattle.asn1_rs.specs.declared.choices.arms.Or.TheVariants as arm;
 ghost use Rattle.asn1_rs_ldap.specs.declared.compared.Compared.TheVariants as compared;
 
@@ -8,9 +13,9 @@ use crate::AttributeValueAssertion;
 use asn1_rs::{
     Any, ArmNumbers, Arms, ChecksChoice, ChoiceKind, ChoiceReader, Class, DynTagged, Error,
     HasKind, HasReader, LawfulChoice, Never, OfArms, Or, OrTagged, ReadsChoiceByBer, Tag,
-    TaggedImplicit, ToldByNumber, UsesArm, check_element, choice_of_element,
+    TaggedImplicit, ToldByNumber, UsesArm, choice_of_element,
 };
-use asn1_rs_choices::{TellsArms, ToldChoice};
+use asn1_rs_choices::{TellsArms, ToldChoice, check_arms};
 use std::alloc::Global;
 
 /// An assertion of a value, in place of whose tag a context-specific one stands.
@@ -109,17 +114,26 @@ impl<'a> ReadsChoiceByBer<'a> for Compared<'a> {
 }
 
 impl<'a> ChecksChoice for Compared<'a> {
-    fn check_choice(any: &Any<'_>) -> Result<(), Error> {
-        check_element::<ComparedArms<'a>>(any)
+    fn check_choice(any: &Any<'_>) -> Result<(), Error>
+        ensures { ChecksOf ⟦<Compared<'a> as LawfulChoice>⟧.laws.arms.grammar.Check
+            (parts_of any.now) result }
+    {
+        check_arms::<ComparedArms<'a>>(any)
     }
 }
 
 impl<'a> ToldChoice for Compared<'a> {
-    fn has_element(any: &Any<'_>) -> bool {
+    fn has_element(any: &Any<'_>) -> bool
+        ensures { result ≡ has_a_tag ⟦<Compared<'a> as LawfulChoice>⟧.laws.arms.grammar.tags
+            (parts_of any.now).id }
+    {
         <ComparedArms<'a> as TellsArms>::is_element_of_an_arm(any)
     }
 
-    fn has_class(class: Class) -> bool {
+    fn has_class(class: Class) -> bool
+        ensures { result ≡ has_a_class ⟦<Compared<'a> as LawfulChoice>⟧.laws.arms.grammar.tags
+            (class_number class) }
+    {
         <ComparedArms<'a> as TellsArms>::is_class_of_an_arm(class)
     }
 }
@@ -128,7 +142,9 @@ impl<'a> ToldChoice for Compared<'a> {
 impl<'a> ToldByNumber for Compared<'a> {
     ghost numbers = { numbers_of_choice ⟦<Compared<'a> as LawfulChoice>⟧.laws };
 
-    fn has_number(tag: Tag) -> bool {
+    fn has_number(tag: Tag) -> bool
+        ensures { result ≡ is_one_of tag.0 (numbers_of_choice ⟦<Compared<'a> as LawfulChoice>⟧.laws) }
+    {
         <ComparedArms<'a> as ArmNumbers>::is_of_an_arm(tag)
     }
 

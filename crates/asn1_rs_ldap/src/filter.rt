@@ -4,7 +4,10 @@
 //! [`SimpleFilter`] holds none, `FilterOf<'a, F>` holds those of the type `F`. An inner filter that would be deeper is
 //! refused as of no arm, with `UnexpectedTag`.
 ghost use Rattle.std.proofs.Common.{refl};
-ghost use Rattle.asn1_rs.specs.Choices.Data.{choice_of, choice_numbers, choice_type, numbers_of_choice};
+ghost use Rattle.asn1_rs.specs.Any.{parts_of};
+ghost use Rattle.asn1_rs.specs.Structs.{is_one_of};
+ghost use Rattle.std.specs.Prelude.{◌≡◌};
+ghost use Rattle.asn1_rs.specs.Choices.Data.{ChecksOf, choice_of, choice_numbers, choice_type, numbers_of_choice};
 ghost use Rattle.asn1_rs_choices.specs.declared.arms.OrChoice.TheVariants as part;
 ghost use Rattle.asn1_rs_ldap.specs.declared.filter.FilterOf.TheVariants as filters;
 ghost use Rattle.asn1_rs_ldap.specs.declared.filter.SimpleFilter.TheVariants as simple;
@@ -116,7 +119,10 @@ where
 }
 
 impl<'a, F: ChecksChoice> ChecksChoice for FilterOf<'a, F> {
-    fn check_choice(any: &Any<'_>) -> Result<(), Error> {
+    fn check_choice(any: &Any<'_>) -> Result<(), Error>
+        ensures { ChecksOf ⟦<FilterOf<'a, F> as LawfulChoice>⟧.laws.arms.grammar.Check
+            (parts_of any.now) result }
+    {
         check_arms::<FilterArms<'a, F>>(any)
     }
 }
@@ -130,14 +136,16 @@ impl<'a, F: LawfulChoice> LawfulType for FilterOf<'a, F> {
 impl<'a, F: LawfulChoice> ToldByNumber for FilterOf<'a, F> {
     ghost numbers = { numbers_of_choice ⟦<FilterOf<'a, F> as LawfulChoice>⟧.laws };
 
-    fn has_number(tag: Tag) -> bool {
+    fn has_number(tag: Tag) -> bool
+        ensures { result ≡ is_one_of tag.0 (numbers_of_choice ⟦<FilterOf<'a, F> as LawfulChoice>⟧.laws) }
+    {
         <FilterArms<'a, F> as ArmNumbers>::is_of_an_arm(tag)
     }
 
     ghost told_by_number = { choice_numbers ⟦<FilterOf<'a, F> as LawfulChoice>⟧.laws };
 }
 
-/// A filter that holds no simple.
+/// A filter that holds no filters.
 #[derive(Debug, PartialEq, Drop)]
 pub enum SimpleFilter<'a> {
     Compared(Compared<'a>),
@@ -208,7 +216,10 @@ impl<'a> ReadsChoiceByBer<'a> for SimpleFilter<'a> {
 }
 
 impl<'a> ChecksChoice for SimpleFilter<'a> {
-    fn check_choice(any: &Any<'_>) -> Result<(), Error> {
+    fn check_choice(any: &Any<'_>) -> Result<(), Error>
+        ensures { ChecksOf ⟦<SimpleFilter<'a> as LawfulChoice>⟧.laws.arms.grammar.Check
+            (parts_of any.now) result }
+    {
         check_arms::<SimpleArms<'a>>(any)
     }
 }
@@ -222,7 +233,9 @@ impl<'a> LawfulType for SimpleFilter<'a> {
 impl<'a> ToldByNumber for SimpleFilter<'a> {
     ghost numbers = { numbers_of_choice ⟦<SimpleFilter<'a> as LawfulChoice>⟧.laws };
 
-    fn has_number(tag: Tag) -> bool {
+    fn has_number(tag: Tag) -> bool
+        ensures { result ≡ is_one_of tag.0 (numbers_of_choice ⟦<SimpleFilter<'a> as LawfulChoice>⟧.laws) }
+    {
         <SimpleArms<'a> as ArmNumbers>::is_of_an_arm(tag)
     }
 

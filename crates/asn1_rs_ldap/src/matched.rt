@@ -1,6 +1,11 @@
 //! Filters of parts of values, of attributes that are there, and of rules, as a part of the choice of filters.
 ghost use Rattle.std.proofs.Common.{refl};
-ghost use Rattle.asn1_rs.specs.Choices.Data.{choice_of, choice_numbers, numbers_of_choice};
+ghost use Rattle.asn1_rs.specs.Choices.{has_a_class, has_a_tag};
+ghost use Rattle.asn1_rs.specs.Any.{parts_of};
+ghost use Rattle.asn1_headers.specs.Class.{class_number};
+ghost use Rattle.asn1_rs.specs.Structs.{is_one_of};
+ghost use Rattle.std.specs.Prelude.{◌≡◌};
+ghost use Rattle.asn1_rs.specs.Choices.Data.{ChecksOf, choice_of, choice_numbers, numbers_of_choice};
 ghost use Rattle.asn1_rs.specs.declared.choices.arms.Or.TheVariants as arm;
 ghost use Rattle.asn1_rs_ldap.specs.declared.matched.Matched.TheVariants as matched;
 
@@ -8,9 +13,9 @@ use crate::{MatchingRuleAssertion, Octets, SubstringFilter};
 use asn1_rs::{
     Any, ArmNumbers, Arms, ChecksChoice, ChoiceKind, ChoiceReader, Class, DynTagged, Error,
     HasKind, HasReader, LawfulChoice, Never, OfArms, Or, OrTagged, ReadsChoiceByBer, Tag,
-    TaggedImplicit, ToldByNumber, UsesArm, check_element, choice_of_element,
+    TaggedImplicit, ToldByNumber, UsesArm, choice_of_element,
 };
-use asn1_rs_choices::{TellsArms, ToldChoice};
+use asn1_rs_choices::{TellsArms, ToldChoice, check_arms};
 use std::alloc::Global;
 
 /// A filter of parts of a value, in place of whose tag another stands.
@@ -104,17 +109,26 @@ impl<'a> ReadsChoiceByBer<'a> for Matched<'a> {
 }
 
 impl<'a> ChecksChoice for Matched<'a> {
-    fn check_choice(any: &Any<'_>) -> Result<(), Error> {
-        check_element::<MatchedArms<'a>>(any)
+    fn check_choice(any: &Any<'_>) -> Result<(), Error>
+        ensures { ChecksOf ⟦<Matched<'a> as LawfulChoice>⟧.laws.arms.grammar.Check
+            (parts_of any.now) result }
+    {
+        check_arms::<MatchedArms<'a>>(any)
     }
 }
 
 impl<'a> ToldChoice for Matched<'a> {
-    fn has_element(any: &Any<'_>) -> bool {
+    fn has_element(any: &Any<'_>) -> bool
+        ensures { result ≡ has_a_tag ⟦<Matched<'a> as LawfulChoice>⟧.laws.arms.grammar.tags
+            (parts_of any.now).id }
+    {
         <MatchedArms<'a> as TellsArms>::is_element_of_an_arm(any)
     }
 
-    fn has_class(class: Class) -> bool {
+    fn has_class(class: Class) -> bool
+        ensures { result ≡ has_a_class ⟦<Matched<'a> as LawfulChoice>⟧.laws.arms.grammar.tags
+            (class_number class) }
+    {
         <MatchedArms<'a> as TellsArms>::is_class_of_an_arm(class)
     }
 }
@@ -123,7 +137,9 @@ impl<'a> ToldChoice for Matched<'a> {
 impl<'a> ToldByNumber for Matched<'a> {
     ghost numbers = { numbers_of_choice ⟦<Matched<'a> as LawfulChoice>⟧.laws };
 
-    fn has_number(tag: Tag) -> bool {
+    fn has_number(tag: Tag) -> bool
+        ensures { result ≡ is_one_of tag.0 (numbers_of_choice ⟦<Matched<'a> as LawfulChoice>⟧.laws) }
+    {
         <MatchedArms<'a> as ArmNumbers>::is_of_an_arm(tag)
     }
 

@@ -121,7 +121,7 @@ impl<F: ShowsFilter> ShowsFilter for Combined<F> {
             Combined::Or(filters) => push_all(text, '|', filters.as_inner().as_slice()),
             Combined::Not(filter) => {
                 text.push('!')?;
-                push_bracketed(text, filter.as_inner())
+                push_bracketed(text, filter.as_inner().get())
             }
         }
     }

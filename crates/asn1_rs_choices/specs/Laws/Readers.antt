@@ -1,6 +1,6 @@
 -- Readers of a choice and of other arms are exact together.
-use Rattle.std.proofs.Common.{◌≡◌, ◌≢◌, ◌∙◌, ap, sym, refl, ℕ, inl, inr, Bool, true, false, List, ◌++◌, Result, Ok, Err}
-use Rattle.std.specs.Prelude.{◌||◌, IfErr, None}
+use Rattle.std.proofs.Common.{◌≡◌, ◌∙◌, ap, sym, refl, ℕ, inl, inr, Bool, true, false, List, ◌++◌, Result, Ok, Err}
+use Rattle.std.specs.Prelude.{IfErr, None}
 use Rattle.x690.specs.Octets.{IsOctets}
 use Rattle.x690.specs.Identifiers.{Identifier, IsCutIdentifier}
 use Rattle.x690.specs.Elements.{Parts, IsDerElement}

@@ -1,6 +1,5 @@
 -- What a choice before other arms says, with its laws in the same record.
-use Rattle.std.specs.Prelude.{◌≡◌, ◌&&◌, true}
-use Rattle.asn1_rs.specs.Choices.{has_a_tag}
+use Rattle.std.specs.Prelude.{◌&&◌}
 use Rattle.asn1_rs.specs.Choices.Data.{LawfulArmsOf, LawfulChoiceOf, grammar_of_choice}
 use Rattle.asn1_rs.specs.Laws.Choices.{choice_lawful}
 use Rattle.asn1_rs.specs.Laws.Structs.Rows.{first_holds, second_holds}
