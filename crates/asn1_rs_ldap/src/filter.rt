@@ -114,7 +114,7 @@ where
     F: ReadsChoiceByBer<'a> + ChecksChoice + Drop,
 {
     fn choice_of_any(alloc: Global, any: Any<'a>) -> Result<FilterOf<'a, F>, Error> {
-        choice_of_element(alloc, any)
+        choice_of_element::<FilterOf<'a, F>, FilterArms<'a, F>>(alloc, any)
     }
 }
 
