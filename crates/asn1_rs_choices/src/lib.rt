@@ -7,9 +7,11 @@
 mod arms;
 mod boxed;
 mod checks;
+mod taken;
 mod told;
 
 pub use arms::OrChoice;
 pub use boxed::Boxed;
 pub use checks::{ChecksArms, check_arms};
+pub use taken::TakenFrom;
 pub use told::{TellsArms, ToldChoice};

@@ -11,6 +11,9 @@ use Rattle.asn1_rs.specs.declared.asn1_types.tagged.Implicit.{Implicit}
 use Rattle.asn1_rs.specs.declared.asn1_types.tagged.TaggedValue.{TaggedValue}
 use Rattle.asn1_rs.specs.declared.choices.arms.Never.{Never}
 use Rattle.asn1_rs.specs.declared.choices.arms.Or.{Or}
+use Rattle.asn1_rs.specs.declared.choices.arms.Or.TheVariants as arm
+use Rattle.asn1_rs_ldap.specs.declared.combined.Combined.{Combined}
+use Rattle.asn1_rs_ldap.specs.declared.combined.Combined.TheVariants as combined
 use Rattle.asn1_rs_choices.specs.Heap.{boxed}
 use Rattle.asn1_rs_choices.specs.declared.boxed.Boxed.{Boxed}
 
@@ -34,3 +37,9 @@ CombinedArms F = Or (Filters F 0) (Or (Filters F 1) (Or (Negated F) Never 2) 2) 
 
 abbrev pub combined_arms : {F : Type 0} → LawfulChoiceOf F → LawfulArmsOf (CombinedArms F)
 combined_arms X = arm_before 2 (filters_type 0 X) (arm_before 2 (filters_type 1 X) (arm_before 2 (negated_type X) end_of_arms))
+
+-- which arm a filter that holds others is
+abbrev pub in_combined_arms : {F : Type 0} → Combined F → CombinedArms F
+in_combined_arms (combined.And x) = arm.This x
+in_combined_arms (combined.Or x) = arm.Other (arm.This x)
+in_combined_arms (combined.Not x) = arm.Other (arm.Other (arm.This x))

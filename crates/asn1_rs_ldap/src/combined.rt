@@ -1,8 +1,7 @@
 //! Filters that hold others, as a part of the choice of filters.
 ghost use Rattle.std.proofs.Common.{refl};
 ghost use Rattle.asn1_rs.specs.Choices.Data.{choice_of, choice_numbers, numbers_of_choice};
-ghost use Rattle.asn1_rs_ldap.specs.Filters.{combined_arms};
-ghost use Rattle.asn1_rs.specs.declared.choices.arms.Or.TheVariants as arm;
+ghost use Rattle.asn1_rs_ldap.specs.Filters.{combined_arms, in_combined_arms};
 ghost use Rattle.asn1_rs_ldap.specs.declared.combined.Combined.TheVariants as combined;
 
 use asn1_rs::{
@@ -62,12 +61,7 @@ impl<F> DynTagged for Combined<F> {
 }
 
 impl<F: LawfulChoice> LawfulChoice for Combined<F> {
-    ghost laws = { choice_of (λ c. elim c [
-      | combined.And x ↦ arm.This x
-      | combined.Or x ↦ arm.Other (arm.This x)
-      | combined.Not x ↦ arm.Other (arm.Other (arm.This x))
-    ])
-        (combined_arms F.laws) refl };
+    ghost laws = { choice_of in_combined_arms (combined_arms F.laws) refl };
 
     fn with_arm<U: UsesArm>(&self, using: U) -> U::Answer {
         match self {
@@ -81,11 +75,7 @@ impl<F: LawfulChoice> LawfulChoice for Combined<F> {
 impl<F: LawfulChoice> OfArms for Combined<F> {
     type Arms = CombinedArms<F>;
 
-    ghost as_arms = { λ c. elim c [
-      | combined.And x ↦ arm.This x
-      | combined.Or x ↦ arm.Other (arm.This x)
-      | combined.Not x ↦ arm.Other (arm.Other (arm.This x))
-    ] };
+    ghost as_arms = { in_combined_arms };
 
     fn of_arms(arms: CombinedArms<F>) -> Combined<F> {
         match arms {

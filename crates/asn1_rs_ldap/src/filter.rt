@@ -20,7 +20,7 @@ use asn1_rs::{
     HasKind, HasReader, LawfulChoice, LawfulType, Never, OfArms, ReadsChoiceByBer, Tag,
     ToldByNumber, UsesArm, choice_of_element,
 };
-use asn1_rs_choices::{OrChoice, TellsArms, ToldChoice, check_arms};
+use asn1_rs_choices::{OrChoice, TakenFrom, TellsArms, ToldChoice, check_arms};
 use std::alloc::Global;
 
 /// A filter that holds filters of the type `F`.
@@ -114,7 +114,7 @@ where
     F: ReadsChoiceByBer<'a> + ChecksChoice + Drop,
 {
     fn choice_of_any(alloc: Global, any: Any<'a>) -> Result<FilterOf<'a, F>, Error> {
-        choice_of_element::<FilterOf<'a, F>, FilterArms<'a, F>>(alloc, any)
+        <FilterOf<'a, F> as TakenFrom<'a, FilterArms<'a, F>>>::taken(alloc, any)
     }
 }
 

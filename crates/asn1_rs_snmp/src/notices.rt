@@ -1,0 +1,152 @@
+//! What is answered or told (RFC 3416, 3).
+ghost use Rattle.std.proofs.Common.{refl};
+ghost use Rattle.asn1_rs.specs.Choices.Data.{choice_of, numbers_of_choice, choice_numbers};
+ghost use Rattle.asn1_rs.specs.declared.choices.arms.Or.TheVariants as arm;
+ghost use Rattle.asn1_rs_snmp.specs.declared.notices.NoticePdus.TheVariants as notices;
+
+use crate::pdu::Pdu;
+use asn1_rs::{
+    Any, ArmNumbers, Arms, ChecksChoice, ChoiceKind, ChoiceReader, Class, DynTagged, Error,
+    HasKind, HasReader, LawfulChoice, Never, OfArms, Or, OrTagged, ParseResult, ReadsChoice,
+    ReadsChoiceByBer, Tag, TaggedImplicit, ToldByNumber, UsesArm, check_element, choice_by_der,
+    choice_of_element,
+};
+use asn1_rs_choices::{TellsArms, ToldChoice};
+use std::alloc::Global;
+
+/// What is told.
+///
+///     response        [2] IMPLICIT PDU,
+///     inform-request  [6] IMPLICIT PDU,
+///     snmpV2-trap     [7] IMPLICIT PDU,
+///     report          [8] IMPLICIT PDU
+#[derive(Debug, PartialEq, Eq, Drop)]
+pub enum NoticePdus<'a> {
+    Response(Response<'a>),
+    Inform(InformRequest<'a>),
+    Trap(Trap<'a>),
+    Report(Report<'a>),
+}
+
+/// Answers a request.
+pub type Response<'a> = TaggedImplicit<Pdu<'a>, Error, 2>;
+
+/// Tells variables, and asks that this be confirmed.
+pub type InformRequest<'a> = TaggedImplicit<Pdu<'a>, Error, 6>;
+
+/// Tells variables.
+pub type Trap<'a> = TaggedImplicit<Pdu<'a>, Error, 7>;
+
+/// Reports of the protocol itself.
+pub type Report<'a> = TaggedImplicit<Pdu<'a>, Error, 8>;
+
+/// Its arms.
+pub type NoticePdusArms<'a> = OrTagged<
+    Response<'a>,
+    OrTagged<InformRequest<'a>, OrTagged<Trap<'a>, OrTagged<Report<'a>, Never>>>,
+>;
+
+impl HasKind for NoticePdus<'_> {
+    type Kind = ChoiceKind;
+}
+
+impl HasReader for NoticePdus<'_> {
+    type Reader = ChoiceReader;
+}
+
+impl<'a> DynTagged for NoticePdus<'a> {
+    ghost dyn_tag = { λ x. elim x [
+      | notices.Response x ↦ record { 0 = 2 }
+      | notices.Inform x ↦ record { 0 = 6 }
+      | notices.Trap x ↦ record { 0 = 7 }
+      | notices.Report x ↦ record { 0 = 8 }
+    ] };
+
+    fn tag(&self) -> Tag {
+        match self {
+            NoticePdus::Response(response) => response.tag(),
+            NoticePdus::Inform(inform) => inform.tag(),
+            NoticePdus::Trap(trap) => trap.tag(),
+            NoticePdus::Report(report) => report.tag(),
+        }
+    }
+}
+
+impl<'a> LawfulChoice for NoticePdus<'a> {
+    ghost laws = { choice_of (λ x. elim x [
+      | notices.Response x ↦ arm.This x
+      | notices.Inform x ↦ arm.Other (arm.This x)
+      | notices.Trap x ↦ arm.Other (arm.Other (arm.This x))
+      | notices.Report x ↦ arm.Other (arm.Other (arm.Other (arm.This x)))
+    ])
+        ⟦<NoticePdusArms<'a> as Arms>⟧.arm_laws refl };
+
+    fn with_arm<U: UsesArm>(&self, using: U) -> U::Answer {
+        match self {
+            NoticePdus::Response(response) => using.use_arm(response),
+            NoticePdus::Inform(inform) => using.use_arm(inform),
+            NoticePdus::Trap(trap) => using.use_arm(trap),
+            NoticePdus::Report(report) => using.use_arm(report),
+        }
+    }
+}
+
+impl<'a> OfArms for NoticePdus<'a> {
+    type Arms = NoticePdusArms<'a>;
+
+    ghost as_arms = { λ x. elim x [
+      | notices.Response x ↦ arm.This x
+      | notices.Inform x ↦ arm.Other (arm.This x)
+      | notices.Trap x ↦ arm.Other (arm.Other (arm.This x))
+      | notices.Report x ↦ arm.Other (arm.Other (arm.Other (arm.This x)))
+    ] };
+
+    fn of_arms(arms: NoticePdusArms<'a>) -> NoticePdus<'a> {
+        match arms {
+            Or::This(response) => NoticePdus::Response(response),
+            Or::Other(Or::This(inform)) => NoticePdus::Inform(inform),
+            Or::Other(Or::Other(Or::This(trap))) => NoticePdus::Trap(trap),
+            Or::Other(Or::Other(Or::Other(Or::This(report)))) => NoticePdus::Report(report),
+            Or::Other(Or::Other(Or::Other(Or::Other(none)))) => match none {},
+        }
+    }
+}
+
+impl<'a> ReadsChoice<'a> for NoticePdus<'a> {
+    fn read_choice(alloc: Global, octets: &'a [u8]) -> ParseResult<'a, NoticePdus<'a>, Error> {
+        choice_by_der(alloc, octets)
+    }
+}
+
+impl<'a> ReadsChoiceByBer<'a> for NoticePdus<'a> {
+    fn choice_of_any(alloc: Global, any: Any<'a>) -> Result<NoticePdus<'a>, Error> {
+        choice_of_element(alloc, any)
+    }
+}
+
+impl<'a> ChecksChoice for NoticePdus<'a> {
+    fn check_choice(any: &Any<'_>) -> Result<(), Error> {
+        check_element::<NoticePdusArms<'a>>(any)
+    }
+}
+
+/// It may be an arm of another choice.
+impl<'a> ToldChoice for NoticePdus<'a> {
+    fn has_element(any: &Any<'_>) -> bool {
+        <NoticePdusArms<'a> as TellsArms>::is_element_of_an_arm(any)
+    }
+
+    fn has_class(class: Class) -> bool {
+        <NoticePdusArms<'a> as TellsArms>::is_class_of_an_arm(class)
+    }
+}
+
+impl<'a> ToldByNumber for NoticePdus<'a> {
+    ghost numbers = { numbers_of_choice ⟦<NoticePdus<'a> as LawfulChoice>⟧.laws };
+
+    fn has_number(tag: Tag) -> bool {
+        <NoticePdusArms<'a> as ArmNumbers>::is_of_an_arm(tag)
+    }
+
+    ghost told_by_number = { choice_numbers ⟦<NoticePdus<'a> as LawfulChoice>⟧.laws };
+}
