@@ -20,6 +20,9 @@ const EXPLICIT_WIDE: [u8; 12] = [0xa0, 0x0a, 0x1c, 0x08, 0, 0, 0, 0x61, 0, 0, 0,
 
 const IMPLICIT_WIDE: [u8; 10] = [0x81, 0x08, 0, 0, 0, 0x61, 0, 0, 0, 0x62];
 
+/// A string of one character of two units under [0] (X.690 8.23.7).
+const EXPLICIT_BMP: [u8; 8] = [0xa0, 0x06, 0x1e, 0x04, 0xd8, 0x3d, 0xde, 0x00];
+
 /// A list of 1 and 2 under them (X.690 8.10).
 const EXPLICIT_LIST: [u8; 10] = [0xa0, 0x08, 0x30, 0x06, 0x02, 0x01, 0x01, 0x02, 0x01, 0x02];
 
@@ -61,6 +64,12 @@ fn sets_under_implicit_tags_are_refused_for_want_of_memory(rt: HostRuntime) -> R
 fn texts_with_their_headers_are_refused_for_want_of_memory(rt: HostRuntime) -> Result<(), Fail> {
     let (alloc, text, wide) = (rt.alloc(), &EXPLICIT_TEXT, &EXPLICIT_WIDE);
     assert_read::<TaggedParser<'_, Explicit, String, Error>>(alloc, text, text, Plain)?;
+    assert_read::<TaggedParser<'_, Explicit, BmpString<'_>, Error>>(
+        alloc,
+        &EXPLICIT_BMP,
+        &EXPLICIT_BMP,
+        Plain,
+    )?;
     assert_read::<TaggedParser<'_, Explicit, UniversalString<'_>, Error>>(
         alloc, wide, wide, Plain,
     )?;
