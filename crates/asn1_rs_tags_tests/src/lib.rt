@@ -8,6 +8,8 @@ mod implicit;
 #[cfg(test)]
 mod options;
 #[cfg(test)]
+mod own_beginnings;
+#[cfg(test)]
 mod own_errors;
 #[cfg(test)]
 mod parsers;

@@ -1,6 +1,7 @@
 //! Tags, lists and options at an error type of a caller's own, from which nothing is derived: values are read under
 //! tags, in lists and where they may be left out, and tags are shown, compared and dropped.
 
+use crate::own_beginnings::assert_all_beginnings;
 use asn1_rs::{
     Any, CheckDerConstraints, Class, DerAutoDerive, Err, Error, Explicit, FromAny, FromBer,
     FromDer, Header, Implicit, OptTaggedParser, ParseResult, SequenceOf, SetOf, Tag, Tagged,
@@ -267,6 +268,11 @@ fn volumes_are_read_under_tags(rt: HostRuntime) -> Result<(), Fail> {
     assert_rows::<AtTrouble>(rt.alloc(), READ)
 }
 
+#[test]
+fn beginnings_under_tags_are_refused(rt: HostRuntime) -> Result<(), Fail> {
+    assert_all_beginnings::<AtTrouble>(rt.alloc(), READ)
+}
+
 /// Volumes in lists and sets, and volumes that may be left out. Values by X.690 8.10, 8.12, 8.9.3.
 const HELD: &str = "\
 Vec by DER:
@@ -345,6 +351,11 @@ impl Calls for Held {
 #[test]
 fn volumes_are_read_in_lists_and_options(rt: HostRuntime) -> Result<(), Fail> {
     assert_rows::<Held>(rt.alloc(), HELD)
+}
+
+#[test]
+fn beginnings_in_lists_and_options_are_refused(rt: HostRuntime) -> Result<(), Fail> {
+    assert_all_beginnings::<Held>(rt.alloc(), HELD)
 }
 
 /// Asserts that both are equal, and their derived texts.

@@ -38,6 +38,11 @@ a181030201 = Err(Error(DerConstraintFailed(LengthNotShortest)))
 a2810000 = Err(Error(DerConstraintFailed(LengthNotShortest)))
 bf01 = Err(Error(DerConstraintFailed(TagNotShortest)))
 
+u8 behind from(0) by DER:
+a005020105ffff = Ok(([], Some(5)))
+a003020105ff = Ok(([255], Some(5)))
+a0020205 = Err(Incomplete(Size(5)))
+
 application(1) by DER:
 6103020102 = Ok(([], Some((2, true))))
 a103020102 = Err(Error(UnexpectedClass { expected: Some(Application), actual: ContextSpecific }))
@@ -163,14 +168,27 @@ fn octet_first<'a>(content: &'a [u8], header: Header<'a>) -> ParseResult<'a, (u8
     first_octet(header, content)
 }
 
+/// What `OptTaggedParser` reads by DER, with the number 0 and `u8::from_der`.
+fn optional_number(alloc: Global, octets: &[u8]) -> ParseResult<'_, Option<u8>, Error> {
+    OptTaggedParser::from(0u32).parse_der(
+        octets,
+        |_header, content|
+            ensures { Unit {0} }
+        { u8::from_der(alloc, content) },
+    )
+}
+
 /// The calls of the first two tables.
 struct ByClosures;
 
 impl Calls for ByClosures {
-    fn answer(text: &mut String, _alloc: Global, name: &str, octets: &[u8]) -> Result<(), Fail> {
+    fn answer(text: &mut String, alloc: Global, name: &str, octets: &[u8]) -> Result<(), Fail> {
         if name == "from(1) by BER" {
             let parser = OptTaggedParser::from(1u32);
             return push_debug(text, &parser.parse_ber(octets, first_octet));
+        }
+        if name == "u8 behind from(0) by DER" {
+            return push_debug(text, &optional_number(alloc, octets));
         }
         let parser = match name {
             "from(1) by DER" => OptTaggedParser::from(Tag(1)),

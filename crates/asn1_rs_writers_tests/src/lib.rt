@@ -6,3 +6,5 @@
 mod cut;
 #[cfg(test)]
 mod growths;
+#[cfg(test)]
+mod tables;

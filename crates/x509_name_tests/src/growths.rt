@@ -1,10 +1,14 @@
 //! A name that is read and written, where a growth is refused, as `tools/refused_growths` has it.
 
-use asn1_rs::{Error, FromDer, TaggedExplicit, ToDer, read_der, strict_vec};
+use asn1_rs::{
+    Error, FromDer, SerializeResult, TaggedExplicit, ToDer, read_der, strict_vec, write_strict,
+};
 use std::alloc::Global;
 use std::test::Fail;
-use test_values::{IntoWriters, assert_twice, assert_writings, is_octets, is_read, twice};
-use x509_name::{Name, RelativeDistinguishedName, name_vec, read_name};
+use test_values::{
+    IntoWriters, Room, assert_twice, assert_writings, is_octets, is_read, refused, twice,
+};
+use x509_name::{Name, RelativeDistinguishedName, name_vec, read_name, write_name};
 
 /// The name that openssl gives a request by default: C = FR, ST = Some-State, O = Internet Widgits Pty Ltd.
 pub(crate) const WIDGITS: [u8; 71] = [
@@ -46,7 +50,27 @@ fn relative_names_are_refused_for_want_of_memory(rt: HostRuntime) -> Result<(), 
     assert_calls::<RelativeDistinguishedName<'_>>(rt.alloc(), &TWO)
 }
 
-/// The calls that are the theorem of names.
+/// Whether a writing put the octets of the name into a writer with room; None when out of memory.
+fn is_put(answer: SerializeResult<usize>, w: &Room) -> Option<bool> {
+    match answer {
+        Ok(count) => Some(count == 71 && w.held() == WIDGITS.as_slice() && !w.is_failed()),
+        Err(refusal) => refused(&refusal),
+    }
+}
+
+/// What is seen of the call that writes a name.
+fn is_name_written(alloc: Global, name: &Name<'_>) -> Option<bool> {
+    let mut w = Room::new(71, None);
+    is_put(write_name(name, alloc, &mut w), &w)
+}
+
+/// The same of the call that writes any lawful item.
+fn is_item_written(alloc: Global, name: &Name<'_>) -> Option<bool> {
+    let mut w = Room::new(71, None);
+    is_put(write_strict(name, alloc, &mut w), &w)
+}
+
+/// The calls that are the theorem of names, but for those that write into a writer.
 #[test]
 fn theorems_of_names_are_refused_for_want_of_memory(rt: HostRuntime) -> Result<(), Fail> {
     let alloc = rt.alloc();
@@ -73,6 +97,17 @@ fn theorems_of_names_are_refused_for_want_of_memory(rt: HostRuntime) -> Result<(
         "strict_vec",
         twice!(is_octets(strict_vec(alloc, &name), &WIDGITS)),
     )
+}
+
+/// Those that write into a writer.
+#[test]
+fn names_in_writers_are_refused_for_want_of_memory(rt: HostRuntime) -> Result<(), Fail> {
+    let alloc = rt.alloc();
+    let Ok((_, name)) = read_name(alloc, &WIDGITS) else {
+        return Ok(());
+    };
+    assert_twice("write_name", twice!(is_name_written(alloc, &name)))?;
+    assert_twice("write_strict", twice!(is_item_written(alloc, &name)))
 }
 
 /// [0] of a name of one attribute, 2.5.4.6 (X.690 8.14.2).

@@ -7,6 +7,7 @@ mod making;
 mod reading;
 mod tags;
 mod texts;
+mod under_tags;
 
 /// A list of two numbers (X.690 8.10).
 const NUMBERS: [u8; 8] = [0x30, 0x06, 0x02, 0x01, 0x01, 0x02, 0x01, 0x02];

@@ -3,14 +3,14 @@
 
 use super::{BMP, UTF8};
 use asn1_rs::{
-    Any, BmpString, Class, Err, Error, Explicit, FromBer, FromDer, Header, Implicit, Length,
-    OptTaggedParser, ParseResult, Sequence, Set, Tag, TaggedParser, TaggedParserBuilder,
+    Any, BmpString, Class, Err, Error, Explicit, FromAny, FromBer, FromDer, Header, Implicit,
+    Length, OptTaggedParser, ParseResult, Sequence, Set, Tag, TaggedParser, TaggedParserBuilder,
     parse_der_tagged_explicit, parse_der_tagged_explicit_g, parse_der_tagged_implicit,
     parse_der_tagged_implicit_g,
 };
 use std::alloc::Global;
 use std::test::Fail;
-use test_values::{Attempts, assert_attempts, assert_no_growths, is_made, is_read};
+use test_values::{Attempts, assert_attempts, is_made, is_read, refused};
 
 /// [0] of the string of one character, and [1] in the place of its number (X.690 8.14).
 const EXPLICIT: [u8; 8] = [0xa0, 0x06, 0x1e, 0x04, 0xd8, 0x3d, 0xde, 0x00];
@@ -127,39 +127,79 @@ impl Attempts for OfContents {
     }
 }
 
-/// A closure that is out of memory.
-fn content_wants<'a>(_content: &'a [u8], _header: Header<'a>) -> ParseResult<'a, u8, Error> {
-    Err(Err::Error(Error::OutOfMemory))
+/// [1] in the place of the number of a text.
+const UNDER_TAG: [u8; 4] = [0x81, 0x02, 0x61, 0x62];
+
+/// The text whose header and contents octets these are.
+fn text_of<'a>(
+    alloc: Global,
+    header: Header<'a>,
+    content: &'a [u8],
+) -> ParseResult<'a, String, Error> {
+    match String::try_from_any(alloc, Any::new(header, content)) {
+        Ok(text) => Ok((&[], text)),
+        Err(refusal) => Err(Err::Error(refusal)),
+    }
 }
 
-/// The same of the contents octets, the tag number and the header.
-fn tag_wants<'a>(content: &'a [u8], _tag: Tag, header: Header<'a>) -> ParseResult<'a, u8, Error> {
-    content_wants(content, header)
-}
+/// What hands the contents octets behind a tag number, and the header, to a closure that reads a text.
+// A closure of more than one argument that captures is proved only with a clause of its own.
+struct OfHeader;
 
-/// The same of the header and the contents octets.
-fn header_wants<'a>(_header: Header<'_>, _content: &'a [u8]) -> ParseResult<'a, u8, Error> {
-    Err(Err::Error(Error::OutOfMemory))
-}
-
-/// What hands the contents octets to such a closure, whose refusal it passes on.
-struct PassedOn;
-
-impl Attempts for PassedOn {
-    fn seen(_alloc: Global, name: &str) -> Option<bool> {
-        let parser = OptTaggedParser::tagged(0);
-        let refusal = match name {
-            "parse_der_tagged_explicit_g" => {
-                parse_der_tagged_explicit_g(0_u32, &EXPLICIT, content_wants).err()
-            }
-            "parse_der_tagged_implicit_g" => {
-                parse_der_tagged_implicit_g(1_u32, &IMPLICIT, tag_wants).err()
-            }
-            "OptTaggedParser::parse_ber" => parser.parse_ber(&EXPLICIT, header_wants).err(),
-            "OptTaggedParser::parse_der" => parser.parse_der(&EXPLICIT, header_wants).err(),
-            _ => None,
+impl Attempts for OfHeader {
+    fn seen(alloc: Global, name: &str) -> Option<bool> {
+        let answer: ParseResult<'_, String, Error> = match name {
+            "parse_der_tagged_explicit_g" => parse_der_tagged_explicit_g(
+                0_u32,
+                &TAGGED_TEXT,
+                |content, _header|
+                    ensures { Unit {0} }
+                { String::from_der(alloc, content) },
+            ),
+            "parse_der_tagged_implicit_g" => parse_der_tagged_implicit_g(
+                1_u32,
+                &UNDER_TAG,
+                |content, _tag, header|
+                    ensures { Unit {0} }
+                { text_of(alloc, header, content) },
+            ),
+            _ => return Some(false),
         };
-        Some(refusal == Some(Err::Error(Error::OutOfMemory)))
+        is_read(alloc, answer, &UTF8)
+    }
+}
+
+/// What is seen of a text that may be left out, and is there; None when out of memory.
+fn is_there(alloc: Global, answer: ParseResult<'_, Option<String>, Error>) -> Option<bool> {
+    match answer {
+        Ok(([], Some(text))) => is_made::<String, Error>(alloc, Ok(text), &UTF8),
+        Ok(_) => Some(false),
+        Err(refusal) => refused(&refusal),
+    }
+}
+
+/// The same of a text that may be left out.
+struct OfOptions;
+
+impl Attempts for OfOptions {
+    fn seen(alloc: Global, name: &str) -> Option<bool> {
+        let parser = OptTaggedParser::tagged(0);
+        let answer = match name {
+            "OptTaggedParser::parse_ber" => parser.parse_ber(
+                &TAGGED_TEXT,
+                |_header, content|
+                    ensures { Unit {0} }
+                { String::from_ber(alloc, content) },
+            ),
+            "OptTaggedParser::parse_der" => parser.parse_der(
+                &TAGGED_TEXT,
+                |_header, content|
+                    ensures { Unit {0} }
+                { String::from_der(alloc, content) },
+            ),
+            _ => return Some(false),
+        };
+        is_there(alloc, answer)
     }
 }
 
@@ -174,13 +214,10 @@ fn closures_are_refused_for_want_of_memory(rt: HostRuntime) -> Result<(), Fail> 
         "Set by DER",
     ];
     assert_attempts::<OfContents>(rt.alloc(), &kept)?;
-    let passed_on = [
-        "parse_der_tagged_explicit_g",
-        "parse_der_tagged_implicit_g",
-        "OptTaggedParser::parse_ber",
-        "OptTaggedParser::parse_der",
-    ];
-    assert_no_growths::<PassedOn>(rt.alloc(), &passed_on)
+    let by_number = ["parse_der_tagged_explicit_g", "parse_der_tagged_implicit_g"];
+    assert_attempts::<OfHeader>(rt.alloc(), &by_number)?;
+    let options = ["OptTaggedParser::parse_ber", "OptTaggedParser::parse_der"];
+    assert_attempts::<OfOptions>(rt.alloc(), &options)
 }
 
 /// Elements that are taken as a string, under a tag or alone.
