@@ -1,6 +1,11 @@
 //! What is answered or told (RFC 3416, 3).
 ghost use Rattle.std.proofs.Common.{refl};
-ghost use Rattle.asn1_rs.specs.Choices.Data.{choice_of, numbers_of_choice, choice_numbers};
+ghost use Rattle.std.specs.Prelude.{◌≡◌};
+ghost use Rattle.asn1_headers.specs.Class.{class_number};
+ghost use Rattle.asn1_rs.specs.Any.{parts_of};
+ghost use Rattle.asn1_rs.specs.Choices.{has_a_tag, has_a_class};
+ghost use Rattle.asn1_rs.specs.Structs.{is_one_of};
+ghost use Rattle.asn1_rs.specs.Choices.Data.{choice_of, ChecksOf, numbers_of_choice, choice_numbers};
 ghost use Rattle.asn1_rs.specs.declared.choices.arms.Or.TheVariants as arm;
 ghost use Rattle.asn1_rs_snmp.specs.declared.notices.NoticePdus.TheVariants as notices;
 
@@ -125,18 +130,27 @@ impl<'a> ReadsChoiceByBer<'a> for NoticePdus<'a> {
 }
 
 impl<'a> ChecksChoice for NoticePdus<'a> {
-    fn check_choice(any: &Any<'_>) -> Result<(), Error> {
+    fn check_choice(any: &Any<'_>) -> Result<(), Error>
+        ensures { ChecksOf ⟦<NoticePdus<'a> as LawfulChoice>⟧.laws.arms.grammar.Check
+            (parts_of any.now) result }
+    {
         check_element::<NoticePdusArms<'a>>(any)
     }
 }
 
 /// It may be an arm of another choice.
 impl<'a> ToldChoice for NoticePdus<'a> {
-    fn has_element(any: &Any<'_>) -> bool {
+    fn has_element(any: &Any<'_>) -> bool
+        ensures { result ≡ has_a_tag ⟦<NoticePdus<'a> as LawfulChoice>⟧.laws.arms.grammar.tags
+            (parts_of any.now).id }
+    {
         <NoticePdusArms<'a> as TellsArms>::is_element_of_an_arm(any)
     }
 
-    fn has_class(class: Class) -> bool {
+    fn has_class(class: Class) -> bool
+        ensures { result ≡ has_a_class ⟦<NoticePdus<'a> as LawfulChoice>⟧.laws.arms.grammar.tags
+            (class_number class) }
+    {
         <NoticePdusArms<'a> as TellsArms>::is_class_of_an_arm(class)
     }
 }
@@ -144,7 +158,10 @@ impl<'a> ToldChoice for NoticePdus<'a> {
 impl<'a> ToldByNumber for NoticePdus<'a> {
     ghost numbers = { numbers_of_choice ⟦<NoticePdus<'a> as LawfulChoice>⟧.laws };
 
-    fn has_number(tag: Tag) -> bool {
+    fn has_number(tag: Tag) -> bool
+        ensures { result ≡ is_one_of tag.0
+            (numbers_of_choice ⟦<NoticePdus<'a> as LawfulChoice>⟧.laws) }
+    {
         <NoticePdusArms<'a> as ArmNumbers>::is_of_an_arm(tag)
     }
 

@@ -1,6 +1,11 @@
 //! What messages hold (RFC 3416, 3).
 ghost use Rattle.std.proofs.Common.{refl};
-ghost use Rattle.asn1_rs.specs.Choices.Data.{choice_of, choice_type, numbers_of_choice, choice_numbers};
+ghost use Rattle.std.specs.Prelude.{◌≡◌};
+ghost use Rattle.asn1_headers.specs.Class.{class_number};
+ghost use Rattle.asn1_rs.specs.Any.{parts_of};
+ghost use Rattle.asn1_rs.specs.Choices.{has_a_tag, has_a_class};
+ghost use Rattle.asn1_rs.specs.Structs.{is_one_of};
+ghost use Rattle.asn1_rs.specs.Choices.Data.{choice_of, ChecksOf, choice_type, numbers_of_choice, choice_numbers};
 ghost use Rattle.asn1_rs_choices.specs.declared.arms.OrChoice.TheVariants as part;
 ghost use Rattle.asn1_rs_snmp.specs.declared.pdus.Pdus.TheVariants as pdus;
 
@@ -91,18 +96,27 @@ impl<'a> ReadsChoiceByBer<'a> for Pdus<'a> {
 }
 
 impl<'a> ChecksChoice for Pdus<'a> {
-    fn check_choice(any: &Any<'_>) -> Result<(), Error> {
+    fn check_choice(any: &Any<'_>) -> Result<(), Error>
+        ensures { ChecksOf ⟦<Pdus<'a> as LawfulChoice>⟧.laws.arms.grammar.Check
+            (parts_of any.now) result }
+    {
         check_element::<PdusArms<'a>>(any)
     }
 }
 
 /// It may be an arm of another choice.
 impl<'a> ToldChoice for Pdus<'a> {
-    fn has_element(any: &Any<'_>) -> bool {
+    fn has_element(any: &Any<'_>) -> bool
+        ensures { result ≡ has_a_tag ⟦<Pdus<'a> as LawfulChoice>⟧.laws.arms.grammar.tags
+            (parts_of any.now).id }
+    {
         <PdusArms<'a> as TellsArms>::is_element_of_an_arm(any)
     }
 
-    fn has_class(class: Class) -> bool {
+    fn has_class(class: Class) -> bool
+        ensures { result ≡ has_a_class ⟦<Pdus<'a> as LawfulChoice>⟧.laws.arms.grammar.tags
+            (class_number class) }
+    {
         <PdusArms<'a> as TellsArms>::is_class_of_an_arm(class)
     }
 }
@@ -110,7 +124,10 @@ impl<'a> ToldChoice for Pdus<'a> {
 impl<'a> ToldByNumber for Pdus<'a> {
     ghost numbers = { numbers_of_choice ⟦<Pdus<'a> as LawfulChoice>⟧.laws };
 
-    fn has_number(tag: Tag) -> bool {
+    fn has_number(tag: Tag) -> bool
+        ensures { result ≡ is_one_of tag.0
+            (numbers_of_choice ⟦<Pdus<'a> as LawfulChoice>⟧.laws) }
+    {
         <PdusArms<'a> as ArmNumbers>::is_of_an_arm(tag)
     }
 

@@ -1,6 +1,11 @@
 //! Values of variables (RFC 3416, 3).
 ghost use Rattle.std.proofs.Common.{refl};
-ghost use Rattle.asn1_rs.specs.Choices.Data.{choice_of, choice_type, numbers_of_choice, choice_numbers};
+ghost use Rattle.std.specs.Prelude.{◌≡◌};
+ghost use Rattle.asn1_headers.specs.Class.{class_number};
+ghost use Rattle.asn1_rs.specs.Any.{parts_of};
+ghost use Rattle.asn1_rs.specs.Choices.{has_a_tag, has_a_class};
+ghost use Rattle.asn1_rs.specs.Structs.{is_one_of};
+ghost use Rattle.asn1_rs.specs.Choices.Data.{choice_of, ChecksOf, choice_type, numbers_of_choice, choice_numbers};
 ghost use Rattle.asn1_rs.specs.declared.choices.arms.Or.TheVariants as arm;
 ghost use Rattle.asn1_rs_choices.specs.declared.arms.OrChoice.TheVariants as part;
 ghost use Rattle.asn1_rs_snmp.specs.declared.value.BindingValue.TheVariants as values;
@@ -135,18 +140,27 @@ impl<'a> ReadsChoiceByBer<'a> for BindingValue<'a> {
 }
 
 impl<'a> ChecksChoice for BindingValue<'a> {
-    fn check_choice(any: &Any<'_>) -> Result<(), Error> {
+    fn check_choice(any: &Any<'_>) -> Result<(), Error>
+        ensures { ChecksOf ⟦<BindingValue<'a> as LawfulChoice>⟧.laws.arms.grammar.Check
+            (parts_of any.now) result }
+    {
         check_element::<BindingValueArms<'a>>(any)
     }
 }
 
 /// It may be an arm of another choice.
 impl<'a> ToldChoice for BindingValue<'a> {
-    fn has_element(any: &Any<'_>) -> bool {
+    fn has_element(any: &Any<'_>) -> bool
+        ensures { result ≡ has_a_tag ⟦<BindingValue<'a> as LawfulChoice>⟧.laws.arms.grammar.tags
+            (parts_of any.now).id }
+    {
         <BindingValueArms<'a> as TellsArms>::is_element_of_an_arm(any)
     }
 
-    fn has_class(class: Class) -> bool {
+    fn has_class(class: Class) -> bool
+        ensures { result ≡ has_a_class ⟦<BindingValue<'a> as LawfulChoice>⟧.laws.arms.grammar.tags
+            (class_number class) }
+    {
         <BindingValueArms<'a> as TellsArms>::is_class_of_an_arm(class)
     }
 }
@@ -154,7 +168,10 @@ impl<'a> ToldChoice for BindingValue<'a> {
 impl<'a> ToldByNumber for BindingValue<'a> {
     ghost numbers = { numbers_of_choice ⟦<BindingValue<'a> as LawfulChoice>⟧.laws };
 
-    fn has_number(tag: Tag) -> bool {
+    fn has_number(tag: Tag) -> bool
+        ensures { result ≡ is_one_of tag.0
+            (numbers_of_choice ⟦<BindingValue<'a> as LawfulChoice>⟧.laws) }
+    {
         <BindingValueArms<'a> as ArmNumbers>::is_of_an_arm(tag)
     }
 
