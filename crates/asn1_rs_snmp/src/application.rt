@@ -14,10 +14,9 @@ use crate::numbers::ApplicationNumber;
 use asn1_rs::{
     Any, ApplicationImplicit, ArmNumbers, Arms, ChecksChoice, ChoiceKind, ChoiceReader, Class,
     DynTagged, Error, HasKind, HasReader, LawfulChoice, LawfulType, Never, OctetString, OfArms, Or,
-    ParseResult, ReadsChoice, ReadsChoiceByBer, Tag, ToldByNumber, UsesArm, check_element,
-    choice_by_der, choice_of_element,
+    ReadsChoiceByBer, Tag, ToldByNumber, UsesArm, choice_of_element,
 };
-use asn1_rs_choices::{OrChoice, TellsArms, ToldChoice};
+use asn1_rs_choices::{OrChoice, TellsArms, ToldChoice, check_arms};
 use std::alloc::Global;
 
 /// A value under a tag of the application class.
@@ -105,15 +104,6 @@ impl<'a> OfArms for ApplicationSyntax<'a> {
     }
 }
 
-impl<'a> ReadsChoice<'a> for ApplicationSyntax<'a> {
-    fn read_choice(
-        alloc: Global,
-        octets: &'a [u8],
-    ) -> ParseResult<'a, ApplicationSyntax<'a>, Error> {
-        choice_by_der(alloc, octets)
-    }
-}
-
 impl<'a> ReadsChoiceByBer<'a> for ApplicationSyntax<'a> {
     fn choice_of_any(alloc: Global, any: Any<'a>) -> Result<ApplicationSyntax<'a>, Error> {
         choice_of_element(alloc, any)
@@ -125,7 +115,7 @@ impl<'a> ChecksChoice for ApplicationSyntax<'a> {
         ensures { ChecksOf ⟦<ApplicationSyntax<'a> as LawfulChoice>⟧.laws.arms.grammar.Check
             (parts_of any.now) result }
     {
-        check_element::<ApplicationSyntaxArms<'a>>(any)
+        check_arms::<ApplicationSyntaxArms<'a>>(any)
     }
 }
 

@@ -5,9 +5,8 @@ ghost use Rattle.asn1_rs.specs.Structs.Data.{struct_of};
 
 use crate::value::BindingValue;
 use asn1_rs::{
-    BerParser, BorrowedRow, DerParser, Error, Fields, FieldsKind, HasKind, HasReader, LawfulStruct,
-    Oid, ReadsFields, ReadsFieldsByBer, ReadsRow, Row, SerializeResult, StructReader, row_by_ber,
-    row_by_der,
+    BerParser, BorrowedRow, Error, Fields, FieldsKind, HasKind, HasReader, LawfulStruct, Oid,
+    ReadsFieldsByBer, ReadsRow, Row, SerializeResult, StructReader, row_by_ber,
 };
 use std::alloc::Global;
 
@@ -43,21 +42,6 @@ impl<'a> LawfulStruct for VarBind<'a> {
 
     fn row_in_hand(&self) {
         (&self.name, (&self.value, ())).each_in_hand()
-    }
-}
-
-impl<'a> ReadsFields<'a> for VarBind<'a> {
-    ghost fields_give = { MadeOf ⟦<VarBind<'a> as LawfulStruct>⟧.laws.as_row
-        ⟦<VarBindRow<'a> as ReadsRow<'a, DerParser>>⟧.row_gives };
-
-    fn read_fields(alloc: Global, octets: &'a [u8]) -> Result<VarBind<'a>, Error> {
-        match row_by_der(alloc, octets) {
-            Ok(row) => {
-                let (name, (value, ())) = row;
-                Ok(VarBind { name, value })
-            }
-            Err(e) => Err(e),
-        }
     }
 }
 

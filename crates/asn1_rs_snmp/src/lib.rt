@@ -19,9 +19,7 @@ mod value;
 
 pub use application::{ApplicationSyntax, ApplicationSyntaxArms, IpAddress, Opaque};
 pub use binding::{VarBind, VarBindRow};
-pub use message::{
-    Message, MessageRow, message_vec, read_message, read_message_by_ber, read_message_whole,
-};
+pub use message::{Message, MessageRow, message_vec, read_message, read_message_whole};
 pub use notices::{InformRequest, NoticePdus, NoticePdusArms, Report, Response, Trap};
 pub use numbers::{
     ApplicationNumber, ApplicationNumberArms, Counter32, Counter64, TimeTicks, Unsigned32,

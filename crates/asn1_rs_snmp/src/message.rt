@@ -5,14 +5,13 @@ ghost use Rattle.asn1_rs.specs.Structs.Data.{struct_of};
 ghost use Rattle.asn1_headers.specs.Answers.{seen};
 ghost use Rattle.asn1_rs.specs.Grammar.Item.{ber_words};
 ghost use Rattle.asn1_rs.specs.Whole.{IsWhole, TakesWhole};
-ghost use Rattle.asn1_rs_messages.specs.Callers.{ReadsByDer, ReadsByBer, WritesStrict};
+ghost use Rattle.asn1_rs_messages.specs.Callers.{ReadsByBer, WritesStrict};
 
 use crate::pdus::Pdus;
 use asn1_rs::{
-    BerParser, BorrowedRow, DerParser, Error, Fields, FieldsKind, FromBer, Grammar, HasKind,
-    HasReader, LawfulStruct, OctetString, ParseResult, ReadsFields, ReadsFieldsByBer, ReadsRow,
-    Row, SerializeResult, StructReader, ToDer, read_ber, read_ber_whole, read_der, row_by_ber,
-    row_by_der, strict_vec,
+    BerParser, BorrowedRow, Error, Fields, FieldsKind, FromBer, Grammar, HasKind, HasReader,
+    LawfulStruct, OctetString, ParseResult, ReadsFieldsByBer, ReadsRow, Row, SerializeResult,
+    StructReader, ToDer, read_ber, read_ber_whole, row_by_ber, strict_vec,
 };
 use std::alloc::Global;
 
@@ -53,25 +52,6 @@ impl<'a> LawfulStruct for Message<'a> {
     }
 }
 
-impl<'a> ReadsFields<'a> for Message<'a> {
-    ghost fields_give = { MadeOf ⟦<Message<'a> as LawfulStruct>⟧.laws.as_row
-        ⟦<MessageRow<'a> as ReadsRow<'a, DerParser>>⟧.row_gives };
-
-    fn read_fields(alloc: Global, octets: &'a [u8]) -> Result<Message<'a>, Error> {
-        match row_by_der(alloc, octets) {
-            Ok(row) => {
-                let (version, (community, (data, ()))) = row;
-                Ok(Message {
-                    version,
-                    community,
-                    data,
-                })
-            }
-            Err(e) => Err(e),
-        }
-    }
-}
-
 impl<'a> ReadsFieldsByBer<'a> for Message<'a> {
     ghost fields_give_by_ber = { MadeOf ⟦<Message<'a> as LawfulStruct>⟧.laws.as_row
         ⟦<MessageRow<'a> as ReadsRow<'a, BerParser>>⟧.row_gives };
@@ -92,20 +72,10 @@ impl<'a> ReadsFieldsByBer<'a> for Message<'a> {
 }
 
 /// The message at the front of the octets, by BER, and what follows it.
-pub fn read_message_by_ber<'a>(
-    alloc: Global,
-    octets: &'a [u8],
-) -> ParseResult<'a, Message<'a>, Error>
+pub fn read_message<'a>(alloc: Global, octets: &'a [u8]) -> ParseResult<'a, Message<'a>, Error>
     ensures { ReadsByBer ⟦<Message<'a> as Grammar>⟧.grammar octets.now (seen result) }
 {
     read_ber::<Message<'a>, Error>(alloc, octets)
-}
-
-/// The message at the front of the octets, by DER, and what follows it.
-pub fn read_message<'a>(alloc: Global, octets: &'a [u8]) -> ParseResult<'a, Message<'a>, Error>
-    ensures { ReadsByDer ⟦<Message<'a> as Grammar>⟧.grammar octets.now (seen result) }
-{
-    read_der::<Message<'a>, Error>(alloc, octets)
 }
 
 /// The message that all of the octets are, by BER, as a packet has it. Refused with `TrailingOctets` where octets follow

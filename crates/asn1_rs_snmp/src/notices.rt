@@ -12,11 +12,10 @@ ghost use Rattle.asn1_rs_snmp.specs.declared.notices.NoticePdus.TheVariants as n
 use crate::pdu::Pdu;
 use asn1_rs::{
     Any, ArmNumbers, Arms, ChecksChoice, ChoiceKind, ChoiceReader, Class, DynTagged, Error,
-    HasKind, HasReader, LawfulChoice, Never, OfArms, Or, OrTagged, ParseResult, ReadsChoice,
-    ReadsChoiceByBer, Tag, TaggedImplicit, ToldByNumber, UsesArm, check_element, choice_by_der,
-    choice_of_element,
+    HasKind, HasReader, LawfulChoice, Never, OfArms, Or, OrTagged, ReadsChoiceByBer, Tag,
+    TaggedImplicit, ToldByNumber, UsesArm, choice_of_element,
 };
-use asn1_rs_choices::{TellsArms, ToldChoice};
+use asn1_rs_choices::{TellsArms, ToldChoice, check_arms};
 use std::alloc::Global;
 
 /// What is told.
@@ -117,12 +116,6 @@ impl<'a> OfArms for NoticePdus<'a> {
     }
 }
 
-impl<'a> ReadsChoice<'a> for NoticePdus<'a> {
-    fn read_choice(alloc: Global, octets: &'a [u8]) -> ParseResult<'a, NoticePdus<'a>, Error> {
-        choice_by_der(alloc, octets)
-    }
-}
-
 impl<'a> ReadsChoiceByBer<'a> for NoticePdus<'a> {
     fn choice_of_any(alloc: Global, any: Any<'a>) -> Result<NoticePdus<'a>, Error> {
         choice_of_element(alloc, any)
@@ -134,7 +127,7 @@ impl<'a> ChecksChoice for NoticePdus<'a> {
         ensures { ChecksOf ⟦<NoticePdus<'a> as LawfulChoice>⟧.laws.arms.grammar.Check
             (parts_of any.now) result }
     {
-        check_element::<NoticePdusArms<'a>>(any)
+        check_arms::<NoticePdusArms<'a>>(any)
     }
 }
 

@@ -6,11 +6,10 @@ ghost use Rattle.asn1_rs_snmp.specs.declared.numbers.ApplicationNumber.TheVarian
 
 use asn1_rs::{
     Any, ApplicationImplicit, ArmNumbers, Arms, ChecksChoice, ChoiceKind, ChoiceReader, Class,
-    DynTagged, Error, HasKind, HasReader, LawfulChoice, LawfulType, Never, OfArms, Or, ParseResult,
-    ReadsChoice, ReadsChoiceByBer, Tag, ToldByNumber, UsesArm, check_element, choice_by_der,
-    choice_of_element,
+    DynTagged, Error, HasKind, HasReader, LawfulChoice, LawfulType, Never, OfArms, Or,
+    ReadsChoiceByBer, Tag, ToldByNumber, UsesArm, choice_of_element,
 };
-use asn1_rs_choices::{TellsArms, ToldChoice};
+use asn1_rs_choices::{TellsArms, ToldChoice, check_arms};
 use std::alloc::Global;
 
 /// A number under a tag of the application class (RFC 2578, 7.1).
@@ -114,12 +113,6 @@ impl OfArms for ApplicationNumber {
     }
 }
 
-impl<'a> ReadsChoice<'a> for ApplicationNumber {
-    fn read_choice(alloc: Global, octets: &'a [u8]) -> ParseResult<'a, ApplicationNumber, Error> {
-        choice_by_der(alloc, octets)
-    }
-}
-
 impl<'a> ReadsChoiceByBer<'a> for ApplicationNumber {
     fn choice_of_any(alloc: Global, any: Any<'a>) -> Result<ApplicationNumber, Error> {
         choice_of_element(alloc, any)
@@ -128,7 +121,7 @@ impl<'a> ReadsChoiceByBer<'a> for ApplicationNumber {
 
 impl ChecksChoice for ApplicationNumber {
     fn check_choice(any: &Any<'_>) -> Result<(), Error> {
-        check_element::<ApplicationNumberArms>(any)
+        check_arms::<ApplicationNumberArms>(any)
     }
 }
 

@@ -13,10 +13,10 @@ use crate::application::ApplicationSyntax;
 use crate::simple::SimpleSyntax;
 use asn1_rs::{
     Any, ArmNumbers, Arms, ChecksChoice, ChoiceKind, ChoiceReader, Class, DynTagged, Error,
-    HasKind, HasReader, LawfulChoice, LawfulType, Never, OfArms, ParseResult, ReadsChoice,
-    ReadsChoiceByBer, Tag, ToldByNumber, UsesArm, check_element, choice_by_der, choice_of_element,
+    HasKind, HasReader, LawfulChoice, LawfulType, Never, OfArms, ReadsChoiceByBer, Tag,
+    ToldByNumber, UsesArm, choice_of_element,
 };
-use asn1_rs_choices::{OrChoice, TellsArms, ToldChoice};
+use asn1_rs_choices::{OrChoice, TellsArms, ToldChoice, check_arms};
 use std::alloc::Global;
 
 /// A value of an object.
@@ -87,12 +87,6 @@ impl<'a> OfArms for ObjectSyntax<'a> {
     }
 }
 
-impl<'a> ReadsChoice<'a> for ObjectSyntax<'a> {
-    fn read_choice(alloc: Global, octets: &'a [u8]) -> ParseResult<'a, ObjectSyntax<'a>, Error> {
-        choice_by_der(alloc, octets)
-    }
-}
-
 impl<'a> ReadsChoiceByBer<'a> for ObjectSyntax<'a> {
     fn choice_of_any(alloc: Global, any: Any<'a>) -> Result<ObjectSyntax<'a>, Error> {
         choice_of_element(alloc, any)
@@ -104,7 +98,7 @@ impl<'a> ChecksChoice for ObjectSyntax<'a> {
         ensures { ChecksOf ⟦<ObjectSyntax<'a> as LawfulChoice>⟧.laws.arms.grammar.Check
             (parts_of any.now) result }
     {
-        check_element::<ObjectSyntaxArms<'a>>(any)
+        check_arms::<ObjectSyntaxArms<'a>>(any)
     }
 }
 

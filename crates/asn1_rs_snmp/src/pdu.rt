@@ -5,9 +5,8 @@ ghost use Rattle.asn1_rs.specs.Structs.Data.{struct_of};
 
 use crate::binding::VarBind;
 use asn1_rs::{
-    BerParser, BorrowedRow, DerParser, Error, Fields, FieldsKind, HasKind, HasReader, LawfulStruct,
-    ReadsFields, ReadsFieldsByBer, ReadsRow, Row, SerializeResult, StructReader, row_by_ber,
-    row_by_der,
+    BerParser, BorrowedRow, Error, Fields, FieldsKind, HasKind, HasReader, LawfulStruct,
+    ReadsFieldsByBer, ReadsRow, Row, SerializeResult, StructReader, row_by_ber,
 };
 use std::alloc::Global;
 
@@ -61,26 +60,6 @@ impl<'a> LawfulStruct for Pdu<'a> {
             ),
         )
             .each_in_hand()
-    }
-}
-
-impl<'a> ReadsFields<'a> for Pdu<'a> {
-    ghost fields_give = { MadeOf ⟦<Pdu<'a> as LawfulStruct>⟧.laws.as_row
-        ⟦<PduRow<'a> as ReadsRow<'a, DerParser>>⟧.row_gives };
-
-    fn read_fields(alloc: Global, octets: &'a [u8]) -> Result<Pdu<'a>, Error> {
-        match row_by_der(alloc, octets) {
-            Ok(row) => {
-                let (request_id, (error_status, (error_index, (variable_bindings, ())))) = row;
-                Ok(Pdu {
-                    request_id,
-                    error_status,
-                    error_index,
-                    variable_bindings,
-                })
-            }
-            Err(e) => Err(e),
-        }
     }
 }
 
@@ -153,26 +132,6 @@ impl<'a> LawfulStruct for BulkPdu<'a> {
             ),
         )
             .each_in_hand()
-    }
-}
-
-impl<'a> ReadsFields<'a> for BulkPdu<'a> {
-    ghost fields_give = { MadeOf ⟦<BulkPdu<'a> as LawfulStruct>⟧.laws.as_row
-        ⟦<BulkPduRow<'a> as ReadsRow<'a, DerParser>>⟧.row_gives };
-
-    fn read_fields(alloc: Global, octets: &'a [u8]) -> Result<BulkPdu<'a>, Error> {
-        match row_by_der(alloc, octets) {
-            Ok(row) => {
-                let (request_id, (non_repeaters, (max_repetitions, (variable_bindings, ())))) = row;
-                Ok(BulkPdu {
-                    request_id,
-                    non_repeaters,
-                    max_repetitions,
-                    variable_bindings,
-                })
-            }
-            Err(e) => Err(e),
-        }
     }
 }
 

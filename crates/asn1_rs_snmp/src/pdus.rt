@@ -13,10 +13,10 @@ use crate::notices::NoticePdus;
 use crate::requests::RequestPdus;
 use asn1_rs::{
     Any, ArmNumbers, Arms, ChecksChoice, ChoiceKind, ChoiceReader, Class, DynTagged, Error,
-    HasKind, HasReader, LawfulChoice, LawfulType, Never, OfArms, ParseResult, ReadsChoice,
-    ReadsChoiceByBer, Tag, ToldByNumber, UsesArm, check_element, choice_by_der, choice_of_element,
+    HasKind, HasReader, LawfulChoice, LawfulType, Never, OfArms, ReadsChoiceByBer, Tag,
+    ToldByNumber, UsesArm, choice_of_element,
 };
-use asn1_rs_choices::{OrChoice, TellsArms, ToldChoice};
+use asn1_rs_choices::{OrChoice, TellsArms, ToldChoice, check_arms};
 use std::alloc::Global;
 
 /// What a message holds: what is asked, or what is told.
@@ -83,12 +83,6 @@ impl<'a> OfArms for Pdus<'a> {
     }
 }
 
-impl<'a> ReadsChoice<'a> for Pdus<'a> {
-    fn read_choice(alloc: Global, octets: &'a [u8]) -> ParseResult<'a, Pdus<'a>, Error> {
-        choice_by_der(alloc, octets)
-    }
-}
-
 impl<'a> ReadsChoiceByBer<'a> for Pdus<'a> {
     fn choice_of_any(alloc: Global, any: Any<'a>) -> Result<Pdus<'a>, Error> {
         choice_of_element(alloc, any)
@@ -100,7 +94,7 @@ impl<'a> ChecksChoice for Pdus<'a> {
         ensures { ChecksOf ⟦<Pdus<'a> as LawfulChoice>⟧.laws.arms.grammar.Check
             (parts_of any.now) result }
     {
-        check_element::<PdusArms<'a>>(any)
+        check_arms::<PdusArms<'a>>(any)
     }
 }
 

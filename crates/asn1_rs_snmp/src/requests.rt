@@ -12,11 +12,10 @@ ghost use Rattle.asn1_rs_snmp.specs.declared.requests.RequestPdus.TheVariants as
 use crate::pdu::{BulkPdu, Pdu};
 use asn1_rs::{
     Any, ArmNumbers, Arms, ChecksChoice, ChoiceKind, ChoiceReader, Class, DynTagged, Error,
-    HasKind, HasReader, LawfulChoice, Never, OfArms, Or, OrTagged, ParseResult, ReadsChoice,
-    ReadsChoiceByBer, Tag, TaggedImplicit, ToldByNumber, UsesArm, check_element, choice_by_der,
-    choice_of_element,
+    HasKind, HasReader, LawfulChoice, Never, OfArms, Or, OrTagged, ReadsChoiceByBer, Tag,
+    TaggedImplicit, ToldByNumber, UsesArm, choice_of_element,
 };
-use asn1_rs_choices::{TellsArms, ToldChoice};
+use asn1_rs_choices::{TellsArms, ToldChoice, check_arms};
 use std::alloc::Global;
 
 /// What is asked.
@@ -117,12 +116,6 @@ impl<'a> OfArms for RequestPdus<'a> {
     }
 }
 
-impl<'a> ReadsChoice<'a> for RequestPdus<'a> {
-    fn read_choice(alloc: Global, octets: &'a [u8]) -> ParseResult<'a, RequestPdus<'a>, Error> {
-        choice_by_der(alloc, octets)
-    }
-}
-
 impl<'a> ReadsChoiceByBer<'a> for RequestPdus<'a> {
     fn choice_of_any(alloc: Global, any: Any<'a>) -> Result<RequestPdus<'a>, Error> {
         choice_of_element(alloc, any)
@@ -134,7 +127,7 @@ impl<'a> ChecksChoice for RequestPdus<'a> {
         ensures { ChecksOf ⟦<RequestPdus<'a> as LawfulChoice>⟧.laws.arms.grammar.Check
             (parts_of any.now) result }
     {
-        check_element::<RequestPdusArms<'a>>(any)
+        check_arms::<RequestPdusArms<'a>>(any)
     }
 }
 

@@ -12,10 +12,9 @@ ghost use Rattle.asn1_rs_snmp.specs.declared.simple.SimpleSyntax.TheVariants as 
 use asn1_rs::{
     Any, ArmNumbers, Arms, ChecksChoice, ChoiceKind, ChoiceReader, Class, DynTagged, Error,
     HasKind, HasReader, LawfulChoice, LawfulType, Never, OctetString, OfArms, Oid, Or, OrUniversal,
-    ParseResult, ReadsChoice, ReadsChoiceByBer, Tag, ToldByNumber, UsesArm, check_element,
-    choice_by_der, choice_of_element,
+    ReadsChoiceByBer, Tag, ToldByNumber, UsesArm, choice_of_element,
 };
-use asn1_rs_choices::{TellsArms, ToldChoice};
+use asn1_rs_choices::{TellsArms, ToldChoice, check_arms};
 use std::alloc::Global;
 
 /// A value of a type without a tag of its own.
@@ -97,12 +96,6 @@ impl<'a> OfArms for SimpleSyntax<'a> {
     }
 }
 
-impl<'a> ReadsChoice<'a> for SimpleSyntax<'a> {
-    fn read_choice(alloc: Global, octets: &'a [u8]) -> ParseResult<'a, SimpleSyntax<'a>, Error> {
-        choice_by_der(alloc, octets)
-    }
-}
-
 impl<'a> ReadsChoiceByBer<'a> for SimpleSyntax<'a> {
     fn choice_of_any(alloc: Global, any: Any<'a>) -> Result<SimpleSyntax<'a>, Error> {
         choice_of_element(alloc, any)
@@ -114,7 +107,7 @@ impl<'a> ChecksChoice for SimpleSyntax<'a> {
         ensures { ChecksOf ⟦<SimpleSyntax<'a> as LawfulChoice>⟧.laws.arms.grammar.Check
             (parts_of any.now) result }
     {
-        check_element::<SimpleSyntaxArms<'a>>(any)
+        check_arms::<SimpleSyntaxArms<'a>>(any)
     }
 }
 

@@ -14,10 +14,9 @@ use crate::object::ObjectSyntax;
 use asn1_rs::{
     Any, ArmNumbers, Arms, ChecksChoice, ChoiceKind, ChoiceReader, Class, DynTagged, Error,
     HasKind, HasReader, LawfulChoice, LawfulType, Never, Null, OfArms, Or, OrTagged, OrUniversal,
-    ParseResult, ReadsChoice, ReadsChoiceByBer, Tag, TaggedImplicit, ToldByNumber, UsesArm,
-    check_element, choice_by_der, choice_of_element,
+    ReadsChoiceByBer, Tag, TaggedImplicit, ToldByNumber, UsesArm, choice_of_element,
 };
-use asn1_rs_choices::{OrChoice, TellsArms, ToldChoice};
+use asn1_rs_choices::{OrChoice, TellsArms, ToldChoice, check_arms};
 use std::alloc::Global;
 
 /// The value of a variable, or why there is none.
@@ -127,12 +126,6 @@ impl<'a> OfArms for BindingValue<'a> {
     }
 }
 
-impl<'a> ReadsChoice<'a> for BindingValue<'a> {
-    fn read_choice(alloc: Global, octets: &'a [u8]) -> ParseResult<'a, BindingValue<'a>, Error> {
-        choice_by_der(alloc, octets)
-    }
-}
-
 impl<'a> ReadsChoiceByBer<'a> for BindingValue<'a> {
     fn choice_of_any(alloc: Global, any: Any<'a>) -> Result<BindingValue<'a>, Error> {
         choice_of_element(alloc, any)
@@ -144,7 +137,7 @@ impl<'a> ChecksChoice for BindingValue<'a> {
         ensures { ChecksOf ⟦<BindingValue<'a> as LawfulChoice>⟧.laws.arms.grammar.Check
             (parts_of any.now) result }
     {
-        check_element::<BindingValueArms<'a>>(any)
+        check_arms::<BindingValueArms<'a>>(any)
     }
 }
 
