@@ -101,11 +101,16 @@ class Edit:
                 self.unread = line
         self.file = self.changes[0].file if self.changes else None
 
-    def applied(self, text):
-        """Returns the edited text, or None where a change does not apply."""
+    def applied_to(self, texts):
+        """Returns the files that it changes and their edited texts, of a dictionary of texts, or None where a change
+        does not apply."""
+        made = {}
         for change in self.changes:
-            text = None if text is None else change.applied(text)
-        return text if self.changes else None
+            text = change.applied(made.get(change.file, texts.get(change.file, "")))
+            if text is None:
+                return None
+            made[change.file] = text
+        return made
 
     def fault(self, folder):
         """Returns why it does not apply to the crate of this folder, or None where it does."""
