@@ -1,7 +1,10 @@
 -- Filters of LDAP that hold others.
-use Rattle.std.specs.Prelude.{ℕ}
+use Rattle.std.specs.Prelude.{◌≡◌, ℕ, List, Ok, Err}
+use Rattle.std.proofs.Common.{ap}
+use Rattle.asn1_rs.specs.declared.asn1_types.any.Any.{Any}
+use Rattle.asn1_rs.specs.Choices.{ArmsGrammar, choice_grammar}
 use Rattle.asn1_headers.specs.declared.error.Error.{Error}
-use Rattle.asn1_rs.specs.Choices.Data.{LawfulArmsOf, LawfulChoiceOf, arm_before, choice_type, end_of_arms}
+use Rattle.asn1_rs.specs.Choices.Data.{AnswersOf, LawfulArmsOf, LawfulChoiceOf, arm_before, choice_type, end_of_arms}
 use Rattle.asn1_rs.specs.Set.{items_of}
 use Rattle.asn1_rs.specs.Structs.Data.{LawfulTypeOf}
 use Rattle.asn1_rs.specs.Structs.Types.{explicit_type, implicit_type, multiset_type}
@@ -43,3 +46,21 @@ abbrev pub in_combined_arms : {F : Type 0} → Combined F → CombinedArms F
 in_combined_arms (combined.And x) = arm.This x
 in_combined_arms (combined.Or x) = arm.Other (arm.This x)
 in_combined_arms (combined.Not x) = arm.Other (arm.Other (arm.This x))
+
+-- What arms are taken for a choice is taken for it, and so is what is refused.
+module _ {S T : Type 0} (as_arms : T → S) (G : ArmsGrammar S) (tags : List (ℕ × ℕ)) (any : Any) where
+  pub taken_as : (x : T) → AnswersOf (choice_grammar (λ s. s) G) tags any (Ok (as_arms x)) →
+      AnswersOf (choice_grammar as_arms G) tags any (Ok x)
+  taken_as x a = record {
+    exact = λ o. a.exact o;
+    no_memory = λ n. a.no_memory n;
+    other = λ n. let t = a.other n in absurd (cc);
+  }
+
+  pub refused_as : (e : Error) → AnswersOf (choice_grammar (λ s. s) G) tags any (Err e) →
+      AnswersOf (choice_grammar as_arms G) tags any (Err e)
+  refused_as e a = record {
+    exact = λ o. a.exact o;
+    no_memory = λ n. a.no_memory n;
+    other = λ n. let t = a.other n in let is : e ≡ t.0 = cc in (t.0, t.1, ap Err is);
+  }

@@ -15,12 +15,13 @@ ghost use Rattle.asn1_rs_ldap.specs.declared.filter.SimpleFilter.TheVariants as 
 use crate::combined::Combined;
 use crate::compared::Compared;
 use crate::matched::Matched;
+use crate::taken::TakesWhole;
 use asn1_rs::{
     Any, ArmNumbers, Arms, ChecksChoice, ChoiceKind, ChoiceReader, Class, DynTagged, Error,
     HasKind, HasReader, LawfulChoice, LawfulType, Never, OfArms, ReadsChoiceByBer, Tag,
     ToldByNumber, UsesArm, choice_of_element,
 };
-use asn1_rs_choices::{OrChoice, TakenFrom, TellsArms, ToldChoice, check_arms};
+use asn1_rs_choices::{OrChoice, TellsArms, ToldChoice, check_arms};
 use std::alloc::Global;
 
 /// A filter that holds filters of the type `F`.
@@ -113,8 +114,12 @@ impl<'a, F> ReadsChoiceByBer<'a> for FilterOf<'a, F>
 where
     F: ReadsChoiceByBer<'a> + ChecksChoice + Drop,
 {
+    #[tactic(auto, using(crate::specs::Filters::taken_as, crate::specs::Filters::refused_as))]
     fn choice_of_any(alloc: Global, any: Any<'a>) -> Result<FilterOf<'a, F>, Error> {
-        <FilterOf<'a, F> as TakenFrom<'a, FilterArms<'a, F>>>::taken(alloc, any)
+        match <FilterArms<'a, F> as TakesWhole<'a>>::take_any(alloc, any) {
+            Ok(arms) => Ok(<FilterOf<'a, F> as OfArms>::of_arms(arms)),
+            Err(e) => Err(e),
+        }
     }
 }
 

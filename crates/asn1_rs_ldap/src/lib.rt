@@ -1,8 +1,8 @@
 //! The search request of LDAP (RFC 4511, 4.5.1), as structs of fields and choices: it is read by BER, borrowed from the
 //! octets, exactly where its grammar says, and written as its one strict encoding.
 //!
-//! LDAP asks for BER with definite lengths and primitive strings (5.1). Other forms of BER are read too. What is written
-//! is DER, which is within those rules; so the filters of a set are written in the order of their octets.
+//! LDAP asks for BER with definite lengths and primitive strings (5.1). Other forms of BER are read too. What is
+//! written is DER, which is within those rules; so the filters of a set are written in the order of their octets.
 #![tactic(auto)]
 
 mod assertion;
@@ -13,6 +13,7 @@ mod matched;
 mod message;
 mod search;
 mod substrings;
+mod taken;
 mod wanted;
 
 use asn1_rs::{Error, OctetString, TaggedImplicit};
