@@ -1,4 +1,0 @@
--- What contracts cite.
-pub mod Heap
-pub mod Laws
-pub mod Parts
