@@ -10,7 +10,6 @@ mod combined;
 mod compared;
 mod filter;
 mod matched;
-mod message;
 mod search;
 mod substrings;
 mod taken;
@@ -25,11 +24,7 @@ pub use combined::{Combined, CombinedArms, Filters, Negated};
 pub use compared::{Asserted, Compared, ComparedArms};
 pub use filter::{FilterArms, FilterOf, SimpleArms, SimpleFilter};
 pub use matched::{Extensible, Matched, MatchedArms, Substrings};
-pub use message::{
-    Control, ControlRow, Controls, SearchMessage, SearchMessageRow, read_search, read_search_whole,
-    search_vec,
-};
-pub use search::{Search, SearchRequest, SearchRow};
+pub use search::{Search, SearchRequest, SearchRow, read_search, read_search_whole, search_vec};
 pub use substrings::{Substring, SubstringArms, SubstringFilter, SubstringFilterRow};
 
 /// Octets in place of whose tag a context-specific one stands.

@@ -1,15 +1,20 @@
 //! A search (RFC 4511, 4.5.1).
 ghost use Rattle.std.proofs.Common.{refl};
+ghost use Rattle.asn1_headers.specs.Answers.{seen};
+ghost use Rattle.asn1_rs.specs.Grammar.Item.{ber_words};
+ghost use Rattle.asn1_rs.specs.Whole.{IsWhole, TakesWhole};
 ghost use Rattle.asn1_rs.specs.Structs.{MadeOf};
 ghost use Rattle.asn1_rs.specs.Structs.Data.{struct_of};
 ghost use Rattle.asn1_rs_ldap.specs.Searches.{wanted_of};
+ghost use Rattle.asn1_rs_messages.specs.Callers.{ReadsByBer, WritesStrict};
 
 use crate::Filter;
 use crate::wanted::{Wanted, WantedOf};
 use asn1_rs::{
-    ApplicationImplicit, BerParser, BorrowedRow, Enumerated, Error, Fields, FieldsKind, HasKind,
-    HasReader, LawfulStruct, OctetString, ReadsFieldsByBer, ReadsRow, Row, SerializeResult,
-    StructReader, row_by_ber,
+    ApplicationImplicit, BerParser, BorrowedRow, Enumerated, Error, Fields, FieldsKind, FromBer,
+    Grammar, HasKind, HasReader, LawfulStruct, OctetString, ParseResult, ReadsFieldsByBer,
+    ReadsRow, Row, SerializeResult, StructReader, ToDer, read_ber, read_ber_whole, row_by_ber,
+    strict_vec,
 };
 use std::alloc::Global;
 
@@ -100,4 +105,33 @@ impl<'a> ReadsFieldsByBer<'a> for SearchRequest<'a> {
             Err(e) => Err(e),
         }
     }
+}
+
+/// The search at the front of the octets, by BER, and what follows it.
+pub fn read_search<'a>(alloc: Global, octets: &'a [u8]) -> ParseResult<'a, Search<'a>, Error>
+    ensures { ReadsByBer ⟦<Search<'a> as Grammar>⟧.grammar octets.now (seen result) }
+{
+    read_ber::<Search<'a>, Error>(alloc, octets)
+}
+
+/// The search that all of the octets are, by BER. Refused with `TrailingOctets` where octets follow it.
+pub fn read_search_whole<'a>(alloc: Global, octets: &'a [u8]) -> Result<Search<'a>, Error>
+    ensures exact { IsWhole (ber_words ⟦<Search<'a> as Grammar>⟧.grammar)
+        ⟦<Search<'a> as Grammar>⟧.grammar.value
+        ⟦<Search<'a> as Grammar>⟧.grammar.allocates octets.now result }
+    ensures gives { TakesWhole ⟦<Search<'a> as FromBer<'a, Error>>⟧.ber_gives octets.now
+        result }
+{
+    read_ber_whole::<Search<'a>>(alloc, octets)
+}
+
+/// The one strict encoding of a search in DER form. Where its length fits `usize`, it is refused only when out of
+/// memory.
+pub fn search_vec(alloc: Global, search: &Search<'_>) -> SerializeResult<Vec<u8>>
+    ensures { ⟦<Search<'static> as Grammar>⟧.grammar.IsDer
+        (⟦<Search<'static> as Grammar>⟧.grammar.value search.now) →
+        WritesStrict ⟦<Search<'static> as Grammar>⟧.grammar
+        ⟦<Search<'static> as ToDer>⟧.writing search.now result }
+{
+    strict_vec(alloc, search)
 }
