@@ -1,0 +1,4 @@
+-- What contracts cite.
+pub mod Heap
+pub mod Laws
+pub mod Parts

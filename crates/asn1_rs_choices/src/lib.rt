@@ -1,0 +1,17 @@
+//! Choices of many arms: a choice as an arm of another one.
+//!
+//! The check of a choice takes longer with each arm, and most with those that have a lifetime. So a choice of many arms
+//! is divided in parts, each an enum that is a choice of a few arms. [`OrChoice`] has such a part before the others.
+#![tactic(auto)]
+
+mod arms;
+mod boxed;
+mod checks;
+mod taken;
+mod told;
+
+pub use arms::OrChoice;
+pub use boxed::Boxed;
+pub use checks::{ChecksArms, check_arms};
+pub use taken::TakesWhole;
+pub use told::{TellsArms, ToldChoice};

@@ -1,0 +1,57 @@
+//! Arms that an element converts to, whichever class it is of.
+ghost use Rattle.asn1_rs.specs.Choices.{ChoiceGives, choice_grammar};
+ghost use Rattle.asn1_rs.specs.Choices.Data.{AnswersOf};
+
+use crate::arms::OrChoice;
+use crate::told::ToldChoice;
+use asn1_rs::{Any, ChecksChoice, Error, ReadsChoiceByBer, TakesArms};
+use std::alloc::Global;
+
+/// Arms that an element converts to by BER.
+///
+/// `choice_of_element` of the library converts to the choice itself. Of a choice that has a lifetime, and holds a type
+/// that borrows for it, the borrow checker takes that call only where an impl names the arms. So an author asks for the
+/// arms and makes the choice of them:
+///
+///     match <FilterArms<'a, F> as TakesWhole<'a>>::take_any(alloc, any)? {
+///         OrChoice::This(simple) => Ok(FilterOf::Simple(simple)),
+///         OrChoice::Other(others) => Ok(filter_of(others)),
+///     }
+// The impl is for the type itself: over all arms the borrow checker takes it nowhere.
+pub trait TakesWhole<'a>: TakesArms<'a> {
+    /// The arm that an element is.
+    ///
+    /// Refused with `UnexpectedClass` where no arm has the class of the element, then with `UnexpectedTag` where none
+    /// has its tag number, without an expected one; then as the conversion of the arm is.
+    fn take_any(alloc: Global, any: Any<'a>) -> Result<Self, Error>
+        ensures { AnswersOf (choice_grammar (λ x. x) Self.take_arms) Self.take_arms.tags any.entry
+            result };
+}
+
+/// What the conversion makes of an element.
+fn arms_of<'a, A: TakesArms<'a>>(alloc: Global, any: Any<'a>) -> Result<A, Error>
+    ensures { ChoiceGives A.take_arms.tags (λ x. x) A.arms_take any.entry result }
+{
+    let class = any.header.class();
+    if !A::takes_class(class) {
+        return Err(Error::unexpected_class(None, class));
+    }
+    A::take_arm(alloc, any)
+}
+
+/// The arm that an element is.
+fn arm_of<'a, A: TakesArms<'a>>(alloc: Global, any: Any<'a>) -> Result<A, Error>
+    ensures { AnswersOf (choice_grammar (λ x. x) A.take_arms) A.take_arms.tags any.entry result }
+{
+    arms_of(alloc, any)
+}
+
+impl<'a, C, R> TakesWhole<'a> for OrChoice<C, R>
+where
+    C: ReadsChoiceByBer<'a> + ChecksChoice + ToldChoice,
+    R: TakesArms<'a>,
+{
+    fn take_any(alloc: Global, any: Any<'a>) -> Result<OrChoice<C, R>, Error> {
+        arm_of(alloc, any)
+    }
+}
