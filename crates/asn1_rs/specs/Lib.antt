@@ -33,4 +33,5 @@ pub mod Tagged
 pub mod Structs
 pub mod Choices
 pub mod Whole
+pub mod Callers
 pub mod Laws

@@ -4,7 +4,7 @@ ghost use Rattle.asn1_headers.specs.Answers.{seen};
 ghost use Rattle.asn1_rs.specs.Structs.{MadeOf};
 ghost use Rattle.asn1_rs.specs.Structs.Data.{struct_of};
 ghost use Rattle.asn1_rs.specs.Whole.{IsWhole, TakesWhole};
-ghost use Rattle.asn1_rs_messages.specs.Callers.{ReadsByDer, WritesStrict};
+ghost use Rattle.asn1_rs.specs.Callers.{ReadsByDer, WritesStrict};
 
 use crate::TbsCertificate;
 use asn1_rs::{

@@ -65,11 +65,7 @@ impl<C: LawfulChoice> LawfulChoice for Boxed<C> {
 }
 
 impl<'a, C: ReadsChoiceByBer<'a> + Drop> ReadsChoiceByBer<'a> for Boxed<C> {
-    #[tactic(auto, using(
-        crate::specs::Heap::boxed_taken,
-        crate::specs::Heap::boxed_refused,
-        crate::specs::Heap::boxed_memory
-    ))]
+    #[tactic(auto, using(crate::specs::Heap::boxed_taken, crate::specs::Heap::boxed_refused, crate::specs::Heap::boxed_memory))]
     fn choice_of_any(alloc: Global, any: Any<'a>) -> Result<Boxed<C>, Error> {
         match C::choice_of_any(alloc, any) {
             Ok(value) => Boxed::new(alloc, value),

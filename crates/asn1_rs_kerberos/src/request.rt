@@ -5,7 +5,7 @@ ghost use Rattle.asn1_headers.specs.Answers.{seen};
 ghost use Rattle.asn1_rs.specs.Structs.{MadeOf};
 ghost use Rattle.asn1_rs.specs.Structs.Data.{struct_of};
 ghost use Rattle.asn1_rs_kerberos.specs.Requests.{IsAsReq, IsNoAsReq};
-ghost use Rattle.asn1_rs_messages.specs.Callers.{ReadsByDer, WritesStrict};
+ghost use Rattle.asn1_rs.specs.Callers.{ReadsByDer, WritesStrict};
 
 use crate::{KdcReqBody, PaData, Under};
 use asn1_rs::{

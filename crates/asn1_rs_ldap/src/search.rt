@@ -6,7 +6,7 @@ ghost use Rattle.asn1_rs.specs.Whole.{IsWhole, TakesWhole};
 ghost use Rattle.asn1_rs.specs.Structs.{MadeOf};
 ghost use Rattle.asn1_rs.specs.Structs.Data.{struct_of};
 ghost use Rattle.asn1_rs_ldap.specs.Searches.{wanted_of};
-ghost use Rattle.asn1_rs_messages.specs.Callers.{ReadsByBer, WritesStrict};
+ghost use Rattle.asn1_rs.specs.Callers.{ReadsByBer, WritesStrict};
 
 use crate::Filter;
 use crate::wanted::{Wanted, WantedOf};

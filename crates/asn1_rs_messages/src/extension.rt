@@ -5,7 +5,7 @@ ghost use Rattle.asn1_headers.specs.Answers.{seen};
 ghost use Rattle.asn1_rs.specs.Structs.{MadeOf};
 ghost use Rattle.asn1_rs.specs.Structs.Data.{struct_of};
 ghost use Rattle.asn1_rs.specs.Structs.DefaultTypes.{default_bool, its_own_type};
-ghost use Rattle.asn1_rs_messages.specs.Callers.{ReadsByDer, ReadsByBer, WritesStrict};
+ghost use Rattle.asn1_rs.specs.Callers.{ReadsByDer, ReadsByBer, WritesStrict};
 
 use asn1_rs::{
     BerParser, BorrowedRow, DefaultOf, Defaulted, DerParser, Error, Fields, FieldsKind, Grammar,

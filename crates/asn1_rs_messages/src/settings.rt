@@ -5,7 +5,7 @@ ghost use Rattle.asn1_rs.specs.Structs.{MadeOf};
 ghost use Rattle.asn1_rs.specs.Structs.Data.{struct_of};
 ghost use Rattle.asn1_rs.specs.Structs.DefaultTypes.{default_unsigned, default_signed, default_enumerated, default_empty};
 ghost use Rattle.asn1_rs.specs.Structs.DefaultTypes.{default_explicit, default_implicit, negative_fits, its_own_type};
-ghost use Rattle.asn1_rs_messages.specs.Callers.{ReadsByDer, ReadsByBer};
+ghost use Rattle.asn1_rs.specs.Callers.{ReadsByDer, ReadsByBer};
 
 use asn1_rs::{
     AlwaysDerBy, BerParser, BorrowedRow, DefaultOf, Defaulted, DerParser, DerRow, Enumerated,

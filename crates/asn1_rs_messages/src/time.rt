@@ -3,7 +3,7 @@ ghost use Rattle.std.proofs.Common.{refl};
 ghost use Rattle.asn1_headers.specs.Answers.{seen};
 ghost use Rattle.asn1_rs.specs.Choices.Data.{choice_of, choice_type, numbers_of_choice, choice_numbers};
 ghost use Rattle.asn1_rs.specs.declared.choices.arms.Or.TheVariants as arm;
-ghost use Rattle.asn1_rs_messages.specs.Callers.{ReadsByDer, ReadsByBer, WritesStrict};
+ghost use Rattle.asn1_rs.specs.Callers.{ReadsByDer, ReadsByBer, WritesStrict};
 ghost use Rattle.asn1_rs_messages.specs.declared.time.Time.TheVariants as times;
 
 use asn1_rs::{

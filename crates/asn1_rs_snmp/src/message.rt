@@ -5,7 +5,7 @@ ghost use Rattle.asn1_rs.specs.Structs.Data.{struct_of};
 ghost use Rattle.asn1_headers.specs.Answers.{seen};
 ghost use Rattle.asn1_rs.specs.Grammar.Item.{ber_words};
 ghost use Rattle.asn1_rs.specs.Whole.{IsWhole, TakesWhole};
-ghost use Rattle.asn1_rs_messages.specs.Callers.{ReadsByBer, WritesStrict};
+ghost use Rattle.asn1_rs.specs.Callers.{ReadsByBer, WritesStrict};
 
 use crate::pdus::Pdus;
 use asn1_rs::{

@@ -85,6 +85,7 @@ impl<'a> LawfulChoice for NoticePdus<'a> {
     ])
         ⟦<NoticePdusArms<'a> as Arms>⟧.arm_laws refl };
 
+    #[tactic(auto, using(asn1_rs_choices::specs::Parts::Data::arm_answers))]
     fn with_arm<U: UsesArm>(&self, using: U) -> U::Answer {
         match self {
             NoticePdus::Response(response) => using.use_arm(response),

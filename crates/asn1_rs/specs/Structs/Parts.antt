@@ -4,7 +4,7 @@ use Rattle.std.specs.Prelude.{Result, Ok, Err}
 use Rattle.asn1_headers.specs.declared.error.Error.{Error}
 use Rattle.asn1_rs.specs.Fields.{FieldList, fields_octets}
 use Rattle.asn1_rs.specs.Structs.{EncodingRules, RowGrammar, MadeOf, fields_by}
-use Rattle.asn1_rs.specs.Structs.Data.{LawfulRowOf, AnswersRow}
+use Rattle.asn1_rs.specs.Structs.Data.{LawfulRowOf, LawfulStructOf, AnswersRow, AnswersStruct}
 use Rattle.asn1_rs.specs.Laws.Structs.Rows.{IsLawfulRow}
 use Rattle.asn1_rs.specs.Laws.Structs.Writing.{IsLawfulPuts, octets_by, tells_by, writable_by}
 
@@ -75,3 +75,14 @@ module _ {S T : Type 0} (as_row : T → S) where
   abbrev pub PartGives : EncodingRules → RowGrammar T → (List ℕ → Result S Error → Type 0) → List ℕ → Result T Error →
       Type 0
   PartGives rules R gives octets answer = AnswersRow rules R octets answer × MadeOf as_row gives octets answer
+
+-- A struct that is made of its row is what the row was read as, and a refusal of the row is that of the struct. Where the
+-- search for a proof of `read_fields` does not end, its author names these.
+module _ {T : Type 0} (rules : EncodingRules) (L : LawfulStructOf T) (octets : List ℕ) where
+  pub struct_read : (x : T) → AnswersRow rules L.row.grammar octets (Ok (L.as_row x)) →
+      AnswersStruct rules L octets (Ok x)
+  struct_read x a = a
+
+  pub struct_refused : (e : Error) → AnswersRow rules L.row.grammar octets (Err e) →
+      AnswersStruct rules L octets (Err e)
+  struct_refused e a = a
