@@ -1,7 +1,7 @@
 //! The last three fields of what is signed, which later versions added, as a part of its row.
 ghost use Rattle.asn1_rs.specs.Structs.{by_der, puts_of};
 ghost use Rattle.asn1_rs_certificates.specs.Certificates.{added_of};
-ghost use Rattle.asn1_rs.specs.Structs.Parts.{PartGives, part_of};
+ghost use Rattle.asn1_rs.specs.Structs.PartsOfRows.{PartGives, part_of};
 
 use crate::{Extensions, IssuerUniqueId, SubjectUniqueId, TbsCertificate};
 use asn1_rs::{BorrowedRow, DerParser, Error, Fields, ReadsRow, Row, SerializeResult, row_by_der};
@@ -35,7 +35,7 @@ impl<'a> ReadsRow<'a, DerParser> for Added<'a> {
 
     ghost exact_row = { λ octets answer gives. gives.0 };
 
-    #[tactic(auto, using(asn1_rs::specs::Structs::Parts::part_read, asn1_rs::specs::Structs::Parts::part_refused))]
+    #[tactic(auto, using(asn1_rs::specs::Structs::PartsOfRows::part_read, asn1_rs::specs::Structs::PartsOfRows::part_refused))]
     fn read_row(alloc: Global, octets: &'a [u8]) -> Result<Added<'a>, Error> {
         match row_by_der::<AddedRow<'a>>(alloc, octets) {
             Ok(row) => {

@@ -1,7 +1,7 @@
 //! For whom a certificate is, and the fields behind, as a part of its row.
 ghost use Rattle.asn1_rs.specs.Structs.{by_der, puts_of};
 ghost use Rattle.asn1_rs_certificates.specs.Certificates.{holder_of};
-ghost use Rattle.asn1_rs.specs.Structs.Parts.{PartGives, part_of};
+ghost use Rattle.asn1_rs.specs.Structs.PartsOfRows.{PartGives, part_of};
 
 use crate::added::{Added, AddedOf};
 use crate::{Name, TbsCertificate};
@@ -35,7 +35,7 @@ impl<'a> ReadsRow<'a, DerParser> for Holder<'a> {
 
     ghost exact_row = { λ octets answer gives. gives.0 };
 
-    #[tactic(auto, using(asn1_rs::specs::Structs::Parts::part_read, asn1_rs::specs::Structs::Parts::part_refused))]
+    #[tactic(auto, using(asn1_rs::specs::Structs::PartsOfRows::part_read, asn1_rs::specs::Structs::PartsOfRows::part_refused))]
     fn read_row(alloc: Global, octets: &'a [u8]) -> Result<Holder<'a>, Error> {
         match row_by_der::<HolderRow<'a>>(alloc, octets) {
             Ok(row) => {

@@ -1,7 +1,7 @@
 //! The last six fields of what is asked for, as a part of its row.
 ghost use Rattle.asn1_rs.specs.Structs.{by_der, puts_of};
 ghost use Rattle.asn1_rs_kerberos.specs.Requests.{asked_of};
-ghost use Rattle.asn1_rs.specs.Structs.Parts.{PartGives, part_of};
+ghost use Rattle.asn1_rs.specs.Structs.PartsOfRows.{PartGives, part_of};
 
 use crate::{EncryptedData, HostAddress, KdcReqBody, Ticket, Under};
 use asn1_rs::{
@@ -68,7 +68,7 @@ impl<'a> ReadsRow<'a, DerParser> for Asked<'a> {
 
     ghost exact_row = { λ octets answer gives. gives.0 };
 
-    #[tactic(auto, using(asn1_rs::specs::Structs::Parts::part_read, asn1_rs::specs::Structs::Parts::part_refused))]
+    #[tactic(auto, using(asn1_rs::specs::Structs::PartsOfRows::part_read, asn1_rs::specs::Structs::PartsOfRows::part_refused))]
     fn read_row(alloc: Global, octets: &'a [u8]) -> Result<Asked<'a>, Error> {
         match row_by_der::<AskedRow<'a>>(alloc, octets) {
             Ok(row) => {

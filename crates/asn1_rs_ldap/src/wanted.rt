@@ -1,7 +1,7 @@
 //! What a search wants of which entries, as a part of its row.
 ghost use Rattle.asn1_rs.specs.Structs.{by_ber, puts_of};
 ghost use Rattle.asn1_rs_ldap.specs.Searches.{wanted_of};
-ghost use Rattle.asn1_rs.specs.Structs.Parts.{PartGives, part_of};
+ghost use Rattle.asn1_rs.specs.Structs.PartsOfRows.{PartGives, part_of};
 
 use crate::{Filter, SearchRequest};
 use asn1_rs::{
@@ -34,7 +34,7 @@ impl<'a> ReadsRow<'a, BerParser> for Wanted<'a> {
 
     ghost exact_row = { λ octets answer gives. gives.0 };
 
-    #[tactic(auto, using(asn1_rs::specs::Structs::Parts::part_read, asn1_rs::specs::Structs::Parts::part_refused))]
+    #[tactic(auto, using(asn1_rs::specs::Structs::PartsOfRows::part_read, asn1_rs::specs::Structs::PartsOfRows::part_refused))]
     fn read_row(alloc: Global, octets: &'a [u8]) -> Result<Wanted<'a>, Error> {
         match row_by_ber::<WantedRow<'a>>(alloc, octets) {
             Ok(row) => {

@@ -67,7 +67,7 @@ impl<'a> ReadsFieldsByBer<'a> for Pdu<'a> {
     ghost fields_give_by_ber = { MadeOf ⟦<Pdu<'a> as LawfulStruct>⟧.laws.as_row
         ⟦<PduRow<'a> as ReadsRow<'a, BerParser>>⟧.row_gives };
 
-    #[tactic(auto, using(asn1_rs::specs::Structs::Parts::struct_read, asn1_rs::specs::Structs::Parts::struct_refused))]
+    #[tactic(auto, using(asn1_rs::specs::Structs::PartsOfRows::struct_read, asn1_rs::specs::Structs::PartsOfRows::struct_refused))]
     fn read_fields_by_ber(alloc: Global, octets: &'a [u8]) -> Result<Pdu<'a>, Error> {
         match row_by_ber(alloc, octets) {
             Ok(row) => {
@@ -140,7 +140,7 @@ impl<'a> ReadsFieldsByBer<'a> for BulkPdu<'a> {
     ghost fields_give_by_ber = { MadeOf ⟦<BulkPdu<'a> as LawfulStruct>⟧.laws.as_row
         ⟦<BulkPduRow<'a> as ReadsRow<'a, BerParser>>⟧.row_gives };
 
-    #[tactic(auto, using(asn1_rs::specs::Structs::Parts::struct_read, asn1_rs::specs::Structs::Parts::struct_refused))]
+    #[tactic(auto, using(asn1_rs::specs::Structs::PartsOfRows::struct_read, asn1_rs::specs::Structs::PartsOfRows::struct_refused))]
     fn read_fields_by_ber(alloc: Global, octets: &'a [u8]) -> Result<BulkPdu<'a>, Error> {
         match row_by_ber(alloc, octets) {
             Ok(row) => {
