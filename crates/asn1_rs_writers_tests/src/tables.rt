@@ -2,12 +2,12 @@
 //! there on: std's and a caller's own, from the whole and from its parts, and once more where they are marked.
 
 use asn1_rs::{
-    Any, ApplicationExplicit, ApplicationImplicit, BitString, BmpString, Boolean, Enumerated, Error,
-    Explicit, GeneralString, GeneralizedTime, GraphicString, Header, Ia5String, Implicit, Integer,
-    Null, NumericString, ObjectDescriptor, OctetString, Oid, OptTaggedExplicit, OptTaggedImplicit,
-    PrintableString, PrivateExplicit, PrivateImplicit, Sequence, SequenceOf, Set, SetOf,
-    TaggedExplicit, TaggedImplicit, TaggedParser, TeletexString, UniversalString, UtcTime,
-    Utf8String, VideotexString, VisibleString,
+    Any, ApplicationExplicit, ApplicationImplicit, BitString, BmpString, Boolean, Enumerated,
+    Error, Explicit, GeneralString, GeneralizedTime, GraphicString, Header, Ia5String, Implicit,
+    Integer, Null, NumericString, ObjectDescriptor, OctetString, Oid, OptTaggedExplicit,
+    OptTaggedImplicit, PrintableString, PrivateExplicit, PrivateImplicit, Sequence, SequenceOf,
+    Set, SetOf, TaggedExplicit, TaggedImplicit, TaggedParser, TeletexString, UniversalString,
+    UtcTime, Utf8String, VideotexString, VisibleString,
 };
 use std::alloc::Global;
 use std::collections::{BTreeSet, HashSet};
