@@ -4,6 +4,8 @@
 #[cfg(test)]
 mod alarms;
 #[cfg(test)]
+mod cut;
+#[cfg(test)]
 mod extensions;
 #[cfg(test)]
 mod few_growths;

@@ -9,7 +9,7 @@ use asn1_rs::{
 use std::alloc::Global;
 use std::test::Fail;
 use test_rows::assert_rows;
-use test_values::Says;
+use test_values::{Says, assert_read_cut};
 
 /// A colour, as an octet string of its three parts.
 #[derive(Debug, Drop)]
@@ -96,4 +96,10 @@ raw 300a04030102030403040506
 #[test]
 fn colours_are_read_and_written(rt: HostRuntime) -> Result<(), Fail> {
     assert_rows::<Library>(rt.alloc(), COLOURS)
+}
+
+/// Writers that fail at each place, or take no octet from there on.
+#[test]
+fn writers_of_colours_are_cut(rt: HostRuntime) -> Result<(), Fail> {
+    assert_read_cut::<Colour>(rt.alloc(), &[0x04, 0x03, 0x01, 0x02, 0x03])
 }

@@ -2,86 +2,18 @@
 //! there on: std's and a caller's own, from the whole and from its parts, and once more where they are marked.
 
 use asn1_rs::{
-    Any, BitString, BmpString, Boolean, Enumerated, Error, Explicit, FromDer, GeneralString,
-    GeneralizedTime, GraphicString, Header, Ia5String, Implicit, Integer, Null, NumericString,
-    ObjectDescriptor, OctetString, Oid, OptTaggedExplicit, OptTaggedImplicit, PrintableString,
-    Sequence, SequenceOf, SerializeResult, Set, SetOf, TaggedExplicit, TaggedImplicit,
-    TaggedParser, TeletexString, ToDer, Told, UniversalString, UtcTime, Utf8String, VideotexString,
-    VisibleString,
+    Any, ApplicationExplicit, ApplicationImplicit, BitString, BmpString, Boolean, Enumerated,
+    Error, Explicit, GeneralString, GeneralizedTime, GraphicString, Header, Ia5String, Implicit,
+    Integer, Null, NumericString, ObjectDescriptor, OctetString, Oid, OptTaggedExplicit,
+    OptTaggedImplicit, PrintableString, PrivateExplicit, PrivateImplicit, Sequence, SequenceOf,
+    Set, SetOf, TaggedExplicit, TaggedImplicit, TaggedParser, TeletexString, UniversalString,
+    UtcTime, Utf8String, VideotexString, VisibleString,
 };
 use std::alloc::Global;
 use std::collections::{BTreeSet, HashSet};
-use std::io::ErrorKind;
 use std::test::Fail;
-use test_rows::{Narrow, assert_all, call_and_rows, octets_of, written_out};
-use test_values::{Room, assert_cut, assert_failed, io_kind};
-
-/// The header, and then the contents octets.
-fn put_parts<T: ToDer>(alloc: Global, value: &T, w: &mut Told<Narrow>) -> SerializeResult<usize> {
-    value.write_der_header(alloc, w)?;
-    value.write_der_content(alloc, w)
-}
-
-/// Asserts that a std writer that ends so behind these octets takes them from the parts of a value, and is marked. When
-/// the parts are written again, it takes nothing.
-fn assert_parts_cut_at<T: ToDer>(
-    alloc: Global,
-    value: &T,
-    front: &[u8],
-    end: Option<ErrorKind>,
-) -> Result<(), Fail> {
-    let kind = end.unwrap_or(ErrorKind::WriteZero);
-    let mut w = Told::new(Narrow::new(alloc, front.len(), end)?);
-    let refusal = put_parts(alloc, value, &mut w).err();
-    assert_failed(refusal, kind, &w, front)?;
-    let refusal = put_parts(alloc, value, &mut w).err();
-    assert_failed(refusal, ErrorKind::WriteZero, &w, front)
-}
-
-/// Asserts that a writer of a caller's own that ended so behind these octets takes nothing more of a value.
-fn assert_marked_at<T: ToDer>(
-    alloc: Global,
-    value: &T,
-    front: &[u8],
-    end: Option<ErrorKind>,
-) -> Result<(), Fail> {
-    let mut w = Room::new(front.len(), end);
-    let first = io_kind(value.write_der(alloc, &mut w).err());
-    let again = io_kind(value.write_der(alloc, &mut w).err());
-    let header = io_kind(value.write_der_header(alloc, &mut w).err());
-    let facts = [
-        first == Some(end.unwrap_or(ErrorKind::WriteZero)),
-        again == Some(ErrorKind::WriteZero),
-        header == Some(ErrorKind::WriteZero),
-        w.is_failed() && w.held() == front,
-    ];
-    assert_all("a writer that is marked, but where out of memory", &facts)
-}
-
-/// Asserts how writers of both kinds that end within the octets of a value take its parts, and are marked. A writer of
-/// a caller's own has room for 128 octets.
-fn assert_parts_cut<T: ToDer>(alloc: Global, value: &T, octets: &[u8]) -> Result<(), Fail> {
-    for room in 0..octets.len() {
-        let front = &octets[..room];
-        assert_parts_cut_at(alloc, value, front, Some(ErrorKind::Interrupted))?;
-        assert_parts_cut_at(alloc, value, front, None)?;
-        if room < 128 {
-            assert_marked_at(alloc, value, front, Some(ErrorKind::Interrupted))?;
-            assert_marked_at(alloc, value, front, None)?;
-        }
-    }
-    Ok(())
-}
-
-/// Asserts that a value in DER form is read, and how it is written into writers that end.
-fn assert_read_cut<'a, T: FromDer<'a, Error> + ToDer + Drop>(
-    alloc: Global,
-    octets: &'a [u8],
-) -> Result<(), Fail> {
-    let (_, value) = T::from_der(alloc, octets)?;
-    assert_cut(alloc, &value, octets)?;
-    assert_parts_cut(alloc, &value, octets)
-}
+use test_rows::{call_and_rows, octets_of, written_out};
+use test_values::{assert_all_cut, assert_read_cut};
 
 /// Types by their names.
 trait Types {
@@ -236,6 +168,12 @@ Oid:
 06072a864886f70d01
 06092a864886f70d010105
 
+relative Oid:
+0d00
+0d0100
+0d02c27b
+0d04c27b0302
+
 Any:
 8f021234
 02010a
@@ -262,6 +200,10 @@ impl Types for Leaves {
             "&[u8]" => assert_read_cut::<&[u8]>(alloc, octets),
             "BitString" => assert_read_cut::<BitString<'_>>(alloc, octets),
             "Oid" => assert_read_cut::<Oid<'_>>(alloc, octets),
+            "relative Oid" => {
+                let (_, oid) = Oid::from_der_relative(octets)?;
+                assert_all_cut(alloc, &oid, octets)
+            }
             "Any" => assert_read_cut::<Any<'_>>(alloc, octets),
             "Header" => assert_read_cut::<Header<'_>>(alloc, octets),
             _ => unknown(name),
@@ -469,6 +411,18 @@ bf1f03020105
 Vec 31 u8:
 3006bf1f03020105
 
+application 1 u8:
+6103020105
+
+application 31 Vec u8:
+7f1f053003020105
+
+private 2 u8:
+e203020105
+
+private 2 explicit 0 u8:
+e205a003020105
+
 optional 3 u8:
 -
 a303020105
@@ -487,6 +441,18 @@ impl Types for ExplicitTags {
             "0 u32" => assert_read_cut::<TaggedExplicit<u32, Error, 0>>(alloc, octets),
             "31 u8" => assert_read_cut::<TaggedExplicit<u8, Error, 31>>(alloc, octets),
             "Vec 31 u8" => assert_read_cut::<Vec<TaggedExplicit<u8, Error, 31>>>(alloc, octets),
+            "application 1 u8" => {
+                assert_read_cut::<ApplicationExplicit<u8, Error, 1>>(alloc, octets)
+            }
+            "application 31 Vec u8" => {
+                assert_read_cut::<ApplicationExplicit<Vec<u8>, Error, 31>>(alloc, octets)
+            }
+            "private 2 u8" => assert_read_cut::<PrivateExplicit<u8, Error, 2>>(alloc, octets),
+            "private 2 explicit 0 u8" => {
+                assert_read_cut::<PrivateExplicit<TaggedExplicit<u8, Error, 0>, Error, 2>>(
+                    alloc, octets,
+                )
+            }
             "optional 3 u8" => assert_read_cut::<OptTaggedExplicit<u8, Error, 3>>(alloc, octets),
             "with header u8" => {
                 assert_read_cut::<TaggedParser<'_, Explicit, u8, Error>>(alloc, octets)
@@ -518,6 +484,18 @@ a106020101020102
 1 explicit 0 u8:
 a103020105
 
+application 1 u8:
+410105
+
+application 1 Vec u16:
+6103020105
+
+private 2 Boolean:
+c201ff
+
+private 31 u8:
+df1f0105
+
 optional 3 u8:
 -
 830105
@@ -542,6 +520,16 @@ impl Types for ImplicitTags {
                     alloc, octets,
                 )
             }
+            "application 1 u8" => {
+                assert_read_cut::<ApplicationImplicit<u8, Error, 1>>(alloc, octets)
+            }
+            "application 1 Vec u16" => {
+                assert_read_cut::<ApplicationImplicit<Vec<u16>, Error, 1>>(alloc, octets)
+            }
+            "private 2 Boolean" => {
+                assert_read_cut::<PrivateImplicit<Boolean, Error, 2>>(alloc, octets)
+            }
+            "private 31 u8" => assert_read_cut::<PrivateImplicit<u8, Error, 31>>(alloc, octets),
             "optional 3 u8" => assert_read_cut::<OptTaggedImplicit<u8, Error, 3>>(alloc, octets),
             "with header u8" => {
                 assert_read_cut::<TaggedParser<'_, Implicit, u8, Error>>(alloc, octets)

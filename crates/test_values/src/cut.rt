@@ -51,7 +51,11 @@ pub fn assert_cut<T: ToDer>(alloc: Global, value: &T, octets: &[u8]) -> Result<(
 }
 
 /// The header, and then the contents octets.
-fn put_parts<T: ToDer, W: DerWrite>(alloc: Global, value: &T, w: &mut W) -> SerializeResult<usize> {
+pub(crate) fn put_parts<T: ToDer, W: DerWrite>(
+    alloc: Global,
+    value: &T,
+    w: &mut W,
+) -> SerializeResult<usize> {
     value.write_der_header(alloc, w)?;
     value.write_der_content(alloc, w)
 }

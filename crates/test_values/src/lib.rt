@@ -5,6 +5,7 @@
 mod beginnings;
 mod cut;
 mod growths;
+mod parts;
 mod reading;
 mod room;
 mod says;
@@ -17,6 +18,7 @@ pub use growths::{
     assert_lawful, assert_no_growths, assert_no_memory, assert_read, assert_read_always,
     assert_twice, assert_writings, is_cloned, is_made, is_octets, is_read, is_text, refused,
 };
+pub use parts::{assert_all_cut, assert_read_cut};
 pub use reading::{
     push_by_ber, push_by_der, push_checked, push_converted, push_read_by_ber, push_read_by_der,
     push_shown,
