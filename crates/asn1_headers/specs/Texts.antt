@@ -1,22 +1,12 @@
 -- What people read of refusals.
-use Rattle.std.specs.Prelude.{ℕ, List, [], ◌∷◌, ◌++◌, Option, Some, None, codes, decimal, if◌then◌else◌, nat_eq}
+use Rattle.std.specs.Prelude.{ℕ, List, ◌++◌, Option, Some, None, codes, decimal, if◌then◌else◌, nat_eq}
 use Rattle.std.specs.Fmt.{◌++?◌}
-use Rattle.asn1_headers.specs.Tag.{name_of}
 use Rattle.asn1_headers.specs.declared.class.Class.{Class}
 use Rattle.asn1_headers.specs.declared.class.Class.TheVariants.{Universal, Application, ContextSpecific, Private}
 use Rattle.asn1_headers.specs.declared.error.Err.{Err as Refusal}
 use Rattle.asn1_headers.specs.declared.error.Err.TheVariants.{Incomplete as cut, Error as refused, Failure as failed}
 use Rattle.asn1_headers.specs.declared.error.Needed.{Needed}
 use Rattle.asn1_headers.specs.declared.error.Needed.TheVariants.{Unknown, Size}
-
--- a name in brackets, and nothing for no name
-abbrev pub in_brackets : List ℕ → List ℕ
-in_brackets [] = []
-in_brackets (x ∷ name) = codes " (" ++ (x ∷ name ++ codes ")")
-
--- the number, and behind it in brackets the name of the universal type that has it; no type has 0
-abbrev pub tag_name : ℕ → List ℕ
-tag_name number = if nat_eq number 0 then decimal number else decimal number ++ in_brackets (name_of number)
 
 -- the name of a class in the texts of refusals
 abbrev pub class_name : Class → List ℕ

@@ -10,7 +10,7 @@ ghost use Rattle.asn1_headers.specs.Writer.{MayRefuse};
 use crate::class::Class;
 use crate::message::Message;
 use crate::tag::Tag;
-use crate::texts::{TagName, write_classes, write_tags};
+use crate::texts::{write_classes, write_tags};
 use std::alloc::{AllocError, AllocFailed};
 use std::io;
 use std::str::Utf8Error;
@@ -167,7 +167,7 @@ pub enum Error {
     #[error("invalid length")]
     InvalidLength,
     /// Contents octets that stand for no value of the type with this tag.
-    #[error("invalid value of tag {name}: {msg}", name = TagName(*.tag))]
+    #[error("invalid value of tag number {number}: {msg}", number = .tag.0)]
     InvalidValue {
         tag: Tag,
         msg: Message,
@@ -178,7 +178,7 @@ pub enum Error {
     /// For users; the library never answers this.
     #[error("unknown tag {0}")]
     UnknownTag(u32),
-    /// Another tag number.
+    /// Another tag number. The text tells numbers alone, since the class is not known.
     #[error(fmt = write_tags)]
     UnexpectedTag {
         expected: Option<Tag>,

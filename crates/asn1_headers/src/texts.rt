@@ -1,7 +1,7 @@
-//! What people read of refusals: in lower case, without a full stop, tags by their numbers and names, classes by
-//! their names.
+//! What people read of refusals: in lower case, without a full stop, tags by their numbers, classes by their names. The
+//! class of a tag is not known where it is told of, so the name of a universal type is not said.
 ghost use Rattle.std.specs.Prelude.{Some, codes};
-ghost use Rattle.asn1_headers.specs.Texts.{class_name, needed_text, refusal_text, tag_name, unexpected_text};
+ghost use Rattle.asn1_headers.specs.Texts.{class_name, needed_text, refusal_text, unexpected_text};
 
 use crate::class::{BerClassFromIntError, Class};
 use crate::error::{Err, Needed};
@@ -44,23 +44,6 @@ impl fmt::Display for BerClassFromIntError {
 
 impl std::error::Error for BerClassFromIntError {}
 
-/// A tag number, and behind it the name of the universal type that has it: the class is not known where it is told of.
-#[derive(Drop)]
-pub(crate) struct TagName(pub(crate) Tag);
-
-impl fmt::Display for TagName {
-    ghost output = { λ name. Some (tag_name name.0.0) };
-
-    fn fmt<W: fmt::Write>(&self, f: &mut fmt::Formatter<W>) -> fmt::Result {
-        let tag = self.0;
-        let number = tag.0;
-        match tag.name() {
-            Some(name) if number > 0 => write!(f, "{number} ({name})"),
-            _ => write!(f, "{number}"),
-        }
-    }
-}
-
 /// The name of a class.
 #[derive(Drop)]
 struct ClassName(Class);
@@ -99,7 +82,7 @@ impl<T: fmt::Display> fmt::Display for Unexpected<T> {
     }
 }
 
-/// Writes which tag is expected and which one was found.
+/// Writes which tag number is expected and which one was found.
 pub(crate) fn write_tags<W: fmt::Write>(
     expected: &Option<Tag>,
     actual: &Tag,
@@ -107,8 +90,8 @@ pub(crate) fn write_tags<W: fmt::Write>(
 ) -> fmt::Result {
     let text = Unexpected {
         what: "tag number",
-        expected: expected.map(TagName),
-        actual: TagName(*actual),
+        expected: expected.map(|tag| tag.0),
+        actual: actual.0,
     };
     write!(f, "{text}")
 }

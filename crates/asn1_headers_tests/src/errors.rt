@@ -269,9 +269,9 @@ fn long_texts_of_invalid_values_are_cut(rt: HostRuntime) -> Result<(), Fail> {
     assert_texts(
         rt.alloc(),
         &errors,
-        "invalid value of tag 2 (Integer): a text of exactly 30 octets...\n\
-        invalid value of tag 2 (Integer): a text of more than thirty oct\n\
-        invalid value of tag 2 (Integer): twenty-nine octets before an \n",
+        "invalid value of tag number 2: a text of exactly 30 octets...\n\
+        invalid value of tag number 2: a text of more than thirty oct\n\
+        invalid value of tag number 2: twenty-nine octets before an \n",
     )
 }
 
@@ -313,12 +313,12 @@ const ERRORS: &str = "\
 invalid type
 invalid value
 invalid length
-invalid value of tag 12 (Utf8String): empty part
+invalid value of tag number 12: empty part
 invalid tag
 unknown tag 99
-expected tag number 2 (Integer), found 4 (OctetString)
-expected tag number 2 (Integer), found 31
-unexpected tag number 5 (Null)
+expected tag number 2, found 4
+expected tag number 2, found 31
+unexpected tag number 5
 expected class Universal, found ContextSpecific
 expected class Application, found Private
 unexpected class Private
@@ -411,7 +411,7 @@ const REFUSALS: &str = "\
 1 octet is missing
 5 octets are missing
 octets are missing
-expected tag number 17 (Set), found 16 (Sequence)
+expected tag number 17, found 16
 not supported
 ";
 
@@ -429,7 +429,7 @@ fn refusals_have_texts(rt: HostRuntime) -> Result<(), Fail> {
 
 /// The texts are the library's own.
 const WRITING: &str = "\
-ASN.1 error: unexpected tag number 4 (OctetString)
+ASN.1 error: unexpected tag number 4
 invalid class 4
 invalid length
 I/O error: broken pipe

@@ -18,6 +18,8 @@ mod each_type;
 #[cfg(test)]
 mod embedded_pdv;
 #[cfg(test)]
+mod field_reader;
+#[cfg(test)]
 mod fields;
 #[cfg(test)]
 mod integers;

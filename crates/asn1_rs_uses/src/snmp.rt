@@ -1,6 +1,8 @@
-//! Messages of SNMP (RFC 1157, RFC 1901, RFC 3416), by closures over contents octets.
+//! Messages of SNMP (RFC 1157, RFC 1901, RFC 3416), by closures over contents octets, and by a reader of their fields.
 
-use asn1_rs::{Any, Class, Err, Error, FromBer, OctetString, Oid, ParseResult, Sequence, Tag};
+use asn1_rs::{
+    Any, Class, Err, Error, FieldReader, FromBer, OctetString, Oid, ParseResult, Sequence, Tag,
+};
 use std::alloc::Global;
 
 /// A message of the first version, or of the second with a community.
@@ -38,10 +40,11 @@ fn read_pdu<'a>(alloc: Global, octets: &'a [u8]) -> ParseResult<'a, Pdu<'a>, Err
     let (rest, element) = Any::from_ber(alloc, octets)?;
     element.header.assert_class(Class::ContextSpecific)?;
     let kind = element.tag();
-    let (content, id) = element.parse_ber::<i32, Error>(alloc)?;
-    let (content, _status) = u32::from_ber(alloc, content)?;
-    let (content, _index) = u32::from_ber(alloc, content)?;
-    let (_, bindings) = Sequence::from_ber(alloc, content)?;
+    let mut fields = FieldReader::of_contents(alloc, element.content);
+    let id = fields.next_by_ber()?;
+    let _status: u32 = fields.next_by_ber()?;
+    let _index: u32 = fields.next_by_ber()?;
+    let bindings = fields.next_by_ber()?;
     Ok((rest, Pdu { kind, id, bindings }))
 }
 
