@@ -4,7 +4,7 @@ use Rattle.x690.specs.Arcs.{arcs_text}
 use Rattle.asn1_rs.specs.Oid.{is_relative, oid_octets}
 use Rattle.asn1_rs.specs.Oid.Text.{hex_text}
 use Rattle.asn1_rs.specs.Laws.Oid.Text.{text_of_arcs, text_of_octets}
-use Rattle.asn1_rs.proofs.asn1_types.oid.text.write_text.Goals as goal
+use Rattle.asn1_rs.proofs.asn1_types.oid.text.write_pieces.Goals as goal
 
 pub returns-in-Some : goal.returns-in-Some
 returns-in-Some g c = λ plain ok.
