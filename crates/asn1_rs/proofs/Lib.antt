@@ -1,3 +1,4 @@
+mod IdTexts
 mod JoinedItems
 mod OneItemMore
 mod Lists

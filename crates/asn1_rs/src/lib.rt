@@ -301,3 +301,4 @@ pub use whole::from_der_whole;
 pub use whole::read_ber_whole;
 pub use whole::read_der_whole;
 pub use x690::characters::CharacterCode;
+pub use x690::times::text::ShownText;

@@ -1,13 +1,13 @@
 //! Times of the type GeneralizedTime: how they are read, converted, compared, shown and written (X.690 8.25, 11.7).
 
 use crate::times::{
-    REFUSED, Time, assert_said, assert_writing, element, is_less, push_by_ber, push_by_der,
-    push_converted,
+    REFUSED, Time, assert_said, assert_writing, element, is_less, longest, push_by_ber,
+    push_by_der, push_converted,
 };
-use asn1_rs::{ASN1DateTime, ASN1TimeZone, GeneralizedTime};
+use asn1_rs::{ASN1DateTime, ASN1TimeZone, GeneralizedTime, ShownText};
 use std::alloc::Global;
 use std::test::Fail;
-use test_rows::{Calls, assert_all, assert_rows, assert_texts};
+use test_rows::{Calls, assert_all, assert_rows, assert_text, assert_texts};
 
 /// Texts as contents octets, by BER: the fields that these say of them (X.690 8.25), how they are shown, how many
 /// octets are written, and which (X.690 11.7): identifier and length octets, and the text. An offset is not written.
@@ -127,6 +127,10 @@ impl Time for GeneralizedTime {
     fn fields(&self) -> &ASN1DateTime {
         &self.0
     }
+
+    fn shown(&self) -> ShownText {
+        self.text()
+    }
 }
 
 /// The calls of the table.
@@ -180,6 +184,19 @@ fn milliseconds_are_shown(rt: HostRuntime) -> Result<(), Fail> {
     let expected = "1985-11-06 21:06:27Z\n1985-11-06 21:06:27Z\n1985-11-06 21:06:27.03Z\n\
 1985-11-06 21:06:27.3Z\n1985-11-06 21:06:27.1000Z\n";
     assert_texts(rt.alloc(), &times, expected)
+}
+
+/// Of any fields there is a text, and it has room.
+#[test]
+fn each_time_has_a_text(rt: HostRuntime) -> Result<(), Fail> {
+    let time = GeneralizedTime::new(longest());
+    let expected = "4294967295-255-255 255:255:255.65535-128128";
+    assert_text("text", time.text().as_str(), expected)?;
+    assert_text(
+        "printed",
+        format!(in rt.alloc(); "{time}")?.as_str(),
+        expected,
+    )
 }
 
 #[test]

@@ -81,6 +81,37 @@ Oid::to_id_string:
 65536*81 = 196607 octets, arcs none
 65535*80+05 = 3 octets, arcs 2
 65536*00 = 131073 octets, arcs 65537
+
+Oid::fmt:
+62*00+0a = 128 octets, as to_id_string
+64*00 = 129 octets, as to_id_string
+43*81 = 128 octets, as to_id_string
+44*81 = 131 octets, as to_id_string
+65536*00 = 131073 octets, as to_id_string
+
+Oid::id_text, 5 octets:
+2a03 = Some(\"1.2.3\")
+2a0a = None
+7f = Some(\"2.47\")
+2a030000 = None
+00 = Some(\"0\")
+- = Some(\"\")
+2a82+8*80+00 = None
+
+Oid::id_text, relative, 5 octets:
+c27b = Some(\"8571\")
+020304 = Some(\"2.3.4\")
+c27b03 = None
+- = Some(\"\")
+
+Oid::id_text, 32 octets:
+2a82+8*80+00 = Some(\"2a 82 80 80 80 80 80 80 80 80 00\")
+2a0082+8*80+00 = None
+82+8*80+4f = Some(\"2.18446744073709551615\")
+
+Oid::id_text, no octets:
+- = Some(\"\")
+00 = None
 ";
 
 /// Elements that are read. An absolute one is read at any tag, a relative one at its own.
@@ -257,6 +288,22 @@ fn push_sizes(text: &mut String, alloc: Global, oid: &Oid<'_>) -> Result<(), Fai
     }
 }
 
+/// How many octets `Display` writes, and whether they are the text that is owned.
+fn push_printed(text: &mut String, alloc: Global, oid: &Oid<'_>) -> Result<(), Fail> {
+    let (printed, owned) = (format!(in alloc; "{oid}")?, oid.to_id_string(alloc)?);
+    write!(text, "{} octets", printed.len())?;
+    if printed.as_str() == owned.as_str() {
+        text.push_str(", as to_id_string")?;
+    }
+    Ok(())
+}
+
+/// The text in a buffer of so many octets.
+fn push_in_buffer<const ROOM: usize>(text: &mut String, oid: &Oid<'_>) -> Result<(), Fail> {
+    let mut buffer = [0xff; ROOM];
+    push_debug(text, &oid.id_text(&mut buffer))
+}
+
 /// What an iterator answers that is asked six times.
 fn push_asked(text: &mut String, oid: &Oid<'_>) -> Result<(), Fail> {
     let Some(mut arcs) = oid.iter() else {
@@ -358,6 +405,11 @@ impl Calls for Oids {
             "Oid::new_relative" => push_texts(text, alloc, &relative(octets)),
             "Oid::iter" => push_asked(text, &absolute(octets)),
             "Oid::to_id_string" => push_sizes(text, alloc, &absolute(octets)),
+            "Oid::fmt" => push_printed(text, alloc, &absolute(octets)),
+            "Oid::id_text, 5 octets" => push_in_buffer::<5>(text, &absolute(octets)),
+            "Oid::id_text, relative, 5 octets" => push_in_buffer::<5>(text, &relative(octets)),
+            "Oid::id_text, 32 octets" => push_in_buffer::<32>(text, &absolute(octets)),
+            "Oid::id_text, no octets" => push_in_buffer::<0>(text, &absolute(octets)),
             "Oid::from_der" => push_by_der::<Oid<'_>>(text, alloc, octets),
             "Oid::from_ber" => push_by_ber::<Oid<'_>>(text, alloc, octets),
             "Oid::from_ber_relative" => push_relative_by_ber(text, alloc, octets),

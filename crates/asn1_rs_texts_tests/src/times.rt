@@ -1,8 +1,8 @@
 //! Times: how they are made, read, converted, compared, shown and written (X.690 8.25, 11.8).
 
 use asn1_rs::{
-    ASN1DateTime, ASN1TimeZone, Any, Err, Error, FromBer, FromDer, ParseResult, ToDer, Told,
-    UtcTime, order_of_times,
+    ASN1DateTime, ASN1TimeZone, Any, Err, Error, FromBer, FromDer, ParseResult, ShownText, ToDer,
+    Told, UtcTime, order_of_times,
 };
 use std::alloc::Global;
 use std::fmt::{Display, Write};
@@ -103,18 +103,29 @@ fn push_writing<T: ToDer>(text: &mut String, alloc: Global, value: &T) -> Result
 pub(crate) trait Time: ToDer + Display + Drop {
     /// The fields.
     fn fields(&self) -> &ASN1DateTime;
+
+    /// The text in a value of its own.
+    fn shown(&self) -> ShownText;
 }
 
 impl Time for UtcTime {
     fn fields(&self) -> &ASN1DateTime {
         &self.0
     }
+
+    fn shown(&self) -> ShownText {
+        self.text()
+    }
 }
 
 /// Appends a time: its fields, how it is shown, and how it is written.
 fn push_time<T: Time>(text: &mut String, alloc: Global, time: &T) -> Result<(), Fail> {
     push_fields(text, time.fields())?;
-    write!(text, " shown {time} ")?;
+    let (printed, shown) = (format!(in alloc; "{time}")?, time.shown());
+    write!(text, " shown {} ", shown.as_str())?;
+    if shown.as_str() != printed.as_str() {
+        write!(text, "but printed {printed} ")?;
+    }
     push_writing(text, alloc, time)
 }
 
@@ -301,6 +312,50 @@ fn fields_are_shown(rt: HostRuntime) -> Result<(), Fail> {
     let expected = "19851106210627Z\n19851106210627Z\n00910102030405.03Z\n123451106100\
 0627.1000Z\n";
     assert_texts(rt.alloc(), &times, expected)
+}
+
+/// The time whose text is longest.
+pub(crate) fn longest() -> ASN1DateTime {
+    let west = ASN1TimeZone::Offset(-128, -128);
+    ASN1DateTime::new(4294967295, 255, 255, 255, 255, 255, Some(65535), west)
+}
+
+/// Of any fields there is a text, and it has room.
+#[test]
+fn each_time_has_a_text(rt: HostRuntime) -> Result<(), Fail> {
+    let alloc = rt.alloc();
+    let time = UtcTime::new(longest());
+    let expected = "4294967295-255-255 255:255:255-128128";
+    assert_text("UTCTime", time.text().as_str(), expected)?;
+    let expected = "4294967295255255255255255.65535Z";
+    assert_text("fields", longest().text().as_str(), expected)?;
+    assert_texts(alloc, &[longest()], "4294967295255255255255255.65535Z\n")?;
+    let time = ASN1DateTime::new(0, 0, 0, 0, 0, 0, Some(1), ASN1TimeZone::Z);
+    assert_text("zeros", time.text().as_str(), "00000000000000.001Z")?;
+    assert_texts(alloc, &[time], "00000000000000.001Z\n")
+}
+
+#[test]
+fn each_zone_has_a_text(rt: HostRuntime) -> Result<(), Fail> {
+    let table = [
+        (ASN1TimeZone::Undefined, ""),
+        (ASN1TimeZone::Z, "Z"),
+        (ASN1TimeZone::Offset(0, 0), "+0000"),
+        (ASN1TimeZone::Offset(5, 30), "+0530"),
+        (ASN1TimeZone::Offset(0, -30), "-0030"),
+        (ASN1TimeZone::Offset(-8, 9), "-0809"),
+        (ASN1TimeZone::Offset(-128, -128), "-128128"),
+        (ASN1TimeZone::Offset(127, 127), "+127127"),
+    ];
+    for (zone, expected) in table {
+        assert_text("zone", zone.text().as_str(), expected)?;
+        assert_text(
+            "printed",
+            format!(in rt.alloc(); "{zone}")?.as_str(),
+            expected,
+        )?;
+    }
+    Ok(())
 }
 
 /// A list with a time that is not written appends nothing.

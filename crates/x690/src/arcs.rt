@@ -77,6 +77,14 @@ pub fn arcs_have_one_text()
         → arcs ≡ others }
 {}
 
+/// The text of arcs below 2^64 is not longer than four times the contents octets and two: an arc has three digits at
+/// most for each octet, and a point (X.690 8.19.2, 8.19.4).
+pub fn arc_texts_are_short()
+    ensures { (relative : Bool) (content : List ℕ)
+        → All (λ arc. arc < 2 ^ 64) (arcs_of relative content)
+        → length (arcs_text (arcs_of relative content)) ≤ 4 * length content + 2 }
+{}
+
 /// How many octets the first piece has, where there are octets (X.690 8.19.2). It looks at no octet behind that piece.
 pub fn first_piece_len(octets: &[u8]) -> usize
     requires { 0 < length octets.now }

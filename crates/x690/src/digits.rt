@@ -78,6 +78,14 @@ pub fn count_base_128(number: u32) -> usize
     count_digits::<128>(number as usize)
 }
 
+/// How many digits the number has in base 10, none for 0: at most ten.
+pub fn count_base_10(number: u32) -> usize
+    ensures count { result ≡ length (digits_of 10 number) }
+    ensures few { result ≤ 10 }
+{
+    count_digits::<10>(number as usize)
+}
+
 /// How many strict length octets say this number (X.690 10.1).
 pub fn length_octets_count(n: usize) -> usize
     ensures count { result ≡ length (length_octets n) }

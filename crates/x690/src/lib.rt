@@ -23,8 +23,9 @@ ghost use Rattle.x690.specs.Octets.{IsOctets};
 ghost use Rattle.x690.specs.Laws.Octets.{octets_append};
 
 pub use arcs::{
-    arcs_come_back, arcs_have_one_text, beginnings_have_the_first_arcs, contents_are_pieces,
-    few_octets_have_small_arcs, first_pairs_are_unique, shortest_contents_are_determined,
+    arc_texts_are_short, arcs_come_back, arcs_have_one_text, beginnings_have_the_first_arcs,
+    contents_are_pieces, few_octets_have_small_arcs, first_pairs_are_unique,
+    shortest_contents_are_determined,
 };
 pub use ascending::{ascending_strings_are_in_order, strings_have_one_ascending_arrangement};
 pub use characters::{

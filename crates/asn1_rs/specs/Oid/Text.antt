@@ -1,6 +1,6 @@
 -- The texts of object identifiers: their arcs, or their octets where an arc is too great.
 use Rattle.std.specs.Prelude.{ℕ, ◌/◌, ◌%◌, ◌^◌, Bool, true, false, List, [], ◌∷◌, ◌++◌, map, nat_lt, if◌then◌else◌}
-use Rattle.std.specs.Prelude.{codes}
+use Rattle.std.specs.Prelude.{codes, ◌≡◌, ◌+◌, ◌<◌, ◌≤◌, Option, Some, None, length, take}
 use Rattle.std.specs.List.{list_all, join_with_byte}
 use Rattle.std.specs.Fmt.{digit_glyph}
 use Rattle.x690.specs.Arcs.{arcs_of, arcs_text}
@@ -31,3 +31,10 @@ shown_text false octets = id_text false octets
 -- the same in brackets
 abbrev pub debug_text : Bool → List ℕ → List ℕ
 debug_text relative octets = codes "OID(" ++ shown_text relative octets ++ codes ")"
+
+-- What putting a text behind the first octets of a buffer answers: where the text ends, and then the octets up to there
+-- are the first ones and the text; or nothing, where the buffer has no room for it.
+abbrev pub PutsBehind : ℕ → List ℕ → List ℕ → Option ℕ → List ℕ → Type 0
+PutsBehind at old text (Some end) new =
+    (end ≡ at + length text) × (end ≤ length new) × (take end new ≡ take at old ++ text)
+PutsBehind at old text None new = length old < at + length text

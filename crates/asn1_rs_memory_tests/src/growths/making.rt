@@ -84,17 +84,24 @@ const RSA: [u8; 6] = [0x2a, 0x86, 0x48, 0x86, 0xf7, 0x0d];
 
 const RELATIVE: [u8; 4] = [0xc2, 0x7b, 0x03, 0x02];
 
+/// The text of 33 arcs, which has 131 octets.
+const LONG_TEXT: &str = "\
+127.127.127.127.127.127.127.127.127.127.127.127.127.127.127.127.127.127.127.127.127.127.\
+127.127.127.127.127.127.127.127.127.127.127";
+
 impl Attempts for Oids {
     fn seen(alloc: Global, name: &str) -> Option<bool> {
         let relative = Oid::new_relative(CowSlice::Borrowed(&RELATIVE));
         // An arc that is not complete is shown by octets.
         let cut = Oid::new_relative(CowSlice::Borrowed(&[0xff; 10]));
+        let long = Oid::new_relative(CowSlice::Borrowed(&[0x7f; 33]));
         match name {
             "from" => is_oid(Oid::from(alloc, &[2, u64::MAX]), &LONG),
             "from_str" => is_oid(Oid::from_str(alloc, "1.2.840.113549"), &RSA),
             "from_relative" => is_oid(Oid::from_relative(alloc, &[8571, 3, 2]), &RELATIVE),
             "to_owned" => is_oid(relative.to_owned(alloc), &RELATIVE),
             "to_id_string" => is_text(relative.to_id_string(alloc), "8571.3.2"),
+            "to_id_string, long" => is_text(long.to_id_string(alloc), LONG_TEXT),
             "to_id_string, octets" => {
                 is_text(cut.to_id_string(alloc), "ff ff ff ff ff ff ff ff ff ff")
             }
@@ -106,7 +113,12 @@ impl Attempts for Oids {
 #[test]
 fn identifiers_are_refused_for_want_of_memory(rt: HostRuntime) -> Result<(), Fail> {
     let made = ["from", "from_str", "from_relative"];
-    let copied = ["to_owned", "to_id_string", "to_id_string, octets"];
+    let copied = [
+        "to_owned",
+        "to_id_string",
+        "to_id_string, long",
+        "to_id_string, octets",
+    ];
     assert_attempts::<Oids>(rt.alloc(), &made)?;
     assert_attempts::<Oids>(rt.alloc(), &copied)
 }

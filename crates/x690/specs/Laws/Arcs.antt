@@ -2,6 +2,7 @@
 pub mod Beginnings
 pub mod Fronts
 pub mod Runs
+pub mod TextLengths
 pub mod Texts
 use Rattle.std.proofs.Common.{◌≡◌, ◌≢◌, ℕ, suc, zero, ◌+◌, ◌*◌, ◌<◌, ◌≤◌, Bool, true, false, List, [], ◌∷◌, ◌++◌, ◌⊎◌}
 use Rattle.std.proofs.Common.{map, length-append, subst, length, take, drop, get_or, refl, ap, sym, ◌∙◌, arith, inl}
@@ -74,7 +75,7 @@ pieces_joined [] = refl
 pieces_joined (octet ∷ octets) = joined_more octet octets (pieces_joined octets) (cases_lt octet 128)
 
 -- no piece is empty
-abbrev IsSome : List ℕ → Type 0
+abbrev pub IsSome : List ℕ → Type 0
 IsSome piece = piece ≢ []
 
 some_in_front : (octet : ℕ) (pieces : List (List ℕ)) → All IsSome pieces → All IsSome (in_front octet pieces)
@@ -89,7 +90,7 @@ some_more octet octets a (inl h) =
 some_more octet octets a (inr h) =
     subst (All IsSome) (sym (more_piece octet octets h)) (some_in_front octet (pieces_of octets) a)
 
-pieces_some : (content : List ℕ) → All IsSome (pieces_of content)
+pub pieces_some : (content : List ℕ) → All IsSome (pieces_of content)
 pieces_some [] = All-nil IsSome
 pieces_some (octet ∷ octets) = some_more octet octets (pieces_some octets) (cases_lt octet 128)
 

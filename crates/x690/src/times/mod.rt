@@ -2,6 +2,7 @@
 
 pub mod reading;
 pub mod shown;
+pub mod text;
 pub mod writing;
 
 ghost use Rattle.x690.specs.Times.{zone_cmp};

@@ -1,8 +1,8 @@
 //! How times are shown.
-ghost use Rattle.std.specs.Prelude.{◌≡◌, ◌++◌, [], Some};
-ghost use Rattle.x690.specs.Times.{fraction_text, is_west, offset_text, zone_text, calendar_text, utc_time_shown};
-ghost use Rattle.x690.specs.Times.{generalized_time_shown, moment_text};
+ghost use Rattle.std.specs.Prelude.{◌≡◌, ◌≤◌, [], length, Some};
+ghost use Rattle.x690.specs.Times.{is_west, zone_text, utc_time_shown, generalized_time_shown, moment_text};
 
+use super::text::ShownText;
 use super::{Moment, TimeZone};
 use std::fmt;
 
@@ -14,33 +14,6 @@ pub struct ShownUtcTime<'a>(pub &'a Moment);
 #[derive(Clone, Copy, Debug)]
 pub struct ShownGeneralizedTime<'a>(pub &'a Moment);
 
-/// Milliseconds, where there are some.
-#[derive(Clone, Copy)]
-struct Fraction(Option<u16>);
-
-impl fmt::Display for Fraction {
-    ghost output = { λ x. Some (fraction_text x.0) };
-
-    fn fmt<W: fmt::Write>(&self, f: &mut fmt::Formatter<W>) -> fmt::Result {
-        let m = self.0.unwrap_or(0);
-        if m == 0 {
-            return Ok(());
-        }
-        if m > 999 {
-            return write!(f, ".{m}");
-        }
-        if m % 100 == 0 {
-            let tenths = m / 100;
-            return write!(f, ".{tenths}");
-        }
-        if m % 10 == 0 {
-            let hundredths = m / 10;
-            return write!(f, ".{hundredths:02}");
-        }
-        write!(f, ".{m:03}")
-    }
-}
-
 /// Whether an offset is to the west, and so shown with the sign minus.
 pub fn is_west(hours: i8, minutes: i8) -> bool
     ensures { result ≡ is_west hours minutes }
@@ -48,19 +21,15 @@ pub fn is_west(hours: i8, minutes: i8) -> bool
     hours < 0 || (hours == 0 && minutes < 0)
 }
 
-/// Hours and minutes ahead of UTC.
-#[derive(Clone, Copy)]
-struct Offset(i8, i8);
-
-impl fmt::Display for Offset {
-    ghost output = { λ x. Some (offset_text x.0 x.1) };
-
-    fn fmt<W: fmt::Write>(&self, f: &mut fmt::Formatter<W>) -> fmt::Result {
-        let (hours, minutes) = (self.0.unsigned_abs(), self.1.unsigned_abs());
-        if is_west(self.0, self.1) {
-            return write!(f, "-{hours:02}{minutes:02}");
-        }
-        write!(f, "+{hours:02}{minutes:02}")
+impl TimeZone {
+    /// The text that `Display` prints: `+hhmm`, `-hhmm`, Z, or nothing where no zone is defined. It takes no memory.
+    pub fn text(&self) -> ShownText
+        ensures text { result ≡ zone_text [] self.now }
+        ensures short { length result ≤ 43 }
+    {
+        let mut text = ShownText::new();
+        text.push_zone(*self);
+        text
     }
 }
 
@@ -68,31 +37,24 @@ impl fmt::Display for TimeZone {
     ghost output = { λ zone. Some (zone_text [] zone) };
 
     fn fmt<W: fmt::Write>(&self, f: &mut fmt::Formatter<W>) -> fmt::Result {
-        match *self {
-            TimeZone::Undefined => Ok(()),
-            TimeZone::Z => write!(f, "Z"),
-            TimeZone::Offset(hours, minutes) => {
-                let offset = Offset(hours, minutes);
-                write!(f, "{offset}")
-            }
-        }
+        f.write_str(self.text().as_str())
     }
 }
 
-/// The fields from the year to the second.
-#[derive(Clone, Copy)]
-struct Calendar<'a>(&'a Moment);
-
-impl<'a> fmt::Display for Calendar<'a> {
-    ghost output = { λ x. Some (calendar_text x.0.now) };
-
-    fn fmt<W: fmt::Write>(&self, f: &mut fmt::Formatter<W>) -> fmt::Result {
-        let (year, month, day) = (self.0.year, self.0.month, self.0.day);
-        let (hour, minute, second) = (self.0.hour, self.0.minute, self.0.second);
-        write!(
-            f,
-            "{year:04}-{month:02}-{day:02} {hour:02}:{minute:02}:{second:02}"
-        )
+impl ShownUtcTime<'_> {
+    /// The text that `Display` prints. It takes no memory.
+    pub fn text(&self) -> ShownText
+        ensures text { result ≡ utc_time_shown self.now.0.now }
+        ensures short { length result ≤ 43 }
+    {
+        let mut text = ShownText::new();
+        text.push_calendar(self.0);
+        let zone = match self.0.zone {
+            TimeZone::Undefined => TimeZone::Z,
+            zone => zone,
+        };
+        text.push_zone(zone);
+        text
     }
 }
 
@@ -100,12 +62,21 @@ impl<'a> fmt::Display for ShownUtcTime<'a> {
     ghost output = { λ x. Some (utc_time_shown x.0.now) };
 
     fn fmt<W: fmt::Write>(&self, f: &mut fmt::Formatter<W>) -> fmt::Result {
-        let calendar = Calendar(self.0);
-        let zone = match self.0.zone {
-            TimeZone::Undefined => TimeZone::Z,
-            zone => zone,
-        };
-        write!(f, "{calendar}{zone}")
+        f.write_str(self.text().as_str())
+    }
+}
+
+impl ShownGeneralizedTime<'_> {
+    /// The text that `Display` prints. It takes no memory.
+    pub fn text(&self) -> ShownText
+        ensures text { result ≡ generalized_time_shown self.now.0.now }
+        ensures short { length result ≤ 43 }
+    {
+        let mut text = ShownText::new();
+        text.push_calendar(self.0);
+        text.push_fraction(self.0.millisecond);
+        text.push_zone(self.0.zone);
+        text
     }
 }
 
@@ -113,10 +84,21 @@ impl<'a> fmt::Display for ShownGeneralizedTime<'a> {
     ghost output = { λ x. Some (generalized_time_shown x.0.now) };
 
     fn fmt<W: fmt::Write>(&self, f: &mut fmt::Formatter<W>) -> fmt::Result {
-        let calendar = Calendar(self.0);
-        let fraction = Fraction(self.0.millisecond);
-        let zone = self.0.zone;
-        write!(f, "{calendar}{fraction}{zone}")
+        f.write_str(self.text().as_str())
+    }
+}
+
+impl Moment {
+    /// The text that `Display` prints. It takes no memory.
+    pub fn text(&self) -> ShownText
+        ensures text { result ≡ moment_text self.now }
+        ensures short { length result ≤ 43 }
+    {
+        let mut text = ShownText::new();
+        text.push_fields(self);
+        text.push_fraction(self.millisecond);
+        text.push(b'Z');
+        text
     }
 }
 
@@ -125,12 +107,6 @@ impl fmt::Display for Moment {
     ghost output = { λ m. Some (moment_text m) };
 
     fn fmt<W: fmt::Write>(&self, f: &mut fmt::Formatter<W>) -> fmt::Result {
-        let (year, month, day) = (self.year, self.month, self.day);
-        let (hour, minute, second) = (self.hour, self.minute, self.second);
-        let fraction = Fraction(self.millisecond);
-        write!(
-            f,
-            "{year:04}{month:02}{day:02}{hour:02}{minute:02}{second:02}{fraction}Z"
-        )
+        f.write_str(self.text().as_str())
     }
 }

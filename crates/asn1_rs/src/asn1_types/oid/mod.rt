@@ -5,6 +5,7 @@
 //! first check is its tag number: an identifier looks at none.
 
 mod arcs;
+mod buffer;
 pub mod iterator;
 pub(crate) mod making;
 pub(crate) mod relative;

@@ -1,5 +1,6 @@
 //! The texts of object identifiers.
-ghost use Rattle.std.specs.Prelude.{◌≡◌, ◌∷◌, Some, IfOk, IfErr, decimal, string_bytes};
+ghost use Rattle.std.specs.Prelude.{◌≡◌, ◌↔◌, ◌+◌, ◌*◌, ◌≤◌, ◌∷◌, length, Some, IfSome, IsSome, IfOk, IfErr, decimal};
+ghost use Rattle.std.specs.Prelude.{string_bytes};
 ghost use Rattle.std.specs.Fmt.{WritesOnOk};
 ghost use Rattle.x690.specs.Arcs.{arcs_text};
 ghost use Rattle.asn1_headers.specs.declared.error.Error.TheVariants as errors;
@@ -8,31 +9,66 @@ ghost use Rattle.asn1_rs.specs.Oid.Arcs.{arcs_left};
 ghost use Rattle.asn1_rs.specs.Oid.Text.{debug_text, hex_octet, hex_text, id_text, shown_text};
 
 use crate::asn1_types::oid::Oid;
+use crate::asn1_types::oid::buffer::put_text;
 use crate::asn1_types::oid::iterator::SubIdentifierIterator;
+use crate::laws::in_hand::octets_in_hand;
 use asn1_headers::error::Error;
 use itoa::Buffer;
 use std::alloc::Global;
 use std::fmt;
 
 impl Oid<'_> {
-    /// The arcs in decimal, with points between them. Where an arc is 2^64 or more, the contents octets in hexadecimal,
-    /// with spaces between them.
+    /// The text of the identifier in a buffer: the arcs in decimal, with points between them. Where an arc is 2^64 or
+    /// more, it is the contents octets in hexadecimal, with spaces between them.
+    ///
+    /// `None` exactly where the buffer is shorter than the text. It takes no memory: four octets for each contents
+    /// octet, and two more, are room enough.
+    pub fn id_text<'b>(&self, buffer: &'b mut [u8]) -> Option<&'b str>
+        ensures text { IfSome result (λ text.
+            text.now ≡ id_text (is_relative self.now) (oid_octets self.now)) }
+        ensures exact { IsSome result ↔
+            (length (id_text (is_relative self.now) (oid_octets self.now)) ≤ length buffer.old) }
+        ensures room { length (id_text (is_relative self.now) (oid_octets self.now)) ≤
+            4 * length (oid_octets self.now) + 2 }
+    {
+        octets_in_hand(self.as_bytes());
+        let end = put_text(self, buffer)?;
+        Some(str::from_utf8(&buffer[..end]).unwrap())
+    }
+
+    /// The text of [`Oid::id_text`], in memory of its own.
     ///
     /// Refused only when out of memory, with `OutOfMemory`.
-    // The writer of `Display` over one `String`, whose room is found beforehand: so both have one text, and `Display`
-    // asks for no memory.
     pub fn to_id_string(&self, alloc: Global) -> Result<String, Error>
         ensures text { IfOk result (λ text.
             string_bytes text ≡ id_text (is_relative self.now) (oid_octets self.now)) }
         ensures refused { IfErr result (λ e. e ≡ errors.OutOfMemory) }
     {
-        let room = self.as_bytes().len().saturating_mul(4).saturating_add(2);
-        let mut f = fmt::Formatter::new(String::with_capacity(alloc, room)?);
-        match write_text(self, &mut f) {
-            Ok(()) => Ok(f.into_inner()),
-            Err(_) => Err(Error::OutOfMemory),
+        let mut buffer = [0; 128];
+        match self.id_text(&mut buffer) {
+            Some(text) => Ok(String::from_str(alloc, text)?),
+            None => long_text(self, alloc),
         }
     }
+}
+
+/// The text, put into memory that has room for it.
+fn long_text(oid: &Oid<'_>, alloc: Global) -> Result<String, Error>
+    ensures text { IfOk result (λ text.
+        string_bytes text ≡ id_text (is_relative oid.now) (oid_octets oid.now)) }
+    ensures refused { IfErr result (λ e. e ≡ errors.OutOfMemory) }
+{
+    let octets = oid.as_bytes();
+    octets_in_hand(octets);
+    if octets.len() >= usize::MAX / 4 {
+        return Err(Error::OutOfMemory);
+    }
+    let mut buffer = vec![in alloc; 0u8; 4 * octets.len() + 2]?;
+    let Some(end) = put_text(oid, &mut buffer) else {
+        unreachable!()
+    };
+    buffer.truncate(end);
+    Ok(String::from_utf8(buffer).unwrap())
 }
 
 /// Writes an arc in decimal.
@@ -100,14 +136,26 @@ fn write_octets<W: fmt::Write>(octets: &[u8], f: &mut fmt::Formatter<W>) -> fmt:
     Ok(())
 }
 
-/// Writes the text that [`Oid::to_id_string`] answers.
-fn write_text<W: fmt::Write>(oid: &Oid<'_>, f: &mut fmt::Formatter<W>) -> fmt::Result
+/// Writes the text piece by piece.
+fn write_pieces<W: fmt::Write>(oid: &Oid<'_>, f: &mut fmt::Formatter<W>) -> fmt::Result
     ensures { WritesOnOk W.write_str_gives f.old result
         (id_text (is_relative oid.now) (oid_octets oid.now)) f.new }
 {
     match oid.iter() {
         Some(arcs) => write_arcs(arcs, f),
         None => write_octets(oid.as_bytes(), f),
+    }
+}
+
+/// Writes the text that [`Oid::id_text`] answers: at once where the buffer has room for it.
+fn write_text<W: fmt::Write>(oid: &Oid<'_>, f: &mut fmt::Formatter<W>) -> fmt::Result
+    ensures { WritesOnOk W.write_str_gives f.old result
+        (id_text (is_relative oid.now) (oid_octets oid.now)) f.new }
+{
+    let mut buffer = [0; 128];
+    match oid.id_text(&mut buffer) {
+        Some(text) => f.write_str(text),
+        None => write_pieces(oid, f),
     }
 }
 
@@ -122,7 +170,7 @@ fn write_shown<W: fmt::Write>(oid: &Oid<'_>, f: &mut fmt::Formatter<W>) -> fmt::
     write_text(oid, f)
 }
 
-/// The text that [`Oid::to_id_string`] answers, behind `rel. ` where it is of a relative identifier.
+/// The text that [`Oid::id_text`] answers, behind `rel. ` where it is of a relative identifier.
 impl fmt::Display for Oid<'_> {
     ghost output = { λ x. Some (shown_text (is_relative x) (oid_octets x)) };
 

@@ -1,5 +1,5 @@
 //! GeneralizedTime (X.690 8.25, 11.7).
-ghost use Rattle.std.specs.Prelude.{◌≡◌, Some};
+ghost use Rattle.std.specs.Prelude.{◌≡◌, ◌≤◌, length, Some};
 ghost use Rattle.x690.specs.Times.{generalized_time_shown, generalized_time_text};
 ghost use Rattle.asn1_rs.specs.Any.{parts_of};
 ghost use Rattle.asn1_rs.specs.Leaf.{LeafGives};
@@ -28,6 +28,7 @@ use std::cmp::Ordering;
 use std::fmt;
 use x690::times::reading::read_generalized_time;
 use x690::times::shown::ShownGeneralizedTime;
+use x690::times::text::ShownText;
 use x690::times::writing::write_generalized_time;
 
 /// A time of the type GeneralizedTime (X.690 8.25).
@@ -71,13 +72,23 @@ impl GeneralizedTime {
     }
 }
 
+impl GeneralizedTime {
+    /// The text that `Display` prints, whatever the fields are. It takes no memory.
+    pub fn text(&self) -> ShownText
+        ensures text { result ≡ generalized_time_shown (moment_of self.now.0) }
+        ensures short { length result ≤ 43 }
+    {
+        ShownGeneralizedTime(&self.0.moment()).text()
+    }
+}
+
 /// `YYYY-MM-DD hh:mm:ss`, the milliseconds as a fraction without zeros at its end, and the zone: `Z`, an offset, or
 /// none where none is defined.
 impl fmt::Display for GeneralizedTime {
     ghost output = { λ t. Some (generalized_time_shown (moment_of t.0)) };
 
     fn fmt<W: fmt::Write>(&self, f: &mut fmt::Formatter<W>) -> fmt::Result {
-        ShownGeneralizedTime(&self.0.moment()).fmt(f)
+        f.write_str(self.text().as_str())
     }
 }
 

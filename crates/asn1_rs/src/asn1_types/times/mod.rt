@@ -1,5 +1,5 @@
 //! Times (X.690 8.25, 11.7, 11.8).
-ghost use Rattle.std.specs.Prelude.{◌≡◌, ◌<◌, ◌^◌, Some};
+ghost use Rattle.std.specs.Prelude.{◌≡◌, ◌<◌, ◌≤◌, ◌^◌, length, Some};
 ghost use Rattle.x690.specs.Times.{MostMilliseconds, moment_text};
 ghost use Rattle.asn1_rs.specs.Checks.{but_text};
 ghost use Rattle.asn1_rs.specs.Leaf.{HaveOneRefusalUpTo};
@@ -18,6 +18,7 @@ use asn1_headers::tag::Tag;
 use std::cmp::Ordering;
 use std::fmt;
 use x690::sets::{Visible, all_in};
+use x690::times::text::ShownText;
 use x690::times::{Moment, TimeZone};
 
 /// The fields of a time. A caller may make any; which of them are read and written, the types of times say.
@@ -113,13 +114,23 @@ impl ASN1DateTime {
     }
 }
 
+impl ASN1DateTime {
+    /// The text that `Display` prints, whatever the fields are. It takes no memory.
+    pub fn text(&self) -> ShownText
+        ensures text { result ≡ moment_text (moment_of self.now) }
+        ensures short { length result ≤ 43 }
+    {
+        self.moment().text()
+    }
+}
+
 /// The fields alone: `YYYYMMDDhhmmss`, the milliseconds as a fraction without zeros at its end, and `Z`, whatever the
 /// zone is.
 impl fmt::Display for ASN1DateTime {
     ghost output = { λ d. Some (moment_text (moment_of d)) };
 
     fn fmt<W: fmt::Write>(&self, f: &mut fmt::Formatter<W>) -> fmt::Result {
-        self.moment().fmt(f)
+        f.write_str(self.text().as_str())
     }
 }
 

@@ -1,5 +1,5 @@
 //! UTCTime (X.690 8.25, 11.8).
-ghost use Rattle.std.specs.Prelude.{◌≡◌, Some};
+ghost use Rattle.std.specs.Prelude.{◌≡◌, ◌≤◌, length, Some};
 ghost use Rattle.x690.specs.Times.{utc_time_shown, utc_time_text};
 ghost use Rattle.asn1_rs.specs.Any.{parts_of};
 ghost use Rattle.asn1_rs.specs.Checks.{nothing};
@@ -26,6 +26,7 @@ use std::cmp::Ordering;
 use std::fmt;
 use x690::times::reading::read_utc_time;
 use x690::times::shown::ShownUtcTime;
+use x690::times::text::ShownText;
 use x690::times::writing::write_utc_time;
 
 /// A time of the type UTCTime, whose year is that in its century: from 0 to 99, as it was read (X.690 8.25).
@@ -68,12 +69,22 @@ impl UtcTime {
     }
 }
 
+impl UtcTime {
+    /// The text that `Display` prints, whatever the fields are. It takes no memory.
+    pub fn text(&self) -> ShownText
+        ensures text { result ≡ utc_time_shown (moment_of self.now.0) }
+        ensures short { length result ≤ 43 }
+    {
+        ShownUtcTime(&self.0.moment()).text()
+    }
+}
+
 /// `YYYY-MM-DD hh:mm:ss` and the zone: `Z`, also where none is defined, or the offset.
 impl fmt::Display for UtcTime {
     ghost output = { λ t. Some (utc_time_shown (moment_of t.0)) };
 
     fn fmt<W: fmt::Write>(&self, f: &mut fmt::Formatter<W>) -> fmt::Result {
-        ShownUtcTime(&self.0.moment()).fmt(f)
+        f.write_str(self.text().as_str())
     }
 }
 
