@@ -3,6 +3,7 @@
 pub mod Data
 pub mod Defaults
 pub mod DefaultTypes
+pub mod Members
 pub mod Types
 use Rattle.std.specs.Prelude.{◌≡◌, ◌⊎◌, ◌||◌, ◌&&◌, ℕ, Bool, true, false, IsTrue, List, [], ◌∷◌, ◌++◌}
 use Rattle.std.specs.Prelude.{Option, Some, None, Result, Ok, Err, nat_eq, not, MatchResult}

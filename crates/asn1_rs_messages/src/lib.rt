@@ -21,7 +21,8 @@ pub use extension::{
     read_extension_by_ber,
 };
 pub use measurement::{
-    Measurement, MeasurementRow, measurement_vec, read_measurement, read_measurement_by_ber,
+    Measurement, MeasurementRow, measurement_set_vec, measurement_vec, read_measurement,
+    read_measurement_by_ber, read_measurement_set,
 };
 pub use public_key::{
     AlgorithmIdentifier, AlgorithmRow, PublicKeyRow, SubjectPublicKeyInfo, public_key_vec,
