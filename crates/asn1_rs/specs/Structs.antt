@@ -3,6 +3,7 @@
 pub mod Data
 pub mod Defaults
 pub mod DefaultTypes
+pub mod Members
 pub mod PartsOfRows
 pub mod Types
 use Rattle.std.specs.Prelude.{◌≡◌, ◌⊎◌, ◌||◌, ◌&&◌, ℕ, Bool, true, false, IsTrue, List, [], ◌∷◌, ◌++◌}

@@ -276,6 +276,8 @@ pub use structs::field::FieldIsDer;
 pub use structs::field::FieldType;
 pub use structs::field::LawfulType;
 pub use structs::field::ReadsField;
+pub use structs::members::MemberRow;
+pub use structs::members::MemberType;
 pub use structs::numbers::ToldByNumber;
 pub use structs::row::BorrowedRow;
 pub use structs::row::DerRow;

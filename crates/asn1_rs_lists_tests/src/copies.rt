@@ -1,12 +1,15 @@
 //! Copies that outlive what they were read from.
 
 use asn1_rs::{
-    Class, Error, FromBer, FromDer, Header, Length, Sequence, Set, Tag, ToDer, ToStatic,
+    ASN1DateTime, ASN1TimeZone, BitString, Boolean, Class, Enumerated, Error, FromBer, FromDer,
+    GeneralizedTime, Header, Ia5String, Integer, Length, Never, Null, OctetString, Oid, Or,
+    Sequence, SequenceOf, Set, SetOf, Tag, TaggedExplicit, TaggedImplicit, ToDer, ToStatic,
+    UtcTime,
 };
 use std::alloc::Global;
 use std::borrow::{CowSlice, CowStr};
 use std::test::Fail;
-use test_rows::assert_shown;
+use test_rows::{assert_all, assert_shown};
 
 /// A copy of the header that begins the octets, which are gone then.
 fn copied_header(alloc: Global, octets: Vec<u8>) -> Result<Header<'static>, Error> {
@@ -86,4 +89,61 @@ fn what_holds_values_is_copied(rt: HostRuntime) -> Result<(), Fail> {
         &(1usize.to_static(alloc), (-1isize).to_static(alloc)),
         "(Ok(1), Ok(-1))",
     )
+}
+
+/// Whether the copy of a value that borrows nothing is equal to it.
+fn is_copied<T: ToStatic<Owned = T> + PartialEq + Drop + 'static>(
+    alloc: Global,
+    source: &T,
+) -> Result<bool, Error> {
+    let copy = source.to_static(alloc)?;
+    Ok(copy == *source)
+}
+
+#[test]
+fn values_of_elements_are_copied(rt: HostRuntime) -> Result<(), Fail> {
+    let alloc = rt.alloc();
+    let zone = ASN1TimeZone::Offset(1, 30);
+    let time = ASN1DateTime::new(2026, 11, 28, 1, 2, 3, Some(4), zone);
+    let facts = [
+        is_copied(alloc, &OctetString::new(&[1, 2]))?,
+        is_copied(alloc, &Integer::new(&[0x80, 0]))?,
+        is_copied(alloc, &BitString::new(3, &[8]))?,
+        is_copied(alloc, &Oid::new(CowSlice::Borrowed(&[0x55, 4])))?,
+        is_copied(alloc, &Oid::new_relative(CowSlice::Borrowed(&[4])))?,
+        is_copied(alloc, &Ia5String::new("ab"))?,
+        is_copied(alloc, &Boolean::new(7))?,
+        is_copied(alloc, &Enumerated::new(9))?,
+        is_copied(alloc, &Null::new())?,
+        is_copied(alloc, &UtcTime::new(time.to_static(alloc)?))?,
+        is_copied(alloc, &GeneralizedTime::new(time))?,
+        (&[1u8, 2][..]).to_static(alloc)? == OctetString::new(&[1, 2]),
+    ];
+    assert_all("values of elements", &facts)
+}
+
+/// A value under a tag of each kind.
+type Explicit = TaggedExplicit<OctetString<'static>, Error, 0>;
+
+/// The same under an implicit one.
+type Implicit = TaggedImplicit<OctetString<'static>, Error, 0>;
+
+#[test]
+fn rows_lists_and_values_under_tags_are_copied(rt: HostRuntime) -> Result<(), Fail> {
+    let alloc = rt.alloc();
+    let items = || Vec::from_slice(alloc, &[3u8, 1, 2]);
+    let arms = (
+        Or::<u8, Or<bool, Never, 0>, 0>::This(1).to_static(alloc),
+        Or::<u8, Or<bool, Never, 0>, 0>::Other(Or::This(true)).to_static(alloc),
+    );
+    let facts = [
+        is_copied(alloc, &SequenceOf::new(items()?))?,
+        is_copied(alloc, &SetOf::new(items()?))?,
+        is_copied(alloc, &Explicit::explicit(OctetString::new(&[1])))?,
+        is_copied(alloc, &Implicit::implicit(OctetString::new(&[1])))?,
+        is_copied(alloc, &(OctetString::new(&[1]), (7u8, ())))?,
+        matches!(arms.0, Ok(Or::This(1))),
+        matches!(arms.1, Ok(Or::Other(Or::This(true)))),
+    ];
+    assert_all("what holds values", &facts)
 }

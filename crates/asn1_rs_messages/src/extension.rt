@@ -1,7 +1,10 @@
 //! An extension of a certificate (RFC 5280, 4.1), with a field that has a default, by both rules, borrowed from the
 //! octets.
+ghost use Rattle.std.specs.Prelude.{◌≡◌, IfOk, IfErr};
 ghost use Rattle.std.proofs.Common.{false, refl};
 ghost use Rattle.asn1_headers.specs.Answers.{seen};
+ghost use Rattle.asn1_headers.specs.declared.error.Error.TheVariants as errors;
+ghost use Rattle.asn1_rs.specs.Copies.{copied_by};
 ghost use Rattle.asn1_rs.specs.Structs.{MadeOf};
 ghost use Rattle.asn1_rs.specs.Structs.Data.{struct_of};
 ghost use Rattle.asn1_rs.specs.Structs.DefaultTypes.{default_bool, its_own_type};
@@ -10,7 +13,7 @@ ghost use Rattle.asn1_rs.specs.Callers.{ReadsByDer, ReadsByBer, WritesStrict};
 use asn1_rs::{
     BerParser, BorrowedRow, DefaultOf, Defaulted, DerParser, Error, Fields, FieldsKind, Grammar,
     HasKind, HasReader, LawfulStruct, OctetString, Oid, ParseResult, ReadsFields, ReadsFieldsByBer,
-    ReadsRow, Row, SerializeResult, StructReader, ToDer, read_ber, read_der, row_by_ber,
+    ReadsRow, Row, SerializeResult, StructReader, ToDer, ToStatic, read_ber, read_der, row_by_ber,
     row_by_der, strict_vec,
 };
 use std::alloc::Global;
@@ -111,6 +114,28 @@ impl<'a> ReadsFieldsByBer<'a> for Extension<'a> {
     }
 }
 
+/// The copy owns its octets, and has the fields of its source.
+impl<'a> ToStatic for Extension<'a> {
+    type Owned = Extension<'static>;
+
+    ghost copies = { copied_by ⟦<Extension<'a> as LawfulStruct>⟧.laws.as_row
+        ⟦<ExtensionRow<'static> as ToStatic>⟧.copies };
+
+    fn to_static(&self, alloc: Global) -> Result<Extension<'static>, Error> {
+        match (&self.id, (&self.critical, (&self.value, ()))).to_static(alloc) {
+            Ok(row) => {
+                let (id, (critical, (value, ()))) = row;
+                Ok(Extension {
+                    id,
+                    critical,
+                    value,
+                })
+            }
+            Err(e) => Err(e),
+        }
+    }
+}
+
 /// The extension at the front of the octets, by DER, and what follows it.
 pub fn read_extension<'a>(alloc: Global, octets: &'a [u8]) -> ParseResult<'a, Extension<'a>, Error>
     ensures { ReadsByDer ⟦<Extension<'a> as Grammar>⟧.grammar octets.now (seen result) }
@@ -137,4 +162,14 @@ pub fn extension_vec(alloc: Global, extension: &Extension<'_>) -> SerializeResul
         ⟦<Extension<'static> as ToDer>⟧.writing extension.now result }
 {
     strict_vec(alloc, extension)
+}
+
+/// A copy of an extension, which outlives the octets that it was read from: it has the same value. Refused only when out
+/// of memory.
+pub fn kept_extension(alloc: Global, extension: &Extension<'_>) -> Result<Extension<'static>, Error>
+    ensures copied { IfOk result (λ copy. ⟦<Extension<'static> as Grammar>⟧.grammar.value copy ≡
+        ⟦<Extension<'static> as Grammar>⟧.grammar.value extension.now) }
+    ensures refused { IfErr result (λ e. e ≡ errors.OutOfMemory) }
+{
+    extension.to_static(alloc)
 }

@@ -17,10 +17,12 @@ mod validity;
 
 pub use alarm::{Alarm, AlarmRow, Muted, alarm_vec, read_alarm, read_alarm_by_ber};
 pub use extension::{
-    Extension, ExtensionRow, NotCritical, extension_vec, read_extension, read_extension_by_ber,
+    Extension, ExtensionRow, NotCritical, extension_vec, kept_extension, read_extension,
+    read_extension_by_ber,
 };
 pub use measurement::{
-    Measurement, MeasurementRow, measurement_vec, read_measurement, read_measurement_by_ber,
+    Measurement, MeasurementRow, measurement_set_vec, measurement_vec, read_measurement,
+    read_measurement_by_ber, read_measurement_set,
 };
 pub use public_key::{
     AlgorithmIdentifier, AlgorithmRow, PublicKeyRow, SubjectPublicKeyInfo, public_key_vec,

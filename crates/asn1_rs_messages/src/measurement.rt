@@ -3,15 +3,17 @@ ghost use Rattle.std.proofs.Common.{refl};
 ghost use Rattle.asn1_headers.specs.Answers.{seen};
 ghost use Rattle.asn1_rs.specs.Structs.{MadeOf};
 ghost use Rattle.asn1_rs.specs.Structs.Data.{struct_of};
+ghost use Rattle.asn1_rs.specs.Structs.Members.{struct_members};
 ghost use Rattle.asn1_rs.specs.Callers.{ReadsByDer, ReadsByBer, WritesStrict};
 
 use asn1_rs::{
     AlwaysDer, AlwaysDerBy, BerParser, BorrowedRow, DerParser, DerRow, Error, Fields, FieldsKind,
-    Grammar, HasKind, HasReader, LawfulStruct, ParseResult, ReadsFields, ReadsFieldsByBer,
-    ReadsRow, Row, SerializeResult, StructReader, ToDer, read_ber, read_der, row_by_ber,
-    row_by_der, strict_vec,
+    Grammar, HasKind, HasReader, LawfulMember, LawfulStruct, MemberRow, MemberType, ParseResult,
+    ReadsFields, ReadsFieldsByBer, ReadsRow, Row, SerializeResult, StructReader, ToDer, read_ber,
+    read_der, row_by_ber, row_by_der, strict_vec,
 };
 use std::alloc::Global;
+use std::collections::BTreeSet;
 
 /// What was measured at a place, and how wrong it may be.
 ///
@@ -19,7 +21,7 @@ use std::alloc::Global;
 ///         place  INTEGER,
 ///         value  INTEGER,
 ///         error  INTEGER OPTIONAL }
-#[derive(Debug, PartialEq, Eq, Drop)]
+#[derive(Debug, PartialEq, Eq, PartialOrd, Ord, Drop)]
 pub struct Measurement {
     pub place: u32,
     pub value: u64,
@@ -95,6 +97,17 @@ impl AlwaysDerBy<FieldsKind> for Measurement {
     }
 }
 
+/// Measurements are equal exactly where their values are, since their fields are.
+impl MemberType for Measurement {
+    ghost member_laws = { struct_members ⟦<Measurement as LawfulStruct>⟧.laws.as_row
+        ⟦<MeasurementRow as MemberRow>⟧.row_members };
+}
+
+/// So they may be members of a set.
+impl LawfulMember for Measurement {
+    ghost same = { ⟦<Measurement as MemberType>⟧.member_laws.same };
+}
+
 /// The measurement at the front of the octets, by DER, and what follows it.
 pub fn read_measurement(alloc: Global, octets: &[u8]) -> ParseResult<'_, Measurement, Error>
     ensures { ReadsByDer ⟦<Measurement as Grammar>⟧.grammar octets.now (seen result) }
@@ -116,4 +129,27 @@ pub fn measurement_vec(alloc: Global, measurement: &Measurement) -> SerializeRes
 {
     measurement.is_der();
     strict_vec(alloc, measurement)
+}
+
+/// The set of measurements at the front of the octets, by DER, and what follows it. Of equal ones it has one.
+pub fn read_measurement_set(
+    alloc: Global,
+    octets: &[u8],
+) -> ParseResult<'_, BTreeSet<Measurement>, Error>
+    ensures { ReadsByDer ⟦<BTreeSet<Measurement> as Grammar>⟧.grammar octets.now (seen result) }
+{
+    read_der::<BTreeSet<Measurement>, Error>(alloc, octets)
+}
+
+/// The one strict encoding of a set of measurements. Where its length fits `usize`, it is refused only when out of
+/// memory.
+pub fn measurement_set_vec(
+    alloc: Global,
+    measurements: &BTreeSet<Measurement>,
+) -> SerializeResult<Vec<u8>>
+    ensures { WritesStrict ⟦<BTreeSet<Measurement> as Grammar>⟧.grammar
+        ⟦<BTreeSet<Measurement> as ToDer>⟧.writing measurements.now result }
+{
+    measurements.is_der();
+    strict_vec(alloc, measurements)
 }

@@ -1,11 +1,13 @@
 //! Extensions of certificates (RFC 5280, 4.1, 4.2.1.3 and 4.2.1.9).
 
 use crate::shown::assert_beginnings;
-use asn1_rs_messages::{Extension, extension_vec, read_extension, read_extension_by_ber};
+use asn1_rs_messages::{
+    Extension, extension_vec, kept_extension, read_extension, read_extension_by_ber,
+};
 use std::alloc::Global;
 use std::fmt::Write;
 use std::test::Fail;
-use test_rows::{Calls, assert_rows, push_debug, push_digits};
+use test_rows::{Calls, assert_all, assert_rows, octets_of, push_debug, push_digits};
 
 /// The identifier, whether it is critical, the octets of the value, and what is written again: the use of a key, and
 /// constraints, which do not say that they are critical, say it, and say that they are not.
@@ -57,4 +59,28 @@ fn push_extension(text: &mut String, alloc: Global, extension: &Extension<'_>) -
 #[test]
 fn extensions_are_read_and_written(rt: HostRuntime) -> Result<(), Fail> {
     assert_rows::<Reads>(rt.alloc(), EXTENSIONS)
+}
+
+/// A copy of the extension that the octets are. The octets are gone when it is answered.
+fn kept(alloc: Global, digits: &str) -> Result<Extension<'static>, Fail> {
+    let octets = octets_of(alloc, digits)?;
+    let (_, extension) = read_extension(alloc, octets.as_slice())?;
+    Ok(kept_extension(alloc, &extension)?)
+}
+
+/// Whether it has a copy that is written as these octets.
+fn is_kept(alloc: Global, digits: &str) -> Result<bool, Fail> {
+    let written = extension_vec(alloc, &kept(alloc, digits)?)?;
+    Ok(written.as_slice() == octets_of(alloc, digits)?.as_slice())
+}
+
+/// The use of a key, which is critical, and constraints, which are not.
+#[test]
+fn copies_of_extensions_outlive_their_octets(rt: HostRuntime) -> Result<(), Fail> {
+    let alloc = rt.alloc();
+    let facts = [
+        is_kept(alloc, "300e0603551d0f0101ff0404030205a0")?,
+        is_kept(alloc, "30090603551d1304023000")?,
+    ];
+    assert_all("copies of extensions", &facts)
 }

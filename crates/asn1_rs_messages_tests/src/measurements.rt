@@ -1,10 +1,14 @@
 //! Measurements by both rules.
 
 use crate::shown::{assert_beginnings, push_answer};
-use asn1_rs_messages::{Measurement, measurement_vec, read_measurement, read_measurement_by_ber};
+use asn1_rs_messages::{
+    Measurement, measurement_set_vec, measurement_vec, read_measurement, read_measurement_by_ber,
+    read_measurement_set,
+};
 use std::alloc::Global;
+use std::fmt::Write;
 use std::test::Fail;
-use test_rows::{Calls, assert_rows, assert_shown};
+use test_rows::{Calls, assert_rows, assert_shown, push_debug, push_digits};
 
 /// Two numbers and one that may be left out (X.690 8.3, 8.9).
 ///
@@ -51,4 +55,39 @@ fn a_measurement_made_by_hand_is_written(rt: HostRuntime) -> Result<(), Fail> {
     };
     let expected = "Ok([48, 10, 2, 1, 1, 2, 2, 1, 44, 2, 1, 5])";
     assert_shown(alloc, &measurement_vec(alloc, &measurement), expected)
+}
+
+/// Sets of measurements, and what is written of them: in ascending order of the encodings (X.690 11.6), and of equal
+/// members one. The shorter encoding has the smaller octet of length, so it stands first.
+///
+/// Refused: an item that is no measurement.
+const SETS: &str = "\
+set:
+3100 = 0 written 3100
+310e300c0201010201020201030101ff = Error(DerConstraintFailed(TrailingOctets))
+31133009020101020102020103300602010102010a = 2 written 3113300602010102010a3009020101020102020103
+31103006020102020101300602010102010a = 2 written 3110300602010102010a3006020102020101
+3110300602010102010a300602010102010a = 1 written 3108300602010102010a
+3103020105 = Error(UnexpectedTag { expected: Some(Tag(16)), actual: Tag(2) })
+";
+
+/// The calls of the table of sets.
+struct ReadsSets;
+
+impl Calls for ReadsSets {
+    fn answer(text: &mut String, alloc: Global, _name: &str, octets: &[u8]) -> Result<(), Fail> {
+        match read_measurement_set(alloc, octets) {
+            Ok((_, set)) => {
+                write!(text, "{} written ", set.len())?;
+                let written = measurement_set_vec(alloc, &set)?;
+                push_digits(text, written.as_slice())
+            }
+            Err(refusal) => push_debug(text, &refusal),
+        }
+    }
+}
+
+#[test]
+fn sets_of_measurements_are_read_and_written(rt: HostRuntime) -> Result<(), Fail> {
+    assert_rows::<ReadsSets>(rt.alloc(), SETS)
 }

@@ -6,3 +6,4 @@ pub mod Writing
 pub mod Structs
 pub mod Readers
 pub mod Defaults
+pub mod Members

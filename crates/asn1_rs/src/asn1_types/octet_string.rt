@@ -40,6 +40,13 @@ impl<'a> OctetString<'a> {
         }
     }
 
+    /// The octet string of these octets, as they are held.
+    pub(crate) const fn of_cow(octets: CowSlice<'a, u8, Global>) -> Self
+        ensures { cow_of result ≡ octets.entry }
+    {
+        OctetString { octets }
+    }
+
     /// The octets, as they are held.
     pub const fn as_cow(&self) -> &CowSlice<'a, u8, Global>
         ensures { result.now ≡ cow_of self.now }

@@ -13,6 +13,7 @@
 
 pub(crate) mod defaulted;
 pub(crate) mod field;
+pub(crate) mod members;
 pub(crate) mod numbers;
 pub(crate) mod row;
 pub(crate) mod types;

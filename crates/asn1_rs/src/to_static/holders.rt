@@ -3,8 +3,14 @@ ghost use Rattle.std.specs.Prelude.{◌≡◌, IfOk, IfErr, true};
 ghost use Rattle.std.specs.List.{AllZip};
 ghost use Rattle.asn1_headers.specs.declared.error.Error.TheVariants as errors;
 ghost use Rattle.asn1_rs.specs.Copies.{CopiesHeld};
+ghost use Rattle.asn1_rs.specs.Sequence.SequenceOf.{sequence_items};
+ghost use Rattle.asn1_rs.specs.Set.{items_of};
 
 use super::ToStatic;
+use crate::asn1_types::sequence::sequence_of::SequenceOf;
+use crate::asn1_types::set::set_of::SetOf;
+use crate::asn1_types::tagged::TaggedValue;
+use crate::structs::defaulted::Defaulted;
 use asn1_headers::error::Error;
 use std::alloc::Global;
 
@@ -86,5 +92,69 @@ where
 
     fn to_static(&self, alloc: Global) -> Result<Vec<T::Owned>, Error> {
         copied_items(alloc, self.as_slice())
+    }
+}
+
+/// The items of the copy are copies of the items, in their order.
+impl<T> ToStatic for SequenceOf<T>
+where
+    T: ToStatic,
+    T::Owned: Drop,
+{
+    type Owned = SequenceOf<T::Owned>;
+
+    ghost copies = { λ source copy. AllZip T.copies (sequence_items source) (sequence_items copy) };
+
+    fn to_static(&self, alloc: Global) -> Result<SequenceOf<T::Owned>, Error> {
+        Ok(SequenceOf::new(copied_items::<T>(alloc, self.as_slice())?))
+    }
+}
+
+/// The items of the copy are copies of the items, in the order in hand.
+impl<T> ToStatic for SetOf<T>
+where
+    T: ToStatic,
+    T::Owned: Drop,
+{
+    type Owned = SetOf<T::Owned>;
+
+    ghost copies = { λ source copy. AllZip T.copies (items_of source) (items_of copy) };
+
+    fn to_static(&self, alloc: Global) -> Result<SetOf<T::Owned>, Error> {
+        Ok(SetOf::new(copied_items::<T>(alloc, self.as_slice())?))
+    }
+}
+
+/// The copy is under the same tag.
+impl<T, E, Kind, const CLASS: u8, const TAG: u32> ToStatic for TaggedValue<T, E, Kind, CLASS, TAG>
+where
+    T: ToStatic,
+    E: 'static,
+    Kind: 'static,
+{
+    type Owned = TaggedValue<T::Owned, E, Kind, CLASS, TAG>;
+
+    ghost copies = { λ source copy. T.copies source.inner copy.inner };
+
+    ghost copy_allocates = { T.copy_allocates };
+
+    fn to_static(
+        &self,
+        alloc: Global,
+    ) -> Result<TaggedValue<T::Owned, E, Kind, CLASS, TAG>, Error> {
+        Ok(TaggedValue::of_kind(self.as_inner().to_static(alloc)?))
+    }
+}
+
+/// The copy has the same default.
+impl<T: ToStatic, D: 'static> ToStatic for Defaulted<T, D> {
+    type Owned = Defaulted<T::Owned, D>;
+
+    ghost copies = { λ source copy. T.copies source.value copy.value };
+
+    ghost copy_allocates = { T.copy_allocates };
+
+    fn to_static(&self, alloc: Global) -> Result<Defaulted<T::Owned, D>, Error> {
+        Ok(Defaulted::of(self.value.to_static(alloc)?))
     }
 }

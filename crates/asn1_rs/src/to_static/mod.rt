@@ -4,6 +4,8 @@ ghost use Rattle.asn1_headers.specs.declared.error.Error.TheVariants as errors;
 
 mod holders;
 mod octets;
+mod plain;
+mod rows;
 
 use asn1_headers::error::Error;
 use std::alloc::Global;

@@ -2,11 +2,21 @@
 ghost use Rattle.std.specs.Prelude.{◌≡◌, string_bytes, IfOk, IfErr, option_copied, option_map};
 ghost use Rattle.std.specs.Cow.{cow_slice_items, cow_str_bytes};
 ghost use Rattle.asn1_headers.specs.declared.error.Error.TheVariants as errors;
+ghost use Rattle.asn1_rs.specs.BitString.{bits_in};
 ghost use Rattle.asn1_rs.specs.Copies.{IsCopyOfHeader};
+ghost use Rattle.asn1_rs.specs.Integer.Octets.{integer_octets};
 ghost use Rattle.asn1_rs.specs.Kept.{kept_octets};
+ghost use Rattle.asn1_rs.specs.OctetString.{octets_of};
+ghost use Rattle.asn1_rs.specs.Oid.{oid_value};
+ghost use Rattle.asn1_rs.specs.Strings.{text_of};
 
 use super::ToStatic;
+use crate::asn1_types::bit_string::BitString;
+use crate::asn1_types::integer::octets::Integer;
 use crate::asn1_types::kept::Kept;
+use crate::asn1_types::octet_string::OctetString;
+use crate::asn1_types::oid::Oid;
+use crate::asn1_types::strings::RestrictedString;
 use asn1_headers::error::Error;
 use asn1_headers::header::Header;
 use std::alloc::Global;
@@ -100,5 +110,74 @@ impl<K: 'static> ToStatic for Kept<'_, K> {
 
     fn to_static(&self, alloc: Global) -> Result<Kept<'static, K>, Error> {
         Ok(Kept::new(owned_octets(alloc, self.as_bytes())?))
+    }
+}
+
+/// The copy owns its octets.
+impl ToStatic for OctetString<'_> {
+    type Owned = OctetString<'static>;
+
+    ghost copies = { λ source copy. octets_of copy ≡ octets_of source };
+
+    fn to_static(&self, alloc: Global) -> Result<OctetString<'static>, Error> {
+        Ok(OctetString::of_cow(owned_octets(alloc, self.as_bytes())?))
+    }
+}
+
+/// The copy of borrowed octets is an octet string, as which they are read and written.
+impl ToStatic for &[u8] {
+    type Owned = OctetString<'static>;
+
+    ghost copies = { λ source copy. octets_of copy ≡ source.now };
+
+    fn to_static(&self, alloc: Global) -> Result<OctetString<'static>, Error> {
+        Ok(OctetString::of_cow(owned_octets(alloc, *self)?))
+    }
+}
+
+/// The copy owns its contents octets.
+impl ToStatic for Integer<'_> {
+    type Owned = Integer<'static>;
+
+    ghost copies = { λ source copy. integer_octets copy ≡ integer_octets source };
+
+    fn to_static(&self, alloc: Global) -> Result<Integer<'static>, Error> {
+        Ok(Integer::of_cow(owned_octets(alloc, self.as_bytes())?))
+    }
+}
+
+/// The copy owns its octets, of which as many bits are unused.
+impl ToStatic for BitString<'_> {
+    type Owned = BitString<'static>;
+
+    ghost copies = { λ source copy. bits_in copy ≡ bits_in source };
+
+    fn to_static(&self, alloc: Global) -> Result<BitString<'static>, Error> {
+        Ok(BitString {
+            unused_bits: self.unused_bits,
+            content: owned_octets(alloc, self.as_bytes())?,
+        })
+    }
+}
+
+/// The copy owns its contents octets, and is of the same kind.
+impl ToStatic for Oid<'_> {
+    type Owned = Oid<'static>;
+
+    ghost copies = { λ source copy. oid_value copy ≡ oid_value source };
+
+    fn to_static(&self, alloc: Global) -> Result<Oid<'static>, Error> {
+        self.to_owned(alloc)
+    }
+}
+
+/// The copy owns its text.
+impl<K: 'static, F: 'static> ToStatic for RestrictedString<'_, K, F> {
+    type Owned = RestrictedString<'static, K, F>;
+
+    ghost copies = { λ source copy. text_of copy ≡ text_of source };
+
+    fn to_static(&self, alloc: Global) -> Result<RestrictedString<'static, K, F>, Error> {
+        Ok(RestrictedString::from(owned_text(alloc, self.as_str())?))
     }
 }

@@ -47,6 +47,13 @@ impl<'a> Integer<'a> {
         }
     }
 
+    /// The integer of these contents octets, as they are held.
+    pub(crate) const fn of_cow(octets: CowSlice<'a, u8, Global>) -> Self
+        ensures { octets_held result ≡ octets.entry }
+    {
+        Integer { octets }
+    }
+
     /// A universal, primitive element of its contents octets, which the header counts.
     pub fn any(&'a self) -> Any<'a>
         ensures header { HasParts result.header classes.Universal false

@@ -123,6 +123,16 @@ impl<T, E, const CLASS: u8, const TAG: u32> TaggedValue<T, E, Implicit, CLASS, T
 }
 
 impl<T, E, Kind, const CLASS: u8, const TAG: u32> TaggedValue<T, E, Kind, CLASS, TAG> {
+    /// The value under a tag of this kind.
+    pub(crate) const fn of_kind(inner: T) -> Self
+        ensures { result.inner ≡ inner }
+    {
+        TaggedValue {
+            inner,
+            of_types: PhantomData,
+        }
+    }
+
     /// The value, without its tag.
     pub fn into_inner(self) -> T
         ensures { result ≡ self.inner }
