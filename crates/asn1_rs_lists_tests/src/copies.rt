@@ -6,7 +6,7 @@ use asn1_rs::{
     Sequence, SequenceOf, Set, SetOf, Tag, TaggedExplicit, TaggedImplicit, ToDer, ToStatic,
     UtcTime,
 };
-use std::alloc::Global;
+use std::alloc::{AllocError, Global};
 use std::borrow::{CowSlice, CowStr};
 use std::test::Fail;
 use test_rows::{assert_all, assert_shown};
@@ -94,56 +94,100 @@ fn what_holds_values_is_copied(rt: HostRuntime) -> Result<(), Fail> {
 /// Whether the copy of a value that borrows nothing is equal to it.
 fn is_copied<T: ToStatic<Owned = T> + PartialEq + Drop + 'static>(
     alloc: Global,
-    source: &T,
+    source: T,
 ) -> Result<bool, Error> {
     let copy = source.to_static(alloc)?;
-    Ok(copy == *source)
+    Ok(copy == source)
 }
 
 #[test]
-fn values_of_elements_are_copied(rt: HostRuntime) -> Result<(), Fail> {
+fn values_with_octets_are_copied(rt: HostRuntime) -> Result<(), Fail> {
+    let alloc = rt.alloc();
+    let octets: &[u8] = &[1, 2];
+    let copy = octets.to_static(alloc)?;
+    let facts = [
+        copy.as_bytes() == octets,
+        is_copied(alloc, OctetString::new(&[1, 2]))?,
+        is_copied(alloc, Integer::new(&[0x80, 0]))?,
+        is_copied(alloc, BitString::new(3, &[8]))?,
+    ];
+    assert_all("values with octets", &facts)
+}
+
+#[test]
+fn identifiers_and_strings_are_copied(rt: HostRuntime) -> Result<(), Fail> {
+    let alloc = rt.alloc();
+    let facts = [
+        is_copied(alloc, Oid::new(CowSlice::Borrowed(&[0x55, 4])))?,
+        is_copied(alloc, Oid::new_relative(CowSlice::Borrowed(&[4])))?,
+        is_copied(alloc, Ia5String::new("ab"))?,
+    ];
+    assert_all("identifiers and strings", &facts)
+}
+
+#[test]
+fn values_without_octets_are_copied(rt: HostRuntime) -> Result<(), Fail> {
     let alloc = rt.alloc();
     let zone = ASN1TimeZone::Offset(1, 30);
     let time = ASN1DateTime::new(2026, 11, 28, 1, 2, 3, Some(4), zone);
+    let copy = time.to_static(alloc)?;
     let facts = [
-        is_copied(alloc, &OctetString::new(&[1, 2]))?,
-        is_copied(alloc, &Integer::new(&[0x80, 0]))?,
-        is_copied(alloc, &BitString::new(3, &[8]))?,
-        is_copied(alloc, &Oid::new(CowSlice::Borrowed(&[0x55, 4])))?,
-        is_copied(alloc, &Oid::new_relative(CowSlice::Borrowed(&[4])))?,
-        is_copied(alloc, &Ia5String::new("ab"))?,
-        is_copied(alloc, &Boolean::new(7))?,
-        is_copied(alloc, &Enumerated::new(9))?,
-        is_copied(alloc, &Null::new())?,
-        is_copied(alloc, &UtcTime::new(time.to_static(alloc)?))?,
-        is_copied(alloc, &GeneralizedTime::new(time))?,
-        (&[1u8, 2][..]).to_static(alloc)? == OctetString::new(&[1, 2]),
+        is_copied(alloc, Boolean::new(7))?,
+        is_copied(alloc, Enumerated::new(9))?,
+        is_copied(alloc, Null::new())?,
+        is_copied(alloc, UtcTime::new(copy))?,
+        is_copied(alloc, GeneralizedTime::new(time))?,
     ];
-    assert_all("values of elements", &facts)
+    assert_all("values without octets", &facts)
 }
 
-/// A value under a tag of each kind.
+/// A value under an explicit tag.
 type Explicit = TaggedExplicit<OctetString<'static>, Error, 0>;
 
 /// The same under an implicit one.
 type Implicit = TaggedImplicit<OctetString<'static>, Error, 0>;
 
+/// A row of two fields.
+type Row = (OctetString<'static>, (u8, ()));
+
 #[test]
-fn rows_lists_and_values_under_tags_are_copied(rt: HostRuntime) -> Result<(), Fail> {
+fn rows_and_values_under_tags_are_copied(rt: HostRuntime) -> Result<(), Fail> {
     let alloc = rt.alloc();
-    let items = || Vec::from_slice(alloc, &[3u8, 1, 2]);
-    let arms = (
-        Or::<u8, Or<bool, Never, 0>, 0>::This(1).to_static(alloc),
-        Or::<u8, Or<bool, Never, 0>, 0>::Other(Or::This(true)).to_static(alloc),
-    );
+    let row: Row = (OctetString::new(&[1]), (7, ()));
     let facts = [
-        is_copied(alloc, &SequenceOf::new(items()?))?,
-        is_copied(alloc, &SetOf::new(items()?))?,
-        is_copied(alloc, &Explicit::explicit(OctetString::new(&[1])))?,
-        is_copied(alloc, &Implicit::implicit(OctetString::new(&[1])))?,
-        is_copied(alloc, &(OctetString::new(&[1]), (7u8, ())))?,
-        matches!(arms.0, Ok(Or::This(1))),
-        matches!(arms.1, Ok(Or::Other(Or::This(true)))),
+        is_copied(alloc, Explicit::explicit(OctetString::new(&[1])))?,
+        is_copied(alloc, Implicit::implicit(OctetString::new(&[1])))?,
+        is_copied(alloc, row)?,
     ];
-    assert_all("what holds values", &facts)
+    assert_all("rows and values under tags", &facts)
+}
+
+/// A list of numbers.
+fn numbers(alloc: Global) -> Result<Vec<u8>, AllocError> {
+    Vec::from_slice(alloc, &[3, 1, 2])
+}
+
+#[test]
+fn lists_and_sets_are_copied(rt: HostRuntime) -> Result<(), Fail> {
+    let alloc = rt.alloc();
+    let facts = [
+        is_copied(alloc, SequenceOf::new(numbers(alloc)?))?,
+        is_copied(alloc, SetOf::new(numbers(alloc)?))?,
+    ];
+    assert_all("lists and sets", &facts)
+}
+
+/// Two arms of a choice.
+type TwoArms = Or<u8, Or<bool, Never, 0>, 0>;
+
+#[test]
+fn arms_are_copied(rt: HostRuntime) -> Result<(), Fail> {
+    let alloc = rt.alloc();
+    let first = TwoArms::This(1).to_static(alloc)?;
+    let second = TwoArms::Other(Or::This(true)).to_static(alloc)?;
+    let facts = [
+        matches!(first, Or::This(1)),
+        matches!(second, Or::Other(Or::This(true))),
+    ];
+    assert_all("arms", &facts)
 }

@@ -1,8 +1,9 @@
 //! Copies that outlive what they are of, and copies by `clone`.
 
-use super::{TEXT_SET, TEXTS};
+use super::{TEXT_SET, TEXTS, UTF8};
 use asn1_rs::{
-    Any, BitString, Err, Error, FromBer, Header, Message, Oid, Sequence, Set, Tag, ToStatic,
+    Any, BitString, Err, Error, FromBer, Header, Integer, Message, OctetString, Oid, Sequence,
+    SequenceOf, Set, SetOf, Tag, TaggedExplicit, ToStatic, Utf8String,
 };
 use std::alloc::{AllocError, Global};
 use std::borrow::{CowSlice, CowStr};
@@ -116,12 +117,65 @@ impl Attempts for OfOctets {
     }
 }
 
+/// A value under a tag.
+type Under = TaggedExplicit<OctetString<'static>, Error, 0>;
+
+/// An octet string that borrows its octet.
+fn octets() -> OctetString<'static> {
+    OctetString::new(&[5])
+}
+
+/// The two texts; None when out of memory.
+fn texts(alloc: Global) -> Option<Vec<&'static str>> {
+    Vec::from_slice(alloc, &["a", "b"]).ok()
+}
+
+/// Copies of values, which own their octets, and are written as what they are of.
+struct OfElements;
+
+impl Attempts for OfElements {
+    fn seen(alloc: Global, name: &str) -> Option<bool> {
+        match name {
+            "OctetString" => is_made(alloc, octets().to_static(alloc), &[4, 1, 5]),
+            "Integer" => is_made(alloc, Integer::new(&[5]).to_static(alloc), &[2, 1, 5]),
+            "BitString" => is_made(
+                alloc,
+                BitString::new(0, &[5]).to_static(alloc),
+                &[3, 2, 0, 5],
+            ),
+            "Oid" => {
+                let source = Oid::new(CowSlice::Borrowed(&[0x55, 4]));
+                is_made(alloc, source.to_static(alloc), &[6, 2, 0x55, 4])
+            }
+            "Utf8String" => is_made(alloc, Utf8String::new("ab").to_static(alloc), &UTF8),
+            "SequenceOf" => is_made(
+                alloc,
+                SequenceOf::new(texts(alloc)?).to_static(alloc),
+                &TEXTS,
+            ),
+            "SetOf" => is_made(alloc, SetOf::new(texts(alloc)?).to_static(alloc), &TEXT_SET),
+            "under a tag" => {
+                let source = Under::explicit(octets());
+                is_made(alloc, source.to_static(alloc), &[0xa0, 3, 4, 1, 5])
+            }
+            _ => Some(false),
+        }
+    }
+}
+
 #[test]
 fn copies_are_refused_for_want_of_memory(rt: HostRuntime) -> Result<(), Fail> {
     let of_texts = ["&str", "String", "a reference", "CowStr", "CowSlice"];
     assert_attempts::<OfTexts>(rt.alloc(), &of_texts)?;
     assert_attempts::<OfTexts>(rt.alloc(), &["Option", "Box", "Message", "Vec"])?;
     assert_attempts::<OfOctets>(rt.alloc(), &["Header", "Sequence", "Set"])
+}
+
+#[test]
+fn copies_of_values_are_refused_for_want_of_memory(rt: HostRuntime) -> Result<(), Fail> {
+    let of_octets = ["OctetString", "Integer", "BitString", "Oid", "Utf8String"];
+    assert_attempts::<OfElements>(rt.alloc(), &of_octets)?;
+    assert_attempts::<OfElements>(rt.alloc(), &["SequenceOf", "SetOf", "under a tag"])
 }
 
 /// An error with a text that it owns; None when out of memory.
