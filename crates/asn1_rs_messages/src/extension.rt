@@ -164,8 +164,8 @@ pub fn extension_vec(alloc: Global, extension: &Extension<'_>) -> SerializeResul
     strict_vec(alloc, extension)
 }
 
-/// A copy of an extension, which outlives the octets that it was read from: it has the same value. Refused only when out
-/// of memory.
+/// A copy of an extension, which outlives the octets that it was read from: it has the same value. Refused only when
+/// out of memory.
 pub fn kept_extension(alloc: Global, extension: &Extension<'_>) -> Result<Extension<'static>, Error>
     ensures copied { IfOk result (λ copy. ⟦<Extension<'static> as Grammar>⟧.grammar.value copy ≡
         ⟦<Extension<'static> as Grammar>⟧.grammar.value extension.now) }

@@ -38,7 +38,7 @@ use crate::structs::defaulted::Defaulted;
 ///             ⟦<MeasurementRow as MemberRow>⟧.row_members };
 ///     }
 ///
-/// By it the struct is a [`LawfulMember`](crate::LawfulMember). What `==` of the struct is must be what its derive writes.
+/// By it the struct is a [`LawfulMember`](crate::LawfulMember), where its `==` is what a derive writes:
 ///
 ///     impl LawfulMember for Measurement {
 ///         ghost same = { ⟦<Measurement as MemberType>⟧.member_laws.same };

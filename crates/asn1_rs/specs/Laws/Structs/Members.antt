@@ -45,6 +45,7 @@ module _ {S R V W : Type 0} (value : S → V) (eq : S → S → Bool)
       to h = let both = all_parts (eq x.0 y.0) (eqs x.1 y.1) h in
           pair_same ((same x.0 y.0).0 both.0) ((others x.1 y.1).0 both.1)
 
-      from : ◌≡◌ {A = V × W} (value x.0, values x.1) (value y.0, values y.1) → IsTrue (all_of (eq x.0 y.0 ∷ eqs x.1 y.1))
+      from : ◌≡◌ {A = V × W} (value x.0, values x.1) (value y.0, values y.1) →
+          IsTrue (all_of (eq x.0 y.0 ∷ eqs x.1 y.1))
       from e = all_from (eq x.0 y.0) (eqs x.1 y.1) ((same x.0 y.0).1 (ap (λ (v : V × W). v.0) e))
           ((others x.1 y.1).1 (ap (λ (v : V × W). v.1) e))
