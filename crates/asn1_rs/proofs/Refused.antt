@@ -1,13 +1,28 @@
 -- Values that are refused for what they are: their counts and writings.
-use Rattle.std.proofs.Common.{◌≡◌, ◌≤◌, inl, inr, ℕ, Bool, true, false, IfErr, Result, Ok, Err, refl}
+use Rattle.std.proofs.Common.{◌≡◌, ◌≤◌, inl, inr, ℕ, Bool, true, false, IfErr, IfOk, Result, Ok, Err, refl, subst, ◌<◌, ◌^◌}
 use Rattle.std.specs.Prelude.{IsErr}
 use Rattle.asn1_headers.specs.Writer.{WriterState, MayRefuse}
 use Rattle.asn1_headers.specs.Error.{written_refusal}
 use Rattle.asn1_headers.specs.declared.error.Error.{Error}
 use Rattle.asn1_headers.specs.declared.error.SerializeError.{SerializeError}
 use Rattle.asn1_headers.specs.Laws.Writing.{MayRefuse_more}
+use Rattle.asn1_rs.proofs.Writing.{may_refuse_none}
+use Rattle.asn1_rs.specs.ToDer.{KeepsOrMayRefuse}
 use Rattle.asn1_rs.specs.ToDer.{MayRefuseCount, Refuses, RefusesCount, IsRefusedAtOnce, RefusedAtOnce, Either}
 use Rattle.asn1_rs.specs.Kinds.Writing.{CountRefused, OwnPutRefused, OwnRefusal, OwnWritten, OwnFirst}
+
+-- the same count of octets, where it fits
+pub same_count : (counted r : Result ℕ Error) (m : ℕ) → IfOk r (λ n. counted ≡ Ok n) → IfOk counted (λ n. n ≡ m) →
+    IfOk r (λ n. n ≡ m)
+same_count counted (Ok n) m same h = subst (λ r. IfOk r (λ k. k ≡ m)) same h
+same_count counted (Err e) m same h = tt
+
+-- what holds of a count, of which a header was written, holds of the number of octets
+pub counted_holds : (P : ℕ → Type 0) (counted : Result ℕ Error) (k m : ℕ) (old new : WriterState) →
+    IfErr counted (λ e. RefusedAtOnce (written_refusal e) old new (Ok k)) → IfOk counted P →
+    IfOk counted (λ n. n ≡ m) → P m
+counted_holds P (Ok n) k m old new at h same = subst P same h
+counted_holds P (Err e) k m old new at h same = absurd (let q = at.refused in cc)
 
 module _ (own : Error → Type 0) where
   -- Counts.
@@ -59,6 +74,12 @@ module _ (own : Error → Type 0) where
   put_behind_header false m n old mid new (Ok k) l e h = tt
   put_behind_header false m n old mid new (Err f) l e h = MayRefuse_more f false m n l h
   put_behind_header true m n old mid new r l e h = cc
+
+  -- the same, of octets whose number fits
+  pub octets_keep : (b : Bool) (n : ℕ) (old mid new : WriterState) (e : SerializeError) → b ≡ false → n < 2 ^ 64 →
+      OwnPutRefused b own n mid new (Err e) → KeepsOrMayRefuse false old new (Err e)
+  octets_keep false n old mid new e is l h = inl (may_refuse_none e false n l h)
+  octets_keep true n old mid new e is l h = cc
 
   pub put_plain : (b : Bool) (n : ℕ) (old new : WriterState) (r : Result ℕ SerializeError) → b ≡ false →
       IfErr r (MayRefuse false n) → OwnPutRefused b own n old new r

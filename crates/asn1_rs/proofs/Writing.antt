@@ -1,10 +1,10 @@
 -- One writing after another.
-use Rattle.std.proofs.Common.{◌≡◌, inl, inr, ℕ, Bool, true, false, ◌||◌, List, [], ◌++◌, length, ◌≤◌, length-append}
+use Rattle.std.proofs.Common.{◌≡◌, inl, inr, ℕ, Bool, true, false, ◌||◌, List, [], ◌++◌, length, ◌≤◌, ◌+◌, length-append}
 use Rattle.std.proofs.Common.{IfErr, IsTrue, MatchResult, ◌^◌, ◌<◌, IfOk, Result, Ok, Err, refl, sym, ap, ◌∙◌, arith}
 use Rattle.std.proofs.lemmas.Bool.{false≢true}
 use Rattle.std.specs.Io.KnownBytes.{Appends}
 use Rattle.std.specs.declared.vec.Vec.{Vec}
-use Rattle.asn1_headers.specs.Writer.{WriterState, Wrote, IsMemoryOrLength, MayRefuse}
+use Rattle.asn1_headers.specs.Writer.{WriterState, Wrote, IsMemoryOrLength, MayRefuse, SumsWritten}
 use Rattle.asn1_headers.specs.Error.{is_io, WithoutIo, written_refusal, tells_of_io, vector_refusal}
 use Rattle.asn1_rs.specs.ToDer.{SumsCounts, MayRefuseCount, Refuses, RefusesCount, RefusesAtOnce, IsRefusedAtOnce}
 use Rattle.asn1_rs.specs.ToDer.{RefusedAtOnce, Either, HasNone, IntoVector, IsWritable, VectorRefuses, WrittenRefusal}
@@ -268,34 +268,59 @@ pub at_once_elsewhere : (allocates : Bool) (n : ℕ) (own : SerializeError → T
 at_once_elsewhere allocates n own old new w r at =
     (at.0, at.1, record { refused = at.2.refused; kept = refl })
 
+-- a writing of so many octets that their number is not past what 64 bits hold
+pub may_refuse_none : (e : SerializeError) (allocates : Bool) (n : ℕ) → n < 2 ^ 64 → MayRefuse allocates n e →
+    MayRefuse allocates 0 e
+may_refuse_none (serialize_errors.ASN1Error e) allocates n l h = absurd h
+may_refuse_none (serialize_errors.InvalidClass c) allocates n l h = absurd h
+may_refuse_none serialize_errors.InvalidLength allocates n l h = absurd (omega arith)
+may_refuse_none (serialize_errors.IOError e) allocates n l h = tt
+may_refuse_none serialize_errors.OutOfMemory allocates n l h = h
+
 -- A refusal is no value's own where the value has none.
 pub keeps_or_may : (r : Result ℕ SerializeError) (allocates : Bool) (n : ℕ) (own : SerializeError → Type 0)
     (old new : WriterState) →
-    HasNone own → IfErr r (Refuses allocates n own) → KeepsOrMayRefuse allocates n old new r
-keeps_or_may (Ok k) allocates n own old new none h = tt
-keeps_or_may (Err e) allocates n own old new none (inl m) = inl m
-keeps_or_may (Err e) allocates n own old new none (inr o) = absurd (none e o)
+    n < 2 ^ 64 → HasNone own → IfErr r (Refuses allocates n own) → KeepsOrMayRefuse allocates old new r
+keeps_or_may (Ok k) allocates n own old new l none h = tt
+keeps_or_may (Err e) allocates n own old new l none (inl m) = inl (may_refuse_none e allocates n l m)
+keeps_or_may (Err e) allocates n own old new l none (inr o) = absurd (none e o)
 
-pub may_keep : (r : Result ℕ SerializeError) (allocates : Bool) (n : ℕ) (old new : WriterState) →
-    IfErr r (MayRefuse allocates n) → KeepsOrMayRefuse allocates n old new r
-may_keep (Ok k) allocates n old new h = tt
-may_keep (Err e) allocates n old new h = inl h
+pub may_keep : (r : Result ℕ SerializeError) (allocates : Bool) (old new : WriterState) →
+    IfErr r (MayRefuse allocates 0) → KeepsOrMayRefuse allocates old new r
+may_keep (Ok k) allocates old new h = tt
+may_keep (Err e) allocates old new h = inl h
 
 -- nothing was asked of the writer
-pub kept_keeps : (r : Result ℕ SerializeError) (allocates : Bool) (n : ℕ) (old : WriterState) →
-    KeepsOrMayRefuse allocates n old old r
-kept_keeps (Ok k) allocates n old = tt
-kept_keeps (Err e) allocates n old = inr refl
+pub kept_keeps : (r : Result ℕ SerializeError) (allocates : Bool) (old : WriterState) → KeepsOrMayRefuse allocates old old r
+kept_keeps (Ok k) allocates old = tt
+kept_keeps (Err e) allocates old = inr refl
 
--- one call of a writer that took the octets at once
-pub put_keeps : (r : Result ℕ SerializeError) (allocates : Bool) (n : ℕ) (old new : WriterState) →
-    IfErr r (MayRefuse false 0) → KeepsOrMayRefuse allocates n old new r
-put_keeps (Ok k) allocates n old new h = tt
-put_keeps (Err (serialize_errors.ASN1Error e)) allocates n old new h = absurd h
-put_keeps (Err (serialize_errors.InvalidClass c)) allocates n old new h = absurd h
-put_keeps (Err serialize_errors.InvalidLength) allocates n old new h = absurd (omega (arith, h))
-put_keeps (Err (serialize_errors.IOError e)) allocates n old new h = inl tt
-put_keeps (Err serialize_errors.OutOfMemory) allocates n old new h = cc
+-- one call of a writer that took the octets at once, in a writing that may allocate
+pub put_keeps : (r : Result ℕ SerializeError) (allocates : Bool) (old new : WriterState) →
+    KeepsOrMayRefuse false old new r → KeepsOrMayRefuse allocates old new r
+put_keeps (Ok k) allocates old new h = tt
+put_keeps (Err e) allocates old new (inr k) = inr k
+put_keeps (Err (serialize_errors.ASN1Error e)) allocates old new (inl h) = absurd h
+put_keeps (Err (serialize_errors.InvalidClass c)) allocates old new (inl h) = absurd h
+put_keeps (Err serialize_errors.InvalidLength) allocates old new (inl h) = absurd (omega (arith, h))
+put_keeps (Err (serialize_errors.IOError e)) allocates old new (inl h) = inl tt
+put_keeps (Err serialize_errors.OutOfMemory) allocates old new (inl h) = cc
+
+-- a sum that fits is not refused
+pub sum_keeps : (n m : ℕ) (r : Result ℕ SerializeError) (allocates : Bool) (old new : WriterState) → n + m < 2 ^ 64 →
+    SumsWritten n m r → KeepsOrMayRefuse allocates old new r
+sum_keeps n m (Ok k) allocates old new l s = tt
+sum_keeps n m (Err e) allocates old new l s = absurd (omega (arith, s.1))
+
+-- what was written in two parts, whose sum is a number of 64 bits
+pub whole_fits : {n m k : ℕ} (xs ys : List ℕ) {a b c d : WriterState} → Wrote xs a b (Ok n) → Wrote ys c d (Ok m) →
+    SumsWritten n m (Ok k) → k < 2 ^ 64 → length (xs ++ ys) < 2 ^ 64
+whole_fits xs ys p q s l = simp length-append (omega (arith, p.ok.1, q.ok.1, s))
+
+-- a header that has few octets
+pub few_octets : (r : Result ℕ SerializeError) (m n : ℕ) → m ≤ n → IfOk r (λ k. k ≤ m) → IfOk r (λ k. k ≤ n)
+few_octets (Ok k) m n l h = omega arith
+few_octets (Err e) m n l h = tt
 
 -- A value whose header and contents octets were both written has no refusal of its own.
 pub none_own : (one other : SerializeError → Type 0) {allocates : Bool} {m : ℕ} {own : SerializeError → Type 0}
@@ -343,7 +368,8 @@ module _ {S : Type 0} (w : Writing S) (x : S) where
       ((e : SerializeError) → w.header_refuses x e →
       IsRefusedAtOnce w.count_allocates (length (whole_octets w x)) (w.header_refuses x) old new (Ok k)) →
       ((e : SerializeError) → w.content_refuses x e → IsErr {T = ℕ} {E = SerializeError} (Ok l)) →
+      length (whole_octets w x) < 2 ^ 64 →
       IfErr r (Refuses (whole_allocates w) (length (whole_octets w x)) (whole_refuses w x)) →
-      KeepsOrMayRefuse (whole_allocates w) (length (whole_octets w x)) before after r
-  written_keeps before after k l r header content refused =
-      keeps_or_may r _ _ _ _ _ (none_own (w.header_refuses x) (w.content_refuses x) k l header content) refused
+      KeepsOrMayRefuse (whole_allocates w) before after r
+  written_keeps before after k l r header content fits refused =
+      keeps_or_may r _ _ _ _ _ fits (none_own (w.header_refuses x) (w.content_refuses x) k l header content) refused

@@ -133,10 +133,10 @@ abbrev pub IsRefusedAtOnce : Bool → ℕ → (SerializeError → Type 0) → Wr
 IsRefusedAtOnce allocates n own old new answer =
     (e : SerializeError) × RefusesAtOnce allocates n own e × RefusedAtOnce e old new answer
 
--- A refusal is the writer's, or for the length or want of memory, as of any writing of so many octets; or else it left
--- the writer as it was.
-abbrev pub KeepsOrMayRefuse : Bool → ℕ → WriterState → WriterState → Result ℕ SerializeError → Type 0
-KeepsOrMayRefuse allocates n old new answer = IfErr answer (λ e. MayRefuse allocates n e ⊎ (new ≡ old))
+-- A refusal is the writer's, or for want of memory, as of a writing of no octets, whose length fits; or else it left the
+-- writer as it was.
+abbrev pub KeepsOrMayRefuse : Bool → WriterState → WriterState → Result ℕ SerializeError → Type 0
+KeepsOrMayRefuse allocates old new answer = IfErr answer (λ e. MayRefuse allocates 0 e ⊎ (new ≡ old))
 
 -- A refusal of the value's own, from a writing into a vector. The value's own is tied by the one that it comes out as.
 abbrev pub IntoVector : (SerializeError → Type 0) → SerializeError → Type 0

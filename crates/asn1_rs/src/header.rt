@@ -1,5 +1,6 @@
 //! Headers as values: how they are read, and how they and parts of them are written (X.690 8.1.2, 8.1.3, 10.1).
-ghost use Rattle.std.specs.Prelude.{◌≡◌, ◌<◌, ◌++◌, [], ℕ, Bool, true, false, List, length, None, IfOk, IfErr, Ok, Err};
+ghost use Rattle.std.specs.Prelude.{◌≡◌, ◌<◌, ◌≤◌, ◌+◌, ◌^◌, ◌++◌, [], ℕ, Bool, true, false, List, length};
+ghost use Rattle.std.specs.Prelude.{None, IfOk, IfErr, IsOkAnd, Ok, Err};
 ghost use Rattle.std.specs.Io.KnownBytes.{Appends};
 ghost use Rattle.x690.specs.Rules.{der_rule, ber_rule};
 ghost use Rattle.x690.specs.Strict.{identifier_octets, header_octets};
@@ -11,7 +12,7 @@ ghost use Rattle.asn1_headers.specs.Header.Writing.{parts_identifier, strict_hea
 ghost use Rattle.asn1_headers.specs.Writer.{Wrote, MayRefuse, WriterState};
 ghost use Rattle.asn1_headers.specs.Error.{written_refusal, tells_of_io};
 ghost use Rattle.asn1_rs.specs.ToDer.{MayRefuseCount, Refuses, RefusesCount, VectorRefuses, Either, RefusedAtOnce};
-ghost use Rattle.asn1_rs.specs.ToDer.{SumsCounts, plain_writing};
+ghost use Rattle.asn1_rs.specs.ToDer.{KeepsOrMayRefuse, SumsCounts, plain_writing};
 
 use crate::to_der::ToDer;
 use crate::traits::{DynTagged, FromBer, FromDer};
@@ -91,6 +92,24 @@ pub fn element_len(number: u32, counted: Result<usize, Error>) -> Result<usize, 
     }
 }
 
+/// The same count of contents octets, refused where the element has more octets than `usize` counts.
+#[inline(always)]
+pub(crate) fn count_that_fits(number: u32, counted: Result<usize, Error>) -> Result<usize, Error>
+    ensures same { IfOk result (λ n. counted ≡ Ok n) }
+    ensures fits { (class : ℕ) (constructed : Bool) →
+        IfOk result (λ n. length (header_octets class constructed number n) + n < 2 ^ 64) }
+    ensures why { (class : ℕ) (constructed : Bool) (content : List ℕ) →
+        IfOk counted (λ n. n ≡ length content) →
+        IfErr counted (MayRefuseCount false (length content)) →
+        IfErr result (MayRefuseCount false
+        (length (header_octets class constructed number (length content) ++ content))) }
+    ensures refused { IfErr counted (λ e. result ≡ Err e) }
+{
+    let len = counted?;
+    add_counts(header_len(number, len), len)?;
+    Ok(len)
+}
+
 /// Appends the strict header of an element whose contents were counted.
 ///
 /// A refused count is the refusal, before anything is appended.
@@ -110,6 +129,7 @@ pub fn put_counted_header<W: DerWrite>(
         IfErr result (MayRefuse allocates (length (front ++ content))) }
     ensures refused { IfErr counted
         (λ e. RefusedAtOnce (written_refusal e) (W.state w.old) (W.state w.new) result) }
+    ensures kept { KeepsOrMayRefuse false (W.state w.old) (W.state w.new) result }
 {
     match counted {
         Ok(len) => put_header(class, constructed, number, len, w),
@@ -131,6 +151,9 @@ pub(crate) fn put_behind<W: DerWrite>(
         Wrote octets before (W.state w.old) header →
         IfErr header (MayRefuse false (length (octets ++ content.now))) →
         IfErr result (MayRefuse false (length (octets ++ content.now))) }
+    ensures fits { IfOk header (λ n. n ≤ 16) → IfErr header (MayRefuse false 0) →
+        IfErr result (MayRefuse false 0) }
+    ensures sum { IfOk result (λ n. IsOkAnd header (λ k. n ≡ k + length content.now)) }
 {
     let before = header?;
     let after = put_all(w, content)?;

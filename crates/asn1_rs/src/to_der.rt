@@ -90,8 +90,8 @@ pub trait ToDer: DynTagged {
     /// Appends the encoding, and answers its length.
     ///
     /// Refused with `IOError` only where the writer failed, or was marked before; with `InvalidLength` only where the
-    /// length passes `usize`, or the value itself is so refused. A value that is refused for what it is leaves the
-    /// writer as it was; after any other refusal a beginning of the encoding was appended.
+    /// length passes `usize`, or the value itself is so refused. A value that is refused for what it is, or for its
+    /// length, leaves the writer as it was; after any other refusal a beginning of the encoding was appended.
     // This body is proved once for all types, also for those that need no memory (`Header`, `Length`). So where its
     // buffer cannot grow it goes forward, and does not answer out of memory. Before that it writes to a sink, where a
     // value's own refusal shows.
@@ -118,8 +118,7 @@ pub trait ToDer: DynTagged {
         ensures first { (e : SerializeError) → writing.refuses_first self.now e →
             RefusedAtOnce e (W.state w.old) (W.state w.new) result }
         ensures kept { writing.tells self.now →
-            KeepsOrMayRefuse (whole_allocates writing) (length (whole_octets writing self.now))
-            (W.state w.old) (W.state w.new) result }
+            KeepsOrMayRefuse (whole_allocates writing) (W.state w.old) (W.state w.new) result }
     {
         let mut buf = DerBuffer::new(alloc);
         if stands(self.prepend_der(alloc, &mut buf))? {
@@ -210,8 +209,7 @@ pub trait ToDer: DynTagged {
         ensures first { (e : SerializeError) → writing.refuses_first self.now e →
             RefusedAtOnce e (W.state w.old) (W.state w.new) result }
         ensures kept { writing.tells self.now → raw_is_der self.now →
-            KeepsOrMayRefuse (whole_allocates writing) (length (whole_octets writing self.now))
-            (W.state w.old) (W.state w.new) result }
+            KeepsOrMayRefuse (whole_allocates writing) (W.state w.old) (W.state w.new) result }
     {
         self.write_der(alloc, w)
     }

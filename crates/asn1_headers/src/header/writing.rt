@@ -1,5 +1,5 @@
 //! Strict headers, as they are written (X.690 8.1.2, 8.1.3, 10.1).
-ghost use Rattle.std.specs.Prelude.{◌≡◌, ◌<◌, ◌++◌, ℕ, Bool, [], ◌∷◌, length, IfErr};
+ghost use Rattle.std.specs.Prelude.{◌≡◌, ◌<◌, ◌≤◌, ◌++◌, ℕ, Bool, [], ◌∷◌, length, IfErr, IfOk};
 ghost use Rattle.x690.specs.Strict.{identifier_octets, length_form_octets, header_octets};
 ghost use Rattle.asn1_headers.specs.Length.{form_of};
 ghost use Rattle.asn1_headers.specs.Header.Writing.{parts_identifier, strict_header};
@@ -39,6 +39,7 @@ pub fn put_header<W: DerWrite>(
     ensures wrote { Wrote (header_octets class constructed number len) (W.state w.old)
         (W.state w.new) result }
     ensures failed { (allocates : Bool) (most : ℕ) → IfErr result (MayRefuse allocates most) }
+    ensures few { IfOk result (λ n. n ≤ 15) }
 {
     if let Some(octets) = short_header(class, constructed, number, len) {
         return put_all(w, &octets);
@@ -76,6 +77,7 @@ fn put_indefinite<W: DerWrite>(parts: (Class, bool, Tag), w: &mut W) -> Serializ
     ensures wrote { Wrote (identifier_octets (parts_identifier parts) ++ 128 ∷ []) (W.state w.old)
         (W.state w.new) result }
     ensures failed { (allocates : Bool) (most : ℕ) → IfErr result (MayRefuse allocates most) }
+    ensures few { IfOk result (λ n. n ≤ 15) }
 {
     let (class, constructed, tag) = parts;
     let mut octets = [0; 6];
@@ -89,6 +91,7 @@ fn put_indefinite<W: DerWrite>(parts: (Class, bool, Tag), w: &mut W) -> Serializ
 pub fn put_strict_header<W: DerWrite>(header: &Header<'_>, w: &mut W) -> SerializeResult<usize>
     ensures wrote { Wrote (strict_header header.now) (W.state w.old) (W.state w.new) result }
     ensures failed { (allocates : Bool) (most : ℕ) → IfErr result (MayRefuse allocates most) }
+    ensures few { IfOk result (λ n. n ≤ 15) }
 {
     let (class, constructed, tag) = (header.class(), header.constructed(), header.tag());
     match header.length() {

@@ -142,6 +142,7 @@ fn put_short_bits<W: DerWrite>(unused_bits: u8, octets: &[u8], w: &mut W) -> Ser
     ensures refused { IfErr result (MayRefuse false
         (length (universal_header bit_string_number (unused_bits ∷ octets.now)
         ++ unused_bits ∷ octets.now))) }
+    ensures fits { IfErr result (MayRefuse false 0) }
 {
     match put_all(w, &[3, 1 + octets.len() as u8, unused_bits]) {
         Ok(before) => match put_all(w, octets) {
@@ -166,6 +167,7 @@ fn put_bits_element<W: DerWrite>(
     ensures refused { IfErr result (MayRefuse false
         (length (universal_header bit_string_number (unused_bits ∷ octets.now)
         ++ unused_bits ∷ octets.now))) }
+    ensures fits { IfErr result (MayRefuse false 0) }
 {
     let count = octets.len();
     if count < 127 {

@@ -254,6 +254,7 @@ fn put_collected<W: DerWrite>(tag: Tag, content: &[u8], w: &mut W) -> SerializeR
         (W.state w.old) (W.state w.new) result }
     ensures failed { IfErr result (MayRefuse false
         (length (header_octets 0 true tag.0 (length content.now) ++ content.now))) }
+    ensures fits { IfErr result (MayRefuse false 0) }
 {
     put_behind(put_header(0, true, tag.0, content.len(), w), content, w)
 }

@@ -18,7 +18,7 @@ ghost use Rattle.asn1_rs.specs.Laws.Forms.{universal_number, universal_number_fi
 ghost use Rattle.asn1_rs.specs.Grammar.Item.{IsLawfulWriting};
 ghost use Rattle.asn1_rs.specs.Laws.Writing.{held_lawful_writing};
 
-use crate::header::{element_len, put_counted_header};
+use crate::header::{count_that_fits, element_len, put_counted_header};
 use crate::kinds::{ElementKind, HasKind, HolderKind, Holds, LawfulElement};
 use crate::laws::{Grammar, LawfulItem, LawfulTagged, LawfulWrite, TakesClass};
 use crate::to_der::{ToDer, stands};
@@ -95,7 +95,7 @@ pub trait WritesElement: LawfulElement + Tagged {
         None
     }
 
-    /// Appends the whole element, and answers its length.
+    /// Appends the whole element, and answers its length. One past `usize` is refused before anything is appended.
     #[inline(always)]
     fn put_element<W: DerWrite>(&self, w: &mut W) -> SerializeResult<usize>
         ensures wrote { Wrote (universal_header (Self.TAG).0 (octets self.now) ++ octets self.now)
@@ -103,9 +103,11 @@ pub trait WritesElement: LawfulElement + Tagged {
         ensures refused { OwnPutRefused (is_refused self.now) (refusal self.now)
             (length (universal_header (Self.TAG).0 (octets self.now) ++ octets self.now))
             (W.state w.old) (W.state w.new) result }
+        ensures kept { KeepsOrMayRefuse false (W.state w.old) (W.state w.new) result }
     {
         let tag = Self::TAG;
-        let before = put_counted_header(0, tag.is_container(), tag.0, self.count_octets(), w)?;
+        let count = count_that_fits(tag.0, self.count_octets());
+        let before = put_counted_header(0, tag.is_container(), tag.0, count, w)?;
         let after = self.put_octets(w)?;
         add_written(before, after)
     }
@@ -269,8 +271,7 @@ pub trait ToDerBy<K>: DynTagged {
         ensures first { (e : SerializeError) → writing.refuses_first self.now e →
             RefusedAtOnce e (W.state w.old) (W.state w.new) result }
         ensures kept { writing.tells self.now →
-            KeepsOrMayRefuse (whole_allocates writing) (length (whole_octets writing self.now))
-            (W.state w.old) (W.state w.new) result }
+            KeepsOrMayRefuse (whole_allocates writing) (W.state w.old) (W.state w.new) result }
     {
         let mut buf = DerBuffer::new(alloc);
         if stands(self.prepend_whole(alloc, &mut buf))? {

@@ -75,6 +75,7 @@ impl ToDer for Any<'_> {
         ensures refused { IfErr result
             (Refuses false (length (element_header self.now ++ content_of self.now))
             (Either (λ _. ⊥) (λ _. ⊥))) }
+        ensures fits { IfErr result (MayRefuse false 0) }
     {
         let class = self.header.class().number();
         let number = self.header.tag().0;
@@ -101,6 +102,7 @@ impl ToDer for Any<'_> {
             (W.state w.new) result }
         ensures failed { IfErr result
             (MayRefuse false (length (strict_header self.now.header ++ content_of self.now))) }
+        ensures fits { IfErr result (MayRefuse false 0) }
         ensures der { form_of (length_of self.now.header) ≡
             definite (length (content_of self.now)) →
             Wrote (element_header self.now ++ content_of self.now) (W.state w.old)

@@ -1,5 +1,7 @@
 use Rattle.std.proofs.Common.{◌≡◌, ℕ, ◌+◌, ◌≤◌, List, [], ◌∷◌, ◌++◌, length, false, ap, ◌∙◌, subst, arith}
-use Rattle.std.proofs.Common.{append_assoc, length-append, Result, Ok, Err, IfErr}
+use Rattle.std.proofs.Common.{append_assoc, length-append, Result, Ok, Err, IfErr, IfOk}
+use Rattle.std.specs.Prelude.{IsOkAnd}
+use Rattle.asn1_rs.proofs.Writing.{few_octets}
 use Rattle.x690.specs.Strict.{header_octets}
 use Rattle.asn1_headers.specs.declared.error.SerializeError.{SerializeError}
 use Rattle.asn1_headers.specs.Writer.{MayRefuse}
@@ -32,3 +34,16 @@ returns-clause-refused g c =
     subst (λ (xs : List ℕ). IfErr c.put_behind.result (MayRefuse false (length xs))) (joined unused octets)
     (c.put_behind.ensures.failed front start (c.put_behind-front.ensures.wrote header start put.wrote)
     (of_more c.put_behind-front.result (length front) (length (front ++ octets)) longer may))
+
+-- the header with one octet behind it
+with_one_more : (header front : Result ℕ SerializeError) → IfOk header (λ n. n ≤ 15) →
+    IfOk front (λ n. IsOkAnd header (λ k. n ≡ k + 1)) → IfOk front (λ n. n ≤ 16)
+with_one_more (Ok k) (Ok n) few sum = omega (arith, sum)
+with_one_more (Err e) (Ok n) few sum = absurd sum
+with_one_more header (Err e) few sum = tt
+
+pub returns-clause-fits : goal.returns-clause-fits
+returns-clause-fits g c =
+    let put = c.put_header-header.ensures in
+    let front = c.put_behind-front.ensures.fits (few_octets _ 15 16 (omega arith) put.few) (put.failed false 0) in
+    c.put_behind.ensures.fits (with_one_more _ _ put.few c.put_behind-front.ensures.sum) front

@@ -1,4 +1,5 @@
-use Rattle.asn1_rs.proofs.Writing.{neither_own, keeps_or_may}
+use Rattle.std.proofs.Common.{false}
+use Rattle.asn1_rs.proofs.Writing.{neither_own, may_keep}
 use Rattle.asn1_rs.proofs.header.HeaderToDer.TheImpl.Goals as goal
 
 pub to_der_len-tells : goal.to_der_len-tells
@@ -18,7 +19,7 @@ write_der_raw-tells g c = record {
   at_once = λ e _ r o. absurd o;
   counted = λ _. c.ensures.counted;
   first = λ e o. absurd o;
-  kept = λ _ r. keeps_or_may _ _ _ _ _ _ neither_own (c.ensures.refused r);
+  kept = λ _ r. may_keep _ _ _ _ (c.ensures.failed false 0);
 }
 
 pub to_der_vec_raw-tells : goal.to_der_vec_raw-tells

@@ -1,11 +1,11 @@
-use Rattle.std.proofs.Common.{subst, IfErr, ◌≡◌, false, refl}
+use Rattle.std.proofs.Common.{arith, subst, IfErr, ◌≡◌, false, refl}
 use Rattle.std.proofs.lemmas.Bool.{false≢true}
 use Rattle.std.proofs.lemmas.Result.{err_from_is_err_and}
 use Rattle.asn1_headers.specs.Error.{tells_of_io}
 use Rattle.asn1_headers.specs.Laws.Writing.{Wrote_front, Wrote_then_err, Wrote_sum, MayRefuse_sum}
 use Rattle.asn1_rs.specs.ToDer.{whole_octets, whole_refuses}
 use Rattle.asn1_rs.proofs.Writing.{header_refuses, content_refuses, header_refuses_at_once, header_not_refused}
-use Rattle.asn1_rs.proofs.Writing.{written_keeps, may_keep, only_may, Wrote_nothing, unmarked_is_no_io}
+use Rattle.asn1_rs.proofs.Writing.{written_keeps, keeps_or_may, whole_fits, only_may, Wrote_nothing, unmarked_is_no_io}
 use Rattle.asn1_rs.proofs.kinds.writing.ToDerBy.put_whole.Goals as goal
 
 pub returns-in_err-stands-clause-wrote : goal.returns-in_err-stands-clause-wrote
@@ -109,14 +109,22 @@ pub returns-in_err-before-clause-kept : goal.returns-in_err-before-clause-kept
 returns-in_err-before-clause-kept g c = λ t.
     written_keeps g.Self.ToDerBy.writing c.args.self.now _ _ c.in_ok-header.header c.in_ok-content.content _
     (λ e o. c.in_ok-header.ensures.at_once e t o) (λ e o. c.in_ok-content.ensures.accepted e t o)
+    (whole_fits _ _ (c.in_ok-header.ensures.wrote t) (c.in_ok-content.ensures.wrote t) c.in_ok-add_written.ensures
+    (omega arith))
     (returns-in_err-before-clause-refused g c t)
 
 pub returns-in_err-after-clause-kept : goal.returns-in_err-after-clause-kept
 returns-in_err-after-clause-kept g c = λ t.
     written_keeps g.Self.ToDerBy.writing c.args.self.now _ _ c.in_ok-header.header c.in_ok-content.content _
     (λ e o. c.in_ok-header.ensures.at_once e t o) (λ e o. c.in_ok-content.ensures.accepted e t o)
+    (whole_fits _ _ (c.in_ok-header.ensures.wrote t) (c.in_ok-content.ensures.wrote t) c.in_ok-add_written.ensures
+    (omega arith))
     (returns-in_err-after-clause-refused g c t)
 
 pub returns-clause-kept : goal.returns-clause-kept
-returns-clause-kept g c = λ t. may_keep c.add_written-2.result _ _ _ _
-    (MayRefuse_sum _ _ _ _ (c.in_ok-before.ensures.wrote t) (c.in_ok-after.ensures.wrote t) c.add_written-2.ensures)
+returns-clause-kept g c = λ t.
+    let fits = whole_fits _ _ (c.in_ok-header.ensures.wrote t) (c.in_ok-content.ensures.wrote t)
+    c.in_ok-add_written.ensures (omega arith) in
+    keeps_or_may c.add_written-2.result _ _ (λ _. ⊥) _ _ fits (λ e o. o)
+    (only_may c.add_written-2.result _ _ _
+    (MayRefuse_sum _ _ _ _ (c.in_ok-before.ensures.wrote t) (c.in_ok-after.ensures.wrote t) c.add_written-2.ensures))

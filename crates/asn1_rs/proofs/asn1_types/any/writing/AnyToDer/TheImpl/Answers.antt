@@ -1,4 +1,4 @@
-use Rattle.asn1_rs.proofs.Writing.{neither_own, keeps_or_may}
+use Rattle.asn1_rs.proofs.Writing.{neither_own, may_keep}
 use Rattle.asn1_rs.proofs.asn1_types.any.writing.AnyToDer.TheImpl.Goals as goal
 
 pub to_der_len-tells : goal.to_der_len-tells
@@ -17,7 +17,7 @@ write_der-tells g c = record {
   uncounted = λ e _ o. absurd o;
   at_once = λ e _ o. absurd o;
   first = λ e o. absurd o;
-  kept = λ _. keeps_or_may _ _ _ _ _ _ neither_own c.ensures.refused;
+  kept = λ _. may_keep _ _ _ _ c.ensures.fits;
 }
 
 pub write_der_raw-tells : goal.write_der_raw-tells
@@ -29,7 +29,7 @@ write_der_raw-tells g c = record {
   at_once = λ e _ r o. absurd o;
   counted = λ _. c.ensures.counted;
   first = λ e o. absurd o;
-  kept = λ _ r. keeps_or_may _ _ _ _ _ _ neither_own (c.ensures.refused r);
+  kept = λ _ r. may_keep _ _ _ _ c.ensures.fits;
 }
 
 pub to_der_vec_raw-tells : goal.to_der_vec_raw-tells

@@ -1,9 +1,9 @@
-use Rattle.std.proofs.Common.{false, ◌++◌, length}
+use Rattle.std.proofs.Common.{false, ◌++◌, length, arith}
 use Rattle.asn1_rs.specs.Any.Writing.{content_of, element_header}
 use Rattle.asn1_rs.specs.ToDer.{Either}
 use Rattle.asn1_rs.specs.Laws.Any.Writing.{counted_header}
 use Rattle.asn1_rs.proofs.Sets.{if_ok}
-use Rattle.asn1_rs.proofs.Writing.{only_may}
+use Rattle.asn1_rs.proofs.Writing.{only_may, few_octets}
 use Rattle.asn1_rs.proofs.asn1_types.any.writing.AnyToDer.write_der_raw.Goals as goal
 
 pub returns-clause-raw : goal.returns-clause-raw
@@ -26,3 +26,8 @@ returns-clause-refused g c =
 pub returns-clause-counted : goal.returns-clause-counted
 returns-clause-counted g c = if_ok c.put_behind.result (λ n w. (_, w.0, w.1))
     (c.put_behind.ensures.wrote _ _ c.put_strict_header-header.ensures.wrote).ok
+
+pub returns-clause-fits : goal.returns-clause-fits
+returns-clause-fits g c = c.put_behind.ensures.fits
+    (few_octets _ 15 16 (omega arith) c.put_strict_header-header.ensures.few)
+    (c.put_strict_header-header.ensures.failed false 0)

@@ -1,4 +1,5 @@
-use Rattle.std.proofs.Common.{◌∙◌, ◌++◌, ap, subst, List, ℕ, IfErr, false, length, refl}
+use Rattle.std.proofs.Common.{◌∙◌, ◌++◌, ap, subst, List, ℕ, IfErr, false, length, refl, arith}
+use Rattle.asn1_rs.proofs.Writing.{few_octets, may_keep}
 use Rattle.x690.specs.Times.{generalized_time_text, FitsGeneralizedTime}
 use Rattle.asn1_headers.specs.Writer.{MayRefuse, Wrote}
 use Rattle.asn1_rs.specs.Kinds.Writing.{universal_header}
@@ -26,3 +27,7 @@ returns-clause-refused g c =
     (subst (λ (text : List ℕ). IfErr c.put_behind.result (MayRefuse false (length (element text))))
     (c.as_bytes-octets.ensures ∙ c.in-Some.ensures.text ∙ ap generalized_time_text c.moment.ensures)
     (c.put_behind.ensures.failed _ _ c.put_header-header.ensures.wrote (c.put_header-header.ensures.failed _ _)))
+
+pub returns-clause-kept : goal.returns-clause-kept
+returns-clause-kept g c = may_keep _ _ _ _ (c.put_behind.ensures.fits
+    (few_octets _ 15 16 (omega arith) c.put_header-header.ensures.few) (c.put_header-header.ensures.failed false 0))
