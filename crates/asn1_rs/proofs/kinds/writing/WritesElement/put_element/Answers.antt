@@ -1,8 +1,7 @@
-use Rattle.std.proofs.Common.{ℕ, [], false, ◌≤◌, ◌<◌, ◌^◌, ◌+◌, ◌++◌, length, length-append, arith}
+use Rattle.std.proofs.Common.{[], false, ◌≤◌, ◌<◌, ◌^◌, ◌+◌, ◌++◌, length, length-append, arith}
 use Rattle.std.proofs.lemmas.Result.{err_from_is_err_and}
 use Rattle.x690.specs.Strict.{header_octets}
 use Rattle.asn1_headers.specs.Laws.Writing.{Wrote_front, Wrote_then_err, Wrote_sum, MayRefuse_sum}
-use Rattle.asn1_rs.specs.Kinds.Writing.{universal_header}
 use Rattle.asn1_rs.proofs.Refused.{counted_put, put_not_refused, put_behind_header, put_plain, octets_keep}
 use Rattle.asn1_rs.proofs.Refused.{element_count_refused, same_count, counted_holds}
 use Rattle.asn1_rs.proofs.Writing.{sum_keeps}
