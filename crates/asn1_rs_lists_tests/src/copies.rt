@@ -2,9 +2,8 @@
 
 use asn1_rs::{
     ASN1DateTime, ASN1TimeZone, BitString, Boolean, Class, Enumerated, Error, FromBer, FromDer,
-    GeneralizedTime, Header, Ia5String, Integer, Length, Never, Null, OctetString, Oid, Or,
-    Sequence, SequenceOf, Set, SetOf, Tag, TaggedExplicit, TaggedImplicit, ToDer, ToStatic,
-    UtcTime,
+    GeneralizedTime, Header, Ia5String, Integer, Length, Null, OctetString, Oid, Sequence,
+    SequenceOf, Set, SetOf, Tag, TaggedExplicit, TaggedImplicit, ToDer, ToStatic, UtcTime,
 };
 use std::alloc::{AllocError, Global};
 use std::borrow::{CowSlice, CowStr};
@@ -175,19 +174,4 @@ fn lists_and_sets_are_copied(rt: HostRuntime) -> Result<(), Fail> {
         is_copied(alloc, SetOf::new(numbers(alloc)?))?,
     ];
     assert_all("lists and sets", &facts)
-}
-
-/// Two arms of a choice.
-type TwoArms = Or<u8, Or<bool, Never, 0>, 0>;
-
-#[test]
-fn arms_are_copied(rt: HostRuntime) -> Result<(), Fail> {
-    let alloc = rt.alloc();
-    let first = TwoArms::This(1).to_static(alloc)?;
-    let second = TwoArms::Other(Or::This(true)).to_static(alloc)?;
-    let facts = [
-        matches!(first, Or::This(1)),
-        matches!(second, Or::Other(Or::This(true))),
-    ];
-    assert_all("arms", &facts)
 }

@@ -1,4 +1,4 @@
-//! Copies of the fields of a struct, and of the arm of a choice.
+//! Copies of the fields of a struct.
 //!
 //! A struct is copied by the row of references to its fields: what the row is copied to are the fields of the copy.
 //!
@@ -19,10 +19,8 @@
 //!         }
 //!     }
 ghost use Rattle.std.specs.Prelude.{◌≡◌, ◌||◌, false};
-ghost use Rattle.asn1_rs.specs.Copies.{CopiesArm};
 
 use super::ToStatic;
-use crate::choices::arms::{Never, Or};
 use asn1_headers::error::Error;
 use std::alloc::Global;
 
@@ -56,33 +54,5 @@ where
         let first = self.0.to_static(alloc)?;
         let others = self.1.to_static(alloc)?;
         Ok((first, others))
-    }
-}
-
-/// The copy is of the same arm.
-impl<T: ToStatic, R: ToStatic, const CLASS: u8> ToStatic for Or<T, R, CLASS> {
-    type Owned = Or<T::Owned, R::Owned, CLASS>;
-
-    ghost copies = { CopiesArm T.copies R.copies };
-
-    ghost copy_allocates = { T.copy_allocates || R.copy_allocates };
-
-    fn to_static(&self, alloc: Global) -> Result<Or<T::Owned, R::Owned, CLASS>, Error> {
-        match self {
-            Or::This(source) => Ok(Or::This(source.to_static(alloc)?)),
-            Or::Other(source) => Ok(Or::Other(source.to_static(alloc)?)),
-        }
-    }
-}
-
-impl ToStatic for Never {
-    type Owned = Never;
-
-    ghost copies = { λ source copy. copy ≡ source };
-
-    ghost copy_allocates = { false };
-
-    fn to_static(&self, _alloc: Global) -> Result<Never, Error> {
-        match *self {}
     }
 }
