@@ -1,12 +1,17 @@
 //! Variable bindings (RFC 3416, 3).
 ghost use Rattle.std.proofs.Common.{refl};
+ghost use Rattle.asn1_headers.specs.Answers.{seen};
+ghost use Rattle.asn1_rs.specs.Callers.{ReadsByBer, WritesStrict};
+ghost use Rattle.asn1_rs.specs.Grammar.Item.{ber_words};
 ghost use Rattle.asn1_rs.specs.Structs.{MadeOf};
 ghost use Rattle.asn1_rs.specs.Structs.Data.{struct_of};
+ghost use Rattle.asn1_rs.specs.Whole.{IsWhole};
 
 use crate::value::BindingValue;
 use asn1_rs::{
-    BerParser, BorrowedRow, Error, Fields, FieldsKind, HasKind, HasReader, LawfulStruct, Oid,
-    ReadsFieldsByBer, ReadsRow, Row, SerializeResult, StructReader, row_by_ber,
+    BerParser, BorrowedRow, Error, Fields, FieldsKind, Grammar, HasKind, HasReader, LawfulStruct,
+    Oid, ParseResult, ReadsFieldsByBer, ReadsRow, Row, SerializeResult, StructReader, ToDer,
+    read_ber, read_ber_whole, row_by_ber, strict_vec,
 };
 use std::alloc::Global;
 
@@ -58,4 +63,34 @@ impl<'a> ReadsFieldsByBer<'a> for VarBind<'a> {
             Err(e) => Err(e),
         }
     }
+}
+
+/// The bindings of a list at the front of the octets, by BER, and what follows it.
+pub fn read_bindings<'a>(
+    alloc: Global,
+    octets: &'a [u8],
+) -> ParseResult<'a, Vec<VarBind<'a>>, Error>
+    ensures { ReadsByBer ⟦<Vec<VarBind<'a>> as Grammar>⟧.grammar octets.now (seen result) }
+{
+    read_ber::<Vec<VarBind<'a>>, Error>(alloc, octets)
+}
+
+/// The bindings of the list that all of the octets are, by BER. Refused with `TrailingOctets` where octets follow it.
+pub fn read_bindings_whole<'a>(alloc: Global, octets: &'a [u8]) -> Result<Vec<VarBind<'a>>, Error>
+    ensures exact { IsWhole (ber_words ⟦<Vec<VarBind<'a>> as Grammar>⟧.grammar)
+        ⟦<Vec<VarBind<'a>> as Grammar>⟧.grammar.value
+        ⟦<Vec<VarBind<'a>> as Grammar>⟧.grammar.allocates octets.now result }
+{
+    read_ber_whole::<Vec<VarBind<'a>>>(alloc, octets)
+}
+
+/// The one strict encoding of a list of bindings in DER form. Where its length fits `usize`, it is refused only when out
+/// of memory.
+pub fn bindings_vec(alloc: Global, bindings: &Vec<VarBind<'_>>) -> SerializeResult<Vec<u8>>
+    ensures { ⟦<Vec<VarBind<'static>> as Grammar>⟧.grammar.IsDer
+        (⟦<Vec<VarBind<'static>> as Grammar>⟧.grammar.value bindings.now) →
+        WritesStrict ⟦<Vec<VarBind<'static>> as Grammar>⟧.grammar
+        ⟦<Vec<VarBind<'static>> as ToDer>⟧.writing bindings.now result }
+{
+    strict_vec(alloc, bindings)
 }

@@ -1,7 +1,9 @@
-//! Tests of `asn1_rs_snmp`: messages that are read, refused and written.
+//! Tests of `asn1_rs_snmp`: bindings that are read, refused and written.
 #![tactic(auto)]
 
 #[cfg(test)]
-mod messages;
+mod bindings;
+#[cfg(test)]
+mod boxed;
 #[cfg(test)]
 mod shown;
