@@ -6,7 +6,7 @@ ghost use Rattle.asn1_rs.specs.Any.{parts_of};
 ghost use Rattle.asn1_rs.specs.Choices.{has_a_tag, has_a_class};
 ghost use Rattle.asn1_rs.specs.Structs.{is_one_of};
 ghost use Rattle.asn1_rs.specs.Choices.Data.{choice_of, ChecksOf, numbers_of_choice, choice_numbers};
-ghost use Rattle.asn1_rs.specs.declared.choices.arms.Or.TheVariants as arm;
+ghost use Rattle.asn1_rs_snmp.specs.Pdus.{in_notice_arms};
 ghost use Rattle.asn1_rs_snmp.specs.declared.notices.NoticePdus.TheVariants as notices;
 
 use crate::pdu::Pdu;
@@ -77,15 +77,9 @@ impl<'a> DynTagged for NoticePdus<'a> {
 }
 
 impl<'a> LawfulChoice for NoticePdus<'a> {
-    ghost laws = { choice_of (λ x. elim x [
-      | notices.Response x ↦ arm.This x
-      | notices.Inform x ↦ arm.Other (arm.This x)
-      | notices.Trap x ↦ arm.Other (arm.Other (arm.This x))
-      | notices.Report x ↦ arm.Other (arm.Other (arm.Other (arm.This x)))
-    ])
+    ghost laws = { choice_of in_notice_arms
         ⟦<NoticePdusArms<'a> as Arms>⟧.arm_laws refl };
 
-    #[tactic(auto, using(asn1_rs_choices::specs::Parts::Data::arm_answers))]
     fn with_arm<U: UsesArm>(&self, using: U) -> U::Answer {
         match self {
             NoticePdus::Response(response) => using.use_arm(response),
@@ -99,12 +93,7 @@ impl<'a> LawfulChoice for NoticePdus<'a> {
 impl<'a> OfArms for NoticePdus<'a> {
     type Arms = NoticePdusArms<'a>;
 
-    ghost as_arms = { λ x. elim x [
-      | notices.Response x ↦ arm.This x
-      | notices.Inform x ↦ arm.Other (arm.This x)
-      | notices.Trap x ↦ arm.Other (arm.Other (arm.This x))
-      | notices.Report x ↦ arm.Other (arm.Other (arm.Other (arm.This x)))
-    ] };
+    ghost as_arms = { in_notice_arms };
 
     fn of_arms(arms: NoticePdusArms<'a>) -> NoticePdus<'a> {
         match arms {

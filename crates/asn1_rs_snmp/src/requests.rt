@@ -6,7 +6,7 @@ ghost use Rattle.asn1_rs.specs.Any.{parts_of};
 ghost use Rattle.asn1_rs.specs.Choices.{has_a_tag, has_a_class};
 ghost use Rattle.asn1_rs.specs.Structs.{is_one_of};
 ghost use Rattle.asn1_rs.specs.Choices.Data.{choice_of, ChecksOf, numbers_of_choice, choice_numbers};
-ghost use Rattle.asn1_rs.specs.declared.choices.arms.Or.TheVariants as arm;
+ghost use Rattle.asn1_rs_snmp.specs.Pdus.{in_request_arms};
 ghost use Rattle.asn1_rs_snmp.specs.declared.requests.RequestPdus.TheVariants as requests;
 
 use crate::pdu::{BulkPdu, Pdu};
@@ -77,15 +77,9 @@ impl<'a> DynTagged for RequestPdus<'a> {
 }
 
 impl<'a> LawfulChoice for RequestPdus<'a> {
-    ghost laws = { choice_of (λ x. elim x [
-      | requests.Get x ↦ arm.This x
-      | requests.GetNext x ↦ arm.Other (arm.This x)
-      | requests.Set x ↦ arm.Other (arm.Other (arm.This x))
-      | requests.GetBulk x ↦ arm.Other (arm.Other (arm.Other (arm.This x)))
-    ])
+    ghost laws = { choice_of in_request_arms
         ⟦<RequestPdusArms<'a> as Arms>⟧.arm_laws refl };
 
-    #[tactic(auto, using(asn1_rs_choices::specs::Parts::Data::arm_answers))]
     fn with_arm<U: UsesArm>(&self, using: U) -> U::Answer {
         match self {
             RequestPdus::Get(get) => using.use_arm(get),
@@ -99,12 +93,7 @@ impl<'a> LawfulChoice for RequestPdus<'a> {
 impl<'a> OfArms for RequestPdus<'a> {
     type Arms = RequestPdusArms<'a>;
 
-    ghost as_arms = { λ x. elim x [
-      | requests.Get x ↦ arm.This x
-      | requests.GetNext x ↦ arm.Other (arm.This x)
-      | requests.Set x ↦ arm.Other (arm.Other (arm.This x))
-      | requests.GetBulk x ↦ arm.Other (arm.Other (arm.Other (arm.This x)))
-    ] };
+    ghost as_arms = { in_request_arms };
 
     fn of_arms(arms: RequestPdusArms<'a>) -> RequestPdus<'a> {
         match arms {
