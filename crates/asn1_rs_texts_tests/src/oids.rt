@@ -298,10 +298,9 @@ fn push_printed(text: &mut String, alloc: Global, oid: &Oid<'_>) -> Result<(), F
     Ok(())
 }
 
-/// The text in a buffer of so many octets.
-fn push_in_buffer<const ROOM: usize>(text: &mut String, oid: &Oid<'_>) -> Result<(), Fail> {
-    let mut buffer = [0xff; ROOM];
-    push_debug(text, &oid.id_text(&mut buffer))
+/// The text in a buffer.
+fn push_in_buffer(text: &mut String, oid: &Oid<'_>, buffer: &mut [u8]) -> Result<(), Fail> {
+    push_debug(text, &oid.id_text(buffer))
 }
 
 /// What an iterator answers that is asked six times.
@@ -406,10 +405,14 @@ impl Calls for Oids {
             "Oid::iter" => push_asked(text, &absolute(octets)),
             "Oid::to_id_string" => push_sizes(text, alloc, &absolute(octets)),
             "Oid::fmt" => push_printed(text, alloc, &absolute(octets)),
-            "Oid::id_text, 5 octets" => push_in_buffer::<5>(text, &absolute(octets)),
-            "Oid::id_text, relative, 5 octets" => push_in_buffer::<5>(text, &relative(octets)),
-            "Oid::id_text, 32 octets" => push_in_buffer::<32>(text, &absolute(octets)),
-            "Oid::id_text, no octets" => push_in_buffer::<0>(text, &absolute(octets)),
+            "Oid::id_text, 5 octets" => push_in_buffer(text, &absolute(octets), &mut [0xff; 5]),
+            "Oid::id_text, relative, 5 octets" => push_in_buffer(
+                text,
+                &relative(octets),
+                &mut [0xff; 5],
+            ),
+            "Oid::id_text, 32 octets" => push_in_buffer(text, &absolute(octets), &mut [0xff; 32]),
+            "Oid::id_text, no octets" => push_in_buffer(text, &absolute(octets), &mut []),
             "Oid::from_der" => push_by_der::<Oid<'_>>(text, alloc, octets),
             "Oid::from_ber" => push_by_ber::<Oid<'_>>(text, alloc, octets),
             "Oid::from_ber_relative" => push_relative_by_ber(text, alloc, octets),
