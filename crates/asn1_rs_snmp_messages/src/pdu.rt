@@ -3,11 +3,11 @@ ghost use Rattle.std.proofs.Common.{refl};
 ghost use Rattle.asn1_rs.specs.Structs.{MadeOf};
 ghost use Rattle.asn1_rs.specs.Structs.Data.{struct_of};
 
-use asn1_rs_snmp::VarBind;
 use asn1_rs::{
     BerParser, BorrowedRow, Error, Fields, FieldsKind, HasKind, HasReader, LawfulStruct,
     ReadsFieldsByBer, ReadsRow, Row, SerializeResult, StructReader, row_by_ber,
 };
+use asn1_rs_snmp::VarBind;
 use std::alloc::Global;
 
 /// A request or an answer. The numbers of the status stand in RFC 3416.
