@@ -1,11 +1,10 @@
 //! Variable bindings (RFC 3416, 3).
-ghost use Rattle.std.proofs.Common.{refl};
 ghost use Rattle.asn1_headers.specs.Answers.{seen};
 ghost use Rattle.asn1_rs.specs.Callers.{ReadsByBer, WritesStrict};
 ghost use Rattle.asn1_rs.specs.Grammar.Item.{ber_words};
 ghost use Rattle.asn1_rs.specs.Structs.{MadeOf};
-ghost use Rattle.asn1_rs.specs.Structs.Data.{struct_of};
 ghost use Rattle.asn1_rs.specs.Whole.{IsWhole};
+ghost use Rattle.asn1_rs_snmp.specs.Messages.{var_bind_laws};
 
 use crate::value::BindingValue;
 use asn1_rs::{
@@ -38,22 +37,24 @@ impl HasReader for VarBind<'_> {
 }
 
 impl<'a> LawfulStruct for VarBind<'a> {
-    ghost laws = { struct_of (λ x. (x.name, (x.value, tt)))
-        ⟦<VarBindRow<'a> as Row>⟧.row_laws refl };
+    ghost laws = { var_bind_laws };
 
+    #[tactic(auto, unfolding(crate::specs::Messages::var_bind_laws))]
     fn put_row(&self, fields: &mut Fields) -> SerializeResult<()> {
         (&self.name, (&self.value, ())).put_each(fields)
     }
 
+    #[tactic(auto, unfolding(crate::specs::Messages::var_bind_laws))]
     fn row_in_hand(&self) {
         (&self.name, (&self.value, ())).each_in_hand()
     }
 }
 
 impl<'a> ReadsFieldsByBer<'a> for VarBind<'a> {
-    ghost fields_give_by_ber = { MadeOf ⟦<VarBind<'a> as LawfulStruct>⟧.laws.as_row
+    ghost fields_give_by_ber = { MadeOf (λ x. (x.name, (x.value, tt)))
         ⟦<VarBindRow<'a> as ReadsRow<'a, BerParser>>⟧.row_gives };
 
+    #[tactic(auto, unfolding(crate::specs::Messages::var_bind_laws))]
     fn read_fields_by_ber(alloc: Global, octets: &'a [u8]) -> Result<VarBind<'a>, Error> {
         match row_by_ber(alloc, octets) {
             Ok(row) => {

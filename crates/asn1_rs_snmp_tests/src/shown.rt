@@ -1,11 +1,60 @@
-//! What bindings hold, as a text.
+//! What messages and bindings hold, as a text.
 
 use asn1_rs_snmp::{
     ApplicationNumber, ApplicationSyntax, BindingValue, ObjectSyntax, SimpleSyntax, VarBind,
 };
+use asn1_rs_snmp_messages::{BulkPdu, Message, NoticePdus, Pdu, Pdus, RequestPdus};
 use std::fmt::Write;
 use std::test::Fail;
 use test_rows::push_digits;
+
+/// Appends the kind of a message, its numbers, and the values of its variables.
+pub fn push_message(text: &mut String, message: &Message<'_>) -> Result<(), Fail> {
+    match &message.data {
+        Pdus::Request(request) => push_request(text, request),
+        Pdus::Notice(notice) => push_notice(text, notice),
+    }
+}
+
+/// Appends what is asked.
+fn push_request(text: &mut String, request: &RequestPdus<'_>) -> Result<(), Fail> {
+    match request {
+        RequestPdus::Get(pdu) => push_pdu(text, "get", pdu.as_inner()),
+        RequestPdus::GetNext(pdu) => push_pdu(text, "get next", pdu.as_inner()),
+        RequestPdus::Set(pdu) => push_pdu(text, "set", pdu.as_inner()),
+        RequestPdus::GetBulk(pdu) => push_bulk(text, pdu.as_inner()),
+    }
+}
+
+/// Appends what is told.
+fn push_notice(text: &mut String, notice: &NoticePdus<'_>) -> Result<(), Fail> {
+    match notice {
+        NoticePdus::Response(pdu) => push_pdu(text, "response", pdu.as_inner()),
+        NoticePdus::Inform(pdu) => push_pdu(text, "inform", pdu.as_inner()),
+        NoticePdus::Trap(pdu) => push_pdu(text, "trap", pdu.as_inner()),
+        NoticePdus::Report(pdu) => push_pdu(text, "report", pdu.as_inner()),
+    }
+}
+
+/// Appends the name of a kind, numbers and values.
+fn push_pdu(text: &mut String, name: &str, pdu: &Pdu<'_>) -> Result<(), Fail> {
+    write!(
+        text,
+        "{name} {} {} {}",
+        pdu.request_id, pdu.error_status, pdu.error_index
+    )?;
+    push_values(text, &pdu.variable_bindings)
+}
+
+/// Appends numbers and values of a request for many variables.
+fn push_bulk(text: &mut String, pdu: &BulkPdu<'_>) -> Result<(), Fail> {
+    write!(
+        text,
+        "bulk {} {} {}",
+        pdu.request_id, pdu.non_repeaters, pdu.max_repetitions
+    )?;
+    push_values(text, &pdu.variable_bindings)
+}
 
 /// Appends each value behind a semicolon.
 pub fn push_values(text: &mut String, bindings: &Vec<VarBind<'_>>) -> Result<(), Fail> {

@@ -1,0 +1,12 @@
+-- Laws of messages. They are opened in the proofs of their author; what holds a message goes by their name, so that it
+-- is checked in a time that does not grow with what stands below.
+use Rattle.std.specs.Prelude.{refl}
+use Rattle.asn1_rs.specs.Choices.Data.{choice_type}
+use Rattle.asn1_rs.specs.Structs.Data.{LawfulStructOf, end_row, field_of, struct_of, then_row}
+use Rattle.asn1_rs.specs.Structs.Types.{oid_type}
+use Rattle.asn1_rs_snmp.specs.contracts.value.BindingValueLawfulChoice.TheImpl as value
+use Rattle.asn1_rs_snmp.specs.declared.binding.VarBind.{VarBind}
+
+unfoldable pub var_bind_laws : LawfulStructOf VarBind
+var_bind_laws = struct_of (λ x. (x.name, (x.value, tt)))
+    (then_row (field_of oid_type) (then_row (field_of (choice_type value.ghosts.laws)) end_row)) refl

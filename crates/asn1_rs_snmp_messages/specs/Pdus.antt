@@ -1,0 +1,42 @@
+-- Which arm a request, or a notice, is.
+use Rattle.std.specs.Prelude.{◌≡◌, ℕ}
+use Rattle.std.proofs.Common.{subst, sym}
+use Rattle.asn1_headers.specs.declared.error.Error.{Error}
+use Rattle.asn1_rs.specs.declared.asn1_types.tagged.Implicit.{Implicit}
+use Rattle.asn1_rs.specs.declared.asn1_types.tagged.TaggedValue.{TaggedValue}
+use Rattle.asn1_rs.specs.declared.choices.arms.Never.{Never}
+use Rattle.asn1_rs.specs.declared.choices.arms.Or.{Or}
+use Rattle.asn1_rs.specs.declared.choices.arms.Or.TheVariants as arm
+use Rattle.asn1_rs_snmp_messages.specs.declared.notices.NoticePdus.{NoticePdus}
+use Rattle.asn1_rs_snmp_messages.specs.declared.notices.NoticePdus.TheVariants as notices
+use Rattle.asn1_rs_snmp_messages.specs.declared.pdu.BulkPdu.{BulkPdu}
+use Rattle.asn1_rs_snmp_messages.specs.declared.pdu.Pdu.{Pdu}
+use Rattle.asn1_rs_snmp_messages.specs.declared.requests.RequestPdus.{RequestPdus}
+use Rattle.asn1_rs_snmp_messages.specs.declared.requests.RequestPdus.TheVariants as requests
+
+-- a value in place of whose tag a context-specific one stands
+abbrev pub Under : Type 0 → ℕ → Type 0
+Under T number = TaggedValue T Error Implicit 2 number
+
+abbrev pub RequestArms : Type 0
+RequestArms = Or (Under Pdu 0) (Or (Under Pdu 1) (Or (Under Pdu 3) (Or (Under BulkPdu 5) Never 2) 2) 2) 2
+
+abbrev pub in_request_arms : RequestPdus → RequestArms
+in_request_arms (requests.Get x) = arm.This x
+in_request_arms (requests.GetNext x) = arm.Other (arm.This x)
+in_request_arms (requests.Set x) = arm.Other (arm.Other (arm.This x))
+in_request_arms (requests.GetBulk x) = arm.Other (arm.Other (arm.Other (arm.This x)))
+
+abbrev pub NoticeArms : Type 0
+NoticeArms = Or (Under Pdu 2) (Or (Under Pdu 6) (Or (Under Pdu 7) (Or (Under Pdu 8) Never 2) 2) 2) 2
+
+abbrev pub in_notice_arms : NoticePdus → NoticeArms
+in_notice_arms (notices.Response x) = arm.This x
+in_notice_arms (notices.Inform x) = arm.Other (arm.This x)
+in_notice_arms (notices.Trap x) = arm.Other (arm.Other (arm.This x))
+in_notice_arms (notices.Report x) = arm.Other (arm.Other (arm.Other (arm.This x)))
+
+-- What a use answers of the arm of a value it answers of the arm of an equal one.
+pub by_arm : {T S R : Type 0} {C : Type 1} (answers : C → R → Type 0) (arm_of : S → C) (in_arms : T → S) (x y : T) (r : R) →
+    x ≡ y → answers (arm_of (in_arms y)) r → answers (arm_of (in_arms x)) r
+by_arm answers arm_of in_arms x y r e a = subst (λ v. answers (arm_of (in_arms v)) r) (sym e) a

@@ -1,0 +1,101 @@
+//! Messages of a community (RFC 1901, 3).
+ghost use Rattle.std.proofs.Common.{refl};
+ghost use Rattle.asn1_rs.specs.Structs.{MadeOf};
+ghost use Rattle.asn1_rs.specs.Structs.Data.{struct_of};
+ghost use Rattle.asn1_headers.specs.Answers.{seen};
+ghost use Rattle.asn1_rs.specs.Grammar.Item.{ber_words};
+ghost use Rattle.asn1_rs.specs.Whole.{IsWhole, TakesWhole};
+ghost use Rattle.asn1_rs.specs.Callers.{ReadsByBer, WritesStrict};
+
+use crate::pdus::Pdus;
+use asn1_rs::{
+    BerParser, BorrowedRow, Error, Fields, FieldsKind, FromBer, Grammar, HasKind, HasReader,
+    LawfulStruct, OctetString, ParseResult, ReadsFieldsByBer, ReadsRow, Row, SerializeResult,
+    StructReader, ToDer, read_ber, read_ber_whole, row_by_ber, strict_vec,
+};
+use std::alloc::Global;
+
+/// A message of a community.
+///
+///     Message ::= SEQUENCE {
+///         version    INTEGER,
+///         community  OCTET STRING,
+///         data       PDUs }
+#[derive(Debug, PartialEq, Eq, Drop)]
+pub struct Message<'a> {
+    pub version: u32,
+    pub community: OctetString<'a>,
+    pub data: Pdus<'a>,
+}
+
+/// Its fields.
+pub type MessageRow<'a> = (u32, (OctetString<'a>, (Pdus<'a>, ())));
+
+impl HasKind for Message<'_> {
+    type Kind = FieldsKind;
+}
+
+impl HasReader for Message<'_> {
+    type Reader = StructReader;
+}
+
+impl<'a> LawfulStruct for Message<'a> {
+    ghost laws = { struct_of (λ x. (x.version, (x.community, (x.data, tt))))
+        ⟦<MessageRow<'a> as Row>⟧.row_laws refl };
+
+    fn put_row(&self, fields: &mut Fields) -> SerializeResult<()> {
+        (&self.version, (&self.community, (&self.data, ()))).put_each(fields)
+    }
+
+    fn row_in_hand(&self) {
+        (&self.version, (&self.community, (&self.data, ()))).each_in_hand()
+    }
+}
+
+impl<'a> ReadsFieldsByBer<'a> for Message<'a> {
+    ghost fields_give_by_ber = { MadeOf ⟦<Message<'a> as LawfulStruct>⟧.laws.as_row
+        ⟦<MessageRow<'a> as ReadsRow<'a, BerParser>>⟧.row_gives };
+
+    fn read_fields_by_ber(alloc: Global, octets: &'a [u8]) -> Result<Message<'a>, Error> {
+        match row_by_ber(alloc, octets) {
+            Ok(row) => {
+                let (version, (community, (data, ()))) = row;
+                Ok(Message {
+                    version,
+                    community,
+                    data,
+                })
+            }
+            Err(e) => Err(e),
+        }
+    }
+}
+
+/// The message at the front of the octets, by BER, and what follows it.
+pub fn read_message<'a>(alloc: Global, octets: &'a [u8]) -> ParseResult<'a, Message<'a>, Error>
+    ensures { ReadsByBer ⟦<Message<'a> as Grammar>⟧.grammar octets.now (seen result) }
+{
+    read_ber::<Message<'a>, Error>(alloc, octets)
+}
+
+/// The message that all of the octets are, by BER, as a packet has it. Refused with `TrailingOctets` where octets follow
+/// it.
+pub fn read_message_whole<'a>(alloc: Global, octets: &'a [u8]) -> Result<Message<'a>, Error>
+    ensures exact { IsWhole (ber_words ⟦<Message<'a> as Grammar>⟧.grammar)
+        ⟦<Message<'a> as Grammar>⟧.grammar.value
+        ⟦<Message<'a> as Grammar>⟧.grammar.allocates octets.now result }
+    ensures gives { TakesWhole ⟦<Message<'a> as FromBer<'a, Error>>⟧.ber_gives octets.now result }
+{
+    read_ber_whole::<Message<'a>>(alloc, octets)
+}
+
+/// The one strict encoding of a message in DER form. Where its length fits `usize`, it is refused only when out of
+/// memory.
+pub fn message_vec(alloc: Global, message: &Message<'_>) -> SerializeResult<Vec<u8>>
+    ensures { ⟦<Message<'static> as Grammar>⟧.grammar.IsDer
+        (⟦<Message<'static> as Grammar>⟧.grammar.value message.now) →
+        WritesStrict ⟦<Message<'static> as Grammar>⟧.grammar
+        ⟦<Message<'static> as ToDer>⟧.writing message.now result }
+{
+    strict_vec(alloc, message)
+}

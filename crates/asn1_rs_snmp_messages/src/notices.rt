@@ -1,0 +1,152 @@
+//! What is answered or told (RFC 3416, 3).
+ghost use Rattle.std.proofs.Common.{refl};
+ghost use Rattle.std.specs.Prelude.{◌≡◌};
+ghost use Rattle.asn1_headers.specs.Class.{class_number};
+ghost use Rattle.asn1_rs.specs.Any.{parts_of};
+ghost use Rattle.asn1_rs.specs.Choices.{has_a_tag, has_a_class};
+ghost use Rattle.asn1_rs.specs.Structs.{is_one_of};
+ghost use Rattle.asn1_rs.specs.Choices.Data.{choice_of, ChecksOf, numbers_of_choice, choice_numbers};
+ghost use Rattle.asn1_rs_snmp_messages.specs.Pdus.{in_notice_arms};
+ghost use Rattle.asn1_rs_snmp_messages.specs.declared.notices.NoticePdus.TheVariants as notices;
+
+use crate::pdu::Pdu;
+use asn1_rs::{
+    Any, ArmNumbers, Arms, ChecksChoice, ChoiceKind, ChoiceReader, Class, DynTagged, Error,
+    HasKind, HasReader, LawfulChoice, Never, OfArms, Or, OrTagged, ReadsChoiceByBer, Tag,
+    TaggedImplicit, ToldByNumber, UsesArm, choice_of_element,
+};
+use asn1_rs_choices::{TellsArms, ToldChoice, check_arms};
+use std::alloc::Global;
+
+/// What is told.
+///
+///     response        [2] IMPLICIT PDU,
+///     inform-request  [6] IMPLICIT PDU,
+///     snmpV2-trap     [7] IMPLICIT PDU,
+///     report          [8] IMPLICIT PDU
+#[derive(Debug, PartialEq, Eq, Drop)]
+pub enum NoticePdus<'a> {
+    Response(Response<'a>),
+    Inform(InformRequest<'a>),
+    Trap(Trap<'a>),
+    Report(Report<'a>),
+}
+
+/// Answers a request.
+pub type Response<'a> = TaggedImplicit<Pdu<'a>, Error, 2>;
+
+/// Tells variables, and asks that this be confirmed.
+pub type InformRequest<'a> = TaggedImplicit<Pdu<'a>, Error, 6>;
+
+/// Tells variables.
+pub type Trap<'a> = TaggedImplicit<Pdu<'a>, Error, 7>;
+
+/// Reports of the protocol itself.
+pub type Report<'a> = TaggedImplicit<Pdu<'a>, Error, 8>;
+
+/// Its arms.
+pub type NoticePdusArms<'a> = OrTagged<
+    Response<'a>,
+    OrTagged<InformRequest<'a>, OrTagged<Trap<'a>, OrTagged<Report<'a>, Never>>>,
+>;
+
+impl HasKind for NoticePdus<'_> {
+    type Kind = ChoiceKind;
+}
+
+impl HasReader for NoticePdus<'_> {
+    type Reader = ChoiceReader;
+}
+
+impl<'a> DynTagged for NoticePdus<'a> {
+    ghost dyn_tag = { λ x. elim x [
+      | notices.Response x ↦ record { 0 = 2 }
+      | notices.Inform x ↦ record { 0 = 6 }
+      | notices.Trap x ↦ record { 0 = 7 }
+      | notices.Report x ↦ record { 0 = 8 }
+    ] };
+
+    fn tag(&self) -> Tag {
+        match self {
+            NoticePdus::Response(response) => response.tag(),
+            NoticePdus::Inform(inform) => inform.tag(),
+            NoticePdus::Trap(trap) => trap.tag(),
+            NoticePdus::Report(report) => report.tag(),
+        }
+    }
+}
+
+impl<'a> LawfulChoice for NoticePdus<'a> {
+    ghost laws = { choice_of in_notice_arms
+        ⟦<NoticePdusArms<'a> as Arms>⟧.arm_laws refl };
+
+    fn with_arm<U: UsesArm>(&self, using: U) -> U::Answer {
+        match self {
+            NoticePdus::Response(response) => using.use_arm(response),
+            NoticePdus::Inform(inform) => using.use_arm(inform),
+            NoticePdus::Trap(trap) => using.use_arm(trap),
+            NoticePdus::Report(report) => using.use_arm(report),
+        }
+    }
+}
+
+impl<'a> OfArms for NoticePdus<'a> {
+    type Arms = NoticePdusArms<'a>;
+
+    ghost as_arms = { in_notice_arms };
+
+    fn of_arms(arms: NoticePdusArms<'a>) -> NoticePdus<'a> {
+        match arms {
+            Or::This(response) => NoticePdus::Response(response),
+            Or::Other(Or::This(inform)) => NoticePdus::Inform(inform),
+            Or::Other(Or::Other(Or::This(trap))) => NoticePdus::Trap(trap),
+            Or::Other(Or::Other(Or::Other(Or::This(report)))) => NoticePdus::Report(report),
+            Or::Other(Or::Other(Or::Other(Or::Other(none)))) => match none {},
+        }
+    }
+}
+
+impl<'a> ReadsChoiceByBer<'a> for NoticePdus<'a> {
+    fn choice_of_any(alloc: Global, any: Any<'a>) -> Result<NoticePdus<'a>, Error> {
+        choice_of_element(alloc, any)
+    }
+}
+
+impl<'a> ChecksChoice for NoticePdus<'a> {
+    fn check_choice(any: &Any<'_>) -> Result<(), Error>
+        ensures { ChecksOf ⟦<NoticePdus<'a> as LawfulChoice>⟧.laws.arms.grammar.Check
+            (parts_of any.now) result }
+    {
+        check_arms::<NoticePdusArms<'a>>(any)
+    }
+}
+
+/// It may be an arm of another choice.
+impl<'a> ToldChoice for NoticePdus<'a> {
+    fn has_element(any: &Any<'_>) -> bool
+        ensures { result ≡ has_a_tag ⟦<NoticePdus<'a> as LawfulChoice>⟧.laws.arms.grammar.tags
+            (parts_of any.now).id }
+    {
+        <NoticePdusArms<'a> as TellsArms>::is_element_of_an_arm(any)
+    }
+
+    fn has_class(class: Class) -> bool
+        ensures { result ≡ has_a_class ⟦<NoticePdus<'a> as LawfulChoice>⟧.laws.arms.grammar.tags
+            (class_number class) }
+    {
+        <NoticePdusArms<'a> as TellsArms>::is_class_of_an_arm(class)
+    }
+}
+
+impl<'a> ToldByNumber for NoticePdus<'a> {
+    ghost numbers = { numbers_of_choice ⟦<NoticePdus<'a> as LawfulChoice>⟧.laws };
+
+    fn has_number(tag: Tag) -> bool
+        ensures { result ≡ is_one_of tag.0
+            (numbers_of_choice ⟦<NoticePdus<'a> as LawfulChoice>⟧.laws) }
+    {
+        <NoticePdusArms<'a> as ArmNumbers>::is_of_an_arm(tag)
+    }
+
+    ghost told_by_number = { choice_numbers ⟦<NoticePdus<'a> as LawfulChoice>⟧.laws };
+}

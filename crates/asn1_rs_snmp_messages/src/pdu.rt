@@ -1,0 +1,156 @@
+//! What requests and answers hold (RFC 3416, 3).
+ghost use Rattle.std.proofs.Common.{refl};
+ghost use Rattle.asn1_rs.specs.Structs.{MadeOf};
+ghost use Rattle.asn1_rs.specs.Structs.Data.{struct_of};
+
+use asn1_rs::{
+    BerParser, BorrowedRow, Error, Fields, FieldsKind, HasKind, HasReader, LawfulStruct,
+    ReadsFieldsByBer, ReadsRow, Row, SerializeResult, StructReader, row_by_ber,
+};
+use asn1_rs_snmp::VarBind;
+use std::alloc::Global;
+
+/// A request or an answer. The numbers of the status stand in RFC 3416.
+///
+///     PDU ::= SEQUENCE {
+///         request-id         INTEGER (-214783648..214783647),
+///         error-status       INTEGER (0..18),
+///         error-index        INTEGER (0..2147483647),
+///         variable-bindings  SEQUENCE OF VarBind }
+#[derive(Debug, PartialEq, Eq, Drop)]
+pub struct Pdu<'a> {
+    pub request_id: i32,
+    pub error_status: u8,
+    pub error_index: u32,
+    pub variable_bindings: Vec<VarBind<'a>>,
+}
+
+/// Its fields.
+pub type PduRow<'a> = (i32, (u8, (u32, (Vec<VarBind<'a>>, ()))));
+
+impl HasKind for Pdu<'_> {
+    type Kind = FieldsKind;
+}
+
+impl HasReader for Pdu<'_> {
+    type Reader = StructReader;
+}
+
+impl<'a> LawfulStruct for Pdu<'a> {
+    ghost laws = { struct_of (λ x. (x.request_id, (x.error_status, (x.error_index, (x.variable_bindings, tt)))))
+        ⟦<PduRow<'a> as Row>⟧.row_laws refl };
+
+    fn put_row(&self, fields: &mut Fields) -> SerializeResult<()> {
+        (
+            &self.request_id,
+            (
+                &self.error_status,
+                (&self.error_index, (&self.variable_bindings, ())),
+            ),
+        )
+            .put_each(fields)
+    }
+
+    fn row_in_hand(&self) {
+        (
+            &self.request_id,
+            (
+                &self.error_status,
+                (&self.error_index, (&self.variable_bindings, ())),
+            ),
+        )
+            .each_in_hand()
+    }
+}
+
+impl<'a> ReadsFieldsByBer<'a> for Pdu<'a> {
+    ghost fields_give_by_ber = { MadeOf ⟦<Pdu<'a> as LawfulStruct>⟧.laws.as_row
+        ⟦<PduRow<'a> as ReadsRow<'a, BerParser>>⟧.row_gives };
+
+    fn read_fields_by_ber(alloc: Global, octets: &'a [u8]) -> Result<Pdu<'a>, Error> {
+        match row_by_ber(alloc, octets) {
+            Ok(row) => {
+                let (request_id, (error_status, (error_index, (variable_bindings, ())))) = row;
+                Ok(Pdu {
+                    request_id,
+                    error_status,
+                    error_index,
+                    variable_bindings,
+                })
+            }
+            Err(e) => Err(e),
+        }
+    }
+}
+/// A request for many variables.
+///
+///     BulkPDU ::= SEQUENCE {
+///         request-id         INTEGER (-214783648..214783647),
+///         non-repeaters      INTEGER (0..2147483647),
+///         max-repetitions    INTEGER (0..2147483647),
+///         variable-bindings  SEQUENCE OF VarBind }
+#[derive(Debug, PartialEq, Eq, Drop)]
+pub struct BulkPdu<'a> {
+    pub request_id: i32,
+    pub non_repeaters: u32,
+    pub max_repetitions: u32,
+    pub variable_bindings: Vec<VarBind<'a>>,
+}
+
+/// Its fields.
+pub type BulkPduRow<'a> = (i32, (u32, (u32, (Vec<VarBind<'a>>, ()))));
+
+impl HasKind for BulkPdu<'_> {
+    type Kind = FieldsKind;
+}
+
+impl HasReader for BulkPdu<'_> {
+    type Reader = StructReader;
+}
+
+impl<'a> LawfulStruct for BulkPdu<'a> {
+    ghost laws = { struct_of (λ x. (x.request_id, (x.non_repeaters, (x.max_repetitions, (x.variable_bindings, tt)))))
+        ⟦<BulkPduRow<'a> as Row>⟧.row_laws refl };
+
+    fn put_row(&self, fields: &mut Fields) -> SerializeResult<()> {
+        (
+            &self.request_id,
+            (
+                &self.non_repeaters,
+                (&self.max_repetitions, (&self.variable_bindings, ())),
+            ),
+        )
+            .put_each(fields)
+    }
+
+    fn row_in_hand(&self) {
+        (
+            &self.request_id,
+            (
+                &self.non_repeaters,
+                (&self.max_repetitions, (&self.variable_bindings, ())),
+            ),
+        )
+            .each_in_hand()
+    }
+}
+
+impl<'a> ReadsFieldsByBer<'a> for BulkPdu<'a> {
+    ghost fields_give_by_ber = { MadeOf ⟦<BulkPdu<'a> as LawfulStruct>⟧.laws.as_row
+        ⟦<BulkPduRow<'a> as ReadsRow<'a, BerParser>>⟧.row_gives };
+
+    fn read_fields_by_ber(alloc: Global, octets: &'a [u8]) -> Result<BulkPdu<'a>, Error> {
+        match row_by_ber(alloc, octets) {
+            Ok(row) => {
+                let (request_id, (non_repeaters, (max_repetitions, (variable_bindings, ())))) = row;
+                Ok(BulkPdu {
+                    request_id,
+                    non_repeaters,
+                    max_repetitions,
+                    variable_bindings,
+                })
+            }
+            Err(e) => Err(e),
+        }
+    }
+}

@@ -1,0 +1,134 @@
+//! What messages hold (RFC 3416, 3).
+ghost use Rattle.std.proofs.Common.{refl};
+ghost use Rattle.std.specs.Prelude.{◌≡◌};
+ghost use Rattle.asn1_headers.specs.Class.{class_number};
+ghost use Rattle.asn1_rs.specs.Any.{parts_of};
+ghost use Rattle.asn1_rs.specs.Choices.{has_a_tag, has_a_class};
+ghost use Rattle.asn1_rs.specs.Structs.{is_one_of};
+ghost use Rattle.asn1_rs.specs.Choices.Data.{choice_of, ChecksOf, choice_type, numbers_of_choice, choice_numbers};
+ghost use Rattle.asn1_rs_choices.specs.declared.arms.OrChoice.TheVariants as part;
+ghost use Rattle.asn1_rs_snmp_messages.specs.declared.pdus.Pdus.TheVariants as pdus;
+
+use crate::notices::NoticePdus;
+use crate::requests::RequestPdus;
+use asn1_rs::{
+    Any, ArmNumbers, Arms, ChecksChoice, ChoiceKind, ChoiceReader, Class, DynTagged, Error,
+    HasKind, HasReader, LawfulChoice, LawfulType, Never, OfArms, ReadsChoiceByBer, Tag,
+    ToldByNumber, UsesArm, choice_of_element,
+};
+use asn1_rs_choices::{OrChoice, TellsArms, ToldChoice, check_arms};
+use std::alloc::Global;
+
+/// What a message holds: what is asked, or what is told.
+#[derive(Debug, PartialEq, Eq, Drop)]
+pub enum Pdus<'a> {
+    Request(RequestPdus<'a>),
+    Notice(NoticePdus<'a>),
+}
+
+/// Its arms.
+pub type PdusArms<'a> = OrChoice<RequestPdus<'a>, OrChoice<NoticePdus<'a>, Never>>;
+
+impl HasKind for Pdus<'_> {
+    type Kind = ChoiceKind;
+}
+
+impl HasReader for Pdus<'_> {
+    type Reader = ChoiceReader;
+}
+
+impl<'a> DynTagged for Pdus<'a> {
+    ghost dyn_tag = { λ x. elim x [
+      | pdus.Request x ↦ ⟦<RequestPdus<'a> as DynTagged>⟧.dyn_tag x
+      | pdus.Notice x ↦ ⟦<NoticePdus<'a> as DynTagged>⟧.dyn_tag x
+    ] };
+
+    fn tag(&self) -> Tag {
+        match self {
+            Pdus::Request(request) => request.tag(),
+            Pdus::Notice(notice) => notice.tag(),
+        }
+    }
+}
+
+impl<'a> LawfulChoice for Pdus<'a> {
+    ghost laws = { choice_of (λ x. elim x [
+      | pdus.Request x ↦ part.This x
+      | pdus.Notice x ↦ part.Other (part.This x)
+    ])
+        ⟦<PdusArms<'a> as Arms>⟧.arm_laws refl };
+
+    fn with_arm<U: UsesArm>(&self, using: U) -> U::Answer {
+        match self {
+            Pdus::Request(request) => request.with_arm(using),
+            Pdus::Notice(notice) => notice.with_arm(using),
+        }
+    }
+}
+
+impl<'a> OfArms for Pdus<'a> {
+    type Arms = PdusArms<'a>;
+
+    ghost as_arms = { λ x. elim x [
+      | pdus.Request x ↦ part.This x
+      | pdus.Notice x ↦ part.Other (part.This x)
+    ] };
+
+    fn of_arms(arms: PdusArms<'a>) -> Pdus<'a> {
+        match arms {
+            OrChoice::This(request) => Pdus::Request(request),
+            OrChoice::Other(OrChoice::This(notice)) => Pdus::Notice(notice),
+            OrChoice::Other(OrChoice::Other(none)) => match none {},
+        }
+    }
+}
+
+impl<'a> ReadsChoiceByBer<'a> for Pdus<'a> {
+    fn choice_of_any(alloc: Global, any: Any<'a>) -> Result<Pdus<'a>, Error> {
+        choice_of_element(alloc, any)
+    }
+}
+
+impl<'a> ChecksChoice for Pdus<'a> {
+    fn check_choice(any: &Any<'_>) -> Result<(), Error>
+        ensures { ChecksOf ⟦<Pdus<'a> as LawfulChoice>⟧.laws.arms.grammar.Check
+            (parts_of any.now) result }
+    {
+        check_arms::<PdusArms<'a>>(any)
+    }
+}
+
+/// It may be an arm of another choice.
+impl<'a> ToldChoice for Pdus<'a> {
+    fn has_element(any: &Any<'_>) -> bool
+        ensures { result ≡ has_a_tag ⟦<Pdus<'a> as LawfulChoice>⟧.laws.arms.grammar.tags
+            (parts_of any.now).id }
+    {
+        <PdusArms<'a> as TellsArms>::is_element_of_an_arm(any)
+    }
+
+    fn has_class(class: Class) -> bool
+        ensures { result ≡ has_a_class ⟦<Pdus<'a> as LawfulChoice>⟧.laws.arms.grammar.tags
+            (class_number class) }
+    {
+        <PdusArms<'a> as TellsArms>::is_class_of_an_arm(class)
+    }
+}
+
+impl<'a> ToldByNumber for Pdus<'a> {
+    ghost numbers = { numbers_of_choice ⟦<Pdus<'a> as LawfulChoice>⟧.laws };
+
+    fn has_number(tag: Tag) -> bool
+        ensures { result ≡ is_one_of tag.0
+            (numbers_of_choice ⟦<Pdus<'a> as LawfulChoice>⟧.laws) }
+    {
+        <PdusArms<'a> as ArmNumbers>::is_of_an_arm(tag)
+    }
+
+    ghost told_by_number = { choice_numbers ⟦<Pdus<'a> as LawfulChoice>⟧.laws };
+}
+
+/// It may be a field.
+impl<'a> LawfulType for Pdus<'a> {
+    ghost type_laws = { choice_type ⟦<Pdus<'a> as LawfulChoice>⟧.laws };
+}
