@@ -1,11 +1,10 @@
 //! A search (RFC 4511, 4.5.1).
-ghost use Rattle.std.proofs.Common.{refl};
 ghost use Rattle.asn1_headers.specs.Answers.{seen};
 ghost use Rattle.asn1_rs.specs.Grammar.Item.{ber_words};
 ghost use Rattle.asn1_rs.specs.Whole.{IsWhole, TakesWhole};
 ghost use Rattle.asn1_rs.specs.Structs.{MadeOf};
-ghost use Rattle.asn1_rs.specs.Structs.Data.{struct_of};
-ghost use Rattle.asn1_rs_ldap.specs.Searches.{wanted_of};
+ghost use Rattle.asn1_rs_ldap.specs.Endings.{wanted_of};
+ghost use Rattle.asn1_rs_ldap.specs.Searches.{search_laws};
 ghost use Rattle.asn1_rs.specs.Callers.{ReadsByBer, WritesStrict};
 
 use crate::Filter;
@@ -59,10 +58,9 @@ impl HasReader for SearchRequest<'_> {
 }
 
 impl<'a> LawfulStruct for SearchRequest<'a> {
-    ghost laws = { struct_of (λ x.
-        (x.base_object, (x.scope, (x.deref_aliases, (x.size_limit, (x.time_limit, wanted_of x))))))
-        ⟦<SearchRow<'a> as Row>⟧.row_laws refl };
+    ghost laws = { search_laws };
 
+    #[tactic(auto, unfolding(crate::specs::Searches::search_laws))]
     fn put_row(&self, fields: &mut Fields) -> SerializeResult<()> {
         let limits = (&self.size_limit, (&self.time_limit, WantedOf(self)));
         (
@@ -72,6 +70,7 @@ impl<'a> LawfulStruct for SearchRequest<'a> {
             .put_each(fields)
     }
 
+    #[tactic(auto, unfolding(crate::specs::Searches::search_laws))]
     fn row_in_hand(&self) {
         let limits = (&self.size_limit, (&self.time_limit, WantedOf(self)));
         (
@@ -83,9 +82,11 @@ impl<'a> LawfulStruct for SearchRequest<'a> {
 }
 
 impl<'a> ReadsFieldsByBer<'a> for SearchRequest<'a> {
-    ghost fields_give_by_ber = { MadeOf ⟦<SearchRequest<'a> as LawfulStruct>⟧.laws.as_row
+    ghost fields_give_by_ber = { MadeOf (λ x.
+        (x.base_object, (x.scope, (x.deref_aliases, (x.size_limit, (x.time_limit, wanted_of x))))))
         ⟦<SearchRow<'a> as ReadsRow<'a, BerParser>>⟧.row_gives };
 
+    #[tactic(auto, unfolding(crate::specs::Searches::search_laws))]
     fn read_fields_by_ber(alloc: Global, octets: &'a [u8]) -> Result<SearchRequest<'a>, Error> {
         match row_by_ber::<SearchRow<'a>>(alloc, octets) {
             Ok(row) => {
