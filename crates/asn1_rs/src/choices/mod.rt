@@ -13,6 +13,7 @@
 //! The laws of the arms stand in the choice's own record ([`LawfulChoice`]), and what holds a choice asks nothing of them.
 
 pub(crate) mod arms;
+pub(crate) mod lent;
 pub(crate) mod writing;
 
 ghost use Rattle.std.specs.Prelude.{◌≡◌, ◌≢◌, ℕ, List, Result, Err, false, IfErr};

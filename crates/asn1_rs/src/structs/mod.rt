@@ -100,6 +100,34 @@ pub trait LawfulStruct: HasKind<Kind = FieldsKind> + Sized {
         ensures { laws.row.grammar.IsValue (laws.row.grammar.value (laws.as_row self.now)) };
 }
 
+/// A struct that is made of its row.
+///
+///     impl OfRow for Measurement {
+///         type Row = MeasurementRow;
+///
+///         ghost as_row = { λ m. (m.place, (m.value, (m.error, tt))) };
+///
+///         fn of_row(row: MeasurementRow) -> Measurement {
+///             let (place, (value, (error, ()))) = row;
+///             Measurement { place, value, error }
+///         }
+///     }
+///
+/// Then it is read by one call, [`struct_by_der`](row::struct_by_der) or [`struct_by_ber`](row::struct_by_ber), whose
+/// proof is found where the fields hold large types.
+// No law says that its row is that of its `laws`: the contract of its reader does.
+pub trait OfRow: Sized {
+    /// Its row.
+    type Row;
+
+    /// The row of a value, as its laws say it.
+    ghost as_row: { Self → Self.Row };
+
+    /// The value of this row.
+    fn of_row(row: Self::Row) -> Self
+        ensures { as_row result ≡ row };
+}
+
 /// A struct that is read by DER, each of its fields by DER.
 ///
 ///     impl<'a> ReadsFields<'a> for Measurement {

@@ -4,11 +4,12 @@ ghost use Rattle.asn1_headers.specs.declared.error.Error.{Error};
 ghost use Rattle.asn1_rs.specs.Laws.Structs.Readers.{end_answers, row_answers};
 ghost use Rattle.asn1_rs.specs.Fields.{taken_in};
 ghost use Rattle.asn1_rs.specs.Structs.{RowGrammar, by_der, by_ber, empty_row, row_of, EndGives, RowGives, PutList, none_put, put_then, PutsAll};
+ghost use Rattle.asn1_rs.specs.Structs.{MadeOf};
 ghost use Rattle.asn1_rs.specs.Structs.Data.{LawfulRowOf, AnswersRow, end_row, then_row};
 
 use crate::kinds::fields::Fields;
-use crate::structs::ReadsBy;
 use crate::structs::field::{FieldInHand, FieldIsDer, FieldType, ReadsField};
+use crate::structs::{OfRow, ReadsBy};
 use crate::to_der::ToDer;
 use asn1_headers::content::{BerParser, DerParser};
 use asn1_headers::error::{DerConstraint, Error, SerializeResult};
@@ -108,6 +109,34 @@ pub fn row_by_ber<'a, R: ReadsRow<'a, BerParser>>(
     ensures gives { R.row_gives octets.now result }
 {
     R::read_row(alloc, octets)
+}
+
+/// The struct whose fields the octets are, by DER.
+pub fn struct_by_der<'a, T, R>(alloc: Global, octets: &'a [u8]) -> Result<T, Error>
+where
+    T: OfRow<Row = R>,
+    R: ReadsRow<'a, DerParser>,
+    ensures answers { MadeOf T.as_row (AnswersRow by_der R.row_grammar) octets.now result }
+    ensures gives { MadeOf T.as_row R.row_gives octets.now result }
+{
+    match row_by_der::<R>(alloc, octets) {
+        Ok(row) => Ok(T::of_row(row)),
+        Err(e) => Err(e),
+    }
+}
+
+/// The struct whose fields the octets are, by BER.
+pub fn struct_by_ber<'a, T, R>(alloc: Global, octets: &'a [u8]) -> Result<T, Error>
+where
+    T: OfRow<Row = R>,
+    R: ReadsRow<'a, BerParser>,
+    ensures answers { MadeOf T.as_row (AnswersRow by_ber R.row_grammar) octets.now result }
+    ensures gives { MadeOf T.as_row R.row_gives octets.now result }
+{
+    match row_by_ber::<R>(alloc, octets) {
+        Ok(row) => Ok(T::of_row(row)),
+        Err(e) => Err(e),
+    }
 }
 
 /// A row of references to fields.
