@@ -1,6 +1,5 @@
 -- Which arm a request, or a notice, is.
-use Rattle.std.specs.Prelude.{◌≡◌, ℕ}
-use Rattle.std.proofs.Common.{subst, sym}
+use Rattle.std.specs.Prelude.{ℕ}
 use Rattle.asn1_headers.specs.declared.error.Error.{Error}
 use Rattle.asn1_rs.specs.declared.asn1_types.tagged.Implicit.{Implicit}
 use Rattle.asn1_rs.specs.declared.asn1_types.tagged.TaggedValue.{TaggedValue}
@@ -35,8 +34,3 @@ in_notice_arms (notices.Response x) = arm.This x
 in_notice_arms (notices.Inform x) = arm.Other (arm.This x)
 in_notice_arms (notices.Trap x) = arm.Other (arm.Other (arm.This x))
 in_notice_arms (notices.Report x) = arm.Other (arm.Other (arm.Other (arm.This x)))
-
--- What a use answers of the arm of a value it answers of the arm of an equal one.
-pub by_arm : {T S R : Type 0} {C : Type 1} (answers : C → R → Type 0) (arm_of : S → C) (in_arms : T → S) (x y : T) (r : R) →
-    x ≡ y → answers (arm_of (in_arms y)) r → answers (arm_of (in_arms x)) r
-by_arm answers arm_of in_arms x y r e a = subst (λ v. answers (arm_of (in_arms v)) r) (sym e) a

@@ -4,8 +4,8 @@ ghost use Rattle.asn1_rs.specs.Structs.{MadeOf};
 ghost use Rattle.asn1_rs.specs.Structs.Data.{struct_of};
 
 use asn1_rs::{
-    BerParser, BorrowedRow, Error, Fields, FieldsKind, HasKind, HasReader, LawfulStruct,
-    ReadsFieldsByBer, ReadsRow, Row, SerializeResult, StructReader, row_by_ber,
+    BerParser, BorrowedRow, Error, Fields, FieldsKind, HasKind, HasReader, LawfulStruct, OfRow,
+    ReadsFieldsByBer, ReadsRow, Row, SerializeResult, StructReader, struct_by_ber,
 };
 use asn1_rs_snmp::VarBind;
 use std::alloc::Global;
@@ -63,23 +63,28 @@ impl<'a> LawfulStruct for Pdu<'a> {
     }
 }
 
+impl<'a> OfRow for Pdu<'a> {
+    type Row = PduRow<'a>;
+
+    ghost as_row = { λ x. (x.request_id, (x.error_status, (x.error_index, (x.variable_bindings, tt)))) };
+
+    fn of_row(row: PduRow<'a>) -> Pdu<'a> {
+        let (request_id, (error_status, (error_index, (variable_bindings, ())))) = row;
+        Pdu {
+            request_id,
+            error_status,
+            error_index,
+            variable_bindings,
+        }
+    }
+}
+
 impl<'a> ReadsFieldsByBer<'a> for Pdu<'a> {
     ghost fields_give_by_ber = { MadeOf ⟦<Pdu<'a> as LawfulStruct>⟧.laws.as_row
         ⟦<PduRow<'a> as ReadsRow<'a, BerParser>>⟧.row_gives };
 
     fn read_fields_by_ber(alloc: Global, octets: &'a [u8]) -> Result<Pdu<'a>, Error> {
-        match row_by_ber(alloc, octets) {
-            Ok(row) => {
-                let (request_id, (error_status, (error_index, (variable_bindings, ())))) = row;
-                Ok(Pdu {
-                    request_id,
-                    error_status,
-                    error_index,
-                    variable_bindings,
-                })
-            }
-            Err(e) => Err(e),
-        }
+        struct_by_ber(alloc, octets)
     }
 }
 /// A request for many variables.
@@ -135,22 +140,27 @@ impl<'a> LawfulStruct for BulkPdu<'a> {
     }
 }
 
+impl<'a> OfRow for BulkPdu<'a> {
+    type Row = BulkPduRow<'a>;
+
+    ghost as_row = { λ x. (x.request_id, (x.non_repeaters, (x.max_repetitions, (x.variable_bindings, tt)))) };
+
+    fn of_row(row: BulkPduRow<'a>) -> BulkPdu<'a> {
+        let (request_id, (non_repeaters, (max_repetitions, (variable_bindings, ())))) = row;
+        BulkPdu {
+            request_id,
+            non_repeaters,
+            max_repetitions,
+            variable_bindings,
+        }
+    }
+}
+
 impl<'a> ReadsFieldsByBer<'a> for BulkPdu<'a> {
     ghost fields_give_by_ber = { MadeOf ⟦<BulkPdu<'a> as LawfulStruct>⟧.laws.as_row
         ⟦<BulkPduRow<'a> as ReadsRow<'a, BerParser>>⟧.row_gives };
 
     fn read_fields_by_ber(alloc: Global, octets: &'a [u8]) -> Result<BulkPdu<'a>, Error> {
-        match row_by_ber(alloc, octets) {
-            Ok(row) => {
-                let (request_id, (non_repeaters, (max_repetitions, (variable_bindings, ())))) = row;
-                Ok(BulkPdu {
-                    request_id,
-                    non_repeaters,
-                    max_repetitions,
-                    variable_bindings,
-                })
-            }
-            Err(e) => Err(e),
-        }
+        struct_by_ber(alloc, octets)
     }
 }
