@@ -10,7 +10,6 @@ use Rattle.asn1_headers.specs.declared.error.Err.{Err as Refusal}
 use Rattle.asn1_headers.specs.declared.error.Err.TheVariants.{Incomplete as cut, Error as refused, Failure as failed}
 use Rattle.asn1_headers.specs.declared.error.Error.{Error}
 use Rattle.asn1_headers.specs.declared.error.Error.TheVariants as errors
-use Rattle.asn1_headers.specs.declared.tag.Tag.{Tag}
 use Rattle.asn1_headers.specs.Answers.{Front, IsFinal}
 use Rattle.asn1_headers.specs.Error.{FlattenedTo}
 use Rattle.asn1_rs.specs.declared.asn1_types.any.Any.{Any}

@@ -1,7 +1,6 @@
 -- Borrowed octets under a tag whose number is told at run time.
 use Rattle.std.specs.Prelude.{◌≡◌, ℕ, List, ◌++◌, Err}
 use Rattle.x690.specs.Elements.{Parts, IsDerElement}
-use Rattle.asn1_headers.specs.Header.Reading.{Refused}
 use Rattle.asn1_headers.specs.declared.error.Err.{Err as Refusal}
 use Rattle.asn1_headers.specs.declared.error.Error.{Error}
 use Rattle.asn1_rs.specs.Checks.{is_primitive}
