@@ -1,7 +1,7 @@
 //! Requests of Kerberos: read, refused, written again, and made by hand.
 
 use asn1_rs::{FromDer, GeneralString, ToDer};
-use asn1_rs_kerberos::{KdcReqBody, PrincipalName, Under, read_request, request_vec};
+use asn1_rs_kerberos::{AsReq, KdcReqBody, PrincipalName, Under, read_request, request_vec};
 use std::alloc::Global;
 use std::fmt::Write;
 use std::test::Fail;
@@ -38,15 +38,34 @@ fn push_names(text: &mut String, body: &KdcReqBody<'_>) -> Result<(), Fail> {
     Ok(())
 }
 
-/// Appends when and by which encryption.
+/// Appends the options, when and by which encryption.
 fn push_numbers(text: &mut String, body: &KdcReqBody<'_>) -> Result<(), Fail> {
+    writeln!(text, "{:?}", body.kdc_options.as_inner().as_bytes())?;
     let till = &body.till.as_inner().0;
     writeln!(text, "{} {} {}", till.year, till.month, till.day)?;
+    writeln!(text, "{} {} {}", till.hour, till.minute, till.second)?;
     let (nonce, types) = (body.nonce.as_inner(), body.etype.as_inner());
     writeln!(text, "{nonce} {types:?}")?;
+    Ok(())
+}
+
+/// Appends the data for the authentication, each by its type and its octets.
+fn push_data(text: &mut String, request: &AsReq<'_>) -> Result<(), Fail> {
+    if let Some(padata) = &request.as_inner().padata {
+        for data in padata.as_inner() {
+            let octets = data.padata_value.as_inner().as_bytes();
+            writeln!(text, "{} {octets:?}", data.padata_type.as_inner())?;
+        }
+    }
+    Ok(())
+}
+
+/// Appends the addresses, each by its type and its octets.
+fn push_addresses(text: &mut String, body: &KdcReqBody<'_>) -> Result<(), Fail> {
     if let Some(addresses) = &body.addresses {
         for address in addresses.as_inner() {
-            writeln!(text, "{}", address.addr_type.as_inner())?;
+            let octets = address.address.as_inner().as_bytes();
+            writeln!(text, "{} {octets:?}", address.addr_type.as_inner())?;
         }
     }
     Ok(())
@@ -64,12 +83,29 @@ fn fields_of_a_request_are_read(rt: HostRuntime) -> Result<(), Fail> {
 1 leaf
 TESTS.EXAMPLE
 2 krbtgt TESTS.EXAMPLE
+[64, 129, 0, 16]
 2037 9 13
+2 48 5
 2147483647 [18, 17, -133]
-2
-20
 ";
     assert_text("fields", text.as_str(), expected)
+}
+
+#[test]
+fn lists_of_a_request_are_read(rt: HostRuntime) -> Result<(), Fail> {
+    let alloc = rt.alloc();
+    let octets = octets_of(alloc, REQUEST)?;
+    let (_, request) = read_request(alloc, octets.as_slice())?;
+    let mut text = String::new(alloc);
+    push_data(&mut text, &request)?;
+    push_addresses(&mut text, request.as_inner().req_body.as_inner())?;
+    let expected = "\
+128 [48, 5, 160, 3, 1, 1, 255]
+149 []
+2 [192, 0, 2, 1]
+20 [76, 69, 65, 70, 32, 32, 32, 32, 32, 32, 32, 32, 32, 32, 32, 32]
+";
+    assert_text("lists", text.as_str(), expected)
 }
 
 /// Read: the rest, whether the same octets are written, and whether the numbers are those of an AS-REQ. With the fewest

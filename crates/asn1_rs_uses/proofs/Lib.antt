@@ -7,12 +7,6 @@ pub mod MeasurementsUnwritten
 pub mod Messages
 pub mod MidnightsRefused
 pub mod NoMessages
-pub mod NoPrincipals
-pub mod PrincipalWords
-pub mod Principals
-pub mod PrincipalsAlone
-pub mod PrincipalsBack
-pub mod PrincipalsUnwritten
 pub mod Streams
 pub mod TaggedOctets
 pub mod Unrefused

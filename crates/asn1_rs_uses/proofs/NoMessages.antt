@@ -1,14 +1,15 @@
 -- Elements and octets that are no message.
-use Rattle.std.proofs.Common.{◌≡◌, ◌≢◌, ◌⊎◌, ◌∙◌, ap, sym, refl, ℕ, List, [], ◌++◌, length, map, pos, inl, inr}
+use Rattle.std.proofs.Common.{◌≡◌, ◌≢◌, ◌⊎◌, ◌∙◌, ap, sym, refl, ℕ, List, [], ◌++◌, length, map, pos, inl, inr, Bool}
+use Rattle.std.proofs.Common.{true, false, ◌==◌}
 use Rattle.std.specs.Prelude.{ℤ}
+use Rattle.std.proofs.lemmas.Bool.{false≢true}
 use Rattle.std.proofs.lemmas.List.{append-nil}
 use Rattle.x690.specs.Elements.{Parts}
 use Rattle.x690.specs.Identifiers.{Identifier, IsCutIdentifier}
 use Rattle.asn1_headers.specs.declared.error.Err.{Err as Refusal}
-use Rattle.asn1_headers.specs.declared.error.Err.TheVariants.{Error as refused}
+use Rattle.asn1_headers.specs.declared.error.Err.TheVariants.{Incomplete as cut, Error as refused, Failure as failed}
 use Rattle.asn1_headers.specs.declared.error.Error.{Error}
 use Rattle.asn1_headers.specs.declared.error.Error.TheVariants as errors
-use Rattle.asn1_headers.specs.declared.tag.Tag.{Tag}
 use Rattle.asn1_headers.specs.Answers.{Front, IsFinal}
 use Rattle.asn1_headers.specs.Error.{FlattenedTo}
 use Rattle.asn1_rs.specs.declared.asn1_types.any.Any.{Any}
@@ -19,7 +20,6 @@ use Rattle.asn1_rs_uses.specs.declared.message.Message.{Message}
 use Rattle.asn1_rs_uses.specs.Messages.{AnyElement, ShortNumber, ShortNumbers, IsMessage, IsNoMessage}
 use Rattle.asn1_rs_uses.specs.Messages.{RefusesMessage, WantsMemory}
 use Rattle.asn1_rs_uses.specs.Numbers.{NoMemory}
-use Rattle.asn1_rs_uses.proofs.NoPrincipals.{memory_flat}
 
 -- one word alone begins octets
 abbrev Alone : {V : Type 0} → (List ℕ → V → Type 0) → Type 0
@@ -29,6 +29,19 @@ Alone {V} G = (x y r s : List ℕ) (v w : V) → G x v → G y w → x ++ r ≡ 
 rest_is : {V : Type 0} (G : List ℕ → V → Type 0) → Alone G → (input after word rest : List ℕ) (v w : V) →
     Front G input v after → G word w → input ≡ word ++ rest → after ≡ rest
 rest_is G one input after word rest v w f g e = (one f.word word after rest v w f.fits g (sym f.is ∙ e)).2
+
+-- out of memory stays that where no octets follow
+memory_flat : (r : Refusal Error) (e : Error) → WantsMemory r → FlattenedTo (λ x y. y ≡ x) (λ x y. y ≡ x) r e →
+    e ≡ errors.OutOfMemory
+memory_flat (cut n) e m f = let a = m.1.2 in cc
+memory_flat (refused x) e m f = let a = m.1.2 in let b = m.1.1 in cc
+memory_flat (failed x) e m f = let a = m.1.2 in cc
+
+-- octets that are not empty are some
+pub some_left : (octets : List ℕ) (b : Bool) → b ≡ false → b ≡ (length octets == 0) → octets ≢ []
+some_left octets b f g e =
+    let k : (length octets == 0) ≡ true = ap (λ (o : List ℕ). length o == 0) e in
+    absurd (false≢true (sym f ∙ g ∙ k))
 
 -- where the tag number is another
 pub no_sequence : (any : Any) → any.header.tag ≢ record { 0 = 16 } → IsNoMessage (parts_of any)

@@ -14,7 +14,7 @@ use Rattle.asn1_rs.specs.Any.{parts_of}
 use Rattle.asn1_rs.specs.Laws.Tagged.{front_whole}
 use Rattle.asn1_rs.specs.Tagged.{ThenByDer}
 use Rattle.asn1_rs.specs.Tagged.Parser.{TakesWhole, HasNumber, Expects}
-use Rattle.asn1_rs_uses.specs.Principals.{StringByDer}
+use Rattle.asn1_rs_uses.specs.Borrowed.{StringByDer}
 use Rattle.asn1_rs_uses.specs.TaggedOctets.{BeginsUnderNumber, SameError}
 
 -- a string that was read under an explicit tag of the number

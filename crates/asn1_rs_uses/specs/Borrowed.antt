@@ -10,6 +10,7 @@ use Rattle.asn1_rs.specs.Any.Value.{ElementValue, ElementBody}
 use Rattle.asn1_headers.specs.Answers.{Front}
 use Rattle.asn1_rs.specs.Grammar.{BerWord, DerWord}
 use Rattle.asn1_rs.specs.Leaf.{Leaf, LeafBody}
+use Rattle.asn1_rs.specs.OctetString.{octet_string_leaf}
 use Rattle.asn1_rs.specs.Strings.{string_leaf}
 use Rattle.asn1_rs.specs.declared.asn1_types.strings.InPlace.{InPlace}
 use Rattle.asn1_rs.specs.declared.asn1_types.strings.RestrictedString.{RestrictedString}
@@ -18,6 +19,10 @@ use Rattle.asn1_rs.specs.declared.asn1_types.strings.kinds.Utf8Kind.{Utf8Kind}
 -- the words of a type by DER, with their values
 abbrev pub LeafByDer : {S : Type 0} (L : Leaf S) → List ℕ → L.Value → Type 0
 LeafByDer L = DerWord (λ p. L.constraints p (Ok tt)) (LeafBody L)
+
+-- an octet string, by DER
+abbrev pub StringByDer : List ℕ → List ℕ → Type 0
+StringByDer = LeafByDer octet_string_leaf
 
 -- the strings of the tag number of UTF8String
 abbrev pub utf8_string_leaf : Leaf (RestrictedString Utf8Kind InPlace)

@@ -1,5 +1,5 @@
 -- What is written for borrowed octet strings under tags.
-use Rattle.std.specs.Prelude.{◌≡◌, ℕ, List, ◌++◌, length, true, false, Option, IfOk, IfErr}
+use Rattle.std.specs.Prelude.{◌≡◌, ℕ, List, [], ◌++◌, length, true, false, Option, None, Some, IfOk, IfErr}
 use Rattle.std.specs.List.{flat_map}
 use Rattle.std.specs.declared.alloc.Global.{Global}
 use Rattle.std.specs.declared.vec.Vec.{Vec}
@@ -17,7 +17,6 @@ use Rattle.asn1_rs.specs.declared.asn1_types.tagged.parser.TaggedParser.{TaggedP
 use Rattle.asn1_rs.specs.ToDer.{MayRefuseCount}
 use Rattle.asn1_rs_uses.specs.declared.labels.EachCall.{EachCall}
 use Rattle.asn1_rs_uses.specs.Messages.{in_sequence}
-use Rattle.asn1_rs_uses.specs.Principals.{under_tag, or_nothing, string_element_octets}
 
 -- the types, since antt has no names for aliases
 abbrev pub Label : Type 0
@@ -34,6 +33,19 @@ Labels = TaggedValue (Vec GeneralString Global) Error Explicit 2 0
 -- an octet string with the header of its explicit tag
 abbrev pub Headed : Type 0
 Headed = TaggedParser Explicit OctetString Error
+
+-- what is written under the explicit, context-specific tag of this number
+abbrev pub under_tag : ℕ → List ℕ → List ℕ
+under_tag number octets = header_octets 2 true number (length octets) ++ octets
+
+-- the strict encoding of an octet string
+abbrev pub string_element_octets : OctetString → List ℕ
+string_element_octets s = header_octets 0 false 4 (length (octets_of s)) ++ octets_of s
+
+-- what is written for what is held, or no octets
+abbrev pub or_nothing : {T : Type 0} → (T → List ℕ) → Option T → List ℕ
+or_nothing octets None = []
+or_nothing octets (Some x) = octets x
 
 -- what is written for a label that may be left out
 abbrev pub label_octets : Option Label → List ℕ

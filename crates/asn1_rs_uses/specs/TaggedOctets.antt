@@ -1,7 +1,6 @@
 -- Borrowed octets under a tag whose number is told at run time.
 use Rattle.std.specs.Prelude.{◌≡◌, ℕ, List, ◌++◌, Err}
 use Rattle.x690.specs.Elements.{Parts, IsDerElement}
-use Rattle.asn1_headers.specs.Header.Reading.{Refused}
 use Rattle.asn1_headers.specs.declared.error.Err.{Err as Refusal}
 use Rattle.asn1_headers.specs.declared.error.Error.{Error}
 use Rattle.asn1_rs.specs.Checks.{is_primitive}
@@ -13,7 +12,7 @@ use Rattle.asn1_rs.specs.Traits.{DerGives}
 use Rattle.asn1_rs.specs.declared.asn1_types.octet_string.OctetString.{OctetString}
 use Rattle.asn1_rs.specs.declared.asn1_types.tagged.Explicit.{Explicit}
 use Rattle.asn1_rs.specs.declared.asn1_types.tagged.Implicit.{Implicit}
-use Rattle.asn1_rs_uses.specs.Principals.{StringByDer}
+use Rattle.asn1_rs_uses.specs.Borrowed.{StringByDer}
 
 -- an element by DER of this tag number begins the octets, and the rest follows
 pub record BeginsWithNumber (number : ℕ) (octets : List ℕ) (parts : Parts) (rest : List ℕ) : Type 0 where

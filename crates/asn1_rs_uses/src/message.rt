@@ -60,8 +60,7 @@ impl<'a> Message<'a> {
 
     /// The octets of the message, by DER.
     // Of refusals there is no clause. The contracts below tell them: `write_der` of each part, and `to_der_vec` of the
-    // whole. `InvalidLength` is that of the whole, since each part has fewer octets. That was proved of the parts of
-    // `Principal::to_der`, and not of those here.
+    // whole. `InvalidLength` is that of the whole, since each part has fewer octets; this is not proved here.
     pub fn to_der(&self, alloc: Global) -> SerializeResult<Vec<u8>>
         ensures { IfOk result (λ octets. octets.items ≡ message_octets self.now) }
     {

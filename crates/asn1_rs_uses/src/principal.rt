@@ -1,23 +1,20 @@
-//! A message that borrows, with an optional field: the name of a principal, in the manner of Kerberos.
-ghost use Rattle.std.specs.Prelude.{◌≡◌, ◌⊎◌, ◌++◌, ℕ, List, length, map, true, IfOk, IfErr};
-ghost use Rattle.std.specs.List.{All};
-ghost use Rattle.x690.specs.Octets.{IsOctets};
-ghost use Rattle.x690.specs.Identifiers.{IsCutIdentifier};
-ghost use Rattle.x690.specs.Rules.{der_rule};
-ghost use Rattle.x690.specs.Signed.{IsSigned};
+//! A message that borrows, with an optional field, in both directions: the name of a principal, in the manner of
+//! Kerberos.
+ghost use Rattle.std.specs.Prelude.{◌≡◌, ◌⊎◌, ◌<◌, ◌^◌, length, MatchResult};
+ghost use Rattle.std.proofs.Common.{refl};
 ghost use Rattle.asn1_headers.specs.declared.error.Error.TheVariants as errors;
-ghost use Rattle.asn1_headers.specs.Answers.{seen, Exactly};
-ghost use Rattle.asn1_headers.specs.Writer.{MayRefuse};
-ghost use Rattle.asn1_rs.specs.Any.{parts_of};
-ghost use Rattle.asn1_rs.specs.OctetString.{octets_of};
-ghost use Rattle.asn1_rs.specs.Optional.{IsLeftOut, OptionGives, IfHeld};
-ghost use Rattle.asn1_rs_uses.specs.Numbers.{NoMemory};
-ghost use Rattle.asn1_rs_uses.specs.Principals.{RealmByDer};
+ghost use Rattle.asn1_headers.specs.declared.error.SerializeError.TheVariants as serialize_errors;
+ghost use Rattle.asn1_headers.specs.Answers.{seen};
+ghost use Rattle.asn1_rs.specs.Callers.{ReadsByDer, WritesStrict};
+ghost use Rattle.asn1_rs.specs.Structs.{MadeOf};
+ghost use Rattle.asn1_rs.specs.Structs.Data.{struct_of};
+ghost use Rattle.asn1_rs.specs.ToDer.{whole_octets};
 
+use crate::read_back::written_and_read;
 use asn1_rs::{
-    AlwaysDer, Any, Class, Err, Error, FromDer, OctetString, ParseResult, SerializeResult, Tag,
-    TaggedExplicit, ToDer, Told, counts_are_of_the_strict_encoding, read_der,
-    reader_is_exact_by_der,
+    AlwaysDer, AlwaysDerBy, BorrowedRow, DerParser, DerRow, Error, Fields, FieldsKind, Grammar,
+    HasKind, HasReader, LawfulStruct, OctetString, ParseResult, ReadsFields, ReadsRow, Row,
+    SerializeResult, StructReader, TaggedExplicit, ToDer, read_der, row_by_der, strict_vec,
 };
 use std::alloc::Global;
 
@@ -43,85 +40,84 @@ pub struct Principal<'a> {
     pub realm: Option<Realm<'a>>,
 }
 
-/// The realm at the front of the octets, by DER, or none where it is left out.
-fn read_realm<'a>(alloc: Global, octets: &'a [u8]) -> ParseResult<'a, Option<Realm<'a>>, Error>
-    ensures { OptionGives (IsLeftOut der_rule 2)
-        (Exactly IsCutIdentifier RealmByDer (λ t. octets_of t.inner) NoMemory)
-        octets.now (seen result) }
-{
-    reader_is_exact_by_der::<Realm<'a>, Error>();
-    Option::<Realm<'a>>::from_der(alloc, octets)
+/// Its fields.
+pub type PrincipalRow<'a> = (Kind, (Names<'a>, (Option<Realm<'a>>, ())));
+
+impl HasKind for Principal<'_> {
+    type Kind = FieldsKind;
 }
 
-impl<'a> Principal<'a> {
-    ghost use Rattle.asn1_rs_uses.specs.Principals.{BeginsWithPrincipal, IsPrincipal, IsNoPrincipal, RefusesPrincipal};
-    ghost use Rattle.asn1_rs_uses.specs.Principals.{ReadsPrincipalBack, principal_octets};
+impl HasReader for Principal<'_> {
+    type Reader = StructReader;
+}
 
-    /// The principal at the front of the octets, by DER, and what follows it.
-    ///
-    /// Refused as `Incomplete` only where the sequence itself is cut.
-    pub fn from_der(alloc: Global, octets: &'a [u8]) -> ParseResult<'a, Principal<'a>, Error>
-        ensures begins { IfOk (seen result) (λ x. BeginsWithPrincipal octets.now x.1 x.0) }
-        ensures refused { IfErr (seen result) (RefusesPrincipal octets.now) }
-        ensures back { ReadsPrincipalBack octets.now (seen result) }
-    {
-        let (rest, sequence) = read_der::<Any<'a>, Error>(alloc, octets)?;
-        match Principal::from_element(alloc, &sequence) {
-            Ok(principal) => Ok((rest, principal)),
-            Err(e) => Err(Err::Error(e)),
+impl<'a> LawfulStruct for Principal<'a> {
+    ghost laws = { struct_of (λ x. (x.kind, (x.names, (x.realm, tt))))
+        ⟦<PrincipalRow<'a> as Row>⟧.row_laws refl };
+
+    fn put_row(&self, fields: &mut Fields) -> SerializeResult<()> {
+        (&self.kind, (&self.names, (&self.realm, ()))).put_each(fields)
+    }
+
+    fn row_in_hand(&self) {
+        (&self.kind, (&self.names, (&self.realm, ()))).each_in_hand()
+    }
+}
+
+impl<'a> ReadsFields<'a> for Principal<'a> {
+    ghost fields_give = { MadeOf ⟦<Principal<'a> as LawfulStruct>⟧.laws.as_row
+        ⟦<PrincipalRow<'a> as ReadsRow<'a, DerParser>>⟧.row_gives };
+
+    fn read_fields(alloc: Global, octets: &'a [u8]) -> Result<Principal<'a>, Error> {
+        match row_by_der(alloc, octets) {
+            Ok(row) => {
+                let (kind, (names, (realm, ()))) = row;
+                Ok(Principal { kind, names, realm })
+            }
+            Err(e) => Err(e),
         }
     }
+}
 
-    /// The principal that an element is: its class, its constructed bit and its tag number are looked at, and then what
-    /// it holds.
-    fn from_element(alloc: Global, element: &Any<'a>) -> Result<Principal<'a>, Error>
-        ensures parts { IfOk result (IsPrincipal (parts_of element.now)) }
-        ensures refused { IfErr result
-            (λ e. (e ≡ errors.OutOfMemory) ⊎ IsNoPrincipal (parts_of element.now)) }
-    {
-        element.header.assert_class(Class::Universal)?;
-        element.header.assert_constructed()?;
-        element.header.assert_tag(Tag::Sequence)?;
-        let (content, kind) = read_der::<Kind, Error>(alloc, element.content)?;
-        let (content, names) = read_der::<Names<'a>, Error>(alloc, content)?;
-        let (content, realm) = read_realm(alloc, content)?;
-        if !content.is_empty() {
-            return Err(Tag::Sequence.invalid_value("octets left over"));
-        }
-        Ok(Principal { kind, names, realm })
+/// Each principal in hand is in DER form, since its fields are.
+impl AlwaysDerBy<FieldsKind> for Principal<'_> {
+    fn der_by_kind(&self) {
+        (&self.kind, (&self.names, (&self.realm, ()))).each_is_der()
     }
+}
 
-    /// States of a principal in hand that its parts are in DER form.
-    fn parts_are_der(&self)
-        ensures kind { IsSigned 4 self.now.kind.inner }
-        ensures names { All IsOctets (map octets_of self.now.names.inner.items) }
-        ensures realm { IfHeld (λ t. IsOctets (octets_of t.inner)) self.now.realm }
-    {
-        self.kind.is_der();
-        self.names.is_der();
-        if let Some(realm) = &self.realm {
-            realm.is_der();
-        }
-    }
+/// The principal at the front of the octets, by DER, and what follows it.
+pub fn read_principal<'a>(alloc: Global, octets: &'a [u8]) -> ParseResult<'a, Principal<'a>, Error>
+    ensures { ReadsByDer ⟦<Principal<'a> as Grammar>⟧.grammar octets.now (seen result) }
+{
+    read_der::<Principal<'a>, Error>(alloc, octets)
+}
 
-    /// The octets of the principal, by DER, which are read back as the same principal, whatever follows.
-    ///
-    /// Refused only where they could not be kept, or their number passes `usize`.
-    pub fn to_der(&self, alloc: Global) -> SerializeResult<Vec<u8>>
-        ensures octets { IfOk result (λ octets. octets.items ≡ principal_octets self.now) }
-        ensures back { IfOk result (λ octets. (rest : List ℕ) →
-            BeginsWithPrincipal (octets.items ++ rest) self.now rest) }
-        ensures refused { IfErr result (MayRefuse true (length (principal_octets self.now))) }
-    {
-        self.parts_are_der();
-        counts_are_of_the_strict_encoding::<Kind>();
-        counts_are_of_the_strict_encoding::<Names<'a>>();
-        counts_are_of_the_strict_encoding::<Realm<'a>>();
-        let mut content = Told::new(Vec::new(alloc));
-        self.kind.write_der(alloc, &mut content)?;
-        self.names.write_der(alloc, &mut content)?;
-        self.realm.write_der(alloc, &mut content)?;
-        let content = content.into_inner();
-        Any::from_tag_and_data(Tag::Sequence, &content).to_der_vec(alloc)
-    }
+/// The one strict encoding of a principal. Where its length fits `usize`, it is refused only when out of memory.
+pub fn principal_vec(alloc: Global, principal: &Principal<'_>) -> SerializeResult<Vec<u8>>
+    ensures { WritesStrict ⟦<Principal<'static> as Grammar>⟧.grammar
+        ⟦<Principal<'static> as ToDer>⟧.writing principal.now result }
+{
+    principal.is_der();
+    strict_vec(alloc, principal)
+}
+
+/// Writes a principal, and answers what is read of the octets: the same principal.
+///
+/// The octets take the place of those of the vector, which what is answered borrows. Where their length fits `usize`,
+/// it is refused only when out of memory.
+pub fn principal_read_back<'a>(
+    alloc: Global,
+    principal: &Principal<'a>,
+    octets: &'a mut Vec<u8>,
+) -> SerializeResult<Principal<'a>>
+    ensures { length (whole_octets ⟦<Principal<'a> as ToDer>⟧.writing principal.now) < 2 ^ 64 →
+        MatchResult result
+        (λ read. ⟦<Principal<'a> as Grammar>⟧.grammar.value principal.now ≡
+        ⟦<Principal<'a> as Grammar>⟧.grammar.value read)
+        (λ e. (e ≡ serialize_errors.OutOfMemory) ⊎
+        (e ≡ serialize_errors.ASN1Error errors.OutOfMemory)) }
+{
+    principal.is_der();
+    written_and_read(alloc, principal, octets)
 }

@@ -4,11 +4,7 @@
 #[cfg(test)]
 mod callers;
 #[cfg(test)]
-mod certificates;
-#[cfg(test)]
 mod handles;
-#[cfg(test)]
-mod kerberos;
 #[cfg(test)]
 mod labels;
 #[cfg(test)]
@@ -23,6 +19,8 @@ mod packets;
 mod principals;
 #[cfg(test)]
 mod refusals;
+#[cfg(test)]
+mod requests;
 #[cfg(test)]
 mod sets;
 #[cfg(test)]

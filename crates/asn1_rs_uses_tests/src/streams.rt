@@ -1,15 +1,25 @@
 //! Messages in a buffer that fills.
 
-use crate::kerberos::REQUEST;
-use asn1_rs::{Err, Needed, ToDer};
-use asn1_rs_uses::{AsReq, next_message};
+use asn1_rs::{ApplicationExplicit, Err, Error, Needed, Sequence, ToDer};
+use asn1_rs_uses::next_message;
 use std::alloc::Global;
 use std::test::Fail;
-use test_rows::{Calls, assert_all, assert_rows, octets_of, push_debug};
+use test_rows::{Calls, assert_rows, octets_of, push_debug};
+
+/// A request of Kerberos, whose fields are not looked at.
+type Request<'a> = ApplicationExplicit<Sequence<'a>, Error, 10>;
+
+/// The request of `asn1_rs_outside_tests`, by RFC 4120.
+const REQUEST: &str = "\
+6a81f13081eea103020105a20302010aa321301f3011a10402020080a20904073005a0030101ff300aa10402020095a20204\
+00a481be3081bba00703050040810010a111300fa003020101a10830061b046c656166a20f1b0d54455354532e4558414d50\
+4c45a3223020a003020102a11930171b066b72627467741b0d54455354532e4558414d504c45a511180f3230333730393133\
+3032343830355aa611180f32303337303931343032343830355aa70602047fffffffa80c300a0201120201110202ff7ba92c\
+302a300da003020102a1060404c00002013019a003020114a11204104c454146202020202020202020202020";
 
 /// Whether a buffer with a beginning of a message says to wait, for as many octets as are missing or fewer.
 fn waits(alloc: Global, buffer: &[u8], missing: usize) -> bool {
-    match next_message::<AsReq<'_>>(alloc, buffer) {
+    match next_message::<Request<'_>>(alloc, buffer) {
         Err(Err::Incomplete(Needed::Size(n))) => 1 <= n && n <= missing,
         _ => false,
     }
@@ -25,7 +35,7 @@ fn a_message_is_awaited_octet_by_octet(rt: HostRuntime) -> Result<(), Fail> {
         assert!(rt; waits(alloc, buffer.as_slice(), missing));
         buffer.push(*octet)?;
     }
-    let (rest, request) = next_message::<AsReq<'_>>(alloc, buffer.as_slice())?;
+    let (rest, request) = next_message::<Request<'_>>(alloc, buffer.as_slice())?;
     assert!(rt; rest.is_empty());
     let written = request.to_der_vec(alloc)?;
     assert!(rt; written.as_slice() == octets.as_slice());
@@ -56,7 +66,7 @@ struct Buffers;
 
 impl Calls for Buffers {
     fn answer(text: &mut String, alloc: Global, _name: &str, octets: &[u8]) -> Result<(), Fail> {
-        match next_message::<AsReq<'_>>(alloc, octets) {
+        match next_message::<Request<'_>>(alloc, octets) {
             Ok((rest, _)) => push_debug(text, &rest),
             Err(e) => push_debug(text, &e),
         }

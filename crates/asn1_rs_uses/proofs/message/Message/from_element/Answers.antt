@@ -1,10 +1,9 @@
-use Rattle.std.proofs.Common.{◌≡◌, ◌∙◌, sym, refl, inr, map, pos}
+use Rattle.std.proofs.Common.{◌∙◌, sym, refl, inr, map, pos}
 use Rattle.std.proofs.lemmas.Result.{err_from_is_err_and}
 use Rattle.asn1_rs.specs.Any.{parts_of}
 use Rattle.asn1_rs.specs.Any.Value.{element_of}
 use Rattle.asn1_rs_uses.proofs.Messages.{three_parts}
-use Rattle.asn1_rs_uses.proofs.NoMessages.{no_sequence, no_version, no_community, no_numbers, no_end}
-use Rattle.asn1_rs_uses.proofs.NoPrincipals.{some_left}
+use Rattle.asn1_rs_uses.proofs.NoMessages.{no_sequence, no_version, no_community, no_numbers, no_end, some_left}
 use Rattle.asn1_rs_uses.proofs.message.Message.from_element.Goals as goal
 
 pub returns-in_err-assert_eq-clause-refused : goal.returns-in_err-assert_eq-clause-refused
