@@ -113,8 +113,8 @@ pub trait LawfulStruct: HasKind<Kind = FieldsKind> + Sized {
 ///         }
 ///     }
 ///
-/// Then it is read by one call, [`struct_by_der`](row::struct_by_der) or [`struct_by_ber`](row::struct_by_ber), whose
-/// proof is found where the fields hold large types.
+/// Then `read_fields` is one call of [`struct_by_der`](row::struct_by_der), and `read_fields_by_ber` one of
+/// [`struct_by_ber`](row::struct_by_ber). So their proofs are found also where a field holds a list of structs.
 // No law says that its row is that of its `laws`: the contract of its reader does.
 pub trait OfRow: Sized {
     /// Its row.
