@@ -13,8 +13,8 @@ ghost use Rattle.asn1_rs.specs.ToDer.{whole_octets};
 use crate::read_back::written_and_read;
 use asn1_rs::{
     AlwaysDer, AlwaysDerBy, BorrowedRow, DerParser, DerRow, Error, Fields, FieldsKind, Grammar,
-    HasKind, HasReader, LawfulStruct, OctetString, ParseResult, ReadsFields, ReadsRow, Row,
-    SerializeResult, StructReader, TaggedExplicit, ToDer, read_der, row_by_der, strict_vec,
+    HasKind, HasReader, LawfulStruct, OctetString, OfRow, ParseResult, ReadsFields, ReadsRow, Row,
+    SerializeResult, StructReader, TaggedExplicit, ToDer, read_der, strict_vec, struct_by_der,
 };
 use std::alloc::Global;
 
@@ -64,18 +64,23 @@ impl<'a> LawfulStruct for Principal<'a> {
     }
 }
 
+impl<'a> OfRow for Principal<'a> {
+    type Row = PrincipalRow<'a>;
+
+    ghost as_row = { λ x. (x.kind, (x.names, (x.realm, tt))) };
+
+    fn of_row(row: PrincipalRow<'a>) -> Principal<'a> {
+        let (kind, (names, (realm, ()))) = row;
+        Principal { kind, names, realm }
+    }
+}
+
 impl<'a> ReadsFields<'a> for Principal<'a> {
     ghost fields_give = { MadeOf ⟦<Principal<'a> as LawfulStruct>⟧.laws.as_row
         ⟦<PrincipalRow<'a> as ReadsRow<'a, DerParser>>⟧.row_gives };
 
     fn read_fields(alloc: Global, octets: &'a [u8]) -> Result<Principal<'a>, Error> {
-        match row_by_der(alloc, octets) {
-            Ok(row) => {
-                let (kind, (names, (realm, ()))) = row;
-                Ok(Principal { kind, names, realm })
-            }
-            Err(e) => Err(e),
-        }
+        struct_by_der(alloc, octets)
     }
 }
 
