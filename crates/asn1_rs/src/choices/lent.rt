@@ -9,7 +9,7 @@ use crate::choices::arms::{Never, Or};
 use crate::choices::writing::UsesArm;
 use crate::laws::LawfulWrite;
 
-/// A reference to the value of an arm, or one of the others behind it, with [`Never`] at the end.
+/// A reference to the value of an arm, or one of the others behind it, the last one before [`Never`].
 pub trait LentArms: Sized {
     /// The arms.
     type Arms;
@@ -25,18 +25,24 @@ pub trait LentArms: Sized {
         ensures { U.answers (lent_arm (lent self)) result };
 }
 
-impl LentArms for Never {
-    type Arms = Never;
+/// The last arm.
+// `Never` itself has no impl: no call of its `use_lent` could be made, so its contract would say nothing.
+impl<T: LawfulWrite, const CLASS: u8> LentArms for Or<&T, Never, CLASS> {
+    type Arms = Or<T, Never, CLASS>;
 
-    ghost lent = { λ x. x };
+    ghost lent = { lent_or (λ none. none) };
 
-    ghost lent_arm = { none_chosen };
+    ghost lent_arm = { or_chosen T.grammar T.writing none_chosen };
 
-    fn use_lent<U: UsesArm>(self, _using: U) -> U::Answer {
-        match self {}
+    fn use_lent<U: UsesArm>(self, using: U) -> U::Answer {
+        match self {
+            Or::This(value) => using.use_arm(value),
+            Or::Other(none) => match none {},
+        }
     }
 }
 
+/// An arm before others.
 impl<T: LawfulWrite, R: LentArms, const CLASS: u8> LentArms for Or<&T, R, CLASS> {
     type Arms = Or<T, R::Arms, CLASS>;
 
