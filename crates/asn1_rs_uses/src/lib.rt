@@ -106,7 +106,6 @@ pub use principal::Names;
 pub use principal::Principal;
 pub use principal::PrincipalRow;
 pub use principal::Realm;
-pub use principal::principal_read_back;
 pub use principal::principal_vec;
 pub use principal::read_principal;
 pub use read_back::written_and_read;

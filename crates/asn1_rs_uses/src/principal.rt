@@ -1,16 +1,11 @@
 //! A message that borrows, with an optional field, in both directions: the name of a principal, in the manner of
 //! Kerberos.
-ghost use Rattle.std.specs.Prelude.{◌≡◌, ◌⊎◌, ◌<◌, ◌^◌, length, MatchResult};
 ghost use Rattle.std.proofs.Common.{refl};
-ghost use Rattle.asn1_headers.specs.declared.error.Error.TheVariants as errors;
-ghost use Rattle.asn1_headers.specs.declared.error.SerializeError.TheVariants as serialize_errors;
 ghost use Rattle.asn1_headers.specs.Answers.{seen};
 ghost use Rattle.asn1_rs.specs.Callers.{ReadsByDer, WritesStrict};
 ghost use Rattle.asn1_rs.specs.Structs.{MadeOf};
 ghost use Rattle.asn1_rs.specs.Structs.Data.{struct_of};
-ghost use Rattle.asn1_rs.specs.ToDer.{whole_octets};
 
-use crate::read_back::written_and_read;
 use asn1_rs::{
     AlwaysDer, AlwaysDerBy, BorrowedRow, DerParser, DerRow, Error, Fields, FieldsKind, Grammar,
     HasKind, HasReader, LawfulStruct, OctetString, OfRow, ParseResult, ReadsFields, ReadsRow, Row,
@@ -105,24 +100,4 @@ pub fn principal_vec(alloc: Global, principal: &Principal<'_>) -> SerializeResul
 {
     principal.is_der();
     strict_vec(alloc, principal)
-}
-
-/// Writes a principal, and answers what is read of the octets: the same principal.
-///
-/// The octets take the place of those of the vector, which what is answered borrows. Where their length fits `usize`,
-/// it is refused only when out of memory.
-pub fn principal_read_back<'a>(
-    alloc: Global,
-    principal: &Principal<'a>,
-    octets: &'a mut Vec<u8>,
-) -> SerializeResult<Principal<'a>>
-    ensures { length (whole_octets ⟦<Principal<'a> as ToDer>⟧.writing principal.now) < 2 ^ 64 →
-        MatchResult result
-        (λ read. ⟦<Principal<'a> as Grammar>⟧.grammar.value principal.now ≡
-        ⟦<Principal<'a> as Grammar>⟧.grammar.value read)
-        (λ e. (e ≡ serialize_errors.OutOfMemory) ⊎
-        (e ≡ serialize_errors.ASN1Error errors.OutOfMemory)) }
-{
-    principal.is_der();
-    written_and_read(alloc, principal, octets)
 }
