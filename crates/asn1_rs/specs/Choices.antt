@@ -3,7 +3,6 @@ pub mod Data
 use Rattle.std.specs.Prelude.{◌≡◌, ◌≢◌, ◌⊎◌, ◌||◌, ◌&&◌, ℕ, Bool, true, false, IsTrue, List, [], ◌∷◌, Result, Ok, Err}
 use Rattle.std.specs.Prelude.{None, nat_eq, not, IfOk, IfErr, IsErr, length}
 use Rattle.std.proofs.Common.{inl, inr}
-use Rattle.std.specs.Borrow.{Bor}
 use Rattle.std.specs.declared.vec.Vec.{Vec}
 use Rattle.std.specs.declared.alloc.Global.{Global}
 use Rattle.x690.specs.Identifiers.{Identifier}
@@ -215,11 +214,6 @@ or_chosen G w others (arm.Other y) = others y
 
 abbrev pub none_chosen : Never → ChosenArm
 none_chosen x = absurd (no_value x)
-
--- the arm whose value is lent
-abbrev pub lent_or : {T A R : Type 0} {class : ℕ} → (R → A) → Or (Bor T) R class → Or T A class
-lent_or others (arm.This x) = arm.This x.now
-lent_or others (arm.Other y) = arm.Other (others y)
 
 -- what is said of the arm
 abbrev pub arm_tells : ChosenArm → Type 0

@@ -12,8 +12,8 @@ ghost use Rattle.asn1_rs_snmp_messages.specs.declared.notices.NoticePdus.TheVari
 use crate::pdu::Pdu;
 use asn1_rs::{
     Any, ArmNumbers, Arms, ChecksChoice, ChoiceKind, ChoiceReader, Class, DynTagged, Error,
-    HasKind, HasReader, LawfulChoice, LendsArms, Never, OfArms, Or, OrTagged, ReadsChoiceByBer,
-    Tag, TaggedImplicit, ToldByNumber, UsesArm, choice_of_element, use_arm_of,
+    HasKind, HasReader, LawfulChoice, Never, OfArms, Or, OrTagged, ReadsChoiceByBer, Tag,
+    TaggedImplicit, ToldByNumber, UsesArm, choice_of_element,
 };
 use asn1_rs_choices::{TellsArms, ToldChoice, check_arms};
 use std::alloc::Global;
@@ -81,25 +81,11 @@ impl<'a> LawfulChoice for NoticePdus<'a> {
         ⟦<NoticePdusArms<'a> as Arms>⟧.arm_laws refl };
 
     fn with_arm<U: UsesArm>(&self, using: U) -> U::Answer {
-        use_arm_of(self, using)
-    }
-}
-
-/// References to the values of its arms.
-pub type LentNoticePdus<'s, 'a> = OrTagged<
-    &'s Response<'a>,
-    OrTagged<&'s InformRequest<'a>, OrTagged<&'s Trap<'a>, OrTagged<&'s Report<'a>, Never>>>,
->;
-
-impl<'s, 'a> LendsArms<'s, LentNoticePdus<'s, 'a>> for NoticePdus<'a> {
-    ghost as_lent = { in_notice_arms };
-
-    fn lend(&'s self) -> LentNoticePdus<'s, 'a> {
         match self {
-            NoticePdus::Response(response) => Or::This(response),
-            NoticePdus::Inform(inform) => Or::Other(Or::This(inform)),
-            NoticePdus::Trap(trap) => Or::Other(Or::Other(Or::This(trap))),
-            NoticePdus::Report(report) => Or::Other(Or::Other(Or::Other(Or::This(report)))),
+            NoticePdus::Response(response) => using.use_arm(response),
+            NoticePdus::Inform(inform) => using.use_arm(inform),
+            NoticePdus::Trap(trap) => using.use_arm(trap),
+            NoticePdus::Report(report) => using.use_arm(report),
         }
     }
 }

@@ -1,11 +1,10 @@
 //! What requests and answers hold (RFC 3416, 3).
-ghost use Rattle.std.proofs.Common.{refl};
 ghost use Rattle.asn1_rs.specs.Structs.{MadeOf};
-ghost use Rattle.asn1_rs.specs.Structs.Data.{struct_of};
+ghost use Rattle.asn1_rs_snmp_messages.specs.Pdus.{bulk_pdu_laws, pdu_laws};
 
 use asn1_rs::{
     BerParser, BorrowedRow, Error, Fields, FieldsKind, HasKind, HasReader, LawfulStruct, OfRow,
-    ReadsFieldsByBer, ReadsRow, Row, SerializeResult, StructReader, struct_by_ber,
+    ReadsFieldsByBer, ReadsRow, SerializeResult, StructReader, struct_by_ber,
 };
 use asn1_rs_snmp::VarBind;
 use std::alloc::Global;
@@ -36,9 +35,9 @@ impl HasReader for Pdu<'_> {
     type Reader = StructReader;
 }
 
+#[tactic(auto, unfolding(crate::specs::Pdus::pdu_laws))]
 impl<'a> LawfulStruct for Pdu<'a> {
-    ghost laws = { struct_of (λ x. (x.request_id, (x.error_status, (x.error_index, (x.variable_bindings, tt)))))
-        ⟦<PduRow<'a> as Row>⟧.row_laws refl };
+    ghost laws = { pdu_laws };
 
     fn put_row(&self, fields: &mut Fields) -> SerializeResult<()> {
         (
@@ -79,8 +78,9 @@ impl<'a> OfRow for Pdu<'a> {
     }
 }
 
+#[tactic(auto, unfolding(crate::specs::Pdus::pdu_laws))]
 impl<'a> ReadsFieldsByBer<'a> for Pdu<'a> {
-    ghost fields_give_by_ber = { MadeOf ⟦<Pdu<'a> as LawfulStruct>⟧.laws.as_row
+    ghost fields_give_by_ber = { MadeOf (λ x. (x.request_id, (x.error_status, (x.error_index, (x.variable_bindings, tt)))))
         ⟦<PduRow<'a> as ReadsRow<'a, BerParser>>⟧.row_gives };
 
     fn read_fields_by_ber(alloc: Global, octets: &'a [u8]) -> Result<Pdu<'a>, Error> {
@@ -113,9 +113,9 @@ impl HasReader for BulkPdu<'_> {
     type Reader = StructReader;
 }
 
+#[tactic(auto, unfolding(crate::specs::Pdus::bulk_pdu_laws))]
 impl<'a> LawfulStruct for BulkPdu<'a> {
-    ghost laws = { struct_of (λ x. (x.request_id, (x.non_repeaters, (x.max_repetitions, (x.variable_bindings, tt)))))
-        ⟦<BulkPduRow<'a> as Row>⟧.row_laws refl };
+    ghost laws = { bulk_pdu_laws };
 
     fn put_row(&self, fields: &mut Fields) -> SerializeResult<()> {
         (
@@ -156,8 +156,9 @@ impl<'a> OfRow for BulkPdu<'a> {
     }
 }
 
+#[tactic(auto, unfolding(crate::specs::Pdus::bulk_pdu_laws))]
 impl<'a> ReadsFieldsByBer<'a> for BulkPdu<'a> {
-    ghost fields_give_by_ber = { MadeOf ⟦<BulkPdu<'a> as LawfulStruct>⟧.laws.as_row
+    ghost fields_give_by_ber = { MadeOf (λ x. (x.request_id, (x.non_repeaters, (x.max_repetitions, (x.variable_bindings, tt)))))
         ⟦<BulkPduRow<'a> as ReadsRow<'a, BerParser>>⟧.row_gives };
 
     fn read_fields_by_ber(alloc: Global, octets: &'a [u8]) -> Result<BulkPdu<'a>, Error> {

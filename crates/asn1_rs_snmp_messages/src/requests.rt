@@ -12,8 +12,8 @@ ghost use Rattle.asn1_rs_snmp_messages.specs.declared.requests.RequestPdus.TheVa
 use crate::pdu::{BulkPdu, Pdu};
 use asn1_rs::{
     Any, ArmNumbers, Arms, ChecksChoice, ChoiceKind, ChoiceReader, Class, DynTagged, Error,
-    HasKind, HasReader, LawfulChoice, LendsArms, Never, OfArms, Or, OrTagged, ReadsChoiceByBer,
-    Tag, TaggedImplicit, ToldByNumber, UsesArm, choice_of_element, use_arm_of,
+    HasKind, HasReader, LawfulChoice, Never, OfArms, Or, OrTagged, ReadsChoiceByBer, Tag,
+    TaggedImplicit, ToldByNumber, UsesArm, choice_of_element,
 };
 use asn1_rs_choices::{TellsArms, ToldChoice, check_arms};
 use std::alloc::Global;
@@ -81,28 +81,11 @@ impl<'a> LawfulChoice for RequestPdus<'a> {
         ⟦<RequestPdusArms<'a> as Arms>⟧.arm_laws refl };
 
     fn with_arm<U: UsesArm>(&self, using: U) -> U::Answer {
-        use_arm_of(self, using)
-    }
-}
-
-/// References to the values of its arms.
-pub type LentRequestPdus<'s, 'a> = OrTagged<
-    &'s GetRequest<'a>,
-    OrTagged<
-        &'s GetNextRequest<'a>,
-        OrTagged<&'s SetRequest<'a>, OrTagged<&'s GetBulkRequest<'a>, Never>>,
-    >,
->;
-
-impl<'s, 'a> LendsArms<'s, LentRequestPdus<'s, 'a>> for RequestPdus<'a> {
-    ghost as_lent = { in_request_arms };
-
-    fn lend(&'s self) -> LentRequestPdus<'s, 'a> {
         match self {
-            RequestPdus::Get(get) => Or::This(get),
-            RequestPdus::GetNext(next) => Or::Other(Or::This(next)),
-            RequestPdus::Set(set) => Or::Other(Or::Other(Or::This(set))),
-            RequestPdus::GetBulk(bulk) => Or::Other(Or::Other(Or::Other(Or::This(bulk)))),
+            RequestPdus::Get(get) => using.use_arm(get),
+            RequestPdus::GetNext(next) => using.use_arm(next),
+            RequestPdus::Set(set) => using.use_arm(set),
+            RequestPdus::GetBulk(bulk) => using.use_arm(bulk),
         }
     }
 }

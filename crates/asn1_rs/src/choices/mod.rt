@@ -13,7 +13,6 @@
 //! The laws of the arms stand in the choice's own record ([`LawfulChoice`]), and what holds a choice asks nothing of them.
 
 pub(crate) mod arms;
-pub(crate) mod lent;
 pub(crate) mod writing;
 
 ghost use Rattle.std.specs.Prelude.{◌≡◌, ◌≢◌, ℕ, List, Result, Err, false, IfErr};
@@ -65,8 +64,7 @@ pub trait LawfulChoice: HasKind<Kind = ChoiceKind> + DynTagged + Sized {
     /// How a value is one of an arm, and the arms, with the laws of these.
     ghost laws: { LawfulChoiceOf Self };
 
-    /// Uses the value of the arm that it is. Where an arm holds a list, a set or a struct, its body is one call of
-    /// [`use_arm_of`](lent::use_arm_of), so that its proof is found.
+    /// Uses the value of the arm that it is.
     fn with_arm<U: UsesArm>(&self, using: U) -> U::Answer
         ensures { U.answers (laws.arms.arm_of (laws.as_arms self.now)) result };
 }
