@@ -80,7 +80,8 @@ impl<'a> OfRow for Pdu<'a> {
 
 #[tactic(auto, unfolding(crate::specs::Pdus::pdu_laws))]
 impl<'a> ReadsFieldsByBer<'a> for Pdu<'a> {
-    ghost fields_give_by_ber = { MadeOf (λ x. (x.request_id, (x.error_status, (x.error_index, (x.variable_bindings, tt)))))
+    ghost fields_give_by_ber = { MadeOf
+        (λ x. (x.request_id, (x.error_status, (x.error_index, (x.variable_bindings, tt)))))
         ⟦<PduRow<'a> as ReadsRow<'a, BerParser>>⟧.row_gives };
 
     fn read_fields_by_ber(alloc: Global, octets: &'a [u8]) -> Result<Pdu<'a>, Error> {
@@ -158,7 +159,8 @@ impl<'a> OfRow for BulkPdu<'a> {
 
 #[tactic(auto, unfolding(crate::specs::Pdus::bulk_pdu_laws))]
 impl<'a> ReadsFieldsByBer<'a> for BulkPdu<'a> {
-    ghost fields_give_by_ber = { MadeOf (λ x. (x.request_id, (x.non_repeaters, (x.max_repetitions, (x.variable_bindings, tt)))))
+    ghost fields_give_by_ber = { MadeOf
+        (λ x. (x.request_id, (x.non_repeaters, (x.max_repetitions, (x.variable_bindings, tt)))))
         ⟦<BulkPduRow<'a> as ReadsRow<'a, BerParser>>⟧.row_gives };
 
     fn read_fields_by_ber(alloc: Global, octets: &'a [u8]) -> Result<BulkPdu<'a>, Error> {
