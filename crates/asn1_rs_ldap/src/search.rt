@@ -5,13 +5,13 @@ ghost use Rattle.asn1_rs.specs.Grammar.Item.{ber_words};
 ghost use Rattle.asn1_rs.specs.Whole.{IsWhole, TakesWhole};
 ghost use Rattle.asn1_rs.specs.Structs.{MadeOf};
 ghost use Rattle.asn1_rs.specs.Structs.Data.{struct_of};
-ghost use Rattle.asn1_rs_ldap.specs.Searches.{wanted_of};
+ghost use Rattle.asn1_rs_ldap.specs.Searches.{search_laws};
 ghost use Rattle.asn1_rs.specs.Callers.{ReadsByBer, WritesStrict};
 
 use crate::Filter;
 use crate::wanted::{Wanted, WantedOf};
 use asn1_rs::{
-    ApplicationImplicit, BerParser, BorrowedRow, Enumerated, Error, Fields, FieldsKind, FromBer,
+    BerParser, BorrowedRow, Enumerated, Error, Fields, FieldsKind, FromBer,
     Grammar, HasKind, HasReader, LawfulStruct, OctetString, ParseResult, ReadsFieldsByBer,
     ReadsRow, Row, SerializeResult, StructReader, ToDer, read_ber, read_ber_whole, row_by_ber,
     strict_vec,
@@ -42,7 +42,7 @@ pub struct SearchRequest<'a> {
 }
 
 /// A search under its tag.
-pub type Search<'a> = ApplicationImplicit<SearchRequest<'a>, Error, 3>;
+pub type Search<'a> = SearchRequest<'a>;
 
 /// Its fields: where it searches and up to which limits, and what it wants.
 pub type SearchRow<'a> = (
@@ -58,10 +58,9 @@ impl HasReader for SearchRequest<'_> {
     type Reader = StructReader;
 }
 
+#[tactic(auto, unfolding(crate::specs::Searches::search_laws))]
 impl<'a> LawfulStruct for SearchRequest<'a> {
-    ghost laws = { struct_of (λ x.
-        (x.base_object, (x.scope, (x.deref_aliases, (x.size_limit, (x.time_limit, wanted_of x))))))
-        ⟦<SearchRow<'a> as Row>⟧.row_laws refl };
+    ghost laws = { search_laws };
 
     fn put_row(&self, fields: &mut Fields) -> SerializeResult<()> {
         let limits = (&self.size_limit, (&self.time_limit, WantedOf(self)));
@@ -82,10 +81,8 @@ impl<'a> LawfulStruct for SearchRequest<'a> {
     }
 }
 
+#[tactic(auto, unfolding(crate::specs::Searches::search_laws))]
 impl<'a> ReadsFieldsByBer<'a> for SearchRequest<'a> {
-    ghost fields_give_by_ber = { MadeOf ⟦<SearchRequest<'a> as LawfulStruct>⟧.laws.as_row
-        ⟦<SearchRow<'a> as ReadsRow<'a, BerParser>>⟧.row_gives };
-
     fn read_fields_by_ber(alloc: Global, octets: &'a [u8]) -> Result<SearchRequest<'a>, Error> {
         match row_by_ber::<SearchRow<'a>>(alloc, octets) {
             Ok(row) => {

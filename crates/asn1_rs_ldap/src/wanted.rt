@@ -1,6 +1,6 @@
 //! What a search wants of which entries, as a part of its row.
 ghost use Rattle.asn1_rs.specs.Structs.{by_ber, puts_of};
-ghost use Rattle.asn1_rs_ldap.specs.Searches.{wanted_of};
+ghost use Rattle.asn1_rs_ldap.specs.Endings.{wanted_of};
 ghost use Rattle.asn1_rs.specs.Structs.PartsOfRows.{PartGives, part_of};
 
 use crate::{Filter, SearchRequest};
@@ -18,11 +18,11 @@ pub struct Wanted<'a> {
 }
 
 /// Its fields.
-type WantedRow<'a> = (bool, (Filter<'a>, (Vec<OctetString<'a>>, ())));
+type WantedFields<'a> = (bool, (Filter<'a>, (Vec<OctetString<'a>>, ())));
 
 impl<'a> Row for Wanted<'a> {
     ghost row_laws = { part_of (λ x. (x.types_only, (x.filter, (x.attributes, tt))))
-        ⟦<WantedRow<'a> as Row>⟧.row_laws };
+        ⟦<WantedFields<'a> as Row>⟧.row_laws };
 }
 
 impl<'a> ReadsRow<'a, BerParser> for Wanted<'a> {
@@ -30,13 +30,13 @@ impl<'a> ReadsRow<'a, BerParser> for Wanted<'a> {
 
     ghost row_gives = { PartGives (λ x. (x.types_only, (x.filter, (x.attributes, tt))))
         by_ber ⟦<Wanted<'a> as Row>⟧.row_laws.grammar
-        ⟦<WantedRow<'a> as ReadsRow<'a, BerParser>>⟧.row_gives };
+        ⟦<WantedFields<'a> as ReadsRow<'a, BerParser>>⟧.row_gives };
 
     ghost exact_row = { λ octets answer gives. gives.0 };
 
     #[tactic(auto, using(asn1_rs::specs::Structs::PartsOfRows::part_read, asn1_rs::specs::Structs::PartsOfRows::part_refused))]
     fn read_row(alloc: Global, octets: &'a [u8]) -> Result<Wanted<'a>, Error> {
-        match row_by_ber::<WantedRow<'a>>(alloc, octets) {
+        match row_by_ber::<WantedFields<'a>>(alloc, octets) {
             Ok(row) => {
                 let (types_only, (filter, (attributes, ()))) = row;
                 Ok(Wanted {
