@@ -19,6 +19,8 @@ CRATES = [
     "asn1_rs_kerberos",
     "asn1_rs_snmp",
     "asn1_rs_snmp_messages",
+    "asn1_rs_ldap",
+    "asn1_rs_ldap_messages",
     "asn1_rs_places_tests",
     "asn1_rs",
 ]

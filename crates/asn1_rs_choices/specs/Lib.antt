@@ -2,3 +2,6 @@
 pub mod Heap
 pub mod Laws
 pub mod Parts
+pub mod Taken
+pub mod TaggedStructs
+pub mod Within

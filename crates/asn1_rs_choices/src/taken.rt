@@ -11,11 +11,11 @@ use std::alloc::Global;
 ///
 /// `choice_of_element` of the library converts to the choice itself. Of a choice that has a lifetime, and holds a type
 /// that borrows for it, the borrow checker takes that call only where an impl names the arms. So an author asks for the
-/// arms and makes the choice of them:
+/// arms and makes the choice of them; `taken_as` and `refused_as` of `specs/Taken.antt` are named at that function:
 ///
-///     match <FilterArms<'a, F> as TakesWhole<'a>>::take_any(alloc, any)? {
-///         OrChoice::This(simple) => Ok(FilterOf::Simple(simple)),
-///         OrChoice::Other(others) => Ok(filter_of(others)),
+///     match <FilterArms<'a, F> as TakesWhole<'a>>::take_any(alloc, any) {
+///         Ok(arms) => Ok(<FilterOf<'a, F> as OfArms>::of_arms(arms)),
+///         Err(e) => Err(e),
 ///     }
 // The impl is for the type itself: over all arms the borrow checker takes it nowhere.
 pub trait TakesWhole<'a>: TakesArms<'a> {

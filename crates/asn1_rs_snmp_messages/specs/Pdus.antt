@@ -1,4 +1,4 @@
--- What requests and notices hold, with its laws, and which arm a request, or a notice, is.
+-- What requests and notices hold, with its laws; which arm a request, or a notice, is, and the laws of these.
 use Rattle.std.specs.Prelude.{ℕ, refl}
 use Rattle.asn1_headers.specs.declared.error.Error.{Error}
 use Rattle.asn1_rs.specs.declared.asn1_types.tagged.Implicit.{Implicit}
@@ -6,13 +6,19 @@ use Rattle.asn1_rs.specs.declared.asn1_types.tagged.TaggedValue.{TaggedValue}
 use Rattle.asn1_rs.specs.declared.choices.arms.Never.{Never}
 use Rattle.asn1_rs.specs.declared.choices.arms.Or.{Or}
 use Rattle.asn1_rs.specs.declared.choices.arms.Or.TheVariants as arm
-use Rattle.asn1_rs.specs.Structs.Data.{LawfulStructOf, end_row, field_of, struct_of, struct_type, then_row}
-use Rattle.asn1_rs.specs.Structs.Types.{list_type, signed_type, unsigned_type}
+use Rattle.asn1_rs.specs.Choices.Data.{LawfulChoiceOf, arm_before, choice_of, end_of_arms}
+use Rattle.asn1_rs.specs.Structs.Data.{LawfulStructOf, LawfulTypeOf, end_row, field_of, struct_of, struct_type, then_row}
+use Rattle.asn1_rs.specs.Structs.Types.{implicit_type, list_type, signed_type, unsigned_type}
+use Rattle.asn1_rs_choices.specs.Parts.Data.{choice_before}
+use Rattle.asn1_rs_choices.specs.declared.arms.OrChoice.{OrChoice}
+use Rattle.asn1_rs_choices.specs.declared.arms.OrChoice.TheVariants as part
 use Rattle.asn1_rs_snmp.specs.Messages.{var_bind_laws}
 use Rattle.asn1_rs_snmp_messages.specs.declared.notices.NoticePdus.{NoticePdus}
 use Rattle.asn1_rs_snmp_messages.specs.declared.notices.NoticePdus.TheVariants as notices
 use Rattle.asn1_rs_snmp_messages.specs.declared.pdu.BulkPdu.{BulkPdu}
 use Rattle.asn1_rs_snmp_messages.specs.declared.pdu.Pdu.{Pdu}
+use Rattle.asn1_rs_snmp_messages.specs.declared.pdus.Pdus.{Pdus}
+use Rattle.asn1_rs_snmp_messages.specs.declared.pdus.Pdus.TheVariants as pdus
 use Rattle.asn1_rs_snmp_messages.specs.declared.requests.RequestPdus.{RequestPdus}
 use Rattle.asn1_rs_snmp_messages.specs.declared.requests.RequestPdus.TheVariants as requests
 
@@ -28,9 +34,14 @@ bulk_pdu_laws = struct_of (λ x. (x.request_id, (x.non_repeaters, (x.max_repetit
     (then_row (field_of (signed_type 4)) (then_row (field_of (unsigned_type 4)) (then_row (field_of (unsigned_type 4))
     (then_row (field_of (list_type (λ v. v.items) (struct_type var_bind_laws))) end_row)))) refl
 
--- a value in place of whose tag a context-specific one stands
+-- a struct in place of whose tag a context-specific one stands
 abbrev pub Under : Type 0 → ℕ → Type 0
 Under T number = TaggedValue T Error Implicit 2 number
+
+abbrev pub under : {T : Type 0} (number : ℕ) → LawfulStructOf T → LawfulTypeOf (Under T number)
+under number T = implicit_type 2 number (λ t. t.inner) (struct_type T)
+
+-- Requests and notices. Their laws go by names too.
 
 abbrev pub RequestArms : Type 0
 RequestArms = Or (Under Pdu 0) (Or (Under Pdu 1) (Or (Under Pdu 3) (Or (Under BulkPdu 5) Never 2) 2) 2) 2
@@ -41,6 +52,10 @@ in_request_arms (requests.GetNext x) = arm.Other (arm.This x)
 in_request_arms (requests.Set x) = arm.Other (arm.Other (arm.This x))
 in_request_arms (requests.GetBulk x) = arm.Other (arm.Other (arm.Other (arm.This x)))
 
+unfoldable pub request_laws : LawfulChoiceOf RequestPdus
+request_laws = choice_of in_request_arms (arm_before 2 (under 0 pdu_laws) (arm_before 2 (under 1 pdu_laws)
+    (arm_before 2 (under 3 pdu_laws) (arm_before 2 (under 5 bulk_pdu_laws) end_of_arms)))) refl
+
 abbrev pub NoticeArms : Type 0
 NoticeArms = Or (Under Pdu 2) (Or (Under Pdu 6) (Or (Under Pdu 7) (Or (Under Pdu 8) Never 2) 2) 2) 2
 
@@ -49,3 +64,20 @@ in_notice_arms (notices.Response x) = arm.This x
 in_notice_arms (notices.Inform x) = arm.Other (arm.This x)
 in_notice_arms (notices.Trap x) = arm.Other (arm.Other (arm.This x))
 in_notice_arms (notices.Report x) = arm.Other (arm.Other (arm.Other (arm.This x)))
+
+unfoldable pub notice_laws : LawfulChoiceOf NoticePdus
+notice_laws = choice_of in_notice_arms (arm_before 2 (under 2 pdu_laws) (arm_before 2 (under 6 pdu_laws)
+    (arm_before 2 (under 7 pdu_laws) (arm_before 2 (under 8 pdu_laws) end_of_arms)))) refl
+
+-- What a message holds.
+
+abbrev pub PdusArms : Type 0
+PdusArms = OrChoice RequestPdus (OrChoice NoticePdus Never)
+
+abbrev pub in_pdus_arms : Pdus → PdusArms
+in_pdus_arms (pdus.Request x) = part.This x
+in_pdus_arms (pdus.Notice x) = part.Other (part.This x)
+
+unfoldable pub pdus_laws : LawfulChoiceOf Pdus
+unfolding request_laws notice_laws
+pdus_laws = choice_of in_pdus_arms (choice_before request_laws (choice_before notice_laws end_of_arms)) refl

@@ -1,19 +1,19 @@
 //! What is answered or told (RFC 3416, 3).
-ghost use Rattle.std.proofs.Common.{refl};
 ghost use Rattle.std.specs.Prelude.{◌≡◌};
 ghost use Rattle.asn1_headers.specs.Class.{class_number};
 ghost use Rattle.asn1_rs.specs.Any.{parts_of};
 ghost use Rattle.asn1_rs.specs.Choices.{has_a_tag, has_a_class};
 ghost use Rattle.asn1_rs.specs.Structs.{is_one_of};
-ghost use Rattle.asn1_rs.specs.Choices.Data.{choice_of, ChecksOf, numbers_of_choice, choice_numbers};
-ghost use Rattle.asn1_rs_snmp_messages.specs.Pdus.{in_notice_arms};
+ghost use Rattle.asn1_rs.specs.Choices.Data.{ChecksOf, numbers_of_choice, choice_numbers};
+ghost use Rattle.asn1_rs_choices.specs.Parts.Data.{arm_of_choice};
+ghost use Rattle.asn1_rs_snmp_messages.specs.Pdus.{in_notice_arms, notice_laws};
 ghost use Rattle.asn1_rs_snmp_messages.specs.declared.notices.NoticePdus.TheVariants as notices;
 
 use crate::pdu::Pdu;
 use asn1_rs::{
-    Any, ArmNumbers, Arms, ChecksChoice, ChoiceKind, ChoiceReader, Class, DynTagged, Error,
-    HasKind, HasReader, LawfulChoice, Never, OfArms, Or, OrTagged, ReadsChoiceByBer, Tag,
-    TaggedImplicit, ToldByNumber, UsesArm, choice_of_element,
+    Any, ArmNumbers, ChecksChoice, ChoiceKind, ChoiceReader, Class, DynTagged, Error, HasKind,
+    HasReader, LawfulChoice, Never, OfArms, Or, OrTagged, ReadsChoiceByBer, Tag, TaggedImplicit,
+    ToldByNumber, UsesArm, choice_of_element,
 };
 use asn1_rs_choices::{TellsArms, ToldChoice, check_arms};
 use std::alloc::Global;
@@ -77,17 +77,48 @@ impl<'a> DynTagged for NoticePdus<'a> {
 }
 
 impl<'a> LawfulChoice for NoticePdus<'a> {
-    ghost laws = { choice_of in_notice_arms
-        ⟦<NoticePdusArms<'a> as Arms>⟧.arm_laws refl };
+    ghost laws = { notice_laws };
 
     fn with_arm<U: UsesArm>(&self, using: U) -> U::Answer {
         match self {
-            NoticePdus::Response(response) => using.use_arm(response),
-            NoticePdus::Inform(inform) => using.use_arm(inform),
-            NoticePdus::Trap(trap) => using.use_arm(trap),
-            NoticePdus::Report(report) => using.use_arm(report),
+            NoticePdus::Response(response) => with_response(response, using),
+            NoticePdus::Inform(inform) => with_inform(inform, using),
+            NoticePdus::Trap(trap) => with_trap(trap, using),
+            NoticePdus::Report(report) => with_report(report, using),
         }
     }
+}
+
+/// Uses an answer.
+#[tactic(auto, unfolding(crate::specs::Pdus::notice_laws))]
+fn with_response<U: UsesArm>(response: &Response<'_>, using: U) -> U::Answer
+    ensures { U.answers (arm_of_choice notice_laws (notices.Response response.now)) result }
+{
+    using.use_arm(response)
+}
+
+/// Uses what is to be confirmed.
+#[tactic(auto, unfolding(crate::specs::Pdus::notice_laws))]
+fn with_inform<U: UsesArm>(inform: &InformRequest<'_>, using: U) -> U::Answer
+    ensures { U.answers (arm_of_choice notice_laws (notices.Inform inform.now)) result }
+{
+    using.use_arm(inform)
+}
+
+/// Uses what is told.
+#[tactic(auto, unfolding(crate::specs::Pdus::notice_laws))]
+fn with_trap<U: UsesArm>(trap: &Trap<'_>, using: U) -> U::Answer
+    ensures { U.answers (arm_of_choice notice_laws (notices.Trap trap.now)) result }
+{
+    using.use_arm(trap)
+}
+
+/// Uses a report.
+#[tactic(auto, unfolding(crate::specs::Pdus::notice_laws))]
+fn with_report<U: UsesArm>(report: &Report<'_>, using: U) -> U::Answer
+    ensures { U.answers (arm_of_choice notice_laws (notices.Report report.now)) result }
+{
+    using.use_arm(report)
 }
 
 impl<'a> OfArms for NoticePdus<'a> {
@@ -106,12 +137,14 @@ impl<'a> OfArms for NoticePdus<'a> {
     }
 }
 
+#[tactic(auto, unfolding(crate::specs::Pdus::notice_laws))]
 impl<'a> ReadsChoiceByBer<'a> for NoticePdus<'a> {
     fn choice_of_any(alloc: Global, any: Any<'a>) -> Result<NoticePdus<'a>, Error> {
         choice_of_element(alloc, any)
     }
 }
 
+#[tactic(auto, unfolding(crate::specs::Pdus::notice_laws))]
 impl<'a> ChecksChoice for NoticePdus<'a> {
     fn check_choice(any: &Any<'_>) -> Result<(), Error>
         ensures { ChecksOf ⟦<NoticePdus<'a> as LawfulChoice>⟧.laws.arms.grammar.Check
@@ -122,6 +155,7 @@ impl<'a> ChecksChoice for NoticePdus<'a> {
 }
 
 /// It may be an arm of another choice.
+#[tactic(auto, unfolding(crate::specs::Pdus::notice_laws))]
 impl<'a> ToldChoice for NoticePdus<'a> {
     fn has_element(any: &Any<'_>) -> bool
         ensures { result ≡ has_a_tag ⟦<NoticePdus<'a> as LawfulChoice>⟧.laws.arms.grammar.tags
@@ -138,6 +172,7 @@ impl<'a> ToldChoice for NoticePdus<'a> {
     }
 }
 
+#[tactic(auto, unfolding(crate::specs::Pdus::notice_laws))]
 impl<'a> ToldByNumber for NoticePdus<'a> {
     ghost numbers = { numbers_of_choice ⟦<NoticePdus<'a> as LawfulChoice>⟧.laws };
 

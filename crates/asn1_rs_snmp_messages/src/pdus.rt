@@ -1,20 +1,19 @@
 //! What messages hold (RFC 3416, 3).
-ghost use Rattle.std.proofs.Common.{refl};
 ghost use Rattle.std.specs.Prelude.{◌≡◌};
 ghost use Rattle.asn1_headers.specs.Class.{class_number};
 ghost use Rattle.asn1_rs.specs.Any.{parts_of};
 ghost use Rattle.asn1_rs.specs.Choices.{has_a_tag, has_a_class};
 ghost use Rattle.asn1_rs.specs.Structs.{is_one_of};
-ghost use Rattle.asn1_rs.specs.Choices.Data.{choice_of, ChecksOf, choice_type, numbers_of_choice, choice_numbers};
-ghost use Rattle.asn1_rs_choices.specs.declared.arms.OrChoice.TheVariants as part;
+ghost use Rattle.asn1_rs.specs.Choices.Data.{ChecksOf, choice_type, numbers_of_choice, choice_numbers};
+ghost use Rattle.asn1_rs_snmp_messages.specs.Pdus.{in_pdus_arms, pdus_laws};
 ghost use Rattle.asn1_rs_snmp_messages.specs.declared.pdus.Pdus.TheVariants as pdus;
 
 use crate::notices::NoticePdus;
 use crate::requests::RequestPdus;
 use asn1_rs::{
-    Any, ArmNumbers, Arms, ChecksChoice, ChoiceKind, ChoiceReader, Class, DynTagged, Error,
-    HasKind, HasReader, LawfulChoice, LawfulType, Never, OfArms, ReadsChoiceByBer, Tag,
-    ToldByNumber, UsesArm, choice_of_element,
+    Any, ArmNumbers, ChecksChoice, ChoiceKind, ChoiceReader, Class, DynTagged, Error, HasKind,
+    HasReader, LawfulChoice, LawfulType, Never, OfArms, ReadsChoiceByBer, Tag, ToldByNumber,
+    UsesArm, choice_of_element,
 };
 use asn1_rs_choices::{OrChoice, TellsArms, ToldChoice, check_arms};
 use std::alloc::Global;
@@ -51,12 +50,9 @@ impl<'a> DynTagged for Pdus<'a> {
     }
 }
 
+#[tactic(auto, unfolding(crate::specs::Pdus::pdus_laws))]
 impl<'a> LawfulChoice for Pdus<'a> {
-    ghost laws = { choice_of (λ x. elim x [
-      | pdus.Request x ↦ part.This x
-      | pdus.Notice x ↦ part.Other (part.This x)
-    ])
-        ⟦<PdusArms<'a> as Arms>⟧.arm_laws refl };
+    ghost laws = { pdus_laws };
 
     fn with_arm<U: UsesArm>(&self, using: U) -> U::Answer {
         match self {
@@ -69,10 +65,7 @@ impl<'a> LawfulChoice for Pdus<'a> {
 impl<'a> OfArms for Pdus<'a> {
     type Arms = PdusArms<'a>;
 
-    ghost as_arms = { λ x. elim x [
-      | pdus.Request x ↦ part.This x
-      | pdus.Notice x ↦ part.Other (part.This x)
-    ] };
+    ghost as_arms = { in_pdus_arms };
 
     fn of_arms(arms: PdusArms<'a>) -> Pdus<'a> {
         match arms {
@@ -83,12 +76,14 @@ impl<'a> OfArms for Pdus<'a> {
     }
 }
 
+#[tactic(auto, unfolding(crate::specs::Pdus::pdus_laws))]
 impl<'a> ReadsChoiceByBer<'a> for Pdus<'a> {
     fn choice_of_any(alloc: Global, any: Any<'a>) -> Result<Pdus<'a>, Error> {
         choice_of_element(alloc, any)
     }
 }
 
+#[tactic(auto, unfolding(crate::specs::Pdus::pdus_laws))]
 impl<'a> ChecksChoice for Pdus<'a> {
     fn check_choice(any: &Any<'_>) -> Result<(), Error>
         ensures { ChecksOf ⟦<Pdus<'a> as LawfulChoice>⟧.laws.arms.grammar.Check
@@ -99,6 +94,7 @@ impl<'a> ChecksChoice for Pdus<'a> {
 }
 
 /// It may be an arm of another choice.
+#[tactic(auto, unfolding(crate::specs::Pdus::pdus_laws))]
 impl<'a> ToldChoice for Pdus<'a> {
     fn has_element(any: &Any<'_>) -> bool
         ensures { result ≡ has_a_tag ⟦<Pdus<'a> as LawfulChoice>⟧.laws.arms.grammar.tags
@@ -115,6 +111,7 @@ impl<'a> ToldChoice for Pdus<'a> {
     }
 }
 
+#[tactic(auto, unfolding(crate::specs::Pdus::pdus_laws, crate::specs::Pdus::request_laws, crate::specs::Pdus::notice_laws))]
 impl<'a> ToldByNumber for Pdus<'a> {
     ghost numbers = { numbers_of_choice ⟦<Pdus<'a> as LawfulChoice>⟧.laws };
 

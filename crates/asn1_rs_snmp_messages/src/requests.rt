@@ -1,19 +1,19 @@
 //! What is asked of an agent (RFC 3416, 3).
-ghost use Rattle.std.proofs.Common.{refl};
 ghost use Rattle.std.specs.Prelude.{◌≡◌};
 ghost use Rattle.asn1_headers.specs.Class.{class_number};
 ghost use Rattle.asn1_rs.specs.Any.{parts_of};
 ghost use Rattle.asn1_rs.specs.Choices.{has_a_tag, has_a_class};
 ghost use Rattle.asn1_rs.specs.Structs.{is_one_of};
-ghost use Rattle.asn1_rs.specs.Choices.Data.{choice_of, ChecksOf, numbers_of_choice, choice_numbers};
-ghost use Rattle.asn1_rs_snmp_messages.specs.Pdus.{in_request_arms};
+ghost use Rattle.asn1_rs.specs.Choices.Data.{ChecksOf, numbers_of_choice, choice_numbers};
+ghost use Rattle.asn1_rs_choices.specs.Parts.Data.{arm_of_choice};
+ghost use Rattle.asn1_rs_snmp_messages.specs.Pdus.{in_request_arms, request_laws};
 ghost use Rattle.asn1_rs_snmp_messages.specs.declared.requests.RequestPdus.TheVariants as requests;
 
 use crate::pdu::{BulkPdu, Pdu};
 use asn1_rs::{
-    Any, ArmNumbers, Arms, ChecksChoice, ChoiceKind, ChoiceReader, Class, DynTagged, Error,
-    HasKind, HasReader, LawfulChoice, Never, OfArms, Or, OrTagged, ReadsChoiceByBer, Tag,
-    TaggedImplicit, ToldByNumber, UsesArm, choice_of_element,
+    Any, ArmNumbers, ChecksChoice, ChoiceKind, ChoiceReader, Class, DynTagged, Error, HasKind,
+    HasReader, LawfulChoice, Never, OfArms, Or, OrTagged, ReadsChoiceByBer, Tag, TaggedImplicit,
+    ToldByNumber, UsesArm, choice_of_element,
 };
 use asn1_rs_choices::{TellsArms, ToldChoice, check_arms};
 use std::alloc::Global;
@@ -77,17 +77,48 @@ impl<'a> DynTagged for RequestPdus<'a> {
 }
 
 impl<'a> LawfulChoice for RequestPdus<'a> {
-    ghost laws = { choice_of in_request_arms
-        ⟦<RequestPdusArms<'a> as Arms>⟧.arm_laws refl };
+    ghost laws = { request_laws };
 
     fn with_arm<U: UsesArm>(&self, using: U) -> U::Answer {
         match self {
-            RequestPdus::Get(get) => using.use_arm(get),
-            RequestPdus::GetNext(next) => using.use_arm(next),
-            RequestPdus::Set(set) => using.use_arm(set),
-            RequestPdus::GetBulk(bulk) => using.use_arm(bulk),
+            RequestPdus::Get(get) => with_get(get, using),
+            RequestPdus::GetNext(next) => with_next(next, using),
+            RequestPdus::Set(set) => with_set(set, using),
+            RequestPdus::GetBulk(bulk) => with_bulk(bulk, using),
         }
     }
+}
+
+/// Uses a request for values.
+#[tactic(auto, unfolding(crate::specs::Pdus::request_laws))]
+fn with_get<U: UsesArm>(get: &GetRequest<'_>, using: U) -> U::Answer
+    ensures { U.answers (arm_of_choice request_laws (requests.Get get.now)) result }
+{
+    using.use_arm(get)
+}
+
+/// Uses a request for the values behind.
+#[tactic(auto, unfolding(crate::specs::Pdus::request_laws))]
+fn with_next<U: UsesArm>(next: &GetNextRequest<'_>, using: U) -> U::Answer
+    ensures { U.answers (arm_of_choice request_laws (requests.GetNext next.now)) result }
+{
+    using.use_arm(next)
+}
+
+/// Uses a request that gives values.
+#[tactic(auto, unfolding(crate::specs::Pdus::request_laws))]
+fn with_set<U: UsesArm>(set: &SetRequest<'_>, using: U) -> U::Answer
+    ensures { U.answers (arm_of_choice request_laws (requests.Set set.now)) result }
+{
+    using.use_arm(set)
+}
+
+/// Uses a request for many values.
+#[tactic(auto, unfolding(crate::specs::Pdus::request_laws))]
+fn with_bulk<U: UsesArm>(bulk: &GetBulkRequest<'_>, using: U) -> U::Answer
+    ensures { U.answers (arm_of_choice request_laws (requests.GetBulk bulk.now)) result }
+{
+    using.use_arm(bulk)
 }
 
 impl<'a> OfArms for RequestPdus<'a> {
@@ -106,12 +137,14 @@ impl<'a> OfArms for RequestPdus<'a> {
     }
 }
 
+#[tactic(auto, unfolding(crate::specs::Pdus::request_laws))]
 impl<'a> ReadsChoiceByBer<'a> for RequestPdus<'a> {
     fn choice_of_any(alloc: Global, any: Any<'a>) -> Result<RequestPdus<'a>, Error> {
         choice_of_element(alloc, any)
     }
 }
 
+#[tactic(auto, unfolding(crate::specs::Pdus::request_laws))]
 impl<'a> ChecksChoice for RequestPdus<'a> {
     fn check_choice(any: &Any<'_>) -> Result<(), Error>
         ensures { ChecksOf ⟦<RequestPdus<'a> as LawfulChoice>⟧.laws.arms.grammar.Check
@@ -122,6 +155,7 @@ impl<'a> ChecksChoice for RequestPdus<'a> {
 }
 
 /// It may be an arm of another choice.
+#[tactic(auto, unfolding(crate::specs::Pdus::request_laws))]
 impl<'a> ToldChoice for RequestPdus<'a> {
     fn has_element(any: &Any<'_>) -> bool
         ensures { result ≡ has_a_tag ⟦<RequestPdus<'a> as LawfulChoice>⟧.laws.arms.grammar.tags
@@ -138,6 +172,7 @@ impl<'a> ToldChoice for RequestPdus<'a> {
     }
 }
 
+#[tactic(auto, unfolding(crate::specs::Pdus::request_laws))]
 impl<'a> ToldByNumber for RequestPdus<'a> {
     ghost numbers = { numbers_of_choice ⟦<RequestPdus<'a> as LawfulChoice>⟧.laws };
 

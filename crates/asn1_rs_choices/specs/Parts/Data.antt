@@ -1,6 +1,5 @@
 -- What a choice before other arms says, with its laws in the same record.
-use Rattle.std.specs.Prelude.{◌≡◌, ◌&&◌}
-use Rattle.std.proofs.Common.{subst, sym}
+use Rattle.std.specs.Prelude.{◌&&◌}
 use Rattle.asn1_rs.specs.Choices.{ChosenArm}
 use Rattle.asn1_rs.specs.Choices.Data.{LawfulArmsOf, LawfulChoiceOf, grammar_of_choice}
 use Rattle.asn1_rs.specs.Laws.Choices.{choice_lawful}
@@ -23,8 +22,6 @@ choice_before T R = record {
       (R.puts (second_holds (no_tag_in_common T.arms.grammar.tags R.grammar.tags) R.told t));
 }
 
--- What a use answers of the arm of a value it answers of the arm of an equal one. Where the search for a proof of
--- `with_arm` does not end, its author names this.
-pub arm_answers : {T R : Type 0} (L : LawfulChoiceOf T) (answers : ChosenArm → R → Type 0) (x y : T) (r : R) →
-    x ≡ y → answers (L.arms.arm_of (L.as_arms y)) r → answers (L.arms.arm_of (L.as_arms x)) r
-arm_answers L answers x y r e a = subst (λ v. answers (L.arms.arm_of (L.as_arms v)) r) (sym e) a
+-- The arm that a value of a choice is of.
+abbrev pub arm_of_choice : {T : Type 0} → LawfulChoiceOf T → T → ChosenArm
+arm_of_choice L x = L.arms.arm_of (L.as_arms x)

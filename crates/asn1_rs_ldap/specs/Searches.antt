@@ -1,0 +1,20 @@
+-- Searches of LDAP.
+use Rattle.std.specs.Prelude.{refl}
+use Rattle.asn1_rs.specs.Enumerated.{enumerated_leaf}
+use Rattle.asn1_rs.specs.Laws.Enumerated.{enumerated_lawful}
+use Rattle.asn1_rs.specs.Laws.OctetString.{octet_string_lawful}
+use Rattle.asn1_rs.specs.OctetString.{octet_string_leaf}
+use Rattle.asn1_rs.specs.Structs.Data.{LawfulStructOf, field_of, struct_of, then_row}
+use Rattle.asn1_rs.specs.Structs.Types.{leaf_type, unsigned_type}
+use Rattle.asn1_rs_ldap.specs.Endings.{wanted_of}
+use Rattle.asn1_rs_ldap.specs.contracts.wanted.WantedRow.TheImpl as wanted
+use Rattle.asn1_rs_ldap.specs.declared.search.SearchRequest.{SearchRequest}
+
+-- The laws of a search. They are opened in the proofs of its three functions; what holds a search goes by their name.
+unfoldable pub search_laws : LawfulStructOf SearchRequest
+search_laws = struct_of (λ x.
+    (x.base_object, (x.scope, (x.deref_aliases, (x.size_limit, (x.time_limit, wanted_of x))))))
+    (then_row (field_of (leaf_type octet_string_leaf octet_string_lawful))
+    (then_row (field_of (leaf_type enumerated_leaf enumerated_lawful))
+    (then_row (field_of (leaf_type enumerated_leaf enumerated_lawful))
+    (then_row (field_of (unsigned_type 4)) (then_row (field_of (unsigned_type 4)) wanted.ghosts.row_laws))))) refl

@@ -1,0 +1,93 @@
+//! A search (RFC 4511, 4.5.1).
+ghost use Rattle.asn1_rs_ldap.specs.Searches.{search_laws};
+
+use crate::Filter;
+use crate::wanted::{Wanted, WantedOf};
+use asn1_rs::{
+    BorrowedRow, Enumerated, Error, Fields, FieldsKind, HasKind, HasReader, LawfulStruct,
+    OctetString, ReadsFieldsByBer, SerializeResult, StructReader, row_by_ber,
+};
+use std::alloc::Global;
+
+/// A search: where it begins, how deep it goes, and what it wants of which entries.
+///
+///     SearchRequest ::= SEQUENCE {
+///         baseObject    LDAPDN,
+///         scope         ENUMERATED,
+///         derefAliases  ENUMERATED,
+///         sizeLimit     INTEGER (0 .. maxInt),
+///         timeLimit     INTEGER (0 .. maxInt),
+///         typesOnly     BOOLEAN,
+///         filter        Filter,
+///         attributes    AttributeSelection }
+#[derive(Debug, PartialEq, Drop)]
+pub struct SearchRequest<'a> {
+    pub base_object: OctetString<'a>,
+    pub scope: Enumerated,
+    pub deref_aliases: Enumerated,
+    pub size_limit: u32,
+    pub time_limit: u32,
+    pub types_only: bool,
+    pub filter: Filter<'a>,
+    pub attributes: Vec<OctetString<'a>>,
+}
+
+/// Its fields: where it searches and up to which limits, and what it wants.
+pub type SearchRow<'a> = (
+    OctetString<'a>,
+    (Enumerated, (Enumerated, (u32, (u32, Wanted<'a>)))),
+);
+
+impl HasKind for SearchRequest<'_> {
+    type Kind = FieldsKind;
+}
+
+impl HasReader for SearchRequest<'_> {
+    type Reader = StructReader;
+}
+
+#[tactic(auto, unfolding(crate::specs::Searches::search_laws))]
+impl<'a> LawfulStruct for SearchRequest<'a> {
+    ghost laws = { search_laws };
+
+    fn put_row(&self, fields: &mut Fields) -> SerializeResult<()> {
+        let limits = (&self.size_limit, (&self.time_limit, WantedOf(self)));
+        (
+            &self.base_object,
+            (&self.scope, (&self.deref_aliases, limits)),
+        )
+            .put_each(fields)
+    }
+
+    fn row_in_hand(&self) {
+        let limits = (&self.size_limit, (&self.time_limit, WantedOf(self)));
+        (
+            &self.base_object,
+            (&self.scope, (&self.deref_aliases, limits)),
+        )
+            .each_in_hand()
+    }
+}
+
+#[tactic(auto, unfolding(crate::specs::Searches::search_laws))]
+impl<'a> ReadsFieldsByBer<'a> for SearchRequest<'a> {
+    fn read_fields_by_ber(alloc: Global, octets: &'a [u8]) -> Result<SearchRequest<'a>, Error> {
+        match row_by_ber::<SearchRow<'a>>(alloc, octets) {
+            Ok(row) => {
+                let (base_object, (scope, (deref_aliases, limits))) = row;
+                let (size_limit, (time_limit, wanted)) = limits;
+                Ok(SearchRequest {
+                    base_object,
+                    scope,
+                    deref_aliases,
+                    size_limit,
+                    time_limit,
+                    types_only: wanted.types_only,
+                    filter: wanted.filter,
+                    attributes: wanted.attributes,
+                })
+            }
+            Err(e) => Err(e),
+        }
+    }
+}

@@ -1,0 +1,15 @@
+-- The laws of a control of LDAP. They are opened in the proofs of its three functions; what holds a control goes by
+-- their name.
+use Rattle.std.specs.Prelude.{false, refl}
+use Rattle.asn1_rs.specs.Laws.OctetString.{octet_string_lawful}
+use Rattle.asn1_rs.specs.OctetString.{octet_string_leaf}
+use Rattle.asn1_rs.specs.Structs.Data.{LawfulStructOf, end_row, field_of, optional_of, struct_of, then_row}
+use Rattle.asn1_rs.specs.Structs.DefaultTypes.{default_bool, defaulted_of}
+use Rattle.asn1_rs.specs.Structs.Types.{leaf_type}
+use Rattle.asn1_rs_ldap_messages.specs.declared.control.Control.{Control}
+
+unfoldable pub control_laws : LawfulStructOf Control
+control_laws = struct_of (λ x. (x.control_type, (x.criticality, (x.value, tt))))
+    (then_row (field_of (leaf_type octet_string_leaf octet_string_lawful))
+    (then_row (defaulted_of (λ d. d.value) (default_bool false))
+    (then_row (optional_of (leaf_type octet_string_leaf octet_string_lawful)) end_row))) refl

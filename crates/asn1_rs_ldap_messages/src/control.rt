@@ -1,0 +1,90 @@
+//! Controls, which extend an operation (RFC 4511, 4.1.11).
+ghost use Rattle.std.proofs.Common.{false, refl};
+ghost use Rattle.asn1_rs.specs.Structs.{MadeOf};
+ghost use Rattle.asn1_rs.specs.Structs.DefaultTypes.{default_bool, its_own_type};
+ghost use Rattle.asn1_rs_ldap_messages.specs.Controls.{control_laws};
+
+use asn1_rs::{
+    BerParser, BorrowedRow, DefaultOf, Defaulted, Error, Fields, FieldsKind, HasKind, HasReader,
+    LawfulStruct, OctetString, ReadsFieldsByBer, ReadsRow, SerializeResult, StructReader,
+    row_by_ber,
+};
+use std::alloc::Global;
+
+/// An extension of an operation, whose type is an identifier in dotted form.
+///
+///     Control ::= SEQUENCE {
+///         controlType   LDAPOID,
+///         criticality   BOOLEAN DEFAULT FALSE,
+///         controlValue  OCTET STRING OPTIONAL }
+#[derive(Debug, PartialEq, Eq, Drop)]
+pub struct Control<'a> {
+    pub control_type: OctetString<'a>,
+    pub criticality: Defaulted<bool, NotCritical>,
+    pub value: Option<OctetString<'a>>,
+}
+
+/// That the operation may be carried out without the control, where nothing is said.
+#[derive(Debug, PartialEq, Eq, Drop)]
+pub struct NotCritical;
+
+impl DefaultOf<bool> for NotCritical {
+    ghost default_laws = { default_bool false };
+
+    fn default_value(_alloc: Global) -> bool {
+        false
+    }
+
+    fn is_default(value: &bool) -> bool {
+        !*value
+    }
+
+    ghost of_type = { its_own_type refl };
+}
+
+/// Its fields.
+pub type ControlRow<'a> = (
+    OctetString<'a>,
+    (Defaulted<bool, NotCritical>, (Option<OctetString<'a>>, ())),
+);
+
+impl HasKind for Control<'_> {
+    type Kind = FieldsKind;
+}
+
+impl HasReader for Control<'_> {
+    type Reader = StructReader;
+}
+
+#[tactic(auto, unfolding(crate::specs::Controls::control_laws))]
+impl<'a> LawfulStruct for Control<'a> {
+    ghost laws = { control_laws };
+
+    fn put_row(&self, fields: &mut Fields) -> SerializeResult<()> {
+        (&self.control_type, (&self.criticality, (&self.value, ()))).put_each(fields)
+    }
+
+    fn row_in_hand(&self) {
+        (&self.control_type, (&self.criticality, (&self.value, ()))).each_in_hand()
+    }
+}
+
+#[tactic(auto, unfolding(crate::specs::Controls::control_laws))]
+impl<'a> ReadsFieldsByBer<'a> for Control<'a> {
+    ghost fields_give_by_ber = { MadeOf (λ x. (x.control_type, (x.criticality, (x.value, tt))))
+        ⟦<ControlRow<'a> as ReadsRow<'a, BerParser>>⟧.row_gives };
+
+    fn read_fields_by_ber(alloc: Global, octets: &'a [u8]) -> Result<Control<'a>, Error> {
+        match row_by_ber(alloc, octets) {
+            Ok(row) => {
+                let (control_type, (criticality, (value, ()))) = row;
+                Ok(Control {
+                    control_type,
+                    criticality,
+                    value,
+                })
+            }
+            Err(e) => Err(e),
+        }
+    }
+}

@@ -1,0 +1,104 @@
+//! Messages (RFC 4511, 4.1.1).
+ghost use Rattle.asn1_headers.specs.Answers.{seen};
+ghost use Rattle.asn1_rs.specs.Callers.{ReadsByBer, WritesStrict};
+ghost use Rattle.asn1_rs.specs.Grammar.Item.{ber_words};
+ghost use Rattle.asn1_rs.specs.Structs.{MadeOf};
+ghost use Rattle.asn1_rs.specs.Whole.{IsWhole, TakesWhole};
+ghost use Rattle.asn1_rs_ldap_messages.specs.Messages.{message_laws};
+
+use crate::{Control, Operation};
+use asn1_rs::{
+    BerParser, BorrowedRow, Error, Fields, FieldsKind, FromBer, Grammar, HasKind, HasReader,
+    LawfulStruct, ParseResult, ReadsFieldsByBer, ReadsRow, SerializeResult, StructReader,
+    TaggedImplicit, ToDer, read_ber, read_ber_whole, row_by_ber, strict_vec,
+};
+use std::alloc::Global;
+
+/// A message: its number, by which answers name it, and what is asked.
+///
+///     LDAPMessage ::= SEQUENCE {
+///         messageID   MessageID,
+///         protocolOp  CHOICE { .. },
+///         controls    [0] Controls OPTIONAL }
+#[derive(Debug, PartialEq, Drop)]
+pub struct Message<'a> {
+    pub id: u32,
+    pub operation: Operation<'a>,
+    pub controls: Option<Controls<'a>>,
+}
+
+/// Controls, in place of whose tag another stands.
+pub type Controls<'a> = TaggedImplicit<Vec<Control<'a>>, Error, 0>;
+
+/// Its fields.
+pub type MessageRow<'a> = (u32, (Operation<'a>, (Option<Controls<'a>>, ())));
+
+impl HasKind for Message<'_> {
+    type Kind = FieldsKind;
+}
+
+impl HasReader for Message<'_> {
+    type Reader = StructReader;
+}
+
+#[tactic(auto, unfolding(crate::specs::Messages::message_laws))]
+impl<'a> LawfulStruct for Message<'a> {
+    ghost laws = { message_laws };
+
+    fn put_row(&self, fields: &mut Fields) -> SerializeResult<()> {
+        (&self.id, (&self.operation, (&self.controls, ()))).put_each(fields)
+    }
+
+    fn row_in_hand(&self) {
+        (&self.id, (&self.operation, (&self.controls, ()))).each_in_hand()
+    }
+}
+
+#[tactic(auto, unfolding(crate::specs::Messages::message_laws))]
+impl<'a> ReadsFieldsByBer<'a> for Message<'a> {
+    ghost fields_give_by_ber = { MadeOf (λ x. (x.id, (x.operation, (x.controls, tt))))
+        ⟦<MessageRow<'a> as ReadsRow<'a, BerParser>>⟧.row_gives };
+
+    fn read_fields_by_ber(alloc: Global, octets: &'a [u8]) -> Result<Message<'a>, Error> {
+        match row_by_ber(alloc, octets) {
+            Ok(row) => {
+                let (id, (operation, (controls, ()))) = row;
+                Ok(Message {
+                    id,
+                    operation,
+                    controls,
+                })
+            }
+            Err(e) => Err(e),
+        }
+    }
+}
+
+/// The message at the front of the octets, by BER, and what follows it.
+pub fn read_message<'a>(alloc: Global, octets: &'a [u8]) -> ParseResult<'a, Message<'a>, Error>
+    ensures { ReadsByBer ⟦<Message<'a> as Grammar>⟧.grammar octets.now (seen result) }
+{
+    read_ber::<Message<'a>, Error>(alloc, octets)
+}
+
+/// The message that all of the octets are, by BER. Refused with `TrailingOctets` where octets follow it.
+pub fn read_message_whole<'a>(alloc: Global, octets: &'a [u8]) -> Result<Message<'a>, Error>
+    ensures exact { IsWhole (ber_words ⟦<Message<'a> as Grammar>⟧.grammar)
+        ⟦<Message<'a> as Grammar>⟧.grammar.value
+        ⟦<Message<'a> as Grammar>⟧.grammar.allocates octets.now result }
+    ensures gives { TakesWhole ⟦<Message<'a> as FromBer<'a, Error>>⟧.ber_gives octets.now
+        result }
+{
+    read_ber_whole::<Message<'a>>(alloc, octets)
+}
+
+/// The one strict encoding of a message in DER form. Where its length fits `usize`, it is refused only when out of
+/// memory.
+pub fn message_vec(alloc: Global, message: &Message<'_>) -> SerializeResult<Vec<u8>>
+    ensures { ⟦<Message<'static> as Grammar>⟧.grammar.IsDer
+        (⟦<Message<'static> as Grammar>⟧.grammar.value message.now) →
+        WritesStrict ⟦<Message<'static> as Grammar>⟧.grammar
+        ⟦<Message<'static> as ToDer>⟧.writing message.now result }
+{
+    strict_vec(alloc, message)
+}
