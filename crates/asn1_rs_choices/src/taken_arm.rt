@@ -20,12 +20,14 @@ ghost use Rattle.asn1_rs_choices.specs.Within.{GivesWithin, other_within, tagged
 use crate::told::is_of_arm;
 use asn1_rs::{Any, ArmNumbers, Class, Error, Or, Tag, TakesArms};
 use std::alloc::Global;
+use std::marker::PhantomData;
 
 /// A type that an element converts to by BER, with the laws that an arm has.
 ///
 /// Both functions are calls of the library. Of a struct under an implicit tag the laws are those of
-/// `specs/TaggedStructs.antt`. `crates/asn1_rs_ldap_messages` has one, a search under its tag.
-pub trait TakenArm<'a>: Sized {
+/// `specs/TaggedStructs.antt`. `crates/asn1_rs_ldap_messages` has one, a search under its tag. `M` is a type of the
+/// author's crate, which says whose arm it is: an impl of another crate's trait must name one.
+pub trait TakenArm<'a, M>: Sized {
     /// What it is read from.
     ghost item: { ItemGrammar Self };
 
@@ -64,14 +66,16 @@ pub trait TakenArm<'a>: Sized {
 /// The library's arm `Or` asks for all that a type of the library is asked for. Of a value under an implicit tag whose
 /// type has a large field that is more than the checker writes out. This one asks for its reader alone.
 #[derive(Drop)]
-pub struct OrTaken<T, R, const CLASS: u8, const TAG: u32> {
+pub struct OrTaken<T, R, M, const CLASS: u8, const TAG: u32> {
     /// The value, or one of the others.
     pub arms: Or<T, R, CLASS>,
+    /// Whose arm it is.
+    pub of: PhantomData<M>,
 }
 
-impl<'a, T, R, const CLASS: u8, const TAG: u32> TakesArms<'a> for OrTaken<T, R, CLASS, TAG>
+impl<'a, T, R, M, const CLASS: u8, const TAG: u32> TakesArms<'a> for OrTaken<T, R, M, CLASS, TAG>
 where
-    T: TakenArm<'a>,
+    T: TakenArm<'a, M>,
     R: TakesArms<'a>,
 {
     ghost take_arms = { within (λ x. x.arms) (or_arms CLASS TAG T.item R.take_arms) };
@@ -90,6 +94,7 @@ where
             return match T::take(alloc, any) {
                 Ok(value) => Ok(OrTaken {
                     arms: Or::This(value),
+                    of: PhantomData,
                 }),
                 Err(e) => Err(e),
             };
@@ -97,6 +102,7 @@ where
         match R::take_arm(alloc, any) {
             Ok(others) => Ok(OrTaken {
                 arms: Or::Other(others),
+                of: PhantomData,
             }),
             Err(e) => Err(e),
         }
@@ -130,7 +136,8 @@ where
         R.exact_check };
 }
 
-impl<T, R: ArmNumbers, const CLASS: u8, const TAG: u32> ArmNumbers for OrTaken<T, R, CLASS, TAG> {
+impl<T, R: ArmNumbers, M, const CLASS: u8, const TAG: u32> ArmNumbers
+    for OrTaken<T, R, M, CLASS, TAG> {
     ghost arm_numbers = { TAG ∷ R.arm_numbers };
 
     fn is_of_an_arm(tag: Tag) -> bool {

@@ -17,6 +17,7 @@ use Rattle.asn1_rs_choices.specs.Within.{arms_within}
 use Rattle.asn1_rs_choices.specs.declared.taken_arm.OrTaken.{OrTaken}
 use Rattle.asn1_rs_ldap.specs.Searches.{search_laws}
 use Rattle.asn1_rs_ldap.specs.declared.search.SearchRequest.{SearchRequest}
+use Rattle.asn1_rs_ldap_messages.specs.declared.operation.OfOperations.{OfOperations}
 use Rattle.asn1_rs_ldap_messages.specs.declared.operation.Operation.{Operation}
 use Rattle.asn1_rs_ldap_messages.specs.declared.operation.Operation.TheVariants as operations
 
@@ -28,12 +29,12 @@ abbrev pub under : {T : Type 0} (number : ℕ) → LawfulTypeOf T → LawfulType
 under number T = implicit_type 1 number (λ t. t.inner) T
 
 abbrev pub OperationArms : Type 0
-OperationArms = Or (Under Null 2) (Or (Under ℕ 16) (OrTaken (Under SearchRequest 3) Never 1 3) 1) 1
+OperationArms = Or (Under Null 2) (Or (Under ℕ 16) (OrTaken (Under SearchRequest 3) Never OfOperations 1 3) 1) 1
 
 abbrev pub in_operation_arms : Operation → OperationArms
 in_operation_arms (operations.Unbind x) = arm.This x
 in_operation_arms (operations.Abandon x) = arm.Other (arm.This x)
-in_operation_arms (operations.Search x) = arm.Other (arm.Other (record { arms = arm.This x }))
+in_operation_arms (operations.Search x) = arm.Other (arm.Other (record { arms = arm.This x; of = record {} }))
 
 unfoldable pub operation_laws : LawfulChoiceOf Operation
 operation_laws = choice_of in_operation_arms (arm_before 1 (under 2 (leaf_type null_leaf null_lawful))

@@ -12,4 +12,4 @@ mod operation;
 
 pub use control::{Control, ControlRow, NotCritical};
 pub use message::{Controls, Message, MessageRow, message_vec, read_message, read_message_whole};
-pub use operation::{Abandon, Operation, OperationArms, Search, Unbind};
+pub use operation::{Abandon, OfOperations, Operation, OperationArms, Search, Unbind};

@@ -40,8 +40,16 @@ pub type Abandon = ApplicationImplicit<u32, Error, 16>;
 /// Asks for entries.
 pub type Search<'a> = ApplicationImplicit<SearchRequest<'a>, Error, 3>;
 
+/// Says whose arm a search is.
+#[derive(Debug)]
+pub struct OfOperations;
+
 /// Its arms.
-pub type OperationArms<'a> = Or<Unbind, Or<Abandon, OrTaken<Search<'a>, Never, 1, 3>, 1>, 1>;
+pub type OperationArms<'a> = Or<
+    Unbind,
+    Or<Abandon, OrTaken<Search<'a>, Never, OfOperations, 1, 3>, 1>,
+    1,
+>;
 
 impl HasKind for Operation<'_> {
     type Kind = ChoiceKind;
@@ -89,20 +97,10 @@ impl<'a> OfArms for Operation<'a> {
         match arms {
             Or::This(unbind) => Operation::Unbind(unbind),
             Or::Other(Or::This(abandon)) => Operation::Abandon(abandon),
-            Or::Other(
-                Or::Other(
-                    OrTaken {
-                        arms: Or::This(search),
-                    },
-                ),
-            ) => Operation::Search(search),
-            Or::Other(
-                Or::Other(
-                    OrTaken {
-                        arms: Or::Other(none),
-                    },
-                ),
-            ) => match none {},
+            Or::Other(Or::Other(taken)) => match taken.arms {
+                Or::This(search) => Operation::Search(search),
+                Or::Other(none) => match none {},
+            },
         }
     }
 }
@@ -115,7 +113,7 @@ impl<'a> ReadsChoiceByBer<'a> for Operation<'a> {
 }
 
 /// A search is an arm by what its reader answers.
-impl<'a> TakenArm<'a> for Search<'a> {
+impl<'a> TakenArm<'a, OfOperations> for Search<'a> {
     ghost item = { tagged_struct 1 3 (λ t. t.inner) search_laws };
 
     ghost takes = { TakesTagged 1 3 (λ t. t.inner) search_laws
