@@ -3,7 +3,7 @@
 //! The law stands in a record of each type, so that a row of fields can name it.
 ghost use Rattle.asn1_rs.specs.Laws.Any.Writing.{element_same};
 ghost use Rattle.asn1_rs.specs.Laws.BitString.{bit_string_equal};
-ghost use Rattle.asn1_rs.specs.Laws.Boolean.{bool_equal};
+ghost use Rattle.asn1_rs.specs.Laws.Boolean.{bool_equal, boolean_equal};
 ghost use Rattle.asn1_rs.specs.Laws.Enumerated.{enumerated_equal};
 ghost use Rattle.asn1_rs.specs.Laws.Integer.Octets.{octets_equal};
 ghost use Rattle.asn1_rs.specs.Laws.Integer.Signed.{signed_equal};
@@ -19,6 +19,7 @@ ghost use Rattle.asn1_rs.specs.Structs.Members.{optional_members, list_members, 
 
 use crate::asn1_types::any::Any;
 use crate::asn1_types::bit_string::BitString;
+use crate::asn1_types::boolean::Boolean;
 use crate::asn1_types::enumerated::Enumerated;
 use crate::asn1_types::integer::octets::Integer;
 use crate::asn1_types::kept::kinds::Sequence;
@@ -81,6 +82,10 @@ impl<T: MemberType> MemberType for Vec<T> {
 
 impl MemberType for bool {
     ghost member_laws = { members_of bool_equal };
+}
+
+impl MemberType for Boolean {
+    ghost member_laws = { members_of boolean_equal };
 }
 
 impl MemberType for () {

@@ -1,6 +1,10 @@
 //! Which types may be fields of structs: the leaf types of the library, lists, values under tags, and structs; choices by
 //! an impl of their authors; and an element of any tag number, where no field before it may be left out, or as the last
 //! one where it may be left out itself.
+//!
+//! A `BTreeSet` or a `HashSet` may be none: that its members differ in value rests on laws of their type's bounds, as
+//! `same` of `LawfulMember`, and a law of a bound can't stand in data. Nor may a `TaggedParser`, whose tag number is the
+//! one that was read.
 ghost use Rattle.std.specs.Prelude.{refl};
 ghost use Rattle.std.proofs.Common.{lit<};
 ghost use Rattle.asn1_rs.specs.BitString.{bit_string_leaf};
@@ -22,13 +26,14 @@ ghost use Rattle.asn1_rs.specs.Texts.{lent_text_leaf, owned_text_leaf};
 ghost use Rattle.asn1_rs.specs.Sequence.SequenceOf.{sequence_items};
 ghost use Rattle.asn1_rs.specs.Set.{items_of};
 ghost use Rattle.asn1_rs.specs.Structs.Data.{struct_type};
-ghost use Rattle.asn1_rs.specs.Structs.Types.{leaf_type, copying_type, unsigned_type, signed_type, utf8_type};
+ghost use Rattle.asn1_rs.specs.Structs.Types.{leaf_type, copying_type, boolean_type, unsigned_type, signed_type, utf8_type};
 ghost use Rattle.asn1_rs.specs.Structs.Types.{numeric_type, printable_type, ascii_type, visible_type, utc_time_type};
 ghost use Rattle.asn1_rs.specs.Structs.Types.{generalized_time_type, oid_type, list_type, multiset_type, explicit_type, any_field};
-ghost use Rattle.asn1_rs.specs.Structs.Types.{optional_any_field, implicit_type};
+ghost use Rattle.asn1_rs.specs.Structs.Types.{optional_any_field, implicit_type, bmp_type, universal_type};
 
 use crate::asn1_types::any::Any;
 use crate::asn1_types::bit_string::BitString;
+use crate::asn1_types::boolean::Boolean;
 use crate::asn1_types::enumerated::Enumerated;
 use crate::asn1_types::integer::octets::Integer;
 use crate::asn1_types::kept::kinds::{Sequence, Set};
@@ -38,8 +43,8 @@ use crate::asn1_types::oid::Oid;
 use crate::asn1_types::sequence::sequence_of::SequenceOf;
 use crate::asn1_types::set::set_of::SetOf;
 use crate::asn1_types::strings::kinds::{
-    GeneralString, GraphicString, Ia5String, NumericString, ObjectDescriptor, PrintableString,
-    TeletexString, Utf8String, VideotexString, VisibleString,
+    BmpString, GeneralString, GraphicString, Ia5String, NumericString, ObjectDescriptor,
+    PrintableString, TeletexString, UniversalString, Utf8String, VideotexString, VisibleString,
 };
 use crate::asn1_types::tagged::{Explicit, Implicit, TaggedValue};
 use crate::asn1_types::times::generalized_time::GeneralizedTime;
@@ -49,6 +54,10 @@ use crate::structs::field::{FieldType, LawfulType};
 
 impl LawfulType for bool {
     ghost type_laws = { leaf_type bool_leaf bool_lawful };
+}
+
+impl LawfulType for Boolean {
+    ghost type_laws = { boolean_type };
 }
 
 impl LawfulType for () {
@@ -173,6 +182,14 @@ impl LawfulType for VideotexString<'_> {
 
 impl LawfulType for VisibleString<'_> {
     ghost type_laws = { visible_type 26 (lit< tt) refl };
+}
+
+impl LawfulType for UniversalString<'_> {
+    ghost type_laws = { universal_type };
+}
+
+impl LawfulType for BmpString<'_> {
+    ghost type_laws = { bmp_type };
 }
 
 impl LawfulType for UtcTime {
