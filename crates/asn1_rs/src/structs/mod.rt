@@ -17,6 +17,7 @@ pub(crate) mod members;
 pub(crate) mod numbers;
 pub(crate) mod row;
 pub(crate) mod types;
+pub mod probe;
 
 ghost use Rattle.std.specs.Prelude.{◌≡◌, ℕ, List, Result};
 ghost use Rattle.asn1_headers.specs.declared.error.Error.{Error};
