@@ -5,7 +5,6 @@ pub mod Readers
 pub mod Beginnings
 pub mod Faults
 pub mod Words
-pub mod Fields
 pub mod Forms
 pub mod Kinds
 pub mod Checks

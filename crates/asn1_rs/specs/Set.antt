@@ -42,13 +42,18 @@ members_if false vs = inr vs
 abbrev pub members : {S V : Type 0} → (S → S → Bool) → (S → V) → List S → Members V
 members test value xs = members_if (pairs_pass test xs) (map value xs)
 
--- keys in the order of a `BTreeSet`
+-- a key is below another
 abbrev pub is_below : {S : Type 0} → (S → S → Ordering) → S → S → Bool
 is_below cmp x y = is_lt (cmp x y)
 
 -- keys in the order of a `HashSet`, which is any
 abbrev pub is_other : {S : Type 0} → (S → S → Bool) → S → S → Bool
 is_other eq x y = not (eq x y)
+
+-- Keys in the order of a `BTreeSet`, of which no two are equal. Where the order agrees with equality, the second follows
+-- from the first. It is said beside it, so that keys differ in value by a law of equality alone.
+abbrev pub ascends : {S : Type 0} → (S → S → Ordering) → (S → S → Bool) → S → S → Bool
+ascends cmp eq x y = is_below cmp x y && is_other eq x y
 
 -- values of one grammar, seen as another's
 abbrev pub Seen : {X V W : Type 0} → (V → W) → (X → V → Type 0) → X → W → Type 0

@@ -3,9 +3,11 @@
 pub mod Data
 pub mod Defaults
 pub mod DefaultTypes
+pub mod Keys
 pub mod Members
 pub mod PartsOfRows
 pub mod Types
+pub mod Untold
 use Rattle.std.specs.Prelude.{◌≡◌, ◌⊎◌, ◌||◌, ◌&&◌, ℕ, Bool, true, false, IsTrue, List, [], ◌∷◌, ◌++◌}
 use Rattle.std.specs.Prelude.{Option, Some, None, Result, Ok, Err, nat_eq, not, MatchResult}
 use Rattle.std.specs.Option.{option_map}

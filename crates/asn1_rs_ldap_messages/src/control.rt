@@ -1,11 +1,9 @@
 //! Controls, which extend an operation (RFC 4511, 4.1.11).
-ghost use Rattle.std.proofs.Common.{false, refl};
 ghost use Rattle.asn1_rs.specs.Structs.{MadeOf};
-ghost use Rattle.asn1_rs.specs.Structs.DefaultTypes.{default_bool, its_own_type};
 ghost use Rattle.asn1_rs_ldap_messages.specs.Controls.{control_laws};
 
 use asn1_rs::{
-    BerParser, BorrowedRow, DefaultOf, Defaulted, Error, Fields, FieldsKind, HasKind, HasReader,
+    BerParser, BorrowedRow, DefaultFalse, Defaulted, Error, Fields, FieldsKind, HasKind, HasReader,
     LawfulStruct, OctetString, ReadsFieldsByBer, ReadsRow, SerializeResult, StructReader,
     row_by_ber,
 };
@@ -20,32 +18,14 @@ use std::alloc::Global;
 #[derive(Debug, PartialEq, Eq, Drop)]
 pub struct Control<'a> {
     pub control_type: OctetString<'a>,
-    pub criticality: Defaulted<bool, NotCritical>,
+    pub criticality: Defaulted<bool, DefaultFalse>,
     pub value: Option<OctetString<'a>>,
-}
-
-/// That the operation may be carried out without the control, where nothing is said.
-#[derive(Debug, PartialEq, Eq, Drop)]
-pub struct NotCritical;
-
-impl DefaultOf<bool> for NotCritical {
-    ghost default_laws = { default_bool false };
-
-    fn default_value(_alloc: Global) -> bool {
-        false
-    }
-
-    fn is_default(value: &bool) -> bool {
-        !*value
-    }
-
-    ghost of_type = { its_own_type refl };
 }
 
 /// Its fields.
 pub type ControlRow<'a> = (
     OctetString<'a>,
-    (Defaulted<bool, NotCritical>, (Option<OctetString<'a>>, ())),
+    (Defaulted<bool, DefaultFalse>, (Option<OctetString<'a>>, ())),
 );
 
 impl HasKind for Control<'_> {

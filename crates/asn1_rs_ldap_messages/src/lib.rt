@@ -10,6 +10,6 @@ mod control;
 mod message;
 mod operation;
 
-pub use control::{Control, ControlRow, NotCritical};
+pub use control::{Control, ControlRow};
 pub use message::{Controls, Message, MessageRow, message_vec, read_message, read_message_whole};
 pub use operation::{Abandon, OfOperations, Operation, OperationArms, Search, Unbind};

@@ -1,17 +1,16 @@
 //! An extension of a certificate (RFC 5280, 4.1), with a field that has a default, by both rules, borrowed from the
 //! octets.
 ghost use Rattle.std.specs.Prelude.{◌≡◌, IfOk, IfErr};
-ghost use Rattle.std.proofs.Common.{false, refl};
+ghost use Rattle.std.proofs.Common.{refl};
 ghost use Rattle.asn1_headers.specs.Answers.{seen};
 ghost use Rattle.asn1_headers.specs.declared.error.Error.TheVariants as errors;
 ghost use Rattle.asn1_rs.specs.Copies.{copied_by};
 ghost use Rattle.asn1_rs.specs.Structs.{MadeOf};
 ghost use Rattle.asn1_rs.specs.Structs.Data.{struct_of};
-ghost use Rattle.asn1_rs.specs.Structs.DefaultTypes.{default_bool, its_own_type};
 ghost use Rattle.asn1_rs.specs.Callers.{ReadsByDer, ReadsByBer, WritesStrict};
 
 use asn1_rs::{
-    BerParser, BorrowedRow, DefaultOf, Defaulted, DerParser, Error, Fields, FieldsKind, Grammar,
+    BerParser, BorrowedRow, DefaultFalse, Defaulted, DerParser, Error, Fields, FieldsKind, Grammar,
     HasKind, HasReader, LawfulStruct, OctetString, Oid, ParseResult, ReadsFields, ReadsFieldsByBer,
     ReadsRow, Row, SerializeResult, StructReader, ToDer, ToStatic, read_ber, read_der, row_by_ber,
     row_by_der, strict_vec,
@@ -27,32 +26,14 @@ use std::alloc::Global;
 #[derive(Debug, PartialEq, Eq, Drop)]
 pub struct Extension<'a> {
     pub id: Oid<'a>,
-    pub critical: Defaulted<bool, NotCritical>,
+    pub critical: Defaulted<bool, DefaultFalse>,
     pub value: OctetString<'a>,
-}
-
-/// That an extension is not critical, where it does not say so.
-#[derive(Debug, PartialEq, Eq, Drop)]
-pub struct NotCritical;
-
-impl DefaultOf<bool> for NotCritical {
-    ghost default_laws = { default_bool false };
-
-    fn default_value(_alloc: Global) -> bool {
-        false
-    }
-
-    fn is_default(value: &bool) -> bool {
-        !*value
-    }
-
-    ghost of_type = { its_own_type refl };
 }
 
 /// Its fields.
 pub type ExtensionRow<'a> = (
     Oid<'a>,
-    (Defaulted<bool, NotCritical>, (OctetString<'a>, ())),
+    (Defaulted<bool, DefaultFalse>, (OctetString<'a>, ())),
 );
 
 impl HasKind for Extension<'_> {

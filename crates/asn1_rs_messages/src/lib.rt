@@ -10,15 +10,16 @@ mod measurement;
 mod public_key;
 mod reminder;
 mod settings;
+mod signed;
 mod source;
+mod survey;
 mod time;
 mod updates;
 mod validity;
 
 pub use alarm::{Alarm, AlarmRow, Muted, alarm_vec, read_alarm, read_alarm_by_ber};
 pub use extension::{
-    Extension, ExtensionRow, NotCritical, extension_vec, kept_extension, read_extension,
-    read_extension_by_ber,
+    Extension, ExtensionRow, extension_vec, kept_extension, read_extension, read_extension_by_ber,
 };
 pub use measurement::{
     Measurement, MeasurementRow, measurement_set_vec, measurement_vec, read_measurement,
@@ -28,14 +29,14 @@ pub use public_key::{
     AlgorithmIdentifier, AlgorithmRow, PublicKeyRow, SubjectPublicKeyInfo, public_key_vec,
     read_algorithm, read_public_key,
 };
-pub use reminder::{
-    NotUrgent, Reminder, ReminderRow, read_reminder, read_reminder_by_ber, reminder_vec,
-};
+pub use reminder::{Reminder, ReminderRow, read_reminder, read_reminder_by_ber, reminder_vec};
 pub use settings::{
     FirstVersion, Hundred, Limit, MinusOne, NoRooms, Plain, Settings, SettingsRow, Version,
     read_settings, read_settings_by_ber,
 };
+pub use signed::{Note, Signature, Signed, SignedRow, read_signed, read_signed_by_ber, signed_vec};
 pub use source::{Name, Place, Source, SourceArms, read_source, read_source_by_ber, source_vec};
+pub use survey::{Survey, SurveyRow, read_survey, read_survey_by_ber, survey_vec};
 pub use time::{
     TaggedTime, Time, TimeArms, read_tagged_time, read_time, read_time_by_ber, read_time_set,
     read_times, time_vec, times_vec,

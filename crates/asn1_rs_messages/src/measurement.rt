@@ -2,13 +2,14 @@
 ghost use Rattle.std.proofs.Common.{refl};
 ghost use Rattle.asn1_headers.specs.Answers.{seen};
 ghost use Rattle.asn1_rs.specs.Structs.{MadeOf};
-ghost use Rattle.asn1_rs.specs.Structs.Data.{struct_of};
+ghost use Rattle.asn1_rs.specs.Structs.Data.{struct_of, struct_type};
+ghost use Rattle.asn1_rs.specs.Structs.Keys.{key_of};
 ghost use Rattle.asn1_rs.specs.Structs.Members.{struct_members};
 ghost use Rattle.asn1_rs.specs.Callers.{ReadsByDer, ReadsByBer, WritesStrict};
 
 use asn1_rs::{
     AlwaysDer, AlwaysDerBy, BerParser, BorrowedRow, DerParser, DerRow, Error, Fields, FieldsKind,
-    Grammar, HasKind, HasReader, LawfulMember, LawfulStruct, MemberRow, MemberType, ParseResult,
+    Grammar, HasKind, HasReader, KeyType, LawfulMember, LawfulStruct, MemberRow, ParseResult,
     ReadsFields, ReadsFieldsByBer, ReadsRow, Row, SerializeResult, StructReader, ToDer, read_ber,
     read_der, row_by_ber, row_by_der, strict_vec,
 };
@@ -98,14 +99,15 @@ impl AlwaysDerBy<FieldsKind> for Measurement {
 }
 
 /// Measurements are equal exactly where their values are, since their fields are.
-impl MemberType for Measurement {
-    ghost member_laws = { struct_members ⟦<Measurement as LawfulStruct>⟧.laws.as_row
-        ⟦<MeasurementRow as MemberRow>⟧.row_members };
+impl KeyType for Measurement {
+    ghost key_laws = { key_of (struct_type ⟦<Measurement as LawfulStruct>⟧.laws)
+        (struct_members ⟦<Measurement as LawfulStruct>⟧.laws.as_row
+        ⟦<MeasurementRow as MemberRow>⟧.row_members).same };
 }
 
 /// So they may be members of a set.
 impl LawfulMember for Measurement {
-    ghost same = { ⟦<Measurement as MemberType>⟧.member_laws.same };
+    ghost same = { ⟦<Measurement as KeyType>⟧.key_laws.same };
 }
 
 /// The measurement at the front of the octets, by DER, and what follows it.

@@ -1,15 +1,14 @@
 //! A message with an optional field, one that has a default, and a list, by both rules.
-ghost use Rattle.std.proofs.Common.{false, refl};
+ghost use Rattle.std.proofs.Common.{refl};
 ghost use Rattle.asn1_headers.specs.Answers.{seen};
 ghost use Rattle.asn1_rs.specs.Structs.{MadeOf};
 ghost use Rattle.asn1_rs.specs.Structs.Data.{struct_of};
-ghost use Rattle.asn1_rs.specs.Structs.DefaultTypes.{default_bool, its_own_type};
 ghost use Rattle.asn1_rs.specs.Callers.{ReadsByDer, ReadsByBer, WritesStrict};
 
 use crate::alarm::Muted;
 use asn1_rs::{
-    AlwaysDer, AlwaysDerBy, BerParser, BorrowedRow, DefaultOf, Defaulted, DerParser, DerRow, Error,
-    Fields, FieldsKind, Grammar, HasKind, HasReader, LawfulStruct, ParseResult, ReadsFields,
+    AlwaysDer, AlwaysDerBy, BerParser, BorrowedRow, DefaultFalse, Defaulted, DerParser, DerRow,
+    Error, Fields, FieldsKind, Grammar, HasKind, HasReader, LawfulStruct, ParseResult, ReadsFields,
     ReadsFieldsByBer, ReadsRow, Row, SerializeResult, StructReader, ToDer, read_ber, read_der,
     row_by_ber, row_by_der, strict_vec,
 };
@@ -26,32 +25,17 @@ use std::alloc::Global;
 pub struct Reminder {
     pub level: u8,
     pub muted: Option<Muted>,
-    pub urgent: Defaulted<bool, NotUrgent>,
+    pub urgent: Defaulted<bool, DefaultFalse>,
     pub rooms: Vec<u16>,
-}
-
-/// That a reminder is not urgent, where it does not say so.
-#[derive(Debug, PartialEq, Eq, Drop)]
-pub struct NotUrgent;
-
-impl DefaultOf<bool> for NotUrgent {
-    ghost default_laws = { default_bool false };
-
-    fn default_value(_alloc: Global) -> bool {
-        false
-    }
-
-    fn is_default(value: &bool) -> bool {
-        !*value
-    }
-
-    ghost of_type = { its_own_type refl };
 }
 
 /// Its fields.
 pub type ReminderRow = (
     u8,
-    (Option<Muted>, (Defaulted<bool, NotUrgent>, (Vec<u16>, ()))),
+    (
+        Option<Muted>,
+        (Defaulted<bool, DefaultFalse>, (Vec<u16>, ())),
+    ),
 );
 
 impl HasKind for Reminder {

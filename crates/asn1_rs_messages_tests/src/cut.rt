@@ -1,8 +1,8 @@
 //! Messages and choices into writers that fail at each place, or take no octet from there on.
 
 use asn1_rs_messages::{
-    Alarm, Extension, Measurement, Reminder, Settings, Source, SubjectPublicKeyInfo, TaggedTime,
-    Time, Updates, Validity,
+    Alarm, Extension, Measurement, Reminder, Settings, Signed, Source, SubjectPublicKeyInfo,
+    TaggedTime, Time, Updates, Validity,
 };
 use std::alloc::Global;
 use std::test::Fail;
@@ -32,6 +32,10 @@ Settings:
 3000 = cut
 3003810105 = cut
 3013a0030201020201050a01003003020107810101 = cut
+
+Signed:
+3009020101a0040402aabb = cut
+300c020101e2040402aabb4301cc = cut
 
 SubjectPublicKeyInfo:
 302a300506032b656e032100+32*00 = cut
@@ -72,6 +76,7 @@ impl Calls for Cuts {
             "Measurement" => assert_read_cut::<Measurement>(alloc, octets)?,
             "Reminder" => assert_read_cut::<Reminder>(alloc, octets)?,
             "Settings" => assert_read_cut::<Settings>(alloc, octets)?,
+            "Signed" => assert_read_cut::<Signed<'_>>(alloc, octets)?,
             "SubjectPublicKeyInfo" => {
                 assert_read_cut::<SubjectPublicKeyInfo<'_>>(alloc, octets)?
             }

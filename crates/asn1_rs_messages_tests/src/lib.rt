@@ -20,7 +20,11 @@ mod settings;
 #[cfg(test)]
 mod shown;
 #[cfg(test)]
+mod signed;
+#[cfg(test)]
 mod sources;
+#[cfg(test)]
+mod surveys;
 #[cfg(test)]
 mod times;
 #[cfg(test)]

@@ -1,6 +1,7 @@
 //! Measurements by both rules.
 
 use crate::shown::{assert_beginnings, push_answer};
+use asn1_rs::ToDer;
 use asn1_rs_messages::{
     Measurement, measurement_set_vec, measurement_vec, read_measurement, read_measurement_by_ber,
     read_measurement_set,
@@ -45,16 +46,25 @@ fn measurements_are_read_and_written(rt: HostRuntime) -> Result<(), Fail> {
     assert_rows::<Reads>(rt.alloc(), ROWS)
 }
 
+/// The counts of a measurement made by hand, of all its octets and of the contents octets, and what is written of it.
+fn assert_made(alloc: Global, made: &Measurement, expected: &str) -> Result<(), Fail> {
+    let counts = (made.to_der_len(), made.der_content_len());
+    assert_shown(alloc, &(counts, measurement_vec(alloc, made)), expected)
+}
+
 #[test]
-fn a_measurement_made_by_hand_is_written(rt: HostRuntime) -> Result<(), Fail> {
+fn measurements_made_by_hand_are_counted_and_written(rt: HostRuntime) -> Result<(), Fail> {
     let alloc = rt.alloc();
-    let measurement = Measurement {
+    let mut made = Measurement {
         place: 1,
         value: 300,
         error: Some(5),
     };
-    let expected = "Ok([48, 10, 2, 1, 1, 2, 2, 1, 44, 2, 1, 5])";
-    assert_shown(alloc, &measurement_vec(alloc, &measurement), expected)
+    let whole = "((Ok(12), Ok(10)), Ok([48, 10, 2, 1, 1, 2, 2, 1, 44, 2, 1, 5]))";
+    assert_made(alloc, &made, whole)?;
+    made.error = None;
+    let less = "((Ok(9), Ok(7)), Ok([48, 7, 2, 1, 1, 2, 2, 1, 44]))";
+    assert_made(alloc, &made, less)
 }
 
 /// Sets of measurements, and what is written of them: in ascending order of the encodings (X.690 11.6), and of equal

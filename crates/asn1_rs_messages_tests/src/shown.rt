@@ -1,7 +1,9 @@
 //! Messages that were read, as tables show them.
 
-use asn1_rs::{Err, Error, FromBer, FromDer, SetOf, TaggedValue, ToDer};
-use asn1_rs_messages::{Alarm, Measurement, Reminder, Settings, Source, Time, Updates, Validity};
+use asn1_rs::{Err, Error, FromBer, FromDer, OctetString, SetOf, TaggedParser, TaggedValue, ToDer};
+use asn1_rs_messages::{
+    Alarm, Measurement, Reminder, Settings, Signed, Source, Survey, Time, Updates, Validity,
+};
 use std::alloc::Global;
 use std::fmt::Write;
 use std::test::Fail;
@@ -60,6 +62,38 @@ impl Shown for Settings {
 impl Shown for Measurement {
     fn show(&self, text: &mut String) -> Result<(), Fail> {
         Ok(write!(text, "{} {} {:?}", self.place, self.value, self.error)?)
+    }
+}
+
+/// The name of the station, the octet that says whether it has finished, and how many members the sets have.
+impl Shown for Survey<'_> {
+    fn show(&self, text: &mut String) -> Result<(), Fail> {
+        Ok(write!(
+            text,
+            "{} {} {} {}",
+            self.station.as_str(),
+            self.finished.value,
+            self.places.len(),
+            self.measurements.len()
+        )?)
+    }
+}
+
+/// The values of the fields, in their order.
+impl Shown for Signed<'_> {
+    fn show(&self, text: &mut String) -> Result<(), Fail> {
+        write!(text, "{} ", self.number)?;
+        self.signature.show(text)?;
+        text.push_str(" ")?;
+        self.note.show(text)
+    }
+}
+
+/// The class and the tag number, and the octets.
+impl<Kind> Shown for TaggedParser<'_, Kind, OctetString<'_>, Error> {
+    fn show(&self, text: &mut String) -> Result<(), Fail> {
+        write!(text, "{:?} {} ", self.class(), self.tag().0)?;
+        push_digits(text, self.inner.as_bytes())
     }
 }
 

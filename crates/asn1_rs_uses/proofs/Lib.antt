@@ -3,7 +3,6 @@ pub mod Collected
 pub mod CountedItems
 pub mod JoinedNumbers
 pub mod LabelsUnwritten
-pub mod MeasurementsUnwritten
 pub mod Messages
 pub mod MidnightsRefused
 pub mod NoMessages

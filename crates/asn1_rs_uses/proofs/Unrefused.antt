@@ -1,6 +1,5 @@
 -- Values that have no refusal of their own.
-use Rattle.std.proofs.Common.{◌≡◌, ◌≤◌, ◌⊎◌, refl, inl, inr, arith, rules, ℕ, Bool, true, false, List, length}
-use Rattle.std.proofs.Common.{Option, None, Some}
+use Rattle.std.proofs.Common.{◌≡◌, ◌⊎◌, refl, inl, inr, rules, ℕ, Bool, true, false, List, length}
 use Rattle.std.specs.Prelude.{Result, Ok, Err, IfErr, IfOk, MatchResult}
 use Rattle.asn1_headers.specs.declared.error.Error.{Error}
 use Rattle.asn1_headers.specs.declared.error.Error.TheVariants as errors
@@ -8,26 +7,12 @@ use Rattle.asn1_headers.specs.declared.error.SerializeError.{SerializeError}
 use Rattle.asn1_headers.specs.declared.error.SerializeError.TheVariants as serialize_errors
 use Rattle.asn1_headers.specs.Error.{tells_of_io}
 use Rattle.asn1_headers.specs.Writer.{MayRefuse, IsMemoryOrLength}
-use Rattle.asn1_rs.specs.Optional.{HeldRefuses}
-use Rattle.asn1_rs.specs.Tagged.Writing.{UnderClass}
-use Rattle.asn1_rs.specs.ToDer.{Either, HasNone, IntoVector, MayRefuseCount, Refuses, RefusesCount, VectorRefuses}
-use Rattle.asn1_rs.specs.ToDer.{WrittenRefusal}
+use Rattle.asn1_rs.specs.ToDer.{Either, HasNone, MayRefuseCount, Refuses, RefusesCount, VectorRefuses}
 
 -- no refusal of either is none of the two
 pub either_none : {E : Type 0} (one other : E → Type 0) → HasNone one → HasNone other → HasNone (Either one other)
 either_none one other p q e (inl o) = p e o
 either_none one other p q e (inr o) = q e o
-
-pub held_none : {T E : Type 0} (refuses : T → E → Type 0) → ((t : T) → HasNone (refuses t)) → (x : Option T) →
-    HasNone (HeldRefuses refuses x)
-held_none refuses none None e o = o
-held_none refuses none (Some t) e o = none t e o
-
-pub written_none : (own : Error → Type 0) → HasNone own → HasNone (WrittenRefusal own)
-written_none own none e (f, o, is) = none f o
-
-pub vector_none : (own : SerializeError → Type 0) → HasNone own → HasNone (IntoVector own)
-vector_none own none e (f, o, is) = none f o
 
 -- a vector of such a value is refused for its length, or since memory is out
 may_be : (octets : List ℕ) (e : SerializeError) → tells_of_io e ≡ false → MayRefuse true (length octets) e →
@@ -44,11 +29,6 @@ pub vector_refused : {A : Type 0} (octets : List ℕ) (own : SerializeError → 
 vector_refused octets own none (Ok v) h p = tt
 vector_refused octets own none (Err e) h (inl p) = may_be octets e h p
 vector_refused octets own none (Err e) h (inr (f, o, is)) = absurd (none f o)
-
--- under a tag of the context-specific class
-pub under_none : (own : SerializeError → Type 0) → HasNone own → HasNone (UnderClass 2 own)
-under_none own none e (inl past) = let no : 4 ≤ 2 = past.0 in absurd (omega (arith, no))
-under_none own none e (inr o) = none e o.1
 
 -- where memory may be asked for, and where it is not
 count_may : (allocates : Bool) (n : ℕ) (e : Error) → MayRefuseCount allocates n e → MayRefuseCount true n e

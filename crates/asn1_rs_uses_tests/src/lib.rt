@@ -12,8 +12,6 @@ mod levels;
 #[cfg(test)]
 mod lists;
 #[cfg(test)]
-mod measurements;
-#[cfg(test)]
 mod packets;
 #[cfg(test)]
 mod principals;

@@ -1,7 +1,7 @@
 -- What is read once is shown once: items, and lists and sets of them.
 use Rattle.std.proofs.Common.{◌≡◌, ◌∙◌, sym, ap, subst, refl, List, [], ◌∷◌, ◌++◌, map, ℕ, Bool, true, false, inl, inr}
 use Rattle.std.proofs.Common.{lit<, Result, Ok, Err, codes, BuildHasherDefault, FoldHasher}
-use Rattle.std.specs.Prelude.{pos, decimal, IsTrue, ◌↔◌}
+use Rattle.std.specs.Prelude.{pos, decimal, IsTrue, nat_eq, ◌↔◌}
 use Rattle.std.specs.Fmt.{signed_decimal}
 use Rattle.std.specs.List.{join_by}
 use Rattle.std.proofs.lemmas.List.Folds.{flat_map-map}
@@ -29,7 +29,7 @@ use Rattle.asn1_rs.specs.Leaf.{IsLawfulLeafUpTo, Leaf, LeafGives, leaf_element}
 use Rattle.asn1_rs.specs.Laws.Leaf.{leaf_constraints, leaf_converts, leaf_lawful, leaf_one_refusal}
 use Rattle.asn1_rs.specs.Lists.{has_items}
 use Rattle.asn1_rs.specs.declared.asn1_types.set.set_of.SetOf.{SetOf}
-use Rattle.asn1_rs.specs.Set.{HasItems, Members, is_below, is_other, items_of, members, set_of}
+use Rattle.asn1_rs.specs.Set.{HasItems, Members, ascends, is_other, items_of, members, set_of}
 use Rattle.asn1_rs.specs.Laws.Set.{member_lawful, multiset_lawful, table_told}
 use Rattle.std.specs.declared.cmp.Ordering.{Ordering}
 use Rattle.std.specs.BTreeSet.{BTreeSet, IsFromIterResult}
@@ -162,17 +162,17 @@ module _ (I : Item) (one : IsOneItem I) where
         btree_set_from_contains total s t h.1 k.1
         (λ q. h.0 q ∙ ap (λ (zs : List I.T). is_member (eq_by_cmp cmp) zs q) same ∙ sym (k.0 q)) apart
 
-    pub ordered_set_once : IsOneItem (ordered_set I cmp)
-    ordered_set_once = record {
+    pub ordered_set_once : (eq : I.T → I.T → Bool) → IsOneItem (ordered_set I cmp eq)
+    ordered_set_once eq = record {
       D = List I.T;
       view = λ s. s.keys;
       text = λ s t e. ap (list_text I.text_of) e;
-      value = λ s t e. ap (members (is_below cmp) I.grammar.value) e;
+      value = λ s t e. ap (members (ascends cmp eq) I.grammar.value) e;
       ber = taken_by_ber one.view I.grammar.allocates I.ber_gives one.ber (λ s. s.keys)
           (λ items s. IsFromIterResult cmp items s) keys_held (IsListOr 17) (is_list_or_is 17);
       der = taken_by_der one.view I.grammar.allocates I.der_gives one.der (λ s. s.keys)
           (λ items s. IsFromIterResult cmp items s) keys_held (IsListOr 17) (is_list_or_is 17);
-      lawful = member_lawful (is_below cmp) (λ s. s.keys) I.grammar one.lawful;
+      lawful = member_lawful (ascends cmp eq) (λ s. s.keys) I.grammar one.lawful;
     }
 
   -- a set whose items stand in no order: what is seen are the items in order, and its value
@@ -269,10 +269,10 @@ module _ (size : ℕ) where
       }
 
   -- and the sets of these whose items ascend
-  pub ordered_unsigned_once : IsOneItem (ordered_set (unsigned_item size) nat_cmp)
+  pub ordered_unsigned_once : IsOneItem (ordered_set (unsigned_item size) nat_cmp nat_eq)
   unfolding unsigned_once
   ordered_unsigned_once =
-      ordered_set_once (unsigned_item size) unsigned_once nat_cmp nat_cmp_total exact_unsigned pos_same
+      ordered_set_once (unsigned_item size) unsigned_once nat_cmp nat_cmp_total exact_unsigned pos_same nat_eq
 
 -- the same of signed integers
 module _ (size : ℕ) where

@@ -1,6 +1,6 @@
 -- The names of types, and what each stands for.
 use Rattle.std.specs.Prelude.{◌≡◌, Bool as Truth, List, ◌++◌, ℕ, ℤ, pos, codes, decimal, true, false, None, Result, Ok}
-use Rattle.std.specs.Prelude.{IsUtf8}
+use Rattle.std.specs.Prelude.{IsUtf8, nat_eq}
 use Rattle.std.specs.Char.{is_ascii}
 use Rattle.std.specs.declared.alloc.Global.{Global}
 use Rattle.std.specs.declared.vec.Vec.{Vec}
@@ -26,7 +26,7 @@ use Rattle.asn1_rs.specs.Enumerated.{enumerated_leaf}
 use Rattle.asn1_rs.specs.Integer.Octets.{any_integer_leaf, octets_held}
 use Rattle.asn1_rs.specs.Leaf.{Leaf, LeafBody, LeafGives, LeafTakes, LendsContent, leaf_element}
 use Rattle.asn1_rs.specs.declared.asn1_types.set.set_of.SetOf.{SetOf}
-use Rattle.asn1_rs.specs.Set.{HasItems, is_below, is_other, items_of, member_grammar, multiset_grammar}
+use Rattle.asn1_rs.specs.Set.{HasItems, ascends, is_other, items_of, member_grammar, multiset_grammar}
 use Rattle.asn1_rs.specs.Null.{null_leaf}
 use Rattle.asn1_rs.specs.OctetString.{octet_string_leaf, cow_of}
 use Rattle.asn1_rs.specs.declared.asn1_types.oid.Oid.{Oid as Identifier}
@@ -338,10 +338,10 @@ unordered_set I = record {
 }
 
 -- sets whose items ascend, each once: they have the items that were read, and each item is below those behind it
-abbrev pub ordered_set : (I : Item) → (I.T → I.T → Ordering) → Item
-ordered_set I cmp = record {
+abbrev pub ordered_set : (I : Item) → (I.T → I.T → Ordering) → (I.T → I.T → Truth) → Item
+ordered_set I cmp eq = record {
   T = BTreeSet I.T;
-  grammar = member_grammar (is_below cmp) (λ s. s.keys) I.grammar;
+  grammar = member_grammar (ascends cmp eq) (λ s. s.keys) I.grammar;
   ber_gives =
       BerGives (OfParts (ListTakes (IsListOr 17) (λ items s. IsFromIterResult cmp items s) I.ber_gives Same)) Same;
   der_gives = DerGives PassesAll
@@ -444,7 +444,7 @@ meaning_of VecU32 = alone false (vector (unsigned_item 4))
 meaning_of VecBool = alone false (vector (leaf_item bool_leaf truth_text))
 meaning_of VecVecU8 = alone false (vector (vector (unsigned_item 1)))
 meaning_of SetOfU8 = collection (unordered_set (unsigned_item 1))
-meaning_of BTreeSetU8 = collection (ordered_set (unsigned_item 1) nat_cmp)
+meaning_of BTreeSetU8 = collection (ordered_set (unsigned_item 1) nat_cmp nat_eq)
 meaning_of Sequence = lent_leaf sequence_leaf (λ x. x.content) in_hexadecimal
 meaning_of Set = lent_leaf set_leaf (λ x. x.content) in_hexadecimal
 meaning_of SeqOfU32 = alone false (sequence_of (unsigned_item 4))

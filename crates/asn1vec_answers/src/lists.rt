@@ -9,7 +9,7 @@ ghost use Rattle.std.specs.List.{join_by};
 ghost use Rattle.x690.specs.Collections.{AllDiffer, AnyList, multiset};
 ghost use Rattle.asn1_headers.specs.Writer.{MayRefuse};
 ghost use Rattle.asn1_rs.specs.Lists.{ListForm};
-ghost use Rattle.asn1_rs.specs.Set.{SetForm, is_below, is_other, items_of, members, set_of};
+ghost use Rattle.asn1_rs.specs.Set.{SetForm, ascends, is_other, items_of, members, set_of};
 ghost use Rattle.asn1_rs.specs.Sequence.SequenceOf.{sequence_items};
 ghost use Rattle.asn1vec_answers.specs.Shown.{AllowsOctets, AllowsRefusals, StrictEncodingIfAny, in_order, list_text};
 ghost use Rattle.asn1_rs.specs.ToDer.{whole_allocates, whole_octets, whole_refuses};
@@ -130,7 +130,7 @@ impl<T: Encoded + AlwaysDer + LawfulMember + Ord> Encoded for BTreeSet<T> {
 
     ghost Encodes = { λ s.
         StrictEncodingIfAny (SetForm set_of AllDiffer T.grammar.Form) true
-        (members (is_below T.cmp) T.grammar.value s.keys) };
+        (members (ascends T.cmp T.eq) T.grammar.value s.keys) };
 
     fn show(&self, text: &mut Vec<u8>) -> Result<(), AllocError> {
         push_items(self.iter(), text)

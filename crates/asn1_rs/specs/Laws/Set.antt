@@ -43,8 +43,8 @@ use Rattle.asn1_rs.specs.Checks.{CheckGives}
 use Rattle.asn1_rs.specs.Kinds.{IsExactCheck}
 use Rattle.asn1_rs.specs.Lists.{ShapedList, HasNumber, IsConstructed, ListCheck, StrictWord, SomeRefuses, ListTakes}
 use Rattle.asn1_rs.specs.ToDer.{HasNone, IsWritable, IntoVector, Writing, whole_octets, whole_refuses}
-use Rattle.asn1_rs.specs.Set.{Members, set_of, pairs_pass, members_if, members, is_below, is_other, Seen, SetBody}
-use Rattle.asn1_rs.specs.Set.{SetRow, SetForm, SetValues, SetInDer, set_grammar, multiset_grammar, member_grammar}
+use Rattle.asn1_rs.specs.Set.{Members, set_of, pairs_pass, members_if, members, is_below, is_other, ascends, Seen}
+use Rattle.asn1_rs.specs.Set.{SetBody, SetRow, SetForm, SetValues, SetInDer, set_grammar, multiset_grammar, member_grammar}
 use Rattle.asn1_rs.specs.Set.{items_of, HasItems, set_content}
 use Rattle.asn1_rs.specs.Laws.Readers.{der_elements, unchecked_exact}
 use Rattle.asn1_rs.specs.Laws.Words.{word_one, one_strict, strict_der_word, ber_one, ber_values, strict_ber}
@@ -54,6 +54,7 @@ use Rattle.asn1_rs.specs.Laws.Lists.{zip_written, strict_word_one, strict_word_o
 use Rattle.asn1_rs.specs.Laws.Lists.{list_body_values, list_form_check, list_takes_class, list_takes}
 use Rattle.asn1_rs.specs.Laws.Lists.{none_refuses, same_lists}
 use Rattle.asn1_rs.specs.Kinds.Writing.{set_writing}
+use Rattle.std.proofs.Math.Path.{fun_ext}
 use mathlib.Core.Bool.{not, true≢false, Bool-set}
 use mathlib.Core.Logic.{∥∥₁_prop, ∥∥₁_elim, ∥∥₁_map}
 use Rattle.x690.specs.Laws.Equality.{multiset_set, value_set_set, list_set}
@@ -466,7 +467,7 @@ all_below cmp x (y ∷ ys) h =
     true_both (is_below cmp x y) (list_all (is_below cmp x) ys) (ap is_lt h.0) (all_below cmp x ys h.1)
 
 -- Keys in strictly ascending order pass the test in pairs.
-pub ordered_pass : {S : Type 0} (cmp : S → S → Ordering) (xs : List S) → IsStrictlySortedBy cmp xs →
+ordered_pass : {S : Type 0} (cmp : S → S → Ordering) (xs : List S) → IsStrictlySortedBy cmp xs →
     pairs_pass (is_below cmp) xs ≡ true
 unfolding IsStrictlySortedBy
 ordered_pass cmp [] h = refl
@@ -495,6 +496,23 @@ members_pass test value xs h = ap (λ b. members_if b (map value xs)) h
 
 -- Keys in ascending order.
 
+-- What is below is not equal.
+below_not_equal : (r : Ordering) → (is_lt r && not (is_eq r)) ≡ is_lt r
+below_not_equal Less = refl
+below_not_equal Equal = refl
+below_not_equal Greater = refl
+
+-- where the order agrees with equality
+module _ {S : Type 0} (cmp : S → S → Ordering) (eq : S → S → Bool) (matches : (x y : S) → eq x y ≡ eq_by_cmp cmp x y) where
+  -- Keys are below one another and not equal exactly where they are below one another.
+  ascends_is_below : ascends cmp eq ≡ is_below cmp
+  ascends_is_below = fun_ext (λ x. fun_ext (λ y.
+      ap (λ b. is_below cmp x y && not b) (matches x y) ∙ below_not_equal (cmp x y)))
+
+  -- So keys in strictly ascending order pass both tests in pairs.
+  pub ascending_pass : (xs : List S) → IsStrictlySortedBy cmp xs → pairs_pass (ascends cmp eq) xs ≡ true
+  ascending_pass xs h = subst (λ test. pairs_pass test xs ≡ true) (sym ascends_is_below) (ordered_pass cmp xs h)
+
 -- keys that pass differ in value, where their equality is that of their values
 module _ {S V : Type 0} (eq : S → S → Bool) (value : S → V)
     (same : (x y : S) → IsTrue (eq x y) ↔ (value x ≡ value y)) where
@@ -502,14 +520,14 @@ module _ {S V : Type 0} (eq : S → S → Bool) (value : S → V)
   pub other_apart : (x y : S) → is_other eq x y ≡ true → value x ≡ value y → ⊥
   other_apart x y h e = let t : eq x y ≡ true = (same x y).1 e in true≢false (sym h ∙ ap not t)
 
+  -- Nor are keys that ascend of one value.
+  pub ascending_apart : (cmp : S → S → Ordering) (x y : S) → ascends cmp eq x y ≡ true → value x ≡ value y → ⊥
+  ascending_apart cmp x y h = other_apart x y (both_true (is_below cmp x y) (is_other eq x y) h).1
+
   module _ (cmp : S → S → Ordering) (total : IsTotalOrder cmp) (matches : (x y : S) → eq x y ≡ eq_by_cmp cmp x y) where
     -- Keys of one value are in neither order.
     tie : (x y : S) → value x ≡ value y → cmp x y ≡ Equal
     tie x y e = (Equal-is (cmp x y)).0 (sym (matches x y) ∙ (same x y).1 e)
-
-    -- A key below another has another value.
-    pub below_apart : (x y : S) → is_below cmp x y ≡ true → value x ≡ value y → ⊥
-    below_apart x y h e = true≢false (sym h ∙ ap is_lt (tie x y e))
 
     -- the order of keys follows from their values
     cmp_by_value : (x y a b : S) → value x ≡ value a → value y ≡ value b → cmp x y ≡ cmp a b
@@ -595,10 +613,10 @@ module _ {S V : Type 0} (eq : S → S → Bool) (value : S → V)
     pointwise_from_values : (xs ys : List S) → ∥ map value xs ≡ map value ys ∥₁ → IsTrue (pointwise eq xs ys)
     pointwise_from_values xs ys m = ∥∥₁_elim m (Bool-set _ _) (λ e. (same_lists eq value same xs ys).1 e)
 
-    -- sets in the order of their keys are equal exactly where their members are
-    pub same_members : (xs ys : List S) →
+    -- keys that are compared in order are equal one by one exactly where their members are the same
+    same_in_order : (xs ys : List S) →
         IsTrue (pointwise eq xs ys) ↔ (members (is_below cmp) value xs ≡ members (is_below cmp) value ys)
-    same_members xs ys = (to, λ e. pointwise_from_values xs ys (from e))
+    same_in_order xs ys = (to, λ e. pointwise_from_values xs ys (from e))
       where
         to : IsTrue (pointwise eq xs ys) → members (is_below cmp) value xs ≡ members (is_below cmp) value ys
         to h = let e = (same_lists eq value same xs ys).0 h in
@@ -623,6 +641,13 @@ module _ {S V : Type 0} (eq : S → S → Bool) (value : S → V)
                     | false ↦ λ e. ∣ row_inj (map value xs) (map value ys) e ∣₁
                   ]
             ] refl
+
+    -- Sets in the order of their keys are equal exactly where their members are.
+    pub same_members : (xs ys : List S) →
+        IsTrue (pointwise eq xs ys) ↔ (members (ascends cmp eq) value xs ≡ members (ascends cmp eq) value ys)
+    same_members xs ys =
+        subst (λ test. IsTrue (pointwise eq xs ys) ↔ (members test value xs ≡ members test value ys))
+        (sym (ascends_is_below cmp eq matches)) (same_in_order xs ys)
 
 -- Keys that were collected.
 
@@ -719,9 +744,9 @@ module _ {S V : Type 0} (eq : S → S → Bool) (value : S → V) (same : (x y :
 
   -- A `BTreeSet` of items is the set of their values.
   pub tree_told : (items : List S) (s : BTreeSet S) → IsFromIterResult cmp items s →
-      set_of (map value items) ≡ members (is_below cmp) value s.keys
+      set_of (map value items) ≡ members (ascends cmp eq) value s.keys
   tree_told items s h = sym (collected_values (eq_by_cmp cmp) value ties_same s.keys items h.0)
-      ∙ sym (members_pass (is_below cmp) value s.keys (ordered_pass cmp s.keys h.1))
+      ∙ sym (members_pass (ascends cmp eq) value s.keys (ascending_pass cmp eq matches s.keys h.1))
 
 -- so each of the two kinds of sets has strict parts where it is in DER form
 module _ {S V W : Type 0} (items : W → List S) (value : S → V) (IsDer : V → Type 0)

@@ -1,9 +1,7 @@
 -- Fields and structs that may be members of a set, with that law in the record: equality is that of the values.
-use Rattle.std.specs.Prelude.{◌≡◌, ◌↔◌, ◌&&◌, ◌∷◌, [], Bool, true, List, Option, IsTrue, map}
-use Rattle.std.specs.Cmp.Lexicographic.{pointwise}
+use Rattle.std.specs.Prelude.{◌≡◌, ◌↔◌, ◌&&◌, ◌∷◌, [], Bool, true, List, Option, IsTrue}
 use Rattle.std.specs.Option.{option_map, option_eq}
 use Rattle.std.proofs.Common.{refl}
-use Rattle.asn1_rs.specs.Laws.Lists.{same_lists}
 use Rattle.asn1_rs.specs.Laws.Structs.Members.{all_of, option_same, row_same}
 use Rattle.asn1_rs.specs.Laws.Tagged.{same_beside_nothing}
 
@@ -31,25 +29,7 @@ members_of {S} {V} {value} {eq} same = record {
   same = same;
 }
 
--- a type of one value
-abbrev pub unit_members : {S : Type 0} → MembersOf S
-unit_members {S} = record {
-  Value = Unit {0};
-  value = λ x. tt;
-  are_equal = λ x y. true;
-  same = λ x y. (λ h. refl, λ e. refl);
-}
-
--- what holds an item of another type, and is equal where that is
-abbrev pub held_members : {S T : Type 0} → (S → T) → MembersOf T → MembersOf S
-held_members inner M = record {
-  Value = M.Value;
-  value = λ x. M.value (inner x);
-  are_equal = λ x y. M.are_equal (inner x) (inner y);
-  same = λ x y. M.same (inner x) (inner y);
-}
-
--- the same beside a mark, which holds nothing
+-- what holds an item of another type beside a mark, which holds nothing
 abbrev pub marked_members : {S T : Type 0} → (S → T) → MembersOf T → MembersOf S
 marked_members inner M = record {
   Value = M.Value;
@@ -65,15 +45,6 @@ optional_members M = record {
   value = option_map M.value;
   are_equal = option_eq M.are_equal;
   same = option_same M.value M.are_equal M.same;
-}
-
--- a list
-abbrev pub list_members : {S T : Type 0} → (S → List T) → MembersOf T → MembersOf S
-list_members items M = record {
-  Value = List M.Value;
-  value = λ x. map M.value (items x);
-  are_equal = λ x y. pointwise M.are_equal (items x) (items y);
-  same = λ x y. same_lists M.are_equal M.value M.same (items x) (items y);
 }
 
 -- no fields

@@ -1,32 +1,35 @@
 -- What the types of the library say as fields of structs, with their laws.
-use Rattle.std.specs.Prelude.{◌≡◌, ◌∷◌, ◌&&◌, nat_eq, ℕ, ℤ, Bool, true, false, refl, Option, List, [], ◌<◌, IsTrue, pos}
+use Rattle.std.specs.Prelude.{◌≡◌, ◌∷◌, ◌&&◌, nat_eq, ℕ, ℤ, Bool, true, false, refl, List, [], ◌<◌, IsTrue, pos}
 use Rattle.std.specs.Char.{is_ascii}
 use Rattle.std.specs.Str.{IsUtf8}
 use Rattle.std.proofs.Common.{lit<, ap}
+use Rattle.x690.specs.Characters.{IsCharacterCode, ucs4_octets_of, utf16_octets_of}
 use Rattle.x690.specs.Collections.{multiset, AnyList}
 use Rattle.x690.specs.Identifiers.{Identifier}
 use Rattle.x690.specs.Integers.{IsIntegerContent, unsigned_octets}
 use Rattle.x690.specs.Sets.{AllIn, is_numeric, is_printable, is_visible}
 use Rattle.x690.specs.Signed.{IsSigned, signed_octets}
+use Rattle.x690.specs.Laws.Characters.{ucs4_code, utf16_code}
 use Rattle.x690.specs.Laws.Integers.Unsigned.{unsigned_octets_content}
 use Rattle.x690.specs.Laws.Sets.{in_set_utf8, numeric_ascii, printable_ascii, ascii_ascii, visible_ascii}
 use Rattle.x690.specs.Laws.Signed.{signed_octets_content}
 use Rattle.asn1_headers.specs.Tag.{is_container_number}
 use Rattle.asn1_headers.specs.declared.error.Error.{Error}
-use Rattle.asn1_rs.specs.declared.asn1_types.any.Any.{Any}
+use Rattle.asn1_rs.specs.declared.asn1_types.boolean.Boolean.{Boolean}
 use Rattle.asn1_rs.specs.declared.asn1_types.oid.Oid.{Oid}
 use Rattle.asn1_rs.specs.declared.asn1_types.strings.RestrictedString.{RestrictedString}
+use Rattle.asn1_rs.specs.declared.asn1_types.strings.Coded.{Coded}
 use Rattle.asn1_rs.specs.declared.asn1_types.strings.InPlace.{InPlace}
 use Rattle.asn1_rs.specs.declared.asn1_types.times.generalized_time.GeneralizedTime.{GeneralizedTime}
 use Rattle.asn1_rs.specs.declared.asn1_types.times.utc_time.UtcTime.{UtcTime}
-use Rattle.asn1_rs.specs.Any.Value.{any_element}
-use Rattle.asn1_rs.specs.Any.Writing.{element_writing}
+use Rattle.asn1_rs.specs.Boolean.{boolean_leaf, truth_writing}
+use Rattle.asn1_rs.specs.CodedStrings.{coded_string_leaf}
 use Rattle.asn1_rs.specs.Integer.{IsUnsigned, integer_element}
 use Rattle.asn1_rs.specs.Grammar.Item.{ber_words}
 use Rattle.asn1_rs.specs.Kinds.{ElementGrammar, IsLawfulElement, item_grammar}
 use Rattle.asn1_rs.specs.Kinds.Writing.{IsWrittenElement, list_writing, set_writing, universal_writing}
-use Rattle.asn1_rs.specs.Laws.Any.Value.{element_lawful}
-use Rattle.asn1_rs.specs.Laws.Any.Writing.{element_lawful_writing}
+use Rattle.asn1_rs.specs.Laws.Boolean.{boolean_lawful, boolean_lawful_writing}
+use Rattle.asn1_rs.specs.Laws.CodedStrings.{coded_string_lawful}
 use Rattle.asn1_rs.specs.Laws.Forms.{universal_lawful_writing, universal_number, universal_number_fits}
 use Rattle.asn1_rs.specs.Laws.Integer.{integer_lawful, integer_written}
 use Rattle.asn1_rs.specs.Laws.Kinds.{lawful_item}
@@ -56,10 +59,8 @@ use Rattle.asn1_rs.specs.Tagged.Implicit.{implicit_grammar}
 use Rattle.asn1_rs.specs.Tagged.Writing.{explicit_under, implicit_under, tag_writing}
 use Rattle.asn1_rs.specs.Times.{utc_time_leaf, utc_time_refused, generalized_time_leaf, generalized_time_refused}
 use Rattle.asn1_rs.specs.Times.{moment_of, IsInvalidDateTime}
-use Rattle.asn1_rs.specs.Optional.{option_writing}
-use Rattle.asn1_rs.specs.Structs.{any_number, item_field, optional_field, left_out_at_end}
-use Rattle.asn1_rs.specs.Structs.Data.{LawfulTypeOf, LawfulFieldOf}
-use Rattle.asn1_rs.specs.Laws.Structs.Fields.{any_field_lawful, any_option_lawful, item_put, one_number, optional_put}
+use Rattle.asn1_rs.specs.Structs.Data.{LawfulTypeOf}
+use Rattle.asn1_rs.specs.Laws.Structs.Fields.{one_number}
 
 -- Types of one element.
 
@@ -98,6 +99,13 @@ leaf_type L l = element_type L.number (leaf_element L) (λ x. L.octets (L.value 
 abbrev pub copying_type : {S K : Type 0} {key : Error → K} (L : Leaf S) → IsLawfulLeafUpTo key L → LawfulTypeOf S
 copying_type L l = element_type L.number (copying (leaf_element L)) (λ x. L.octets (L.value x)) (copying_lawful L l)
     (copying_written L l)
+
+-- truth values with their octet, whose header is written as the two octets that it is
+abbrev pub boolean_type : LawfulTypeOf Boolean
+boolean_type = record (leaf_type boolean_leaf boolean_lawful) {
+  writing = truth_writing;
+  written = λ s. boolean_lawful_writing;
+}
 
 -- machine integers of so many octets, without a sign and with one
 abbrev pub unsigned_type : ℕ → LawfulTypeOf ℕ
@@ -140,6 +148,18 @@ ascii_type number small primitive = set_type number is_ascii small primitive asc
 abbrev pub visible_type : {K : Type 0} (number : ℕ) → number < 31 → is_container_number number ≡ false →
     LawfulTypeOf (RestrictedString K InPlace)
 visible_type number small primitive = set_type number is_visible small primitive visible_ascii
+
+-- strings whose characters stand in a code
+abbrev pub coded_type : {K : Type 0} (number : ℕ) (octets_of : ℕ → List ℕ) → number < 31 →
+    is_container_number number ≡ false → IsCharacterCode octets_of → LawfulTypeOf (RestrictedString K Coded)
+coded_type {K} number octets_of small primitive is =
+    copying_type (coded_string_leaf {K = K} number octets_of) (coded_string_lawful number octets_of small primitive is)
+
+abbrev pub universal_type : {K : Type 0} → LawfulTypeOf (RestrictedString K Coded)
+universal_type = coded_type 28 ucs4_octets_of (lit< tt) refl ucs4_code
+
+abbrev pub bmp_type : {K : Type 0} → LawfulTypeOf (RestrictedString K Coded)
+bmp_type = coded_type 30 utf16_octets_of (lit< tt) refl utf16_code
 
 -- times, of which those are refused that have no place in their text
 abbrev pub utc_time_type : LawfulTypeOf UtcTime
@@ -270,28 +290,4 @@ implicit_type class number inner T = record {
       (implicit_takes_class class number T.grammar.Form T.number T.grammar.Check T.grammar.Body
       (T.numbered (first_holds T.single (T.sound && T.takes class) s))
       (T.takes_class (first_holds T.sound (T.takes class) own) class (second_holds T.sound (T.takes class) own)));
-}
-
--- Elements of any tag number.
-
--- one that is there, which stands where no field before it may be left out
-abbrev pub any_field : LawfulFieldOf Any
-any_field = record {
-  grammar = item_field any_number (item_grammar any_element);
-  writing = element_writing;
-  sound = true;
-  lawful = λ s. any_field_lawful (item_grammar any_element) (lawful_item any_element element_lawful);
-  put = λ s. item_put (item_grammar any_element) (lawful_item any_element element_lawful) element_writing
-      element_lawful_writing any_number;
-}
-
--- one that may be left out, which stands last
-abbrev pub optional_any_field : LawfulFieldOf (Option Any)
-optional_any_field = record {
-  grammar = optional_field any_number left_out_at_end (item_grammar any_element);
-  writing = option_writing element_writing;
-  sound = true;
-  lawful = λ s. any_option_lawful (item_grammar any_element) (lawful_item any_element element_lawful);
-  put = λ s. optional_put (item_grammar any_element) (lawful_item any_element element_lawful) element_writing
-      element_lawful_writing any_number left_out_at_end;
 }

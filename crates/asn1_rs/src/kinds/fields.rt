@@ -46,7 +46,8 @@ pub trait WritesFields: HasKind<Kind = FieldsKind> + Sized {
     /// A type with its tag number: [`TagNumber`](crate::TagNumber), where none has the number.
     type Number: Tagged;
 
-    /// The fields, in their order. Of a type that leaves it out nothing is claimed.
+    /// The fields, in their order. Only the impl of all structs with laws gives them
+    /// ([`LawfulStruct`](crate::LawfulStruct)). Of a type that leaves it out nothing is claimed.
     ghost field_list: { FieldList Self } = { untold_fields };
 
     /// Puts each field, in their order.

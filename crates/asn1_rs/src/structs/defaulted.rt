@@ -2,13 +2,14 @@
 //!
 //! A default that is there is read by both rules, as certificates have it. It is never written: so the words of such a
 //! field are more than its one strict encoding, as those of a truth value by BER are.
-ghost use Rattle.std.specs.Prelude.{◌≡◌, ◌⊎◌};
+ghost use Rattle.std.specs.Prelude.{◌≡◌, ◌⊎◌, false};
+ghost use Rattle.std.proofs.Common.{refl};
 ghost use Rattle.asn1_headers.specs.Answers.{seen};
 ghost use Rattle.asn1_rs.specs.Laws.Structs.Defaults.{or_default_gives};
 ghost use Rattle.asn1_rs.specs.Structs.{by_der, by_ber, left_out_by};
 ghost use Rattle.asn1_rs.specs.Structs.Defaults.{default_writing, DefaultGives, OrDefault};
 ghost use Rattle.asn1_rs.specs.Structs.DefaultTypes.{LawfulDefaultOf, defaulted_field, defaulted_of, defaulted_lawful};
-ghost use Rattle.asn1_rs.specs.Structs.DefaultTypes.{defaulted_answers, IsTypeOf};
+ghost use Rattle.asn1_rs.specs.Structs.DefaultTypes.{defaulted_answers, IsTypeOf, default_bool, its_own_type};
 
 use crate::laws::in_hand::AlwaysDer;
 use crate::laws::{Grammar, LawfulBer, LawfulDer, LawfulItem, LawfulTagged};
@@ -25,7 +26,7 @@ use std::marker::PhantomData;
 
 /// A field whose value is the default of `D` where it is left out (X.680 25).
 ///
-/// So it is put into a row: `(Oid<'a>, (Defaulted<bool, NotCritical>, (OctetString<'a>, ())))`.
+/// So it is put into a row: `(Oid<'a>, (Defaulted<bool, DefaultFalse>, (OctetString<'a>, ())))`.
 #[derive(Drop)]
 #[derive_where(Debug, PartialEq, Eq; T)]
 pub struct Defaulted<T, D> {
@@ -46,21 +47,22 @@ impl<T, D> Defaulted<T, D> {
     }
 }
 
-/// A mark that says which value of `T` is the default. Its author writes one for each default.
+/// A mark that says which value of `T` is the default. [`DefaultFalse`] is one. An author writes one for each other
+/// default:
 ///
-///     /// Of a field that is not critical.
+///     /// Of a level of 5.
 ///     #[derive(Debug, PartialEq, Eq, Drop)]
-///     pub struct NotCritical;
+///     pub struct Five;
 ///
-///     impl DefaultOf<bool> for NotCritical {
-///         ghost default_laws = { default_bool false };
+///     impl DefaultOf<u8> for Five {
+///         ghost default_laws = { default_unsigned 1 5 (lit< tt) };
 ///
-///         fn default_value(_alloc: Global) -> bool {
-///             false
+///         fn default_value(_alloc: Global) -> u8 {
+///             5
 ///         }
 ///
-///         fn is_default(value: &bool) -> bool {
-///             !*value
+///         fn is_default(value: &u8) -> bool {
+///             *value == 5
 ///         }
 ///
 ///         ghost of_type = { its_own_type refl };
@@ -79,6 +81,25 @@ pub trait DefaultOf<T: Grammar + Tagged> {
 
     /// That type is the one that is read.
     ghost of_type: { IsTypeOf Self.default_laws.of T.grammar (T.TAG).0 };
+}
+
+/// The mark of truth values that are false where they are left out: `BOOLEAN DEFAULT FALSE` (X.680 25.1), of which
+/// nothing is written where it is false (X.690 11.5). Extensions of certificates and controls of LDAP have it.
+#[derive(Debug, PartialEq, Eq, Drop)]
+pub struct DefaultFalse;
+
+impl DefaultOf<bool> for DefaultFalse {
+    ghost default_laws = { default_bool false };
+
+    fn default_value(_alloc: Global) -> bool {
+        false
+    }
+
+    fn is_default(value: &bool) -> bool {
+        !*value
+    }
+
+    ghost of_type = { its_own_type refl };
 }
 
 impl<T: Grammar + Tagged, D: DefaultOf<T>> Defaulted<T, D> {

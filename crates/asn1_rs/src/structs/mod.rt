@@ -13,10 +13,12 @@
 
 pub(crate) mod defaulted;
 pub(crate) mod field;
+pub(crate) mod keys;
 pub(crate) mod members;
 pub(crate) mod numbers;
 pub(crate) mod row;
 pub(crate) mod types;
+pub(crate) mod untold;
 
 ghost use Rattle.std.specs.Prelude.{◌≡◌, ℕ, List, Result};
 ghost use Rattle.asn1_headers.specs.declared.error.Error.{Error};

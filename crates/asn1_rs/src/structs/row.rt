@@ -89,6 +89,14 @@ where
     }
 }
 
+/// The row of fields that the octets are, by the rules of the parser.
+fn row_by<'a, R: ReadsRow<'a, P>, P: ReadsBy>(alloc: Global, octets: &'a [u8]) -> Result<R, Error>
+    ensures answers { AnswersRow P.rules R.row_grammar octets.now result }
+    ensures gives { R.row_gives octets.now result }
+{
+    R::read_row(alloc, octets)
+}
+
 /// The row of fields that the octets are, by DER.
 pub fn row_by_der<'a, R: ReadsRow<'a, DerParser>>(
     alloc: Global,
@@ -97,7 +105,7 @@ pub fn row_by_der<'a, R: ReadsRow<'a, DerParser>>(
     ensures answers { AnswersRow by_der R.row_grammar octets.now result }
     ensures gives { R.row_gives octets.now result }
 {
-    R::read_row(alloc, octets)
+    row_by::<R, DerParser>(alloc, octets)
 }
 
 /// The row of fields that the octets are, by BER.
@@ -108,7 +116,22 @@ pub fn row_by_ber<'a, R: ReadsRow<'a, BerParser>>(
     ensures answers { AnswersRow by_ber R.row_grammar octets.now result }
     ensures gives { R.row_gives octets.now result }
 {
-    R::read_row(alloc, octets)
+    row_by::<R, BerParser>(alloc, octets)
+}
+
+/// The struct whose fields the octets are, by the rules of the parser.
+fn struct_by<'a, T, R, P>(alloc: Global, octets: &'a [u8]) -> Result<T, Error>
+where
+    T: OfRow<Row = R>,
+    R: ReadsRow<'a, P>,
+    P: ReadsBy,
+    ensures answers { MadeOf T.as_row (AnswersRow P.rules R.row_grammar) octets.now result }
+    ensures gives { MadeOf T.as_row R.row_gives octets.now result }
+{
+    match row_by::<R, P>(alloc, octets) {
+        Ok(row) => Ok(T::of_row(row)),
+        Err(e) => Err(e),
+    }
 }
 
 /// The struct whose fields the octets are, by DER.
@@ -119,10 +142,7 @@ where
     ensures answers { MadeOf T.as_row (AnswersRow by_der R.row_grammar) octets.now result }
     ensures gives { MadeOf T.as_row R.row_gives octets.now result }
 {
-    match row_by_der::<R>(alloc, octets) {
-        Ok(row) => Ok(T::of_row(row)),
-        Err(e) => Err(e),
-    }
+    struct_by::<T, R, DerParser>(alloc, octets)
 }
 
 /// The struct whose fields the octets are, by BER.
@@ -133,10 +153,7 @@ where
     ensures answers { MadeOf T.as_row (AnswersRow by_ber R.row_grammar) octets.now result }
     ensures gives { MadeOf T.as_row R.row_gives octets.now result }
 {
-    match row_by_ber::<R>(alloc, octets) {
-        Ok(row) => Ok(T::of_row(row)),
-        Err(e) => Err(e),
-    }
+    struct_by::<T, R, BerParser>(alloc, octets)
 }
 
 /// A row of references to fields.

@@ -1,6 +1,9 @@
 //! Which types may be fields of structs: the leaf types of the library, lists, values under tags, and structs; choices by
-//! an impl of their authors; and an element of any tag number, where no field before it may be left out, or as the last
-//! one where it may be left out itself.
+//! an impl of their authors; and what looks at no tag number, an element of any type or a value with the header of its
+//! tag (`TaggedParser`), where no field before it may be left out, or as the last one where it may be left out itself.
+//! Under an implicit tag of a header the value is of a type that takes each class.
+//!
+//! A `BTreeSet` and a `HashSet` stand in [`keys`](crate::structs::keys), beside the types that their items may be.
 ghost use Rattle.std.specs.Prelude.{refl};
 ghost use Rattle.std.proofs.Common.{lit<};
 ghost use Rattle.asn1_rs.specs.BitString.{bit_string_leaf};
@@ -22,13 +25,17 @@ ghost use Rattle.asn1_rs.specs.Texts.{lent_text_leaf, owned_text_leaf};
 ghost use Rattle.asn1_rs.specs.Sequence.SequenceOf.{sequence_items};
 ghost use Rattle.asn1_rs.specs.Set.{items_of};
 ghost use Rattle.asn1_rs.specs.Structs.Data.{struct_type};
-ghost use Rattle.asn1_rs.specs.Structs.Types.{leaf_type, copying_type, unsigned_type, signed_type, utf8_type};
+ghost use Rattle.asn1_rs.specs.Structs.Types.{leaf_type, copying_type, boolean_type, unsigned_type, signed_type, utf8_type};
 ghost use Rattle.asn1_rs.specs.Structs.Types.{numeric_type, printable_type, ascii_type, visible_type, utc_time_type};
-ghost use Rattle.asn1_rs.specs.Structs.Types.{generalized_time_type, oid_type, list_type, multiset_type, explicit_type, any_field};
-ghost use Rattle.asn1_rs.specs.Structs.Types.{optional_any_field, implicit_type};
+ghost use Rattle.asn1_rs.specs.Structs.Types.{generalized_time_type, oid_type, list_type, multiset_type, explicit_type};
+ghost use Rattle.asn1_rs.specs.Structs.Types.{implicit_type, bmp_type, universal_type};
+ghost use Rattle.asn1_rs.specs.Structs.Untold.{any_type, explicit_parser_type, implicit_parser_type, untold_field};
+ghost use Rattle.asn1_rs.specs.Structs.Untold.{optional_untold_field};
+ghost use Rattle.asn1_headers.specs.Header.{identifier_of};
 
 use crate::asn1_types::any::Any;
 use crate::asn1_types::bit_string::BitString;
+use crate::asn1_types::boolean::Boolean;
 use crate::asn1_types::enumerated::Enumerated;
 use crate::asn1_types::integer::octets::Integer;
 use crate::asn1_types::kept::kinds::{Sequence, Set};
@@ -38,17 +45,23 @@ use crate::asn1_types::oid::Oid;
 use crate::asn1_types::sequence::sequence_of::SequenceOf;
 use crate::asn1_types::set::set_of::SetOf;
 use crate::asn1_types::strings::kinds::{
-    GeneralString, GraphicString, Ia5String, NumericString, ObjectDescriptor, PrintableString,
-    TeletexString, Utf8String, VideotexString, VisibleString,
+    BmpString, GeneralString, GraphicString, Ia5String, NumericString, ObjectDescriptor,
+    PrintableString, TeletexString, UniversalString, Utf8String, VideotexString, VisibleString,
 };
+use crate::asn1_types::tagged::parser::TaggedParser;
 use crate::asn1_types::tagged::{Explicit, Implicit, TaggedValue};
 use crate::asn1_types::times::generalized_time::GeneralizedTime;
 use crate::asn1_types::times::utc_time::UtcTime;
 use crate::structs::LawfulStruct;
 use crate::structs::field::{FieldType, LawfulType};
+use asn1_headers::error::Error;
 
 impl LawfulType for bool {
     ghost type_laws = { leaf_type bool_leaf bool_lawful };
+}
+
+impl LawfulType for Boolean {
+    ghost type_laws = { boolean_type };
 }
 
 impl LawfulType for () {
@@ -175,6 +188,14 @@ impl LawfulType for VisibleString<'_> {
     ghost type_laws = { visible_type 26 (lit< tt) refl };
 }
 
+impl LawfulType for UniversalString<'_> {
+    ghost type_laws = { universal_type };
+}
+
+impl LawfulType for BmpString<'_> {
+    ghost type_laws = { bmp_type };
+}
+
 impl LawfulType for UtcTime {
     ghost type_laws = { utc_time_type };
 }
@@ -214,9 +235,29 @@ impl<T: LawfulStruct> LawfulType for T {
 }
 
 impl FieldType for Any<'_> {
-    ghost field_laws = { any_field };
+    ghost field_laws = { untold_field any_type };
 }
 
 impl FieldType for Option<Any<'_>> {
-    ghost field_laws = { optional_any_field };
+    ghost field_laws = { optional_untold_field any_type };
+}
+
+impl<T: LawfulType> FieldType for TaggedParser<'_, Explicit, T, Error> {
+    ghost field_laws = { untold_field
+        (explicit_parser_type (λ t. identifier_of t.header) (λ t. t.inner) T.type_laws) };
+}
+
+impl<T: LawfulType> FieldType for Option<TaggedParser<'_, Explicit, T, Error>> {
+    ghost field_laws = { optional_untold_field
+        (explicit_parser_type (λ t. identifier_of t.header) (λ t. t.inner) T.type_laws) };
+}
+
+impl<T: LawfulType> FieldType for TaggedParser<'_, Implicit, T, Error> {
+    ghost field_laws = { untold_field
+        (implicit_parser_type (λ t. identifier_of t.header) (λ t. t.inner) T.type_laws) };
+}
+
+impl<T: LawfulType> FieldType for Option<TaggedParser<'_, Implicit, T, Error>> {
+    ghost field_laws = { optional_untold_field
+        (implicit_parser_type (λ t. identifier_of t.header) (λ t. t.inner) T.type_laws) };
 }

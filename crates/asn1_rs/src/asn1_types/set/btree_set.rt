@@ -6,10 +6,10 @@ ghost use Rattle.x690.specs.Identifiers.{IsCutIdentifier};
 ghost use Rattle.asn1_headers.specs.Ber.{EndsWithin};
 ghost use Rattle.asn1_rs.specs.Lists.{IsListOr, ListTakes};
 ghost use Rattle.asn1_rs.specs.Traits.{DerGives, OfParts, PassesAll};
-ghost use Rattle.asn1_rs.specs.Set.{set_of, is_below};
+ghost use Rattle.asn1_rs.specs.Set.{set_of, ascends};
 ghost use Rattle.asn1_headers.specs.declared.error.Error.{Error};
 ghost use Rattle.asn1_rs.specs.Laws.Lists.{takes_some, constructed_checks, list_checks};
-ghost use Rattle.asn1_rs.specs.Laws.Set.{set_takes, set_by_der_exact, tree_told, below_apart, same_members};
+ghost use Rattle.asn1_rs.specs.Laws.Set.{set_takes, set_by_der_exact, tree_told, ascending_apart, same_members};
 ghost use Rattle.asn1_rs.specs.Laws.Words.{ber_one};
 ghost use Rattle.asn1_rs.specs.Grammar.Item.{ber_words};
 
@@ -79,7 +79,7 @@ impl<T: Ord> WritesAscending for BTreeSet<T> {
 
 /// The members ascend.
 impl<T: Ord> HasMembers for BTreeSet<T> {
-    ghost test = { is_below T.cmp };
+    ghost test = { ascends T.cmp T.eq };
 
     ghost is_set = { refl };
 
@@ -89,7 +89,7 @@ impl<T: Ord> HasMembers for BTreeSet<T> {
 }
 
 impl<T: LawfulMember + Ord> LawfulMembers<T> for BTreeSet<T> {
-    ghost apart = { below_apart T.eq T.grammar.value T.same T.cmp T.total T.matches_eq };
+    ghost apart = { ascending_apart T.eq T.grammar.value T.same T.cmp };
 }
 
 impl<T: Ord + Drop> FromItems for BTreeSet<T> {

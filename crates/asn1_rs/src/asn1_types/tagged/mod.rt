@@ -4,7 +4,7 @@ pub mod builder;
 mod explicit_parser;
 mod explicit_value;
 pub mod helpers;
-mod implicit_parser;
+pub(crate) mod implicit_parser;
 mod implicit_value;
 pub mod optional;
 pub mod parser;

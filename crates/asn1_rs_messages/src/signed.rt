@@ -1,0 +1,120 @@
+//! A message in which values stand under tags that the sender picks, by both rules, borrowed from the octets.
+ghost use Rattle.std.proofs.Common.{refl};
+ghost use Rattle.asn1_headers.specs.Answers.{seen};
+ghost use Rattle.asn1_rs.specs.Structs.{MadeOf};
+ghost use Rattle.asn1_rs.specs.Structs.Data.{struct_of};
+ghost use Rattle.asn1_rs.specs.Callers.{ReadsByDer, ReadsByBer, WritesStrict};
+
+use asn1_rs::{
+    BerParser, BorrowedRow, DerParser, Error, Explicit, Fields, FieldsKind, Grammar, HasKind,
+    HasReader, Implicit, LawfulStruct, OctetString, ParseResult, ReadsFields, ReadsFieldsByBer,
+    ReadsRow, Row, SerializeResult, StructReader, TaggedParser, ToDer, read_ber, read_der,
+    row_by_ber, row_by_der, strict_vec,
+};
+use std::alloc::Global;
+
+/// A number, its signature and a note. The tag of the signature says how it was made, that of the note what it is of.
+///
+///     SEQUENCE {
+///         number     INTEGER,
+///         signature  [how] EXPLICIT OCTET STRING,
+///         note       [what] IMPLICIT OCTET STRING OPTIONAL }
+#[derive(Debug, PartialEq, Eq, Drop)]
+pub struct Signed<'a> {
+    pub number: u32,
+    pub signature: Signature<'a>,
+    pub note: Option<Note<'a>>,
+}
+
+/// Octets under any explicit tag.
+pub type Signature<'a> = TaggedParser<'a, Explicit, OctetString<'a>, Error>;
+
+/// Octets under any implicit tag.
+pub type Note<'a> = TaggedParser<'a, Implicit, OctetString<'a>, Error>;
+
+/// Its fields.
+pub type SignedRow<'a> = (u32, (Signature<'a>, (Option<Note<'a>>, ())));
+
+impl HasKind for Signed<'_> {
+    type Kind = FieldsKind;
+}
+
+impl HasReader for Signed<'_> {
+    type Reader = StructReader;
+}
+
+impl<'a> LawfulStruct for Signed<'a> {
+    ghost laws = { struct_of (λ x. (x.number, (x.signature, (x.note, tt))))
+        ⟦<SignedRow<'a> as Row>⟧.row_laws refl };
+
+    fn put_row(&self, fields: &mut Fields) -> SerializeResult<()> {
+        (&self.number, (&self.signature, (&self.note, ()))).put_each(fields)
+    }
+
+    fn row_in_hand(&self) {
+        (&self.number, (&self.signature, (&self.note, ()))).each_in_hand()
+    }
+}
+
+impl<'a> ReadsFields<'a> for Signed<'a> {
+    ghost fields_give = { MadeOf ⟦<Signed<'a> as LawfulStruct>⟧.laws.as_row
+        ⟦<SignedRow<'a> as ReadsRow<'a, DerParser>>⟧.row_gives };
+
+    fn read_fields(alloc: Global, octets: &'a [u8]) -> Result<Signed<'a>, Error> {
+        match row_by_der(alloc, octets) {
+            Ok(row) => {
+                let (number, (signature, (note, ()))) = row;
+                Ok(Signed {
+                    number,
+                    signature,
+                    note,
+                })
+            }
+            Err(e) => Err(e),
+        }
+    }
+}
+
+impl<'a> ReadsFieldsByBer<'a> for Signed<'a> {
+    ghost fields_give_by_ber = { MadeOf ⟦<Signed<'a> as LawfulStruct>⟧.laws.as_row
+        ⟦<SignedRow<'a> as ReadsRow<'a, BerParser>>⟧.row_gives };
+
+    fn read_fields_by_ber(alloc: Global, octets: &'a [u8]) -> Result<Signed<'a>, Error> {
+        match row_by_ber(alloc, octets) {
+            Ok(row) => {
+                let (number, (signature, (note, ()))) = row;
+                Ok(Signed {
+                    number,
+                    signature,
+                    note,
+                })
+            }
+            Err(e) => Err(e),
+        }
+    }
+}
+
+/// The message at the front of the octets, by DER, and what follows it.
+pub fn read_signed<'a>(alloc: Global, octets: &'a [u8]) -> ParseResult<'a, Signed<'a>, Error>
+    ensures { ReadsByDer ⟦<Signed<'a> as Grammar>⟧.grammar octets.now (seen result) }
+{
+    read_der::<Signed<'a>, Error>(alloc, octets)
+}
+
+/// The message at the front of the octets, by BER, and what follows it.
+pub fn read_signed_by_ber<'a>(alloc: Global, octets: &'a [u8]) -> ParseResult<'a, Signed<'a>, Error>
+    ensures { ReadsByBer ⟦<Signed<'a> as Grammar>⟧.grammar octets.now (seen result) }
+{
+    read_ber::<Signed<'a>, Error>(alloc, octets)
+}
+
+/// The one strict encoding of a message in DER form: the header of its signature is constructed, that of its note is
+/// not. Where its length fits `usize`, it is refused only when out of memory.
+pub fn signed_vec(alloc: Global, message: &Signed<'_>) -> SerializeResult<Vec<u8>>
+    ensures { ⟦<Signed<'static> as Grammar>⟧.grammar.IsDer
+        (⟦<Signed<'static> as Grammar>⟧.grammar.value message.now) →
+        WritesStrict ⟦<Signed<'static> as Grammar>⟧.grammar
+        ⟦<Signed<'static> as ToDer>⟧.writing message.now result }
+{
+    strict_vec(alloc, message)
+}
