@@ -27,7 +27,7 @@ ghost use Rattle.asn1_rs.specs.Laws.Readers.{element_exact, element_no_memory, d
 use crate::asn1_types::any::Any;
 use crate::der::element_by_der;
 use crate::kinds::{ElementKind, HasKind, LawfulConversion, LawfulElement};
-use crate::laws::{LawfulAuto, LawfulBody, LawfulCheck, LawfulDer, LawfulItem};
+use crate::laws::{Grammar, LawfulAuto, LawfulBody, LawfulCheck, LawfulDer, LawfulItem};
 use crate::traits::{CheckDerConstraints, DerAutoDerive, FromAny, FromDer, converted};
 use asn1_headers::error::{Err, Error, ParseResult};
 use asn1_headers::tag::Tag;
@@ -175,7 +175,7 @@ where
 }
 
 /// The law of the conversion to a type of this kind.
-pub trait LawfulBodyBy<'a, K, E: From<Error>>: FromAny<'a, Error = E> + LawfulItem {
+pub trait LawfulBodyBy<'a, K, E: From<Error>>: FromAny<'a, Error = E> + Grammar {
     /// `body_exact`.
     ghost exact_by_kind: { (any : Any) (answer : Result Self E) → IsOctets any.content.now →
         Self.any_gives any answer →

@@ -72,7 +72,7 @@ pub trait LawfulItem: Grammar {
 }
 
 /// The conversion of an element is exact: it finds the value of the body, and refuses only where there is none.
-pub trait LawfulBody<'a, E: From<Error>>: FromAny<'a, Error = E> + LawfulItem {
+pub trait LawfulBody<'a, E: From<Error>>: FromAny<'a, Error = E> + Grammar {
     /// An Ok is the value of the body; an Err comes only where there is none, or when out of memory.
     ghost body_exact: { (any : Any) (answer : Result Self E) → IsOctets any.content.now →
         Self.any_gives any answer →
@@ -168,7 +168,7 @@ pub trait LawfulMember: LawfulItem + Eq {
 
 impl<'a, T, E: From<Error>> LawfulBer<'a, E> for T
 where
-    T: FromAny<'a, Error = E> + LawfulBody<'a, E>,
+    T: FromAny<'a, Error = E> + LawfulBody<'a, E> + LawfulItem,
 {
     ghost ber_exact = { λ input answer octets.
         element_exact (IsElement max_depth) (ElementFault max_depth) EndsWithin ber_elements

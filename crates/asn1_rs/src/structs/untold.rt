@@ -182,7 +182,7 @@ impl<'a, T: LawfulBody<'a, Error> + LawfulCheck + TakesEachClass + 'a> ReadsFiel
     }
 }
 
-impl<'a, T: LawfulBody<'a, Error> + TakesEachClass> ReadsField<'a, BerParser>
+impl<'a, T: LawfulBody<'a, Error> + LawfulItem + TakesEachClass> ReadsField<'a, BerParser>
     for TaggedParser<'a, Implicit, T, Error> {
     ghost field_grammar = { item_field any_number ⟦<TaggedParser<'a, Implicit, T, Error> as Grammar>⟧.grammar };
 
@@ -203,7 +203,7 @@ impl<'a, T: LawfulBody<'a, Error> + TakesEachClass> ReadsField<'a, BerParser>
     }
 }
 
-impl<'a, T: LawfulBody<'a, Error> + TakesEachClass + 'a> ReadsField<'a, BerParser>
+impl<'a, T: LawfulBody<'a, Error> + LawfulItem + TakesEachClass + 'a> ReadsField<'a, BerParser>
     for Option<TaggedParser<'a, Implicit, T, Error>> {
     ghost field_grammar = { optional_field any_number left_out_at_end
         ⟦<TaggedParser<'a, Implicit, T, Error> as Grammar>⟧.grammar };

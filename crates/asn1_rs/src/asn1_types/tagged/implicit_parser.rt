@@ -99,7 +99,7 @@ impl<T: LawfulMember + TakesEachClass, E> LawfulMember for TaggedParser<'_, Impl
 
 impl<'a, T, E> LawfulBer<'a, E> for TaggedParser<'a, Implicit, T, E>
 where
-    T: LawfulBody<'a, E> + TakesEachClass,
+    T: LawfulBody<'a, E> + LawfulItem + TakesEachClass,
     E: From<Error>,
 {
     ghost ber_exact = { λ input answer octets. implicit_parser_exact (IsElement max_depth)

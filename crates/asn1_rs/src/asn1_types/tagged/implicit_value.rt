@@ -239,7 +239,7 @@ impl<T: TakesClass<CLASS>, E, const CLASS: u8, const TAG: u32> TakesClass<CLASS>
 impl<'a, T, E, const CLASS: u8, const TAG: u32> LawfulBodyBy<'a, TagMark<Implicit>, E>
     for TaggedValue<T, E, Implicit, CLASS, TAG>
 where
-    T: LawfulBody<'a, E> + TakesClass<CLASS>,
+    T: LawfulBody<'a, E> + Tagged,
     E: From<Error>,
 {
     ghost exact_by_kind = { implicit_takes CLASS TAG (λ t. t.inner) T.TAG T.any_gives E.from_gives
@@ -252,7 +252,7 @@ where
 impl<'a, T, E, const CLASS: u8, const TAG: u32> LawfulDerBy<'a, TagMark<Implicit>, E>
     for TaggedValue<T, E, Implicit, CLASS, TAG>
 where
-    T: LawfulBody<'a, E> + TakesClass<CLASS>,
+    T: LawfulBody<'a, E> + LawfulItem + TakesClass<CLASS>,
     E: From<Error>,
 {
     ghost exact_by_reader = { λ input answer octets. unchecked_exact
