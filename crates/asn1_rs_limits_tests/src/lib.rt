@@ -26,6 +26,10 @@
 #[cfg(test)]
 mod counts;
 #[cfg(test)]
+mod deep_calls;
+#[cfg(test)]
+mod deep_laws;
+#[cfg(test)]
 mod equalities;
 #[cfg(test)]
 mod pairs;

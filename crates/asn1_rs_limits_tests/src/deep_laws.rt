@@ -1,6 +1,6 @@
 //! Deep types at `read_der` and `read_ber`, whose contracts rest on the laws of their types.
 
-use asn1_rs::{Error, Oid, SetOf, TaggedExplicit, TaggedImplicit, read_ber, read_der};
+use asn1_rs::{Error, SetOf, TaggedExplicit, TaggedImplicit, read_ber, read_der};
 use std::collections::BTreeSet;
 use std::test::Fail;
 
@@ -12,12 +12,12 @@ const TURNS: [u8; 11] = [
     0xa1, 0x09, 0x30, 0x07, 0xa1, 0x05, 0x30, 0x03, 0x02, 0x01, 0x05,
 ];
 
-/// Lists, a set and two tags around an object identifier.
-type Mixed<'a> = Vec<Vec<SetOf<TaggedExplicit<TaggedImplicit<Oid<'a>, Error, 2>, Error, 1>>>>;
+/// Lists, a set and two tags around a number.
+type Mixed = Vec<Vec<SetOf<TaggedExplicit<TaggedImplicit<u32, Error, 2>, Error, 1>>>>;
 
-/// The attribute type of a common name, so wrapped.
-const MIXED: [u8; 13] = [
-    0x30, 0x0b, 0x30, 0x09, 0x31, 0x07, 0xa1, 0x05, 0x82, 0x03, 0x55, 0x04, 0x03,
+/// The number 5, so wrapped.
+const MIXED: [u8; 11] = [
+    0x30, 0x09, 0x30, 0x07, 0x31, 0x05, 0xa1, 0x03, 0x82, 0x01, 0x05,
 ];
 
 /// A set in a set, of the number 5.
@@ -38,7 +38,7 @@ fn laws_reach_tags_and_lists_by_turns_by_ber(rt: HostRuntime) -> Result<(), Fail
 
 #[test]
 fn laws_reach_lists_sets_and_tags_by_der(rt: HostRuntime) -> Result<(), Fail> {
-    let (rest, _) = read_der::<Mixed<'_>, Error>(rt.alloc(), &MIXED)?;
+    let (rest, _) = read_der::<Mixed, Error>(rt.alloc(), &MIXED)?;
     assert_eq!(rt; rest.len(), 0);
     Ok(())
 }

@@ -1,7 +1,4 @@
 //! Tests of `asn1_rs_ldap` and `asn1_rs_ldap_messages`: messages and filters read, shown, refused and written.
-#![tactic(auto)]
 
-#[cfg(test)]
 mod messages;
-#[cfg(test)]
 mod shown;

@@ -1,6 +1,6 @@
 //! Messages and filters, read by BER, shown, refused and written as DER (RFC 4511, 4.1.1 and 4.5.1; X.690, 8 and 10).
 
-use crate::shown::{push_bracketed, push_octets};
+use crate::ldap::shown::{push_bracketed, push_octets};
 use asn1_rs_ldap::{SearchRequest, filter_vec, read_filter};
 use asn1_rs_ldap_messages::{
     Control, Message, Operation, message_vec, read_message, read_message_whole,

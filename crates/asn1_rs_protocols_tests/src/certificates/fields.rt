@@ -1,6 +1,6 @@
 //! The fields of the certificates that openssl made, as `openssl x509 -text` and `-nameopt oid` tell them.
 
-use crate::made::{CURVE, EDWARDS, LEAF, PRIMES};
+use crate::certificates::made::{CURVE, EDWARDS, LEAF, PRIMES};
 use asn1_rs_certificates::{Name, TbsCertificate, read_certificate_whole, year_of};
 use std::alloc::Global;
 use std::fmt::Write;

@@ -1,6 +1,6 @@
 //! Variable bindings, read by BER, refused and written again (RFC 3416, 3; X.690, 8 and 10).
 
-use crate::shown::push_values;
+use crate::snmp::shown::push_values;
 use asn1_rs_snmp::{bindings_vec, read_bindings, read_bindings_whole};
 use std::alloc::Global;
 use std::fmt::Write;

@@ -1,6 +1,6 @@
 //! Certificates by their structure: read, refused and written again (RFC 5280, 4.1).
 
-use crate::made::{AUTHORITY, CURVE, EDWARDS, LEAF, ODD, PRIMES};
+use crate::certificates::made::{AUTHORITY, CURVE, EDWARDS, LEAF, ODD, PRIMES};
 use asn1_rs_certificates::{certificate_vec, read_certificate, read_certificate_whole};
 use std::alloc::Global;
 use std::fmt::Write;

@@ -1,6 +1,6 @@
 //! Messages of communities, read by BER, refused and written again (RFC 3416, 3; X.690, 8 and 10).
 
-use crate::shown::push_message;
+use crate::snmp::shown::push_message;
 use asn1_rs_snmp_messages::{message_vec, read_message, read_message_whole};
 use std::alloc::Global;
 use std::fmt::Write;
