@@ -2,7 +2,7 @@
 """Looks whether the code of the guides stands in the crates, which the gate proves and tests.
 
 Each block of Rust in README.md and docs/*.md must stand line for line in one file of src/ of asn1_rs_uses, of its
-tests, of the crates of messages, of the tests of asn1_rs_places or of asn1_rs, and each block of definitions in one
+tests, of the crates of messages, of the tests of asn1_rs_messages or of asn1_rs, and each block of definitions in one
 file of their specs/. A block that does not has a line that names it, and then this ends with status 1.
 """
 import pathlib
@@ -21,7 +21,7 @@ CRATES = [
     "asn1_rs_snmp_messages",
     "asn1_rs_ldap",
     "asn1_rs_ldap_messages",
-    "asn1_rs_places_tests",
+    "asn1_rs_messages_tests",
     "asn1_rs",
 ]
 

@@ -1,4 +1,5 @@
-//! Tests of `asn1_rs_messages`: tables of octets and answers, from X.690 and the standards of the messages.
+//! Tests of `asn1_rs_messages` and `asn1_rs_places`: tables of octets and answers, from X.690 and the standards of the
+//! messages.
 #![tactic(auto)]
 
 #[cfg(test)]
@@ -11,6 +12,8 @@ mod extensions;
 mod few_growths;
 #[cfg(test)]
 mod measurements;
+#[cfg(test)]
+mod places;
 #[cfg(test)]
 mod public_keys;
 #[cfg(test)]

@@ -121,16 +121,23 @@ impl Calls for Options {
             "Option::<Vec<u8>>::from_der" => push_by_der::<Option<Vec<u8>>>(text, alloc, octets),
             "Option::<Any>::from_der" => push_by_der::<Option<Any<'_>>>(text, alloc, octets),
             "Option::<Any>::from_ber" => push_by_ber::<Option<Any<'_>>>(text, alloc, octets),
-            "u16, Option<bool>, u32" => push_debug(
-                text,
-                &Sequence::from_der_and_then(octets, |i| with_truth(alloc, i)),
-            ),
-            "Option<Enumerated>, u32" => push_debug(
-                text,
-                &Sequence::from_der_and_then(octets, |i| with_name(alloc, i)),
-            ),
-            _ => Ok(text.push_str("no such call")?),
+            _ => push_fields(text, alloc, name, octets),
         }
+    }
+}
+
+/// The same of fields that may be left out.
+fn push_fields(text: &mut String, alloc: Global, name: &str, octets: &[u8]) -> Result<(), Fail> {
+    match name {
+        "u16, Option<bool>, u32" => push_debug(
+            text,
+            &Sequence::from_der_and_then(octets, |i| with_truth(alloc, i)),
+        ),
+        "Option<Enumerated>, u32" => push_debug(
+            text,
+            &Sequence::from_der_and_then(octets, |i| with_name(alloc, i)),
+        ),
+        _ => Ok(text.push_str("no such call")?),
     }
 }
 

@@ -317,23 +317,42 @@ impl Calls for Readers {
             "UniversalString::from_ber" => push_by_ber::<UniversalString<'_>>(text, alloc, octets),
             "Utf8String::from_der" => push_by_der::<Utf8String<'_>>(text, alloc, octets),
             "Utf8String::from_ber" => push_by_ber::<Utf8String<'_>>(text, alloc, octets),
-            "&str::from_der" => push_by_der::<&str>(text, alloc, octets),
-            "&str::from_ber" => push_by_ber::<&str>(text, alloc, octets),
-            "String::from_der" => push_by_der::<String>(text, alloc, octets),
-            "String::from_ber" => push_by_ber::<String>(text, alloc, octets),
-            "NumericString::from_der" => push_by_der::<NumericString<'_>>(text, alloc, octets),
-            "PrintableString::from_der" => push_by_der::<PrintableString<'_>>(text, alloc, octets),
-            "TeletexString::from_der" => push_by_der::<TeletexString<'_>>(text, alloc, octets),
-            "VideotexString::from_der" => push_by_der::<VideotexString<'_>>(text, alloc, octets),
-            "Ia5String::from_der" => push_by_der::<Ia5String<'_>>(text, alloc, octets),
-            "GraphicString::from_der" => push_by_der::<GraphicString<'_>>(text, alloc, octets),
-            "VisibleString::from_der" => push_by_der::<VisibleString<'_>>(text, alloc, octets),
-            "GeneralString::from_der" => push_by_der::<GeneralString<'_>>(text, alloc, octets),
-            "ObjectDescriptor::from_der" => push_by_der::<ObjectDescriptor<'_>>(
-                text, alloc, octets,
-            ),
-            _ => Ok(text.push_str("no such call")?),
+            _ => push_ascii(text, alloc, name, octets),
         }
+    }
+}
+
+/// The same of five strings of one octet a character.
+fn push_ascii(text: &mut String, alloc: Global, name: &str, octets: &[u8]) -> Result<(), Fail> {
+    match name {
+        "NumericString::from_der" => push_by_der::<NumericString<'_>>(text, alloc, octets),
+        "PrintableString::from_der" => push_by_der::<PrintableString<'_>>(text, alloc, octets),
+        "TeletexString::from_der" => push_by_der::<TeletexString<'_>>(text, alloc, octets),
+        "VideotexString::from_der" => push_by_der::<VideotexString<'_>>(text, alloc, octets),
+        "Ia5String::from_der" => push_by_der::<Ia5String<'_>>(text, alloc, octets),
+        _ => push_wider(text, alloc, name, octets),
+    }
+}
+
+/// The same of the other four.
+fn push_wider(text: &mut String, alloc: Global, name: &str, octets: &[u8]) -> Result<(), Fail> {
+    match name {
+        "GraphicString::from_der" => push_by_der::<GraphicString<'_>>(text, alloc, octets),
+        "VisibleString::from_der" => push_by_der::<VisibleString<'_>>(text, alloc, octets),
+        "GeneralString::from_der" => push_by_der::<GeneralString<'_>>(text, alloc, octets),
+        "ObjectDescriptor::from_der" => push_by_der::<ObjectDescriptor<'_>>(text, alloc, octets),
+        _ => push_plain(text, alloc, name, octets),
+    }
+}
+
+/// The same of Rust's own texts.
+fn push_plain(text: &mut String, alloc: Global, name: &str, octets: &[u8]) -> Result<(), Fail> {
+    match name {
+        "&str::from_der" => push_by_der::<&str>(text, alloc, octets),
+        "&str::from_ber" => push_by_ber::<&str>(text, alloc, octets),
+        "String::from_der" => push_by_der::<String>(text, alloc, octets),
+        "String::from_ber" => push_by_ber::<String>(text, alloc, octets),
+        _ => Ok(text.push_str("no such call")?),
     }
 }
 
@@ -404,32 +423,42 @@ impl Calls for Conversions {
     fn answer(text: &mut String, alloc: Global, name: &str, octets: &[u8]) -> Result<(), Fail> {
         let any = Any::from_ber(alloc, octets)?.1;
         match name {
-            "Any::objectdescriptor" => {
-                push_both(text, any.as_objectdescriptor(), any.objectdescriptor())
-            }
             "Any::utf8string" => push_both(text, any.as_utf8string(), any.utf8string()),
             "Any::str" => push_both(text, any.as_str(), any.str()),
             "Any::string" => push_both(text, any.as_string(alloc), any.string(alloc)),
-            "Any::numericstring" => push_both(text, any.as_numericstring(), any.numericstring()),
-            "Any::printablestring" => {
-                push_both(text, any.as_printablestring(), any.printablestring())
-            }
-            "Any::teletexstring" => push_both(text, any.as_teletexstring(), any.teletexstring()),
-            "Any::videotexstring" => {
-                push_both(text, any.as_videotexstring(), any.videotexstring())
-            }
-            "Any::ia5string" => push_both(text, any.as_ia5string(), any.ia5string()),
-            "Any::graphicstring" => push_both(text, any.as_graphicstring(), any.graphicstring()),
-            "Any::visiblestring" => push_both(text, any.as_visiblestring(), any.visiblestring()),
-            "Any::generalstring" => push_both(text, any.as_generalstring(), any.generalstring()),
             "Any::bmpstring" => push_both(text, any.as_bmpstring(alloc), any.bmpstring(alloc)),
             "Any::universalstring" => push_both(
                 text,
                 any.as_universalstring(alloc),
                 any.universalstring(alloc),
             ),
-            _ => Ok(text.push_str("no such call")?),
+            _ => push_converted(text, name, any),
         }
+    }
+}
+
+/// The same of five strings of one octet a character.
+fn push_converted(text: &mut String, name: &str, any: Any<'_>) -> Result<(), Fail> {
+    match name {
+        "Any::numericstring" => push_both(text, any.as_numericstring(), any.numericstring()),
+        "Any::printablestring" => push_both(text, any.as_printablestring(), any.printablestring()),
+        "Any::teletexstring" => push_both(text, any.as_teletexstring(), any.teletexstring()),
+        "Any::videotexstring" => push_both(text, any.as_videotexstring(), any.videotexstring()),
+        "Any::ia5string" => push_both(text, any.as_ia5string(), any.ia5string()),
+        _ => push_wider_converted(text, name, any),
+    }
+}
+
+/// The same of the other four.
+fn push_wider_converted(text: &mut String, name: &str, any: Any<'_>) -> Result<(), Fail> {
+    match name {
+        "Any::graphicstring" => push_both(text, any.as_graphicstring(), any.graphicstring()),
+        "Any::visiblestring" => push_both(text, any.as_visiblestring(), any.visiblestring()),
+        "Any::generalstring" => push_both(text, any.as_generalstring(), any.generalstring()),
+        "Any::objectdescriptor" => {
+            push_both(text, any.as_objectdescriptor(), any.objectdescriptor())
+        }
+        _ => Ok(text.push_str("no such call")?),
     }
 }
 
