@@ -71,14 +71,31 @@ fn large_sets_are_refused_for_want_of_memory(rt: HostRuntime) -> Result<(), Fail
 
 /// The calls whose contracts rest on the laws of the type.
 #[test]
-fn lawful_calls_are_refused_for_want_of_memory(rt: HostRuntime) -> Result<(), Fail> {
+fn lawful_calls_of_texts_are_refused_for_want_of_memory(rt: HostRuntime) -> Result<(), Fail> {
     let alloc = rt.alloc();
     assert_lawful::<String>(alloc, &UTF8, &UTF8, Plain)?;
     assert_lawful::<BmpString<'_>>(alloc, &BMP, &BMP, Plain)?;
-    assert_lawful::<UniversalString<'_>>(alloc, &UNIVERSAL, &UNIVERSAL, Plain)?;
+    assert_lawful::<UniversalString<'_>>(alloc, &UNIVERSAL, &UNIVERSAL, Plain)
+}
+
+/// The same of lists.
+#[test]
+fn lawful_calls_of_lists_are_refused_for_want_of_memory(rt: HostRuntime) -> Result<(), Fail> {
+    let alloc = rt.alloc();
     assert_lawful::<Vec<u8>>(alloc, &NUMBERS, &NUMBERS, Plain)?;
-    assert_lawful::<SequenceOf<u8>>(alloc, &NUMBERS, &NUMBERS, Plain)?;
-    assert_lawful::<SetOf<u8>>(alloc, &SET, &SORTED, Sorted)?;
+    assert_lawful::<SequenceOf<u8>>(alloc, &NUMBERS, &NUMBERS, Plain)
+}
+
+/// The same of sets, whose items may be equal.
+#[test]
+fn lawful_calls_of_sets_are_refused_for_want_of_memory(rt: HostRuntime) -> Result<(), Fail> {
+    assert_lawful::<SetOf<u8>>(rt.alloc(), &SET, &SORTED, Sorted)
+}
+
+/// The same of sets without repetitions.
+#[test]
+fn lawful_calls_of_members_are_refused_for_want_of_memory(rt: HostRuntime) -> Result<(), Fail> {
+    let alloc = rt.alloc();
     assert_lawful::<BTreeSet<u8>>(alloc, &SET, &SORTED, Sorted)?;
     assert_lawful::<HashSet<u8>>(alloc, &SET, &SORTED, Sorted)
 }
