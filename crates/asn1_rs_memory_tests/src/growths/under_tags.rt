@@ -126,10 +126,19 @@ fn lawful_calls_of_texts_are_refused_for_want_of_memory(rt: HostRuntime) -> Resu
 
 /// What holds a set is written only where its order takes its memory.
 #[test]
-fn lawful_calls_of_tagged_sets_are_refused_for_want_of_memory(rt: HostRuntime) -> Result<(), Fail> {
+fn lawful_calls_of_sets_under_explicit_tags_are_refused_for_want_of_memory(
+    rt: HostRuntime,
+) -> Result<(), Fail> {
     let (alloc, octets, written) = (rt.alloc(), &EXPLICIT_SET, &EXPLICIT_SORTED);
-    assert_lawful::<TaggedExplicit<SetOf<u8>, Error, 0>>(alloc, octets, written, Sorted)?;
-    let (octets, written) = (&IMPLICIT_SET, &IMPLICIT_LIST);
+    assert_lawful::<TaggedExplicit<SetOf<u8>, Error, 0>>(alloc, octets, written, Sorted)
+}
+
+/// The same under an implicit tag.
+#[test]
+fn lawful_calls_of_sets_under_implicit_tags_are_refused_for_want_of_memory(
+    rt: HostRuntime,
+) -> Result<(), Fail> {
+    let (alloc, octets, written) = (rt.alloc(), &IMPLICIT_SET, &IMPLICIT_LIST);
     assert_lawful::<TaggedImplicit<SetOf<u8>, Error, 1>>(alloc, octets, written, Sorted)
 }
 
@@ -143,7 +152,12 @@ const TAGGED_LISTED: [u8; 12] = [
 /// Lists in lists are written into a writer whatever growth is refused.
 #[test]
 fn lawful_calls_of_lists_write_without_memory(rt: HostRuntime) -> Result<(), Fail> {
+    assert_lawful::<Vec<Vec<u8>>>(rt.alloc(), &LISTED, &LISTED, Plain)
+}
+
+/// The same under a tag.
+#[test]
+fn lawful_calls_of_tagged_lists_write_without_memory(rt: HostRuntime) -> Result<(), Fail> {
     let (alloc, octets) = (rt.alloc(), &TAGGED_LISTED);
-    assert_lawful::<Vec<Vec<u8>>>(alloc, &LISTED, &LISTED, Plain)?;
     assert_lawful::<TaggedExplicit<Vec<Vec<u8>>, Error, 0>>(alloc, octets, octets, Plain)
 }
