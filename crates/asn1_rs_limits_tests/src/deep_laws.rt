@@ -1,7 +1,6 @@
 //! Deep types at `read_der` and `read_ber`, whose contracts rest on the laws of their types.
 
 use asn1_rs::{Error, SetOf, TaggedExplicit, TaggedImplicit, read_ber, read_der};
-use std::collections::BTreeSet;
 use std::test::Fail;
 
 /// A list under an explicit tag.
@@ -20,9 +19,6 @@ const MIXED: [u8; 11] = [
     0x30, 0x09, 0x30, 0x07, 0x31, 0x05, 0xa1, 0x03, 0x82, 0x01, 0x05,
 ];
 
-/// A set in a set, of the number 5.
-const SETS: [u8; 7] = [0x31, 0x05, 0x31, 0x03, 0x02, 0x01, 0x05];
-
 /// An implicit tag over another one.
 type Implicit<T> = TaggedImplicit<TaggedImplicit<T, Error, 2>, Error, 1>;
 
@@ -39,13 +35,6 @@ fn laws_reach_tags_and_lists_by_turns_by_ber(rt: HostRuntime) -> Result<(), Fail
 #[test]
 fn laws_reach_lists_sets_and_tags_by_der(rt: HostRuntime) -> Result<(), Fail> {
     let (rest, _) = read_der::<Mixed, Error>(rt.alloc(), &MIXED)?;
-    assert_eq!(rt; rest.len(), 0);
-    Ok(())
-}
-
-#[test]
-fn laws_reach_a_set_in_a_set_by_der(rt: HostRuntime) -> Result<(), Fail> {
-    let (rest, _) = read_der::<BTreeSet<BTreeSet<u8>>, Error>(rt.alloc(), &SETS)?;
     assert_eq!(rt; rest.len(), 0);
     Ok(())
 }
