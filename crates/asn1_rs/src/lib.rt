@@ -276,6 +276,7 @@ pub use structs::defaulted::Defaulted;
 pub use structs::field::FieldInHand;
 pub use structs::field::FieldIsDer;
 pub use structs::field::FieldType;
+pub use structs::field::ItemType;
 pub use structs::field::LawfulType;
 pub use structs::field::ReadsField;
 pub use structs::keys::KeyType;

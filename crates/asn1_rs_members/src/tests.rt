@@ -1,6 +1,6 @@
 //! Numbers that are compared by their last digit: read, collected in sets and written.
 
-use crate::{Remainder, are_same_numbers};
+use crate::{Flagged, Remainder, are_same_numbers};
 use asn1_rs::{FromDer, ToDer};
 use std::collections::{BTreeSet, HashSet};
 use std::test::Fail;
@@ -41,4 +41,20 @@ fn equal_lists_of_numbers_are_the_same(rt: HostRuntime) -> Result<(), Fail> {
     let (one, other) = (vec![in alloc; 1, 2]?, vec![in alloc; 2, 1]?);
     let answers = (are_same_numbers(&one, &one), are_same_numbers(&one, &other));
     assert_shown(alloc, &answers, "(true, false)")
+}
+
+#[test]
+fn a_flag_is_written_where_it_is_there(rt: HostRuntime) -> Result<(), Fail> {
+    let alloc = rt.alloc();
+    let flagged = Flagged {
+        flag: Some(true),
+        level: 5,
+    };
+    let plain = Flagged {
+        flag: None,
+        level: 5,
+    };
+    let written = (flagged.to_der_vec(alloc), plain.to_der_vec(alloc));
+    let expected = "(Ok([48, 6, 1, 1, 255, 2, 1, 5]), Ok([48, 3, 2, 1, 5]))";
+    assert_shown(alloc, &written, expected)
 }

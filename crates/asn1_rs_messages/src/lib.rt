@@ -5,6 +5,7 @@
 #![tactic(auto)]
 
 mod alarm;
+mod content;
 mod extension;
 mod measurement;
 mod public_key;
@@ -18,6 +19,10 @@ mod updates;
 mod validity;
 
 pub use alarm::{Alarm, AlarmRow, Muted, alarm_vec, read_alarm, read_alarm_by_ber};
+pub use content::{
+    Attribute, AttributeRow, Content, ContentInfo, ContentRow, attribute_vec, content_vec,
+    read_attribute, read_content, read_content_by_ber,
+};
 pub use extension::{
     Extension, ExtensionRow, extension_vec, kept_extension, read_extension, read_extension_by_ber,
 };
@@ -29,7 +34,10 @@ pub use public_key::{
     AlgorithmIdentifier, AlgorithmRow, PublicKeyRow, SubjectPublicKeyInfo, public_key_vec,
     read_algorithm, read_public_key,
 };
-pub use reminder::{Reminder, ReminderRow, read_reminder, read_reminder_by_ber, reminder_vec};
+pub use reminder::{
+    Reminder, ReminderRow, TaggedReminder, read_reminder, read_reminder_by_ber, read_reminder_set,
+    read_reminders, read_tagged_reminder, reminder_vec,
+};
 pub use settings::{
     FirstVersion, Hundred, Limit, MinusOne, NoRooms, Plain, Settings, SettingsRow, Version,
     read_settings, read_settings_by_ber,

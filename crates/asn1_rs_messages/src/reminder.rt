@@ -9,8 +9,8 @@ use crate::alarm::Muted;
 use asn1_rs::{
     AlwaysDer, AlwaysDerBy, BerParser, BorrowedRow, DefaultFalse, Defaulted, DerParser, DerRow,
     Error, Fields, FieldsKind, Grammar, HasKind, HasReader, LawfulStruct, ParseResult, ReadsFields,
-    ReadsFieldsByBer, ReadsRow, Row, SerializeResult, StructReader, ToDer, read_ber, read_der,
-    row_by_ber, row_by_der, strict_vec,
+    ReadsFieldsByBer, ReadsRow, Row, SerializeResult, SetOf, StructReader, TaggedImplicit, ToDer,
+    read_ber, read_der, row_by_ber, row_by_der, strict_vec,
 };
 use std::alloc::Global;
 
@@ -139,4 +139,28 @@ pub fn reminder_vec(alloc: Global, reminder: &Reminder) -> SerializeResult<Vec<u
 {
     reminder.is_der();
     strict_vec(alloc, reminder)
+}
+
+/// The reminders of a list at the front of the octets, by DER, and what follows it.
+pub fn read_reminders(alloc: Global, octets: &[u8]) -> ParseResult<'_, Vec<Reminder>, Error>
+    ensures { ReadsByDer ⟦<Vec<Reminder> as Grammar>⟧.grammar octets.now (seen result) }
+{
+    read_der::<Vec<Reminder>, Error>(alloc, octets)
+}
+
+/// The reminders of a set at the front of the octets, by DER, and what follows it.
+pub fn read_reminder_set(alloc: Global, octets: &[u8]) -> ParseResult<'_, SetOf<Reminder>, Error>
+    ensures { ReadsByDer ⟦<SetOf<Reminder> as Grammar>⟧.grammar octets.now (seen result) }
+{
+    read_der::<SetOf<Reminder>, Error>(alloc, octets)
+}
+
+/// A reminder in place of whose tag another stands (X.690 8.14.3).
+pub type TaggedReminder = TaggedImplicit<Reminder, Error, 2>;
+
+/// The reminder under its tag at the front of the octets, by DER, and what follows it. Its fields are read by BER.
+pub fn read_tagged_reminder(alloc: Global, octets: &[u8]) -> ParseResult<'_, TaggedReminder, Error>
+    ensures { ReadsByDer ⟦<TaggedReminder as Grammar>⟧.grammar octets.now (seen result) }
+{
+    read_der::<TaggedReminder, Error>(alloc, octets)
 }

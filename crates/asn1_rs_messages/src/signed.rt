@@ -2,14 +2,16 @@
 ghost use Rattle.std.proofs.Common.{refl};
 ghost use Rattle.asn1_headers.specs.Answers.{seen};
 ghost use Rattle.asn1_rs.specs.Structs.{MadeOf};
-ghost use Rattle.asn1_rs.specs.Structs.Data.{struct_of};
+ghost use Rattle.asn1_rs.specs.Structs.Data.{struct_of, struct_type};
+ghost use Rattle.asn1_rs.specs.Structs.Keys.{key_of};
+ghost use Rattle.asn1_rs.specs.Structs.Members.{struct_members};
 ghost use Rattle.asn1_rs.specs.Callers.{ReadsByDer, ReadsByBer, WritesStrict};
 
 use asn1_rs::{
     BerParser, BorrowedRow, DerParser, Error, Explicit, Fields, FieldsKind, Grammar, HasKind,
-    HasReader, Implicit, LawfulStruct, OctetString, ParseResult, ReadsFields, ReadsFieldsByBer,
-    ReadsRow, Row, SerializeResult, StructReader, TaggedParser, ToDer, read_ber, read_der,
-    row_by_ber, row_by_der, strict_vec,
+    HasReader, Implicit, KeyType, LawfulMember, LawfulStruct, MemberRow, OctetString, ParseResult,
+    ReadsFields, ReadsFieldsByBer, ReadsRow, Row, SerializeResult, StructReader, TaggedParser,
+    ToDer, read_ber, read_der, row_by_ber, row_by_der, strict_vec,
 };
 use std::alloc::Global;
 
@@ -92,6 +94,18 @@ impl<'a> ReadsFieldsByBer<'a> for Signed<'a> {
             Err(e) => Err(e),
         }
     }
+}
+
+/// Messages are equal exactly where their values are, which what their headers say of tags is a part of.
+impl<'a> KeyType for Signed<'a> {
+    ghost key_laws = { key_of (struct_type ⟦<Signed<'a> as LawfulStruct>⟧.laws)
+        (struct_members ⟦<Signed<'a> as LawfulStruct>⟧.laws.as_row
+        ⟦<SignedRow<'a> as MemberRow>⟧.row_members).same };
+}
+
+/// So they may be members of a set.
+impl<'a> LawfulMember for Signed<'a> {
+    ghost same = { ⟦<Signed<'a> as KeyType>⟧.key_laws.same };
 }
 
 /// The message at the front of the octets, by DER, and what follows it.

@@ -5,6 +5,8 @@
 #[cfg(test)]
 mod alarms;
 #[cfg(test)]
+mod contents;
+#[cfg(test)]
 mod cut;
 #[cfg(test)]
 mod extensions;

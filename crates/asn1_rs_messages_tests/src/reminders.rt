@@ -1,8 +1,11 @@
 //! Reminders by both rules, whose field `urgent` has a default: alone, in lists and sets, and under tags.
 
 use crate::shown::{assert_beginnings, push_answer};
-use asn1_rs::{Defaulted, Error, FromBer, FromDer, SetOf, TaggedExplicit, TaggedImplicit};
-use asn1_rs_messages::{Muted, Reminder, read_reminder, read_reminder_by_ber, reminder_vec};
+use asn1_rs::{Defaulted, Error, FromBer, FromDer, TaggedExplicit};
+use asn1_rs_messages::{
+    Muted, Reminder, TaggedReminder, read_reminder, read_reminder_by_ber, read_reminder_set,
+    read_reminders, read_tagged_reminder, reminder_vec,
+};
 use std::alloc::Global;
 use std::test::Fail;
 use test_rows::{Calls, assert_rows, assert_shown};
@@ -143,19 +146,16 @@ impl Calls for Reads {
 /// The calls at types that hold reminders.
 fn answer_held(text: &mut String, alloc: Global, name: &str, octets: &[u8]) -> Result<(), Fail> {
     match name {
-        "list" => push_answer(text, alloc, Vec::<Reminder>::from_der(alloc, octets)),
-        "set" => push_answer(text, alloc, SetOf::<Reminder>::from_der(alloc, octets)),
+        "list" => push_answer(text, alloc, read_reminders(alloc, octets)),
+        "set" => push_answer(text, alloc, read_reminder_set(alloc, octets)),
         "explicit" => push_answer(text, alloc, UnderExplicit::from_der(alloc, octets)),
-        "implicit" => push_answer(text, alloc, UnderImplicit::from_der(alloc, octets)),
-        _ => push_answer(text, alloc, UnderImplicit::from_ber(alloc, octets)),
+        "implicit" => push_answer(text, alloc, read_tagged_reminder(alloc, octets)),
+        _ => push_answer(text, alloc, TaggedReminder::from_ber(alloc, octets)),
     }
 }
 
 /// A reminder under an explicit tag.
 type UnderExplicit = TaggedExplicit<Reminder, Error, 1>;
-
-/// A reminder under an implicit tag.
-type UnderImplicit = TaggedImplicit<Reminder, Error, 2>;
 
 #[test]
 fn reminders_are_read_by_der(rt: HostRuntime) -> Result<(), Fail> {

@@ -1,8 +1,11 @@
 //! Messages that were read, as tables show them.
 
-use asn1_rs::{Err, Error, FromBer, FromDer, OctetString, SetOf, TaggedParser, TaggedValue, ToDer};
+use asn1_rs::{
+    Any, Err, Error, FromBer, FromDer, OctetString, SetOf, TaggedParser, TaggedValue, ToDer,
+};
 use asn1_rs_messages::{
-    Alarm, Measurement, Reminder, Settings, Signed, Source, Survey, Time, Updates, Validity,
+    Alarm, Attribute, ContentInfo, Measurement, Reminder, Settings, Signed, Source, Survey, Time,
+    Updates, Validity,
 };
 use std::alloc::Global;
 use std::fmt::Write;
@@ -94,6 +97,30 @@ impl<Kind> Shown for TaggedParser<'_, Kind, OctetString<'_>, Error> {
     fn show(&self, text: &mut String) -> Result<(), Fail> {
         write!(text, "{:?} {} ", self.class(), self.tag().0)?;
         push_digits(text, self.inner.as_bytes())
+    }
+}
+
+/// The tag number, and the contents octets.
+impl Shown for Any<'_> {
+    fn show(&self, text: &mut String) -> Result<(), Fail> {
+        write!(text, "{} ", self.tag().0)?;
+        push_digits(text, self.as_bytes())
+    }
+}
+
+/// The identifier, and what is under the tag.
+impl Shown for ContentInfo<'_> {
+    fn show(&self, text: &mut String) -> Result<(), Fail> {
+        write!(text, "{} ", self.content_type)?;
+        self.content.show(text)
+    }
+}
+
+/// The identifier, and the values.
+impl Shown for Attribute<'_> {
+    fn show(&self, text: &mut String) -> Result<(), Fail> {
+        write!(text, "{} ", self.attribute_type)?;
+        self.values.show(text)
     }
 }
 

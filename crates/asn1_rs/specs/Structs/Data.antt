@@ -44,6 +44,15 @@ pub record LawfulTypeOf (S : Type 0) : Type 1 where
   pub takes_class : sound ≡ true → (class : ℕ) → takes class ≡ true →
       FormTakes grammar.Form grammar.Check grammar.Body class
 
+-- What lists, sets and explicit tags ask of the type of what they hold, which may look at no tag number. The laws hold
+-- where it is sound.
+pub record ItemTypeOf (S : Type 0) : Type 1 where
+  pub grammar : ItemGrammar S
+  pub writing : Writing S
+  pub sound : Bool
+  pub lawful : sound ≡ true → IsLawfulItem grammar
+  pub written : sound ≡ true → IsLawfulWriting grammar writing
+
 -- a field
 pub record LawfulFieldOf (S : Type 0) : Type 1 where
   pub grammar : FieldGrammar S
@@ -68,6 +77,16 @@ pub record LawfulStructOf (T : Type 0) : Type 1 where
   pub lawful : IsLawfulRow row.grammar
   pub puts : IsLawfulPuts row.grammar row.list
   pub told : row.grammar.told ≡ true
+
+-- a type with tag numbers is one
+abbrev pub item_of : {S : Type 0} → LawfulTypeOf S → ItemTypeOf S
+item_of T = record {
+  grammar = T.grammar;
+  writing = T.writing;
+  sound = T.sound;
+  lawful = T.lawful;
+  written = T.written;
+}
 
 -- a required field
 abbrev pub field_of : {S : Type 0} → LawfulTypeOf S → LawfulFieldOf S

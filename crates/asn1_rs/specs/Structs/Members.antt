@@ -2,8 +2,12 @@
 use Rattle.std.specs.Prelude.{◌≡◌, ◌↔◌, ◌&&◌, ◌∷◌, [], Bool, true, List, Option, IsTrue}
 use Rattle.std.specs.Option.{option_map, option_eq}
 use Rattle.std.proofs.Common.{refl}
+use Rattle.x690.specs.Identifiers.{Identifier}
+use Rattle.asn1_headers.specs.Header.{identifier_of, is_same_identifier}
+use Rattle.asn1_headers.specs.declared.header.Header.{Header}
 use Rattle.asn1_rs.specs.Laws.Structs.Members.{all_of, option_same, row_same}
 use Rattle.asn1_rs.specs.Laws.Tagged.{same_beside_nothing}
+use Rattle.asn1_rs.specs.Laws.Tagged.Headed.{headed_same}
 
 -- The values of a type, and when two of its items are equal: exactly where their values are.
 pub record MembersOf (S : Type 0) : Type 1 where
@@ -36,6 +40,16 @@ marked_members inner M = record {
   value = λ x. M.value (inner x);
   are_equal = λ x y. M.are_equal (inner x) (inner y) && true;
   same = λ x y. same_beside_nothing (M.are_equal (inner x) (inner y)) (M.same (inner x) (inner y));
+}
+
+-- values with the header of their tag, which are equal where what the identifier octets say is, and the values are
+abbrev pub headed_members : {S T : Type 0} → (S → Header) → (S → T) → MembersOf T → MembersOf S
+headed_members header inner M = record {
+  Value = Identifier × M.Value;
+  value = λ x. (identifier_of (header x), M.value (inner x));
+  are_equal = λ x y. is_same_identifier (header x) (header y) && (M.are_equal (inner x) (inner y) && true);
+  same = λ x y. headed_same (header x) (header y) (M.are_equal (inner x) (inner y)) (M.value (inner x))
+      (M.value (inner y)) (M.same (inner x) (inner y));
 }
 
 -- what may be left out

@@ -59,7 +59,7 @@ use Rattle.asn1_rs.specs.Tagged.Implicit.{implicit_grammar}
 use Rattle.asn1_rs.specs.Tagged.Writing.{explicit_under, implicit_under, tag_writing}
 use Rattle.asn1_rs.specs.Times.{utc_time_leaf, utc_time_refused, generalized_time_leaf, generalized_time_refused}
 use Rattle.asn1_rs.specs.Times.{moment_of, IsInvalidDateTime}
-use Rattle.asn1_rs.specs.Structs.Data.{LawfulTypeOf}
+use Rattle.asn1_rs.specs.Structs.Data.{ItemTypeOf, LawfulTypeOf, item_of}
 use Rattle.asn1_rs.specs.Laws.Structs.Fields.{one_number}
 
 -- Types of one element.
@@ -198,8 +198,8 @@ oid_type = record {
 -- Types that hold values of others.
 
 -- lists with the tag number of sequences
-abbrev pub list_type : {S W : Type 0} → (W → List S) → LawfulTypeOf S → LawfulTypeOf W
-list_type items T = record {
+abbrev pub list_over : {S W : Type 0} → (W → List S) → ItemTypeOf S → LawfulTypeOf W
+list_over items T = record {
   class = 0;
   number = 16;
   numbers = 16 ∷ [];
@@ -218,9 +218,13 @@ list_type items T = record {
       (strict_ber T.grammar (T.lawful s)) (T.lawful s).form_check class;
 }
 
+-- those of items of a type with tag numbers
+abbrev pub list_type : {S W : Type 0} → (W → List S) → LawfulTypeOf S → LawfulTypeOf W
+list_type items T = list_over items (item_of T)
+
 -- sets in which an item may stand more than once
-abbrev pub multiset_type : {S W : Type 0} → (W → List S) → LawfulTypeOf S → LawfulTypeOf W
-multiset_type items T = record {
+abbrev pub multiset_over : {S W : Type 0} → (W → List S) → ItemTypeOf S → LawfulTypeOf W
+multiset_over items T = record {
   class = 0;
   number = 17;
   numbers = 17 ∷ [];
@@ -239,9 +243,13 @@ multiset_type items T = record {
       (strict_ber T.grammar (T.lawful s)) (T.lawful s).form_check class;
 }
 
+-- those of items of a type with tag numbers
+abbrev pub multiset_type : {S W : Type 0} → (W → List S) → LawfulTypeOf S → LawfulTypeOf W
+multiset_type items T = multiset_over items (item_of T)
+
 -- values under an explicit tag
-abbrev pub explicit_type : {S W : Type 0} (class number : ℕ) → (W → S) → LawfulTypeOf S → LawfulTypeOf W
-explicit_type class number inner T = record {
+abbrev pub explicit_over : {S W : Type 0} (class number : ℕ) → (W → S) → ItemTypeOf S → LawfulTypeOf W
+explicit_over class number inner T = record {
   class = class;
   number = number_of number;
   numbers = number_of number ∷ [];
@@ -260,6 +268,10 @@ explicit_type class number inner T = record {
   takes_class = λ s other t. takes_own (explicit_grammar class number inner T.grammar) class other t (explicit_takes_class class number T.grammar.Form
       (ber_words T.grammar) T.grammar.Check (strict_ber T.grammar (T.lawful s)) (T.lawful s).form_check);
 }
+
+-- those of a type with tag numbers
+abbrev pub explicit_type : {S W : Type 0} (class number : ℕ) → (W → S) → LawfulTypeOf S → LawfulTypeOf W
+explicit_type class number inner T = explicit_over class number inner (item_of T)
 
 -- values under an implicit tag, sound where their type has one tag number and takes the class of the tag
 abbrev pub implicit_type : {S W : Type 0} (class number : ℕ) → (W → S) → LawfulTypeOf S → LawfulTypeOf W

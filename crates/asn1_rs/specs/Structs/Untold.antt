@@ -5,10 +5,8 @@ use Rattle.x690.specs.Identifiers.{Identifier}
 use Rattle.asn1_rs.specs.declared.asn1_types.any.Any.{Any}
 use Rattle.asn1_rs.specs.Any.Value.{any_element}
 use Rattle.asn1_rs.specs.Any.Writing.{element_writing}
-use Rattle.asn1_rs.specs.Grammar.Item.{ItemGrammar, IsLawfulItem, IsLawfulWriting}
 use Rattle.asn1_rs.specs.Kinds.{item_grammar}
 use Rattle.asn1_rs.specs.Optional.{option_writing}
-use Rattle.asn1_rs.specs.ToDer.{Writing}
 use Rattle.asn1_rs.specs.Laws.Any.Value.{element_lawful}
 use Rattle.asn1_rs.specs.Laws.Any.Writing.{element_lawful_writing}
 use Rattle.asn1_rs.specs.Laws.Kinds.{lawful_item}
@@ -17,20 +15,12 @@ use Rattle.asn1_rs.specs.Laws.Structs.Rows.{first_holds, second_holds}
 use Rattle.asn1_rs.specs.Laws.Tagged.Headed.{each_class, explicit_headed_lawful, implicit_headed_lawful}
 use Rattle.asn1_rs.specs.Laws.Writing.{explicit_headed_lawful_writing, implicit_headed_lawful_writing}
 use Rattle.asn1_rs.specs.Structs.{any_number, item_field, optional_field, left_out_at_end}
-use Rattle.asn1_rs.specs.Structs.Data.{LawfulTypeOf, LawfulFieldOf}
+use Rattle.asn1_rs.specs.Structs.Data.{ItemTypeOf, LawfulTypeOf, LawfulFieldOf}
 use Rattle.asn1_rs.specs.Tagged.Headed.{explicit_headed, implicit_headed}
 use Rattle.asn1_rs.specs.Tagged.Writing.{explicit_under, headed_writing, implicit_under}
 
--- A type that looks at no tag number. The laws hold where it is sound.
-pub record UntoldTypeOf (S : Type 0) : Type 1 where
-  pub grammar : ItemGrammar S
-  pub writing : Writing S
-  pub sound : Bool
-  pub lawful : sound ≡ true → IsLawfulItem grammar
-  pub written : sound ≡ true → IsLawfulWriting grammar writing
-
 -- one that is there, which stands where no field before it may be left out
-abbrev pub untold_field : {S : Type 0} → UntoldTypeOf S → LawfulFieldOf S
+abbrev pub untold_field : {S : Type 0} → ItemTypeOf S → LawfulFieldOf S
 untold_field T = record {
   grammar = item_field any_number T.grammar;
   writing = T.writing;
@@ -40,7 +30,7 @@ untold_field T = record {
 }
 
 -- one that may be left out, which stands last
-abbrev pub optional_untold_field : {S : Type 0} → UntoldTypeOf S → LawfulFieldOf (Option S)
+abbrev pub optional_untold_field : {S : Type 0} → ItemTypeOf S → LawfulFieldOf (Option S)
 optional_untold_field T = record {
   grammar = optional_field any_number left_out_at_end T.grammar;
   writing = option_writing T.writing;
@@ -50,7 +40,7 @@ optional_untold_field T = record {
 }
 
 -- elements of any type
-abbrev pub any_type : UntoldTypeOf Any
+abbrev pub any_type : ItemTypeOf Any
 any_type = record {
   grammar = item_grammar any_element;
   writing = element_writing;
@@ -60,7 +50,7 @@ any_type = record {
 }
 
 -- values with the header of their explicit tag
-abbrev pub explicit_parser_type : {S T : Type 0} → (T → Identifier) → (T → S) → LawfulTypeOf S → UntoldTypeOf T
+abbrev pub explicit_parser_type : {S T : Type 0} → (T → Identifier) → (T → S) → ItemTypeOf S → ItemTypeOf T
 explicit_parser_type identifier inner T = record {
   grammar = explicit_headed identifier inner T.grammar;
   writing = headed_writing identifier inner (explicit_under T.writing) T.writing;
@@ -84,7 +74,7 @@ takes_one takes each =
 
 -- Values with the header of their implicit tag. Its class is known of the value alone, so they are sound where their
 -- type has one tag number and takes each class.
-abbrev pub implicit_parser_type : {S T : Type 0} → (T → Identifier) → (T → S) → LawfulTypeOf S → UntoldTypeOf T
+abbrev pub implicit_parser_type : {S T : Type 0} → (T → Identifier) → (T → S) → LawfulTypeOf S → ItemTypeOf T
 implicit_parser_type identifier inner T = record {
   grammar = implicit_headed identifier T.number inner T.grammar;
   writing = headed_writing identifier inner (implicit_under T.writing) T.writing;

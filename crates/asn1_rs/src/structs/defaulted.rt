@@ -145,6 +145,7 @@ where
     ghost exact_field = { defaulted_answers (λ x. x.value) D.default_laws T.grammar (T.TAG).0 D.of_type
         T.lawful_item by_der T.der_gives T.der_exact T.der_no_memory };
 
+    #[inline(always)]
     #[tactic(auto, using(crate::specs::Laws::Structs::Defaults::or_default_gives))]
     fn read_field(alloc: Global, octets: &'a [u8]) -> ParseResult<'a, Defaulted<T, D>, Error> {
         or_default(alloc, Option::<T>::from_der(alloc, octets))
@@ -166,6 +167,7 @@ where
     ghost exact_field = { defaulted_answers (λ x. x.value) D.default_laws T.grammar (T.TAG).0 D.of_type
         T.lawful_item by_ber T.ber_gives T.ber_exact T.ber_no_memory };
 
+    #[inline(always)]
     #[tactic(auto, using(crate::specs::Laws::Structs::Defaults::or_default_gives))]
     fn read_field(alloc: Global, octets: &'a [u8]) -> ParseResult<'a, Defaulted<T, D>, Error> {
         or_default(alloc, Option::<T>::from_ber(alloc, octets))

@@ -15,7 +15,7 @@ ghost use Rattle.asn1_rs.specs.Laws.Kinds.{lawful_item};
 ghost use Rattle.asn1_rs.specs.Optional.{IfHeld, IsAtEnd, OptionGives};
 ghost use Rattle.asn1_rs.specs.Laws.Structs.Fields.{IsLawfulField, item_field_lawful, optional_field_lawful, any_field_lawful, any_option_lawful};
 ghost use Rattle.asn1_rs.specs.Structs.{FieldGrammar, item_field, optional_field, any_number, among, left_out_among, left_out_at_end, by_der, by_ber};
-ghost use Rattle.asn1_rs.specs.Structs.Data.{LawfulTypeOf, LawfulFieldOf, AnswersField, field_of, optional_of};
+ghost use Rattle.asn1_rs.specs.Structs.Data.{ItemTypeOf, LawfulTypeOf, LawfulFieldOf, AnswersField, field_of, item_of, optional_of};
 
 use crate::asn1_types::any::Any;
 use crate::asn1_types::option::held;
@@ -36,6 +36,17 @@ use std::alloc::Global;
 pub trait LawfulType {
     /// Its tag numbers, its grammar and how it is written, with their laws.
     ghost type_laws: { LawfulTypeOf Self };
+}
+
+/// A type whose items may stand in a list, in a set or under an explicit tag that is a field of a struct: one with tag
+/// numbers ([`LawfulType`]), or one that looks at none.
+pub trait ItemType {
+    /// Its grammar and how it is written, with their laws.
+    ghost item_laws: { ItemTypeOf Self };
+}
+
+impl<T: LawfulType> ItemType for T {
+    ghost item_laws = { item_of T.type_laws };
 }
 
 /// A field of a struct: a lawful type, or an `Option` of one.
@@ -82,6 +93,7 @@ impl<'a, T: LawfulType + LawfulDer<'a, Error> + ToldByNumber> ReadsField<'a, Der
     ghost exact_field = { item_answers by_der T.grammar T.lawful_item T.der_gives T.der_exact T.der_no_memory
         (among T.numbers) };
 
+    #[inline(always)]
     fn read_field(alloc: Global, octets: &'a [u8]) -> ParseResult<'a, T, Error> {
         T::from_der(alloc, octets)
     }
@@ -98,6 +110,7 @@ impl<'a, T: LawfulType + LawfulDer<'a, Error> + ToldByNumber> ReadsField<'a, Der
     ghost exact_field = { option_answers by_der T.grammar T.lawful_item T.der_gives T.der_exact T.der_no_memory
         (among T.numbers) (left_out_among T.numbers) };
 
+    #[inline(always)]
     fn read_field(alloc: Global, octets: &'a [u8]) -> ParseResult<'a, Option<T>, Error> {
         if is_left_out::<T>(octets, header_by_der(octets)) {
             return Ok((octets, None));
@@ -116,6 +129,7 @@ impl<'a> ReadsField<'a, DerParser> for Any<'a> {
 
     ghost exact_field = { any_answers_by_der };
 
+    #[inline(always)]
     fn read_field(alloc: Global, octets: &'a [u8]) -> ParseResult<'a, Any<'a>, Error> {
         Any::from_der(alloc, octets)
     }
@@ -131,6 +145,7 @@ impl<'a> ReadsField<'a, DerParser> for Option<Any<'a>> {
 
     ghost exact_field = { any_option_answers_by_der };
 
+    #[inline(always)]
     fn read_field(alloc: Global, octets: &'a [u8]) -> ParseResult<'a, Option<Any<'a>>, Error> {
         Option::<Any<'a>>::from_der(alloc, octets)
     }
@@ -146,6 +161,7 @@ impl<'a, T: LawfulType + LawfulBer<'a, Error> + ToldByNumber> ReadsField<'a, Ber
     ghost exact_field = { item_answers by_ber T.grammar T.lawful_item T.ber_gives T.ber_exact T.ber_no_memory
         (among T.numbers) };
 
+    #[inline(always)]
     fn read_field(alloc: Global, octets: &'a [u8]) -> ParseResult<'a, T, Error> {
         T::from_ber(alloc, octets)
     }
@@ -162,6 +178,7 @@ impl<'a, T: LawfulType + LawfulBer<'a, Error> + ToldByNumber> ReadsField<'a, Ber
     ghost exact_field = { option_answers by_ber T.grammar T.lawful_item T.ber_gives T.ber_exact T.ber_no_memory
         (among T.numbers) (left_out_among T.numbers) };
 
+    #[inline(always)]
     fn read_field(alloc: Global, octets: &'a [u8]) -> ParseResult<'a, Option<T>, Error> {
         if is_left_out::<T>(octets, header_by_ber(octets)) {
             return Ok((octets, None));
@@ -180,6 +197,7 @@ impl<'a> ReadsField<'a, BerParser> for Any<'a> {
 
     ghost exact_field = { any_answers_by_ber };
 
+    #[inline(always)]
     fn read_field(alloc: Global, octets: &'a [u8]) -> ParseResult<'a, Any<'a>, Error> {
         Any::from_ber(alloc, octets)
     }
@@ -195,6 +213,7 @@ impl<'a> ReadsField<'a, BerParser> for Option<Any<'a>> {
 
     ghost exact_field = { any_option_answers_by_ber };
 
+    #[inline(always)]
     fn read_field(alloc: Global, octets: &'a [u8]) -> ParseResult<'a, Option<Any<'a>>, Error> {
         Option::<Any<'a>>::from_ber(alloc, octets)
     }

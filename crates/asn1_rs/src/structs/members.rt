@@ -3,14 +3,15 @@
 //! The law stands in a record of each type, so that a row of fields can name it.
 ghost use Rattle.asn1_rs.specs.Laws.Any.Writing.{element_same};
 ghost use Rattle.asn1_rs.specs.Structs.Members.{MembersOf, RowOfMembers, members_of, marked_members, optional_members};
-ghost use Rattle.asn1_rs.specs.Structs.Members.{no_members, then_members};
+ghost use Rattle.asn1_rs.specs.Structs.Members.{headed_members, no_members, then_members};
 
 use crate::asn1_types::any::Any;
+use crate::asn1_types::tagged::parser::TaggedParser;
 use crate::structs::defaulted::Defaulted;
 use crate::structs::keys::KeyType;
 
 /// A type of fields that are equal exactly where their values are. A [`KeyType`] has it, and so have an `Option` of one, a
-/// field with a default, and an element of any tag number.
+/// field with a default, an element of any tag number, and a value with the header of its tag.
 pub trait MemberType {
     /// Its values, and its equality with the law of it.
     ghost member_laws: { MembersOf Self };
@@ -44,4 +45,8 @@ impl<T: MemberType, D> MemberType for Defaulted<T, D> {
 
 impl MemberType for Any<'_> {
     ghost member_laws = { members_of element_same };
+}
+
+impl<Kind, T: MemberType, E> MemberType for TaggedParser<'_, Kind, T, E> {
+    ghost member_laws = { headed_members (λ x. x.header) (λ x. x.inner) T.member_laws };
 }

@@ -6,7 +6,7 @@
 //! A field is of a type with laws, told by its tag numbers ([`numbers`]), or an `Option` of one ([`field`]); [`types`]
 //! says which types have such laws.
 //!
-//!     pub type MeasurementRow = (bool, (u64, (Option<u8>, ())));
+//!     pub type MeasurementRow = (u32, (u64, (Option<u8>, ())));
 //!
 //! The laws of the fields stand in the struct's own record ([`LawfulStruct`]), and no bound names its row. So what holds
 //! a struct, as a list, a tag or another struct, passes nothing of its fields on.
@@ -134,10 +134,14 @@ pub trait OfRow: Sized {
 ///
 ///     impl<'a> ReadsFields<'a> for Measurement {
 ///         fn read_fields(alloc: Global, octets: &'a [u8]) -> Result<Measurement, Error> {
-///             let (place, (value, (error, ()))) = row_by_der(alloc, octets)?;
-///             Ok(Measurement { place, value, error })
+///             match row_by_der(alloc, octets) {
+///                 Ok((place, (value, (error, ())))) => Ok(Measurement { place, value, error }),
+///                 Err(e) => Err(e),
+///             }
 ///         }
 ///     }
+///
+/// The refusal is handed on by a `match`: through `?` the prover does not find that it is the row's.
 // The rules are no parameter of the trait: of a function that reads a struct the checker would ask to name the parser.
 pub trait ReadsFields<'a>: LawfulStruct {
     /// What reading the fields may answer, with the refusal of the first field that is refused. Of a struct that leaves
@@ -181,6 +185,7 @@ impl<'a, T: ReadsFieldsByBer<'a>> FromAnyBy<'a, FieldsKind> for T {
 }
 
 /// The struct that an element is, by DER.
+#[inline(always)]
 fn struct_of_element<'a, T: ReadsFields<'a>>(alloc: Global, any: &Any<'a>) -> Result<T, Error>
     ensures { StructGives (AnswersAlso by_der T.laws T.fields_give) any.now result }
 {
@@ -193,6 +198,7 @@ impl<'a, T: ReadsFields<'a>> FromDerBy<'a, StructReader, Error> for T {
     ghost gives_by_reader = { DerGives PassesAll (StructGives (AnswersAlso by_der T.laws T.fields_give))
         (λ x y. y ≡ x) };
 
+    #[inline(always)]
     fn read_by_der(alloc: Global, bytes: &'a [u8]) -> ParseResult<'a, T, Error> {
         let (rest, any) = converted(element_by_der(bytes))?;
         match struct_of_element::<T>(alloc, &any) {

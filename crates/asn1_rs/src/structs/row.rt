@@ -64,6 +64,7 @@ impl<'a, P: ReadsBy> ReadsRow<'a, P> for () {
 
     ghost exact_row = { end_answers P.rules };
 
+    #[inline(always)]
     fn read_row(_alloc: Global, octets: &'a [u8]) -> Result<(), Error> {
         assert_end(octets)
     }
@@ -82,6 +83,7 @@ where
     ghost exact_row = { row_answers P.rules F.field_grammar R.row_grammar F.lawful_field F.field_gives
         R.row_gives F.exact_field R.exact_row };
 
+    #[inline(always)]
     fn read_row(alloc: Global, octets: &'a [u8]) -> Result<(F, R), Error> {
         let (rest, first) = F::read_field(alloc, octets)?;
         let others = R::read_row(alloc, rest)?;
@@ -90,6 +92,7 @@ where
 }
 
 /// The row of fields that the octets are, by the rules of the parser.
+#[inline(always)]
 fn row_by<'a, R: ReadsRow<'a, P>, P: ReadsBy>(alloc: Global, octets: &'a [u8]) -> Result<R, Error>
     ensures answers { AnswersRow P.rules R.row_grammar octets.now result }
     ensures gives { R.row_gives octets.now result }
@@ -98,6 +101,7 @@ fn row_by<'a, R: ReadsRow<'a, P>, P: ReadsBy>(alloc: Global, octets: &'a [u8]) -
 }
 
 /// The row of fields that the octets are, by DER.
+#[inline(always)]
 pub fn row_by_der<'a, R: ReadsRow<'a, DerParser>>(
     alloc: Global,
     octets: &'a [u8],
@@ -109,6 +113,7 @@ pub fn row_by_der<'a, R: ReadsRow<'a, DerParser>>(
 }
 
 /// The row of fields that the octets are, by BER.
+#[inline(always)]
 pub fn row_by_ber<'a, R: ReadsRow<'a, BerParser>>(
     alloc: Global,
     octets: &'a [u8],

@@ -1,7 +1,8 @@
 //! Which types may be fields of structs: the leaf types of the library, lists, values under tags, and structs; choices by
 //! an impl of their authors; and what looks at no tag number, an element of any type or a value with the header of its
-//! tag (`TaggedParser`), where no field before it may be left out, or as the last one where it may be left out itself.
-//! Under an implicit tag of a header the value is of a type that takes each class.
+//! tag (`TaggedParser`), where no field before it may be left out, or as the last one where it may be left out itself. A
+//! list, a set or an explicit tag may hold such items too. Under an implicit tag of a header the value is of a type that
+//! takes each class.
 //!
 //! A `BTreeSet` and a `HashSet` stand in [`keys`](crate::structs::keys), beside the types that their items may be.
 ghost use Rattle.std.specs.Prelude.{refl};
@@ -27,7 +28,7 @@ ghost use Rattle.asn1_rs.specs.Set.{items_of};
 ghost use Rattle.asn1_rs.specs.Structs.Data.{struct_type};
 ghost use Rattle.asn1_rs.specs.Structs.Types.{leaf_type, copying_type, boolean_type, unsigned_type, signed_type, utf8_type};
 ghost use Rattle.asn1_rs.specs.Structs.Types.{numeric_type, printable_type, ascii_type, visible_type, utc_time_type};
-ghost use Rattle.asn1_rs.specs.Structs.Types.{generalized_time_type, oid_type, list_type, multiset_type, explicit_type};
+ghost use Rattle.asn1_rs.specs.Structs.Types.{generalized_time_type, oid_type, list_over, multiset_over, explicit_over};
 ghost use Rattle.asn1_rs.specs.Structs.Types.{implicit_type, bmp_type, universal_type};
 ghost use Rattle.asn1_rs.specs.Structs.Untold.{any_type, explicit_parser_type, implicit_parser_type, untold_field};
 ghost use Rattle.asn1_rs.specs.Structs.Untold.{optional_untold_field};
@@ -53,7 +54,7 @@ use crate::asn1_types::tagged::{Explicit, Implicit, TaggedValue};
 use crate::asn1_types::times::generalized_time::GeneralizedTime;
 use crate::asn1_types::times::utc_time::UtcTime;
 use crate::structs::LawfulStruct;
-use crate::structs::field::{FieldType, LawfulType};
+use crate::structs::field::{FieldType, ItemType, LawfulType};
 use asn1_headers::error::Error;
 
 impl LawfulType for bool {
@@ -208,21 +209,21 @@ impl LawfulType for Oid<'_> {
     ghost type_laws = { oid_type };
 }
 
-impl<T: LawfulType> LawfulType for Vec<T> {
-    ghost type_laws = { list_type (λ v. v.items) T.type_laws };
+impl<T: ItemType> LawfulType for Vec<T> {
+    ghost type_laws = { list_over (λ v. v.items) T.item_laws };
 }
 
-impl<T: LawfulType> LawfulType for SequenceOf<T> {
-    ghost type_laws = { list_type sequence_items T.type_laws };
+impl<T: ItemType> LawfulType for SequenceOf<T> {
+    ghost type_laws = { list_over sequence_items T.item_laws };
 }
 
-impl<T: LawfulType> LawfulType for SetOf<T> {
-    ghost type_laws = { multiset_type items_of T.type_laws };
+impl<T: ItemType> LawfulType for SetOf<T> {
+    ghost type_laws = { multiset_over items_of T.item_laws };
 }
 
-impl<T: LawfulType, E, const CLASS: u8, const TAG: u32> LawfulType
+impl<T: ItemType, E, const CLASS: u8, const TAG: u32> LawfulType
     for TaggedValue<T, E, Explicit, CLASS, TAG> {
-    ghost type_laws = { explicit_type CLASS TAG (λ t. t.inner) T.type_laws };
+    ghost type_laws = { explicit_over CLASS TAG (λ t. t.inner) T.item_laws };
 }
 
 impl<T: LawfulType, E, const CLASS: u8, const TAG: u32> LawfulType
@@ -234,6 +235,20 @@ impl<T: LawfulStruct> LawfulType for T {
     ghost type_laws = { struct_type T.laws };
 }
 
+impl ItemType for Any<'_> {
+    ghost item_laws = { any_type };
+}
+
+impl<T: ItemType> ItemType for TaggedParser<'_, Explicit, T, Error> {
+    ghost item_laws = { explicit_parser_type (λ t. identifier_of t.header) (λ t. t.inner)
+        T.item_laws };
+}
+
+impl<T: LawfulType> ItemType for TaggedParser<'_, Implicit, T, Error> {
+    ghost item_laws = { implicit_parser_type (λ t. identifier_of t.header) (λ t. t.inner)
+        T.type_laws };
+}
+
 impl FieldType for Any<'_> {
     ghost field_laws = { untold_field any_type };
 }
@@ -242,14 +257,14 @@ impl FieldType for Option<Any<'_>> {
     ghost field_laws = { optional_untold_field any_type };
 }
 
-impl<T: LawfulType> FieldType for TaggedParser<'_, Explicit, T, Error> {
+impl<T: ItemType> FieldType for TaggedParser<'_, Explicit, T, Error> {
     ghost field_laws = { untold_field
-        (explicit_parser_type (λ t. identifier_of t.header) (λ t. t.inner) T.type_laws) };
+        (explicit_parser_type (λ t. identifier_of t.header) (λ t. t.inner) T.item_laws) };
 }
 
-impl<T: LawfulType> FieldType for Option<TaggedParser<'_, Explicit, T, Error>> {
+impl<T: ItemType> FieldType for Option<TaggedParser<'_, Explicit, T, Error>> {
     ghost field_laws = { optional_untold_field
-        (explicit_parser_type (λ t. identifier_of t.header) (λ t. t.inner) T.type_laws) };
+        (explicit_parser_type (λ t. identifier_of t.header) (λ t. t.inner) T.item_laws) };
 }
 
 impl<T: LawfulType> FieldType for TaggedParser<'_, Implicit, T, Error> {

@@ -179,6 +179,7 @@ where
     ghost gives_by_reader = { ExplicitGives CLASS TAG (λ t. t.inner) T.der_gives
         E.from_gives };
 
+    #[inline(always)]
     fn read_by_der(alloc: Global, bytes: &'a [u8]) -> ParseResult<'a, Self, E> {
         let (rest, any) = converted(element_by_der(bytes))?;
         match inner_by_der::<T, E>(alloc, CLASS, TAG, &any) {

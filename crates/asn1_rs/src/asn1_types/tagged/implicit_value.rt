@@ -151,6 +151,7 @@ where
     ghost gives_by_reader = { DerGives PassesAll (ImplicitTakes CLASS TAG (λ t. t.inner) T.TAG
         T.any_gives E.from_gives) E.from_gives };
 
+    #[inline(always)]
     fn read_by_der(alloc: Global, bytes: &'a [u8]) -> ParseResult<'a, Self, E> {
         let (rest, any) = converted(element_by_der(bytes))?;
         match Self::try_from_any(alloc, any) {

@@ -1,0 +1,34 @@
+//! A struct whose optional field is told from the one behind it by its tag number, which its laws ask for.
+ghost use Rattle.std.proofs.Common.{refl};
+ghost use Rattle.asn1_rs.specs.Structs.Data.{struct_of};
+
+use asn1_rs::{BorrowedRow, Fields, FieldsKind, HasKind, LawfulStruct, Row, SerializeResult};
+
+/// A level, before which a flag may stand.
+///
+///     SEQUENCE { flag BOOLEAN OPTIONAL, level INTEGER }
+#[derive(Debug, PartialEq, Eq, Drop)]
+pub struct Flagged {
+    pub flag: Option<bool>,
+    pub level: u8,
+}
+
+/// Its fields.
+pub type FlaggedRow = (Option<bool>, (u8, ()));
+
+impl HasKind for Flagged {
+    type Kind = FieldsKind;
+}
+
+/// Were both fields of one tag number, or a field behind an optional one of any, `refl` would be refused.
+impl LawfulStruct for Flagged {
+    ghost laws = { struct_of (λ x. (x.flag, (x.level, tt))) ⟦<FlaggedRow as Row>⟧.row_laws refl };
+
+    fn put_row(&self, fields: &mut Fields) -> SerializeResult<()> {
+        (&self.flag, (&self.level, ())).put_each(fields)
+    }
+
+    fn row_in_hand(&self) {
+        (&self.flag, (&self.level, ())).each_in_hand()
+    }
+}
