@@ -159,7 +159,8 @@ pub fn read_content_by_ber<'a>(
     read_ber::<ContentInfo<'a>, Error>(alloc, octets)
 }
 
-/// The one strict encoding of content in DER form. Where its length fits `usize`, it is refused only when out of memory.
+/// The one strict encoding of content in DER form. Where its length fits `usize`, it is refused only when out of
+/// memory.
 pub fn content_vec(alloc: Global, content: &ContentInfo<'_>) -> SerializeResult<Vec<u8>>
     ensures { ⟦<ContentInfo<'static> as Grammar>⟧.grammar.IsDer
         (⟦<ContentInfo<'static> as Grammar>⟧.grammar.value content.now) →
