@@ -1,11 +1,14 @@
 //! A search (RFC 4511, 4.5.1).
+ghost use Rattle.asn1_rs.specs.Structs.{MadeOf};
+ghost use Rattle.asn1_rs_ldap.specs.Endings.{wanted_of};
 ghost use Rattle.asn1_rs_ldap.specs.Searches.{search_laws};
 
 use crate::Filter;
 use crate::wanted::{Wanted, WantedOf};
 use asn1_rs::{
-    BorrowedRow, Enumerated, Error, Fields, FieldsKind, HasKind, HasReader, LawfulStruct,
-    OctetString, ReadsFieldsByBer, SerializeResult, StructReader, row_by_ber,
+    BerParser, BorrowedRow, Enumerated, Error, Fields, FieldsKind, HasKind, HasReader,
+    LawfulStruct, OctetString, ReadsFieldsByBer, ReadsRow, SerializeResult, StructReader,
+    row_by_ber,
 };
 use std::alloc::Global;
 
@@ -71,6 +74,10 @@ impl<'a> LawfulStruct for SearchRequest<'a> {
 
 #[tactic(auto, unfolding(crate::specs::Searches::search_laws))]
 impl<'a> ReadsFieldsByBer<'a> for SearchRequest<'a> {
+    ghost fields_give_by_ber = { MadeOf (λ x.
+        (x.base_object, (x.scope, (x.deref_aliases, (x.size_limit, (x.time_limit, wanted_of x))))))
+        ⟦<SearchRow<'a> as ReadsRow<'a, BerParser>>⟧.row_gives };
+
     fn read_fields_by_ber(alloc: Global, octets: &'a [u8]) -> Result<SearchRequest<'a>, Error> {
         match row_by_ber::<SearchRow<'a>>(alloc, octets) {
             Ok(row) => {
