@@ -3,6 +3,7 @@
 use asn1_rs::{
     ASN1DateTime, Any, GeneralizedTime, OctetString, Oid, RestrictedString, SetOf, UtcTime,
 };
+use asn1_rs_kerberos::AsReq;
 use x509_name::{AttributeTypeAndValue, Name, RelativeDistinguishedName};
 
 /// A value that adds to a check.
@@ -118,5 +119,15 @@ impl Summed for RelativeDistinguishedName<'_> {
 impl Summed for Name<'_> {
     fn sum(&self) -> u64 {
         sum_of_items(&self.rdn_sequence)
+    }
+}
+
+/// A request adds its nonce, how many octets its realm has, and how many kinds of encryption it names.
+impl Summed for AsReq<'_> {
+    fn sum(&self) -> u64 {
+        let body = self.as_inner().req_body.as_inner();
+        u64::from(*body.nonce.as_inner())
+            .wrapping_add(body.realm.as_inner().sum())
+            .wrapping_add(body.etype.as_inner().len() as u64)
     }
 }

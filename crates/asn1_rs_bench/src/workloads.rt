@@ -10,6 +10,7 @@ use asn1_rs::{
     NumericString, OctetString, Oid, PrintableString, ReadsItems, SetOf, ToDer, UniversalString,
     UtcTime, Utf8String,
 };
+use asn1_rs_kerberos::AsReq;
 use std::alloc::Global;
 use std::time::CpuClock;
 use x509_name::Name;
@@ -98,6 +99,7 @@ impl<'a, C: CpuClock> Bench<'a, C> {
             b"utctime" => self.read::<UtcTime, DerParser>(),
             b"gentime" => self.read::<GeneralizedTime, DerParser>(),
             b"names" => self.read::<Name<'_>, DerParser>(),
+            b"request" => self.read::<AsReq<'_>, DerParser>(),
             b"nested_08" => self.read::<EightDeep, DerParser>(),
             b"nested_32" => self.read::<ThirtyTwoDeep, DerParser>(),
             b"nested_64" => self.read::<SixtyFourDeep, DerParser>(),
@@ -145,6 +147,7 @@ impl<'a, C: CpuClock> Bench<'a, C> {
             b"utctime" => self.write::<UtcTime>(),
             b"gentime" => self.write::<GeneralizedTime>(),
             b"names" => self.write::<Name<'_>>(),
+            b"request" => self.write::<AsReq<'_>>(),
             b"nested_08" => self.write::<EightDeep>(),
             b"nested_32" => self.write::<ThirtyTwoDeep>(),
             b"nested_64" => self.write::<SixtyFourDeep>(),
