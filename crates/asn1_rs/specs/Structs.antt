@@ -325,7 +325,7 @@ MadeOf row gives octets (Ok x) = gives octets (Ok (row x))
 MadeOf row gives octets (Err e) = gives octets (Err e)
 
 -- what nothing is said of
-abbrev pub Untold : {T : Type 0} → List ℕ → Result T Error → Type 0
+abbrev pub Untold : {A T E : Type 0} → A → Result T E → Type 0
 Untold octets answer = Unit {0}
 
 -- What the conversion of an element to a struct may answer: the struct of its fields; or the refusal of the tag number,

@@ -6,7 +6,7 @@ ghost use Rattle.asn1_headers.specs.declared.error.Error.{Error};
 ghost use Rattle.asn1_headers.specs.declared.error.Error.TheVariants.{OutOfMemory};
 ghost use Rattle.asn1_rs.specs.Any.{parts_of};
 ghost use Rattle.asn1_rs.specs.Choices.{has_a_tag};
-ghost use Rattle.asn1_rs.specs.Choices.Data.{AnswersByDer, AnswersOf, ChecksOf, grammar_of_choice};
+ghost use Rattle.asn1_rs.specs.Choices.Data.{ReadsChoiceAlso, TakesChoiceAlso, ChecksOf, grammar_of_choice};
 ghost use Rattle.asn1_rs.specs.Laws.Choices.Readers.{choice_checks};
 ghost use Rattle.asn1_rs.specs.Laws.Structs.Rows.{or_neither};
 ghost use Rattle.asn1_rs_choices.specs.Parts.{or_choice, OrChoiceReads, OrChoiceGives, OrChoiceChecks};
@@ -51,7 +51,7 @@ where
     ghost read_arms = { or_choice C.laws.arms.grammar.tags (grammar_of_choice C.laws) R.read_arms };
 
     ghost arms_give = { λ i. OrChoiceReads (has_a_tag C.laws.arms.grammar.tags i)
-        (AnswersByDer (grammar_of_choice C.laws) C.laws.arms.grammar.tags) (R.arms_give i) };
+        (ReadsChoiceAlso C.laws C.choice_gives) (R.arms_give i) };
 
     #[tactic(auto, using(crate::specs::Laws::either_class))]
     fn knows_class(class: Class) -> bool {
@@ -75,17 +75,17 @@ where
         (λ o v w. (w.0, w.1)) R.arms_tagged };
 
     ghost exact_arms = { reads_exact C.laws.arms.grammar.tags (grammar_of_choice C.laws) R.read_arms
-        (AnswersByDer (grammar_of_choice C.laws) C.laws.arms.grammar.tags) R.arms_give
-        (λ input answer octets g. g.exact octets) R.exact_arms };
+        (ReadsChoiceAlso C.laws C.choice_gives) R.arms_give
+        (λ input answer octets g. g.0.exact octets) R.exact_arms };
 
     ghost quiet_arms = { λ none. reads_quiet C.laws.arms.grammar.tags (grammar_of_choice C.laws) R.read_arms
-        (AnswersByDer (grammar_of_choice C.laws) C.laws.arms.grammar.tags) R.arms_give
+        (ReadsChoiceAlso C.laws C.choice_gives) R.arms_give
         (HeldIn (IsOther (λ (e f : Error). f ≡ e)))
-        (λ input answer g. g.no_memory (or_neither C.laws.arms.grammar.allocates R.read_arms.allocates none).0)
+        (λ input answer g. g.0.no_memory (or_neither C.laws.arms.grammar.allocates R.read_arms.allocates none).0)
         (R.quiet_arms (or_neither C.laws.arms.grammar.allocates R.read_arms.allocates none).1) };
 
     ghost other_arms = { reads_other C.laws.arms.grammar.tags (grammar_of_choice C.laws) R.read_arms
-        (AnswersByDer (grammar_of_choice C.laws) C.laws.arms.grammar.tags) R.arms_give R.other_arms };
+        (ReadsChoiceAlso C.laws C.choice_gives) R.arms_give R.other_arms };
 }
 
 impl<'a, C, R> TakesArms<'a> for OrChoice<C, R>
@@ -96,7 +96,7 @@ where
     ghost take_arms = { or_choice C.laws.arms.grammar.tags (grammar_of_choice C.laws) R.take_arms };
 
     ghost arms_take = { λ any. OrChoiceGives (has_a_tag C.laws.arms.grammar.tags (parts_of any).id)
-        (AnswersOf (grammar_of_choice C.laws) C.laws.arms.grammar.tags any) (R.arms_take any) };
+        (TakesChoiceAlso C.laws C.choice_takes any) (R.arms_take any) };
 
     ghost arms_check = { OrChoiceChecks C.laws.arms.grammar.tags (ChecksOf C.laws.arms.grammar.Check)
         R.arms_check };
@@ -130,16 +130,16 @@ where
         (λ o v w. (w.0, w.1)) R.tagged_arms };
 
     ghost exact_take = { takes_exact C.laws.arms.grammar.tags (grammar_of_choice C.laws) R.take_arms
-        (AnswersOf (grammar_of_choice C.laws) C.laws.arms.grammar.tags) R.arms_take
-        (λ any answer octets g. g.exact octets) R.exact_take };
+        (TakesChoiceAlso C.laws C.choice_takes) R.arms_take
+        (λ any answer octets g. g.0.exact octets) R.exact_take };
 
     ghost quiet_take = { λ none. takes_quiet C.laws.arms.grammar.tags (grammar_of_choice C.laws) R.take_arms
-        (AnswersOf (grammar_of_choice C.laws) C.laws.arms.grammar.tags) R.arms_take (λ e. e ≢ OutOfMemory)
-        (λ any e g. g.no_memory (or_neither C.laws.arms.grammar.allocates R.take_arms.allocates none).0)
+        (TakesChoiceAlso C.laws C.choice_takes) R.arms_take (λ e. e ≢ OutOfMemory)
+        (λ any e g. g.0.no_memory (or_neither C.laws.arms.grammar.allocates R.take_arms.allocates none).0)
         (R.quiet_take (or_neither C.laws.arms.grammar.allocates R.take_arms.allocates none).1) };
 
     ghost other_take = { takes_other C.laws.arms.grammar.tags (grammar_of_choice C.laws) R.take_arms
-        (AnswersOf (grammar_of_choice C.laws) C.laws.arms.grammar.tags) R.arms_take R.other_take };
+        (TakesChoiceAlso C.laws C.choice_takes) R.arms_take R.other_take };
 
     ghost exact_check = { checks_exact C.laws.arms.grammar.tags (grammar_of_choice C.laws) R.take_arms
         (ChecksOf C.laws.arms.grammar.Check) R.arms_check (choice_checks C.laws.arms.grammar.Check)

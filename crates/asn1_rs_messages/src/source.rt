@@ -1,6 +1,7 @@
 //! A choice of values under tags and of a struct, by both rules.
 ghost use Rattle.std.proofs.Common.{refl};
 ghost use Rattle.asn1_headers.specs.Answers.{seen};
+ghost use Rattle.asn1_rs.specs.Choices.{ChoiceReads, ChoiceGives};
 ghost use Rattle.asn1_rs.specs.Choices.Data.{choice_of};
 ghost use Rattle.asn1_rs.specs.declared.choices.arms.Or.TheVariants as arm;
 ghost use Rattle.asn1_rs.specs.Callers.{ReadsByDer, ReadsByBer, WritesStrict};
@@ -10,9 +11,9 @@ use crate::measurement::Measurement;
 use asn1_rs::{
     AlwaysDer, AlwaysDerBy, Any, Arms, ChecksChoice, ChoiceKind, ChoiceReader, DynTagged, Error,
     Grammar, HasKind, HasReader, LawfulChoice, Never, OfArms, Or, OrTagged, OrUniversal,
-    ParseResult, ReadsChoice, ReadsChoiceByBer, SerializeResult, Tag, TaggedExplicit,
-    TaggedImplicit, ToDer, UsesArm, check_element, choice_by_der, choice_of_element, read_ber,
-    read_der, strict_vec,
+    ParseResult, ReadsArms, ReadsChoice, ReadsChoiceByBer, SerializeResult, Tag, TaggedExplicit,
+    TaggedImplicit, TakesArms, ToDer, UsesArm, check_element, choice_by_der, choice_of_element,
+    read_ber, read_der, strict_vec,
 };
 use std::alloc::Global;
 
@@ -99,12 +100,18 @@ impl OfArms for Source {
 }
 
 impl<'a> ReadsChoice<'a> for Source {
+    ghost choice_gives = { ChoiceReads ⟦<Source as LawfulChoice>⟧.laws.arms.grammar.tags
+        ⟦<Source as LawfulChoice>⟧.laws.as_arms ⟦<SourceArms as ReadsArms<'a>>⟧.arms_give };
+
     fn read_choice(alloc: Global, octets: &'a [u8]) -> ParseResult<'a, Source, Error> {
         choice_by_der(alloc, octets)
     }
 }
 
 impl<'a> ReadsChoiceByBer<'a> for Source {
+    ghost choice_takes = { ChoiceGives ⟦<Source as LawfulChoice>⟧.laws.arms.grammar.tags
+        ⟦<Source as LawfulChoice>⟧.laws.as_arms ⟦<SourceArms as TakesArms<'a>>⟧.arms_take };
+
     fn choice_of_any(alloc: Global, any: Any<'a>) -> Result<Source, Error> {
         choice_of_element(alloc, any)
     }

@@ -1,6 +1,7 @@
 //! The times of certificates: a choice of two types (RFC 5280, 4.1.2.5), by both rules.
 ghost use Rattle.std.proofs.Common.{refl};
 ghost use Rattle.asn1_headers.specs.Answers.{seen};
+ghost use Rattle.asn1_rs.specs.Choices.{ChoiceReads, ChoiceGives};
 ghost use Rattle.asn1_rs.specs.Choices.Data.{choice_of, choice_type, numbers_of_choice, choice_numbers};
 ghost use Rattle.asn1_rs.specs.declared.choices.arms.Or.TheVariants as arm;
 ghost use Rattle.asn1_rs.specs.Callers.{ReadsByDer, ReadsByBer, WritesStrict};
@@ -9,9 +10,9 @@ ghost use Rattle.asn1_rs_messages.specs.declared.time.Time.TheVariants as times;
 use asn1_rs::{
     Any, ArmNumbers, Arms, ChecksChoice, ChoiceKind, ChoiceReader, DynTagged, Error,
     GeneralizedTime, Grammar, HasKind, HasReader, LawfulChoice, LawfulType, Never, OfArms, Or,
-    OrUniversal, ParseResult, ReadsChoice, ReadsChoiceByBer, SerializeResult, SetOf, Tag,
-    TaggedExplicit, ToDer, ToldByNumber, UsesArm, UtcTime, check_element, choice_by_der,
-    choice_of_element, read_ber, read_der, strict_vec,
+    OrUniversal, ParseResult, ReadsArms, ReadsChoice, ReadsChoiceByBer, SerializeResult, SetOf,
+    Tag, TaggedExplicit, TakesArms, ToDer, ToldByNumber, UsesArm, UtcTime, check_element,
+    choice_by_der, choice_of_element, read_ber, read_der, strict_vec,
 };
 use std::alloc::Global;
 
@@ -76,12 +77,18 @@ impl OfArms for Time {
 }
 
 impl<'a> ReadsChoice<'a> for Time {
+    ghost choice_gives = { ChoiceReads ⟦<Time as LawfulChoice>⟧.laws.arms.grammar.tags
+        ⟦<Time as LawfulChoice>⟧.laws.as_arms ⟦<TimeArms as ReadsArms<'a>>⟧.arms_give };
+
     fn read_choice(alloc: Global, octets: &'a [u8]) -> ParseResult<'a, Time, Error> {
         choice_by_der(alloc, octets)
     }
 }
 
 impl<'a> ReadsChoiceByBer<'a> for Time {
+    ghost choice_takes = { ChoiceGives ⟦<Time as LawfulChoice>⟧.laws.arms.grammar.tags
+        ⟦<Time as LawfulChoice>⟧.laws.as_arms ⟦<TimeArms as TakesArms<'a>>⟧.arms_take };
+
     fn choice_of_any(alloc: Global, any: Any<'a>) -> Result<Time, Error> {
         choice_of_element(alloc, any)
     }

@@ -145,6 +145,17 @@ pub record AnswersOf {T : Type 0} (G : ItemGrammar T) (tags : List (ℕ × ℕ))
   pub other : has_a_tag tags (parts_of any).id ≡ false →
       (e : Error) × NoArmRefusal tags (parts_of any).id e × (answer ≡ Err e)
 
+-- The same, with what an author says of a choice beside it: what its arms answer.
+abbrev pub ReadsChoiceAlso : {T : Type 0} → LawfulChoiceOf T →
+    (List ℕ → Result (List ℕ × T) (Refusal Error) → Type 0) → List ℕ → Result (List ℕ × T) (Refusal Error) → Type 0
+ReadsChoiceAlso T gives input answer =
+    AnswersByDer (grammar_of_choice T) T.arms.grammar.tags input answer × gives input answer
+
+abbrev pub TakesChoiceAlso : {T : Type 0} → LawfulChoiceOf T → (Any → Result T Error → Type 0) → Any →
+    Result T Error → Type 0
+TakesChoiceAlso T gives any answer =
+    AnswersOf (grammar_of_choice T) T.arms.grammar.tags any answer × gives any answer
+
 -- What its check may answer: it passes exactly the parts that meet it.
 pub record ChecksOf (Check : Parts → Type 0) (p : Parts) (answer : Result (Unit {0}) Error) : Type 0 where
   pub exact : Checks Check p answer

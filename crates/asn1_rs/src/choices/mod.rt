@@ -17,11 +17,15 @@ pub(crate) mod writing;
 
 ghost use Rattle.std.specs.Prelude.{◌≡◌, ◌≢◌, ℕ, List, Result, Err, false, IfErr};
 ghost use Rattle.asn1_headers.specs.Answers.{seen};
+ghost use Rattle.asn1_headers.specs.declared.error.Err.{Err as Refusal};
 ghost use Rattle.asn1_headers.specs.declared.error.Error.{Error};
 ghost use Rattle.asn1_headers.specs.declared.error.Error.TheVariants.{OutOfMemory};
+ghost use Rattle.asn1_rs.specs.declared.asn1_types.any.Any.{Any};
 ghost use Rattle.asn1_rs.specs.Any.{parts_of};
 ghost use Rattle.asn1_rs.specs.Choices.{ChoiceReads, ChoiceGives, KnowsClass, choice_grammar};
 ghost use Rattle.asn1_rs.specs.Choices.Data.{LawfulChoiceOf, AnswersByDer, AnswersOf, ChecksOf, grammar_of_choice};
+ghost use Rattle.asn1_rs.specs.Choices.Data.{ReadsChoiceAlso, TakesChoiceAlso};
+ghost use Rattle.asn1_rs.specs.Structs.{Untold};
 ghost use Rattle.asn1_rs.specs.Laws.Choices.{choice_lawful};
 ghost use Rattle.asn1_rs.specs.Laws.Choices.Readers.{choice_reads, choice_gives, choice_checks, of_another};
 
@@ -101,17 +105,25 @@ pub trait OfArms: LawfulChoice {
 /// A choice that is read by DER, its arms by DER.
 ///
 ///     impl<'a> ReadsChoice<'a> for Time {
+///         ghost choice_gives = { ChoiceReads time_tags time_arms ⟦<TimeArms as ReadsArms<'a>>⟧.arms_give };
+///
 ///         fn read_choice(alloc: Global, octets: &'a [u8]) -> ParseResult<'a, Time, Error> {
 ///             choice_by_der(alloc, octets)
 ///         }
 ///     }
 pub trait ReadsChoice<'a>: LawfulChoice {
+    /// What reading may answer, with the refusal of the arm. Of a choice that leaves it out no more is said of the
+    /// refusal of an arm than that it is final. It is that of its arms: `ChoiceReads` with the classes and tag numbers
+    /// of its arms, how a value is one of an arm, and `arms_give` of [`ReadsArms`].
+    ghost choice_gives: { List ℕ → Result (List ℕ × Self) (Refusal Error) → Type 0 } = { Untold };
+
     /// Reads a value of the arm whose class and tag number the element has that begins the octets. Where no arm has its
     /// class it is refused with `UnexpectedClass`, and with `UnexpectedTag` where none of its class has its tag number;
     /// neither names what was expected.
     fn read_choice(alloc: Global, octets: &'a [u8]) -> ParseResult<'a, Self, Error>
-        ensures { AnswersByDer (grammar_of_choice Self.laws) Self.laws.arms.grammar.tags octets.now
-            (seen result) };
+        ensures answers { AnswersByDer (grammar_of_choice Self.laws) Self.laws.arms.grammar.tags
+            octets.now (seen result) }
+        ensures gives { Self.choice_gives octets.now (seen result) };
 }
 
 /// A choice that an element converts to, and so is read by BER.
@@ -122,9 +134,15 @@ pub trait ReadsChoice<'a>: LawfulChoice {
 ///         }
 ///     }
 pub trait ReadsChoiceByBer<'a>: LawfulChoice {
+    /// What the conversion may answer, with the refusal of the arm, as `choice_gives`: `ChoiceGives` and `arms_take` of
+    /// [`TakesArms`].
+    ghost choice_takes: { Any → Result Self Error → Type 0 } = { Untold };
+
     /// The value of the arm whose class and tag number the element has. Refused as by DER where it is of no arm.
     fn choice_of_any(alloc: Global, any: Any<'a>) -> Result<Self, Error>
-        ensures { AnswersOf (grammar_of_choice Self.laws) Self.laws.arms.grammar.tags any.entry result };
+        ensures answers { AnswersOf (grammar_of_choice Self.laws) Self.laws.arms.grammar.tags any.entry
+            result }
+        ensures takes { Self.choice_takes any.entry result };
 }
 
 /// A choice whose constraints are checked.
@@ -166,8 +184,9 @@ pub fn choice_by_der<'a, T, A>(alloc: Global, octets: &'a [u8]) -> ParseResult<'
 where
     T: OfArms<Arms = A>,
     A: ReadsArms<'a>,
-    ensures { AnswersByDer (choice_grammar T.as_arms A.read_arms) A.read_arms.tags octets.now
+    ensures answers { AnswersByDer (choice_grammar T.as_arms A.read_arms) A.read_arms.tags octets.now
         (seen result) }
+    ensures gives { ChoiceReads A.read_arms.tags T.as_arms A.arms_give octets.now (seen result) }
 {
     read_arms(alloc, octets)
 }
@@ -194,7 +213,8 @@ pub fn choice_of_element<'a, T, A>(alloc: Global, any: Any<'a>) -> Result<T, Err
 where
     T: OfArms<Arms = A>,
     A: TakesArms<'a>,
-    ensures { AnswersOf (choice_grammar T.as_arms A.take_arms) A.take_arms.tags any.entry result }
+    ensures answers { AnswersOf (choice_grammar T.as_arms A.take_arms) A.take_arms.tags any.entry result }
+    ensures takes { ChoiceGives A.take_arms.tags T.as_arms A.arms_take any.entry result }
 {
     take_arms(alloc, any)
 }
@@ -219,7 +239,7 @@ impl<T: LawfulChoice> LawfulItemBy<ChoiceKind> for T {
 }
 
 impl<'a, T: ReadsChoice<'a>> FromDerBy<'a, ChoiceReader, Error> for T {
-    ghost gives_by_reader = { AnswersByDer (grammar_of_choice T.laws) T.laws.arms.grammar.tags };
+    ghost gives_by_reader = { ReadsChoiceAlso T.laws T.choice_gives };
 
     fn read_by_der(alloc: Global, bytes: &'a [u8]) -> ParseResult<'a, T, Error> {
         T::read_choice(alloc, bytes)
@@ -229,7 +249,7 @@ impl<'a, T: ReadsChoice<'a>> FromDerBy<'a, ChoiceReader, Error> for T {
 impl<'a, T: ReadsChoiceByBer<'a>> FromAnyBy<'a, ChoiceKind> for T {
     type Refusal = Error;
 
-    ghost gives_by_kind = { AnswersOf (grammar_of_choice T.laws) T.laws.arms.grammar.tags };
+    ghost gives_by_kind = { TakesChoiceAlso T.laws T.choice_takes };
 
     fn convert_by_kind(alloc: Global, any: Any<'a>) -> Result<T, Error> {
         T::choice_of_any(alloc, any)
@@ -248,15 +268,15 @@ impl<'a, T> LawfulDerBy<'a, ChoiceReader, Error> for T
 where
     T: ReadsChoice<'a> + HasReader<Reader = ChoiceReader>,
 {
-    ghost exact_by_reader = { λ input answer octets g. g.exact octets };
+    ghost exact_by_reader = { λ input answer octets g. g.0.exact octets };
 
-    ghost no_memory_by_reader = { λ none input answer g. g.no_memory none };
+    ghost no_memory_by_reader = { λ none input answer g. g.0.no_memory none };
 }
 
 impl<'a, T: ReadsChoiceByBer<'a>> LawfulBodyBy<'a, ChoiceKind, Error> for T {
-    ghost exact_by_kind = { λ any answer octets g. g.exact octets };
+    ghost exact_by_kind = { λ any answer octets g. g.0.exact octets };
 
-    ghost no_memory_by_kind = { λ none any e g. of_another e (g.no_memory none) };
+    ghost no_memory_by_kind = { λ none any e g. of_another e (g.0.no_memory none) };
 }
 
 impl<T: ChecksChoice> LawfulCheckBy<ChoiceKind> for T {

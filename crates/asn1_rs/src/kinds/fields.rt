@@ -124,6 +124,7 @@ impl Fields {
     }
 
     /// Whether the last field is to be put first, and each one in front of those behind it.
+    #[inline(always)]
     pub(crate) fn goes_back(&self) -> bool
         ensures { result ≡ goes_back (taken_in self.now) }
     {
@@ -134,6 +135,7 @@ impl Fields {
     ///
     /// Refused as the field is, with `OutOfMemory` in the place of a writer's failure, and with `InvalidLength` where
     /// the sum of the counts passes `usize`.
+    #[inline(always)]
     pub fn put<T: ToDer>(&mut self, field: &T) -> SerializeResult<()>
         ensures { PutsField T.writing field.now (taken_in self.old) (taken_in self.new) result }
     {
@@ -209,6 +211,7 @@ fn collect_field<T: ToDer>(
 }
 
 /// Puts the encoding of a field in front.
+#[inline(always)]
 fn prepend_field<T: ToDer>(alloc: Global, buf: &mut DerBuffer, field: &T) -> SerializeResult<()>
     ensures { PutsField T.writing field.now (prepended buf.old) (prepended buf.new) result }
 {
@@ -296,10 +299,12 @@ impl<T: WritesFields> ToDerBy<FieldsKind> for T {
         put_collected(T::Number::TAG, content.as_bytes(), w)
     }
 
+    #[inline(always)]
     fn prepend_content(&self, alloc: Global, buf: &mut DerBuffer) -> SerializeResult<usize> {
         self.prepend_fields(alloc, buf)
     }
 
+    #[inline(always)]
     fn prepend_whole(&self, alloc: Global, buf: &mut DerBuffer) -> SerializeResult<usize> {
         let content = ToDerBy::<FieldsKind>::prepend_content(self, alloc, buf);
         prepend_element(0, true, T::Number::TAG.0, content, buf)

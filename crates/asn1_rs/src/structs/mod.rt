@@ -234,6 +234,7 @@ impl<T: LawfulStruct> WritesFields for T {
         }
     }
 
+    #[inline(always)]
     fn prepend_fields(&self, alloc: Global, buf: &mut DerBuffer) -> SerializeResult<usize> {
         let held = buf.len();
         let mut fields = Fields::before(alloc, mem::replace(buf, DerBuffer::new(alloc)));

@@ -79,6 +79,7 @@ impl<T: ToDer, E, const CLASS: u8, const TAG: u32> ToDer
         self.inner.prepend_der_content(alloc, buf)
     }
 
+    #[inline(always)]
     fn prepend_der(&self, alloc: Global, buf: &mut DerBuffer) -> SerializeResult<usize> {
         if CLASS > 3 {
             return Err(SerializeError::InvalidClass { class: CLASS });
