@@ -1,1 +1,2 @@
 -- What contracts cite.
+pub mod Hashed

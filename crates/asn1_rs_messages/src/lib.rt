@@ -7,6 +7,7 @@
 mod alarm;
 mod content;
 mod extension;
+mod hashed;
 mod measurement;
 mod public_key;
 mod reminder;
@@ -25,6 +26,9 @@ pub use content::{
 };
 pub use extension::{
     Extension, ExtensionRow, extension_vec, kept_extension, read_extension, read_extension_by_ber,
+};
+pub use hashed::{
+    HashedCertificate, IssuerSerial, Sha256, hashed_certificate_vec, read_hashed_certificate,
 };
 pub use measurement::{
     Measurement, MeasurementRow, measurement_set_vec, measurement_vec, read_measurement,

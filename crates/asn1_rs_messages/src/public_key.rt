@@ -2,13 +2,15 @@
 ghost use Rattle.std.proofs.Common.{refl};
 ghost use Rattle.asn1_headers.specs.Answers.{seen};
 ghost use Rattle.asn1_rs.specs.Structs.{MadeOf};
-ghost use Rattle.asn1_rs.specs.Structs.Data.{struct_of};
+ghost use Rattle.asn1_rs.specs.Structs.Data.{struct_of, struct_type};
+ghost use Rattle.asn1_rs.specs.Structs.Keys.{key_of};
+ghost use Rattle.asn1_rs.specs.Structs.Members.{struct_members};
 ghost use Rattle.asn1_rs.specs.Callers.{ReadsByDer, WritesStrict};
 
 use asn1_rs::{
     Any, BitString, BorrowedRow, DerParser, Error, Fields, FieldsKind, Grammar, HasKind, HasReader,
-    LawfulStruct, Oid, ParseResult, ReadsFields, ReadsRow, Row, SerializeResult, StructReader,
-    ToDer, read_der, row_by_der, strict_vec,
+    KeyType, LawfulMember, LawfulStruct, MemberRow, Oid, ParseResult, ReadsFields, ReadsRow, Row,
+    SerializeResult, StructReader, ToDer, read_der, row_by_der, strict_vec,
 };
 use std::alloc::Global;
 
@@ -63,6 +65,18 @@ impl<'a> ReadsFields<'a> for AlgorithmIdentifier<'a> {
             Err(e) => Err(e),
         }
     }
+}
+
+/// Algorithms are equal exactly where their values are.
+impl<'a> KeyType for AlgorithmIdentifier<'a> {
+    ghost key_laws = { key_of (struct_type ⟦<AlgorithmIdentifier<'a> as LawfulStruct>⟧.laws)
+        (struct_members ⟦<AlgorithmIdentifier<'a> as LawfulStruct>⟧.laws.as_row
+        ⟦<AlgorithmRow<'a> as MemberRow>⟧.row_members).same };
+}
+
+/// So they may be members of a set.
+impl<'a> LawfulMember for AlgorithmIdentifier<'a> {
+    ghost same = { ⟦<AlgorithmIdentifier<'a> as KeyType>⟧.key_laws.same };
 }
 
 /// A public key, as the bits that its algorithm reads.

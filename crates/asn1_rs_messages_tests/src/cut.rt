@@ -1,8 +1,8 @@
 //! Messages and choices into writers that fail at each place, or take no octet from there on.
 
 use asn1_rs_messages::{
-    Alarm, Extension, Measurement, Reminder, Settings, Signed, Source, SubjectPublicKeyInfo,
-    TaggedTime, Time, Updates, Validity,
+    Alarm, Extension, HashedCertificate, Measurement, Reminder, Settings, Signed, Source,
+    SubjectPublicKeyInfo, TaggedTime, Time, Updates, Validity,
 };
 use std::alloc::Global;
 use std::test::Fail;
@@ -19,6 +19,11 @@ Alarm:
 Extension:
 300e0603551d0f0101ff0404030205a0 = cut
 30090603551d1304023000 = cut
+
+HashedCertificate:
+30040402aabb = cut
+3013300d060960864801650304020105000402aabb = cut
+30120402aabb300c3007a4023000820161020105 = cut
 
 Measurement:
 30070201010202012c = cut
@@ -73,6 +78,7 @@ impl Calls for Cuts {
         match name {
             "Alarm" => assert_read_cut::<Alarm>(alloc, octets)?,
             "Extension" => assert_read_cut::<Extension<'_>>(alloc, octets)?,
+            "HashedCertificate" => assert_read_cut::<HashedCertificate<'_>>(alloc, octets)?,
             "Measurement" => assert_read_cut::<Measurement>(alloc, octets)?,
             "Reminder" => assert_read_cut::<Reminder>(alloc, octets)?,
             "Settings" => assert_read_cut::<Settings>(alloc, octets)?,

@@ -13,6 +13,8 @@ mod extensions;
 #[cfg(test)]
 mod few_growths;
 #[cfg(test)]
+mod hashed;
+#[cfg(test)]
 mod measurements;
 #[cfg(test)]
 mod places;

@@ -4,8 +4,8 @@ use asn1_rs::{
     Any, Err, Error, FromBer, FromDer, OctetString, SetOf, TaggedParser, TaggedValue, ToDer,
 };
 use asn1_rs_messages::{
-    Alarm, Attribute, ContentInfo, Measurement, Reminder, Settings, Signed, Source, Survey, Time,
-    Updates, Validity,
+    Alarm, Attribute, ContentInfo, HashedCertificate, IssuerSerial, Measurement, Reminder,
+    Settings, Signed, Source, Survey, Time, Updates, Validity,
 };
 use std::alloc::Global;
 use std::fmt::Write;
@@ -121,6 +121,28 @@ impl Shown for Attribute<'_> {
     fn show(&self, text: &mut String) -> Result<(), Fail> {
         write!(text, "{} ", self.attribute_type)?;
         self.values.show(text)
+    }
+}
+
+/// The identifier and the parameters of the algorithm, the hash, and the issuer.
+impl Shown for HashedCertificate<'_> {
+    fn show(&self, text: &mut String) -> Result<(), Fail> {
+        let algorithm = &self.algorithm.value;
+        write!(text, "{} ", algorithm.algorithm)?;
+        algorithm.parameters.show(text)?;
+        text.push_str(" ")?;
+        push_digits(text, self.hash.as_bytes())?;
+        text.push_str(" ")?;
+        self.issuer.show(text)
+    }
+}
+
+/// The names, and the contents octets of the number.
+impl Shown for IssuerSerial<'_> {
+    fn show(&self, text: &mut String) -> Result<(), Fail> {
+        self.names.show(text)?;
+        text.push_str(" ")?;
+        push_digits(text, self.number.as_bytes())
     }
 }
 

@@ -1,9 +1,12 @@
 -- Which value of a type is the default, how it is told from the others, and what follows for a field that has it.
 use Rattle.std.proofs.Common.{◌≡◌, ◌∙◌, inl, inr, All, sym, subst, refl, ◌∷◌, ◌<◌, ◌-◌, ◌*◌, ◌^◌, ℕ, ℤ}
-use Rattle.std.proofs.Common.{Bool, true, false, List, [], length, map, arith}
-use Rattle.std.specs.Prelude.{Result, Ok, Err, IfErr, IsTrue, ◌↔◌, ◌&&◌, nat_eq, not, pos, negsuc}
+use Rattle.std.proofs.Common.{Bool, true, false, List, [], length, map, arith, zero, suc}
+use Rattle.std.specs.Prelude.{Result, Ok, Err, IfErr, IsTrue, ◌↔◌, ◌&&◌, nat_eq, nat_lt, not, pos, negsuc}
+use Rattle.std.specs.List.{list_all}
 use Rattle.std.specs.Ordering.{int_eq}
+use Rattle.std.specs.declared.borrow.CowSlice.TheVariants as slice
 use Rattle.std.proofs.lemmas.Bool.{eqb-true}
+use Rattle.std.proofs.lemmas.Bool.Decides.{nat_tests}
 use Rattle.std.proofs.lemmas.Int.{ints}
 use Rattle.x690.specs.Octets.{IsOctets}
 use Rattle.x690.specs.Signed.{IsSigned}
@@ -12,6 +15,7 @@ use Rattle.asn1_headers.specs.declared.error.Error.{Error}
 use Rattle.asn1_headers.specs.Answers.{Exactly, TellsMemory, IsOther}
 use Rattle.asn1_headers.specs.Error.{HeldIn}
 use Rattle.asn1_rs.specs.declared.asn1_types.enumerated.Enumerated.{Enumerated}
+use Rattle.asn1_rs.specs.declared.asn1_types.oid.Oid.{Oid}
 use Rattle.asn1_rs.specs.Boolean.{bool_leaf}
 use Rattle.asn1_rs.specs.Enumerated.{enumerated_leaf}
 use Rattle.asn1_rs.specs.Grammar.Item.{ItemGrammar, IsLawfulItem}
@@ -23,6 +27,7 @@ use Rattle.asn1_rs.specs.Structs.{EncodingRules, words_by, IsCutBy, FieldGrammar
 use Rattle.asn1_rs.specs.Structs.{item_field, ReadsField}
 use Rattle.asn1_rs.specs.Structs.Data.{LawfulTypeOf, LawfulFieldOf, AnswersField}
 use Rattle.asn1_rs.specs.Structs.Defaults.{default_field, default_writing, DefaultGives}
+use Rattle.asn1_rs.specs.Structs.Keys.{LawfulKeyOf}
 use Rattle.asn1_rs.specs.Structs.Types.{leaf_type, unsigned_type, signed_type, list_type, explicit_type, implicit_type}
 use Rattle.asn1_rs.specs.Laws.Structs.Defaults.{default_field_lawful, default_put, default_reads, default_no_memory}
 use Rattle.asn1_rs.specs.Laws.Structs.Fields.{IsLawfulField, item_reads}
@@ -191,6 +196,27 @@ default_enumerated n fits = record {
   is_value = fits;
   same = λ x. enumerated_equal x n;
 }
+
+-- the value of this item, of a type whose items are equal exactly where their values are
+abbrev pub default_of_key : {S : Type 0} (K : LawfulKeyOf S) (x : S) → K.of.grammar.IsValue (K.of.grammar.value x) →
+    LawfulDefaultOf S
+default_of_key K x fits = record {
+  of = K.of;
+  default = K.of.grammar.value x;
+  is_default = λ y. K.are_equal y x;
+  is_value = fits;
+  same = λ y. K.same y x;
+}
+
+-- the absolute object identifier of these contents octets, borrowed from no place
+abbrev pub lent_oid : List ℕ → Oid
+lent_oid octets = record { octets = slice.Borrowed (record { ref_ptr = (0, 0); now = octets }); relative = false }
+
+-- Octets that are written out are octets where the test of each says so: `octets_fit (0x60 ∷ 0x86 ∷ []) refl`.
+pub octets_fit : (octets : List ℕ) → list_all (λ octet. nat_lt octet 256) octets ≡ true → IsOctets octets
+octets_fit [] all k = omega arith
+octets_fit (x ∷ octets) all zero = grind (arith, nat_tests, first_holds (nat_lt x 256) _ all)
+octets_fit (x ∷ octets) all (suc k) = octets_fit octets (second_holds (nat_lt x 256) _ all) k
 
 module _ {S W : Type 0} (items : W → List S) (T : LawfulTypeOf S) where
   pub no_items : (xs : List S) → IsTrue (nat_eq (length xs) 0) ↔ (map T.grammar.value xs ≡ [])

@@ -1,0 +1,198 @@
+//! A certificate by its hash (RFC 5035, 4), with a field whose default is a struct, by DER, borrowed from the octets.
+ghost use Rattle.std.specs.Prelude.{◌≡◌, None};
+ghost use Rattle.std.proofs.Common.{refl};
+ghost use Rattle.asn1_headers.specs.Answers.{seen};
+ghost use Rattle.asn1_rs.specs.Oid.{absolute, oid_value};
+ghost use Rattle.asn1_rs.specs.Structs.{MadeOf};
+ghost use Rattle.asn1_rs.specs.Structs.Data.{struct_of};
+ghost use Rattle.asn1_rs.specs.Structs.DefaultTypes.{default_of_key, its_own_type, lent_oid, octets_fit};
+ghost use Rattle.asn1_rs.specs.Callers.{ReadsByDer, WritesStrict};
+ghost use Rattle.asn1_rs_messages.specs.Hashed.{sha256_octets};
+
+use crate::public_key::AlgorithmIdentifier;
+use asn1_rs::{
+    Any, BorrowedRow, DefaultOf, Defaulted, DerParser, Error, Fields, FieldsKind, Grammar, HasKind,
+    HasReader, Integer, KeyType, LawfulStruct, OctetString, OfRow, Oid, ParseResult, ReadsFields,
+    ReadsRow, Row, SerializeResult, StructReader, ToDer, read_der, strict_vec, struct_by_der,
+};
+use std::alloc::Global;
+use std::borrow::CowSlice;
+
+/// A certificate by its hash, and perhaps by its issuer and number too.
+///
+///     ESSCertIDv2 ::= SEQUENCE {
+///         hashAlgorithm  AlgorithmIdentifier DEFAULT {algorithm id-sha256},
+///         certHash       OCTET STRING,
+///         issuerSerial   IssuerSerial OPTIONAL }
+#[derive(Debug, PartialEq, Eq, Drop)]
+pub struct HashedCertificate<'a> {
+    pub algorithm: Defaulted<AlgorithmIdentifier<'a>, Sha256>,
+    pub hash: OctetString<'a>,
+    pub issuer: Option<IssuerSerial<'a>>,
+}
+
+/// Of hashes by SHA-256, without parameters.
+#[derive(Debug, PartialEq, Eq, Drop)]
+pub struct Sha256;
+
+/// SHA-256, whose identifier is 2.16.840.1.101.3.4.2.1 (RFC 5754, 2.2), without parameters.
+fn default_algorithm<'a>() -> AlgorithmIdentifier<'a>
+    ensures algorithm { oid_value result.algorithm ≡ absolute sha256_octets }
+    ensures parameters { result.parameters ≡ None }
+{
+    AlgorithmIdentifier {
+        algorithm: Oid::new(CowSlice::Borrowed(&[
+            0x60, 0x86, 0x48, 0x01, 0x65, 0x03, 0x04, 0x02, 0x01,
+        ])),
+        parameters: None,
+    }
+}
+
+impl<'a> DefaultOf<AlgorithmIdentifier<'a>> for Sha256 {
+    ghost default_laws = { default_of_key ⟦<AlgorithmIdentifier<'a> as KeyType>⟧.key_laws
+        (record { algorithm = lent_oid sha256_octets; parameters = None })
+        (octets_fit sha256_octets refl, (tt, tt)) };
+
+    fn default_value(_alloc: Global) -> AlgorithmIdentifier<'a> {
+        default_algorithm()
+    }
+
+    fn is_default(value: &AlgorithmIdentifier<'a>) -> bool {
+        *value == default_algorithm()
+    }
+
+    ghost of_type = { its_own_type refl };
+}
+
+/// Its fields.
+pub type HashedRow<'a> = (
+    Defaulted<AlgorithmIdentifier<'a>, Sha256>,
+    (OctetString<'a>, (Option<IssuerSerial<'a>>, ())),
+);
+
+impl HasKind for HashedCertificate<'_> {
+    type Kind = FieldsKind;
+}
+
+impl HasReader for HashedCertificate<'_> {
+    type Reader = StructReader;
+}
+
+impl<'a> LawfulStruct for HashedCertificate<'a> {
+    ghost laws = { struct_of (λ x. (x.algorithm, (x.hash, (x.issuer, tt))))
+        ⟦<HashedRow<'a> as Row>⟧.row_laws refl };
+
+    fn put_row(&self, fields: &mut Fields) -> SerializeResult<()> {
+        (&self.algorithm, (&self.hash, (&self.issuer, ()))).put_each(fields)
+    }
+
+    fn row_in_hand(&self) {
+        (&self.algorithm, (&self.hash, (&self.issuer, ()))).each_in_hand()
+    }
+}
+
+impl<'a> OfRow for HashedCertificate<'a> {
+    type Row = HashedRow<'a>;
+
+    ghost as_row = { λ x. (x.algorithm, (x.hash, (x.issuer, tt))) };
+
+    fn of_row(row: HashedRow<'a>) -> HashedCertificate<'a> {
+        let (algorithm, (hash, (issuer, ()))) = row;
+        HashedCertificate {
+            algorithm,
+            hash,
+            issuer,
+        }
+    }
+}
+
+impl<'a> ReadsFields<'a> for HashedCertificate<'a> {
+    ghost fields_give = { MadeOf ⟦<HashedCertificate<'a> as LawfulStruct>⟧.laws.as_row
+        ⟦<HashedRow<'a> as ReadsRow<'a, DerParser>>⟧.row_gives };
+
+    fn read_fields(alloc: Global, octets: &'a [u8]) -> Result<HashedCertificate<'a>, Error> {
+        struct_by_der(alloc, octets)
+    }
+}
+
+/// The issuer of a certificate and its number. Each name of the issuer is kept as the element that it is, and nothing
+/// asks that there is one.
+///
+///     IssuerSerial ::= SEQUENCE {
+///         issuer        GeneralNames,
+///         serialNumber  INTEGER }
+///
+///     GeneralNames ::= SEQUENCE SIZE (1..MAX) OF GeneralName
+#[derive(Debug, PartialEq, Eq, Drop)]
+pub struct IssuerSerial<'a> {
+    pub names: Vec<Any<'a>>,
+    pub number: Integer<'a>,
+}
+
+/// Its fields.
+pub type IssuerRow<'a> = (Vec<Any<'a>>, (Integer<'a>, ()));
+
+impl HasKind for IssuerSerial<'_> {
+    type Kind = FieldsKind;
+}
+
+impl HasReader for IssuerSerial<'_> {
+    type Reader = StructReader;
+}
+
+impl<'a> LawfulStruct for IssuerSerial<'a> {
+    ghost laws = { struct_of (λ x. (x.names, (x.number, tt)))
+        ⟦<IssuerRow<'a> as Row>⟧.row_laws refl };
+
+    fn put_row(&self, fields: &mut Fields) -> SerializeResult<()> {
+        (&self.names, (&self.number, ())).put_each(fields)
+    }
+
+    fn row_in_hand(&self) {
+        (&self.names, (&self.number, ())).each_in_hand()
+    }
+}
+
+impl<'a> OfRow for IssuerSerial<'a> {
+    type Row = IssuerRow<'a>;
+
+    ghost as_row = { λ x. (x.names, (x.number, tt)) };
+
+    fn of_row(row: IssuerRow<'a>) -> IssuerSerial<'a> {
+        let (names, (number, ())) = row;
+        IssuerSerial { names, number }
+    }
+}
+
+impl<'a> ReadsFields<'a> for IssuerSerial<'a> {
+    ghost fields_give = { MadeOf ⟦<IssuerSerial<'a> as LawfulStruct>⟧.laws.as_row
+        ⟦<IssuerRow<'a> as ReadsRow<'a, DerParser>>⟧.row_gives };
+
+    fn read_fields(alloc: Global, octets: &'a [u8]) -> Result<IssuerSerial<'a>, Error> {
+        struct_by_der(alloc, octets)
+    }
+}
+
+/// The certificate at the front of the octets, and what follows it.
+pub fn read_hashed_certificate<'a>(
+    alloc: Global,
+    octets: &'a [u8],
+) -> ParseResult<'a, HashedCertificate<'a>, Error>
+    ensures { ReadsByDer ⟦<HashedCertificate<'a> as Grammar>⟧.grammar octets.now (seen result) }
+{
+    read_der::<HashedCertificate<'a>, Error>(alloc, octets)
+}
+
+/// The one strict encoding of a certificate in DER form, which leaves out the algorithm where it is SHA-256 without
+/// parameters. Where its length fits `usize`, it is refused only when out of memory.
+pub fn hashed_certificate_vec(
+    alloc: Global,
+    certificate: &HashedCertificate<'_>,
+) -> SerializeResult<Vec<u8>>
+    ensures { ⟦<HashedCertificate<'static> as Grammar>⟧.grammar.IsDer
+        (⟦<HashedCertificate<'static> as Grammar>⟧.grammar.value certificate.now) →
+        WritesStrict ⟦<HashedCertificate<'static> as Grammar>⟧.grammar
+        ⟦<HashedCertificate<'static> as ToDer>⟧.writing certificate.now result }
+{
+    strict_vec(alloc, certificate)
+}
