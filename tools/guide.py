@@ -1,5 +1,5 @@
 #!/usr/bin/env python3
-"""Looks whether the code of the guides stands in the crates, which the gate proves and tests.
+"""Looks whether the code of the pages stands in the crates, which the gate proves and tests.
 
 Each block of Rust in README.md and docs/*.md must stand line for line in one file of src/ of asn1_rs_uses, of its
 tests, of the crates of messages, of the tests of asn1_rs_messages or of asn1_rs, and each block of definitions in one
@@ -44,7 +44,7 @@ def main():
                 place = f"{PLACES[block[1]]} of {' or '.join(CRATES)}"
                 print(f"{page.relative_to(TOP)}:{line}: this block stands in no {place}")
                 faults += 1
-    print(f"{blocks - faults} of {blocks} blocks of the guides stand in the crates")
+    print(f"{blocks - faults} of {blocks} blocks of the pages stand in the crates")
     sys.exit(1 if faults else 0)
 
 

@@ -9,15 +9,15 @@ tools/pages.py definitions [WORD ..]   each definition in specs/ (outside specs/
 tools/pages.py functions [CRATE ..]    each public function outside impls and traits, with the names of its clauses and
                                        its comment
 tools/pages.py words                   the words of each page beside its budget, and its sentences of more than 25
-                                       words; status 1 where a page is above its budget, or one sentence in twenty is
-                                       too long
+                                       words; status 1 where a page is above its budget, more than one sentence in
+                                       twenty is too long, or a page links to a file that is not there
 
 A word is looked for anywhere, in either case; `=Exactly` is that name alone. A name counts where its file has it by
 `use` or `ghost use`. Functions that are not `pub`, and tests, are left out.
 
 Words are counted as `wc -w` counts them, with code and tables. A sentence ends at `.`, `?` or `!` before a space, and
 where a paragraph, an item of a list or a cell of a table ends. In a sentence what stands between backticks is one word,
-and so is a link. Blocks of code have no sentences.
+and so is a link. Blocks of code have no sentences, and four words or fewer are none.
 """
 import functools
 import pathlib
@@ -165,7 +165,7 @@ def sentences(text):
     text = re.sub(r"`[^`\n]+`", "code", text)
     text = re.sub(r"\[([^\]\n]*)\]\([^)\n]*\)", "link", text)
     for part in re.split(r"\n\s*\n|\n *(?:[-*]|\d+\.) |\|", text):
-        yield from filter(None, (it.strip() for it in re.split(r"(?<=[.?!])[)\"*]*\s", part.strip())))
+        yield from (it for it in re.split(r"(?<=[.?!])[)\"*]*\s", part.strip()) if len(it.split()) > 4)
 
 
 def words(_):
@@ -182,6 +182,8 @@ def words(_):
             faults.append(f"{name}: {count - most} words above its budget")
         if name not in OLDER and len(long) * 20 > len(said):
             faults += [f"{name}: {len(it.split())} words: {' '.join(it.split())}" for it in long]
+        targets = re.findall(r"\]\((?!\w+:)([^)#\s]+)", read(path))
+        faults += [f"{name}: there is no {it}, to which it links" for it in targets if not (path.parent / it).exists()]
     if rest > OF_THE_REST:
         faults.append(f"all other pages: {rest - OF_THE_REST} words above their budget")
     print("\n".join(faults) or "each page is within its budget")
