@@ -1,9 +1,9 @@
 #!/usr/bin/env python3
 """Looks whether the code of the pages stands in the crates, which the gate proves and tests.
 
-Each block of Rust in README.md and docs/*.md must stand line for line in one file of src/ of asn1_rs_uses, of its
-tests, of the crates of messages, of the tests of asn1_rs_messages or of asn1_rs, and each block of definitions in one
-file of their specs/. A block that does not has a line that names it, and then this ends with status 1.
+Each block of Rust in README.md, in docs/*.md and in the `//!` lines of a crate must stand line for line in one file of
+src/ of the crates below, and each block of definitions in one file of their specs/. A block that does not has a line
+that names it, and then this ends with status 1.
 """
 import pathlib
 import re
@@ -35,8 +35,10 @@ def sources(places):
 def main():
     texts = {language: sources(places) for language, places in PLACES.items()}
     blocks = faults = 0
-    for page in [TOP / "README.md", *sorted((TOP / "docs").glob("*.md"))]:
+    for page in [TOP / "README.md", *sorted((TOP / "docs").glob("*.md")), *sorted(TOP.glob("crates/*/src/lib.rt"))]:
         text = page.read_text(encoding="utf-8")
+        if page.suffix == ".rt":
+            text = re.sub(r"^//! ?", "", re.sub(r"^(?!//!).*$", "", text, flags=re.M), flags=re.M)
         for block in BLOCK.finditer(text):
             blocks += 1
             if not any(block[2] in source for source in texts[block[1]]):

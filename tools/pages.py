@@ -150,12 +150,20 @@ BUDGETS = {
     "docs/DECISIONS.md": 1500,
     "docs/DIFFERENCES.md": 1700,
     "docs/SPEED.md": 900,
+    "crates/x690/src/lib.rt": 300,
+    "crates/asn1_headers/src/lib.rt": 300,
+    "crates/asn1_rs/src/lib.rt": 300,
 }
 # Pages in their older form, at the size that they have; their sentences are shown and not judged.
 OLDER = {"CONTRIBUTING.md": 500, "docs/CLAIMS.md": 6900, "docs/MUTANTS.md": 1400, "docs/GATE.md": 1000}
 # The page of a crate, and all other pages together.
 OF_A_CRATE, OF_THE_REST = 700, 1500
 LONGEST = 25
+
+
+def page(path):
+    """The text of a page, which of a source is in its `//!` lines."""
+    return read(path) if path.suffix == ".md" else "\n".join(re.findall(r"^//! ?(.*)$", read(path), re.M))
 
 
 def sentences(text):
@@ -170,10 +178,11 @@ def sentences(text):
 
 def words(_):
     paths = [*TOP.glob("*.md"), *sorted((TOP / "docs").glob("*.md")), *sorted((TOP / "crates").glob("*/*.md"))]
+    paths += [TOP / name for name in BUDGETS if name.endswith(".rt")]
     names = [str(path.relative_to(TOP)) for path in paths]
     faults, rest = [f"{name}: there is no such page" for name in (BUDGETS | OLDER).keys() - set(names)], 0
     for path, name in zip(paths, names):
-        count, said = len(read(path).split()), list(sentences(read(path)))
+        count, said = len(page(path).split()), list(sentences(page(path)))
         long = [it for it in said if len(it.split()) > LONGEST]
         most = (BUDGETS | OLDER).get(name, OF_A_CRATE if name.startswith("crates/") else None)
         rest += count if most is None else 0
@@ -182,7 +191,7 @@ def words(_):
             faults.append(f"{name}: {count - most} words above its budget")
         if name not in OLDER and len(long) * 20 > len(said):
             faults += [f"{name}: {len(it.split())} words: {' '.join(it.split())}" for it in long]
-        targets = re.findall(r"\]\((?!\w+:)([^)#\s]+)", read(path))
+        targets = re.findall(r"\]\((?!\w+:)([^)#\s]+)", page(path))
         faults += [f"{name}: there is no {it}, to which it links" for it in targets if not (path.parent / it).exists()]
     if rest > OF_THE_REST:
         faults.append(f"all other pages: {rest - OF_THE_REST} words above their budget")
