@@ -23,6 +23,8 @@ CRATES = [
     "asn1_rs_ldap_messages",
     "asn1_rs_messages_tests",
     "asn1_rs",
+    "asn1_headers",
+    "x690",
 ]
 
 
