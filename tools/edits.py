@@ -270,7 +270,7 @@ def main(*words):
             sys.exit(__doc__)
         for claim in found:
             if not words[1:] or any(word in claim.name for word in words[1:]):
-                print("\n  ".join([claim.name, *map(str, of[claim.name])]))
+                print("\n  ".join([claim.name, *(f"{it}{', at each landing' * it.at_landing}" for it in of[claim.name])]))
         return 0
     texts = {folder.name: sources_of(folder.name) for folder in TOP.glob("crates/*")}
     code = " ".join(re.sub(r"//.*", "", text) for its in texts.values() for text in its.values())
