@@ -4,7 +4,7 @@
   tools/edits.py                     checks; each fault has a line, and then this ends with status 1
   tools/edits.py --claims [WORD ..]  prints the edits of each claim, or of those whose names hold one of the words
 
-docs/MUTANTS.md says how an edit is written. It applies where each old text stands exactly once in its file, or behind
+CONTRIBUTING.md says how an edit is written. It applies where each old text stands exactly once in its file, or behind
 the line of 'within:', and where the edit changes something. An edit that names what there is not can't compile, and
 judges nothing. So each function and method that a new text calls stands in a source, in the edit itself, or in OF_STD.
 
