@@ -3,9 +3,10 @@
 another list, or names one there before a function that it calls. A function that calls itself, directly or through
 others, has no such place: so no octets make a reader recurse.
 
-It goes by names: a function calls each one whose name stands before a bracket in its body, in the sources below. Two
-functions of one name count as one, so a cycle that it tells may be none; one that is there is told. Closures stand in
-the body that makes them. The names in OF_STD are those of calls of std there, though a method of ours has them too.
+It goes by names: a function calls each one whose name stands before a bracket in its body, in the sources below, or is
+handed on there, as in `map(read)`. Two functions of one name count as one, so a cycle that it tells may be none; one
+that is there is told. Closures stand in the body that makes them. The names in OF_STD are those of calls of std there,
+though a method of ours has them too.
 """
 import pathlib
 import re
@@ -19,6 +20,10 @@ OF_STD = {"len", "new", "from"}
 COMMENT = re.compile(r"//[^\n]*")
 CLAUSE = re.compile(r"\b(?:requires|ensures|invariant|decreases)\b[\w\s]*$")
 CALL = re.compile(r"(?<!fn )\b(\w+)(?:::<[^;(){}]*>)?\(")
+# An argument that is a name alone, which is a function's where the function does not bind it: by `let`, as a parameter,
+# in an arm, in a closure or by `for`.
+ALONE = re.compile(r"(?<=[(,])\s*(?:\w+::)*(\w+)(?:::<[^;(){}]*>)?\s*(?=[,)])")
+BOUND = re.compile(r"\blet\b([^=;]*)[=;]|(\w+)\s*:(?!:)|([^{};]*)=>|\|([^|]*)\||\bfor\b(.*?)\bin\b")
 # The lines of the page's list.
 LISTED = re.compile(r"`tools/calls.py`[^\n]*\n\n((?:\d\. [^\n]*\n)+)")
 
@@ -40,7 +45,10 @@ def calls(text):
         at = begin = found.end()
         while text[at] not in "{;" or CLAUSE.search(text[begin:at]) or text[begin:at].count("[") > text[begin:at].count("]"):
             at = end_of_block(text, at) if text[at] == "{" else at + 1
-        yield found[1], CALL.findall(text[at:end_of_block(text, at)]) if text[at] == "{" else []
+        end = end_of_block(text, at)
+        bound = re.findall(r"\w+", " ".join(word for it in BOUND.findall(text[begin:end]) for word in it))
+        handed = set(ALONE.findall(text[at:end])).difference(bound)
+        yield found[1], [*CALL.findall(text[at:end]), *handed] if text[at] == "{" else []
 
 
 def main():

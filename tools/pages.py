@@ -6,6 +6,8 @@ tools/pages.py modules [CRATE]         each crate, and in it each module with it
 tools/pages.py definitions [WORD ..]   each definition in specs/ (outside specs/Laws) whose name or comment holds
                                        one of the words: its file, its comment, the calls and ghost members whose
                                        contracts name it, and the definitions that do
+tools/pages.py claims [WORD ..]        the rows of docs/claims.tsv that hold one of the words: what is claimed, by which
+                                       clauses of which calls
 tools/pages.py functions [CRATE ..]    each public function outside impls and traits, with the names of its clauses and
                                        its comment
 tools/pages.py words                   the words of each page beside its budget, and its sentences of more than 25
@@ -138,6 +140,18 @@ def functions(names):
                 print(f"  {' '.join(said.replace('///', '').split())}")
 
 
+def claims(sought):
+    section = ""
+    for row in read(TOP / "docs/claims.tsv").splitlines()[1:]:
+        if not sought or any(word in row for word in sought):
+            under, name, why_none, clauses, calls, says = row.split("\t")
+            if under != section:
+                section = under
+                print(section)
+            named = name + f" ({why_none})" * bool(why_none) + f" by {clauses}" * bool(clauses)
+            print(f"  {' '.join(filter(None, [named, f'of {calls}' * bool(calls)]))}{':' * bool(name and says)} {says}".rstrip())
+
+
 # The most words of each page.
 BUDGETS = {
     "README.md": 1200,
@@ -150,12 +164,11 @@ BUDGETS = {
     "docs/DECISIONS.md": 1500,
     "docs/DIFFERENCES.md": 1700,
     "docs/SPEED.md": 900,
+    "CONTRIBUTING.md": 1500,
     "crates/x690/src/lib.rt": 300,
     "crates/asn1_headers/src/lib.rt": 300,
     "crates/asn1_rs/src/lib.rt": 300,
 }
-# Pages in their older form, at the size that they have; their sentences are shown and not judged.
-OLDER = {"CONTRIBUTING.md": 500, "docs/CLAIMS.md": 6900, "docs/MUTANTS.md": 1400, "docs/GATE.md": 1000}
 # The page of a crate, and all other pages together.
 OF_A_CRATE, OF_THE_REST = 700, 1500
 LONGEST = 25
@@ -180,16 +193,16 @@ def words(_):
     paths = [*TOP.glob("*.md"), *sorted((TOP / "docs").glob("*.md")), *sorted((TOP / "crates").glob("*/*.md"))]
     paths += [TOP / name for name in BUDGETS if name.endswith(".rt")]
     names = [str(path.relative_to(TOP)) for path in paths]
-    faults, rest = [f"{name}: there is no such page" for name in (BUDGETS | OLDER).keys() - set(names)], 0
+    faults, rest = [f"{name}: there is no such page" for name in BUDGETS.keys() - set(names)], 0
     for path, name in zip(paths, names):
         count, said = len(page(path).split()), list(sentences(page(path)))
         long = [it for it in said if len(it.split()) > LONGEST]
-        most = (BUDGETS | OLDER).get(name, OF_A_CRATE if name.startswith("crates/") else None)
+        most = BUDGETS.get(name, OF_A_CRATE if name.startswith("crates/") else None)
         rest += count if most is None else 0
         print(f"{name}: {count} words of {most or OF_THE_REST}, {len(long)} of {len(said)} sentences are too long")
         if most and count > most:
             faults.append(f"{name}: {count - most} words above its budget")
-        if name not in OLDER and len(long) * 20 > len(said):
+        if len(long) * 20 > len(said):
             faults += [f"{name}: {len(it.split())} words: {' '.join(it.split())}" for it in long]
         targets = re.findall(r"\]\((?!\w+:)([^)#\s]+)", page(path))
         faults += [f"{name}: there is no {it}, to which it links" for it in targets if not (path.parent / it).exists()]
@@ -201,6 +214,6 @@ def words(_):
 
 if __name__ == "__main__":
     signal.signal(signal.SIGPIPE, signal.SIG_DFL)
-    if sys.argv[1:2] not in (["modules"], ["definitions"], ["functions"], ["words"]):
+    if sys.argv[1:2] not in (["modules"], ["definitions"], ["functions"], ["claims"], ["words"]):
         sys.exit(__doc__)
     globals()[sys.argv[1]](sys.argv[2:])
