@@ -5,7 +5,3 @@
 mod cut;
 #[cfg(test)]
 mod growths;
-#[cfg(test)]
-mod names;
-#[cfg(test)]
-mod writing;
