@@ -1,9 +1,9 @@
 #!/usr/bin/env python3
 """Looks whether the code of the guides stands in the crates, which the gate proves and tests.
 
-Each block of Rust in README.md and docs/*.md must stand line for line in one file of src/ of asn1_rs_uses, of its
-tests, of the crates of messages, of the tests of asn1_rs_messages or of asn1_rs, and each block of definitions in one
-file of their specs/. A block that does not has a line that names it, and then this ends with status 1.
+Each block of Rust in README.md and docs/*.md must stand line for line in one file of src/ of asn1_rs_uses, of the
+crates of messages or of asn1_rs, or of tests_messages, and each block of definitions in one file of their specs/. A
+block that does not has a line that names it, and then this ends with status 1.
 """
 import pathlib
 import re
@@ -14,14 +14,12 @@ BLOCK = re.compile(r"^```(rust|antt)\n(.*?)^```$", re.M | re.S)
 PLACES = {"rust": "src/**/*.rt", "antt": "specs/**/*.antt"}
 CRATES = [
     "asn1_rs_uses",
-    "asn1_rs_uses_tests",
     "asn1_rs_messages",
     "asn1_rs_kerberos",
     "asn1_rs_snmp",
     "asn1_rs_snmp_messages",
     "asn1_rs_ldap",
     "asn1_rs_ldap_messages",
-    "asn1_rs_messages_tests",
     "asn1_rs",
 ]
 
@@ -29,6 +27,7 @@ CRATES = [
 def sources(places):
     """The texts of the files of these places in the crates."""
     paths = [path for name in CRATES for path in sorted((TOP / "crates" / name).glob(places))]
+    paths += sorted((TOP / "tests" / "tests_messages").rglob("*.rt.txt"))
     return [path.read_text(encoding="utf-8") for path in paths]
 
 

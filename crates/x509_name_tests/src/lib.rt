@@ -1,7 +1,0 @@
-//! Tests of `x509_name`.
-#![tactic(auto)]
-
-#[cfg(test)]
-mod cut;
-#[cfg(test)]
-mod growths;
