@@ -27,95 +27,44 @@ mod stream;
 mod tagged_octets;
 mod version;
 
-pub use borrowed::any_text;
-pub use borrowed::contents_octets;
-pub use borrowed::items_of;
-pub use borrowed::read_bit_string;
-pub use borrowed::read_integer;
-pub use borrowed::read_octet_string;
-pub use borrowed::read_octets;
-pub use borrowed::read_sequence;
-pub use borrowed::read_utf8_string;
-pub use by_bounds::count_all;
-pub use by_bounds::read_by_bound;
-pub use field_reader::PrincipalName;
-pub use field_reader::Under;
-pub use fingerprint::Fingerprint;
-pub use fingerprint::number_of_fingerprints;
-pub use handle::Handle;
-pub use handle::Place;
-pub use handle::read_handle;
-pub use identifiers::arcs_found_again;
-pub use identifiers::identifiers_are_hashed_alike;
-pub use identifiers::is_of_rsa;
-pub use identifiers::read_oid;
-pub use incomplete::read_element;
-pub use incomplete::read_header;
-pub use items::count_of_numbers;
-pub use items::elements_in;
-pub use items::items_in;
-pub use items::numbers_in;
-pub use joined::check_numbers;
-pub use joined::numbers_of;
-pub use joined::set_of_numbers;
-pub use labels::Directory;
-pub use labels::EachCall;
-pub use labels::GeneralString;
-pub use labels::Headed;
-pub use labels::Label;
-pub use labels::Labels;
-pub use labels::by_each_call;
-pub use labels::count_label;
-pub use labels::directory_by_each_call;
-pub use labels::headed_by_each_call;
-pub use labels::label_vec;
-pub use labels::labels_by_each_call;
-pub use labels::prepend_label;
-pub use labels::write_label;
-pub use levels::Level;
-pub use levels::LevelError;
-pub use levels::levels_under_tags_are_exact;
-pub use midnight::count_midnight;
-pub use midnight::first_second;
-pub use midnight::write_midnight;
-pub use numbers::count_number;
-pub use numbers::is_same_number;
-pub use numbers::is_strict_front;
-pub use numbers::read_number;
-pub use numbers::read_number_by_ber;
-pub use numbers::write_number;
+pub use borrowed::{
+    any_text, contents_octets, items_of, read_bit_string, read_integer, read_octet_string,
+    read_octets, read_sequence, read_utf8_string,
+};
+pub use by_bounds::{count_all, read_by_bound};
+pub use field_reader::{PrincipalName, Under};
+pub use fingerprint::{Fingerprint, number_of_fingerprints};
+pub use handle::{Handle, Place, read_handle};
+pub use identifiers::{arcs_found_again, identifiers_are_hashed_alike, is_of_rsa, read_oid};
+pub use incomplete::{read_element, read_header};
+pub use items::{count_of_numbers, elements_in, items_in, numbers_in};
+pub use joined::{check_numbers, numbers_of, set_of_numbers};
+pub use labels::{
+    Directory, EachCall, GeneralString, Headed, Label, Labels, by_each_call, count_label,
+    directory_by_each_call, headed_by_each_call, label_vec, labels_by_each_call, prepend_label,
+    write_label,
+};
+pub use levels::{Level, LevelError, levels_under_tags_are_exact};
+pub use midnight::{count_midnight, first_second, write_midnight};
+pub use numbers::{
+    count_number, is_same_number, is_strict_front, read_number, read_number_by_ber, write_number,
+};
 pub use point::Point;
 pub use read_back::written_and_read;
-pub use refusals::InClass;
-pub use refusals::NamePart;
-pub use refusals::count_name;
-pub use refusals::vector_in_class;
-pub use refusals::write_header_in_class;
-pub use refusals::write_in_class;
-pub use refusals::write_list_in_classes;
-pub use refusals::write_name;
-pub use refusals::write_ordered_set_in_classes;
-pub use refusals::write_raw_in_class;
-pub use refusals::write_set_in_classes;
-pub use row::Row;
-pub use row::row_of_numbers;
-pub use sequences::read_numbers;
-pub use sequences::write_numbers;
+pub use refusals::{
+    InClass, NamePart, count_name, vector_in_class, write_header_in_class, write_in_class,
+    write_list_in_classes, write_name, write_ordered_set_in_classes, write_raw_in_class,
+    write_set_in_classes,
+};
+pub use row::{Row, row_of_numbers};
+pub use sequences::{read_numbers, write_numbers};
 pub use serial_number::SerialNumber;
-pub use sets::are_same_counted;
-pub use sets::read_counted;
-pub use sets::read_distinct;
-pub use sets::read_signed;
-pub use sets::write_counted;
-pub use sets::write_distinct;
-pub use sets::write_signed;
+pub use sets::{
+    are_same_counted, read_counted, read_distinct, read_signed, write_counted, write_distinct,
+    write_signed,
+};
 pub use stream::next_message;
-pub use tagged_octets::octets_handed_on;
-pub use tagged_octets::octets_handed_under;
-pub use tagged_octets::octets_under;
-pub use tagged_octets::optional_octets;
-pub use tagged_octets::string_under;
-pub use version::Field;
-pub use version::Version;
-pub use version::numbers_of_versions;
-pub use version::read_version;
+pub use tagged_octets::{
+    octets_handed_on, octets_handed_under, octets_under, optional_octets, string_under,
+};
+pub use version::{Field, Version, numbers_of_versions, read_version};
