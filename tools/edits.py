@@ -1,16 +1,15 @@
 #!/usr/bin/env python3
-"""Reads the edits, and looks whether they apply to the sources, and whether they and docs/CLAIMS.md name one another.
+"""Reads the edits, and looks whether they apply to the sources, and whether they and docs/claims.tsv name one another.
 
   tools/edits.py                     checks; each fault has a line, and then this ends with status 1
   tools/edits.py --claims [WORD ..]  prints the edits of each claim, or of those whose names hold one of the words
 
-docs/MUTANTS.md says how an edit is written. It applies where each old text stands exactly once in its file, or behind
+CONTRIBUTING.md says how an edit is written. It applies where each old text stands exactly once in its file, or behind
 the line of 'within:', and where the edit changes something. An edit that names what there is not can't compile, and
 judges nothing. So each function and method that a new text calls stands in a source, in the edit itself, or in OF_STD.
 
-A claim of docs/CLAIMS.md is a name in bold, or several with commas between; behind it, in brackets, stand clauses, or
-what one cites (a ghost member, a definition, a trait, a function). It has an edit, or says behind its name with one of
-MARKS why there is none; those below the line 'Laws:' need neither.
+A row of docs/claims.tsv has the names of claims, with commas between. A claim has an edit, or its row says why there is
+none. Each clause of a row is one, or what a clause cites (a ghost member, a definition, a trait, a function).
 """
 import pathlib
 import re
@@ -197,15 +196,11 @@ NAMED = {
     "src/**/*.rt": r"(?:ensures|requires|ghost|fn|trait|struct|enum)\*? ([\w-]+)",
     "specs/**/*.antt": r"^(?:abbrev pub|unfoldable pub|pub record|pub data|pub) ([\w-]+)",
 }
-# Why a claim has no edit: there is no code to turn.
-MARKS = re.compile(r" \((?:law|condition|derived|one body)\)$")
-BOLD = re.compile(r"\*\*([^*]+)\*\*(?: \(([^()]*)\))?")
-QUOTED = re.compile(r"`([^`]+)`")
 CLAIM = re.compile(r"[a-z0-9]+(?:-[a-z0-9]+)*")
 
 
 class Claim(NamedTuple):
-    """One claim of docs/CLAIMS.md."""
+    """One claim of docs/claims.tsv."""
 
     place: str
     name: str
@@ -214,14 +209,12 @@ class Claim(NamedTuple):
 
 
 def claims():
-    """Returns the claims of docs/CLAIMS.md."""
-    found, is_law = [], False
-    for number, line in enumerate((TOP / "docs/CLAIMS.md").read_text(encoding="utf-8").split("\n"), 1):
-        is_law = line == "Laws:" or is_law and not line.startswith("#")
-        for names, brackets in BOLD.findall(line):
-            for name in names.split(", "):
-                may_have_none = is_law or bool(MARKS.search(name))
-                found.append(Claim(f"docs/CLAIMS.md:{number}", MARKS.sub("", name), QUOTED.findall(brackets), may_have_none))
+    """Returns the claims of docs/claims.tsv, whose first line has the names of the columns."""
+    found, rows = [], (TOP / "docs/claims.tsv").read_text(encoding="utf-8").splitlines()
+    for number, row in enumerate(rows[1:], 2):
+        _, names, why_none, clauses, _, _ = row.split("\t")
+        for name in filter(None, names.split(", ")):
+            found.append(Claim(f"docs/claims.tsv:{number}", name, [it for it in clauses.split(", ") if it], bool(why_none)))
     return found
 
 
@@ -239,7 +232,7 @@ def faults_of(edit, texts, names, words):
     if edit.kind == "mutants" and not edit.is_at_home():
         yield f"it stands in another file than that of the module of {edit.changes[0].file}"
     for name in set(edit.claims) - names:
-        yield f"docs/CLAIMS.md has no claim {name}"
+        yield f"docs/claims.tsv has no claim {name}"
     olds, news = " ".join(it.old for it in edit.changes), " ".join(it.new for it in edit.changes)
     for name in sorted(set(CALL.findall(news)) - words - OF_STD - set(WORD.findall(olds)) - set(DEFINED.findall(news))):
         yield f"it calls {name}, which no source has"

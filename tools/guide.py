@@ -1,9 +1,9 @@
 #!/usr/bin/env python3
-"""Looks whether the code of the guides stands in the crates, which the gate proves and tests.
+"""Looks whether the code of the pages stands in the crates, which the gate proves and tests.
 
-Each block of Rust in README.md and docs/*.md must stand line for line in one file of src/ of asn1_rs_uses, of its
-tests, of the crates of messages, of the tests of asn1_rs_messages or of asn1_rs, and each block of definitions in one
-file of their specs/. A block that does not has a line that names it, and then this ends with status 1.
+Each block of Rust in README.md, in docs/*.md and in the `//!` lines of a crate must stand line for line in one file of
+src/ of the crates below, and each block of definitions in one file of their specs/. A block that does not has a line
+that names it, and then this ends with status 1.
 """
 import pathlib
 import re
@@ -23,6 +23,8 @@ CRATES = [
     "asn1_rs_ldap_messages",
     "asn1_rs_messages_tests",
     "asn1_rs",
+    "asn1_headers",
+    "x690",
 ]
 
 
@@ -35,8 +37,10 @@ def sources(places):
 def main():
     texts = {language: sources(places) for language, places in PLACES.items()}
     blocks = faults = 0
-    for page in [TOP / "README.md", *sorted((TOP / "docs").glob("*.md"))]:
+    for page in [TOP / "README.md", *sorted((TOP / "docs").glob("*.md")), *sorted(TOP.glob("crates/*/src/lib.rt"))]:
         text = page.read_text(encoding="utf-8")
+        if page.suffix == ".rt":
+            text = re.sub(r"^//! ?", "", re.sub(r"^(?!//!).*$", "", text, flags=re.M), flags=re.M)
         for block in BLOCK.finditer(text):
             blocks += 1
             if not any(block[2] in source for source in texts[block[1]]):
@@ -44,7 +48,7 @@ def main():
                 place = f"{PLACES[block[1]]} of {' or '.join(CRATES)}"
                 print(f"{page.relative_to(TOP)}:{line}: this block stands in no {place}")
                 faults += 1
-    print(f"{blocks - faults} of {blocks} blocks of the guides stand in the crates")
+    print(f"{blocks - faults} of {blocks} blocks of the pages stand in the crates")
     sys.exit(1 if faults else 0)
 
 

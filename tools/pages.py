@@ -1,16 +1,25 @@
 #!/usr/bin/env python3
-"""Prints what the files of the crates say of themselves, so that no page has to say it again.
+"""Prints what the files of the crates say of themselves, so that no page has to say it again, and counts the pages' words.
 
 tools/pages.py modules [CRATE]         each crate, and in it each module with its `//!` lines, and each file of
                                        definitions with its first comment; a module stands behind those it uses
 tools/pages.py definitions [WORD ..]   each definition in specs/ (outside specs/Laws) whose name or comment holds
                                        one of the words: its file, its comment, the calls and ghost members whose
                                        contracts name it, and the definitions that do
+tools/pages.py claims [WORD ..]        the rows of docs/claims.tsv that hold one of the words: what is claimed, by which
+                                       clauses of which calls
 tools/pages.py functions [CRATE ..]    each public function outside impls and traits, with the names of its clauses and
                                        its comment
+tools/pages.py words                   the words of each page beside its budget, and its sentences of more than 25
+                                       words; status 1 where a page is above its budget, more than one sentence in
+                                       twenty is too long, or a page links to a file that is not there
 
 A word is looked for anywhere, in either case; `=Exactly` is that name alone. A name counts where its file has it by
 `use` or `ghost use`. Functions that are not `pub`, and tests, are left out.
+
+Words are counted as `wc -w` counts them, with code and tables. A sentence ends at `.`, `?` or `!` before a space, and
+where a paragraph, an item of a list or a cell of a table ends. In a sentence what stands between backticks is one word,
+and so is a link. Blocks of code have no sentences, and four words or fewer are none.
 """
 import functools
 import pathlib
@@ -131,8 +140,80 @@ def functions(names):
                 print(f"  {' '.join(said.replace('///', '').split())}")
 
 
+def claims(sought):
+    section = ""
+    for row in read(TOP / "docs/claims.tsv").splitlines()[1:]:
+        if not sought or any(word in row for word in sought):
+            under, name, why_none, clauses, calls, says = row.split("\t")
+            if under != section:
+                section = under
+                print(section)
+            named = name + f" ({why_none})" * bool(why_none) + f" by {clauses}" * bool(clauses)
+            print(f"  {' '.join(filter(None, [named, f'of {calls}' * bool(calls)]))}{':' * bool(name and says)} {says}".rstrip())
+
+
+# The most words of each page.
+BUDGETS = {
+    "README.md": 1200,
+    "docs/GUIDE.md": 3200,
+    "docs/EXTENDING.md": 1800,
+    "docs/STANDARD.md": 1300,
+    "docs/TRUST.md": 1000,
+    "docs/DEFINITIONS.md": 1600,
+    "docs/ARCHITECTURE.md": 1300,
+    "docs/DECISIONS.md": 1500,
+    "docs/DIFFERENCES.md": 1700,
+    "docs/SPEED.md": 900,
+    "CONTRIBUTING.md": 1500,
+    "crates/x690/src/lib.rt": 300,
+    "crates/asn1_headers/src/lib.rt": 300,
+    "crates/asn1_rs/src/lib.rt": 300,
+}
+# The page of a crate, and all other pages together.
+OF_A_CRATE, OF_THE_REST = 700, 1500
+LONGEST = 25
+
+
+def page(path):
+    """The text of a page, which of a source is in its `//!` lines."""
+    return read(path) if path.suffix == ".md" else "\n".join(re.findall(r"^//! ?(.*)$", read(path), re.M))
+
+
+def sentences(text):
+    """The sentences of a page."""
+    text = re.sub(r"^```.*?^```$|<!--.*?-->", "", text, flags=re.M | re.S)
+    text = re.sub(r"^(?: {4,}\S|#|\|[-|: ]+$).*$", "", text, flags=re.M)
+    text = re.sub(r"`[^`\n]+`", "code", text)
+    text = re.sub(r"\[([^\]\n]*)\]\([^)\n]*\)", "link", text)
+    for part in re.split(r"\n\s*\n|\n *(?:[-*]|\d+\.) |\|", text):
+        yield from (it for it in re.split(r"(?<=[.?!])[)\"*]*\s", part.strip()) if len(it.split()) > 4)
+
+
+def words(_):
+    paths = [*TOP.glob("*.md"), *sorted((TOP / "docs").glob("*.md")), *sorted((TOP / "crates").glob("*/*.md"))]
+    paths += [TOP / name for name in BUDGETS if name.endswith(".rt")]
+    names = [str(path.relative_to(TOP)) for path in paths]
+    faults, rest = [f"{name}: there is no such page" for name in BUDGETS.keys() - set(names)], 0
+    for path, name in zip(paths, names):
+        count, said = len(page(path).split()), list(sentences(page(path)))
+        long = [it for it in said if len(it.split()) > LONGEST]
+        most = BUDGETS.get(name, OF_A_CRATE if name.startswith("crates/") else None)
+        rest += count if most is None else 0
+        print(f"{name}: {count} words of {most or OF_THE_REST}, {len(long)} of {len(said)} sentences are too long")
+        if most and count > most:
+            faults.append(f"{name}: {count - most} words above its budget")
+        if len(long) * 20 > len(said):
+            faults += [f"{name}: {len(it.split())} words: {' '.join(it.split())}" for it in long]
+        targets = re.findall(r"\]\((?!\w+:)([^)#\s]+)", page(path))
+        faults += [f"{name}: there is no {it}, to which it links" for it in targets if not (path.parent / it).exists()]
+    if rest > OF_THE_REST:
+        faults.append(f"all other pages: {rest - OF_THE_REST} words above their budget")
+    print("\n".join(faults) or "each page is within its budget")
+    sys.exit(1 if faults else 0)
+
+
 if __name__ == "__main__":
     signal.signal(signal.SIGPIPE, signal.SIG_DFL)
-    if sys.argv[1:2] not in (["modules"], ["definitions"], ["functions"]):
+    if sys.argv[1:2] not in (["modules"], ["definitions"], ["functions"], ["claims"], ["words"]):
         sys.exit(__doc__)
     globals()[sys.argv[1]](sys.argv[2:])

@@ -7,11 +7,11 @@ use Rattle.asn1_headers.specs.declared.error.Error.{Error}
 use Rattle.asn1_headers.specs.declared.error.SerializeError.{SerializeError}
 use Rattle.asn1_headers.specs.Prepended.{GrewByAnEnd}
 use Rattle.asn1_rs.proofs.Prepending.{vector_first, vector_second}
-use Rattle.asn1_rs.specs.Fields.{TakenFields, counted, collected, prepended, takes, LeavesAnEnd, PutsField}
-use Rattle.asn1_rs.specs.Fields.{FieldList, untold_fields, no_fields, field, TellsFields, fields_octets, FieldsRefuse}
+use Rattle.asn1_rs.specs.Fields.{TakenFields, counted, prepended, takes, LeavesAnEnd, PutsField}
+use Rattle.asn1_rs.specs.Fields.{FieldList, no_fields, field, TellsFields, fields_octets, FieldsRefuse}
 use Rattle.asn1_rs.specs.Fields.{FieldsRefuseCount}
-use Rattle.asn1_rs.specs.Laws.Structs.Writing.{puts_of_row}
-use Rattle.asn1_rs.specs.Structs.{PutList, puts_of, PutsAll, fields_by}
+use Rattle.asn1_rs.specs.Laws.Structs.Writing.{puts_struct}
+use Rattle.asn1_rs.specs.Structs.{puts_of, PutsAll, fields_by}
 use Rattle.asn1_rs.specs.ToDer.{Writing, Either, VectorRefuses, whole_octets, whole_refuses}
 
 -- what was put before the octets of a buffer
@@ -44,7 +44,6 @@ none_put old new answer is same = subst (PutBack [] (λ _. ⊥) (λ _. ⊥) old 
 left_there : (o m : List ℕ) (new : TakenFields) → LeavesAnEnd o (prepended m) new →
     (n : List ℕ) × (new ≡ prepended n) × GrewByAnEnd o m n
 left_there o m (counted n) h = absurd h
-left_there o m (collected n) h = absurd h
 left_there o m (prepended n) h = (n, refl, h)
 
 module _ (o rest old : List ℕ) where
@@ -135,7 +134,6 @@ put_back : {S : Type 0} (fields : FieldList S) (x : S) (old : List ℕ) (new : T
     (answer : Result (Unit {0}) SerializeError) → TellsFields fields x →
     PutsAll (puts_of fields x) (prepended old) new answer →
     PutBack (fields_octets fields x) (FieldsRefuseCount fields x) (FieldsRefuse fields x) old new answer
-put_back untold_fields x old new answer t p = absurd t
 put_back no_fields x old new answer t p = none_put old new answer p.0 p.1
 put_back (field w of rest) x old new answer t p =
     let s = p.1 refl in
@@ -149,5 +147,4 @@ pub row_put_back : {S T : Type 0} (row : T → S) (list : FieldList S) (m : T) (
     (FieldsRefuseCount (fields_by row list) m) (FieldsRefuse (fields_by row list) m) old new answer
 row_put_back row list m old before new answer is t p =
     put_back (fields_by row list) m old new answer t
-    (subst (λ s. PutsAll (puts_of (fields_by row list) m) s new answer) is
-    (subst (λ (z : PutList). PutsAll z before new answer) (sym (puts_of_row row list m)) p))
+    (subst (λ s. PutsAll (puts_of (fields_by row list) m) s new answer) is (puts_struct row list m before new answer p))

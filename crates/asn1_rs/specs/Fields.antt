@@ -10,53 +10,46 @@ use Rattle.asn1_rs.specs.declared.kinds.fields.Taken.TheVariants as taken
 use Rattle.asn1_rs.specs.ToDer.{Writing, Either, IntoVector, RefusesCount, VectorRefuses, WrittenRefusal, whole_octets}
 use Rattle.asn1_rs.specs.ToDer.{whole_refuses}
 
--- What was taken of fields so far: the number of their octets, or the octets; or these before what a buffer held, with
--- all that stands in it.
+-- What was taken of fields so far: the number of their octets, or these before what a buffer held, with all that stands
+-- in it.
 pub data TakenFields : Type 0 where
   counted : ℕ → TakenFields
-  collected : List ℕ → TakenFields
   prepended : List ℕ → TakenFields
 
 abbrev pub taken_in : Fields → TakenFields
 taken_in x = elim x.taken as (λ _. TakenFields)
-    [ taken.Counted n ↦ counted n | taken.Collected a w ↦ collected w.inner.items | taken.Prepended a b ↦ prepended b ]
+    [ taken.Counted n ↦ counted n | taken.Prepended a b ↦ prepended b ]
 
 -- the octets that stand there
 abbrev pub standing : TakenFields → List ℕ
 standing (counted n) = []
-standing (collected o) = o
 standing (prepended o) = o
 
 -- the fields are taken from the last to the first
 abbrev pub goes_back : TakenFields → Bool
 goes_back (counted n) = false
-goes_back (collected o) = false
 goes_back (prepended o) = true
 
 -- the octets of one more field behind those before, or in front of them
 abbrev pub takes : List ℕ → TakenFields → TakenFields
 takes o (counted n) = counted (n + length o)
-takes o (collected p) = collected (p ++ o)
 takes o (prepended p) = prepended (o ++ p)
 
 -- where octets are put in front, a refusal leaves an end part of those of the field there
 abbrev pub LeavesAnEnd : List ℕ → TakenFields → TakenFields → Type 0
 LeavesAnEnd o (counted n) new = Unit {0}
-LeavesAnEnd o (collected p) new = Unit {0}
 LeavesAnEnd o (prepended p) (prepended q) = GrewByAnEnd o p q
 LeavesAnEnd o (prepended p) _ = ⊥
 
 -- Why a field of so many octets is refused: by its count, or since the sum of the counts is too long; or as a writing
--- into a vector is.
+-- before the octets of a buffer is.
 abbrev pub FieldRefusal : TakenFields → ℕ → (Error → Type 0) → (SerializeError → Type 0) → SerializeError → Type 0
 FieldRefusal (counted n) len counts writes e = WrittenRefusal (RefusesCount true (n + len) counts) e
-FieldRefusal (collected o) len counts writes e = VectorRefuses len writes e
 FieldRefusal (prepended o) len counts writes e = VectorRefuses (len + length o) writes e
 
 -- what refuses a field that is written: nothing in counting
 abbrev pub WritingRefuses : TakenFields → (SerializeError → Type 0) → SerializeError → Type 0
 WritingRefuses (counted n) writes e = ⊥
-WritingRefuses (collected o) writes e = writes e
 WritingRefuses (prepended o) writes e = writes e
 
 -- One field was put, or refused.
@@ -69,54 +62,32 @@ pub record PutsField {S : Type 0} (w : Writing S) (x : S) (old new : TakenFields
   pub uncounted : (e : Error) → w.tells x → w.count_refuses x e → IsErr answer
   pub accepted : (e : SerializeError) → w.tells x → WritingRefuses old (whole_refuses w x) e → IsErr answer
 
--- The fields of a type, in their order: how each is written, and how it is had of a value. Of untold fields nothing is
--- said.
+-- The fields of a type, in their order: how each is written, and how it is had of a value.
 pub data FieldList (S : Type 0) : Type 1 where
-  untold_fields : FieldList S
   no_fields : FieldList S
   field : {T : Type 0} → Writing T → (S → T) → FieldList S → FieldList S
 
 -- what is written is told of each field
 abbrev pub TellsFields : {S : Type 0} → FieldList S → S → Type 0
-TellsFields untold_fields x = ⊥
 TellsFields no_fields x = Unit {0}
 TellsFields (field w of rest) x = w.tells (of x) × TellsFields rest x
 
 -- the encodings of the fields, one after another
 abbrev pub fields_octets : {S : Type 0} → FieldList S → S → List ℕ
-fields_octets untold_fields x = []
 fields_octets no_fields x = []
 fields_octets (field w of rest) x = whole_octets w (of x) ++ fields_octets rest x
 
 -- the refusals of the fields' own, in counts and in writing
 abbrev pub FieldsRefuseCount : {S : Type 0} → FieldList S → S → Error → Type 0
-FieldsRefuseCount untold_fields x e = ⊥
 FieldsRefuseCount no_fields x e = ⊥
 FieldsRefuseCount (field w of rest) x e = Either (w.count_refuses (of x)) (FieldsRefuseCount rest x) e
 
 abbrev pub FieldsRefuse : {S : Type 0} → FieldList S → S → SerializeError → Type 0
-FieldsRefuse untold_fields x e = ⊥
 FieldsRefuse no_fields x e = ⊥
 FieldsRefuse (field w of rest) x e = Either (whole_refuses w (of x)) (FieldsRefuse rest x) e
 
--- The fields were put in their order; or those before one that was refused, and that refusal is the answer. What was
--- taken in between is tied by the puts. Nothing is said where they are to be taken from the last to the first.
-unfoldable pub PutsEach : {S : Type 0} → FieldList S → S → TakenFields → TakenFields →
-    Result (Unit {0}) SerializeError → Type 0
-PutsEach untold_fields x old new answer = Unit {0}
-PutsEach no_fields x old new answer = (answer ≡ Ok tt) × (new ≡ old)
-PutsEach (field w of rest) x old new answer = goes_back old ≡ false →
-    (mid : TakenFields) × (first : Result (Unit {0}) SerializeError) × PutsField w (of x) old mid first ×
-    MatchResult first (λ _. PutsEach rest x mid new answer) (λ e. answer ≡ Err e)
-
--- the same; of untold fields nothing is said
-abbrev pub Puts : {S : Type 0} → FieldList S → S → TakenFields → TakenFields → Result (Unit {0}) SerializeError → Type 0
-Puts untold_fields x old new answer = Unit {0}
-Puts no_fields x old new answer = PutsEach no_fields x old new answer
-Puts (field w of rest) x old new answer = PutsEach (field w of rest) x old new answer
-
--- A constructed element of the universal class, with this number, of the fields. Their octets stand in a vector or a
--- buffer first.
+-- A constructed element of the universal class, with this number, of the fields. Their octets stand in a buffer
+-- first.
 abbrev pub fields_writing : {S : Type 0} → ℕ → FieldList S → Writing S
 fields_writing number fields = record {
   tells = TellsFields fields;

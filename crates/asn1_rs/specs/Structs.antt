@@ -25,7 +25,7 @@ use Rattle.asn1_headers.specs.declared.error.SerializeError.{SerializeError}
 use Rattle.asn1_rs.specs.declared.asn1_types.any.Any.{Any}
 use Rattle.asn1_rs.specs.Any.{parts_of}
 use Rattle.asn1_rs.specs.FieldReader.{BecomesError}
-use Rattle.asn1_rs.specs.Fields.{FieldList, untold_fields, no_fields, field, TakenFields, goes_back, PutsField}
+use Rattle.asn1_rs.specs.Fields.{FieldList, no_fields, field, TakenFields, goes_back, PutsField}
 use Rattle.asn1_rs.specs.Grammar.{DerWord, NoCheck}
 use Rattle.asn1_rs.specs.Grammar.Form.{IsStrict, UniversalForm}
 use Rattle.asn1_rs.specs.Grammar.Item.{ItemGrammar, ber_words}
@@ -268,7 +268,6 @@ ReadsRow rules R octets (Err e) =
 
 -- the fields of what has this row
 abbrev pub fields_by : {S T : Type 0} → (S → T) → FieldList T → FieldList S
-fields_by row untold_fields = untold_fields
 fields_by row no_fields = no_fields
 fields_by row (field w of rest) = field w (λ x. of (row x)) (fields_by row rest)
 
@@ -283,7 +282,6 @@ pub data PutList : Type 1 where
 
 -- those of a value with these fields
 abbrev pub puts_of : {S : Type 0} → FieldList S → S → PutList
-puts_of untold_fields x = none_put
 puts_of no_fields x = none_put
 puts_of (field w of rest) x = put_then w (of x) (puts_of rest x)
 

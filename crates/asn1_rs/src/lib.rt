@@ -199,7 +199,6 @@ pub use kinds::collections::SequenceKind;
 pub use kinds::collections::SetKind;
 pub use kinds::fields::Fields;
 pub use kinds::fields::FieldsKind;
-pub use kinds::fields::WritesFields;
 pub use kinds::in_hand::AlwaysDerBy;
 pub use kinds::in_hand::DerElement;
 pub use kinds::leaf::ConvertsLeaf;

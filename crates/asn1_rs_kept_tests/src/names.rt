@@ -1,7 +1,10 @@
 //! The name of a subject of X.509 (X.501, 9.2; RFC 5280, 4.1.2.4), as types of a caller's own.
+ghost use Rattle.std.specs.Prelude.{◌≡◌, ◌⊎◌};
 
-use asn1_rs::{Any, Choice, Err, Error, FromAny, FromDer, Oid, ParseResult, Sequence, SetOf};
-use asn1_rs_uses::DirectoryName;
+use asn1_rs::{
+    Any, BerChoice, CheckDerConstraints, Choice, DerAutoDerive, DerChoice, Err, Error, FromAny,
+    FromDer, Oid, ParseResult, PrintableString, Sequence, SetOf, Tag, Utf8String,
+};
 use std::alloc::Global;
 use std::fmt::Write;
 use std::test::Fail;
@@ -27,6 +30,44 @@ struct AttributeTypeAndValue<'a> {
     oid: Oid<'a>,
     value: AttributeValue<'a>,
 }
+
+/// A string of a directory, as a choice of a caller's own.
+#[derive(Drop)]
+enum DirectoryName<'a> {
+    Printable(PrintableString<'a>),
+    Utf8(Utf8String<'a>),
+}
+
+impl Choice for DirectoryName<'_> {
+    ghost HasTag = { λ tag. (tag.0 ≡ 19) ⊎ (tag.0 ≡ 12) };
+
+    fn can_decode(tag: Tag) -> bool {
+        tag.0 == 19 || tag.0 == 12
+    }
+}
+
+impl<'a> FromAny<'a> for DirectoryName<'a> {
+    type Error = Error;
+
+    fn try_from_any(alloc: Global, any: Any<'a>) -> Result<DirectoryName<'a>, Error> {
+        if PrintableString::can_decode(any.tag()) {
+            return Ok(DirectoryName::Printable(PrintableString::try_from_any(alloc, any)?));
+        }
+        Ok(DirectoryName::Utf8(Utf8String::try_from_any(alloc, any)?))
+    }
+}
+
+impl CheckDerConstraints for DirectoryName<'_> {
+    fn check_constraints(any: &Any<'_>) -> Result<(), Error> {
+        any.header.assert_primitive()
+    }
+}
+
+impl DerAutoDerive for DirectoryName<'_> {}
+
+impl<'a> BerChoice<'a> for DirectoryName<'a> {}
+
+impl<'a> DerChoice<'a> for DirectoryName<'a> {}
 
 /// What an attribute says: a string of a directory, or an element of another type.
 #[derive(Drop)]

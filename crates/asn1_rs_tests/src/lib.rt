@@ -20,8 +20,6 @@ mod embedded_pdv;
 #[cfg(test)]
 mod field_reader;
 #[cfg(test)]
-mod fields;
-#[cfg(test)]
 mod integers;
 #[cfg(test)]
 mod laws;

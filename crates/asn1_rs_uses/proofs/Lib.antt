@@ -3,9 +3,7 @@ pub mod Collected
 pub mod CountedItems
 pub mod JoinedNumbers
 pub mod LabelsUnwritten
-pub mod Messages
 pub mod MidnightsRefused
-pub mod NoMessages
 pub mod Streams
 pub mod TaggedOctets
 pub mod Unrefused

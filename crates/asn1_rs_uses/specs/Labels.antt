@@ -16,7 +16,7 @@ use Rattle.asn1_rs.specs.declared.asn1_types.tagged.TaggedValue.{TaggedValue}
 use Rattle.asn1_rs.specs.declared.asn1_types.tagged.parser.TaggedParser.{TaggedParser}
 use Rattle.asn1_rs.specs.ToDer.{MayRefuseCount}
 use Rattle.asn1_rs_uses.specs.declared.labels.EachCall.{EachCall}
-use Rattle.asn1_rs_uses.specs.Messages.{in_sequence}
+use Rattle.asn1_rs_uses.specs.Sequences.{in_sequence}
 
 -- the types, since antt has no names for aliases
 abbrev pub Label : Type 0

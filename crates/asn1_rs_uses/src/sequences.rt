@@ -3,7 +3,7 @@ ghost use Rattle.std.specs.Prelude.{◌≡◌, ℤ, List, map, pos, MatchResult}
 ghost use Rattle.x690.specs.Identifiers.{IsCutIdentifier};
 ghost use Rattle.asn1_headers.specs.Answers.{seen, Exactly};
 ghost use Rattle.asn1_headers.specs.Writer.{IsMemoryOrLength};
-ghost use Rattle.asn1_rs_uses.specs.Messages.{ShortNumbers, WantsMemory, numbers_octets};
+ghost use Rattle.asn1_rs_uses.specs.Sequences.{ShortNumbers, WantsMemory, numbers_octets};
 
 use asn1_rs::{AlwaysDer, Error, ParseResult, SerializeResult, read_der, strict_vec};
 use std::alloc::Global;

@@ -5,7 +5,7 @@ ghost use Rattle.x690.specs.Identifiers.{IsCutIdentifier};
 ghost use Rattle.asn1_headers.specs.Answers.{seen, Exactly};
 ghost use Rattle.asn1_headers.specs.Writer.{IsMemoryOrLength};
 ghost use Rattle.asn1_rs.specs.Set.{items_of, set_of};
-ghost use Rattle.asn1_rs_uses.specs.Messages.{WantsMemory};
+ghost use Rattle.asn1_rs_uses.specs.Sequences.{WantsMemory};
 ghost use Rattle.asn1_rs_uses.specs.Sets.{CountedNumbers, DistinctNumbers, DistinctSigned, set_octets};
 ghost use Rattle.asn1_rs_uses.specs.Sets.{signed_set_octets};
 

@@ -12,13 +12,7 @@ mod levels;
 #[cfg(test)]
 mod lists;
 #[cfg(test)]
-mod packets;
-#[cfg(test)]
-mod principals;
-#[cfg(test)]
 mod refusals;
-#[cfg(test)]
-mod requests;
 #[cfg(test)]
 mod sets;
 #[cfg(test)]

@@ -143,12 +143,15 @@ struct_of {T} {S} as_row R holds = record {
   told = second_holds R.sound R.grammar.told holds;
 }
 
--- its grammar, and how it is written
+-- its fields, its grammar, and how it is written
+abbrev pub fields_of_struct : {T : Type 0} → LawfulStructOf T → FieldList T
+fields_of_struct T = fields_by T.as_row T.row.list
+
 abbrev pub grammar_of_struct : {T : Type 0} → LawfulStructOf T → ItemGrammar T
 grammar_of_struct T = struct_grammar T.as_row T.row.grammar
 
 abbrev pub writing_of_struct : {T : Type 0} → LawfulStructOf T → Writing T
-writing_of_struct T = fields_writing 16 (fields_by T.as_row T.row.list)
+writing_of_struct T = fields_writing 16 (fields_of_struct T)
 
 -- a struct is a lawful type
 abbrev pub struct_type : {T : Type 0} → LawfulStructOf T → LawfulTypeOf T

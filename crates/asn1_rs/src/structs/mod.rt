@@ -19,6 +19,7 @@ pub(crate) mod numbers;
 pub(crate) mod row;
 pub(crate) mod types;
 pub(crate) mod untold;
+pub(crate) mod writing;
 
 ghost use Rattle.std.specs.Prelude.{◌≡◌, ℕ, List, Result};
 ghost use Rattle.asn1_headers.specs.declared.error.Error.{Error};
@@ -37,20 +38,18 @@ ghost use Rattle.asn1_rs.specs.Traits.{DerGives, PassesAll};
 
 use crate::asn1_types::any::Any;
 use crate::der::element_by_der;
-use crate::kinds::fields::{Fields, FieldsKind, WritesFields};
+use crate::kinds::fields::{Fields, FieldsKind};
 use crate::kinds::reading::{
     CheckBy, ConstructedForm, EncodingForm, FromAnyBy, FromDerBy, HasReader, LawfulBodyBy,
     LawfulCheckBy, LawfulDerBy,
 };
 use crate::kinds::writing::{LawfulTaggedBy, LawfulWriteBy, TakesClassBy};
-use crate::kinds::{GrammarBy, HasKind, LawfulItemBy, TagNumber};
+use crate::kinds::{GrammarBy, HasKind, LawfulItemBy};
 use crate::traits::{ASN1Parser, converted};
-use asn1_headers::buffer::DerBuffer;
 use asn1_headers::content::{BerParser, DerParser};
-use asn1_headers::error::{Err, Error, ParseResult, SerializeResult, without_io};
+use asn1_headers::error::{Err, Error, ParseResult, SerializeResult};
 use asn1_headers::tag::Tag;
 use std::alloc::Global;
-use std::mem;
 
 /// A parser, by the rules by which it reads the fields of a struct.
 pub trait ReadsBy: ASN1Parser {
@@ -68,8 +67,8 @@ impl ReadsBy for BerParser {
 
 /// A struct that is a sequence of its fields, in the order of its row.
 ///
-/// So it is written as its fields, one after another ([`WritesFields`]), which go straight into the buffer of the
-/// whole, the last one first. It has [`Grammar`](crate::Grammar), [`LawfulItem`](crate::LawfulItem) and the laws of
+/// So it is written as its fields, one after another, which go straight into the buffer of the whole, the last one
+/// first. It has [`Grammar`](crate::Grammar), [`LawfulItem`](crate::LawfulItem) and the laws of
 /// writing and of tags. It is read where it has [`ReadsFields`].
 ///
 ///     impl LawfulStruct for Measurement {
@@ -214,36 +213,6 @@ impl<T: LawfulStruct> CheckBy<FieldsKind> for T {
 
     fn check_this_kind(any: &Any<'_>) -> Result<(), Error> {
         ConstructedForm::assert_form(Tag::Sequence.0, any)
-    }
-}
-
-impl<T: LawfulStruct> WritesFields for T {
-    type Number = TagNumber<16>;
-
-    ghost field_list = { fields_by T.laws.as_row T.laws.row.list };
-
-    fn put_fields(&self, fields: &mut Fields) -> SerializeResult<()> {
-        self.put_row(fields)
-    }
-
-    fn take_fields(&self, alloc: Global) -> SerializeResult<Fields> {
-        let mut fields = Fields::before(alloc, DerBuffer::new(alloc));
-        match self.put_row(&mut fields) {
-            Ok(()) => Ok(fields),
-            Err(e) => Err(without_io(e)),
-        }
-    }
-
-    #[inline(always)]
-    fn prepend_fields(&self, alloc: Global, buf: &mut DerBuffer) -> SerializeResult<usize> {
-        let held = buf.len();
-        let mut fields = Fields::before(alloc, mem::replace(buf, DerBuffer::new(alloc)));
-        let answer = self.put_row(&mut fields);
-        *buf = fields.into_buffer(alloc);
-        match answer {
-            Ok(()) => Ok(buf.len().saturating_sub(held)),
-            Err(e) => Err(without_io(e)),
-        }
     }
 }
 

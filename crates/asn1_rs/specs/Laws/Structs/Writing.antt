@@ -7,8 +7,8 @@ use Rattle.x690.specs.Identifiers.{Identifier}
 use Rattle.x690.specs.Strict.{header_octets}
 use Rattle.asn1_headers.specs.declared.error.Error.{Error}
 use Rattle.asn1_headers.specs.declared.error.SerializeError.{SerializeError}
-use Rattle.asn1_rs.specs.Fields.{FieldList, untold_fields, no_fields, field, TellsFields, fields_octets, FieldsRefuse}
-use Rattle.asn1_rs.specs.Fields.{FieldsRefuseCount, fields_writing, TakenFields, PutsField, PutsEach, Puts}
+use Rattle.asn1_rs.specs.Fields.{FieldList, no_fields, field, TellsFields, fields_octets, FieldsRefuse}
+use Rattle.asn1_rs.specs.Fields.{FieldsRefuseCount, fields_writing, TakenFields}
 use Rattle.asn1_rs.specs.Grammar.Form.{universal, header_of}
 use Rattle.asn1_rs.specs.Grammar.Item.{IsLawfulWriting}
 use Rattle.asn1_rs.specs.Laws.Forms.{both_by_value, whole_writable, behind_header}
@@ -43,25 +43,21 @@ empty_puts = record {
 -- The fields of what has a row are those of the row.
 module _ {S T : Type 0} (row : S → T) where
   pub octets_by : (list : FieldList T) (x : S) → fields_octets (fields_by row list) x ≡ fields_octets list (row x)
-  octets_by untold_fields x = refl
   octets_by no_fields x = refl
   octets_by (field w of rest) x = ap (λ (z : List ℕ). whole_octets w (of (row x)) ++ z) (octets_by rest x)
 
   pub tells_by : (list : FieldList T) (x : S) → TellsFields list (row x) → TellsFields (fields_by row list) x
-  tells_by untold_fields x t = t
   tells_by no_fields x t = t
   tells_by (field w of rest) x t = (t.0, tells_by rest x t.1)
 
   pub count_by : (list : FieldList T) (x : S) → HasNone (FieldsRefuseCount list (row x)) →
       HasNone (FieldsRefuseCount (fields_by row list) x)
-  count_by untold_fields x n e h = n e h
   count_by no_fields x n e h = n e h
   count_by (field w of rest) x n e (inl h) = n e (inl h)
   count_by (field w of rest) x n e (inr h) = count_by rest x (λ f g. n f (inr g)) e h
 
   pub refuse_by : (list : FieldList T) (x : S) → HasNone (FieldsRefuse list (row x)) →
       HasNone (FieldsRefuse (fields_by row list) x)
-  refuse_by untold_fields x n e h = n e h
   refuse_by no_fields x n e h = n e h
   refuse_by (field w of rest) x n e (inl h) = n e (inl h)
   refuse_by (field w of rest) x n e (inr h) = refuse_by rest x (λ f g. n f (inr g)) e h
@@ -69,36 +65,9 @@ module _ {S T : Type 0} (row : S → T) where
   pub writable_by : (list : FieldList T) (x : S) → AreWritable list (row x) → AreWritable (fields_by row list) x
   writable_by list x a = (count_by list x a.0, refuse_by list x a.1)
 
--- a field, and the others behind it
-puts_step : {S T : Type 0} (w : Writing T) (of : S → T) (rest : FieldList S) (x : S) (old new : TakenFields)
-    (answer : Result (Unit {0}) SerializeError) →
-    ((mid : TakenFields) → PutsAll (puts_of rest x) mid new answer → PutsEach rest x mid new answer) →
-    (mid : TakenFields) × (first : Result (Unit {0}) SerializeError) × PutsField w (of x) old mid first ×
-    MatchResult first (λ _. PutsAll (puts_of rest x) mid new answer) (λ e. answer ≡ Err e) →
-    (mid : TakenFields) × (first : Result (Unit {0}) SerializeError) × PutsField w (of x) old mid first ×
-    MatchResult first (λ _. PutsEach rest x mid new answer) (λ e. answer ≡ Err e)
-puts_step w of rest x old new answer others (mid, Ok u, put, then) = (mid, Ok u, put, others mid then)
-puts_step w of rest x old new answer others (mid, Err e, put, then) = (mid, Err e, put, then)
-
--- Fields that were put in their order are what their list says.
-pub puts_each : {S : Type 0} (list : FieldList S) (x : S) (old new : TakenFields)
-    (answer : Result (Unit {0}) SerializeError) → PutsAll (puts_of list x) old new answer → PutsEach list x old new answer
-unfolding PutsEach
-puts_each untold_fields x old new answer p = tt
-puts_each no_fields x old new answer p = p
-puts_each (field w of rest) x old new answer p =
-    λ forward. puts_step w of rest x old new answer (λ mid q. puts_each rest x mid new answer q) (p.0 forward)
-
-pub puts : {S : Type 0} (list : FieldList S) (x : S) (old new : TakenFields)
-    (answer : Result (Unit {0}) SerializeError) → PutsAll (puts_of list x) old new answer → Puts list x old new answer
-puts untold_fields x old new answer p = tt
-puts no_fields x old new answer p = puts_each no_fields x old new answer p
-puts (field w of rest) x old new answer p = puts_each (field w of rest) x old new answer p
-
--- and so are those of what has the row
+-- The fields of what has a row are put as those of the row.
 pub puts_of_row : {S T : Type 0} (row : S → T) (list : FieldList T) (x : S) →
     puts_of (fields_by row list) x ≡ puts_of list (row x)
-puts_of_row row untold_fields x = refl
 puts_of_row row no_fields x = refl
 puts_of_row row (field w of rest) x = let e = puts_of_row row rest x in rw e refl
 
@@ -192,10 +161,9 @@ module _ {S T : Type 0} (row : T → S) (R : RowGrammar S) (list : FieldList S) 
     der_writable = λ m d. struct_writable m (l.der_writable (row m) d);
   }
 
--- what a struct's row puts is what the struct's list says
+-- so where they were put
 pub puts_struct : {S T : Type 0} (row : T → S) (list : FieldList S) (m : T) (old new : TakenFields)
     (answer : Result (Unit {0}) SerializeError) → PutsAll (puts_of list (row m)) old new answer →
-    Puts (fields_by row list) m old new answer
+    PutsAll (puts_of (fields_by row list) m) old new answer
 puts_struct row list m old new answer p =
-    puts (fields_by row list) m old new answer
-    (subst (λ (z : PutList). PutsAll z old new answer) (sym (puts_of_row row list m)) p)
+    subst (λ (z : PutList). PutsAll z old new answer) (sym (puts_of_row row list m)) p

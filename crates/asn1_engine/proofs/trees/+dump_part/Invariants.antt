@@ -1,0 +1,8 @@
+use Rattle.asn1_walk.specs.Walks.{steps_left}
+use Rattle.asn1_engine.proofs.trees.+dump_part.Given as goal
+
+abbrev pub decreases-dump_part : goal.decreases-dump_part
+decreases-dump_part g l = l.strings
+
+abbrev pub decreases-loop-walk : goal.decreases-loop-walk
+decreases-loop-walk g l = steps_left l.walk

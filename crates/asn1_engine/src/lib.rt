@@ -1,0 +1,19 @@
+//! What the program `asn1` says of octets: the tree of their elements, and whether they are strict DER.
+#![tactic(auto)]
+
+pub mod decimals;
+pub mod departures;
+pub mod error;
+pub mod heads;
+pub mod identifiers;
+pub mod objects;
+pub mod pem;
+pub mod tags;
+pub mod texts;
+pub mod trees;
+pub mod values;
+pub mod verdicts;
+
+pub use error::{Finding, RunError};
+pub use trees::{Options, dump, dump_at};
+pub use verdicts::{check, check_all};

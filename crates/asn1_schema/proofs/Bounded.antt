@@ -1,0 +1,56 @@
+-- Bounds are judged by the first item of a value.
+use Rattle.std.proofs.Common.{◌≡◌, ◌∙◌, ap, sym, subst, ℕ, zero, suc, List, [], ◌∷◌, ◌++◌, arith, length}
+use Rattle.std.specs.Prelude.{ℤ, Option, Some, Result, Ok, Err, slice_get}
+use Rattle.asn1_schema.specs.declared.fault.Fault.{Fault}
+use Rattle.asn1_schema.specs.declared.fault.Fault.TheVariants as faults
+use Rattle.asn1_schema.specs.declared.tape.Item.{Item}
+use Rattle.asn1_schema.specs.Values.{Value, measure}
+use Rattle.asn1_schema.specs.Grammar.{IsMeasured}
+use Rattle.asn1_schema.specs.Tape.{Kept, kept_leaf, kept_string, kept_bits, kept_row, kept_chosen, Mark, mark, marks, value_of, tape_of}
+use Rattle.asn1_schema.specs.Reading.{JudgesBounds, JudgesItem, PutsValue, ReadsValue}
+
+unsupported : {T : Type 0} (lower upper m : Option ℤ) (r : Result T Fault) → r ≡ Err faults.Unsupported →
+    JudgesBounds lower upper m r
+unsupported {T} lower upper m r e = subst (λ (z : Result T Fault). JudgesBounds lower upper m z) (sym e) tt
+
+item_at : (xs : List Item) (front inner : List Mark) (m : Mark) (i : ℕ) (x : Item) → i ≡ length front →
+    marks xs ≡ front ++ m ∷ inner → slice_get xs i ≡ Some x → mark x ≡ m
+item_at [] [] inner m i x l e f = absurd (cc)
+item_at [] (n ∷ front) inner m i x l e f = absurd (cc)
+item_at (y ∷ ys) [] inner m zero x l e f = let same : y ≡ x = cc in let g : mark y ≡ m = cc in ap mark (sym same) ∙ g
+item_at (y ∷ ys) [] inner m (suc i) x l e f = absurd (omega (arith, l))
+item_at (y ∷ ys) (n ∷ front) inner m zero x l e f = absurd (omega (arith, l))
+item_at (y ∷ ys) (n ∷ front) inner m (suc i) x l e f =
+    let rest : marks ys ≡ front ++ m ∷ inner = cc in
+    item_at ys front inner m i x (omega (arith, l)) rest f
+
+pub judged : {T : Type 0} (lower upper : Option ℤ) (xs : List Item) (place : ℕ) (x : Item) (r : Result T Fault)
+    (front : List Mark) (kept : Kept) → marks xs ≡ front ++ tape_of kept → place ≡ length front →
+    slice_get xs place ≡ Some x → JudgesItem lower upper (mark x) r → JudgesBounds lower upper (measure (value_of kept)) r
+judged lower upper xs place x r front (kept_leaf l) e p f j =
+    subst (λ (m : Mark). JudgesItem lower upper m r) (item_at xs front [] _ place x p e f) j
+judged lower upper xs place x r front (kept_string s o os) e p f j =
+    unsupported lower upper (measure (value_of (kept_string s o os))) r (subst (λ (m : Mark). JudgesItem lower upper m r) (item_at xs front _ _ place x p e f) j)
+judged lower upper xs place x r front (kept_bits b bs) e p f j =
+    unsupported lower upper (measure (value_of (kept_bits b bs))) r (subst (λ (m : Mark). JudgesItem lower upper m r) (item_at xs front _ _ place x p e f) j)
+judged lower upper xs place x r front (kept_row ks) e p f j =
+    unsupported lower upper (measure (value_of (kept_row ks))) r (subst (λ (m : Mark). JudgesItem lower upper m r) (item_at xs front _ _ place x p e f) j)
+judged lower upper xs place x r front (kept_chosen k v) e p f j =
+    unsupported lower upper (measure (value_of (kept_chosen k v))) r (subst (λ (m : Mark). JudgesItem lower upper m r) (item_at xs front _ _ place x p e f) j)
+
+-- a value is put on the tape, and its measure judged
+pub bounds_read : {T : Type 0} (P : Value → Type 0) (lower upper : Option ℤ) (old new : List Item) (r : Result T Fault) →
+    ((v w : Value) → P v → P w → v ≡ w) → (a : PutsValue P old new) →
+    JudgesBounds lower upper (measure (value_of a.kept)) r →
+    ReadsValue (λ v. P v × IsMeasured lower upper (measure v)) old new r
+bounds_read P lower upper old new (Ok x) one a j = record { kept = a.kept; holds = (a.holds, j); is = a.is }
+bounds_read P lower upper old new (Err faults.Memory) one a j = tt
+bounds_read P lower upper old new (Err faults.Unsupported) one a j = tt
+bounds_read P lower upper old new (Err faults.Refused) one a j = λ v b.
+    j (subst (λ (z : Value). IsMeasured lower upper (measure z)) (one v (value_of a.kept) b.0 a.holds) b.1)
+
+pub bounds_refused : (T U : Type 0) (P : Value → Type 0) (lower upper : Option ℤ) (old mid new : List Item) (e : Fault) →
+    ReadsValue {T = U} P old mid (Err e) → ReadsValue {T = T} (λ v. P v × IsMeasured lower upper (measure v)) old new (Err e)
+bounds_refused T U P lower upper old mid new faults.Memory a = tt
+bounds_refused T U P lower upper old mid new faults.Unsupported a = tt
+bounds_refused T U P lower upper old mid new faults.Refused a = λ v b. a v b.0

@@ -1,0 +1,66 @@
+-- What is decoded, and what is not.
+use Rattle.std.proofs.Common.{◌≡◌, ◌∙◌, ap, sym, subst, inl, inr, ℕ, ◌<◌, List, [], ◌++◌, append-nil, length}
+use Rattle.std.specs.Prelude.{Some, None, Err}
+use Rattle.x690.specs.Joined.{NoFront}
+use Rattle.asn1_schema.specs.declared.coding.Coding.{Coding}
+use Rattle.asn1_schema.specs.declared.fault.Fault.{Fault}
+use Rattle.asn1_schema.specs.declared.fault.Fault.TheVariants as faults
+use Rattle.asn1_schema.specs.declared.schema.Node.{Node}
+use Rattle.asn1_schema.specs.declared.tape.Item.{Item}
+use Rattle.asn1_schema.specs.Tape.{marks, value_of, tape_of}
+use Rattle.asn1_schema.specs.Reading.{rules_of, IsWordOf, BeginsWord, ReadsFront, PutsFront, HasNoFront}
+use Rattle.asn1_schema.specs.Decoding.{Decodes, DecodesWhole, IsFollowed, EndsWithin, TellsMissing}
+use Rattle.asn1_schema.proofs.Taken.{refused_last, lawful_of}
+
+-- A word of a type is an element.
+module _ (e : Coding) (table : List Node) (depth t : ℕ) (octets : List ℕ) where
+  -- a value is put on a tape that was empty
+  pub decoded : (old new : List Item) (rest : List ℕ) → old ≡ [] →
+      PutsFront (BeginsWord e table depth t octets) old new rest → Decodes (IsWordOf e table depth t) octets rest new
+  decoded old new rest empty puts = record {
+    kept = puts.kept;
+    front = record { word = puts.holds.word; fits = puts.holds.says; is = puts.holds.is };
+    is = puts.is ∙ ap (λ (z : List Item). marks z ++ tape_of puts.kept) empty;
+  }
+
+  -- no value begins the octets
+  pub none_decoded : HasNoFront (BeginsWord e table depth t octets) → NoFront (IsWordOf e table depth t) octets
+  none_decoded none = λ word rest v begins w. none v rest (record { word = word; says = w; is = begins })
+
+  pub not_decoded : (old new : List Item) (fault : Fault) → ReadsFront (BeginsWord e table depth t octets) old new (Err fault) →
+      fault ≡ faults.Refused → NoFront (IsWordOf e table depth t) octets
+  not_decoded old new fault a is = none_decoded
+      (subst (λ (z : Fault). ReadsFront (BeginsWord e table depth t octets) old new (Err z)) is a)
+
+  no_element_no_word : (others : List ℕ) → NoFront (rules_of e).ElementOf (octets ++ others) →
+      NoFront (IsWordOf e table depth t) (octets ++ others)
+  no_element_no_word others none = λ word rest v is w. none word rest w.parts is w.element
+
+  -- a refusal is final
+  pub refused_for_good : NoFront (IsWordOf e table depth t) octets →
+      TellsMissing (rules_of e).ElementOf (EndsWithin e octets) octets None → (EndsWithin e octets → ⊥) →
+      (others : List ℕ) → NoFront (IsWordOf e table depth t) (octets ++ others)
+  refused_for_good none (inl whole) ends others =
+      refused_last (rules_of e) (lawful_of e) table depth t octets others none whole
+  refused_for_good none (inr never) ends others = no_element_no_word others (never ends others)
+
+  -- so few octets do not suffice
+  pub still_cut : (n : ℕ) → TellsMissing (rules_of e).ElementOf (EndsWithin e octets) octets (Some n) →
+      (others : List ℕ) → length others < n → NoFront (IsWordOf e table depth t) (octets ++ others)
+  still_cut n lacks others few = no_element_no_word others (lacks others few)
+
+  -- where no octets follow, they are one word
+  pub decoded_whole : (rest : List ℕ) (tape : List Item) → rest ≡ [] →
+      Decodes (IsWordOf e table depth t) octets rest tape → DecodesWhole (IsWordOf e table depth t) octets tape
+  decoded_whole rest tape ended d =
+      let is : octets ≡ d.front.word = d.front.is ∙ ap (λ (z : List ℕ). d.front.word ++ z) ended ∙ append-nil d.front.word in
+      record {
+        kept = d.kept;
+        word = subst (λ (z : List ℕ). IsWordOf e table depth t z (value_of d.kept)) (sym is) d.front.fits;
+        is = d.is;
+      }
+
+  -- else others follow it
+  pub followed : (rest : List ℕ) (tape : List Item) → (rest ≡ [] → ⊥) →
+      Decodes (IsWordOf e table depth t) octets rest tape → IsFollowed (IsWordOf e table depth t) octets
+  followed rest tape some d = record { value = value_of d.kept; rest = rest; front = d.front; some = some }

@@ -1,0 +1,8 @@
+use Rattle.std.proofs.Common.{refl}
+use Rattle.asn1_schema.specs.Values.{identifier}
+use Rattle.asn1_schema.proofs.identifiers.identifier_item.Goals as goal
+
+pub returns : goal.returns
+returns c = λ nodes depth of.
+    let arcs = c.if-not-are_arcs.ensures.yes refl in
+    (identifier c.args.relative c.args.content.now, refl, (refl, c.if-head.false, arcs.0, arcs.1))

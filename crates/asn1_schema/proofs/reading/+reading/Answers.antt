@@ -1,0 +1,229 @@
+use Rattle.std.proofs.Common.{rules, ◌≡◌, sym, subst, refl, ℕ, ◌-◌, ◌<◌, inr, List, ◌++◌, true, arith, length}
+use Rattle.std.specs.Prelude.{Option, Err, ◌||◌, not}
+use Rattle.std.proofs.lemmas.Bool.{not-true, not-false}
+use Rattle.std.proofs.lemmas.List.{nil_from_length, length-map}
+use Rattle.std.proofs.lemmas.Option.{slice_get_within}
+use Rattle.asn1_schema.specs.declared.schema.Kind.{Kind}
+use Rattle.asn1_schema.specs.declared.schema.Kind.TheVariants as kinds
+use Rattle.asn1_schema.specs.declared.schema.Field.{Field}
+use Rattle.asn1_schema.specs.declared.schema.Presence.{Presence}
+use Rattle.asn1_schema.specs.declared.tape.Item.{Item}
+use Rattle.asn1_schema.specs.Tape.{mark, marks, tape_of}
+use Rattle.asn1_schema.specs.Grammar.{AreUnknown, Says}
+use Rattle.asn1_schema.specs.Sound.{is_single, kind_told, fields_told, arms_told, arms_held, all_before, field_told, may_be_left_out, node_at}
+use Rattle.asn1_schema.specs.Reading.{rules_of, parts_of, IsBody, IsOfKind, IsArmOf, AreFieldsOf, AreItemsOf, IsRowOf, ReadsValue, ReadsRow, MayNot, Leaves, PutsValue}
+use Rattle.asn1_schema.proofs.Tags.{arm_before, first_holds, second_holds, node_told}
+use Rattle.asn1_schema.proofs.OneValue.{tag_of_body}
+use Rattle.asn1_schema.proofs.Taken.{lawful_of, written_of, no_leaf, body_some, reads_up, kind_refused, order_of, no_type, other_tag, set_read, no_element, front_shorter, front_read, front_refused, whole_read, not_whole, whole_refused, explicit_read, no_arm, arm_read, arm_refused, choice_read, within_read, within_judged, bounds_order, leaf_read}
+use Rattle.asn1_schema.proofs.Bounded.{bounds_refused}
+use Rattle.asn1_schema.proofs.TakenRows.{nothing_yet, row_read, row_refused, item_more, items_refused, items_done, fields_further, fields_refused, fields_ended, fields_done, fields_over, field_there, field_refused, field_default, no_tag}
+use Rattle.asn1_schema.proofs.reading.+reading.Goals as goal
+
+pub read_body-returns-then-depth-eq0 : goal.read_body-returns-then-depth-eq0
+read_body-returns-then-depth-eq0 t c = λ v b. body_some (rules_of c.args.coding) c.args.nodes.now c.args.depth c.args.of (parts_of c.args.head c.args.content.now) v b (grind (arith, c.if-depth-eq0.true))
+
+pub read_body-returns-in_default : goal.read_body-returns-in_default
+read_body-returns-in_default t c = no_type (rules_of c.args.coding) c.args.nodes.now c.args.depth c.args.of (parts_of c.args.head c.args.content.now) c.in_default.ensures.none
+
+pub read_body-returns-then-not-has_a_tag : goal.read_body-returns-then-not-has_a_tag
+read_body-returns-then-not-has_a_tag t c = other_tag (rules_of c.args.coding) c.args.nodes.now c.args.depth c.args.of (parts_of c.args.head c.args.content.now) c.in-Some.node.now c.in-Some.ensures.some (sym c.if-not-has_a_tag.ensures)
+
+pub read_body-read_row-requires : goal.read_body-read_row-requires
+read_body-read_row-requires t c =
+    let told : fields_told c.args.nodes.now c.in-Sequence.unknown c.in-Sequence.fields.items ≡ true =
+    second_holds (is_single c.in-Some.node.now.tags) (fields_told c.args.nodes.now c.in-Sequence.unknown c.in-Sequence.fields.items)
+    (subst (λ (k : Kind). kind_told c.args.nodes.now c.in-Some.node.now.tags k ≡ true) c.in-Sequence.is (node_told c.args.nodes.now c.args.of c.in-Some.node.now c.requires c.in-Some.ensures.some)) in
+    let here : fields_told c.args.nodes.now c.in-Sequence.unknown c.deref.result.now ≡ true =
+    subst (λ (z : List Field). fields_told c.args.nodes.now c.in-Sequence.unknown z ≡ true) (sym c.deref.ensures.value) told in
+    search rules
+
+pub read_body-read_choice-requires : goal.read_body-read_choice-requires
+read_body-read_choice-requires t c =
+    let both = (subst (λ (k : Kind). kind_told c.args.nodes.now c.in-Some.node.now.tags k ≡ true) c.in-Choice.is (node_told c.args.nodes.now c.args.of c.in-Some.node.now c.requires c.in-Some.ensures.some)) in
+    let told : arms_told c.args.nodes.now c.deref-in-Choice.result.now ≡ true =
+    subst (λ (z : List ℕ). arms_told c.args.nodes.now z ≡ true) (sym c.deref-in-Choice.ensures.value)
+    (first_holds (arms_told c.args.nodes.now c.in-Choice.arms.items) (arms_held c.args.nodes.now c.in-Some.node.now.tags c.in-Choice.arms.items) both) in
+    let order : all_before c.args.of c.deref-in-Choice.result.now ≡ true =
+    subst (λ (z : List ℕ). all_before c.args.of z ≡ true) (sym c.deref-in-Choice.ensures.value)
+    (order_of c.args.nodes.now c.args.of c.in-Some.node.now c.in-Choice.arms c.requires c.in-Some.ensures.some c.in-Choice.is) in
+    let within : c.args.of < length c.args.nodes.now = slice_get_within c.args.nodes.now c.args.of c.in-Some.node.now c.in-Some.ensures.some in
+    search rules
+
+pub read_body-returns-in-Sequence : goal.read_body-returns-in-Sequence
+read_body-returns-in-Sequence t c = reads_up (rules_of c.args.coding) c.args.nodes.now c.args.depth c.args.of (parts_of c.args.head c.args.content.now) c.in-Some.node.now (kinds.Sequence c.in-Sequence.fields c.in-Sequence.unknown) c.args.tape.now.items c.read_row.new.tape.items c.read_row.result (grind (arith, c.if-depth-eq0.false)) c.in-Some.ensures.some (sym c.if-not-has_a_tag.ensures) c.in-Sequence.is
+    (subst (λ (z : List Field). ReadsValue (IsRowOf c.args.coding c.args.nodes.now (c.args.depth - 1) c.in-Sequence.unknown z c.args.head.constructed c.args.content.now)
+    c.args.tape.now.items c.read_row.new.tape.items c.read_row.result) c.deref.ensures.value c.read_row.ensures)
+
+pub read_body-returns-in-SequenceOf : goal.read_body-returns-in-SequenceOf
+read_body-returns-in-SequenceOf t c = reads_up (rules_of c.args.coding) c.args.nodes.now c.args.depth c.args.of (parts_of c.args.head c.args.content.now) c.in-Some.node.now (kinds.SequenceOf c.in-SequenceOf.inner) c.args.tape.now.items c.read_row-in-SequenceOf.new.tape.items c.read_row-in-SequenceOf.result (grind (arith, c.if-depth-eq0.false)) c.in-Some.ensures.some (sym c.if-not-has_a_tag.ensures) c.in-SequenceOf.is
+    c.read_row-in-SequenceOf.ensures
+
+pub read_body-returns-in-SetOf : goal.read_body-returns-in-SetOf
+read_body-returns-in-SetOf t c = reads_up (rules_of c.args.coding) c.args.nodes.now c.args.depth c.args.of (parts_of c.args.head c.args.content.now) c.in-Some.node.now (kinds.SetOf c.in-SetOf.inner) c.args.tape.now.items c.read_row-in-SetOf.new.tape.items c.read_row-in-SetOf.result (grind (arith, c.if-depth-eq0.false)) c.in-Some.ensures.some (sym c.if-not-has_a_tag.ensures) c.in-SetOf.is
+    (set_read c.args.coding (IsBody c.args.coding c.args.nodes.now (c.args.depth - 1) c.in-SetOf.inner)
+    c.args.head.constructed c.args.content.now c.args.tape.now.items c.read_row-in-SetOf.new.tape.items c.read_row-in-SetOf.result c.read_row-in-SetOf.ensures)
+
+pub read_body-returns-in-Choice : goal.read_body-returns-in-Choice
+read_body-returns-in-Choice t c = choice_read (rules_of c.args.coding) (lawful_of c.args.coding) c.args.nodes.now c.requires c.args.depth c.args.of c.in-Some.node.now c.in-Choice.arms c.in-Some.ensures.some c.in-Choice.is (parts_of c.args.head c.args.content.now)
+    c.args.tape.now.items c.read_choice.new.tape.items c.read_choice.result
+    (subst (λ (z : List ℕ). ReadsValue (IsArmOf c.args.coding c.args.nodes.now c.args.depth z (parts_of c.args.head c.args.content.now)) c.args.tape.now.items c.read_choice.new.tape.items c.read_choice.result)
+    c.deref-in-Choice.ensures.value c.read_choice.ensures)
+
+pub read_body-returns-then-not-head : goal.read_body-returns-then-not-head
+read_body-returns-then-not-head t c = kind_refused (rules_of c.args.coding) c.args.nodes.now c.args.depth c.args.of (parts_of c.args.head c.args.content.now) c.in-Some.node.now (kinds.Explicit c.in-Explicit.inner) c.in-Some.ensures.some c.in-Explicit.is
+    (λ v b. let y = not-true c.args.head.constructed c.if-not-head.true in let z = b.0 in cc)
+
+pub read_body-returns-else-not-head : goal.read_body-returns-else-not-head
+read_body-returns-else-not-head t c = reads_up (rules_of c.args.coding) c.args.nodes.now c.args.depth c.args.of (parts_of c.args.head c.args.content.now) c.in-Some.node.now (kinds.Explicit c.in-Explicit.inner) c.args.tape.now.items c.read_whole.new.tape.items c.read_whole.result (grind (arith, c.if-depth-eq0.false)) c.in-Some.ensures.some (sym c.if-not-has_a_tag.ensures) c.in-Explicit.is
+    (explicit_read (rules_of c.args.coding) (lawful_of c.args.coding) (IsBody c.args.coding c.args.nodes.now (c.args.depth - 1) c.in-Explicit.inner)
+    c.args.head.constructed c.args.content.now c.args.tape.now.items c.read_whole.new.tape.items c.read_whole.result
+    (not-false c.args.head.constructed c.if-not-head.false) c.read_whole.ensures)
+
+pub read_body-returns-in_default-kind : goal.read_body-returns-in_default-kind
+read_body-returns-in_default-kind t c = reads_up (rules_of c.args.coding) c.args.nodes.now c.args.depth c.args.of (parts_of c.args.head c.args.content.now) c.in-Some.node.now c.in-Some.node.now.kind c.args.tape.now.items c.read_leaf.new.tape.items c.read_leaf.result (grind (arith, c.if-depth-eq0.false)) c.in-Some.ensures.some (sym c.if-not-has_a_tag.ensures) refl
+    (c.read_leaf.ensures c.args.nodes.now (c.args.depth - 1) c.args.of)
+
+pub read_body-returns-in-Octets : goal.read_body-returns-in-Octets
+read_body-returns-in-Octets t c = reads_up (rules_of c.args.coding) c.args.nodes.now c.args.depth c.args.of (parts_of c.args.head c.args.content.now) c.in-Some.node.now kinds.Octets c.args.tape.now.items c.read_octets.new.tape.items c.read_octets.result (grind (arith, c.if-depth-eq0.false)) c.in-Some.ensures.some (sym c.if-not-has_a_tag.ensures) c.in-Octets.is
+    (c.read_octets.ensures c.args.nodes.now c.args.of)
+
+pub read_body-read_body-requires : goal.read_body-read_body-requires
+read_body-read_body-requires t c =
+    let b : c.in-Within.inner < c.args.of = (bounds_order c.args.nodes.now c.args.of c.in-Within.inner c.in-Within.lower c.in-Within.upper c.in-Some.node.now c.requires c.in-Some.ensures.some c.in-Within.is) in
+    let within : c.args.of < length c.args.nodes.now = slice_get_within c.args.nodes.now c.args.of c.in-Some.node.now c.in-Some.ensures.some in
+    search rules
+
+pub read_body-returns-in-Ok-read_body : goal.read_body-returns-in-Ok-read_body
+read_body-returns-in-Ok-read_body t c = reads_up (rules_of c.args.coding) c.args.nodes.now {T = Unit {0}} c.args.depth c.args.of (parts_of c.args.head c.args.content.now) c.in-Some.node.now (kinds.Within c.in-Within.inner c.in-Within.lower c.in-Within.upper) c.args.tape.now.items c.read_body.new.tape.items c.judge_bounds.result (grind (arith, c.if-depth-eq0.false)) c.in-Some.ensures.some (sym c.if-not-has_a_tag.ensures) c.in-Within.is
+    (within_read (rules_of c.args.coding) (lawful_of c.args.coding) c.args.nodes.now c.requires {T = Unit {0}} c.args.depth c.args.of c.in-Within.inner c.in-Within.lower c.in-Within.upper (parts_of c.args.head c.args.content.now) c.args.tape.now.items c.read_body.new.tape.items c.judge_bounds.result (grind (arith, c.if-depth-eq0.false)) (bounds_order c.args.nodes.now c.args.of c.in-Within.inner c.in-Within.lower c.in-Within.upper c.in-Some.node.now c.requires c.in-Some.ensures.some c.in-Within.is)
+    (within_judged (rules_of c.args.coding) (lawful_of c.args.coding) c.args.nodes.now c.requires c.args.depth c.in-Within.inner c.in-Within.lower c.in-Within.upper (parts_of c.args.head c.args.content.now) c.args.tape.now.items
+    c.read_body.new.tape.items c.judge_bounds.result c.in-Ok-read_body.ensures
+    (c.judge_bounds.ensures (marks c.args.tape.now.items) c.in-Ok-read_body.ensures.kept
+    (subst (λ (z : List Item). marks z ≡ marks c.args.tape.now.items ++ tape_of c.in-Ok-read_body.ensures.kept) (sym c.deref-in-Ok-read_body.ensures.value) c.in-Ok-read_body.ensures.is)
+    (let m = length-map c.args.tape.now.items mark in omega (arith, c.len-place.ensures, m)))))
+
+pub read_body-returns-in-Err-read_body : goal.read_body-returns-in-Err-read_body
+read_body-returns-in-Err-read_body t c = reads_up (rules_of c.args.coding) c.args.nodes.now {T = Unit {0}} c.args.depth c.args.of (parts_of c.args.head c.args.content.now) c.in-Some.node.now (kinds.Within c.in-Within.inner c.in-Within.lower c.in-Within.upper) c.args.tape.now.items c.read_body.new.tape.items (Err c.in-Err-read_body.e) (grind (arith, c.if-depth-eq0.false)) c.in-Some.ensures.some (sym c.if-not-has_a_tag.ensures) c.in-Within.is
+    (within_read (rules_of c.args.coding) (lawful_of c.args.coding) c.args.nodes.now c.requires {T = Unit {0}} c.args.depth c.args.of c.in-Within.inner c.in-Within.lower c.in-Within.upper (parts_of c.args.head c.args.content.now) c.args.tape.now.items c.read_body.new.tape.items (Err c.in-Err-read_body.e) (grind (arith, c.if-depth-eq0.false)) (bounds_order c.args.nodes.now c.args.of c.in-Within.inner c.in-Within.lower c.in-Within.upper c.in-Some.node.now c.requires c.in-Some.ensures.some c.in-Within.is)
+    (bounds_refused (Unit {0}) (Unit {0}) (IsBody c.args.coding c.args.nodes.now c.args.depth c.in-Within.inner (parts_of c.args.head c.args.content.now)) c.in-Within.lower c.in-Within.upper c.args.tape.now.items c.read_body.new.tape.items c.read_body.new.tape.items c.in-Err-read_body.e c.in-Err-read_body.ensures))
+
+pub read_body-returns-in-Ok : goal.read_body-returns-in-Ok
+read_body-returns-in-Ok t c = reads_up (rules_of c.args.coding) c.args.nodes.now c.args.depth c.args.of (parts_of c.args.head c.args.content.now) c.in-Some.node.now kinds.Any c.args.tape.now.items c.put_item.new.tape.items c.put_item.result (grind (arith, c.if-depth-eq0.false)) c.in-Some.ensures.some (sym c.if-not-has_a_tag.ensures) c.in-Any.is
+    (leaf_read (IsOfKind c.args.coding c.args.nodes.now (c.args.depth - 1) c.args.of kinds.Any (parts_of c.args.head c.args.content.now)) c.args.tape.now.items c.put_item.new.tape.items c.in-Ok.item c.put_item.result (c.in-Ok.ensures c.args.nodes.now c.args.of) c.put_item.ensures.ok c.put_item.ensures.err)
+
+pub read_body-returns-in-Err : goal.read_body-returns-in-Err
+read_body-returns-in-Err t c = reads_up (rules_of c.args.coding) c.args.nodes.now {T = Unit {0}} c.args.depth c.args.of (parts_of c.args.head c.args.content.now) c.in-Some.node.now kinds.Any c.args.tape.now.items c.args.tape.now.items (Err c.in-Err.e) (grind (arith, c.if-depth-eq0.false)) c.in-Some.ensures.some (sym c.if-not-has_a_tag.ensures) c.in-Any.is (no_leaf (Unit {0}) (IsOfKind c.args.coding c.args.nodes.now (c.args.depth - 1) c.args.of kinds.Any (parts_of c.args.head c.args.content.now)) c.args.tape.now.items c.in-Err.e (c.in-Err.ensures c.args.nodes.now c.args.of))
+
+pub read_choice-returns-in_default : goal.read_choice-returns-in_default
+read_choice-returns-in_default t c = no_arm (rules_of c.args.coding) (lawful_of c.args.coding) c.args.nodes.now c.args.depth c.args.arms.now (parts_of c.args.head c.args.content.now) c.in_default.ensures.none
+
+pub read_choice-read_body-requires : goal.read_choice-read_body-requires
+read_choice-read_body-requires t c =
+    let b : c.in-Some.arm < c.args.of = arm_before c.args.of c.args.arms.now c.in-Some.k c.in-Some.arm c.requires.order c.in-Some.ensures.some.0 in
+    search rules
+
+pub read_choice-returns-in-Err-read_body : goal.read_choice-returns-in-Err-read_body
+read_choice-returns-in-Err-read_body t c = arm_refused (rules_of c.args.coding) (lawful_of c.args.coding) c.args.nodes.now c.args.depth c.args.arms.now (Unit {0}) (Unit {0}) (parts_of c.args.head c.args.content.now) c.in-Some.k c.in-Some.arm c.args.tape.now.items c.put_item.new.tape.items
+    c.read_body.new.tape.items c.read_body.new.tape.items c.in-Err-read_body.e c.requires.told c.in-Some.ensures.some.0 c.in-Some.ensures.some.1 c.in-Err-read_body.ensures
+
+pub read_choice-returns-in-Ok-read_body : goal.read_choice-returns-in-Ok-read_body
+read_choice-returns-in-Ok-read_body t c = arm_read (rules_of c.args.coding) (lawful_of c.args.coding) c.args.nodes.now c.args.depth c.args.arms.now (parts_of c.args.head c.args.content.now) c.in-Some.k c.in-Some.arm c.args.tape.now.items c.put_item.new.tape.items
+    c.read_body.new.tape.items c.put_item-in-Ok-read_body.new.tape.items c.put_item-in-Ok-read_body.result c.in-Some.ensures.some.0 c.in-Ok.ensures.ok
+    c.in-Ok-read_body.ensures c.put_item-in-Ok-read_body.ensures.ok c.put_item-in-Ok-read_body.ensures.err
+
+pub read_front-returns-in_default-clause-value : goal.read_front-returns-in_default-clause-value
+read_front-returns-in_default-clause-value t c = no_element (rules_of c.args.coding) (lawful_of c.args.coding) (IsBody c.args.coding c.args.nodes.now c.args.depth c.args.of) c.args.octets.now c.in_default.ensures.none
+
+pub read_front-returns-in-Err-clause-value : goal.read_front-returns-in-Err-clause-value
+read_front-returns-in-Err-clause-value t c = front_refused (rules_of c.args.coding) (lawful_of c.args.coding) (IsBody c.args.coding c.args.nodes.now c.args.depth c.args.of) (Unit {0}) c.args.octets.now c.in-Some.rest.now (parts_of c.in-Some.head c.in-Some.content.now) c.args.tape.now.items c.read_body.new.tape.items c.read_body.new.tape.items c.in-Err.e c.in-Some.ensures.some c.in-Err.ensures
+
+pub read_front-returns-in-Ok-clause-value : goal.read_front-returns-in-Ok-clause-value
+read_front-returns-in-Ok-clause-value t c = front_read (rules_of c.args.coding) (lawful_of c.args.coding) (IsBody c.args.coding c.args.nodes.now c.args.depth c.args.of) c.args.octets.now c.in-Some.rest.now (parts_of c.in-Some.head c.in-Some.content.now) c.args.tape.now.items c.read_body.new.tape.items c.in-Some.ensures.some c.in-Ok.ensures
+
+pub read_front-returns-in-Ok-clause-shorter : goal.read_front-returns-in-Ok-clause-shorter
+read_front-returns-in-Ok-clause-shorter t c = front_shorter (rules_of c.args.coding) (lawful_of c.args.coding) (IsBody c.args.coding c.args.nodes.now c.args.depth c.args.of) c.args.octets.now c.in-Some.rest.now (parts_of c.in-Some.head c.in-Some.content.now) c.in-Some.ensures.some
+
+pub read_whole-returns-then-not-is_at_end : goal.read_whole-returns-then-not-is_at_end
+read_whole-returns-then-not-is_at_end t c = λ v b. not_whole (rules_of c.args.coding) (lawful_of c.args.coding) (IsBody c.args.coding c.args.nodes.now c.args.depth c.args.of) c.args.octets.now c.in-Ok.rest.now c.args.tape.now.items c.read_front.new.tape.items
+    (λ e. let f = c.if-not-is_at_end.ensures.no e in absurd (cc)) c.in-Ok.ensures.value v b
+
+pub read_whole-returns-else-not-is_at_end : goal.read_whole-returns-else-not-is_at_end
+read_whole-returns-else-not-is_at_end t c = whole_read (rules_of c.args.coding) (lawful_of c.args.coding) (IsBody c.args.coding c.args.nodes.now c.args.depth c.args.of) c.args.octets.now c.in-Ok.rest.now c.args.tape.now.items c.read_front.new.tape.items (c.if-not-is_at_end.ensures.yes refl) c.in-Ok.ensures.value
+
+pub read_whole-returns-in-Err : goal.read_whole-returns-in-Err
+read_whole-returns-in-Err t c = whole_refused (rules_of c.args.coding) (lawful_of c.args.coding) (IsBody c.args.coding c.args.nodes.now c.args.depth c.args.of) (Unit {0}) c.args.octets.now c.args.tape.now.items c.read_front.new.tape.items c.read_front.new.tape.items c.in-Err.e c.in-Err.ensures.value
+
+pub read_row-returns-in-Ok-read_fields : goal.read_row-returns-in-Ok-read_fields
+read_row-returns-in-Ok-read_fields t c = row_read c.args.constructed (AreFieldsOf c.args.coding c.args.nodes.now c.args.depth c.args.unknown c.args.fields.now c.args.octets.now) c.args.tape.now.items c.open_row.new.tape.items c.read_fields.new.tape.items c.close_row.new.tape.items c.in-Ok.place c.close_row.result
+    c.if-not-constructed.false c.in-Ok.ensures.place c.in-Ok.ensures.pushed c.in-Ok-read_fields.ensures c.close_row.ensures.closed c.close_row.ensures.err
+
+pub read_row-returns-in-Err-read_fields : goal.read_row-returns-in-Err-read_fields
+read_row-returns-in-Err-read_fields t c = row_refused (Unit {0}) (Unit {0}) c.args.constructed (AreFieldsOf c.args.coding c.args.nodes.now c.args.depth c.args.unknown c.args.fields.now c.args.octets.now) c.args.tape.now.items c.open_row.new.tape.items c.read_fields.new.tape.items c.read_fields.new.tape.items c.in-Err-read_fields.e c.in-Err-read_fields.ensures
+
+pub read_items-loop-rest-init : goal.read_items-loop-rest-init
+read_items-loop-rest-init t c = nothing_yet (AreItemsOf c.args.coding c.args.nodes.now c.args.depth c.args.of c.args.octets.now) c.args.tape.now.items
+
+pub read_items-returns-in-Err : goal.read_items-returns-in-Err
+read_items-returns-in-Err t c = items_refused (rules_of c.args.coding) (lawful_of c.args.coding) (IsBody c.args.coding c.args.nodes.now c.args.depth c.args.of) (Unit {0}) (AreItemsOf c.args.coding c.args.nodes.now c.args.depth c.args.of c.args.octets.now) c.loop-rest.rest.now c.args.tape.now.items c.loop-rest.tape.items c.read_front.new.tape.items c.in-Err.e
+    (λ e. let f = c.loop-rest-test.ensures.no e in absurd (cc)) c.loop-rest.invariant c.in-Err.ensures.value
+
+pub read_items-loop-rest-preserved : goal.read_items-loop-rest-preserved
+read_items-loop-rest-preserved t c = item_more (rules_of c.args.coding) (lawful_of c.args.coding) (IsBody c.args.coding c.args.nodes.now c.args.depth c.args.of) (AreItemsOf c.args.coding c.args.nodes.now c.args.depth c.args.of c.args.octets.now) c.loop-rest.rest.now c.in-Ok.tail.now c.args.tape.now.items c.loop-rest.tape.items c.read_front.new.tape.items
+    c.loop-rest.invariant c.in-Ok.ensures.value
+
+pub read_items-returns : goal.read_items-returns
+read_items-returns t c = items_done (rules_of c.args.coding) (lawful_of c.args.coding) (IsBody c.args.coding c.args.nodes.now c.args.depth c.args.of) (AreItemsOf c.args.coding c.args.nodes.now c.args.depth c.args.of c.args.octets.now) c.loop-rest.rest.now c.args.tape.now.items c.loop-rest.tape.items (c.loop-rest-test.ensures.yes refl) c.loop-rest.invariant
+
+pub read_fields-loop-field-init : goal.read_fields-loop-field-init
+read_fields-loop-field-init t c = record { told = c.requires.told; so_far = nothing_yet (AreFieldsOf c.args.coding c.args.nodes.now c.args.depth c.args.unknown c.args.fields.now c.args.octets.now) c.args.tape.now.items }
+
+pub read_fields-returns-in-Err : goal.read_fields-returns-in-Err
+read_fields-returns-in-Err t c = fields_refused (rules_of c.args.coding) (lawful_of c.args.coding) c.args.nodes.now (IsBody c.args.coding c.args.nodes.now c.args.depth) (tag_of_body (rules_of c.args.coding) (lawful_of c.args.coding) c.args.nodes.now c.args.depth) (Unit {0}) c.args.unknown (AreFieldsOf c.args.coding c.args.nodes.now c.args.depth c.args.unknown c.args.fields.now c.args.octets.now) c.loop-field.left.now c.in-Some.field.now c.in-Some.others.now c.loop-field.rest.now
+    c.args.tape.now.items c.loop-field.tape.items c.read_field.new.tape.items c.in-Err.e c.in-Some.ensures.cases.0 c.loop-field.invariant.told c.loop-field.invariant.so_far c.in-Err.ensures
+
+pub read_fields-loop-field-preserved : goal.read_fields-loop-field-preserved
+read_fields-loop-field-preserved t c = record {
+  told = second_holds (not (may_be_left_out c.in-Some.field.now.presence) || field_told c.args.nodes.now c.args.unknown (node_at c.args.nodes.now c.in-Some.field.now.of) c.in-Some.others.now)
+      (fields_told c.args.nodes.now c.args.unknown c.in-Some.others.now)
+      (subst (λ (z : List Field). fields_told c.args.nodes.now c.args.unknown z ≡ true) c.in-Some.ensures.cases.0 c.loop-field.invariant.told);
+  so_far = fields_further (rules_of c.args.coding) (lawful_of c.args.coding) c.args.nodes.now (IsBody c.args.coding c.args.nodes.now c.args.depth) (tag_of_body (rules_of c.args.coding) (lawful_of c.args.coding) c.args.nodes.now c.args.depth) (written_of c.args.coding) c.args.unknown (AreFieldsOf c.args.coding c.args.nodes.now c.args.depth c.args.unknown c.args.fields.now c.args.octets.now) c.loop-field.left.now c.in-Some.field.now c.in-Some.others.now
+      c.loop-field.rest.now c.in-Ok.tail.now c.args.tape.now.items c.loop-field.tape.items c.read_field.new.tape.items c.in-Some.ensures.cases.0 c.loop-field.invariant.told
+      c.loop-field.invariant.so_far c.in-Ok.ensures;
+}
+
+pub read_fields-returns-in-Some-unknown : goal.read_fields-returns-in-Some-unknown
+read_fields-returns-in-Some-unknown t c = fields_ended (rules_of c.args.coding) (lawful_of c.args.coding) c.args.nodes.now (IsBody c.args.coding c.args.nodes.now c.args.depth) (tag_of_body (rules_of c.args.coding) (lawful_of c.args.coding) c.args.nodes.now c.args.depth) c.args.unknown (AreFieldsOf c.args.coding c.args.nodes.now c.args.depth c.args.unknown c.args.fields.now c.args.octets.now) c.loop-field.left.now c.loop-field.rest.now c.args.tape.now.items c.loop-field.tape.items c.read_items.new.tape.items c.read_items.result (nil_from_length c.loop-field.left.now c.in_default.ensures.cases) c.loop-field.invariant.so_far
+    (subst (λ (z : Option ℕ). ReadsRow (AreUnknown (rules_of c.args.coding) (IsBody c.args.coding c.args.nodes.now c.args.depth) z c.loop-field.rest.now) c.loop-field.tape.items c.read_items.new.tape.items c.read_items.result)
+    (sym c.in-Some-unknown.is) c.read_items.ensures)
+
+pub read_fields-returns-then-not-is_at_end : goal.read_fields-returns-then-not-is_at_end
+read_fields-returns-then-not-is_at_end t c = fields_over (rules_of c.args.coding) (lawful_of c.args.coding) c.args.nodes.now (IsBody c.args.coding c.args.nodes.now c.args.depth) (tag_of_body (rules_of c.args.coding) (lawful_of c.args.coding) c.args.nodes.now c.args.depth) c.args.unknown (AreFieldsOf c.args.coding c.args.nodes.now c.args.depth c.args.unknown c.args.fields.now c.args.octets.now) c.loop-field.left.now c.loop-field.rest.now c.args.tape.now.items c.loop-field.tape.items (nil_from_length c.loop-field.left.now c.in_default.ensures.cases) c.loop-field.invariant.so_far c.in-None.is (λ e. let f = c.if-not-is_at_end.ensures.no e in absurd (cc))
+
+pub read_fields-returns-else-not-is_at_end : goal.read_fields-returns-else-not-is_at_end
+read_fields-returns-else-not-is_at_end t c = fields_done (rules_of c.args.coding) (lawful_of c.args.coding) c.args.nodes.now (IsBody c.args.coding c.args.nodes.now c.args.depth) (tag_of_body (rules_of c.args.coding) (lawful_of c.args.coding) c.args.nodes.now c.args.depth) c.args.unknown (AreFieldsOf c.args.coding c.args.nodes.now c.args.depth c.args.unknown c.args.fields.now c.args.octets.now) c.loop-field.left.now c.loop-field.rest.now c.args.tape.now.items c.loop-field.tape.items (nil_from_length c.loop-field.left.now c.in_default.ensures.cases) c.loop-field.invariant.so_far c.in-None.is (c.if-not-is_at_end.ensures.yes refl)
+
+pub read_field-returns-in-Err : goal.read_field-returns-in-Err
+read_field-returns-in-Err t c = field_refused (rules_of c.args.coding) (lawful_of c.args.coding) c.args.nodes.now (IsBody c.args.coding c.args.nodes.now c.args.depth) (tag_of_body (rules_of c.args.coding) (lawful_of c.args.coding) c.args.nodes.now c.args.depth) (Unit {0}) c.args.field.now.presence c.args.field.now.of c.args.octets.now c.in-Some.rest.now (parts_of c.in-Some.head c.in-Some.content.now) c.args.tape.now.items c.read_body.new.tape.items c.read_body.new.tape.items c.in-Err.e
+    c.in-Some.ensures.some c.in-Some.ensures.tagged c.in-Err.ensures
+
+pub read_field-returns-in-Ok : goal.read_field-returns-in-Ok
+read_field-returns-in-Ok t c = field_there (rules_of c.args.coding) (lawful_of c.args.coding) c.args.nodes.now (IsBody c.args.coding c.args.nodes.now c.args.depth) (tag_of_body (rules_of c.args.coding) (lawful_of c.args.coding) c.args.nodes.now c.args.depth) c.args.field.now.presence c.args.field.now.of c.args.octets.now c.in-Some.rest.now (parts_of c.in-Some.head c.in-Some.content.now) c.args.tape.now.items c.read_body.new.tape.items c.in-Some.ensures.some c.in-Ok.ensures
+
+pub read_field-returns-in-Required : goal.read_field-returns-in-Required
+read_field-returns-in-Required t c = record { none = (no_tag (rules_of c.args.coding) (lawful_of c.args.coding) c.args.nodes.now (IsBody c.args.coding c.args.nodes.now c.args.depth) (tag_of_body (rules_of c.args.coding) (lawful_of c.args.coding) c.args.nodes.now c.args.depth) c.args.field.now.of c.args.octets.now c.in_default.ensures.none); why = inr (subst (MayNot (rules_of c.args.coding) ((IsBody c.args.coding c.args.nodes.now c.args.depth) c.args.field.now.of)) (sym c.in-Required.is) tt) }
+
+pub read_field-returns-in-Ok-put_item : goal.read_field-returns-in-Ok-put_item
+read_field-returns-in-Ok-put_item t c = inr (record { stays = refl; left = subst (λ (z : Presence). Leaves (rules_of c.args.coding) ((IsBody c.args.coding c.args.nodes.now c.args.depth) c.args.field.now.of) z c.args.tape.now.items c.put_item.new.tape.items) (sym c.in-Optional.is) c.in-Ok-put_item.ensures.ok; none = (no_tag (rules_of c.args.coding) (lawful_of c.args.coding) c.args.nodes.now (IsBody c.args.coding c.args.nodes.now c.args.depth) (tag_of_body (rules_of c.args.coding) (lawful_of c.args.coding) c.args.nodes.now c.args.depth) c.args.field.now.of c.args.octets.now c.in_default.ensures.none) })
+
+pub read_field-returns-in-Ok-read_whole : goal.read_field-returns-in-Ok-read_whole
+read_field-returns-in-Ok-read_whole t c = inr (record {
+  stays = refl;
+  left = subst (λ (z : Presence). Leaves (rules_of c.args.coding) ((IsBody c.args.coding c.args.nodes.now c.args.depth) c.args.field.now.of) z c.args.tape.now.items c.read_whole.new.tape.items) (sym c.in-Default.is)
+      (subst (λ (z : List ℕ). PutsValue (Says (rules_of c.args.coding) ((IsBody c.args.coding c.args.nodes.now c.args.depth) c.args.field.now.of) z) c.args.tape.now.items c.read_whole.new.tape.items) c.deref.ensures.value c.in-Ok-read_whole.ensures);
+  none = (no_tag (rules_of c.args.coding) (lawful_of c.args.coding) c.args.nodes.now (IsBody c.args.coding c.args.nodes.now c.args.depth) (tag_of_body (rules_of c.args.coding) (lawful_of c.args.coding) c.args.nodes.now c.args.depth) c.args.field.now.of c.args.octets.now c.in_default.ensures.none);
+})
+
+pub read_field-returns-in-Err-read_whole : goal.read_field-returns-in-Err-read_whole
+read_field-returns-in-Err-read_whole t c = field_default (rules_of c.args.coding) (lawful_of c.args.coding) c.args.nodes.now (IsBody c.args.coding c.args.nodes.now c.args.depth) (tag_of_body (rules_of c.args.coding) (lawful_of c.args.coding) c.args.nodes.now c.args.depth) (Unit {0}) c.args.field.now.presence c.in-Default.default c.args.field.now.of c.args.octets.now c.args.tape.now.items c.read_whole.new.tape.items c.read_whole.new.tape.items c.in-Err-read_whole.e
+    c.in-Default.is c.in_default.ensures.none
+    (subst (λ (z : List ℕ). ReadsValue {T = Unit {0}} (Says (rules_of c.args.coding) ((IsBody c.args.coding c.args.nodes.now c.args.depth) c.args.field.now.of) z) c.args.tape.now.items c.read_whole.new.tape.items (Err c.in-Err-read_whole.e)) c.deref.ensures.value c.in-Err-read_whole.ensures)

@@ -1,0 +1,42 @@
+-- What the decoder answers.
+use Rattle.std.specs.Prelude.{ℕ, List, [], ◌++◌, ◌≡◌, ◌≢◌, ◌<◌, ◌⊎◌, length, Option, Some, None}
+use Rattle.x690.specs.Joined.{NoFront}
+use Rattle.x690.specs.Elements.{Parts, BeginsWithElement}
+use Rattle.x690.specs.Identifiers.{IsCutIdentifier}
+use Rattle.x690.specs.Nested.{EndsInIdentifier}
+use Rattle.asn1_headers.specs.Answers.{Front}
+use Rattle.asn1_schema.specs.declared.coding.Coding.{Coding}
+use Rattle.asn1_schema.specs.declared.coding.Coding.TheVariants as codings
+use Rattle.asn1_schema.specs.declared.tape.Item.{Item}
+use Rattle.asn1_schema.specs.Values.{Value}
+use Rattle.asn1_schema.specs.Tape.{Kept, marks, value_of, tape_of}
+
+-- A word of the grammar begins the octets, and this is the rest. The tape is that of the value of the word.
+pub record Decodes (G : List ℕ → Value → Type 0) (octets rest : List ℕ) (tape : List Item) : Type 0 where
+  pub kept : Kept
+  pub front : Front G octets (value_of kept) rest
+  pub is : marks tape ≡ tape_of kept
+
+-- The octets are a word of the grammar, and the tape is that of its value.
+pub record DecodesWhole (G : List ℕ → Value → Type 0) (octets : List ℕ) (tape : List Item) : Type 0 where
+  pub kept : Kept
+  pub word : G octets (value_of kept)
+  pub is : marks tape ≡ tape_of kept
+
+-- A word of the grammar begins the octets, and some octets follow it.
+pub record IsFollowed (G : List ℕ → Value → Type 0) (octets : List ℕ) : Type 0 where
+  pub value : Value
+  pub rest : List ℕ
+  pub front : Front G octets value rest
+  pub some : rest ≢ []
+
+-- The octets end within the identifier octets of an element (X.690 8.1.2.4), by BER of one that is nested.
+abbrev pub EndsWithin : Coding → List ℕ → Type 0
+EndsWithin codings.Der octets = IsCutIdentifier octets
+EndsWithin (codings.Ber max) octets = EndsInIdentifier max octets
+
+-- So many octets are missing of the element at the front; or it is whole; or none begins the octets, whatever follows.
+abbrev pub TellsMissing : (List ℕ → Parts → Type 0) → Type 0 → List ℕ → Option ℕ → Type 0
+TellsMissing ElementOf is_cut octets (Some n) = (more : List ℕ) → length more < n → NoFront ElementOf (octets ++ more)
+TellsMissing ElementOf is_cut octets None = BeginsWithElement ElementOf octets ⊎
+    ((is_cut → ⊥) → (more : List ℕ) → NoFront ElementOf (octets ++ more))

@@ -1,0 +1,9 @@
+pub mod Values
+pub mod Grammar
+pub mod Rules
+pub mod Sound
+pub mod Tape
+pub mod Reading
+pub mod Decoding
+pub mod Pieces
+pub mod Bits

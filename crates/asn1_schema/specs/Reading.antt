@@ -1,0 +1,187 @@
+-- What readers of values may answer.
+use Rattle.std.specs.Prelude.{ℕ, ℤ, Bool, true, false, List, [], ◌∷◌, ◌++◌, ◌≡◌, ◌≢◌, ◌⊎◌, nat_lt, Contains, length, slice_get, Option, Some, Result, Ok, Err}
+use Rattle.std.specs.Borrow.{Bor}
+use Rattle.x690.specs.Identifiers.{Identifier}
+use Rattle.x690.specs.Lengths.{LengthForm, definite, indefinite}
+use Rattle.x690.specs.Integers.{IsIntegerContent}
+use Rattle.x690.specs.Elements.{Parts}
+use Rattle.asn1_schema.specs.declared.fault.Fault.{Fault}
+use Rattle.asn1_schema.specs.declared.fault.Fault.TheVariants as faults
+use Rattle.asn1_schema.specs.declared.schema.Presence.{Presence}
+use Rattle.asn1_schema.specs.declared.schema.Presence.TheVariants as presences
+use Rattle.asn1_schema.specs.declared.schema.Field.{Field}
+use Rattle.asn1_schema.specs.declared.schema.Node.{Node}
+use Rattle.asn1_schema.specs.declared.schema.Kind.{Kind}
+use Rattle.asn1_schema.specs.declared.coding.Coding.{Coding}
+use Rattle.asn1_schema.specs.declared.coding.Coding.TheVariants as codings
+use Rattle.asn1_schema.specs.declared.elements.Head.{Head}
+use Rattle.asn1_schema.specs.declared.tape.Item.{Item}
+use Rattle.asn1_schema.specs.Values.{Leaf, enumerated, Value, Values, leaf, row, chosen, measure}
+use Rattle.asn1_schema.specs.Grammar.{Rules, Says, Begins, AreItems, AnyOrder, AreFields, KindBody, Through, Body, Word, IsMeasured}
+use Rattle.asn1_schema.specs.Rules.{der, ber}
+use Rattle.asn1_schema.specs.Sound.{HasTagAt}
+use Rattle.asn1_schema.specs.Tape.{Kept, KeptRow, Mark, mark, marks, leaf_mark, absent_mark, value_of, values_of, tape_of, tapes_of}
+
+abbrev pub rules_of : Coding → Rules
+rules_of codings.Der = der
+rules_of (codings.Ber max) = ber max
+
+-- What was read of a header.
+
+abbrev pub id_of : Head → Identifier
+id_of head = record { class = head.class; constructed = head.constructed; number = head.number }
+
+abbrev pub form_of : Bool → ℕ → LengthForm
+form_of true n = indefinite
+form_of false n = definite n
+
+abbrev pub parts_of : Head → List ℕ → Parts
+parts_of head content =
+    record { id = id_of head; form = form_of head.indefinite (length content); content = content }
+
+-- An element of the type at a place of the table, and one of a kind that stands there.
+
+abbrev pub IsBody : Coding → List Node → ℕ → ℕ → Parts → Value → Type 0
+IsBody e table = Body (rules_of e) table
+
+abbrev pub IsOfKind : Coding → List Node → ℕ → ℕ → Kind → Parts → Value → Type 0
+IsOfKind e table depth t kind = KindBody (rules_of e) depth (IsBody e table depth)
+    (Through (rules_of e) depth (IsBody e table depth) table t) kind
+
+-- a value of an arm
+abbrev pub IsArmOf : Coding → List Node → ℕ → List ℕ → Parts → Value → Type 0
+IsArmOf e table depth arms p v = (k : ℕ) × (w : Value) × (a : ℕ) × (v ≡ chosen k w) × (slice_get arms k ≡ Some a) ×
+    IsBody e table depth a p w
+
+-- the octets are those of fields, and of unknown elements behind them
+abbrev pub AreFieldsOf : Coding → List Node → ℕ → Option ℕ → List Field → List ℕ → Values → Type 0
+AreFieldsOf e table depth = AreFields (rules_of e) (IsBody e table depth)
+
+abbrev pub AreItemsOf : Coding → List Node → ℕ → ℕ → List ℕ → Values → Type 0
+AreItemsOf e table depth t = AreItems (rules_of e) (IsBody e table depth t) AnyOrder
+
+abbrev pub IsRowOf : Coding → List Node → ℕ → Option ℕ → List Field → Bool → List ℕ → Value → Type 0
+IsRowOf e table depth unknown fields constructed octets v =
+    (vs : Values) × (v ≡ row vs) × (constructed ≡ true) × AreFieldsOf e table depth unknown fields octets vs
+
+abbrev pub IsWordOf : Coding → List Node → ℕ → ℕ → List ℕ → Value → Type 0
+IsWordOf e table depth t = Word (rules_of e) table depth t
+
+abbrev pub BeginsWord : Coding → List Node → ℕ → ℕ → List ℕ → Value → List ℕ → Type 0
+BeginsWord e table depth t = Begins (rules_of e) (IsBody e table depth t)
+
+-- a number that is listed
+abbrev pub IsListed : List ℤ → Bool → Parts → Value → Type 0
+IsListed numbers extensible p v = (n : ℤ) × (v ≡ leaf (enumerated n)) × (p.id.constructed ≡ false) ×
+    IsIntegerContent n p.content × ((extensible ≡ true) ⊎ Contains numbers n)
+
+-- A leaf with this property is the item; or there is no value with it.
+abbrev pub Judges : (Value → Type 0) → Result Item Fault → Type 0
+Judges P (Ok item) = (l : Leaf) × (mark item ≡ leaf_mark l) × P (leaf l)
+Judges P (Err faults.Refused) = (v : Value) → P v → ⊥
+Judges P (Err faults.Memory) = Unit {0}
+Judges P (Err faults.Unsupported) = Unit {0}
+
+-- a value with this property was put on the tape
+pub record PutsValue (P : Value → Type 0) (old new : List Item) : Type 0 where
+  pub kept : Kept
+  pub holds : P (value_of kept)
+  pub is : marks new ≡ marks old ++ tape_of kept
+
+-- The value is put on the tape; or there is none. Nothing is claimed where memory ran out, or a kind is not supported.
+abbrev pub ReadsValue : {T : Type 0} → (Value → Type 0) → List Item → List Item → Result T Fault → Type 0
+ReadsValue P old new (Ok x) = PutsValue P old new
+ReadsValue P old new (Err faults.Refused) = (v : Value) → P v → ⊥
+ReadsValue P old new (Err faults.Memory) = Unit {0}
+ReadsValue P old new (Err faults.Unsupported) = Unit {0}
+
+-- values of fields, or of a list
+pub record PutsRow (P : Values → Type 0) (old new : List Item) : Type 0 where
+  pub kept : KeptRow
+  pub holds : P (values_of kept)
+  pub is : marks new ≡ marks old ++ tapes_of kept
+
+abbrev pub ReadsRow : {T : Type 0} → (Values → Type 0) → List Item → List Item → Result T Fault → Type 0
+ReadsRow P old new (Ok x) = PutsRow P old new
+ReadsRow P old new (Err faults.Refused) = (vs : Values) → P vs → ⊥
+ReadsRow P old new (Err faults.Memory) = Unit {0}
+ReadsRow P old new (Err faults.Unsupported) = Unit {0}
+
+-- a value, before this rest
+pub record PutsFront (P : Value → List ℕ → Type 0) (old new : List Item) (rest : List ℕ) : Type 0 where
+  pub kept : Kept
+  pub holds : P (value_of kept) rest
+  pub is : marks new ≡ marks old ++ tape_of kept
+
+-- no value begins the octets
+abbrev pub HasNoFront : (Value → List ℕ → Type 0) → Type 0
+HasNoFront P = (v : Value) (rest : List ℕ) → P v rest → ⊥
+
+abbrev pub ReadsFront : (Value → List ℕ → Type 0) → List Item → List Item → Result (Bor (List ℕ)) Fault → Type 0
+ReadsFront P old new (Ok rest) = PutsFront P old new rest.now
+ReadsFront P old new (Err faults.Refused) = HasNoFront P
+ReadsFront P old new (Err faults.Memory) = Unit {0}
+ReadsFront P old new (Err faults.Unsupported) = Unit {0}
+
+-- an element with a tag of the type at a place begins the octets
+pub record BeginsTagged (R : Rules) (table : List Node) (t : ℕ) (octets : List ℕ) : Type 0 where
+  pub word : List ℕ
+  pub rest : List ℕ
+  pub parts : Parts
+  pub element : R.ElementOf word parts
+  pub is : octets ≡ word ++ rest
+  pub tagged : HasTagAt table t parts.id
+
+-- what is put where a field is left out: that it is, or the default
+abbrev pub Leaves : Rules → (Parts → Value → Type 0) → Presence → List Item → List Item → Type 0
+Leaves R Sub presences.Required old new = ⊥
+Leaves R Sub presences.Optional old new = marks new ≡ marks old ++ absent_mark ∷ []
+Leaves R Sub (presences.Default d) old new = PutsValue (Says R Sub d.items) old new
+
+pub record LeavesOut (R : Rules) (Sub : Parts → Value → Type 0) (presence : Presence) (octets : List ℕ)
+    (old new : List Item) (rest : List ℕ) : Type 0 where
+  pub stays : rest ≡ octets
+  pub left : Leaves R Sub presence old new
+  pub none : HasNoFront (Begins R Sub octets)
+
+-- a field may not be left out
+abbrev pub MayNot : Rules → (Parts → Value → Type 0) → Presence → Type 0
+MayNot R Sub presences.Required = Unit {0}
+MayNot R Sub presences.Optional = ⊥
+MayNot R Sub (presences.Default d) = (v : Value) → Says R Sub d.items v → ⊥
+
+-- a field is not there, and may not be left out
+pub record IsMissing (R : Rules) (Sub : Parts → Value → Type 0) (Tagged : Type 0) (presence : Presence)
+    (octets : List ℕ) : Type 0 where
+  pub none : HasNoFront (Begins R Sub octets)
+  pub why : Tagged ⊎ MayNot R Sub presence
+
+abbrev pub ReadsField : Rules → (Parts → Value → Type 0) → Type 0 → Presence → List ℕ → List Item → List Item →
+    Result (Bor (List ℕ)) Fault → Type 0
+ReadsField R Sub Tagged presence octets old new (Ok rest) =
+    PutsFront (Begins R Sub octets) old new rest.now ⊎ LeavesOut R Sub presence octets old new rest.now
+ReadsField R Sub Tagged presence octets old new (Err faults.Refused) = IsMissing R Sub Tagged presence octets
+ReadsField R Sub Tagged presence octets old new (Err faults.Memory) = Unit {0}
+ReadsField R Sub Tagged presence octets old new (Err faults.Unsupported) = Unit {0}
+
+-- A measure is within bounds; or it is not. Nothing is claimed where it is not supported.
+abbrev pub JudgesBounds : {T : Type 0} → Option ℤ → Option ℤ → Option ℤ → Result T Fault → Type 0
+JudgesBounds lower upper m (Ok x) = IsMeasured lower upper m
+JudgesBounds lower upper m (Err faults.Refused) = IsMeasured lower upper m → ⊥
+JudgesBounds lower upper m (Err faults.Memory) = Unit {0}
+JudgesBounds lower upper m (Err faults.Unsupported) = Unit {0}
+
+-- so for a leaf; other items are not supported
+abbrev pub JudgesItem : {T : Type 0} → Option ℤ → Option ℤ → Mark → Result T Fault → Type 0
+JudgesItem lower upper (leaf_mark l) r = JudgesBounds lower upper (measure (leaf l)) r
+JudgesItem lower upper _ r = r ≡ Err faults.Unsupported
+
+-- a value of a type within bounds
+abbrev pub IsWithinOf : Coding → List Node → ℕ → ℕ → Option ℤ → Option ℤ → Parts → Value → Type 0
+IsWithinOf e table depth t lower upper p v = IsBody e table depth t p v × IsMeasured lower upper (measure v)
+
+-- Subidentifiers in the fewest octets (X.690 8.19.2): the octets that begin one are not 80, and the last octet ends one.
+-- `true` says that the next octet begins one.
+abbrev pub AreShortestFrom : Bool → List ℕ → Type 0
+AreShortestFrom start [] = start ≡ true
+AreShortestFrom start (octet ∷ octets) = (start ≡ true → octet ≢ 128) × AreShortestFrom (nat_lt octet 128) octets

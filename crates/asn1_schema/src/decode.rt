@@ -1,0 +1,258 @@
+//! Values of the types of a table, read by DER and by BER.
+ghost use Rattle.std.specs.Prelude.{ℕ, List, [], ◌++◌, ◌≡◌, ◌≢◌, ◌<◌, ◌≤◌, Some, None, true, length, IfOk};
+ghost use Rattle.std.specs.Prelude.{OnOk, OnErr, IsErrOf};
+ghost use Rattle.x690.specs.Joined.{NoFront};
+ghost use Rattle.asn1_schema.specs.declared.decode.DecodeError.TheVariants as errors;
+ghost use Rattle.asn1_schema.specs.Values.{Value};
+ghost use Rattle.asn1_schema.specs.Grammar.{Word};
+ghost use Rattle.asn1_schema.specs.Rules.{der, ber};
+ghost use Rattle.asn1_schema.specs.Sound.{is_sound};
+ghost use Rattle.asn1_schema.specs.Reading.{rules_of, IsWordOf};
+ghost use Rattle.asn1_schema.specs.Decoding.{Decodes, DecodesWhole, IsFollowed, EndsWithin, TellsMissing};
+ghost use Rattle.asn1_schema.specs.declared.fault.Fault.TheVariants as faults;
+ghost use Rattle.x690.specs.Identifiers.{IsCutIdentifier};
+ghost use Rattle.x690.specs.Nested.{EndsInIdentifier};
+
+use crate::coding::Coding;
+use crate::elements::is_at_end;
+use crate::fault::Fault;
+use crate::missing::missing_octets;
+use crate::reading::read_front;
+use crate::refusal::{Reason, Refusal};
+use crate::schema::Node;
+use crate::tape::Item;
+
+/// Why octets are not decoded. Where and why they are refused stands in the [`Refusal`] beside it.
+#[derive(Debug, Clone, Copy, PartialEq, Eq)]
+pub enum DecodeError {
+    /// Memory ran out: no other items were put on the tape.
+    OutOfMemory,
+    /// No word of the type begins the octets.
+    Refused,
+    /// The element at the front is cut: so many octets are missing at least.
+    Incomplete(usize),
+    /// A word of the type begins the octets, and others follow.
+    TrailingOctets,
+    /// A part of the octets is of a kind or form that is not read yet.
+    Unsupported,
+}
+
+/// The answer where reading stopped: a refusal is final, or the element at the front is cut.
+fn error_of(coding: Coding, octets: &[u8], fault: Fault) -> DecodeError
+    ensures refused { result ≡ errors.Refused → (fault ≡ faults.Refused)
+        × TellsMissing (rules_of coding).ElementOf (EndsWithin coding octets.now) octets.now None }
+    ensures cut { (n : ℕ) → result ≡ errors.Incomplete n →
+        TellsMissing (rules_of coding).ElementOf (EndsWithin coding octets.now) octets.now (Some n) }
+    ensures no_other { result ≡ errors.TrailingOctets → ⊥ }
+{
+    match fault {
+        Fault::Memory => DecodeError::OutOfMemory,
+        Fault::Unsupported => DecodeError::Unsupported,
+        Fault::Refused => match missing_octets(coding, octets) {
+            Some(n) => DecodeError::Incomplete(n),
+            None => DecodeError::Refused,
+        },
+    }
+}
+
+/// Reads a value of a type at the front of the octets by these rules, as [`decode_der`] and [`decode_ber`] do.
+pub fn decode<'a>(
+    coding: Coding,
+    table: &'a [Node],
+    of: usize,
+    depth: usize,
+    octets: &'a [u8],
+    tape: &mut Vec<Item<'a>>,
+    refusal: &mut Refusal,
+) -> Result<&'a [u8], DecodeError>
+    requires { is_sound table.now ≡ true }
+    ensures ok { IfOk result (λ rest.
+        Decodes (IsWordOf coding table.now depth of) octets.now rest.now tape.new.items) }
+    ensures refused { IsErrOf result errors.Refused → NoFront (IsWordOf coding table.now depth of)
+        octets.now }
+    ensures lasting { IsErrOf result errors.Refused → (EndsWithin coding octets.now → ⊥) →
+        (more : List ℕ) →
+        NoFront (IsWordOf coding table.now depth of) (octets.now ++ more) }
+    ensures incomplete { (n : ℕ) → IsErrOf result (errors.Incomplete n) → (more : List ℕ) →
+        length more < n →
+        NoFront (IsWordOf coding table.now depth of) (octets.now ++ more) }
+    ensures never_trailing { IsErrOf result errors.TrailingOctets → ⊥ }
+    ensures emptied { OnErr result (tape.new.items ≡ []) }
+    ensures octet { refusal.new.octet ≤ length octets.now }
+{
+    tape.clear();
+    match read_front(coding, table, depth, of, octets, 0, tape, refusal) {
+        Ok(rest) => {
+            *refusal = Refusal::none();
+            Ok(rest)
+        }
+        Err(fault) => {
+            tape.clear();
+            refusal.keep_within(octets.len());
+            Err(error_of(coding, octets, fault))
+        }
+    }
+}
+
+/// Reads octets that are one value whole by these rules, as [`decode_der_whole`] and [`decode_ber_whole`] do.
+pub fn decode_whole<'a>(
+    coding: Coding,
+    table: &'a [Node],
+    of: usize,
+    depth: usize,
+    octets: &'a [u8],
+    tape: &mut Vec<Item<'a>>,
+    refusal: &mut Refusal,
+) -> Result<(), DecodeError>
+    requires { is_sound table.now ≡ true }
+    ensures ok { OnOk result (DecodesWhole (IsWordOf coding table.now depth of) octets.now
+        tape.new.items) }
+    ensures refused { IsErrOf result errors.Refused → NoFront (IsWordOf coding table.now depth of)
+        octets.now }
+    ensures lasting { IsErrOf result errors.Refused → (EndsWithin coding octets.now → ⊥) →
+        (more : List ℕ) →
+        NoFront (IsWordOf coding table.now depth of) (octets.now ++ more) }
+    ensures incomplete { (n : ℕ) → IsErrOf result (errors.Incomplete n) → (more : List ℕ) →
+        length more < n →
+        NoFront (IsWordOf coding table.now depth of) (octets.now ++ more) }
+    ensures trailing { IsErrOf result errors.TrailingOctets →
+        IsFollowed (IsWordOf coding table.now depth of) octets.now }
+    ensures emptied { OnErr result (tape.new.items ≡ []) }
+    ensures octet { refusal.new.octet ≤ length octets.now }
+{
+    match decode(coding, table, of, depth, octets, tape, refusal) {
+        Ok(rest) => {
+            if is_at_end(rest) {
+                return Ok(());
+            }
+            tape.clear();
+            refusal.tell(octets.len() - rest.len(), of, Reason::TrailingOctets);
+            refusal.keep_within(octets.len());
+            Err(DecodeError::TrailingOctets)
+        }
+        Err(error) => Err(error),
+    }
+}
+
+/// Reads a value of a type of a sound table at the front of the octets by DER, and gives back the octets that follow.
+///
+/// `of` is the place of the type in the table. Elements may nest `depth` deep, and one that has no others within
+/// has depth 1. The tape is emptied first, and holds the value of the one word that begins the octets.
+///
+/// `Refused` says that no word begins the octets, whatever follows, but where they end within identifier octets.
+/// `Incomplete(n)` says that none does with fewer than `n` octets more. An element that nests too deep is refused
+/// with the reason `Depth`. A set-of may be in any order, and a default may be written: the strict encodings
+/// (X.690 11.5, 11.6) are asked for apart.
+pub fn decode_der<'a>(
+    table: &'a [Node],
+    of: usize,
+    depth: usize,
+    octets: &'a [u8],
+    tape: &mut Vec<Item<'a>>,
+    refusal: &mut Refusal,
+) -> Result<&'a [u8], DecodeError>
+    requires { is_sound table.now ≡ true }
+    ensures ok { IfOk result (λ rest. Decodes (Word der table.now depth of) octets.now rest.now
+        tape.new.items) }
+    ensures refused { IsErrOf result errors.Refused → NoFront (Word der table.now depth of)
+        octets.now }
+    ensures lasting { IsErrOf result errors.Refused → (IsCutIdentifier octets.now → ⊥) →
+        (more : List ℕ) →
+        NoFront (Word der table.now depth of) (octets.now ++ more) }
+    ensures incomplete { (n : ℕ) → IsErrOf result (errors.Incomplete n) → (more : List ℕ) →
+        length more < n →
+        NoFront (Word der table.now depth of) (octets.now ++ more) }
+    ensures never_trailing { IsErrOf result errors.TrailingOctets → ⊥ }
+    ensures emptied { OnErr result (tape.new.items ≡ []) }
+    ensures octet { refusal.new.octet ≤ length octets.now }
+{
+    decode(Coding::Der, table, of, depth, octets, tape, refusal)
+}
+
+/// Reads a value of a type of a sound table at the front of the octets by BER, as [`decode_der`] does by DER.
+///
+/// Elements of indefinite length may nest `max` deep.
+pub fn decode_ber<'a>(
+    max: usize,
+    table: &'a [Node],
+    of: usize,
+    depth: usize,
+    octets: &'a [u8],
+    tape: &mut Vec<Item<'a>>,
+    refusal: &mut Refusal,
+) -> Result<&'a [u8], DecodeError>
+    requires { is_sound table.now ≡ true }
+    ensures ok { IfOk result (λ rest.
+        Decodes (Word (ber max) table.now depth of) octets.now rest.now tape.new.items) }
+    ensures refused { IsErrOf result errors.Refused → NoFront (Word (ber max) table.now depth of)
+        octets.now }
+    ensures lasting { IsErrOf result errors.Refused → (EndsInIdentifier max octets.now → ⊥) →
+        (more : List ℕ) →
+        NoFront (Word (ber max) table.now depth of) (octets.now ++ more) }
+    ensures incomplete { (n : ℕ) → IsErrOf result (errors.Incomplete n) → (more : List ℕ) →
+        length more < n →
+        NoFront (Word (ber max) table.now depth of) (octets.now ++ more) }
+    ensures never_trailing { IsErrOf result errors.TrailingOctets → ⊥ }
+    ensures emptied { OnErr result (tape.new.items ≡ []) }
+    ensures octet { refusal.new.octet ≤ length octets.now }
+{
+    decode(Coding::Ber(max), table, of, depth, octets, tape, refusal)
+}
+
+/// Reads octets that are one value whole by DER. `TrailingOctets` says that a word begins them and others follow.
+///
+/// The other refusals are those of [`decode_der`].
+pub fn decode_der_whole<'a>(
+    table: &'a [Node],
+    of: usize,
+    depth: usize,
+    octets: &'a [u8],
+    tape: &mut Vec<Item<'a>>,
+    refusal: &mut Refusal,
+) -> Result<(), DecodeError>
+    requires { is_sound table.now ≡ true }
+    ensures ok { OnOk result (DecodesWhole (Word der table.now depth of) octets.now tape.new.items) }
+    ensures refused { IsErrOf result errors.Refused → NoFront (Word der table.now depth of)
+        octets.now }
+    ensures lasting { IsErrOf result errors.Refused → (IsCutIdentifier octets.now → ⊥) →
+        (more : List ℕ) →
+        NoFront (Word der table.now depth of) (octets.now ++ more) }
+    ensures incomplete { (n : ℕ) → IsErrOf result (errors.Incomplete n) → (more : List ℕ) →
+        length more < n →
+        NoFront (Word der table.now depth of) (octets.now ++ more) }
+    ensures trailing { IsErrOf result errors.TrailingOctets →
+        IsFollowed (Word der table.now depth of) octets.now }
+    ensures emptied { OnErr result (tape.new.items ≡ []) }
+    ensures octet { refusal.new.octet ≤ length octets.now }
+{
+    decode_whole(Coding::Der, table, of, depth, octets, tape, refusal)
+}
+
+/// Reads octets that are one value whole by BER, as [`decode_der_whole`] does by DER.
+pub fn decode_ber_whole<'a>(
+    max: usize,
+    table: &'a [Node],
+    of: usize,
+    depth: usize,
+    octets: &'a [u8],
+    tape: &mut Vec<Item<'a>>,
+    refusal: &mut Refusal,
+) -> Result<(), DecodeError>
+    requires { is_sound table.now ≡ true }
+    ensures ok { OnOk result (DecodesWhole (Word (ber max) table.now depth of) octets.now
+        tape.new.items) }
+    ensures refused { IsErrOf result errors.Refused → NoFront (Word (ber max) table.now depth of)
+        octets.now }
+    ensures lasting { IsErrOf result errors.Refused → (EndsInIdentifier max octets.now → ⊥) →
+        (more : List ℕ) →
+        NoFront (Word (ber max) table.now depth of) (octets.now ++ more) }
+    ensures incomplete { (n : ℕ) → IsErrOf result (errors.Incomplete n) → (more : List ℕ) →
+        length more < n →
+        NoFront (Word (ber max) table.now depth of) (octets.now ++ more) }
+    ensures trailing { IsErrOf result errors.TrailingOctets →
+        IsFollowed (Word (ber max) table.now depth of) octets.now }
+    ensures emptied { OnErr result (tape.new.items ≡ []) }
+    ensures octet { refusal.new.octet ≤ length octets.now }
+{
+    decode_whole(Coding::Ber(max), table, of, depth, octets, tape, refusal)
+}

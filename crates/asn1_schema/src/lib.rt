@@ -1,0 +1,26 @@
+//! Types of ASN.1 as ordinary data (ITU-T X.680): a table of types, and one decoder for all types of all sound tables
+//! by the rules of X.690.
+#![tactic(auto)]
+
+mod any;
+mod bits;
+mod bounds;
+pub mod coding;
+pub mod decode;
+mod elements;
+mod fault;
+mod identifiers;
+pub mod laws;
+mod leaves;
+mod missing;
+mod moments;
+mod numbers;
+mod pieces;
+mod reading;
+pub mod refusal;
+mod rows;
+pub mod schema;
+pub mod sound;
+mod tagged;
+pub mod tape;
+mod texts;

@@ -1,0 +1,413 @@
+//! One reader for all types of all sound tables, by DER and by BER.
+ghost use Rattle.std.specs.Prelude.{◌≡◌, ◌<◌, true, length, IfOk};
+ghost use Rattle.asn1_schema.specs.Sound.{is_sound, fields_told, arms_told, all_before};
+ghost use Rattle.asn1_schema.specs.Reading.{rules_of, parts_of, IsBody, IsArmOf, AreFieldsOf, AreItemsOf};
+ghost use Rattle.asn1_schema.specs.Reading.{IsRowOf, IsWordOf, BeginsWord, ReadsValue, ReadsRow, ReadsFront};
+ghost use Rattle.asn1_schema.specs.Reading.{ReadsField, BeginsTagged};
+
+use crate::any::any_item;
+use crate::bounds::judge_bounds;
+use crate::coding::Coding;
+use crate::elements::{Head, element, is_at_end};
+use crate::fault::Fault;
+use crate::leaves::read_leaf;
+use crate::pieces::read_octets;
+use crate::refusal::{Reason, Refusal, further};
+use crate::rows::{close_row, open_row, put_item};
+use crate::schema::{Field, Kind, Node, Presence};
+use crate::tagged::{arm_of, has_a_tag, node_at, tagged_element};
+use crate::tape::Item;
+
+/// Puts the value of an element of the type at a place of the table on the tape.
+#[cycle(reading)]
+fn read_body<'a>(
+    coding: Coding,
+    nodes: &'a [Node],
+    depth: usize,
+    of: usize,
+    head: Head,
+    content: &'a [u8],
+    tape: &mut Vec<Item<'a>>,
+    refusal: &mut Refusal,
+) -> Result<(), Fault>
+    requires { is_sound nodes.now ≡ true }
+    ensures { ReadsValue (IsBody coding nodes.now depth of (parts_of head content.now))
+        tape.old.items tape.new.items result }
+{
+    if depth == 0 {
+        refusal.tell(head.start, of, Reason::Depth);
+        return Err(Fault::Refused);
+    }
+    let Some(node) = node_at(nodes, of) else {
+        refusal.tell(head.start, of, Reason::MissingType);
+        return Err(Fault::Refused);
+    };
+    if !has_a_tag(&node.tags, head) {
+        refusal.tell(head.start, of, Reason::Tag);
+        return Err(Fault::Refused);
+    }
+    match &node.kind {
+        Kind::Sequence(fields, unknown) => {
+            read_row(
+                coding,
+                nodes,
+                depth - 1,
+                fields,
+                *unknown,
+                of,
+                head.constructed,
+                content,
+                head.inner,
+                tape,
+                refusal,
+            )
+        }
+        Kind::SequenceOf(inner) => {
+            read_row(
+                coding,
+                nodes,
+                depth - 1,
+                &[],
+                Some(*inner),
+                of,
+                head.constructed,
+                content,
+                head.inner,
+                tape,
+                refusal,
+            )
+        }
+        Kind::SetOf(inner) => {
+            read_row(
+                coding,
+                nodes,
+                depth - 1,
+                &[],
+                Some(*inner),
+                of,
+                head.constructed,
+                content,
+                head.inner,
+                tape,
+                refusal,
+            )
+        }
+        Kind::Choice(arms) => read_choice(
+            coding, nodes, depth, of, arms, head, content, tape, refusal,
+        ),
+        Kind::Explicit(inner) => {
+            if !head.constructed {
+                refusal.tell(head.start, of, Reason::Form);
+                return Err(Fault::Refused);
+            }
+            read_whole(
+                coding,
+                nodes,
+                depth - 1,
+                *inner,
+                content,
+                head.inner,
+                tape,
+                refusal,
+            )
+        }
+        // What is told first counts only where it is then refused.
+        Kind::Octets => {
+            refusal.tell(head.inner, of, Reason::Contents);
+            read_octets(coding, depth - 1, head, content, tape)
+        }
+        Kind::Any => {
+            refusal.tell(head.inner, of, Reason::Contents);
+            match any_item(coding, depth - 1, head, content) {
+                Ok(item) => put_item(tape, item),
+                Err(e) => Err(e),
+            }
+        }
+        Kind::Within(inner, lower, upper) => {
+            let place = tape.len();
+            match read_body(coding, nodes, depth, *inner, head, content, tape, refusal) {
+                Ok(()) => {
+                    refusal.tell(head.start, of, Reason::Bounds);
+                    judge_bounds(tape, place, *lower, *upper)
+                }
+                Err(e) => Err(e),
+            }
+        }
+        _ => read_leaf(coding, of, &node.kind, head, content, tape, refusal),
+    }
+}
+
+/// Puts a value of the arm that the tag tells on the tape. The arms stand before their choice.
+#[cycle(reading)]
+fn read_choice<'a>(
+    coding: Coding,
+    nodes: &'a [Node],
+    depth: usize,
+    of: usize,
+    arms: &[usize],
+    head: Head,
+    content: &'a [u8],
+    tape: &mut Vec<Item<'a>>,
+    refusal: &mut Refusal,
+) -> Result<(), Fault>
+    requires sound { is_sound nodes.now ≡ true }
+    requires told { arms_told nodes.now arms.now ≡ true }
+    requires within { of < length nodes.now }
+    requires order { all_before of arms.now ≡ true }
+    ensures { ReadsValue (IsArmOf coding nodes.now depth arms.now (parts_of head content.now))
+        tape.old.items tape.new.items result }
+{
+    let Some((k, arm)) = arm_of(nodes, arms, head) else {
+        refusal.tell(head.start, of, Reason::Tag);
+        return Err(Fault::Refused);
+    };
+    match put_item(tape, Item::Arm(k)) {
+        Ok(()) => (),
+        Err(e) => return Err(e),
+    }
+    match read_body(coding, nodes, depth, arm, head, content, tape, refusal) {
+        Ok(()) => put_item(tape, Item::ArmEnd(k)),
+        Err(e) => Err(e),
+    }
+}
+
+/// Puts the value of the element at the front on the tape, and gives back the rest.
+#[cycle(reading)]
+pub(crate) fn read_front<'a>(
+    coding: Coding,
+    nodes: &'a [Node],
+    depth: usize,
+    of: usize,
+    octets: &'a [u8],
+    at: usize,
+    tape: &mut Vec<Item<'a>>,
+    refusal: &mut Refusal,
+) -> Result<&'a [u8], Fault>
+    requires { is_sound nodes.now ≡ true }
+    ensures value { ReadsFront (BeginsWord coding nodes.now depth of octets.now)
+        tape.old.items tape.new.items result }
+    ensures shorter { IfOk result (λ rest. length rest.now < length octets.now) }
+{
+    let Some((rest, head, content)) = element(coding, octets, at) else {
+        refusal.tell(at, of, Reason::Element);
+        return Err(Fault::Refused);
+    };
+    match read_body(coding, nodes, depth, of, head, content, tape, refusal) {
+        Ok(()) => Ok(rest),
+        Err(e) => Err(e),
+    }
+}
+
+/// Puts the value of the word that the octets are on the tape.
+#[cycle(reading)]
+fn read_whole<'a>(
+    coding: Coding,
+    nodes: &'a [Node],
+    depth: usize,
+    of: usize,
+    octets: &'a [u8],
+    at: usize,
+    tape: &mut Vec<Item<'a>>,
+    refusal: &mut Refusal,
+) -> Result<(), Fault>
+    requires { is_sound nodes.now ≡ true }
+    ensures { ReadsValue (IsWordOf coding nodes.now depth of octets.now)
+        tape.old.items tape.new.items result }
+{
+    match read_front(coding, nodes, depth, of, octets, at, tape, refusal) {
+        Ok(rest) => {
+            if !is_at_end(rest) {
+                refusal.tell(
+                    further(at, octets.len(), rest.len()),
+                    of,
+                    Reason::TrailingOctets,
+                );
+                return Err(Fault::Refused);
+            }
+            Ok(())
+        }
+        Err(e) => Err(e),
+    }
+}
+
+/// Puts a row on the tape: the values of the fields and unknown elements that the contents octets are.
+#[cycle(reading)]
+fn read_row<'a>(
+    coding: Coding,
+    nodes: &'a [Node],
+    depth: usize,
+    fields: &'a [Field],
+    unknown: Option<usize>,
+    of: usize,
+    constructed: bool,
+    octets: &'a [u8],
+    at: usize,
+    tape: &mut Vec<Item<'a>>,
+    refusal: &mut Refusal,
+) -> Result<(), Fault>
+    requires sound { is_sound nodes.now ≡ true }
+    requires told { fields_told nodes.now unknown fields.now ≡ true }
+    ensures { ReadsValue (IsRowOf coding nodes.now depth unknown fields.now constructed octets.now)
+        tape.old.items tape.new.items result }
+{
+    if !constructed {
+        refusal.tell(at, of, Reason::Form);
+        return Err(Fault::Refused);
+    }
+    match open_row(tape) {
+        Ok(place) => match read_fields(
+            coding, nodes, depth, fields, unknown, of, octets, at, tape, refusal,
+        ) {
+            Ok(()) => close_row(tape, place),
+            Err(e) => Err(e),
+        },
+        Err(e) => Err(e),
+    }
+}
+
+/// Puts the values of fields and unknown elements on the tape.
+#[cycle(reading)]
+fn read_fields<'a>(
+    coding: Coding,
+    nodes: &'a [Node],
+    depth: usize,
+    fields: &'a [Field],
+    unknown: Option<usize>,
+    of: usize,
+    octets: &'a [u8],
+    at: usize,
+    tape: &mut Vec<Item<'a>>,
+    refusal: &mut Refusal,
+) -> Result<(), Fault>
+    requires sound { is_sound nodes.now ≡ true }
+    requires told { fields_told nodes.now unknown fields.now ≡ true }
+    ensures { ReadsRow (AreFieldsOf coding nodes.now depth unknown fields.now octets.now)
+        tape.old.items tape.new.items result }
+{
+    let mut rest = octets;
+    let mut left = fields;
+    while let Some((field, others)) = left.split_first() {
+        match read_field(
+            coding,
+            nodes,
+            depth,
+            field,
+            rest,
+            further(at, octets.len(), rest.len()),
+            tape,
+            refusal,
+        ) {
+            Ok(tail) => rest = tail,
+            Err(e) => {
+                refusal.tell_field(fields.len().saturating_sub(left.len()));
+                return Err(e);
+            }
+        }
+        left = others;
+    }
+    match unknown {
+        Some(inner) => {
+            read_items(
+                coding,
+                nodes,
+                depth,
+                inner,
+                rest,
+                further(at, octets.len(), rest.len()),
+                tape,
+                refusal,
+            )
+        }
+        None => {
+            if !is_at_end(rest) {
+                refusal.tell(
+                    further(at, octets.len(), rest.len()),
+                    of,
+                    Reason::TrailingOctets,
+                );
+                return Err(Fault::Refused);
+            }
+            Ok(())
+        }
+    }
+}
+
+/// Puts the values of one type that the octets are on the tape.
+#[cycle(reading)]
+fn read_items<'a>(
+    coding: Coding,
+    nodes: &'a [Node],
+    depth: usize,
+    of: usize,
+    octets: &'a [u8],
+    at: usize,
+    tape: &mut Vec<Item<'a>>,
+    refusal: &mut Refusal,
+) -> Result<(), Fault>
+    requires { is_sound nodes.now ≡ true }
+    ensures { ReadsRow (AreItemsOf coding nodes.now depth of octets.now)
+        tape.old.items tape.new.items result }
+{
+    let mut rest = octets;
+    while !is_at_end(rest) {
+        match read_front(
+            coding,
+            nodes,
+            depth,
+            of,
+            rest,
+            further(at, octets.len(), rest.len()),
+            tape,
+            refusal,
+        ) {
+            Ok(tail) => rest = tail,
+            Err(e) => return Err(e),
+        }
+    }
+    Ok(())
+}
+
+/// Puts the value of a field on the tape, or that it is left out, and gives back the rest.
+#[cycle(reading)]
+fn read_field<'a>(
+    coding: Coding,
+    nodes: &'a [Node],
+    depth: usize,
+    field: &'a Field,
+    octets: &'a [u8],
+    at: usize,
+    tape: &mut Vec<Item<'a>>,
+    refusal: &mut Refusal,
+) -> Result<&'a [u8], Fault>
+    requires { is_sound nodes.now ≡ true }
+    ensures { ReadsField (rules_of coding) (IsBody coding nodes.now depth field.now.of)
+        (BeginsTagged (rules_of coding) nodes.now field.now.of octets.now) field.now.presence
+        octets.now
+        tape.old.items tape.new.items result }
+{
+    if let Some((rest, head, content)) = tagged_element(coding, nodes, field.of, octets, at) {
+        return match read_body(coding, nodes, depth, field.of, head, content, tape, refusal) {
+            Ok(()) => Ok(rest),
+            Err(e) => Err(e),
+        };
+    }
+    match &field.presence {
+        Presence::Required => {
+            refusal.tell(at, field.of, Reason::MissingField);
+            Err(Fault::Refused)
+        }
+        Presence::Optional => match put_item(tape, Item::Absent) {
+            Ok(()) => Ok(octets),
+            Err(e) => Err(e),
+        },
+        Presence::Default(default) => {
+            match read_whole(coding, nodes, depth, field.of, default, at, tape, refusal) {
+                Ok(()) => Ok(octets),
+                Err(e) => {
+                    refusal.tell(at, field.of, Reason::Default);
+                    Err(e)
+                }
+            }
+        }
+    }
+}

@@ -1,0 +1,125 @@
+//! Character strings (X.690 8.23; X.680 41).
+ghost use Rattle.asn1_schema.specs.declared.fault.Fault.TheVariants as faults;
+ghost use Rattle.asn1_schema.specs.declared.schema.Kind.TheVariants as kinds;
+ghost use Rattle.std.specs.Prelude.{ℕ, List, ◌≡◌, false, IfSome, IsTrue, ◌↔◌, IsUtf8};
+ghost use Rattle.asn1_schema.specs.declared.schema.Node.{Node};
+ghost use Rattle.asn1_schema.specs.Reading.{rules_of, parts_of, IsOfKind, Judges};
+ghost use Rattle.std.specs.Char.{is_ascii};
+ghost use Rattle.x690.specs.Sets.{AllIn, is_numeric, is_printable, is_visible};
+ghost use Rattle.asn1_schema.specs.Grammar.{IsText};
+
+use crate::coding::Coding;
+use crate::elements::Head;
+use crate::fault::Fault;
+use crate::schema::{Node, TextKind};
+use crate::tape::Item;
+
+/// NumericString.
+fn are_numeric(content: &[u8]) -> bool
+    ensures { IsTrue result ↔ AllIn is_numeric content.now }
+{
+    for octet in content {
+        if !(octet.is_ascii_digit() || *octet == 0x20) {
+            return false;
+        }
+    }
+    true
+}
+
+/// PrintableString.
+fn are_printable(content: &[u8]) -> bool
+    ensures { IsTrue result ↔ AllIn is_printable content.now }
+{
+    for octet in content {
+        if !(octet.is_ascii_alphanumeric() || b" '()+,-./:=?".contains(octet)) {
+            return false;
+        }
+    }
+    true
+}
+
+/// IA5String.
+fn are_ascii(content: &[u8]) -> bool
+    ensures { IsTrue result ↔ AllIn is_ascii content.now }
+{
+    for octet in content {
+        if !(*octet < 128) {
+            return false;
+        }
+    }
+    true
+}
+
+/// VisibleString.
+fn are_visible(content: &[u8]) -> bool
+    ensures { IsTrue result ↔ AllIn is_visible content.now }
+{
+    for octet in content {
+        if !(*octet >= 0x20 && *octet <= 0x7f) {
+            return false;
+        }
+    }
+    true
+}
+
+/// UTF8String.
+fn are_utf8(content: &[u8]) -> bool
+    ensures { IsTrue result ↔ IsUtf8 content.now }
+{
+    str::from_utf8(content).is_ok()
+}
+
+/// Whether the octets are characters of the type. The sets that are registers are not judged. Two types are not read yet.
+fn is_text(kind: TextKind, content: &[u8]) -> Option<bool>
+    ensures { IfSome result (λ yes. IsTrue yes ↔ IsText kind content.now) }
+{
+    match kind {
+        TextKind::Utf8 => Some(are_utf8(content)),
+        TextKind::Numeric => Some(are_numeric(content)),
+        TextKind::Printable => Some(are_printable(content)),
+        TextKind::Visible => Some(are_visible(content)),
+        TextKind::Universal => None,
+        TextKind::Bmp => None,
+        TextKind::Teletex => Some(true),
+        TextKind::Videotex => Some(true),
+        TextKind::Ia5 => Some(are_ascii(content)),
+        TextKind::Graphic => Some(true),
+        TextKind::General => Some(true),
+        TextKind::Descriptor => Some(true),
+    }
+}
+
+/// A string that is constructed: by DER there is none.
+pub(crate) fn in_pieces(coding: Coding) -> Fault
+    ensures { result ≡ faults.Refused → (rules_of coding).in_pieces ≡ false }
+{
+    match coding {
+        Coding::Der => Fault::Refused,
+        Coding::Ber(_) => Fault::Unsupported,
+    }
+}
+
+/// Characters, in one piece.
+pub(crate) fn text_item<'a>(
+    coding: Coding,
+    kind: TextKind,
+    head: Head,
+    content: &'a [u8],
+) -> Result<Item<'a>, Fault>
+    ensures { (nodes : List Node) (depth of : ℕ) →
+        Judges (IsOfKind coding nodes depth of (kinds.Text kind) (parts_of head content.now))
+        result }
+{
+    if head.constructed {
+        return Err(in_pieces(coding));
+    }
+    match is_text(kind, content) {
+        None => Err(Fault::Unsupported),
+        Some(yes) => {
+            if !yes {
+                return Err(Fault::Refused);
+            }
+            Ok(Item::Text(kind, content))
+        }
+    }
+}

@@ -1,0 +1,5 @@
+pub mod Departing
+pub mod Orders
+pub mod Requiring
+pub mod Rows
+pub mod Texts

@@ -1,0 +1,79 @@
+-- What DER asks of an element of a universal tag, whatever its type (X.690 8, 10, 11).
+use Rattle.std.specs.Prelude.{◌≡◌, ◌≢◌, ℕ, ◌^◌, ◌%◌, ◌<◌, ◌≤◌, Bool, true, false, List, [], ◌∷◌, ◌⊎◌, length, nat_lt}
+use Rattle.std.specs.Prelude.{slice_index, ◌-◌}
+use Rattle.x690.specs.Integers.{IsShortestInteger}
+use Rattle.std.specs.Str.{IsUtf8}
+use Rattle.x690.specs.Sets.{AllIn, is_numeric, is_printable, is_visible}
+use Rattle.x690.specs.Elements.{Parts}
+use Rattle.asn1_strict.specs.Sets.{IsOrderedSet}
+use Rattle.asn1_strict.specs.Times.{IsStrictUtcText, IsStrictGeneralizedText}
+
+-- one octet, 00 or ff (11.1)
+abbrev pub IsStrictBoolean : List ℕ → Type 0
+IsStrictBoolean content = (content ≡ 0 ∷ []) ⊎ (content ≡ 255 ∷ [])
+
+-- No bits, with a count of 0; or a count of at most 7 and some octets, the last of which ends in so many zeros (8.6.2,
+-- 11.2.1).
+abbrev pub IsStrictBits : List ℕ → Type 0
+IsStrictBits content = (content ≡ 0 ∷ []) ⊎ ((2 ≤ length content) × (slice_index content 0 < 8) ×
+    (slice_index content (length content - 1) % 2 ^ slice_index content 0 ≡ 0))
+
+-- Subidentifiers in the fewest octets (8.19.2): the octets that begin one are not 80, and the last octet ends one.
+-- `true` says that the next octet begins one.
+abbrev pub AreShortestFrom : Bool → List ℕ → Type 0
+AreShortestFrom start [] = start ≡ true
+AreShortestFrom start (octet ∷ octets) = (start ≡ true → octet ≢ 128) × AreShortestFrom (nat_lt octet 128) octets
+
+-- some subidentifiers, each shortest
+abbrev pub AreShortestArcs : List ℕ → Type 0
+AreShortestArcs content = (content ≢ []) × AreShortestFrom true content
+
+-- an octet of IA5String (X.680 41)
+abbrev pub is_ia5 : ℕ → Bool
+is_ia5 octet = nat_lt octet 128
+
+-- The types whose elements are constructed: EXTERNAL, EMBEDDED PDV, SEQUENCE, SET and CHARACTER STRING. All others of a
+-- universal tag are primitive, the strings too (10.2).
+abbrev pub IsConstructedType : ℕ → Type 0
+IsConstructedType number = (number ≡ 8) ⊎ (number ≡ 11) ⊎ (number ≡ 16) ⊎ (number ≡ 17) ⊎ (number ≡ 29)
+
+-- the form that the type has
+abbrev pub HasForm : ℕ → Bool → Type 0
+HasForm number constructed =
+    ((constructed ≡ true) × IsConstructedType number) ⊎ ((constructed ≡ false) × (IsConstructedType number → ⊥))
+
+-- The strings with characters of their types: BMPString in two octets each, UniversalString in four.
+pub record HasCharactersOf (number : ℕ) (content : List ℕ) : Type 0 where
+  pub utf8 : number ≡ 12 → IsUtf8 content
+  pub numeric : number ≡ 18 → AllIn is_numeric content
+  pub printable : number ≡ 19 → AllIn is_printable content
+  pub ia5 : number ≡ 22 → AllIn is_ia5 content
+  pub visible : number ≡ 26 → AllIn is_visible content
+  pub universal : number ≡ 28 → length content % 4 ≡ 0
+  pub bmp : number ≡ 30 → length content % 2 ≡ 0
+
+-- the rules of the types for contents
+pub record HasContentOf (number : ℕ) (content : List ℕ) : Type 0 where
+  pub not_reserved : number ≢ 0
+  pub boolean : number ≡ 1 → IsStrictBoolean content
+  pub integer : number ≡ 2 → IsShortestInteger content
+  pub bits : number ≡ 3 → IsStrictBits content
+  pub null : number ≡ 5 → content ≡ []
+  pub oid : number ≡ 6 → AreShortestArcs content
+  pub enumerated : number ≡ 10 → IsShortestInteger content
+  pub relative_oid : number ≡ 13 → AreShortestArcs content
+  pub characters : HasCharactersOf number content
+  pub set : number ≡ 17 → IsOrderedSet content
+  pub utc_time : number ≡ 23 → IsStrictUtcText content
+  pub generalized_time : number ≡ 24 → IsStrictGeneralizedText content
+
+-- the rules of an element
+abbrev pub IsUniversal : ℕ → Bool → List ℕ → Type 0
+IsUniversal number constructed content = HasForm number constructed × HasContentOf number content
+
+-- an element of another class has its rules in its type alone
+abbrev pub IsProperOf : ℕ → ℕ → Bool → List ℕ → Type 0
+IsProperOf class number constructed content = class ≡ 0 → IsUniversal number constructed content
+
+abbrev pub IsProper : Parts → Type 0
+IsProper parts = IsProperOf parts.id.class parts.id.number parts.id.constructed parts.content

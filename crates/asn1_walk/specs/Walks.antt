@@ -1,0 +1,84 @@
+-- What is still to come of a walk.
+use Rattle.std.specs.Prelude.{◌≡◌, ℕ, suc, ◌+◌, ◌≤◌, Bool, true, false, List, [], ◌∷◌, ◌++◌, length, reverse, ◌⊎◌, Result, Ok, Err}
+use Rattle.std.specs.Borrow.{Bor}
+use Rattle.x690.specs.Lengths.{definite}
+use Rattle.x690.specs.Faults.{Fault}
+use Rattle.asn1_headers.specs.declared.error.Error.{Error}
+use Rattle.asn1_headers.specs.declared.error.Err.{Err as Refusal}
+use Rattle.asn1_headers.specs.declared.error.Err.TheVariants.{Incomplete as cut}
+use Rattle.asn1_headers.specs.declared.error.Needed.TheVariants.{Size}
+use Rattle.asn1_headers.specs.Header.Reading.{ber_refusal}
+use Rattle.asn1_walk.specs.declared.line.Line.{Line}
+use Rattle.asn1_walk.specs.declared.state.Frame.{Frame}
+use Rattle.asn1_walk.specs.declared.state.Walk.{Walk}
+use Rattle.asn1_walk.specs.declared.walk.Step.{Step}
+use Rattle.asn1_walk.specs.declared.walk.Step.TheVariants.{Line as an_element, Closed, End, Refused}
+use Rattle.asn1_walk.specs.declared.walk.Ending.{Ending}
+use Rattle.asn1_walk.specs.declared.walk.Ending.TheVariants.{Whole, Refused as Refused_at}
+use Rattle.asn1_walk.specs.Rooms.{behind, is_marked, tail_of}
+use Rattle.asn1_walk.specs.Rows.{Row, Outcome, ended, refused, Tells, Opens}
+use Rattle.asn1_headers.specs.Length.{form_of}
+
+-- so many octets and the rest, or how many are missing
+abbrev pub Splits : ℕ → List ℕ → Result (Bor (List ℕ) × Bor (List ℕ)) (Refusal Error) → Type 0
+Splits n octets (Ok x) = (length x.0.now ≡ n) × (octets ≡ x.0.now ++ x.1.now)
+Splits n octets (Err r) = (lacking : ℕ) × (1 ≤ lacking) × (length octets + lacking ≡ n) × (r ≡ cut (Size lacking))
+
+-- how the innermost contents that are open end
+abbrev pub marked_of : List Frame → Bool
+marked_of [] = false
+marked_of (frame ∷ frames) = is_marked frame
+
+-- The lines that are still to come, and how the walk comes out, where these contents are open (the innermost first): the
+-- lines of the innermost row, and behind its end those of the rows around it.
+unfoldable pub Goes : List Frame → ℕ → List ℕ → List Line → Outcome → Type 0
+Goes [] offset view lines outcome = Row false 0 offset view lines outcome
+Goes (frame ∷ frames) offset view lines outcome =
+    ((at : ℕ) × (fault : Fault) × (outcome ≡ refused at fault) ×
+    Row (is_marked frame) (suc (length frames)) offset view lines (refused at fault)) ⊎
+    ((inner others : List Line) × (at : ℕ) × (left : List ℕ) × (lines ≡ inner ++ others) ×
+    Row (is_marked frame) (suc (length frames)) offset view inner (ended at left) ×
+    Goes frames at (left ++ tail_of frame) others outcome)
+
+-- the same of a walk
+abbrev pub Left : Walk → List Line → Outcome → Type 0
+Left w lines outcome = Goes (reverse w.frames.items) w.offset w.view.now lines outcome
+
+-- the line tells of what comes next
+abbrev pub Comes : Walk → Line → List ℕ → Type 0
+Comes w line after =
+    Tells (marked_of (reverse w.frames.items)) (length (reverse w.frames.items)) w.offset w.view.now line after
+
+-- the element that comes next has contents to go into, and this is kept of what stands behind them
+abbrev pub CanOpen : Walk → Line → Frame → Type 0
+CanOpen w line frame = (after : List ℕ) × Comes w line after × (line.constructed ≡ true) ×
+    Opens (form_of line.length) after (is_marked frame) line.content.now (tail_of frame)
+
+-- the element that comes next is primitive, and the rest follows its contents
+abbrev pub CanPass : Walk → Line → List ℕ → Type 0
+CanPass w line rest = Comes w line (line.content.now ++ rest) × (line.constructed ≡ false) ×
+    (form_of line.length ≡ definite (length line.content.now))
+
+-- a walk stands where it stood
+abbrev pub Stays : Walk → Walk → Type 0
+Stays old new = (new.view ≡ old.view) × (new.offset ≡ old.offset) × (new.frames.items ≡ old.frames.items)
+
+-- as many steps as a walk can still make, but for the last one
+abbrev pub steps_left : Walk → ℕ
+steps_left w = length w.view.now + behind (reverse w.frames.items) + length w.frames.items
+
+-- What a step says: what comes then is what came, without its line; or nothing comes.
+abbrev pub Moves : Step → Walk → Walk → Type 0
+Moves (an_element line) old new = (suc (steps_left new) ≤ steps_left old) ×
+    ((lines : List Line) (outcome : Outcome) → Left new lines outcome → Left old (line ∷ lines) outcome)
+Moves Closed old new = (suc (steps_left new) ≤ steps_left old) ×
+    ((lines : List Line) (outcome : Outcome) → Left new lines outcome → Left old lines outcome)
+Moves End old new = Left old [] (ended old.offset [])
+Moves (Refused r) old new =
+    (fault : Fault) × (r ≡ ber_refusal fault) × Left old [] (refused old.offset fault) × (new.offset ≡ old.offset)
+
+-- the lines are those of the octets, as a row of elements that ends with them
+abbrev pub ComesOut : List ℕ → List Line → Ending → Type 0
+ComesOut octets lines Whole = Row false 0 0 octets lines (ended (length octets) [])
+ComesOut octets lines (Refused_at at r) =
+    (fault : Fault) × (r ≡ ber_refusal fault) × (at ≤ length octets) × Row false 0 0 octets lines (refused at fault)
