@@ -190,7 +190,7 @@ CALL = re.compile(r"\b([A-Za-z_]\w*)(?:::<[^()]*>)?\(")
 DEFINED = re.compile(r"\bfn ([A-Za-z_]\w*)")
 WORD = re.compile(r"\b[A-Za-z_]\w*")
 # Functions of std that edits call and no source does.
-OF_STD = {"error_len", "filter", "rev", "sort", "to_ascii_lowercase", "truncate"}
+OF_STD = {"error_len", "filter", "is_err", "rev", "sort", "to_ascii_lowercase", "truncate"}
 # What the column of clauses may name: clauses and ghost members, functions and traits, and definitions.
 NAMED = {
     "src/**/*.rt": r"(?:ensures|requires|ghost|fn|trait|struct|enum)\*? ([\w-]+)",

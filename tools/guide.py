@@ -2,8 +2,8 @@
 """Looks whether the code of the pages stands in the crates, which the gate proves and tests.
 
 Each block of Rust in README.md, in docs/*.md and in the `//!` lines of a crate must stand line for line in one file of
-src/ of the crates below, and each block of definitions in one file of their specs/. A block that does not has a line
-that names it, and then this ends with status 1.
+src/ of the crates below, or of tests/tests_messages, and each block of definitions in one file of their specs/. A block
+that does not has a line that names it, and then this ends with status 1.
 """
 import pathlib
 import re
@@ -14,14 +14,12 @@ BLOCK = re.compile(r"^```(rust|antt)\n(.*?)^```$", re.M | re.S)
 PLACES = {"rust": "src/**/*.rt", "antt": "specs/**/*.antt"}
 CRATES = [
     "asn1_rs_uses",
-    "asn1_rs_uses_tests",
     "asn1_rs_messages",
     "asn1_rs_kerberos",
     "asn1_rs_snmp",
     "asn1_rs_snmp_messages",
     "asn1_rs_ldap",
     "asn1_rs_ldap_messages",
-    "asn1_rs_messages_tests",
     "asn1_rs",
     "asn1_headers",
     "x690",
@@ -31,6 +29,8 @@ CRATES = [
 def sources(places):
     """The texts of the files of these places in the crates."""
     paths = [path for name in CRATES for path in sorted((TOP / "crates" / name).glob(places))]
+    if places == PLACES["rust"]:
+        paths += sorted((TOP / "tests" / "tests_messages").rglob("*.rt.txt"))
     return [path.read_text(encoding="utf-8") for path in paths]
 
 

@@ -1,7 +1,7 @@
 #!/usr/bin/env python3
 """Compares the trees in the tests from outside with those that `openssl asn1parse` prints of the same octets.
 
-tools/outside.py                   asks openssl again for the tree of each input of crates/asn1_rs_outside_tests
+tools/outside.py                   asks openssl again for the tree of each input of tests/tests_outside
 tools/outside.py tree FILE         prints the tree of a file of octets, as the tests have it
 tools/outside.py held FILE         prints, in hexadecimal, what stands in the octet strings and bit strings of a file,
                                    one behind another, of those that openssl walks through as elements
@@ -19,7 +19,7 @@ import re
 import subprocess
 import sys
 
-SOURCES = pathlib.Path(__file__).resolve().parent.parent / "crates" / "asn1_rs_outside_tests" / "src"
+SOURCES = pathlib.Path(__file__).resolve().parent.parent / "tests" / "tests_outside" / "trees"
 NAMES = {
     "BOOLEAN": 1, "INTEGER": 2, "BIT STRING": 3, "OCTET STRING": 4, "NULL": 5, "OBJECT": 6, "ENUMERATED": 10,
     "UTF8STRING": 12, "SEQUENCE": 16, "SET": 17, "NUMERICSTRING": 18, "PRINTABLESTRING": 19, "T61STRING": 20,
@@ -117,7 +117,7 @@ def indefinite(octets):
 def check():
     """Prints of each input whether its tree is the one that openssl gives, and whether what is held stands in it."""
     faults = 0
-    for path in sorted(SOURCES.glob("*.rt")):
+    for path in sorted(SOURCES.glob("*.rt.txt")):
         inputs = {}
         for name, digits, text in CONSTANTS.findall(path.read_text(encoding="utf-8")):
             octets = inputs[name] = bytes.fromhex(re.sub(r"\\\n\s*", "", digits))

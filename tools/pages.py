@@ -102,7 +102,7 @@ def contracts(text):
 
 def definitions(words):
     found, callers, citers = [], {}, {}
-    for crate in (crate for crate in CRATES if not crate.endswith("_tests")):
+    for crate in (crate for crate in CRATES if not crate.startswith("test")):
         for path, place in spec_files(crate):
             text = read(path)
             heads = list(HEAD.finditer(text))

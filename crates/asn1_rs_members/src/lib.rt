@@ -4,8 +4,6 @@
 
 mod members;
 mod remainder;
-#[cfg(test)]
-mod tests;
 mod told;
 
 pub use members::{Numbers, are_same, are_same_numbers};
