@@ -86,26 +86,24 @@ class Edit:
         of = self.changes[0].file.removesuffix(".rt").partition("/")[2].removesuffix("/mod")
         return self.module == of or self.name.endswith("]") and of.startswith(self.module)
 
-    def texts_in(self, texts):
-        """Returns the files that it changes and their edited texts, of the texts of the crate's files."""
-        made = {}
+    def steps(self, texts):
+        """Yields each change, the number of its line, and the edited text of its file, of the texts of the crate's files.
+        No line moves, as each text is one line."""
+        made = dict(texts)
         for change in self.changes:
-            text = made.get(change.file, texts.get(change.file))
-            if text is None:
+            if change.file not in made:
                 raise Misplaced(f"there is no file {change.file}")
+            text = made[change.file]
             at = change.at(text)
             made[change.file] = text[:at] + change.new + text[at + len(change.old):]
+            yield change, text.count("\n", 0, at), made[change.file]
+
+    def texts_in(self, texts):
+        """Returns the files that it changes and their edited texts."""
+        made = {change.file: text for change, _, text in self.steps(texts)}
         if all(texts[file] == text for file, text in made.items()):
             raise Misplaced("it changes nothing")
         return made
-
-    def places(self, texts):
-        """Yields the file and the number of the line of each change. No line moves, as each text is one line."""
-        made = dict(texts)
-        for change in self.changes:
-            at = change.at(made[change.file])
-            yield change.file, made[change.file].count("\n", 0, at + len(change.old))
-            made[change.file] = made[change.file][:at] + change.new + made[change.file][at + len(change.old):]
 
 
 def edits_in(home):
