@@ -11,7 +11,7 @@ use Rattle.asn1_schema.specs.declared.schema.TimeKind.{TimeKind}
 use Rattle.asn1_schema.specs.declared.schema.TimeKind.TheVariants as times
 use Rattle.asn1_schema.specs.Grammar.{Rules, trimmed, AnyOrder}
 
--- by DER a truth value is FF or 00 (X.690 11.1)
+-- by DER a truth value is ff or 00 (X.690 11.1)
 abbrev pub IsStrictTruth : List ℕ → Bool → Type 0
 IsStrictTruth content true = content ≡ 255 ∷ []
 IsStrictTruth content false = content ≡ 0 ∷ []

@@ -1,11 +1,11 @@
 //! Elements of any type.
-ghost use Rattle.std.specs.Prelude.{ℕ, List, [], ◌∷◌, ◌++◌, ◌≡◌, true, IsTrue};
+ghost use Rattle.std.specs.Prelude.{ℕ, List, IsTrue};
 ghost use Rattle.x690.specs.Elements.{IsDerElement};
 ghost use Rattle.x690.specs.Joined.{AreJoinedWords};
 ghost use Rattle.asn1_schema.specs.declared.schema.Node.{Node};
 ghost use Rattle.asn1_schema.specs.declared.schema.Kind.TheVariants as kinds;
 ghost use Rattle.asn1_schema.specs.Rules.{IsStrictInside};
-ghost use Rattle.asn1_schema.specs.Reading.{rules_of, parts_of, IsOfKind, Judges};
+ghost use Rattle.asn1_schema.specs.Reading.{parts_of, IsOfKind, Judges};
 
 use crate::coding::Coding;
 use crate::elements::{Head, der_element, is_at_end};

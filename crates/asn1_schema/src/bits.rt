@@ -1,9 +1,9 @@
 //! Contents octets of bit strings.
-ghost use Rattle.std.specs.Prelude.{ℕ, List, [], ◌∷◌, ◌++◌, ◌≡◌, ◌≢◌, ◌≤◌, false, true, IsTrue, length};
+ghost use Rattle.std.specs.Prelude.{ℕ, List, IsTrue};
 ghost use Rattle.x690.specs.Octets.{IsOctets};
 ghost use Rattle.asn1_schema.specs.declared.schema.Node.{Node};
 ghost use Rattle.asn1_schema.specs.declared.schema.Kind.TheVariants as kinds;
-ghost use Rattle.asn1_schema.specs.Reading.{rules_of, parts_of, IsOfKind, Judges};
+ghost use Rattle.asn1_schema.specs.Reading.{parts_of, IsOfKind, Judges};
 ghost use Rattle.asn1_schema.specs.Bits.{LowZero, MayBeUnused};
 
 use crate::coding::Coding;

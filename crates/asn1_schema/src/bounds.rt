@@ -1,8 +1,8 @@
 //! Bounds of numbers and sizes.
-ghost use Rattle.std.specs.Prelude.{ℕ, ℤ, List, ◌++◌, ◌≡◌, ◌<◌, ◌≤◌, true, length, slice_get, IsTrue, IfSome};
+ghost use Rattle.std.specs.Prelude.{ℕ, ℤ, List, ◌++◌, ◌≡◌, length, IsTrue};
 ghost use Rattle.std.specs.Prelude.{pos};
 ghost use Rattle.x690.specs.Digits.{twos_complement_value};
-ghost use Rattle.asn1_schema.specs.Grammar.{IsBetween, IsMeasured};
+ghost use Rattle.asn1_schema.specs.Grammar.{IsBetween};
 ghost use Rattle.asn1_schema.specs.Tape.{Mark, Kept, mark, marks, tape_of, value_of};
 ghost use Rattle.asn1_schema.specs.Values.{measure, characters};
 ghost use Rattle.asn1_schema.specs.Reading.{JudgesBounds, JudgesItem};

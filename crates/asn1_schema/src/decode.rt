@@ -1,9 +1,8 @@
 //! Values of the types of a table, read by DER and by BER.
-ghost use Rattle.std.specs.Prelude.{ℕ, List, [], ◌++◌, ◌≡◌, ◌≢◌, ◌<◌, ◌≤◌, Some, None, true, length, IfOk};
+ghost use Rattle.std.specs.Prelude.{ℕ, List, [], ◌++◌, ◌≡◌, ◌<◌, ◌≤◌, Some, None, true, length, IfOk};
 ghost use Rattle.std.specs.Prelude.{OnOk, OnErr, IsErrOf};
 ghost use Rattle.x690.specs.Joined.{NoFront};
 ghost use Rattle.asn1_schema.specs.declared.decode.DecodeError.TheVariants as errors;
-ghost use Rattle.asn1_schema.specs.Values.{Value};
 ghost use Rattle.asn1_schema.specs.Grammar.{Word};
 ghost use Rattle.asn1_schema.specs.Rules.{der, ber};
 ghost use Rattle.asn1_schema.specs.Sound.{is_sound};

@@ -5,7 +5,6 @@ ghost use Rattle.x690.specs.Elements.{IsDerElement};
 ghost use Rattle.x690.specs.Nested.{IsElement};
 ghost use Rattle.x690.specs.Joined.{NoFront};
 ghost use Rattle.asn1_headers.specs.Answers.{Front};
-ghost use Rattle.asn1_schema.specs.Values.{none};
 ghost use Rattle.asn1_schema.specs.Reading.{rules_of, parts_of};
 
 use crate::coding::Coding;

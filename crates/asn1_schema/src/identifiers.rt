@@ -9,7 +9,6 @@ ghost use Rattle.x690.specs.Arcs.{AreShortest};
 use crate::coding::Coding;
 use crate::elements::{Head, is_at_end};
 use crate::fault::Fault;
-use crate::schema::Node;
 use crate::tape::Item;
 
 /// Whether subidentifiers have the fewest octets, told octet by octet.

@@ -12,7 +12,7 @@ use crate::moments::time_item;
 use crate::numbers::{boolean_item, enumerated_item, integer_item, null_item};
 use crate::refusal::{Reason, Refusal};
 use crate::rows::put_item;
-use crate::schema::{Kind, Node};
+use crate::schema::Kind;
 use crate::tape::Item;
 use crate::texts::text_item;
 

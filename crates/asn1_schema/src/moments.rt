@@ -10,7 +10,7 @@ ghost use Rattle.asn1_schema.specs.Rules.{IsStrictTime};
 use crate::coding::Coding;
 use crate::elements::Head;
 use crate::fault::Fault;
-use crate::schema::{Node, TimeKind};
+use crate::schema::TimeKind;
 use crate::tape::Item;
 use crate::texts::in_pieces;
 use x690::times::reading::{read_generalized_time, read_utc_time, texts_say_one_time};

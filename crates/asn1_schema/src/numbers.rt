@@ -4,19 +4,17 @@ ghost use Rattle.std.specs.Prelude.{ℕ, ℤ, List, ◌≡◌, Bool, IfSome, IfN
 ghost use Rattle.x690.specs.Integers.{IsIntegerContent};
 ghost use Rattle.x690.specs.Digits.{twos_complement_value};
 ghost use Rattle.asn1_schema.specs.declared.schema.Node.{Node};
-ghost use Rattle.asn1_schema.specs.Values.{none};
 ghost use Rattle.asn1_schema.specs.Rules.{IsStrictTruth, IsTruth};
 ghost use Rattle.asn1_schema.specs.Reading.{rules_of, parts_of, IsOfKind, Judges, IsListed};
 
 use crate::coding::Coding;
 use crate::elements::{Head, is_at_end};
 use crate::fault::Fault;
-use crate::schema::Node;
 use crate::tape::Item;
 use x690::integers::{has_spare_ones, has_spare_zeros};
 use x690::signed::signed_number;
 
-/// The truth value of contents octets by DER: FF or 00 (X.690 11.1).
+/// The truth value of contents octets by DER: ff or 00 (X.690 11.1).
 fn strict_truth(content: &[u8]) -> Option<bool>
     ensures some { IfSome result (λ b. IsStrictTruth content.now b) }
     ensures none { IfNone result ((b : Bool) → IsStrictTruth content.now b → ⊥) }

@@ -1,10 +1,10 @@
 //! Strings of octets in pieces, by BER (X.690 8.7.3).
-ghost use Rattle.std.specs.Prelude.{ℕ, List, [], ◌∷◌, ◌++◌, ◌≡◌, ◌<◌, true, length, map, OnOk, IfErr, IfOk};
+ghost use Rattle.std.specs.Prelude.{ℕ, List, ◌∷◌, ◌++◌, ◌≡◌, ◌<◌, length, map, OnOk, IfErr};
 ghost use Rattle.asn1_schema.specs.declared.fault.Fault.TheVariants as faults;
 ghost use Rattle.asn1_schema.specs.declared.schema.Node.{Node};
 ghost use Rattle.asn1_schema.specs.declared.schema.Kind.TheVariants as kinds;
 ghost use Rattle.asn1_schema.specs.Tape.{Mark, marks, pieces_mark};
-ghost use Rattle.asn1_schema.specs.Reading.{rules_of, parts_of, IsOfKind, ReadsValue};
+ghost use Rattle.asn1_schema.specs.Reading.{parts_of, IsOfKind, ReadsValue};
 ghost use Rattle.asn1_schema.specs.Pieces.{IsPiece, ArePieces, AreOctetsInPieces, piece_mark, ReadsPieces};
 ghost use Rattle.asn1_schema.specs.Pieces.{ClosesPieces};
 

@@ -1,5 +1,5 @@
 //! Items and rows are put on a tape forwards: the distance at the beginning of a row is written once its end is known.
-ghost use Rattle.std.specs.Prelude.{ℕ, List, [], ◌∷◌, ◌++◌, ◌≡◌, ◌<◌, length, IfOk, IfErr, OnOk};
+ghost use Rattle.std.specs.Prelude.{List, [], ◌∷◌, ◌++◌, ◌≡◌, ◌<◌, length, IfOk, IfErr, OnOk};
 ghost use Rattle.asn1_schema.specs.declared.fault.Fault.TheVariants as faults;
 ghost use Rattle.asn1_schema.specs.Tape.{Mark, mark, marks, begin_mark, end_mark, between};
 

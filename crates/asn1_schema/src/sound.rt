@@ -1,5 +1,5 @@
 //! Whether a table is sound: its optional fields and its arms are told apart by their tags (X.680 25.6, 29.3).
-ghost use Rattle.std.specs.Prelude.{◌≡◌, Option, Some, None, slice_get, IfSome, IfNone, Bool, true, false};
+ghost use Rattle.std.specs.Prelude.{◌≡◌};
 ghost use Rattle.asn1_schema.specs.Sound as spec;
 
 use crate::schema::{Field, Kind, Node, Presence, Tags, TypeTag};

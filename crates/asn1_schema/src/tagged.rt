@@ -2,7 +2,6 @@
 ghost use Rattle.std.specs.Prelude.{ℕ, ◌≡◌, Some, None, slice_get, IfSome, IfNone, IsTrue};
 ghost use Rattle.std.specs.List.{list_any};
 ghost use Rattle.asn1_headers.specs.Answers.{Front};
-ghost use Rattle.asn1_schema.specs.Values.{none};
 ghost use Rattle.asn1_schema.specs.Grammar.{has_tag, is_tag_of};
 ghost use Rattle.asn1_schema.specs.Sound.{HasTagAt};
 ghost use Rattle.asn1_schema.specs.Reading.{rules_of, id_of, parts_of, BeginsTagged};

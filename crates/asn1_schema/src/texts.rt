@@ -11,7 +11,7 @@ ghost use Rattle.asn1_schema.specs.Grammar.{IsText};
 use crate::coding::Coding;
 use crate::elements::Head;
 use crate::fault::Fault;
-use crate::schema::{Node, TextKind};
+use crate::schema::TextKind;
 use crate::tape::Item;
 
 /// NumericString.
