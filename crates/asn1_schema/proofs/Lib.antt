@@ -22,3 +22,5 @@ pub mod Lacking
 pub mod UnusedBits
 pub mod Decoded
 pub mod SameErrors
+pub mod Counts
+pub mod BitsTaken
