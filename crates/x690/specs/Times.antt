@@ -157,8 +157,8 @@ MostOffset most Undefined = Unit {0}
 MostOffset most Z = Unit {0}
 MostOffset most (Offset hours minutes) = (unsigned_abs hours ≤ most) × (unsigned_abs minutes ≤ most)
 
--- Fields that fit their places in the text, whose year is at most the greatest: two digits for each other part, three
--- for milliseconds, and no offset, for which there is no place.
+-- Fields that fit their places in the text. The year is at most the greatest, each other part has two digits and the
+-- milliseconds three. There is no offset, for which there is no place.
 pub record FitsText (greatest_year : ℕ) (m : Moment) : Type 0 where
   pub year : m.year ≤ greatest_year
   pub month : m.month ≤ 99

@@ -18,8 +18,8 @@ pub fn texts_say_one_time()
         SaysGeneralizedTime text m → SaysGeneralizedTime text n → m ≡ n }
 {}
 
-/// The fields that a text says are in range: the year as its digits, at most 999 milliseconds, and of an offset at most
-/// 99 hours and 99 minutes (X.690 8.25).
+/// The fields that a text says are in range (X.690 8.25). The year is as its digits, milliseconds are at most 999, and
+/// an offset is at most 99 hours and 99 minutes.
 pub fn said_times_are_in_range()
     ensures utc { (text : List ℕ) (m : Moment) → SaysUtcTime text m →
         InRange m × (m.year ≤ 99) × (m.millisecond ≡ None) × MostOffset 99 m.zone }
