@@ -53,8 +53,8 @@ abbrev pub ReadsBack : {T V E : Type 0} → (T → V) → (Refusal E → Type 0)
 ReadsBack value memory v rest (Ok x) = (v ≡ value x.1) × (x.0 ≡ rest)
 ReadsBack value memory v rest (Err r) = memory r
 
--- the refusal of octets that more of them make whole: it tells as many missing octets as these or fewer, or
--- `InvalidTag`, where they end within an identifier
+-- the refusal of octets that more of them make whole: as many missing octets or fewer, or `InvalidTag` where they end
+-- within an identifier
 abbrev pub TellsBeginning : Type 0 → Refusal Error → List ℕ → Type 0
 TellsBeginning ends_within r more =
     ((n : ℕ) × (r ≡ cut (Size n)) × (n ≤ length more)) ⊎ ((r ≡ refused InvalidTag) × ends_within)

@@ -5,14 +5,14 @@ use Rattle.asn1_headers.specs.declared.error.Err.{Err as Refusal}
 use Rattle.asn1_headers.specs.declared.error.Error.{Error}
 use Rattle.asn1_headers.specs.declared.error.Error.TheVariants as errors
 
--- The error that a reader's answer ends a walk with: the item's own refusal, or that octets are missing of it;
--- `InvalidLength` where as much is given back as there was, or more.
+-- The error that a reader's answer ends a walk with. It is the item's own refusal, or that octets of it are missing. It
+-- is `InvalidLength` where as much is given back as there was, or more.
 abbrev pub EndsItem : {T E : Type 0} → (Error → E → Type 0) → List ℕ → Result (List ℕ × T) (Refusal E) → E → Type 0
 EndsItem from left (Ok read) e = (length left ≤ length read.0) × from errors.InvalidLength e
 EndsItem from left (Err r) e = FlattenedTo (λ x y. y ≡ x) from r e
 
--- What a call of `next` answers where octets are left, and what is left then: the next item and what follows it, fewer
--- octets than before; its refusal, and nothing is left; or nothing, at the end alone.
+-- What a call of `next` answers where octets are left, and what is left then. It is the next item, with fewer octets
+-- than before; or its refusal, and nothing is left; or nothing, at the end alone.
 abbrev pub TakesItem : {T E : Type 0} → (List ℕ → Result (List ℕ × T) (Refusal E) → Type 0) → (Error → E → Type 0) →
     List ℕ → Option (Result T E) → List ℕ → Type 0
 TakesItem reads from left None after = (left ≡ []) × (after ≡ [])

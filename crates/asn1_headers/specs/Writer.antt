@@ -48,8 +48,8 @@ pub record Wrote (octets : List ℕ) (old new : WriterState) (answer : Result �
   pub marked : IsTrue old.failed → OnOk answer (octets ≡ [])
   pub nothing : octets ≡ [] → is_io answer ≡ false
 
--- Why a writing of n octets may be refused: its writer failed, their number is past what 64 bits hold, or, where it
--- allocates, out of memory. Of that it says no more than that the writing is one that allocates.
+-- Why a writing of n octets may be refused. Its writer failed, n is past what 64 bits hold, or memory is out where it
+-- allocates. Of memory it says no more than that the writing is one that allocates.
 abbrev pub MayRefuse : Bool → ℕ → SerializeError → Type 0
 MayRefuse allocates n (serialize_errors.ASN1Error e) = ⊥
 MayRefuse allocates n (serialize_errors.InvalidClass c) = ⊥
@@ -66,13 +66,13 @@ IsMemoryOrLength octets e =
 abbrev pub SumsWritten : ℕ → ℕ → Result ℕ SerializeError → Type 0
 SumsWritten a b r = MatchResult r (λ n. n ≡ a + b) (λ e. (e ≡ serialize_errors.InvalidLength) × (2 ^ 64 ≤ a + b))
 
--- What a call of `put`, or of a std writer's `write`, may come to:
--- the writer before it, the octets, the answer and the writer after it.
+-- What a call of `put`, or of a std writer's `write`, may come to: the writer before, the octets, the answer and the
+-- writer after.
 abbrev pub Calls : Type 0 → Type 1
 Calls W = W → List ℕ → Result ℕ Failure → W → Type 0
 
--- A call of `Told`. Marked, it asks nobody, answers an Err of kind `WriteZero`, and stays as it was; else its answer is
--- that of one call of the wrapped writer, with these octets.
+-- A call of `Told`. A marked one asks nobody, answers an Err of kind `WriteZero`, and stays as it was. Else its answer
+-- is that of one call of the wrapped writer, with these octets.
 pub record ToldPut {W : Type 0} (writes : Calls W) (old : Told W) (octets : List ℕ) (answer : Result ℕ Failure)
     (new : Told W) : Type 0 where
   pub refused : IsTrue (mark_of old) → IsErrAnd answer (λ e. error_kind e ≡ WriteZero) × (new ≡ old)

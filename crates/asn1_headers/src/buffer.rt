@@ -1,5 +1,5 @@
-//! Octets that grow at the front: what is written from the back stands in one buffer, so that the header of an element
-//! is put before contents octets whose number is known.
+//! Octets that grow at the front: what is written from the back stands in one buffer. So a header is put before
+//! contents octets whose number is known.
 ghost use Rattle.std.specs.Prelude.{◌≡◌, ◌↔◌, ◌≤◌, ◌<◌, ◌+◌, ◌-◌, ◌++◌, ◌∷◌, ℕ, List, [], length, drop};
 ghost use Rattle.std.specs.Prelude.{vec_len, IsTrue, true, false, IfOk, IfErr, Err, MatchResult};
 ghost use Rattle.x690.specs.Strict.{header_octets, identifier_octets};
@@ -126,7 +126,7 @@ impl DerBuffer {
 }
 
 /// Why octets are not put in front. It is one octet, and a `SerializeError` 96, which each function that hands one on
-/// copies: so the functions below answer it to one another, and the outermost makes the error.
+/// copies. So the functions below answer it to one another, and the outermost makes the error.
 #[derive(Clone, Copy, Drop)]
 enum NoRoom {
     /// Their number, or that of an element, passes `usize`.
@@ -251,8 +251,8 @@ pub fn prepend_element(
     }
 }
 
-/// Puts the strict header of an element whose contents are so many octets before so many that were put there, and
-/// answers the number of both. It has a short answer.
+/// Puts the strict header of an element before so many contents octets that were put there, and answers the number of
+/// both. It has a short answer.
 ///
 /// Most headers have two octets: those are made apart, as in writing.
 #[inline(always)]

@@ -42,11 +42,11 @@ impl Needed {
 /// The library makes no `Failure`; one that a caller's reader makes is passed on.
 #[derive(Debug, Clone, Drop, PartialEq, Eq)]
 pub enum Err<E> {
-    /// Octets are missing at the end of the input; or, at a value under an explicit tag and at what a
-    /// closure reads, at the end of a part that is whole itself, where more input does not help.
+    /// Octets are missing at the end of the input. At a value under an explicit tag, and at what a closure reads, they
+    /// may be missing within a whole part. There more input does not help.
     Incomplete(Needed),
-    /// The input is refused, whatever follows; but an input that ends within identifier octets in high form is refused
-    /// with `InvalidTag`, and more octets may help.
+    /// The input is refused, whatever follows, unless memory was out. An input that ends within identifier octets in
+    /// high form is refused with `InvalidTag` too, and more octets may help.
     Error(E),
     /// As `Error`, where no other reading may be tried.
     Failure(E),
@@ -148,8 +148,8 @@ pub enum DerConstraint {
     /// Length octets that are not the shortest (10.1).
     #[error("length octets not the shortest")]
     LengthNotShortest,
-    /// Octets that are left behind the last element of a part that holds a known number of elements: the one of an
-    /// explicit tag (8.14.2), the fields of a sequence (8.9.2).
+    /// Octets are left behind the last element of a part with a known number of elements. It is an explicit tag
+    /// (8.14.2), or the fields of a sequence (8.9.2).
     #[error("trailing octets")]
     TrailingOctets,
 }

@@ -8,10 +8,10 @@ use crate::error::{Err, Error, ParseResult};
 use std::alloc::Global;
 
 /// A reader of the items of a walk, as a type.
-// The step of a walk stands in this crate, so that the edit of it that the gate tries proves few functions again;
-// `ReadsItems` can't, since its impls name readers of `asn1_rs`. A closure can't take its place: of
-// `next_item(left, |octets| F::read_item(alloc, octets))` the borrow checker says that a bound that names a lifetime is
-// needed for a shorter one, and the closure may not name the lifetime.
+// The step of a walk stands in this crate, so that the edit of it that the gate tries proves few functions again.
+// `ReadsItems` can't, since its impls name readers of `asn1_rs`. A closure can't take its place. Of `next_item(left,
+// |octets| F::read_item(alloc, octets))` the borrow checker says that a bound that names a lifetime is needed for a
+// shorter one. The closure may not name the lifetime.
 pub trait ReadsNext<'a, T, E> {
     /// What the reader may answer to these octets.
     ghost next_reads: { List ℕ → Result (List ℕ × T) (Refusal E) → Type 0 };

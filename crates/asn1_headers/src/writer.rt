@@ -11,7 +11,7 @@ use std::io::{ErrorKind, Write};
 
 /// A std writer whose calls of `write` are told one by one. Every std writer is one.
 ///
-/// Contracts of [`Told`] speak of its calls through this trait, as those of std's `Write` tell of a call only how many
+/// Contracts of [`Told`] speak of its calls through this trait. Those of std's `Write` say of a call only how many
 /// octets were taken, and which.
 // Under the bound `Write` no clause can say that a call was made once, with these octets, and that its failure is the
 // one answered. The smallest call with no such clause is the one line of `write_once` in the impl. Nobody can write an
@@ -42,8 +42,8 @@ impl<W: Write> TellsWrites for W {
 ///
 /// Contracts see the octets that it holds, where it tells them, and the mark.
 pub trait DerWrite {
-    /// The octets that it holds, where it tells them, and whether it has failed: a `put` was refused, or took no octet
-    /// of a piece that has some.
+    /// The octets that it holds, where it tells them, and whether it has failed. It has where a `put` was refused, or
+    /// took no octet of a piece that has some.
     ghost state: { Self → WriterState };
 
     /// What a call of `put` may come to. A writer that leaves it out claims nothing of which answer a call has.

@@ -46,8 +46,8 @@ pub record AreStrictBits (v : Bits) : Type 0 where
   pub empty : IsEmptyOrCounts v
   pub padded : IsZeroPadded v
 
--- What the constraints ask: a primitive element (10.2), with a count of unused bits, which is 0 where no bit follows,
--- and else at most 7, of bits that are zero.
+-- What the constraints ask: a primitive element (10.2) with a count of unused bits. The count is 0 where no bit
+-- follows, and else at most 7, of bits that are zero.
 abbrev pub bit_string_constraints : CheckGives
 bit_string_constraints = is_primitive
     before has_content
@@ -62,8 +62,8 @@ data_of x = cow_slice_items x.content
 abbrev pub bits_in : BitString → Bits
 bits_in x = record { unused = x.unused_bits; octets = data_of x }
 
--- An element with the tag number, primitive or constructed, whose first contents octet is the count of unused bits,
--- also one above 7, and whose others have the bits.
+-- An element with the tag number, primitive or constructed. Its first contents octet is the count of unused bits, also
+-- one above 7, and the others have the bits.
 abbrev pub bit_string_leaf : Leaf BitString
 bit_string_leaf = record {
   number = bit_string_number;

@@ -176,7 +176,7 @@ KnowsClass tags p (Ok x) = has_a_class tags p.id.class ≡ true
 KnowsClass tags p (Err e) = (has_a_class tags p.id.class ≡ false) ×
     ((actual : Class) × (p.id.class ≡ class_number actual) × (e ≡ UnexpectedClass None actual))
 
--- What reading a choice by DER may answer: an element is read, its class is looked at, and then the reader of its arm
+-- What reading a choice by DER may answer. An element is read, and its class is looked at. Then the reader of its arm
 -- reads the octets.
 abbrev pub ChoiceReads : {S T : Type 0} → List (ℕ × ℕ) → (T → S) →
     (Identifier → List ℕ → Result (List ℕ × S) (Refusal Error) → Type 0) → List ℕ →

@@ -24,8 +24,8 @@ use Rattle.std.specs.Cow.{IsBorrowedSlice}
 
 -- Values.
 
--- how the syntaxes of a data value are identified: by identifiers, by the contents octets of the integer that numbers a
--- context, by both, or by nothing, where they are known
+-- How the syntaxes of a data value are identified, where they are known. It is by identifiers, by the contents octets
+-- of the integer that numbers a context, by both, or by nothing.
 pub data Identification : Type 0 where
   syntaxes : OidValue → OidValue → Identification
   syntax : OidValue → Identification

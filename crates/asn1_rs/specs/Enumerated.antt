@@ -19,9 +19,9 @@ IsFourOctetWord n = n < 256 ^ 4
 abbrev pub SaysWord : List ℕ → Type 0
 SaysWord content = IsFourOctetWord (base_256_value content)
 
--- A primitive element, whose contents octets are the digits of the number in base 256: none say 0, zeros in front say
--- nothing, and there is no sign. The constraints ask for a definite length alone. The number is written as an integer
--- (X.690 8.4).
+-- A primitive element, whose contents octets are the digits of the number in base 256. No digits say 0, zeros in front
+-- say nothing, and there is no sign. The constraints ask for a definite length alone. The number is written as an
+-- integer (X.690 8.4).
 abbrev pub enumerated_leaf : Leaf Enumerated
 enumerated_leaf = record {
   number = enumerated_number;

@@ -41,8 +41,8 @@ LeavesAnEnd o (counted n) new = Unit {0}
 LeavesAnEnd o (prepended p) (prepended q) = GrewByAnEnd o p q
 LeavesAnEnd o (prepended p) _ = ⊥
 
--- Why a field of so many octets is refused: by its count, or since the sum of the counts is too long; or as a writing
--- before the octets of a buffer is.
+-- Why a field of so many octets is refused. Its count is refused, or the sum of the counts is too long. Or it is
+-- refused as a writing before the octets of a buffer is.
 abbrev pub FieldRefusal : TakenFields → ℕ → (Error → Type 0) → (SerializeError → Type 0) → SerializeError → Type 0
 FieldRefusal (counted n) len counts writes e = WrittenRefusal (RefusesCount true (n + len) counts) e
 FieldRefusal (prepended o) len counts writes e = VectorRefuses (len + length o) writes e

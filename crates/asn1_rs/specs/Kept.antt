@@ -31,8 +31,8 @@ use Rattle.asn1_rs.specs.ToDer.{whole_octets, whole_refuses}
 abbrev pub kept_octets : {K : Type 0} → Kept K → List ℕ
 kept_octets x = cow_slice_items x.content
 
--- An element with the tag number whose value is its contents octets, as they stand:
--- it is constructed (8.9.1, 8.11.1), and DER asks no more of it.
+-- An element with the tag number whose value is its contents octets, as they stand. It is constructed (8.9.1, 8.11.1),
+-- and DER asks no more of it.
 abbrev pub kept_leaf : {K : Type 0} → ℕ → Leaf (Kept K)
 kept_leaf number = contents_leaf number kept_octets is_constructed nothing
 
@@ -107,8 +107,8 @@ pub record EndsJoining {T : Type 0} (w : Writing T) (items : List T) (item : T) 
   pub first : (f : SerializeError) → w.refuses_first item f → e ≡ vector_refusal f
   pub no_io : tells_of_io e ≡ false
 
--- The octets of the items that an iterator gives, joined in their order, where none is refused; or the refusal of the
--- first that is, which is the last that it gave, or out of memory, or a length past memory.
+-- What joining the items that an iterator gives may answer. It is their octets in their order, where none is refused.
+-- Else it is the refusal of the last item that it gave, or out of memory, or a length past memory.
 abbrev pub JoinsGiven : {I T : Type 0} → (I → Option T → I → Type 0) → Writing T → I →
     Result (List ℕ) SerializeError → Type 0
 JoinsGiven {I} {T} steps w it (Ok content) = (items : List T) × Drains steps it items ×

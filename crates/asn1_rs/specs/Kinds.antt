@@ -25,7 +25,7 @@ pub record ElementGrammar (S : Type 0) : Type 1 where
   pub allocates : Bool
 
 -- Two values are equal in one way at most. Bodies and strict parts have values of the type, a body has one value, a
--- value one strict identifier and one strict content; these fit an element, meet the check and have the value, which is
+-- value one strict identifier and one strict content. These fit an element, meet the check and have the value, which is
 -- in DER form.
 pub record IsLawfulElement {S : Type 0} (G : ElementGrammar S) : Type 0 where
   pub one_equality : IsSet G.Value

@@ -90,8 +90,8 @@ abbrev pub listed : {T E A : Type 0} → Result (Vec T A) E → Result (List T) 
 listed (Ok v) = Ok v.items
 listed (Err e) = Err e
 
--- What making a list of the items of a walk may answer: what holds the items;
--- or the refusal that ended the walk, or out of memory.
+-- What making a list of the items of a walk may answer. It is what holds the items, or the refusal that ended the walk,
+-- or out of memory.
 abbrev pub ListGives : {T W E : Type 0} → (List T → W → Type 0) → (List ℕ → Result (List ℕ × T) (Refusal E) → Type 0) →
     (Error → E → Type 0) → List ℕ → Result W E → Type 0
 ListGives {T} holds reads from content (Ok w) =

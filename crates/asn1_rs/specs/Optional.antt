@@ -41,16 +41,16 @@ abbrev pub in_some : {T E : Type 0} → Result (List ℕ × T) E → Result (Lis
 in_some (Ok x) = Ok (x.0, Some x.1)
 in_some (Err e) = Err e
 
--- What a reader of optional values may answer: exactly where the value is left out None, with all octets as the rest;
--- else the whole answer of the reader of the value.
+-- What a reader of optional values may answer. It is None with all octets as the rest exactly where the value is left
+-- out. Else it is the whole answer of the reader of the value.
 abbrev pub OptionGives : {T E : Type 0} → (List ℕ → Type 0) → (List ℕ → Result (List ℕ × T) (Refusal E) → Type 0) →
     List ℕ → Result (List ℕ × Option T) (Refusal E) → Type 0
 OptionGives {T} {E} LeftOut reads octets answer =
     (LeftOut octets × (answer ≡ Ok (octets, None))) ⊎
     ((LeftOut octets → ⊥) × ((its : Result (List ℕ × T) (Refusal E)) × reads octets its × (answer ≡ in_some its)))
 
--- Of a strict encoding before any rest a reader of optional values answers what is held, in Some, and the rest; or out
--- of memory, as the reader of the value may.
+-- Of a strict encoding before any rest a reader of optional values answers what is held, in Some, and the rest. It may
+-- answer out of memory, as the reader of the value may.
 abbrev pub ReadsHeldBack : {T V E : Type 0} → (List ℕ → Result (List ℕ × Option T) (Refusal E) → Type 0) →
     (V → Identifier → List ℕ → Type 0) → (T → V) → (Refusal E → Type 0) → Type 0
 ReadsHeldBack {T} {V} {E} reads Form value memory =
@@ -71,7 +71,7 @@ abbrev pub ReadsNoneAtEnd : {T E : Type 0} → (List ℕ → Result (List ℕ ×
 ReadsNoneAtEnd {T} {E} reads =
     (answer : Result (List ℕ × Option T) (Refusal E)) → reads [] answer → answer ≡ Ok ([], None)
 
--- A refusal of an optional value is that of the value, and it is final: no word of the value begins the octets, nor
+-- A refusal of an optional value is that of the value, and it is final. No word of the value begins the octets, nor
 -- more octets of which the refusal speaks.
 abbrev pub RefusesAsHeld : {T V E : Type 0} → (List ℕ → Result (List ℕ × Option T) (Refusal E) → Type 0) →
     (List ℕ → Result (List ℕ × T) (Refusal E) → Type 0) → (List ℕ → Type 0) → (List ℕ → V → Type 0) →
@@ -102,8 +102,8 @@ abbrev pub none_or : {T E : Type 0} → (E → Bool) → Result T E → Result (
 none_or of_tag (Ok x) = Ok (Some x)
 none_or of_tag (Err e) = if of_tag e then Ok None else Err e
 
--- What a conversion to an optional value may answer: none exactly where the conversion to the value tells of another
--- tag number; else its whole answer, an Ok in Some.
+-- What a conversion to an optional value may answer. It is None exactly where the conversion to the value tells of
+-- another tag number. Else it is the whole answer of that, an Ok in Some.
 abbrev pub NoneOrConverted : {T E : Type 0} → (Any → Result T E → Type 0) → (E → Bool) → Any →
     Result (Option T) E → Type 0
 NoneOrConverted {T} {E} converts of_tag any answer =

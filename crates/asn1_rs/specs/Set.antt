@@ -17,10 +17,9 @@ use Rattle.asn1_rs.specs.Grammar.{DerWord, NoCheck}
 use Rattle.asn1_rs.specs.Grammar.Item.{ItemGrammar, ber_words}
 use Rattle.asn1_rs.specs.Lists.{ListBody, ListOf, ListCheck}
 
--- What a row of keys stands for: a set; or, where the keys stand in no way in which a set keeps them, that row itself.
--- Each set in hand is of the first kind, as its `len` and `iter` tell.
--- Std's model of a `BTreeSet` is any row of keys, and the laws range over all of them: with sets alone as values they
--- would be false of [1, 1] and [2, 1].
+-- What a row of keys stands for. It is a set, or that row itself where the keys stand in no way in which a set keeps
+-- them. Each set in hand is of the first kind, as its `len` and `iter` tell. Std's model of a `BTreeSet` is any row of
+-- keys, and the laws range over all of them. With sets alone as values they would be false of [1, 1] and [2, 1].
 abbrev pub Members : Type 0 → Type 0
 Members V = ValueSet V ⊎ List V
 
@@ -80,8 +79,8 @@ SetValues {V} of P m = (vs : List V) × (of vs ≡ m) × All P vs
 abbrev pub SetInDer : {V M : Type 0} → (List V → M) → (List V → Type 0) → (V → Type 0) → M → Type 0
 SetInDer {V} of Each IsDer m = (vs : List V) × Each vs × (of vs ≡ m) × All IsDer vs
 
--- Collections of items of a type. `of` says what collection a list of values is, `worth` what one in hand is, Each how
--- a list has to stand for it, and DerBody what a reader by DER finds in an element's parts.
+-- Collections of items of a type. `of` says what collection a list of values is, and `worth` what one in hand is. Each
+-- says how a list has to stand for it, and DerBody what a reader by DER finds in an element's parts.
 abbrev pub set_grammar : {S W M : Type 0} (G : ItemGrammar S) → (List G.Value → M) → (W → M) → (List G.Value → Type 0) →
     (Parts → M → Type 0) → ItemGrammar W
 set_grammar {S} {W} {M} G of worth Each DerBody = record {

@@ -13,8 +13,8 @@ use Rattle.asn1_rs.specs.Checks.{content_check, is_primitive}
 use Rattle.asn1_rs.specs.Leaf.{Leaf, LeafGives, leaf_element}
 use Rattle.asn1_rs.specs.LeafReading.{LeafReading}
 
--- An element with the tag number whose value is the UTF-8 of a text, which is its contents octets: a text that the type
--- has, though items may hold others. It is primitive or constructed (8.23.1); by DER it is primitive (10.2). What is
+-- An element with the tag number whose value is the UTF-8 of a text, which is its contents octets. The type has the
+-- text, though items may hold others. It is primitive or constructed (8.23.1); by DER it is primitive (10.2). What is
 -- written for a text that the type does not have is no strict encoding.
 abbrev pub text_leaf : {S : Type 0} → ℕ → (List ℕ → Type 0) → (S → List ℕ) → Leaf S
 text_leaf number IsText text = record {
@@ -41,8 +41,8 @@ text_of x = cow_str_bytes x.text
 abbrev pub string_leaf : {K : Type 0} → ℕ → (List ℕ → Type 0) → Leaf (RestrictedString K InPlace)
 string_leaf number IsText = text_leaf number IsText text_of
 
--- what the conversion of an element may answer: its contents octets as a text, which is borrowed,
--- or the refusal of the first check that is broken
+-- What the conversion of an element may answer. It is its contents octets as a text, which is borrowed, or the refusal
+-- of the first check that is broken.
 abbrev pub StringGives : {K : Type 0} → ℕ → (List ℕ → Type 0) → Any → Result (RestrictedString K InPlace) Error → Type 0
 StringGives number IsText any answer =
     LeafGives (string_leaf number IsText) (parts_of any) answer × IfOk answer (λ x. IsBorrowedStr (held_text x))

@@ -181,8 +181,8 @@ left_out_by number rules = IsLeftOut (header_rule rules) number
 abbrev pub left_out_at_end : EncodingRules → List ℕ → Type 0
 left_out_at_end rules = IsAtEnd
 
--- What the reader of a field may answer is exact: the value and the rest where it is taken; an Err where nothing is, or
--- when out of memory.
+-- What the reader of a field may answer is exact. It is the value and the rest where it is taken, and an Err where
+-- nothing is, or when out of memory.
 abbrev pub ReadsField : {S : Type 0} → EncodingRules → FieldGrammar S → List ℕ →
     Result (List ℕ × S) (Refusal Error) → Type 0
 ReadsField rules F octets (Ok x) = F.Takes rules octets (F.value x.1) x.0
@@ -285,8 +285,8 @@ abbrev pub puts_of : {S : Type 0} → FieldList S → S → PutList
 puts_of no_fields x = none_put
 puts_of (field w of rest) x = put_then w (of x) (puts_of rest x)
 
--- The items were put in their order, or from the last to the first where they are so taken; or those before one that was
--- refused, and that refusal is the answer.
+-- The items were put in their order, or from the last to the first where they are so taken. Or those before a refused
+-- one were, and its refusal is the answer.
 abbrev pub PutsAll : PutList → TakenFields → TakenFields → Result (Unit {0}) SerializeError → Type 0
 PutsAll none_put old new answer = (answer ≡ Ok tt) × (new ≡ old)
 PutsAll (put_then w x rest) old new answer =
@@ -326,8 +326,8 @@ MadeOf row gives octets (Err e) = gives octets (Err e)
 abbrev pub Untold : {A T E : Type 0} → A → Result T E → Type 0
 Untold octets answer = Unit {0}
 
--- What the conversion of an element to a struct may answer: the struct of its fields; or the refusal of the tag number,
--- that of the constructed bit, or that of a field.
+-- What the conversion of an element to a struct may answer. It is the struct of its fields, or the refusal of the tag
+-- number, of the constructed bit, or of a field.
 abbrev pub StructGives : {T : Type 0} → (List ℕ → Result T Error → Type 0) → Any → Result T Error → Type 0
 StructGives gives any (Ok x) = IsListOr 16 (parts_of any) (Ok tt) × gives any.content.now (Ok x)
 StructGives gives any (Err e) =

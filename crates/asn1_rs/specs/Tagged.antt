@@ -68,8 +68,8 @@ IsOtherClass {E} from class actual r =
 abbrev pub IsOfTrailing : {E : Type 0} → (Error → E → Type 0) → Refusal E → Type 0
 IsOfTrailing {E} from r = (e : E) × from (DerConstraintFailed TrailingOctets) e × (r ≡ refused e)
 
--- What a reader's answer tells where the value is to be all of the octets: the value, where nothing is left, or the
--- refusal of what is left; or the reader's own refusal.
+-- What a reader's answer tells where the value is to be all of the octets. It is the value where nothing is left, or
+-- the refusal of what is left, or the reader's own refusal.
 abbrev pub WholeGives : {T E : Type 0} → (Error → E → Type 0) → Result (List ℕ × T) (Refusal E) →
     Result T (Refusal E) → Type 0
 WholeGives from (Ok x) (Ok value) = (x.0 ≡ []) × (value ≡ x.1)

@@ -33,11 +33,11 @@ RefusesAtOnce allocates n own e = (MayRefuse allocates n e × (tells_of_io e ≡
 abbrev pub HasNone : {E : Type 0} → (E → Type 0) → Type 0
 HasNone {E} own = (e : E) → own e → ⊥
 
--- What is written for the values of a type: for which of them that is told, the octets of header and contents, the
--- constructed bit, the refusals that are the value's own, and whether memory is allocated for counts and header, for
--- the contents octets, and for the whole beside these. They are relations, and not one refusal each: of a list whose
+-- What is written for the values of a type. It has for which of them that is told, the octets of header and contents,
+-- and the constructed bit. It has the refusals that are the value's own, and whether memory is allocated for counts and
+-- header, for the contents octets, and beside these. They are relations, and not one refusal each. Of a list whose
 -- items are refused for several causes one of these comes, and in a set out of memory may come first. What refuses a
--- header leaves open which comes, so that a writer may begin at the end; so a refusal before all others, as that of a
+-- header leaves open which comes, so that a writer may begin at the end. So a refusal before all others, as that of a
 -- class, has a relation of its own.
 pub record Writing (S : Type 0) : Type 1 where
   pub tells : S → Type 0
@@ -133,8 +133,8 @@ abbrev pub IsRefusedAtOnce : Bool → ℕ → (SerializeError → Type 0) → Wr
 IsRefusedAtOnce allocates n own old new answer =
     (e : SerializeError) × RefusesAtOnce allocates n own e × RefusedAtOnce e old new answer
 
--- A refusal is the writer's, or for want of memory, as of a writing of no octets, whose length fits; or else it left the
--- writer as it was.
+-- A refusal is the writer's, or for want of memory, as of a writing of no octets, whose length fits. Any other refusal
+-- left the writer as it was.
 abbrev pub KeepsOrMayRefuse : Bool → WriterState → WriterState → Result ℕ SerializeError → Type 0
 KeepsOrMayRefuse allocates old new answer = IfErr answer (λ e. MayRefuse allocates 0 e ⊎ (new ≡ old))
 

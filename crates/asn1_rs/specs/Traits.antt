@@ -16,8 +16,8 @@ use Rattle.asn1_headers.specs.Ber.{max_depth}
 abbrev pub OfParts : {T E : Type 0} → (Parts → Result T E → Type 0) → Any → Result T E → Type 0
 OfParts gives any answer = gives (parts_of any) answer
 
--- What a reader may answer that reads an element, checks it and converts it: the value; or else the refusal of the
--- element's first fault, that of the check, or that of the conversion, in this order.
+-- What a reader may answer that reads an element, checks it and converts it. It is the value, or the first refusal in
+-- this order: that of the element's first fault, of the check, of the conversion.
 abbrev pub ElementGives : {T E : Type 0} → (List ℕ → Parts → Type 0) → (List ℕ → Fault → Type 0) →
     (Fault → Refusal Error) → (Parts → Result (Unit {0}) Error → Type 0) → (Any → Result T E → Type 0) →
     (Error → E → Type 0) → List ℕ → Result (List ℕ × T) (Refusal E) → Type 0

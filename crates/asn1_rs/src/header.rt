@@ -35,12 +35,11 @@ impl<'a> FromDer<'a, Error> for Header<'a> {
 
     /// Reads a header at the front, by DER, with its identifier octets as its raw tag (X.690 10.1).
     ///
-    /// Refused, in this order: `Incomplete(1)` where nothing is there; `InvalidTag` for identifier octets in high form
-    /// that are cut, have a sixth digit or a number past `u32`; `DerConstraintFailed(TagNotShortest)` for those that
-    /// are not the shortest; `Incomplete(1)` without a length octet; `InvalidLength` for ff;
-    /// `DerConstraintFailed(IndefiniteLength)` for 80; `Incomplete(n)` where n length octets are missing;
-    /// `InvalidLength` for a length past `usize`; `DerConstraintFailed(LengthNotShortest)` for length octets that are
-    /// not the shortest.
+    /// Refused, in this order, with `Incomplete(1)` where nothing is there. Identifier octets in high form that are
+    /// cut, have a sixth digit or a number past `u32` are `InvalidTag`. Those that are not the shortest are
+    /// `DerConstraintFailed(TagNotShortest)`. No length octet is `Incomplete(1)`, ff is `InvalidLength`, 80 is
+    /// `DerConstraintFailed(IndefiniteLength)`. Missing length octets are `Incomplete(n)`, and a length past `usize` is
+    /// `InvalidLength`. Length octets that are not the shortest are `DerConstraintFailed(LengthNotShortest)`.
     fn from_der(_alloc: Global, bytes: &'a [u8]) -> ParseResult<'a, Header<'a>, Error>
         ensures gives { HeaderGives der_rule der_refusal bytes.now (seen result) }
         ensures last { IfErr result (HeaderRefusalLasts der_rule bytes.now) }
@@ -54,8 +53,8 @@ impl<'a> FromBer<'a, Error> for Header<'a> {
 
     /// Reads a header at the front, by BER, with its identifier octets as its raw tag (X.690 8.1.2, 8.1.3).
     ///
-    /// Refused as by DER, but for identifier octets and length octets that are not the shortest, which are read, and
-    /// for 80: that is an indefinite length at a constructed element, and `ConstructExpected` at a primitive one.
+    /// Refused as by DER, but identifier octets and length octets that are not the shortest are read. The octet 80 is
+    /// an indefinite length at a constructed element, and `ConstructExpected` at a primitive one.
     fn from_ber(_alloc: Global, bytes: &'a [u8]) -> ParseResult<'a, Header<'a>, Error>
         ensures gives { HeaderGives ber_rule ber_refusal bytes.now (seen result) }
         ensures last { IfErr result (HeaderRefusalLasts ber_rule bytes.now) }

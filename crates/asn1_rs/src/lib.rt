@@ -1,4 +1,33 @@
-//! BER reader, DER reader and writer of ITU-T X.690.
+//! BER reader, DER reader and writer of ITU-T X.690, with the names of the Rust crate asn1-rs 0.7.2.
+//!
+//! - [`FromBer`], [`FromDer`] read a value at the front of octets: `T::from_der(alloc, octets)` answers what follows
+//!   it, and the value.
+//! - [`ToDer`] writes a value: `x.to_der_vec(alloc)`, `x.write_der(alloc, &mut writer)`.
+//! - [`read_ber`], [`read_der`], [`write_strict`] and [`strict_vec`] do the same with the theorem in their contracts.
+//! - [`Any`] is any element, and [`Header`] what stands in front of its contents octets.
+//! - Machine integers, `bool`, `&str`, `String`, `&[u8]`, `Vec`, `Option`, `BTreeSet` and `HashSet` are read and
+//!   written as they are. [`Integer`], [`BitString`], [`OctetString`], [`Oid`], [`UtcTime`], [`GeneralizedTime`], the
+//!   strings, [`SequenceOf`] and [`SetOf`] are types of the crate.
+//! - [`TaggedExplicit`], [`TaggedImplicit`] and their kin are values under a tag.
+//! - [`LawfulStruct`] and [`LawfulChoice`] make a struct or an enum of yours such a type.
+//!
+//! A caller states what it knows in one line:
+//!
+//! ```rust
+//! pub fn read_numbers(alloc: Global, octets: &[u8]) -> ParseResult<'_, Vec<u32>, Error>
+//!     ensures { Exactly IsCutIdentifier ShortNumbers (λ numbers. map pos numbers.items)
+//!         WantsMemory octets.now (seen result) }
+//! {
+//!     read_der::<Vec<u32>, Error>(alloc, octets)
+//! }
+//! ```
+//!
+//! Each type names its *kind* ([`HasKind`]), and its readers, its writers and their laws follow from the kind. `kinds`
+//! has what is read as one element, lists and sets, `structs` structs of fields, `choices` choices. `laws` has the
+//! calls with the theorem. A grammar stands in `specs/` under the name of its type.
+//!
+//! `docs/GUIDE.md` shows how a message is written, `docs/STANDARD.md` which octets each type takes, `docs/EXTENDING.md`
+//! how a type is added.
 #![tactic(auto)]
 
 mod asn1_types;

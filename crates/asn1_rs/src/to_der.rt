@@ -20,13 +20,13 @@ use std::alloc::Global;
 ///
 /// A type that leaves out its ghost members is written all the same, and nothing is claimed of it.
 pub trait ToDer: DynTagged {
-    /// What is written for the values, and what refuses them: for which of them that is told; the octets of header and
-    /// contents, and the constructed bit; the refusals of counts, header and contents octets that are the value's own,
-    /// which are neither its length nor out of memory; those that come before all others; and where memory is asked
-    /// for.
+    /// What is written for the values, and what refuses them. It has for which of them that is told, the octets of
+    /// header and contents, and the constructed bit. It has the refusals of counts, header and contents octets that are
+    /// the value's own, which are neither its length nor out of memory. It has those that come before all others, and
+    /// where memory is asked for.
     ///
-    /// A value with a refusal of its counts is neither counted nor written; with one of its header nothing is appended;
-    /// with one of its contents octets a beginning of the encoding may be.
+    /// A value with a refusal of its counts is neither counted nor written. Of one with a refusal of its header nothing
+    /// is appended. Of one with a refusal of its contents octets a beginning of the encoding may be.
     ghost writing: { Writing Self } = { untold };
 
     /// The raw form is the DER form.
@@ -89,9 +89,9 @@ pub trait ToDer: DynTagged {
 
     /// Appends the encoding, and answers its length.
     ///
-    /// Refused with `IOError` only where the writer failed, or was marked before; with `InvalidLength` only where the
-    /// length passes `usize`, or the value itself is so refused. A value that is refused for what it is, or for its
-    /// length, leaves the writer as it was; after any other refusal a beginning of the encoding was appended.
+    /// Refused with `IOError` only where the writer failed, or was marked before. Refused with `InvalidLength` only
+    /// where the length passes `usize`, or the value itself is so refused. A value that is refused for what it is, or
+    /// for its length, leaves the writer as it was. After any other refusal a beginning of the encoding was appended.
     // This body is proved once for all types, also for those that need no memory (`Header`, `Length`). So where its
     // buffer cannot grow it goes forward, and does not answer out of memory. Before that it writes to a sink, where a
     // value's own refusal shows.
@@ -159,7 +159,7 @@ pub trait ToDer: DynTagged {
     /// Puts the encoding before the octets of the buffer, and answers its length.
     ///
     /// Refused as `to_der_vec` is, and then an end part of it may stand in the buffer. This body counts the contents
-    /// octets for the header; a type whose contents octets are many or nested has one of its own, which puts the header
+    /// octets for the header. A type whose contents octets are many or nested has one of its own, which puts the header
     /// of their number.
     fn prepend_der(&self, alloc: Global, buf: &mut DerBuffer) -> SerializeResult<usize>
         ensures prepended { writing.tells self.now →

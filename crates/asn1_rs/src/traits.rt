@@ -93,7 +93,7 @@ pub trait FromAny<'a>: Sized {
     ///
     /// A type that looks at the parts of the element alone says `OfParts` of a relation of these.
     // It is told the element, since an answer may hang on the identifier octets that this keeps. These follow from the
-    // parts and the input, so a relation of parts and octets would say no more, and each type would name an argument
+    // parts and the input. So a relation of parts and octets would say no more, and each type would name an argument
     // that it does not look at.
     ghost any_gives: { Any → Result Self Self.Error → Type 0 } = { λ _ _. Unit {0} };
 
@@ -128,10 +128,9 @@ pub trait CheckDerConstraints {
     ghost check_gives: { Parts → Result (Unit {0}) Error → Type 0 } = { λ _ _. Unit {0} };
 
     /// Refuses an element that breaks a constraint. Where the type has laws, out of memory is never answered.
-    // The impl of a type with a lifetime writes this clause again: the checker hands a trait's clause on to a function
-    // of such an impl only where it takes `self`, and else says "write its clauses". The smallest input is
-    // `trait Checked { ghost gives: { ℕ }; fn check() -> u32 ensures { result ≡ gives }; }` with an impl for an
-    // `A<'_>`.
+    // The impl of a type with a lifetime writes this clause again. The checker hands a trait's clause on to a function
+    // of such an impl only where it takes `self`, and else says "write its clauses". The smallest input is `trait
+    // Checked { ghost gives: { ℕ }; fn check() -> u32 ensures { result ≡ gives }; }` with an impl for an `A<'_>`.
     fn check_constraints(any: &Any<'_>) -> Result<(), Error>
         ensures { check_gives (parts_of any.now) result };
 }

@@ -3,4 +3,6 @@ pub mod SignedSums
 pub mod Bytes
 pub mod CodedTexts
 pub mod Filled
+pub mod ShortestArcs
+pub mod StrictTexts
 mod Sorted

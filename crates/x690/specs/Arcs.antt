@@ -63,6 +63,12 @@ IsShortestPiece (digit ∷ digits) = AreTagDigits (digit ∷ digits) × (digit �
 abbrev pub AreShortest : List ℕ → Type 0
 AreShortest content = All IsShortestPiece (pieces_of content)
 
+-- The same, told octet by octet: an octet that begins a subidentifier is not 80, and the last octet ends one.
+-- `true` says that the next octet begins one.
+abbrev pub AreShortestFrom : Bool → List ℕ → Type 0
+AreShortestFrom start [] = start ≡ true
+AreShortestFrom start (octet ∷ octets) = (start ≡ true → octet ≢ 128) × AreShortestFrom (nat_lt octet 128) octets
+
 -- each subidentifier has its last octet
 abbrev pub AreComplete : List ℕ → Type 0
 AreComplete content = All AreTagDigits (pieces_of content)

@@ -12,8 +12,8 @@ pub data Breach : Type 0 where
   length_breach : Breach
   form_breach : Breach
 
--- What is wrong: so many octets are missing; identifier octets that are cut or too great; length octets that are ff or
--- too great; a header that its rule does not allow; a depth that is spent.
+-- What is wrong. So many octets are missing. Identifier octets are cut or too great. Length octets are ff or too great.
+-- The rule does not allow the header. The depth is spent.
 pub data Fault : Type 0 where
   missing : ℕ → Fault
   tag_fault : Fault
@@ -99,14 +99,13 @@ DerElementFault octets fault = HeaderFault der_rule octets fault ⊎ IsCutConten
 abbrev pub HasFault : (List ℕ → Fault → Type 0) → List ℕ → Type 0
 HasFault FaultOf octets = (fault : Fault) × FaultOf octets fault
 
--- What a fault says of the octets with more behind them. Where n are missing it says nothing of n or more; where the
+-- What a fault says of the octets with more behind them. Where n are missing it says nothing of n or more. Where the
 -- octets end within an identifier in high form it says nothing of any.
 abbrev pub SpeaksOf : Type 0 → Fault → List ℕ → Type 0
 SpeaksOf is_cut (missing n) more = length more < n
 SpeaksOf is_cut tag_fault more = (more ≡ []) ⊎ (is_cut → ⊥)
 SpeaksOf is_cut _ more = Unit {0}
 
--- the fault of octets that more octets make whole: it lacks as many as these or fewer,
--- or it is that of an identifier that is cut
+-- the fault of octets that more octets make whole: it lacks as many or fewer, or it is that of a cut identifier
 abbrev pub IsLackingOrCut : Type 0 → Fault → List ℕ → Type 0
 IsLackingOrCut cut fault more = ((n : ℕ) × (fault ≡ missing n) × (n ≤ length more)) ⊎ ((fault ≡ tag_fault) × cut)

@@ -32,8 +32,8 @@ pub record IsIndefiniteElement (Word : List ℕ → ℕ → Type 0) (octets : Li
   pub counted : headers ≡ inner + 2
   pub is : octets ≡ header ++ (parts.content ++ end_of_contents)
 
--- An element of the depth, with so many headers that do not stand in a definite content:
--- one for each element, and one for each 00 00.
+-- An element of the depth, with its number of headers outside definite contents: one for each element, and one for each
+-- 00 00.
 unfoldable pub IsNestedElement : ℕ → List ℕ → Parts → ℕ → Type 0
 IsNestedElement zero octets parts headers = ⊥
 IsNestedElement (suc depth) octets parts headers =

@@ -19,15 +19,15 @@ ber_rule = record {
   allows_indefinite = λ id. id.constructed;
 }
 
--- Identifier octets are the shortest in low form, and in high form where the number is 31 at least and the first digit
--- is not 0 (X.690 8.1.2.2, 8.1.2.4.2).
+-- Identifier octets are the shortest in low form. In high form they are where the number is 31 at least and the first
+-- digit is not 0 (X.690 8.1.2.2, 8.1.2.4.2).
 abbrev pub are_shortest_identifier : List ℕ → Bool
 are_shortest_identifier [] = false
 are_shortest_identifier (first ∷ []) = true
 are_shortest_identifier (first ∷ digit ∷ digits) = nat_le 31 (base_128_value (digit ∷ digits)) && not (nat_eq digit 128)
 
--- Length octets are the shortest in short form, and in long form where the length is 128 at least and the first octet
--- of its number is not 0 (X.690 10.1).
+-- Length octets are the shortest in short form. In long form they are where the length is 128 at least and the first
+-- octet of its number is not 0 (X.690 10.1).
 abbrev pub are_shortest_length : List ℕ → Bool
 are_shortest_length [] = false
 are_shortest_length (first ∷ []) = true

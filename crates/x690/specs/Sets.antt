@@ -19,3 +19,7 @@ is_printable octet = is_ascii_alphanumeric octet || list_any (nat_eq octet) (cod
 -- from the space to 7f, which is taken too (41.1)
 abbrev pub is_visible : ℕ → Bool
 is_visible octet = is_in_range 0x20 0x7f octet
+
+-- from the space to 7e, as the standard has VisibleString (41.1)
+abbrev pub is_graphic : ℕ → Bool
+is_graphic octet = is_in_range 0x20 0x7e octet

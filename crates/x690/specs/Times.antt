@@ -4,9 +4,11 @@ use Rattle.std.specs.Prelude.{◌≡◌, ◌≢◌, ◌⊎◌, ℕ, zero, suc, �
 use Rattle.std.specs.Prelude.{◌++◌, length, replicate, decimal, ℤ, pos, neg_ℤ, unsigned_abs, int_lt, Bool, not, ◌&&◌}
 use Rattle.std.specs.Prelude.{◌||◌, codes, nat_lt, nat_eq, Option, Some, None, if◌then◌else◌, IsTrue, slice_get}
 use Rattle.std.specs.List.{list_any}
+use Rattle.std.specs.Char.{is_ascii_digit}
 use Rattle.std.specs.Ordering.{int_cmp, ordering_then}
 use Rattle.std.specs.declared.cmp.Ordering.{Ordering}
 use Rattle.std.specs.declared.cmp.Ordering.TheVariants.{Less, Equal, Greater}
+use Rattle.x690.specs.Sets.{AllIn}
 use Rattle.x690.specs.declared.times.Moment.{Moment}
 use Rattle.x690.specs.declared.times.TimeZone.{TimeZone}
 use Rattle.x690.specs.declared.times.TimeZone.TheVariants.{Undefined, Z, Offset}
@@ -157,8 +159,8 @@ MostOffset most Undefined = Unit {0}
 MostOffset most Z = Unit {0}
 MostOffset most (Offset hours minutes) = (unsigned_abs hours ≤ most) × (unsigned_abs minutes ≤ most)
 
--- Fields that fit their places in the text, whose year is at most the greatest: two digits for each other part, three
--- for milliseconds, and no offset, for which there is no place.
+-- Fields that fit their places in the text. The year is at most the greatest, each other part has two digits and the
+-- milliseconds three. There is no offset, for which there is no place.
 pub record FitsText (greatest_year : ℕ) (m : Moment) : Type 0 where
   pub year : m.year ≤ greatest_year
   pub month : m.month ≤ 99
@@ -193,6 +195,23 @@ IsStrictUtcTime m = IsStrictMoment m × (m.year ≤ 99) × (m.millisecond ≡ No
 abbrev pub IsStrictGeneralizedTime : Moment → Type 0
 IsStrictGeneralizedTime m =
     IsStrictMoment m × (m.year ≤ 9999) × MostMilliseconds 999 m.millisecond × (m.millisecond ≢ Some 0)
+
+-- Strict texts, with fractions of any length.
+
+-- nothing, or a point and digits, the last of which is not 0 (11.7.3)
+abbrev pub IsStrictFraction : List ℕ → Type 0
+IsStrictFraction text = (text ≡ []) ⊎ ((digits : List ℕ) × (last : ℕ) × AllIn is_ascii_digit digits × (49 ≤ last) ×
+    (last ≤ 57) × (text ≡ 46 ∷ digits ++ last ∷ []))
+
+-- the text of a UTCTime that can be: no fraction, and Z (11.8)
+abbrev pub IsStrictUtcText : List ℕ → Type 0
+IsStrictUtcText text = (m : Moment) × IsStrictMoment m × (m.year < 10 ^ 2) ×
+    (text ≡ digits 2 m.year ++ to_minute m ++ digits 2 m.second ++ z_text)
+
+-- and of a GeneralizedTime, with such a fraction (11.7)
+abbrev pub IsStrictGeneralizedText : List ℕ → Type 0
+IsStrictGeneralizedText text = (m : Moment) × (fraction : List ℕ) × IsStrictMoment m × (m.year < 10 ^ 4) ×
+    IsStrictFraction fraction × (text ≡ digits 4 m.year ++ to_minute m ++ digits 2 m.second ++ fraction ++ z_text)
 
 -- How they are shown.
 

@@ -27,8 +27,8 @@ pub fn first_pairs_are_unique()
         (x ≡ first_arc (40 * x + y)) × (y ≡ second_arc (40 * x + y)) }
 {}
 
-/// Arcs come back from their shortest contents octets, but that the arcs 0, 0 of an object identifier are the one arc 0
-/// (X.690 8.19, 8.20).
+/// Arcs come back from their shortest contents octets (X.690 8.19, 8.20). Only the arcs 0, 0 of an object identifier
+/// are the one arc 0.
 pub fn arcs_come_back()
     ensures shortest { (relative : Bool) (arcs : List ℕ) → AreShortest (arcs_octets relative arcs) }
     ensures relative { (arcs : List ℕ) → arcs_of true (arcs_octets true arcs) ≡ arcs }
@@ -77,7 +77,7 @@ pub fn arcs_have_one_text()
         → arcs ≡ others }
 {}
 
-/// The text of arcs below 2^64 is not longer than four times the contents octets and two: an arc has three digits at
+/// The text of arcs below 2^64 is not longer than four times the contents octets and two. An arc has three digits at
 /// most for each octet, and a point (X.690 8.19.2, 8.19.4).
 pub fn arc_texts_are_short()
     ensures { (relative : Bool) (content : List ℕ)
@@ -201,8 +201,8 @@ fn split_long_subidentifier(octets: &[u8]) -> (u64, u64, usize)
     (u64::from(first), second, len)
 }
 
-/// The first two arcs of an object identifier, where the second is below 2^64, and how many octets their subidentifier
-/// has, leading octets 80 among them (X.690 8.19.4). It looks at no octet behind them.
+/// The first two arcs of an object identifier, where the second is below 2^64, and the number of octets of their
+/// subidentifier (X.690 8.19.4). Leading octets 80 are among these. It looks at no octet behind them.
 #[inline(always)]
 pub fn split_subidentifier(octets: &[u8]) -> (u64, u64, usize)
     requires some { 0 < length octets.now }

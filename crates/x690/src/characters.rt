@@ -204,9 +204,9 @@ pub fn coded_len<C: CharacterCode>(text: &str) -> Option<usize>
     Some(len)
 }
 
-/// Writes characters from the front of the text into the buffer while any character fits, and says how many octets they
-/// are, and what text is left. A text that is not empty becomes shorter, and where a text is left, the buffer has no
-/// room for four octets more.
+/// Writes characters from the front of the text into the buffer while any character fits. It answers how many octets
+/// they are, and the text that is left. A text that is not empty becomes shorter. Where a text is left, the buffer has
+/// no room for four octets more.
 pub fn fill<'a, C: CharacterCode>(text: &'a str, buffer: &mut [u8; 256]) -> (usize, &'a str)
     ensures octets { code_of C.octets_of (chars text.now) ≡
         take result.0 buffer.new ++ code_of C.octets_of (chars result.1.now) }
@@ -241,9 +241,9 @@ fn last_character(text: &str) -> Option<(char, &str)>
     }
 }
 
-/// Writes characters from the back of the text before place 256 of the buffer while any character fits, and says where
-/// they begin, and what text is left before them. A text that is not empty becomes shorter, and where a text is left,
-/// the buffer has no room for four octets more.
+/// Writes characters from the back of the text before place 256 of the buffer while any character fits. It answers
+/// where they begin, and the text that is left before them. A text that is not empty becomes shorter. Where a text is
+/// left, the buffer has no room for four octets more.
 pub fn fill_back<'a, C: CharacterCode>(text: &'a str, buffer: &mut [u8; 260]) -> (usize, &'a str)
     ensures octets { code_of C.octets_of (chars text.now) ≡
         code_of C.octets_of (chars result.1.now) ++ take (256 - result.0) (drop result.0 buffer.new) }

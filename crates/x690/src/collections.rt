@@ -36,8 +36,8 @@ impl Encodings for StrictElements {
     ghost are = { strict_encodings };
 }
 
-/// Two lists are one multiset exactly where they have the same items in some order, and one set exactly where the same
-/// values stand in both. Lists of one set in which no value stands twice have the same items in some order.
+/// Two lists are one multiset exactly where they have the same items in some order. They are one set exactly where the
+/// same values stand in both. Lists of one set in which no value stands twice have the same items in some order.
 pub fn collections_are_lists_up_to_order<V>()
     ensures multisets { (one other : List V)
         → (multiset one ≡ multiset other) ↔ ∥ IsPermutation one other ∥₁ }
@@ -80,8 +80,8 @@ pub fn contents_have_one_collection<E: Encodings>()
         → values ≡ others }
 {}
 
-/// Where each value has a strict encoding there is such a content: these encodings joined, those of a multiset and of a
-/// set in ascending order (X.690 11.6).
+/// Values that each have a strict encoding have contents octets. They are the encodings joined, those of a multiset and
+/// of a set in ascending order (X.690 11.6).
 pub fn contents_of_encodings<E: Encodings>()
     ensures lists { (values : List E.Value) (strings : List (List ℕ))
         → AllZip E.Strict values strings → IsListContent E.Strict values (concat strings) }
@@ -93,8 +93,8 @@ pub fn contents_of_encodings<E: Encodings>()
         → IsSetContent E.Strict (value_set values) (concat (arranged strings)) }
 {}
 
-/// The strict element of such a content, under any identifier, is a strict encoding again: so the laws hold of lists of
-/// lists, of sets of lists, and of all that is nested so.
+/// The strict element of these contents octets, under any identifier, is a strict encoding again. So the laws hold of
+/// lists of lists, of sets of lists, and of all that is nested so.
 pub fn collections_are_encoded<E: Encodings>()
     ensures lists { (id : Identifier) → AreEncodings (IsStrictWith id (IsListContent E.Strict)) }
     ensures multisets { (id : Identifier)
@@ -102,8 +102,8 @@ pub fn collections_are_encoded<E: Encodings>()
     ensures sets { (id : Identifier) → AreEncodings (IsStrictWith id (IsSetContent E.Strict)) }
 {}
 
-/// So a set of strict elements has one content at most, and that is of no other set: the laws of all encodings, called
-/// at these.
+/// So a set of strict elements has one string of contents octets at most, and no other set has it. These are the laws
+/// of all encodings, at strict elements.
 pub fn sets_of_strict_elements_have_one_content()
     ensures content { (values : ValueSet (Identifier × List ℕ)) (content other : List ℕ)
         → IsSetContent IsStrictOf values content → IsSetContent IsStrictOf values other

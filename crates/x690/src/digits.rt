@@ -197,8 +197,8 @@ pub fn length_into(n: usize, out: &mut [u8; 9]) -> usize
     write_length(n, out)
 }
 
-/// Writes the strict header of an element whose contents are n octets at the front, and says how many octets it has:
-/// two to fifteen (X.690 8.1.2, 8.1.3, 10.1). What stands behind them stays.
+/// Writes at the front the strict header of an element with n contents octets (X.690 8.1.2, 8.1.3, 10.1). It answers
+/// its number of octets, two to fifteen. What stands behind them stays.
 #[inline(always)]
 pub fn header_into(class: u8, constructed: bool, number: u32, n: usize, out: &mut [u8; 15]) -> usize
     requires { class < 4 }
@@ -210,8 +210,8 @@ pub fn header_into(class: u8, constructed: bool, number: u32, n: usize, out: &mu
     front + write_length(n, &mut out[front..])
 }
 
-/// The strict header of an element whose contents are so many octets, where it has two octets alone: a tag number of
-/// the low form and a length of the short form (X.690 8.1.2.2, 8.1.3.4).
+/// The strict header of an element with so many contents octets, where it has two octets. The tag number is in low form
+/// and the length in short form (X.690 8.1.2.2, 8.1.3.4).
 #[inline(always)]
 pub fn short_header(class: u8, constructed: bool, number: u32, len: usize) -> Option<[u8; 2]>
     requires { class < 4 }
@@ -226,8 +226,8 @@ pub fn short_header(class: u8, constructed: bool, number: u32, len: usize) -> Op
     }
 }
 
-/// Writes the digits of the number in base 128 at the front, with bit 8 on all but the last, and says how many they
-/// are: one to ten (X.690 8.19.2). What stands behind them stays.
+/// Writes the digits of the number in base 128 at the front, with bit 8 on all but the last. It answers how many they
+/// are, one to ten (X.690 8.19.2). What stands behind them stays.
 pub fn subidentifier_into(number: u128, out: &mut [u8; 10]) -> usize
     requires { number < 2 ^ 70 }
     ensures written { take result out.new ≡ tag_digits number }

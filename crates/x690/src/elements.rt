@@ -11,8 +11,8 @@ ghost use Rattle.x690.specs.Strict.{identifier_octets, length_octets};
 ghost use Rattle.x690.specs.Faults.{Fault, missing, tag_fault, HeaderFault, DerElementFault, HasFault, SpeaksOf};
 ghost use Rattle.x690.specs.Faults.{IsLackingOrCut};
 
-/// Where two headers begin one input they are the same and say the same, and the same octets follow, whichever rule
-/// each of them keeps (X.690 8.1.1). A header has two octets at least.
+/// Two headers that begin one input are the same and say the same, and the same octets follow (X.690 8.1.1). Each may
+/// keep another rule. A header has two octets at least.
 pub fn headers_unique()
     ensures unique { (rule other_rule : Rule) (input front other rest tail : List ℕ)
         (front_id other_id : Identifier) (front_form other_form : LengthForm)
@@ -39,9 +39,9 @@ pub fn der_headers_are_ber_headers()
         → IsHeader rule octets id (definite n) → IsHeader ber_rule octets id (definite n) }
 {}
 
-/// Where two elements of definite length begin one input they are the same and have the same parts, and the same
-/// octets follow, whichever rule each of them keeps (X.690 8.1.1, 8.1.3.3). An element has two octets more than its
-/// contents at least, a class from 0 to 3 and a tag number below 2^32.
+/// Two elements of definite length that begin one input are the same and have the same parts, and the same octets
+/// follow (X.690 8.1.1, 8.1.3.3). Each may keep another rule. An element has two octets more than its contents at
+/// least, a class from 0 to 3 and a tag number below 2^32.
 pub fn definite_elements_unique()
     ensures unique { (rule other_rule : Rule) (input front other rest tail : List ℕ)
         (front_parts other_parts : Parts)
@@ -56,8 +56,8 @@ pub fn definite_elements_unique()
         → IsDefiniteElement rule octets parts → ArePossible parts }
 {}
 
-/// A fault is final: where octets have one, no header, or no element by DER, begins them, nor any extension of them of
-/// which the fault speaks.
+/// A fault is final. Where octets have one, no header and no element by DER begins them, nor any extension of which the
+/// fault speaks.
 pub fn faults_are_final()
     ensures header { (rule : Rule) (input more : List ℕ) (fault : Fault)
         → HeaderFault rule input fault → SpeaksOf (IsCutIdentifier input) fault more
@@ -71,7 +71,7 @@ pub fn faults_are_final()
 
 /// Octets that no header, or no element by DER, begins have a fault: it can be computed which of the two holds.
 ///
-/// That they are octets is needed: 0 and then the number 256 have no fault, and no header begins them, since 256 is no
+/// That they are octets is needed: 0 and then the number 256 have no fault. No header begins them, since 256 is no
 /// length octet and none that is wrong either.
 pub fn faults_are_complete()
     ensures header { (rule : Rule) (input : List ℕ)
@@ -106,7 +106,7 @@ pub fn some_octets_are_missing()
     ensures der_element { (input : List ℕ) (n : ℕ) → DerElementFault input (missing n) → 1 ≤ n }
 {}
 
-/// If appending n octets would make the input begin with a header, or with an element by DER, its fault is that m
+/// Appending n octets would make the input begin with a header, or with an element by DER. Then its fault is that m
 /// octets are missing, with m at most n. Of an input that ends within an identifier in high form, that is the fault.
 pub fn beginnings_lack_octets()
     ensures header { (rule : Rule) (input more front rest : List ℕ)

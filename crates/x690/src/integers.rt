@@ -44,8 +44,8 @@ fn first_four(octets: &[u8]) -> u64
         + u64::from(octets[3])
 }
 
-/// The number whose digits in base 256 the octets are, four to eight of them, by what those before the last four say
-/// and what the last four say, so that no loop ends at random.
+/// The number whose digits in base 256 are these four to eight octets. It is made of what those before the last four
+/// say and of what the last four say, so that no loop ends at random.
 #[inline(always)]
 fn fours_number(digits: &[u8]) -> u64
     requires some { 4 ≤ length digits.now }
@@ -133,9 +133,9 @@ pub fn unsigned_into(n: u128, out: &mut [u8; 17]) -> usize
     17 - count
 }
 
-/// The strict contents octets of the natural number whose digits in base 256 the octets are, in two parts: 00 where
-/// there is no digit or the first one would be read as a sign, else nothing; and the digits behind the leading zeros
-/// (X.690 8.3.2, 8.3.3).
+/// The strict contents octets of the natural number whose digits in base 256 the octets are, in two parts (X.690 8.3.2,
+/// 8.3.3). The first is 00 where there is no digit or the first one would be read as a sign, else nothing. The second
+/// is the digits behind the leading zeros.
 pub fn natural_parts(octets: &[u8]) -> (&'static [u8], &[u8])
     ensures { IsIntegerContent (pos (base_256_value octets.now))
         (result.0.now ++ result.1.now) }

@@ -4,8 +4,8 @@ ghost use Rattle.std.specs.Prelude.{ℕ, List, ◌≡◌, ◌≤◌, length};
 ghost use Rattle.x690.specs.Octets.{IsOctets, BeginsWith};
 ghost use Rattle.x690.specs.Lengths.{LengthForm, IsLengthForm};
 
-/// Length octets show their own end (X.690 8.1.3). Where two of them begin one input they are the same, they say the
-/// same length or are both of the indefinite form, and the same octets follow.
+/// Length octets show their own end (X.690 8.1.3). Two of them that begin one input are the same. They say the same
+/// length or are both of the indefinite form, and the same octets follow.
 pub fn lengths_unique()
     ensures unique { (input front other rest tail : List ℕ) (front_form other_form : LengthForm)
         → IsLengthForm front front_form → BeginsWith input front rest

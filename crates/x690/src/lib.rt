@@ -1,4 +1,33 @@
 //! The encoding rules of ITU-T X.690 on lists of octets, and their laws.
+//!
+//! The crate has three layers:
+//!
+//! - Definitions (`specs/`): what identifier octets, length octets, headers, elements, joined words, sets and times
+//!   are. Each is a relation between octets and what they say, in the words of the standard.
+//! - Laws: functions with an empty body, whose contracts are the laws. Octets have one reading, each value has one
+//!   strict form, and octets that no word begins have one first fault.
+//! - Functions over plain octets: numbers, characters, arcs and texts of times. They take no memory but what the caller
+//!   lends.
+//!
+//! `IsIdentifier` is the first definition to read, and this law is the first one to read:
+//!
+//! ```rust
+//! pub fn identifiers_unique()
+//!     ensures unique { (input front other rest tail : List ℕ) (front_id other_id : Identifier)
+//!         → IsIdentifier front front_id → BeginsWith input front rest
+//!         → IsIdentifier other other_id → BeginsWith input other tail
+//!         → (front ≡ other) × (front_id ≡ other_id) × (rest ≡ tail) }
+//! ```
+//!
+//! Two identifiers that begin one input are the same octets, with the same class, constructed bit and number. The same
+//! octets follow. A caller uses the law by a call, `identifiers_unique();`, and its proof then has the contract.
+//!
+//! - `identifiers`, `lengths`, `elements`, `nested`: the laws of what stands at the front of octets.
+//! - `joined`, `collections`, `ascending`: those of what stands one behind another, and of sets.
+//! - `arcs`, `shortest`, `integers`, `signed`, `characters`, `sets`, `times`: those of contents octets.
+//! - `strict`: each identifier, length and element has one strict form.
+//!
+//! `docs/DEFINITIONS.md` has the words in plain English. The crate stands on std alone.
 #![tactic(auto)]
 
 pub mod arcs;
@@ -14,6 +43,7 @@ pub mod lengths;
 pub mod nested;
 pub mod octets;
 pub mod sets;
+pub mod shortest;
 pub mod signed;
 pub mod strict;
 pub mod times;

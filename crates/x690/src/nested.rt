@@ -13,8 +13,8 @@ ghost use Rattle.x690.specs.Nested.{end_of_contents};
 ghost use Rattle.x690.specs.Nested.Contents.{IsContent, BeginsWithContent, ContentFault};
 ghost use Rattle.x690.specs.Nested.FaultHeaders.{FaultHeaders};
 
-/// Where two elements begin one input they are the same, of whatever depths: they have the same parts and as many
-/// headers, and the same octets follow (X.690 8.1.1). An element has a class from 0 to 3, and a tag number below 2^32.
+/// Two elements that begin one input are the same, of whatever depths (X.690 8.1.1). They have the same parts and as
+/// many headers, and the same octets follow. An element has a class from 0 to 3, and a tag number below 2^32.
 pub fn nested_elements_unique()
     ensures unique { (depth other_depth : ℕ) (input front other rest tail : List ℕ)
         (front_parts other_parts : Parts) (front_headers other_headers : ℕ)
@@ -84,7 +84,7 @@ pub fn nested_faults_are_final()
         → IsNestedElement depth front parts headers → BeginsWith (input ++ more) front rest → ⊥ }
 {}
 
-/// If appending n octets would make the input begin with an element of the depth, its fault is that m octets are
+/// Appending n octets would make the input begin with an element of the depth. Then its fault is that m octets are
 /// missing, with m at most n. Of an input that ends within an identifier in high form, that is the fault.
 pub fn nested_beginnings_lack_octets()
     ensures lacking { (depth : ℕ) (input more front rest : List ℕ) (parts : Parts) (headers : ℕ)
@@ -97,11 +97,11 @@ pub fn nested_beginnings_lack_octets()
         → ElementFault depth input tag_fault }
 {}
 
-/// Octets that no element of the depth begins have a fault, with a count of headers that are read whole before it, and
-/// octets that begin with no contents octets of a form have one too: it can be computed which of the two holds.
+/// Octets that no element of the depth begins have a fault, with a count of headers that are read whole before it.
+/// Octets that begin with no contents octets of a form have one too. It can be computed which of the two holds.
 ///
-/// That they are octets is needed: 0 and then the number 256 have no fault, and no element begins them, nor contents
-/// octets that end with `00 00`.
+/// That they are octets is needed: 0 and then the number 256 have no fault. No element begins them, nor contents octets
+/// that end with `00 00`.
 pub fn nested_faults_are_complete()
     ensures element { (depth : ℕ) (input : List ℕ)
         → IsOctets input
@@ -132,8 +132,8 @@ pub fn one_nested_fault()
         → 1 ≤ n }
 {}
 
-/// Octets that have a fault of an element of the depth have one count of headers that are read whole before it, and two
-/// octets at least for each of them. No other octets have one (X.690 8.1.3.6, 8.1.5).
+/// Octets that have a fault of an element of the depth have one count of headers that are read whole before it. They
+/// have two octets at least for each of these headers. No other octets have a count (X.690 8.1.3.6, 8.1.5).
 pub fn headers_before_faults_are_determined()
     ensures one { (depth : ℕ) (input : List ℕ) (headers other : ℕ)
         → FaultHeaders depth input headers → FaultHeaders depth input other → headers ≡ other }
@@ -145,7 +145,7 @@ pub fn headers_before_faults_are_determined()
         → FaultHeaders depth input headers → (fault : Fault) × ElementFault depth input fault }
 {}
 
-/// Octets begin in one way at most with the contents octets that a length of a form announces, whatever follows, and
+/// Octets begin in one way at most with the contents octets that a length of a form announces, whatever follows. They
 /// have one fault of them at most, and not both (X.690 8.1.3, 8.1.5).
 pub fn contents_are_determined()
     ensures unique { (form : LengthForm) (depth : ℕ) (input content other rest tail : List ℕ)

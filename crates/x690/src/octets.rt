@@ -3,8 +3,8 @@
 ghost use Rattle.std.specs.Prelude.{ℕ, List, [], ◌∷◌, ◌++◌, ◌≡◌, ◌<◌, ◌⊎◌, ◌↔◌};
 ghost use Rattle.x690.specs.Octets.{BeginsWith, IsBeforeOrSame, IsBeforeOrSamePadded};
 
-/// Any two octet strings have one order in the dictionary (X.690 11.6): one of them comes before the other or they
-/// are the same, and not both but where they are the same.
+/// Any two octet strings have one order in the dictionary (X.690 11.6). One of them comes before the other, or they are
+/// the same. Both hold only where they are the same.
 pub fn dictionary_order_is_total()
     ensures total { (one other : List ℕ) → IsBeforeOrSame one other ⊎ IsBeforeOrSame other one }
     ensures antisymmetric { (one other : List ℕ) → IsBeforeOrSame one other →
@@ -13,8 +13,8 @@ pub fn dictionary_order_is_total()
         IsBeforeOrSame other third → IsBeforeOrSame one third }
 {}
 
-/// At the first difference of two octet strings the lesser octet decides which one comes before the other, and a
-/// beginning comes before the whole or is the same (X.690 11.6).
+/// At the first difference of two octet strings the lesser octet decides which one comes before the other. A beginning
+/// comes before the whole or is the same (X.690 11.6).
 pub fn first_difference_decides()
     ensures before { (front one other : List ℕ) (lesser greater : ℕ) → lesser < greater
         → IsBeforeOrSame (front ++ lesser ∷ one) (front ++ greater ∷ other) }

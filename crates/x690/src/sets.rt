@@ -4,8 +4,8 @@ ghost use Rattle.std.specs.Prelude.{◌≡◌, ◌↔◌, ◌<◌, ℕ, List, Bo
 ghost use Rattle.std.specs.Char.{is_ascii};
 ghost use Rattle.std.specs.Str.{IsUtf8};
 ghost use Rattle.x690.specs.Octets.{IsOctets};
-ghost use Rattle.x690.specs.Sets.{AllIn, is_numeric, is_printable, is_visible};
-ghost use Rattle.x690.specs.Laws.Sets.{numeric_ascii, printable_ascii, ascii_ascii, visible_ascii};
+ghost use Rattle.x690.specs.Sets.{AllIn, is_numeric, is_printable, is_visible, is_graphic};
+ghost use Rattle.x690.specs.Laws.Sets.{numeric_ascii, printable_ascii, ascii_ascii, visible_ascii, graphic_ascii};
 
 /// A set of characters that are one octet each, below 80, so that octets of the set are UTF-8.
 pub trait CharacterSet {
@@ -38,6 +38,10 @@ pub struct Ascii;
 // X.680 leaves 7f out; it is there as in asn1-rs.
 #[derive(Debug)]
 pub struct Visible;
+
+/// The octets from 20 to 7e: the set of `VisibleString` as X.680 41.1 has it.
+#[derive(Debug)]
+pub struct Graphic;
 
 impl CharacterSet for Numeric {
     ghost in_set = { is_numeric };
@@ -98,6 +102,17 @@ impl CharacterSet for Visible {
     #[inline(always)]
     fn has(octet: u8) -> bool {
         (0x20 <= octet) & (octet < 0x80)
+    }
+}
+
+impl CharacterSet for Graphic {
+    ghost in_set = { is_graphic };
+
+    ghost ascii = { graphic_ascii };
+
+    #[inline(always)]
+    fn has(octet: u8) -> bool {
+        (0x20 <= octet) & (octet < 0x7f)
     }
 }
 

@@ -164,8 +164,8 @@ fn highest_octets(n: i64) -> (u64, usize)
     (word << (8 * (8 - count)), count)
 }
 
-/// The strict element of an integer, primitive and of the universal class with this tag number, at the front of the
-/// array, and how many octets it has (X.690 8.1.2, 8.1.3, 8.3.2, 8.3.3, 10.1).
+/// The strict element of an integer at the front of the array, and how many octets it has (X.690 8.1.2, 8.1.3, 8.3.2,
+/// 8.3.3, 10.1). It is primitive and of the universal class with this tag number.
 #[inline(always)]
 pub fn integer_element(number: u32, n: i64) -> ([u8; 16], usize)
     requires { number < 31 }
@@ -179,8 +179,8 @@ pub fn integer_element(number: u32, n: i64) -> ([u8; 16], usize)
     (octets.to_be_bytes(), 2 + count)
 }
 
-/// So many octets hold an integer exactly where its strict contents octets are no more, and any octets that are
-/// no more say an integer that so many hold (X.690 8.3.2, 8.3.3).
+/// So many octets hold an integer exactly where its strict contents octets are no more. Any octets that are no more say
+/// an integer that so many hold (X.690 8.3.2, 8.3.3).
 pub fn octets_hold_their_integers()
     ensures strict { (n : ℤ) (size : ℕ) → 1 ≤ size →
         IsSigned size n ↔ (length (signed_octets n) ≤ size) }

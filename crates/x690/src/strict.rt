@@ -8,8 +8,8 @@ ghost use Rattle.x690.specs.Rules.{Rule, der_rule, ber_rule};
 ghost use Rattle.x690.specs.Elements.{Parts, IsDefiniteElement, IsDerElement, IsStrictElement, AllowsStrict};
 ghost use Rattle.x690.specs.Strict.{element_octets, definite_parts, identifier_octets, length_octets};
 
-/// Each class, constructed bit and tag number below 2^32 has exactly one string of strict identifier octets,
-/// and no identifier octets that a reader takes for it are fewer (X.690 8.1.2.2, 8.1.2.4).
+/// Each class, constructed bit and tag number below 2^32 has exactly one string of strict identifier octets. No
+/// identifier octets that a reader takes for it are fewer (X.690 8.1.2.2, 8.1.2.4).
 pub fn one_strict_identifier()
     ensures exists { (id : Identifier)
         → id.class < 4
@@ -23,8 +23,8 @@ pub fn one_strict_identifier()
         → length (identifier_octets id) ≤ length octets }
 {}
 
-/// Each length below 2^64 has exactly one string of strict length octets, and no length octets that a reader
-/// takes for it are fewer (X.690 8.1.3, 10.1).
+/// Each length below 2^64 has exactly one string of strict length octets. No length octets that a reader takes for it
+/// are fewer (X.690 8.1.3, 10.1).
 pub fn one_strict_length()
     ensures exists { (n : ℕ) → n < 2 ^ 64 → IsStrictLength (length_octets n) n }
     ensures no_other { (n : ℕ) (octets : List ℕ)
@@ -65,8 +65,8 @@ pub fn rules_allow_strict()
     ensures ber { AllowsStrict ber_rule }
 {}
 
-/// Identifier and contents octets that fit have exactly one strict element, which is an element of definite length by
-/// each rule that allows it (X.690 10.1). No strict element begins another one.
+/// Identifier and contents octets that fit have exactly one strict element (X.690 10.1). It is an element of definite
+/// length by each rule that allows it. No strict element begins another one.
 pub fn strict_elements_unique()
     ensures exists { (id : Identifier) (content : List ℕ)
         → id.class < 4

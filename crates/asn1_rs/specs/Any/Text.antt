@@ -12,7 +12,7 @@ use Rattle.asn1_rs.specs.Checks.{CheckGives, ◌before◌, check, content_check}
 use Rattle.asn1_rs.specs.CodedStrings.{coded_leaf}
 use Rattle.asn1_rs.specs.Leaf.{Leaf, LeafGives, LeafTakes}
 
--- The tag numbers of the types of strings whose contents octets are taken as UTF-8: of Utf8String, NumericString,
+-- The tag numbers of the types of strings whose contents octets are taken as UTF-8. They are Utf8String, NumericString,
 -- PrintableString, TeletexString, VideotexString, Ia5String, GraphicString, VisibleString and GeneralString.
 abbrev pub is_utf8_number : ℕ → Bool
 is_utf8_number n = nat_eq n 12 || nat_eq n 18 || nat_eq n 19 || nat_eq n 20 || nat_eq n 21 || nat_eq n 22 ||

@@ -127,7 +127,7 @@ choice_type T = record {
 }
 
 -- What reading by DER a value of a choice of these arms may answer. It is exact, and not out of memory where nothing
--- allocates; and what is of no arm is refused for its class or its tag number.
+-- allocates. What is of no arm is refused for its class or its tag number.
 pub record AnswersByDer {T : Type 0} (G : ItemGrammar T) (tags : List (ℕ × ℕ)) (input : List ℕ)
     (answer : Result (List ℕ × T) (Refusal Error)) : Type 0 where
   pub exact : IsOctets input →

@@ -8,7 +8,7 @@ use Rattle.asn1_rs.specs.Grammar.Form.{WritesForm, HasForm}
 use Rattle.asn1_rs.specs.Grammar.{IsOneBody, BerWord, FormBodies, FormChecks}
 use Rattle.asn1_rs.specs.ToDer.{Writing, IsWritable}
 
--- The values of a type, with plain equality; the value of an item in hand; which values are the type's, as the numbers
+-- The values of a type, with plain equality. The value of an item in hand. Which values are the type's, as the numbers
 -- in its range, and which are in DER form. The words by DER, with their values. What the conversion finds in an
 -- element's parts, and what the constraints ask of them. The identifier and the contents octets of a value in DER form.
 -- Whether reading may allocate. It is one record, and so are its laws: a list says `list_grammar 16 items T.grammar` in
@@ -28,12 +28,12 @@ pub record ItemGrammar (S : Type 0) : Type 1 where
 abbrev pub ber_words : {S : Type 0} (G : ItemGrammar S) → List ℕ → G.Value → Type 0
 ber_words G = BerWord G.Body
 
--- Two values are equal in one way at most, so that they are equal where they are up to a proof that is not in hand.
--- A word by DER is an element of definite length, as each by BER is an element. Words, bodies and strict parts have
--- values of the type. One word alone begins an input, and a body has one value. A value has one strict identifier
--- and content; these fit an element, meet the constraints and have one value, which is in DER form; and the strict
--- encoding that they make is a word by BER and by DER. `form_check` is asked of a type without a check too: an
--- implicit tag over a list asks it of the list, whatever its items are.
+-- Two values are equal in one way at most. So they are equal where they are up to a proof that is not in hand. A word
+-- by DER is an element of definite length, as each by BER is an element. Words, bodies and strict parts have values of
+-- the type. One word alone begins an input, and a body has one value. A value has one strict identifier and content.
+-- These fit an element, meet the constraints and have one value, which is in DER form. The strict encoding that they
+-- make is a word by BER and by DER. `form_check` is asked of a type without a check too. An implicit tag over a list
+-- asks it of the list, whatever its items are.
 pub record IsLawfulItem {S : Type 0} (G : ItemGrammar S) : Type 0 where
   pub one_equality : IsSet G.Value
   pub der_element : (o : List ℕ) (v : G.Value) → G.Der o v → (p : Parts) × IsDerElement o p
@@ -51,8 +51,8 @@ pub record IsLawfulItem {S : Type 0} (G : ItemGrammar S) : Type 0 where
   pub strict_der : (v : G.Value) (o : List ℕ) → IsStrict G.Form v o → G.Der o v
 
 -- What is written is told of each item and follows from its value. A value that has strict parts is written as its
--- strict encoding, and a value in DER form whose contents octets fit in memory has such parts and no refusal of its
--- own: what refuses it is its length, its writer, or want of memory.
+-- strict encoding. A value in DER form whose contents octets fit in memory has such parts, and no refusal of its own.
+-- Only its length, its writer, or want of memory refuses it.
 pub record IsLawfulWriting {S : Type 0} (G : ItemGrammar S) (w : Writing S) : Type 0 where
   pub tells_all : (x : S) → w.tells x
   pub by_value : WritesByValue G.value w

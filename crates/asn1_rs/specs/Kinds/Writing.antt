@@ -37,7 +37,7 @@ abbrev pub OwnPutRefused : Bool → (Error → Type 0) → ℕ → WriterState �
 OwnPutRefused false own n old new answer = IfErr answer (MayRefuse false n)
 OwnPutRefused true own n old new answer = (e : Error) × own e × RefusedAtOnce (written_refusal e) old new answer
 
--- A putting of contents octets before those of a buffer, of so many octets in all: memory and the length alone refuse
+-- A putting of contents octets before those of a buffer, of so many octets in all. Memory and the length alone refuse
 -- it, or the value does, and then the buffer is as it was.
 abbrev pub PrependRefused : Bool → (Error → Type 0) → ℕ → List ℕ → List ℕ → Result ℕ SerializeError → Type 0
 PrependRefused false own n old new answer = IfErr answer (MayRefuse true n)
@@ -113,7 +113,7 @@ set_writing items item = record {
 }
 
 -- The contents octets of such an element follow from the value. Where it has strict parts, they are its content, and
--- the identifier is the one of the universal class with this number; under any class they meet the check and have the
+-- the identifier is the one of the universal class with this number. Under any class they meet the check and have the
 -- value all the same. A value in DER form has strict parts, and one that has such is not refused. The number is one of
 -- the low form.
 pub record IsWrittenElement {S : Type 0} (G : ElementGrammar S) (number : ℕ) (octets : S → List ℕ)

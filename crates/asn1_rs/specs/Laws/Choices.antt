@@ -324,7 +324,7 @@ IsArmWritable a = HasNone (arm_count_refuses a) × HasNone (arm_header_refuses a
 abbrev pub HasArmValue : ChosenArm → Type 0
 HasArmValue a = a.grammar.IsValue (a.grammar.value a.item)
 
--- The laws of what is written of a lawful item, of several types; and what is a value of its arm's type is one of theirs.
+-- The laws of what is written of a lawful item, of several types. What is a value of its arm's type is one of theirs.
 pub record AreLawfulPuts {S : Type 0} (G : ArmsGrammar S) (arm_of : S → ChosenArm) : Type 0 where
   pub tells_all : (x : S) → arm_tells (arm_of x)
   pub by_value : (x y : S) → G.value x ≡ G.value y → (arm_constructed (arm_of x) ≡ arm_constructed (arm_of y)) ×

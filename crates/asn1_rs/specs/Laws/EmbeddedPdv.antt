@@ -36,8 +36,8 @@ use Rattle.asn1_rs.specs.Laws.Oid.{oid_value_set}
 
 -- One answer, and one refusal.
 
--- A refusal of what is not there, or, behind what is there, of what is wanted next: it is one, as `key` tells refusals
--- apart, where both are, and none where both are there.
+-- A refusal of what is not there, or, behind what is there, of what is wanted next. There is one where both are, as
+-- `key` tells refusals apart, and none where both are there.
 module _ {A B K : Type 0} (key : Error → K) (Has : A → B → Type 0) (None : Error → Type 0)
     (Next : A → B → Error → Type 0)
     (alone : (a b : A) (r s : B) → Has a r → Has b s → (a ≡ b) × (r ≡ s))

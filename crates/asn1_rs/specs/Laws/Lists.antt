@@ -223,8 +223,8 @@ is_list_or_is number = before_is (has_number number) is_constructed (has_number_
 pub constructed_checks : (number : ℕ) → IsExactCheck (IsListOr number) (IsConstructed number)
 constructed_checks number = exact_check (IsListOr number) (is_list_or_is number)
 
--- Items that were taken by an exact reader are joined words;
--- where a refusal ended the walk there are no such words, or it reports out of memory.
+-- Items that were taken by an exact reader are joined words. Where a refusal ended the walk there are no such words, or
+-- it reports out of memory.
 module _ {T V E : Type 0} (reads : List ℕ → Result (List ℕ × T) (Refusal E) → Type 0) (from : Error → E → Type 0)
     (G : List ℕ → V → Type 0) (value : T → V) (allocates : Bool) (IsCut : List ℕ → Type 0)
     (one : IsOneFront G) (Keeps : List ℕ → Type 0)

@@ -53,8 +53,8 @@ same_text tag text _ f a b = absurd a
 says_time_is : (number : ℕ) (Says : List ℕ → Moment → Type 0) → IsCheckUpTo but_text (says_time number Says)
 says_time_is number Says = telling_check_is but_text _ (IsNoTime number) (same_text _ (codes "not a time")) (λ h. h)
 
--- What is asked of a text: it says one time, which an item may hold;
--- a strict time's is such, of octets 20 to 7f, and says it.
+-- What is asked of a text: it says one time, which an item may hold. A strict time's text is such, of octets 20 to 7f,
+-- and says it.
 pub record AreTimeTexts (Says : List ℕ → Moment → Type 0) (IsStrict : Moment → Type 0)
     (octets : Moment → List ℕ) : Type 0 where
   pub one : (text : List ℕ) (m n : Moment) → Says text m → Says text n → m ≡ n

@@ -32,8 +32,8 @@ shown_text false octets = id_text false octets
 abbrev pub debug_text : Bool → List ℕ → List ℕ
 debug_text relative octets = codes "OID(" ++ shown_text relative octets ++ codes ")"
 
--- What putting a text behind the first octets of a buffer answers: where the text ends, and then the octets up to there
--- are the first ones and the text; or nothing, where the buffer has no room for it.
+-- What putting a text behind the first octets of a buffer answers. It is where the text ends, and then the octets up to
+-- there are the first ones and the text. It is nothing where the buffer has no room for it.
 abbrev pub PutsBehind : ℕ → List ℕ → List ℕ → Option ℕ → List ℕ → Type 0
 PutsBehind at old text (Some end) new =
     (end ≡ at + length text) × (end ≤ length new) × (take end new ≡ take at old ++ text)

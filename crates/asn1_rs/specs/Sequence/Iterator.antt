@@ -37,8 +37,8 @@ EndsWalk Tells octets [] left = left ≡ octets
 EndsWalk Tells octets (Err e ∷ []) left = (octets ≢ []) × Tells octets e × (left ≡ [])
 EndsWalk Tells octets _ left = ⊥
 
--- What the calls of `next` gave so far: the values of words, whose joining begins the contents octets,
--- and then perhaps one refusal of what follows them.
+-- What the calls of `next` gave so far. They are the values of words, whose joining begins the contents octets, and
+-- then perhaps one refusal of what follows them.
 pub record IsWalk {T V E : Type 0} (G : List ℕ → V → Type 0) (value : T → V) (Tells : List ℕ → E → Type 0)
     (content : List ℕ) (answers : List (Result T E)) (left : List ℕ) : Type 0 where
   pub words : List (List ℕ)

@@ -24,8 +24,8 @@ use Rattle.asn1_rs.specs.Laws.Structs.Structs.{struct_lawful, struct_number, str
 use Rattle.asn1_rs.specs.Laws.Structs.Writing.{IsLawfulPuts, empty_puts, row_puts, struct_lawful_writing}
 
 -- A type of items, the tag numbers of its elements, and which classes of implicit tags may stand over it. A single type
--- has one class and one tag number; of another, as a choice is, these two tell nothing. The laws hold where it is sound,
--- as a value under an implicit tag is where its type is single and takes the class of the tag.
+-- has one class and one tag number; of another, as a choice is, these two tell nothing. The laws hold where it is
+-- sound. A value under an implicit tag is sound where its type is single and takes the class of the tag.
 pub record LawfulTypeOf (S : Type 0) : Type 1 where
   pub class : ℕ
   pub number : ℕ

@@ -58,7 +58,7 @@ defaulted_of inner D = record {
       (D.of.written (second_holds D.of.single D.of.sound s));
 }
 
--- The type of a default is that of its readers: it is single and sound, and has their tag number, and their words with
+-- The type of a default is that of its readers. It is single and sound, and has their tag number, and their words with
 -- the values that stand for theirs.
 pub record IsTypeOf {S : Type 0} (T : LawfulTypeOf S) (G : ItemGrammar S) (number : ℕ) : Type 0 where
   pub single : T.single ≡ true

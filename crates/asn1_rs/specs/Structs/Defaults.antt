@@ -11,7 +11,7 @@ use Rattle.asn1_rs.specs.Optional.{option_writing}
 use Rattle.asn1_rs.specs.ToDer.{Writing, held_writing}
 use Rattle.asn1_rs.specs.Structs.{FieldGrammar, words_by, among, left_out_by}
 
--- The default is read where the octets say that the field is left out; else a word of its type begins them, whose value
+-- The default is read where the octets say that the field is left out. Else a word of its type begins them, whose value
 -- may be the default too.
 abbrev pub DefaultTakes : {V : Type 0} → V → (List ℕ → Type 0) → (List ℕ → V → Type 0) → List ℕ → V → List ℕ → Type 0
 DefaultTakes default LeftOut Words octets v rest =
@@ -43,8 +43,9 @@ unless_default inner is_default x = if is_default (inner x) then None else Some 
 abbrev pub default_writing : {S W : Type 0} → (W → S) → (S → Bool) → Writing S → Writing W
 default_writing inner is_default w = held_writing (unless_default inner is_default) (option_writing w)
 
--- What the reader of a field with a default may answer: an item of the default, with all octets as the rest, exactly
--- where the octets say that it is left out; else what the reader of the type answers, whose refusal is handed on.
+-- What the reader of a field with a default may answer. It is an item of the default, with all octets as the rest,
+-- exactly where the octets say that it is left out. Else it is what the reader of the type answers, whose refusal is
+-- handed on.
 abbrev pub DefaultGives : {S W V : Type 0} → (W → S) → (S → V) → V → (List ℕ → Type 0) →
     (List ℕ → Result (List ℕ × S) (Refusal Error) → Type 0) → List ℕ → Result (List ℕ × W) (Refusal Error) → Type 0
 DefaultGives inner value default LeftOut reads octets (Ok x) =

@@ -62,7 +62,7 @@ module _ {S T : Type 0} (as_row : T → S) where
     puts = λ s. row_by_puts R.grammar R.list (R.puts s);
   }
 
-  -- A part that is made of its row is what the row was read as, and a refusal of the row is that of the part.
+  -- A part that is made of its row is what the row was read as. A refusal of the row is that of the part.
   pub part_read : (rules : EncodingRules) (R : RowGrammar S) (octets : List ℕ) (x : T) →
       AnswersRow rules R octets (Ok (as_row x)) → AnswersRow rules (row_by R) octets (Ok x)
   part_read rules R octets x a = record { exact = a.exact; no_memory = a.no_memory }
@@ -76,7 +76,7 @@ module _ {S T : Type 0} (as_row : T → S) where
       Type 0
   PartGives rules R gives octets answer = AnswersRow rules R octets answer × MadeOf as_row gives octets answer
 
--- A struct that is made of its row is what the row was read as, and a refusal of the row is that of the struct. Where the
+-- A struct that is made of its row is what the row was read as. A refusal of the row is that of the struct. Where the
 -- search for a proof of `read_fields` does not end, its author names these.
 module _ {T : Type 0} (rules : EncodingRules) (L : LawfulStructOf T) (octets : List ℕ) where
   pub struct_read : (x : T) → AnswersRow rules L.row.grammar octets (Ok (L.as_row x)) →

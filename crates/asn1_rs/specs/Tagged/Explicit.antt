@@ -48,8 +48,8 @@ pub record ExplicitCheck (ElementOf : List ℕ → Parts → Type 0) (Check : Pa
 abbrev pub explicit_identifier : ℕ → ℕ → Identifier
 explicit_identifier class number = record { class = class; constructed = true; number = number }
 
--- The strict parts: the tag, of one of the four classes and of a number that an element can have,
--- and the strict encoding of the value.
+-- The strict parts. The tag is of one of the four classes and of a number that an element can have. The strict encoding
+-- of the value follows.
 pub record ExplicitForm {V : Type 0} (class number : ℕ) (Form : V → Identifier → List ℕ → Type 0) (v : V)
     (i : Identifier) (c : List ℕ) : Type 0 where
   pub is_class : class < 4
@@ -58,8 +58,9 @@ pub record ExplicitForm {V : Type 0} (class number : ℕ) (Form : V → Identifi
   pub inner : IsStrict Form v c
 
 -- By BER the contents octets of an element begin with a word of the value; what follows it there is not looked at. By
--- DER the length is definite, and the contents octets are a word of the value. A value is in DER form where the class
--- is one of the four, the number one that an element can have, as each `u32` is, and the value within in DER form.
+-- DER the length is definite, and the contents octets are a word of the value. A value is in DER form where three
+-- things hold. The class is one of the four. The number is one that an element can have, as each `u32` is. The value
+-- within is in DER form.
 abbrev pub explicit_grammar : {S T : Type 0} → ℕ → ℕ → (T → S) → ItemGrammar S → ItemGrammar T
 explicit_grammar class number inner G = record {
   Value = G.Value;
@@ -78,8 +79,8 @@ abbrev pub InnerTakes : {T E : Type 0} → (Error → E → Type 0) → Result (
 InnerTakes from answer (Ok value) = (rest : List ℕ) × (answer ≡ Ok (rest, value))
 InnerTakes {T} {E} from answer (Err e) = (r : Refusal E) × (answer ≡ Err r) × FlattenedTo (λ x y. y ≡ x) from r e
 
--- what the conversion of an element may answer: the value that its contents octets begin with;
--- or the refusal of the tag, or the value's own
+-- What the conversion of an element may answer. It is the value that its contents octets begin with, or the refusal of
+-- the tag, or the value's own.
 abbrev pub ExplicitTakes : {T W E : Type 0} → ℕ → ℕ → (W → T) → (List ℕ → Result (List ℕ × T) (Refusal E) → Type 0) →
     (Error → E → Type 0) → Parts → Result W E → Type 0
 ExplicitTakes class number inner reads from p (Ok w) =
@@ -89,8 +90,8 @@ ExplicitTakes {T} {W} {E} class number inner reads from p (Err e) =
     (tag_checks class number p (Ok tt) ×
     ((r : Refusal E) × reads p.content (Err r) × FlattenedTo (λ x y. y ≡ x) from r e))
 
--- what reading the value in an element may answer, by DER: the value that its contents octets are; or the refusal of
--- the tag, the value's own, or that of the octets that are left
+-- What reading the value in an element may answer, by DER. It is the value that its contents octets are, or a refusal.
+-- That is the tag's, the value's own, or that of the octets that are left.
 abbrev pub ExplicitReads : {T E : Type 0} → ℕ → ℕ → (List ℕ → Result (List ℕ × T) (Refusal E) → Type 0) →
     (Error → E → Type 0) → Parts → Result T (Refusal E) → Type 0
 ExplicitReads class number reads from p (Ok x) =
@@ -108,8 +109,8 @@ ExplicitGives class number inner reads from input (Err r) =
     ((fault : Fault) × DerElementFault input fault × Converted from (der_refusal fault) r) ⊎ ((p : Parts) ×
     (rest : List ℕ) × Front IsDerElement input p rest × ExplicitReads class number reads from p (Err r))
 
--- What checking the element that was read may answer, where it is to be all of the octets: the check's answer, and
--- after that the refusal of what is left; or the refusal of the reading.
+-- What checking the element that was read may answer, where it is to be all of the octets. It is the check's answer,
+-- and after that the refusal of what is left; or it is the refusal of the reading.
 abbrev pub ChecksWhole : CheckGives → Result (List ℕ × Any) (Refusal Error) → Result (Unit {0}) Error → Type 0
 ChecksWhole check (Ok x) (Ok u) = check (parts_of x.1) (Ok tt) × (x.0 ≡ [])
 ChecksWhole check (Ok x) (Err e) = check (parts_of x.1) (Err e) ⊎

@@ -67,9 +67,9 @@ UnderForm Form v i c = (v.0 ≡ i) × ImplicitForm (v.0).class (v.0).number Form
 abbrev pub HasInnerForm : {V : Type 0} → (V → Identifier → List ℕ → Type 0) → Bool → V → Type 0
 HasInnerForm Form constructed v = (i : Identifier) (c : List ℕ) → Form v i c → constructed ≡ i.constructed
 
--- Words by BER are elements by BER with this body, words by DER the elements of definite length with it that meet the
--- constraints of the value. A value is in DER form where its header has the constructed bit of the value within, and
--- that is in DER form.
+-- Words by BER are elements by BER with this body. Words by DER are the elements of definite length with it that meet
+-- the constraints of the value. A value is in DER form where its header has the constructed bit of the value within,
+-- and that is in DER form.
 abbrev pub implicit_headed : {S T : Type 0} → (T → Identifier) → ℕ → (T → S) → ItemGrammar S → ItemGrammar T
 implicit_headed identifier own inner G = record {
   Value = Identifier × G.Value;

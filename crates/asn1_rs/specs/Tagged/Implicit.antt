@@ -48,9 +48,9 @@ pub record ImplicitForm {V : Type 0} (class number : ℕ) (Form : V → Identifi
   pub id_is : i ≡ implicit_identifier class number own
   pub form : Form v own c
 
--- Words by BER are elements by BER with this body, words by DER the elements of definite length with it: the value's
--- constraints are not among them. A value is in DER form where the class is one of the four, the number one that an
--- element can have, as each `u32` is, and the value within in DER form.
+-- Words by BER are elements by BER with this body, words by DER the elements of definite length with it. The value's
+-- constraints are not among them. A value is in DER form where three things hold. The class is one of the four. The
+-- number is one that an element can have, as each `u32` is. The value within is in DER form.
 abbrev pub implicit_grammar : {S T : Type 0} → ℕ → ℕ → ℕ → (T → S) → ItemGrammar S → ItemGrammar T
 implicit_grammar class number own inner G = record {
   Value = G.Value;

@@ -26,15 +26,15 @@ TakesOption class tag from reads input any rest (Err r) = (tag_of any.header ≡
     (IsOtherClass from class (class_of any.header) r ⊎
     ((class_of any.header ≡ class) × reads any.header any.content.now (Err r)))
 
--- a closure that is called once may be called at the header and the contents octets of the element that begins the
--- input, where its tag number and its class are these
+-- A closure that is called once may be called at the header and the contents octets of the element that begins the
+-- input. It is asked so where the element's tag number and class are these.
 abbrev pub TakesFound : {F R : Type 0} → (List ℕ → Parts → Type 0) → Class → Tag →
     Once F (Header × (Bor (List ℕ) × Unit {0})) R → F → List ℕ → Type 0
 TakesFound ElementOf class tag g f =
     HoldsOfNumber ElementOf tag (λ any. class_of any.header ≡ class → TakesOfHeader g f any.header any.content.now)
 
--- what looking for it at the front of an input may answer: no element, where the input is empty;
--- else what is said of the element that is read
+-- What looking for it at the front of an input may answer. It is no element where the input is empty, else what is said
+-- of the element that is read.
 abbrev pub OptTaggedGives : {T E : Type 0} → (List ℕ → Parts → Type 0) → (List ℕ → Fault → Type 0) →
     (Fault → Refusal Error) → Class → Tag → (Error → E → Type 0) →
     (Header → List ℕ → Result (Bor (List ℕ) × T) (Refusal E) → Type 0) → List ℕ →

@@ -28,9 +28,9 @@ pub record IsUnder (tag : Tag) (any other : Any) : Type 0 where
       (raw_tag_of any.header)
   pub content : other.content.now ≡ any.content.now
 
--- What reading a value by BER in the contents octets of an element may answer: the value with the element's header, or
--- the value's own refusal. What follows the value there is dropped, and the rest is the element's. The header is not
--- looked at.
+-- What reading a value by BER in the contents octets of an element may answer. It is the value with the element's
+-- header, or the value's own refusal. What follows the value there is dropped, and the rest is the element's. The
+-- header is not looked at.
 abbrev pub TakesExplicit : {K T E : Type 0} → (List ℕ → Result (List ℕ × T) (Refusal E) → Type 0) →
     OfElement (Result (List ℕ × TaggedParser K T E) (Refusal E))
 TakesExplicit reads any rest (Ok x) =

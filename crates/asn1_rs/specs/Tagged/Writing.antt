@@ -6,8 +6,8 @@ use Rattle.asn1_headers.specs.declared.error.SerializeError.{SerializeError}
 use Rattle.asn1_headers.specs.declared.error.SerializeError.TheVariants.{InvalidClass}
 use Rattle.asn1_rs.specs.ToDer.{Writing, WrittenRefusal, whole_octets, whole_refuses, whole_allocates}
 
--- What an element under a tag has of the value: its contents octets, its constructed bit, the refusals of the contents
--- octets that are the value's own, and whether writing them allocates.
+-- What an element under a tag has of the value. These are its contents octets, its constructed bit, the refusals of the
+-- contents octets that are the value's own, and whether writing them allocates.
 pub record UnderTag (S : Type 0) : Type 1 where
   pub octets : S → List ℕ
   pub bit : S → Bool

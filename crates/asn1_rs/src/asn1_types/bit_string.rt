@@ -71,7 +71,7 @@ impl<'a> BitString<'a> {
 }
 
 impl<'a> Any<'a> {
-    /// The bit string of the contents octets, whether the element is primitive or constructed: the first octet is the
+    /// The bit string of the contents octets, whether the element is primitive or constructed. The first octet is the
     /// count of unused bits, whatever it is, and the others are borrowed. Refused at another tag number with
     /// `UnexpectedTag`, and where there are no contents octets with `InvalidLength`.
     pub fn bitstring(self) -> Result<BitString<'a>, Error>
@@ -194,9 +194,9 @@ impl LeafType for BitString<'_> {
         octets_in_hand(self.as_bytes());
     }
 
-    /// Refuses a constructed element with `ConstructUnexpected` (X.690 10.2); no contents octets, or one alone that is
-    /// not 0, with `InvalidLength` (8.6.2.3); more than seven unused bits, or one that is not zero, with
-    /// `DerConstraintFailed(UnusedBitsNotZero)` (8.6.2.2, 11.2.1).
+    /// Refuses a constructed element with `ConstructUnexpected` (X.690 10.2). It refuses no contents octets, or one
+    /// alone that is not 0, with `InvalidLength` (8.6.2.3). It refuses more than seven unused bits, or one that is not
+    /// zero, with `DerConstraintFailed(UnusedBitsNotZero)` (8.6.2.2, 11.2.1).
     fn check_leaf(any: &Any<'_>) -> Result<(), Error>
         ensures { bit_string_constraints (parts_of any.now) result }
     {

@@ -42,8 +42,8 @@ use std::io;
 use std::io::Write;
 use std::ops::Deref;
 
-/// How many items a list has room for before it grows: few, and no more than there would be if each other item were
-/// half as long as the first one. The length octet of that one stands behind its identifier octet in most lists.
+/// How many items a list has room for before it grows. They are few, and no more than there would be if each other item
+/// were half as long as the first one. The length octet of that one stands behind its identifier octet in most lists.
 fn first_room(content: &[u8]) -> usize
     ensures { result ≤ 8 }
 {
@@ -80,10 +80,10 @@ where
 }
 
 /// A list or a set, by its items.
-// Each collection gives its own iterator to the walks below, since an impl can't ask that one is given at every
-// lifetime, as `for<'s> &'s L: IntoIterator` does in Rust. Items are seen through `Deref`, so that a walk takes an
-// iterator of any holders of items. Where it gives references, one over `Iterator<Item = &'s T>` is proved too
-// (`count_all` of `asn1_rs_uses`).
+// Each collection gives its own iterator to the walks below. An impl can't ask that one is given at every lifetime, as
+// `for<'s> &'s L: IntoIterator` does in Rust. Items are seen through `Deref`, so that a walk takes an iterator of any
+// holders of items. Where it gives references, one over `Iterator<Item = &'s T>` is proved too (`count_all` of
+// `asn1_rs_uses`).
 pub trait Listed: Tagged {
     /// The items.
     type Item;
@@ -514,8 +514,8 @@ where
     Ok(PackedEncodings { octets, lengths })
 }
 
-/// What an element is read as by a list or a set is made of the values of words of the reader's grammar, whose joining
-/// its contents octets are, in their order. A refusal comes only where it is no such element, or when out of memory.
+/// A list or a set is made of the values of words of the reader's grammar, whose joining its contents octets are, in
+/// their order. A refusal comes only where the element is none of these, or when out of memory.
 ///
 /// `taken` speaks of the conversion of an element, which looks at its constructed bit, and `read` of a reader by DER
 /// that does not. What the list holds, `L.holds` says: a vector and a `SetOf` the items in the order of the words.

@@ -32,8 +32,8 @@ use asn1_headers::tag::Tag;
 use asn1_headers::writer::DerWrite;
 use std::alloc::Global;
 
-/// Whether a value with this tag number is left out of the octets, at whose front a header was read: there are no
-/// octets, or the header has another tag number.
+/// Whether a value with this tag number is left out of the octets, at whose front a header was read. It is where there
+/// are no octets, or the header has another tag number.
 #[inline(always)]
 fn is_left_out(tag: Tag, octets: &[u8], read: ParseResult<'_, Header<'_>, Error>) -> bool
     ensures { (rule : Rule) (refuses : Breach → Error)
@@ -57,10 +57,10 @@ pub(crate) fn held<'a, T, E>(answer: ParseResult<'a, T, E>) -> ParseResult<'a, O
     }
 }
 
-/// Reads a value, or none where it is left out: where there are no octets, or a header by BER of another tag number
-/// begins them. Nothing is consumed then. The class is not looked at, and octets that no header begins are refused as
-/// the type refuses them.
-// A reader of its own and no conversion: the header before it tells whether a value is left out, and no element has the
+/// Reads a value, or none where it is left out. It is left out where there are no octets, or a header by BER of another
+/// tag number begins them. Nothing is consumed then. The class is not looked at, and octets that no header begins are
+/// refused as the type refuses them.
+// A reader of its own and no conversion. The header before a value tells whether it is left out, and no element has the
 // value None. It reads at each error type that the value's reader has.
 impl<'a, T: FromBer<'a, E> + Tagged, E: From<Error>> FromBer<'a, E> for Option<T> {
     ghost ber_gives = { OptionGives (IsLeftOut ber_rule (T.TAG).0) T.ber_gives };
@@ -158,8 +158,8 @@ fn none_of_another_tag<T, E: TagRefusal + Drop>(answer: Result<T, E>) -> Result<
 }
 
 impl<'a> Any<'a> {
-    /// The value of an element that stays, or none where its conversion is refused with `UnexpectedTag`: for its own
-    /// tag number, or for that of an item in it. Every other refusal is passed on.
+    /// The value of an element that stays, or none where its conversion is refused with `UnexpectedTag`. That may be
+    /// for its own tag number, or for that of an item in it. Every other refusal is passed on.
     ///
     /// What is converted has the parts of the element and its contents octets, without the identifier octets that its
     /// header keeps.
@@ -278,8 +278,8 @@ where
         T.grammar.Form T.grammar.value (TellsMemory T.grammar.allocates E.from_gives) }
 {}
 
-/// By BER None is read, and nothing consumed, before the strict encoding of a `U` whose tag number is another one, and
-/// where there are no octets.
+/// By BER None is read, and nothing consumed, where there are no octets. So it is before the strict encoding of a `U`
+/// whose tag number is another one.
 pub fn options_are_left_out_by_ber<'a, T, U, E>()
 where
     T: FromBer<'a, E> + Tagged,
@@ -301,10 +301,10 @@ where
     ensures at_end { ReadsNoneAtEnd (OptionGives (IsLeftOut der_rule (T.TAG).0) T.der_gives) }
 {}
 
-/// What an `Option<T>` is refused with by BER, `T` refuses the same octets with, and it is final: no word of `T` begins
+/// What an `Option<T>` is refused with by BER, `T` refuses the same octets with, and it is final. No word of `T` begins
 /// them, nor more octets of which the refusal speaks.
 ///
-/// Nor is `None` read of such octets, where `T` refuses as the header is refused what no header begins:
+/// Nor is `None` read of such octets, where `T` refuses as the header is refused what no header begins.
 /// [`faults_come_first_by_ber`](crate::faults_come_first_by_ber) tells so of each type that an element converts to. A
 /// reader of another make may go by the identifier octets alone. One that refuses 04 for ever is left out of 04 00.
 pub fn options_are_refused_by_ber<'a, T, E>()

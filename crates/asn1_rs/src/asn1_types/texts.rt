@@ -167,8 +167,8 @@ pub fn numbers_of_texts() -> [u32; 2]
     [<&str as Tagged>::TAG.0, String::TAG.0]
 }
 
-/// An element has one refusal by the conversion to `&str` and one by its check, and so to `String`, but for out of
-/// memory; and none where it has a value, or meets the constraints.
+/// An element has one refusal by the conversion to `&str` and one by its check. So it has by that to `String`, but for
+/// out of memory. It has none where it has a value, or meets the constraints.
 pub fn texts_have_one_refusal()
     ensures lent { HaveOneRefusal lent_text_leaf }
     ensures owned { HaveOneRefusal owned_text_leaf }

@@ -1,4 +1,4 @@
-//! Choices: types whose values are of one of several types, which are told apart by the class and the tag number of their
+//! Choices: types whose values are of one of several types, which differ in the class and the tag number of their
 //! elements (X.680 29). From what its author says once a choice has readers by both rules, writers, and the laws of
 //! items. So it may be an item of lists, or stand under an explicit tag. With [`LawfulType`] and [`ToldByNumber`] it is
 //! a field of structs. Under an implicit tag it has no laws: X.680 31.2.7 has such a tag explicit.
@@ -62,8 +62,8 @@ pub struct ChoiceReader;
 ///         }
 ///     }
 ///
-/// The last word of `laws` says that no two arms have the same class and the same tag number, and that each arm has the
-/// class that its row says. It is refused there where one is not so.
+/// The last word of `laws` says that no two arms have the same class and the same tag number. It says too that each arm
+/// has the class that its row says. It is refused there where one is not so.
 pub trait LawfulChoice: HasKind<Kind = ChoiceKind> + DynTagged + Sized {
     /// How a value is one of an arm, and the arms, with the laws of these.
     ghost laws: { LawfulChoiceOf Self };
@@ -88,8 +88,8 @@ pub trait LawfulChoice: HasKind<Kind = ChoiceKind> + DynTagged + Sized {
 ///             }
 ///         }
 ///     }
-// The arms are no type of `LawfulChoice`. Where they were, `<Source as Grammar>` could not be quoted ("cannot state an item
-// with such a type in a bound"), with values under tags among the arms.
+// The arms are no type of `LawfulChoice`. Where they were, `<Source as Grammar>` could not be quoted with values under
+// tags among the arms. The checker said "cannot state an item with such a type in a bound".
 pub trait OfArms: LawfulChoice {
     /// Its arms.
     type Arms;
@@ -112,14 +112,14 @@ pub trait OfArms: LawfulChoice {
 ///         }
 ///     }
 pub trait ReadsChoice<'a>: LawfulChoice {
-    /// What reading may answer, with the refusal of the arm. Of a choice that leaves it out no more is said of the
-    /// refusal of an arm than that it is final. It is that of its arms: `ChoiceReads` with the classes and tag numbers
-    /// of its arms, how a value is one of an arm, and `arms_give` of [`ReadsArms`].
+    /// What reading may answer, with the refusal of the arm. Of a choice that leaves it out clauses say of the refusal
+    /// of an arm only that it is final. It is that of its arms: `ChoiceReads` with their classes and tag numbers, how a
+    /// value is one of an arm, and `arms_give` of [`ReadsArms`].
     ghost choice_gives: { List ℕ → Result (List ℕ × Self) (Refusal Error) → Type 0 } = { Untold };
 
     /// Reads a value of the arm whose class and tag number the element has that begins the octets. Where no arm has its
-    /// class it is refused with `UnexpectedClass`, and with `UnexpectedTag` where none of its class has its tag number;
-    /// neither names what was expected.
+    /// class it is refused with `UnexpectedClass`, and with `UnexpectedTag` where none of its class has its tag number.
+    /// Neither names what was expected.
     fn read_choice(alloc: Global, octets: &'a [u8]) -> ParseResult<'a, Self, Error>
         ensures answers { AnswersByDer (grammar_of_choice Self.laws) Self.laws.arms.grammar.tags
             octets.now (seen result) }

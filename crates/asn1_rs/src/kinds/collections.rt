@@ -1,7 +1,7 @@
 //! How lists in order and sets come by [`ToDer`](crate::to_der::ToDer) and the law traits: by their items.
 //!
 //! A list or a set says what its items are ([`Listed`]), and how it goes over them ([`WritesInOrder`],
-//! [`WritesAscending`]); a set without repetitions also how it tells its members apart ([`HasMembers`],
+//! [`WritesAscending`]). A set without repetitions says how it tells its members apart ([`HasMembers`],
 //! [`LawfulMembers`]).
 //!
 //! How lists are read and checked stands in `asn1_types::lists`, the laws of that with each type.
@@ -71,7 +71,7 @@ pub struct Once;
 pub trait WritesInOrder: Listed {
     /// Appends the items in their order, and answers the number of octets.
     // The method asks for the items' writer. Where the trait does, as `WritesInOrder<T: ToDer>`, an impl over a list
-    // asks for it by four ways, and the search grows fourfold with each list in a list.
+    // asks for it by four ways. Then the search grows fourfold with each list in a list.
     fn write_each<W: DerWrite>(&self, alloc: Global, w: &mut W) -> SerializeResult<usize>
     where
         Self::Item: ToDer,

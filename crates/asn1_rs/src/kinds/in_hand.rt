@@ -1,5 +1,5 @@
-//! How types whose items in hand are all in DER form come by [`AlwaysDer`]: by the element that they are read as, by
-//! the item that they hold or refer to, or by their items.
+//! How types whose items in hand are all in DER form come by [`AlwaysDer`]. It is by the element that they are read as,
+//! by the item that they hold or refer to, or by their items.
 ghost use Rattle.std.specs.Prelude.{◌≡◌};
 
 use crate::asn1_types::lists::Listed;

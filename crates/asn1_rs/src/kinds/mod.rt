@@ -1,12 +1,12 @@
-//! How types come by their grammars and laws, and by writing. There are six kinds: of types that are read as one
-//! element, of those that hold or refer to one item, of lists and sets, of sequences of fields, of choices, and of values
-//! under a tag.
+//! How types come by their grammars and laws, and by writing. There are six kinds. Three are of types that are read as
+//! one element, of holders of one item, and of lists and sets. Three are of sequences of fields, of choices, and of
+//! values under a tag.
 //!
-//! A type that is read as one element, checked and converted, names its kind, [`ElementKind`], and says once how it is
+//! A type that is read as one element, checked and converted, names its kind, [`ElementKind`]. It says once how it is
 //! read and that this is exact ([`leaf`]). The traits of readers ([`reading`]), of writing ([`writing`]) and of
-//! [`laws`](crate::laws) follow from these. Lists and sets name kinds of their own ([`collections`]), sequences
-//! of fields too ([`fields`]), and values under a tag ([`TagMark`](crate::asn1_types::tagged::TagMark)). A type of
-//! another make has those traits itself and no kind.
+//! [`laws`](crate::laws) follow from these. Lists and sets name kinds of their own ([`collections`]), sequences of
+//! fields too ([`fields`]), and values under a tag ([`TagMark`](crate::asn1_types::tagged::TagMark)). A type of another
+//! make has those traits itself and no kind.
 
 pub(crate) mod collections;
 pub(crate) mod fields;
@@ -27,12 +27,12 @@ use asn1_headers::error::Error;
 use asn1_headers::tag::Tag;
 
 /// A type that has its grammars and laws by its kind.
-// Two plain impls, over elements and over what holds one, conflict, since a crate above could give a reference to its
-// own type the trait of the first. The smallest pair is `impl<T: Leaf> Grammar for T` beside
-// `impl<T: Grammar> Grammar for &T`.
+// Two plain impls, over elements and over what holds one, conflict. A crate above could give a reference to its own
+// type the trait of the first. The smallest pair is `impl<T: Leaf> Grammar for T` beside `impl<T: Grammar> Grammar for
+// &T`.
 pub trait HasKind {
-    /// The kind: [`ElementKind`] or [`HolderKind`]; of lists and sets one of [`collections`], of sequences of fields
-    /// that of [`fields`], of choices [`ChoiceKind`](crate::ChoiceKind), of values under a tag
+    /// The kind: [`ElementKind`] or [`HolderKind`]. Lists and sets have one of [`collections`], sequences of fields
+    /// that of [`fields`], choices [`ChoiceKind`](crate::ChoiceKind), values under a tag
     /// [`TagMark`](crate::asn1_types::tagged::TagMark).
     type Kind;
 }
@@ -53,8 +53,8 @@ impl<T> HasKind for &T {
 ///
 /// So it has [`ToDer`](crate::ToDer), [`Grammar`], [`LawfulItem`], and the laws of writing and of tags, where the item
 /// has them.
-// Its conversion, its own reader by DER and its check it hands on itself, with the item's laws under one lemma each:
-// only the type makes a value of an item.
+// It hands on its conversion, its own reader by DER and its check itself, with the item's laws under one lemma each.
+// Only the type makes a value of an item.
 pub trait Holds: HasKind<Kind = HolderKind> {
     /// The type of the item.
     type Held;

@@ -1,5 +1,5 @@
-//! How types come by the traits of readers, and by the laws of these: the conversion and the check of an element by
-//! the type's kind, reading by DER by the reader that the type names.
+//! How types come by the traits of readers, and by the laws of these. The kind of the type has the conversion and the
+//! check of an element. The reader that the type names reads by DER.
 //!
 //! Each trait has one impl for all types with a kind, and beside it impls for types without one. So at a list or at a
 //! value under a tag one impl alone can be meant. Types nest deeper so; that the checker looks into each impl that can

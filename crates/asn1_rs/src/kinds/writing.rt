@@ -1,4 +1,4 @@
-//! How types of items come by [`ToDer`] and the laws of it: by the contents octets of one element, or by the item
+//! How types of items come by [`ToDer`] and the laws of it. It is by the contents octets of one element, or by the item
 //! that they hold or refer to.
 ghost use Rattle.std.specs.Prelude.{◌≡◌, ◌≤◌, take, ◌++◌, ◌+◌, ◌<◌, ◌^◌, ℕ, Bool, false, List, length, Err, IfOk};
 ghost use Rattle.std.specs.Prelude.{IfErr, IfSome, IsErr};

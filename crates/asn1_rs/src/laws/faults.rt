@@ -18,7 +18,7 @@ use crate::kinds::reading::EncodingForm;
 use crate::traits::{CheckDerConstraints, FromAny, FromBer, FromDer, Tagged};
 use asn1_headers::error::Error;
 
-/// By BER, of each type that an element converts to, octets that no header begins are refused as the header is; and
+/// By BER, of each type that an element converts to, octets that no header begins are refused as the header is.
 /// `Incomplete` is the fault of the element, which lacks so many octets, one at least.
 pub fn faults_come_first_by_ber<'a, T, E>()
 where

@@ -46,9 +46,9 @@ use std::hash::Hash;
 /// The reader by BER of a lawful type is exact.
 ///
 /// What `T::from_ber` may answer, `T.ber_gives`, is an Ok exactly where a word by BER begins the octets, with its value
-/// and the rest, and a final refusal else. The strict encoding of a value is read back before any rest. Octets that are
-/// shorter than a word that more of them make them begin with are refused. Of a type that does not allocate no refusal
-/// reports out of memory.
+/// and the rest. Else it is a final refusal. The strict encoding of a value is read back before any rest. Octets that
+/// are shorter than a word that more of them make them begin with are refused. Of a type that does not allocate no
+/// refusal reports out of memory.
 pub fn reader_is_exact_by_ber<'a, T: LawfulBer<'a, E>, E: From<Error>>()
     ensures exact { (input : List ℕ) (answer : Result (List ℕ × T) (Refusal E)) → IsOctets input →
         T.ber_gives input answer →
@@ -89,7 +89,7 @@ pub fn reader_is_exact_by_der<'a, T: LawfulDer<'a, E>, E: From<Error>>()
         IfErr answer (HeldIn (IsOther E.from_gives)) }
 {}
 
-/// The conversion of a lawful type is exact: what `T::try_from_any` may answer to an element is its value, where the
+/// The conversion of a lawful type is exact. What `T::try_from_any` may answer to an element is its value, where the
 /// parts of the element have one, and else a refusal. Of a type that does not allocate no refusal reports out of
 /// memory. The element may be made by hand.
 pub fn conversion_is_exact<'a, T: LawfulBody<'a, E>, E: From<Error>>()
@@ -109,7 +109,7 @@ pub fn check_is_exact<T: LawfulCheck>()
     ensures asks_no_memory { (p : Parts) → T.check_gives p (Err OutOfMemory) → ⊥ }
 {}
 
-/// What is written of an item whose value is in DER form is read back as this value by BER, before any rest: what
+/// What is written of an item whose value is in DER form is read back as this value by BER, before any rest. What
 /// `T::from_ber` may answer is an Ok of the two, or that memory is out, where the type allocates.
 pub fn written_values_are_read_back_by_ber<'a, T, E>()
 where
@@ -122,7 +122,7 @@ where
         (TellsMemory T.grammar.allocates E.from_gives) (T.grammar.value x) rest answer }
 {}
 
-/// What is written of an item whose value is in DER form is read back as this value by DER, before any rest: what
+/// What is written of an item whose value is in DER form is read back as this value by DER, before any rest. What
 /// `T::from_der` may answer is an Ok of the two, or that memory is out, where the type allocates.
 pub fn written_values_are_read_back_by_der<'a, T, E>()
 where
@@ -138,7 +138,7 @@ where
 /// An octet string has at most one value, and a value at most one strict encoding.
 ///
 /// One word begins an input, by BER and by DER, with one value and one rest; and no word is empty. The strict encoding
-/// of a value is a word by BER and by DER with this value; no other value has it, and it begins no other strict
+/// of a value is a word by BER and by DER with this value. No other value has it, and it begins no other strict
 /// encoding.
 pub fn words_and_values_are_unique<T: LawfulItem>()
     ensures ber_value { (o : List ℕ) (v w : T.grammar.Value) → (ber_words T.grammar) o v →
@@ -159,7 +159,7 @@ pub fn words_and_values_are_unique<T: LawfulItem>()
         IsStrict T.grammar.Form w p → o ++ r ≡ p ++ s → (o ≡ p) × (v ≡ w) × (r ≡ s) }
 {}
 
-/// What a lawful type writes and counts of a value in DER form is its strict encoding; and what it writes of any value
+/// What a lawful type writes and counts of a value in DER form is its strict encoding. What it writes of any value
 /// follows from the value.
 ///
 /// `T.writing.header` and `T.writing.content` are what the contracts of [`ToDer`](crate::ToDer) say that `write_der`,
@@ -194,7 +194,7 @@ pub fn strict_parts_have_the_number<T: LawfulTagged>()
 {}
 
 /// The strict parts of a value with class `K` in place of their own meet the constraints, and the conversion finds the
-/// value in them, so that an implicit tag of this class stands over the type.
+/// value in them. So an implicit tag of this class stands over the type.
 pub fn strict_parts_take_the_class<T: TakesClass<K>, const K: u8>()
     ensures { FormTakes T.grammar.Form T.grammar.Check T.grammar.Body K }
 {}
@@ -202,7 +202,7 @@ pub fn strict_parts_take_the_class<T: TakesClass<K>, const K: u8>()
 /// A front that a value was read from was its strict encoding exactly where writing the value gives the same octets.
 ///
 /// It speaks of values in DER form. No octets are strict for another value, and yet it may be written as it was read.
-/// Of a set that there is a strict encoding is all that is known; where the strict parts of a value are in hand, so is
+/// Of a set that there is a strict encoding is all that is known. Where the strict parts of a value are in hand, so is
 /// its strict encoding.
 pub fn strict_fronts_are_written_again<T: LawfulWrite>()
     ensures again { (x : T) (front : List ℕ) → T.grammar.IsDer (T.grammar.value x) →
@@ -213,8 +213,8 @@ pub fn strict_fronts_are_written_again<T: LawfulWrite>()
         IsStrict T.grammar.Form (T.grammar.value x) front ↔ (front ≡ whole_octets T.writing x) }
 {}
 
-/// Octets that are shorter than a header or an element, and that more of them make begin with it, are refused: with
-/// `Incomplete` of these or fewer, or with `InvalidTag` where they end within an identifier in high form.
+/// Octets that are shorter than a header or an element, and that more of them make begin with it, are refused. They are
+/// refused with `Incomplete` of these or fewer, or with `InvalidTag` where they end within an identifier in high form.
 pub fn beginnings_are_refused()
     ensures header { (rule : Rule) (refuses : Breach → Error)
         (input more front rest : List ℕ) (id : Identifier) (form : LengthForm)
@@ -232,8 +232,8 @@ pub fn beginnings_are_refused()
         RefusedAsBeginning (EndsWithin input) more answer }
 {}
 
-/// An element has one refusal by the conversion of a leaf type and one by its check, and none where it has a value, or
-/// meets the constraints.
+/// An element has one refusal by the conversion of a leaf type and one by its check. It has none where it has a value,
+/// or meets the constraints.
 ///
 /// A clause for each type, with its conversion and its check.
 // A law over all leaf types would range over records of types, which a clause can't.

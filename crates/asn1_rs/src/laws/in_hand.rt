@@ -62,7 +62,7 @@ pub fn text_in_hand(text: &str)
     ensures { IsUtf8 text.now }
 {}
 
-/// The value of a `BTreeSet` or a `HashSet` in hand, which is `members` of its keys, is the set of their values; it is
+/// The value of a `BTreeSet` or a `HashSet` in hand, which is `members` of its keys, is the set of their values. It is
 /// in DER form where each of these is. No member is looked at.
 // Std's `len` says that the keys are those of a set.
 pub fn members_in_hand<S, T>(set: &S)

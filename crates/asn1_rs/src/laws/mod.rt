@@ -61,12 +61,12 @@ pub trait Grammar {
 /// A type whose grammars and strict parts are lawful.
 pub trait LawfulItem: Grammar {
     /// States of an item in hand that its value is one of the type's. Each item of a list is asked in turn.
-    // No law can say it: there a number ranges over all numbers, and only code that reads an item learns that it is in
+    // No law can say it. There a number ranges over all numbers, and only code that reads an item learns that it is in
     // the range of its type. So the call of a list goes through its items, and does nothing else.
     fn has_value(&self)
         ensures { Self.grammar.IsValue (Self.grammar.value self.now) };
 
-    /// Each part of [`Grammar`] has values of the type; one word alone begins an input; and a value has one strict
+    /// Each part of [`Grammar`] has values of the type. One word alone begins an input. A value has one strict
     /// encoding, which no other value has, and which is a word.
     ghost lawful_item: { IsLawfulItem Self.grammar };
 }
@@ -92,7 +92,7 @@ pub trait LawfulCheck: CheckDerConstraints + LawfulItem {
 
 /// The words by DER are the elements of definite length that pass the check and have a body.
 // Its one impl is the identity. In a generic function the grammar of a bound is any grammar, so it can't be told there
-// that its words are these; by BER no type has other words.
+// that its words are these. By BER no type has other words.
 pub trait LawfulAuto: LawfulItem + DerAutoDerive {
     /// Each word by DER is such an element, with this value.
     ghost der_split: { (o : List ℕ) (v : Self.grammar.Value) →
@@ -135,7 +135,7 @@ pub trait LawfulDer<'a, E: From<Error>>: FromDer<'a, E> + LawfulItem {
 pub trait LawfulWrite: ToDer + LawfulItem {
     /// What is written is told of each item, and follows from its value. A value that has strict parts is written as
     /// its strict encoding. One in DER form whose contents octets fit in memory has such parts, and no refusal of its
-    /// own: what refuses it is its length, its writer, or want of memory.
+    /// own. Only its length, its writer, or want of memory refuses it.
     ghost lawful_writing: { IsLawfulWriting Self.grammar Self.writing };
 }
 
@@ -288,9 +288,9 @@ pub fn strict_vec<T: LawfulWrite>(alloc: Global, x: &T) -> SerializeResult<Vec<u
     x.to_der_vec(alloc)
 }
 
-/// The answers of the readers of headers and of elements, by DER and by BER, and of contents octets by BER are what the
-/// input makes them: it has one refusal, that of its first fault from the left, and none where a header, an element, or
-/// contents octets begin it.
+/// The answers of readers are what the input makes them. The readers are those of headers and of elements, by DER and
+/// by BER, and of contents octets by BER. The input has one refusal, that of its first fault from the left. It has none
+/// where a header, an element, or contents octets begin it.
 pub fn one_refusal()
     ensures header { (rule : Rule) (refuses : Breach → Error) (input : List ℕ) (q r : Refusal Error)
         → HeaderGives rule (refusal_of refuses) input (Err q)

@@ -1,6 +1,6 @@
 //! Fields with a default (X.680 25), which are left out where they have it (X.690 11.5).
 //!
-//! A default that is there is read by both rules, as certificates have it. It is never written: so the words of such a
+//! A default that is there is read by both rules, as certificates have it. It is never written. So the words of such a
 //! field are more than its one strict encoding, as those of a truth value by BER are.
 ghost use Rattle.std.specs.Prelude.{◌≡◌, ◌⊎◌, false};
 ghost use Rattle.std.proofs.Common.{refl};
@@ -83,8 +83,8 @@ pub trait DefaultOf<T: Grammar + Tagged> {
     ghost of_type: { IsTypeOf Self.default_laws.of T.grammar (T.TAG).0 };
 }
 
-/// The mark of truth values that are false where they are left out: `BOOLEAN DEFAULT FALSE` (X.680 25.1), of which
-/// nothing is written where it is false (X.690 11.5). Extensions of certificates and controls of LDAP have it.
+/// The mark of truth values that are false where they are left out: `BOOLEAN DEFAULT FALSE` (X.680 25.1). Nothing is
+/// written where it is false (X.690 11.5). Extensions of certificates and controls of LDAP have it.
 #[derive(Debug, PartialEq, Eq, Drop)]
 pub struct DefaultFalse;
 

@@ -1,5 +1,5 @@
-//! The fields of structs: what a type says of itself where it is a field, how a field is read, and what is stated of one
-//! in hand.
+//! The fields of structs. The module says what a type says of itself where it is a field. It says how a field is read,
+//! and what is stated of one in hand.
 ghost use Rattle.std.specs.Prelude.{◌≡◌, [], ◌∷◌, ℕ, List, Result};
 ghost use Rattle.asn1_headers.specs.declared.error.Err.{Err as Refusal};
 ghost use Rattle.asn1_headers.specs.declared.error.Error.{Error};
@@ -38,8 +38,8 @@ pub trait LawfulType {
     ghost type_laws: { LawfulTypeOf Self };
 }
 
-/// A type whose items may stand in a list, in a set or under an explicit tag that is a field of a struct: one with tag
-/// numbers ([`LawfulType`]), or one that looks at none.
+/// A type whose items may stand in a list, in a set or under an explicit tag that is a field of a struct. It has tag
+/// numbers ([`LawfulType`]), or looks at none.
 pub trait ItemType {
     /// Its grammar and how it is written, with their laws.
     ghost item_laws: { ItemTypeOf Self };

@@ -1,5 +1,5 @@
-//! Types that may be the members of sets without repetitions which are fields of structs: of each it is stated in a
-//! record that its items are equal exactly where their values are. And these sets as fields.
+//! Types that may be the members of sets without repetitions which are fields of structs, and these sets as fields. A
+//! record states of each that its items are equal exactly where their values are.
 ghost use Rattle.std.specs.Prelude.{true};
 ghost use Rattle.asn1_rs.specs.Laws.BitString.{bit_string_equal};
 ghost use Rattle.asn1_rs.specs.Laws.Boolean.{bool_equal, boolean_equal};

@@ -10,8 +10,8 @@ use crate::asn1_types::tagged::parser::TaggedParser;
 use crate::structs::defaulted::Defaulted;
 use crate::structs::keys::KeyType;
 
-/// A type of fields that are equal exactly where their values are. A [`KeyType`] has it, and so have an `Option` of one, a
-/// field with a default, an element of any tag number, and a value with the header of its tag.
+/// A type of fields that are equal exactly where their values are. A [`KeyType`] has it. So have an `Option` of one,
+/// and a field with a default. So have an element of any tag number, and a value with the header of its tag.
 pub trait MemberType {
     /// Its values, and its equality with the law of it.
     ghost member_laws: { MembersOf Self };

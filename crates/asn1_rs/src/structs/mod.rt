@@ -3,7 +3,7 @@
 //! has.
 //!
 //! The fields of a struct are a **row** ([`row`]): pairs of a field's type and the row behind it, with `()` at the end.
-//! A field is of a type with laws, told by its tag numbers ([`numbers`]), or an `Option` of one ([`field`]); [`types`]
+//! A field is of a type with laws, told by its tag numbers ([`numbers`]), or an `Option` of one ([`field`]). [`types`]
 //! says which types have such laws.
 //!
 //!     pub type MeasurementRow = (u32, (u64, (Option<u8>, ())));
@@ -84,8 +84,8 @@ impl ReadsBy for BerParser {
 ///         }
 ///     }
 ///
-/// The last word of `laws` says that each optional field is told by its tag number from all that may follow it up to
-/// the next field that is no option, and that what is under an implicit tag takes the class of the tag. It is refused
+/// The last word of `laws` makes two claims. Each optional field is told by its tag number from all that may follow it,
+/// up to the next field that is no option. What is under an implicit tag takes the class of the tag. It is refused
 /// there where one is not so.
 pub trait LawfulStruct: HasKind<Kind = FieldsKind> + Sized {
     /// Its row, with the laws of that.

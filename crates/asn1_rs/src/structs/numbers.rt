@@ -49,8 +49,8 @@ impl<T: LawfulTagged> ToldByNumber for T {
     ghost told_by_number = { one_number T.grammar.Form (T.TAG).0 T.tag_number };
 }
 
-/// Whether a field of the type is left out of the octets, at whose front a header was read: there are no octets, or the
-/// header has none of its tag numbers.
+/// Whether a field of the type is left out of the octets, at whose front a header was read. It is where there are no
+/// octets, or the header has none of its tag numbers.
 pub(crate) fn is_left_out<T: ToldByNumber>(
     octets: &[u8],
     read: ParseResult<'_, Header<'_>, Error>,

@@ -37,8 +37,8 @@ pub trait ReadsRow<'a, P: ReadsBy>: Sized {
     /// What reading it may answer to these octets.
     ghost row_gives: { List ℕ → Result Self Error → Type 0 };
 
-    /// All fields, in their order. Refused as the first field that is refused, where one is cut as error `Incomplete`,
-    /// and with `TrailingOctets` where octets are left behind the last one.
+    /// All fields, in their order. Refused as the first field that is refused, where one that is cut is an error
+    /// `Incomplete`. Refused with `TrailingOctets` where octets are left behind the last one.
     fn read_row(alloc: Global, octets: &'a [u8]) -> Result<Self, Error>
         ensures { row_gives octets.now result };
 

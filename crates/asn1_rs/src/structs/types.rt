@@ -1,8 +1,8 @@
-//! Which types may be fields of structs: the leaf types of the library, lists, values under tags, and structs; choices by
-//! an impl of their authors; and what looks at no tag number, an element of any type or a value with the header of its
-//! tag (`TaggedParser`), where no field before it may be left out, or as the last one where it may be left out itself. A
-//! list, a set or an explicit tag may hold such items too. Under an implicit tag of a header the value is of a type that
-//! takes each class.
+//! Which types may be fields of structs. They are the leaf types of the library, lists, values under tags, and structs,
+//! and choices by an impl of their authors. What looks at no tag number is an element of any type or a value with the
+//! header of its tag (`TaggedParser`). It is a field where no field before it may be left out, or as the last one where
+//! it may be left out itself. A list, a set or an explicit tag may hold such items too. Under an implicit tag of a
+//! header the value is of a type that takes each class.
 //!
 //! A `BTreeSet` and a `HashSet` stand in [`keys`](crate::structs::keys), beside the types that their items may be.
 ghost use Rattle.std.specs.Prelude.{refl};

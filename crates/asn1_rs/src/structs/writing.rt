@@ -1,4 +1,4 @@
-//! How a struct comes by [`ToDer`](crate::ToDer): its fields are counted in their order, and written into a buffer from
+//! How a struct comes by [`ToDer`](crate::ToDer). Its fields are counted in their order, and written into a buffer from
 //! the last to the first (X.690 8.9).
 ghost use Rattle.std.specs.Prelude.{◌≡◌, ◌+◌, ◌++◌, ℕ, length, false, true, IfOk, IfErr, IsErr};
 ghost use Rattle.x690.specs.Strict.{header_octets};

@@ -30,7 +30,7 @@ pub trait ToStatic {
 
 /// A machine integer is its own copy.
 // One impl over `MachineInt` conflicts with those for `&T` and `Box<T>`. A kind would take three lines for each type in
-// place of ten, but two public traits more, and `&T` and `Box<T>` would name a kind too.
+// place of ten. It would take two public traits more, and `&T` and `Box<T>` would name a kind too.
 impl ToStatic for u8 {
     type Owned = u8;
 

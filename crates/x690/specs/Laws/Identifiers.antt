@@ -76,8 +76,8 @@ follows_none low num os rest e (inr p) none =
     let v = ap base_128_value s in
     none (length os) p.2 (subst AreTagDigits (sym s) p.1) (omega arith)
 
--- Where the low five bits are 31 and no front of the octets that follow is a tag number,
--- no front of the octets is an identifier.
+-- The low five bits are 31, and no front of the octets that follow is a tag number. Then no front of the octets is an
+-- identifier.
 pub no_identifier : (octets following : List ℕ) (class : ℕ) (constructed : Bool) (low : ℕ) → low < 32 → 31 ≤ low →
     get_or octets 0 0 ≡ 64 * class + 32 * bit constructed + low → following ≡ drop 1 octets →
     ((k : ℕ) → k ≤ 5 → AreTagDigits (take k following) → base_128_value (take k following) < 2 ^ 32 → ⊥) →

@@ -7,9 +7,9 @@ use Rattle.std.proofs.lemmas.List.{get_or_past}
 use Rattle.std.proofs.lemmas.List.Folds.{list_all_at}
 use Rattle.std.proofs.lemmas.Str.{IsUtf8-from_ascii}
 use Rattle.std.specs.Str.{IsUtf8, IsAscii}
-use Rattle.std.specs.Char.{is_ascii}
+use Rattle.std.specs.Char.{is_ascii, is_ascii_digit}
 use Rattle.x690.specs.Octets.{IsOctets}
-use Rattle.x690.specs.Sets.{AllIn, is_numeric, is_printable, is_visible}
+use Rattle.x690.specs.Sets.{AllIn, is_numeric, is_printable, is_visible, is_graphic}
 
 -- a set below 80
 abbrev pub IsAsciiSet : (ℕ → Bool) → Type 0
@@ -18,6 +18,14 @@ IsAsciiSet in_set = (octet : ℕ) → IsTrue (in_set octet) → octet < 128
 -- Numeric characters are ASCII.
 pub numeric_ascii : IsAsciiSet is_numeric
 numeric_ascii octet h = grind (arith, nat_tests)
+
+-- So are digits.
+pub digits_ascii : IsAsciiSet is_ascii_digit
+digits_ascii octet h = grind (arith, nat_tests)
+
+-- So are graphic ones.
+pub graphic_ascii : IsAsciiSet is_graphic
+graphic_ascii octet h = grind (arith, nat_tests)
 
 -- So are printable ones.
 pub printable_ascii : IsAsciiSet is_printable

@@ -16,9 +16,9 @@ LacksHeader = HasFault (HeaderFault ber_rule)
 abbrev pub LacksContent : List ℕ → Type 0
 LacksContent = HasFault (IsCutContent ber_rule)
 
--- No element of the depth begins the octets, and so many headers are read whole before the first fault: none where the
--- first header has the fault; else that header, and behind one of the indefinite form also those of the whole elements
--- and of what follows them. Below depth 1 nothing is read but one header.
+-- No element of the depth begins the octets, and so many headers are read whole before the first fault. There are none
+-- where the first header has the fault. Else there is that header; behind an indefinite one there are those of the
+-- whole elements and of what follows them. Below depth 1 nothing is read but one header.
 unfoldable pub FaultHeaders : ℕ → List ℕ → ℕ → Type 0
 FaultHeaders zero octets headers =
     (LacksHeader octets × (headers ≡ 0)) ⊎ (BeginsWithHeader ber_rule octets × (headers ≡ 1))

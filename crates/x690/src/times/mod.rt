@@ -2,6 +2,7 @@
 
 pub mod reading;
 pub mod shown;
+pub mod strict_texts;
 pub mod text;
 pub mod writing;
 

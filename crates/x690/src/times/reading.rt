@@ -18,8 +18,8 @@ pub fn texts_say_one_time()
         SaysGeneralizedTime text m → SaysGeneralizedTime text n → m ≡ n }
 {}
 
-/// The fields that a text says are in range: the year as its digits, at most 999 milliseconds, and of an offset at most
-/// 99 hours and 99 minutes (X.690 8.25).
+/// The fields that a text says are in range (X.690 8.25). The year is as its digits, milliseconds are at most 999, and
+/// an offset is at most 99 hours and 99 minutes.
 pub fn said_times_are_in_range()
     ensures utc { (text : List ℕ) (m : Moment) → SaysUtcTime text m →
         InRange m × (m.year ≤ 99) × (m.millisecond ≡ None) × MostOffset 99 m.zone }
@@ -55,7 +55,7 @@ fn digit(text: &[u8]) -> Option<(u8, &[u8])>
 
 /// The number of the two digits in front, where it is at most so much, and what follows them.
 #[inline(always)]
-fn two_digits(text: &[u8], most: u8) -> Option<(u8, &[u8])>
+pub(super) fn two_digits(text: &[u8], most: u8) -> Option<(u8, &[u8])>
     requires { most ≤ 99 }
     ensures some { IfSome result
         (λ found. (found.0 ≤ most) × (text.now ≡ digits 2 found.0 ++ found.1.now)) }
@@ -79,7 +79,7 @@ fn two_digits(text: &[u8], most: u8) -> Option<(u8, &[u8])>
 
 /// The number of the four digits in front, and what follows them.
 #[inline(always)]
-fn four_digits(text: &[u8]) -> Option<(u32, &[u8])>
+pub(super) fn four_digits(text: &[u8]) -> Option<(u32, &[u8])>
     ensures some { IfSome result
         (λ found. (found.0 < 10 ^ 4) × (text.now ≡ digits 4 found.0 ++ found.1.now)) }
     ensures none { IsNone result →
@@ -92,7 +92,7 @@ fn four_digits(text: &[u8]) -> Option<(u32, &[u8])>
 
 /// A time of this year to its minute, whose text is in front, and what follows it.
 #[inline(always)]
-fn start(year: u32, text: &[u8]) -> Option<(Moment, &[u8])>
+pub(super) fn start(year: u32, text: &[u8]) -> Option<(Moment, &[u8])>
     ensures year { IfSome result (λ found. found.0.year ≡ year) }
     ensures range { IfSome result (λ found. InRange found.0) }
     ensures some { IfSome result (λ found. text.now ≡ to_minute found.0 ++ found.1.now) }
@@ -118,7 +118,7 @@ fn start(year: u32, text: &[u8]) -> Option<(Moment, &[u8])>
 
 /// Whether the text is the letter Z alone.
 #[inline(always)]
-fn is_z(text: &[u8]) -> bool
+pub(super) fn is_z(text: &[u8]) -> bool
     ensures { IsTrue result ↔ (text.now ≡ z_text) }
 {
     matches!(text, [b'Z'])

@@ -69,7 +69,7 @@ module _ {T E : Type 0} (reads : List ℕ → Result (List ℕ × T) (Refusal E)
       nothing_follows after left (subst (λ (k : List ℕ). Yields Steps k after left) s.2 y)
   refusal_is_last (x ∷ before) after e content left (j, s, y) = refusal_is_last before after e j left y
 
-  -- Where what is left keeps a property, from which an item is the value of a word and a refusal tells what it may, a
+  -- What is left keeps a property, from which an item is the value of a word and a refusal tells what it may. Then a
   -- walk takes the words of the contents octets.
   module _ {V : Type 0} (G : List ℕ → V → Type 0) (value : T → V) (Tells : List ℕ → E → Type 0)
       (Keeps : List ℕ → Type 0)
@@ -126,8 +126,8 @@ module _ {T E : Type 0} (reads : List ℕ → Result (List ℕ × T) (Refusal E)
 pub octets_kept : (octets word rest : List ℕ) → IsOctets octets → octets ≡ word ++ rest → IsOctets rest
 octets_kept octets word rest o e = octets_back word rest (subst IsOctets e o)
 
--- Walks by a reader that is exact by a grammar whose words begin one input in one way, at octets of which something
--- holds that holds of what follows a word too.
+-- Walks by a reader that is exact by a grammar whose words begin one input in one way. Something holds of the octets
+-- that also holds of what follows a word.
 module _ {T V E : Type 0} (reads : List ℕ → Result (List ℕ × T) (Refusal E) → Type 0) (from : Error → E → Type 0)
     (G : List ℕ → V → Type 0) (value : T → V) (allocates : Bool) (IsCut : List ℕ → Type 0)
     (one : IsOneFront G) (Keeps : List ℕ → Type 0)

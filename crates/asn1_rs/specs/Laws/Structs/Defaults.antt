@@ -165,8 +165,8 @@ module _ {S W : Type 0} (inner : W → S) (number : ℕ) (G : ItemGrammar S) (de
       put : IsLawfulPut Held (option_writing w)
       put = optional_put G l w k (among (number ∷ [])) (left_out_by number)
 
-      -- What is written of a field with a default is lawful where that of its type is, and the default is told from the
-      -- other values.
+      -- What is written of a field with a default is lawful where two things hold. That of its type is, and the default
+      -- is told from the other values.
       pub default_put : IsLawfulPut F (default_writing inner is_default w)
       default_put = record {
         tells_all = λ x. put.tells_all (written x);

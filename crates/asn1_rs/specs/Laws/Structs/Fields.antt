@@ -34,9 +34,9 @@ use Rattle.asn1_rs.specs.Structs.{optional_field, OptionTakes, OptionStrict, Beg
 use Rattle.asn1_rs.specs.Structs.{any_number, among, is_one_of, BeginsWithOneOf, BeginsApart, left_out_at_end, FormNumbers}
 use Rattle.asn1_rs.specs.Structs.{left_out_among}
 
--- Octets give one value and leave one rest; a value has one strict octets, and these are octets. They begin with one of
--- the tag numbers, or are none where the field may be left out; and they are taken again, with their value, before each
--- rest; of an optional field before each rest that does not begin with one of its numbers.
+-- Octets give one value and leave one rest. A value has one strict octets, and these are octets. They begin with one of
+-- the tag numbers, or are none where the field may be left out. They are taken again, with their value, before each
+-- rest. Those of an optional field are so before each rest that does not begin with one of its numbers.
 pub record IsLawfulField {S : Type 0} (F : FieldGrammar S) : Type 0 where
   pub one_equality : IsSet F.Value
   pub values : (rules : EncodingRules) (o : List ℕ) (v : F.Value) (r : List ℕ) → F.Takes rules o v r → F.IsValue v
@@ -208,8 +208,8 @@ module _ {S : Type 0} (G : ItemGrammar S) (l : IsLawfulItem G) where
           (subst (LeftOut rules) (sym e) out, sym e)
       option_takes rules (Some v) o rest s out = (stays rules v o rest s, strict_front rules v o rest s)
 
-      -- An optional field of a lawful type is lawful, if its strict encodings do not say that it is left out, and what
-      -- begins with another number does.
+      -- An optional field of a lawful type is lawful under two conditions. Its strict encodings do not say that it is
+      -- left out, and what begins with another number does.
       pub option_lawful : IsLawfulField (optional_field numbers LeftOut G)
       option_lawful = record {
         one_equality = option_set l.one_equality;

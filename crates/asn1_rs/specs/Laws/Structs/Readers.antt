@@ -33,7 +33,7 @@ use Rattle.asn1_rs.specs.Laws.Structs.Fields.{IsLawfulField, item_reads, optiona
 use Rattle.asn1_rs.specs.Laws.Structs.Rows.{row_reads, row_no_memory, or_neither, end_reads, end_no_memory}
 use Rattle.asn1_rs.specs.Laws.Structs.Structs.{struct_takes, struct_no_memory}
 
--- Where the reader of a field answers as the field does, and that of the row behind it as the row does, both answer as
+-- The reader of a field answers as the field does, and that of the row behind it as the row does. Then both answer as
 -- the row of both does.
 pub row_answers : {S R : Type 0} (rules : EncodingRules) (F : FieldGrammar S) (G : RowGrammar R) → IsLawfulField F →
     (first : List ℕ → Result (List ℕ × S) (Refusal Error) → Type 0) (others : List ℕ → Result R Error → Type 0) →

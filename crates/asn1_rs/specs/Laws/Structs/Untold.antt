@@ -1,5 +1,5 @@
--- Readers of fields that look at no tag number are exact: of values with the header of their tag, alone and where they
--- may be left out at the end.
+-- Readers of fields that look at no tag number are exact. So are those of values with the header of their tag, alone
+-- and where they may be left out at the end.
 use Rattle.std.specs.Prelude.{◌≡◌, ℕ, ◌<◌, ◌^◌, false, List, Option, Result, Err, IfErr}
 use Rattle.x690.specs.Octets.{IsOctets}
 use Rattle.x690.specs.Identifiers.{Identifier, IsCutIdentifier}

@@ -1,9 +1,9 @@
 //! Elements converted to machine integers (X.690 8.3).
 //!
-//! Each conversion is refused with `UnexpectedTag` at another tag number than that of integers, with
-//! `ConstructUnexpected` at a constructed element, and where the type does not hold the number: with `IntegerNegative`
-//! at a type without sign, for a first octet of 80 or more; else with `IntegerTooLarge`. The class is not looked at,
-//! and no constraint of DER is checked.
+//! Each conversion is refused with `UnexpectedTag` at another tag number than that of integers, and with
+//! `ConstructUnexpected` at a constructed element. Where the type does not hold the number, a type without sign is
+//! refused with `IntegerNegative` for a first octet of 80 or more. Else it is refused with `IntegerTooLarge`. The class
+//! is not looked at, and no constraint of DER is checked.
 ghost use Rattle.asn1_rs.specs.Any.{parts_of};
 ghost use Rattle.asn1_rs.specs.Integer.{UnsignedGives, SignedGives};
 

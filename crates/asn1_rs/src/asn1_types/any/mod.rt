@@ -238,9 +238,9 @@ impl DynTagged for Any<'_> {
     }
 }
 
-// By this conversion `Any` has both readers by the blanket impls, with which one of its own would conflict, and the
-// laws of every type that is read as one element. A blanket reader can't call itself, so both stand on `element_by_der`
-// and `element_by_ber`.
+// By this conversion `Any` has both readers by the blanket impls, and the laws of every type that is read as one
+// element. A reader of its own would conflict with these impls. A blanket reader can't call itself, so both stand on
+// `element_by_der` and `element_by_ber`.
 impl<'a> FromAny<'a> for Any<'a> {
     type Error = Error;
 

@@ -56,8 +56,8 @@ impl<'a> Any<'a> {
     /// The text as by [`Any::as_any_string`], which is borrowed; or that of a `UniversalString`, which is decoded and
     /// owned.
     ///
-    /// Refused as by `as_any_string`; for a `UniversalString` with `StringInvalidCharset` where the octets are no
-    /// text in four octets a character, then where memory is, with `OutOfMemory`.
+    /// Refused as by `as_any_string`. A `UniversalString` is refused with `StringInvalidCharset` where the octets are
+    /// no text in four octets a character, then with `OutOfMemory`.
     pub fn as_any_str(&self, alloc: Global) -> Result<CowStr<'a, Global>, Error>
         ensures { GivesAnyText (parts_of self.now) result }
     {

@@ -147,8 +147,8 @@ impl LawfulMember for EmbeddedPdv<'_> {
     ghost same = { pdv_equal };
 }
 
-/// An element has one refusal by the conversion to an embedded presentation data value and one by its check, and none
-/// where it has a value, or meets the constraints. Texts of refusals are told apart by their octets.
+/// An element has one refusal by the conversion to an embedded presentation data value and one by its check. It has
+/// none where it has a value, or meets the constraints. Texts of refusals are told apart by their octets.
 pub fn pdvs_have_one_refusal()
     ensures value { HasOneRefusalUpTo but_text PdvGives }
     ensures constraints { HasOneRefusalUpTo (λ (e : Error). e) pdv_constraints }

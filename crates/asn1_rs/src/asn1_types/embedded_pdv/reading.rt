@@ -119,9 +119,9 @@ impl<'a> Any<'a> {
     /// whether it is primitive or constructed. What follows the data value is not looked at.
     ///
     /// The first element there holds the one that says the identification. Where one of the two is not there, it is
-    /// refused as an element is, with `Error::Incomplete` where octets are missing; then another class than
-    /// context-specific with `UnexpectedClass`, and another tag number than 0 with `UnexpectedTag`; then a tag number
-    /// within above 5 with `InvalidValue`, and parts of the identification that are not there as elements are. Then the
+    /// refused as an element is, with `Error::Incomplete` where octets are missing. Another class than context-specific
+    /// is refused with `UnexpectedClass`, another tag number than 0 with `UnexpectedTag`. A tag number within above 5
+    /// is refused with `InvalidValue`, and parts of the identification that are not there as elements are. Then the
     /// data value is refused so, at another tag number than 2.
     pub fn embedded_pdv(self) -> Result<EmbeddedPdv<'a>, Error>
         ensures { PdvGives (parts_of self.entry) result }

@@ -1,7 +1,7 @@
 //! Integers of any size made of machine integers, and converted to them (X.690 8.3).
 //!
-//! An integer is made in memory of its own. It is converted by the number that its octets say in two's complement: no
-//! octets say 0, and octets that could be left out say nothing (8.3.3).
+//! An integer is made in memory of its own. It is converted by the number that its octets say in two's complement
+//! (8.3.3). No octets say 0, and octets that could be left out say nothing.
 ghost use Rattle.std.specs.Prelude.{pos};
 ghost use Rattle.asn1_rs.specs.Integer.Machine.{MachineGives, unsigned_machine, signed_machine};
 ghost use Rattle.asn1_rs.specs.Integer.Octets.{HoldsOr, integer_octets};

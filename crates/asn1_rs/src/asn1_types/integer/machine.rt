@@ -19,8 +19,8 @@ use x690::signed::signed_into;
 /// The machine integers: `u8` to `u128` and `i8` to `i128`.
 // One impl over all of them gives `LeafType`, `ConvertsLeaf` and `DerElement`. Each type has `HasKind`, `WritesElement`
 // and `LawfulMember` itself. One impl of `HasKind` or `LawfulMember` over all of them conflicts with that for
-// references, since a crate above could make a reference to its own type a machine integer; one of `WritesElement`
-// conflicts with that over `WritesOctets`. The gate takes no impl that a macro of this repository writes.
+// references. A crate above could make a reference to its own type a machine integer. One of `WritesElement` conflicts
+// with that over `WritesOctets`. The gate takes no impl that a macro of this repository writes.
 pub trait MachineInt: Copy {
     /// The integers that its values are, which it holds, and how octets of others are refused.
     ghost machine: { Machine Self };
@@ -39,8 +39,8 @@ pub trait MachineInt: Copy {
     /// The value that contents octets say in two's complement (X.690 8.3.3). No octets say 0, and octets that could
     /// be left out say nothing.
     ///
-    /// Refused where the type does not hold the integer: with `IntegerNegative` at a type without sign, for a first
-    /// octet of 80 or more; else with `IntegerTooLarge`.
+    /// Refused where the type does not hold the integer. A type without sign is refused with `IntegerNegative` for a
+    /// first octet of 80 or more, else with `IntegerTooLarge`.
     fn from_octets(octets: &[u8]) -> Result<Self, Error>
         ensures { MachineGives machine octets.now result };
 }

@@ -148,8 +148,8 @@ pub(crate) fn prepend_signed_content(n: i128, buf: &mut DerBuffer) -> SerializeR
     prepend_octets(&octets[start..], buf)
 }
 
-/// The strict element of a natural number, of the universal class with this tag number, at the front of the array, and
-/// how many octets it has.
+/// The strict element of a natural number at the front of the array, and how many octets it has. It is of the universal
+/// class with this tag number.
 #[inline(always)]
 pub(crate) fn unsigned_element(number: u32, n: u32) -> ([u8; 16], usize)
     requires { number < 31 }

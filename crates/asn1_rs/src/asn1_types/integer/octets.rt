@@ -88,8 +88,8 @@ impl Integer<'static> {
         })
     }
 
-    /// The strict contents octets of the natural number whose digits in base 256 the array has, in memory of its own:
-    /// leading zeros say nothing, and 00 stands in front of a first octet of 80 or more (X.690 8.3.2, 8.3.3).
+    /// The strict contents octets of the natural number whose digits in base 256 the array has, in memory of its own
+    /// (X.690 8.3.2, 8.3.3). Leading zeros say nothing, and 00 stands in front of a first octet of 80 or more.
     ///
     /// Refused where memory is, with `OutOfMemory`.
     pub fn from_const_array<const N: usize>(

@@ -47,8 +47,8 @@ where
     }
 }
 
-// Of each closure it is asked that it may be called at what it is handed, and not at all octets: one that takes few
-// octets alone can be handed on where the octets are few.
+// Each closure need be callable only at what it is handed, and not at all octets. So one that takes few octets alone
+// can be handed on where the octets are few.
 impl<'a, K: KeptKind> Kept<'a, K> {
     /// Reads a list of this type by BER, and hands its contents octets to the closure. The rest is the list's; what the
     /// closure leaves over is dropped.

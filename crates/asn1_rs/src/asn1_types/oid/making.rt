@@ -17,8 +17,8 @@ pub enum OidParseError {
     /// Too few arcs: none, or, of an absolute identifier, one alone that is not 0.
     #[error("too few arcs")]
     TooShort,
-    /// A first pair that 40 * X + Y can't say: the first arc is past 2, or the second past 39 under 0 and 1
-    /// (X.690 8.19.4).
+    /// A first pair that 40 * X + Y can't say. The first arc is past 2, or the second past 39 under 0 and 1 (X.690
+    /// 8.19.4).
     #[error("first two arcs too large")]
     FirstComponentsTooLarge,
     /// A part between points that is no number in decimal, or one past `u64`.
@@ -146,8 +146,9 @@ impl Oid<'_> {
     /// The object identifier of these arcs, by its shortest contents octets, in memory of its own (X.690 8.19). Its
     /// arcs are those given, but that 0, 0 has the contents octets of the one arc 0.
     ///
-    /// Refused with `TooShort` where there is no arc, or one alone that is not 0; with `FirstComponentsTooLarge` where
-    /// the first arc is past 2, or the second past 39 under 0 and 1; then where memory is, with `OutOfMemory`.
+    /// Refused with `TooShort` where there is no arc, or one alone that is not 0. Refused with
+    /// `FirstComponentsTooLarge` where the first arc is past 2, or the second past 39 under 0 and 1. Then refused with
+    /// `OutOfMemory`.
     pub fn from(alloc: Global, s: &[u64]) -> Result<Oid<'static>, OidParseError>
         ensures { OidMade false s.now result }
     {
@@ -176,8 +177,8 @@ impl Oid<'_> {
     /// The object identifier of the arcs that a text has in decimal between its points, as [`Oid::from`] makes it
     /// (X.690 8.19). Each part is read as `str::parse` reads a `u64`, so a plus may stand in front of it.
     ///
-    /// Refused with `ParseIntError` where a part is no such number, as the one part of the empty text is; then, once
-    /// all are read, as [`Oid::from`] refuses their arcs, whatever memory there is.
+    /// Refused with `ParseIntError` where a part is no such number, as the one part of the empty text is. Once all are
+    /// read it is refused as [`Oid::from`] refuses their arcs, whatever memory there is.
     pub fn from_str(alloc: Global, s: &str) -> Result<Oid<'static>, OidParseError>
         ensures { OidReadFrom s.now result }
     {

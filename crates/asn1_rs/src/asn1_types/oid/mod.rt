@@ -1,6 +1,6 @@
 //! Object identifiers, absolute and relative (X.690 8.19, 8.20).
 //!
-//! The value of an identifier is its contents octets and its kind, not its arcs: padded, cut and empty octets are
+//! The value of an identifier is its contents octets and its kind, not its arcs. Padded, cut and empty octets are
 //! values too, and are written as they were read. So the laws of reading need no word of arcs. It is no leaf, whose
 //! first check is its tag number: an identifier looks at none.
 

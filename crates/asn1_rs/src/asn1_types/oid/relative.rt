@@ -85,8 +85,8 @@ impl<'a> Any<'a> {
     }
 }
 
-/// An element has one refusal by the check of an object identifier, and by each way to take it as a relative one, and
-/// none where it meets the check, or is taken. The conversion to an object identifier refuses none.
+/// An element has one refusal by the check of an object identifier, and by each way to take it as a relative one. It
+/// has none where it meets the check, or is taken. The conversion to an object identifier refuses none.
 pub fn identifiers_have_one_refusal()
     ensures constraints { HasOneRefusalUpTo (λ (e : Error). e) oid_constraints }
     ensures relative { HasOneRefusalUpTo (λ (e : Error). e)

@@ -192,8 +192,8 @@ impl<'a, T: LawfulDer<'a, E>, E: From<Error>> ReadsWords<'a, T, E> for DerParser
     ghost asks_no_memory = { T.der_no_memory };
 }
 
-/// A walk ends, whatever the items are. Each answer takes an octet at least, so there are no more answers than octets;
-/// a refusal is the last answer; and where nothing is left, nothing more is answered.
+/// A walk ends, whatever the items are. Each answer takes an octet at least, so there are no more answers than octets.
+/// A refusal is the last answer. Where nothing is left, nothing more is answered.
 ///
 /// The calls are those of `next`, of a `for`, or of std's consumers, from an iterator `s` to an iterator `t`.
 pub fn walks_end<'a, T, F: ReadsItems<'a, T, E>, E: From<Error>>()
@@ -209,11 +209,11 @@ pub fn walks_end<'a, T, F: ReadsItems<'a, T, E>, E: From<Error>>()
 {}
 
 /// A walk over contents octets gives the values of words of the reader's grammar, whose joining begins the contents
-/// octets, and then perhaps one refusal, where no word begins what is left. Over a joining of words nothing is refused.
-/// Where reading allocates, a refusal may report out of memory; else none does.
+/// octets. Then it gives perhaps one refusal, where no word begins what is left. Over a joining of words nothing is
+/// refused. Where reading allocates, a refusal may report out of memory; else none does.
 ///
-/// The calls are those of `next` or of a `for`, from an iterator `s` to an
-/// iterator `t`; `run`, `whole_run` and `no_memory_run` say the same of the calls that std's consumers make.
+/// The calls are those of `next` or of a `for`, from an iterator `s` to an iterator `t`. `run`, `whole_run` and
+/// `no_memory_run` say the same of the calls that std's consumers make.
 pub fn walks_take_words<'a, T, F: ReadsWords<'a, T, E>, E: From<Error>>()
     ensures calls { (s t : SequenceIterator T F E) (answers : List (Result T E))
         → IsOctets (octets_left s) → Yields (WalkSteps F.item_gives E.from_gives) s answers t
@@ -240,9 +240,9 @@ pub fn walks_take_words<'a, T, F: ReadsWords<'a, T, E>, E: From<Error>>()
         → F.allocates ≡ false → All (λ answer. IfErr answer (IsOther E.from_gives)) p.items }
 {}
 
-/// What collecting the items in contents octets answers is the values of words of the reader's grammar, whose joining
-/// the contents octets are, in their order, and no others. A refusal comes only where they are no joining of words, or
-/// when out of memory.
+/// Collecting the items in contents octets answers the values of words of the reader's grammar, whose joining the
+/// contents octets are, in their order. It answers no others. A refusal comes only where they are no joining of words,
+/// or when out of memory.
 ///
 /// It speaks of the items that `der_sequence_of` of a [`Sequence`](crate::Sequence) and its like answer, by `F` over
 /// the parser that they read by.
@@ -259,7 +259,7 @@ pub fn items_are_joined_words<'a, T, F: ReadsWords<'a, T, E>, E: From<Error>>()
 {}
 
 /// A walk by BER over the contents octets of an element of indefinite length that [`Any`](crate::Any) was read from
-/// gives elements alone, whose joining begins the contents octets, and nothing is refused (X.690 8.1.3.6).
+/// (X.690 8.1.3.6). It gives elements alone, whose joining begins the contents octets, and nothing is refused.
 pub fn indefinite_contents_are_walked()
     ensures calls { (input : List ℕ) (x : List ℕ × Any) (s t : SequenceIterator Any BerParser Error)
         (answers : List (Result Any Error)) → BerElementGives input (Ok x) →

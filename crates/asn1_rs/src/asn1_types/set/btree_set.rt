@@ -107,7 +107,7 @@ impl<T: Ord + Drop> FromItems for BTreeSet<T> {
 }
 
 // The type itself passes `Ord` of its members, with all that this stands on. So it has the reader by DER and its law
-// itself: by a reader that it names it passes these several times more, and nests less deep.
+// itself. By a reader that it names it passes these several times more, and nests less deep.
 impl<'a, T: FromDer<'a, E> + Ord + Drop, E: From<Error>> FromDer<'a, E> for BTreeSet<T> {
     ghost der_gives = { DerGives PassesAll
         (OfParts (ListTakes (IsListOr 17) (λ items s. IsFromIterResult T.cmp items s) T.der_gives

@@ -108,8 +108,8 @@ impl<K: StringKind<Characters: CharacterCode>> LawfulMember for CodedString<'_, 
     ghost same = { string_equal };
 }
 
-/// An element has one refusal by the conversion to a decoded string, but for out of memory, and one by its check, and
-/// none where it has a value, or meets the constraints.
+/// An element has one refusal by the conversion to a decoded string, but for out of memory, and one by its check. It
+/// has none where it has a value, or meets the constraints.
 pub fn coded_strings_have_one_refusal<K: StringKind<Characters: CharacterCode>>()
     ensures { HaveOneRefusal
         (coded_string_leaf {K = K} (K.Number.TAG).0 K.Characters.octets_of) }

@@ -100,7 +100,7 @@ impl<K: StringKind<Characters: Repertoire>> LawfulMember for RestrictedString<'_
     ghost same = { string_equal };
 }
 
-/// An element has one refusal by the conversion to a type of strings and one by its check, and none where it has a
+/// An element has one refusal by the conversion to a type of strings and one by its check. It has none where it has a
 /// value, or meets the constraints.
 pub fn strings_have_one_refusal<K: StringKind<Characters: Repertoire>>()
     ensures { HaveOneRefusal (string_leaf {K = K} (K.Number.TAG).0 K.Characters.IsText) }

@@ -36,8 +36,8 @@ fn put_text<C: CharacterCode, W: DerWrite>(text: &str, w: &mut W) -> SerializeRe
     Ok(written)
 }
 
-/// Puts the text in a code before the octets of the buffer, by pieces of 256 octets at most from the back, and answers
-/// the number of octets. What was put stays where a piece before it finds no room.
+/// Puts the text in a code before the octets of the buffer, and answers the number of octets. It goes from the back, by
+/// pieces of 256 octets at most. What was put stays where a piece before it finds no room.
 fn prepend_text<C: CharacterCode>(text: &str, buf: &mut DerBuffer) -> SerializeResult<usize>
     ensures prepended { Prepended (code_of C.octets_of (chars text.now)) buf.old buf.new result }
     ensures refused { IfErr result

@@ -31,8 +31,9 @@ use asn1_headers::error::Error;
 impl<T: CheckDerConstraints> CheckDerConstraints for TaggedParser<'_, Explicit, T, Error> {
     ghost check_gives = { ExplicitCheckGives DerElementGives T.check_gives };
 
-    /// Refuses an indefinite length with `IndefiniteLengthUnexpected`; then contents octets that do not begin with an
-    /// element by DER that keeps the constraints of the value; then, with `TrailingOctets`, what is left behind it.
+    /// Refuses an indefinite length with `IndefiniteLengthUnexpected`. Then it refuses contents octets that begin with
+    /// no element by DER that keeps the constraints of the value. Then it refuses what is left behind that element,
+    /// with `TrailingOctets`.
     fn check_constraints(any: &Any<'_>) -> Result<(), Error>
         ensures { ExplicitCheckGives DerElementGives T.check_gives (parts_of any.now) result }
     {

@@ -113,7 +113,7 @@ fn inner_value<'a, T: Drop, E: From<Error>>(answer: ParseResult<'a, T, E>) -> Re
     }
 }
 
-/// The tag number is looked at, then the constructed bit, then the class; then the value is read by BER at the front of
+/// The tag number is looked at, then the constructed bit, then the class. Then the value is read by BER at the front of
 /// the contents octets. What follows it there is not looked at.
 ///
 /// Missing octets of the value are told as `Error::Incomplete`, since no octets can follow the contents octets.
@@ -141,7 +141,7 @@ where
 
 impl<'a> Any<'a> {
     /// The value under an explicit tag of an element that stays: the tag number is looked at, then the constructed bit,
-    /// then the class; then the value is read by BER.
+    /// then the class. Then the value is read by BER.
     pub fn as_tagged_explicit<T, E, const CLASS: u8, const TAG: u32>(
         &self,
         alloc: Global,
@@ -194,8 +194,9 @@ impl<T: CheckDerConstraints, E, const CLASS: u8, const TAG: u32> CheckBy<TagMark
     for TaggedValue<T, E, Explicit, CLASS, TAG> {
     ghost check_by_kind = { ExplicitCheckGives BerElementGives T.check_gives };
 
-    /// Refuses an indefinite length with `IndefiniteLengthUnexpected`; then contents octets that do not begin with an
-    /// element by BER that keeps the constraints of the value; then, with `TrailingOctets`, what is left behind it.
+    /// Refuses an indefinite length with `IndefiniteLengthUnexpected`. Then it refuses contents octets that begin with
+    /// no element by BER that keeps the constraints of the value. Then it refuses what is left behind that element,
+    /// with `TrailingOctets`.
     fn check_this_kind(any: &Any<'_>) -> Result<(), Error> {
         any.header.length().assert_definite()?;
         check_whole::<T>(element_by_ber(any.content))

@@ -30,7 +30,7 @@ use crate::laws::{
 use crate::traits::{CheckDerConstraints, Tagged};
 use asn1_headers::error::Error;
 
-/// A type whose values keep constraints and conversion under an implicit tag of each of the four classes, as those that
+/// A type whose values keep constraints and conversion under an implicit tag of each of the four classes. Types that
 /// bear no tag of their own do.
 // The class is known at run time alone, so all four are asked for, by one bound. So is the number: a `TaggedParser` has
 // no law of it and takes no class, and an implicit tag over one has no laws.

@@ -98,7 +98,7 @@ fn assert_in_place(class: u8, number: u32, any: &Any<'_>) -> Result<(), Error>
     any.assert_class_number(class)
 }
 
-/// The tag number is looked at, then the class; then the element is converted under the tag number of the value's type,
+/// The tag number is looked at, then the class. Then the element is converted under the tag number of the value's type,
 /// and under the class that it has. So a value that is under a tag of another class is refused.
 impl<'a, T, E, const CLASS: u8, const TAG: u32> FromAnyBy<'a, TagMark<Implicit>>
     for TaggedValue<T, E, Implicit, CLASS, TAG>
@@ -123,7 +123,7 @@ where
 }
 
 impl<'a> Any<'a> {
-    /// The value under an implicit tag of an element that stays: the tag number is looked at, then the class; then the
+    /// The value under an implicit tag of an element that stays: the tag number is looked at, then the class. Then the
     /// element is converted under the tag number of the value's type.
     ///
     /// What is converted has the parts of the element and its contents octets, without the identifier octets that its

@@ -179,8 +179,8 @@ impl Any<'_> {
     }
 }
 
-/// The numbers of the classes of a tag of each name: explicit and implicit context-specific ones, of the application
-/// class, of the private class, and optional context-specific ones.
+/// The numbers of the classes of a tag of each name. They are explicit and implicit context-specific ones, those of the
+/// application and the private class, and optional context-specific ones.
 pub fn classes_of_tags() -> [u8; 8]
     ensures { result ≡ 2 ∷ 2 ∷ 1 ∷ 1 ∷ 3 ∷ 3 ∷ 2 ∷ 2 ∷ [] }
 {

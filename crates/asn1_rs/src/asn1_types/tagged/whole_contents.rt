@@ -8,7 +8,7 @@ use crate::asn1_types::any::Any;
 use crate::traits::CheckDerConstraints;
 use asn1_headers::error::{DerConstraint, Err, Error, ParseResult};
 
-/// The value that a reader's answer tells, which is to be all of the octets: what is left is refused with
+/// The value that a reader's answer tells, which is to be all of the octets. What is left is refused with
 /// `TrailingOctets`, after the reader's own refusals.
 pub(crate) fn whole<'a, T: Drop, E: From<Error>>(answer: ParseResult<'a, T, E>) -> Result<T, Err<E>>
     ensures { WholeGives E.from_gives (seen answer.entry) result }
@@ -25,7 +25,7 @@ pub(crate) fn whole<'a, T: Drop, E: From<Error>>(answer: ParseResult<'a, T, E>) 
     }
 }
 
-/// Checks the constraints of the element that a reader's answer tells, which is to be all of the octets: what is left
+/// Checks the constraints of the element that a reader's answer tells, which is to be all of the octets. What is left
 /// is refused with `TrailingOctets`, after the constraints.
 pub(crate) fn check_whole<T: CheckDerConstraints>(
     answer: ParseResult<'_, Any<'_>, Error>,

@@ -1,6 +1,6 @@
 //! Times on the calendar: as a civil date-time and an offset of `jiff`, and as seconds since 1970.
 //!
-//! A date-time is a date and a time of day, each made behind its bounds and then joined: `civil::DateTime::new`, of
+//! A date-time is a date and a time of day, each made behind its bounds and then joined. `civil::DateTime::new`, of
 //! seven fields at once, was not proved to be exact. The seconds come by the day number of the date, as
 //! `jiff::Timestamp` ends before 9999-12-31.
 ghost use Rattle.std.specs.Prelude.{◌≡◌, ◌↔◌, ◌+◌, ◌*◌, ◌≤◌, pos, ◌+ℤ◌, ◌-ℤ◌, ◌*ℤ◌, IsSome, IfSome, IsOk, IfOk, IfErr};
@@ -130,10 +130,10 @@ fn adjusted_year(year: u32) -> u32
 }
 
 impl ASN1DateTime {
-    /// The civil date-time, and the offset from UTC, which is 0 where no zone is defined. The sign of an offset is
-    /// that of its hours, else of its minutes. Refused with `InvalidDateTime` where there is no such date of a year
-    /// up to 9999, where no clock shows the time of day, at more than 999 milliseconds, and at an offset of more than
-    /// 23 hours or 59 minutes.
+    /// The civil date-time, and the offset from UTC, which is 0 where no zone is defined. The sign of an offset is that
+    /// of its hours, else of its minutes. Refused with `InvalidDateTime` where there is no such date of a year up to
+    /// 9999, or where no clock shows the time of day. So it is at more than 999 milliseconds, and at an offset of more
+    /// than 23 hours or 59 minutes.
     pub fn to_datetime(&self) -> Result<(DateTime, Offset), Error>
         ensures exact { IsOk result ↔ IsCivil (moment_of self.now) }
         ensures value { IfOk result (λ found. IsCivilOf (moment_of self.now) found.0 found.1) }

@@ -233,8 +233,8 @@ pub fn order_of_generalized_times(a: &GeneralizedTime, b: &GeneralizedTime) -> O
     GeneralizedTime::cmp(a, b)
 }
 
-/// An element has one refusal by the conversion to a type of times and one by its check, and none where it has a value,
-/// or meets the constraints. Texts of refusals are told apart by their octets.
+/// An element has one refusal by the conversion to a type of times and one by its check. It has none where it has a
+/// value, or meets the constraints. Texts of refusals are told apart by their octets.
 pub fn times_have_one_refusal()
     ensures utc_time { HaveOneRefusalUpTo but_text utc_time_leaf }
     ensures generalized_time { HaveOneRefusalUpTo but_text generalized_time_leaf }

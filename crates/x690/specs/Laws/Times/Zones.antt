@@ -75,8 +75,8 @@ zones_or_none_unique text one other (inr a) (inr b) = zones_unique text one othe
 
 -- Fractions.
 
--- The digits behind a point say one number of milliseconds, where those of one split are three or no digit follows
--- them, and those of the other stand before a zone.
+-- The digits behind a point say one number of milliseconds. The digits of one split are three, or no digit follows
+-- them; those of the other stand before a zone.
 pub fraction_digits_front : (count n other k : ℕ) (rest zone : List ℕ) (said : TimeZone) → n < 10 ^ (1 + count) →
     other < 3 → k < 10 ^ (1 + other) → (count < 2 → HasNoDigit rest) → SaysZoneOrNone zone said →
     digits (1 + count) n ++ rest ≡ digits (1 + other) k ++ zone →
