@@ -2,4 +2,3 @@ pub mod Departing
 pub mod Orders
 pub mod Requiring
 pub mod Rows
-pub mod Texts

@@ -2,5 +2,4 @@ pub mod Departures
 pub mod Requirements
 pub mod Sets
 pub mod Strict
-pub mod Times
 pub mod Universal

@@ -13,7 +13,7 @@ use Rattle.asn1_headers.specs.declared.error.Err.TheVariants.{Error as refused}
 use Rattle.asn1_strict.specs.declared.requirement.Requirement.{Requirement}
 use Rattle.asn1_strict.specs.declared.requirement.Requirement.TheVariants as requirements
 use Rattle.asn1_strict.specs.Sets.{IsOrderedSet}
-use Rattle.asn1_strict.specs.Times.{IsStrictUtcText, IsStrictGeneralizedText}
+use Rattle.x690.specs.Times.{IsStrictUtcText, IsStrictGeneralizedText}
 use Rattle.asn1_strict.specs.Universal.{HasCharactersOf, HasForm, IsStrictBoolean, IsStrictBits, AreShortestArcs}
 
 -- what an element with a fault in its header, or with cut contents, does not meet

@@ -1,12 +1,14 @@
 -- What DER asks of an element of a universal tag, whatever its type (X.690 8, 10, 11).
-use Rattle.std.specs.Prelude.{◌≡◌, ◌≢◌, ℕ, ◌^◌, ◌%◌, ◌<◌, ◌≤◌, Bool, true, false, List, [], ◌∷◌, ◌⊎◌, length, nat_lt}
+use Rattle.std.specs.Prelude.{◌≡◌, ◌≢◌, ℕ, ◌^◌, ◌%◌, ◌<◌, ◌≤◌, Bool, true, false, List, [], ◌∷◌, ◌⊎◌, length}
 use Rattle.std.specs.Prelude.{slice_index, ◌-◌}
 use Rattle.x690.specs.Integers.{IsShortestInteger}
 use Rattle.std.specs.Str.{IsUtf8}
-use Rattle.x690.specs.Sets.{AllIn, is_numeric, is_printable, is_visible}
+use Rattle.std.specs.Char.{is_ascii}
+use Rattle.x690.specs.Arcs.{AreShortest}
+use Rattle.x690.specs.Sets.{AllIn, is_numeric, is_printable, is_graphic}
 use Rattle.x690.specs.Elements.{Parts}
 use Rattle.asn1_strict.specs.Sets.{IsOrderedSet}
-use Rattle.asn1_strict.specs.Times.{IsStrictUtcText, IsStrictGeneralizedText}
+use Rattle.x690.specs.Times.{IsStrictUtcText, IsStrictGeneralizedText}
 
 -- one octet, 00 or ff (11.1)
 abbrev pub IsStrictBoolean : List ℕ → Type 0
@@ -18,19 +20,9 @@ abbrev pub IsStrictBits : List ℕ → Type 0
 IsStrictBits content = (content ≡ 0 ∷ []) ⊎ ((2 ≤ length content) × (slice_index content 0 < 8) ×
     (slice_index content (length content - 1) % 2 ^ slice_index content 0 ≡ 0))
 
--- Subidentifiers in the fewest octets (8.19.2): the octets that begin one are not 80, and the last octet ends one.
--- `true` says that the next octet begins one.
-abbrev pub AreShortestFrom : Bool → List ℕ → Type 0
-AreShortestFrom start [] = start ≡ true
-AreShortestFrom start (octet ∷ octets) = (start ≡ true → octet ≢ 128) × AreShortestFrom (nat_lt octet 128) octets
-
--- some subidentifiers, each shortest
+-- some subidentifiers, each in the fewest octets (8.19.2)
 abbrev pub AreShortestArcs : List ℕ → Type 0
-AreShortestArcs content = (content ≢ []) × AreShortestFrom true content
-
--- an octet of IA5String (X.680 41)
-abbrev pub is_ia5 : ℕ → Bool
-is_ia5 octet = nat_lt octet 128
+AreShortestArcs content = (content ≢ []) × AreShortest content
 
 -- The types whose elements are constructed: EXTERNAL, EMBEDDED PDV, SEQUENCE, SET and CHARACTER STRING. All others of a
 -- universal tag are primitive, the strings too (10.2).
@@ -42,13 +34,14 @@ abbrev pub HasForm : ℕ → Bool → Type 0
 HasForm number constructed =
     ((constructed ≡ true) × IsConstructedType number) ⊎ ((constructed ≡ false) × (IsConstructedType number → ⊥))
 
--- The strings with characters of their types: BMPString in two octets each, UniversalString in four.
+-- The strings with characters of their types: BMPString in two octets each, UniversalString in four. VisibleString has
+-- no 7f (X.680 41.1).
 pub record HasCharactersOf (number : ℕ) (content : List ℕ) : Type 0 where
   pub utf8 : number ≡ 12 → IsUtf8 content
   pub numeric : number ≡ 18 → AllIn is_numeric content
   pub printable : number ≡ 19 → AllIn is_printable content
-  pub ia5 : number ≡ 22 → AllIn is_ia5 content
-  pub visible : number ≡ 26 → AllIn is_visible content
+  pub ia5 : number ≡ 22 → AllIn is_ascii content
+  pub visible : number ≡ 26 → AllIn is_graphic content
   pub universal : number ≡ 28 → length content % 4 ≡ 0
   pub bmp : number ≡ 30 → length content % 2 ≡ 0
 

@@ -4,7 +4,6 @@
 pub mod requirement;
 pub mod rules;
 pub mod sets;
-pub mod times;
 pub mod walk;
 
 pub use requirement::{Departure, Requirement};

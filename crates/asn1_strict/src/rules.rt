@@ -1,15 +1,16 @@
 //! The rules for universal types.
 ghost use Rattle.std.specs.Prelude.{◌≡◌, ◌↔◌, ◌<◌, ◌%◌, ◌^◌, IsTrue, MatchOption};
 ghost use Rattle.x690.specs.Integers.{IsShortestInteger};
-ghost use Rattle.x690.specs.Sets.{AllIn, is_numeric, is_printable, is_visible};
-ghost use Rattle.asn1_strict.specs.Universal.{is_ia5, IsStrictBoolean, IsStrictBits, AreShortestArcs};
+ghost use Rattle.asn1_strict.specs.Universal.{IsStrictBoolean, IsStrictBits};
 ghost use Rattle.asn1_strict.specs.Universal.{HasForm, HasCharactersOf, HasContentOf, IsProperOf};
 ghost use Rattle.asn1_strict.specs.Requirements.{Meets, Misses};
 
 use crate::requirement::Requirement;
 use crate::sets::is_ordered_set;
-use crate::times::{is_strict_generalized_text, is_strict_utc_text};
 use x690::integers::{has_spare_ones, has_spare_zeros};
+use x690::sets::{Ascii, Graphic, Numeric, Printable, all_in};
+use x690::shortest::are_shortest_arcs;
+use x690::times::strict_texts::{is_strict_generalized_text, is_strict_utc_text};
 
 /// BOOLEAN (11.1).
 fn is_strict_boolean(content: &[u8]) -> bool
@@ -43,68 +44,6 @@ fn is_strict_bits(content: &[u8]) -> bool
     content[0] < 8 && ends_in_zeros(content[content.len() - 1], content[0])
 }
 
-/// OBJECT IDENTIFIER and RELATIVE-OID (8.19.2, 8.20.2).
-fn are_shortest_arcs(content: &[u8]) -> bool
-    ensures { IsTrue result ↔ AreShortestArcs content.now }
-{
-    let mut start = true;
-    for octet in content {
-        if start && *octet == 128 {
-            return false;
-        }
-        start = *octet < 128;
-    }
-    start && !content.is_empty()
-}
-
-/// NumericString.
-fn are_numeric(content: &[u8]) -> bool
-    ensures { IsTrue result ↔ AllIn is_numeric content.now }
-{
-    for octet in content {
-        if !(octet.is_ascii_digit() || *octet == 0x20) {
-            return false;
-        }
-    }
-    true
-}
-
-/// PrintableString.
-fn are_printable(content: &[u8]) -> bool
-    ensures { IsTrue result ↔ AllIn is_printable content.now }
-{
-    for octet in content {
-        if !(octet.is_ascii_alphanumeric() || b" '()+,-./:=?".contains(octet)) {
-            return false;
-        }
-    }
-    true
-}
-
-/// IA5String.
-fn are_ia5(content: &[u8]) -> bool
-    ensures { IsTrue result ↔ AllIn is_ia5 content.now }
-{
-    for octet in content {
-        if !(*octet < 128) {
-            return false;
-        }
-    }
-    true
-}
-
-/// VisibleString.
-fn are_visible(content: &[u8]) -> bool
-    ensures { IsTrue result ↔ AllIn is_visible content.now }
-{
-    for octet in content {
-        if !(*octet >= 0x20 && *octet <= 0x7f) {
-            return false;
-        }
-    }
-    true
-}
-
 /// Whether a type's elements are constructed (10.2).
 fn has_form(number: u32, constructed: bool) -> bool
     ensures { IsTrue result ↔ HasForm number constructed }
@@ -118,10 +57,10 @@ fn has_characters_of(number: u32, content: &[u8]) -> bool
 {
     match number {
         12 => str::from_utf8(content).is_ok(),
-        18 => are_numeric(content),
-        19 => are_printable(content),
-        22 => are_ia5(content),
-        26 => are_visible(content),
+        18 => all_in::<Numeric>(content),
+        19 => all_in::<Printable>(content),
+        22 => all_in::<Ascii>(content),
+        26 => all_in::<Graphic>(content),
         28 => content.len() % 4 == 0,
         30 => content.len() % 2 == 0,
         _ => true,
