@@ -1,12 +1,12 @@
 -- Bounds are judged by the first item of a value.
 use Rattle.std.proofs.Common.{◌≡◌, ◌∙◌, ap, sym, subst, ℕ, zero, suc, List, [], ◌∷◌, ◌++◌, arith, length}
-use Rattle.std.specs.Prelude.{ℤ, Option, Some, Result, Ok, Err, slice_get}
+use Rattle.std.specs.Prelude.{ℤ, pos, Option, Some, Result, Ok, Err, slice_get}
 use Rattle.asn1_schema.specs.declared.fault.Fault.{Fault}
 use Rattle.asn1_schema.specs.declared.fault.Fault.TheVariants as faults
 use Rattle.asn1_schema.specs.declared.tape.Item.{Item}
-use Rattle.asn1_schema.specs.Values.{Value, measure}
+use Rattle.asn1_schema.specs.Values.{Value, measure, count}
 use Rattle.asn1_schema.specs.Grammar.{IsMeasured}
-use Rattle.asn1_schema.specs.Tape.{Kept, kept_leaf, kept_string, kept_bits, kept_row, kept_chosen, Mark, mark, marks, value_of, tape_of}
+use Rattle.asn1_schema.specs.Tape.{Kept, KeptRow, kept_leaf, kept_string, kept_bits, kept_row, kept_chosen, values_of, Mark, begin_mark, mark, marks, value_of, tape_of}
 use Rattle.asn1_schema.specs.Reading.{JudgesBounds, JudgesItem, PutsValue, ReadsValue}
 
 unsupported : {T : Type 0} (lower upper m : Option ℤ) (r : Result T Fault) → r ≡ Err faults.Unsupported →
@@ -37,6 +37,22 @@ judged lower upper xs place x r front (kept_row ks) e p f j =
     unsupported lower upper (measure (value_of (kept_row ks))) r (subst (λ (m : Mark). JudgesItem lower upper m r) (item_at xs front _ _ place x p e f) j)
 judged lower upper xs place x r front (kept_chosen k v) e p f j =
     unsupported lower upper (measure (value_of (kept_chosen k v))) r (subst (λ (m : Mark). JudgesItem lower upper m r) (item_at xs front _ _ place x p e f) j)
+
+-- so is a row, by the values in it
+pub judged_row : {T : Type 0} (lower upper : Option ℤ) (xs : List Item) (place : ℕ) (x : Item) (n : ℕ) (r : Result T Fault)
+    (front : List Mark) (kept : Kept) → marks xs ≡ front ++ tape_of kept → place ≡ length front →
+    slice_get xs place ≡ Some x → mark x ≡ begin_mark n →
+    ((ks : KeptRow) → marks xs ≡ front ++ tape_of (kept_row ks) → JudgesBounds lower upper (Some (pos (count (values_of ks)))) r) →
+    JudgesBounds lower upper (measure (value_of kept)) r
+judged_row lower upper xs place x n r front (kept_leaf l) e p f b row =
+    absurd (let m = item_at xs front [] _ place x p e f in cc)
+judged_row lower upper xs place x n r front (kept_string s o os) e p f b row =
+    absurd (let m = item_at xs front _ _ place x p e f in cc)
+judged_row lower upper xs place x n r front (kept_bits y ys) e p f b row =
+    absurd (let m = item_at xs front _ _ place x p e f in cc)
+judged_row lower upper xs place x n r front (kept_row ks) e p f b row = row ks e
+judged_row lower upper xs place x n r front (kept_chosen k v) e p f b row =
+    absurd (let m = item_at xs front _ _ place x p e f in cc)
 
 -- a value is put on the tape, and its measure judged
 pub bounds_read : {T : Type 0} (P : Value → Type 0) (lower upper : Option ℤ) (old new : List Item) (r : Result T Fault) →

@@ -16,9 +16,9 @@ pub mod TakenRows
 pub mod TakenPieces
 pub mod AnyParts
 pub mod Bounded
-pub mod Told
-pub mod ShortestArcs
 pub mod Lacking
 pub mod UnusedBits
 pub mod Decoded
 pub mod SameErrors
+pub mod Counts
+pub mod BitsTaken

@@ -1,5 +1,6 @@
 -- What the decoder answers.
-use Rattle.std.specs.Prelude.{ℕ, List, [], ◌++◌, ◌≡◌, ◌≢◌, ◌<◌, ◌⊎◌, length, Option, Some, None}
+use Rattle.std.specs.Prelude.{ℕ, List, [], ◌++◌, ◌≡◌, ◌≢◌, ◌<◌, ◌≤◌, ◌⊎◌, length, Option, Some, None, Result}
+use Rattle.std.specs.Prelude.{OnErr, IsErrOf}
 use Rattle.x690.specs.Joined.{NoFront}
 use Rattle.x690.specs.Elements.{Parts, BeginsWithElement}
 use Rattle.x690.specs.Identifiers.{IsCutIdentifier}
@@ -7,6 +8,8 @@ use Rattle.x690.specs.Nested.{EndsInIdentifier}
 use Rattle.asn1_headers.specs.Answers.{Front}
 use Rattle.asn1_schema.specs.declared.coding.Coding.{Coding}
 use Rattle.asn1_schema.specs.declared.coding.Coding.TheVariants as codings
+use Rattle.asn1_schema.specs.declared.decode.DecodeError.{DecodeError}
+use Rattle.asn1_schema.specs.declared.decode.DecodeError.TheVariants as errors
 use Rattle.asn1_schema.specs.declared.tape.Item.{Item}
 use Rattle.asn1_schema.specs.Values.{Value}
 use Rattle.asn1_schema.specs.Tape.{Kept, marks, value_of, tape_of}
@@ -29,6 +32,19 @@ pub record IsFollowed (G : List ℕ → Value → Type 0) (octets : List ℕ) : 
   pub rest : List ℕ
   pub front : Front G octets value rest
   pub some : rest ≢ []
+
+-- What an answer says that is not Ok, of the input and of what it left: the tape, and the octet of the refusal.
+pub record Fails {T : Type 0} (G : List ℕ → Value → Type 0) (is_cut : Type 0) (octets : List ℕ) (tape : List Item)
+    (octet : ℕ) (result : Result T DecodeError) : Type 0 where
+  -- no word begins the octets
+  pub refused : IsErrOf result errors.Refused → NoFront G octets
+  -- whatever follows, but where they end within identifier octets
+  pub lasting : IsErrOf result errors.Refused → (is_cut → ⊥) → (more : List ℕ) → NoFront G (octets ++ more)
+  -- none does with fewer octets more
+  pub incomplete : (n : ℕ) → IsErrOf result (errors.Incomplete n) → (more : List ℕ) → length more < n →
+      NoFront G (octets ++ more)
+  pub emptied : OnErr result (tape ≡ [])
+  pub within : octet ≤ length octets
 
 -- The octets end within the identifier octets of an element (X.690 8.1.2.4), by BER of one that is nested.
 abbrev pub EndsWithin : Coding → List ℕ → Type 0

@@ -8,7 +8,7 @@ use Rattle.x690.specs.Identifiers.{Identifier}
 use Rattle.x690.specs.Integers.{IsIntegerContent}
 use Rattle.x690.specs.Arcs.{AreShortest}
 use Rattle.x690.specs.Characters.{Codes, utf16_octets, ucs4_octets}
-use Rattle.x690.specs.Sets.{AllIn, is_numeric, is_printable, is_visible}
+use Rattle.x690.specs.Sets.{AllIn, is_numeric, is_printable, is_graphic}
 use Rattle.x690.specs.Joined.{IsJoined}
 use Rattle.x690.specs.Elements.{Parts}
 use Rattle.asn1_schema.specs.declared.schema.TypeTag.{TypeTag}
@@ -141,7 +141,7 @@ IsText texts.Utf8 o = IsUtf8 o
 IsText texts.Numeric o = AllIn is_numeric o
 IsText texts.Printable o = AllIn is_printable o
 IsText texts.Ia5 o = AllIn is_ascii o
-IsText texts.Visible o = AllIn is_visible o
+IsText texts.Visible o = AllIn is_graphic o
 IsText texts.Universal o = (cs : List ℕ) × Codes ucs4_octets o cs
 IsText texts.Bmp o = (cs : List ℕ) × Codes utf16_octets o cs
 IsText _ o = Unit {0}

@@ -7,3 +7,4 @@ pub mod Reading
 pub mod Decoding
 pub mod Pieces
 pub mod Bits
+pub mod Counting

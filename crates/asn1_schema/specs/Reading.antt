@@ -1,5 +1,5 @@
 -- What readers of values may answer.
-use Rattle.std.specs.Prelude.{ℕ, ℤ, Bool, true, false, List, [], ◌∷◌, ◌++◌, ◌≡◌, ◌≢◌, ◌⊎◌, nat_lt, Contains, length, slice_get, Option, Some, Result, Ok, Err}
+use Rattle.std.specs.Prelude.{ℕ, ℤ, Bool, true, false, List, [], ◌∷◌, ◌++◌, ◌≡◌, ◌⊎◌, Contains, length, slice_get, Option, Some, Result, Ok, Err}
 use Rattle.std.specs.Borrow.{Bor}
 use Rattle.x690.specs.Identifiers.{Identifier}
 use Rattle.x690.specs.Lengths.{LengthForm, definite, indefinite}
@@ -179,9 +179,3 @@ JudgesItem lower upper _ r = r ≡ Err faults.Unsupported
 -- a value of a type within bounds
 abbrev pub IsWithinOf : Coding → List Node → ℕ → ℕ → Option ℤ → Option ℤ → Parts → Value → Type 0
 IsWithinOf e table depth t lower upper p v = IsBody e table depth t p v × IsMeasured lower upper (measure v)
-
--- Subidentifiers in the fewest octets (X.690 8.19.2): the octets that begin one are not 80, and the last octet ends one.
--- `true` says that the next octet begins one.
-abbrev pub AreShortestFrom : Bool → List ℕ → Type 0
-AreShortestFrom start [] = start ≡ true
-AreShortestFrom start (octet ∷ octets) = (start ≡ true → octet ≢ 128) × AreShortestFrom (nat_lt octet 128) octets

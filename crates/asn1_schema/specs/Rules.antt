@@ -1,11 +1,13 @@
 -- DER, BER, and the strict encodings.
-use Rattle.std.specs.Prelude.{ℕ, zero, suc, ◌<◌, ◌^◌, ◌+◌, ◌≢◌, ◌≡◌, ◌⊎◌, Bool, true, false, List, [], ◌∷◌, ◌++◌, length, replicate}
+use Rattle.std.specs.Prelude.{ℕ, zero, suc, ◌<◌, ◌≢◌, ◌≡◌, ◌⊎◌, Bool, true, false, List, [], ◌∷◌, ◌++◌, length, replicate}
 use Rattle.x690.specs.Ascending.{Ascending}
 use Rattle.x690.specs.Joined.{AreJoinedWords}
 use Rattle.x690.specs.Elements.{Parts, IsDerElement}
 use Rattle.x690.specs.Nested.{IsElement}
 use Rattle.x690.specs.Times.{digits, to_minute, InRange, SaysZone, SaysZoneOrNone}
-use Rattle.x690.specs.Times.{utc_time_text, generalized_time_text, IsStrictUtcTime, IsStrictGeneralizedTime}
+use Rattle.x690.specs.Times.{IsStrictUtcText, IsStrictGeneralizedText}
+use Rattle.x690.specs.Sets.{AllIn}
+use Rattle.std.specs.Char.{is_ascii_digit}
 use Rattle.x690.specs.declared.times.Moment.{Moment}
 use Rattle.asn1_schema.specs.declared.schema.TimeKind.{TimeKind}
 use Rattle.asn1_schema.specs.declared.schema.TimeKind.TheVariants as times
@@ -23,13 +25,13 @@ IsTruth content false = content ≡ 0 ∷ []
 
 -- the text of a time that can be, in its strict form (11.7, 11.8)
 abbrev pub IsStrictTime : TimeKind → List ℕ → Type 0
-IsStrictTime times.Utc o = (m : Moment) × IsStrictUtcTime m × (o ≡ utc_time_text m)
-IsStrictTime times.Generalized o = (m : Moment) × IsStrictGeneralizedTime m × (o ≡ generalized_time_text m)
+IsStrictTime times.Utc o = IsStrictUtcText o
+IsStrictTime times.Generalized o = IsStrictGeneralizedText o
 
 -- a point or a comma, and digits; or nothing
 abbrev pub IsFraction : List ℕ → Type 0
-IsFraction o = (o ≡ []) ⊎ ((point width n : ℕ) × ((point ≡ 46) ⊎ (point ≡ 44)) × (n < 10 ^ (1 + width)) ×
-    (o ≡ point ∷ digits (1 + width) n))
+IsFraction o = (o ≡ []) ⊎ ((point : ℕ) × (octets : List ℕ) × ((point ≡ 46) ⊎ (point ≡ 44)) × (octets ≢ []) ×
+    AllIn is_ascii_digit octets × (o ≡ point ∷ octets))
 
 -- nothing, Z, or hours and maybe minutes ahead of UTC or behind it
 abbrev pub IsZone : Moment → List ℕ → Type 0

@@ -1,12 +1,13 @@
 //! Bounds of numbers and sizes.
-ghost use Rattle.std.specs.Prelude.{ℕ, ℤ, List, ◌++◌, ◌≡◌, length, IsTrue};
-ghost use Rattle.std.specs.Prelude.{pos};
+ghost use Rattle.std.specs.Prelude.{ℕ, ℤ, List, ◌++◌, ◌*◌, ◌-◌, ◌≡◌, ◌<◌, ◌≤◌, Some, length, IsTrue, pos};
 ghost use Rattle.x690.specs.Digits.{twos_complement_value};
 ghost use Rattle.asn1_schema.specs.Grammar.{IsBetween};
-ghost use Rattle.asn1_schema.specs.Tape.{Mark, Kept, mark, marks, tape_of, value_of};
-ghost use Rattle.asn1_schema.specs.Values.{measure, characters};
+ghost use Rattle.asn1_schema.specs.Tape.{Mark, Kept, KeptRow, kept_row, mark, marks, tape_of};
+ghost use Rattle.asn1_schema.specs.Tape.{value_of, values_of};
+ghost use Rattle.asn1_schema.specs.Values.{measure, characters, leads, count};
 ghost use Rattle.asn1_schema.specs.Reading.{JudgesBounds, JudgesItem};
 
+use crate::counting::{count_values, inner_items};
 use crate::fault::Fault;
 use crate::schema::TextKind;
 use crate::tape::Item;
@@ -55,51 +56,87 @@ fn size_within(count: usize, lower: Option<i128>, upper: Option<i128>) -> Result
     number_within(count as i128, lower, upper)
 }
 
-/// Whether each octet is a character.
-fn is_by_octets(kind: TextKind) -> bool
-    ensures { IsTrue result → (o : List ℕ) → characters kind o ≡ length o }
+/// How many of the octets begin a character in UTF-8: all but those from 80 to bf.
+fn leading_octets(octets: &[u8]) -> usize
+    ensures count { result ≡ leads octets.now }
+    ensures within { result ≤ length octets.now }
+{
+    let mut count = 0;
+    for octet in octets {
+        if *octet < 128 || *octet >= 192 {
+            count += 1;
+        }
+    }
+    count
+}
+
+/// How many characters octets say.
+fn text_size(kind: TextKind, octets: &[u8]) -> usize
+    ensures { result ≡ characters kind octets.now }
 {
     match kind {
-        TextKind::Utf8 => false,
-        TextKind::Bmp => false,
-        TextKind::Universal => false,
-        TextKind::Numeric => true,
-        TextKind::Printable => true,
-        TextKind::Teletex => true,
-        TextKind::Videotex => true,
-        TextKind::Ia5 => true,
-        TextKind::Graphic => true,
-        TextKind::Visible => true,
-        TextKind::General => true,
-        TextKind::Descriptor => true,
+        TextKind::Utf8 => leading_octets(octets),
+        TextKind::Bmp => octets.len() / 2,
+        TextKind::Universal => octets.len() / 4,
+        TextKind::Numeric => octets.len(),
+        TextKind::Printable => octets.len(),
+        TextKind::Teletex => octets.len(),
+        TextKind::Videotex => octets.len(),
+        TextKind::Ia5 => octets.len(),
+        TextKind::Graphic => octets.len(),
+        TextKind::Visible => octets.len(),
+        TextKind::General => octets.len(),
+        TextKind::Descriptor => octets.len(),
     }
 }
 
-/// Judges the size of a text, where each octet is a character.
-fn text_within(
-    kind: TextKind,
+/// Judges the number of bits in octets, some of which at the end are unused.
+fn bits_within(
+    unused: u8,
     octets: &[u8],
     lower: Option<i128>,
     upper: Option<i128>,
 ) -> Result<(), Fault>
-    ensures { JudgesBounds lower upper (Some (pos (characters kind octets.now))) result }
+    ensures { JudgesBounds lower upper (Some (pos (8 * length octets.now - unused))) result }
 {
-    if !is_by_octets(kind) {
-        return Err(Fault::Unsupported);
-    }
-    size_within(octets.len(), lower, upper)
+    let all = octets.len() as i128 * 8;
+    let unused = i128::from(unused);
+    number_within(if all < unused { 0 } else { all - unused }, lower, upper)
 }
 
-/// Judges what an item says.
+/// Judges what an item says. A value that has neither a number nor a size is within no bounds.
 fn item_within(item: Item<'_>, lower: Option<i128>, upper: Option<i128>) -> Result<(), Fault>
     ensures { JudgesItem lower upper (mark item.entry) result }
 {
     match item {
         Item::Integer(octets) => integer_within(octets, lower, upper),
+        Item::Bits(unused, octets) => bits_within(unused, octets, lower, upper),
         Item::Octets(octets) => size_within(octets.len(), lower, upper),
-        Item::Text(kind, octets) => text_within(kind, octets, lower, upper),
+        Item::Text(kind, octets) => size_within(text_size(kind, octets), lower, upper),
+        Item::Boolean(_) => Err(Fault::Refused),
+        Item::Null => Err(Fault::Refused),
+        Item::Enumerated(_) => Err(Fault::Refused),
+        Item::Identifier(_, _) => Err(Fault::Refused),
+        Item::Time(_, _) => Err(Fault::Refused),
+        Item::Any(_, _, _, _) => Err(Fault::Refused),
         _ => Err(Fault::Unsupported),
     }
+}
+
+/// Judges the number of values of a row that begins at a place, and ends the tape.
+fn row_within(
+    tape: &[Item<'_>],
+    place: usize,
+    lower: Option<i128>,
+    upper: Option<i128>,
+) -> Result<(), Fault>
+    requires { place < length tape.now }
+    ensures { (front : List Mark) (kept : KeptRow) →
+        marks tape.now ≡ front ++ tape_of (kept_row kept) → place ≡ length front →
+        JudgesBounds lower upper (Some (pos (count (values_of kept)))) result }
+{
+    let items = inner_items(tape, place);
+    size_within(count_values(items), lower, upper)
 }
 
 /// Judges the value that stands at a place.
@@ -116,5 +153,8 @@ pub(crate) fn judge_bounds(
     if place >= tape.len() {
         return Err(Fault::Unsupported);
     }
-    item_within(tape[place], lower, upper)
+    match tape[place] {
+        Item::Begin(_) => row_within(tape, place, lower, upper),
+        item => item_within(item, lower, upper),
+    }
 }

@@ -1,13 +1,11 @@
 //! Values of the types of a table, read by DER and by BER.
-ghost use Rattle.std.specs.Prelude.{ℕ, List, [], ◌++◌, ◌≡◌, ◌<◌, ◌≤◌, Some, None, true, length, IfOk};
-ghost use Rattle.std.specs.Prelude.{OnOk, OnErr, IsErrOf};
-ghost use Rattle.x690.specs.Joined.{NoFront};
+ghost use Rattle.std.specs.Prelude.{ℕ, ◌≡◌, Some, None, true, IfOk, OnOk, IsErrOf};
 ghost use Rattle.asn1_schema.specs.declared.decode.DecodeError.TheVariants as errors;
 ghost use Rattle.asn1_schema.specs.Grammar.{Word};
 ghost use Rattle.asn1_schema.specs.Rules.{der, ber};
 ghost use Rattle.asn1_schema.specs.Sound.{is_sound};
 ghost use Rattle.asn1_schema.specs.Reading.{rules_of, IsWordOf};
-ghost use Rattle.asn1_schema.specs.Decoding.{Decodes, DecodesWhole, IsFollowed, EndsWithin, TellsMissing};
+ghost use Rattle.asn1_schema.specs.Decoding.{Decodes, DecodesWhole, Fails, IsFollowed, EndsWithin, TellsMissing};
 ghost use Rattle.asn1_schema.specs.declared.fault.Fault.TheVariants as faults;
 ghost use Rattle.x690.specs.Identifiers.{IsCutIdentifier};
 ghost use Rattle.x690.specs.Nested.{EndsInIdentifier};
@@ -67,17 +65,9 @@ pub fn decode<'a>(
     requires { is_sound table.now ≡ true }
     ensures ok { IfOk result (λ rest.
         Decodes (IsWordOf coding table.now depth of) octets.now rest.now tape.new.items) }
-    ensures refused { IsErrOf result errors.Refused → NoFront (IsWordOf coding table.now depth of)
-        octets.now }
-    ensures lasting { IsErrOf result errors.Refused → (EndsWithin coding octets.now → ⊥) →
-        (more : List ℕ) →
-        NoFront (IsWordOf coding table.now depth of) (octets.now ++ more) }
-    ensures incomplete { (n : ℕ) → IsErrOf result (errors.Incomplete n) → (more : List ℕ) →
-        length more < n →
-        NoFront (IsWordOf coding table.now depth of) (octets.now ++ more) }
+    ensures fails { Fails (IsWordOf coding table.now depth of) (EndsWithin coding octets.now)
+        octets.now tape.new.items refusal.new.octet result }
     ensures never_trailing { IsErrOf result errors.TrailingOctets → ⊥ }
-    ensures emptied { OnErr result (tape.new.items ≡ []) }
-    ensures octet { refusal.new.octet ≤ length octets.now }
 {
     tape.clear();
     match read_front(coding, table, depth, of, octets, 0, tape, refusal) {
@@ -106,18 +96,10 @@ pub fn decode_whole<'a>(
     requires { is_sound table.now ≡ true }
     ensures ok { OnOk result (DecodesWhole (IsWordOf coding table.now depth of) octets.now
         tape.new.items) }
-    ensures refused { IsErrOf result errors.Refused → NoFront (IsWordOf coding table.now depth of)
-        octets.now }
-    ensures lasting { IsErrOf result errors.Refused → (EndsWithin coding octets.now → ⊥) →
-        (more : List ℕ) →
-        NoFront (IsWordOf coding table.now depth of) (octets.now ++ more) }
-    ensures incomplete { (n : ℕ) → IsErrOf result (errors.Incomplete n) → (more : List ℕ) →
-        length more < n →
-        NoFront (IsWordOf coding table.now depth of) (octets.now ++ more) }
+    ensures fails { Fails (IsWordOf coding table.now depth of) (EndsWithin coding octets.now)
+        octets.now tape.new.items refusal.new.octet result }
     ensures trailing { IsErrOf result errors.TrailingOctets →
         IsFollowed (IsWordOf coding table.now depth of) octets.now }
-    ensures emptied { OnErr result (tape.new.items ≡ []) }
-    ensures octet { refusal.new.octet ≤ length octets.now }
 {
     match decode(coding, table, of, depth, octets, tape, refusal) {
         Ok(rest) => {
@@ -153,17 +135,9 @@ pub fn decode_der<'a>(
     requires { is_sound table.now ≡ true }
     ensures ok { IfOk result (λ rest. Decodes (Word der table.now depth of) octets.now rest.now
         tape.new.items) }
-    ensures refused { IsErrOf result errors.Refused → NoFront (Word der table.now depth of)
-        octets.now }
-    ensures lasting { IsErrOf result errors.Refused → (IsCutIdentifier octets.now → ⊥) →
-        (more : List ℕ) →
-        NoFront (Word der table.now depth of) (octets.now ++ more) }
-    ensures incomplete { (n : ℕ) → IsErrOf result (errors.Incomplete n) → (more : List ℕ) →
-        length more < n →
-        NoFront (Word der table.now depth of) (octets.now ++ more) }
+    ensures fails { Fails (Word der table.now depth of) (IsCutIdentifier octets.now)
+        octets.now tape.new.items refusal.new.octet result }
     ensures never_trailing { IsErrOf result errors.TrailingOctets → ⊥ }
-    ensures emptied { OnErr result (tape.new.items ≡ []) }
-    ensures octet { refusal.new.octet ≤ length octets.now }
 {
     decode(Coding::Der, table, of, depth, octets, tape, refusal)
 }
@@ -183,17 +157,9 @@ pub fn decode_ber<'a>(
     requires { is_sound table.now ≡ true }
     ensures ok { IfOk result (λ rest.
         Decodes (Word (ber max) table.now depth of) octets.now rest.now tape.new.items) }
-    ensures refused { IsErrOf result errors.Refused → NoFront (Word (ber max) table.now depth of)
-        octets.now }
-    ensures lasting { IsErrOf result errors.Refused → (EndsInIdentifier max octets.now → ⊥) →
-        (more : List ℕ) →
-        NoFront (Word (ber max) table.now depth of) (octets.now ++ more) }
-    ensures incomplete { (n : ℕ) → IsErrOf result (errors.Incomplete n) → (more : List ℕ) →
-        length more < n →
-        NoFront (Word (ber max) table.now depth of) (octets.now ++ more) }
+    ensures fails { Fails (Word (ber max) table.now depth of) (EndsInIdentifier max octets.now)
+        octets.now tape.new.items refusal.new.octet result }
     ensures never_trailing { IsErrOf result errors.TrailingOctets → ⊥ }
-    ensures emptied { OnErr result (tape.new.items ≡ []) }
-    ensures octet { refusal.new.octet ≤ length octets.now }
 {
     decode(Coding::Ber(max), table, of, depth, octets, tape, refusal)
 }
@@ -211,18 +177,10 @@ pub fn decode_der_whole<'a>(
 ) -> Result<(), DecodeError>
     requires { is_sound table.now ≡ true }
     ensures ok { OnOk result (DecodesWhole (Word der table.now depth of) octets.now tape.new.items) }
-    ensures refused { IsErrOf result errors.Refused → NoFront (Word der table.now depth of)
-        octets.now }
-    ensures lasting { IsErrOf result errors.Refused → (IsCutIdentifier octets.now → ⊥) →
-        (more : List ℕ) →
-        NoFront (Word der table.now depth of) (octets.now ++ more) }
-    ensures incomplete { (n : ℕ) → IsErrOf result (errors.Incomplete n) → (more : List ℕ) →
-        length more < n →
-        NoFront (Word der table.now depth of) (octets.now ++ more) }
+    ensures fails { Fails (Word der table.now depth of) (IsCutIdentifier octets.now)
+        octets.now tape.new.items refusal.new.octet result }
     ensures trailing { IsErrOf result errors.TrailingOctets →
         IsFollowed (Word der table.now depth of) octets.now }
-    ensures emptied { OnErr result (tape.new.items ≡ []) }
-    ensures octet { refusal.new.octet ≤ length octets.now }
 {
     decode_whole(Coding::Der, table, of, depth, octets, tape, refusal)
 }
@@ -240,18 +198,10 @@ pub fn decode_ber_whole<'a>(
     requires { is_sound table.now ≡ true }
     ensures ok { OnOk result (DecodesWhole (Word (ber max) table.now depth of) octets.now
         tape.new.items) }
-    ensures refused { IsErrOf result errors.Refused → NoFront (Word (ber max) table.now depth of)
-        octets.now }
-    ensures lasting { IsErrOf result errors.Refused → (EndsInIdentifier max octets.now → ⊥) →
-        (more : List ℕ) →
-        NoFront (Word (ber max) table.now depth of) (octets.now ++ more) }
-    ensures incomplete { (n : ℕ) → IsErrOf result (errors.Incomplete n) → (more : List ℕ) →
-        length more < n →
-        NoFront (Word (ber max) table.now depth of) (octets.now ++ more) }
+    ensures fails { Fails (Word (ber max) table.now depth of) (EndsInIdentifier max octets.now)
+        octets.now tape.new.items refusal.new.octet result }
     ensures trailing { IsErrOf result errors.TrailingOctets →
         IsFollowed (Word (ber max) table.now depth of) octets.now }
-    ensures emptied { OnErr result (tape.new.items ≡ []) }
-    ensures octet { refusal.new.octet ≤ length octets.now }
 {
     decode_whole(Coding::Ber(max), table, of, depth, octets, tape, refusal)
 }

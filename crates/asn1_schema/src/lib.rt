@@ -6,6 +6,7 @@ mod any;
 mod bits;
 mod bounds;
 pub mod coding;
+mod counting;
 pub mod decode;
 mod elements;
 mod fault;

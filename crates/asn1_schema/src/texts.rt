@@ -3,9 +3,8 @@ ghost use Rattle.asn1_schema.specs.declared.fault.Fault.TheVariants as faults;
 ghost use Rattle.asn1_schema.specs.declared.schema.Kind.TheVariants as kinds;
 ghost use Rattle.std.specs.Prelude.{ℕ, List, ◌≡◌, false, IfSome, IsTrue, ◌↔◌, IsUtf8};
 ghost use Rattle.asn1_schema.specs.declared.schema.Node.{Node};
+ghost use Rattle.asn1_schema.specs.declared.schema.TextKind.TheVariants as texts;
 ghost use Rattle.asn1_schema.specs.Reading.{rules_of, parts_of, IsOfKind, Judges};
-ghost use Rattle.std.specs.Char.{is_ascii};
-ghost use Rattle.x690.specs.Sets.{AllIn, is_numeric, is_printable, is_visible};
 ghost use Rattle.asn1_schema.specs.Grammar.{IsText};
 
 use crate::coding::Coding;
@@ -13,54 +12,8 @@ use crate::elements::Head;
 use crate::fault::Fault;
 use crate::schema::TextKind;
 use crate::tape::Item;
-
-/// NumericString.
-fn are_numeric(content: &[u8]) -> bool
-    ensures { IsTrue result ↔ AllIn is_numeric content.now }
-{
-    for octet in content {
-        if !(octet.is_ascii_digit() || *octet == 0x20) {
-            return false;
-        }
-    }
-    true
-}
-
-/// PrintableString.
-fn are_printable(content: &[u8]) -> bool
-    ensures { IsTrue result ↔ AllIn is_printable content.now }
-{
-    for octet in content {
-        if !(octet.is_ascii_alphanumeric() || b" '()+,-./:=?".contains(octet)) {
-            return false;
-        }
-    }
-    true
-}
-
-/// IA5String.
-fn are_ascii(content: &[u8]) -> bool
-    ensures { IsTrue result ↔ AllIn is_ascii content.now }
-{
-    for octet in content {
-        if !(*octet < 128) {
-            return false;
-        }
-    }
-    true
-}
-
-/// VisibleString.
-fn are_visible(content: &[u8]) -> bool
-    ensures { IsTrue result ↔ AllIn is_visible content.now }
-{
-    for octet in content {
-        if !(*octet >= 0x20 && *octet <= 0x7f) {
-            return false;
-        }
-    }
-    true
-}
+use x690::characters::{Ucs4, Utf16, text_len};
+use x690::sets::{Ascii, Graphic, Numeric, Printable, all_in};
 
 /// UTF8String.
 fn are_utf8(content: &[u8]) -> bool
@@ -69,23 +22,37 @@ fn are_utf8(content: &[u8]) -> bool
     str::from_utf8(content).is_ok()
 }
 
-/// Whether the octets are characters of the type. The sets that are registers are not judged. Two types are not read yet.
-fn is_text(kind: TextKind, content: &[u8]) -> Option<bool>
-    ensures { IfSome result (λ yes. IsTrue yes ↔ IsText kind content.now) }
+/// BMPString (X.690 8.23.8).
+fn are_bmp(content: &[u8]) -> bool
+    ensures { IsTrue result ↔ IsText texts.Bmp content.now }
+{
+    text_len::<Utf16>(content).is_some()
+}
+
+/// UniversalString (X.690 8.23.7).
+fn are_universal(content: &[u8]) -> bool
+    ensures { IsTrue result ↔ IsText texts.Universal content.now }
+{
+    text_len::<Ucs4>(content).is_some()
+}
+
+/// Whether the octets are characters of the type. The sets that are registers are not judged.
+pub(crate) fn is_text(kind: TextKind, content: &[u8]) -> bool
+    ensures { IsTrue result ↔ IsText kind content.now }
 {
     match kind {
-        TextKind::Utf8 => Some(are_utf8(content)),
-        TextKind::Numeric => Some(are_numeric(content)),
-        TextKind::Printable => Some(are_printable(content)),
-        TextKind::Visible => Some(are_visible(content)),
-        TextKind::Universal => None,
-        TextKind::Bmp => None,
-        TextKind::Teletex => Some(true),
-        TextKind::Videotex => Some(true),
-        TextKind::Ia5 => Some(are_ascii(content)),
-        TextKind::Graphic => Some(true),
-        TextKind::General => Some(true),
-        TextKind::Descriptor => Some(true),
+        TextKind::Utf8 => are_utf8(content),
+        TextKind::Numeric => all_in::<Numeric>(content),
+        TextKind::Printable => all_in::<Printable>(content),
+        TextKind::Ia5 => all_in::<Ascii>(content),
+        TextKind::Visible => all_in::<Graphic>(content),
+        TextKind::Universal => are_universal(content),
+        TextKind::Bmp => are_bmp(content),
+        TextKind::Teletex => true,
+        TextKind::Videotex => true,
+        TextKind::Graphic => true,
+        TextKind::General => true,
+        TextKind::Descriptor => true,
     }
 }
 
@@ -113,13 +80,8 @@ pub(crate) fn text_item<'a>(
     if head.constructed {
         return Err(in_pieces(coding));
     }
-    match is_text(kind, content) {
-        None => Err(Fault::Unsupported),
-        Some(yes) => {
-            if !yes {
-                return Err(Fault::Refused);
-            }
-            Ok(Item::Text(kind, content))
-        }
+    if !is_text(kind, content) {
+        return Err(Fault::Refused);
     }
+    Ok(Item::Text(kind, content))
 }

@@ -4,12 +4,13 @@ use Rattle.asn1_schema.specs.declared.decode.DecodeError.TheVariants as errors
 use Rattle.asn1_schema.proofs.SameErrors.{same_error}
 use Rattle.asn1_schema.proofs.decode.decode_whole.Goals as goal
 
-pub returns-in-Err-clause-refused : goal.returns-in-Err-clause-refused
-returns-in-Err-clause-refused c = λ e. c.in-Err.ensures.refused (same_error (Bor (List ℕ)) c.in-Err.error errors.Refused e)
-
-pub returns-in-Err-clause-lasting : goal.returns-in-Err-clause-lasting
-returns-in-Err-clause-lasting c = λ e. c.in-Err.ensures.lasting (same_error (Bor (List ℕ)) c.in-Err.error errors.Refused e)
-
-pub returns-in-Err-clause-incomplete : goal.returns-in-Err-clause-incomplete
-returns-in-Err-clause-incomplete c = λ n e.
-    c.in-Err.ensures.incomplete n (same_error (Bor (List ℕ)) c.in-Err.error (errors.Incomplete n) e)
+pub returns-in-Err-clause-fails : goal.returns-in-Err-clause-fails
+returns-in-Err-clause-fails c =
+    let fails = c.in-Err.ensures.fails in
+    record {
+      refused = λ e. fails.refused (same_error (Bor (List ℕ)) c.in-Err.error errors.Refused e);
+      lasting = λ e. fails.lasting (same_error (Bor (List ℕ)) c.in-Err.error errors.Refused e);
+      incomplete = λ n e. fails.incomplete n (same_error (Bor (List ℕ)) c.in-Err.error (errors.Incomplete n) e);
+      emptied = fails.emptied;
+      within = fails.within;
+    }
