@@ -22,3 +22,4 @@ pub mod Decoded
 pub mod SameErrors
 pub mod Counts
 pub mod BitsTaken
+pub mod LargeNumbers

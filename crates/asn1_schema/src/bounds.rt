@@ -1,6 +1,8 @@
 //! Bounds of numbers and sizes.
-ghost use Rattle.std.specs.Prelude.{ℕ, ℤ, List, ◌++◌, ◌*◌, ◌-◌, ◌≡◌, ◌<◌, ◌≤◌, Some, length, IsTrue, pos};
+ghost use Rattle.std.specs.Prelude.{ℕ, ℤ, List, ◌++◌, ◌*◌, ◌-◌, ◌≡◌, ◌<◌, ◌≤◌, ◌↔◌, Some, length, get_or};
+ghost use Rattle.std.specs.Prelude.{IsTrue, IfSome, pos};
 ghost use Rattle.x690.specs.Digits.{twos_complement_value};
+ghost use Rattle.x690.specs.Signed.{IsSigned};
 ghost use Rattle.asn1_schema.specs.Grammar.{IsBetween};
 ghost use Rattle.asn1_schema.specs.Tape.{Mark, Kept, KeptRow, kept_row, mark, marks, tape_of};
 ghost use Rattle.asn1_schema.specs.Tape.{value_of, values_of};
@@ -39,13 +41,53 @@ fn number_within(n: i128, lower: Option<i128>, upper: Option<i128>) -> Result<()
     Err(Fault::Refused)
 }
 
-/// Judges an integer, if 16 octets hold it.
+/// 16 octets hold each number of the machine.
+pub(crate) fn is_held(n: i128)
+    ensures { (m : ℤ) → m ≡ n → IsSigned 16 m }
+{}
+
+/// So they hold a bound.
+fn are_held(bound: Option<i128>)
+    ensures { IfSome bound (λ n. IsSigned 16 n) }
+{
+    if let Some(n) = bound {
+        is_held(n);
+    }
+}
+
+/// Whether the first bit is set.
+fn is_negative(octets: &[u8]) -> bool
+    ensures { IsTrue result ↔ (128 ≤ get_or octets.now 0 0) }
+{
+    !octets.is_empty() && octets[0] >= 128
+}
+
+/// Judges an integer that 16 octets do not hold: it is below all bounds, or above them.
+fn large_within(octets: &[u8], lower: Option<i128>, upper: Option<i128>) -> Result<(), Fault>
+    requires { ¬ IsSigned 16 (twos_complement_value octets.now) }
+    ensures { JudgesBounds lower upper (Some (twos_complement_value octets.now)) result }
+{
+    are_held(lower);
+    are_held(upper);
+    if is_negative(octets) {
+        return match lower {
+            Some(_) => Err(Fault::Refused),
+            None => Ok(()),
+        };
+    }
+    match upper {
+        Some(_) => Err(Fault::Refused),
+        None => Ok(()),
+    }
+}
+
+/// Judges an integer of any size.
 fn integer_within(octets: &[u8], lower: Option<i128>, upper: Option<i128>) -> Result<(), Fault>
     ensures { JudgesBounds lower upper (Some (twos_complement_value octets.now)) result }
 {
     match signed_number(octets, 16) {
         Some(n) => number_within(n, lower, upper),
-        None => Err(Fault::Unsupported),
+        None => large_within(octets, lower, upper),
     }
 }
 

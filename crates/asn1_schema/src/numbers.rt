@@ -3,10 +3,12 @@ ghost use Rattle.asn1_schema.specs.declared.schema.Kind.TheVariants as kinds;
 ghost use Rattle.std.specs.Prelude.{ℕ, ℤ, List, ◌≡◌, Bool, IfSome, IfNone, IsTrue, Contains};
 ghost use Rattle.x690.specs.Integers.{IsIntegerContent};
 ghost use Rattle.x690.specs.Digits.{twos_complement_value};
+ghost use Rattle.x690.specs.Signed.{IsSigned};
 ghost use Rattle.asn1_schema.specs.declared.schema.Node.{Node};
 ghost use Rattle.asn1_schema.specs.Rules.{IsStrictTruth, IsTruth};
 ghost use Rattle.asn1_schema.specs.Reading.{rules_of, parts_of, IsOfKind, Judges, IsListed};
 
+use crate::bounds::is_held;
 use crate::coding::Coding;
 use crate::elements::{Head, is_at_end};
 use crate::fault::Fault;
@@ -119,6 +121,15 @@ fn is_listed_number(numbers: &[i128], n: i128) -> bool
     numbers.contains(&n)
 }
 
+/// 16 octets hold each number of a list.
+fn are_all_held(numbers: &[i128])
+    ensures { (m : ℤ) → Contains numbers.now m → IsSigned 16 m }
+{
+    for number in numbers {
+        is_held(*number);
+    }
+}
+
 /// A number that is listed.
 pub(crate) fn enumerated_item<'a>(
     numbers: &[i128],
@@ -138,7 +149,10 @@ pub(crate) fn enumerated_item<'a>(
         return Ok(Item::Enumerated(content));
     }
     match signed_number(content, 16) {
-        None => Err(Fault::Unsupported),
+        None => {
+            are_all_held(numbers);
+            Err(Fault::Refused)
+        }
         Some(n) => {
             if !is_listed_number(numbers, n) {
                 return Err(Fault::Refused);
