@@ -23,13 +23,19 @@ fn is_strict_time(kind: TimeKind, content: &[u8]) -> bool
     }
 }
 
-/// Whether the text is that of a time by these rules. By BER it is not supported.
+/// Whether the text is that of a time by these rules. By BER a text that is not strict is not judged.
 fn is_time(coding: Coding, kind: TimeKind, content: &[u8]) -> Option<bool>
     ensures { IfSome result (λ yes. IsTrue yes ↔ (rules_of coding).Time kind content.now) }
 {
+    let strict = is_strict_time(kind, content);
     match coding {
-        Coding::Der => Some(is_strict_time(kind, content)),
-        Coding::Ber(_) => None,
+        Coding::Der => Some(strict),
+        Coding::Ber(_) => {
+            if !strict {
+                return None;
+            }
+            Some(true)
+        }
     }
 }
 
