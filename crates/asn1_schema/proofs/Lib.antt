@@ -23,3 +23,4 @@ pub mod SameErrors
 pub mod Counts
 pub mod BitsTaken
 pub mod LargeNumbers
+pub mod NamedBits

@@ -74,7 +74,7 @@ zeros_low (suc u) (suc w) n l e =
     (sym (next_low u w n (omega (arith, l))) ∙ (e ∙ sym (next_zeros u))) in
     (even (n % 2) (omega arith) p.1, zeros_low u w (n / 2) (omega (arith, l)) p.0)
 
-bits_append : (xs ys : List ℕ) → bits_in (xs ++ ys) ≡ bits_in xs ++ bits_in ys
+pub bits_append : (xs ys : List ℕ) → bits_in (xs ++ ys) ≡ bits_in xs ++ bits_in ys
 bits_append [] ys = refl
 bits_append (x ∷ xs) ys = ap (λ (z : List Bool). digits_2 8 x ++ z) (bits_append xs ys) ∙
     sym (append_assoc (digits_2 8 x) (bits_in xs) (bits_in ys))
