@@ -24,3 +24,4 @@ pub mod Counts
 pub mod BitsTaken
 pub mod LargeNumbers
 pub mod NamedBits
+pub mod Cursors

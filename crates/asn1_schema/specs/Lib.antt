@@ -8,3 +8,4 @@ pub mod Decoding
 pub mod Pieces
 pub mod Bits
 pub mod Counting
+pub mod Cursor

@@ -7,6 +7,7 @@ mod bits;
 mod bounds;
 pub mod coding;
 mod counting;
+pub mod cursor;
 pub mod decode;
 mod elements;
 mod fault;

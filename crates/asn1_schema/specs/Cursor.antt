@@ -1,0 +1,30 @@
+-- Where the values of a tape end.
+use Rattle.std.specs.Prelude.{ℕ, ℤ, zero, suc, ◌+◌, ◌≡◌, List, [], ◌∷◌, Option, Some, None}
+use Rattle.x690.specs.Signed.{IsSigned}
+use Rattle.asn1_schema.specs.Tape.{Mark, leaf_mark, begin_mark, end_mark, absent_mark, arm_mark, arm_end_mark}
+use Rattle.asn1_schema.specs.Tape.{pieces_mark, pieces_end_mark, KeptRow, kept_none, kept_absent, kept_more, tape_of}
+
+-- how many marks the value at the front has
+abbrev pub marks_of_first : List Mark → ℕ
+marks_of_first [] = 0
+marks_of_first (arm_mark k ∷ ms) = 2 + marks_of_first ms
+marks_of_first (begin_mark n ∷ ms) = 2 + n
+marks_of_first (pieces_mark n ∷ ms) = 2 + n
+marks_of_first (leaf_mark l ∷ ms) = 1
+marks_of_first (end_mark n ∷ ms) = 1
+marks_of_first (absent_mark ∷ ms) = 1
+marks_of_first (arm_end_mark k ∷ ms) = 1
+marks_of_first (pieces_end_mark n ∷ ms) = 1
+
+-- the marks of the field at a place: its value, or that it is left out; and none behind the last one
+abbrev pub field_marks : KeptRow → ℕ → List Mark
+field_marks kept_none place = []
+field_marks (kept_absent ks) zero = absent_mark ∷ []
+field_marks (kept_absent ks) (suc place) = field_marks ks place
+field_marks (kept_more k ks) zero = tape_of k
+field_marks (kept_more k ks) (suc place) = field_marks ks place
+
+-- the number, or none where 16 octets do not hold it
+abbrev pub IsNumber : ℤ → Option ℤ → Type 0
+IsNumber n (Some m) = m ≡ n
+IsNumber n None = IsSigned 16 n → ⊥

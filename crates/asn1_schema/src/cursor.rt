@@ -1,0 +1,104 @@
+//! The values on a tape: where one ends, and what is in it. Each is skipped in one step.
+ghost use Rattle.std.specs.Prelude.{ℕ, ℤ, List, [], ◌++◌, ◌∷◌, ◌+◌, ◌≡◌, ◌≤◌, ◌^◌, Some, IfSome, IfNone};
+ghost use Rattle.asn1_schema.specs.Values.{integer, enumerated};
+ghost use Rattle.asn1_schema.specs.Tape.{Mark, Kept, KeptRow, mark, marks, tape_of, tapes_of};
+ghost use Rattle.asn1_schema.specs.Tape.{kept_row, kept_chosen, absent_mark, leaf_mark};
+ghost use Rattle.asn1_schema.specs.Cursor.{marks_of_first, field_marks, IsNumber};
+
+use crate::counting::inner_items;
+use crate::tape::Item;
+use x690::signed::signed_number;
+
+/// How many items a value has that begins with this one; none where a value of an arm follows.
+fn len_from(item: &Item<'_>) -> Option<u128>
+    ensures some { (ms : List Mark) → IfSome result
+        (λ n. marks_of_first (mark item.now ∷ ms) ≡ n) }
+    ensures few { IfSome result (λ n. n ≤ 2 ^ 65) }
+    ensures none { (ms : List Mark) → IfNone result
+        (marks_of_first (mark item.now ∷ ms) ≡ 2 + marks_of_first ms) }
+{
+    match item {
+        Item::Arm(_) => None,
+        Item::Begin(n) => Some(*n as u128 + 2),
+        Item::Pieces(n) => Some(*n as u128 + 2),
+        _ => Some(1),
+    }
+}
+
+/// How many items the value at the front has.
+fn first_len(items: &[Item<'_>]) -> u128
+    ensures { result ≡ marks_of_first (marks items.now) }
+{
+    let mut arms: u128 = 0;
+    for item in items {
+        match len_from(item) {
+            Some(n) => return 2 * arms + n,
+            None => arms += 1,
+        }
+    }
+    2 * arms
+}
+
+/// The items of the value at the front, and those that follow it. A field that is left out is `Absent` alone.
+pub fn split_value<'t, 'a>(items: &'t [Item<'a>]) -> (&'t [Item<'a>], &'t [Item<'a>])
+    ensures value { (kept : Kept) (rest : List Mark) → marks items.now ≡ tape_of kept ++ rest →
+        marks result.0.now ≡ tape_of kept }
+    ensures rest { (kept : Kept) (rest : List Mark) → marks items.now ≡ tape_of kept ++ rest →
+        marks result.1.now ≡ rest }
+    ensures absent { (rest : List Mark) → marks items.now ≡ absent_mark ∷ rest →
+        (marks result.0.now ≡ absent_mark ∷ []) × (marks result.1.now ≡ rest) }
+    ensures joined { items.now ≡ result.0.now ++ result.1.now }
+    ensures none { marks items.now ≡ [] → (marks result.0.now ≡ []) × (marks result.1.now ≡ []) }
+{
+    let len = first_len(items).min(items.len() as u128) as usize;
+    items.split_at(len)
+}
+
+/// The items in a value: of a row those of its fields or members, and of an arm those of its value.
+pub fn inner_values<'t, 'a>(value: &'t [Item<'a>]) -> &'t [Item<'a>]
+    ensures row { (kept : KeptRow) → marks value.now ≡ tape_of (kept_row kept) →
+        marks result.now ≡ tapes_of kept }
+    ensures arm { (arm : ℕ) (kept : Kept) → marks value.now ≡ tape_of (kept_chosen arm kept) →
+        marks result.now ≡ tape_of kept }
+{
+    if value.is_empty() {
+        return value;
+    }
+    inner_items(value, 0)
+}
+
+/// The items of the field at a place of a row: its value, or `Absent` alone where it is left out. There are none behind
+/// the last field.
+pub fn field_value<'t, 'a>(fields: &'t [Item<'a>], place: usize) -> &'t [Item<'a>]
+    ensures { (kept : KeptRow) → marks fields.now ≡ tapes_of kept →
+        marks result.now ≡ field_marks kept place }
+{
+    let mut start = 0;
+    for _ in 0..place {
+        start += split_value(&fields[start..]).0.len();
+    }
+    split_value(&fields[start..]).0
+}
+
+/// The arm that a value of a choice has.
+pub fn arm_of(value: &[Item<'_>]) -> Option<usize>
+    ensures { (arm : ℕ) (kept : Kept) → marks value.now ≡ tape_of (kept_chosen arm kept) →
+        result ≡ Some arm }
+{
+    match value.first() {
+        Some(Item::Arm(arm)) => Some(*arm),
+        _ => None,
+    }
+}
+
+/// The number that an integer or a listed number is, where 16 octets hold it.
+pub fn number_of(value: &[Item<'_>]) -> Option<i128>
+    ensures integer { (n : ℤ) → marks value.now ≡ leaf_mark (integer n) ∷ [] → IsNumber n result }
+    ensures listed { (n : ℤ) → marks value.now ≡ leaf_mark (enumerated n) ∷ [] → IsNumber n result }
+{
+    match value.first() {
+        Some(Item::Integer(octets)) => signed_number(octets, 16),
+        Some(Item::Enumerated(octets)) => signed_number(octets, 16),
+        _ => None,
+    }
+}
