@@ -8,6 +8,7 @@ pub mod heads;
 pub mod identifiers;
 pub mod objects;
 pub mod pem;
+pub mod standing;
 pub mod tags;
 pub mod texts;
 pub mod trees;
