@@ -3,6 +3,7 @@
 
 pub mod decimals;
 pub mod departures;
+mod elements;
 pub mod error;
 pub mod heads;
 pub mod identifiers;

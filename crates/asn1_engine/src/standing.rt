@@ -1,4 +1,5 @@
 //! What stands where an element departs.
+ghost use Rattle.std.specs.Prelude.{◌≡◌, take, drop};
 ghost use Rattle.asn1_engine.specs.Standing.{IsFront, Stands};
 
 use asn1_headers::der::element_by_der;
@@ -6,6 +7,18 @@ use std::fmt;
 
 /// As many octets are shown.
 const MOST_SHOWN: usize = 24;
+
+/// The octets from an offset on, or none where there are fewer.
+#[tactic(auto, using(std::proofs::lemmas::List::drop_all))]
+pub fn behind(octets: &[u8], offset: usize) -> &[u8]
+    ensures { result.now ≡ drop offset octets.now }
+{
+    if octets.len() < offset {
+        return &[];
+    }
+    let (_front, rest) = octets.split_at(offset);
+    rest
+}
 
 /// The octets of the element by DER that begins these, or all where none does.
 fn front(octets: &[u8]) -> &[u8]
@@ -28,18 +41,32 @@ pub struct Standing<'a> {
     is_cut: bool,
 }
 
+/// The first octets of these.
+#[tactic(auto, using(std::proofs::lemmas::List::take_all))]
+fn cut(octets: &[u8]) -> Standing<'_>
+    ensures { result.octets.now ≡ take 24 octets.now }
+{
+    if octets.len() <= MOST_SHOWN {
+        return Standing {
+            octets,
+            is_cut: false,
+        };
+    }
+    let (shown, _rest) = octets.split_at(MOST_SHOWN);
+    Standing {
+        octets: shown,
+        is_cut: true,
+    }
+}
+
 impl<'a> Standing<'a> {
     /// What stands at the offset: an element, or all octets behind where none is whole.
     pub fn at(octets: &'a [u8], offset: usize) -> Standing<'a>
         ensures { Stands 24 octets.entry.now offset result.octets.now }
     {
-        let behind = octets.get(offset..).unwrap_or(&[]);
-        let word = front(behind);
-        let (shown, rest) = word.split_at(word.len().min(MOST_SHOWN));
-        Standing {
-            octets: shown,
-            is_cut: !rest.is_empty(),
-        }
+        let rest = behind(octets, offset);
+        let word = front(rest);
+        cut(word)
     }
 }
 

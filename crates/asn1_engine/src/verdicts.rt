@@ -4,7 +4,7 @@ ghost use Rattle.asn1_engine.specs.Findings.{TellsStrict};
 
 use crate::departures::Rule;
 use crate::error::{Finding, RunError};
-use crate::standing::Standing;
+use crate::standing::{Standing, behind};
 use asn1_headers::header::reading::header_by_der;
 use asn1_strict::requirement::requirement_of;
 use asn1_strict::rules::departure_of;
@@ -60,7 +60,7 @@ fn departure_of_header(octets: &[u8]) -> Option<Requirement> {
 
 /// What DER asks of an element and is not met: of its header, or else of its tag.
 fn departure_of_line(octets: &[u8], line: &Line<'_>) -> Option<Requirement> {
-    if let Some(requirement) = departure_of_header(octets.get(line.offset..).unwrap_or(&[])) {
+    if let Some(requirement) = departure_of_header(behind(octets, line.offset)) {
         return Some(requirement);
     }
     departure_of(
