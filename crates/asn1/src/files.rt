@@ -1,8 +1,10 @@
 //! Files, and the octets that they hold.
+ghost use Rattle.std.specs.Prelude.{◌≤◌, IfOk, length};
 
 use asn1_engine::pem::{PemError, blocks, is_pem};
 use base64::DecodeAllocError;
 use base64::engine::general_purpose::STANDARD;
+use hex::FromHexError;
 use std::alloc::{AllocError, AllocFailed, Global};
 use std::io::Read;
 use std::rt::Files;
@@ -99,7 +101,9 @@ pub fn read<R: Files + Input + AllocGlobal>(
     rt: &R,
     path: &str,
     most: u64,
-) -> Result<Vec<u8>, FileError> {
+) -> Result<Vec<u8>, FileError>
+    ensures { IfOk result (λ octets. length octets.items ≤ most) }
+{
     let mut octets = Vec::new(rt.alloc());
     let limit = most.saturating_add(1);
     if path == "-" {
@@ -129,6 +133,7 @@ fn of_hexadecimal(alloc: Global, text: &[u8]) -> Result<Vec<u8>, FileError> {
     let dense = without_space(alloc, text)?;
     match hex::decode(alloc, dense.as_slice()) {
         Ok(octets) => Ok(octets),
+        Err(FromHexError::OutOfMemory) => Err(FileError::OutOfMemory),
         Err(_) => Err(FileError::NoHexadecimal),
     }
 }

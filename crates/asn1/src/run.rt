@@ -2,43 +2,13 @@
 
 use crate::files::{Document, FileError, documents, read};
 use crate::words::{Call, Task, asked, command};
+use asn1_engine::outcome::{FAILED, Outcome};
 use asn1_engine::{Finding, RunError, check, check_all, dump, dump_at};
 use std::alloc::Global;
 use std::io::{BufWriter, Write};
 use std::process::ExitCode;
 use std::rt::{Env, Files};
 use std::{env, io};
-
-/// The status of a wrong call, of a file that can't be read, and of an output that fails.
-const FAILED: u8 = 2;
-
-/// How a file came out.
-#[derive(Debug, Clone, Copy, PartialEq, Eq)]
-enum Outcome {
-    /// It was read, and this was found.
-    Found(Finding),
-    /// It can't be read.
-    Unreadable,
-}
-
-impl Outcome {
-    /// The worse of both.
-    fn and(self, other: Outcome) -> Outcome {
-        match (self, other) {
-            (Outcome::Found(one), Outcome::Found(another)) => Outcome::Found(one.and(another)),
-            _ => Outcome::Unreadable,
-        }
-    }
-
-    /// The exit status.
-    fn status(self) -> u8 {
-        match self {
-            Outcome::Found(Finding::Holds) => 0,
-            Outcome::Found(Finding::Refused) => 1,
-            Outcome::Unreadable => FAILED,
-        }
-    }
-}
 
 /// Does the task with one document, with its name above the tree where that is not the only one.
 fn answer<W: Write>(
@@ -109,7 +79,7 @@ fn answer_files<R: Files + Input + Print + Eprint + AllocGlobal>(
     call: Call,
     paths: &[&str],
 ) -> Result<Outcome, RunError> {
-    let mut out = BufWriter::new(rt.alloc(), io::writer(rt))?;
+    let mut out = BufWriter::new(rt.alloc(), io::writer(rt)).map_err(|_| RunError::OutOfMemory)?;
     let mut outcome = Outcome::Found(Finding::Holds);
     for path in paths {
         outcome = outcome.and(answer_file(rt, call, path, paths.len() > 1, &mut out)?);

@@ -123,7 +123,7 @@ pub fn command<'a>(alloc: Global) -> Result<Command<'a>, AllocError> {
         .version("0.1")
         .about("Shows what is in files of ASN.1")
         .after_help(
-            "Example: asn1 dump certificate.pem\n\nStatuses: 0; 1 for octets that are refused; 2 for a wrong call, or for a file or an output that fails",
+            "Example: asn1 dump certificate.pem\n\nStatus: 0, or 1 for refused octets, or 2 for any other failure",
         )
         .subcommand_required(true)
         .arg_required_else_help(true)

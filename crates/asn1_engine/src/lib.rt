@@ -8,6 +8,7 @@ pub mod error;
 pub mod heads;
 pub mod identifiers;
 pub mod objects;
+pub mod outcome;
 pub mod pem;
 pub mod standing;
 pub mod tags;

@@ -160,7 +160,7 @@ fn dump_part<W: Write>(
     options: &Options,
     out: &mut W,
 ) -> Result<Finding, RunError>
-    ensures { IfOk result (FindsElements part.octets.now) }
+    ensures { IfOk result (FindsElements part.entry.octets.now) }
 {
     let mut walk = Walk::new(alloc, part.octets);
     loop {
