@@ -1,3 +1,4 @@
 pub mod Findings
 pub mod Outcomes
 pub mod Standing
+pub mod Visible
