@@ -23,7 +23,7 @@ CONSTRUCTED = {8, 11, 16, 17, 29}
 PRINTABLE = set(b"ABCDEFGHIJKLMNOPQRSTUVWXYZabcdefghijklmnopqrstuvwxyz0123456789 '()+,-./:=?")
 MOMENT = rb"(0[1-9]|1[0-2])(0[1-9]|[12]\d|3[01])([01]\d|2[0-3])[0-5]\d[0-5]\d"
 UTC = re.compile(rb"\d\d" + MOMENT + rb"Z")
-GENERALIZED = re.compile(rb"\d{4}" + MOMENT + rb"(\.\d{0,2}[1-9])?Z")
+GENERALIZED = re.compile(rb"\d{4}" + MOMENT + rb"(\.\d*[1-9])?Z")
 
 
 class Departs(Exception):
@@ -117,7 +117,7 @@ RULES = {
     5: ("8.8.2", lambda it: not it), 6: ("8.19.2", are_arcs), 13: ("8.19.2", are_arcs),
     12: ("8.23", lambda it: has_text(it, "utf-8")), 17: ("10.3, 11.6", ascends),
     18: ("8.23", lambda it: set(it) <= set(b"0123456789 ")), 19: ("8.23", lambda it: set(it) <= PRINTABLE),
-    22: ("8.23", lambda it: has_text(it, "ascii")), 26: ("8.23", lambda it: all(32 <= it <= 127 for it in it)),
+    22: ("8.23", lambda it: has_text(it, "ascii")), 26: ("8.23", lambda it: all(32 <= it <= 126 for it in it)),
     23: ("11.8", UTC.fullmatch), 24: ("11.7", GENERALIZED.fullmatch),
     28: ("8.23", lambda it: len(it) % 4 == 0), 30: ("8.23", lambda it: len(it) % 2 == 0),
 }
