@@ -1,5 +1,6 @@
 //! Refusals and departures from strict DER in words.
 
+use crate::standing::Standing;
 use asn1_headers::error::{Err, Error, Needed};
 use asn1_strict::Requirement;
 use std::fmt;
@@ -34,14 +35,16 @@ impl fmt::Display for Refusal {
     }
 }
 
-/// A requirement in words.
+/// A requirement in words, and what stands where it is not met.
 #[derive(Debug, Clone, Copy)]
-pub struct Rule {
+pub struct Rule<'a> {
     /// What was not met.
     pub requirement: Requirement,
+    /// What stands there.
+    pub standing: Standing<'a>,
 }
 
-impl Rule {
+impl Rule<'_> {
     /// The section of X.690.
     fn section(&self) -> &'static str {
         match self.requirement {
@@ -130,11 +133,15 @@ impl Rule {
     }
 }
 
-impl fmt::Display for Rule {
+impl fmt::Display for Rule<'_> {
     fn fmt<W: fmt::Write>(&self, f: &mut fmt::Formatter<W>) -> fmt::Result {
         let section = self.section();
         let wrong = self.wrong();
         let right = self.right();
-        write!(f, "{wrong} (X.690 {section}); right is: {right}")
+        let standing = self.standing;
+        write!(
+            f,
+            "{wrong} (X.690 {section}); there stands: {standing}; right is: {right}"
+        )
     }
 }

@@ -1,5 +1,6 @@
 //! How a command ends.
 ghost use Rattle.std.specs.Prelude.{◌≡◌};
+ghost use Rattle.asn1_engine.specs.Findings.{both};
 ghost use Rattle.asn1_engine.specs.declared.error.RunError.TheVariants.{OutOfMemory};
 
 use std::alloc::{AllocError, AllocFailed};
@@ -16,7 +17,9 @@ pub enum Finding {
 
 impl Finding {
     /// Refused where either is.
-    pub fn and(self, other: Finding) -> Finding {
+    pub fn and(self, other: Finding) -> Finding
+        ensures { result ≡ both self other }
+    {
         match self {
             Finding::Holds => other,
             Finding::Refused => Finding::Refused,

@@ -9,6 +9,17 @@ use std::fmt;
 /// Elements in more elements than these are not set further in, and tell their depth.
 pub const DEEPEST_INDENT: usize = 40;
 
+/// As many spaces as an element is set in at most.
+const SPACES: &str =
+    "                                                                                ";
+
+/// The spaces by which an element of this depth is set in, two for each element around it.
+fn indent(depth: usize) -> &'static str {
+    SPACES
+        .get(..2 * depth.min(DEEPEST_INDENT))
+        .unwrap_or(SPACES)
+}
+
 /// The front of the line: the offset, the counts of header and contents octets, the depth by how far the tag is set in,
 /// the tag, and the form where it is not the one that the type mostly has.
 #[derive(Debug, Clone, Copy)]
@@ -43,9 +54,8 @@ impl fmt::Display for Head<'_> {
             Length::Indefinite => write!(f, "{offset:>7} {header_len:>2}+indefinite ")?,
         }
         let depth = self.line.depth;
-        for _ in 0..depth.min(DEEPEST_INDENT) {
-            write!(f, "  ")?;
-        }
+        let spaces = indent(depth);
+        write!(f, "{spaces}")?;
         if depth > DEEPEST_INDENT {
             write!(f, "(in {depth}) ")?;
         }

@@ -3,11 +3,14 @@
 
 pub mod decimals;
 pub mod departures;
+mod elements;
 pub mod error;
 pub mod heads;
 pub mod identifiers;
 pub mod objects;
+pub mod outcome;
 pub mod pem;
+pub mod standing;
 pub mod tags;
 pub mod texts;
 pub mod trees;

@@ -60,3 +60,15 @@ pub fn object(
     out.end_object()?;
     Ok(out.into_inner())
 }
+
+/// The object that tells at which offset no element begins, and why.
+pub fn refusal_object(alloc: Global, offset: usize, why: &str) -> Result<Vec<u8>, AllocError> {
+    let mut out = Writer::new(Vec::new(alloc));
+    out.begin_object()?;
+    out.key("offset")?;
+    out.u64(offset as u64)?;
+    out.key("refused")?;
+    out.string(why)?;
+    out.end_object()?;
+    Ok(out.into_inner())
+}

@@ -1,6 +1,8 @@
 //! Blocks of PEM: base64 between a line of BEGIN and one of END, with any text around (RFC 7468).
+ghost use Rattle.std.specs.Prelude.{◌≡◌, true, IfOk};
+ghost use Rattle.asn1_engine.specs.Findings.{BreaksOff};
 
-use asn1_walk::{Step, Walk};
+use crate::elements::are_elements;
 use base64::DecodeAllocError;
 use base64::engine::general_purpose::STANDARD;
 use std::alloc::{AllocError, AllocFailed, Global};
@@ -75,21 +77,10 @@ fn begin_label(line: &[u8]) -> Option<&str> {
     label_of(line, b"-----BEGIN ")
 }
 
-/// Whether the octets are elements by BER, one after the other, and no more.
-fn are_elements(alloc: Global, octets: &[u8]) -> Result<bool, AllocError> {
-    let mut walk = Walk::new(alloc, octets);
-    loop {
-        match walk.step()? {
-            Step::Line(_) => {}
-            Step::Closed => {}
-            Step::End => return Ok(true),
-            Step::Refused(_) => return Ok(false),
-        }
-    }
-}
-
 /// Whether the octets are taken for PEM: a line is one of BEGIN, and they are no elements as they stand.
-pub fn is_pem(alloc: Global, octets: &[u8]) -> Result<bool, AllocError> {
+pub fn is_pem(alloc: Global, octets: &[u8]) -> Result<bool, AllocError>
+    ensures { IfOk result (λ it. it ≡ true → BreaksOff octets.now) }
+{
     if !has_begin(octets) {
         return Ok(false);
     }

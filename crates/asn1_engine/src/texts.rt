@@ -1,4 +1,6 @@
 //! Texts of a file as they may reach a terminal: what is no visible character is escaped.
+ghost use Rattle.std.specs.Prelude.{◌≡◌, true};
+ghost use Rattle.asn1_engine.specs.Visible.{MayBeShown};
 
 use std::fmt;
 use x690::characters::{CharacterCode, Ucs4, Utf16};
@@ -29,7 +31,9 @@ pub struct Quoted<'a> {
 
 /// Whether a character may reach a terminal: no control character, none that turns the direction of writing, none that
 /// is not seen.
-fn is_visible(character: char) -> bool {
+fn is_visible(character: char) -> bool
+    ensures { result ≡ true → MayBeShown character }
+{
     let code = character as u32;
     !matches!(
         code,

@@ -1,12 +1,17 @@
 //! The tree of the elements of octets, a line an element.
+ghost use Rattle.std.specs.Prelude.{◌≡◌, ◌≤◌, ◌++◌, ℕ, List, length, true, IfOk, IfSome};
+ghost use Rattle.asn1_engine.specs.Findings.{AreElements, FindsElements, FindsAt};
 
 use crate::departures::Refusal;
+use crate::elements::are_elements;
 use crate::error::{Finding, RunError};
 use crate::heads::Head;
-use crate::objects::object;
+use crate::objects::{object, refusal_object};
+use crate::standing::behind;
 use crate::tags::TagName;
 use crate::values::Value;
 use asn1_headers::class::Class;
+use asn1_headers::header::reading::header_by_ber;
 use asn1_walk::{Line, Step, Walk};
 use std::alloc::{AllocError, Global};
 use std::io::Write;
@@ -48,34 +53,31 @@ impl Part<'_> {
     }
 }
 
-/// Whether the form of a universal tag is one that its type has.
-fn has_usual_form(line: &Line<'_>) -> bool {
-    line.class == Class::Universal
-        && line.number != 0
-        && line.constructed == matches!(line.number, 8 | 11 | 16 | 17 | 29)
+/// Whether the octets begin with a header of a universal tag, in a form that its type has.
+fn begin_as_usual(octets: &[u8]) -> bool {
+    let Ok((_rest, header)) = header_by_ber(octets) else {
+        return false;
+    };
+    let number = header.tag().0;
+    header.class() == Class::Universal
+        && number != 0
+        && header.constructed() == matches!(number, 8 | 11 | 16 | 17 | 29)
 }
 
 /// Whether octets are elements by BER and no more, an element at least, the first of which has a universal tag.
-fn hold_elements(alloc: Global, octets: &[u8]) -> Result<bool, AllocError> {
-    let mut walk = Walk::new(alloc, octets);
-    let mut first = true;
-    loop {
-        match walk.step()? {
-            Step::Line(line) => {
-                if first && !has_usual_form(&line) {
-                    return Ok(false);
-                }
-                first = false;
-            }
-            Step::Closed => {}
-            Step::End => return Ok(!first),
-            Step::Refused(_) => return Ok(false),
-        }
+fn hold_elements(alloc: Global, octets: &[u8]) -> Result<bool, AllocError>
+    ensures { IfOk result (λ it. it ≡ true → AreElements octets.now) }
+{
+    if !begin_as_usual(octets) {
+        return Ok(false);
     }
+    are_elements(alloc, octets)
 }
 
 /// The contents of a string that is shown by the elements that it holds.
-fn inner_part<'a>(alloc: Global, line: &Line<'a>) -> Result<Option<Part<'a>>, AllocError> {
+fn inner_part<'a>(alloc: Global, line: &Line<'a>) -> Result<Option<Part<'a>>, AllocError>
+    ensures { IfOk result (λ found. IfSome found (λ part. AreElements part.octets.now)) }
+{
     if line.constructed || line.class != Class::Universal {
         return Ok(None);
     }
@@ -132,6 +134,24 @@ fn write_line<W: Write>(
     Ok(())
 }
 
+/// Writes that no element begins at an offset, and why.
+fn write_refusal<W: Write>(
+    alloc: Global,
+    offset: usize,
+    why: &str,
+    options: &Options,
+    out: &mut W,
+) -> Result<(), RunError> {
+    if options.json {
+        let object = refusal_object(alloc, offset, why)?;
+        out.write_all(object.as_slice())?;
+        out.write_all(b"\n")?;
+    } else {
+        writeln!(out, "{offset:>7} no element: {why}")?;
+    }
+    Ok(())
+}
+
 /// Writes the lines of the elements of a part, and of the elements in so many strings within strings.
 fn dump_part<W: Write>(
     alloc: Global,
@@ -139,7 +159,9 @@ fn dump_part<W: Write>(
     strings: u8,
     options: &Options,
     out: &mut W,
-) -> Result<Finding, RunError> {
+) -> Result<Finding, RunError>
+    ensures { IfOk result (FindsElements part.entry.octets.now) }
+{
     let mut walk = Walk::new(alloc, part.octets);
     loop {
         match walk.step()? {
@@ -161,8 +183,8 @@ fn dump_part<W: Write>(
             Step::End => return Ok(Finding::Holds),
             Step::Refused(refusal) => {
                 let offset = part.offset.saturating_add(walk.offset());
-                let why = Refusal { refusal };
-                writeln!(out, "{offset:>7} no element: {why}")?;
+                let why = format!(in alloc; "{}", Refusal { refusal })?;
+                write_refusal(alloc, offset, why.as_str(), options, out)?;
                 return Ok(Finding::Refused);
             }
         }
@@ -176,7 +198,9 @@ pub fn dump<W: Write>(
     octets: &[u8],
     options: &Options,
     out: &mut W,
-) -> Result<Finding, RunError> {
+) -> Result<Finding, RunError>
+    ensures { IfOk result (FindsElements octets.now) }
+{
     let part = Part {
         octets,
         offset: 0,
@@ -186,17 +210,30 @@ pub fn dump<W: Write>(
 }
 
 /// How many octets the first element has, or all where none ends before.
-fn first_len(alloc: Global, octets: &[u8]) -> Result<usize, AllocError> {
+fn first_len(alloc: Global, octets: &[u8]) -> Result<usize, AllocError>
+    ensures { IfOk result (λ len. len ≤ length octets.now) }
+{
     let mut walk = Walk::new(alloc, octets);
     let mut begun = false;
     loop {
         match walk.step()? {
-            Step::Line(line) if begun && line.depth == 0 => return Ok(line.offset),
+            Step::Line(line) if begun && line.depth == 0 => {
+                return Ok(line.offset.min(octets.len()));
+            }
             Step::Line(_) => begun = true,
             Step::Closed => {}
             Step::End | Step::Refused(_) => return Ok(octets.len()),
         }
     }
+}
+
+/// The octets of the first element, or all where none ends before.
+fn first(alloc: Global, octets: &[u8]) -> Result<&[u8], AllocError>
+    ensures { IfOk result (λ part. (rest : List ℕ) × (octets.now ≡ part.now ++ rest)) }
+{
+    let len = first_len(alloc, octets)?;
+    let (part, _rest) = octets.split_at(len);
+    Ok(part)
 }
 
 /// Writes the lines of the element that begins at an offset, as `dump` does.
@@ -206,17 +243,18 @@ pub fn dump_at<W: Write>(
     offset: usize,
     options: &Options,
     out: &mut W,
-) -> Result<Finding, RunError> {
-    let behind = octets.get(offset..).unwrap_or(&[]);
-    let len = first_len(alloc, behind)?;
+) -> Result<Finding, RunError>
+    ensures { IfOk result (FindsAt octets.now offset) }
+{
+    let rest = behind(octets, offset);
+    if rest.is_empty() {
+        write_refusal(alloc, offset, "the octets end before", options, out)?;
+        return Ok(Finding::Refused);
+    }
     let part = Part {
-        octets: behind.get(..len).unwrap_or(behind),
+        octets: first(alloc, rest)?,
         offset,
         depth: 0,
     };
-    if part.octets.is_empty() {
-        writeln!(out, "{offset:>7} no element: the octets end before")?;
-        return Ok(Finding::Refused);
-    }
     dump_part(alloc, part, MOST_STRINGS, options, out)
 }

@@ -4,6 +4,7 @@ use crate::decimals::{Decimal, MOST_DECIMAL};
 use crate::identifiers::Arcs;
 use crate::texts::{Coding, Quoted};
 use asn1_headers::class::Class;
+use asn1_names::name_of;
 use asn1_walk::Line;
 use std::fmt;
 
@@ -18,6 +19,9 @@ pub struct Octets<'a> {
 
 impl fmt::Display for Octets<'_> {
     fn fmt<W: fmt::Write>(&self, f: &mut fmt::Formatter<W>) -> fmt::Result {
+        if self.octets.is_empty() {
+            return write!(f, "(empty)");
+        }
         let most = self.width / 2;
         for octet in self.octets.iter().take(most) {
             write!(f, "{octet:02x}")?;
@@ -93,7 +97,13 @@ impl Value<'_> {
         let Some(arcs) = Arcs::of(relative, self.line.content) else {
             return self.write_octets(f);
         };
-        write!(f, " {arcs}")
+        if relative {
+            return write!(f, " {arcs}");
+        }
+        match name_of(self.line.content) {
+            Some(name) => write!(f, " {arcs} ({name})"),
+            None => write!(f, " {arcs}"),
+        }
     }
 
     /// A string or a time, between quotation marks.

@@ -1,7 +1,10 @@
 //! Whether octets are strict DER, in a line.
+ghost use Rattle.std.specs.Prelude.{IfOk};
+ghost use Rattle.asn1_engine.specs.Findings.{TellsStrict};
 
 use crate::departures::Rule;
 use crate::error::{Finding, RunError};
+use crate::standing::{Standing, behind};
 use asn1_headers::header::reading::header_by_der;
 use asn1_strict::requirement::requirement_of;
 use asn1_strict::rules::departure_of;
@@ -16,28 +19,32 @@ pub fn check<W: Write>(
     name: &str,
     octets: &[u8],
     out: &mut W,
-) -> Result<Finding, RunError> {
+) -> Result<Finding, RunError>
+    ensures { IfOk result (TellsStrict octets.now) }
+{
     match departure_of_der(alloc, octets)? {
         None => {
             writeln!(out, "{name}: strict DER")?;
             Ok(Finding::Holds)
         }
         Some(departure) => {
-            write_departure(name, departure, out)?;
+            write_departure(name, octets, departure, out)?;
             Ok(Finding::Refused)
         }
     }
 }
 
-/// Writes the line of a departure.
+/// Writes the line of a departure of these octets.
 fn write_departure<W: Write>(
     name: &str,
+    octets: &[u8],
     departure: Departure,
     out: &mut W,
 ) -> Result<(), RunError> {
     let offset = departure.offset;
     let rule = Rule {
         requirement: departure.requirement,
+        standing: Standing::at(octets, offset),
     };
     writeln!(out, "{name}: octet {offset}: {rule}")?;
     Ok(())
@@ -53,7 +60,7 @@ fn departure_of_header(octets: &[u8]) -> Option<Requirement> {
 
 /// What DER asks of an element and is not met: of its header, or else of its tag.
 fn departure_of_line(octets: &[u8], line: &Line<'_>) -> Option<Requirement> {
-    if let Some(requirement) = departure_of_header(octets.get(line.offset..).unwrap_or(&[])) {
+    if let Some(requirement) = departure_of_header(behind(octets, line.offset)) {
         return Some(requirement);
     }
     departure_of(
@@ -64,20 +71,22 @@ fn departure_of_line(octets: &[u8], line: &Line<'_>) -> Option<Requirement> {
     )
 }
 
-/// Writes a line for each element, by BER, that has not what DER asks of it alone, and for the first octet that begins no
-/// element; or that the octets are strict DER. Where the first of these lines stands is exact as in `check`, and the
-/// others are not.
+/// Writes a line for each element, by BER, that has not what DER asks of it alone, and for the first octet that begins
+/// no element; or that the octets are strict DER. The first of these lines is exact as that of `check`, and the others
+/// are not.
 pub fn check_all<W: Write>(
     alloc: Global,
     name: &str,
     octets: &[u8],
     out: &mut W,
-) -> Result<Finding, RunError> {
+) -> Result<Finding, RunError>
+    ensures { IfOk result (TellsStrict octets.now) }
+{
     let Some(first) = departure_of_der(alloc, octets)? else {
         writeln!(out, "{name}: strict DER")?;
         return Ok(Finding::Holds);
     };
-    write_departure(name, first, out)?;
+    write_departure(name, octets, first, out)?;
     let mut walk = Walk::new(alloc, octets);
     loop {
         match walk.step()? {
@@ -86,6 +95,7 @@ pub fn check_all<W: Write>(
                     let offset = line.offset;
                     write_departure(
                         name,
+                        octets,
                         Departure {
                             offset,
                             requirement,
@@ -102,6 +112,7 @@ pub fn check_all<W: Write>(
                     let requirement = requirement_of(&refusal);
                     write_departure(
                         name,
+                        octets,
                         Departure {
                             offset,
                             requirement,

@@ -1,0 +1,12 @@
+//! What is in a file, and whether it is strict DER.
+#![tactic(auto)]
+
+mod files;
+mod run;
+mod words;
+
+use std::process::ExitCode;
+
+fn main(rt: HostRuntime) -> ExitCode {
+    run::status(&rt)
+}

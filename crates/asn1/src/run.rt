@@ -1,0 +1,120 @@
+//! A call of the program.
+
+use crate::files::{Document, FileError, documents, read};
+use crate::words::{Call, Task, asked, command};
+use asn1_engine::outcome::{FAILED, Outcome};
+use asn1_engine::{Finding, RunError, check, check_all, dump, dump_at};
+use std::alloc::Global;
+use std::io::{BufWriter, Write};
+use std::process::ExitCode;
+use std::rt::{Env, Files};
+use std::{env, io};
+
+/// Does the task with one document, with its name above the tree where that is not the only one.
+fn answer<W: Write>(
+    alloc: Global,
+    task: Task,
+    document: &Document,
+    titled: bool,
+    out: &mut W,
+) -> Result<Finding, RunError> {
+    let name = document.name.as_str();
+    let octets = document.octets.as_slice();
+    match task {
+        Task::Check(false) => check(alloc, name, octets, out),
+        Task::Check(true) => check_all(alloc, name, octets, out),
+        Task::Dump(options, at) => {
+            if titled && !options.json {
+                writeln!(out, "{name}")?;
+            }
+            match at {
+                None => dump(alloc, octets, &options, out),
+                Some(offset) => dump_at(alloc, octets, offset, &options, out),
+            }
+        }
+    }
+}
+
+/// The documents of a file.
+fn open<R: Files + Input + AllocGlobal>(
+    rt: &R,
+    call: Call,
+    path: &str,
+) -> Result<Vec<Document>, FileError> {
+    let octets = read(rt, path, call.most)?;
+    documents(rt.alloc(), path, call.form, octets)
+}
+
+/// Does the task with each document of a file. A file that has none is told on standard error.
+fn answer_file<R: Files + Input + Eprint + AllocGlobal, W: Write>(
+    rt: &R,
+    call: Call,
+    path: &str,
+    titled: bool,
+    out: &mut W,
+) -> Result<Outcome, RunError> {
+    let found = match open(rt, call, path) {
+        Ok(found) => found,
+        Err(error) => {
+            let outcome = match &error {
+                FileError::Unreadable(_) | FileError::TooLong(_) => Outcome::Unreadable,
+                FileError::OutOfMemory => return Err(RunError::OutOfMemory),
+                _ => Outcome::Found(Finding::Refused),
+            };
+            let _ = eprintln!(rt; "asn1: {path}: {error}");
+            return Ok(outcome);
+        }
+    };
+    let titled = titled || found.len() > 1;
+    let mut finding = Finding::Holds;
+    for document in &found {
+        finding = finding.and(answer(rt.alloc(), call.task, document, titled, out)?);
+    }
+    Ok(Outcome::Found(finding))
+}
+
+/// Does the task with each file, in the order of the words.
+fn answer_files<R: Files + Input + Print + Eprint + AllocGlobal>(
+    rt: &R,
+    call: Call,
+    paths: &[&str],
+) -> Result<Outcome, RunError> {
+    let mut out = BufWriter::new(rt.alloc(), io::writer(rt)).map_err(|_| RunError::OutOfMemory)?;
+    let mut outcome = Outcome::Found(Finding::Holds);
+    for path in paths {
+        outcome = outcome.and(answer_file(rt, call, path, paths.len() > 1, &mut out)?);
+    }
+    out.flush()?;
+    Ok(outcome)
+}
+
+/// Runs a call.
+fn run<R: Files + Env + Input + Print + Eprint + AllocGlobal>(rt: &R) -> anyhow::Result<u8> {
+    let alloc = rt.alloc();
+    let words: Vec<String> = env::args(rt)?.collect(alloc)?;
+    let matches = match command(alloc)?.try_get_matches_from(words.as_slice()) {
+        Ok(matches) => matches,
+        Err(error) => {
+            error.print(rt)?;
+            return Ok(if error.exit_code() == 0 { 0 } else { FAILED });
+        }
+    };
+    let Some((name, inner)) = matches.subcommand() else {
+        return Ok(FAILED);
+    };
+    let Some(paths) = inner.get_strs("file") else {
+        return Ok(FAILED);
+    };
+    Ok(answer_files(rt, asked(name, inner), paths)?.status())
+}
+
+/// The exit status of a call: 0, 1 for octets that are refused, or 2. A failure has one line on standard error.
+pub fn status<R: Files + Env + Input + Print + Eprint + AllocGlobal>(rt: &R) -> ExitCode {
+    match run(rt) {
+        Ok(status) => ExitCode::from(status),
+        Err(error) => {
+            let _ = eprintln!(rt; "asn1: {error}");
+            ExitCode::from(FAILED)
+        }
+    }
+}

@@ -1,0 +1,162 @@
+//! The words of a call.
+
+use crate::files::Form;
+use asn1_engine::Options;
+use clap::{Arg, ArgAction, ArgMatches, Command, value_parser};
+use std::alloc::{AllocError, Global};
+
+/// As many octets of a file are read where the call says nothing else: 1 GiB.
+const MOST_OCTETS: u64 = 0x4000_0000;
+
+/// As many columns a value has where the call says nothing else.
+const WIDTH: u64 = 64;
+
+/// What is asked of each file.
+#[derive(Debug, Clone, Copy)]
+pub enum Task {
+    /// The tree of the elements, from an offset on. With an offset it is that of the element there alone.
+    Dump(Options, Option<usize>),
+    /// Whether the octets are strict DER; with every departure where that is asked.
+    Check(bool),
+}
+
+/// What is asked.
+#[derive(Debug, Clone, Copy)]
+pub struct Call {
+    /// The task.
+    pub task: Task,
+    /// How the files hold octets.
+    pub form: Form,
+    /// As many octets of a file are read at most.
+    pub most: u64,
+}
+
+/// An option with a number.
+fn number<'a>(alloc: Global, id: &'a str, value: &'a str, help: &'a str) -> Arg<'a> {
+    Arg::new(alloc, id)
+        .long(id)
+        .value_name(value)
+        .help(help)
+        .value_parser(value_parser!(u64))
+        .action(ArgAction::Set)
+}
+
+/// An option that is given or not.
+fn flag<'a>(alloc: Global, id: &'a str, help: &'a str) -> Arg<'a> {
+    Arg::new(alloc, id)
+        .long(id)
+        .help(help)
+        .action(ArgAction::SetTrue)
+}
+
+/// Adds what both commands have.
+fn with_files<'a>(alloc: Global, command: Command<'a>) -> Result<Command<'a>, AllocError> {
+    let form = Arg::new(alloc, "from")
+        .long("from")
+        .value_name("FORM")
+        .help("How the files hold octets: PEM where a line begins a block, else as they are")
+        .value_parser(["auto", "der", "pem", "hex", "base64"].as_slice())
+        .action(ArgAction::Set);
+    let most = number(
+        alloc,
+        "max-octets",
+        "COUNT",
+        "Files of more octets are refused; 1073741824 by itself",
+    );
+    let file = Arg::new(alloc, "file")
+        .value_name("FILE")
+        .help("A file, or - for standard input")
+        .required(true)
+        .num_args(1..)
+        .action(ArgAction::Append);
+    command.arg(form)?.arg(most)?.arg(file)
+}
+
+/// The words of `dump`.
+fn dump_command<'a>(alloc: Global) -> Result<Command<'a>, AllocError> {
+    let command = Command::new(alloc, "dump")
+        .about("Prints the elements of files, a line each, by BER")
+        .after_help("Example: asn1 dump --depth 3 certificate.pem")
+        .arg(flag(alloc, "no-inner", "Shows no elements in strings"))?
+        .arg(number(
+            alloc,
+            "at",
+            "OFFSET",
+            "Shows the element at this offset alone",
+        ))?
+        .arg(number(
+            alloc,
+            "depth",
+            "COUNT",
+            "Shows no elements in as many elements or more",
+        ))?
+        .arg(number(
+            alloc,
+            "width",
+            "COUNT",
+            "As many columns a value has at most; 64 by itself",
+        ))?
+        .arg(flag(
+            alloc,
+            "json",
+            "Prints each element as an object of JSON in a line",
+        ))?;
+    with_files(alloc, command)
+}
+
+/// The words of `check`.
+fn check_command<'a>(alloc: Global) -> Result<Command<'a>, AllocError> {
+    let command = Command::new(alloc, "check")
+        .about("Tells whether files are strict DER, and if not, at which octet and by which rule")
+        .after_help("Example: asn1 check certificate.pem key.der")
+        .arg(flag(
+            alloc,
+            "all",
+            "Goes on behind the first departure, where that can be",
+        ))?;
+    with_files(alloc, command)
+}
+
+/// The program's own words.
+pub fn command<'a>(alloc: Global) -> Result<Command<'a>, AllocError> {
+    Command::new(alloc, "asn1")
+        .version("0.1")
+        .about("Shows what is in files of ASN.1")
+        .after_help(
+            "Example: asn1 dump certificate.pem\n\nStatus: 0, or 1 for refused octets, or 2 for any other failure",
+        )
+        .subcommand_required(true)
+        .arg_required_else_help(true)
+        .subcommand(dump_command(alloc)?)?
+        .subcommand(check_command(alloc)?)
+}
+
+/// A number that a call gives.
+fn given(matches: &ArgMatches<'_>, id: &str) -> Option<usize> {
+    let number = matches.get_one::<u64>(id)?;
+    Some(number as usize)
+}
+
+/// What the words ask for.
+pub fn asked(name: &str, matches: &ArgMatches<'_>) -> Call {
+    let task = if name == "check" {
+        Task::Check(matches.get_flag("all"))
+    } else {
+        let options = Options {
+            inner: !matches.get_flag("no-inner"),
+            depth: given(matches, "depth").unwrap_or(usize::MAX),
+            width: given(matches, "width").unwrap_or(WIDTH as usize),
+            json: matches.get_flag("json"),
+        };
+        Task::Dump(options, given(matches, "at"))
+    };
+    let form = match matches.get_str("from") {
+        Some("der") => Form::Octets,
+        Some("pem") => Form::Pem,
+        Some("hex") => Form::Hexadecimal,
+        Some("base64") => Form::Base64,
+        _ => Form::Told,
+    };
+    let most = matches.get_one::<u64>("max-octets").unwrap_or(MOST_OCTETS);
+    Call { task, form, most }
+}

@@ -1,0 +1,25 @@
+use Rattle.std.proofs.Common.{◌≡◌, List, [], subst}
+use Rattle.asn1_walk.specs.Rows.{ended, refused}
+use Rattle.asn1_walk.specs.Walks.{Moves}
+use Rattle.asn1_walk.specs.declared.walk.Step.{Step}
+use Rattle.asn1_walk.proofs.Coming.{begun}
+use Rattle.asn1_engine.proofs.trees.+dump_part.Goals as goal
+
+pub loop-walk-init : goal.loop-walk-init
+loop-walk-init g n c = λ lines outcome left. (
+  lines,
+  begun _ _ _ _ c.new-walk.ensures.frames
+      c.new-walk.ensures.offset c.new-walk.ensures.view lines outcome left,
+)
+
+pub returns-in-End : goal.returns-in-End
+returns-in-End g n c =
+    let at = c.loop-walk.walk.offset in
+    let m = subst (λ (s : Step). Moves s c.loop-walk.walk c.step.new.self) c.in-End.is c.in_ok-found.ensures.moves in
+    let all = c.loop-walk.invariant [] (ended at []) m in (all.0, at, all.1)
+
+pub returns-in-Refused : goal.returns-in-Refused
+returns-in-Refused g n c =
+    let at = c.loop-walk.walk.offset in
+    let m = subst (λ (s : Step). Moves s c.loop-walk.walk c.step.new.self) c.in-Refused.is c.in_ok-found.ensures.moves in
+    let all = c.loop-walk.invariant [] (refused at m.0) m.2 in (all.0, at, m.0, all.1)

@@ -1,0 +1,48 @@
+-- What the findings of the commands say of octets.
+use Rattle.std.specs.Prelude.{◌≡◌, ℕ, List, [], ◌++◌, ◌⊎◌, Bool, true, false, drop}
+use Rattle.x690.specs.Faults.{Fault}
+use Rattle.asn1_walk.specs.declared.line.Line.{Line}
+use Rattle.asn1_walk.specs.declared.state.Walk.{Walk}
+use Rattle.asn1_walk.specs.Rows.{Row, Outcome, ended, refused}
+use Rattle.asn1_walk.specs.Walks.{Left}
+use Rattle.asn1_strict.specs.Strict.{IsStrictDer}
+use Rattle.asn1_engine.specs.declared.error.Finding.{Finding}
+use Rattle.asn1_engine.specs.declared.error.Finding.TheVariants.{Holds, Refused}
+
+-- strict DER, or not
+abbrev pub TellsStrict : List ℕ → Finding → Type 0
+TellsStrict octets Holds = IsStrictDer octets
+TellsStrict octets Refused = IsStrictDer octets → ⊥
+
+-- elements by BER, one after the other, and no more
+abbrev pub AreElements : List ℕ → Type 0
+AreElements octets = (lines : List Line) × (at : ℕ) × Row false 0 0 octets lines (ended at [])
+
+-- elements, as far as to an octet that begins none
+abbrev pub BreaksOff : List ℕ → Type 0
+BreaksOff octets = (lines : List Line) × (at : ℕ) × (fault : Fault) × Row false 0 0 octets lines (refused at fault)
+
+-- the one or the other
+abbrev pub TellsElements : List ℕ → Bool → Type 0
+TellsElements octets true = AreElements octets
+TellsElements octets false = BreaksOff octets
+
+-- the same of what a command found
+abbrev pub FindsElements : List ℕ → Finding → Type 0
+FindsElements octets Holds = AreElements octets
+FindsElements octets Refused = BreaksOff octets
+
+-- What a command found from an offset on: of octets at the front of those there; or that none are there.
+abbrev pub FindsAt : List ℕ → ℕ → Finding → Type 0
+FindsAt octets offset finding = ((drop offset octets ≡ []) × (finding ≡ Refused)) ⊎
+    ((part rest : List ℕ) × (drop offset octets ≡ part ++ rest) × FindsElements part finding)
+
+-- whatever comes of the walk, comes of the octets
+abbrev pub GoesOver : List ℕ → Walk → Type 0
+GoesOver octets walk = (lines : List Line) (outcome : Outcome) → Left walk lines outcome →
+    (all : List Line) × Row false 0 0 octets all outcome
+
+-- both findings in one
+abbrev pub both : Finding → Finding → Finding
+both Holds other = other
+both Refused other = Refused

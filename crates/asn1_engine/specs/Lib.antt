@@ -1,0 +1,4 @@
+pub mod Findings
+pub mod Outcomes
+pub mod Standing
+pub mod Visible

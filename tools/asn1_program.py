@@ -1,0 +1,287 @@
+#!/usr/bin/env python3
+"""Runs the program `asn1` beside `openssl asn1parse` and beside a model of strict DER that shares no code with it.
+
+    tools/asn1_program.py PROGRAM
+
+The program is what `rt run` leaves in `crates/asn1/out/asn1`. Each certificate of /etc/ssl/certs must have the offsets, depths and
+lengths that `openssl asn1parse` prints; each of some thousand changed certificates the verdict of the model, with the
+offset and the section of X.690; odd files their statuses and lines. What does otherwise has a line, and then this ends
+with status 1.
+"""
+import json
+import os
+import pathlib
+import random
+import re
+import subprocess
+import sys
+import tempfile
+
+FOLDER = pathlib.Path(__file__).resolve().parent.parent / "crates/asn1"
+CERTIFICATES = pathlib.Path("/etc/ssl/certs")
+CONSTRUCTED = {8, 11, 16, 17, 29}
+PRINTABLE = set(b"ABCDEFGHIJKLMNOPQRSTUVWXYZabcdefghijklmnopqrstuvwxyz0123456789 '()+,-./:=?")
+MOMENT = rb"(0[1-9]|1[0-2])(0[1-9]|[12]\d|3[01])([01]\d|2[0-3])[0-5]\d[0-5]\d"
+UTC = re.compile(rb"\d\d" + MOMENT + rb"Z")
+GENERALIZED = re.compile(rb"\d{4}" + MOMENT + rb"(\.\d*[1-9])?Z")
+
+
+class Departs(Exception):
+    """The octets are not strict DER: the offset and the section."""
+
+
+def element(octets, at, end):
+    """Returns class, form, number, the offset of the contents and that of their end, by DER."""
+    def octet(place, section):
+        if place >= end:
+            raise Departs(at, section)
+        return octets[place]
+
+    first, place = octet(at, "8.1.1"), at + 1
+    number = first & 31
+    if number == 31:
+        number, begins = 0, place
+        while True:
+            digit = octet(place, "8.1.2")
+            number, place = number * 128 + (digit & 127), place + 1
+            if number >= 2 ** 32:
+                raise Departs(at, "8.1.2")
+            if digit < 128:
+                break
+        if number < 31 or octets[begins] == 128:
+            raise Departs(at, "8.1.2.4")
+    count, place = octet(place, "8.1.1"), place + 1
+    if count == 255:
+        raise Departs(at, "8.1.3.5")
+    if count == 128:
+        raise Departs(at, "10.1")
+    if count > 128:
+        some = count - 128
+        if place + some > end:
+            raise Departs(at, "8.1.1")
+        count = int.from_bytes(octets[place:place + some], "big")
+        if count >= 2 ** 64:
+            raise Departs(at, "8.1.3.5")
+        if count < 128 or octets[place] == 0:
+            raise Departs(at, "10.1")
+        place += some
+    if place + count > end:
+        raise Departs(at, "8.1.1")
+    return first >> 6, bool(first & 32), number, place, place + count
+
+
+def ascends(content):
+    """Tells whether the components of a set stand in an order of DER."""
+    words, tags, at = [], [], 0
+    while at < len(content):
+        try:
+            class_, _, number, _, end = element(content, at, len(content))
+        except Departs:
+            return False
+        words.append(content[at:end])
+        tags.append((class_, number))
+        at = end
+    return words == sorted(words) or all(one < other for one, other in zip(tags, tags[1:]))
+
+
+def has_text(content, coding):
+    """Tells whether the octets are text."""
+    try:
+        content.decode(coding)
+    except UnicodeDecodeError:
+        return False
+    return True
+
+
+def are_arcs(content):
+    """Tells whether subidentifiers are whole and shortest."""
+    starts = [0] + [place + 1 for place, it in enumerate(content[:-1]) if it < 128]
+    return bool(content) and content[-1] < 128 and all(content[place] != 128 for place in starts)
+
+
+def are_bits(content):
+    """Tells whether a BIT STRING's octets are strict."""
+    if len(content) < 2:
+        return content == b"\0"
+    return content[0] < 8 and content[-1] % 2 ** content[0] == 0
+
+
+def is_integer(content):
+    """Tells whether an INTEGER has its fewest octets."""
+    return bool(content) and (len(content) == 1 or not (content[0] in (0, 255) and (content[0] ^ content[1]) < 128))
+
+
+RULES = {
+    0: ("8.1.5", lambda it: False), 1: ("11.1", lambda it: it in (b"\0", b"\xff")),
+    2: ("8.3.2", is_integer), 10: ("8.3.2", is_integer), 3: ("8.6.2, 11.2", are_bits),
+    5: ("8.8.2", lambda it: not it), 6: ("8.19.2", are_arcs), 13: ("8.19.2", are_arcs),
+    12: ("8.23", lambda it: has_text(it, "utf-8")), 17: ("10.3, 11.6", ascends),
+    18: ("8.23", lambda it: set(it) <= set(b"0123456789 ")), 19: ("8.23", lambda it: set(it) <= PRINTABLE),
+    22: ("8.23", lambda it: has_text(it, "ascii")), 26: ("8.23", lambda it: all(32 <= it <= 126 for it in it)),
+    23: ("11.8", UTC.fullmatch), 24: ("11.7", GENERALIZED.fullmatch),
+    28: ("8.23", lambda it: len(it) % 4 == 0), 30: ("8.23", lambda it: len(it) % 2 == 0),
+}
+
+
+def judge(octets):
+    """Raises where the octets are not one element of strict DER."""
+    end = element(octets, 0, len(octets))[4]
+    around, at = [end], 0
+    while around:
+        if at == around[-1]:
+            around.pop()
+            continue
+        class_, constructed, number, begins, ends = element(octets, at, around[-1])
+        if class_ == 0:
+            if constructed != (number in CONSTRUCTED):
+                raise Departs(at, "8.9.1, 8.11.1, 10.2")
+            section, holds = RULES.get(number, (None, lambda it: True))
+            if not holds(octets[begins:ends]):
+                raise Departs(at, section)
+        at = ends
+        if constructed:
+            at = begins
+            around.append(ends)
+    if end < len(octets):
+        raise Departs(end, "8.1.1")
+
+
+def model(octets):
+    """Returns the offset and the section of the first departure, and what stands there; or nothing."""
+    try:
+        judge(octets)
+    except Departs as departs:
+        return *departs.args, standing(octets, departs.args[0])
+    return None
+
+
+def told(line):
+    """Returns the same of a line of `check`."""
+    found = re.search(rb": octet (\d+): .* \(X\.690 ([0-9., ]+)\); there stands: ([^;]*); right is: ", line)
+    return (int(found[1]), found[2].decode(), found[3].decode()) if found else None
+
+
+def standing(octets, at):
+    """Returns the first octets of the element at an offset, or of all behind where none is whole."""
+    word = octets[at:]
+    try:
+        word = word[:element(word, 0, len(word))[4]]
+    except Departs:
+        pass
+    return word[:24].hex(" ") + (" .." if len(word) > 24 else "") if word else "nothing"
+
+
+def changed(octets, chance):
+    """Returns the octets with a few changes."""
+    made = bytearray(octets)
+    for _ in range(chance.choice((1, 1, 2, 3))):
+        place = chance.randrange(len(made))
+        how = chance.randrange(6)
+        if how == 0:
+            made[place] ^= 1 << chance.randrange(8)
+        elif how == 1:
+            made[place] = chance.choice((0, 1, 0x30, 0x31, 0x7f, 0x80, 0x81, 0xff))
+        elif how == 2:
+            made[place:place + 1] = b""
+        elif how == 3:
+            made[place:place] = bytes([chance.randrange(256)])
+        elif how == 4:
+            del made[place:]
+        else:
+            made[place] = chance.randrange(256)
+        if not made:
+            break
+    return bytes(made)
+
+
+def run(program, *words, **how):
+    """Runs the program."""
+    return subprocess.run([program, *words], capture_output=True, timeout=600, **how)
+
+
+def trees(program):
+    """Yields the trees of certificates, and those of openssl."""
+    for path in sorted([FOLDER / "data/certificate.pem", *CERTIFICATES.glob("*.pem")]):
+        seen = [json.loads(it) for it in run(program, "dump", "--no-inner", "--json", path).stdout.splitlines()]
+        ours = [tuple(it[key] for key in ("offset", "depth", "header", "length", "constructed")) for it in seen]
+        text = subprocess.run(["openssl", "asn1parse", "-i", "-in", path], capture_output=True).stdout
+        lines = re.findall(rb"^ *(\d+):d=(\d+) +hl=(\d+) l= *(\d+) (cons|prim):", text, re.M)
+        yield str(path), ours, [(*map(int, it[:4]), it[4] == b"cons") for it in lines]
+
+
+def verdicts(program, room, count):
+    """Yields the verdicts on changed certificates, and those of the model."""
+    chance = random.Random(690)
+    whole = [subprocess.run(["openssl", "x509", "-in", it, "-outform", "DER"], capture_output=True).stdout
+             for it in sorted([FOLDER / "data/certificate.pem", *CERTIFICATES.glob("*.pem")])]
+    for start in range(0, count, 500):
+        paths = []
+        for place in range(500):
+            path = room / f"{start + place}.der"
+            path.write_bytes(changed(chance.choice(whole), chance))
+            paths.append(path)
+        lines = run(program, "check", "--from", "der", *paths).stdout.splitlines()
+        for path, line in zip(paths, lines):
+            yield f"{path.name}: {line}", told(line), model(path.read_bytes())
+            path.unlink()
+
+
+def nested(count):
+    """Returns so many elements, each in the one before, by BER."""
+    return b"\x30\x80" * count + b"\0\0" * count
+
+
+def odd_files(program, room):
+    """Yields how odd files end."""
+    pem = (FOLDER / "data/certificate.pem").read_bytes()
+    first = b"\n".join(pem.splitlines()[:2]) + b"\n"
+    rows = [
+        ("empty", "dump", b"", 0, 0), ("empty", "check", b"", 1, 1), ("one octet", "dump", b"0", 1, 1),
+        ("nested", "dump", nested(50000), 0, 50000), ("nested, cut", "dump", nested(50000)[:70001], 1, 35001),
+        ("NUL octets", "dump", b"\0" * 4, 0, 2), ("text around", "check", b"a\n" + pem + b"b\n", 0, 1),
+        ("two blocks", "check", pem + pem, 0, 2), ("CR LF", "check", pem.replace(b"\n", b"\r\n"), 0, 1),
+        ("no END", "check", first, 1, 0), ("other END", "check", pem.replace(b"END C", b"END D"), 1, 0),
+        ("no base64", "check", pem.replace(b"MII", b"M!I"), 1, 0), ("a long string", "dump", b"\4\x84\0\x98\x96\x80" +
+         b"a" * 10000000, 0, 1),
+    ]
+    for name, task, octets, status, lines in rows:
+        path = room / "odd"
+        path.write_bytes(octets)
+        ended = run(program, task, path)
+        yield f"{task} {name}", (ended.returncode, ended.stdout.count(b"\n")), (status, lines)
+
+
+def failures(program, room):
+    """Yields how calls and devices that fail end, each with one line on standard error."""
+    data = FOLDER / "data/certificate.pem"
+    for name, words in (("a folder", ["dump", room]), ("no such file", ["check", room / "none"]),
+                        ("too long", ["dump", "--max-octets", "10", data])):
+        ended = run(program, *words)
+        yield name, (ended.returncode, ended.stderr.count(b"\n"), ended.stdout), (2, 1, b"")
+    yield "a wrong call", run(program, "dump", "--depth", "x", data).returncode, 2
+    with open("/dev/full", "wb") as full:
+        ended = subprocess.run([program, "dump", data], stdout=full, stderr=subprocess.PIPE)
+    yield "a full device", (ended.returncode, ended.stderr), (2, b"asn1: output failed\n")
+    reads, writes = os.pipe()
+    os.close(reads)
+    ended = subprocess.run([program, "dump", data], stdout=writes, stderr=subprocess.PIPE, restore_signals=False)
+    os.close(writes)
+    yield "a pipe that nobody reads", (ended.returncode, ended.stderr), (2, b"asn1: output failed\n")
+
+
+def main():
+    with tempfile.TemporaryDirectory(prefix="asn1-") as name:
+        room, wrong, count = pathlib.Path(name), 0, 0
+        program = sys.argv[1]
+        for rows in (trees(program), odd_files(program, room), failures(program, room), verdicts(program, room, 5000)):
+            for what, seen, expected in rows:
+                count += 1
+                if seen != expected:
+                    wrong += 1
+                    print(f"{what}: {str(seen)[:200]}, and not {str(expected)[:200]}", flush=True)
+        print(f"{count} rows, {wrong} otherwise")
+    return 1 if wrong else 0
+
+
+if __name__ == "__main__":
+    sys.exit(main())
