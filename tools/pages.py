@@ -162,6 +162,7 @@ BUDGETS = {
     "docs/DEFINITIONS.md": 1600,
     "docs/ARCHITECTURE.md": 1300,
     "docs/DECISIONS.md": 1500,
+    "docs/TYPES_AS_VALUES.md": 1500,
     "docs/DIFFERENCES.md": 1700,
     "docs/SPEED.md": 900,
     "CONTRIBUTING.md": 1500,

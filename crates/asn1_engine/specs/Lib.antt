@@ -2,3 +2,10 @@ pub mod Findings
 pub mod Outcomes
 pub mod Standing
 pub mod Visible
+pub mod Heads
+pub mod Lines
+pub mod Numbers
+pub mod Texts
+pub mod Trees
+pub mod Values
+pub mod Words

@@ -1,5 +1,5 @@
 -- Characters that may reach a terminal.
-use Rattle.std.specs.Prelude.{ℕ, ◌<◌, ◌≤◌, ◌⊎◌}
+use Rattle.std.specs.Prelude.{ℕ, ◌<◌, ◌≤◌, ◌⊎◌, Bool, false, not, List, [], ◌∷◌, nat_le, ◌&&◌, ◌||◌}
 
 -- no number from the first to the last
 abbrev pub IsOutside : ℕ → ℕ → ℕ → Type 0
@@ -10,3 +10,18 @@ IsOutside first last n = (n < first) ⊎ (last < n)
 abbrev pub MayBeShown : ℕ → Type 0
 MayBeShown n = (32 ≤ n) × IsOutside 127 159 n × IsOutside 1564 1564 n × IsOutside 8206 8207 n × IsOutside 8234 8238 n ×
     IsOutside 8294 8297 n
+
+-- Numbers of characters from the first to the last, that are shown by their number: those above, and others that are not
+-- seen, such as spaces of other widths, marks of joining, and all that stands behind plane 13.
+abbrev pub hidden : List (ℕ × ℕ)
+hidden = (0, 31) ∷ (127, 160) ∷ (173, 173) ∷ (1564, 1564) ∷ (6158, 6158) ∷ (8203, 8207) ∷ (8232, 8239) ∷ (8287, 8303) ∷
+    (65279, 65279) ∷ (65520, 65535) ∷ (917504, 1114111) ∷ []
+
+-- the number stands within one of the ranges
+abbrev pub is_within : List (ℕ × ℕ) → ℕ → Bool
+is_within [] n = false
+is_within (range ∷ ranges) n = (nat_le range.0 n && nat_le n range.1) || is_within ranges n
+
+-- the character is shown as it is
+abbrev pub is_shown_as_it_is : ℕ → Bool
+is_shown_as_it_is n = not (is_within hidden n)

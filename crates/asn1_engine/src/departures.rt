@@ -1,7 +1,9 @@
 //! Refusals and departures from strict DER in words.
+ghost use Rattle.std.specs.Prelude.{Some};
+ghost use Rattle.asn1_engine.specs.Trees.{refusal_text};
 
 use crate::standing::Standing;
-use asn1_headers::error::{Err, Error, Needed};
+use asn1_headers::error::{Err, Error};
 use asn1_strict::Requirement;
 use std::fmt;
 
@@ -13,10 +15,11 @@ pub struct Refusal {
 }
 
 impl fmt::Display for Refusal {
+    ghost output = { λ shown. Some (refusal_text shown.refusal) };
+
     fn fmt<W: fmt::Write>(&self, f: &mut fmt::Formatter<W>) -> fmt::Result {
         match &self.refusal {
-            Err::Incomplete(Needed::Size(1)) => write!(f, "1 octet is missing"),
-            Err::Incomplete(Needed::Size(count)) => write!(f, "{count} octets are missing"),
+            Err::Incomplete(needed) => write!(f, "{needed}"),
             Err::Error(Error::InvalidTag) => write!(
                 f,
                 "the identifier octets do not end, or the tag number is 2^32 or more"

@@ -16,6 +16,7 @@ pub mod texts;
 pub mod trees;
 pub mod values;
 pub mod verdicts;
+pub mod words;
 
 pub use error::{Finding, RunError};
 pub use trees::{Options, dump, dump_at};

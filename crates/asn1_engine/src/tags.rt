@@ -1,11 +1,20 @@
 //! Tags in the standard's words (X.680 8).
+ghost use Rattle.std.specs.Prelude.{◌≡◌, ◌++◌, codes, OnOk, IfSome, IfNone};
+ghost use Rattle.asn1_headers.specs.declared.class.Class.TheVariants.{Universal};
+ghost use Rattle.asn1_engine.specs.Words.{number_text};
+ghost use Rattle.asn1_engine.specs.Heads.{tag_text};
 
+use crate::words::{push_number, push_str};
 use asn1_headers::class::Class;
-use std::fmt;
+use std::alloc::AllocError;
 
-/// The name of the type with a universal tag (X.680 8.4, table 1).
-fn universal_name(number: u32) -> Option<&'static str> {
+/// The name of the type with a universal tag (X.680 8.6, table 1).
+fn universal_name(number: u32) -> Option<&'static str>
+    ensures some { IfSome result (λ name. name.now ≡ tag_text Universal number) }
+    ensures none { IfNone result (tag_text Universal number ≡ codes "UNIVERSAL " ++ number_text number) }
+{
     Some(match number {
+        0 => return None,
         1 => "BOOLEAN",
         2 => "INTEGER",
         3 => "BIT STRING",
@@ -41,30 +50,33 @@ fn universal_name(number: u32) -> Option<&'static str> {
         34 => "DURATION",
         35 => "OID-IRI",
         36 => "RELATIVE-OID-IRI",
-        _ => return None,
+        15 => return None,
+        37.. => return None,
     })
 }
 
-/// A tag, shown by its type's name, or as `[3]`, `APPLICATION 3`, `PRIVATE 3` or `UNIVERSAL 99`.
-#[derive(Debug, Clone, Copy, PartialEq, Eq)]
-pub struct TagName {
-    /// The tag's class.
-    pub class: Class,
-    /// The tag number.
-    pub number: u32,
+/// Appends a word and a number.
+fn push_word(text: &mut Vec<u8>, word: &str, number: u32) -> Result<(), AllocError>
+    ensures { OnOk result (text.new.items ≡ text.old.items ++ (word.now ++ number_text number)) }
+{
+    push_str(text, word)?;
+    push_number(text, u64::from(number))
 }
 
-impl fmt::Display for TagName {
-    fn fmt<W: fmt::Write>(&self, f: &mut fmt::Formatter<W>) -> fmt::Result {
-        let number = self.number;
-        match self.class {
-            Class::Universal => match universal_name(number) {
-                Some(name) => write!(f, "{name}"),
-                None => write!(f, "UNIVERSAL {number}"),
-            },
-            Class::Application => write!(f, "APPLICATION {number}"),
-            Class::ContextSpecific => write!(f, "[{number}]"),
-            Class::Private => write!(f, "PRIVATE {number}"),
+/// Appends a tag: its type's name, or `[3]`, `APPLICATION 3`, `PRIVATE 3` or `UNIVERSAL 99`.
+pub fn push_tag(text: &mut Vec<u8>, class: Class, number: u32) -> Result<(), AllocError>
+    ensures { OnOk result (text.new.items ≡ text.old.items ++ tag_text class number) }
+{
+    match class {
+        Class::Universal => match universal_name(number) {
+            Some(name) => push_str(text, name),
+            None => push_word(text, "UNIVERSAL ", number),
+        },
+        Class::Application => push_word(text, "APPLICATION ", number),
+        Class::ContextSpecific => {
+            push_word(text, "[", number)?;
+            push_str(text, "]")
         }
+        Class::Private => push_word(text, "PRIVATE ", number),
     }
 }

@@ -1,16 +1,24 @@
 //! The tree of the elements of octets, a line an element.
-ghost use Rattle.std.specs.Prelude.{◌≡◌, ◌≤◌, ◌++◌, ℕ, List, length, true, IfOk, IfSome};
+ghost use Rattle.std.specs.Prelude.{◌≡◌, ◌≤◌, ◌++◌, ◌∷◌, [], ℕ, List, length, codes, true, IfOk, IfSome, OnOk};
+ghost use Rattle.std.specs.Io.KnownBytes.{Appends};
 ghost use Rattle.asn1_engine.specs.Findings.{AreElements, FindsElements, FindsAt};
+ghost use Rattle.asn1_engine.specs.Words.{right, number_text};
+ghost use Rattle.asn1_engine.specs.Lines.{IsLineText};
+ghost use Rattle.asn1_engine.specs.Trees.{IsHeld, IsRefusalLine, IsShown, IsTree, IsTreeAt, Writes, inner_depth};
+ghost use Rattle.asn1_engine.specs.Trees.{inner_offset};
+ghost use Rattle.asn1_engine.specs.Trees.{placed, refusal_text};
 
 use crate::departures::Refusal;
 use crate::elements::are_elements;
 use crate::error::{Finding, RunError};
-use crate::heads::Head;
+use crate::heads::push_head;
 use crate::objects::{object, refusal_object};
 use crate::standing::behind;
-use crate::tags::TagName;
-use crate::values::Value;
+use crate::tags::push_tag;
+use crate::values::push_value;
+use crate::words::{push_right, push_str};
 use asn1_headers::class::Class;
+use asn1_headers::error::{Err, Error};
 use asn1_headers::header::reading::header_by_ber;
 use asn1_walk::{Line, Step, Walk};
 use std::alloc::{AllocError, Global};
@@ -44,7 +52,9 @@ struct Part<'a> {
 
 impl Part<'_> {
     /// The line of an element that a walk over the octets finds, with its place in the file.
-    fn placed<'b>(&self, line: Line<'b>) -> Line<'b> {
+    fn placed<'b>(&self, line: Line<'b>) -> Line<'b>
+        ensures { result ≡ placed self.now.offset self.now.depth line.entry }
+    {
         Line {
             offset: line.offset.saturating_add(self.offset),
             depth: line.depth.saturating_add(self.depth),
@@ -76,7 +86,10 @@ fn hold_elements(alloc: Global, octets: &[u8]) -> Result<bool, AllocError>
 
 /// The contents of a string that is shown by the elements that it holds.
 fn inner_part<'a>(alloc: Global, line: &Line<'a>) -> Result<Option<Part<'a>>, AllocError>
-    ensures { IfOk result (λ found. IfSome found (λ part. AreElements part.octets.now)) }
+    ensures elements { IfOk result (λ found. IfSome found (λ part. AreElements part.octets.now)) }
+    ensures held { IfOk result (λ found. IfSome found (λ part. (count : ℕ) ×
+        IsHeld line.now count part.octets.now × (part.offset ≡ inner_offset line.now count) ×
+        (part.depth ≡ inner_depth line.now))) }
 {
     if line.constructed || line.class != Class::Universal {
         return Ok(None);
@@ -99,39 +112,99 @@ fn inner_part<'a>(alloc: Global, line: &Line<'a>) -> Result<Option<Part<'a>>, Al
     }))
 }
 
-/// Writes the line of an element. Of a string that is entered the line has no value.
+/// The contents of a string that is shown by its elements: where so many strings may be entered, and strings are.
+fn entered_part<'a>(
+    alloc: Global,
+    line: &Line<'a>,
+    strings: u8,
+    options: &Options,
+) -> Result<Option<Part<'a>>, AllocError>
+    ensures some { IfOk result (λ found. IfSome found (λ part. 1 ≤ strings)) }
+    ensures held { IfOk result (λ found. IfSome found (λ part. (count : ℕ) ×
+        IsHeld line.now count part.octets.now × (part.offset ≡ inner_offset line.now count) ×
+        (part.depth ≡ inner_depth line.now))) }
+{
+    if strings == 0 || !options.inner {
+        return Ok(None);
+    }
+    inner_part(alloc, line)
+}
+
+/// Appends the object of an element, with its end.
+fn push_object(
+    alloc: Global,
+    line: &Line<'_>,
+    is_entered: bool,
+    width: usize,
+    text: &mut Vec<u8>,
+) -> Result<(), AllocError> {
+    push_tag(text, line.class, line.number)?;
+    let name = String::from_utf8_lossy(alloc, text.as_slice())?;
+    text.clear();
+    push_value(alloc, text, width, line, is_entered)?;
+    let value = String::from_utf8_lossy(alloc, text.as_slice())?;
+    text.clear();
+    let object = object(
+        alloc,
+        line,
+        name.as_str(),
+        value.as_str().trim_ascii_start(),
+    )?;
+    text.extend_from_slice(object.as_slice())?;
+    text.push(b'\n')?;
+    Ok(())
+}
+
+/// Appends the line of an element. Of a string that is entered the line has no value.
+fn push_line(
+    alloc: Global,
+    line: &Line<'_>,
+    is_entered: bool,
+    width: usize,
+    text: &mut Vec<u8>,
+) -> Result<(), AllocError>
+    requires { text.old.items ≡ [] }
+    ensures { OnOk result (IsLineText width line.now is_entered text.new.items) }
+{
+    push_head(text, line)?;
+    push_value(alloc, text, width, line, is_entered)?;
+    push_str(text, "\n")
+}
+
+/// Writes what is shown of an element.
 fn write_line<W: Write>(
     alloc: Global,
-    line: Line<'_>,
+    line: &Line<'_>,
     is_entered: bool,
     options: &Options,
+    text: &mut Vec<u8>,
     out: &mut W,
-) -> Result<(), RunError> {
-    let value = Value {
-        line,
-        width: options.width,
-        is_entered,
-    };
-    if options.json {
-        let tag = TagName {
-            class: line.class,
-            number: line.number,
-        };
-        let name = format!(in alloc; "{tag}")?;
-        let text = format!(in alloc; "{value}")?;
-        let object = object(
-            alloc,
-            &line,
-            name.as_str(),
-            text.as_str().trim_ascii_start(),
-        )?;
-        out.write_all(object.as_slice())?;
-        out.write_all(b"\n")?;
+) -> Result<(), RunError>
+    ensures { OnOk result ((shown : List ℕ) × Writes options.now line.now is_entered shown ×
+        Appends (W.contents out.old) (W.contents out.new) shown) }
+{
+    if line.depth >= options.depth {
         return Ok(());
     }
-    let head = Head { line };
-    writeln!(out, "{head}{value}")?;
+    text.clear();
+    if options.json {
+        push_object(alloc, line, is_entered, options.width, text)?;
+    } else {
+        push_line(alloc, line, is_entered, options.width, text)?;
+    }
+    out.write_all(text.as_slice())?;
     Ok(())
+}
+
+/// Appends that no element begins at an offset, and why.
+fn push_refusal(text: &mut Vec<u8>, offset: usize, why: &str) -> Result<(), AllocError>
+    ensures { OnOk result (text.new.items ≡ text.old.items ++ right 7 (number_text offset) ++
+        codes " no element: " ++ why.now ++ 10 ∷ []) }
+{
+    push_right(text, 7, offset as u64)?;
+    push_str(text, " no element: ")?;
+    push_str(text, why)?;
+    push_str(text, "\n")
 }
 
 /// Writes that no element begins at an offset, and why.
@@ -141,54 +214,95 @@ fn write_refusal<W: Write>(
     why: &str,
     options: &Options,
     out: &mut W,
-) -> Result<(), RunError> {
+) -> Result<(), RunError>
+    ensures { OnOk result ((shown : List ℕ) × IsRefusalLine options.now.json offset why.now shown ×
+        Appends (W.contents out.old) (W.contents out.new) shown) }
+{
+    let mut text = Vec::new(alloc);
     if options.json {
         let object = refusal_object(alloc, offset, why)?;
-        out.write_all(object.as_slice())?;
-        out.write_all(b"\n")?;
+        text.extend_from_slice(object.as_slice())?;
+        text.push(b'\n')?;
     } else {
-        writeln!(out, "{offset:>7} no element: {why}")?;
+        push_refusal(&mut text, offset, why)?;
     }
+    out.write_all(text.as_slice())?;
     Ok(())
 }
 
-/// Writes the lines of the elements of a part, and of the elements in so many strings within strings.
+/// Writes that no element begins at an offset, by what the reader of elements answered.
+fn write_fault<W: Write>(
+    alloc: Global,
+    offset: usize,
+    refusal: Err<Error>,
+    options: &Options,
+    out: &mut W,
+) -> Result<(), RunError>
+    ensures { OnOk result ((shown : List ℕ) ×
+        IsRefusalLine options.now.json offset (refusal_text refusal) shown ×
+        Appends (W.contents out.old) (W.contents out.new) shown) }
+{
+    let why = format!(in alloc; "{}", Refusal { refusal })?;
+    write_refusal(alloc, offset, why.as_str(), options, out)
+}
+
+#[cycle(parts)]
+/// Writes the lines of the elements of a part, and of the elements in so many strings within strings. The text has room
+/// for a line.
 fn dump_part<W: Write>(
     alloc: Global,
     part: Part<'_>,
     strings: u8,
     options: &Options,
+    text: &mut Vec<u8>,
     out: &mut W,
 ) -> Result<Finding, RunError>
-    ensures { IfOk result (FindsElements part.entry.octets.now) }
+    ensures finds { IfOk result (FindsElements part.entry.octets.now) }
+    ensures prints { OnOk result ((shown : List ℕ) ×
+        IsTree options.now strings part.entry.offset part.entry.depth part.entry.octets.now shown ×
+        Appends (W.contents out.old) (W.contents out.new) shown) }
 {
     let mut walk = Walk::new(alloc, part.octets);
     loop {
         match walk.step()? {
             Step::Line(found) => {
-                let line = part.placed(found);
-                let inner = if strings > 0 && options.inner {
-                    inner_part(alloc, &line)?
-                } else {
-                    None
-                };
-                if line.depth < options.depth {
-                    write_line(alloc, line, inner.is_some(), options, out)?;
-                }
-                if let Some(within) = inner {
-                    let _holds = dump_part(alloc, within, strings - 1, options, out)?;
-                }
+                write_element(alloc, part, found, strings, options, text, out)?;
             }
             Step::Closed => {}
             Step::End => return Ok(Finding::Holds),
             Step::Refused(refusal) => {
-                let offset = part.offset.saturating_add(walk.offset());
-                let why = format!(in alloc; "{}", Refusal { refusal })?;
-                write_refusal(alloc, offset, why.as_str(), options, out)?;
+                let offset = walk.offset().saturating_add(part.offset);
+                write_fault(alloc, offset, refusal, options, out)?;
                 return Ok(Finding::Refused);
             }
         }
     }
+}
+
+#[cycle(parts)]
+/// Writes the line of an element, and those of the elements that it holds as a string.
+fn write_element<W: Write>(
+    alloc: Global,
+    part: Part<'_>,
+    found: Line<'_>,
+    strings: u8,
+    options: &Options,
+    text: &mut Vec<u8>,
+    out: &mut W,
+) -> Result<(), RunError>
+    ensures { OnOk result ((shown : List ℕ) ×
+        IsShown options.now strings (placed part.entry.offset part.entry.depth found.entry) shown ×
+        Appends (W.contents out.old) (W.contents out.new) shown) }
+{
+    let line = part.placed(found);
+    match entered_part(alloc, &line, strings, options)? {
+        Some(within) => {
+            write_line(alloc, &line, true, options, text, out)?;
+            dump_part(alloc, within, strings - 1, options, text, out)?;
+        }
+        None => write_line(alloc, &line, false, options, text, out)?,
+    }
+    Ok(())
 }
 
 /// Writes a line for each element, by BER, and for the elements in strings. Where no element begins, the last line
@@ -199,14 +313,18 @@ pub fn dump<W: Write>(
     options: &Options,
     out: &mut W,
 ) -> Result<Finding, RunError>
-    ensures { IfOk result (FindsElements octets.now) }
+    ensures finds { IfOk result (FindsElements octets.now) }
+    ensures prints { OnOk result ((shown : List ℕ) ×
+        IsTree options.now 16 0 0 octets.now shown ×
+        Appends (W.contents out.old) (W.contents out.new) shown) }
 {
     let part = Part {
         octets,
         offset: 0,
         depth: 0,
     };
-    dump_part(alloc, part, MOST_STRINGS, options, out)
+    let mut text = Vec::new(alloc);
+    dump_part(alloc, part, MOST_STRINGS, options, &mut text, out)
 }
 
 /// How many octets the first element has, or all where none ends before.
@@ -244,7 +362,9 @@ pub fn dump_at<W: Write>(
     options: &Options,
     out: &mut W,
 ) -> Result<Finding, RunError>
-    ensures { IfOk result (FindsAt octets.now offset) }
+    ensures finds { IfOk result (FindsAt octets.now offset) }
+    ensures prints { OnOk result ((shown : List ℕ) × IsTreeAt options.now offset octets.now shown ×
+        Appends (W.contents out.old) (W.contents out.new) shown) }
 {
     let rest = behind(octets, offset);
     if rest.is_empty() {
@@ -256,5 +376,6 @@ pub fn dump_at<W: Write>(
         offset,
         depth: 0,
     };
-    dump_part(alloc, part, MOST_STRINGS, options, out)
+    let mut text = Vec::new(alloc);
+    dump_part(alloc, part, MOST_STRINGS, options, &mut text, out)
 }

@@ -1,149 +1,168 @@
 //! The value of a primitive element, in a line.
+ghost use Rattle.std.specs.Prelude.{◌≡◌, ◌++◌, List, ℕ, Option, option_map, false, true, OnOk};
+ghost use Rattle.asn1_engine.specs.Values.{bits_text, identifier_text, name_text, octets_text, truth_text};
+ghost use Rattle.asn1_engine.specs.Values.{whole_number_text};
+ghost use Rattle.asn1_engine.specs.Lines.{IsContentText, IsShownName, IsValueText, sort_of_number};
 
-use crate::decimals::{Decimal, MOST_DECIMAL};
-use crate::identifiers::Arcs;
-use crate::texts::{Coding, Quoted};
+use crate::decimals::{MOST_DECIMAL, push_integer};
+use crate::identifiers::{have_arcs, push_arcs};
+use crate::texts::{Coding, push_quoted};
+use crate::words::{push_hexadecimal, push_long, push_number, push_str};
 use asn1_headers::class::Class;
 use asn1_names::name_of;
 use asn1_walk::Line;
-use std::fmt;
+use std::alloc::{AllocError, Global};
 
-/// Octets in hexadecimal, within a width of two columns each.
-#[derive(Debug, Clone, Copy)]
-pub struct Octets<'a> {
-    /// The octets.
-    pub octets: &'a [u8],
-    /// As many columns at most.
-    pub width: usize,
+/// Appends octets in hexadecimal, within a width of two columns each.
+fn push_octets(text: &mut Vec<u8>, width: usize, octets: &[u8]) -> Result<(), AllocError>
+    ensures { OnOk result (text.new.items ≡ text.old.items ++ octets_text width octets.now) }
+{
+    if octets.is_empty() {
+        return push_str(text, "(empty)");
+    }
+    let most = width / 2;
+    if octets.len() <= most {
+        return push_hexadecimal(text, octets);
+    }
+    push_hexadecimal(text, &octets[..most])?;
+    push_str(text, ".. (")?;
+    push_number(text, octets.len() as u64)?;
+    push_str(text, " octets)")
 }
 
-impl fmt::Display for Octets<'_> {
-    fn fmt<W: fmt::Write>(&self, f: &mut fmt::Formatter<W>) -> fmt::Result {
-        if self.octets.is_empty() {
-            return write!(f, "(empty)");
+/// BOOLEAN: a word. Octets that are none by DER stand behind it.
+fn push_truth(text: &mut Vec<u8>, width: usize, content: &[u8]) -> Result<(), AllocError>
+    ensures { OnOk result (text.new.items ≡ text.old.items ++ truth_text width content.now) }
+{
+    match content {
+        [0] => push_str(text, "FALSE"),
+        [0xff] => push_str(text, "TRUE"),
+        [_octet] => {
+            push_str(text, "TRUE (")?;
+            push_hexadecimal(text, content)?;
+            push_str(text, ")")
         }
-        let most = self.width / 2;
-        for octet in self.octets.iter().take(most) {
-            write!(f, "{octet:02x}")?;
-        }
-        let len = self.octets.len();
-        if len > most {
-            write!(f, ".. ({len} octets)")?;
-        }
-        Ok(())
-    }
-}
-
-/// The value of an element, behind a space; nothing where it is constructed, or has no value.
-#[derive(Debug, Clone, Copy)]
-pub struct Value<'a> {
-    /// The element.
-    pub line: Line<'a>,
-    /// As many columns at most, but for numbers and identifiers.
-    pub width: usize,
-    /// Whether the lines of elements that stand in the string follow.
-    pub is_entered: bool,
-}
-
-impl Value<'_> {
-    /// The octets in hexadecimal.
-    fn write_octets<W: fmt::Write>(&self, f: &mut fmt::Formatter<W>) -> fmt::Result {
-        let octets = Octets {
-            octets: self.line.content,
-            width: self.width,
-        };
-        write!(f, " {octets}")
-    }
-
-    /// BOOLEAN: a word. Octets that are none by DER stand behind it.
-    fn write_boolean<W: fmt::Write>(&self, f: &mut fmt::Formatter<W>) -> fmt::Result {
-        match self.line.content {
-            [0] => write!(f, " FALSE"),
-            [0xff] => write!(f, " TRUE"),
-            [octet] => write!(f, " TRUE ({octet:02x})"),
-            _ => self.write_octets(f),
-        }
-    }
-
-    /// INTEGER and ENUMERATED: decimals, or octets where they are many.
-    fn write_integer<W: fmt::Write>(&self, f: &mut fmt::Formatter<W>) -> fmt::Result {
-        let content = self.line.content;
-        if content.is_empty() || content.len() > MOST_DECIMAL {
-            return self.write_octets(f);
-        }
-        let number = Decimal::of_integer(content);
-        write!(f, " {number}")
-    }
-
-    /// BIT STRING: the number of bits, and the octets behind the count of unused ones.
-    fn write_bits<W: fmt::Write>(&self, f: &mut fmt::Formatter<W>) -> fmt::Result {
-        match self.line.content {
-            [unused, octets @ ..] if *unused < 8 && (!octets.is_empty() || *unused == 0) => {
-                let room = (octets.len() as u64).saturating_mul(8);
-                let bits = room.saturating_sub(u64::from(*unused));
-                let octets = Octets {
-                    octets,
-                    width: self.width,
-                };
-                write!(f, " {bits} bits {octets}")
-            }
-            _ => self.write_octets(f),
-        }
-    }
-
-    /// OBJECT IDENTIFIER and RELATIVE-OID: the arcs, and the name of a common identifier.
-    fn write_arcs<W: fmt::Write>(&self, f: &mut fmt::Formatter<W>) -> fmt::Result {
-        let relative = self.line.number == 13;
-        let Some(arcs) = Arcs::of(relative, self.line.content) else {
-            return self.write_octets(f);
-        };
-        if relative {
-            return write!(f, " {arcs}");
-        }
-        match name_of(self.line.content) {
-            Some(name) => write!(f, " {arcs} ({name})"),
-            None => write!(f, " {arcs}"),
-        }
-    }
-
-    /// A string or a time, between quotation marks.
-    fn write_text<W: fmt::Write>(&self, coding: Coding, f: &mut fmt::Formatter<W>) -> fmt::Result {
-        let text = Quoted {
-            coding,
-            octets: self.line.content,
-            width: self.width,
-        };
-        write!(f, " {text}")
-    }
-
-    /// A value of a universal type.
-    fn write_universal<W: fmt::Write>(&self, f: &mut fmt::Formatter<W>) -> fmt::Result {
-        match self.line.number {
-            1 => self.write_boolean(f),
-            2 | 10 => self.write_integer(f),
-            3 => self.write_bits(f),
-            5 if self.line.content.is_empty() => Ok(()),
-            6 | 13 => self.write_arcs(f),
-            12 | 35 | 36 => self.write_text(Coding::Utf8, f),
-            28 => self.write_text(Coding::Ucs4, f),
-            30 => self.write_text(Coding::Utf16, f),
-            7 | 14 | 18..=27 | 31..=34 => self.write_text(Coding::Ascii, f),
-            _ => self.write_octets(f),
-        }
+        _ => push_octets(text, width, content),
     }
 }
 
-impl fmt::Display for Value<'_> {
-    fn fmt<W: fmt::Write>(&self, f: &mut fmt::Formatter<W>) -> fmt::Result {
-        if self.line.constructed {
-            return Ok(());
-        }
-        if self.is_entered {
-            return write!(f, " holds");
-        }
-        if self.line.class == Class::Universal {
-            return self.write_universal(f);
-        }
-        self.write_octets(f)
+/// INTEGER and ENUMERATED: decimals, or octets where they are many.
+fn push_whole_number(text: &mut Vec<u8>, width: usize, content: &[u8]) -> Result<(), AllocError>
+    ensures { OnOk result (text.new.items ≡ text.old.items ++ whole_number_text width content.now) }
+{
+    if content.is_empty() || content.len() > MOST_DECIMAL {
+        return push_octets(text, width, content);
     }
+    push_integer(text, content)
+}
+
+/// BIT STRING: the number of bits, and the octets behind the count of unused ones.
+fn push_bits(text: &mut Vec<u8>, width: usize, content: &[u8]) -> Result<(), AllocError>
+    ensures { OnOk result (text.new.items ≡ text.old.items ++ bits_text width content.now) }
+{
+    match content {
+        [unused, octets @ ..] if *unused < 8 && (!octets.is_empty() || *unused == 0) => {
+            push_long(text, 8 * octets.len() as u128 - u128::from(*unused))?;
+            push_str(text, " bits ")?;
+            push_octets(text, width, octets)
+        }
+        _ => push_octets(text, width, content),
+    }
+}
+
+/// A name in parentheses, where there is one.
+fn push_name(text: &mut Vec<u8>, name: Option<&str>) -> Result<(), AllocError>
+    ensures { OnOk result (text.new.items ≡ text.old.items ++ name_text (option_map (λ n. n.now) name.entry)) }
+{
+    if let Some(name) = name {
+        push_str(text, " (")?;
+        push_str(text, name)?;
+        push_str(text, ")")?;
+    }
+    Ok(())
+}
+
+/// The name of an identifier that is not relative, where it is a common one.
+fn shown_name(relative: bool, content: &[u8]) -> Option<&'static str>
+    ensures { IsShownName content.now (option_map (λ n. n.now) result) }
+{
+    if relative {
+        return None;
+    }
+    name_of(content)
+}
+
+/// OBJECT IDENTIFIER and RELATIVE-OID: the arcs, and the name of a common identifier.
+fn push_identifier(
+    text: &mut Vec<u8>,
+    width: usize,
+    relative: bool,
+    content: &[u8],
+) -> Result<(), AllocError>
+    ensures { OnOk result ((name : Option (List ℕ)) × IsShownName content.now name ×
+        (text.new.items ≡ text.old.items ++ identifier_text width relative name content.now)) }
+{
+    if !have_arcs(relative, content) {
+        return push_octets(text, width, content);
+    }
+    push_arcs(text, relative, content)?;
+    let name = shown_name(relative, content);
+    push_name(text, name)?;
+    Ok(())
+}
+
+/// The value of a universal type, behind a space.
+fn push_universal(
+    alloc: Global,
+    text: &mut Vec<u8>,
+    width: usize,
+    number: u32,
+    content: &[u8],
+) -> Result<(), AllocError>
+    ensures { OnOk result ((shown : List ℕ) ×
+        IsContentText (sort_of_number number) width content.now shown ×
+        (text.new.items ≡ text.old.items ++ shown)) }
+{
+    if number == 5 && content.is_empty() {
+        return Ok(());
+    }
+    push_str(text, " ")?;
+    match number {
+        1 => push_truth(text, width, content),
+        2 | 10 => push_whole_number(text, width, content),
+        3 => push_bits(text, width, content),
+        6 => push_identifier(text, width, false, content),
+        13 => push_identifier(text, width, true, content),
+        12 | 35 | 36 => push_quoted(alloc, text, Coding::Utf8, width, content),
+        28 => push_quoted(alloc, text, Coding::Ucs4, width, content),
+        30 => push_quoted(alloc, text, Coding::Utf16, width, content),
+        7 | 14 | 18..=27 | 31..=34 => push_quoted(alloc, text, Coding::Ascii, width, content),
+        _ => push_octets(text, width, content),
+    }
+}
+
+/// Appends the value of an element, behind a space; nothing where it is constructed, or has no value. The width is in
+/// columns, and bounds all but numbers and identifiers.
+pub fn push_value(
+    alloc: Global,
+    text: &mut Vec<u8>,
+    width: usize,
+    line: &Line<'_>,
+    is_entered: bool,
+) -> Result<(), AllocError>
+    ensures { OnOk result ((shown : List ℕ) ×
+        IsValueText width line.now line.now.constructed is_entered shown ×
+        (text.new.items ≡ text.old.items ++ shown)) }
+{
+    if line.constructed {
+        return Ok(());
+    }
+    if is_entered {
+        return push_str(text, " holds");
+    }
+    if line.class == Class::Universal {
+        return push_universal(alloc, text, width, line.number, line.content);
+    }
+    push_str(text, " ")?;
+    push_octets(text, width, line.content)
 }

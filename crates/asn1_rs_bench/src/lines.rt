@@ -4,7 +4,8 @@ use crate::failure::Failure;
 use crate::rounds::Rounds;
 use crate::workloads::run_workload;
 
-/// Runs the workload that a line names once, over the octets that the line gives in hexadecimal, and prints its check.
+/// Runs once the workload that a line names, and prints its check. The octets are those that the line gives in
+/// hexadecimal.
 fn check_line(rt: &HostRuntime, line: &str) -> Result<(), Failure> {
     let Some((name, digits)) = line.split_once(' ') else {
         return Err(Failure::Line);

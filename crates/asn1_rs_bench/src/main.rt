@@ -1,8 +1,9 @@
 //! Times the library on workloads, or runs each line of a small input once.
 //!
-//! With the name of a workload as its only argument and the workload's octets on standard input it prints one line: the
-//! name, the least nanoseconds of its runs over all the octets, and the check. With no argument each line of standard
-//! input is a name, a space and octets in hexadecimal, and is answered by the name and the check, with no time.
+//! The only argument may be the name of a workload, whose octets come on standard input. Then the program prints one
+//! line: the name, the nanoseconds and the check. The nanoseconds are the least of its runs over all the octets. With
+//! no argument each line of standard input is a name, a space and octets in hexadecimal. The answer to a line is the
+//! name and the check, with no time.
 #![tactic(auto)]
 
 mod failure;

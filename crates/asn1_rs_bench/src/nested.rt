@@ -9,8 +9,7 @@ use std::alloc::Global;
 /// Four lists in one another, of such items.
 ///
 /// Of lists alone the toolchain resolves six in one another for a reader. A type of a caller's own has impls of its
-/// own, so behind it the count begins anew; and what is made for a call then names the item alone, not the lists
-/// between.
+/// own, so behind it the count begins anew. What is made for a call then names the item alone, not the lists between.
 #[derive(Debug, Drop)]
 pub(crate) struct FourLists<T>(Vec<Vec<Vec<Vec<T>>>>);
 

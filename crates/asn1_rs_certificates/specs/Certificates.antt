@@ -30,7 +30,8 @@ holder_of x = record {
   added = added_of x;
 }
 
--- The year of a time. The digits 50 to 99 of a UTCTime are those of a year of 1900, those below of one of 2000.
+-- The year of a time. The digits 50 to 99 of a UTCTime are those of the years 1950 to 1999. The digits below are those
+-- of the years 2000 to 2049.
 abbrev pub IsYearOf : Time → ℕ → Type 0
 IsYearOf (General t) year = year ≡ t.0.year
 IsYearOf (Utc t) year =
@@ -63,7 +64,7 @@ abbrev pub IsOfProfile : Certificate → Type 0
 IsOfProfile x = FieldsFitVersion x.tbs_certificate ×
     AreSameAlgorithms x.tbs_certificate.signature x.signature_algorithm
 
--- The fields do not fit, or they fit and the algorithms are not the same, and the refusal tells which.
+-- The fields do not fit, or they fit and the algorithms are not the same. The refusal tells which.
 abbrev pub IsOutsideProfile : Certificate → Error → Type 0
 IsOutsideProfile x e =
     ((¬ FieldsFitVersion x.tbs_certificate) ×

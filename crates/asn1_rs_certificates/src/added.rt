@@ -1,4 +1,4 @@
-//! The last three fields of what is signed, which later versions added, as a part of its row.
+//! The last three fields of what is signed, as a part of its row. Later versions added them.
 ghost use Rattle.asn1_rs.specs.Structs.{by_der, puts_of};
 ghost use Rattle.asn1_rs_certificates.specs.Certificates.{added_of};
 ghost use Rattle.asn1_rs.specs.Structs.PartsOfRows.{PartGives, part_of};

@@ -1,5 +1,5 @@
-//! Certificates of X.509 (RFC 5280, 4.1) as structs of fields: they are read by DER, borrowed from the octets, exactly
-//! where their grammar says, and written as their one strict encoding.
+//! Certificates of X.509 (RFC 5280, 4.1) as structs of fields. They are read by DER exactly where their grammar says,
+//! and borrowed from the octets. They are written as their one strict encoding.
 #![tactic(auto)]
 
 mod added;

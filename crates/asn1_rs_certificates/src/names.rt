@@ -17,7 +17,7 @@ use std::alloc::Global;
 ///     Name ::= SEQUENCE OF SET OF AttributeTypeAndValue
 pub type Name<'a> = Vec<SetOf<Attribute<'a>>>;
 
-/// An attribute of a name: of which type it is, and a value of a type that it says.
+/// An attribute of a name. Its type is an identifier, and its value has the type that the identifier says.
 ///
 ///     AttributeTypeAndValue ::= SEQUENCE {
 ///         type   OBJECT IDENTIFIER,
@@ -69,7 +69,7 @@ impl<'a> ReadsFields<'a> for Attribute<'a> {
 
 impl<'a> Attribute<'a> {
     /// The text, which is borrowed from the octets. Refused with the first check of a string read as UTF-8 that the
-    /// value breaks: its tag number, then its octets.
+    /// value breaks. The tag number is checked first, then the octets.
     pub fn text(&self) -> Result<&'a str, Error>
         ensures text { IfOk result (λ text. text.now ≡ self.now.value.content.now) }
         ensures checked { IfOk result (λ _. utf8_checks (parts_of self.now.value) (Ok tt)) }

@@ -35,7 +35,7 @@ fn are_same_algorithms(one: &AlgorithmIdentifier<'_>, other: &AlgorithmIdentifie
 }
 
 impl TbsCertificate<'_> {
-    /// Whether the version has the fields that are there: unique identifiers stand in the second and the third version
+    /// Whether the version has the fields that are there. Unique identifiers stand in the second and the third version
     /// (4.1.2.8), extensions in the third (4.1.2.9).
     pub fn fields_fit_version(&self) -> bool
         ensures { IsTrue result ↔ FieldsFitVersion self.now }
@@ -48,8 +48,8 @@ impl TbsCertificate<'_> {
 }
 
 impl Certificate<'_> {
-    /// Refuses fields that the version does not have (4.1.2.8, 4.1.2.9), and then an algorithm of the signature that is
-    /// another one than the signed one (4.1.1.2).
+    /// Refuses fields that the version does not have (4.1.2.8, 4.1.2.9). Then it refuses an algorithm of the signature
+    /// that differs from the signed one (4.1.1.2).
     pub fn assert_profile(&self) -> Result<(), Error>
         ensures { MatchResult result (λ _. IsOfProfile self.now) (IsOutsideProfile self.now) }
     {

@@ -1,4 +1,4 @@
-//! What is signed (RFC 5280, 4.1.2). A row of ten fields is more than the checker takes at once, so the fields from the
+//! What is signed (RFC 5280, 4.1.2). A row of ten fields is more than the checker takes at once. So the fields from the
 //! validity on stand in `holder`, and the last three in `added`.
 ghost use Rattle.std.proofs.Common.{refl, lit<};
 ghost use Rattle.asn1_rs.specs.Structs.{MadeOf};

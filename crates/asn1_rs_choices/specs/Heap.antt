@@ -65,7 +65,7 @@ heap_arms A = record {
   puts = λ t. heap_puts A.grammar A.arm_of (A.puts t);
 }
 
--- A choice whose values are on the heap: what it is of is told by the value.
+-- A choice whose values are on the heap. The value in there tells which arm it is.
 abbrev pub boxed_choice : {T B : Type 0} → (B → T) → LawfulChoiceOf T → LawfulChoiceOf B
 boxed_choice held X = record {
   Arms = X.Arms;

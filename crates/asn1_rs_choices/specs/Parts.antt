@@ -37,7 +37,7 @@ abbrev pub or_choice_chosen : {A B : Type 0} → (A → ChosenArm) → (B → Ch
 or_choice_chosen first others (part.This x) = first x
 or_choice_chosen first others (part.Other y) = others y
 
--- What a reader of arms may answer, that hands on to the reader of the choice, or to that of the others.
+-- What a reader of arms may answer that hands on to the reader of the choice, or to the reader of the others.
 abbrev pub OrChoiceReads : {A B E : Type 0} → Bool → (List ℕ → Result (List ℕ × A) E → Type 0) →
     (List ℕ → Result (List ℕ × B) E → Type 0) → List ℕ → Result (List ℕ × OrChoice A B) E → Type 0
 OrChoiceReads told first others input (Ok (rest, part.This x)) = (told ≡ true) × first input (Ok (rest, x))

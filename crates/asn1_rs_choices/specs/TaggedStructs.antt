@@ -1,5 +1,4 @@
--- A struct in place of whose tag another stands, that is read by BER: its words, what its reader answers, and the laws of
--- both.
+-- A struct under an implicit tag that is read by BER: its words, what its reader answers, and the laws of both.
 use Rattle.std.specs.Prelude.{◌≡◌, false, List, ℕ, Result, Err}
 use Rattle.std.proofs.Common.{lit<}
 use Rattle.x690.specs.Octets.{IsOctets}

@@ -13,8 +13,8 @@ use std::alloc::Global;
 
 /// A value of a choice on the heap.
 ///
-/// A type that holds values of a choice which it does not know, as a filter that holds a filter, holds them so: then it
-/// has a size of its own. Reading asks for memory.
+/// A type may hold values of a choice that it does not know, as a filter that holds filters. It holds them on the heap,
+/// and has a size of its own. Reading asks for memory.
 #[derive(Debug, PartialEq, Drop)]
 pub struct Boxed<C> {
     held: Box<C>,

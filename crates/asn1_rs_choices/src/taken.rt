@@ -9,9 +9,10 @@ use std::alloc::Global;
 
 /// Arms that an element converts to by BER.
 ///
-/// `choice_of_element` of the library converts to the choice itself. Of a choice that has a lifetime, and holds a type
-/// that borrows for it, the borrow checker takes that call only where an impl names the arms. So an author asks for the
-/// arms and makes the choice of them; `taken_as` and `refused_as` of `specs/Taken.antt` are named at that function:
+/// `choice_of_element` of the library converts to the choice itself. The borrow checker may take that call only where
+/// an impl names the arms. This is so of a choice that has a lifetime, and holds a type that borrows for it. So an
+/// author asks for the arms and makes the choice of them. `taken_as` and `refused_as` of `specs/Taken.antt` are named
+/// at that function:
 ///
 ///     match <FilterArms<'a, F> as TakesWhole<'a>>::take_any(alloc, any) {
 ///         Ok(arms) => Ok(<FilterOf<'a, F> as OfArms>::of_arms(arms)),
@@ -21,8 +22,9 @@ use std::alloc::Global;
 pub trait TakesWhole<'a>: TakesArms<'a> {
     /// The arm that an element is.
     ///
-    /// Refused with `UnexpectedClass` where no arm has the class of the element, then with `UnexpectedTag` where none
-    /// has its tag number, without an expected one; then as the conversion of the arm is.
+    /// Refused first with `UnexpectedClass` where no arm has the class of the element. Then it is refused with
+    /// `UnexpectedTag`, without an expected tag, where no arm has the element's tag number. The last refusal is that of
+    /// the arm's conversion.
     fn take_any(alloc: Global, any: Any<'a>) -> Result<Self, Error>
         ensures { AnswersOf (choice_grammar (λ x. x) Self.take_arms) Self.take_arms.tags any.entry
             result };

@@ -26,7 +26,7 @@ use std::marker::PhantomData;
 ///
 /// Both functions are calls of the library. Of a struct under an implicit tag the laws are those of
 /// `specs/TaggedStructs.antt`. `crates/asn1_rs_ldap_messages` has one, a search under its tag. `M` is a type of the
-/// author's crate, which says whose arm it is: an impl of another crate's trait must name one.
+/// author's crate, and says whose arm it is. An impl of another crate's trait must name such a type.
 pub trait TakenArm<'a, M>: Sized {
     /// What it is read from.
     ghost item: { ItemGrammar Self };
@@ -63,8 +63,9 @@ pub trait TakenArm<'a, M>: Sized {
 
 /// An arm with this class and this tag number, or one of the others.
 ///
-/// The library's arm `Or` asks for all that a type of the library is asked for. Of a value under an implicit tag whose
-/// type has a large field that is more than the checker writes out. This one asks for its reader alone.
+/// The library's arm `Or` asks for all that a type of the library is asked for. This is more than the checker writes
+/// out of a value under an implicit tag whose type has a large field. The arm here asks for the reader of the value
+/// alone.
 #[derive(Drop)]
 pub struct OrTaken<T, R, M, const CLASS: u8, const TAG: u32> {
     /// The value, or one of the others.

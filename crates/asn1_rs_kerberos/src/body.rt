@@ -1,4 +1,4 @@
-//! What is asked for (RFC 4120, 5.4.1). A row of twelve fields is more than the checker takes at once, so the last six
+//! What is asked for (RFC 4120, 5.4.1). A row of twelve fields is more than the checker takes at once. So the last six
 //! fields stand in `asked`.
 ghost use Rattle.std.proofs.Common.{refl};
 ghost use Rattle.asn1_rs.specs.Structs.{MadeOf};

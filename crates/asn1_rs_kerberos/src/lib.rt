@@ -1,5 +1,5 @@
-//! The first request of Kerberos, AS-REQ (RFC 4120, 5.4.1), as structs of fields: it is read by DER, borrowed from the
-//! octets, exactly where its grammar says, and written as its one strict encoding.
+//! The first request of Kerberos, AS-REQ (RFC 4120, 5.4.1), as structs of fields. It is read by DER exactly where its
+//! grammar says, and borrowed from the octets. It is written as its one strict encoding.
 #![tactic(auto)]
 
 mod asked;

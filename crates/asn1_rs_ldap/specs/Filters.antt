@@ -1,6 +1,6 @@
--- Filters of LDAP: which arm one is, and the laws of their choices. The laws go by names, which are opened in the proofs
--- of each choice alone; what holds a filter goes by the name, so that it is checked in a time that does not grow with
--- what stands below.
+-- Filters of LDAP: which arm one is, and the laws of their choices. The laws go by names. The proofs of each choice
+-- alone open its name. What holds a filter goes by the name. So the time of its check does not grow with what stands
+-- below.
 use Rattle.std.specs.Prelude.{ℕ, refl}
 use Rattle.asn1_headers.specs.declared.error.Error.{Error}
 use Rattle.asn1_rs.specs.declared.asn1_types.octet_string.OctetString.{OctetString}

@@ -10,7 +10,7 @@ use Rattle.asn1_rs_ldap.specs.Endings.{wanted_of}
 use Rattle.asn1_rs_ldap.specs.contracts.wanted.WantedRow.TheImpl as wanted
 use Rattle.asn1_rs_ldap.specs.declared.search.SearchRequest.{SearchRequest}
 
--- The laws of a search. They are opened in the proofs of its three functions; what holds a search goes by their name.
+-- The laws of a search. The proofs of the search's three functions open them. What holds a search goes by their name.
 unfoldable pub search_laws : LawfulStructOf SearchRequest
 search_laws = struct_of (λ x.
     (x.base_object, (x.scope, (x.deref_aliases, (x.size_limit, (x.time_limit, wanted_of x))))))

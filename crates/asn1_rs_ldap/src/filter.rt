@@ -1,8 +1,8 @@
 //! The filter of a search (RFC 4511, 4.5.1.7): ten arms, divided in three parts.
 //!
-//! A filter holds filters, as deep as they nest. Readers nest by the caller's types alone, so a type bounds the depth:
-//! [`SimpleFilter`] holds none, `FilterOf<'a, F>` holds those of the type `F`. An inner filter that would be deeper is
-//! refused as of no arm, with `UnexpectedTag`.
+//! A filter holds filters, as deep as they nest. Readers nest by the caller's types alone, so a type bounds the depth.
+//! [`SimpleFilter`] holds no filter, and `FilterOf<'a, F>` holds filters of the type `F`. An inner filter that would be
+//! deeper is refused as of no arm, with `UnexpectedTag`.
 ghost use Rattle.asn1_headers.specs.Answers.{seen};
 ghost use Rattle.asn1_rs.specs.Any.{parts_of};
 ghost use Rattle.asn1_rs.specs.Callers.{ReadsByBer, WritesStrict};

@@ -1,5 +1,5 @@
-//! The search request of LDAP and its filter (RFC 4511, 4.5.1), as structs of fields and choices: they are read by BER,
-//! borrowed from the octets, exactly where their grammars say, and written as their one strict encoding.
+//! The search request of LDAP and its filter (RFC 4511, 4.5.1), as structs of fields and choices. They are read by BER
+//! exactly where their grammars say, and borrowed from the octets. They are written as their one strict encoding.
 //!
 //! A search stands in a message, which is read and written in a crate of its own, `asn1_rs_ldap_messages`. A filter is
 //! also read alone, as the value of a control may be one (RFC 4528, 3).

@@ -1,4 +1,4 @@
-//! Filters of parts of values, of attributes that are there, and of rules, as a part of the choice of filters.
+//! Filters of parts of values, of attributes that are there, and of rules. They are a part of the choice of filters.
 ghost use Rattle.asn1_rs.specs.Choices.{has_a_class, has_a_tag};
 ghost use Rattle.asn1_rs.specs.Any.{parts_of};
 ghost use Rattle.asn1_headers.specs.Class.{class_number};

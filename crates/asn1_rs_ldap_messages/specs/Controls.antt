@@ -1,4 +1,4 @@
--- The laws of a control of LDAP. They are opened in the proofs of its three functions; what holds a control goes by
+-- The laws of a control of LDAP. The proofs of the control's three functions open them. What holds a control goes by
 -- their name.
 use Rattle.std.specs.Prelude.{false, refl}
 use Rattle.asn1_rs.specs.Laws.OctetString.{octet_string_lawful}

@@ -1,5 +1,5 @@
--- Operations of LDAP: which arm one is, and the laws of their choice. They are opened in the proofs of the choice alone;
--- what holds an operation goes by their name.
+-- Operations of LDAP: which arm one is, and the laws of their choice. The proofs of the choice alone open them. What
+-- holds an operation goes by their name.
 use Rattle.std.specs.Prelude.{ℕ, refl}
 use Rattle.asn1_headers.specs.declared.error.Error.{Error}
 use Rattle.asn1_rs.specs.declared.asn1_types.null.Null.{Null}

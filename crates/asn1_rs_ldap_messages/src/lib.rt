@@ -1,9 +1,9 @@
-//! Messages of the Lightweight Directory Access Protocol (RFC 4511), as structs of fields and choices: the requests of a
-//! client that searches. They are read by BER, borrowed from the octets, exactly where their grammar says, and written
-//! as their one strict encoding.
+//! Messages of the Lightweight Directory Access Protocol (RFC 4511), as structs of fields and choices. They are the
+//! requests of a client that searches. They are read by BER exactly where their grammar says, and borrowed from the
+//! octets. They are written as their one strict encoding.
 //!
 //! LDAP asks for BER with definite lengths and primitive strings (5.1). Other forms of BER are read too. What is
-//! written is DER, which is within those rules; so the filters of a set are written in the order of their octets.
+//! written is DER, which is within those rules. So the filters of a set are written in the order of their octets.
 #![tactic(auto)]
 
 mod control;

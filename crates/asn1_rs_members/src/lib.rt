@@ -1,5 +1,5 @@
-//! Members of sets: what a law about equality gives a caller, and an item to which it cannot be given. And a struct of
-//! fields that has laws since its optional field is told from the one behind it.
+//! Members of sets: what a law about equality gives a caller, and an item to which the law cannot be given. A struct of
+//! fields that has laws, since its optional field is told from the field behind that one.
 #![tactic(auto)]
 
 mod members;

@@ -1,4 +1,4 @@
-//! A struct whose optional field is told from the one behind it by its tag number, which its laws ask for.
+//! A struct whose optional field has another tag number than the field behind it. The laws of the struct ask for that.
 ghost use Rattle.std.proofs.Common.{refl};
 ghost use Rattle.asn1_rs.specs.Structs.Data.{struct_of};
 
@@ -20,7 +20,8 @@ impl HasKind for Flagged {
     type Kind = FieldsKind;
 }
 
-/// Were both fields of one tag number, or a field behind an optional one of any, `refl` would be refused.
+/// `refl` would be refused if both fields had one tag number. So it would be if a field behind an optional one had any
+/// tag number.
 impl LawfulStruct for Flagged {
     ghost laws = { struct_of (λ x. (x.flag, (x.level, tt))) ⟦<FlaggedRow as Row>⟧.row_laws refl };
 

@@ -1,5 +1,5 @@
-//! Content of a type that an identifier says (RFC 2315, 7), and attributes with values of such a type (RFC 2986, 4.1),
-//! by both rules, borrowed from the octets.
+//! Content of a type that an identifier says (RFC 2315, 7). Attributes have values of such a type (RFC 2986, 4.1). Both
+//! are read by BER and by DER, and borrowed from the octets.
 ghost use Rattle.std.proofs.Common.{refl};
 ghost use Rattle.asn1_headers.specs.Answers.{seen};
 ghost use Rattle.asn1_rs.specs.Structs.{MadeOf};

@@ -1,5 +1,5 @@
-//! An extension of a certificate (RFC 5280, 4.1), with a field that has a default, by both rules, borrowed from the
-//! octets.
+//! An extension of a certificate (RFC 5280, 4.1), with a field that has a default. It is read by BER and by DER, and
+//! borrowed from the octets.
 ghost use Rattle.std.specs.Prelude.{◌≡◌, IfOk, IfErr};
 ghost use Rattle.std.proofs.Common.{refl};
 ghost use Rattle.asn1_headers.specs.Answers.{seen};
@@ -134,8 +134,8 @@ pub fn read_extension_by_ber<'a>(
     read_ber::<Extension<'a>, Error>(alloc, octets)
 }
 
-/// The one strict encoding of an extension in DER form, which leaves out that it is not critical. Where its length fits
-/// `usize`, it is refused only when out of memory.
+/// The one strict encoding of an extension in DER form. That an extension is not critical is left out. Where the length
+/// of the encoding fits `usize`, writing is refused only when out of memory.
 pub fn extension_vec(alloc: Global, extension: &Extension<'_>) -> SerializeResult<Vec<u8>>
     ensures { ⟦<Extension<'static> as Grammar>⟧.grammar.IsDer
         (⟦<Extension<'static> as Grammar>⟧.grammar.value extension.now) →
@@ -145,8 +145,8 @@ pub fn extension_vec(alloc: Global, extension: &Extension<'_>) -> SerializeResul
     strict_vec(alloc, extension)
 }
 
-/// A copy of an extension, which outlives the octets that it was read from: it has the same value. Refused only when
-/// out of memory.
+/// A copy of an extension, with the same value. It outlives the octets that the extension was read from. Refused only
+/// when out of memory.
 pub fn kept_extension(alloc: Global, extension: &Extension<'_>) -> Result<Extension<'static>, Error>
     ensures copied { IfOk result (λ copy. ⟦<Extension<'static> as Grammar>⟧.grammar.value copy ≡
         ⟦<Extension<'static> as Grammar>⟧.grammar.value extension.now) }

@@ -1,4 +1,5 @@
-//! A certificate by its hash (RFC 5035, 4), with a field whose default is a struct, by DER, borrowed from the octets.
+//! A certificate by its hash (RFC 5035, 4), with a field whose default is a struct. It is read by DER, and borrowed
+//! from the octets.
 ghost use Rattle.std.specs.Prelude.{◌≡◌, None};
 ghost use Rattle.std.proofs.Common.{refl};
 ghost use Rattle.asn1_headers.specs.Answers.{seen};
@@ -183,8 +184,8 @@ pub fn read_hashed_certificate<'a>(
     read_der::<HashedCertificate<'a>, Error>(alloc, octets)
 }
 
-/// The one strict encoding of a certificate in DER form, which leaves out the algorithm where it is SHA-256 without
-/// parameters. Where its length fits `usize`, it is refused only when out of memory.
+/// The one strict encoding of a certificate in DER form. The algorithm is left out where it is SHA-256 without
+/// parameters. Where the length of the encoding fits `usize`, writing is refused only when out of memory.
 pub fn hashed_certificate_vec(
     alloc: Global,
     certificate: &HashedCertificate<'_>,

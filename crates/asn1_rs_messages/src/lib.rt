@@ -1,7 +1,7 @@
-//! Messages of protocols as structs of fields, with the theorems of their readers and writers: each is read exactly
+//! Messages of protocols as structs of fields, with the theorems of their readers and writers. Each is read exactly
 //! where its grammar says, and written as its one strict encoding.
 //!
-//! An author writes the struct, its row of fields, and how one is made of the other; no proof is written.
+//! An author writes the struct, its row of fields, and how one is made of the other. The author writes no proof.
 #![tactic(auto)]
 
 mod alarm;

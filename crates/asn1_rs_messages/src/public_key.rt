@@ -1,4 +1,5 @@
-//! The public key of a certificate and the algorithm that it is for (RFC 5280, 4.1), by DER, borrowed from the octets.
+//! The public key of a certificate and the algorithm that the key is for (RFC 5280, 4.1). Both are read by DER, and
+//! borrowed from the octets.
 ghost use Rattle.std.proofs.Common.{refl};
 ghost use Rattle.asn1_headers.specs.Answers.{seen};
 ghost use Rattle.asn1_rs.specs.Structs.{MadeOf};

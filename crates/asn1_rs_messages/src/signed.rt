@@ -15,7 +15,8 @@ use asn1_rs::{
 };
 use std::alloc::Global;
 
-/// A number, its signature and a note. The tag of the signature says how it was made, that of the note what it is of.
+/// A number, its signature and a note. The tag of the signature says how the signature was made. The tag of the note
+/// says what the note is about.
 ///
 ///     SEQUENCE {
 ///         number     INTEGER,
@@ -96,7 +97,7 @@ impl<'a> ReadsFieldsByBer<'a> for Signed<'a> {
     }
 }
 
-/// Messages are equal exactly where their values are, which what their headers say of tags is a part of.
+/// Messages are equal exactly where their values are. The tags that their headers have are a part of the values.
 impl<'a> KeyType for Signed<'a> {
     ghost key_laws = { key_of (struct_type ⟦<Signed<'a> as LawfulStruct>⟧.laws)
         (struct_members ⟦<Signed<'a> as LawfulStruct>⟧.laws.as_row
@@ -122,8 +123,8 @@ pub fn read_signed_by_ber<'a>(alloc: Global, octets: &'a [u8]) -> ParseResult<'a
     read_ber::<Signed<'a>, Error>(alloc, octets)
 }
 
-/// The one strict encoding of a message in DER form: the header of its signature is constructed, that of its note is
-/// not. Where its length fits `usize`, it is refused only when out of memory.
+/// The one strict encoding of a message in DER form. The header of its signature is constructed, and the header of its
+/// note is primitive. Where its length fits `usize`, it is refused only when out of memory.
 pub fn signed_vec(alloc: Global, message: &Signed<'_>) -> SerializeResult<Vec<u8>>
     ensures { ⟦<Signed<'static> as Grammar>⟧.grammar.IsDer
         (⟦<Signed<'static> as Grammar>⟧.grammar.value message.now) →

@@ -1,4 +1,5 @@
-//! A message with a choice that may be left out, a list of choices and one under a tag, by both rules.
+//! A message with a choice that may be left out, a list of choices, and a choice under a tag. It is read by BER and by
+//! DER.
 ghost use Rattle.std.proofs.Common.{refl};
 ghost use Rattle.asn1_headers.specs.Answers.{seen};
 ghost use Rattle.asn1_rs.specs.Structs.{MadeOf};

@@ -1,4 +1,5 @@
--- Where reading was refused: within which part of the value, before which octet of the input, and with which error.
+-- Where reading was refused: within which part of the value, and before which octet of the input. The error is told
+-- too.
 use Rattle.std.specs.Prelude.{◌≡◌, ◌⊎◌, ◌+◌, ◌-◌, ◌^◌, ℕ, zero, suc, List, [], ◌∷◌, length, take, true, min}
 use Rattle.std.specs.Prelude.{Option, Some, None, Result, Ok, Err}
 use Rattle.asn1_headers.specs.Class.{class_number}
@@ -44,13 +45,14 @@ IsFront end octets told = (told.octet ≡ end - length octets) × IsFound octets
 abbrev pub IsOfWhole : Refusal Error → ℕ → List ℕ → Refused → Type 0
 IsOfWhole r end octets told = (told.steps.items ≡ []) × IsFront end octets told × BecomesError r told.error
 
--- What is told of a part, as of the value: the step to the part stands before the steps within it, of which the first
--- fifteen are kept.
+-- What is told of a part, as of the value. The step to the part stands before the steps within the part. The first
+-- fifteen of these are kept.
 abbrev pub IsUnder : Step → Refused → Refused → Type 0
 IsUnder step inner told = (told.steps.items ≡ step ∷ take 15 inner.steps.items) × (told.octet ≡ inner.octet) ×
     (told.found ≡ inner.found) × (told.error ≡ inner.error)
 
--- A value is refused so. What is told is what looking into it tells; or where that tells nothing, this refusal.
+-- A value is refused so. What is told is what looking into the value tells. Where looking tells nothing, this refusal
+-- is told.
 abbrev pub IsToldWith : Refusal Error → (List ℕ → Type 0) → (ℕ → List ℕ → Refused → Type 0) → ℕ → List ℕ → Refused →
     Type 0
 IsToldWith r silent tells end octets told = tells end octets told ⊎ (silent octets × IsOfWhole r end octets told)
@@ -69,7 +71,7 @@ IsToldUnder step reads silent tells end octets told =
 
 -- Rows of fields.
 
--- the place of the field behind this one; the last number is that of all that would follow
+-- The place of the field behind this one. All fields that would follow the last number have that number.
 abbrev pub next_place : ℕ → ℕ
 next_place place = min (place + 1) (2 ^ 64 - 1)
 

@@ -7,7 +7,7 @@ use crate::refused::Refused;
 use asn1_rs::{BerParser, DerParser, Error, FromBer, FromDer};
 use std::alloc::Global;
 
-/// Where in the octets a `T` is refused by DER, and with what; or `None`, where a `T` is read at their front.
+/// Where in the octets a `T` is refused by DER, and with what. The answer is `None` where a `T` is read at their front.
 ///
 /// The octets are read anew: a reader tells no place, and costs nothing for it. `L` says of which parts it is told.
 pub fn place_by_der<'a, T, L>(alloc: Global, octets: &'a [u8]) -> Option<Refused>
@@ -23,8 +23,8 @@ where
     }
 }
 
-/// Where in the octets a `T` is refused by BER, and with what; or `None`, where a `T` is read at their front: as
-/// [`place_by_der`].
+/// Where in the octets a `T` is refused by BER, and with what, as [`place_by_der`]. The answer is `None` where a `T` is
+/// read at their front.
 pub fn place_by_ber<'a, T, L>(alloc: Global, octets: &'a [u8]) -> Option<Refused>
 where
     T: FromBer<'a, Error> + Drop,

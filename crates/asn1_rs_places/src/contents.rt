@@ -37,8 +37,8 @@ fn closing_octets(length: Length) -> usize
     }
 }
 
-/// The element at the front of the octets, where it opens, and how many octets of the input stand before the end of its
-/// contents octets.
+/// The element at the front of the octets, where it opens. With it comes how many octets of the input stand before the
+/// end of its contents octets.
 pub(crate) fn opened<'a, P>(
     alloc: Global,
     octets: &'a [u8],

@@ -1,11 +1,12 @@
-//! Where reading was refused: in which field, item or tagged value, at which octet of the input, and with which error.
+//! Where reading was refused: in which field, item or tagged value, and at which octet of the input. The error is told
+//! too.
 //!
 //! A reader tells an error and no place, and costs nothing for it. [`place_by_der`] and [`place_by_ber`] read the
-//! octets anew, and answer the path to the part that was refused, the octet, and the error ([`Refused`]).
+//! octets anew. They answer the path to the part that was refused, the octet, and the error ([`Refused`]).
 //!
-//! Into which parts they look is said by a type, which has the make of the value: [`InStruct`] and [`InImplicit`] for
-//! a struct of fields, [`Items`] for a list, [`UnderTag`] for a value under an explicit tag, [`Held`] for an `Option`
-//! and a `Defaulted`, and [`Whole`] where it is not looked into.
+//! A type says into which parts they look, and has the make of the value. [`InStruct`] and [`InImplicit`] stand for a
+//! struct of fields, and [`Items`] for a list. [`UnderTag`] stands for a value under an explicit tag, and [`Held`] for
+//! an `Option` and a `Defaulted`. [`Whole`] stands where a value is not looked into.
 //!
 //!     type ReminderLook = (Whole, (Held<UnderTag<Whole>>, (Held<Whole>, (Items<Whole>, ()))));
 //!

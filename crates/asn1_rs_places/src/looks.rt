@@ -37,7 +37,7 @@ impl<'a, T: FromBer<'a, Error>> ReadsValue<'a, BerParser> for T {
     }
 }
 
-/// A way to look into a `T` that is read by the parser `P`, where it is refused: it tells which part is.
+/// A way to look into a `T` that the parser `P` reads. Where the `T` is refused, the look tells which part is.
 pub trait LooksInto<'a, P, T> {
     /// Nothing is told of these octets.
     ghost silent: { List ℕ → Type 0 };
@@ -51,7 +51,7 @@ pub trait LooksInto<'a, P, T> {
         ensures { MatchOption result (silent octets.now) (tells end octets.now) };
 }
 
-/// What is told of octets that are refused so: what `L` tells of a part, or else the refusal of the whole.
+/// What is told of octets that are refused so. It is what `L` tells of a part, or else the refusal of the whole.
 pub(crate) fn told<'a, P, T, L>(
     alloc: Global,
     octets: &'a [u8],

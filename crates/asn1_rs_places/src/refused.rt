@@ -111,7 +111,8 @@ struct Actual<'r> {
     found: &'r Option<(Class, Tag)>,
 }
 
-/// A number of another class is told by its class, and one that is not that of what was found by itself alone.
+/// A number of another class is told with its class. A number that is not the one that was found is told by itself
+/// alone.
 impl fmt::Display for Actual<'_> {
     fn fmt<W: fmt::Write>(&self, f: &mut fmt::Formatter<W>) -> fmt::Result {
         let tag = self.tag;
@@ -175,8 +176,8 @@ impl Refused {
 
 /// The path, the octet, and the error: `field 3, field 1, at octet 24 [5]: expected tag number 16, found [5]`.
 ///
-/// An identifier whose class is not universal is told in the notation of X.680 8.2, and never by the name of the
-/// universal type that has its number.
+/// An identifier of another class than universal is told in the notation of X.680 8.2. The name of the universal type
+/// that has its number never stands for it.
 impl fmt::Display for Refused {
     fn fmt<W: fmt::Write>(&self, f: &mut fmt::Formatter<W>) -> fmt::Result {
         for step in self.path() {

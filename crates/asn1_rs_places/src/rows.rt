@@ -10,10 +10,10 @@ use std::alloc::Global;
 
 /// A way to look into a row that is read by the parser `P`, where it is refused.
 ///
-/// It is pairs of a way to look into a field and one for the row behind it, with `()` at the end.
+/// The look is pairs of a way to look into a field and one for the row behind that field. `()` is at the end.
 pub trait LooksIntoRow<'a, P: ReadsBy, R: ReadsRow<'a, P>> {
-    /// This may be told of these octets, of which the first field has this place, and which end so many octets behind
-    /// the begin of the input.
+    /// This may be told of these octets. Their first field has this place, and they end so many octets behind the begin
+    /// of the input.
     ghost tells_in_row: { ℕ → ℕ → List ℕ → Refused → Type 0 };
 
     /// Where the row that the octets are is refused. The first field has this place, and the octets end `end` octets

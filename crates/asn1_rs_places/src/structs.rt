@@ -42,17 +42,17 @@ where
 ///         ghost are_fields = { λ octets x gives.
 ///             (⟦<Measurement as LawfulStruct>⟧.laws.as_row x, gives) };
 ///     }
-// A mark of the caller's has it, and not the struct: so a caller can say it of a struct of another crate. No bound
-// names the row, and the mark calls the look: so what holds a struct passes nothing of its fields on.
+// A mark of the caller's has the impl, and not the struct. So a caller can write one for a struct of another crate. No
+// bound names the row, and the mark calls the look. So what holds a struct passes nothing of the struct's fields on.
 pub trait FieldsByDer<'a, T: ReadsFields<'a>> {
     /// These octets are the fields.
     ghost takes_fields: { List ℕ → Type 0 };
 
-    /// This may be told of the fields that these octets are, which end so many octets behind the begin of the
+    /// This may be told of the fields that these octets are. The octets end so many octets behind the begin of the
     /// input.
     ghost tells_in_fields: { ℕ → List ℕ → Refused → Type 0 };
 
-    /// Where the fields that the octets are are refused.
+    /// The octets are the fields: where these are refused.
     fn look_by_der(alloc: Global, octets: &'a [u8], end: usize) -> Option<Refused>
         ensures { MatchOption result (takes_fields octets.now)
             (tells_in_fields end octets.now) };
@@ -67,11 +67,11 @@ pub trait FieldsByBer<'a, T: ReadsFieldsByBer<'a>> {
     /// These octets are the fields.
     ghost takes_fields: { List ℕ → Type 0 };
 
-    /// This may be told of the fields that these octets are, which end so many octets behind the begin of the
+    /// This may be told of the fields that these octets are. The octets end so many octets behind the begin of the
     /// input.
     ghost tells_in_fields: { ℕ → List ℕ → Refused → Type 0 };
 
-    /// Where the fields that the octets are are refused.
+    /// The octets are the fields: where these are refused.
     fn look_by_ber(alloc: Global, octets: &'a [u8], end: usize) -> Option<Refused>
         ensures { MatchOption result (takes_fields octets.now)
             (tells_in_fields end octets.now) };

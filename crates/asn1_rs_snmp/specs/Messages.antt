@@ -1,5 +1,5 @@
--- Laws of messages. They are opened in the proofs of their author; what holds a message goes by their name, so that it
--- is checked in a time that does not grow with what stands below.
+-- Laws of messages. The proofs of their author open them. What holds a message goes by their names. So the time of its
+-- check does not grow with what stands below.
 use Rattle.std.specs.Prelude.{refl}
 use Rattle.asn1_rs.specs.Choices.Data.{choice_type}
 use Rattle.asn1_rs.specs.Structs.Data.{LawfulStructOf, end_row, field_of, struct_of, then_row}

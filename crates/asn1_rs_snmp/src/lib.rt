@@ -1,5 +1,6 @@
-//! Variable bindings of the Simple Network Management Protocol (RFC 3416), as structs of fields and choices: they are read
-//! by BER, borrowed from the octets, exactly where their grammar says, and written as their one strict encoding.
+//! Variable bindings of the Simple Network Management Protocol (RFC 3416), as structs of fields and choices. They are
+//! read by BER exactly where their grammar says, and borrowed from the octets. They are written as their one strict
+//! encoding.
 //!
 //! The thirteen types of a variable's value are divided in parts of five at most, each a choice.
 #![tactic(auto)]

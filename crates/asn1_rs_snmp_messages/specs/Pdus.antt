@@ -1,4 +1,4 @@
--- What requests and notices hold, with its laws; which arm a request, or a notice, is, and the laws of these.
+-- What requests and notices hold, with its laws. Which arm a request is, and which a notice is, with the laws of these.
 use Rattle.std.specs.Prelude.{ℕ, refl}
 use Rattle.asn1_headers.specs.declared.error.Error.{Error}
 use Rattle.asn1_rs.specs.declared.asn1_types.tagged.Implicit.{Implicit}
@@ -22,7 +22,7 @@ use Rattle.asn1_rs_snmp_messages.specs.declared.pdus.Pdus.TheVariants as pdus
 use Rattle.asn1_rs_snmp_messages.specs.declared.requests.RequestPdus.{RequestPdus}
 use Rattle.asn1_rs_snmp_messages.specs.declared.requests.RequestPdus.TheVariants as requests
 
--- The laws of what they hold. They go by these names, which are opened in the proofs of the three functions of each.
+-- The laws of what they hold. They go by these names. The proofs of the three functions of each open its name.
 
 unfoldable pub pdu_laws : LawfulStructOf Pdu
 pdu_laws = struct_of (λ x. (x.request_id, (x.error_status, (x.error_index, (x.variable_bindings, tt)))))

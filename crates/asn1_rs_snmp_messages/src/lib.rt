@@ -1,6 +1,6 @@
 //! Messages of the Simple Network Management Protocol of communities, version 2 (RFC 1901, RFC 3416), as structs of
-//! fields and choices: they are read by BER, borrowed from the octets, exactly where their grammar says, and written as
-//! their one strict encoding.
+//! fields and choices. They are read by BER exactly where their grammar says, and borrowed from the octets. They are
+//! written as their one strict encoding.
 //!
 //! The eight kinds of what a message holds are divided in two choices of four.
 #![tactic(auto)]

@@ -48,7 +48,7 @@ PlaceCheck = ExplicitCheck (IsElement max_depth) IntegerCheck
 abbrev pub PlaceForm : ℤ → Identifier → List ℕ → Type 0
 PlaceForm = ExplicitForm 2 1 (IntegerForm (IsUnsigned 1))
 
--- as one element, under both tags; by DER the constraints of the number are looked at too
+-- A handle as one element, under both tags. By DER the constraints of the number are looked at too.
 abbrev pub handle_element : {T : Type 0} → (T → ℕ) → ElementGrammar T
 handle_element number = record {
   Value = ℤ;

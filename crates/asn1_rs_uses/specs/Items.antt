@@ -22,8 +22,8 @@ NoWord G octets e = NoFront G octets
 abbrev pub EndsBefore : {V E : Type 0} → (List ℕ → V → Type 0) → List ℕ → E → Type 0
 EndsBefore {V} G octets e = (values : List V) × EndsJoined G (NoWord G) octets values e
 
--- a set of numbers begins the octets, and the rest follows:
--- its contents octets are the words of these numbers, joined in their order
+-- A set of numbers begins the octets, and the rest follows. The set's contents octets are the words of these numbers,
+-- joined in their order.
 pub record BeginsWithNumbers (octets numbers rest : List ℕ) : Type 0 where
   pub word : List ℕ
   pub parts : Parts
@@ -32,7 +32,7 @@ pub record BeginsWithNumbers (octets numbers rest : List ℕ) : Type 0 where
   pub set : parts.id.number ≡ 17
   pub joined : IsJoined NumberByDer parts.content (map pos numbers)
 
--- no element by DER begins the octets; or one does, and memory was wanted, or it is no set of numbers by DER
+-- No element by DER begins the octets, or the element there is no set of numbers by DER. Or memory was wanted.
 abbrev pub RefusesNumbers : List ℕ → Refusal Error → Type 0
 RefusesNumbers octets r = Refused DerElementFault der_refusal octets r ⊎
     ((p : Parts) × (rest : List ℕ) × (e : Error) × Front IsDerElement octets p rest × (r ≡ refused e) ×

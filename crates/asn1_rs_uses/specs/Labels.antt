@@ -65,8 +65,8 @@ headed_octets t =
     let inner = string_element_octets t.inner in
     header_octets (class_number (class_of t.header)) true (tag_of t.header).0 (length inner) ++ inner
 
--- What each call answers of a value with these octets: their number, that they were written into one writer and into
--- another, or a beginning of them, and vectors of them.
+-- What each call answers of a value with these octets. One answers their number, and some answer vectors of them. Two
+-- write them, or a beginning of them, each into a writer of its own.
 pub record AreEachCall (octets : List ℕ) (old new other_old other_new : WriterState) (answers : EachCall) : Type 0 where
   pub counted : IfOk answers.counted (λ n. n ≡ length octets)
   pub written : Wrote octets old new answers.written

@@ -16,7 +16,7 @@ use Rattle.asn1_rs.specs.Tagged.Headed.{HeadedWhole}
 use Rattle.asn1_rs.specs.Traits.{OfParts}
 use Rattle.asn1_rs_uses.specs.declared.levels.Level.{Level}
 
--- what converting an element may answer: as the library does, with its refusal made the caller's
+-- What converting an element may answer. It is what the library answers, with the refusal made the caller's.
 abbrev pub RefusedAs : {T E : Type 0} → (Error → E) → (Any → Result T Error → Type 0) → Any → Result T E → Type 0
 RefusedAs own converts any (Ok x) = converts any (Ok x)
 RefusedAs own converts any (Err r) = (e : Error) × converts any (Err e) × (r ≡ own e)

@@ -27,7 +27,7 @@ abbrev pub WrittenEmptyPart : SerializeError → Type 0
 WrittenEmptyPart (serialize_errors.ASN1Error e) = TellsOfEmptyPart e
 WrittenEmptyPart _ = ⊥
 
--- an element of one octet, with tag number 0, under the class that the value names; a class past 3 is the refusal
+-- An element of one octet, with tag number 0, under the class that the value names. A class past 3 is the refusal.
 abbrev pub in_class_writing : Writing InClass
 in_class_writing = record (plain_writing (λ x. header_octets x.class false 0 1) (λ x. x.octet ∷ []) (λ _. false)) {
   header_refuses = λ x. NamesNoClass x.class;

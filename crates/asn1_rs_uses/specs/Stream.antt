@@ -11,7 +11,8 @@ use Rattle.asn1_headers.specs.Answers.{Front}
 use Rattle.asn1_rs.specs.FieldReader.{BecomesError}
 use Rattle.asn1_headers.specs.Header.Reading.{Refused, der_refusal}
 
--- So many octets are awaited: those that the element lacks, or one, where fewer than six may end within an identifier.
+-- So many octets are awaited. These are the octets that the element lacks. Where fewer than six octets may end within
+-- an identifier, one is awaited.
 abbrev pub IsAwaited : List ℕ → Refusal Error → Type 0
 IsAwaited buffer r =
     Refused DerElementFault der_refusal buffer r ⊎ ((r ≡ cut (Size 1)) × (length buffer < 6))

@@ -40,16 +40,16 @@ BeginsUnderTag number octets content rest =
 abbrev pub SameError : Error → Error → Type 0
 SameError e f = f ≡ e
 
--- Refused as the element is, then as an octet string in its contents octets is or for octets behind it, then for its
--- tag number.
+-- Refused first as the element is. Then it is refused as an octet string in the contents octets is, or for octets
+-- behind the string. The last refusal is for the tag number.
 abbrev pub RefusesStringUnder : ℕ → List ℕ → Refusal Error → Type 0
 RefusesStringUnder number octets r = Expects {K = Explicit} {T = OctetString} {E = Error}
     (ThenByDer SameError
     (TakesWhole (DerGives is_primitive (LendsContent octet_string_leaf cow_of) SameError) SameError))
     (HasNumber (record { 0 = number })) SameError octets (Err r)
 
--- Refused as the element is, then as it is converted to an octet string under the tag number of these, then for its tag
--- number.
+-- Refused first as the element is. Then it is refused as its conversion to an octet string is, under the tag number of
+-- these. The last refusal is for the tag number.
 abbrev pub RefusesOctetsUnder : ℕ → List ℕ → Refusal Error → Type 0
 RefusesOctetsUnder number octets r = Expects {K = Implicit} {T = OctetString} {E = Error}
     (ThenByDer SameError (TakesImplicit (record { 0 = octet_string_number })

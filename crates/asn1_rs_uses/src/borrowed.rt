@@ -58,7 +58,7 @@ pub fn read_utf8_string<'a>(
     read_der::<Utf8String<'a>, Error>(alloc, octets)
 }
 
-/// The text of the element at the front, by BER: that of a string of any of the types that are read as UTF-8.
+/// The text of the element at the front, by BER. The element is a string of any of the types that are read as UTF-8.
 ///
 /// Refused as the element is, then with the first check of such a string that it breaks.
 pub fn any_text<'a>(alloc: Global, octets: &'a [u8]) -> Result<&'a str, Error>
@@ -95,7 +95,7 @@ pub fn read_sequence<'a>(alloc: Global, octets: &'a [u8]) -> ParseResult<'a, Seq
     read_der::<Sequence<'a>, Error>(alloc, octets)
 }
 
-/// The items of a sequence, by DER, which last as long as it does: its contents octets may be its own.
+/// The items of a sequence, by DER. They last as long as the sequence does, since its contents octets may be its own.
 pub fn items_of<'a, T, E>(alloc: Global, sequence: &'a Sequence<'a>) -> Result<Vec<T>, E>
 where
     T: FromDer<'a, E> + Drop,

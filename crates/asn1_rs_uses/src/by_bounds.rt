@@ -19,9 +19,10 @@ pub fn read_by_bound<'a, T: FromBer<'a, Error>>(
     T::from_ber(alloc, octets)
 }
 
-/// How many octets all the values have that an iterator gives. Refused where one is, and where the sum passes `usize`.
+/// How many octets all the values have that an iterator gives. Refused where a value is, and where the sum passes
+/// `usize`.
 // Of refusals there is no clause. `T` is any type, so `to_der_len` may refuse as its `writing` tells of a value that
-// the iterator gave. The loop would have to keep which value that is, and no invariant that does was proved.
+// the iterator gave. The loop would have to keep which value that is. No invariant that keeps it was proved.
 pub fn count_all<'s, T, I>(items: I) -> Result<usize, Error>
 where
     T: ToDer + 's,

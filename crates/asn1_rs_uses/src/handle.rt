@@ -17,7 +17,7 @@ pub type Place = TaggedExplicit<u8, Error, 1>;
 
 /// A handle: its place, under the implicit tag 0, which is of the same class.
 ///
-/// By DER the constraints of the number are looked at, as those of a value under an implicit tag alone are not.
+/// By DER the constraints of the number are looked at. Under an implicit tag alone they are not.
 #[derive(Debug, PartialEq, Eq, Drop)]
 pub struct Handle(pub TaggedImplicit<Place, Error, 0>);
 

@@ -22,9 +22,10 @@ pub fn read_oid<'a>(alloc: Global, octets: &'a [u8]) -> ParseResult<'a, Oid<'a>,
     read_der::<Oid<'a>, Error>(alloc, octets)
 }
 
-/// The arcs that an identifier gives again that is made of these: the same, but of 0, 0 the one arc 0 (X.690 8.19).
+/// The arcs that an identifier gives again that is made of these. They are the same, but for 0, 0 the one arc 0 (X.690
+/// 8.19).
 ///
-/// Refused as `Oid::from` refuses, or where memory is, of arcs that are those of an identifier.
+/// Refused as `Oid::from` refuses. Arcs of an identifier are also refused when out of memory.
 pub fn arcs_found_again(alloc: Global, arcs: &[u64]) -> Result<Vec<u64>, OidParseError>
     ensures { MatchResult result
         (λ found. AreAbsoluteArcs arcs.now × (found.items ≡ arcs_back false arcs.now))

@@ -14,8 +14,8 @@ use std::alloc::Global;
 
 /// The element at the front of the octets, by DER, and what follows it.
 ///
-/// It keeps its identifier octets, which the input lends. Octets that end within such an element are refused: with `Incomplete` of those that
-/// are missing or fewer, or with `InvalidTag`.
+/// It keeps its identifier octets, which the input lends. Octets that end within such an element are refused. The
+/// refusal is `Incomplete` of as many as are missing or fewer, or `InvalidTag`.
 pub fn read_element<'a>(alloc: Global, octets: &'a [u8]) -> ParseResult<'a, Any<'a>, Error>
     ensures cut { (more word rest : List ℕ) (p : Parts) → IsDerElement word p
         → octets.now ++ more ≡ word ++ rest → length octets.now < length word

@@ -12,8 +12,8 @@ use std::alloc::Global;
 
 /// The items in contents octets, in their order, by the reader `F`.
 ///
-/// On Ok the contents octets are words of the reader's grammar with these values, joined. On Err words begin them, and
-/// no word begins what follows; or memory was wanted.
+/// On Ok the contents octets are words of the reader's grammar with these values, joined. On Err memory was wanted, or
+/// words begin the contents octets, and no word begins what follows.
 pub fn items_in<'a, T, F, E>(alloc: Global, content: &'a [u8]) -> Result<Vec<T>, E>
 where
     T: Drop,
@@ -63,8 +63,8 @@ pub fn elements_in<'a>(alloc: Global, content: &'a [u8]) -> Result<Vec<Any<'a>>,
 }
 
 /// How many numbers stand in contents octets that are numbers by DER, joined.
-// Of other contents octets there is no clause: `count` of std counts a refusal as an item, so that the number is one
-// more than that of the words before it, which tells a caller nothing.
+// Of other contents octets there is no clause. `count` of std counts a refusal as an item. So the number is one more
+// than that of the words before the refusal, and tells a caller nothing.
 pub fn count_of_numbers(alloc: Global, content: &[u8]) -> usize
     ensures { AreJoinedWords NumberByDer content.now → (numbers : List ℤ)
         × IsJoined NumberByDer content.now numbers × (result ≡ length numbers) }

@@ -1,5 +1,5 @@
-//! Borrowed octet strings under tags, counted and written: optional ones, lists of them, one with its header in hand,
-//! and a list that a type of a caller's holds.
+//! Borrowed octet strings under tags, counted and written. Some are optional, and some stand in a list. One has its
+//! header in hand, and one list is held by a type of a caller's.
 ghost use Rattle.std.specs.Prelude.{◌≡◌, ◌+◌, false, true, length, IfErr, MatchResult};
 ghost use Rattle.asn1_headers.specs.Writer.{Wrote, MayRefuse, IsMemoryOrLength};
 ghost use Rattle.asn1_headers.specs.Prepended.{Prepended};
@@ -85,8 +85,8 @@ pub struct EachCall {
     pub strict: SerializeResult<Vec<u8>>,
 }
 
-/// Counts a value and writes it, by each call. Of a value in DER form each is refused only for its number of octets, by
-/// its writer, or when out of memory.
+/// Counts a value and writes it, by each call. Of a value in DER form each call is refused only for the number of
+/// octets, by the writer, or when out of memory.
 pub fn by_each_call<T: LawfulWrite, W: DerWrite>(
     x: &T,
     alloc: Global,
@@ -123,8 +123,8 @@ pub fn labels_by_each_call<W: DerWrite>(
     by_each_call(labels, alloc, w, v)
 }
 
-/// An octet string under the tag that its header tells, by each call. Where the header has the constructed bit, as
-/// X.690 8.14.2 asks of an explicit tag, it is refused as a value in DER form is.
+/// An octet string under the tag that its header tells, by each call. X.690 8.14.2 asks for the constructed bit at an
+/// explicit tag. Where the header has this bit, the value is refused as a value in DER form is.
 // Of another header no clause tells the refusals, since `by_each_call` tells them of values in DER form alone.
 pub fn headed_by_each_call<W: DerWrite>(
     headed: &Headed<'_>,
@@ -141,7 +141,7 @@ pub fn headed_by_each_call<W: DerWrite>(
     by_each_call(headed, alloc, w, v)
 }
 
-/// A list of names, which holds its labels and nothing else, so that it is counted and written as they are.
+/// A list of names. It holds its labels and nothing else. So it is counted and written as they are.
 #[derive(Debug, PartialEq, Eq, Drop)]
 pub struct Directory<'a>(pub Labels<'a>);
 

@@ -16,8 +16,8 @@ pub fn first_second(year: u32, month: u8, day: u8) -> GeneralizedTime
     GeneralizedTime::new(time)
 }
 
-/// How many octets it has. Refused where a field is past its place in the text: a year of five digits, a month or a day
-/// of three.
+/// How many octets it has. Refused where a field is too long for its place in the text. Such are a year of five digits,
+/// and a month or a day of three.
 // Of a time that has no place in its text no clause is proved here: `write_midnight` tells its refusal.
 pub fn count_midnight(year: u32, month: u8, day: u8) -> Result<usize, Error>
     ensures { generalized_time_refused (midnight year month day) ≡ false →

@@ -108,7 +108,8 @@ pub fn vector_in_class(alloc: Global, x: &InClass) -> SerializeResult<Vec<u8>>
     x.to_der_vec(alloc)
 }
 
-/// Appends a list of such values. Where one is of no class nothing is appended; without memory a beginning may be.
+/// Appends a list of such values. Where a value is of no class, nothing is appended. Without memory a beginning may be
+/// appended.
 pub fn write_list_in_classes<W: DerWrite>(
     xs: &Vec<InClass>,
     alloc: Global,
@@ -208,8 +209,8 @@ pub fn count_name(parts: &Vec<NamePart<'_>>) -> Result<usize, Error>
     parts.to_der_len()
 }
 
-/// Appends a name. One with an empty part is refused with the text of that, unless it is out of memory or the length
-/// passes `usize` before; and nothing is appended.
+/// Appends a name. A name with an empty part is refused with the text of that part, and nothing is appended. Another
+/// refusal may come first: out of memory, or a length that passes `usize`.
 pub fn write_name<W: DerWrite>(
     parts: &Vec<NamePart<'_>>,
     alloc: Global,

@@ -16,7 +16,8 @@ use asn1_rs::{
 use std::alloc::Global;
 use std::collections::{BTreeSet, HashSet};
 
-/// The numbers of the set at the front of the octets, by DER, each as often as it stands there, and what follows it.
+/// The numbers of the set at the front of the octets, by DER, and what follows the set. Each number comes as often as
+/// it stands there.
 pub fn read_counted(alloc: Global, octets: &[u8]) -> ParseResult<'_, SetOf<u8>, Error>
     ensures { Exactly IsCutIdentifier CountedNumbers (λ set. multiset (map pos (items_of set)))
         WantsMemory octets.now (seen result) }
@@ -82,8 +83,8 @@ pub fn read_signed(alloc: Global, octets: &[u8]) -> ParseResult<'_, HashSet<i8>,
     answer
 }
 
-/// The set of distinct signed numbers, by DER: the octets follow from the members alone,
-/// whatever order they are kept in.
+/// The set of distinct signed numbers, by DER. The octets follow from the members alone, whatever order these are kept
+/// in.
 pub fn write_signed(alloc: Global, signed: &HashSet<i8>) -> SerializeResult<Vec<u8>>
     ensures { MatchResult result (λ octets. octets.items ≡ signed_set_octets signed.now.keys)
         (IsMemoryOrLength (signed_set_octets signed.now.keys)) }

@@ -19,8 +19,8 @@ use std::alloc::Global;
 /// How many octets an identifier has at most: the first one, and five digits of a tag number below 2^32.
 const LONGEST_IDENTIFIER: usize = 6;
 
-/// Whether more octets may help although the reader of elements refused these: it answers `InvalidTag` also where the
-/// input ends within an identifier, as only fewer than six octets do.
+/// Whether more octets may help although the reader of elements refused these. That reader answers `InvalidTag` also
+/// where the input ends within an identifier. Only fewer than six octets end so.
 fn may_end_within_identifier(buffer: &[u8], refusal: &Err<Error>) -> bool
     ensures short { result ≡ true → length buffer.now < 6 }
     ensures long { result ≡ false → refusal.now ≡ refused errors.InvalidTag →
@@ -32,8 +32,9 @@ fn may_end_within_identifier(buffer: &[u8], refusal: &Err<Error>) -> bool
 /// The message at the front of the buffer, by DER, and what follows it.
 ///
 /// `Incomplete(n)` says to wait: the element is cut, and n octets at least are missing. Fewer than six octets may end
-/// within an identifier in high form, where `Any::from_der` answers `InvalidTag`: one more is awaited then. Each other
-/// refusal is final, also that of a part that is cut within the whole element: it is the message's, as an error.
+/// within an identifier in high form. `Any::from_der` answers `InvalidTag` there, and one more octet is awaited. Each
+/// other refusal is final, and is the error of the message. So is the refusal of a part that is cut within the whole
+/// element.
 pub fn next_message<'a, T: FromDer<'a, Error>>(
     alloc: Global,
     buffer: &'a [u8],

@@ -1,5 +1,5 @@
-//! Borrowed octets under a tag whose number is told at run time: where they are optional, and by the readers of one tag
-//! number.
+//! Borrowed octets under a tag whose number is told at run time. They are read where they are optional, and by the
+//! readers of one tag number.
 ghost use Rattle.std.specs.Prelude.{◌≡◌, IfOk, IfErr, IsOk, MatchOption};
 ghost use Rattle.asn1_headers.specs.Answers.{seen};
 ghost use Rattle.asn1_rs.specs.OctetString.{octets_of};
@@ -64,7 +64,8 @@ pub fn optional_octets<'a>(
 
 /// The octet string under the explicit tag of this number, by DER, with the header of the tag.
 ///
-/// Refused as the element is, as the octet string in it is, for octets behind that, and for another number.
+/// Refused as the element is, and as the octet string in it is. Octets behind the string and another number are refused
+/// too.
 pub fn string_under<'a>(
     alloc: Global,
     number: u32,

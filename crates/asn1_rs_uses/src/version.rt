@@ -96,7 +96,7 @@ pub fn read_version(alloc: Global, octets: &[u8]) -> ParseResult<'_, Version, Er
     read_der::<Version, Error>(alloc, octets)
 }
 
-/// The tag numbers of a version and of a reference to one: that of what it holds.
+/// The tag numbers of a version and of a reference to one. Each is that of what the version holds.
 pub fn numbers_of_versions() -> (u32, u32)
     ensures { result ≡ (0, 0) }
 {

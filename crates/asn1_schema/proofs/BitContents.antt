@@ -6,6 +6,7 @@ use Rattle.std.proofs.lemmas.Bool.{eqb-true}
 use Rattle.x690.specs.Octets.{IsOctets}
 use Rattle.asn1_schema.specs.Grammar.{digits_2, bits_in, IsBitContent}
 use Rattle.asn1_schema.specs.Rules.{strict}
+use Rattle.asn1_schema.proofs.SameParts.{same_parts}
 
 pub digits_length : (w n : ℕ) → length (digits_2 w n) ≡ w
 digits_length zero n = refl
@@ -13,19 +14,6 @@ digits_length (suc w) n =
     let l = length-append (digits_2 w (n / 2)) (nat_eq (n % 2) 1 ∷ []) in
     let i = digits_length w (n / 2) in
     omega (arith, l, i)
-
--- lists that begin with as many are the same up to there
-same_start : (xs ys u w : List Bool) → length xs ≡ length ys → xs ++ u ≡ ys ++ w → (xs ≡ ys) × (u ≡ w)
-same_start [] [] u w l e = (refl, e)
-same_start [] (y ∷ ys) u w l e = absurd (omega (arith, l))
-same_start (x ∷ xs) [] u w l e = absurd (omega (arith, l))
-same_start (x ∷ xs) (y ∷ ys) u w l e =
-    let first : x ≡ y = cc in
-    let rest : xs ++ u ≡ ys ++ w = cc in
-    let n : length xs ≡ length ys = omega (arith, l) in
-    let others = same_start xs ys u w n rest in
-    let same = others.0 in
-    (cc, others.1)
 
 bit_one : (m n : ℕ) → m < 2 → n < 2 → nat_eq m 1 ≡ nat_eq n 1 → m ≡ n
 bit_one m n a b e = elim (nat_eq m 1) as (λ t. nat_eq m 1 ≡ t → t ≡ nat_eq n 1 → m ≡ n) [
@@ -45,7 +33,7 @@ digits_one (suc w) m n a b e =
     let p = pow-suc 2 w in
     let l : length (digits_2 w (m / 2)) ≡ length (digits_2 w (n / 2)) =
     digits_length w (m / 2) ∙ sym (digits_length w (n / 2)) in
-    let s = same_start (digits_2 w (m / 2)) (digits_2 w (n / 2)) (nat_eq (m % 2) 1 ∷ []) (nat_eq (n % 2) 1 ∷ []) l e in
+    let s = same_parts (digits_2 w (m / 2)) (digits_2 w (n / 2)) (nat_eq (m % 2) 1 ∷ []) (nat_eq (n % 2) 1 ∷ []) l e in
     let last = s.1 in
     let same : nat_eq (m % 2) 1 ≡ nat_eq (n % 2) 1 = cc in
     let h = digits_one w (m / 2) (n / 2) (half_below (2 ^ w) m (omega (arith, a, p)))
@@ -66,7 +54,7 @@ bits_one [] (y ∷ u) a b e = absurd (let f = ap length e in let l = bits_length
 bits_one (x ∷ o) [] a b e = absurd (let f = ap length e in let l = bits_length (x ∷ o) in omega (arith, f, l))
 bits_one (x ∷ o) (y ∷ u) a b e =
     let l : length (digits_2 8 x) ≡ length (digits_2 8 y) = digits_length 8 x ∙ sym (digits_length 8 y) in
-    let s = same_start (digits_2 8 x) (digits_2 8 y) (bits_in o) (bits_in u) l e in
+    let s = same_parts (digits_2 8 x) (digits_2 8 y) (bits_in o) (bits_in u) l e in
     let first : x ≡ y = digits_one 8 x y (a 0) (b 0) s.0 in
     let rest : o ≡ u = bits_one o u (λ k. a (suc k)) (λ k. b (suc k)) s.1 in
     cc

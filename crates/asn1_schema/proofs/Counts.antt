@@ -8,6 +8,7 @@ use Rattle.asn1_schema.specs.Values.{Leaf, bits, count}
 use Rattle.asn1_schema.specs.Counting.{one_more, values_from}
 use Rattle.asn1_schema.specs.Tape.{Kept, KeptRow, kept_leaf, kept_string, kept_bits, kept_row, kept_chosen, kept_none, kept_absent, kept_more, string}
 use Rattle.asn1_schema.specs.declared.tape.Item.{Item}
+use Rattle.asn1_schema.specs.declared.tape.Item.TheVariants as items
 use Rattle.asn1_schema.specs.Tape.{Mark, mark, marks, absent_mark, leaf_mark, arm_mark, arm_end_mark, begin_mark, end_mark, pieces_mark, pieces_end_mark, tape_of, tapes_of, values_of}
 
 -- a value begins
@@ -41,6 +42,19 @@ item_within v arms zero m ms e = absurd (e refl)
 item_within v arms (suc within) m ms e =
     let z : within ≡ suc within - 1 = omega arith in
     ap (λ (w : ℕ). v + values_from arms w ms) z
+
+-- what neither holds others nor ends them is a value, but for a field that is left out
+pub leaf_of : (i : Item) → ((n : ℕ) → i ≡ items.Begin n → ⊥) → ((n : ℕ) → i ≡ items.End n → ⊥) →
+    (i ≡ items.Absent → ⊥) → ((n : ℕ) → i ≡ items.Arm n → ⊥) → ((n : ℕ) → i ≡ items.ArmEnd n → ⊥) →
+    ((n : ℕ) → i ≡ items.Pieces n → ⊥) → ((n : ℕ) → i ≡ items.PiecesEnd n → ⊥) → (l : Leaf) × (mark i ≡ leaf_mark l)
+leaf_of (items.Begin n) a b c d e f g = absurd (a n refl)
+leaf_of (items.End n) a b c d e f g = absurd (b n refl)
+leaf_of items.Absent a b c d e f g = absurd (c refl)
+leaf_of (items.Arm n) a b c d e f g = absurd (d n refl)
+leaf_of (items.ArmEnd n) a b c d e f g = absurd (e n refl)
+leaf_of (items.Pieces n) a b c d e f g = absurd (f n refl)
+leaf_of (items.PiecesEnd n) a b c d e f g = absurd (g n refl)
+leaf_of _ a b c d e f g = (_, refl)
 
 -- one item more, by what it is
 module _ (v arms within : ℕ) (i : Item) (none : within ≡ 0) where

@@ -1,5 +1,5 @@
 -- A value ends where its first marks say.
-use Rattle.std.proofs.Common.{◌≡◌, ◌∙◌, ap, sym, refl, ℕ, suc, ◌+◌, List, [], ◌∷◌, ◌++◌, append_assoc, length, arith, take, drop}
+use Rattle.std.proofs.Common.{◌≡◌, ◌∙◌, ap, sym, refl, ℕ, suc, ◌+◌, List, [], ◌∷◌, ◌++◌, append_assoc, length, arith, take, drop, min}
 use Rattle.std.specs.Prelude.{map}
 use Rattle.std.proofs.lemmas.List.{length-map, length-append, take-map, drop-map}
 use Rattle.std.proofs.Math.Seq.{take-append_seam, drop-append_seam, take-nil, drop-nil}
@@ -30,36 +30,44 @@ first_is (kept_chosen k v) rest =
 
 -- what is cut off there is the value
 module _ (xs : List Item) (kept : Kept) (rest : List Mark) (e : marks xs ≡ tape_of kept ++ rest) where
-  pub few_marks : length (tape_of kept) + length rest ≡ length xs
+  few_marks : length (tape_of kept) + length rest ≡ length xs
   few_marks =
       let l = length-map xs mark in
       let m = length-append (tape_of kept) rest in
       let n = ap (λ (ms : List Mark). length ms) e in
       omega (arith, l, m, n)
 
-  pub value_taken : (n : ℕ) → n ≡ length (tape_of kept) → marks (take n xs) ≡ tape_of kept
+  value_taken : (n : ℕ) → n ≡ length (tape_of kept) → marks (take n xs) ≡ tape_of kept
   value_taken n is = sym (take-map mark n xs) ∙ ap (λ (ms : List Mark). take n ms) e
       ∙ ap (λ (i : ℕ). take i (tape_of kept ++ rest)) is ∙ take-append_seam (tape_of kept) rest
 
-  pub rest_left : (n : ℕ) → n ≡ length (tape_of kept) → marks (drop n xs) ≡ rest
+  rest_left : (n : ℕ) → n ≡ length (tape_of kept) → marks (drop n xs) ≡ rest
   rest_left n is = sym (drop-map mark n xs) ∙ ap (λ (ms : List Mark). drop n ms) e
       ∙ ap (λ (i : ℕ). drop i (tape_of kept ++ rest)) is ∙ drop-append_seam (tape_of kept) rest
 
+  -- so it is where no more is cut off than there is
+  pub value_cut : (n : ℕ) → n ≡ min (marks_of_first (marks xs)) (length xs) →
+      (marks (take n xs) ≡ tape_of kept) × (marks (drop n xs) ≡ rest)
+  value_cut n least =
+      let first = ap marks_of_first e ∙ first_is kept rest in
+      let few = few_marks in
+      let is : n ≡ length (tape_of kept) = omega (arith, least, first, few) in
+      (value_taken n is, rest_left n is)
+
 -- so of a field that is left out, which has one mark
 module _ (xs : List Item) (rest : List Mark) (e : marks xs ≡ absent_mark ∷ rest) where
-  pub one_mark : suc (length rest) ≡ length xs
-  one_mark =
+  pub absent_cut : (n : ℕ) → n ≡ min (marks_of_first (marks xs)) (length xs) →
+      (marks (take n xs) ≡ absent_mark ∷ []) × (marks (drop n xs) ≡ rest)
+  absent_cut n least =
       let l = length-map xs mark in
-      let n = ap (λ (ms : List Mark). length ms) e in
-      omega (arith, l, n)
-
-  pub absent_taken : (n : ℕ) → n ≡ 1 → (marks (take n xs) ≡ absent_mark ∷ []) × (marks (drop n xs) ≡ rest)
-  absent_taken n is = (
-    sym (take-map mark n xs) ∙ ap (λ (ms : List Mark). take n ms) e
-        ∙ ap (λ (i : ℕ). take i (absent_mark ∷ rest)) is,
-    sym (drop-map mark n xs) ∙ ap (λ (ms : List Mark). drop n ms) e
-        ∙ ap (λ (i : ℕ). drop i (absent_mark ∷ rest)) is,
-  )
+      let all = ap (λ (ms : List Mark). length ms) e in
+      let first = ap marks_of_first e in
+      let is : n ≡ 1 = omega (arith, least, first, l, all) in (
+        sym (take-map mark n xs) ∙ ap (λ (ms : List Mark). take n ms) e
+            ∙ ap (λ (i : ℕ). take i (absent_mark ∷ rest)) is,
+        sym (drop-map mark n xs) ∙ ap (λ (ms : List Mark). drop n ms) e
+            ∙ ap (λ (i : ℕ). drop i (absent_mark ∷ rest)) is,
+      )
 
 -- The field at the front of a row, and the row of the others.
 module _ (items front back : List Item) (ks : KeptRow) (e : marks items ≡ tapes_of ks)

@@ -1,3 +1,4 @@
+pub mod SameParts
 pub mod Tags
 pub mod Strings
 pub mod OneValue
@@ -6,6 +7,7 @@ pub mod BitContents
 pub mod OneWord
 pub mod Includes
 pub mod TimeTexts
+pub mod MomentTexts
 pub mod StrictIsBer
 pub mod OneTape
 pub mod Arms
@@ -15,6 +17,7 @@ pub mod Taken
 pub mod TakenRows
 pub mod TakenPieces
 pub mod AnyParts
+pub mod PieceSizes
 pub mod Bounded
 pub mod Lacking
 pub mod UnusedBits
@@ -25,3 +28,8 @@ pub mod BitsTaken
 pub mod LargeNumbers
 pub mod NamedBits
 pub mod Cursors
+pub mod Builds
+pub mod NamedParts
+pub mod ZerosTaken
+pub mod TextFronts
+pub mod TrimmedPieces

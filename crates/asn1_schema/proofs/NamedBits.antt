@@ -1,19 +1,20 @@
 -- Bits with names have no zeros at the end.
 use Rattle.std.proofs.Common.{◌≡◌, ◌∙◌, ap, sym, subst, refl, ℕ, zero, suc, ◌-◌, ◌+◌, ◌*◌, ◌<◌, ◌≤◌, ◌/◌, ◌%◌, ◌↔◌, IsTrue, Bool, true, false, List, [], ◌∷◌, ◌++◌, length, arith, append_assoc, append-nil, take, inl, inr}
-use Rattle.std.specs.Prelude.{nat_eq, Err}
+use Rattle.std.specs.Prelude.{nat_eq, Result, Ok, Err}
 use Rattle.x690.specs.Elements.{Parts}
 use Rattle.asn1_schema.specs.declared.coding.Coding.{Coding}
 use Rattle.asn1_schema.specs.declared.coding.Coding.TheVariants as codings
 use Rattle.asn1_schema.specs.declared.fault.Fault.{Fault}
 use Rattle.asn1_schema.specs.declared.fault.Fault.TheVariants as faults
 use Rattle.asn1_schema.specs.declared.schema.Node.{Node}
+use Rattle.asn1_schema.specs.declared.tape.Item.{Item}
 use Rattle.asn1_schema.specs.declared.schema.Kind.TheVariants as kinds
 use Rattle.asn1_schema.specs.Values.{Value, bits, leaf}
 use Rattle.asn1_schema.specs.Reading.{rules_of, IsOfKind, Judges}
 use Rattle.std.proofs.lemmas.List.{take-append-le, take_all, length-append}
 use Rattle.std.proofs.Math.Seq.{take-append_seam}
-use Rattle.asn1_schema.specs.Grammar.{digits_2, bits_in, trimmed, in_front_of, IsBitContent}
-use Rattle.asn1_schema.specs.Bits.{bit_at, used_bits}
+use Rattle.asn1_schema.specs.Grammar.{digits_2, bits_in, trimmed, in_front_of, IsBitContent, IsString, of_bits}
+use Rattle.asn1_schema.specs.Bits.{bit_at, used_bits, IsNamed}
 use Rattle.asn1_schema.proofs.BitContents.{digits_length, bits_length}
 use Rattle.asn1_schema.proofs.UnusedBits.{bits_append}
 
@@ -29,7 +30,7 @@ front_short true (z ∷ ys) = omega arith
 front_short false [] = omega arith
 front_short false (z ∷ ys) = omega arith
 
-trimmed_one : (xs : List Bool) → trimmed (xs ++ true ∷ []) ≡ xs ++ true ∷ []
+pub trimmed_one : (xs : List Bool) → trimmed (xs ++ true ∷ []) ≡ xs ++ true ∷ []
 trimmed_one [] = refl
 trimmed_one (x ∷ xs) = ap (in_front_of x) (trimmed_one xs) ∙ front_some x xs true
 
@@ -96,44 +97,6 @@ last_told o init last u e l =
     let r = last_used o init last u e l in
     subst (λ (z : List Bool). IsTrue (bit_at u last) ↔ (trimmed z ≡ z)) (sym r.1) (by_last (bit_at u last) r.0)
 
--- contents octets say the bits that are used
-pub used_are : (e : Coding) (u : ℕ) (o : List ℕ) (bs : List Bool) → IsBitContent (rules_of e) (u ∷ o) bs → bs ≡ used_bits u o
-used_are e u o bs a =
-    let eq = a.is in
-    let first : u ≡ length a.unused = cc in
-    let rest : o ≡ a.octets = cc in
-    let all : bits_in o ≡ bs ++ a.unused = ap bits_in rest ∙ a.bits in
-    let l = ap (λ (z : List Bool). length z) all ∙ length-append bs a.unused in
-    let b = bits_length o in
-    let n : 8 * length o - u ≡ length bs = omega (arith, l, b, first) in
-    sym (ap (λ (z : List Bool). take (8 * length o - u) z) all ∙ ap (λ (i : ℕ). take i (bs ++ a.unused)) n
-    ∙ take-append_seam bs a.unused)
-
-by_rules : (e : Coding) (bs : List Bool) → trimmed bs ≡ bs → (rules_of e).Named bs
+pub by_rules : (e : Coding) (bs : List Bool) → trimmed bs ≡ bs → (rules_of e).Named bs
 by_rules codings.Der bs t = t
 by_rules (codings.Ber max) bs t = tt
-
--- with no zeros at the end they are the value of named bits
-pub named_put : (e : Coding) (nodes : List Node) (depth t : ℕ) (named : Bool) (p : Parts) (bs : List Bool) → named ≡ true →
-    trimmed bs ≡ bs → p.id.constructed ≡ false → IsBitContent (rules_of e) p.content bs →
-    IsOfKind e nodes depth t (kinds.Bits named) p (leaf (bits bs))
-named_put e nodes depth t true p bs n same c a =
-    (bs, ap (λ (z : List Bool). leaf (bits z)) (sym same), inl (c, a), λ x. by_rules e bs same)
-named_put e nodes depth t false p bs n same c a = absurd (cc)
-
--- by DER others are none
-pub named_none : (e : Coding) (nodes : List Node) (depth t : ℕ) (named : Bool) (p : Parts) (u : ℕ) (o : List ℕ) →
-    named ≡ true → e ≡ codings.Der → p.id.constructed ≡ false → p.content ≡ u ∷ o →
-    (trimmed (used_bits u o) ≡ used_bits u o → ⊥) → (v : Value) → IsOfKind e nodes depth t (kinds.Bits named) p v → ⊥
-named_none codings.Der nodes depth t true p u o n d c is not v (bs, vs, inl s, r) =
-    let used = used_are codings.Der u o bs (subst (λ (z : List ℕ). IsBitContent (rules_of codings.Der) z bs) is s.1) in
-    not (subst (λ (z : List Bool). trimmed z ≡ z) used (r refl))
-named_none codings.Der nodes depth t true p u o n d c is not v (bs, vs, inr s, r) = absurd (let f = s.1 in cc)
-named_none codings.Der nodes depth t false p u o n d c is not v b = absurd (cc)
-named_none (codings.Ber max) nodes depth t named p u o n d c is not v b = absurd (cc (d))
-
--- so a refusal tells that there is none
-pub judged_by : (P : Value → Type 0) (f : Fault) → (f ≡ faults.Refused → (v : Value) → P v → ⊥) → Judges P (Err f)
-judged_by P faults.Refused none = none refl
-judged_by P faults.Memory none = tt
-judged_by P faults.Unsupported none = tt

@@ -6,6 +6,7 @@ use Rattle.x690.specs.Laws.Joined.{joined_same}
 use Rattle.x690.specs.Elements.{Parts}
 use Rattle.asn1_schema.specs.Values.{joined}
 use Rattle.asn1_schema.specs.Grammar.{Rules, Says, StringOf, IsString, IsUniversal, bits_in, of_octets, of_bits}
+use Rattle.asn1_schema.proofs.SameParts.{same_ends}
 
 -- what the laws of values ask of a set of rules
 pub record AreLawfulRules (R : Rules) : Type 0 where
@@ -51,19 +52,9 @@ string_one {A} R lawful S one (suc depth) p xs ys (inr a) (inr b) =
 pub one_octets : HasOneContent of_octets
 one_octets c xs ys a b = a ∙ sym b
 
-same_end : (xs ys u w : List Bool) → xs ++ u ≡ ys ++ w → length u ≡ length w → xs ≡ ys
-same_end [] [] u w e l = refl
-same_end [] (y ∷ ys) u w e l = absurd (let f = ap length e in let g = length-append (y ∷ ys) w in omega (arith, f, g, l))
-same_end (x ∷ xs) [] u w e l = absurd (let f = ap length e in let g = length-append (x ∷ xs) u in omega (arith, f, g, l))
-same_end (x ∷ xs) (y ∷ ys) u w e l =
-    let first : x ≡ y = cc in
-    let rest : xs ++ u ≡ ys ++ w = cc in
-    let others = same_end xs ys u w rest l in
-    cc
-
 pub one_bits : (R : Rules) → HasOneContent (of_bits R)
 one_bits R c xs ys a b =
     let e : length a.unused ∷ a.octets ≡ length b.unused ∷ b.octets = sym a.is ∙ b.is in
     let l : length a.unused ≡ length b.unused = cc in
     let o : a.octets ≡ b.octets = cc in
-    same_end xs ys a.unused b.unused (sym a.bits ∙ (ap bits_in o ∙ b.bits)) l
+    (same_ends xs ys a.unused b.unused l (sym a.bits ∙ (ap bits_in o ∙ b.bits))).0

@@ -17,7 +17,7 @@ use Rattle.asn1_schema.specs.declared.schema.Node.{Node}
 use Rattle.asn1_schema.specs.declared.schema.Kind.{Kind}
 use Rattle.asn1_schema.specs.declared.schema.Kind.TheVariants as kinds
 use Rattle.asn1_schema.specs.declared.tape.Item.{Item}
-use Rattle.asn1_schema.specs.Values.{Value, Values, row, chosen, measure}
+use Rattle.asn1_schema.specs.Values.{Value, Values, leaf, row, chosen, measure}
 use Rattle.asn1_schema.specs.Grammar.{Rules, has_tag, Says, Begins, AreItems, AnyOrder, KindBody, IsOfNode, Through, Body, Word, IsMeasured}
 use Rattle.asn1_schema.specs.Tape.{Kept, kept_leaf, kept_chosen, Mark, mark, marks, arm_mark, arm_end_mark, value_of, tape_of}
 use Rattle.asn1_schema.specs.Sound.{is_sound, HasTagAt, arms_told, all_before, leads_back}
@@ -54,20 +54,41 @@ leaf_read P old new item (Ok x) j ok err = record {
 }
 leaf_read P old new item (Err faults.Memory) j ok err = tt
 leaf_read P old new item (Err faults.Refused) j ok err = absurd (cc)
-leaf_read P old new item (Err faults.Unsupported) j ok err = tt
+
+pub leaf_put : {T : Type 0} (P : Value → Type 0) (judged : Result Item Fault) (old new : List Item) (r : Result T Fault) →
+    Judges P judged → ((item : Item) → judged ≡ Ok item →
+    OnOk r (marks new ≡ marks old ++ mark item ∷ []) × IfErr r (λ e. e ≡ faults.Memory)) →
+    ((e : Fault) → judged ≡ Err e → r ≡ Err e) → ReadsValue P old new r
+leaf_put P (Ok item) old new r j put refused =
+    let a = put item refl in
+    leaf_read P old new item r j a.0 a.1
+leaf_put {T} P (Err faults.Memory) old new r j put refused =
+    subst (λ (x : Result T Fault). ReadsValue P old new x) (sym (refused faults.Memory refl)) tt
+leaf_put {T} P (Err faults.Refused) old new r j put refused =
+    subst (λ (x : Result T Fault). ReadsValue P old new x) (sym (refused faults.Refused refl)) j
 
 pub no_leaf : (T : Type 0) (P : Value → Type 0) (old : List Item) (e : Fault) → Judges P (Err e) →
     ReadsValue {T = T} P old old (Err e)
 no_leaf T P old faults.Memory j = tt
 no_leaf T P old faults.Refused j = j
-no_leaf T P old faults.Unsupported j = tt
+
+pub no_value : (T : Type 0) (P Q : Value → Type 0) → ((v : Value) → Q v → P v) → (old : List Item) (e : Fault) →
+    Judges P (Err e) → ReadsValue {T = T} Q old old (Err e)
+no_value T P Q f old faults.Memory j = tt
+no_value T P Q f old faults.Refused j = λ v q. j v (f v q)
+
+-- what is judged as one is judged as another with the same values
+pub judges_map : (P Q : Value → Type 0) → ((v : Value) → P v → Q v) → ((v : Value) → Q v → P v) →
+    (r : Result Item Fault) → Judges P r → Judges Q r
+judges_map P Q f g (Ok item) j = (j.0, j.1, f (leaf j.0) j.2)
+judges_map P Q f g (Err faults.Memory) j = tt
+judges_map P Q f g (Err faults.Refused) j = λ v q. j v (g v q)
 
 -- what is read as one is read as another with the same values
 pub reads_map : {T : Type 0} (P Q : Value → Type 0) → ((v : Value) → P v → Q v) → ((v : Value) → Q v → P v) →
     (old new : List Item) (r : Result T Fault) → ReadsValue P old new r → ReadsValue Q old new r
 reads_map P Q f g old new (Ok x) a = record { kept = a.kept; holds = f (value_of a.kept) a.holds; is = a.is }
 reads_map P Q f g old new (Err faults.Memory) a = tt
-reads_map P Q f g old new (Err faults.Unsupported) a = tt
 reads_map P Q f g old new (Err faults.Refused) a = λ v q. a v (g v q)
 
 -- Types of a table, by their nodes.
@@ -191,7 +212,6 @@ module _ (R : Rules) (lawful : AreLawfulRules R) where
         Front R.ElementOf octets p rest → ReadsValue {T = T} (Sub p) old mid (Err e) →
         ReadsFront (Begins R Sub octets) old new (Err e)
     front_refused T octets rest p old mid new faults.Memory f a = tt
-    front_refused T octets rest p old mid new faults.Unsupported f a = tt
     front_refused T octets rest p old mid new faults.Refused f a = no_value_no_front octets rest p f a
 
     -- the word that the octets are
@@ -214,7 +234,6 @@ module _ (R : Rules) (lawful : AreLawfulRules R) where
     pub whole_refused : (T : Type 0) (octets : List ℕ) (old mid new : List Item) (e : Fault) →
         ReadsFront (Begins R Sub octets) old mid (Err e) → ReadsValue {T = T} (Says R Sub octets) old new (Err e)
     whole_refused T octets old mid new faults.Memory a = tt
-    whole_refused T octets old mid new faults.Unsupported a = tt
     whole_refused T octets old mid new faults.Refused a = λ v b.
         a v [] (record { word = octets; says = b; is = sym (append-nil octets) })
 
@@ -247,7 +266,6 @@ module _ (R : Rules) (lawful : AreLawfulRules R) where
           ∙ append_assoc (marks old) (arm_mark k ∷ tape_of a.kept) (arm_end_mark k ∷ [])));
     }
     arm_read p k t old mid made new (Err faults.Memory) found first a last err = tt
-    arm_read p k t old mid made new (Err faults.Unsupported) found first a last err = tt
     arm_read p k t old mid made new (Err faults.Refused) found first a last err = absurd (cc)
 
     pub arm_refused : (T U : Type 0) (p : Parts) (k t : ℕ) (old mid made new : List Item) (e : Fault) →
@@ -256,7 +274,6 @@ module _ (R : Rules) (lawful : AreLawfulRules R) where
         ReadsValue {T = T} (λ v. (k : ℕ) × (w : Value) × (a : ℕ) × (v ≡ chosen k w) × (slice_get arms k ≡ Some a) ×
         Body R table depth a p w) old new (Err e)
     arm_refused T U p k t old mid made new faults.Memory told found tagged a = tt
-    arm_refused T U p k t old mid made new faults.Unsupported told found tagged a = tt
     arm_refused T U p k t old mid made new faults.Refused told found tagged a = λ v b.
         let same : b.0 ≡ k = one_arm table arms b.0 k b.2 t p.id told b.4 found
         (tag_of_body R lawful table depth b.2 p b.1 b.5) tagged in
@@ -304,7 +321,6 @@ pub decode_refused : (R : Rules) (table : List Node) (depth t : ℕ) (octets : L
     IsErrOf result faults.Refused → NoFront (Word R table depth t) octets
 decode_refused R table depth t octets old new (Ok rest) a is = absurd (cc)
 decode_refused R table depth t octets old new (Err faults.Memory) a is = absurd (cc)
-decode_refused R table depth t octets old new (Err faults.Unsupported) a is = absurd (cc)
 decode_refused R table depth t octets old new (Err faults.Refused) a is = λ word rest v begins w.
     a v rest (record { word = word; says = w; is = begins })
 

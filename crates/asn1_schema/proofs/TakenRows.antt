@@ -94,7 +94,6 @@ ended Now Whole old mid new (Ok x) s a = record {
   is = grown old mid new s.done a.kept s.is a.is;
 }
 ended Now Whole old mid new (Err faults.Memory) s a = tt
-ended Now Whole old mid new (Err faults.Unsupported) s a = tt
 ended Now Whole old mid new (Err faults.Refused) s a = λ vs w. let b = s.back vs w in a b.0 b.1
 
 refused : (Now Whole : Values → Type 0) (old new : List Item) → SoFar Now Whole old new →
@@ -115,14 +114,12 @@ row_read b Q old mid made new place (Ok x) constructed at opened a closed err = 
       ((a.is ∙ ap (λ (z : List Mark). z ++ tapes_of a.kept) opened) ∙ append_assoc (marks old) (begin_mark 0 ∷ []) (tapes_of a.kept)) at;
 }
 row_read b Q old mid made new place (Err faults.Memory) constructed at opened a closed err = tt
-row_read b Q old mid made new place (Err faults.Unsupported) constructed at opened a closed err = tt
 row_read b Q old mid made new place (Err faults.Refused) constructed at opened a closed err = absurd (cc)
 
 pub row_refused : (T U : Type 0) (b : Bool) (Q : Values → Type 0) (old mid made new : List Item) (e : Fault) →
     ReadsRow {T = U} Q mid made (Err e) →
     ReadsValue {T = T} (λ v. (vs : Values) × (v ≡ row vs) × (b ≡ true) × Q vs) old new (Err e)
 row_refused T U b Q old mid made new faults.Memory a = tt
-row_refused T U b Q old mid made new faults.Unsupported a = tt
 row_refused T U b Q old mid made new faults.Refused a = λ v w. a w.0 w.3
 
 -- where a row begins, its place is on the tape
@@ -178,7 +175,6 @@ module _ (R : Rules) (lawful : AreLawfulRules R) where
         (rest ≡ [] → ⊥) → SoFar (AreItems R Sub AnyOrder rest) Whole old mid →
         ReadsFront (Begins R Sub rest) mid new (Err e) → ReadsRow {T = T} Whole old new (Err e)
     items_refused T Whole rest old mid new faults.Memory some s a = tt
-    items_refused T Whole rest old mid new faults.Unsupported some s a = tt
     items_refused T Whole rest old mid new faults.Refused some s a =
         refused (AreItems R Sub AnyOrder rest) Whole old mid s (no_items rest some a)
 
@@ -323,7 +319,6 @@ module _ (R : Rules) (lawful : AreLawfulRules R) where
         ReadsField R (Sub f.of) (BeginsTagged R table f.of rest) f.presence rest mid new (Err e) →
         ReadsRow {T = T} Whole old new (Err e)
     fields_refused T unknown Whole left f fs rest old mid new faults.Memory is told s m = tt
-    fields_refused T unknown Whole left f fs rest old mid new faults.Unsupported is told s m = tt
     fields_refused T unknown Whole left f fs rest old mid new faults.Refused is told s m =
         refused (AreFields R Sub unknown (f ∷ fs) rest) Whole old mid
         (subst (λ (z : List Field). SoFar (AreFields R Sub unknown z rest) Whole old mid) is s)
@@ -369,7 +364,6 @@ module _ (R : Rules) (lawful : AreLawfulRules R) where
         ReadsValue {T = T} (Sub t p) old mid (Err e) →
         ReadsField R (Sub t) (BeginsTagged R table t octets) presence octets old new (Err e)
     field_refused T presence t octets rest p old mid new faults.Memory f h a = tt
-    field_refused T presence t octets rest p old mid new faults.Unsupported f h a = tt
     field_refused T presence t octets rest p old mid new faults.Refused f h a = record {
       none = λ v r b. let u = same_front R lawful octets b.word f.word r rest b.says.parts p b.says.element f.fits b.is f.is in
           a v (subst (λ (z : Parts). Sub t z v) u.0 b.says.value);
@@ -384,7 +378,6 @@ module _ (R : Rules) (lawful : AreLawfulRules R) where
         ReadsValue {T = T} (Says R (Sub t) d.items) old mid (Err e) →
         ReadsField R (Sub t) (BeginsTagged R table t octets) presence octets old new (Err e)
     field_default T presence d t octets old mid new faults.Memory is n a = tt
-    field_default T presence d t octets old mid new faults.Unsupported is n a = tt
     field_default T presence d t octets old mid new faults.Refused is n a = record {
       none = no_tag t octets n;
       why = inr (subst (MayNot R (Sub t)) (sym is) a);

@@ -14,6 +14,7 @@ use Rattle.asn1_schema.specs.declared.schema.Node.{Node}
 use Rattle.asn1_schema.specs.declared.schema.Kind.TheVariants as kinds
 use Rattle.asn1_schema.specs.Values.{Value, bits, leaf}
 use Rattle.asn1_schema.proofs.BitContents.{digits_length, bits_length}
+use Rattle.asn1_schema.proofs.SameParts.{same_last}
 
 pub low_next : (u n : ℕ) → u ≢ 0 → (LowZero u n → (n % 2 ≡ 0) × LowZero (u - 1) (n / 2)) ×
     ((n % 2 ≡ 0) → LowZero (u - 1) (n / 2) → LowZero u n)
@@ -30,19 +31,6 @@ even : (m : ℕ) → m < 2 → nat_eq m 1 ≡ false → m ≡ 0
 even zero l e = refl
 even (suc zero) l e = absurd (cc)
 even (suc (suc m)) l e = absurd (omega (arith, l))
-
-last_bits : (r s : List Bool) (m n : Bool) → r ++ m ∷ [] ≡ s ++ n ∷ [] → (r ≡ s) × (m ≡ n)
-last_bits [] [] m n e = (refl, cc)
-last_bits [] (y ∷ []) m n e = absurd (cc)
-last_bits [] (y ∷ z ∷ s) m n e = absurd (cc)
-last_bits (x ∷ []) [] m n e = absurd (cc)
-last_bits (x ∷ z ∷ r) [] m n e = absurd (cc)
-last_bits (x ∷ r) (y ∷ s) m n e =
-    let first : x ≡ y = cc in
-    let rest : r ++ m ∷ [] ≡ s ++ n ∷ [] = cc in
-    let u = last_bits r s m n rest in
-    let others = u.0 in
-    (cc, u.1)
 
 next_zeros : (u : ℕ) → replicate u false ++ false ∷ [] ≡ replicate (suc u) false
 next_zeros u =
@@ -70,7 +58,7 @@ zeros_low : (u w n : ℕ) → u ≤ w → drop (w - u) (digits_2 w n) ≡ replic
 zeros_low zero w n l e = tt
 zeros_low (suc u) zero n l e = absurd (omega (arith, l))
 zeros_low (suc u) (suc w) n l e =
-    let p = last_bits (drop (w - u) (digits_2 w (n / 2))) (replicate u false) (nat_eq (n % 2) 1) false
+    let p = same_last (drop (w - u) (digits_2 w (n / 2))) (replicate u false) (nat_eq (n % 2) 1) false
     (sym (next_low u w n (omega (arith, l))) ∙ (e ∙ sym (next_zeros u))) in
     (even (n % 2) (omega arith) p.1, zeros_low u w (n / 2) (omega (arith, l)) p.0)
 
@@ -157,16 +145,3 @@ bits_of e u o bs a =
       omega (arith, l, b, first),
       subst (rules_of e).Unused (sym (ap (drop (8 * length o - u)) all ∙ drop_at bs a.unused (8 * length o - u) n)) a.allowed,
     )
-
--- an element says the bits that its contents octets say
-pub bits_put : (e : Coding) (nodes : List Node) (depth t : ℕ) (named : Bool) (p : Parts) (bs : List Bool) → named ≡ false →
-    p.id.constructed ≡ false → IsBitContent (rules_of e) p.content bs →
-    IsOfKind e nodes depth t (kinds.Bits named) p (leaf (bits bs))
-bits_put e nodes depth t true p bs n c a = absurd (cc)
-bits_put e nodes depth t false p bs n c a = (bs, refl, inl (c, a), λ x. absurd (cc))
-
-pub bits_none : (e : Coding) (nodes : List Node) (depth t : ℕ) (named : Bool) (p : Parts) → p.id.constructed ≡ false →
-    ((bs : List Bool) → IsBitContent (rules_of e) p.content bs → ⊥) → (v : Value) →
-    IsOfKind e nodes depth t (kinds.Bits named) p v → ⊥
-bits_none e nodes depth t named p c n v (bs, is, inl s, r) = n bs s.1
-bits_none e nodes depth t named p c n v (bs, is, inr s, r) = absurd (let f = s.1 in cc)

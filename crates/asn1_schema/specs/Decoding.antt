@@ -40,6 +40,7 @@ pub record Fails {T : Type 0} (G : List ℕ → Value → Type 0) (is_cut : Type
   pub refused : IsErrOf result errors.Refused → NoFront G octets
   -- whatever follows, but where they end within identifier octets
   pub lasting : IsErrOf result errors.Refused → (is_cut → ⊥) → (more : List ℕ) → NoFront G (octets ++ more)
+  pub cut : (n : ℕ) → IsErrOf result (errors.Incomplete n) → NoFront G octets
   -- none does with fewer octets more
   pub incomplete : (n : ℕ) → IsErrOf result (errors.Incomplete n) → (more : List ℕ) → length more < n →
       NoFront G (octets ++ more)

@@ -1,5 +1,5 @@
 -- What readers of values may answer.
-use Rattle.std.specs.Prelude.{ℕ, ℤ, Bool, true, false, List, [], ◌∷◌, ◌++◌, ◌≡◌, ◌⊎◌, Contains, length, slice_get, Option, Some, Result, Ok, Err}
+use Rattle.std.specs.Prelude.{ℕ, ℤ, Bool, true, false, List, [], ◌∷◌, ◌++◌, ◌≡◌, ◌⊎◌, Contains, length, slice_get, Option, Some, None, Result, Ok, Err}
 use Rattle.std.specs.Borrow.{Bor}
 use Rattle.x690.specs.Identifiers.{Identifier}
 use Rattle.x690.specs.Lengths.{LengthForm, definite, indefinite}
@@ -20,7 +20,7 @@ use Rattle.asn1_schema.specs.Values.{Leaf, enumerated, Value, Values, leaf, row,
 use Rattle.asn1_schema.specs.Grammar.{Rules, Says, Begins, AreItems, AnyOrder, AreFields, KindBody, Through, Body, Word, IsMeasured}
 use Rattle.asn1_schema.specs.Rules.{der, ber}
 use Rattle.asn1_schema.specs.Sound.{HasTagAt}
-use Rattle.asn1_schema.specs.Tape.{Kept, KeptRow, Mark, mark, marks, leaf_mark, absent_mark, value_of, values_of, tape_of, tapes_of}
+use Rattle.asn1_schema.specs.Tape.{Kept, KeptRow, Mark, mark, marks, leaf_mark, absent_mark, arm_mark, value_of, values_of, tape_of, tapes_of}
 
 abbrev pub rules_of : Coding → Rules
 rules_of codings.Der = der
@@ -80,7 +80,6 @@ abbrev pub Judges : (Value → Type 0) → Result Item Fault → Type 0
 Judges P (Ok item) = (l : Leaf) × (mark item ≡ leaf_mark l) × P (leaf l)
 Judges P (Err faults.Refused) = (v : Value) → P v → ⊥
 Judges P (Err faults.Memory) = Unit {0}
-Judges P (Err faults.Unsupported) = Unit {0}
 
 -- a value with this property was put on the tape
 pub record PutsValue (P : Value → Type 0) (old new : List Item) : Type 0 where
@@ -88,12 +87,11 @@ pub record PutsValue (P : Value → Type 0) (old new : List Item) : Type 0 where
   pub holds : P (value_of kept)
   pub is : marks new ≡ marks old ++ tape_of kept
 
--- The value is put on the tape; or there is none. Nothing is claimed where memory ran out, or a kind is not supported.
+-- The value is put on the tape; or there is none. Nothing is claimed where memory ran out.
 abbrev pub ReadsValue : {T : Type 0} → (Value → Type 0) → List Item → List Item → Result T Fault → Type 0
 ReadsValue P old new (Ok x) = PutsValue P old new
 ReadsValue P old new (Err faults.Refused) = (v : Value) → P v → ⊥
 ReadsValue P old new (Err faults.Memory) = Unit {0}
-ReadsValue P old new (Err faults.Unsupported) = Unit {0}
 
 -- values of fields, or of a list
 pub record PutsRow (P : Values → Type 0) (old new : List Item) : Type 0 where
@@ -105,7 +103,6 @@ abbrev pub ReadsRow : {T : Type 0} → (Values → Type 0) → List Item → Lis
 ReadsRow P old new (Ok x) = PutsRow P old new
 ReadsRow P old new (Err faults.Refused) = (vs : Values) → P vs → ⊥
 ReadsRow P old new (Err faults.Memory) = Unit {0}
-ReadsRow P old new (Err faults.Unsupported) = Unit {0}
 
 -- a value, before this rest
 pub record PutsFront (P : Value → List ℕ → Type 0) (old new : List Item) (rest : List ℕ) : Type 0 where
@@ -121,7 +118,6 @@ abbrev pub ReadsFront : (Value → List ℕ → Type 0) → List Item → List I
 ReadsFront P old new (Ok rest) = PutsFront P old new rest.now
 ReadsFront P old new (Err faults.Refused) = HasNoFront P
 ReadsFront P old new (Err faults.Memory) = Unit {0}
-ReadsFront P old new (Err faults.Unsupported) = Unit {0}
 
 -- an element with a tag of the type at a place begins the octets
 pub record BeginsTagged (R : Rules) (table : List Node) (t : ℕ) (octets : List ℕ) : Type 0 where
@@ -162,19 +158,18 @@ ReadsField R Sub Tagged presence octets old new (Ok rest) =
     PutsFront (Begins R Sub octets) old new rest.now ⊎ LeavesOut R Sub presence octets old new rest.now
 ReadsField R Sub Tagged presence octets old new (Err faults.Refused) = IsMissing R Sub Tagged presence octets
 ReadsField R Sub Tagged presence octets old new (Err faults.Memory) = Unit {0}
-ReadsField R Sub Tagged presence octets old new (Err faults.Unsupported) = Unit {0}
 
--- A measure is within bounds; or it is not. Nothing is claimed where it is not supported.
+-- A measure is within bounds; or it is not.
 abbrev pub JudgesBounds : {T : Type 0} → Option ℤ → Option ℤ → Option ℤ → Result T Fault → Type 0
 JudgesBounds lower upper m (Ok x) = IsMeasured lower upper m
 JudgesBounds lower upper m (Err faults.Refused) = IsMeasured lower upper m → ⊥
 JudgesBounds lower upper m (Err faults.Memory) = Unit {0}
-JudgesBounds lower upper m (Err faults.Unsupported) = Unit {0}
 
--- so for a leaf; other items are not supported
+-- So for a leaf, and for a value of an arm, which has no measure. Nothing is claimed of other items.
 abbrev pub JudgesItem : {T : Type 0} → Option ℤ → Option ℤ → Mark → Result T Fault → Type 0
 JudgesItem lower upper (leaf_mark l) r = JudgesBounds lower upper (measure (leaf l)) r
-JudgesItem lower upper _ r = r ≡ Err faults.Unsupported
+JudgesItem lower upper (arm_mark k) r = JudgesBounds lower upper None r
+JudgesItem lower upper _ r = Unit {0}
 
 -- a value of a type within bounds
 abbrev pub IsWithinOf : Coding → List Node → ℕ → ℕ → Option ℤ → Option ℤ → Parts → Value → Type 0

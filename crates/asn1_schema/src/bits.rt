@@ -1,19 +1,13 @@
 //! Contents octets of bit strings.
-ghost use Rattle.std.specs.Prelude.{ℕ, ◌≤◌, ◌≡◌, ◌↔◌, List, IsTrue};
+ghost use Rattle.std.specs.Prelude.{ℕ, ◌≤◌, ◌≡◌, ◌↔◌, ◌*◌, ◌++◌, List, length, Bool, IsTrue, IfSome, IfNone};
 ghost use Rattle.x690.specs.Octets.{IsOctets};
-ghost use Rattle.asn1_schema.specs.declared.schema.Node.{Node};
-ghost use Rattle.asn1_schema.specs.declared.schema.Kind.TheVariants as kinds;
-ghost use Rattle.asn1_schema.specs.Reading.{parts_of, IsOfKind, Judges};
-ghost use Rattle.asn1_schema.specs.declared.coding.Coding.TheVariants as codings;
-ghost use Rattle.asn1_schema.specs.declared.fault.Fault.TheVariants as faults;
-ghost use Rattle.asn1_schema.specs.Grammar.{trimmed};
-ghost use Rattle.asn1_schema.specs.Bits.{LowZero, MayBeUnused, bit_at, used_bits};
+ghost use Rattle.asn1_schema.specs.Reading.{rules_of, Judges};
+ghost use Rattle.asn1_schema.specs.Grammar.{IsBitContent, trimmed};
+ghost use Rattle.asn1_schema.specs.Bits.{LowZero, MayBeUnused, bit_at, used_bits, first_bits, IsNamed};
 
 use crate::coding::Coding;
-use crate::elements::Head;
 use crate::fault::Fault;
 use crate::tape::Item;
-use crate::texts::in_pieces;
 
 /// Whether the last bits of an octet are zeros.
 #[cycle(low)]
@@ -74,42 +68,79 @@ fn ends_in_one(unused: u8, octets: &[u8]) -> bool
     }
 }
 
-/// Bits with names that end in zeros: by DER there are none. By BER the zeros are no part of the value, and such bits
-/// are not supported.
-fn with_zeros(coding: Coding) -> Fault
-    ensures { result ≡ faults.Refused → coding ≡ codings.Der }
+/// The place of the lowest bit of an octet that is set from a place on.
+#[cycle(lowest)]
+fn lowest_bit(octet: u8, place: u8) -> Option<u8>
+    ensures some { (before : List Bool) → IfSome result (λ p. trimmed (before ++ first_bits place octet)
+        ≡ before ++ first_bits p octet) }
+    ensures few { IfSome result (λ p. (place ≤ p) × (p ≤ 7)) }
+    ensures none { (before : List Bool) → IfNone result
+        (trimmed (before ++ first_bits place octet) ≡ trimmed before) }
+{
+    if place >= 8 {
+        return None;
+    }
+    if is_bit_set(octet, place) {
+        return Some(place);
+    }
+    lowest_bit(octet, place + 1)
+}
+
+/// Bits without the zeros at their end: so many are unused, of these octets (X.680 22.7).
+pub(crate) fn without_zeros(unused: u8, octets: &[u8]) -> (u8, &[u8])
+    ensures few { result.0 ≤ 7 }
+    ensures same { used_bits result.0 result.1.now ≡ trimmed (used_bits unused octets.now) }
+{
+    let mut len = octets.len();
+    let mut zeros = unused;
+    while len > 0 {
+        match lowest_bit(octets[len - 1], zeros) {
+            Some(place) => return (place, &octets[..len]),
+            None => {
+                zeros = zeros.saturating_sub(8);
+                len -= 1;
+            }
+        }
+    }
+    (0, &[])
+}
+
+/// Bits with names: by DER none end in zeros (X.690 11.2.2), and by BER these are no part of the value.
+pub(crate) fn named_item<'a>(
+    coding: Coding,
+    unused: u8,
+    octets: &'a [u8],
+) -> Result<Item<'a>, Fault>
+    requires { unused ≤ 7 }
+    ensures { Judges (IsNamed coding (used_bits unused octets.now)) result }
 {
     match coding {
-        Coding::Der => Fault::Refused,
-        Coding::Ber(_) => Fault::Unsupported,
+        Coding::Der => {
+            if !ends_in_one(unused, octets) {
+                return Err(Fault::Refused);
+            }
+            Ok(Item::Bits(unused, octets))
+        }
+        Coding::Ber(_) => {
+            let (zeros, front) = without_zeros(unused, octets);
+            Ok(Item::Bits(zeros, front))
+        }
     }
 }
 
-/// Bits, in one piece.
-pub(crate) fn bits_item<'a>(
-    coding: Coding,
-    named: bool,
-    head: Head,
-    content: &'a [u8],
-) -> Result<Item<'a>, Fault>
-    ensures { (nodes : List Node) (depth of : ℕ) →
-        Judges (IsOfKind coding nodes depth of (kinds.Bits named) (parts_of head content.now))
-        result }
+/// How many bits are unused, and the octets of all, where contents octets say bits.
+pub(crate) fn bit_content(coding: Coding, content: &[u8]) -> Option<(u8, &[u8])>
+    ensures some { IfSome result (λ x.
+        IsBitContent (rules_of coding) content.now (used_bits x.0 x.1.now)) }
+    ensures few { IfSome result (λ x. (x.0 ≤ 7) × (x.0 ≤ 8 * length x.1.now)) }
+    ensures none { IfNone result
+        ((bs : List Bool) → IsBitContent (rules_of coding) content.now bs → ⊥) }
 {
-    if head.constructed {
-        return Err(in_pieces(coding));
-    }
     let Some((unused, octets)) = content.split_first() else {
-        return Err(Fault::Refused);
+        return None;
     };
     if !may_be_unused(coding, *unused, octets) {
-        return Err(Fault::Refused);
+        return None;
     }
-    if !named {
-        return Ok(Item::Bits(*unused, octets));
-    }
-    if ends_in_one(*unused, octets) {
-        return Ok(Item::Bits(*unused, octets));
-    }
-    Err(with_zeros(coding))
+    Some((*unused, octets))
 }

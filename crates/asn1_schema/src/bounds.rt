@@ -1,17 +1,18 @@
 //! Bounds of numbers and sizes.
-ghost use Rattle.std.specs.Prelude.{ℕ, ℤ, List, ◌++◌, ◌*◌, ◌-◌, ◌≡◌, ◌<◌, ◌≤◌, ◌↔◌, Some, length, get_or};
-ghost use Rattle.std.specs.Prelude.{IsTrue, IfSome, pos};
+ghost use Rattle.std.specs.Prelude.{ℕ, ℤ, List, ◌++◌, ◌-◌, ◌^◌, ◌≡◌, ◌<◌, ◌≤◌, ◌↔◌, Some, length, get_or};
+ghost use Rattle.std.specs.Prelude.{IsTrue, IfSome, pos, min};
 ghost use Rattle.x690.specs.Digits.{twos_complement_value};
 ghost use Rattle.x690.specs.Signed.{IsSigned};
 ghost use Rattle.asn1_schema.specs.Grammar.{IsBetween};
 ghost use Rattle.asn1_schema.specs.Tape.{Mark, Kept, KeptRow, kept_row, mark, marks, tape_of};
 ghost use Rattle.asn1_schema.specs.Tape.{value_of, values_of};
-ghost use Rattle.asn1_schema.specs.Values.{measure, characters, leads, count};
+ghost use Rattle.asn1_schema.specs.Values.{measure, count};
+ghost use Rattle.asn1_schema.specs.Sizes.{pieces_measure};
 ghost use Rattle.asn1_schema.specs.Reading.{JudgesBounds, JudgesItem};
 
 use crate::counting::{count_values, inner_items};
 use crate::fault::Fault;
-use crate::schema::TextKind;
+use crate::sizes::{bit_len, count_bits, count_units, octet_len, text_size, units_of_text};
 use crate::tape::Item;
 use x690::signed::signed_number;
 
@@ -91,77 +92,76 @@ fn integer_within(octets: &[u8], lower: Option<i128>, upper: Option<i128>) -> Re
     }
 }
 
-/// Judges a size.
-fn size_within(count: usize, lower: Option<i128>, upper: Option<i128>) -> Result<(), Fault>
-    ensures { JudgesBounds lower upper (Some (pos count)) result }
+/// 16 octets hold no number from 2^127 on.
+fn is_not_held(size: u128)
+    requires { 2 ^ 127 ≤ size }
+    ensures { (n : ℕ) → size ≤ n → ¬ IsSigned 16 (pos n) }
+{}
+
+/// Judges a size that 16 octets do not hold: it is above all bounds.
+fn large_size_within(size: u128, lower: Option<i128>, upper: Option<i128>) -> Result<(), Fault>
+    requires { 2 ^ 127 ≤ size }
+    ensures { (n : ℕ) → size ≤ n → JudgesBounds lower upper (Some (pos n)) result }
 {
-    number_within(count as i128, lower, upper)
+    are_held(lower);
+    are_held(upper);
+    match upper {
+        Some(_) => Err(Fault::Refused),
+        None => Ok(()),
+    }
 }
 
-/// How many of the octets begin a character in UTF-8: all but those from 80 to bf.
-fn leading_octets(octets: &[u8]) -> usize
-    ensures count { result ≡ leads octets.now }
-    ensures within { result ≤ length octets.now }
+/// Judges a size, which is at least so much where this is the greatest number.
+fn size_within(size: u128, lower: Option<i128>, upper: Option<i128>) -> Result<(), Fault>
+    ensures { (n : ℕ) → size ≡ min n (2 ^ 128 - 1) → JudgesBounds lower upper (Some (pos n)) result }
 {
-    let mut count = 0;
-    for octet in octets {
-        if *octet < 128 || *octet >= 192 {
-            count += 1;
+    if size >= 1 << 127 {
+        return large_size_within(size, lower, upper);
+    }
+    number_within(size as i128, lower, upper)
+}
+
+/// Judges a string in pieces by the sizes of these.
+fn pieces_within(pieces: &[Item<'_>], lower: Option<i128>, upper: Option<i128>) -> Result<(), Fault>
+    ensures { JudgesBounds lower upper (pieces_measure (marks pieces.now)) result }
+{
+    match pieces.first() {
+        Some(Item::Octets(_)) => size_within(count_units(pieces), lower, upper),
+        Some(Item::Text(kind, _)) => {
+            size_within(text_size(*kind, count_units(pieces)), lower, upper)
         }
-    }
-    count
-}
-
-/// How many characters octets say.
-fn text_size(kind: TextKind, octets: &[u8]) -> usize
-    ensures { result ≡ characters kind octets.now }
-{
-    match kind {
-        TextKind::Utf8 => leading_octets(octets),
-        TextKind::Bmp => octets.len() / 2,
-        TextKind::Universal => octets.len() / 4,
-        TextKind::Numeric => octets.len(),
-        TextKind::Printable => octets.len(),
-        TextKind::Teletex => octets.len(),
-        TextKind::Videotex => octets.len(),
-        TextKind::Ia5 => octets.len(),
-        TextKind::Graphic => octets.len(),
-        TextKind::Visible => octets.len(),
-        TextKind::General => octets.len(),
-        TextKind::Descriptor => octets.len(),
+        Some(Item::Bits(_, _)) => size_within(count_bits(pieces), lower, upper),
+        _ => Err(Fault::Refused),
     }
 }
 
-/// Judges the number of bits in octets, some of which at the end are unused.
-fn bits_within(
-    unused: u8,
-    octets: &[u8],
-    lower: Option<i128>,
-    upper: Option<i128>,
-) -> Result<(), Fault>
-    ensures { JudgesBounds lower upper (Some (pos (8 * length octets.now - unused))) result }
-{
-    let all = octets.len() as i128 * 8;
-    let unused = i128::from(unused);
-    number_within(if all < unused { 0 } else { all - unused }, lower, upper)
-}
-
-/// Judges what an item says. A value that has neither a number nor a size is within no bounds.
+/// Judges the value that begins with an item, but for rows and pieces. One that has neither a number nor a size is
+/// within no bounds, and so is that of a choice.
 fn item_within(item: Item<'_>, lower: Option<i128>, upper: Option<i128>) -> Result<(), Fault>
     ensures { JudgesItem lower upper (mark item.entry) result }
 {
     match item {
         Item::Integer(octets) => integer_within(octets, lower, upper),
-        Item::Bits(unused, octets) => bits_within(unused, octets, lower, upper),
-        Item::Octets(octets) => size_within(octets.len(), lower, upper),
-        Item::Text(kind, octets) => size_within(text_size(kind, octets), lower, upper),
+        Item::Bits(unused, octets) => size_within(bit_len(unused, octets), lower, upper),
+        Item::Octets(octets) => size_within(octet_len(octets), lower, upper),
+        Item::Text(kind, octets) => size_within(
+            text_size(kind, units_of_text(kind, octets) as u128),
+            lower,
+            upper,
+        ),
         Item::Boolean(_) => Err(Fault::Refused),
         Item::Null => Err(Fault::Refused),
         Item::Enumerated(_) => Err(Fault::Refused),
         Item::Identifier(_, _) => Err(Fault::Refused),
         Item::Time(_, _) => Err(Fault::Refused),
         Item::Any(_, _, _, _) => Err(Fault::Refused),
-        _ => Err(Fault::Unsupported),
+        Item::Arm(_) => Err(Fault::Refused),
+        Item::ArmEnd(_) => Err(Fault::Refused),
+        Item::Begin(_) => Err(Fault::Refused),
+        Item::End(_) => Err(Fault::Refused),
+        Item::Absent => Err(Fault::Refused),
+        Item::Pieces(_) => Err(Fault::Refused),
+        Item::PiecesEnd(_) => Err(Fault::Refused),
     }
 }
 
@@ -178,7 +178,7 @@ fn row_within(
         JudgesBounds lower upper (Some (pos (count (values_of kept)))) result }
 {
     let items = inner_items(tape, place);
-    size_within(count_values(items), lower, upper)
+    size_within(count_values(items) as u128, lower, upper)
 }
 
 /// Judges the value that stands at a place.
@@ -193,10 +193,11 @@ pub(crate) fn judge_bounds(
         JudgesBounds lower upper (measure (value_of kept)) result }
 {
     if place >= tape.len() {
-        return Err(Fault::Unsupported);
+        return Err(Fault::Refused);
     }
     match tape[place] {
         Item::Begin(_) => row_within(tape, place, lower, upper),
+        Item::Pieces(_) => pieces_within(inner_items(tape, place), lower, upper),
         item => item_within(item, lower, upper),
     }
 }

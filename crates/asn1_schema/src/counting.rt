@@ -92,16 +92,7 @@ fn with_item(so_far: Counted, item: &Item<'_>) -> Counted
         Item::End(_) => so_far,
         Item::PiecesEnd(_) => so_far,
         Item::Absent => so_far,
-        Item::Boolean(_) => with_value(so_far, 0),
-        Item::Null => with_value(so_far, 0),
-        Item::Integer(_) => with_value(so_far, 0),
-        Item::Enumerated(_) => with_value(so_far, 0),
-        Item::Bits(_, _) => with_value(so_far, 0),
-        Item::Octets(_) => with_value(so_far, 0),
-        Item::Identifier(_, _) => with_value(so_far, 0),
-        Item::Text(_, _) => with_value(so_far, 0),
-        Item::Time(_, _) => with_value(so_far, 0),
-        Item::Any(_, _, _, _) => with_value(so_far, 0),
+        _ => with_value(so_far, 0),
     }
 }
 

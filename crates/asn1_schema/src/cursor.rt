@@ -1,11 +1,18 @@
 //! The values on a tape: where one ends, and what is in it. Each is skipped in one step.
-ghost use Rattle.std.specs.Prelude.{ℕ, ℤ, List, [], ◌++◌, ◌∷◌, ◌+◌, ◌≡◌, ◌≤◌, ◌^◌, Some, IfSome, IfNone};
-ghost use Rattle.asn1_schema.specs.Values.{integer, enumerated};
+ghost use Rattle.std.specs.Prelude.{ℕ, ℤ, Bool, List, [], ◌++◌, ◌∷◌, ◌+◌, ◌-◌, ◌*◌, ◌≡◌, ◌≤◌, ◌^◌, Some, IfSome};
+ghost use Rattle.std.specs.Prelude.{IfNone, MatchOption, length, take};
+ghost use Rattle.asn1_schema.specs.Values.{boolean, integer, enumerated, bits, octets, identifier, text, time};
+ghost use Rattle.asn1_schema.specs.Grammar.{bits_in};
+ghost use Rattle.asn1_schema.specs.Names.{IsPlaceOf, LacksName};
+ghost use Rattle.asn1_schema.specs.declared.schema.TextKind.{TextKind};
+ghost use Rattle.asn1_schema.specs.declared.schema.TimeKind.{TimeKind};
 ghost use Rattle.asn1_schema.specs.Tape.{Mark, Kept, KeptRow, mark, marks, tape_of, tapes_of};
 ghost use Rattle.asn1_schema.specs.Tape.{kept_row, kept_chosen, absent_mark, leaf_mark};
 ghost use Rattle.asn1_schema.specs.Cursor.{marks_of_first, field_marks, IsNumber};
 
 use crate::counting::inner_items;
+use crate::names::{TypeNames, place_of};
+use crate::schema::{TextKind, TimeKind};
 use crate::tape::Item;
 use x690::signed::signed_number;
 
@@ -99,6 +106,97 @@ pub fn number_of(value: &[Item<'_>]) -> Option<i128>
     match value.first() {
         Some(Item::Integer(octets)) => signed_number(octets, 16),
         Some(Item::Enumerated(octets)) => signed_number(octets, 16),
+        _ => None,
+    }
+}
+
+/// The items of the member at a place of a list. There are none behind the last member.
+pub fn member_value<'t, 'a>(list: &'t [Item<'a>], place: usize) -> &'t [Item<'a>]
+    ensures { (kept : KeptRow) → marks list.now ≡ tape_of (kept_row kept) →
+        marks result.now ≡ field_marks kept place }
+{
+    field_value(inner_values(list), place)
+}
+
+/// The items of the field of this name in a row, as [`field_value`] answers them; none where no field has the name.
+pub fn named_value<'t, 'a>(
+    names: &TypeNames<'_>,
+    fields: &'t [Item<'a>],
+    name: &str,
+) -> Option<&'t [Item<'a>]>
+    ensures some { (kept : KeptRow) → marks fields.now ≡ tapes_of kept → IfSome result
+        (λ items. (place : ℕ) × IsPlaceOf names.now.labels.items name.now place ×
+        (marks items.now ≡ field_marks kept place)) }
+    ensures none { IfNone result (LacksName names.now.labels.items name.now) }
+{
+    match place_of(&names.labels, name) {
+        Some(place) => Some(field_value(fields, place)),
+        None => None,
+    }
+}
+
+/// The truth value that a value is.
+pub fn truth_of(value: &[Item<'_>]) -> Option<bool>
+    ensures { (b : Bool) → marks value.now ≡ leaf_mark (boolean b) ∷ [] → result ≡ Some b }
+{
+    match value.first() {
+        Some(Item::Boolean(truth)) => Some(*truth),
+        _ => None,
+    }
+}
+
+/// The octets of an octet string in one piece.
+pub fn octets_of<'a>(value: &[Item<'a>]) -> Option<&'a [u8]>
+    ensures { (o : List ℕ) → marks value.now ≡ leaf_mark (octets o) ∷ [] →
+        MatchOption result ⊥ (λ r. r.now ≡ o) }
+{
+    match value.first() {
+        Some(Item::Octets(octets)) => Some(octets),
+        _ => None,
+    }
+}
+
+/// The type and the octets of a character string in one piece.
+pub fn text_of<'a>(value: &[Item<'a>]) -> Option<(TextKind, &'a [u8])>
+    ensures { (kind : TextKind) (o : List ℕ) → marks value.now ≡ leaf_mark (text kind o) ∷ [] →
+        MatchOption result ⊥ (λ r. (r.0 ≡ kind) × (r.1.now ≡ o)) }
+{
+    match value.first() {
+        Some(Item::Text(kind, octets)) => Some((*kind, octets)),
+        _ => None,
+    }
+}
+
+/// The type and the text of a time in one piece.
+pub fn time_of<'a>(value: &[Item<'a>]) -> Option<(TimeKind, &'a [u8])>
+    ensures { (kind : TimeKind) (o : List ℕ) → marks value.now ≡ leaf_mark (time kind o) ∷ [] →
+        MatchOption result ⊥ (λ r. (r.0 ≡ kind) × (r.1.now ≡ o)) }
+{
+    match value.first() {
+        Some(Item::Time(kind, octets)) => Some((*kind, octets)),
+        _ => None,
+    }
+}
+
+/// Whether an identifier is relative, and its contents octets.
+pub fn identifier_of<'a>(value: &[Item<'a>]) -> Option<(bool, &'a [u8])>
+    ensures { (relative : Bool) (o : List ℕ) →
+        marks value.now ≡ leaf_mark (identifier relative o) ∷ [] →
+        MatchOption result ⊥ (λ r. (r.0 ≡ relative) × (r.1.now ≡ o)) }
+{
+    match value.first() {
+        Some(Item::Identifier(relative, octets)) => Some((*relative, octets)),
+        _ => None,
+    }
+}
+
+/// The octets of a bit string in one piece, and how many bits at their end are unused.
+pub fn bits_of<'a>(value: &[Item<'a>]) -> Option<(u8, &'a [u8])>
+    ensures { (bs : List Bool) → marks value.now ≡ leaf_mark (bits bs) ∷ [] → MatchOption result ⊥
+        (λ r. take (8 * length r.1.now - r.0) (bits_in r.1.now) ≡ bs) }
+{
+    match value.first() {
+        Some(Item::Bits(unused, octets)) => Some((*unused, octets)),
         _ => None,
     }
 }

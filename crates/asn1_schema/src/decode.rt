@@ -30,21 +30,18 @@ pub enum DecodeError {
     Incomplete(usize),
     /// A word of the type begins the octets, and others follow.
     TrailingOctets,
-    /// A part of the octets is of a kind or form that is not read yet.
-    Unsupported,
 }
 
 /// The answer where reading stopped: a refusal is final, or the element at the front is cut.
 fn error_of(coding: Coding, octets: &[u8], fault: Fault) -> DecodeError
     ensures refused { result ≡ errors.Refused → (fault ≡ faults.Refused)
         × TellsMissing (rules_of coding).ElementOf (EndsWithin coding octets.now) octets.now None }
-    ensures cut { (n : ℕ) → result ≡ errors.Incomplete n →
-        TellsMissing (rules_of coding).ElementOf (EndsWithin coding octets.now) octets.now (Some n) }
+    ensures cut { (n : ℕ) → result ≡ errors.Incomplete n → (fault ≡ faults.Refused)
+        × TellsMissing (rules_of coding).ElementOf (EndsWithin coding octets.now) octets.now (Some n) }
     ensures no_other { result ≡ errors.TrailingOctets → ⊥ }
 {
     match fault {
         Fault::Memory => DecodeError::OutOfMemory,
-        Fault::Unsupported => DecodeError::Unsupported,
         Fault::Refused => match missing_octets(coding, octets) {
             Some(n) => DecodeError::Incomplete(n),
             None => DecodeError::Refused,
@@ -122,7 +119,7 @@ pub fn decode_whole<'a>(
 ///
 /// `Refused` says that no word begins the octets, whatever follows, but where they end within identifier octets.
 /// `Incomplete(n)` says that none does with fewer than `n` octets more. An element that nests too deep is refused
-/// with the reason `Depth`. A set-of may be in any order, and a default may be written: the strict encodings
+/// with the reason `Depth`. So a word that begins the octets is answered with `Ok` or `OutOfMemory`. A set-of may be in any order, and a default may be written: the strict encodings
 /// (X.690 11.5, 11.6) are asked for apart.
 pub fn decode_der<'a>(
     table: &'a [Node],

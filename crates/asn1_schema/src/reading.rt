@@ -10,8 +10,11 @@ use crate::bounds::judge_bounds;
 use crate::coding::Coding;
 use crate::elements::{Head, element, is_at_end};
 use crate::fault::Fault;
-use crate::leaves::read_leaf;
-use crate::pieces::read_octets;
+use crate::identifiers::identifier_item;
+use crate::leaves::put_leaf;
+use crate::named::read_bits;
+use crate::numbers::{boolean_item, enumerated_item, integer_item, null_item};
+use crate::pieces::{Sort, read_string};
 use crate::refusal::{Reason, Refusal, further};
 use crate::rows::{close_row, open_row, put_item};
 use crate::schema::{Field, Kind, Node, Presence};
@@ -114,7 +117,19 @@ fn read_body<'a>(
         // What is told first counts only where it is then refused.
         Kind::Octets => {
             refusal.tell(head.inner, of, Reason::Contents);
-            read_octets(coding, depth - 1, head, content, tape)
+            read_string(coding, Sort::Octets, depth - 1, head, content, tape)
+        }
+        Kind::Text(kind) => {
+            refusal.tell(head.inner, of, Reason::Contents);
+            read_string(coding, Sort::Text(*kind), depth - 1, head, content, tape)
+        }
+        Kind::Time(kind) => {
+            refusal.tell(head.inner, of, Reason::Contents);
+            read_string(coding, Sort::Time(*kind), depth - 1, head, content, tape)
+        }
+        Kind::Bits(named) => {
+            refusal.tell(head.inner, of, Reason::Contents);
+            read_bits(coding, *named, depth - 1, head, content, tape)
         }
         Kind::Any => {
             refusal.tell(head.inner, of, Reason::Contents);
@@ -133,7 +148,23 @@ fn read_body<'a>(
                 Err(e) => Err(e),
             }
         }
-        _ => read_leaf(coding, of, &node.kind, head, content, tape, refusal),
+        Kind::Boolean => put_leaf(boolean_item(coding, head, content), of, head, tape, refusal),
+        Kind::Null => put_leaf(null_item(coding, head, content), of, head, tape, refusal),
+        Kind::Integer => put_leaf(integer_item(coding, head, content), of, head, tape, refusal),
+        Kind::Enumerated(numbers, extensible) => put_leaf(
+            enumerated_item(numbers, *extensible, head, content),
+            of,
+            head,
+            tape,
+            refusal,
+        ),
+        Kind::Identifier(relative) => put_leaf(
+            identifier_item(coding, *relative, head, content),
+            of,
+            head,
+            tape,
+            refusal,
+        ),
     }
 }
 

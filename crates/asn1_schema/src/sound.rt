@@ -1,9 +1,10 @@
 //! Whether a table is sound: its optional fields and its arms are told apart by their tags (X.680 25.6, 29.3).
-ghost use Rattle.std.specs.Prelude.{◌≡◌};
+ghost use Rattle.std.specs.Prelude.{◌≡◌, ◌||◌, ◌&&◌, not, is_none};
 ghost use Rattle.asn1_schema.specs.Sound as spec;
 
 use crate::schema::{Field, Kind, Node, Presence, Tags, TypeTag};
 use crate::tagged::node_at;
+use crate::unsound::{Shared, TypeFault, Unsound};
 
 /// Whether the tag is one of these.
 fn is_among(tag: TypeTag, others: &[TypeTag]) -> bool
@@ -26,18 +27,52 @@ fn none_among(tags: &[TypeTag], others: &[TypeTag]) -> bool
     tags.iter().all(|tag| !is_among(*tag, others))
 }
 
-/// Whether no tag is of both.
-fn are_apart(tags: &Tags, others: &Tags) -> bool
-    ensures { result ≡ spec.are_apart tags.now others.now }
+/// The first of the tags that is one of the others.
+fn first_among(tags: &[TypeTag], others: &[TypeTag]) -> Option<TypeTag>
+    ensures { is_none result ≡ spec.none_among tags.now others.now }
+{
+    for tag in tags {
+        if is_among(*tag, others) {
+            return Some(*tag);
+        }
+    }
+    None
+}
+
+/// The first of the tags that is none of the others.
+fn first_left(tags: &[TypeTag], others: &[TypeTag]) -> Option<TypeTag>
+    ensures { is_none result ≡ spec.are_among tags.now others.now }
+{
+    for tag in tags {
+        if !is_among(*tag, others) {
+            return Some(*tag);
+        }
+    }
+    None
+}
+
+/// A tag that is shared, if there is one.
+fn shared_tag(tag: Option<TypeTag>) -> Option<Shared>
+    ensures { is_none result ≡ is_none tag }
+{
+    match tag {
+        Some(tag) => Some(Shared::Tag(tag)),
+        None => None,
+    }
+}
+
+/// What tags and others have in common.
+fn meeting(tags: &Tags, others: &Tags) -> Option<Shared>
+    ensures { is_none result ≡ spec.are_apart tags.now others.now }
 {
     match tags {
         Tags::Among(xs) => match others {
-            Tags::Among(ys) => none_among(xs, ys),
-            Tags::AllBut(ys) => are_among(xs, ys),
+            Tags::Among(ys) => shared_tag(first_among(xs, ys)),
+            Tags::AllBut(ys) => shared_tag(first_left(xs, ys)),
         },
         Tags::AllBut(xs) => match others {
-            Tags::Among(ys) => are_among(ys, xs),
-            Tags::AllBut(_) => false,
+            Tags::Among(ys) => shared_tag(first_left(ys, xs)),
+            Tags::AllBut(_) => Some(Shared::Many),
         },
     }
 }
@@ -55,16 +90,6 @@ fn are_within(tags: &Tags, others: &Tags) -> bool
             Tags::Among(_) => false,
             Tags::AllBut(ys) => are_among(ys, xs),
         },
-    }
-}
-
-/// Whether the tags are apart from those of the type at a place, if there is one.
-fn apart_from(table: &[Node], tags: &Tags, of: usize) -> bool
-    ensures { result ≡ spec.apart_from tags.now (spec.node_at table.now of) }
-{
-    match node_at(table, of) {
-        None => true,
-        Some(node) => are_apart(tags, &node.tags),
     }
 }
 
@@ -89,93 +114,158 @@ fn may_be_left_out(presence: &Presence) -> bool
     }
 }
 
-/// Whether no unknown element behind an extension mark has one of these tags.
-fn apart_from_unknown(table: &[Node], tags: &Tags, unknown: Option<usize>) -> bool
-    ensures { result ≡ spec.apart_from_unknown table.now tags.now unknown }
-{
-    match unknown {
-        None => true,
-        Some(of) => apart_from(table, tags, of),
-    }
-}
-
-/// Whether no element with one of these tags begins the fields.
-fn apart_from_next(table: &[Node], unknown: Option<usize>, tags: &Tags, fields: &[Field]) -> bool
-    ensures { result ≡ spec.apart_from_next table.now unknown tags.now fields.now }
-{
-    let mut left = fields;
-    while let Some((field, others)) = left.split_first() {
-        if !apart_from(table, tags, field.of) {
-            return false;
-        }
-        if !may_be_left_out(&field.presence) {
-            return true;
-        }
-        left = others;
-    }
-    apart_from_unknown(table, tags, unknown)
-}
-
-/// Whether the type at a place is told from what the fields may begin with, if there is one.
-fn field_told(table: &[Node], unknown: Option<usize>, of: usize, fields: &[Field]) -> bool
-    ensures { result ≡ spec.field_told table.now unknown (spec.node_at table.now of) fields.now }
+/// What tags have in common with the type at a place, if there is one.
+fn meeting_at(table: &[Node], tags: &Tags, of: usize) -> Option<Shared>
+    ensures { is_none result ≡ spec.apart_from tags.now (spec.node_at table.now of) }
 {
     match node_at(table, of) {
-        None => true,
-        Some(node) => apart_from_next(table, unknown, &node.tags, fields),
+        None => None,
+        Some(node) => meeting(tags, &node.tags),
     }
 }
 
-/// Whether each field that may be left out is told from what may follow it.
-fn fields_told(table: &[Node], unknown: Option<usize>, fields: &[Field]) -> bool
-    ensures { result ≡ spec.fields_told table.now unknown fields.now }
+/// What may follow a field and has a tag in common with it.
+#[derive(Debug, Clone, Copy)]
+struct Follower {
+    /// Its place among the fields behind that one, or none where it is an unknown element.
+    place: Option<usize>,
+    /// What they have in common.
+    shared: Shared,
+}
+
+/// What tags have in common with the unknown elements behind an extension mark.
+fn unknown_meeting(table: &[Node], tags: &Tags, unknown: Option<usize>) -> Option<Follower>
+    ensures { is_none result ≡ spec.apart_from_unknown table.now tags.now unknown }
+{
+    match unknown {
+        None => None,
+        Some(of) => match meeting_at(table, tags, of) {
+            None => None,
+            Some(shared) => Some(Follower {
+                place: None,
+                shared,
+            }),
+        },
+    }
+}
+
+/// What an element with one of these tags has in common with those that may begin the fields.
+fn next_meeting(
+    table: &[Node],
+    unknown: Option<usize>,
+    tags: &Tags,
+    fields: &[Field],
+) -> Option<Follower>
+    ensures { is_none result ≡ spec.apart_from_next table.now unknown tags.now fields.now }
 {
     let mut left = fields;
     while let Some((field, others)) = left.split_first() {
-        if may_be_left_out(&field.presence) && !field_told(table, unknown, field.of, others) {
-            return false;
+        if let Some(shared) = meeting_at(table, tags, field.of) {
+            let place = Some(fields.len().saturating_sub(left.len()));
+            return Some(Follower { place, shared });
+        }
+        if !may_be_left_out(&field.presence) {
+            return None;
         }
         left = others;
     }
-    true
+    unknown_meeting(table, tags, unknown)
 }
 
-/// Whether none of the types has one of these tags.
-fn apart_from_arms(table: &[Node], tags: &Tags, arms: &[usize]) -> bool
-    ensures { result ≡ spec.apart_from_arms table.now tags.now arms.now }
+/// What a field that may be left out has in common with what may follow it.
+fn field_meeting(
+    table: &[Node],
+    unknown: Option<usize>,
+    field: &Field,
+    others: &[Field],
+) -> Option<Follower>
+    ensures { is_none result ≡ (not (spec.may_be_left_out field.now.presence)
+        || spec.field_told table.now unknown (spec.node_at table.now field.now.of) others.now) }
 {
-    arms.iter().all(|arm| apart_from(table, tags, *arm))
-}
-
-/// Whether the arm is told from the others, if its type is there.
-fn arm_told(table: &[Node], arm: usize, others: &[usize]) -> bool
-    ensures { result ≡ spec.arm_told table.now (spec.node_at table.now arm) others.now }
-{
-    match node_at(table, arm) {
-        None => true,
-        Some(node) => apart_from_arms(table, &node.tags, others),
+    if !may_be_left_out(&field.presence) {
+        return None;
+    }
+    match node_at(table, field.of) {
+        None => None,
+        Some(node) => next_meeting(table, unknown, &node.tags, others),
     }
 }
 
-/// Whether each arm is told from the others.
-fn arms_told(table: &[Node], arms: &[usize]) -> bool
-    ensures { result ≡ spec.arms_told table.now arms.now }
+/// A field at a place, and what may follow it and has a tag in common with it.
+fn follower_fault(field: usize, follower: Follower) -> TypeFault {
+    match follower.place {
+        Some(behind) => TypeFault::Fields(
+            field,
+            field.saturating_add(behind).saturating_add(1),
+            follower.shared,
+        ),
+        None => TypeFault::Unknown(field, follower.shared),
+    }
+}
+
+/// The first field that may be left out and is not told from what may follow it.
+fn fields_fault(table: &[Node], unknown: Option<usize>, fields: &[Field]) -> Option<TypeFault>
+    ensures { is_none result ≡ spec.fields_told table.now unknown fields.now }
+{
+    let mut left = fields;
+    while let Some((field, others)) = left.split_first() {
+        if let Some(follower) = field_meeting(table, unknown, field, others) {
+            let place = fields.len().saturating_sub(left.len());
+            return Some(follower_fault(place, follower));
+        }
+        left = others;
+    }
+    None
+}
+
+/// The first of the types that has one of these tags: its place, and what they have in common.
+fn arm_meeting(table: &[Node], tags: &Tags, arms: &[usize]) -> Option<(usize, Shared)>
+    ensures { is_none result ≡ spec.apart_from_arms table.now tags.now arms.now }
+{
+    for (place, arm) in arms.iter().enumerate() {
+        if let Some(shared) = meeting_at(table, tags, *arm) {
+            return Some((place, shared));
+        }
+    }
+    None
+}
+
+/// The first of the other arms from which an arm is not told, if its type is there.
+fn arm_follower(table: &[Node], arm: usize, others: &[usize]) -> Option<(usize, Shared)>
+    ensures { is_none result ≡ spec.arm_told table.now (spec.node_at table.now arm) others.now }
+{
+    match node_at(table, arm) {
+        None => None,
+        Some(node) => arm_meeting(table, &node.tags, others),
+    }
+}
+
+/// The first two arms that are not told apart.
+fn arms_fault(table: &[Node], arms: &[usize]) -> Option<TypeFault>
+    ensures { is_none result ≡ spec.arms_told table.now arms.now }
 {
     let mut left = arms;
     while let Some((arm, others)) = left.split_first() {
-        if !arm_told(table, *arm, others) {
-            return false;
+        if let Some((behind, shared)) = arm_follower(table, *arm, others) {
+            let place = arms.len().saturating_sub(left.len());
+            let other = place.saturating_add(behind).saturating_add(1);
+            return Some(TypeFault::Arms(place, other, shared));
         }
         left = others;
     }
-    true
+    None
 }
 
-/// Whether the tags hold those of each arm.
-fn arms_held(table: &[Node], tags: &Tags, arms: &[usize]) -> bool
-    ensures { result ≡ spec.arms_held table.now tags.now arms.now }
+/// The first arm of which the tags do not hold all.
+fn arm_not_held(table: &[Node], tags: &Tags, arms: &[usize]) -> Option<usize>
+    ensures { is_none result ≡ spec.arms_held table.now tags.now arms.now }
 {
-    arms.iter().all(|arm| holds(table, tags, *arm))
+    for (place, arm) in arms.iter().enumerate() {
+        if !holds(table, tags, *arm) {
+            return Some(place);
+        }
+    }
+    None
 }
 
 /// Whether there is one tag.
@@ -188,106 +278,182 @@ fn is_single(tags: &Tags) -> bool
     }
 }
 
-/// Whether the classes are below 4.
-fn are_listed_classes(tags: &[TypeTag]) -> bool
-    ensures { result ≡ spec.are_listed_classes tags.now }
+/// The first tag whose class is above 3.
+fn listed_class_fault(tags: &[TypeTag]) -> Option<TypeFault>
+    ensures { is_none result ≡ spec.are_listed_classes tags.now }
 {
-    tags.iter().all(|tag| tag.class < 4)
+    for tag in tags {
+        if tag.class >= 4 {
+            return Some(TypeFault::Class(*tag));
+        }
+    }
+    None
 }
 
-/// Whether the classes of the tags are below 4.
-fn are_classes(tags: &Tags) -> bool
-    ensures { result ≡ spec.are_classes tags.now }
+/// The same of the tags that an element may have, or may not have.
+fn class_fault(tags: &Tags) -> Option<TypeFault>
+    ensures { is_none result ≡ spec.are_classes tags.now }
 {
     match tags {
-        Tags::Among(list) => are_listed_classes(list),
-        Tags::AllBut(list) => are_listed_classes(list),
+        Tags::Among(list) => listed_class_fault(list),
+        Tags::AllBut(list) => listed_class_fault(list),
     }
 }
 
-/// Whether the parts of a type are told apart. All but a choice, bounds and any element have one tag.
-fn kind_told(table: &[Node], tags: &Tags, kind: &Kind) -> bool
-    ensures { result ≡ spec.kind_told table.now tags.now kind.now }
+/// What is wrong where there is not one tag.
+fn tag_fault(tags: &Tags) -> Option<TypeFault>
+    ensures { is_none result ≡ spec.is_single tags.now }
+{
+    if is_single(tags) {
+        return None;
+    }
+    Some(TypeFault::NotOneTag)
+}
+
+/// What is wrong with a sequence.
+fn sequence_fault(
+    table: &[Node],
+    tags: &Tags,
+    fields: &[Field],
+    unknown: Option<usize>,
+) -> Option<TypeFault>
+    ensures { is_none result ≡
+        (spec.is_single tags.now && spec.fields_told table.now unknown fields.now) }
+{
+    if is_single(tags) {
+        return fields_fault(table, unknown, fields);
+    }
+    Some(TypeFault::NotOneTag)
+}
+
+/// What is wrong with a choice.
+fn choice_fault(table: &[Node], tags: &Tags, arms: &[usize]) -> Option<TypeFault>
+    ensures { is_none result ≡
+        (spec.arms_told table.now arms.now && spec.arms_held table.now tags.now arms.now) }
+{
+    if let Some(fault) = arms_fault(table, arms) {
+        return Some(fault);
+    }
+    match arm_not_held(table, tags, arms) {
+        Some(arm) => Some(TypeFault::ArmTags(arm)),
+        None => None,
+    }
+}
+
+/// What is wrong with the parts of a type. All but a choice, bounds and any element have one tag.
+fn kind_fault(table: &[Node], tags: &Tags, kind: &Kind) -> Option<TypeFault>
+    ensures { is_none result ≡ spec.kind_told table.now tags.now kind.now }
 {
     match kind {
-        Kind::Sequence(fields, unknown) => is_single(tags) && fields_told(table, *unknown, fields),
-        Kind::Choice(arms) => arms_told(table, arms) && arms_held(table, tags, arms),
-        Kind::Within(of, _, _) => holds(table, tags, *of),
-        Kind::Any => true,
-        Kind::Boolean => is_single(tags),
-        Kind::Null => is_single(tags),
-        Kind::Integer => is_single(tags),
-        Kind::Enumerated(_, _) => is_single(tags),
-        Kind::Bits(_) => is_single(tags),
-        Kind::Octets => is_single(tags),
-        Kind::Identifier(_) => is_single(tags),
-        Kind::Text(_) => is_single(tags),
-        Kind::Time(_) => is_single(tags),
-        Kind::SequenceOf(_) => is_single(tags),
-        Kind::SetOf(_) => is_single(tags),
-        Kind::Explicit(_) => is_single(tags),
+        Kind::Sequence(fields, unknown) => sequence_fault(table, tags, fields, *unknown),
+        Kind::Choice(arms) => choice_fault(table, tags, arms),
+        Kind::Within(of, _, _) => {
+            if holds(table, tags, *of) {
+                None
+            } else {
+                Some(TypeFault::InnerTags)
+            }
+        }
+        Kind::Any => None,
+        Kind::Boolean => tag_fault(tags),
+        Kind::Null => tag_fault(tags),
+        Kind::Integer => tag_fault(tags),
+        Kind::Enumerated(_, _) => tag_fault(tags),
+        Kind::Bits(_) => tag_fault(tags),
+        Kind::Octets => tag_fault(tags),
+        Kind::Identifier(_) => tag_fault(tags),
+        Kind::Text(_) => tag_fault(tags),
+        Kind::Time(_) => tag_fault(tags),
+        Kind::SequenceOf(_) => tag_fault(tags),
+        Kind::SetOf(_) => tag_fault(tags),
+        Kind::Explicit(_) => tag_fault(tags),
     }
 }
 
-/// Whether a type has tags, and its parts are told apart.
-fn node_told(table: &[Node], node: &Node) -> bool
-    ensures { result ≡ spec.node_told table.now node.now }
+/// What is wrong with the tags of a type, or with its parts.
+fn node_fault(table: &[Node], node: &Node) -> Option<TypeFault>
+    ensures { is_none result ≡ spec.node_told table.now node.now }
 {
-    are_classes(&node.tags) && kind_told(table, &node.tags, &node.kind)
+    if let Some(fault) = class_fault(&node.tags) {
+        return Some(fault);
+    }
+    kind_fault(table, &node.tags, &node.kind)
 }
 
-/// Whether this holds of each of these types.
-fn all_told(table: &[Node], nodes: &[Node]) -> bool
-    ensures { result ≡ spec.all_told table.now nodes.now }
+/// The first type with which something is wrong.
+fn first_not_told(table: &[Node]) -> Option<Unsound>
+    ensures { is_none result ≡ spec.all_told table.now table.now }
 {
-    nodes.iter().all(|node| node_told(table, node))
+    for (of, node) in table.iter().enumerate() {
+        if let Some(fault) = node_fault(table, node) {
+            return Some(Unsound { of, fault });
+        }
+    }
+    None
 }
 
-/// Whether each place is before this one.
-fn all_before(of: usize, places: &[usize]) -> bool
-    ensures { result ≡ spec.all_before of places.now }
+/// The first place that is not before this one.
+fn first_ahead(of: usize, places: &[usize]) -> Option<usize>
+    ensures { is_none result ≡ spec.all_before of places.now }
 {
-    places.iter().all(|place| *place < of)
+    for place in places {
+        if *place >= of {
+            return Some(*place);
+        }
+    }
+    None
 }
 
-/// Whether a type stands behind what it leads to with no element between.
-fn leads_back(of: usize, kind: &Kind) -> bool
-    ensures { result ≡ spec.leads_back of kind.now }
+/// A place to which a type leads with no element between, and which is not before the type.
+fn leads_ahead(of: usize, kind: &Kind) -> Option<usize>
+    ensures { is_none result ≡ spec.leads_back of kind.now }
 {
     match kind {
-        Kind::Choice(arms) => all_before(of, arms),
-        Kind::Within(inner, _, _) => *inner < of,
-        Kind::Sequence(_, _) => true,
-        Kind::Any => true,
-        Kind::Boolean => true,
-        Kind::Null => true,
-        Kind::Integer => true,
-        Kind::Enumerated(_, _) => true,
-        Kind::Bits(_) => true,
-        Kind::Octets => true,
-        Kind::Identifier(_) => true,
-        Kind::Text(_) => true,
-        Kind::Time(_) => true,
-        Kind::SequenceOf(_) => true,
-        Kind::SetOf(_) => true,
-        Kind::Explicit(_) => true,
+        Kind::Choice(arms) => first_ahead(of, arms),
+        Kind::Within(inner, _, _) => { if *inner < of { None } else { Some(*inner) } }
+        Kind::Sequence(_, _) => None,
+        Kind::Any => None,
+        Kind::Boolean => None,
+        Kind::Null => None,
+        Kind::Integer => None,
+        Kind::Enumerated(_, _) => None,
+        Kind::Bits(_) => None,
+        Kind::Octets => None,
+        Kind::Identifier(_) => None,
+        Kind::Text(_) => None,
+        Kind::Time(_) => None,
+        Kind::SequenceOf(_) => None,
+        Kind::SetOf(_) => None,
+        Kind::Explicit(_) => None,
     }
 }
 
-/// Whether each type of the table does.
-fn is_in_order(table: &[Node]) -> bool
-    ensures { result ≡ spec.in_order 0 table.now }
+/// The first type that leads ahead so.
+fn first_out_of_order(table: &[Node]) -> Option<Unsound>
+    ensures { is_none result ≡ spec.in_order 0 table.now }
 {
     let mut left = table;
     let mut of = 0;
     while let Some((node, others)) = left.split_first() {
-        if !leads_back(of, &node.kind) {
-            return false;
+        if let Some(place) = leads_ahead(of, &node.kind) {
+            let fault = TypeFault::LeadsAhead(place);
+            return Some(Unsound { of, fault });
         }
         left = others;
         of += 1;
     }
-    true
+    None
+}
+
+/// Why a table is not sound, and none where it is ([`is_sound`]).
+#[tactic(auto, unfolding(crate::specs::Sound::is_sound))]
+pub fn why_unsound(table: &[Node]) -> Option<Unsound>
+    ensures { is_none result ≡ spec.is_sound table.now }
+{
+    if let Some(found) = first_not_told(table) {
+        return Some(found);
+    }
+    first_out_of_order(table)
 }
 
 /// Whether a table is sound.
@@ -297,9 +463,8 @@ fn is_in_order(table: &[Node]) -> bool
 /// its arms. All but a choice, bounds and elements of any type have one tag. A choice and bounds stand behind the types
 /// that they lead to, so none leads to itself. Classes are below 4. A place at which there is no type tells nothing:
 /// what leads there has no value.
-#[tactic(auto, unfolding(crate::specs::Sound::is_sound))]
 pub fn is_sound(table: &[Node]) -> bool
     ensures { result ≡ spec.is_sound table.now }
 {
-    all_told(table, table) && is_in_order(table)
+    why_unsound(table).is_none()
 }

@@ -1,19 +1,15 @@
 //! Character strings (X.690 8.23; X.680 41).
-ghost use Rattle.asn1_schema.specs.declared.fault.Fault.TheVariants as faults;
-ghost use Rattle.asn1_schema.specs.declared.schema.Kind.TheVariants as kinds;
-ghost use Rattle.std.specs.Prelude.{ℕ, List, ◌≡◌, false, IfSome, IsTrue, ◌↔◌, IsUtf8};
-ghost use Rattle.asn1_schema.specs.declared.schema.Node.{Node};
+ghost use Rattle.std.specs.Prelude.{ℕ, List, ◌≡◌, ◌<◌, length, map, IsTrue, ◌↔◌, IsUtf8};
+ghost use Rattle.x690.specs.Sets.{AllIn};
+ghost use Rattle.x690.specs.Characters.{code_of, Codes};
 ghost use Rattle.asn1_schema.specs.declared.schema.TextKind.TheVariants as texts;
-ghost use Rattle.asn1_schema.specs.Reading.{rules_of, parts_of, IsOfKind, Judges};
 ghost use Rattle.asn1_schema.specs.Grammar.{IsText};
+ghost use Rattle.asn1_schema.specs.Joined.{IsFront, said};
 
-use crate::coding::Coding;
-use crate::elements::Head;
-use crate::fault::Fault;
+use crate::joined::{Joined, behind, first_four};
 use crate::schema::TextKind;
-use crate::tape::Item;
-use x690::characters::{Ucs4, Utf16, text_len};
-use x690::sets::{Ascii, Graphic, Numeric, Printable, all_in};
+use x690::characters::{CharacterCode, Ucs4, Utf16, text_len};
+use x690::sets::{Ascii, CharacterSet, Graphic, Numeric, Printable, all_in};
 
 /// UTF8String.
 fn are_utf8(content: &[u8]) -> bool
@@ -56,32 +52,74 @@ pub(crate) fn is_text(kind: TextKind, content: &[u8]) -> bool
     }
 }
 
-/// A string that is constructed: by DER there is none.
-pub(crate) fn in_pieces(coding: Coding) -> Fault
-    ensures { result ≡ faults.Refused → (rules_of coding).in_pieces ≡ false }
+/// How many octets at the front are characters in UTF-8, of these that are four or all.
+fn utf8_front(octets: &[u8]) -> usize
+    requires { 0 < length octets.now }
+    ensures { IsFront IsUtf8 octets.now result }
 {
-    match coding {
-        Coding::Der => Fault::Refused,
-        Coding::Ber(_) => Fault::Unsupported,
+    match str::from_utf8(octets) {
+        Ok(_) => octets.len(),
+        Err(error) => error.valid_up_to(),
     }
 }
 
-/// Characters, in one piece.
-pub(crate) fn text_item<'a>(
-    coding: Coding,
-    kind: TextKind,
-    head: Head,
-    content: &'a [u8],
-) -> Result<Item<'a>, Fault>
-    ensures { (nodes : List Node) (depth of : ℕ) →
-        Judges (IsOfKind coding nodes depth of (kinds.Text kind) (parts_of head content.now))
-        result }
+/// How many octets at the front are of a set: all of these, or else none.
+fn set_front<S: CharacterSet>(octets: &[u8]) -> usize
+    requires { 0 < length octets.now }
+    ensures { IsFront (AllIn S.in_set) octets.now result }
 {
-    if head.constructed {
-        return Err(in_pieces(coding));
+    if all_in::<S>(octets) {
+        return octets.len();
     }
-    if !is_text(kind, content) {
-        return Err(Fault::Refused);
+    0
+}
+
+/// How many octets at the front are a character in a code, of these that are four or all.
+fn code_front<C: CharacterCode>(octets: &[u8]) -> usize
+    requires { 0 < length octets.now }
+    ensures { IsFront (λ o. (cs : List ℕ) × Codes (code_of C.octets_of) o cs) octets.now result }
+{
+    match C::first(octets) {
+        Some((_, others)) => octets.len() - others.len(),
+        None => 0,
     }
-    Ok(Item::Text(kind, content))
+}
+
+/// How many octets at the front are characters of the type, of these that are four or all.
+fn text_front(kind: TextKind, octets: &[u8]) -> usize
+    requires { 0 < length octets.now }
+    ensures { IsFront (IsText kind) octets.now result }
+{
+    match kind {
+        TextKind::Utf8 => utf8_front(octets),
+        TextKind::Numeric => set_front::<Numeric>(octets),
+        TextKind::Printable => set_front::<Printable>(octets),
+        TextKind::Ia5 => set_front::<Ascii>(octets),
+        TextKind::Visible => set_front::<Graphic>(octets),
+        TextKind::Universal => code_front::<Ucs4>(octets),
+        TextKind::Bmp => code_front::<Utf16>(octets),
+        TextKind::Teletex => octets.len(),
+        TextKind::Videotex => octets.len(),
+        TextKind::Graphic => octets.len(),
+        TextKind::General => octets.len(),
+        TextKind::Descriptor => octets.len(),
+    }
+}
+
+/// Whether pieces join to characters of the type. A character may stand in several.
+pub(crate) fn are_text(kind: TextKind, source: Joined<'_, '_>) -> bool
+    ensures { IsTrue result ↔ IsText kind (said source.entry) }
+{
+    let mut source = source;
+    loop {
+        let (four, count) = first_four(source);
+        if count == 0 {
+            return true;
+        }
+        let characters = text_front(kind, &four[..count]);
+        if characters == 0 {
+            return false;
+        }
+        source = behind(source, characters);
+    }
 }

@@ -5,7 +5,7 @@ use Rattle.asn1vec_answers.specs.declared.types.TypeName.{TypeName}
 use Rattle.asn1vec_answers.specs.Request.{IsRequest, IsOtherForm}
 use Rattle.asn1vec_answers.specs.Types.{Names, NamesNone, IsTypeAnswer}
 
--- the answer to a request: of the type that has the name by the rule, or that there is none
+-- The answer to a request. The type that has the name by the rule gives it, or it says that no type has the name.
 abbrev pub IsRequestAnswer : Rule → List ℕ → List ℕ → List ℕ → Type 0
 IsRequestAnswer rule name octets text =
     (NamesNone rule name × (text ≡ codes "err Type")) ⊎

@@ -7,8 +7,8 @@ use Rattle.asn1vec_answers.specs.declared.request.Rule.TheVariants.{Ber as ber, 
 use Rattle.asn1vec_answers.specs.Shown.{Encoding, HeldEncoding, Reading, ReadsByBer, ReadsByDer, option_text}
 
 -- The data of a name.
--- A name that is read by one rule, has no writer or no laws, has values that are not in DER form, or allocates, changes
--- nothing of what an answer is.
+-- These facts of a name change nothing of what an answer is. The name is read by one rule, has no writer, or has no
+-- laws. The name allocates, or has values that are not in DER form.
 pub record Meaning : Type 1 where
   -- the type of its values
   pub T : Type 0
@@ -45,13 +45,13 @@ abbrev pub headers_by : Rule → HeaderRule
 headers_by ber = ber_rule
 headers_by der = der_rule
 
--- None where no octets or a header of another tag number are at the front, and nothing is consumed;
--- else what reading the value answers
+-- None where no octets, or a header of another tag number, are at the front. Then nothing is consumed. Elsewhere what
+-- reading the value answers.
 abbrev pub ReadsOptional : {T : Type 0} → ℕ → (Rule → List ℕ → Reading T → Type 0) → Rule → List ℕ →
     Reading (Option T) → Type 0
 ReadsOptional number Reads rule = OptionGives (IsLeftOut (headers_by rule) number) (Reads rule)
 
--- optional values of what a name stands for, whose elements have this tag number; None has no octets
+-- Optional values of what a name stands for, whose elements have this tag number. None has no octets.
 abbrev pub optional : ℕ → Meaning → Meaning
 optional number m = record {
   T = Option m.T;

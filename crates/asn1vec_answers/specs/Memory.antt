@@ -1,5 +1,5 @@
--- In what two answers to one line may differ: one of them may tell that memory was refused.
--- That a buffer of the engine could not grow is in no answer: it ends the run.
+-- In what two answers to one line may differ. One of them may tell that memory was refused. A buffer of the engine that
+-- cannot grow ends the run, and no answer tells it.
 use Rattle.std.specs.Prelude.{◌≡◌, ℕ, List, ◌++◌, codes, true, false, ◌⊎◌}
 use Rattle.asn1vec_answers.specs.declared.request.Rule.{Rule}
 use Rattle.asn1vec_answers.specs.declared.types.TypeName.{TypeName}
@@ -7,8 +7,8 @@ use Rattle.asn1vec_answers.specs.Request.{IsRequest}
 use Rattle.asn1vec_answers.specs.Meaning.{Meaning}
 use Rattle.asn1vec_answers.specs.Types.{name_allocates, meaning_of, Names}
 
--- The text tells that memory was refused where the other one goes on: in reading, or, behind the
--- same value and rest, in writing.
+-- The text tells that memory was refused where the other text goes on. This is in reading, or in writing behind the
+-- same value and rest.
 abbrev pub TellsRefusedMemory : Meaning → List ℕ → List ℕ → Type 0
 TellsRefusedMemory m text other =
     ((m.reading_allocates ≡ true) × (text ≡ codes "err OutOfMemory")) ⊎

@@ -24,8 +24,8 @@ abbrev pub StandsFor : List ℕ → List ℕ → Type 0
 StandsFor [] digits = digits ≡ codes "-"
 StandsFor (octet ∷ octets) digits = IsHexadecimal (octet ∷ octets) digits
 
--- the line has the form, and these are its parts; that a line has no 0a is known of every line
--- a name is any octets but spaces, so a carriage return belongs to it, or makes the digits wrong
+-- The line has the form, and these are its parts. Every line is known to have no 0a. A name is any octets but spaces.
+-- So a carriage return belongs to the name, or makes the digits wrong.
 pub record IsRequest (line : List ℕ) (rule : Rule) (name octets : List ℕ) : Type 0 where
   pub named : name ≢ []
   pub one_word : All (λ x. x ≢ 32) name

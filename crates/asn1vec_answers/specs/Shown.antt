@@ -60,8 +60,8 @@ text_or_dash (octet ∷ octets) text = text
 abbrev pub identifier_text : OidValue → List ℕ
 identifier_text v = text_or_dash v.octets (shown_text v.relative v.octets)
 
--- how the syntaxes of an embedded presentation data value are identified:
--- a word, and identifiers, or the contents octets of an integer
+-- How the syntaxes of an embedded presentation data value are identified. A word tells in which way. Behind it stand
+-- identifiers, the contents octets of an integer, or nothing.
 abbrev pub identification_text : Identification → List ℕ
 identification_text (syntaxes first second) =
     codes "syntaxes:" ++ (identifier_text first ++ (codes ":" ++ identifier_text second))
@@ -106,8 +106,8 @@ abbrev pub option_text : {T : Type 0} → (T → List ℕ) → Option T → List
 option_text text_of None = codes "none"
 option_text text_of (Some x) = codes "some " ++ text_of x
 
--- What there is to say of the encoding of a value: nothing, where its type has no writer; the octets
--- that were written; or why writing it was refused.
+-- What there is to say of the encoding of a value: the octets that were written, or why writing was refused. Where the
+-- type has no writer there is nothing to say.
 abbrev pub Encoding : Type 0
 Encoding = Option (Result (List ℕ) SerializeError)
 
@@ -130,7 +130,7 @@ ok_text value rest encoding =
 abbrev pub Reading : Type 0 → Type 0
 Reading T = Result (List ℕ × T) (Refusal Error)
 
--- that in words: the value, the rest and an encoding that the value may have; or the refusal
+-- That in words. An Ok is told by the value, the rest and an encoding that the value may have; an Err by the refusal.
 abbrev pub SaysAnswer : {T : Type 0} → (T → List ℕ) → (T → Encoding → Type 0) → Reading T → List ℕ → Type 0
 SaysAnswer text_of Encodes (Ok x) text =
     (encoding : Encoding) × Encodes x.1 encoding × (text ≡ ok_text (text_of x.1) x.0 encoding)
@@ -168,7 +168,8 @@ IsWritten allocates octets (Some (Ok written)) = (length octets < 2 ^ 64) × (wr
 IsWritten allocates octets (Some (Err e)) =
     MayRefuse allocates (length octets) e × (tells_of_io e ≡ false)
 
--- the same, or, of a value that is refused for what it is, how this refusal comes out of a writing
+-- The same of a value that is not refused for what it is. Of a refused value it is this refusal, as it comes out of a
+-- writing.
 abbrev pub IsWrittenUnless : Bool → Error → List ℕ → Encoding → Type 0
 IsWrittenUnless false refusal octets encoding = IsWritten false octets encoding
 IsWrittenUnless true refusal octets encoding = encoding ≡ Some (Err (written_refusal refusal))
@@ -178,15 +179,15 @@ abbrev pub StrictEncoding : {V : Type 0} → (V → Identifier → List ℕ → 
 StrictEncoding Form allocates v encoding =
     (octets : List ℕ) × IsStrict Form v octets × IsWritten allocates octets encoding
 
--- The same of a value that may have no strict encoding, as that would be too long: writing it is refused then, for its
--- length or when out of memory.
+-- The same of a value that may have no strict encoding, as the encoding would be too long. Writing is refused then, for
+-- the length or when out of memory.
 abbrev pub IsUnwritten : Bool → Encoding → Type 0
 IsUnwritten allocates encoding =
     (encoding ≡ Some (Err serialize_errors.InvalidLength)) ⊎
     ((allocates ≡ true) × (encoding ≡ Some (Err serialize_errors.OutOfMemory)))
 
--- A list may be too long for length octets of 64 bits, and has no strict encoding then. That none that fits in a line
--- is, is not said.
+-- A list may be too long for length octets of 64 bits, and has no strict encoding then. Nothing says that a list that
+-- fits in a line is short enough.
 abbrev pub StrictEncodingIfAny : {V : Type 0} → (V → Identifier → List ℕ → Type 0) → Bool → V → Encoding → Type 0
 StrictEncodingIfAny Form allocates v encoding =
     ((octets : List ℕ) × ∥ IsStrict Form v octets ∥₁ × IsWritten allocates octets encoding) ⊎
@@ -207,8 +208,8 @@ Gains old new Is = (gained : List ℕ) × Is gained × (new ≡ old ++ gained)
 abbrev pub SaysEncoding : (Encoding → Type 0) → List ℕ → Type 0
 SaysEncoding Encodes text = (encoding : Encoding) × Encodes encoding × (text ≡ encoding_text encoding)
 
--- What came of writing a value of these octets, with these refusals of its own: the octets, of a length that 64 bits
--- hold, and then it has no such refusal; or why it was refused.
+-- What came of writing a value of these octets, which has these refusals of its own. Either the octets were written: 64
+-- bits hold their length, and the value has no such refusal. Or writing was refused, and the refusal tells why.
 abbrev pub CameOfWriting : Bool → List ℕ → (SerializeError → Type 0) → Encoding → Type 0
 CameOfWriting allocates octets own None = ⊥
 CameOfWriting allocates octets own (Some (Ok written)) =

@@ -140,7 +140,8 @@ name_of_type GenTime = codes "gentime"
 name_of_type Pdv = codes "pdv"
 name_of_type X509Name = codes "x509name"
 
--- integers, there by either rule: in decimals, with the strict encoding that each has which the type holds
+-- Integers that are there by either rule. Each is shown in decimals, with the strict encoding that each integer of the
+-- type has.
 abbrev pub integers : {T : Type 0} → (T → ℤ) → (ℤ → Type 0) → (List ℕ → Error → Type 0) → Meaning
 integers {T} number Holds refuses = record {
   T = T;
@@ -162,7 +163,7 @@ unsigned size = integers {T = ℕ} pos (IsUnsigned size) (UnsignedRefuses size)
 abbrev pub signed : ℕ → Meaning
 signed size = integers {T = ℤ} (λ n. n) (IsSigned size) (SignedRefuses size)
 
--- elements of any type, there by either rule: what they say, with the strict encoding that each of them has
+-- Elements of any type, which are there by either rule. Each is shown by what it says, and with its strict encoding.
 abbrev pub elements : Meaning
 elements = record {
   T = AnyElement;
@@ -183,8 +184,8 @@ leaf_octets L v = universal_header L.number (L.octets v) ++ L.octets v
 abbrev pub LeafEncoding : {T : Type 0} (L : Leaf T) → L.Value → Encoding → Type 0
 LeafEncoding L v = IsWritten false (leaf_octets L v)
 
--- a leaf type, there by either rule, whose reading may allocate, and whose conversion may answer so: shown by its
--- value, of the encoding of which this may be said
+-- A leaf type that is there by either rule. Its reading may allocate, and its conversion may answer so. It is shown by
+-- its value, and this may be said of the encoding of the value.
 abbrev pub leaf_by : {T : Type 0} (allocates : Truth) (L : Leaf T) → (AnyElement → Result T Error → Type 0) →
     (L.Value → Encoding → Type 0) → (L.Value → List ℕ) → Meaning
 leaf_by {T} allocates L converts Encodes text = record {
@@ -215,8 +216,8 @@ abbrev pub refusing_leaf : {T : Type 0} (L : Leaf T) → (L.Value → Truth) →
 refusing_leaf L is_refused refusal =
     leaf_by false L (OfParts (LeafGives L)) (λ v. IsWrittenUnless (is_refused v) refusal (leaf_octets L v))
 
--- strings with this tag number whose contents octets are their text, which the conversion lends, and which the type
--- has: shown by the octets of the text in UTF-8
+-- Strings with this tag number. Their contents octets are a text that the type has, and the conversion lends it. They
+-- are shown by the octets of the text in UTF-8.
 abbrev pub strings : Type 0 → ℕ → (List ℕ → Type 0) → Meaning
 strings K number IsText =
     let L = string_leaf {K = K} number IsText in
@@ -226,7 +227,7 @@ strings K number IsText =
 abbrev pub coded_strings : Type 0 → ℕ → (ℕ → List ℕ) → Meaning
 coded_strings K number octets_of = copying_leaf (coded_string_leaf {K = K} number octets_of) in_hexadecimal
 
--- times, those of which are refused in writing whose fields have no strict text: shown by such a text of their fields
+-- Times. Writing refuses those whose fields have no strict text. They are shown by the strict text of their fields.
 abbrev pub times : {T : Type 0} (L : Leaf T) → (L.Value → Truth) → (L.Value → List ℕ) → Meaning
 times L is_refused = refusing_leaf L is_refused InvalidDateTime
 
@@ -269,8 +270,7 @@ ends = record {
   writing_allocates = false;
 }
 
--- What there is to say of a type of items: its values and grammars, what its readers may answer,
--- and how an item is shown.
+-- What there is to say of a type of items. It has values and grammars, answers of its readers, and a text for an item.
 pub record Item : Type 1 where
   pub T : Type 0
   pub grammar : ItemGrammar T
@@ -308,7 +308,7 @@ leaf_item {T} L text = record {
   text_of = λ x. text (L.value x);
 }
 
--- sequences of items, in whatever holds them; by DER the constructed bit is not looked at
+-- Sequences of items, in whatever holds them. By DER the constructed bit is not looked at.
 abbrev pub sequence : {W : Type 0} (I : Item) → (W → List I.T) → (List I.T → W → Type 0) → Item
 sequence {W} I items holds = record {
   T = W;
@@ -326,8 +326,8 @@ vector I = sequence {W = Vec I.T Global} I (λ v. v.items) IsMadeOf
 abbrev pub sequence_of : Item → Item
 sequence_of I = sequence {W = SequenceOf I.T} I sequence_items IsSequenceOf
 
--- sets in which an item may stand more than once: they keep the order in which they were read,
--- and are equal in any order
+-- Sets in which an item may stand more than once. They keep the order in which they were read. They are equal in any
+-- order.
 abbrev pub unordered_set : Item → Item
 unordered_set I = record {
   T = SetOf I.T;
@@ -337,7 +337,7 @@ unordered_set I = record {
   text_of = λ s. list_text I.text_of (items_of s);
 }
 
--- sets whose items ascend, each once: they have the items that were read, and each item is below those behind it
+-- Sets whose items ascend, each once. They have the items that were read. Each item is below those behind it.
 abbrev pub ordered_set : (I : Item) → (I.T → I.T → Ordering) → (I.T → I.T → Truth) → Item
 ordered_set I cmp eq = record {
   T = BTreeSet I.T;
@@ -371,7 +371,7 @@ explicit number I = record {
   text_of = λ t. I.text_of t.inner;
 }
 
--- sequences under an implicit, context-specific tag of this number; by DER too their items are read by BER
+-- Sequences under an implicit, context-specific tag of this number. By DER too their items are read by BER.
 abbrev pub implicit_vector_takes : (number : ℕ) (I : Item) → AnyElement →
     Result (TaggedValue (Vec I.T Global) Error Implicit 2 number) Error → Type 0
 implicit_vector_takes number I =
@@ -388,8 +388,8 @@ implicit_vector number I = record {
   text_of = λ t. (vector I).text_of t.inner;
 }
 
--- items, there by either rule, the writer of which may allocate:
--- with the strict encoding of the value, unless that is too long
+-- Items that are there by either rule, and whose writer may allocate. Each is shown with the strict encoding of the
+-- value, unless that is too long.
 abbrev pub alone : Truth → Item → Meaning
 alone allocates I = record {
   T = I.T;
@@ -405,9 +405,9 @@ alone allocates I = record {
 abbrev pub collection : Item → Meaning
 collection = alone true
 
--- Names of X.509, there by DER alone: shown by their attributes, in the order in which these were read, with what is
--- written for a name, in DER form or not. One with a relative name without attributes would be refused; none such is
--- read.
+-- Names of X.509, which are there by DER alone. They are shown by their attributes, in the order in which these were
+-- read. What is written for a name stands behind them, in DER form or not. A name with a relative name without
+-- attributes would be refused; no such name is read.
 abbrev pub names : Meaning
 names = record {
   T = Name;
@@ -472,8 +472,8 @@ meaning_of GenTime = times generalized_time_leaf generalized_time_refused genera
 meaning_of Pdv = data_values
 meaning_of X509Name = names
 
--- the names whose readers or writers allocate: those of lists and sets, of names of X.509, and of strings
--- whose text is decoded
+-- The names whose readers or writers allocate. These are names of lists and sets, of names of X.509, and of strings
+-- whose text is decoded.
 abbrev pub name_allocates : TypeName → Truth
 name_allocates VecU8 = true
 name_allocates VecU32 = true

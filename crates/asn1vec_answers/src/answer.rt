@@ -184,8 +184,8 @@ pub fn one_answer()
     ensures none { (line : List ℕ) → AsksForNoneThatAllocates line → TakesNoMemory line }
 {}
 
-/// The items that are shown of a set that was read as `btreeset.u8` ascend. So do those that are shown of
-/// a set that was read as `hashset.i8`: they are its members, in ascending order.
+/// The items of a set that was read as `btreeset.u8` are shown in ascending order. So are the members of a set that was
+/// read as `hashset.i8`.
 pub fn members_ascend()
     ensures ordered { (rule : Rule) (octets rest : List ℕ) (members : SetOfMembers ℕ)
         → (meaning_of BTreeSetU8).Reads rule octets (Ok (rest, members))

@@ -1,4 +1,4 @@
-//! The answers to the names of types that hold items or a tagged value, a function for each: the goals
+//! The answers to the names of types that hold items or a tagged value. Each name has a function of its own. The goals
 //! of one function that asks for the laws of many such types take minutes to make.
 ghost use Rattle.std.specs.Prelude.{OnOk};
 ghost use Rattle.asn1vec_answers.specs.declared.request.Rule.TheVariants.{Der};

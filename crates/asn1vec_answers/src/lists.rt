@@ -105,8 +105,8 @@ impl<T: Encoded + AlwaysDer> Encoded for SequenceOf<T> {
     }
 }
 
-// The text is no function of the value, as a `SetOf` keeps the order read. That two readings are shown alike is proved
-// of the items that the reader gave (`IsOneReader`), and that they are written alike of the value.
+// The text is no function of the value, as a `SetOf` keeps the order read. Two readings are shown alike by a proof
+// about the items that the reader gave (`IsOneReader`). They are written alike by a proof about the value.
 impl<T: Encoded + AlwaysDer> Encoded for SetOf<T> {
     ghost text_of = { λ s. list_text T.text_of (items_of s) };
 
@@ -143,7 +143,7 @@ impl<T: Encoded + AlwaysDer + LawfulMember + Ord> Encoded for BTreeSet<T> {
 }
 
 /// The members in ascending order.
-// By a function of the row that std's model of the set is: so the text follows from the members alone. The memory is
+// The function takes the row that is std's model of the set. So the text follows from the members alone. The memory is
 // the engine's own: where it is refused, the run ends.
 fn ascending(alloc: Global, set: &HashSet<i8>) -> Result<BTreeSet<i8>, AllocError>
     ensures { IfOk result (λ ordered. ordered.keys ≡ in_order int_cmp set.now.keys) }

@@ -14,7 +14,7 @@ use std::alloc::AllocError;
 
 /// An integer of some width, each of which has a strict encoding.
 pub(crate) trait Number: Integer + LawfulWrite {
-    /// States that the number has one: its body only names what the type says of it.
+    /// States that the number has a strict encoding. Its body only names what the type says of the number.
     fn is_encoded(&self)
         ensures { (o : List ℕ) × IsStrict Self.grammar.Form (Self.grammar.value self.now) o };
 }

@@ -32,8 +32,8 @@ pub(crate) trait Shown {
     fn show(&self, text: &mut Vec<u8>) -> Result<(), AllocError>
         ensures { OnOk result (text.new.items ≡ text.old.items ++ text_of self.now) };
 
-    /// Appends what is said of the encoding of the value, which is written into a buffer first;
-    /// nothing where its type has no writer.
+    /// Appends what is said of the encoding of the value. The encoding is written into a buffer first. Where the type
+    /// has no writer nothing is appended.
     fn tell_encoding(
         &self,
         alloc: Global,
@@ -56,9 +56,9 @@ pub(crate) trait Encoded: LawfulWrite {
     fn show(&self, text: &mut Vec<u8>) -> Result<(), AllocError>
         ensures { OnOk result (text.new.items ≡ text.old.items ++ text_of self.now) };
 
-    /// States that what may come of writing the value may be said of its encoding: its octets,
-    /// where it has no refusal of its own; the refusals of any such writing; and its own. Its body
-    /// only names what the types say of it.
+    /// States that what may come of writing the value may be said of its encoding. This is its octets, where the value
+    /// has no refusal of its own. It is also a refusal that any such writing may have, or a refusal of the value's own.
+    /// Its body only names what the types say of it.
     fn is_told(&self)
         ensures written { AllowsOctets Self.writing self.now (Encodes self.now) }
         ensures refused { AllowsRefusals (MayRefuse (whole_allocates Self.writing)
@@ -115,7 +115,8 @@ fn push_writing(
     }
 }
 
-/// Appends what `write_der` appends for a value in digits, be it in DER form or not, or why writing it was refused.
+/// Appends in digits what `write_der` appends for a value, or why writing was refused. The value may be in DER form or
+/// not.
 pub(crate) fn push_written<T: ToDer>(
     alloc: Global,
     x: &T,

@@ -48,8 +48,7 @@ impl From<AllocError> for RunError {
     }
 }
 
-/// What a run keeps from line to line, so that an answer takes no new memory once these are as long
-/// as it asks for.
+/// What a run keeps from line to line. An answer takes no new memory once the parts are long enough for it.
 #[derive(Debug, Drop)]
 struct Buffers {
     /// The octets that the line asks for.
@@ -187,9 +186,9 @@ fn finish<W: DerWrite>(
 
 /// Answers each line of the input, in order.
 ///
-/// The first Err of the reader, of whatever kind, ends the run with `Input`, and so do 2^64 - 1
-/// reads that do not come to its end. After `Output` the writer is marked: it failed in this run, or
-/// was marked before. After any other answer its mark is as it was.
+/// The first Err of the reader, of whatever kind, ends the run with `Input`. So do 2^64 - 1 reads that do not come to
+/// the end of the input. After `Output` the writer is marked: it failed in this run, or was marked before. After any
+/// other answer its mark is as it was.
 pub fn run<R: Read, W: DerWrite>(
     alloc: Global,
     input: &mut R,

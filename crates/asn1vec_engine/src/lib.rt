@@ -1,7 +1,7 @@
 //! The engine of the program `asn1vec`: it answers each line of its input with one line.
 //!
-//! It is no part of `asn1vec`, since a program's crate can't be a dependency of the tests. What it answers to a line is
-//! the crate below: that is dear to prove, and this is cheap.
+//! It is no part of `asn1vec`, since a program's crate can't be a dependency of the tests. The crate below makes the
+//! answer to a line. That crate is dear to prove, and this one is cheap.
 #![tactic(auto)]
 
 mod engine;

@@ -1,5 +1,5 @@
-//! Each law is called, at a type where it has one. And which types take no memory: what is asked of a call is proved at
-//! each.
+//! Each law is called, at a type where it has one. Which types take no memory is told too. What a call asks is proved
+//! at each of these.
 ghost use Rattle.std.specs.Prelude.{◌≡◌, false};
 ghost use Rattle.asn1_rs.specs.ToDer.{whole_allocates};
 

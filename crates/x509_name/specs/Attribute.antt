@@ -60,7 +60,7 @@ abbrev pub AttributeContent : AttributeValue → List ℕ → Type 0
 AttributeContent v c =
     AreTwo (AsWords (IsStrict oid_element.Form)) (AsWords (IsStrict any_element.Form)) c v.oid v.value
 
--- Attributes, as elements: in DER form where both parts are, so where the identifier is.
+-- Attributes, as elements. They are in DER form where both parts are, so where the identifier is.
 abbrev pub attribute_element : ElementGrammar AttributeTypeAndValue
 attribute_element = record {
   Value = AttributeValue;
@@ -89,8 +89,8 @@ AnyReads = DerGives IsDefiniteOr IsTheElement (λ x y. y ≡ x)
 abbrev pub trailing : Refusal Error
 trailing = refused (DerConstraintFailed TrailingOctets)
 
--- What reading the contents octets may answer: both parts and nothing behind them; or the refusal of the identifier,
--- else that of the value, else that octets are left.
+-- What reading the contents octets may answer. An Ok has both parts, and no octet is left behind them. A refusal is
+-- that of the identifier, else that of the value, else that octets are left.
 abbrev pub PartsGive : List ℕ → Result AttributeTypeAndValue (Refusal Error) → Type 0
 PartsGive content (Ok a) =
     (behind : List ℕ) × OidReads content (Ok (behind, a.oid)) × AnyReads behind (Ok ([], a.value))
@@ -98,8 +98,8 @@ PartsGive content (Err r) = OidReads content (Err r) ⊎ ((behind : List ℕ) ×
     OidReads content (Ok (behind, oid)) × (AnyReads behind (Err r) ⊎
     ((left : List ℕ) × (value : Any) × AnyReads behind (Ok (left, value)) × (left ≢ []) × (r ≡ trailing))))
 
--- What reading an attribute may answer: that of the element at the front; or the refusal of the element, else of its
--- tag, else of its constructed bit, else of its contents octets.
+-- What reading an attribute may answer. An Ok has the attribute of the element at the front. A refusal is that of the
+-- element, else of its tag, else of its constructed bit, else of its contents octets.
 abbrev pub AttributeGives : List ℕ → Result (List ℕ × AttributeTypeAndValue) (Refusal Error) → Type 0
 AttributeGives input (Ok x) = (any : Any) × AnyReads input (Ok (x.0, any)) × IsListOr 16 (parts_of any) (Ok tt) ×
     PartsGive any.content.now (Ok x.1)

@@ -48,7 +48,7 @@ IsSomeSet p = HasNumber 17 p × (p.content ≢ [])
 abbrev pub InWordOrder : List ℕ → List AttributeValue → Type 0
 InWordOrder = DerWord NoCheck (ShapedList IsSomeSet attribute_item.Der)
 
--- Relative names, as elements: in DER form where each attribute is, and there is one.
+-- Relative names, as elements. They are in DER form where each attribute is, and where there is one attribute at least.
 abbrev pub relative_name_element : ElementGrammar RelativeDistinguishedName
 relative_name_element = record {
   Value = Multiset AttributeValue;
@@ -70,8 +70,8 @@ abbrev pub SetReads : List ℕ → Result (List ℕ × SetOf AttributeTypeAndVal
 SetReads = DerGives PassesAll (OfParts (ListTakes (has_number 17) HasItems AttributeGives (λ x y. y ≡ x)))
     (λ x y. y ≡ x)
 
--- What reading a relative name may answer: the attributes of a set, of which there is one at least; or the refusal of
--- the set, else that it is empty.
+-- What reading a relative name may answer. An Ok has the attributes of a set, of which there is one at least. A refusal
+-- is that of the set, else that the set is empty.
 abbrev pub RelativeNameGives : List ℕ → Result (List ℕ × RelativeDistinguishedName) (Refusal Error) → Type 0
 RelativeNameGives input (Ok x) = (s : SetOf AttributeTypeAndValue) × SetReads input (Ok (x.0, s)) ×
     (items_of s ≡ attributes x.1) × IsSome (attributes x.1)

@@ -61,10 +61,10 @@ impl<'a> FromDer<'a, Error> for AttributeTypeAndValue<'a> {
 
     /// Reads an attribute at the front, by DER.
     ///
-    /// Refused, in this order: as the element is; for another tag number than that of sequences; for a primitive
-    /// element; as the identifier is at the front of the contents octets, and then as the value is, also with
-    /// `Incomplete`; for octets behind both, with `DerConstraintFailed(TrailingOctets)`. No tag number of the
-    /// identifier is looked at.
+    /// The first of these refusals is answered. The element is refused. The element has another tag number than that of
+    /// sequences. The element is primitive. The identifier at the front of the contents octets is refused, also with
+    /// `Incomplete`. The value behind the identifier is refused, also with `Incomplete`. Octets stand behind both, with
+    /// `DerConstraintFailed(TrailingOctets)`. No tag number of the identifier is looked at.
     fn from_der(
         alloc: Global,
         bytes: &'a [u8],

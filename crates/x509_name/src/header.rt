@@ -38,7 +38,7 @@ pub(crate) fn add_counts(before: usize, after: usize) -> Result<usize, Error>
 }
 
 /// The sum of two numbers of octets that were written or put in front.
-// A match, and no `ok_or`, which would make the refusal, of 96 octets, before it is known that there is one.
+// This is a match. `ok_or` would make the refusal, of 96 octets, before the answer is known.
 #[inline(always)]
 pub(crate) fn sum_of_written(before: usize, after: usize) -> SerializeResult<usize>
     ensures { SumsWritten before after result }
@@ -62,8 +62,7 @@ pub(crate) fn put_header<W: DerWrite>(
     header(tag, count).write_der_header(alloc, w)
 }
 
-/// Puts the header of such an element before so many contents octets that stand in front, and answers the number of
-/// both.
+/// Puts the header of such an element before so many contents octets that stand in front. Answers the number of both.
 pub(crate) fn prepend_header(
     tag: Tag,
     count: usize,

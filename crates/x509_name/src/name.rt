@@ -73,7 +73,7 @@ impl<'a> LawfulDer<'a, Error> for Name<'a> {
 }
 
 impl Name<'_> {
-    /// Refuses one that holds a relative name without attributes.
+    /// Refuses a name that holds a relative name without attributes.
     fn assert_each_some(&self) -> Result<(), Error>
         ensures { MatchResult result (λ _. All (λ r. IsSome (attributes r)) (relative_names self.now))
             (SomeRefuses HasNoAttribute (relative_names self.now)) }
@@ -145,9 +145,10 @@ impl LawfulTagged for Name<'_> {
     ghost number_fits = { lit< tt };
 }
 
-/// Reads a name at the front of the octets, by DER: Ok exactly where a word of the grammar of names begins them, with
-/// its value and what follows it. A refusal is final. The strict encoding of a value is read back before any rest, and
-/// [`write_name`] and [`name_vec`] say of which names theirs is that.
+/// Reads a name at the front of the octets, by DER. The answer is Ok exactly where a word of the grammar of names
+/// begins the octets. It has the value of the word and what follows the word. A refusal is final. The strict encoding
+/// of a value is read back before any rest. [`write_name`] and [`name_vec`] say of which names they write the strict
+/// encoding.
 ///
 /// The attributes of each relative name stand in the order of their words, and the relative names in that of theirs.
 pub fn read_name(alloc: Global, octets: &[u8]) -> ParseResult<'_, Name<'_>, Error>
@@ -161,9 +162,9 @@ pub fn read_name(alloc: Global, octets: &[u8]) -> ParseResult<'_, Name<'_>, Erro
     read_der::<Name<'_>, Error>(alloc, octets)
 }
 
-/// Appends a name, and answers the number of octets. Of one in DER form these are its one strict encoding: no other
-/// value has it, and it begins no other one. It is refused when out of memory, where its length passes `usize`, and by
-/// its writer.
+/// Appends a name, and answers the number of octets. Of a name in DER form the octets are its one strict encoding. No
+/// other value has this encoding, and this encoding begins no other one. The name is refused when out of memory, where
+/// its length passes `usize`, and by the writer.
 pub fn write_name<W: DerWrite>(name: &Name<'_>, alloc: Global, w: &mut W) -> SerializeResult<usize>
     ensures strict { name_element.IsDer (name_value name.now) →
         length (name_octets name.now) < 2 ^ 64 → (W.state w.new).failed ≡ false →

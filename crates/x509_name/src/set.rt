@@ -38,8 +38,8 @@ pub(crate) fn write_set<T: Tagged + ToDer, W: DerWrite>(
     set_of(alloc, items)?.write_der_content(alloc, w)
 }
 
-/// Puts the items before the octets of the buffer in ascending order of their encodings, and answers the number of
-/// their octets.
+/// Puts the items before the octets of the buffer, in ascending order of their encodings. Answers the number of their
+/// octets.
 pub(crate) fn prepend_set<T: Tagged + ToDer>(
     items: &[T],
     alloc: Global,

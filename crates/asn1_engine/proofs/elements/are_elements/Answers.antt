@@ -1,4 +1,4 @@
-use Rattle.std.proofs.Common.{◌≡◌, List, [], subst}
+use Rattle.std.proofs.Common.{[], subst}
 use Rattle.asn1_walk.specs.Rows.{ended, refused}
 use Rattle.asn1_walk.specs.Walks.{Moves}
 use Rattle.asn1_walk.specs.declared.walk.Step.{Step}

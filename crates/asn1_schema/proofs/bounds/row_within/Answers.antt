@@ -1,4 +1,4 @@
-use Rattle.std.proofs.Common.{◌≡◌, ◌∙◌, ap, subst, ℕ, Some, length}
+use Rattle.std.proofs.Common.{◌≡◌, ◌∙◌, ap, subst, ℕ, Some, length, arith}
 use Rattle.std.specs.Prelude.{pos}
 use Rattle.asn1_schema.specs.Values.{count}
 use Rattle.asn1_schema.specs.Counting.{values_from}
@@ -13,4 +13,4 @@ returns c = λ front kept e p.
     (begin_mark (length (tapes_of kept))) (end_mark (length (tapes_of kept))) e p in
     let n : c.count_values.result ≡ count (values_of kept) =
     c.count_values.ensures ∙ (ap (values_from 0 0) inner ∙ count_of_row kept) in
-    subst (λ (z : ℕ). JudgesBounds c.args.lower c.args.upper (Some (pos z)) c.size_within.result) n c.size_within.ensures
+    c.size_within.ensures (count (values_of kept)) (omega (arith, n))

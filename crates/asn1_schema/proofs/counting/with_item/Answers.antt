@@ -1,6 +1,6 @@
 use Rattle.std.proofs.Common.{◌∙◌, ap, arith}
 use Rattle.asn1_schema.specs.Tape.{mark}
-use Rattle.asn1_schema.proofs.Counts.{item_within, leaf_next, begin_next, pieces_next, arm_next, arm_end_next, end_next, pieces_end_next, absent_next}
+use Rattle.asn1_schema.proofs.Counts.{item_within, leaf_of, leaf_next, begin_next, pieces_next, arm_next, arm_end_next, end_next, pieces_end_next, absent_next}
 use Rattle.asn1_schema.proofs.counting.with_item.Goals as goal
 
 pub returns-then-so_far-ne0-clause-same : goal.returns-then-so_far-ne0-clause-same
@@ -31,42 +31,9 @@ returns-in-PiecesEnd-clause-same c = λ ms. pieces_end_next c.args.so_far.values
 pub returns-in-Absent-clause-same : goal.returns-in-Absent-clause-same
 returns-in-Absent-clause-same c = λ ms. absent_next c.args.so_far.values c.args.so_far.arms c.args.so_far.within c.args.item.now (grind (arith, c.if-so_far-ne0.false)) ms (ap mark c.in-Absent.is)
 
-pub returns-in-Boolean-clause-same : goal.returns-in-Boolean-clause-same
-returns-in-Boolean-clause-same c = λ ms. leaf_next c.args.so_far.values c.args.so_far.arms c.args.so_far.within c.args.item.now (grind (arith, c.if-so_far-ne0.false)) _ ms (ap mark c.in-Boolean.is)
-    ∙ c.with_value-in-Boolean.ensures.same ms
-
-pub returns-in-Null-clause-same : goal.returns-in-Null-clause-same
-returns-in-Null-clause-same c = λ ms. leaf_next c.args.so_far.values c.args.so_far.arms c.args.so_far.within c.args.item.now (grind (arith, c.if-so_far-ne0.false)) _ ms (ap mark c.in-Null.is)
-    ∙ c.with_value-in-Null.ensures.same ms
-
-pub returns-in-Integer-clause-same : goal.returns-in-Integer-clause-same
-returns-in-Integer-clause-same c = λ ms. leaf_next c.args.so_far.values c.args.so_far.arms c.args.so_far.within c.args.item.now (grind (arith, c.if-so_far-ne0.false)) _ ms (ap mark c.in-Integer.is)
-    ∙ c.with_value-in-Integer.ensures.same ms
-
-pub returns-in-Enumerated-clause-same : goal.returns-in-Enumerated-clause-same
-returns-in-Enumerated-clause-same c = λ ms. leaf_next c.args.so_far.values c.args.so_far.arms c.args.so_far.within c.args.item.now (grind (arith, c.if-so_far-ne0.false)) _ ms (ap mark c.in-Enumerated.is)
-    ∙ c.with_value-in-Enumerated.ensures.same ms
-
-pub returns-in-Bits-clause-same : goal.returns-in-Bits-clause-same
-returns-in-Bits-clause-same c = λ ms. leaf_next c.args.so_far.values c.args.so_far.arms c.args.so_far.within c.args.item.now (grind (arith, c.if-so_far-ne0.false)) _ ms (ap mark c.in-Bits.is)
-    ∙ c.with_value-in-Bits.ensures.same ms
-
-pub returns-in-Octets-clause-same : goal.returns-in-Octets-clause-same
-returns-in-Octets-clause-same c = λ ms. leaf_next c.args.so_far.values c.args.so_far.arms c.args.so_far.within c.args.item.now (grind (arith, c.if-so_far-ne0.false)) _ ms (ap mark c.in-Octets.is)
-    ∙ c.with_value-in-Octets.ensures.same ms
-
-pub returns-in-Identifier-clause-same : goal.returns-in-Identifier-clause-same
-returns-in-Identifier-clause-same c = λ ms. leaf_next c.args.so_far.values c.args.so_far.arms c.args.so_far.within c.args.item.now (grind (arith, c.if-so_far-ne0.false)) _ ms (ap mark c.in-Identifier.is)
-    ∙ c.with_value-in-Identifier.ensures.same ms
-
-pub returns-in-Text-clause-same : goal.returns-in-Text-clause-same
-returns-in-Text-clause-same c = λ ms. leaf_next c.args.so_far.values c.args.so_far.arms c.args.so_far.within c.args.item.now (grind (arith, c.if-so_far-ne0.false)) _ ms (ap mark c.in-Text.is)
-    ∙ c.with_value-in-Text.ensures.same ms
-
-pub returns-in-Time-clause-same : goal.returns-in-Time-clause-same
-returns-in-Time-clause-same c = λ ms. leaf_next c.args.so_far.values c.args.so_far.arms c.args.so_far.within c.args.item.now (grind (arith, c.if-so_far-ne0.false)) _ ms (ap mark c.in-Time.is)
-    ∙ c.with_value-in-Time.ensures.same ms
-
-pub returns-in-Any-clause-same : goal.returns-in-Any-clause-same
-returns-in-Any-clause-same c = λ ms. leaf_next c.args.so_far.values c.args.so_far.arms c.args.so_far.within c.args.item.now (grind (arith, c.if-so_far-ne0.false)) _ ms (ap mark c.in-Any.is)
-    ∙ c.with_value-in-Any.ensures.same ms
+pub returns-in_default-clause-same : goal.returns-in_default-clause-same
+returns-in_default-clause-same c = λ ms.
+    let leaf = leaf_of c.args.item.now c.in_default.not-Begin c.in_default.not-End c.in_default.not-Absent c.in_default.not-Arm
+    c.in_default.not-ArmEnd c.in_default.not-Pieces c.in_default.not-PiecesEnd in
+    leaf_next c.args.so_far.values c.args.so_far.arms c.args.so_far.within c.args.item.now (grind (arith, c.if-so_far-ne0.false))
+    leaf.0 ms leaf.1 ∙ c.with_value-in_default.ensures.same ms

@@ -10,6 +10,7 @@ returns-in-Err-clause-fails c =
     record {
       refused = λ e. fails.refused (same_error (Bor (List ℕ)) c.in-Err.error errors.Refused e);
       lasting = λ e. fails.lasting (same_error (Bor (List ℕ)) c.in-Err.error errors.Refused e);
+      cut = λ n e. fails.cut n (same_error (Bor (List ℕ)) c.in-Err.error (errors.Incomplete n) e);
       incomplete = λ n e. fails.incomplete n (same_error (Bor (List ℕ)) c.in-Err.error (errors.Incomplete n) e);
       emptied = fails.emptied;
       within = fails.within;

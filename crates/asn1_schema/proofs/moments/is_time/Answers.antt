@@ -1,12 +1,10 @@
-use Rattle.std.proofs.Common.{sym, subst, refl}
+use Rattle.std.proofs.Common.{◌↔◌, sym, subst, IsTrue, List, ℕ}
 use Rattle.asn1_schema.specs.declared.coding.Coding.{Coding}
 use Rattle.asn1_schema.specs.Reading.{rules_of}
-use Rattle.asn1_schema.proofs.TimeTexts.{time_lax}
+use Rattle.asn1_schema.specs.Rules.{IsTime}
 use Rattle.asn1_schema.proofs.moments.is_time.Goals as goal
 
-pub returns-else-not-strict : goal.returns-else-not-strict
-returns-else-not-strict c = (
-  λ yes. subst (λ (z : Coding). (rules_of z).Time c.args.kind c.args.content.now) (sym c.in-Ber.is)
-      (time_lax c.args.kind c.args.content.now (c.is_strict_time-strict.ensures.0 c.if-not-strict.false)),
-  λ time. refl,
-)
+pub returns-in-Ber : goal.returns-in-Ber
+returns-in-Ber c = subst (λ (e : Coding). IsTrue c.is_time_text.result ↔ (rules_of e).Time c.args.kind c.args.content.now)
+    (sym c.in-Ber.is) (subst (λ (o : List ℕ). IsTrue c.is_time_text.result ↔ IsTime c.args.kind o) c.of_octets.ensures
+    c.is_time_text.ensures)

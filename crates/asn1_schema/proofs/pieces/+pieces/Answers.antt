@@ -1,44 +1,60 @@
-use Rattle.std.proofs.Common.{rules, ◌≡◌, refl, ◌-◌, ◌<◌, arith, length}
+use Rattle.std.proofs.Common.{rules, ◌≡◌, ◌∙◌, refl, sym, subst, ℕ, ◌-◌, ◌<◌, arith, length}
 use Rattle.std.proofs.lemmas.Bool.{not-true, not-false}
+use Rattle.asn1_schema.specs.Grammar.{StringOf}
 use Rattle.asn1_schema.specs.Reading.{rules_of, parts_of}
-use Rattle.asn1_schema.specs.Pieces.{IsPiece, ArePieces}
+use Rattle.asn1_schema.specs.Pieces.{string_of, IsPiece, ArePieces}
 use Rattle.asn1_schema.proofs.Taken.{lawful_of, front_shorter}
-use Rattle.asn1_schema.proofs.TakenPieces.{pieces_allowed, string_primitive, string_pieces, pieces_of_string, pieces_map, piece_put, no_piece_yet, piece_more, piece_refused, no_piece, pieces_done}
+use Rattle.asn1_schema.proofs.TakenPieces.{pieces_allowed, string_primitive, string_content, string_pieces, pieces_of_string, pieces_map, no_piece_yet, none_follows, piece_more, piece_refused, no_piece, pieces_done}
 use Rattle.asn1_schema.proofs.pieces.+pieces.Goals as goal
 
 pub read_piece-returns-then-not-head : goal.read_piece-returns-then-not-head
 read_piece-returns-then-not-head t c =
+    let S = string_of c.args.coding c.args.sort in
+    let p = parts_of c.args.head c.args.content.now in
     let class : c.args.head.class ≡ 0 = grind (arith, c.if-head-ne0.false) in
-    let number : c.args.head.number ≡ 4 = grind (arith, c.if-head-ne4.false) in
-    piece_put (IsPiece c.args.coding c.args.depth (parts_of c.args.head c.args.content.now)) c.args.content.now
-    c.args.tape.now.items c.put_item.new.tape.items c.put_item.result (
-      (class, number),
-      string_primitive (rules_of c.args.coding) c.args.depth (parts_of c.args.head c.args.content.now)
-          (grind (arith, c.if-depth-eq0.false)) (not-true c.args.head.constructed c.if-not-head.true),
-    )
-    c.put_item.ensures.ok c.put_item.ensures.err
+    let number : c.args.head.number ≡ c.piece_number.result = grind (arith, c.if-head-piece_number.false) in
+    let primitive = not-true c.args.head.constructed c.if-not-head.true in
+    pieces_map c.args.coding c.args.sort (S.Content c.args.content.now) (IsPiece c.args.coding S c.args.depth p)
+    (λ xs a. (
+      (class, number ∙ c.piece_number.ensures c.args.coding),
+      string_primitive (rules_of c.args.coding) S c.args.depth p xs (grind (arith, c.if-depth-eq0.false)) primitive a,
+    ))
+    (λ xs a. string_content (rules_of c.args.coding) S c.args.depth p xs primitive a.1)
+    c.args.tape.now.items c.put_piece.new.tape.items c.put_piece.result c.put_piece.ensures
 
 pub read_piece-returns-in-Ber : goal.read_piece-returns-in-Ber
 read_piece-returns-in-Ber t c =
+    let S = string_of c.args.coding c.args.sort in
+    let p = parts_of c.args.head c.args.content.now in
     let class : c.args.head.class ≡ 0 = grind (arith, c.if-head-ne0.false) in
-    let number : c.args.head.number ≡ 4 = grind (arith, c.if-head-ne4.false) in
+    let number : c.args.head.number ≡ c.piece_number.result = grind (arith, c.if-head-piece_number.false) in
     let constructed = not-false c.args.head.constructed c.if-not-head.false in
-    pieces_map (ArePieces c.args.coding (c.args.depth - 1) c.args.content.now)
-    (IsPiece c.args.coding c.args.depth (parts_of c.args.head c.args.content.now))
+    pieces_map c.args.coding c.args.sort (ArePieces c.args.coding S (c.args.depth - 1) c.args.content.now)
+    (IsPiece c.args.coding S c.args.depth p)
     (λ xs a. (
-      (class, number),
-      string_pieces c.args.coding c.args.depth (parts_of c.args.head c.args.content.now) xs
-          (grind (arith, c.if-depth-eq0.false)) (pieces_allowed c.args.coding c.in-Ber.field-0 c.in-Ber.is) constructed a,
+      (class, number ∙ c.piece_number.ensures c.args.coding),
+      string_pieces c.args.coding S c.args.depth p xs (grind (arith, c.if-depth-eq0.false))
+          (pieces_allowed c.args.coding c.in-Ber.field-0 c.in-Ber.is) constructed a,
     ))
-    (λ xs a. (pieces_of_string c.args.coding c.args.depth (parts_of c.args.head c.args.content.now) xs constructed a.1).1)
+    (λ xs a. (pieces_of_string c.args.coding S c.args.depth p xs constructed a.1).1)
     c.args.tape.now.items c.read_pieces.new.tape.items c.read_pieces.result c.read_pieces.ensures
 
 pub read_pieces-loop-rest-init : goal.read_pieces-loop-rest-init
-read_pieces-loop-rest-init t c = no_piece_yet (ArePieces c.args.coding c.args.depth c.args.content.now) c.args.tape.now.items
+read_pieces-loop-rest-init t c = no_piece_yet c.args.coding c.args.sort
+    (ArePieces c.args.coding (string_of c.args.coding c.args.sort) c.args.depth c.args.content.now) c.args.content.now
+    c.args.tape.now.items
+
+pub read_pieces-returns-then-not-whole : goal.read_pieces-returns-then-not-whole
+read_pieces-returns-then-not-whole t c = none_follows c.args.coding c.args.sort c.args.depth
+    (ArePieces c.args.coding (string_of c.args.coding c.args.sort) c.args.depth c.args.content.now) c.loop-rest.rest.now
+    c.loop-rest.whole c.args.tape.now.items c.loop-rest.tape.items
+    c.loop-rest.invariant (λ e. let f = c.loop-rest-test.ensures.no e in absurd (cc))
+    (λ f. let n = c.if-not-whole.true in absurd (cc))
 
 pub read_pieces-returns-in_default : goal.read_pieces-returns-in_default
-read_pieces-returns-in_default t c = no_piece c.args.coding c.args.depth
-    (ArePieces c.args.coding c.args.depth c.args.content.now) c.loop-rest.rest.now c.args.tape.now.items c.loop-rest.tape.items
+read_pieces-returns-in_default t c = no_piece c.args.coding c.args.sort c.args.depth
+    (ArePieces c.args.coding (string_of c.args.coding c.args.sort) c.args.depth c.args.content.now) c.loop-rest.rest.now
+    c.loop-rest.whole c.args.tape.now.items c.loop-rest.tape.items
     c.loop-rest.invariant (λ e. let f = c.loop-rest-test.ensures.no e in absurd (cc)) c.in_default.ensures.none
 
 pub read_pieces-loop-rest-smaller : goal.read_pieces-loop-rest-smaller
@@ -49,19 +65,22 @@ read_pieces-loop-rest-smaller t c =
     search rules
 
 pub read_pieces-loop-rest-preserved : goal.read_pieces-loop-rest-preserved
-read_pieces-loop-rest-preserved t c = piece_more c.args.coding c.args.depth
-    (ArePieces c.args.coding c.args.depth c.args.content.now) c.loop-rest.rest.now c.args.tape.now.items c.loop-rest.tape.items
-    c.loop-rest.invariant c.in-Some.tail.now (parts_of c.in-Some.head c.in-Some.inner.now) c.read_piece.new.tape.items
-    c.in-Some.ensures.some c.in-Ok.ensures
+read_pieces-loop-rest-preserved t c = piece_more c.args.coding c.args.sort c.args.depth
+    (ArePieces c.args.coding (string_of c.args.coding c.args.sort) c.args.depth c.args.content.now) c.loop-rest.rest.now
+    c.loop-rest.whole c.args.tape.now.items c.loop-rest.tape.items
+    c.loop-rest.invariant c.in-Some.tail.now (parts_of c.in-Some.head c.in-Some.inner.now) c.in-Ok.may_follow
+    c.read_piece.new.tape.items c.if-not-whole.false c.in-Some.ensures.some c.in-Ok.ensures
 
 pub read_pieces-returns-in-Err : goal.read_pieces-returns-in-Err
-read_pieces-returns-in-Err t c = piece_refused c.args.coding c.args.depth
-    (ArePieces c.args.coding c.args.depth c.args.content.now) c.loop-rest.rest.now c.args.tape.now.items c.loop-rest.tape.items
-    c.loop-rest.invariant (Unit {0}) (Unit {0}) c.in-Some.tail.now (parts_of c.in-Some.head c.in-Some.inner.now)
+read_pieces-returns-in-Err t c = piece_refused c.args.coding c.args.sort c.args.depth
+    (ArePieces c.args.coding (string_of c.args.coding c.args.sort) c.args.depth c.args.content.now) c.loop-rest.rest.now
+    c.loop-rest.whole c.args.tape.now.items c.loop-rest.tape.items
+    c.loop-rest.invariant c.in-Some.tail.now (parts_of c.in-Some.head c.in-Some.inner.now)
     c.read_piece.new.tape.items c.in-Err.e (λ e. let f = c.loop-rest-test.ensures.no e in absurd (cc))
     c.in-Some.ensures.some c.in-Err.ensures
 
 pub read_pieces-returns : goal.read_pieces-returns
-read_pieces-returns t c = pieces_done c.args.coding c.args.depth
-    (ArePieces c.args.coding c.args.depth c.args.content.now) c.loop-rest.rest.now c.args.tape.now.items c.loop-rest.tape.items
+read_pieces-returns t c = pieces_done c.args.coding c.args.sort c.args.depth
+    (ArePieces c.args.coding (string_of c.args.coding c.args.sort) c.args.depth c.args.content.now) c.loop-rest.rest.now
+    c.loop-rest.whole c.args.tape.now.items c.loop-rest.tape.items
     c.loop-rest.invariant (c.loop-rest-test.ensures.yes refl)

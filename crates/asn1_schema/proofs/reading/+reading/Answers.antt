@@ -1,5 +1,5 @@
 use Rattle.std.proofs.Common.{rules, ◌≡◌, sym, subst, refl, ℕ, ◌-◌, ◌<◌, inr, List, ◌++◌, true, arith, length}
-use Rattle.std.specs.Prelude.{Option, Err, ◌||◌, not}
+use Rattle.std.specs.Prelude.{ℤ, Option, Err, ◌||◌, not}
 use Rattle.std.proofs.lemmas.Bool.{not-true, not-false}
 use Rattle.std.proofs.lemmas.List.{nil_from_length, length-map}
 use Rattle.std.proofs.lemmas.Option.{slice_get_within}
@@ -11,10 +11,12 @@ use Rattle.asn1_schema.specs.declared.tape.Item.{Item}
 use Rattle.asn1_schema.specs.Tape.{mark, marks, tape_of}
 use Rattle.asn1_schema.specs.Grammar.{AreUnknown, Says}
 use Rattle.asn1_schema.specs.Sound.{is_single, kind_told, fields_told, arms_told, arms_held, all_before, field_told, may_be_left_out, node_at}
-use Rattle.asn1_schema.specs.Reading.{rules_of, parts_of, IsBody, IsOfKind, IsArmOf, AreFieldsOf, AreItemsOf, IsRowOf, ReadsValue, ReadsRow, MayNot, Leaves, PutsValue}
+use Rattle.asn1_schema.specs.Reading.{rules_of, parts_of, IsBody, IsOfKind, IsArmOf, AreFieldsOf, AreItemsOf, IsRowOf, IsListed, Judges, ReadsValue, ReadsRow, MayNot, Leaves, PutsValue}
+use Rattle.asn1_schema.specs.declared.pieces.Sort.TheVariants as sorts
+use Rattle.asn1_schema.specs.Pieces.{IsStringOf}
 use Rattle.asn1_schema.proofs.Tags.{arm_before, first_holds, second_holds, node_told}
 use Rattle.asn1_schema.proofs.OneValue.{tag_of_body}
-use Rattle.asn1_schema.proofs.Taken.{lawful_of, written_of, no_leaf, body_some, reads_up, kind_refused, order_of, no_type, other_tag, set_read, no_element, front_shorter, front_read, front_refused, whole_read, not_whole, whole_refused, explicit_read, no_arm, arm_read, arm_refused, choice_read, within_read, within_judged, bounds_order, leaf_read}
+use Rattle.asn1_schema.proofs.Taken.{lawful_of, written_of, no_leaf, body_some, reads_map, reads_up, kind_refused, order_of, no_type, other_tag, set_read, no_element, front_shorter, front_read, front_refused, whole_read, not_whole, whole_refused, explicit_read, no_arm, arm_read, arm_refused, choice_read, within_read, within_judged, bounds_order, leaf_read, leaf_put}
 use Rattle.asn1_schema.proofs.Bounded.{bounds_refused}
 use Rattle.asn1_schema.proofs.TakenRows.{nothing_yet, row_read, row_refused, item_more, items_refused, items_done, fields_further, fields_refused, fields_ended, fields_done, fields_over, field_there, field_refused, field_default, no_tag}
 use Rattle.asn1_schema.proofs.reading.+reading.Goals as goal
@@ -79,13 +81,60 @@ read_body-returns-else-not-head t c = reads_up (rules_of c.args.coding) c.args.n
     c.args.head.constructed c.args.content.now c.args.tape.now.items c.read_whole.new.tape.items c.read_whole.result
     (not-false c.args.head.constructed c.if-not-head.false) c.read_whole.ensures)
 
-pub read_body-returns-in_default-kind : goal.read_body-returns-in_default-kind
-read_body-returns-in_default-kind t c = reads_up (rules_of c.args.coding) c.args.nodes.now c.args.depth c.args.of (parts_of c.args.head c.args.content.now) c.in-Some.node.now c.in-Some.node.now.kind c.args.tape.now.items c.read_leaf.new.tape.items c.read_leaf.result (grind (arith, c.if-depth-eq0.false)) c.in-Some.ensures.some (sym c.if-not-has_a_tag.ensures) refl
-    (c.read_leaf.ensures c.args.nodes.now (c.args.depth - 1) c.args.of)
+pub read_body-returns-in-Boolean : goal.read_body-returns-in-Boolean
+read_body-returns-in-Boolean t c =
+    let p = parts_of c.args.head c.args.content.now in
+    reads_up (rules_of c.args.coding) c.args.nodes.now c.args.depth c.args.of p c.in-Some.node.now (kinds.Boolean) c.args.tape.now.items c.put_leaf.new.tape.items c.put_leaf.result (grind (arith, c.if-depth-eq0.false)) c.in-Some.ensures.some (sym c.if-not-has_a_tag.ensures) c.in-Boolean.is
+    (leaf_put (IsOfKind c.args.coding c.args.nodes.now (c.args.depth - 1) c.args.of (kinds.Boolean) p) c.boolean_item.result c.args.tape.now.items
+    c.put_leaf.new.tape.items c.put_leaf.result (c.boolean_item.ensures c.args.nodes.now (c.args.depth - 1) c.args.of) c.put_leaf.ensures.put c.put_leaf.ensures.refused)
+
+pub read_body-returns-in-Null : goal.read_body-returns-in-Null
+read_body-returns-in-Null t c =
+    let p = parts_of c.args.head c.args.content.now in
+    reads_up (rules_of c.args.coding) c.args.nodes.now c.args.depth c.args.of p c.in-Some.node.now (kinds.Null) c.args.tape.now.items c.put_leaf-in-Null.new.tape.items c.put_leaf-in-Null.result (grind (arith, c.if-depth-eq0.false)) c.in-Some.ensures.some (sym c.if-not-has_a_tag.ensures) c.in-Null.is
+    (leaf_put (IsOfKind c.args.coding c.args.nodes.now (c.args.depth - 1) c.args.of (kinds.Null) p) c.null_item.result c.args.tape.now.items
+    c.put_leaf-in-Null.new.tape.items c.put_leaf-in-Null.result (c.null_item.ensures c.args.nodes.now (c.args.depth - 1) c.args.of) c.put_leaf-in-Null.ensures.put c.put_leaf-in-Null.ensures.refused)
+
+pub read_body-returns-in-Integer : goal.read_body-returns-in-Integer
+read_body-returns-in-Integer t c =
+    let p = parts_of c.args.head c.args.content.now in
+    reads_up (rules_of c.args.coding) c.args.nodes.now c.args.depth c.args.of p c.in-Some.node.now (kinds.Integer) c.args.tape.now.items c.put_leaf-in-Integer.new.tape.items c.put_leaf-in-Integer.result (grind (arith, c.if-depth-eq0.false)) c.in-Some.ensures.some (sym c.if-not-has_a_tag.ensures) c.in-Integer.is
+    (leaf_put (IsOfKind c.args.coding c.args.nodes.now (c.args.depth - 1) c.args.of (kinds.Integer) p) c.integer_item.result c.args.tape.now.items
+    c.put_leaf-in-Integer.new.tape.items c.put_leaf-in-Integer.result (c.integer_item.ensures c.args.nodes.now (c.args.depth - 1) c.args.of) c.put_leaf-in-Integer.ensures.put c.put_leaf-in-Integer.ensures.refused)
+
+pub read_body-returns-in-Enumerated : goal.read_body-returns-in-Enumerated
+read_body-returns-in-Enumerated t c =
+    let p = parts_of c.args.head c.args.content.now in
+    reads_up (rules_of c.args.coding) c.args.nodes.now c.args.depth c.args.of p c.in-Some.node.now (kinds.Enumerated c.in-Enumerated.numbers c.in-Enumerated.extensible) c.args.tape.now.items c.put_leaf-in-Enumerated.new.tape.items c.put_leaf-in-Enumerated.result (grind (arith, c.if-depth-eq0.false)) c.in-Some.ensures.some (sym c.if-not-has_a_tag.ensures) c.in-Enumerated.is
+    (leaf_put (IsOfKind c.args.coding c.args.nodes.now (c.args.depth - 1) c.args.of (kinds.Enumerated c.in-Enumerated.numbers c.in-Enumerated.extensible) p) c.enumerated_item.result c.args.tape.now.items
+    c.put_leaf-in-Enumerated.new.tape.items c.put_leaf-in-Enumerated.result (subst (λ (z : List ℤ). Judges (IsListed z c.in-Enumerated.extensible p) c.enumerated_item.result)
+    c.deref-in-Enumerated.ensures.value c.enumerated_item.ensures) c.put_leaf-in-Enumerated.ensures.put c.put_leaf-in-Enumerated.ensures.refused)
+
+pub read_body-returns-in-Identifier : goal.read_body-returns-in-Identifier
+read_body-returns-in-Identifier t c =
+    let p = parts_of c.args.head c.args.content.now in
+    reads_up (rules_of c.args.coding) c.args.nodes.now c.args.depth c.args.of p c.in-Some.node.now (kinds.Identifier c.in-Identifier.relative) c.args.tape.now.items c.put_leaf-in-Identifier.new.tape.items c.put_leaf-in-Identifier.result (grind (arith, c.if-depth-eq0.false)) c.in-Some.ensures.some (sym c.if-not-has_a_tag.ensures) c.in-Identifier.is
+    (leaf_put (IsOfKind c.args.coding c.args.nodes.now (c.args.depth - 1) c.args.of (kinds.Identifier c.in-Identifier.relative) p) c.identifier_item.result c.args.tape.now.items
+    c.put_leaf-in-Identifier.new.tape.items c.put_leaf-in-Identifier.result (c.identifier_item.ensures c.args.nodes.now (c.args.depth - 1) c.args.of) c.put_leaf-in-Identifier.ensures.put c.put_leaf-in-Identifier.ensures.refused)
 
 pub read_body-returns-in-Octets : goal.read_body-returns-in-Octets
-read_body-returns-in-Octets t c = reads_up (rules_of c.args.coding) c.args.nodes.now c.args.depth c.args.of (parts_of c.args.head c.args.content.now) c.in-Some.node.now kinds.Octets c.args.tape.now.items c.read_octets.new.tape.items c.read_octets.result (grind (arith, c.if-depth-eq0.false)) c.in-Some.ensures.some (sym c.if-not-has_a_tag.ensures) c.in-Octets.is
-    (c.read_octets.ensures c.args.nodes.now c.args.of)
+read_body-returns-in-Octets t c =
+    let p = parts_of c.args.head c.args.content.now in
+    reads_up (rules_of c.args.coding) c.args.nodes.now c.args.depth c.args.of p c.in-Some.node.now kinds.Octets c.args.tape.now.items c.read_string.new.tape.items c.read_string.result (grind (arith, c.if-depth-eq0.false)) c.in-Some.ensures.some (sym c.if-not-has_a_tag.ensures) c.in-Octets.is
+    (reads_map (IsStringOf c.args.coding sorts.Octets (c.args.depth - 1) p) (IsOfKind c.args.coding c.args.nodes.now (c.args.depth - 1) c.args.of kinds.Octets p)
+    (λ v a. (a.0, a.1, a.2)) (λ v a. (a.0, a.1, a.2, tt)) c.args.tape.now.items c.read_string.new.tape.items c.read_string.result c.read_string.ensures)
+
+pub read_body-returns-in-Text : goal.read_body-returns-in-Text
+read_body-returns-in-Text t c = reads_up (rules_of c.args.coding) c.args.nodes.now c.args.depth c.args.of (parts_of c.args.head c.args.content.now) c.in-Some.node.now (kinds.Text c.in-Text.kind) c.args.tape.now.items c.read_string-in-Text.new.tape.items c.read_string-in-Text.result (grind (arith, c.if-depth-eq0.false)) c.in-Some.ensures.some (sym c.if-not-has_a_tag.ensures) c.in-Text.is
+    c.read_string-in-Text.ensures
+
+pub read_body-returns-in-Time : goal.read_body-returns-in-Time
+read_body-returns-in-Time t c = reads_up (rules_of c.args.coding) c.args.nodes.now c.args.depth c.args.of (parts_of c.args.head c.args.content.now) c.in-Some.node.now (kinds.Time c.in-Time.kind) c.args.tape.now.items c.read_string-in-Time.new.tape.items c.read_string-in-Time.result (grind (arith, c.if-depth-eq0.false)) c.in-Some.ensures.some (sym c.if-not-has_a_tag.ensures) c.in-Time.is
+    c.read_string-in-Time.ensures
+
+pub read_body-returns-in-Bits : goal.read_body-returns-in-Bits
+read_body-returns-in-Bits t c = reads_up (rules_of c.args.coding) c.args.nodes.now c.args.depth c.args.of (parts_of c.args.head c.args.content.now) c.in-Some.node.now (kinds.Bits c.in-Bits.named) c.args.tape.now.items c.read_bits.new.tape.items c.read_bits.result (grind (arith, c.if-depth-eq0.false)) c.in-Some.ensures.some (sym c.if-not-has_a_tag.ensures) c.in-Bits.is
+    (c.read_bits.ensures c.args.nodes.now c.args.of)
 
 pub read_body-read_body-requires : goal.read_body-read_body-requires
 read_body-read_body-requires t c =

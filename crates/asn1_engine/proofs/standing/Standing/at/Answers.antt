@@ -1,4 +1,4 @@
-use Rattle.std.proofs.Common.{◌≡◌, ℕ, List, subst}
+use Rattle.std.proofs.Common.{ℕ, List, subst}
 use Rattle.asn1_engine.specs.Standing.{IsFront}
 use Rattle.asn1_engine.proofs.standing.Standing.at.Goals as goal
 

@@ -1,0 +1,88 @@
+-- What a call put behind a table.
+use Rattle.std.proofs.Common.{ℕ, List, [], ◌∷◌, ◌++◌, ◌≡◌, ◌<◌, ◌-◌, zero, suc, length, length-append, subst, sym, ap, refl, arith, Option, Some}
+use Rattle.std.specs.Prelude.{ℤ, Result, Ok, Err, IfOk, OnOk, slice_get}
+use Rattle.asn1_schema.specs.declared.schema.Node.{Node}
+use Rattle.asn1_schema.specs.declared.schema.TypeTag.{TypeTag}
+use Rattle.asn1_schema.specs.declared.schema.Kind.{Kind}
+use Rattle.asn1_schema.specs.declared.schema.Kind.TheVariants as kinds
+use Rattle.asn1_schema.specs.Build.{IsAdded, IsOf, IsLike, IsTagged, IsUnbounded, IsRetagged, IsUnder, IsAddedOpen}
+
+-- where the place and the types are as they should be
+pub is_added : {E : Type 0} (r : Result ℕ E) (old new : List Node) (node : Node) (P : Node → Type 0) →
+    IfOk r (λ place. place ≡ length old) → OnOk r (new ≡ old ++ node ∷ []) → P node →
+    IfOk r (λ place. IsAdded old new place P)
+is_added (Ok place) old new node P last all is = record { node = node; all = all; last = last; is = is }
+is_added (Err e) old new node P last all is = tt
+
+-- where more is known of the tag and of the kind
+pub is_like : {E : Type 0} (r : Result ℕ E) (old new : List Node) (tag other : TypeTag) (kind : Kind) (P : Kind → Type 0) →
+    tag ≡ other → P kind → IfOk r (λ place. IsAdded old new place (IsOf tag kind)) →
+    IfOk r (λ place. IsAdded old new place (IsLike other P))
+is_like (Ok place) old new tag other kind P same is a = record {
+  node = a.node;
+  all = a.all;
+  last = a.last;
+  is = (subst (λ (t : TypeTag). IsTagged t a.node.tags) same a.is.0, subst P (sym a.is.1) is);
+}
+is_like (Err e) old new tag other kind P same is a = tt
+
+-- what is in the table has a type
+pub at_place : (xs : List Node) (n : ℕ) → n < length xs → (x : Node) × (slice_get xs n ≡ Some x)
+at_place [] n h = absurd (omega arith)
+at_place (x ∷ xs) zero h = (x, refl)
+at_place (x ∷ xs) (suc n) h = at_place xs n (omega arith)
+
+-- what is no bounds does not ask where a type that is bounded stands
+pub unbounded_retagged : (of a b : ℕ) (was kind : Kind) → IsUnbounded was → IsRetagged of a was kind →
+    IsRetagged of b was kind
+unbounded_retagged of a b (kinds.Within t l u) kind free is = absurd free
+unbounded_retagged of a b (kinds.Enumerated ns e) (kinds.Enumerated ms f) free is = is
+unbounded_retagged of a b (kinds.Enumerated ns e) kind free is = is
+unbounded_retagged of a b (kinds.Sequence fs u) (kinds.Sequence gs w) free is = is
+unbounded_retagged of a b (kinds.Sequence fs u) kind free is = is
+unbounded_retagged of a b was kind free is = is
+
+-- bounds are on the type right before them
+pub bounds_retagged : (of inner : ℕ) (was : Kind) (l u : Option ℤ) (t : ℕ) (place : ℕ) → was ≡ kinds.Within t l u →
+    place ≡ inner → IsRetagged of inner was (kinds.Within place l u)
+bounds_retagged of inner was l u t place is same =
+    subst (λ (k : Kind). IsRetagged of inner k (kinds.Within place l u)) (sym is)
+    (ap (λ (p : ℕ). kinds.Within p l u) same)
+
+-- the type was put behind the others under the tag
+pub is_under : {E : Type 0} (r : Result ℕ E) (old mid new : List Node) (was : Node) (tag : TypeTag) (of : ℕ) (kind : Kind) →
+    slice_get old of ≡ Some was → IsRetagged of (length mid - 1) was.kind kind →
+    IfOk r (λ place. IsAdded mid new place (IsOf tag kind)) → IfOk r (λ place. IsUnder old new place tag of)
+is_under (Ok place) old mid new was tag of kind known same a = record {
+  was = was;
+  node = a.node;
+  known = known;
+  front = mid;
+  all = a.all;
+  last = a.last;
+  tagged = a.is.0;
+  kind = subst (λ (k : Kind). IsRetagged of (place - 1) was.kind k) (sym a.is.1)
+      (subst (λ (n : ℕ). IsRetagged of (n - 1) was.kind kind) (sym a.last) same);
+}
+is_under (Err e) old mid new was tag of kind known same a = tt
+
+-- where the last type stands
+pub last_place : (old new : List Node) (place : ℕ) (tag : TypeTag) (of : ℕ) → IsUnder old new place tag of →
+    place ≡ length new - 1
+last_place old new place tag of a =
+    let size = ap (λ (xs : List Node). length xs) a.all in
+    let more = length-append a.front (a.node ∷ []) in
+    let last = a.last in
+    omega (arith, size, more, last)
+
+-- a type behind one of unknown elements
+pub is_open : {E : Type 0} (r : Result ℕ E) (old mid new : List Node) (unknown : ℕ) (P : ℕ → Node → Type 0) →
+    IsAdded old mid unknown (λ node. node.kind ≡ kinds.Any) →
+    IfOk r (λ place. IsAdded mid new place (P unknown)) → IfOk r (λ place. IsAddedOpen old new place P)
+is_open (Ok place) old mid new unknown P first a = record {
+  unknown = first.node;
+  is_any = first.is;
+  added = subst (λ (xs : List Node). IsAdded xs new place (P (length old))) first.all
+      (subst (λ (n : ℕ). IsAdded mid new place (P n)) first.last a);
+}
+is_open (Err e) old mid new unknown P first a = tt

@@ -1,0 +1,11 @@
+use Rattle.asn1_schema.specs.Joined.{said}
+use Rattle.asn1_schema.specs.Moments.{IsMinutes}
+use Rattle.asn1_schema.proofs.MomentTexts.{then_some, then_none}
+use Rattle.asn1_schema.proofs.moments.is_offset.Goals as goal
+
+pub returns-in-Some : goal.returns-in-Some
+returns-in-Some c = then_some 99 (IsMinutes c.args.short) (said c.args.text) c.is_minutes.result (said c.in-Some.rest) c.in-Some.ensures.some
+    c.in-Some.ensures.only c.is_minutes.ensures
+
+pub returns-in-None : goal.returns-in-None
+returns-in-None c = then_none 99 (IsMinutes c.args.short) (said c.args.text) c.in-None.ensures.only

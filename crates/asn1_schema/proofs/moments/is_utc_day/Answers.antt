@@ -1,0 +1,11 @@
+use Rattle.asn1_schema.specs.Joined.{said}
+use Rattle.asn1_schema.specs.Moments.{Then, IsUtcEnd}
+use Rattle.asn1_schema.proofs.MomentTexts.{hour_some, hour_none}
+use Rattle.asn1_schema.proofs.moments.is_utc_day.Goals as goal
+
+pub returns-in-Some : goal.returns-in-Some
+returns-in-Some c = hour_some (Then 59 IsUtcEnd) (said c.args.text) c.is_utc_minute.result (said c.in-Some.rest) c.in-Some.ensures.some
+    c.in-Some.ensures.only c.is_utc_minute.ensures
+
+pub returns-in-None : goal.returns-in-None
+returns-in-None c = hour_none (Then 59 IsUtcEnd) (said c.args.text) c.in-None.ensures.only

@@ -1,9 +1,0 @@
-use Rattle.std.proofs.Common.{◌≡◌, length}
-use Rattle.asn1_schema.specs.Sound.{arms_told}
-use Rattle.asn1_schema.proofs.sound.arms_told.Given as goal
-
-abbrev pub invariant-loop-arm : goal.invariant-loop-arm
-invariant-loop-arm l = arms_told l.table l.arms ≡ arms_told l.table l.left
-
-abbrev pub decreases-loop-arm : goal.decreases-loop-arm
-decreases-loop-arm l = length l.left

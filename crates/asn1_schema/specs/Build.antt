@@ -1,0 +1,164 @@
+-- What the calls that build a table put into it.
+use Rattle.std.specs.Prelude.{ℕ, ℤ, List, [], ◌∷◌, ◌++◌, length, ◌≡◌, Bool, Option, Some, slice_get, slice_set, map, ◌-◌}
+use Rattle.asn1_schema.specs.declared.schema.TypeTag.{TypeTag}
+use Rattle.asn1_schema.specs.declared.schema.Tags.{Tags}
+use Rattle.asn1_schema.specs.declared.schema.Tags.TheVariants as tags
+use Rattle.asn1_schema.specs.declared.schema.Presence.{Presence}
+use Rattle.asn1_schema.specs.declared.schema.Presence.TheVariants as presences
+use Rattle.asn1_schema.specs.declared.schema.Field.{Field}
+use Rattle.asn1_schema.specs.declared.schema.Node.{Node}
+use Rattle.asn1_schema.specs.declared.schema.Kind.{Kind}
+use Rattle.asn1_schema.specs.declared.schema.TextKind.{TextKind}
+use Rattle.asn1_schema.specs.declared.schema.TextKind.TheVariants as texts
+use Rattle.asn1_schema.specs.declared.names.PartName.{PartName}
+use Rattle.asn1_schema.specs.declared.schema.Kind.TheVariants as kinds
+use Rattle.asn1_schema.specs.declared.parts.Omission.{Omission}
+use Rattle.asn1_schema.specs.declared.parts.Omission.TheVariants as omissions
+use Rattle.asn1_schema.specs.declared.parts.Part.{Part}
+
+-- one type stands behind those that were there, at this place
+pub record IsAdded (old new : List Node) (place : ℕ) (P : Node → Type 0) : Type 0 where
+  pub node : Node
+  pub all : new ≡ old ++ node ∷ []
+  pub last : place ≡ length old
+  pub is : P node
+
+-- a universal tag
+abbrev pub universal : ℕ → TypeTag
+universal n = record { class = 0; number = n }
+
+-- the tags are this one
+abbrev pub IsTagged : TypeTag → Tags → Type 0
+IsTagged tag (tags.Among ts) = ts.items ≡ tag ∷ []
+IsTagged tag (tags.AllBut ts) = ⊥
+
+-- a type with this tag, and of this kind
+abbrev pub IsOf : TypeTag → Kind → Node → Type 0
+IsOf tag kind node = IsTagged tag node.tags × (node.kind ≡ kind)
+
+-- a type with this tag, of a kind like this
+abbrev pub IsLike : TypeTag → (Kind → Type 0) → Node → Type 0
+IsLike tag P node = IsTagged tag node.tags × P node.kind
+
+-- whether a field may be left out is as it was asked for
+abbrev pub IsPresence : Omission → Presence → Type 0
+IsPresence omissions.Never presences.Required = Unit {0}
+IsPresence omissions.Allowed presences.Optional = Unit {0}
+IsPresence (omissions.Default o) (presences.Default d) = d.items ≡ o.now
+IsPresence _ _ = ⊥
+
+-- the fields are those that were asked for
+abbrev pub AreParts : List Part → List Field → Type 0
+AreParts [] [] = Unit {0}
+AreParts (p ∷ ps) (f ∷ fs) = (f.of ≡ p.of) × IsPresence p.omission f.presence × AreParts ps fs
+AreParts _ _ = ⊥
+
+-- a sequence of these fields, and of such unknown elements
+abbrev pub IsRow : List Part → Option ℕ → Kind → Type 0
+IsRow parts unknown (kinds.Sequence fields u) = AreParts parts fields.items × (u ≡ unknown)
+IsRow parts unknown _ = ⊥
+
+-- a choice among the types at these places
+abbrev pub IsChoiceOf : List ℕ → Kind → Type 0
+IsChoiceOf places (kinds.Choice arms) = arms.items ≡ places
+IsChoiceOf places _ = ⊥
+
+-- one of these numbers, or any where it is extensible
+abbrev pub IsListed : List PartName → Bool → Kind → Type 0
+IsListed numbers extensible (kinds.Enumerated ns e) = (ns.items ≡ map (λ l. l.number) numbers) × (e ≡ extensible)
+IsListed numbers extensible _ = ⊥
+
+-- the number of the universal tag of a character string (X.680 table 8)
+abbrev pub text_number : TextKind → ℕ
+text_number texts.Utf8 = 12
+text_number texts.Numeric = 18
+text_number texts.Printable = 19
+text_number texts.Teletex = 20
+text_number texts.Videotex = 21
+text_number texts.Ia5 = 22
+text_number texts.Graphic = 25
+text_number texts.Visible = 26
+text_number texts.General = 27
+text_number texts.Universal = 28
+text_number texts.Bmp = 30
+text_number texts.Descriptor = 7
+
+-- the same tags
+abbrev pub AreSameTags : Tags → Tags → Type 0
+AreSameTags (tags.Among xs) (tags.Among ys) = ys.items ≡ xs.items
+AreSameTags (tags.AllBut xs) (tags.AllBut ys) = ys.items ≡ xs.items
+AreSameTags _ _ = ⊥
+
+-- any tag but the one with which contents of indefinite length end (X.690 8.1.5)
+abbrev pub IsAnyTag : Tags → Type 0
+IsAnyTag (tags.Among ts) = ⊥
+IsAnyTag (tags.AllBut ts) = ts.items ≡ universal 0 ∷ []
+
+-- bounds on the type at a place, with its tags
+abbrev pub IsBounded : List Node → ℕ → Option ℤ → Option ℤ → Node → Type 0
+IsBounded table of lower upper node =
+    (inner : Node) × (slice_get table of ≡ Some inner) × AreSameTags inner.tags node.tags ×
+    (node.kind ≡ kinds.Within of lower upper)
+
+-- any element
+abbrev pub IsAnyNode : Node → Type 0
+IsAnyNode node = IsAnyTag node.tags × (node.kind ≡ kinds.Any)
+
+abbrev pub IsSamePresence : Presence → Presence → Type 0
+IsSamePresence presences.Required p = p ≡ presences.Required
+IsSamePresence presences.Optional p = p ≡ presences.Optional
+IsSamePresence (presences.Default o) (presences.Default d) = d.items ≡ o.items
+IsSamePresence (presences.Default o) _ = ⊥
+
+abbrev pub AreSameFields : List Field → List Field → Type 0
+AreSameFields [] [] = Unit {0}
+AreSameFields (f ∷ fs) (g ∷ gs) = (g.of ≡ f.of) × IsSamePresence f.presence g.presence × AreSameFields fs gs
+AreSameFields _ _ = ⊥
+
+-- The kind of a type under another tag: the same, but that a choice and any element get the tag round them
+-- (X.680 31.2.7), and bounds then bound a type under the tag, at this place.
+abbrev pub IsRetagged : ℕ → ℕ → Kind → Kind → Type 0
+IsRetagged of inner (kinds.Enumerated ns e) (kinds.Enumerated ms f) = (ms.items ≡ ns.items) × (f ≡ e)
+IsRetagged of inner (kinds.Enumerated ns e) _ = ⊥
+IsRetagged of inner (kinds.Sequence fs u) (kinds.Sequence gs w) = AreSameFields fs.items gs.items × (w ≡ u)
+IsRetagged of inner (kinds.Sequence fs u) _ = ⊥
+IsRetagged of inner (kinds.Choice arms) k = k ≡ kinds.Explicit of
+IsRetagged of inner kinds.Any k = k ≡ kinds.Explicit of
+IsRetagged of inner (kinds.Within t l u) k = k ≡ kinds.Within inner l u
+IsRetagged of inner same k = k ≡ same
+
+-- The type at a place was put behind the others under a tag, with what it bounds right before it.
+pub record IsUnder (old new : List Node) (place : ℕ) (tag : TypeTag) (of : ℕ) : Type 0 where
+  pub was : Node
+  pub node : Node
+  pub known : slice_get old of ≡ Some was
+  pub front : List Node
+  pub all : new ≡ front ++ node ∷ []
+  pub last : place ≡ length front
+  pub tagged : IsTagged tag node.tags
+  pub kind : IsRetagged of (place - 1) was.kind node.kind
+
+-- A declared type has the kind of the type at a place, and its own tag.
+pub record IsDefined (old new : List Node) (place of : ℕ) : Type 0 where
+  pub declared : Node
+  pub was : Node
+  pub kind : Kind
+  pub hole : slice_get old place ≡ Some declared
+  pub known : slice_get old of ≡ Some was
+  pub same : IsRetagged of of was.kind kind
+  pub all : new ≡ slice_set old place (record declared { kind = kind })
+
+-- no bounds
+abbrev pub IsUnbounded : Kind → Type 0
+IsUnbounded (kinds.Within t l u) = ⊥
+IsUnbounded _ = Unit {0}
+
+-- A type with this tag stands behind the others, and one of unknown elements right before it.
+pub record IsAddedOpen (old new : List Node) (place : ℕ) (P : ℕ → Node → Type 0) : Type 0 where
+  pub unknown : Node
+  pub is_any : unknown.kind ≡ kinds.Any
+  pub added : IsAdded (old ++ unknown ∷ []) new place (P (length old))
+
+-- a choice among these types and the unknown one, with any tag
+abbrev pub IsOpenChoice : List ℕ → ℕ → Node → Type 0
+IsOpenChoice places unknown node = IsAnyTag node.tags × IsChoiceOf (places ++ unknown ∷ []) node.kind
