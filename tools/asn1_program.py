@@ -6,7 +6,7 @@
 The program is what `rt run` leaves in `crates/asn1/out/asn1`. Each certificate of /etc/ssl/certs must have the offsets, depths and
 lengths that `openssl asn1parse` prints; each of some thousand changed certificates the verdict of the model, with the
 offset and the section of X.690; odd files their statuses and lines. What does otherwise has a line, and then this ends
-with status 1.
+with status 1. The last line counts the rows.
 """
 import json
 import os
@@ -279,7 +279,7 @@ def main():
                 if seen != expected:
                     wrong += 1
                     print(f"{what}: {str(seen)[:200]}, and not {str(expected)[:200]}", flush=True)
-        print(f"{count} rows, {wrong} otherwise")
+        print(f"{count - wrong} passed, {wrong} failed")
     return 1 if wrong else 0
 
 
