@@ -94,7 +94,7 @@ fn dump_command<'a>(alloc: Global) -> Result<Command<'a>, AllocError> {
             alloc,
             "width",
             "COUNT",
-            "As many columns a value has at most; 64 by itself",
+            "As many columns a value has at most, 64 by itself; numbers and identifiers of 40 octets have all",
         ))?
         .arg(flag(
             alloc,

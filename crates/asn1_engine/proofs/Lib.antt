@@ -6,3 +6,6 @@ mod OwnDigits
 mod Negative
 mod Pieces
 mod Told
+mod Gained
+mod Utf8Texts
+mod Utf8Values

@@ -3,8 +3,10 @@ pub mod Outcomes
 pub mod Standing
 pub mod Visible
 pub mod Heads
+pub mod Inner
 pub mod Lines
 pub mod Numbers
+pub mod Objects
 pub mod Texts
 pub mod Trees
 pub mod Values

@@ -8,6 +8,7 @@ use Rattle.asn1_walk.specs.declared.line.Line.{Line}
 use Rattle.asn1_engine.specs.declared.texts.Coding.{Coding}
 use Rattle.asn1_engine.specs.declared.texts.Coding.TheVariants.{Utf8, Ascii, Utf16, Ucs4}
 use Rattle.asn1_engine.specs.Heads.{head_text}
+use Rattle.asn1_engine.specs.Numbers.{are_shown}
 use Rattle.asn1_engine.specs.Texts.{IsQuoted}
 use Rattle.asn1_engine.specs.Values.{octets_text, truth_text, whole_number_text, bits_text, identifier_text}
 
@@ -47,10 +48,11 @@ abbrev pub sort_of : Class → ℕ → Sort
 sort_of Universal number = sort_of_number number
 sort_of _ number = of_octets
 
--- a name that is shown is the identifier's
-abbrev pub IsShownName : List ℕ → Option (List ℕ) → Type 0
-IsShownName content None = Unit {0}
-IsShownName content (Some name) = IsNameOf content name
+-- the name of an identifier that is not relative, where it has one
+abbrev pub IsShownName : (relative : Bool) → List ℕ → Option (List ℕ) → Type 0
+IsShownName true content name = name ≡ None
+IsShownName false content None = (name : List ℕ) → IsNameOf content name → ⊥
+IsShownName false content (Some name) = IsNameOf content name
 
 -- the text of contents octets; a NULL has none
 abbrev pub IsContentText : Sort → ℕ → List ℕ → List ℕ → Type 0
@@ -60,7 +62,8 @@ IsContentText of_bits width content text = text ≡ codes " " ++ bits_text width
 IsContentText of_null width [] text = text ≡ []
 IsContentText of_null width (o ∷ os) text = text ≡ codes " " ++ octets_text width (o ∷ os)
 IsContentText (of_identifier relative) width content text =
-    (name : Option (List ℕ)) × IsShownName content name × (text ≡ codes " " ++ identifier_text width relative name content)
+    (name : Option (List ℕ)) × (are_shown relative content ≡ true → IsShownName relative content name) ×
+    (text ≡ codes " " ++ identifier_text width relative name content)
 IsContentText (of_string coding) width content text =
     (quoted : List ℕ) × IsQuoted coding width content quoted × (text ≡ codes " " ++ quoted)
 IsContentText of_octets width content text = text ≡ codes " " ++ octets_text width content

@@ -4,7 +4,7 @@ use Rattle.std.specs.Prelude.{encode_utf8, nat_eq, ◌||◌, if◌then◌else◌
 use Rattle.std.specs.Fmt.{radix_digits}
 use Rattle.hex.specs.Hex.{encode_lower}
 use Rattle.x690.specs.Characters.{BeginsWithCharacter, utf16_octets_of, ucs4_octets_of}
-use Rattle.asn1_engine.specs.Words.{number_text}
+use Rattle.asn1_engine.specs.Words.{left_out_text}
 use Rattle.asn1_engine.specs.Visible.{is_shown_as_it_is}
 use Rattle.asn1_engine.specs.declared.texts.Coding.{Coding}
 use Rattle.asn1_engine.specs.declared.texts.Coding.TheVariants.{Utf8, Ascii, Utf16, Ucs4}
@@ -46,7 +46,7 @@ Shows coding (suc width) (o ∷ os) text left = (first more rest : List ℕ) × 
 -- the mark at the end, and how many octets the string has where not all of them are shown
 abbrev pub end_text : ℕ → List ℕ → List ℕ
 end_text count [] = codes "\""
-end_text count (o ∷ os) = codes "\".. (" ++ number_text count ++ codes " octets)"
+end_text count (o ∷ os) = codes "\"" ++ left_out_text count
 
 -- a string within so many characters
 abbrev pub IsQuoted : Coding → ℕ → List ℕ → List ℕ → Type 0

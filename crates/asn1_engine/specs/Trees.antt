@@ -1,18 +1,19 @@
 -- The lines of the elements of octets, in their order.
-use Rattle.std.specs.Prelude.{ℕ, zero, suc, ◌≡◌, ◌+◌, ◌-◌, ◌^◌, min, Bool, true, false, List, [], ◌∷◌, ◌++◌, ◌⊎◌}
+use Rattle.std.specs.Prelude.{ℕ, suc, ◌≡◌, ◌+◌, ◌-◌, ◌^◌, min, Bool, true, false, List, [], ◌∷◌, ◌++◌, ◌⊎◌}
 use Rattle.std.specs.Prelude.{drop, codes, nat_lt}
 use Rattle.asn1_headers.specs.declared.error.Error.{Error}
 use Rattle.asn1_headers.specs.declared.error.Error.TheVariants.{InvalidTag, InvalidLength, ConstructExpected}
 use Rattle.asn1_headers.specs.declared.error.Err.{Err as Refusal}
 use Rattle.asn1_headers.specs.declared.error.Err.TheVariants.{Incomplete as cut, Error as refused_by}
 use Rattle.asn1_headers.specs.Texts.{needed_text}
-use Rattle.asn1_headers.specs.declared.class.Class.TheVariants.{Universal}
 use Rattle.asn1_headers.specs.Header.Reading.{ber_refusal}
 use Rattle.asn1_walk.specs.declared.line.Line.{Line}
 use Rattle.asn1_walk.specs.Rows.{Row, Outcome, ended, refused}
 use Rattle.asn1_engine.specs.declared.trees.Options.{Options}
 use Rattle.asn1_engine.specs.Words.{right, number_text}
 use Rattle.asn1_engine.specs.Lines.{IsLineText}
+use Rattle.asn1_engine.specs.Inner.{IsHeld, HoldsElements, IsNotEntered}
+use Rattle.asn1_engine.specs.Objects.{IsObjectText, refusal_object_text}
 
 -- a sum, or the greatest number of 64 bits where that is less
 abbrev pub sum_within : ℕ → ℕ → ℕ
@@ -23,23 +24,16 @@ abbrev pub placed : ℕ → ℕ → Line → Line
 placed offset depth line =
     record line { offset = sum_within line.offset offset; depth = sum_within line.depth depth }
 
--- what is written of an element, in lines or in objects of JSON, of which nothing is said here
+-- what is written of an element that is shown, in a line or in an object of JSON
 abbrev pub IsWritten : Bool → Bool → ℕ → Line → Bool → List ℕ → Type 0
 IsWritten json false width line is_entered text = text ≡ []
-IsWritten true true width line is_entered text = Unit {0}
+IsWritten true true width line is_entered text = IsObjectText width line is_entered text
 IsWritten false true width line is_entered text = IsLineText width line is_entered text
 
 -- the same, where elements in so many elements or more are not shown
 abbrev pub Writes : Options → Line → Bool → List ℕ → Type 0
 Writes options line is_entered text =
     IsWritten options.json (nat_lt line.depth options.depth) options.width line is_entered text
-
--- the octets of a string that is shown by elements, and how many octets stand before them
-abbrev pub IsHeld : Line → ℕ → List ℕ → Type 0
-IsHeld line zero octets = (line.constructed ≡ false) × (line.class ≡ Universal) × (line.number ≡ 4) ×
-    (line.content.now ≡ octets)
-IsHeld line (suc n) octets = (line.constructed ≡ false) × (line.class ≡ Universal) × (line.number ≡ 3) × (n ≡ 0) ×
-    (line.content.now ≡ 0 ∷ octets)
 
 -- why no element begins, in words
 abbrev pub refusal_text : Refusal Error → List ℕ
@@ -49,9 +43,9 @@ refusal_text (refused_by InvalidLength) = codes "the first length octet is ff, o
 refusal_text (refused_by ConstructExpected) = codes "a primitive element has the indefinite length"
 refusal_text _ = codes "the header is refused"
 
--- the line that tells at which offset no element begins, and why; of an object of JSON nothing is said here
+-- the line that tells at which offset no element begins, and why
 abbrev pub IsRefusalLine : Bool → ℕ → List ℕ → List ℕ → Type 0
-IsRefusalLine true offset why text = Unit {0}
+IsRefusalLine true offset why text = text ≡ refusal_object_text offset why
 IsRefusalLine false offset why text =
     text ≡ right 7 (number_text offset) ++ codes " no element: " ++ why ++ 10 ∷ []
 
@@ -68,14 +62,15 @@ inner_offset line count = sum_within (sum_within line.offset line.header_len) co
 abbrev pub inner_depth : Line → ℕ
 inner_depth line = sum_within line.depth 1
 
--- What is written of an element: its line, and of a string that is entered the lines of what it holds. Strings are entered
--- in so many strings at most. Of a row: what is written of each element, in their order.
+-- What is written of an element: its line, and of a string that holds elements the lines of these, in so many strings at
+-- most. Of a row: what is written of each element, in their order.
 mutual
   pub data IsShown : Options → ℕ → Line → List ℕ → Type 0 where
-    plain : (options : Options) (strings : ℕ) (line : Line) (text : List ℕ) → Writes options line false text →
-        IsShown options strings line text
+    plain : (options : Options) (strings : ℕ) (line : Line) (text : List ℕ) → IsNotEntered options strings line →
+        Writes options line false text → IsShown options strings line text
     holds : (options : Options) (strings : ℕ) (line : Line) (count : ℕ) (octets text : List ℕ) (inner : List Line)
-        (outcome : Outcome) (within end : List ℕ) → IsHeld line count octets → Writes options line true text →
+        (outcome : Outcome) (within end : List ℕ) → options.inner ≡ true → IsHeld line count octets → HoldsElements octets →
+        Writes options line true text →
         Row false 0 0 octets inner outcome →
         AreShown options strings (inner_offset line count) (inner_depth line) inner within →
         IsEnd options.json (inner_offset line count) outcome end →

@@ -3,7 +3,7 @@ use Rattle.std.specs.Prelude.{ℕ, ◌*◌, ◌-◌, ◌/◌, Bool, List, [], �
 use Rattle.std.specs.Prelude.{nat_lt, nat_le, nat_eq, if◌then◌else◌, ◌&&◌, ◌||◌, Option, Some, None}
 use Rattle.hex.specs.Hex.{encode_lower}
 use Rattle.x690.specs.Digits.{twos_complement_value}
-use Rattle.asn1_engine.specs.Words.{number_text, integer_text}
+use Rattle.asn1_engine.specs.Words.{number_text, integer_text, left_out_text, cut_text}
 use Rattle.asn1_engine.specs.Numbers.{arcs_text, arcs, are_shown}
 
 -- octets in hexadecimal within so many columns, and how many they are where not all are shown
@@ -11,7 +11,7 @@ abbrev pub octets_text : ℕ → List ℕ → List ℕ
 octets_text width [] = codes "(empty)"
 octets_text width (octet ∷ octets) = encode_lower (take (width / 2) (octet ∷ octets)) ++
     (if nat_lt (width / 2) (length (octet ∷ octets))
-    then codes ".. (" ++ number_text (length (octet ∷ octets)) ++ codes " octets)" else [])
+    then left_out_text (length (octet ∷ octets)) else [])
 
 -- BOOLEAN (X.690 8.2): octets that are none by DER stand behind the word
 abbrev pub truth_text : ℕ → List ℕ → List ℕ
@@ -20,7 +20,7 @@ truth_text width (octet ∷ []) =
     else codes "TRUE (" ++ encode_lower (octet ∷ []) ++ codes ")"
 truth_text width content = octets_text width content
 
--- INTEGER and ENUMERATED (8.3, 8.4), of 40 octets at most
+-- INTEGER and ENUMERATED (8.3, 8.4): all decimals of 40 octets at most, and else the octets in hexadecimal
 abbrev pub whole_number_text : ℕ → List ℕ → List ℕ
 whole_number_text width [] = octets_text width []
 whole_number_text width (octet ∷ octets) =
@@ -40,8 +40,14 @@ abbrev pub name_text : Option (List ℕ) → List ℕ
 name_text None = []
 name_text (Some name) = codes " (" ++ name ++ codes ")"
 
+-- arcs with points between them: all of 40 octets at most, and else as many columns as the width has
+abbrev pub shown_arcs_text : ℕ → Bool → List ℕ → List ℕ
+shown_arcs_text width relative content =
+    if nat_le (length content) 40 then arcs_text (arcs relative content)
+    else cut_text width (length content) (arcs_text (arcs relative content))
+
 -- OBJECT IDENTIFIER and RELATIVE-OID (8.19, 8.20)
 abbrev pub identifier_text : ℕ → Bool → Option (List ℕ) → List ℕ → List ℕ
 identifier_text width relative name content =
-    if are_shown relative content then arcs_text (arcs relative content) ++ name_text name
+    if are_shown relative content then shown_arcs_text width relative content ++ name_text name
     else octets_text width content

@@ -1,6 +1,6 @@
 //! The front of an element's line: all but its value.
 ghost use Rattle.std.specs.Prelude.{◌≡◌, ◌++◌, OnOk};
-ghost use Rattle.asn1_engine.specs.Heads.{depth_text, form_text, head_text, length_text};
+ghost use Rattle.asn1_engine.specs.Heads.{depth_text, form_text, head_text, is_mostly_constructed, length_text};
 
 use crate::tags::push_tag;
 use crate::words::{push_left, push_number, push_right, push_spaces, push_str};
@@ -12,6 +12,13 @@ use std::alloc::AllocError;
 /// Elements in more elements than these are not set further in, and tell their depth.
 const DEEPEST_INDENT: usize = 40;
 
+/// Whether elements of a universal type are constructed in DER.
+pub fn is_mostly_constructed(number: u32) -> bool
+    ensures { result ≡ is_mostly_constructed number }
+{
+    matches!(number, 8 | 11 | 16 | 17 | 29)
+}
+
 /// A word for the form, where the tag does not tell it.
 fn form_word(class: Class, number: u32, constructed: bool) -> &'static str
     ensures { result.now ≡ form_text class number constructed }
@@ -19,7 +26,7 @@ fn form_word(class: Class, number: u32, constructed: bool) -> &'static str
     if class != Class::Universal {
         return "";
     }
-    match (matches!(number, 8 | 11 | 16 | 17 | 29), constructed) {
+    match (is_mostly_constructed(number), constructed) {
         (false, true) => " (constructed)",
         (true, false) => " (primitive)",
         _ => "",

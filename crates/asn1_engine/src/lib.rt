@@ -7,6 +7,7 @@ mod elements;
 pub mod error;
 pub mod heads;
 pub mod identifiers;
+mod inner;
 pub mod objects;
 pub mod outcome;
 pub mod pem;

@@ -8,7 +8,7 @@ ghost use Rattle.asn1_engine.specs.Texts.{Begins, IsQuoted, Shows, ShowsFirst, c
 ghost use Rattle.asn1_engine.specs.Texts.{is_marked_character};
 
 use crate::standing::behind;
-use crate::words::{push_hexadecimal, push_number, push_str};
+use crate::words::{push_hexadecimal, push_left_out, push_str};
 use std::alloc::{AllocError, Global};
 use x690::characters::{CharacterCode, Ucs4, Utf16};
 
@@ -217,9 +217,8 @@ fn push_end(text: &mut Vec<u8>, len: usize, left: &[u8]) -> Result<(), AllocErro
     match left {
         [] => push_str(text, "\""),
         [_, ..] => {
-            push_str(text, "\".. (")?;
-            push_number(text, len as u64)?;
-            push_str(text, " octets)")
+            push_str(text, "\"")?;
+            push_left_out(text, len)
         }
     }
 }

@@ -1,25 +1,23 @@
 //! The tree of the elements of octets, a line an element.
-ghost use Rattle.std.specs.Prelude.{◌≡◌, ◌≤◌, ◌++◌, ◌∷◌, [], ℕ, List, length, codes, true, IfOk, IfSome, OnOk};
+ghost use Rattle.std.specs.Prelude.{◌≡◌, ◌≤◌, ◌++◌, ◌∷◌, [], ℕ, List, length, codes, true, IfOk, IfSome, IfNone, OnOk};
 ghost use Rattle.std.specs.Io.KnownBytes.{Appends};
-ghost use Rattle.asn1_engine.specs.Findings.{AreElements, FindsElements, FindsAt};
+ghost use Rattle.asn1_engine.specs.Findings.{FindsElements, FindsAt};
 ghost use Rattle.asn1_engine.specs.Words.{right, number_text};
 ghost use Rattle.asn1_engine.specs.Lines.{IsLineText};
-ghost use Rattle.asn1_engine.specs.Trees.{IsHeld, IsRefusalLine, IsShown, IsTree, IsTreeAt, Writes, inner_depth};
+ghost use Rattle.asn1_engine.specs.Trees.{IsRefusalLine, IsShown, IsTree, IsTreeAt, Writes, inner_depth};
+ghost use Rattle.asn1_engine.specs.Inner.{IsHeld, HoldsElements, IsNotEntered};
 ghost use Rattle.asn1_engine.specs.Trees.{inner_offset};
 ghost use Rattle.asn1_engine.specs.Trees.{placed, refusal_text};
 
 use crate::departures::Refusal;
-use crate::elements::are_elements;
 use crate::error::{Finding, RunError};
 use crate::heads::push_head;
-use crate::objects::{object, refusal_object};
+use crate::inner::elements_held;
+use crate::objects::{push_object, push_refusal_object};
 use crate::standing::behind;
-use crate::tags::push_tag;
 use crate::values::push_value;
 use crate::words::{push_right, push_str};
-use asn1_headers::class::Class;
 use asn1_headers::error::{Err, Error};
-use asn1_headers::header::reading::header_by_ber;
 use asn1_walk::{Line, Step, Walk};
 use std::alloc::{AllocError, Global};
 use std::io::Write;
@@ -63,55 +61,6 @@ impl Part<'_> {
     }
 }
 
-/// Whether the octets begin with a header of a universal tag, in a form that its type has.
-fn begin_as_usual(octets: &[u8]) -> bool {
-    let Ok((_rest, header)) = header_by_ber(octets) else {
-        return false;
-    };
-    let number = header.tag().0;
-    header.class() == Class::Universal
-        && number != 0
-        && header.constructed() == matches!(number, 8 | 11 | 16 | 17 | 29)
-}
-
-/// Whether octets are elements by BER and no more, an element at least, the first of which has a universal tag.
-fn hold_elements(alloc: Global, octets: &[u8]) -> Result<bool, AllocError>
-    ensures { IfOk result (λ it. it ≡ true → AreElements octets.now) }
-{
-    if !begin_as_usual(octets) {
-        return Ok(false);
-    }
-    are_elements(alloc, octets)
-}
-
-/// The contents of a string that is shown by the elements that it holds.
-fn inner_part<'a>(alloc: Global, line: &Line<'a>) -> Result<Option<Part<'a>>, AllocError>
-    ensures elements { IfOk result (λ found. IfSome found (λ part. AreElements part.octets.now)) }
-    ensures held { IfOk result (λ found. IfSome found (λ part. (count : ℕ) ×
-        IsHeld line.now count part.octets.now × (part.offset ≡ inner_offset line.now count) ×
-        (part.depth ≡ inner_depth line.now))) }
-{
-    if line.constructed || line.class != Class::Universal {
-        return Ok(None);
-    }
-    let (count, octets) = match (line.number, line.content) {
-        (4, octets) => (0, octets),
-        (3, [0, octets @ ..]) => (1, octets),
-        _ => return Ok(None),
-    };
-    if !hold_elements(alloc, octets)? {
-        return Ok(None);
-    }
-    Ok(Some(Part {
-        octets,
-        offset: line
-            .offset
-            .saturating_add(line.header_len)
-            .saturating_add(count),
-        depth: line.depth.saturating_add(1),
-    }))
-}
-
 /// The contents of a string that is shown by its elements: where so many strings may be entered, and strings are.
 fn entered_part<'a>(
     alloc: Global,
@@ -120,39 +69,26 @@ fn entered_part<'a>(
     options: &Options,
 ) -> Result<Option<Part<'a>>, AllocError>
     ensures some { IfOk result (λ found. IfSome found (λ part. 1 ≤ strings)) }
+    ensures inner { IfOk result (λ found. IfSome found (λ part. options.now.inner ≡ true)) }
     ensures held { IfOk result (λ found. IfSome found (λ part. (count : ℕ) ×
-        IsHeld line.now count part.octets.now × (part.offset ≡ inner_offset line.now count) ×
-        (part.depth ≡ inner_depth line.now))) }
+        IsHeld line.now count part.octets.now × HoldsElements part.octets.now ×
+        (part.offset ≡ inner_offset line.now count) × (part.depth ≡ inner_depth line.now))) }
+    ensures none { IfOk result (λ found. IfNone found (IsNotEntered options.now strings line.now)) }
 {
     if strings == 0 || !options.inner {
         return Ok(None);
     }
-    inner_part(alloc, line)
-}
-
-/// Appends the object of an element, with its end.
-fn push_object(
-    alloc: Global,
-    line: &Line<'_>,
-    is_entered: bool,
-    width: usize,
-    text: &mut Vec<u8>,
-) -> Result<(), AllocError> {
-    push_tag(text, line.class, line.number)?;
-    let name = String::from_utf8_lossy(alloc, text.as_slice())?;
-    text.clear();
-    push_value(alloc, text, width, line, is_entered)?;
-    let value = String::from_utf8_lossy(alloc, text.as_slice())?;
-    text.clear();
-    let object = object(
-        alloc,
-        line,
-        name.as_str(),
-        value.as_str().trim_ascii_start(),
-    )?;
-    text.extend_from_slice(object.as_slice())?;
-    text.push(b'\n')?;
-    Ok(())
+    let Some(held) = elements_held(alloc, line)? else {
+        return Ok(None);
+    };
+    Ok(Some(Part {
+        octets: held.octets,
+        offset: line
+            .offset
+            .saturating_add(line.header_len)
+            .saturating_add(held.count),
+        depth: line.depth.saturating_add(1),
+    }))
 }
 
 /// Appends the line of an element. Of a string that is entered the line has no value.
@@ -220,9 +156,7 @@ fn write_refusal<W: Write>(
 {
     let mut text = Vec::new(alloc);
     if options.json {
-        let object = refusal_object(alloc, offset, why)?;
-        text.extend_from_slice(object.as_slice())?;
-        text.push(b'\n')?;
+        push_refusal_object(alloc, &mut text, offset, why)?;
     } else {
         push_refusal(&mut text, offset, why)?;
     }

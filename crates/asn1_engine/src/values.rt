@@ -1,17 +1,21 @@
 //! The value of a primitive element, in a line.
 ghost use Rattle.std.specs.Prelude.{◌≡◌, ◌++◌, List, ℕ, Option, option_map, false, true, OnOk};
 ghost use Rattle.asn1_engine.specs.Values.{bits_text, identifier_text, name_text, octets_text, truth_text};
-ghost use Rattle.asn1_engine.specs.Values.{whole_number_text};
+ghost use Rattle.asn1_engine.specs.Values.{shown_arcs_text, whole_number_text};
+ghost use Rattle.asn1_engine.specs.Numbers.{are_shown};
 ghost use Rattle.asn1_engine.specs.Lines.{IsContentText, IsShownName, IsValueText, sort_of_number};
 
 use crate::decimals::{MOST_DECIMAL, push_integer};
 use crate::identifiers::{have_arcs, push_arcs};
 use crate::texts::{Coding, push_quoted};
-use crate::words::{push_hexadecimal, push_long, push_number, push_str};
+use crate::words::{cut_behind, push_hexadecimal, push_left_out, push_long, push_str};
 use asn1_headers::class::Class;
 use asn1_names::name_of;
 use asn1_walk::Line;
 use std::alloc::{AllocError, Global};
+
+/// The arcs of as many octets are shown whatever the width is.
+const MOST_WHOLE: usize = 40;
 
 /// Appends octets in hexadecimal, within a width of two columns each.
 fn push_octets(text: &mut Vec<u8>, width: usize, octets: &[u8]) -> Result<(), AllocError>
@@ -25,9 +29,7 @@ fn push_octets(text: &mut Vec<u8>, width: usize, octets: &[u8]) -> Result<(), Al
         return push_hexadecimal(text, octets);
     }
     push_hexadecimal(text, &octets[..most])?;
-    push_str(text, ".. (")?;
-    push_number(text, octets.len() as u64)?;
-    push_str(text, " octets)")
+    push_left_out(text, octets.len())
 }
 
 /// BOOLEAN: a word. Octets that are none by DER stand behind it.
@@ -84,12 +86,30 @@ fn push_name(text: &mut Vec<u8>, name: Option<&str>) -> Result<(), AllocError>
 
 /// The name of an identifier that is not relative, where it is a common one.
 fn shown_name(relative: bool, content: &[u8]) -> Option<&'static str>
-    ensures { IsShownName content.now (option_map (λ n. n.now) result) }
+    ensures { IsShownName relative content.now (option_map (λ n. n.now) result) }
 {
     if relative {
         return None;
     }
     name_of(content)
+}
+
+/// The arcs, within the width where the contents octets are many.
+fn push_shown_arcs(
+    text: &mut Vec<u8>,
+    width: usize,
+    relative: bool,
+    content: &[u8],
+) -> Result<(), AllocError>
+    requires { are_shown relative content.now ≡ true }
+    ensures { OnOk result (text.new.items ≡ text.old.items ++ shown_arcs_text width relative content.now) }
+{
+    let start = text.len();
+    push_arcs(text, relative, content)?;
+    if content.len() <= MOST_WHOLE {
+        return Ok(());
+    }
+    cut_behind(text, start, width, content.len())
 }
 
 /// OBJECT IDENTIFIER and RELATIVE-OID: the arcs, and the name of a common identifier.
@@ -99,13 +119,14 @@ fn push_identifier(
     relative: bool,
     content: &[u8],
 ) -> Result<(), AllocError>
-    ensures { OnOk result ((name : Option (List ℕ)) × IsShownName content.now name ×
+    ensures { OnOk result ((name : Option (List ℕ)) ×
+        (are_shown relative content.now ≡ true → IsShownName relative content.now name) ×
         (text.new.items ≡ text.old.items ++ identifier_text width relative name content.now)) }
 {
     if !have_arcs(relative, content) {
         return push_octets(text, width, content);
     }
-    push_arcs(text, relative, content)?;
+    push_shown_arcs(text, width, relative, content)?;
     let name = shown_name(relative, content);
     push_name(text, name)?;
     Ok(())
@@ -142,7 +163,7 @@ fn push_universal(
 }
 
 /// Appends the value of an element, behind a space; nothing where it is constructed, or has no value. The width is in
-/// columns, and bounds all but numbers and identifiers.
+/// columns, and bounds all but numbers and identifiers of 40 octets at most.
 pub fn push_value(
     alloc: Global,
     text: &mut Vec<u8>,

@@ -1,7 +1,7 @@
 //! Words, numbers and columns at the end of a text.
-ghost use Rattle.std.specs.Prelude.{◌≡◌, ◌++◌, OnOk};
+ghost use Rattle.std.specs.Prelude.{◌≡◌, ◌≤◌, ◌++◌, length, take, drop, OnOk};
 ghost use Rattle.hex.specs.Hex.{encode_lower};
-ghost use Rattle.asn1_engine.specs.Words.{spaces, right, left, number_text};
+ghost use Rattle.asn1_engine.specs.Words.{cut_text, left_out_text, spaces, right, left, number_text};
 
 use itoa::Buffer;
 use std::alloc::AllocError;
@@ -74,6 +74,34 @@ pub fn push_left(text: &mut Vec<u8>, columns: usize, number: u64) -> Result<(), 
     let digits = decimals(&mut buffer, number);
     push_str(text, digits)?;
     push_spaces(text, columns.saturating_sub(digits.len()))
+}
+
+/// Appends that not all octets are shown, and how many there are.
+pub fn push_left_out(text: &mut Vec<u8>, count: usize) -> Result<(), AllocError>
+    ensures { OnOk result (text.new.items ≡ text.old.items ++ left_out_text count) }
+{
+    push_str(text, ".. (")?;
+    push_number(text, count as u64)?;
+    push_str(text, " octets)")
+}
+
+/// Cuts off what stands behind so many columns from an index on, where that is more, and says of how many octets it is.
+pub fn cut_behind(
+    text: &mut Vec<u8>,
+    start: usize,
+    width: usize,
+    count: usize,
+) -> Result<(), AllocError>
+    requires { start ≤ length text.old.items }
+    ensures { OnOk result (text.new.items ≡
+        take start text.old.items ++ cut_text width count (drop start text.old.items)) }
+{
+    if text.len() - start <= width {
+        return Ok(());
+    }
+    text.truncate(start + width);
+    push_left_out(text, count)?;
+    Ok(())
 }
 
 /// Appends octets in hexadecimal digits, two for each.

@@ -1,4 +1,4 @@
-use Rattle.std.proofs.Common.{◌≡◌, ℕ, suc, ◌≤◌, ◌-◌, arith, IfSome, Bool, [], ◌∷◌, ◌++◌, refl, ap, sym, subst, ◌∙◌}
+use Rattle.std.proofs.Common.{◌≡◌, ℕ, suc, ◌≤◌, ◌-◌, arith, IfSome, IfNone, Bool, true, [], ◌∷◌, ◌++◌, refl, ap, sym, subst, ◌∙◌}
 use Rattle.std.proofs.Common.{append_assoc}
 use Rattle.std.proofs.lemmas.List.{append-nil}
 use Rattle.asn1_walk.specs.Rows.{ended, refused}
@@ -6,7 +6,8 @@ use Rattle.asn1_walk.specs.Walks.{Moves}
 use Rattle.asn1_walk.specs.declared.walk.Step.{Step}
 use Rattle.asn1_walk.proofs.Coming.{begun}
 use Rattle.asn1_engine.specs.Trees.{AreShown, IsShown, no_lines, more_lines, plain, holds, sum_within, IsRefusalLine}
-use Rattle.asn1_engine.specs.Trees.{refusal_text, IsHeld, IsEnd, inner_offset, inner_depth}
+use Rattle.asn1_engine.specs.Trees.{refusal_text, IsEnd, inner_offset, inner_depth}
+use Rattle.asn1_engine.specs.Inner.{IsHeld, HoldsElements, IsNotEntered}
 use Rattle.asn1_engine.specs.declared.trees.Part.{Part}
 use Rattle.asn1_headers.specs.Header.Reading.{ber_refusal}
 use Rattle.asn1_engine.proofs.Told.{nothing_told, told_twice}
@@ -113,10 +114,13 @@ dump_part-returns-in-Refused-clause-prints g n c =
 
 pub write_element-returns-in_ok-write_line-in-None : goal.write_element-returns-in_ok-write_line-in-None
 write_element-returns-in_ok-write_line-in-None g n c =
-    let e = c.in_ok-write_line-in-None.ensures in (
+    let e = c.in_ok-write_line-in-None.ensures in
+    let line = c.placed-line.result in
+    let not_entered : IsNotEntered c.args.options.now c.args.strings line =
+    subst (λ found. IfNone found (IsNotEntered c.args.options.now c.args.strings line)) c.in-None.is c.in_ok-within.ensures.none in (
       e.0,
       subst (λ line. IsShown c.args.options.now c.args.strings line e.0) c.placed-line.ensures
-          (plain c.args.options.now c.args.strings c.placed-line.result e.0 e.1),
+          (plain c.args.options.now c.args.strings line e.0 not_entered e.1),
       e.2,
     )
 
@@ -128,20 +132,24 @@ write_element-returns-in_ok-dump_part-in-Some g n c =
     let strings : ℕ = c.args.strings - 1 in
     let some : 1 ≤ c.args.strings = subst (λ found. IfSome found (λ (part : Part). 1 ≤ c.args.strings)) c.in-Some.is c.in_ok-within.ensures.some in
     let next : suc strings ≡ c.args.strings = omega arith in
-    let h : (count : ℕ) × IsHeld line count within.octets.now × (within.offset ≡ inner_offset line count) ×
-    (within.depth ≡ inner_depth line) =
+    let h : (count : ℕ) × IsHeld line count within.octets.now × HoldsElements within.octets.now ×
+    (within.offset ≡ inner_offset line count) × (within.depth ≡ inner_depth line) =
     subst (λ found. IfSome found (λ (part : Part). (count : ℕ) × IsHeld line count part.octets.now ×
-    (part.offset ≡ inner_offset line count) × (part.depth ≡ inner_depth line))) c.in-Some.is c.in_ok-within.ensures.held in
+    HoldsElements part.octets.now × (part.offset ≡ inner_offset line count) × (part.depth ≡ inner_depth line)))
+    c.in-Some.is c.in_ok-within.ensures.held in
+    let inner : options.inner ≡ true =
+    subst (λ found. IfSome found (λ (part : Part). options.inner ≡ true)) c.in-Some.is c.in_ok-within.ensures.inner in
     let e = c.in_ok-write_line-in-Some.ensures in
     let t = c.in_ok-dump_part-in-Some.ensures.prints in
     let tree = t.1 in
     let shown : AreShown options strings (inner_offset line h.0) (inner_depth line) tree.lines tree.shown =
-    subst (λ k. AreShown options strings k (inner_depth line) tree.lines tree.shown) h.2
-    (subst (λ k. AreShown options strings within.offset k tree.lines tree.shown) h.3 tree.prints) in
+    subst (λ k. AreShown options strings k (inner_depth line) tree.lines tree.shown) h.3
+    (subst (λ k. AreShown options strings within.offset k tree.lines tree.shown) h.4 tree.prints) in
     let end : IsEnd options.json (inner_offset line h.0) tree.outcome tree.end =
-    subst (λ k. IsEnd options.json k tree.outcome tree.end) h.2 tree.ends in
+    subst (λ k. IsEnd options.json k tree.outcome tree.end) h.3 tree.ends in
     let both : IsShown options (suc strings) line (e.0 ++ tree.shown ++ tree.end) =
-    holds options strings line h.0 within.octets.now e.0 tree.lines tree.outcome tree.shown tree.end h.1 e.1 tree.row shown end in (
+    holds options strings line h.0 within.octets.now e.0 tree.lines tree.outcome tree.shown tree.end inner h.1 h.2 e.1
+    tree.row shown end in (
       e.0 ++ t.0,
       subst (λ l. IsShown options c.args.strings l (e.0 ++ t.0)) c.placed-line.ensures
           (subst (λ k. IsShown options k line (e.0 ++ t.0)) next

@@ -1,0 +1,66 @@
+-- Which strings are shown by the elements that they hold.
+use Rattle.std.specs.Prelude.{◌≡◌, ℕ, zero, suc, Bool, true, false, not, List, ◌∷◌, ◌++◌, ◌⊎◌, nat_eq, ◌&&◌}
+use Rattle.std.specs.Bool.{beq}
+use Rattle.x690.specs.Identifiers.{Identifier}
+use Rattle.x690.specs.Lengths.{LengthForm}
+use Rattle.x690.specs.Rules.{ber_rule}
+use Rattle.x690.specs.Elements.{IsHeader}
+use Rattle.x690.specs.Faults.{Fault, HeaderFault}
+use Rattle.asn1_headers.specs.declared.class.Class.TheVariants.{Universal}
+use Rattle.asn1_walk.specs.declared.line.Line.{Line}
+use Rattle.asn1_engine.specs.declared.trees.Options.{Options}
+use Rattle.asn1_engine.specs.Findings.{AreElements, BreaksOff}
+use Rattle.asn1_engine.specs.Heads.{is_mostly_constructed}
+
+-- The octets of a string: the contents octets of an OCTET STRING, or those of a BIT STRING without unused bits behind
+-- their count (X.690 8.6.2, 8.7). The number is that of the octets before them.
+abbrev pub IsHeld : Line → ℕ → List ℕ → Type 0
+IsHeld line zero octets = (line.constructed ≡ false) × (line.class ≡ Universal) × (line.number ≡ 4) ×
+    (line.content.now ≡ octets)
+IsHeld line (suc n) octets = (line.constructed ≡ false) × (line.class ≡ Universal) × (line.number ≡ 3) × (n ≡ 0) ×
+    (line.content.now ≡ 0 ∷ octets)
+
+-- a universal tag of a type, in the form that this has in DER
+abbrev pub is_usual : Identifier → Bool
+is_usual id =
+    nat_eq id.class 0 && not (nat_eq id.number 0) && beq id.constructed (is_mostly_constructed id.number)
+
+-- a header by BER with this identifier begins the octets
+abbrev pub BeginsWithIdentifier : List ℕ → Identifier → Type 0
+BeginsWithIdentifier octets id =
+    (header rest : List ℕ) × (form : LengthForm) × IsHeader ber_rule header id form × (octets ≡ header ++ rest)
+
+-- the octets begin as usual
+abbrev pub BeginsAsUsual : List ℕ → Type 0
+BeginsAsUsual octets = (id : Identifier) × BeginsWithIdentifier octets id × (is_usual id ≡ true)
+
+-- or no header begins them, or an unusual one
+abbrev pub BeginsOtherwise : List ℕ → Type 0
+BeginsOtherwise octets = ((fault : Fault) × HeaderFault ber_rule octets fault) ⊎
+    ((id : Identifier) × BeginsWithIdentifier octets id × (is_usual id ≡ false))
+
+-- the one or the other
+abbrev pub TellsUsual : List ℕ → Bool → Type 0
+TellsUsual octets true = BeginsAsUsual octets
+TellsUsual octets false = BeginsOtherwise octets
+
+-- an element at least, the first as usual, and no more than elements
+abbrev pub HoldsElements : List ℕ → Type 0
+HoldsElements octets = BeginsAsUsual octets × AreElements octets
+
+-- another beginning, or elements as far as to an octet that begins none
+abbrev pub HoldsOther : List ℕ → Type 0
+HoldsOther octets = BeginsOtherwise octets ⊎ BreaksOff octets
+
+-- the one or the other
+abbrev pub TellsHeld : List ℕ → Bool → Type 0
+TellsHeld octets true = HoldsElements octets
+TellsHeld octets false = HoldsOther octets
+
+-- an element that is no string, or whose octets are no elements
+abbrev pub HoldsNone : Line → Type 0
+HoldsNone line = (count : ℕ) (octets : List ℕ) → IsHeld line count octets → HoldsOther octets
+
+-- why an element is shown by its line alone: no more strings are entered, or it holds no elements
+abbrev pub IsNotEntered : Options → (strings : ℕ) → Line → Type 0
+IsNotEntered options strings line = (strings ≡ 0) ⊎ (options.inner ≡ false) ⊎ HoldsNone line
