@@ -13,6 +13,7 @@ pub mod OneTape
 pub mod Arms
 pub mod ClosedRows
 pub mod ElementParts
+pub mod Depths
 pub mod Taken
 pub mod TakenRows
 pub mod TakenPieces

@@ -1,5 +1,9 @@
 //! Where and why octets are refused. It stands beside the result of a call, so that results stay small.
 ghost use Rattle.std.specs.Prelude.{◌≤◌, ◌≡◌};
+ghost use Rattle.asn1_schema.specs.declared.fault.Fault.TheVariants as faults;
+ghost use Rattle.asn1_schema.specs.declared.refusal.Reason.TheVariants as reasons;
+
+use crate::fault::Fault;
 
 /// Why octets are refused.
 #[derive(Debug, Clone, Copy, PartialEq, Eq)]
@@ -69,9 +73,21 @@ impl Refusal {
         }
     }
 
+    /// Ends what is told: where elements nest too deep this is why, and the place is within an input of so many octets.
+    pub(crate) fn settle(&mut self, fault: Fault, len: usize)
+        ensures within { self.new.octet ≤ len }
+        ensures deep { fault ≡ faults.TooDeep → self.new.reason ≡ reasons.Depth }
+    {
+        if matches!(fault, Fault::TooDeep) {
+            self.reason = Reason::Depth;
+        }
+        self.keep_within(len);
+    }
+
     /// Keeps the place within an input of so many octets.
     pub(crate) fn keep_within(&mut self, len: usize)
-        ensures { self.new.octet ≤ len }
+        ensures within { self.new.octet ≤ len }
+        ensures reason { self.new.reason ≡ self.old.reason }
     {
         if self.octet > len {
             self.octet = len;
