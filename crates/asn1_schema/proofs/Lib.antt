@@ -30,6 +30,7 @@ pub mod LargeNumbers
 pub mod NamedBits
 pub mod Cursors
 pub mod Builds
+pub mod BuiltTags
 pub mod NamedParts
 pub mod ZerosTaken
 pub mod TextFronts

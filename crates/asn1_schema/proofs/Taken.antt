@@ -132,6 +132,19 @@ module _ (R : Rules) (table : List Node) where
       (Through R (depth - 1) (Body R table (depth - 1)) table t) k p v) (ap (λ (n : Node). n.kind) same ∙ is) down.body)
       old new result a
 
+  -- so what is judged as a leaf of its kind, and put
+  pub leaf_up : {T : Type 0} (depth t : ℕ) (p : Parts) (node : Node) (kind : Kind) (judged : Result Item Fault)
+      (old new : List Item) (r : Result T Fault) → depth ≢ 0 → slice_get table t ≡ Some node →
+      has_tag node.tags p.id ≡ true → node.kind ≡ kind →
+      Judges (KindBody R (depth - 1) (Body R table (depth - 1)) (Through R (depth - 1) (Body R table (depth - 1)) table t)
+      kind p) judged → ((item : Item) → judged ≡ Ok item →
+      OnOk r (marks new ≡ marks old ++ mark item ∷ []) × IfErr r (λ e. e ≡ faults.Memory)) →
+      ((e : Fault) → judged ≡ Err e → r ≡ Err e) → ReadsValue (Body R table depth t p) old new r
+  leaf_up depth t p node kind judged old new r some found tagged is j put refused =
+      reads_up depth t p node kind old new r some found tagged is (leaf_put (KindBody R (depth - 1)
+      (Body R table (depth - 1)) (Through R (depth - 1) (Body R table (depth - 1)) table t) kind p) judged old new r j put
+      refused)
+
   -- what is none of its kind is none of its type
   pub kind_refused : (depth t : ℕ) (p : Parts) (node : Node) (kind : Kind) → slice_get table t ≡ Some node →
       node.kind ≡ kind → ((v : Value) → KindBody R (depth - 1) (Body R table (depth - 1))

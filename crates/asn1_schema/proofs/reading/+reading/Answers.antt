@@ -17,7 +17,7 @@ use Rattle.asn1_schema.specs.Pieces.{IsStringOf}
 use Rattle.asn1_schema.proofs.Depths.{least, fault_least, within, fault_within}
 use Rattle.asn1_schema.proofs.Tags.{arm_before, first_holds, second_holds, node_told}
 use Rattle.asn1_schema.proofs.OneValue.{tag_of_body}
-use Rattle.asn1_schema.proofs.Taken.{lawful_of, written_of, no_leaf, body_some, reads_map, reads_up, kind_refused, order_of, no_type, other_tag, set_read, no_element, front_shorter, front_read, front_refused, whole_read, not_whole, whole_refused, explicit_read, no_arm, arm_read, arm_refused, choice_read, within_read, within_judged, bounds_order, leaf_read, leaf_put}
+use Rattle.asn1_schema.proofs.Taken.{lawful_of, written_of, no_leaf, body_some, reads_map, reads_up, kind_refused, order_of, no_type, other_tag, set_read, no_element, front_shorter, front_read, front_refused, whole_read, not_whole, whole_refused, explicit_read, no_arm, arm_read, arm_refused, choice_read, within_read, within_judged, bounds_order, leaf_read, leaf_up}
 use Rattle.asn1_schema.proofs.Bounded.{bounds_refused}
 use Rattle.asn1_schema.proofs.TakenRows.{nothing_yet, row_read, row_refused, item_more, items_refused, items_done, fields_further, fields_refused, fields_ended, fields_done, fields_over, field_there, field_refused, field_default, no_tag}
 use Rattle.asn1_schema.proofs.reading.+reading.Goals as goal
@@ -83,40 +83,45 @@ read_body-returns-else-not-head t c = λ d h. let l = least c.args.depth c.read_
     (not-false c.args.head.constructed c.if-not-head.false) (c.read_whole.ensures (d - 1) (within c.args.depth c.read_whole.result d (grind (arith, c.if-depth-eq0.false)) h)))
 
 pub read_body-returns-in-Boolean : goal.read_body-returns-in-Boolean
-read_body-returns-in-Boolean t c = λ d h. let l = least c.args.depth c.put_leaf.result d h in
-    let p = parts_of c.args.head c.args.content.now in
-    reads_up (rules_of c.args.coding) c.args.nodes.now d c.args.of p c.in-Some.node.now (kinds.Boolean) c.args.tape.now.items c.put_leaf.new.tape.items c.put_leaf.result (grind (arith, c.if-depth-eq0.false, l)) c.in-Some.ensures.some (sym c.if-not-has_a_tag.ensures) c.in-Boolean.is
-    (leaf_put (IsOfKind c.args.coding c.args.nodes.now (d - 1) c.args.of (kinds.Boolean) p) c.boolean_item.result c.args.tape.now.items
-    c.put_leaf.new.tape.items c.put_leaf.result (c.boolean_item.ensures c.args.nodes.now (d - 1) c.args.of) c.put_leaf.ensures.put c.put_leaf.ensures.refused)
+read_body-returns-in-Boolean t c = λ d h.
+    let l = least c.args.depth c.put_leaf.result d h in
+    leaf_up (rules_of c.args.coding) c.args.nodes.now d c.args.of (parts_of c.args.head c.args.content.now) c.in-Some.node.now
+    kinds.Boolean c.boolean_item.result c.args.tape.now.items c.put_leaf.new.tape.items c.put_leaf.result
+    (grind (arith, c.if-depth-eq0.false, l)) c.in-Some.ensures.some (sym c.if-not-has_a_tag.ensures) c.in-Boolean.is
+    (c.boolean_item.ensures c.args.nodes.now (d - 1) c.args.of) c.put_leaf.ensures.put c.put_leaf.ensures.refused
 
 pub read_body-returns-in-Null : goal.read_body-returns-in-Null
-read_body-returns-in-Null t c = λ d h. let l = least c.args.depth c.put_leaf-in-Null.result d h in
-    let p = parts_of c.args.head c.args.content.now in
-    reads_up (rules_of c.args.coding) c.args.nodes.now d c.args.of p c.in-Some.node.now (kinds.Null) c.args.tape.now.items c.put_leaf-in-Null.new.tape.items c.put_leaf-in-Null.result (grind (arith, c.if-depth-eq0.false, l)) c.in-Some.ensures.some (sym c.if-not-has_a_tag.ensures) c.in-Null.is
-    (leaf_put (IsOfKind c.args.coding c.args.nodes.now (d - 1) c.args.of (kinds.Null) p) c.null_item.result c.args.tape.now.items
-    c.put_leaf-in-Null.new.tape.items c.put_leaf-in-Null.result (c.null_item.ensures c.args.nodes.now (d - 1) c.args.of) c.put_leaf-in-Null.ensures.put c.put_leaf-in-Null.ensures.refused)
+read_body-returns-in-Null t c = λ d h.
+    let l = least c.args.depth c.put_leaf-in-Null.result d h in
+    leaf_up (rules_of c.args.coding) c.args.nodes.now d c.args.of (parts_of c.args.head c.args.content.now) c.in-Some.node.now
+    kinds.Null c.null_item.result c.args.tape.now.items c.put_leaf-in-Null.new.tape.items c.put_leaf-in-Null.result
+    (grind (arith, c.if-depth-eq0.false, l)) c.in-Some.ensures.some (sym c.if-not-has_a_tag.ensures) c.in-Null.is
+    (c.null_item.ensures c.args.nodes.now (d - 1) c.args.of) c.put_leaf-in-Null.ensures.put c.put_leaf-in-Null.ensures.refused
 
 pub read_body-returns-in-Integer : goal.read_body-returns-in-Integer
-read_body-returns-in-Integer t c = λ d h. let l = least c.args.depth c.put_leaf-in-Integer.result d h in
-    let p = parts_of c.args.head c.args.content.now in
-    reads_up (rules_of c.args.coding) c.args.nodes.now d c.args.of p c.in-Some.node.now (kinds.Integer) c.args.tape.now.items c.put_leaf-in-Integer.new.tape.items c.put_leaf-in-Integer.result (grind (arith, c.if-depth-eq0.false, l)) c.in-Some.ensures.some (sym c.if-not-has_a_tag.ensures) c.in-Integer.is
-    (leaf_put (IsOfKind c.args.coding c.args.nodes.now (d - 1) c.args.of (kinds.Integer) p) c.integer_item.result c.args.tape.now.items
-    c.put_leaf-in-Integer.new.tape.items c.put_leaf-in-Integer.result (c.integer_item.ensures c.args.nodes.now (d - 1) c.args.of) c.put_leaf-in-Integer.ensures.put c.put_leaf-in-Integer.ensures.refused)
+read_body-returns-in-Integer t c = λ d h.
+    let l = least c.args.depth c.put_leaf-in-Integer.result d h in
+    leaf_up (rules_of c.args.coding) c.args.nodes.now d c.args.of (parts_of c.args.head c.args.content.now) c.in-Some.node.now
+    kinds.Integer c.integer_item.result c.args.tape.now.items c.put_leaf-in-Integer.new.tape.items c.put_leaf-in-Integer.result
+    (grind (arith, c.if-depth-eq0.false, l)) c.in-Some.ensures.some (sym c.if-not-has_a_tag.ensures) c.in-Integer.is
+    (c.integer_item.ensures c.args.nodes.now (d - 1) c.args.of) c.put_leaf-in-Integer.ensures.put c.put_leaf-in-Integer.ensures.refused
 
 pub read_body-returns-in-Enumerated : goal.read_body-returns-in-Enumerated
-read_body-returns-in-Enumerated t c = λ d h. let l = least c.args.depth c.put_leaf-in-Enumerated.result d h in
-    let p = parts_of c.args.head c.args.content.now in
-    reads_up (rules_of c.args.coding) c.args.nodes.now d c.args.of p c.in-Some.node.now (kinds.Enumerated c.in-Enumerated.numbers c.in-Enumerated.extensible) c.args.tape.now.items c.put_leaf-in-Enumerated.new.tape.items c.put_leaf-in-Enumerated.result (grind (arith, c.if-depth-eq0.false, l)) c.in-Some.ensures.some (sym c.if-not-has_a_tag.ensures) c.in-Enumerated.is
-    (leaf_put (IsOfKind c.args.coding c.args.nodes.now (d - 1) c.args.of (kinds.Enumerated c.in-Enumerated.numbers c.in-Enumerated.extensible) p) c.enumerated_item.result c.args.tape.now.items
-    c.put_leaf-in-Enumerated.new.tape.items c.put_leaf-in-Enumerated.result (subst (λ (z : List ℤ). Judges (IsListed z c.in-Enumerated.extensible p) c.enumerated_item.result)
-    c.deref-in-Enumerated.ensures.value c.enumerated_item.ensures) c.put_leaf-in-Enumerated.ensures.put c.put_leaf-in-Enumerated.ensures.refused)
+read_body-returns-in-Enumerated t c = λ d h.
+    let l = least c.args.depth c.put_leaf-in-Enumerated.result d h in
+    leaf_up (rules_of c.args.coding) c.args.nodes.now d c.args.of (parts_of c.args.head c.args.content.now) c.in-Some.node.now
+    (kinds.Enumerated c.in-Enumerated.numbers c.in-Enumerated.extensible) c.enumerated_item.result c.args.tape.now.items c.put_leaf-in-Enumerated.new.tape.items c.put_leaf-in-Enumerated.result
+    (grind (arith, c.if-depth-eq0.false, l)) c.in-Some.ensures.some (sym c.if-not-has_a_tag.ensures) c.in-Enumerated.is
+    (subst (λ (z : List ℤ). Judges (IsListed z c.in-Enumerated.extensible (parts_of c.args.head c.args.content.now))
+    c.enumerated_item.result) c.deref-in-Enumerated.ensures.value c.enumerated_item.ensures) c.put_leaf-in-Enumerated.ensures.put c.put_leaf-in-Enumerated.ensures.refused
 
 pub read_body-returns-in-Identifier : goal.read_body-returns-in-Identifier
-read_body-returns-in-Identifier t c = λ d h. let l = least c.args.depth c.put_leaf-in-Identifier.result d h in
-    let p = parts_of c.args.head c.args.content.now in
-    reads_up (rules_of c.args.coding) c.args.nodes.now d c.args.of p c.in-Some.node.now (kinds.Identifier c.in-Identifier.relative) c.args.tape.now.items c.put_leaf-in-Identifier.new.tape.items c.put_leaf-in-Identifier.result (grind (arith, c.if-depth-eq0.false, l)) c.in-Some.ensures.some (sym c.if-not-has_a_tag.ensures) c.in-Identifier.is
-    (leaf_put (IsOfKind c.args.coding c.args.nodes.now (d - 1) c.args.of (kinds.Identifier c.in-Identifier.relative) p) c.identifier_item.result c.args.tape.now.items
-    c.put_leaf-in-Identifier.new.tape.items c.put_leaf-in-Identifier.result (c.identifier_item.ensures c.args.nodes.now (d - 1) c.args.of) c.put_leaf-in-Identifier.ensures.put c.put_leaf-in-Identifier.ensures.refused)
+read_body-returns-in-Identifier t c = λ d h.
+    let l = least c.args.depth c.put_leaf-in-Identifier.result d h in
+    leaf_up (rules_of c.args.coding) c.args.nodes.now d c.args.of (parts_of c.args.head c.args.content.now) c.in-Some.node.now
+    (kinds.Identifier c.in-Identifier.relative) c.identifier_item.result c.args.tape.now.items c.put_leaf-in-Identifier.new.tape.items c.put_leaf-in-Identifier.result
+    (grind (arith, c.if-depth-eq0.false, l)) c.in-Some.ensures.some (sym c.if-not-has_a_tag.ensures) c.in-Identifier.is
+    (c.identifier_item.ensures c.args.nodes.now (d - 1) c.args.of) c.put_leaf-in-Identifier.ensures.put c.put_leaf-in-Identifier.ensures.refused
 
 pub read_body-returns-in-Octets : goal.read_body-returns-in-Octets
 read_body-returns-in-Octets t c = λ d h. let l = least c.args.depth c.read_string.result d h in
