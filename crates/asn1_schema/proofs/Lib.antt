@@ -35,3 +35,4 @@ pub mod NamedParts
 pub mod ZerosTaken
 pub mod TextFronts
 pub mod TrimmedPieces
+pub mod StringOctets

@@ -22,6 +22,7 @@ mod moments;
 mod named;
 pub mod names;
 mod numbers;
+pub mod owned;
 pub mod parts;
 mod pieces;
 mod reading;
