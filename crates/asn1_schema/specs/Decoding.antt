@@ -12,6 +12,7 @@ use Rattle.asn1_schema.specs.declared.decode.DecodeError.{DecodeError}
 use Rattle.asn1_schema.specs.declared.decode.DecodeError.TheVariants as errors
 use Rattle.asn1_schema.specs.declared.refusal.Reason.TheVariants as reasons
 use Rattle.asn1_schema.specs.declared.refusal.Refusal.{Refusal}
+use Rattle.asn1_schema.specs.declared.schema.Node.{Node}
 use Rattle.asn1_schema.specs.declared.tape.Item.{Item}
 use Rattle.asn1_schema.specs.Values.{Value}
 use Rattle.asn1_schema.specs.Tape.{Kept, marks, value_of, tape_of}
@@ -42,8 +43,8 @@ pub record HasNoWord (G : List ℕ → Value → Type 0) (is_cut : Type 0) (octe
 
 -- What an answer to a depth says that is not Ok, of the input and of what it left: the tape, and the refusal.
 -- G is of words whose elements nest to a depth.
-pub record Fails {T : Type 0} (G : ℕ → List ℕ → Value → Type 0) (depth : ℕ) (is_cut : Type 0) (octets : List ℕ)
-    (tape : List Item) (refusal : Refusal) (result : Result T DecodeError) : Type 0 where
+pub record Fails {T : Type 0} (table : List Node) (G : ℕ → List ℕ → Value → Type 0) (depth : ℕ) (is_cut : Type 0)
+    (octets : List ℕ) (tape : List Item) (refusal : Refusal) (result : Result T DecodeError) : Type 0 where
   -- no word of any depth begins the octets
   pub refused : IsErrOf result errors.Refused → (d : ℕ) → HasNoWord (G d) is_cut octets
   -- none of this depth does
@@ -54,6 +55,8 @@ pub record Fails {T : Type 0} (G : ℕ → List ℕ → Value → Type 0) (depth
       NoFront (G d) (octets ++ more)
   pub emptied : OnErr result (tape ≡ [])
   pub within : refusal.octet ≤ length octets
+  -- the refusal is told of a type of the table, or of one that it does not have
+  pub of : IsErrOf result errors.Refused → (refusal.of < length table) ⊎ (refusal.reason ≡ reasons.MissingType)
   pub deep : IsErrOf result errors.TooDeep → refusal.reason ≡ reasons.Depth
 
 -- The octets end within the identifier octets of an element (X.690 8.1.2.4), by BER of one that is nested.

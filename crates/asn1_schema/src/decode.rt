@@ -70,7 +70,7 @@ pub fn decode<'a>(
     requires { is_sound table.now ≡ true }
     ensures ok { IfOk result (λ rest.
         Decodes (IsWordOf coding table.now depth of) octets.now rest.now tape.new.items) }
-    ensures fails { Fails (λ d. IsWordOf coding table.now d of) depth (EndsWithin coding octets.now)
+    ensures fails { Fails table.now (λ d. IsWordOf coding table.now d of) depth (EndsWithin coding octets.now)
         octets.now tape.new.items refusal.new result }
     ensures never_trailing { IsErrOf result errors.TrailingOctets → ⊥ }
 {
@@ -82,7 +82,7 @@ pub fn decode<'a>(
         }
         Err(fault) => {
             tape.clear();
-            refusal.settle(fault, octets.len());
+            refusal.settle(fault, table.len(), octets.len());
             Err(error_of(coding, octets, fault))
         }
     }
@@ -101,7 +101,7 @@ pub fn decode_whole<'a>(
     requires { is_sound table.now ≡ true }
     ensures ok { OnOk result (DecodesWhole (IsWordOf coding table.now depth of) octets.now
         tape.new.items) }
-    ensures fails { Fails (λ d. IsWordOf coding table.now d of) depth (EndsWithin coding octets.now)
+    ensures fails { Fails table.now (λ d. IsWordOf coding table.now d of) depth (EndsWithin coding octets.now)
         octets.now tape.new.items refusal.new result }
     ensures trailing { IsErrOf result errors.TrailingOctets →
         IsFollowed (IsWordOf coding table.now depth of) octets.now }
@@ -140,7 +140,7 @@ pub fn decode_der<'a>(
     requires { is_sound table.now ≡ true }
     ensures ok { IfOk result (λ rest. Decodes (Word der table.now depth of) octets.now rest.now
         tape.new.items) }
-    ensures fails { Fails (λ d. Word der table.now d of) depth (IsCutIdentifier octets.now)
+    ensures fails { Fails table.now (λ d. Word der table.now d of) depth (IsCutIdentifier octets.now)
         octets.now tape.new.items refusal.new result }
     ensures never_trailing { IsErrOf result errors.TrailingOctets → ⊥ }
 {
@@ -162,7 +162,7 @@ pub fn decode_ber<'a>(
     requires { is_sound table.now ≡ true }
     ensures ok { IfOk result (λ rest.
         Decodes (Word (ber max) table.now depth of) octets.now rest.now tape.new.items) }
-    ensures fails { Fails (λ d. Word (ber max) table.now d of) depth
+    ensures fails { Fails table.now (λ d. Word (ber max) table.now d of) depth
         (EndsInIdentifier max octets.now) octets.now tape.new.items refusal.new result }
     ensures never_trailing { IsErrOf result errors.TrailingOctets → ⊥ }
 {
@@ -182,7 +182,7 @@ pub fn decode_der_whole<'a>(
 ) -> Result<(), DecodeError>
     requires { is_sound table.now ≡ true }
     ensures ok { OnOk result (DecodesWhole (Word der table.now depth of) octets.now tape.new.items) }
-    ensures fails { Fails (λ d. Word der table.now d of) depth (IsCutIdentifier octets.now)
+    ensures fails { Fails table.now (λ d. Word der table.now d of) depth (IsCutIdentifier octets.now)
         octets.now tape.new.items refusal.new result }
     ensures trailing { IsErrOf result errors.TrailingOctets →
         IsFollowed (Word der table.now depth of) octets.now }
@@ -203,7 +203,7 @@ pub fn decode_ber_whole<'a>(
     requires { is_sound table.now ≡ true }
     ensures ok { OnOk result (DecodesWhole (Word (ber max) table.now depth of) octets.now
         tape.new.items) }
-    ensures fails { Fails (λ d. Word (ber max) table.now d of) depth
+    ensures fails { Fails table.now (λ d. Word (ber max) table.now d of) depth
         (EndsInIdentifier max octets.now) octets.now tape.new.items refusal.new result }
     ensures trailing { IsErrOf result errors.TrailingOctets →
         IsFollowed (Word (ber max) table.now depth of) octets.now }

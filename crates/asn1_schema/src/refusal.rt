@@ -1,5 +1,5 @@
 //! Where and why octets are refused. It stands beside the result of a call, so that results stay small.
-ghost use Rattle.std.specs.Prelude.{◌≤◌, ◌≡◌};
+ghost use Rattle.std.specs.Prelude.{◌<◌, ◌≤◌, ◌≡◌, ◌⊎◌};
 ghost use Rattle.asn1_schema.specs.declared.fault.Fault.TheVariants as faults;
 ghost use Rattle.asn1_schema.specs.declared.refusal.Reason.TheVariants as reasons;
 
@@ -73,21 +73,26 @@ impl Refusal {
         }
     }
 
-    /// Ends what is told: where elements nest too deep this is why, and the place is within an input of so many octets.
-    pub(crate) fn settle(&mut self, fault: Fault, len: usize)
+    /// Ends what is told to a caller whose table has so many types, and whose input has so many octets.
+    ///
+    /// Where elements nest too deep this is why. Else a place that the table does not have is why.
+    pub(crate) fn settle(&mut self, fault: Fault, types: usize, len: usize)
         ensures within { self.new.octet ≤ len }
         ensures deep { fault ≡ faults.TooDeep → self.new.reason ≡ reasons.Depth }
+        ensures of { fault ≡ faults.Refused →
+            (self.new.of < types) ⊎ (self.new.reason ≡ reasons.MissingType) }
     {
+        self.keep_within(len);
         if matches!(fault, Fault::TooDeep) {
             self.reason = Reason::Depth;
+        } else if self.of >= types {
+            self.reason = Reason::MissingType;
         }
-        self.keep_within(len);
     }
 
     /// Keeps the place within an input of so many octets.
     pub(crate) fn keep_within(&mut self, len: usize)
-        ensures within { self.new.octet ≤ len }
-        ensures reason { self.new.reason ≡ self.old.reason }
+        ensures { self.new.octet ≤ len }
     {
         if self.octet > len {
             self.octet = len;

@@ -33,6 +33,8 @@ returns-in-Err-clause-fails c =
           (c.error_of.ensures.cut n (error_is c.error_of.result (errors.Incomplete n) is)).1;
       emptied = c.clear-in-Err.ensures.items;
       within = c.settle.ensures.within;
+      of = λ is. c.settle.ensures.of
+          (c.error_of.ensures.refused (error_is c.error_of.result errors.Refused is)).0;
       deep = λ is. c.settle.ensures.deep
           (c.error_of.ensures.too_deep (error_is c.error_of.result errors.TooDeep is)).0;
     }

@@ -14,5 +14,6 @@ returns-in-Err-clause-fails c =
       incomplete = λ n e. fails.incomplete n (same_error (Bor (List ℕ)) c.in-Err.error (errors.Incomplete n) e);
       emptied = fails.emptied;
       within = fails.within;
+      of = λ e. fails.of (same_error (Bor (List ℕ)) c.in-Err.error errors.Refused e);
       deep = λ e. fails.deep (same_error (Bor (List ℕ)) c.in-Err.error errors.TooDeep e);
     }
